@@ -19,7 +19,10 @@ use Rattle.type_relations.specs.Stores.{IsTermIn}
 use Rattle.relation_reference.specs.declared.context.inner.InferCtxtInner.{InferCtxtInner}
 use Rattle.relation_reference.specs.Tables.{store_of}
 use Rattle.relation_asking.proofs.Counting.{entries_count}
+use Rattle.relation_terms.specs.declared.terms.enums.Variance.{Variance}
+use Rattle.relation_asking.specs.declared.binding.Uses.{Uses}
 use Rattle.relation_asking.specs.declared.needs.Needs.{Needs}
+use Rattle.relation_asking.specs.Binding.{AreTold}
 use Rattle.relation_text.specs.declared.naming.program.Term.{Term}
 use Rattle.relation_text.specs.Terms.{at, trees_of}
 use Rattle.relation_text.specs.Built.{AreKnown, AreBuilt}
@@ -28,9 +31,8 @@ use Rattle.relation_asking.specs.Meets.{AllKnown}
 use Rattle.relation_asking.specs.Puts.{AreMade, ArePuts}
 use Rattle.relation_asking.proofs.MeetLemmas.{and_both}
 use Rattle.relation_asking.specs.Needs.{Allows, Reaches, largest, both_needs, need_at, needs_with, needs_of}
-use Rattle.relation_asking.specs.Asking.{IsReady, AreReady, Has, KnowsRelated}
-use Rattle.type_relations.specs.Covered.{IsCovered}
-use Rattle.relation_asking.proofs.CoverLemmas.{all_covered, rules_before}
+use Rattle.relation_asking.specs.Asking.{IsAsked, IsRelatable, IsReady, AreReady, Has, IsAskable, KnowsRelated}
+use Rattle.relation_asking.proofs.CoverLemmas.{all_covered, all_bound}
 use Rattle.relation_asking.proofs.NeedLemmas.{reaches_left, reaches_right, allowed_in, all_enough}
 use Rattle.relation_asking.proofs.NeedLemmas.{allows_right, allows_still}
 
@@ -47,7 +49,7 @@ one_ready t u needs e h = subst (IsReady needs) (sym e) h
 
 -- A list of arguments, as the form over them.
 pub as_arguments : (needs : Needs) (t : Tree) → IsReady needs t → IsReady needs (node arguments t)
-as_arguments needs t h = (h.0, (h.1.0, λ rules. (tt, h.1.1 rules)))
+as_arguments needs t h = (h.0, (h.1.0, λ asked. let r = h.1.1 asked in record { covered = (tt, r.covered); stays = r.stays }))
 
 -- What has what is needed for both has it for each.
 reaches_in_left : (a b : Needs) (k : VarKind) (i : ℕ) → Reaches (largest a k) i → Reaches (largest (both_needs a b) k) i
@@ -77,11 +79,30 @@ module _ {Key : Type 0} (x : InferCtxtInner Key) (a b : Needs) (h : Has x (both_
     universe = (let u = h.universe in omega (arith, u));
   }
 
--- Such a context's terms, of forms that have rules.
+-- What is said of both of two terms is said of each, and what is of lists is of all before.
+pub asked_both : (a b : Needs) → IsAsked (both_needs a b) → IsAsked a × IsAsked b
+asked_both a b h =
+    let r = and_parts a.has_rules b.has_rules h.rules in
+    let c = and_parts a.closed b.closed h.closed in
+    let l = and_parts a.by_lists b.by_lists h.lists in
+    (record { rules = r.0; closed = c.0; lists = l.0 }, record { rules = r.1; closed = c.1; lists = l.1 })
+
+asked_before : (ns : List Needs) (n : Needs) (ks : List ℕ) → IsAsked (needs_with ns n ks) → IsAsked n
+asked_before ns n [] h = h
+asked_before ns n (k ∷ ks) h = (asked_both n (need_at ns k) (asked_before ns (both_needs n (need_at ns k)) ks h)).0
+
+-- It is said of two types that may be asked about.
+pub asked_left : (u : ℕ) (v : Variance) (a b : Needs) → IsAskable u v a b → IsAsked a
+asked_left u v a b h = record { rules = h.left_rules; closed = h.left_closed; lists = h.left_lists }
+
+pub asked_right : (u : ℕ) (v : Variance) (a b : Needs) → IsAskable u v a b → IsAsked b
+asked_right u v a b h = record { rules = h.right_rules; closed = h.right_closed; lists = h.right_lists }
+
+-- Such a context's terms.
 pub ready_in : {Key Id Name : Type 0} (m : Meaning Key Id Name) (x : InferCtxtInner Key) (n : Needs) → Has x n →
-    (t : Tree) → IsTrue n.has_rules → IsReady n t → IsTermIn (store_of m x) t
+    (t : Tree) → IsAsked n → IsReady n t → IsTermIn (store_of m x) t
 ready_in m x n h t k r = allowed_in (store_of m x) n
-    (λ v i o. subst (λ l. i < l) (sym (entries_count m x v)) (h.variables v i o)) h.universe k t r.0 r.1.0
+    (λ v i o. subst (λ l. i < l) (sym (entries_count m x v)) (h.variables v i o)) h.universe t r.0 r.1.0 (r.1.1 k).stays
 
 -- What a relation answered is known where its goals are, or why it stopped.
 pub related_known : {Key Id Name : Type 0} (m : Meaning Key Id Name)
@@ -92,19 +113,25 @@ related_known m (Err e) h k = k
 
 -- Keys that were built, and what their terms need.
 pub all_ready : {Key Id Name : Type 0} (m : Meaning Key Id Name) (items names parts : List ℕ) (xs : List Term)
-    (keys : List (Option (GenericArgKind Key))) (needs : List Needs) → AreKnown m keys →
-    AreBuilt m (trees_of items names parts xs) keys → needs ≡ needs_of parts xs → AreReady m keys needs
-all_ready m items names parts xs keys needs sure made same = λ k key there. (
-  sure k key there,
-  (
-    subst (Allows (need_at needs k)) (sym (made k key there))
-        (subst (λ ns. Allows (need_at ns k) (at (trees_of items names parts xs) k)) (sym same)
-        (all_enough items names parts xs k)),
-    λ rules. subst IsCovered (sym (made k key there)) (all_covered items names parts xs k
-        (subst (λ t. IsTrue (known t)) (made k key there) (sure k key there))
-        (subst (λ ns. IsTrue (need_at ns k).has_rules) same rules)),
-  ),
-)
+    (keys : List (Option (GenericArgKind Key))) (us : List Uses) (needs : List Needs) → AreKnown m keys →
+    AreBuilt m (trees_of items names parts xs) keys → AreTold (trees_of items names parts xs) us →
+    needs ≡ needs_of parts us xs → AreReady m keys needs
+all_ready m items names parts xs keys us needs sure made said same = subst (AreReady m keys) (sym same) (λ k key there.
+    let n = need_at (needs_of parts us xs) k in
+    let t = at (trees_of items names parts xs) k in
+    let is = made k key there in
+    let known_there = sure k key there in
+    subst (IsReady n) (sym is) (
+      subst (λ z. IsTrue (known z)) is known_there,
+      (
+        all_enough items names parts us xs said k,
+        λ asked. let b = all_bound items names parts us xs said k in record {
+          covered = all_covered items names parts us xs said k (subst (λ z. IsTrue (known z)) is known_there) asked.rules
+              (b.1 asked.lists);
+          stays = b.0 asked.closed;
+        },
+      ),
+    ))
 
 -- Keys of a list of terms that are ready are known, and so is what is put for terms.
 module _ {Key Id Name : Type 0} (m : Meaning Key Id Name) (keys : List (Option (GenericArgKind Key))) (needs : List Needs)
@@ -118,7 +145,7 @@ module _ {Key Id Name : Type 0} (m : Meaning Key Id Name) (keys : List (Option (
       let more : map (slice_get keys) ns ≡ map (λ y. Some (Some y)) xs = cc in
       and_both (known (arg_tree m x)) (known (list_tree (arg_tree m) xs)) (r n x one).0 (keys_known ns xs more)
 
-  -- What a list of such terms needs is enough for it, and the list is covered where all forms in it have rules.
+  -- What a list of such terms needs is enough for it, and relating takes the list where it takes each of them.
   list_allowed : (ns : List ℕ) (xs : List (GenericArgKind Key)) (n : Needs) →
       map (slice_get keys) ns ≡ map (λ x. Some (Some x)) xs → Allows (needs_with needs n ns) (list_tree (arg_tree m) xs)
   list_allowed ns [] n e = tt
@@ -131,21 +158,22 @@ module _ {Key Id Name : Type 0} (m : Meaning Key Id Name) (keys : List (Option (
         list_allowed ns xs (both_needs n own) more,
       )
 
-  list_covered : (ns : List ℕ) (xs : List (GenericArgKind Key)) (n : Needs) →
-      map (slice_get keys) ns ≡ map (λ x. Some (Some x)) xs → IsTrue (needs_with needs n ns).has_rules →
-      IsCovered (list_tree (arg_tree m) xs)
-  list_covered ns [] n e rules = tt
-  list_covered [] (x ∷ xs) n e rules = absurd (cc)
-  list_covered (k ∷ ns) (x ∷ xs) n e rules =
+  list_relatable : (ns : List ℕ) (xs : List (GenericArgKind Key)) (n : Needs) →
+      map (slice_get keys) ns ≡ map (λ x. Some (Some x)) xs → IsAsked (needs_with needs n ns) →
+      IsRelatable (list_tree (arg_tree m) xs)
+  list_relatable ns [] n e asked = record { covered = tt; stays = tt }
+  list_relatable [] (x ∷ xs) n e asked = absurd (cc)
+  list_relatable (k ∷ ns) (x ∷ xs) n e asked =
       let one : slice_get keys k ≡ Some (Some x) = cc in
       let more : map (slice_get keys) ns ≡ map (λ y. Some (Some y)) xs = cc in
       let own = need_at needs k in
-      let both = rules_before needs (both_needs n own) ns rules in
-      ((r k x one).1.1 (and_parts n.has_rules own.has_rules both).1, list_covered ns xs (both_needs n own) more rules)
+      let here = (r k x one).1.1 (asked_both n own (asked_before needs (both_needs n own) ns asked)).1 in
+      let rest = list_relatable ns xs (both_needs n own) more asked in
+      record { covered = (here.covered, rest.covered); stays = (here.stays, rest.stays) }
 
   pub list_ready : (ns : List ℕ) (xs : List (GenericArgKind Key)) (n : Needs) →
       map (slice_get keys) ns ≡ map (λ x. Some (Some x)) xs → IsReady (needs_with needs n ns) (list_tree (arg_tree m) xs)
-  list_ready ns xs n e = (keys_known ns xs e, (list_allowed ns xs n e, list_covered ns xs n e))
+  list_ready ns xs n e = (keys_known ns xs e, (list_allowed ns xs n e, list_relatable ns xs n e))
 
   pub puts_known : (ns : List (Put ℕ)) (ps : List (Put (GenericArgKind Key))) → AreMade keys ns ps → ArePuts m ps
   puts_known [] [] h = tt

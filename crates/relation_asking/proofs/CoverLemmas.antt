@@ -1,23 +1,39 @@
--- The terms of a text whose forms have rules.
-use Rattle.std.proofs.Common.{ℕ, IsTrue, true, ◌&&◌, List, [], ◌∷◌, Option, Some, None}
-use Rattle.std.specs.Prelude.{slice_get}
+-- The terms of a text whose forms have rules, and whose binders bind by their lists.
+use Rattle.std.proofs.Common.{◌≡◌, ℕ, zero, suc, refl, sym, ◌∙◌, subst, IsTrue, Bool, true, false, cond, ◌&&◌, List, [], ◌∷◌}
+use Rattle.std.proofs.Common.{Option, Some, None}
+use Rattle.std.specs.Prelude.{slice_get, ◌==◌, vec_len}
 use Rattle.std.proofs.lemmas.Bool.{and_parts, false≢true}
-use Rattle.relation_terms.specs.Heads.{Leaf, unknown}
-use Rattle.relation_terms.specs.Trees.{Tree, leaf, known, list_tree}
-use Rattle.type_relations.specs.Covered.{IsCovered, IsCoveredLeaf}
+use Rattle.relation_terms.specs.Heads.{BoundKind, Head, signature, inputs, existential_trait, existential_projection, Leaf}
+use Rattle.relation_terms.specs.Heads.{unknown}
+use Rattle.relation_terms.specs.Trees.{Tree, leaf, node, bind, nil, cons, known, list_tree, front, last}
+use Rattle.relation_terms.specs.Meaning.{under}
+use Rattle.type_relations.specs.Relation.{StaysWithin}
+use Rattle.type_relations.specs.Bound.{BindByLists}
+use Rattle.type_relations.specs.Covered.{IsCovered, IsCoveredLeaf, IsCoveredHead}
 use Rattle.relation_text.specs.declared.reading.tree.ItemSort.{ItemSort}
 use Rattle.relation_text.specs.declared.reading.tree.ItemSort.TheVariants as sort
 use Rattle.relation_text.specs.declared.naming.program.Term.{Term}
 use Rattle.relation_text.specs.declared.naming.program.Term.TheVariants as term
-use Rattle.relation_text.specs.Terms.{at, parts_tree, leaf_of, item_tree, term_tree, trees_of}
+use Rattle.relation_text.specs.Terms.{at, parts_tree, leaf_of, item_tree, head_of, variables_of, term_tree, trees_of}
+use Rattle.relation_asking.specs.declared.binding.Uses.{Uses}
 use Rattle.relation_asking.specs.declared.needs.Needs.{Needs}
-use Rattle.relation_asking.specs.Needs.{both_needs, no_needs, item_need, need_at, needs_with}
+use Rattle.relation_asking.specs.Binding.{Tells, AreTold}
+use Rattle.relation_asking.specs.Needs.{both_needs, no_needs, item_need, told, need_at, needs_with}
 use Rattle.relation_asking.specs.Needs.{parts_need, term_need, needs_of}
+use Rattle.relation_asking.proofs.BindingLemmas.{used_none}
 use Rattle.relation_asking.proofs.NeedLemmas.{HoldsOfEach, all_hold}
 
--- A known tree is covered, where it is said that its forms have rules.
+-- A known tree is covered in which binders bind by their lists, where it is said that its forms have rules.
 abbrev pub IsCoveredBy : Needs → Tree → Type 0
-IsCoveredBy n t = IsTrue (known t) → IsTrue n.has_rules → IsCovered t
+IsCoveredBy n t = IsTrue (known t) → IsTrue n.has_rules → BindByLists t → IsCovered t
+
+-- Nothing escapes from a tree, and its binders bind by their lists, where that is said of it.
+abbrev pub IsBoundBy : Needs → Tree → Type 0
+IsBoundBy n t = (IsTrue n.closed → StaysWithin 0 t) × (IsTrue n.by_lists → BindByLists t)
+
+is_zero : (n : ℕ) → IsTrue (n == 0) → n ≡ 0
+is_zero zero h = refl
+is_zero (suc n) h = absurd (false≢true h)
 
 -- Where a list has rules, all before it has.
 pub rules_before : (ns : List Needs) (n : Needs) (ks : List ℕ) → IsTrue (needs_with ns n ks).has_rules → IsTrue n.has_rules
@@ -27,13 +43,55 @@ rules_before ns n (k ∷ ks) r =
 
 list_covered : (ts : List Tree) (ns : List Needs) → HoldsOfEach IsCoveredBy ts ns → (n : Needs) (ks : List ℕ) →
     IsCoveredBy (needs_with ns n ks) (list_tree (at ts) ks)
-list_covered ts ns h n [] k r = tt
-list_covered ts ns h n (i ∷ ks) k r =
+list_covered ts ns h n [] k r b = tt
+list_covered ts ns h n (i ∷ ks) k r b =
     let p = and_parts (known (at ts i)) (known (list_tree (at ts) ks)) k in
     let both = rules_before ns (both_needs n (need_at ns i)) ks r in (
-      h i p.0 (and_parts n.has_rules (need_at ns i).has_rules both).1,
-      list_covered ts ns h (both_needs n (need_at ns i)) ks p.1 r,
+      h i p.0 (and_parts n.has_rules (need_at ns i).has_rules both).1 b.0,
+      list_covered ts ns h (both_needs n (need_at ns i)) ks p.1 r b.1,
     )
+
+two_covered : (ts : List Tree) (ns : List Needs) → HoldsOfEach IsCoveredBy ts ns → (i j : ℕ) →
+    IsCoveredBy (both_needs (need_at ns i) (need_at ns j)) (cons (at ts i) (cons (at ts j) nil))
+two_covered ts ns h i j k r b =
+    let p = and_parts (known (at ts i)) (known (at ts j) && true) k in
+    let q = and_parts (need_at ns i).has_rules (need_at ns j).has_rules r in
+    (h i p.0 q.0 b.0, (h j (and_parts (known (at ts j)) true p.1).0 q.1 b.1.0, tt))
+
+-- The inputs of a list, and its output.
+none_covered : (b : Bool) → IsTrue (known (cond b nil (leaf unknown))) → IsCovered (cond b nil (leaf unknown))
+none_covered true k = tt
+none_covered false k = absurd (false≢true k)
+
+front_covered : (ts : List Tree) (ns : List Needs) → HoldsOfEach IsCoveredBy ts ns → (n : Needs) (ks : List ℕ) →
+    IsCoveredBy (needs_with ns n ks) (front (list_tree (at ts) ks))
+front_covered ts ns h n [] k r b = absurd (false≢true k)
+front_covered ts ns h n (i ∷ []) k r b = none_covered (known (at ts i)) k
+front_covered ts ns h n (i ∷ j ∷ ks) k r b =
+    let p = and_parts (known (at ts i)) (known (front (list_tree (at ts) (j ∷ ks)))) k in
+    let both = rules_before ns (both_needs n (need_at ns i)) (j ∷ ks) r in (
+      h i p.0 (and_parts n.has_rules (need_at ns i).has_rules both).1 b.0,
+      front_covered ts ns h (both_needs n (need_at ns i)) (j ∷ ks) p.1 r b.1,
+    )
+
+last_covered : (ts : List Tree) (ns : List Needs) → HoldsOfEach IsCoveredBy ts ns → (n : Needs) (ks : List ℕ) →
+    IsCoveredBy (needs_with ns n ks) (last (list_tree (at ts) ks))
+last_covered ts ns h n [] k r b = absurd (false≢true k)
+last_covered ts ns h n (i ∷ []) k r b = h i k (and_parts n.has_rules (need_at ns i).has_rules r).1 b
+last_covered ts ns h n (i ∷ j ∷ ks) k r b = last_covered ts ns h (both_needs n (need_at ns i)) (j ∷ ks) k r b
+
+-- A body under its binder.
+under_covered : (o : Option (List BoundKind)) (t : Tree) → (IsTrue (known t) → BindByLists t → IsCovered t) →
+    IsTrue (known (under o t)) → BindByLists (under o t) → IsCovered (under o t)
+under_covered None t f k b = absurd (false≢true k)
+under_covered (Some ks) t f k b = (b.0, f k b.1)
+
+-- An item's predicate over a list.
+head_covered : (f : ℕ → Head) → ((d : ℕ) → IsCoveredHead (f d)) → (o : Option ℕ) (t : Tree) →
+    (IsTrue (known t) → BindByLists t → IsCovered t) →
+    IsTrue (known (head_of f o t)) → BindByLists (head_of f o t) → IsCovered (head_of f o t)
+head_covered f h None t c k b = absurd (false≢true k)
+head_covered f h (Some d) t c k b = (h d, c k b)
 
 leaf_covered : (f : ℕ → Leaf) → ((x : ℕ) → IsCoveredLeaf (f x)) → (o : Option ℕ) → IsTrue (known (leaf_of f o)) →
     IsCovered (leaf_of f o)
@@ -41,100 +99,142 @@ leaf_covered f h None k = absurd (false≢true k)
 leaf_covered f h (Some x) k = h x
 
 item_covered : (n : Needs) (s : ItemSort) (o : Option ℕ) (ts : Tree) →
-    (IsTrue (known ts) → IsTrue n.has_rules → IsCovered ts) →
-    IsTrue (known (item_tree s o ts)) → IsTrue (item_need s n).has_rules → IsCovered (item_tree s o ts)
-item_covered n s None ts h k r = absurd (false≢true k)
-item_covered n sort.Struct (Some d) ts h k r = (tt, h k r)
-item_covered n sort.Fn (Some d) ts h k r = (tt, h k r)
-item_covered n sort.Closure (Some d) ts h k r = (tt, h k r)
-item_covered n sort.Coroutine (Some d) ts h k r = (tt, h k r)
-item_covered n sort.CoroutineClosure (Some d) ts h k r = (tt, h k r)
-item_covered n sort.CoroutineWitness (Some d) ts h k r = (tt, h k r)
-item_covered n sort.Foreign (Some d) ts h k r = tt
-item_covered n sort.Trait (Some d) ts h k r = absurd (false≢true k)
-item_covered n sort.AutoTrait (Some d) ts h k r = absurd (false≢true k)
-item_covered n sort.AssocTy (Some d) ts h k r = absurd (false≢true r)
-item_covered n sort.AssocConst (Some d) ts h k r = absurd (false≢true r)
-item_covered n sort.FreeTy (Some d) ts h k r = absurd (false≢true r)
-item_covered n sort.FreeConst (Some d) ts h k r = absurd (false≢true r)
-item_covered n sort.Opaque (Some d) ts h k r = absurd (false≢true r)
-item_covered n sort.InherentTy (Some d) ts h k r = absurd (false≢true r)
-item_covered n sort.InherentConst (Some d) ts h k r = absurd (false≢true r)
+    (IsTrue (known ts) → IsTrue n.has_rules → BindByLists ts → IsCovered ts) →
+    IsTrue (known (item_tree s o ts)) → IsTrue (item_need s n).has_rules → BindByLists (item_tree s o ts) →
+    IsCovered (item_tree s o ts)
+item_covered n s None ts h k r b = absurd (false≢true k)
+item_covered n sort.Struct (Some d) ts h k r b = (tt, h k r b)
+item_covered n sort.Fn (Some d) ts h k r b = (tt, h k r b)
+item_covered n sort.Closure (Some d) ts h k r b = (tt, h k r b)
+item_covered n sort.Coroutine (Some d) ts h k r b = (tt, h k r b)
+item_covered n sort.CoroutineClosure (Some d) ts h k r b = (tt, h k r b)
+item_covered n sort.CoroutineWitness (Some d) ts h k r b = (tt, h k r b)
+item_covered n sort.Foreign (Some d) ts h k r b = tt
+item_covered n sort.Trait (Some d) ts h k r b = absurd (false≢true k)
+item_covered n sort.AutoTrait (Some d) ts h k r b = absurd (false≢true k)
+item_covered n sort.AssocTy (Some d) ts h k r b = absurd (false≢true r)
+item_covered n sort.AssocConst (Some d) ts h k r b = absurd (false≢true r)
+item_covered n sort.FreeTy (Some d) ts h k r b = absurd (false≢true r)
+item_covered n sort.FreeConst (Some d) ts h k r b = absurd (false≢true r)
+item_covered n sort.Opaque (Some d) ts h k r b = absurd (false≢true r)
+item_covered n sort.InherentTy (Some d) ts h k r b = absurd (false≢true r)
+item_covered n sort.InherentConst (Some d) ts h k r b = absurd (false≢true r)
 
 module _ (items names parts : List ℕ) where
   term_covered : (ts : List Tree) (ns : List Needs) → HoldsOfEach IsCoveredBy ts ns → (x : Term) →
       IsCoveredBy (term_need parts ns x) (term_tree items names parts ts x)
-  term_covered ts ns h term.Bool k r = tt
-  term_covered ts ns h term.Char k r = tt
-  term_covered ts ns h term.Str k r = tt
-  term_covered ts ns h term.Never k r = tt
-  term_covered ts ns h (term.Int w) k r = tt
-  term_covered ts ns h (term.Uint w) k r = tt
-  term_covered ts ns h (term.Float w) k r = tt
-  term_covered ts ns h (term.Item s d p) k r =
-      item_covered (parts_need parts ns p) s (slice_get items d) _ (list_covered ts ns h no_needs _) k r
-  term_covered ts ns h (term.Slice t) k r = (tt, (h t (and_parts (known (at ts t)) true k).0 r, tt))
-  term_covered ts ns h (term.Array t c) k r =
-      let p = and_parts (known (at ts t)) (known (at ts c) && true) k in
-      let q = and_parts (need_at ns t).has_rules (need_at ns c).has_rules r in
-      (tt, (h t p.0 q.0, (h c (and_parts (known (at ts c)) true p.1).0 q.1, tt)))
-  term_covered ts ns h (term.Tuple p) k r = (tt, list_covered ts ns h no_needs _ k r)
-  term_covered ts ns h (term.RawPtr t u) k r = (tt, (h t (and_parts (known (at ts t)) true k).0 r, tt))
-  term_covered ts ns h (term.Ref a t u) k r =
-      let p = and_parts (known (at ts a)) (known (at ts t) && true) k in
-      let q = and_parts (need_at ns a).has_rules (need_at ns t).has_rules r in
-      (tt, (h a p.0 q.0, (h t (and_parts (known (at ts t)) true p.1).0 q.1, tt)))
-  term_covered ts ns h (term.TyParam i n) k r = leaf_covered _ (λ x. tt) (slice_get names n) k
-  term_covered ts ns h (term.TyPlaceholder u v n) k r = leaf_covered _ (λ x. tt) (slice_get names n) k
-  term_covered ts ns h (term.TyVar n) k r = tt
-  term_covered ts ns h (term.IntVar n) k r = tt
-  term_covered ts ns h (term.FloatVar n) k r = tt
-  term_covered ts ns h term.TyError k r = absurd (false≢true r)
-  term_covered ts ns h (term.Pat t c) k r =
-      let p = and_parts (known (at ts t)) (known (at ts c) && true) k in
-      let q = and_parts (need_at ns t).has_rules (need_at ns c).has_rules r in
-      (tt, (h t p.0 q.0, (h c (and_parts (known (at ts c)) true p.1).0 q.1, tt)))
-  term_covered ts ns h term.Static k r = tt
-  term_covered ts ns h (term.RegionParam i n) k r = leaf_covered _ (λ x. tt) (slice_get names n) k
-  term_covered ts ns h (term.RegionVar n) k r = tt
-  term_covered ts ns h (term.RegionPlaceholder u v n) k r = leaf_covered _ (λ x. tt) (slice_get names n) k
-  term_covered ts ns h (term.ConstParam i n) k r = leaf_covered _ (λ x. tt) (slice_get names n) k
-  term_covered ts ns h (term.ConstPlaceholder u v n) k r = leaf_covered _ (λ x. tt) (slice_get names n) k
-  term_covered ts ns h (term.ConstVar n) k r = tt
-  term_covered ts ns h term.ConstError k r = absurd (false≢true r)
-  term_covered ts ns h (term.Number t b n) k r =
+  term_covered ts ns h term.Bool k r l = tt
+  term_covered ts ns h term.Char k r l = tt
+  term_covered ts ns h term.Str k r l = tt
+  term_covered ts ns h term.Never k r l = tt
+  term_covered ts ns h (term.Int w) k r l = tt
+  term_covered ts ns h (term.Uint w) k r l = tt
+  term_covered ts ns h (term.Float w) k r l = tt
+  term_covered ts ns h (term.Item s d p) k r l =
+      item_covered (parts_need parts ns p) s (slice_get items d) _ (list_covered ts ns h no_needs _) k r l
+  term_covered ts ns h (term.Slice t) k r l = (tt, (h t (and_parts (known (at ts t)) true k).0 r l.0, tt))
+  term_covered ts ns h (term.Array t c) k r l = (tt, two_covered ts ns h t c k r l)
+  term_covered ts ns h (term.Tuple p) k r l = (tt, list_covered ts ns h no_needs _ k r l)
+  term_covered ts ns h (term.RawPtr t u) k r l = (tt, (h t (and_parts (known (at ts t)) true k).0 r l.0, tt))
+  term_covered ts ns h (term.Ref a t u) k r l = (tt, two_covered ts ns h a t k r l)
+  term_covered ts ns h (term.TyParam i n) k r l = leaf_covered _ (λ x. tt) (slice_get names n) k
+  term_covered ts ns h (term.TyPlaceholder u v n) k r l = leaf_covered _ (λ x. tt) (slice_get names n) k
+  term_covered ts ns h (term.TyVar n) k r l = tt
+  term_covered ts ns h (term.IntVar n) k r l = tt
+  term_covered ts ns h (term.FloatVar n) k r l = tt
+  term_covered ts ns h term.TyError k r l = absurd (false≢true r)
+  term_covered ts ns h (term.Pat t c) k r l = (tt, two_covered ts ns h t c k r l)
+  term_covered ts ns h term.Static k r l = tt
+  term_covered ts ns h (term.RegionParam i n) k r l = leaf_covered _ (λ x. tt) (slice_get names n) k
+  term_covered ts ns h (term.RegionVar n) k r l = tt
+  term_covered ts ns h (term.RegionPlaceholder u v n) k r l = leaf_covered _ (λ x. tt) (slice_get names n) k
+  term_covered ts ns h (term.ConstParam i n) k r l = leaf_covered _ (λ x. tt) (slice_get names n) k
+  term_covered ts ns h (term.ConstPlaceholder u v n) k r l = leaf_covered _ (λ x. tt) (slice_get names n) k
+  term_covered ts ns h (term.ConstVar n) k r l = tt
+  term_covered ts ns h term.ConstError k r l = absurd (false≢true r)
+  term_covered ts ns h (term.Number t b n) k r l =
       let p = and_parts (known (at ts t) && true) true k in
-      (tt, ((tt, (h t (and_parts (known (at ts t)) true p.0).0 r, tt)), (tt, tt)))
-  term_covered ts ns h (term.Branch t q) k r =
+      (tt, ((tt, (h t (and_parts (known (at ts t)) true p.0).0 r l.0.0, tt)), (tt, tt)))
+  term_covered ts ns h (term.Branch t q) k r l =
       let p = and_parts (known (at ts t) && true) (known (parts_tree parts ts q) && true) k in
       let v = (and_parts (known (parts_tree parts ts q)) true p.1).0 in
       let b = and_parts (need_at ns t).has_rules (parts_need parts ns q).has_rules r in (
         tt,
         (
-          (tt, (h t (and_parts (known (at ts t)) true p.0).0 b.0, tt)),
-          ((tt, list_covered ts ns h no_needs _ v b.1), tt),
+          (tt, (h t (and_parts (known (at ts t)) true p.0).0 b.0 l.0.0, tt)),
+          ((tt, list_covered ts ns h no_needs _ v b.1 l.1.0), tt),
         ),
       )
-  term_covered ts ns h (term.Expr e q) k r = (tt, list_covered ts ns h no_needs _ k r)
-  term_covered ts ns h (term.Range a b) k r =
-      let p = and_parts (known (at ts a)) (known (at ts b) && true) k in
-      let q = and_parts (need_at ns a).has_rules (need_at ns b).has_rules r in
-      (tt, (h a p.0 q.0, (h b (and_parts (known (at ts b)) true p.1).0 q.1, tt)))
-  term_covered ts ns h (term.Or q) k r = (tt, list_covered ts ns h no_needs _ k r)
-  term_covered ts ns h term.NotNull k r = tt
-  term_covered ts ns h (term.TyBound d v n) k r = absurd (false≢true r)
-  term_covered ts ns h (term.RegionBound d v n) k r = absurd (false≢true r)
-  term_covered ts ns h (term.ConstBound d v n) k r = absurd (false≢true r)
-  term_covered ts ns h (term.FnPtr g v p) k r = absurd (false≢true r)
-  term_covered ts ns h (term.UnsafeBinder v t) k r = absurd (false≢true r)
-  term_covered ts ns h (term.Object p q) k r = absurd (false≢true r)
-  term_covered ts ns h (term.Implements v d p) k r = absurd (false≢true r)
-  term_covered ts ns h (term.Projects v d p t) k r = absurd (false≢true r)
-  term_covered ts ns h (term.IsAuto v d) k r = absurd (false≢true r)
+  term_covered ts ns h (term.Expr e q) k r l = (tt, list_covered ts ns h no_needs _ k r l)
+  term_covered ts ns h (term.Range a b) k r l = (tt, two_covered ts ns h a b k r l)
+  term_covered ts ns h (term.Or q) k r l = (tt, list_covered ts ns h no_needs _ k r l)
+  term_covered ts ns h term.NotNull k r l = tt
+  term_covered ts ns h (term.TyBound d v n) k r l = leaf_covered _ (λ x. tt) (slice_get names n) k
+  term_covered ts ns h (term.RegionBound d v n) k r l = leaf_covered _ (λ x. tt) (slice_get names n) k
+  term_covered ts ns h (term.ConstBound d v n) k r l = leaf_covered _ (λ x. tt) (slice_get names n) k
+  term_covered ts ns h (term.FnPtr g v q) k r l =
+      let o = variables_of (parts_tree parts ts v) in
+      let ins = front (parts_tree parts ts q) in
+      let out = last (parts_tree parts ts q) in
+      let body = node (signature g.c_variadic g.safety g.abi) (cons (node inputs ins) (cons out nil)) in (
+        tt,
+        (
+          under_covered o body
+              (λ j b. let p = and_parts (known ins) (known out && true) j in (
+                tt,
+                (
+                  (tt, front_covered ts ns h no_needs _ p.0 r b.0),
+                  (last_covered ts ns h no_needs _ (and_parts (known out) true p.1).0 r b.1.0, tt),
+                ),
+              ))
+              (and_parts (known (under o body)) true k).0 l.0,
+          tt,
+        ),
+      )
+  term_covered ts ns h (term.UnsafeBinder v t) k r l =
+      let o = variables_of (parts_tree parts ts v) in
+      (tt, (under_covered o (at ts t) (λ j b. h t j r b) (and_parts (known (under o (at ts t))) true k).0 l.0, tt))
+  term_covered ts ns h (term.Object q t) k r l =
+      let p = and_parts (known (parts_tree parts ts q)) (known (at ts t) && true) k in
+      let b = and_parts (parts_need parts ns q).has_rules (need_at ns t).has_rules r in
+      (tt, ((tt, list_covered ts ns h no_needs _ p.0 b.0 l.0), (h t (and_parts (known (at ts t)) true p.1).0 b.1 l.1.0, tt)))
+  term_covered ts ns h (term.Implements v d q) k r l =
+      under_covered (variables_of (parts_tree parts ts v)) _
+      (head_covered existential_trait (λ i. tt) (slice_get items d) _ (λ j b. list_covered ts ns h no_needs _ j r b)) k l
+  term_covered ts ns h (term.Projects v d q t) k r l =
+      let c = and_parts (need_at ns t).has_rules (parts_need parts ns q).has_rules r in
+      under_covered (variables_of (parts_tree parts ts v)) _
+      (head_covered existential_projection (λ i. tt) (slice_get items d) (cons (at ts t) (parts_tree parts ts q))
+      (λ j b. let p = and_parts (known (at ts t)) (known (parts_tree parts ts q)) j in
+      (h t p.0 c.0 b.0, list_covered ts ns h no_needs _ p.1 c.1 b.1))) k l
+  term_covered ts ns h (term.IsAuto v d) k r l =
+      under_covered (variables_of (parts_tree parts ts v)) _
+      (λ j b. leaf_covered _ (λ x. tt) (slice_get items d) j) k l
 
   missing_covered : IsCoveredBy no_needs (leaf unknown)
-  missing_covered k r = absurd (false≢true k)
+  missing_covered k r l = absurd (false≢true k)
 
-  -- All known terms of a program are covered whose forms have rules.
-  pub all_covered : (xs : List Term) → HoldsOfEach IsCoveredBy (trees_of items names parts xs) (needs_of parts xs)
-  all_covered xs = all_hold items names parts IsCoveredBy missing_covered term_covered xs
+  told_covered : (ts : List Tree) (ns : List Needs) → HoldsOfEach IsCoveredBy ts ns → (x : Term) (o : Option Uses) →
+      Tells o (term_tree items names parts ts x) →
+      IsCoveredBy (told o (term_need parts ns x)) (term_tree items names parts ts x)
+  told_covered ts ns h x None said = term_covered ts ns h x
+  told_covered ts ns h x (Some u) said = term_covered ts ns h x
+
+  -- All known terms of a program are covered whose forms have rules, and whose binders bind by their lists.
+  pub all_covered : (us : List Uses) (xs : List Term) → AreTold (trees_of items names parts xs) us →
+      HoldsOfEach IsCoveredBy (trees_of items names parts xs) (needs_of parts us xs)
+  all_covered us xs h = all_hold items names parts IsCoveredBy missing_covered told_covered us xs h
+
+  -- What is said of binders is so: nothing escapes, and they bind by their lists.
+  missing_bound : IsBoundBy no_needs (leaf unknown)
+  missing_bound = ((λ c. tt), λ l. tt)
+
+  told_bound : (ts : List Tree) (ns : List Needs) → HoldsOfEach IsBoundBy ts ns → (x : Term) (o : Option Uses) →
+      Tells o (term_tree items names parts ts x) → IsBoundBy (told o (term_need parts ns x)) (term_tree items names parts ts x)
+  told_bound ts ns h x None said = subst (IsBoundBy (term_need parts ns x)) (sym said) ((λ c. tt), λ l. tt)
+  told_bound ts ns h x (Some u) said =
+      ((λ c. used_none (u.outer).items (sym (u.outer).ok.0 ∙ is_zero (vec_len u.outer) c) 0 _ said.0), said.1)
+
+  pub all_bound : (us : List Uses) (xs : List Term) → AreTold (trees_of items names parts xs) us →
+      HoldsOfEach IsBoundBy (trees_of items names parts xs) (needs_of parts us xs)
+  all_bound us xs h = all_hold items names parts IsBoundBy missing_bound told_bound us xs h

@@ -1,4 +1,6 @@
 pub mod AskingLemmas
+pub mod BindingLemmas
+pub mod UseLemmas
 pub mod Counting
 pub mod CoverLemmas
 pub mod NeedLemmas

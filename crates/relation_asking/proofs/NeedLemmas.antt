@@ -13,14 +13,17 @@ use Rattle.relation_terms.specs.Meaning.{under}
 use Rattle.relation_terms.specs.declared.terms.fn_sig.FnHeader.{FnHeader}
 use Rattle.type_relations.specs.Relation.{StaysWithin}
 use Rattle.type_relations.specs.Stores.{Store, IsTermIn, InContext, IsMadeLeaf, IsMade, IsNamable}
+use Rattle.relation_asking.specs.declared.binding.Uses.{Uses}
 use Rattle.relation_asking.specs.declared.needs.Needs.{Needs}
+use Rattle.relation_asking.specs.Binding.{Tells, AreTold}
+use Rattle.relation_asking.proofs.BindingLemmas.{next_is}
 use Rattle.relation_text.specs.declared.reading.tree.ItemSort.{ItemSort}
 use Rattle.relation_text.specs.declared.reading.tree.ItemSort.TheVariants as sort
 use Rattle.relation_text.specs.declared.naming.program.Term.{Term}
 use Rattle.relation_text.specs.declared.naming.program.Term.TheVariants as term
 use Rattle.relation_text.specs.Terms.{at, parts_tree, leaf_of, item_tree, term_tree, trees_from, trees_of}
 use Rattle.relation_text.specs.Terms.{variables_of, fn_ptr_tree, head_of, object_tree}
-use Rattle.relation_asking.specs.Needs.{larger, both_needs, no_needs, universe_need, without_rules, need_at, needs_with}
+use Rattle.relation_asking.specs.Needs.{larger, both_needs, no_needs, universe_need, without_rules, told, need_at, needs_with}
 use Rattle.relation_asking.specs.Needs.{item_need, parts_need, term_need, needs_from, needs_of, Reaches, largest, IsEnough, Allows, AreEnough}
 
 some_is_there : {x : ℕ} → Some x ≡ None → ⊥
@@ -31,14 +34,6 @@ max_left a b i h = omega (arith, h)
 
 max_right : (a b i : ℕ) → i ≤ b → i ≤ max a b
 max_right a b i h = omega (arith, h)
-
-false_left : (x y : Bool) → x ≡ false → (x && y) ≡ false
-false_left false y e = refl
-false_left true y e = absurd (false≢true (sym e))
-
-false_right : (x y : Bool) → y ≡ false → (x && y) ≡ false
-false_right false y e = refl
-false_right true y e = e
 
 pub reaches_left : (a b : Option ℕ) (i : ℕ) → Reaches a i → Reaches (larger a b) i
 reaches_left None b i h = absurd h
@@ -57,7 +52,7 @@ enough_left a b (variable int_var i) h = reaches_left a.ints b.ints i h
 enough_left a b (variable float_var i) h = reaches_left a.floats b.floats i h
 enough_left a b (variable const_var i) h = reaches_left a.consts b.consts i h
 enough_left a b (variable region_var i) h = reaches_left a.regions b.regions i h
-enough_left a b (bound k d i) h = false_left a.has_rules b.has_rules h
+enough_left a b (bound k d i) h = tt
 enough_left a b (placeholder k u i) h = max_left a.universe b.universe u h
 enough_left a b (atom x) h = h
 enough_left a b unknown h = tt
@@ -68,7 +63,7 @@ enough_right a b (variable int_var i) h = reaches_right a.ints b.ints i h
 enough_right a b (variable float_var i) h = reaches_right a.floats b.floats i h
 enough_right a b (variable const_var i) h = reaches_right a.consts b.consts i h
 enough_right a b (variable region_var i) h = reaches_right a.regions b.regions i h
-enough_right a b (bound k d i) h = false_right a.has_rules b.has_rules h
+enough_right a b (bound k d i) h = tt
 enough_right a b (placeholder k u i) h = max_right a.universe b.universe u h
 enough_right a b (atom x) h = h
 enough_right a b unknown h = tt
@@ -79,10 +74,22 @@ enough_without n (variable int_var i) h = h
 enough_without n (variable float_var i) h = h
 enough_without n (variable const_var i) h = h
 enough_without n (variable region_var i) h = h
-enough_without n (bound k d i) h = refl
+enough_without n (bound k d i) h = tt
 enough_without n (placeholder k u i) h = h
 enough_without n (atom x) h = h
 enough_without n unknown h = tt
+
+enough_told : (o : Option Uses) (n : Needs) (l : Leaf) → IsEnough n l → IsEnough (told o n) l
+enough_told None n l h = h
+enough_told (Some u) n (variable type_var i) h = h
+enough_told (Some u) n (variable int_var i) h = h
+enough_told (Some u) n (variable float_var i) h = h
+enough_told (Some u) n (variable const_var i) h = h
+enough_told (Some u) n (variable region_var i) h = h
+enough_told (Some u) n (bound k d i) h = tt
+enough_told (Some u) n (placeholder k w i) h = h
+enough_told (Some u) n (atom x) h = h
+enough_told (Some u) n unknown h = tt
 
 each_leaf : (P Q : Leaf → Type 0) → ((l : Leaf) → P l → Q l) → (t : Tree) → Leaves P t → Leaves Q t
 each_leaf P Q f (leaf l) h = f l h
@@ -99,6 +106,9 @@ allows_right a b t h = each_leaf (IsEnough b) (IsEnough (both_needs a b)) (enoug
 
 allows_without : (n : Needs) (t : Tree) → Allows n t → Allows (without_rules n) t
 allows_without n t h = each_leaf (IsEnough n) (IsEnough (without_rules n)) (enough_without n) t h
+
+allows_told : (o : Option Uses) (n : Needs) (t : Tree) → Allows n t → Allows (told o n) t
+allows_told o n t h = each_leaf (IsEnough n) (IsEnough (told o n)) (enough_told o n) t h
 
 -- Of lists.
 pub allows_still : (ns : List Needs) (n : Needs) (ks : List ℕ) (t : Tree) → Allows n t → Allows (needs_with ns n ks) t
@@ -144,11 +154,8 @@ head_enough n f None ts h = tt
 head_enough n f (Some d) ts h = h
 
 object_enough : (a b : Needs) (ps r : Tree) → Allows a ps → Allows b r →
-    Allows (without_rules (both_needs a b)) (object_tree ps r)
-object_enough a b ps r h k = (
-  allows_without (both_needs a b) ps (allows_left a b ps h),
-  (allows_without (both_needs a b) r (allows_right a b r k), tt),
-)
+    Allows (both_needs a b) (object_tree ps r)
+object_enough a b ps r h k = (allows_left a b ps h, (allows_right a b r k, tt))
 
 -- Of two parts of a form.
 two_enough : (a b : Needs) (t u : Tree) → Allows a t → Allows b u → Allows (both_needs a b) (cons t (cons u nil))
@@ -219,19 +226,25 @@ module _ (items names parts : List ℕ) (P : Needs → Tree → Type 0) (missing
   none_hold zero = missing
   none_hold (suc k) = missing
 
-  module _ (each : (ts : List Tree) (ns : List Needs) → HoldsOfEach P ts ns → (x : Term) →
-      P (term_need parts ns x) (term_tree items names parts ts x)) where
+  module _ (each : (ts : List Tree) (ns : List Needs) → HoldsOfEach P ts ns → (x : Term) (o : Option Uses) →
+      Tells o (term_tree items names parts ts x) → P (told o (term_need parts ns x)) (term_tree items names parts ts x))
+      (us : List Uses) where
     holds_from : (ts : List Tree) (ns : List Needs) → length ts ≡ length ns → HoldsOfEach P ts ns → (xs : List Term) →
-        HoldsOfEach P (trees_from items names parts ts xs) (needs_from parts ns xs)
-    holds_from ts ns l e [] = e
-    holds_from ts ns l e (x ∷ xs) =
-        holds_from (ts ++ term_tree items names parts ts x ∷ []) (ns ++ term_need parts ns x ∷ [])
-        (one_longer ts ns (term_tree items names parts ts x) (term_need parts ns x) l)
-        (holds_more ts ns l e (term_tree items names parts ts x) (term_need parts ns x) (each ts ns e x)) xs
+        AreTold (trees_from items names parts ts xs) us →
+        HoldsOfEach P (trees_from items names parts ts xs) (needs_from parts us ns xs)
+    holds_from ts ns l e [] h = e
+    holds_from ts ns l e (x ∷ xs) h =
+        let t = term_tree items names parts ts x in
+        let o = slice_get us (length ns) in
+        let said : Tells o t = subst (λ k. Tells (slice_get us k) t) l
+        (subst (Tells (slice_get us (length ts))) (next_is items names parts ts x xs) (h (length ts))) in
+        let n = told o (term_need parts ns x) in
+        holds_from (ts ++ t ∷ []) (ns ++ n ∷ []) (one_longer ts ns t n l) (holds_more ts ns l e t n (each ts ns e x o said)) xs h
 
     -- What holds of each term that is over such terms holds of all terms of a program.
-    pub all_hold : (xs : List Term) → HoldsOfEach P (trees_of items names parts xs) (needs_of parts xs)
-    all_hold xs = holds_from [] [] refl none_hold xs
+    pub all_hold : (xs : List Term) → AreTold (trees_of items names parts xs) us →
+        HoldsOfEach P (trees_of items names parts xs) (needs_of parts us xs)
+    all_hold xs h = holds_from [] [] refl none_hold xs h
 
 module _ (items names parts : List ℕ) where
   -- What a term needs is enough for it.
@@ -281,46 +294,49 @@ module _ (items names parts : List ℕ) where
   term_enough ts ns e (term.Pat t p) = two_enough (need_at ns t) (need_at ns p) (at ts t) (at ts p) (e t) (e p)
   term_enough ts ns e (term.Range a b) = two_enough (need_at ns a) (need_at ns b) (at ts a) (at ts b) (e a) (e b)
   term_enough ts ns e (term.Or p) = list_enough ts ns e no_needs _
-  term_enough ts ns e (term.TyBound d v n) = leaf_enough (without_rules no_needs) _ (λ x. refl) (slice_get names n)
-  term_enough ts ns e (term.RegionBound d v n) = leaf_enough (without_rules no_needs) _ (λ x. refl) (slice_get names n)
-  term_enough ts ns e (term.ConstBound d v n) = leaf_enough (without_rules no_needs) _ (λ x. refl) (slice_get names n)
+  term_enough ts ns e (term.TyBound d v n) = leaf_enough no_needs _ (λ x. tt) (slice_get names n)
+  term_enough ts ns e (term.RegionBound d v n) = leaf_enough no_needs _ (λ x. tt) (slice_get names n)
+  term_enough ts ns e (term.ConstBound d v n) = leaf_enough no_needs _ (λ x. tt) (slice_get names n)
   term_enough ts ns e (term.FnPtr h v p) =
-      fn_ptr_allowed (without_rules (parts_need parts ns p)) h (variables_of (parts_tree parts ts v)) (parts_tree parts ts p)
-      (allows_without (parts_need parts ns p) (parts_tree parts ts p) (list_enough ts ns e no_needs _))
-  term_enough ts ns e (term.UnsafeBinder v t) = (
-    under_allowed (without_rules (need_at ns t)) (variables_of (parts_tree parts ts v)) (at ts t)
-        (allows_without (need_at ns t) (at ts t) (e t)),
-    tt,
-  )
+      fn_ptr_allowed (parts_need parts ns p) h (variables_of (parts_tree parts ts v)) (parts_tree parts ts p)
+      (list_enough ts ns e no_needs _)
+  term_enough ts ns e (term.UnsafeBinder v t) =
+      (under_allowed (need_at ns t) (variables_of (parts_tree parts ts v)) (at ts t) (e t), tt)
   term_enough ts ns e (term.Object p r) =
       object_enough (parts_need parts ns p) (need_at ns r) (parts_tree parts ts p) (at ts r)
       (list_enough ts ns e no_needs _) (e r)
   term_enough ts ns e (term.Implements v d p) =
-      let n = without_rules (parts_need parts ns p) in
+      let n = parts_need parts ns p in
       under_allowed n (variables_of (parts_tree parts ts v)) _ (head_enough n existential_trait (slice_get items d) _
-      (allows_without (parts_need parts ns p) (parts_tree parts ts p) (list_enough ts ns e no_needs _)))
+      (list_enough ts ns e no_needs _))
   term_enough ts ns e (term.Projects v d p t) =
       let a = need_at ns t in
       let b = parts_need parts ns p in
-      let n = without_rules (both_needs a b) in
+      let n = both_needs a b in
       under_allowed n (variables_of (parts_tree parts ts v)) _ (head_enough n existential_projection (slice_get items d) _ (
-        allows_without (both_needs a b) (at ts t) (allows_left a b (at ts t) (e t)),
-        allows_without (both_needs a b) (parts_tree parts ts p)
-            (allows_right a b (parts_tree parts ts p) (list_enough ts ns e no_needs _)),
+        allows_left a b (at ts t) (e t),
+        allows_right a b (parts_tree parts ts p) (list_enough ts ns e no_needs _),
       ))
   term_enough ts ns e (term.IsAuto v d) =
-      under_allowed (without_rules no_needs) (variables_of (parts_tree parts ts v)) _
-      (leaf_enough (without_rules no_needs) _ (λ x. tt) (slice_get items d))
+      under_allowed no_needs (variables_of (parts_tree parts ts v)) _ (leaf_enough no_needs _ (λ x. tt) (slice_get items d))
+
+  told_enough : (ts : List Tree) (ns : List Needs) → AreEnough ts ns → (x : Term) (o : Option Uses) →
+      Tells o (term_tree items names parts ts x) → Allows (told o (term_need parts ns x)) (term_tree items names parts ts x)
+  told_enough ts ns e x o said =
+      allows_told o (term_need parts ns x) (term_tree items names parts ts x) (term_enough ts ns e x)
 
   -- What all terms of a program need is enough for them.
-  pub all_enough : (xs : List Term) → AreEnough (trees_of items names parts xs) (needs_of parts xs)
-  all_enough xs = all_hold items names parts Allows tt term_enough xs
+  pub all_enough : (us : List Uses) (xs : List Term) → AreTold (trees_of items names parts xs) us →
+      AreEnough (trees_of items names parts xs) (needs_of parts us xs)
+  all_enough us xs h = all_hold items names parts Allows tt told_enough us xs h
 
 -- One more term behind others.
-pub needs_more : (parts : List ℕ) (ns : List Needs) (xs : List Term) (x : Term) →
-    needs_from parts ns (xs ++ x ∷ []) ≡ needs_from parts ns xs ++ term_need parts (needs_from parts ns xs) x ∷ []
-needs_more parts ns [] x = refl
-needs_more parts ns (y ∷ xs) x = needs_more parts (ns ++ term_need parts ns y ∷ []) xs x
+pub needs_more : (parts : List ℕ) (us : List Uses) (ns : List Needs) (xs : List Term) (x : Term) →
+    (let before = needs_from parts us ns xs in needs_from parts us ns (xs ++ x ∷ []) ≡
+    before ++ told (slice_get us (length before)) (term_need parts before x) ∷ [])
+needs_more parts us ns [] x = refl
+needs_more parts us ns (y ∷ xs) x =
+    needs_more parts us (ns ++ told (slice_get us (length ns)) (term_need parts ns y) ∷ []) xs x
 
 -- One more part of a list.
 pub needs_with_more : (ns : List Needs) (n : Needs) (ks : List ℕ) (k : ℕ) →
@@ -328,9 +344,9 @@ pub needs_with_more : (ns : List Needs) (n : Needs) (ks : List ℕ) (k : ℕ) �
 needs_with_more ns n [] k = refl
 needs_with_more ns n (j ∷ ks) k = needs_with_more ns (both_needs n (need_at ns j)) ks k
 
--- A context that has what a known term needs, of forms that have rules.
+-- A context that has what a known term needs, from which nothing escapes.
 module _ (st : Store) (n : Needs) (variables : (k : VarKind) (i : ℕ) → Reaches (largest n k) i → IsMade st k i)
-    (universe : n.universe ≤ st.universe) (rules : IsTrue n.has_rules) where
+    (universe : n.universe ≤ st.universe) where
   is_made : (l : Leaf) → IsTrue (known (leaf l)) → IsEnough n l → IsMadeLeaf st l
   is_made (variable v i) k h = variables v i h
   is_made (bound c d i) k h = tt
@@ -354,24 +370,10 @@ module _ (st : Store) (n : Needs) (variables : (k : VarKind) (i : ℕ) → Reach
   known_leaves P f (cons t ts) k h = let p = and_parts (known t) (known ts) k in
       (known_leaves P f t p.0 h.0, known_leaves P f ts p.1 h.1)
 
-  leaf_stays : (depth : ℕ) (l : Leaf) → IsEnough n l → StaysWithin depth (leaf l)
-  leaf_stays depth (variable c i) h = tt
-  leaf_stays depth (bound c d i) h = absurd (false≢true (sym h ∙ rules))
-  leaf_stays depth (placeholder c u i) h = tt
-  leaf_stays depth (atom x) h = tt
-  leaf_stays depth unknown h = tt
-
-  stays : (depth : ℕ) (t : Tree) → Allows n t → StaysWithin depth t
-  stays depth (leaf l) h = leaf_stays depth l h
-  stays depth (node g ts) h = stays depth ts h
-  stays depth (bind ks t) h = stays (suc depth) t h
-  stays depth nil h = tt
-  stays depth (cons t ts) h = (stays depth t h.0, stays depth ts h.1)
-
-  pub allowed_in : (t : Tree) → IsTrue (known t) → Allows n t → IsTermIn st t
+  pub allowed_in : (t : Tree) → IsTrue (known t) → Allows n t → StaysWithin 0 t → IsTermIn st t
   unfolding IsTermIn InContext
-  allowed_in t k h =
-      (known_leaves (IsMadeLeaf st) is_made t k h, stays 0 t h, known_leaves (IsNamable st.universe) is_namable t k h)
+  allowed_in t k h s =
+      (known_leaves (IsMadeLeaf st) is_made t k h, s, known_leaves (IsNamable st.universe) is_namable t k h)
 
 -- One more place of a range: what stands there, or nothing.
 pub range_more : (xs : List ℕ) (a i x : ℕ) → a ≤ i → slice_get xs i ≡ Some x →

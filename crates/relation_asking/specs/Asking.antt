@@ -18,6 +18,7 @@ use Rattle.relation_reference.specs.Variables.{value_at, universes_of}
 use Rattle.relation_tools.specs.declared.error.RelateFault.{RelateFault}
 use Rattle.relation_tools.specs.Faults.{KnowsFault}
 use Rattle.type_relations.specs.Covered.{IsCovered}
+use Rattle.type_relations.specs.Relation.{StaysWithin}
 use Rattle.type_relations.specs.Goals.{KnowsGoal}
 use Rattle.relation_text.specs.declared.naming.program.Variables.{Variables}
 use Rattle.relation_asking.specs.declared.context.VariableKind.{VariableKind}
@@ -31,9 +32,21 @@ use Rattle.relation_asking.specs.Meets.{AllKnown}
 use Rattle.relation_asking.specs.Needs.{Allows, Reaches, largest, need_at}
 use Rattle.relation_asking.specs.Outlives.{KnowsComponents}
 
--- A known term, for which what is needed is enough; of forms that have rules where that is said of it.
+-- What relating takes: a term of forms that have rules, in which each binder binds by its list, and nothing that one
+-- outside it binds stands.
+pub record IsRelatable (t : Tree) : Type 0 where
+  pub covered : IsCovered t
+  pub stays : StaysWithin 0 t
+
+-- That is said of a term.
+pub record IsAsked (n : Needs) : Type 0 where
+  pub rules : IsTrue n.has_rules
+  pub closed : IsTrue n.closed
+  pub lists : IsTrue n.by_lists
+
+-- A known term, for which what is needed is enough; which relating takes where that is said of it.
 abbrev pub IsReady : Needs → Tree → Type 0
-IsReady n t = IsTrue (known t) × (Allows n t × (IsTrue n.has_rules → IsCovered t))
+IsReady n t = IsTrue (known t) × (Allows n t × (IsAsked n → IsRelatable t))
 
 -- Each key that is there means such a term.
 abbrev pub AreReady : {Key Id Name : Type 0} → Meaning Key Id Name → List (Option (GenericArgKind Key)) → List Needs →
@@ -91,6 +104,10 @@ pub record Has {Key : Type 0} (x : InferCtxtInner Key) (n : Needs) : Type 0 wher
 pub record IsAskable (u : ℕ) (v : Variance) (a b : Needs) : Type 0 where
   pub left_rules : IsTrue a.has_rules
   pub right_rules : IsTrue b.has_rules
+  pub left_closed : IsTrue a.closed
+  pub right_closed : IsTrue b.closed
+  pub left_lists : IsTrue a.by_lists
+  pub right_lists : IsTrue b.by_lists
   pub left : a.universe ≤ u
   pub right : b.universe ≤ u
   pub decides : v ≢ Bivariant

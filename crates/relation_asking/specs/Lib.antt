@@ -1,3 +1,4 @@
+pub mod Binding
 pub mod Needs
 pub mod Outlives
 pub mod Asking

@@ -1,10 +1,11 @@
 -- What a context has to have for a term to be its own.
 use Rattle.std.specs.Prelude.{◌≡◌, ℕ, ◌≤◌, max, Bool, true, false, cond, ◌&&◌, List, [], ◌∷◌, ◌++◌, Option, Some, None}
-use Rattle.std.specs.Prelude.{slice_get, slice_range}
+use Rattle.std.specs.Prelude.{slice_get, slice_range, length, ◌==◌, vec_len}
 use Rattle.relation_terms.specs.Heads.{VarKind, Leaf, variable, bound, placeholder, atom, unknown, type_var, int_var, float_var}
 use Rattle.relation_terms.specs.Heads.{const_var, region_var}
 use Rattle.relation_terms.specs.Trees.{Tree, Leaves}
 use Rattle.type_relations.specs.Relation.{IsValueAtom}
+use Rattle.relation_asking.specs.declared.binding.Uses.{Uses}
 use Rattle.relation_asking.specs.declared.needs.Needs.{Needs}
 use Rattle.relation_text.specs.declared.reading.tree.ItemSort.{ItemSort}
 use Rattle.relation_text.specs.declared.reading.tree.ItemSort.TheVariants as sort
@@ -29,6 +30,8 @@ no_needs = record {
   regions = None;
   universe = 0;
   has_rules = true;
+  closed = true;
+  by_lists = true;
 }
 
 -- What a placeholder of a universe needs.
@@ -45,7 +48,14 @@ both_needs a b = record {
   regions = larger a.regions b.regions;
   universe = max a.universe b.universe;
   has_rules = a.has_rules && b.has_rules;
+  closed = a.closed && b.closed;
+  by_lists = a.by_lists && b.by_lists;
 }
+
+-- What a term needs where it is also said what it uses of binders outside it.
+abbrev pub told : Option Uses → Needs → Needs
+told None n = n
+told (Some u) n = record n { closed = (vec_len u.outer == 0); by_lists = u.by_lists }
 
 -- The same is needed, and a form has no rules.
 abbrev pub without_rules : Needs → Needs
@@ -108,24 +118,20 @@ module _ (parts : List ℕ) where
   term_need ns (term.Pat t p) = both_needs (need_at ns t) (need_at ns p)
   term_need ns (term.Range s e) = both_needs (need_at ns s) (need_at ns e)
   term_need ns (term.Or p) = parts_need parts ns p
-  term_need ns (term.TyBound d v n) = without_rules no_needs
-  term_need ns (term.RegionBound d v n) = without_rules no_needs
-  term_need ns (term.ConstBound d v n) = without_rules no_needs
-  term_need ns (term.FnPtr h v p) = without_rules (parts_need parts ns p)
-  term_need ns (term.UnsafeBinder v t) = without_rules (need_at ns t)
-  term_need ns (term.Object p r) = without_rules (both_needs (parts_need parts ns p) (need_at ns r))
-  term_need ns (term.Implements v d p) = without_rules (parts_need parts ns p)
-  term_need ns (term.Projects v d p t) = without_rules (both_needs (need_at ns t) (parts_need parts ns p))
-  term_need ns (term.IsAuto v d) = without_rules no_needs
+  term_need ns (term.FnPtr h v p) = parts_need parts ns p
+  term_need ns (term.UnsafeBinder v t) = need_at ns t
+  term_need ns (term.Object p r) = both_needs (parts_need parts ns p) (need_at ns r)
+  term_need ns (term.Implements v d p) = parts_need parts ns p
+  term_need ns (term.Projects v d p t) = both_needs (need_at ns t) (parts_need parts ns p)
   term_need ns t = no_needs
 
-  -- What terms need that stand behind those of these needs; what all need.
-  abbrev pub needs_from : List Needs → List Term → List Needs
-  needs_from ns [] = ns
-  needs_from ns (x ∷ xs) = needs_from (ns ++ term_need ns x ∷ []) xs
+  -- What terms need that stand behind those of these needs; what all need. It is said what each uses.
+  abbrev pub needs_from : List Uses → List Needs → List Term → List Needs
+  needs_from us ns [] = ns
+  needs_from us ns (x ∷ xs) = needs_from us (ns ++ told (slice_get us (length ns)) (term_need ns x) ∷ []) xs
 
-  abbrev pub needs_of : List Term → List Needs
-  needs_of xs = needs_from [] xs
+  abbrev pub needs_of : List Uses → List Term → List Needs
+  needs_of us xs = needs_from us [] xs
 
 -- The largest variable of a kind that is needed.
 abbrev pub largest : Needs → VarKind → Option ℕ
@@ -141,10 +147,9 @@ Reaches None i = ⊥
 Reaches (Some n) i = i ≤ n
 
 -- What is needed is enough for a leaf: a variable up to the largest of its kind, a placeholder that the universe names.
--- What a binder binds stands only in a term with a form that has no rules.
 abbrev pub IsEnough : Needs → Leaf → Type 0
 IsEnough n (variable k i) = Reaches (largest n k) i
-IsEnough n (bound k d i) = n.has_rules ≡ false
+IsEnough n (bound k d i) = Unit {0}
 IsEnough n (placeholder k u i) = u ≤ n.universe
 IsEnough n (atom x) = IsValueAtom x
 IsEnough n unknown = Unit {0}

@@ -24,6 +24,10 @@ use type_relations::relate::solver_relating::{RelateExt, RelateGoals};
 pub enum NotAsked {
     /// No rules relate terms of one of the forms.
     Rules,
+    /// A binder outside the terms binds what stands in them.
+    Escapes,
+    /// A binder in the terms does not bind by its list.
+    Lists,
     /// The context's universe, which is this one, does not name a placeholder.
     Universe(usize),
     /// Nothing is asked at this variance.
@@ -222,6 +226,12 @@ pub(super) fn refusal<I: Interner>(
     if !lhs.has_rules || !rhs.has_rules {
         return Some(NotAsked::Rules);
     }
+    if !lhs.closed || !rhs.closed {
+        return Some(NotAsked::Escapes);
+    }
+    if !lhs.by_lists || !rhs.by_lists {
+        return Some(NotAsked::Lists);
+    }
     let universe = ctx.inner.universe.0;
     if universe < lhs.universe || universe < rhs.universe {
         return Some(NotAsked::Universe(universe));
@@ -269,6 +279,10 @@ pub(super) fn write_not_asked<W: Write>(why: NotAsked, out: &mut W) -> fmt::Resu
     out.write_str("not asked: ")?;
     match why {
         NotAsked::Rules => out.write_str("a form in these types has no rules yet"),
+        NotAsked::Escapes => out.write_str(
+            "a binder outside these types binds what stands in them",
+        ),
+        NotAsked::Lists => out.write_str("a binder in these types does not bind by its list"),
         NotAsked::Universe(universe) => {
             write!(
                 out,

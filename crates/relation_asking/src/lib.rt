@@ -3,6 +3,7 @@
 
 ghost use Rattle.relation_asking.specs.Asking.{AreReady};
 
+mod binding;
 mod comparing;
 mod context;
 mod folding;
@@ -17,6 +18,7 @@ pub mod sized_keys;
 mod visiting;
 mod walking;
 
+use binding::uses_of;
 use interner::{Tables, make_interner, make_tables};
 use needs::needs_of;
 use question::{Ready, ask_often, context_for, is_memory, write_outcome};
@@ -98,7 +100,10 @@ pub fn ask_over<I: SizedKeys + Drop, W: Write>(
     let Ok(built) = build(&mut interner, ids, names, program) else {
         return refuse_all(program, between, out);
     };
-    let Ok(needs) = needs_of(alloc, program) else {
+    let Ok(uses) = uses_of(alloc, program) else {
+        return refuse_all(program, between, out);
+    };
+    let Ok(needs) = needs_of(alloc, program, &uses) else {
         return refuse_all(program, between, out);
     };
     let terms = Ready {

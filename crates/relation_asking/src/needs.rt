@@ -1,15 +1,17 @@
 //! What a context has to have for a term to be asked about in it.
 ghost use Rattle.std.specs.Prelude.{◌≡◌, IfOk, max, slice_get};
 ghost use Rattle.relation_asking.specs.Needs.{larger, both_needs, universe_need, without_rules};
-ghost use Rattle.relation_asking.specs.Needs.{is_alias, item_need};
+ghost use Rattle.relation_asking.specs.Needs.{is_alias, item_need, told};
 ghost use Rattle.relation_asking.specs.Needs.{need_at, parts_need, term_need, needs_of};
 
+use crate::binding::Uses;
 use relation_text::naming::{Parts, Program, Term};
 use relation_text::reading::ItemSort;
 use std::alloc::{AllocError, Global};
 
 /// What a term needs of a context: variables up to these numbers, the largest that it names, if it names any; and a
-/// universe that names its placeholders. To be related, it needs to be of forms that have rules.
+/// universe that names its placeholders. To be related, it needs to be of forms that have rules, without what binders
+/// outside it bind, and its binders have to bind by their lists.
 #[derive(Clone, Copy)]
 pub struct Needs {
     pub types: Option<usize>,
@@ -19,6 +21,8 @@ pub struct Needs {
     pub regions: Option<usize>,
     pub universe: usize,
     pub has_rules: bool,
+    pub closed: bool,
+    pub by_lists: bool,
 }
 
 // Nothing is needed.
@@ -30,6 +34,8 @@ const NONE: Needs = Needs {
     regions: None,
     universe: 0,
     has_rules: true,
+    closed: true,
+    by_lists: true,
 };
 
 // The larger of two numbers.
@@ -64,6 +70,8 @@ pub(crate) fn both(a: Needs, b: Needs) -> Needs
         regions: larger(a.regions, b.regions),
         universe: greater(a.universe, b.universe),
         has_rules: a.has_rules && b.has_rules,
+        closed: a.closed && b.closed,
+        by_lists: a.by_lists && b.by_lists,
     }
 }
 
@@ -78,7 +86,7 @@ pub(crate) fn need_at(before: &[Needs], number: usize) -> Needs
 }
 
 // The number at a place of a list.
-fn number_at(numbers: &[usize], place: usize) -> Option<usize>
+pub(crate) fn number_at(numbers: &[usize], place: usize) -> Option<usize>
     ensures { result ≡ slice_get numbers.now place }
 {
     numbers.get(place).copied()
@@ -183,32 +191,50 @@ fn term_need(numbers: &[usize], before: &[Needs], term: Term) -> Needs
         Term::Range(start, end) => both(need_at(before, start), need_at(before, end)),
         Term::Or(parts) => parts_need(numbers, before, parts),
         Term::TyError | Term::ConstError => without_rules(NONE),
-        Term::TyBound(..) | Term::RegionBound(..) | Term::ConstBound(..) => without_rules(NONE),
-        Term::FnPtr(_, _, types) => without_rules(parts_need(numbers, before, types)),
-        Term::UnsafeBinder(_, body) => without_rules(need_at(before, body)),
-        Term::Object(parts, region) => {
-            without_rules(both(parts_need(numbers, before, parts), need_at(before, region)))
-        }
-        Term::Implements(_, _, args) => without_rules(parts_need(numbers, before, args)),
-        Term::Projects(_, _, args, term) => {
-            without_rules(both(need_at(before, term), parts_need(numbers, before, args)))
-        }
-        Term::IsAuto(..) => without_rules(NONE),
+        Term::TyBound(..) | Term::RegionBound(..) | Term::ConstBound(..) => NONE,
+        Term::IsAuto(..) => NONE,
+        Term::FnPtr(_, _, types) => parts_need(numbers, before, types),
+        Term::UnsafeBinder(_, body) => need_at(before, body),
+        Term::Object(parts, region) => both(
+            parts_need(numbers, before, parts),
+            need_at(before, region),
+        ),
+        Term::Implements(_, _, args) => parts_need(numbers, before, args),
+        Term::Projects(_, _, args, term) => both(
+            need_at(before, term),
+            parts_need(numbers, before, args),
+        ),
         _ => NONE,
     }
 }
 
-/// What each term of a program needs.
+// What is needed where it is also said what a term uses of binders outside it.
+fn told_at(needs: Needs, all: &[Uses], number: usize) -> Needs
+    ensures { result ≡ told (slice_get all.now number) needs }
+{
+    match all.get(number) {
+        None => needs,
+        Some(uses) => Needs {
+            closed: uses.outer.is_empty(),
+            by_lists: uses.by_lists,
+            ..needs
+        },
+    }
+}
+
+/// What each term of a program needs, of which it is said what it uses of binders outside it.
 ///
 /// # Errors
 /// `AllocError` where a growth was refused.
-pub fn needs_of(alloc: Global, program: &Program) -> Result<Vec<Needs>, AllocError>
-    ensures { IfOk result (λ needs. needs.items ≡ needs_of program.now.parts.items program.now.terms.items) }
+pub fn needs_of(alloc: Global, program: &Program, uses: &[Uses]) -> Result<Vec<Needs>, AllocError>
+    ensures { let xs = program.now.terms.items in
+        IfOk result (λ needs. needs.items ≡ needs_of program.now.parts.items uses.now xs) }
 {
     let mut needs = Vec::with_capacity(alloc, program.terms.len())?;
     for term in &program.terms {
         let need = term_need(&program.parts, &needs, *term);
-        needs.push(need)?;
+        let told = told_at(need, uses, needs.len());
+        needs.push(told)?;
     }
     Ok(needs)
 }

@@ -16,8 +16,11 @@ ghost use Rattle.relation_asking.specs.Asking.{AreBoundKnown, KnowsRelated};
 
 use relation_reference::context::{RefCtxt, Variable, VariableValue};
 use relation_terms::predicate::{ClauseKind, PredicateKind, RegionConstraint};
-use relation_terms::terms::{Const, Interner, TermKind, Ty};
-use relation_text::printing::{TextsOf, write_arg, write_const, write_region, write_ty};
+use relation_terms::terms::{Const, DefId, Interner, TermKind, Ty};
+use relation_text::printing::{
+    TextsOf, write_arg, write_const, write_item_name, write_object_predicates, write_region,
+    write_ty,
+};
 use relation_tools::error::{ExpectedFound, RelateFault, TypeError, TypeErrorOf};
 use std::fmt::{self, Write};
 use type_relations::relate::solver_relating::{GoalOf, RelateGoals};
@@ -80,8 +83,51 @@ fn write_consts<I: Interner, W: Write>(
     write_const(cx, texts, &constants.found, out)
 }
 
-// Writes the types, regions and constants that an error names, in parentheses. Ids, lists and regions of a binder have
-// no text yet: of an error that names one nothing is written.
+// Writes the names of two items with a comma between.
+fn write_items<I: Interner, W: Write>(
+    texts: &TextsOf<I>,
+    expected: I::Id,
+    found: I::Id,
+    out: &mut W,
+) -> fmt::Result {
+    write_item_name::<I, W>(texts, &DefId(expected), out)?;
+    out.write_str(", ")?;
+    write_item_name::<I, W>(texts, &DefId(found), out)
+}
+
+// Writes the items, or the predicates of trait objects, that an error names, in parentheses. A region of a binder has no
+// text: of an error that names one nothing is written.
+fn write_error_items<I: Interner, W: Write>(
+    cx: &I,
+    texts: &TextsOf<I>,
+    error: &TypeErrorOf<I>,
+    out: &mut W,
+) -> fmt::Result
+    requires { KnowsError (I.meaning cx.now) error.now }
+{
+    match error {
+        TypeError::Traits(traits) => {
+            out.write_str("(")?;
+            write_items::<I, W>(texts, traits.expected.0, traits.found.0, out)?;
+            out.write_str(")")
+        }
+        TypeError::ProjectionMismatched(items) => {
+            out.write_str("(")?;
+            write_items::<I, W>(texts, items.expected, items.found, out)?;
+            out.write_str(")")
+        }
+        TypeError::ExistentialMismatch(lists) => {
+            out.write_str("(")?;
+            write_object_predicates(cx, texts, &lists.expected, out)?;
+            out.write_str(", ")?;
+            write_object_predicates(cx, texts, &lists.found, out)?;
+            out.write_str(")")
+        }
+        _ => Ok(()),
+    }
+}
+
+// Writes what an error names, in parentheses: types, regions and constants, or else items and predicates.
 fn write_error_terms<I: Interner, W: Write>(
     cx: &I,
     texts: &TextsOf<I>,
@@ -123,7 +169,7 @@ fn write_error_terms<I: Interner, W: Write>(
             write_const(cx, texts, constant, out)?;
             out.write_str(")")
         }
-        _ => Ok(()),
+        _ => write_error_items(cx, texts, error, out),
     }
 }
 

@@ -18,7 +18,8 @@ use Rattle.type_relations.specs.Stores.{Store}
 use Rattle.type_relations.specs.Contexts.{Context}
 use Rattle.type_relations.specs.ContextCalls.{KeepsRest}
 use Rattle.type_relations.specs.Generalising.{MakesUnbound}
-use Rattle.type_relations.specs.Binders.{kinds_in, BindsByList, variable_kind, MakesEach, makes_none, makes_next}
+use Rattle.type_relations.specs.Bound.{BindsByList}
+use Rattle.type_relations.specs.Binders.{kinds_in, variable_kind, MakesEach, makes_none, makes_next}
 use Rattle.type_relations.specs.Binders.{EntersAs, InstantiatesAs, EntersBinder, InstantiatesWithInfer}
 use Rattle.type_relations.proofs.Opened.{opened_inst, placeholders_stand, variables_stand, none_escapes, some_escapes}
 use Rattle.relation_reference.specs.Opened.{placeholders_from, MakesOne}

@@ -31,7 +31,7 @@ left_stays st k n u v t c s no_var no_place no_int no_float o = λ l e. go l (su
     go (variable float_var m) c r a b = (λ q. no_float 0 (let z : k ≡ float_var = cc in z), tt)
     go (variable const_var m) c r a b = absurd (a (ConstTerm (record { 0 = m })) refl)
     go (variable region_var m) c r a b = absurd (r refl)
-    go (bound q d i) c r a b = absurd c
+    go (bound q d i) c r a b = (λ z. absurd (cc), tt)
     go (placeholder (bound_kind region_kind x) w i) c r a b = absurd (r refl)
     go (placeholder (bound_kind type_kind x) w i) c r a b = (λ q. absurd (cc), b (bound_kind type_kind x) w i refl (λ z. absurd (cc)))
     go (placeholder (bound_kind const_kind x) w i) c r a b = (λ q. absurd (cc), b (bound_kind const_kind x) w i refl (λ z. absurd (cc)))

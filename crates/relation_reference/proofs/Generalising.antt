@@ -15,17 +15,18 @@ use Rattle.relation_tools.specs.declared.error.TypeError.{TypeError}
 use Rattle.relation_tools.specs.declared.error.TypeError.TheVariants.{Mismatch}
 use Rattle.relation_tools.specs.declared.error.RelateFault.{RelateFault}
 use Rattle.relation_tools.specs.declared.error.RelateFault.TheVariants.{Memory, Budget, Unrelated}
-use Rattle.type_relations.specs.Relation.{Items, sort_of}
+use Rattle.type_relations.specs.Relation.{Items, sort_of, StaysWithin}
 use Rattle.type_relations.specs.Lawful.{declared_by, items_of}
+use Rattle.type_relations.specs.Bound.{AreBoundAs}
 use Rattle.type_relations.specs.Covered.{IsCovered, IsCoveredHead}
 use Rattle.type_relations.specs.Stores.{Store, universe_of, IsMade, IsMadeLeaf, InContext, IsSound}
 use Rattle.type_relations.specs.Steps.{MakesVariable}
-use Rattle.type_relations.specs.Generalising.{Stays, gives_way_to, Met, Stage, Turn, any_part, new_part, variance_of_part, IsPlainHead, Generalised, met_before, met_first, no_type, stays, gives_way, by_parts, in_binder, no_parts, next_part, MakesUnbound, makes_none, makes_one, Obstacle, cycle, beyond, IsNoObstacle, StopsAt, at_itself, at_placeholder, in_parts, in_first, in_others}
+use Rattle.type_relations.specs.Generalising.{Stays, gives_way_to, Met, Stage, Turn, any_part, new_part, variance_of_part, IsPlainHead, Generalised, met_before, met_first, no_type, stays, gives_way, by_parts, in_binder, no_parts, next_part, MakesUnbound, makes_none, makes_one, Obstacle, cycle, beyond, IsNoObstacle, StopsAt, at_itself, at_placeholder, in_parts, in_body, in_first, in_others}
 use Rattle.type_relations.proofs.Trees.{Leaves_map}
 use Rattle.type_relations.proofs.NewVariables.{Adds, adds, makes_then}
 use Rattle.type_relations.proofs.Generalising.{gives_no_number}
 use Rattle.type_relations.proofs.GeneralisingOnce.{still_new}
-use Rattle.type_relations.proofs.GeneralisingParts.{PartsDone, none_done, one_done, form_done}
+use Rattle.type_relations.proofs.GeneralisingParts.{PartsDone, none_done, one_done, form_done, body_done}
 use Rattle.type_relations.proofs.Lists.{firsts, firsts_all, snoc}
 use Rattle.relation_reference.specs.declared.context.generalising.MetKey.{MetKey}
 use Rattle.relation_reference.specs.declared.context.generalising.Fate.TheVariants.{ByParts}
@@ -280,7 +281,8 @@ stops_nth j nil h a s = absurd (omega (arith, h))
 stops_whole : {st : Store} {k : VarKind} {n : ℕ} {o : Obstacle} (t : Tree) (j : ℕ) → IsCovered t → j < count (parts_of t) → Leaves (IsNoObstacle st k n) (firsts j (parts_of t)) → StopsAt st k n o (nth j (parts_of t)) → StopsAt st k n o t
 stops_whole (node h ts) j c l a s = in_parts (plain_of_covered h c.0) (stops_nth j ts l a s)
 stops_whole (leaf x) j c l a s = absurd (omega (arith, l))
-stops_whole (bind ks t) j c l a s = absurd c
+stops_whole (bind ks t) zero c l a s = in_body s
+stops_whole (bind ks t) (suc j) c l a s = absurd (omega (arith, l))
 stops_whole nil j c l a s = absurd (omega (arith, l))
 stops_whole (cons t ts) j c l a s = absurd (omega (arith, l))
 
@@ -352,7 +354,14 @@ module _ {Key Id Name S : Type 0} (eq : MetKey Key → MetKey Key → Bool) (m n
         generalised = of_none (subst (λ y. PartsDone d start k i (leaf x) v (record { store = was; met = es }) y (record { store = now; met = q.met }) us) e q.done) (stays g.0 st);
         clear = clear_stays start k i v x g.0 st;
       }
-  went_whole (bind ks t) j us c s l e f w = absurd c
+  went_whole (bind ks t) j us c s l e f w = λ d start es a b.
+      let q = w d start es a b in
+      record {
+        met = q.met;
+        come = q.come;
+        generalised = body_done (subst (λ y. PartsDone d start k i (bind ks t) v (record { store = was; met = es }) y (record { store = now; met = q.met }) us) e q.done);
+        clear = (subst (λ y. Leaves (IsNoObstacle start k i) (firsts y (cons t nil))) e q.clear).0;
+      }
   went_whole nil j us c s l e f w = absurd (s refl)
   went_whole (cons t ts) j us c s l e f w = absurd (s refl)
 
@@ -421,20 +430,41 @@ generalised_first {Key = Key} {Id = Id} {Name = Name} eq m n was now k i u v cyc
 gives_covered : (l : Leaf) (j : VarKind) (d : ℕ) → IsCovered (leaf (variable j d))
 gives_covered l j d = tt
 
-stays_covered : {c : Items} {start : Store} {k : VarKind} {n : ℕ} {turn : Turn} {r q : Stage} {t x : Tree} → Generalised c start k n turn r t q x → IsCovered t → All (λ e. IsCovered e.term) r.met → IsCovered x × All (λ e. IsCovered e.term) q.met
-stays_covered (met_before {v = v} {r = r} {t = t} {x = x} s h) cov all = (All-contains (λ e. IsCovered e.term) r.met (met_at v t x) all h, all)
-stays_covered (met_first {v = v} {q = q} {t = t} {x = x} s o g a b) cov all = let h = stays_covered g cov all in
-    (h.0, subst (All (λ e. IsCovered e.term)) (sym b) (All-cons (λ e. IsCovered e.term) (met_at v t x) q.met h.0 h.1))
-stays_covered (no_type s g) cov all = stays_covered g cov all
-stays_covered (stays o s) cov all = (cov, all)
-stays_covered (gives_way {l = l} {j = j} {m = m} o s e f b) cov all = (gives_covered l j m, subst (All (λ e. IsCovered e.term)) (sym b) all)
-stays_covered (by_parts h g) cov all = let i = stays_covered g cov.1 all in ((cov.0, i.0), i.1)
-stays_covered (in_binder g) cov all = absurd cov
-stays_covered no_parts cov all = (tt, all)
-stays_covered (next_part g f) cov all = let a = stays_covered g cov.0 all in let b = stays_covered f cov.1 a.1 in ((a.0, b.0), b.1)
+-- From a term to what it became: what binders outside bind stands in that by places of their lists too, and no more
+-- escapes from it.
+record KeepsBound (t x : Tree) : Type 0 where
+  bound : (ks : List BoundKind) (d : ℕ) → AreBoundAs ks d t → AreBoundAs ks d x
+  within : (d : ℕ) → StaysWithin d t → StaysWithin d x
 
-pub generalised_covered : {c : Items} {start st : Store} {k : VarKind} {n : ℕ} {turn : Turn} {q : Stage} {t x : Tree} → Generalised c start k n turn (record { store = st; met = [] }) t q x → IsCovered t → IsCovered x
-generalised_covered g cov = (stays_covered g cov (All-nil _)).0
+abbrev IsCoveredMet : Met → Type 0
+IsCoveredMet e = IsCovered e.term × KeepsBound e.type e.term
+
+stays_covered : {c : Items} {start : Store} {k : VarKind} {n : ℕ} {turn : Turn} {r q : Stage} {t x : Tree} → Generalised c start k n turn r t q x → IsCovered t → All IsCoveredMet r.met → IsCovered x × KeepsBound t x × All IsCoveredMet q.met
+stays_covered (met_before {v = v} {r = r} {t = t} {x = x} s h) cov all = let e = All-contains IsCoveredMet r.met (met_at v t x) all h in (e.0, e.1, all)
+stays_covered (met_first {v = v} {q = q} {t = t} {x = x} s o g a b) cov all = let h = stays_covered g cov all in
+    (h.0, h.1, subst (All IsCoveredMet) (sym b) (All-cons IsCoveredMet (met_at v t x) q.met (h.0, h.1) h.2))
+stays_covered (no_type s g) cov all = stays_covered g cov all
+stays_covered (stays o s) cov all = (cov, record { bound = λ ks d b. b; within = λ d b. b }, all)
+stays_covered (gives_way {l = l} {j = j} {m = m} o s e f b) cov all = (gives_covered l j m, record { bound = λ ks d h. tt; within = λ d h. tt }, subst (All IsCoveredMet) (sym b) all)
+stays_covered (by_parts h g) cov all = let i = stays_covered g cov.1 all in
+    ((cov.0, i.0), record { bound = λ ks d b. i.1.bound ks d b; within = λ d b. i.1.within d b }, i.2)
+stays_covered (in_binder {ks = ks} g) cov all = let i = stays_covered g cov.1 all in
+    ((i.1.bound ks 0 cov.0, i.0), record { bound = λ ls d b. i.1.bound ls (suc d) b; within = λ d b. i.1.within (suc d) b }, i.2)
+stays_covered no_parts cov all = (tt, record { bound = λ ks d b. tt; within = λ d b. tt }, all)
+stays_covered (next_part g f) cov all = let a = stays_covered g cov.0 all in let b = stays_covered f cov.1 a.2 in (
+  (a.0, b.0),
+  record { bound = λ ks d h. (a.1.bound ks d h.0, b.1.bound ks d h.1); within = λ d h. (a.1.within d h.0, b.1.within d h.1) },
+  b.2,
+)
+
+module _ {c : Items} {start st : Store} {k : VarKind} {n : ℕ} {turn : Turn} {q : Stage} {t x : Tree}
+    (g : Generalised c start k n turn (record { store = st; met = [] }) t q x) (cov : IsCovered t) where
+  pub generalised_covered : IsCovered x
+  generalised_covered = (stays_covered g cov (All-nil _)).0
+
+  -- Nothing escapes from it, if nothing did.
+  pub generalised_within : StaysWithin 0 t → StaysWithin 0 x
+  generalised_within h = (stays_covered g cov (All-nil _)).1.within 0 h
 
 -- Nothing was met at the start.
 pub none_met : (es : List Met) (d : Met) → es ≡ [] → Contains es d → ⊥

@@ -12,7 +12,7 @@ use Rattle.relation_tools.specs.declared.error.TypeError.{TypeError}
 use Rattle.relation_tools.specs.declared.error.RelateFault.{RelateFault}
 use Rattle.relation_tools.specs.declared.error.RelateFault.TheVariants.{Memory, Budget, Unrelated}
 use Rattle.relation_tools.specs.Faults.{KnowsError}
-use Rattle.type_relations.specs.Relation.{Items}
+use Rattle.type_relations.specs.Relation.{Items, StaysWithin}
 use Rattle.type_relations.specs.Lawful.{items_of}
 use Rattle.type_relations.specs.Covered.{IsCovered}
 use Rattle.type_relations.specs.ErasureLaws.{IsTypeOrConst}
@@ -21,7 +21,7 @@ use Rattle.type_relations.specs.Steps.{BindsTo}
 use Rattle.type_relations.specs.Generalising.{gives_way_to, Stage, Turn, any_part, new_part, Generalised, met_before, met_first, no_type, stays, gives_way, by_parts, in_binder, variance_for, InstantiatesBy, MakesUnbound, makes_none, Obstacle, cycle, beyond, StopsAt}
 use Rattle.type_relations.specs.ContextCalls.{Instantiated, ObstacleError}
 use Rattle.type_relations.proofs.NewVariables.{Adds, adds}
-use Rattle.type_relations.proofs.Standing.{term_context}
+use Rattle.type_relations.proofs.Standing.{term_context, term_within}
 use Rattle.type_relations.proofs.StoreCalls.{resolved_in}
 use Rattle.type_relations.proofs.Numbers.{no_type_variable}
 use Rattle.type_relations.proofs.Variables.{covered_formed_const}
@@ -33,7 +33,7 @@ use Rattle.relation_reference.specs.Tables.{store_of, context_of, keys_in, MayBe
 use Rattle.relation_reference.specs.Generalises.{GivenError, IsGeneralisedFor}
 use Rattle.relation_reference.proofs.Beside.{Beside}
 use Rattle.relation_reference.proofs.Covering.{comes_covered}
-use Rattle.relation_reference.proofs.Generalising.{items_grow, generalised_covered, none_met}
+use Rattle.relation_reference.proofs.Generalising.{items_grow, generalised_covered, generalised_within, none_met}
 use Rattle.relation_reference.proofs.Grows.{store_grows, lawful_grows}
 use Rattle.relation_reference.proofs.Writing.{bind_binds, bind_lawful}
 
@@ -187,5 +187,10 @@ module _ {Key Id Name : Type 0} {c : Items} {k : VarKind} {n : ℕ} {v : Varianc
   pub type_may : IsTerm type_sort t → ((i : ℕ) → t ≢ leaf (variable type_var i)) → MayBeBoundTo type_var term
   type_may f o = (generalised_no_variable type_var tt g refl (no_type_variable (store_of m x) l.sound t f o), bound_covered)
 
-  pub const_may : IsTerm const_sort t → ((i : ℕ) → t ≢ leaf (variable const_var i)) → IsTerm const_sort term → MayBeBoundTo const_var term
-  const_may f o h = (covered_formed_const term h bound_covered (no_variable_at_all term h (generalised_no_variable const_var tt g refl (no_const_variable (store_of m x) t f o))), bound_covered)
+  -- Nothing escapes from what it is bound to.
+  bound_within : IsTermIn (store_of m x) t → StaysWithin 0 term
+  bound_within h = generalised_within g (comes_covered m x l t covered)
+      (term_within (store_of m x) (apply (resolved (store_of m x)) t) (resolved_in (store_of m x) l.sound t h))
+
+  pub const_may : IsTerm const_sort t → ((i : ℕ) → t ≢ leaf (variable const_var i)) → IsTermIn (store_of m x) t → IsTerm const_sort term → MayBeBoundTo const_var term
+  const_may f o t_in h = (covered_formed_const term h bound_covered (bound_within t_in) (no_variable_at_all term h (generalised_no_variable const_var tt g refl (no_const_variable (store_of m x) t f o))), bound_covered)

@@ -332,7 +332,7 @@ module _ {Key Id Name : Type 0} (m : Meaning Key Id Name) (x : InferCtxtInner Ke
   pub constraint_goes : Goes 0 (store_of m x) (store_of m y)
   constraint_goes = record {
     later = constraint_is_later (store_of m x) (store_of m y) asked constraint_added;
-    made = record { no_number = λ k h. refl; none = λ h k. refl };
+    made = λ k h. refl;
     spent = 0;
     counts = omega arith;
     binds = let e = constraint_bound (store_of m x) (store_of m y) asked constraint_added in omega (arith, e);

@@ -16,7 +16,7 @@ use Rattle.relation_terms.specs.Heads.{fresh_type, fresh_int, fresh_float, fresh
 use Rattle.type_relations.specs.Arguments.{related_tree}
 use Rattle.type_relations.specs.Lawful.{Asked}
 use Rattle.type_relations.proofs.Relatable.{tree_known}
-use Rattle.relation_tests.specs.Plain.{plain_store, plain_state, plain_manner}
+use Rattle.relation_tests.specs.Plain.{IsUnbound, plain_store, plain_state, plain_manner}
 use Rattle.relation_tests.specs.Concrete.{IsConcrete}
 use Rattle.type_relations.specs.Contexts.{Context}
 use Rattle.type_relations.specs.Solving.{solving_in, solver_manner}
@@ -91,8 +91,8 @@ concrete_asked m v a b h k = record {
   right_known = concrete_known b k;
   left_in = concrete_in (plain_store m []) a h;
   right_in = concrete_in (plain_store m []) b k;
-  left_taken = (concrete_leaves (λ l. Unit {0}) (λ x h. tt) a h, concrete_covered a h);
-  right_taken = (concrete_leaves (λ l. Unit {0}) (λ x h. tt) b k, concrete_covered b k);
+  left_taken = (concrete_leaves IsUnbound (λ x h. tt) a h, concrete_covered a h);
+  right_taken = (concrete_leaves IsUnbound (λ x h. tt) b k, concrete_covered b k);
 }
 
 -- Also in a context.

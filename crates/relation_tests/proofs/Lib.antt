@@ -2,4 +2,5 @@ pub mod PlainLemmas
 pub mod Concrete
 pub mod OverItems
 pub mod Atoms
+pub mod Bodies
 pub mod Opening

@@ -7,7 +7,7 @@ use Rattle.relation_terms.specs.Meaning.{Meaning, Extends, under}
 use Rattle.relation_terms.specs.declared.terms.keys.BoundVarsKey.{BoundVarsKey}
 use Rattle.type_relations.specs.Relation.{IsValueAtom}
 use Rattle.type_relations.specs.Stores.{Store, IsTermIn, InContext}
-use Rattle.type_relations.specs.Binders.{BindsByList}
+use Rattle.type_relations.specs.Bound.{BindsByList}
 
 -- A binder that may be opened.
 pub record MayOpen (st : Store) (b : Tree) : Type 0 where

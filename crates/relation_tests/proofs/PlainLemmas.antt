@@ -24,6 +24,7 @@ use Rattle.type_relations.specs.Parts.{IsFormed}
 use Rattle.type_relations.specs.Lawful.{items_of, Passes, Related, items_in}
 use Rattle.type_relations.specs.Constraints.{constraint_at, constraint_of}
 use Rattle.relation_tests.specs.Plain.{as_is, plain_store, plain_state, plain_manner}
+use Rattle.type_relations.proofs.Full.{full_itself, full_by}
 use Rattle.type_relations.proofs.Trees.{all_leaves, apply_own, own_other}
 use Rattle.type_relations.proofs.Constraints.{asked_in, asked_relates, asked_met}
 use Rattle.type_relations.proofs.Standing.{made_of_term, term_within, term_sort_of}
@@ -93,7 +94,7 @@ module _ {Key Id Name : Type 0} (m : Meaning Key Id Name) where
     goes : (n : ℕ) → Goes n (plain_store m cs) (plain_store m (cs ++ c ∷ []))
     goes n = record {
       later = constraint_is_later (plain_store m cs) (plain_store m (cs ++ c ∷ [])) (constraint_of m c) added;
-      made = record { no_number = λ k h. refl; none = λ h k. refl };
+      made = λ k h. refl;
       spent = 0;
       counts = omega arith;
       binds = let e = constraint_bound (plain_store m cs) (plain_store m (cs ++ c ∷ [])) (constraint_of m c) added in
@@ -182,6 +183,7 @@ module _ {Key Id Name : Type 0} (m : Meaning Key Id Name) where
         keeps_pair (plain_store m cs) (plain_store m (cs ++ c ∷ [])) (m.region a) (m.region b)
             (standing_keeps (plain_store m cs) (plain_store m (cs ++ c ∷ [])) (λ k. refl) (λ k. refl)),
       );
+      full = λ ha hb. full_by (goes v cs c of_store 0) (λ k. refl) (λ all. all);
     }
 
     pub regions_related : (ds : List (RegionConstraint Key)) (x : RegionKey Key) → ds ≡ cs ++ c ∷ [] → x ≡ a →
@@ -197,6 +199,7 @@ module _ {Key Id Name : Type 0} (m : Meaning Key Id Name) where
       passes = passes_nowhere _ (plain_state m v cs);
       verdict = tt;
       exact = λ k is pair. binds_itself (plain_store m cs) a b;
+      full = λ ha hb. full_itself (plain_store m cs);
     }
 
     pub not_recorded : (ds : List (RegionConstraint Key)) (r : Result X (RelateFault Key Id Name)) → ds ≡ cs →

@@ -2,7 +2,7 @@
 use Rattle.std.specs.Prelude.{true, false, List, [], map}
 use Rattle.relation_terms.specs.declared.terms.enums.Variance.{Variance}
 use Rattle.relation_terms.specs.declared.predicate.RegionConstraint.{RegionConstraint}
-use Rattle.relation_terms.specs.Heads.{environment, variable}
+use Rattle.relation_terms.specs.Heads.{environment, Leaf, variable, bound}
 use Rattle.relation_terms.specs.Trees.{leaf, node, nil, Assign}
 use Rattle.relation_terms.specs.Meaning.{Meaning}
 use Rattle.type_relations.specs.Stores.{Store, IsSound}
@@ -41,10 +41,16 @@ module _ {Key Id Name : Type 0} (m : Meaning Key Id Name) where
     lawful = IsSound (plain_store cs);
   }
 
--- It takes all terms, answers the left one, is exact, and records just what is asked of regions. It registers nothing.
+-- Nothing that a binder binds.
+abbrev pub IsUnbound : Leaf → Type 0
+IsUnbound (bound k d i) = ⊥
+IsUnbound l = Unit {0}
+
+-- It takes all terms in which no binder binds anything, answers the left one, is exact, and records just what is asked of
+-- regions. It registers nothing.
 abbrev pub plain_manner : Manners
 plain_manner k = record {
-  takes = λ v l. Unit {0};
+  takes = λ v l. IsUnbound l;
   keeps_left = Unit {0};
   is_exact = Unit {0};
   records_asked = Unit {0};

@@ -16,6 +16,9 @@ use relation_terms::terms::{
     Const, GenericArgKind, GenericArgs, Interner, ItemOf, Region, RegionKey, Ty, Variance,
 };
 use relation_tools::error::RelateResult;
+use relation_tools::fold::TypeFoldable;
+use relation_tools::visit::TypeVisitable;
+use type_relations::infer_ctxt::BinderOf;
 use type_relations::relate::structural::tys;
 use type_relations::relate::{Step, TypeRelation};
 
@@ -136,6 +139,19 @@ impl<I: Interner> TypeRelation<I> for PlainRelation<I> {
         };
         self.constraints.push(constraint)?;
         Ok(*a)
+    }
+
+    // It takes no term in which a binder binds anything: bodies are related as they are.
+    fn open_binders<T: TypeFoldable<I> + TypeVisitable<I> + Copy>(
+        &mut self,
+        a: &BinderOf<I, T>,
+        b: &BinderOf<I, T>,
+        round: usize,
+    ) -> RelateResult<I, Option<(T, T)>> {
+        if round == 0 {
+            return Ok(Some((a.value, b.value)));
+        }
+        Ok(None)
     }
 
     fn tys_done(&mut self, _a: &Ty<I>, _b: &Ty<I>) -> RelateResult<I, ()> {

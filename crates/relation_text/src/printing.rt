@@ -13,6 +13,6 @@ mod whole;
 
 pub use names::{ItemText, Parameter, Texts, TextsOf, TraitText, float_name, int_name, uint_name};
 pub use whole::{
-    write_alias, write_arg, write_const, write_item_name, write_param, write_placeholder,
-    write_region, write_ty, write_variable,
+    write_alias, write_arg, write_const, write_item_name, write_object_predicates, write_param,
+    write_placeholder, write_region, write_ty, write_variable,
 };

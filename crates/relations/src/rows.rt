@@ -32,7 +32,7 @@ pub enum RowFault {
 }
 
 /// The rows, in the order of their numbers.
-pub const ROWS: [Row; 32] = [
+pub const ROWS: [Row; 40] = [
     Row {
         name: "r01",
         questions: "may unify[rigid, rigid] bool, char at 0; may unify[rigid, rigid] bool, char at 1;",
@@ -76,6 +76,16 @@ pub const ROWS: [Row; 32] = [
         stored: "err Sorts(u8, bool); bound=[?0=u8]",
     },
     Row {
+        name: "r10",
+        questions: "fn(&'static u8) <: for<'a> fn(&'a u8);",
+        stored: "ok; regions=['!1.0: 'static]",
+    },
+    Row {
+        name: "r11",
+        questions: "for<'a, 'b> fn(&'a u8, &'b u8) == for<'a> fn(&'a u8, &'a u8);",
+        stored: "ok; regions=['?0 == '!1.0, '?1 == '!1.0, '!2.0 == '?2, '!2.1 == '?2]",
+    },
+    Row {
         name: "r12",
         questions: "struct Vec<+T>; Vec<?0> <: ?1;",
         stored: "ok; goals=[Subtype(?0, ?2, true)]; bound=[?1=Vec<?2>]",
@@ -104,6 +114,12 @@ pub const ROWS: [Row; 32] = [
             may unify[rigid, rigid] &'a &'a &'a &'a &'a &'a &'a unsafe<> &'a &'a &'a &'a &'a &'a &'a bool,
                 &'a &'a &'a &'a &'a &'a &'a unsafe<> &'a &'a &'a &'a &'a &'a &'a char;",
         stored: "false | true | false",
+    },
+    Row {
+        name: "r21",
+        questions: "param 'a;
+            fn(u8) -> bool <: fn(u8) -> char; fn(&'a u8) <: fn(&'a mut u8);",
+        stored: "err ArgumentSorts(bool, char, 1) | err ArgumentMutability(0)",
     },
     Row {
         name: "r22",
@@ -166,9 +182,30 @@ pub const ROWS: [Row; 32] = [
         stored: "ok; bound=[?0=u8, ?c0=2]",
     },
     Row {
+        name: "r42",
+        questions: "for<'a> fn(&'a u8) <: fn(&'static u8); for<'a> fn(&'a u8) :> fn(&'static u8);",
+        stored: "ok; regions=['static: '?0] | ok; regions=['!1.0: 'static]",
+    },
+    Row {
+        name: "r43",
+        questions: "fn(u8, fn(u8)) <: fn(u8, fn(bool)); fn(u8) <: fn();",
+        stored: "err ArgumentSorts(u8, bool, 1) | err ArgCount",
+    },
+    Row {
+        name: "r44",
+        questions: "trait Tr; trait Us; param 'a, 'b;
+            dyn Tr + 'a <: dyn Tr + 'b; dyn Tr + 'a <: dyn Us + 'a;",
+        stored: "ok; regions=['a: 'b] | err Traits(Tr, Us)",
+    },
+    Row {
         name: "r45",
         questions: "u8 is 1..=2 == u8 is !null; u8 is 1..=2 == u8 is 1..=3;",
         stored: "err Mismatch | err ConstMismatch(2, 3)",
+    },
+    Row {
+        name: "r46",
+        questions: "unsafe<'a> &'a u8 == unsafe<> &'static u8;",
+        stored: "ok; regions=['?0 == 'static, '!1.0 == 'static]",
     },
     Row {
         name: "r53",
@@ -207,6 +244,13 @@ pub const ROWS: [Row; 32] = [
         name: "r61",
         questions: "",
         stored: "61 | 0",
+    },
+    Row {
+        name: "r63",
+        questions: "fn(?0) <: for<'a> fn(&'a u8); fn(?0) == for<'a> fn(&'a u8);
+            fn(?0) <: for<^0> fn(^0);",
+        stored: "ok; regions=['!1.0: '?0]; bound=[?0=&'?0 u8] | \
+            ok; regions=['?0 == '!1.0, '?0 == '?1]; bound=[?0=&'?0 u8] | err Mismatch",
     },
     Row {
         name: "r69",
@@ -308,6 +352,8 @@ fn is_low_row(name: &str) -> bool
         || name == "r07"
         || name == "r08"
         || name == "r09"
+        || name == "r10"
+        || name == "r11"
         || name == "r12"
         || name == "r17"
         || name == "r18"
@@ -319,6 +365,7 @@ fn is_middle_row(name: &str) -> bool
     ensures { IsTrue result ↔ IsMiddleRow name.now }
 {
     name == "r20"
+        || name == "r21"
         || name == "r22"
         || name == "r23"
         || name == "r24"
@@ -336,14 +383,22 @@ fn is_middle_row(name: &str) -> bool
 fn is_upper_row(name: &str) -> bool
     ensures { IsTrue result ↔ IsUpperRow name.now }
 {
-    name == "r45" || name == "r53" || name == "r54" || name == "r55" || name == "r59"
+    name == "r42"
+        || name == "r43"
+        || name == "r44"
+        || name == "r45"
+        || name == "r46"
+        || name == "r53"
+        || name == "r54"
+        || name == "r55"
+        || name == "r59"
 }
 
 // Whether a row from r60 on has that name.
 fn is_high_row(name: &str) -> bool
     ensures { IsTrue result ↔ IsHighRow name.now }
 {
-    name == "r60" || name == "r61" || name == "r69"
+    name == "r60" || name == "r61" || name == "r63" || name == "r69"
 }
 
 // Whether a row has that name.

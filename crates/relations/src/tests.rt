@@ -15,11 +15,14 @@ r05: Foo<Bar<i32>, Bar<i32>, i32> | Bar<i32> | i32 | end
 r07: err TupleSize(2, 3) | err Sorts((), (u8,))
 r08: err CyclicTy([?0])
 r09: err Sorts(u8, bool); bound=[?0=u8]
+r10: ok; regions=['!1.0: 'static]
+r11: ok; regions=['?0 == '!1.0, '?1 == '!1.0, '!2.0 == '?2, '!2.1 == '?2]
 r12: ok; goals=[Subtype(?0, ?2, true)]; bound=[?1=Vec<?2>]
 r17: budget; bound=[?0=u8]; left=0
 r18: 'a
 r19: false | ok
 r20: false | true | false
+r21: err ArgumentSorts(bool, char, 1) | err ArgumentMutability(0)
 r22: err ArraySize(2, 3)
 r23: ok; regions=['a: 'b] | ok; regions=['b: 'a] | ok; regions=['a == 'b]
 r24: ok; goals=[WellFormed(P<?0>), WellFormed(P<u8>)] | ok; bound=[?0=u8]
@@ -31,13 +34,19 @@ r34: ok; regions=['a: 'c, 'b == 'd] | err Mutability
 r35: ok; regions=['b: 'a] | ok; regions=['a: 'b]
 r36: ok; bound=[?0=u8, ?i0=u16]; left=0
 r37: ok; bound=[?0=u8, ?c0=2]
+r42: ok; regions=['static: '?0] | ok; regions=['!1.0: 'static]
+r43: err ArgumentSorts(u8, bool, 1) | err ArgCount
+r44: ok; regions=['a: 'b] | err Traits(Tr, Us)
 r45: err Mismatch | err ConstMismatch(2, 3)
+r46: ok; regions=['?0 == 'static, '!1.0 == 'static]
 r53: dyn Tr<bool, A = u8> + 'a | bool | u8 | 'a | end
 r54: 'a, T, 'b | 'b | none | escaping[T]
 r55: 'a: 'b | (&'a T, u8): 'b | T: 'b
 r59: false | true | false | true
 r60: true | false | true | false
 r61: 61 | 0
+r63: ok; regions=['!1.0: '?0]; bound=[?0=&'?0 u8] | \
+    ok; regions=['?0 == '!1.0, '?0 == '?1]; bound=[?0=&'?0 u8] | err Mismatch
 r69: true | false | false | ok; bound=[?c0=1]
 ";
 

@@ -20,6 +20,7 @@ use Rattle.type_relations.proofs.PartSizes.{weight_parts_most}
 use Rattle.type_relations.proofs.Registered.{registered_in}
 use Rattle.type_relations.proofs.Passing.{passes_within, manner_then, stopped}
 use Rattle.type_relations.proofs.Fronts.{Fronted, AreParts, IsLookedAt, fronted_all, fronted_never, fronted_passes, fronted_fault, fronted_exactly}
+use Rattle.type_relations.proofs.Fronts.{fronted_full}
 use Rattle.type_relations.proofs.Structural.{types_never}
 use Rattle.type_relations.proofs.Answering.{same_items, may_itself}
 use Rattle.type_relations.proofs.OneUniverse.{keeps_binds, binds_as}
@@ -81,6 +82,7 @@ module _ {Key Id Name : Type 0} {r q : State Key Id Name} (M : Manners) (v : Var
     exact = λ exact is' pair.
         answered_as r.store q.store (node h ts) (node h us) ts us (λ s. forms_unify_by_parts s h ts us apart) (λ u z. z)
         (λ u z. z) (fronted_exactly h v i ts us are e (e ∙ n) f exact is' looked (list_pair pair));
+    full = f.full;
   }
 
   -- Memory ran out after some of the parts.
@@ -88,7 +90,7 @@ module _ {Key Id Name : Type 0} {r q : State Key Id Name} (M : Manners) (v : Var
   form_stopped tree = stopped M v (node h ts) (node h us) tree
       (passes_within (omega (arith, weight_parts_most r.store (node h ts), weight_parts_most r.store (node h us))) f.passes)
       (λ exact is pair. binds_as r.store q.store (node h ts) (node h us) ts us (λ u z. z) (λ u z. z)
-      (keeps_binds r.store q.store ts us (f.exact exact is looked (list_pair pair)).2))
+      (keeps_binds r.store q.store ts us (f.exact exact is looked (list_pair pair)).2)) f.full
 
   -- Two parts of two forms were refused, and so are the forms.
   module _ (x y : Tree) (lx : i < count ts) (ly : i < count us) (ex : x ≡ nth i ts) (ey : y ≡ nth i us)
@@ -122,6 +124,7 @@ module _ {Key Id Name : Type 0} {r q : State Key Id Name} (M : Manners) (v : Var
           (fronted_passes h v i ts us x y f lx ly ex ey g.passes);
       verdict = refuses g.passes e g.verdict;
       exact = exactly A B p e g.exact;
+      full = fronted_full h v i ts us x y f lx ly ex ey g.full;
     }
 
 -- Items have the numbers that they had.

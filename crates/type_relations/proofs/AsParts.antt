@@ -1,11 +1,12 @@
 -- The parts that are related of types and constants, among those of terms of any sort: they are generic arguments.
-use Rattle.std.proofs.Common.{◌≡◌, ◌≢◌, ℕ, zero, suc, ◌<◌, refl, sym, subst, subst₂, arith, IsTrue, Option, Some, None}
+use Rattle.std.proofs.Common.{◌≡◌, ℕ, zero, suc, ◌<◌, refl, sym, subst, subst₂, arith, IsTrue, Option, Some, None}
 use Rattle.std.proofs.Common.{List, [], ◌∷◌, map}
 use Rattle.relation_terms.specs.Heads.{Sort, region_sort, type_sort, const_sort, value_sort, argument_sort, Admits, head_sort}
 use Rattle.relation_terms.specs.Heads.{Part, term_of, binder_of, Shape, one, row, head_parts}
 use Rattle.relation_terms.specs.Heads.{Head, adt, fn_def, closure, coroutine_closure, coroutine, coroutine_witness}
 use Rattle.relation_terms.specs.Heads.{array, slice, pattern_type, tuple, raw_ptr, ref, arguments, unevaluated}
-use Rattle.relation_terms.specs.Heads.{expression, value, range_pattern, or_pattern}
+use Rattle.relation_terms.specs.Heads.{expression, value, range_pattern, or_pattern, unsafe_binder, dynamic, fn_ptr}
+use Rattle.relation_terms.specs.Heads.{signature, inputs, object, existential_trait, existential_projection}
 use Rattle.relation_terms.specs.Heads.{value_type, value_branch}
 use Rattle.relation_terms.specs.Trees.{Tree, leaf, node, bind, nil, cons, known, list_tree, count, nth, Fits, IsTerm, AreTerms}
 use Rattle.relation_terms.specs.Meaning.{Meaning, arg_tree, const_tree}
@@ -24,7 +25,7 @@ use Rattle.relation_terms.proofs.Sorted.{Sorted, widen}
 use Rattle.relation_terms.proofs.Members.{fit_args, mapped, region_term, type_term, const_term}
 use Rattle.relation_terms.proofs.Parts.{sort_known, arg_part}
 use Rattle.type_relations.specs.Covered.{IsCovered, IsCoveredHead}
-use Rattle.type_relations.specs.Parts.{parts_of, branches_of, const_parts_of, head_of}
+use Rattle.type_relations.specs.Parts.{parts_of, branches_of, const_parts_of, IsByParts}
 use Rattle.type_relations.specs.Making.{arg_sort, Fit, over, const_over}
 use Rattle.type_relations.proofs.Comparing.{value_shape}
 use Rattle.type_relations.proofs.Making.{value_of}
@@ -71,33 +72,41 @@ shape_arguments : (x : Shape) (ts : Tree) → HasArguments x → Fits x ts → A
 shape_arguments (one p) ts a f = absurd a
 shape_arguments (row ps r) ts a f = row_arguments ps r ts a f
 
--- The types that relating has rules for are over arguments, but for pattern types.
-covered_arguments : (h : Head) → IsCoveredHead h → h ≢ pattern_type → Admits type_sort (head_sort h) →
-    HasArguments (head_parts h)
-covered_arguments (adt d) c n a = λ x h. h
-covered_arguments (fn_def d) c n a = λ x h. h
-covered_arguments (closure d) c n a = λ x h. h
-covered_arguments (coroutine_closure d) c n a = λ x h. h
-covered_arguments (coroutine d) c n a = λ x h. h
-covered_arguments (coroutine_witness d) c n a = λ x h. h
-covered_arguments array c n a = (type_admitted, (const_admitted, tt))
-covered_arguments slice c n a = (type_admitted, tt)
-covered_arguments pattern_type c n a = absurd (n refl)
-covered_arguments tuple c n a = type_admitted
-covered_arguments (raw_ptr u) c n a = (type_admitted, tt)
-covered_arguments (ref u) c n a = (region_admitted, (type_admitted, tt))
-covered_arguments arguments c n a = absurd a
-covered_arguments (expression k) c n a = absurd a
-covered_arguments value c n a = absurd a
-covered_arguments value_type c n a = absurd a
-covered_arguments value_branch c n a = absurd a
-covered_arguments range_pattern c n a = absurd a
-covered_arguments or_pattern c n a = absurd a
-covered_arguments h c n a = absurd c
+-- The types that relating has rules for are over arguments, but for those that are related by their parts.
+covered_arguments : (h : Head) (ts : Tree) → IsCoveredHead h → (IsByParts (node h ts) → ⊥) →
+    Admits type_sort (head_sort h) → HasArguments (head_parts h)
+covered_arguments (adt d) ts c n a = λ x h. h
+covered_arguments (fn_def d) ts c n a = λ x h. h
+covered_arguments (closure d) ts c n a = λ x h. h
+covered_arguments (coroutine_closure d) ts c n a = λ x h. h
+covered_arguments (coroutine d) ts c n a = λ x h. h
+covered_arguments (coroutine_witness d) ts c n a = λ x h. h
+covered_arguments array ts c n a = (type_admitted, (const_admitted, tt))
+covered_arguments slice ts c n a = (type_admitted, tt)
+covered_arguments pattern_type ts c n a = absurd (n tt)
+covered_arguments tuple ts c n a = type_admitted
+covered_arguments unsafe_binder ts c n a = absurd (n tt)
+covered_arguments dynamic ts c n a = absurd (n tt)
+covered_arguments fn_ptr ts c n a = absurd (n tt)
+covered_arguments (raw_ptr u) ts c n a = (type_admitted, tt)
+covered_arguments (ref u) ts c n a = (region_admitted, (type_admitted, tt))
+covered_arguments (signature x s k) ts c n a = absurd a
+covered_arguments inputs ts c n a = absurd a
+covered_arguments arguments ts c n a = absurd a
+covered_arguments object ts c n a = absurd a
+covered_arguments (existential_trait d) ts c n a = absurd a
+covered_arguments (existential_projection d) ts c n a = absurd a
+covered_arguments (expression k) ts c n a = absurd a
+covered_arguments value ts c n a = absurd a
+covered_arguments value_type ts c n a = absurd a
+covered_arguments value_branch ts c n a = absurd a
+covered_arguments range_pattern ts c n a = absurd a
+covered_arguments or_pattern ts c n a = absurd a
+covered_arguments h ts c n a = absurd c
 
-ty_arguments : (t : Tree) → IsTerm type_sort t → IsCovered t → head_of t ≢ pattern_type →
+ty_arguments : (t : Tree) → IsTerm type_sort t → IsCovered t → (IsByParts t → ⊥) →
     AreTerms argument_sort (parts_of t)
-ty_arguments (node h ts) f c n = shape_arguments (head_parts h) ts (covered_arguments h c.0 n f.0) f.1
+ty_arguments (node h ts) f c n = shape_arguments (head_parts h) ts (covered_arguments h ts c.0 n f.0) f.1
 ty_arguments t f c n = tt
 
 branch_arguments : (v : Tree) → IsTerm value_sort v → AreTerms argument_sort (branches_of v)
@@ -118,7 +127,7 @@ term_nth s (cons t ts) (suc i) l f = term_nth s ts i (omega (arith, l)) f.1
 term_nth s t i l f = absurd (omega (arith, l))
 
 pub ty_argument : (t : Tree) (i : ℕ) → i < count (parts_of t) → IsTerm type_sort t → IsCovered t →
-    head_of t ≢ pattern_type → IsTerm argument_sort (nth i (parts_of t))
+    (IsByParts t → ⊥) → IsTerm argument_sort (nth i (parts_of t))
 ty_argument t i l f c n = term_nth argument_sort (parts_of t) i l (ty_arguments t f c n)
 
 pub const_argument : (c : Tree) (i : ℕ) → i < count (const_parts_of c) → IsTerm const_sort c →

@@ -11,7 +11,7 @@ use Rattle.type_relations.specs.Relation.{Items, Interpretation, IsValueLeaf, St
 use Rattle.type_relations.specs.Stores.{Store, entry_term, bound_to, bound_term, universe_of, IsMade, IsFree, IsMadeLeaf, InContext, IsInScope, IsNamable, IsAssignment, MayStandFor, IsTermIn, IsSound, Satisfies, resolved, weight}
 use Rattle.type_relations.specs.FirstOrder.{IsFirstOrder, IsFirstOrderStore, IsClosedLeaf, IsTypeClosed, Unifies, IsErasedSolution}
 use Rattle.type_relations.specs.StoreLaws.{GeneralisingInstantiates}
-use Rattle.type_relations.specs.Steps.{IsLater, InstantiatesNone, AgreeOn, AgreeErased, Extends, ExtendsErased, IsGeneralised, kept, replaced, in_form, in_binder, in_list, IsNamedBy, Instantiates}
+use Rattle.type_relations.specs.Steps.{IsLater, AgreeOn, AgreeErased, Extends, ExtendsErased, IsGeneralised, kept, replaced, in_form, in_binder, in_list, IsNamedBy, Instantiates}
 use Rattle.type_relations.specs.ErasureLaws.{IsTypeOrConst}
 use Rattle.type_relations.specs.Measures.{Goes}
 use Rattle.type_relations.specs.Generalising.{gives_way_to, any_part, variance_for, InstantiatesBy, NumbersNameNothing}
@@ -26,7 +26,7 @@ use Rattle.type_relations.proofs.Exactness.{entry_is_exact, erased_through}
 use Rattle.type_relations.proofs.Going.{later_through, goes_then, goes_within, le_grown}
 use Rattle.type_relations.proofs.StoreCalls.{resolved_in, resolved_unifies}
 use Rattle.type_relations.proofs.Instantiating.{stands_resolved, resolved_first_order}
-use Rattle.type_relations.proofs.NewVariables.{Adds, adds, adds_goes, instantiates_one, IsValueFor, satisfies_after, assigns_after, erased_after, erased_agrees}
+use Rattle.type_relations.proofs.NewVariables.{Adds, adds, adds_goes, IsValueFor, satisfies_after, assigns_after, erased_after, erased_agrees}
 use Rattle.type_relations.proofs.Leafwise.{StandsIn, each_stands, one_of_all, replaced_leaves, absent_of_leaves, KeepsSort, within_back, fits_back, size_back, tamed, tamed_fits, tamed_values, tamed_named, tamed_within, tamed_erased, erased_named}
 use Rattle.type_relations.proofs.Generalising.{gives_sort, LeadsBack, IsBoundLeaf, IsSourceLeaf, Came, came_from_start}
 
@@ -309,16 +309,13 @@ module _ (c : Items) (before after : Store) (v : Variance) (k : VarKind) (n : �
     regions_alone = λ p x y h. alone p h;
   }
 
-  some_unbound : InstantiatesNone before → ⊥
-  some_unbound = instantiates_one before k n kind f.made (sym (a.entries k n) ∙ ((f.binds).writes).was_unbound) (λ e. let b = (f.binds).one_spent in let c = a.budget in omega (arith, e, b, c))
-
   -- It costs one of the budget, and sizes are at most squared.
   same_size : weight middle term ≡ weight before source
   unfolding weight
   same_size = ap size own ∙ sym (size_back back term keeps_sorts) ∙ ap size value
 
   pub generalised_goes : Goes (weight before source) before after
-  generalised_goes = let first : Goes (weight before source) before middle = goes_within (omega arith) (adds_goes some_unbound a) in goes_then first
+  generalised_goes = let first : Goes (weight before source) before middle = goes_within (omega arith) (adds_goes a) in goes_then first
       (bound_goes middle after k n term f.binds a.sound not_region term_stands bound_in absent in_scope kind (weight before source) (le_of_eq same_size)) (le_grown first.spent (weight before source))
 
   -- The variable does not stand in the source, and so nothing grows by the binding.

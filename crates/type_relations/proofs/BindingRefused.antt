@@ -15,7 +15,7 @@ use Rattle.type_relations.proofs.Resolved.{resolved_value, cycles_do_not_unify}
 use Rattle.type_relations.proofs.StoreCalls.{resolved_unifies}
 use Rattle.type_relations.proofs.Instantiating.{resolved_first_order}
 use Rattle.type_relations.proofs.Erased.{erased_occurs_check}
-use Rattle.type_relations.proofs.NewVariables.{Adds, adds, adds_goes, instantiates_one}
+use Rattle.type_relations.proofs.NewVariables.{Adds, adds, adds_goes}
 use Rattle.type_relations.proofs.Leafwise.{erased_named}
 
 -- An obstacle in a term.
@@ -102,4 +102,4 @@ module _ (before after : Store) (v : Variance) (k : VarKind) (n : ℕ) (source :
   }
 
 pub generalising_refuses : GeneralisingRefuses
-generalising_refuses before after v k n source o kind f g other = (refused before after v k n source o kind f g other, adds_goes (instantiates_one before k n kind f.made f.was_unbound f.may_spend) (same before after v k n source o kind f g other))
+generalising_refuses before after v k n source o kind f g other = (refused before after v k n source o kind f g other, adds_goes (same before after v k n source o kind f g other))

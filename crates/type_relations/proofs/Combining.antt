@@ -33,11 +33,12 @@ use Rattle.type_relations.proofs.GeneralisingErrors.{const_cycle_error}
 use Rattle.type_relations.proofs.NumberVars.{is_number, type_formed}
 use Rattle.type_relations.proofs.Numbers.{IsNumber, number_no_region, number_goes}
 use Rattle.type_relations.proofs.OneUniverse.{keeps_itself}
+use Rattle.type_relations.proofs.Full.{full_itself}
 use Rattle.type_relations.proofs.OverContext.{carried, over_it, standing, all_taken, read_covered, one_step, roots_step, number_step, number_step_back, left_apart, right_apart, parts_step}
 use Rattle.type_relations.proofs.Roots.{roots_goes, exact_itself}
 use Rattle.type_relations.proofs.Shallowly.{read_step, shallow_free_const, variable_made}
 use Rattle.type_relations.proofs.SolvingVariables.{const_left_step, const_right_step, left_refused, right_refused, const_comes_to_none}
-use Rattle.type_relations.proofs.Standing.{term_context}
+use Rattle.type_relations.proofs.Standing.{term_context, term_within}
 
 of_numbers : (k : VarKind) → IsNumberKind k → IsNumber k
 of_numbers int_var h = tt
@@ -96,8 +97,8 @@ module _ {Key Id Name : Type 0} where
         (subst₂ (λ z st. Stepped solver_manner IsFormed (standing r m was L) (standing r z st K) (m.ty a) (m.ty b) z.ty
         (Ok (Parts a b))) (sym same) (sym stays)
         (parts_step r m was L K l IsFormed (m.ty a) (m.ty b) m.ty a b sound (itself refl) (itself refl) asked
-        (type_formed (m.ty a) s asked.left_taken.1 x.0 x.1.0 x.1.1)
-        (type_formed (m.ty b) t asked.right_taken.1 y.0 y.1.0 y.1.1)))
+        (type_formed (m.ty a) s asked.left_taken.1 (term_within was (m.ty a) asked.left_in) x.0 x.1.0 x.1.1)
+        (type_formed (m.ty b) t asked.right_taken.1 (term_within was (m.ty b) asked.right_in) y.0 y.1.0 y.1.1)))
 
     module _ (grown : Extends m n) (numbers : NumbersNameNothing was) (all : HasCoveredBindings now) (a b : ConstKey Key)
         (asked : Asked solver_manner (standing r m was L) r.ambient (m.const_ a) (m.const_ b))
@@ -186,7 +187,8 @@ module _ {Key Id Name : Type 0} where
           (m.const_ a) (m.const_ b) z.const_ (Ok (Done a))) (sym same) (sym stays)
           (one_step r IsFormedConst m m was was L K (m.const_ a) (m.const_ b) m.const_ a refl (goes_nowhere _ was) l
           (λ w s sat. ap (apply s) e) (λ w s sat h. sat)
-          (λ h. (h, exact_itself was (m.const_ a) (m.const_ b) e)) (keeps_itself was) (inl refl) asked.left_known))
+          (λ h. (h, exact_itself was (m.const_ a) (m.const_ b) e)) (keeps_itself was) (full_itself was) (inl refl)
+          asked.left_known))
       combined_consts result (resolved_first x y differ f h combines) =
           let k = read_asked x y f h in
           read_step (standing r m was L) (standing r n now K) sound (m.const_ a) (m.const_ b) (m.const_ x) (m.const_ y)

@@ -31,7 +31,7 @@ use Rattle.relation_tools.specs.declared.error.TypeError.TheVariants.{TupleSize,
 use Rattle.relation_tools.specs.declared.error.RelateFault.{RelateFault}
 use Rattle.relation_tools.specs.declared.error.RelateFault.TheVariants.{Unrelated}
 use Rattle.relation_tools.specs.Faults.{KnowsError, KnowsFault}
-use Rattle.type_relations.specs.Relation.{plain_atom, IsError}
+use Rattle.type_relations.specs.Relation.{plain_atom, IsError, StaysWithin}
 use Rattle.type_relations.specs.Covered.{IsCovered}
 use Rattle.type_relations.specs.Stores.{Store}
 use Rattle.type_relations.specs.Errors.{AreAlike, AreAlikeLeaves, AreAlikeConsts, AreOfOneValue, one_value, as_many_branches, IsVariableFor, AreBindable, HaveNoError, outer_head}
@@ -348,19 +348,22 @@ module _ {Key Id Name : Type 0} (m : Meaning Key Id Name) where
   form_known x y e a b h (Err z) q = subst (KnowsFault m) (sym q.1) (known_error x y e a b h)
 
   -- Constants.
-  pub formed_const : (k : ConstKind Key Id Name) (x : ConstKey Key) → m.const_ x ≡ const_tree m k → IsCovered (m.const_ x) → ((n : ℕ) → m.const_ x ≡ leaf (variable const_var n) → ⊥) → IsFormedConst (m.const_ x)
-  formed_const k x e c o = subst IsFormedConst (sym e) (go k (subst IsCovered e c) (λ n q. o n (e ∙ q)))
+  pub formed_const : (k : ConstKind Key Id Name) (x : ConstKey Key) → m.const_ x ≡ const_tree m k → IsCovered (m.const_ x) →
+      StaysWithin 0 (m.const_ x) → ((n : ℕ) → m.const_ x ≡ leaf (variable const_var n) → ⊥) → IsFormedConst (m.const_ x)
+  formed_const k x e c w o = subst IsFormedConst (sym e)
+      (go k (subst IsCovered e c) (subst (StaysWithin 0) e w) (λ n q. o n (e ∙ q)))
     where
-      go : (k : ConstKind Key Id Name) → IsCovered (const_tree m k) → ((n : ℕ) → const_tree m k ≡ leaf (variable const_var n) → ⊥) → IsFormedConst (const_tree m k)
-      go (ConstParam p) c o = refl
-      go (ConstInfer (Var v)) c o = absurd (o v.0 refl)
-      go (ConstInfer (Fresh n)) c o = absurd c
-      go (ConstBound d b) c o = absurd c
-      go (ConstPlaceholder p) c o = refl
-      go (Unevaluated u) c o = absurd c.0
-      go (Value t v) c o = tt
-      go (ConstError z) c o = absurd c
-      go (Expr x a) c o = tt
+      go : (k : ConstKind Key Id Name) → IsCovered (const_tree m k) → StaysWithin 0 (const_tree m k) →
+          ((n : ℕ) → const_tree m k ≡ leaf (variable const_var n) → ⊥) → IsFormedConst (const_tree m k)
+      go (ConstParam p) c w o = refl
+      go (ConstInfer (Var v)) c w o = absurd (o v.0 refl)
+      go (ConstInfer (Fresh n)) c w o = absurd c
+      go (ConstBound d b) c w o = absurd (omega (arith, w))
+      go (ConstPlaceholder p) c w o = refl
+      go (Unevaluated u) c w o = absurd c.0
+      go (Value t v) c w o = tt
+      go (ConstError z) c w o = absurd c
+      go (Expr x a) c w o = tt
 
   -- The error of two constants that are of unlike forms.
   unlike_consts_as : (x y : ConstKey Key) (t u : Tree) (e : TypeError Key Id Name) → m.const_ x ≡ t → m.const_ y ≡ u → HaveNoError t u → (ConstsAlike t u → ⊥) → e ≡ ConstMismatch (record { expected = x; found = y }) → ConstFormError m x y e

@@ -8,7 +8,7 @@ use Rattle.relation_terms.specs.Meaning.{Meaning}
 use Rattle.relation_tools.specs.declared.error.TypeError.{TypeError}
 use Rattle.type_relations.specs.Relation.{Items, part_at}
 use Rattle.type_relations.specs.Stores.{Store, entry_term, MayStandFor, IsSound}
-use Rattle.type_relations.specs.Errors.{IsHandedOn, IsReadAs, itself, by_class, by_binding, ErrorOf, of_forms, of_const_forms, of_kinds, of_patterns, of_entries, of_parts, of_length, of_inputs, of_outputs, of_branches, of_binding, of_binding_back}
+use Rattle.type_relations.specs.Errors.{IsHandedOn, IsReadAs, itself, by_class, by_binding, ErrorOf, of_forms, of_const_forms, of_kinds, of_part_forms, of_bodies, of_entries, of_parts, of_length, of_inputs, of_outputs, of_branches, of_binding, of_binding_back}
 use Rattle.type_relations.proofs.Constants.{still, fixed}
 
 -- What a constant is read as is one.
@@ -46,7 +46,8 @@ module _ {Key Id Name : Type 0} (m : Meaning Key Id Name) (c : Items) (st : Stor
   const_error_alike n n' h (of_forms x y d p q o f) = of_forms x y n' p q o f
   const_error_alike n n' h (of_const_forms x y d p q o f) = of_const_forms x y n' p q o f
   const_error_alike n n' h (of_kinds d o) = of_kinds n' o
-  const_error_alike n n' h (of_patterns d o) = of_patterns n' o
+  const_error_alike n n' h (of_part_forms d o) = of_part_forms n' o
+  const_error_alike n n' h (of_bodies xs ys p q o f r) = absurd (subst (IsTerm const_sort) p h)
   const_error_alike {a = a} n n' h (of_entries {t = t} r q o) =
       of_entries r q (const_error_alike n n' (read_const st g a t r h) o)
   const_error_alike {v = v} {v' = v'} {e = e} n n' h (of_parts {h = k} {ts = ts} {us = us} i p q l b handed o) =

@@ -6,10 +6,11 @@ use Rattle.relation_terms.specs.Heads.{VarKind, VarKind_discrete, region_var, Le
 use Rattle.relation_terms.specs.Trees.{Tree, leaf, Assign, apply, Leaves, Occurs}
 use Rattle.type_relations.specs.Relation.{Interpretation}
 use Rattle.type_relations.specs.Stores.{Store, same_as, bound_to, entry_term, bound_term, universe_of, IsMade, IsInScope, IsNamable, MayStandFor, IsTermIn, IsSound, Satisfies, resolved, weight, counts_bound, tally}
-use Rattle.type_relations.specs.Steps.{Equates, BindsTo, IsLater}
+use Rattle.type_relations.specs.Steps.{Equates, BindsTo, IsLater, StaysFull}
 use Rattle.type_relations.specs.Measures.{Goes}
 use Rattle.type_relations.proofs.Trees.{Leaves_map}
 use Rattle.type_relations.proofs.Only.{which}
+use Rattle.type_relations.proofs.Full.{full_by, written_plain}
 use Rattle.type_relations.proofs.Resolved.{resolved_free, resolved_weight}
 use Rattle.type_relations.proofs.Standing.{itself_stands, namable_mono, term_of_made}
 use Rattle.type_relations.proofs.Written.{sound_after, is_later, equal, keeps, weight_after, made_after, free_stays, kind_more, kinds_stand}
@@ -78,7 +79,7 @@ module _ (before after : Store) (k : VarKind) (child root : ℕ) (q : Equates be
   pub equated_goes : Goes 0 before after
   equated_goes = record {
     later = equated_later;
-    made = record { no_number = λ j h. q.links.as_many j; none = λ h. q.links.as_many };
+    made = λ j h. q.links.as_many j;
     spent = 0;
     counts = let b = q.same_budget in omega arith;
     binds = (let h = bound_alike before after none_bound in omega (arith, h));
@@ -86,6 +87,10 @@ module _ (before after : Store) (k : VarKind) (child root : ℕ) (q : Equates be
         let one : weight before to ≡ 1 = resolved_weight before k root root_free in
         let h : weight after u ≤ weight before u * 1 = subst (λ z. weight after u ≤ weight before u * z) one (weight_after before after k child (same_as root) to q.links refl g away u) in omega arith;
   }
+
+  -- A variable that leads to another is bound to no binder.
+  pub equated_full : StaysFull before after
+  equated_full = full_by equated_goes q.links.as_many (written_plain q.links (λ t e. cc))
 
   pub equated_value : (w : Interpretation) (s : Assign) → Satisfies w after s → s k child ≡ s k root
   equated_value w s h = equal before after k child (same_as root) to q.links refl w s h
@@ -134,7 +139,7 @@ module _ (before after : Store) (k : VarKind) (n : ℕ) (t : Tree) (q : BindsTo 
   pub bound_goes : IsTypeOrConst k → (size : ℕ) → weight before t ≤ size → Goes size before after
   bound_goes counted size small = record {
     later = bound_later;
-    made = record { no_number = λ j h. q.writes.as_many j; none = λ h. q.writes.as_many };
+    made = λ j h. q.writes.as_many j;
     spent = 1;
     counts = let b = q.one_spent in omega arith;
     binds = bound_more before after 1 k counted (kind_more before after k n (bound_to t) t q.writes refl counts_bound refl (λ p q. refl)) (kinds_stand before after k n (bound_to t) t q.writes refl counts_bound);

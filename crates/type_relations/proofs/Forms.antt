@@ -18,7 +18,7 @@ use Rattle.type_relations.specs.declared.relate.forms.Outline.{Outline}
 use Rattle.type_relations.specs.declared.relate.forms.Form.{Form}
 use Rattle.type_relations.specs.declared.relate.forms.Form.TheVariants.{Leaf, Adt, FnDef, Closure, CoroutineClosure}
 use Rattle.type_relations.specs.declared.relate.forms.Form.TheVariants.{Coroutine, CoroutineWitness, Array, Slice}
-use Rattle.type_relations.specs.declared.relate.forms.Form.TheVariants.{Pat, RawPtr, Ref, Tuple}
+use Rattle.type_relations.specs.declared.relate.forms.Form.TheVariants.{Pat, RawPtr, Ref, Tuple, FnPtr, UnsafeBinder, Dynamic}
 use Rattle.type_relations.specs.Covered.{IsCovered, IsCoveredHead}
 use Rattle.type_relations.specs.Parts.{parts_of, head_of}
 use Rattle.type_relations.specs.Forms.{named_outline, head_outline, tree_outline, IsFixed}
@@ -40,6 +40,9 @@ from Slice n u = slice
 from Pat n u = pattern_type
 from RawPtr n u = raw_ptr u
 from Ref n u = ref u
+from FnPtr n u = fn_ptr
+from UnsafeBinder n u = unsafe_binder
+from Dynamic n u = dynamic
 from f n u = tuple
 
 abbrev head_from : Outline ℕ → Head
@@ -58,9 +61,9 @@ rebuilt pattern_type c n = refl
 rebuilt tuple c n = refl
 rebuilt (raw_ptr u) c n = refl
 rebuilt (ref u) c n = refl
-rebuilt unsafe_binder c n = absurd c
-rebuilt dynamic c n = absurd c
-rebuilt fn_ptr c n = absurd c
+rebuilt unsafe_binder c n = refl
+rebuilt dynamic c n = refl
+rebuilt fn_ptr c n = refl
 rebuilt (alias k d) c n = absurd c
 rebuilt h c n = absurd (n refl)
 
@@ -114,7 +117,7 @@ outline_head t n = absurd (n refl)
 pub itself_alike : (t u : Tree) → IsTerm type_sort t → IsCovered t → t ≡ u → AreOfOneForm t u
 itself_alike (leaf l) u f c e = one_leaf refl (sym e)
 itself_alike (node h ts) u f c e = over_parts refl (sym e) refl
-itself_alike (bind ks t) u f c e = absurd c
+itself_alike (bind ks t) u f c e = absurd f
 itself_alike nil u f c e = absurd f
 itself_alike (cons t ts) u f c e = absurd f
 

@@ -12,12 +12,14 @@ use Rattle.type_relations.specs.Relation.{Items, at, parts, part_at, mode}
 use Rattle.type_relations.specs.Stores.{Store, InContext, weight, resolved}
 use Rattle.type_relations.specs.Outcomes.{Outcome, Front, NeverOne, Exact, ExactFront, NoUnifier}
 use Rattle.type_relations.specs.Measures.{grown}
+use Rattle.type_relations.specs.Steps.{HasNoBinder, StaysFullFor}
 use Rattle.relation_tools.specs.declared.error.RelateFault.{RelateFault}
 use Rattle.relation_tools.specs.declared.error.RelateFault.TheVariants.{Memory, Budget, Unrelated}
 use Rattle.type_relations.specs.OneUniverse.{NamesTypesTo, KeepsUniverseOf, LeadsInUniverse}
 use Rattle.type_relations.specs.Lawful.{State, Manners, Passes, Related, ExactResult, items_in}
 use Rattle.type_relations.proofs.OneUniverse.{keeps_itself, keeps_pair, leaves_nth, led_keeps, led_binds, led_fewer}
 use Rattle.type_relations.proofs.Going.{pair_grown, later_itself}
+use Rattle.type_relations.proofs.Full.{full_itself, full_then, nth_plain}
 use Rattle.type_relations.proofs.Composing.{front_begins, front_goes_on, front_ends}
 use Rattle.type_relations.proofs.Passing.{passes_nowhere, passes_then, manner_then, outcome_seen}
 use Rattle.type_relations.proofs.Parts.{nth_size}
@@ -56,6 +58,7 @@ pub record Fronted {Key Id Name : Type 0} (M : Manners) (r q : State Key Id Name
   pub front : Front (items_in r) r.environment h v i r.store q.store r.goals passes.added xs ys
   pub exact : (M r.settings).is_exact → v ≡ Invariant → IsLookedAt h → IsFirstOrderPair r.store xs ys →
       IsFirstOrderStore q.store × ExactFront i r.store q.store xs ys × KeepsUniverseOf r.store q.store xs ys
+  pub full : StaysFullFor r.store q.store xs ys
 
 -- What is asked of two lists of parts.
 pub record AreParts (st : Store) (xs ys : Tree) : Type 0 where
@@ -81,6 +84,7 @@ module _ {Key Id Name : Type 0} where
       exact_front_begins r.store xs ys,
       keeps_pair r.store r.store xs ys (keeps_itself r.store),
     );
+    full = λ ha hb. full_itself r.store;
   }
 
   module _ {M : Manners} {r q : State Key Id Name} (h : Head) (v : Variance) (i : ℕ) (xs ys x y : Tree)
@@ -114,6 +118,11 @@ module _ {Key Id Name : Type 0} where
       z.1,
     )
 
+    -- No variable was made on the way, where no binder stands in the lists and none could be made.
+    pub fronted_full : {p : Store} → StaysFullFor q.store p x y → StaysFullFor r.store p xs ys
+    fronted_full g ha hb = full_then (f.full ha hb)
+        (g (subst HasNoBinder (sym ex) (nth_plain i xs ha)) (subst HasNoBinder (sym ey) (nth_plain i ys hb)))
+
     pub fronted_next : {X : Type 0} {p : State Key Id Name} (tree : X → Tree) (t : X) →
         AreParts r.store xs ys → Related M q p (part_at (items_in r) h i v) x y tree (Ok t) →
         Fronted M r p h v (suc i) xs ys
@@ -133,6 +142,7 @@ module _ {Key Id Name : Type 0} where
                 z.1).0 (subst₂ (Exact q.store p.store) ex ey o.1),
             led_keeps r.store q.store p.store xs ys x y (leads_at z.2) o.2,
           );
+      full = fronted_full g.full;
     }
 
     -- A fault of two parts is one of the lists: they are not unified where the parts are not.

@@ -6,8 +6,7 @@ use Rattle.std.proofs.lemmas.List.{append-nil, get_or_past}
 use Rattle.relation_terms.specs.Heads.{VarKind, type_var, int_var, float_var, const_var, region_var}
 use Rattle.relation_terms.specs.Trees.{Tree, cons}
 use Rattle.type_relations.specs.Stores.{Store, Entry, unbound, same_as, bound_to, entry_of, IsMade, weight, counts_bound, tally, all_bound}
-use Rattle.type_relations.specs.Steps.{IsLater, InstantiatesNone, BindsItsOwn}
-use Rattle.type_relations.specs.ErasureLaws.{IsTypeOrConst}
+use Rattle.type_relations.specs.Steps.{IsLater, BindsItsOwn}
 use Rattle.type_relations.specs.Measures.{grown, depth, Goes}
 use Rattle.type_relations.proofs.Classes.{entry_kept, stands_from, stands_through}
 
@@ -84,8 +83,8 @@ binds_its_own {before = before} {after = after} g regions k i t now new = go (de
     more_bound : (j : VarKind) → j ≡ k → (i < length (before.entries k) → ⊥) → all_bound before < all_bound after
     more_bound type_var e o = let a = less type_var e in let b = each const_var in omega (arith, a, b)
     more_bound const_var e o = let a = less const_var e in let b = each type_var in omega (arith, a, b)
-    more_bound int_var e o = absurd (o (subst (λ z. i < length (before.entries z)) e (let l : i < length (after.entries int_var) = subst (λ z. i < length (after.entries z)) (sym e) (made_after (dec_le (suc i) (length (after.entries k)))) in let q = (g.made).no_number int_var tt in omega (arith, l, q))))
-    more_bound float_var e o = absurd (o (subst (λ z. i < length (before.entries z)) e (let l : i < length (after.entries float_var) = subst (λ z. i < length (after.entries z)) (sym e) (made_after (dec_le (suc i) (length (after.entries k)))) in let q = (g.made).no_number float_var tt in omega (arith, l, q))))
+    more_bound int_var e o = absurd (o (subst (λ z. i < length (before.entries z)) e (let l : i < length (after.entries int_var) = subst (λ z. i < length (after.entries z)) (sym e) (made_after (dec_le (suc i) (length (after.entries k)))) in let q = g.made int_var tt in omega (arith, l, q))))
+    more_bound float_var e o = absurd (o (subst (λ z. i < length (before.entries z)) e (let l : i < length (after.entries float_var) = subst (λ z. i < length (after.entries z)) (sym e) (made_after (dec_le (suc i) (length (after.entries k)))) in let q = g.made float_var tt in omega (arith, l, q))))
     more_bound region_var e o = absurd (let f : entry_of after k i ≡ unbound = subst (λ z. entry_of after z i ≡ unbound) e (regions i) in cc (f, now))
 
     go : Dec (suc i ≤ length (before.entries k)) → (IsMade before k i × (entry_of before k i ≡ unbound)) ⊎ ((IsMade before k i → ⊥) × ((after.budget < before.budget) ⊎ (before.universe < after.universe)))
@@ -134,31 +133,15 @@ pub under : (k m n : ℕ) → m < n → 4 * depth k m + 3 < 4 * depth k n + 1
 under k m n h = let d : depth k m < depth k n = depth-strict k m n h in omega arith
 
 pub goes_nowhere : (n : ℕ) (r : Store) → Goes n r r
-goes_nowhere n r = record { later = later_itself r; made = record { no_number = λ k h. refl; none = λ h k. refl }; spent = 0; counts = omega arith; binds = omega arith; grows = λ m t above below. below }
+goes_nowhere n r = record { later = later_itself r; made = λ k h. refl; spent = 0; counts = omega arith; binds = omega arith; grows = λ m t above below. below }
 
 pub goes_within : {n m : ℕ} {r q : Store} → n ≤ m → Goes n r q → Goes m r q
 goes_within {n} {m} h g = record { later = g.later; made = g.made; spent = g.spent; counts = g.counts; binds = g.binds; grows = λ k t above below. g.grows k t (omega arith) below }
 
--- Where nothing could be instantiated, nothing can later.
-instantiates_none_still : {n : ℕ} {r q : Store} → Goes n r q → InstantiatesNone r → InstantiatesNone q
-instantiates_none_still {r = r} {q = q} g (inl b) = inl (let c = g.counts in omega (arith, b, c))
-instantiates_none_still {r = r} {q = q} g (inr o) = inr still
-  where
-    was : (k : VarKind) (n : ℕ) (x : Entry) → entry_of r k n ≡ x → entry_of q k n ≡ unbound → entry_of r k n ≡ unbound
-    was k n unbound e free = e
-    was k n (same_as m) e free = absurd (let s = stands_from r q g.later k n (same_as m) e in let d = s.1 in cc (d, free))
-    was k n (bound_to t) e free = absurd (let d : entry_of q k n ≡ bound_to t = stands_from r q g.later k n (bound_to t) e in cc (d, free))
-
-    still : (k : VarKind) (n : ℕ) → IsTypeOrConst k → IsMade q k n → entry_of q k n ≡ unbound → ⊥
-    still k n kind made free = o k n kind (subst (λ z. n < z) ((g.made).none (inr o) k) made) (was k n (entry_of r k n) refl free)
-
 pub goes_then : {n m : ℕ} {r q p : Store} → (g : Goes n r q) → Goes m q p → m ≤ grown g.spent n → Goes n r p
 goes_then {n} {m} {r} {q} {p} g f h = record {
   later = later_through g.later f.later;
-  made = record {
-    no_number = λ k h. (f.made).no_number k h ∙ (g.made).no_number k h;
-    none = λ o k. (f.made).none (instantiates_none_still g o) k ∙ (g.made).none o k;
-  };
+  made = λ k h. f.made k h ∙ g.made k h;
   spent = g.spent + f.spent;
   counts = let e = g.counts in let d = f.counts in omega arith;
   binds = let e = g.binds in let d = f.binds in omega arith;

@@ -1,142 +1,194 @@
--- Pattern types and patterns that are related by their parts, and patterns that differ.
-use Rattle.std.proofs.Common.{◌≡◌, ◌≢◌, ℕ, suc, ◌<◌, refl, sym, ap, ◌∙◌, subst, subst₂, arith, ◌++◌, All, IsTrue, Ok, Err}
-use Rattle.std.proofs.Common.{List, [], ◌∷◌}
+-- Terms that are related by their parts, one after another, and terms that differ.
+use Rattle.std.proofs.Common.{◌≡◌, ◌≢◌, ℕ, suc, ◌<◌, refl, sym, ap, ◌∙◌, subst, subst₂, arith, Ok, Err}
+use Rattle.std.proofs.Common.{IsTrue, List, [], ◌∷◌, ◌++◌, All}
 use Rattle.relation_terms.specs.declared.terms.enums.Variance.{Variance}
-use Rattle.relation_terms.specs.declared.terms.enums.Variance.TheVariants.{Bivariant}
+use Rattle.relation_terms.specs.declared.terms.enums.Variance.TheVariants.{Bivariant, Invariant}
 use Rattle.relation_terms.specs.declared.terms.part_kind.Part.{Part}
-use Rattle.relation_terms.specs.Heads.{Head, pattern_sort}
-use Rattle.relation_terms.specs.Trees.{Tree, node, leaf, bind, nil, cons, known, IsTerm, IsList, count, nth, apply, Assign}
+use Rattle.relation_terms.specs.Heads.{Sort}
+use Rattle.relation_terms.specs.Trees.{Tree, node, leaf, bind, nil, cons, known, IsTerm, IsList, count, nth, apply}
+use Rattle.relation_terms.specs.Trees.{Assign}
 use Rattle.relation_terms.specs.Parts.{Fit, part_sort, tree_sort}
 use Rattle.relation_tools.specs.declared.error.TypeError.{TypeError}
-use Rattle.relation_tools.specs.declared.error.TypeError.TheVariants.{Mismatch}
 use Rattle.relation_tools.specs.declared.error.RelateFault.{RelateFault}
 use Rattle.relation_tools.specs.declared.error.RelateFault.TheVariants.{Memory, Budget, Unrelated}
-use Rattle.relation_tools.specs.Faults.{KnowsError}
+use Rattle.relation_tools.specs.Faults.{KnowsFault}
 use Rattle.type_relations.specs.Relation.{Interpretation, at, parts, part_at, Rel, same, atoms, forms}
-use Rattle.type_relations.specs.Stores.{Satisfies, weight}
+use Rattle.type_relations.specs.Stores.{Satisfies}
 use Rattle.type_relations.specs.Goals.{Holds}
-use Rattle.type_relations.specs.Errors.{ErrorOf, of_parts, of_patterns, AreOfOneForm, over_parts, one_leaf, parameters}
-use Rattle.type_relations.specs.Errors.{PatternError, unlike_patterns}
-use Rattle.type_relations.specs.Parts.{parts_of, head_of, IsOfPattern}
+use Rattle.type_relations.specs.Headline.{IsFirstOrderPair}
+use Rattle.type_relations.specs.OneUniverse.{NamesTypesTo, BindsNoMore}
+use Rattle.type_relations.specs.Errors.{ErrorOf, of_part_forms, AreOfOneForm, over_parts, one_leaf, parameters}
+use Rattle.type_relations.specs.Errors.{PartError}
+use Rattle.type_relations.specs.Parts.{parts_of, head_of, IsByParts}
+use Rattle.type_relations.specs.Handing.{named_place, IsFaultOfPart}
 use Rattle.type_relations.specs.Making.{over}
 use Rattle.type_relations.specs.Lawful.{State, Manners, MayAnswer, Passes, Refuses, Related, items_in}
+use Rattle.type_relations.specs.Lawful.{ExactResult, ExactlyRelated}
 use Rattle.type_relations.proofs.Registered.{registered_in}
-use Rattle.type_relations.proofs.Passing.{passes_within, stopped}
-use Rattle.type_relations.proofs.Fronts.{Fronted, AreParts, fronted_never, fronted_all, fronted_passes}
-use Rattle.type_relations.proofs.Structural.{types_never}
+use Rattle.type_relations.proofs.Passing.{passes_within, manner_then, stopped}
+use Rattle.type_relations.proofs.Fronts.{Fronted, AreParts, fronted_never, fronted_all, fronted_passes, fronted_fault}
+use Rattle.type_relations.proofs.Fronts.{fronted_exactly, fronted_full}
+use Rattle.type_relations.proofs.Full.{parts_plain}
+use Rattle.type_relations.proofs.Structural.{types_never, parts_pair}
 use Rattle.type_relations.proofs.StructuralConsts.{refused_here}
+use Rattle.type_relations.proofs.Unifying.{answered_as, refused_as}
+use Rattle.type_relations.proofs.OneUniverse.{leaves_parts, keeps_binds, binds_as}
 use Rattle.type_relations.proofs.OneParts.{parts_equal}
 use Rattle.type_relations.proofs.PartSizes.{weight_parts_most}
 use Rattle.type_relations.proofs.Answering.{same_items, may_itself, AnswersParts, may_form}
 use Rattle.type_relations.proofs.Lists.{firsts, snoc, firsts_more, firsts_all}
-use Rattle.type_relations.proofs.Patterns.{pattern_related, pattern_handed, pattern_not_first, patterns_one}
+use Rattle.type_relations.proofs.Patterns.{term_related}
+use Rattle.type_relations.proofs.PartErrors.{term_looked_at, terms_unify, part_error_never, part_error_apart}
+use Rattle.type_relations.proofs.PartErrors.{part_error_known}
+use Rattle.type_relations.proofs.Handing.{HaveAsManyInputs, part_complains, same_part_fault, part_still_unrelated}
+use Rattle.type_relations.proofs.Handing.{part_fault_known}
 
 module _ {Key Id Name : Type 0} {r q : State Key Id Name} (M : Manners) (v : Variance) (a b : Tree) (i : ℕ)
-    (form : IsOfPattern a) where
+    (form : IsByParts a) where
+  -- Some of the parts were related: no more variables are bound than there were.
+  front_binds : Fronted M r q (head_of a) v i (parts_of a) (parts_of b) → (M r.settings).is_exact → v ≡ Invariant →
+      IsFirstOrderPair r.store a b → BindsNoMore r.store q.store a b
+  front_binds f exact is pair =
+      binds_as r.store q.store a b (parts_of a) (parts_of b) (λ u. leaves_parts (NamesTypesTo u) a)
+      (λ u. leaves_parts (NamesTypesTo u) b) (keeps_binds r.store q.store (parts_of a) (parts_of b)
+      (f.exact exact is (term_looked_at a form) (parts_pair r.store a b pair)).2)
+
   -- Memory ran out after some of the parts.
-  pub patterns_stopped : {X : Type 0} (tree : X → Tree) →
+  pub terms_stopped : {X : Type 0} (tree : X → Tree) →
       Fronted M r q (head_of a) v i (parts_of a) (parts_of b) → Related {X = X} M r q v a b tree (Err Memory)
-  patterns_stopped tree f = stopped M v a b tree
-      (passes_within (omega (arith, weight_parts_most r.store a, weight_parts_most r.store b)) f.passes)
-      (λ exact is pair. absurd (pattern_not_first a form pair.left))
+  terms_stopped tree f = stopped M v a b tree
+      (passes_within (omega (arith, weight_parts_most r.store a, weight_parts_most r.store b)) f.passes) (front_binds f)
+      (λ ha hb. f.full (parts_plain a ha) (parts_plain b hb))
 
   -- All parts were related, and so are the two.
-  patterns_relate : (o : AreOfOneForm a b) → (f : Fronted M r q (head_of a) v i (parts_of a) (parts_of b)) →
+  terms_relate : (o : AreOfOneForm a b) → (f : Fronted M r q (head_of a) v i (parts_of a) (parts_of b)) →
       AreParts r.store (parts_of a) (parts_of b) → i ≡ count (parts_of a) → i ≡ count (parts_of b) →
       (w : Interpretation) (s : Assign) → Satisfies w q.store s →
       All (Holds (items_in r) w s) (r.goals ++ (f.passes).added) →
       Rel (items_in r) w r.environment (at v) (apply s a) (apply s b)
-  patterns_relate (over_parts {h} {ts} {us} d e n) f are ea eb w s sat all =
+  terms_relate (over_parts {h} {ts} {us} d e n) f are ea eb w s sat all =
       let whole = fronted_all (head_of a) v i (parts_of a) (parts_of b) are ea eb f in
       subst₂ (λ x y. Rel (items_in r) w r.environment (at v) (apply s x) (apply s y)) (sym d) (sym e)
-      (forms (pattern_related h ts (subst IsOfPattern d form)) refl
+      (forms (term_related h ts (subst IsByParts d form)) refl
       (subst (λ z. Rel (items_in r) w r.environment (parts h 0 v) (apply s (parts_of z)) (apply s us)) d
       (subst (λ z. Rel (items_in r) w r.environment (parts h 0 v) (apply s (parts_of a)) (apply s (parts_of z))) e
       (subst (λ z. Rel (items_in r) w r.environment (parts (head_of z) 0 v) (apply s (parts_of a)) (apply s (parts_of b))) d
       (whole.relates w s sat all)))))
-  patterns_relate (one_leaf d e) f are ea eb w s sat all = same (ap (apply s) (d ∙ sym e))
-  patterns_relate (parameters d e p) f are ea eb w s sat all =
+  terms_relate (one_leaf d e) f are ea eb w s sat all = same (ap (apply s) (d ∙ sym e))
+  terms_relate (parameters d e p) f are ea eb w s sat all =
       subst₂ (λ x y. Rel (items_in r) w r.environment (at v) (apply s x) (apply s y)) (sym d) (sym e) (atoms p)
 
-  pub patterns_answer : {X : Type 0} (tree : X → Tree) (x : X) → AreOfOneForm a b →
+  pub terms_answer : {X : Type 0} (tree : X → Tree) (x : X) → AreOfOneForm a b →
       Fronted M r q (head_of a) v i (parts_of a) (parts_of b) → AreParts r.store (parts_of a) (parts_of b) →
       i ≡ count (parts_of a) → i ≡ count (parts_of b) → tree x ≡ a → IsTrue (known a) →
       Related M r q v a b tree (Ok x)
   unfolding passes_within
-  patterns_answer tree x o f are ea eb answer k = record {
+  terms_answer tree x o f are ea eb answer k = record {
     passes = passes_within (omega (arith, weight_parts_most r.store a, weight_parts_most r.store b)) f.passes;
     verdict = record {
       outcome = record {
         later = ((f.passes).goes).later;
         goals_in = registered_in (f.passes).added (f.passes).goals_in;
-        relates = patterns_relate o f are ea eb;
+        relates = terms_relate o f are ea eb;
         keeps = λ w s sat z. (f.front).keeps w s sat (parts_equal a b o s z);
       };
       answer = subst (MayAnswer M q v a) (sym answer) (may_itself M q v a);
       known = subst (λ u. IsTrue (known u)) (sym answer) k;
     };
-    exact = λ exact is pair. absurd (pattern_not_first a form pair.left);
+    exact = λ exact is pair.
+        answered_as r.store q.store a b (parts_of a) (parts_of b) (terms_unify a b form o)
+        (λ u. leaves_parts (NamesTypesTo u) a) (λ u. leaves_parts (NamesTypesTo u) b)
+        (fronted_exactly (head_of a) v i (parts_of a) (parts_of b) are ea eb f exact is (term_looked_at a form)
+        (parts_pair r.store a b pair));
+    full = λ ha hb. f.full (parts_plain a ha) (parts_plain b hb);
   }
 
-  -- Two parts were refused, and so are the two, by the same error.
-  module _ (o : AreOfOneForm a b) (f : Fronted M r q (head_of a) v i (parts_of a) (parts_of b))
-      (are : AreParts r.store (parts_of a) (parts_of b)) (x y : Tree) (lx : i < count (parts_of a))
-      (ly : i < count (parts_of b)) (ex : x ≡ nth i (parts_of a)) (ey : y ≡ nth i (parts_of b)) where
-    part_error : (p : State Key Id Name) (e : TypeError Key Id Name) →
-        ErrorOf p.meaning (items_in p) p.store (part_at (items_in p) (head_of a) i v) e x y →
-        ErrorOf p.meaning (items_in p) p.store v e a b
-    part_error p e g = go o
-      where
-        go : AreOfOneForm a b → ErrorOf p.meaning (items_in p) p.store v e a b
-        go (over_parts {h} {ts} {us} d k n) = of_parts i d k n (subst (λ z. i < count (parts_of z)) d lx)
-            (pattern_handed e h ts i (nth i ts) (nth i us) (subst IsOfPattern d form))
-            (subst₂ (ErrorOf p.meaning (items_in p) p.store (part_at (items_in p) h i v) e)
-            (ex ∙ ap (λ z. nth i (parts_of z)) d) (ey ∙ ap (λ z. nth i (parts_of z)) k)
-            (subst (λ z. ErrorOf p.meaning (items_in p) p.store (part_at (items_in p) (head_of z) i v) e x y) d g))
-        go (one_leaf d k) =
-            absurd (let c : count (parts_of a) ≡ 0 = ap (λ z. count (parts_of z)) d in omega (arith, c, lx))
-        go (parameters d k n) =
-            absurd (let c : count (parts_of a) ≡ 0 = ap (λ z. count (parts_of z)) d in omega (arith, c, lx))
+  -- After some of the parts it is seen that the two are not of one form.
+  pub terms_unlike : {X : Type 0} (tree : X → Tree) (k l : Sort) (e : TypeError Key Id Name) → v ≢ Bivariant →
+      IsByParts b → IsTerm k a → IsTerm l b → IsTrue (known a) → IsTrue (known b) → PartError q.meaning a b e →
+      Fronted M r q (head_of a) v i (parts_of a) (parts_of b) → Related {X = X} M r q v a b tree (Err (Unrelated e))
+  terms_unlike tree k l e d other ta tb ka kb unlike f = record {
+    passes = passes_within (omega (arith, weight_parts_most r.store a, weight_parts_most r.store b)) f.passes;
+    verdict = (
+      part_error_never q.meaning r.store v k l a b e form other ta tb unlike,
+      of_part_forms d unlike,
+      part_error_known q.meaning a b e ka kb unlike,
+    );
+    exact = λ exact is pair.
+        (part_error_apart q.meaning r.store k l a b e form other ta tb unlike, front_binds f exact is pair);
+    full = λ ha hb. f.full (parts_plain a ha) (parts_plain b hb);
+  }
 
-    patterns_refuse : {n : ℕ} {p : State Key Id Name} (g : Passes n q p) (e : RelateFault Key Id Name) →
-        Refuses q p (part_at (items_in r) (head_of a) i v) x y e → Refuses r p v a b e
-    patterns_refuse g Memory h = tt
-    patterns_refuse g Budget h = h
-    patterns_refuse {p = p} g (Unrelated e) h =
-        let same : items_in p ≡ items_in r = same_items g ∙ same_items f.passes in (
+  -- Two parts were refused, and so are the two.
+  module _ (o : AreOfOneForm a b) (f : Fronted M r q (head_of a) v i (parts_of a) (parts_of b))
+      (are : AreParts r.store (parts_of a) (parts_of b)) (k l : Sort) (ta : IsTerm k a) (tb : IsTerm l b)
+      (many : HaveAsManyInputs a b i) (x y : Tree) (lx : i < count (parts_of a)) (ly : i < count (parts_of b))
+      (ex : x ≡ nth i (parts_of a)) (ey : y ≡ nth i (parts_of b)) where
+    term_refuses : {n : ℕ} {p : State Key Id Name} (g : Passes n q p) (e d : RelateFault Key Id Name) →
+        IsFaultOfPart (named_place a i) e d → Refuses q p (part_at (items_in r) (head_of a) i v) x y e → Refuses r p v a b d
+    term_refuses {p = p} g Memory d t h =
+        subst (Refuses r p v a b) (sym (same_part_fault (named_place a i) Memory d t (λ e z. cc))) tt
+    term_refuses {p = p} g Budget d t h =
+        subst (Refuses r p v a b) (sym (same_part_fault (named_place a i) Budget d t (λ e z. cc))) h
+    term_refuses {p = p} g (Unrelated e) d t h =
+        let items : items_in p ≡ items_in r = same_items g ∙ same_items f.passes in
+        let z = part_complains p.meaning (items_in p) p.store v k l a b i ta tb form o lx x y ex ey many e d t
+        (subst (λ c. ErrorOf p.meaning (items_in p) p.store (part_at c (head_of a) i v) e x y) (sym items) h.1) in
+        subst (Refuses r p v a b) (sym z.1) (
           types_never r.store v a b o (fronted_never (head_of a) v i (parts_of a) (parts_of b) x y f lx ly ex ey are h.0),
-          part_error p e (subst (λ c. ErrorOf p.meaning (items_in p) p.store (part_at c (head_of a) i v) e x y) (sym same)
-              h.1),
-          h.2,
+          z.2,
+          subst (KnowsFault p.meaning) z.1 (part_fault_known (named_place a i) (Unrelated e) d p.meaning t h.2),
         )
 
-    pub patterns_refused : {A B : Type 0} {p : State Key Id Name} (tree : A → Tree) (answer : B → Tree)
-        (e : RelateFault Key Id Name) → Related M q p (part_at (items_in r) (head_of a) i v) x y tree (Err e) →
-        Related M r p v a b answer (Err e)
-    patterns_refused tree answer e g = record {
+    whole_term : (A B : Type 0) (p : State Key Id Name) (e : RelateFault Key Id Name) →
+        ExactlyRelated {X = A} (M q.settings) q.store p.store (part_at (items_in r) (head_of a) i v) x y (Err e) →
+        ExactlyRelated {X = B} (M r.settings) r.store p.store v a b (Err e)
+    whole_term A B p e g exact is pair =
+        refused_as r.store p.store a b (parts_of a) (parts_of b) (terms_unify a b form o)
+        (λ u. leaves_parts (NamesTypesTo u) a) (λ u. leaves_parts (NamesTypesTo u) b) A B e
+        (fronted_fault (head_of a) v i (parts_of a) (parts_of b) x y f lx ly ex ey A A p e are exact is
+        (term_looked_at a form) (parts_pair r.store a b pair) (λ z. g (manner_then M (λ m. m.is_exact) f.passes z)))
+
+    term_exactly : (A B : Type 0) (p : State Key Id Name) (e d : RelateFault Key Id Name) → IsFaultOfPart (named_place a i) e d →
+        ExactlyRelated {X = A} (M q.settings) q.store p.store (part_at (items_in r) (head_of a) i v) x y (Err e) →
+        ExactlyRelated {X = B} (M r.settings) r.store p.store v a b (Err d)
+    term_exactly A B p Memory d t g exact is pair = subst (λ z. ExactResult {X = B} r.store p.store a b (Err z))
+        (sym (same_part_fault (named_place a i) Memory d t (λ e z. cc))) (whole_term A B p Memory g exact is pair)
+    term_exactly A B p Budget d t g exact is pair = subst (λ z. ExactResult {X = B} r.store p.store a b (Err z))
+        (sym (same_part_fault (named_place a i) Budget d t (λ e z. cc))) (whole_term A B p Budget g exact is pair)
+    term_exactly A B p (Unrelated e) d t g exact is pair =
+        let z = part_still_unrelated (named_place a i) (Unrelated e) d e refl t in
+        subst (λ z. ExactResult {X = B} r.store p.store a b (Err z)) (sym z.1)
+        (whole_term A B p (Unrelated e) g exact is pair)
+
+    pub term_refused : {A B : Type 0} {p : State Key Id Name} (tree : A → Tree) (answer : B → Tree)
+        (e d : RelateFault Key Id Name) → IsFaultOfPart (named_place a i) e d →
+        Related M q p (part_at (items_in r) (head_of a) i v) x y tree (Err e) → Related M r p v a b answer (Err d)
+    term_refused {A} {B} {p} tree answer e d t g = record {
       passes = passes_within (omega (arith, weight_parts_most r.store a, weight_parts_most r.store b))
           (fronted_passes (head_of a) v i (parts_of a) (parts_of b) x y f lx ly ex ey g.passes);
-      verdict = patterns_refuse g.passes e g.verdict;
-      exact = λ exact is pair. absurd (pattern_not_first a form pair.left);
+      verdict = term_refuses g.passes e d t g.verdict;
+      exact = term_exactly A B p e d t g.exact;
+      full = λ ha hb. fronted_full (head_of a) v i (parts_of a) (parts_of b) x y f lx ly ex ey g.full
+          (parts_plain a ha) (parts_plain b hb);
     }
 
--- Two patterns that are not of one form.
+-- Two terms that are not of one form.
 module _ {Key Id Name : Type 0} {X : Type 0} (M : Manners) (r : State Key Id Name) (v : Variance) (tree : X → Tree) where
-  pub patterns_differ : (a b : Tree) (e : TypeError Key Id Name) → v ≢ Bivariant → IsOfPattern a →
-      IsTerm pattern_sort a → IsTerm pattern_sort b → PatternError a b e →
+  pub terms_differ : (k l : Sort) (a b : Tree) (e : TypeError Key Id Name) → v ≢ Bivariant → IsByParts a → IsByParts b →
+      IsTerm k a → IsTerm l b → IsTrue (known a) → IsTrue (known b) → PartError r.meaning a b e →
       Related M r r v a b tree (Err (Unrelated e))
-  patterns_differ a b e d form f g (unlike_patterns sa sb o is) =
-      refused_here M r v tree a b e (λ w s sat z. o (patterns_one s a b f g z))
-      (of_patterns d (unlike_patterns sa sb o is))
-      (subst (λ z. KnowsError r.meaning z) (sym is) tt)
-      (λ pair. absurd (pattern_not_first a form pair.left))
+  terms_differ k l a b e d form other ta tb ka kb unlike =
+      refused_here M r v tree a b e (part_error_never r.meaning r.store v k l a b e form other ta tb unlike)
+      (of_part_forms d unlike) (part_error_known r.meaning a b e ka kb unlike)
+      (λ pair. part_error_apart r.meaning r.store k l a b e form other ta tb unlike)
 
 -- A form over what may be answered for its parts.
-pub may_over_pattern : {Key Id Name : Type 0} (M : Manners) (q : State Key Id Name) (v : Variance) (t us : Tree) →
-    IsOfPattern t → AnswersParts M q (head_of t) v (parts_of t) us → MayAnswer M q v t (over t us)
-may_over_pattern M q v (node h ts) us o a = may_form M q h v ts us (pattern_related h ts o) a
-may_over_pattern M q v (leaf l) us o a = may_itself M q v (leaf l)
-may_over_pattern M q v t us o a = absurd o
+pub may_over_term : {Key Id Name : Type 0} (M : Manners) (q : State Key Id Name) (v : Variance) (t us : Tree) →
+    IsByParts t → AnswersParts M q (head_of t) v (parts_of t) us → MayAnswer M q v t (over t us)
+may_over_term M q v (node h ts) us o a = may_form M q h v ts us (term_related h ts o) a
+may_over_term M q v (leaf l) us o a = may_itself M q v (leaf l)
+may_over_term M q v t us o a = absurd o
 
 -- One more part that fits its place.
 module _ {Key Id : Type 0} where

@@ -20,6 +20,7 @@ pub mod Composing
 pub mod Opening
 pub mod Exactness
 pub mod Going
+pub mod Full
 pub mod Registered
 pub mod Passing
 pub mod Arguments
@@ -28,11 +29,14 @@ pub mod Fronts
 pub mod Structural
 pub mod StructuralConsts
 pub mod Looping
+pub mod Rounds
+pub mod Bodies
 pub mod Lists
 pub mod Parts
 pub mod OneParts
 pub mod Classes
 pub mod Comparing
+pub mod ComparingParts
 pub mod Forms
 pub mod AsParts
 pub mod Handing
@@ -57,7 +61,10 @@ pub mod Making
 pub mod OneUniverse
 pub mod Answering
 pub mod Patterns
+pub mod PartPlaces
+pub mod PartErrors
 pub mod InOrder
+pub mod ByParts
 pub mod Unifying
 pub mod Rejected
 pub mod Roots
@@ -71,6 +78,8 @@ pub mod NumberVars
 pub mod Turning
 pub mod OverContext
 pub mod Solving
+pub mod OpeningBoth
+pub mod SolvingBinders
 pub mod GeneralisingInOne
 pub mod Spending
 pub mod SolvingVariables

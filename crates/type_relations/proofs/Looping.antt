@@ -1,5 +1,5 @@
 -- The next parts of two forms: what is asked of them, and that they are smaller.
-use Rattle.std.proofs.Common.{◌≡◌, ℕ, zero, suc, ◌+◌, ◌*◌, ◌<◌, refl, sym, ap, ◌∙◌, subst, subst₂, arith, IsTrue, List, Result, Ok, Err}
+use Rattle.std.proofs.Common.{◌≡◌, ℕ, zero, suc, ◌+◌, ◌*◌, ◌<◌, refl, sym, ap, ◌∙◌, subst, subst₂, arith, IsTrue, List, Option, Result, Ok, Err}
 use Rattle.relation_terms.specs.declared.terms.enums.Variance.{Variance}
 use Rattle.relation_terms.specs.Heads.{Head, Leaf, unevaluated, expression, value, value_branch}
 use Rattle.relation_terms.specs.Trees.{Tree, leaf, node, bind, nil, cons, Leaves, known, count, nth}
@@ -12,7 +12,7 @@ use Rattle.type_relations.specs.Measures.{depth}
 use Rattle.type_relations.specs.Goals.{Goal}
 use Rattle.type_relations.specs.Errors.{AreOfOneForm, over_parts, one_leaf, parameters, AreOfOneConst, values, expressions, const_parameters}
 use Rattle.type_relations.specs.Parts.{parts_of, const_parts_of, branches_of, head_of, const_head_of}
-use Rattle.type_relations.specs.Handing.{IsFaultOfTy, IsFaultOfConst, IsResultOfTy, IsResultOfConst}
+use Rattle.type_relations.specs.Handing.{IsFaultOfTy, IsFaultOfConst, IsFaultOfPart, IsResultOfTy, IsResultOfConst, IsResultOfPart}
 use Rattle.type_relations.specs.Lawful.{State, Manner, Manners, TakesParts, Takes, Asked, LeadsToParts, LeadsAgain, items_in}
 use Rattle.type_relations.proofs.Going.{depth-mono, depth-strict, depth-spent, depth_later}
 use Rattle.type_relations.proofs.Standing.{later_term}
@@ -185,6 +185,16 @@ module _ {A Key Id Name : Type 0} where
       IsResultOfConst t c d a (Ok u) → a ≡ Ok u
   kept_const t c d (Ok v) u h = ap Ok (sym h)
   kept_const t c d (Err f) u h = absurd h
+
+  pub failed_part : (place : Option ℕ) (a : Result A (RelateFault Key Id Name)) (e : RelateFault Key Id Name) →
+      IsResultOfPart place a (Err e) → (f : RelateFault Key Id Name) × (a ≡ Err f) × IsFaultOfPart place f e
+  failed_part place (Ok u) e h = absurd h
+  failed_part place (Err f) e h = (f, refl, h)
+
+  pub kept_part : (place : Option ℕ) (a : Result A (RelateFault Key Id Name)) (u : A) →
+      IsResultOfPart place a (Ok u) → a ≡ Ok u
+  kept_part place (Ok v) u h = ap Ok (sym h)
+  kept_part place (Err f) u h = absurd h
 
 -- Terms of one form have one form over their parts.
 pub heads_alike : (a b : Tree) → AreOfOneForm a b → head_of a ≡ head_of b

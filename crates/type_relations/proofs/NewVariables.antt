@@ -6,7 +6,7 @@ use Rattle.relation_terms.specs.Trees.{Tree, Assign, Leaves}
 use Rattle.type_relations.specs.Relation.{Interpretation, Outlives, IsValueLeaf, StaysWithin}
 use Rattle.type_relations.specs.Stores.{Store, unbound, entry_of, bound_term, universe_of, IsMade, MayStandFor, IsNamable, IsAssignment, MeetsBindings, IsSound, Satisfies, Constraint, outlives_constraint, equal_constraint, ConstraintHolds, ConstraintIn, all_bound, resolved, weight}
 use Rattle.type_relations.specs.FirstOrder.{MeetsErased}
-use Rattle.type_relations.specs.Steps.{MakesVariable, MakesNoNumber, InstantiatesNone, IsNumberKind, IsLater, AgreeOn, AgreeErased}
+use Rattle.type_relations.specs.Steps.{MakesVariable, MakesNoNumber, IsNumberKind, IsLater, AgreeOn, AgreeErased}
 use Rattle.type_relations.specs.ErasureLaws.{IsTypeOrConst}
 use Rattle.type_relations.specs.Measures.{Goes}
 use Rattle.type_relations.specs.Generalising.{MakesUnbound, makes_none, makes_one}
@@ -105,21 +105,16 @@ pub adds : {u : ℕ} {before after : Store} → IsSound before → u ≤ before.
 adds {u} {before} g low makes_none = adds_none u before g
 adds {u} {before} {after} g low (makes_one {middle = middle} {k = k} {n = n} f o q) = adds_one u before middle after k n (adds g low f) low o q
 
--- New variables cost nothing, where something can be instantiated.
-pub adds_goes : {u : ℕ} {before after : Store} → (InstantiatesNone before → ⊥) → Adds u before after → Goes 0 before after
-adds_goes {u} {before} {after} some a = record {
+-- New variables cost nothing.
+pub adds_goes : {u : ℕ} {before after : Store} → Adds u before after → Goes 0 before after
+adds_goes {u} {before} {after} a = record {
   later = a.later;
-  made = record { no_number = a.numbers; none = λ h. absurd (some h) };
+  made = a.numbers;
   spent = 0;
   counts = let e = a.budget in omega arith;
   binds = let e = a.none_bound in omega arith;
   grows = λ m t above below. let e = a.weights t in omega (arith, e, below);
 }
-
--- An unbound variable can be instantiated where something is left of the budget.
-pub instantiates_one : (st : Store) (k : VarKind) (n : ℕ) → IsTypeOrConst k → IsMade st k n → entry_of st k n ≡ unbound → st.budget ≢ 0 → InstantiatesNone st → ⊥
-instantiates_one st k n kind made free left (inl b) = left b
-instantiates_one st k n kind made free left (inr o) = o k n kind made free
 
 -- A constraint of the context holds under each assignment that agrees on its variables.
 pub constraint_agrees : (w : Interpretation) (st : Store) (s s' : Assign) → AgreeOn st s s' → (q : Constraint) → ConstraintIn st q → ConstraintHolds w s q → ConstraintHolds w s' q

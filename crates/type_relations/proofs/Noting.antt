@@ -16,6 +16,7 @@ use Rattle.type_relations.specs.OneUniverse.{KeepsUniverse}
 use Rattle.type_relations.specs.Steps.{IsLater}
 use Rattle.type_relations.specs.Stores.{Store, Satisfies}
 use Rattle.type_relations.proofs.Going.{goes_nowhere, later_itself}
+use Rattle.type_relations.proofs.Full.{full_same, full_then}
 use Rattle.type_relations.proofs.OneUniverse.{keeps_itself, keeps_then}
 use Rattle.type_relations.proofs.Passing.{passes_then, passes_nowhere, passes_grown}
 
@@ -34,6 +35,7 @@ module _ {Key Id Name : Type 0} where
     universe = keeps_then r.store q.store p.store f.universe g.universe;
     quiet = All-append IsQuiet (f.passes).added (g.passes).added f.quiet g.quiet;
     same_budget = g.same_budget ∙ f.same_budget;
+    full = full_then f.full g.full;
     fault = g.fault;
   }
 
@@ -52,6 +54,7 @@ module _ {Key Id Name : Type 0} where
     universe = subst (KeepsUniverse r.store) (sym w.store) (keeps_itself r.store);
     quiet = All-nil IsQuiet;
     same_budget = ap (λ k. k.budget) w.store;
+    full = full_same w.store;
     fault = fault;
   }
 
@@ -85,6 +88,7 @@ module _ {Key Id Name : Type 0} where
         universe = subst (KeepsUniverse r.store) (sym h.store) (keeps_itself r.store);
         quiet = silent;
         same_budget = ap (λ k. k.budget) h.store;
+        full = full_same h.store;
         fault = fault;
       }
 

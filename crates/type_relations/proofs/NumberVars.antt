@@ -19,7 +19,9 @@ use Rattle.relation_terms.specs.declared.terms.numbers.FloatVid.{FloatVid}
 use Rattle.relation_terms.specs.declared.terms.enums.IntTy.{IntTy}
 use Rattle.relation_terms.specs.declared.terms.enums.UintTy.{UintTy}
 use Rattle.relation_terms.specs.declared.terms.enums.FloatTy.{FloatTy}
+use Rattle.type_relations.specs.Relation.{StaysWithin}
 use Rattle.type_relations.specs.Steps.{IsNumberFor}
+use Rattle.type_relations.specs.Relation.{StaysWithin}
 use Rattle.type_relations.specs.Covered.{IsCovered}
 use Rattle.type_relations.specs.Parts.{IsFormed}
 use Rattle.type_relations.proofs.Numbers.{IsNumber, covered_formed}
@@ -30,9 +32,10 @@ use Rattle.type_relations.specs.NumberVars.{number_kind, infer_of, number_tree, 
 use Rattle.type_relations.specs.NumberVars.{IsIntValue, IsFloatValue}
 
 -- A covered type that is no type, integer or float variable is of a form.
-pub type_formed : (t : Tree) → IsTerm type_sort t → IsCovered t → ((n : ℕ) → t ≢ leaf (variable type_var n)) →
-    ((n : ℕ) → t ≢ leaf (variable int_var n)) → ((n : ℕ) → t ≢ leaf (variable float_var n)) → IsFormed t
-type_formed t s c a i f = covered_formed t s c apart
+pub type_formed : (t : Tree) → IsTerm type_sort t → IsCovered t → StaysWithin 0 t →
+    ((n : ℕ) → t ≢ leaf (variable type_var n)) → ((n : ℕ) → t ≢ leaf (variable int_var n)) →
+    ((n : ℕ) → t ≢ leaf (variable float_var n)) → IsFormed t
+type_formed t s c w a i f = covered_formed t s c w apart
   where
     apart : (k : VarKind) (n : ℕ) → t ≢ leaf (variable k n)
     apart type_var n e = a n e
@@ -47,8 +50,8 @@ not_true true h = absurd (false≢true h)
 
 -- So is a covered type in which no variable but of regions stands.
 pub free_formed : (t : Tree) (f : TypeFlags) → f ≡ flags_of t → IsTrue (not f.has_non_region_infer) →
-    IsTerm type_sort t → IsCovered t → IsFormed t
-free_formed t f e without s c = type_formed t s c (λ n. apart (variable type_var n) refl) (λ n. apart (variable int_var n) refl)
+    IsTerm type_sort t → IsCovered t → StaysWithin 0 t → IsFormed t
+free_formed t f e without s c w = type_formed t s c w (λ n. apart (variable type_var n) refl) (λ n. apart (variable int_var n) refl)
     (λ n. apart (variable float_var n) refl)
   where
     free : has_non_region_infer t ≡ false

@@ -11,18 +11,19 @@ use Rattle.relation_terms.specs.Trees.{Tree, leaf, node, bind, nil, cons, Assign
 use Rattle.relation_terms.specs.Erasure.{erase, erase_atom}
 use Rattle.relation_terms.specs.Meaning.{Meaning}
 use Rattle.relation_tools.specs.declared.error.TypeError.TheVariants.{Sorts}
-use Rattle.type_relations.specs.Relation.{Interpretation, Items, IsValueLeaf, IsError}
+use Rattle.type_relations.specs.Relation.{Interpretation, Items, IsValueLeaf, IsError, StaysWithin}
 use Rattle.type_relations.specs.Stores.{Store, bound_to, entry_term, IsMade, IsAssignment, IsIntegerAtom, IsFloatAtom}
 use Rattle.type_relations.specs.Stores.{IsIntegerTerm, IsFloatTerm, MayStandFor, InContext, IsSound, Satisfies, resolved}
 use Rattle.type_relations.specs.Stores.{weight, counts_bound}
 use Rattle.type_relations.specs.FirstOrder.{IsFirstOrder, IsFirstOrderStore}
-use Rattle.type_relations.specs.Steps.{InstantiatesNumber, IsNumberFor}
+use Rattle.type_relations.specs.Steps.{InstantiatesNumber, IsNumberFor, HasNoBinder, StaysFull}
 use Rattle.type_relations.specs.Measures.{Goes}
 use Rattle.type_relations.specs.Outcomes.{Exact, NoEqualTerms, NoUnifier}
 use Rattle.type_relations.specs.Errors.{ErrorOf, HaveNoError, AreAlike, AreBindable, IsVariableFor, of_forms, sorts}
 use Rattle.type_relations.specs.Parts.{IsFormed}
 use Rattle.type_relations.specs.Covered.{IsCovered}
 use Rattle.type_relations.proofs.Covered.{covered_no_error}
+use Rattle.type_relations.proofs.Full.{full_by, written_plain}
 use Rattle.type_relations.proofs.Standing.{itself_stands}
 use Rattle.type_relations.proofs.Written.{is_later, equal, weight_after, kinds_stand, others}
 use Rattle.type_relations.proofs.StoreCalls.{numbers_are_exact, resolved_stands}
@@ -101,7 +102,7 @@ module _ (before after : Store) (k : VarKind) (n : ℕ) (t : Tree) (q : Instanti
   pub number_goes : (N : ℕ) → Goes N before after
   number_goes N = record {
     later = is_later before after k n (bound_to t) t q.writes refl (λ j i. le_of_eq (q.same_universes j i));
-    made = record { no_number = λ j h. q.writes.as_many j; none = λ h. q.writes.as_many };
+    made = λ j h. q.writes.as_many j;
     spent = 0;
     counts = let b = q.same_budget in omega arith;
     binds = (
@@ -112,6 +113,13 @@ module _ (before after : Store) (k : VarKind) (n : ℕ) (t : Tree) (q : Instanti
         let h : weight after u ≤ weight before u * 1 = subst (λ z. weight after u ≤ weight before u * z) one
         (weight_after before after k n (bound_to t) t q.writes refl g absent u) in omega arith;
   }
+
+  -- No binder stands in such a type.
+  pub number_full : StaysFull before after
+  number_full = full_by (number_goes 0) q.writes.as_many (written_plain q.writes (λ u e. subst HasNoBinder (same u e) tt))
+    where
+      same : (u : Tree) → bound_to t ≡ bound_to u → leaf (atom is_atom.0) ≡ u
+      same u e = let i = is_atom.1 in cc (e, i)
 
   pub number_equal : (w : Interpretation) (s : Assign) → Satisfies w after s → s k n ≡ apply s t
   number_equal w s sat = equal before after k n (bound_to t) t q.writes refl w s sat
@@ -206,18 +214,24 @@ module _ (st : Store) (s : Assign) (a : IsAssignment st s) (x : Atom) where
   no_placeholder (bound_kind type_kind m) u n f e = cc
   no_placeholder (bound_kind const_kind m) u n f e = f
 
+  no_bound : (q : BoundKind) (d i : ℕ) → IsTerm type_sort (leaf (bound q d i)) →
+      erase (leaf (bound q d i)) ≡ leaf (atom x) → ⊥
+  no_bound (bound_kind region_kind m) d i f e = f
+  no_bound (bound_kind type_kind m) d i f e = cc
+  no_bound (bound_kind const_kind m) d i f e = f
+
   -- A type that has it.
   value_type : (k : VarKind) → IsNumber k → (t : Tree) → IsTerm type_sort t → IsCovered t →
       ((n : ℕ) → t ≢ leaf (variable type_var n)) → InContext st t → IsNumberFor k (leaf (atom x)) →
       erase (apply s t) ≡ leaf (atom x) → MayStandFor k t
   value_type k i (leaf (variable j m)) f c o h v e = value_leaf k i j m f o h v e
-  value_type k i (leaf (bound q d j)) f c o h v e = absurd c
+  value_type k i (leaf (bound q d j)) f c o h v e = absurd (no_bound q d j f e)
   value_type k i (leaf (placeholder q u n)) f c o h v e = absurd (no_placeholder q u n f e)
   value_type k i (leaf (atom y)) f c o h v e =
       value_atom k y (let r : x ≡ erase_atom y = cc in subst (λ z. IsNumberFor k (leaf (atom z))) r v)
   value_type k i (leaf unknown) f c o h v e = absurd c
   value_type k i (node b ts) f c o h v e = absurd (cc)
-  value_type k i (bind ks t) f c o h v e = absurd c
+  value_type k i (bind ks t) f c o h v e = absurd f
   value_type k i nil f c o h v e = absurd f
   value_type k i (cons t ts) f c o h v e = absurd f
 
@@ -363,19 +377,19 @@ no_type_variable st g (bind ks t) f o n e = f
 no_type_variable st g nil f o n e = f
 no_type_variable st g (cons t ts) f o n e = f
 
--- A covered type that is no variable is of a form.
+-- A covered type that is no variable and no bound one is of a form.
 type_admitted : (s : Sort) → Admits type_sort s → s ≡ type_sort
 type_admitted type_sort a = refl
 type_admitted s a = absurd a
 
-pub covered_formed : (t : Tree) → IsTerm type_sort t → IsCovered t → ((k : VarKind) (n : ℕ) → t ≢ leaf (variable k n)) →
-    IsFormed t
-covered_formed (leaf (variable k n)) s c o = absurd (o k n refl)
-covered_formed (leaf (bound k d i)) s c o = absurd c
-covered_formed (leaf (placeholder k u n)) s c o = type_admitted (bound_sort k) s
-covered_formed (leaf (atom x)) s c o = type_admitted (atom_sort x) s
-covered_formed (leaf unknown) s c o = absurd c
-covered_formed (node h ts) s c o = type_admitted (head_sort h) s.0
-covered_formed (bind ks t) s c o = absurd c
-covered_formed nil s c o = absurd s
-covered_formed (cons t ts) s c o = absurd s
+pub covered_formed : (t : Tree) → IsTerm type_sort t → IsCovered t → StaysWithin 0 t →
+    ((k : VarKind) (n : ℕ) → t ≢ leaf (variable k n)) → IsFormed t
+covered_formed (leaf (variable k n)) s c w o = absurd (o k n refl)
+covered_formed (leaf (bound k d i)) s c w o = absurd (omega (arith, w))
+covered_formed (leaf (placeholder k u n)) s c w o = type_admitted (bound_sort k) s
+covered_formed (leaf (atom x)) s c w o = type_admitted (atom_sort x) s
+covered_formed (leaf unknown) s c w o = absurd c
+covered_formed (node h ts) s c w o = type_admitted (head_sort h) s.0
+covered_formed (bind ks t) s c w o = absurd s
+covered_formed nil s c w o = absurd s
+covered_formed (cons t ts) s c w o = absurd s

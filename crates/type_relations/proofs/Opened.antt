@@ -15,7 +15,8 @@ use Rattle.relation_tools.specs.Shifts.{is_for, standing, shifted, opens}
 use Rattle.type_relations.specs.Relation.{StaysWithin}
 use Rattle.type_relations.specs.Steps.{ArePlaceholders}
 use Rattle.type_relations.specs.Stores.{Store}
-use Rattle.type_relations.specs.Binders.{IsBoundAs, AreBoundAs, variable_kind, MakesEach, makes_none, makes_next}
+use Rattle.type_relations.specs.Bound.{IsBoundAs, AreBoundAs}
+use Rattle.type_relations.specs.Binders.{variable_kind, MakesEach, makes_none, makes_next}
 use Rattle.type_relations.proofs.MakingEach.{variable_sort}
 
 -- A tree that may stand for a variable of a kind: it is of its sort, and no binder around it changes it.
@@ -152,7 +153,7 @@ none_escapes d (cons t u) h =
     let o = or_parts (has_leaf is_escaping d t) (has_leaf is_escaping d u) h in
     (none_escapes d t o.0, none_escapes d u o.1)
 
-within_none : (d : ℕ) (t : Tree) → StaysWithin d t → has_leaf is_escaping d t ≡ false
+pub within_none : (d : ℕ) (t : Tree) → StaysWithin d t → has_leaf is_escaping d t ≡ false
 within_none d (leaf (bound k e i)) h = ap not (lt-ltb e d h)
 within_none d (leaf (variable v n)) h = refl
 within_none d (leaf (placeholder k u n)) h = refl

@@ -8,14 +8,14 @@ use Rattle.relation_terms.specs.declared.terms.enums.Variance.{Variance}
 use Rattle.relation_terms.specs.declared.terms.enums.Variance.TheVariants.{Covariant, Contravariant, Invariant, Bivariant}
 use Rattle.type_relations.specs.Relation.{Items, Interpretation, at, second_opened, first_opened, Rel, covariant_binders, contravariant_binders, invariant_binders, open_second, open_first, FitKinds, Fresh, StaysWithin}
 use Rattle.type_relations.specs.Stores.{Store, unbound, entry_term, bound_term, universe_of, IsMade, IsAssignment, IsInScope, IsNamable, MeetsBindings, Satisfies, ConstraintHolds}
-use Rattle.type_relations.specs.Goals.{Holds, GoalInContext, MakesOneTree}
+use Rattle.type_relations.specs.Goals.{Goal, Holds, GoalInContext, MakesOneTree}
 use Rattle.type_relations.specs.Steps.{IsLater, AgreeOn, Extends, AllNamable, ArePlaceholders, ChangesNothing, EntersForall, LeavesBody, EntersUniverse, InstantiatesBinder, Instantiates}
 use Rattle.type_relations.specs.Outcomes.{StepsTo}
 use Rattle.type_relations.specs.StepLaws.{InstantiatingSteps, OpeningSteps, OneRoundRelates, TwoRoundsRelate, UnusedBindersRelate}
 use Rattle.type_relations.proofs.Trees.{apply-inst, inst_within, StaysIn}
 use Rattle.type_relations.proofs.Values.{value_namable, stays_in, stays_apply, variables_fit, fresh_later, placeholders_stay, placeholders_fit, placeholders_namable, some_values, some_values_fit, some_values_namable, some_placeholders, some_are_placeholders, same_value, in_context}
 use Rattle.type_relations.proofs.Classes.{entry_kept}
-use Rattle.type_relations.proofs.Going.{later_through}
+use Rattle.type_relations.proofs.Going.{later_itself, later_through}
 use Rattle.type_relations.proofs.Composing.{extends_through, goals_both, first_goals, all_goals, values_still}
 
 -- A variable that was instantiated has its term's value.
@@ -252,4 +252,42 @@ unused_binders_relate c e v before after earlier added ks ls a b n ina inb wa wb
       unused_rule c w e ks ls (apply s a) (apply s b) before.universe (value_namable before s before.universe a h ina) (value_namable before s before.universe b h inb)
       (stays_apply s 0 a (stays_in before s before.universe a h ina) wa) (stays_apply s 0 b (stays_in before s before.universe b h inb) wb) v n (f.relates w s sat all);
   keeps = λ w s sat q. f.keeps w s sat (binder_bodies q);
+}
+
+-- Opening two binders of which one round relates both is a step from them to their bodies.
+pub covariant_step : (c : Items) (e : Tree) (v : Variance) (before after : Store) (earlier added : List Goal)
+    (ks ls : List BoundKind) (a b x y : Tree) → v ≡ Covariant →
+    StepsTo c e before after earlier added (second_opened ks ls v) a b (at v) x y →
+    StepsTo c e before after earlier added (at v) (bind ks a) (bind ls b) (at v) x y
+covariant_step c e v before after earlier added ks ls a b x y is f = record {
+  later = f.later;
+  goals_in = f.goals_in;
+  relates = λ w s sat all r. covariant_binders is (f.relates w s sat all r);
+  keeps = λ w s sat q. f.keeps w s sat (binder_kinds q, binder_bodies q);
+}
+
+pub contravariant_step : (c : Items) (e : Tree) (v : Variance) (before after : Store) (earlier added : List Goal)
+    (ks ls : List BoundKind) (a b x y : Tree) → v ≡ Contravariant →
+    StepsTo c e before after earlier added (first_opened ks ls v) a b (at v) x y →
+    StepsTo c e before after earlier added (at v) (bind ks a) (bind ls b) (at v) x y
+contravariant_step c e v before after earlier added ks ls a b x y is f = record {
+  later = f.later;
+  goals_in = f.goals_in;
+  relates = λ w s sat all r. contravariant_binders is (f.relates w s sat all r);
+  keeps = λ w s sat q. f.keeps w s sat (binder_kinds q, binder_bodies q);
+}
+
+-- Where neither body uses a variable of its binder nothing is opened.
+pub unused_step : (c : Items) (e : Tree) (v : Variance) (st : Store) (earlier : List Goal) (ks ls : List BoundKind)
+    (a b : Tree) → v ≢ Bivariant → Leaves (IsInScope st st.universe) a → Leaves (IsInScope st st.universe) b →
+    StaysWithin 0 a → StaysWithin 0 b →
+    StepsTo c e st st earlier [] (at v) (bind ks a) (bind ls b) (at v) a b
+unused_step c e v st earlier ks ls a b n ina inb wa wb = record {
+  later = later_itself st;
+  goals_in = All-nil (GoalInContext st);
+  relates = λ w s sat all r. unused_rule c w e ks ls (apply s a) (apply s b) st.universe
+      (value_namable st s st.universe a sat.assigns ina) (value_namable st s st.universe b sat.assigns inb)
+      (stays_apply s 0 a (stays_in st s st.universe a sat.assigns ina) wa)
+      (stays_apply s 0 b (stays_in st s st.universe b sat.assigns inb) wb) v n r;
+  keeps = λ w s sat q. (s, (λ k m h. refl), (sat, All-nil (MakesOneTree s), binder_bodies q));
 }

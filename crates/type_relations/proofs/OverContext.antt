@@ -21,7 +21,7 @@ use Rattle.type_relations.specs.declared.relate.Step.TheVariants.{Done, Parts}
 use Rattle.type_relations.specs.Relation.{Interpretation, Rel, at, same as same_rel}
 use Rattle.type_relations.specs.Stores.{Store, IsSound, Satisfies, IsMade, InContext, MayStandFor, weight}
 use Rattle.type_relations.specs.Goals.{Goal, GoalInContext, MakesOneTree}
-use Rattle.type_relations.specs.Steps.{Equates, InstantiatesNumber}
+use Rattle.type_relations.specs.Steps.{Equates, InstantiatesNumber, StaysFull}
 use Rattle.type_relations.specs.Outcomes.{Exact, NoEqualTerms, NoUnifier}
 use Rattle.type_relations.specs.Measures.{Goes}
 use Rattle.type_relations.specs.Errors.{ErrorOf, of_entries, IsReadAs, itself, by_class, by_binding}
@@ -34,12 +34,13 @@ use Rattle.type_relations.specs.ContextCalls.{Grows, Stands, HasCoveredBindings}
 use Rattle.type_relations.specs.Solving.{solver_manner, solver_settings}
 use Rattle.type_relations.proofs.Trees.{all_leaves}
 use Rattle.type_relations.proofs.Going.{later_itself, goes_nowhere}
+use Rattle.type_relations.proofs.Full.{full_itself, read_plain}
 use Rattle.type_relations.proofs.ReadAs.{read_value, read_later, read_weight}
 use Rattle.type_relations.specs.OneUniverse.{KeepsUniverse}
 use Rattle.type_relations.proofs.OneUniverse.{keeps_pair, binds_itself, reading_leads}
-use Rattle.type_relations.proofs.Roots.{roots_goes, roots_equal, roots_keep, roots_exactly, roots_universe, exact_turned}
+use Rattle.type_relations.proofs.Roots.{roots_goes, roots_equal, roots_keep, roots_exactly, roots_universe, roots_full, exact_turned}
 use Rattle.type_relations.proofs.Numbers.{IsNumber, number_goes, number_equal, number_keep, number_exactly, number_apart}
-use Rattle.type_relations.proofs.Numbers.{number_universe}
+use Rattle.type_relations.proofs.Numbers.{number_universe, number_full}
 use Rattle.type_relations.proofs.Numbers.{number_no_unifier, number_error, number_error_back}
 use Rattle.type_relations.proofs.Exactly.{read_pair, reading_exact}
 
@@ -90,13 +91,13 @@ module _ {Key Id Name : Type 0} (r : State Key Id Name) where
       ((w : Interpretation) (s : Assign) → Satisfies w now s → apply s a ≡ apply s b) →
       ((w : Interpretation) (s : Assign) → Satisfies w was s → apply s a ≡ apply s b →
       Satisfies w now s) →
-      (IsFirstOrderStore was → IsFirstOrderStore now × Exact was now a b) → KeepsUniverse was now →
+      (IsFirstOrderStore was → IsFirstOrderStore now × Exact was now a b) → KeepsUniverse was now → StaysFull was now →
       (tree t ≡ a) ⊎ (tree t ≡ b) → IsTrue (known (tree t)) →
       Stepped solver_manner F (standing r m was L) (standing r n now K) a b tree (Ok (Done t))
   unfolding over_passes
-  one_step {X} F m n was now L K a b tree t same goes l equal keep exactly universe answer sure =
+  one_step {X} F m n was now L K a b tree t same goes l equal keep exactly universe full answer sure =
       subst (λ n. Stepped solver_manner F (standing r m was L) (standing r n now K) a b tree (Ok (Done t))) (sym same)
-      (record { passes = related.passes; verdict = related.verdict; exact = related.exact })
+      (record { passes = related.passes; verdict = related.verdict; exact = related.exact; full = related.full })
     where
       answers : (tree t ≡ a) ⊎ (tree t ≡ b) → (w : Interpretation) (s : Assign) → Satisfies w now s →
           apply s a ≡ apply s (tree t)
@@ -117,6 +118,7 @@ module _ {Key Id Name : Type 0} (r : State Key Id Name) where
           known = sure;
         };
         exact = λ k is pair. let z = exactly pair.bindings in (z.0, z.1, keeps_pair was now a b universe);
+        full = λ ha hb. full;
       }
 
   -- Nothing was recorded, and an error tells two terms apart.
@@ -131,6 +133,7 @@ module _ {Key Id Name : Type 0} (r : State Key Id Name) where
         passes = over_passes (stays_same m) (goes_nowhere _ was) l;
         verdict = (apart, error, sure);
         exact = λ k is pair. (no_unifier, binds_itself was a b);
+        full = λ ha hb. full_itself was;
       }))
 
   -- Two roots of a kind were made one.
@@ -146,7 +149,7 @@ module _ {Key Id Name : Type 0} (r : State Key Id Name) where
       (sym (ap (apply s) p) ∙ one ∙ ap (apply s) q))
       (λ h. let z = roots_exactly was now k o i l sound still equates h in
       (z.0, subst₂ (Exact was now) (sym p) (sym q) z.1))
-      (roots_universe was now k o i l sound still equates)
+      (roots_universe was now k o i l sound still equates) (roots_full was now k o i l sound still equates)
       (inl answer) (subst (λ z. IsTrue (known z)) (sym (answer ∙ p)) refl)
 
   -- A root of a number variable was bound to the other side, a type of its kind.
@@ -160,7 +163,7 @@ module _ {Key Id Name : Type 0} (r : State Key Id Name) where
       (λ w s sat one. number_keep was now k i b h sound w s sat (sym (ap (apply s) p) ∙ one))
       (λ f. let z = number_exactly was now k i b h sound f in
       (z.0, subst (λ c. Exact was now c b) (sym p) z.1))
-      (number_universe was now k i b h sound)
+      (number_universe was now k i b h sound) (number_full was now k i b h sound)
       (inr answer) (subst (λ z. IsTrue (known z)) (sym answer) sure)
 
   pub number_step_back : {X : Type 0} (F : Tree → Type 0) (m n : Meaning Key Id Name) (was now : Store) (L K : Type 0) (k : VarKind) (i : ℕ) (a b : Tree) (tree : X → Tree) (t : X) → n ≡ m →
@@ -177,7 +180,7 @@ module _ {Key Id Name : Type 0} (r : State Key Id Name) where
         exact_turned was now b a
             (subst (λ c. Exact was now c a) (sym p) z.1),
       ))
-      (number_universe was now k i a h sound)
+      (number_universe was now k i a h sound) (number_full was now k i a h sound)
       (inl answer) (subst (λ z. IsTrue (known z)) (sym answer) sure)
 
   -- Or the other side is a type that may not stand for it.
@@ -257,6 +260,7 @@ module _ {Key Id Name : Type 0} (r : State Key Id Name) where
       answers = λ z w s sat all o. subst (λ i. Rel (items_of m) w r.environment (at r.ambient) i (apply s z))
           (sym (read_value was s sat.bindings a (tree t) p)) o;
       left = λ k. absurd k;
+      no_binder = λ all ha hb. (read_plain was all a (tree t) p ha, read_plain was all b (tree u) q hb);
       same_budget = refl;
       not_larger = let i = read_weight was g a (tree t) p in
           let j = read_weight was g b (tree u) q in omega (arith, i, j);
@@ -266,6 +270,7 @@ module _ {Key Id Name : Type 0} (r : State Key Id Name) where
       reading_exact was g a b (tree t) (tree u) p q,
       reading_leads was g a b (tree t) (tree u) p q,
     );
+    full = λ ha hb. full_itself was;
   }
 
 -- A relation has recorded what a context has.

@@ -22,7 +22,7 @@ use Rattle.type_relations.specs.Goals.{Goal, GoalInContext, IsDirected, Holds, R
 use Rattle.type_relations.specs.Outcomes.{Outcome, CarriesOver, NeverOne, Exact, ExactStep}
 use Rattle.type_relations.specs.Headline.{IsFirstOrderPair}
 use Rattle.type_relations.specs.FirstOrder.{IsFirstOrderStore, IsErasedSolution}
-use Rattle.type_relations.specs.Steps.{IsLater}
+use Rattle.type_relations.specs.Steps.{IsLater, StaysFullFor}
 use Rattle.type_relations.specs.Measures.{grown, Goes}
 use Rattle.type_relations.specs.Lawful.{State, Manner, Manners, Takes, MayAnswer, Passes, Asked, Refuses, Answers, Verdict, Related, Leads}
 use Rattle.type_relations.specs.Lawful.{ExactResult, ExactlyRelated, RegisteredIn}
@@ -30,6 +30,7 @@ use Rattle.type_relations.proofs.Exactness.{exact_steps_compose}
 use Rattle.type_relations.specs.Lawful.{LeadsToParts, LeadsAgain, Noted, Turned, Stepped, OnlyMemory, WithMeaning, declared_by, items_of, items_in}
 use Rattle.type_relations.proofs.Registered.{registered_in, registered_both, registered_as}
 use Rattle.type_relations.proofs.Going.{goes_nowhere, goes_within, goes_then, le_grown, later_itself, later_through}
+use Rattle.type_relations.proofs.Full.{full_itself, full_then, full_led, full_could}
 use Rattle.type_relations.proofs.Composing.{steps_compose, first_goals}
 use Rattle.type_relations.proofs.Growing.{All_front}
 use Rattle.type_relations.proofs.Standing.{later_term}
@@ -228,13 +229,15 @@ module _ {Key Id Name : Type 0} where
   pub parts_related : {X : Type 0} {r q p : State Key Id Name} (M : Manners) (F : Tree → Type 0) → IsSound p.store →
       (a b x y : Tree) (tree : X → Tree) (result : Result X (RelateFault Key Id Name))
       (g : Passes (weight r.store a + weight r.store b) r q) → LeadsToParts M F r q g.added a b x y →
-      LeadsExactly M r q a b x y → Related M q p r.ambient x y tree result → Related M r p r.ambient a b tree result
+      LeadsExactly M r q a b x y → StaysFullFor r.store q.store a b → Related M q p r.ambient x y tree result →
+      Related M r p r.ambient a b tree result
   unfolding passes_then
-  parts_related {X} {r} {q} {p} M F sound a b x y tree result g l exactly f = record {
+  parts_related {X} {r} {q} {p} M F sound a b x y tree result g l exactly full f = record {
     passes = passes_then g f.passes small;
     verdict = verdict result f.verdict;
     exact = exact_led (M r.settings) r.store q.store p.store a b x y r.ambient r.ambient (λ e. e) exactly result
         (same_manner M (λ z. ExactlyRelated z q.store p.store r.ambient x y result) g f.exact);
+    full = full_led a b x y full l.no_binder f.full;
   }
     where
       small : weight q.store x + weight q.store y ≤ grown (g.goes).spent (weight r.store a + weight r.store b)
@@ -285,6 +288,7 @@ module _ {Key Id Name : Type 0} where
           (invariantly v) exactly (Ok z)
           (same_manner M (λ m. ExactlyRelated {Key = Key} {Id = Id} {Name = Name} m q.store p.store (xform r.ambient v) x y
           (Ok t)) g f.exact);
+      full = λ ha hb. full_could led.may_instantiate;
     }
 
     pub again_refused : {X Y : Type 0} {p : State Key Id Name} → IsSound p.store → (tree : X → Tree) (answer : Y → Tree)
@@ -296,6 +300,7 @@ module _ {Key Id Name : Type 0} where
       exact = exact_led {X = Y} (M r.settings) r.store q.store p.store a b x y r.ambient (xform r.ambient v)
           (invariantly v) exactly (Err e) (λ k is pair. exact_fault X Y q.store p.store x y e
           (f.exact (manner_then M (λ z. z.is_exact) g k) is pair));
+      full = λ ha hb. full_could led.may_instantiate;
     }
 
   -- What is noted after two terms were related leaves them so.
@@ -346,6 +351,7 @@ module _ {Key Id Name : Type 0} where
         exact_kept r.store q.store p.store a b ((h.passes).goes).later h.keeps_erased z.1,
         kept_then r.store q.store p.store a b z.2 h.universe,
       );
+      full = λ ha hb. full_then (f.full ha hb) h.full;
     }
 
     pub noted_refused : {Z : Type 0} (answer : Z → Tree) (e : RelateFault Key Id Name) → note ≡ Err e →
@@ -357,6 +363,7 @@ module _ {Key Id Name : Type 0} where
       exact = λ k is pair. memory_said Z Y r.store p.store a b e (subst OnlyMemory n h.fault)
           (binds_as_many r.store q.store p.store a b (noted_bound h)
           (keeps_binds r.store q.store a b (f.exact k is pair).2));
+      full = λ ha hb. full_then (f.full ha hb) h.full;
     }
       where
         refuses : (e : RelateFault Key Id Name) → OnlyMemory {X = Y} (Err e) → Refuses r p v a b e
@@ -413,6 +420,7 @@ module _ {Key Id Name : Type 0} where
       verdict = verdict result f.verdict;
       exact = subst₂ (λ s z. ExactlyRelated (M r.settings) s z v a b result) there.store (sym back.store)
           (subst (λ k. ExactlyRelated (M k) t.store q.store v a b result) there.settings f.exact);
+      full = subst₂ (λ s z. StaysFullFor s z a b) there.store (sym back.store) f.full;
     }
       where
         verdict : (res : Result X (RelateFault Key Id Name)) → Verdict M t q (f.passes).added v a b tree res →
@@ -437,6 +445,7 @@ module _ {Key Id Name : Type 0} where
       known = subst (λ u. IsTrue (known u)) (sym same) k;
     };
     exact = λ k is pair. absurd (invariant_is_not (sym is ∙ e));
+    full = λ ha hb. full_itself r.store;
   }
 
   -- Nothing was noted.
@@ -450,6 +459,7 @@ module _ {Key Id Name : Type 0} where
     universe = keeps_itself r.store;
     quiet = All-nil IsQuiet;
     same_budget = refl;
+    full = full_itself r.store;
     fault = tt;
   }
 
@@ -499,6 +509,7 @@ module _ {Key Id Name : Type 0} where
       };
       exact = λ k is pair. subst (λ s. IsFirstOrderStore s × Exact r.store s a b × KeepsUniverseOf r.store s a b)
           (sym w.store) (f.exact k is pair);
+      full = subst (λ s. StaysFullFor r.store s a b) (sym w.store) f.full;
     }
 
     -- Or it could not be made.
@@ -512,6 +523,7 @@ module _ {Key Id Name : Type 0} where
       verdict = tt;
       exact = λ k is pair. subst (λ s. BindsNoMore r.store s a b) (sym w.store)
           (keeps_binds r.store q.store a b (f.exact k is pair).2);
+      full = subst (λ s. StaysFullFor r.store s a b) (sym w.store) f.full;
     }
     made_or_not tree t f (Err g) only h = absurd only
 
@@ -527,13 +539,14 @@ module _ {Key Id Name : Type 0} where
   -- Memory ran out.
   pub stopped : {X : Type 0} {r q : State Key Id Name} (M : Manners) (v : Variance) (a b : Tree) (tree : X → Tree) →
       Passes (weight r.store a + weight r.store b) r q → ((M r.settings).is_exact → v ≡ Invariant →
-      IsFirstOrderPair r.store a b → BindsNoMore r.store q.store a b) → Related {X = X} M r q v a b tree (Err Memory)
-  stopped M v a b tree g f = record { passes = g; verdict = tt; exact = f }
+      IsFirstOrderPair r.store a b → BindsNoMore r.store q.store a b) → StaysFullFor r.store q.store a b →
+      Related {X = X} M r q v a b tree (Err Memory)
+  stopped M v a b tree g f h = record { passes = g; verdict = tt; exact = f; full = h }
 
   -- A step that answers.
   pub step_done : {K : Type 0} {r q : State Key Id Name} (M : Manners) (F : Tree → Type 0) (a b : Tree) (tree : K → Tree)
       (t : K) → Stepped M F r q a b tree (Ok (Done t)) → Related M r q r.ambient a b tree (Ok t)
-  step_done M F a b tree t s = record { passes = s.passes; verdict = s.verdict; exact = s.exact }
+  step_done M F a b tree t s = record { passes = s.passes; verdict = s.verdict; exact = s.exact; full = s.full }
 
   -- The same answer in other words, and the same fault.
   pub retold : {X Y : Type 0} {r q : State Key Id Name} (M : Manners) (v : Variance) (a b : Tree) (tree : X → Tree) (t : X)
@@ -543,6 +556,7 @@ module _ {Key Id Name : Type 0} where
     passes = f.passes;
     verdict = subst (λ u. Answers M r q (f.passes).added v a b u) (sym e) f.verdict;
     exact = f.exact;
+    full = f.full;
   }
 
   pub refused_again : {X Y : Type 0} {r q : State Key Id Name} (M : Manners) (v : Variance) (a b : Tree) (tree : X → Tree)
@@ -553,6 +567,7 @@ module _ {Key Id Name : Type 0} where
         passes = f.passes;
         verdict = f.verdict;
         exact = λ k is pair. exact_fault X Y r.store q.store a b e (f.exact k is pair);
+        full = f.full;
       }
 
   pub relates_now : {X : Type 0} {r q : State Key Id Name} (M : Manners) (v : Variance) (a b : Tree) (tree : X → Tree)
@@ -591,6 +606,7 @@ module _ {Key Id Name K : Type 0} (M : Manners) (F : Tree → Type 0) (r : State
       right_form = g;
       answers = λ t w s sat all h. h;
       left = λ k. refl;
+      no_binder = λ all ha hb. (ha, hb);
       same_budget = refl;
       not_larger = omega arith;
     };
@@ -603,6 +619,7 @@ module _ {Key Id Name K : Type 0} (M : Manners) (F : Tree → Type 0) (r : State
       },
       leads_itself r.store (tree a) (tree b),
     );
+    full = λ ha hb. full_itself r.store;
   }
 
   pub parts_left : (a b x y : K) → x ≡ a → y ≡ b → Asked M r r.ambient (tree a) (tree b) → F (tree a) → F (tree b) →

@@ -7,14 +7,15 @@ use Rattle.relation_terms.specs.Erasure.{erase}
 use Rattle.type_relations.specs.Relation.{Interpretation}
 use Rattle.type_relations.specs.Stores.{Store, same_as, entry_term, bound_term, IsSound, Satisfies}
 use Rattle.type_relations.specs.FirstOrder.{IsFirstOrder, IsFirstOrderStore}
-use Rattle.type_relations.specs.Steps.{Equates}
+use Rattle.type_relations.specs.Steps.{Equates, StaysFull}
 use Rattle.type_relations.specs.Measures.{Goes}
 use Rattle.type_relations.specs.Outcomes.{Exact}
 use Rattle.type_relations.proofs.Only.{which}
 use Rattle.type_relations.proofs.Written.{OtherTerm, term_stays, term_led, others}
 use Rattle.type_relations.proofs.Going.{later_itself, goes_nowhere, goes_within}
 use Rattle.type_relations.specs.OneUniverse.{KeepsUniverse}
-use Rattle.type_relations.proofs.Equating.{equated_goes, equated_later, equated_value, equated_keeps}
+use Rattle.type_relations.proofs.Full.{full_same}
+use Rattle.type_relations.proofs.Equating.{equated_goes, equated_later, equated_full, equated_value, equated_keeps}
 use Rattle.type_relations.proofs.OneUniverse.{keeps_itself, equated_keeps_universe}
 use Rattle.type_relations.proofs.StoreCalls.{equating_is_exact}
 
@@ -76,6 +77,14 @@ module _ (before after : Store) (k : VarKind) (no_region : k ≢ region_var) (x 
       go : Dec (x ≡ y) → Goes N before after
       go (yes e) = subst (Goes N before) (sym (stays e)) (goes_nowhere N before)
       go (no o) = goes_within (omega arith) (equated_goes before after k (max x y) (min x y) (q o) g no_region)
+
+  -- They are bound to no binder.
+  pub roots_full : StaysFull before after
+  roots_full = go (ℕ_discrete x y)
+    where
+      go : Dec (x ≡ y) → StaysFull before after
+      go (yes e) = full_same (stays e)
+      go (no o) = equated_full before after k (max x y) (min x y) (q o) g no_region
 
   pub roots_equal : (w : Interpretation) (s : Assign) → Satisfies w after s → s k x ≡ s k y
   roots_equal w s sat = go (ℕ_discrete x y)

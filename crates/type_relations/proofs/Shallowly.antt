@@ -19,6 +19,7 @@ use Rattle.type_relations.specs.Parts.{IsFormed}
 use Rattle.type_relations.specs.Lawful.{State, Passes, Leads, StepVerdict, ExactVerdict, Stepped, items_in}
 use Rattle.type_relations.proofs.ReadAs.{read_value, read_later, read_weight}
 use Rattle.type_relations.proofs.Going.{later_through, goes_within}
+use Rattle.type_relations.proofs.Full.{read_plain}
 use Rattle.type_relations.proofs.Standing.{made_of_term}
 use Rattle.type_relations.specs.Resolving.{IsShallow, root, stays_bound, formed, IsShallowConst, const_root, no_variable}
 use Rattle.type_relations.specs.Solving.{solver_manner}
@@ -130,6 +131,7 @@ module _ {Key Id Name : Type 0} (r q : State Key Id Name) (g : IsSound r.store) 
         answers = λ t i s sat all f. subst (λ z. Rel (items_in q) i q.environment (at r.ambient) z (apply s t))
             (sym (value_a i s (shrinks i s sat))) (h.answers t i s sat all f);
         left = λ z. absurd z;
+        no_binder = λ all ha hb. h.no_binder all (read_plain r.store all a u p ha) (read_plain r.store all b w o hb);
         same_budget = h.same_budget;
         not_larger = let e = as_large in let l = h.not_larger in omega (arith, e, l);
       }
@@ -143,6 +145,7 @@ module _ {Key Id Name : Type 0} (r q : State Key Id Name) (g : IsSound r.store) 
         left = λ z. absurd z;
         answer_known = h.answer_known;
         falls = h.falls;
+        may_instantiate = h.may_instantiate;
         not_larger = subst (λ z. weight q.store (tree x) + weight q.store (tree y) ≤ grown 1 z) (sym as_large) h.not_larger;
       }
       read_verdict (Err (Unrelated e)) h = (
@@ -194,4 +197,6 @@ module _ {Key Id Name : Type 0} (r q : State Key Id Name) (g : IsSound r.store) 
     verdict = read_verdict F tree h.passes res h.verdict;
     exact = λ z is pair. read_exact F tree h.passes res
         (h.exact z is (read_pair r.store a b u w p o pair));
+    full = λ ha hb full. h.full (read_plain r.store full.binds_no_binder a u p ha)
+        (read_plain r.store full.binds_no_binder b w o hb) full;
   }

@@ -32,7 +32,7 @@ use Rattle.type_relations.specs.Stores.{Store, Constraint, IsRegionIn, IsSound}
 use Rattle.type_relations.specs.Stores.{ConstraintHolds, all_bound}
 use Rattle.type_relations.specs.Goals.{goals_of, KnowsGoal, Registered, GoalInContext, Holds, MakesOneTree}
 use Rattle.type_relations.specs.Headline.{AnswersGoals, KeepsEqualTerms}
-use Rattle.type_relations.specs.Steps.{AddsConstraint, Equates}
+use Rattle.type_relations.specs.Steps.{AddsConstraint, Equates, StaysFull}
 use Rattle.type_relations.specs.Outcomes.{Outcome}
 use Rattle.type_relations.specs.Measures.{Goes}
 use Rattle.type_relations.specs.Parts.{IsFormedConst}
@@ -40,6 +40,7 @@ use Rattle.type_relations.specs.Constraints.{constraint_at, constraint_of, asked
 use Rattle.type_relations.specs.Lawful.{Passes, Related, Stepped, items_of, State}
 use Rattle.type_relations.specs.Lawful.{Verdict, WithMeaning, RegisteredIn}
 use Rattle.type_relations.proofs.Going.{goes_nowhere, goes_within}
+use Rattle.type_relations.proofs.Full.{full_itself, full_same, full_by, constraint_plain}
 use Rattle.type_relations.proofs.Growing.{constraint_holds, constraint_keeps}
 use Rattle.type_relations.proofs.Constraints.{asked_relates, asked_met}
 use Rattle.type_relations.proofs.OverContext.{standing, roots_step as roots_equated}
@@ -107,7 +108,7 @@ formed_apart s (cons t ts) k n f h = f
 pub constraint_goes : (before after : Store) (q : Constraint) → AddsConstraint before after q → Goes 0 before after
 constraint_goes before after q added = record {
   later = constraint_is_later before after q added;
-  made = record { no_number = λ k h. ap length (added.same_entries k); none = λ h k. ap length (added.same_entries k) };
+  made = λ k h. ap length (added.same_entries k);
   spent = 0;
   counts = let e = added.same_budget in omega (arith, e);
   binds = let e = constraint_bound before after q added in omega (arith, e);
@@ -118,6 +119,15 @@ pub constrained_goes : {Key Id Name A F : Type 0} (c d : Context Key Id Name) (q
     Constrains c d q r → Goes 0 c.store d.store
 constrained_goes c d q (Ok x) h = constraint_goes c.store d.store q h
 constrained_goes c d q (Err f) h = subst (Goes 0 c.store) (sym h) (goes_nowhere 0 c.store)
+
+pub constraint_full : (before after : Store) (q : Constraint) → AddsConstraint before after q → StaysFull before after
+constraint_full before after q added = full_by (constraint_goes before after q added)
+    (λ k. ap length (added.same_entries k)) (constraint_plain before after added.same_entries)
+
+pub constrained_full : {Key Id Name A F : Type 0} (c d : Context Key Id Name) (q : Constraint) (r : Result A F) →
+    Constrains c d q r → StaysFull c.store d.store
+constrained_full c d q (Ok x) h = constraint_full c.store d.store q h
+constrained_full c d q (Err f) h = full_same h
 
 pub constrained_bound : {Key Id Name A F : Type 0} (c d : Context Key Id Name) (q : Constraint) (r : Result A F) →
     Constrains c d q r → all_bound d.store ≡ all_bound c.store
@@ -147,15 +157,16 @@ module _ {Key Id Name : Type 0} (j : ℕ) (gs : List (KeyedGoal Key (PredicateKe
       (env : KnowsGoals m e gs) (same : n ≡ m) (l : K) (a b : Tree) where
     -- Memory ran out.
     pub memory_refused : (tree : X → Tree) (r : Result X (RelateFault Key Id Name)) → r ≡ Err Memory →
-        Goes 0 was now → all_bound now ≡ all_bound was → Related solver_manner (solving j gs m was L v e)
-        (solving j gs n now K v e) v a b tree r
-    memory_refused tree r is goes as_many = subst₂ (λ n r. Related solver_manner (solving j gs m was L v e)
+        Goes 0 was now → all_bound now ≡ all_bound was → StaysFull was now →
+        Related solver_manner (solving j gs m was L v e) (solving j gs n now K v e) v a b tree r
+    memory_refused tree r is goes as_many full = subst₂ (λ n r. Related solver_manner (solving j gs m was L v e)
         (solving j gs n now K v e) v a b tree r)
         (sym same) (sym is)
         (record {
           passes = solver_passes v e (stays_same m) env (goes_within (omega arith) goes) l;
           verdict = tt;
           exact = λ k is pair. binds_none was now a b as_many;
+          full = λ ha hb. full;
         })
 
   -- Two regions were related by what was recorded.
@@ -213,6 +224,7 @@ module _ {Key Id Name : Type 0} (j : ℕ) (gs : List (KeyedGoal Key (PredicateKe
                 keeps_pair was now (m.region a) (m.region b)
                     (standing_keeps was now added.same_entries added.same_universes),
               );
+          full = λ ha hb. constraint_full was now (constraint_of m c) added;
         }
 
   -- The same by what the variance asks for.
@@ -237,7 +249,7 @@ module _ {Key Id Name : Type 0} (j : ℕ) (gs : List (KeyedGoal Key (PredicateKe
       Related solver_manner (solving j gs m was L v e) (solving j gs n now K v e) v a b tree (Ok t) →
       Stepped solver_manner F (solving j gs m was L v e) (solving j gs n now K v e) a b tree (Ok (Done t))
   answered_step F m n was now L K v e a b tree t h =
-      record { passes = h.passes; verdict = h.verdict; exact = h.exact }
+      record { passes = h.passes; verdict = h.verdict; exact = h.exact; full = h.full }
 
   -- The relation is lawful after work over its context.
   pub still_lawful : {m n : Meaning Key Id Name} {L K : Type 0} (e : ParamEnvKey Key) → Extends m n → KnowsGoals m e gs →
@@ -286,6 +298,7 @@ module _ {Key Id Name : Type 0} (j : ℕ) (gs : List (KeyedGoal Key (PredicateKe
         passes = solver_passes v e grown env (goes_nowhere _ was) l;
         verdict = tt;
         exact = λ k is pair. binds_itself was a b;
+        full = λ ha hb. full_itself was;
       })
 
   -- What a relation leaves as it was need not be named, nor the reference that it held.
@@ -321,6 +334,7 @@ module _ {Key Id Name : Type 0} (j : ℕ) (gs : List (KeyedGoal Key (PredicateKe
       };
       verdict = verdict result h.verdict;
       exact = h.exact;
+      full = h.full;
     }
       where
         verdict : (r : Result X (RelateFault Key Id Name)) →

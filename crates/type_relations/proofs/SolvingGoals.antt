@@ -18,6 +18,7 @@ use Rattle.type_relations.specs.Lawful.{Stepped, Passes, MayAnswer, RegisteredIn
 use Rattle.type_relations.specs.Solving.{KnowsGoals, solving, solver_manner}
 use Rattle.type_relations.proofs.Answering.{may_itself}
 use Rattle.type_relations.proofs.Going.{goes_nowhere, later_itself}
+use Rattle.type_relations.proofs.Full.{full_itself}
 use Rattle.type_relations.proofs.Growing.{All_back}
 use Rattle.type_relations.proofs.Turning.{turned}
 use Rattle.type_relations.proofs.Registered.{registered_in, goals_stay, goals_known}
@@ -103,6 +104,7 @@ module _ {Key Id Name : Type 0} (j : ℕ) (gs hs : List (KeyedGoal Key (Predicat
       known = subst (λ z. IsTrue (known z)) (sym answer) sure;
     };
     exact = λ z is pair. absurd (subst IsDirected is directed);
+    full = λ ha hb. full_itself st;
   }
 
 module _ {Key Id Name : Type 0} (j : ℕ) (gs hs : List (KeyedGoal Key (PredicateKey Key))) (m n : Meaning Key Id Name)

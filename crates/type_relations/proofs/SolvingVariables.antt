@@ -15,7 +15,7 @@ use Rattle.type_relations.specs.Relation.{Items, Interpretation, Rel, at, same a
 use Rattle.type_relations.specs.Stores.{Store, unbound, entry_of, entry_term, IsMade, IsTermIn, IsSound, Satisfies}
 use Rattle.type_relations.specs.Stores.{MayStandFor, universe_of, all_bound, resolved, weight}
 use Rattle.type_relations.specs.Headline.{IsFirstOrderPair}
-use Rattle.type_relations.specs.Steps.{Instantiates, RefusesToInstantiate}
+use Rattle.type_relations.specs.Steps.{Instantiates, RefusesToInstantiate, InstantiatesNone, StaysFull}
 use Rattle.type_relations.specs.Outcomes.{StepsTo, CarriesOver, ExactStep}
 use Rattle.type_relations.specs.Measures.{Goes}
 use Rattle.type_relations.specs.Errors.{ErrorOf, BindingError, of_binding, of_binding_back, of_entries, IsReadAs, itself, by_binding}
@@ -44,7 +44,8 @@ use Rattle.type_relations.proofs.Binding.{square_above}
 use Rattle.type_relations.proofs.BindingGeneralised.{generalised_instantiates, generalised_goes, generalised_weights, generalised_first_order}
 use Rattle.type_relations.proofs.BindingRefused.{generalising_refuses, refused}
 use Rattle.type_relations.proofs.GeneralisingErrors.{beyond_error}
-use Rattle.type_relations.proofs.NewVariables.{adds, adds_goes, instantiates_one}
+use Rattle.type_relations.proofs.NewVariables.{adds, adds_goes}
+use Rattle.type_relations.proofs.Full.{full_same, full_could, instantiates_one}
 use Rattle.type_relations.proofs.OverContext.{standing, over_passes, all_taken}
 use Rattle.type_relations.specs.OneUniverse.{NamesTypesTo, HasOneUniverse, all_roots, StaysOf, LeadsInUniverse, BindsFewer}
 use Rattle.type_relations.proofs.OneUniverse.{binds_none, bound_fewer}
@@ -144,6 +145,10 @@ module _ {Key Id Name : Type 0} (r0 : State Key Id Name) (L K : Type 0) (lawful 
     goes : (N : ℕ) → weight was t ≤ N → Goes N was now
     goes N small =
         goes_within small (generalised_goes (items_of c.meaning) was now x k target t u counted f numbers before t_in stands)
+
+    could : InstantiatesNone was → ⊥
+    could = instantiates_one was k target counted steps.made steps.was_unbound
+        (λ e. let o = steps.one_spent in omega (arith, e, o))
 
     -- The pair that is left is no larger than the square of a pair that is larger than the term.
     squares : (N : ℕ) → weight was t + 1 ≤ N → weight now u + weight now t ≤ N * N
@@ -264,6 +269,7 @@ module _ {Key Id Name : Type 0} (r0 : State Key Id Name) (L K : Type 0) (lawful 
       left = λ k. absurd k;
       answer_known = sure;
       falls = steps.one_spent;
+      may_instantiate = could;
       not_larger = squares (weight was root + weight was t) left_above;
     }
 
@@ -278,6 +284,7 @@ module _ {Key Id Name : Type 0} (r0 : State Key Id Name) (L K : Type 0) (lawful 
       left = λ k. absurd k;
       answer_known = sure;
       falls = steps.one_spent;
+      may_instantiate = could;
       not_larger = let i = squares (weight was t + weight was root) right_above in omega (arith, i);
     }
 
@@ -316,6 +323,7 @@ module _ {Key Id Name : Type 0} (r0 : State Key Id Name) (L K : Type 0) (lawful 
               exactly.0,
               left_universe same pair.right pair.bindings,
             );
+        full = λ ha hb. full_could could;
       }
 
       right_by : (b w : Variance) → xform v b ≡ w → Lifts Key Id Name now w v t u → tree y ≡ t → tree z ≡ root →
@@ -334,6 +342,7 @@ module _ {Key Id Name : Type 0} (r0 : State Key Id Name) (L K : Type 0) (lawful 
               exactly.1,
               right_universe same pair.left pair.bindings,
             );
+        full = λ ha hb. full_could could;
       }
         where
           back : IsFirstOrderPair now u t → IsFirstOrderPair now t u
@@ -384,12 +393,16 @@ module _ {Key Id Name : Type 0} (r0 : State Key Id Name) (L K : Type 0) (lawful 
         (generalising_refuses c.store d.store x k target t h.1.0 counted h.1.1 before other).1
     refusing N Budget h = subst (Goes N c.store) (sym h.1) (goes_nowhere N c.store)
     refusing N Memory h = goes_within (omega arith)
-        (adds_goes (instantiates_one c.store k target counted unresolved.0 unresolved.1 h.0)
-        (adds before (before.below_current k target) h.1))
+        (adds_goes (adds before (before.below_current k target) h.1))
 
     passes : (N : ℕ) (f : RelateFault Key Id Name) → Instantiated c d x k target t means cyclic (Err f) →
         Passes N (standing r0 c.meaning c.store L) (standing r0 d.meaning d.store K)
     passes N f h = over_passes r0 grown (refusing N f h) lawful
+
+    full : (f : RelateFault Key Id Name) → Instantiated c d x k target t means cyclic (Err f) → StaysFull c.store d.store
+    full (Unrelated g) h = full_could (instantiates_one c.store k target counted unresolved.0 unresolved.1 (h.1.1).may_spend)
+    full Budget h = full_same h.1
+    full Memory h = full_could (instantiates_one c.store k target counted unresolved.0 unresolved.1 h.0)
 
     -- The error is that of the obstacle.
     binding_error : (g : TypeError Key Id Name) (o : Obstacle) → RefusesBy c.store d.store k target t o →
@@ -425,16 +438,19 @@ module _ {Key Id Name : Type 0} (r0 : State Key Id Name) (L K : Type 0) (lawful 
         (refuses g h).apart_erased refl pair.right pair.bindings,
         binds_none c.store d.store (leaf (variable k target)) t (none_bound (h.1.1).makes),
       );
+      full = λ ha hb. full (Unrelated g) h;
     }
     left_refused Budget h = record {
       passes = passes _ Budget h;
       verdict = ap (λ st. st.budget) h.1 ∙ h.0;
       exact = λ o is pair. fewer (leaf (variable k target)) t h.1;
+      full = λ ha hb. full Budget h;
     }
     left_refused Memory h = record {
       passes = passes _ Memory h;
       verdict = tt;
       exact = λ o is pair. binds_none c.store d.store (leaf (variable k target)) t (none_bound h.1);
+      full = λ ha hb. full Memory h;
     }
 
     pub right_refused : (f : RelateFault Key Id Name) → Instantiated c d x k target t means cyclic (Err f) →
@@ -451,14 +467,17 @@ module _ {Key Id Name : Type 0} (r0 : State Key Id Name) (L K : Type 0) (lawful 
         λ s sol one. (refuses g h).apart_erased refl pair.left pair.bindings s sol (sym one),
         binds_none c.store d.store t (leaf (variable k target)) (none_bound (h.1.1).makes),
       );
+      full = λ ha hb. full (Unrelated g) h;
     }
     right_refused Budget h = record {
       passes = passes _ Budget h;
       verdict = ap (λ st. st.budget) h.1 ∙ h.0;
       exact = λ o is pair. fewer t (leaf (variable k target)) h.1;
+      full = λ ha hb. full Budget h;
     }
     right_refused Memory h = record {
       passes = passes _ Memory h;
       verdict = tt;
       exact = λ o is pair. binds_none c.store d.store t (leaf (variable k target)) (none_bound h.1);
+      full = λ ha hb. full Memory h;
     }

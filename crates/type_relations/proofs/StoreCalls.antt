@@ -245,7 +245,7 @@ module _ (st : Store) (g : IsSound st) where
       go i (is_free q) = subst (MayStandFor k) (sym (resolve_free (suc f) st k n q)) (itself_stands k n)
       go i (is_bound t q) = subst (MayStandFor k) (sym (resolve_bound f st k n t q)) (stands_apply (resolve f st) k t i (g.bindings k n t q).stands)
 
-  resolve_within : (f : ℕ) (k : VarKind) (n : ℕ) → StaysWithin 0 (resolve f st k n)
+  pub resolve_within : (f : ℕ) (k : VarKind) (n : ℕ) → StaysWithin 0 (resolve f st k n)
   unfolding resolve
   resolve_within zero k n = tt
   resolve_within (suc f) k n = go (resolve_within f) (has_term st k n)

@@ -25,7 +25,8 @@ use Rattle.type_relations.specs.Handing.{IsPassedOn, IsNoLength, IsFaultOfTy, pa
 use Rattle.type_relations.specs.Lawful.{State, Manners, MayAnswer, Passes, Refuses, Related, ExactResult, ExactlyRelated, items_in}
 use Rattle.type_relations.proofs.Registered.{registered_in}
 use Rattle.type_relations.proofs.Passing.{passes_within, manner_then, stopped}
-use Rattle.type_relations.proofs.Fronts.{Fronted, AreParts, fronted_never, fronted_all, fronted_passes, fronted_fault, fronted_exactly}
+use Rattle.type_relations.proofs.Fronts.{Fronted, AreParts, fronted_never, fronted_all, fronted_passes, fronted_fault, fronted_exactly, fronted_full}
+use Rattle.type_relations.proofs.Full.{parts_plain}
 use Rattle.type_relations.proofs.Unifying.{first_order_parts, formed_looked_at, types_unify, answered_as, refused_as}
 use Rattle.type_relations.specs.Headline.{IsFirstOrderPair}
 use Rattle.type_relations.specs.OneUniverse.{NamesTypesTo}
@@ -118,7 +119,7 @@ still_unrelated t X Y e k (passed is o) = (e, is)
 still_unrelated t X Y e k (sized c d p j x y is eq) = (ArraySize (record { expected = c; found = d }), eq)
 
 -- The parts of two first-order types.
-parts_pair : (st : Store) (a b : Tree) → IsFirstOrderPair st a b → IsFirstOrderPair st (parts_of a) (parts_of b)
+pub parts_pair : (st : Store) (a b : Tree) → IsFirstOrderPair st a b → IsFirstOrderPair st (parts_of a) (parts_of b)
 parts_pair st a b pair = record {
   left = first_order_parts a pair.left;
   right = first_order_parts b pair.right;
@@ -196,6 +197,8 @@ module _ {Key Id Name : Type 0} {r q : State Key Id Name} (M : Manners) (v : Var
           ex ey g.passes);
       verdict = ty_refuses g.passes e k kx ky t g.verdict;
       exact = ty_exactly A B p e k is_formed' t g.exact;
+      full = λ ha hb. fronted_full (head_of a) v i (parts_of a) (parts_of b) (arg_tree q.meaning X)
+          (arg_tree q.meaning Y) f lx ly ex ey g.full (parts_plain a ha) (parts_plain b hb);
     }
 
   -- Memory ran out after some of the parts.
@@ -206,6 +209,7 @@ module _ {Key Id Name : Type 0} {r q : State Key Id Name} (M : Manners) (v : Var
       (λ exact is pair. binds_as r.store q.store a b (parts_of a) (parts_of b) (λ u. leaves_parts (NamesTypesTo u) a)
       (λ u. leaves_parts (NamesTypesTo u) b) (keeps_binds r.store q.store (parts_of a) (parts_of b)
       (f.exact exact is (formed_looked_at a is_formed) (parts_pair r.store a b pair)).2))
+      (λ ha hb. f.full (parts_plain a ha) (parts_plain b hb))
 
   -- All parts of two types were related, and so are the types.
   types_relate : IsFormed a → (o : AreOfOneForm a b) → (f : Fronted M r q (head_of a) v i (parts_of a) (parts_of b)) →
@@ -247,4 +251,5 @@ module _ {Key Id Name : Type 0} {r q : State Key Id Name} (M : Manners) (v : Var
         (λ u. leaves_parts (NamesTypesTo u) a) (λ u. leaves_parts (NamesTypesTo u) b)
         (fronted_exactly (head_of a) v i (parts_of a) (parts_of b) are ea eb f exact is
         (formed_looked_at a is_formed) (parts_pair r.store a b pair));
+    full = λ ha hb. f.full (parts_plain a ha) (parts_plain b hb);
   }

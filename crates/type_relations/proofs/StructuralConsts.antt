@@ -30,7 +30,8 @@ use Rattle.type_relations.specs.Handing.{IsPassedOnConst, IsFaultOfConst, passed
 use Rattle.type_relations.specs.Lawful.{State, Manners, MayAnswer, Passes, Refuses, Related, ExactResult, ExactlyRelated, items_in}
 use Rattle.type_relations.proofs.Registered.{registered_in}
 use Rattle.type_relations.proofs.Passing.{passes_within, passes_nowhere, manner_then, stopped}
-use Rattle.type_relations.proofs.Fronts.{Fronted, AreParts, fronted_never, fronted_all, fronted_passes, fronted_fault, fronted_exactly}
+use Rattle.type_relations.proofs.Fronts.{Fronted, AreParts, fronted_never, fronted_all, fronted_passes, fronted_fault, fronted_exactly, fronted_full}
+use Rattle.type_relations.proofs.Full.{full_itself, const_parts_plain}
 use Rattle.type_relations.proofs.Unifying.{first_order_const_parts, const_looked_at, consts_unify, answered_as, refused_as, exact_itself}
 use Rattle.type_relations.proofs.Unifying.{forms_not_unified, const_forms_not_unified, erased_sort}
 use Rattle.type_relations.proofs.Structural.{same_const_fault, consts_never}
@@ -181,6 +182,8 @@ module _ {Key Id Name : Type 0} {r q : State Key Id Name} (M : Manners) (v : Var
           (fronted_passes (const_head_of a) v i (const_parts_of a) (const_parts_of b) x y f lx ly ex ey g.passes);
       verdict = const_refuses g.passes e k ec ed ka kb t g.verdict;
       exact = const_exactly A B p e k fa fb t g.exact;
+      full = λ ha hb. fronted_full (const_head_of a) v i (const_parts_of a) (const_parts_of b) x y f lx ly ex ey g.full
+          (const_parts_plain a ha) (const_parts_plain b hb);
     }
 
   -- Memory ran out after some of the parts.
@@ -193,6 +196,7 @@ module _ {Key Id Name : Type 0} {r q : State Key Id Name} (M : Manners) (v : Var
       (λ u. leaves_const_parts (NamesTypesTo u) a) (λ u. leaves_const_parts (NamesTypesTo u) b)
       (keeps_binds r.store q.store (const_parts_of a) (const_parts_of b)
       (f.exact exact is (const_looked_at a) (const_parts_pair r.store a b pair)).2))
+      (λ ha hb. f.full (const_parts_plain a ha) (const_parts_plain b hb))
 
   -- All parts of two constants were related, and so are the constants.
   consts_relate : (o : AreOfOneConst a b) →
@@ -249,6 +253,7 @@ module _ {Key Id Name : Type 0} {r q : State Key Id Name} (M : Manners) (v : Var
         (λ u. leaves_const_parts (NamesTypesTo u) a) (λ u. leaves_const_parts (NamesTypesTo u) b)
         (fronted_exactly (const_head_of a) v i (const_parts_of a) (const_parts_of b) are ea eb f exact is
         (const_looked_at a) (const_parts_pair r.store a b pair));
+    full = λ ha hb. f.full (const_parts_plain a ha) (const_parts_plain b hb);
   }
 
 module _ {Key Id Name : Type 0} {X : Type 0} (M : Manners) (r : State Key Id Name) (v : Variance) (tree : X → Tree) where
@@ -270,6 +275,7 @@ module _ {Key Id Name : Type 0} {X : Type 0} (M : Manners) (r : State Key Id Nam
     };
     exact = λ exact is pair.
         (pair.bindings, exact_itself r.store a b e, keeps_pair r.store r.store a b (keeps_itself r.store));
+    full = λ ha hb. full_itself r.store;
   }
 
   -- Two terms are refused at once.
@@ -281,6 +287,7 @@ module _ {Key Id Name : Type 0} {X : Type 0} (M : Manners) (r : State Key Id Nam
     passes = passes_nowhere (weight r.store a + weight r.store b) r;
     verdict = (n, o, k);
     exact = λ exact is pair. (u pair, binds_itself r.store a b);
+    full = λ ha hb. full_itself r.store;
   }
 
   pub types_differ : (x y : TyKey Key) (e : TypeError Key Id Name) → v ≢ Bivariant → IsFormed ((r.meaning).ty x) →

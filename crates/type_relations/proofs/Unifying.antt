@@ -131,7 +131,7 @@ no_form s x h ts f e = let z = sym (leaf_erased s x f.0 f.1) ∙ e in absurd (cc
 pub alike_heads : (h k : Head) (ts us : Tree) → h ≡ k → AreAlike (node h ts) (node k us)
 alike_heads h k ts us e = ap (λ z. node (outer_head z) nil) e
 
-one_head : (s : Assign) (h k : Head) (ts us : Tree) → Unifies s (node h ts) (node k us) → h ≡ k
+pub one_head : (s : Assign) (h k : Head) (ts us : Tree) → Unifies s (node h ts) (node k us) → h ≡ k
 one_head s h k ts us e = cc
 
 alike_unified : (s : Assign) (a b : Tree) → IsFormed a → IsFormed b → Unifies s a b → AreAlike a b
@@ -154,7 +154,7 @@ erased_count s (leaf x) l = absurd l
 erased_count s (node h ts) l = absurd l
 erased_count s (bind ks t) l = absurd l
 
-unified_counts : (s : Assign) (h : Head) (ts us a b : Tree) → h ≢ value_type → a ≡ node h ts → b ≡ node h us →
+pub unified_counts : (s : Assign) (h : Head) (ts us a b : Tree) → h ≢ value_type → a ≡ node h ts → b ≡ node h us →
     IsList ts → IsList us → Unifies s a b → count ts ≡ count us
 unified_counts s h ts us a b o p q l m e =
     let z = (forms_unify_by_parts s h ts us o).0 (subst₂ (Unifies s) p q e) in
@@ -277,7 +277,7 @@ module _ {Key Id Name : Type 0} (m : Meaning Key Id Name) where
       absurd (let n : IsFirstOrder (node (expression op) ts) = subst IsFirstOrder p h in n.0)
 
 -- Two types of one form are unified just where their parts are.
-erased_parameters : (x y : Atom) → (atom_sort x ≡ region_sort → ⊥) → (atom_sort y ≡ region_sort → ⊥) →
+pub erased_parameters : (x y : Atom) → (atom_sort x ≡ region_sort → ⊥) → (atom_sort y ≡ region_sort → ⊥) →
     plain_atom x ≡ plain_atom y → erase_atom x ≡ erase_atom y
 erased_parameters x y o l e = erased_plain x o ∙ e ∙ sym (erased_plain y l)
 

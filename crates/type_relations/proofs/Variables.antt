@@ -1,5 +1,5 @@
 -- Which variable a form is, and which a type or a constant is by its form.
-use Rattle.std.proofs.Common.{◌≡◌, ℕ, Option, Some, None, IfSome, IfNone, refl, sym, ap, ◌∙◌}
+use Rattle.std.proofs.Common.{◌≡◌, ℕ, Option, Some, None, IfSome, IfNone, refl, sym, ap, ◌∙◌, arith}
 use Rattle.relation_terms.specs.Heads.{Sort, const_sort, Admits, bound_sort, atom_sort, head_sort, Head, VarKind}
 use Rattle.relation_terms.specs.Heads.{type_var, const_var, expression, value, unevaluated}
 use Rattle.relation_terms.specs.Heads.{variable, bound, placeholder, atom, unknown}
@@ -15,10 +15,11 @@ use Rattle.relation_terms.specs.declared.terms.const_kind.InferConst.{InferConst
 use Rattle.relation_terms.specs.declared.terms.const_kind.InferConst.TheVariants.{Var, Fresh}
 use Rattle.relation_terms.specs.declared.terms.numbers.TyVid.{TyVid}
 use Rattle.relation_terms.specs.declared.terms.numbers.ConstVid.{ConstVid}
+use Rattle.type_relations.specs.Relation.{StaysWithin}
 use Rattle.type_relations.specs.Covered.{IsCovered, IsCoveredHead}
 use Rattle.type_relations.specs.Parts.{IsFormedConst}
 
--- A covered constant that is no variable is of a form.
+-- A covered constant that is no variable and no bound one is of a form.
 const_admitted : (s : Sort) → Admits const_sort s → s ≡ const_sort
 const_admitted const_sort a = refl
 const_admitted s a = absurd a
@@ -29,17 +30,17 @@ form_of_const value ts e c = tt
 form_of_const (unevaluated d) ts e c = absurd c
 form_of_const h ts e c = absurd (cc)
 
-pub covered_formed_const : (t : Tree) → IsTerm const_sort t → IsCovered t → ((k : VarKind) (n : ℕ) → t ≡ leaf (variable k n) → ⊥) →
-    IsFormedConst t
-covered_formed_const (leaf (variable k n)) s c o = absurd (o k n refl)
-covered_formed_const (leaf (bound k d i)) s c o = absurd c
-covered_formed_const (leaf (placeholder k u n)) s c o = const_admitted (bound_sort k) s
-covered_formed_const (leaf (atom x)) s c o = const_admitted (atom_sort x) s
-covered_formed_const (leaf unknown) s c o = absurd c
-covered_formed_const (node h ts) s c o = form_of_const h ts (const_admitted (head_sort h) s.0) c.0
-covered_formed_const (bind ks t) s c o = absurd c
-covered_formed_const nil s c o = absurd s
-covered_formed_const (cons t ts) s c o = absurd s
+pub covered_formed_const : (t : Tree) → IsTerm const_sort t → IsCovered t → StaysWithin 0 t →
+    ((k : VarKind) (n : ℕ) → t ≡ leaf (variable k n) → ⊥) → IsFormedConst t
+covered_formed_const (leaf (variable k n)) s c w o = absurd (o k n refl)
+covered_formed_const (leaf (bound k d i)) s c w o = absurd (omega (arith, w))
+covered_formed_const (leaf (placeholder k u n)) s c w o = const_admitted (bound_sort k) s
+covered_formed_const (leaf (atom x)) s c w o = const_admitted (atom_sort x) s
+covered_formed_const (leaf unknown) s c w o = absurd c
+covered_formed_const (node h ts) s c w o = form_of_const h ts (const_admitted (head_sort h) s.0) c.0
+covered_formed_const (bind ks t) s c w o = absurd s
+covered_formed_const nil s c w o = absurd s
+covered_formed_const (cons t ts) s c w o = absurd s
 
 -- A type variable is the form of none but a type variable, and a type is no variable of a constant.
 infer_variable : (i : InferTy) (n : ℕ) → ((v : TyVid) → i ≡ TyVar v → ⊥) → infer_tree i ≡ leaf (variable type_var n) → ⊥
@@ -97,6 +98,6 @@ module _ {Key Id Name : Type 0} (m : Meaning Key Id Name) (k : ConstKind Key Id 
   some_const_variable None h = h
 
   pub no_const_variable : IsTerm const_sort t → (o : Option ConstVid) → IfNone o ((v : ConstVid) → k ≡ ConstInfer (Var v) → ⊥) →
-      IfNone o (IsCovered t → IsFormedConst t)
+      IfNone o (IsCovered t → StaysWithin 0 t → IsFormedConst t)
   no_const_variable s (Some v) h = h
-  no_const_variable s None h = λ c. covered_formed_const t s c (λ j n q. const_no_variable m k j n h (sym e ∙ q))
+  no_const_variable s None h = λ c w. covered_formed_const t s c w (λ j n q. const_no_variable m k j n h (sym e ∙ q))

@@ -1,46 +1,19 @@
 -- Opening binders in a context: placeholders or new variables put for what a binder binds.
-use Rattle.std.specs.Prelude.{◌≡◌, ℕ, suc, List, [], ◌∷◌, ◌++◌, Option, Some, None, IsTrue, Result, Ok, Err, slice_get}
+use Rattle.std.specs.Prelude.{◌≡◌, ℕ, List, [], ◌∷◌, ◌++◌, Option, Some, None, IsTrue, Result, Ok, Err}
 use Rattle.relation_terms.specs.declared.terms.binder.Binder.{Binder}
-use Rattle.relation_terms.specs.Heads.{type_kind, region_kind, const_kind, BoundKind, bound_kind, bound_sort}
-use Rattle.relation_terms.specs.Heads.{VarKind, type_var, const_var, region_var, Leaf, variable, bound}
-use Rattle.relation_terms.specs.Trees.{Tree, leaf, node, bind, nil, cons, inst, known}
+use Rattle.relation_terms.specs.Heads.{type_kind, region_kind, const_kind, BoundKind, bound_kind}
+use Rattle.relation_terms.specs.Heads.{VarKind, type_var, const_var, region_var, variable}
+use Rattle.relation_terms.specs.Trees.{Tree, leaf, bind, inst, known}
 use Rattle.relation_terms.specs.Meaning.{Meaning, under}
 use Rattle.type_relations.specs.Contexts.{Context}
 use Rattle.type_relations.specs.Generalising.{MakesUnbound}
-use Rattle.type_relations.specs.Steps.{MakesVariable, EntersForall}
+use Rattle.type_relations.specs.Steps.{MakesVariable, ChangesNothing, EntersForall}
 use Rattle.type_relations.specs.Stores.{Store}
 
 -- The variables of a list that there may be.
 abbrev pub kinds_in : Option (List BoundKind) → List BoundKind
 kinds_in (Some ks) = ks
 kinds_in None = []
-
--- A leaf that the binder `depth` steps up binds is of the kind that stands at its place in the binder's list.
-abbrev pub IsBoundAs : List BoundKind → ℕ → Leaf → Type 0
-IsBoundAs ks depth (bound k d i) = d ≡ depth →
-    (q : BoundKind) × (slice_get ks i ≡ Some q) × (bound_sort q ≡ bound_sort k)
-IsBoundAs ks depth l = Unit {0}
-
--- All that the binder `depth` steps up binds in a tree.
-abbrev pub AreBoundAs : List BoundKind → ℕ → Tree → Type 0
-AreBoundAs ks depth (leaf l) = IsBoundAs ks depth l
-AreBoundAs ks depth (node h ts) = AreBoundAs ks depth ts
-AreBoundAs ks depth (bind ls t) = AreBoundAs ks (suc depth) t
-AreBoundAs ks depth nil = Unit {0}
-AreBoundAs ks depth (cons t ts) = AreBoundAs ks depth t × AreBoundAs ks depth ts
-
--- What a binder binds stands in its body by places of its list, as what it is there.
-abbrev pub BindsByList : Tree → Type 0
-BindsByList (bind ks t) = AreBoundAs ks 0 t
-BindsByList t = Unit {0}
-
--- Each binder in a tree does that.
-abbrev pub BindByLists : Tree → Type 0
-BindByLists (leaf l) = Unit {0}
-BindByLists (node h ts) = BindByLists ts
-BindByLists (bind ks t) = AreBoundAs ks 0 t × BindByLists t
-BindByLists nil = Unit {0}
-BindByLists (cons t ts) = BindByLists t × BindByLists ts
 
 -- Of which kind a variable is that may stand for what a binder binds.
 abbrev pub variable_kind : BoundKind → VarKind
@@ -89,3 +62,16 @@ module _ {Key Id Name : Type 0} (c d : Context Key Id Name) where
   abbrev pub InstantiatesWithInfer : {K F : Type 0} → (Meaning Key Id Name → K → Tree) → Tree → Result K F → Type 0
   InstantiatesWithInfer tree t (Ok x) = IsTrue (known (tree d.meaning x)) × InstantiatesAs t (tree d.meaning x)
   InstantiatesWithInfer tree t (Err f) = MakesUnbound (c.store).universe c.store d.store
+
+  -- Of two binders the one was entered, and then the other instantiated, from one record through another to a third.
+  abbrev pub OpensFrom : Tree → Tree → Tree → Tree → Type 0
+  OpensFrom (bind ks t) (bind ls u) x y = (middle : Store) × EntersForall c.store middle ks t x ×
+      InstantiatesEach middle d.store ls u y
+  OpensFrom t u x y = ⊥
+
+  -- Both bodies were answered; or a growth was refused: a universe may have been made, and variables that stay unbound.
+  abbrev pub OpensBoth : {K F : Type 0} → (Meaning Key Id Name → K → Tree) → Tree → Tree → Result (K × K) F → Type 0
+  OpensBoth tree t u (Ok p) = IsTrue (known (tree d.meaning p.0)) × IsTrue (known (tree d.meaning p.1)) ×
+      OpensFrom t u (tree d.meaning p.0) (tree d.meaning p.1)
+  OpensBoth tree t u (Err f) = (middle : Store) × ChangesNothing c.store middle ×
+      MakesUnbound middle.universe middle d.store

@@ -12,8 +12,9 @@ use Rattle.relation_terms.specs.Heads.{alias_term, region_outlives, type_outlive
 use Rattle.relation_terms.specs.Heads.{well_formed, const_evaluatable, coerce, normalizes_to, alias_relate}
 use Rattle.relation_terms.specs.Heads.{environment, Leaf, variable, bound, placeholder, atom, unknown}
 use Rattle.relation_terms.specs.Trees.{Tree, leaf, node, bind, nil, cons}
+use Rattle.type_relations.specs.Bound.{AreBoundAs}
 
--- Types, regions, constants, value trees and patterns without parts: no error, and nothing that stands for a variable.
+-- Types, regions, constants, value trees, patterns and auto traits: no error, and nothing that stands for a variable.
 abbrev pub IsCoveredAtom : Atom → Type 0
 IsCoveredAtom bool_type = Unit {0}
 IsCoveredAtom char_type = Unit {0}
@@ -35,20 +36,20 @@ IsCoveredAtom (fresh_const n) = ⊥
 IsCoveredAtom (const_param i n) = Unit {0}
 IsCoveredAtom (value_leaf b n) = Unit {0}
 IsCoveredAtom not_null_pattern = Unit {0}
-IsCoveredAtom (existential_auto d) = ⊥
+IsCoveredAtom (existential_auto d) = Unit {0}
 IsCoveredAtom (unstable_feature d) = ⊥
 IsCoveredAtom ambiguous = ⊥
 
--- No bound variable. Variables of all kinds.
+-- Variables of all kinds, and what binders bind.
 abbrev pub IsCoveredLeaf : Leaf → Type 0
 IsCoveredLeaf (variable k n) = Unit {0}
-IsCoveredLeaf (bound k d i) = ⊥
+IsCoveredLeaf (bound k d i) = Unit {0}
 IsCoveredLeaf (placeholder k u n) = Unit {0}
 IsCoveredLeaf (atom x) = IsCoveredAtom x
 IsCoveredLeaf unknown = ⊥
 
--- Types, constants, value trees and patterns over parts, and lists of arguments: no alias, no unevaluated constant, and
--- nothing over a binder.
+-- Types, constants, value trees, patterns, signatures and predicates of trait objects over parts, and lists of arguments:
+-- no alias, and no unevaluated constant.
 abbrev pub IsCoveredHead : Head → Type 0
 IsCoveredHead (adt d) = Unit {0}
 IsCoveredHead (fn_def d) = Unit {0}
@@ -60,14 +61,14 @@ IsCoveredHead array = Unit {0}
 IsCoveredHead slice = Unit {0}
 IsCoveredHead pattern_type = Unit {0}
 IsCoveredHead tuple = Unit {0}
-IsCoveredHead unsafe_binder = ⊥
-IsCoveredHead dynamic = ⊥
-IsCoveredHead fn_ptr = ⊥
+IsCoveredHead unsafe_binder = Unit {0}
+IsCoveredHead dynamic = Unit {0}
+IsCoveredHead fn_ptr = Unit {0}
 IsCoveredHead (raw_ptr m) = Unit {0}
 IsCoveredHead (ref m) = Unit {0}
 IsCoveredHead (alias k d) = ⊥
-IsCoveredHead (signature v s a) = ⊥
-IsCoveredHead inputs = ⊥
+IsCoveredHead (signature v s a) = Unit {0}
+IsCoveredHead inputs = Unit {0}
 IsCoveredHead (unevaluated d) = ⊥
 IsCoveredHead (expression k) = Unit {0}
 IsCoveredHead value = Unit {0}
@@ -76,9 +77,9 @@ IsCoveredHead value_branch = Unit {0}
 IsCoveredHead range_pattern = Unit {0}
 IsCoveredHead or_pattern = Unit {0}
 IsCoveredHead arguments = Unit {0}
-IsCoveredHead object = ⊥
-IsCoveredHead (existential_trait d) = ⊥
-IsCoveredHead (existential_projection d) = ⊥
+IsCoveredHead object = Unit {0}
+IsCoveredHead (existential_trait d) = Unit {0}
+IsCoveredHead (existential_projection d) = Unit {0}
 IsCoveredHead (trait_ref d) = ⊥
 IsCoveredHead (trait_clause p) = ⊥
 IsCoveredHead (host_effect c) = ⊥
@@ -95,10 +96,10 @@ IsCoveredHead normalizes_to = ⊥
 IsCoveredHead (alias_relate d) = ⊥
 IsCoveredHead environment = ⊥
 
--- A term that is covered throughout: its leaves and its forms are, and it has no binder.
+-- A term that is covered throughout: its leaves and its forms are, and each binder binds by its list.
 abbrev pub IsCovered : Tree → Type 0
 IsCovered (leaf l) = IsCoveredLeaf l
 IsCovered (node h ts) = IsCoveredHead h × IsCovered ts
-IsCovered (bind ks t) = ⊥
+IsCovered (bind ks t) = AreBoundAs ks 0 t × IsCovered t
 IsCovered nil = Unit {0}
 IsCovered (cons t ts) = IsCovered t × IsCovered ts

@@ -1,5 +1,5 @@
 -- Which error comes of relating two terms.
-use Rattle.std.specs.Prelude.{◌≡◌, ◌≢◌, ◌⊎◌, ℕ, zero, suc, ◌<◌, Bool}
+use Rattle.std.specs.Prelude.{◌≡◌, ◌≢◌, ◌⊎◌, ℕ, zero, suc, ◌<◌, Bool, List, [], ◌∷◌}
 use Rattle.relation_terms.specs.declared.terms.enums.Variance.{Variance}
 use Rattle.relation_terms.specs.declared.terms.enums.Variance.TheVariants.{Bivariant}
 use Rattle.relation_terms.specs.declared.terms.enums.Mutability.TheVariants.{Not}
@@ -7,7 +7,10 @@ use Rattle.relation_terms.specs.declared.terms.enums.Safety.{Safety}
 use Rattle.relation_terms.specs.declared.terms.enums.ExternAbi.{ExternAbi}
 use Rattle.relation_terms.specs.declared.terms.keys.TyKey.{TyKey}
 use Rattle.relation_terms.specs.declared.terms.keys.ConstKey.{ConstKey}
-use Rattle.relation_terms.specs.Heads.{const_sort, region_sort, pattern_sort, VarKind, type_var, const_var, BoundKind, bound_sort}
+use Rattle.relation_terms.specs.declared.terms.keys.ExistentialPredicatesKey.{ExistentialPredicatesKey}
+use Rattle.relation_terms.specs.declared.terms.ids.TraitId.{TraitId}
+use Rattle.relation_terms.specs.Heads.{const_sort, region_sort, pattern_sort, existential_sort, VarKind, type_var, const_var}
+use Rattle.relation_terms.specs.Heads.{var_sort, head_sort, BoundKind, bound_sort, existential_auto}
 use Rattle.relation_terms.specs.Heads.{Atom, Head, array, tuple, raw_ptr, ref, AliasKind, projection_alias, alias}
 use Rattle.relation_terms.specs.Heads.{adt, fn_def, closure, coroutine_closure, coroutine, coroutine_witness, slice}
 use Rattle.relation_terms.specs.Heads.{pattern_type, unsafe_binder, dynamic, fn_ptr, signature, inputs, unevaluated}
@@ -17,13 +20,15 @@ use Rattle.relation_terms.specs.Heads.{alias_term, region_outlives, type_outlive
 use Rattle.relation_terms.specs.Heads.{well_formed, const_evaluatable, coerce, normalizes_to, alias_relate, environment}
 use Rattle.relation_terms.specs.Heads.{expression, value, value_type, value_branch, Leaf, variable, bound, placeholder}
 use Rattle.relation_terms.specs.Heads.{atom, unknown}
-use Rattle.relation_terms.specs.Trees.{Tree, leaf, node, bind, nil, cons, apply, count, nth}
+use Rattle.relation_terms.specs.Trees.{Tree, leaf, node, bind, nil, cons, apply, inst, count, nth}
 use Rattle.relation_terms.specs.Meaning.{Meaning}
 use Rattle.relation_tools.specs.declared.error.ExpectedFound.{ExpectedFound}
 use Rattle.relation_tools.specs.declared.error.TypeError.{TypeError}
 use Rattle.relation_tools.specs.declared.error.TypeError.TheVariants.{Mismatch, Mutability, TupleSize, ArraySize}
 use Rattle.relation_tools.specs.declared.error.TypeError.TheVariants.{Sorts, CyclicTy, CyclicConst, ConstMismatch}
 use Rattle.relation_tools.specs.declared.error.TypeError.TheVariants.{ArgumentSorts, ArgumentMutability, ProjectionMismatched}
+use Rattle.relation_tools.specs.declared.error.TypeError.TheVariants.{VariadicMismatch, SafetyMismatch, AbiMismatch, ArgCount}
+use Rattle.relation_tools.specs.declared.error.TypeError.TheVariants.{Traits, ExistentialMismatch}
 use Rattle.type_relations.specs.Relation.{Items, plain_atom, sort_of, part_at, IsError}
 use Rattle.type_relations.specs.Stores.{Store, bound_to, entry_of, resolved, universe_of, MayStandFor}
 use Rattle.type_relations.specs.Steps.{OneClass}
@@ -135,6 +140,47 @@ pub data AreAlikeConsts (t u : Tree) : Type 0 where
 pub data PatternError {Key Id Name : Type 0} (a b : Tree) (e : TypeError Key Id Name) : Type 0 where
   unlike_patterns : sort_of a ≡ pattern_sort → sort_of b ≡ pattern_sort → (AreOfOneForm a b → ⊥) → e ≡ Mismatch →
       PatternError a b e
+
+-- Two signatures differ in what they say besides their types, or two lists of inputs in their number, and the error that
+-- says so: the first of whether more may follow, safety, convention and number that differs.
+pub data SignatureError {Key Id Name : Type 0} (a b : Tree) (e : TypeError Key Id Name) : Type 0 where
+  unlike_variadic : {x y : Bool} {s t : Safety} {k l : ExternAbi} {ts us : Tree} → a ≡ node (signature x s k) ts →
+      b ≡ node (signature y t l) us → x ≢ y → e ≡ VariadicMismatch (record { expected = x; found = y }) →
+      SignatureError a b e
+  unlike_safety : {x : Bool} {s t : Safety} {k l : ExternAbi} {ts us : Tree} → a ≡ node (signature x s k) ts →
+      b ≡ node (signature x t l) us → s ≢ t → e ≡ SafetyMismatch (record { expected = s; found = t }) →
+      SignatureError a b e
+  unlike_abi : {x : Bool} {s : Safety} {k l : ExternAbi} {ts us : Tree} → a ≡ node (signature x s k) ts →
+      b ≡ node (signature x s l) us → k ≢ l → e ≡ AbiMismatch (record { expected = k; found = l }) →
+      SignatureError a b e
+  unlike_counts : {ts us : Tree} → a ≡ node inputs ts → b ≡ node inputs us → count ts ≢ count us → e ≡ ArgCount →
+      SignatureError a b e
+
+-- Two predicates of trait objects are of one of the three forms.
+pub data AreAlikeExistentials (a b : Tree) : Type 0 where
+  both_traits : {c d : ℕ} {ts us : Tree} → a ≡ node (existential_trait c) ts → b ≡ node (existential_trait d) us →
+      AreAlikeExistentials a b
+  both_projections : {c d : ℕ} {ts us : Tree} → a ≡ node (existential_projection c) ts →
+      b ≡ node (existential_projection d) us → AreAlikeExistentials a b
+  both_auto_traits : {c d : ℕ} → a ≡ leaf (atom (existential_auto c)) → b ≡ leaf (atom (existential_auto d)) →
+      AreAlikeExistentials a b
+
+-- The same of two under their binders.
+pub data AreAlikeMembers (t u : Tree) : Type 0 where
+  under_binders : {ks ls : List BoundKind} {a b : Tree} → t ≡ bind ks a → u ≡ bind ls b → AreAlikeExistentials a b →
+      AreAlikeMembers t u
+
+-- What stands for a variable of a binder where that is opened: a variable of its sort, or a placeholder for it.
+abbrev pub IsStandIn : BoundKind → Tree → Type 0
+IsStandIn k (leaf (variable j n)) = var_sort j ≡ bound_sort k
+IsStandIn k (leaf (placeholder q u n)) = q ≡ k
+IsStandIn k t = ⊥
+
+-- One for each variable of a binder.
+abbrev pub StandFor : List BoundKind → List Tree → Type 0
+StandFor [] [] = Unit {0}
+StandFor (k ∷ ks) (x ∷ xs) = IsStandIn k x × StandFor ks xs
+StandFor ks xs = ⊥
 
 -- No error of the lengths of two arrays, as which constants that differ are sizes that differ.
 abbrev pub IsNoLengths : {Key Id Name : Type 0} → TypeError Key Id Name → Tree → Tree → Type 0
@@ -271,6 +317,40 @@ module _ {Key Id Name : Type 0} (m : Meaning Key Id Name) where
     operations : {k l : ℕ} {ts us : Tree} → m.const_ x ≡ node (expression k) ts → m.const_ y ≡ node (expression l) us →
         (k ≢ l) ⊎ (count ts ≢ count us) → ConstFormError x y Mismatch
 
+  -- Two predicates of trait objects are over different items, of different forms or with unlike numbers of arguments, and
+  -- the error that says so.
+  pub data ExistentialError (a b : Tree) : TypeError Key Id Name → Type 0 where
+    unlike_traits : {ts us : Tree} (c d : TraitId Id) → a ≡ node (existential_trait (m.id c.0)) ts →
+        b ≡ node (existential_trait (m.id d.0)) us → m.id c.0 ≢ m.id d.0 →
+        ExistentialError a b (Traits (record { expected = c; found = d }))
+    unlike_auto_traits : (c d : TraitId Id) → a ≡ leaf (atom (existential_auto (m.id c.0))) →
+        b ≡ leaf (atom (existential_auto (m.id d.0))) → m.id c.0 ≢ m.id d.0 →
+        ExistentialError a b (Traits (record { expected = c; found = d }))
+    unlike_projections : {ts us : Tree} (c d : Id) → a ≡ node (existential_projection (m.id c)) ts →
+        b ≡ node (existential_projection (m.id d)) us → m.id c ≢ m.id d →
+        ExistentialError a b (ProjectionMismatched (record { expected = c; found = d }))
+    unlike_arguments : {h : Head} {ts us : Tree} → head_sort h ≡ existential_sort → a ≡ node h ts → b ≡ node h us →
+        count ts ≢ count us → ExistentialError a b Mismatch
+    unlike_existentials : sort_of a ≡ existential_sort → sort_of b ≡ existential_sort →
+        (AreAlikeExistentials a b → ⊥) → ExistentialError a b Mismatch
+
+  -- Two trait objects have unlike numbers of predicates, or at one place such of different forms.
+  pub data ObjectError (x y : ExistentialPredicatesKey Key) : TypeError Key Id Name → Type 0 where
+    unlike_numbers : count (m.existential_predicates x) ≢ count (m.existential_predicates y) →
+        ObjectError x y (ExistentialMismatch (record { expected = x; found = y }))
+    unlike_members : (i : ℕ) → i < count (m.existential_predicates x) → i < count (m.existential_predicates y) →
+        (AreAlikeMembers (nth i (m.existential_predicates x)) (nth i (m.existential_predicates y)) → ⊥) →
+        ObjectError x y (ExistentialMismatch (record { expected = x; found = y }))
+
+  -- Two patterns, signatures, lists of inputs, predicates of trait objects or lists of these are not of one form, and the
+  -- error that says so.
+  pub data PartError (a b : Tree) (e : TypeError Key Id Name) : Type 0 where
+    pattern_error : PatternError a b e → PartError a b e
+    signature_error : SignatureError a b e → PartError a b e
+    existential_error : ExistentialError a b e → PartError a b e
+    object_error : (x y : ExistentialPredicatesKey Key) → node object (m.existential_predicates x) ≡ a →
+        node object (m.existential_predicates y) ≡ b → ObjectError x y e → PartError a b e
+
   -- A variable can't be bound to a term, and the error that says why: it stands in what the term comes to; or there
   -- stands a placeholder of a type or a constant that is of a universe beyond the variable's.
   pub data BindingError (st : Store) (a b : Tree) (e : TypeError Key Id Name) : Type 0 where
@@ -283,18 +363,22 @@ module _ {Key Id Name : Type 0} (m : Meaning Key Id Name) where
         StandsOutside (placeholder q u i) (apply (resolved st) b) → bound_sort q ≢ region_sort →
         universe_of st k n < u → e ≡ Mismatch → BindingError st a b e
 
-  -- The error comes of a pair that is met when two terms are related at a variance that is not bivariance: of two types,
-  -- constants or patterns, as read, that differ in form; of what they are read as by what is recorded; of two arguments
-  -- of different kinds; of two parts at one place of one form, at the variance of that place, as the whole's error; or of
-  -- a variable that can't be bound to the other side. Two terms of which one is a variable that may be bound to the
-  -- other do not differ in form.
+  -- The error comes of a pair that is met when two terms are related at a variance that is not bivariance: of two
+  -- types, constants, patterns, signatures or predicates of trait objects, as read, that differ in form; of what they are
+  -- read as by what is recorded; of two arguments of different kinds; of two parts at one place of one form, at the
+  -- variance of that place, as the whole's error; of the bodies of two binders, with variables or placeholders for what
+  -- these bind; or of a variable that can't be bound to the other side. Two terms of which one is a variable that may be bound to the other
+  -- do not differ in form.
   pub data ErrorOf (c : Items) (st : Store) : Variance → TypeError Key Id Name → Tree → Tree → Type 0 where
     of_forms : {v : Variance} {e : _} {a b : Tree} (x y : TyKey Key) → v ≢ Bivariant → m.ty x ≡ a → m.ty y ≡ b →
         (AreBindable a b → ⊥) → FormError x y e → ErrorOf c st v e a b
     of_const_forms : {v : Variance} {e : _} {a b : Tree} (x y : ConstKey Key) → v ≢ Bivariant → m.const_ x ≡ a →
         m.const_ y ≡ b → (AreBindable a b → ⊥) → ConstFormError x y e → ErrorOf c st v e a b
     of_kinds : {v : Variance} {a b : Tree} → v ≢ Bivariant → sort_of a ≢ sort_of b → ErrorOf c st v Mismatch a b
-    of_patterns : {v : Variance} {e : _} {a b : Tree} → v ≢ Bivariant → PatternError a b e → ErrorOf c st v e a b
+    of_part_forms : {v : Variance} {e : _} {a b : Tree} → v ≢ Bivariant → PartError a b e → ErrorOf c st v e a b
+    of_bodies : {v : Variance} {e : _} {ks ls : List BoundKind} {a b t u : Tree} (xs ys : List Tree) →
+        a ≡ bind ks t → b ≡ bind ls u → StandFor ks xs → StandFor ls ys →
+        ErrorOf c st v e (inst xs 0 t) (inst ys 0 u) → ErrorOf c st v e a b
     of_entries : {v : Variance} {e : _} {a b t u : Tree} → IsReadAs st a t → IsReadAs st b u → ErrorOf c st v e t u →
         ErrorOf c st v e a b
     of_parts : {v : Variance} {e : _} {h : Head} {a b ts us : Tree} (i : ℕ) → a ≡ node h ts → b ≡ node h us →

@@ -65,6 +65,9 @@ module _ {Key Id Name : Type 0} where
   abbrev pub AskedArgsAt : Manners → State Key Id Name → Variance → GenericArgKind Key → GenericArgKind Key → Type 0
   AskedArgsAt M r v a b = Asked M r (xform r.ambient v) (arg_tree r.meaning a) (arg_tree r.meaning b)
 
+  abbrev pub AskedPartsAt : Manners → State Key Id Name → Variance → Part Key Id → Part Key Id → Type 0
+  AskedPartsAt M r v a b = Asked M r (xform r.ambient v) (part_tree r.meaning a) (part_tree r.meaning b)
+
   -- The same of two lists of arguments, as the form over them.
   abbrev pub AskedLists : Manners → State Key Id Name → (Meaning Key Id Name → Head) → ArgsKey Key → ArgsKey Key →
       Type 0
@@ -103,11 +106,16 @@ module _ {Key Id Name : Type 0} where
   RelatedParts M r q a b result =
       Related M r q r.ambient (part_tree r.meaning a) (part_tree r.meaning b) (part_tree q.meaning) result
 
-  -- The same of arguments at a variance, seen from the ambient one.
+  -- The same of arguments, and of parts, at a variance, seen from the ambient one.
   abbrev pub RelatedArgsAt : Manners → State Key Id Name → State Key Id Name → Variance → GenericArgKind Key →
       GenericArgKind Key → Result (GenericArgKind Key) (RelateFault Key Id Name) → Type 0
   RelatedArgsAt M r q v a b result =
       Related M r q (xform r.ambient v) (arg_tree r.meaning a) (arg_tree r.meaning b) (arg_tree q.meaning) result
+
+  abbrev pub RelatedPartsAt : Manners → State Key Id Name → State Key Id Name → Variance → Part Key Id → Part Key Id →
+      Result (Part Key Id) (RelateFault Key Id Name) → Type 0
+  RelatedPartsAt M r q v a b result =
+      Related M r q (xform r.ambient v) (part_tree r.meaning a) (part_tree r.meaning b) (part_tree q.meaning) result
 
   -- The same of two lists of arguments, as the form over them.
   abbrev pub RelatedLists : Manners → State Key Id Name → State Key Id Name → (Meaning Key Id Name → Head) →

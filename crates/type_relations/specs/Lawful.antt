@@ -18,7 +18,7 @@ use Rattle.type_relations.specs.Relation.{Items, Interpretation, part_at, Way, a
 use Rattle.type_relations.specs.Relation.{first_opened}
 use Rattle.type_relations.specs.Stores.{Store, IsSound, Satisfies, IsTermIn, weight}
 use Rattle.type_relations.specs.Goals.{Goal, Registered, ByDeclared, IsQuiet, Relates}
-use Rattle.type_relations.specs.Steps.{IsLater}
+use Rattle.type_relations.specs.Steps.{IsLater, HasNoBinder, BindsNoBinder, InstantiatesNone, StaysFull, StaysFullFor}
 use Rattle.type_relations.specs.Outcomes.{Outcome, StepsTo, CarriesOver, NeverOne, Exact, ExactStep, NoUnifier}
 use Rattle.type_relations.specs.Headline.{IsFirstOrderPair}
 use Rattle.type_relations.specs.OneUniverse.{KeepsUniverse, KeepsUniverseOf, LeadsInUniverse, BindsNoMore, BindsFewer}
@@ -224,12 +224,13 @@ module _ {Key Id Name : Type 0} where
   ExactlyBy M before after (second_opened ks ls v) a b result = Unit {0}
   ExactlyBy M before after (first_opened ks ls v) a b result = Unit {0}
 
-  -- Two things were related.
+  -- Two things were related. Where no variable could be made of terms without binders, and they are such, none was.
   pub record RelatedBy {X : Type 0} (M : Manners) (r q : State Key Id Name) (way : Way) (a b : Tree)
       (tree : X → Tree) (result : Result X (RelateFault Key Id Name)) : Type 0 where
     pub passes : Passes (weight r.store a + weight r.store b) r q
     pub verdict : VerdictBy M r q passes.added way a b tree result
     pub exact : ExactlyBy (M r.settings) r.store q.store way a b result
+    pub full : StaysFullFor r.store q.store a b
 
   -- Two terms were related at a variance.
   abbrev pub Related : {X : Type 0} → Manners → State Key Id Name → State Key Id Name → Variance → Tree →
@@ -249,7 +250,7 @@ module _ {Key Id Name : Type 0} where
   Leads r q added a b v x y = LeadsBy r q added (at r.ambient) a b (at v) x y
 
   -- A step to two forms that are to be related by their parts, which costs nothing of the budget. Whatever the left
-  -- form is related with, the left term is.
+  -- form is related with, the left term is. No binder stands in the forms where none stood in the terms or was bound.
   pub record LeadsToParts (M : Manners) (IsForm : Tree → Type 0) (r q : State Key Id Name)
       (added : List Goal) (a b x y : Tree) : Type 0 where
     pub leads : Leads r q added a b r.ambient x y
@@ -259,11 +260,13 @@ module _ {Key Id Name : Type 0} where
     pub answers : (t : Tree) → CarriesOver (items_in q) q.environment q.store q.goals (at r.ambient) x t
         (at r.ambient) a t
     pub left : (M r.settings).keeps_left → x ≡ a
+    pub no_binder : BindsNoBinder r.store → HasNoBinder a → HasNoBinder b → HasNoBinder x × HasNoBinder y
     pub same_budget : (q.store).budget ≡ (r.store).budget
     pub not_larger : weight q.store x + weight q.store y ≤ weight r.store a + weight r.store b
 
-  -- A step to another pair that is to be related at a variance, for one of the budget. What was asked about is read as
-  -- two terms. When the pair is related, the left term is related with the answer.
+  -- A step to another pair that is to be related at a variance, for one of the budget, where something could be
+  -- instantiated. What was asked about is read as two terms. When the pair is related, the left term is related with
+  -- the answer.
   pub record LeadsAgain (M : Manners) (r q : State Key Id Name) (added : List Goal)
       (a b read_left read_right : Tree) (v : Variance) (x y answer : Tree) : Type 0 where
     pub leads : Leads r q added a b (xform r.ambient v) x y
@@ -275,6 +278,7 @@ module _ {Key Id Name : Type 0} where
     pub left : (M r.settings).keeps_left → answer ≡ a
     pub answer_known : IsTrue (known answer)
     pub falls : (r.store).budget ≡ suc (q.store).budget
+    pub may_instantiate : InstantiatesNone r.store → ⊥
     pub not_larger : weight q.store x + weight q.store y ≤ grown 1 (weight r.store a + weight r.store b)
 
   -- What a step's result says of two terms.
@@ -296,13 +300,14 @@ module _ {Key Id Name : Type 0} where
       ExactStep r.store q.store a b (tree x) (tree y) × LeadsInUniverse r.store q.store a b (tree x) (tree y)
   ExactVerdict {K} r q a b tree (Err f) = ExactResult {X = K} r.store q.store a b (Err f)
 
-  -- A step was taken.
+  -- A step was taken. Where no variable could be made of terms without binders, and they are such, none was.
   pub record Stepped {K : Type 0} (M : Manners) (F : Tree → Type 0) (r q : State Key Id Name)
       (a b : Tree) (tree : K → Tree) (result : Result (Step K) (RelateFault Key Id Name)) : Type 0 where
     pub passes : Passes (weight r.store a + weight r.store b) r q
     pub verdict : StepVerdict M F r q passes.added a b tree result
     pub exact : (M r.settings).is_exact → r.ambient ≡ Invariant → IsFirstOrderPair r.store a b →
         ExactVerdict r q a b tree result
+    pub full : StaysFullFor r.store q.store a b
 
   -- A fault is want of memory.
   abbrev pub OnlyMemory : {X : Type 0} → Result X (RelateFault Key Id Name) → Type 0
@@ -311,8 +316,8 @@ module _ {Key Id Name : Type 0} where
   OnlyMemory (Err f) = ⊥
 
   -- Something was noted: the record keeps all its assignments, up to erasure too, and stays first-order and in its
-  -- universe; nothing of the budget is spent, no goal that was added asks anything of two terms, and a fault is want of
-  -- memory.
+  -- universe; nothing of the budget is spent, no variable is made where none could be, no goal that was added asks
+  -- anything of two terms, and a fault is want of memory.
   pub record Noted {X : Type 0} (r q : State Key Id Name) (result : Result X (RelateFault Key Id Name)) : Type 0 where
     pub passes : Passes 0 r q
     pub keeps : (w : Interpretation) (s : _) → Satisfies w r.store s → Satisfies w q.store s
@@ -321,4 +326,5 @@ module _ {Key Id Name : Type 0} where
     pub universe : KeepsUniverse r.store q.store
     pub quiet : All IsQuiet passes.added
     pub same_budget : (q.store).budget ≡ (r.store).budget
+    pub full : StaysFull r.store q.store
     pub fault : OnlyMemory result

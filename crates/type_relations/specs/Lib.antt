@@ -14,6 +14,7 @@ pub mod ErasureLaws
 pub mod StoreLaws
 pub mod RegionTerms
 pub mod RejectionLaws
+pub mod Bound
 pub mod Covered
 pub mod Measures
 pub mod Decided
@@ -35,6 +36,7 @@ pub mod Resolving
 pub mod NumberValues
 pub mod ContextCalls
 pub mod Binders
+pub mod Rounds
 pub mod OpeningLaws
 pub mod NumberVars
 pub mod Solving

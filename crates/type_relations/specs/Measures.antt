@@ -2,7 +2,7 @@
 use Rattle.std.specs.Prelude.{◌≡◌, ℕ, zero, suc, ◌+◌, ◌*◌, ◌≤◌}
 use Rattle.relation_terms.specs.Trees.{Tree}
 use Rattle.type_relations.specs.Stores.{Store, weight, all_bound}
-use Rattle.type_relations.specs.Steps.{IsLater, MakesToInstantiate}
+use Rattle.type_relations.specs.Steps.{IsLater, MakesNoNumber}
 
 -- The bound on sizes after `j` instantiations, each of which squares it at most.
 abbrev pub grown : ℕ → ℕ → ℕ
@@ -16,10 +16,10 @@ depth (suc k) n = suc (depth k (n * n))
 
 -- Between two states a pair of size `n` was related, or a part of the work for it done: the later one is later, each
 -- root that was bound to a term took one from the budget, and each of these squared sizes at most; no variable of a
--- number was made, and none at all where nothing could be instantiated.
+-- number was made.
 pub record Goes (n : ℕ) (before after : Store) : Type 0 where
   pub later : IsLater before after
-  pub made : MakesToInstantiate before after
+  pub made : MakesNoNumber before after
   pub spent : ℕ
   pub counts : before.budget ≡ spent + after.budget
   pub binds : all_bound after ≡ spent + all_bound before

@@ -4,7 +4,8 @@ use Rattle.relation_terms.specs.Heads.{BoundKind}
 use Rattle.relation_terms.specs.Trees.{Tree, bind}
 use Rattle.type_relations.specs.Stores.{Store, IsTermIn, IsSound, weight}
 use Rattle.type_relations.specs.Steps.{Makes, EntersForall, InstantiatesBinder}
-use Rattle.type_relations.specs.Binders.{BindsByList, BindByLists, MakesEach, InstantiatesEach}
+use Rattle.type_relations.specs.Bound.{BindsByList, BindByLists}
+use Rattle.type_relations.specs.Binders.{MakesEach, InstantiatesEach}
 
 -- Making a variable for each place of a binder's list is making the variables of the binder; and a body with these put
 -- in is opened by them.

@@ -1,11 +1,14 @@
 -- Types, constants and patterns with an outermost form, and the parts that relating goes through.
-use Rattle.std.specs.Prelude.{◌≡◌}
+use Rattle.std.specs.Prelude.{◌≡◌, ◌⊎◌}
 use Rattle.relation_terms.specs.Heads.{type_sort, const_sort, head_sort, atom_sort, leaf_sort, placeholder, atom}
 use Rattle.relation_terms.specs.Heads.{Head, pattern_type, tuple, unevaluated, expression, value, value_branch}
-use Rattle.relation_terms.specs.Heads.{range_pattern, or_pattern, not_null_pattern}
+use Rattle.relation_terms.specs.Heads.{range_pattern, or_pattern, not_null_pattern, fn_ptr, unsafe_binder, dynamic, object}
+use Rattle.relation_terms.specs.Heads.{signature, inputs, existential_trait, existential_projection, existential_auto}
 use Rattle.relation_terms.specs.Trees.{Tree, leaf, node, nil, cons}
 use Rattle.relation_terms.specs.declared.terms.part_kind.Part.{Part}
-use Rattle.relation_terms.specs.declared.terms.part_kind.Part.TheVariants.{Ty, Const, Pat}
+use Rattle.relation_terms.specs.declared.terms.part_kind.Part.TheVariants.{Region, Ty, Const, ValTree, Pat, ValueType}
+use Rattle.relation_terms.specs.declared.terms.part_kind.Part.TheVariants.{Binder, Signature, Inputs, Existential, Object}
+use Rattle.relation_terms.specs.Parts.{part_sort}
 
 -- A type with an outermost form: no variable and no bound variable.
 abbrev pub IsFormed : Tree → Type 0
@@ -22,7 +25,7 @@ IsFormedConst (node (expression k) ts) = Unit {0}
 IsFormedConst (node value ts) = Unit {0}
 IsFormedConst t = ⊥
 
--- The parts of a type. A binder has none here: no binder is related.
+-- The parts of a type. A binder has none here: its body is opened.
 abbrev pub parts_of : Tree → Tree
 parts_of (node h ts) = ts
 parts_of t = nil
@@ -50,17 +53,51 @@ const_head_of (node (unevaluated d) ts) = unevaluated d
 const_head_of (node (expression k) ts) = expression k
 const_head_of t = value_branch
 
--- A pattern type, or a pattern: all its parts are related at its own variance.
-abbrev pub IsOfPattern : Tree → Type 0
-IsOfPattern (node pattern_type ts) = Unit {0}
-IsOfPattern (node range_pattern ts) = Unit {0}
-IsOfPattern (node or_pattern ts) = Unit {0}
-IsOfPattern (leaf (atom not_null_pattern)) = Unit {0}
-IsOfPattern t = ⊥
+-- A term of a form whose parts are related as parts of terms, and not as generic arguments: a pattern type or a pattern,
+-- what stands over a binder or under one.
+abbrev pub IsByParts : Tree → Type 0
+IsByParts (node pattern_type ts) = Unit {0}
+IsByParts (node range_pattern ts) = Unit {0}
+IsByParts (node or_pattern ts) = Unit {0}
+IsByParts (leaf (atom not_null_pattern)) = Unit {0}
+IsByParts (node fn_ptr ts) = Unit {0}
+IsByParts (node unsafe_binder ts) = Unit {0}
+IsByParts (node dynamic ts) = Unit {0}
+IsByParts (node object ts) = Unit {0}
+IsByParts (node (signature x s k) ts) = Unit {0}
+IsByParts (node inputs ts) = Unit {0}
+IsByParts (node (existential_trait d) ts) = Unit {0}
+IsByParts (node (existential_projection d) ts) = Unit {0}
+IsByParts (leaf (atom (existential_auto d))) = Unit {0}
+IsByParts t = ⊥
 
--- What may be a part of such a term: a type, a constant or a pattern.
-abbrev pub IsInPattern : {Key Id : Type 0} → Part Key Id → Type 0
-IsInPattern (Ty t) = Unit {0}
-IsInPattern (Const c) = Unit {0}
-IsInPattern (Pat p) = Unit {0}
-IsInPattern p = ⊥
+-- What may be a part of such a term, or such a term that is no type: all but value trees and types of values.
+abbrev pub IsRelatedPart : {Key Id : Type 0} → Part Key Id → Type 0
+IsRelatedPart (ValTree v) = ⊥
+IsRelatedPart (ValueType t) = ⊥
+IsRelatedPart p = Unit {0}
+
+-- The same, but for generic arguments and binders: what is compared before its parts are related.
+abbrev pub IsComparedPart : {Key Id : Type 0} → Part Key Id → Type 0
+IsComparedPart (Pat p) = Unit {0}
+IsComparedPart (Signature s) = Unit {0}
+IsComparedPart (Inputs t) = Unit {0}
+IsComparedPart (Existential p) = Unit {0}
+IsComparedPart (Object k) = Unit {0}
+IsComparedPart p = ⊥
+
+-- A generic argument.
+abbrev pub IsArgPart : {Key Id : Type 0} → Part Key Id → Type 0
+IsArgPart (Region r) = Unit {0}
+IsArgPart (Ty t) = Unit {0}
+IsArgPart (Const c) = Unit {0}
+IsArgPart p = ⊥
+
+-- A binder over a body.
+abbrev pub IsBinderPart : {Key Id : Type 0} → Part Key Id → Type 0
+IsBinderPart (Binder vs b) = Unit {0}
+IsBinderPart p = ⊥
+
+-- Two parts at one place: generic arguments, whose kinds may differ, or parts of one sort.
+abbrev pub ArePaired : {Key Id : Type 0} → Part Key Id → Part Key Id → Type 0
+ArePaired a b = (IsArgPart a × IsArgPart b) ⊎ (part_sort b ≡ part_sort a)

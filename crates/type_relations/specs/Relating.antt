@@ -15,6 +15,7 @@ use Rattle.relation_tools.specs.declared.error.RelateFault.TheVariants.{Memory}
 use Rattle.relation_tools.specs.Faults.{IfUnrelated, IfSpent}
 use Rattle.type_relations.specs.Stores.{IsTermIn}
 use Rattle.type_relations.specs.Goals.{goals_of, goal_of}
+use Rattle.type_relations.specs.Steps.{MakesToInstantiate}
 use Rattle.type_relations.specs.FirstOrder.{IsFirstOrderStore}
 use Rattle.type_relations.specs.Outcomes.{NoEqualTerms, Exact, NoUnifier}
 use Rattle.type_relations.specs.Headline.{AnswersGoals, KeepsEqualTerms, IsFirstOrderPair}
@@ -71,6 +72,11 @@ module _ {S Key Id Name A : Type 0} (state : S → Context Key Id Name) (old new
   -- No assignment made the two one, where they are not related.
   abbrev pub TellsApart : {X : Type 0} → A → A → Result X (RelateFault Key Id Name) → Type 0
   TellsApart a b result = IfUnrelated result (λ e. NoEqualTerms (state old).store (term a) (term b))
+
+  -- No variable of a number was made; and none at all where nothing could be instantiated, and no binder stands in
+  -- either value or in what a variable was bound to.
+  abbrev pub MakesToRelate : A → A → Type 0
+  MakesToRelate a b = MakesToInstantiate (state old).store (state new).store (term a) (term b)
 
   -- Which error comes, where they are not related.
   abbrev pub AnswersError : {X : Type 0} → Variance → A → A → Result X (RelateFault Key Id Name) → Type 0

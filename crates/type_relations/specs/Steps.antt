@@ -4,7 +4,7 @@ use Rattle.relation_terms.specs.declared.terms.enums.Variance.{Variance}
 use Rattle.relation_terms.specs.declared.terms.enums.Variance.TheVariants.{Invariant}
 use Rattle.relation_terms.specs.Heads.{BoundKind, bound_sort, VarKind, int_var, float_var, var_sort, Head, Leaf}
 use Rattle.relation_terms.specs.Heads.{variable, placeholder, atom}
-use Rattle.relation_terms.specs.Trees.{Tree, leaf, node, bind, cons, Assign, apply, inst, Leaves}
+use Rattle.relation_terms.specs.Trees.{Tree, leaf, node, bind, nil, cons, Assign, apply, inst, Leaves}
 use Rattle.relation_terms.specs.Erasure.{erase}
 use Rattle.type_relations.specs.Relation.{Interpretation, sort_of, StaysWithin, FitKinds, AvoidsAll}
 use Rattle.type_relations.specs.Stores.{Store, Entry, unbound, same_as, bound_to, entry_of, universe_of, IsMade}
@@ -58,10 +58,37 @@ abbrev pub InstantiatesNone : Store → Type 0
 InstantiatesNone st = (st.budget ≡ 0) ⊎
     ((k : VarKind) (n : ℕ) → IsTypeOrConst k → IsMade st k n → entry_of st k n ≡ unbound → ⊥)
 
--- No variable of a number was made, and none at all where nothing could be instantiated.
-pub record MakesToInstantiate (before after : Store) : Type 0 where
+-- No binder stands in a tree.
+abbrev pub HasNoBinder : Tree → Type 0
+HasNoBinder (leaf l) = Unit {0}
+HasNoBinder (node h ts) = HasNoBinder ts
+HasNoBinder (bind ks t) = ⊥
+HasNoBinder nil = Unit {0}
+HasNoBinder (cons t ts) = HasNoBinder t × HasNoBinder ts
+
+-- No variable is bound to a term with a binder.
+abbrev pub BindsNoBinder : Store → Type 0
+BindsNoBinder st = (k : VarKind) (n : ℕ) (t : Tree) → entry_of st k n ≡ bound_to t → HasNoBinder t
+
+-- No variable is made where terms without binders are related: nothing can be instantiated, and no variable is bound to
+-- a term with a binder.
+pub record IsFull (st : Store) : Type 0 where
+  pub instantiates_none : InstantiatesNone st
+  pub binds_no_binder : BindsNoBinder st
+
+-- Where no variable could be made, none was, and none can be now.
+abbrev pub StaysFull : Store → Store → Type 0
+StaysFull before after = IsFull before → IsFull after × MakesNone before after
+
+-- The same where no binder stands in either of two terms.
+abbrev pub StaysFullFor : Store → Store → Tree → Tree → Type 0
+StaysFullFor before after a b = HasNoBinder a → HasNoBinder b → StaysFull before after
+
+-- No variable of a number was made; and none at all where nothing could be instantiated, and no binder stands in either
+-- of two terms or in what a variable was bound to.
+pub record MakesToInstantiate (before after : Store) (a b : Tree) : Type 0 where
   pub no_number : MakesNoNumber before after
-  pub none : InstantiatesNone before → MakesNone before after
+  pub none : HasNoBinder a → HasNoBinder b → BindsNoBinder before → InstantiatesNone before → MakesNone before after
 
 -- Each variable that was newly bound to a term was the context's and unbound; or it was made on the way, and then an
 -- instantiation took one of the budget, or a universe was entered.

@@ -18,7 +18,8 @@ ghost use Rattle.type_relations.specs.ContextCalls.{IsUnresolved, IsRootOf, Read
 ghost use Rattle.type_relations.specs.ContextCalls.{EntersNext, EquatesTwo, BindsNumber, Constrains, Instantiated};
 ghost use Rattle.type_relations.specs.ContextCalls.{HasUniverse, ComesTo, JoinsRoots, Registers, HasCoveredBindings};
 ghost use Rattle.type_relations.specs.ContextCalls.{KeepsRest, KeepsSolver, KeepsOutliving, KeepsMarks, MarksNew};
-ghost use Rattle.type_relations.specs.Binders.{binder_tree, BindsByList, EntersBinder, InstantiatesWithInfer};
+ghost use Rattle.type_relations.specs.Bound.{BindsByList};
+ghost use Rattle.type_relations.specs.Binders.{binder_tree, EntersBinder, InstantiatesWithInfer};
 
 use crate::relate::StructurallyRelateAliases;
 use relation_terms::terms::{

@@ -9,6 +9,7 @@ mod forms;
 pub mod handing;
 mod making;
 mod number_vars;
+mod opening;
 mod parts;
 mod reading;
 mod relatable;

@@ -3,7 +3,8 @@ ghost use Rattle.std.specs.Prelude.{IsTrue};
 ghost use Rattle.relation_terms.specs.Trees.{known};
 ghost use Rattle.type_relations.specs.Stores.{IsTermIn};
 ghost use Rattle.type_relations.specs.ContextCalls.{Grows, KeepsRest};
-ghost use Rattle.type_relations.specs.Binders.{binder_tree, BindsByList, EntersBinder, InstantiatesWithInfer};
+ghost use Rattle.type_relations.specs.Bound.{BindsByList};
+ghost use Rattle.type_relations.specs.Binders.{binder_tree, EntersBinder, InstantiatesWithInfer};
 ghost use Rattle.relation_reference.specs.RefCtxt.{context_in};
 
 use crate::context::RefCtxt;

@@ -28,6 +28,7 @@ pub(super) fn write_const<I: Interner, W: Write>(
         ConstKind::Placeholder(of) => write_placeholder(
             texts.names,
             of.universe,
+            of.bound.var,
             &of.bound.name,
             out,
         ),

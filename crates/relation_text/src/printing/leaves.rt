@@ -7,7 +7,7 @@ use crate::printing::names::{
     Parameter, Texts, TextsOf, float_name, int_name, item_text, name_text, uint_name,
 };
 use relation_terms::terms::{
-    InferConst, InferTy, Interner, Region, RegionKind, TyKind, UniverseIndex,
+    BoundVar, InferConst, InferTy, Interner, Region, RegionKind, TyKind, UniverseIndex,
 };
 use std::fmt::{self, Write};
 
@@ -33,21 +33,33 @@ pub(super) fn write_region<I: Interner, W: Write>(
         RegionKind::ReBound(depth, of) => write_bound_region(around, depth, of.var, out),
         RegionKind::RePlaceholder(of) => {
             out.write_str("'")?;
-            write_placeholder(texts.names, of.universe, &of.bound.name, out)
+            write_placeholder(texts.names, of.universe, of.bound.var, &of.bound.name, out)
         }
     }
 }
 
-// Writes a placeholder: the number of its universe, and its name.
+// Whether a name is one that a binder gives to what it binds: it begins with a mark.
+fn is_bound_name(text: &str) -> bool {
+    matches!(text.as_bytes().first(), Some(b'\'' | b'^'))
+}
+
+// Writes a placeholder: the number of its universe, and its name, or the place that it has in a binder's list where that
+// named it.
 pub(super) fn write_placeholder<N: PartialEq, W: Write>(
     names: &[Parameter<N>],
     universe: UniverseIndex,
+    var: BoundVar,
     name: &N,
     out: &mut W,
 ) -> fmt::Result {
     let number = universe.0;
     let text = name_text(names, name, "_");
-    write!(out, "!{number}{text}")
+    if is_bound_name(text) {
+        let place = var.0;
+        write!(out, "!{number}.{place}")
+    } else {
+        write!(out, "!{number}{text}")
+    }
 }
 
 // Writes a variable that stands for a type, or a stand-in for one.
@@ -110,7 +122,13 @@ pub(super) fn write_leaf<X, D: PartialEq, N: PartialEq, W: Write>(
     out: &mut W,
 ) -> fmt::Result {
     match kind {
-        TyKind::Placeholder(of) => write_placeholder(texts.names, of.universe, &of.bound.name, out),
+        TyKind::Placeholder(of) => write_placeholder(
+            texts.names,
+            of.universe,
+            of.bound.var,
+            &of.bound.name,
+            out,
+        ),
         TyKind::Bound(depth, of) => write_bound("^", around, *depth, of.var, out),
         TyKind::Infer(variable) => write_variable(*variable, out),
         _ => out.write_str(leaf_text(texts, kind)),

@@ -41,7 +41,7 @@ pub(super) fn write_object<I: Interner, W: Write>(
 // of the trait where it can.
 #[cycle(write_ty)]
 #[tactic(auto, using(crate::proofs::Parts::size_part, crate::proofs::Parts::known_part))]
-fn write_object_predicates<I: Interner, W: Write>(
+pub(super) fn write_object_predicates<I: Interner, W: Write>(
     cx: &I,
     texts: &TextsOf<I>,
     around: &[Entered],

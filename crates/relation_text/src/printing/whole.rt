@@ -4,9 +4,10 @@ ghost use Rattle.relation_terms.specs.Trees.{known};
 ghost use Rattle.relation_terms.specs.Meaning.{arg_tree};
 
 use crate::printing::names::{TextsOf, item_text, name_text};
-use crate::printing::{constants, items, leaves, terms};
+use crate::printing::{constants, items, leaves, objects, terms};
 use relation_terms::terms::{
-    AliasTy, Const, GenericArg, InferTy, Interner, ItemOf, ParamTy, PlaceholderType, Region, Ty,
+    AliasTy, Const, ExistentialPredicates, GenericArg, InferTy, Interner, ItemOf, ParamTy,
+    PlaceholderType, Region, Ty,
 };
 use std::fmt::{self, Write};
 
@@ -73,6 +74,22 @@ pub fn write_arg<I: Interner, W: Write>(
     terms::write_arg(cx, texts, &[], arg, out)
 }
 
+/// Writes the predicates of a trait object as they stand behind `dyn`, with `+` between; nothing where there are none.
+///
+/// # Errors
+/// `fmt::Error` where `out` refused to take some of the text, or memory for the list of binders around a part was
+/// refused. What `out` took before stands.
+pub fn write_object_predicates<I: Interner, W: Write>(
+    cx: &I,
+    texts: &TextsOf<I>,
+    predicates: &ExistentialPredicates<I>,
+    out: &mut W,
+) -> fmt::Result
+    requires { IsTrue (known ((I.meaning cx.now).existential_predicates predicates.now)) }
+{
+    objects::write_object_predicates(cx, texts, &[], predicates, out)
+}
+
 /// Writes an item's name. One that has no text is `_`.
 ///
 /// # Errors
@@ -98,6 +115,7 @@ pub fn write_param<I: Interner, W: Write>(
 }
 
 /// Writes a placeholder that stands for a type: `!`, the number of its universe, and its name, or `_` if that has no text.
+/// Where a binder gave the name, which then begins with `'` or `^`, its place in the binder's list stands for it: `!1.0`.
 ///
 /// # Errors
 /// `fmt::Error` where `out` refused to take some of the text. What it took before stands.
@@ -109,6 +127,7 @@ pub fn write_placeholder<I: Interner, W: Write>(
     leaves::write_placeholder(
         texts.names,
         placeholder.universe,
+        placeholder.bound.var,
         &placeholder.bound.name,
         out,
     )

@@ -9,8 +9,13 @@ ghost use Rattle.type_relations.specs.declared.relate.forms.Form.TheVariants.{Le
 ghost use Rattle.type_relations.specs.Parts.{IsFormedConst};
 ghost use Rattle.type_relations.specs.Covered.{IsCovered};
 
+mod bodies;
+
 use crate::relate::forms::{Form, has_fixed_parts, is_same_form, is_same_item, outline_of};
 use crate::relate::parts::parts_count_in;
+pub use bodies::{
+    compare_existentials, compare_members, compare_objects, compare_parts, compare_signatures,
+};
 use relation_terms::terms::{
     Const, ConstKind, Interner, Pat, PatternKind, Ty, TyKind, ValTree, ValTreeKind,
 };

@@ -1,10 +1,17 @@
 //! An error of two parts as the error of the two terms that they are parts of.
 ghost use Rattle.std.specs.Prelude.{◌≡◌, IsTrue};
 ghost use Rattle.relation_terms.specs.Trees.{known};
+ghost use Rattle.relation_terms.specs.Parts.{part_tree};
 ghost use Rattle.type_relations.specs.Handing.{IsFaultOfTy, IsFaultOfConst, IsResultOfTy, IsResultOfConst};
+ghost use Rattle.type_relations.specs.Handing.{IsResultOfPart, IsPlacedOrNot, named_place as place_named};
 
-use relation_terms::terms::{Const, ConstKind, GenericArg, GenericArgKind, Interner, Ty, TyKind};
-use relation_tools::error::{ExpectedFound, RelateFault, RelateFaultOf, RelateResult, TypeError};
+use relation_terms::terms::parts::parts_count;
+use relation_terms::terms::{
+    Const, ConstKind, GenericArg, GenericArgKind, Interner, Part, PartOf, Ty, TyKind,
+};
+use relation_tools::error::{
+    ExpectedFound, RelateFault, RelateFaultOf, RelateResult, TypeError, TypeErrorOf,
+};
 
 // The fault of two types where one of their parts has failed: lengths of arrays that differ are sizes that differ.
 fn of_ty<I: Interner>(
@@ -95,5 +102,63 @@ pub fn in_const<I: Interner, T>(
     match related {
         Ok(answer) => Ok(answer),
         Err(fault) => Err(of_const(cx, a, b, fault)),
+    }
+}
+
+/// The place that an error of the parts of two terms at place `i` names: of a function's inputs their own, of its
+/// output the number of inputs, and none of other parts. `term` is the left term.
+///
+/// The interner has to know the left term; it is only read. Upstream this stands in the `relate` of signatures.
+pub fn named_place<I: Interner>(cx: &I, term: &PartOf<I>, i: usize) -> Option<usize>
+    requires { IsTrue (known (part_tree (I.meaning cx.now) term.now)) }
+    ensures { result ≡ place_named (part_tree (I.meaning cx.now) term.now) i }
+{
+    match term {
+        Part::Inputs(_) => Some(i),
+        Part::Signature(sig) => {
+            if i == 0 {
+                return None;
+            }
+            Some(parts_count(cx, &Part::Inputs(sig.inputs_and_output)))
+        }
+        _ => None,
+    }
+}
+
+// The same error with that place, where it can name one.
+fn at_place<I: Interner>(error: TypeErrorOf<I>, place: usize) -> TypeErrorOf<I>
+    ensures { IsPlacedOrNot place error result }
+{
+    match error {
+        TypeError::Sorts(pair) => TypeError::ArgumentSorts(pair, place),
+        TypeError::ArgumentSorts(pair, _) => TypeError::ArgumentSorts(pair, place),
+        TypeError::Mutability => TypeError::ArgumentMutability(place),
+        TypeError::ArgumentMutability(_) => TypeError::ArgumentMutability(place),
+        error => error,
+    }
+}
+
+/// What relating two terms answers where relating two of their parts has answered `related`. `place` is what an error
+/// of these names, as `named_place` says.
+///
+/// That is `related` itself, but an error that can name a place names this one. Upstream this stands in the `relate` of
+/// signatures.
+pub fn in_part<I: Interner, T>(
+    place: Option<usize>,
+    related: RelateResult<I, T>,
+) -> RelateResult<I, T>
+    ensures { IsResultOfPart place related result }
+{
+    let Some(place) = place else {
+        return related;
+    };
+    match related {
+        Ok(answer) => Ok(answer),
+        Err(fault) => match fault {
+            RelateFault::Unrelated(error) => {
+                Err(RelateFault::Unrelated(at_place::<I>(error, place)))
+            }
+            other => Err(other),
+        },
     }
 }

@@ -4,7 +4,7 @@ ghost use Rattle.relation_terms.specs.Trees.{known, list_tree};
 ghost use Rattle.relation_terms.specs.Meaning.{arg_tree};
 ghost use Rattle.relation_terms.specs.Parts.{part_tree, part_of_arg, part_sort};
 ghost use Rattle.relation_terms.specs.Parts.{Fit as PartsFit};
-ghost use Rattle.type_relations.specs.Parts.{parts_of, const_parts_of, IsOfPattern};
+ghost use Rattle.type_relations.specs.Parts.{parts_of, const_parts_of, IsByParts};
 ghost use Rattle.type_relations.specs.Covered.{IsCovered};
 ghost use Rattle.type_relations.specs.Lawful.{WithMeaning, OnlyMemory};
 ghost use Rattle.type_relations.specs.Making.{Fit, over, const_over, Made};
@@ -19,7 +19,7 @@ use relation_tools::error::RelateResult;
 use std::alloc::Global;
 
 // A generic argument as a part.
-fn of_arg<X: Copy, D: Copy>(arg: &GenericArgKind<X>) -> Part<X, D>
+pub(crate) fn of_arg<X: Copy, D: Copy>(arg: &GenericArgKind<X>) -> Part<X, D>
     ensures { result ≡ part_of_arg arg.now }
 {
     match arg {
@@ -128,14 +128,14 @@ fn const_with_parts<I: Interner>(
     }
 }
 
-// The pattern type or the pattern of that one's form over these parts, as a part of terms.
-fn pattern_with_parts<I: Interner>(
+// The term of that one's form over these parts, that one being related by its parts.
+fn term_with_parts<I: Interner>(
     cx: &mut I,
     term: &PartOf<I>,
     parts: &[PartOf<I>],
 ) -> Result<PartOf<I>, OutOfMemory>
     requires term_known { IsTrue (known (part_tree (I.meaning cx.old) term.now)) }
-    requires form { IsOfPattern (part_tree (I.meaning cx.old) term.now) }
+    requires form { IsByParts (part_tree (I.meaning cx.old) term.now) }
     requires parts_known { IsTrue (known (list_tree (part_tree (I.meaning cx.old)) parts.now)) }
     requires fits { PartsFit parts.now (parts_of (part_tree (I.meaning cx.old) term.now)) }
     ensures made { let m = I.meaning cx.old in let n = I.meaning cx.new in
@@ -186,15 +186,15 @@ pub(crate) fn make_const<I: Interner, R: TypeRelation<I>>(
     Ok(made)
 }
 
-// The same of pattern types and patterns.
-pub(crate) fn make_pattern<I: Interner, R: TypeRelation<I>>(
+// The same of terms that are related by their parts.
+pub(crate) fn make_part<I: Interner, R: TypeRelation<I>>(
     r: &mut R,
     term: &PartOf<I>,
     parts: &[PartOf<I>],
 ) -> RelateResult<I, PartOf<I>>
     requires lawful { (R.state r.old).lawful }
     requires term_known { IsTrue (known (part_tree (R.state r.old).meaning term.now)) }
-    requires form { IsOfPattern (part_tree (R.state r.old).meaning term.now) }
+    requires form { IsByParts (part_tree (R.state r.old).meaning term.now) }
     requires parts_known { IsTrue (known (list_tree (part_tree (R.state r.old).meaning) parts.now)) }
     requires fits { PartsFit parts.now (parts_of (part_tree (R.state r.old).meaning term.now)) }
     ensures grown { WithMeaning (R.state r.old) (R.state r.new).meaning (R.state r.new) }
@@ -204,6 +204,6 @@ pub(crate) fn make_pattern<I: Interner, R: TypeRelation<I>>(
     ensures sort { IfOk result (λ p. part_sort p ≡ part_sort term.now) }
 {
     r.interner_grows();
-    let made = pattern_with_parts(r.cx_mut(), term, parts)?;
+    let made = term_with_parts(r.cx_mut(), term, parts)?;
     Ok(made)
 }

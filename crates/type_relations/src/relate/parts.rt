@@ -1,21 +1,55 @@
 //! The parts that are related of terms: of types and constants as generic arguments.
-ghost use Rattle.std.specs.Prelude.{◌≡◌, ◌≢◌, ◌<◌, IsTrue, IsFalse, [], ◌∷◌};
+ghost use Rattle.std.specs.Prelude.{◌≡◌, ◌↔◌, ◌<◌, IsTrue, [], ◌∷◌};
+ghost use Rattle.relation_terms.specs.Heads.{signature_sort, inputs_sort, existential_sort, object_sort};
 ghost use Rattle.relation_terms.specs.Trees.{known, count, nth, IsList};
 ghost use Rattle.relation_terms.specs.Meaning.{arg_tree, kind_tree};
-ghost use Rattle.relation_terms.specs.Parts.{part_tree, parts_tree, part_of_arg, AreArgs};
+ghost use Rattle.relation_terms.specs.Parts.{part_tree, part_sort, parts_tree, part_of_arg, AreArgs};
+ghost use Rattle.relation_terms.specs.declared.terms.part_kind.Part.TheVariants.{Signature as SignaturePart};
+ghost use Rattle.relation_terms.specs.declared.terms.part_kind.Part.TheVariants.{Inputs as InputsPart};
+ghost use Rattle.relation_terms.specs.declared.terms.part_kind.Part.TheVariants.{Existential as ExistentialPart};
+ghost use Rattle.relation_terms.specs.declared.terms.part_kind.Part.TheVariants.{Object as ObjectPart};
 ghost use Rattle.relation_terms.specs.Parts.{parts_of as list_of_parts};
-ghost use Rattle.type_relations.specs.Parts.{parts_of, const_parts_of, head_of, IsOfPattern};
-ghost use Rattle.relation_terms.specs.Heads.{pattern_type};
+ghost use Rattle.type_relations.specs.Parts.{parts_of, const_parts_of, IsByParts, IsArgPart, IsBinderPart};
+ghost use Rattle.type_relations.specs.declared.relate.parts.PartKind.TheVariants.{Argument, Binder};
 ghost use Rattle.type_relations.specs.Covered.{IsCovered};
 
+use relation_terms::predicate::ExistentialPredicate;
 use relation_terms::terms::parts::{member, member_count, ty_parts};
 use relation_terms::terms::{
-    Const, ConstKind, GenericArg, GenericArgKind, Interner, Part, PartOf, PartsOf, Ty, TyForm,
-    TyKind, parts,
+    Const, ConstKind, ExistentialPredicatesKey, FnSig, GenericArg, GenericArgKind, Interner, Part,
+    PartOf, PartsOf, Ty, TyForm, TyKind, TysKey, parts,
 };
 
+// Of which kind a part is, as far as relating looks at it.
+#[derive(Clone, Copy)]
+pub(crate) enum PartKind {
+    // A region, a type or a constant.
+    Argument,
+    Binder,
+    // A term of another form, which is related by its parts.
+    Form,
+}
+
+// Of which kind a part is that is related.
+pub(crate) fn kind_of_part<X: Copy, D: Copy>(part: &Part<X, D>) -> PartKind
+    ensures argument { result ≡ Argument ↔ IsArgPart part.now }
+    ensures binder { result ≡ Binder ↔ IsBinderPart part.now }
+{
+    match part {
+        Part::Region(_) | Part::Ty(_) | Part::Const(_) => PartKind::Argument,
+        Part::Binder(..) => PartKind::Binder,
+        Part::ValTree(_)
+        | Part::Pat(_)
+        | Part::ValueType(_)
+        | Part::Signature(_)
+        | Part::Inputs(_)
+        | Part::Existential(_)
+        | Part::Object(_) => PartKind::Form,
+    }
+}
+
 // The generic argument that a part is.
-fn the_arg<X: Copy, D: Copy>(part: &Part<X, D>) -> GenericArgKind<X>
+pub(crate) fn the_arg<X: Copy, D: Copy>(part: &Part<X, D>) -> GenericArgKind<X>
     requires { AreArgs (part.now ∷ []) }
     ensures { part_of_arg result ≡ part.now }
 {
@@ -23,6 +57,47 @@ fn the_arg<X: Copy, D: Copy>(part: &Part<X, D>) -> GenericArgKind<X>
         Part::Region(region) => GenericArgKind::Lifetime(*region),
         Part::Ty(ty) => GenericArgKind::Ty(*ty),
         Part::Const(constant) => GenericArgKind::Const(*constant),
+        _ => unreachable!(),
+    }
+}
+
+// The signature that a part is, its inputs, the predicate of a trait object, and the list of these.
+pub(crate) fn the_signature<X: Copy, D: Copy>(part: &Part<X, D>) -> FnSig<X>
+    requires { part_sort part.now ≡ signature_sort }
+    ensures { SignaturePart result ≡ part.now }
+{
+    match part {
+        Part::Signature(sig) => *sig,
+        _ => unreachable!(),
+    }
+}
+
+pub(crate) fn the_inputs<X: Copy, D: Copy>(part: &Part<X, D>) -> TysKey<X>
+    requires { part_sort part.now ≡ inputs_sort }
+    ensures { InputsPart result ≡ part.now }
+{
+    match part {
+        Part::Inputs(tys) => *tys,
+        _ => unreachable!(),
+    }
+}
+
+pub(crate) fn the_existential<X: Copy, D: Copy>(part: &Part<X, D>) -> ExistentialPredicate<X, D>
+    requires { part_sort part.now ≡ existential_sort }
+    ensures { ExistentialPart result ≡ part.now }
+{
+    match part {
+        Part::Existential(predicate) => *predicate,
+        _ => unreachable!(),
+    }
+}
+
+pub(crate) fn the_object<X: Copy, D: Copy>(part: &Part<X, D>) -> ExistentialPredicatesKey<X>
+    requires { part_sort part.now ≡ object_sort }
+    ensures { ObjectPart result ≡ part.now }
+{
+    match part {
+        Part::Object(predicates) => *predicates,
         _ => unreachable!(),
     }
 }
@@ -58,14 +133,13 @@ pub(crate) fn parts_count<I: Interner>(cx: &I, ty: &Ty<I>) -> usize
     parts_count_in(cx, ty, &cx.ty_kind(ty))
 }
 
-// Whether a type is a pattern type, whose pattern is no generic argument.
-pub(crate) fn is_pattern_type<I: Interner>(cx: &I, ty: &Ty<I>) -> bool
+// Whether a type has parts that are no generic arguments: a pattern, binders, predicates of a trait object.
+pub(crate) fn is_by_parts<I: Interner>(cx: &I, ty: &Ty<I>) -> bool
     requires { IsTrue (known ((I.meaning cx.now).ty ty.now)) }
-    ensures pattern { IsTrue result → IsOfPattern ((I.meaning cx.now).ty ty.now) }
-    ensures others { IsFalse result → head_of ((I.meaning cx.now).ty ty.now) ≢ pattern_type }
+    ensures { IsTrue result ↔ IsByParts ((I.meaning cx.now).ty ty.now) }
 {
     match cx.ty_kind(ty) {
-        TyKind::Pat(..) => true,
+        TyKind::Pat(..) | TyKind::FnPtr(..) | TyKind::UnsafeBinder(_) | TyKind::Dynamic(..) => true,
         _ => false,
     }
 }
@@ -74,7 +148,7 @@ pub(crate) fn is_pattern_type<I: Interner>(cx: &I, ty: &Ty<I>) -> bool
 pub(crate) fn part<I: Interner>(cx: &I, ty: &Ty<I>, i: usize) -> GenericArg<I>
     requires ty_known { IsTrue (known ((I.meaning cx.now).ty ty.now)) }
     requires ty_covered { IsCovered ((I.meaning cx.now).ty ty.now) }
-    requires no_pattern { head_of ((I.meaning cx.now).ty ty.now) ≢ pattern_type }
+    requires over_args { IsByParts ((I.meaning cx.now).ty ty.now) → ⊥ }
     requires in_bounds { i < count (parts_of ((I.meaning cx.now).ty ty.now)) }
     ensures sure { IsTrue (known (arg_tree (I.meaning cx.now) result)) }
     ensures means { arg_tree (I.meaning cx.now) result ≡ nth i (parts_of ((I.meaning cx.now).ty ty.now)) }
@@ -114,19 +188,19 @@ pub(crate) fn const_part<I: Interner>(cx: &I, constant: &Const<I>, i: usize) -> 
     the_arg(&parts::part(cx, &related_part(cx, constant), i))
 }
 
-// How many parts a pattern type or a pattern has.
-pub(crate) fn pattern_parts_count<I: Interner>(cx: &I, term: &PartOf<I>) -> usize
+// How many parts a term has that is related by its parts.
+pub(crate) fn term_parts_count<I: Interner>(cx: &I, term: &PartOf<I>) -> usize
     requires known { IsTrue (known (part_tree (I.meaning cx.now) term.now)) }
-    requires form { IsOfPattern (part_tree (I.meaning cx.now) term.now) }
+    requires form { IsByParts (part_tree (I.meaning cx.now) term.now) }
     ensures { result ≡ count (parts_of (part_tree (I.meaning cx.now) term.now)) }
 {
     parts::parts_count(cx, term)
 }
 
-// The part of a pattern type or a pattern at a place.
-pub(crate) fn pattern_part<I: Interner>(cx: &I, term: &PartOf<I>, i: usize) -> PartOf<I>
+// The part of such a term at a place.
+pub(crate) fn term_part<I: Interner>(cx: &I, term: &PartOf<I>, i: usize) -> PartOf<I>
     requires term_known { IsTrue (known (part_tree (I.meaning cx.now) term.now)) }
-    requires form { IsOfPattern (part_tree (I.meaning cx.now) term.now) }
+    requires form { IsByParts (part_tree (I.meaning cx.now) term.now) }
     requires in_bounds { i < count (parts_of (part_tree (I.meaning cx.now) term.now)) }
     ensures sure { IsTrue (known (part_tree (I.meaning cx.now) result)) }
     ensures means { part_tree (I.meaning cx.now) result ≡

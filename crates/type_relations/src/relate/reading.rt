@@ -1,28 +1,26 @@
 //! Reading terms through a relation's interner.
-ghost use Rattle.std.specs.Prelude.{◌≡◌, ◌≢◌, ◌<◌, IsTrue, IsFalse, OnOk, IfErr};
-ghost use Rattle.relation_terms.specs.Heads.{pattern_type};
+ghost use Rattle.std.specs.Prelude.{◌≡◌, ◌≢◌, ◌↔◌, ◌<◌, IsTrue, OnOk, IfErr};
 ghost use Rattle.relation_terms.specs.Trees.{known, count, nth, IsList};
 ghost use Rattle.relation_terms.specs.declared.terms.enums.Variance.TheVariants.{Bivariant};
 ghost use Rattle.relation_terms.specs.Variances.{xform};
 ghost use Rattle.relation_terms.specs.Meaning.{arg_tree};
-ghost use Rattle.relation_terms.specs.Parts.{part_tree};
+ghost use Rattle.relation_terms.specs.Parts.{part_tree, part_sort};
 ghost use Rattle.type_relations.specs.Relation.{part_at, pointee_variance};
-ghost use Rattle.type_relations.specs.Errors.{FormError, ConstFormError, PatternError, AreOfOneForm, AreOfOneConst};
-ghost use Rattle.type_relations.specs.Parts.{IsFormedConst, IsOfPattern, parts_of, const_parts_of, head_of};
-ghost use Rattle.type_relations.specs.Parts.{const_head_of};
+ghost use Rattle.type_relations.specs.Errors.{FormError, ConstFormError, PartError, AreOfOneForm, AreOfOneConst};
+ghost use Rattle.type_relations.specs.Parts.{IsFormedConst, IsByParts, IsComparedPart, parts_of, const_parts_of};
+ghost use Rattle.type_relations.specs.Parts.{head_of, const_head_of};
 ghost use Rattle.type_relations.specs.Covered.{IsCovered};
 ghost use Rattle.type_relations.specs.Lawful.{Noted, items_in};
 ghost use Rattle.type_relations.specs.Keyed.{AskedTys, RelatesTys, AreOver, part_in};
-ghost use Rattle.type_relations.specs.Handing.{IsResultOfTy, IsResultOfConst};
+ghost use Rattle.type_relations.specs.Handing.{IsResultOfTy, IsResultOfConst, named_place};
 
-use crate::relate::comparing::{compare_consts, compare_pats, compare_tys};
+use crate::relate::comparing::{compare_consts, compare_members, compare_parts, compare_tys};
 use crate::relate::parts::{
-    const_part, const_parts_count, is_pattern_type, part, parts_count, pattern_part,
-    pattern_parts_count,
+    const_part, const_parts_count, is_by_parts, part, parts_count, term_part, term_parts_count,
 };
 use crate::relate::{TypeRelation, handing};
 use relation_terms::terms::{
-    Const, ConstKind, DefId, GenericArg, GenericArgs, Interner, ItemOf, Mutability, PartOf, Pat,
+    Const, ConstKind, DefId, GenericArg, GenericArgs, Interner, ItemOf, Mutability, Part, PartOf,
     Ty, TyKind, Variance,
 };
 use relation_tools::error::{RelateResult, TypeErrorOf};
@@ -60,25 +58,45 @@ pub(crate) fn compare_consts_of<I: Interner, R: TypeRelation<I>>(
     compare_consts(r.cx(), a, b)
 }
 
-pub(crate) fn compare_pats_of<I: Interner, R: TypeRelation<I>>(
+pub(crate) fn compare_parts_of<I: Interner, R: TypeRelation<I>>(
     r: &R,
-    a: &Pat<I>,
-    b: &Pat<I>,
+    a: &PartOf<I>,
+    b: &PartOf<I>,
 ) -> Result<(), TypeErrorOf<I>>
-    requires a_known { IsTrue (known ((R.state r.now).meaning.pat a.now)) }
-    requires b_known { IsTrue (known ((R.state r.now).meaning.pat b.now)) }
-    ensures alike { let m = (R.state r.now).meaning in OnOk result (AreOfOneForm (m.pat a.now) (m.pat b.now)) }
-    ensures errors { let m = (R.state r.now).meaning in IfErr result (PatternError (m.pat a.now) (m.pat b.now)) }
+    requires a_known { IsTrue (known (part_tree (R.state r.now).meaning a.now)) }
+    requires b_known { IsTrue (known (part_tree (R.state r.now).meaning b.now)) }
+    requires kind { IsComparedPart a.now }
+    requires one_sort { part_sort b.now ≡ part_sort a.now }
+    ensures alike { let m = (R.state r.now).meaning in
+        OnOk result (AreOfOneForm (part_tree m a.now) (part_tree m b.now)) }
+    ensures errors { let m = (R.state r.now).meaning in
+        IfErr result (PartError m (part_tree m a.now) (part_tree m b.now)) }
 {
-    compare_pats(r.cx(), a, b)
+    compare_parts(r.cx(), a, b)
 }
 
-pub(crate) fn is_pattern_type_of<I: Interner, R: TypeRelation<I>>(r: &R, ty: &Ty<I>) -> bool
-    requires { IsTrue (known ((R.state r.now).meaning.ty ty.now)) }
-    ensures pattern { IsTrue result → IsOfPattern ((R.state r.now).meaning.ty ty.now) }
-    ensures others { IsFalse result → head_of ((R.state r.now).meaning.ty ty.now) ≢ pattern_type }
+pub(crate) fn compare_members_of<I: Interner, R: TypeRelation<I>>(
+    r: &R,
+    a: &PartOf<I>,
+    b: &PartOf<I>,
+    i: usize,
+) -> Result<(), TypeErrorOf<I>>
+    requires a_known { IsTrue (known (part_tree (R.state r.now).meaning a.now)) }
+    requires b_known { IsTrue (known (part_tree (R.state r.now).meaning b.now)) }
+    requires in_a { i < count (parts_of (part_tree (R.state r.now).meaning a.now)) }
+    requires in_b { i < count (parts_of (part_tree (R.state r.now).meaning b.now)) }
+    requires one_sort { part_sort b.now ≡ part_sort a.now }
+    ensures { let m = (R.state r.now).meaning in
+        IfErr result (PartError m (part_tree m a.now) (part_tree m b.now)) }
 {
-    is_pattern_type(r.cx(), ty)
+    compare_members(r.cx(), a, b, i)
+}
+
+pub(crate) fn is_by_parts_of<I: Interner, R: TypeRelation<I>>(r: &R, ty: &Ty<I>) -> bool
+    requires { IsTrue (known ((R.state r.now).meaning.ty ty.now)) }
+    ensures { IsTrue result ↔ IsByParts ((R.state r.now).meaning.ty ty.now) }
+{
+    is_by_parts(r.cx(), ty)
 }
 
 pub(crate) fn parts_count_of<I: Interner, R: TypeRelation<I>>(r: &R, ty: &Ty<I>) -> usize
@@ -92,7 +110,7 @@ pub(crate) fn parts_count_of<I: Interner, R: TypeRelation<I>>(r: &R, ty: &Ty<I>)
 pub(crate) fn part_of<I: Interner, R: TypeRelation<I>>(r: &R, ty: &Ty<I>, i: usize) -> GenericArg<I>
     requires ty_known { IsTrue (known ((R.state r.now).meaning.ty ty.now)) }
     requires ty_covered { IsCovered ((R.state r.now).meaning.ty ty.now) }
-    requires no_pattern { head_of ((R.state r.now).meaning.ty ty.now) ≢ pattern_type }
+    requires over_args { IsByParts ((R.state r.now).meaning.ty ty.now) → ⊥ }
     requires in_bounds { i < count (parts_of ((R.state r.now).meaning.ty ty.now)) }
     ensures sure { IsTrue (known (arg_tree (R.state r.now).meaning result)) }
     ensures means { arg_tree (R.state r.now).meaning result ≡ nth i (parts_of ((R.state r.now).meaning.ty ty.now)) }
@@ -125,30 +143,27 @@ pub(crate) fn const_part_of<I: Interner, R: TypeRelation<I>>(
     const_part(r.cx(), constant, i)
 }
 
-pub(crate) fn pattern_parts_count_of<I: Interner, R: TypeRelation<I>>(
-    r: &R,
-    term: &PartOf<I>,
-) -> usize
+pub(crate) fn term_parts_count_of<I: Interner, R: TypeRelation<I>>(r: &R, term: &PartOf<I>) -> usize
     requires known { IsTrue (known (part_tree (R.state r.now).meaning term.now)) }
-    requires form { IsOfPattern (part_tree (R.state r.now).meaning term.now) }
+    requires form { IsByParts (part_tree (R.state r.now).meaning term.now) }
     ensures { result ≡ count (parts_of (part_tree (R.state r.now).meaning term.now)) }
 {
-    pattern_parts_count(r.cx(), term)
+    term_parts_count(r.cx(), term)
 }
 
-pub(crate) fn pattern_part_of<I: Interner, R: TypeRelation<I>>(
+pub(crate) fn term_part_of<I: Interner, R: TypeRelation<I>>(
     r: &R,
     term: &PartOf<I>,
     i: usize,
 ) -> PartOf<I>
     requires term_known { IsTrue (known (part_tree (R.state r.now).meaning term.now)) }
-    requires form { IsOfPattern (part_tree (R.state r.now).meaning term.now) }
+    requires form { IsByParts (part_tree (R.state r.now).meaning term.now) }
     requires in_bounds { i < count (parts_of (part_tree (R.state r.now).meaning term.now)) }
     ensures sure { IsTrue (known (part_tree (R.state r.now).meaning result)) }
     ensures means { part_tree (R.state r.now).meaning result ≡
         nth i (parts_of (part_tree (R.state r.now).meaning term.now)) }
 {
-    pattern_part(r.cx(), term, i)
+    term_part(r.cx(), term, i)
 }
 
 // How a pointee varies with its pointer.
@@ -220,6 +235,32 @@ pub(crate) fn const_variance_at<I: Interner, R: TypeRelation<I>>(
     }
 }
 
+// The variance at which the part of a term at a place is related, seen from the term's own, where the term is related
+// by its parts.
+pub(crate) fn term_variance_at<I: Interner, R: TypeRelation<I>>(
+    r: &R,
+    term: &PartOf<I>,
+    i: usize,
+) -> Variance
+    requires known { IsTrue (known (part_tree (R.state r.now).meaning term.now)) }
+    requires form { IsByParts (part_tree (R.state r.now).meaning term.now) }
+    requires in_bounds { i < count (parts_of (part_tree (R.state r.now).meaning term.now)) }
+    ensures { let q = R.state r.now in
+        xform q.ambient result ≡ part_in q (head_of (part_tree q.meaning term.now)) i }
+{
+    let _ = r;
+    match term {
+        Part::Signature(_) => {
+            if i == 0 {
+                return Variance::Contravariant;
+            }
+            Variance::Covariant
+        }
+        Part::Existential(_) => Variance::Invariant,
+        _ => Variance::Covariant,
+    }
+}
+
 // What two types answer where two of their parts have answered that.
 pub(crate) fn in_ty<I: Interner, R: TypeRelation<I>>(
     r: &R,
@@ -245,6 +286,19 @@ pub(crate) fn in_const<I: Interner, R: TypeRelation<I>>(
     ensures { IsResultOfConst ((R.state r.now).meaning.const_ a.now) a.now b.now related result }
 {
     handing::in_const(r.cx(), a, b, related)
+}
+
+// The place that an error of the parts of two terms at place `i` names.
+pub(crate) fn named_place_of<I: Interner, R: TypeRelation<I>>(
+    r: &R,
+    term: &PartOf<I>,
+    i: usize,
+) -> Option<usize>
+    requires term_known { IsTrue (known (part_tree (R.state r.now).meaning term.now)) }
+    requires in_bounds { i < count (parts_of (part_tree (R.state r.now).meaning term.now)) }
+    ensures { result ≡ named_place (part_tree (R.state r.now).meaning term.now) i }
+{
+    handing::named_place(r.cx(), term, i)
 }
 
 // Has the relation take note of arguments that were related at declared variances.

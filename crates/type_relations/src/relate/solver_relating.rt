@@ -3,16 +3,17 @@ ghost use Rattle.std.specs.Prelude.{◌≡◌, ◌≢◌, IfErr, []};
 ghost use Rattle.relation_terms.specs.Meaning.{Extends};
 ghost use Rattle.relation_tools.specs.Faults.{KnowsFault, IfSpent};
 ghost use Rattle.type_relations.specs.Stores.{IsSound};
-ghost use Rattle.type_relations.specs.Steps.{IsLater, MakesToInstantiate, BindsItsOwn};
+ghost use Rattle.type_relations.specs.Steps.{IsLater, BindsItsOwn};
 ghost use Rattle.type_relations.specs.Contexts.{KnowsEnv, DoesNothing, SpendsByBinding, RegistersGoals};
 ghost use Rattle.type_relations.specs.Lawful.{Asked, Related};
 ghost use Rattle.type_relations.specs.Relating.{term_in, KnowsTerm, TakesTerm, HasTerm, AreOne, AnswersTerms};
 ghost use Rattle.type_relations.specs.Relating.{KeepsEqual, TellsApart, AnswersError, AnswersExactly, ProvesApart};
-ghost use Rattle.type_relations.specs.Relating.{AnswersSubtype, SpendsNoMore};
+ghost use Rattle.type_relations.specs.Relating.{AnswersSubtype, SpendsNoMore, MakesToRelate};
 ghost use Rattle.type_relations.specs.Subtyping.{RegistersSubtype};
 ghost use Rattle.type_relations.specs.Solving.{solving_in, solver_manner};
 
 mod emitting;
+mod opening;
 pub(crate) mod recording;
 mod relation;
 
@@ -54,9 +55,10 @@ pub trait RelateExt: InferCtxtLike {
     /// instantiation is left, and `Memory` where a growth was refused.
     ///
     /// On each outcome all that was recorded stands. It makes no variable of a number, and others only to instantiate
-    /// one: none where nothing was left of the budget, or no variable of a type or a constant was unbound. It binds
-    /// only what was the context's and unbound, or was made on the way: variables of types and constants each for one
-    /// instantiation, those of numbers for none. After an error more may have been recorded and made on the way.
+    /// one or to open a binder: none where no binder stands in either or in what a variable was bound to, and nothing
+    /// was left of the budget or no variable of a type or a constant was unbound. It binds only what was the context's
+    /// and unbound, or was made on the way: variables of types and constants each for one instantiation, those of
+    /// numbers for none. After an error more may have been recorded and made on the way.
     ///
     /// Of first-order terms in a first-order record at `Invariant`, where the variables of types and constants are of
     /// one universe and no placeholder of a type or a constant in the terms is beyond it, at most as many
@@ -92,7 +94,7 @@ pub trait RelateExt: InferCtxtLike {
         ensures exact { AnswersExactly Self.state self.old self.new T.over T.tree variance lhs rhs result }
         ensures no_unifier { ProvesApart Self.state self.old self.new T.over T.tree variance lhs rhs result }
         ensures later { IsLater (Self.state self.old).store (Self.state self.new).store }
-        ensures made { MakesToInstantiate (Self.state self.old).store (Self.state self.new).store }
+        ensures made { MakesToRelate Self.state self.old self.new T.over T.tree lhs rhs }
         ensures bound { BindsItsOwn (Self.state self.old).store (Self.state self.new).store }
         ensures sound { IsSound (Self.state self.new).store }
         ensures budget { SpendsByBinding (Self.state self.old) (Self.state self.new) }
@@ -133,7 +135,7 @@ impl<Infcx: InferCtxtLike> RelateExt for Infcx {
         ensures exact { AnswersExactly Infcx.state self.old self.new T.over T.tree variance lhs rhs result }
         ensures no_unifier { ProvesApart Infcx.state self.old self.new T.over T.tree variance lhs rhs result }
         ensures later { IsLater (Infcx.state self.old).store (Infcx.state self.new).store }
-        ensures made { MakesToInstantiate (Infcx.state self.old).store (Infcx.state self.new).store }
+        ensures made { MakesToRelate Infcx.state self.old self.new T.over T.tree lhs rhs }
         ensures bound { BindsItsOwn (Infcx.state self.old).store (Infcx.state self.new).store }
         ensures sound { IsSound (Infcx.state self.new).store }
         ensures budget { SpendsByBinding (Infcx.state self.old) (Infcx.state self.new) }

@@ -1,28 +1,33 @@
 //! The recursion over every relation.
 //!
 //! These calls stand beside the relation, whose steps never call them: one proof serves all relations.
-ghost use Rattle.std.specs.Prelude.{◌≡◌, ◌≢◌, IsTrue, IfOk};
+ghost use Rattle.std.specs.Prelude.{◌≡◌, ◌≢◌, IsTrue, IfOk, OnOk};
 ghost use Rattle.relation_terms.specs.declared.terms.enums.Variance.TheVariants.{Bivariant};
 ghost use Rattle.relation_terms.specs.Variances.{xform};
 ghost use Rattle.relation_terms.specs.Meaning.{arg_tree};
 ghost use Rattle.relation_terms.specs.Parts.{part_tree, part_sort};
 ghost use Rattle.type_relations.specs.Errors.{AreOfOneForm};
-ghost use Rattle.type_relations.specs.Parts.{IsFormed, IsFormedConst, IsOfPattern, IsInPattern};
+ghost use Rattle.type_relations.specs.Parts.{IsFormed, IsFormedConst, IsByParts, IsRelatedPart, IsComparedPart};
+ghost use Rattle.type_relations.specs.Parts.{IsBinderPart, ArePaired};
 ghost use Rattle.type_relations.specs.Keyed.{AskedArgs, AskedArgsAt, AskedConsts, AskedPats, AskedParts, AskedTys};
-ghost use Rattle.type_relations.specs.Keyed.{RelatedArgs, RelatedArgsAt, RelatedConsts, RelatedPats, RelatedParts};
-ghost use Rattle.type_relations.specs.Keyed.{RelatedTys};
+ghost use Rattle.type_relations.specs.Keyed.{AskedPartsAt, RelatedArgs, RelatedArgsAt, RelatedConsts, RelatedPats};
+ghost use Rattle.type_relations.specs.Keyed.{RelatedParts, RelatedPartsAt, RelatedTys};
 ghost use Rattle.type_relations.specs.Keyed.{ArgsRegisterSubtype, TysRegisterSubtype};
 ghost use Rattle.type_relations.specs.Making.{arg_sort};
 ghost use Rattle.type_relations.specs.Arguments.{IsSkipped};
 
-use crate::relate::making::{make_const, make_pattern, make_ty};
+use crate::relate::handing::in_part;
+use crate::relate::making::{make_const, make_part, make_ty, of_arg};
+use crate::relate::opening::{is_same_of, open_bodies};
+use crate::relate::parts::{PartKind, kind_of_part, the_arg};
 use crate::relate::reading::{
-    compare_consts_of, compare_pats_of, compare_tys_of, const_part_of, const_parts_count_of,
-    const_variance_at, in_const, in_ty, is_pattern_type_of, note_args, part_of, parts_count_of,
-    pattern_part_of, pattern_parts_count_of, variance_at,
+    compare_consts_of, compare_members_of, compare_parts_of, compare_tys_of, const_part_of,
+    const_parts_count_of, const_variance_at, in_const, in_ty, is_by_parts_of, named_place_of,
+    note_args, part_of, parts_count_of, term_part_of, term_parts_count_of, term_variance_at,
+    variance_at,
 };
 use crate::relate::{Step, TypeRelation};
-use relation_terms::terms::parts::{the_const, the_pat, the_ty};
+use relation_terms::terms::parts::{the_pat, the_ty};
 use relation_terms::terms::{
     Const, GenericArg, GenericArgKind, Interner, Part, PartOf, Pat, Ty, Variance,
 };
@@ -189,7 +194,7 @@ pub fn structurally_relate_tys<I: Interner, R: TypeRelation<I>>(
     ensures { RelatedTys R.manner (R.state r.old) (R.state r.new) a.now b.now result }
 {
     compare_tys_of::<I, R>(r, a, b)?;
-    if is_pattern_type_of::<I, R>(r, a) {
+    if is_by_parts_of::<I, R>(r, a) {
         return Ok(the_ty(&relate_in_order(r, &Part::Ty(*a), &Part::Ty(*b))?));
     }
     let n = parts_count_of::<I, R>(r, a);
@@ -247,7 +252,6 @@ pub fn structurally_relate_consts<I: Interner, R: TypeRelation<I>>(
 ///
 /// Conditions are those of `tys`. Two of different forms, or with unlike numbers of alternatives, are `Mismatch`. All
 /// errors of the parts are handed on. Upstream this is the interner's `relate` of patterns.
-#[cycle(relate)]
 pub fn pats<I: Interner, R: TypeRelation<I>>(
     r: &mut R,
     a: &Pat<I>,
@@ -258,12 +262,11 @@ pub fn pats<I: Interner, R: TypeRelation<I>>(
     requires asked { AskedPats R.manner (R.state r.old) a.now b.now }
     ensures { RelatedPats R.manner (R.state r.old) (R.state r.new) a.now b.now result }
 {
-    compare_pats_of::<I, R>(r, a, b)?;
-    Ok(the_pat(&relate_in_order(r, &Part::Pat(*a), &Part::Pat(*b))?))
+    Ok(the_pat(&relate_parts(r, &Part::Pat(*a), &Part::Pat(*b))?))
 }
 
-// Relates two pattern types, or two patterns, that are of one form by their parts, in order, and answers the form over
-// what these answered.
+// Relates two terms of one form by their parts, in order, each at the variance of its place, and answers the form over
+// what these answered. The predicates of two trait objects are compared as each pair comes.
 #[cycle(relate)]
 fn relate_in_order<I: Interner, R: TypeRelation<I>>(
     r: &mut R,
@@ -273,23 +276,55 @@ fn relate_in_order<I: Interner, R: TypeRelation<I>>(
     requires lawful { (R.state r.old).lawful }
     requires decides { (R.state r.old).ambient ≢ Bivariant }
     requires asked { AskedParts R.manner (R.state r.old) a.now b.now }
-    requires form { IsOfPattern (part_tree (R.state r.old).meaning a.now) }
+    requires form { IsByParts (part_tree (R.state r.old).meaning a.now) }
+    requires one_sort { part_sort b.now ≡ part_sort a.now }
     requires alike { let m = (R.state r.old).meaning in AreOfOneForm (part_tree m a.now) (part_tree m b.now) }
     ensures related { RelatedParts R.manner (R.state r.old) (R.state r.new) a.now b.now result }
     ensures sort { IfOk result (λ p. part_sort p ≡ part_sort a.now) }
 {
-    let n = pattern_parts_count_of::<I, R>(r, a);
+    let n = term_parts_count_of::<I, R>(r, a);
     let mut answers = Vec::new(r.cx().alloc());
     for i in 0..n {
-        let x = pattern_part_of::<I, R>(r, a, i);
-        let y = pattern_part_of::<I, R>(r, b, i);
-        let answer = relate_parts(r, &x, &y)?;
+        compare_members_of::<I, R>(r, a, b, i)?;
+        let x = term_part_of::<I, R>(r, a, i);
+        let y = term_part_of::<I, R>(r, b, i);
+        let variance = term_variance_at::<I, R>(r, a, i);
+        let place = named_place_of::<I, R>(r, a, i);
+        let related = relate_parts_with_variance(r, variance, &x, &y);
+        let answer = in_part::<I, PartOf<I>>(place, related)?;
         answers.push(answer)?;
     }
-    make_pattern(r, a, answers.as_slice())
+    make_part(r, a, answers.as_slice())
 }
 
-// Relates two types, two constants or two patterns.
+// Relates two parts at a variance, seen from the ambient one, which is put back after it, also after an error. An
+// answer says what one of `relate_parts` says.
+#[cycle(relate)]
+fn relate_parts_with_variance<I: Interner, R: TypeRelation<I>>(
+    r: &mut R,
+    variance: Variance,
+    a: &PartOf<I>,
+    b: &PartOf<I>,
+) -> RelateResult<I, PartOf<I>>
+    requires lawful { (R.state r.old).lawful }
+    requires decides { xform (R.state r.old).ambient variance ≢ Bivariant }
+    requires asked { AskedPartsAt R.manner (R.state r.old) variance a.now b.now }
+    requires kind { IsRelatedPart a.now }
+    requires paired { ArePaired a.now b.now }
+    ensures related { RelatedPartsAt R.manner (R.state r.old) (R.state r.new) variance a.now b.now result }
+    ensures sort { IfOk result (λ p. part_sort p ≡ part_sort a.now) }
+    ensures alike { let m = (R.state r.old).meaning in
+        IsComparedPart a.now → OnOk result (AreOfOneForm (part_tree m a.now) (part_tree m b.now)) }
+{
+    let old = r.ambient();
+    r.set_ambient(old.xform(variance));
+    let answer = relate_parts(r, a, b);
+    r.set_ambient(old);
+    answer
+}
+
+// Relates two parts of terms: generic arguments, whose kinds may differ, binders, or others of one sort. Of these an
+// answer says that they are of one form, with as many parts.
 #[cycle(relate)]
 fn relate_parts<I: Interner, R: TypeRelation<I>>(
     r: &mut R,
@@ -299,15 +334,51 @@ fn relate_parts<I: Interner, R: TypeRelation<I>>(
     requires lawful { (R.state r.old).lawful }
     requires decides { (R.state r.old).ambient ≢ Bivariant }
     requires asked { AskedParts R.manner (R.state r.old) a.now b.now }
-    requires kind { IsInPattern a.now }
+    requires kind { IsRelatedPart a.now }
+    requires paired { ArePaired a.now b.now }
+    ensures related { RelatedParts R.manner (R.state r.old) (R.state r.new) a.now b.now result }
+    ensures sort { IfOk result (λ p. part_sort p ≡ part_sort a.now) }
+    ensures alike { let m = (R.state r.old).meaning in
+        IsComparedPart a.now → OnOk result (AreOfOneForm (part_tree m a.now) (part_tree m b.now)) }
+{
+    match kind_of_part(a) {
+        PartKind::Argument => {
+            let answer = relate(r, &the_arg(a), &the_arg(b))?;
+            Ok(of_arg(&answer))
+        }
+        PartKind::Binder => binders(r, a, b),
+        PartKind::Form => {
+            compare_parts_of::<I, R>(r, a, b)?;
+            relate_in_order(r, a, b)
+        }
+    }
+}
+
+// Relates two binders over bodies of one sort, by what the relation opens them to, and answers the left one.
+#[cycle(relate)]
+fn binders<I: Interner, R: TypeRelation<I>>(
+    r: &mut R,
+    a: &PartOf<I>,
+    b: &PartOf<I>,
+) -> RelateResult<I, PartOf<I>>
+    requires lawful { (R.state r.old).lawful }
+    requires decides { (R.state r.old).ambient ≢ Bivariant }
+    requires asked { AskedParts R.manner (R.state r.old) a.now b.now }
+    requires binder { IsBinderPart a.now }
     requires one_sort { part_sort b.now ≡ part_sort a.now }
     ensures related { RelatedParts R.manner (R.state r.old) (R.state r.new) a.now b.now result }
     ensures sort { IfOk result (λ p. part_sort p ≡ part_sort a.now) }
 {
-    match a {
-        Part::Ty(a) => Ok(Part::Ty(tys(r, a, &the_ty(b))?)),
-        Part::Const(a) => Ok(Part::Const(consts(r, a, &the_const(b))?)),
-        Part::Pat(a) => Ok(Part::Pat(pats(r, a, &the_pat(b))?)),
-        _ => unreachable!(),
+    if is_same_of::<I, R>(r, a, b) {
+        return Ok(*a);
     }
+    let Some((x, y)) = open_bodies(r, a, b, 0)? else {
+        return Ok(*a);
+    };
+    relate_parts(r, &x, &y)?;
+    let Some((x, y)) = open_bodies(r, a, b, 1)? else {
+        return Ok(*a);
+    };
+    relate_parts(r, &x, &y)?;
+    Ok(*a)
 }

@@ -1,19 +1,24 @@
 //! Relations in steps, none of which relates anything by itself.
-ghost use Rattle.std.specs.Prelude.{◌≡◌, ◌≢◌, IfSome, IfNone, IfOk};
+ghost use Rattle.std.specs.Prelude.{◌≡◌, ◌≢◌, ◌<◌, IfSome, IfNone, IfOk};
 ghost use Rattle.std.specs.Borrow.{sem, Lends};
 ghost use Rattle.relation_terms.specs.declared.terms.enums.Variance.{Variance};
 ghost use Rattle.relation_terms.specs.declared.terms.enums.Variance.TheVariants.{Invariant, Bivariant};
 ghost use Rattle.relation_terms.specs.Meaning.{Extends};
 ghost use Rattle.type_relations.specs.Stores.{IsSound};
 ghost use Rattle.type_relations.specs.Lawful.{State, Manners, TakesParts, Turned, Noted, WithMeaning};
-ghost use Rattle.type_relations.specs.Lawful.{RelatesByDeclared};
+ghost use Rattle.type_relations.specs.Lawful.{RelatesByDeclared, Asked};
+ghost use Rattle.type_relations.specs.Binders.{binder_tree};
+ghost use Rattle.type_relations.specs.Rounds.{Opened};
 ghost use Rattle.type_relations.specs.Keyed.{AskedConsts, AskedRegions, AskedTys, RelatedRegions, RelatesTys};
 ghost use Rattle.type_relations.specs.Keyed.{SteppedConsts, SteppedTys, TysStepToSubtype, AreOver, RecordsAsked};
 ghost use Rattle.type_relations.specs.Keyed.{variances_in};
 
+use crate::infer_ctxt::BinderOf;
 use crate::relate::Step;
 use relation_terms::terms::{Const, GenericArgs, Interner, ItemOf, Region, Ty, Variance};
 use relation_tools::error::RelateResult;
+use relation_tools::fold::TypeFoldable;
+use relation_tools::visit::TypeVisitable;
 
 /// A relation of types, regions and constants, at an ambient variance.
 ///
@@ -22,7 +27,7 @@ use relation_tools::error::RelateResult;
 ///
 /// The steps ask for terms that the relation's interner knows, that are the relation's own and that it takes at the
 /// ambient variance, which is not `Bivariant`. No relation takes terms of forms that have no rule yet: aliases,
-/// unevaluated constants, errors, binders and what they bind.
+/// unevaluated constants and errors; nor what a binder does not bind as its list says.
 pub trait TypeRelation<I: Interner> {
     // The relation as it stands.
     ghost state: { Self → State I.Key I.Id I.Name };
@@ -89,6 +94,28 @@ pub trait TypeRelation<I: Interner> {
         requires asked { AskedRegions manner (state self.old) a.now b.now }
         ensures related { RelatedRegions manner (state self.old) (state self.new) a.now b.now result }
         ensures recorded { IfOk result (λ _. RecordsAsked manner (state self.old) (state self.new) a.now b.now) };
+
+    /// The bodies of two binders that are to be related in a round, 0 or 1, the left one's first; or none.
+    ///
+    /// There is a round 1 only at `Invariant`, where a body uses what its binder binds: then each round relates one
+    /// side's variables to placeholders for the other's. In all other cases round 0 relates the binders, and its
+    /// bodies are to be related once. Upstream this is `binders`, which relates them too.
+    ///
+    /// # Errors
+    /// `Memory` where a growth was refused.
+    fn open_binders<T: TypeFoldable<I> + TypeVisitable<I> + Copy>(
+        &mut self,
+        a: &BinderOf<I, T>,
+        b: &BinderOf<I, T>,
+        round: usize,
+    ) -> RelateResult<I, Option<(T, T)>>
+        requires lawful { (state self.old).lawful }
+        requires decides { (state self.old).ambient ≢ Bivariant }
+        requires round { round < 2 }
+        requires asked { let m = (state self.old).meaning in Asked manner (state self.old) (state self.old).ambient
+            (binder_tree T.tree m a.now) (binder_tree T.tree m b.now) }
+        ensures { let m = (state self.old).meaning in Opened manner (state self.old) (state self.new) round
+            (binder_tree T.tree m a.now) (binder_tree T.tree m b.now) (T.tree (state self.new).meaning) result };
 
     /// Takes note that two types, as `tys` read them, were related.
     fn tys_done(&mut self, a: &Ty<I>, b: &Ty<I>) -> RelateResult<I, ()>

@@ -7,6 +7,7 @@ ghost use Rattle.relation_terms.specs.declared.terms.ty_kind.InferTy.TheVariants
 ghost use Rattle.relation_terms.specs.declared.terms.const_kind.ConstKind.TheVariants.{Infer as ConstInfer};
 ghost use Rattle.relation_terms.specs.declared.terms.const_kind.InferConst.TheVariants.{Var};
 ghost use Rattle.type_relations.specs.Contexts.{KnowsTy, KnowsConst};
+ghost use Rattle.type_relations.specs.Relation.{StaysWithin};
 ghost use Rattle.type_relations.specs.Covered.{IsCovered};
 ghost use Rattle.type_relations.specs.Parts.{IsFormed, IsFormedConst};
 
@@ -78,16 +79,16 @@ pub(crate) fn const_var<Infcx: InferCtxtLike>(
     requires { KnowsConst (Infcx.state infcx.now) constant.now }
     ensures is { let m = (Infcx.state infcx.now).meaning in
         IfSome result (λ v. m.const_ constant.now ≡ leaf (variable const_var v.0)) }
-    ensures formed { let m = (Infcx.state infcx.now).meaning in
-        IfNone result (IsCovered (m.const_ constant.now) → IsFormedConst (m.const_ constant.now)) }
+    ensures formed { let t = ((Infcx.state infcx.now).meaning).const_ constant.now in
+        IfNone result (IsCovered t → StaysWithin 0 t → IsFormedConst t) }
 {
     const_vid(&infcx.cx().const_kind(constant))
 }
 
-// Whether no variable but of regions stands in a type, so that it has a form.
+// Whether no variable but of regions stands in a type, so that it has a form if nothing in it escapes a binder.
 fn has_no_variable<I: Interner>(cx: &I, ty: &Ty<I>) -> bool
     requires { IsTrue (known ((I.meaning cx.now).ty ty.now)) }
-    ensures { let t = (I.meaning cx.now).ty ty.now in IsTrue result → IsCovered t → IsFormed t }
+    ensures { let t = (I.meaning cx.now).ty ty.now in IsTrue result → IsCovered t → StaysWithin 0 t → IsFormed t }
 {
     !cx.ty_flags(ty).has_non_region_infer
 }
@@ -101,9 +102,9 @@ pub(crate) fn have_no_variable<Infcx: InferCtxtLike>(
     requires a_known { KnowsTy (Infcx.state infcx.now) a.now }
     requires b_known { KnowsTy (Infcx.state infcx.now) b.now }
     ensures a_formed { let t = ((Infcx.state infcx.now).meaning).ty a.now in
-        IsTrue result → IsCovered t → IsFormed t }
+        IsTrue result → IsCovered t → StaysWithin 0 t → IsFormed t }
     ensures b_formed { let t = ((Infcx.state infcx.now).meaning).ty b.now in
-        IsTrue result → IsCovered t → IsFormed t }
+        IsTrue result → IsCovered t → StaysWithin 0 t → IsFormed t }
 {
     let cx = infcx.cx();
     if !has_no_variable(cx, a) {

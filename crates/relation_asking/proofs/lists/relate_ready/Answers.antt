@@ -6,7 +6,7 @@ use Rattle.relation_terms.proofs.Stays.{extends_on}
 use Rattle.relation_reference.proofs.Grows.{lawful_grows}
 use Rattle.relation_asking.specs.Needs.{both_needs}
 use Rattle.relation_asking.specs.Asking.{Has}
-use Rattle.relation_asking.proofs.AskingLemmas.{one_ready, as_arguments, has_left, has_right, ready_in}
+use Rattle.relation_asking.proofs.AskingLemmas.{one_ready, as_arguments, asked_left, asked_right, has_left, has_right, ready_in}
 use Rattle.relation_asking.proofs.lists.relate_ready.Goals as goal
 
 pub relate-requires-clause-lawful : goal.relate-requires-clause-lawful
@@ -44,7 +44,7 @@ relate-requires-clause-lhs_taken g c =
     let a = c.args.lhs.1 in
     let h = c.requires.lhs_ready in
     let ready = as_arguments a (n.args t) (one_ready (m.args t) (n.args t) a (e.args t h.0) h) in
-    (ready.1).1 (c.in_default.ensures).left_rules
+    ((ready.1).1 (asked_left _ _ _ _ c.in_default.ensures)).covered
 
 pub relate-requires-clause-lhs_in : goal.relate-requires-clause-lhs_in
 relate-requires-clause-lhs_in g c =
@@ -58,7 +58,7 @@ relate-requires-clause-lhs_in g c =
     let x = c.have_variables.new.ctx.inner in
     let has : Has x (both_needs c.args.lhs.1 c.args.rhs.1) = subst (Has x) c.both.ensures c.in-Ok.ensures.has in
     ready_in n x a (has_left x c.args.lhs.1 c.args.rhs.1 has)
-    (node arguments (n.args t)) (c.in_default.ensures).left_rules ready
+    (node arguments (n.args t)) (asked_left _ _ _ _ c.in_default.ensures) ready
 
 pub relate-requires-clause-rhs_known : goal.relate-requires-clause-rhs_known
 relate-requires-clause-rhs_known g c =
@@ -80,7 +80,7 @@ relate-requires-clause-rhs_taken g c =
     let a = c.args.rhs.1 in
     let h = c.requires.rhs_ready in
     let ready = as_arguments a (n.args t) (one_ready (m.args t) (n.args t) a (e.args t h.0) h) in
-    (ready.1).1 (c.in_default.ensures).right_rules
+    ((ready.1).1 (asked_right _ _ _ _ c.in_default.ensures)).covered
 
 pub relate-requires-clause-rhs_in : goal.relate-requires-clause-rhs_in
 relate-requires-clause-rhs_in g c =
@@ -94,4 +94,4 @@ relate-requires-clause-rhs_in g c =
     let x = c.have_variables.new.ctx.inner in
     let has : Has x (both_needs c.args.lhs.1 c.args.rhs.1) = subst (Has x) c.both.ensures c.in-Ok.ensures.has in
     ready_in n x a (has_right x c.args.lhs.1 c.args.rhs.1 has)
-    (node arguments (n.args t)) (c.in_default.ensures).right_rules ready
+    (node arguments (n.args t)) (asked_right _ _ _ _ c.in_default.ensures) ready

@@ -4,7 +4,7 @@ use Rattle.relation_terms.proofs.Stays.{extends_on}
 use Rattle.relation_reference.proofs.Grows.{lawful_grows}
 use Rattle.relation_asking.specs.Needs.{both_needs}
 use Rattle.relation_asking.specs.Asking.{IsReady, Has}
-use Rattle.relation_asking.proofs.AskingLemmas.{one_ready, has_left, has_right, ready_in}
+use Rattle.relation_asking.proofs.AskingLemmas.{one_ready, asked_left, asked_right, has_left, has_right, ready_in}
 use Rattle.relation_asking.proofs.question.ask_related.Goals as goal
 
 pub relate-requires-clause-lawful : goal.relate-requires-clause-lawful
@@ -21,7 +21,7 @@ relate-requires-clause-lhs_taken g c =
     let r : IsReady a (m.ty t) = c.in-Some.ensures m c.requires.ready in
     let ready = one_ready (m.ty t) (n.ty t) a (e.ty t r.0) r in
     let may = c.in_default-refusal.ensures in
-    (ready.1).1 may.left_rules
+    ((ready.1).1 (asked_left _ _ _ _ may)).covered
 
 pub relate-requires-clause-rhs_taken : goal.relate-requires-clause-rhs_taken
 relate-requires-clause-rhs_taken g c =
@@ -33,7 +33,7 @@ relate-requires-clause-rhs_taken g c =
     let r : IsReady b (m.ty t) = c.in-Some-type_of.ensures m c.requires.ready in
     let ready = one_ready (m.ty t) (n.ty t) b (e.ty t r.0) r in
     let may = c.in_default-refusal.ensures in
-    (ready.1).1 may.right_rules
+    ((ready.1).1 (asked_right _ _ _ _ may)).covered
 
 pub relate-requires-clause-lhs_in : goal.relate-requires-clause-lhs_in
 relate-requires-clause-lhs_in g c =
@@ -46,7 +46,7 @@ relate-requires-clause-lhs_in g c =
     let x = c.have_variables.new.ctx.inner in
     let r : IsReady a (m.ty t) = c.in-Some.ensures m c.requires.ready in
     let has : Has x (both_needs a b) = subst (Has x) c.both.ensures c.in-Ok.ensures.has in
-    ready_in n x a (has_left x a b has) (n.ty t) (c.in_default-refusal.ensures).left_rules
+    ready_in n x a (has_left x a b has) (n.ty t) (asked_left _ _ _ _ c.in_default-refusal.ensures)
     (one_ready (m.ty t) (n.ty t) a (e.ty t r.0) r)
 
 pub relate-requires-clause-rhs_in : goal.relate-requires-clause-rhs_in
@@ -60,5 +60,5 @@ relate-requires-clause-rhs_in g c =
     let x = c.have_variables.new.ctx.inner in
     let r : IsReady b (m.ty t) = c.in-Some-type_of.ensures m c.requires.ready in
     let has : Has x (both_needs a b) = subst (Has x) c.both.ensures c.in-Ok.ensures.has in
-    ready_in n x b (has_right x a b has) (n.ty t) (c.in_default-refusal.ensures).right_rules
+    ready_in n x b (has_right x a b has) (n.ty t) (asked_right _ _ _ _ c.in_default-refusal.ensures)
     (one_ready (m.ty t) (n.ty t) b (e.ty t r.0) r)

@@ -4,7 +4,7 @@ ghost use Rattle.relation_terms.specs.Trees.{known};
 ghost use Rattle.relation_terms.specs.Meaning.{Extends};
 ghost use Rattle.relation_terms.specs.declared.terms.enums.Variance.TheVariants.{Bivariant};
 ghost use Rattle.type_relations.specs.Stores.{all_bound};
-ghost use Rattle.type_relations.specs.Steps.{AddsConstraint};
+ghost use Rattle.type_relations.specs.Steps.{AddsConstraint, StaysFull};
 ghost use Rattle.type_relations.specs.Measures.{Goes};
 ghost use Rattle.type_relations.specs.Contexts.{KnowsTy, HasRegion};
 ghost use Rattle.type_relations.specs.ContextCalls.{Stands};
@@ -35,6 +35,7 @@ pub(crate) fn relate_regions<Infcx: InferCtxtLike>(
         AddsConstraint c.store (Infcx.state infcx.new).store (constraint_of c.meaning q))) }
     ensures goes { Goes 0 (Infcx.state infcx.old).store (Infcx.state infcx.new).store }
     ensures bound { all_bound (Infcx.state infcx.new).store ≡ all_bound (Infcx.state infcx.old).store }
+    ensures full { StaysFull (Infcx.state infcx.old).store (Infcx.state infcx.new).store }
 {
     match variance {
         Variance::Covariant => infcx.sub_regions(b, a, VisibleForLeakCheck::Yes, span),

@@ -13,8 +13,11 @@ ghost use Rattle.type_relations.specs.Resolving.{IsShallow};
 ghost use Rattle.type_relations.specs.Subtyping.{IsTyVar, RegistersSubtype, StepRegistersAlone, subtype_at};
 ghost use Rattle.type_relations.specs.Solving.{solving_in, solving_through, solver_manner};
 
-use crate::infer_ctxt::InferCtxtLike;
+use crate::infer_ctxt::{BinderOf, InferCtxtLike};
 use crate::relate::combine::{combine_ty_args, super_combine_consts, super_combine_tys};
+use crate::relate::solver_relating::opening::{
+    enter_and_instantiate, enters_first, enters_second, one_uses,
+};
 use crate::relate::solver_relating::recording::{relate_regions, subtype_predicate};
 use crate::relate::variables::{have_no_variable, ty_var};
 use crate::relate::{Relate, Step, StructurallyRelateAliases, TypeRelation};
@@ -23,6 +26,8 @@ use relation_terms::terms::{
     Variance,
 };
 use relation_tools::error::RelateResult;
+use relation_tools::fold::TypeFoldable;
+use relation_tools::visit::TypeVisitable;
 use std::mem::replace;
 
 /// A goal over an interner's keys.
@@ -332,6 +337,29 @@ impl<'a, Infcx: InferCtxtLike> TypeRelation<Infcx::Interner> for SolverRelating<
     ) -> RelateResult<Infcx::Interner, Region<Infcx::Interner>> {
         relate_regions(&mut *self.infcx, self.ambient_variance, a, b, self.span)?;
         Ok(*a)
+    }
+
+    fn open_binders<T: TypeFoldable<Infcx::Interner> + TypeVisitable<Infcx::Interner> + Copy>(
+        &mut self,
+        a: &BinderOf<Infcx::Interner, T>,
+        b: &BinderOf<Infcx::Interner, T>,
+        round: usize,
+    ) -> RelateResult<Infcx::Interner, Option<(T, T)>> {
+        if !one_uses(&*self.infcx, a, b) {
+            if round > 0 {
+                return Ok(None);
+            }
+            return Ok(Some((a.value, b.value)));
+        }
+        if enters_second(self.ambient_variance, round) {
+            let (y, x) = enter_and_instantiate(&mut *self.infcx, b, a)?;
+            return Ok(Some((x, y)));
+        }
+        if enters_first(self.ambient_variance, round) {
+            let (x, y) = enter_and_instantiate(&mut *self.infcx, a, b)?;
+            return Ok(Some((x, y)));
+        }
+        Ok(None)
     }
 
     fn tys_done(

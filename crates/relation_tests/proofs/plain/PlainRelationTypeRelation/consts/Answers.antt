@@ -1,8 +1,9 @@
 use Rattle.std.proofs.Common.{refl}
 use Rattle.type_relations.specs.Parts.{IsFormedConst}
-use Rattle.relation_tests.specs.Plain.{plain_state, plain_manner}
+use Rattle.relation_tests.specs.Plain.{plain_store, plain_state, plain_manner}
 use Rattle.type_relations.proofs.Comparing.{formed_const}
 use Rattle.type_relations.proofs.Passing.{parts_left}
+use Rattle.type_relations.proofs.Standing.{term_within}
 use Rattle.relation_tests.proofs.PlainLemmas.{no_const_variable}
 use Rattle.relation_tests.proofs.plain.PlainRelationTypeRelation.consts.Goals as goal
 
@@ -14,6 +15,8 @@ returns g c =
     parts_left plain_manner IsFormedConst (plain_state m c.args.self.now.ambient cs) m.const_
     c.args.a.now c.args.b.now c.args.a.now c.args.b.now refl refl k
     (formed_const m c.const_kind-a.result c.args.a.now c.const_kind-a.ensures k.left_taken.1
+    (term_within (plain_store m cs) (m.const_ c.args.a.now) k.left_in)
     (no_const_variable m cs (m.const_ c.args.a.now) k.left_in))
     (formed_const m c.const_kind-b.result c.args.b.now c.const_kind-b.ensures k.right_taken.1
+    (term_within (plain_store m cs) (m.const_ c.args.b.now) k.right_in)
     (no_const_variable m cs (m.const_ c.args.b.now) k.right_in))

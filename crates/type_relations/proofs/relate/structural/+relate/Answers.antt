@@ -1,4 +1,4 @@
-use Rattle.std.proofs.Common.{ap₂, suc, ◌+◌, ◌*◌, IfOk, rules, ◌≡◌, ◌≢◌, ◌↔◌, ◌<◌, IsTrue, refl, sym, ap, ◌∙◌, subst, subst₂, arith, Ok, Err}
+use Rattle.std.proofs.Common.{ap₂, suc, ◌+◌, ◌*◌, IfOk, rules, ◌≡◌, ◌≢◌, ◌↔◌, ◌<◌, IsTrue, refl, sym, ap, ◌∙◌, subst, subst₂, arith, Ok, Err, OnOk}
 use Rattle.std.proofs.lemmas.Bool.{false≢true}
 use Rattle.relation_terms.specs.declared.terms.enums.Variance.TheVariants.{Bivariant}
 use Rattle.relation_terms.specs.declared.terms.generic_arg.GenericArgKind.TheVariants.{Lifetime, Ty, Const}
@@ -7,24 +7,29 @@ use Rattle.relation_terms.specs.Trees.{nil, known, count, nth, list_tree}
 use Rattle.relation_terms.specs.Variances.{xform}
 use Rattle.relation_terms.specs.Meaning.{arg_tree}
 use Rattle.relation_terms.specs.Parts.{part_tree, part_sort, tree_sort, Fit as PartsFit}
-use Rattle.relation_terms.specs.declared.terms.part_kind.Part.TheVariants.{Ty as TyPart, Const as ConstPart, Pat as PatPart}
-use Rattle.relation_terms.proofs.Parts.{sort_known, stays_part}
+use Rattle.relation_terms.proofs.Parts.{sort_known, stays_part, arg_part}
 use Rattle.relation_terms.proofs.Sorted.{Sorted}
 use Rattle.relation_terms.proofs.Stays.{knows_arg}
 use Rattle.relation_tools.specs.declared.error.TypeError.TheVariants.{Mismatch}
 use Rattle.relation_tools.specs.declared.error.RelateFault.TheVariants.{Unrelated, Memory}
 use Rattle.type_relations.specs.Relation.{part_at}
 use Rattle.type_relations.specs.Goals.{Relates}
-use Rattle.type_relations.specs.Errors.{AreOfOneForm}
+use Rattle.type_relations.specs.Errors.{AreOfOneForm, PartError}
 use Rattle.type_relations.specs.Covered.{IsCovered}
-use Rattle.type_relations.specs.Parts.{IsFormed, IsFormedConst, IsOfPattern, IsInPattern, parts_of, const_parts_of, head_of}
+use Rattle.type_relations.specs.Parts.{IsFormed, IsFormedConst, IsByParts, IsRelatedPart, IsComparedPart, IsArgPart}
+use Rattle.type_relations.specs.Parts.{IsBinderPart, ArePaired, parts_of, const_parts_of, head_of}
 use Rattle.type_relations.specs.Parts.{const_head_of}
 use Rattle.type_relations.specs.Stores.{weight}
 use Rattle.type_relations.specs.Measures.{depth}
-use Rattle.type_relations.proofs.Patterns.{pattern_is, pattern_alike, pattern_part_at, part_sorted, in_pattern, of_one_sort}
-use Rattle.type_relations.proofs.InOrder.{patterns_stopped, patterns_answer, patterns_refused, patterns_differ}
-use Rattle.type_relations.proofs.InOrder.{may_over_pattern, part_pushed, parts_end}
-use Rattle.type_relations.specs.Handing.{IsResultOfTy, IsResultOfConst}
+use Rattle.type_relations.proofs.Patterns.{term_alike, term_decides, part_sorted, compared_is}
+use Rattle.type_relations.proofs.PartPlaces.{related_part, paired_part}
+use Rattle.type_relations.proofs.InOrder.{terms_stopped, terms_answer, terms_unlike, term_refused, terms_differ}
+use Rattle.type_relations.proofs.InOrder.{may_over_term, part_pushed, parts_end}
+use Rattle.type_relations.proofs.ByParts.{paired_args, are_args, sort_as_arg, arg_not_compared, paired_binders}
+use Rattle.type_relations.proofs.ByParts.{binder_not_compared, form_compared, paired_compared, inputs_compared}
+use Rattle.type_relations.proofs.ByParts.{no_inputs_yet, inputs_next, compared_as, alike_back, on_ok, asked_turned}
+use Rattle.type_relations.proofs.ByParts.{depth_turned}
+use Rattle.type_relations.specs.Handing.{IsResultOfTy, IsResultOfConst, IsResultOfPart, named_place}
 use Rattle.type_relations.specs.Making.{arg_sort, Fit, over, const_over}
 use Rattle.type_relations.proofs.Answering.{same_items, AreAnswers, answers_none, answers_next, answers_end, may_over, may_const_over, may_later}
 use Rattle.type_relations.proofs.Making.{fit_pushed, fit_end, fits_place}
@@ -35,7 +40,7 @@ use Rattle.type_relations.proofs.Standing.{term_context}
 use Rattle.type_relations.proofs.Parts.{in_parts, in_const_parts}
 use Rattle.type_relations.proofs.OneParts.{parts_counted, const_parts_counted}
 use Rattle.type_relations.proofs.Comparing.{parts_of_list, const_parts_list}
-use Rattle.type_relations.proofs.Handing.{AreOfTwoKinds, no_lifetime, no_ty, no_const_arg}
+use Rattle.type_relations.proofs.Handing.{AreOfTwoKinds, no_lifetime, no_ty, no_const_arg, HaveAsManyInputs}
 use Rattle.type_relations.proofs.Passing.{asked_later, parts_related, again_related, again_refused, again_relates, noted_related, noted_refused}
 use Rattle.type_relations.proofs.Passing.{turned, unlooked, step_done, retold, refused_again, relates_now, as_err}
 use Rattle.type_relations.proofs.Registered.{directed_from}
@@ -46,9 +51,17 @@ use Rattle.type_relations.proofs.Structural.{types_related, types_stopped, ty_re
 use Rattle.type_relations.proofs.StructuralConsts.{consts_related, consts_stopped, const_refused, itself_related, types_differ, consts_differ, kinds_differ}
 use Rattle.type_relations.proofs.Looping.{next_asked, next_under, next_const_asked, next_const_under, parts_under, again_under}
 use Rattle.type_relations.proofs.Looping.{failed_ty, failed_const, kept_ty, kept_const, heads_alike, const_heads_alike}
+use Rattle.type_relations.proofs.Looping.{failed_part, kept_part}
 use Rattle.type_relations.specs.Subtyping.{RegistersSubtype, StepRegistersSubtype}
 use Rattle.type_relations.proofs.Subtyping.{left_none, right_none, lifetime_none, const_none, no_ty_none, refused_told}
 use Rattle.type_relations.proofs.Subtyping.{done_registers, refused_registers, parts_register, again_registers}
+use Rattle.std.proofs.Common.{Some, None}
+use Rattle.relation_terms.proofs.Stays.{extends_on}
+use Rattle.type_relations.specs.Rounds.{Opened}
+use Rattle.type_relations.proofs.Bodies.{opened_related, opened_paired}
+use Rattle.type_relations.proofs.Rounds.{has_binder, opening_refused, first_refused, first_done, half_asked}
+use Rattle.type_relations.proofs.Rounds.{reopening_refused, nothing_left, second_refused, second_related}
+use Rattle.type_relations.proofs.Rounds.{first_under, second_under}
 use Rattle.type_relations.proofs.relate.structural.+relate.Goals as goal
 
 pub consts-returns-in-Done : goal.consts-returns-in-Done
@@ -163,7 +176,7 @@ consts-returns-in-Parts g t c =
     let inner = subst (λ z. Related M q p z x y (p.meaning).const_ c.structurally_relate_consts.result) (step.passes).ambient
     c.structurally_relate_consts.ensures in
     parts_related M IsFormedConst (g.met.R.TypeRelation.sound c.structurally_relate_consts.new.r ((inner.passes).lawful ((step.passes).lawful c.requires.lawful)))
-    a b x y (p.meaning).const_ c.structurally_relate_consts.result step.passes step.verdict step.exact inner
+    a b x y (p.meaning).const_ c.structurally_relate_consts.result step.passes step.verdict step.exact step.full inner
 
 pub tys-returns-in-Done-clause-related : goal.tys-returns-in-Done-clause-related
 tys-returns-in-Done-clause-related g t c =
@@ -256,7 +269,7 @@ tys-returns-in_err-answer-in-Parts-clause-related g t c =
     c.from_residual-in_err-answer-in-Parts.ensures.0 c.from_residual-in_err-answer-in-Parts.ensures.1 in
     subst (λ z. Related M r p r.ambient a b (p.meaning).ty z) (sym failed)
     (parts_related M IsFormed (g.met.R.TypeRelation.sound c.structurally_relate_tys.new.r ((inner.passes).lawful ((step.passes).lawful c.requires.lawful)))
-    a b x y (p.meaning).ty (Err e.field-0.0) step.passes step.verdict step.exact inner)
+    a b x y (p.meaning).ty (Err e.field-0.0) step.passes step.verdict step.exact step.full inner)
 
 pub tys-tys_done-requires-clause-asked : goal.tys-tys_done-requires-clause-asked
 tys-tys_done-requires-clause-asked g t c =
@@ -273,7 +286,7 @@ tys-tys_done-requires-clause-asked g t c =
     let inner = subst (λ v. Related M q p v x y (p.meaning).ty (Ok z.answer)) (step.passes).ambient z.ensures in
     let done : Related M r p r.ambient a b (p.meaning).ty (Ok z.answer) =
     parts_related M IsFormed (g.met.R.TypeRelation.sound c.structurally_relate_tys.new.r ((inner.passes).lawful ((step.passes).lawful c.requires.lawful)))
-    a b x y (p.meaning).ty (Ok z.answer) step.passes step.verdict step.exact inner in
+    a b x y (p.meaning).ty (Ok z.answer) step.passes step.verdict step.exact step.full inner in
     let same_x : (p.meaning).ty c.in-Parts.a ≡ (q.meaning).ty c.in-Parts.a =
     ((inner.passes).extends).ty c.in-Parts.a ((step.verdict).asked).left_known in
     let same_y : (p.meaning).ty c.in-Parts.b ≡ (q.meaning).ty c.in-Parts.b =
@@ -297,7 +310,7 @@ tys-tys_done-requires-clause-related g t c =
     let inner = subst (λ v. Related M q p v x y (p.meaning).ty (Ok z.answer)) (step.passes).ambient z.ensures in
     let done : Related M r p r.ambient a b (p.meaning).ty (Ok z.answer) =
     parts_related M IsFormed (g.met.R.TypeRelation.sound c.structurally_relate_tys.new.r ((inner.passes).lawful ((step.passes).lawful c.requires.lawful)))
-    a b x y (p.meaning).ty (Ok z.answer) step.passes step.verdict step.exact inner in
+    a b x y (p.meaning).ty (Ok z.answer) step.passes step.verdict step.exact step.full inner in
     let same_x : (p.meaning).ty c.in-Parts.a ≡ (q.meaning).ty c.in-Parts.a =
     ((inner.passes).extends).ty c.in-Parts.a ((step.verdict).asked).left_known in
     let same_y : (p.meaning).ty c.in-Parts.b ≡ (q.meaning).ty c.in-Parts.b =
@@ -321,7 +334,7 @@ tys-returns-in_err-tys_done-in-Parts-clause-related g t c =
     let inner = subst (λ v. Related M q p v x y (p.meaning).ty (Ok z.answer)) (step.passes).ambient z.ensures in
     let done : Related M r p r.ambient a b (p.meaning).ty (Ok z.answer) =
     parts_related M IsFormed (g.met.R.TypeRelation.sound c.structurally_relate_tys.new.r ((inner.passes).lawful ((step.passes).lawful c.requires.lawful)))
-    a b x y (p.meaning).ty (Ok z.answer) step.passes step.verdict step.exact inner in
+    a b x y (p.meaning).ty (Ok z.answer) step.passes step.verdict step.exact step.full inner in
     let u = g.R.TypeRelation.state c.tys_done.new.self in
     let e = c.in_err-tys_done-in-Parts in
     let failed = as_err c.from_residual-in_err-tys_done-in-Parts.result e.field-0.0
@@ -344,7 +357,7 @@ tys-returns-in_ok-tys_done-in-Parts-clause-related g t c =
     let inner = subst (λ v. Related M q p v x y (p.meaning).ty (Ok z.answer)) (step.passes).ambient z.ensures in
     let done : Related M r p r.ambient a b (p.meaning).ty (Ok z.answer) =
     parts_related M IsFormed (g.met.R.TypeRelation.sound c.structurally_relate_tys.new.r ((inner.passes).lawful ((step.passes).lawful c.requires.lawful)))
-    a b x y (p.meaning).ty (Ok z.answer) step.passes step.verdict step.exact inner in
+    a b x y (p.meaning).ty (Ok z.answer) step.passes step.verdict step.exact step.full inner in
     let u = g.R.TypeRelation.state c.tys_done.new.self in
     let n = c.in_ok-tys_done-in-Parts in
     noted_related M r.ambient a b (p.meaning).ty z.answer done (Ok n.field-0) n.ensures (u.meaning).ty
@@ -1793,43 +1806,45 @@ relate_in_order-loop-i-init g t c =
     let M = g.R.TypeRelation.manner in
     let a = part_tree r.meaning c.args.a.now in
     let b = part_tree r.meaning c.args.b.now in
-    let e = g.met.R.TypeRelation.reads c.args.r.now in
-    let cx = g.R.TypeRelation.interner c.args.r.now in
-    let sorted : Sorted r.meaning = subst (λ m. Sorted m) (sym e) (record {
-      ty = g.met.I.Interner.is_ty cx;
-      region = g.met.I.Interner.is_region cx;
-      tys = g.met.I.Interner.are_tys cx;
-      const_ = g.met.I.Interner.is_const cx;
-      valtree = g.met.I.Interner.is_valtree cx;
-      args = g.met.I.Interner.are_args cx;
-      branches = g.met.I.Interner.are_branches cx;
-      pat = g.met.I.Interner.is_pat cx;
-      alternatives = g.met.I.Interner.are_alternatives cx;
-      existential_predicates = g.met.I.Interner.are_existential_predicates cx;
+    let e_sorted_before = g.met.R.TypeRelation.reads c.args.r.now in
+    let cx_sorted_before = g.R.TypeRelation.interner c.args.r.now in
+    let sorted_before : Sorted r.meaning = subst (λ m. Sorted m) (sym e_sorted_before) (record {
+      ty = g.met.I.Interner.is_ty cx_sorted_before;
+      region = g.met.I.Interner.is_region cx_sorted_before;
+      tys = g.met.I.Interner.are_tys cx_sorted_before;
+      const_ = g.met.I.Interner.is_const cx_sorted_before;
+      valtree = g.met.I.Interner.is_valtree cx_sorted_before;
+      args = g.met.I.Interner.are_args cx_sorted_before;
+      branches = g.met.I.Interner.are_branches cx_sorted_before;
+      pat = g.met.I.Interner.is_pat cx_sorted_before;
+      alternatives = g.met.I.Interner.are_alternatives cx_sorted_before;
+      existential_predicates = g.met.I.Interner.are_existential_predicates cx_sorted_before;
     }) in
     let k = c.requires.asked in
     let form = c.requires.form in
     let alike = c.requires.alike in
-    let left = part_sorted r.meaning sorted c.args.a.now k.left_known form in
-    let right = part_sorted r.meaning sorted c.args.b.now k.right_known (pattern_alike a b alike form) in
+    let other = term_alike a b alike form in
+    let ta = part_sorted r.meaning sorted_before c.args.a.now k.left_known form in
+    let tb = part_sorted r.meaning sorted_before c.args.b.now k.right_known other in
     record {
       lawful = c.requires.lawful;
       fronted = fronted_none M r (head_of a) r.ambient (parts_of a) (parts_of b);
-      left_count = c.pattern_parts_count_of-n.ensures;
-      right_count = c.pattern_parts_count_of-n.ensures ∙ parts_counted a b alike;
+      left_count = c.term_parts_count_of-n.ensures;
+      right_count = c.term_parts_count_of-n.ensures ∙ parts_counted a b alike;
       are_parts = record {
-        left_list = parts_of_list (part_sort c.args.a.now) a left;
-        right_list = parts_of_list (part_sort c.args.b.now) b right;
+        left_list = parts_of_list (part_sort c.args.a.now) a ta;
+        right_list = parts_of_list (part_sort c.args.b.now) b tb;
         left_in = term_context r.store (parts_of a) (in_parts r.store a k.left_in);
         right_in = term_context r.store (parts_of b) (in_parts r.store b k.right_in);
       };
       answers = subst (λ z. AreAnswers M r (head_of a) r.ambient 0 (parts_of a) (list_tree (part_tree r.meaning) z))
           (sym c.new-answers.ensures.items) (answers_none M r (head_of a) r.ambient (parts_of a));
       fits = subst (λ z. PartsFit z nil) (sym c.new-answers.ensures.items) tt;
+      inputs = no_inputs_yet a b;
     }
 
-pub relate_in_order-pattern_part_of-x-requires-clause-term_known : goal.relate_in_order-pattern_part_of-x-requires-clause-term_known
-relate_in_order-pattern_part_of-x-requires-clause-term_known g t c =
+pub relate_in_order-compare_members_of-requires-clause-a_known : goal.relate_in_order-compare_members_of-requires-clause-a_known
+relate_in_order-compare_members_of-requires-clause-a_known g t c =
     let r = g.R.TypeRelation.state c.args.r.now in
     let M = g.R.TypeRelation.manner in
     let a = part_tree r.meaning c.args.a.now in
@@ -1843,12 +1858,10 @@ relate_in_order-pattern_part_of-x-requires-clause-term_known g t c =
     let extends = ((inv.fronted).passes).extends in
     let same_a : part_tree q.meaning c.args.a.now ≡ a = stays_part extends c.args.a.now k.left_known in
     let same_b : part_tree q.meaning c.args.b.now ≡ b = stays_part extends c.args.b.now k.right_known in
-    let test = c.loop-i-test.true in
-    let l : i < count (parts_of a) = omega (arith, test, inv.left_count) in
     subst (λ z. IsTrue (known z)) (sym same_a) k.left_known
 
-pub relate_in_order-pattern_part_of-x-requires-clause-form : goal.relate_in_order-pattern_part_of-x-requires-clause-form
-relate_in_order-pattern_part_of-x-requires-clause-form g t c =
+pub relate_in_order-compare_members_of-requires-clause-b_known : goal.relate_in_order-compare_members_of-requires-clause-b_known
+relate_in_order-compare_members_of-requires-clause-b_known g t c =
     let r = g.R.TypeRelation.state c.args.r.now in
     let M = g.R.TypeRelation.manner in
     let a = part_tree r.meaning c.args.a.now in
@@ -1862,93 +1875,14 @@ relate_in_order-pattern_part_of-x-requires-clause-form g t c =
     let extends = ((inv.fronted).passes).extends in
     let same_a : part_tree q.meaning c.args.a.now ≡ a = stays_part extends c.args.a.now k.left_known in
     let same_b : part_tree q.meaning c.args.b.now ≡ b = stays_part extends c.args.b.now k.right_known in
-    let test = c.loop-i-test.true in
-    let l : i < count (parts_of a) = omega (arith, test, inv.left_count) in
-    subst IsOfPattern (sym same_a) form
-
-pub relate_in_order-pattern_part_of-x-requires-clause-in_bounds : goal.relate_in_order-pattern_part_of-x-requires-clause-in_bounds
-relate_in_order-pattern_part_of-x-requires-clause-in_bounds g t c =
-    let r = g.R.TypeRelation.state c.args.r.now in
-    let M = g.R.TypeRelation.manner in
-    let a = part_tree r.meaning c.args.a.now in
-    let b = part_tree r.meaning c.args.b.now in
-    let q = g.R.TypeRelation.state c.loop-i.r in
-    let i = c.loop-i.i in
-    let inv = c.loop-i.invariant in
-    let k = c.requires.asked in
-    let form = c.requires.form in
-    let alike = c.requires.alike in
-    let extends = ((inv.fronted).passes).extends in
-    let same_a : part_tree q.meaning c.args.a.now ≡ a = stays_part extends c.args.a.now k.left_known in
-    let same_b : part_tree q.meaning c.args.b.now ≡ b = stays_part extends c.args.b.now k.right_known in
-    let test = c.loop-i-test.true in
-    let l : i < count (parts_of a) = omega (arith, test, inv.left_count) in
-    subst (λ z. i < count (parts_of z)) (sym same_a) l
-
-pub relate_in_order-pattern_part_of-y-requires-clause-term_known : goal.relate_in_order-pattern_part_of-y-requires-clause-term_known
-relate_in_order-pattern_part_of-y-requires-clause-term_known g t c =
-    let r = g.R.TypeRelation.state c.args.r.now in
-    let M = g.R.TypeRelation.manner in
-    let a = part_tree r.meaning c.args.a.now in
-    let b = part_tree r.meaning c.args.b.now in
-    let q = g.R.TypeRelation.state c.loop-i.r in
-    let i = c.loop-i.i in
-    let inv = c.loop-i.invariant in
-    let k = c.requires.asked in
-    let form = c.requires.form in
-    let alike = c.requires.alike in
-    let extends = ((inv.fronted).passes).extends in
-    let same_a : part_tree q.meaning c.args.a.now ≡ a = stays_part extends c.args.a.now k.left_known in
-    let same_b : part_tree q.meaning c.args.b.now ≡ b = stays_part extends c.args.b.now k.right_known in
-    let test = c.loop-i-test.true in
-    let l : i < count (parts_of b) = omega (arith, test, inv.right_count) in
     subst (λ z. IsTrue (known z)) (sym same_b) k.right_known
 
-pub relate_in_order-pattern_part_of-y-requires-clause-form : goal.relate_in_order-pattern_part_of-y-requires-clause-form
-relate_in_order-pattern_part_of-y-requires-clause-form g t c =
+pub relate_in_order-compare_members_of-requires-clause-in_a : goal.relate_in_order-compare_members_of-requires-clause-in_a
+relate_in_order-compare_members_of-requires-clause-in_a g t c =
     let r = g.R.TypeRelation.state c.args.r.now in
     let M = g.R.TypeRelation.manner in
     let a = part_tree r.meaning c.args.a.now in
     let b = part_tree r.meaning c.args.b.now in
-    let q = g.R.TypeRelation.state c.loop-i.r in
-    let i = c.loop-i.i in
-    let inv = c.loop-i.invariant in
-    let k = c.requires.asked in
-    let form = c.requires.form in
-    let alike = c.requires.alike in
-    let extends = ((inv.fronted).passes).extends in
-    let same_a : part_tree q.meaning c.args.a.now ≡ a = stays_part extends c.args.a.now k.left_known in
-    let same_b : part_tree q.meaning c.args.b.now ≡ b = stays_part extends c.args.b.now k.right_known in
-    let test = c.loop-i-test.true in
-    let l : i < count (parts_of b) = omega (arith, test, inv.right_count) in
-    subst IsOfPattern (sym same_b) (pattern_alike a b alike form)
-
-pub relate_in_order-pattern_part_of-y-requires-clause-in_bounds : goal.relate_in_order-pattern_part_of-y-requires-clause-in_bounds
-relate_in_order-pattern_part_of-y-requires-clause-in_bounds g t c =
-    let r = g.R.TypeRelation.state c.args.r.now in
-    let M = g.R.TypeRelation.manner in
-    let a = part_tree r.meaning c.args.a.now in
-    let b = part_tree r.meaning c.args.b.now in
-    let q = g.R.TypeRelation.state c.loop-i.r in
-    let i = c.loop-i.i in
-    let inv = c.loop-i.invariant in
-    let k = c.requires.asked in
-    let form = c.requires.form in
-    let alike = c.requires.alike in
-    let extends = ((inv.fronted).passes).extends in
-    let same_a : part_tree q.meaning c.args.a.now ≡ a = stays_part extends c.args.a.now k.left_known in
-    let same_b : part_tree q.meaning c.args.b.now ≡ b = stays_part extends c.args.b.now k.right_known in
-    let test = c.loop-i-test.true in
-    let l : i < count (parts_of b) = omega (arith, test, inv.right_count) in
-    subst (λ z. i < count (parts_of z)) (sym same_b) l
-
-pub relate_in_order-relate_parts-requires : goal.relate_in_order-relate_parts-requires
-relate_in_order-relate_parts-requires g t c κs within =
-    let r = g.R.TypeRelation.state c.args.r.now in
-    let M = g.R.TypeRelation.manner in
-    let a = part_tree r.meaning c.args.a.now in
-    let b = part_tree r.meaning c.args.b.now in
-    let takes = g.met.R.TypeRelation.takes_parts in
     let q = g.R.TypeRelation.state c.loop-i.r in
     let i = c.loop-i.i in
     let inv = c.loop-i.invariant in
@@ -1961,30 +1895,262 @@ relate_in_order-relate_parts-requires g t c κs within =
     let test = c.loop-i-test.true in
     let lx : i < count (parts_of a) = omega (arith, test, inv.left_count) in
     let ly : i < count (parts_of b) = omega (arith, test, inv.right_count) in
-    let X = c.pattern_part_of-x.result in
-    let Y = c.pattern_part_of-y.result in
-    let x = part_tree q.meaning X in
-    let y = part_tree q.meaning Y in
-    let kx = c.pattern_part_of-x.ensures.sure in
-    let ky = c.pattern_part_of-y.ensures.sure in
-    let ex : x ≡ nth i (parts_of a) = c.pattern_part_of-x.ensures.means ∙ ap (λ z. nth i (parts_of z)) same_a in
-    let ey : y ≡ nth i (parts_of b) = c.pattern_part_of-y.ensures.means ∙ ap (λ z. nth i (parts_of z)) same_b in
-    let ew : q.ambient ≡ part_at (items_in r) (head_of a) i r.ambient =
-    ((inv.fronted).passes).ambient ∙ sym (pattern_part_at (items_in r) a i r.ambient form) in
-    let e_before = g.met.R.TypeRelation.reads c.args.r.now in
-    let cx_before = g.R.TypeRelation.interner c.args.r.now in
-    let sorted_before : Sorted r.meaning = subst (λ m. Sorted m) (sym e_before) (record {
-      ty = g.met.I.Interner.is_ty cx_before;
-      region = g.met.I.Interner.is_region cx_before;
-      tys = g.met.I.Interner.are_tys cx_before;
-      const_ = g.met.I.Interner.is_const cx_before;
-      valtree = g.met.I.Interner.is_valtree cx_before;
-      args = g.met.I.Interner.are_args cx_before;
-      branches = g.met.I.Interner.are_branches cx_before;
-      pat = g.met.I.Interner.is_pat cx_before;
-      alternatives = g.met.I.Interner.are_alternatives cx_before;
-      existential_predicates = g.met.I.Interner.are_existential_predicates cx_before;
+    subst (λ z. i < count (parts_of z)) (sym same_a) lx
+
+pub relate_in_order-compare_members_of-requires-clause-in_b : goal.relate_in_order-compare_members_of-requires-clause-in_b
+relate_in_order-compare_members_of-requires-clause-in_b g t c =
+    let r = g.R.TypeRelation.state c.args.r.now in
+    let M = g.R.TypeRelation.manner in
+    let a = part_tree r.meaning c.args.a.now in
+    let b = part_tree r.meaning c.args.b.now in
+    let q = g.R.TypeRelation.state c.loop-i.r in
+    let i = c.loop-i.i in
+    let inv = c.loop-i.invariant in
+    let k = c.requires.asked in
+    let form = c.requires.form in
+    let alike = c.requires.alike in
+    let extends = ((inv.fronted).passes).extends in
+    let same_a : part_tree q.meaning c.args.a.now ≡ a = stays_part extends c.args.a.now k.left_known in
+    let same_b : part_tree q.meaning c.args.b.now ≡ b = stays_part extends c.args.b.now k.right_known in
+    let test = c.loop-i-test.true in
+    let lx : i < count (parts_of a) = omega (arith, test, inv.left_count) in
+    let ly : i < count (parts_of b) = omega (arith, test, inv.right_count) in
+    subst (λ z. i < count (parts_of z)) (sym same_b) ly
+
+pub relate_in_order-returns-in_err-compare_members_of : goal.relate_in_order-returns-in_err-compare_members_of
+relate_in_order-returns-in_err-compare_members_of g t c =
+    let r = g.R.TypeRelation.state c.args.r.now in
+    let M = g.R.TypeRelation.manner in
+    let a = part_tree r.meaning c.args.a.now in
+    let b = part_tree r.meaning c.args.b.now in
+    let e_sorted_before = g.met.R.TypeRelation.reads c.args.r.now in
+    let cx_sorted_before = g.R.TypeRelation.interner c.args.r.now in
+    let sorted_before : Sorted r.meaning = subst (λ m. Sorted m) (sym e_sorted_before) (record {
+      ty = g.met.I.Interner.is_ty cx_sorted_before;
+      region = g.met.I.Interner.is_region cx_sorted_before;
+      tys = g.met.I.Interner.are_tys cx_sorted_before;
+      const_ = g.met.I.Interner.is_const cx_sorted_before;
+      valtree = g.met.I.Interner.is_valtree cx_sorted_before;
+      args = g.met.I.Interner.are_args cx_sorted_before;
+      branches = g.met.I.Interner.are_branches cx_sorted_before;
+      pat = g.met.I.Interner.is_pat cx_sorted_before;
+      alternatives = g.met.I.Interner.are_alternatives cx_sorted_before;
+      existential_predicates = g.met.I.Interner.are_existential_predicates cx_sorted_before;
     }) in
+    let q = g.R.TypeRelation.state c.loop-i.r in
+    let i = c.loop-i.i in
+    let inv = c.loop-i.invariant in
+    let k = c.requires.asked in
+    let form = c.requires.form in
+    let alike = c.requires.alike in
+    let extends = ((inv.fronted).passes).extends in
+    let same_a : part_tree q.meaning c.args.a.now ≡ a = stays_part extends c.args.a.now k.left_known in
+    let same_b : part_tree q.meaning c.args.b.now ≡ b = stays_part extends c.args.b.now k.right_known in
+    let other = term_alike a b alike form in
+    let ta = part_sorted r.meaning sorted_before c.args.a.now k.left_known form in
+    let tb = part_sorted r.meaning sorted_before c.args.b.now k.right_known other in
+    let n = c.in_err-compare_members_of in
+    let unlike = subst₂ (λ x y. PartError q.meaning x y n.field-0.0) same_a same_b n.ensures in
+    let failed = as_err c.from_residual.result (Unrelated n.field-0.0) c.from_residual.ensures.0 c.from_residual.ensures.1 in
+    record {
+      related = subst (λ u. Related M r q r.ambient a b (part_tree q.meaning) u) (sym failed)
+          (terms_unlike M r.ambient a b i form (part_tree q.meaning) (part_sort c.args.a.now) (part_sort c.args.b.now)
+          n.field-0.0 c.requires.decides other ta tb k.left_known k.right_known unlike inv.fronted);
+      sort = subst (λ u. IfOk u (λ z. part_sort z ≡ part_sort c.args.a.now)) (sym failed) tt;
+    }
+
+pub relate_in_order-term_part_of-x-requires-clause-term_known : goal.relate_in_order-term_part_of-x-requires-clause-term_known
+relate_in_order-term_part_of-x-requires-clause-term_known g t c =
+    let r = g.R.TypeRelation.state c.args.r.now in
+    let M = g.R.TypeRelation.manner in
+    let a = part_tree r.meaning c.args.a.now in
+    let b = part_tree r.meaning c.args.b.now in
+    let q = g.R.TypeRelation.state c.loop-i.r in
+    let i = c.loop-i.i in
+    let inv = c.loop-i.invariant in
+    let k = c.requires.asked in
+    let form = c.requires.form in
+    let alike = c.requires.alike in
+    let extends = ((inv.fronted).passes).extends in
+    let same_a : part_tree q.meaning c.args.a.now ≡ a = stays_part extends c.args.a.now k.left_known in
+    let same_b : part_tree q.meaning c.args.b.now ≡ b = stays_part extends c.args.b.now k.right_known in
+    subst (λ z. IsTrue (known z)) (sym same_a) k.left_known
+
+pub relate_in_order-term_part_of-x-requires-clause-form : goal.relate_in_order-term_part_of-x-requires-clause-form
+relate_in_order-term_part_of-x-requires-clause-form g t c =
+    let r = g.R.TypeRelation.state c.args.r.now in
+    let M = g.R.TypeRelation.manner in
+    let a = part_tree r.meaning c.args.a.now in
+    let b = part_tree r.meaning c.args.b.now in
+    let q = g.R.TypeRelation.state c.loop-i.r in
+    let i = c.loop-i.i in
+    let inv = c.loop-i.invariant in
+    let k = c.requires.asked in
+    let form = c.requires.form in
+    let alike = c.requires.alike in
+    let extends = ((inv.fronted).passes).extends in
+    let same_a : part_tree q.meaning c.args.a.now ≡ a = stays_part extends c.args.a.now k.left_known in
+    let same_b : part_tree q.meaning c.args.b.now ≡ b = stays_part extends c.args.b.now k.right_known in
+    subst IsByParts (sym same_a) form
+
+pub relate_in_order-term_part_of-x-requires-clause-in_bounds : goal.relate_in_order-term_part_of-x-requires-clause-in_bounds
+relate_in_order-term_part_of-x-requires-clause-in_bounds g t c =
+    let r = g.R.TypeRelation.state c.args.r.now in
+    let M = g.R.TypeRelation.manner in
+    let a = part_tree r.meaning c.args.a.now in
+    let b = part_tree r.meaning c.args.b.now in
+    let q = g.R.TypeRelation.state c.loop-i.r in
+    let i = c.loop-i.i in
+    let inv = c.loop-i.invariant in
+    let k = c.requires.asked in
+    let form = c.requires.form in
+    let alike = c.requires.alike in
+    let extends = ((inv.fronted).passes).extends in
+    let same_a : part_tree q.meaning c.args.a.now ≡ a = stays_part extends c.args.a.now k.left_known in
+    let same_b : part_tree q.meaning c.args.b.now ≡ b = stays_part extends c.args.b.now k.right_known in
+    let test = c.loop-i-test.true in
+    let lx : i < count (parts_of a) = omega (arith, test, inv.left_count) in
+    let ly : i < count (parts_of b) = omega (arith, test, inv.right_count) in
+    subst (λ z. i < count (parts_of z)) (sym same_a) lx
+
+pub relate_in_order-term_part_of-y-requires-clause-term_known : goal.relate_in_order-term_part_of-y-requires-clause-term_known
+relate_in_order-term_part_of-y-requires-clause-term_known g t c =
+    let r = g.R.TypeRelation.state c.args.r.now in
+    let M = g.R.TypeRelation.manner in
+    let a = part_tree r.meaning c.args.a.now in
+    let b = part_tree r.meaning c.args.b.now in
+    let q = g.R.TypeRelation.state c.loop-i.r in
+    let i = c.loop-i.i in
+    let inv = c.loop-i.invariant in
+    let k = c.requires.asked in
+    let form = c.requires.form in
+    let alike = c.requires.alike in
+    let extends = ((inv.fronted).passes).extends in
+    let same_a : part_tree q.meaning c.args.a.now ≡ a = stays_part extends c.args.a.now k.left_known in
+    let same_b : part_tree q.meaning c.args.b.now ≡ b = stays_part extends c.args.b.now k.right_known in
+    subst (λ z. IsTrue (known z)) (sym same_b) k.right_known
+
+pub relate_in_order-term_part_of-y-requires-clause-form : goal.relate_in_order-term_part_of-y-requires-clause-form
+relate_in_order-term_part_of-y-requires-clause-form g t c =
+    let r = g.R.TypeRelation.state c.args.r.now in
+    let M = g.R.TypeRelation.manner in
+    let a = part_tree r.meaning c.args.a.now in
+    let b = part_tree r.meaning c.args.b.now in
+    let q = g.R.TypeRelation.state c.loop-i.r in
+    let i = c.loop-i.i in
+    let inv = c.loop-i.invariant in
+    let k = c.requires.asked in
+    let form = c.requires.form in
+    let alike = c.requires.alike in
+    let extends = ((inv.fronted).passes).extends in
+    let same_a : part_tree q.meaning c.args.a.now ≡ a = stays_part extends c.args.a.now k.left_known in
+    let same_b : part_tree q.meaning c.args.b.now ≡ b = stays_part extends c.args.b.now k.right_known in
+    subst IsByParts (sym same_b) (term_alike a b alike form)
+
+pub relate_in_order-term_part_of-y-requires-clause-in_bounds : goal.relate_in_order-term_part_of-y-requires-clause-in_bounds
+relate_in_order-term_part_of-y-requires-clause-in_bounds g t c =
+    let r = g.R.TypeRelation.state c.args.r.now in
+    let M = g.R.TypeRelation.manner in
+    let a = part_tree r.meaning c.args.a.now in
+    let b = part_tree r.meaning c.args.b.now in
+    let q = g.R.TypeRelation.state c.loop-i.r in
+    let i = c.loop-i.i in
+    let inv = c.loop-i.invariant in
+    let k = c.requires.asked in
+    let form = c.requires.form in
+    let alike = c.requires.alike in
+    let extends = ((inv.fronted).passes).extends in
+    let same_a : part_tree q.meaning c.args.a.now ≡ a = stays_part extends c.args.a.now k.left_known in
+    let same_b : part_tree q.meaning c.args.b.now ≡ b = stays_part extends c.args.b.now k.right_known in
+    let test = c.loop-i-test.true in
+    let lx : i < count (parts_of a) = omega (arith, test, inv.left_count) in
+    let ly : i < count (parts_of b) = omega (arith, test, inv.right_count) in
+    subst (λ z. i < count (parts_of z)) (sym same_b) ly
+
+pub relate_in_order-term_variance_at-variance-requires-clause-known : goal.relate_in_order-term_variance_at-variance-requires-clause-known
+relate_in_order-term_variance_at-variance-requires-clause-known g t c =
+    let r = g.R.TypeRelation.state c.args.r.now in
+    let M = g.R.TypeRelation.manner in
+    let a = part_tree r.meaning c.args.a.now in
+    let b = part_tree r.meaning c.args.b.now in
+    let q = g.R.TypeRelation.state c.loop-i.r in
+    let i = c.loop-i.i in
+    let inv = c.loop-i.invariant in
+    let k = c.requires.asked in
+    let form = c.requires.form in
+    let alike = c.requires.alike in
+    let extends = ((inv.fronted).passes).extends in
+    let same_a : part_tree q.meaning c.args.a.now ≡ a = stays_part extends c.args.a.now k.left_known in
+    let same_b : part_tree q.meaning c.args.b.now ≡ b = stays_part extends c.args.b.now k.right_known in
+    subst (λ z. IsTrue (known z)) (sym same_a) k.left_known
+
+pub relate_in_order-term_variance_at-variance-requires-clause-form : goal.relate_in_order-term_variance_at-variance-requires-clause-form
+relate_in_order-term_variance_at-variance-requires-clause-form g t c =
+    let r = g.R.TypeRelation.state c.args.r.now in
+    let M = g.R.TypeRelation.manner in
+    let a = part_tree r.meaning c.args.a.now in
+    let b = part_tree r.meaning c.args.b.now in
+    let q = g.R.TypeRelation.state c.loop-i.r in
+    let i = c.loop-i.i in
+    let inv = c.loop-i.invariant in
+    let k = c.requires.asked in
+    let form = c.requires.form in
+    let alike = c.requires.alike in
+    let extends = ((inv.fronted).passes).extends in
+    let same_a : part_tree q.meaning c.args.a.now ≡ a = stays_part extends c.args.a.now k.left_known in
+    let same_b : part_tree q.meaning c.args.b.now ≡ b = stays_part extends c.args.b.now k.right_known in
+    subst IsByParts (sym same_a) form
+
+pub relate_in_order-term_variance_at-variance-requires-clause-in_bounds : goal.relate_in_order-term_variance_at-variance-requires-clause-in_bounds
+relate_in_order-term_variance_at-variance-requires-clause-in_bounds g t c =
+    let r = g.R.TypeRelation.state c.args.r.now in
+    let M = g.R.TypeRelation.manner in
+    let a = part_tree r.meaning c.args.a.now in
+    let b = part_tree r.meaning c.args.b.now in
+    let q = g.R.TypeRelation.state c.loop-i.r in
+    let i = c.loop-i.i in
+    let inv = c.loop-i.invariant in
+    let k = c.requires.asked in
+    let form = c.requires.form in
+    let alike = c.requires.alike in
+    let extends = ((inv.fronted).passes).extends in
+    let same_a : part_tree q.meaning c.args.a.now ≡ a = stays_part extends c.args.a.now k.left_known in
+    let same_b : part_tree q.meaning c.args.b.now ≡ b = stays_part extends c.args.b.now k.right_known in
+    let test = c.loop-i-test.true in
+    let lx : i < count (parts_of a) = omega (arith, test, inv.left_count) in
+    let ly : i < count (parts_of b) = omega (arith, test, inv.right_count) in
+    subst (λ z. i < count (parts_of z)) (sym same_a) lx
+
+pub relate_in_order-relate_parts_with_variance-related-requires : goal.relate_in_order-relate_parts_with_variance-related-requires
+relate_in_order-relate_parts_with_variance-related-requires g t c κs within =
+    let r = g.R.TypeRelation.state c.args.r.now in
+    let M = g.R.TypeRelation.manner in
+    let a = part_tree r.meaning c.args.a.now in
+    let b = part_tree r.meaning c.args.b.now in
+    let takes = g.met.R.TypeRelation.takes_parts in
+    let e_sorted_before = g.met.R.TypeRelation.reads c.args.r.now in
+    let cx_sorted_before = g.R.TypeRelation.interner c.args.r.now in
+    let sorted_before : Sorted r.meaning = subst (λ m. Sorted m) (sym e_sorted_before) (record {
+      ty = g.met.I.Interner.is_ty cx_sorted_before;
+      region = g.met.I.Interner.is_region cx_sorted_before;
+      tys = g.met.I.Interner.are_tys cx_sorted_before;
+      const_ = g.met.I.Interner.is_const cx_sorted_before;
+      valtree = g.met.I.Interner.is_valtree cx_sorted_before;
+      args = g.met.I.Interner.are_args cx_sorted_before;
+      branches = g.met.I.Interner.are_branches cx_sorted_before;
+      pat = g.met.I.Interner.is_pat cx_sorted_before;
+      alternatives = g.met.I.Interner.are_alternatives cx_sorted_before;
+      existential_predicates = g.met.I.Interner.are_existential_predicates cx_sorted_before;
+    }) in
+    let q = g.R.TypeRelation.state c.loop-i.r in
+    let i = c.loop-i.i in
+    let inv = c.loop-i.invariant in
+    let k = c.requires.asked in
+    let form = c.requires.form in
+    let alike = c.requires.alike in
+    let extends = ((inv.fronted).passes).extends in
+    let same_a : part_tree q.meaning c.args.a.now ≡ a = stays_part extends c.args.a.now k.left_known in
+    let same_b : part_tree q.meaning c.args.b.now ≡ b = stays_part extends c.args.b.now k.right_known in
     let e = g.met.R.TypeRelation.reads c.loop-i.r in
     let cx = g.R.TypeRelation.interner c.loop-i.r in
     let sorted : Sorted q.meaning = subst (λ m. Sorted m) (sym e) (record {
@@ -1999,23 +2165,76 @@ relate_in_order-relate_parts-requires g t c κs within =
       alternatives = g.met.I.Interner.are_alternatives cx;
       existential_predicates = g.met.I.Interner.are_existential_predicates cx;
     }) in
-    let eu : q.ambient ≡ part_at (items_in r) (head_of b) i r.ambient =
-    ((inv.fronted).passes).ambient ∙ sym (pattern_part_at (items_in r) b i r.ambient (pattern_alike a b alike form)) in
-    let fa = part_sorted r.meaning sorted_before c.args.a.now k.left_known form in
-    let fb = part_sorted r.meaning sorted_before c.args.b.now k.right_known (pattern_alike a b alike form) in
+    let other = term_alike a b alike form in
+    let ta = part_sorted r.meaning sorted_before c.args.a.now k.left_known form in
+    let tb = part_sorted r.meaning sorted_before c.args.b.now k.right_known other in
+    let test = c.loop-i-test.true in
+    let lx : i < count (parts_of a) = omega (arith, test, inv.left_count) in
+    let ly : i < count (parts_of b) = omega (arith, test, inv.right_count) in
+    let X = c.term_part_of-x.result in
+    let Y = c.term_part_of-y.result in
+    let x = part_tree q.meaning X in
+    let y = part_tree q.meaning Y in
+    let kx = c.term_part_of-x.ensures.sure in
+    let ky = c.term_part_of-y.ensures.sure in
+    let ex : x ≡ nth i (parts_of a) = c.term_part_of-x.ensures.means ∙ ap (λ z. nth i (parts_of z)) same_a in
+    let ey : y ≡ nth i (parts_of b) = c.term_part_of-y.ensures.means ∙ ap (λ z. nth i (parts_of z)) same_b in
+    let w = xform q.ambient c.term_variance_at-variance.result in
+    let ew : w ≡ part_at (items_in r) (head_of a) i r.ambient =
+    c.term_variance_at-variance.ensures ∙ ap (λ z. part_at (items_in q) (head_of z) i q.ambient) same_a ∙
+    ap (λ z. part_at z (head_of a) i q.ambient) (same_items (inv.fronted).passes) ∙
+    ap (λ z. part_at (items_in r) (head_of a) i z) ((inv.fronted).passes).ambient in
+    let eu : w ≡ part_at (items_in r) (head_of b) i r.ambient =
+    ew ∙ ap (λ h. part_at (items_in r) h i r.ambient) (heads_alike a b alike) in
     let is_x = ap tree_sort (sym ex) ∙ sort_known q.meaning sorted X kx in
     let is_y = ap tree_sort (sym ey) ∙ sort_known q.meaning sorted Y ky in
-    let kind : IsInPattern X = in_pattern (part_sort c.args.a.now) (part_sort c.args.b.now) a b i fa fb form lx X is_x in
-    let one_sort : part_sort Y ≡ part_sort X = of_one_sort (part_sort c.args.a.now) (part_sort c.args.b.now) a b i fa fb
-    form lx X is_x Y alike (heads_alike a b alike) ly is_y in
+    let kind : IsRelatedPart X = related_part (part_sort c.args.a.now) (part_sort c.args.b.now) a b i ta tb form lx X is_x in
+    let paired : ArePaired X Y = paired_part (part_sort c.args.a.now) (part_sort c.args.b.now) a b i ta tb form lx X is_x
+    Y alike (heads_alike a b alike) ly is_y in
     let lawful = inv.lawful in
-    let decides : q.ambient ≢ Bivariant = λ e. c.requires.decides (sym ((inv.fronted).passes).ambient ∙ e) in
-    let asked = next_asked M takes r q a b i x y kx ky k inv.fronted lx ly ex ey q.ambient ew eu in
+    let decides : w ≢ Bivariant = λ e. term_decides (items_in r) a i r.ambient form c.requires.decides (sym ew ∙ e) in
+    let asked = next_asked M takes r q a b i x y kx ky k inv.fronted lx ly ex ey w ew eu in
     let smaller = next_under M takes r q a b i x y kx ky k inv.fronted lx ly ex ey in
-    let under : 8 * depth (q.store).budget (weight q.store x + weight q.store y) + 3 <
+    let under : 8 * depth (q.store).budget (weight q.store x + weight q.store y) + 6 <
     8 * depth (r.store).budget (weight r.store a + weight r.store b) = omega (arith, smaller) in
-    let d = c.decreases in
-    search rules
+    let d = c.decreases in (
+      search rules,
+      (
+        within.0,
+        (
+          within.1.0,
+          (
+            within.1.1.0,
+            (
+              within.1.1.1.0,
+              (
+                within.1.1.1.1.0,
+                (
+                  within.1.1.1.1.1,
+                  (lawful, (decides, (asked, (kind, paired)))),
+                ),
+              ),
+            ),
+          ),
+        ),
+      ),
+    )
+
+pub relate_in_order-named_place_of-place-requires-clause-term_known : goal.relate_in_order-named_place_of-place-requires-clause-term_known
+relate_in_order-named_place_of-place-requires-clause-term_known g t c =
+    let k = c.requires.asked in
+    let same_a = stays_part (((c.loop-i.invariant).fronted).passes).extends c.args.a.now k.left_known in
+    subst (λ z. IsTrue (known z)) (sym same_a) k.left_known
+
+pub relate_in_order-named_place_of-place-requires-clause-in_bounds : goal.relate_in_order-named_place_of-place-requires-clause-in_bounds
+relate_in_order-named_place_of-place-requires-clause-in_bounds g t c =
+    let a = part_tree (g.R.TypeRelation.state c.args.r.now).meaning c.args.a.now in
+    let i = c.loop-i.i in
+    let inv = c.loop-i.invariant in
+    let same_a = stays_part ((inv.fronted).passes).extends c.args.a.now (c.requires.asked).left_known in
+    let test = c.loop-i-test.true in
+    let lx : i < count (parts_of a) = omega (arith, test, inv.left_count) in
+    subst (λ z. i < count (parts_of z)) (sym same_a) lx
 
 pub relate_in_order-returns-in_err-answer : goal.relate_in_order-returns-in_err-answer
 relate_in_order-returns-in_err-answer g t c =
@@ -2023,6 +2242,20 @@ relate_in_order-returns-in_err-answer g t c =
     let M = g.R.TypeRelation.manner in
     let a = part_tree r.meaning c.args.a.now in
     let b = part_tree r.meaning c.args.b.now in
+    let e_sorted_before = g.met.R.TypeRelation.reads c.args.r.now in
+    let cx_sorted_before = g.R.TypeRelation.interner c.args.r.now in
+    let sorted_before : Sorted r.meaning = subst (λ m. Sorted m) (sym e_sorted_before) (record {
+      ty = g.met.I.Interner.is_ty cx_sorted_before;
+      region = g.met.I.Interner.is_region cx_sorted_before;
+      tys = g.met.I.Interner.are_tys cx_sorted_before;
+      const_ = g.met.I.Interner.is_const cx_sorted_before;
+      valtree = g.met.I.Interner.is_valtree cx_sorted_before;
+      args = g.met.I.Interner.are_args cx_sorted_before;
+      branches = g.met.I.Interner.are_branches cx_sorted_before;
+      pat = g.met.I.Interner.is_pat cx_sorted_before;
+      alternatives = g.met.I.Interner.are_alternatives cx_sorted_before;
+      existential_predicates = g.met.I.Interner.are_existential_predicates cx_sorted_before;
+    }) in
     let q = g.R.TypeRelation.state c.loop-i.r in
     let i = c.loop-i.i in
     let inv = c.loop-i.invariant in
@@ -2032,28 +2265,42 @@ relate_in_order-returns-in_err-answer g t c =
     let extends = ((inv.fronted).passes).extends in
     let same_a : part_tree q.meaning c.args.a.now ≡ a = stays_part extends c.args.a.now k.left_known in
     let same_b : part_tree q.meaning c.args.b.now ≡ b = stays_part extends c.args.b.now k.right_known in
+    let other = term_alike a b alike form in
+    let ta = part_sorted r.meaning sorted_before c.args.a.now k.left_known form in
+    let tb = part_sorted r.meaning sorted_before c.args.b.now k.right_known other in
     let test = c.loop-i-test.true in
     let lx : i < count (parts_of a) = omega (arith, test, inv.left_count) in
     let ly : i < count (parts_of b) = omega (arith, test, inv.right_count) in
-    let X = c.pattern_part_of-x.result in
-    let Y = c.pattern_part_of-y.result in
+    let X = c.term_part_of-x.result in
+    let Y = c.term_part_of-y.result in
     let x = part_tree q.meaning X in
     let y = part_tree q.meaning Y in
-    let kx = c.pattern_part_of-x.ensures.sure in
-    let ky = c.pattern_part_of-y.ensures.sure in
-    let ex : x ≡ nth i (parts_of a) = c.pattern_part_of-x.ensures.means ∙ ap (λ z. nth i (parts_of z)) same_a in
-    let ey : y ≡ nth i (parts_of b) = c.pattern_part_of-y.ensures.means ∙ ap (λ z. nth i (parts_of z)) same_b in
-    let ew : q.ambient ≡ part_at (items_in r) (head_of a) i r.ambient =
-    ((inv.fronted).passes).ambient ∙ sym (pattern_part_at (items_in r) a i r.ambient form) in
-    let p = g.R.TypeRelation.state c.relate_parts.new.r in
+    let kx = c.term_part_of-x.ensures.sure in
+    let ky = c.term_part_of-y.ensures.sure in
+    let ex : x ≡ nth i (parts_of a) = c.term_part_of-x.ensures.means ∙ ap (λ z. nth i (parts_of z)) same_a in
+    let ey : y ≡ nth i (parts_of b) = c.term_part_of-y.ensures.means ∙ ap (λ z. nth i (parts_of z)) same_b in
+    let w = xform q.ambient c.term_variance_at-variance.result in
+    let ew : w ≡ part_at (items_in r) (head_of a) i r.ambient =
+    c.term_variance_at-variance.ensures ∙ ap (λ z. part_at (items_in q) (head_of z) i q.ambient) same_a ∙
+    ap (λ z. part_at z (head_of a) i q.ambient) (same_items (inv.fronted).passes) ∙
+    ap (λ z. part_at (items_in r) (head_of a) i z) ((inv.fronted).passes).ambient in
+    let p = g.R.TypeRelation.state c.relate_parts_with_variance-related.new.r in
+    let related = c.relate_parts_with_variance-related in
+    let later = (((related.ensures).related).passes).extends in
     let n = c.in_err-answer in
-    let gone = subst (λ v. Related M q p v x y (part_tree p.meaning) (Err n.field-0.0)) ew (n.ensures).related in
-    let failed = as_err c.from_residual.result n.field-0.0 c.from_residual.ensures.0
-    c.from_residual.ensures.1 in
+    let named : c.named_place_of-place.result ≡ named_place a i =
+    c.named_place_of-place.ensures ∙ ap (λ z. named_place z i) same_a in
+    let z = failed_part (named_place a i) related.result n.field-0.0
+    (subst (λ z. IsResultOfPart z related.result (Err n.field-0.0)) named n.ensures) in
+    let gone = subst (λ v. Related M q p v x y (part_tree p.meaning) (Err z.0)) ew
+    (subst (λ u. Related M q p w x y (part_tree p.meaning) u) z.1 (related.ensures).related) in
+    let failed = as_err c.from_residual-in_err-answer.result n.field-0.0 c.from_residual-in_err-answer.ensures.0
+    c.from_residual-in_err-answer.ensures.1 in
     record {
       related = subst (λ u. Related M r p r.ambient a b (part_tree p.meaning) u) (sym failed)
-          (patterns_refused M r.ambient a b i form alike inv.fronted inv.are_parts x y lx ly ex ey (part_tree p.meaning)
-          (part_tree p.meaning) n.field-0.0 gone);
+          (term_refused M r.ambient a b i form alike inv.fronted inv.are_parts (part_sort c.args.a.now)
+          (part_sort c.args.b.now) ta tb inv.inputs x y lx ly ex ey (part_tree p.meaning) (part_tree p.meaning) z.0
+          n.field-0.0 z.2 gone);
       sort = subst (λ u. IfOk u (λ z. part_sort z ≡ part_sort c.args.a.now)) (sym failed) tt;
     }
 
@@ -2075,19 +2322,26 @@ relate_in_order-loop-i-preserved g t c =
     let test = c.loop-i-test.true in
     let lx : i < count (parts_of a) = omega (arith, test, inv.left_count) in
     let ly : i < count (parts_of b) = omega (arith, test, inv.right_count) in
-    let X = c.pattern_part_of-x.result in
-    let Y = c.pattern_part_of-y.result in
+    let X = c.term_part_of-x.result in
+    let Y = c.term_part_of-y.result in
     let x = part_tree q.meaning X in
     let y = part_tree q.meaning Y in
-    let kx = c.pattern_part_of-x.ensures.sure in
-    let ky = c.pattern_part_of-y.ensures.sure in
-    let ex : x ≡ nth i (parts_of a) = c.pattern_part_of-x.ensures.means ∙ ap (λ z. nth i (parts_of z)) same_a in
-    let ey : y ≡ nth i (parts_of b) = c.pattern_part_of-y.ensures.means ∙ ap (λ z. nth i (parts_of z)) same_b in
-    let ew : q.ambient ≡ part_at (items_in r) (head_of a) i r.ambient =
-    ((inv.fronted).passes).ambient ∙ sym (pattern_part_at (items_in r) a i r.ambient form) in
-    let p = g.R.TypeRelation.state c.relate_parts.new.r in
+    let kx = c.term_part_of-x.ensures.sure in
+    let ky = c.term_part_of-y.ensures.sure in
+    let ex : x ≡ nth i (parts_of a) = c.term_part_of-x.ensures.means ∙ ap (λ z. nth i (parts_of z)) same_a in
+    let ey : y ≡ nth i (parts_of b) = c.term_part_of-y.ensures.means ∙ ap (λ z. nth i (parts_of z)) same_b in
+    let w = xform q.ambient c.term_variance_at-variance.result in
+    let ew : w ≡ part_at (items_in r) (head_of a) i r.ambient =
+    c.term_variance_at-variance.ensures ∙ ap (λ z. part_at (items_in q) (head_of z) i q.ambient) same_a ∙
+    ap (λ z. part_at z (head_of a) i q.ambient) (same_items (inv.fronted).passes) ∙
+    ap (λ z. part_at (items_in r) (head_of a) i z) ((inv.fronted).passes).ambient in
+    let p = g.R.TypeRelation.state c.relate_parts_with_variance-related.new.r in
+    let related = c.relate_parts_with_variance-related in
+    let later = (((related.ensures).related).passes).extends in
     let n = c.in_ok-answer in
-    let gone = subst (λ v. Related M q p v x y (part_tree p.meaning) (Ok n.answer)) ew (n.ensures).related in
+    let z = kept_part c.named_place_of-place.result related.result n.answer n.ensures in
+    let gone = subst (λ v. Related M q p v x y (part_tree p.meaning) (Ok n.answer)) ew
+    (subst (λ u. Related M q p w x y (part_tree p.meaning) u) z (related.ensures).related) in
     let next = fronted_next (head_of a) r.ambient i (parts_of a) (parts_of b) x y inv.fronted lx ly ex ey
     (part_tree p.meaning) n.answer inv.are_parts gone in
     let e = g.met.R.TypeRelation.reads c.loop-i.r in
@@ -2104,6 +2358,9 @@ relate_in_order-loop-i-preserved g t c =
       alternatives = g.met.I.Interner.are_alternatives cx;
       existential_predicates = g.met.I.Interner.are_existential_predicates cx;
     }) in
+    let sort = subst (λ u. IfOk u (λ z. part_sort z ≡ part_sort X)) z (related.ensures).sort in
+    let one : IsComparedPart X → AreOfOneForm x y =
+    λ o. subst (λ u. OnOk u (AreOfOneForm x y)) z ((related.ensures).alike o) in
     let was = c.loop-i.answers.items in
     let more : suc i ≡ i + 1 = omega arith in
     let pushed : list_tree (part_tree p.meaning) c.push.new.self.items
@@ -2111,7 +2368,7 @@ relate_in_order-loop-i-preserved g t c =
     ap (list_tree (part_tree p.meaning)) c.in_ok-push.ensures.items
     ∙ list_push (part_tree p.meaning) was n.answer
     ∙ ap (λ z. snoc z (part_tree p.meaning n.answer)) (stays_list (part_tree q.meaning) (part_tree p.meaning) was
-    (stays_part (gone.passes).extends) (inv.answers).sure) in
+    (stays_part later) (inv.answers).sure) in
     record {
       lawful = (gone.passes).lawful inv.lawful;
       fronted = subst (λ j. Fronted M r p (head_of a) r.ambient j (parts_of a) (parts_of b)) more next;
@@ -2125,7 +2382,9 @@ relate_in_order-loop-i-preserved g t c =
           (sym (same_items (inv.fronted).passes)) (gone.verdict).answer) (gone.verdict).known);
       fits = subst₂ (λ j z. PartsFit z (firsts j (parts_of a))) more (sym c.in_ok-push.ensures.items)
           (part_pushed was n.answer (parts_of a) i lx inv.fits
-          ((n.ensures).sort ∙ sym (sort_known q.meaning sorted X kx) ∙ ap tree_sort ex));
+          (sort ∙ sym (sort_known q.meaning sorted X kx) ∙ ap tree_sort ex));
+      inputs = subst (HaveAsManyInputs a b) more (inputs_next a b i (λ e. subst₂ AreOfOneForm ex ey
+          (one (inputs_compared X (sym (sort_known q.meaning sorted X kx) ∙ ap tree_sort ex ∙ e)))) inv.inputs);
     }
 
 pub relate_in_order-returns-in_err-push : goal.relate_in_order-returns-in_err-push
@@ -2146,54 +2405,41 @@ relate_in_order-returns-in_err-push g t c =
     let test = c.loop-i-test.true in
     let lx : i < count (parts_of a) = omega (arith, test, inv.left_count) in
     let ly : i < count (parts_of b) = omega (arith, test, inv.right_count) in
-    let X = c.pattern_part_of-x.result in
-    let Y = c.pattern_part_of-y.result in
+    let X = c.term_part_of-x.result in
+    let Y = c.term_part_of-y.result in
     let x = part_tree q.meaning X in
     let y = part_tree q.meaning Y in
-    let kx = c.pattern_part_of-x.ensures.sure in
-    let ky = c.pattern_part_of-y.ensures.sure in
-    let ex : x ≡ nth i (parts_of a) = c.pattern_part_of-x.ensures.means ∙ ap (λ z. nth i (parts_of z)) same_a in
-    let ey : y ≡ nth i (parts_of b) = c.pattern_part_of-y.ensures.means ∙ ap (λ z. nth i (parts_of z)) same_b in
-    let ew : q.ambient ≡ part_at (items_in r) (head_of a) i r.ambient =
-    ((inv.fronted).passes).ambient ∙ sym (pattern_part_at (items_in r) a i r.ambient form) in
-    let p = g.R.TypeRelation.state c.relate_parts.new.r in
+    let kx = c.term_part_of-x.ensures.sure in
+    let ky = c.term_part_of-y.ensures.sure in
+    let ex : x ≡ nth i (parts_of a) = c.term_part_of-x.ensures.means ∙ ap (λ z. nth i (parts_of z)) same_a in
+    let ey : y ≡ nth i (parts_of b) = c.term_part_of-y.ensures.means ∙ ap (λ z. nth i (parts_of z)) same_b in
+    let w = xform q.ambient c.term_variance_at-variance.result in
+    let ew : w ≡ part_at (items_in r) (head_of a) i r.ambient =
+    c.term_variance_at-variance.ensures ∙ ap (λ z. part_at (items_in q) (head_of z) i q.ambient) same_a ∙
+    ap (λ z. part_at z (head_of a) i q.ambient) (same_items (inv.fronted).passes) ∙
+    ap (λ z. part_at (items_in r) (head_of a) i z) ((inv.fronted).passes).ambient in
+    let p = g.R.TypeRelation.state c.relate_parts_with_variance-related.new.r in
+    let related = c.relate_parts_with_variance-related in
+    let later = (((related.ensures).related).passes).extends in
     let n = c.in_ok-answer in
-    let gone = subst (λ v. Related M q p v x y (part_tree p.meaning) (Ok n.answer)) ew (n.ensures).related in
+    let z = kept_part c.named_place_of-place.result related.result n.answer n.ensures in
+    let gone = subst (λ v. Related M q p v x y (part_tree p.meaning) (Ok n.answer)) ew
+    (subst (λ u. Related M q p w x y (part_tree p.meaning) u) z (related.ensures).related) in
     let next = fronted_next (head_of a) r.ambient i (parts_of a) (parts_of b) x y inv.fronted lx ly ex ey
     (part_tree p.meaning) n.answer inv.are_parts gone in
     let failed = as_err c.from_residual-in_err-push.result Memory c.from_residual-in_err-push.ensures.0
     c.from_residual-in_err-push.ensures.1 in
     record {
       related = subst (λ z. Related M r p r.ambient a b (part_tree p.meaning) z) (sym failed)
-          (patterns_stopped M r.ambient a b (suc i) form (part_tree p.meaning) next);
+          (terms_stopped M r.ambient a b (suc i) form (part_tree p.meaning) next);
       sort = subst (λ u. IfOk u (λ z. part_sort z ≡ part_sort c.args.a.now)) (sym failed) tt;
     }
 
-pub relate_in_order-make_pattern-requires-clause-lawful : goal.relate_in_order-make_pattern-requires-clause-lawful
-relate_in_order-make_pattern-requires-clause-lawful g t c =
-    let r = g.R.TypeRelation.state c.args.r.now in
-    let M = g.R.TypeRelation.manner in
-    let a = part_tree r.meaning c.args.a.now in
-    let b = part_tree r.meaning c.args.b.now in
-    let q = g.R.TypeRelation.state c.loop-i.r in
-    let i = c.loop-i.i in
-    let inv = c.loop-i.invariant in
-    let k = c.requires.asked in
-    let form = c.requires.form in
-    let alike = c.requires.alike in
-    let extends = ((inv.fronted).passes).extends in
-    let same_a : part_tree q.meaning c.args.a.now ≡ a = stays_part extends c.args.a.now k.left_known in
-    let same_b : part_tree q.meaning c.args.b.now ≡ b = stays_part extends c.args.b.now k.right_known in
-    let test = c.loop-i-test.false in
-    let end = (c.loop-i.auto).i-end in
-    let left : i ≡ count (parts_of a) = omega (arith, test, end, inv.left_count) in
-    let right : i ≡ count (parts_of b) = omega (arith, test, end, inv.right_count) in
-    let items = c.loop-i.answers.items in
-    let was = list_tree (part_tree q.meaning) items in
-    inv.lawful
+pub relate_in_order-make_part-requires-clause-lawful : goal.relate_in_order-make_part-requires-clause-lawful
+relate_in_order-make_part-requires-clause-lawful g t c = c.loop-i.invariant.lawful
 
-pub relate_in_order-make_pattern-requires-clause-term_known : goal.relate_in_order-make_pattern-requires-clause-term_known
-relate_in_order-make_pattern-requires-clause-term_known g t c =
+pub relate_in_order-make_part-requires-clause-term_known : goal.relate_in_order-make_part-requires-clause-term_known
+relate_in_order-make_part-requires-clause-term_known g t c =
     let r = g.R.TypeRelation.state c.args.r.now in
     let M = g.R.TypeRelation.manner in
     let a = part_tree r.meaning c.args.a.now in
@@ -2207,16 +2453,10 @@ relate_in_order-make_pattern-requires-clause-term_known g t c =
     let extends = ((inv.fronted).passes).extends in
     let same_a : part_tree q.meaning c.args.a.now ≡ a = stays_part extends c.args.a.now k.left_known in
     let same_b : part_tree q.meaning c.args.b.now ≡ b = stays_part extends c.args.b.now k.right_known in
-    let test = c.loop-i-test.false in
-    let end = (c.loop-i.auto).i-end in
-    let left : i ≡ count (parts_of a) = omega (arith, test, end, inv.left_count) in
-    let right : i ≡ count (parts_of b) = omega (arith, test, end, inv.right_count) in
-    let items = c.loop-i.answers.items in
-    let was = list_tree (part_tree q.meaning) items in
     subst (λ z. IsTrue (known z)) (sym same_a) k.left_known
 
-pub relate_in_order-make_pattern-requires-clause-form : goal.relate_in_order-make_pattern-requires-clause-form
-relate_in_order-make_pattern-requires-clause-form g t c =
+pub relate_in_order-make_part-requires-clause-form : goal.relate_in_order-make_part-requires-clause-form
+relate_in_order-make_part-requires-clause-form g t c =
     let r = g.R.TypeRelation.state c.args.r.now in
     let M = g.R.TypeRelation.manner in
     let a = part_tree r.meaning c.args.a.now in
@@ -2230,16 +2470,10 @@ relate_in_order-make_pattern-requires-clause-form g t c =
     let extends = ((inv.fronted).passes).extends in
     let same_a : part_tree q.meaning c.args.a.now ≡ a = stays_part extends c.args.a.now k.left_known in
     let same_b : part_tree q.meaning c.args.b.now ≡ b = stays_part extends c.args.b.now k.right_known in
-    let test = c.loop-i-test.false in
-    let end = (c.loop-i.auto).i-end in
-    let left : i ≡ count (parts_of a) = omega (arith, test, end, inv.left_count) in
-    let right : i ≡ count (parts_of b) = omega (arith, test, end, inv.right_count) in
-    let items = c.loop-i.answers.items in
-    let was = list_tree (part_tree q.meaning) items in
-    subst IsOfPattern (sym same_a) form
+    subst IsByParts (sym same_a) form
 
-pub relate_in_order-make_pattern-requires-clause-parts_known : goal.relate_in_order-make_pattern-requires-clause-parts_known
-relate_in_order-make_pattern-requires-clause-parts_known g t c =
+pub relate_in_order-make_part-requires-clause-parts_known : goal.relate_in_order-make_part-requires-clause-parts_known
+relate_in_order-make_part-requires-clause-parts_known g t c =
     let r = g.R.TypeRelation.state c.args.r.now in
     let M = g.R.TypeRelation.manner in
     let a = part_tree r.meaning c.args.a.now in
@@ -2253,17 +2487,11 @@ relate_in_order-make_pattern-requires-clause-parts_known g t c =
     let extends = ((inv.fronted).passes).extends in
     let same_a : part_tree q.meaning c.args.a.now ≡ a = stays_part extends c.args.a.now k.left_known in
     let same_b : part_tree q.meaning c.args.b.now ≡ b = stays_part extends c.args.b.now k.right_known in
-    let test = c.loop-i-test.false in
-    let end = (c.loop-i.auto).i-end in
-    let left : i ≡ count (parts_of a) = omega (arith, test, end, inv.left_count) in
-    let right : i ≡ count (parts_of b) = omega (arith, test, end, inv.right_count) in
-    let items = c.loop-i.answers.items in
-    let was = list_tree (part_tree q.meaning) items in
     subst (λ z. IsTrue (known z)) (sym (ap (list_tree (part_tree q.meaning)) c.as_slice.ensures.value))
     (inv.answers).sure
 
-pub relate_in_order-make_pattern-requires-clause-fits : goal.relate_in_order-make_pattern-requires-clause-fits
-relate_in_order-make_pattern-requires-clause-fits g t c =
+pub relate_in_order-make_part-requires-clause-fits : goal.relate_in_order-make_part-requires-clause-fits
+relate_in_order-make_part-requires-clause-fits g t c =
     let r = g.R.TypeRelation.state c.args.r.now in
     let M = g.R.TypeRelation.manner in
     let a = part_tree r.meaning c.args.a.now in
@@ -2308,294 +2536,354 @@ relate_in_order-returns g t c =
     let items = c.loop-i.answers.items in
     let was = list_tree (part_tree q.meaning) items in
     let done : Related M r q r.ambient a b (part_tree q.meaning) (Ok c.args.a.now) =
-    patterns_answer M r.ambient a b i form (part_tree q.meaning) c.args.a.now alike inv.fronted inv.are_parts left right
+    terms_answer M r.ambient a b i form (part_tree q.meaning) c.args.a.now alike inv.fronted inv.are_parts left right
     same_a k.left_known in
-    let p = g.R.TypeRelation.state c.make_pattern.new.r in
-    let made = c.make_pattern.ensures in
+    let p = g.R.TypeRelation.state c.make_part.new.r in
+    let made = c.make_part.ensures in
     record {
       related = form_made M r.ambient a b (made.made).extends made.grown (part_tree p.meaning) (part_tree q.meaning)
-          c.args.a.now done c.make_pattern.result made.fault (over a was) _
-          (may_over_pattern M q r.ambient a was form
+          c.args.a.now done c.make_part.result made.fault (over a was) _
+          (may_over_term M q r.ambient a was form
           (answers_end M q (head_of a) r.ambient i (parts_of a) was (inv.are_parts).left_list left inv.answers))
           (ap₂ over same_a (ap (list_tree (part_tree q.meaning)) c.as_slice.ensures.value)) (made.made).sure
           (made.made).means;
       sort = made.sort;
     }
 
-pub relate_parts-the_ty-requires : goal.relate_parts-the_ty-requires
-relate_parts-the_ty-requires g t c = c.requires.one_sort ∙ ap part_sort c.in-Ty.is
-
-pub relate_parts-tys-requires : goal.relate_parts-tys-requires
-relate_parts-tys-requires g t c κs within =
+pub relate_parts_with_variance-relate_parts-answer-requires : goal.relate_parts_with_variance-relate_parts-answer-requires
+relate_parts_with_variance-relate_parts-answer-requires g t c κs within =
     let r = g.R.TypeRelation.state c.args.r.now in
     let M = g.R.TypeRelation.manner in
     let a = part_tree r.meaning c.args.a.now in
     let b = part_tree r.meaning c.args.b.now in
-    let k = c.in-Ty.a in
-    let o = c.the_ty.result in
-    let ea : a ≡ (r.meaning).ty k = ap (part_tree r.meaning) c.in-Ty.is in
-    let eb : b ≡ (r.meaning).ty o = ap (part_tree r.meaning) (sym c.the_ty.ensures) in
+    let s = g.R.TypeRelation.state c.set_ambient.new.self in
+    let there = c.set_ambient.ensures in
+    let e : c.xform.result ≡ xform r.ambient c.args.variance =
+    c.xform.ensures ∙ ap (λ z. xform z c.args.variance) c.ambient-old.ensures in
+    let seen : xform r.ambient c.args.variance ≡ s.ambient = sym e ∙ sym there.ambient in
+    let lawful : s.lawful = there.lawful c.requires.lawful in
+    let decides : s.ambient ≢ Bivariant = λ z. c.requires.decides (seen ∙ z) in
+    let asked : Asked M s s.ambient (part_tree s.meaning c.args.a.now) (part_tree s.meaning c.args.b.now) =
+    subst₂ (λ m v. Asked M s v (part_tree m c.args.a.now) (part_tree m c.args.b.now)) (sym there.meaning) seen
+    (asked_turned M (xform r.ambient c.args.variance) a b there c.requires.asked) in
+    let kind = c.requires.kind in
+    let paired = c.requires.paired in
+    let same = depth_turned c.args.a.now c.args.b.now there in
+    let under : 8 * depth (s.store).budget (weight s.store (part_tree s.meaning c.args.a.now) + weight s.store (part_tree s.meaning c.args.b.now)) + 5 <
+    8 * depth (r.store).budget (weight r.store a + weight r.store b) + 6 = omega (arith, same) in
+    let d = c.decreases in (
+      search rules,
+      (
+        within.0,
+        (
+          within.1.0,
+          (
+            within.1.1.0,
+            (
+              within.1.1.1.0,
+              (
+                within.1.1.1.1.0,
+                (
+                  within.1.1.1.1.1,
+                  (lawful, (decides, (asked, (kind, paired)))),
+                ),
+              ),
+            ),
+          ),
+        ),
+      ),
+    )
+
+pub relate_parts_with_variance-returns : goal.relate_parts_with_variance-returns
+relate_parts_with_variance-returns g t c =
+    let r = g.R.TypeRelation.state c.args.r.now in
+    let M = g.R.TypeRelation.manner in
+    let a = part_tree r.meaning c.args.a.now in
+    let b = part_tree r.meaning c.args.b.now in
+    let s = g.R.TypeRelation.state c.set_ambient.new.self in
+    let there = c.set_ambient.ensures in
+    let e : c.xform.result ≡ xform r.ambient c.args.variance =
+    c.xform.ensures ∙ ap (λ z. xform z c.args.variance) c.ambient-old.ensures in
+    let q = g.R.TypeRelation.state c.relate_parts-answer.new.r in
+    let u = g.R.TypeRelation.state c.set_ambient-2.new.self in
+    let res = c.relate_parts-answer.result in
+    let back = subst (λ z. Turned z q u) c.ambient-old.ensures c.set_ambient-2.ensures in
+    let f = subst (λ m. Related M s q s.ambient (part_tree m c.args.a.now) (part_tree m c.args.b.now) (part_tree q.meaning) res)
+    there.meaning (c.relate_parts-answer.ensures).related in
+    let h = subst (λ m. Related M s q s.ambient a b (part_tree m) res) (sym back.meaning) f in
+    let k = subst (λ z. Related M s q z a b (part_tree u.meaning) res) there.ambient h in
+    let seen : IsDirected c.xform.result → IsDirected r.ambient =
+    λ o. directed_from r.ambient c.args.variance (subst IsDirected e o) in
+    record {
+      related = subst (λ z. Related M r u z a b (part_tree u.meaning) res) e
+          (turned M c.xform.result a b (part_tree u.meaning) there back seen res k);
+      sort = (c.relate_parts-answer.ensures).sort;
+      alike = λ o. subst (λ m. OnOk res (AreOfOneForm (part_tree m c.args.a.now) (part_tree m c.args.b.now)))
+          there.meaning ((c.relate_parts-answer.ensures).alike o);
+    }
+
+pub relate_parts-the_arg-requires : goal.relate_parts-the_arg-requires
+relate_parts-the_arg-requires g t c = are_args c.args.a.now ((c.in-Argument.ensures.argument).0 refl)
+
+pub relate_parts-the_arg-requires-in-Argument : goal.relate_parts-the_arg-requires-in-Argument
+relate_parts-the_arg-requires-in-Argument g t c = are_args c.args.b.now
+    (paired_args c.args.a.now c.args.b.now ((c.in-Argument.ensures.argument).0 refl) c.requires.paired)
+
+pub relate_parts-relate-requires : goal.relate_parts-relate-requires
+relate_parts-relate-requires g t c κs within =
+    let r = g.R.TypeRelation.state c.args.r.now in
+    let M = g.R.TypeRelation.manner in
+    let a = part_tree r.meaning c.args.a.now in
+    let b = part_tree r.meaning c.args.b.now in
+    let arg : IsArgPart c.args.a.now = (c.in-Argument.ensures.argument).0 refl in
+    let X = c.the_arg.result in
+    let Y = c.the_arg-in-Argument.result in
+    let ea : a ≡ arg_tree r.meaning X = ap (part_tree r.meaning) (sym c.the_arg.ensures) ∙ arg_part r.meaning X in
+    let eb : b ≡ arg_tree r.meaning Y = ap (part_tree r.meaning) (sym c.the_arg-in-Argument.ensures) ∙ arg_part r.meaning Y in
     let lawful = c.requires.lawful in
     let decides = c.requires.decides in
     let asked = subst₂ (λ x y. Asked M r r.ambient x y) ea eb c.requires.asked in
     let same = ap₂ (λ x y. depth (r.store).budget (weight r.store x + weight r.store y)) ea eb in
-    let under : 8 * depth (r.store).budget (weight r.store ((r.meaning).ty k) + weight r.store ((r.meaning).ty o)) + 2 <
-    8 * depth (r.store).budget (weight r.store a + weight r.store b) + 3 = omega (arith, same) in
-    let d = c.decreases in
-    search rules
+    let under : 8 * depth (r.store).budget (weight r.store (arg_tree r.meaning X) + weight r.store (arg_tree r.meaning Y)) + 3 <
+    8 * depth (r.store).budget (weight r.store a + weight r.store b) + 5 = omega (arith, same) in
+    let d = c.decreases in (
+      search rules,
+      (
+        within.0,
+        (
+          within.1.0,
+          (
+            within.1.1.0,
+            (
+              within.1.1.1.0,
+              (
+                within.1.1.1.1.0,
+                (
+                  within.1.1.1.1.1,
+                  (lawful, (decides, asked)),
+                ),
+              ),
+            ),
+          ),
+        ),
+      ),
+    )
 
-pub relate_parts-returns-in_ok-tys-in-Ty : goal.relate_parts-returns-in_ok-tys-in-Ty
-relate_parts-returns-in_ok-tys-in-Ty g t c =
+pub relate_parts-returns-in_ok-answer-in-Argument : goal.relate_parts-returns-in_ok-answer-in-Argument
+relate_parts-returns-in_ok-answer-in-Argument g t c =
     let r = g.R.TypeRelation.state c.args.r.now in
     let M = g.R.TypeRelation.manner in
     let a = part_tree r.meaning c.args.a.now in
     let b = part_tree r.meaning c.args.b.now in
-    let k = c.in-Ty.a in
-    let o = c.the_ty.result in
-    let ea : a ≡ (r.meaning).ty k = ap (part_tree r.meaning) c.in-Ty.is in
-    let eb : b ≡ (r.meaning).ty o = ap (part_tree r.meaning) (sym c.the_ty.ensures) in
-    let q = g.R.TypeRelation.state c.tys.new.r in
-    let n = c.in_ok-tys-in-Ty in
+    let arg : IsArgPart c.args.a.now = (c.in-Argument.ensures.argument).0 refl in
+    let X = c.the_arg.result in
+    let Y = c.the_arg-in-Argument.result in
+    let ea : a ≡ arg_tree r.meaning X = ap (part_tree r.meaning) (sym c.the_arg.ensures) ∙ arg_part r.meaning X in
+    let eb : b ≡ arg_tree r.meaning Y = ap (part_tree r.meaning) (sym c.the_arg-in-Argument.ensures) ∙ arg_part r.meaning Y in
+    let q = g.R.TypeRelation.state c.relate.new.r in
+    let n = c.in_ok-answer-in-Argument in
     record {
-      related = subst₂ (λ x y. Related M r q r.ambient x y (part_tree q.meaning) (Ok (TyPart n.field-0))) (sym ea) (sym eb)
-          (retold M r.ambient ((r.meaning).ty k) ((r.meaning).ty o) (q.meaning).ty n.field-0
-          (part_tree q.meaning) (TyPart n.field-0) refl (n.ensures).related);
-      sort = ap part_sort (sym c.in-Ty.is);
+      related = subst₂ (λ x y. Related M r q r.ambient x y (part_tree q.meaning) (Ok c.of_arg.result)) (sym ea) (sym eb)
+          (retold M r.ambient (arg_tree r.meaning X) (arg_tree r.meaning Y) (arg_tree q.meaning) n.answer
+          (part_tree q.meaning) c.of_arg.result
+          (ap (part_tree q.meaning) c.of_arg.ensures ∙ arg_part q.meaning n.answer) (n.ensures).related);
+      sort = sort_as_arg c.of_arg.result n.answer c.of_arg.ensures ∙ (n.ensures).kind
+          ∙ sym (sort_as_arg c.args.a.now X (sym c.the_arg.ensures));
+      alike = λ o. absurd (arg_not_compared c.args.a.now arg o);
     }
 
-pub relate_parts-returns-in_err-tys-in-Ty : goal.relate_parts-returns-in_err-tys-in-Ty
-relate_parts-returns-in_err-tys-in-Ty g t c =
+pub relate_parts-returns-in_err-answer-in-Argument : goal.relate_parts-returns-in_err-answer-in-Argument
+relate_parts-returns-in_err-answer-in-Argument g t c =
     let r = g.R.TypeRelation.state c.args.r.now in
     let M = g.R.TypeRelation.manner in
     let a = part_tree r.meaning c.args.a.now in
     let b = part_tree r.meaning c.args.b.now in
-    let k = c.in-Ty.a in
-    let o = c.the_ty.result in
-    let ea : a ≡ (r.meaning).ty k = ap (part_tree r.meaning) c.in-Ty.is in
-    let eb : b ≡ (r.meaning).ty o = ap (part_tree r.meaning) (sym c.the_ty.ensures) in
-    let q = g.R.TypeRelation.state c.tys.new.r in
-    let n = c.in_err-tys-in-Ty in
+    let arg : IsArgPart c.args.a.now = (c.in-Argument.ensures.argument).0 refl in
+    let X = c.the_arg.result in
+    let Y = c.the_arg-in-Argument.result in
+    let ea : a ≡ arg_tree r.meaning X = ap (part_tree r.meaning) (sym c.the_arg.ensures) ∙ arg_part r.meaning X in
+    let eb : b ≡ arg_tree r.meaning Y = ap (part_tree r.meaning) (sym c.the_arg-in-Argument.ensures) ∙ arg_part r.meaning Y in
+    let q = g.R.TypeRelation.state c.relate.new.r in
+    let n = c.in_err-answer-in-Argument in
     let res = c.from_residual.result in
     let failed = as_err res n.field-0.0 c.from_residual.ensures.0 c.from_residual.ensures.1 in
     record {
       related = subst (λ z. Related M r q r.ambient a b (part_tree q.meaning) z) (sym failed)
           (subst₂ (λ x y. Related M r q r.ambient x y (part_tree q.meaning) (Err n.field-0.0)) (sym ea) (sym eb)
-          (refused_again M r.ambient ((r.meaning).ty k) ((r.meaning).ty o) (q.meaning).ty
+          (refused_again M r.ambient (arg_tree r.meaning X) (arg_tree r.meaning Y) (arg_tree q.meaning)
           (part_tree q.meaning) n.field-0.0 (n.ensures).related));
       sort = subst (λ u. IfOk u (λ z. part_sort z ≡ part_sort c.args.a.now)) (sym failed) tt;
+      alike = λ o. subst (λ u. OnOk u (AreOfOneForm a b)) (sym failed) tt;
     }
 
-pub relate_parts-the_const-requires : goal.relate_parts-the_const-requires
-relate_parts-the_const-requires g t c = c.requires.one_sort ∙ ap part_sort c.in-Const.is
-
-pub relate_parts-consts-requires : goal.relate_parts-consts-requires
-relate_parts-consts-requires g t c κs within =
+pub relate_parts-binders-requires : goal.relate_parts-binders-requires
+relate_parts-binders-requires g t c κs within =
     let r = g.R.TypeRelation.state c.args.r.now in
     let M = g.R.TypeRelation.manner in
     let a = part_tree r.meaning c.args.a.now in
     let b = part_tree r.meaning c.args.b.now in
-    let k = c.in-Const.a in
-    let o = c.the_const.result in
-    let ea : a ≡ (r.meaning).const_ k = ap (part_tree r.meaning) c.in-Const.is in
-    let eb : b ≡ (r.meaning).const_ o = ap (part_tree r.meaning) (sym c.the_const.ensures) in
-    let lawful = c.requires.lawful in
-    let decides = c.requires.decides in
-    let asked = subst₂ (λ x y. Asked M r r.ambient x y) ea eb c.requires.asked in
-    let same = ap₂ (λ x y. depth (r.store).budget (weight r.store x + weight r.store y)) ea eb in
-    let under : 8 * depth (r.store).budget (weight r.store ((r.meaning).const_ k) + weight r.store ((r.meaning).const_ o)) + 2 <
-    8 * depth (r.store).budget (weight r.store a + weight r.store b) + 3 = omega (arith, same) in
-    let d = c.decreases in
-    search rules
-
-pub relate_parts-returns-in_ok-consts-in-Const : goal.relate_parts-returns-in_ok-consts-in-Const
-relate_parts-returns-in_ok-consts-in-Const g t c =
-    let r = g.R.TypeRelation.state c.args.r.now in
-    let M = g.R.TypeRelation.manner in
-    let a = part_tree r.meaning c.args.a.now in
-    let b = part_tree r.meaning c.args.b.now in
-    let k = c.in-Const.a in
-    let o = c.the_const.result in
-    let ea : a ≡ (r.meaning).const_ k = ap (part_tree r.meaning) c.in-Const.is in
-    let eb : b ≡ (r.meaning).const_ o = ap (part_tree r.meaning) (sym c.the_const.ensures) in
-    let q = g.R.TypeRelation.state c.consts.new.r in
-    let n = c.in_ok-consts-in-Const in
-    record {
-      related = subst₂ (λ x y. Related M r q r.ambient x y (part_tree q.meaning) (Ok (ConstPart n.field-0))) (sym ea) (sym eb)
-          (retold M r.ambient ((r.meaning).const_ k) ((r.meaning).const_ o) (q.meaning).const_ n.field-0
-          (part_tree q.meaning) (ConstPart n.field-0) refl n.ensures);
-      sort = ap part_sort (sym c.in-Const.is);
-    }
-
-pub relate_parts-returns-in_err-consts-in-Const : goal.relate_parts-returns-in_err-consts-in-Const
-relate_parts-returns-in_err-consts-in-Const g t c =
-    let r = g.R.TypeRelation.state c.args.r.now in
-    let M = g.R.TypeRelation.manner in
-    let a = part_tree r.meaning c.args.a.now in
-    let b = part_tree r.meaning c.args.b.now in
-    let k = c.in-Const.a in
-    let o = c.the_const.result in
-    let ea : a ≡ (r.meaning).const_ k = ap (part_tree r.meaning) c.in-Const.is in
-    let eb : b ≡ (r.meaning).const_ o = ap (part_tree r.meaning) (sym c.the_const.ensures) in
-    let q = g.R.TypeRelation.state c.consts.new.r in
-    let n = c.in_err-consts-in-Const in
-    let res = c.from_residual-in_err-consts-in-Const.result in
-    let failed = as_err res n.field-0.0 c.from_residual-in_err-consts-in-Const.ensures.0 c.from_residual-in_err-consts-in-Const.ensures.1 in
-    record {
-      related = subst (λ z. Related M r q r.ambient a b (part_tree q.meaning) z) (sym failed)
-          (subst₂ (λ x y. Related M r q r.ambient x y (part_tree q.meaning) (Err n.field-0.0)) (sym ea) (sym eb)
-          (refused_again M r.ambient ((r.meaning).const_ k) ((r.meaning).const_ o) (q.meaning).const_
-          (part_tree q.meaning) n.field-0.0 n.ensures));
-      sort = subst (λ u. IfOk u (λ z. part_sort z ≡ part_sort c.args.a.now)) (sym failed) tt;
-    }
-
-pub relate_parts-the_pat-requires : goal.relate_parts-the_pat-requires
-relate_parts-the_pat-requires g t c = c.requires.one_sort ∙ ap part_sort c.in-Pat.is
-
-pub relate_parts-pats-requires : goal.relate_parts-pats-requires
-relate_parts-pats-requires g t c κs within =
-    let r = g.R.TypeRelation.state c.args.r.now in
-    let M = g.R.TypeRelation.manner in
-    let a = part_tree r.meaning c.args.a.now in
-    let b = part_tree r.meaning c.args.b.now in
-    let k = c.in-Pat.a in
-    let o = c.the_pat.result in
-    let ea : a ≡ (r.meaning).pat k = ap (part_tree r.meaning) c.in-Pat.is in
-    let eb : b ≡ (r.meaning).pat o = ap (part_tree r.meaning) (sym c.the_pat.ensures) in
-    let lawful = c.requires.lawful in
-    let decides = c.requires.decides in
-    let asked = subst₂ (λ x y. Asked M r r.ambient x y) ea eb c.requires.asked in
-    let same = ap₂ (λ x y. depth (r.store).budget (weight r.store x + weight r.store y)) ea eb in
-    let under : 8 * depth (r.store).budget (weight r.store ((r.meaning).pat k) + weight r.store ((r.meaning).pat o)) + 1 <
-    8 * depth (r.store).budget (weight r.store a + weight r.store b) + 3 = omega (arith, same) in
-    let d = c.decreases in
-    search rules
-
-pub relate_parts-returns-in_ok-pats-in-Pat : goal.relate_parts-returns-in_ok-pats-in-Pat
-relate_parts-returns-in_ok-pats-in-Pat g t c =
-    let r = g.R.TypeRelation.state c.args.r.now in
-    let M = g.R.TypeRelation.manner in
-    let a = part_tree r.meaning c.args.a.now in
-    let b = part_tree r.meaning c.args.b.now in
-    let k = c.in-Pat.a in
-    let o = c.the_pat.result in
-    let ea : a ≡ (r.meaning).pat k = ap (part_tree r.meaning) c.in-Pat.is in
-    let eb : b ≡ (r.meaning).pat o = ap (part_tree r.meaning) (sym c.the_pat.ensures) in
-    let q = g.R.TypeRelation.state c.pats.new.r in
-    let n = c.in_ok-pats-in-Pat in
-    record {
-      related = subst₂ (λ x y. Related M r q r.ambient x y (part_tree q.meaning) (Ok (PatPart n.field-0))) (sym ea) (sym eb)
-          (retold M r.ambient ((r.meaning).pat k) ((r.meaning).pat o) (q.meaning).pat n.field-0
-          (part_tree q.meaning) (PatPart n.field-0) refl n.ensures);
-      sort = ap part_sort (sym c.in-Pat.is);
-    }
-
-pub relate_parts-returns-in_err-pats-in-Pat : goal.relate_parts-returns-in_err-pats-in-Pat
-relate_parts-returns-in_err-pats-in-Pat g t c =
-    let r = g.R.TypeRelation.state c.args.r.now in
-    let M = g.R.TypeRelation.manner in
-    let a = part_tree r.meaning c.args.a.now in
-    let b = part_tree r.meaning c.args.b.now in
-    let k = c.in-Pat.a in
-    let o = c.the_pat.result in
-    let ea : a ≡ (r.meaning).pat k = ap (part_tree r.meaning) c.in-Pat.is in
-    let eb : b ≡ (r.meaning).pat o = ap (part_tree r.meaning) (sym c.the_pat.ensures) in
-    let q = g.R.TypeRelation.state c.pats.new.r in
-    let n = c.in_err-pats-in-Pat in
-    let res = c.from_residual-in_err-pats-in-Pat.result in
-    let failed = as_err res n.field-0.0 c.from_residual-in_err-pats-in-Pat.ensures.0 c.from_residual-in_err-pats-in-Pat.ensures.1 in
-    record {
-      related = subst (λ z. Related M r q r.ambient a b (part_tree q.meaning) z) (sym failed)
-          (subst₂ (λ x y. Related M r q r.ambient x y (part_tree q.meaning) (Err n.field-0.0)) (sym ea) (sym eb)
-          (refused_again M r.ambient ((r.meaning).pat k) ((r.meaning).pat o) (q.meaning).pat
-          (part_tree q.meaning) n.field-0.0 n.ensures));
-      sort = subst (λ u. IfOk u (λ z. part_sort z ≡ part_sort c.args.a.now)) (sym failed) tt;
-    }
-
-pub pats-returns-in_err-compare_pats_of : goal.pats-returns-in_err-compare_pats_of
-pats-returns-in_err-compare_pats_of g t c =
-    let r = g.R.TypeRelation.state c.args.r.now in
-    let M = g.R.TypeRelation.manner in
-    let a = (r.meaning).pat c.args.a.now in
-    let b = (r.meaning).pat c.args.b.now in
-    let e = g.met.R.TypeRelation.reads c.args.r.now in
-    let cx = g.R.TypeRelation.interner c.args.r.now in
-    let sorted : Sorted r.meaning = subst (λ m. Sorted m) (sym e) (record {
-      ty = g.met.I.Interner.is_ty cx;
-      region = g.met.I.Interner.is_region cx;
-      tys = g.met.I.Interner.are_tys cx;
-      const_ = g.met.I.Interner.is_const cx;
-      valtree = g.met.I.Interner.is_valtree cx;
-      args = g.met.I.Interner.are_args cx;
-      branches = g.met.I.Interner.are_branches cx;
-      pat = g.met.I.Interner.is_pat cx;
-      alternatives = g.met.I.Interner.are_alternatives cx;
-      existential_predicates = g.met.I.Interner.are_existential_predicates cx;
-    }) in
-    let n = c.in_err-compare_pats_of in
-    let k = c.requires.asked in
-    let left = sorted.pat c.args.a.now k.left_known in
-    let failed = as_err c.from_residual.result (Unrelated n.field-0.0) c.from_residual.ensures.0 c.from_residual.ensures.1 in
-    subst (λ z. Related M r r r.ambient a b (r.meaning).pat z) (sym failed)
-    (patterns_differ M r r.ambient (r.meaning).pat a b n.field-0.0 c.requires.decides (pattern_is a left) left
-    (sorted.pat c.args.b.now k.right_known) (n.ensures).errors)
-
-pub pats-relate_in_order-requires : goal.pats-relate_in_order-requires
-pats-relate_in_order-requires g t c κs within =
-    let r = g.R.TypeRelation.state c.args.r.now in
-    let M = g.R.TypeRelation.manner in
-    let a = (r.meaning).pat c.args.a.now in
-    let b = (r.meaning).pat c.args.b.now in
-    let e = g.met.R.TypeRelation.reads c.args.r.now in
-    let cx = g.R.TypeRelation.interner c.args.r.now in
-    let sorted : Sorted r.meaning = subst (λ m. Sorted m) (sym e) (record {
-      ty = g.met.I.Interner.is_ty cx;
-      region = g.met.I.Interner.is_region cx;
-      tys = g.met.I.Interner.are_tys cx;
-      const_ = g.met.I.Interner.is_const cx;
-      valtree = g.met.I.Interner.is_valtree cx;
-      args = g.met.I.Interner.are_args cx;
-      branches = g.met.I.Interner.are_branches cx;
-      pat = g.met.I.Interner.is_pat cx;
-      alternatives = g.met.I.Interner.are_alternatives cx;
-      existential_predicates = g.met.I.Interner.are_existential_predicates cx;
-    }) in
+    let binder : IsBinderPart c.args.a.now = (c.in-Binder.ensures.binder).0 refl in
     let lawful = c.requires.lawful in
     let decides = c.requires.decides in
     let asked = c.requires.asked in
-    let form : IsOfPattern a = pattern_is a (sorted.pat c.args.a.now asked.left_known) in
-    let alike = (c.in_ok-compare_pats_of.ensures).alike in
+    let one_sort = paired_binders c.args.a.now c.args.b.now binder c.requires.paired in
+    let under : 8 * depth (r.store).budget (weight r.store a + weight r.store b) + 4 <
+    8 * depth (r.store).budget (weight r.store a + weight r.store b) + 5 = omega arith in
+    let d = c.decreases in (
+      search rules,
+      (
+        within.0,
+        (
+          within.1.0,
+          (
+            within.1.1.0,
+            (
+              within.1.1.1.0,
+              (
+                within.1.1.1.1.0,
+                (
+                  within.1.1.1.1.1,
+                  (lawful, (decides, (asked, (binder, one_sort)))),
+                ),
+              ),
+            ),
+          ),
+        ),
+      ),
+    )
+
+pub relate_parts-returns-in-Binder : goal.relate_parts-returns-in-Binder
+relate_parts-returns-in-Binder g t c =
+    let binder : IsBinderPart c.args.a.now = (c.in-Binder.ensures.binder).0 refl in
+    record {
+      related = (c.binders.ensures).related;
+      sort = (c.binders.ensures).sort;
+      alike = λ o. absurd (binder_not_compared c.args.a.now binder o);
+    }
+
+pub relate_parts-compare_parts_of-requires-clause-kind : goal.relate_parts-compare_parts_of-requires-clause-kind
+relate_parts-compare_parts_of-requires-clause-kind g t c =
+    let no_arg : IsArgPart c.args.a.now → ⊥ = λ o. let e = (c.in-Form.ensures.argument).1 o in absurd (cc) in
+    let no_binder : IsBinderPart c.args.a.now → ⊥ = λ o. let e = (c.in-Form.ensures.binder).1 o in absurd (cc) in
+    let kind : IsComparedPart c.args.a.now = form_compared c.args.a.now c.requires.kind no_arg no_binder in
+    kind
+
+pub relate_parts-compare_parts_of-requires-clause-one_sort : goal.relate_parts-compare_parts_of-requires-clause-one_sort
+relate_parts-compare_parts_of-requires-clause-one_sort g t c =
+    let no_arg : IsArgPart c.args.a.now → ⊥ = λ o. let e = (c.in-Form.ensures.argument).1 o in absurd (cc) in
+    let no_binder : IsBinderPart c.args.a.now → ⊥ = λ o. let e = (c.in-Form.ensures.binder).1 o in absurd (cc) in
+    let kind : IsComparedPart c.args.a.now = form_compared c.args.a.now c.requires.kind no_arg no_binder in
+    let one_sort = paired_compared c.args.a.now c.args.b.now kind c.requires.paired in
+    one_sort
+
+pub relate_parts-returns-in_err-compare_parts_of-in-Form : goal.relate_parts-returns-in_err-compare_parts_of-in-Form
+relate_parts-returns-in_err-compare_parts_of-in-Form g t c =
+    let r = g.R.TypeRelation.state c.args.r.now in
+    let M = g.R.TypeRelation.manner in
+    let a = part_tree r.meaning c.args.a.now in
+    let b = part_tree r.meaning c.args.b.now in
+    let e = g.met.R.TypeRelation.reads c.args.r.now in
+    let cx = g.R.TypeRelation.interner c.args.r.now in
+    let sorted : Sorted r.meaning = subst (λ m. Sorted m) (sym e) (record {
+      ty = g.met.I.Interner.is_ty cx;
+      region = g.met.I.Interner.is_region cx;
+      tys = g.met.I.Interner.are_tys cx;
+      const_ = g.met.I.Interner.is_const cx;
+      valtree = g.met.I.Interner.is_valtree cx;
+      args = g.met.I.Interner.are_args cx;
+      branches = g.met.I.Interner.are_branches cx;
+      pat = g.met.I.Interner.is_pat cx;
+      alternatives = g.met.I.Interner.are_alternatives cx;
+      existential_predicates = g.met.I.Interner.are_existential_predicates cx;
+    }) in
+    let no_arg : IsArgPart c.args.a.now → ⊥ = λ o. let e = (c.in-Form.ensures.argument).1 o in absurd (cc) in
+    let no_binder : IsBinderPart c.args.a.now → ⊥ = λ o. let e = (c.in-Form.ensures.binder).1 o in absurd (cc) in
+    let kind : IsComparedPart c.args.a.now = form_compared c.args.a.now c.requires.kind no_arg no_binder in
+    let one_sort = paired_compared c.args.a.now c.args.b.now kind c.requires.paired in
+    let k = c.requires.asked in
+    let form = compared_is r.meaning sorted c.args.a.now kind k.left_known in
+    let other_kind : IsComparedPart c.args.b.now = compared_as c.args.a.now c.args.b.now kind one_sort in
+    let other = compared_is r.meaning sorted c.args.b.now other_kind k.right_known in
+    let n = c.in_err-compare_parts_of-in-Form in
+    let failed = as_err c.from_residual-in_err-compare_parts_of-in-Form.result (Unrelated n.field-0.0)
+    c.from_residual-in_err-compare_parts_of-in-Form.ensures.0 c.from_residual-in_err-compare_parts_of-in-Form.ensures.1 in
+    record {
+      related = subst (λ z. Related M r r r.ambient a b (part_tree r.meaning) z) (sym failed)
+          (terms_differ M r r.ambient (part_tree r.meaning) (part_sort c.args.a.now) (part_sort c.args.b.now) a b
+          n.field-0.0 c.requires.decides form other (part_sorted r.meaning sorted c.args.a.now k.left_known form)
+          (part_sorted r.meaning sorted c.args.b.now k.right_known other) k.left_known k.right_known
+          (n.ensures).errors);
+      sort = subst (λ u. IfOk u (λ z. part_sort z ≡ part_sort c.args.a.now)) (sym failed) tt;
+      alike = λ o. subst (λ u. OnOk u (AreOfOneForm a b)) (sym failed) tt;
+    }
+
+pub relate_parts-relate_in_order-requires : goal.relate_parts-relate_in_order-requires
+relate_parts-relate_in_order-requires g t c κs within =
+    let r = g.R.TypeRelation.state c.args.r.now in
+    let M = g.R.TypeRelation.manner in
+    let a = part_tree r.meaning c.args.a.now in
+    let b = part_tree r.meaning c.args.b.now in
+    let e = g.met.R.TypeRelation.reads c.args.r.now in
+    let cx = g.R.TypeRelation.interner c.args.r.now in
+    let sorted : Sorted r.meaning = subst (λ m. Sorted m) (sym e) (record {
+      ty = g.met.I.Interner.is_ty cx;
+      region = g.met.I.Interner.is_region cx;
+      tys = g.met.I.Interner.are_tys cx;
+      const_ = g.met.I.Interner.is_const cx;
+      valtree = g.met.I.Interner.is_valtree cx;
+      args = g.met.I.Interner.are_args cx;
+      branches = g.met.I.Interner.are_branches cx;
+      pat = g.met.I.Interner.is_pat cx;
+      alternatives = g.met.I.Interner.are_alternatives cx;
+      existential_predicates = g.met.I.Interner.are_existential_predicates cx;
+    }) in
+    let no_arg : IsArgPart c.args.a.now → ⊥ = λ o. let e = (c.in-Form.ensures.argument).1 o in absurd (cc) in
+    let no_binder : IsBinderPart c.args.a.now → ⊥ = λ o. let e = (c.in-Form.ensures.binder).1 o in absurd (cc) in
+    let kind : IsComparedPart c.args.a.now = form_compared c.args.a.now c.requires.kind no_arg no_binder in
+    let one_sort = paired_compared c.args.a.now c.args.b.now kind c.requires.paired in
+    let k = c.requires.asked in
+    let form = compared_is r.meaning sorted c.args.a.now kind k.left_known in
+    let lawful = c.requires.lawful in
+    let decides = c.requires.decides in
+    let asked = c.requires.asked in
+    let alike = (c.in_ok-compare_parts_of-in-Form.ensures).alike in
     let under : 8 * depth (r.store).budget (weight r.store a + weight r.store b) <
-    8 * depth (r.store).budget (weight r.store a + weight r.store b) + 1 = omega arith in
-    let d = c.decreases in
-    search rules
+    8 * depth (r.store).budget (weight r.store a + weight r.store b) + 5 = omega arith in
+    let d = c.decreases in (
+      search rules,
+      (
+        within.0,
+        (
+          within.1.0,
+          (
+            within.1.1.0,
+            (
+              within.1.1.1.0,
+              (
+                within.1.1.1.1.0,
+                (
+                  within.1.1.1.1.1,
+                  (lawful, (decides, (asked, (form, (one_sort, alike))))),
+                ),
+              ),
+            ),
+          ),
+        ),
+      ),
+    )
 
-pub pats-the_pat-requires : goal.pats-the_pat-requires
-pats-the_pat-requires g t c = (c.in_ok-relate_in_order.ensures).sort
-
-pub pats-returns-in_err-relate_in_order : goal.pats-returns-in_err-relate_in_order
-pats-returns-in_err-relate_in_order g t c =
+pub relate_parts-returns-in_ok-compare_parts_of-in-Form : goal.relate_parts-returns-in_ok-compare_parts_of-in-Form
+relate_parts-returns-in_ok-compare_parts_of-in-Form g t c =
     let r = g.R.TypeRelation.state c.args.r.now in
     let M = g.R.TypeRelation.manner in
-    let a = (r.meaning).pat c.args.a.now in
-    let b = (r.meaning).pat c.args.b.now in
-    let q = g.R.TypeRelation.state c.relate_in_order.new.r in
-    let n = c.in_err-relate_in_order in
-    let res = c.from_residual-in_err-relate_in_order.result in
-    let failed = as_err res n.field-0.0 c.from_residual-in_err-relate_in_order.ensures.0
-    c.from_residual-in_err-relate_in_order.ensures.1 in
-    subst (λ z. Related M r q r.ambient a b (q.meaning).pat z) (sym failed)
-    (refused_again M r.ambient a b (part_tree q.meaning) (q.meaning).pat n.field-0.0 (n.ensures).related)
-
-pub pats-returns : goal.pats-returns
-pats-returns g t c =
-    let r = g.R.TypeRelation.state c.args.r.now in
-    let M = g.R.TypeRelation.manner in
-    let a = (r.meaning).pat c.args.a.now in
-    let b = (r.meaning).pat c.args.b.now in
-    let q = g.R.TypeRelation.state c.relate_in_order.new.r in
-    let n = c.in_ok-relate_in_order in
-    retold M r.ambient a b (part_tree q.meaning) n.field-0 (q.meaning).pat c.the_pat.result
-    (ap (part_tree q.meaning) c.the_pat.ensures) (n.ensures).related
+    let a = part_tree r.meaning c.args.a.now in
+    let b = part_tree r.meaning c.args.b.now in
+    let res = c.relate_in_order.result in
+    record {
+      related = (c.relate_in_order.ensures).related;
+      sort = (c.relate_in_order.ensures).sort;
+      alike = λ o. on_ok res (AreOfOneForm a b) (c.in_ok-compare_parts_of-in-Form.ensures).alike;
+    }
 
 pub structurally_relate_tys-relate_in_order-requires : goal.structurally_relate_tys-relate_in_order-requires
 structurally_relate_tys-relate_in_order-requires g t c κs within =
@@ -2606,7 +2894,7 @@ structurally_relate_tys-relate_in_order-requires g t c κs within =
     let lawful = c.requires.lawful in
     let decides = c.requires.decides in
     let asked = c.requires.asked in
-    let form : IsOfPattern a = (c.is_pattern_type_of.ensures).pattern c.if-is_pattern_type_of.true in
+    let form : IsByParts a = (c.is_by_parts_of.ensures).0 c.if-is_by_parts_of.true in
     let alike = (c.in_ok-compare_tys_of.ensures).alike in
     let under : 8 * depth (r.store).budget (weight r.store a + weight r.store b) <
     8 * depth (r.store).budget (weight r.store a + weight r.store b) + 1 = omega arith in
@@ -2624,7 +2912,7 @@ structurally_relate_tys-relate_in_order-requires g t c κs within =
                 within.1.1.1.1.0,
                 (
                   within.1.1.1.1.1,
-                  (lawful, (decides, (asked, (form, alike)))),
+                  (lawful, (decides, (asked, (form, (refl, alike))))),
                 ),
               ),
             ),
@@ -2650,8 +2938,8 @@ structurally_relate_tys-returns-in_err-relate_in_order g t c =
     subst (λ z. Related M r q r.ambient a b (q.meaning).ty z) (sym failed)
     (refused_again M r.ambient a b (part_tree q.meaning) (q.meaning).ty n.field-0.0 (n.ensures).related)
 
-pub structurally_relate_tys-returns-then-is_pattern_type_of : goal.structurally_relate_tys-returns-then-is_pattern_type_of
-structurally_relate_tys-returns-then-is_pattern_type_of g t c =
+pub structurally_relate_tys-returns-then-is_by_parts_of : goal.structurally_relate_tys-returns-then-is_by_parts_of
+structurally_relate_tys-returns-then-is_by_parts_of g t c =
     let r = g.R.TypeRelation.state c.args.r.now in
     let M = g.R.TypeRelation.manner in
     let a = (r.meaning).ty c.args.a.now in
@@ -2661,18 +2949,349 @@ structurally_relate_tys-returns-then-is_pattern_type_of g t c =
     retold M r.ambient a b (part_tree q.meaning) n.field-0 (q.meaning).ty c.the_ty.result
     (ap (part_tree q.meaning) c.the_ty.ensures) (n.ensures).related
 
-pub structurally_relate_tys-part_of-x-requires-clause-no_pattern : goal.structurally_relate_tys-part_of-x-requires-clause-no_pattern
-structurally_relate_tys-part_of-x-requires-clause-no_pattern g t c =
+pub structurally_relate_tys-part_of-x-requires-clause-over_args : goal.structurally_relate_tys-part_of-x-requires-clause-over_args
+structurally_relate_tys-part_of-x-requires-clause-over_args g t c =
     let k = c.requires.asked in
     let same = (((c.loop-i.invariant.fronted).passes).extends).ty c.args.a.now k.left_known in
-    λ e. (c.is_pattern_type_of.ensures).others c.if-is_pattern_type_of.false (sym (ap head_of same) ∙ e)
+    λ o. absurd (false≢true (sym c.if-is_by_parts_of.false ∙ (c.is_by_parts_of.ensures).1 (subst IsByParts same o)))
 
-pub structurally_relate_tys-part_of-y-requires-clause-no_pattern : goal.structurally_relate_tys-part_of-y-requires-clause-no_pattern
-structurally_relate_tys-part_of-y-requires-clause-no_pattern g t c =
+pub structurally_relate_tys-part_of-y-requires-clause-over_args : goal.structurally_relate_tys-part_of-y-requires-clause-over_args
+structurally_relate_tys-part_of-y-requires-clause-over_args g t c =
     let r = g.R.TypeRelation.state c.args.r.now in
+    let M = g.R.TypeRelation.manner in
     let a = (r.meaning).ty c.args.a.now in
     let b = (r.meaning).ty c.args.b.now in
     let k = c.requires.asked in
     let same = (((c.loop-i.invariant.fronted).passes).extends).ty c.args.b.now k.right_known in
-    λ e. (c.is_pattern_type_of.ensures).others c.if-is_pattern_type_of.false
-    (heads_alike a b (c.in_ok-compare_tys_of.ensures).alike ∙ sym (ap head_of same) ∙ e)
+    let back = alike_back a b (c.in_ok-compare_tys_of.ensures).alike in
+    λ o. absurd (false≢true (sym c.if-is_by_parts_of.false ∙ (c.is_by_parts_of.ensures).1
+    (term_alike b a back (subst IsByParts same o))))
+
+pub binders-returns-then-is_same_of : goal.binders-returns-then-is_same_of
+binders-returns-then-is_same_of g t c =
+    let r = g.R.TypeRelation.state c.args.r.now in
+    let M = g.R.TypeRelation.manner in
+    let a = part_tree r.meaning c.args.a.now in
+    let b = part_tree r.meaning c.args.b.now in
+    let k = c.requires.asked in
+    record {
+      related = itself_related M r r.ambient (part_tree r.meaning) a b c.args.a.now
+          (c.is_same_of.ensures c.if-is_same_of.true) refl k.left_known;
+      sort = refl;
+    }
+
+pub binders-returns-in_err-x : goal.binders-returns-in_err-x
+binders-returns-in_err-x g t c =
+    let r = g.R.TypeRelation.state c.args.r.now in
+    let M = g.R.TypeRelation.manner in
+    let a = part_tree r.meaning c.args.a.now in
+    let b = part_tree r.meaning c.args.b.now in
+    let k = c.requires.asked in
+    let never = has_binder r.meaning c.args.a.now c.requires.binder c.requires.asked.left_known in
+    let q = g.R.TypeRelation.state c.open_bodies.new.r in
+    let e = c.in_err-x in
+    let failed = as_err c.from_residual.result e.field-0.0 c.from_residual.ensures.0 c.from_residual.ensures.1 in
+    record {
+      related = subst (λ z. Related M r q r.ambient a b (part_tree q.meaning) z) (sym failed)
+          (opening_refused M 0 a b (part_tree q.meaning) (part_tree q.meaning) never e.field-0.0 (e.ensures).opened);
+      sort = subst (λ u. IfOk u (λ z. part_sort z ≡ part_sort c.args.a.now)) (sym failed) tt;
+    }
+
+pub binders-returns-in_default : goal.binders-returns-in_default
+binders-returns-in_default g t c =
+    let r = g.R.TypeRelation.state c.args.r.now in
+    let M = g.R.TypeRelation.manner in
+    let a = part_tree r.meaning c.args.a.now in
+    let b = part_tree r.meaning c.args.b.now in
+    let k = c.requires.asked in
+    let q = g.R.TypeRelation.state c.open_bodies.new.r in
+    let o : Opened M r q 0 a b (part_tree q.meaning) (Ok None) =
+    subst (λ z. Opened M r q 0 a b (part_tree q.meaning) (Ok z)) c.in_default.is (c.in_ok-x.ensures).opened in
+    let never = (o.verdict).0 in
+    absurd (omega (arith, never))
+
+pub binders-relate_parts-requires : goal.binders-relate_parts-requires
+binders-relate_parts-requires g t c κs within =
+    let r = g.R.TypeRelation.state c.args.r.now in
+    let M = g.R.TypeRelation.manner in
+    let a = part_tree r.meaning c.args.a.now in
+    let b = part_tree r.meaning c.args.b.now in
+    let k = c.requires.asked in
+    let q = g.R.TypeRelation.state c.open_bodies.new.r in
+    let x = part_tree q.meaning c.in-Some.x in
+    let y = part_tree q.meaning c.in-Some.y in
+    let o : Opened M r q 0 a b (part_tree q.meaning) (Ok (Some (c.in-Some.x, c.in-Some.y))) =
+    subst (λ z. Opened M r q 0 a b (part_tree q.meaning) (Ok z)) c.in-Some.is (c.in_ok-x.ensures).opened in
+    let lawful = (o.passes).lawful c.requires.lawful in
+    let decides : q.ambient ≢ Bivariant = λ e. c.requires.decides (sym (o.passes).ambient ∙ e) in
+    let asked : Asked M q q.ambient x y = subst (λ v. Asked M q v x y) (sym (o.passes).ambient) (o.verdict).asked in
+    let kind = opened_related c.in_ok-x.field-0 c.in-Some.x c.in-Some.y c.in-Some.is (c.in_ok-x.ensures).related in
+    let paired = opened_paired c.in_ok-x.field-0 c.in-Some.x c.in-Some.y c.in-Some.is (c.in_ok-x.ensures).paired in
+    let less = first_under M (o.passes).added a b x y o.verdict in
+    let under : 8 * depth (q.store).budget (weight q.store x + weight q.store y) + 5 <
+    8 * depth (r.store).budget (weight r.store a + weight r.store b) + 4 = omega (arith, less) in
+    let d = c.decreases in
+    search (rules, lawful, decides, asked, kind, paired, under)
+
+pub binders-returns-in_err-relate_parts : goal.binders-returns-in_err-relate_parts
+binders-returns-in_err-relate_parts g t c =
+    let r = g.R.TypeRelation.state c.args.r.now in
+    let M = g.R.TypeRelation.manner in
+    let a = part_tree r.meaning c.args.a.now in
+    let b = part_tree r.meaning c.args.b.now in
+    let k = c.requires.asked in
+    let never = has_binder r.meaning c.args.a.now c.requires.binder c.requires.asked.left_known in
+    let q = g.R.TypeRelation.state c.open_bodies.new.r in
+    let x = part_tree q.meaning c.in-Some.x in
+    let y = part_tree q.meaning c.in-Some.y in
+    let o : Opened M r q 0 a b (part_tree q.meaning) (Ok (Some (c.in-Some.x, c.in-Some.y))) =
+    subst (λ z. Opened M r q 0 a b (part_tree q.meaning) (Ok z)) c.in-Some.is (c.in_ok-x.ensures).opened in
+    let p = g.R.TypeRelation.state c.relate_parts.new.r in
+    let e = c.in_err-relate_parts in
+    let failed = as_err c.from_residual-in_err-relate_parts.result e.field-0.0 c.from_residual-in_err-relate_parts.ensures.0 c.from_residual-in_err-relate_parts.ensures.1 in
+    let inner = subst (λ v. Related M q p v x y (part_tree p.meaning) (Err e.field-0.0)) (o.passes).ambient
+    (e.ensures).related in
+    let sound = g.met.R.TypeRelation.sound c.relate_parts.new.r
+    ((inner.passes).lawful ((o.passes).lawful c.requires.lawful)) in
+    record {
+      related = subst (λ z. Related M r p r.ambient a b (part_tree p.meaning) z) (sym failed)
+          (first_refused M a b x y (part_tree p.meaning) (part_tree p.meaning) never sound o.passes o.verdict e.field-0.0 inner);
+      sort = subst (λ u. IfOk u (λ z. part_sort z ≡ part_sort c.args.a.now)) (sym failed) tt;
+    }
+
+pub binders-open_bodies-requires-2-clause-lawful : goal.binders-open_bodies-requires-2-clause-lawful
+binders-open_bodies-requires-2-clause-lawful g t c =
+    let r = g.R.TypeRelation.state c.args.r.now in
+    let M = g.R.TypeRelation.manner in
+    let a = part_tree r.meaning c.args.a.now in
+    let b = part_tree r.meaning c.args.b.now in
+    let k = c.requires.asked in
+    let q = g.R.TypeRelation.state c.open_bodies.new.r in
+    let x = part_tree q.meaning c.in-Some.x in
+    let y = part_tree q.meaning c.in-Some.y in
+    let o : Opened M r q 0 a b (part_tree q.meaning) (Ok (Some (c.in-Some.x, c.in-Some.y))) =
+    subst (λ z. Opened M r q 0 a b (part_tree q.meaning) (Ok z)) c.in-Some.is (c.in_ok-x.ensures).opened in
+    let p = g.R.TypeRelation.state c.relate_parts.new.r in
+    let n = c.in_ok-relate_parts in
+    let inner = subst (λ v. Related M q p v x y (part_tree p.meaning) (Ok n.field-0)) (o.passes).ambient
+    (n.ensures).related in
+    let half = first_done M a b x y (part_tree p.meaning) n.field-0 o.passes o.verdict inner in
+    (half.passes).lawful c.requires.lawful
+
+pub binders-open_bodies-requires-2-clause-decides : goal.binders-open_bodies-requires-2-clause-decides
+binders-open_bodies-requires-2-clause-decides g t c =
+    let r = g.R.TypeRelation.state c.args.r.now in
+    let M = g.R.TypeRelation.manner in
+    let a = part_tree r.meaning c.args.a.now in
+    let b = part_tree r.meaning c.args.b.now in
+    let k = c.requires.asked in
+    let q = g.R.TypeRelation.state c.open_bodies.new.r in
+    let x = part_tree q.meaning c.in-Some.x in
+    let y = part_tree q.meaning c.in-Some.y in
+    let o : Opened M r q 0 a b (part_tree q.meaning) (Ok (Some (c.in-Some.x, c.in-Some.y))) =
+    subst (λ z. Opened M r q 0 a b (part_tree q.meaning) (Ok z)) c.in-Some.is (c.in_ok-x.ensures).opened in
+    let p = g.R.TypeRelation.state c.relate_parts.new.r in
+    let n = c.in_ok-relate_parts in
+    let inner = subst (λ v. Related M q p v x y (part_tree p.meaning) (Ok n.field-0)) (o.passes).ambient
+    (n.ensures).related in
+    let half = first_done M a b x y (part_tree p.meaning) n.field-0 o.passes o.verdict inner in
+    λ e. c.requires.decides (sym (half.passes).ambient ∙ e)
+
+pub binders-open_bodies-requires-2-clause-asked : goal.binders-open_bodies-requires-2-clause-asked
+binders-open_bodies-requires-2-clause-asked g t c =
+    let r = g.R.TypeRelation.state c.args.r.now in
+    let M = g.R.TypeRelation.manner in
+    let a = part_tree r.meaning c.args.a.now in
+    let b = part_tree r.meaning c.args.b.now in
+    let k = c.requires.asked in
+    let q = g.R.TypeRelation.state c.open_bodies.new.r in
+    let x = part_tree q.meaning c.in-Some.x in
+    let y = part_tree q.meaning c.in-Some.y in
+    let o : Opened M r q 0 a b (part_tree q.meaning) (Ok (Some (c.in-Some.x, c.in-Some.y))) =
+    subst (λ z. Opened M r q 0 a b (part_tree q.meaning) (Ok z)) c.in-Some.is (c.in_ok-x.ensures).opened in
+    let p = g.R.TypeRelation.state c.relate_parts.new.r in
+    let n = c.in_ok-relate_parts in
+    let inner = subst (λ v. Related M q p v x y (part_tree p.meaning) (Ok n.field-0)) (o.passes).ambient
+    (n.ensures).related in
+    let half = first_done M a b x y (part_tree p.meaning) n.field-0 o.passes o.verdict inner in
+    half_asked M c.args.a.now c.args.b.now half k
+
+pub binders-returns-in_err-x-2 : goal.binders-returns-in_err-x-2
+binders-returns-in_err-x-2 g t c =
+    let r = g.R.TypeRelation.state c.args.r.now in
+    let M = g.R.TypeRelation.manner in
+    let a = part_tree r.meaning c.args.a.now in
+    let b = part_tree r.meaning c.args.b.now in
+    let k = c.requires.asked in
+    let never = has_binder r.meaning c.args.a.now c.requires.binder c.requires.asked.left_known in
+    let q = g.R.TypeRelation.state c.open_bodies.new.r in
+    let x = part_tree q.meaning c.in-Some.x in
+    let y = part_tree q.meaning c.in-Some.y in
+    let o : Opened M r q 0 a b (part_tree q.meaning) (Ok (Some (c.in-Some.x, c.in-Some.y))) =
+    subst (λ z. Opened M r q 0 a b (part_tree q.meaning) (Ok z)) c.in-Some.is (c.in_ok-x.ensures).opened in
+    let p = g.R.TypeRelation.state c.relate_parts.new.r in
+    let n = c.in_ok-relate_parts in
+    let inner = subst (λ v. Related M q p v x y (part_tree p.meaning) (Ok n.field-0)) (o.passes).ambient
+    (n.ensures).related in
+    let half = first_done M a b x y (part_tree p.meaning) n.field-0 o.passes o.verdict inner in
+    let same_a = stays_part (half.passes).extends c.args.a.now k.left_known in
+    let same_b = stays_part (half.passes).extends c.args.b.now k.right_known in
+    let w = g.R.TypeRelation.state c.open_bodies-2.new.r in
+    let e = c.in_err-x-2 in
+    let failed = as_err c.from_residual-in_err-x-2.result e.field-0.0 c.from_residual-in_err-x-2.ensures.0 c.from_residual-in_err-x-2.ensures.1 in
+    let again = subst₂ (λ t u. Opened M p w 1 t u (part_tree w.meaning) (Err e.field-0.0)) same_a same_b
+    (e.ensures).opened in
+    record {
+      related = subst (λ z. Related M r w r.ambient a b (part_tree w.meaning) z) (sym failed)
+          (reopening_refused M 1 a b (part_tree w.meaning) (part_tree w.meaning) never half e.field-0.0 again);
+      sort = subst (λ u. IfOk u (λ z. part_sort z ≡ part_sort c.args.a.now)) (sym failed) tt;
+    }
+
+pub binders-returns-in_default-2 : goal.binders-returns-in_default-2
+binders-returns-in_default-2 g t c =
+    let r = g.R.TypeRelation.state c.args.r.now in
+    let M = g.R.TypeRelation.manner in
+    let a = part_tree r.meaning c.args.a.now in
+    let b = part_tree r.meaning c.args.b.now in
+    let k = c.requires.asked in
+    let never = has_binder r.meaning c.args.a.now c.requires.binder c.requires.asked.left_known in
+    let q = g.R.TypeRelation.state c.open_bodies.new.r in
+    let x = part_tree q.meaning c.in-Some.x in
+    let y = part_tree q.meaning c.in-Some.y in
+    let o : Opened M r q 0 a b (part_tree q.meaning) (Ok (Some (c.in-Some.x, c.in-Some.y))) =
+    subst (λ z. Opened M r q 0 a b (part_tree q.meaning) (Ok z)) c.in-Some.is (c.in_ok-x.ensures).opened in
+    let p = g.R.TypeRelation.state c.relate_parts.new.r in
+    let n = c.in_ok-relate_parts in
+    let inner = subst (λ v. Related M q p v x y (part_tree p.meaning) (Ok n.field-0)) (o.passes).ambient
+    (n.ensures).related in
+    let half = first_done M a b x y (part_tree p.meaning) n.field-0 o.passes o.verdict inner in
+    let same_a = stays_part (half.passes).extends c.args.a.now k.left_known in
+    let same_b = stays_part (half.passes).extends c.args.b.now k.right_known in
+    let w = g.R.TypeRelation.state c.open_bodies-2.new.r in
+    let again = subst₂ (λ t u. Opened M p w 1 t u (part_tree w.meaning) (Ok None)) same_a same_b
+    (subst (λ z. Opened M p w 1 (part_tree p.meaning c.args.a.now) (part_tree p.meaning c.args.b.now)
+    (part_tree w.meaning) (Ok z)) c.in_default-2.is (c.in_ok-x-2.ensures).opened) in
+    let stays = extends_on (half.passes).extends (again.passes).extends in
+    record {
+      related = nothing_left M 1 a b (part_tree w.meaning) (part_tree w.meaning) c.args.a.now never
+          (stays_part stays c.args.a.now k.left_known) k.left_known half again;
+      sort = refl;
+    }
+
+pub binders-relate_parts-requires-2 : goal.binders-relate_parts-requires-2
+binders-relate_parts-requires-2 g t c κs within =
+    let r = g.R.TypeRelation.state c.args.r.now in
+    let M = g.R.TypeRelation.manner in
+    let a = part_tree r.meaning c.args.a.now in
+    let b = part_tree r.meaning c.args.b.now in
+    let k = c.requires.asked in
+    let q = g.R.TypeRelation.state c.open_bodies.new.r in
+    let x = part_tree q.meaning c.in-Some.x in
+    let y = part_tree q.meaning c.in-Some.y in
+    let o : Opened M r q 0 a b (part_tree q.meaning) (Ok (Some (c.in-Some.x, c.in-Some.y))) =
+    subst (λ z. Opened M r q 0 a b (part_tree q.meaning) (Ok z)) c.in-Some.is (c.in_ok-x.ensures).opened in
+    let p = g.R.TypeRelation.state c.relate_parts.new.r in
+    let n = c.in_ok-relate_parts in
+    let inner = subst (λ v. Related M q p v x y (part_tree p.meaning) (Ok n.field-0)) (o.passes).ambient
+    (n.ensures).related in
+    let half = first_done M a b x y (part_tree p.meaning) n.field-0 o.passes o.verdict inner in
+    let same_a = stays_part (half.passes).extends c.args.a.now k.left_known in
+    let same_b = stays_part (half.passes).extends c.args.b.now k.right_known in
+    let w = g.R.TypeRelation.state c.open_bodies-2.new.r in
+    let s = part_tree w.meaning c.in-Some-2.x in
+    let u = part_tree w.meaning c.in-Some-2.y in
+    let again : Opened M p w 1 a b (part_tree w.meaning) (Ok (Some (c.in-Some-2.x, c.in-Some-2.y))) =
+    subst₂ (λ t u. Opened M p w 1 t u (part_tree w.meaning) (Ok (Some (c.in-Some-2.x, c.in-Some-2.y)))) same_a same_b
+    (subst (λ z. Opened M p w 1 (part_tree p.meaning c.args.a.now) (part_tree p.meaning c.args.b.now)
+    (part_tree w.meaning) (Ok z)) c.in-Some-2.is (c.in_ok-x-2.ensures).opened) in
+    let lawful = (again.passes).lawful ((half.passes).lawful c.requires.lawful) in
+    let decides : w.ambient ≢ Bivariant =
+    λ e. c.requires.decides (sym ((again.passes).ambient ∙ (half.passes).ambient) ∙ e) in
+    let asked : Asked M w w.ambient s u =
+    subst (λ v. Asked M w v s u) (sym (again.passes).ambient) (again.verdict).asked in
+    let kind = opened_related c.in_ok-x-2.field-0 c.in-Some-2.x c.in-Some-2.y c.in-Some-2.is (c.in_ok-x-2.ensures).related in
+    let paired = opened_paired c.in_ok-x-2.field-0 c.in-Some-2.x c.in-Some-2.y c.in-Some-2.is (c.in_ok-x-2.ensures).paired in
+    let less = second_under M (again.passes).added a b s u half again.verdict in
+    let under : 8 * depth (w.store).budget (weight w.store s + weight w.store u) + 5 <
+    8 * depth (r.store).budget (weight r.store a + weight r.store b) + 4 = omega (arith, less) in
+    let d = c.decreases in
+    search (rules, lawful, decides, asked, kind, paired, under)
+
+pub binders-returns-in_err-relate_parts-2 : goal.binders-returns-in_err-relate_parts-2
+binders-returns-in_err-relate_parts-2 g t c =
+    let r = g.R.TypeRelation.state c.args.r.now in
+    let M = g.R.TypeRelation.manner in
+    let a = part_tree r.meaning c.args.a.now in
+    let b = part_tree r.meaning c.args.b.now in
+    let k = c.requires.asked in
+    let never = has_binder r.meaning c.args.a.now c.requires.binder c.requires.asked.left_known in
+    let q = g.R.TypeRelation.state c.open_bodies.new.r in
+    let x = part_tree q.meaning c.in-Some.x in
+    let y = part_tree q.meaning c.in-Some.y in
+    let o : Opened M r q 0 a b (part_tree q.meaning) (Ok (Some (c.in-Some.x, c.in-Some.y))) =
+    subst (λ z. Opened M r q 0 a b (part_tree q.meaning) (Ok z)) c.in-Some.is (c.in_ok-x.ensures).opened in
+    let p = g.R.TypeRelation.state c.relate_parts.new.r in
+    let n = c.in_ok-relate_parts in
+    let inner = subst (λ v. Related M q p v x y (part_tree p.meaning) (Ok n.field-0)) (o.passes).ambient
+    (n.ensures).related in
+    let half = first_done M a b x y (part_tree p.meaning) n.field-0 o.passes o.verdict inner in
+    let same_a = stays_part (half.passes).extends c.args.a.now k.left_known in
+    let same_b = stays_part (half.passes).extends c.args.b.now k.right_known in
+    let w = g.R.TypeRelation.state c.open_bodies-2.new.r in
+    let s = part_tree w.meaning c.in-Some-2.x in
+    let u = part_tree w.meaning c.in-Some-2.y in
+    let again : Opened M p w 1 a b (part_tree w.meaning) (Ok (Some (c.in-Some-2.x, c.in-Some-2.y))) =
+    subst₂ (λ t u. Opened M p w 1 t u (part_tree w.meaning) (Ok (Some (c.in-Some-2.x, c.in-Some-2.y)))) same_a same_b
+    (subst (λ z. Opened M p w 1 (part_tree p.meaning c.args.a.now) (part_tree p.meaning c.args.b.now)
+    (part_tree w.meaning) (Ok z)) c.in-Some-2.is (c.in_ok-x-2.ensures).opened) in
+    let z = g.R.TypeRelation.state c.relate_parts-2.new.r in
+    let e = c.in_err-relate_parts-2 in
+    let failed = as_err c.from_residual-in_err-relate_parts-2.result e.field-0.0 c.from_residual-in_err-relate_parts-2.ensures.0 c.from_residual-in_err-relate_parts-2.ensures.1 in
+    let last = subst (λ v. Related M w z v s u (part_tree z.meaning) (Err e.field-0.0)) (again.passes).ambient
+    (e.ensures).related in
+    let sound = g.met.R.TypeRelation.sound c.relate_parts-2.new.r
+    ((last.passes).lawful ((again.passes).lawful ((half.passes).lawful c.requires.lawful))) in
+    record {
+      related = subst (λ t. Related M r z r.ambient a b (part_tree z.meaning) t) (sym failed)
+          (second_refused M a b s u never k half again.passes again.verdict (part_tree z.meaning) (part_tree z.meaning)
+          sound e.field-0.0 last);
+      sort = subst (λ u. IfOk u (λ z. part_sort z ≡ part_sort c.args.a.now)) (sym failed) tt;
+    }
+
+pub binders-returns : goal.binders-returns
+binders-returns g t c =
+    let r = g.R.TypeRelation.state c.args.r.now in
+    let M = g.R.TypeRelation.manner in
+    let a = part_tree r.meaning c.args.a.now in
+    let b = part_tree r.meaning c.args.b.now in
+    let k = c.requires.asked in
+    let never = has_binder r.meaning c.args.a.now c.requires.binder c.requires.asked.left_known in
+    let q = g.R.TypeRelation.state c.open_bodies.new.r in
+    let x = part_tree q.meaning c.in-Some.x in
+    let y = part_tree q.meaning c.in-Some.y in
+    let o : Opened M r q 0 a b (part_tree q.meaning) (Ok (Some (c.in-Some.x, c.in-Some.y))) =
+    subst (λ z. Opened M r q 0 a b (part_tree q.meaning) (Ok z)) c.in-Some.is (c.in_ok-x.ensures).opened in
+    let p = g.R.TypeRelation.state c.relate_parts.new.r in
+    let n = c.in_ok-relate_parts in
+    let inner = subst (λ v. Related M q p v x y (part_tree p.meaning) (Ok n.field-0)) (o.passes).ambient
+    (n.ensures).related in
+    let half = first_done M a b x y (part_tree p.meaning) n.field-0 o.passes o.verdict inner in
+    let same_a = stays_part (half.passes).extends c.args.a.now k.left_known in
+    let same_b = stays_part (half.passes).extends c.args.b.now k.right_known in
+    let w = g.R.TypeRelation.state c.open_bodies-2.new.r in
+    let s = part_tree w.meaning c.in-Some-2.x in
+    let u = part_tree w.meaning c.in-Some-2.y in
+    let again : Opened M p w 1 a b (part_tree w.meaning) (Ok (Some (c.in-Some-2.x, c.in-Some-2.y))) =
+    subst₂ (λ t u. Opened M p w 1 t u (part_tree w.meaning) (Ok (Some (c.in-Some-2.x, c.in-Some-2.y)))) same_a same_b
+    (subst (λ z. Opened M p w 1 (part_tree p.meaning c.args.a.now) (part_tree p.meaning c.args.b.now)
+    (part_tree w.meaning) (Ok z)) c.in-Some-2.is (c.in_ok-x-2.ensures).opened) in
+    let z = g.R.TypeRelation.state c.relate_parts-2.new.r in
+    let m = c.in_ok-relate_parts-2 in
+    let last = subst (λ v. Related M w z v s u (part_tree z.meaning) (Ok m.field-0)) (again.passes).ambient
+    (m.ensures).related in
+    let stays = extends_on (half.passes).extends (extends_on (again.passes).extends (last.passes).extends) in
+    record {
+      related = second_related M a b s u never k half again.passes again.verdict (part_tree z.meaning) m.field-0
+          (part_tree z.meaning) c.args.a.now (stays_part stays c.args.a.now k.left_known) last;
+      sort = refl;
+    }

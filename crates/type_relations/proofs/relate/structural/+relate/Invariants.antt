@@ -9,6 +9,7 @@ use Rattle.type_relations.specs.Making.{Fit}
 use Rattle.type_relations.proofs.Lists.{firsts}
 use Rattle.type_relations.proofs.Fronts.{Fronted, AreParts}
 use Rattle.type_relations.proofs.Answering.{AreAnswers}
+use Rattle.type_relations.proofs.Handing.{HaveAsManyInputs}
 use Rattle.type_relations.proofs.relate.structural.+relate.Given as goal
 
 abbrev pub decreases-structurally_relate_tys : goal.decreases-structurally_relate_tys
@@ -46,15 +47,20 @@ decreases-relate_in_order g l =
     let r = g.R.TypeRelation.state l.r.now in
     8 * depth (r.store).budget (weight r.store (part_tree r.meaning l.a.now) + weight r.store (part_tree r.meaning l.b.now))
 
-abbrev pub decreases-pats : goal.decreases-pats
-decreases-pats g l =
-    let r = g.R.TypeRelation.state l.r.now in
-    8 * depth (r.store).budget (weight r.store ((r.meaning).pat l.a.now) + weight r.store ((r.meaning).pat l.b.now)) + 1
-
 abbrev pub decreases-relate_parts : goal.decreases-relate_parts
 decreases-relate_parts g l =
     let r = g.R.TypeRelation.state l.r.now in
-    8 * depth (r.store).budget (weight r.store (part_tree r.meaning l.a.now) + weight r.store (part_tree r.meaning l.b.now)) + 3
+    8 * depth (r.store).budget (weight r.store (part_tree r.meaning l.a.now) + weight r.store (part_tree r.meaning l.b.now)) + 5
+
+abbrev pub decreases-relate_parts_with_variance : goal.decreases-relate_parts_with_variance
+decreases-relate_parts_with_variance g l =
+    let r = g.R.TypeRelation.state l.r.now in
+    8 * depth (r.store).budget (weight r.store (part_tree r.meaning l.a.now) + weight r.store (part_tree r.meaning l.b.now)) + 6
+
+abbrev pub decreases-binders : goal.decreases-binders
+decreases-binders g l =
+    let r = g.R.TypeRelation.state l.r.now in
+    8 * depth (r.store).budget (weight r.store (part_tree r.meaning l.a.now) + weight r.store (part_tree r.meaning l.b.now)) + 4
 
 abbrev pub invariant-structurally_relate_tys-loop-i : goal.invariant-structurally_relate_tys-loop-i
 invariant-structurally_relate_tys-loop-i g l =
@@ -105,4 +111,5 @@ invariant-relate_in_order-loop-i g l =
       answers : AreAnswers g.R.TypeRelation.manner q (head_of t) r.ambient l.i (parts_of t)
           (list_tree (part_tree q.meaning) l.answers.items);
       fits : PartsFit l.answers.items (firsts l.i (parts_of t));
+      inputs : HaveAsManyInputs t u l.i;
     }

@@ -168,7 +168,7 @@ returns g c =
     let comes = c.in_ok-resolved.ensures.resolves in
     let gen : (last : Stage) × (last.store ≡ store_of o z) × Generalised (items_of n) (store_of n w) const_var i (any_part Invariant) (record { store = store_of n w; met = [] }) full last (o.const_ b) = (e.generalised.2.0, e.generalised.2.1, subst (λ a. Generalised (items_of n) (store_of n w) const_var i (any_part Invariant) (record { store = store_of n w; met = [] }) full e.generalised.2.0 a) is e.generalised.2.2) in
     let here = generalised_here o r.grown x w z r.inner l const_var i u universe e.makes y (o.const_ b) full tt Invariant t made c.requires.target_unbound e.lawful beside keys entries c.bind.ensures.universes left comes gen c.requires.source_in sorted in
-    let may = const_may m x l t here c.requires.source_covered sorted c.requires.source_no_variable (g.met.I.Interner.is_const c.generalise.new.self.interner b sure) in
+    let may = const_may m x l t here c.requires.source_covered sorted c.requires.source_no_variable c.requires.source_in (g.met.I.Interner.is_const c.generalise.new.self.interner b sure) in
     record {
       grows = record { extends = extends_on r.grown e.grown; lawful = bound_lawful o r.grown x w z r.inner l const_var i u universe e.makes y (o.const_ b) full tt Invariant t made c.requires.target_unbound e.lawful beside keys entries c.bind.ensures.universes left comes gen c.requires.source_in sorted may };
       instantiates = (sure, by_rules o r.grown x w z r.inner l const_var i u universe e.makes y (o.const_ b) full tt Invariant t made c.requires.target_unbound e.lawful beside keys entries c.bind.ensures.universes left comes gen c.requires.source_in sorted);

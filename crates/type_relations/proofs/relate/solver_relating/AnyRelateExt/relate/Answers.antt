@@ -8,6 +8,7 @@ use Rattle.type_relations.specs.OneUniverse.{all_unbound}
 use Rattle.type_relations.specs.Lawful.{Related, ExactResult}
 use Rattle.type_relations.specs.Solving.{solving_in, solver_manner}
 use Rattle.type_relations.proofs.Going.{later_itself, goes_nowhere, binds_its_own}
+use Rattle.type_relations.proofs.Full.{makes_to_instantiate}
 use Rattle.type_relations.proofs.Unifying.{exact_itself}
 use Rattle.type_relations.proofs.Passing.{as_err}
 use Rattle.type_relations.proofs.Exactly.{unrelated_apart}
@@ -50,7 +51,21 @@ pub returns-then-eq-clause-later : goal.returns-then-eq-clause-later
 returns-then-eq-clause-later g c = later_itself (g.Infcx.InferCtxtLike.state c.args.self.now).store
 
 pub returns-then-eq-clause-made : goal.returns-then-eq-clause-made
-returns-then-eq-clause-made g c = record { no_number = λ k h. refl; none = λ h k. refl }
+returns-then-eq-clause-made g c = record { no_number = λ k h. refl; none = λ ha hb binds none k. refl }
+
+pub returns-in_err-related-clause-made : goal.returns-in_err-related-clause-made
+returns-in_err-related-clause-made g c =
+    let s = g.Infcx.InferCtxtLike.state c.args.self.now in
+    let related = c.relate_in-related.ensures.related in
+    makes_to_instantiate (term_in s g.T.Relate.over g.T.HasTree.tree c.args.lhs)
+    (term_in s g.T.Relate.over g.T.HasTree.tree c.args.rhs) (related.passes).goes related.full
+
+pub returns-clause-made : goal.returns-clause-made
+returns-clause-made g c =
+    let s = g.Infcx.InferCtxtLike.state c.args.self.now in
+    let related = c.relate_in-related.ensures.related in
+    makes_to_instantiate (term_in s g.T.Relate.over g.T.HasTree.tree c.args.lhs)
+    (term_in s g.T.Relate.over g.T.HasTree.tree c.args.rhs) (related.passes).goes related.full
 
 pub returns-then-eq-clause-bound : goal.returns-then-eq-clause-bound
 returns-then-eq-clause-bound g c =

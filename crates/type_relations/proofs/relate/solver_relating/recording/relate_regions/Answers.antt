@@ -1,4 +1,4 @@
-use Rattle.type_relations.proofs.Solving.{constrained_goes, constrained_bound}
+use Rattle.type_relations.proofs.Solving.{constrained_goes, constrained_bound, constrained_full}
 use Rattle.type_relations.proofs.relate.solver_relating.recording.relate_regions.Goals as goal
 
 pub returns-in-Covariant-clause-goes : goal.returns-in-Covariant-clause-goes
@@ -29,4 +29,19 @@ returns-in-Contravariant-clause-bound g c =
 pub returns-in-Invariant-clause-bound : goal.returns-in-Invariant-clause-bound
 returns-in-Invariant-clause-bound g c =
     constrained_bound (g.Infcx.InferCtxtLike.state c.args.infcx.now) (g.Infcx.InferCtxtLike.state c.equate_regions.new.self) _
+    c.equate_regions.result c.equate_regions.ensures.constrains
+
+pub returns-in-Covariant-clause-full : goal.returns-in-Covariant-clause-full
+returns-in-Covariant-clause-full g c =
+    constrained_full (g.Infcx.InferCtxtLike.state c.args.infcx.now) (g.Infcx.InferCtxtLike.state c.sub_regions.new.self) _
+    c.sub_regions.result c.sub_regions.ensures.constrains
+
+pub returns-in-Contravariant-clause-full : goal.returns-in-Contravariant-clause-full
+returns-in-Contravariant-clause-full g c =
+    constrained_full (g.Infcx.InferCtxtLike.state c.args.infcx.now) (g.Infcx.InferCtxtLike.state c.sub_regions-in-Contravariant.new.self) _
+    c.sub_regions-in-Contravariant.result c.sub_regions-in-Contravariant.ensures.constrains
+
+pub returns-in-Invariant-clause-full : goal.returns-in-Invariant-clause-full
+returns-in-Invariant-clause-full g c =
+    constrained_full (g.Infcx.InferCtxtLike.state c.args.infcx.now) (g.Infcx.InferCtxtLike.state c.equate_regions.new.self) _
     c.equate_regions.result c.equate_regions.ensures.constrains

@@ -3,6 +3,7 @@ use Rattle.type_relations.specs.Errors.{itself}
 use Rattle.type_relations.specs.Parts.{IsFormed}
 use Rattle.type_relations.specs.Solving.{solving_through, solver_manner}
 use Rattle.type_relations.proofs.StructuralConsts.{itself_related}
+use Rattle.type_relations.proofs.Standing.{term_within}
 use Rattle.type_relations.proofs.Shallowly.{read_step}
 use Rattle.type_relations.proofs.OverContext.{all_taken, parts_step, read_covered}
 use Rattle.type_relations.proofs.Solving.{answered_step, one_ty}
@@ -70,7 +71,8 @@ returns-then-have_no_variable-clause-stepped g c =
     parts_step z s.meaning s.store z.lawful z.lawful (λ l. l) IsFormed
     ((s.meaning).ty c.args.a.now) ((s.meaning).ty c.args.b.now) (s.meaning).ty c.args.a.now c.args.b.now
     (g.met.Infcx.InferCtxtLike.sound r.infcx.now c.requires.lawful.0) (itself refl) (itself refl) k
-    (none.a_formed c.if-have_no_variable.true k.left_taken.1) (none.b_formed c.if-have_no_variable.true k.right_taken.1)
+    (none.a_formed c.if-have_no_variable.true k.left_taken.1 (term_within s.store _ k.left_in))
+    (none.b_formed c.if-have_no_variable.true k.right_taken.1 (term_within s.store _ k.right_in))
 
 pub returns-then-eq-clause-registers : goal.returns-then-eq-clause-registers
 returns-then-eq-clause-registers g c =
@@ -94,7 +96,8 @@ returns-then-have_no_variable-clause-registers g c =
     step_left_none solver_manner (solving_through r.infcx.ghost_name r.goals.items s r.ambient_variance r.param_env)
     (solving_through r.infcx.ghost_name r.goals.items s r.ambient_variance r.param_env) ((s.meaning).ty c.args.a.now)
     ((s.meaning).ty c.args.b.now) (s.meaning).ty (Ok (Parts c.args.a.now c.args.b.now)) (λ h. subst IsFormed h.1
-    (none.a_formed c.if-have_no_variable.true c.requires.asked.left_taken.1))
+    (none.a_formed c.if-have_no_variable.true c.requires.asked.left_taken.1
+    (term_within s.store _ c.requires.asked.left_in)))
 
 pub returns-clause-registers : goal.returns-clause-registers
 returns-clause-registers g c =

@@ -5,12 +5,12 @@ use Rattle.relation_terms.specs.Parts.{part_tree}
 use Rattle.type_relations.specs.Making.{over, Made}
 use Rattle.type_relations.specs.Lawful.{WithMeaning}
 use Rattle.type_relations.proofs.Passing.{as_err}
-use Rattle.type_relations.proofs.relate.making.make_pattern.Goals as goal
+use Rattle.type_relations.proofs.relate.making.make_part.Goals as goal
 
 pub returns-in_err-made-clause-made : goal.returns-in_err-made-clause-made
 returns-in_err-made-clause-made g c =
     let r = g.R.TypeRelation.state c.args.r.now in
-    let cx = c.pattern_with_parts.new.cx in
+    let cx = c.term_with_parts.new.cx in
     let q = g.R.TypeRelation.state (g.R.TypeRelation.with_interner c.args.r.now cx) in
     let made = c.in_err-made.ensures.made in
     let later = subst (λ m. Extends m (g.I.Interner.meaning cx)) c.cx_mut.ensures.value made.extends in
@@ -23,7 +23,7 @@ returns-in_err-made-clause-made g c =
 pub returns-clause-grown : goal.returns-clause-grown
 returns-clause-grown g c =
     let r = g.R.TypeRelation.state c.args.r.now in
-    let cx = c.pattern_with_parts.new.cx in
+    let cx = c.term_with_parts.new.cx in
     let q = g.R.TypeRelation.state (g.R.TypeRelation.with_interner c.args.r.now cx) in
     let made = c.in_ok-made.ensures.made in
     let later = subst (λ m. Extends m (g.I.Interner.meaning cx)) c.cx_mut.ensures.value made.extends in
@@ -33,7 +33,7 @@ returns-clause-grown g c =
 pub returns-clause-made : goal.returns-clause-made
 returns-clause-made g c =
     let r = g.R.TypeRelation.state c.args.r.now in
-    let cx = c.pattern_with_parts.new.cx in
+    let cx = c.term_with_parts.new.cx in
     let q = g.R.TypeRelation.state (g.R.TypeRelation.with_interner c.args.r.now cx) in
     let made = c.in_ok-made.ensures.made in
     let p = c.in_ok-made.made in

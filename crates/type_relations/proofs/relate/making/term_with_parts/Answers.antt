@@ -2,13 +2,13 @@ use Rattle.std.proofs.Common.{◌∙◌, sym, subst}
 use Rattle.relation_terms.specs.Trees.{list_tree}
 use Rattle.relation_terms.specs.Parts.{part_tree, Fit}
 use Rattle.relation_terms.proofs.Members.{if_ok}
-use Rattle.type_relations.proofs.Patterns.{pattern_parts_as, pattern_over_as}
-use Rattle.type_relations.proofs.relate.making.pattern_with_parts.Goals as goal
+use Rattle.type_relations.proofs.Patterns.{term_parts_as, term_over_as}
+use Rattle.type_relations.proofs.relate.making.term_with_parts.Goals as goal
 
 pub with_parts-requires-clause-fits : goal.with_parts-requires-clause-fits
 with_parts-requires-clause-fits g c =
     let t = part_tree (g.I.Interner.meaning c.args.cx.now) c.args.term.now in
-    subst (Fit c.args.parts.now) (sym (pattern_parts_as t c.requires.form)) c.requires.fits
+    subst (Fit c.args.parts.now) (sym (term_parts_as t c.requires.form)) c.requires.fits
 
 pub returns-clause-made : goal.returns-clause-made
 returns-clause-made g c =
@@ -19,5 +19,5 @@ returns-clause-made g c =
       extends = made.grown;
       sure = made.sure;
       means = if_ok c.with_parts.result
-          (λ p e. e ∙ pattern_over_as t (list_tree (part_tree m) c.args.parts.now) c.requires.form) made.made;
+          (λ p e. e ∙ term_over_as t (list_tree (part_tree m) c.args.parts.now) c.requires.form) made.made;
     }

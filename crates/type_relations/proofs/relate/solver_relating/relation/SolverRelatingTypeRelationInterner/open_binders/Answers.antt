@@ -1,0 +1,138 @@
+use Rattle.std.proofs.Common.{◌≡◌, ◌||◌, true, false, refl, sym, ◌∙◌, arith, inl, inr}
+use Rattle.std.proofs.lemmas.Bool.{false≢true}
+use Rattle.std.proofs.lemmas.Grind.{common_steps}
+use Rattle.relation_terms.proofs.Stays.{stays_same}
+use Rattle.relation_tools.specs.Visits.{bound_var_escapes}
+use Rattle.relation_tools.specs.declared.error.RelateFault.TheVariants.{Memory}
+use Rattle.type_relations.specs.Binders.{binder_tree}
+use Rattle.type_relations.proofs.Passing.{as_err}
+use Rattle.type_relations.proofs.SolvingBinders.{covered_binds, opens_neither, opening_refused, opens_second}
+use Rattle.type_relations.proofs.SolvingBinders.{opens_first, opens_none, no_more}
+use Rattle.type_relations.proofs.relate.solver_relating.relation.SolverRelatingTypeRelationInterner.open_binders.Goals as goal
+
+pub returns-then-round-gt0 : goal.returns-then-round-gt0
+returns-then-round-gt0 g c =
+    let r = c.args.self.now in
+    let s = g.Infcx.InferCtxtLike.state r.infcx.now in
+    let tree = g.T.HasTree.tree s.meaning in
+    let a = c.args.a.now in
+    let b = c.args.b.now in
+    let none : (bound_var_escapes (tree a.value) || bound_var_escapes (tree b.value)) ≡ false =
+    grind (arith, common_steps) in
+    no_more r.infcx.ghost_name r.goals.items s r.ambient_variance r.param_env c.requires.lawful.1
+    (record { extends = stays_same s.meaning; lawful = c.requires.lawful.0 }) (tree a.value) (tree b.value)
+    c.args.round tree ((s.meaning).bound_vars a.bound_vars) ((s.meaning).bound_vars b.bound_vars) c.requires.asked
+    (grind (arith, common_steps)) (inr none)
+
+pub returns-then-not-one_uses : goal.returns-then-not-one_uses
+returns-then-not-one_uses g c =
+    let r = c.args.self.now in
+    let s = g.Infcx.InferCtxtLike.state r.infcx.now in
+    let tree = g.T.HasTree.tree s.meaning in
+    let a = c.args.a.now in
+    let b = c.args.b.now in
+    let none : (bound_var_escapes (tree a.value) || bound_var_escapes (tree b.value)) ≡ false =
+    grind (arith, common_steps) in
+    opens_none r.infcx.ghost_name r.goals.items s r.ambient_variance r.param_env c.requires.lawful.1
+    (record { extends = stays_same s.meaning; lawful = c.requires.lawful.0 }) (tree a.value) (tree b.value)
+    c.args.round tree ((s.meaning).bound_vars a.bound_vars) ((s.meaning).bound_vars b.bound_vars) c.requires.asked
+    c.requires.decides (g.met.Infcx.InferCtxtLike.sound r.infcx.now c.requires.lawful.0) none
+    (grind (arith, common_steps)) a.value b.value refl refl
+
+pub enter_and_instantiate-requires-clause-entered_binds : goal.enter_and_instantiate-requires-clause-entered_binds
+enter_and_instantiate-requires-clause-entered_binds g c =
+    let s = g.Infcx.InferCtxtLike.state c.args.self.now.infcx.now in
+    covered_binds (binder_tree g.T.HasTree.tree s.meaning c.args.b.now) c.requires.asked.right_taken.1
+
+pub enter_and_instantiate-requires-clause-instantiated_binds :
+    goal.enter_and_instantiate-requires-clause-instantiated_binds
+enter_and_instantiate-requires-clause-instantiated_binds g c =
+    let s = g.Infcx.InferCtxtLike.state c.args.self.now.infcx.now in
+    covered_binds (binder_tree g.T.HasTree.tree s.meaning c.args.a.now) c.requires.asked.left_taken.1
+
+pub enter_and_instantiate-requires-then-enters_first-clause-entered_binds :
+    goal.enter_and_instantiate-requires-then-enters_first-clause-entered_binds
+enter_and_instantiate-requires-then-enters_first-clause-entered_binds g c =
+    let s = g.Infcx.InferCtxtLike.state c.args.self.now.infcx.now in
+    covered_binds (binder_tree g.T.HasTree.tree s.meaning c.args.a.now) c.requires.asked.left_taken.1
+
+pub enter_and_instantiate-requires-then-enters_first-clause-instantiated_binds :
+    goal.enter_and_instantiate-requires-then-enters_first-clause-instantiated_binds
+enter_and_instantiate-requires-then-enters_first-clause-instantiated_binds g c =
+    let s = g.Infcx.InferCtxtLike.state c.args.self.now.infcx.now in
+    covered_binds (binder_tree g.T.HasTree.tree s.meaning c.args.b.now) c.requires.asked.right_taken.1
+
+pub returns-in_err-y : goal.returns-in_err-y
+returns-in_err-y g c =
+    let r = c.args.self.now in
+    let s = g.Infcx.InferCtxtLike.state r.infcx.now in
+    let d = g.Infcx.InferCtxtLike.state c.enter_and_instantiate.new.infcx in
+    let done = c.in_err-y.ensures in
+    let h = done.opens in
+    opening_refused r.infcx.ghost_name r.goals.items s d r.ambient_variance r.param_env c.requires.lawful.1
+    (g.met.Infcx.InferCtxtLike.sound r.infcx.now c.requires.lawful.0) done.grows h.0 h.1 h.2 c.args.round
+    (binder_tree g.T.HasTree.tree s.meaning c.args.a.now) (binder_tree g.T.HasTree.tree s.meaning c.args.b.now)
+    (g.T.HasTree.tree d.meaning) c.from_residual.result
+    (as_err c.from_residual.result Memory c.from_residual.ensures.0 c.from_residual.ensures.1)
+
+pub returns-then-enters_second : goal.returns-then-enters_second
+returns-then-enters_second g c =
+    let r = c.args.self.now in
+    let s = g.Infcx.InferCtxtLike.state r.infcx.now in
+    let d = g.Infcx.InferCtxtLike.state c.enter_and_instantiate.new.infcx in
+    let tree = g.T.HasTree.tree in
+    let a = c.args.a.now in
+    let b = c.args.b.now in
+    let some : (bound_var_escapes (tree s.meaning a.value) || bound_var_escapes (tree s.meaning b.value)) ≡ true =
+    grind (arith, common_steps) in
+    let done = c.in_ok-y.ensures in
+    let at = c.enters_second.ensures.0 c.if-enters_second.true in
+    opens_second r.infcx.ghost_name r.goals.items s d r.ambient_variance r.param_env c.requires.lawful.1
+    (g.met.Infcx.InferCtxtLike.sound r.infcx.now c.requires.lawful.0) done.grows c.args.round (tree s.meaning a.value)
+    (tree s.meaning b.value) tree c.in_ok-y.x c.in_ok-y.y some ((s.meaning).bound_vars a.bound_vars)
+    ((s.meaning).bound_vars b.bound_vars) c.requires.asked done.opens at.0 at.1
+
+pub returns-in_err-x : goal.returns-in_err-x
+returns-in_err-x g c =
+    let r = c.args.self.now in
+    let s = g.Infcx.InferCtxtLike.state r.infcx.now in
+    let d = g.Infcx.InferCtxtLike.state c.enter_and_instantiate-then-enters_first.new.infcx in
+    let done = c.in_err-x.ensures in
+    let h = done.opens in
+    let from = c.from_residual-in_err-x in
+    opening_refused r.infcx.ghost_name r.goals.items s d r.ambient_variance r.param_env c.requires.lawful.1
+    (g.met.Infcx.InferCtxtLike.sound r.infcx.now c.requires.lawful.0) done.grows h.0 h.1 h.2 c.args.round
+    (binder_tree g.T.HasTree.tree s.meaning c.args.a.now) (binder_tree g.T.HasTree.tree s.meaning c.args.b.now)
+    (g.T.HasTree.tree d.meaning) from.result (as_err from.result Memory from.ensures.0 from.ensures.1)
+
+pub returns-then-enters_first : goal.returns-then-enters_first
+returns-then-enters_first g c =
+    let r = c.args.self.now in
+    let s = g.Infcx.InferCtxtLike.state r.infcx.now in
+    let d = g.Infcx.InferCtxtLike.state c.enter_and_instantiate-then-enters_first.new.infcx in
+    let tree = g.T.HasTree.tree in
+    let a = c.args.a.now in
+    let b = c.args.b.now in
+    let some : (bound_var_escapes (tree s.meaning a.value) || bound_var_escapes (tree s.meaning b.value)) ≡ true =
+    grind (arith, common_steps) in
+    let done = c.in_ok-x.ensures in
+    opens_first r.infcx.ghost_name r.goals.items s d r.ambient_variance r.param_env c.requires.lawful.1
+    (g.met.Infcx.InferCtxtLike.sound r.infcx.now c.requires.lawful.0) done.grows c.args.round (tree s.meaning a.value)
+    (tree s.meaning b.value) tree c.in_ok-x.x c.in_ok-x.y some ((s.meaning).bound_vars a.bound_vars)
+    ((s.meaning).bound_vars b.bound_vars) c.requires.asked done.opens
+    (c.enters_first.ensures.0 c.if-enters_first.true)
+
+pub returns : goal.returns
+returns g c =
+    let r = c.args.self.now in
+    let s = g.Infcx.InferCtxtLike.state r.infcx.now in
+    let tree = g.T.HasTree.tree s.meaning in
+    let a = c.args.a.now in
+    let b = c.args.b.now in
+    let last = opens_neither r.ambient_variance c.args.round c.requires.decides c.requires.round
+    (λ h. false≢true (sym c.if-enters_second.false ∙ c.enters_second.ensures.1 h))
+    (λ h. false≢true (sym c.if-enters_first.false ∙ c.enters_first.ensures.1 h)) in
+    no_more r.infcx.ghost_name r.goals.items s r.ambient_variance r.param_env c.requires.lawful.1
+    (record { extends = stays_same s.meaning; lawful = c.requires.lawful.0 }) (tree a.value) (tree b.value)
+    c.args.round tree ((s.meaning).bound_vars a.bound_vars) ((s.meaning).bound_vars b.bound_vars) c.requires.asked
+    last.0 (inl last.1)

@@ -1,0 +1,65 @@
+-- Opening two binders in rounds: which bodies each round leaves to be related.
+use Rattle.std.specs.Prelude.{◌≡◌, ◌≢◌, ◌⊎◌, ◌+◌, ◌<◌, ℕ, List, [], Option, Some, None, Result, Ok, Err}
+use Rattle.relation_terms.specs.declared.terms.enums.Variance.{Variance}
+use Rattle.relation_terms.specs.declared.terms.enums.Variance.TheVariants.{Invariant}
+use Rattle.relation_terms.specs.Heads.{BoundKind}
+use Rattle.relation_terms.specs.Trees.{Tree, bind}
+use Rattle.relation_terms.specs.Meaning.{Meaning}
+use Rattle.relation_tools.specs.declared.error.TypeError.{TypeError}
+use Rattle.relation_tools.specs.declared.error.RelateFault.{RelateFault}
+use Rattle.type_relations.specs.Relation.{Items, Way, at, second_opened, first_opened, StaysWithin}
+use Rattle.type_relations.specs.Stores.{Store, IsSound, weight}
+use Rattle.type_relations.specs.Goals.{Goal}
+use Rattle.type_relations.specs.Steps.{IsLater}
+use Rattle.type_relations.specs.Outcomes.{StepsTo}
+use Rattle.type_relations.specs.Errors.{ErrorOf}
+use Rattle.type_relations.specs.Lawful.{State, Manners, Passes, Asked, OnlyMemory, items_in}
+
+-- One round relates two binders at a variance that is not invariance; or where neither body uses what its binder binds.
+abbrev pub OneRound : Variance → Tree → Tree → Type 0
+OneRound v (bind ks a) (bind ls b) = (v ≢ Invariant) ⊎ (StaysWithin 0 a × StaysWithin 0 b)
+OneRound v a b = ⊥
+
+module _ {Key Id Name : Type 0} where
+  -- A step was taken to two bodies, which are to be related at the ambient variance.
+  abbrev pub StepsToBodies : State Key Id Name → State Key Id Name → List Goal → Way → Tree → Tree → Tree → Tree →
+      Type 0
+  StepsToBodies r q added way a b x y =
+      StepsTo (items_in r) r.environment r.store q.store r.goals added way a b (at r.ambient) x y
+
+  -- What relating two bodies does for the binders in a round: all of it; or, in each of two rounds, its part of that.
+  pub data RoundSteps (r q : State Key Id Name) (added : List Goal) (round : ℕ) (a b x y : Tree) : Type 0 where
+    one_round : round ≡ 0 → OneRound r.ambient a b → StepsToBodies r q added (at r.ambient) a b x y →
+        RoundSteps r q added round a b x y
+    first_round : {ks ls : List BoundKind} {t u : Tree} → round ≡ 0 → (OneRound r.ambient a b → ⊥) →
+        a ≡ bind ks t → b ≡ bind ls u → StepsToBodies r q added (second_opened ks ls r.ambient) t u x y →
+        RoundSteps r q added round a b x y
+    second_round : {ks ls : List BoundKind} {t u : Tree} → round ≡ 1 → (OneRound r.ambient a b → ⊥) →
+        a ≡ bind ks t → b ≡ bind ls u → StepsToBodies r q added (first_opened ks ls r.ambient) t u x y →
+        RoundSteps r q added round a b x y
+
+  -- A round led to two bodies. They are the relation's, weigh less, and cost nothing of the budget, and an error of
+  -- theirs is one of the binders.
+  pub record RoundLeads (M : Manners) (r q : State Key Id Name) (added : List Goal) (round : ℕ)
+      (a b x y : Tree) : Type 0 where
+    pub steps : RoundSteps r q added round a b x y
+    pub asked : Asked M q r.ambient x y
+    pub errors : (m : Meaning Key Id Name) (c : Items) (st : Store) (e : TypeError Key Id Name) → IsLater q.store st →
+        IsSound st → ErrorOf m c st r.ambient e x y → ErrorOf m c st r.ambient e a b
+    pub same_budget : (q.store).budget ≡ (r.store).budget
+    pub smaller : weight q.store x + weight q.store y < weight r.store a + weight r.store b
+
+  -- What a round of two binders says: it leads to bodies; nothing is left after one that relates them, and nothing was
+  -- recorded or registered; or a growth was refused.
+  abbrev pub RoundVerdict : {T : Type 0} → Manners → State Key Id Name → State Key Id Name → List Goal → ℕ → Tree →
+      Tree → (T → Tree) → Result (Option (T × T)) (RelateFault Key Id Name) → Type 0
+  RoundVerdict M r q added round a b tree (Ok (Some p)) = RoundLeads M r q added round a b (tree p.0) (tree p.1)
+  RoundVerdict M r q added round a b tree (Ok None) =
+      (round ≡ 1) × OneRound r.ambient a b × (q.store ≡ r.store) × (added ≡ [])
+  RoundVerdict {T} M r q added round a b tree (Err f) = OnlyMemory {X = T} (Err f)
+
+  -- A round was begun.
+  pub record Opened {T : Type 0} (M : Manners) (r q : State Key Id Name) (round : ℕ) (a b : Tree) (tree : T → Tree)
+      (result : Result (Option (T × T)) (RelateFault Key Id Name)) : Type 0 where
+    pub passes : Passes (weight r.store a + weight r.store b) r q
+    pub verdict : RoundVerdict M r q passes.added round a b tree result
