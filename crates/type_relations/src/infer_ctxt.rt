@@ -42,9 +42,9 @@ pub enum VisibleForLeakCheck {
 
 /// An inference context: an interner, and what is recorded of variables and regions.
 ///
-/// Each call says what it does to that, and to the marks of related variables and the types that are to outlive regions,
-/// and keeps the context's invariant. The variables that are handed in are the
-/// context's, and so are the terms, which its interner knows.
+/// Each call says what it does to that, and to the marks of related variables and the types that are to outlive
+/// regions, and keeps the context's invariant. The variables that are handed in are the context's, and so are the
+/// terms, which its interner knows.
 pub trait InferCtxtLike {
     /// The interner of the context's terms.
     type Interner: Interner;

@@ -1,14 +1,33 @@
 //! Laws of the definitions that this crate's contracts are said in. Each function does nothing, and its contract is
 //! the law.
 
-ghost use Rattle.type_relations.specs.SmallTerms.{IsReflexive, AnythingAtBivariance, ErrorsAreRelated, ParametersByIndex, ValuesByTheirTrees, ConstantsAtEachVariance, ReferencesByRegions, MutablePointeesAreFixed, InputsTurnRound, BivariantArguments, UnlikeHeadsAreUnrelated, UnlikeAtomsAreUnrelated, AtomsAreNoForms, FormsByParts, PredicatesWithThemselvesAlone, AnyIsStatic, StaticIsNotAny, PlaceholderIsNotAny, OneRegionIsNotTwo, AnyIsNotInvariantlyStatic};
-ghost use Rattle.type_relations.specs.StepLaws.{AssigningTwice, InstantiatingAssigns, OccursCheck, CyclesDoNotUnify, ValuesAreNamable, RelatesLater, RelatesUnderMore, PartsCompose, NoPartsRelate, FormsRelate, StepsCompose, InstantiatingSteps, OpeningSteps, OneRoundRelates, TwoRoundsRelate, UnusedBindersRelate, FrontBegins, FrontGoesOn, FrontEnds, ExactsCompose, ExactStepsCompose, InstantiatingIsExactStep, ExactFrontGoesOn, ExactFrontEnds, ExactKeepsUnifiers};
-ghost use Rattle.type_relations.specs.ErasureLaws.{ErasureAssigns, FormsUnifyByParts, TypesOfValuesUnify, ListsUnifyByItems, UnlikeFormsDoNotUnify, ErasedOccursCheck, InvariantTermsAreAlike};
-ghost use Rattle.type_relations.specs.StoreLaws.{EquatingStaysSound, EquatingIsExact, BindingStaysSound, BindingIsExact, BindingInstantiates, CyclesRefuse, GeneralisingIsOne, GeneralisingInstantiates, GeneralisingRefuses, NumbersStaySound, NumbersAreExact, MakingStaysSound, MadeIsUnconstrained, ConstrainingIsExact, NothingIsSeen, ResolvedResolves, MakingOneMakes};
+ghost use Rattle.type_relations.specs.SmallTerms.{IsReflexive, AnythingAtBivariance, ErrorsAreRelated};
+ghost use Rattle.type_relations.specs.SmallTerms.{ParametersByIndex, ValuesByTheirTrees, ConstantsAtEachVariance};
+ghost use Rattle.type_relations.specs.SmallTerms.{ReferencesByRegions, MutablePointeesAreFixed, InputsTurnRound};
+ghost use Rattle.type_relations.specs.SmallTerms.{BivariantArguments, UnlikeHeadsAreUnrelated, UnlikeAtomsAreUnrelated};
+ghost use Rattle.type_relations.specs.SmallTerms.{AtomsAreNoForms, FormsByParts, PredicatesWithThemselvesAlone};
+ghost use Rattle.type_relations.specs.SmallTerms.{AnyIsStatic, StaticIsNotAny, PlaceholderIsNotAny, OneRegionIsNotTwo};
+ghost use Rattle.type_relations.specs.SmallTerms.{AnyIsNotInvariantlyStatic};
+ghost use Rattle.type_relations.specs.StepLaws.{AssigningTwice, InstantiatingAssigns, OccursCheck, CyclesDoNotUnify};
+ghost use Rattle.type_relations.specs.StepLaws.{ValuesAreNamable, RelatesLater, RelatesUnderMore, PartsCompose};
+ghost use Rattle.type_relations.specs.StepLaws.{NoPartsRelate, FormsRelate, StepsCompose, InstantiatingSteps};
+ghost use Rattle.type_relations.specs.StepLaws.{OpeningSteps, OneRoundRelates, TwoRoundsRelate, UnusedBindersRelate};
+ghost use Rattle.type_relations.specs.StepLaws.{FrontBegins, FrontGoesOn, FrontEnds, ExactsCompose, ExactStepsCompose};
+ghost use Rattle.type_relations.specs.StepLaws.{InstantiatingIsExactStep, ExactFrontGoesOn, ExactFrontEnds};
+ghost use Rattle.type_relations.specs.StepLaws.{ExactKeepsUnifiers};
+ghost use Rattle.type_relations.specs.ErasureLaws.{ErasureAssigns, FormsUnifyByParts, TypesOfValuesUnify};
+ghost use Rattle.type_relations.specs.ErasureLaws.{ListsUnifyByItems, UnlikeFormsDoNotUnify, ErasedOccursCheck};
+ghost use Rattle.type_relations.specs.ErasureLaws.{InvariantTermsAreAlike};
+ghost use Rattle.type_relations.specs.StoreLaws.{EquatingStaysSound, EquatingIsExact, BindingStaysSound};
+ghost use Rattle.type_relations.specs.StoreLaws.{BindingIsExact, BindingInstantiates, CyclesRefuse, GeneralisingIsOne};
+ghost use Rattle.type_relations.specs.StoreLaws.{GeneralisingInstantiates, GeneralisingRefuses, NumbersStaySound};
+ghost use Rattle.type_relations.specs.StoreLaws.{NumbersAreExact, MakingStaysSound, MadeIsUnconstrained};
+ghost use Rattle.type_relations.specs.StoreLaws.{ConstrainingIsExact, NothingIsSeen, ResolvedResolves, MakingOneMakes};
 ghost use Rattle.type_relations.specs.OpeningLaws.{MakingEachMakes, InstantiatingEachOpens, EnteredBodyIsIn};
 ghost use Rattle.type_relations.specs.OpeningLaws.{InstantiatedBodyIsIn, EnteredBodyBinds, InstantiatedBodyBinds};
 ghost use Rattle.type_relations.specs.Stores.{BindingsAreMet};
-ghost use Rattle.type_relations.specs.UniverseLaws.{RootsAreBoundOrNot, EquatingKeepsUniverse, ReadingKeepsUniverse, GeneralisingKeepsUniverse};
+ghost use Rattle.type_relations.specs.UniverseLaws.{RootsAreBoundOrNot, EquatingKeepsUniverse, ReadingKeepsUniverse};
+ghost use Rattle.type_relations.specs.UniverseLaws.{GeneralisingKeepsUniverse};
 ghost use Rattle.type_relations.specs.RejectionLaws.{ClashesDoNotUnify, ClashesAreNotRelated};
 ghost use Rattle.type_relations.specs.RegionTerms.{RelatedTermsAgree, RelatedIffAgree};
 
