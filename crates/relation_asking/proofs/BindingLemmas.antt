@@ -291,13 +291,16 @@ module _ (items names parts : List ℕ) (ts : List Tree) (us : List Uses) (told 
     term_told term.NotNull s = (tt, λ b. tt)
     term_told (term.TyBound d v n) s =
         let f = λ (x : ℕ). bound (bound_kind type_kind x) d v in
-        all_told s.inner u s.leaves (leaf_of f (slice_get names n)) (leaf_told s.inner f (λ x l. (_, s.own, omega arith, refl, refl)) (slice_get names n))
+        all_told s.inner u s.leaves (leaf_of f (slice_get names n))
+        (leaf_told s.inner f (λ x l. (_, s.own, omega arith, refl, refl)) (slice_get names n))
     term_told (term.RegionBound d v n) s =
         let f = λ (x : ℕ). bound (bound_kind region_kind x) d v in
-        all_told s.inner u s.leaves (leaf_of f (slice_get names n)) (leaf_told s.inner f (λ x l. (_, s.own, omega arith, refl, refl)) (slice_get names n))
+        all_told s.inner u s.leaves (leaf_of f (slice_get names n))
+        (leaf_told s.inner f (λ x l. (_, s.own, omega arith, refl, refl)) (slice_get names n))
     term_told (term.ConstBound d v n) s =
         let f = λ (x : ℕ). bound (bound_kind const_kind x) d v in
-        all_told s.inner u s.leaves (leaf_of f (slice_get names n)) (leaf_told s.inner f (λ x l. (_, s.own, omega arith, refl, refl)) (slice_get names n))
+        all_told s.inner u s.leaves (leaf_of f (slice_get names n))
+        (leaf_told s.inner f (λ x l. (_, s.own, omega arith, refl, refl)) (slice_get names n))
     term_told (term.FnPtr h v p) s =
         let all = list_told s.inner _ (s.takes).2 in
         let a = front_told s.inner (parts_tree parts ts p) all in

@@ -1,8 +1,8 @@
 -- The terms of a text whose forms have rules, and whose binders bind by their lists.
-use Rattle.std.proofs.Common.{◌≡◌, ℕ, zero, suc, refl, sym, ◌∙◌, subst, IsTrue, Bool, true, false, cond, ◌&&◌, List, [], ◌∷◌}
+use Rattle.std.proofs.Common.{◌≡◌, ℕ, sym, ◌∙◌, subst, IsTrue, Bool, true, false, cond, ◌&&◌, List, [], ◌∷◌}
 use Rattle.std.proofs.Common.{Option, Some, None}
-use Rattle.std.specs.Prelude.{slice_get, ◌==◌, vec_len}
-use Rattle.std.proofs.lemmas.Bool.{and_parts, false≢true}
+use Rattle.std.specs.Prelude.{slice_get, slice_range, vec_len}
+use Rattle.std.proofs.lemmas.Bool.{and_parts, eqb-true, false≢true}
 use Rattle.relation_terms.specs.Heads.{BoundKind, Head, signature, inputs, existential_trait, existential_projection, Leaf}
 use Rattle.relation_terms.specs.Heads.{unknown}
 use Rattle.relation_terms.specs.Trees.{Tree, leaf, node, bind, nil, cons, known, list_tree, front, last}
@@ -30,10 +30,6 @@ IsCoveredBy n t = IsTrue (known t) → IsTrue n.has_rules → BindByLists t → 
 -- Nothing escapes from a tree, and its binders bind by their lists, where that is said of it.
 abbrev pub IsBoundBy : Needs → Tree → Type 0
 IsBoundBy n t = (IsTrue n.closed → StaysWithin 0 t) × (IsTrue n.by_lists → BindByLists t)
-
-is_zero : (n : ℕ) → IsTrue (n == 0) → n ≡ 0
-is_zero zero h = refl
-is_zero (suc n) h = absurd (false≢true h)
 
 -- Where a list has rules, all before it has.
 pub rules_before : (ns : List Needs) (n : Needs) (ks : List ℕ) → IsTrue (needs_with ns n ks).has_rules → IsTrue n.has_rules
@@ -176,6 +172,7 @@ module _ (items names parts : List ℕ) where
       let o = variables_of (parts_tree parts ts v) in
       let ins = front (parts_tree parts ts q) in
       let out = last (parts_tree parts ts q) in
+      let ks = slice_range parts q.first q.behind in
       let body = node (signature g.c_variadic g.safety g.abi) (cons (node inputs ins) (cons out nil)) in (
         tt,
         (
@@ -183,8 +180,8 @@ module _ (items names parts : List ℕ) where
               (λ j b. let p = and_parts (known ins) (known out && true) j in (
                 tt,
                 (
-                  (tt, front_covered ts ns h no_needs _ p.0 r b.0),
-                  (last_covered ts ns h no_needs _ (and_parts (known out) true p.1).0 r b.1.0, tt),
+                  (tt, front_covered ts ns h no_needs ks p.0 r b.0),
+                  (last_covered ts ns h no_needs ks (and_parts (known out) true p.1).0 r b.1.0, tt),
                 ),
               ))
               (and_parts (known (under o body)) true k).0 l.0,
@@ -233,7 +230,8 @@ module _ (items names parts : List ℕ) where
       Tells o (term_tree items names parts ts x) → IsBoundBy (told o (term_need parts ns x)) (term_tree items names parts ts x)
   told_bound ts ns h x None said = subst (IsBoundBy (term_need parts ns x)) (sym said) ((λ c. tt), λ l. tt)
   told_bound ts ns h x (Some u) said =
-      ((λ c. used_none (u.outer).items (sym (u.outer).ok.0 ∙ is_zero (vec_len u.outer) c) 0 _ said.0), said.1)
+      ((λ c. used_none (u.outer).items (sym (u.outer).ok.0 ∙ eqb-true (vec_len u.outer) 0 c) 0
+      (term_tree items names parts ts x) said.0), said.1)
 
   pub all_bound : (us : List Uses) (xs : List Term) → AreTold (trees_of items names parts xs) us →
       HoldsOfEach IsBoundBy (trees_of items names parts xs) (needs_of parts us xs)

@@ -95,8 +95,8 @@ fn write_items<I: Interner, W: Write>(
     write_item_name::<I, W>(texts, &DefId(found), out)
 }
 
-// Writes the items, or the predicates of trait objects, that an error names, in parentheses. A region of a binder has no
-// text: of an error that names one nothing is written.
+// Writes the items, or the predicates of trait objects, that an error names, in parentheses. A region of a binder has
+// no text: of an error that names one nothing is written.
 fn write_error_items<I: Interner, W: Write>(
     cx: &I,
     texts: &TextsOf<I>,

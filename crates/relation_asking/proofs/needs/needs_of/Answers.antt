@@ -14,7 +14,7 @@ loop-term-preserved c =
     let old = c.loop-term.needs.items in
     let x = get_or xs i Bool in
     let one = c.told_at-told.ensures
-    ∙ ap₂ (λ k n. told (slice_get us k) n) (c.len.ensures ∙ c.loop-term.needs.ok.0) (c.term_need-need.ensures
+    ∙ ap₂ (λ k n. told (slice_get us k) n) (c.len-in-loop-term.ensures ∙ c.loop-term.needs.ok.0) (c.term_need-need.ensures
     ∙ ap₂ (λ ps ns. term_need ps ns x) c.deref.ensures.value c.deref-in-loop-term.ensures.value) in
     c.in_ok-push.ensures.items
     ∙ ap (λ n. old ++ n ∷ []) one
