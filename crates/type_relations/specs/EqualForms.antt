@@ -1,6 +1,7 @@
 -- Signatures, predicates of trait objects and binders are equal exactly where their trees are.
 use Rattle.std.proofs.Common.{◌≡◌, ◌&&◌, Bool, false, IsTrue, refl, sym, ap, ap₂, ◌∙◌}
 use Rattle.std.proofs.lemmas.Bool.{and_parts, false≢true}
+use Rattle.std.specs.Cmp.Derive.{both_true}
 use Rattle.relation_terms.specs.declared.terms.binder.Binder.{Binder}
 use Rattle.relation_terms.specs.declared.terms.fn_sig.FnSig.{FnSig}
 use Rattle.relation_terms.specs.declared.terms.generic_arg.TermKind.{TermKind}
@@ -49,6 +50,20 @@ module _ {Key Id Name : Type 0} (m : Meaning Key Id Name) (eq : Key → Key → 
             (bodies a.value b.value) (same a.value b.value p.1 q.1).1 k l e,
       )
 
+  -- Traits of trait objects, over the equality of items and lists of arguments.
+  pub trait_same : (ids : Id → Id → Bool) (traits : ExistentialTraitRef Key Id → ExistentialTraitRef Key Id → Bool) →
+      ((t u : ExistentialTraitRef Key Id) → traits t u ≡ (ids (t.def_id).0 (u.def_id).0 && eq (t.args).0 (u.args).0)) →
+      AreEqualAsNumbers m.id ids → AreEqualAsTrees m.args (λ k l. eq k.0 l.0) →
+      AreEqualAsTrees (λ t. existential_tree m (Trait t)) traits
+  trait_same ids traits of same_id same_args t u k l = (
+    λ i. let h = and_parts (ids (t.def_id).0 (u.def_id).0) (eq (t.args).0 (u.args).0) (sym (of t u) ∙ i) in
+        ap₂ (λ x y. node (existential_trait x) y) ((same_id (t.def_id).0 (u.def_id).0).0 h.0)
+        ((same_args t.args u.args k l).0 h.1),
+    λ e. let items : m.id (t.def_id).0 ≡ m.id (u.def_id).0 = cc in
+        let lists : m.args t.args ≡ m.args u.args = cc in
+        of t u ∙ both_true ((same_id (t.def_id).0 (u.def_id).0).1 items) ((same_args t.args u.args k l).1 lists),
+  )
+
 -- Of the equality of terms this is used: what it is of each two forms.
 module _ {Key Id Name : Type 0} (m : Meaning Key Id Name) (eq : Key → Key → Bool) (ids : Id → Id → Bool)
     (terms : TermKind Key → TermKind Key → Bool)
@@ -69,9 +84,7 @@ module _ {Key Id Name : Type 0} (m : Meaning Key Id Name) (eq : Key → Key → 
   equal_one : (p q : ExistentialPredicate Key Id) → IsTrue (known (existential_tree m p)) →
       IsTrue (known (existential_tree m q)) → IsTrue (predicates p q) → existential_tree m p ≡ existential_tree m q
   equal_one (Trait t) (Trait u) k l i =
-      let h = and_parts (ids (t.def_id).0 (u.def_id).0) (eq (t.args).0 (u.args).0) i in
-      ap₂ (λ x y. node (existential_trait x) y) ((same_id (t.def_id).0 (u.def_id).0).0 h.0)
-      ((same_args t.args u.args k l).0 h.1)
+      (trait_same m eq ids (λ x y. predicates (Trait x) (Trait y)) (λ x y. refl) same_id same_args t u k l).0 i
   equal_one (Projection p) (Projection q) k l i =
       let h = and_parts (ids (p.def_id).0 (q.def_id).0) (eq (p.args).0 (q.args).0 && terms p.term q.term) i in
       let j = and_parts (eq (p.args).0 (q.args).0) (terms p.term q.term) h.1 in
@@ -90,7 +103,7 @@ module _ {Key Id Name : Type 0} (m : Meaning Key Id Name) (eq : Key → Key → 
         same_ty same_const same_args s p q k l,
   )
 
-  -- Predicates of trait objects, and traits and projections by themselves.
+  -- Predicates of trait objects, and projections by themselves.
   module _ (others : ExistentialPredicate Key Id → ExistentialPredicate Key Id → Bool)
       (of_traits : (t u : ExistentialTraitRef Key Id) → others (Trait t) (Trait u) ≡ predicates (Trait t) (Trait u))
       (of_projections : (p q : ExistentialProjection Key Id) →
@@ -121,13 +134,6 @@ module _ {Key Id Name : Type 0} (m : Meaning Key Id Name) (eq : Key → Key → 
     predicate_same p q k l =
         let h = existential_same p q k l in
         (λ i. h.0 (sym (agree p q) ∙ i), λ e. agree p q ∙ h.1 e)
-
-  pub trait_same : (traits : ExistentialTraitRef Key Id → ExistentialTraitRef Key Id → Bool) →
-      ((t u : ExistentialTraitRef Key Id) → traits t u ≡ predicates (Trait t) (Trait u)) →
-      AreEqualAsTrees (λ t. existential_tree m (Trait t)) traits
-  trait_same traits of t u k l =
-      let h = existential_same (Trait t) (Trait u) k l in
-      (λ i. h.0 (sym (of t u) ∙ i), λ e. of t u ∙ h.1 e)
 
   pub projection_same : (projections : ExistentialProjection Key Id → ExistentialProjection Key Id → Bool) →
       ((p q : ExistentialProjection Key Id) → projections p q ≡ predicates (Projection p) (Projection q)) →

@@ -67,11 +67,8 @@ impl<I: Interner> Relate<I> for ExistentialTraitRef<I::Key, I::Id> {
 
     ghost fits_on = { λ m n e x y h k f. tt };
 
-    ghost same = { λ cx. trait_same (I.meaning cx) I.Key.eq I.Id.eq _ (λ x y. refl) (λ x y. refl) (λ x y. refl)
-        (λ x y. refl) (I.same_id cx) (I.same_region cx) (I.same_ty cx) (I.same_const cx) (I.same_args cx)
-        (sorted_by (I.meaning cx) (I.is_ty cx) (I.is_region cx) (I.are_tys cx) (I.is_const cx) (I.is_valtree cx)
-        (I.are_args cx) (I.are_branches cx) (I.is_pat cx) (I.are_alternatives cx)
-        (I.are_existential_predicates cx)) _ (λ x y. refl) };
+    ghost same = { λ cx. trait_same (I.meaning cx) I.Key.eq I.Id.eq _ (λ x y. refl) (I.same_id cx)
+        (I.same_args cx) };
 }
 
 impl<I: Interner> Relate<I> for ExistentialProjection<I::Key, I::Id> {
