@@ -1,5 +1,5 @@
 //! Relating forms that have no key: signatures and predicates of trait objects, and lists of these.
-ghost use Rattle.std.specs.Prelude.{Option, Some, None};
+ghost use Rattle.std.specs.Prelude.{Some, None};
 ghost use Rattle.std.proofs.Common.{refl};
 ghost use Rattle.relation_terms.specs.Heads.{object};
 ghost use Rattle.type_relations.specs.EqualForms.{signature_same, predicate_same, trait_same, projection_same};

@@ -1,4 +1,4 @@
-use Rattle.std.proofs.Common.{◌≡◌, refl, sym, ap, subst, inr, Ok, Err}
+use Rattle.std.proofs.Common.{refl, sym, ap, subst, inr}
 use Rattle.relation_terms.specs.Heads.{object}
 use Rattle.relation_terms.specs.Trees.{node}
 use Rattle.relation_terms.specs.Parts.{part_tree}

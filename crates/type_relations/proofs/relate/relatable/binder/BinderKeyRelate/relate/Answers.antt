@@ -1,6 +1,5 @@
 use Rattle.std.proofs.Common.{◌≡◌, sym, subst, subst₂, refl, Some, None, Ok, Err}
 use Rattle.relation_terms.proofs.Stays.{extends_on}
-use Rattle.type_relations.specs.Arguments.{related_tree}
 use Rattle.type_relations.specs.Binders.{binder_tree}
 use Rattle.type_relations.specs.Lawful.{Related}
 use Rattle.type_relations.specs.Rounds.{Opened}
