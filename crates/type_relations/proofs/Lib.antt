@@ -31,6 +31,7 @@ pub mod StructuralConsts
 pub mod Looping
 pub mod Rounds
 pub mod Bodies
+pub mod RelatableForms
 pub mod Lists
 pub mod Parts
 pub mod OneParts

@@ -50,7 +50,7 @@ one_round_binders v (bind ks a) (bind ls b) o = tt
 one_round_binders v a b o = absurd o
 
 -- A known binder is one.
-under_known : (vars : Option (List BoundKind)) (t : Tree) → IsTrue (known (under vars t)) →
+pub under_known : (vars : Option (List BoundKind)) (t : Tree) → IsTrue (known (under vars t)) →
     HasNoBinder (under vars t) → ⊥
 under_known (Some ks) t k h = h
 under_known None t k h = false≢true k

@@ -32,6 +32,8 @@ pub mod Keyed
 pub mod Contexts
 pub mod Relating
 pub mod EqualTerms
+pub mod EqualForms
+pub mod Bodies
 pub mod Resolving
 pub mod NumberValues
 pub mod ContextCalls

@@ -12,6 +12,9 @@ ghost use Rattle.type_relations.specs.EqualTerms.{sorted_by, term_same};
 ghost use Rattle.type_relations.specs.Lawful.{Asked, Related};
 ghost use Rattle.type_relations.specs.Subtyping.{RegistersSubtype};
 
+mod binder;
+mod forms;
+
 use crate::relate::TypeRelation;
 use crate::relate::args::relate_args_invariantly;
 use crate::relate::structural::{consts, pats, relate, tys};
@@ -21,7 +24,8 @@ use relation_terms::terms::{
 use relation_tools::error::{RelateFault, RelateResult, TypeError};
 use relation_tools::fold::TypeFoldable;
 
-/// What can be related: types, regions, constants, patterns, generic arguments and terms, and lists of arguments.
+/// What can be related: types, regions, constants, patterns, generic arguments and terms, and lists of arguments;
+/// signatures, predicates of trait objects and lists of these; and binders over what can be related.
 ///
 /// What is related of it is its tree, or of a list a form over its tree, which the ghost member `over` names.
 pub trait Relate<I: Interner>: TypeFoldable<I> + PartialEq + Copy {

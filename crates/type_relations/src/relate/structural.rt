@@ -4,8 +4,11 @@
 ghost use Rattle.std.specs.Prelude.{◌≡◌, ◌≢◌, IsTrue, IfOk, OnOk};
 ghost use Rattle.relation_terms.specs.declared.terms.enums.Variance.TheVariants.{Bivariant};
 ghost use Rattle.relation_terms.specs.Variances.{xform};
-ghost use Rattle.relation_terms.specs.Meaning.{arg_tree};
+ghost use Rattle.relation_terms.specs.Heads.{object};
+ghost use Rattle.relation_terms.specs.Trees.{node};
+ghost use Rattle.relation_terms.specs.Meaning.{arg_tree, signature_tree, existential_tree};
 ghost use Rattle.relation_terms.specs.Parts.{part_tree, part_sort};
+ghost use Rattle.type_relations.specs.Lawful.{Asked, Related};
 ghost use Rattle.type_relations.specs.Errors.{AreOfOneForm};
 ghost use Rattle.type_relations.specs.Parts.{IsFormed, IsFormedConst, IsByParts, IsRelatedPart, IsComparedPart};
 ghost use Rattle.type_relations.specs.Parts.{IsBinderPart, ArePaired};
@@ -19,7 +22,9 @@ ghost use Rattle.type_relations.specs.Arguments.{IsSkipped};
 use crate::relate::handing::in_part;
 use crate::relate::making::{make_const, make_part, make_ty, of_arg};
 use crate::relate::opening::{is_same_of, open_bodies};
-use crate::relate::parts::{PartKind, kind_of_part, the_arg};
+use crate::relate::parts::{
+    PartKind, kind_of_part, the_arg, the_existential, the_object, the_signature,
+};
 use crate::relate::reading::{
     compare_consts_of, compare_members_of, compare_parts_of, compare_tys_of, const_part_of,
     const_parts_count_of, const_variance_at, in_const, in_ty, is_by_parts_of, named_place_of,
@@ -27,9 +32,11 @@ use crate::relate::reading::{
     variance_at,
 };
 use crate::relate::{Step, TypeRelation};
+use relation_terms::predicate::ExistentialPredicate;
 use relation_terms::terms::parts::{the_pat, the_ty};
 use relation_terms::terms::{
-    Const, GenericArg, GenericArgKind, Interner, Part, PartOf, Pat, Ty, Variance,
+    Const, ExistentialPredicates, FnSig, GenericArg, GenericArgKind, Interner, Part, PartOf, Pat,
+    Ty, Variance,
 };
 use relation_tools::error::{RelateFault, RelateResult, TypeError};
 
@@ -263,6 +270,70 @@ pub fn pats<I: Interner, R: TypeRelation<I>>(
     ensures { RelatedPats R.manner (R.state r.old) (R.state r.new) a.now b.now result }
 {
     Ok(the_pat(&relate_parts(r, &Part::Pat(*a), &Part::Pat(*b))?))
+}
+
+/// Relates two signatures at the ambient variance, and answers the left one's header over what its types answered: the
+/// inputs in order, contravariantly, then the output.
+///
+/// Conditions are those of `tys`. Answers `VariadicMismatch`, `SafetyMismatch`, `AbiMismatch` or `ArgCount`, by the
+/// first in which they differ, before any type is looked at. All errors of the types are handed on, with the place
+/// where they can name one: of the output that is the number of inputs. Upstream this is the `relate` of signatures.
+pub fn signatures<I: Interner, R: TypeRelation<I>>(
+    r: &mut R,
+    a: &FnSig<I::Key>,
+    b: &FnSig<I::Key>,
+) -> RelateResult<I, FnSig<I::Key>>
+    requires lawful { (R.state r.old).lawful }
+    requires decides { (R.state r.old).ambient ≢ Bivariant }
+    requires asked { let m = (R.state r.old).meaning in Asked R.manner (R.state r.old) (R.state r.old).ambient
+        (signature_tree m a.now) (signature_tree m b.now) }
+    ensures { let m = (R.state r.old).meaning in Related R.manner (R.state r.old) (R.state r.new) (R.state r.old).ambient
+        (signature_tree m a.now) (signature_tree m b.now) (signature_tree (R.state r.new).meaning) result }
+{
+    Ok(the_signature(&relate_parts(r, &Part::Signature(*a), &Part::Signature(*b))?))
+}
+
+/// Relates two predicates of trait objects at the ambient variance, and answers the left one's form over what its parts
+/// answered, invariantly: of a projection first its term, then its arguments.
+///
+/// Conditions are those of `tys`. Answers `Traits` for two traits or two auto traits that differ,
+/// `ProjectionMismatched` for projections of different items, and `Mismatch` for predicates of different forms or with
+/// unlike numbers of arguments. All errors of the parts are handed on. Upstream these are the `relate` of each form.
+pub fn existentials<I: Interner, R: TypeRelation<I>>(
+    r: &mut R,
+    a: &ExistentialPredicate<I::Key, I::Id>,
+    b: &ExistentialPredicate<I::Key, I::Id>,
+) -> RelateResult<I, ExistentialPredicate<I::Key, I::Id>>
+    requires lawful { (R.state r.old).lawful }
+    requires decides { (R.state r.old).ambient ≢ Bivariant }
+    requires asked { let m = (R.state r.old).meaning in Asked R.manner (R.state r.old) (R.state r.old).ambient
+        (existential_tree m a.now) (existential_tree m b.now) }
+    ensures { let m = (R.state r.old).meaning in Related R.manner (R.state r.old) (R.state r.new) (R.state r.old).ambient
+        (existential_tree m a.now) (existential_tree m b.now) (existential_tree (R.state r.new).meaning) result }
+{
+    Ok(the_existential(&relate_parts(r, &Part::Existential(*a), &Part::Existential(*b))?))
+}
+
+/// Relates two lists of predicates of trait objects at the ambient variance, as the form over them: pair by pair, as
+/// they are stored, each under its binder. Answers the list of what they answered.
+///
+/// Conditions are those of `tys`. Answers `ExistentialMismatch` of both for lists of unlike lengths, before any pair is
+/// looked at, and for a pair of different forms, as it comes. All errors of the pairs are handed on. Upstream this is
+/// the interner's `relate` of such lists.
+pub fn objects<I: Interner, R: TypeRelation<I>>(
+    r: &mut R,
+    a: &ExistentialPredicates<I>,
+    b: &ExistentialPredicates<I>,
+) -> RelateResult<I, ExistentialPredicates<I>>
+    requires lawful { (R.state r.old).lawful }
+    requires decides { (R.state r.old).ambient ≢ Bivariant }
+    requires asked { let m = (R.state r.old).meaning in Asked R.manner (R.state r.old) (R.state r.old).ambient
+        (node object (m.existential_predicates a.now)) (node object (m.existential_predicates b.now)) }
+    ensures { let m = (R.state r.old).meaning in Related R.manner (R.state r.old) (R.state r.new) (R.state r.old).ambient
+        (node object (m.existential_predicates a.now)) (node object (m.existential_predicates b.now))
+        (λ k. node object ((R.state r.new).meaning.existential_predicates k)) result }
+{
+    Ok(the_object(&relate_parts(r, &Part::Object(*a), &Part::Object(*b))?))
 }
 
 // Relates two terms of one form by their parts, in order, each at the variance of its place, and answers the form over
