@@ -1,5 +1,5 @@
 -- The bodies of binders, as parts of terms.
-use Rattle.std.proofs.Common.{◌≡◌, ℕ, refl, sym, subst, subst₂, Result, Ok, Err, Option, Some, None, IfSome}
+use Rattle.std.proofs.Common.{◌≡◌, ℕ, refl, sym, subst, subst₂, Ok, Err, Option, Some, None, IfSome}
 use Rattle.relation_terms.specs.Heads.{signature_sort, type_sort, existential_sort, binder_sort}
 use Rattle.relation_terms.specs.Trees.{Tree}
 use Rattle.relation_terms.specs.Parts.{part_sort, body_sort}

@@ -10,18 +10,15 @@ use Rattle.relation_terms.specs.declared.terms.part_kind.Part.TheVariants.{Binde
 use Rattle.relation_terms.specs.declared.terms.keys.PatKey.{PatKey}
 use Rattle.relation_terms.specs.declared.terms.keys.TysKey.{TysKey}
 use Rattle.relation_terms.specs.Parts.{part_sort, part_tree}
-use Rattle.relation_terms.specs.declared.terms.enums.Safety.{Safety}
-use Rattle.relation_terms.specs.declared.terms.enums.ExternAbi.{ExternAbi}
-use Rattle.relation_terms.specs.declared.terms.keys.TyKey.{TyKey}
 use Rattle.relation_terms.specs.declared.terms.keys.ExistentialPredicatesKey.{ExistentialPredicatesKey}
 use Rattle.relation_terms.specs.declared.terms.fn_sig.FnSig.{FnSig}
 use Rattle.relation_terms.specs.declared.terms.binder.Binder.{Binder}
 use Rattle.relation_terms.specs.declared.predicate.ExistentialPredicate.{ExistentialPredicate}
-use Rattle.relation_terms.specs.Heads.{signature, inputs, object, object_sort}
+use Rattle.relation_terms.specs.Heads.{signature, inputs, object_sort}
 use Rattle.relation_terms.specs.Trees.{Tree, leaf, node, nil, cons, known, list_tree, front, last, count, nth}
 use Rattle.relation_terms.specs.Heads.{unknown}
 use Rattle.relation_terms.specs.Meaning.{Meaning, signature_tree, existential_tree, object_predicate_tree}
-use Rattle.relation_terms.specs.Heads.{existential_trait, existential_projection, existential_auto}
+use Rattle.relation_terms.specs.Heads.{existential_trait, existential_projection}
 use Rattle.relation_terms.specs.Meaning.{term_tree}
 use Rattle.relation_terms.specs.declared.terms.ids.TraitId.{TraitId}
 use Rattle.relation_terms.specs.declared.predicate.ExistentialTraitRef.{ExistentialTraitRef}

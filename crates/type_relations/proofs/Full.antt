@@ -1,8 +1,7 @@
 -- Where nothing can be instantiated and no binder stands in what is related or bound, no variable is made.
-use Rattle.std.proofs.Common.{◌≡◌, ◌⊎◌, ◌≢◌, ℕ, zero, suc, ◌<◌, ◌≤◌, refl, sym, ap, ap₂, ◌∙◌, arith, inl, inr, subst}
-use Rattle.std.proofs.Common.{length, get_or, IsTrue}
-use Rattle.std.proofs.lemmas.Bool.{false≢true}
-use Rattle.relation_terms.specs.Heads.{VarKind, Head, variable, value, value_branch, unevaluated, expression}
+use Rattle.std.proofs.Common.{◌≡◌, ◌⊎◌, ◌≢◌, ℕ, zero, suc, ◌<◌, refl, sym, ap, ap₂, ◌∙◌, arith, inl, inr, subst}
+use Rattle.std.proofs.Common.{get_or}
+use Rattle.relation_terms.specs.Heads.{VarKind, variable, value, value_branch, unevaluated, expression}
 use Rattle.relation_terms.specs.Trees.{Tree, leaf, node, bind, nil, cons, nth}
 use Rattle.type_relations.specs.Stores.{Store, Entry, unbound, same_as, bound_to, entry_of, IsMade}
 use Rattle.type_relations.specs.FirstOrder.{IsFirstOrder}
@@ -10,8 +9,8 @@ use Rattle.type_relations.specs.ErasureLaws.{IsTypeOrConst}
 use Rattle.type_relations.specs.Errors.{IsReadAs, itself, by_class, by_binding}
 use Rattle.type_relations.specs.Measures.{Goes}
 use Rattle.type_relations.specs.Parts.{parts_of, branches_of, const_parts_of}
-use Rattle.type_relations.specs.Steps.{IsLater, MakesNone, InstantiatesNone, HasNoBinder, BindsNoBinder, IsFull, StaysFull, StaysFullFor}
-use Rattle.type_relations.specs.Steps.{WritesEntry, Equates, AddsConstraint, StandsBeside, as_it_was, led_on, MakesToInstantiate}
+use Rattle.type_relations.specs.Steps.{MakesNone, InstantiatesNone, HasNoBinder, BindsNoBinder, StaysFull, StaysFullFor}
+use Rattle.type_relations.specs.Steps.{WritesEntry, StandsBeside, as_it_was, led_on, MakesToInstantiate}
 use Rattle.type_relations.proofs.Classes.{stands_from}
 use Rattle.type_relations.proofs.Only.{which}
 

@@ -1,13 +1,12 @@
 -- Any number of new variables of a universe: what stands, and which assignments extend to them.
-use Rattle.std.proofs.Common.{◌≡◌, ◌≢◌, ◌⊎◌, ℕ, suc, ◌≤◌, refl, sym, ap, ap₂, ◌∙◌, arith, inl, inr, subst, subst₂, All, length, get_or, [], ◌∷◌, ◌++◌}
+use Rattle.std.proofs.Common.{◌≡◌, ◌⊎◌, ℕ, suc, ◌≤◌, refl, sym, ap, ap₂, ◌∙◌, arith, inl, inr, subst, subst₂, All, length, get_or, [], ◌∷◌, ◌++◌}
 use native.Mathlib.Decide.{dec_le}
 use Rattle.relation_terms.specs.Heads.{VarKind, VarKind_discrete}
 use Rattle.relation_terms.specs.Trees.{Tree, Assign, Leaves}
 use Rattle.type_relations.specs.Relation.{Interpretation, Outlives, IsValueLeaf, StaysWithin}
-use Rattle.type_relations.specs.Stores.{Store, unbound, entry_of, bound_term, universe_of, IsMade, MayStandFor, IsNamable, IsAssignment, MeetsBindings, IsSound, Satisfies, Constraint, outlives_constraint, equal_constraint, ConstraintHolds, ConstraintIn, all_bound, resolved, weight}
+use Rattle.type_relations.specs.Stores.{Store, entry_of, bound_term, universe_of, IsMade, MayStandFor, IsNamable, IsAssignment, MeetsBindings, IsSound, Satisfies, Constraint, outlives_constraint, equal_constraint, ConstraintHolds, ConstraintIn, all_bound, resolved, weight}
 use Rattle.type_relations.specs.FirstOrder.{MeetsErased}
 use Rattle.type_relations.specs.Steps.{MakesVariable, MakesNoNumber, IsNumberKind, IsLater, AgreeOn, AgreeErased}
-use Rattle.type_relations.specs.ErasureLaws.{IsTypeOrConst}
 use Rattle.type_relations.specs.Measures.{Goes}
 use Rattle.type_relations.specs.Generalising.{MakesUnbound, makes_none, makes_one}
 use Rattle.type_relations.proofs.Standing.{term_context}

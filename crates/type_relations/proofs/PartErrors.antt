@@ -1,19 +1,17 @@
 -- Terms that are related by their parts: when two are unified, and the errors of two that are not of one form.
-use Rattle.std.proofs.Common.{◌≡◌, ◌≢◌, ◌↔◌, ℕ, zero, suc, ◌<◌, refl, sym, ap, ◌∙◌, subst, subst₂, arith, List, [], ◌∷◌, IsTrue}
+use Rattle.std.proofs.Common.{◌≡◌, ◌≢◌, ◌↔◌, ℕ, zero, suc, ◌<◌, refl, sym, ap, ◌∙◌, subst, subst₂, arith, List, IsTrue}
 use Rattle.std.proofs.Common.{Option, Some, None, Result, OnOk, IfErr}
 use Rattle.std.proofs.lemmas.Result.{on_ok_weaker, IfErr-weaker}
 use Rattle.std.proofs.lemmas.Bool.{false≢true}
-use Rattle.relation_terms.specs.declared.terms.enums.Safety.{Safety}
-use Rattle.relation_terms.specs.declared.terms.enums.ExternAbi.{ExternAbi}
 use Rattle.relation_terms.specs.declared.terms.enums.Variance.{Variance}
 use Rattle.relation_terms.specs.declared.terms.keys.ExistentialPredicatesKey.{ExistentialPredicatesKey}
-use Rattle.relation_terms.specs.Heads.{Sort, existential_sort, Admits, VarKind, leaf_sort, head_sort, atom_sort}
+use Rattle.relation_terms.specs.Heads.{Sort, existential_sort, head_sort, atom_sort}
 use Rattle.relation_terms.specs.Heads.{Head, pattern_type, range_pattern, or_pattern, fn_ptr, unsafe_binder, dynamic, object}
 use Rattle.relation_terms.specs.Heads.{signature, inputs, existential_trait, existential_projection, value_type, region_sort}
-use Rattle.relation_terms.specs.Heads.{BoundKind, Atom, not_null_pattern, existential_auto, Leaf, atom, binder_of, row, head_parts}
-use Rattle.relation_terms.specs.Trees.{Tree, leaf, node, bind, nil, cons, Assign, apply, known, IsTerm, IsBinder, IsList, Fits}
+use Rattle.relation_terms.specs.Heads.{BoundKind, Atom, not_null_pattern, existential_auto, Leaf, atom}
+use Rattle.relation_terms.specs.Trees.{Tree, leaf, node, bind, nil, cons, Assign, apply, known, IsTerm, IsBinder}
 use Rattle.relation_terms.specs.Trees.{count, nth}
-use Rattle.relation_terms.specs.Erasure.{erase, erase_atom}
+use Rattle.relation_terms.specs.Erasure.{erase}
 use Rattle.relation_terms.specs.Meaning.{Meaning, under, existential_tree}
 use Rattle.relation_terms.specs.declared.terms.ids.TraitId.{TraitId}
 use Rattle.relation_terms.specs.declared.predicate.ExistentialTraitRef.{ExistentialTraitRef}
@@ -23,12 +21,12 @@ use Rattle.relation_terms.specs.declared.predicate.ExistentialPredicate.TheVaria
 use Rattle.relation_tools.specs.declared.error.TypeError.{TypeError}
 use Rattle.relation_tools.specs.declared.error.TypeError.TheVariants.{Mismatch}
 use Rattle.relation_tools.specs.Faults.{KnowsError}
-use Rattle.type_relations.specs.Relation.{at, plain_atom, sort_of}
+use Rattle.type_relations.specs.Relation.{at, sort_of}
 use Rattle.type_relations.specs.Stores.{Store}
 use Rattle.type_relations.specs.FirstOrder.{Unifies}
 use Rattle.type_relations.specs.Outcomes.{NeverOne, NoUnifier}
 use Rattle.type_relations.specs.Errors.{AreOfOneForm, over_parts, one_leaf, parameters, AreAlikeExistentials, both_traits}
-use Rattle.type_relations.specs.Errors.{both_projections, both_auto_traits, AreAlikeMembers, under_binders, PatternError}
+use Rattle.type_relations.specs.Errors.{both_projections, both_auto_traits, AreAlikeMembers, under_binders}
 use Rattle.type_relations.specs.Errors.{unlike_patterns, SignatureError, unlike_variadic, unlike_safety, unlike_abi}
 use Rattle.type_relations.specs.Errors.{unlike_counts, ExistentialError, unlike_traits, unlike_auto_traits}
 use Rattle.type_relations.specs.Errors.{unlike_projections, unlike_arguments, unlike_existentials, ObjectError}
@@ -39,7 +37,7 @@ use Rattle.type_relations.proofs.Comparing.{parts_list, list_of}
 use Rattle.type_relations.proofs.Erased.{forms_unify_by_parts}
 use Rattle.type_relations.proofs.Fronts.{IsLookedAt}
 use Rattle.type_relations.proofs.Unifying.{one_head, unified_counts, erased_parameters}
-use Rattle.type_relations.proofs.Patterns.{term_alike, IsFormSort, form_is}
+use Rattle.type_relations.proofs.Patterns.{term_alike, form_is}
 use Rattle.type_relations.proofs.OneParts.{sort_is}
 use Rattle.type_relations.proofs.PartPlaces.{binder_nth, only}
 

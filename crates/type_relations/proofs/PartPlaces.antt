@@ -1,13 +1,13 @@
 -- The parts of terms that are related by their parts: of which sorts they are, and that two at one place make a pair.
-use Rattle.std.proofs.Common.{◌≡◌, ℕ, zero, suc, ◌<◌, refl, sym, ap, ◌∙◌, subst, subst₂, inl, inr, arith, List, [], ◌∷◌, IsTrue}
-use Rattle.std.proofs.Common.{Option, None, Some}
+use Rattle.std.proofs.Common.{◌≡◌, ℕ, zero, suc, ◌<◌, refl, sym, ap, ◌∙◌, subst, subst₂, inl, inr, arith, [], ◌∷◌, IsTrue}
+use Rattle.std.proofs.Common.{None, Some}
 use Rattle.relation_terms.specs.declared.terms.part_kind.Part.{Part as TermPart}
 use Rattle.relation_terms.specs.declared.terms.part_kind.Part.TheVariants.{Region, Ty, Const, ValTree, Pat, ValueType}
 use Rattle.relation_terms.specs.declared.terms.part_kind.Part.TheVariants.{Binder, Signature, Inputs, Existential, Object}
 use Rattle.relation_terms.specs.Heads.{Sort, region_sort, type_sort, const_sort, argument_sort, term_sort, pattern_sort}
 use Rattle.relation_terms.specs.Heads.{no_sort, signature_sort, inputs_sort, existential_sort, object_sort, binder_sort}
-use Rattle.relation_terms.specs.Heads.{value_sort, value_type_sort, Admits, Part, term_of, binder_of, row, head_parts, leaf_sort}
-use Rattle.relation_terms.specs.Heads.{head_sort, Head, pattern_type, range_pattern, or_pattern, fn_ptr, unsafe_binder}
+use Rattle.relation_terms.specs.Heads.{value_sort, value_type_sort, Admits, term_of, binder_of, row, head_parts}
+use Rattle.relation_terms.specs.Heads.{Head, pattern_type, range_pattern, or_pattern, fn_ptr, unsafe_binder}
 use Rattle.relation_terms.specs.Heads.{dynamic, object, signature, inputs, existential_trait, existential_projection}
 use Rattle.relation_terms.specs.Trees.{Tree, leaf, node, bind, nil, cons, IsTerm, IsBinder, AreTerms, Fits, count, nth, known}
 use Rattle.relation_terms.specs.Parts.{part_sort, tree_sort, part_tree}

@@ -1,6 +1,6 @@
 -- Binders related in rounds: what is said of them follows from what their rounds and the bodies' relating say.
 use Rattle.std.proofs.Common.{◌≡◌, ◌≢◌, ℕ, zero, suc, ◌+◌, ◌*◌, ◌<◌, ◌≤◌, refl, sym, ap, ◌∙◌, subst, subst₂, arith}
-use Rattle.std.proofs.Common.{inl, List, [], ◌++◌, IsTrue, Result, Ok, Err, Option, Some, None}
+use Rattle.std.proofs.Common.{inl, List, [], ◌++◌, IsTrue, Ok, Err, Option, Some, None}
 use Rattle.std.proofs.lemmas.List.{append-nil}
 use Rattle.std.proofs.lemmas.Bool.{false≢true}
 use Rattle.relation_terms.specs.declared.terms.enums.Variance.{Variance}

@@ -1,7 +1,7 @@
-use Rattle.std.proofs.Common.{◌≡◌, ◌<◌, ◌∙◌, refl, sym, ap, subst, arith, IsTrue, Some}
+use Rattle.std.proofs.Common.{◌∙◌, sym, ap, subst, IsTrue, Some}
 use Rattle.std.proofs.lemmas.Bool.{and_parts}
 use Rattle.relation_terms.specs.Heads.{inputs}
-use Rattle.relation_terms.specs.Trees.{known, node, nil, cons, front, last, count}
+use Rattle.relation_terms.specs.Trees.{known, node, nil, cons, front, last}
 use Rattle.relation_terms.specs.Parts.{part_tree}
 use Rattle.relation_terms.proofs.Sorted.{Sorted}
 use Rattle.type_relations.specs.Handing.{named_place}

@@ -1,4 +1,4 @@
-use Rattle.std.proofs.Common.{◌≡◌, refl, sym, ap, subst, inr, Ok, Err}
+use Rattle.std.proofs.Common.{refl, sym, ap, subst, inr}
 use Rattle.relation_terms.specs.Parts.{part_tree}
 use Rattle.type_relations.specs.Lawful.{Related}
 use Rattle.type_relations.proofs.Passing.{retold, refused_again, as_err}

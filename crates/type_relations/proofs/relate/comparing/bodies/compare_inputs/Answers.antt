@@ -1,4 +1,4 @@
-use Rattle.std.proofs.Common.{◌≡◌, ℕ, suc, refl, sym, ◌∙◌, length}
+use Rattle.std.proofs.Common.{refl, length}
 use Rattle.relation_terms.specs.Trees.{front, count}
 use Rattle.relation_terms.proofs.Binders.{front_known}
 use Rattle.type_relations.specs.Errors.{over_parts, unlike_counts}

@@ -1,4 +1,4 @@
-use Rattle.std.proofs.Common.{◌≡◌, ◌<◌, ◌∙◌, refl, sym, ap, ap₂, subst, subst₂, IsTrue}
+use Rattle.std.proofs.Common.{◌<◌, ◌∙◌, refl, sym, ap, ap₂, subst, subst₂, IsTrue}
 use Rattle.relation_terms.specs.Trees.{known, count, nth}
 use Rattle.relation_terms.specs.Parts.{part_tree}
 use Rattle.relation_tools.specs.declared.error.TypeError.TheVariants.{ExistentialMismatch}

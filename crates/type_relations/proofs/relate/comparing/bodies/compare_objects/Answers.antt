@@ -1,4 +1,4 @@
-use Rattle.std.proofs.Common.{◌≡◌, refl, sym, ap, ap₂, ◌∙◌}
+use Rattle.std.proofs.Common.{refl, sym, ap, ap₂, ◌∙◌}
 use Rattle.relation_terms.specs.Trees.{count}
 use Rattle.relation_terms.specs.Meaning.{object_predicate_tree}
 use Rattle.relation_tools.specs.declared.error.TypeError.TheVariants.{ExistentialMismatch}

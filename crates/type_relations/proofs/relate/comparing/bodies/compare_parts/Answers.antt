@@ -1,4 +1,4 @@
-use Rattle.std.proofs.Common.{◌≡◌, ◌∙◌, refl, sym, ap, subst, IsTrue}
+use Rattle.std.proofs.Common.{◌∙◌, refl, sym, ap, subst, IsTrue}
 use Rattle.relation_terms.specs.Heads.{inputs, object}
 use Rattle.relation_terms.specs.Trees.{known, node, front}
 use Rattle.relation_terms.specs.Meaning.{signature_tree, existential_tree}
