@@ -1,9 +1,9 @@
 -- Resolving by a fold: what is put for each variable is what it comes to.
-use Rattle.std.proofs.Common.{◌≡◌, ℕ, suc, Bool, true, false, refl, sym, ap, ap₂, ◌∙◌, subst, ◌≤◌, arith, Option, Some, None, List, length, get_or}
+use Rattle.std.proofs.Common.{◌≡◌, ℕ, suc, Bool, true, false, refl, sym, ap, ap₂, ◌∙◌, subst, ◌≤◌, arith, Some, None, List, length, get_or}
 use Rattle.std.proofs.lemmas.List.{get_or_past}
 use Rattle.relation_terms.specs.Heads.{VarKind, type_var, int_var, float_var, const_var, region_var, variable, bound, placeholder, atom, unknown, leaf_sort, head_sort}
 use Rattle.relation_terms.specs.Trees.{Tree, leaf, node, bind, nil, cons, Assign, apply}
-use Rattle.relation_terms.specs.Meaning.{Meaning, Extends, kind_tree, infer_tree, const_tree, region_tree}
+use Rattle.relation_terms.specs.Meaning.{Meaning, kind_tree, infer_tree, const_tree, region_tree}
 use Rattle.relation_terms.specs.declared.terms.ty_kind.TyKind.{TyKind}
 use Rattle.relation_terms.specs.declared.terms.ty_kind.TyKind.TheVariants.{Infer}
 use Rattle.relation_terms.specs.declared.terms.ty_kind.InferTy.{InferTy}
@@ -19,12 +19,12 @@ use Rattle.relation_terms.specs.declared.terms.numbers.IntVid.{IntVid}
 use Rattle.relation_terms.specs.declared.terms.numbers.FloatVid.{FloatVid}
 use Rattle.relation_terms.specs.declared.terms.numbers.ConstVid.{ConstVid}
 use Rattle.relation_tools.specs.Folds.{asks, put_or, folded}
-use Rattle.type_relations.specs.Stores.{Store, IsMade, InContext, resolved, entry_of, entry_term, unbound, IsSound}
+use Rattle.type_relations.specs.Stores.{Store, IsMade, InContext, entry_of, entry_term, unbound}
 use Rattle.type_relations.proofs.Resolved.{resolved_free}
 use Rattle.relation_reference.specs.declared.context.inner.InferCtxtInner.{InferCtxtInner}
 use Rattle.relation_reference.specs.declared.context.inner.Variable.{Variable}
 use Rattle.relation_reference.specs.Variables.{entries_of}
-use Rattle.relation_reference.specs.Tables.{store_of, IsLawful}
+use Rattle.relation_reference.specs.Tables.{IsLawful}
 use Rattle.relation_reference.specs.Remembering.{resolved_by}
 use Rattle.relation_reference.specs.Resolvers.{variable_value, StaysLawful}
 use Rattle.relation_reference.proofs.Grows.{store_grows, lawful_grows}

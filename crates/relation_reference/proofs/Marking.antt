@@ -1,5 +1,5 @@
 -- Which type variables are marked as related after new ones were made.
-use Rattle.std.proofs.Common.{◌≡◌, ◌⊎◌, inl, inr, ℕ, suc, ◌<◌, ◌≤◌, refl, sym, ap, ◌∙◌, arith, subst, length, length-append, List, ◌∷◌, [], set, le_refl, Some}
+use Rattle.std.proofs.Common.{◌≡◌, inl, inr, ℕ, suc, ◌<◌, ◌≤◌, refl, sym, ap, ◌∙◌, arith, subst, length, length-append, List, ◌∷◌, [], set, le_refl, Some}
 use Rattle.std.proofs.lemmas.List.{length-set, length-map}
 use native.Mathlib.Decide.{ℕ_discrete}
 use Rattle.std.specs.Global.{Vec}

@@ -1,7 +1,6 @@
 -- A context that has recorded nothing.
-use Rattle.std.proofs.Common.{◌≡◌, ℕ, ◌<◌, refl, sym, ap, arith, subst, [], length, map, get_or, le_refl}
-use Rattle.relation_terms.specs.Heads.{VarKind, type_var, int_var, float_var, const_var, region_var, variable}
-use Rattle.relation_terms.specs.Trees.{leaf, nil}
+use Rattle.std.proofs.Common.{◌≡◌, refl, sym, ap, arith, subst, [], length, map, get_or, le_refl}
+use Rattle.relation_terms.specs.Heads.{VarKind, type_var, int_var, float_var, const_var, region_var}
 use Rattle.relation_terms.specs.Meaning.{Meaning}
 use Rattle.type_relations.specs.Stores.{unbound}
 use Rattle.type_relations.specs.Constraints.{constraint_of}

@@ -1,5 +1,5 @@
 -- The universes of variables, and the keys of region variables.
-use Rattle.std.proofs.Common.{◌≡◌, ℕ, ◌<◌, refl, sym, ap, ◌∙◌, subst, List, length, get_or, Option, Some, None}
+use Rattle.std.proofs.Common.{◌≡◌, ℕ, ◌<◌, sym, ap, ◌∙◌, subst, List, length, get_or, Option}
 use Rattle.std.proofs.lemmas.List.{get_or-map}
 use Rattle.relation_terms.specs.Heads.{VarKind, region_var, variable}
 use Rattle.relation_terms.specs.Trees.{Tree, leaf, nil}
@@ -8,9 +8,7 @@ use Rattle.relation_terms.specs.declared.terms.keys.RegionKey.{RegionKey}
 use Rattle.relation_terms.specs.declared.terms.numbers.UniverseIndex.{UniverseIndex}
 use Rattle.type_relations.specs.Contexts.{Context}
 use Rattle.type_relations.specs.ContextCalls.{IsRootOf, HasUniverse}
-use Rattle.type_relations.specs.Stores.{entry_of, universe_of, IsMade, IsSound}
-use Rattle.type_relations.specs.Steps.{LeadsTo}
-use Rattle.type_relations.specs.Resolving.{IsRoot}
+use Rattle.type_relations.specs.Stores.{entry_of, IsMade, IsSound}
 use Rattle.relation_reference.specs.declared.context.inner.Variable.{Variable}
 use Rattle.relation_reference.specs.declared.context.inner.VariableValue.{VariableValue}
 use Rattle.relation_reference.specs.declared.context.inner.VariableValue.TheVariants.{Unknown, SameAs, Known}

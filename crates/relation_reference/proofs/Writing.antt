@@ -1,5 +1,5 @@
 -- Writing what is recorded of variables of a kind: two were made one, or one was bound.
-use Rattle.std.proofs.Common.{◌≡◌, ℕ, zero, suc, ◌<◌, ◌≤◌, refl, sym, ap, ap₂, ◌∙◌, arith, subst, subst₂, List, [], ◌∷◌, length, map, get_or, set, min, eqb, cond, Bool, true, false}
+use Rattle.std.proofs.Common.{◌≡◌, ℕ, suc, ◌<◌, ◌≤◌, refl, sym, ap, ap₂, ◌∙◌, arith, subst, subst₂, List, [], ◌∷◌, length, map, get_or, set, min, eqb, cond, Bool, true, false}
 use Rattle.std.proofs.lemmas.Bool.{eqb-true, eq-eqb}
 use Rattle.std.proofs.lemmas.List.{map-set, length-set, length-map, get_or-set_same, get_or-set_other}
 use Rattle.std.proofs.Math.ListN.{get_or-map}

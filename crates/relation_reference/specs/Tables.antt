@@ -3,7 +3,7 @@ use Rattle.std.specs.Prelude.{◌≡◌, ◌≢◌, ℕ, ◌<◌, ◌≤◌, fal
 use Rattle.relation_terms.specs.Heads.{VarKind, type_var, int_var, float_var, const_var, region_var, variable}
 use Rattle.relation_terms.specs.Trees.{Tree, leaf, nil}
 use Rattle.relation_terms.specs.Meaning.{Meaning}
-use Rattle.type_relations.specs.Stores.{Store, Entry, entry_of, same_as, bound_to, IsSound}
+use Rattle.type_relations.specs.Stores.{Store, entry_of, same_as, bound_to, IsSound}
 use Rattle.type_relations.specs.Generalising.{NumbersNameNothing}
 use Rattle.type_relations.specs.Constraints.{constraint_of}
 use Rattle.type_relations.specs.Parts.{IsFormed, IsFormedConst}

@@ -1,4 +1,4 @@
-use Rattle.std.proofs.Common.{◌≡◌, ◌≤◌, ◌∙◌, ap₂, arith, map, sym}
+use Rattle.std.proofs.Common.{◌≤◌, ◌∙◌, ap₂, arith, map, sym}
 use Rattle.relation_reference.specs.SubRoots.{root_in, led_root}
 use Rattle.relation_reference.proofs.SubRoots.{read_root, joined_low, joined_high}
 use Rattle.relation_reference.proofs.context.sub_unified.join_roots.Goals as goal

@@ -1,4 +1,4 @@
-use Rattle.std.proofs.Common.{◌<◌, ◌∙◌, ap, sym, arith, length}
+use Rattle.std.proofs.Common.{◌∙◌, ap, sym, arith}
 use Rattle.relation_reference.specs.SubRoots.{root_in}
 use Rattle.relation_reference.proofs.SubRoots.{root_there, read_root}
 use Rattle.relation_reference.proofs.context.variables.RefCtxt.sub_unification_table_root_var.Goals as goal
