@@ -1,29 +1,29 @@
 -- What terms use of binders outside them, and what follows from it: that nothing escapes, and that binders bind by lists.
-use Rattle.std.proofs.Common.{◌≡◌, ℕ, zero, suc, ◌+◌, ◌-◌, ◌<◌, ◌≤◌, refl, sym, ap, ◌∙◌, subst, arith, List, [], ◌∷◌, ◌++◌}
-use Rattle.std.proofs.Common.{Bool, true, false, cond, IsTrue, Option, Some, None, All, Contains, length, slice_get, slice_range}
+use Rattle.std.proofs.Common.{◌≡◌, ℕ, zero, suc, ◌-◌, ◌<◌, refl, sym, ap, ◌∙◌, subst, arith, List, [], ◌∷◌, ◌++◌}
+use Rattle.std.proofs.Common.{Bool, true, false, cond, Option, Some, None, All, Contains, length, slice_get}
 use Rattle.std.specs.Prelude.{IfSome}
 use native.Mathlib.Decide.{dec_lt}
 use Rattle.std.proofs.lemmas.List.{get_or_append_left, get_or_push, length_push}
 use Rattle.std.proofs.lemmas.List.Elements.{All-head, All-tail, All-contains}
-use Rattle.relation_terms.specs.Heads.{Head, BoundKind, bound_kind, type_kind, region_kind, const_kind, bound_sort, fn_ptr}
+use Rattle.relation_terms.specs.Heads.{Head, BoundKind, bound_kind, type_kind, region_kind, const_kind, bound_sort}
 use Rattle.relation_terms.specs.Heads.{signature, inputs, existential_trait, existential_projection, Leaf}
 use Rattle.relation_terms.specs.Heads.{variable, bound, placeholder, atom, unknown}
 use Rattle.relation_terms.specs.Trees.{Tree, leaf, node, bind, nil, cons, list_tree, known, front, last}
 use Rattle.relation_terms.specs.Meaning.{under}
 use Rattle.type_relations.specs.Relation.{StaysWithin}
-use Rattle.type_relations.specs.Bound.{AreBoundAs, BindByLists}
+use Rattle.type_relations.specs.Bound.{AreBoundAs}
 use Rattle.relation_text.specs.declared.reading.tree.ItemSort.{ItemSort}
 use Rattle.relation_text.specs.declared.reading.tree.ItemSort.TheVariants as sort
 use Rattle.relation_text.specs.declared.naming.program.Parts.{Parts}
 use Rattle.relation_text.specs.declared.naming.program.Term.{Term}
 use Rattle.relation_text.specs.declared.naming.program.Term.TheVariants as term
 use Rattle.relation_text.specs.Terms.{at, parts_tree, leaf_of, item_tree, head_of, variable_of, with_variable, variables_of}
-use Rattle.relation_text.specs.Terms.{term_tree, trees_from, trees_of}
+use Rattle.relation_text.specs.Terms.{term_tree, trees_from}
 use Rattle.relation_asking.specs.declared.binding.BoundSort.{BoundSort}
 use Rattle.relation_asking.specs.declared.binding.Outer.{Outer}
 use Rattle.relation_asking.specs.declared.binding.Uses.{Uses}
-use Rattle.relation_asking.specs.Binding.{sort_of, AreUsed, Tells, AreTold, AreIn, TakesAll, TakesAt, TakesIf, Behind, HasSort}
-use Rattle.relation_asking.specs.Binding.{BindsAll, own_of, inside_of, places, TakesInside, Leaves, SaysOf}
+use Rattle.relation_asking.specs.Binding.{sort_of, AreUsed, Tells, AreTold, AreIn, TakesAll, TakesAt, Behind, HasSort}
+use Rattle.relation_asking.specs.Binding.{places, Leaves, SaysOf}
 
 -- What is used is among more.
 used_in : (xs ys : List Outer) → AreIn xs ys → (d : ℕ) (t : Tree) → AreUsed ys d t → AreUsed xs d t

@@ -1,11 +1,11 @@
 -- The terms of a text whose forms have rules, and whose binders bind by their lists.
-use Rattle.std.proofs.Common.{◌≡◌, ℕ, sym, ◌∙◌, subst, IsTrue, Bool, true, false, cond, ◌&&◌, List, [], ◌∷◌}
+use Rattle.std.proofs.Common.{ℕ, sym, ◌∙◌, subst, IsTrue, Bool, true, false, cond, ◌&&◌, List, [], ◌∷◌}
 use Rattle.std.proofs.Common.{Option, Some, None}
 use Rattle.std.specs.Prelude.{slice_get, slice_range, vec_len}
 use Rattle.std.proofs.lemmas.Bool.{and_parts, eqb-true, false≢true}
 use Rattle.relation_terms.specs.Heads.{BoundKind, Head, signature, inputs, existential_trait, existential_projection, Leaf}
 use Rattle.relation_terms.specs.Heads.{unknown}
-use Rattle.relation_terms.specs.Trees.{Tree, leaf, node, bind, nil, cons, known, list_tree, front, last}
+use Rattle.relation_terms.specs.Trees.{Tree, leaf, node, nil, cons, known, list_tree, front, last}
 use Rattle.relation_terms.specs.Meaning.{under}
 use Rattle.type_relations.specs.Relation.{StaysWithin}
 use Rattle.type_relations.specs.Bound.{BindByLists}
@@ -229,9 +229,11 @@ module _ (items names parts : List ℕ) where
   told_bound : (ts : List Tree) (ns : List Needs) → HoldsOfEach IsBoundBy ts ns → (x : Term) (o : Option Uses) →
       Tells o (term_tree items names parts ts x) → IsBoundBy (told o (term_need parts ns x)) (term_tree items names parts ts x)
   told_bound ts ns h x None said = subst (IsBoundBy (term_need parts ns x)) (sym said) ((λ c. tt), λ l. tt)
-  told_bound ts ns h x (Some u) said =
-      ((λ c. used_none (u.outer).items (sym (u.outer).ok.0 ∙ eqb-true (vec_len u.outer) 0 c) 0
-      (term_tree items names parts ts x) said.0), said.1)
+  told_bound ts ns h x (Some u) said = (
+    (λ c. used_none (u.outer).items (sym (u.outer).ok.0 ∙ eqb-true (vec_len u.outer) 0 c) 0
+        (term_tree items names parts ts x) said.0),
+    said.1,
+  )
 
   pub all_bound : (us : List Uses) (xs : List Term) → AreTold (trees_of items names parts xs) us →
       HoldsOfEach IsBoundBy (trees_of items names parts xs) (needs_of parts us xs)

@@ -1,6 +1,6 @@
 -- What terms need, and contexts that have it.
 use Rattle.std.proofs.Common.{◌≡◌, ℕ, zero, suc, ◌<◌, ◌≤◌, max, IsTrue, refl, sym, ap, ◌∙◌, subst, arith, List, [], ◌∷◌, ◌++◌}
-use Rattle.std.proofs.Common.{Bool, true, false, cond, ◌&&◌, Option, Some, None, length, get_or, slice_get, slice_range}
+use Rattle.std.proofs.Common.{Bool, true, false, cond, Option, Some, None, length, get_or, slice_get, slice_range}
 use Rattle.std.proofs.Common.{take, drop, ◌+◌, ◌-◌, ◌⊎◌, inl, inr}
 use native.Mathlib.Decide.{dec_lt}
 use Rattle.std.proofs.lemmas.List.{take_more, length-drop, get_or-drop, take_all}

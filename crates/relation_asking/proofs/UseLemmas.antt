@@ -1,6 +1,6 @@
 -- What is taken in of what terms use.
 use Rattle.std.proofs.Common.{◌≡◌, ℕ, suc, ◌+◌, ◌≤◌, refl, sym, ap, ◌∙◌, subst, List, [], ◌∷◌, ◌++◌, Option, Some, None, All, Contains}
-use Rattle.std.proofs.Common.{IsTrue, inl, inr, ◌⊎◌, length, take, get_or, slice_get, slice_range}
+use Rattle.std.proofs.Common.{IsTrue, inl, inr, ◌⊎◌, length, slice_get, slice_range}
 use Rattle.std.specs.Prelude.{IfSome}
 use Rattle.std.proofs.lemmas.List.{length_push}
 use Rattle.std.proofs.lemmas.List.Elements.{All-push, All-weaker, Contains-push, Contains-push_cases, Contains-append_left}
@@ -9,7 +9,6 @@ use Rattle.relation_text.specs.declared.naming.program.Parts.{Parts}
 use Rattle.relation_text.specs.declared.naming.program.Term.{Term}
 use Rattle.relation_text.specs.Terms.{term_tree, trees_of}
 use Rattle.relation_text.proofs.BuildingLemmas.{trees_more}
-use Rattle.relation_asking.specs.declared.binding.BoundSort.{BoundSort}
 use Rattle.relation_asking.specs.declared.binding.Outer.{Outer}
 use Rattle.relation_asking.specs.declared.binding.Uses.{Uses}
 use Rattle.relation_asking.specs.declared.binding.Inside.{Inside}

@@ -1,5 +1,5 @@
 -- What terms use that binders outside them bind, and binders that bind by their lists.
-use Rattle.std.specs.Prelude.{◌≡◌, ℕ, zero, suc, ◌+◌, ◌≤◌, List, [], ◌∷◌, All, Contains, Option, Some, None, IfSome, IsTrue}
+use Rattle.std.specs.Prelude.{◌≡◌, ℕ, suc, ◌+◌, ◌≤◌, List, [], ◌∷◌, All, Contains, Option, Some, None, IfSome, IsTrue}
 use Rattle.std.specs.Prelude.{slice_get, slice_range}
 use Rattle.relation_terms.specs.Heads.{Sort, region_sort, type_sort, const_sort, bound_sort, Leaf, bound, unknown}
 use Rattle.relation_terms.specs.Trees.{Tree, leaf, node, bind, nil, cons}

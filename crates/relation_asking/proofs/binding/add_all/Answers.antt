@@ -1,4 +1,4 @@
-use Rattle.std.proofs.Common.{refl, sym, ap, ◌∙◌, subst, arith, IsTrue, take, get_or}
+use Rattle.std.proofs.Common.{refl, sym, ◌∙◌, subst, arith, IsTrue, take, get_or}
 use Rattle.std.proofs.lemmas.Bool.{and_parts}
 use Rattle.std.proofs.lemmas.List.{take_more, take_all}
 use Rattle.relation_asking.specs.declared.binding.BoundSort.TheVariants.{Region}

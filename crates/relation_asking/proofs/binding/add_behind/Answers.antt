@@ -1,4 +1,4 @@
-use Rattle.std.proofs.Common.{◌≡◌, ℕ, suc, arith, subst, Contains}
+use Rattle.std.proofs.Common.{◌≡◌, arith, subst, Contains}
 use Rattle.std.proofs.lemmas.Result.{on_ok_weaker}
 use Rattle.relation_asking.proofs.binding.add_behind.Goals as goal
 

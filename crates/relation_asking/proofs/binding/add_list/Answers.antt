@@ -1,4 +1,4 @@
-use Rattle.std.proofs.Common.{sym, ◌∙◌, subst, arith, All, slice_range}
+use Rattle.std.proofs.Common.{sym, subst, arith, All}
 use Rattle.relation_asking.specs.Binding.{TakesAt}
 use Rattle.relation_asking.proofs.NeedLemmas.{range_met}
 use Rattle.relation_asking.proofs.UseLemmas.{takes_then, takes_more}

@@ -1,4 +1,4 @@
-use Rattle.std.proofs.Common.{◌≡◌, rules, subst, arith, IsTrue, take, slice_range}
+use Rattle.std.proofs.Common.{◌≡◌, rules, subst, arith, IsTrue, slice_range}
 use Rattle.std.proofs.lemmas.List.{take_all}
 use Rattle.std.proofs.lemmas.List.Elements.{All-nil, All-more}
 use Rattle.relation_asking.specs.declared.binding.BoundSort.TheVariants.{Region}

@@ -1,4 +1,4 @@
-use Rattle.std.proofs.Common.{sym, subst, Contains}
+use Rattle.std.proofs.Common.{subst, Contains}
 use Rattle.std.specs.Prelude.{IfSome}
 use Rattle.relation_asking.specs.Binding.{Behind}
 use Rattle.relation_asking.proofs.UseLemmas.{takes_inside_later, no_binder, says_plain, says_bound}

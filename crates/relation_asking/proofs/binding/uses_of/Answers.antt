@@ -1,4 +1,4 @@
-use Rattle.std.proofs.Common.{refl, sym, ap₂, ◌∙◌, ◌++◌, ◌∷◌, [], subst, subst₂, arith, take, get_or}
+use Rattle.std.proofs.Common.{refl, sym, ◌∙◌, [], subst, subst₂, arith, take, get_or}
 use Rattle.std.proofs.lemmas.List.{take_more, take_all}
 use Rattle.relation_text.specs.declared.naming.program.Term.TheVariants.{Bool}
 use Rattle.relation_text.specs.Terms.{trees_of}
