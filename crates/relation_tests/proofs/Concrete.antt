@@ -1,5 +1,5 @@
 -- Terms that stand in each context.
-use Rattle.std.proofs.Common.{◌≡◌, ℕ, Bool, cond, suc, IsTrue, false, List, [], Option, Some, sym, ap, subst}
+use Rattle.std.proofs.Common.{◌≡◌, ℕ, suc, cond, IsTrue, false, List, [], Option, Some, Result, Ok, Err, IfOk, sym, ap, subst}
 use Rattle.relation_terms.specs.declared.terms.enums.Variance.{Variance}
 use Rattle.relation_terms.specs.declared.terms.keys.TyKey.{TyKey}
 use Rattle.relation_terms.specs.declared.terms.keys.RegionKey.{RegionKey}
@@ -16,9 +16,6 @@ use Rattle.type_relations.specs.Relation.{IsValueAtom, StaysWithin}
 use Rattle.type_relations.specs.Bound.{AreBoundAs}
 use Rattle.type_relations.specs.Stores.{Store, IsTermIn, InContext, IsMadeLeaf, IsNamable}
 use Rattle.type_relations.specs.Covered.{IsCovered, IsCoveredAtom}
-use Rattle.relation_terms.specs.declared.terms.enums.Safety.{Safety}
-use Rattle.relation_terms.specs.declared.terms.enums.ExternAbi.{ExternAbi}
-use Rattle.relation_terms.specs.Heads.{signature, inputs}
 use Rattle.relation_terms.specs.Heads.{fresh_type, fresh_int, fresh_float, fresh_const}
 use Rattle.type_relations.specs.Arguments.{related_tree}
 use Rattle.type_relations.specs.Lawful.{Asked}
@@ -159,13 +156,16 @@ pub related_concrete : {Key Id Name A : Type 0} (m n : Meaning Key Id Name) (ove
 related_concrete m n over tree x stays h = concrete_as (related_tree over (tree m x)) (related_tree over (tree n x))
     (ap (related_tree over) (stays (tree_known over (tree m x) (concrete_known (related_tree over (tree m x)) h)))) h
 
--- A signature that returns such a type, and a binder of nothing over such a term.
-pub returns_concrete : (x : Bool) (s : Safety) (k : ExternAbi) (ts t : Tree) → ts ≡ cons t nil → IsConcrete t →
-    IsConcrete (node (signature x s k) (cons (node inputs (front ts)) (cons (last ts) nil)))
-returns_concrete x s k ts t is h =
-    let form = λ us ls. node (signature x s k) (cons (node inputs us) (cons ls nil)) in
-    subst (λ us. IsConcrete (form (front us) (last us))) (sym is)
-    (subst (λ b. IsConcrete (form (cond b nil (leaf unknown)) t)) (sym (concrete_known t h)) (tt, (tt, tt), h, tt))
+-- The inputs and the output of a signature that returns such a type and takes nothing, a binder of nothing over such a
+-- term, and the list of one.
+pub returns_concrete : (ts t : Tree) → ts ≡ cons t nil → IsConcrete t → IsConcrete (front ts) × IsConcrete (last ts)
+returns_concrete ts t is h = subst (λ us. IsConcrete (front us) × IsConcrete (last us)) (sym is)
+    (subst (λ b. IsConcrete (cond b nil (leaf unknown))) (sym (concrete_known t h)) tt, h)
 
 pub binds_concrete : (o : Option (List BoundKind)) (t : Tree) → o ≡ Some [] → IsConcrete t → IsConcrete (under o t)
 binds_concrete o t is h = subst (λ p. IsConcrete (under p t)) (sym is) h
+
+pub list_concrete : {X E : Type 0} (res : Result X E) (tree : X → Tree) (t : Tree) →
+    IfOk res (λ k. tree k ≡ cons t nil) → IsConcrete t → IfOk res (λ k. IsConcrete (tree k))
+list_concrete (Ok k) tree t is h = concrete_as (cons t nil) (tree k) is (h, tt)
+list_concrete (Err e) tree t is h = tt
