@@ -1,15 +1,19 @@
 -- Terms that stand in each context.
-use Rattle.std.proofs.Common.{◌≡◌, IsTrue, false, [], Option, sym, ap, subst}
+use Rattle.std.proofs.Common.{◌≡◌, ℕ, suc, cond, IsTrue, false, List, [], Option, Some, Result, Ok, Err, IfOk, sym, ap, subst}
 use Rattle.relation_terms.specs.declared.terms.enums.Variance.{Variance}
 use Rattle.relation_terms.specs.declared.terms.keys.TyKey.{TyKey}
 use Rattle.relation_terms.specs.declared.terms.keys.RegionKey.{RegionKey}
 use Rattle.relation_terms.specs.declared.terms.keys.ArgsKey.{ArgsKey}
 use Rattle.relation_terms.specs.declared.terms.keys.ConstKey.{ConstKey}
 use Rattle.relation_terms.specs.declared.terms.keys.ParamEnvKey.{ParamEnvKey}
-use Rattle.relation_terms.specs.Heads.{Head, Leaf, Atom, variable, bound, placeholder, atom, unknown}
-use Rattle.relation_terms.specs.Trees.{Tree, leaf, node, bind, nil, cons, known, Leaves}
-use Rattle.relation_terms.specs.Meaning.{Meaning, Extends}
+use Rattle.relation_terms.specs.declared.terms.keys.ExistentialPredicatesKey.{ExistentialPredicatesKey}
+use Rattle.relation_terms.specs.declared.terms.fn_sig.FnSig.{FnSig}
+use Rattle.relation_terms.specs.Heads.{BoundKind, Head, Leaf, Atom, variable, bound, placeholder, atom, unknown}
+use Rattle.relation_terms.specs.Trees.{Tree, leaf, node, bind, nil, cons, known, Leaves, front, last}
+use Rattle.relation_terms.specs.Meaning.{Meaning, Extends, signature_tree, under}
+use Rattle.relation_terms.proofs.Stays.{stays_signature}
 use Rattle.type_relations.specs.Relation.{IsValueAtom, StaysWithin}
+use Rattle.type_relations.specs.Bound.{AreBoundAs}
 use Rattle.type_relations.specs.Stores.{Store, IsTermIn, InContext, IsMadeLeaf, IsNamable}
 use Rattle.type_relations.specs.Covered.{IsCovered, IsCoveredAtom}
 use Rattle.relation_terms.specs.Heads.{fresh_type, fresh_int, fresh_float, fresh_const}
@@ -30,6 +34,18 @@ value_atom (fresh_float n) h = absurd h
 value_atom (fresh_const n) h = absurd h
 value_atom x h = tt
 
+-- What is not there is bound as any list says.
+concrete_bound : (ks : List BoundKind) (d : ℕ) (t : Tree) → IsConcrete t → AreBoundAs ks d t
+concrete_bound ks d (leaf (variable k n)) h = absurd h
+concrete_bound ks d (leaf (bound k e i)) h = absurd h
+concrete_bound ks d (leaf (placeholder k u n)) h = absurd h
+concrete_bound ks d (leaf (atom x)) h = tt
+concrete_bound ks d (leaf unknown) h = absurd h
+concrete_bound ks d (node a ts) h = concrete_bound ks d ts h.1
+concrete_bound ks d (bind ls t) h = concrete_bound ks (suc d) t h
+concrete_bound ks d nil h = tt
+concrete_bound ks d (cons t ts) h = (concrete_bound ks d t h.0, concrete_bound ks d ts h.1)
+
 pub concrete_covered : (t : Tree) → IsConcrete t → IsCovered t
 concrete_covered (leaf (variable k n)) h = absurd h
 concrete_covered (leaf (bound k d i)) h = absurd h
@@ -37,7 +53,7 @@ concrete_covered (leaf (placeholder k u n)) h = absurd h
 concrete_covered (leaf (atom x)) h = h
 concrete_covered (leaf unknown) h = absurd h
 concrete_covered (node a ts) h = (h.0, concrete_covered ts h.1)
-concrete_covered (bind ks t) h = absurd h
+concrete_covered (bind ks t) h = (concrete_bound ks 0 t h, concrete_covered t h)
 concrete_covered nil h = tt
 concrete_covered (cons t ts) h = (concrete_covered t h.0, concrete_covered ts h.1)
 
@@ -50,26 +66,26 @@ concrete_leaves P f (leaf (placeholder k u n)) h = absurd h
 concrete_leaves P f (leaf (atom x)) h = f x (value_atom x h)
 concrete_leaves P f (leaf unknown) h = absurd h
 concrete_leaves P f (node a ts) h = concrete_leaves P f ts h.1
-concrete_leaves P f (bind ks t) h = absurd h
+concrete_leaves P f (bind ks t) h = concrete_leaves P f t h
 concrete_leaves P f nil h = tt
 concrete_leaves P f (cons t ts) h = (concrete_leaves P f t h.0, concrete_leaves P f ts h.1)
 
-concrete_within : (t : Tree) → IsConcrete t → StaysWithin 0 t
-concrete_within (leaf (variable k n)) h = absurd h
-concrete_within (leaf (bound k d i)) h = absurd h
-concrete_within (leaf (placeholder k u n)) h = absurd h
-concrete_within (leaf (atom x)) h = tt
-concrete_within (leaf unknown) h = absurd h
-concrete_within (node a ts) h = concrete_within ts h.1
-concrete_within (bind ks t) h = absurd h
-concrete_within nil h = tt
-concrete_within (cons t ts) h = (concrete_within t h.0, concrete_within ts h.1)
+concrete_within : (d : ℕ) (t : Tree) → IsConcrete t → StaysWithin d t
+concrete_within d (leaf (variable k n)) h = absurd h
+concrete_within d (leaf (bound k e i)) h = absurd h
+concrete_within d (leaf (placeholder k u n)) h = absurd h
+concrete_within d (leaf (atom x)) h = tt
+concrete_within d (leaf unknown) h = absurd h
+concrete_within d (node a ts) h = concrete_within d ts h.1
+concrete_within d (bind ks t) h = concrete_within (suc d) t h
+concrete_within d nil h = tt
+concrete_within d (cons t ts) h = (concrete_within d t h.0, concrete_within d ts h.1)
 
 pub concrete_in : (st : Store) (t : Tree) → IsConcrete t → IsTermIn st t
 unfolding IsTermIn InContext
 concrete_in st t h = (
   concrete_leaves (IsMadeLeaf st) (λ x h. h) t h,
-  concrete_within t h,
+  concrete_within 0 t h,
   concrete_leaves (IsNamable st.universe) (λ x h. tt) t h,
 )
 
@@ -121,6 +137,15 @@ module _ {Key Id Name : Type 0} {m n : Meaning Key Id Name} (e : Extends m n) wh
   pub args_concrete : (k : ArgsKey Key) → IsConcrete (m.args k) → IsConcrete (n.args k)
   args_concrete k h = concrete_as (m.args k) (n.args k) (e.args k (concrete_known (m.args k) h)) h
 
+  pub signature_concrete : (s : FnSig Key) → IsConcrete (signature_tree m s) → IsConcrete (signature_tree n s)
+  signature_concrete s h = concrete_as (signature_tree m s) (signature_tree n s)
+      (stays_signature e s (concrete_known (signature_tree m s) h)) h
+
+  pub predicates_concrete : (k : ExistentialPredicatesKey Key) → IsConcrete (m.existential_predicates k) →
+      IsConcrete (n.existential_predicates k)
+  predicates_concrete k h = concrete_as (m.existential_predicates k) (n.existential_predicates k)
+      (e.existential_predicates k (concrete_known (m.existential_predicates k) h)) h
+
   pub const_concrete : (k : ConstKey Key) → IsConcrete (m.const_ k) → IsConcrete (n.const_ k)
   const_concrete k h = concrete_as (m.const_ k) (n.const_ k) (e.const_ k (concrete_known (m.const_ k) h)) h
 
@@ -130,3 +155,17 @@ pub related_concrete : {Key Id Name A : Type 0} (m n : Meaning Key Id Name) (ove
     IsConcrete (related_tree over (tree m x)) → IsConcrete (related_tree over (tree n x))
 related_concrete m n over tree x stays h = concrete_as (related_tree over (tree m x)) (related_tree over (tree n x))
     (ap (related_tree over) (stays (tree_known over (tree m x) (concrete_known (related_tree over (tree m x)) h)))) h
+
+-- The inputs and the output of a signature that returns such a type and takes nothing, a binder of nothing over such a
+-- term, and the list of one.
+pub returns_concrete : (ts t : Tree) → ts ≡ cons t nil → IsConcrete t → IsConcrete (front ts) × IsConcrete (last ts)
+returns_concrete ts t is h = subst (λ us. IsConcrete (front us) × IsConcrete (last us)) (sym is)
+    (subst (λ b. IsConcrete (cond b nil (leaf unknown))) (sym (concrete_known t h)) tt, h)
+
+pub binds_concrete : (o : Option (List BoundKind)) (t : Tree) → o ≡ Some [] → IsConcrete t → IsConcrete (under o t)
+binds_concrete o t is h = subst (λ p. IsConcrete (under p t)) (sym is) h
+
+pub list_concrete : {X E : Type 0} (res : Result X E) (tree : X → Tree) (t : Tree) →
+    IfOk res (λ k. tree k ≡ cons t nil) → IsConcrete t → IfOk res (λ k. IsConcrete (tree k))
+list_concrete (Ok k) tree t is h = concrete_as (cons t nil) (tree k) is (h, tt)
+list_concrete (Err e) tree t is h = tt

@@ -9,6 +9,8 @@ mod contexts;
 #[cfg(test)]
 mod decided;
 #[cfg(test)]
+mod forms;
+#[cfg(test)]
 mod over_items;
 #[cfg(test)]
 mod plain;

@@ -121,7 +121,7 @@ fn related<I: Interner + Drop, T: Relate<I> + Drop>(
 }
 
 // Whether that asks just this of regions.
-fn asks<I: Interner + Drop, T: Relate<I> + Drop>(
+pub(super) fn asks<I: Interner + Drop, T: Relate<I> + Drop>(
     cx: I,
     variance: Variance,
     a: &T,
