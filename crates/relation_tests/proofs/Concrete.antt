@@ -1,5 +1,6 @@
 -- Terms that stand in each context.
-use Rattle.std.proofs.Common.{◌≡◌, ℕ, suc, cond, IsTrue, false, List, [], Option, Some, Result, Ok, Err, IfOk, sym, ap, subst}
+use Rattle.std.proofs.Common.{◌≡◌, ℕ, suc, cond, IsTrue, false, List, [], sym, ap, subst}
+use Rattle.std.proofs.Common.{Option, Some, Result, Ok, Err, IfOk}
 use Rattle.relation_terms.specs.declared.terms.enums.Variance.{Variance}
 use Rattle.relation_terms.specs.declared.terms.keys.TyKey.{TyKey}
 use Rattle.relation_terms.specs.declared.terms.keys.RegionKey.{RegionKey}
