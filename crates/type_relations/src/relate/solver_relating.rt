@@ -30,13 +30,13 @@ pub type RelateGoals<I> = RelateResult<I, Vec<GoalOf<I>>>;
 pub trait RelateExt: InferCtxtLike {
     /// Relates two types, or two others that can be related, at a variance, and answers the goals under which they are
     /// related: regions, constants, patterns, signatures, predicates of trait objects and lists of these, generic
-    /// arguments, terms of projections, lists of arguments, pair by pair and each invariantly, or binders over what is no
-    /// list.
+    /// arguments, terms of projections, lists of arguments, pair by pair and each invariantly, or binders over what is
+    /// no list.
     ///
     /// Both and the environment are the interner's, and the variables in them are the context's. They are related at
-    /// each variance but `Bivariant`; two lists have as many arguments, and each binder binds what stands in its body as
-    /// what its list says it is. Not related yet are terms in which an alias stands, an unevaluated constant or an error;
-    /// a stand-in stands in none.
+    /// each variance but `Bivariant`; two lists have as many arguments, and each binder binds what stands in its body
+    /// as what its list says it is. Not related yet are terms in which an alias stands, an unevaluated constant or an
+    /// error; a stand-in stands in none.
     ///
     /// After `Ok`, each assignment that satisfies what is recorded and makes the goals true relates the two; and each
     /// that satisfied what was recorded and made them one extends to such a one. Each goal asks, in the environment,

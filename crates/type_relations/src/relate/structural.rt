@@ -287,8 +287,9 @@ pub fn signatures<I: Interner, R: TypeRelation<I>>(
     requires decides { (R.state r.old).ambient ≢ Bivariant }
     requires asked { let m = (R.state r.old).meaning in Asked R.manner (R.state r.old) (R.state r.old).ambient
         (signature_tree m a.now) (signature_tree m b.now) }
-    ensures { let m = (R.state r.old).meaning in Related R.manner (R.state r.old) (R.state r.new) (R.state r.old).ambient
-        (signature_tree m a.now) (signature_tree m b.now) (signature_tree (R.state r.new).meaning) result }
+    ensures { let m = (R.state r.old).meaning in Related R.manner (R.state r.old) (R.state r.new)
+        (R.state r.old).ambient (signature_tree m a.now) (signature_tree m b.now)
+        (signature_tree (R.state r.new).meaning) result }
 {
     Ok(the_signature(&relate_parts(r, &Part::Signature(*a), &Part::Signature(*b))?))
 }
@@ -308,8 +309,9 @@ pub fn existentials<I: Interner, R: TypeRelation<I>>(
     requires decides { (R.state r.old).ambient ≢ Bivariant }
     requires asked { let m = (R.state r.old).meaning in Asked R.manner (R.state r.old) (R.state r.old).ambient
         (existential_tree m a.now) (existential_tree m b.now) }
-    ensures { let m = (R.state r.old).meaning in Related R.manner (R.state r.old) (R.state r.new) (R.state r.old).ambient
-        (existential_tree m a.now) (existential_tree m b.now) (existential_tree (R.state r.new).meaning) result }
+    ensures { let m = (R.state r.old).meaning in Related R.manner (R.state r.old) (R.state r.new)
+        (R.state r.old).ambient (existential_tree m a.now) (existential_tree m b.now)
+        (existential_tree (R.state r.new).meaning) result }
 {
     Ok(the_existential(&relate_parts(r, &Part::Existential(*a), &Part::Existential(*b))?))
 }
@@ -329,8 +331,9 @@ pub fn objects<I: Interner, R: TypeRelation<I>>(
     requires decides { (R.state r.old).ambient ≢ Bivariant }
     requires asked { let m = (R.state r.old).meaning in Asked R.manner (R.state r.old) (R.state r.old).ambient
         (node object (m.existential_predicates a.now)) (node object (m.existential_predicates b.now)) }
-    ensures { let m = (R.state r.old).meaning in Related R.manner (R.state r.old) (R.state r.new) (R.state r.old).ambient
-        (node object (m.existential_predicates a.now)) (node object (m.existential_predicates b.now))
+    ensures { let m = (R.state r.old).meaning in Related R.manner (R.state r.old) (R.state r.new)
+        (R.state r.old).ambient (node object (m.existential_predicates a.now))
+        (node object (m.existential_predicates b.now))
         (λ k. node object ((R.state r.new).meaning.existential_predicates k)) result }
 {
     Ok(the_object(&relate_parts(r, &Part::Object(*a), &Part::Object(*b))?))

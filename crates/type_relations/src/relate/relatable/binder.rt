@@ -17,8 +17,8 @@ impl<I: Interner, T: Relate<I> + TypeVisitable<I>> Relate<I> for Binder<I::Key, 
     ghost fits = { λ m a b. BodiesFit T.over T.fits T.tree m };
 
     /// Two that are equal are not opened. Others are related by their bodies, as the relation opens them: at
-    /// `Invariant`, where a body uses what its binder binds, in two rounds, one for each side's variables. The answer is
-    /// the left one.
+    /// `Invariant`, where a body uses what its binder binds, in two rounds, one for each side's variables. The answer
+    /// is the left one.
     fn relate<R: TypeRelation<I>>(r: &mut R, a: &Self, b: &Self) -> RelateResult<I, Self> {
         if a == b {
             return Ok(*a);

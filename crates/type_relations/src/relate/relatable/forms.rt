@@ -32,8 +32,8 @@ impl<I: Interner> Relate<I> for ExistentialPredicate<I::Key, I::Id> {
 
     ghost fits = { λ m a b. Unit {0} };
 
-    /// Two of different forms are `Mismatch`, two auto traits that differ are `Traits`. Of traits and projections this is
-    /// the `relate` of these.
+    /// Two of different forms are `Mismatch`, two auto traits that differ are `Traits`. Of traits and projections this
+    /// is the `relate` of these.
     fn relate<R: TypeRelation<I>>(r: &mut R, a: &Self, b: &Self) -> RelateResult<I, Self> {
         existentials(r, a, b)
     }
@@ -76,8 +76,8 @@ impl<I: Interner> Relate<I> for ExistentialProjection<I::Key, I::Id> {
 
     ghost fits = { λ m a b. Unit {0} };
 
-    /// Two of different items are `ProjectionMismatched`, and two with unlike numbers of arguments `Mismatch`. The terms
-    /// are related first, then the arguments pair by pair, all of them invariantly.
+    /// Two of different items are `ProjectionMismatched`, and two with unlike numbers of arguments `Mismatch`. The
+    /// terms are related first, then the arguments pair by pair, all of them invariantly.
     fn relate<R: TypeRelation<I>>(r: &mut R, a: &Self, b: &Self) -> RelateResult<I, Self> {
         let left = ExistentialPredicate::Projection(*a);
         let right = ExistentialPredicate::Projection(*b);
