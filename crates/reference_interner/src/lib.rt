@@ -429,7 +429,8 @@ impl Interner for RefInterner {
         requires { IsTrue (known (predicate_tree (meaning_in self.old) kind)) }
         ensures grown { Extends (meaning_in self.old) (meaning_in self.new) }
         ensures sure { IfOk result (λ k. IsTrue (known ((meaning_in self.new).predicate k))) }
-        ensures made { IfOk result (λ k. (meaning_in self.new).predicate k ≡ predicate_tree (meaning_in self.old) kind) }
+        ensures made { let tree = predicate_tree (meaning_in self.old) kind in
+            IfOk result (λ k. (meaning_in self.new).predicate k ≡ tree) }
         ensures refused { OnErr result (meaning_in self.new ≡ meaning_in self.old) }
         ensures there { RemakesPredicate (meaning_in self.old) (meaning_in self.new) kind result }
         ensures one_more { node_count self.new ≤ suc (node_count self.old) }

@@ -47,8 +47,8 @@ pub struct ExistentialTraitRef<X, D> {
 }
 
 impl<X, D> ExistentialTraitRef<X, D> {
-    /// The trait with these arguments, which fit it but for the type that implements it. Upstream the interner is handed in
-    /// too, and asserts that.
+    /// The trait with these arguments, which fit it but for the type that implements it. Upstream the interner is handed
+    /// in too, and asserts that.
     pub fn new_from_args(trait_def_id: TraitId<D>, args: ArgsKey<X>) -> ExistentialTraitRef<X, D>
         ensures item { result.def_id ≡ trait_def_id }
         ensures arguments { result.args ≡ args }
@@ -69,8 +69,8 @@ pub struct ExistentialProjection<X, D> {
 }
 
 impl<X, D> ExistentialProjection<X, D> {
-    /// The item with these arguments, which fit it but for the type that implements its trait, and what it is. Upstream the
-    /// interner is handed in too, and asserts that.
+    /// The item with these arguments, which fit it but for the type that implements its trait, and what it is. Upstream
+    /// the interner is handed in too, and asserts that.
     pub fn new_from_args(
         def_id: TraitAssocTermId<D>,
         args: ArgsKey<X>,

@@ -6,8 +6,8 @@ ghost use Rattle.relation_terms.specs.Clauses.{FindsTrait};
 use crate::predicate::{ClauseKind, TraitPredicate};
 use crate::terms::{Binder, Clause, Interner};
 
-/// What a clause says of a trait, under its binder, and `None` exactly where it is no clause of one. The interner has to
-/// know the clause.
+/// What a clause says of a trait, under its binder, and `None` exactly where it is no clause of one. The interner has
+/// to know the clause.
 pub fn as_trait_clause<I: Interner>(
     cx: &I,
     clause: &Clause<I>,

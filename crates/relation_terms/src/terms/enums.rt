@@ -18,8 +18,8 @@ pub enum Variance {
 impl Variance {
     /// The variance of a part where the part varies by `v` with what itself stands at this variance.
     ///
-    /// The function argument of a contravariant place is covariant again; nothing inside an invariant or a bivariant place
-    /// is anything else.
+    /// The function argument of a contravariant place is covariant again; nothing inside an invariant or a bivariant
+    /// place is anything else.
     pub fn xform(self, v: Variance) -> Variance
         ensures { result ≡ xform self v }
     {

@@ -43,8 +43,8 @@ fn is_bound_name(text: &str) -> bool {
     matches!(text.as_bytes().first(), Some(b'\'' | b'^'))
 }
 
-// Writes a placeholder: the number of its universe, and its name, or the place that it has in a binder's list where that
-// named it.
+// Writes a placeholder: the number of its universe, and its name, or the place that it has in a binder's list where
+// that named it.
 pub(super) fn write_placeholder<N: PartialEq, W: Write>(
     names: &[Parameter<N>],
     universe: UniverseIndex,

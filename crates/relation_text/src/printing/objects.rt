@@ -37,8 +37,8 @@ pub(super) fn write_object<I: Interner, W: Write>(
     write_region(cx, texts, around, region, out)
 }
 
-// Writes the predicates of a trait object, with `+` between. What an associated item of a trait is stands in the brackets
-// of the trait where it can.
+// Writes the predicates of a trait object, with `+` between. What an associated item of a trait is stands in the
+// brackets of the trait where it can.
 #[cycle(write_ty)]
 #[tactic(auto, using(crate::proofs::Parts::size_part, crate::proofs::Parts::known_part))]
 pub(super) fn write_object_predicates<I: Interner, W: Write>(

@@ -114,8 +114,9 @@ pub fn write_param<I: Interner, W: Write>(
     out.write_str(name_text(texts.names, &param.name, "_"))
 }
 
-/// Writes a placeholder that stands for a type: `!`, the number of its universe, and its name, or `_` if that has no text.
-/// Where a binder gave the name, which then begins with `'` or `^`, its place in the binder's list stands for it: `!1.0`.
+/// Writes a placeholder that stands for a type: `!`, the number of its universe, and its name, or `_` if that has no
+/// text. Where a binder gave the name, which then begins with `'` or `^`, its place in the binder's list stands for it:
+/// `!1.0`.
 ///
 /// # Errors
 /// `fmt::Error` where `out` refused to take some of the text. What it took before stands.

@@ -1,5 +1,6 @@
 //! How statements are read.
-ghost use Rattle.std.specs.Prelude.{◌≡◌, ◌+◌, ◌<◌, ◌≤◌, ◌↔◌, ◌⊎◌, Err, Some, IfSome, IfNone, IfOk, IfErr, OnOk, length, suc};
+ghost use Rattle.std.specs.Prelude.{◌≡◌, ◌+◌, ◌<◌, ◌≤◌, ◌↔◌, ◌⊎◌, Err, Some, IfSome, IfNone, IfOk, IfErr, OnOk};
+ghost use Rattle.std.specs.Prelude.{length, suc};
 ghost use Rattle.relation_text.specs.Errors.{LiesIn};
 ghost use Rattle.relation_text.specs.Words.{StandsAt};
 ghost use Rattle.relation_text.specs.Trees.{EachBelow};

@@ -209,7 +209,7 @@ pub fn with_output<I: Interner>(
 // All types of a list but the last.
 fn inputs_of<I: Interner>(cx: &I, tys: &Tys<I>) -> Result<Vec<Ty<I>>, OutOfMemory>
     requires { IsTrue (known (front ((I.meaning cx.now).tys tys.now))) }
-    ensures { IfOk result (λ list. list_tree (I.meaning cx.now).ty list.items ≡ front ((I.meaning cx.now).tys tys.now)) }
+    ensures { IfOk result (λ it. list_tree (I.meaning cx.now).ty it.items ≡ front ((I.meaning cx.now).tys tys.now)) }
 {
     let list = cx.tys(tys);
     let mut inputs = Vec::new(cx.alloc());
@@ -220,8 +220,8 @@ fn inputs_of<I: Interner>(cx: &I, tys: &Tys<I>) -> Result<Vec<Ty<I>>, OutOfMemor
 /// The list of these members, which stands as that one does: `members` has as many as `like`, each of the sort of the
 /// one at its place.
 ///
-/// The interner has to know both. Answers `OutOfMemory` where a growth was refused, which leaves the meaning of all keys
-/// as it was.
+/// The interner has to know both. Answers `OutOfMemory` where a growth was refused, which leaves the meaning of all
+/// keys as it was.
 pub fn make_parts<I: Interner>(
     cx: &mut I,
     like: &PartsOf<I>,

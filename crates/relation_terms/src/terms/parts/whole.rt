@@ -2,8 +2,10 @@
 ghost use Rattle.std.specs.Prelude.{◌≡◌, ◌<◌, IsTrue, IfOk};
 ghost use Rattle.relation_terms.specs.Trees.{known, count, nth, list_tree, IsList};
 ghost use Rattle.relation_terms.specs.Meaning.{Extends, signature_tree, existential_tree};
-ghost use Rattle.relation_terms.specs.declared.terms.part_kind.Part.TheVariants.{Binder as BinderPart, Signature as SignaturePart};
-ghost use Rattle.relation_terms.specs.declared.terms.part_kind.Part.TheVariants.{Inputs as InputsPart, Object as ObjectPart};
+ghost use Rattle.relation_terms.specs.declared.terms.part_kind.Part.TheVariants.{Binder as BinderPart};
+ghost use Rattle.relation_terms.specs.declared.terms.part_kind.Part.TheVariants.{Signature as SignaturePart};
+ghost use Rattle.relation_terms.specs.declared.terms.part_kind.Part.TheVariants.{Inputs as InputsPart};
+ghost use Rattle.relation_terms.specs.declared.terms.part_kind.Part.TheVariants.{Object as ObjectPart};
 ghost use Rattle.relation_terms.specs.declared.terms.part_kind.Part.TheVariants.{Existential as ExistentialPart};
 ghost use Rattle.relation_terms.specs.Orders.{list_order, order_of};
 ghost use Rattle.relation_terms.specs.Parts.{part_tree, parts_tree, part_sort, Fit, over};
