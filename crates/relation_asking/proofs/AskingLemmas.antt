@@ -12,10 +12,10 @@ use Rattle.relation_terms.specs.Heads.{arguments, VarKind, type_var, int_var, fl
 use Rattle.relation_terms.specs.Trees.{Tree, node, known, list_tree}
 use Rattle.relation_terms.specs.Meaning.{Meaning, Extends, arg_tree}
 use Rattle.relation_terms.proofs.Stays.{stays_arg}
-use Rattle.relation_tools.specs.declared.error.RelateFault.{RelateFault}
-use Rattle.relation_tools.specs.Faults.{KnowsFault}
-use Rattle.type_relations.specs.Goals.{KnowsGoal}
-use Rattle.type_relations.specs.Stores.{IsTermIn}
+use Rattle.relation_folds.specs.declared.error.RelateFault.{RelateFault}
+use Rattle.relation_folds.specs.Faults.{KnowsFault}
+use Rattle.relation_contexts.specs.Goals.{KnowsGoal}
+use Rattle.relation_contexts.specs.Stores.{IsTermIn}
 use Rattle.relation_reference.specs.declared.context.inner.InferCtxtInner.{InferCtxtInner}
 use Rattle.relation_reference.specs.Tables.{store_of}
 use Rattle.relation_asking.proofs.Counting.{entries_count}

@@ -3,8 +3,8 @@ use Rattle.std.proofs.Common.{◌≡◌, ℕ, zero, suc, ◌<◌, ◌≤◌, sym
 use Rattle.std.proofs.lemmas.List.{length-append}
 use Rattle.relation_terms.specs.Heads.{VarKind, type_var, int_var, float_var, const_var, region_var}
 use Rattle.relation_terms.specs.Meaning.{Meaning}
-use Rattle.type_relations.specs.Stores.{unbound}
-use Rattle.type_relations.specs.Steps.{MakesVariable, IsLater}
+use Rattle.relation_contexts.specs.Stores.{unbound}
+use Rattle.relation_contexts.specs.Steps.{MakesVariable, IsLater}
 use Rattle.relation_reference.specs.declared.context.inner.InferCtxtInner.{InferCtxtInner}
 use Rattle.relation_reference.specs.Tables.{store_of}
 use Rattle.relation_reference.proofs.Making.{entries_long}

@@ -7,9 +7,9 @@ use Rattle.relation_terms.specs.Heads.{BoundKind, Head, signature, inputs, exist
 use Rattle.relation_terms.specs.Heads.{unknown}
 use Rattle.relation_terms.specs.Trees.{Tree, leaf, node, nil, cons, known, list_tree, front, last}
 use Rattle.relation_terms.specs.Meaning.{under}
-use Rattle.type_relations.specs.Relation.{StaysWithin}
-use Rattle.type_relations.specs.Bound.{BindByLists}
-use Rattle.type_relations.specs.Covered.{IsCovered, IsCoveredLeaf, IsCoveredHead}
+use Rattle.relation_contexts.specs.Relation.{StaysWithin}
+use Rattle.relation_contexts.specs.Bound.{BindByLists}
+use Rattle.relation_contexts.specs.Covered.{IsCovered, IsCoveredLeaf, IsCoveredHead}
 use Rattle.relation_text.specs.declared.reading.tree.ItemSort.{ItemSort}
 use Rattle.relation_text.specs.declared.reading.tree.ItemSort.TheVariants as sort
 use Rattle.relation_text.specs.declared.naming.program.Term.{Term}

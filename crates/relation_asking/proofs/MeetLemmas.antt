@@ -9,11 +9,11 @@ use Rattle.relation_asking.specs.declared.visiting.Collects.{Collects}
 use Rattle.relation_asking.specs.Args.{same_arg}
 use Rattle.relation_asking.specs.Meets.{answer_at, Meets, AllKnown, Asks}
 use Rattle.relation_asking.proofs.PutLemmas.{Compares, answer_means}
-use Rattle.relation_tools.specs.declared.visit.Visit.{Visit}
+use Rattle.relation_folds.specs.declared.visit.Visit.{Visit}
 use Rattle.relation_terms.specs.Parts.{parts_of}
 use Rattle.relation_terms.specs.Orders.{in_order, order_of}
-use Rattle.relation_tools.specs.Visits.{Flow, Walks, deeper, entered, skipped, stopped}
-use Rattle.relation_tools.specs.Visits.{passed_leaf, passed, in_binder, no_part, last_part, next_part}
+use Rattle.relation_folds.specs.Visits.{Flow, Walks, deeper, entered, skipped, stopped}
+use Rattle.relation_folds.specs.Visits.{passed_leaf, passed, in_binder, no_part, last_part, next_part}
 
 -- One visitor goes as another, seen by a map, where it does so at each term: what holds before a term holds behind it,
 -- and what is wanted holds before where it holds behind.

@@ -2,7 +2,7 @@
 use Rattle.std.proofs.Common.{◌≡◌, ◌++◌, Bool, true, false, IsTrue, cond, List, [], ◌∷◌, Option, Some, IfSome, refl, sym, ap₂, subst, map}
 use Rattle.std.specs.List.{AllZip}
 use Rattle.std.proofs.lemmas.Bool.{and_parts}
-use Rattle.relation_tools.specs.declared.visit.Visit.TheVariants.{Enter, Skip, Stop}
+use Rattle.relation_folds.specs.declared.visit.Visit.TheVariants.{Enter, Skip, Stop}
 use Rattle.relation_terms.specs.Heads.{Sort, type_sort, region_sort, const_sort, Admits, leaf_sort, head_sort}
 use Rattle.relation_terms.specs.Trees.{Tree, leaf, node, known, list_tree, IsTerm}
 use Rattle.relation_terms.specs.Meaning.{Meaning, arg_tree}

@@ -4,8 +4,8 @@ use Rattle.std.proofs.lemmas.List.{length-map, get_or-map}
 use Rattle.relation_terms.specs.Heads.{type_var, int_var, float_var, const_var}
 use Rattle.relation_terms.specs.Meaning.{Meaning}
 use Rattle.relation_terms.specs.declared.predicate.RegionConstraint.{RegionConstraint}
-use Rattle.type_relations.specs.Stores.{ConstraintIn}
-use Rattle.type_relations.specs.Constraints.{constraint_of}
+use Rattle.relation_contexts.specs.Stores.{ConstraintIn}
+use Rattle.relation_contexts.specs.Constraints.{constraint_of}
 use Rattle.relation_reference.specs.declared.context.inner.InferCtxtInner.{InferCtxtInner}
 use Rattle.relation_reference.specs.Variables.{entry_of_value}
 use Rattle.relation_reference.specs.Tables.{store_of, IsLawful}

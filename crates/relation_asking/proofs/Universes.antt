@@ -4,7 +4,7 @@ use Rattle.std.proofs.lemmas.List.{append-nil, append_assoc, replicate-append-re
 use Rattle.relation_terms.specs.Heads.{VarKind, VarKind_discrete, type_var, int_var, float_var, const_var, region_var}
 use Rattle.relation_terms.specs.declared.terms.numbers.UniverseIndex.{UniverseIndex}
 use Rattle.relation_terms.specs.Meaning.{Meaning}
-use Rattle.type_relations.specs.Steps.{MakesVariable}
+use Rattle.relation_contexts.specs.Steps.{MakesVariable}
 use Rattle.relation_reference.specs.declared.context.inner.InferCtxtInner.{InferCtxtInner}
 use Rattle.relation_reference.specs.Tables.{store_of}
 use Rattle.relation_text.specs.declared.naming.program.Variables.{Variables}

@@ -15,11 +15,11 @@ use Rattle.relation_reference.specs.declared.context.inner.InferCtxtInner.{Infer
 use Rattle.relation_reference.specs.declared.context.inner.Variable.{Variable}
 use Rattle.relation_reference.specs.declared.context.inner.VariableValue.TheVariants.{Known}
 use Rattle.relation_reference.specs.Variables.{value_at, universes_of}
-use Rattle.relation_tools.specs.declared.error.RelateFault.{RelateFault}
-use Rattle.relation_tools.specs.Faults.{KnowsFault}
-use Rattle.type_relations.specs.Covered.{IsCovered}
-use Rattle.type_relations.specs.Relation.{StaysWithin}
-use Rattle.type_relations.specs.Goals.{KnowsGoal}
+use Rattle.relation_folds.specs.declared.error.RelateFault.{RelateFault}
+use Rattle.relation_folds.specs.Faults.{KnowsFault}
+use Rattle.relation_contexts.specs.Covered.{IsCovered}
+use Rattle.relation_contexts.specs.Relation.{StaysWithin}
+use Rattle.relation_contexts.specs.Goals.{KnowsGoal}
 use Rattle.relation_text.specs.declared.naming.program.Variables.{Variables}
 use Rattle.relation_asking.specs.declared.context.VariableKind.{VariableKind}
 use Rattle.relation_asking.specs.declared.context.VariableKind.TheVariants.{Ty, Int, Float, Const, Region}

@@ -3,7 +3,7 @@ use Rattle.std.specs.Prelude.{◌≡◌, ℕ, suc, ◌+◌, ◌≤◌, List, [],
 use Rattle.std.specs.Prelude.{slice_get, slice_range}
 use Rattle.relation_terms.specs.Heads.{Sort, region_sort, type_sort, const_sort, bound_sort, Leaf, bound, unknown}
 use Rattle.relation_terms.specs.Trees.{Tree, leaf, node, bind, nil, cons}
-use Rattle.type_relations.specs.Bound.{BindByLists}
+use Rattle.relation_contexts.specs.Bound.{BindByLists}
 use Rattle.relation_text.specs.declared.naming.program.Parts.{Parts}
 use Rattle.relation_text.specs.declared.naming.program.Term.{Term}
 use Rattle.relation_text.specs.declared.naming.program.Term.TheVariants as term

@@ -5,9 +5,9 @@ use Rattle.relation_terms.specs.Trees.{Tree, known, list_tree}
 use Rattle.relation_terms.specs.Meaning.{Meaning, arg_tree}
 use Rattle.relation_terms.specs.declared.terms.generic_arg.GenericArgKind.{GenericArgKind}
 use Rattle.relation_asking.specs.declared.visiting.Collects.{Collects}
-use Rattle.relation_tools.specs.declared.visit.Visit.{Visit}
-use Rattle.relation_tools.specs.declared.visit.Visit.TheVariants.{Enter, Skip, Stop}
-use Rattle.relation_tools.specs.Visits.{Flow}
+use Rattle.relation_folds.specs.declared.visit.Visit.{Visit}
+use Rattle.relation_folds.specs.declared.visit.Visit.TheVariants.{Enter, Skip, Stop}
+use Rattle.relation_folds.specs.Visits.{Flow}
 use Rattle.relation_asking.specs.Codes.{same_tree}
 
 -- One of the things is the same as another.

@@ -4,7 +4,7 @@ use Rattle.std.specs.Prelude.{slice_get, slice_range, length, ◌==◌, vec_len}
 use Rattle.relation_terms.specs.Heads.{VarKind, Leaf, variable, bound, placeholder, atom, unknown, type_var, int_var, float_var}
 use Rattle.relation_terms.specs.Heads.{const_var, region_var}
 use Rattle.relation_terms.specs.Trees.{Tree, Leaves}
-use Rattle.type_relations.specs.Relation.{IsValueAtom}
+use Rattle.relation_contexts.specs.Relation.{IsValueAtom}
 use Rattle.relation_asking.specs.declared.binding.Uses.{Uses}
 use Rattle.relation_asking.specs.declared.needs.Needs.{Needs}
 use Rattle.relation_text.specs.declared.reading.tree.ItemSort.{ItemSort}

@@ -2,8 +2,8 @@
 ghost use Rattle.std.specs.Prelude.{◌≡◌, ◌≢◌, ℕ, suc, ◌<◌, ◌≤◌, max, IfNone, IfOk, IfErr, OnOk};
 ghost use Rattle.relation_terms.specs.Heads.{VarKind};
 ghost use Rattle.relation_terms.specs.Meaning.{Extends};
-ghost use Rattle.relation_tools.specs.Faults.{KnowsFault};
-ghost use Rattle.type_relations.specs.Contexts.{KnowsEnv, RegistersGoals};
+ghost use Rattle.relation_folds.specs.Faults.{KnowsFault};
+ghost use Rattle.relation_contexts.specs.Contexts.{KnowsEnv, RegistersGoals};
 ghost use Rattle.type_relations.specs.Relating.{KnowsTerm, TakesTerm, HasTerm, AnswersTerms, KeepsEqual, TellsApart};
 ghost use Rattle.relation_reference.specs.Tables.{IsLawful};
 ghost use Rattle.relation_asking.specs.Needs.{Reaches};
@@ -11,11 +11,11 @@ ghost use Rattle.std.specs.List.{All};
 ghost use Rattle.relation_asking.specs.Asking.{Has, HasStated, IsAskable, MakesIn, var_kind, variables_in};
 
 use crate::needs::Needs;
+use relation_contexts::infer_ctxt::InferCtxtLike;
 use relation_reference::context::RefCtxt;
 use relation_terms::terms::{Interner, OutOfMemory, ParamEnv, Span, Variance};
 use relation_text::naming::Variables;
 use std::fmt::{self, Write};
-use type_relations::infer_ctxt::InferCtxtLike;
 use type_relations::relate::Relate;
 use type_relations::relate::solver_relating::{RelateExt, RelateGoals};
 

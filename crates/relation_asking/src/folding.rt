@@ -2,15 +2,15 @@
 ghost use Rattle.std.specs.Prelude.{◌≡◌, IsTrue, IfSome, IfOk, slice_range};
 ghost use Rattle.relation_terms.specs.Trees.{known};
 ghost use Rattle.relation_terms.specs.Meaning.{Extends, arg_tree};
-ghost use Rattle.relation_tools.specs.Folds.{folded};
+ghost use Rattle.relation_folds.specs.Folds.{folded};
 ghost use Rattle.relation_asking.specs.Args.{alike, same_arg};
 ghost use Rattle.relation_asking.specs.Puts.{first_put, IsMade, AreMade, ArePuts, tree_put, tree_of};
 
 use crate::comparing::{alike, same_arg};
+use relation_folds::fold::{Fold, TypeFoldable, TypeFolder};
 use relation_terms::terms::{Const, GenericArg, GenericArgKind, Interner, OutOfMemory, Region, Ty};
 use relation_text::building::key_at;
 use relation_text::naming::{Parts, Put};
-use relation_tools::fold::{Fold, TypeFoldable, TypeFolder};
 use std::alloc::Global;
 
 // Puts terms for others that are equal to what it is asked about, the first that fits.

@@ -4,16 +4,17 @@ ghost use Rattle.std.specs.List.{All};
 ghost use Rattle.relation_terms.specs.Trees.{known};
 ghost use Rattle.relation_terms.specs.Meaning.{term_tree};
 ghost use Rattle.relation_terms.specs.Predicates.{predicate_kind_tree};
-ghost use Rattle.relation_tools.specs.Faults.{KnowsBoth, KnowsError};
-ghost use Rattle.type_relations.specs.Goals.{KnowsGoal};
-ghost use Rattle.type_relations.specs.Stores.{ConstraintIn};
-ghost use Rattle.type_relations.specs.Constraints.{constraint_of};
+ghost use Rattle.relation_folds.specs.Faults.{KnowsBoth, KnowsError};
+ghost use Rattle.relation_contexts.specs.Goals.{KnowsGoal};
+ghost use Rattle.relation_contexts.specs.Stores.{ConstraintIn};
+ghost use Rattle.relation_contexts.specs.Constraints.{constraint_of};
 ghost use Rattle.relation_reference.specs.Tables.{IsLawful};
 ghost use Rattle.relation_reference.specs.Variables.{value_at};
 ghost use Rattle.relation_reference.specs.declared.context.inner.VariableValue.TheVariants.{Known};
 ghost use Rattle.relation_reference.specs.RefCtxt.{store_in};
 ghost use Rattle.relation_asking.specs.Asking.{AreBoundKnown, KnowsRelated};
 
+use relation_folds::error::{ExpectedFound, RelateFault, TypeError, TypeErrorOf};
 use relation_reference::context::{RefCtxt, Variable, VariableValue};
 use relation_terms::predicate::{ClauseKind, PredicateKind, RegionConstraint};
 use relation_terms::terms::{Const, DefId, Interner, TermKind, Ty};
@@ -21,7 +22,6 @@ use relation_text::printing::{
     TextsOf, write_arg, write_const, write_item_name, write_object_predicates, write_region,
     write_ty,
 };
-use relation_tools::error::{ExpectedFound, RelateFault, TypeError, TypeErrorOf};
 use std::fmt::{self, Write};
 use type_relations::relate::solver_relating::{GoalOf, RelateGoals};
 

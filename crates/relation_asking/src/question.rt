@@ -20,15 +20,15 @@ use crate::quick::{KeyOf, ask_args_may_unify, ask_key, ask_may_unify, write_key}
 use crate::sized_keys::SizedKeys;
 use crate::visiting::{Met, visit, write_met};
 use crate::walking::{numbers_at, write_walked};
+use relation_folds::error::RelateFault;
+use relation_folds::visit::{has_escaping_bound_vars, has_non_region_infer, is_known_rigid};
 use relation_reference::context::RefCtxt;
 use relation_terms::predicate::OutlivesPredicate;
 use relation_terms::terms::{GenericArg, GenericArgKind, Interner, Keys, Ty, Variance};
 use relation_text::building::{key_at, keys_at, ty_at};
 use relation_text::naming::{Parts, Put, Question, QuestionKind, Variables};
 use relation_text::printing::{TextsOf, write_arg};
-use relation_tools::error::RelateFault;
 use relation_tools::outlives::Component;
-use relation_tools::visit::{has_escaping_bound_vars, has_non_region_infer, is_known_rigid};
 use std::alloc::Global;
 use std::fmt::{self, Write};
 use type_relations::relate::solver_relating::RelateGoals;

@@ -2,14 +2,14 @@
 ghost use Rattle.std.specs.Prelude.{◌≡◌, IsTrue, IfSome, [], map};
 ghost use Rattle.relation_terms.specs.Trees.{known};
 ghost use Rattle.relation_terms.specs.Meaning.{arg_tree};
-ghost use Rattle.relation_tools.specs.Visits.{Walks};
+ghost use Rattle.relation_folds.specs.Visits.{Walks};
 ghost use Rattle.relation_asking.specs.Args.{same_arg};
 ghost use Rattle.relation_asking.specs.Meets.{is_in, answer_at, Meets, AllKnown, Asks, flow};
 
 use crate::comparing::same_arg;
+use relation_folds::visit::{TypeVisitable, TypeVisitor, Visit};
 use relation_terms::terms::{Const, GenericArg, GenericArgKind, Interner, Region, Ty};
 use relation_text::printing::{TextsOf, write_arg};
-use relation_tools::visit::{TypeVisitable, TypeVisitor, Visit};
 use std::fmt::{self, Write};
 use std::ops::ControlFlow;
 

@@ -10,18 +10,18 @@ use Rattle.relation_terms.specs.Trees.{Tree, leaf, known, list_tree}
 use Rattle.relation_terms.specs.Meaning.{Meaning, Extends, arg_tree, under}
 use Rattle.relation_terms.specs.declared.terms.generic_arg.GenericArgKind.{GenericArgKind}
 use Rattle.relation_terms.proofs.Stays.{stays_arg}
-use Rattle.relation_tools.specs.Shifts.{opened, knows_all}
-use Rattle.relation_tools.specs.Visits.{bound_var_escapes}
-use Rattle.type_relations.specs.Relation.{AvoidsAll}
-use Rattle.type_relations.specs.Steps.{ChangesNothing, ArePlaceholders, MakesVariable}
-use Rattle.type_relations.specs.Stores.{Store}
-use Rattle.type_relations.specs.Contexts.{Context}
-use Rattle.type_relations.specs.ContextCalls.{KeepsRest}
-use Rattle.type_relations.specs.Generalising.{MakesUnbound}
-use Rattle.type_relations.specs.Bound.{BindsByList}
-use Rattle.type_relations.specs.Binders.{kinds_in, variable_kind, MakesEach, makes_none, makes_next}
-use Rattle.type_relations.specs.Binders.{EntersAs, InstantiatesAs, EntersBinder, InstantiatesWithInfer}
-use Rattle.type_relations.proofs.Opened.{opened_inst, placeholders_stand, variables_stand, none_escapes, some_escapes}
+use Rattle.relation_folds.specs.Shifts.{opened, knows_all}
+use Rattle.relation_folds.specs.Visits.{bound_var_escapes}
+use Rattle.relation_contexts.specs.Relation.{AvoidsAll}
+use Rattle.relation_contexts.specs.Steps.{ChangesNothing, ArePlaceholders, MakesVariable}
+use Rattle.relation_contexts.specs.Stores.{Store}
+use Rattle.relation_contexts.specs.Contexts.{Context}
+use Rattle.relation_contexts.specs.ContextCalls.{KeepsRest}
+use Rattle.relation_contexts.specs.Generalising.{MakesUnbound}
+use Rattle.relation_contexts.specs.Bound.{BindsByList}
+use Rattle.relation_contexts.specs.Binders.{kinds_in, variable_kind, MakesEach, makes_none, makes_next}
+use Rattle.relation_contexts.specs.Binders.{EntersAs, InstantiatesAs, EntersBinder, InstantiatesWithInfer}
+use Rattle.relation_contexts.proofs.Opened.{opened_inst, placeholders_stand, variables_stand, none_escapes, some_escapes}
 use Rattle.relation_reference.specs.Opened.{placeholders_from, MakesOne}
 use Rattle.relation_reference.proofs.Grows.{both}
 

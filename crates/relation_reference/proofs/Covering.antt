@@ -5,14 +5,14 @@ use Rattle.relation_terms.specs.Heads.{variable, bound, placeholder, atom, unkno
 use Rattle.relation_terms.specs.Trees.{Tree, leaf, node, bind, nil, cons, Assign, apply, count, nth}
 use Rattle.relation_terms.specs.Parts.{parts_of}
 use Rattle.relation_terms.specs.Meaning.{Meaning}
-use Rattle.type_relations.specs.Stores.{Store, Entry, unbound, same_as, bound_to, entry_of, entry_term, bound_term}
-use Rattle.type_relations.specs.Stores.{IsSound, resolve, rounds_for, all_taken, resolved}
-use Rattle.type_relations.specs.Relation.{StaysWithin}
-use Rattle.type_relations.specs.Bound.{AreBoundAs}
-use Rattle.type_relations.specs.Covered.{IsCovered}
-use Rattle.type_relations.proofs.Covered.{covered_nth}
-use Rattle.type_relations.proofs.StoreCalls.{resolve_within}
-use Rattle.type_relations.proofs.Resolved.{resolve_free, resolve_bound, HasTerm, is_free, is_bound, has_term}
+use Rattle.relation_contexts.specs.Stores.{Store, Entry, unbound, same_as, bound_to, entry_of, entry_term, bound_term}
+use Rattle.relation_contexts.specs.Stores.{IsSound, resolve, rounds_for, all_taken, resolved}
+use Rattle.relation_contexts.specs.Relation.{StaysWithin}
+use Rattle.relation_contexts.specs.Bound.{AreBoundAs}
+use Rattle.relation_contexts.specs.Covered.{IsCovered}
+use Rattle.relation_contexts.proofs.Covered.{covered_nth}
+use Rattle.relation_contexts.proofs.StoreCalls.{resolve_within}
+use Rattle.relation_contexts.proofs.Resolved.{resolve_free, resolve_bound, HasTerm, is_free, is_bound, has_term}
 use Rattle.relation_reference.specs.declared.context.inner.InferCtxtInner.{InferCtxtInner}
 use Rattle.relation_reference.specs.Tables.{store_of, MayBeBoundTo, IsLawful}
 

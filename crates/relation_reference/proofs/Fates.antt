@@ -7,10 +7,10 @@ use Rattle.relation_terms.specs.declared.terms.keys.RegionKey.{RegionKey}
 use Rattle.relation_terms.specs.Heads.{region_kind, type_kind, const_kind, region_sort, BoundKind, bound_kind, bound_sort, VarKind, type_var, int_var, float_var, const_var, region_var, static_region, early_region, Leaf, leaf_sort, var_sort, variable, bound, placeholder, atom, unknown}
 use Rattle.relation_terms.specs.Trees.{Tree, leaf}
 use Rattle.relation_terms.specs.Parts.{part_sort, tree_sort}
-use Rattle.type_relations.specs.Stores.{Store}
-use Rattle.type_relations.specs.Generalising.{Stays}
-use Rattle.type_relations.specs.Steps.{MakesVariable}
-use Rattle.type_relations.specs.Covered.{IsCovered}
+use Rattle.relation_contexts.specs.Stores.{Store}
+use Rattle.relation_contexts.specs.Generalising.{Stays}
+use Rattle.relation_contexts.specs.Steps.{MakesVariable}
+use Rattle.relation_contexts.specs.Covered.{IsCovered}
 use Rattle.relation_reference.specs.declared.context.generalising.Fate.TheVariants.{ByParts}
 use Rattle.relation_reference.specs.declared.context.memory.TermVid.{TermVid}
 use Rattle.relation_reference.specs.declared.context.memory.TermVid.TheVariants.{Ty as TyTerm, Const as ConstTerm}

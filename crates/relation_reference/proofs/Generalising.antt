@@ -11,23 +11,23 @@ use Rattle.relation_terms.specs.Heads.{region_kind, type_kind, const_kind, regio
 use Rattle.relation_terms.specs.Trees.{Tree, leaf, node, bind, nil, cons, Leaves, known, IsList, count, nth}
 use Rattle.relation_terms.specs.Meaning.{Meaning, Extends}
 use Rattle.relation_terms.specs.Parts.{part_tree, part_sort, tree_sort, parts_of, over, Fit}
-use Rattle.relation_tools.specs.declared.error.TypeError.{TypeError}
-use Rattle.relation_tools.specs.declared.error.TypeError.TheVariants.{Mismatch}
-use Rattle.relation_tools.specs.declared.error.RelateFault.{RelateFault}
-use Rattle.relation_tools.specs.declared.error.RelateFault.TheVariants.{Memory, Budget, Unrelated}
-use Rattle.type_relations.specs.Relation.{Items, sort_of, StaysWithin}
-use Rattle.type_relations.specs.Lawful.{declared_by, items_of}
-use Rattle.type_relations.specs.Bound.{AreBoundAs}
-use Rattle.type_relations.specs.Covered.{IsCovered, IsCoveredHead}
-use Rattle.type_relations.specs.Stores.{Store, universe_of, IsMade, IsMadeLeaf, InContext, IsSound}
-use Rattle.type_relations.specs.Steps.{MakesVariable}
-use Rattle.type_relations.specs.Generalising.{Stays, gives_way_to, Met, Stage, Turn, any_part, new_part, variance_of_part, IsPlainHead, Generalised, met_before, met_first, no_type, stays, gives_way, by_parts, in_binder, no_parts, next_part, MakesUnbound, makes_none, makes_one, Obstacle, cycle, beyond, IsNoObstacle, StopsAt, at_itself, at_placeholder, in_parts, in_body, in_first, in_others}
-use Rattle.type_relations.proofs.Trees.{Leaves_map}
-use Rattle.type_relations.proofs.NewVariables.{Adds, adds, makes_then}
-use Rattle.type_relations.proofs.Generalising.{gives_no_number}
-use Rattle.type_relations.proofs.GeneralisingOnce.{still_new}
-use Rattle.type_relations.proofs.GeneralisingParts.{PartsDone, none_done, one_done, form_done, body_done}
-use Rattle.type_relations.proofs.Lists.{firsts, firsts_all, snoc}
+use Rattle.relation_folds.specs.declared.error.TypeError.{TypeError}
+use Rattle.relation_folds.specs.declared.error.TypeError.TheVariants.{Mismatch}
+use Rattle.relation_folds.specs.declared.error.RelateFault.{RelateFault}
+use Rattle.relation_folds.specs.declared.error.RelateFault.TheVariants.{Memory, Budget, Unrelated}
+use Rattle.relation_contexts.specs.Relation.{Items, sort_of, StaysWithin}
+use Rattle.relation_contexts.specs.Lawful.{declared_by, items_of}
+use Rattle.relation_contexts.specs.Bound.{AreBoundAs}
+use Rattle.relation_contexts.specs.Covered.{IsCovered, IsCoveredHead}
+use Rattle.relation_contexts.specs.Stores.{Store, universe_of, IsMade, IsMadeLeaf, InContext, IsSound}
+use Rattle.relation_contexts.specs.Steps.{MakesVariable}
+use Rattle.relation_contexts.specs.Generalising.{Stays, gives_way_to, Met, Stage, Turn, any_part, new_part, variance_of_part, IsPlainHead, Generalised, met_before, met_first, no_type, stays, gives_way, by_parts, in_binder, no_parts, next_part, MakesUnbound, makes_none, makes_one, Obstacle, cycle, beyond, IsNoObstacle, StopsAt, at_itself, at_placeholder, in_parts, in_body, in_first, in_others}
+use Rattle.relation_contexts.proofs.Trees.{Leaves_map}
+use Rattle.relation_contexts.proofs.NewVariables.{Adds, adds, makes_then}
+use Rattle.relation_contexts.proofs.Generalising.{gives_no_number}
+use Rattle.relation_contexts.proofs.GeneralisingOnce.{still_new}
+use Rattle.relation_contexts.proofs.GeneralisingParts.{PartsDone, none_done, one_done, form_done, body_done}
+use Rattle.relation_contexts.proofs.Lists.{firsts, firsts_all, snoc}
 use Rattle.relation_reference.specs.declared.context.generalising.MetKey.{MetKey}
 use Rattle.relation_reference.specs.declared.context.generalising.Fate.TheVariants.{ByParts}
 use Rattle.relation_reference.specs.declared.context.variables.RefCtxt.{RefCtxt}

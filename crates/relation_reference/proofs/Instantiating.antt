@@ -8,24 +8,24 @@ use Rattle.relation_terms.specs.Heads.{region_kind, type_sort, const_sort, bound
 use Rattle.relation_terms.specs.Trees.{Tree, leaf, node, bind, nil, cons, apply, IsTerm}
 use Rattle.relation_terms.specs.Meaning.{Meaning, Extends}
 use Rattle.relation_terms.specs.Parts.{part_tree}
-use Rattle.relation_tools.specs.declared.error.TypeError.{TypeError}
-use Rattle.relation_tools.specs.declared.error.RelateFault.{RelateFault}
-use Rattle.relation_tools.specs.declared.error.RelateFault.TheVariants.{Memory, Budget, Unrelated}
-use Rattle.relation_tools.specs.Faults.{KnowsError}
-use Rattle.type_relations.specs.Relation.{Items, StaysWithin}
-use Rattle.type_relations.specs.Lawful.{items_of}
-use Rattle.type_relations.specs.Covered.{IsCovered}
-use Rattle.type_relations.specs.ErasureLaws.{IsTypeOrConst}
-use Rattle.type_relations.specs.Stores.{Store, unbound, bound_to, entry_of, universe_of, IsMade, MayStandFor, InContext, IsTermIn, resolved}
-use Rattle.type_relations.specs.Steps.{BindsTo}
-use Rattle.type_relations.specs.Generalising.{gives_way_to, Stage, Turn, any_part, new_part, Generalised, met_before, met_first, no_type, stays, gives_way, by_parts, in_binder, variance_for, InstantiatesBy, MakesUnbound, makes_none, Obstacle, cycle, beyond, StopsAt}
-use Rattle.type_relations.specs.ContextCalls.{Instantiated, ObstacleError}
-use Rattle.type_relations.proofs.NewVariables.{Adds, adds}
-use Rattle.type_relations.proofs.Standing.{term_context, term_within}
-use Rattle.type_relations.proofs.StoreCalls.{resolved_in}
-use Rattle.type_relations.proofs.Numbers.{no_type_variable}
-use Rattle.type_relations.proofs.Variables.{covered_formed_const}
-use Rattle.type_relations.proofs.BindingGeneralised.{generalising_instantiates}
+use Rattle.relation_folds.specs.declared.error.TypeError.{TypeError}
+use Rattle.relation_folds.specs.declared.error.RelateFault.{RelateFault}
+use Rattle.relation_folds.specs.declared.error.RelateFault.TheVariants.{Memory, Budget, Unrelated}
+use Rattle.relation_folds.specs.Faults.{KnowsError}
+use Rattle.relation_contexts.specs.Relation.{Items, StaysWithin}
+use Rattle.relation_contexts.specs.Lawful.{items_of}
+use Rattle.relation_contexts.specs.Covered.{IsCovered}
+use Rattle.relation_contexts.specs.ErasureLaws.{IsTypeOrConst}
+use Rattle.relation_contexts.specs.Stores.{Store, unbound, bound_to, entry_of, universe_of, IsMade, MayStandFor, InContext, IsTermIn, resolved}
+use Rattle.relation_contexts.specs.Steps.{BindsTo}
+use Rattle.relation_contexts.specs.Generalising.{gives_way_to, Stage, Turn, any_part, new_part, Generalised, met_before, met_first, no_type, stays, gives_way, by_parts, in_binder, variance_for, InstantiatesBy, MakesUnbound, makes_none, Obstacle, cycle, beyond, StopsAt}
+use Rattle.relation_contexts.specs.ContextCalls.{Instantiated, ObstacleError}
+use Rattle.relation_contexts.proofs.NewVariables.{Adds, adds}
+use Rattle.relation_contexts.proofs.Standing.{term_context, term_within}
+use Rattle.relation_contexts.proofs.StoreCalls.{resolved_in}
+use Rattle.relation_contexts.proofs.Numbers.{no_type_variable}
+use Rattle.relation_contexts.proofs.Variables.{covered_formed_const}
+use Rattle.relation_contexts.proofs.BindingGeneralised.{generalising_instantiates}
 use Rattle.relation_reference.specs.declared.context.inner.InferCtxtInner.{InferCtxtInner}
 use Rattle.relation_reference.specs.declared.context.inner.Variable.{Variable}
 use Rattle.relation_reference.specs.Variables.{universe_at}

@@ -16,13 +16,13 @@ use Rattle.relation_terms.specs.declared.terms.numbers.TyVid.{TyVid}
 use Rattle.relation_terms.specs.declared.terms.numbers.IntVid.{IntVid}
 use Rattle.relation_terms.specs.declared.terms.numbers.FloatVid.{FloatVid}
 use Rattle.relation_terms.specs.declared.terms.numbers.ConstVid.{ConstVid}
-use Rattle.type_relations.specs.Stores.{Store, unbound, same_as, bound_to, entry_of, entry_term, IsMade, IsSound, InContext}
-use Rattle.type_relations.specs.Steps.{LeadsTo, here, next}
-use Rattle.type_relations.specs.Errors.{IsReadAs, itself, by_class, by_binding}
-use Rattle.type_relations.specs.Covered.{IsCovered}
-use Rattle.type_relations.specs.Parts.{IsFormed, IsFormedConst}
-use Rattle.type_relations.proofs.Standing.{made_of_term, term_context}
-use Rattle.type_relations.proofs.Classes.{class_made}
+use Rattle.relation_contexts.specs.Stores.{Store, unbound, same_as, bound_to, entry_of, entry_term, IsMade, IsSound, InContext}
+use Rattle.relation_contexts.specs.Steps.{LeadsTo, here, next}
+use Rattle.relation_contexts.specs.Errors.{IsReadAs, itself, by_class, by_binding}
+use Rattle.relation_contexts.specs.Covered.{IsCovered}
+use Rattle.relation_contexts.specs.Parts.{IsFormed, IsFormedConst}
+use Rattle.relation_contexts.proofs.Standing.{made_of_term, term_context}
+use Rattle.relation_contexts.proofs.Classes.{class_made}
 use Rattle.relation_reference.specs.declared.context.inner.Variable.{Variable}
 use Rattle.relation_reference.specs.declared.context.inner.VariableValue.{VariableValue}
 use Rattle.relation_reference.specs.declared.context.inner.VariableValue.TheVariants.{Unknown, SameAs, Known}
@@ -32,10 +32,10 @@ use Rattle.relation_reference.specs.declared.context.memory.TermVid.TheVariants.
 use Rattle.relation_reference.specs.Remembering.{vid_kind, vid_number}
 use Rattle.relation_reference.specs.Variables.{value_at, root_by, root_at, term_by, term_at, entry_of_value, entries_of, trees_of, keys_of}
 use Rattle.relation_reference.specs.Tables.{store_of, MayBeBoundTo, IsRooted, IsLawful}
-use Rattle.type_relations.specs.Resolving.{IsRoot, IsShallow, root, stays_bound, formed, IsShallowTy, ty_root, no_ty_variable, IsShallowConst, const_root, no_variable}
+use Rattle.relation_contexts.specs.Resolving.{IsRoot, IsShallow, root, stays_bound, formed, IsShallowTy, ty_root, no_ty_variable, IsShallowConst, const_root, no_variable}
 use Rattle.relation_reference.proofs.Grows.{entry_at, bound_known}
 use Rattle.relation_reference.proofs.Covering.{may_covered}
-use Rattle.type_relations.proofs.Variables.{kind_variable, kind_no_const, const_no_variable}
+use Rattle.relation_contexts.proofs.Variables.{kind_variable, kind_no_const, const_no_variable}
 
 -- The other is a variable of the context.
 pub leads_made : (st : Store) → IsSound st → (k : VarKind) (n p : ℕ) → entry_of st k n ≡ same_as p → IsMade st k p

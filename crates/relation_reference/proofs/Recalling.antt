@@ -5,7 +5,7 @@ use Rattle.std.specs.Cmp.{IsEquivalence}
 use Rattle.std.proofs.lemmas.Bool.{false≢true}
 use Rattle.relation_terms.specs.declared.terms.enums.Variance.TheVariants.{Covariant, Contravariant, Invariant, Bivariant}
 use Rattle.relation_terms.specs.contracts.terms.enums.VariancePartialEq.TheImpl as variance_impl
-use Rattle.type_relations.proofs.Lists.{both_known}
+use Rattle.relation_contexts.proofs.Lists.{both_known}
 use Rattle.std.specs.HashMap.{HashMap, get, IsEmpty}
 use Rattle.std.specs.Map.{lookup}
 use Rattle.relation_terms.specs.declared.terms.enums.Variance.{Variance}
@@ -14,7 +14,7 @@ use Rattle.relation_terms.specs.Trees.{Tree, known}
 use Rattle.relation_terms.specs.Interning.{AreEqualAsTrees}
 use Rattle.relation_terms.specs.Meaning.{Meaning, Extends}
 use Rattle.relation_terms.proofs.Stays.{knows_as}
-use Rattle.type_relations.specs.Generalising.{Met}
+use Rattle.relation_contexts.specs.Generalising.{Met}
 use Rattle.relation_reference.specs.declared.context.generalising.MetKey.{MetKey}
 use Rattle.relation_reference.specs.Generalises.{met_at, IsSure, WasMet, IsFound, Keeps}
 

@@ -12,8 +12,8 @@ use Rattle.relation_terms.specs.declared.terms.part_kind.Part.TheVariants.{Regio
 use Rattle.relation_terms.specs.declared.terms.part_kind.Part.TheVariants.{Object}
 use Rattle.relation_terms.proofs.Stays.{knows_as}
 use Rattle.relation_terms.proofs.Parts.{stays_part}
-use Rattle.type_relations.specs.Stores.{Store, resolved}
-use Rattle.relation_tools.specs.Folds.{part_rank}
+use Rattle.relation_contexts.specs.Stores.{Store, resolved}
+use Rattle.relation_folds.specs.Folds.{part_rank}
 use Rattle.relation_reference.specs.declared.context.memory.PartKey.{PartKey}
 use Rattle.relation_reference.specs.Remembering.{key_of, ComesTo, IsKept, Remembers}
 

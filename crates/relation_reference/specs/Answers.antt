@@ -2,8 +2,8 @@
 use Rattle.std.specs.Prelude.{◌≡◌, ℕ}
 use Rattle.relation_terms.specs.Heads.{VarKind}
 use Rattle.relation_terms.specs.Trees.{Tree}
-use Rattle.type_relations.specs.Stores.{Store, unbound, bound_to, entry_of}
-use Rattle.type_relations.specs.Steps.{LeadsTo}
+use Rattle.relation_contexts.specs.Stores.{Store, unbound, bound_to, entry_of}
+use Rattle.relation_contexts.specs.Steps.{LeadsTo}
 
 -- A variable's class is bound to a term, or to none.
 abbrev pub HasBinding : Store → VarKind → ℕ → Tree → Type 0

@@ -11,21 +11,21 @@ use Rattle.relation_terms.specs.Heads.{Leaf, variable, placeholder}
 use Rattle.relation_terms.specs.Trees.{Tree, leaf, Leaves, known}
 use Rattle.relation_terms.specs.Meaning.{Meaning, Extends}
 use Rattle.relation_terms.specs.Parts.{part_tree, part_sort}
-use Rattle.relation_tools.specs.declared.error.TypeError.{TypeError}
-use Rattle.relation_tools.specs.declared.error.TypeError.TheVariants.{Mismatch}
-use Rattle.relation_tools.specs.declared.error.RelateFault.{RelateFault}
-use Rattle.relation_tools.specs.declared.error.RelateFault.TheVariants.{Memory, Budget, Unrelated}
-use Rattle.type_relations.specs.Relation.{Items}
-use Rattle.type_relations.specs.Lawful.{items_of}
-use Rattle.type_relations.specs.Stores.{Store, universe_of, InContext, IsSound}
-use Rattle.type_relations.specs.Generalising.{Stays, gives_way_to, Met, Stage, Turn, any_part, Generalised}
-use Rattle.type_relations.specs.Generalising.{MakesUnbound}
-use Rattle.type_relations.specs.Generalising.{Obstacle, cycle, beyond, IsNoObstacle, StopsAt}
+use Rattle.relation_folds.specs.declared.error.TypeError.{TypeError}
+use Rattle.relation_folds.specs.declared.error.TypeError.TheVariants.{Mismatch}
+use Rattle.relation_folds.specs.declared.error.RelateFault.{RelateFault}
+use Rattle.relation_folds.specs.declared.error.RelateFault.TheVariants.{Memory, Budget, Unrelated}
+use Rattle.relation_contexts.specs.Relation.{Items}
+use Rattle.relation_contexts.specs.Lawful.{items_of}
+use Rattle.relation_contexts.specs.Stores.{Store, universe_of, InContext, IsSound}
+use Rattle.relation_contexts.specs.Generalising.{Stays, gives_way_to, Met, Stage, Turn, any_part, Generalised}
+use Rattle.relation_contexts.specs.Generalising.{MakesUnbound}
+use Rattle.relation_contexts.specs.Generalising.{Obstacle, cycle, beyond, IsNoObstacle, StopsAt}
 use Rattle.relation_reference.specs.declared.context.generalising.MetKey.{MetKey}
 use Rattle.relation_reference.specs.declared.context.generalising.Fate.{Fate}
 use Rattle.relation_reference.specs.declared.context.generalising.Fate.TheVariants.{ByParts, GivesWay, Cycle, Beyond}
 use Rattle.relation_reference.specs.declared.context.variables.RefCtxt.{RefCtxt}
-use Rattle.type_relations.specs.ContextCalls.{MarksNew}
+use Rattle.relation_contexts.specs.ContextCalls.{MarksNew}
 use Rattle.relation_reference.specs.RefCtxt.{context_in}
 use Rattle.relation_reference.specs.Tables.{store_of, IsLawful}
 

@@ -4,7 +4,7 @@ use Rattle.relation_terms.specs.Trees.{Tree}
 use Rattle.relation_terms.specs.declared.terms.enums.IntTy.TheVariants.{Isize, I8, I16, I32, I64, I128}
 use Rattle.relation_terms.specs.declared.terms.enums.UintTy.TheVariants.{Usize, U8, U16, U32, U64, U128}
 use Rattle.relation_terms.specs.declared.terms.enums.FloatTy.TheVariants.{F16, F32, F64, F128}
-use Rattle.type_relations.specs.NumberValues.{int_tree, uint_tree, float_tree}
+use Rattle.relation_contexts.specs.NumberValues.{int_tree, uint_tree, float_tree}
 
 -- All of them.
 abbrev pub number_trees : List Tree

@@ -2,8 +2,8 @@
 use Rattle.std.specs.Prelude.{◌≡◌, ℕ, suc, List, [], ◌∷◌}
 use Rattle.relation_terms.specs.Heads.{BoundKind, VarKind, placeholder, variable}
 use Rattle.relation_terms.specs.Trees.{Tree, leaf}
-use Rattle.type_relations.specs.Steps.{MakesVariable}
-use Rattle.type_relations.specs.Stores.{Store}
+use Rattle.relation_contexts.specs.Steps.{MakesVariable}
+use Rattle.relation_contexts.specs.Stores.{Store}
 
 -- Placeholders of a universe for the variables of a list, numbered by their places from `n` on.
 abbrev pub placeholders_from : ℕ → ℕ → List BoundKind → List Tree

@@ -2,8 +2,8 @@
 use Rattle.std.specs.Prelude.{◌≡◌, []}
 use Rattle.relation_terms.specs.Trees.{Tree, apply}
 use Rattle.relation_terms.specs.Meaning.{Meaning}
-use Rattle.type_relations.specs.Stores.{Store, resolved}
-use Rattle.type_relations.specs.Contexts.{Context}
+use Rattle.relation_contexts.specs.Stores.{Store, resolved}
+use Rattle.relation_contexts.specs.Contexts.{Context}
 use Rattle.relation_reference.specs.declared.context.variables.RefCtxt.{RefCtxt}
 use Rattle.relation_reference.specs.declared.context.inner.InferCtxtInner.{InferCtxtInner}
 use Rattle.relation_reference.specs.Tables.{store_of, context_of}

@@ -6,11 +6,11 @@ use Rattle.relation_terms.specs.Trees.{Tree, known, apply}
 use Rattle.relation_terms.specs.Meaning.{Meaning}
 use Rattle.relation_terms.specs.Parts.{part_sort, part_key, part_tree}
 use Rattle.relation_terms.specs.declared.terms.part_kind.Part.{Part}
-use Rattle.relation_tools.specs.Folds.{part_rank}
+use Rattle.relation_folds.specs.Folds.{part_rank}
 use Rattle.relation_reference.specs.declared.context.memory.PartKey.{PartKey}
 use Rattle.relation_reference.specs.declared.context.memory.TermVid.{TermVid}
 use Rattle.relation_reference.specs.declared.context.memory.TermVid.TheVariants.{Ty, Const}
-use Rattle.type_relations.specs.Stores.{Store, resolved}
+use Rattle.relation_contexts.specs.Stores.{Store, resolved}
 
 -- What a term comes to by what is recorded, at every depth.
 abbrev pub resolved_by : Store → Tree → Tree

@@ -3,13 +3,13 @@ use Rattle.std.specs.Prelude.{◌≡◌, ◌≢◌, ℕ, ◌<◌, ◌≤◌, fal
 use Rattle.relation_terms.specs.Heads.{VarKind, type_var, int_var, float_var, const_var, region_var, variable}
 use Rattle.relation_terms.specs.Trees.{Tree, leaf, nil}
 use Rattle.relation_terms.specs.Meaning.{Meaning}
-use Rattle.type_relations.specs.Stores.{Store, entry_of, same_as, bound_to, IsSound}
-use Rattle.type_relations.specs.Generalising.{NumbersNameNothing}
-use Rattle.type_relations.specs.Constraints.{constraint_of}
-use Rattle.type_relations.specs.Parts.{IsFormed, IsFormedConst}
-use Rattle.type_relations.specs.Covered.{IsCovered}
-use Rattle.type_relations.specs.Contexts.{Context}
-use Rattle.type_relations.specs.ContextCalls.{HasCoveredBindings}
+use Rattle.relation_contexts.specs.Stores.{Store, entry_of, same_as, bound_to, IsSound}
+use Rattle.relation_contexts.specs.Generalising.{NumbersNameNothing}
+use Rattle.relation_contexts.specs.Constraints.{constraint_of}
+use Rattle.relation_contexts.specs.Parts.{IsFormed, IsFormedConst}
+use Rattle.relation_contexts.specs.Covered.{IsCovered}
+use Rattle.relation_contexts.specs.Contexts.{Context}
+use Rattle.relation_contexts.specs.ContextCalls.{HasCoveredBindings}
 use Rattle.relation_reference.specs.declared.context.inner.InferCtxtInner.{InferCtxtInner}
 use Rattle.relation_reference.specs.Variables.{entries_of, universes_of, trees_of}
 use Rattle.relation_reference.specs.Numbers.{number_trees}

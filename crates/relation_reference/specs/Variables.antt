@@ -2,7 +2,7 @@
 use Rattle.std.specs.Prelude.{ℕ, List, map, get_or, eqb, cond, Option, Some, None}
 use Rattle.relation_terms.specs.Trees.{Tree}
 use Rattle.relation_terms.specs.declared.terms.numbers.UniverseIndex.{UniverseIndex}
-use Rattle.type_relations.specs.Stores.{Entry, unbound, same_as, bound_to}
+use Rattle.relation_contexts.specs.Stores.{Entry, unbound, same_as, bound_to}
 use Rattle.relation_reference.specs.declared.context.inner.Variable.{Variable}
 use Rattle.relation_reference.specs.declared.context.inner.VariableValue.{VariableValue}
 use Rattle.relation_reference.specs.declared.context.inner.VariableValue.TheVariants.{Unknown, SameAs, Known}

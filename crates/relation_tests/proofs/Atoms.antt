@@ -2,9 +2,9 @@
 use Rattle.std.proofs.Common.{◌≡◌, ℕ, ap, ◌∙◌, sym, subst}
 use Rattle.relation_terms.specs.Heads.{type_var, slice, Atom, atom, variable}
 use Rattle.relation_terms.specs.Trees.{Tree, leaf, node, cons, nil}
-use Rattle.type_relations.specs.Relation.{IsValueAtom}
-use Rattle.type_relations.specs.Stores.{Store, IsMade, IsTermIn, InContext}
-use Rattle.type_relations.specs.Steps.{MakesVariable}
+use Rattle.relation_contexts.specs.Relation.{IsValueAtom}
+use Rattle.relation_contexts.specs.Stores.{Store, IsMade, IsTermIn, InContext}
+use Rattle.relation_contexts.specs.Steps.{MakesVariable}
 use Rattle.relation_reference.proofs.Marking.{made_new}
 
 pub atom_in : (st : Store) (t : Tree) (x : Atom) → IsValueAtom x → t ≡ leaf (atom x) → IsTermIn st t

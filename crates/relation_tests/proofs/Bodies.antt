@@ -7,13 +7,13 @@ use Rattle.relation_terms.specs.declared.predicate.RegionConstraint.{RegionConst
 use Rattle.relation_terms.specs.Heads.{BoundKind, environment, variable, bound, placeholder, atom, unknown}
 use Rattle.relation_terms.specs.Trees.{Tree, leaf, node, bind, nil, cons, Leaves}
 use Rattle.relation_terms.specs.Meaning.{Meaning, under}
-use Rattle.type_relations.specs.Relation.{StaysWithin}
-use Rattle.type_relations.specs.Stores.{Store, IsSound, IsTermIn, InContext}
-use Rattle.type_relations.specs.Lawful.{Asked, items_of}
+use Rattle.relation_contexts.specs.Relation.{StaysWithin}
+use Rattle.relation_contexts.specs.Stores.{Store, IsSound, IsTermIn, InContext}
+use Rattle.relation_contexts.specs.Lawful.{Asked, items_of}
 use Rattle.type_relations.specs.Rounds.{OneRound, one_round, RoundLeads, Opened}
-use Rattle.type_relations.proofs.Opening.{unused_step}
+use Rattle.relation_contexts.proofs.Opening.{unused_step}
 use Rattle.type_relations.proofs.OpeningBoth.{body_scope, unused_stand_ins, bodies_error, bodies_smaller}
-use Rattle.type_relations.proofs.Passing.{passes_nowhere}
+use Rattle.relation_contexts.proofs.Passing.{passes_nowhere}
 use Rattle.relation_tests.specs.Plain.{IsUnbound, plain_store, plain_state, plain_manner}
 
 -- Nothing escapes from what is not bound.

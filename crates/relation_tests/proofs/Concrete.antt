@@ -13,17 +13,17 @@ use Rattle.relation_terms.specs.Heads.{BoundKind, Head, Leaf, Atom, variable, bo
 use Rattle.relation_terms.specs.Trees.{Tree, leaf, node, bind, nil, cons, known, Leaves, front, last}
 use Rattle.relation_terms.specs.Meaning.{Meaning, Extends, signature_tree, under}
 use Rattle.relation_terms.proofs.Stays.{stays_signature}
-use Rattle.type_relations.specs.Relation.{IsValueAtom, StaysWithin}
-use Rattle.type_relations.specs.Bound.{AreBoundAs}
-use Rattle.type_relations.specs.Stores.{Store, IsTermIn, InContext, IsMadeLeaf, IsNamable}
-use Rattle.type_relations.specs.Covered.{IsCovered, IsCoveredAtom}
+use Rattle.relation_contexts.specs.Relation.{IsValueAtom, StaysWithin}
+use Rattle.relation_contexts.specs.Bound.{AreBoundAs}
+use Rattle.relation_contexts.specs.Stores.{Store, IsTermIn, InContext, IsMadeLeaf, IsNamable}
+use Rattle.relation_contexts.specs.Covered.{IsCovered, IsCoveredAtom}
 use Rattle.relation_terms.specs.Heads.{fresh_type, fresh_int, fresh_float, fresh_const}
 use Rattle.type_relations.specs.Arguments.{related_tree}
-use Rattle.type_relations.specs.Lawful.{Asked}
+use Rattle.relation_contexts.specs.Lawful.{Asked}
 use Rattle.type_relations.proofs.Relatable.{tree_known}
 use Rattle.relation_tests.specs.Plain.{IsUnbound, plain_store, plain_state, plain_manner}
 use Rattle.relation_tests.specs.Concrete.{IsConcrete}
-use Rattle.type_relations.specs.Contexts.{Context}
+use Rattle.relation_contexts.specs.Contexts.{Context}
 use Rattle.type_relations.specs.Solving.{solving_in, solver_manner}
 use Rattle.relation_reference.proofs.Grows.{known_of_term}
 

@@ -5,9 +5,9 @@ use Rattle.relation_terms.specs.Heads.{region_kind, bound_kind, Atom, bound, ato
 use Rattle.relation_terms.specs.Trees.{Tree, leaf, bind, known}
 use Rattle.relation_terms.specs.Meaning.{Meaning, Extends, under}
 use Rattle.relation_terms.specs.declared.terms.keys.BoundVarsKey.{BoundVarsKey}
-use Rattle.type_relations.specs.Relation.{IsValueAtom}
-use Rattle.type_relations.specs.Stores.{Store, IsTermIn, InContext}
-use Rattle.type_relations.specs.Bound.{BindsByList}
+use Rattle.relation_contexts.specs.Relation.{IsValueAtom}
+use Rattle.relation_contexts.specs.Stores.{Store, IsTermIn, InContext}
+use Rattle.relation_contexts.specs.Bound.{BindsByList}
 
 -- A binder that may be opened.
 pub record MayOpen (st : Store) (b : Tree) : Type 0 where

@@ -12,33 +12,33 @@ use Rattle.relation_terms.specs.Heads.{placeholder, atom, unknown}
 use Rattle.relation_terms.specs.Trees.{Tree, leaf, node, bind, nil, cons, known, IsTerm, Assign, apply}
 use Rattle.relation_terms.specs.Meaning.{Meaning}
 use Rattle.relation_terms.proofs.Stays.{stays_same}
-use Rattle.relation_tools.specs.declared.error.RelateFault.{RelateFault}
-use Rattle.relation_tools.specs.declared.error.RelateFault.TheVariants.{Memory}
-use Rattle.type_relations.specs.Relation.{Interpretation, Rel, RegionRule, regions, sort_of, at}
-use Rattle.type_relations.specs.Stores.{IsTermIn, IsRegionIn, ConstraintIn, ConstraintHolds, Satisfies}
-use Rattle.type_relations.specs.Goals.{GoalInContext, Holds, MakesOneTree}
-use Rattle.type_relations.specs.Steps.{AddsConstraint}
-use Rattle.type_relations.specs.Outcomes.{Outcome, Exact}
-use Rattle.type_relations.specs.Measures.{Goes}
-use Rattle.type_relations.specs.Parts.{IsFormed}
-use Rattle.type_relations.specs.Lawful.{items_of, Passes, Related, items_in}
-use Rattle.type_relations.specs.Constraints.{constraint_at, constraint_of}
+use Rattle.relation_folds.specs.declared.error.RelateFault.{RelateFault}
+use Rattle.relation_folds.specs.declared.error.RelateFault.TheVariants.{Memory}
+use Rattle.relation_contexts.specs.Relation.{Interpretation, Rel, RegionRule, regions, sort_of, at}
+use Rattle.relation_contexts.specs.Stores.{IsTermIn, IsRegionIn, ConstraintIn, ConstraintHolds, Satisfies}
+use Rattle.relation_contexts.specs.Goals.{GoalInContext, Holds, MakesOneTree}
+use Rattle.relation_contexts.specs.Steps.{AddsConstraint}
+use Rattle.relation_contexts.specs.Outcomes.{Outcome, Exact}
+use Rattle.relation_contexts.specs.Measures.{Goes}
+use Rattle.relation_contexts.specs.Parts.{IsFormed}
+use Rattle.relation_contexts.specs.Lawful.{items_of, Passes, Related, items_in}
+use Rattle.relation_contexts.specs.Constraints.{constraint_at, constraint_of}
 use Rattle.relation_tests.specs.Plain.{as_is, plain_store, plain_state, plain_manner}
-use Rattle.type_relations.proofs.Full.{full_itself, full_by}
-use Rattle.type_relations.proofs.Trees.{all_leaves, apply_own, own_other}
+use Rattle.relation_contexts.proofs.Full.{full_itself, full_by}
+use Rattle.relation_contexts.proofs.Trees.{all_leaves, apply_own, own_other}
 use Rattle.type_relations.proofs.Constraints.{asked_in, asked_relates, asked_met}
-use Rattle.type_relations.proofs.Standing.{made_of_term, term_within, term_sort_of}
-use Rattle.type_relations.proofs.Growing.{constraint_sound, constraint_is_later, constraint_bound, constraint_weight}
-use Rattle.type_relations.proofs.Growing.{constraint_holds, constraint_keeps}
-use Rattle.type_relations.proofs.Passing.{passes_nowhere}
-use Rattle.type_relations.proofs.Answering.{may_itself}
-use Rattle.type_relations.proofs.Erased.{erase_region}
-use Rattle.type_relations.proofs.OneUniverse.{keeps_pair, standing_keeps, binds_itself}
+use Rattle.relation_contexts.proofs.Standing.{made_of_term, term_within, term_sort_of}
+use Rattle.relation_contexts.proofs.Growing.{constraint_sound, constraint_is_later, constraint_bound, constraint_weight}
+use Rattle.relation_contexts.proofs.Growing.{constraint_holds, constraint_keeps}
+use Rattle.relation_contexts.proofs.Passing.{passes_nowhere}
+use Rattle.relation_contexts.proofs.Answering.{may_itself}
+use Rattle.relation_contexts.proofs.Erased.{erase_region}
+use Rattle.relation_contexts.proofs.OneUniverse.{keeps_pair, standing_keeps, binds_itself}
 use Rattle.relation_reference.proofs.Grows.{known_of_term}
 use Rattle.relation_terms.proofs.Stays.{stays_arg}
 use Rattle.relation_terms.specs.Meaning.{Extends}
-use Rattle.type_relations.specs.Lawful.{WithMeaning, RegisteredIn}
-use Rattle.type_relations.specs.Stores.{Store, IsSound, ConstraintIn, outlives_constraint, equal_constraint}
+use Rattle.relation_contexts.specs.Lawful.{WithMeaning, RegisteredIn}
+use Rattle.relation_contexts.specs.Stores.{Store, IsSound, ConstraintIn, outlives_constraint, equal_constraint}
 use Rattle.relation_terms.specs.declared.predicate.RegionConstraint.TheVariants.{Outlives, Eq}
 use Rattle.std.proofs.Common.{ap, ap₂, ◌∷◌}
 use Rattle.std.proofs.lemmas.List.Elements.{All-head, All-tail}

@@ -1,7 +1,7 @@
 -- Terms that stand in each context.
 use Rattle.relation_terms.specs.Heads.{atom}
 use Rattle.relation_terms.specs.Trees.{Tree, leaf, node, bind, nil, cons}
-use Rattle.type_relations.specs.Covered.{IsCoveredAtom, IsCoveredHead}
+use Rattle.relation_contexts.specs.Covered.{IsCoveredAtom, IsCoveredHead}
 
 -- Neither a variable stands in the term nor what stands for one, no binder's variable is used, and its forms have rules.
 abbrev pub IsConcrete : Tree → Type 0

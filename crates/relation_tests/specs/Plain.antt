@@ -5,10 +5,10 @@ use Rattle.relation_terms.specs.declared.predicate.RegionConstraint.{RegionConst
 use Rattle.relation_terms.specs.Heads.{environment, Leaf, variable, bound}
 use Rattle.relation_terms.specs.Trees.{leaf, node, nil, Assign}
 use Rattle.relation_terms.specs.Meaning.{Meaning}
-use Rattle.type_relations.specs.Stores.{Store, IsSound}
-use Rattle.type_relations.specs.Constraints.{constraint_of}
-use Rattle.type_relations.specs.declared.relate.StructurallyRelateAliases.TheVariants.{Yes}
-use Rattle.type_relations.specs.Lawful.{State, Settings, Manners}
+use Rattle.relation_contexts.specs.Stores.{Store, IsSound}
+use Rattle.relation_contexts.specs.Constraints.{constraint_of}
+use Rattle.relation_contexts.specs.declared.relate.StructurallyRelateAliases.TheVariants.{Yes}
+use Rattle.relation_contexts.specs.Lawful.{State, Settings, Manners}
 
 -- Aliases are related by their items and arguments, arguments of items at declared variances at invariance too, and no
 -- goal is left to a solver.

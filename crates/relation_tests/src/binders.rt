@@ -2,17 +2,17 @@
 ghost use Rattle.std.specs.Prelude.{◌≡◌, [], ◌∷◌, Some, IfOk};
 ghost use Rattle.relation_terms.specs.Heads.{region_kind, bound_kind};
 ghost use Rattle.relation_terms.specs.declared.terms.region_kind.RegionKind.TheVariants.{ReBound};
-ghost use Rattle.type_relations.specs.ContextCalls.{Grows};
+ghost use Rattle.relation_contexts.specs.ContextCalls.{Grows};
 
 use crate::contexts::{NameOf, make_char, make_region};
 use reference_interner::{RefInterner, SymbolId};
+use relation_contexts::infer_ctxt::InferCtxtLike;
 use relation_reference::context::RefCtxt;
 use relation_terms::terms::{
     Binder, BoundRegion, BoundVar, BoundVariableKind, BoundVars, DebruijnIndex, Interner,
     OutOfMemory, Placeholder, Region, RegionKind, RegionVid, UniverseIndex,
 };
 use std::test::Fail;
-use type_relations::infer_ctxt::InferCtxtLike;
 
 // The list of a binder that binds one region.
 fn make_bound_vars<C: InferCtxtLike>(

@@ -4,10 +4,12 @@ ghost use Rattle.relation_terms.specs.Heads.{type_var, int_var, float_var, const
 ghost use Rattle.relation_terms.specs.Heads.{atom, char_type, const_param, slice};
 ghost use Rattle.relation_terms.specs.Trees.{leaf, node, cons, nil};
 ghost use Rattle.relation_terms.specs.Meaning.{region_tree};
-ghost use Rattle.type_relations.specs.Contexts.{KnowsTy};
-ghost use Rattle.type_relations.specs.ContextCalls.{IsUnresolved, Grows};
+ghost use Rattle.relation_contexts.specs.Contexts.{KnowsTy};
+ghost use Rattle.relation_contexts.specs.ContextCalls.{IsUnresolved, Grows};
 
 use reference_interner::{RefInterner, SymbolId};
+use relation_contexts::infer_ctxt::InferCtxtLike;
+use relation_folds::error::RelateResult;
 use relation_reference::context::RefCtxt;
 use relation_terms::predicate::OutlivesPredicate;
 use relation_terms::terms::{
@@ -15,9 +17,7 @@ use relation_terms::terms::{
     Interner, Keys, OutOfMemory, ParamConst, Region, RegionKind, RegionVid, Ty, TyKind, TyVid,
     UniverseIndex, Variance,
 };
-use relation_tools::error::RelateResult;
 use std::test::Fail;
-use type_relations::infer_ctxt::InferCtxtLike;
 use type_relations::relate::StructurallyRelateAliases;
 
 // The universe of a variable that is made in a new context.

@@ -1,9 +1,9 @@
 //! A related and an unrelated pair of each form, at covariance, contravariance and invariance.
 
+use relation_laws::decided::{SmallHead, SmallLeaf, SmallParts, SmallTerm, related};
 use relation_terms::terms::{FloatTy, IntTy, Mutability, OutOfMemory, UintTy, Variance};
 use std::alloc::Global;
 use std::test::Fail;
-use type_relations::decided::{SmallHead, SmallLeaf, SmallParts, SmallTerm, related};
 
 type Made = Result<SmallTerm, OutOfMemory>;
 

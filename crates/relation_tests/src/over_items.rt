@@ -5,18 +5,18 @@ ghost use Rattle.relation_terms.specs.Trees.{node, known};
 ghost use Rattle.relation_terms.specs.Meaning.{Extends};
 ghost use Rattle.relation_terms.specs.declared.terms.enums.Variance.TheVariants.{Bivariant};
 ghost use Rattle.reference_interner.specs.Adding.{meaning_in};
-ghost use Rattle.type_relations.specs.Lawful.{Asked};
+ghost use Rattle.relation_contexts.specs.Lawful.{Asked};
 ghost use Rattle.relation_tests.specs.Concrete.{IsConcrete};
 ghost use Rattle.relation_tests.specs.Plain.{plain_state, plain_manner};
 
 use crate::plain::PlainRelation;
 use crate::relating::{add_contravariant, make_args, make_two, outlives};
 use reference_interner::{ItemId, NodeKey, RefInterner, SymbolId};
+use relation_folds::error::RelateResult;
 use relation_terms::predicate::RegionConstraint;
 use relation_terms::terms::{
     AdtId, ArgsKey, DefId, GenericArgs, Interner, OutOfMemory, Ty, TyKey, TyKind, Variance,
 };
-use relation_tools::error::RelateResult;
 use std::test::Fail;
 use type_relations::relate::relate_ty_args;
 

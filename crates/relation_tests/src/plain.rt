@@ -5,20 +5,20 @@ ghost use Rattle.std.specs.Prelude.{◌≡◌, ◌≢◌, [], All, IfOk, map};
 ghost use Rattle.relation_terms.specs.declared.terms.enums.Variance.TheVariants.{Bivariant};
 ghost use Rattle.relation_terms.specs.Heads.{environment};
 ghost use Rattle.relation_terms.specs.Trees.{node, nil};
-ghost use Rattle.type_relations.specs.Relation.{Interpretation, Rel, at};
-ghost use Rattle.type_relations.specs.Stores.{ConstraintHolds, IsSound};
-ghost use Rattle.type_relations.specs.Lawful.{Asked, items_of};
-ghost use Rattle.type_relations.specs.Constraints.{constraint_at, constraint_of};
+ghost use Rattle.relation_contexts.specs.Relation.{Interpretation, Rel, at};
+ghost use Rattle.relation_contexts.specs.Stores.{ConstraintHolds, IsSound};
+ghost use Rattle.relation_contexts.specs.Lawful.{Asked, items_of};
+ghost use Rattle.relation_contexts.specs.Constraints.{constraint_at, constraint_of};
 ghost use Rattle.relation_tests.specs.Plain.{as_is, plain_store, plain_state, plain_manner};
 
+use relation_contexts::infer_ctxt::BinderOf;
+use relation_folds::error::RelateResult;
+use relation_folds::fold::TypeFoldable;
+use relation_folds::visit::TypeVisitable;
 use relation_terms::predicate::{OutlivesPredicate, RegionConstraint, RegionEqPredicate};
 use relation_terms::terms::{
     Const, GenericArgKind, GenericArgs, Interner, ItemOf, Region, RegionKey, Ty, Variance,
 };
-use relation_tools::error::RelateResult;
-use relation_tools::fold::TypeFoldable;
-use relation_tools::visit::TypeVisitable;
-use type_relations::infer_ctxt::BinderOf;
 use type_relations::relate::structural::tys;
 use type_relations::relate::{Step, TypeRelation};
 

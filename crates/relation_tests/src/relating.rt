@@ -5,7 +5,7 @@ ghost use Rattle.relation_terms.specs.Trees.{node, nil, cons, count};
 ghost use Rattle.relation_terms.specs.Meaning.{Extends, kind_tree};
 ghost use Rattle.relation_terms.specs.declared.terms.enums.Variance.TheVariants.{Bivariant};
 ghost use Rattle.type_relations.specs.Arguments.{related_tree};
-ghost use Rattle.type_relations.specs.Lawful.{Asked};
+ghost use Rattle.relation_contexts.specs.Lawful.{Asked};
 ghost use Rattle.relation_tests.specs.Concrete.{IsConcrete};
 ghost use Rattle.relation_tests.specs.Plain.{plain_state, plain_manner};
 
@@ -13,13 +13,13 @@ use crate::plain::{PlainRelation, constraints_of};
 use reference_interner::{
     DefKind, GenericParam, GenericParamKind, ItemId, ItemKind, RefInterner, SymbolId,
 };
+use relation_folds::error::RelateResult;
 use relation_terms::predicate::{OutlivesPredicate, RegionConstraint};
 use relation_terms::terms::{
     ArgsKey, DefId, EarlyParamRegion, GenericArgKind, GenericArgs, Interner, ItemOf, Mutability,
     OutOfMemory, Region, RegionKey, RegionKind, TermKind, Ty, TyForm, TyKey, TyKind, UintTy,
     Variance,
 };
-use relation_tools::error::RelateResult;
 use std::alloc::Global;
 use std::test::Fail;
 use type_relations::relate::{Relate, relate_args_with_variances};

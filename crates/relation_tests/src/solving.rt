@@ -4,9 +4,9 @@ ghost use Rattle.relation_terms.specs.Trees.{known};
 ghost use Rattle.relation_terms.specs.Meaning.{Extends};
 ghost use Rattle.relation_terms.specs.declared.terms.enums.Variance.TheVariants.{Bivariant};
 ghost use Rattle.type_relations.specs.Arguments.{related_tree};
-ghost use Rattle.type_relations.specs.Contexts.{KnowsEnv};
+ghost use Rattle.relation_contexts.specs.Contexts.{KnowsEnv};
 ghost use Rattle.type_relations.specs.Relating.{term_in};
-ghost use Rattle.type_relations.specs.Lawful.{Asked};
+ghost use Rattle.relation_contexts.specs.Lawful.{Asked};
 ghost use Rattle.relation_tests.specs.Concrete.{IsConcrete};
 ghost use Rattle.type_relations.specs.Solving.{solving_in, solver_manner};
 ghost use Rattle.relation_reference.specs.RefCtxt.{context_in};
@@ -14,14 +14,14 @@ ghost use Rattle.relation_reference.specs.Tables.{IsLawful};
 
 use crate::relating::{make_two, outlives};
 use reference_interner::{RefInterner, SymbolId};
+use relation_contexts::infer_ctxt::InferCtxtLike;
+use relation_folds::error::{ExpectedFound, RelateFault, RelateResult, TypeError};
 use relation_reference::context::RefCtxt;
 use relation_terms::predicate::RegionConstraint;
 use relation_terms::terms::{
     Const, ConstKind, GenericArgKind, Interner, OutOfMemory, ParamConst, ParamEnv, Ty, Variance,
 };
-use relation_tools::error::{ExpectedFound, RelateFault, RelateResult, TypeError};
 use std::test::Fail;
-use type_relations::infer_ctxt::InferCtxtLike;
 use type_relations::relate::Relate;
 use type_relations::relate::solver_relating::{RelateExt, SolverRelating};
 

@@ -4,7 +4,7 @@ use Rattle.std.proofs.lemmas.Bool.{false≢true}
 use Rattle.relation_terms.specs.Heads.{BoundKind}
 use Rattle.relation_terms.specs.Trees.{Tree, known}
 use Rattle.relation_terms.specs.Meaning.{Meaning, under, bound_kinds}
-use Rattle.relation_tools.specs.Folds.{folded}
+use Rattle.relation_folds.specs.Folds.{folded}
 use Rattle.relation_tools.specs.declared.anonymize.used.UsedVar.{UsedVar}
 use Rattle.relation_tools.specs.declared.anonymize.used.UsedVar.TheVariants.{Ty, Region, Const}
 use Rattle.relation_tools.specs.Anonymous.{used_vars, named, renames, anonymized, named_as}

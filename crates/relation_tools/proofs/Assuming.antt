@@ -37,7 +37,7 @@ use Rattle.relation_terms.specs.declared.terms.ty_kind.TyKind.TheVariants.{Place
 use Rattle.relation_terms.proofs.Members.{region_term, type_term, const_term}
 use Rattle.relation_terms.proofs.Sorted.{Sorted}
 use Rattle.relation_terms.proofs.Stays.{knows_as, stays_arg, knows_arg, knows_region, stays_kind}
-use Rattle.relation_tools.specs.Visits.{bound_var_escapes}
+use Rattle.relation_folds.specs.Visits.{bound_var_escapes}
 use Rattle.relation_tools.specs.Components.{Choice, every, takes, behind, choice_of, is_alias, is_component, components}
 use Rattle.relation_tools.specs.Outliving.{SomeIs, EachIs, StandsFor, AddsSome, HasAll}
 use Rattle.relation_tools.specs.Assumptions.{is_unresolved, is_assumed, assumed_parts, elaborated, assumed, IsKnown}

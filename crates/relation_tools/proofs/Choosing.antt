@@ -13,7 +13,7 @@ use Rattle.relation_tools.specs.Outliving.{SomeIs, HasAll}
 use Rattle.relation_tools.specs.Collecting.{behind_all, of_member, found_components}
 use Rattle.relation_tools.specs.declared.outlives.Component.{Component}
 use Rattle.relation_tools.proofs.Outliving.{in_left, in_right, has_both}
-use Rattle.relation_tools.proofs.Visiting.{rest}
+use Rattle.relation_folds.proofs.Visiting.{rest}
 
 behind_none : (c : Choice) → behind_all 0 c ≡ c
 behind_none (not_bivariant vs) = refl

@@ -16,12 +16,12 @@ use Rattle.relation_terms.specs.declared.terms.part_kind.Part.TheVariants.{Ty, C
 use Rattle.relation_terms.specs.declared.terms.keys.TyKey.{TyKey}
 use Rattle.relation_terms.specs.declared.terms.keys.ConstKey.{ConstKey}
 use Rattle.relation_terms.specs.declared.terms.keys.ValTreeKey.{ValTreeKey}
-use Rattle.relation_tools.specs.Visits.{is_rigid, rigid_atom}
-use Rattle.relation_tools.proofs.Visiting.{rest, rest_next, rest_end, rest_list}
-use Rattle.relation_tools.specs.Clashes.{flexible, flexible_atom, may_stand, is_integral, is_floating_point}
-use Rattle.relation_tools.specs.Clashes.{Alike, AreRigid, is_const_sort, is_between, depth_inside}
-use Rattle.relation_tools.specs.Clashes.{Clash, unlike_types, left_number, right_number, unlike_consts, in_types}
-use Rattle.relation_tools.specs.Clashes.{in_consts, between, here, further}
+use Rattle.relation_folds.specs.Visits.{is_rigid, rigid_atom}
+use Rattle.relation_folds.proofs.Visiting.{rest, rest_next, rest_end, rest_list}
+use Rattle.relation_folds.specs.Clashes.{flexible, flexible_atom, may_stand, is_integral, is_floating_point}
+use Rattle.relation_folds.specs.Clashes.{Alike, AreRigid, is_const_sort, is_between, depth_inside}
+use Rattle.relation_folds.specs.Clashes.{Clash, unlike_types, left_number, right_number, unlike_consts, in_types}
+use Rattle.relation_folds.specs.Clashes.{in_consts, between, here, further}
 
 alike_same : (a : Tree) → Alike a a
 alike_same (leaf l) = refl

@@ -45,7 +45,7 @@ use Rattle.relation_terms.specs.declared.terms.part_kind.Part.TheVariants.{Exist
 use Rattle.relation_terms.proofs.Sorted.{Sorted}
 use Rattle.relation_terms.proofs.Parts.{sort_known}
 use Rattle.relation_tools.proofs.Meeting.{terms_list}
-use Rattle.relation_tools.proofs.Visiting.{has_sort}
+use Rattle.relation_folds.proofs.Visiting.{has_sort}
 use Rattle.relation_tools.specs.Components.{every, no_member, components, choice_of, is_alias, is_component, is_region_sort}
 
 -- A leaf that is no region and no type is no component.

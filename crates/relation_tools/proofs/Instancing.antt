@@ -13,9 +13,9 @@ use Rattle.relation_terms.specs.declared.terms.enums.ExternAbi.{ExternAbi}
 use Rattle.relation_terms.specs.Trees.{Tree, leaf, node, bind, nil, cons, IsTerm, count}
 use Rattle.relation_terms.specs.Erasure.{erase, erase_leaf, erase_atom}
 use Rattle.relation_terms.specs.Parts.{tree_sort}
-use Rattle.relation_tools.specs.Clashes.{flexible, outline, header_of, inputs_count, object_principal, principal}
-use Rattle.relation_tools.specs.Clashes.{counted}
-use Rattle.relation_tools.specs.Forms.{Tuple, FnPtr, Dynamic, Branch}
+use Rattle.relation_folds.specs.Clashes.{flexible, outline, header_of, inputs_count, object_principal, principal}
+use Rattle.relation_folds.specs.Clashes.{counted}
+use Rattle.relation_folds.specs.Forms.{Tuple, FnPtr, Dynamic, Branch}
 use Rattle.relation_tools.specs.Instances.{Instance, put, kept_leaf, kept_node, kept_bind, kept_nil, kept_cons}
 
 -- The sorts of places.

@@ -8,8 +8,8 @@ use Rattle.relation_terms.specs.Heads.{tuple, dynamic, fn_ptr, alias, unevaluate
 use Rattle.relation_terms.specs.Heads.{bound, placeholder, atom, unknown}
 use Rattle.relation_terms.specs.Trees.{Tree, leaf, node, bind, nil, cons, Leaves}
 use Rattle.relation_terms.specs.Erasure.{erase, erase_leaf}
-use Rattle.relation_tools.specs.Visits.{non_region_infer_stands}
-use Rattle.relation_tools.specs.Clashes.{flexible}
+use Rattle.relation_folds.specs.Visits.{non_region_infer_stands}
+use Rattle.relation_folds.specs.Clashes.{flexible}
 use Rattle.relation_tools.specs.HeadKeys.{param_key, object_key, atom_key, form_key, head_key}
 use Rattle.relation_tools.specs.declared.fast_reject.simplify.TreatParams.{TreatParams}
 use Rattle.relation_tools.specs.declared.fast_reject.simplify.TreatParams.TheVariants.{AsRigid, InstantiateWithInfer}

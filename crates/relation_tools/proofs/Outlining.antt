@@ -21,10 +21,10 @@ use Rattle.relation_terms.specs.declared.terms.const_kind.ConstKind.TheVariants.
 use Rattle.relation_terms.specs.declared.terms.const_kind.InferConst.TheVariants.{Var, Fresh}
 use Rattle.relation_terms.specs.declared.terms.const_kind.ValTreeKind.{ValTreeKind}
 use Rattle.relation_terms.specs.declared.terms.const_kind.ValTreeKind.TheVariants.{Leaf as LeafTree, Branch as BranchTree}
-use Rattle.relation_tools.specs.Forms.{Leaf, Branch}
-use Rattle.relation_tools.specs.Clashes.{flexible, may_stand, outline, Alike, principal, counted, pointer_form}
-use Rattle.relation_tools.specs.Clashes.{reference_form}
-use Rattle.relation_tools.specs.Outlines.{tree_outline, stands, trait_in, trait_in_predicate}
+use Rattle.relation_folds.specs.Forms.{Leaf, Branch}
+use Rattle.relation_folds.specs.Clashes.{flexible, may_stand, outline, Alike, principal, counted, pointer_form}
+use Rattle.relation_folds.specs.Clashes.{reference_form}
+use Rattle.relation_folds.specs.Outlines.{tree_outline, stands, trait_in, trait_in_predicate}
 
 pointer_no_leaf : (m : Mutability) → pointer_form m ≡ Leaf → ⊥
 pointer_no_leaf Not e = cc

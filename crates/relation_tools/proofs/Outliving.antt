@@ -7,7 +7,7 @@ use mathlib.Core.Former.{Count}
 use Rattle.relation_terms.specs.Trees.{Tree, known, size}
 use Rattle.relation_terms.specs.Meaning.{Meaning, arg_tree}
 use Rattle.relation_terms.specs.declared.terms.generic_arg.GenericArgKind.{GenericArgKind}
-use Rattle.relation_tools.specs.Visits.{bound_var_escapes}
+use Rattle.relation_folds.specs.Visits.{bound_var_escapes}
 use Rattle.relation_tools.specs.Components.{every, components, inside_alias}
 use Rattle.relation_tools.specs.Outliving.{SomeIs, EachIs, StandsFor, EachStands, SomeStands, AddsSome, HasAll}
 use Rattle.relation_tools.specs.Collecting.{Settled, Meets}

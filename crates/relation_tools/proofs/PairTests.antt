@@ -12,7 +12,7 @@ use Rattle.relation_terms.specs.declared.terms.keys.TysKey.{TysKey}
 use Rattle.relation_terms.specs.declared.terms.generic_arg.GenericArgKind.{GenericArgKind}
 use Rattle.relation_terms.specs.declared.terms.generic_arg.GenericArgKind.TheVariants.{Lifetime, Ty as TyArg}
 use Rattle.relation_terms.specs.declared.terms.generic_arg.GenericArgKind.TheVariants.{Const as ConstArg}
-use Rattle.relation_tools.specs.Clashes.{Clash, flexible, depth_inside}
+use Rattle.relation_folds.specs.Clashes.{Clash, flexible, depth_inside}
 use Rattle.relation_tools.specs.Pairs.{Pairs, IsInside, KnownPair, pair_size, ClashIn}
 use Rattle.relation_tools.specs.declared.fast_reject.pairs.Pair.{Pair}
 use Rattle.relation_tools.specs.declared.fast_reject.pairs.Pair.TheVariants.{Apart, Nothing, Types, Arrays, Lists, Args}

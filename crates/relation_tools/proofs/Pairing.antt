@@ -20,9 +20,9 @@ use Rattle.relation_terms.specs.declared.terms.ty_kind.TyKind.{TyKind}
 use Rattle.relation_terms.specs.declared.terms.ty_kind.TyKind.TheVariants.{Alias as AliasKindTy, FnPtr as FnPtrTy}
 use Rattle.relation_terms.specs.declared.terms.binder.Binder.{Binder}
 use Rattle.relation_terms.specs.declared.terms.fn_sig.FnSigTys.{FnSigTys}
-use Rattle.relation_tools.specs.Forms.{Form, Outline, Tuple, FnPtr}
-use Rattle.relation_tools.specs.Clashes.{Clash, Alike, outline, of_item, plain, counted, pointer_form, reference_form}
-use Rattle.relation_tools.specs.Clashes.{of_object, principal, is_between, between, here, further}
+use Rattle.relation_folds.specs.Forms.{Form, Outline, Tuple, FnPtr}
+use Rattle.relation_folds.specs.Clashes.{Clash, Alike, outline, of_item, plain, counted, pointer_form, reference_form}
+use Rattle.relation_folds.specs.Clashes.{of_object, principal, is_between, between, here, further}
 use Rattle.relation_tools.specs.Pairs.{Pairs}
 use Rattle.relation_tools.specs.declared.fast_reject.pairs.Pair.{Pair}
 use Rattle.relation_tools.specs.declared.fast_reject.pairs.Pair.TheVariants.{Apart, Nothing, Types, Arrays, Lists, Args}

@@ -24,9 +24,9 @@ use Rattle.relation_terms.specs.declared.terms.part_kind.Part.TheVariants.{Binde
 use Rattle.relation_terms.specs.declared.terms.part_kind.Part.TheVariants.{Object}
 use Rattle.relation_terms.proofs.Sorted.{Sorted}
 use Rattle.relation_terms.proofs.Parts.{sort_known}
-use Rattle.relation_tools.specs.Visits.{is_visited, visited_sort}
+use Rattle.relation_folds.specs.Visits.{is_visited, visited_sort}
 use Rattle.relation_tools.specs.Places.{places, places_under, is_passed_over, goes_back, all_known, Pushes}
-use Rattle.relation_tools.proofs.Visiting.{rest, rest_next, rest_end, visited_as}
+use Rattle.relation_folds.proofs.Visiting.{rest, rest_next, rest_end, visited_as}
 
 -- An argument stands for itself.
 pub place_itself : (b : Bool) (t : Tree) → is_visited t ≡ true → places b t ≡ t ∷ []

@@ -11,7 +11,7 @@ use Rattle.relation_terms.specs.Heads.{leaf_sort, head_sort, Head, Leaf}
 use Rattle.relation_terms.specs.Trees.{Tree, leaf, node, bind, nil, cons, known, size}
 use Rattle.relation_terms.specs.Meaning.{Meaning, arg_tree}
 use Rattle.relation_terms.specs.declared.terms.generic_arg.GenericArgKind.{GenericArgKind}
-use Rattle.relation_tools.specs.Visits.{is_visited, visited_sort}
+use Rattle.relation_folds.specs.Visits.{is_visited, visited_sort}
 use Rattle.relation_tools.specs.Places.{places, places_under, is_passed_over, goes_back, all_known}
 use Rattle.relation_tools.specs.Stacks.{present}
 use Rattle.relation_tools.specs.Walking.{Walk, first_unseen, Adds, next_of, begun}

@@ -8,11 +8,11 @@ use Rattle.relation_terms.specs.Heads.{Leaf, variable, bound, placeholder, atom,
 use Rattle.relation_terms.specs.Trees.{Tree, leaf, node, bind, nil, cons, Leaves}
 use Rattle.relation_terms.specs.Erasure.{erase, erase_leaf, erase_atom, kept_parts}
 use Rattle.relation_terms.specs.Parts.{tree_sort, parts_of}
-use Rattle.relation_tools.specs.Visits.{is_rigid}
-use Rattle.relation_tools.specs.Clashes.{flexible, may_stand, is_integral, is_floating_point, outline, Alike}
-use Rattle.relation_tools.specs.Clashes.{is_const_sort, is_between}
-use Rattle.relation_tools.specs.Clashes.{Clash, unlike_types, left_number, right_number, unlike_consts, in_types}
-use Rattle.relation_tools.specs.Clashes.{in_consts, between, here, further}
+use Rattle.relation_folds.specs.Visits.{is_rigid}
+use Rattle.relation_folds.specs.Clashes.{flexible, may_stand, is_integral, is_floating_point, outline, Alike}
+use Rattle.relation_folds.specs.Clashes.{is_const_sort, is_between}
+use Rattle.relation_folds.specs.Clashes.{Clash, unlike_types, left_number, right_number, unlike_consts, in_types}
+use Rattle.relation_folds.specs.Clashes.{in_consts, between, here, further}
 use Rattle.relation_tools.specs.Instances.{Instance, put, kept_leaf, kept_node, kept_bind, kept_nil, kept_cons, is_fit}
 use Rattle.relation_tools.specs.Instances.{IsNamed, NoCommonInstance}
 use Rattle.relation_tools.proofs.Clashing.{both, number_rigid, number_flexible, rigid_alone}

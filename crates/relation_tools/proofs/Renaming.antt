@@ -6,7 +6,7 @@ use Rattle.relation_terms.specs.Heads.{Kind, type_kind, region_kind, const_kind,
 use Rattle.relation_terms.specs.Heads.{existential_projection, bound, variable, placeholder, atom, unknown, leaf_sort, head_sort}
 use Rattle.relation_terms.specs.Trees.{Tree, leaf, node, bind, nil, cons}
 use Rattle.relation_terms.specs.Orders.{Order, in_turn, first_last, order_of}
-use Rattle.relation_tools.specs.Folds.{folded, put_or, asks}
+use Rattle.relation_folds.specs.Folds.{folded, put_or, asks}
 use Rattle.relation_tools.specs.Anonymous.{var_of, same_var, place_in, var_at, ordered, uses, one_more, with_vars}
 use Rattle.relation_tools.specs.Anonymous.{used_vars, named, at_place, renames, anonymized}
 use Rattle.relation_tools.specs.UsedParts.{AllIn}

@@ -36,12 +36,12 @@ use Rattle.relation_terms.specs.declared.terms.ty_kind.TyKind.TheVariants.{Unsaf
 use Rattle.relation_terms.specs.declared.terms.ty_kind.TyKind.TheVariants.{Alias as AliasKindTy, Bool, Char, Int, Uint}
 use Rattle.relation_terms.specs.declared.terms.ty_kind.TyKind.TheVariants.{Float, Foreign, Str, Never, Param, Bound}
 use Rattle.relation_terms.specs.declared.terms.ty_kind.TyKind.TheVariants.{Placeholder, Infer, Error}
-use Rattle.relation_tools.specs.Forms.{Form, Leaf, Adt, FnDef, Closure, CoroutineClosure, Coroutine, CoroutineWitness}
-use Rattle.relation_tools.specs.Forms.{Array, Slice, Pat, ConstPtr, MutPtr, SharedRef, MutRef, Tuple, FnPtr}
-use Rattle.relation_tools.specs.Forms.{UnsafeBinder, Dynamic, Alias, Value, Branch}
-use Rattle.relation_tools.specs.Outlines.{tree_outline}
+use Rattle.relation_folds.specs.Forms.{Form, Leaf, Adt, FnDef, Closure, CoroutineClosure, Coroutine, CoroutineWitness}
+use Rattle.relation_folds.specs.Forms.{Array, Slice, Pat, ConstPtr, MutPtr, SharedRef, MutRef, Tuple, FnPtr}
+use Rattle.relation_folds.specs.Forms.{UnsafeBinder, Dynamic, Alias, Value, Branch}
+use Rattle.relation_folds.specs.Outlines.{tree_outline}
 use Rattle.relation_tools.specs.Pairs.{is_of_item, is_of_list, IsOfItem, IsOfList}
-use Rattle.relation_tools.specs.Clashes.{Alike, pointer_form, reference_form}
+use Rattle.relation_folds.specs.Clashes.{Alike, pointer_form, reference_form}
 use Rattle.relation_tools.proofs.Outlining.{alike_outlines, leaf_unlike}
 
 module _ {Key Id Name : Type 0} (m : Meaning Key Id Name) where

@@ -7,13 +7,13 @@ use Rattle.relation_terms.specs.Trees.{known}
 use Rattle.relation_terms.specs.Meaning.{Meaning}
 use Rattle.relation_terms.specs.Parts.{part_tree, part_sort, part_key}
 use Rattle.relation_terms.specs.declared.terms.part_kind.Part.{Part}
-use Rattle.relation_tools.specs.declared.fold.memory.Place.{Place}
+use Rattle.relation_folds.specs.declared.fold.memory.Place.{Place}
 use Rattle.relation_tools.specs.declared.anonymize.used.UsedVar.{UsedVar}
-use Rattle.relation_tools.specs.Folds.{place_of, part_rank}
+use Rattle.relation_folds.specs.Folds.{place_of, part_rank}
 use Rattle.relation_tools.specs.Walking.{Adds}
 use Rattle.relation_tools.specs.Anonymous.{uses, with_vars}
 use Rattle.relation_tools.specs.UsedParts.{AllIn, IsMet, Remembered}
-use Rattle.relation_tools.proofs.Remembering.{place_eq, placed, one_sort}
+use Rattle.relation_folds.proofs.Remembering.{place_eq, placed, one_sort}
 use Rattle.relation_tools.proofs.UsedVars.{all_later}
 
 module _ {Key Id Name : Type 0} (m : Meaning Key Id Name) (us : List UsedVar) (eq : Place Key → Place Key → Bool) where

@@ -25,12 +25,12 @@ use Rattle.relation_terms.specs.declared.predicate.kinds.PredicateKind.TheVarian
 use Rattle.relation_terms.proofs.Fields.{predicate_viewed}
 use Rattle.relation_terms.proofs.Parts.{sort_known, known_parts}
 use Rattle.relation_terms.proofs.Sorted.{Sorted}
-use Rattle.relation_tools.specs.Visits.{is_visited}
-use Rattle.relation_tools.specs.Folds.{inside}
+use Rattle.relation_folds.specs.Visits.{is_visited}
+use Rattle.relation_folds.specs.Folds.{inside}
 use Rattle.relation_tools.specs.Anonymous.{uses, ordered, here, with_vars}
 use Rattle.relation_tools.specs.declared.anonymize.used.UsedVar.{UsedVar}
 use Rattle.relation_tools.proofs.UsedVars.{with_both}
-use Rattle.relation_tools.proofs.Visiting.{rest, rest_next, rest_end, visited_as}
+use Rattle.relation_folds.proofs.Visiting.{rest, rest_next, rest_end, visited_as}
 
 -- What is used in a list in an order.
 uses_behind : (d : ℕ) (t us : Tree) → IsList us → uses d (behind t us) ≡ uses d us ++ uses d t

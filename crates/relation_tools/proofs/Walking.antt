@@ -4,10 +4,10 @@ use Rattle.std.specs.declared.ops.ControlFlow.TheVariants.{Continue, Break}
 use Rattle.relation_terms.specs.Trees.{Tree, leaf, node, bind, nil, cons}
 use Rattle.relation_terms.specs.Parts.{parts_of}
 use Rattle.relation_terms.specs.Orders.{in_order, order_of}
-use Rattle.relation_tools.specs.declared.visit.Visit.{Visit}
-use Rattle.relation_tools.specs.declared.visit.Visit.TheVariants.{Enter, Skip, Stop}
-use Rattle.relation_tools.specs.Visits.{Flow, Walks, deeper, entered, skipped, stopped}
-use Rattle.relation_tools.specs.Visits.{passed_leaf, passed, in_binder, no_part, last_part, next_part}
+use Rattle.relation_folds.specs.declared.visit.Visit.{Visit}
+use Rattle.relation_folds.specs.declared.visit.Visit.TheVariants.{Enter, Skip, Stop}
+use Rattle.relation_folds.specs.Visits.{Flow, Walks, deeper, entered, skipped, stopped}
+use Rattle.relation_folds.specs.Visits.{passed_leaf, passed, in_binder, no_part, last_part, next_part}
 
 module _ {V : Type 0} (visits : V → ℕ → Tree → V → Visit → Type 0)
     (one_visitor : (d : ℕ) (v w x : V) (t : Tree) (a b : Visit) → visits v d t w a → visits v d t x b → w ≡ x)

@@ -10,7 +10,7 @@ use Rattle.relation_terms.specs.declared.terms.binder.BoundVariableKind.{BoundVa
 use Rattle.relation_terms.specs.declared.terms.binder.BoundVariableKind.TheVariants.{Ty as TyKind}
 use Rattle.relation_terms.specs.declared.terms.binder.BoundVariableKind.TheVariants.{Region as RegionKind}
 use Rattle.relation_terms.specs.declared.terms.binder.BoundVariableKind.TheVariants.{Const as ConstKind}
-use Rattle.relation_tools.specs.Folds.{folded}
+use Rattle.relation_folds.specs.Folds.{folded}
 use Rattle.relation_tools.specs.declared.anonymize.used.UsedVar.{UsedVar}
 use Rattle.relation_tools.specs.declared.anonymize.used.UsedVar.TheVariants.{Ty, Region, Const}
 

@@ -6,8 +6,8 @@ use Rattle.relation_terms.specs.Heads.{adt, fn_def, closure, coroutine_closure, 
 use Rattle.relation_terms.specs.Heads.{array, slice, pattern_type, tuple, unsafe_binder, dynamic, fn_ptr, raw_ptr, ref}
 use Rattle.relation_terms.specs.Heads.{alias, placeholder, atom}
 use Rattle.relation_terms.specs.Trees.{Tree, leaf, node, cons, count}
-use Rattle.relation_tools.specs.Visits.{non_region_infer_stands}
-use Rattle.relation_tools.specs.Clashes.{inputs_count, object_principal}
+use Rattle.relation_folds.specs.Visits.{non_region_infer_stands}
+use Rattle.relation_folds.specs.Clashes.{inputs_count, object_principal}
 use Rattle.relation_tools.specs.declared.fast_reject.simplify.TreatParams.{TreatParams}
 use Rattle.relation_tools.specs.declared.fast_reject.simplify.TreatParams.TheVariants.{AsRigid, InstantiateWithInfer}
 use Rattle.relation_tools.specs.declared.fast_reject.simplify.SimplifiedType.{SimplifiedType}

@@ -2,7 +2,7 @@
 use Rattle.std.specs.Prelude.{ℕ, Bool}
 use Rattle.relation_terms.specs.Heads.{Sort, type_sort, AliasKind, alias}
 use Rattle.relation_terms.specs.Trees.{Tree, node, IsTerm, Leaves}
-use Rattle.relation_tools.specs.Clashes.{flexible}
+use Rattle.relation_folds.specs.Clashes.{flexible}
 use Rattle.relation_tools.specs.Instances.{Instance, CommonInstance, IsNoVariable}
 
 -- A term without variables is an instance of itself.

@@ -5,7 +5,7 @@ use Rattle.relation_terms.specs.Heads.{BoundKind, Leaf, variable, atom, int_var,
 use Rattle.relation_terms.specs.Trees.{Tree, leaf, node, bind, nil, cons, IsTerm, Leaves}
 use Rattle.relation_terms.specs.Erasure.{erase}
 use Rattle.relation_terms.specs.Parts.{tree_sort}
-use Rattle.relation_tools.specs.Clashes.{flexible, is_integral, is_floating_point}
+use Rattle.relation_folds.specs.Clashes.{flexible, is_integral, is_floating_point}
 
 -- No inference variable.
 abbrev pub IsNoVariable : Leaf → Type 0

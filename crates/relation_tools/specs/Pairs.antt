@@ -3,10 +3,10 @@ use Rattle.std.specs.Prelude.{◌⊎◌, ◌↔◌, ◌<◌, ◌+◌, ℕ, Bool,
 use Rattle.relation_terms.specs.Trees.{Tree, known, size}
 use Rattle.relation_terms.specs.Parts.{parts_of}
 use Rattle.relation_terms.specs.Meaning.{Meaning}
-use Rattle.relation_tools.specs.Clashes.{Clash, Alike}
-use Rattle.relation_tools.specs.Forms.{Form, Leaf, Adt, FnDef, Closure, CoroutineClosure, Coroutine, CoroutineWitness}
-use Rattle.relation_tools.specs.Forms.{Tuple, FnPtr, Dynamic, Alias}
-use Rattle.relation_tools.specs.Outlines.{tree_outline}
+use Rattle.relation_folds.specs.Clashes.{Clash, Alike}
+use Rattle.relation_folds.specs.Forms.{Form, Leaf, Adt, FnDef, Closure, CoroutineClosure, Coroutine, CoroutineWitness}
+use Rattle.relation_folds.specs.Forms.{Tuple, FnPtr, Dynamic, Alias}
+use Rattle.relation_folds.specs.Outlines.{tree_outline}
 use Rattle.relation_tools.specs.declared.fast_reject.pairs.Pair.{Pair}
 use Rattle.relation_tools.specs.declared.fast_reject.pairs.Pair.TheVariants.{Apart, Nothing, Types, Arrays, Lists, Args}
 

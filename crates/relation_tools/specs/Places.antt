@@ -5,7 +5,7 @@ use Rattle.relation_terms.specs.Trees.{Tree, leaf, node, bind, nil, cons, known}
 use Rattle.relation_terms.specs.Meaning.{Meaning, arg_tree}
 use Rattle.relation_terms.specs.Parts.{parts_of}
 use Rattle.relation_terms.specs.declared.terms.generic_arg.GenericArgKind.{GenericArgKind}
-use Rattle.relation_tools.specs.Visits.{visited_sort}
+use Rattle.relation_folds.specs.Visits.{visited_sort}
 
 -- What has no argument that counts: what a value is made of.
 abbrev pub is_passed_over : Sort → Bool

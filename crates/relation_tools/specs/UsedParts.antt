@@ -7,8 +7,8 @@ use Rattle.relation_terms.specs.Trees.{known}
 use Rattle.relation_terms.specs.Meaning.{Meaning}
 use Rattle.relation_terms.specs.Parts.{part_tree}
 use Rattle.relation_terms.specs.declared.terms.part_kind.Part.{Part}
-use Rattle.relation_tools.specs.declared.fold.memory.Place.{Place}
-use Rattle.relation_tools.specs.Folds.{place_of}
+use Rattle.relation_folds.specs.declared.fold.memory.Place.{Place}
+use Rattle.relation_folds.specs.Folds.{place_of}
 use Rattle.relation_tools.specs.Anonymous.{place_in, uses}
 use Rattle.relation_tools.specs.declared.anonymize.used.UsedVar.{UsedVar}
 

@@ -3,13 +3,11 @@
 
 pub mod anonymize;
 pub mod elaborate;
-pub mod error;
 pub mod fast_reject;
-pub mod fold;
 mod keeping;
 pub mod laws;
 pub mod outlives;
 pub mod trait_object;
-pub mod tree;
-pub mod visit;
 pub mod walk;
+
+pub use relation_folds::{error, fold, tree, visit};

@@ -1,8 +1,8 @@
 //! What trait objects are told apart by.
 ghost use Rattle.std.specs.Prelude.{◌≡◌, IsTrue};
 ghost use Rattle.relation_terms.specs.Trees.{known};
-ghost use Rattle.relation_tools.specs.Clashes.{principal};
-ghost use Rattle.relation_tools.specs.Outlines.{named, trait_in};
+ghost use Rattle.relation_folds.specs.Clashes.{principal};
+ghost use Rattle.relation_folds.specs.Outlines.{named, trait_in};
 
 use relation_terms::predicate::ExistentialPredicate;
 use relation_terms::terms::{Binder, ExistentialPredicates, Interner, TraitId};

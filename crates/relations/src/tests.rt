@@ -1,8 +1,8 @@
 //! What a run prints and answers, and what several calls on one context leave.
 use crate::rows::{ROWS, Row, answers, print, run};
 use reference_interner::{NodeKey, RefInterner};
+use relation_folds::error::{OutOfMemory, RelateFault, RelateFaultOf, TypeError, TypeErrorOf};
 use relation_terms::terms::TyKey;
-use relation_tools::error::{OutOfMemory, RelateFault, RelateFaultOf, TypeError, TypeErrorOf};
 use std::alloc::{AllocError, Global};
 use std::io;
 use std::test::Fail;

@@ -4,10 +4,10 @@ ghost use Rattle.relation_terms.specs.Trees.{known};
 ghost use Rattle.relation_terms.specs.Meaning.{Extends};
 
 use reference_interner::{RefInterner, SymbolId};
+use relation_folds::fold::{instantiate_bound_vars, shift_vars};
 use relation_terms::terms::{
     Binder, BoundTy, BoundVar, DebruijnIndex, GenericArgKind, Interner, OutOfMemory, Ty, TyKind,
 };
-use relation_tools::fold::{instantiate_bound_vars, shift_vars};
 use std::test::Fail;
 
 // The type that the first place of a binder so many steps up binds.

@@ -1,10 +1,10 @@
 //! Which errors are about regions, and which need a note, at plain numbers.
 
+use relation_folds::error::{ExpectedFound, NoSolution, TypeError};
 use relation_terms::terms::{
     BoundRegion, BoundVar, ConstKey, ExistentialPredicatesKey, ExternAbi, PredicatePolarity,
     RegionKey, Safety, TraitId, TyKey,
 };
-use relation_tools::error::{ExpectedFound, NoSolution, TypeError};
 
 // A key, an id and a name.
 #[derive(Clone, Copy, PartialEq, Eq, Debug)]

@@ -4,11 +4,11 @@ ghost use Rattle.relation_terms.specs.Trees.{known};
 ghost use Rattle.relation_terms.specs.Meaning.{Extends};
 
 use reference_interner::RefInterner;
+use relation_folds::error::ExpectedFound;
+use relation_folds::fold::{Fold, TypeFoldable, TypeFolder};
 use relation_terms::terms::{
     Const, Interner, OutOfMemory, Region, TermKind, Ty, TyKind, ValTreeKind,
 };
-use relation_tools::error::ExpectedFound;
-use relation_tools::fold::{Fold, TypeFoldable, TypeFolder};
 use std::test::Fail;
 
 // Puts nothing.

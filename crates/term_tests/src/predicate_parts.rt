@@ -5,6 +5,8 @@ ghost use Rattle.relation_terms.specs.Meaning.{Extends};
 ghost use Rattle.relation_terms.specs.Predicates.{clause_kind_tree, predicate_kind_tree};
 
 use reference_interner::{ItemId, RefInterner, SymbolId};
+use relation_folds::fold::{TypeFoldable, shift_vars};
+use relation_folds::visit::{TypeVisitable, TypeVisitor, Visit};
 use relation_terms::predicate::{
     AliasTerm, AliasTermKind, ClauseKind, CoercePredicate, HostEffectPredicate, NormalizesTo,
     OutlivesPredicate, PredicateKind, ProjectionPredicate, SubtypePredicate, TraitPredicate,
@@ -16,8 +18,6 @@ use relation_terms::terms::{
     OutOfMemory, Predicate, PredicatePolarity, Region, RegionKey, RegionKind, TermKind,
     TraitAssocTyId, TraitId, Ty, TyKey, TyKind,
 };
-use relation_tools::fold::{TypeFoldable, shift_vars};
-use relation_tools::visit::{TypeVisitable, TypeVisitor, Visit};
 use std::test::Fail;
 
 // Writes a digit for each term that it is asked about: 1 for a type, 2 for a region and 3 for a constant, and 4 more

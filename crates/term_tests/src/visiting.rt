@@ -3,13 +3,13 @@ ghost use Rattle.std.specs.Prelude.{IsTrue};
 ghost use Rattle.relation_terms.specs.Trees.{known};
 
 use reference_interner::{ItemId, RefInterner, SymbolId};
+use relation_folds::error::{ExpectedFound, TypeError, TypeErrorOf};
+use relation_folds::visit::{TypeSuperVisitable, TypeVisitable, TypeVisitor, Visit};
 use relation_terms::predicate::ExistentialProjection;
 use relation_terms::terms::{
     Const, ConstKind, GenericArgKind, Interner, OutOfMemory, ParamConst, Region, TermKind,
     TraitAssocTermId, Ty, TyKind, ValTreeKind,
 };
-use relation_tools::error::{ExpectedFound, TypeError, TypeErrorOf};
-use relation_tools::visit::{TypeSuperVisitable, TypeVisitable, TypeVisitor, Visit};
 use std::test::Fail;
 
 // Stops at the first term that it is asked about.

@@ -2,16 +2,16 @@
 ghost use Rattle.std.specs.Prelude.{IsTrue};
 ghost use Rattle.relation_terms.specs.Trees.{known};
 ghost use Rattle.relation_terms.specs.Meaning.{Extends, kind_tree};
-ghost use Rattle.relation_tools.specs.Faults.{KnowsError};
+ghost use Rattle.relation_folds.specs.Faults.{KnowsError};
 
 use reference_interner::{ItemId, RefInterner, SymbolId};
 use relation_asking::printing::write_error;
+use relation_folds::error::{ExpectedFound, TypeError, TypeErrorOf};
 use relation_terms::terms::{
     ExternAbi, ForeignId, Interner, ParamTy, PredicatePolarity, RegionKind, RegionVid, Safety,
     TyForm, TyKind,
 };
 use relation_text::printing::{ItemText, Parameter, Texts, TextsOf, write_ty};
-use relation_tools::error::{ExpectedFound, TypeError, TypeErrorOf};
 use std::fmt::{self, Write};
 use std::test::Fail;
 

@@ -6,27 +6,27 @@ use Rattle.relation_terms.specs.Trees.{Tree, leaf, node, bind, nil, cons, known,
 use Rattle.relation_terms.specs.Meaning.{Meaning, Extends}
 use Rattle.relation_terms.specs.declared.terms.keys.TyKey.{TyKey}
 use Rattle.relation_terms.specs.declared.terms.keys.ArgsKey.{ArgsKey}
-use Rattle.relation_tools.specs.declared.error.TypeError.{TypeError}
-use Rattle.relation_tools.specs.declared.error.RelateFault.{RelateFault}
-use Rattle.relation_tools.specs.declared.error.RelateFault.TheVariants.{Memory, Budget, Unrelated}
+use Rattle.relation_folds.specs.declared.error.TypeError.{TypeError}
+use Rattle.relation_folds.specs.declared.error.RelateFault.{RelateFault}
+use Rattle.relation_folds.specs.declared.error.RelateFault.TheVariants.{Memory, Budget, Unrelated}
 use Rattle.type_relations.specs.declared.relate.args.ArgVariances.{ArgVariances}
 use Rattle.type_relations.specs.declared.relate.args.ArgVariances.TheVariants.{Invariant, Adt, FnDef}
-use Rattle.type_relations.specs.Relation.{forms, part_at, IsRelatedHead}
-use Rattle.type_relations.specs.Errors.{ErrorOf, IsHandedOn, of_parts, AreOfOneForm, over_parts, one_leaf, parameters}
+use Rattle.relation_contexts.specs.Relation.{forms, part_at, IsRelatedHead}
+use Rattle.relation_contexts.specs.Errors.{ErrorOf, IsHandedOn, of_parts, AreOfOneForm, over_parts, one_leaf, parameters}
 use Rattle.type_relations.specs.Arguments.{args_head, AreOverItem, adts, functions}
-use Rattle.type_relations.specs.Lawful.{State, Manners, MayAnswer, Passes, Refuses, Related, ExactlyRelated, items_in}
-use Rattle.type_relations.proofs.OneParts.{parts_equal}
+use Rattle.relation_contexts.specs.Lawful.{State, Manners, MayAnswer, Passes, Refuses, Related, ExactlyRelated, items_in}
+use Rattle.relation_contexts.proofs.OneParts.{parts_equal}
 use Rattle.type_relations.proofs.PartSizes.{weight_parts_most}
-use Rattle.type_relations.proofs.Registered.{registered_in}
-use Rattle.type_relations.proofs.Passing.{passes_within, manner_then, stopped}
+use Rattle.relation_contexts.proofs.Registered.{registered_in}
+use Rattle.relation_contexts.proofs.Passing.{passes_within, manner_then, stopped}
 use Rattle.type_relations.proofs.Fronts.{Fronted, AreParts, IsLookedAt, fronted_all, fronted_never, fronted_passes, fronted_fault, fronted_exactly}
 use Rattle.type_relations.proofs.Fronts.{fronted_full}
 use Rattle.type_relations.proofs.Structural.{types_never}
-use Rattle.type_relations.proofs.Answering.{same_items, may_itself}
-use Rattle.type_relations.proofs.OneUniverse.{keeps_binds, binds_as}
+use Rattle.relation_contexts.proofs.Answering.{same_items, may_itself}
+use Rattle.relation_contexts.proofs.OneUniverse.{keeps_binds, binds_as}
 use Rattle.type_relations.proofs.Unifying.{first_order_parts, answered_as, refused_as}
-use Rattle.type_relations.proofs.Erased.{forms_unify_by_parts}
-use Rattle.type_relations.specs.Headline.{IsFirstOrderPair}
+use Rattle.relation_contexts.proofs.Erased.{forms_unify_by_parts}
+use Rattle.relation_contexts.specs.Headline.{IsFirstOrderPair}
 use Rattle.relation_terms.specs.Heads.{value_type}
 
 -- Arguments are related part by part, and their errors are those of their parts.

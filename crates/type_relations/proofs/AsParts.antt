@@ -24,9 +24,9 @@ use Rattle.relation_terms.specs.declared.terms.const_kind.InferConst.TheVariants
 use Rattle.relation_terms.proofs.Sorted.{Sorted, widen}
 use Rattle.relation_terms.proofs.Members.{fit_args, mapped, region_term, type_term, const_term}
 use Rattle.relation_terms.proofs.Parts.{sort_known, arg_part}
-use Rattle.type_relations.specs.Covered.{IsCovered, IsCoveredHead}
-use Rattle.type_relations.specs.Parts.{parts_of, branches_of, const_parts_of, IsByParts}
-use Rattle.type_relations.specs.Making.{arg_sort, Fit, over, const_over}
+use Rattle.relation_contexts.specs.Covered.{IsCovered, IsCoveredHead}
+use Rattle.relation_contexts.specs.Parts.{parts_of, branches_of, const_parts_of, IsByParts}
+use Rattle.relation_contexts.specs.Making.{arg_sort, Fit, over, const_over}
 use Rattle.type_relations.proofs.Comparing.{value_shape}
 use Rattle.type_relations.proofs.Making.{value_of}
 

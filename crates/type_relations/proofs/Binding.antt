@@ -4,23 +4,23 @@ use Rattle.std.proofs.Math.Nat.{mul-le-mul}
 use Rattle.relation_terms.specs.declared.terms.enums.Variance.{Variance}
 use Rattle.relation_terms.specs.Heads.{VarKind, type_var, int_var, float_var, const_var, region_var, variable}
 use Rattle.relation_terms.specs.Trees.{Tree, leaf, Assign, apply, Leaves, Occurs, size}
-use Rattle.type_relations.specs.Relation.{Interpretation}
-use Rattle.type_relations.specs.Stores.{Store, bound_to, entry_term, universe_of, IsInScope, IsTermIn, IsSound, MayStandFor, MeetsBindings, Satisfies, resolved, weight}
-use Rattle.type_relations.specs.Steps.{BindsTo, Instantiates}
-use Rattle.type_relations.specs.Measures.{Goes}
-use Rattle.type_relations.specs.ErasureLaws.{IsTypeOrConst}
-use Rattle.type_relations.specs.FirstOrder.{IsFirstOrder, IsFirstOrderStore}
-use Rattle.type_relations.specs.Headline.{IsFirstOrderPair}
-use Rattle.type_relations.specs.Outcomes.{ExactStep}
-use Rattle.type_relations.proofs.Resolved.{resolved_value, resolved_twice}
-use Rattle.type_relations.proofs.Only.{absent as without}
-use Rattle.type_relations.proofs.Standing.{later_term, term_context, term_scope}
-use Rattle.type_relations.proofs.StoreCalls.{resolved_resolves}
-use Rattle.type_relations.proofs.Written.{resolved_later, term_stays}
-use Rattle.type_relations.proofs.Equating.{bound_sound, bound_goes, bound_value, bound_keeps}
-use Rattle.type_relations.proofs.Exactness.{instantiating_is_exact_step}
-use Rattle.type_relations.proofs.Instantiating.{binding_instantiates, resolved_first_order}
-use Rattle.type_relations.proofs.Roots.{written_first_order}
+use Rattle.relation_contexts.specs.Relation.{Interpretation}
+use Rattle.relation_contexts.specs.Stores.{Store, bound_to, entry_term, universe_of, IsInScope, IsTermIn, IsSound, MayStandFor, MeetsBindings, Satisfies, resolved, weight}
+use Rattle.relation_contexts.specs.Steps.{BindsTo, Instantiates}
+use Rattle.relation_contexts.specs.Measures.{Goes}
+use Rattle.relation_contexts.specs.ErasureLaws.{IsTypeOrConst}
+use Rattle.relation_contexts.specs.FirstOrder.{IsFirstOrder, IsFirstOrderStore}
+use Rattle.relation_contexts.specs.Headline.{IsFirstOrderPair}
+use Rattle.relation_contexts.specs.Outcomes.{ExactStep}
+use Rattle.relation_contexts.proofs.Resolved.{resolved_value, resolved_twice}
+use Rattle.relation_contexts.proofs.Only.{absent as without}
+use Rattle.relation_contexts.proofs.Standing.{later_term, term_context, term_scope}
+use Rattle.relation_contexts.proofs.StoreCalls.{resolved_resolves}
+use Rattle.relation_contexts.proofs.Written.{resolved_later, term_stays}
+use Rattle.relation_contexts.proofs.Equating.{bound_sound, bound_goes, bound_value, bound_keeps}
+use Rattle.relation_contexts.proofs.Exactness.{instantiating_is_exact_step}
+use Rattle.relation_contexts.proofs.Instantiating.{binding_instantiates, resolved_first_order}
+use Rattle.relation_contexts.proofs.Roots.{written_first_order}
 
 pub no_region : (k : VarKind) → IsTypeOrConst k → k ≢ region_var
 no_region type_var i e = cc

@@ -4,19 +4,19 @@ use Rattle.relation_terms.specs.declared.terms.enums.Variance.{Variance}
 use Rattle.relation_terms.specs.Heads.{region_sort, region_kind, type_kind, const_kind, BoundKind, bound_kind, bound_sort, VarKind, value_type, variable, placeholder}
 use Rattle.relation_terms.specs.Trees.{Tree, leaf, Assign, apply, Leaves, Occurs}
 use Rattle.relation_terms.specs.Erasure.{erase}
-use Rattle.type_relations.specs.Relation.{Interpretation}
-use Rattle.type_relations.specs.Stores.{Store, universe_of, IsNamable, IsSound, Satisfies, resolved}
-use Rattle.type_relations.specs.FirstOrder.{IsFirstOrder, IsFirstOrderStore, IsClosedLeaf, Unifies, IsErasedSolution}
-use Rattle.type_relations.specs.StoreLaws.{GeneralisingRefuses}
-use Rattle.type_relations.specs.Steps.{RefusesToInstantiate}
-use Rattle.type_relations.specs.ErasureLaws.{IsTypeOrConst}
-use Rattle.type_relations.specs.Generalising.{Obstacle, cycle, beyond, StopsAt, at_itself, at_placeholder, in_parts, in_body, in_first, in_others, RefusesBy}
-use Rattle.type_relations.proofs.Resolved.{resolved_value, cycles_do_not_unify}
-use Rattle.type_relations.proofs.StoreCalls.{resolved_unifies}
-use Rattle.type_relations.proofs.Instantiating.{resolved_first_order}
-use Rattle.type_relations.proofs.Erased.{erased_occurs_check}
-use Rattle.type_relations.proofs.NewVariables.{Adds, adds, adds_goes}
-use Rattle.type_relations.proofs.Leafwise.{erased_named}
+use Rattle.relation_contexts.specs.Relation.{Interpretation}
+use Rattle.relation_contexts.specs.Stores.{Store, universe_of, IsNamable, IsSound, Satisfies, resolved}
+use Rattle.relation_contexts.specs.FirstOrder.{IsFirstOrder, IsFirstOrderStore, IsClosedLeaf, Unifies, IsErasedSolution}
+use Rattle.relation_contexts.specs.StoreLaws.{GeneralisingRefuses}
+use Rattle.relation_contexts.specs.Steps.{RefusesToInstantiate}
+use Rattle.relation_contexts.specs.ErasureLaws.{IsTypeOrConst}
+use Rattle.relation_contexts.specs.Generalising.{Obstacle, cycle, beyond, StopsAt, at_itself, at_placeholder, in_parts, in_body, in_first, in_others, RefusesBy}
+use Rattle.relation_contexts.proofs.Resolved.{resolved_value, cycles_do_not_unify}
+use Rattle.relation_contexts.proofs.StoreCalls.{resolved_unifies}
+use Rattle.relation_contexts.proofs.Instantiating.{resolved_first_order}
+use Rattle.relation_contexts.proofs.Erased.{erased_occurs_check}
+use Rattle.relation_contexts.proofs.NewVariables.{Adds, adds, adds_goes}
+use Rattle.relation_contexts.proofs.Leafwise.{erased_named}
 
 -- An obstacle in a term.
 stops_occurs : {before : Store} {k : VarKind} {n : ℕ} {o : Obstacle} {t : Tree} → o ≡ cycle → StopsAt before k n o t → Occurs k n t

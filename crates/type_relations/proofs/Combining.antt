@@ -6,39 +6,39 @@ use Rattle.relation_terms.specs.declared.terms.keys.ConstKey.{ConstKey}
 use Rattle.relation_terms.specs.Heads.{type_sort, const_sort, VarKind, int_var, float_var, const_var, variable}
 use Rattle.relation_terms.specs.Trees.{Tree, leaf, IsTerm, apply, known}
 use Rattle.relation_terms.specs.Meaning.{Meaning, Extends}
-use Rattle.relation_tools.specs.declared.error.TypeError.TheVariants.{Sorts, CyclicConst}
-use Rattle.relation_tools.specs.declared.error.RelateFault.{RelateFault}
-use Rattle.relation_tools.specs.declared.error.RelateFault.TheVariants.{Unrelated}
-use Rattle.type_relations.specs.declared.relate.Step.{Step}
-use Rattle.type_relations.specs.declared.relate.Step.TheVariants.{Done, Parts}
+use Rattle.relation_folds.specs.declared.error.TypeError.TheVariants.{Sorts, CyclicConst}
+use Rattle.relation_folds.specs.declared.error.RelateFault.{RelateFault}
+use Rattle.relation_folds.specs.declared.error.RelateFault.TheVariants.{Unrelated}
+use Rattle.relation_contexts.specs.declared.relate.Step.{Step}
+use Rattle.relation_contexts.specs.declared.relate.Step.TheVariants.{Done, Parts}
 use Rattle.type_relations.specs.Combining.{CombinesTys, equated, left_bound, right_bound, left_unlike, right_unlike, ty_variable, by_parts, IsNoTyVar, seen}
 use Rattle.type_relations.specs.Combining.{CombinesConsts, one_constant, resolved_first, ReadsShallow, CombinesShallow, roots_equated, left_root_bound, left_root_refused, right_root_bound, right_root_refused, formed_by_parts}
-use Rattle.type_relations.specs.Contexts.{Context}
-use Rattle.type_relations.specs.ContextCalls.{HasCoveredBindings}
+use Rattle.relation_contexts.specs.Contexts.{Context}
+use Rattle.relation_contexts.specs.ContextCalls.{HasCoveredBindings}
 use Rattle.type_relations.specs.Emitting.{IsOver, WithContext}
 use Rattle.type_relations.specs.Keyed.{AskedTys, AskedConsts, SteppedTys, SteppedConsts}
 use Rattle.type_relations.specs.NumberVars.{number_kind}
 use Rattle.type_relations.specs.declared.relate.number_vars.NumberVid.{NumberVid}
-use Rattle.type_relations.specs.Errors.{itself}
-use Rattle.type_relations.specs.Generalising.{NumbersNameNothing}
-use Rattle.type_relations.specs.Lawful.{State, Asked, Stepped}
-use Rattle.type_relations.specs.Parts.{IsFormed, IsFormedConst}
-use Rattle.type_relations.specs.Resolving.{IsShallowConst}
+use Rattle.relation_contexts.specs.Errors.{itself}
+use Rattle.relation_contexts.specs.Generalising.{NumbersNameNothing}
+use Rattle.relation_contexts.specs.Lawful.{State, Asked, Stepped}
+use Rattle.relation_contexts.specs.Parts.{IsFormed, IsFormedConst}
+use Rattle.relation_contexts.specs.Resolving.{IsShallowConst}
 use Rattle.type_relations.specs.Solving.{solver_manner}
-use Rattle.type_relations.specs.Steps.{IsLater, IsNumberKind}
-use Rattle.type_relations.specs.Stores.{Store, IsSound, IsMade, unbound, entry_of, resolved}
+use Rattle.relation_contexts.specs.Steps.{IsLater, IsNumberKind}
+use Rattle.relation_contexts.specs.Stores.{Store, IsSound, IsMade, unbound, entry_of, resolved}
 use Rattle.type_relations.proofs.Binding.{no_region}
-use Rattle.type_relations.proofs.Going.{goes_nowhere, later_itself}
+use Rattle.relation_contexts.proofs.Going.{goes_nowhere, later_itself}
 use Rattle.type_relations.proofs.GeneralisingErrors.{const_cycle_error}
 use Rattle.type_relations.proofs.NumberVars.{is_number, type_formed}
-use Rattle.type_relations.proofs.Numbers.{IsNumber, number_no_region, number_goes}
-use Rattle.type_relations.proofs.OneUniverse.{keeps_itself}
-use Rattle.type_relations.proofs.Full.{full_itself}
+use Rattle.relation_contexts.proofs.Numbers.{IsNumber, number_no_region, number_goes}
+use Rattle.relation_contexts.proofs.OneUniverse.{keeps_itself}
+use Rattle.relation_contexts.proofs.Full.{full_itself}
 use Rattle.type_relations.proofs.OverContext.{carried, over_it, standing, all_taken, read_covered, one_step, roots_step, number_step, number_step_back, left_apart, right_apart, parts_step}
-use Rattle.type_relations.proofs.Roots.{roots_goes, exact_itself}
+use Rattle.relation_contexts.proofs.Roots.{roots_goes, exact_itself}
 use Rattle.type_relations.proofs.Shallowly.{read_step, shallow_free_const, variable_made}
 use Rattle.type_relations.proofs.SolvingVariables.{const_left_step, const_right_step, left_refused, right_refused, const_comes_to_none}
-use Rattle.type_relations.proofs.Standing.{term_context, term_within}
+use Rattle.relation_contexts.proofs.Standing.{term_context, term_within}
 
 of_numbers : (k : VarKind) → IsNumberKind k → IsNumber k
 of_numbers int_var h = tt

@@ -26,25 +26,25 @@ use Rattle.relation_terms.specs.declared.terms.keys.ArgsKey.{ArgsKey}
 use Rattle.relation_terms.specs.declared.terms.const_kind.ConstKind.TheVariants.{Param as ConstParam}
 use Rattle.relation_terms.specs.declared.terms.const_kind.ConstKind.TheVariants.{Placeholder as ConstPlaceholder, Value, Expr}
 use Rattle.relation_terms.specs.declared.terms.const_kind.ConstKind.TheVariants.{Infer as ConstInfer, Bound as ConstBound, Unevaluated, Error as ConstError}
-use Rattle.relation_tools.specs.declared.error.TypeError.{TypeError}
-use Rattle.relation_tools.specs.declared.error.TypeError.TheVariants.{TupleSize, Sorts, ConstMismatch}
-use Rattle.relation_tools.specs.declared.error.RelateFault.{RelateFault}
-use Rattle.relation_tools.specs.declared.error.RelateFault.TheVariants.{Unrelated}
-use Rattle.relation_tools.specs.Faults.{KnowsError, KnowsFault}
-use Rattle.type_relations.specs.Relation.{plain_atom, IsError, StaysWithin}
-use Rattle.type_relations.specs.Covered.{IsCovered}
-use Rattle.type_relations.specs.Stores.{Store}
-use Rattle.type_relations.specs.Errors.{AreAlike, AreAlikeLeaves, AreAlikeConsts, AreOfOneValue, one_value, as_many_branches, IsVariableFor, AreBindable, HaveNoError, outer_head}
-use Rattle.type_relations.specs.Errors.{alike_leaves, of_one_item, both_expressions, both_values, unlike_aliases}
-use Rattle.type_relations.specs.Errors.{FormError, mutability, pointer_mutability, tuple_size, empty_tuple, as_many, sorts}
-use Rattle.type_relations.specs.Errors.{ConstFormError, const_mismatch, operations}
-use Rattle.type_relations.specs.Outcomes.{NoEqualTerms}
-use Rattle.type_relations.specs.Parts.{IsFormed, IsFormedConst}
-use Rattle.type_relations.specs.Parts.{parts_of, const_parts_of, branches_of}
+use Rattle.relation_folds.specs.declared.error.TypeError.{TypeError}
+use Rattle.relation_folds.specs.declared.error.TypeError.TheVariants.{TupleSize, Sorts, ConstMismatch}
+use Rattle.relation_folds.specs.declared.error.RelateFault.{RelateFault}
+use Rattle.relation_folds.specs.declared.error.RelateFault.TheVariants.{Unrelated}
+use Rattle.relation_folds.specs.Faults.{KnowsError, KnowsFault}
+use Rattle.relation_contexts.specs.Relation.{plain_atom, IsError, StaysWithin}
+use Rattle.relation_contexts.specs.Covered.{IsCovered}
+use Rattle.relation_contexts.specs.Stores.{Store}
+use Rattle.relation_contexts.specs.Errors.{AreAlike, AreAlikeLeaves, AreAlikeConsts, AreOfOneValue, one_value, as_many_branches, IsVariableFor, AreBindable, HaveNoError, outer_head}
+use Rattle.relation_contexts.specs.Errors.{alike_leaves, of_one_item, both_expressions, both_values, unlike_aliases}
+use Rattle.relation_contexts.specs.Errors.{FormError, mutability, pointer_mutability, tuple_size, empty_tuple, as_many, sorts}
+use Rattle.relation_contexts.specs.Errors.{ConstFormError, const_mismatch, operations}
+use Rattle.relation_contexts.specs.Outcomes.{NoEqualTerms}
+use Rattle.relation_contexts.specs.Parts.{IsFormed, IsFormedConst}
+use Rattle.relation_contexts.specs.Parts.{parts_of, const_parts_of, branches_of}
 use Rattle.type_relations.specs.Forms.{tree_outline}
 use Rattle.type_relations.specs.declared.relate.forms.Form.TheVariants.{Leaf as LeafForm}
-use Rattle.type_relations.proofs.Covered.{covered_no_error}
-use Rattle.type_relations.proofs.OneParts.{lists_apart, count_applied}
+use Rattle.relation_contexts.proofs.Covered.{covered_no_error}
+use Rattle.relation_contexts.proofs.OneParts.{lists_apart, count_applied}
 
 formed_no_variable : (t u : Tree) → IsFormed t → IsVariableFor t u → ⊥
 formed_no_variable (leaf (variable k n)) u h e = h

@@ -24,16 +24,16 @@ use Rattle.relation_terms.specs.declared.terms.ids.TraitId.{TraitId}
 use Rattle.relation_terms.specs.declared.predicate.ExistentialTraitRef.{ExistentialTraitRef}
 use Rattle.relation_terms.specs.declared.predicate.ExistentialProjection.{ExistentialProjection}
 use Rattle.relation_terms.specs.declared.predicate.ExistentialPredicate.TheVariants.{Trait, Projection, AutoTrait}
-use Rattle.relation_tools.specs.declared.error.TypeError.{TypeError}
-use Rattle.relation_tools.specs.declared.error.TypeError.TheVariants.{Mismatch, Traits, ProjectionMismatched}
-use Rattle.relation_tools.specs.declared.error.TypeError.TheVariants.{VariadicMismatch, SafetyMismatch, AbiMismatch}
-use Rattle.relation_tools.specs.declared.error.TypeError.TheVariants.{ExistentialMismatch}
-use Rattle.type_relations.specs.Errors.{AreOfOneForm, over_parts, SignatureError, unlike_variadic, unlike_safety}
-use Rattle.type_relations.specs.Errors.{unlike_abi, AreAlikeExistentials, AreAlikeMembers}
-use Rattle.type_relations.specs.Errors.{ObjectError, unlike_numbers, unlike_members, PartError}
-use Rattle.type_relations.specs.Errors.{ExistentialError, unlike_traits, unlike_auto_traits, unlike_projections}
-use Rattle.type_relations.specs.Parts.{IsComparedPart, parts_of}
-use Rattle.type_relations.proofs.Lists.{list_nth, list_count, part_known}
+use Rattle.relation_folds.specs.declared.error.TypeError.{TypeError}
+use Rattle.relation_folds.specs.declared.error.TypeError.TheVariants.{Mismatch, Traits, ProjectionMismatched}
+use Rattle.relation_folds.specs.declared.error.TypeError.TheVariants.{VariadicMismatch, SafetyMismatch, AbiMismatch}
+use Rattle.relation_folds.specs.declared.error.TypeError.TheVariants.{ExistentialMismatch}
+use Rattle.relation_contexts.specs.Errors.{AreOfOneForm, over_parts, SignatureError, unlike_variadic, unlike_safety}
+use Rattle.relation_contexts.specs.Errors.{unlike_abi, AreAlikeExistentials, AreAlikeMembers}
+use Rattle.relation_contexts.specs.Errors.{ObjectError, unlike_numbers, unlike_members, PartError}
+use Rattle.relation_contexts.specs.Errors.{ExistentialError, unlike_traits, unlike_auto_traits, unlike_projections}
+use Rattle.relation_contexts.specs.Parts.{IsComparedPart, parts_of}
+use Rattle.relation_contexts.proofs.Lists.{list_nth, list_count, part_known}
 use Rattle.type_relations.proofs.PartErrors.{members_as, counts_alike, counts_differ}
 
 -- Two truth values by a test of them.

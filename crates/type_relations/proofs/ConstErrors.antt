@@ -5,10 +5,10 @@ use Rattle.relation_terms.specs.declared.terms.enums.Variance.TheVariants.{Bivar
 use Rattle.relation_terms.specs.Heads.{Sort, const_sort, Admits, head_sort, VarKind, const_var, Head, unevaluated, expression, value, variable}
 use Rattle.relation_terms.specs.Trees.{Tree, leaf, node, bind, nil, cons, IsTerm, AreTerms, count, nth}
 use Rattle.relation_terms.specs.Meaning.{Meaning}
-use Rattle.relation_tools.specs.declared.error.TypeError.{TypeError}
-use Rattle.type_relations.specs.Relation.{Items, part_at}
-use Rattle.type_relations.specs.Stores.{Store, entry_term, MayStandFor, IsSound}
-use Rattle.type_relations.specs.Errors.{IsHandedOn, IsReadAs, itself, by_class, by_binding, ErrorOf, of_forms, of_const_forms, of_kinds, of_part_forms, of_bodies, of_entries, of_parts, of_length, of_inputs, of_outputs, of_branches, of_binding, of_binding_back}
+use Rattle.relation_folds.specs.declared.error.TypeError.{TypeError}
+use Rattle.relation_contexts.specs.Relation.{Items, part_at}
+use Rattle.relation_contexts.specs.Stores.{Store, entry_term, MayStandFor, IsSound}
+use Rattle.relation_contexts.specs.Errors.{IsHandedOn, IsReadAs, itself, by_class, by_binding, ErrorOf, of_forms, of_const_forms, of_kinds, of_part_forms, of_bodies, of_entries, of_parts, of_length, of_inputs, of_outputs, of_branches, of_binding, of_binding_back}
 use Rattle.type_relations.proofs.Constants.{still, fixed}
 
 -- What a constant is read as is one.

@@ -6,9 +6,9 @@ use Rattle.relation_terms.specs.declared.terms.enums.Variance.TheVariants.{Bivar
 use Rattle.relation_terms.specs.declared.terms.keys.RegionKey.{RegionKey}
 use Rattle.relation_terms.specs.Trees.{Assign, apply}
 use Rattle.relation_terms.specs.Meaning.{Meaning}
-use Rattle.type_relations.specs.Relation.{Interpretation, RegionRule, itself}
-use Rattle.type_relations.specs.Stores.{Store, IsRegionIn, ConstraintIn, ConstraintHolds}
-use Rattle.type_relations.specs.Constraints.{constraint_at, constraint_of}
+use Rattle.relation_contexts.specs.Relation.{Interpretation, RegionRule, itself}
+use Rattle.relation_contexts.specs.Stores.{Store, IsRegionIn, ConstraintIn, ConstraintHolds}
+use Rattle.relation_contexts.specs.Constraints.{constraint_at, constraint_of}
 
 module _ {Key Id Name : Type 0} (m : Meaning Key Id Name) where
   -- It is of a store that has the regions.

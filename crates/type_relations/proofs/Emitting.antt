@@ -9,9 +9,9 @@ use Rattle.relation_terms.specs.declared.terms.keys.PredicateKey.{PredicateKey}
 use Rattle.relation_terms.specs.Trees.{known}
 use Rattle.relation_terms.specs.Meaning.{Meaning}
 use Rattle.type_relations.specs.Emitting.{AddsGoals, KnowsPredicate}
-use Rattle.type_relations.specs.Goals.{goal_of, goals_of, KnowsGoal}
+use Rattle.relation_contexts.specs.Goals.{goal_of, goals_of, KnowsGoal}
 use Rattle.type_relations.specs.Solving.{solving}
-use Rattle.type_relations.specs.Stores.{Store}
+use Rattle.relation_contexts.specs.Stores.{Store}
 
 module _ {Key Id Name : Type 0} (m : Meaning Key Id Name) where
   -- Goals were put behind those that there were.

@@ -5,16 +5,16 @@ use Rattle.std.proofs.lemmas.List.Elements.{All-nil, All-cons, All-head, All-tai
 use Rattle.relation_terms.specs.declared.terms.keys.PredicateKey.{PredicateKey}
 use Rattle.relation_terms.specs.Trees.{Tree, known}
 use Rattle.relation_terms.specs.Meaning.{Meaning, Extends}
-use Rattle.relation_tools.specs.declared.error.RelateFault.{RelateFault}
+use Rattle.relation_folds.specs.declared.error.RelateFault.{RelateFault}
 use Rattle.type_relations.specs.Arguments.{AreOverItem}
 use Rattle.type_relations.specs.Bivariance.{HasOpenArgument, RegistersWellFormed}
 use Rattle.type_relations.specs.Emitting.{AddsGoals, KnowsPredicate, goals_in, with_goals}
-use Rattle.type_relations.specs.Goals.{Goal, ByDeclared, IsQuiet, goal_of, well_formed_predicate, HasBivariantPart, of_type}
-use Rattle.type_relations.specs.Lawful.{State, Noted, OnlyMemory, WithMeaning, RegisteredIn, RelatesByDeclared, items_in}
-use Rattle.type_relations.specs.Stores.{InContext, IsTermIn}
+use Rattle.relation_contexts.specs.Goals.{Goal, ByDeclared, IsQuiet, goal_of, well_formed_predicate, HasBivariantPart, of_type}
+use Rattle.relation_contexts.specs.Lawful.{State, Noted, OnlyMemory, WithMeaning, RegisteredIn, RelatesByDeclared, items_in}
+use Rattle.relation_contexts.specs.Stores.{InContext, IsTermIn}
 use Rattle.type_relations.proofs.Bivariance.{bivariant_parts, items_stay}
 use Rattle.type_relations.proofs.Noting.{noted_with, noted_then, noted_added}
-use Rattle.type_relations.proofs.Standing.{term_context}
+use Rattle.relation_contexts.proofs.Standing.{term_context}
 
 -- Predicates of known trees are known.
 pub listed_known : {Key Id Name : Type 0} (m : Meaning Key Id Name) (ps : List (PredicateKey Key)) →

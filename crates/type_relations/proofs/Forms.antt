@@ -10,21 +10,21 @@ use Rattle.relation_terms.specs.Heads.{alias, region_sort, type_sort, const_sort
 use Rattle.relation_terms.specs.Heads.{head_parts}
 use Rattle.relation_terms.specs.Trees.{Tree, leaf, node, bind, nil, cons, count, Fits, IsTerm}
 use Rattle.relation_terms.specs.Meaning.{Meaning}
-use Rattle.relation_tools.specs.Outlines.{named}
-use Rattle.relation_tools.specs.declared.error.TypeError.{TypeError}
-use Rattle.relation_tools.specs.declared.error.TypeError.TheVariants.{TupleSize, Sorts}
-use Rattle.relation_tools.specs.declared.error.TypeError.TheVariants.{Mutability as MutabilityError}
+use Rattle.relation_folds.specs.Outlines.{named}
+use Rattle.relation_folds.specs.declared.error.TypeError.{TypeError}
+use Rattle.relation_folds.specs.declared.error.TypeError.TheVariants.{TupleSize, Sorts}
+use Rattle.relation_folds.specs.declared.error.TypeError.TheVariants.{Mutability as MutabilityError}
 use Rattle.type_relations.specs.declared.relate.forms.Outline.{Outline}
 use Rattle.type_relations.specs.declared.relate.forms.Form.{Form}
 use Rattle.type_relations.specs.declared.relate.forms.Form.TheVariants.{Leaf, Adt, FnDef, Closure, CoroutineClosure}
 use Rattle.type_relations.specs.declared.relate.forms.Form.TheVariants.{Coroutine, CoroutineWitness, Array, Slice}
 use Rattle.type_relations.specs.declared.relate.forms.Form.TheVariants.{Pat, RawPtr, Ref, Tuple, FnPtr, UnsafeBinder, Dynamic}
-use Rattle.type_relations.specs.Covered.{IsCovered, IsCoveredHead}
-use Rattle.type_relations.specs.Parts.{parts_of, head_of}
+use Rattle.relation_contexts.specs.Covered.{IsCovered, IsCoveredHead}
+use Rattle.relation_contexts.specs.Parts.{parts_of, head_of}
 use Rattle.type_relations.specs.Forms.{named_outline, head_outline, tree_outline, IsFixed}
-use Rattle.type_relations.specs.Errors.{outer_head, outermost, AreAlike, AreOfOneForm, over_parts, one_leaf}
-use Rattle.type_relations.specs.Errors.{FormError, mutability, pointer_mutability, as_many}
-use Rattle.type_relations.proofs.Covered.{covered_no_error}
+use Rattle.relation_contexts.specs.Errors.{outer_head, outermost, AreAlike, AreOfOneForm, over_parts, one_leaf}
+use Rattle.relation_contexts.specs.Errors.{FormError, mutability, pointer_mutability, as_many}
+use Rattle.relation_contexts.proofs.Covered.{covered_no_error}
 use Rattle.type_relations.proofs.Comparing.{unlike_as, lengths_error}
 
 -- The form that an outline is of, where relating has rules for it.

@@ -2,27 +2,27 @@
 use Rattle.std.proofs.Common.{◌≡◌, ℕ, zero, suc, ◌+◌, ◌≤◌, ◌<◌, refl, sym, ap, ◌∙◌, subst, subst₂, arith, [], Ok, Err}
 use Rattle.relation_terms.specs.declared.terms.enums.Variance.TheVariants.{Invariant}
 use Rattle.relation_terms.specs.Variances.{xform}
-use Rattle.type_relations.specs.FirstOrder.{IsFirstOrder, IsFirstOrderStore}
-use Rattle.type_relations.specs.Headline.{IsFirstOrderPair}
-use Rattle.type_relations.proofs.Exactness.{exact_front_goes_on, exact_front_ends}
+use Rattle.relation_contexts.specs.FirstOrder.{IsFirstOrder, IsFirstOrderStore}
+use Rattle.relation_contexts.specs.Headline.{IsFirstOrderPair}
+use Rattle.relation_contexts.proofs.Exactness.{exact_front_goes_on, exact_front_ends}
 use Rattle.relation_terms.specs.declared.terms.enums.Variance.{Variance}
 use Rattle.relation_terms.specs.Heads.{Head, value_type}
 use Rattle.relation_terms.specs.Trees.{Tree, leaf, node, bind, nil, cons, IsList, count, nth, Leaves}
-use Rattle.type_relations.specs.Relation.{Items, at, parts, part_at, mode}
-use Rattle.type_relations.specs.Stores.{Store, InContext, weight, resolved}
-use Rattle.type_relations.specs.Outcomes.{Outcome, Front, NeverOne, Exact, ExactFront, NoUnifier}
-use Rattle.type_relations.specs.Measures.{grown}
-use Rattle.type_relations.specs.Steps.{HasNoBinder, StaysFullFor}
-use Rattle.relation_tools.specs.declared.error.RelateFault.{RelateFault}
-use Rattle.relation_tools.specs.declared.error.RelateFault.TheVariants.{Memory, Budget, Unrelated}
-use Rattle.type_relations.specs.OneUniverse.{NamesTypesTo, KeepsUniverseOf, LeadsInUniverse}
-use Rattle.type_relations.specs.Lawful.{State, Manners, Passes, Related, ExactResult, items_in}
-use Rattle.type_relations.proofs.OneUniverse.{keeps_itself, keeps_pair, leaves_nth, led_keeps, led_binds, led_fewer}
-use Rattle.type_relations.proofs.Going.{pair_grown, later_itself}
-use Rattle.type_relations.proofs.Full.{full_itself, full_then, nth_plain}
-use Rattle.type_relations.proofs.Composing.{front_begins, front_goes_on, front_ends}
-use Rattle.type_relations.proofs.Passing.{passes_nowhere, passes_then, manner_then, outcome_seen}
-use Rattle.type_relations.proofs.Parts.{nth_size}
+use Rattle.relation_contexts.specs.Relation.{Items, at, parts, part_at, mode}
+use Rattle.relation_contexts.specs.Stores.{Store, InContext, weight, resolved}
+use Rattle.relation_contexts.specs.Outcomes.{Outcome, Front, NeverOne, Exact, ExactFront, NoUnifier}
+use Rattle.relation_contexts.specs.Measures.{grown}
+use Rattle.relation_contexts.specs.Steps.{HasNoBinder, StaysFullFor}
+use Rattle.relation_folds.specs.declared.error.RelateFault.{RelateFault}
+use Rattle.relation_folds.specs.declared.error.RelateFault.TheVariants.{Memory, Budget, Unrelated}
+use Rattle.relation_contexts.specs.OneUniverse.{NamesTypesTo, KeepsUniverseOf, LeadsInUniverse}
+use Rattle.relation_contexts.specs.Lawful.{State, Manners, Passes, Related, ExactResult, items_in}
+use Rattle.relation_contexts.proofs.OneUniverse.{keeps_itself, keeps_pair, leaves_nth, led_keeps, led_binds, led_fewer}
+use Rattle.relation_contexts.proofs.Going.{pair_grown, later_itself}
+use Rattle.relation_contexts.proofs.Full.{full_itself, full_then, nth_plain}
+use Rattle.relation_contexts.proofs.Composing.{front_begins, front_goes_on, front_ends}
+use Rattle.relation_contexts.proofs.Passing.{passes_nowhere, passes_then, manner_then, outcome_seen}
+use Rattle.relation_contexts.proofs.Parts.{nth_size}
 
 -- Forms whose parts are looked at, which are at invariance where the form is.
 abbrev pub IsLookedAt : Head → Type 0

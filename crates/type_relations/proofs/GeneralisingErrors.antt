@@ -5,13 +5,13 @@ use Rattle.relation_terms.specs.Trees.{Tree, leaf, node, apply}
 use Rattle.relation_terms.specs.Meaning.{Meaning}
 use Rattle.relation_terms.specs.declared.terms.keys.TyKey.{TyKey}
 use Rattle.relation_terms.specs.declared.terms.keys.ConstKey.{ConstKey}
-use Rattle.relation_tools.specs.declared.error.TypeError.TheVariants.{CyclicTy, CyclicConst, Mismatch}
-use Rattle.type_relations.specs.Stores.{Store, universe_of, IsSound, resolved}
-use Rattle.type_relations.specs.Generalising.{IsPlainHead, Obstacle, cycle, beyond, StopsAt, at_itself, at_placeholder, in_parts, in_body, in_first, in_others, RefusesBy}
-use Rattle.type_relations.specs.Errors.{StandsOutside, IsCycle, BindingError, cyclic_ty, cyclic_const}
-use Rattle.type_relations.specs.Errors.{beyond as beyond_universe}
-use Rattle.type_relations.proofs.Trees.{apply_alike}
-use Rattle.type_relations.proofs.NewVariables.{Adds, adds}
+use Rattle.relation_folds.specs.declared.error.TypeError.TheVariants.{CyclicTy, CyclicConst, Mismatch}
+use Rattle.relation_contexts.specs.Stores.{Store, universe_of, IsSound, resolved}
+use Rattle.relation_contexts.specs.Generalising.{IsPlainHead, Obstacle, cycle, beyond, StopsAt, at_itself, at_placeholder, in_parts, in_body, in_first, in_others, RefusesBy}
+use Rattle.relation_contexts.specs.Errors.{StandsOutside, IsCycle, BindingError, cyclic_ty, cyclic_const}
+use Rattle.relation_contexts.specs.Errors.{beyond as beyond_universe}
+use Rattle.relation_contexts.proofs.Trees.{apply_alike}
+use Rattle.relation_contexts.proofs.NewVariables.{Adds, adds}
 
 outside_form : (l : _) (h : Head) (ts : Tree) → IsPlainHead h → StandsOutside l ts → StandsOutside l (node h ts)
 outside_form l (alias k d) ts p s = absurd p

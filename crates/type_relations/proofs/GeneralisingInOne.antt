@@ -4,20 +4,20 @@ use Rattle.relation_terms.specs.declared.terms.enums.Variance.{Variance}
 use Rattle.relation_terms.specs.declared.terms.enums.Variance.TheVariants.{Invariant}
 use Rattle.relation_terms.specs.Heads.{VarKind, type_var, const_var, region_var, region_kind, bound_kind, static_region, early_region, value_type, Head, Leaf, variable, placeholder, atom}
 use Rattle.relation_terms.specs.Trees.{Tree, Leaves, apply}
-use Rattle.type_relations.specs.Relation.{Items}
-use Rattle.type_relations.specs.Stores.{Store, IsMadeLeaf, InContext, universe_of, IsMade, IsTermIn, IsSound, MayStandFor, resolved}
-use Rattle.type_relations.specs.FirstOrder.{IsFirstOrder, IsFirstOrderStore, IsClosedLeaf, IsTypeClosed}
-use Rattle.type_relations.specs.ErasureLaws.{IsTypeOrConst}
-use Rattle.type_relations.specs.Steps.{IsNamedBy, MakesVariable, Instantiates}
-use Rattle.type_relations.specs.OneUniverse.{NamesTypesTo, HasOneUniverse, StaysOf}
+use Rattle.relation_contexts.specs.Relation.{Items}
+use Rattle.relation_contexts.specs.Stores.{Store, IsMadeLeaf, InContext, universe_of, IsMade, IsTermIn, IsSound, MayStandFor, resolved}
+use Rattle.relation_contexts.specs.FirstOrder.{IsFirstOrder, IsFirstOrderStore, IsClosedLeaf, IsTypeClosed}
+use Rattle.relation_contexts.specs.ErasureLaws.{IsTypeOrConst}
+use Rattle.relation_contexts.specs.Steps.{IsNamedBy, MakesVariable, Instantiates}
+use Rattle.relation_contexts.specs.OneUniverse.{NamesTypesTo, HasOneUniverse, StaysOf}
 use Rattle.type_relations.specs.UniverseLaws.{GeneralisingKeepsUniverse}
-use Rattle.type_relations.specs.Generalising.{Stays, gives_way_to, Stage, Turn, any_part, new_part, parts_from, Generalised, met_before, met_first, no_type, stays, gives_way, by_parts, in_binder, no_parts, next_part, variance_for, InstantiatesBy, NumbersNameNothing}
-use Rattle.type_relations.proofs.Generalising.{some_path}
+use Rattle.relation_contexts.specs.Generalising.{Stays, gives_way_to, Stage, Turn, any_part, new_part, parts_from, Generalised, met_before, met_first, no_type, stays, gives_way, by_parts, in_binder, no_parts, next_part, variance_for, InstantiatesBy, NumbersNameNothing}
+use Rattle.relation_contexts.proofs.Generalising.{some_path}
 use Rattle.type_relations.proofs.Fronts.{IsLookedAt, part_invariant}
-use Rattle.type_relations.proofs.Instantiating.{resolved_first_order}
-use Rattle.type_relations.proofs.BindingGeneralised.{generalised_instantiates}
-use Rattle.type_relations.proofs.OneUniverse.{roots_fall, bound_names, all_named}
-use Rattle.type_relations.proofs.Standing.{term_context}
+use Rattle.relation_contexts.proofs.Instantiating.{resolved_first_order}
+use Rattle.relation_contexts.proofs.BindingGeneralised.{generalised_instantiates}
+use Rattle.relation_contexts.proofs.OneUniverse.{roots_fall, bound_names, all_named}
+use Rattle.relation_contexts.proofs.Standing.{term_context}
 
 -- No variable of a type or a constant was made.
 abbrev MakesNoTypes : Store → Store → Type 0

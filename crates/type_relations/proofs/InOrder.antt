@@ -8,35 +8,35 @@ use Rattle.relation_terms.specs.Heads.{Sort}
 use Rattle.relation_terms.specs.Trees.{Tree, node, leaf, bind, nil, cons, known, IsTerm, IsList, count, nth, apply}
 use Rattle.relation_terms.specs.Trees.{Assign}
 use Rattle.relation_terms.specs.Parts.{Fit, part_sort, tree_sort}
-use Rattle.relation_tools.specs.declared.error.TypeError.{TypeError}
-use Rattle.relation_tools.specs.declared.error.RelateFault.{RelateFault}
-use Rattle.relation_tools.specs.declared.error.RelateFault.TheVariants.{Memory, Budget, Unrelated}
-use Rattle.relation_tools.specs.Faults.{KnowsFault}
-use Rattle.type_relations.specs.Relation.{Interpretation, at, parts, part_at, Rel, same, atoms, forms}
-use Rattle.type_relations.specs.Stores.{Satisfies}
-use Rattle.type_relations.specs.Goals.{Holds}
-use Rattle.type_relations.specs.Headline.{IsFirstOrderPair}
-use Rattle.type_relations.specs.OneUniverse.{NamesTypesTo, BindsNoMore}
-use Rattle.type_relations.specs.Errors.{ErrorOf, of_part_forms, AreOfOneForm, over_parts, one_leaf, parameters}
-use Rattle.type_relations.specs.Errors.{PartError}
-use Rattle.type_relations.specs.Parts.{parts_of, head_of, IsByParts}
+use Rattle.relation_folds.specs.declared.error.TypeError.{TypeError}
+use Rattle.relation_folds.specs.declared.error.RelateFault.{RelateFault}
+use Rattle.relation_folds.specs.declared.error.RelateFault.TheVariants.{Memory, Budget, Unrelated}
+use Rattle.relation_folds.specs.Faults.{KnowsFault}
+use Rattle.relation_contexts.specs.Relation.{Interpretation, at, parts, part_at, Rel, same, atoms, forms}
+use Rattle.relation_contexts.specs.Stores.{Satisfies}
+use Rattle.relation_contexts.specs.Goals.{Holds}
+use Rattle.relation_contexts.specs.Headline.{IsFirstOrderPair}
+use Rattle.relation_contexts.specs.OneUniverse.{NamesTypesTo, BindsNoMore}
+use Rattle.relation_contexts.specs.Errors.{ErrorOf, of_part_forms, AreOfOneForm, over_parts, one_leaf, parameters}
+use Rattle.relation_contexts.specs.Errors.{PartError}
+use Rattle.relation_contexts.specs.Parts.{parts_of, head_of, IsByParts}
 use Rattle.type_relations.specs.Handing.{named_place, IsFaultOfPart}
-use Rattle.type_relations.specs.Making.{over}
-use Rattle.type_relations.specs.Lawful.{State, Manners, MayAnswer, Passes, Refuses, Related, items_in}
-use Rattle.type_relations.specs.Lawful.{ExactResult, ExactlyRelated}
-use Rattle.type_relations.proofs.Registered.{registered_in}
-use Rattle.type_relations.proofs.Passing.{passes_within, manner_then, stopped}
+use Rattle.relation_contexts.specs.Making.{over}
+use Rattle.relation_contexts.specs.Lawful.{State, Manners, MayAnswer, Passes, Refuses, Related, items_in}
+use Rattle.relation_contexts.specs.Lawful.{ExactResult, ExactlyRelated}
+use Rattle.relation_contexts.proofs.Registered.{registered_in}
+use Rattle.relation_contexts.proofs.Passing.{passes_within, manner_then, stopped}
 use Rattle.type_relations.proofs.Fronts.{Fronted, AreParts, fronted_never, fronted_all, fronted_passes, fronted_fault}
 use Rattle.type_relations.proofs.Fronts.{fronted_exactly, fronted_full}
-use Rattle.type_relations.proofs.Full.{parts_plain}
+use Rattle.relation_contexts.proofs.Full.{parts_plain}
 use Rattle.type_relations.proofs.Structural.{types_never, parts_pair}
 use Rattle.type_relations.proofs.StructuralConsts.{refused_here}
 use Rattle.type_relations.proofs.Unifying.{answered_as, refused_as}
-use Rattle.type_relations.proofs.OneUniverse.{leaves_parts, keeps_binds, binds_as}
-use Rattle.type_relations.proofs.OneParts.{parts_equal}
+use Rattle.relation_contexts.proofs.OneUniverse.{leaves_parts, keeps_binds, binds_as}
+use Rattle.relation_contexts.proofs.OneParts.{parts_equal}
 use Rattle.type_relations.proofs.PartSizes.{weight_parts_most}
-use Rattle.type_relations.proofs.Answering.{same_items, may_itself, AnswersParts, may_form}
-use Rattle.type_relations.proofs.Lists.{firsts, snoc, firsts_more, firsts_all}
+use Rattle.relation_contexts.proofs.Answering.{same_items, may_itself, AnswersParts, may_form}
+use Rattle.relation_contexts.proofs.Lists.{firsts, snoc, firsts_more, firsts_all}
 use Rattle.type_relations.proofs.Patterns.{term_related}
 use Rattle.type_relations.proofs.PartErrors.{term_looked_at, terms_unify, part_error_never, part_error_apart}
 use Rattle.type_relations.proofs.PartErrors.{part_error_known}

@@ -5,21 +5,21 @@ use Rattle.relation_terms.specs.Heads.{Head, Leaf, unevaluated, expression, valu
 use Rattle.relation_terms.specs.Trees.{Tree, leaf, node, bind, nil, cons, Leaves, known, count, nth}
 use Rattle.relation_terms.specs.declared.terms.keys.ConstKey.{ConstKey}
 use Rattle.relation_terms.specs.declared.terms.generic_arg.GenericArgKind.{GenericArgKind}
-use Rattle.relation_tools.specs.declared.error.RelateFault.{RelateFault}
-use Rattle.type_relations.specs.Relation.{Items, part_at}
-use Rattle.type_relations.specs.Stores.{IsTermIn, weight}
-use Rattle.type_relations.specs.Measures.{depth}
-use Rattle.type_relations.specs.Goals.{Goal}
-use Rattle.type_relations.specs.Errors.{AreOfOneForm, over_parts, one_leaf, parameters, AreOfOneConst, values, expressions, const_parameters}
-use Rattle.type_relations.specs.Parts.{parts_of, const_parts_of, branches_of, head_of, const_head_of}
+use Rattle.relation_folds.specs.declared.error.RelateFault.{RelateFault}
+use Rattle.relation_contexts.specs.Relation.{Items, part_at}
+use Rattle.relation_contexts.specs.Stores.{IsTermIn, weight}
+use Rattle.relation_contexts.specs.Measures.{depth}
+use Rattle.relation_contexts.specs.Goals.{Goal}
+use Rattle.relation_contexts.specs.Errors.{AreOfOneForm, over_parts, one_leaf, parameters, AreOfOneConst, values, expressions, const_parameters}
+use Rattle.relation_contexts.specs.Parts.{parts_of, const_parts_of, branches_of, head_of, const_head_of}
 use Rattle.type_relations.specs.Handing.{IsFaultOfTy, IsFaultOfConst, IsFaultOfPart, IsResultOfTy, IsResultOfConst, IsResultOfPart}
-use Rattle.type_relations.specs.Lawful.{State, Manner, Manners, TakesParts, Takes, Asked, LeadsToParts, LeadsAgain, items_in}
-use Rattle.type_relations.proofs.Going.{depth-mono, depth-strict, depth-spent, depth_later}
-use Rattle.type_relations.proofs.Standing.{later_term}
-use Rattle.type_relations.proofs.Parts.{in_part, in_const_part}
-use Rattle.type_relations.proofs.Covered.{covered_part, covered_const_part}
+use Rattle.relation_contexts.specs.Lawful.{State, Manner, Manners, TakesParts, Takes, Asked, LeadsToParts, LeadsAgain, items_in}
+use Rattle.relation_contexts.proofs.Going.{depth-mono, depth-strict, depth-spent, depth_later}
+use Rattle.relation_contexts.proofs.Standing.{later_term}
+use Rattle.relation_contexts.proofs.Parts.{in_part, in_const_part}
+use Rattle.relation_contexts.proofs.Covered.{covered_part, covered_const_part}
 use Rattle.type_relations.proofs.PartSizes.{weight_parts, weight_const_parts}
-use Rattle.type_relations.proofs.Passing.{manner_then}
+use Rattle.relation_contexts.proofs.Passing.{manner_then}
 use Rattle.type_relations.proofs.Fronts.{Fronted, part_small}
 
 -- The members of a list have its leaves.

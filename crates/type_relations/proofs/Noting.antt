@@ -3,22 +3,22 @@ use Rattle.std.proofs.Common.{◌≡◌, ◌∙◌, sym, ap, subst, arith, List,
 use Rattle.std.proofs.lemmas.List.{append-nil}
 use Rattle.std.proofs.lemmas.List.Elements.{All-nil, All-append}
 use Rattle.relation_terms.specs.Meaning.{Extends}
-use Rattle.relation_tools.specs.declared.error.RelateFault.{RelateFault}
+use Rattle.relation_folds.specs.declared.error.RelateFault.{RelateFault}
 use Rattle.relation_terms.proofs.Stays.{stays_same}
-use Rattle.type_relations.specs.Contexts.{Context}
-use Rattle.type_relations.specs.ContextCalls.{Grows}
+use Rattle.relation_contexts.specs.Contexts.{Context}
+use Rattle.relation_contexts.specs.ContextCalls.{Grows}
 use Rattle.type_relations.specs.Emitting.{AddsGoals, IsOver, WithContext, with_goals}
-use Rattle.type_relations.specs.FirstOrder.{IsFirstOrderStore, IsErasedSolution}
-use Rattle.type_relations.specs.Measures.{Goes}
-use Rattle.type_relations.specs.Goals.{Goal, IsQuiet}
-use Rattle.type_relations.specs.Lawful.{State, Noted, OnlyMemory, WithMeaning, RegisteredIn}
-use Rattle.type_relations.specs.OneUniverse.{KeepsUniverse}
-use Rattle.type_relations.specs.Steps.{IsLater}
-use Rattle.type_relations.specs.Stores.{Store, Satisfies}
-use Rattle.type_relations.proofs.Going.{goes_nowhere, later_itself}
-use Rattle.type_relations.proofs.Full.{full_same, full_then}
-use Rattle.type_relations.proofs.OneUniverse.{keeps_itself, keeps_then}
-use Rattle.type_relations.proofs.Passing.{passes_then, passes_nowhere, passes_grown}
+use Rattle.relation_contexts.specs.FirstOrder.{IsFirstOrderStore, IsErasedSolution}
+use Rattle.relation_contexts.specs.Measures.{Goes}
+use Rattle.relation_contexts.specs.Goals.{Goal, IsQuiet}
+use Rattle.relation_contexts.specs.Lawful.{State, Noted, OnlyMemory, WithMeaning, RegisteredIn}
+use Rattle.relation_contexts.specs.OneUniverse.{KeepsUniverse}
+use Rattle.relation_contexts.specs.Steps.{IsLater}
+use Rattle.relation_contexts.specs.Stores.{Store, Satisfies}
+use Rattle.relation_contexts.proofs.Going.{goes_nowhere, later_itself}
+use Rattle.relation_contexts.proofs.Full.{full_same, full_then}
+use Rattle.relation_contexts.proofs.OneUniverse.{keeps_itself, keeps_then}
+use Rattle.relation_contexts.proofs.Passing.{passes_then, passes_nowhere, passes_grown}
 
 module _ {Key Id Name : Type 0} where
   pub noted_then : {X Y : Type 0} {r q p : State Key Id Name} (x : Result X (RelateFault Key Id Name))

@@ -19,13 +19,13 @@ use Rattle.relation_terms.specs.declared.terms.numbers.FloatVid.{FloatVid}
 use Rattle.relation_terms.specs.declared.terms.enums.IntTy.{IntTy}
 use Rattle.relation_terms.specs.declared.terms.enums.UintTy.{UintTy}
 use Rattle.relation_terms.specs.declared.terms.enums.FloatTy.{FloatTy}
-use Rattle.type_relations.specs.Relation.{StaysWithin}
-use Rattle.type_relations.specs.Steps.{IsNumberFor}
-use Rattle.type_relations.specs.Relation.{StaysWithin}
-use Rattle.type_relations.specs.Covered.{IsCovered}
-use Rattle.type_relations.specs.Parts.{IsFormed}
-use Rattle.type_relations.proofs.Numbers.{IsNumber, covered_formed}
-use Rattle.type_relations.specs.NumberValues.{int_value_tree, float_value_tree}
+use Rattle.relation_contexts.specs.Relation.{StaysWithin}
+use Rattle.relation_contexts.specs.Steps.{IsNumberFor}
+use Rattle.relation_contexts.specs.Relation.{StaysWithin}
+use Rattle.relation_contexts.specs.Covered.{IsCovered}
+use Rattle.relation_contexts.specs.Parts.{IsFormed}
+use Rattle.relation_contexts.proofs.Numbers.{IsNumber, covered_formed}
+use Rattle.relation_contexts.specs.NumberValues.{int_value_tree, float_value_tree}
 use Rattle.type_relations.specs.declared.relate.number_vars.NumberVid.{NumberVid}
 use Rattle.type_relations.specs.declared.relate.number_vars.NumberVid.TheVariants as vid
 use Rattle.type_relations.specs.NumberVars.{number_kind, infer_of, number_tree, IsNoNumberVar}

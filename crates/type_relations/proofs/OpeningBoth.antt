@@ -7,32 +7,32 @@ use Rattle.relation_terms.specs.Heads.{BoundKind, VarKind, type_var, const_var, 
 use Rattle.relation_terms.specs.Heads.{atom, unknown}
 use Rattle.relation_terms.specs.Trees.{Tree, leaf, bind, inst, size, Leaves}
 use Rattle.relation_terms.specs.Meaning.{Meaning}
-use Rattle.relation_tools.specs.declared.error.TypeError.{TypeError}
-use Rattle.type_relations.specs.Relation.{Items, StaysWithin, at, second_opened, first_opened}
-use Rattle.type_relations.specs.Stores.{Store, unbound, entry_term, counts_term, counts_bound, tally, bound_term}
-use Rattle.type_relations.specs.Stores.{all_bound, IsMade, IsMadeLeaf, IsInScope, InContext, IsNamable, IsTermIn}
-use Rattle.type_relations.specs.Stores.{IsSound, resolved, weight}
-use Rattle.type_relations.specs.Goals.{Goal}
-use Rattle.type_relations.specs.Steps.{ChangesNothing, EntersForall, LeavesBody, EntersUniverse, InstantiatesBinder}
-use Rattle.type_relations.specs.Steps.{ArePlaceholders}
-use Rattle.type_relations.specs.Outcomes.{StepsTo}
-use Rattle.type_relations.specs.Measures.{Goes}
-use Rattle.type_relations.specs.Errors.{IsStandIn, StandFor, ErrorOf, of_bodies}
-use Rattle.type_relations.specs.Covered.{IsCovered}
-use Rattle.type_relations.specs.Generalising.{MakesUnbound}
-use Rattle.type_relations.specs.Binders.{variable_kind, MakesEach, makes_none, makes_next, InstantiatesEach}
-use Rattle.type_relations.proofs.Trees.{Leaves_map₂, inst_within, apply_alike}
-use Rattle.type_relations.proofs.Standing.{later_term, term_context, term_namable}
-use Rattle.type_relations.proofs.Values.{some_placeholders, some_are_placeholders}
-use Rattle.type_relations.proofs.Tallies.{all_alike}
-use Rattle.type_relations.proofs.Resolved.{resolved_same}
-use Rattle.type_relations.proofs.StoreCalls.{nothing_is_seen}
-use Rattle.type_relations.proofs.NewVariables.{Adds, adds, adds_goes}
-use Rattle.type_relations.proofs.MakingEach.{variable_sort, each_unbound, instantiating_each_opens}
+use Rattle.relation_folds.specs.declared.error.TypeError.{TypeError}
+use Rattle.relation_contexts.specs.Relation.{Items, StaysWithin, at, second_opened, first_opened}
+use Rattle.relation_contexts.specs.Stores.{Store, unbound, entry_term, counts_term, counts_bound, tally, bound_term}
+use Rattle.relation_contexts.specs.Stores.{all_bound, IsMade, IsMadeLeaf, IsInScope, InContext, IsNamable, IsTermIn}
+use Rattle.relation_contexts.specs.Stores.{IsSound, resolved, weight}
+use Rattle.relation_contexts.specs.Goals.{Goal}
+use Rattle.relation_contexts.specs.Steps.{ChangesNothing, EntersForall, LeavesBody, EntersUniverse, InstantiatesBinder}
+use Rattle.relation_contexts.specs.Steps.{ArePlaceholders}
+use Rattle.relation_contexts.specs.Outcomes.{StepsTo}
+use Rattle.relation_contexts.specs.Measures.{Goes}
+use Rattle.relation_contexts.specs.Errors.{IsStandIn, StandFor, ErrorOf, of_bodies}
+use Rattle.relation_contexts.specs.Covered.{IsCovered}
+use Rattle.relation_contexts.specs.Generalising.{MakesUnbound}
+use Rattle.relation_contexts.specs.Binders.{variable_kind, MakesEach, makes_none, makes_next, InstantiatesEach}
+use Rattle.relation_contexts.proofs.Trees.{Leaves_map₂, inst_within, apply_alike}
+use Rattle.relation_contexts.proofs.Standing.{later_term, term_context, term_namable}
+use Rattle.relation_contexts.proofs.Values.{some_placeholders, some_are_placeholders}
+use Rattle.relation_contexts.proofs.Tallies.{all_alike}
+use Rattle.relation_contexts.proofs.Resolved.{resolved_same}
+use Rattle.relation_contexts.proofs.StoreCalls.{nothing_is_seen}
+use Rattle.relation_contexts.proofs.NewVariables.{Adds, adds, adds_goes}
+use Rattle.relation_contexts.proofs.MakingEach.{variable_sort, each_unbound, instantiating_each_opens}
 use Rattle.type_relations.proofs.OpenedTerms.{entered_body_is_in, instantiated_body_is_in, entered_body_covered}
 use Rattle.type_relations.proofs.OpenedTerms.{instantiated_body_covered}
-use Rattle.type_relations.proofs.Opening.{changes_later, opening_steps}
-use Rattle.type_relations.proofs.Going.{goes_then}
+use Rattle.relation_contexts.proofs.Opening.{changes_later, opening_steps}
+use Rattle.relation_contexts.proofs.Going.{goes_then}
 
 -- What changes nothing leaves sizes, costs nothing and stays sound.
 module _ (before after : Store) (h : ChangesNothing before after) where

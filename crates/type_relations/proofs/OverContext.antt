@@ -12,36 +12,36 @@ use Rattle.relation_terms.specs.Trees.{Tree, leaf, Assign, apply, IsTerm, known}
 use Rattle.relation_terms.specs.Erasure.{erase}
 use Rattle.relation_terms.specs.Meaning.{Meaning, Extends}
 use Rattle.relation_terms.proofs.Stays.{stays_same}
-use Rattle.relation_tools.specs.declared.error.TypeError.{TypeError}
-use Rattle.relation_tools.specs.declared.error.TypeError.TheVariants.{Sorts}
-use Rattle.relation_tools.specs.declared.error.RelateFault.{RelateFault}
-use Rattle.relation_tools.specs.declared.error.RelateFault.TheVariants.{Unrelated}
-use Rattle.relation_tools.specs.Faults.{KnowsError}
-use Rattle.type_relations.specs.declared.relate.Step.TheVariants.{Done, Parts}
-use Rattle.type_relations.specs.Relation.{Interpretation, Rel, at, same as same_rel}
-use Rattle.type_relations.specs.Stores.{Store, IsSound, Satisfies, IsMade, InContext, MayStandFor, weight}
-use Rattle.type_relations.specs.Goals.{Goal, GoalInContext, MakesOneTree}
-use Rattle.type_relations.specs.Steps.{Equates, InstantiatesNumber, StaysFull}
-use Rattle.type_relations.specs.Outcomes.{Exact, NoEqualTerms, NoUnifier}
-use Rattle.type_relations.specs.Measures.{Goes}
-use Rattle.type_relations.specs.Errors.{ErrorOf, of_entries, IsReadAs, itself, by_class, by_binding}
-use Rattle.type_relations.specs.FirstOrder.{IsFirstOrderStore}
-use Rattle.type_relations.specs.Covered.{IsCovered}
-use Rattle.type_relations.specs.Lawful.{RegisteredIn, Passes, Asked, Takes, Related, Stepped, items_of, Settings, State}
+use Rattle.relation_folds.specs.declared.error.TypeError.{TypeError}
+use Rattle.relation_folds.specs.declared.error.TypeError.TheVariants.{Sorts}
+use Rattle.relation_folds.specs.declared.error.RelateFault.{RelateFault}
+use Rattle.relation_folds.specs.declared.error.RelateFault.TheVariants.{Unrelated}
+use Rattle.relation_folds.specs.Faults.{KnowsError}
+use Rattle.relation_contexts.specs.declared.relate.Step.TheVariants.{Done, Parts}
+use Rattle.relation_contexts.specs.Relation.{Interpretation, Rel, at, same as same_rel}
+use Rattle.relation_contexts.specs.Stores.{Store, IsSound, Satisfies, IsMade, InContext, MayStandFor, weight}
+use Rattle.relation_contexts.specs.Goals.{Goal, GoalInContext, MakesOneTree}
+use Rattle.relation_contexts.specs.Steps.{Equates, InstantiatesNumber, StaysFull}
+use Rattle.relation_contexts.specs.Outcomes.{Exact, NoEqualTerms, NoUnifier}
+use Rattle.relation_contexts.specs.Measures.{Goes}
+use Rattle.relation_contexts.specs.Errors.{ErrorOf, of_entries, IsReadAs, itself, by_class, by_binding}
+use Rattle.relation_contexts.specs.FirstOrder.{IsFirstOrderStore}
+use Rattle.relation_contexts.specs.Covered.{IsCovered}
+use Rattle.relation_contexts.specs.Lawful.{RegisteredIn, Passes, Asked, Takes, Related, Stepped, items_of, Settings, State}
 use Rattle.type_relations.specs.Emitting.{IsOver, WithContext}
-use Rattle.type_relations.specs.Contexts.{Context}
-use Rattle.type_relations.specs.ContextCalls.{Grows, Stands, HasCoveredBindings}
+use Rattle.relation_contexts.specs.Contexts.{Context}
+use Rattle.relation_contexts.specs.ContextCalls.{Grows, Stands, HasCoveredBindings}
 use Rattle.type_relations.specs.Solving.{solver_manner, solver_settings}
-use Rattle.type_relations.proofs.Trees.{all_leaves}
-use Rattle.type_relations.proofs.Going.{later_itself, goes_nowhere}
-use Rattle.type_relations.proofs.Full.{full_itself, read_plain}
-use Rattle.type_relations.proofs.ReadAs.{read_value, read_later, read_weight}
-use Rattle.type_relations.specs.OneUniverse.{KeepsUniverse}
-use Rattle.type_relations.proofs.OneUniverse.{keeps_pair, binds_itself, reading_leads}
-use Rattle.type_relations.proofs.Roots.{roots_goes, roots_equal, roots_keep, roots_exactly, roots_universe, roots_full, exact_turned}
-use Rattle.type_relations.proofs.Numbers.{IsNumber, number_goes, number_equal, number_keep, number_exactly, number_apart}
-use Rattle.type_relations.proofs.Numbers.{number_universe, number_full}
-use Rattle.type_relations.proofs.Numbers.{number_no_unifier, number_error, number_error_back}
+use Rattle.relation_contexts.proofs.Trees.{all_leaves}
+use Rattle.relation_contexts.proofs.Going.{later_itself, goes_nowhere}
+use Rattle.relation_contexts.proofs.Full.{full_itself, read_plain}
+use Rattle.relation_contexts.proofs.ReadAs.{read_value, read_later, read_weight}
+use Rattle.relation_contexts.specs.OneUniverse.{KeepsUniverse}
+use Rattle.relation_contexts.proofs.OneUniverse.{keeps_pair, binds_itself, reading_leads}
+use Rattle.relation_contexts.proofs.Roots.{roots_goes, roots_equal, roots_keep, roots_exactly, roots_universe, roots_full, exact_turned}
+use Rattle.relation_contexts.proofs.Numbers.{IsNumber, number_goes, number_equal, number_keep, number_exactly, number_apart}
+use Rattle.relation_contexts.proofs.Numbers.{number_universe, number_full}
+use Rattle.relation_contexts.proofs.Numbers.{number_no_unifier, number_error, number_error_back}
 use Rattle.type_relations.proofs.Exactly.{read_pair, reading_exact}
 
 -- A relation over other keys and another record, with another invariant.

@@ -18,27 +18,27 @@ use Rattle.relation_terms.specs.declared.predicate.ExistentialTraitRef.{Existent
 use Rattle.relation_terms.specs.declared.predicate.ExistentialProjection.{ExistentialProjection}
 use Rattle.relation_terms.specs.declared.predicate.ExistentialPredicate.{ExistentialPredicate}
 use Rattle.relation_terms.specs.declared.predicate.ExistentialPredicate.TheVariants.{Trait, Projection, AutoTrait}
-use Rattle.relation_tools.specs.declared.error.TypeError.{TypeError}
-use Rattle.relation_tools.specs.declared.error.TypeError.TheVariants.{Mismatch}
-use Rattle.relation_tools.specs.Faults.{KnowsError}
-use Rattle.type_relations.specs.Relation.{at, sort_of}
-use Rattle.type_relations.specs.Stores.{Store}
-use Rattle.type_relations.specs.FirstOrder.{Unifies}
-use Rattle.type_relations.specs.Outcomes.{NeverOne, NoUnifier}
-use Rattle.type_relations.specs.Errors.{AreOfOneForm, over_parts, one_leaf, parameters, AreAlikeExistentials, both_traits}
-use Rattle.type_relations.specs.Errors.{both_projections, both_auto_traits, AreAlikeMembers, under_binders}
-use Rattle.type_relations.specs.Errors.{unlike_patterns, SignatureError, unlike_variadic, unlike_safety, unlike_abi}
-use Rattle.type_relations.specs.Errors.{unlike_counts, ExistentialError, unlike_traits, unlike_auto_traits}
-use Rattle.type_relations.specs.Errors.{unlike_projections, unlike_arguments, unlike_existentials, ObjectError}
-use Rattle.type_relations.specs.Errors.{unlike_numbers, unlike_members, PartError, pattern_error, signature_error}
-use Rattle.type_relations.specs.Errors.{existential_error, object_error}
-use Rattle.type_relations.specs.Parts.{parts_of, head_of, IsByParts}
+use Rattle.relation_folds.specs.declared.error.TypeError.{TypeError}
+use Rattle.relation_folds.specs.declared.error.TypeError.TheVariants.{Mismatch}
+use Rattle.relation_folds.specs.Faults.{KnowsError}
+use Rattle.relation_contexts.specs.Relation.{at, sort_of}
+use Rattle.relation_contexts.specs.Stores.{Store}
+use Rattle.relation_contexts.specs.FirstOrder.{Unifies}
+use Rattle.relation_contexts.specs.Outcomes.{NeverOne, NoUnifier}
+use Rattle.relation_contexts.specs.Errors.{AreOfOneForm, over_parts, one_leaf, parameters, AreAlikeExistentials, both_traits}
+use Rattle.relation_contexts.specs.Errors.{both_projections, both_auto_traits, AreAlikeMembers, under_binders}
+use Rattle.relation_contexts.specs.Errors.{unlike_patterns, SignatureError, unlike_variadic, unlike_safety, unlike_abi}
+use Rattle.relation_contexts.specs.Errors.{unlike_counts, ExistentialError, unlike_traits, unlike_auto_traits}
+use Rattle.relation_contexts.specs.Errors.{unlike_projections, unlike_arguments, unlike_existentials, ObjectError}
+use Rattle.relation_contexts.specs.Errors.{unlike_numbers, unlike_members, PartError, pattern_error, signature_error}
+use Rattle.relation_contexts.specs.Errors.{existential_error, object_error}
+use Rattle.relation_contexts.specs.Parts.{parts_of, head_of, IsByParts}
 use Rattle.type_relations.proofs.Comparing.{parts_list, list_of}
-use Rattle.type_relations.proofs.Erased.{forms_unify_by_parts}
+use Rattle.relation_contexts.proofs.Erased.{forms_unify_by_parts}
 use Rattle.type_relations.proofs.Fronts.{IsLookedAt}
 use Rattle.type_relations.proofs.Unifying.{one_head, unified_counts, erased_parameters}
 use Rattle.type_relations.proofs.Patterns.{term_alike, form_is}
-use Rattle.type_relations.proofs.OneParts.{sort_is}
+use Rattle.relation_contexts.proofs.OneParts.{sort_is}
 use Rattle.type_relations.proofs.PartPlaces.{binder_nth, only}
 
 -- Their forms are looked at.

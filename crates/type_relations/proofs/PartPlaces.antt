@@ -20,10 +20,10 @@ use Rattle.relation_terms.specs.declared.terms.enums.Variance.{Variance}
 use Rattle.relation_terms.specs.declared.terms.enums.Variance.TheVariants.{Covariant, Contravariant, Invariant}
 use Rattle.relation_terms.specs.declared.predicate.ExistentialPredicate.{ExistentialPredicate}
 use Rattle.relation_terms.specs.declared.predicate.ExistentialPredicate.TheVariants.{Trait, Projection, AutoTrait}
-use Rattle.type_relations.specs.Relation.{Items, mode, part_at}
+use Rattle.relation_contexts.specs.Relation.{Items, mode, part_at}
 use Rattle.relation_terms.proofs.Members.{type_term, const_term, pattern_term, region_term}
-use Rattle.type_relations.specs.Errors.{AreOfOneForm}
-use Rattle.type_relations.specs.Parts.{parts_of, head_of, IsByParts, IsRelatedPart, IsArgPart, ArePaired}
+use Rattle.relation_contexts.specs.Errors.{AreOfOneForm}
+use Rattle.relation_contexts.specs.Parts.{parts_of, head_of, IsByParts, IsRelatedPart, IsArgPart, ArePaired}
 use Rattle.type_relations.proofs.Patterns.{term_alike, term_part_at, IsFormSort}
 
 -- The sort of what a term of a sort is.

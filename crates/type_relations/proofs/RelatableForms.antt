@@ -8,14 +8,14 @@ use Rattle.relation_terms.specs.Trees.{Tree, cons, known}
 use Rattle.relation_terms.specs.Meaning.{Meaning, Extends, existential_tree, term_tree, under}
 use Rattle.relation_terms.specs.Interning.{AreEqualAsTrees, AreEqualAsKinds}
 use Rattle.relation_terms.proofs.Binders.{under_stays}
-use Rattle.relation_tools.specs.declared.error.RelateFault.{RelateFault}
+use Rattle.relation_folds.specs.declared.error.RelateFault.{RelateFault}
 use Rattle.type_relations.specs.Arguments.{related_tree}
-use Rattle.type_relations.specs.Binders.{binder_tree}
+use Rattle.relation_contexts.specs.Binders.{binder_tree}
 use Rattle.type_relations.specs.EqualForms.{binder_same}
-use Rattle.type_relations.specs.Lawful.{State, Manners, MayAnswer, Asked, Related}
+use Rattle.relation_contexts.specs.Lawful.{State, Manners, MayAnswer, Asked, Related}
 use Rattle.type_relations.specs.Subtyping.{IsTyVar}
-use Rattle.type_relations.proofs.Answering.{may_itself}
-use Rattle.type_relations.proofs.Passing.{asked_later}
+use Rattle.relation_contexts.proofs.Answering.{may_itself}
+use Rattle.relation_contexts.proofs.Passing.{asked_later}
 use Rattle.type_relations.proofs.Relatable.{equal_one}
 use Rattle.type_relations.proofs.Rounds.{HalfDone}
 use Rattle.type_relations.proofs.Subtyping.{node_is_none}

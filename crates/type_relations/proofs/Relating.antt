@@ -9,9 +9,9 @@ use Rattle.relation_terms.specs.declared.terms.keys.ParamEnvKey.{ParamEnvKey}
 use Rattle.relation_terms.specs.Heads.{Head, type_var, variable}
 use Rattle.relation_terms.specs.Trees.{Tree, leaf}
 use Rattle.relation_terms.specs.Meaning.{Meaning}
-use Rattle.relation_tools.specs.declared.error.RelateFault.{RelateFault}
-use Rattle.relation_tools.specs.declared.error.RelateFault.TheVariants.{Memory, Budget, Unrelated}
-use Rattle.type_relations.specs.Contexts.{Context}
+use Rattle.relation_folds.specs.declared.error.RelateFault.{RelateFault}
+use Rattle.relation_folds.specs.declared.error.RelateFault.TheVariants.{Memory, Budget, Unrelated}
+use Rattle.relation_contexts.specs.Contexts.{Context}
 use Rattle.type_relations.specs.Relating.{term_in, AnswersAlone, AnswersSubtype}
 use Rattle.type_relations.specs.Subtyping.{subtype_at, RegistersAlone, RegistersSubtype}
 use Rattle.type_relations.specs.Solving.{solving_in, solver_manner}

@@ -13,26 +13,26 @@ use Rattle.relation_terms.specs.Trees.{Tree, bind, cons, known}
 use Rattle.relation_terms.specs.Meaning.{Meaning, under}
 use Rattle.relation_terms.specs.Parts.{part_tree, body_tree}
 use Rattle.relation_terms.proofs.Parts.{stays_part}
-use Rattle.relation_tools.specs.declared.error.RelateFault.{RelateFault}
-use Rattle.relation_tools.specs.declared.error.RelateFault.TheVariants.{Memory, Budget, Unrelated}
-use Rattle.type_relations.specs.Relation.{Items, at, second_opened, first_opened}
-use Rattle.type_relations.specs.Stores.{Store, IsSound, InContext, weight}
-use Rattle.type_relations.specs.Goals.{Goal}
-use Rattle.type_relations.specs.Outcomes.{Outcome, NeverOne}
-use Rattle.type_relations.specs.Measures.{grown, depth, Goes}
-use Rattle.type_relations.specs.Steps.{HasNoBinder}
-use Rattle.type_relations.specs.Errors.{ErrorOf}
-use Rattle.type_relations.specs.Lawful.{State, Manners, MayAnswer, Passes, Asked, Refuses, Related, items_in}
-use Rattle.type_relations.specs.Parts.{IsBinderPart}
+use Rattle.relation_folds.specs.declared.error.RelateFault.{RelateFault}
+use Rattle.relation_folds.specs.declared.error.RelateFault.TheVariants.{Memory, Budget, Unrelated}
+use Rattle.relation_contexts.specs.Relation.{Items, at, second_opened, first_opened}
+use Rattle.relation_contexts.specs.Stores.{Store, IsSound, InContext, weight}
+use Rattle.relation_contexts.specs.Goals.{Goal}
+use Rattle.relation_contexts.specs.Outcomes.{Outcome, NeverOne}
+use Rattle.relation_contexts.specs.Measures.{grown, depth, Goes}
+use Rattle.relation_contexts.specs.Steps.{HasNoBinder}
+use Rattle.relation_contexts.specs.Errors.{ErrorOf}
+use Rattle.relation_contexts.specs.Lawful.{State, Manners, MayAnswer, Passes, Asked, Refuses, Related, items_in}
+use Rattle.relation_contexts.specs.Parts.{IsBinderPart}
 use Rattle.type_relations.specs.Rounds.{OneRound, StepsToBodies, RoundSteps, one_round, first_round, second_round}
 use Rattle.type_relations.specs.Rounds.{RoundLeads, Opened}
-use Rattle.type_relations.proofs.Standing.{term_context}
-use Rattle.type_relations.proofs.Going.{grown-mono, le_grown, depth-strict, depth_later}
-use Rattle.type_relations.proofs.Full.{first_order_plain, full_never}
-use Rattle.type_relations.proofs.Answering.{may_itself}
-use Rattle.type_relations.proofs.Composing.{steps_compose, values_still}
-use Rattle.type_relations.proofs.Opening.{two_rounds_relate}
-use Rattle.type_relations.proofs.Passing.{passes_then, stopped, asked_later, outcome_seen}
+use Rattle.relation_contexts.proofs.Standing.{term_context}
+use Rattle.relation_contexts.proofs.Going.{grown-mono, le_grown, depth-strict, depth_later}
+use Rattle.relation_contexts.proofs.Full.{first_order_plain, full_never}
+use Rattle.relation_contexts.proofs.Answering.{may_itself}
+use Rattle.relation_contexts.proofs.Composing.{steps_compose, values_still}
+use Rattle.relation_contexts.proofs.Opening.{two_rounds_relate}
+use Rattle.relation_contexts.proofs.Passing.{passes_then, stopped, asked_later, outcome_seen}
 
 binder_kinds : {ks ls : List BoundKind} {a b : Tree} → bind ks a ≡ bind ls b → ks ≡ ls
 binder_kinds e = cc

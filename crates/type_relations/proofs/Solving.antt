@@ -23,35 +23,35 @@ use Rattle.relation_terms.specs.Heads.{bound, placeholder, unknown}
 use Rattle.relation_terms.specs.Trees.{Tree, leaf, node, bind, nil, cons, Assign, apply, IsTerm, known}
 use Rattle.relation_terms.specs.Meaning.{Meaning, Extends}
 use Rattle.relation_terms.proofs.Stays.{stays_same}
-use Rattle.relation_tools.specs.declared.error.RelateFault.{RelateFault}
-use Rattle.relation_tools.specs.declared.error.RelateFault.TheVariants.{Memory, Budget, Unrelated}
-use Rattle.type_relations.specs.declared.relate.Step.{Step}
-use Rattle.type_relations.specs.declared.relate.Step.TheVariants.{Done}
-use Rattle.type_relations.specs.Relation.{Interpretation, RegionRule, regions, at}
-use Rattle.type_relations.specs.Stores.{Store, Constraint, IsRegionIn, IsSound}
-use Rattle.type_relations.specs.Stores.{ConstraintHolds, all_bound}
-use Rattle.type_relations.specs.Goals.{goals_of, KnowsGoal, Registered, GoalInContext, Holds, MakesOneTree}
-use Rattle.type_relations.specs.Headline.{AnswersGoals, KeepsEqualTerms}
-use Rattle.type_relations.specs.Steps.{AddsConstraint, Equates, StaysFull}
-use Rattle.type_relations.specs.Outcomes.{Outcome}
-use Rattle.type_relations.specs.Measures.{Goes}
-use Rattle.type_relations.specs.Parts.{IsFormedConst}
-use Rattle.type_relations.specs.Constraints.{constraint_at, constraint_of, asked_constraints}
-use Rattle.type_relations.specs.Lawful.{Passes, Related, Stepped, items_of, State}
-use Rattle.type_relations.specs.Lawful.{Verdict, WithMeaning, RegisteredIn}
-use Rattle.type_relations.proofs.Going.{goes_nowhere, goes_within}
-use Rattle.type_relations.proofs.Full.{full_itself, full_same, full_by, constraint_plain}
-use Rattle.type_relations.proofs.Growing.{constraint_holds, constraint_keeps}
+use Rattle.relation_folds.specs.declared.error.RelateFault.{RelateFault}
+use Rattle.relation_folds.specs.declared.error.RelateFault.TheVariants.{Memory, Budget, Unrelated}
+use Rattle.relation_contexts.specs.declared.relate.Step.{Step}
+use Rattle.relation_contexts.specs.declared.relate.Step.TheVariants.{Done}
+use Rattle.relation_contexts.specs.Relation.{Interpretation, RegionRule, regions, at}
+use Rattle.relation_contexts.specs.Stores.{Store, Constraint, IsRegionIn, IsSound}
+use Rattle.relation_contexts.specs.Stores.{ConstraintHolds, all_bound}
+use Rattle.relation_contexts.specs.Goals.{goals_of, KnowsGoal, Registered, GoalInContext, Holds, MakesOneTree}
+use Rattle.relation_contexts.specs.Headline.{AnswersGoals, KeepsEqualTerms}
+use Rattle.relation_contexts.specs.Steps.{AddsConstraint, Equates, StaysFull}
+use Rattle.relation_contexts.specs.Outcomes.{Outcome}
+use Rattle.relation_contexts.specs.Measures.{Goes}
+use Rattle.relation_contexts.specs.Parts.{IsFormedConst}
+use Rattle.relation_contexts.specs.Constraints.{constraint_at, constraint_of, asked_constraints}
+use Rattle.relation_contexts.specs.Lawful.{Passes, Related, Stepped, items_of, State}
+use Rattle.relation_contexts.specs.Lawful.{Verdict, WithMeaning, RegisteredIn}
+use Rattle.relation_contexts.proofs.Going.{goes_nowhere, goes_within}
+use Rattle.relation_contexts.proofs.Full.{full_itself, full_same, full_by, constraint_plain}
+use Rattle.relation_contexts.proofs.Growing.{constraint_holds, constraint_keeps}
 use Rattle.type_relations.proofs.Constraints.{asked_relates, asked_met}
 use Rattle.type_relations.proofs.OverContext.{standing, roots_step as roots_equated}
-use Rattle.type_relations.proofs.Answering.{may_itself}
-use Rattle.type_relations.proofs.OneUniverse.{keeps_pair, binds_itself, binds_none, standing_keeps}
+use Rattle.relation_contexts.proofs.Answering.{may_itself}
+use Rattle.relation_contexts.proofs.OneUniverse.{keeps_pair, binds_itself, binds_none, standing_keeps}
 use Rattle.type_relations.specs.Solving.{KnowsGoals, solving, solver_settings, solver_manner}
-use Rattle.type_relations.proofs.Registered.{goals_stay, goals_known, none_at_invariance}
+use Rattle.relation_contexts.proofs.Registered.{goals_stay, goals_known, none_at_invariance}
 use Rattle.type_relations.proofs.Exactly.{region_value, regions_exactly}
-use Rattle.type_relations.proofs.Growing.{constraint_is_later, constraint_bound, constraint_weight}
-use Rattle.type_relations.specs.Contexts.{Context}
-use Rattle.type_relations.specs.ContextCalls.{Grows, Knows, Constrains}
+use Rattle.relation_contexts.proofs.Growing.{constraint_is_later, constraint_bound, constraint_weight}
+use Rattle.relation_contexts.specs.Contexts.{Context}
+use Rattle.relation_contexts.specs.ContextCalls.{Grows, Knows, Constrains}
 use Rattle.type_relations.specs.Emitting.{WithContext}
 
 -- Seen from the other side too the variance decides something.

@@ -13,28 +13,28 @@ use Rattle.relation_terms.specs.Heads.{BoundKind}
 use Rattle.relation_terms.specs.Trees.{Tree, bind, known}
 use Rattle.relation_terms.specs.Meaning.{Meaning, Extends, under}
 use Rattle.relation_terms.proofs.Binders.{under_stays}
-use Rattle.relation_tools.specs.declared.error.RelateFault.{RelateFault}
-use Rattle.relation_tools.specs.declared.error.RelateFault.TheVariants.{Memory}
-use Rattle.relation_tools.specs.Visits.{bound_var_escapes}
-use Rattle.type_relations.specs.Relation.{StaysWithin}
-use Rattle.type_relations.specs.Stores.{Store, InContext, IsTermIn, IsSound}
-use Rattle.type_relations.specs.Steps.{ChangesNothing, EntersForall}
-use Rattle.type_relations.specs.Measures.{Goes}
-use Rattle.type_relations.specs.Generalising.{MakesUnbound, makes_none}
-use Rattle.type_relations.specs.Covered.{IsCovered}
-use Rattle.type_relations.specs.Bound.{BindsByList}
-use Rattle.type_relations.specs.Lawful.{State, Asked, items_of}
-use Rattle.type_relations.specs.Goals.{goals_of}
-use Rattle.type_relations.specs.Contexts.{Context}
-use Rattle.type_relations.specs.ContextCalls.{Grows}
-use Rattle.type_relations.specs.Binders.{binder_tree, EntersAs, InstantiatesAs, OpensFrom, OpensBoth}
+use Rattle.relation_folds.specs.declared.error.RelateFault.{RelateFault}
+use Rattle.relation_folds.specs.declared.error.RelateFault.TheVariants.{Memory}
+use Rattle.relation_folds.specs.Visits.{bound_var_escapes}
+use Rattle.relation_contexts.specs.Relation.{StaysWithin}
+use Rattle.relation_contexts.specs.Stores.{Store, InContext, IsTermIn, IsSound}
+use Rattle.relation_contexts.specs.Steps.{ChangesNothing, EntersForall}
+use Rattle.relation_contexts.specs.Measures.{Goes}
+use Rattle.relation_contexts.specs.Generalising.{MakesUnbound, makes_none}
+use Rattle.relation_contexts.specs.Covered.{IsCovered}
+use Rattle.relation_contexts.specs.Bound.{BindsByList}
+use Rattle.relation_contexts.specs.Lawful.{State, Asked, items_of}
+use Rattle.relation_contexts.specs.Goals.{goals_of}
+use Rattle.relation_contexts.specs.Contexts.{Context}
+use Rattle.relation_contexts.specs.ContextCalls.{Grows}
+use Rattle.relation_contexts.specs.Binders.{binder_tree, EntersAs, InstantiatesAs, OpensFrom, OpensBoth}
 use Rattle.type_relations.specs.Rounds.{OneRound, RoundSteps, one_round, first_round, second_round, RoundLeads}
 use Rattle.type_relations.specs.Rounds.{RoundVerdict, Opened}
 use Rattle.type_relations.specs.Solving.{KnowsGoals, solving_through, solver_manner}
-use Rattle.type_relations.proofs.Standing.{later_term}
-use Rattle.type_relations.proofs.Going.{goes_nowhere, goes_within}
-use Rattle.type_relations.proofs.Opened.{none_escapes, within_none}
-use Rattle.type_relations.proofs.Opening.{covariant_step, contravariant_step, unused_step}
+use Rattle.relation_contexts.proofs.Standing.{later_term}
+use Rattle.relation_contexts.proofs.Going.{goes_nowhere, goes_within}
+use Rattle.relation_contexts.proofs.Opened.{none_escapes, within_none}
+use Rattle.relation_contexts.proofs.Opening.{covariant_step, contravariant_step, unused_step}
 use Rattle.type_relations.proofs.OverContext.{all_taken}
 use Rattle.type_relations.proofs.Solving.{solver_passes}
 use Rattle.type_relations.proofs.OpeningBoth.{changes_made, opened_goes, body_scope, unused_stand_ins, bodies_error}

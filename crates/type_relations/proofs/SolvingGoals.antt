@@ -10,18 +10,18 @@ use Rattle.relation_terms.specs.declared.terms.keys.PredicateKey.{PredicateKey}
 use Rattle.relation_terms.specs.Heads.{type_var, variable}
 use Rattle.relation_terms.specs.Trees.{Tree, leaf, Assign, apply, known}
 use Rattle.relation_terms.specs.Meaning.{Meaning, Extends}
-use Rattle.type_relations.specs.declared.relate.Step.TheVariants.{Done}
-use Rattle.type_relations.specs.Relation.{Items, Interpretation, Rel, at}
-use Rattle.type_relations.specs.Stores.{Store}
-use Rattle.type_relations.specs.Goals.{Goal, goal_of, goals_of, KnowsGoal, subtype_predicate, IsOpen, IsDirected, IsRegistered, of_variables, Holds, MakesOneTree}
-use Rattle.type_relations.specs.Lawful.{Stepped, Passes, MayAnswer, RegisteredIn, items_of}
+use Rattle.relation_contexts.specs.declared.relate.Step.TheVariants.{Done}
+use Rattle.relation_contexts.specs.Relation.{Items, Interpretation, Rel, at}
+use Rattle.relation_contexts.specs.Stores.{Store}
+use Rattle.relation_contexts.specs.Goals.{Goal, goal_of, goals_of, KnowsGoal, subtype_predicate, IsOpen, IsDirected, IsRegistered, of_variables, Holds, MakesOneTree}
+use Rattle.relation_contexts.specs.Lawful.{Stepped, Passes, MayAnswer, RegisteredIn, items_of}
 use Rattle.type_relations.specs.Solving.{KnowsGoals, solving, solver_manner}
-use Rattle.type_relations.proofs.Answering.{may_itself}
-use Rattle.type_relations.proofs.Going.{goes_nowhere, later_itself}
-use Rattle.type_relations.proofs.Full.{full_itself}
-use Rattle.type_relations.proofs.Growing.{All_back}
+use Rattle.relation_contexts.proofs.Answering.{may_itself}
+use Rattle.relation_contexts.proofs.Going.{goes_nowhere, later_itself}
+use Rattle.relation_contexts.proofs.Full.{full_itself}
+use Rattle.relation_contexts.proofs.Growing.{All_back}
 use Rattle.type_relations.proofs.Turning.{turned}
-use Rattle.type_relations.proofs.Registered.{registered_in, goals_stay, goals_known}
+use Rattle.relation_contexts.proofs.Registered.{registered_in, goals_stay, goals_known}
 
 -- One more goal was registered.
 module _ {Key Id Name : Type 0} (j : ℕ) (gs hs : List (KeyedGoal Key (PredicateKey Key))) (m n : Meaning Key Id Name)

@@ -7,48 +7,48 @@ use Rattle.relation_terms.specs.Variances.{xform}
 use Rattle.relation_terms.specs.Heads.{const_sort, VarKind, type_var, const_var, atom, variable, bound, placeholder, unknown}
 use Rattle.relation_terms.specs.Trees.{Tree, leaf, node, bind, nil, cons, Assign, apply, known, IsTerm, Leaves}
 use Rattle.relation_terms.specs.Meaning.{Meaning, Extends}
-use Rattle.relation_tools.specs.declared.error.TypeError.{TypeError}
-use Rattle.relation_tools.specs.declared.error.RelateFault.{RelateFault}
-use Rattle.relation_tools.specs.declared.error.RelateFault.TheVariants.{Memory, Budget, Unrelated}
-use Rattle.type_relations.specs.declared.relate.Step.TheVariants.{Again}
-use Rattle.type_relations.specs.Relation.{Items, Interpretation, Rel, at, same as same_rel}
-use Rattle.type_relations.specs.Stores.{Store, unbound, entry_of, entry_term, IsMade, IsTermIn, IsSound, Satisfies}
-use Rattle.type_relations.specs.Stores.{MayStandFor, universe_of, all_bound, resolved, weight}
-use Rattle.type_relations.specs.Headline.{IsFirstOrderPair}
-use Rattle.type_relations.specs.Steps.{Instantiates, RefusesToInstantiate, InstantiatesNone, StaysFull}
-use Rattle.type_relations.specs.Outcomes.{StepsTo, CarriesOver, ExactStep}
-use Rattle.type_relations.specs.Measures.{Goes}
-use Rattle.type_relations.specs.Errors.{ErrorOf, BindingError, of_binding, of_binding_back, of_entries, IsReadAs, itself, by_binding}
-use Rattle.type_relations.specs.ErasureLaws.{IsTypeOrConst}
-use Rattle.type_relations.specs.Parts.{IsFormed}
-use Rattle.type_relations.specs.FirstOrder.{IsFirstOrder, IsFirstOrderStore}
-use Rattle.type_relations.specs.Generalising.{Obstacle, cycle, beyond, InstantiatesBy, RefusesBy, MakesUnbound}
-use Rattle.type_relations.specs.Generalising.{NumbersNameNothing}
-use Rattle.type_relations.specs.Covered.{IsCovered}
-use Rattle.type_relations.specs.Resolving.{IsShallow, root as shallow_root, stays_bound, formed, IsShallowConst, const_root, no_variable}
-use Rattle.type_relations.specs.Lawful.{Passes, Asked, Stepped, Leads, LeadsAgain, items_of, State}
-use Rattle.type_relations.specs.Contexts.{Context}
-use Rattle.type_relations.specs.ContextCalls.{Instantiated, ObstacleError, HasCoveredBindings}
+use Rattle.relation_folds.specs.declared.error.TypeError.{TypeError}
+use Rattle.relation_folds.specs.declared.error.RelateFault.{RelateFault}
+use Rattle.relation_folds.specs.declared.error.RelateFault.TheVariants.{Memory, Budget, Unrelated}
+use Rattle.relation_contexts.specs.declared.relate.Step.TheVariants.{Again}
+use Rattle.relation_contexts.specs.Relation.{Items, Interpretation, Rel, at, same as same_rel}
+use Rattle.relation_contexts.specs.Stores.{Store, unbound, entry_of, entry_term, IsMade, IsTermIn, IsSound, Satisfies}
+use Rattle.relation_contexts.specs.Stores.{MayStandFor, universe_of, all_bound, resolved, weight}
+use Rattle.relation_contexts.specs.Headline.{IsFirstOrderPair}
+use Rattle.relation_contexts.specs.Steps.{Instantiates, RefusesToInstantiate, InstantiatesNone, StaysFull}
+use Rattle.relation_contexts.specs.Outcomes.{StepsTo, CarriesOver, ExactStep}
+use Rattle.relation_contexts.specs.Measures.{Goes}
+use Rattle.relation_contexts.specs.Errors.{ErrorOf, BindingError, of_binding, of_binding_back, of_entries, IsReadAs, itself, by_binding}
+use Rattle.relation_contexts.specs.ErasureLaws.{IsTypeOrConst}
+use Rattle.relation_contexts.specs.Parts.{IsFormed}
+use Rattle.relation_contexts.specs.FirstOrder.{IsFirstOrder, IsFirstOrderStore}
+use Rattle.relation_contexts.specs.Generalising.{Obstacle, cycle, beyond, InstantiatesBy, RefusesBy, MakesUnbound}
+use Rattle.relation_contexts.specs.Generalising.{NumbersNameNothing}
+use Rattle.relation_contexts.specs.Covered.{IsCovered}
+use Rattle.relation_contexts.specs.Resolving.{IsShallow, root as shallow_root, stays_bound, formed, IsShallowConst, const_root, no_variable}
+use Rattle.relation_contexts.specs.Lawful.{Passes, Asked, Stepped, Leads, LeadsAgain, items_of, State}
+use Rattle.relation_contexts.specs.Contexts.{Context}
+use Rattle.relation_contexts.specs.ContextCalls.{Instantiated, ObstacleError, HasCoveredBindings}
 use Rattle.type_relations.specs.Solving.{solver_manner}
-use Rattle.type_relations.proofs.Answering.{covariantly}
+use Rattle.relation_contexts.proofs.Answering.{covariantly}
 use Rattle.type_relations.proofs.Constants.{fixed, constants_at_each_variance}
 use Rattle.type_relations.proofs.ConstErrors.{const_error_alike}
 use Rattle.type_relations.proofs.Turning.{turned}
-use Rattle.type_relations.proofs.Going.{goes_nowhere, goes_within}
-use Rattle.type_relations.proofs.ReadAs.{read_later}
-use Rattle.type_relations.proofs.Resolved.{resolved_free, resolved_weight}
-use Rattle.type_relations.proofs.Standing.{later_term, term_context, term_of_made}
-use Rattle.type_relations.proofs.Opening.{instantiating_steps}
-use Rattle.type_relations.proofs.Exactness.{instantiating_is_exact_step}
+use Rattle.relation_contexts.proofs.Going.{goes_nowhere, goes_within}
+use Rattle.relation_contexts.proofs.ReadAs.{read_later}
+use Rattle.relation_contexts.proofs.Resolved.{resolved_free, resolved_weight}
+use Rattle.relation_contexts.proofs.Standing.{later_term, term_context, term_of_made}
+use Rattle.relation_contexts.proofs.Opening.{instantiating_steps}
+use Rattle.relation_contexts.proofs.Exactness.{instantiating_is_exact_step}
 use Rattle.type_relations.proofs.Binding.{square_above}
-use Rattle.type_relations.proofs.BindingGeneralised.{generalised_instantiates, generalised_goes, generalised_weights, generalised_first_order}
+use Rattle.relation_contexts.proofs.BindingGeneralised.{generalised_instantiates, generalised_goes, generalised_weights, generalised_first_order}
 use Rattle.type_relations.proofs.BindingRefused.{generalising_refuses, refused}
 use Rattle.type_relations.proofs.GeneralisingErrors.{beyond_error}
-use Rattle.type_relations.proofs.NewVariables.{adds, adds_goes}
-use Rattle.type_relations.proofs.Full.{full_same, full_could, instantiates_one}
+use Rattle.relation_contexts.proofs.NewVariables.{adds, adds_goes}
+use Rattle.relation_contexts.proofs.Full.{full_same, full_could, instantiates_one}
 use Rattle.type_relations.proofs.OverContext.{standing, over_passes, all_taken}
-use Rattle.type_relations.specs.OneUniverse.{NamesTypesTo, HasOneUniverse, all_roots, StaysOf, LeadsInUniverse, BindsFewer}
-use Rattle.type_relations.proofs.OneUniverse.{binds_none, bound_fewer}
+use Rattle.relation_contexts.specs.OneUniverse.{NamesTypesTo, HasOneUniverse, all_roots, StaysOf, LeadsInUniverse, BindsFewer}
+use Rattle.relation_contexts.proofs.OneUniverse.{binds_none, bound_fewer}
 use Rattle.type_relations.proofs.GeneralisingInOne.{instantiates_in_one}
 
 -- What a term comes to is a variable only where the term is one.

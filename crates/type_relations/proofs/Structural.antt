@@ -8,33 +8,33 @@ use Rattle.relation_terms.specs.declared.terms.keys.ConstKey.{ConstKey}
 use Rattle.relation_terms.specs.declared.terms.generic_arg.GenericArgKind.{GenericArgKind}
 use Rattle.relation_terms.specs.declared.terms.generic_arg.GenericArgKind.TheVariants.{Lifetime, Ty, Const}
 use Rattle.relation_terms.proofs.Sorted.{Sorted}
-use Rattle.relation_tools.specs.declared.error.ExpectedFound.{ExpectedFound}
-use Rattle.relation_tools.specs.declared.error.TypeError.{TypeError}
-use Rattle.relation_tools.specs.declared.error.TypeError.TheVariants.{ArraySize, ConstMismatch}
-use Rattle.relation_tools.specs.declared.error.RelateFault.{RelateFault}
-use Rattle.relation_tools.specs.declared.error.RelateFault.TheVariants.{Memory, Budget, Unrelated}
-use Rattle.relation_tools.specs.Faults.{KnowsFault}
-use Rattle.type_relations.specs.Relation.{Items, Interpretation, at, parts, part_at, Rel, same, atoms, forms, sort_of}
-use Rattle.type_relations.specs.Stores.{Store, Satisfies}
-use Rattle.type_relations.specs.Goals.{Holds}
-use Rattle.type_relations.specs.Outcomes.{NeverOne}
-use Rattle.type_relations.specs.Errors.{ErrorOf, IsHandedOn, of_parts, of_length, AreOfOneForm, over_parts, one_leaf, parameters}
-use Rattle.type_relations.specs.Errors.{AreOfOneConst}
-use Rattle.type_relations.specs.Parts.{IsFormed, parts_of, const_parts_of, head_of, const_head_of}
+use Rattle.relation_folds.specs.declared.error.ExpectedFound.{ExpectedFound}
+use Rattle.relation_folds.specs.declared.error.TypeError.{TypeError}
+use Rattle.relation_folds.specs.declared.error.TypeError.TheVariants.{ArraySize, ConstMismatch}
+use Rattle.relation_folds.specs.declared.error.RelateFault.{RelateFault}
+use Rattle.relation_folds.specs.declared.error.RelateFault.TheVariants.{Memory, Budget, Unrelated}
+use Rattle.relation_folds.specs.Faults.{KnowsFault}
+use Rattle.relation_contexts.specs.Relation.{Items, Interpretation, at, parts, part_at, Rel, same, atoms, forms, sort_of}
+use Rattle.relation_contexts.specs.Stores.{Store, Satisfies}
+use Rattle.relation_contexts.specs.Goals.{Holds}
+use Rattle.relation_contexts.specs.Outcomes.{NeverOne}
+use Rattle.relation_contexts.specs.Errors.{ErrorOf, IsHandedOn, of_parts, of_length, AreOfOneForm, over_parts, one_leaf, parameters}
+use Rattle.relation_contexts.specs.Errors.{AreOfOneConst}
+use Rattle.relation_contexts.specs.Parts.{IsFormed, parts_of, const_parts_of, head_of, const_head_of}
 use Rattle.type_relations.specs.Handing.{IsPassedOn, IsNoLength, IsFaultOfTy, passed, sized, IsFaultOfConst, passed_const, whole}
-use Rattle.type_relations.specs.Lawful.{State, Manners, MayAnswer, Passes, Refuses, Related, ExactResult, ExactlyRelated, items_in}
-use Rattle.type_relations.proofs.Registered.{registered_in}
-use Rattle.type_relations.proofs.Passing.{passes_within, manner_then, stopped}
+use Rattle.relation_contexts.specs.Lawful.{State, Manners, MayAnswer, Passes, Refuses, Related, ExactResult, ExactlyRelated, items_in}
+use Rattle.relation_contexts.proofs.Registered.{registered_in}
+use Rattle.relation_contexts.proofs.Passing.{passes_within, manner_then, stopped}
 use Rattle.type_relations.proofs.Fronts.{Fronted, AreParts, fronted_never, fronted_all, fronted_passes, fronted_fault, fronted_exactly, fronted_full}
-use Rattle.type_relations.proofs.Full.{parts_plain}
+use Rattle.relation_contexts.proofs.Full.{parts_plain}
 use Rattle.type_relations.proofs.Unifying.{first_order_parts, formed_looked_at, types_unify, answered_as, refused_as}
-use Rattle.type_relations.specs.Headline.{IsFirstOrderPair}
-use Rattle.type_relations.specs.OneUniverse.{NamesTypesTo}
-use Rattle.type_relations.proofs.OneUniverse.{leaves_parts, keeps_binds, binds_as}
-use Rattle.type_relations.proofs.OneParts.{related_head, parts_equal, const_parts_equal, sort_is}
+use Rattle.relation_contexts.specs.Headline.{IsFirstOrderPair}
+use Rattle.relation_contexts.specs.OneUniverse.{NamesTypesTo}
+use Rattle.relation_contexts.proofs.OneUniverse.{leaves_parts, keeps_binds, binds_as}
+use Rattle.relation_contexts.proofs.OneParts.{related_head, parts_equal, const_parts_equal, sort_is}
 use Rattle.type_relations.proofs.Handing.{ty_fault_known}
 use Rattle.type_relations.proofs.PartSizes.{weight_parts_most}
-use Rattle.type_relations.proofs.Answering.{same_items, may_itself}
+use Rattle.relation_contexts.proofs.Answering.{same_items, may_itself}
 
 -- The error of two parts of two types as the error of the types.
 module _ {Key Id Name : Type 0} (n p : Meaning Key Id Name) (e : Extends n p) (s : Sorted n) (a b : Tree)

@@ -15,21 +15,21 @@ use Rattle.relation_terms.specs.Heads.{Head, VarKind, type_var, variable, region
 use Rattle.relation_terms.specs.Trees.{Tree, leaf, node, IsTerm, known}
 use Rattle.relation_terms.specs.Meaning.{Meaning, Extends, arg_tree}
 use Rattle.relation_terms.proofs.Sorted.{Sorted}
-use Rattle.relation_tools.specs.declared.error.RelateFault.{RelateFault}
-use Rattle.relation_tools.specs.declared.error.RelateFault.TheVariants.{Memory, Budget, Unrelated}
-use Rattle.type_relations.specs.declared.relate.Step.{Step}
-use Rattle.type_relations.specs.declared.relate.Step.TheVariants.{Done, Parts, Again}
-use Rattle.type_relations.specs.Stores.{Store, unbound, same_as, bound_to, entry_of}
-use Rattle.type_relations.specs.Steps.{LeadsTo, here, next, OneClass}
-use Rattle.type_relations.specs.Goals.{goal_of, goals_of}
-use Rattle.type_relations.specs.Errors.{IsReadAs, itself, by_class, by_binding}
-use Rattle.type_relations.specs.Resolving.{IsShallow}
-use Rattle.type_relations.specs.Lawful.{State, Manners}
+use Rattle.relation_folds.specs.declared.error.RelateFault.{RelateFault}
+use Rattle.relation_folds.specs.declared.error.RelateFault.TheVariants.{Memory, Budget, Unrelated}
+use Rattle.relation_contexts.specs.declared.relate.Step.{Step}
+use Rattle.relation_contexts.specs.declared.relate.Step.TheVariants.{Done, Parts, Again}
+use Rattle.relation_contexts.specs.Stores.{Store, unbound, same_as, bound_to, entry_of}
+use Rattle.relation_contexts.specs.Steps.{LeadsTo, here, next, OneClass}
+use Rattle.relation_contexts.specs.Goals.{goal_of, goals_of}
+use Rattle.relation_contexts.specs.Errors.{IsReadAs, itself, by_class, by_binding}
+use Rattle.relation_contexts.specs.Resolving.{IsShallow}
+use Rattle.relation_contexts.specs.Lawful.{State, Manners}
 use Rattle.type_relations.specs.Subtyping.{IsTyVar, IsTyVarOf, subtype_at, RegistersAlone, StepRegistersAlone}
 use Rattle.type_relations.specs.Subtyping.{RegistersSubtype, StepRegistersSubtype}
 use Rattle.type_relations.specs.Solving.{KnowsGoals, solving}
-use Rattle.type_relations.proofs.Classes.{one_leads, leads_through}
-use Rattle.type_relations.proofs.Registered.{goals_stay}
+use Rattle.relation_contexts.proofs.Classes.{one_leads, leads_through}
+use Rattle.relation_contexts.proofs.Registered.{goals_stay}
 use Rattle.type_relations.proofs.Shallowly.{shallow_free}
 
 -- One goal was registered alone, or a growth was refused.

@@ -5,31 +5,31 @@ use Rattle.relation_terms.specs.Heads.{bound_kind, region_kind, variable, bound,
 use Rattle.relation_terms.specs.Heads.{region_sort, early_region, type_param, const_param, ref, raw_ptr}
 use Rattle.relation_terms.specs.Meaning.{Meaning}
 use Rattle.relation_terms.specs.declared.terms.keys.TyKey.{TyKey}
-use Rattle.relation_tools.specs.declared.error.TypeError.{TypeError}
-use Rattle.type_relations.specs.Errors.{AreAlikeLeaves, FormError, mutability, pointer_mutability, tuple_size, empty_tuple, as_many, sorts}
+use Rattle.relation_folds.specs.declared.error.TypeError.{TypeError}
+use Rattle.relation_contexts.specs.Errors.{AreAlikeLeaves, FormError, mutability, pointer_mutability, tuple_size, empty_tuple, as_many, sorts}
 use Rattle.type_relations.proofs.Comparing.{list_of, parts_list, value_shape, no_value_variable, ConstsAlike, of_forms_alike}
-use Rattle.type_relations.specs.Errors.{ConstFormError, const_mismatch, operations}
+use Rattle.relation_contexts.specs.Errors.{ConstFormError, const_mismatch, operations}
 use Rattle.relation_terms.specs.declared.terms.keys.ConstKey.{ConstKey}
 use Rattle.relation_terms.specs.Heads.{Admits, region_var}
 use Rattle.relation_terms.specs.Heads.{unevaluated, expression, value, value_type, value_branch, Leaf, tuple, alias}
 use Rattle.relation_terms.specs.Trees.{Tree, leaf, node, bind, nil, cons, Assign, apply, count, IsList, IsTerm, Leaves}
 use Rattle.relation_terms.specs.Erasure.{erase, erase_atom, erase_kinded}
-use Rattle.type_relations.specs.Relation.{plain_atom, sort_of}
-use Rattle.type_relations.specs.FirstOrder.{IsFirstOrder, IsFirstOrderStore, Unifies}
-use Rattle.type_relations.specs.Errors.{AreAlike, outer_head, unlike_aliases, AreOfOneForm, over_parts, one_leaf, parameters}
-use Rattle.type_relations.specs.Errors.{AreOfOneConst, values, expressions, const_parameters}
-use Rattle.type_relations.specs.Errors.{AreOfOneValue, one_value, as_many_branches}
-use Rattle.type_relations.specs.Stores.{Store}
-use Rattle.type_relations.specs.Outcomes.{Exact, NoUnifier}
-use Rattle.type_relations.specs.Parts.{IsFormed, IsFormedConst, parts_of, const_parts_of, head_of, const_head_of, branches_of}
-use Rattle.type_relations.proofs.Erased.{forms_unify_by_parts}
+use Rattle.relation_contexts.specs.Relation.{plain_atom, sort_of}
+use Rattle.relation_contexts.specs.FirstOrder.{IsFirstOrder, IsFirstOrderStore, Unifies}
+use Rattle.relation_contexts.specs.Errors.{AreAlike, outer_head, unlike_aliases, AreOfOneForm, over_parts, one_leaf, parameters}
+use Rattle.relation_contexts.specs.Errors.{AreOfOneConst, values, expressions, const_parameters}
+use Rattle.relation_contexts.specs.Errors.{AreOfOneValue, one_value, as_many_branches}
+use Rattle.relation_contexts.specs.Stores.{Store}
+use Rattle.relation_contexts.specs.Outcomes.{Exact, NoUnifier}
+use Rattle.relation_contexts.specs.Parts.{IsFormed, IsFormedConst, parts_of, const_parts_of, head_of, const_head_of, branches_of}
+use Rattle.relation_contexts.proofs.Erased.{forms_unify_by_parts}
 use Rattle.type_relations.proofs.Fronts.{IsLookedAt}
-use Rattle.type_relations.proofs.Going.{later_itself}
-use Rattle.relation_tools.specs.declared.error.RelateFault.{RelateFault}
-use Rattle.relation_tools.specs.declared.error.RelateFault.TheVariants.{Memory, Budget, Unrelated}
-use Rattle.type_relations.specs.Lawful.{ExactResult}
-use Rattle.type_relations.specs.OneUniverse.{NamesTypesTo, KeepsUniverseOf}
-use Rattle.type_relations.proofs.OneUniverse.{keeps_as, binds_as, fewer_as}
+use Rattle.relation_contexts.proofs.Going.{later_itself}
+use Rattle.relation_folds.specs.declared.error.RelateFault.{RelateFault}
+use Rattle.relation_folds.specs.declared.error.RelateFault.TheVariants.{Memory, Budget, Unrelated}
+use Rattle.relation_contexts.specs.Lawful.{ExactResult}
+use Rattle.relation_contexts.specs.OneUniverse.{NamesTypesTo, KeepsUniverseOf}
+use Rattle.relation_contexts.proofs.OneUniverse.{keeps_as, binds_as, fewer_as}
 
 -- The parts of first-order terms are first-order.
 pub first_order_parts : (t : Tree) → IsFirstOrder t → IsFirstOrder (parts_of t)

@@ -3,9 +3,9 @@ use Rattle.std.specs.Prelude.{◌≡◌, ◌⊎◌, ℕ, ◌<◌, Bool, List, []
 use Rattle.relation_terms.specs.declared.terms.enums.Variance.TheVariants.{Bivariant}
 use Rattle.relation_terms.specs.Flags.{has_non_region_infer}
 use Rattle.relation_terms.specs.Trees.{Tree, apply, count, nth}
-use Rattle.type_relations.specs.Relation.{Items}
-use Rattle.type_relations.specs.Stores.{Store, resolved}
-use Rattle.type_relations.specs.Goals.{Goal, goal_of, well_formed_predicate}
+use Rattle.relation_contexts.specs.Relation.{Items}
+use Rattle.relation_contexts.specs.Stores.{Store, resolved}
+use Rattle.relation_contexts.specs.Goals.{Goal, goal_of, well_formed_predicate}
 
 -- An inference variable of any kind but region stands in what a term comes to.
 abbrev pub is_left_open : Store → Tree → Bool

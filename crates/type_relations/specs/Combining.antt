@@ -6,18 +6,18 @@ use Rattle.relation_terms.specs.declared.terms.keys.ConstKey.{ConstKey}
 use Rattle.relation_terms.specs.Heads.{VarKind, type_var, const_var, variable}
 use Rattle.relation_terms.specs.Trees.{Tree, leaf}
 use Rattle.relation_terms.specs.Meaning.{Meaning}
-use Rattle.relation_tools.specs.declared.error.TypeError.TheVariants.{Sorts, CyclicConst}
-use Rattle.relation_tools.specs.declared.error.RelateFault.{RelateFault}
-use Rattle.relation_tools.specs.declared.error.RelateFault.TheVariants.{Unrelated}
-use Rattle.type_relations.specs.declared.relate.Step.{Step}
-use Rattle.type_relations.specs.declared.relate.Step.TheVariants.{Done, Parts, Again}
-use Rattle.type_relations.specs.Contexts.{Context}
-use Rattle.type_relations.specs.ContextCalls.{Instantiated, Reads}
+use Rattle.relation_folds.specs.declared.error.TypeError.TheVariants.{Sorts, CyclicConst}
+use Rattle.relation_folds.specs.declared.error.RelateFault.{RelateFault}
+use Rattle.relation_folds.specs.declared.error.RelateFault.TheVariants.{Unrelated}
+use Rattle.relation_contexts.specs.declared.relate.Step.{Step}
+use Rattle.relation_contexts.specs.declared.relate.Step.TheVariants.{Done, Parts, Again}
+use Rattle.relation_contexts.specs.Contexts.{Context}
+use Rattle.relation_contexts.specs.ContextCalls.{Instantiated, Reads}
 use Rattle.type_relations.specs.NumberVars.{IsNoNumberVar}
-use Rattle.type_relations.specs.Parts.{IsFormedConst}
-use Rattle.type_relations.specs.Resolving.{IsShallowConst}
-use Rattle.type_relations.specs.Steps.{IsNumberKind, Equates, InstantiatesNumber}
-use Rattle.type_relations.specs.Stores.{Store, MayStandFor}
+use Rattle.relation_contexts.specs.Parts.{IsFormedConst}
+use Rattle.relation_contexts.specs.Resolving.{IsShallowConst}
+use Rattle.relation_contexts.specs.Steps.{IsNumberKind, Equates, InstantiatesNumber}
+use Rattle.relation_contexts.specs.Stores.{Store, MayStandFor}
 
 -- Two variables of a kind were made one, the smaller number being the root; one with itself changes nothing.
 pub record Joins (before after : Store) (k : VarKind) (a b : ℕ) : Type 0 where

@@ -3,9 +3,9 @@ use Rattle.std.specs.Prelude.{◌≡◌, List, ◌++◌, map, IsTrue, Result, Ok
 use Rattle.relation_terms.specs.declared.terms.keys.PredicateKey.{PredicateKey}
 use Rattle.relation_terms.specs.Meaning.{Meaning}
 use Rattle.relation_terms.specs.Trees.{known}
-use Rattle.type_relations.specs.Contexts.{Context}
-use Rattle.type_relations.specs.Goals.{Goal, goal_of}
-use Rattle.type_relations.specs.Lawful.{State}
+use Rattle.relation_contexts.specs.Contexts.{Context}
+use Rattle.relation_contexts.specs.Goals.{Goal, goal_of}
+use Rattle.relation_contexts.specs.Lawful.{State}
 
 -- The goals that there are after others were put behind them, or were not, where a growth was refused.
 abbrev pub with_goals : {A F : Type 0} → List Goal → List Goal → Result A F → List Goal

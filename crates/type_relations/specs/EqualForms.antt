@@ -20,7 +20,7 @@ use Rattle.relation_terms.specs.Interning.{AreEqualAsTrees, AreEqualAsKinds, Are
 use Rattle.relation_terms.proofs.Binders.{under_known}
 use Rattle.relation_terms.proofs.Same.{header_eq, same_signature, same_projection}
 use Rattle.relation_terms.proofs.Sorted.{Sorted}
-use Rattle.relation_tools.proofs.Found.{signature_found, binder_found, existential_found}
+use Rattle.relation_folds.proofs.Found.{signature_found, binder_found, existential_found}
 use Rattle.type_relations.specs.EqualTerms.{term_same}
 
 module _ {Key Id Name : Type 0} (m : Meaning Key Id Name) (eq : Key → Key → Bool) where

@@ -13,7 +13,7 @@ use Rattle.relation_terms.specs.Trees.{known}
 use Rattle.relation_terms.specs.Meaning.{Meaning, arg_tree, term_tree}
 use Rattle.relation_terms.specs.Interning.{AreEqualAsTrees, IsOfSort, AreOfSort, AreBindersOf}
 use Rattle.relation_terms.proofs.Sorted.{Sorted}
-use Rattle.relation_tools.proofs.Arguments.{arg_same}
+use Rattle.relation_folds.proofs.Arguments.{arg_same}
 
 -- Trees of known keys are of their sorts.
 pub sorted_by : {Key Id Name : Type 0} (m : Meaning Key Id Name) → IsOfSort m.ty type_sort →

@@ -6,7 +6,7 @@ use Rattle.relation_terms.specs.Heads.{Head, adt, fn_def, closure, coroutine_clo
 use Rattle.relation_terms.specs.Heads.{array, slice, pattern_type, tuple, unsafe_binder, dynamic, fn_ptr, raw_ptr, ref}
 use Rattle.relation_terms.specs.Heads.{alias}
 use Rattle.relation_terms.specs.Trees.{Tree, node}
-use Rattle.relation_tools.specs.Outlines.{named}
+use Rattle.relation_folds.specs.Outlines.{named}
 use Rattle.type_relations.specs.declared.relate.forms.Outline.{Outline}
 use Rattle.type_relations.specs.declared.relate.forms.Form.{Form}
 use Rattle.type_relations.specs.declared.relate.forms.Form.TheVariants.{Leaf, Adt, FnDef, Closure, CoroutineClosure}

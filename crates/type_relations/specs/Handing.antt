@@ -5,12 +5,12 @@ use Rattle.relation_terms.specs.Trees.{Tree, node, cons, count}
 use Rattle.relation_terms.specs.declared.terms.keys.ConstKey.{ConstKey}
 use Rattle.relation_terms.specs.declared.terms.generic_arg.GenericArgKind.{GenericArgKind}
 use Rattle.relation_terms.specs.declared.terms.generic_arg.GenericArgKind.TheVariants.{Const}
-use Rattle.relation_tools.specs.declared.error.ExpectedFound.{ExpectedFound}
-use Rattle.relation_tools.specs.declared.error.TypeError.{TypeError}
-use Rattle.relation_tools.specs.declared.error.TypeError.TheVariants.{ArraySize, ConstMismatch}
-use Rattle.relation_tools.specs.declared.error.RelateFault.{RelateFault}
-use Rattle.relation_tools.specs.declared.error.RelateFault.TheVariants.{Unrelated}
-use Rattle.type_relations.specs.Errors.{IsPlaced, NamesNoPlace}
+use Rattle.relation_folds.specs.declared.error.ExpectedFound.{ExpectedFound}
+use Rattle.relation_folds.specs.declared.error.TypeError.{TypeError}
+use Rattle.relation_folds.specs.declared.error.TypeError.TheVariants.{ArraySize, ConstMismatch}
+use Rattle.relation_folds.specs.declared.error.RelateFault.{RelateFault}
+use Rattle.relation_folds.specs.declared.error.RelateFault.TheVariants.{Unrelated}
+use Rattle.relation_contexts.specs.Errors.{IsPlaced, NamesNoPlace}
 
 -- The fault of a part is the fault of the type that it is a part of: all but constants that differ as the lengths of
 -- two arrays.

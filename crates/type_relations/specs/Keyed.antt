@@ -14,14 +14,14 @@ use Rattle.relation_terms.specs.Trees.{node, known, count}
 use Rattle.relation_terms.specs.Meaning.{Meaning, arg_tree}
 use Rattle.relation_terms.specs.Parts.{part_tree}
 use Rattle.relation_terms.specs.Variances.{xform}
-use Rattle.relation_tools.specs.declared.error.RelateFault.{RelateFault}
-use Rattle.type_relations.specs.declared.relate.Step.{Step}
+use Rattle.relation_folds.specs.declared.error.RelateFault.{RelateFault}
+use Rattle.relation_contexts.specs.declared.relate.Step.{Step}
 use Rattle.type_relations.specs.Arguments.{AreOverItem}
-use Rattle.type_relations.specs.Constraints.{constraint_at, asked_constraints}
-use Rattle.type_relations.specs.Goals.{Relates}
-use Rattle.type_relations.specs.Lawful.{State, Manners, Asked, Related, Stepped, items_in}
-use Rattle.type_relations.specs.Parts.{IsFormed, IsFormedConst, head_of}
-use Rattle.type_relations.specs.Relation.{part_at}
+use Rattle.relation_contexts.specs.Constraints.{constraint_at, asked_constraints}
+use Rattle.relation_contexts.specs.Goals.{Relates}
+use Rattle.relation_contexts.specs.Lawful.{State, Manners, Asked, Related, Stepped, items_in}
+use Rattle.relation_contexts.specs.Parts.{IsFormed, IsFormedConst, head_of}
+use Rattle.relation_contexts.specs.Relation.{part_at}
 use Rattle.type_relations.specs.Subtyping.{RegistersSubtype, StepRegistersSubtype}
 
 module _ {Key Id Name : Type 0} where

@@ -10,21 +10,21 @@ use Rattle.relation_terms.specs.declared.terms.keys.ParamEnvKey.{ParamEnvKey}
 use Rattle.relation_terms.specs.Heads.{Head}
 use Rattle.relation_terms.specs.Trees.{Tree, known}
 use Rattle.relation_terms.specs.Meaning.{Meaning}
-use Rattle.relation_tools.specs.declared.error.RelateFault.{RelateFault}
-use Rattle.relation_tools.specs.declared.error.RelateFault.TheVariants.{Memory}
-use Rattle.relation_tools.specs.Faults.{IfUnrelated, IfSpent}
-use Rattle.type_relations.specs.Stores.{IsTermIn}
-use Rattle.type_relations.specs.Goals.{goals_of, goal_of}
-use Rattle.type_relations.specs.Steps.{MakesToInstantiate}
-use Rattle.type_relations.specs.FirstOrder.{IsFirstOrderStore}
-use Rattle.type_relations.specs.Outcomes.{NoEqualTerms, Exact, NoUnifier}
-use Rattle.type_relations.specs.Headline.{AnswersGoals, KeepsEqualTerms, IsFirstOrderPair}
-use Rattle.type_relations.specs.OneUniverse.{IsPairOf, all_unbound}
-use Rattle.type_relations.specs.Errors.{ErrorOf}
-use Rattle.type_relations.specs.Covered.{IsCovered}
-use Rattle.type_relations.specs.Lawful.{items_of}
+use Rattle.relation_folds.specs.declared.error.RelateFault.{RelateFault}
+use Rattle.relation_folds.specs.declared.error.RelateFault.TheVariants.{Memory}
+use Rattle.relation_folds.specs.Faults.{IfUnrelated, IfSpent}
+use Rattle.relation_contexts.specs.Stores.{IsTermIn}
+use Rattle.relation_contexts.specs.Goals.{goals_of, goal_of}
+use Rattle.relation_contexts.specs.Steps.{MakesToInstantiate}
+use Rattle.relation_contexts.specs.FirstOrder.{IsFirstOrderStore}
+use Rattle.relation_contexts.specs.Outcomes.{NoEqualTerms, Exact, NoUnifier}
+use Rattle.relation_contexts.specs.Headline.{AnswersGoals, KeepsEqualTerms, IsFirstOrderPair}
+use Rattle.relation_contexts.specs.OneUniverse.{IsPairOf, all_unbound}
+use Rattle.relation_contexts.specs.Errors.{ErrorOf}
+use Rattle.relation_contexts.specs.Covered.{IsCovered}
+use Rattle.relation_contexts.specs.Lawful.{items_of}
 use Rattle.type_relations.specs.Arguments.{related_tree}
-use Rattle.type_relations.specs.Contexts.{Context}
+use Rattle.relation_contexts.specs.Contexts.{Context}
 use Rattle.type_relations.specs.Subtyping.{OfSubtype}
 
 -- What is related of a value in a context.

@@ -5,15 +5,15 @@ use Rattle.relation_terms.specs.declared.terms.enums.Variance.TheVariants.{Invar
 use Rattle.relation_terms.specs.Heads.{BoundKind}
 use Rattle.relation_terms.specs.Trees.{Tree, bind}
 use Rattle.relation_terms.specs.Meaning.{Meaning}
-use Rattle.relation_tools.specs.declared.error.TypeError.{TypeError}
-use Rattle.relation_tools.specs.declared.error.RelateFault.{RelateFault}
-use Rattle.type_relations.specs.Relation.{Items, Way, at, second_opened, first_opened, StaysWithin}
-use Rattle.type_relations.specs.Stores.{Store, IsSound, weight}
-use Rattle.type_relations.specs.Goals.{Goal}
-use Rattle.type_relations.specs.Steps.{IsLater}
-use Rattle.type_relations.specs.Outcomes.{StepsTo}
-use Rattle.type_relations.specs.Errors.{ErrorOf}
-use Rattle.type_relations.specs.Lawful.{State, Manners, Passes, Asked, OnlyMemory, items_in}
+use Rattle.relation_folds.specs.declared.error.TypeError.{TypeError}
+use Rattle.relation_folds.specs.declared.error.RelateFault.{RelateFault}
+use Rattle.relation_contexts.specs.Relation.{Items, Way, at, second_opened, first_opened, StaysWithin}
+use Rattle.relation_contexts.specs.Stores.{Store, IsSound, weight}
+use Rattle.relation_contexts.specs.Goals.{Goal}
+use Rattle.relation_contexts.specs.Steps.{IsLater}
+use Rattle.relation_contexts.specs.Outcomes.{StepsTo}
+use Rattle.relation_contexts.specs.Errors.{ErrorOf}
+use Rattle.relation_contexts.specs.Lawful.{State, Manners, Passes, Asked, OnlyMemory, items_in}
 
 -- One round relates two binders at a variance that is not invariance; or where neither body uses what its binder binds.
 abbrev pub OneRound : Variance → Tree → Tree → Type 0

@@ -6,11 +6,11 @@ use Rattle.relation_terms.specs.declared.terms.keys.ParamEnvKey.{ParamEnvKey}
 use Rattle.relation_terms.specs.declared.terms.keys.PredicateKey.{PredicateKey}
 use Rattle.relation_terms.specs.Trees.{known}
 use Rattle.relation_terms.specs.Meaning.{Meaning}
-use Rattle.type_relations.specs.declared.relate.StructurallyRelateAliases.TheVariants.{No}
-use Rattle.type_relations.specs.Goals.{goals_of, KnowsGoal}
-use Rattle.type_relations.specs.Lawful.{State, Settings, Manners, TakesParts}
-use Rattle.type_relations.specs.Contexts.{Context}
-use Rattle.type_relations.specs.Stores.{Store}
+use Rattle.relation_contexts.specs.declared.relate.StructurallyRelateAliases.TheVariants.{No}
+use Rattle.relation_contexts.specs.Goals.{goals_of, KnowsGoal}
+use Rattle.relation_contexts.specs.Lawful.{State, Settings, Manners, TakesParts}
+use Rattle.relation_contexts.specs.Contexts.{Context}
+use Rattle.relation_contexts.specs.Stores.{Store}
 
 -- Aliases are left to goals, which the next solver answers; at invariance all arguments are related invariantly.
 abbrev pub solver_settings : Settings

@@ -4,14 +4,14 @@ use Rattle.relation_terms.specs.declared.terms.enums.Variance.{Variance}
 use Rattle.relation_terms.specs.declared.terms.enums.Variance.TheVariants.{Covariant, Contravariant}
 use Rattle.relation_terms.specs.Heads.{type_var, variable}
 use Rattle.relation_terms.specs.Trees.{Tree, leaf}
-use Rattle.relation_tools.specs.declared.error.RelateFault.{RelateFault}
-use Rattle.relation_tools.specs.declared.error.RelateFault.TheVariants.{Memory}
-use Rattle.type_relations.specs.declared.relate.Step.{Step}
-use Rattle.type_relations.specs.declared.relate.Step.TheVariants.{Done}
-use Rattle.type_relations.specs.Stores.{Store, unbound, entry_of}
-use Rattle.type_relations.specs.Steps.{LeadsTo}
-use Rattle.type_relations.specs.Goals.{goal_of, subtype_predicate}
-use Rattle.type_relations.specs.Lawful.{State, Manners}
+use Rattle.relation_folds.specs.declared.error.RelateFault.{RelateFault}
+use Rattle.relation_folds.specs.declared.error.RelateFault.TheVariants.{Memory}
+use Rattle.relation_contexts.specs.declared.relate.Step.{Step}
+use Rattle.relation_contexts.specs.declared.relate.Step.TheVariants.{Done}
+use Rattle.relation_contexts.specs.Stores.{Store, unbound, entry_of}
+use Rattle.relation_contexts.specs.Steps.{LeadsTo}
+use Rattle.relation_contexts.specs.Goals.{goal_of, subtype_predicate}
+use Rattle.relation_contexts.specs.Lawful.{State, Manners}
 
 -- A type variable.
 abbrev pub IsTyVar : Tree → Type 0

@@ -3,15 +3,15 @@ use Rattle.std.specs.Prelude.{◌≡◌, ◌≢◌, ℕ, ◌+◌}
 use Rattle.relation_terms.specs.declared.terms.enums.Variance.TheVariants.{Invariant}
 use Rattle.relation_terms.specs.Heads.{VarKind, region_var}
 use Rattle.relation_terms.specs.Trees.{Tree, Leaves}
-use Rattle.type_relations.specs.Relation.{Items}
-use Rattle.type_relations.specs.Stores.{Store, MayStandFor, IsTermIn, IsSound, all_bound}
-use Rattle.type_relations.specs.FirstOrder.{IsFirstOrder, IsFirstOrderStore}
-use Rattle.type_relations.specs.ErasureLaws.{IsTypeOrConst}
-use Rattle.type_relations.specs.Steps.{Equates}
-use Rattle.type_relations.specs.Errors.{IsReadAs}
-use Rattle.type_relations.specs.Generalising.{InstantiatesBy, NumbersNameNothing}
-use Rattle.type_relations.specs.OneUniverse.{NamesTypesTo, HasOneUniverse, all_unbound, all_roots, StaysOf, KeepsUniverse}
-use Rattle.type_relations.specs.OneUniverse.{LeadsInUniverse}
+use Rattle.relation_contexts.specs.Relation.{Items}
+use Rattle.relation_contexts.specs.Stores.{Store, MayStandFor, IsTermIn, IsSound, all_bound}
+use Rattle.relation_contexts.specs.FirstOrder.{IsFirstOrder, IsFirstOrderStore}
+use Rattle.relation_contexts.specs.ErasureLaws.{IsTypeOrConst}
+use Rattle.relation_contexts.specs.Steps.{Equates}
+use Rattle.relation_contexts.specs.Errors.{IsReadAs}
+use Rattle.relation_contexts.specs.Generalising.{InstantiatesBy, NumbersNameNothing}
+use Rattle.relation_contexts.specs.OneUniverse.{NamesTypesTo, HasOneUniverse, all_unbound, all_roots, StaysOf, KeepsUniverse}
+use Rattle.relation_contexts.specs.OneUniverse.{LeadsInUniverse}
 
 -- Of each class of type or constant variables the one that is the same as no other is bound or unresolved.
 abbrev pub RootsAreBoundOrNot : Type 0

@@ -1,7 +1,6 @@
 //! Relating terms in an inference context.
 #![tactic(auto)]
 
-pub mod decided;
-pub mod infer_ctxt;
-pub mod laws;
+pub use relation_contexts::infer_ctxt;
+
 pub mod relate;

@@ -20,37 +20,9 @@ pub mod variables;
 
 pub use args::{relate_args_invariantly, relate_args_with_variances, relate_ty_args};
 pub use relatable::Relate;
-use relation_terms::terms::{Keys, TyKey, Variance};
+pub use relation_contexts::relate::{Step, StructurallyRelateAliases};
+use relation_terms::terms::{Keys, TyKey};
 pub use type_relation::TypeRelation;
-
-/// What comes of two terms in one step of a relation.
-#[derive(Clone, Copy)]
-pub enum Step<T> {
-    /// They are related, and this is the answer.
-    Done(T),
-    /// These two are related by their outermost forms and their parts, and what comes of that is the answer.
-    Parts {
-        a: T,
-        b: T,
-    },
-    /// `x` and `y` are related at the variance, seen from the ambient one, and then `answer` is the answer. The terms
-    /// are read as `a` and `b`.
-    Again {
-        a: T,
-        b: T,
-        x: T,
-        y: T,
-        variance: Variance,
-        answer: T,
-    },
-}
-
-/// Whether aliases are related by their items and arguments, or by a goal that is left to the solver.
-#[derive(Clone, Copy, PartialEq, Eq)]
-pub enum StructurallyRelateAliases {
-    Yes,
-    No,
-}
 
 /// Why two terms are related at invariance, for whoever explains an error. No answer of relating looks at it.
 #[derive(Clone, Copy, PartialEq, Eq)]

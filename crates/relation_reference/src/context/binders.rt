@@ -3,24 +3,24 @@ ghost use Rattle.std.specs.Prelude.{◌≡◌, ◌<◌, IsTrue, IsSome, Some, If
 ghost use Rattle.relation_terms.specs.Heads.{placeholder};
 ghost use Rattle.relation_terms.specs.Trees.{leaf, known, list_tree};
 ghost use Rattle.relation_terms.specs.Meaning.{Extends, arg_tree, bound_kind_of};
-ghost use Rattle.type_relations.specs.Generalising.{MakesUnbound};
-ghost use Rattle.type_relations.specs.ContextCalls.{KeepsRest};
-ghost use Rattle.type_relations.specs.Bound.{BindsByList};
-ghost use Rattle.type_relations.specs.Binders.{kinds_in, variable_kind, MakesEach, binder_tree};
-ghost use Rattle.type_relations.specs.Binders.{EntersAs, InstantiatesAs};
+ghost use Rattle.relation_contexts.specs.Generalising.{MakesUnbound};
+ghost use Rattle.relation_contexts.specs.ContextCalls.{KeepsRest};
+ghost use Rattle.relation_contexts.specs.Bound.{BindsByList};
+ghost use Rattle.relation_contexts.specs.Binders.{kinds_in, variable_kind, MakesEach, binder_tree};
+ghost use Rattle.relation_contexts.specs.Binders.{EntersAs, InstantiatesAs};
 ghost use Rattle.relation_reference.specs.Tables.{IsLawful};
 ghost use Rattle.relation_reference.specs.RefCtxt.{store_in, context_in};
 ghost use Rattle.relation_reference.specs.Opened.{placeholders_from, MakesOne};
 
 use crate::context::RefCtxt;
 use crate::context::universes::next_universe;
+use relation_folds::fold::{TypeFoldable, instantiate_bound_vars};
+use relation_folds::visit::{TypeVisitable, has_escaping_bound_vars};
 use relation_terms::terms::{
     Binder, BoundConst, BoundRegion, BoundTy, BoundVar, BoundVariable, BoundVariableKind,
     BoundVars, ConstKind, GenericArg, GenericArgKind, Interner, OutOfMemory, Placeholder,
     RegionKind, TyKind, UniverseIndex,
 };
-use relation_tools::fold::{TypeFoldable, instantiate_bound_vars};
-use relation_tools::visit::{TypeVisitable, has_escaping_bound_vars};
 
 // How many variables a binder's list has.
 fn count_of<I: Interner>(cx: &I, bound_vars: &BoundVars<I>) -> usize

@@ -3,10 +3,10 @@ ghost use Rattle.std.specs.Prelude.{◌≡◌, ◌≢◌, ℕ, ◌<◌, length, 
 ghost use Rattle.relation_terms.specs.Heads.{type_var, int_var, float_var, const_var};
 ghost use Rattle.relation_terms.specs.declared.terms.ty_kind.IntVarValue.TheVariants.{Unknown};
 ghost use Rattle.relation_terms.specs.declared.terms.ty_kind.FloatVarValue.TheVariants.{Unknown as UnknownFloat};
-ghost use Rattle.type_relations.specs.Stores.{unbound, entry_of};
-ghost use Rattle.type_relations.specs.Steps.{Equates, InstantiatesNumber};
-ghost use Rattle.type_relations.specs.ContextCalls.{JoinsRoots, KeepsRest, KeepsSolver, KeepsOutliving};
-ghost use Rattle.type_relations.specs.NumberValues.{int_value_tree, float_value_tree};
+ghost use Rattle.relation_contexts.specs.Stores.{unbound, entry_of};
+ghost use Rattle.relation_contexts.specs.Steps.{Equates, InstantiatesNumber};
+ghost use Rattle.relation_contexts.specs.ContextCalls.{JoinsRoots, KeepsRest, KeepsSolver, KeepsOutliving};
+ghost use Rattle.relation_contexts.specs.NumberValues.{int_value_tree, float_value_tree};
 ghost use Rattle.relation_reference.specs.SubRoots.{root_in};
 ghost use Rattle.relation_reference.specs.Tables.{store_of, IsLawful};
 ghost use Rattle.relation_reference.specs.RefCtxt.{store_in, context_in};

@@ -3,8 +3,8 @@ ghost use Rattle.std.specs.Prelude.{◌≡◌, IsTrue, IfOk};
 ghost use Rattle.relation_terms.specs.Trees.{known};
 ghost use Rattle.relation_terms.specs.Meaning.{Extends};
 ghost use Rattle.relation_terms.specs.Parts.{part_tree, part_sort};
-ghost use Rattle.relation_tools.specs.Folds.{answered, KnownAnswer};
-ghost use Rattle.type_relations.specs.Stores.{resolved};
+ghost use Rattle.relation_folds.specs.Folds.{answered, KnownAnswer};
+ghost use Rattle.relation_contexts.specs.Stores.{resolved};
 ghost use Rattle.relation_reference.specs.Tables.{store_of, IsLawful};
 ghost use Rattle.relation_reference.specs.RefCtxt.{resolved_in};
 ghost use Rattle.relation_reference.specs.Remembering.{resolved_by};
@@ -13,11 +13,11 @@ ghost use Rattle.relation_reference.specs.Resolvers.{IsVariable, variable_value}
 use crate::context::resolving::resolve_part;
 use crate::context::table::has;
 use crate::context::{InferCtxtInner, RefCtxt};
+use relation_contexts::variable_forms::{const_vid, float_vid, int_vid, ty_vid};
+use relation_folds::fold::{Fold, TypeFoldable, TypeFolder};
 use relation_terms::terms::parts::{the_const, the_ty};
 use relation_terms::terms::{Const, Interner, OutOfMemory, Part, PartOf, Region, RegionKind, Ty};
-use relation_tools::fold::{Fold, TypeFoldable, TypeFolder};
 use std::collections::HashMap;
-use type_relations::relate::variables::{const_vid, float_vid, int_vid, ty_vid};
 
 // What a variable comes to. One that the tables don't have is itself.
 fn resolve_variable<I: Interner>(

@@ -8,14 +8,14 @@ ghost use Rattle.relation_terms.specs.Trees.{Tree, leaf, known, count, IsTerm};
 ghost use Rattle.relation_terms.specs.Meaning.{Extends};
 ghost use Rattle.relation_terms.specs.Parts.{part_tree, part_sort, parts_of};
 ghost use Rattle.relation_terms.specs.Variances.{xform};
-ghost use Rattle.type_relations.specs.Relation.{pointee_variance};
-ghost use Rattle.type_relations.specs.Lawful.{items_of};
-ghost use Rattle.type_relations.specs.Covered.{IsCovered};
-ghost use Rattle.type_relations.specs.Stores.{InContext, IsMade, universe_of};
-ghost use Rattle.type_relations.specs.Steps.{MakesVariable};
-ghost use Rattle.type_relations.specs.Generalising.{Met, Stays, any_part, new_part, variance_of_part, MakesUnbound};
+ghost use Rattle.relation_contexts.specs.Relation.{pointee_variance};
+ghost use Rattle.relation_contexts.specs.Lawful.{items_of};
+ghost use Rattle.relation_contexts.specs.Covered.{IsCovered};
+ghost use Rattle.relation_contexts.specs.Stores.{InContext, IsMade, universe_of};
+ghost use Rattle.relation_contexts.specs.Steps.{MakesVariable};
+ghost use Rattle.relation_contexts.specs.Generalising.{Met, Stays, any_part, new_part, variance_of_part, MakesUnbound};
 ghost use Rattle.relation_reference.specs.Tables.{IsLawful};
-ghost use Rattle.type_relations.specs.ContextCalls.{MarksNew};
+ghost use Rattle.relation_contexts.specs.ContextCalls.{MarksNew};
 ghost use Rattle.relation_reference.specs.RefCtxt.{store_in, context_in};
 ghost use Rattle.relation_reference.specs.Remembering.{vid_kind, vid_number};
 ghost use Rattle.relation_reference.specs.Generalises.{new_kind, met_at, IsFate, IsSure, Keeps, Generalises};
@@ -26,12 +26,12 @@ ghost use Rattle.relation_terms.specs.declared.terms.enums.Variance.TheVariants.
 use crate::context::RefCtxt;
 use crate::context::memory::TermVid;
 use crate::context::resolving::{is_same_vid, variable_of};
+use relation_folds::error::{RelateFault, RelateFaultOf, TypeError};
 use relation_terms::terms::parts::{is_same, part, parts_count, the_ty, with_parts};
 use relation_terms::terms::{
     Const, ConstKind, DefId, Interner, ItemOf, Keys, Mutability, OutOfMemory, Part, PartOf, Region,
     RegionKind, RegionVid, Ty, TyKey, TyKind, TyVid, UniverseIndex, Variance,
 };
-use relation_tools::error::{RelateFault, RelateFaultOf, TypeError};
 use std::collections::HashMap;
 
 /// A type as it is looked for: the variance at which it stands, and its key.

@@ -1,22 +1,22 @@
 //! The context by what the trait of contexts asks of it.
 ghost use Rattle.std.specs.Prelude.{IsTrue};
 ghost use Rattle.relation_terms.specs.Trees.{known};
-ghost use Rattle.type_relations.specs.Stores.{IsTermIn};
-ghost use Rattle.type_relations.specs.ContextCalls.{Grows, KeepsRest};
-ghost use Rattle.type_relations.specs.Bound.{BindsByList};
-ghost use Rattle.type_relations.specs.Binders.{binder_tree, EntersBinder, InstantiatesWithInfer};
+ghost use Rattle.relation_contexts.specs.Stores.{IsTermIn};
+ghost use Rattle.relation_contexts.specs.ContextCalls.{Grows, KeepsRest};
+ghost use Rattle.relation_contexts.specs.Bound.{BindsByList};
+ghost use Rattle.relation_contexts.specs.Binders.{binder_tree, EntersBinder, InstantiatesWithInfer};
 ghost use Rattle.relation_reference.specs.RefCtxt.{context_in};
 
 use crate::context::RefCtxt;
+use relation_contexts::infer_ctxt::{BinderOf, InferCtxtLike, VisibleForLeakCheck};
+use relation_contexts::relate::StructurallyRelateAliases;
+use relation_folds::error::RelateResult;
+use relation_folds::fold::TypeFoldable;
+use relation_folds::visit::TypeVisitable;
 use relation_terms::terms::{
     Const, ConstVid, FloatVarValue, FloatVid, IntVarValue, IntVid, Interner, OutOfMemory, Region,
     RegionVid, Span, Ty, TyVid, UniverseIndex, Variance,
 };
-use relation_tools::error::RelateResult;
-use relation_tools::fold::TypeFoldable;
-use relation_tools::visit::TypeVisitable;
-use type_relations::infer_ctxt::{BinderOf, InferCtxtLike, VisibleForLeakCheck};
-use type_relations::relate::StructurallyRelateAliases;
 
 impl<I: Interner> InferCtxtLike for RefCtxt<I> {
     type Interner = I;

@@ -3,10 +3,10 @@ ghost use Rattle.std.specs.Prelude.{◌≡◌, ◌≢◌, ℕ, ◌<◌, IsTrue, 
 ghost use Rattle.relation_terms.specs.declared.terms.enums.Variance.TheVariants.{Invariant};
 ghost use Rattle.relation_terms.specs.Heads.{type_var, const_var, variable};
 ghost use Rattle.relation_terms.specs.Trees.{leaf, known};
-ghost use Rattle.relation_tools.specs.declared.error.TypeError.TheVariants.{CyclicTy, CyclicConst};
-ghost use Rattle.type_relations.specs.Stores.{unbound, entry_of, IsTermIn};
-ghost use Rattle.type_relations.specs.Covered.{IsCovered};
-ghost use Rattle.type_relations.specs.ContextCalls.{Grows, Instantiated, MarksNew};
+ghost use Rattle.relation_folds.specs.declared.error.TypeError.TheVariants.{CyclicTy, CyclicConst};
+ghost use Rattle.relation_contexts.specs.Stores.{unbound, entry_of, IsTermIn};
+ghost use Rattle.relation_contexts.specs.Covered.{IsCovered};
+ghost use Rattle.relation_contexts.specs.ContextCalls.{Grows, Instantiated, MarksNew};
 ghost use Rattle.relation_reference.specs.Tables.{IsLawful};
 ghost use Rattle.relation_reference.specs.RefCtxt.{store_in, context_in};
 
@@ -14,9 +14,9 @@ use crate::context::RefCtxt;
 use crate::context::generalising::Target;
 use crate::context::memory::TermVid;
 use crate::context::table::bind;
+use relation_folds::error::{RelateFault, RelateFaultOf, TypeError};
 use relation_terms::terms::parts::{the_const, the_ty};
 use relation_terms::terms::{Const, ConstVid, Interner, Part, Ty, TyVid, Variance};
-use relation_tools::error::{RelateFault, RelateFaultOf, TypeError};
 
 impl<I: Interner> RefCtxt<I> {
     /// Binds the root of a type variable, at a variance, to what a type comes to, generalised for what the root can

@@ -1,6 +1,6 @@
 //! The types that are to outlive regions.
 ghost use Rattle.std.specs.Prelude.{◌≡◌, ◌++◌, ◌∷◌, []};
-ghost use Rattle.type_relations.specs.ContextCalls.{Registers, KeepsSolver, KeepsMarks};
+ghost use Rattle.relation_contexts.specs.ContextCalls.{Registers, KeepsSolver, KeepsMarks};
 ghost use Rattle.relation_reference.specs.Tables.{store_of, IsLawful};
 ghost use Rattle.relation_reference.specs.RefCtxt.{store_in, context_in};
 

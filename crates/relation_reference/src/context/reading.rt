@@ -2,11 +2,11 @@
 ghost use Rattle.std.specs.Prelude.{◌<◌, IsTrue, IfSome, IfNone, length};
 ghost use Rattle.relation_terms.specs.Heads.{type_var, int_var, float_var, const_var, variable};
 ghost use Rattle.relation_terms.specs.Trees.{leaf, known};
-ghost use Rattle.type_relations.specs.Covered.{IsCovered};
-ghost use Rattle.type_relations.specs.Stores.{InContext};
-ghost use Rattle.type_relations.specs.Steps.{LeadsTo, Resolves};
-ghost use Rattle.type_relations.specs.Errors.{IsReadAs};
-ghost use Rattle.type_relations.specs.Resolving.{IsRoot, IsShallow, IsShallowTy, IsShallowConst};
+ghost use Rattle.relation_contexts.specs.Covered.{IsCovered};
+ghost use Rattle.relation_contexts.specs.Stores.{InContext};
+ghost use Rattle.relation_contexts.specs.Steps.{LeadsTo, Resolves};
+ghost use Rattle.relation_contexts.specs.Errors.{IsReadAs};
+ghost use Rattle.relation_contexts.specs.Resolving.{IsRoot, IsShallow, IsShallowTy, IsShallowConst};
 ghost use Rattle.relation_reference.specs.Tables.{IsLawful};
 ghost use Rattle.relation_reference.specs.RefCtxt.{store_in};
 ghost use Rattle.relation_reference.specs.Answers.{HasBinding, HasNoBinding};

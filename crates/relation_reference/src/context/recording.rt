@@ -3,11 +3,11 @@ ghost use Rattle.std.specs.Prelude.{◌≡◌, ◌≢◌, ℕ, ◌≤◌, suc, I
 ghost use Rattle.relation_terms.specs.Heads.{type_var, int_var, float_var, const_var, region_var, variable};
 ghost use Rattle.relation_terms.specs.Trees.{leaf, known};
 ghost use Rattle.relation_terms.specs.Meaning.{Extends};
-ghost use Rattle.type_relations.specs.Stores.{IsRegionIn, equal_constraint};
-ghost use Rattle.type_relations.specs.Stores.{outlives_constraint};
-ghost use Rattle.type_relations.specs.Steps.{MakesVariable, AddsConstraint, IsLater};
-ghost use Rattle.type_relations.specs.Measures.{Goes};
-ghost use Rattle.type_relations.specs.ContextCalls.{KeepsRest};
+ghost use Rattle.relation_contexts.specs.Stores.{IsRegionIn, equal_constraint};
+ghost use Rattle.relation_contexts.specs.Stores.{outlives_constraint};
+ghost use Rattle.relation_contexts.specs.Steps.{MakesVariable, AddsConstraint, IsLater};
+ghost use Rattle.relation_contexts.specs.Measures.{Goes};
+ghost use Rattle.relation_contexts.specs.ContextCalls.{KeepsRest};
 ghost use Rattle.relation_reference.specs.Tables.{store_of, IsLawful};
 ghost use Rattle.relation_reference.specs.RefCtxt.{store_in, context_in};
 

@@ -4,7 +4,7 @@ ghost use Rattle.relation_terms.specs.Heads.{variable};
 ghost use Rattle.relation_terms.specs.Trees.{leaf, known};
 ghost use Rattle.relation_terms.specs.Meaning.{Extends};
 ghost use Rattle.relation_terms.specs.Parts.{part_tree, part_sort, parts_of, over};
-ghost use Rattle.type_relations.specs.Stores.{InContext};
+ghost use Rattle.relation_contexts.specs.Stores.{InContext};
 ghost use Rattle.relation_reference.specs.Tables.{store_of, IsLawful};
 ghost use Rattle.relation_reference.specs.RefCtxt.{store_in, resolved_in};
 ghost use Rattle.relation_reference.specs.Remembering.{Remembers, resolved_by, vid_kind, vid_number};
@@ -12,10 +12,10 @@ ghost use Rattle.relation_reference.specs.Remembering.{Remembers, resolved_by, v
 use crate::context::memory::{PartKey, Resolutions, TermVid, keep, recall};
 use crate::context::shallow::{shallow_resolve, shallow_resolve_const};
 use crate::context::{InferCtxtInner, RefCtxt};
+use relation_contexts::variable_forms::{const_vid, ty_vid};
 use relation_terms::terms::parts::{is_same, part, parts_count, the_const, the_ty, with_parts};
 use relation_terms::terms::{Const, Interner, OutOfMemory, Part, PartOf, Ty};
 use std::collections::HashMap;
-use type_relations::relate::variables::{const_vid, ty_vid};
 
 // The type or constant variable that a term is, or none.
 pub(crate) fn variable_of<I: Interner>(cx: &I, term: &PartOf<I>) -> Option<TermVid>

@@ -2,17 +2,17 @@
 ghost use Rattle.std.specs.Prelude.{◌<◌, IsTrue, length};
 ghost use Rattle.relation_terms.specs.Heads.{type_var, int_var, float_var, const_var, variable};
 ghost use Rattle.relation_terms.specs.Trees.{leaf, known};
-ghost use Rattle.type_relations.specs.Covered.{IsCovered};
-ghost use Rattle.type_relations.specs.Stores.{InContext};
-ghost use Rattle.type_relations.specs.Steps.{Resolves};
-ghost use Rattle.type_relations.specs.Errors.{IsReadAs};
-ghost use Rattle.type_relations.specs.Resolving.{IsShallow, IsShallowTy, IsShallowConst};
+ghost use Rattle.relation_contexts.specs.Covered.{IsCovered};
+ghost use Rattle.relation_contexts.specs.Stores.{InContext};
+ghost use Rattle.relation_contexts.specs.Steps.{Resolves};
+ghost use Rattle.relation_contexts.specs.Errors.{IsReadAs};
+ghost use Rattle.relation_contexts.specs.Resolving.{IsShallow, IsShallowTy, IsShallowConst};
 ghost use Rattle.relation_reference.specs.Tables.{store_of, IsLawful};
 
 use crate::context::InferCtxtInner;
 use crate::context::table::term_of;
+use relation_contexts::variable_forms::{const_vid, float_vid, int_vid, ty_vid};
 use relation_terms::terms::{Const, ConstVid, FloatVid, IntVid, Interner, Ty, TyVid};
-use type_relations::relate::variables::{const_vid, float_vid, int_vid, ty_vid};
 
 // The type that a type variable's class is bound to, or else the root of its class.
 pub(crate) fn ty_of_var<I: Interner>(cx: &I, inner: &InferCtxtInner<I::Key>, var: TyVid) -> Ty<I>

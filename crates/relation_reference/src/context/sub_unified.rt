@@ -3,9 +3,9 @@ ghost use Rattle.std.specs.Prelude.{◌≡◌, ◌≤◌, ◌<◌, IsTrue, IfOk,
 ghost use Rattle.relation_terms.specs.Heads.{type_var, variable};
 ghost use Rattle.relation_terms.specs.Trees.{leaf, known};
 ghost use Rattle.relation_terms.specs.Meaning.{Extends};
-ghost use Rattle.type_relations.specs.Stores.{IsMade};
-ghost use Rattle.type_relations.specs.Steps.{MakesVariable};
-ghost use Rattle.type_relations.specs.ContextCalls.{JoinsRoots, KeepsSolver, KeepsOutliving, MarksNew};
+ghost use Rattle.relation_contexts.specs.Stores.{IsMade};
+ghost use Rattle.relation_contexts.specs.Steps.{MakesVariable};
+ghost use Rattle.relation_contexts.specs.ContextCalls.{JoinsRoots, KeepsSolver, KeepsOutliving, MarksNew};
 ghost use Rattle.relation_reference.specs.RefCtxt.{store_in, context_in};
 ghost use Rattle.relation_reference.specs.SubRoots.{root_in, led_root, IsRootTable};
 ghost use Rattle.relation_reference.specs.Tables.{store_of, IsLawful};

@@ -12,7 +12,7 @@ ghost use Rattle.relation_tools.specs.Anonymous.{here, uses, with_vars, used_var
 ghost use Rattle.relation_tools.specs.UsedParts.{AllIn, Remembered, AreRemembered};
 
 use crate::anonymize::used::{UsedVar, add};
-use crate::fold::{Place, depth_inside, place_of};
+use relation_folds::fold::{Place, depth_inside, place_of};
 use relation_terms::predicate::PredicateKind;
 use relation_terms::terms::parts::{
     Field, Fields, FieldsOf, member, member_count, parts_of, predicate_fields, visited_place,

@@ -2,11 +2,11 @@
 ghost use Rattle.std.specs.Prelude.{◌≡◌, IsTrue, IfOk, None, cond, nat_eq, map, option_map};
 ghost use Rattle.relation_terms.specs.Trees.{known};
 ghost use Rattle.relation_terms.specs.Meaning.{Extends};
-ghost use Rattle.relation_tools.specs.Folds.{folded};
+ghost use Rattle.relation_folds.specs.Folds.{folded};
 ghost use Rattle.relation_tools.specs.Anonymous.{place_in, renames, named_as};
 
 use crate::anonymize::used::{UsedVar, place_of};
-use crate::fold::{Fold, TypeFoldable, TypeFolder};
+use relation_folds::fold::{Fold, TypeFoldable, TypeFolder};
 use relation_terms::terms::{
     BoundConst, BoundRegion, BoundTy, BoundVar, BoundVariableKind, Const, ConstKind, DebruijnIndex,
     Interner, OutOfMemory, Region, RegionKind, Ty, TyKind,

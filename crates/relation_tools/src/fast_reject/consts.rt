@@ -1,7 +1,7 @@
 //! The depth test over two constants, and over the value trees that they are.
 ghost use Rattle.std.specs.Prelude.{◌↔◌, IsTrue, IsFalse};
 ghost use Rattle.relation_terms.specs.Trees.{known, list_tree};
-ghost use Rattle.relation_tools.specs.Clashes.{Clash};
+ghost use Rattle.relation_folds.specs.Clashes.{Clash};
 
 use crate::fast_reject::forms::{Sides, is_flexible_const};
 use relation_terms::terms::{Const, ConstKind, Interner, ValTree, ValTreeKind};

@@ -1,7 +1,7 @@
 //! The depth test, with parameters on each side as its user takes them.
 ghost use Rattle.std.specs.Prelude.{◌↔◌, ◌≤◌, ℕ, IsTrue, IsFalse};
 ghost use Rattle.relation_terms.specs.Trees.{known};
-ghost use Rattle.relation_tools.specs.Clashes.{Clash};
+ghost use Rattle.relation_folds.specs.Clashes.{Clash};
 ghost use Rattle.relation_tools.specs.Instances.{NoCommonInstance};
 
 use crate::fast_reject::forms::{STARTING_DEPTH, Sides};

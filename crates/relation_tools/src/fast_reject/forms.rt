@@ -2,10 +2,10 @@
 ghost use Rattle.std.specs.Prelude.{◌≡◌, IsTrue};
 ghost use Rattle.relation_terms.specs.Trees.{known};
 ghost use Rattle.relation_terms.specs.Meaning.{kind_tree, infer_tree, const_tree};
-ghost use Rattle.relation_tools.specs.Clashes.{may_stand, is_integral, is_floating_point, flexible, depth_inside};
-ghost use Rattle.relation_tools.specs.Outlines.{stands};
+ghost use Rattle.relation_folds.specs.Clashes.{may_stand, is_integral, is_floating_point, flexible, depth_inside};
+ghost use Rattle.relation_folds.specs.Outlines.{stands};
 
-use crate::visit::is_known_rigid;
+use relation_folds::visit::is_known_rigid;
 use relation_terms::terms::{
     ConstForm, ConstKind, InferConst, InferTy, Interner, Ty, TyForm, TyKind,
 };

@@ -2,7 +2,7 @@
 ghost use Rattle.std.specs.Prelude.{◌≡◌, ◌≢◌, ◌↔◌, IsTrue, cond, nat_eq};
 ghost use Rattle.relation_terms.specs.Trees.{known, count};
 ghost use Rattle.relation_terms.specs.Meaning.{kind_tree};
-ghost use Rattle.relation_tools.specs.Clashes.{principal};
+ghost use Rattle.relation_folds.specs.Clashes.{principal};
 ghost use Rattle.relation_tools.specs.Pairs.{Pairs, IsOfList, IsOfItem};
 ghost use Rattle.relation_tools.specs.declared.fast_reject.pairs.Pair.TheVariants.{Apart, Args};
 

@@ -5,15 +5,15 @@ ghost use Rattle.relation_terms.specs.Meaning.{kind_tree};
 ghost use Rattle.relation_terms.specs.declared.terms.ty_kind.TyKind.TheVariants.{FnPtr};
 ghost use Rattle.relation_tools.specs.HeadKeys.{key_def, numbered, numbered_key, param_key as key_of_param};
 ghost use Rattle.relation_tools.specs.HeadKeys.{object_key as key_of_object};
-ghost use Rattle.relation_tools.specs.Clashes.{principal, inputs_count};
+ghost use Rattle.relation_folds.specs.Clashes.{principal, inputs_count};
 ghost use Rattle.relation_terms.specs.Parts.{parts_of};
 ghost use Rattle.relation_tools.specs.declared.fast_reject.simplify.SimplifiedType.TheVariants.{Function};
 ghost use Rattle.relation_tools.specs.HeadKeys.{alias_key as key_of_alias, form_key as key_of_form, head_key};
 ghost use Rattle.relation_tools.specs.HeadKeys.{plain_type};
-ghost use Rattle.relation_tools.specs.Visits.{non_region_infer_stands};
+ghost use Rattle.relation_folds.specs.Visits.{non_region_infer_stands};
 
 use crate::trait_object::principal_def_id;
-use crate::visit::has_non_region_infer;
+use relation_folds::visit::has_non_region_infer;
 use relation_terms::terms::parts::member_count;
 use relation_terms::terms::{
     Binder, DefId, ExistentialPredicates, FloatTy, FnHeader, FnSigTys, IntTy, Interner, ItemOf,

@@ -2,7 +2,7 @@
 ghost use Rattle.std.specs.Prelude.{◌↔◌, IsTrue, IsFalse};
 ghost use Rattle.relation_terms.specs.Trees.{known, list_tree};
 ghost use Rattle.relation_terms.specs.Meaning.{arg_tree};
-ghost use Rattle.relation_tools.specs.Clashes.{Clash};
+ghost use Rattle.relation_folds.specs.Clashes.{Clash};
 ghost use Rattle.relation_tools.specs.Pairs.{ClashIn, KnownPair};
 
 use crate::fast_reject::consts::consts_may_unify;

@@ -5,19 +5,19 @@ ghost use Rattle.relation_terms.specs.Heads.{arguments};
 ghost use Rattle.relation_terms.specs.Trees.{known, node, count, nth, IsList, list_tree};
 ghost use Rattle.relation_terms.specs.Meaning.{Extends, arg_tree};
 ghost use Rattle.relation_terms.specs.Variances.{xform};
-ghost use Rattle.type_relations.specs.Lawful.{WithMeaning, OnlyMemory};
+ghost use Rattle.relation_contexts.specs.Lawful.{WithMeaning, OnlyMemory};
 ghost use Rattle.type_relations.specs.Keyed.{AreAsMany, AreOver, AskedLists, AskedTys, IsMadeOver, RelatedLists};
 ghost use Rattle.type_relations.specs.Keyed.{RelatedTys, over_item, part_in};
 ghost use Rattle.type_relations.specs.Arguments.{args_head, head_by, AreOverItem};
-ghost use Rattle.type_relations.specs.Parts.{head_of};
+ghost use Rattle.relation_contexts.specs.Parts.{head_of};
 
 use crate::relate::TypeRelation;
 use crate::relate::reading::{declared_at, note_declared};
 use crate::relate::structural::relate_with_variance;
+use relation_folds::error::RelateResult;
 use relation_terms::terms::{
     DefId, GenericArg, GenericArgs, Interner, ItemOf, OutOfMemory, Ty, TyKind, Variance,
 };
-use relation_tools::error::RelateResult;
 
 // The variances at which arguments are related.
 #[derive(Clone, Copy)]

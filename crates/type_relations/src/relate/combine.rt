@@ -6,29 +6,29 @@ ghost use Rattle.relation_terms.specs.Meaning.{arg_tree};
 ghost use Rattle.relation_terms.specs.declared.terms.enums.Variance.TheVariants.{Bivariant};
 ghost use Rattle.type_relations.specs.Bivariance.{is_left_open, TellsOpen, TellsEitherOpen, RegistersWellFormed};
 ghost use Rattle.type_relations.specs.Combining.{CombinesTys, CombinesConsts, IsNoTyVar};
-ghost use Rattle.type_relations.specs.ContextCalls.{Grows};
+ghost use Rattle.relation_contexts.specs.ContextCalls.{Grows};
 ghost use Rattle.type_relations.specs.Emitting.{AddsGoals, IsOver, WithContext, KnowsPredicate, goals_in};
-ghost use Rattle.type_relations.specs.Contexts.{KnowsTy};
-ghost use Rattle.type_relations.specs.Goals.{KnowsGoal, goals_of, well_formed_predicate};
+ghost use Rattle.relation_contexts.specs.Contexts.{KnowsTy};
+ghost use Rattle.relation_contexts.specs.Goals.{KnowsGoal, goals_of, well_formed_predicate};
 ghost use Rattle.type_relations.specs.Keyed.{AreOver, AskedTys, AskedConsts, SteppedTys, SteppedConsts};
-ghost use Rattle.type_relations.specs.Lawful.{State, Noted, RelatesByDeclared, items_in, items_of, listed};
-ghost use Rattle.type_relations.specs.Resolving.{IsShallow};
+ghost use Rattle.relation_contexts.specs.Lawful.{State, Noted, RelatesByDeclared, items_in, items_of, listed};
+ghost use Rattle.relation_contexts.specs.Resolving.{IsShallow};
 ghost use Rattle.type_relations.specs.Solving.{solver_manner};
-ghost use Rattle.type_relations.specs.Steps.{IsLater};
-ghost use Rattle.type_relations.specs.Stores.{IsTermIn};
+ghost use Rattle.relation_contexts.specs.Steps.{IsLater};
+ghost use Rattle.relation_contexts.specs.Stores.{IsTermIn};
 
 mod meeting;
 
-use crate::infer_ctxt::InferCtxtLike;
 use crate::relate::args::{arg_at, args_count};
 use crate::relate::combine::meeting::{meet_consts, meet_tys};
 use crate::relate::solver_relating::{GoalOf, recording};
 use crate::relate::{Step, StructurallyRelateAliases};
+use relation_contexts::infer_ctxt::InferCtxtLike;
+use relation_folds::error::RelateResult;
 use relation_terms::terms::{
     Const, GenericArg, GenericArgKind, GenericArgs, Interner, ItemOf, OutOfMemory, ParamEnv,
     Predicate, Span, Ty, Variance,
 };
-use relation_tools::error::RelateResult;
 
 /// A relation of the terms of a context, which registers goals.
 ///

@@ -1,13 +1,13 @@
 //! Comparing the outermost forms of two terms.
 ghost use Rattle.std.specs.Prelude.{◌≡◌, ◌≢◌, ◌⊎◌, ◌<◌, IsTrue, IsFalse, OnOk, IfErr};
 ghost use Rattle.relation_terms.specs.Trees.{known};
-ghost use Rattle.type_relations.specs.Errors.{FormError, ConstFormError, PatternError, AreOfOneForm, AreOfOneConst};
-ghost use Rattle.type_relations.specs.Errors.{AreOfOneValue};
-ghost use Rattle.relation_tools.specs.declared.error.TypeError.TheVariants.{Sorts, TupleSize, ConstMismatch};
+ghost use Rattle.relation_contexts.specs.Errors.{FormError, ConstFormError, PatternError, AreOfOneForm, AreOfOneConst};
+ghost use Rattle.relation_contexts.specs.Errors.{AreOfOneValue};
+ghost use Rattle.relation_folds.specs.declared.error.TypeError.TheVariants.{Sorts, TupleSize, ConstMismatch};
 ghost use Rattle.type_relations.specs.Forms.{tree_outline};
 ghost use Rattle.type_relations.specs.declared.relate.forms.Form.TheVariants.{Leaf, Tuple};
-ghost use Rattle.type_relations.specs.Parts.{IsFormedConst};
-ghost use Rattle.type_relations.specs.Covered.{IsCovered};
+ghost use Rattle.relation_contexts.specs.Parts.{IsFormedConst};
+ghost use Rattle.relation_contexts.specs.Covered.{IsCovered};
 
 mod bodies;
 
@@ -16,10 +16,10 @@ use crate::relate::parts::parts_count_in;
 pub use bodies::{
     compare_existentials, compare_members, compare_objects, compare_parts, compare_signatures,
 };
+use relation_folds::error::{ExpectedFound, TypeError, TypeErrorOf};
 use relation_terms::terms::{
     Const, ConstKind, Interner, Pat, PatternKind, Ty, TyKind, ValTree, ValTreeKind,
 };
-use relation_tools::error::{ExpectedFound, TypeError, TypeErrorOf};
 
 /// Answers `Ok` where two types are of one outermost form, with as many parts, which are not compared. Parameters are
 /// of one form where they have one index; types that have no parts, all others, where they are one type.

@@ -1,7 +1,7 @@
 //! The outermost forms of types, as comparing tells them apart.
 ghost use Rattle.std.specs.Prelude.{◌≡◌, ◌↔◌, IsTrue};
 ghost use Rattle.relation_terms.specs.Meaning.{kind_tree};
-ghost use Rattle.relation_tools.specs.Outlines.{named};
+ghost use Rattle.relation_folds.specs.Outlines.{named};
 ghost use Rattle.type_relations.specs.Forms.{plain, of_item, of_pointer, named_outline, tree_outline, IsFixed};
 
 use relation_terms::terms::{Interner, Mutability, TyForm, TyKind};

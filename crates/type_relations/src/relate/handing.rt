@@ -5,12 +5,12 @@ ghost use Rattle.relation_terms.specs.Parts.{part_tree};
 ghost use Rattle.type_relations.specs.Handing.{IsFaultOfTy, IsFaultOfConst, IsResultOfTy, IsResultOfConst};
 ghost use Rattle.type_relations.specs.Handing.{IsResultOfPart, IsPlacedOrNot, named_place as place_named};
 
+use relation_folds::error::{
+    ExpectedFound, RelateFault, RelateFaultOf, RelateResult, TypeError, TypeErrorOf,
+};
 use relation_terms::terms::parts::parts_count;
 use relation_terms::terms::{
     Const, ConstKind, GenericArg, GenericArgKind, Interner, Part, PartOf, Ty, TyKind,
-};
-use relation_tools::error::{
-    ExpectedFound, RelateFault, RelateFaultOf, RelateResult, TypeError, TypeErrorOf,
 };
 
 // The fault of two types where one of their parts has failed: lengths of arrays that differ are sizes that differ.

@@ -4,18 +4,18 @@ ghost use Rattle.relation_terms.specs.Trees.{known, list_tree};
 ghost use Rattle.relation_terms.specs.Meaning.{arg_tree};
 ghost use Rattle.relation_terms.specs.Parts.{part_tree, part_of_arg, part_sort};
 ghost use Rattle.relation_terms.specs.Parts.{Fit as PartsFit};
-ghost use Rattle.type_relations.specs.Parts.{parts_of, const_parts_of, IsByParts};
-ghost use Rattle.type_relations.specs.Covered.{IsCovered};
-ghost use Rattle.type_relations.specs.Lawful.{WithMeaning, OnlyMemory};
-ghost use Rattle.type_relations.specs.Making.{Fit, over, const_over, Made};
+ghost use Rattle.relation_contexts.specs.Parts.{parts_of, const_parts_of, IsByParts};
+ghost use Rattle.relation_contexts.specs.Covered.{IsCovered};
+ghost use Rattle.relation_contexts.specs.Lawful.{WithMeaning, OnlyMemory};
+ghost use Rattle.relation_contexts.specs.Making.{Fit, over, const_over, Made};
 
 use crate::relate::TypeRelation;
 use crate::relate::parts::parts_in;
+use relation_folds::error::RelateResult;
 use relation_terms::terms::parts::{member, the_const, the_ty, the_valtree, with_parts};
 use relation_terms::terms::{
     Const, ConstKind, GenericArg, GenericArgKind, Interner, OutOfMemory, Part, PartOf, Ty,
 };
-use relation_tools::error::RelateResult;
 use std::alloc::Global;
 
 // A generic argument as a part.

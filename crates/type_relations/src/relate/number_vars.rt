@@ -2,19 +2,19 @@
 ghost use Rattle.std.specs.Prelude.{◌≡◌, ◌≢◌, IsTrue, IsFalse, IfSome, IfNone};
 ghost use Rattle.relation_terms.specs.declared.terms.ty_kind.TyKind.TheVariants.{Infer, Int, Uint, Float};
 ghost use Rattle.relation_terms.specs.declared.terms.ty_kind.InferTy.TheVariants.{IntVar, FloatVar};
-ghost use Rattle.relation_tools.specs.declared.error.TypeError.TheVariants.{Sorts};
-ghost use Rattle.relation_tools.specs.declared.error.RelateFault.TheVariants.{Unrelated};
-ghost use Rattle.type_relations.specs.Contexts.{KnowsTy};
-ghost use Rattle.type_relations.specs.ContextCalls.{IsUnresolved, EquatesTwo, BindsNumber};
-ghost use Rattle.type_relations.specs.Steps.{IsNumberFor};
+ghost use Rattle.relation_folds.specs.declared.error.TypeError.TheVariants.{Sorts};
+ghost use Rattle.relation_folds.specs.declared.error.RelateFault.TheVariants.{Unrelated};
+ghost use Rattle.relation_contexts.specs.Contexts.{KnowsTy};
+ghost use Rattle.relation_contexts.specs.ContextCalls.{IsUnresolved, EquatesTwo, BindsNumber};
+ghost use Rattle.relation_contexts.specs.Steps.{IsNumberFor};
 ghost use Rattle.type_relations.specs.NumberVars.{number_kind, number_of, number_tree, infer_of, IsNoNumberVar};
 ghost use Rattle.type_relations.specs.NumberVars.{IsIntValue, IsFloatValue};
 
-use crate::infer_ctxt::InferCtxtLike;
+use relation_contexts::infer_ctxt::InferCtxtLike;
+use relation_folds::error::{ExpectedFound, RelateFault, RelateFaultOf, TypeError};
 use relation_terms::terms::{
     FloatVarValue, FloatVid, InferTy, IntVarValue, IntVid, Interner, Ty, TyKind,
 };
-use relation_tools::error::{ExpectedFound, RelateFault, RelateFaultOf, TypeError};
 
 // An integer variable, or a float variable.
 #[derive(Clone, Copy)]

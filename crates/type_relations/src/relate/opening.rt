@@ -4,13 +4,13 @@ ghost use Rattle.relation_terms.specs.Parts.{part_tree, part_sort};
 ghost use Rattle.relation_terms.specs.Trees.{known};
 ghost use Rattle.relation_terms.specs.declared.terms.enums.Variance.TheVariants.{Bivariant};
 ghost use Rattle.type_relations.specs.Keyed.{AskedParts};
-ghost use Rattle.type_relations.specs.Parts.{IsBinderPart, IsRelatedPart, ArePaired};
+ghost use Rattle.relation_contexts.specs.Parts.{IsBinderPart, IsRelatedPart, ArePaired};
 ghost use Rattle.type_relations.specs.Rounds.{Opened};
 
 use crate::relate::TypeRelation;
+use relation_folds::error::RelateResult;
 use relation_terms::terms::parts::is_same;
 use relation_terms::terms::{Binder, Body, Interner, Part, PartOf};
-use relation_tools::error::RelateResult;
 
 // Two parts of an interner's terms.
 pub(crate) type TwoParts<I> = (PartOf<I>, PartOf<I>);

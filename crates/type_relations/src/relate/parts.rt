@@ -9,9 +9,9 @@ ghost use Rattle.relation_terms.specs.declared.terms.part_kind.Part.TheVariants.
 ghost use Rattle.relation_terms.specs.declared.terms.part_kind.Part.TheVariants.{Existential as ExistentialPart};
 ghost use Rattle.relation_terms.specs.declared.terms.part_kind.Part.TheVariants.{Object as ObjectPart};
 ghost use Rattle.relation_terms.specs.Parts.{parts_of as list_of_parts};
-ghost use Rattle.type_relations.specs.Parts.{parts_of, const_parts_of, IsByParts, IsArgPart, IsBinderPart};
+ghost use Rattle.relation_contexts.specs.Parts.{parts_of, const_parts_of, IsByParts, IsArgPart, IsBinderPart};
 ghost use Rattle.type_relations.specs.declared.relate.parts.PartKind.TheVariants.{Argument, Binder};
-ghost use Rattle.type_relations.specs.Covered.{IsCovered};
+ghost use Rattle.relation_contexts.specs.Covered.{IsCovered};
 
 use relation_terms::predicate::ExistentialPredicate;
 use relation_terms::terms::parts::{member, member_count, ty_parts};

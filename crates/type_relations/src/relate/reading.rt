@@ -5,12 +5,12 @@ ghost use Rattle.relation_terms.specs.declared.terms.enums.Variance.TheVariants.
 ghost use Rattle.relation_terms.specs.Variances.{xform};
 ghost use Rattle.relation_terms.specs.Meaning.{arg_tree};
 ghost use Rattle.relation_terms.specs.Parts.{part_tree, part_sort};
-ghost use Rattle.type_relations.specs.Relation.{part_at, pointee_variance};
-ghost use Rattle.type_relations.specs.Errors.{FormError, ConstFormError, PartError, AreOfOneForm, AreOfOneConst};
-ghost use Rattle.type_relations.specs.Parts.{IsFormedConst, IsByParts, IsComparedPart, parts_of, const_parts_of};
-ghost use Rattle.type_relations.specs.Parts.{head_of, const_head_of};
-ghost use Rattle.type_relations.specs.Covered.{IsCovered};
-ghost use Rattle.type_relations.specs.Lawful.{Noted, items_in};
+ghost use Rattle.relation_contexts.specs.Relation.{part_at, pointee_variance};
+ghost use Rattle.relation_contexts.specs.Errors.{FormError, ConstFormError, PartError, AreOfOneForm, AreOfOneConst};
+ghost use Rattle.relation_contexts.specs.Parts.{IsFormedConst, IsByParts, IsComparedPart, parts_of, const_parts_of};
+ghost use Rattle.relation_contexts.specs.Parts.{head_of, const_head_of};
+ghost use Rattle.relation_contexts.specs.Covered.{IsCovered};
+ghost use Rattle.relation_contexts.specs.Lawful.{Noted, items_in};
 ghost use Rattle.type_relations.specs.Keyed.{AskedTys, RelatesTys, AreOver, part_in};
 ghost use Rattle.type_relations.specs.Handing.{IsResultOfTy, IsResultOfConst, named_place};
 
@@ -19,11 +19,11 @@ use crate::relate::parts::{
     const_part, const_parts_count, is_by_parts, part, parts_count, term_part, term_parts_count,
 };
 use crate::relate::{TypeRelation, handing};
+use relation_folds::error::{RelateResult, TypeErrorOf};
 use relation_terms::terms::{
     Const, ConstKind, DefId, GenericArg, GenericArgs, Interner, ItemOf, Mutability, Part, PartOf,
     Ty, TyKind, Variance,
 };
-use relation_tools::error::{RelateResult, TypeErrorOf};
 
 pub(crate) fn compare_tys_of<I: Interner, R: TypeRelation<I>>(
     r: &R,

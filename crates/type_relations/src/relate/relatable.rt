@@ -6,10 +6,10 @@ ghost use Rattle.relation_terms.specs.Meaning.{Meaning, Extends};
 ghost use Rattle.relation_terms.specs.Trees.{known, count};
 ghost use Rattle.relation_terms.specs.Heads.{Head, arguments};
 ghost use Rattle.relation_terms.specs.Interning.{AreEqualAsTrees};
-ghost use Rattle.relation_tools.proofs.Arguments.{arg_same};
+ghost use Rattle.relation_folds.proofs.Arguments.{arg_same};
 ghost use Rattle.type_relations.specs.Arguments.{related_tree};
 ghost use Rattle.type_relations.specs.EqualTerms.{sorted_by, term_same};
-ghost use Rattle.type_relations.specs.Lawful.{Asked, Related};
+ghost use Rattle.relation_contexts.specs.Lawful.{Asked, Related};
 ghost use Rattle.type_relations.specs.Subtyping.{RegistersSubtype};
 
 mod binder;
@@ -18,11 +18,11 @@ mod forms;
 use crate::relate::TypeRelation;
 use crate::relate::args::relate_args_invariantly;
 use crate::relate::structural::{consts, pats, relate, tys};
+use relation_folds::error::{RelateFault, RelateResult, TypeError};
+use relation_folds::fold::TypeFoldable;
 use relation_terms::terms::{
     ArgsKey, ConstKey, GenericArgKind, Interner, PatKey, RegionKey, TermKind, TyKey,
 };
-use relation_tools::error::{RelateFault, RelateResult, TypeError};
-use relation_tools::fold::TypeFoldable;
 
 /// What can be related: types, regions, constants, patterns, generic arguments and terms, and lists of arguments;
 /// signatures, predicates of trait objects and lists of these; and binders over what can be related.

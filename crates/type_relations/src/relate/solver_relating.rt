@@ -1,11 +1,11 @@
 //! Relating as a solver does: by what a context has recorded, and by recording more.
 ghost use Rattle.std.specs.Prelude.{◌≡◌, ◌≢◌, IfErr, []};
 ghost use Rattle.relation_terms.specs.Meaning.{Extends};
-ghost use Rattle.relation_tools.specs.Faults.{KnowsFault, IfSpent};
-ghost use Rattle.type_relations.specs.Stores.{IsSound};
-ghost use Rattle.type_relations.specs.Steps.{IsLater, BindsItsOwn};
-ghost use Rattle.type_relations.specs.Contexts.{KnowsEnv, DoesNothing, SpendsByBinding, RegistersGoals};
-ghost use Rattle.type_relations.specs.Lawful.{Asked, Related};
+ghost use Rattle.relation_folds.specs.Faults.{KnowsFault, IfSpent};
+ghost use Rattle.relation_contexts.specs.Stores.{IsSound};
+ghost use Rattle.relation_contexts.specs.Steps.{IsLater, BindsItsOwn};
+ghost use Rattle.relation_contexts.specs.Contexts.{KnowsEnv, DoesNothing, SpendsByBinding, RegistersGoals};
+ghost use Rattle.relation_contexts.specs.Lawful.{Asked, Related};
 ghost use Rattle.type_relations.specs.Relating.{term_in, KnowsTerm, TakesTerm, HasTerm, AreOne, AnswersTerms};
 ghost use Rattle.type_relations.specs.Relating.{KeepsEqual, TellsApart, AnswersError, AnswersExactly, ProvesApart};
 ghost use Rattle.type_relations.specs.Relating.{AnswersSubtype, SpendsNoMore, MakesToRelate};
@@ -17,11 +17,11 @@ mod opening;
 pub(crate) mod recording;
 mod relation;
 
-use crate::infer_ctxt::InferCtxtLike;
 use crate::relate::Relate;
 pub use relation::{GoalOf, SolverRelating};
+use relation_contexts::infer_ctxt::InferCtxtLike;
+use relation_folds::error::RelateResult;
 use relation_terms::terms::{Interner, ParamEnv, Span, Variance};
-use relation_tools::error::RelateResult;
 
 /// The goals that relating answers, or why it stopped.
 pub type RelateGoals<I> = RelateResult<I, Vec<GoalOf<I>>>;

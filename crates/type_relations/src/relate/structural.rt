@@ -8,15 +8,15 @@ ghost use Rattle.relation_terms.specs.Heads.{object};
 ghost use Rattle.relation_terms.specs.Trees.{node};
 ghost use Rattle.relation_terms.specs.Meaning.{arg_tree, signature_tree, existential_tree};
 ghost use Rattle.relation_terms.specs.Parts.{part_tree, part_sort};
-ghost use Rattle.type_relations.specs.Lawful.{Asked, Related};
-ghost use Rattle.type_relations.specs.Errors.{AreOfOneForm};
-ghost use Rattle.type_relations.specs.Parts.{IsFormed, IsFormedConst, IsByParts, IsRelatedPart, IsComparedPart};
-ghost use Rattle.type_relations.specs.Parts.{IsBinderPart, ArePaired};
+ghost use Rattle.relation_contexts.specs.Lawful.{Asked, Related};
+ghost use Rattle.relation_contexts.specs.Errors.{AreOfOneForm};
+ghost use Rattle.relation_contexts.specs.Parts.{IsFormed, IsFormedConst, IsByParts, IsRelatedPart, IsComparedPart};
+ghost use Rattle.relation_contexts.specs.Parts.{IsBinderPart, ArePaired};
 ghost use Rattle.type_relations.specs.Keyed.{AskedArgs, AskedArgsAt, AskedConsts, AskedPats, AskedParts, AskedTys};
 ghost use Rattle.type_relations.specs.Keyed.{AskedPartsAt, RelatedArgs, RelatedArgsAt, RelatedConsts, RelatedPats};
 ghost use Rattle.type_relations.specs.Keyed.{RelatedParts, RelatedPartsAt, RelatedTys};
 ghost use Rattle.type_relations.specs.Keyed.{ArgsRegisterSubtype, TysRegisterSubtype};
-ghost use Rattle.type_relations.specs.Making.{arg_sort};
+ghost use Rattle.relation_contexts.specs.Making.{arg_sort};
 ghost use Rattle.type_relations.specs.Arguments.{IsSkipped};
 
 use crate::relate::handing::in_part;
@@ -32,13 +32,13 @@ use crate::relate::reading::{
     variance_at,
 };
 use crate::relate::{Step, TypeRelation};
+use relation_folds::error::{RelateFault, RelateResult, TypeError};
 use relation_terms::predicate::ExistentialPredicate;
 use relation_terms::terms::parts::{the_pat, the_ty};
 use relation_terms::terms::{
     Const, ExistentialPredicates, FnSig, GenericArg, GenericArgKind, Interner, Part, PartOf, Pat,
     Ty, Variance,
 };
-use relation_tools::error::{RelateFault, RelateResult, TypeError};
 
 /// Relates two types at the ambient variance, as the relation's steps lead: what a step answers is the answer; two
 /// forms that it leaves are related structurally; a pair that it leaves is related at its variance, and the answer is

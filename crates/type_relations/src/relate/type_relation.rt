@@ -4,21 +4,21 @@ ghost use Rattle.std.specs.Borrow.{sem, Lends};
 ghost use Rattle.relation_terms.specs.declared.terms.enums.Variance.{Variance};
 ghost use Rattle.relation_terms.specs.declared.terms.enums.Variance.TheVariants.{Invariant, Bivariant};
 ghost use Rattle.relation_terms.specs.Meaning.{Extends};
-ghost use Rattle.type_relations.specs.Stores.{IsSound};
-ghost use Rattle.type_relations.specs.Lawful.{State, Manners, TakesParts, Turned, Noted, WithMeaning};
-ghost use Rattle.type_relations.specs.Lawful.{RelatesByDeclared, Asked};
-ghost use Rattle.type_relations.specs.Binders.{binder_tree};
+ghost use Rattle.relation_contexts.specs.Stores.{IsSound};
+ghost use Rattle.relation_contexts.specs.Lawful.{State, Manners, TakesParts, Turned, Noted, WithMeaning};
+ghost use Rattle.relation_contexts.specs.Lawful.{RelatesByDeclared, Asked};
+ghost use Rattle.relation_contexts.specs.Binders.{binder_tree};
 ghost use Rattle.type_relations.specs.Rounds.{Opened};
 ghost use Rattle.type_relations.specs.Keyed.{AskedConsts, AskedRegions, AskedTys, RelatedRegions, RelatesTys};
 ghost use Rattle.type_relations.specs.Keyed.{SteppedConsts, SteppedTys, TysStepToSubtype, AreOver, RecordsAsked};
 ghost use Rattle.type_relations.specs.Keyed.{variances_in};
 
-use crate::infer_ctxt::BinderOf;
 use crate::relate::Step;
+use relation_contexts::infer_ctxt::BinderOf;
+use relation_folds::error::RelateResult;
+use relation_folds::fold::TypeFoldable;
+use relation_folds::visit::TypeVisitable;
 use relation_terms::terms::{Const, GenericArgs, Interner, ItemOf, Region, Ty, Variance};
-use relation_tools::error::RelateResult;
-use relation_tools::fold::TypeFoldable;
-use relation_tools::visit::TypeVisitable;
 
 /// A relation of types, regions and constants, at an ambient variance.
 ///

@@ -1,7 +1,7 @@
 use Rattle.std.proofs.Common.{◌≡◌, sym, ap, ◌∙◌, subst}
 use Rattle.relation_terms.specs.Heads.{slice}
 use Rattle.relation_terms.specs.Trees.{node, cons, nil}
-use Rattle.type_relations.specs.Covered.{IsCovered}
+use Rattle.relation_contexts.specs.Covered.{IsCovered}
 use Rattle.relation_tests.proofs.Atoms.{slice_made}
 use Rattle.relation_tests.proofs.contexts.binds_slice.Goals as goal
 

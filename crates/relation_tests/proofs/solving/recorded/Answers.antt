@@ -1,7 +1,7 @@
 use Rattle.std.proofs.Common.{sym, subst, All}
 use Rattle.std.proofs.lemmas.List.Elements.{All-nil}
-use Rattle.type_relations.specs.Goals.{KnowsGoal}
-use Rattle.type_relations.specs.Lawful.{Asked}
+use Rattle.relation_contexts.specs.Goals.{KnowsGoal}
+use Rattle.relation_contexts.specs.Lawful.{Asked}
 use Rattle.type_relations.specs.Solving.{solving_in, solver_manner}
 use Rattle.relation_reference.specs.RefCtxt.{context_in}
 use Rattle.relation_tests.proofs.solving.recorded.Goals as goal

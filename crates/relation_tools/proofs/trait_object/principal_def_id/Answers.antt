@@ -2,7 +2,7 @@ use Rattle.std.proofs.Common.{◌≡◌, ◌+◌, IsTrue, sym, ap, ap₂, suc, �
 use Rattle.std.proofs.lemmas.Bool.{and_parts}
 use Rattle.relation_terms.specs.Trees.{known, list_tree}
 use Rattle.relation_terms.specs.Meaning.{object_predicate_tree}
-use Rattle.relation_tools.specs.Clashes.{principal}
+use Rattle.relation_folds.specs.Clashes.{principal}
 use Rattle.relation_tools.proofs.Outlining.{principal_here, principal_further}
 use Rattle.relation_tools.proofs.trait_object.principal_def_id.Goals as goal
 

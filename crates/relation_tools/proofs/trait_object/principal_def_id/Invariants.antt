@@ -1,7 +1,7 @@
 use Rattle.std.proofs.Common.{◌≡◌, IsTrue, drop}
 use Rattle.relation_terms.specs.Trees.{known, list_tree}
 use Rattle.relation_terms.specs.Meaning.{object_predicate_tree}
-use Rattle.relation_tools.specs.Clashes.{principal}
+use Rattle.relation_folds.specs.Clashes.{principal}
 use Rattle.relation_tools.proofs.trait_object.principal_def_id.Given as goal
 
 -- The principal is that of the predicates that are left.

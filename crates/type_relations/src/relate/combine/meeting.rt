@@ -1,16 +1,16 @@
 //! Two types, or two constants, of a context that meet, before their parts are related.
 ghost use Rattle.std.specs.Prelude.{◌⊎◌, IsTrue, IsFalse};
 ghost use Rattle.type_relations.specs.Combining.{CombinesTys, CombinesShallow, CombinesConsts, IsTyVar, IsNoTyVar};
-ghost use Rattle.type_relations.specs.Contexts.{KnowsTy, KnowsConst, HasTy, HasConst, TakesConst};
-ghost use Rattle.type_relations.specs.ContextCalls.{Grows, Stands};
-ghost use Rattle.type_relations.specs.Resolving.{IsShallow, IsShallowConst};
+ghost use Rattle.relation_contexts.specs.Contexts.{KnowsTy, KnowsConst, HasTy, HasConst, TakesConst};
+ghost use Rattle.relation_contexts.specs.ContextCalls.{Grows, Stands};
+ghost use Rattle.relation_contexts.specs.Resolving.{IsShallow, IsShallowConst};
 
-use crate::infer_ctxt::InferCtxtLike;
 use crate::relate::number_vars::{bind_number, equate_numbers, number_var, unlike};
 use crate::relate::variables::{const_var, ty_var};
 use crate::relate::{Step, StructurallyRelateAliases};
+use relation_contexts::infer_ctxt::InferCtxtLike;
+use relation_folds::error::RelateResult;
 use relation_terms::terms::{Const, Ty, Variance};
-use relation_tools::error::RelateResult;
 
 // Whether neither of two types is a type variable.
 fn are_no_ty_vars<Infcx: InferCtxtLike>(

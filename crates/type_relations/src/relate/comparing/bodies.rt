@@ -3,18 +3,18 @@ ghost use Rattle.std.specs.Prelude.{◌≡◌, ◌≢◌, ◌<◌, IsTrue, IsFal
 ghost use Rattle.relation_terms.specs.Heads.{object, inputs, object_sort};
 ghost use Rattle.relation_terms.specs.Trees.{known, node, count, nth, front};
 ghost use Rattle.relation_terms.specs.Meaning.{existential_tree, signature_tree};
-ghost use Rattle.relation_tools.specs.declared.error.TypeError.TheVariants.{Mismatch};
+ghost use Rattle.relation_folds.specs.declared.error.TypeError.TheVariants.{Mismatch};
 ghost use Rattle.relation_terms.specs.Parts.{part_tree, part_sort};
-ghost use Rattle.type_relations.specs.Errors.{AreOfOneForm, AreAlikeExistentials, AreAlikeMembers, SignatureError};
-ghost use Rattle.type_relations.specs.Errors.{ExistentialError, ObjectError, PartError};
-ghost use Rattle.type_relations.specs.Parts.{IsComparedPart, parts_of};
+ghost use Rattle.relation_contexts.specs.Errors.{AreOfOneForm, AreAlikeExistentials, AreAlikeMembers, SignatureError};
+ghost use Rattle.relation_contexts.specs.Errors.{ExistentialError, ObjectError, PartError};
+ghost use Rattle.relation_contexts.specs.Parts.{IsComparedPart, parts_of};
 
 use crate::relate::comparing::compare_pats;
 use crate::relate::parts::{the_existential, the_inputs, the_object, the_signature};
+use relation_folds::error::{ExpectedFound, TypeError, TypeErrorOf};
 use relation_terms::predicate::ExistentialPredicate;
 use relation_terms::terms::parts::the_pat;
 use relation_terms::terms::{ExistentialPredicates, FnSig, Interner, Part, PartOf, Tys};
-use relation_tools::error::{ExpectedFound, TypeError, TypeErrorOf};
 
 /// Answers `Ok` where two signatures say the same besides their types, which are not compared.
 ///

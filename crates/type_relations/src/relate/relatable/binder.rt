@@ -5,9 +5,9 @@ ghost use Rattle.type_relations.specs.Bodies.{BodiesFit};
 ghost use Rattle.type_relations.specs.EqualForms.{binder_same};
 
 use crate::relate::{Relate, TypeRelation};
+use relation_folds::error::RelateResult;
+use relation_folds::visit::TypeVisitable;
 use relation_terms::terms::{Binder, Interner};
-use relation_tools::error::RelateResult;
-use relation_tools::visit::TypeVisitable;
 
 /// Of bodies that are related by their tree, and not by a form over it as lists are, and of which nothing is asked
 /// besides: as types, signatures, predicates of trait objects, and binders over these.

@@ -7,9 +7,9 @@ ghost use Rattle.type_relations.specs.EqualTerms.{sorted_by};
 
 use crate::relate::structural::{existentials, objects, signatures};
 use crate::relate::{Relate, TypeRelation};
+use relation_folds::error::RelateResult;
 use relation_terms::predicate::{ExistentialPredicate, ExistentialProjection, ExistentialTraitRef};
 use relation_terms::terms::{ExistentialPredicatesKey, FnSig, Interner};
-use relation_tools::error::RelateResult;
 
 impl<I: Interner> Relate<I> for FnSig<I::Key> {
     ghost over = { None };

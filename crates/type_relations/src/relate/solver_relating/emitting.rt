@@ -1,10 +1,10 @@
 //! The relation of a context registers goals.
 ghost use Rattle.std.specs.Prelude.{◌≡◌, map, IfOk};
 
-use crate::infer_ctxt::InferCtxtLike;
 use crate::relate::StructurallyRelateAliases;
 use crate::relate::combine::PredicateEmittingRelation;
 use crate::relate::solver_relating::{GoalOf, SolverRelating};
+use relation_contexts::infer_ctxt::InferCtxtLike;
 use relation_terms::terms::{
     Goal, Interner, OutOfMemory, ParamEnv, ParamEnvKey, Predicate, PredicateKey, Span,
 };

@@ -2,16 +2,16 @@
 ghost use Rattle.std.specs.Prelude.{◌≡◌, ◌⊎◌, ◌↔◌, ◌||◌, IsTrue};
 ghost use Rattle.relation_terms.specs.Trees.{known};
 ghost use Rattle.relation_terms.specs.declared.terms.enums.Variance.TheVariants.{Covariant, Contravariant, Invariant};
-ghost use Rattle.relation_tools.specs.Visits.{bound_var_escapes};
-ghost use Rattle.type_relations.specs.Binders.{binder_tree, OpensBoth};
-ghost use Rattle.type_relations.specs.Bound.{BindsByList};
-ghost use Rattle.type_relations.specs.ContextCalls.{Grows};
-ghost use Rattle.type_relations.specs.Stores.{IsTermIn};
+ghost use Rattle.relation_folds.specs.Visits.{bound_var_escapes};
+ghost use Rattle.relation_contexts.specs.Binders.{binder_tree, OpensBoth};
+ghost use Rattle.relation_contexts.specs.Bound.{BindsByList};
+ghost use Rattle.relation_contexts.specs.ContextCalls.{Grows};
+ghost use Rattle.relation_contexts.specs.Stores.{IsTermIn};
 
-use crate::infer_ctxt::{BinderOf, InferCtxtLike};
+use relation_contexts::infer_ctxt::{BinderOf, InferCtxtLike};
+use relation_folds::fold::TypeFoldable;
+use relation_folds::visit::{TypeVisitable, has_escaping_bound_vars};
 use relation_terms::terms::{OutOfMemory, Variance};
-use relation_tools::fold::TypeFoldable;
-use relation_tools::visit::{TypeVisitable, has_escaping_bound_vars};
 
 // Whether a round has placeholders for what the second of two binders binds, and new variables for the first's.
 pub(crate) fn enters_second(variance: Variance, round: usize) -> bool

@@ -3,15 +3,15 @@ ghost use Rattle.std.specs.Prelude.{◌≡◌, ◌≢◌, IsTrue, IfSome, IfOk, 
 ghost use Rattle.relation_terms.specs.Trees.{known};
 ghost use Rattle.relation_terms.specs.Meaning.{Extends};
 ghost use Rattle.relation_terms.specs.declared.terms.enums.Variance.TheVariants.{Bivariant};
-ghost use Rattle.type_relations.specs.Stores.{all_bound};
-ghost use Rattle.type_relations.specs.Steps.{AddsConstraint, StaysFull};
-ghost use Rattle.type_relations.specs.Measures.{Goes};
-ghost use Rattle.type_relations.specs.Contexts.{KnowsTy, HasRegion};
-ghost use Rattle.type_relations.specs.ContextCalls.{Stands};
-ghost use Rattle.type_relations.specs.Constraints.{constraint_at, constraint_of};
-ghost use Rattle.type_relations.specs.Goals.{subtype_predicate, well_formed_predicate};
+ghost use Rattle.relation_contexts.specs.Stores.{all_bound};
+ghost use Rattle.relation_contexts.specs.Steps.{AddsConstraint, StaysFull};
+ghost use Rattle.relation_contexts.specs.Measures.{Goes};
+ghost use Rattle.relation_contexts.specs.Contexts.{KnowsTy, HasRegion};
+ghost use Rattle.relation_contexts.specs.ContextCalls.{Stands};
+ghost use Rattle.relation_contexts.specs.Constraints.{constraint_at, constraint_of};
+ghost use Rattle.relation_contexts.specs.Goals.{subtype_predicate, well_formed_predicate};
 
-use crate::infer_ctxt::{InferCtxtLike, VisibleForLeakCheck};
+use relation_contexts::infer_ctxt::{InferCtxtLike, VisibleForLeakCheck};
 use relation_terms::predicate::{ClauseKind, PredicateKind, SubtypePredicate};
 use relation_terms::terms::{
     Binder, BoundVariable, Interner, OutOfMemory, Predicate, Region, Span, TermKind, Ty, Variance,

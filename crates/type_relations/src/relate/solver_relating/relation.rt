@@ -3,17 +3,16 @@ ghost use Rattle.std.specs.Prelude.{◌≡◌, ◌≢◌, [], All, IfSome};
 ghost use Rattle.relation_terms.specs.Heads.{type_var, variable};
 ghost use Rattle.relation_terms.specs.Trees.{leaf};
 ghost use Rattle.relation_terms.specs.declared.terms.enums.Variance.TheVariants.{Bivariant};
-ghost use Rattle.type_relations.specs.Contexts.{KnowsEnv, KnowsTy};
-ghost use Rattle.type_relations.specs.ContextCalls.{IsUnresolved};
-ghost use Rattle.type_relations.specs.Goals.{KnowsGoal};
+ghost use Rattle.relation_contexts.specs.Contexts.{KnowsEnv, KnowsTy};
+ghost use Rattle.relation_contexts.specs.ContextCalls.{IsUnresolved};
+ghost use Rattle.relation_contexts.specs.Goals.{KnowsGoal};
 ghost use Rattle.type_relations.specs.Keyed.{AskedTys, SteppedTys};
-ghost use Rattle.type_relations.specs.Lawful.{Asked, Related};
+ghost use Rattle.relation_contexts.specs.Lawful.{Asked, Related};
 ghost use Rattle.type_relations.specs.Relating.{term_in};
-ghost use Rattle.type_relations.specs.Resolving.{IsShallow};
+ghost use Rattle.relation_contexts.specs.Resolving.{IsShallow};
 ghost use Rattle.type_relations.specs.Subtyping.{IsTyVar, RegistersSubtype, StepRegistersAlone, subtype_at};
 ghost use Rattle.type_relations.specs.Solving.{solving_in, solving_through, solver_manner};
 
-use crate::infer_ctxt::{BinderOf, InferCtxtLike};
 use crate::relate::combine::{combine_ty_args, super_combine_consts, super_combine_tys};
 use crate::relate::solver_relating::opening::{
     enter_and_instantiate, enters_first, enters_second, one_uses,
@@ -21,13 +20,14 @@ use crate::relate::solver_relating::opening::{
 use crate::relate::solver_relating::recording::{relate_regions, subtype_predicate};
 use crate::relate::variables::{have_no_variable, ty_var};
 use crate::relate::{Relate, Step, StructurallyRelateAliases, TypeRelation};
+use relation_contexts::infer_ctxt::{BinderOf, InferCtxtLike};
+use relation_folds::error::RelateResult;
+use relation_folds::fold::TypeFoldable;
+use relation_folds::visit::TypeVisitable;
 use relation_terms::terms::{
     Const, GenericArgs, Goal, Interner, ItemOf, Keys, ParamEnv, Predicate, Region, Span, Ty, TyVid,
     Variance,
 };
-use relation_tools::error::RelateResult;
-use relation_tools::fold::TypeFoldable;
-use relation_tools::visit::TypeVisitable;
 use std::mem::replace;
 
 /// A goal over an interner's keys.

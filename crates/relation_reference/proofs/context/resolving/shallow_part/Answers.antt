@@ -1,5 +1,5 @@
 use Rattle.std.proofs.Common.{subst, sym, ◌∙◌}
-use Rattle.type_relations.specs.Stores.{InContext}
+use Rattle.relation_contexts.specs.Stores.{InContext}
 use Rattle.relation_terms.specs.Parts.{part_tree}
 use Rattle.relation_terms.specs.declared.terms.part_kind.Part.TheVariants.{Const}
 use Rattle.relation_terms.proofs.Sorted.{Sorted}

@@ -1,7 +1,7 @@
 use Rattle.std.proofs.Common.{refl}
-use Rattle.type_relations.specs.Parts.{IsFormed}
+use Rattle.relation_contexts.specs.Parts.{IsFormed}
 use Rattle.relation_tests.specs.Plain.{plain_state, plain_manner}
-use Rattle.type_relations.proofs.Passing.{parts_left}
+use Rattle.relation_contexts.proofs.Passing.{parts_left}
 use Rattle.relation_tests.proofs.PlainLemmas.{formed}
 use Rattle.relation_tests.proofs.plain.PlainRelationTypeRelation.tys.Goals as goal
 

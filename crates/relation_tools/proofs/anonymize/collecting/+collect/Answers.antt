@@ -8,16 +8,16 @@ use Rattle.relation_terms.proofs.Orders.{order_count, order_list, below_in_order
 use Rattle.relation_terms.proofs.Sorted.{Sorted}
 use Rattle.relation_terms.proofs.Members.{member_small, parts_small}
 use Rattle.relation_terms.proofs.Parts.{sort_known}
-use Rattle.relation_tools.specs.Folds.{inside}
+use Rattle.relation_folds.specs.Folds.{inside}
 use Rattle.relation_tools.specs.Anonymous.{here, uses, with_vars}
 use Rattle.relation_tools.specs.UsedParts.{AllIn, Remembered}
-use Rattle.relation_tools.proofs.Depths.{inside_known}
+use Rattle.relation_folds.proofs.Depths.{inside_known}
 use Rattle.relation_tools.proofs.Meeting.{ok_any, ok_map}
-use Rattle.relation_tools.proofs.Remembering.{place_eq}
+use Rattle.relation_folds.proofs.Remembering.{place_eq}
 use Rattle.relation_tools.proofs.UsedVars.{all_added, all_there}
 use Rattle.relation_tools.proofs.UsedTrees.{uses_itself, uses_inside, used_next, used_all}
 use Rattle.relation_tools.proofs.UsedParts.{remembers_later}
-use Rattle.relation_tools.proofs.Visiting.{has_sort}
+use Rattle.relation_folds.proofs.Visiting.{has_sort}
 use Rattle.relation_tools.proofs.anonymize.collecting.+collect.Goals as goal
 
 pub collect_list-loop-step-init : goal.collect_list-loop-step-init

@@ -4,8 +4,8 @@ use Rattle.relation_terms.specs.Parts.{part_tree, parts_tree}
 use Rattle.relation_terms.specs.Orders.{in_order, list_order}
 use Rattle.relation_tools.specs.Anonymous.{uses, with_vars}
 use Rattle.relation_tools.specs.UsedParts.{Remembered}
-use Rattle.relation_tools.proofs.Remembering.{place_eq}
-use Rattle.relation_tools.proofs.Visiting.{rest}
+use Rattle.relation_folds.proofs.Remembering.{place_eq}
+use Rattle.relation_folds.proofs.Visiting.{rest}
 use Rattle.relation_tools.proofs.anonymize.collecting.+collect.Given as goal
 
 abbrev pub decreases-collect_part : goal.decreases-collect_part

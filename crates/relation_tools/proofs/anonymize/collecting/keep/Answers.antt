@@ -1,5 +1,5 @@
 use Rattle.std.proofs.Common.{◌∙◌, sym}
-use Rattle.relation_tools.proofs.Remembering.{place_eq}
+use Rattle.relation_folds.proofs.Remembering.{place_eq}
 use Rattle.relation_tools.proofs.UsedParts.{remembers_more}
 use Rattle.relation_tools.proofs.anonymize.collecting.keep.Goals as goal
 

@@ -1,7 +1,7 @@
 use Rattle.std.proofs.Common.{ap, ◌∙◌, []}
 use Rattle.relation_terms.specs.Fields.{fields_tree}
 use Rattle.relation_tools.specs.Anonymous.{uses, with_vars}
-use Rattle.relation_tools.proofs.Remembering.{place_eq}
+use Rattle.relation_folds.proofs.Remembering.{place_eq}
 use Rattle.relation_tools.proofs.UsedParts.{remembers_none}
 use Rattle.relation_tools.proofs.UsedTrees.{fields_known, uses_fields}
 use Rattle.relation_tools.proofs.anonymize.collecting.used_vars.Goals as goal

@@ -1,7 +1,7 @@
 use Rattle.std.proofs.Common.{refl}
 use Rattle.relation_terms.specs.contracts.terms.generic_arg.GenericArgKindPartialEq.TheImpl.{ghosts}
 use Rattle.relation_terms.proofs.Sorted.{Sorted}
-use Rattle.relation_tools.proofs.Arguments.{arg_same}
+use Rattle.relation_folds.proofs.Arguments.{arg_same}
 use Rattle.relation_tools.proofs.Assuming.{gains_put, pairs_same}
 use Rattle.relation_tools.proofs.elaborate.assuming.assume.Goals as goal
 

@@ -4,7 +4,7 @@ use Rattle.relation_terms.specs.Trees.{node, nil, cons, known, size, count, nth,
 use Rattle.relation_terms.specs.Meaning.{const_tree, valtree_tree}
 use Rattle.relation_terms.proofs.Members.{const_term, value_term, member_small, slice_counts, slice_nth, slice_sure}
 use Rattle.relation_terms.proofs.Members.{list_count, list_is}
-use Rattle.relation_tools.specs.Clashes.{Clash, Alike, flexible}
+use Rattle.relation_folds.specs.Clashes.{Clash, Alike, flexible}
 use Rattle.relation_tools.proofs.Clashing.{no_clash, passes, fails, flexible_right, flexible_left, const_forms_clash}
 use Rattle.relation_tools.proofs.Clashing.{moved, const_parts_decide, values_decide, rest_here, rest_further, rest_on}
 use Rattle.relation_tools.proofs.Clashing.{rest_none, shorter}

@@ -1,7 +1,7 @@
 use Rattle.std.proofs.Common.{◌+◌, ◌*◌}
 use Rattle.relation_terms.specs.Trees.{size, list_tree}
-use Rattle.relation_tools.specs.Clashes.{Clash}
-use Rattle.relation_tools.proofs.Visiting.{rest}
+use Rattle.relation_folds.specs.Clashes.{Clash}
+use Rattle.relation_folds.proofs.Visiting.{rest}
 use Rattle.relation_tools.proofs.fast_reject.consts.+clashes.Given as goal
 
 abbrev pub decreases-consts_may_unify : goal.decreases-consts_may_unify

@@ -1,6 +1,6 @@
 use Rattle.std.proofs.Common.{refl}
 use Rattle.relation_terms.specs.Heads.{adt, fn_def, closure, coroutine_closure, coroutine, coroutine_witness}
-use Rattle.relation_tools.specs.Forms.{Adt, FnDef, Closure, CoroutineClosure, Coroutine, CoroutineWitness}
+use Rattle.relation_folds.specs.Forms.{Adt, FnDef, Closure, CoroutineClosure, Coroutine, CoroutineWitness}
 use Rattle.relation_tools.proofs.Pairing.{at_kinds, items}
 use Rattle.relation_tools.proofs.Unlike.{unlike, without_parts, no_parts}
 use Rattle.relation_tools.proofs.fast_reject.pairs.paired_items.Goals as goal

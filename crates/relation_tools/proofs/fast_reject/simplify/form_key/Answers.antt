@@ -1,6 +1,6 @@
 use Rattle.std.proofs.Common.{sym, ap, ◌∙◌}
 use Rattle.relation_terms.specs.Meaning.{kind_tree}
-use Rattle.relation_tools.specs.Visits.{non_region_infer_stands}
+use Rattle.relation_folds.specs.Visits.{non_region_infer_stands}
 use Rattle.relation_tools.specs.HeadKeys.{form_key, numbered_key, alias_key}
 use Rattle.relation_tools.proofs.Keying.{alias_numbered}
 use Rattle.relation_tools.proofs.fast_reject.simplify.form_key.Goals as goal

@@ -4,9 +4,9 @@ use Rattle.relation_terms.specs.Meaning.{arg_tree}
 use Rattle.relation_terms.specs.Parts.{tree_sort}
 use Rattle.relation_terms.proofs.Members.{type_term, const_term, region_term, member_small, slice_nth, slice_sure}
 use Rattle.relation_terms.proofs.Members.{list_count, list_is}
-use Rattle.relation_tools.specs.Clashes.{Clash, depth_inside}
+use Rattle.relation_folds.specs.Clashes.{Clash, depth_inside}
 use Rattle.relation_tools.specs.Pairs.{Pairs, KnownPair, ClashIn, pair_size}
-use Rattle.relation_tools.specs.Outlines.{stands}
+use Rattle.relation_folds.specs.Outlines.{stands}
 use Rattle.relation_tools.proofs.Clashing.{no_clash, right_decides, no_depth, left_decides, passes, fails, moved}
 use Rattle.relation_tools.proofs.Clashing.{rest_here, rest_further, rest_on, rest_none, shorter, quiet_clash, is_quiet}
 use Rattle.relation_tools.proofs.Clashing.{type_pair, const_pair}

@@ -1,9 +1,9 @@
 use Rattle.std.proofs.Common.{◌+◌, ◌*◌}
 use Rattle.relation_terms.specs.Trees.{size, list_tree}
 use Rattle.relation_terms.specs.Meaning.{arg_tree}
-use Rattle.relation_tools.specs.Clashes.{Clash}
+use Rattle.relation_folds.specs.Clashes.{Clash}
 use Rattle.relation_tools.specs.Pairs.{pair_size}
-use Rattle.relation_tools.proofs.Visiting.{rest}
+use Rattle.relation_folds.proofs.Visiting.{rest}
 use Rattle.relation_tools.proofs.fast_reject.walk.+clashes.Given as goal
 
 abbrev pub decreases-types_may_unify : goal.decreases-types_may_unify

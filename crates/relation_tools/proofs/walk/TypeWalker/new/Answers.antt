@@ -1,7 +1,7 @@
 use Rattle.std.proofs.Common.{refl}
 use Rattle.relation_terms.proofs.Sorted.{Sorted}
 use Rattle.relation_terms.specs.contracts.terms.generic_arg.GenericArgKindPartialEq.TheImpl.{ghosts}
-use Rattle.relation_tools.proofs.Arguments.{arg_same, arg_visited}
+use Rattle.relation_folds.proofs.Arguments.{arg_same, arg_visited}
 use Rattle.relation_tools.proofs.Positioning.{by_places}
 use Rattle.relation_tools.proofs.walk.TypeWalker.new.Goals as goal
 

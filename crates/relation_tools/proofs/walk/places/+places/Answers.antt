@@ -8,7 +8,7 @@ use Rattle.relation_terms.specs.declared.terms.generic_arg.GenericArgKind.TheVar
 use Rattle.relation_terms.proofs.Sorted.{Sorted}
 use Rattle.relation_terms.proofs.Members.{member_small, parts_small}
 use Rattle.relation_terms.proofs.Parts.{sort_known}
-use Rattle.relation_tools.specs.Visits.{visited_sort}
+use Rattle.relation_folds.specs.Visits.{visited_sort}
 use Rattle.relation_tools.specs.Places.{places}
 use Rattle.relation_tools.proofs.Placing.{pushes_none, pushes_one, pushes_as, part_itself, value_has_none, gone_through}
 use Rattle.relation_tools.proofs.Placing.{range_places, front_init, front_next, front_end, back_next, back_end}

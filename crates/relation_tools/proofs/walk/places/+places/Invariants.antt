@@ -2,7 +2,7 @@ use Rattle.std.proofs.Common.{◌+◌, ◌*◌, ◌-◌, true, false}
 use Rattle.relation_terms.specs.Trees.{size}
 use Rattle.relation_terms.specs.Parts.{part_tree, parts_tree}
 use Rattle.relation_tools.specs.Places.{places, Pushes}
-use Rattle.relation_tools.proofs.Visiting.{rest}
+use Rattle.relation_folds.proofs.Visiting.{rest}
 use Rattle.relation_tools.proofs.walk.places.+places.Given as goal
 
 abbrev pub decreases-push_part : goal.decreases-push_part

@@ -1,6 +1,6 @@
 use Rattle.std.proofs.Common.{◌-◌, false}
 use Rattle.relation_tools.specs.Places.{places, Pushes}
-use Rattle.relation_tools.proofs.Visiting.{rest}
+use Rattle.relation_folds.proofs.Visiting.{rest}
 use Rattle.relation_tools.proofs.walk.places.push_tys.Given as goal
 
 -- What stands on the stack are the last types.

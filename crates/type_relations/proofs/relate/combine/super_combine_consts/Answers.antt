@@ -1,8 +1,8 @@
 use Rattle.std.proofs.Common.{sym, subst, subst₂}
 use Rattle.type_relations.specs.Combining.{CombinesConsts}
-use Rattle.type_relations.specs.ContextCalls.{Grows}
-use Rattle.type_relations.specs.Covered.{IsCovered}
-use Rattle.type_relations.specs.Stores.{IsTermIn}
+use Rattle.relation_contexts.specs.ContextCalls.{Grows}
+use Rattle.relation_contexts.specs.Covered.{IsCovered}
+use Rattle.relation_contexts.specs.Stores.{IsTermIn}
 use Rattle.type_relations.proofs.Combining.{consts_later, consts_stepped, consts_combined}
 use Rattle.type_relations.proofs.Solving.{const_sorted}
 use Rattle.type_relations.proofs.relate.combine.super_combine_consts.Goals as goal

@@ -1,7 +1,7 @@
 use Rattle.std.proofs.Common.{sym, subst, subst₂}
 use Rattle.type_relations.specs.Combining.{CombinesTys}
-use Rattle.type_relations.specs.ContextCalls.{Stands}
-use Rattle.type_relations.specs.Resolving.{IsShallow}
+use Rattle.relation_contexts.specs.ContextCalls.{Stands}
+use Rattle.relation_contexts.specs.Resolving.{IsShallow}
 use Rattle.type_relations.proofs.Combining.{combined_later, types_stepped, types_combined}
 use Rattle.type_relations.proofs.OverContext.{stands_grows}
 use Rattle.type_relations.proofs.Solving.{ty_sorted}

@@ -2,9 +2,9 @@ use Rattle.std.proofs.Common.{sym, ap, ◌∙◌}
 use Rattle.std.proofs.lemmas.Bool.{false≢true, eqb-true, eq-eqb}
 use Rattle.relation_terms.specs.Meaning.{valtree_tree}
 use Rattle.relation_terms.specs.Trees.{count}
-use Rattle.type_relations.specs.Errors.{as_many_branches}
+use Rattle.relation_contexts.specs.Errors.{as_many_branches}
 use Rattle.type_relations.proofs.Comparing.{branches_counted}
-use Rattle.type_relations.proofs.Lists.{list_count}
+use Rattle.relation_contexts.proofs.Lists.{list_count}
 use Rattle.type_relations.proofs.relate.comparing.is_one_value.Goals as goal
 
 pub returns-clause-one : goal.returns-clause-one

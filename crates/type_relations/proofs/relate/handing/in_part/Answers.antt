@@ -1,5 +1,5 @@
 use Rattle.std.proofs.Common.{Err, refl, sym, subst}
-use Rattle.relation_tools.specs.declared.error.RelateFault.TheVariants.{Unrelated}
+use Rattle.relation_folds.specs.declared.error.RelateFault.TheVariants.{Unrelated}
 use Rattle.type_relations.specs.Handing.{IsResultOfPart, no_error}
 use Rattle.type_relations.proofs.Handing.{no_place_named, result_stays, fault_placed}
 use Rattle.type_relations.proofs.relate.handing.in_part.Goals as goal

@@ -1,7 +1,7 @@
 use Rattle.std.proofs.Common.{ap, ap₂, ◌∙◌}
 use Rattle.relation_terms.specs.Meaning.{const_tree}
-use Rattle.relation_tools.specs.declared.error.TypeError.TheVariants.{ConstMismatch}
-use Rattle.relation_tools.specs.declared.error.RelateFault.TheVariants.{Unrelated}
+use Rattle.relation_folds.specs.declared.error.TypeError.TheVariants.{ConstMismatch}
+use Rattle.relation_folds.specs.declared.error.RelateFault.TheVariants.{Unrelated}
 use Rattle.type_relations.specs.Handing.{whole}
 use Rattle.type_relations.proofs.relate.handing.of_const.Goals as goal
 

@@ -1,7 +1,7 @@
 use Rattle.std.proofs.Common.{refl, ap, ap₂, ◌∙◌}
 use Rattle.relation_terms.specs.Meaning.{kind_tree}
-use Rattle.relation_tools.specs.declared.error.TypeError.TheVariants.{ArraySize}
-use Rattle.relation_tools.specs.declared.error.RelateFault.TheVariants.{Unrelated}
+use Rattle.relation_folds.specs.declared.error.TypeError.TheVariants.{ArraySize}
+use Rattle.relation_folds.specs.declared.error.RelateFault.TheVariants.{Unrelated}
 use Rattle.type_relations.specs.Handing.{sized, passed}
 use Rattle.type_relations.proofs.Handing.{passed_tree, passed_left, passed_right, passed_error, passed_fault}
 use Rattle.type_relations.proofs.relate.handing.of_ty.Goals as goal

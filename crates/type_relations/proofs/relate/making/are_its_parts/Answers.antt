@@ -1,8 +1,8 @@
 use Rattle.std.proofs.Common.{rules, ◌≡◌, ◌<◌, ◌+◌, suc, ◌∙◌, sym, ap, subst, length, get_or, arith, IsTrue}
 use Rattle.relation_terms.specs.Trees.{known, count, nth}
 use Rattle.relation_terms.specs.Meaning.{arg_tree}
-use Rattle.type_relations.specs.Parts.{parts_of}
-use Rattle.type_relations.proofs.Lists.{part_known}
+use Rattle.relation_contexts.specs.Parts.{parts_of}
+use Rattle.relation_contexts.proofs.Lists.{part_known}
 use Rattle.type_relations.proofs.Making.{AreFirst, first_next, all_first, fit_counts}
 use Rattle.type_relations.proofs.relate.making.are_its_parts.Goals as goal
 

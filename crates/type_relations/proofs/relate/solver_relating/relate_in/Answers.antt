@@ -1,5 +1,5 @@
 use Rattle.std.proofs.Common.{sym, ◌∙◌, subst, subst₂, []}
-use Rattle.type_relations.specs.Lawful.{Related}
+use Rattle.relation_contexts.specs.Lawful.{Related}
 use Rattle.type_relations.specs.Relating.{term_in}
 use Rattle.type_relations.specs.Solving.{solving_in, solver_manner}
 use Rattle.type_relations.specs.Subtyping.{RegistersSubtype}

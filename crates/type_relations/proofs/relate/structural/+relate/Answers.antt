@@ -10,17 +10,17 @@ use Rattle.relation_terms.specs.Parts.{part_tree, part_sort, tree_sort, Fit as P
 use Rattle.relation_terms.proofs.Parts.{sort_known, stays_part, arg_part}
 use Rattle.relation_terms.proofs.Sorted.{Sorted}
 use Rattle.relation_terms.proofs.Stays.{knows_arg}
-use Rattle.relation_tools.specs.declared.error.TypeError.TheVariants.{Mismatch}
-use Rattle.relation_tools.specs.declared.error.RelateFault.TheVariants.{Unrelated, Memory}
-use Rattle.type_relations.specs.Relation.{part_at}
-use Rattle.type_relations.specs.Goals.{Relates}
-use Rattle.type_relations.specs.Errors.{AreOfOneForm, PartError}
-use Rattle.type_relations.specs.Covered.{IsCovered}
-use Rattle.type_relations.specs.Parts.{IsFormed, IsFormedConst, IsByParts, IsRelatedPart, IsComparedPart, IsArgPart}
-use Rattle.type_relations.specs.Parts.{IsBinderPart, ArePaired, parts_of, const_parts_of, head_of}
-use Rattle.type_relations.specs.Parts.{const_head_of}
-use Rattle.type_relations.specs.Stores.{weight}
-use Rattle.type_relations.specs.Measures.{depth}
+use Rattle.relation_folds.specs.declared.error.TypeError.TheVariants.{Mismatch}
+use Rattle.relation_folds.specs.declared.error.RelateFault.TheVariants.{Unrelated, Memory}
+use Rattle.relation_contexts.specs.Relation.{part_at}
+use Rattle.relation_contexts.specs.Goals.{Relates}
+use Rattle.relation_contexts.specs.Errors.{AreOfOneForm, PartError}
+use Rattle.relation_contexts.specs.Covered.{IsCovered}
+use Rattle.relation_contexts.specs.Parts.{IsFormed, IsFormedConst, IsByParts, IsRelatedPart, IsComparedPart, IsArgPart}
+use Rattle.relation_contexts.specs.Parts.{IsBinderPart, ArePaired, parts_of, const_parts_of, head_of}
+use Rattle.relation_contexts.specs.Parts.{const_head_of}
+use Rattle.relation_contexts.specs.Stores.{weight}
+use Rattle.relation_contexts.specs.Measures.{depth}
 use Rattle.type_relations.proofs.Patterns.{term_alike, term_decides, part_sorted, compared_is}
 use Rattle.type_relations.proofs.PartPlaces.{related_part, paired_part}
 use Rattle.type_relations.proofs.InOrder.{terms_stopped, terms_answer, terms_unlike, term_refused, terms_differ}
@@ -30,22 +30,22 @@ use Rattle.type_relations.proofs.ByParts.{binder_not_compared, form_compared, pa
 use Rattle.type_relations.proofs.ByParts.{no_inputs_yet, inputs_next, compared_as, alike_back, on_ok, asked_turned}
 use Rattle.type_relations.proofs.ByParts.{depth_turned}
 use Rattle.type_relations.specs.Handing.{IsResultOfTy, IsResultOfConst, IsResultOfPart, named_place}
-use Rattle.type_relations.specs.Making.{arg_sort, Fit, over, const_over}
-use Rattle.type_relations.proofs.Answering.{same_items, AreAnswers, answers_none, answers_next, answers_end, may_over, may_const_over, may_later}
+use Rattle.relation_contexts.specs.Making.{arg_sort, Fit, over, const_over}
+use Rattle.relation_contexts.proofs.Answering.{same_items, AreAnswers, answers_none, answers_next, answers_end, may_over, may_const_over, may_later}
 use Rattle.type_relations.proofs.Making.{fit_pushed, fit_end, fits_place}
-use Rattle.type_relations.proofs.Lists.{firsts, snoc, list_push}
+use Rattle.relation_contexts.proofs.Lists.{firsts, snoc, list_push}
 use Rattle.relation_terms.proofs.Stays.{stays_list, stays_arg}
-use Rattle.type_relations.specs.Lawful.{Asked, Related, MayAnswer, Stepped, Turned, items_in}
-use Rattle.type_relations.proofs.Standing.{term_context}
-use Rattle.type_relations.proofs.Parts.{in_parts, in_const_parts}
-use Rattle.type_relations.proofs.OneParts.{parts_counted, const_parts_counted}
+use Rattle.relation_contexts.specs.Lawful.{Asked, Related, MayAnswer, Stepped, Turned, items_in}
+use Rattle.relation_contexts.proofs.Standing.{term_context}
+use Rattle.relation_contexts.proofs.Parts.{in_parts, in_const_parts}
+use Rattle.relation_contexts.proofs.OneParts.{parts_counted, const_parts_counted}
 use Rattle.type_relations.proofs.Comparing.{parts_of_list, const_parts_list}
 use Rattle.type_relations.proofs.Handing.{AreOfTwoKinds, no_lifetime, no_ty, no_const_arg, HaveAsManyInputs}
-use Rattle.type_relations.proofs.Passing.{asked_later, parts_related, again_related, again_refused, again_relates, noted_related, noted_refused}
-use Rattle.type_relations.proofs.Passing.{turned, unlooked, step_done, retold, refused_again, relates_now, as_err}
-use Rattle.type_relations.proofs.Registered.{directed_from}
-use Rattle.type_relations.specs.Goals.{IsDirected}
-use Rattle.type_relations.proofs.Passing.{form_made}
+use Rattle.relation_contexts.proofs.Passing.{asked_later, parts_related, again_related, again_refused, again_relates, noted_related, noted_refused}
+use Rattle.relation_contexts.proofs.Passing.{turned, unlooked, step_done, retold, refused_again, relates_now, as_err}
+use Rattle.relation_contexts.proofs.Registered.{directed_from}
+use Rattle.relation_contexts.specs.Goals.{IsDirected}
+use Rattle.relation_contexts.proofs.Passing.{form_made}
 use Rattle.type_relations.proofs.Fronts.{Fronted, fronted_none, fronted_next}
 use Rattle.type_relations.proofs.Structural.{types_related, types_stopped, ty_refused}
 use Rattle.type_relations.proofs.StructuralConsts.{consts_related, consts_stopped, const_refused, itself_related, types_differ, consts_differ, kinds_differ}

@@ -2,13 +2,13 @@ use Rattle.std.proofs.Common.{◌≡◌, ◌+◌, ◌*◌}
 use Rattle.relation_terms.specs.Trees.{count, list_tree}
 use Rattle.relation_terms.specs.Meaning.{arg_tree}
 use Rattle.relation_terms.specs.Parts.{part_tree, Fit as PartsFit}
-use Rattle.type_relations.specs.Stores.{weight}
-use Rattle.type_relations.specs.Measures.{depth}
-use Rattle.type_relations.specs.Parts.{parts_of, const_parts_of, head_of, const_head_of}
-use Rattle.type_relations.specs.Making.{Fit}
-use Rattle.type_relations.proofs.Lists.{firsts}
+use Rattle.relation_contexts.specs.Stores.{weight}
+use Rattle.relation_contexts.specs.Measures.{depth}
+use Rattle.relation_contexts.specs.Parts.{parts_of, const_parts_of, head_of, const_head_of}
+use Rattle.relation_contexts.specs.Making.{Fit}
+use Rattle.relation_contexts.proofs.Lists.{firsts}
 use Rattle.type_relations.proofs.Fronts.{Fronted, AreParts}
-use Rattle.type_relations.proofs.Answering.{AreAnswers}
+use Rattle.relation_contexts.proofs.Answering.{AreAnswers}
 use Rattle.type_relations.proofs.Handing.{HaveAsManyInputs}
 use Rattle.type_relations.proofs.relate.structural.+relate.Given as goal
 

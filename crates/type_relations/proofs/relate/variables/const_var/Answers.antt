@@ -1,11 +1,11 @@
 use Rattle.std.proofs.Common.{◌≡◌, IfSome, IfNone, IsTrue, sym, subst}
 use Rattle.relation_terms.specs.Heads.{const_var, variable}
 use Rattle.relation_terms.specs.Trees.{leaf, known}
-use Rattle.type_relations.specs.Relation.{StaysWithin}
-use Rattle.type_relations.specs.Covered.{IsCovered}
-use Rattle.type_relations.specs.Relation.{StaysWithin}
-use Rattle.type_relations.specs.Parts.{IsFormedConst}
-use Rattle.type_relations.proofs.Variables.{some_const_variable, no_const_variable}
+use Rattle.relation_contexts.specs.Relation.{StaysWithin}
+use Rattle.relation_contexts.specs.Covered.{IsCovered}
+use Rattle.relation_contexts.specs.Relation.{StaysWithin}
+use Rattle.relation_contexts.specs.Parts.{IsFormedConst}
+use Rattle.relation_contexts.proofs.Variables.{some_const_variable, no_const_variable}
 use Rattle.type_relations.proofs.relate.variables.const_var.Goals as goal
 
 pub returns : goal.returns

@@ -2,9 +2,9 @@ use Rattle.std.proofs.Common.{◌≡◌, ◌+◌, ◌*◌, IsTrue}
 use Rattle.relation_terms.specs.Trees.{size, known, list_tree}
 use Rattle.relation_terms.specs.Meaning.{Extends}
 use Rattle.relation_terms.specs.Parts.{part_tree, parts_of, Fit}
-use Rattle.type_relations.specs.Generalising.{MakesUnbound}
-use Rattle.type_relations.proofs.Lists.{firsts}
-use Rattle.type_relations.specs.ContextCalls.{MarksNew}
+use Rattle.relation_contexts.specs.Generalising.{MakesUnbound}
+use Rattle.relation_contexts.proofs.Lists.{firsts}
+use Rattle.relation_contexts.specs.ContextCalls.{MarksNew}
 use Rattle.relation_reference.specs.RefCtxt.{context_in}
 use Rattle.relation_reference.specs.Tables.{store_of, IsLawful}
 use Rattle.relation_reference.specs.Remembering.{vid_kind, vid_number}

@@ -4,12 +4,12 @@ use Rattle.relation_terms.specs.Heads.{type_var}
 use Rattle.relation_terms.specs.Trees.{known}
 use Rattle.relation_terms.specs.Parts.{part_tree}
 use Rattle.relation_terms.proofs.Stays.{extends_on, knows_as}
-use Rattle.relation_tools.specs.declared.error.TypeError.TheVariants.{CyclicTy}
-use Rattle.type_relations.specs.Stores.{bound_to}
-use Rattle.type_relations.specs.Lawful.{items_of}
-use Rattle.type_relations.specs.Generalising.{Stage, any_part, Generalised}
-use Rattle.type_relations.proofs.Passing.{as_err}
-use Rattle.type_relations.proofs.Standing.{term_context}
+use Rattle.relation_folds.specs.declared.error.TypeError.TheVariants.{CyclicTy}
+use Rattle.relation_contexts.specs.Stores.{bound_to}
+use Rattle.relation_contexts.specs.Lawful.{items_of}
+use Rattle.relation_contexts.specs.Generalising.{Stage, any_part, Generalised}
+use Rattle.relation_contexts.proofs.Passing.{as_err}
+use Rattle.relation_contexts.proofs.Standing.{term_context}
 use Rattle.relation_reference.specs.declared.context.inner.InferCtxtInner.{InferCtxtInner}
 use Rattle.relation_reference.specs.Tables.{store_of}
 use Rattle.relation_reference.proofs.Comes.{same_record}

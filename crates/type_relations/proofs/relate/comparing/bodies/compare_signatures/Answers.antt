@@ -1,5 +1,5 @@
 use Rattle.std.proofs.Common.{rules, ap₂}
-use Rattle.relation_tools.specs.declared.error.TypeError.TheVariants.{VariadicMismatch, SafetyMismatch, AbiMismatch}
+use Rattle.relation_folds.specs.declared.error.TypeError.TheVariants.{VariadicMismatch, SafetyMismatch, AbiMismatch}
 use Rattle.type_relations.proofs.ComparingParts.{bools_same, bools_differ}
 use Rattle.type_relations.proofs.ComparingParts.{signatures_alike, variadic_differs, safety_differs, abi_differs}
 use Rattle.type_relations.proofs.relate.comparing.bodies.compare_signatures.Goals as goal

@@ -4,11 +4,11 @@ use Rattle.relation_terms.specs.Trees.{known}
 use Rattle.relation_terms.specs.declared.terms.generic_arg.GenericArgKind.TheVariants.{Ty as TyArg, Const as ConstArg}
 use Rattle.relation_terms.specs.declared.terms.generic_arg.TermKind.TheVariants.{Ty, Const}
 use Rattle.relation_terms.proofs.Sorted.{Sorted}
-use Rattle.relation_tools.specs.declared.error.TypeError.TheVariants.{Mismatch}
-use Rattle.relation_tools.specs.declared.error.RelateFault.TheVariants.{Unrelated}
-use Rattle.type_relations.specs.Lawful.{Asked, Related}
+use Rattle.relation_folds.specs.declared.error.TypeError.TheVariants.{Mismatch}
+use Rattle.relation_folds.specs.declared.error.RelateFault.TheVariants.{Unrelated}
+use Rattle.relation_contexts.specs.Lawful.{Asked, Related}
 use Rattle.type_relations.specs.Subtyping.{IsTyVar, RegistersSubtype}
-use Rattle.type_relations.proofs.Passing.{retold, as_err}
+use Rattle.relation_contexts.proofs.Passing.{retold, as_err}
 use Rattle.type_relations.proofs.Subtyping.{left_none, right_none, const_none, refused_told}
 use Rattle.type_relations.proofs.StructuralConsts.{kinds_differ}
 use Rattle.type_relations.proofs.Relatable.{else_const, else_ty}

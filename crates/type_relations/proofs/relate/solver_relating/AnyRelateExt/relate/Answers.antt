@@ -2,15 +2,15 @@ use Rattle.std.proofs.Common.{◌<◌, refl, sym, ap, ◌∙◌, arith, subst, [
 use Rattle.std.proofs.lemmas.Bool.{false≢true}
 use Rattle.std.proofs.lemmas.List.Elements.{All-nil}
 use Rattle.relation_terms.specs.Trees.{apply}
-use Rattle.type_relations.specs.Relation.{same}
-use Rattle.type_relations.specs.Goals.{goals_of, KnowsGoal, MakesOneTree}
-use Rattle.type_relations.specs.OneUniverse.{all_unbound}
-use Rattle.type_relations.specs.Lawful.{Related, ExactResult}
+use Rattle.relation_contexts.specs.Relation.{same}
+use Rattle.relation_contexts.specs.Goals.{goals_of, KnowsGoal, MakesOneTree}
+use Rattle.relation_contexts.specs.OneUniverse.{all_unbound}
+use Rattle.relation_contexts.specs.Lawful.{Related, ExactResult}
 use Rattle.type_relations.specs.Solving.{solving_in, solver_manner}
-use Rattle.type_relations.proofs.Going.{later_itself, goes_nowhere, binds_its_own}
-use Rattle.type_relations.proofs.Full.{makes_to_instantiate}
+use Rattle.relation_contexts.proofs.Going.{later_itself, goes_nowhere, binds_its_own}
+use Rattle.relation_contexts.proofs.Full.{makes_to_instantiate}
 use Rattle.type_relations.proofs.Unifying.{exact_itself}
-use Rattle.type_relations.proofs.Passing.{as_err}
+use Rattle.relation_contexts.proofs.Passing.{as_err}
 use Rattle.type_relations.proofs.Exactly.{unrelated_apart}
 use Rattle.type_relations.proofs.Spending.{spends_no_more, spent_as}
 use Rattle.type_relations.specs.Relating.{term_in}

@@ -2,7 +2,7 @@ use Rattle.std.proofs.Common.{sym, ap, Ok}
 use Rattle.relation_terms.specs.declared.predicate.ExistentialPredicate.TheVariants.{Projection}
 use Rattle.relation_terms.specs.Meaning.{existential_tree}
 use Rattle.relation_terms.proofs.Stays.{stays_existential}
-use Rattle.type_relations.proofs.Passing.{retold}
+use Rattle.relation_contexts.proofs.Passing.{retold}
 use Rattle.type_relations.proofs.Subtyping.{left_none}
 use Rattle.type_relations.proofs.RelatableForms.{answers_left, existential_is_none}
 use Rattle.type_relations.proofs.relate.relatable.forms.ExistentialProjectionKeyIdRelate.relate.Goals as goal

@@ -1,13 +1,13 @@
 use Rattle.std.proofs.Common.{refl, sym, ap, subst, IfSome, true, false, Ok}
 use Rattle.relation_terms.specs.Heads.{type_var}
-use Rattle.relation_tools.specs.declared.error.RelateFault.TheVariants.{Memory}
-use Rattle.type_relations.specs.declared.relate.Step.TheVariants.{Done}
-use Rattle.type_relations.specs.Goals.{subtype_predicate}
-use Rattle.type_relations.specs.Parts.{IsFormed}
-use Rattle.type_relations.specs.Lawful.{Stepped}
+use Rattle.relation_folds.specs.declared.error.RelateFault.TheVariants.{Memory}
+use Rattle.relation_contexts.specs.declared.relate.Step.TheVariants.{Done}
+use Rattle.relation_contexts.specs.Goals.{subtype_predicate}
+use Rattle.relation_contexts.specs.Parts.{IsFormed}
+use Rattle.relation_contexts.specs.Lawful.{Stepped}
 use Rattle.type_relations.specs.Solving.{solving_through, solver_manner}
 use Rattle.type_relations.proofs.Binding.{no_region}
-use Rattle.type_relations.proofs.Passing.{as_err}
+use Rattle.relation_contexts.proofs.Passing.{as_err}
 use Rattle.type_relations.proofs.Solving.{roots_step, memory_step}
 use Rattle.type_relations.proofs.SolvingGoals.{covariant_step, contravariant_step}
 use Rattle.type_relations.specs.Subtyping.{subtype_at, StepRegistersAlone}

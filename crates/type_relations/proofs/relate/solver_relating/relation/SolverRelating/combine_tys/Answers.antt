@@ -2,13 +2,13 @@ use Rattle.std.proofs.Common.{◌≡◌, refl, sym, ◌∙◌, inl, inr, subst, 
 use Rattle.relation_terms.specs.declared.terms.enums.Variance.TheVariants.{Covariant, Contravariant}
 use Rattle.relation_terms.specs.Heads.{type_var, variable}
 use Rattle.relation_terms.specs.Trees.{leaf}
-use Rattle.relation_tools.specs.declared.error.TypeError.TheVariants.{CyclicTy}
-use Rattle.type_relations.specs.declared.relate.Step.TheVariants.{Again}
-use Rattle.type_relations.specs.Stores.{unbound, entry_of, IsMade}
-use Rattle.type_relations.specs.Parts.{IsFormed}
-use Rattle.type_relations.specs.Lawful.{Stepped}
+use Rattle.relation_folds.specs.declared.error.TypeError.TheVariants.{CyclicTy}
+use Rattle.relation_contexts.specs.declared.relate.Step.TheVariants.{Again}
+use Rattle.relation_contexts.specs.Stores.{unbound, entry_of, IsMade}
+use Rattle.relation_contexts.specs.Parts.{IsFormed}
+use Rattle.relation_contexts.specs.Lawful.{Stepped}
 use Rattle.type_relations.specs.Solving.{solving_through, solver_manner, KnowsGoals}
-use Rattle.type_relations.proofs.Passing.{as_err, invariantly}
+use Rattle.relation_contexts.proofs.Passing.{as_err, invariantly}
 use Rattle.type_relations.proofs.Shallowly.{shallow_free, variable_made}
 use Rattle.type_relations.proofs.GeneralisingErrors.{cycle_error}
 use Rattle.type_relations.proofs.Solving.{decides_back, ty_sorted, as_solving, still_lawful}

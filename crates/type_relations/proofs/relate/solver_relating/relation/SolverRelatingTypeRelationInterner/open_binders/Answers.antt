@@ -2,10 +2,10 @@ use Rattle.std.proofs.Common.{◌≡◌, ◌||◌, true, false, refl, sym, ◌�
 use Rattle.std.proofs.lemmas.Bool.{false≢true}
 use Rattle.std.proofs.lemmas.Grind.{common_steps}
 use Rattle.relation_terms.proofs.Stays.{stays_same}
-use Rattle.relation_tools.specs.Visits.{bound_var_escapes}
-use Rattle.relation_tools.specs.declared.error.RelateFault.TheVariants.{Memory}
-use Rattle.type_relations.specs.Binders.{binder_tree}
-use Rattle.type_relations.proofs.Passing.{as_err}
+use Rattle.relation_folds.specs.Visits.{bound_var_escapes}
+use Rattle.relation_folds.specs.declared.error.RelateFault.TheVariants.{Memory}
+use Rattle.relation_contexts.specs.Binders.{binder_tree}
+use Rattle.relation_contexts.proofs.Passing.{as_err}
 use Rattle.type_relations.proofs.SolvingBinders.{covered_binds, opens_neither, opening_refused, opens_second}
 use Rattle.type_relations.proofs.SolvingBinders.{opens_first, opens_none, no_more}
 use Rattle.type_relations.proofs.relate.solver_relating.relation.SolverRelatingTypeRelationInterner.open_binders.Goals as goal

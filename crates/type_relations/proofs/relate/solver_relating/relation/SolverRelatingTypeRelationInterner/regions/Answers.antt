@@ -1,6 +1,6 @@
 use Rattle.std.proofs.Common.{refl}
-use Rattle.relation_tools.specs.declared.error.RelateFault.TheVariants.{Memory}
-use Rattle.type_relations.proofs.Passing.{as_err}
+use Rattle.relation_folds.specs.declared.error.RelateFault.TheVariants.{Memory}
+use Rattle.relation_contexts.proofs.Passing.{as_err}
 use Rattle.type_relations.proofs.Solving.{regions_recorded, memory_refused, asked_recorded, region_sorted}
 use Rattle.type_relations.proofs.relate.solver_relating.relation.SolverRelatingTypeRelationInterner.regions.Goals as goal
 

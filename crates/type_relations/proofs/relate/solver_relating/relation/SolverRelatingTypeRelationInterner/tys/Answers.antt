@@ -1,13 +1,13 @@
 use Rattle.std.proofs.Common.{refl, sym, subst, Ok}
-use Rattle.type_relations.specs.Errors.{itself}
-use Rattle.type_relations.specs.Parts.{IsFormed}
+use Rattle.relation_contexts.specs.Errors.{itself}
+use Rattle.relation_contexts.specs.Parts.{IsFormed}
 use Rattle.type_relations.specs.Solving.{solving_through, solver_manner}
 use Rattle.type_relations.proofs.StructuralConsts.{itself_related}
-use Rattle.type_relations.proofs.Standing.{term_within}
+use Rattle.relation_contexts.proofs.Standing.{term_within}
 use Rattle.type_relations.proofs.Shallowly.{read_step}
 use Rattle.type_relations.proofs.OverContext.{all_taken, parts_step, read_covered}
 use Rattle.type_relations.proofs.Solving.{answered_step, one_ty}
-use Rattle.type_relations.specs.declared.relate.Step.TheVariants.{Done, Parts}
+use Rattle.relation_contexts.specs.declared.relate.Step.TheVariants.{Done, Parts}
 use Rattle.type_relations.proofs.Subtyping.{step_of_one, step_left_none, read_registers}
 use Rattle.type_relations.proofs.relate.solver_relating.relation.SolverRelatingTypeRelationInterner.tys.Goals as goal
 

@@ -1,5 +1,5 @@
 use Rattle.type_relations.specs.Solving.{solving_through}
-use Rattle.type_relations.proofs.Passing.{noted_nothing}
+use Rattle.relation_contexts.proofs.Passing.{noted_nothing}
 use Rattle.type_relations.proofs.relate.solver_relating.relation.SolverRelatingTypeRelationInterner.tys_done.Goals as goal
 
 pub returns : goal.returns

@@ -1,0 +1,162 @@
+-- Goals that were registered.
+use Rattle.std.proofs.Common.{◌≡◌, ◌≢◌, ℕ, inl, inr, refl, sym, ap, ap₂, ◌∙◌, subst, subst₂, List, [], ◌∷◌, ◌++◌, All, IsTrue, Bool, true, false, Some}
+use Rattle.std.proofs.lemmas.Bool.{and_from, false≢true}
+use Rattle.relation_terms.specs.declared.terms.enums.Variance.{Variance}
+use Rattle.relation_terms.specs.declared.terms.enums.Variance.TheVariants.{Covariant, Contravariant, Invariant, Bivariant}
+use Rattle.relation_terms.specs.Variances.{xform}
+use Rattle.relation_contexts.specs.Lawful.{State, RegisteredIn, items_in}
+use Rattle.std.proofs.lemmas.List.Elements.{All-append, All-head, All-tail, All-weaker}
+use Rattle.relation_terms.specs.declared.terms.goal.Goal.{Goal as KeyedGoal}
+use Rattle.relation_terms.specs.declared.terms.keys.PredicateKey.{PredicateKey}
+use Rattle.relation_terms.specs.declared.terms.keys.BoundVarsKey.{BoundVarsKey}
+use Rattle.relation_terms.specs.declared.terms.keys.TyKey.{TyKey}
+use Rattle.relation_terms.specs.declared.terms.binder.Binder.{Binder}
+use Rattle.relation_terms.specs.declared.predicate.kinds.PredicateKind.{PredicateKind}
+use Rattle.relation_terms.specs.declared.predicate.kinds.PredicateKind.TheVariants.{Subtype, Clause}
+use Rattle.relation_terms.specs.declared.predicate.kinds.ClauseKind.TheVariants.{WellFormed}
+use Rattle.relation_terms.specs.declared.terms.generic_arg.TermKind.TheVariants.{Ty as TyTerm}
+use Rattle.relation_terms.specs.Heads.{type_var, subtype, well_formed}
+use Rattle.relation_terms.specs.Trees.{Tree, node, bind, nil, cons, known}
+use Rattle.relation_terms.specs.Meaning.{Meaning, Extends, under}
+use Rattle.relation_terms.specs.Predicates.{predicate_tree}
+use Rattle.relation_contexts.specs.Stores.{Store, Entry, unbound, same_as, bound_to, entry_of, InContext}
+use Rattle.relation_contexts.specs.Relation.{Items}
+use Rattle.relation_contexts.specs.Goals.{Goal, goal_of, goals_of, KnowsGoal, subtype_predicate, well_formed_predicate, IsRegistered, of_variables, of_type, Registered, GoalInContext, IsDirected, ByDeclared}
+use Rattle.relation_contexts.specs.Steps.{IsLater}
+use Rattle.relation_contexts.proofs.Classes.{stands_from}
+use Rattle.relation_contexts.proofs.Standing.{later_context}
+
+-- The variables of a registered goal are the later store's.
+goal_in : {c : Items} {d : Bool} {v : Variance} (before after : Store) (p : Tree) → IsRegistered c d v before after p →
+    InContext after p
+unfolding InContext
+goal_in before after p (of_variables x n m o e f g) = subst (InContext after) (sym e) (f.0, (g.0, tt))
+goal_in before after p (of_type t o e i b) = subst (InContext after) (sym e) (i, tt)
+
+pub registered_in : {c : Items} {d : Bool} {v : Variance} {e : Tree} {before after : Store} (gs : List Goal) →
+    All (Registered c d v e before after) gs → All (GoalInContext after) gs
+registered_in {c = c} {d = d} {v = v} {e = e} {before = before} {after = after} gs h =
+    All-weaker (Registered c d v e before after) (GoalInContext after) (λ g r. goal_in before after g.predicate r.asks) gs h
+
+-- What was unbound later was unbound before.
+was_unbound : (before after : Store) → IsLater before after → (n : ℕ) → entry_of after type_var n ≡ unbound → entry_of before type_var n ≡ unbound
+was_unbound before after l n h = go (entry_of before type_var n) refl
+  where
+    go : (x : Entry) → entry_of before type_var n ≡ x → entry_of before type_var n ≡ unbound
+    go unbound q = q
+    go (same_as m) q = absurd (let s = stands_from before after l type_var n (same_as m) q in let e = s.1 in cc (e, h))
+    go (bound_to u) q = absurd (let e : entry_of after type_var n ≡ bound_to u = stands_from before after l type_var n (bound_to u) q in cc (e, h))
+
+-- Goals that were registered one after another.
+still_asks : {c : Items} {d : Bool} {v : Variance} {before middle after : Store} {p : Tree} → IsLater middle after →
+    IsRegistered c d v before middle p → IsRegistered c d v before after p
+still_asks l (of_variables x n m o e f g) =
+    of_variables x n m o e (l.grows type_var n f.0, f.1) (l.grows type_var m g.0, g.1)
+still_asks {middle = middle} {after = after} l (of_type t o e i b) =
+    of_type t o e (later_context middle after l.grows t i) b
+
+asks_since : {c : Items} {d : Bool} {v : Variance} {before middle after : Store} {p : Tree} → IsLater before middle →
+    IsRegistered c d v middle after p → IsRegistered c d v before after p
+asks_since {before = before} {middle = middle} l (of_variables x n m o e f g) =
+    of_variables x n m o e (f.0, was_unbound before middle l n f.1) (g.0, was_unbound before middle l m g.1)
+asks_since l (of_type t o e i b) = of_type t o e i b
+
+module _ {Key Id Name : Type 0} where
+  pub registered_both : (r q : State Key Id Name) (after : Store) (first others : List Goal) → items_in q ≡ items_in r →
+      q.environment ≡ r.environment → q.settings ≡ r.settings → q.ambient ≡ r.ambient → IsLater r.store q.store →
+      IsLater q.store after → All (RegisteredIn r q.store) first → All (RegisteredIn q after) others →
+      All (RegisteredIn r after) (first ++ others)
+  registered_both r q after first others items same k v l t f g =
+      All-append (RegisteredIn r after) first others
+      (All-weaker (RegisteredIn r q.store) (RegisteredIn r after)
+      (λ x y. record { environment = y.environment; asks = still_asks t y.asks }) first f)
+      (All-weaker (Registered (items_in r) (r.settings).declared_at_invariance r.ambient q.environment q.store after)
+      (RegisteredIn r after)
+      (λ x y. record { environment = y.environment ∙ same; asks = asks_since l y.asks }) others
+      (subst (λ z. All (Registered z (r.settings).declared_at_invariance r.ambient q.environment q.store after) others) items
+      (subst₂ (λ z w. All (Registered (items_in q) z.declared_at_invariance w q.environment q.store after) others) k v g)))
+
+  -- The same in other states that are alike.
+  pub registered_as : (r q : State Key Id Name) (after now : Store) (gs : List Goal) → items_in r ≡ items_in q →
+      r.environment ≡ q.environment → r.settings ≡ q.settings → (IsDirected r.ambient → IsDirected q.ambient) →
+      r.store ≡ q.store → after ≡ now → All (RegisteredIn r after) gs → All (RegisteredIn q now) gs
+  registered_as r q after now gs i p k v s t h =
+      All-weaker (Registered (items_in q) (q.settings).declared_at_invariance r.ambient q.environment q.store now)
+      (RegisteredIn q now) (λ x y. record { environment = y.environment; asks = seen_from y.asks }) gs
+      (subst (λ z. All (Registered z (q.settings).declared_at_invariance r.ambient q.environment q.store now) gs) i
+      (subst₂ (λ z y. All (Registered (items_in r) z.declared_at_invariance r.ambient y q.store now) gs) k p
+      (subst₂ (λ s t. All (Registered (items_in r) (r.settings).declared_at_invariance r.ambient r.environment s t) gs) s t
+      h)))
+    where
+      by_declared : ByDeclared (q.settings).declared_at_invariance r.ambient →
+          ByDeclared (q.settings).declared_at_invariance q.ambient
+      by_declared (inl o) = inl (v o)
+      by_declared (inr o) = inr o
+
+      seen_from : {x : Tree} → IsRegistered (items_in q) (q.settings).declared_at_invariance r.ambient q.store now x →
+          IsRegistered (items_in q) (q.settings).declared_at_invariance q.ambient q.store now x
+      seen_from (of_variables x n m o e f g) = of_variables x n m (v o) e f g
+      seen_from (of_type t o e i b) = of_type t (by_declared o) e i b
+
+-- What is directed where it is seen from a variance: the variance is.
+pub directed_from : (v w : Variance) → IsDirected (xform v w) → IsDirected v
+directed_from Covariant w h = tt
+directed_from Contravariant w h = tt
+directed_from Invariant w h = absurd h
+directed_from Bivariant w h = absurd h
+
+-- At a variance that decides, declared variances are used: it is directed, or that is said.
+pub by_declared : (d : Bool) (v : Variance) → v ≢ Bivariant → (v ≡ Invariant → IsTrue d) → ByDeclared d v
+by_declared d Covariant h k = inl tt
+by_declared d Contravariant h k = inl tt
+by_declared d Invariant h k = inr (k refl)
+by_declared d Bivariant h k = absurd (h refl)
+
+-- Where that is not said, no goal is registered at invariance.
+pub none_at_invariance : {c : Items} {e : Tree} {before after : Store} (gs : List Goal) (v : Variance) → v ≡ Invariant →
+    All (Registered c false v e before after) gs → gs ≡ []
+none_at_invariance [] v is h = refl
+none_at_invariance {c = c} {e = e} {before = before} {after = after} (g ∷ gs) v is h = absurd (not_so (All-head (Registered c false v e before after) g gs h).asks)
+  where
+    undirected : IsDirected v → ⊥
+    undirected o = subst IsDirected is o
+
+    not_so : IsRegistered c false v before after g.predicate → ⊥
+    not_so (of_variables x n m o e f g) = undirected o
+    not_so (of_type t (inl o) e i b) = undirected o
+    not_so (of_type t (inr o) e i b) = absurd (false≢true o)
+
+-- Goals over known keys mean what they meant.
+pub goals_stay : {Key Id Name : Type 0} {m n : Meaning Key Id Name} → Extends m n → (gs : List (KeyedGoal Key (PredicateKey Key))) → All (KnowsGoal m) gs → goals_of n gs ≡ goals_of m gs
+goals_stay grown [] h = refl
+goals_stay {m = m} grown (g ∷ gs) h = let k = All-head (KnowsGoal m) g gs h in
+    ap₂ ◌∷◌ (ap₂ goal_of (grown.param_env g.param_env k.0) (grown.predicate g.predicate k.1)) (goals_stay grown gs (All-tail (KnowsGoal m) g gs h))
+
+pub goals_known : {Key Id Name : Type 0} {m n : Meaning Key Id Name} → Extends m n → (gs : List (KeyedGoal Key (PredicateKey Key))) → All (KnowsGoal m) gs → All (KnowsGoal n) gs
+goals_known {m = m} {n = n} grown gs h = All-weaker (KnowsGoal m) (KnowsGoal n)
+    (λ g k. (subst (λ t. IsTrue (known t)) (sym (grown.param_env g.param_env k.0)) k.0, subst (λ t. IsTrue (known t)) (sym (grown.predicate g.predicate k.1)) k.1)) gs h
+
+-- The predicate that one type is a subtype of another, as an interner makes it.
+module _ {Key Id Name : Type 0} {m n : Meaning Key Id Name} (grown : Extends m n) (vars : BoundVarsKey Key) (none : n.bound_vars vars ≡ Some []) (x : Bool) (a b : TyKey Key) (a_known : IsTrue (known (m.ty a))) (b_known : IsTrue (known (m.ty b))) where
+  abbrev form : Binder Key (PredicateKind Key Id Name)
+  form = record { value = Subtype (record { a_is_expected = x; a = a; b = b }); bound_vars = vars }
+
+  pub subtype_tree : predicate_tree n form ≡ subtype_predicate x (m.ty a) (m.ty b)
+  subtype_tree = ap (λ z. under z (node (subtype x) (cons (n.ty a) (cons (n.ty b) nil)))) none
+      ∙ ap₂ (λ t u. bind [] (node (subtype x) (cons t (cons u nil)))) (grown.ty a a_known) (grown.ty b b_known)
+
+  pub subtype_known : IsTrue (known (predicate_tree n form))
+  subtype_known = subst (λ t. IsTrue (known t)) (sym subtype_tree) (and_from (known (m.ty a)) (known (cons (m.ty b) nil)) a_known
+      (and_from (known (m.ty b)) true b_known refl))
+
+-- The predicate that a type is well formed, as an interner makes it.
+module _ {Key Id Name : Type 0} {m n : Meaning Key Id Name} (grown : Extends m n) (vars : BoundVarsKey Key) (none : n.bound_vars vars ≡ Some []) (a : TyKey Key) (a_known : IsTrue (known (m.ty a))) where
+  abbrev well_formed_form : Binder Key (PredicateKind Key Id Name)
+  well_formed_form = record { value = Clause (WellFormed (TyTerm a)); bound_vars = vars }
+
+  pub well_formed_tree : predicate_tree n well_formed_form ≡ well_formed_predicate (m.ty a)
+  well_formed_tree = ap (λ z. under z (node well_formed (cons (n.ty a) nil))) none
+      ∙ ap well_formed_predicate (grown.ty a a_known)
+
+  pub well_formed_known : IsTrue (known (predicate_tree n well_formed_form))
+  well_formed_known = subst (λ t. IsTrue (known t)) (sym well_formed_tree) (and_from (known (m.ty a)) true a_known refl)

@@ -1,0 +1,14 @@
+pub mod Visiting
+pub mod Errors
+pub mod Depths
+pub mod Found
+pub mod Remembering
+pub mod Searching
+pub mod Folding
+pub mod Members
+pub mod Shifting
+pub mod Arguments
+pub mod Entering
+pub mod Fielding
+pub mod FieldFolding
+pub mod ClauseLists

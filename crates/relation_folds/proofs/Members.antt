@@ -1,0 +1,164 @@
+-- The members of a list folded one after another, and a form over its folded parts.
+use Rattle.std.proofs.Common.{◌≡◌, ℕ, zero, suc, ◌<◌, refl, sym, ap, ap₂, ◌∙◌, subst, arith}
+use Rattle.std.proofs.Common.{◌&&◌, IsTrue, Bool, true, false, List, [], ◌∷◌, ◌++◌, Option, Some, None, option_map}
+use Rattle.std.proofs.lemmas.Bool.{and_parts}
+use Rattle.relation_terms.specs.Trees.{Tree, leaf, node, bind, nil, cons, known, list_tree, count, nth, IsList}
+use Rattle.relation_terms.specs.Parts.{part_sort, tree_sort, parts_of, over, Fit}
+use Rattle.relation_terms.specs.declared.terms.part_kind.Part.{Part}
+use Rattle.relation_folds.specs.Folds.{folded, folded_parts, inside, members_tree, FitMembers}
+
+abbrev pub firsts : ℕ → Tree → Tree
+firsts zero t = nil
+firsts (suc i) (cons t ts) = cons t (firsts i ts)
+firsts (suc i) t = nil
+
+firsts_all : (t : Tree) → IsList t → firsts (count t) t ≡ t
+firsts_all nil h = refl
+firsts_all (cons t ts) h = ap (cons t) (firsts_all ts h)
+firsts_all (leaf l) h = absurd h
+firsts_all (node g ts) h = absurd h
+firsts_all (bind ks t) h = absurd h
+
+both_known : (a b : Bool) → IsTrue a → IsTrue b → IsTrue (a && b)
+both_known true b h k = k
+both_known false b h k = h
+
+-- The first parts are built.
+pub record Built {Key Id : Type 0} (p : ℕ → Tree → Option Tree) (d : ℕ) (f : Part Key Id → Tree) (i : ℕ) (ts : Tree) (xs : List (Part Key Id))
+    : Type 0 where
+  pub same : list_tree f xs ≡ folded p d (firsts i ts)
+  pub sure : IsTrue (known (list_tree f xs))
+  pub fit : Fit xs (firsts i ts)
+
+module _ {Key Id : Type 0} (p : ℕ → Tree → Option Tree) (d : ℕ) (f g : Part Key Id → Tree)
+    (stay : (x : Part Key Id) → IsTrue (known (f x)) → g x ≡ f x) (y : Part Key Id) where
+  -- One more, in an interner that has grown.
+  same_next : (i : ℕ) (ts : Tree) (xs : List (Part Key Id)) → i < count ts → Fit xs (firsts i ts) →
+      IsTrue (known (list_tree f xs)) → list_tree f xs ≡ folded p d (firsts i ts) → g y ≡ folded p d (nth i ts) →
+      list_tree g (xs ++ y ∷ []) ≡ folded p d (firsts (suc i) ts)
+  same_next zero (cons t ts) [] h a k e q = ap (λ z. cons z nil) q
+  same_next zero (cons t ts) (x ∷ xs) h a k e q = absurd a
+  same_next (suc i) (cons t ts) [] h a k e q = absurd a
+  same_next (suc i) (cons t ts) (x ∷ xs) h a k e q =
+      let o = and_parts (known (f x)) (known (list_tree f xs)) k in
+      let u : f x ≡ folded p d t = cc in
+      let w : list_tree f xs ≡ folded p d (firsts i ts) = cc in
+      ap₂ cons (stay x o.0 ∙ u) (same_next i ts xs (omega arith) a.1 o.1 w q)
+  same_next i (leaf l) xs h a k e q = absurd (omega arith)
+  same_next i (node b l) xs h a k e q = absurd (omega arith)
+  same_next i (bind ks l) xs h a k e q = absurd (omega arith)
+  same_next i nil xs h a k e q = absurd (omega arith)
+
+  sure_next : (xs : List (Part Key Id)) → IsTrue (known (list_tree f xs)) → IsTrue (known (g y)) →
+      IsTrue (known (list_tree g (xs ++ y ∷ [])))
+  sure_next [] h k = both_known (known (g y)) true k refl
+  sure_next (x ∷ xs) h k =
+      let o = and_parts (known (f x)) (known (list_tree f xs)) h in
+      both_known (known (g x)) (known (list_tree g (xs ++ y ∷ [])))
+      (subst (λ z. IsTrue (known z)) (sym (stay x o.0)) o.0) (sure_next xs o.1 k)
+
+  fit_next : (i : ℕ) (ts : Tree) (xs : List (Part Key Id)) → i < count ts → Fit xs (firsts i ts) →
+      part_sort y ≡ tree_sort (nth i ts) → Fit (xs ++ y ∷ []) (firsts (suc i) ts)
+  fit_next zero (cons t ts) [] h a q = (q, tt)
+  fit_next zero (cons t ts) (x ∷ xs) h a q = absurd a
+  fit_next (suc i) (cons t ts) [] h a q = absurd a
+  fit_next (suc i) (cons t ts) (x ∷ xs) h a q = (a.0, fit_next i ts xs (omega arith) a.1 q)
+  fit_next i (leaf l) xs h a q = absurd (omega arith)
+  fit_next i (node b l) xs h a q = absurd (omega arith)
+  fit_next i (bind ks l) xs h a q = absurd (omega arith)
+  fit_next i nil xs h a q = absurd (omega arith)
+
+  pub built_next : (i j : ℕ) (ts : Tree) (xs ys : List (Part Key Id)) → Built p d f i ts xs → i < count ts → j ≡ suc i →
+      g y ≡ folded p d (nth i ts) → IsTrue (known (g y)) → part_sort y ≡ tree_sort (nth i ts) → ys ≡ xs ++ y ∷ [] →
+      Built p d g j ts ys
+  built_next i j ts xs ys b h e q k s r =
+      subst (λ zs. Built p d g j ts zs) (sym r) (subst (λ n. Built p d g n ts (xs ++ y ∷ [])) (sym e) (record {
+        same = same_next i ts xs h b.fit b.sure b.same q;
+        sure = sure_next xs b.sure k;
+        fit = fit_next i ts xs h b.fit s;
+      }))
+
+-- No member is built yet.
+pub built_none : {Key Id : Type 0} (p : ℕ → Tree → Option Tree) (d : ℕ) (f : Part Key Id → Tree) (ts : Tree)
+    (xs : List (Part Key Id)) → xs ≡ [] → Built p d f 0 ts xs
+built_none p d f ts xs e = subst (λ ys. Built p d f 0 ts ys) (sym e) (record { same = refl; sure = refl; fit = tt })
+
+-- Where the first members were left as they are, and the next is too, so are all these.
+pub left_next : (p : ℕ → Tree → Option Tree) (d : ℕ) (i : ℕ) (ts : Tree) → i < count ts →
+    folded p d (firsts i ts) ≡ firsts i ts → folded p d (nth i ts) ≡ nth i ts →
+    folded p d (firsts (suc i) ts) ≡ firsts (suc i) ts
+left_next p d zero (cons t ts) h a b = ap (λ x. cons x nil) b
+left_next p d (suc i) (cons t ts) h a b =
+    let here : folded p d t ≡ t = cc in
+    let more : folded p d (firsts i ts) ≡ firsts i ts = cc in
+    ap₂ cons here (left_next p d i ts (omega arith) more b)
+left_next p d i (leaf l) h a b = absurd (omega arith)
+left_next p d i (node g ts) h a b = absurd (omega arith)
+left_next p d i (bind ks t) h a b = absurd (omega arith)
+left_next p d i nil h a b = absurd (omega arith)
+
+pub left_more : (p : ℕ → Tree → Option Tree) (d : ℕ) (a b : Bool) (i j : ℕ) (ts t u : Tree) →
+    (IsTrue a → folded p d (firsts i ts) ≡ firsts i ts) → (IsTrue b → u ≡ t) → u ≡ folded p d (nth i ts) →
+    t ≡ nth i ts → j ≡ suc i → i < count ts → IsTrue (a && b) → folded p d (firsts j ts) ≡ firsts j ts
+left_more p d a b i j ts t u f g q r e h k =
+    let o = and_parts a b k in
+    subst (λ n. folded p d (firsts n ts) ≡ firsts n ts) (sym e)
+    (left_next p d i ts h (f o.0) (sym q ∙ g o.1 ∙ r))
+
+-- All members are left as they are.
+pub left_all : (p : ℕ → Tree → Option Tree) (d : ℕ) (i : ℕ) (ts : Tree) → IsList ts → i ≡ count ts →
+    folded p d (firsts i ts) ≡ firsts i ts → ts ≡ folded p d ts
+left_all p d i ts l e q =
+    let whole : firsts i ts ≡ ts = ap (λ n. firsts n ts) e ∙ firsts_all ts l in
+    sym whole ∙ sym q ∙ ap (folded p d) whole
+
+-- What is said of members where there are some, and where there are none.
+module _ {Key Id V : Type 0} {o : Option V} (items : V → List (Part Key Id)) (f : Part Key Id → Tree) (ts : Tree) where
+  pub some_sure : {v : V} → o ≡ Some v → IsTrue (known (members_tree f ts (option_map items o))) →
+      IsTrue (known (list_tree f (items v)))
+  some_sure e h = subst (λ x. IsTrue (known (members_tree f ts (option_map items x)))) e h
+
+  pub some_made : {v : V} {us : Tree} → o ≡ Some v → members_tree f ts (option_map items o) ≡ us →
+      list_tree f (items v) ≡ us
+  some_made {us = us} e h = subst (λ x. members_tree f ts (option_map items x) ≡ us) e h
+
+  pub some_fits : {v : V} → o ≡ Some v → FitMembers ts (option_map items o) → Fit (items v) ts
+  some_fits e h = subst (λ x. FitMembers ts (option_map items x)) e h
+
+  pub none_made : {us : Tree} → o ≡ None → members_tree f ts (option_map items o) ≡ us → ts ≡ us
+  none_made {us = us} e h = subst (λ x. members_tree f ts (option_map items x) ≡ us) e h
+
+-- All parts are built.
+pub built_all : {Key Id : Type 0} (p : ℕ → Tree → Option Tree) (d : ℕ) (f : Part Key Id → Tree) (i : ℕ) (ts : Tree)
+    (xs : List (Part Key Id)) → IsList ts → i ≡ count ts → Built p d f i ts xs →
+    (list_tree f xs ≡ folded p d ts) × (IsTrue (known (list_tree f xs)) × Fit xs ts)
+built_all p d f i ts xs l e b =
+    let whole : firsts i ts ≡ ts = ap (λ n. firsts n ts) e ∙ firsts_all ts l in
+    (b.same ∙ ap (folded p d) whole, (b.sure, subst (Fit xs) whole b.fit))
+
+-- A form over its folded parts.
+over_folded : (p : ℕ → Tree → Option Tree) (d : ℕ) (t : Tree) →
+    over t (folded p (inside t d) (parts_of t)) ≡ folded_parts p d t
+over_folded p d (node h ts) = refl
+over_folded p d (leaf l) = refl
+over_folded p d (bind ks t) = refl
+over_folded p d nil = refl
+over_folded p d (cons t ts) = refl
+
+pub whole_made : (p : ℕ → Tree → Option Tree) (d e : ℕ) (t u us : Tree) → e ≡ inside t d → u ≡ t →
+    us ≡ folded p e (parts_of t) → over u us ≡ folded_parts p d t
+whole_made p d e t u us i o q =
+    ap (λ z. over z us) o ∙ ap (over t) (q ∙ ap (λ x. folded p x (parts_of t)) i) ∙ over_folded p d t
+
+-- A form whose parts are left as they are is left too.
+left_whole : (p : ℕ → Tree → Option Tree) (d : ℕ) (t ts : Tree) → ts ≡ parts_of t →
+    ts ≡ folded p (inside t d) (parts_of t) → t ≡ folded_parts p d t
+left_whole p d (node h us) ts e q = ap (node h) (sym e ∙ q)
+left_whole p d (bind ks t) ts e q = ap (over (bind ks t)) (sym e ∙ q)
+left_whole p d (leaf l) ts e q = refl
+left_whole p d nil ts e q = refl
+left_whole p d (cons t us) ts e q = refl
+
+pub whole_left : (p : ℕ → Tree → Option Tree) (d i : ℕ) (t ts : Tree) → i ≡ inside t d → ts ≡ parts_of t →
+    ts ≡ folded p i (parts_of t) → t ≡ folded_parts p d t
+whole_left p d i t ts h e q = left_whole p d t ts e (q ∙ ap (λ x. folded p x (parts_of t)) h)

@@ -1,0 +1,377 @@
+use Rattle.std.proofs.Common.{IfSome, rules, arith, refl, sym, ap, ◌∙◌, ◌≡◌, ◌<◌, ◌+◌, ◌*◌, suc, subst, IsTrue}
+use Rattle.relation_terms.specs.Trees.{known, size, count, nth, list_tree}
+use Rattle.relation_terms.specs.Parts.{part_tree, parts_tree, parts_of, part_sort, tree_sort, Fit}
+use Rattle.relation_terms.proofs.Stays.{knows_as}
+use Rattle.relation_terms.proofs.Sorted.{Sorted}
+use Rattle.relation_terms.proofs.Members.{member_small, parts_small}
+use Rattle.relation_terms.proofs.Parts.{sort_known, stays_part, stays_parts}
+use Rattle.relation_folds.specs.Folds.{Folds, KnownAnswer, IsMade, folded, folded_parts, inside}
+use Rattle.relation_folds.proofs.Folding.{steps_none, steps_on, steps_grown, folded_later, parts_later, later, if_ok}
+use Rattle.relation_folds.proofs.Remembering.{place_eq, remembers_on}
+use Rattle.relation_folds.proofs.Members.{built_none, built_next, built_all, left_more, left_all, whole_made}
+use Rattle.relation_folds.proofs.Members.{whole_left}
+use Rattle.relation_folds.proofs.Members.{some_sure, some_made, some_fits, none_made}
+use Rattle.relation_folds.proofs.Depths.{inside_known}
+use Rattle.relation_folds.proofs.fold.walk.+walk.Goals as goal
+
+pub fold_met-returns-in-Some : goal.fold_met-returns-in-Some
+fold_met-returns-in-Some g t' c =
+    let m = g.I.Interner.meaning c.args.cx.now in
+    let p = g.F.TypeFolder.replaces m c.args.folder.now in
+    let made : IsMade m p c.args.part.now c.args.depth c.in-Some.made =
+    subst (λ o. IfSome o (λ by. IsMade m p c.args.part.now c.args.depth by)) c.in-Some.is c.recall.ensures in
+    record {
+      steps = steps_none m c.args.folder.now c.requires.ready;
+      remembers = c.requires.remembers;
+      sure = made.sure;
+      made = made.made;
+      sort = made.sort;
+    }
+
+pub fold_met-fold_new-requires : goal.fold_met-fold_new-requires
+fold_met-fold_new-requires g t' c κs within =
+    let m = g.I.Interner.meaning c.args.cx.now in
+    let x = c.args.part.now in
+    let d = c.decreases in
+    let small : 4 * size (part_tree m x) + 2 < 4 * size (part_tree m x) + 3 = omega arith in
+    let k = c.requires.known in
+    let r = c.requires.ready in
+    let o = c.requires.remembers in
+    search rules
+
+pub fold_met-keep-requires : goal.fold_met-keep-requires
+fold_met-keep-requires g t' c =
+    let m = g.I.Interner.meaning c.args.cx.now in
+    let n = g.I.Interner.meaning c.fold_new.new.cx in
+    let x = c.args.part.now in
+    let p = g.F.TypeFolder.replaces m c.args.folder.now in
+    let q = g.F.TypeFolder.replaces n c.fold_new.new.folder in
+    let r = c.in_ok-made.ensures in
+    let e : part_tree n x ≡ part_tree m x = stays_part r.steps.grown x c.requires.known in
+    record {
+      made = record {
+        there = knows_as (part_tree m x) (part_tree n x) e c.requires.known;
+        sure = r.sure;
+        made = r.made ∙ sym (folded_later p q r.steps.kept c.args.depth (part_tree m x) (part_tree n x) e);
+        sort = r.sort;
+      };
+      remembers = r.remembers;
+    }
+
+pub fold_new-returns-in-Replace : goal.fold_new-returns-in-Replace
+fold_new-returns-in-Replace g t' c =
+    let m = g.I.Interner.meaning c.args.cx.now in
+    let x = c.args.part.now in
+    let n = g.I.Interner.meaning c.put_for.new.cx in
+    let p = g.F.TypeFolder.replaces m c.args.folder.now in
+    let r = c.in_ok-by.ensures in
+    let made = subst (Folds p c.args.depth (part_tree m x) (part_tree n) (part_sort x)) c.in-Replace.is r.made in
+    record {
+      steps = r.steps;
+      remembers = remembers_on r.steps (place_eq g.I.Key.PartialEq.eq) c.args.memory.now c.requires.remembers;
+      sure = subst (KnownAnswer (part_tree n)) c.in-Replace.is r.sure;
+      made = made.0;
+      sort = made.1;
+    }
+
+pub fold_new-returns-in_err-by-clause-remembers : goal.fold_new-returns-in_err-by-clause-remembers
+fold_new-returns-in_err-by-clause-remembers g t' c =
+    remembers_on c.in_err-by.ensures.steps (place_eq g.I.Key.PartialEq.eq) c.args.memory.now c.requires.remembers
+
+pub fold_new-fold_inside-requires : goal.fold_new-fold_inside-requires
+fold_new-fold_inside-requires g t' c κs within =
+    let m = g.I.Interner.meaning c.args.cx.now in
+    let x = c.args.part.now in
+    let n = g.I.Interner.meaning c.put_for.new.cx in
+    let s = c.in_ok-by.ensures.steps in
+    let d = c.decreases in
+    let e : part_tree n x ≡ part_tree m x = stays_part s.grown x c.requires.known in
+    let k : IsTrue (known (part_tree n x)) = knows_as (part_tree m x) (part_tree n x) e c.requires.known in
+    let is : size (part_tree n x) ≡ size (part_tree m x) = ap size e in
+    let small : 4 * size (part_tree n x) + 1 < 4 * size (part_tree m x) + 2 = omega (arith, is) in
+    let r = s.ready in
+    let o = remembers_on s (place_eq g.I.Key.PartialEq.eq) c.args.memory.now c.requires.remembers in
+    search rules
+
+pub fold_new-returns-in-Descend : goal.fold_new-returns-in-Descend
+fold_new-returns-in-Descend g t' c =
+    let m = g.I.Interner.meaning c.args.cx.now in
+    let x = c.args.part.now in
+    let n = g.I.Interner.meaning c.put_for.new.cx in
+    let p = g.F.TypeFolder.replaces m c.args.folder.now in
+    let q = g.F.TypeFolder.replaces n c.put_for.new.folder in
+    let i = c.args.depth in
+    let r = c.in_ok-by.ensures in
+    let o = c.fold_inside.ensures in
+    let e = stays_part r.steps.grown x c.requires.known in
+    let left : folded p i (part_tree m x) ≡ folded_parts p i (part_tree m x) =
+    subst (Folds p i (part_tree m x) (part_tree n) (part_sort x)) c.in-Descend.is r.made in
+    let parts : folded_parts q i (part_tree n x) ≡ folded_parts p i (part_tree m x) =
+    parts_later p q r.steps.kept i (part_tree m x) (part_tree n x) e in
+    record {
+      steps = steps_on r.steps o.steps;
+      remembers = o.remembers;
+      sure = o.sure;
+      made = if_ok c.fold_inside.result (λ y h. h ∙ (parts ∙ sym left)) o.made;
+      sort = o.sort;
+    }
+
+pub fold_inside-fold_members-requires : goal.fold_inside-fold_members-requires
+fold_inside-fold_members-requires g t' c κs within =
+    let m = g.I.Interner.meaning c.args.cx.now in
+    let t = part_tree m c.args.part.now in
+    let ts = parts_tree m c.parts_of.result in
+    let d = c.decreases in
+    let less = parts_small t in
+    let is : size ts ≡ size (parts_of t) = ap size c.parts_of.ensures.means in
+    let small : 4 * size ts < 4 * size t + 1 = omega (arith, less, is) in
+    let o = c.requires.remembers in
+    let k = c.parts_of.ensures.sure in
+    let r = c.requires.ready in
+    search rules
+
+pub fold_inside-with_parts-requires : goal.fold_inside-with_parts-requires
+fold_inside-with_parts-requires g t' c =
+    let m = g.I.Interner.meaning c.args.cx.now in
+    let n = g.I.Interner.meaning c.fold_members.new.cx in
+    let x = c.args.part.now in
+    let ts = parts_tree m c.parts_of.result in
+    let r = c.in_ok-made.ensures in
+    let e : part_tree n x ≡ part_tree m x = stays_part r.steps.grown x c.requires.known in
+    record {
+      term_known = knows_as (part_tree m x) (part_tree n x) e c.requires.known;
+      parts_known = subst (λ ys. IsTrue (known (list_tree (part_tree n) ys))) (sym c.deref.ensures.value)
+          (some_sure (λ l. l.items) (part_tree n) ts c.in-Some.is r.sure);
+      fits = subst (λ ys. Fit ys (parts_of (part_tree n x))) (sym c.deref.ensures.value)
+          (subst (λ us. Fit c.in-Some.made.items us) (c.parts_of.ensures.means ∙ ap parts_of (sym e))
+          (some_fits (λ l. l.items) (part_tree n) ts c.in-Some.is r.fits));
+    }
+
+pub fold_inside-returns-in-Some : goal.fold_inside-returns-in-Some
+fold_inside-returns-in-Some g t' c =
+    let m = g.I.Interner.meaning c.args.cx.now in
+    let n = g.I.Interner.meaning c.fold_members.new.cx in
+    let p = g.F.TypeFolder.replaces m c.args.folder.now in
+    let x = c.args.part.now in
+    let sorted : Sorted m = record {
+      ty = g.met.I.Interner.is_ty c.args.cx.now;
+      region = g.met.I.Interner.is_region c.args.cx.now;
+      tys = g.met.I.Interner.are_tys c.args.cx.now;
+      const_ = g.met.I.Interner.is_const c.args.cx.now;
+      valtree = g.met.I.Interner.is_valtree c.args.cx.now;
+      args = g.met.I.Interner.are_args c.args.cx.now;
+      branches = g.met.I.Interner.are_branches c.args.cx.now;
+      pat = g.met.I.Interner.is_pat c.args.cx.now;
+      alternatives = g.met.I.Interner.are_alternatives c.args.cx.now;
+      existential_predicates = g.met.I.Interner.are_existential_predicates c.args.cx.now;
+    } in
+    let deep : c.in_ok-inside.inside ≡ inside (part_tree m x) c.args.depth =
+    c.in_ok-inside.ensures ∙ inside_known m sorted x c.args.depth c.requires.known in
+    let ts = parts_tree m c.parts_of.result in
+    let us = list_tree (part_tree n) c.deref.result.now in
+    let r = c.in_ok-made.ensures in
+    let o = c.with_parts.ensures in
+    let e : part_tree n x ≡ part_tree m x = stays_part r.steps.grown x c.requires.known in
+    let q : us ≡ folded p c.in_ok-inside.inside (parts_of (part_tree m x)) =
+    ap (list_tree (part_tree n)) c.deref.ensures.value
+    ∙ (some_made (λ l. l.items) (part_tree n) ts c.in-Some.is r.made
+    ∙ ap (folded p c.in_ok-inside.inside) c.parts_of.ensures.means) in
+    record {
+      steps = steps_grown g.met.F.TypeFolder.ready_on g.met.F.TypeFolder.replaces_on r.steps o.grown;
+      remembers = remembers_on (steps_grown g.met.F.TypeFolder.ready_on g.met.F.TypeFolder.replaces_on
+          (steps_none n c.fold_members.new.folder r.steps.ready) o.grown) (place_eq g.I.Key.PartialEq.eq)
+          c.fold_members.new.memory r.remembers;
+      sure = o.sure;
+      made = if_ok c.with_parts.result (λ y h. h ∙ whole_made p c.args.depth c.in_ok-inside.inside (part_tree m x)
+          (part_tree n x) us deep e q)
+          o.made;
+      sort = o.sort;
+    }
+
+pub fold_inside-returns-in-None : goal.fold_inside-returns-in-None
+fold_inside-returns-in-None g t' c =
+    let m = g.I.Interner.meaning c.args.cx.now in
+    let n = g.I.Interner.meaning c.fold_members.new.cx in
+    let p = g.F.TypeFolder.replaces m c.args.folder.now in
+    let x = c.args.part.now in
+    let sorted : Sorted m = record {
+      ty = g.met.I.Interner.is_ty c.args.cx.now;
+      region = g.met.I.Interner.is_region c.args.cx.now;
+      tys = g.met.I.Interner.are_tys c.args.cx.now;
+      const_ = g.met.I.Interner.is_const c.args.cx.now;
+      valtree = g.met.I.Interner.is_valtree c.args.cx.now;
+      args = g.met.I.Interner.are_args c.args.cx.now;
+      branches = g.met.I.Interner.are_branches c.args.cx.now;
+      pat = g.met.I.Interner.is_pat c.args.cx.now;
+      alternatives = g.met.I.Interner.are_alternatives c.args.cx.now;
+      existential_predicates = g.met.I.Interner.are_existential_predicates c.args.cx.now;
+    } in
+    let deep : c.in_ok-inside.inside ≡ inside (part_tree m x) c.args.depth =
+    c.in_ok-inside.ensures ∙ inside_known m sorted x c.args.depth c.requires.known in
+    let ts = parts_tree m c.parts_of.result in
+    let r = c.in_ok-made.ensures in
+    let e : part_tree n x ≡ part_tree m x = stays_part r.steps.grown x c.requires.known in
+    record {
+      steps = r.steps;
+      remembers = r.remembers;
+      sure = knows_as (part_tree m x) (part_tree n x) e c.requires.known;
+      made = e ∙ whole_left p c.args.depth c.in_ok-inside.inside (part_tree m x) ts deep
+          c.parts_of.ensures.means
+          (none_made (λ l. l.items) (part_tree n) ts c.in-None.is r.made
+          ∙ ap (folded p c.in_ok-inside.inside) c.parts_of.ensures.means);
+      sort = refl;
+    }
+
+pub fold_members-loop-i-init : goal.fold_members-loop-i-init
+fold_members-loop-i-init g t' c =
+    let m = g.I.Interner.meaning c.args.cx.now in
+    record {
+      steps = steps_none m c.args.folder.now c.requires.ready;
+      remembers = c.requires.remembers;
+      built = built_none (g.F.TypeFolder.replaces m c.args.folder.now) c.args.depth (part_tree m)
+          (parts_tree m c.args.parts.now) c.new-made.result.items c.new-made.ensures.items;
+      left = λ k. refl;
+    }
+
+pub fold_members-member-old-requires : goal.fold_members-member-old-requires
+fold_members-member-old-requires g t' c =
+    let m = g.I.Interner.meaning c.args.cx.now in
+    let n = g.I.Interner.meaning c.loop-i.cx in
+    let ps = c.args.parts.now in
+    let ts = parts_tree m ps in
+    let e : parts_tree n ps ≡ ts = stays_parts (c.loop-i.invariant.steps).grown ps c.requires.known in
+    let counted = c.member_count-i-end.ensures.counts in
+    let test = c.loop-i-test.true in
+    let below : c.loop-i.i < count ts = omega (arith, counted, test) in
+    record {
+      list_known = knows_as ts (parts_tree n ps) e c.requires.known;
+      in_bounds = subst (λ z. c.loop-i.i < count z) (sym e) below;
+    }
+
+pub fold_members-fold_met-requires : goal.fold_members-fold_met-requires
+fold_members-fold_met-requires g t' c κs within =
+    let m = g.I.Interner.meaning c.args.cx.now in
+    let n = g.I.Interner.meaning c.loop-i.cx in
+    let ps = c.args.parts.now in
+    let ts = parts_tree m ps in
+    let s = c.loop-i.invariant.steps in
+    let e : parts_tree n ps ≡ ts = stays_parts s.grown ps c.requires.known in
+    let i = c.loop-i.i in
+    let x = c.member-old.result in
+    let counted = c.member_count-i-end.ensures.counts in
+    let test = c.loop-i-test.true in
+    let below : i < count ts = omega (arith, counted, test) in
+    let d = c.decreases in
+    let less = member_small ts i below in
+    let is : size (part_tree n x) ≡ size (nth i ts) = ap size (c.member-old.ensures.means ∙ ap (nth i) e) in
+    let small : 4 * size (part_tree n x) + 3 < 4 * size ts = omega (arith, less, is) in
+    let o = c.loop-i.invariant.remembers in
+    let k = c.member-old.ensures.sure in
+    let r = s.ready in
+    search rules
+
+pub fold_members-is_same-same-requires : goal.fold_members-is_same-same-requires
+fold_members-is_same-same-requires g t' c =
+    let n = g.I.Interner.meaning c.loop-i.cx in
+    let o = g.I.Interner.meaning c.fold_met.new.cx in
+    let x = c.member-old.result in
+    let r = c.in_ok-new.ensures in
+    let e : part_tree o x ≡ part_tree n x = stays_part r.steps.grown x c.member-old.ensures.sure in
+    record {
+      part_known = r.sure;
+      other_known = knows_as (part_tree n x) (part_tree o x) e c.member-old.ensures.sure;
+      same_sort = sym r.sort;
+    }
+
+pub fold_members-returns-in_err-new-clause-steps : goal.fold_members-returns-in_err-new-clause-steps
+fold_members-returns-in_err-new-clause-steps g t' c =
+    steps_on c.loop-i.invariant.steps c.in_err-new.ensures.steps
+
+pub fold_members-returns-in_err-push-clause-steps : goal.fold_members-returns-in_err-push-clause-steps
+fold_members-returns-in_err-push-clause-steps g t' c =
+    steps_on c.loop-i.invariant.steps c.in_ok-new.ensures.steps
+
+pub fold_members-loop-i-preserved : goal.fold_members-loop-i-preserved
+fold_members-loop-i-preserved g t' c =
+    let m = g.I.Interner.meaning c.args.cx.now in
+    let n = g.I.Interner.meaning c.loop-i.cx in
+    let o = g.I.Interner.meaning c.fold_met.new.cx in
+    let p = g.F.TypeFolder.replaces m c.args.folder.now in
+    let d = c.args.depth in
+    let ps = c.args.parts.now in
+    let ts = parts_tree m ps in
+    let s = c.loop-i.invariant.steps in
+    let e : parts_tree n ps ≡ ts = stays_parts s.grown ps c.requires.known in
+    let i = c.loop-i.i in
+    let counted = c.member_count-i-end.ensures.counts in
+    let test = c.loop-i-test.true in
+    let below : i < count ts = omega (arith, counted, test) in
+    let next : i + 1 ≡ suc i = omega arith in
+    let x = c.member-old.result in
+    let y = c.in_ok-new.new in
+    let r = c.in_ok-new.ensures in
+    let at : part_tree n x ≡ nth i ts = c.member-old.ensures.means ∙ ap (nth i) e in
+    let made : part_tree o y ≡ folded p d (nth i ts) = later s d (nth i ts) (part_tree n x) (part_tree o y) at r.made in
+    let stay : part_tree o x ≡ part_tree n x = stays_part r.steps.grown x c.member-old.ensures.sure in
+    let sorted : Sorted n = record {
+      ty = g.met.I.Interner.is_ty c.loop-i.cx;
+      region = g.met.I.Interner.is_region c.loop-i.cx;
+      tys = g.met.I.Interner.are_tys c.loop-i.cx;
+      const_ = g.met.I.Interner.is_const c.loop-i.cx;
+      valtree = g.met.I.Interner.is_valtree c.loop-i.cx;
+      args = g.met.I.Interner.are_args c.loop-i.cx;
+      branches = g.met.I.Interner.are_branches c.loop-i.cx;
+      pat = g.met.I.Interner.is_pat c.loop-i.cx;
+      alternatives = g.met.I.Interner.are_alternatives c.loop-i.cx;
+      existential_predicates = g.met.I.Interner.are_existential_predicates c.loop-i.cx;
+    } in
+    record {
+      steps = steps_on s r.steps;
+      remembers = r.remembers;
+      built = built_next p d (part_tree n) (part_tree o) (stays_part r.steps.grown) y i (i + 1) ts c.loop-i.made.items _
+          c.loop-i.invariant.built below next made r.sure
+          (r.sort ∙ sym (sort_known n sorted x c.member-old.ensures.sure) ∙ ap tree_sort at)
+          c.in_ok-push.ensures.items;
+      left = λ k. left_more p d c.loop-i.same c.is_same-same.result i (i + 1) ts (part_tree o x) (part_tree o y)
+          c.loop-i.invariant.left (c.is_same-same.ensures).one made (stay ∙ at) next below k;
+    }
+
+pub fold_members-returns-then-same : goal.fold_members-returns-then-same
+fold_members-returns-then-same g t' c =
+    let m = g.I.Interner.meaning c.args.cx.now in
+    let ts = parts_tree m c.args.parts.now in
+    let p = g.F.TypeFolder.replaces m c.args.folder.now in
+    let i = c.loop-i.i in
+    let counted = c.member_count-i-end.ensures.counts in
+    let test = c.loop-i-test.false in
+    let end = (c.loop-i.auto).i-end in
+    let all : i ≡ count ts = omega (arith, counted, test, end) in
+    record {
+      steps = c.loop-i.invariant.steps;
+      remembers = c.loop-i.invariant.remembers;
+      sure = c.requires.known;
+      made = left_all p c.args.depth i ts c.member_count-i-end.ensures.is_list all
+          (c.loop-i.invariant.left c.if-same.true);
+      fits = tt;
+    }
+
+pub fold_members-returns-else-same : goal.fold_members-returns-else-same
+fold_members-returns-else-same g t' c =
+    let m = g.I.Interner.meaning c.args.cx.now in
+    let n = g.I.Interner.meaning c.loop-i.cx in
+    let ts = parts_tree m c.args.parts.now in
+    let p = g.F.TypeFolder.replaces m c.args.folder.now in
+    let i = c.loop-i.i in
+    let counted = c.member_count-i-end.ensures.counts in
+    let test = c.loop-i-test.false in
+    let end = (c.loop-i.auto).i-end in
+    let all : i ≡ count ts = omega (arith, counted, test, end) in
+    let built = built_all p c.args.depth (part_tree n) i ts c.loop-i.made.items c.member_count-i-end.ensures.is_list all
+    c.loop-i.invariant.built in
+    record {
+      steps = c.loop-i.invariant.steps;
+      remembers = c.loop-i.invariant.remembers;
+      sure = built.1.0;
+      made = built.0;
+      fits = built.1.1;
+    }

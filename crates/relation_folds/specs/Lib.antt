@@ -1,0 +1,9 @@
+pub mod Faults
+pub mod Visits
+pub mod Folds
+pub mod Forms
+pub mod Clashes
+pub mod Outlines
+pub mod Shifts
+pub mod FieldFolds
+pub mod InBinders

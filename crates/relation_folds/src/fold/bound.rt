@@ -1,0 +1,147 @@
+//! The body of a binder with terms for the variables that the binder binds.
+ghost use Rattle.std.specs.Prelude.{◌≡◌, IsTrue, IfOk, map};
+ghost use Rattle.relation_terms.specs.Trees.{known, list_tree};
+ghost use Rattle.relation_terms.specs.Meaning.{Extends, arg_tree};
+ghost use Rattle.relation_folds.specs.Shifts.{opened, arg_for, the_ty, the_region, the_const};
+
+use crate::fold::{Fold, TypeFoldable, TypeFolder, shift_vars};
+use relation_terms::terms::{
+    BoundVar, Const, ConstKey, ConstKind, DebruijnIndex, GenericArg, GenericArgKind, Interner,
+    OutOfMemory, Region, RegionKey, RegionKind, Ty, TyKey, TyKind,
+};
+
+/// The body of a binder with the arguments put for the binder's variables, each for the variable at its place of the
+/// binder's list. What is put under further binders stays bound as it was. A variable at whose place there is no
+/// argument of its kind stays, and so does what binders further out bind. The interner has to know body and arguments.
+///
+/// Answers `OutOfMemory` where a growth was refused, or where there is no number for an index; all keys mean then what
+/// they did. Upstream's `instantiate_bound_regions` and its like, over all kinds of variables.
+pub fn instantiate_bound_vars<I: Interner, T: TypeFoldable<I>>(
+    cx: &mut I,
+    body: &T,
+    args: &[GenericArg<I>],
+) -> Result<T, OutOfMemory>
+    requires known { IsTrue (known (T.tree (I.meaning cx.old) body.now)) }
+    requires args_known { IsTrue (known (list_tree (arg_tree (I.meaning cx.old)) args.now)) }
+    ensures grown { Extends (I.meaning cx.old) (I.meaning cx.new) }
+    ensures sure { IfOk result (λ x. IsTrue (known (T.tree (I.meaning cx.new) x))) }
+    ensures made { IfOk result (λ x. T.tree (I.meaning cx.new) x ≡
+        opened (map (arg_tree (I.meaning cx.old)) args.now) (T.tree (I.meaning cx.old) body.now)) }
+{
+    body.fold_with(cx, &mut BoundVarReplacer { args })
+}
+
+// The argument for a variable that the binder around the whole binds; and as a type, a region, a constant.
+fn arg_for<X: Copy>(
+    args: &[GenericArgKind<X>],
+    index: &DebruijnIndex,
+    var: &BoundVar,
+    depth: u128,
+) -> Option<GenericArgKind<X>>
+    ensures { result ≡ arg_for args.now (index.now).0 (var.now).0 depth }
+{
+    if u128::from(index.0) != depth {
+        return None;
+    }
+    args.get(var.0).copied()
+}
+
+fn ty_for<X: Copy>(
+    args: &[GenericArgKind<X>],
+    index: &DebruijnIndex,
+    var: &BoundVar,
+    depth: u128,
+) -> Option<TyKey<X>>
+    ensures { result ≡ the_ty (arg_for args.now (index.now).0 (var.now).0 depth) }
+{
+    match arg_for(args, index, var, depth)? {
+        GenericArgKind::Ty(ty) => Some(ty),
+        GenericArgKind::Lifetime(_) | GenericArgKind::Const(_) => None,
+    }
+}
+
+fn region_for<X: Copy>(
+    args: &[GenericArgKind<X>],
+    index: &DebruijnIndex,
+    var: &BoundVar,
+    depth: u128,
+) -> Option<RegionKey<X>>
+    ensures { result ≡ the_region (arg_for args.now (index.now).0 (var.now).0 depth) }
+{
+    match arg_for(args, index, var, depth)? {
+        GenericArgKind::Lifetime(region) => Some(region),
+        GenericArgKind::Ty(_) | GenericArgKind::Const(_) => None,
+    }
+}
+
+fn const_for<X: Copy>(
+    args: &[GenericArgKind<X>],
+    index: &DebruijnIndex,
+    var: &BoundVar,
+    depth: u128,
+) -> Option<ConstKey<X>>
+    ensures { result ≡ the_const (arg_for args.now (index.now).0 (var.now).0 depth) }
+{
+    match arg_for(args, index, var, depth)? {
+        GenericArgKind::Const(constant) => Some(constant),
+        GenericArgKind::Lifetime(_) | GenericArgKind::Ty(_) => None,
+    }
+}
+
+// Puts arguments for the variables of the binder around the whole.
+#[derive(Clone, Copy)]
+struct BoundVarReplacer<'a, X> {
+    args: &'a [GenericArgKind<X>],
+}
+
+impl<'a, I: Interner> TypeFolder<I> for BoundVarReplacer<'a, I::Key> {
+    ghost use Rattle.relation_folds.specs.Shifts.{opens, knows_all, opens_stays};
+
+    ghost ready = { λ m f. IsTrue (known (list_tree (arg_tree m) f.args.now)) };
+
+    ghost replaces = { λ m f. opens (map (arg_tree m) f.args.now) };
+
+    fn fold_ty(&mut self, cx: &mut I, ty: &Ty<I>, depth: u128) -> Result<Fold<Ty<I>>, OutOfMemory> {
+        let TyKind::Bound(index, bound) = cx.ty_kind(ty) else {
+            return Ok(Fold::Descend);
+        };
+        match ty_for(self.args, &index, &bound.var, depth) {
+            Some(by) => Ok(Fold::Replace(shift_vars(cx, &by, depth)?)),
+            None => Ok(Fold::Descend),
+        }
+    }
+
+    fn fold_region(
+        &mut self,
+        cx: &mut I,
+        region: &Region<I>,
+        depth: u128,
+    ) -> Result<Fold<Region<I>>, OutOfMemory> {
+        let RegionKind::ReBound(index, bound) = cx.region_kind(region) else {
+            return Ok(Fold::Descend);
+        };
+        match region_for(self.args, &index, &bound.var, depth) {
+            Some(by) => Ok(Fold::Replace(shift_vars(cx, &by, depth)?)),
+            None => Ok(Fold::Descend),
+        }
+    }
+
+    fn fold_const(
+        &mut self,
+        cx: &mut I,
+        constant: &Const<I>,
+        depth: u128,
+    ) -> Result<Fold<Const<I>>, OutOfMemory> {
+        let ConstKind::Bound(index, bound) = cx.const_kind(constant) else {
+            return Ok(Fold::Descend);
+        };
+        match const_for(self.args, &index, &bound.var, depth) {
+            Some(by) => Ok(Fold::Replace(shift_vars(cx, &by, depth)?)),
+            None => Ok(Fold::Descend),
+        }
+    }
+
+    ghost ready_on = { λ m n e f h. knows_all e f.args.now h };
+
+    ghost replaces_on = { λ m n e f h d t. opens_stays e f.args.now h d t };
+}

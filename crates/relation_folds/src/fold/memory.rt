@@ -1,0 +1,92 @@
+//! What a fold has made so far: a part that has a key is not folded again where it was met at the same depth.
+//!
+//! What has none, as a signature, is folded each time; its types and lists are kept.
+ghost use Rattle.std.specs.Prelude.{◌≡◌, IsTrue, IfSome};
+ghost use Rattle.std.specs.HashMap.{IsEmpty};
+ghost use Rattle.relation_terms.specs.Trees.{known};
+ghost use Rattle.relation_terms.specs.Parts.{part_tree};
+ghost use Rattle.relation_folds.specs.Folds.{IsMade, Remembers, place_of as the_place};
+
+use crate::fold::TypeFolder;
+use relation_terms::terms::{Interner, OutOfMemory, Part, PartOf};
+use std::collections::HashMap;
+
+/// A part at a depth: of which sort it is, its key, and how many binders stand around it.
+#[derive(Clone, Copy, PartialEq, Eq, Hash)]
+pub struct Place<X> {
+    pub sort: u8,
+    pub key: X,
+    pub depth: u128,
+}
+
+/// What a fold has made of the parts that it has met.
+pub type Memory<X, D> = HashMap<Place<X>, Part<X, D>>;
+
+/// A part at a depth, where it has a key.
+pub fn place_of<X: Copy, D: Copy>(part: &Part<X, D>, depth: u128) -> Option<Place<X>>
+    ensures { result ≡ the_place part.now depth }
+{
+    let (sort, key) = match part {
+        Part::Region(region) => (0, region.0),
+        Part::Ty(ty) => (1, ty.0),
+        Part::Const(constant) => (2, constant.0),
+        Part::ValTree(valtree) => (3, valtree.0),
+        Part::Pat(pat) => (4, pat.0),
+        Part::ValueType(ty) => (5, ty.0),
+        Part::Object(predicates) => (6, predicates.0),
+        Part::Binder(..) | Part::Signature(_) | Part::Inputs(_) | Part::Existential(_) => {
+            return None;
+        }
+    };
+    Some(Place { sort, key, depth })
+}
+
+/// Nothing is remembered where a fold begins.
+pub fn nothing<I: Interner>(cx: &I) -> Memory<I::Key, I::Id>
+    ensures { IsEmpty result }
+{
+    HashMap::new(cx.alloc())
+}
+
+/// What was made of the part at this depth, if it was met there before.
+pub fn recall<I: Interner, F: TypeFolder<I>>(
+    cx: &I,
+    folder: &F,
+    memory: &Memory<I::Key, I::Id>,
+    part: &PartOf<I>,
+    depth: u128,
+) -> Option<PartOf<I>>
+    requires known { IsTrue (known (part_tree (I.meaning cx.now) part.now)) }
+    requires remembers { Remembers (I.meaning cx.now) (F.replaces (I.meaning cx.now) folder.now)
+        ⟦<Place<I::Key> as PartialEq>⟧.eq memory.now }
+    ensures { IfSome result
+        (λ by. IsMade (I.meaning cx.now) (F.replaces (I.meaning cx.now) folder.now) part.now depth by) }
+{
+    let _ = cx;
+    let _ = folder;
+    let place = place_of(part, depth)?;
+    memory.get(&place).copied()
+}
+
+/// Keeps what was made of the part at this depth.
+pub fn keep<I: Interner, F: TypeFolder<I>>(
+    cx: &I,
+    folder: &F,
+    memory: &mut Memory<I::Key, I::Id>,
+    part: &PartOf<I>,
+    depth: u128,
+    made: PartOf<I>,
+) -> Result<(), OutOfMemory>
+    requires made { IsMade (I.meaning cx.now) (F.replaces (I.meaning cx.now) folder.now) part.now depth made }
+    requires remembers { Remembers (I.meaning cx.now) (F.replaces (I.meaning cx.now) folder.now)
+        ⟦<Place<I::Key> as PartialEq>⟧.eq memory.old }
+    ensures { Remembers (I.meaning cx.now) (F.replaces (I.meaning cx.now) folder.now)
+        ⟦<Place<I::Key> as PartialEq>⟧.eq memory.new }
+{
+    let _ = cx;
+    let _ = folder;
+    if let Some(place) = place_of(part, depth) {
+        memory.insert(place, made)?;
+    }
+    Ok(())
+}

@@ -1,0 +1,104 @@
+//! Terms moved under further binders: what binders outside bind stays bound by them.
+ghost use Rattle.std.specs.Prelude.{◌≡◌, ◌+◌, ⊤, IsTrue, IfOk, Some, None, cond, nat_lt, option_map};
+ghost use Rattle.relation_terms.specs.Trees.{known};
+ghost use Rattle.relation_terms.specs.Meaning.{Extends};
+ghost use Rattle.relation_folds.specs.Shifts.{shifted};
+
+use crate::fold::{Fold, TypeFoldable, TypeFolder};
+use relation_terms::terms::{
+    Const, ConstKind, DebruijnIndex, Interner, OutOfMemory, Region, RegionKind, Ty, TyKind,
+};
+
+/// The term as it stands under `amount` more binders: a variable that a binder outside the term binds is bound by the
+/// same one there. The interner has to know the term.
+///
+/// Answers `OutOfMemory` where a growth was refused, or where there is no number for an index; all keys mean then what
+/// they did. Upstream's `shift_vars`.
+pub fn shift_vars<I: Interner, T: TypeFoldable<I>>(
+    cx: &mut I,
+    term: &T,
+    amount: u128,
+) -> Result<T, OutOfMemory>
+    requires known { IsTrue (known (T.tree (I.meaning cx.old) term.now)) }
+    ensures grown { Extends (I.meaning cx.old) (I.meaning cx.new) }
+    ensures sure { IfOk result (λ x. IsTrue (known (T.tree (I.meaning cx.new) x))) }
+    ensures made { IfOk result (λ x.
+        T.tree (I.meaning cx.new) x ≡ shifted amount (T.tree (I.meaning cx.old) term.now)) }
+{
+    term.fold_with(cx, &mut Shifter { amount })
+}
+
+// The index further in, of a variable that none of the binders around it binds.
+fn moved(index: &DebruijnIndex, depth: u128, by: u128) -> Result<Option<DebruijnIndex>, OutOfMemory>
+    ensures { IfOk result (λ o. option_map (λ i. i.0) o ≡
+        cond (nat_lt (index.now).0 depth) None (Some ((index.now).0 + by))) }
+{
+    let old = u128::from(index.0);
+    if old < depth {
+        return Ok(None);
+    }
+    let new = old.checked_add(by).ok_or(OutOfMemory)?;
+    match u64::try_from(new) {
+        Ok(new) => Ok(Some(DebruijnIndex(new))),
+        Err(_) => Err(OutOfMemory),
+    }
+}
+
+// Moves what escapes.
+#[derive(Clone, Copy)]
+struct Shifter {
+    amount: u128,
+}
+
+impl<I: Interner> TypeFolder<I> for Shifter {
+    ghost use Rattle.std.specs.Prelude.{refl};
+    ghost use Rattle.relation_folds.specs.Shifts.{moves};
+
+    ghost ready = { λ m f. Unit {0} };
+
+    ghost replaces = { λ m f. moves f.amount };
+
+    fn fold_ty(&mut self, cx: &mut I, ty: &Ty<I>, depth: u128) -> Result<Fold<Ty<I>>, OutOfMemory> {
+        match cx.ty_kind(ty) {
+            TyKind::Bound(index, bound) => match moved(&index, depth, self.amount)? {
+                Some(index) => Ok(Fold::Replace(cx.mk_ty(TyKind::Bound(index, bound))?)),
+                None => Ok(Fold::Descend),
+            },
+            _ => Ok(Fold::Descend),
+        }
+    }
+
+    fn fold_region(
+        &mut self,
+        cx: &mut I,
+        region: &Region<I>,
+        depth: u128,
+    ) -> Result<Fold<Region<I>>, OutOfMemory> {
+        match cx.region_kind(region) {
+            RegionKind::ReBound(index, bound) => match moved(&index, depth, self.amount)? {
+                Some(index) => Ok(Fold::Replace(cx.mk_region(RegionKind::ReBound(index, bound))?)),
+                None => Ok(Fold::Descend),
+            },
+            _ => Ok(Fold::Descend),
+        }
+    }
+
+    fn fold_const(
+        &mut self,
+        cx: &mut I,
+        constant: &Const<I>,
+        depth: u128,
+    ) -> Result<Fold<Const<I>>, OutOfMemory> {
+        match cx.const_kind(constant) {
+            ConstKind::Bound(index, bound) => match moved(&index, depth, self.amount)? {
+                Some(index) => Ok(Fold::Replace(cx.mk_const(ConstKind::Bound(index, bound))?)),
+                None => Ok(Fold::Descend),
+            },
+            _ => Ok(Fold::Descend),
+        }
+    }
+
+    ghost ready_on = { λ m n e f h. tt };
+
+    ghost replaces_on = { λ m n e f h d t. refl };
+}

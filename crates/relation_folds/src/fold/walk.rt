@@ -1,0 +1,259 @@
+//! The walk of a folder through a term: one loop over the parts of all forms, so that no folder folds by itself.
+//!
+//! What was made of a part is kept for the length of a call, so the walk takes as many steps as there are different
+//! parts.
+//!
+//! The part of a binder stands one binder deeper, and all others as deep as the term that they are parts of.
+ghost use Rattle.std.specs.Prelude.{◌≡◌, IsTrue, IfOk, option_map};
+ghost use Rattle.relation_terms.specs.Trees.{known};
+ghost use Rattle.relation_terms.specs.Parts.{part_tree, parts_tree, part_sort, Alike};
+ghost use Rattle.relation_folds.specs.Folds.{Steps, folded, folded_parts, KnownAnswer, Folds, members_tree, FitMembers};
+ghost use Rattle.relation_folds.specs.Folds.{inside_part};
+ghost use Rattle.relation_folds.specs.Folds.{Remembers};
+
+use crate::fold::memory::{Memory, Place, keep, nothing, recall};
+use crate::fold::{Fold, TypeFolder};
+use relation_terms::terms::parts::{
+    is_same, make_parts, member, member_count, parts_of, with_parts,
+};
+use relation_terms::terms::{Interner, OutOfMemory, Part, PartOf, PartsOf};
+
+// What the folder puts for a part. It is asked about regions, types and constants, and puts nothing for all else.
+fn put_for<I: Interner, F: TypeFolder<I>>(
+    cx: &mut I,
+    part: &PartOf<I>,
+    depth: u128,
+    folder: &mut F,
+) -> Result<Fold<PartOf<I>>, OutOfMemory>
+    requires known { IsTrue (known (part_tree (I.meaning cx.old) part.now)) }
+    requires ready { F.ready (I.meaning cx.old) folder.old }
+    ensures steps { Steps F.ready F.replaces (I.meaning cx.old) folder.old (I.meaning cx.new) folder.new }
+    ensures sure { IfOk result (λ a. KnownAnswer (part_tree (I.meaning cx.new)) a) }
+    ensures made { IfOk result (λ a. Folds (F.replaces (I.meaning cx.old) folder.old) depth
+        (part_tree (I.meaning cx.old) part.now) (part_tree (I.meaning cx.new)) (part_sort part.now) a) }
+{
+    match part {
+        Part::Region(region) => match folder.fold_region(cx, region, depth)? {
+            Fold::Replace(by) => Ok(Fold::Replace(Part::Region(by))),
+            Fold::Descend => Ok(Fold::Descend),
+        },
+        Part::Ty(ty) => match folder.fold_ty(cx, ty, depth)? {
+            Fold::Replace(by) => Ok(Fold::Replace(Part::Ty(by))),
+            Fold::Descend => Ok(Fold::Descend),
+        },
+        Part::Const(constant) => match folder.fold_const(cx, constant, depth)? {
+            Fold::Replace(by) => Ok(Fold::Replace(Part::Const(by))),
+            Fold::Descend => Ok(Fold::Descend),
+        },
+        Part::ValTree(_) | Part::Pat(_) | Part::ValueType(_) => Ok(Fold::Descend),
+        Part::Binder(..) | Part::Signature(_) | Part::Inputs(_) => Ok(Fold::Descend),
+        Part::Existential(_) | Part::Object(_) => Ok(Fold::Descend),
+    }
+}
+
+/// How many binders stand around the parts of a part under `depth` binders, if there is a number for it.
+pub fn depth_inside<X: Copy, D: Copy>(part: &Part<X, D>, depth: u128) -> Result<u128, OutOfMemory>
+    ensures { IfOk result (λ d. d ≡ inside_part part.now depth) }
+{
+    match part {
+        Part::Binder(..) => depth.checked_add(1).ok_or(OutOfMemory),
+        _ => Ok(depth),
+    }
+}
+
+// What the folder makes of a part that stands under `depth` binders: what it made before, where it has met it there.
+#[cycle(walk)]
+fn fold_met<I: Interner, F: TypeFolder<I>>(
+    cx: &mut I,
+    part: &PartOf<I>,
+    depth: u128,
+    folder: &mut F,
+    memory: &mut Memory<I::Key, I::Id>,
+) -> Result<PartOf<I>, OutOfMemory>
+    requires known { IsTrue (known (part_tree (I.meaning cx.old) part.now)) }
+    requires ready { F.ready (I.meaning cx.old) folder.old }
+    requires remembers { Remembers (I.meaning cx.old) (F.replaces (I.meaning cx.old) folder.old)
+        ⟦<Place<I::Key> as PartialEq>⟧.eq memory.old }
+    ensures steps { Steps F.ready F.replaces (I.meaning cx.old) folder.old (I.meaning cx.new) folder.new }
+    ensures remembers { Remembers (I.meaning cx.new) (F.replaces (I.meaning cx.new) folder.new)
+        ⟦<Place<I::Key> as PartialEq>⟧.eq memory.new }
+    ensures sure { IfOk result (λ k. IsTrue (known (part_tree (I.meaning cx.new) k))) }
+    ensures made { IfOk result (λ k. part_tree (I.meaning cx.new) k ≡
+        folded (F.replaces (I.meaning cx.old) folder.old) depth (part_tree (I.meaning cx.old) part.now)) }
+    ensures sort { IfOk result (λ k. part_sort k ≡ part_sort part.now) }
+{
+    if let Some(made) = recall(cx, folder, memory, part, depth) {
+        return Ok(made);
+    }
+    let made = fold_new(cx, part, depth, folder, memory)?;
+    keep(cx, folder, memory, part, depth, made)?;
+    Ok(made)
+}
+
+// The same of a part that it meets for the first time: what it puts for it, or else the part with its own parts folded.
+#[cycle(walk)]
+fn fold_new<I: Interner, F: TypeFolder<I>>(
+    cx: &mut I,
+    part: &PartOf<I>,
+    depth: u128,
+    folder: &mut F,
+    memory: &mut Memory<I::Key, I::Id>,
+) -> Result<PartOf<I>, OutOfMemory>
+    requires known { IsTrue (known (part_tree (I.meaning cx.old) part.now)) }
+    requires ready { F.ready (I.meaning cx.old) folder.old }
+    requires remembers { Remembers (I.meaning cx.old) (F.replaces (I.meaning cx.old) folder.old)
+        ⟦<Place<I::Key> as PartialEq>⟧.eq memory.old }
+    ensures steps { Steps F.ready F.replaces (I.meaning cx.old) folder.old (I.meaning cx.new) folder.new }
+    ensures remembers { Remembers (I.meaning cx.new) (F.replaces (I.meaning cx.new) folder.new)
+        ⟦<Place<I::Key> as PartialEq>⟧.eq memory.new }
+    ensures sure { IfOk result (λ k. IsTrue (known (part_tree (I.meaning cx.new) k))) }
+    ensures made { IfOk result (λ k. part_tree (I.meaning cx.new) k ≡
+        folded (F.replaces (I.meaning cx.old) folder.old) depth (part_tree (I.meaning cx.old) part.now)) }
+    ensures sort { IfOk result (λ k. part_sort k ≡ part_sort part.now) }
+{
+    match put_for(cx, part, depth, folder)? {
+        Fold::Replace(by) => Ok(by),
+        Fold::Descend => fold_inside(cx, part, depth, folder, memory),
+    }
+}
+
+// The part with its own parts folded, whatever the folder puts for it. Where they are what they were, so is the part.
+#[cycle(walk)]
+fn fold_inside<I: Interner, F: TypeFolder<I>>(
+    cx: &mut I,
+    part: &PartOf<I>,
+    depth: u128,
+    folder: &mut F,
+    memory: &mut Memory<I::Key, I::Id>,
+) -> Result<PartOf<I>, OutOfMemory>
+    requires known { IsTrue (known (part_tree (I.meaning cx.old) part.now)) }
+    requires ready { F.ready (I.meaning cx.old) folder.old }
+    requires remembers { Remembers (I.meaning cx.old) (F.replaces (I.meaning cx.old) folder.old)
+        ⟦<Place<I::Key> as PartialEq>⟧.eq memory.old }
+    ensures steps { Steps F.ready F.replaces (I.meaning cx.old) folder.old (I.meaning cx.new) folder.new }
+    ensures remembers { Remembers (I.meaning cx.new) (F.replaces (I.meaning cx.new) folder.new)
+        ⟦<Place<I::Key> as PartialEq>⟧.eq memory.new }
+    ensures sure { IfOk result (λ k. IsTrue (known (part_tree (I.meaning cx.new) k))) }
+    ensures made { IfOk result (λ k. part_tree (I.meaning cx.new) k ≡
+        folded_parts (F.replaces (I.meaning cx.old) folder.old) depth (part_tree (I.meaning cx.old) part.now)) }
+    ensures sort { IfOk result (λ k. part_sort k ≡ part_sort part.now) }
+{
+    let inside = depth_inside(part, depth)?;
+    match fold_members(cx, &parts_of(cx, part), inside, folder, memory)? {
+        Some(made) => with_parts(cx, part, &made),
+        None => Ok(*part),
+    }
+}
+
+// The members of a list, each folded, or none where all are what they were.
+#[cycle(walk)]
+fn fold_members<I: Interner, F: TypeFolder<I>>(
+    cx: &mut I,
+    parts: &PartsOf<I>,
+    depth: u128,
+    folder: &mut F,
+    memory: &mut Memory<I::Key, I::Id>,
+) -> Result<Option<Vec<PartOf<I>>>, OutOfMemory>
+    requires known { IsTrue (known (parts_tree (I.meaning cx.old) parts.now)) }
+    requires ready { F.ready (I.meaning cx.old) folder.old }
+    requires remembers { Remembers (I.meaning cx.old) (F.replaces (I.meaning cx.old) folder.old)
+        ⟦<Place<I::Key> as PartialEq>⟧.eq memory.old }
+    ensures steps { Steps F.ready F.replaces (I.meaning cx.old) folder.old (I.meaning cx.new) folder.new }
+    ensures remembers { Remembers (I.meaning cx.new) (F.replaces (I.meaning cx.new) folder.new)
+        ⟦<Place<I::Key> as PartialEq>⟧.eq memory.new }
+    ensures sure { IfOk result (λ r. IsTrue (known (members_tree (part_tree (I.meaning cx.new))
+        (parts_tree (I.meaning cx.old) parts.now) (option_map (λ list. list.items) r)))) }
+    ensures made { IfOk result (λ r. members_tree (part_tree (I.meaning cx.new))
+        (parts_tree (I.meaning cx.old) parts.now) (option_map (λ list. list.items) r) ≡
+        folded (F.replaces (I.meaning cx.old) folder.old) depth (parts_tree (I.meaning cx.old) parts.now)) }
+    ensures fits { IfOk result (λ r.
+        FitMembers (parts_tree (I.meaning cx.old) parts.now) (option_map (λ list. list.items) r)) }
+{
+    let mut made = Vec::new(cx.alloc());
+    let mut same = true;
+    for i in 0..member_count(cx, parts) {
+        let old = member(cx, parts, i);
+        let new = fold_met(cx, &old, depth, folder, memory)?;
+        same &= is_same(cx, &new, &old);
+        made.push(new)?;
+    }
+    if same { Ok(None) } else { Ok(Some(made)) }
+}
+
+// What the folder makes of a part that stands under `depth` binders.
+pub fn fold_part<I: Interner, F: TypeFolder<I>>(
+    cx: &mut I,
+    part: &PartOf<I>,
+    depth: u128,
+    folder: &mut F,
+) -> Result<PartOf<I>, OutOfMemory>
+    requires known { IsTrue (known (part_tree (I.meaning cx.old) part.now)) }
+    requires ready { F.ready (I.meaning cx.old) folder.old }
+    ensures steps { Steps F.ready F.replaces (I.meaning cx.old) folder.old (I.meaning cx.new) folder.new }
+    ensures sure { IfOk result (λ k. IsTrue (known (part_tree (I.meaning cx.new) k))) }
+    ensures made { IfOk result (λ k. part_tree (I.meaning cx.new) k ≡
+        folded (F.replaces (I.meaning cx.old) folder.old) depth (part_tree (I.meaning cx.old) part.now)) }
+    ensures sort { IfOk result (λ k. part_sort k ≡ part_sort part.now) }
+{
+    fold_new(cx, part, depth, folder, &mut nothing(cx))
+}
+
+// The part with its own parts folded, whatever the folder puts for it.
+pub fn fold_parts<I: Interner, F: TypeFolder<I>>(
+    cx: &mut I,
+    part: &PartOf<I>,
+    depth: u128,
+    folder: &mut F,
+) -> Result<PartOf<I>, OutOfMemory>
+    requires known { IsTrue (known (part_tree (I.meaning cx.old) part.now)) }
+    requires ready { F.ready (I.meaning cx.old) folder.old }
+    ensures steps { Steps F.ready F.replaces (I.meaning cx.old) folder.old (I.meaning cx.new) folder.new }
+    ensures sure { IfOk result (λ k. IsTrue (known (part_tree (I.meaning cx.new) k))) }
+    ensures made { IfOk result (λ k. part_tree (I.meaning cx.new) k ≡
+        folded_parts (F.replaces (I.meaning cx.old) folder.old) depth (part_tree (I.meaning cx.old) part.now)) }
+    ensures sort { IfOk result (λ k. part_sort k ≡ part_sort part.now) }
+{
+    fold_inside(cx, part, depth, folder, &mut nothing(cx))
+}
+
+// The members of a list, each folded, or none where all are what they were.
+fn fold_all<I: Interner, F: TypeFolder<I>>(
+    cx: &mut I,
+    parts: &PartsOf<I>,
+    depth: u128,
+    folder: &mut F,
+) -> Result<Option<Vec<PartOf<I>>>, OutOfMemory>
+    requires known { IsTrue (known (parts_tree (I.meaning cx.old) parts.now)) }
+    requires ready { F.ready (I.meaning cx.old) folder.old }
+    ensures steps { Steps F.ready F.replaces (I.meaning cx.old) folder.old (I.meaning cx.new) folder.new }
+    ensures sure { IfOk result (λ r. IsTrue (known (members_tree (part_tree (I.meaning cx.new))
+        (parts_tree (I.meaning cx.old) parts.now) (option_map (λ list. list.items) r)))) }
+    ensures made { IfOk result (λ r. members_tree (part_tree (I.meaning cx.new))
+        (parts_tree (I.meaning cx.old) parts.now) (option_map (λ list. list.items) r) ≡
+        folded (F.replaces (I.meaning cx.old) folder.old) depth (parts_tree (I.meaning cx.old) parts.now)) }
+    ensures fits { IfOk result (λ r.
+        FitMembers (parts_tree (I.meaning cx.old) parts.now) (option_map (λ list. list.items) r)) }
+{
+    fold_members(cx, parts, depth, folder, &mut nothing(cx))
+}
+
+// The list with each member folded. Where they are what they were, so is the list.
+pub fn fold_list<I: Interner, F: TypeFolder<I>>(
+    cx: &mut I,
+    parts: &PartsOf<I>,
+    depth: u128,
+    folder: &mut F,
+) -> Result<PartsOf<I>, OutOfMemory>
+    requires known { IsTrue (known (parts_tree (I.meaning cx.old) parts.now)) }
+    requires ready { F.ready (I.meaning cx.old) folder.old }
+    ensures steps { Steps F.ready F.replaces (I.meaning cx.old) folder.old (I.meaning cx.new) folder.new }
+    ensures sure { IfOk result (λ ps. IsTrue (known (parts_tree (I.meaning cx.new) ps))) }
+    ensures made { IfOk result (λ ps. parts_tree (I.meaning cx.new) ps ≡
+        folded (F.replaces (I.meaning cx.old) folder.old) depth (parts_tree (I.meaning cx.old) parts.now)) }
+    ensures alike { IfOk result (λ ps. Alike parts.now ps) }
+{
+    match fold_all(cx, parts, depth, folder)? {
+        Some(made) => make_parts(cx, parts, &made),
+        None => Ok(*parts),
+    }
+}

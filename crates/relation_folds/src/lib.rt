@@ -1,0 +1,7 @@
+//! Visits and folds of terms, the trees that these go through, and the errors of relating.
+#![tactic(auto)]
+
+pub mod error;
+pub mod fold;
+pub mod tree;
+pub mod visit;

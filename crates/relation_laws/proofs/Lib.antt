@@ -1,0 +1,5 @@
+pub mod SmallTerms
+pub mod Assigning
+pub mod RegionTerms
+pub mod Deciding
+pub mod Rejected

@@ -1,0 +1,468 @@
+-- Terms with binders of regions alone, where all regions outlive each other.
+use Rattle.std.proofs.Common.{◌≡◌, ◌⊎◌, ℕ, zero, suc, refl, sym, ap, ap₂, ◌∙◌, inl, inr, subst, subst₂, List, [], ◌∷◌, map, Option, Some, None, nat_eq, cond, Bool, true, false, ◌+◌, ◌<◌, ◌≤◌, arith}
+use Rattle.relation_terms.specs.declared.terms.enums.Variance.{Variance}
+use Rattle.relation_terms.specs.declared.terms.enums.Variance.TheVariants.{Covariant, Contravariant, Invariant, Bivariant}
+use Rattle.relation_terms.specs.Heads.{Sort, Kind, region_kind, kind_sort, BoundKind, bound_kind, bound_sort, region_var, region_sort, Part, term_of, binder_of, Shape, one, row, head_parts, leaf_sort, Leaf, Atom, atom_sort, type_param, const_param, static_region, early_region, atom, variable, bound, placeholder, unknown, Head, slice, value_type, alias, alias_term, unevaluated, host_effect, subtype, region_outlives, type_outlives, projection, const_has_type, well_formed, const_evaluatable, coerce, normalizes_to, alias_relate, environment}
+use Rattle.relation_terms.specs.Trees.{Tree, leaf, node, bind, nil, cons, Leaves, inst, put, tree_at, size, IsList, IsTerm, Fits}
+use Rattle.relation_terms.specs.Erasure.{erase, erase_leaf, erase_atom, erase_kinded, kept_parts}
+use Rattle.relation_contexts.specs.Relation.{Items, Interpretation, parts, second_opened, first_opened, Rel, at, same, anything, error_left, error_right, regions, alias_types, equal_consts, atoms, forms, no_parts, next_part, covariant_binders, contravariant_binders, invariant_binders, open_second, open_first, part_at, plain, plain_atom, sort_of, IsError, IsAlias, IsAliasHead, IsRelatedHead, AliasRule, IsValueLeaf, FitKinds, Fresh, RegionRule, all_outlive}
+use Rattle.relation_contexts.specs.FirstOrder.{IsFirstOrderAtom}
+use Rattle.relation_contexts.specs.Stores.{IsNamable}
+use Rattle.relation_laws.specs.RegionTerms.{IsRegionTermHead, IsRegionTermLeaf, BindsRegions, IsRegionTerm, Agree, RelatedTermsAgree, RelatedIffAgree}
+use Rattle.relation_laws.specs.Decided.{plain_leaf}
+use Rattle.relation_contexts.proofs.Erased.{erase_region, erase_plain, no_error_atom}
+use Rattle.relation_contexts.proofs.Related.{no_region_head}
+use Rattle.relation_laws.proofs.SmallTerms.{term_region}
+use Rattle.relation_contexts.proofs.Values.{fresh_later, some_placeholders, some_are_placeholders}
+
+-- Such a form has a relation.
+related_head : (h : Head) → IsRegionTermHead h → IsRelatedHead h
+related_head (host_effect x) f = absurd f
+related_head (subtype x) f = absurd f
+related_head region_outlives f = absurd f
+related_head type_outlives f = absurd f
+related_head projection f = absurd f
+related_head const_has_type f = absurd f
+related_head well_formed f = absurd f
+related_head const_evaluatable f = absurd f
+related_head coerce f = absurd f
+related_head normalizes_to f = absurd f
+related_head (alias_relate d) f = absurd f
+related_head environment f = absurd f
+related_head h f = tt
+
+-- A term, and no list.
+abbrev IsNode : Tree → Type 0
+IsNode nil = ⊥
+IsNode (cons t ts) = ⊥
+IsNode t = Unit {0}
+
+-- The type of a value is one.
+abbrev HasOneType : Head → Tree → Type 0
+HasOneType value_type (cons t nil) = Unit {0}
+HasOneType value_type ts = ⊥
+HasOneType h ts = Unit {0}
+
+-- The parts of a form are a list of terms, and a binder's body is a term.
+abbrev IsShaped : Tree → Type 0
+IsShaped (leaf l) = Unit {0}
+IsShaped (node h ts) = IsList ts × HasOneType h ts × IsShaped ts
+IsShaped (bind ks t) = IsNode t × IsShaped t
+IsShaped nil = Unit {0}
+IsShaped (cons t ts) = IsNode t × IsShaped t × IsShaped ts
+
+fits_one_type : (h : Head) (ts : Tree) → Fits (head_parts h) ts → HasOneType h ts
+fits_one_type value_type (cons t nil) f = tt
+fits_one_type value_type (cons t (leaf l)) f = f.1
+fits_one_type value_type (cons t (node h ts)) f = f.1
+fits_one_type value_type (cons t (bind ks u)) f = f.1
+fits_one_type value_type (cons t (cons u us)) f = f.1
+fits_one_type value_type ts f = f
+fits_one_type h ts f = tt
+
+head_row : (h : Head) → (ps : List Part) × (o : Option Part) × (head_parts h ≡ row ps o)
+head_row slice = (_, _, refl)
+head_row h = (_, _, refl)
+
+-- What a tree of a shape is.
+abbrev Shaped : Shape → Tree → Type 0
+Shaped (one p) t = IsNode t × IsShaped t
+Shaped (row ps o) t = IsList t × IsShaped t
+
+shaped : (x : Shape) (t : Tree) → Fits x t → Shaped x t
+shaped (one (term_of s)) (leaf l) f = (tt, tt)
+shaped (one (term_of s)) (node h ts) f = let q = head_row h in let z = subst (λ x. Shaped x ts) q.2 (shaped (head_parts h) ts f.1) in (tt, (z.0, fits_one_type h ts f.1, z.1))
+shaped (one (binder_of s)) (bind ks t) f = (tt, shaped (one (term_of s)) t f)
+shaped (row [] o) nil f = (tt, tt)
+shaped (row [] (Some p)) (cons t ts) f = let a = shaped (one p) t f.0 in let b = shaped (row [] (Some p)) ts f.1 in (b.0, (a.0, a.1, b.1))
+shaped (row (p ∷ ps) o) (cons t ts) f = let a = shaped (one p) t f.0 in let b = shaped (row ps o) ts f.1 in (b.0, (a.0, a.1, b.1))
+shaped x t f = absurd f
+
+-- A variable-free region is such a term.
+region_atom : (x : Atom) → atom_sort x ≡ region_sort → IsFirstOrderAtom x
+region_atom static_region p = tt
+region_atom (early_region i n) p = tt
+region_atom x p = absurd cc
+
+region_term : (t : Tree) → sort_of t ≡ region_sort → Leaves IsValueLeaf t → IsRegionTerm t
+region_term (leaf (atom x)) p g = region_atom x p
+region_term (leaf (bound k d i)) p g = p
+region_term (leaf (placeholder k u n)) p g = tt
+region_term (leaf (variable k n)) p g = absurd g
+region_term (node h ts) p g = absurd (no_region_head h p)
+region_term t p g = absurd cc
+
+-- Regions for the variables of a binder.
+abbrev AreRegions : List Tree → Type 0
+AreRegions [] = Unit {0}
+AreRegions (t ∷ ts) = (sort_of t ≡ region_sort) × IsRegionTerm t × AreRegions ts
+
+values_are_regions : (ks : List BoundKind) (ts : List Tree) → BindsRegions ks → FitKinds ks ts → AreRegions ts
+values_are_regions [] [] b f = tt
+values_are_regions [] (t ∷ ts) b f = absurd f
+values_are_regions (k ∷ ks) [] b f = absurd f
+values_are_regions (k ∷ ks) (t ∷ ts) b f = let r = term_region t (subst (λ z. IsTerm z t) b.0 f.0.0) in (r, region_term t r f.0.1, values_are_regions ks ts b.1 f.1)
+
+placeholders_are_regions : (ks : List BoundKind) (ps : List Tree) (a b : Tree) → BindsRegions ks → Fresh ks ps a b → AreRegions ps
+placeholders_are_regions [] [] a b h f = tt
+placeholders_are_regions [] (t ∷ ts) a b h f = absurd f
+placeholders_are_regions (k ∷ ks) [] a b h f = absurd f
+placeholders_are_regions (k ∷ ks) (t ∷ ts) a b h f = (ap sort_of f.0.2 ∙ h.0, subst IsRegionTerm (sym f.0.2) tt, placeholders_are_regions ks ts a b h.1 f.4)
+
+-- A region is put for a bound region.
+at_is_region : (ts : List Tree) (i : ℕ) (d : Tree) → AreRegions ts → sort_of d ≡ region_sort → IsRegionTerm d → (sort_of (tree_at ts i d) ≡ region_sort) × IsRegionTerm (tree_at ts i d)
+at_is_region [] i d h p q = (p, q)
+at_is_region (t ∷ ts) zero d h p q = (h.0, h.1)
+at_is_region (t ∷ ts) (suc i) d h p q = at_is_region ts i d h.2 p q
+
+cond_region : (b : Bool) (t u : Tree) → (sort_of t ≡ region_sort) × IsRegionTerm t → (sort_of u ≡ region_sort) × IsRegionTerm u → (sort_of (cond b t u) ≡ region_sort) × IsRegionTerm (cond b t u)
+cond_region true t u p q = p
+cond_region false t u p q = q
+
+put_region : (ts : List Tree) (d : ℕ) (k : BoundKind) (e i : ℕ) → AreRegions ts → bound_sort k ≡ region_sort → (sort_of (put ts d (bound k e i)) ≡ region_sort) × IsRegionTerm (put ts d (bound k e i))
+put_region ts d k e i h p = cond_region (nat_eq e d) _ _ (at_is_region ts i (leaf (bound k e i)) h p p) (p, p)
+
+inst_region : (ts : List Tree) (d : ℕ) (t : Tree) → AreRegions ts → IsRegionTerm t → IsRegionTerm (inst ts d t)
+inst_region ts d (leaf (variable k n)) h r = r
+inst_region ts d (leaf (bound k e i)) h r = (put_region ts d k e i h r).1
+inst_region ts d (leaf (placeholder k u n)) h r = r
+inst_region ts d (leaf (atom x)) h r = r
+inst_region ts d (leaf unknown) h r = absurd r
+inst_region ts d (node a t) h r = (r.0, inst_region ts d t h r.1)
+inst_region ts d (bind ks t) h r = (r.0, inst_region ts (suc d) t h r.1)
+inst_region ts d nil h r = tt
+inst_region ts d (cons t u) h r = (inst_region ts d t h r.0, inst_region ts d u h r.1)
+
+pub erase-inst : (ts : List Tree) (d : ℕ) (t : Tree) → AreRegions ts → IsRegionTerm t → erase (inst ts d t) ≡ erase t
+erase-inst ts d (leaf (variable k n)) h r = absurd r
+erase-inst ts d (leaf (bound k e i)) h r = erase_region _ (put_region ts d k e i h r).0 ∙ sym (erase_region (leaf (bound k e i)) r)
+erase-inst ts d (leaf (placeholder k u n)) h r = refl
+erase-inst ts d (leaf (atom x)) h r = refl
+erase-inst ts d (leaf unknown) h r = absurd r
+erase-inst ts d (node a t) h r = ap (λ z. node a (kept_parts a z)) (erase-inst ts d t h r.1)
+erase-inst ts d (bind ks t) h r = ap (bind []) (erase-inst ts (suc d) t h r.1)
+erase-inst ts d nil h r = refl
+erase-inst ts d (cons t u) h r = ap₂ cons (erase-inst ts d t h r.0) (erase-inst ts d u h r.1)
+
+no_error : (a : Tree) → IsError a → IsRegionTerm a → ⊥
+no_error (leaf (atom x)) h f = no_error_atom x h f
+no_error a h f = h
+
+no_alias_head : (h : Head) → IsAliasHead h → IsRegionTermHead h → ⊥
+no_alias_head (alias k d) a f = f
+no_alias_head (unevaluated d) a f = f
+no_alias_head h a f = a
+
+no_alias : {A : Type 0} (a b : Tree) → IsRegionTerm a → IsRegionTerm b → IsAlias a ⊎ IsAlias b → A
+no_alias (node h ts) b f g (inl i) = absurd (no_alias_head h i f.0)
+no_alias a (node k us) f g (inr i) = absurd (no_alias_head k i g.0)
+no_alias a b f g (inl i) = absurd i
+no_alias a b f g (inr i) = absurd i
+
+term_plain : (h : Head) → IsRegionTermHead h → plain h ≡ h
+term_plain (alias k d) f = absurd f
+term_plain (alias_term k d) f = absurd f
+term_plain h f = refl
+
+agree_anything : (c : Items) (v : Variance) (a b : Tree) → v ≡ Bivariant → Agree c (at v) a b
+agree_anything c v (node h xs) (node k ys) p = inl p
+agree_anything c v (bind ks a) (bind ls b) p = inl p
+agree_anything c v a b p = inl p
+
+mutual
+  agree_itself : (c : Items) (v : Variance) (a : Tree) → Agree c (at v) a a
+  agree_itself c v (node h xs) = inr (refl, parts_themselves c h 0 v xs)
+  agree_itself c v (bind ks a) = inr (agree_itself c v a)
+  agree_itself c v a = inr refl
+
+  parts_themselves : (c : Items) (h : Head) (i : ℕ) (v : Variance) (xs : Tree) → Agree c (parts h i v) xs xs
+  parts_themselves c h i v (cons x xs) = (agree_itself c (part_at c h i v) x, parts_themselves c h (suc i) v xs)
+  parts_themselves c h i v xs = refl
+
+agree_same : (c : Items) (v : Variance) (a b : Tree) → a ≡ b → Agree c (at v) a b
+agree_same c v a b p = subst (λ z. Agree c (at v) a z) p (agree_itself c v a)
+
+kept_agree : (c : Items) (h : Head) (v : Variance) (xs ys : Tree) → Agree c (parts h 0 v) xs ys → Agree c (parts h 0 v) (kept_parts h xs) (kept_parts h ys)
+kept_agree c value_type v xs ys r = refl
+kept_agree c h v xs ys r = r
+
+forms_agree : (c : Items) (h k : Head) (v : Variance) (xs ys : Tree) → plain h ≡ plain k → h ≡ k → Agree c (parts h 0 v) xs ys → Agree c (at v) (node h (kept_parts h xs)) (node k (kept_parts k ys))
+forms_agree c h k v xs ys p q r = inr (p, subst (λ z. Agree c (parts h 0 v) (kept_parts h xs) (kept_parts z ys)) q (kept_agree c h v xs ys r))
+
+rule_alias : (w : Interpretation) (e : Tree) (v : Variance) (a b : Tree) → AliasRule w e v a b → (v ≡ Bivariant) ⊎ (IsAlias a ⊎ IsAlias b)
+rule_alias w e Covariant a b r = inr r.1
+rule_alias w e Contravariant a b (r, inl i) = inr (inr i)
+rule_alias w e Contravariant a b (r, inr i) = inr (inl i)
+rule_alias w e Invariant a b r = inr r.1
+rule_alias w e Bivariant a b r = inl refl
+
+aliases_agree : (c : Items) (v : Variance) (a b : Tree) → IsRegionTerm a → IsRegionTerm b → (v ≡ Bivariant) ⊎ (IsAlias a ⊎ IsAlias b) → Agree c (at v) (erase a) (erase b)
+aliases_agree c v a b f g (inl p) = agree_anything c v _ _ p
+aliases_agree c v a b f g (inr i) = no_alias a b f g i
+
+mutual
+  agree : {c : Items} {w : Interpretation} {e : Tree} {v : Variance} {a b : Tree} → Rel c w e (at v) a b → IsRegionTerm a → IsRegionTerm b → Agree c (at v) (erase a) (erase b)
+  agree {c = c} {v = v} (same p) f g = agree_same c v _ _ (ap erase p)
+  agree {c = c} {v = v} (anything p) f g = agree_anything c v _ _ p
+  agree {a = a} (error_left h _) f g = absurd (no_error a h f)
+  agree {b = b} (error_right h _) f g = absurd (no_error b h g)
+  agree {c = c} {v = v} {a = a} {b = b} (regions p q _) f g = agree_same c v _ _ (erase_region a p ∙ sym (erase_region b q))
+  agree {c = c} {w = w} {e = e} {v = v} {a = a} {b = b} (alias_types _ _ r) f g = aliases_agree c v a b f g (rule_alias w e v a b r)
+  agree {a = a} {b = b} (equal_consts _ _ r) f g = no_alias a b f g r.1
+  agree (atoms {x = x} {y = y} p) f g = inr (ap (λ z. leaf (atom z)) (sym (erase_plain x) ∙ ap erase_atom p ∙ erase_plain y))
+  agree {c = c} {v = v} (forms {h = h} {k = k} {xs = xs} {ys = ys} i p r) f g = forms_agree c h k v (erase xs) (erase ys) p (sym (term_plain h f.0) ∙ p ∙ term_plain k g.0) (agree_parts r f.1 g.1)
+  agree (covariant_binders _ r) f g = inr (agree_second r f.0 g.0 f.1 g.1)
+  agree (contravariant_binders _ r) f g = inr (agree_first r f.0 g.0 f.1 g.1)
+  agree (invariant_binders _ r _) f g = inr (agree_second r f.0 g.0 f.1 g.1)
+
+  agree_parts : {c : Items} {w : Interpretation} {e : Tree} {h : Head} {i : ℕ} {v : Variance} {xs ys : Tree} → Rel c w e (parts h i v) xs ys → IsRegionTerm xs → IsRegionTerm ys → Agree c (parts h i v) (erase xs) (erase ys)
+  agree_parts no_parts f g = refl
+  agree_parts (next_part r rs) f g = (agree r f.0 g.0, agree_parts rs f.1 g.1)
+
+  agree_second : {c : Items} {w : Interpretation} {e : Tree} {ks ls : List BoundKind} {v : Variance} {a b : Tree} → Rel c w e (second_opened ks ls v) a b → BindsRegions ks → BindsRegions ls → IsRegionTerm a → IsRegionTerm b → Agree c (at v) (erase a) (erase b)
+  agree_second {c = c} {ks = ks} {ls = ls} {v = v} {a = a} {b = b} (open_second ts ps fit fresh r) h k f g =
+      subst₂ (Agree c (at v)) (erase-inst ts 0 a (values_are_regions ks ts h fit) f) (erase-inst ps 0 b (placeholders_are_regions ls ps a b k fresh) g)
+      (agree r (inst_region ts 0 a (values_are_regions ks ts h fit) f) (inst_region ps 0 b (placeholders_are_regions ls ps a b k fresh) g))
+
+  agree_first : {c : Items} {w : Interpretation} {e : Tree} {ks ls : List BoundKind} {v : Variance} {a b : Tree} → Rel c w e (first_opened ks ls v) a b → BindsRegions ks → BindsRegions ls → IsRegionTerm a → IsRegionTerm b → Agree c (at v) (erase a) (erase b)
+  agree_first {c = c} {ks = ks} {ls = ls} {v = v} {a = a} {b = b} (open_first ps ts fresh fit r) h k f g =
+      subst₂ (Agree c (at v)) (erase-inst ps 0 a (placeholders_are_regions ks ps a b h fresh) f) (erase-inst ts 0 b (values_are_regions ls ts k fit) g)
+      (agree r (inst_region ps 0 a (placeholders_are_regions ks ps a b h fresh) f) (inst_region ts 0 b (values_are_regions ls ts k fit) g))
+
+pub related_terms_agree : RelatedTermsAgree
+related_terms_agree c w e v a b f g r = agree r f g
+
+-- The largest universe of a placeholder in a tree.
+top_leaf : Leaf → ℕ
+top_leaf (placeholder k u n) = u
+top_leaf l = 0
+
+top : Tree → ℕ
+top (leaf l) = top_leaf l
+top (node h t) = top t
+top (bind ks t) = top t
+top nil = 0
+top (cons t u) = top t + top u
+
+top_names_leaf : (l : Leaf) (u : ℕ) → IsRegionTermLeaf l → top_leaf l ≤ u → IsNamable u l
+unfolding top_leaf
+top_names_leaf (placeholder k v n) u r h = h
+top_names_leaf unknown u r h = r
+top_names_leaf l u r h = tt
+
+top_names : (t : Tree) (u : ℕ) → IsRegionTerm t → top t ≤ u → Leaves (IsNamable u) t
+unfolding top
+top_names (leaf l) u r h = top_names_leaf l u r h
+top_names (node a t) u r h = top_names t u r.1 h
+top_names (bind ks t) u r h = top_names t u r.1 h
+top_names nil u r h = tt
+top_names (cons t v) u r h = (top_names t u r.0 (omega arith), top_names v u r.1 (omega arith))
+
+region_size : (t : Tree) → sort_of t ≡ region_sort → size t ≡ 1
+region_size (leaf l) p = refl
+region_size (node h ts) p = absurd (no_region_head h p)
+region_size t p = absurd cc
+
+size-inst : (ts : List Tree) (d : ℕ) (t : Tree) → AreRegions ts → IsRegionTerm t → size (inst ts d t) ≡ size t
+size-inst ts d (leaf (variable k n)) h r = refl
+size-inst ts d (leaf (bound k e i)) h r = region_size _ (put_region ts d k e i h r).0
+size-inst ts d (leaf (placeholder k u n)) h r = refl
+size-inst ts d (leaf (atom x)) h r = refl
+size-inst ts d (leaf unknown) h r = absurd r
+size-inst ts d (node a t) h r = ap suc (size-inst ts d t h r.1)
+size-inst ts d (bind ks t) h r = ap (λ n. suc (suc n)) (size-inst ts (suc d) t h r.1)
+size-inst ts d nil h r = refl
+size-inst ts d (cons t u) h r = let p = size-inst ts d t h r.0 in let q = size-inst ts d u h r.1 in omega arith
+
+region_is_term : (t : Tree) → sort_of t ≡ region_sort → IsNode t × IsShaped t
+region_is_term (leaf l) p = (tt, tt)
+region_is_term (node h ts) p = absurd (no_region_head h p)
+region_is_term t p = absurd cc
+
+inst_term : (ts : List Tree) (d : ℕ) (t : Tree) → AreRegions ts → IsRegionTerm t → IsNode t → IsNode (inst ts d t)
+inst_term ts d (leaf (variable k n)) h r i = tt
+inst_term ts d (leaf (bound k e n)) h r i = (region_is_term _ (put_region ts d k e n h r).0).0
+inst_term ts d (leaf (placeholder k u n)) h r i = tt
+inst_term ts d (leaf (atom x)) h r i = tt
+inst_term ts d (leaf unknown) h r i = absurd r
+inst_term ts d (node a t) h r i = tt
+inst_term ts d (bind ks t) h r i = tt
+inst_term ts d nil h r i = i
+inst_term ts d (cons t u) h r i = i
+
+inst_list : (ts : List Tree) (d : ℕ) (t : Tree) → IsList t → IsList (inst ts d t)
+inst_list ts d nil h = tt
+inst_list ts d (cons t u) h = inst_list ts d u h
+inst_list ts d t h = absurd h
+
+inst_one_type : (ts : List Tree) (d : ℕ) (h : Head) (t : Tree) → HasOneType h t → HasOneType h (inst ts d t)
+inst_one_type ts d value_type (cons t nil) p = tt
+inst_one_type ts d value_type t p = absurd p
+inst_one_type ts d h t p = tt
+
+inst_shaped : (ts : List Tree) (d : ℕ) (t : Tree) → AreRegions ts → IsRegionTerm t → IsShaped t → IsShaped (inst ts d t)
+inst_shaped ts d (leaf (variable k n)) h r s = tt
+inst_shaped ts d (leaf (bound k e n)) h r s = (region_is_term _ (put_region ts d k e n h r).0).1
+inst_shaped ts d (leaf (placeholder k u n)) h r s = tt
+inst_shaped ts d (leaf (atom x)) h r s = tt
+inst_shaped ts d (leaf unknown) h r s = absurd r
+inst_shaped ts d (node a t) h r s = (inst_list ts d t s.0, inst_one_type ts d a t s.1, inst_shaped ts d t h r.1 s.2)
+inst_shaped ts d (bind ks t) h r s = (inst_term ts (suc d) t h r.1 s.0, inst_shaped ts (suc d) t h r.1 s.1)
+inst_shaped ts d nil h r s = tt
+inst_shaped ts d (cons t u) h r s = (inst_term ts d t h r.0 s.0, inst_shaped ts d t h r.0 s.1, inst_shaped ts d u h r.1 s.2)
+
+all_rule : (w : Interpretation) (v : Variance) (a b : Tree) → w.outlives ≡ None → RegionRule w v a b
+all_rule w Covariant a b p = all_outlive p
+all_rule w Contravariant a b p = all_outlive p
+all_rule w Invariant a b p = (all_outlive p, all_outlive p)
+all_rule w Bivariant a b p = tt
+
+region_or : (k : Sort) → (k ≡ region_sort) ⊎ (k ≡ region_sort → ⊥)
+region_or region_sort = inl refl
+region_or k = inr (λ p. cc)
+
+kinded_sort : (k : Kind) (l : Leaf) → leaf_sort l ≡ kind_sort k → leaf_sort (erase_kinded k l) ≡ kind_sort k
+kinded_sort region_kind l p = refl
+kinded_sort k l p = p
+
+erase_atom_sort : (x : Atom) → atom_sort (erase_atom x) ≡ atom_sort x
+erase_atom_sort (early_region i n) = refl
+erase_atom_sort (type_param i n) = refl
+erase_atom_sort (const_param i n) = refl
+erase_atom_sort x = refl
+
+erase_sort : (l : Leaf) → leaf_sort (erase_leaf l) ≡ leaf_sort l
+erase_sort (variable region_var n) = refl
+erase_sort (variable k n) = refl
+erase_sort (bound (bound_kind k m) d i) = kinded_sort k _ refl
+erase_sort (placeholder (bound_kind k m) u n) = kinded_sort k _ refl
+erase_sort (atom x) = erase_atom_sort x
+erase_sort unknown = refl
+
+kinded_plain : (k : Kind) (l : Leaf) → (kind_sort k ≡ region_sort → ⊥) → erase_kinded k l ≡ l
+kinded_plain region_kind l n = absurd (n refl)
+kinded_plain k l n = refl
+
+atom_plain : (x : Atom) → (atom_sort x ≡ region_sort → ⊥) → erase_atom x ≡ plain_atom x
+atom_plain (early_region i m) n = absurd (n refl)
+atom_plain (type_param i m) n = refl
+atom_plain (const_param i m) n = refl
+atom_plain x n = refl
+
+leaf_plain : (l : Leaf) → (leaf_sort l ≡ region_sort → ⊥) → erase_leaf l ≡ plain_leaf l
+leaf_plain (variable region_var m) n = absurd (n refl)
+leaf_plain (variable k m) n = refl
+leaf_plain (bound (bound_kind k m) d i) n = kinded_plain k _ n
+leaf_plain (placeholder (bound_kind k m) u i) n = kinded_plain k _ n
+leaf_plain (atom x) n = ap atom (atom_plain x n)
+leaf_plain unknown n = refl
+
+pub plain_related : (c : Items) (w : Interpretation) (e : Tree) (v : Variance) (l m : Leaf) → plain_leaf l ≡ plain_leaf m → Rel c w e (at v) (leaf l) (leaf m)
+plain_related c w e v (atom x) (atom y) p = atoms (atom_path p)
+  where
+    atom_path : {y z : Atom} → atom y ≡ atom z → y ≡ z
+    atom_path e = cc
+plain_related c w e v (atom x) m p = same (absurd cc)
+plain_related c w e v l (atom y) p = same (absurd cc)
+plain_related c w e v l m p = same (ap leaf p)
+
+-- Leaves of one erasure are regions, one leaf, or parameters of one index.
+pub leaves_related : (c : Items) (w : Interpretation) (e : Tree) (v : Variance) (l m : Leaf) → w.outlives ≡ None → erase_leaf l ≡ erase_leaf m → Rel c w e (at v) (leaf l) (leaf m)
+leaves_related c w e v l m all p = go (region_or (leaf_sort l)) (region_or (leaf_sort m))
+  where
+    sorts : leaf_sort l ≡ leaf_sort m
+    sorts = sym (erase_sort l) ∙ ap leaf_sort p ∙ erase_sort m
+
+    go : (leaf_sort l ≡ region_sort) ⊎ (leaf_sort l ≡ region_sort → ⊥) → (leaf_sort m ≡ region_sort) ⊎ (leaf_sort m ≡ region_sort → ⊥) → Rel c w e (at v) (leaf l) (leaf m)
+    go (inl q) r = regions q (sym sorts ∙ q) (all_rule w v (leaf l) (leaf m) all)
+    go (inr n) (inl r) = absurd (n (sorts ∙ r))
+    go (inr n) (inr k) = plain_related c w e v l m (sym (leaf_plain l n) ∙ p ∙ leaf_plain m k)
+
+some_values : List BoundKind → List Tree
+some_values ks = map (λ k. leaf (atom static_region)) ks
+
+some_values_fit : (ks : List BoundKind) → BindsRegions ks → FitKinds ks (some_values ks)
+unfolding some_values
+some_values_fit [] h = tt
+some_values_fit (k ∷ ks) h = ((subst (λ z. IsTerm z (leaf (atom static_region))) (sym h.0) tt, tt, tt), some_values_fit ks h.1)
+
+-- Binders are related where their bodies are, with whatever regions are put for their variables.
+module _ (c : Items) (w : Interpretation) (e : Tree) (v : Variance) (ks ls : List BoundKind) (a b : Tree) (h : BindsRegions ks) (k : BindsRegions ls) (ra : IsRegionTerm a) (rb : IsRegionTerm b)
+    (bodies : (ts us : List Tree) → AreRegions ts → AreRegions us → Rel c w e (at v) (inst ts 0 a) (inst us 0 b)) where
+  abbrev later : ℕ
+  later = top a + top b
+
+  fresh_second : Fresh ls (some_placeholders (suc later) 0 ls) a b
+  fresh_second = fresh_later later (suc later) ls _ a b (omega arith) (some_are_placeholders (suc later) 0 ls) (top_names a later ra (omega arith)) (top_names b later rb (omega arith))
+
+  fresh_first : Fresh ks (some_placeholders (suc later) 0 ks) a b
+  fresh_first = fresh_later later (suc later) ks _ a b (omega arith) (some_are_placeholders (suc later) 0 ks) (top_names a later ra (omega arith)) (top_names b later rb (omega arith))
+
+  second : Rel c w e (second_opened ks ls v) a b
+  second = open_second (some_values ks) (some_placeholders (suc later) 0 ls) (some_values_fit ks h) fresh_second (bodies _ _ (values_are_regions ks _ h (some_values_fit ks h)) (placeholders_are_regions ls _ a b k fresh_second))
+
+  first : Rel c w e (first_opened ks ls v) a b
+  first = open_first (some_placeholders (suc later) 0 ks) (some_values ls) fresh_first (some_values_fit ls k) (bodies _ _ (placeholders_are_regions ks _ a b h fresh_first) (values_are_regions ls _ k (some_values_fit ls k)))
+
+  binders_related : Rel c w e (at v) (bind ks a) (bind ls b)
+  binders_related = go v refl
+    where
+      go : (u : Variance) → v ≡ u → Rel c w e (at v) (bind ks a) (bind ls b)
+      go Covariant p = covariant_binders p second
+      go Contravariant p = contravariant_binders p first
+      go Invariant p = invariant_binders p second first
+      go Bivariant p = anything p
+
+size_pos : (t : Tree) → 0 < size t
+size_pos (leaf l) = omega arith
+size_pos (node h t) = omega arith
+size_pos (bind ks t) = omega arith
+size_pos nil = omega arith
+size_pos (cons t u) = omega arith
+
+mixed : {c : Items} {w : Interpretation} {e : Tree} {v : Variance} {a b : Tree} {X : Type 0} → (v ≡ Bivariant) ⊎ X → (X → ⊥) → Rel c w e (at v) a b
+mixed (inl p) n = anything p
+mixed (inr x) n = absurd (n x)
+
+one_type : (c : Items) (w : Interpretation) (e : Tree) (v : Variance) (xs ys : Tree) → HasOneType value_type xs → HasOneType value_type ys → Rel c w e (parts value_type 0 v) xs ys
+one_type c w e v (cons t nil) (cons u nil) p q = next_part (anything refl) no_parts
+one_type c w e v (cons t nil) ys p q = absurd q
+one_type c w e v xs ys p q = absurd p
+
+parts_back : (c : Items) (w : Interpretation) (e : Tree) (h : Head) (v : Variance) (xs ys : Tree) → HasOneType h xs → HasOneType h ys → (Agree c (parts h 0 v) (erase xs) (erase ys) → Rel c w e (parts h 0 v) xs ys) → Agree c (parts h 0 v) (kept_parts h (erase xs)) (kept_parts h (erase ys)) → Rel c w e (parts h 0 v) xs ys
+parts_back c w e value_type v xs ys p q rec r = one_type c w e v xs ys p q
+parts_back c w e h v xs ys p q rec r = rec r
+
+forms_back : (c : Items) (w : Interpretation) (e : Tree) (h k : Head) (v : Variance) (xs ys : Tree) → k ≡ h → HasOneType h xs → HasOneType k ys → (Agree c (parts h 0 v) (erase xs) (erase ys) → Rel c w e (parts h 0 v) xs ys) → Agree c (parts h 0 v) (kept_parts h (erase xs)) (kept_parts k (erase ys)) → Rel c w e (parts h 0 v) xs ys
+forms_back c w e h k v xs ys q p p' rec r = parts_back c w e h v xs ys p (subst (λ z. HasOneType z ys) q p') rec (subst (λ z. Agree c (parts h 0 v) (kept_parts h (erase xs)) (kept_parts z (erase ys))) q r)
+
+mutual
+  back : (n : ℕ) (c : Items) (w : Interpretation) (e : Tree) (v : Variance) (a b : Tree) → size a ≤ n → w.outlives ≡ None → IsNode a → IsNode b → IsShaped a → IsShaped b → IsRegionTerm a → IsRegionTerm b → Agree c (at v) (erase a) (erase b) → Rel c w e (at v) a b
+  back zero c w e v a b le all ta tb sa sb ra rb g = let p = size_pos a in absurd (omega arith)
+  back (suc n) c w e v (leaf l) (leaf m) le all ta tb sa sb ra rb (inl p) = anything p
+  back (suc n) c w e v (leaf l) (leaf m) le all ta tb sa sb ra rb (inr p) = leaves_related c w e v l m all cc
+  back (suc n) c w e v (node h xs) (node k ys) le all ta tb sa sb ra rb (inl p) = anything p
+  back (suc n) c w e v (node h xs) (node k ys) le all ta tb sa sb ra rb (inr r) = forms (related_head h ra.0) r.0 (forms_back c w e h k v xs ys (sym (term_plain k rb.0) ∙ sym r.0 ∙ term_plain h ra.0) sa.1 sb.1 (λ g. back_parts n c w e h 0 v xs ys (omega arith) all sa.0 sb.0 sa.2 sb.2 ra.1 rb.1 g) r.1)
+  back (suc n) c w e v (bind ks a) (bind ls b) le all ta tb sa sb ra rb (inl p) = anything p
+  back (suc n) c w e v (bind ks a) (bind ls b) le all ta tb sa sb ra rb (inr r) = binders_related c w e v ks ls a b ra.0 rb.0 ra.1 rb.1
+      (λ ts us p q. back n c w e v (inst ts 0 a) (inst us 0 b) (let s = size-inst ts 0 a p ra.1 in omega arith) all (inst_term ts 0 a p ra.1 sa.0) (inst_term us 0 b q rb.1 sb.0) (inst_shaped ts 0 a p ra.1 sa.1) (inst_shaped us 0 b q rb.1 sb.1) (inst_region ts 0 a p ra.1) (inst_region us 0 b q rb.1)
+      (subst₂ (Agree c (at v)) (sym (erase-inst ts 0 a p ra.1)) (sym (erase-inst us 0 b q rb.1)) r))
+  back (suc n) c w e v nil b le all ta tb sa sb ra rb g = absurd ta
+  back (suc n) c w e v (cons a xs) b le all ta tb sa sb ra rb g = absurd ta
+  back (suc n) c w e v a nil le all ta tb sa sb ra rb g = absurd tb
+  back (suc n) c w e v a (cons b ys) le all ta tb sa sb ra rb g = absurd tb
+  back (suc n) c w e v a b le all ta tb sa sb ra rb g = mixed g (λ q. cc)
+
+  back_parts : (n : ℕ) (c : Items) (w : Interpretation) (e : Tree) (h : Head) (i : ℕ) (v : Variance) (xs ys : Tree) → size xs ≤ n → w.outlives ≡ None → IsList xs → IsList ys → IsShaped xs → IsShaped ys → IsRegionTerm xs → IsRegionTerm ys → Agree c (parts h i v) (erase xs) (erase ys) → Rel c w e (parts h i v) xs ys
+  back_parts zero c w e h i v xs ys le all la lb sa sb ra rb g = let p = size_pos xs in absurd (omega arith)
+  back_parts (suc n) c w e h i v nil nil le all la lb sa sb ra rb g = no_parts
+  back_parts (suc n) c w e h i v (cons a xs) (cons b ys) le all la lb sa sb ra rb g = next_part (back n c w e (part_at c h i v) a b (omega arith) all sa.0 sb.0 sa.1 sb.1 ra.0 rb.0 g.0) (back_parts n c w e h (suc i) v xs ys (omega arith) all la lb sa.2 sb.2 ra.1 rb.1 g.1)
+  back_parts (suc n) c w e h i v nil (cons b ys) le all la lb sa sb ra rb g = absurd cc
+  back_parts (suc n) c w e h i v (cons a xs) nil le all la lb sa sb ra rb g = absurd cc
+  back_parts (suc n) c w e h i v nil ys le all la lb sa sb ra rb g = absurd lb
+  back_parts (suc n) c w e h i v (cons a xs) ys le all la lb sa sb ra rb g = absurd lb
+  back_parts (suc n) c w e h i v xs ys le all la lb sa sb ra rb g = absurd la
+
+pub related_iff_agree : RelatedIffAgree
+related_iff_agree c w e v s a b all ta tb ra rb = let x = shaped (one (term_of s)) a ta in let y = shaped (one (term_of s)) b tb in
+    (λ r. agree r ra rb, back (size a) c w e v a b (omega arith) all x.0 y.0 x.1 y.1 ra rb)

@@ -1,0 +1,3 @@
+pub mod RegionTerms
+pub mod RejectionLaws
+pub mod Decided

@@ -1,0 +1,54 @@
+-- Variable-free terms that are first-order but for binders of regions, and what relates them where all regions
+-- outlive each other.
+use Rattle.std.specs.Prelude.{◌≡◌, ◌⊎◌, ◌↔◌, suc, List, [], ◌∷◌, None}
+use Rattle.relation_terms.specs.declared.terms.enums.Variance.{Variance}
+use Rattle.relation_terms.specs.declared.terms.enums.Variance.TheVariants.{Bivariant}
+use Rattle.relation_terms.specs.Heads.{Sort, region_sort, BoundKind, bound_sort, Head, fn_ptr, unsafe_binder, Leaf}
+use Rattle.relation_terms.specs.Heads.{variable, bound, placeholder, atom, unknown}
+use Rattle.relation_terms.specs.Trees.{Tree, leaf, node, bind, nil, cons, IsTerm}
+use Rattle.relation_terms.specs.Erasure.{erase}
+use Rattle.relation_contexts.specs.Relation.{Items, Interpretation, Way, at, parts, part_at, plain, Rel}
+use Rattle.relation_contexts.specs.FirstOrder.{IsFirstOrderAtom, IsFirstOrderHead}
+
+abbrev pub IsRegionTermHead : Head → Type 0
+IsRegionTermHead fn_ptr = Unit {0}
+IsRegionTermHead unsafe_binder = Unit {0}
+IsRegionTermHead h = IsFirstOrderHead h
+
+-- Of bound variables regions alone, of inference variables none.
+abbrev pub IsRegionTermLeaf : Leaf → Type 0
+IsRegionTermLeaf (variable k n) = ⊥
+IsRegionTermLeaf (bound k d i) = bound_sort k ≡ region_sort
+IsRegionTermLeaf (placeholder k u n) = Unit {0}
+IsRegionTermLeaf (atom x) = IsFirstOrderAtom x
+IsRegionTermLeaf unknown = ⊥
+
+abbrev pub BindsRegions : List BoundKind → Type 0
+BindsRegions [] = Unit {0}
+BindsRegions (k ∷ ks) = (bound_sort k ≡ region_sort) × BindsRegions ks
+
+abbrev pub IsRegionTerm : Tree → Type 0
+IsRegionTerm (leaf l) = IsRegionTermLeaf l
+IsRegionTerm (node h ts) = IsRegionTermHead h × IsRegionTerm ts
+IsRegionTerm (bind ks t) = BindsRegions ks × IsRegionTerm t
+IsRegionTerm nil = Unit {0}
+IsRegionTerm (cons t ts) = IsRegionTerm t × IsRegionTerm ts
+
+-- Two erased trees are alike but for what stands at bivariance.
+abbrev pub Agree : Items → Way → Tree → Tree → Type 0
+Agree c (at v) (node h xs) (node k ys) = (v ≡ Bivariant) ⊎ ((plain h ≡ plain k) × Agree c (parts h 0 v) xs ys)
+Agree c (at v) (bind ks a) (bind ls b) = (v ≡ Bivariant) ⊎ Agree c (at v) a b
+Agree c (at v) a b = (v ≡ Bivariant) ⊎ (a ≡ b)
+Agree c (parts h i v) (cons a xs) (cons b ys) = Agree c (at (part_at c h i v)) a b × Agree c (parts h (suc i) v) xs ys
+Agree c way a b = a ≡ b
+
+-- Such terms that are in the relation have erasures that agree.
+abbrev pub RelatedTermsAgree : Type 0
+RelatedTermsAgree = (c : Items) (w : Interpretation) (e : Tree) (v : Variance) (a b : Tree) → IsRegionTerm a →
+    IsRegionTerm b → Rel c w e (at v) a b → Agree c (at v) (erase a) (erase b)
+
+-- Where all regions outlive each other, they are in the relation just where their erasures agree.
+abbrev pub RelatedIffAgree : Type 0
+RelatedIffAgree = (c : Items) (w : Interpretation) (e : Tree) (v : Variance) (s : Sort) (a b : Tree) →
+    w.outlives ≡ None → IsTerm s a → IsTerm s b → IsRegionTerm a → IsRegionTerm b →
+    Rel c w e (at v) a b ↔ Agree c (at v) (erase a) (erase b)

@@ -1,5 +1,0 @@
-use Rattle.std.proofs.Common.{length}
-use Rattle.type_relations.proofs.decided.+leads.Given as goal
-
-abbrev pub decreases-leads : goal.decreases-leads
-decreases-leads l = length l.pairs.now
