@@ -133,6 +133,14 @@ all_ready m items names parts xs keys us needs sure made said same = subst (AreR
       ),
     ))
 
+-- The same of equal lists of keys and of needs, where these are over an equal list of what each uses.
+pub built_ready : {Key Id Name : Type 0} (m : Meaning Key Id Name) (items names parts : List ℕ) (xs : List Term)
+    (keys made : List (Option (GenericArgKind Key))) (us used : List Uses) (needs said : List Needs) → keys ≡ made →
+    needs ≡ said → us ≡ used → AreKnown m made → AreBuilt m (trees_of items names parts xs) made →
+    AreTold (trees_of items names parts xs) used → said ≡ needs_of parts us xs → AreReady m keys needs
+built_ready m items names parts xs keys made us used needs said refl refl refl sure are told same =
+    all_ready m items names parts xs made used said sure are told same
+
 -- Keys of a list of terms that are ready are known, and so is what is put for terms.
 module _ {Key Id Name : Type 0} (m : Meaning Key Id Name) (keys : List (Option (GenericArgKind Key))) (needs : List Needs)
     (r : AreReady m keys needs) where

@@ -1,10 +1,10 @@
 -- The terms of a text whose forms have rules, and whose binders bind by their lists.
 use Rattle.std.proofs.Common.{ℕ, sym, ◌∙◌, subst, IsTrue, Bool, true, false, cond, ◌&&◌, List, [], ◌∷◌}
 use Rattle.std.proofs.Common.{Option, Some, None}
-use Rattle.std.specs.Prelude.{slice_get, slice_range, vec_len}
+use Rattle.std.specs.Prelude.{slice_get, vec_len}
 use Rattle.std.proofs.lemmas.Bool.{and_parts, eqb-true, false≢true}
-use Rattle.relation_terms.specs.Heads.{BoundKind, Head, signature, inputs, existential_trait, existential_projection, Leaf}
-use Rattle.relation_terms.specs.Heads.{unknown}
+use Rattle.relation_terms.specs.Heads.{BoundKind, Head, existential_trait, existential_projection, Leaf, unknown}
+use Rattle.relation_terms.specs.Heads.{value_leaf, atom, value_branch}
 use Rattle.relation_terms.specs.Trees.{Tree, leaf, node, nil, cons, known, list_tree, front, last}
 use Rattle.relation_terms.specs.Meaning.{under}
 use Rattle.relation_contexts.specs.Relation.{StaysWithin}
@@ -14,7 +14,9 @@ use Rattle.relation_text.specs.declared.reading.tree.ItemSort.{ItemSort}
 use Rattle.relation_text.specs.declared.reading.tree.ItemSort.TheVariants as sort
 use Rattle.relation_text.specs.declared.naming.program.Term.{Term}
 use Rattle.relation_text.specs.declared.naming.program.Term.TheVariants as term
+use Rattle.relation_terms.specs.declared.terms.fn_sig.FnHeader.{FnHeader}
 use Rattle.relation_text.specs.Terms.{at, parts_tree, leaf_of, item_tree, head_of, variables_of, term_tree, trees_of}
+use Rattle.relation_text.specs.Terms.{fn_ptr_tree, unsafe_binder_tree, object_tree, value_tree}
 use Rattle.relation_asking.specs.declared.binding.Uses.{Uses}
 use Rattle.relation_asking.specs.declared.needs.Needs.{Needs}
 use Rattle.relation_asking.specs.Binding.{Tells, AreTold}
@@ -89,6 +91,42 @@ head_covered : (f : ℕ → Head) → ((d : ℕ) → IsCoveredHead (f d)) → (o
 head_covered f h None t c k b = absurd (false≢true k)
 head_covered f h (Some d) t c k b = (h d, c k b)
 
+-- A tree is covered where it is known and its binders bind by their lists.
+abbrev WouldBeCovered : Tree → Type 0
+WouldBeCovered t = IsTrue (known t) → BindByLists t → IsCovered t
+
+-- What has other terms within it, over those as they are.
+fn_ptr_covered : (h : FnHeader) (o : Option (List BoundKind)) (ts : Tree) → WouldBeCovered (front ts) →
+    WouldBeCovered (last ts) → WouldBeCovered (fn_ptr_tree h o ts)
+fn_ptr_covered h None ts f g k b = absurd (false≢true k)
+fn_ptr_covered h (Some ks) ts f g k b =
+    let all = (and_parts (known (front ts) && (known (last ts) && true)) true k).0 in
+    let p = and_parts (known (front ts)) (known (last ts) && true) all in
+    let q = and_parts (known (last ts)) true p.1 in
+    (tt, ((b.0.0, (tt, ((tt, f p.0 b.0.1.0), (g q.0 b.0.1.1.0, tt)))), tt))
+
+unsafe_binder_covered : (o : Option (List BoundKind)) (t : Tree) → WouldBeCovered t →
+    WouldBeCovered (unsafe_binder_tree o t)
+unsafe_binder_covered None t f k b = absurd (false≢true k)
+unsafe_binder_covered (Some ks) t f k b = (tt, ((b.0.0, f (and_parts (known t) true k).0 b.0.1), tt))
+
+object_covered : (ps r : Tree) → WouldBeCovered ps → WouldBeCovered r → WouldBeCovered (object_tree ps r)
+object_covered ps r f g k b =
+    let p = and_parts (known ps) (known r && true) k in
+    (tt, ((tt, f p.0 b.0), (g (and_parts (known r) true p.1).0 b.1.0, tt)))
+
+value_covered : (t v : Tree) → WouldBeCovered t → WouldBeCovered v → WouldBeCovered (value_tree t v)
+value_covered t v f g k b =
+    let p = and_parts (known t && true) (known v && true) k in
+    let q = and_parts (known t) true p.0 in
+    let r = and_parts (known v) true p.1 in
+    (tt, ((tt, (f q.0 b.0.0, tt)), (g r.0 b.1.0, tt)))
+
+projected_covered : (t ts : Tree) → WouldBeCovered t → WouldBeCovered ts → WouldBeCovered (cons t ts)
+projected_covered t ts f g k b =
+    let p = and_parts (known t) (known ts) k in
+    (f p.0 b.0, g p.1 b.1)
+
 leaf_covered : (f : ℕ → Leaf) → ((x : ℕ) → IsCoveredLeaf (f x)) → (o : Option ℕ) → IsTrue (known (leaf_of f o)) →
     IsCovered (leaf_of f o)
 leaf_covered f h None k = absurd (false≢true k)
@@ -149,18 +187,11 @@ module _ (items names parts : List ℕ) where
   term_covered ts ns h (term.ConstVar n) k r l = tt
   term_covered ts ns h term.ConstError k r l = absurd (false≢true r)
   term_covered ts ns h (term.Number t b n) k r l =
-      let p = and_parts (known (at ts t) && true) true k in
-      (tt, ((tt, (h t (and_parts (known (at ts t)) true p.0).0 r l.0.0, tt)), (tt, tt)))
+      value_covered (at ts t) (leaf (atom (value_leaf b n))) (λ j c. h t j r c) (λ j c. tt) k l
   term_covered ts ns h (term.Branch t q) k r l =
-      let p = and_parts (known (at ts t) && true) (known (parts_tree parts ts q) && true) k in
-      let v = (and_parts (known (parts_tree parts ts q)) true p.1).0 in
-      let b = and_parts (need_at ns t).has_rules (parts_need parts ns q).has_rules r in (
-        tt,
-        (
-          (tt, (h t (and_parts (known (at ts t)) true p.0).0 b.0 l.0.0, tt)),
-          ((tt, list_covered ts ns h no_needs _ v b.1 l.1.0), tt),
-        ),
-      )
+      let b = and_parts (need_at ns t).has_rules (parts_need parts ns q).has_rules r in
+      value_covered (at ts t) (node value_branch (parts_tree parts ts q)) (λ j c. h t j b.0 c)
+      (λ j c. (tt, list_covered ts ns h no_needs _ j b.1 c)) k l
   term_covered ts ns h (term.Expr e q) k r l = (tt, list_covered ts ns h no_needs _ k r l)
   term_covered ts ns h (term.Range a b) k r l = (tt, two_covered ts ns h a b k r l)
   term_covered ts ns h (term.Or q) k r l = (tt, list_covered ts ns h no_needs _ k r l)
@@ -169,32 +200,14 @@ module _ (items names parts : List ℕ) where
   term_covered ts ns h (term.RegionBound d v n) k r l = leaf_covered _ (λ x. tt) (slice_get names n) k
   term_covered ts ns h (term.ConstBound d v n) k r l = leaf_covered _ (λ x. tt) (slice_get names n) k
   term_covered ts ns h (term.FnPtr g v q) k r l =
-      let o = variables_of (parts_tree parts ts v) in
-      let ins = front (parts_tree parts ts q) in
-      let out = last (parts_tree parts ts q) in
-      let ks = slice_range parts q.first q.behind in
-      let body = node (signature g.c_variadic g.safety g.abi) (cons (node inputs ins) (cons out nil)) in (
-        tt,
-        (
-          under_covered o body
-              (λ j b. let p = and_parts (known ins) (known out && true) j in (
-                tt,
-                (
-                  (tt, front_covered ts ns h no_needs ks p.0 r b.0),
-                  (last_covered ts ns h no_needs ks (and_parts (known out) true p.1).0 r b.1.0, tt),
-                ),
-              ))
-              (and_parts (known (under o body)) true k).0 l.0,
-          tt,
-        ),
-      )
+      fn_ptr_covered g (variables_of (parts_tree parts ts v)) (parts_tree parts ts q)
+      (λ j c. front_covered ts ns h no_needs _ j r c) (λ j c. last_covered ts ns h no_needs _ j r c) k l
   term_covered ts ns h (term.UnsafeBinder v t) k r l =
-      let o = variables_of (parts_tree parts ts v) in
-      (tt, (under_covered o (at ts t) (λ j b. h t j r b) (and_parts (known (under o (at ts t))) true k).0 l.0, tt))
+      unsafe_binder_covered (variables_of (parts_tree parts ts v)) (at ts t) (λ j c. h t j r c) k l
   term_covered ts ns h (term.Object q t) k r l =
-      let p = and_parts (known (parts_tree parts ts q)) (known (at ts t) && true) k in
       let b = and_parts (parts_need parts ns q).has_rules (need_at ns t).has_rules r in
-      (tt, ((tt, list_covered ts ns h no_needs _ p.0 b.0 l.0), (h t (and_parts (known (at ts t)) true p.1).0 b.1 l.1.0, tt)))
+      object_covered (parts_tree parts ts q) (at ts t) (λ j c. list_covered ts ns h no_needs _ j b.0 c)
+      (λ j c. h t j b.1 c) k l
   term_covered ts ns h (term.Implements v d q) k r l =
       under_covered (variables_of (parts_tree parts ts v)) _
       (head_covered existential_trait (λ i. tt) (slice_get items d) _ (λ j b. list_covered ts ns h no_needs _ j r b)) k l
@@ -202,8 +215,8 @@ module _ (items names parts : List ℕ) where
       let c = and_parts (need_at ns t).has_rules (parts_need parts ns q).has_rules r in
       under_covered (variables_of (parts_tree parts ts v)) _
       (head_covered existential_projection (λ i. tt) (slice_get items d) (cons (at ts t) (parts_tree parts ts q))
-      (λ j b. let p = and_parts (known (at ts t)) (known (parts_tree parts ts q)) j in
-      (h t p.0 c.0 b.0, list_covered ts ns h no_needs _ p.1 c.1 b.1))) k l
+      (projected_covered (at ts t) (parts_tree parts ts q) (λ j b. h t j c.0 b)
+      (λ j b. list_covered ts ns h no_needs _ j c.1 b))) k l
   term_covered ts ns h (term.IsAuto v d) k r l =
       under_covered (variables_of (parts_tree parts ts v)) _
       (λ j b. leaf_covered _ (λ x. tt) (slice_get items d) j) k l

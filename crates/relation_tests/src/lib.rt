@@ -7,8 +7,6 @@ mod binders;
 #[cfg(test)]
 mod contexts;
 #[cfg(test)]
-mod decided;
-#[cfg(test)]
 mod forms;
 #[cfg(test)]
 mod over_items;
