@@ -20,9 +20,9 @@ use Rattle.relation_reference.specs.declared.context.inner.InferCtxtInner.{Infer
 use Rattle.relation_reference.specs.Tables.{store_of}
 use Rattle.relation_asking.proofs.Counting.{entries_count}
 use Rattle.relation_terms.specs.declared.terms.enums.Variance.{Variance}
-use Rattle.relation_asking.specs.declared.binding.Uses.{Uses}
-use Rattle.relation_asking.specs.declared.needs.Needs.{Needs}
-use Rattle.relation_asking.specs.Binding.{AreTold}
+use Rattle.relation_needs.specs.declared.binding.Uses.{Uses}
+use Rattle.relation_needs.specs.declared.needs.Needs.{Needs}
+use Rattle.relation_needs.specs.Binding.{AreTold}
 use Rattle.relation_text.specs.declared.naming.program.Term.{Term}
 use Rattle.relation_text.specs.Terms.{at, trees_of}
 use Rattle.relation_text.specs.Built.{AreKnown, AreBuilt}
@@ -30,11 +30,11 @@ use Rattle.relation_text.specs.declared.naming.program.Put.{Put}
 use Rattle.relation_asking.specs.Meets.{AllKnown}
 use Rattle.relation_asking.specs.Puts.{AreMade, ArePuts}
 use Rattle.relation_asking.proofs.MeetLemmas.{and_both}
-use Rattle.relation_asking.specs.Needs.{Allows, Reaches, largest, both_needs, need_at, needs_with, needs_of}
+use Rattle.relation_needs.specs.Needs.{Allows, Reaches, largest, both_needs, need_at, needs_with, needs_of}
 use Rattle.relation_asking.specs.Asking.{IsAsked, IsRelatable, IsReady, AreReady, Has, IsAskable, KnowsRelated}
-use Rattle.relation_asking.proofs.CoverLemmas.{all_covered, all_bound}
-use Rattle.relation_asking.proofs.NeedLemmas.{reaches_left, reaches_right, allowed_in, all_enough}
-use Rattle.relation_asking.proofs.NeedLemmas.{allows_right, allows_still}
+use Rattle.relation_needs.proofs.CoverLemmas.{all_covered, all_bound}
+use Rattle.relation_needs.proofs.NeedLemmas.{reaches_left, reaches_right, allowed_in, all_enough}
+use Rattle.relation_needs.proofs.NeedLemmas.{allows_right, allows_still}
 
 -- What is ready stays so.
 pub ready_stays : {Key Id Name : Type 0} {m n : Meaning Key Id Name} → Extends m n →

@@ -1,9 +1,5 @@
 pub mod AskingLemmas
-pub mod BindingLemmas
-pub mod UseLemmas
 pub mod Counting
-pub mod CoverLemmas
-pub mod NeedLemmas
 pub mod Recorded
 pub mod CodeLemmas
 pub mod MeetLemmas

@@ -23,13 +23,13 @@ use Rattle.relation_contexts.specs.Goals.{KnowsGoal}
 use Rattle.relation_text.specs.declared.naming.program.Variables.{Variables}
 use Rattle.relation_asking.specs.declared.context.VariableKind.{VariableKind}
 use Rattle.relation_asking.specs.declared.context.VariableKind.TheVariants.{Ty, Int, Float, Const, Region}
-use Rattle.relation_asking.specs.declared.needs.Needs.{Needs}
+use Rattle.relation_needs.specs.declared.needs.Needs.{Needs}
 use Rattle.relation_asking.specs.declared.question.Answer.{Answer}
 use Rattle.relation_asking.specs.declared.question.Answer.TheVariants.{Related, Met, Walked, Components, Folded, Is}
 use Rattle.relation_asking.specs.declared.question.Answer.TheVariants.{Assumed, Key as key}
 use Rattle.relation_tools.specs.Assumptions.{IsKnown}
 use Rattle.relation_asking.specs.Meets.{AllKnown}
-use Rattle.relation_asking.specs.Needs.{Allows, Reaches, largest, need_at}
+use Rattle.relation_needs.specs.Needs.{Allows, Reaches, largest, need_at}
 use Rattle.relation_asking.specs.Outlives.{KnowsComponents}
 
 -- What relating takes: a term of forms that have rules, in which each binder binds by its list, and nothing that one

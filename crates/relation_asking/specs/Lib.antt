@@ -1,5 +1,3 @@
-pub mod Binding
-pub mod Needs
 pub mod Outlives
 pub mod Asking
 pub mod Args
@@ -7,3 +5,5 @@ pub mod Codes
 pub mod Meets
 pub mod Puts
 pub mod Skips
+pub use Rattle.relation_needs.specs.Binding
+pub use Rattle.relation_needs.specs.Needs

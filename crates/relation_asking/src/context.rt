@@ -6,12 +6,12 @@ ghost use Rattle.relation_folds.specs.Faults.{KnowsFault};
 ghost use Rattle.relation_contexts.specs.Contexts.{KnowsEnv, RegistersGoals};
 ghost use Rattle.type_relations.specs.Relating.{KnowsTerm, TakesTerm, HasTerm, AnswersTerms, KeepsEqual, TellsApart};
 ghost use Rattle.relation_reference.specs.Tables.{IsLawful};
-ghost use Rattle.relation_asking.specs.Needs.{Reaches};
+ghost use Rattle.relation_needs.specs.Needs.{Reaches};
 ghost use Rattle.std.specs.List.{All};
 ghost use Rattle.relation_asking.specs.Asking.{Has, HasStated, IsAskable, MakesIn, var_kind, variables_in};
 
-use crate::needs::Needs;
 use relation_contexts::infer_ctxt::InferCtxtLike;
+use relation_needs::needs::Needs;
 use relation_reference::context::RefCtxt;
 use relation_terms::terms::{Interner, OutOfMemory, ParamEnv, Span, Variance};
 use relation_text::naming::Variables;

@@ -3,13 +3,11 @@
 
 ghost use Rattle.relation_asking.specs.Asking.{AreReady};
 
-mod binding;
 mod comparing;
 mod context;
 mod folding;
 mod interner;
 mod lists;
-pub mod needs;
 mod outlives;
 pub mod printing;
 mod question;
@@ -18,10 +16,11 @@ pub mod sized_keys;
 mod visiting;
 mod walking;
 
-use binding::uses_of;
 use interner::{Tables, make_interner, make_tables};
-use needs::needs_of;
 use question::{Ready, ask_often, context_for, is_memory, write_outcome};
+use relation_needs::binding::uses_of;
+pub use relation_needs::needs;
+use relation_needs::needs::needs_of;
 use relation_reference::context::RefCtxt;
 use relation_text::building::build;
 use relation_text::naming::Program;

@@ -6,8 +6,8 @@ ghost use Rattle.relation_reference.specs.Tables.{IsLawful};
 ghost use Rattle.relation_asking.specs.Asking.{AreReady, IsReady, KnowsRelated};
 
 use crate::context::{NotAsked, have_variables, refusal, relate};
-use crate::needs::{Needs, both, parts_need};
 use crate::question::{Ready, Unasked};
+use relation_needs::needs::{Needs, both, parts_need};
 use relation_reference::context::RefCtxt;
 use relation_terms::terms::parts::member_count;
 use relation_terms::terms::{GenericArgs, Interner, Parts as PartsOfTerm, Variance};

@@ -13,7 +13,6 @@ use crate::context::{
 };
 use crate::folding::{fold, puts_at};
 use crate::lists::ask_args_related;
-use crate::needs::{Needs, both, need_at};
 use crate::outlives::{ask_assumptions, ask_components, write_assumptions, write_components};
 use crate::printing::write_answer;
 use crate::quick::{KeyOf, ask_args_may_unify, ask_key, ask_may_unify, write_key};
@@ -22,6 +21,7 @@ use crate::visiting::{Met, visit, write_met};
 use crate::walking::{numbers_at, write_walked};
 use relation_folds::error::RelateFault;
 use relation_folds::visit::{has_escaping_bound_vars, has_non_region_infer, is_known_rigid};
+use relation_needs::needs::{Needs, both, need_at};
 use relation_reference::context::RefCtxt;
 use relation_terms::predicate::OutlivesPredicate;
 use relation_terms::terms::{GenericArg, GenericArgKind, Interner, Keys, Ty, Variance};

@@ -4,7 +4,7 @@ use Rattle.relation_terms.specs.Meaning.{arg_tree}
 use Rattle.relation_reference.proofs.Grows.{lawful_grows}
 use Rattle.relation_asking.specs.Asking.{IsReady}
 use Rattle.relation_asking.specs.Meets.{AllKnown}
-use Rattle.relation_asking.specs.Needs.{no_needs, parts_need}
+use Rattle.relation_needs.specs.Needs.{no_needs, parts_need}
 use Rattle.relation_asking.proofs.AskingLemmas.{keys_known, list_ready}
 use Rattle.relation_asking.proofs.lists.args_of.Goals as goal
 

@@ -4,7 +4,7 @@ use Rattle.relation_terms.specs.Trees.{node, count}
 use Rattle.relation_terms.specs.Meaning.{Extends}
 use Rattle.relation_terms.proofs.Stays.{extends_on}
 use Rattle.relation_reference.proofs.Grows.{lawful_grows}
-use Rattle.relation_asking.specs.Needs.{both_needs}
+use Rattle.relation_needs.specs.Needs.{both_needs}
 use Rattle.relation_asking.specs.Asking.{Has}
 use Rattle.relation_asking.proofs.AskingLemmas.{one_ready, as_arguments, asked_left, asked_right, has_left, has_right, ready_in}
 use Rattle.relation_asking.proofs.lists.relate_ready.Goals as goal

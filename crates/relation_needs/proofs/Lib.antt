@@ -1,0 +1,4 @@
+pub mod BindingLemmas
+pub mod UseLemmas
+pub mod CoverLemmas
+pub mod NeedLemmas
