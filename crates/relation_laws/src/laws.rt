@@ -1,5 +1,4 @@
-//! Laws of the definitions that this crate's contracts are said in. Each function does nothing, and its contract is
-//! the law.
+//! Laws of the definitions that relating is said in. Each function does nothing, and its contract is the law.
 
 ghost use Rattle.type_relations.specs.SmallTerms.{IsReflexive, AnythingAtBivariance, ErrorsAreRelated};
 ghost use Rattle.type_relations.specs.SmallTerms.{ParametersByIndex, ValuesByTheirTrees, ConstantsAtEachVariance};
