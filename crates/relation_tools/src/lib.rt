@@ -1,4 +1,4 @@
-//! What relations are written with, beside the terms themselves.
+//! What is asked of terms beside relating them: walks, components, quick tests. Gives visits, folds and errors again.
 #![tactic(auto)]
 
 pub mod anonymize;
