@@ -1,7 +1,7 @@
 -- The terms of a text whose forms have rules, and whose binders bind by their lists.
 use Rattle.std.proofs.Common.{ℕ, sym, ◌∙◌, subst, IsTrue, Bool, true, false, cond, ◌&&◌, List, [], ◌∷◌}
 use Rattle.std.proofs.Common.{Option, Some, None}
-use Rattle.std.specs.Prelude.{slice_get, vec_len}
+use Rattle.std.specs.Prelude.{slice_get, slice_range, vec_len}
 use Rattle.std.proofs.lemmas.Bool.{and_parts, eqb-true, false≢true}
 use Rattle.relation_terms.specs.Heads.{BoundKind, Head, existential_trait, existential_projection, Leaf, unknown}
 use Rattle.relation_terms.specs.Heads.{value_leaf, atom, value_branch}
@@ -191,7 +191,7 @@ module _ (items names parts : List ℕ) where
   term_covered ts ns h (term.Branch t q) k r l =
       let b = and_parts (need_at ns t).has_rules (parts_need parts ns q).has_rules r in
       value_covered (at ts t) (node value_branch (parts_tree parts ts q)) (λ j c. h t j b.0 c)
-      (λ j c. (tt, list_covered ts ns h no_needs _ j b.1 c)) k l
+      (λ j c. (tt, list_covered ts ns h no_needs (slice_range parts q.first q.behind) j b.1 c)) k l
   term_covered ts ns h (term.Expr e q) k r l = (tt, list_covered ts ns h no_needs _ k r l)
   term_covered ts ns h (term.Range a b) k r l = (tt, two_covered ts ns h a b k r l)
   term_covered ts ns h (term.Or q) k r l = (tt, list_covered ts ns h no_needs _ k r l)
@@ -201,7 +201,8 @@ module _ (items names parts : List ℕ) where
   term_covered ts ns h (term.ConstBound d v n) k r l = leaf_covered _ (λ x. tt) (slice_get names n) k
   term_covered ts ns h (term.FnPtr g v q) k r l =
       fn_ptr_covered g (variables_of (parts_tree parts ts v)) (parts_tree parts ts q)
-      (λ j c. front_covered ts ns h no_needs _ j r c) (λ j c. last_covered ts ns h no_needs _ j r c) k l
+      (λ j c. front_covered ts ns h no_needs (slice_range parts q.first q.behind) j r c)
+      (λ j c. last_covered ts ns h no_needs (slice_range parts q.first q.behind) j r c) k l
   term_covered ts ns h (term.UnsafeBinder v t) k r l =
       unsafe_binder_covered (variables_of (parts_tree parts ts v)) (at ts t) (λ j c. h t j r c) k l
   term_covered ts ns h (term.Object q t) k r l =
