@@ -5,7 +5,7 @@ ghost use Rattle.relation_terms.specs.Meaning.{kind_tree};
 ghost use Rattle.relation_terms.specs.Parts.{part_tree, parts_tree};
 ghost use Rattle.relation_terms.specs.declared.terms.ty_kind.TyKind.TheVariants.{Alias as AliasForm};
 ghost use Rattle.relation_tools.specs.Components.{every, last_types, components, inside_alias};
-ghost use Rattle.relation_tools.specs.Visits.{bound_var_escapes};
+ghost use Rattle.relation_folds.specs.Visits.{bound_var_escapes};
 ghost use Rattle.relation_tools.specs.Outliving.{AddsSome, HasAll};
 ghost use Rattle.relation_tools.specs.Collecting.{meant, of_member, kept_of, found_components, found_size};
 ghost use Rattle.relation_tools.specs.Collecting.{Settled, Meets, Keeps};
@@ -14,7 +14,7 @@ use crate::keeping::keep;
 use crate::outlives::chosen::{Chosen, alias_chosen, is_chosen};
 use crate::outlives::met::{Met, none_met};
 use crate::outlives::{Component, ComponentOf};
-use crate::visit::has_escaping_bound_vars;
+use relation_folds::visit::has_escaping_bound_vars;
 use relation_terms::terms::parts::{member, member_count, parts_of, ty_parts, visited_place};
 use relation_terms::terms::{
     AliasTy, GenericArgKind, GenericArgs, Interner, OutOfMemory, Part, PartOf, Parts, PartsOf,

@@ -14,13 +14,13 @@ use Rattle.relation_terms.specs.declared.terms.part_kind.Part.TheVariants.{Ty as
 use Rattle.relation_terms.proofs.Sorted.{Sorted}
 use Rattle.relation_terms.proofs.Members.{member_small, parts_small, slice_counts, slice_list, slice_nth, slice_sure}
 use Rattle.relation_terms.proofs.Parts.{ty_seen, known_parts}
-use Rattle.relation_tools.specs.Visits.{bound_var_escapes}
+use Rattle.relation_folds.specs.Visits.{bound_var_escapes}
 use Rattle.relation_tools.specs.Components.{every, last_types, components, inside_alias}
 use Rattle.relation_tools.specs.Outliving.{SomeIs, AddsSome, HasAll}
 use Rattle.relation_tools.specs.Collecting.{Settled, meant, of_member, found_components, found_size}
 use Rattle.relation_tools.specs.declared.outlives.Component.{Param, Placeholder, UnresolvedInferenceVariable, Alias}
 use Rattle.relation_tools.specs.declared.outlives.Component.{EscapingAlias}
-use Rattle.relation_tools.proofs.Arguments.{arg_same}
+use Rattle.relation_folds.proofs.Arguments.{arg_same}
 use Rattle.relation_tools.proofs.Choosing.{member_is, member_in, has_members, each_place, of_found, found_is, captured_is}
 use Rattle.relation_tools.proofs.Choosing.{resumed_is}
 use Rattle.relation_tools.proofs.Components.{part_has, witness_has, infer_is, form_parts}
@@ -29,7 +29,7 @@ use Rattle.relation_tools.proofs.Meeting.{part_meets, part_had, meets_on}
 use Rattle.relation_tools.proofs.Outliving.{in_left, in_right, adds_none, adds_after, adds_within, adds_as, has_as, has_both}
 use Rattle.relation_tools.proofs.Outliving.{has_grown, added_some, added_all, stands_escaping, meets_none, meets_after}
 use Rattle.relation_tools.proofs.Outliving.{settled_below, settled_after, settled_none}
-use Rattle.relation_tools.proofs.Visiting.{rest}
+use Rattle.relation_folds.proofs.Visiting.{rest}
 use Rattle.relation_tools.proofs.outlives.collecting.+collect.Goals as goal
 
 pub collect_part-returns-in_err-first-in_default : goal.collect_part-returns-in_err-first-in_default
