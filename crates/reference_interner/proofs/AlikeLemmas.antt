@@ -20,6 +20,7 @@ use Rattle.reference_interner.specs.declared.keys.ItemId.{ItemId}
 use Rattle.reference_interner.specs.declared.keys.SymbolId.{SymbolId}
 use Rattle.reference_interner.specs.declared.node.Node.{Node}
 use Rattle.reference_interner.specs.declared.node.Node.TheVariants.{Ty, Region, Const, ValTree, Args, Tys}
+use Rattle.reference_interner.specs.ShortLists.{members_of}
 use Rattle.reference_interner.specs.declared.node.Node.TheVariants.{Branches, Pat, Alternatives, Predicate, Clauses}
 use Rattle.reference_interner.specs.declared.node.Node.TheVariants.{ExistentialPredicates, BoundVars}
 use Rattle.reference_interner.specs.Forms.{Form, ty_form, region_form, const_form, valtree_form, args_form, tys_form}
@@ -57,7 +58,7 @@ node_same (Const f) (Const g) h = ap (λ x. const_form x) (const_same f g h)
 node_same (ValTree f) (ValTree g) h = ap (λ x. valtree_form x) (valtree_same f g h)
 node_same (Pat f) (Pat g) h = ap (λ x. pattern_form x) (pattern_same f g h)
 node_same (Args v) (Args w) h = ap (λ x. args_form x) (list_same arg_eq arg_same v.items w.items h)
-node_same (Tys v) (Tys w) h = ap (λ x. tys_form x) (list_same ty_eq ty_same v.items w.items h)
+node_same (Tys v) (Tys w) h = ap (λ x. tys_form x) (list_same ty_eq ty_same (members_of v) (members_of w) h)
 node_same (Branches v) (Branches w) h = ap (λ x. branches_form x) (list_same const_eq const_key_same v.items w.items h)
 node_same (Alternatives v) (Alternatives w) h =
     ap (λ x. alternatives_form x) (list_same pat_eq pat_same v.items w.items h)
@@ -135,8 +136,8 @@ node_self (Pat f) (Pat g) e = subst (λ x. IsTrue (node_eq (Pat f) (Pat x))) (ap
 node_self (Args v) (Args w) e =
     subst (λ x. IsTrue (pointwise arg_eq v.items x)) (ap (args_in v.items) e) (list_self arg_eq arg_self v.items)
 node_self (Tys v) (Tys w) e =
-    subst (λ x. IsTrue (pointwise ty_eq v.items x)) (ap (types_in v.items) e)
-    (list_self ty_eq (λ x. eqb_self (x.0).0) v.items)
+    subst (λ x. IsTrue (pointwise ty_eq (members_of v) x)) (ap (types_in (members_of v)) e)
+    (list_self ty_eq (λ x. eqb_self (x.0).0) (members_of v))
 node_self (Branches v) (Branches w) e =
     subst (λ x. IsTrue (pointwise const_eq v.items x)) (ap (branches_in v.items) e)
     (list_self const_eq (λ x. eqb_self (x.0).0) v.items)

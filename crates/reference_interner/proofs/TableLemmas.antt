@@ -35,6 +35,7 @@ use Rattle.relation_terms.specs.declared.terms.const_kind.ValTreeKind.{ValTreeKi
 use Rattle.relation_terms.specs.declared.terms.pattern_kind.PatternKind.{PatternKind}
 use Rattle.relation_terms.specs.declared.terms.generic_arg.GenericArgKind.{GenericArgKind}
 use Rattle.std.specs.declared.vec.Vec.{Vec}
+use Rattle.reference_interner.specs.declared.short_list.ShortList.{ShortList}
 use Rattle.std.specs.declared.alloc.Global.{Global}
 use Rattle.reference_interner.specs.declared.node.Node.{Node}
 use Rattle.reference_interner.specs.Forms.{Form, ty_form, region_form, const_form, valtree_form, args_form, tys_form}
@@ -275,7 +276,7 @@ pub not_args : (n : Node) → ((v : Vec (GenericArgKind NodeKey) Global) → n �
 not_args (Args v) u e = u v refl
 not_args n u e = absurd (cc)
 
-pub not_tys : (n : Node) → ((v : Vec (TyKey NodeKey) Global) → n ≡ Tys v → ⊥) → tys_node ≡ form_sort (form_of n) → ⊥
+pub not_tys : (n : Node) → ((v : ShortList (TyKey NodeKey)) → n ≡ Tys v → ⊥) → tys_node ≡ form_sort (form_of n) → ⊥
 not_tys (Tys v) u e = u v refl
 not_tys n u e = absurd (cc)
 

@@ -21,6 +21,7 @@ use Rattle.reference_interner.specs.declared.node.Node.{Node}
 use Rattle.reference_interner.specs.declared.node.Node.TheVariants.{Ty, Region, Const, ValTree, Args, Tys}
 use Rattle.reference_interner.specs.declared.node.Node.TheVariants.{Branches, Pat, Alternatives, Predicate, Clauses}
 use Rattle.reference_interner.specs.declared.node.Node.TheVariants.{ExistentialPredicates, BoundVars}
+use Rattle.reference_interner.specs.ShortLists.{members_of}
 
 -- A node's form, whose lists are plain.
 pub data Form : Type 0 where
@@ -46,7 +47,7 @@ form_of (Const f) = const_form f
 form_of (ValTree f) = valtree_form f
 form_of (Pat f) = pattern_form f
 form_of (Args v) = args_form v.items
-form_of (Tys v) = tys_form v.items
+form_of (Tys v) = tys_form (members_of v)
 form_of (Branches v) = branches_form v.items
 form_of (Alternatives v) = alternatives_form v.items
 form_of (ExistentialPredicates v) = predicates_form v.items

@@ -1,3 +1,4 @@
+pub mod ShortLists
 pub mod Forms
 pub mod Items
 pub mod Nodes

@@ -12,6 +12,7 @@ mod hashing;
 mod items;
 mod keys;
 mod node;
+mod short_list;
 mod table;
 
 use hashing::NodeHasher;
@@ -30,6 +31,7 @@ use relation_terms::terms::{
     RegionForm, RegionKey, SolverTraitLangItem, Span, TraitAssocTermId, TraitId, Ty, TyForm, TyKey,
     TypeFlags, Tys, TysKey, ValTree, ValTreeForm, ValTreeKey, Variance,
 };
+pub use short_list::ShortList;
 use std::alloc::Global;
 use std::collections::HashMap;
 use std::hash::BuildHasherDefault;
@@ -304,7 +306,7 @@ impl Interner for RefInterner {
         ensures there { KeepsTys (meaning_in self.old) (meaning_in self.new) tys.now }
         ensures one_more { node_count self.new ≤ suc (node_count self.old) }
     {
-        let list = copied(self.alloc, tys)?;
+        let list = ShortList::of(self.alloc, tys)?;
         let number = self.add(Node::Tys(list))?;
         Ok(TysKey(number))
     }

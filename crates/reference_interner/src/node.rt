@@ -2,7 +2,7 @@
 ghost use Rattle.std.specs.Prelude.{◌≡◌, IfOk};
 ghost use Rattle.reference_interner.specs.Forms.{form_of};
 
-use crate::{ItemId, NodeKey, SymbolId};
+use crate::{ItemId, NodeKey, ShortList, SymbolId};
 use relation_terms::predicate::{ExistentialPredicate, PredicateKind};
 use relation_terms::terms::{
     Binder, BoundVariableKind, ClauseKey, ConstKey, ConstKind, GenericArgKind, OutOfMemory, PatKey,
@@ -26,7 +26,7 @@ pub enum Node {
     /// A list of generic arguments.
     Args(Vec<GenericArgKind<NodeKey>>),
     /// A list of types.
-    Tys(Vec<TyKey<NodeKey>>),
+    Tys(ShortList<TyKey<NodeKey>>),
     /// A list of constants, which a value is made of.
     Branches(Vec<ConstKey<NodeKey>>),
     /// A list of patterns, the alternatives of one.
@@ -63,7 +63,7 @@ pub fn copied_node(alloc: Global, node: &Node) -> Result<Node, OutOfMemory>
         Node::ValTree(kind) => Ok(Node::ValTree(*kind)),
         Node::Pat(kind) => Ok(Node::Pat(*kind)),
         Node::Args(list) => Ok(Node::Args(copied(alloc, list.as_slice())?)),
-        Node::Tys(list) => Ok(Node::Tys(copied(alloc, list.as_slice())?)),
+        Node::Tys(list) => Ok(Node::Tys(ShortList::of(alloc, list.as_slice())?)),
         Node::Branches(list) => Ok(Node::Branches(copied(alloc, list.as_slice())?)),
         Node::Alternatives(list) => Ok(Node::Alternatives(copied(alloc, list.as_slice())?)),
         Node::ExistentialPredicates(list) => Ok(Node::ExistentialPredicates(copied(

@@ -4,6 +4,7 @@ use Rattle.reference_interner.specs.Forms.{tys_form, form_of}
 use Rattle.reference_interner.specs.Nodes.{tys_node, table_meaning}
 use Rattle.reference_interner.proofs.TableLemmas.{key_in, key_sort, key_read, not_tys}
 use Rattle.reference_interner.specs.Adding.{items_in}
+use Rattle.reference_interner.specs.ShortLists.{members_of}
 use Rattle.reference_interner.proofs.RefInternerInterner.tys.Goals as goal
 
 pub index-requires : goal.index-requires
@@ -25,5 +26,5 @@ returns c =
     let items = items_in c.args.self.now in
     let ns = c.args.self.now.nodes.items in
     key_read items ns tys_node (c.args.tys.now.0).0 c.requires c.index.result.now c.index.ensures
-    (tys_form c.in-Tys.list.items) (ap form_of c.in-Tys.is) ∙
-    ap (list_tree (table_meaning items ns).ty) (sym c.as_slice.ensures.value)
+    (tys_form (members_of c.in-Tys.list)) (ap form_of c.in-Tys.is) ∙
+    ap (list_tree (table_meaning items ns).ty) (sym c.as_slice.ensures)
