@@ -1,6 +1,6 @@
 -- Terms that are ready, and contexts that have what they need.
 use Rattle.std.proofs.Common.{◌≡◌, ℕ, ◌<◌, sym, subst, arith, List, [], ◌∷◌, Option, Some, map, slice_get, refl}
-use Rattle.std.proofs.Common.{All, Result, Ok, Err}
+use Rattle.std.proofs.Common.{All, Result, Ok, Err, subst₂}
 use Rattle.std.specs.Prelude.{IfOk, IfErr}
 use Rattle.std.specs.Global.{Vec}
 use Rattle.std.proofs.Common.{IsTrue}
@@ -138,8 +138,9 @@ pub built_ready : {Key Id Name : Type 0} (m : Meaning Key Id Name) (items names 
     (keys made : List (Option (GenericArgKind Key))) (us used : List Uses) (needs said : List Needs) → keys ≡ made →
     needs ≡ said → us ≡ used → AreKnown m made → AreBuilt m (trees_of items names parts xs) made →
     AreTold (trees_of items names parts xs) used → said ≡ needs_of parts us xs → AreReady m keys needs
-built_ready m items names parts xs keys made us used needs said refl refl refl sure are told same =
-    all_ready m items names parts xs made used said sure are told same
+built_ready m items names parts xs keys made us used needs said e f g sure are told same =
+    subst₂ (AreReady m) (sym e) (sym f)
+    (all_ready m items names parts xs made used said sure are told (subst (λ u. said ≡ needs_of parts u xs) g same))
 
 -- Keys of a list of terms that are ready are known, and so is what is put for terms.
 module _ {Key Id Name : Type 0} (m : Meaning Key Id Name) (keys : List (Option (GenericArgKind Key))) (needs : List Needs)
