@@ -147,7 +147,7 @@ impl<X: Copy, D: Copy, N: Copy> Copy for TypeError<X, D, N> {}
 #[derive(Clone, Copy, PartialEq, Eq, Hash, Debug)]
 pub struct NoSolution;
 
-impl<X: Drop, D: Drop, N: Drop> From<TypeError<X, D, N>> for NoSolution {
+impl<X: Copy, D: Copy, N: Copy> From<TypeError<X, D, N>> for NoSolution {
     ghost from_gives = { λ _ e. e ≡ record {} };
 
     fn from(_why: TypeError<X, D, N>) -> NoSolution {

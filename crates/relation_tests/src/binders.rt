@@ -83,31 +83,40 @@ fn instantiates_char<C: InferCtxtLike>(ctx: &mut C, name: NameOf<C>) -> Result<b
     Ok(instantiated == value)
 }
 
-#[test]
-fn a_binder_is_entered_by_a_universe_of_its_own(rt: HostRuntime) -> Result<(), Fail> {
-    let mut ctx = RefCtxt::new(RefInterner::new(rt.alloc()), true, 0)?;
-    assert!(rt; enters_char(&mut ctx, SymbolId(0))?);
-    assert!(rt; ctx.inner.universe == UniverseIndex(0));
-    let mut ctx = RefCtxt::new(RefInterner::new(rt.alloc()), true, 0)?;
-    let entered = enters_region(&mut ctx, SymbolId(0))?;
+// Whether a binder over `char` is entered as that, in the universe that was, and one over its own region as a
+// placeholder of a universe of its own.
+fn enters<I: Interner + Drop>(cx: I, name: I::Name) -> Result<bool, OutOfMemory> {
+    let mut ctx = RefCtxt::new(cx, true, 0)?;
+    let stays = enters_char(&mut ctx, name)? && ctx.inner.universe == UniverseIndex(0);
+    let mut ctx = RefCtxt::new(ctx.interner, true, 0)?;
+    let entered = enters_region(&mut ctx, name)?;
     let universe = UniverseIndex(1);
     let var = BoundVar(0);
-    let name = SymbolId(0);
     let bound = BoundRegion { var, name };
     let form = RegionKind::RePlaceholder(Placeholder { universe, bound });
-    assert!(rt; entered == ctx.interner.mk_region(form)?);
-    assert!(rt; ctx.inner.universe == universe);
+    let placeholder = ctx.interner.mk_region(form)?;
+    Ok(stays && entered == placeholder && ctx.inner.universe == universe)
+}
+
+// Whether a binder over `char` is instantiated as that, with a variable for its region, and one over its own region as
+// that variable, in the universe that was.
+fn instantiates<I: Interner + Drop>(cx: I, name: I::Name) -> Result<bool, OutOfMemory> {
+    let mut ctx = RefCtxt::new(cx, true, 0)?;
+    let stays = instantiates_char(&mut ctx, name)? && ctx.inner.regions.len() == 1;
+    let mut ctx = RefCtxt::new(ctx.interner, true, 0)?;
+    let instantiated = instantiates_region(&mut ctx, name)?;
+    let variable = ctx.interner.mk_region(RegionKind::ReVar(RegionVid(0)))?;
+    Ok(stays && instantiated == variable && ctx.inner.universe == UniverseIndex(0))
+}
+
+#[test]
+fn a_binder_is_entered_by_a_universe_of_its_own(rt: HostRuntime) -> Result<(), Fail> {
+    assert!(rt; enters(RefInterner::new(rt.alloc()), SymbolId(0))?);
     Ok(())
 }
 
 #[test]
 fn a_binder_is_instantiated_with_a_variable_for_each_place(rt: HostRuntime) -> Result<(), Fail> {
-    let mut ctx = RefCtxt::new(RefInterner::new(rt.alloc()), true, 0)?;
-    assert!(rt; instantiates_char(&mut ctx, SymbolId(0))?);
-    assert!(rt; ctx.inner.regions.len() == 1);
-    let mut ctx = RefCtxt::new(RefInterner::new(rt.alloc()), true, 0)?;
-    let instantiated = instantiates_region(&mut ctx, SymbolId(0))?;
-    assert!(rt; instantiated == ctx.interner.mk_region(RegionKind::ReVar(RegionVid(0)))?);
-    assert!(rt; ctx.inner.universe == UniverseIndex(0));
+    assert!(rt; instantiates(RefInterner::new(rt.alloc()), SymbolId(0))?);
     Ok(())
 }

@@ -1,11 +1,12 @@
 //! Forms that have no key, lists of predicates of trait objects, and binders, related by themselves.
 ghost use Rattle.std.specs.Prelude.{◌≡◌, [], Some, IfOk};
 ghost use Rattle.relation_terms.specs.Trees.{nil, cons};
-ghost use Rattle.relation_terms.specs.Meaning.{Extends, signature_tree, object_predicate_tree};
+ghost use Rattle.relation_terms.specs.Meaning.{Extends, under, signature_tree, object_predicate_tree};
 ghost use Rattle.relation_tests.specs.Concrete.{IsConcrete};
 
 use crate::relating::{asks, make_lists, make_two, outlives};
 use reference_interner::{ItemId, RefInterner, SymbolId};
+use relation_folds::error::RelateResult;
 use relation_terms::predicate::{
     ExistentialPredicate, ExistentialProjection, ExistentialTraitRef, ObjectPredicate,
     RegionConstraint, RegionEqPredicate,
@@ -104,6 +105,19 @@ fn make_object<I: Interner>(
     make_predicates(cx, &Binder { value, bound_vars })
 }
 
+// Whether relating two types under binders asks just this of regions.
+fn asks_under<I: Interner + Drop>(
+    cx: I,
+    a: &Binder<I::Key, Ty<I>>,
+    b: &Binder<I::Key, Ty<I>>,
+    what: RegionConstraint<I::Key>,
+) -> RelateResult<I, bool>
+    requires lhs { IsConcrete (under ((I.meaning cx).bound_vars a.now.bound_vars) ((I.meaning cx).ty a.now.value)) }
+    requires rhs { IsConcrete (under ((I.meaning cx).bound_vars b.now.bound_vars) ((I.meaning cx).ty b.now.value)) }
+{
+    asks(cx, Variance::Covariant, a, b, what)
+}
+
 #[test]
 fn signatures_are_related(rt: HostRuntime) -> Result<(), Fail> {
     let mut cx = RefInterner::new(rt.alloc());
@@ -172,7 +186,7 @@ fn binders_are_related(rt: HostRuntime) -> Result<(), Fail> {
     let value = two.right;
     let right = Binder { value, bound_vars };
     let what = outlives(two.a, two.b);
-    let answer = asks(cx, Variance::Covariant, &left, &right, what);
+    let answer = asks_under(cx, &left, &right, what);
     assert!(rt; matches!(answer, Ok(true)));
     Ok(())
 }

@@ -3,7 +3,7 @@ use Rattle.std.specs.Prelude.{◌≡◌, ℕ, Option, Some, None, Result}
 use Rattle.std.specs.Result.{IsOkAnd}
 use Rattle.relation_terms.specs.declared.terms.enums.Variance.{Variance}
 use Rattle.relation_terms.specs.declared.terms.enums.Variance.TheVariants.{Bivariant}
-use Rattle.relation_terms.specs.Heads.{Head, adt, fn_def, arguments}
+use Rattle.relation_terms.specs.Heads.{Head, adt, fn_def, arguments, object}
 use Rattle.relation_terms.specs.Trees.{Tree, node}
 use Rattle.relation_terms.specs.Meaning.{Meaning}
 use Rattle.type_relations.specs.declared.relate.args.ArgVariances.{ArgVariances}
@@ -13,6 +13,13 @@ use Rattle.type_relations.specs.declared.relate.args.ArgVariances.TheVariants.{I
 abbrev pub related_tree : Option Head → Tree → Tree
 related_tree None t = t
 related_tree (Some h) ts = node h ts
+
+-- No form, or one of those over lists: of arguments, and of the predicates of a trait object.
+abbrev pub IsListForm : Option Head → Type 0
+IsListForm None = Unit {0}
+IsListForm (Some arguments) = Unit {0}
+IsListForm (Some object) = Unit {0}
+IsListForm (Some h) = ⊥
 
 -- At bivariance two arguments are not looked at: the left one is the answer, and the relation is what it was.
 abbrev pub IsSkipped : {A F R : Type 0} → Variance → R → R → A → Result A F → Type 0

@@ -36,7 +36,7 @@ pub enum VarianceDiagInfo<X> {
 /// The same, over the keys of an interner.
 pub type VarianceDiagInfoOf<I> = VarianceDiagInfo<<I as Keys>::Key>;
 
-impl<X: Drop> VarianceDiagInfo<X> {
+impl<X: Copy> VarianceDiagInfo<X> {
     /// What is known of a part of what this is known of: the outermost type that is invariant.
     /// Of three in a row it is the same from the left and from the right, and knowing nothing changes nothing.
     pub fn xform(self, other: VarianceDiagInfo<X>) -> VarianceDiagInfo<X>

@@ -7,7 +7,7 @@ ghost use Rattle.relation_terms.specs.Trees.{known, count};
 ghost use Rattle.relation_terms.specs.Heads.{Head, arguments};
 ghost use Rattle.relation_terms.specs.Interning.{AreEqualAsTrees};
 ghost use Rattle.relation_folds.proofs.Arguments.{arg_same};
-ghost use Rattle.type_relations.specs.Arguments.{related_tree};
+ghost use Rattle.type_relations.specs.Arguments.{related_tree, IsListForm};
 ghost use Rattle.type_relations.specs.EqualTerms.{sorted_by, term_same};
 ghost use Rattle.relation_contexts.specs.Lawful.{Asked, Related};
 ghost use Rattle.type_relations.specs.Subtyping.{RegistersSubtype};
@@ -59,6 +59,9 @@ pub trait Relate<I: Interner>: TypeFoldable<I> + PartialEq + Copy {
             (related_tree over (Self.tree (R.state r.old).meaning a.now))
             (related_tree over (Self.tree (R.state r.old).meaning b.now)) result };
 
+    // That is a form over lists: of another one the clauses of `relate` could say nothing.
+    ghost over_list: { IsListForm over };
+
     // What is asked of two that are known holds on while the interner grows.
     ghost fits_on: { (m n : Meaning I.Key I.Id I.Name) → Extends m n → (x y : Self) →
         IsTrue (known (Self.tree m x)) → IsTrue (known (Self.tree m y)) → fits m x y → fits n x y };
@@ -76,6 +79,8 @@ impl<I: Interner> Relate<I> for TyKey<I::Key> {
         tys(r, a, b)
     }
 
+    ghost over_list = { tt };
+
     ghost fits_on = { λ m n e x y h k f. tt };
 
     ghost same = { I.same_ty };
@@ -89,6 +94,8 @@ impl<I: Interner> Relate<I> for RegionKey<I::Key> {
     fn relate<R: TypeRelation<I>>(r: &mut R, a: &Self, b: &Self) -> RelateResult<I, Self> {
         r.regions(a, b)
     }
+
+    ghost over_list = { tt };
 
     ghost fits_on = { λ m n e x y h k f. tt };
 
@@ -104,6 +111,8 @@ impl<I: Interner> Relate<I> for ConstKey<I::Key> {
         consts(r, a, b)
     }
 
+    ghost over_list = { tt };
+
     ghost fits_on = { λ m n e x y h k f. tt };
 
     ghost same = { I.same_const };
@@ -118,6 +127,8 @@ impl<I: Interner> Relate<I> for PatKey<I::Key> {
         pats(r, a, b)
     }
 
+    ghost over_list = { tt };
+
     ghost fits_on = { λ m n e x y h k f. tt };
 
     ghost same = { I.same_pat };
@@ -131,6 +142,8 @@ impl<I: Interner> Relate<I> for GenericArgKind<I::Key> {
     fn relate<R: TypeRelation<I>>(r: &mut R, a: &Self, b: &Self) -> RelateResult<I, Self> {
         relate(r, a, b)
     }
+
+    ghost over_list = { tt };
 
     ghost fits_on = { λ m n e x y h k f. tt };
 
@@ -150,6 +163,8 @@ impl<I: Interner> Relate<I> for ArgsKey<I::Key> {
     fn relate<R: TypeRelation<I>>(r: &mut R, a: &Self, b: &Self) -> RelateResult<I, Self> {
         relate_args_invariantly(r, a, b)
     }
+
+    ghost over_list = { tt };
 
     ghost fits_on = { λ m n e x y h k f. ap count (e.args x h) ∙ (f ∙ sym (ap count (e.args y k))) };
 
@@ -178,6 +193,8 @@ impl<I: Interner> Relate<I> for TermKind<I::Key> {
             }
         }
     }
+
+    ghost over_list = { tt };
 
     ghost fits_on = { λ m n e x y h k f. tt };
 

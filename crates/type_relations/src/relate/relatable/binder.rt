@@ -34,6 +34,8 @@ impl<I: Interner, T: Relate<I> + TypeVisitable<I>> Relate<I> for Binder<I::Key, 
         Ok(*a)
     }
 
+    ghost over_list = { tt };
+
     ghost fits_on = { λ m n e x y h k f. (f.0, λ o i v w j l. f.1 o (extends_on e i) v w j l) };
 
     ghost same = { λ cx. binder_same (I.meaning cx) I.Key.eq (T.tree (I.meaning cx)) _ _ (λ x y. refl) (T.same cx)

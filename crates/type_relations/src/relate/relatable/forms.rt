@@ -22,6 +22,8 @@ impl<I: Interner> Relate<I> for FnSig<I::Key> {
         signatures(r, a, b)
     }
 
+    ghost over_list = { tt };
+
     ghost fits_on = { λ m n e x y h k f. tt };
 
     ghost same = { λ cx. signature_same (I.meaning cx) I.Key.eq _ (λ x y. refl) (I.same_tys cx) };
@@ -37,6 +39,8 @@ impl<I: Interner> Relate<I> for ExistentialPredicate<I::Key, I::Id> {
     fn relate<R: TypeRelation<I>>(r: &mut R, a: &Self, b: &Self) -> RelateResult<I, Self> {
         existentials(r, a, b)
     }
+
+    ghost over_list = { tt };
 
     ghost fits_on = { λ m n e x y h k f. tt };
 
@@ -65,6 +69,8 @@ impl<I: Interner> Relate<I> for ExistentialTraitRef<I::Key, I::Id> {
         }
     }
 
+    ghost over_list = { tt };
+
     ghost fits_on = { λ m n e x y h k f. tt };
 
     ghost same = { λ cx. trait_same (I.meaning cx) I.Key.eq I.Id.eq _ (λ x y. refl) (I.same_id cx)
@@ -88,6 +94,8 @@ impl<I: Interner> Relate<I> for ExistentialProjection<I::Key, I::Id> {
         }
     }
 
+    ghost over_list = { tt };
+
     ghost fits_on = { λ m n e x y h k f. tt };
 
     ghost same = { λ cx. projection_same (I.meaning cx) I.Key.eq I.Id.eq _ (λ x y. refl) (λ x y. refl) (λ x y. refl)
@@ -107,6 +115,8 @@ impl<I: Interner> Relate<I> for ExistentialPredicatesKey<I::Key> {
     fn relate<R: TypeRelation<I>>(r: &mut R, a: &Self, b: &Self) -> RelateResult<I, Self> {
         objects(r, a, b)
     }
+
+    ghost over_list = { tt };
 
     ghost fits_on = { λ m n e x y h k f. tt };
 
