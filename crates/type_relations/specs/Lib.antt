@@ -5,6 +5,7 @@ pub mod Handing
 pub mod UniverseLaws
 pub mod Subtyping
 pub mod Arguments
+pub mod Terms
 pub mod Keyed
 pub mod Relating
 pub mod EqualTerms

@@ -7,10 +7,9 @@ ghost use Rattle.relation_terms.specs.Trees.{known, count};
 ghost use Rattle.relation_terms.specs.Heads.{Head, arguments};
 ghost use Rattle.relation_terms.specs.Interning.{AreEqualAsTrees};
 ghost use Rattle.relation_folds.proofs.Arguments.{arg_same};
-ghost use Rattle.type_relations.specs.Arguments.{related_tree, IsListForm};
+ghost use Rattle.type_relations.specs.Arguments.{IsListForm};
+ghost use Rattle.type_relations.specs.Terms.{AskedTerms, RelatedTerms, TermsRegister};
 ghost use Rattle.type_relations.specs.EqualTerms.{sorted_by, term_same};
-ghost use Rattle.relation_contexts.specs.Lawful.{Asked, Related};
-ghost use Rattle.type_relations.specs.Subtyping.{RegistersSubtype};
 
 mod binder;
 mod forms;
@@ -48,16 +47,9 @@ pub trait Relate<I: Interner>: TypeFoldable<I> + PartialEq + Copy {
         requires lawful { (R.state r.old).lawful }
         requires decides { (R.state r.old).ambient ≢ Bivariant }
         requires fits { fits (R.state r.old).meaning a.now b.now }
-        requires asked { Asked R.manner (R.state r.old) (R.state r.old).ambient
-            (related_tree over (Self.tree (R.state r.old).meaning a.now))
-            (related_tree over (Self.tree (R.state r.old).meaning b.now)) }
-        ensures related { Related R.manner (R.state r.old) (R.state r.new) (R.state r.old).ambient
-            (related_tree over (Self.tree (R.state r.old).meaning a.now))
-            (related_tree over (Self.tree (R.state r.old).meaning b.now))
-            (λ x. related_tree over (Self.tree (R.state r.new).meaning x)) result }
-        ensures registers { RegistersSubtype R.manner (R.state r.old) (R.state r.new) (R.state r.old).ambient
-            (related_tree over (Self.tree (R.state r.old).meaning a.now))
-            (related_tree over (Self.tree (R.state r.old).meaning b.now)) result };
+        requires asked { AskedTerms R.manner over Self.tree (R.state r.old) a.now b.now }
+        ensures related { RelatedTerms R.manner over Self.tree (R.state r.old) (R.state r.new) a.now b.now result }
+        ensures registers { TermsRegister R.manner over Self.tree (R.state r.old) (R.state r.new) a.now b.now result };
 
     // That is a form over lists: of another one the clauses of `relate` could say nothing.
     ghost over_list: { IsListForm over };

@@ -1,14 +1,12 @@
 //! The recursion over every relation.
 //!
 //! These calls stand beside the relation, whose steps never call them: one proof serves all relations.
-ghost use Rattle.std.specs.Prelude.{◌≡◌, ◌≢◌, IsTrue, IfOk, OnOk};
+ghost use Rattle.std.specs.Prelude.{◌≡◌, ◌≢◌, IsTrue, Some, None, IfOk, OnOk};
 ghost use Rattle.relation_terms.specs.declared.terms.enums.Variance.TheVariants.{Bivariant};
 ghost use Rattle.relation_terms.specs.Variances.{xform};
 ghost use Rattle.relation_terms.specs.Heads.{object};
-ghost use Rattle.relation_terms.specs.Trees.{node};
 ghost use Rattle.relation_terms.specs.Meaning.{arg_tree, signature_tree, existential_tree};
 ghost use Rattle.relation_terms.specs.Parts.{part_tree, part_sort};
-ghost use Rattle.relation_contexts.specs.Lawful.{Asked, Related};
 ghost use Rattle.relation_contexts.specs.Errors.{AreOfOneForm};
 ghost use Rattle.relation_contexts.specs.Parts.{IsFormed, IsFormedConst, IsByParts, IsRelatedPart, IsComparedPart};
 ghost use Rattle.relation_contexts.specs.Parts.{IsBinderPart, ArePaired};
@@ -18,6 +16,7 @@ ghost use Rattle.type_relations.specs.Keyed.{RelatedParts, RelatedPartsAt, Relat
 ghost use Rattle.type_relations.specs.Keyed.{ArgsRegisterSubtype, TysRegisterSubtype};
 ghost use Rattle.relation_contexts.specs.Making.{arg_sort};
 ghost use Rattle.type_relations.specs.Arguments.{IsSkipped};
+ghost use Rattle.type_relations.specs.Terms.{AskedTerms, RelatedTerms};
 
 use crate::relate::handing::in_part;
 use crate::relate::making::{make_const, make_part, make_ty, of_arg};
@@ -285,11 +284,8 @@ pub fn signatures<I: Interner, R: TypeRelation<I>>(
 ) -> RelateResult<I, FnSig<I::Key>>
     requires lawful { (R.state r.old).lawful }
     requires decides { (R.state r.old).ambient ≢ Bivariant }
-    requires asked { let m = (R.state r.old).meaning in Asked R.manner (R.state r.old) (R.state r.old).ambient
-        (signature_tree m a.now) (signature_tree m b.now) }
-    ensures { let m = (R.state r.old).meaning in Related R.manner (R.state r.old) (R.state r.new)
-        (R.state r.old).ambient (signature_tree m a.now) (signature_tree m b.now)
-        (signature_tree (R.state r.new).meaning) result }
+    requires asked { AskedTerms R.manner None signature_tree (R.state r.old) a.now b.now }
+    ensures { RelatedTerms R.manner None signature_tree (R.state r.old) (R.state r.new) a.now b.now result }
 {
     Ok(the_signature(&relate_parts(r, &Part::Signature(*a), &Part::Signature(*b))?))
 }
@@ -307,11 +303,8 @@ pub fn existentials<I: Interner, R: TypeRelation<I>>(
 ) -> RelateResult<I, ExistentialPredicate<I::Key, I::Id>>
     requires lawful { (R.state r.old).lawful }
     requires decides { (R.state r.old).ambient ≢ Bivariant }
-    requires asked { let m = (R.state r.old).meaning in Asked R.manner (R.state r.old) (R.state r.old).ambient
-        (existential_tree m a.now) (existential_tree m b.now) }
-    ensures { let m = (R.state r.old).meaning in Related R.manner (R.state r.old) (R.state r.new)
-        (R.state r.old).ambient (existential_tree m a.now) (existential_tree m b.now)
-        (existential_tree (R.state r.new).meaning) result }
+    requires asked { AskedTerms R.manner None existential_tree (R.state r.old) a.now b.now }
+    ensures { RelatedTerms R.manner None existential_tree (R.state r.old) (R.state r.new) a.now b.now result }
 {
     Ok(the_existential(&relate_parts(r, &Part::Existential(*a), &Part::Existential(*b))?))
 }
@@ -329,12 +322,9 @@ pub fn objects<I: Interner, R: TypeRelation<I>>(
 ) -> RelateResult<I, ExistentialPredicates<I>>
     requires lawful { (R.state r.old).lawful }
     requires decides { (R.state r.old).ambient ≢ Bivariant }
-    requires asked { let m = (R.state r.old).meaning in Asked R.manner (R.state r.old) (R.state r.old).ambient
-        (node object (m.existential_predicates a.now)) (node object (m.existential_predicates b.now)) }
-    ensures { let m = (R.state r.old).meaning in Related R.manner (R.state r.old) (R.state r.new)
-        (R.state r.old).ambient (node object (m.existential_predicates a.now))
-        (node object (m.existential_predicates b.now))
-        (λ k. node object ((R.state r.new).meaning.existential_predicates k)) result }
+    requires asked { AskedTerms R.manner (Some object) (λ m. m.existential_predicates) (R.state r.old) a.now b.now }
+    ensures { RelatedTerms R.manner (Some object) (λ m. m.existential_predicates) (R.state r.old) (R.state r.new)
+        a.now b.now result }
 {
     Ok(the_object(&relate_parts(r, &Part::Object(*a), &Part::Object(*b))?))
 }

@@ -1,0 +1,25 @@
+-- What relating two values asks and promises at the ambient variance, by what is related of them: of a value that is
+-- `over` no form its tree, of another that form over its tree.
+use Rattle.std.specs.Prelude.{Option, Result}
+use Rattle.relation_terms.specs.Heads.{Head}
+use Rattle.relation_terms.specs.Trees.{Tree}
+use Rattle.relation_terms.specs.Meaning.{Meaning}
+use Rattle.relation_folds.specs.declared.error.RelateFault.{RelateFault}
+use Rattle.relation_contexts.specs.Lawful.{State, Manners, Asked, Related}
+use Rattle.type_relations.specs.Arguments.{related_tree}
+use Rattle.type_relations.specs.Subtyping.{RegistersSubtype}
+
+module _ {Key Id Name A : Type 0} (M : Manners) (over : Option Head) (tree : Meaning Key Id Name → A → Tree) where
+  -- Two that the relation takes.
+  abbrev pub AskedTerms : State Key Id Name → A → A → Type 0
+  AskedTerms r a b = Asked M r r.ambient (related_tree over (tree r.meaning a)) (related_tree over (tree r.meaning b))
+
+  -- They were related, and what came of it.
+  abbrev pub RelatedTerms : State Key Id Name → State Key Id Name → A → A → Result A (RelateFault Key Id Name) → Type 0
+  RelatedTerms r q a b result = Related M r q r.ambient (related_tree over (tree r.meaning a))
+      (related_tree over (tree r.meaning b)) (λ x. related_tree over (tree q.meaning x)) result
+
+  -- Two type variables were related by registering that the one is a subtype of the other, where that is promised.
+  abbrev pub TermsRegister : State Key Id Name → State Key Id Name → A → A → Result A (RelateFault Key Id Name) → Type 0
+  TermsRegister r q a b result = RegistersSubtype M r q r.ambient (related_tree over (tree r.meaning a))
+      (related_tree over (tree r.meaning b)) result
