@@ -52,7 +52,8 @@ pub trait RelateExt: InferCtxtLike {
     /// Both stand there by their roots, and the first is the expected one.
     ///
     /// Answers `Unrelated` only where no assignment that satisfied what was recorded makes the two one: with the error
-    /// of two parts that stand at one place, the left side's first, or of a cycle. Of first-order terms in a
+    /// of the two, or of two parts that stand at one place, the left side's first; or of a variable that can't be bound
+    /// to the other side, in which it stands itself, or a placeholder that it can't name. Of first-order terms in a
     /// first-order record at `Invariant` no solution up to erasure unifies them then. Answers `Budget` only where no
     /// instantiation is left, and `Memory` where a growth was refused.
     ///
