@@ -1,5 +1,7 @@
 -- What adding an item changes.
-use Rattle.std.specs.Prelude.{◌≡◌, ◌≢◌, ℕ, List, [], None, length}
+use Rattle.std.specs.Prelude.{◌≡◌, ◌≢◌, ℕ, List, [], None, length, Result, IfOk, IsFalse}
+use Rattle.std.specs.Global.{Vec}
+use Rattle.relation_terms.specs.declared.terms.enums.Variance.{Variance}
 use Rattle.relation_terms.specs.Meaning.{Meaning}
 use Rattle.relation_terms.specs.declared.terms.enums.SolverTraitLangItem.{SolverTraitLangItem}
 use Rattle.relation_terms.specs.declared.terms.keys.TyKey.{TyKey}
@@ -21,8 +23,9 @@ use Rattle.reference_interner.specs.declared.keys.NodeKey.{NodeKey}
 use Rattle.reference_interner.specs.declared.keys.ItemId.{ItemId}
 use Rattle.reference_interner.specs.declared.keys.SymbolId.{SymbolId}
 use Rattle.reference_interner.specs.declared.items.Item.{Item}
+use Rattle.reference_interner.specs.declared.items.ItemKind.{ItemKind}
 use Rattle.reference_interner.specs.declared.RefInterner.{RefInterner}
-use Rattle.reference_interner.specs.Items.{Items}
+use Rattle.reference_interner.specs.Items.{Items, alias_variances_of}
 use Rattle.reference_interner.specs.Nodes.{table_meaning}
 
 -- The items that were added, and which solver is on.
@@ -84,3 +87,11 @@ pub record HasNoGenerics {Key Id Name : Type 0} (m : Meaning Key Id Name) (d : �
   pub generics : m.generics d ≡ 0
   pub variances : m.variances d ≡ []
   pub alias_variances : m.alias_variances d ≡ None
+
+-- An alias type of the item of a number is related at the variances that its kind gives.
+abbrev pub HasAliasVariances : {Key Id Name : Type 0} → Meaning Key Id Name → ℕ → ItemKind → Vec Variance → Type 0
+HasAliasVariances m d kind vs = m.alias_variances d ≡ alias_variances_of kind.def vs.items
+
+-- The item that was made is none that the language knows.
+abbrev pub MakesNoLangItem : {Key Id Name E : Type 0} → Meaning Key Id Name → Result ItemId E → Type 0
+MakesNoLangItem m result = (i : SolverTraitLangItem) → IfOk result (λ d. IsFalse ((m.tables).is_lang_item d.0 i))

@@ -1,5 +1,6 @@
 -- The items of a table.
-use Rattle.std.specs.Prelude.{ℕ, Bool, true, false, List, [], ◌∷◌, suc, zero, Option, Some, None, map, slice_index_or}
+use Rattle.std.specs.Prelude.{◌≡◌, ℕ, Bool, true, false, List, [], ◌∷◌, ◌++◌, suc, zero, Option, Some, None, map}
+use Rattle.std.specs.Prelude.{slice_index_or}
 use Rattle.relation_terms.specs.Heads.{AliasTermKind, type_alias, unevaluated_const, projection_const, free_const}
 use Rattle.relation_terms.specs.Heads.{inherent_const, projection_alias, inherent_alias, opaque_alias, free_alias}
 use Rattle.relation_terms.specs.Tables.{Tables}
@@ -76,6 +77,10 @@ tables_of items = record {
 -- An item as it is added.
 abbrev pub new_item : ItemKind → SymbolId → Vec Variance → Item
 new_item kind name vs = record { kind = kind; name = name; variances = vs; is_auto = false; is_sized = false }
+
+-- The second list is the first with a new item behind.
+abbrev pub IsPutBehind : List Item → List Item → ItemKind → SymbolId → Vec Variance → Type 0
+IsPutBehind before after kind name vs = after ≡ before ++ new_item kind name vs ∷ []
 
 -- The list with the item of a number changed.
 abbrev pub changed_at : (Item → Item) → List Item → ℕ → List Item

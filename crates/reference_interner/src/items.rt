@@ -1,5 +1,5 @@
 //! Items, and how one is added.
-ghost use Rattle.std.specs.Prelude.{◌≡◌, ◌++◌, ◌∷◌, [], suc, IfOk, IsFalse, OnErr, length};
+ghost use Rattle.std.specs.Prelude.{◌≡◌, suc, IfOk, IsFalse, OnErr, length};
 
 use crate::keys::next_number;
 use crate::{ItemId, RefInterner, SymbolId};
@@ -121,10 +121,9 @@ pub struct Item {
 
 impl RefInterner {
     ghost use Rattle.reference_interner.specs.Adding.{items_of, item_count, meaning_in, SameTerms, OthersStand};
-    ghost use Rattle.reference_interner.specs.Adding.{HasNoGenerics};
-    ghost use Rattle.reference_interner.specs.Items.{alias_variances_of, parent_of, alias_kind_of, new_item};
+    ghost use Rattle.reference_interner.specs.Adding.{HasNoGenerics, HasAliasVariances, MakesNoLangItem};
+    ghost use Rattle.reference_interner.specs.Items.{parent_of, alias_kind_of, IsPutBehind};
     ghost use Rattle.reference_interner.specs.Items.{changed_at, said_auto, said_sized};
-    ghost use Rattle.relation_terms.specs.declared.terms.enums.SolverTraitLangItem.{SolverTraitLangItem};
 
     /// How many items were added.
     pub fn item_count(&self) -> usize
@@ -145,20 +144,17 @@ impl RefInterner {
         variances: Vec<Variance>,
     ) -> Result<ItemId, OutOfMemory>
         ensures number { IfOk result (λ d. d.0 ≡ item_count self.old) }
-        ensures recorded { IfOk result (λ d. items_of self.new ≡ items_of self.old ++
-            new_item kind name variances ∷ []) }
+        ensures recorded { IfOk result (λ d. IsPutBehind (items_of self.old) (items_of self.new) kind name variances) }
         ensures one_more { IfOk result (λ d. item_count self.new ≡ suc (item_count self.old)) }
         ensures fresh { IfOk result (λ d. HasNoGenerics (meaning_in self.old) d.0) }
         ensures terms { SameTerms (meaning_in self.old) (meaning_in self.new) }
         ensures generics { IfOk result (λ d. (meaning_in self.new).generics d.0 ≡ length variances.items) }
         ensures variances { IfOk result (λ d. (meaning_in self.new).variances d.0 ≡ variances.items) }
-        ensures alias_variances { let is = alias_variances_of kind.def variances.items in
-            IfOk result (λ d. (meaning_in self.new).alias_variances d.0 ≡ is) }
+        ensures alias_variances { IfOk result (λ d. HasAliasVariances (meaning_in self.new) d.0 kind variances) }
         ensures parent { IfOk result (λ d. ((meaning_in self.new).tables).parent d.0 ≡ parent_of kind.def) }
         ensures alias_kind { IfOk result (λ d. ((meaning_in self.new).tables).alias_kind d.0 ≡ alias_kind_of kind.def) }
         ensures no_auto { IfOk result (λ d. IsFalse (((meaning_in self.new).tables).is_auto d.0)) }
-        ensures no_lang_item { (i : SolverTraitLangItem) →
-            IfOk result (λ d. IsFalse (((meaning_in self.new).tables).is_lang_item d.0 i)) }
+        ensures no_lang_item { MakesNoLangItem (meaning_in self.new) result }
         ensures others { IfOk result (λ d. OthersStand (meaning_in self.old) (meaning_in self.new) d.0) }
         ensures refused { OnErr result (meaning_in self.new ≡ meaning_in self.old) }
         ensures none_recorded { OnErr result (items_of self.new ≡ items_of self.old) }

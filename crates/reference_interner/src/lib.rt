@@ -64,7 +64,7 @@ impl Interner for RefInterner {
     ghost use Rattle.relation_terms.specs.Meaning.{pattern_tree, object_predicate_tree};
     ghost use Rattle.relation_terms.specs.Predicates.{predicate_tree, clause_tree};
     ghost use Rattle.relation_terms.specs.Interning.{RemakesPredicate, RemakesClause, MakesClauses, KeepsClauses};
-    ghost use Rattle.relation_terms.specs.Interning.{RemakesEnv};
+    ghost use Rattle.relation_terms.specs.Interning.{RemakesEnv, MakesEnv, MakesPredicate};
     ghost use Rattle.relation_terms.specs.Interning.{RemakesTy, RemakesRegion, RemakesConst, RemakesValTree};
     ghost use Rattle.relation_terms.specs.Interning.{RemakesEmptyEnv, MakesTys, MakesArgs, MakesBranches};
     ghost use Rattle.relation_terms.specs.Interning.{KeepsTys, KeepsArgs, KeepsBranches};
@@ -431,8 +431,7 @@ impl Interner for RefInterner {
         requires { IsTrue (known (predicate_tree (meaning_in self.old) kind)) }
         ensures grown { Extends (meaning_in self.old) (meaning_in self.new) }
         ensures sure { IfOk result (λ k. IsTrue (known ((meaning_in self.new).predicate k))) }
-        ensures made { let tree = predicate_tree (meaning_in self.old) kind in
-            IfOk result (λ k. (meaning_in self.new).predicate k ≡ tree) }
+        ensures made { MakesPredicate (meaning_in self.old) (meaning_in self.new) kind result }
         ensures refused { OnErr result (meaning_in self.new ≡ meaning_in self.old) }
         ensures there { RemakesPredicate (meaning_in self.old) (meaning_in self.new) kind result }
         ensures one_more { node_count self.new ≤ suc (node_count self.old) }
@@ -475,8 +474,7 @@ impl Interner for RefInterner {
         requires { IsTrue (known ((meaning_in self.old).clauses clauses)) }
         ensures grown { Extends (meaning_in self.old) (meaning_in self.new) }
         ensures sure { IfOk result (λ k. IsTrue (known ((meaning_in self.new).param_env k))) }
-        ensures made { let list = (meaning_in self.old).clauses clauses in
-            IfOk result (λ k. (meaning_in self.new).param_env k ≡ node environment list) }
+        ensures made { MakesEnv (meaning_in self.old) (meaning_in self.new) clauses result }
         ensures refused { OnErr result (meaning_in self.new ≡ meaning_in self.old) }
         ensures there { RemakesEnv (meaning_in self.old) (meaning_in self.new) clauses result }
         ensures no_more { node_count self.new ≡ node_count self.old }

@@ -52,6 +52,10 @@ module _ {Key Id Name : Type 0} (c d : Context Key Id Name) where
   EntersBinder tree t (Ok x) = IsTrue (known (tree d.meaning x)) × EntersAs t (tree d.meaning x)
   EntersBinder tree t (Err f) = d.store ≡ c.store
 
+  -- The same of a binder over what has a tree.
+  abbrev pub EntersBinderOf : {K F : Type 0} → (Meaning Key Id Name → K → Tree) → Binder Key K → Result K F → Type 0
+  EntersBinderOf tree b result = EntersBinder tree (binder_tree tree c.meaning b) result
+
   -- What the body of a binder was instantiated as.
   abbrev pub InstantiatesAs : Tree → Tree → Type 0
   InstantiatesAs (bind ks t) x = InstantiatesEach c.store d.store ks t x
@@ -62,6 +66,11 @@ module _ {Key Id Name : Type 0} (c d : Context Key Id Name) where
   abbrev pub InstantiatesWithInfer : {K F : Type 0} → (Meaning Key Id Name → K → Tree) → Tree → Result K F → Type 0
   InstantiatesWithInfer tree t (Ok x) = IsTrue (known (tree d.meaning x)) × InstantiatesAs t (tree d.meaning x)
   InstantiatesWithInfer tree t (Err f) = MakesUnbound (c.store).universe c.store d.store
+
+  -- The same of a binder over what has a tree.
+  abbrev pub InstantiatesBinderOf : {K F : Type 0} → (Meaning Key Id Name → K → Tree) → Binder Key K → Result K F →
+      Type 0
+  InstantiatesBinderOf tree b result = InstantiatesWithInfer tree (binder_tree tree c.meaning b) result
 
   -- Of two binders the one was entered, and then the other instantiated, from one record through another to a third.
   abbrev pub OpensFrom : Tree → Tree → Tree → Tree → Type 0

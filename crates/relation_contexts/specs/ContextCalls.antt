@@ -6,11 +6,15 @@ use Rattle.relation_terms.specs.declared.terms.enums.Variance.{Variance}
 use Rattle.relation_terms.specs.declared.terms.keys.RegionKey.{RegionKey}
 use Rattle.relation_terms.specs.declared.terms.keys.TyKey.{TyKey}
 use Rattle.relation_terms.specs.declared.terms.numbers.UniverseIndex.{UniverseIndex}
-use Rattle.relation_terms.specs.Heads.{VarKind, type_var, variable}
+use Rattle.relation_terms.specs.declared.terms.keys.ConstKey.{ConstKey}
+use Rattle.relation_terms.specs.declared.terms.enums.Variance.TheVariants.{Invariant}
+use Rattle.relation_terms.specs.declared.terms.numbers.TyVid.{TyVid}
+use Rattle.relation_terms.specs.declared.terms.numbers.ConstVid.{ConstVid}
+use Rattle.relation_terms.specs.Heads.{VarKind, type_var, const_var, variable}
 use Rattle.relation_terms.specs.Trees.{Tree, leaf, known, apply}
 use Rattle.relation_terms.specs.Meaning.{Meaning, Extends}
 use Rattle.relation_folds.specs.declared.error.TypeError.{TypeError}
-use Rattle.relation_folds.specs.declared.error.TypeError.TheVariants.{Mismatch}
+use Rattle.relation_folds.specs.declared.error.TypeError.TheVariants.{Mismatch, CyclicTy, CyclicConst}
 use Rattle.relation_folds.specs.declared.error.RelateFault.{RelateFault}
 use Rattle.relation_folds.specs.declared.error.RelateFault.TheVariants.{Memory, Budget, Unrelated}
 use Rattle.relation_folds.specs.Faults.{KnowsError}
@@ -23,10 +27,15 @@ use Rattle.relation_contexts.specs.Resolving.{IsRoot}
 use Rattle.relation_contexts.specs.Steps.{Equates, InstantiatesNumber, MakesVariable, AddsConstraint, Resolves, LeadsTo}
 use Rattle.relation_contexts.specs.Steps.{ChangesNothing}
 use Rattle.relation_contexts.specs.Stores.{Store, Constraint, IsMade, unbound, bound_to, entry_of, universe_of, resolved}
+use Rattle.relation_contexts.specs.Stores.{equal_constraint, outlives_constraint}
 
 -- What variables are bound to is of forms that relating has rules for.
 abbrev pub HasCoveredBindings : Store → Type 0
 HasCoveredBindings st = (k : VarKind) (n : ℕ) (t : Tree) → entry_of st k n ≡ bound_to t → IsCovered t
+
+-- A term is no variable of a kind.
+abbrev pub IsNotVariable : VarKind → Tree → Type 0
+IsNotVariable k t = (n : ℕ) → t ≢ leaf (variable k n)
 
 -- The error that an obstacle makes: a variable that stands in what its source comes to names that.
 abbrev pub ObstacleError : {Key Id Name K : Type 0} → (K → Tree) → (K → TypeError Key Id Name) → Tree →
@@ -138,6 +147,14 @@ module _ {Key Id Name : Type 0} (c d : Context Key Id Name) where
   Constrains q (Ok x) = AddsConstraint c.store d.store q
   Constrains q (Err f) = d.store ≡ c.store
 
+  -- The same of two regions: that the first outlives the second, and that they outlive each other.
+  abbrev pub ConstrainsOutlives : {A F : Type 0} → RegionKey Key → RegionKey Key → Result A F → Type 0
+  ConstrainsOutlives sup sub result =
+      Constrains (outlives_constraint ((c.meaning).region sup) ((c.meaning).region sub)) result
+
+  abbrev pub ConstrainsEqual : {A F : Type 0} → RegionKey Key → RegionKey Key → Result A F → Type 0
+  ConstrainsEqual a b result = Constrains (equal_constraint ((c.meaning).region a) ((c.meaning).region b)) result
+
   -- What binding a variable, at a variance, to what a term comes to answers: the term that it was bound to by the
   -- rules, for one of the budget; or nothing was bound, since an obstacle stands in what the term comes to, or nothing
   -- is left of the budget, or a growth was refused. Variables that were made on the way stay unbound.
@@ -159,3 +176,20 @@ pub record Knows {Key Id Name : Type 0} (c : Context Key Id Name) (m : Meaning K
   pub store : d.store ≡ c.store
   pub lawful : d.lawful
   pub rest : KeepsRest c d
+
+-- Whatever the interner of a lawful context may come to know by growing, nothing else of the context is added to.
+abbrev pub OnlyLearns : {Key Id Name S I : Type 0} → (I → Meaning Key Id Name) → (S → Context Key Id Name) →
+    (S → I → S) → S → Type 0
+OnlyLearns {I = I} meaning state with_interner ctxt = (cx : I) → Extends (state ctxt).meaning (meaning cx) →
+    (state ctxt).lawful → Knows (state ctxt) (meaning cx) (state (with_interner ctxt cx))
+
+-- What binding a type variable to what a type comes to answers, and a constant variable to what a constant does.
+abbrev pub BindsTy : {Key Id Name S : Type 0} → (S → Context Key Id Name) → S → S → Variance → TyVid →
+    TyKey Key → Result (TyKey Key) (RelateFault Key Id Name) → Type 0
+BindsTy state before after v vid t result = Instantiated (state before) (state after) v type_var vid.0
+    (((state before).meaning).ty t) (λ m. m.ty) CyclicTy result
+
+abbrev pub BindsConst : {Key Id Name S : Type 0} → (S → Context Key Id Name) → S → S → ConstVid →
+    ConstKey Key → Result (ConstKey Key) (RelateFault Key Id Name) → Type 0
+BindsConst state before after vid t result = Instantiated (state before) (state after) Invariant const_var vid.0
+    (((state before).meaning).const_ t) (λ m. m.const_) CyclicConst result

@@ -1,25 +1,24 @@
 //! Inference contexts, by what each of their calls does.
 ghost use Rattle.std.specs.Prelude.{◌≡◌, ◌≢◌, ◌≤◌, ℕ, IsTrue, length};
 ghost use Rattle.std.specs.Borrow.{sem, Lends};
-ghost use Rattle.relation_terms.specs.declared.terms.enums.Variance.TheVariants.{Invariant, Bivariant};
+ghost use Rattle.relation_terms.specs.declared.terms.enums.Variance.TheVariants.{Bivariant};
 ghost use Rattle.relation_terms.specs.declared.terms.ty_kind.IntVarValue.TheVariants.{Unknown};
 ghost use Rattle.relation_terms.specs.declared.terms.ty_kind.FloatVarValue.TheVariants.{Unknown as UnknownFloat};
 ghost use Rattle.relation_terms.specs.Heads.{type_var, int_var, float_var, const_var, region_var, variable};
-ghost use Rattle.relation_terms.specs.Meaning.{Extends};
 ghost use Rattle.relation_terms.specs.Trees.{leaf, known};
-ghost use Rattle.relation_folds.specs.declared.error.TypeError.TheVariants.{CyclicTy, CyclicConst};
-ghost use Rattle.relation_contexts.specs.Stores.{IsSound, IsMade, IsTermIn, equal_constraint, outlives_constraint};
+ghost use Rattle.relation_contexts.specs.Stores.{IsSound, IsMade, IsTermIn};
 ghost use Rattle.relation_contexts.specs.Contexts.{Context, KnowsTy, KnowsConst, HasTy, HasConst, HasRegion};
 ghost use Rattle.relation_contexts.specs.Covered.{IsCovered};
 ghost use Rattle.relation_contexts.specs.Generalising.{NumbersNameNothing};
 ghost use Rattle.relation_contexts.specs.Resolving.{IsShallow, IsShallowTy, IsShallowConst};
 ghost use Rattle.relation_contexts.specs.NumberValues.{int_value_tree, float_value_tree};
-ghost use Rattle.relation_contexts.specs.ContextCalls.{IsUnresolved, IsRootOf, Reads, Knows, Stands, Grows, MakesNext};
-ghost use Rattle.relation_contexts.specs.ContextCalls.{EntersNext, EquatesTwo, BindsNumber, Constrains, Instantiated};
+ghost use Rattle.relation_contexts.specs.ContextCalls.{IsUnresolved, IsRootOf, Reads, Stands, Grows, MakesNext, OnlyLearns};
+ghost use Rattle.relation_contexts.specs.ContextCalls.{EntersNext, EquatesTwo, BindsNumber, ConstrainsOutlives};
+ghost use Rattle.relation_contexts.specs.ContextCalls.{ConstrainsEqual, IsNotVariable, BindsTy, BindsConst};
 ghost use Rattle.relation_contexts.specs.ContextCalls.{HasUniverse, ComesTo, JoinsRoots, Registers, HasCoveredBindings};
 ghost use Rattle.relation_contexts.specs.ContextCalls.{KeepsRest, KeepsSolver, KeepsOutliving, KeepsMarks, MarksNew};
 ghost use Rattle.relation_contexts.specs.Bound.{BindsByList};
-ghost use Rattle.relation_contexts.specs.Binders.{binder_tree, EntersBinder, InstantiatesWithInfer};
+ghost use Rattle.relation_contexts.specs.Binders.{binder_tree, EntersBinderOf, InstantiatesBinderOf};
 
 use crate::relate::StructurallyRelateAliases;
 use relation_folds::error::RelateResult;
@@ -64,15 +63,12 @@ pub trait InferCtxtLike {
 
     /// The interner, to make terms.
     fn cx_mut(&mut self) -> &mut Self::Interner
-        ensures* writes_back { sem 𝓛 (Lends Self.row Self.Interner.row self.entry result
-            (with_interner self.entry.now)) }
+        ensures* lends { sem 𝓛 (Lends Self.row Self.Interner.row self.entry result (with_interner self.entry.now)) }
         ensures value { Self.Interner.meaning result.now ≡ (state self.old).meaning };
 
     /// Does nothing: it shows that making terms changes nothing of the context but what its interner knows.
     fn interner_grows(&self)
-        ensures { (cx : Self.Interner) → Extends (state self.now).meaning (Self.Interner.meaning cx) →
-            (state self.now).lawful →
-            Knows (state self.now) (Self.Interner.meaning cx) (state (with_interner self.now cx)) };
+        ensures { OnlyLearns Self.Interner.meaning state with_interner self.now };
 
     /// Whether the next trait solver is on, as it is everywhere but in parts of the compiler.
     fn next_trait_solver(&self) -> bool
@@ -150,16 +146,14 @@ pub trait InferCtxtLike {
     fn opportunistic_resolve_ct_var(&self, vid: ConstVid) -> Const<Self::Interner>
         requires lawful { (state self.now).lawful }
         requires made { IsMade (state self.now).store const_var vid.0 }
-        ensures reads { let c = state self.now in
-            Reads c (leaf (variable const_var vid.0)) ((c.meaning).const_ result) }
+        ensures reads { let c = state self.now in Reads c (leaf (variable const_var vid.0)) (c.meaning.const_ result) }
         ensures shallow { let c = state self.now in IsShallowConst c.store ((c.meaning).const_ result) };
 
     /// The region of a region variable: itself, since regions are only constrained.
     fn opportunistic_resolve_lt_var(&self, vid: RegionVid) -> Region<Self::Interner>
         requires lawful { (state self.now).lawful }
         requires made { IsMade (state self.now).store region_var vid.0 }
-        ensures reads { let c = state self.now in
-            Reads c (leaf (variable region_var vid.0)) ((c.meaning).region result) }
+        ensures reads { let c = state self.now in Reads c (leaf (variable region_var vid.0)) (c.meaning.region result) }
         ensures itself { ((state self.now).meaning).region result ≡ leaf (variable region_var vid.0) };
 
     /// The type itself, or for a variable what its class is bound to, or else its root. It takes no memory.
@@ -233,8 +227,7 @@ pub trait InferCtxtLike {
         requires value_in { IsTermIn (state self.old).store (binder_tree T.tree (state self.old).meaning value) }
         requires value_binds { BindsByList (binder_tree T.tree (state self.old).meaning value) }
         ensures grows { Grows (state self.old) (state self.new) }
-        ensures enters { let t = binder_tree T.tree (state self.old).meaning value in
-            EntersBinder (state self.old) (state self.new) T.tree t result }
+        ensures enters { EntersBinderOf (state self.old) (state self.new) T.tree value result }
         ensures rest { KeepsRest (state self.old) (state self.new) };
 
     /// The body of a binder, with new variables of the current universe for what the binder binds: one for each place
@@ -249,8 +242,7 @@ pub trait InferCtxtLike {
         requires value_in { IsTermIn (state self.old).store (binder_tree T.tree (state self.old).meaning value) }
         requires value_binds { BindsByList (binder_tree T.tree (state self.old).meaning value) }
         ensures grows { Grows (state self.old) (state self.new) }
-        ensures instantiates { let t = binder_tree T.tree (state self.old).meaning value in
-            InstantiatesWithInfer (state self.old) (state self.new) T.tree t result }
+        ensures instantiates { InstantiatesBinderOf (state self.old) (state self.new) T.tree value result }
         ensures rest { KeepsRest (state self.old) (state self.new) };
 
     /// Makes two unresolved type variables one. The smaller number is the root, with the smaller of both universes.
@@ -338,12 +330,9 @@ pub trait InferCtxtLike {
         requires source_known { KnowsTy (state self.old) source_ty.now }
         requires source_in { HasTy (state self.old) source_ty.now }
         requires source_covered { IsCovered (((state self.old).meaning).ty source_ty.now) }
-        requires source_no_variable { (n : ℕ) →
-            ((state self.old).meaning).ty source_ty.now ≢ leaf (variable type_var n) }
+        requires source_no_variable { IsNotVariable type_var (((state self.old).meaning).ty source_ty.now) }
         ensures grows { Grows (state self.old) (state self.new) }
-        ensures instantiates { let t = ((state self.old).meaning).ty source_ty.now in
-            Instantiated (state self.old) (state self.new) instantiation_variance type_var target_vid.0 t (λ m. m.ty)
-            CyclicTy result }
+        ensures instantiates { BindsTy state self.old self.new instantiation_variance target_vid source_ty.now result }
         ensures rest { MarksNew (state self.old) (state self.new) };
 
     /// The same of a constant variable and a constant that is no variable, at `Invariant`, with `CyclicConst`.
@@ -358,12 +347,9 @@ pub trait InferCtxtLike {
         requires source_known { KnowsConst (state self.old) source_ct.now }
         requires source_in { HasConst (state self.old) source_ct.now }
         requires source_covered { IsCovered (((state self.old).meaning).const_ source_ct.now) }
-        requires source_no_variable { (n : ℕ) →
-            ((state self.old).meaning).const_ source_ct.now ≢ leaf (variable const_var n) }
+        requires source_no_variable { IsNotVariable const_var (((state self.old).meaning).const_ source_ct.now) }
         ensures grows { Grows (state self.old) (state self.new) }
-        ensures instantiates { let t = ((state self.old).meaning).const_ source_ct.now in
-            Instantiated (state self.old) (state self.new) Invariant const_var target_vid.0 t (λ m. m.const_)
-            CyclicConst result }
+        ensures instantiates { BindsConst state self.old self.new target_vid source_ct.now result }
         ensures rest { MarksNew (state self.old) (state self.new) };
 
     /// Records that `sup` outlives `sub`. After `OutOfMemory` nothing was recorded.
@@ -378,9 +364,7 @@ pub trait InferCtxtLike {
         requires sub_in { HasRegion (state self.old) sub.now }
         requires sup_in { HasRegion (state self.old) sup.now }
         ensures stands { Stands (state self.old) (state self.new) }
-        ensures constrains { let m = (state self.old).meaning in
-            Constrains (state self.old) (state self.new) (outlives_constraint (m.region sup.now) (m.region sub.now))
-            result }
+        ensures constrains { ConstrainsOutlives (state self.old) (state self.new) sup.now sub.now result }
         ensures rest { KeepsRest (state self.old) (state self.new) };
 
     /// Records that two regions outlive each other, also where both are one. After `OutOfMemory` nothing was recorded.
@@ -395,8 +379,7 @@ pub trait InferCtxtLike {
         requires a_in { HasRegion (state self.old) a.now }
         requires b_in { HasRegion (state self.old) b.now }
         ensures stands { Stands (state self.old) (state self.new) }
-        ensures constrains { let m = (state self.old).meaning in
-            Constrains (state self.old) (state self.new) (equal_constraint (m.region a.now) (m.region b.now)) result }
+        ensures constrains { ConstrainsEqual (state self.old) (state self.new) a.now b.now result }
         ensures rest { KeepsRest (state self.old) (state self.new) };
 
     /// Registers that a type is to outlive a region, behind what was registered before. Nothing else is recorded. After

@@ -1,6 +1,7 @@
 pub mod Faults
 pub mod Visits
 pub mod Folds
+pub mod KeyFolds
 pub mod Forms
 pub mod Clashes
 pub mod Outlines

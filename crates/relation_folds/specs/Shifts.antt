@@ -1,6 +1,6 @@
 -- Bound variables moved past binders, and terms put for the variables of a binder.
 use Rattle.std.specs.Prelude.{◌≡◌, ℕ, ◌+◌, IsTrue, Bool, true, false, cond, nat_lt, nat_eq, Option, Some, None}
-use Rattle.std.specs.Prelude.{List, [], ◌∷◌, map, slice_get}
+use Rattle.std.specs.Prelude.{List, [], ◌∷◌, map, slice_get, Result, IfOk}
 use Rattle.std.proofs.Common.{ap, ap₂, refl}
 use Rattle.std.proofs.lemmas.Bool.{and_parts}
 use Rattle.relation_terms.specs.Heads.{Sort, region_sort, type_sort, const_sort, Kind, region_kind, type_kind}
@@ -80,3 +80,12 @@ module _ {Key Id Name : Type 0} {m n : Meaning Key Id Name} (e : Extends m n) wh
   pub opens_stays : (xs : List (GenericArgKind Key)) → IsTrue (known (list_tree (arg_tree m) xs)) → (d : ℕ) (t : Tree) →
       opens (map (arg_tree n) xs) d t ≡ opens (map (arg_tree m) xs) d t
   opens_stays xs k d t = ap (λ ts. opens ts d t) (stays_map (arg_tree m) (arg_tree n) xs (stays_arg e) k)
+
+module _ {Key Id Name A E : Type 0} (tree : Meaning Key Id Name → A → Tree) (m n : Meaning Key Id Name) where
+  -- What is made is the tree as it stands under so many more binders.
+  abbrev pub ShiftsBy : ℕ → A → Result A E → Type 0
+  ShiftsBy amount a result = IfOk result (λ x. tree n x ≡ shifted amount (tree m a))
+
+  -- What is made is the body with these arguments put for the binder's variables.
+  abbrev pub OpensBy : List (GenericArgKind Key) → A → Result A E → Type 0
+  OpensBy args a result = IfOk result (λ x. tree n x ≡ opened (map (arg_tree m) args) (tree m a))

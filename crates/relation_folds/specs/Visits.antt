@@ -7,9 +7,12 @@ use Rattle.relation_terms.specs.Heads.{BoundKind}
 use Rattle.relation_terms.specs.Heads.{Atom, type_param, type_error, fresh_type, fresh_int, fresh_float, Head, alias}
 use Rattle.relation_terms.specs.Heads.{Leaf, variable, bound, atom}
 use Rattle.relation_terms.specs.Trees.{Tree, leaf, node, bind, nil, cons}
+use Rattle.relation_terms.specs.Meaning.{Meaning}
 use Rattle.relation_terms.specs.Flags.{outer_exclusive_binder, has_non_region_infer}
 use Rattle.relation_terms.specs.Parts.{parts_of}
 use Rattle.relation_terms.specs.Orders.{in_order, order_of}
+use Rattle.relation_terms.specs.declared.terms.keys.AlternativesKey.{AlternativesKey}
+use Rattle.relation_terms.specs.declared.terms.keys.ExistentialPredicatesKey.{ExistentialPredicatesKey}
 use Rattle.relation_terms.specs.declared.terms.part_kind.Part.{Part}
 use Rattle.relation_terms.specs.declared.terms.part_kind.Part.TheVariants.{Binder}
 use Rattle.relation_folds.specs.declared.visit.Visit.{Visit}
@@ -73,6 +76,17 @@ pub data Walks {V : Type 0} (visits : V → ℕ → Tree → V → Visit → Typ
       Walks visits d v (cons t ts) w (Break tt)
   next_part : {d : ℕ} {v w x : V} {t ts : Tree} {r : Flow} → Walks visits d v t w (Continue tt) →
       Walks visits d w ts x r → Walks visits d v (cons t ts) x r
+
+-- From one visitor to another over the parts of a tree, and over the list of a key: of alternatives, of predicates.
+abbrev pub WalksParts : {V : Type 0} → (V → ℕ → Tree → V → Visit → Type 0) → V → Tree → V → Flow → Type 0
+WalksParts visits v t w r = Walks visits 0 v (parts_of t) w r
+
+module _ {Key Id Name V : Type 0} (visits : V → ℕ → Tree → V → Visit → Type 0) (m : Meaning Key Id Name) where
+  abbrev pub WalksAlternatives : V → AlternativesKey Key → V → Flow → Type 0
+  WalksAlternatives v k w r = Walks visits 0 v (m.alternatives k) w r
+
+  abbrev pub WalksPredicates : V → ExistentialPredicatesKey Key → V → Flow → Type 0
+  WalksPredicates v k w r = Walks visits 0 v (m.existential_predicates k) w r
 
 -- Some leaf has a property, which is told how many binders stand around the leaf, `depth` of them around the tree.
 abbrev pub has_leaf : (ℕ → Leaf → Bool) → ℕ → Tree → Bool

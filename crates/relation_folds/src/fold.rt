@@ -2,7 +2,8 @@
 ghost use Rattle.std.specs.Prelude.{◌≡◌, ℕ, IsTrue, IfOk, Option};
 ghost use Rattle.relation_terms.specs.Trees.{Tree, known};
 ghost use Rattle.relation_terms.specs.Meaning.{Meaning, Extends};
-ghost use Rattle.relation_folds.specs.Folds.{Steps, folded, answered, KnownAnswer};
+ghost use Rattle.relation_folds.specs.Folds.{Steps, KnownAnswer};
+ghost use Rattle.relation_folds.specs.KeyFolds.{PutsTy, PutsRegion, PutsConst, FoldsTo, LeavesAs};
 
 use crate::tree::HasTree;
 use relation_terms::terms::{Const, Interner, OutOfMemory, Region, Ty};
@@ -55,8 +56,7 @@ pub trait TypeFolder<I: Interner> {
         requires ready { ready (I.meaning cx.old) self.old }
         ensures steps { Steps ready replaces (I.meaning cx.old) self.old (I.meaning cx.new) self.new }
         ensures sure { IfOk result (λ a. KnownAnswer (I.meaning cx.new).ty a) }
-        ensures made { IfOk result (λ a. replaces (I.meaning cx.old) self.old depth ((I.meaning cx.old).ty ty.now) ≡
-            answered (I.meaning cx.new).ty a) };
+        ensures made { PutsTy replaces (I.meaning cx.old) self.old (I.meaning cx.new) depth ty.now result };
 
     /// What stands in the place of a region that stands under `depth` binders.
     fn fold_region(
@@ -69,9 +69,7 @@ pub trait TypeFolder<I: Interner> {
         requires ready { ready (I.meaning cx.old) self.old }
         ensures steps { Steps ready replaces (I.meaning cx.old) self.old (I.meaning cx.new) self.new }
         ensures sure { IfOk result (λ a. KnownAnswer (I.meaning cx.new).region a) }
-        ensures made { IfOk result (λ a.
-            replaces (I.meaning cx.old) self.old depth ((I.meaning cx.old).region region.now) ≡
-            answered (I.meaning cx.new).region a) };
+        ensures made { PutsRegion replaces (I.meaning cx.old) self.old (I.meaning cx.new) depth region.now result };
 
     /// What stands in the place of a constant that stands under `depth` binders.
     fn fold_const(
@@ -84,9 +82,7 @@ pub trait TypeFolder<I: Interner> {
         requires ready { ready (I.meaning cx.old) self.old }
         ensures steps { Steps ready replaces (I.meaning cx.old) self.old (I.meaning cx.new) self.new }
         ensures sure { IfOk result (λ a. KnownAnswer (I.meaning cx.new).const_ a) }
-        ensures made { IfOk result (λ a.
-            replaces (I.meaning cx.old) self.old depth ((I.meaning cx.old).const_ constant.now) ≡
-            answered (I.meaning cx.new).const_ a) };
+        ensures made { PutsConst replaces (I.meaning cx.old) self.old (I.meaning cx.new) depth constant.now result };
 
     // A folder that is ready stays so while the interner grows, and puts the same.
     ghost ready_on: { (m n : Meaning I.Key I.Id I.Name) → Extends m n → (f : Self) → ready m f → ready n f };
@@ -106,9 +102,6 @@ pub trait TypeFoldable<I: Interner>: HasTree<I> + PartialEq {
         requires ready { F.ready (I.meaning cx.old) folder.old }
         ensures steps { Steps F.ready F.replaces (I.meaning cx.old) folder.old (I.meaning cx.new) folder.new }
         ensures sure { IfOk result (λ x. IsTrue (known (Self.tree (I.meaning cx.new) x))) }
-        ensures made { IfOk result (λ x. Self.tree (I.meaning cx.new) x ≡
-            folded (F.replaces (I.meaning cx.old) folder.old) 0 (Self.tree (I.meaning cx.old) self.now)) }
-        ensures same { IfOk result (λ x.
-            folded (F.replaces (I.meaning cx.old) folder.old) 0 (Self.tree (I.meaning cx.old) self.now) ≡
-            Self.tree (I.meaning cx.old) self.now → IsTrue (Self.eq x self.now)) };
+        ensures made { FoldsTo F.replaces (I.meaning cx.old) folder.old (I.meaning cx.new) Self.tree self.now result }
+        ensures same { LeavesAs F.replaces (I.meaning cx.old) folder.old Self.tree Self.eq self.now result };
 }

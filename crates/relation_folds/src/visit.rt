@@ -4,8 +4,7 @@
 //! walk is one for all visitors, and what it does follows from what the visitor does at each tree.
 ghost use Rattle.std.specs.Prelude.{ℕ, IsTrue};
 ghost use Rattle.relation_terms.specs.Trees.{Tree, known};
-ghost use Rattle.relation_terms.specs.Parts.{parts_of};
-ghost use Rattle.relation_folds.specs.Visits.{Walks};
+ghost use Rattle.relation_folds.specs.Visits.{Walks, WalksParts};
 ghost use Rattle.relation_folds.specs.declared.visit.Visit.{Visit};
 
 mod binder;
@@ -76,6 +75,5 @@ pub trait TypeSuperVisitable<I: Interner>: TypeVisitable<I> {
     /// Goes over the parts of the term alone, in order, until the visitor stops. The interner knows the term.
     fn super_visit_with<V: TypeVisitor<I>>(&self, cx: &I, visitor: &mut V) -> ControlFlow<()>
         requires { IsTrue (known (Self.tree (I.meaning cx.now) self.now)) }
-        ensures { Walks (V.visits cx.now) 0 visitor.old
-            (parts_of (Self.tree (I.meaning cx.now) self.now)) visitor.new result };
+        ensures { WalksParts (V.visits cx.now) visitor.old (Self.tree (I.meaning cx.now) self.now) visitor.new result };
 }

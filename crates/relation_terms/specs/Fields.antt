@@ -1,5 +1,5 @@
 -- The parts of predicates, and where the keys of a form's parts stand.
-use Rattle.std.specs.Prelude.{◌≡◌}
+use Rattle.std.specs.Prelude.{◌≡◌, Result, IfOk}
 use Rattle.relation_terms.specs.Heads.{Sort, region_sort, type_sort, const_sort, trait_ref_sort, alias_term_sort}
 use Rattle.relation_terms.specs.Trees.{Tree, bind, nil, cons}
 use Rattle.relation_terms.specs.Meaning.{Meaning}
@@ -13,6 +13,8 @@ use Rattle.relation_terms.specs.declared.terms.parts.predicates.Fields.TheVarian
 use Rattle.relation_terms.specs.declared.terms.keys.RegionKey.{RegionKey}
 use Rattle.relation_terms.specs.declared.terms.keys.TyKey.{TyKey}
 use Rattle.relation_terms.specs.declared.terms.keys.ConstKey.{ConstKey}
+use Rattle.relation_terms.specs.declared.terms.keys.ClauseKey.{ClauseKey}
+use Rattle.relation_terms.specs.declared.terms.keys.PredicateKey.{PredicateKey}
 use Rattle.relation_terms.specs.declared.terms.generic_arg.TermKind.{TermKind}
 use Rattle.relation_terms.specs.declared.terms.generic_arg.TermKind.TheVariants.{Ty as TyTerm, Const as ConstTerm}
 use Rattle.relation_terms.specs.declared.predicate.trait_ref.TraitRef.{TraitRef as TraitRefOf}
@@ -168,3 +170,13 @@ module _ {Key Id Name : Type 0} (m : Meaning Key Id Name) where
   fields_tree Empty = nil
   fields_tree (One f) = cons (field_tree f) nil
   fields_tree (Two f g) = cons (field_tree f) (cons (field_tree g) nil)
+
+module _ {Key Id Name E : Type 0} (before after : Meaning Key Id Name) where
+  -- What is made is a clause's form over these parts, and a predicate's, under its binder.
+  abbrev pub MakesClauseOver : ClauseKey Key → Fields Key Id → Result (ClauseKey Key) E → Type 0
+  MakesClauseOver clause fields result =
+      IfOk result (λ k. after.clause k ≡ over_under (before.clause clause) (fields_tree before fields))
+
+  abbrev pub MakesPredicateOver : PredicateKey Key → Fields Key Id → Result (PredicateKey Key) E → Type 0
+  MakesPredicateOver predicate fields result =
+      IfOk result (λ k. after.predicate k ≡ over_under (before.predicate predicate) (fields_tree before fields))

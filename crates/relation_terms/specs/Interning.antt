@@ -66,6 +66,15 @@ abbrev pub FindsClause : {Key Id Name : Type 0} → Meaning Key Id Name → Pred
     Type 0
 FindsClause m p found = MatchOption found (IsBinder clause_sort (m.predicate p) → ⊥) (λ c. m.clause c ≡ m.predicate p)
 
+-- What is read of a trait object's list is its predicates.
+abbrev pub ReadsPredicates : {Key Id Name : Type 0} → Meaning Key Id Name → ExistentialPredicatesKey Key →
+    List (Binder Key (ExistentialPredicate Key Id)) → Type 0
+ReadsPredicates m k list = m.existential_predicates k ≡ list_tree (object_predicate_tree m) list
+
+-- An environment is that of a list of clauses.
+abbrev pub IsEnvironmentOf : {Key Id Name : Type 0} → Meaning Key Id Name → ParamEnvKey Key → ClausesKey Key → Type 0
+IsEnvironmentOf m env list = m.param_env env ≡ node environment (m.clauses list)
+
 -- Where a key of a tree is there already, it is made again, without growth and without fail.
 abbrev pub IsMadeAgain : {Key Id Name K X E : Type 0} → Meaning Key Id Name → Meaning Key Id Name → (K → Tree) → Tree →
     Result X E → Type 0
@@ -130,6 +139,14 @@ module _ {Key Id Name E : Type 0} (before after : Meaning Key Id Name) where
 
   abbrev pub MakesBoundVars : List (BoundVariableKind Name) → Result (BoundVarsKey Key) E → Type 0
   MakesBoundVars list result = IfOk result (λ k. after.bound_vars k ≡ Some (bound_kinds before list))
+
+  -- What is made of a form under a binder is its predicate.
+  abbrev pub MakesPredicate : Binder Key (PredicateKind Key Id Name) → Result (PredicateKey Key) E → Type 0
+  MakesPredicate form result = IfOk result (λ k. after.predicate k ≡ predicate_tree before form)
+
+  -- What is made of a list of clauses is their environment.
+  abbrev pub MakesEnv : ClausesKey Key → Result (ParamEnvKey Key) E → Type 0
+  MakesEnv list result = IfOk result (λ k. after.param_env k ≡ node environment (before.clauses list))
 
 module _ {Key Id Name : Type 0} (before after : Meaning Key Id Name) where
   -- Where it is there already nothing grows: lists of types, arguments, branches, alternatives, by their elements.

@@ -1,9 +1,9 @@
 -- The parts of forms, and where the keys of a form's parts stand.
-use Rattle.std.specs.Prelude.{◌≡◌, List, [], ◌∷◌, Option, Some, None}
+use Rattle.std.specs.Prelude.{◌≡◌, List, [], ◌∷◌, Option, Some, None, Result, IfOk}
 use Rattle.relation_terms.specs.Heads.{Sort, region_sort, type_sort, const_sort, value_sort, value_type_sort, no_sort}
 use Rattle.relation_terms.specs.Heads.{leaf_sort, head_sort, value_type, pattern_sort, signature_sort, inputs_sort}
 use Rattle.relation_terms.specs.Heads.{existential_sort, object_sort, binder_sort, inputs, object}
-use Rattle.relation_terms.specs.Trees.{Tree, leaf, node, bind, nil, cons, front}
+use Rattle.relation_terms.specs.Trees.{Tree, leaf, node, bind, nil, cons, front, list_tree}
 use Rattle.relation_terms.specs.Meaning.{Meaning, under, sig_of, signature_tree, existential_tree, term_tree}
 use Rattle.relation_terms.specs.declared.terms.part_kind.Part.{Part}
 use Rattle.relation_terms.specs.declared.terms.part_kind.Part.TheVariants.{Region, Ty, Const, ValTree, Pat, ValueType}
@@ -423,3 +423,17 @@ module _ {Key Id Name : Type 0} (m : Meaning Key Id Name) where
   parts_tree (TermArgs t a) = cons (term_tree m t) (m.args a)
   parts_tree (InputsParts t) = front (m.tys t)
   parts_tree (Predicates k) = m.existential_predicates k
+
+  -- Two parts are one term.
+  abbrev pub AreOneTerm : Part Key Id → Part Key Id → Type 0
+  AreOneTerm p q = part_tree p ≡ part_tree q
+
+module _ {Key Id Name E : Type 0} (before after : Meaning Key Id Name) where
+  -- What is made is a term's form over these parts.
+  abbrev pub MakesOver : Part Key Id → List (Part Key Id) → Result (Part Key Id) E → Type 0
+  MakesOver term list result =
+      IfOk result (λ p. part_tree after p ≡ over (part_tree before term) (list_tree (part_tree before) list))
+
+  -- What is made is the list of these parts.
+  abbrev pub MakesParts : List (Part Key Id) → Result (Parts Key Id) E → Type 0
+  MakesParts list result = IfOk result (λ ps. parts_tree after ps ≡ list_tree (part_tree before) list)

@@ -1,4 +1,5 @@
 -- What predicates, clauses and their parts mean.
+use Rattle.std.specs.Prelude.{ℕ, List, Option, option_map}
 use Rattle.relation_terms.specs.Heads.{AliasTermKind, type_alias, unevaluated_const, projection_const, free_const}
 use Rattle.relation_terms.specs.Heads.{inherent_const, projection_alias, inherent_alias, opaque_alias, free_alias}
 use Rattle.relation_terms.specs.Heads.{trait_ref, trait_clause, host_effect, subtype, alias_term, region_outlives}
@@ -6,6 +7,7 @@ use Rattle.relation_terms.specs.Heads.{type_outlives, projection, const_has_type
 use Rattle.relation_terms.specs.Heads.{coerce, normalizes_to, alias_relate, unstable_feature, ambiguous, atom}
 use Rattle.relation_terms.specs.Trees.{Tree, leaf, node, nil, cons}
 use Rattle.relation_terms.specs.Meaning.{Meaning, term_tree, under}
+use Rattle.relation_terms.specs.declared.terms.enums.Variance.{Variance}
 use Rattle.relation_terms.specs.declared.terms.binder.Binder.{Binder}
 use Rattle.relation_terms.specs.declared.predicate.alias_term.AliasTermKind.{AliasTermKind as TermKindOf}
 use Rattle.relation_terms.specs.declared.predicate.alias_term.AliasTermKind.TheVariants.{ProjectionTy, InherentTy}
@@ -57,6 +59,17 @@ alias_of d free_const = FreeConst (record { 0 = d })
 alias_of d inherent_const = InherentConst (record { 0 = d })
 
 module _ {Key Id Name : Type 0} (m : Meaning Key Id Name) where
+  -- Of the item of an id: the variances at which an alias type of it is related, the trait that declares it, and the
+  -- alias that it is.
+  abbrev pub item_alias_variances : Id → Option (List Variance)
+  item_alias_variances d = m.alias_variances (m.id d)
+
+  abbrev pub item_parent : Id → Option ℕ
+  item_parent d = (m.tables).parent (m.id d)
+
+  abbrev pub item_alias : Id → Option (TermKindOf Id)
+  item_alias d = option_map (alias_of d) ((m.tables).alias_kind (m.id d))
+
   -- The tree of a trait with its arguments, and of an alias with its own.
   abbrev pub trait_ref_tree : TraitRef Key Id → Tree
   trait_ref_tree t = node (trait_ref (m.id (t.def_id).0)) (m.args t.args)

@@ -2,7 +2,7 @@
 ghost use Rattle.std.specs.Prelude.{◌≡◌, IsTrue, IfOk, map};
 ghost use Rattle.relation_terms.specs.Trees.{known, list_tree};
 ghost use Rattle.relation_terms.specs.Meaning.{Extends, arg_tree};
-ghost use Rattle.relation_folds.specs.Shifts.{opened, arg_for, the_ty, the_region, the_const};
+ghost use Rattle.relation_folds.specs.Shifts.{OpensBy, arg_for, the_ty, the_region, the_const};
 
 use crate::fold::{Fold, TypeFoldable, TypeFolder, shift_vars};
 use relation_terms::terms::{
@@ -25,8 +25,7 @@ pub fn instantiate_bound_vars<I: Interner, T: TypeFoldable<I>>(
     requires args_known { IsTrue (known (list_tree (arg_tree (I.meaning cx.old)) args.now)) }
     ensures grown { Extends (I.meaning cx.old) (I.meaning cx.new) }
     ensures sure { IfOk result (λ x. IsTrue (known (T.tree (I.meaning cx.new) x))) }
-    ensures made { IfOk result (λ x. T.tree (I.meaning cx.new) x ≡
-        opened (map (arg_tree (I.meaning cx.old)) args.now) (T.tree (I.meaning cx.old) body.now)) }
+    ensures made { OpensBy T.tree (I.meaning cx.old) (I.meaning cx.new) args.now body.now result }
 {
     body.fold_with(cx, &mut BoundVarReplacer { args })
 }

@@ -1,8 +1,12 @@
 //! Folds by keys: what a folder makes of a type, a region, a constant, a value tree, an argument and of lists of these.
-ghost use Rattle.std.specs.Prelude.{◌≡◌, IsTrue, IfOk};
+ghost use Rattle.std.specs.Prelude.{IsTrue, IfOk};
 ghost use Rattle.relation_terms.specs.Trees.{known};
 ghost use Rattle.relation_terms.specs.Meaning.{arg_tree};
-ghost use Rattle.relation_folds.specs.Folds.{Steps, folded, folded_parts};
+ghost use Rattle.relation_folds.specs.Folds.{Steps};
+ghost use Rattle.relation_folds.specs.KeyFolds.{FoldsTy, FoldsRegion, FoldsConst, FoldsValTree, FoldsPat, FoldsArg};
+ghost use Rattle.relation_folds.specs.KeyFolds.{FoldsArgs, FoldsTys, FoldsBranches, FoldsPats};
+ghost use Rattle.relation_folds.specs.KeyFolds.{FoldsPredicates, FoldsPartsOfTy, FoldsPartsOfConst, LeavesTy};
+ghost use Rattle.relation_folds.specs.KeyFolds.{LeavesRegion, LeavesConst, LeavesArgs, LeavesTys, LeavesPredicates};
 
 use crate::fold::TypeFolder;
 use crate::fold::walk::{fold_list, fold_part, fold_parts};
@@ -25,11 +29,8 @@ pub fn fold_ty_with<I: Interner, F: TypeFolder<I>>(
     requires ready { F.ready (I.meaning cx.old) folder.old }
     ensures steps { Steps F.ready F.replaces (I.meaning cx.old) folder.old (I.meaning cx.new) folder.new }
     ensures sure { IfOk result (λ k. IsTrue (known ((I.meaning cx.new).ty k))) }
-    ensures made { IfOk result (λ k. (I.meaning cx.new).ty k ≡
-        folded (F.replaces (I.meaning cx.old) folder.old) 0 ((I.meaning cx.old).ty ty.now)) }
-    ensures same { IfOk result (λ k.
-        folded (F.replaces (I.meaning cx.old) folder.old) 0 ((I.meaning cx.old).ty ty.now) ≡
-        (I.meaning cx.old).ty ty.now → IsTrue (I.Key.eq k.0 ty.now.0)) }
+    ensures made { FoldsTy F.replaces (I.meaning cx.old) folder.old (I.meaning cx.new) ty.now result }
+    ensures same { LeavesTy F.replaces (I.meaning cx.old) folder.old I.Key.eq ty.now result }
 {
     Ok(the_ty(&fold_part(cx, &Part::Ty(*ty), 0, folder)?))
 }
@@ -44,8 +45,7 @@ pub fn super_fold_ty<I: Interner, F: TypeFolder<I>>(
     requires ready { F.ready (I.meaning cx.old) folder.old }
     ensures steps { Steps F.ready F.replaces (I.meaning cx.old) folder.old (I.meaning cx.new) folder.new }
     ensures sure { IfOk result (λ k. IsTrue (known ((I.meaning cx.new).ty k))) }
-    ensures made { IfOk result (λ k. (I.meaning cx.new).ty k ≡
-        folded_parts (F.replaces (I.meaning cx.old) folder.old) 0 ((I.meaning cx.old).ty ty.now)) }
+    ensures made { FoldsPartsOfTy F.replaces (I.meaning cx.old) folder.old (I.meaning cx.new) ty.now result }
 {
     Ok(the_ty(&fold_parts(cx, &Part::Ty(*ty), 0, folder)?))
 }
@@ -60,11 +60,8 @@ pub fn fold_region_with<I: Interner, F: TypeFolder<I>>(
     requires ready { F.ready (I.meaning cx.old) folder.old }
     ensures steps { Steps F.ready F.replaces (I.meaning cx.old) folder.old (I.meaning cx.new) folder.new }
     ensures sure { IfOk result (λ k. IsTrue (known ((I.meaning cx.new).region k))) }
-    ensures made { IfOk result (λ k. (I.meaning cx.new).region k ≡
-        folded (F.replaces (I.meaning cx.old) folder.old) 0 ((I.meaning cx.old).region region.now)) }
-    ensures same { IfOk result (λ k.
-        folded (F.replaces (I.meaning cx.old) folder.old) 0 ((I.meaning cx.old).region region.now) ≡
-        (I.meaning cx.old).region region.now → IsTrue (I.Key.eq k.0 region.now.0)) }
+    ensures made { FoldsRegion F.replaces (I.meaning cx.old) folder.old (I.meaning cx.new) region.now result }
+    ensures same { LeavesRegion F.replaces (I.meaning cx.old) folder.old I.Key.eq region.now result }
 {
     Ok(the_region(&fold_part(cx, &Part::Region(*region), 0, folder)?))
 }
@@ -79,11 +76,8 @@ pub fn fold_const_with<I: Interner, F: TypeFolder<I>>(
     requires ready { F.ready (I.meaning cx.old) folder.old }
     ensures steps { Steps F.ready F.replaces (I.meaning cx.old) folder.old (I.meaning cx.new) folder.new }
     ensures sure { IfOk result (λ k. IsTrue (known ((I.meaning cx.new).const_ k))) }
-    ensures made { IfOk result (λ k. (I.meaning cx.new).const_ k ≡
-        folded (F.replaces (I.meaning cx.old) folder.old) 0 ((I.meaning cx.old).const_ constant.now)) }
-    ensures same { IfOk result (λ k.
-        folded (F.replaces (I.meaning cx.old) folder.old) 0 ((I.meaning cx.old).const_ constant.now) ≡
-        (I.meaning cx.old).const_ constant.now → IsTrue (I.Key.eq k.0 constant.now.0)) }
+    ensures made { FoldsConst F.replaces (I.meaning cx.old) folder.old (I.meaning cx.new) constant.now result }
+    ensures same { LeavesConst F.replaces (I.meaning cx.old) folder.old I.Key.eq constant.now result }
 {
     Ok(the_const(&fold_part(cx, &Part::Const(*constant), 0, folder)?))
 }
@@ -98,8 +92,7 @@ pub fn super_fold_const<I: Interner, F: TypeFolder<I>>(
     requires ready { F.ready (I.meaning cx.old) folder.old }
     ensures steps { Steps F.ready F.replaces (I.meaning cx.old) folder.old (I.meaning cx.new) folder.new }
     ensures sure { IfOk result (λ k. IsTrue (known ((I.meaning cx.new).const_ k))) }
-    ensures made { IfOk result (λ k. (I.meaning cx.new).const_ k ≡
-        folded_parts (F.replaces (I.meaning cx.old) folder.old) 0 ((I.meaning cx.old).const_ constant.now)) }
+    ensures made { FoldsPartsOfConst F.replaces (I.meaning cx.old) folder.old (I.meaning cx.new) constant.now result }
 {
     Ok(the_const(&fold_parts(cx, &Part::Const(*constant), 0, folder)?))
 }
@@ -114,8 +107,7 @@ pub fn fold_valtree_with<I: Interner, F: TypeFolder<I>>(
     requires ready { F.ready (I.meaning cx.old) folder.old }
     ensures steps { Steps F.ready F.replaces (I.meaning cx.old) folder.old (I.meaning cx.new) folder.new }
     ensures sure { IfOk result (λ k. IsTrue (known ((I.meaning cx.new).valtree k))) }
-    ensures made { IfOk result (λ k. (I.meaning cx.new).valtree k ≡
-        folded (F.replaces (I.meaning cx.old) folder.old) 0 ((I.meaning cx.old).valtree valtree.now)) }
+    ensures made { FoldsValTree F.replaces (I.meaning cx.old) folder.old (I.meaning cx.new) valtree.now result }
 {
     Ok(the_valtree(&fold_part(cx, &Part::ValTree(*valtree), 0, folder)?))
 }
@@ -130,8 +122,7 @@ pub fn fold_pat_with<I: Interner, F: TypeFolder<I>>(
     requires ready { F.ready (I.meaning cx.old) folder.old }
     ensures steps { Steps F.ready F.replaces (I.meaning cx.old) folder.old (I.meaning cx.new) folder.new }
     ensures sure { IfOk result (λ k. IsTrue (known ((I.meaning cx.new).pat k))) }
-    ensures made { IfOk result (λ k. (I.meaning cx.new).pat k ≡
-        folded (F.replaces (I.meaning cx.old) folder.old) 0 ((I.meaning cx.old).pat pat.now)) }
+    ensures made { FoldsPat F.replaces (I.meaning cx.old) folder.old (I.meaning cx.new) pat.now result }
 {
     Ok(the_pat(&fold_part(cx, &Part::Pat(*pat), 0, folder)?))
 }
@@ -146,8 +137,7 @@ pub fn fold_arg_with<I: Interner, F: TypeFolder<I>>(
     requires ready { F.ready (I.meaning cx.old) folder.old }
     ensures steps { Steps F.ready F.replaces (I.meaning cx.old) folder.old (I.meaning cx.new) folder.new }
     ensures sure { IfOk result (λ k. IsTrue (known (arg_tree (I.meaning cx.new) k))) }
-    ensures made { IfOk result (λ k. arg_tree (I.meaning cx.new) k ≡
-        folded (F.replaces (I.meaning cx.old) folder.old) 0 (arg_tree (I.meaning cx.old) arg.now)) }
+    ensures made { FoldsArg F.replaces (I.meaning cx.old) folder.old (I.meaning cx.new) arg.now result }
 {
     match arg {
         GenericArgKind::Lifetime(region) => {
@@ -170,11 +160,8 @@ pub fn fold_args_with<I: Interner, F: TypeFolder<I>>(
     requires ready { F.ready (I.meaning cx.old) folder.old }
     ensures steps { Steps F.ready F.replaces (I.meaning cx.old) folder.old (I.meaning cx.new) folder.new }
     ensures sure { IfOk result (λ k. IsTrue (known ((I.meaning cx.new).args k))) }
-    ensures made { IfOk result (λ k. (I.meaning cx.new).args k ≡
-        folded (F.replaces (I.meaning cx.old) folder.old) 0 ((I.meaning cx.old).args args.now)) }
-    ensures same { IfOk result (λ k.
-        folded (F.replaces (I.meaning cx.old) folder.old) 0 ((I.meaning cx.old).args args.now) ≡
-        (I.meaning cx.old).args args.now → IsTrue (I.Key.eq k.0 args.now.0)) }
+    ensures made { FoldsArgs F.replaces (I.meaning cx.old) folder.old (I.meaning cx.new) args.now result }
+    ensures same { LeavesArgs F.replaces (I.meaning cx.old) folder.old I.Key.eq args.now result }
 {
     Ok(the_args(&fold_list(cx, &Parts::Args(*args), 0, folder)?))
 }
@@ -189,11 +176,8 @@ pub fn fold_tys_with<I: Interner, F: TypeFolder<I>>(
     requires ready { F.ready (I.meaning cx.old) folder.old }
     ensures steps { Steps F.ready F.replaces (I.meaning cx.old) folder.old (I.meaning cx.new) folder.new }
     ensures sure { IfOk result (λ k. IsTrue (known ((I.meaning cx.new).tys k))) }
-    ensures made { IfOk result (λ k. (I.meaning cx.new).tys k ≡
-        folded (F.replaces (I.meaning cx.old) folder.old) 0 ((I.meaning cx.old).tys tys.now)) }
-    ensures same { IfOk result (λ k.
-        folded (F.replaces (I.meaning cx.old) folder.old) 0 ((I.meaning cx.old).tys tys.now) ≡
-        (I.meaning cx.old).tys tys.now → IsTrue (I.Key.eq k.0 tys.now.0)) }
+    ensures made { FoldsTys F.replaces (I.meaning cx.old) folder.old (I.meaning cx.new) tys.now result }
+    ensures same { LeavesTys F.replaces (I.meaning cx.old) folder.old I.Key.eq tys.now result }
 {
     Ok(the_tys(&fold_list(cx, &Parts::Tys(*tys), 0, folder)?))
 }
@@ -208,8 +192,7 @@ pub fn fold_branches_with<I: Interner, F: TypeFolder<I>>(
     requires ready { F.ready (I.meaning cx.old) folder.old }
     ensures steps { Steps F.ready F.replaces (I.meaning cx.old) folder.old (I.meaning cx.new) folder.new }
     ensures sure { IfOk result (λ k. IsTrue (known ((I.meaning cx.new).branches k))) }
-    ensures made { IfOk result (λ k. (I.meaning cx.new).branches k ≡
-        folded (F.replaces (I.meaning cx.old) folder.old) 0 ((I.meaning cx.old).branches branches.now)) }
+    ensures made { FoldsBranches F.replaces (I.meaning cx.old) folder.old (I.meaning cx.new) branches.now result }
 {
     Ok(the_branches(&fold_list(cx, &Parts::Branches(*branches), 0, folder)?))
 }
@@ -224,8 +207,7 @@ pub fn fold_alternatives_with<I: Interner, F: TypeFolder<I>>(
     requires ready { F.ready (I.meaning cx.old) folder.old }
     ensures steps { Steps F.ready F.replaces (I.meaning cx.old) folder.old (I.meaning cx.new) folder.new }
     ensures sure { IfOk result (λ k. IsTrue (known ((I.meaning cx.new).alternatives k))) }
-    ensures made { IfOk result (λ k. (I.meaning cx.new).alternatives k ≡
-        folded (F.replaces (I.meaning cx.old) folder.old) 0 ((I.meaning cx.old).alternatives alternatives.now)) }
+    ensures made { FoldsPats F.replaces (I.meaning cx.old) folder.old (I.meaning cx.new) alternatives.now result }
 {
     Ok(the_alternatives(&fold_list(cx, &Parts::Alternatives(*alternatives), 0, folder)?))
 }
@@ -240,11 +222,8 @@ pub fn fold_predicates_with<I: Interner, F: TypeFolder<I>>(
     requires ready { F.ready (I.meaning cx.old) folder.old }
     ensures steps { Steps F.ready F.replaces (I.meaning cx.old) folder.old (I.meaning cx.new) folder.new }
     ensures sure { IfOk result (λ k. IsTrue (known ((I.meaning cx.new).existential_predicates k))) }
-    ensures made { IfOk result (λ k. (I.meaning cx.new).existential_predicates k ≡
-        folded (F.replaces (I.meaning cx.old) folder.old) 0
-        ((I.meaning cx.old).existential_predicates predicates.now)) }
-    ensures same { let t = (I.meaning cx.old).existential_predicates predicates.now in IfOk result (λ k.
-        folded (F.replaces (I.meaning cx.old) folder.old) 0 t ≡ t → IsTrue (I.Key.eq k.0 predicates.now.0)) }
+    ensures made { FoldsPredicates F.replaces (I.meaning cx.old) folder.old (I.meaning cx.new) predicates.now result }
+    ensures same { LeavesPredicates F.replaces (I.meaning cx.old) folder.old I.Key.eq predicates.now result }
 {
     Ok(the_predicates(&fold_list(cx, &Parts::Predicates(*predicates), 0, folder)?))
 }

@@ -2,7 +2,7 @@
 ghost use Rattle.std.specs.Prelude.{◌≡◌, ◌+◌, ⊤, IsTrue, IfOk, Some, None, cond, nat_lt, option_map};
 ghost use Rattle.relation_terms.specs.Trees.{known};
 ghost use Rattle.relation_terms.specs.Meaning.{Extends};
-ghost use Rattle.relation_folds.specs.Shifts.{shifted};
+ghost use Rattle.relation_folds.specs.Shifts.{ShiftsBy};
 
 use crate::fold::{Fold, TypeFoldable, TypeFolder};
 use relation_terms::terms::{
@@ -22,8 +22,7 @@ pub fn shift_vars<I: Interner, T: TypeFoldable<I>>(
     requires known { IsTrue (known (T.tree (I.meaning cx.old) term.now)) }
     ensures grown { Extends (I.meaning cx.old) (I.meaning cx.new) }
     ensures sure { IfOk result (λ x. IsTrue (known (T.tree (I.meaning cx.new) x))) }
-    ensures made { IfOk result (λ x.
-        T.tree (I.meaning cx.new) x ≡ shifted amount (T.tree (I.meaning cx.old) term.now)) }
+    ensures made { ShiftsBy T.tree (I.meaning cx.old) (I.meaning cx.new) amount term.now result }
 {
     term.fold_with(cx, &mut Shifter { amount })
 }

@@ -7,9 +7,9 @@
 ghost use Rattle.std.specs.Prelude.{◌≡◌, IsTrue, IfOk, option_map};
 ghost use Rattle.relation_terms.specs.Trees.{known};
 ghost use Rattle.relation_terms.specs.Parts.{part_tree, parts_tree, part_sort, Alike};
-ghost use Rattle.relation_folds.specs.Folds.{Steps, folded, folded_parts, KnownAnswer, Folds, members_tree, FitMembers};
-ghost use Rattle.relation_folds.specs.Folds.{inside_part};
+ghost use Rattle.relation_folds.specs.Folds.{Steps, folded, KnownAnswer, Folds, members_tree, FitMembers, inside_part};
 ghost use Rattle.relation_folds.specs.Folds.{Remembers};
+ghost use Rattle.relation_folds.specs.KeyFolds.{FoldsPart, FoldsPartsOf, FoldsList};
 
 use crate::fold::memory::{Memory, Place, keep, nothing, recall};
 use crate::fold::{Fold, TypeFolder};
@@ -78,8 +78,7 @@ fn fold_met<I: Interner, F: TypeFolder<I>>(
     ensures remembers { Remembers (I.meaning cx.new) (F.replaces (I.meaning cx.new) folder.new)
         ⟦<Place<I::Key> as PartialEq>⟧.eq memory.new }
     ensures sure { IfOk result (λ k. IsTrue (known (part_tree (I.meaning cx.new) k))) }
-    ensures made { IfOk result (λ k. part_tree (I.meaning cx.new) k ≡
-        folded (F.replaces (I.meaning cx.old) folder.old) depth (part_tree (I.meaning cx.old) part.now)) }
+    ensures made { FoldsPart F.replaces (I.meaning cx.old) folder.old (I.meaning cx.new) depth part.now result }
     ensures sort { IfOk result (λ k. part_sort k ≡ part_sort part.now) }
 {
     if let Some(made) = recall(cx, folder, memory, part, depth) {
@@ -107,8 +106,7 @@ fn fold_new<I: Interner, F: TypeFolder<I>>(
     ensures remembers { Remembers (I.meaning cx.new) (F.replaces (I.meaning cx.new) folder.new)
         ⟦<Place<I::Key> as PartialEq>⟧.eq memory.new }
     ensures sure { IfOk result (λ k. IsTrue (known (part_tree (I.meaning cx.new) k))) }
-    ensures made { IfOk result (λ k. part_tree (I.meaning cx.new) k ≡
-        folded (F.replaces (I.meaning cx.old) folder.old) depth (part_tree (I.meaning cx.old) part.now)) }
+    ensures made { FoldsPart F.replaces (I.meaning cx.old) folder.old (I.meaning cx.new) depth part.now result }
     ensures sort { IfOk result (λ k. part_sort k ≡ part_sort part.now) }
 {
     match put_for(cx, part, depth, folder)? {
@@ -134,8 +132,7 @@ fn fold_inside<I: Interner, F: TypeFolder<I>>(
     ensures remembers { Remembers (I.meaning cx.new) (F.replaces (I.meaning cx.new) folder.new)
         ⟦<Place<I::Key> as PartialEq>⟧.eq memory.new }
     ensures sure { IfOk result (λ k. IsTrue (known (part_tree (I.meaning cx.new) k))) }
-    ensures made { IfOk result (λ k. part_tree (I.meaning cx.new) k ≡
-        folded_parts (F.replaces (I.meaning cx.old) folder.old) depth (part_tree (I.meaning cx.old) part.now)) }
+    ensures made { FoldsPartsOf F.replaces (I.meaning cx.old) folder.old (I.meaning cx.new) depth part.now result }
     ensures sort { IfOk result (λ k. part_sort k ≡ part_sort part.now) }
 {
     let inside = depth_inside(part, depth)?;
@@ -191,8 +188,7 @@ pub fn fold_part<I: Interner, F: TypeFolder<I>>(
     requires ready { F.ready (I.meaning cx.old) folder.old }
     ensures steps { Steps F.ready F.replaces (I.meaning cx.old) folder.old (I.meaning cx.new) folder.new }
     ensures sure { IfOk result (λ k. IsTrue (known (part_tree (I.meaning cx.new) k))) }
-    ensures made { IfOk result (λ k. part_tree (I.meaning cx.new) k ≡
-        folded (F.replaces (I.meaning cx.old) folder.old) depth (part_tree (I.meaning cx.old) part.now)) }
+    ensures made { FoldsPart F.replaces (I.meaning cx.old) folder.old (I.meaning cx.new) depth part.now result }
     ensures sort { IfOk result (λ k. part_sort k ≡ part_sort part.now) }
 {
     fold_new(cx, part, depth, folder, &mut nothing(cx))
@@ -209,8 +205,7 @@ pub fn fold_parts<I: Interner, F: TypeFolder<I>>(
     requires ready { F.ready (I.meaning cx.old) folder.old }
     ensures steps { Steps F.ready F.replaces (I.meaning cx.old) folder.old (I.meaning cx.new) folder.new }
     ensures sure { IfOk result (λ k. IsTrue (known (part_tree (I.meaning cx.new) k))) }
-    ensures made { IfOk result (λ k. part_tree (I.meaning cx.new) k ≡
-        folded_parts (F.replaces (I.meaning cx.old) folder.old) depth (part_tree (I.meaning cx.old) part.now)) }
+    ensures made { FoldsPartsOf F.replaces (I.meaning cx.old) folder.old (I.meaning cx.new) depth part.now result }
     ensures sort { IfOk result (λ k. part_sort k ≡ part_sort part.now) }
 {
     fold_inside(cx, part, depth, folder, &mut nothing(cx))
@@ -248,8 +243,7 @@ pub fn fold_list<I: Interner, F: TypeFolder<I>>(
     requires ready { F.ready (I.meaning cx.old) folder.old }
     ensures steps { Steps F.ready F.replaces (I.meaning cx.old) folder.old (I.meaning cx.new) folder.new }
     ensures sure { IfOk result (λ ps. IsTrue (known (parts_tree (I.meaning cx.new) ps))) }
-    ensures made { IfOk result (λ ps. parts_tree (I.meaning cx.new) ps ≡
-        folded (F.replaces (I.meaning cx.old) folder.old) depth (parts_tree (I.meaning cx.old) parts.now)) }
+    ensures made { FoldsList F.replaces (I.meaning cx.old) folder.old (I.meaning cx.new) depth parts.now result }
     ensures alike { IfOk result (λ ps. Alike parts.now ps) }
 {
     match fold_all(cx, parts, depth, folder)? {

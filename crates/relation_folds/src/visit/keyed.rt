@@ -2,8 +2,7 @@
 ghost use Rattle.std.specs.Prelude.{IsTrue};
 ghost use Rattle.relation_terms.specs.Trees.{known};
 ghost use Rattle.relation_terms.specs.Meaning.{arg_tree};
-ghost use Rattle.relation_terms.specs.Parts.{parts_of as list_of_parts};
-ghost use Rattle.relation_folds.specs.Visits.{Walks};
+ghost use Rattle.relation_folds.specs.Visits.{Walks, WalksParts, WalksAlternatives, WalksPredicates};
 
 use crate::visit::TypeVisitor;
 use crate::visit::walk::{visit_list, visit_part};
@@ -33,7 +32,7 @@ pub fn super_visit_ty<I: Interner, V: TypeVisitor<I>>(
     visitor: &mut V,
 ) -> ControlFlow<()>
     requires { IsTrue (known ((I.meaning cx.now).ty ty.now)) }
-    ensures { Walks (V.visits cx.now) 0 visitor.old (list_of_parts ((I.meaning cx.now).ty ty.now)) visitor.new result }
+    ensures { WalksParts (V.visits cx.now) visitor.old ((I.meaning cx.now).ty ty.now) visitor.new result }
 {
     visit_list(cx, &parts_of(cx, &Part::Ty(*ty)), 0, visitor)
 }
@@ -69,8 +68,7 @@ pub fn super_visit_const<I: Interner, V: TypeVisitor<I>>(
     visitor: &mut V,
 ) -> ControlFlow<()>
     requires { IsTrue (known ((I.meaning cx.now).const_ constant.now)) }
-    ensures { Walks (V.visits cx.now) 0 visitor.old
-        (list_of_parts ((I.meaning cx.now).const_ constant.now)) visitor.new result }
+    ensures { WalksParts (V.visits cx.now) visitor.old ((I.meaning cx.now).const_ constant.now) visitor.new result }
 {
     visit_list(cx, &parts_of(cx, &Part::Const(*constant)), 0, visitor)
 }
@@ -118,8 +116,7 @@ pub fn visit_alternatives_with<I: Interner, V: TypeVisitor<I>>(
     visitor: &mut V,
 ) -> ControlFlow<()>
     requires { IsTrue (known ((I.meaning cx.now).alternatives alternatives.now)) }
-    ensures { let t = (I.meaning cx.now).alternatives alternatives.now in
-        Walks (V.visits cx.now) 0 visitor.old t visitor.new result }
+    ensures { WalksAlternatives (V.visits cx.now) (I.meaning cx.now) visitor.old alternatives.now visitor.new result }
 {
     visit_list(cx, &Parts::Alternatives(*alternatives), 0, visitor)
 }
@@ -171,8 +168,7 @@ pub fn visit_predicates_with<I: Interner, V: TypeVisitor<I>>(
     visitor: &mut V,
 ) -> ControlFlow<()>
     requires { IsTrue (known ((I.meaning cx.now).existential_predicates predicates.now)) }
-    ensures { let t = (I.meaning cx.now).existential_predicates predicates.now in
-        Walks (V.visits cx.now) 0 visitor.old t visitor.new result }
+    ensures { WalksPredicates (V.visits cx.now) (I.meaning cx.now) visitor.old predicates.now visitor.new result }
 {
     visit_list(cx, &Parts::Predicates(*predicates), 0, visitor)
 }

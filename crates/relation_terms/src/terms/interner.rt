@@ -14,9 +14,11 @@ ghost use Rattle.relation_terms.specs.Interning.{RemakesPat, MakesAlternatives, 
 ghost use Rattle.relation_terms.specs.Interning.{MakesTys, MakesArgs, MakesBranches, KeepsTys, KeepsArgs};
 ghost use Rattle.relation_terms.specs.Interning.{KeepsBranches, MakesPredicates, KeepsPredicates, MakesBoundVars};
 ghost use Rattle.relation_terms.specs.Interning.{KeepsBoundVars, AreEqualAsKinds, AreBindersOf};
-ghost use Rattle.relation_terms.specs.Predicates.{predicate_tree, clause_tree, alias_of};
+ghost use Rattle.relation_terms.specs.Predicates.{predicate_tree, clause_tree};
+ghost use Rattle.relation_terms.specs.Predicates.{item_alias_variances, item_parent, item_alias};
 ghost use Rattle.relation_terms.specs.Interning.{FindsClause, RemakesPredicate, RemakesClause, MakesClauses};
-ghost use Rattle.relation_terms.specs.Interning.{KeepsClauses, RemakesEnv, IsBinderOf};
+ghost use Rattle.relation_terms.specs.Interning.{KeepsClauses, RemakesEnv, IsBinderOf, MakesEnv, ReadsPredicates};
+ghost use Rattle.relation_terms.specs.Interning.{IsEnvironmentOf, MakesPredicate};
 
 use crate::predicate::{AliasTermKind, ClauseForm, ObjectPredicate, PredicateForm};
 use crate::terms::{
@@ -123,8 +125,7 @@ pub trait Interner: Keys {
         predicates: &ExistentialPredicates<Self>,
     ) -> &[ObjectPredicate<Self>]
         requires { IsTrue (known ((meaning self.now).existential_predicates predicates.now)) }
-        ensures { (meaning self.now).existential_predicates predicates.now ≡
-            list_tree (object_predicate_tree (meaning self.now)) result.now };
+        ensures { ReadsPredicates (meaning self.now) predicates.now result.now };
 
     /// The variables of a binder.
     fn bound_vars(&self, bound_vars: &BoundVars<Self>) -> &[BoundVariable<Self>]
@@ -159,8 +160,7 @@ pub trait Interner: Keys {
     /// The list of an environment's clauses.
     fn caller_bounds(&self, param_env: &ParamEnv<Self>) -> Clauses<Self>
         requires { IsTrue (known ((meaning self.now).param_env param_env.now)) }
-        ensures { let list = (meaning self.now).clauses result in
-            (meaning self.now).param_env param_env.now ≡ node environment list };
+        ensures { IsEnvironmentOf (meaning self.now) param_env.now result };
 
     /// How many generic parameters an item has.
     fn generics_count(&self, def_id: &ItemOf<Self>) -> usize
@@ -172,18 +172,15 @@ pub trait Interner: Keys {
 
     /// The variances at which an alias type of an item is related, and `None` where it has none of its own.
     fn opt_alias_variances(&self, def_id: &ItemOf<Self>) -> Option<&[Variance]>
-        ensures { let n = (meaning self.now).id (def_id.now).0 in
-            option_map (λ list. list.now) result ≡ (meaning self.now).alias_variances n };
+        ensures { option_map (λ list. list.now) result ≡ item_alias_variances (meaning self.now) (def_id.now).0 };
 
     /// The trait that declares an associated type or constant, and `None` where no trait declares the item.
     fn projection_parent(&self, def_id: &TraitAssocTermId<Self::Id>) -> Option<TraitId<Self::Id>>
-        ensures { let n = (meaning self.now).id (def_id.now).0 in
-            option_map (λ t. (meaning self.now).id t.0) result ≡ ((meaning self.now).tables).parent n };
+        ensures { option_map (λ t. (meaning self.now).id t.0) result ≡ item_parent (meaning self.now) (def_id.now).0 };
 
     /// Whether a trait is an auto trait.
     fn trait_is_auto(&self, trait_id: &TraitId<Self::Id>) -> bool
-        ensures { let n = (meaning self.now).id (trait_id.now).0 in
-            result ≡ ((meaning self.now).tables).is_auto n };
+        ensures { let m = meaning self.now in result ≡ (m.tables).is_auto (m.id (trait_id.now).0) };
 
     /// Whether a trait is the one that the language knows as this.
     fn is_trait_lang_item(
@@ -191,13 +188,11 @@ pub trait Interner: Keys {
         trait_id: &TraitId<Self::Id>,
         lang_item: SolverTraitLangItem,
     ) -> bool
-        ensures { let n = (meaning self.now).id (trait_id.now).0 in
-            result ≡ ((meaning self.now).tables).is_lang_item n lang_item };
+        ensures { let m = meaning self.now in result ≡ (m.tables).is_lang_item (m.id (trait_id.now).0) lang_item };
 
     /// Which kind of alias an item is, and `None` where it is none.
     fn alias_term_kind_from_def_id(&self, def_id: &ItemOf<Self>) -> Option<AliasTermKind<Self::Id>>
-        ensures { let n = (meaning self.now).id (def_id.now).0 in
-            result ≡ option_map (alias_of (def_id.now).0) (((meaning self.now).tables).alias_kind n) };
+        ensures { result ≡ item_alias (meaning self.now) (def_id.now).0 };
 
     /// Whether the next solver is on everywhere.
     fn next_trait_solver_globally(&self) -> bool
@@ -313,7 +308,7 @@ pub trait Interner: Keys {
         requires { IsTrue (known (predicate_tree (meaning self.old) kind)) }
         ensures grown { Extends (meaning self.old) (meaning self.new) }
         ensures sure { IfOk result (λ k. IsTrue (known ((meaning self.new).predicate k))) }
-        ensures made { IfOk result (λ k. (meaning self.new).predicate k ≡ predicate_tree (meaning self.old) kind) }
+        ensures made { MakesPredicate (meaning self.old) (meaning self.new) kind result }
         ensures refused { OnErr result (meaning self.new ≡ meaning self.old) }
         ensures there { RemakesPredicate (meaning self.old) (meaning self.new) kind result };
 
@@ -340,8 +335,7 @@ pub trait Interner: Keys {
         requires { IsTrue (known ((meaning self.old).clauses clauses)) }
         ensures grown { Extends (meaning self.old) (meaning self.new) }
         ensures sure { IfOk result (λ k. IsTrue (known ((meaning self.new).param_env k))) }
-        ensures made { let list = (meaning self.old).clauses clauses in
-            IfOk result (λ k. (meaning self.new).param_env k ≡ node environment list) }
+        ensures made { MakesEnv (meaning self.old) (meaning self.new) clauses result }
         ensures refused { OnErr result (meaning self.new ≡ meaning self.old) }
         ensures there { RemakesEnv (meaning self.old) (meaning self.new) clauses result };
 

@@ -4,7 +4,7 @@ ghost use Rattle.relation_terms.specs.Trees.{known, count, nth, list_tree, IsLis
 ghost use Rattle.relation_terms.specs.Meaning.{Extends};
 ghost use Rattle.relation_terms.specs.Parts.{part_tree, parts_tree, part_of_arg, Fit, Alike, AreArgs, AreTys};
 ghost use Rattle.relation_terms.specs.Parts.{AreConsts, ArePats, ArePredicates, part_of_predicate, IsTermArgs};
-ghost use Rattle.relation_terms.specs.Parts.{IsTermList};
+ghost use Rattle.relation_terms.specs.Parts.{IsTermList, MakesParts};
 ghost use Rattle.relation_terms.specs.declared.terms.part_kind.Part.TheVariants.{Ty as TyPart};
 ghost use Rattle.relation_terms.specs.declared.terms.part_kind.Part.TheVariants.{Const as ConstPart};
 ghost use Rattle.relation_terms.specs.declared.terms.part_kind.Part.TheVariants.{Pat as PatPart};
@@ -155,8 +155,7 @@ fn make_term_args<I: Interner>(cx: &mut I, members: &[PartOf<I>]) -> Result<Part
     requires fits { IsTermList members.now }
     ensures grown { Extends (I.meaning cx.old) (I.meaning cx.new) }
     ensures sure { IfOk result (λ ps. IsTrue (known (parts_tree (I.meaning cx.new) ps))) }
-    ensures made { IfOk result (λ ps. parts_tree (I.meaning cx.new) ps ≡
-        list_tree (part_tree (I.meaning cx.old)) members.now) }
+    ensures made { MakesParts (I.meaning cx.old) (I.meaning cx.new) members.now result }
     ensures is { IfOk result (λ ps. IsTermArgs ps) }
     ensures refused { OnErr result (I.meaning cx.new ≡ I.meaning cx.old) }
 {
@@ -232,8 +231,7 @@ pub fn make_parts<I: Interner>(
     requires fits { Fit members.now (parts_tree (I.meaning cx.old) like.now) }
     ensures grown { Extends (I.meaning cx.old) (I.meaning cx.new) }
     ensures sure { IfOk result (λ ps. IsTrue (known (parts_tree (I.meaning cx.new) ps))) }
-    ensures made { IfOk result (λ ps. parts_tree (I.meaning cx.new) ps ≡
-        list_tree (part_tree (I.meaning cx.old)) members.now) }
+    ensures made { MakesParts (I.meaning cx.old) (I.meaning cx.new) members.now result }
     ensures alike { IfOk result (λ ps. Alike like.now ps) }
     ensures refused { OnErr result (I.meaning cx.new ≡ I.meaning cx.old) }
 {

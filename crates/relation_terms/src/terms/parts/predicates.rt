@@ -9,7 +9,8 @@ ghost use Rattle.relation_terms.specs.Fields.{field_of_term, clause_view, predic
 ghost use Rattle.relation_terms.specs.Fields.{region_in, ty_in, const_in, term_in, trait_ref_in, alias_term_in};
 ghost use Rattle.relation_terms.specs.declared.terms.parts.predicates.Field.TheVariants.{AliasTerm as AliasTermField};
 ghost use Rattle.relation_terms.specs.declared.terms.parts.predicates.Field.TheVariants.{TraitRef as TraitRefField};
-ghost use Rattle.relation_terms.specs.Fields.{first_in, second_in, fields_tree, FitFields, parts_under, over_under};
+ghost use Rattle.relation_terms.specs.Fields.{first_in, second_in, fields_tree, FitFields, parts_under};
+ghost use Rattle.relation_terms.specs.Fields.{MakesClauseOver, MakesPredicateOver};
 
 use crate::predicate::{
     AliasTerm, ClauseKind, CoercePredicate, HostEffectPredicate, NormalizesTo, OutlivesPredicate,
@@ -309,8 +310,7 @@ pub fn clause_with_fields<I: Interner>(
     requires fits { FitFields fields.now (parts_under ((I.meaning cx.old).clause clause.now)) }
     ensures grown { Extends (I.meaning cx.old) (I.meaning cx.new) }
     ensures sure { IfOk result (λ k. IsTrue (known ((I.meaning cx.new).clause k))) }
-    ensures made { IfOk result (λ k. (I.meaning cx.new).clause k ≡
-        over_under ((I.meaning cx.old).clause clause.now) (fields_tree (I.meaning cx.old) fields.now)) }
+    ensures made { MakesClauseOver (I.meaning cx.old) (I.meaning cx.new) clause.now fields.now result }
     ensures refused { OnErr result (I.meaning cx.new ≡ I.meaning cx.old) }
 {
     let Binder { value, bound_vars } = cx.clause_kind(clause);
@@ -333,8 +333,7 @@ pub fn predicate_with_fields<I: Interner>(
     requires fits { FitFields fields.now (parts_under ((I.meaning cx.old).predicate predicate.now)) }
     ensures grown { Extends (I.meaning cx.old) (I.meaning cx.new) }
     ensures sure { IfOk result (λ k. IsTrue (known ((I.meaning cx.new).predicate k))) }
-    ensures made { IfOk result (λ k. (I.meaning cx.new).predicate k ≡
-        over_under ((I.meaning cx.old).predicate predicate.now) (fields_tree (I.meaning cx.old) fields.now)) }
+    ensures made { MakesPredicateOver (I.meaning cx.old) (I.meaning cx.new) predicate.now fields.now result }
     ensures refused { OnErr result (I.meaning cx.new ≡ I.meaning cx.old) }
 {
     let Binder { value, bound_vars } = cx.predicate_kind(predicate);

@@ -2,7 +2,7 @@
 ghost use Rattle.std.specs.Prelude.{◌≡◌, IsTrue};
 ghost use Rattle.relation_terms.specs.Trees.{known};
 ghost use Rattle.relation_terms.specs.Meaning.{signature_tree, existential_tree, term_tree};
-ghost use Rattle.relation_terms.specs.Parts.{part_sort, part_tree, body_tree, HasKey};
+ghost use Rattle.relation_terms.specs.Parts.{part_sort, part_tree, body_tree, HasKey, AreOneTerm};
 ghost use Rattle.relation_terms.specs.declared.terms.part_kind.Part.TheVariants.{Binder as BinderPart};
 
 use crate::predicate::ExistentialPredicate;
@@ -148,9 +148,8 @@ pub fn is_same<I: Interner>(cx: &I, part: &PartOf<I>, other: &PartOf<I>) -> bool
     requires part_known { IsTrue (known (part_tree (I.meaning cx.now) part.now)) }
     requires other_known { IsTrue (known (part_tree (I.meaning cx.now) other.now)) }
     requires same_sort { part_sort other.now ≡ part_sort part.now }
-    ensures one { IsTrue result → part_tree (I.meaning cx.now) part.now ≡ part_tree (I.meaning cx.now) other.now }
-    ensures keyed { HasKey part.now →
-        part_tree (I.meaning cx.now) part.now ≡ part_tree (I.meaning cx.now) other.now → IsTrue result }
+    ensures one { IsTrue result → AreOneTerm (I.meaning cx.now) part.now other.now }
+    ensures keyed { HasKey part.now → AreOneTerm (I.meaning cx.now) part.now other.now → IsTrue result }
 {
     match key_of(part) {
         Some(key) => match key_of(other) {

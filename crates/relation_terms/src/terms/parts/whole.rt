@@ -8,7 +8,7 @@ ghost use Rattle.relation_terms.specs.declared.terms.part_kind.Part.TheVariants.
 ghost use Rattle.relation_terms.specs.declared.terms.part_kind.Part.TheVariants.{Object as ObjectPart};
 ghost use Rattle.relation_terms.specs.declared.terms.part_kind.Part.TheVariants.{Existential as ExistentialPart};
 ghost use Rattle.relation_terms.specs.Orders.{list_order, order_of};
-ghost use Rattle.relation_terms.specs.Parts.{part_tree, parts_tree, part_sort, Fit, over};
+ghost use Rattle.relation_terms.specs.Parts.{part_tree, parts_tree, part_sort, Fit, over, MakesOver};
 ghost use Rattle.relation_terms.specs.Parts.{parts_of as list_of_parts};
 
 use crate::predicate::ExistentialPredicate;
@@ -65,8 +65,7 @@ pub fn part<I: Interner>(cx: &I, term: &PartOf<I>, i: usize) -> PartOf<I>
     requires term_known { IsTrue (known (part_tree (I.meaning cx.now) term.now)) }
     requires in_bounds { i < count (list_of_parts (part_tree (I.meaning cx.now) term.now)) }
     ensures sure { IsTrue (known (part_tree (I.meaning cx.now) result)) }
-    ensures means { part_tree (I.meaning cx.now) result ≡
-        nth i (list_of_parts (part_tree (I.meaning cx.now) term.now)) }
+    ensures means { let m = I.meaning cx.now in part_tree m result ≡ nth i (list_of_parts (part_tree m term.now)) }
 {
     member(cx, &parts_of(cx, term), i)
 }
@@ -239,8 +238,7 @@ pub fn with_parts<I: Interner>(
     requires fits { Fit parts.now (list_of_parts (part_tree (I.meaning cx.old) term.now)) }
     ensures grown { Extends (I.meaning cx.old) (I.meaning cx.new) }
     ensures sure { IfOk result (λ p. IsTrue (known (part_tree (I.meaning cx.new) p))) }
-    ensures made { IfOk result (λ p. part_tree (I.meaning cx.new) p ≡
-        over (part_tree (I.meaning cx.old) term.now) (list_tree (part_tree (I.meaning cx.old)) parts.now)) }
+    ensures made { MakesOver (I.meaning cx.old) (I.meaning cx.new) term.now parts.now result }
     ensures sort { IfOk result (λ p. part_sort p ≡ part_sort term.now) }
 {
     match term {
