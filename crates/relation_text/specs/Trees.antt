@@ -1,5 +1,5 @@
 -- Trees of names.
-use Rattle.std.specs.Prelude.{◌≡◌, ℕ, ◌<◌, ◌≤◌, List, [], ◌∷◌, Some, length, slice_index}
+use Rattle.std.specs.Prelude.{◌≡◌, ℕ, ◌<◌, ◌≤◌, List, [], ◌∷◌, ◌++◌, Some, length, slice_index}
 use Rattle.std.specs.List.{slice_get, flat_map}
 use Rattle.relation_text.specs.declared.reading.words.Word.{Word}
 use Rattle.relation_text.specs.declared.reading.words.WordKind.TheVariants as word
@@ -32,3 +32,7 @@ kind_words (Form f) from to = []
 -- the words of the nodes that are leaves
 abbrev pub node_words : List Node → List Word
 node_words nodes = flat_map (λ (n : Node). kind_words n.kind n.start n.end) nodes
+
+-- one more node has its words behind those of all others
+abbrev pub AddsWords : List Node → List Node → NodeKind → ℕ → ℕ → Type 0
+AddsWords old new kind from to = node_words new ≡ node_words old ++ kind_words kind from to

@@ -1,8 +1,7 @@
 //! Terms of a program become keys, through an interner's making calls.
-ghost use Rattle.std.specs.Prelude.{◌≡◌, IfOk, length, map};
+ghost use Rattle.std.specs.Prelude.{◌≡◌, IfOk, length};
 ghost use Rattle.relation_terms.specs.Meaning.{Extends};
-ghost use Rattle.relation_text.specs.Terms.{trees_of};
-ghost use Rattle.relation_text.specs.Built.{AreKnown, AreBuilt};
+ghost use Rattle.relation_text.specs.Built.{AreKnown, AreKeysOf};
 
 mod binders;
 mod inner;
@@ -32,9 +31,7 @@ pub fn build<I: Interner>(
     ensures grown { Extends (I.meaning cx.old) (I.meaning cx.new) }
     ensures each { IfOk result (λ keys. length keys.items ≡ length program.now.terms.items) }
     ensures sure { IfOk result (λ keys. AreKnown (I.meaning cx.new) keys.items) }
-    ensures made { let m = I.meaning cx.old in let items = map m.id ids.now in let names = map m.name names.now in
-        let trees = trees_of items names program.now.parts.items program.now.terms.items in
-        IfOk result (λ keys. AreBuilt (I.meaning cx.new) trees keys.items) }
+    ensures made { IfOk result (λ keys. AreKeysOf I.meaning cx.old cx.new ids.now names.now program.now keys.items) }
 {
     let mut built = Vec::with_capacity(cx.alloc(), program.terms.len())?;
     let mut inners = Vec::with_capacity(cx.alloc(), program.terms.len())?;

@@ -1,10 +1,9 @@
 //! The key of a type over a binder, by the keys of its parts.
-ghost use Rattle.std.specs.Prelude.{◌≡◌, ℕ, List, Some, IsTrue, IfSome, slice_range};
-ghost use Rattle.relation_terms.specs.Trees.{Tree, known, list_tree};
+ghost use Rattle.std.specs.Prelude.{◌≡◌, Some, IsTrue, IfSome, slice_range};
+ghost use Rattle.relation_terms.specs.Trees.{known, list_tree};
 ghost use Rattle.relation_terms.specs.Meaning.{Extends, arg_tree, bound_kind_of, bound_kinds};
-ghost use Rattle.relation_text.specs.Terms.{variable_of, variables_of, parts_tree, fn_ptr_tree, unsafe_binder_tree};
-ghost use Rattle.relation_text.specs.Terms.{term_tree};
-ghost use Rattle.relation_text.specs.Built.{AreKnown, AreBuilt, Makes, MakesTree};
+ghost use Rattle.relation_text.specs.Terms.{variable_of, fn_ptr_tree, unsafe_binder_tree};
+ghost use Rattle.relation_text.specs.Built.{AreKnown, BindWhereBuilt, MakesBinder, MakesTree};
 
 use crate::building::lists::{key_at, keys_at, ty_at, tys_of};
 use crate::building::making::make_ty;
@@ -51,8 +50,7 @@ pub(super) fn variables_at<I: Interner>(
     parts: Parts,
 ) -> Option<Vec<BoundVariable<I>>>
     requires { AreKnown (I.meaning cx.now) built.now }
-    ensures { let m = I.meaning cx.now in IfSome result (λ vs. (ts : List Tree) → AreBuilt m ts built.now →
-        variables_of (parts_tree numbers.now ts parts) ≡ Some (bound_kinds m vs.items)) }
+    ensures { IfSome result (λ vs. BindWhereBuilt (I.meaning cx.now) numbers.now built.now parts vs.items) }
 {
     let places = places_at(numbers, parts)?;
     let mut variables = Vec::new(cx.alloc());
@@ -124,8 +122,7 @@ pub(super) fn make_binder<I: Interner>(
 ) -> Option<GenericArg<I>>
     requires { AreKnown (I.meaning cx.old) built.now }
     ensures grown { Extends (I.meaning cx.old) (I.meaning cx.new) }
-    ensures made { let m = I.meaning cx.old in (items names : List ℕ) →
-        Makes m (I.meaning cx.new) built.now (λ ts. term_tree items names numbers.now ts term) result }
+    ensures made { MakesBinder (I.meaning cx.old) (I.meaning cx.new) numbers.now built.now term result }
 {
     match term {
         Term::FnPtr(header, variables, types) => {

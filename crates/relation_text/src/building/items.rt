@@ -3,7 +3,7 @@ ghost use Rattle.std.specs.Prelude.{◌≡◌, Some, IsTrue, IfSome};
 ghost use Rattle.relation_terms.specs.Trees.{known, list_tree};
 ghost use Rattle.relation_terms.specs.Meaning.{Extends, arg_tree};
 ghost use Rattle.relation_text.specs.Terms.{item_tree};
-ghost use Rattle.relation_text.specs.Built.{MakesTree, IsItemForm, IsConstItemForm};
+ghost use Rattle.relation_text.specs.Built.{MakesTree, item_over, IsItemForm, IsConstItemForm};
 
 use crate::building::making::{make_const, make_ty};
 use crate::reading::ItemSort;
@@ -99,8 +99,7 @@ pub(super) fn make_item<I: Interner>(
 ) -> Option<GenericArg<I>>
     requires { IsTrue (known (list_tree (arg_tree (I.meaning cx.old)) args.now)) }
     ensures grown { Extends (I.meaning cx.old) (I.meaning cx.new) }
-    ensures made { let m = I.meaning cx.old in
-        MakesTree (I.meaning cx.new) (item_tree sort (Some (m.id id)) (list_tree (arg_tree m) args.now)) result }
+    ensures made { MakesTree (I.meaning cx.new) (item_over (I.meaning cx.old) sort id args.now) result }
 {
     if sort == ItemSort::Foreign {
         return make_ty(cx, TyKind::Foreign(ForeignId(id)));

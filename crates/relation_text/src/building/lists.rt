@@ -1,5 +1,6 @@
 //! Keys by the numbers of their terms.
-ghost use Rattle.std.specs.Prelude.{◌≡◌, Some, IfSome, map, slice_get, slice_range};
+ghost use Rattle.std.specs.Prelude.{◌≡◌, Some, IfSome, map, slice_get};
+ghost use Rattle.relation_text.specs.Built.{AreKeysAt};
 
 use crate::naming::Parts;
 use relation_terms::terms::{ConstKey, GenericArgKind, RegionKey, TyKey};
@@ -61,8 +62,7 @@ pub fn keys_at<K: Copy>(
     built: &[Option<K>],
     parts: Parts,
 ) -> Option<Vec<K>>
-    ensures { let places = slice_range numbers.now parts.first parts.behind in
-        IfSome result (λ keys. map (slice_get built.now) places ≡ map (λ key. Some (Some key)) keys.items) }
+    ensures { IfSome result (λ keys. AreKeysAt numbers.now built.now parts keys.items) }
 {
     let places = numbers.get(parts.first..parts.behind)?;
     let mut keys = Vec::new(alloc);

@@ -4,8 +4,8 @@ ghost use Rattle.relation_terms.specs.Heads.{tuple, expression, value_branch};
 ghost use Rattle.relation_terms.specs.Trees.{Tree, known, node, list_tree};
 ghost use Rattle.relation_terms.specs.Meaning.{Extends, arg_tree, kind_tree, region_tree, const_tree, valtree_tree};
 ghost use Rattle.relation_text.specs.Terms.{value_tree, term_tree};
-ghost use Rattle.relation_text.specs.Built.{AreKnown, AreInnerKnown, Makes, MakesOf, MakesTree, IsFormOf};
-ghost use Rattle.relation_text.specs.Built.{IsRegionOf, IsConstOf, inner_tree};
+ghost use Rattle.relation_text.specs.Built.{AreKnown, AreInnerKnown, Makes, MakesKey, MakesPart, MakesTree};
+ghost use Rattle.relation_text.specs.Built.{IsFormOf, IsRegionOf, IsConstOf};
 
 use crate::building::binders::make_binder;
 use crate::building::inner::InnerOf;
@@ -324,10 +324,7 @@ fn make_term<I: Interner>(
     requires keys { AreKnown (I.meaning cx.old) built.now }
     requires inners { AreInnerKnown (I.meaning cx.old) inners.now }
     ensures grown { Extends (I.meaning cx.old) (I.meaning cx.new) }
-    ensures made { let m = I.meaning cx.old in let items = map m.id ids.now in
-        let names = map m.name names.now in
-        let tree = λ (ts : List Tree). term_tree items names numbers.now ts term in
-        MakesOf m (arg_tree (I.meaning cx.new)) built.now inners.now tree result }
+    ensures made { MakesKey I.meaning cx.old cx.new ids.now names.now numbers.now built.now inners.now term result }
 {
     match term {
         Term::Slice(_) | Term::Array(..) | Term::RawPtr(..) | Term::Ref(..) | Term::Number(..) => {
@@ -357,14 +354,8 @@ pub(super) fn make_either<I: Interner>(
     requires keys { AreKnown (I.meaning cx.old) built.now }
     requires inners { AreInnerKnown (I.meaning cx.old) inners.now }
     ensures grown { Extends (I.meaning cx.old) (I.meaning cx.new) }
-    ensures key { let m = I.meaning cx.old in let items = map m.id ids.now in
-        let names = map m.name names.now in
-        let tree = λ (ts : List Tree). term_tree items names numbers.now ts term in
-        MakesOf m (arg_tree (I.meaning cx.new)) built.now inners.now tree result.0 }
-    ensures inner { let m = I.meaning cx.old in let items = map m.id ids.now in
-        let names = map m.name names.now in
-        let tree = λ (ts : List Tree). term_tree items names numbers.now ts term in
-        MakesOf m (inner_tree (I.meaning cx.new)) built.now inners.now tree result.1 }
+    ensures key { MakesKey I.meaning cx.old cx.new ids.now names.now numbers.now built.now inners.now term result.0 }
+    ensures inner { MakesPart I.meaning cx.old cx.new ids.now names.now numbers.now built.now inners.now term result.1 }
 {
     match term {
         Term::Range(..) | Term::Or(_) | Term::NotNull => {

@@ -1,11 +1,11 @@
 //! The key of a trait object, and what one implements, by the keys of their parts.
-ghost use Rattle.std.specs.Prelude.{◌≡◌, ℕ, List, Some, IsTrue, map};
+ghost use Rattle.std.specs.Prelude.{◌≡◌, Some, IsTrue};
 ghost use Rattle.relation_terms.specs.Heads.{existential_trait, existential_projection};
-ghost use Rattle.relation_terms.specs.Trees.{Tree, known, node, cons, list_tree};
+ghost use Rattle.relation_terms.specs.Trees.{known, node, cons, list_tree};
 ghost use Rattle.relation_terms.specs.Meaning.{Extends, arg_tree, bound_kinds, existential_tree, under};
-ghost use Rattle.relation_text.specs.Terms.{object_tree, term_tree};
-ghost use Rattle.relation_text.specs.Built.{AreKnown, AreInnerKnown, MakesOf, MakesFrom, MakesInner, MakesTree};
-ghost use Rattle.relation_text.specs.Built.{inner_tree};
+ghost use Rattle.relation_text.specs.Terms.{object_tree};
+ghost use Rattle.relation_text.specs.Built.{AreKnown, AreInnerKnown, MakesObject, MakesPredicate, MakesInner};
+ghost use Rattle.relation_text.specs.Built.{MakesTree, inner_tree};
 
 use crate::building::binders::variables_at;
 use crate::building::inner::{Inner, InnerOf, predicates_of, term_of};
@@ -111,8 +111,7 @@ pub(super) fn make_object<I: Interner>(
     requires keys { AreKnown (I.meaning cx.old) built.now }
     requires inners { AreInnerKnown (I.meaning cx.old) inners.now }
     ensures grown { Extends (I.meaning cx.old) (I.meaning cx.new) }
-    ensures made { (items names : List ℕ) → let tree = λ (ts : List Tree). term_tree items names numbers.now ts term in
-        MakesOf (I.meaning cx.old) (arg_tree (I.meaning cx.new)) built.now inners.now tree result }
+    ensures made { MakesObject (I.meaning cx.old) (I.meaning cx.new) numbers.now built.now inners.now term result }
 {
     match term {
         Term::Object(parts, region) => {
@@ -134,9 +133,7 @@ pub(super) fn make_predicate<I: Interner>(
 ) -> Option<InnerOf<I>>
     requires { AreKnown (I.meaning cx.old) built.now }
     ensures grown { Extends (I.meaning cx.old) (I.meaning cx.new) }
-    ensures made { let m = I.meaning cx.old in (names : List ℕ) →
-        let tree = λ (ts : List Tree). term_tree (map m.id ids.now) names numbers.now ts term in
-        MakesFrom m (inner_tree (I.meaning cx.new)) built.now tree result }
+    ensures made { MakesPredicate (I.meaning cx.old) (I.meaning cx.new) ids.now numbers.now built.now term result }
 {
     match term {
         Term::Implements(variables, item, args) => {

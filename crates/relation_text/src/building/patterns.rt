@@ -1,10 +1,10 @@
 //! The key of a pattern, and of a type over one, by the keys of its parts.
-ghost use Rattle.std.specs.Prelude.{◌≡◌, ℕ, List, IsTrue};
+ghost use Rattle.std.specs.Prelude.{◌≡◌, IsTrue};
 ghost use Rattle.relation_terms.specs.Heads.{or_pattern};
-ghost use Rattle.relation_terms.specs.Trees.{Tree, known, node, list_tree};
-ghost use Rattle.relation_terms.specs.Meaning.{Extends, arg_tree, pattern_tree};
-ghost use Rattle.relation_text.specs.Terms.{term_tree};
-ghost use Rattle.relation_text.specs.Built.{AreKnown, AreInnerKnown, MakesOf, MakesInner, inner_tree};
+ghost use Rattle.relation_terms.specs.Trees.{known, node, list_tree};
+ghost use Rattle.relation_terms.specs.Meaning.{Extends, pattern_tree};
+ghost use Rattle.relation_text.specs.Built.{AreKnown, AreInnerKnown, MakesPattern, MakesPatternType, MakesInner};
+ghost use Rattle.relation_text.specs.Built.{inner_tree};
 
 use crate::building::inner::{Inner, InnerOf, pats_of};
 use crate::building::lists::{const_at, key_at, keys_at, ty_at};
@@ -49,8 +49,7 @@ pub(super) fn make_pattern<I: Interner>(
     requires keys { AreKnown (I.meaning cx.old) built.now }
     requires inners { AreInnerKnown (I.meaning cx.old) inners.now }
     ensures grown { Extends (I.meaning cx.old) (I.meaning cx.new) }
-    ensures made { (items names : List ℕ) → let tree = λ (ts : List Tree). term_tree items names numbers.now ts term in
-        MakesOf (I.meaning cx.old) (inner_tree (I.meaning cx.new)) built.now inners.now tree result }
+    ensures made { MakesPattern (I.meaning cx.old) (I.meaning cx.new) numbers.now built.now inners.now term result }
 {
     match term {
         Term::Range(start, end) => {
@@ -77,8 +76,7 @@ pub(super) fn make_pattern_type<I: Interner>(
     requires keys { AreKnown (I.meaning cx.old) built.now }
     requires inners { AreInnerKnown (I.meaning cx.old) inners.now }
     ensures grown { Extends (I.meaning cx.old) (I.meaning cx.new) }
-    ensures made { (items names parts : List ℕ) → let tree = λ (ts : List Tree). term_tree items names parts ts term in
-        MakesOf (I.meaning cx.old) (arg_tree (I.meaning cx.new)) built.now inners.now tree result }
+    ensures made { MakesPatternType (I.meaning cx.old) (I.meaning cx.new) built.now inners.now term result }
 {
     match term {
         Term::Pat(base, pat) => {

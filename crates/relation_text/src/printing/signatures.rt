@@ -1,7 +1,7 @@
 //! How function pointers and types under a binder print.
 ghost use Rattle.std.specs.Prelude.{IsTrue};
 ghost use Rattle.relation_terms.specs.Trees.{known};
-ghost use Rattle.relation_terms.specs.Meaning.{under, sig_of, signature_tree};
+ghost use Rattle.relation_text.specs.Printed.{bound_signature, bound_type};
 
 use crate::printing::binders::{Entered, enter, write_for, write_variables};
 use crate::printing::leaves::write_between;
@@ -21,8 +21,7 @@ pub(super) fn write_fn_ptr<I: Interner, W: Write>(
     header: &FnHeader,
     out: &mut W,
 ) -> fmt::Result
-    requires { let m = I.meaning cx.now in IsTrue (known (
-        under (m.bound_vars (types.now).bound_vars) (signature_tree m (sig_of (types.now).value header.now)))) }
+    requires { IsTrue (known (bound_signature (I.meaning cx.now) types.now header.now)) }
 {
     let vars = cx.bound_vars(&types.bound_vars);
     write_for(vars, around, out)?;
@@ -99,8 +98,7 @@ pub(super) fn write_unsafe_binder<I: Interner, W: Write>(
     body: &Binder<I::Key, TyKey<I::Key>>,
     out: &mut W,
 ) -> fmt::Result
-    requires { let m = I.meaning cx.now in
-        IsTrue (known (under (m.bound_vars (body.now).bound_vars) (m.ty (body.now).value))) }
+    requires { IsTrue (known (bound_type (I.meaning cx.now) body.now)) }
 {
     let vars = cx.bound_vars(&body.bound_vars);
     out.write_str("unsafe")?;

@@ -1,6 +1,6 @@
 //! Trees of names.
-ghost use Rattle.std.specs.Prelude.{◌≡◌, ◌+◌, ◌≤◌, ◌++◌, [], IfOk, OnOk, OnErr, length, suc};
-ghost use Rattle.relation_text.specs.Trees.{IsFounded, EachStands, EachBelow, node_words, kind_words};
+ghost use Rattle.std.specs.Prelude.{◌≡◌, ◌+◌, ◌≤◌, [], IfOk, OnOk, OnErr, length, suc};
+ghost use Rattle.relation_text.specs.Trees.{IsFounded, EachStands, EachBelow, node_words, AddsWords};
 
 use crate::reading::words::Leaf;
 use relation_terms::terms::{FnHeader, Mutability, Variance};
@@ -215,8 +215,7 @@ impl Tree {
         ensures number { IfOk result (λ n. n ≡ length self.old.nodes.items) }
         ensures nodes { OnOk result (length self.new.nodes.items ≡ suc (length self.old.nodes.items)) }
         ensures parts { OnOk result (length self.new.parts.items ≡ length self.old.parts.items + length parts.now) }
-        ensures leaves { let before = node_words self.old.nodes.items in
-            OnOk result (node_words self.new.nodes.items ≡ before ++ kind_words kind start end) }
+        ensures leaves { OnOk result (AddsWords self.old.nodes.items self.new.nodes.items kind start end) }
         ensures refused { OnErr result (self.new.nodes.items ≡ self.old.nodes.items) }
     {
         let number = self.nodes.len();
