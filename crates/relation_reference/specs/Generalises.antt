@@ -22,11 +22,13 @@ use Rattle.relation_contexts.specs.Generalising.{Stays, gives_way_to, Met, Stage
 use Rattle.relation_contexts.specs.Generalising.{MakesUnbound}
 use Rattle.relation_contexts.specs.Generalising.{Obstacle, cycle, beyond, IsNoObstacle, StopsAt}
 use Rattle.relation_reference.specs.declared.context.generalising.MetKey.{MetKey}
+use Rattle.relation_reference.specs.declared.context.generalising.Target.{Target}
 use Rattle.relation_reference.specs.declared.context.generalising.Fate.{Fate}
 use Rattle.relation_reference.specs.declared.context.generalising.Fate.TheVariants.{ByParts, GivesWay, Cycle, Beyond}
 use Rattle.relation_reference.specs.declared.context.variables.RefCtxt.{RefCtxt}
 use Rattle.relation_contexts.specs.ContextCalls.{MarksNew}
-use Rattle.relation_reference.specs.RefCtxt.{context_in}
+use Rattle.relation_reference.specs.RefCtxt.{store_in, context_in}
+use Rattle.relation_reference.specs.Remembering.{vid_kind, vid_number}
 use Rattle.relation_reference.specs.Tables.{store_of, IsLawful}
 
 -- Of which kind the variable is that may take the place of a part.
@@ -150,3 +152,11 @@ IsGeneralisedFor m n before after k i v cyclic p (Err (Unrelated e)) = (o : Obst
     StopsAt before k i o (part_tree m p) × GivenError cyclic e o
 IsGeneralisedFor m n before after k i v cyclic p (Err Budget) = ⊥
 IsGeneralisedFor m n before after k i v cyclic p (Err Memory) = Unit {0}
+
+-- The same of the variable of a target, between two states of a context.
+abbrev pub GeneralisesFor : {I Key Id Name Span : Type 0} → (I → Meaning Key Id Name) → RefCtxt I Key Id Name Span →
+    RefCtxt I Key Id Name Span → Target Key Id Name → Variance → Part Key Id →
+    Result (Part Key Id) (RelateFault Key Id Name) → Type 0
+GeneralisesFor meaning before after target v p result = IsGeneralisedFor (meaning before.interner)
+    (meaning after.interner) (store_in meaning before) (store_in meaning after) (vid_kind target.vid)
+    (vid_number target.vid) v target.cyclic p result

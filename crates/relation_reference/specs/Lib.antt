@@ -7,4 +7,5 @@ pub mod Remembering
 pub mod Resolvers
 pub mod Generalises
 pub mod Answers
+pub mod Changes
 pub mod Opened

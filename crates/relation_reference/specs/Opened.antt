@@ -1,9 +1,13 @@
 -- What is put for what a binder binds.
 use Rattle.std.specs.Prelude.{◌≡◌, ℕ, suc, List, [], ◌∷◌}
 use Rattle.relation_terms.specs.Heads.{BoundKind, VarKind, placeholder, variable}
+use Rattle.relation_terms.specs.declared.terms.binder.Binder.{Binder}
 use Rattle.relation_terms.specs.Trees.{Tree, leaf}
+use Rattle.relation_terms.specs.Meaning.{Meaning}
+use Rattle.relation_contexts.specs.Binders.{binder_tree}
+use Rattle.relation_contexts.specs.Contexts.{Context}
 use Rattle.relation_contexts.specs.Steps.{MakesVariable}
-use Rattle.relation_contexts.specs.Stores.{Store}
+use Rattle.relation_contexts.specs.Stores.{Store, IsTermIn}
 
 -- Placeholders of a universe for the variables of a list, numbered by their places from `n` on.
 abbrev pub placeholders_from : ℕ → ℕ → List BoundKind → List Tree
@@ -13,3 +17,8 @@ placeholders_from u n (k ∷ ks) = leaf (placeholder k u n) ∷ placeholders_fro
 -- A new variable of a kind was made in the current universe.
 abbrev pub MakesOne : Store → Store → VarKind → Tree → Type 0
 MakesOne before after k x = (n : ℕ) × (x ≡ leaf (variable k n)) × MakesVariable before after k n before.universe
+
+-- A binder is a term of a context.
+abbrev pub IsBinderIn : {Key Id Name K : Type 0} → Context Key Id Name → (Meaning Key Id Name → K → Tree) →
+    Binder Key K → Type 0
+IsBinderIn c tree b = IsTermIn c.store (binder_tree tree c.meaning b)

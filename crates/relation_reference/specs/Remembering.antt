@@ -1,8 +1,8 @@
 -- What walks through terms remember of the parts that they have met.
 use Rattle.std.specs.Prelude.{◌≡◌, ℕ, Bool, IsTrue, Option, Some, option_map}
 use Rattle.std.specs.HashMap.{HashMap, get}
-use Rattle.relation_terms.specs.Heads.{VarKind, type_var, const_var}
-use Rattle.relation_terms.specs.Trees.{Tree, known, apply}
+use Rattle.relation_terms.specs.Heads.{VarKind, type_var, const_var, variable}
+use Rattle.relation_terms.specs.Trees.{Tree, leaf, known, apply}
 use Rattle.relation_terms.specs.Meaning.{Meaning}
 use Rattle.relation_terms.specs.Parts.{part_sort, part_key, part_tree}
 use Rattle.relation_terms.specs.declared.terms.part_kind.Part.{Part}
@@ -10,7 +10,9 @@ use Rattle.relation_folds.specs.Folds.{part_rank}
 use Rattle.relation_reference.specs.declared.context.memory.PartKey.{PartKey}
 use Rattle.relation_reference.specs.declared.context.memory.TermVid.{TermVid}
 use Rattle.relation_reference.specs.declared.context.memory.TermVid.TheVariants.{Ty, Const}
-use Rattle.relation_contexts.specs.Stores.{Store, resolved}
+use Rattle.relation_reference.specs.declared.context.inner.InferCtxtInner.{InferCtxtInner}
+use Rattle.relation_contexts.specs.Stores.{Store, universe_of, resolved}
+use Rattle.relation_reference.specs.Tables.{store_of}
 
 -- What a term comes to by what is recorded, at every depth.
 abbrev pub resolved_by : Store → Tree → Tree
@@ -28,6 +30,13 @@ vid_kind (Const v) = const_var
 abbrev pub vid_number : TermVid → ℕ
 vid_number (Ty v) = v.0
 vid_number (Const v) = v.0
+
+-- The term that is such a variable, and the universe of the variable.
+abbrev pub vid_tree : TermVid → Tree
+vid_tree v = leaf (variable (vid_kind v) (vid_number v))
+
+abbrev pub vid_universe : Store → TermVid → ℕ
+vid_universe st v = universe_of st (vid_kind v) (vid_number v)
 
 module _ {Key Id Name : Type 0} (m : Meaning Key Id Name) (st : Store) where
   -- What a known part comes to by what is recorded, at every depth.
@@ -49,3 +58,14 @@ module _ {Key Id Name : Type 0} (m : Meaning Key Id Name) (st : Store) where
   abbrev pub Remembers : {S : Type 0} → (PartKey Key → PartKey Key → Bool) →
       HashMap (PartKey Key) (Part Key Id) S → Type 0
   Remembers eq memory = (q : PartKey Key) (by : Part Key Id) → get eq memory q ≡ Some by → IsKept eq q by
+
+module _ {I Key Id Name : Type 0} (meaning : I → Meaning Key Id Name) where
+  -- A memory remembers what parts come to by the tables of a context.
+  abbrev pub Caches : {S : Type 0} → I → InferCtxtInner Key → (PartKey Key → PartKey Key → Bool) →
+      HashMap (PartKey Key) (Part Key Id) S → Type 0
+  Caches cx x eq memory = Remembers (meaning cx) (store_of (meaning cx) x) eq memory
+
+  -- What a part came to by the tables of a context, while its interner grew.
+  abbrev pub IsResolvedPart : I → I → InferCtxtInner Key → Part Key Id → Part Key Id → Type 0
+  IsResolvedPart before after x p by =
+      part_tree (meaning after) by ≡ resolved_by (store_of (meaning before) x) (part_tree (meaning before) p)

@@ -1,5 +1,5 @@
 -- One table of variables, as lists: what is recorded of them, and what leading a class on makes of it.
-use Rattle.std.specs.Prelude.{ℕ, List, map, get_or, eqb, cond, Option, Some, None}
+use Rattle.std.specs.Prelude.{ℕ, min, List, map, get_or, slice_set, eqb, cond, Option, Some, None}
 use Rattle.relation_terms.specs.Trees.{Tree}
 use Rattle.relation_terms.specs.declared.terms.numbers.UniverseIndex.{UniverseIndex}
 use Rattle.relation_contexts.specs.Stores.{Entry, unbound, same_as, bound_to}
@@ -40,6 +40,10 @@ module _ {K : Type 0} where
   free_universe u (SameAs r) = None
   free_universe u (Known t) = None
 
+  -- The universe of the root of a variable's class, or none where that is bound to a term.
+  abbrev pub class_universe : List (Variable K) → ℕ → Option UniverseIndex
+  class_universe vs n = free_universe (universe_at vs (root_at vs n)) (value_at vs (root_at vs n))
+
   -- The term that a root is bound to, or else its key.
   abbrev pub term_by : K → VariableValue K → K
   term_by k Unknown = k
@@ -57,6 +61,13 @@ module _ {K : Type 0} where
 
   abbrev pub led_variable : ℕ → ℕ → Variable K → Variable K
   led_variable child root v = record { key = v.key; value = led child root v.value; universe = v.universe }
+
+  -- What is recorded of variables once the child and its class lead to the root, and their universes then.
+  abbrev pub led_values : ℕ → ℕ → List (Variable K) → List (VariableValue K)
+  led_values child root vs = slice_set (map (led child root) (values_of vs)) child (SameAs root)
+
+  abbrev pub led_universes : ℕ → ℕ → List (Variable K) → List ℕ
+  led_universes child root vs = slice_set (universes_of vs) root (min (universe_at vs child) (universe_at vs root))
 
   -- What is recorded of a variable, by the trees of its terms.
   abbrev pub entry_of_value : (K → Tree) → VariableValue K → Entry

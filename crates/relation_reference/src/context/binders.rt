@@ -3,14 +3,13 @@ ghost use Rattle.std.specs.Prelude.{◌≡◌, ◌<◌, IsTrue, IsSome, Some, If
 ghost use Rattle.relation_terms.specs.Heads.{placeholder};
 ghost use Rattle.relation_terms.specs.Trees.{leaf, known, list_tree};
 ghost use Rattle.relation_terms.specs.Meaning.{Extends, arg_tree, bound_kind_of};
-ghost use Rattle.relation_contexts.specs.Generalising.{MakesUnbound};
 ghost use Rattle.relation_contexts.specs.ContextCalls.{KeepsRest};
 ghost use Rattle.relation_contexts.specs.Bound.{BindsByList};
 ghost use Rattle.relation_contexts.specs.Binders.{kinds_in, variable_kind, MakesEach, binder_tree};
-ghost use Rattle.relation_contexts.specs.Binders.{EntersAs, InstantiatesAs};
 ghost use Rattle.relation_reference.specs.Tables.{IsLawful};
 ghost use Rattle.relation_reference.specs.RefCtxt.{store_in, context_in};
 ghost use Rattle.relation_reference.specs.Opened.{placeholders_from, MakesOne};
+ghost use Rattle.relation_reference.specs.Changes.{MakesUnboundNow, EntersBody, InstantiatesBody};
 
 use crate::context::RefCtxt;
 use crate::context::universes::next_universe;
@@ -136,8 +135,7 @@ impl<I: Interner> RefCtxt<I> {
         ensures makes { let ks = kinds_in ((I.meaning self.old.interner).bound_vars bound_vars.now) in
             IfOk result (λ args. MakesEach self.old.inner.universe.0 (store_in I.meaning self.old) ks
             (map (arg_tree (I.meaning self.new.interner)) args.items) (store_in I.meaning self.new)) }
-        ensures refused { OnErr result (MakesUnbound self.old.inner.universe.0 (store_in I.meaning self.old)
-            (store_in I.meaning self.new)) }
+        ensures refused { OnErr result (MakesUnboundNow I.meaning self.old self.new) }
         ensures rest { KeepsRest (context_in I.meaning self.old) (context_in I.meaning self.new) }
     {
         let mut args = Vec::new(self.interner.alloc());
@@ -163,9 +161,7 @@ impl<I: Interner> RefCtxt<I> {
         ensures lawful { IsLawful (I.meaning self.new.interner) self.new.inner }
         ensures grown { Extends (I.meaning self.old.interner) (I.meaning self.new.interner) }
         ensures sure { IfOk result (λ x. IsTrue (known (T.tree (I.meaning self.new.interner) x))) }
-        ensures enters { let t = binder_tree T.tree (I.meaning self.old.interner) value in IfOk result (λ x.
-            EntersAs (context_in I.meaning self.old) (context_in I.meaning self.new) t
-            (T.tree (I.meaning self.new.interner) x)) }
+        ensures enters { IfOk result (λ x. EntersBody I.meaning self.old self.new T.tree value x) }
         ensures refused { OnErr result (store_in I.meaning self.new ≡ store_in I.meaning self.old) }
         ensures rest { KeepsRest (context_in I.meaning self.old) (context_in I.meaning self.new) }
     {
@@ -195,11 +191,8 @@ impl<I: Interner> RefCtxt<I> {
         ensures lawful { IsLawful (I.meaning self.new.interner) self.new.inner }
         ensures grown { Extends (I.meaning self.old.interner) (I.meaning self.new.interner) }
         ensures sure { IfOk result (λ x. IsTrue (known (T.tree (I.meaning self.new.interner) x))) }
-        ensures instantiates { let t = binder_tree T.tree (I.meaning self.old.interner) value in IfOk result (λ x.
-            InstantiatesAs (context_in I.meaning self.old) (context_in I.meaning self.new) t
-            (T.tree (I.meaning self.new.interner) x)) }
-        ensures refused { OnErr result (MakesUnbound self.old.inner.universe.0 (store_in I.meaning self.old)
-            (store_in I.meaning self.new)) }
+        ensures instantiates { IfOk result (λ x. InstantiatesBody I.meaning self.old self.new T.tree value x) }
+        ensures refused { OnErr result (MakesUnboundNow I.meaning self.old self.new) }
         ensures rest { KeepsRest (context_in I.meaning self.old) (context_in I.meaning self.new) }
     {
         let args = self.next_args_infer(&value.bound_vars)?;

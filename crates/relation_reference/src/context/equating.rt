@@ -1,15 +1,14 @@
 //! Making variables of a context one, and binding number variables.
-ghost use Rattle.std.specs.Prelude.{◌≡◌, ◌≢◌, ℕ, ◌<◌, length, min, max};
+ghost use Rattle.std.specs.Prelude.{◌≡◌, ◌≢◌, ◌<◌, length};
 ghost use Rattle.relation_terms.specs.Heads.{type_var, int_var, float_var, const_var};
 ghost use Rattle.relation_terms.specs.declared.terms.ty_kind.IntVarValue.TheVariants.{Unknown};
 ghost use Rattle.relation_terms.specs.declared.terms.ty_kind.FloatVarValue.TheVariants.{Unknown as UnknownFloat};
 ghost use Rattle.relation_contexts.specs.Stores.{unbound, entry_of};
-ghost use Rattle.relation_contexts.specs.Steps.{Equates, InstantiatesNumber};
 ghost use Rattle.relation_contexts.specs.ContextCalls.{JoinsRoots, KeepsRest, KeepsSolver, KeepsOutliving};
 ghost use Rattle.relation_contexts.specs.NumberValues.{int_value_tree, float_value_tree};
-ghost use Rattle.relation_reference.specs.SubRoots.{root_in};
-ghost use Rattle.relation_reference.specs.Tables.{store_of, IsLawful};
-ghost use Rattle.relation_reference.specs.RefCtxt.{store_in, context_in};
+ghost use Rattle.relation_reference.specs.Tables.{IsLawful};
+ghost use Rattle.relation_reference.specs.RefCtxt.{store_in, context_in, sub_root_in};
+ghost use Rattle.relation_reference.specs.Changes.{EquatesVids, BindsVid};
 
 use crate::context::RefCtxt;
 use crate::context::numbers::{float_value_place, int_value_place};
@@ -32,13 +31,10 @@ impl<I: Interner> RefCtxt<I> {
         ensures interner { self.new.interner ≡ self.old.interner }
         ensures lawful { IsLawful (I.meaning self.old.interner) self.new.inner }
         ensures same { a.0 ≡ b.0 → self.new.inner ≡ self.old.inner }
-        ensures equates { let m = I.meaning self.old.interner in
-            (a.0 ≡ b.0 → ⊥) →
-            Equates (store_of m self.old.inner) (store_of m self.new.inner) type_var (max a.0 b.0) (min a.0 b.0) }
+        ensures equates { (a.0 ≡ b.0 → ⊥) → EquatesVids I.meaning self.old self.new type_var a.0 b.0 }
         ensures solver { KeepsSolver (context_in I.meaning self.old) (context_in I.meaning self.new) }
         ensures outliving { KeepsOutliving (context_in I.meaning self.old) (context_in I.meaning self.new) }
-        ensures marks { JoinsRoots (root_in self.old.inner.sub_roots.items) (root_in self.new.inner.sub_roots.items)
-            a.0 b.0 }
+        ensures marks { JoinsRoots (sub_root_in self.old.inner) (sub_root_in self.new.inner) a.0 b.0 }
     {
         if a.0 < b.0 {
             link(&mut self.inner.types, b.0, a.0);
@@ -60,9 +56,7 @@ impl<I: Interner> RefCtxt<I> {
         ensures interner { self.new.interner ≡ self.old.interner }
         ensures lawful { IsLawful (I.meaning self.old.interner) self.new.inner }
         ensures same { a.0 ≡ b.0 → self.new.inner ≡ self.old.inner }
-        ensures equates { let m = I.meaning self.old.interner in
-            (a.0 ≡ b.0 → ⊥) →
-            Equates (store_of m self.old.inner) (store_of m self.new.inner) int_var (max a.0 b.0) (min a.0 b.0) }
+        ensures equates { (a.0 ≡ b.0 → ⊥) → EquatesVids I.meaning self.old self.new int_var a.0 b.0 }
         ensures rest { KeepsRest (context_in I.meaning self.old) (context_in I.meaning self.new) }
     {
         if a.0 < b.0 {
@@ -83,9 +77,7 @@ impl<I: Interner> RefCtxt<I> {
         ensures interner { self.new.interner ≡ self.old.interner }
         ensures lawful { IsLawful (I.meaning self.old.interner) self.new.inner }
         ensures same { a.0 ≡ b.0 → self.new.inner ≡ self.old.inner }
-        ensures equates { let m = I.meaning self.old.interner in
-            (a.0 ≡ b.0 → ⊥) →
-            Equates (store_of m self.old.inner) (store_of m self.new.inner) float_var (max a.0 b.0) (min a.0 b.0) }
+        ensures equates { (a.0 ≡ b.0 → ⊥) → EquatesVids I.meaning self.old self.new float_var a.0 b.0 }
         ensures rest { KeepsRest (context_in I.meaning self.old) (context_in I.meaning self.new) }
     {
         if a.0 < b.0 {
@@ -106,9 +98,7 @@ impl<I: Interner> RefCtxt<I> {
         ensures interner { self.new.interner ≡ self.old.interner }
         ensures lawful { IsLawful (I.meaning self.old.interner) self.new.inner }
         ensures same { a.0 ≡ b.0 → self.new.inner ≡ self.old.inner }
-        ensures equates { let m = I.meaning self.old.interner in
-            (a.0 ≡ b.0 → ⊥) →
-            Equates (store_of m self.old.inner) (store_of m self.new.inner) const_var (max a.0 b.0) (min a.0 b.0) }
+        ensures equates { (a.0 ≡ b.0 → ⊥) → EquatesVids I.meaning self.old self.new const_var a.0 b.0 }
         ensures rest { KeepsRest (context_in I.meaning self.old) (context_in I.meaning self.new) }
     {
         if a.0 < b.0 {
@@ -126,9 +116,7 @@ impl<I: Interner> RefCtxt<I> {
         requires value_known { value ≢ Unknown }
         ensures interner { self.new.interner ≡ self.old.interner }
         ensures lawful { IsLawful (I.meaning self.old.interner) self.new.inner }
-        ensures binds { let m = I.meaning self.old.interner in
-            InstantiatesNumber (store_of m self.old.inner) (store_of m self.new.inner)
-            int_var var.0 (int_value_tree value) }
+        ensures binds { BindsVid I.meaning self.old self.new int_var var.0 (int_value_tree value) }
         ensures rest { KeepsRest (context_in I.meaning self.old) (context_in I.meaning self.new) }
     {
         let place = int_value_place(value);
@@ -144,9 +132,7 @@ impl<I: Interner> RefCtxt<I> {
         requires value_known { value ≢ UnknownFloat }
         ensures interner { self.new.interner ≡ self.old.interner }
         ensures lawful { IsLawful (I.meaning self.old.interner) self.new.inner }
-        ensures binds { let m = I.meaning self.old.interner in
-            InstantiatesNumber (store_of m self.old.inner) (store_of m self.new.inner)
-            float_var var.0 (float_value_tree value) }
+        ensures binds { BindsVid I.meaning self.old self.new float_var var.0 (float_value_tree value) }
         ensures rest { KeepsRest (context_in I.meaning self.old) (context_in I.meaning self.new) }
     {
         let place = float_value_place(value);

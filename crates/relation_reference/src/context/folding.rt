@@ -6,9 +6,9 @@ ghost use Rattle.relation_terms.specs.Parts.{part_tree, part_sort};
 ghost use Rattle.relation_folds.specs.Folds.{answered, KnownAnswer};
 ghost use Rattle.relation_contexts.specs.Stores.{resolved};
 ghost use Rattle.relation_reference.specs.Tables.{store_of, IsLawful};
-ghost use Rattle.relation_reference.specs.RefCtxt.{resolved_in};
-ghost use Rattle.relation_reference.specs.Remembering.{resolved_by};
+ghost use Rattle.relation_reference.specs.Remembering.{IsResolvedPart};
 ghost use Rattle.relation_reference.specs.Resolvers.{IsVariable, variable_value};
+ghost use Rattle.relation_reference.specs.Changes.{IsResolved};
 
 use crate::context::resolving::resolve_part;
 use crate::context::table::has;
@@ -33,8 +33,7 @@ fn resolve_variable<I: Interner>(
     ensures grown { Extends (I.meaning cx.old) (I.meaning cx.new) }
     ensures sure { IfOk result (λ t. IsTrue (known (part_tree (I.meaning cx.new) t))) }
     ensures sort { IfOk result (λ t. part_sort t ≡ part_sort variable.now) }
-    ensures resolves { let m = I.meaning cx.old in IfOk result (λ t. part_tree (I.meaning cx.new) t ≡
-        resolved_by (store_of m inner.now) (part_tree m variable.now)) }
+    ensures resolves { IfOk result (λ t. IsResolvedPart I.meaning cx.old cx.new inner.now variable.now t) }
 {
     if is_made {
         let mut memory = HashMap::new(cx.alloc());
@@ -71,8 +70,7 @@ fn put_const<I: Interner>(
 ) -> Result<Fold<Const<I>>, OutOfMemory>
     requires lawful { IsLawful (I.meaning cx.old) inner.now }
     requires known { IsTrue (known ((I.meaning cx.old).const_ constant.now)) }
-    requires variable { let m = I.meaning cx.old in
-        IsVariable (store_of m inner.now) (m.const_ constant.now) is_made }
+    requires variable { let m = I.meaning cx.old in IsVariable (store_of m inner.now) (m.const_ constant.now) is_made }
     ensures grown { Extends (I.meaning cx.old) (I.meaning cx.new) }
     ensures sure { IfOk result (λ a. KnownAnswer (I.meaning cx.new).const_ a) }
     ensures puts { let m = I.meaning cx.old in IfOk result (λ a.
@@ -160,8 +158,7 @@ impl<I: Interner> RefCtxt<I> {
         ensures inner { self.new.inner ≡ self.old.inner }
         ensures grown { Extends (I.meaning self.old.interner) (I.meaning self.new.interner) }
         ensures sure { IfOk result (λ x. IsTrue (known (T.tree (I.meaning self.new.interner) x))) }
-        ensures resolves { IfOk result (λ x. T.tree (I.meaning self.new.interner) x ≡
-            resolved_in I.meaning self.old (T.tree (I.meaning self.old.interner) value.now)) }
+        ensures resolves { IfOk result (λ x. IsResolved I.meaning self.old self.new T.tree value.now x) }
     {
         let mut resolver = Resolver { inner: &self.inner };
         value.fold_with(&mut self.interner, &mut resolver)

@@ -2,7 +2,7 @@
 //! may still vary. A type that was met before, at the same variance, is not gone through again.
 ghost use Rattle.std.specs.Prelude.{◌≡◌, ◌≢◌, ◌≤◌, ◌<◌, ℕ, IsTrue, IsFalse, IfOk, IfSome, IfNone, OnOk, OnErr};
 ghost use Rattle.std.specs.Prelude.{List, ◌∷◌, Contains, Some, length};
-ghost use Rattle.relation_terms.specs.Heads.{VarKind, Leaf, variable, placeholder, BoundKind, bound_sort, region_sort};
+ghost use Rattle.relation_terms.specs.Heads.{VarKind, variable, placeholder, BoundKind, bound_sort, region_sort};
 ghost use Rattle.relation_terms.specs.Heads.{const_sort, type_var, region_var};
 ghost use Rattle.relation_terms.specs.Trees.{Tree, leaf, known, count, IsTerm};
 ghost use Rattle.relation_terms.specs.Meaning.{Extends};
@@ -13,13 +13,13 @@ ghost use Rattle.relation_contexts.specs.Lawful.{items_of};
 ghost use Rattle.relation_contexts.specs.Covered.{IsCovered};
 ghost use Rattle.relation_contexts.specs.Stores.{InContext, IsMade, universe_of};
 ghost use Rattle.relation_contexts.specs.Steps.{MakesVariable};
-ghost use Rattle.relation_contexts.specs.Generalising.{Met, Stays, any_part, new_part, variance_of_part, MakesUnbound};
+ghost use Rattle.relation_contexts.specs.Generalising.{Met, any_part, new_part, variance_of_part, MakesUnbound};
 ghost use Rattle.relation_reference.specs.Tables.{IsLawful};
 ghost use Rattle.relation_contexts.specs.ContextCalls.{MarksNew};
-ghost use Rattle.relation_reference.specs.RefCtxt.{store_in, context_in};
-ghost use Rattle.relation_reference.specs.Remembering.{vid_kind, vid_number};
+ghost use Rattle.relation_reference.specs.RefCtxt.{store_in, context_in, part_term};
+ghost use Rattle.relation_reference.specs.Remembering.{vid_kind, vid_number, vid_universe};
 ghost use Rattle.relation_reference.specs.Generalises.{new_kind, met_at, IsFate, IsSure, Keeps, Generalises};
-ghost use Rattle.relation_reference.specs.Generalises.{IsGeneralisedFor};
+ghost use Rattle.relation_reference.specs.Generalises.{GeneralisesFor};
 ghost use Rattle.relation_reference.specs.declared.context.generalising.Fate.TheVariants.{ByParts, GivesWay};
 ghost use Rattle.relation_terms.specs.declared.terms.enums.Variance.TheVariants.{Invariant};
 
@@ -193,8 +193,7 @@ fn variance_of<I: Interner>(cx: &I, term: &PartOf<I>, i: usize, variance: Varian
     requires term_known { IsTrue (known (part_tree (I.meaning cx.now) term.now)) }
     requires term_covered { IsCovered (part_tree (I.meaning cx.now) term.now) }
     requires in_bounds { i < count (parts_of (part_tree (I.meaning cx.now) term.now)) }
-    ensures { let m = I.meaning cx.now in
-        result ≡ variance_of_part (items_of m) (part_tree m term.now) i variance }
+    ensures { let m = I.meaning cx.now in result ≡ variance_of_part (items_of m) (part_tree m term.now) i variance }
 {
     match term {
         Part::Ty(ty) => variance.xform(mode_in_ty(cx, ty, i)),
@@ -302,8 +301,7 @@ impl<I: Interner> RefCtxt<I> {
     fn fate_of(&self, term: &PartOf<I>, variance: Variance, target: &TargetOf<I>) -> Fate
         requires lawful { IsLawful (I.meaning self.now.interner) self.now.inner }
         requires term_known { IsTrue (known (part_tree (I.meaning self.now.interner) term.now)) }
-        requires term_in { let m = I.meaning self.now.interner in
-            InContext (store_in I.meaning self.now) (part_tree m term.now) }
+        requires term_in { InContext (store_in I.meaning self.now) (part_term I.meaning self.now term.now) }
         requires term_covered { IsCovered (part_tree (I.meaning self.now.interner) term.now) }
         ensures { IsFate (store_in I.meaning self.now) (vid_kind target.now.vid) (vid_number target.now.vid)
             target.now.universe.0 variance (part_tree (I.meaning self.now.interner) term.now)
@@ -336,8 +334,7 @@ impl<I: Interner> RefCtxt<I> {
         requires below { universe.0 ≤ self.old.inner.universe.0 }
         requires has { (j : VarKind) × (new_kind term.now ≡ Some j) }
         requires term_known { IsTrue (known (part_tree (I.meaning self.old.interner) term.now)) }
-        requires term_in { let m = I.meaning self.old.interner in
-            InContext (store_in I.meaning self.old) (part_tree m term.now) }
+        requires term_in { InContext (store_in I.meaning self.old) (part_term I.meaning self.old term.now) }
         requires varies { new_kind term.now ≡ Some type_var →
             (n : ℕ) × (part_tree (I.meaning self.old.interner) term.now ≡ leaf (variable type_var n)) }
         ensures lawful { IsLawful (I.meaning self.new.interner) self.new.inner }
@@ -373,8 +370,7 @@ impl<I: Interner> RefCtxt<I> {
         requires lawful { IsLawful (I.meaning self.old.interner) self.old.inner }
         requires below { target.now.universe.0 ≤ self.old.inner.universe.0 }
         requires term_known { IsTrue (known (part_tree (I.meaning self.old.interner) term.now)) }
-        requires term_in { let m = I.meaning self.old.interner in
-            InContext (store_in I.meaning self.old) (part_tree m term.now) }
+        requires term_in { InContext (store_in I.meaning self.old) (part_term I.meaning self.old term.now) }
         requires term_covered { IsCovered (part_tree (I.meaning self.old.interner) term.now) }
         requires sure { IsSure ⟦<MetKey<I::Key> as PartialEq>⟧.eq (I.meaning self.old.interner) met.old }
         ensures { Generalises I.meaning ⟦<MetKey<I::Key> as PartialEq>⟧.eq self.old self.new
@@ -404,8 +400,7 @@ impl<I: Interner> RefCtxt<I> {
         requires lawful { IsLawful (I.meaning self.old.interner) self.old.inner }
         requires below { target.now.universe.0 ≤ self.old.inner.universe.0 }
         requires term_known { IsTrue (known (part_tree (I.meaning self.old.interner) term.now)) }
-        requires term_in { let m = I.meaning self.old.interner in
-            InContext (store_in I.meaning self.old) (part_tree m term.now) }
+        requires term_in { InContext (store_in I.meaning self.old) (part_term I.meaning self.old term.now) }
         requires term_covered { IsCovered (part_tree (I.meaning self.old.interner) term.now) }
         requires sure { IsSure ⟦<MetKey<I::Key> as PartialEq>⟧.eq (I.meaning self.old.interner) met.old }
         ensures { Generalises I.meaning ⟦<MetKey<I::Key> as PartialEq>⟧.eq self.old self.new
@@ -432,8 +427,7 @@ impl<I: Interner> RefCtxt<I> {
         requires lawful { IsLawful (I.meaning self.old.interner) self.old.inner }
         requires below { target.now.universe.0 ≤ self.old.inner.universe.0 }
         requires term_known { IsTrue (known (part_tree (I.meaning self.old.interner) term.now)) }
-        requires term_in { let m = I.meaning self.old.interner in
-            InContext (store_in I.meaning self.old) (part_tree m term.now) }
+        requires term_in { InContext (store_in I.meaning self.old) (part_term I.meaning self.old term.now) }
         requires term_covered { IsCovered (part_tree (I.meaning self.old.interner) term.now) }
         requires sure { IsSure ⟦<MetKey<I::Key> as PartialEq>⟧.eq (I.meaning self.old.interner) met.old }
         requires stays { IsFate (store_in I.meaning self.old) (vid_kind target.now.vid) (vid_number target.now.vid)
@@ -466,19 +460,15 @@ impl<I: Interner> RefCtxt<I> {
         target: &TargetOf<I>,
     ) -> Result<PartOf<I>, RelateFaultOf<I>>
         requires lawful { IsLawful (I.meaning self.old.interner) self.old.inner }
-        requires universe { universe_of (store_in I.meaning self.old) (vid_kind target.now.vid)
-            (vid_number target.now.vid) ≡ target.now.universe.0 }
+        requires universe { vid_universe (store_in I.meaning self.old) target.now.vid ≡ target.now.universe.0 }
         requires source_known { IsTrue (known (part_tree (I.meaning self.old.interner) source.now)) }
-        requires source_in { let m = I.meaning self.old.interner in
-            InContext (store_in I.meaning self.old) (part_tree m source.now) }
+        requires source_in { InContext (store_in I.meaning self.old) (part_term I.meaning self.old source.now) }
         requires source_covered { IsCovered (part_tree (I.meaning self.old.interner) source.now) }
         ensures lawful { IsLawful (I.meaning self.new.interner) self.new.inner }
         ensures grown { Extends (I.meaning self.old.interner) (I.meaning self.new.interner) }
         ensures makes { MakesUnbound target.now.universe.0 (store_in I.meaning self.old) (store_in I.meaning self.new) }
         ensures rest { MarksNew (context_in I.meaning self.old) (context_in I.meaning self.new) }
-        ensures generalised { IsGeneralisedFor (I.meaning self.old.interner) (I.meaning self.new.interner)
-            (store_in I.meaning self.old) (store_in I.meaning self.new) (vid_kind target.now.vid)
-            (vid_number target.now.vid) variance target.now.cyclic source.now result }
+        ensures generalised { GeneralisesFor I.meaning self.old self.new target.now variance source.now result }
     {
         let mut met = HashMap::new(self.interner.alloc());
         self.generalise_part(source, variance, target, &mut met)

@@ -1,11 +1,12 @@
 //! The context by what the trait of contexts asks of it.
 ghost use Rattle.std.specs.Prelude.{IsTrue};
 ghost use Rattle.relation_terms.specs.Trees.{known};
-ghost use Rattle.relation_contexts.specs.Stores.{IsTermIn};
 ghost use Rattle.relation_contexts.specs.ContextCalls.{Grows, KeepsRest};
 ghost use Rattle.relation_contexts.specs.Bound.{BindsByList};
-ghost use Rattle.relation_contexts.specs.Binders.{binder_tree, EntersBinder, InstantiatesWithInfer};
+ghost use Rattle.relation_contexts.specs.Binders.{binder_tree};
 ghost use Rattle.relation_reference.specs.RefCtxt.{context_in};
+ghost use Rattle.relation_reference.specs.Opened.{IsBinderIn};
+ghost use Rattle.relation_reference.specs.Changes.{EntersValue, InstantiatesValue};
 
 use crate::context::RefCtxt;
 use relation_contexts::infer_ctxt::{BinderOf, InferCtxtLike, VisibleForLeakCheck};
@@ -133,12 +134,10 @@ impl<I: Interner> InferCtxtLike for RefCtxt<I> {
     ) -> Result<T, OutOfMemory>
         requires lawful { (context_in I.meaning self.old).lawful }
         requires value_known { IsTrue (known (binder_tree T.tree (context_in I.meaning self.old).meaning value)) }
-        requires value_in { let c = context_in I.meaning self.old in
-            IsTermIn c.store (binder_tree T.tree c.meaning value) }
+        requires value_in { IsBinderIn (context_in I.meaning self.old) T.tree value }
         requires value_binds { BindsByList (binder_tree T.tree (context_in I.meaning self.old).meaning value) }
         ensures grows { Grows (context_in I.meaning self.old) (context_in I.meaning self.new) }
-        ensures enters { let t = binder_tree T.tree (context_in I.meaning self.old).meaning value in
-            EntersBinder (context_in I.meaning self.old) (context_in I.meaning self.new) T.tree t result }
+        ensures enters { EntersValue I.meaning self.old self.new T.tree value result }
         ensures rest { KeepsRest (context_in I.meaning self.old) (context_in I.meaning self.new) }
     {
         self.enter_forall(value)
@@ -150,12 +149,10 @@ impl<I: Interner> InferCtxtLike for RefCtxt<I> {
     ) -> Result<T, OutOfMemory>
         requires lawful { (context_in I.meaning self.old).lawful }
         requires value_known { IsTrue (known (binder_tree T.tree (context_in I.meaning self.old).meaning value)) }
-        requires value_in { let c = context_in I.meaning self.old in
-            IsTermIn c.store (binder_tree T.tree c.meaning value) }
+        requires value_in { IsBinderIn (context_in I.meaning self.old) T.tree value }
         requires value_binds { BindsByList (binder_tree T.tree (context_in I.meaning self.old).meaning value) }
         ensures grows { Grows (context_in I.meaning self.old) (context_in I.meaning self.new) }
-        ensures instantiates { let t = binder_tree T.tree (context_in I.meaning self.old).meaning value in
-            InstantiatesWithInfer (context_in I.meaning self.old) (context_in I.meaning self.new) T.tree t result }
+        ensures instantiates { InstantiatesValue I.meaning self.old self.new T.tree value result }
         ensures rest { KeepsRest (context_in I.meaning self.old) (context_in I.meaning self.new) }
     {
         self.instantiate_binder_with_infer(value)

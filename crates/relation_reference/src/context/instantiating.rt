@@ -1,14 +1,13 @@
 //! Binding type and constant variables of a context to what terms come to, generalised for what the variables can name.
 ghost use Rattle.std.specs.Prelude.{◌≡◌, ◌≢◌, ℕ, ◌<◌, IsTrue, length};
-ghost use Rattle.relation_terms.specs.declared.terms.enums.Variance.TheVariants.{Invariant};
 ghost use Rattle.relation_terms.specs.Heads.{type_var, const_var, variable};
 ghost use Rattle.relation_terms.specs.Trees.{leaf, known};
-ghost use Rattle.relation_folds.specs.declared.error.TypeError.TheVariants.{CyclicTy, CyclicConst};
 ghost use Rattle.relation_contexts.specs.Stores.{unbound, entry_of, IsTermIn};
 ghost use Rattle.relation_contexts.specs.Covered.{IsCovered};
-ghost use Rattle.relation_contexts.specs.ContextCalls.{Grows, Instantiated, MarksNew};
+ghost use Rattle.relation_contexts.specs.ContextCalls.{Grows, MarksNew};
 ghost use Rattle.relation_reference.specs.Tables.{IsLawful};
-ghost use Rattle.relation_reference.specs.RefCtxt.{store_in, context_in};
+ghost use Rattle.relation_reference.specs.RefCtxt.{store_in, context_in, ty_term, const_term};
+ghost use Rattle.relation_reference.specs.Changes.{InstantiatedTy, InstantiatedConst};
 
 use crate::context::RefCtxt;
 use crate::context::generalising::Target;
@@ -39,13 +38,10 @@ impl<I: Interner> RefCtxt<I> {
         requires target_unbound { entry_of (store_in I.meaning self.old) type_var target.0 ≡ unbound }
         requires source_known { IsTrue (known ((I.meaning self.old.interner).ty source.now)) }
         requires source_in { IsTermIn (store_in I.meaning self.old) ((I.meaning self.old.interner).ty source.now) }
-        requires source_no_variable { (n : ℕ) →
-            (I.meaning self.old.interner).ty source.now ≢ leaf (variable type_var n) }
+        requires source_no_variable { (n : ℕ) → ty_term I.meaning self.old source.now ≢ leaf (variable type_var n) }
         requires source_covered { IsCovered ((I.meaning self.old.interner).ty source.now) }
         ensures grows { Grows (context_in I.meaning self.old) (context_in I.meaning self.new) }
-        ensures instantiates { let t = (I.meaning self.old.interner).ty source.now in
-            Instantiated (context_in I.meaning self.old) (context_in I.meaning self.new) variance type_var target.0 t
-            (λ m. m.ty) CyclicTy result }
+        ensures instantiates { InstantiatedTy I.meaning self.old self.new variance target.0 source.now result }
         ensures rest { MarksNew (context_in I.meaning self.old) (context_in I.meaning self.new) }
     {
         if self.inner.budget == 0 {
@@ -75,13 +71,10 @@ impl<I: Interner> RefCtxt<I> {
         requires target_unbound { entry_of (store_in I.meaning self.old) const_var target.0 ≡ unbound }
         requires source_known { IsTrue (known ((I.meaning self.old.interner).const_ source.now)) }
         requires source_in { IsTermIn (store_in I.meaning self.old) ((I.meaning self.old.interner).const_ source.now) }
-        requires source_no_variable { (n : ℕ) →
-            (I.meaning self.old.interner).const_ source.now ≢ leaf (variable const_var n) }
+        requires source_no_variable { (n : ℕ) → const_term I.meaning self.old source.now ≢ leaf (variable const_var n) }
         requires source_covered { IsCovered ((I.meaning self.old.interner).const_ source.now) }
         ensures grows { Grows (context_in I.meaning self.old) (context_in I.meaning self.new) }
-        ensures instantiates { let t = (I.meaning self.old.interner).const_ source.now in
-            Instantiated (context_in I.meaning self.old) (context_in I.meaning self.new) Invariant const_var target.0 t
-            (λ m. m.const_) CyclicConst result }
+        ensures instantiates { InstantiatedConst I.meaning self.old self.new target.0 source.now result }
         ensures rest { MarksNew (context_in I.meaning self.old) (context_in I.meaning self.new) }
     {
         if self.inner.budget == 0 {

@@ -3,7 +3,7 @@ ghost use Rattle.std.specs.Prelude.{◌≡◌, IsTrue, IfSome, OnOk};
 ghost use Rattle.relation_terms.specs.Trees.{known};
 ghost use Rattle.relation_terms.specs.Parts.{part_tree};
 ghost use Rattle.relation_reference.specs.Tables.{store_of};
-ghost use Rattle.relation_reference.specs.Remembering.{ComesTo, Remembers, key_of as the_key};
+ghost use Rattle.relation_reference.specs.Remembering.{ComesTo, key_of as the_key, Caches};
 
 use crate::context::InferCtxtInner;
 use relation_terms::terms::{ConstVid, Interner, OutOfMemory, Part, PartOf, TyVid};
@@ -53,8 +53,7 @@ pub(crate) fn recall<I: Interner>(
     memory: &Resolutions<I::Key, I::Id>,
 ) -> Option<PartOf<I>>
     requires known { IsTrue (known (part_tree (I.meaning cx.now) part.now)) }
-    requires remembers { let m = I.meaning cx.now in
-        Remembers m (store_of m inner.now) ⟦<PartKey<I::Key> as PartialEq>⟧.eq memory.now }
+    requires remembers { Caches I.meaning cx.now inner.now ⟦<PartKey<I::Key> as PartialEq>⟧.eq memory.now }
     ensures { let m = I.meaning cx.now in IfSome result (ComesTo m (store_of m inner.now) part.now) }
 {
     let _ = cx;
@@ -72,10 +71,8 @@ pub(crate) fn keep<I: Interner>(
     memory: &mut Resolutions<I::Key, I::Id>,
 ) -> Result<(), OutOfMemory>
     requires comes { let m = I.meaning cx.now in ComesTo m (store_of m inner.now) part.now resolved }
-    requires remembers { let m = I.meaning cx.now in
-        Remembers m (store_of m inner.now) ⟦<PartKey<I::Key> as PartialEq>⟧.eq memory.old }
-    ensures { let m = I.meaning cx.now in
-        OnOk result (Remembers m (store_of m inner.now) ⟦<PartKey<I::Key> as PartialEq>⟧.eq memory.new) }
+    requires remembers { Caches I.meaning cx.now inner.now ⟦<PartKey<I::Key> as PartialEq>⟧.eq memory.old }
+    ensures { OnOk result (Caches I.meaning cx.now inner.now ⟦<PartKey<I::Key> as PartialEq>⟧.eq memory.new) }
 {
     let _ = cx;
     let _ = inner;

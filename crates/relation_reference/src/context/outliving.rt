@@ -1,8 +1,8 @@
 //! The types that are to outlive regions.
-ghost use Rattle.std.specs.Prelude.{◌≡◌, ◌++◌, ◌∷◌, []};
+ghost use Rattle.std.specs.Prelude.{◌≡◌};
 ghost use Rattle.relation_contexts.specs.ContextCalls.{Registers, KeepsSolver, KeepsMarks};
 ghost use Rattle.relation_reference.specs.Tables.{store_of, IsLawful};
-ghost use Rattle.relation_reference.specs.RefCtxt.{store_in, context_in};
+ghost use Rattle.relation_reference.specs.RefCtxt.{store_in, context_in, outliving_in};
 
 use crate::context::RefCtxt;
 use relation_terms::predicate::OutlivesPredicate;
@@ -17,8 +17,7 @@ impl<I: Interner> RefCtxt<I> {
         ensures same_record { store_of (I.meaning self.old.interner) self.new.inner ≡ store_in I.meaning self.old }
         ensures solver { KeepsSolver (context_in I.meaning self.old) (context_in I.meaning self.new) }
         ensures marks { KeepsMarks (context_in I.meaning self.old) (context_in I.meaning self.new) }
-        ensures registers { Registers self.old.inner.ty_outlives.items self.new.inner.ty_outlives.items
-            ty.now r.now result }
+        ensures registers { Registers (outliving_in self.old.inner) (outliving_in self.new.inner) ty.now r.now result }
     {
         let outlives = OutlivesPredicate(*ty, *r);
         self.inner.ty_outlives.push(outlives)?;

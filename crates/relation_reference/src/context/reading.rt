@@ -1,15 +1,16 @@
 //! Reading what a context has recorded of its variables.
 ghost use Rattle.std.specs.Prelude.{◌<◌, IsTrue, IfSome, IfNone, length};
-ghost use Rattle.relation_terms.specs.Heads.{type_var, int_var, float_var, const_var, variable};
-ghost use Rattle.relation_terms.specs.Trees.{leaf, known};
+ghost use Rattle.relation_terms.specs.Heads.{type_var, int_var, float_var, const_var};
+ghost use Rattle.relation_terms.specs.Trees.{known};
 ghost use Rattle.relation_contexts.specs.Covered.{IsCovered};
 ghost use Rattle.relation_contexts.specs.Stores.{InContext};
-ghost use Rattle.relation_contexts.specs.Steps.{LeadsTo, Resolves};
-ghost use Rattle.relation_contexts.specs.Errors.{IsReadAs};
+ghost use Rattle.relation_contexts.specs.Steps.{LeadsTo};
 ghost use Rattle.relation_contexts.specs.Resolving.{IsRoot, IsShallow, IsShallowTy, IsShallowConst};
 ghost use Rattle.relation_reference.specs.Tables.{IsLawful};
-ghost use Rattle.relation_reference.specs.RefCtxt.{store_in};
-ghost use Rattle.relation_reference.specs.Answers.{HasBinding, HasNoBinding};
+ghost use Rattle.relation_reference.specs.RefCtxt.{store_in, const_term};
+ghost use Rattle.relation_reference.specs.Answers.{HasNoBinding};
+ghost use Rattle.relation_reference.specs.Answers.{IsBoundToTy, VarReadsAsTy, VarReadsAsConst, TyReadsAs, ConstReadsAs};
+ghost use Rattle.relation_reference.specs.Answers.{TyResolves, ConstResolves};
 
 use crate::context::shallow::{
     const_of_var, shallow_resolve, shallow_resolve_const, ty_of_float_var, ty_of_int_var, ty_of_var,
@@ -67,8 +68,7 @@ impl<I: Interner> RefCtxt<I> {
     pub fn binding(&self, var: TyVid) -> Option<Ty<I>>
         requires lawful { IsLawful (I.meaning self.now.interner) self.now.inner }
         requires made { var.0 < length self.now.inner.types.items }
-        ensures bound { IfSome result (λ t.
-            HasBinding (store_in I.meaning self.now) type_var var.0 ((I.meaning self.now.interner).ty t)) }
+        ensures bound { IfSome result (λ t. IsBoundToTy I.meaning self.now var.0 t) }
         ensures unbound { IfNone result (HasNoBinding (store_in I.meaning self.now) type_var var.0) }
     {
         let root = self.root_ty_var(var);
@@ -84,8 +84,7 @@ impl<I: Interner> RefCtxt<I> {
         requires lawful { IsLawful (I.meaning self.now.interner) self.now.inner }
         requires made { var.0 < length self.now.inner.types.items }
         ensures sure { IsTrue (known ((I.meaning self.now.interner).ty result)) }
-        ensures reads { let t = (I.meaning self.now.interner).ty result in
-            IsReadAs (store_in I.meaning self.now) (leaf (variable type_var var.0)) t }
+        ensures reads { VarReadsAsTy (I.meaning self.now.interner) self.now.inner type_var var.0 result }
         ensures shallow { IsShallowTy (store_in I.meaning self.now) ((I.meaning self.now.interner).ty result) }
         ensures covered { IsCovered ((I.meaning self.now.interner).ty result) }
     {
@@ -97,8 +96,7 @@ impl<I: Interner> RefCtxt<I> {
         requires lawful { IsLawful (I.meaning self.now.interner) self.now.inner }
         requires made { var.0 < length self.now.inner.ints.items }
         ensures sure { IsTrue (known ((I.meaning self.now.interner).ty result)) }
-        ensures reads { let t = (I.meaning self.now.interner).ty result in
-            IsReadAs (store_in I.meaning self.now) (leaf (variable int_var var.0)) t }
+        ensures reads { VarReadsAsTy (I.meaning self.now.interner) self.now.inner int_var var.0 result }
         ensures shallow { IsShallow (store_in I.meaning self.now) ((I.meaning self.now.interner).ty result) }
         ensures covered { IsCovered ((I.meaning self.now.interner).ty result) }
     {
@@ -110,8 +108,7 @@ impl<I: Interner> RefCtxt<I> {
         requires lawful { IsLawful (I.meaning self.now.interner) self.now.inner }
         requires made { var.0 < length self.now.inner.floats.items }
         ensures sure { IsTrue (known ((I.meaning self.now.interner).ty result)) }
-        ensures reads { let t = (I.meaning self.now.interner).ty result in
-            IsReadAs (store_in I.meaning self.now) (leaf (variable float_var var.0)) t }
+        ensures reads { VarReadsAsTy (I.meaning self.now.interner) self.now.inner float_var var.0 result }
         ensures shallow { IsShallow (store_in I.meaning self.now) ((I.meaning self.now.interner).ty result) }
         ensures covered { IsCovered ((I.meaning self.now.interner).ty result) }
     {
@@ -123,8 +120,7 @@ impl<I: Interner> RefCtxt<I> {
         requires lawful { IsLawful (I.meaning self.now.interner) self.now.inner }
         requires made { var.0 < length self.now.inner.consts.items }
         ensures sure { IsTrue (known ((I.meaning self.now.interner).const_ result)) }
-        ensures reads { let t = (I.meaning self.now.interner).const_ result in
-            IsReadAs (store_in I.meaning self.now) (leaf (variable const_var var.0)) t }
+        ensures reads { VarReadsAsConst (I.meaning self.now.interner) self.now.inner var.0 result }
         ensures shallow { IsShallowConst (store_in I.meaning self.now) ((I.meaning self.now.interner).const_ result) }
         ensures covered { IsCovered ((I.meaning self.now.interner).const_ result) }
     {
@@ -138,10 +134,8 @@ impl<I: Interner> RefCtxt<I> {
         requires ty_known { IsTrue (known ((I.meaning self.now.interner).ty ty.now)) }
         requires ty_in { InContext (store_in I.meaning self.now) ((I.meaning self.now.interner).ty ty.now) }
         ensures sure { IsTrue (known ((I.meaning self.now.interner).ty result)) }
-        ensures reads { let m = I.meaning self.now.interner in
-            IsReadAs (store_in I.meaning self.now) (m.ty ty.now) (m.ty result) }
-        ensures resolves { let m = I.meaning self.now.interner in
-            Resolves (store_in I.meaning self.now) (m.ty ty.now) (m.ty result) }
+        ensures reads { TyReadsAs (I.meaning self.now.interner) self.now.inner ty.now result }
+        ensures resolves { TyResolves (I.meaning self.now.interner) self.now.inner ty.now result }
         ensures shallow { IsShallow (store_in I.meaning self.now) ((I.meaning self.now.interner).ty result) }
         ensures covered { let m = I.meaning self.now.interner in IsCovered (m.ty ty.now) → IsCovered (m.ty result) }
     {
@@ -152,16 +146,12 @@ impl<I: Interner> RefCtxt<I> {
     pub fn shallow_resolve_const(&self, constant: &Const<I>) -> Const<I>
         requires lawful { IsLawful (I.meaning self.now.interner) self.now.inner }
         requires const_known { IsTrue (known ((I.meaning self.now.interner).const_ constant.now)) }
-        requires const_in { InContext (store_in I.meaning self.now)
-            ((I.meaning self.now.interner).const_ constant.now) }
+        requires const_in { InContext (store_in I.meaning self.now) (const_term I.meaning self.now constant.now) }
         ensures sure { IsTrue (known ((I.meaning self.now.interner).const_ result)) }
-        ensures reads { let m = I.meaning self.now.interner in
-            IsReadAs (store_in I.meaning self.now) (m.const_ constant.now) (m.const_ result) }
-        ensures resolves { let m = I.meaning self.now.interner in
-            Resolves (store_in I.meaning self.now) (m.const_ constant.now) (m.const_ result) }
+        ensures reads { ConstReadsAs (I.meaning self.now.interner) self.now.inner constant.now result }
+        ensures resolves { ConstResolves (I.meaning self.now.interner) self.now.inner constant.now result }
         ensures shallow { IsShallowConst (store_in I.meaning self.now) ((I.meaning self.now.interner).const_ result) }
-        ensures covered { let m = I.meaning self.now.interner in
-            IsCovered (m.const_ constant.now) → IsCovered (m.const_ result) }
+        ensures covered { let t = const_term I.meaning self.now in IsCovered (t constant.now) → IsCovered (t result) }
     {
         shallow_resolve_const(&self.interner, &self.inner, constant)
     }

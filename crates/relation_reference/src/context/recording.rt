@@ -1,15 +1,16 @@
 //! Recording in a context: new variables and universes, constraints on regions.
-ghost use Rattle.std.specs.Prelude.{◌≡◌, ◌≢◌, ℕ, ◌≤◌, suc, IfSome, IsTrue, IfOk, OnErr, OnOk, length};
-ghost use Rattle.relation_terms.specs.Heads.{type_var, int_var, float_var, const_var, region_var, variable};
-ghost use Rattle.relation_terms.specs.Trees.{leaf, known};
+ghost use Rattle.std.specs.Prelude.{◌≡◌, ◌≤◌, suc, IsTrue, IfOk, OnErr, OnOk};
+ghost use Rattle.relation_terms.specs.Heads.{type_var, int_var, float_var, const_var, region_var};
+ghost use Rattle.relation_terms.specs.Trees.{known};
 ghost use Rattle.relation_terms.specs.Meaning.{Extends};
-ghost use Rattle.relation_contexts.specs.Stores.{IsRegionIn, equal_constraint};
-ghost use Rattle.relation_contexts.specs.Stores.{outlives_constraint};
-ghost use Rattle.relation_contexts.specs.Steps.{MakesVariable, AddsConstraint, IsLater};
+ghost use Rattle.relation_contexts.specs.Stores.{IsRegionIn};
+ghost use Rattle.relation_contexts.specs.Steps.{IsLater};
 ghost use Rattle.relation_contexts.specs.Measures.{Goes};
 ghost use Rattle.relation_contexts.specs.ContextCalls.{KeepsRest};
-ghost use Rattle.relation_reference.specs.Tables.{store_of, IsLawful};
+ghost use Rattle.relation_reference.specs.Tables.{IsLawful};
 ghost use Rattle.relation_reference.specs.RefCtxt.{store_in, context_in};
+ghost use Rattle.relation_reference.specs.Changes.{MeansNext, store_after, AddsEqual, AddsOutlives, MakesTyVar};
+ghost use Rattle.relation_reference.specs.Changes.{MakesIntVar, MakesFloatVar, MakesConstVar, MakesRegionVar};
 
 use crate::context::universes::next_universe;
 use crate::context::{RefCtxt, Variable, VariableValue};
@@ -31,11 +32,8 @@ impl<I: Interner> RefCtxt<I> {
         ensures grown { Extends (I.meaning self.old.interner) (I.meaning self.new.interner) }
         ensures later { IsLater (store_in I.meaning self.old) (store_in I.meaning self.new) }
         ensures sure { IfOk result (λ t. IsTrue (known ((I.meaning self.new.interner).ty t))) }
-        ensures means { let number = length self.old.inner.types.items in
-            IfOk result (λ t. (I.meaning self.new.interner).ty t ≡ leaf (variable type_var number)) }
-        ensures makes { let number = length self.old.inner.types.items in
-            OnOk result (MakesVariable (store_in I.meaning self.old) (store_in I.meaning self.new)
-            type_var number universe.0) }
+        ensures means { MeansNext (I.meaning self.new.interner).ty type_var self.old.inner.types.items result }
+        ensures makes { OnOk result (MakesTyVar I.meaning self.old self.new universe.0) }
         ensures refused { OnErr result (store_in I.meaning self.new ≡ store_in I.meaning self.old) }
         ensures rest { KeepsRest (context_in I.meaning self.old) (context_in I.meaning self.new) }
     {
@@ -64,11 +62,8 @@ impl<I: Interner> RefCtxt<I> {
         ensures grown { Extends (I.meaning self.old.interner) (I.meaning self.new.interner) }
         ensures later { IsLater (store_in I.meaning self.old) (store_in I.meaning self.new) }
         ensures sure { IfOk result (λ t. IsTrue (known ((I.meaning self.new.interner).ty t))) }
-        ensures means { let number = length self.old.inner.types.items in
-            IfOk result (λ t. (I.meaning self.new.interner).ty t ≡ leaf (variable type_var number)) }
-        ensures makes { let number = length self.old.inner.types.items in
-            OnOk result (MakesVariable (store_in I.meaning self.old) (store_in I.meaning self.new)
-            type_var number self.old.inner.universe.0) }
+        ensures means { MeansNext (I.meaning self.new.interner).ty type_var self.old.inner.types.items result }
+        ensures makes { OnOk result (MakesTyVar I.meaning self.old self.new self.old.inner.universe.0) }
         ensures refused { OnErr result (store_in I.meaning self.new ≡ store_in I.meaning self.old) }
         ensures rest { KeepsRest (context_in I.meaning self.old) (context_in I.meaning self.new) }
     {
@@ -85,11 +80,8 @@ impl<I: Interner> RefCtxt<I> {
         ensures grown { Extends (I.meaning self.old.interner) (I.meaning self.new.interner) }
         ensures later { IsLater (store_in I.meaning self.old) (store_in I.meaning self.new) }
         ensures sure { IfOk result (λ t. IsTrue (known ((I.meaning self.new.interner).ty t))) }
-        ensures means { let number = length self.old.inner.ints.items in
-            IfOk result (λ t. (I.meaning self.new.interner).ty t ≡ leaf (variable int_var number)) }
-        ensures makes { let number = length self.old.inner.ints.items in
-            OnOk result (MakesVariable (store_in I.meaning self.old) (store_in I.meaning self.new)
-            int_var number 0) }
+        ensures means { MeansNext (I.meaning self.new.interner).ty int_var self.old.inner.ints.items result }
+        ensures makes { OnOk result (MakesIntVar I.meaning self.old self.new 0) }
         ensures refused { OnErr result (store_in I.meaning self.new ≡ store_in I.meaning self.old) }
         ensures rest { KeepsRest (context_in I.meaning self.old) (context_in I.meaning self.new) }
     {
@@ -115,11 +107,8 @@ impl<I: Interner> RefCtxt<I> {
         ensures grown { Extends (I.meaning self.old.interner) (I.meaning self.new.interner) }
         ensures later { IsLater (store_in I.meaning self.old) (store_in I.meaning self.new) }
         ensures sure { IfOk result (λ t. IsTrue (known ((I.meaning self.new.interner).ty t))) }
-        ensures means { let number = length self.old.inner.floats.items in
-            IfOk result (λ t. (I.meaning self.new.interner).ty t ≡ leaf (variable float_var number)) }
-        ensures makes { let number = length self.old.inner.floats.items in
-            OnOk result (MakesVariable (store_in I.meaning self.old) (store_in I.meaning self.new)
-            float_var number 0) }
+        ensures means { MeansNext (I.meaning self.new.interner).ty float_var self.old.inner.floats.items result }
+        ensures makes { OnOk result (MakesFloatVar I.meaning self.old self.new 0) }
         ensures refused { OnErr result (store_in I.meaning self.new ≡ store_in I.meaning self.old) }
         ensures rest { KeepsRest (context_in I.meaning self.old) (context_in I.meaning self.new) }
     {
@@ -146,11 +135,8 @@ impl<I: Interner> RefCtxt<I> {
         ensures grown { Extends (I.meaning self.old.interner) (I.meaning self.new.interner) }
         ensures later { IsLater (store_in I.meaning self.old) (store_in I.meaning self.new) }
         ensures sure { IfOk result (λ t. IsTrue (known ((I.meaning self.new.interner).const_ t))) }
-        ensures means { let number = length self.old.inner.consts.items in
-            IfOk result (λ t. (I.meaning self.new.interner).const_ t ≡ leaf (variable const_var number)) }
-        ensures makes { let number = length self.old.inner.consts.items in
-            OnOk result (MakesVariable (store_in I.meaning self.old) (store_in I.meaning self.new)
-            const_var number universe.0) }
+        ensures means { MeansNext (I.meaning self.new.interner).const_ const_var self.old.inner.consts.items result }
+        ensures makes { OnOk result (MakesConstVar I.meaning self.old self.new universe.0) }
         ensures refused { OnErr result (store_in I.meaning self.new ≡ store_in I.meaning self.old) }
         ensures rest { KeepsRest (context_in I.meaning self.old) (context_in I.meaning self.new) }
     {
@@ -175,11 +161,8 @@ impl<I: Interner> RefCtxt<I> {
         ensures grown { Extends (I.meaning self.old.interner) (I.meaning self.new.interner) }
         ensures later { IsLater (store_in I.meaning self.old) (store_in I.meaning self.new) }
         ensures sure { IfOk result (λ t. IsTrue (known ((I.meaning self.new.interner).const_ t))) }
-        ensures means { let number = length self.old.inner.consts.items in
-            IfOk result (λ t. (I.meaning self.new.interner).const_ t ≡ leaf (variable const_var number)) }
-        ensures makes { let number = length self.old.inner.consts.items in
-            OnOk result (MakesVariable (store_in I.meaning self.old) (store_in I.meaning self.new)
-            const_var number self.old.inner.universe.0) }
+        ensures means { MeansNext (I.meaning self.new.interner).const_ const_var self.old.inner.consts.items result }
+        ensures makes { OnOk result (MakesConstVar I.meaning self.old self.new self.old.inner.universe.0) }
         ensures refused { OnErr result (store_in I.meaning self.new ≡ store_in I.meaning self.old) }
         ensures rest { KeepsRest (context_in I.meaning self.old) (context_in I.meaning self.new) }
     {
@@ -197,11 +180,8 @@ impl<I: Interner> RefCtxt<I> {
         ensures grown { Extends (I.meaning self.old.interner) (I.meaning self.new.interner) }
         ensures later { IsLater (store_in I.meaning self.old) (store_in I.meaning self.new) }
         ensures sure { IfOk result (λ r. IsTrue (known ((I.meaning self.new.interner).region r))) }
-        ensures means { let number = length self.old.inner.regions.items in
-            IfOk result (λ r. (I.meaning self.new.interner).region r ≡ leaf (variable region_var number)) }
-        ensures makes { let number = length self.old.inner.regions.items in
-            OnOk result (MakesVariable (store_in I.meaning self.old) (store_in I.meaning self.new)
-            region_var number universe.0) }
+        ensures means { MeansNext (I.meaning self.new.interner).region region_var self.old.inner.regions.items result }
+        ensures makes { OnOk result (MakesRegionVar I.meaning self.old self.new universe.0) }
         ensures refused { OnErr result (store_in I.meaning self.new ≡ store_in I.meaning self.old) }
         ensures rest { KeepsRest (context_in I.meaning self.old) (context_in I.meaning self.new) }
     {
@@ -226,11 +206,8 @@ impl<I: Interner> RefCtxt<I> {
         ensures grown { Extends (I.meaning self.old.interner) (I.meaning self.new.interner) }
         ensures later { IsLater (store_in I.meaning self.old) (store_in I.meaning self.new) }
         ensures sure { IfOk result (λ r. IsTrue (known ((I.meaning self.new.interner).region r))) }
-        ensures means { let number = length self.old.inner.regions.items in
-            IfOk result (λ r. (I.meaning self.new.interner).region r ≡ leaf (variable region_var number)) }
-        ensures makes { let number = length self.old.inner.regions.items in
-            OnOk result (MakesVariable (store_in I.meaning self.old) (store_in I.meaning self.new)
-            region_var number self.old.inner.universe.0) }
+        ensures means { MeansNext (I.meaning self.new.interner).region region_var self.old.inner.regions.items result }
+        ensures makes { OnOk result (MakesRegionVar I.meaning self.old self.new self.old.inner.universe.0) }
         ensures refused { OnErr result (store_in I.meaning self.new ≡ store_in I.meaning self.old) }
         ensures rest { KeepsRest (context_in I.meaning self.old) (context_in I.meaning self.new) }
     {
@@ -261,13 +238,9 @@ impl<I: Interner> RefCtxt<I> {
         requires b_in { IsRegionIn (store_in I.meaning self.old) ((I.meaning self.old.interner).region b.now) }
         ensures interner { self.new.interner ≡ self.old.interner }
         ensures lawful { IsLawful (I.meaning self.old.interner) self.new.inner }
-        ensures adds { let m = I.meaning self.old.interner in
-            OnOk result (AddsConstraint (store_of m self.old.inner) (store_of m self.new.inner)
-            (equal_constraint (m.region a.now) (m.region b.now))) }
-        ensures refused { let m = I.meaning self.old.interner in
-            OnErr result (store_of m self.new.inner ≡ store_of m self.old.inner) }
-        ensures goes { let m = I.meaning self.old.interner in
-            Goes 0 (store_of m self.old.inner) (store_of m self.new.inner) }
+        ensures adds { OnOk result (AddsEqual I.meaning self.old self.new a.now b.now) }
+        ensures refused { OnErr result (store_after I.meaning self.old self.new ≡ store_in I.meaning self.old) }
+        ensures goes { Goes 0 (store_in I.meaning self.old) (store_after I.meaning self.old self.new) }
         ensures rest { KeepsRest (context_in I.meaning self.old) (context_in I.meaning self.new) }
     {
         let equal = RegionEqPredicate(*a, *b);
@@ -286,13 +259,9 @@ impl<I: Interner> RefCtxt<I> {
         requires sup_in { IsRegionIn (store_in I.meaning self.old) ((I.meaning self.old.interner).region sup.now) }
         ensures interner { self.new.interner ≡ self.old.interner }
         ensures lawful { IsLawful (I.meaning self.old.interner) self.new.inner }
-        ensures adds { let m = I.meaning self.old.interner in
-            OnOk result (AddsConstraint (store_of m self.old.inner) (store_of m self.new.inner)
-            (outlives_constraint (m.region sup.now) (m.region sub.now))) }
-        ensures refused { let m = I.meaning self.old.interner in
-            OnErr result (store_of m self.new.inner ≡ store_of m self.old.inner) }
-        ensures goes { let m = I.meaning self.old.interner in
-            Goes 0 (store_of m self.old.inner) (store_of m self.new.inner) }
+        ensures adds { OnOk result (AddsOutlives I.meaning self.old self.new sup.now sub.now) }
+        ensures refused { OnErr result (store_after I.meaning self.old self.new ≡ store_in I.meaning self.old) }
+        ensures goes { Goes 0 (store_in I.meaning self.old) (store_after I.meaning self.old self.new) }
         ensures rest { KeepsRest (context_in I.meaning self.old) (context_in I.meaning self.new) }
     {
         let outlives = OutlivesPredicate(GenericArgKind::Lifetime(*sup), *sub);

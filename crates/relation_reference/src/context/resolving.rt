@@ -1,13 +1,13 @@
 //! Resolving terms in a context at every depth.
 ghost use Rattle.std.specs.Prelude.{◌≡◌, ◌↔◌, IsTrue, IfOk, IfSome, IfNone, OnOk};
-ghost use Rattle.relation_terms.specs.Heads.{variable};
-ghost use Rattle.relation_terms.specs.Trees.{leaf, known};
+ghost use Rattle.relation_terms.specs.Trees.{known};
 ghost use Rattle.relation_terms.specs.Meaning.{Extends};
 ghost use Rattle.relation_terms.specs.Parts.{part_tree, part_sort, parts_of, over};
 ghost use Rattle.relation_contexts.specs.Stores.{InContext};
 ghost use Rattle.relation_reference.specs.Tables.{store_of, IsLawful};
-ghost use Rattle.relation_reference.specs.RefCtxt.{store_in, resolved_in};
-ghost use Rattle.relation_reference.specs.Remembering.{Remembers, resolved_by, vid_kind, vid_number};
+ghost use Rattle.relation_reference.specs.RefCtxt.{store_in, const_term};
+ghost use Rattle.relation_reference.specs.Remembering.{resolved_by, vid_tree, Caches, IsResolvedPart};
+ghost use Rattle.relation_reference.specs.Changes.{IsResolved};
 
 use crate::context::memory::{PartKey, Resolutions, TermVid, keep, recall};
 use crate::context::shallow::{shallow_resolve, shallow_resolve_const};
@@ -20,10 +20,8 @@ use std::collections::HashMap;
 // The type or constant variable that a term is, or none.
 pub(crate) fn variable_of<I: Interner>(cx: &I, term: &PartOf<I>) -> Option<TermVid>
     requires { IsTrue (known (part_tree (I.meaning cx.now) term.now)) }
-    ensures is { IfSome result (λ v.
-        part_tree (I.meaning cx.now) term.now ≡ leaf (variable (vid_kind v) (vid_number v))) }
-    ensures is_none { IfNone result ((v : _) →
-        part_tree (I.meaning cx.now) term.now ≡ leaf (variable (vid_kind v) (vid_number v)) → ⊥) }
+    ensures is { IfSome result (λ v. part_tree (I.meaning cx.now) term.now ≡ vid_tree v) }
+    ensures is_none { IfNone result ((v : _) → part_tree (I.meaning cx.now) term.now ≡ vid_tree v → ⊥) }
 {
     match term {
         Part::Ty(ty) => Some(TermVid::Ty(ty_vid(&cx.ty_kind(ty))?)),
@@ -53,8 +51,7 @@ pub(crate) fn is_same_vid(a: TermVid, b: TermVid) -> bool
 fn shallow_part<I: Interner>(cx: &I, inner: &InferCtxtInner<I::Key>, term: &PartOf<I>) -> PartOf<I>
     requires lawful { IsLawful (I.meaning cx.now) inner.now }
     requires term_known { IsTrue (known (part_tree (I.meaning cx.now) term.now)) }
-    requires term_in { let m = I.meaning cx.now in
-        InContext (store_of (I.meaning cx.now) inner.now) (part_tree m term.now) }
+    requires term_in { let m = I.meaning cx.now in InContext (store_of m inner.now) (part_tree m term.now) }
     ensures sure { IsTrue (known (part_tree (I.meaning cx.now) result)) }
     ensures is_in { InContext (store_of (I.meaning cx.now) inner.now) (part_tree (I.meaning cx.now) result) }
     ensures sort { part_sort result ≡ part_sort term.now }
@@ -81,19 +78,14 @@ pub(crate) fn resolve_part<I: Interner>(
     memory: &mut Resolutions<I::Key, I::Id>,
 ) -> Result<PartOf<I>, OutOfMemory>
     requires lawful { IsLawful (I.meaning cx.old) inner.now }
-    requires remembers { Remembers (I.meaning cx.old) (store_of (I.meaning cx.old) inner.now)
-        ⟦<PartKey<I::Key> as PartialEq>⟧.eq memory.old }
+    requires remembers { Caches I.meaning cx.old inner.now ⟦<PartKey<I::Key> as PartialEq>⟧.eq memory.old }
     requires term_known { IsTrue (known (part_tree (I.meaning cx.old) term.now)) }
-    requires term_in { let m = I.meaning cx.old in
-        InContext (store_of (I.meaning cx.old) inner.now) (part_tree m term.now) }
+    requires term_in { let m = I.meaning cx.old in InContext (store_of m inner.now) (part_tree m term.now) }
     ensures grown { Extends (I.meaning cx.old) (I.meaning cx.new) }
-    ensures remembers { OnOk result
-        (Remembers (I.meaning cx.new) (store_of (I.meaning cx.new) inner.now)
-        ⟦<PartKey<I::Key> as PartialEq>⟧.eq memory.new) }
+    ensures remembers { OnOk result (Caches I.meaning cx.new inner.now ⟦<PartKey<I::Key> as PartialEq>⟧.eq memory.new) }
     ensures sure { IfOk result (λ t. IsTrue (known (part_tree (I.meaning cx.new) t))) }
     ensures sort { IfOk result (λ t. part_sort t ≡ part_sort term.now) }
-    ensures resolves { IfOk result (λ t. part_tree (I.meaning cx.new) t ≡
-        resolved_by (store_of (I.meaning cx.old) inner.now) (part_tree (I.meaning cx.old) term.now)) }
+    ensures resolves { IfOk result (λ t. IsResolvedPart I.meaning cx.old cx.new inner.now term.now t) }
 {
     let shallow = shallow_part(&*cx, inner, term);
     if let Some(resolved) = recall(&*cx, inner, &shallow, memory) {
@@ -114,21 +106,16 @@ fn resolve_inside<I: Interner>(
     memory: &mut Resolutions<I::Key, I::Id>,
 ) -> Result<PartOf<I>, OutOfMemory>
     requires lawful { IsLawful (I.meaning cx.old) inner.now }
-    requires remembers { Remembers (I.meaning cx.old) (store_of (I.meaning cx.old) inner.now)
-        ⟦<PartKey<I::Key> as PartialEq>⟧.eq memory.old }
+    requires remembers { Caches I.meaning cx.old inner.now ⟦<PartKey<I::Key> as PartialEq>⟧.eq memory.old }
     requires term_known { IsTrue (known (part_tree (I.meaning cx.old) term.now)) }
-    requires term_in { let m = I.meaning cx.old in
-        InContext (store_of (I.meaning cx.old) inner.now) (part_tree m term.now) }
+    requires term_in { let m = I.meaning cx.old in InContext (store_of m inner.now) (part_tree m term.now) }
     requires by_parts { let t = part_tree (I.meaning cx.old) term.now in
         let st = store_of (I.meaning cx.old) inner.now in resolved_by st t ≡ over t (resolved_by st (parts_of t)) }
     ensures grown { Extends (I.meaning cx.old) (I.meaning cx.new) }
-    ensures remembers { OnOk result
-        (Remembers (I.meaning cx.new) (store_of (I.meaning cx.new) inner.now)
-        ⟦<PartKey<I::Key> as PartialEq>⟧.eq memory.new) }
+    ensures remembers { OnOk result (Caches I.meaning cx.new inner.now ⟦<PartKey<I::Key> as PartialEq>⟧.eq memory.new) }
     ensures sure { IfOk result (λ t. IsTrue (known (part_tree (I.meaning cx.new) t))) }
     ensures sort { IfOk result (λ t. part_sort t ≡ part_sort term.now) }
-    ensures resolves { IfOk result (λ t. part_tree (I.meaning cx.new) t ≡
-        resolved_by (store_of (I.meaning cx.old) inner.now) (part_tree (I.meaning cx.old) term.now)) }
+    ensures resolves { IfOk result (λ t. IsResolvedPart I.meaning cx.old cx.new inner.now term.now t) }
 {
     let mut parts = Vec::new(cx.alloc());
     let mut same = true;
@@ -153,8 +140,7 @@ impl<I: Interner> RefCtxt<I> {
         ensures inner { self.new.inner ≡ self.old.inner }
         ensures grown { Extends (I.meaning self.old.interner) (I.meaning self.new.interner) }
         ensures sure { IfOk result (λ t. IsTrue (known ((I.meaning self.new.interner).ty t))) }
-        ensures resolves { IfOk result (λ t. (I.meaning self.new.interner).ty t ≡
-            resolved_in I.meaning self.old ((I.meaning self.old.interner).ty ty.now)) }
+        ensures resolves { IfOk result (λ t. IsResolved I.meaning self.old self.new (λ m. m.ty) ty.now t) }
     {
         let mut memory = HashMap::new(self.interner.alloc());
         let resolved = resolve_part(&mut self.interner, &self.inner, &Part::Ty(*ty), &mut memory);
@@ -165,13 +151,11 @@ impl<I: Interner> RefCtxt<I> {
     pub(crate) fn resolve_const(&mut self, constant: &Const<I>) -> Result<Const<I>, OutOfMemory>
         requires lawful { IsLawful (I.meaning self.old.interner) self.old.inner }
         requires const_known { IsTrue (known ((I.meaning self.old.interner).const_ constant.now)) }
-        requires const_in { InContext (store_in I.meaning self.old)
-            ((I.meaning self.old.interner).const_ constant.now) }
+        requires const_in { InContext (store_in I.meaning self.old) (const_term I.meaning self.old constant.now) }
         ensures inner { self.new.inner ≡ self.old.inner }
         ensures grown { Extends (I.meaning self.old.interner) (I.meaning self.new.interner) }
         ensures sure { IfOk result (λ t. IsTrue (known ((I.meaning self.new.interner).const_ t))) }
-        ensures resolves { IfOk result (λ t. (I.meaning self.new.interner).const_ t ≡
-            resolved_in I.meaning self.old ((I.meaning self.old.interner).const_ constant.now)) }
+        ensures resolves { IfOk result (λ t. IsResolved I.meaning self.old self.new (λ m. m.const_) constant.now t) }
     {
         let mut memory = HashMap::new(self.interner.alloc());
         let resolved = resolve_part(

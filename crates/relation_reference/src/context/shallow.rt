@@ -1,13 +1,13 @@
 //! Reading what variables have come to, by a context's tables.
 ghost use Rattle.std.specs.Prelude.{◌<◌, IsTrue, length};
-ghost use Rattle.relation_terms.specs.Heads.{type_var, int_var, float_var, const_var, variable};
-ghost use Rattle.relation_terms.specs.Trees.{leaf, known};
+ghost use Rattle.relation_terms.specs.Heads.{type_var, int_var, float_var};
+ghost use Rattle.relation_terms.specs.Trees.{known};
 ghost use Rattle.relation_contexts.specs.Covered.{IsCovered};
 ghost use Rattle.relation_contexts.specs.Stores.{InContext};
-ghost use Rattle.relation_contexts.specs.Steps.{Resolves};
-ghost use Rattle.relation_contexts.specs.Errors.{IsReadAs};
 ghost use Rattle.relation_contexts.specs.Resolving.{IsShallow, IsShallowTy, IsShallowConst};
 ghost use Rattle.relation_reference.specs.Tables.{store_of, IsLawful};
+ghost use Rattle.relation_reference.specs.Answers.{VarReadsAsTy, VarReadsAsConst, TyReadsAs, ConstReadsAs, TyResolves};
+ghost use Rattle.relation_reference.specs.Answers.{ConstResolves};
 
 use crate::context::InferCtxtInner;
 use crate::context::table::term_of;
@@ -19,8 +19,7 @@ pub(crate) fn ty_of_var<I: Interner>(cx: &I, inner: &InferCtxtInner<I::Key>, var
     requires lawful { IsLawful (I.meaning cx.now) inner.now }
     requires made { var.0 < length inner.now.types.items }
     ensures sure { IsTrue (known ((I.meaning cx.now).ty result)) }
-    ensures reads { let t = (I.meaning cx.now).ty result in
-        IsReadAs (store_of (I.meaning cx.now) inner.now) (leaf (variable type_var var.0)) t }
+    ensures reads { VarReadsAsTy (I.meaning cx.now) inner.now type_var var.0 result }
     ensures shallow { IsShallowTy (store_of (I.meaning cx.now) inner.now) ((I.meaning cx.now).ty result) }
     ensures covered { IsCovered ((I.meaning cx.now).ty result) }
 {
@@ -37,8 +36,7 @@ pub(crate) fn ty_of_int_var<I: Interner>(
     requires lawful { IsLawful (I.meaning cx.now) inner.now }
     requires made { var.0 < length inner.now.ints.items }
     ensures sure { IsTrue (known ((I.meaning cx.now).ty result)) }
-    ensures reads { let t = (I.meaning cx.now).ty result in
-        IsReadAs (store_of (I.meaning cx.now) inner.now) (leaf (variable int_var var.0)) t }
+    ensures reads { VarReadsAsTy (I.meaning cx.now) inner.now int_var var.0 result }
     ensures shallow { IsShallow (store_of (I.meaning cx.now) inner.now) ((I.meaning cx.now).ty result) }
     ensures covered { IsCovered ((I.meaning cx.now).ty result) }
 {
@@ -55,8 +53,7 @@ pub(crate) fn ty_of_float_var<I: Interner>(
     requires lawful { IsLawful (I.meaning cx.now) inner.now }
     requires made { var.0 < length inner.now.floats.items }
     ensures sure { IsTrue (known ((I.meaning cx.now).ty result)) }
-    ensures reads { let t = (I.meaning cx.now).ty result in
-        IsReadAs (store_of (I.meaning cx.now) inner.now) (leaf (variable float_var var.0)) t }
+    ensures reads { VarReadsAsTy (I.meaning cx.now) inner.now float_var var.0 result }
     ensures shallow { IsShallow (store_of (I.meaning cx.now) inner.now) ((I.meaning cx.now).ty result) }
     ensures covered { IsCovered ((I.meaning cx.now).ty result) }
 {
@@ -73,8 +70,7 @@ pub(crate) fn const_of_var<I: Interner>(
     requires lawful { IsLawful (I.meaning cx.now) inner.now }
     requires made { var.0 < length inner.now.consts.items }
     ensures sure { IsTrue (known ((I.meaning cx.now).const_ result)) }
-    ensures reads { let t = (I.meaning cx.now).const_ result in
-        IsReadAs (store_of (I.meaning cx.now) inner.now) (leaf (variable const_var var.0)) t }
+    ensures reads { VarReadsAsConst (I.meaning cx.now) inner.now var.0 result }
     ensures shallow { IsShallowConst (store_of (I.meaning cx.now) inner.now) ((I.meaning cx.now).const_ result) }
     ensures covered { IsCovered ((I.meaning cx.now).const_ result) }
 {
@@ -88,8 +84,7 @@ pub(crate) fn shallow_ty<I: Interner>(cx: &I, inner: &InferCtxtInner<I::Key>, ty
     requires ty_known { IsTrue (known ((I.meaning cx.now).ty ty.now)) }
     requires ty_in { InContext (store_of (I.meaning cx.now) inner.now) ((I.meaning cx.now).ty ty.now) }
     ensures sure { IsTrue (known ((I.meaning cx.now).ty result)) }
-    ensures reads { let m = I.meaning cx.now in
-        IsReadAs (store_of (I.meaning cx.now) inner.now) (m.ty ty.now) (m.ty result) }
+    ensures reads { TyReadsAs (I.meaning cx.now) inner.now ty.now result }
     ensures shallow { IsShallowTy (store_of (I.meaning cx.now) inner.now) ((I.meaning cx.now).ty result) }
     ensures covered { let m = I.meaning cx.now in IsCovered (m.ty ty.now) → IsCovered (m.ty result) }
 {
@@ -110,8 +105,7 @@ pub(crate) fn shallow_number<I: Interner>(
     requires ty_in { InContext (store_of (I.meaning cx.now) inner.now) ((I.meaning cx.now).ty ty.now) }
     requires ty_shallow { IsShallowTy (store_of (I.meaning cx.now) inner.now) ((I.meaning cx.now).ty ty.now) }
     ensures sure { IsTrue (known ((I.meaning cx.now).ty result)) }
-    ensures reads { let m = I.meaning cx.now in
-        IsReadAs (store_of (I.meaning cx.now) inner.now) (m.ty ty.now) (m.ty result) }
+    ensures reads { TyReadsAs (I.meaning cx.now) inner.now ty.now result }
     ensures shallow { IsShallow (store_of (I.meaning cx.now) inner.now) ((I.meaning cx.now).ty result) }
     ensures covered { let m = I.meaning cx.now in IsCovered (m.ty ty.now) → IsCovered (m.ty result) }
 {
@@ -136,10 +130,8 @@ pub(crate) fn shallow_resolve<I: Interner>(
     requires ty_known { IsTrue (known ((I.meaning cx.now).ty ty.now)) }
     requires ty_in { InContext (store_of (I.meaning cx.now) inner.now) ((I.meaning cx.now).ty ty.now) }
     ensures sure { IsTrue (known ((I.meaning cx.now).ty result)) }
-    ensures reads { let m = I.meaning cx.now in
-        IsReadAs (store_of (I.meaning cx.now) inner.now) (m.ty ty.now) (m.ty result) }
-    ensures resolves { let m = I.meaning cx.now in
-        Resolves (store_of (I.meaning cx.now) inner.now) (m.ty ty.now) (m.ty result) }
+    ensures reads { TyReadsAs (I.meaning cx.now) inner.now ty.now result }
+    ensures resolves { TyResolves (I.meaning cx.now) inner.now ty.now result }
     ensures shallow { IsShallow (store_of (I.meaning cx.now) inner.now) ((I.meaning cx.now).ty result) }
     ensures covered { let m = I.meaning cx.now in IsCovered (m.ty ty.now) → IsCovered (m.ty result) }
 {
@@ -155,16 +147,12 @@ pub(crate) fn shallow_resolve_const<I: Interner>(
 ) -> Const<I>
     requires lawful { IsLawful (I.meaning cx.now) inner.now }
     requires const_known { IsTrue (known ((I.meaning cx.now).const_ constant.now)) }
-    requires const_in { InContext (store_of (I.meaning cx.now) inner.now)
-        ((I.meaning cx.now).const_ constant.now) }
+    requires const_in { InContext (store_of (I.meaning cx.now) inner.now) ((I.meaning cx.now).const_ constant.now) }
     ensures sure { IsTrue (known ((I.meaning cx.now).const_ result)) }
-    ensures reads { let m = I.meaning cx.now in
-        IsReadAs (store_of (I.meaning cx.now) inner.now) (m.const_ constant.now) (m.const_ result) }
-    ensures resolves { let m = I.meaning cx.now in
-        Resolves (store_of (I.meaning cx.now) inner.now) (m.const_ constant.now) (m.const_ result) }
+    ensures reads { ConstReadsAs (I.meaning cx.now) inner.now constant.now result }
+    ensures resolves { ConstResolves (I.meaning cx.now) inner.now constant.now result }
     ensures shallow { IsShallowConst (store_of (I.meaning cx.now) inner.now) ((I.meaning cx.now).const_ result) }
-    ensures covered { let m = I.meaning cx.now in
-        IsCovered (m.const_ constant.now) → IsCovered (m.const_ result) }
+    ensures covered { let m = I.meaning cx.now in IsCovered (m.const_ constant.now) → IsCovered (m.const_ result) }
 {
     let Some(var) = const_vid(&cx.const_kind(constant)) else {
         return *constant;

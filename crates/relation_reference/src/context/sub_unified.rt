@@ -1,14 +1,14 @@
 //! Type variables that are marked as related: each names the root of its class, which no other answer looks at.
 ghost use Rattle.std.specs.Prelude.{◌≡◌, ◌≤◌, ◌<◌, IsTrue, IfOk, OnErr, OnOk, length, map};
-ghost use Rattle.relation_terms.specs.Heads.{type_var, variable};
-ghost use Rattle.relation_terms.specs.Trees.{leaf, known};
+ghost use Rattle.relation_terms.specs.Heads.{type_var};
+ghost use Rattle.relation_terms.specs.Trees.{known};
 ghost use Rattle.relation_terms.specs.Meaning.{Extends};
 ghost use Rattle.relation_contexts.specs.Stores.{IsMade};
-ghost use Rattle.relation_contexts.specs.Steps.{MakesVariable};
 ghost use Rattle.relation_contexts.specs.ContextCalls.{JoinsRoots, KeepsSolver, KeepsOutliving, MarksNew};
-ghost use Rattle.relation_reference.specs.RefCtxt.{store_in, context_in};
+ghost use Rattle.relation_reference.specs.RefCtxt.{store_in, context_in, sub_root_in};
 ghost use Rattle.relation_reference.specs.SubRoots.{root_in, led_root, IsRootTable};
 ghost use Rattle.relation_reference.specs.Tables.{store_of, IsLawful};
+ghost use Rattle.relation_reference.specs.Changes.{MeansNext, MarksNext, MakesTyVar};
 
 use crate::context::RefCtxt;
 use relation_terms::terms::{Interner, OutOfMemory, Ty, TyVid, UniverseIndex};
@@ -72,8 +72,7 @@ impl<I: Interner> RefCtxt<I> {
         ensures same_record { store_of (I.meaning self.old.interner) self.new.inner ≡ store_in I.meaning self.old }
         ensures solver { KeepsSolver (context_in I.meaning self.old) (context_in I.meaning self.new) }
         ensures outliving { KeepsOutliving (context_in I.meaning self.old) (context_in I.meaning self.new) }
-        ensures marks { JoinsRoots (root_in self.old.inner.sub_roots.items) (root_in self.new.inner.sub_roots.items)
-            a.0 b.0 }
+        ensures marks { JoinsRoots (sub_root_in self.old.inner) (sub_root_in self.new.inner) a.0 b.0 }
     {
         join_roots(&mut self.inner.sub_roots, a.0, b.0);
     }
@@ -91,13 +90,9 @@ impl<I: Interner> RefCtxt<I> {
         ensures lawful { IsLawful (I.meaning self.new.interner) self.new.inner }
         ensures grown { Extends (I.meaning self.old.interner) (I.meaning self.new.interner) }
         ensures sure { IfOk result (λ t. IsTrue (known ((I.meaning self.new.interner).ty t))) }
-        ensures means { let number = length self.old.inner.types.items in
-            IfOk result (λ t. (I.meaning self.new.interner).ty t ≡ leaf (variable type_var number)) }
-        ensures makes { let number = length self.old.inner.types.items in
-            OnOk result (MakesVariable (store_in I.meaning self.old) (store_in I.meaning self.new)
-            type_var number universe.0) }
-        ensures root { let number = length self.old.inner.types.items in OnOk result
-            (root_in self.new.inner.sub_roots.items number ≡ root_in self.old.inner.sub_roots.items of.0) }
+        ensures means { MeansNext (I.meaning self.new.interner).ty type_var self.old.inner.types.items result }
+        ensures makes { OnOk result (MakesTyVar I.meaning self.old self.new universe.0) }
+        ensures root { OnOk result (MarksNext self.old.inner self.new.inner of.0) }
         ensures rest { MarksNew (context_in I.meaning self.old) (context_in I.meaning self.new) }
         ensures refused { OnErr result (store_in I.meaning self.new ≡ store_in I.meaning self.old) }
     {

@@ -1,8 +1,9 @@
 //! One table of variables: reading and writing what is recorded of them.
 ghost use Rattle.std.specs.Prelude.{◌≡◌, ◌≤◌, ◌<◌, IsTrue, IsFalse, length, get_or, map, min, slice_set};
-ghost use Rattle.relation_reference.specs.declared.context.inner.VariableValue.TheVariants.{SameAs, Known};
+ghost use Rattle.relation_reference.specs.declared.context.inner.VariableValue.TheVariants.{Known};
 ghost use Rattle.relation_reference.specs.Variables.{keys_of, values_of, universes_of, value_at, root_at};
-ghost use Rattle.relation_reference.specs.Variables.{universe_at, free_universe, term_at, led, led_variable};
+ghost use Rattle.relation_reference.specs.Variables.{universe_at, term_at, led_variable};
+ghost use Rattle.relation_reference.specs.Variables.{class_universe, led_values, led_universes};
 
 use crate::context::{Variable, VariableValue};
 use relation_terms::terms::UniverseIndex;
@@ -102,8 +103,7 @@ pub(crate) fn universe_of_class<K: Copy>(
 ) -> Option<UniverseIndex>
     requires made { v < length table.now.items }
     requires root_made { root_at table.now.items v < length table.now.items }
-    ensures { let r = root_at table.now.items v in
-        result ≡ free_universe (universe_at table.now.items r) (value_at table.now.items r) }
+    ensures { result ≡ class_universe table.now.items v }
 {
     let root = root_of(table, v);
     match probe(table, root) {
@@ -140,10 +140,8 @@ pub(crate) fn link<K: Copy>(table: &mut Vec<Variable<K>>, child: usize, root: us
     requires made { child < length table.old.items }
     requires smaller { root < child }
     ensures keys { keys_of table.new.items ≡ keys_of table.old.items }
-    ensures values { values_of table.new.items ≡
-        slice_set (map (led child root) (values_of table.old.items)) child (SameAs root) }
-    ensures universes { let lowered = min (universe_at table.old.items child) (universe_at table.old.items root) in
-        universes_of table.new.items ≡ slice_set (universes_of table.old.items) root lowered }
+    ensures values { values_of table.new.items ≡ led_values child root table.old.items }
+    ensures universes { universes_of table.new.items ≡ led_universes child root table.old.items }
 {
     let below = universe_of(table, child);
     let above = universe_of(table, root);
