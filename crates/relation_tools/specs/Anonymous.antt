@@ -6,6 +6,7 @@ use Rattle.relation_terms.specs.Heads.{Kind, type_kind, region_kind, const_kind,
 use Rattle.relation_terms.specs.Trees.{Tree, leaf, node, bind, nil, cons}
 use Rattle.relation_terms.specs.Meaning.{Meaning, Extends}
 use Rattle.relation_terms.specs.Orders.{Order, in_turn, first_last, order_of}
+use Rattle.relation_terms.specs.declared.terms.keys.PredicateKey.{PredicateKey}
 use Rattle.relation_terms.specs.declared.terms.binder.BoundVariableKind.{BoundVariableKind}
 use Rattle.relation_terms.specs.declared.terms.binder.BoundVariableKind.TheVariants.{Ty as TyKind}
 use Rattle.relation_terms.specs.declared.terms.binder.BoundVariableKind.TheVariants.{Region as RegionKind}
@@ -92,6 +93,16 @@ renames name us depth t = None
 abbrev pub anonymized : ℕ → Tree → Tree
 anonymized name (bind ks t) = bind (map (named name) (used_vars t)) (folded (renames name (used_vars t)) 0 t)
 anonymized name t = t
+
+-- The second key is that of the first key's predicate, anonymised by a name; the interner may have grown.
+abbrev pub IsAnonymized : {Key Id Name : Type 0} → Meaning Key Id Name → Meaning Key Id Name → Name →
+    PredicateKey Key → PredicateKey Key → Type 0
+IsAnonymized m n name p k = n.predicate k ≡ anonymized (m.name name) (m.predicate p)
+
+-- The second body is the first with the binder's variables that stand in a list at their places there, all by one name.
+abbrev pub IsRenamed : {Key Id Name T : Type 0} → (Meaning Key Id Name → T → Tree) → Meaning Key Id Name →
+    Meaning Key Id Name → Name → List UsedVar → T → T → Type 0
+IsRenamed tree m n name us x y = tree n y ≡ folded (renames (m.name name) us) 0 (tree m x)
 
 -- The same as a variable of a binder, over names.
 abbrev pub named_as : {Name : Type 0} → Name → UsedVar → BoundVariableKind Name

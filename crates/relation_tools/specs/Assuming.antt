@@ -3,12 +3,12 @@ use Rattle.std.specs.Prelude.{IsTrue, cond, List, ◌++◌, map, Option, Some, N
 use Rattle.std.specs.List.{All}
 use Rattle.std.specs.Option.{option_map}
 use Rattle.relation_terms.specs.Trees.{Tree, known}
-use Rattle.relation_terms.specs.Meaning.{Meaning, kind_tree}
+use Rattle.relation_terms.specs.Meaning.{Meaning, arg_tree, kind_tree}
 use Rattle.relation_terms.specs.declared.predicate.OutlivesPredicate.{OutlivesPredicate}
 use Rattle.relation_terms.specs.declared.terms.generic_arg.GenericArgKind.{GenericArgKind}
 use Rattle.relation_terms.specs.declared.terms.ty_kind.TyKind.TheVariants.{Param as TyParam, Alias as TyAlias}
 use Rattle.relation_terms.specs.declared.terms.ty_kind.TyKind.TheVariants.{Placeholder as TyPlaceholder}
-use Rattle.relation_tools.specs.Assumptions.{is_assumed, IsKnown, assumed, HaveSame}
+use Rattle.relation_tools.specs.Assumptions.{is_assumed, IsKnown, assumed, elaborated, HaveSame}
 use Rattle.relation_tools.specs.declared.outlives.Component.{Component, Region, Param, Placeholder, Alias}
 
 module _ {X D N : Type 0} (m : Meaning X D N) where
@@ -34,3 +34,9 @@ module _ {X D N : Type 0} (m : Meaning X D N) where
 abbrev pub Gains : {X D N : Type 0} → Meaning X D N → Meaning X D N → List (OutlivesPredicate X (GenericArgKind X)) →
     List (OutlivesPredicate X (GenericArgKind X)) → List (Tree × Tree) → Type 0
 Gains m n xs ys ps = All (IsKnown n) ys × HaveSame (map (assumed n) ys) (map (assumed m) xs ++ ps)
+
+-- The same where these are what one assumption gives.
+abbrev pub Assumes : {C X D N : Type 0} → (C → Meaning X D N) → C → C → List (OutlivesPredicate X (GenericArgKind X)) →
+    List (OutlivesPredicate X (GenericArgKind X)) → OutlivesPredicate X (GenericArgKind X) → Type 0
+Assumes meaning old new xs ys a =
+    Gains (meaning old) (meaning new) xs ys (elaborated (arg_tree (meaning old) a.0) ((meaning old).region a.1))

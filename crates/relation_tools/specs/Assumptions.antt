@@ -49,3 +49,8 @@ module _ {X D N : Type 0} (m : Meaning X D N) where
 -- Two lists have the same members, whatever their order and however often one stands in them.
 abbrev pub HaveSame : {A : Type 0} → List A → List A → Type 0
 HaveSame {A} xs ys = (x : A) → Contains xs x ↔ Contains ys x
+
+-- The second list is, as a set, what all of the first give; the interner may have grown.
+abbrev pub AreElaborated : {X D N : Type 0} → Meaning X D N → Meaning X D N →
+    List (OutlivesPredicate X (GenericArgKind X)) → List (OutlivesPredicate X (GenericArgKind X)) → Type 0
+AreElaborated m n given found = HaveSame (map (assumed n) found) (all_elaborated m given)

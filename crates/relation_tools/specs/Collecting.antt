@@ -1,15 +1,21 @@
 -- How a collection of components goes on, and what it has met.
 use Rattle.std.specs.Prelude.{◌≡◌, ◌⊎◌, ◌<◌, ℕ, zero, suc, Bool, true, cond, List, [], drop, IsTrue, Option, Some, None}
 use Rattle.std.specs.List.{list_any}
+use Rattle.std.specs.Global.{Vec}
+use Rattle.std.specs.HashSet.{HashSet}
 use Rattle.relation_terms.specs.Trees.{Tree, cons, known, size}
-use Rattle.relation_terms.specs.Meaning.{Meaning, arg_tree}
+use Rattle.relation_terms.specs.Meaning.{Meaning, arg_tree, kind_tree}
+use Rattle.relation_terms.specs.Parts.{part_tree}
+use Rattle.relation_terms.specs.declared.terms.alias.AliasTy.{AliasTy}
 use Rattle.relation_terms.specs.declared.terms.generic_arg.GenericArgKind.{GenericArgKind}
 use Rattle.relation_terms.specs.declared.terms.generic_arg.GenericArgKind.TheVariants.{Ty as TyArg, Const as ConstArg}
 use Rattle.relation_terms.specs.declared.terms.keys.TyKey.{TyKey}
 use Rattle.relation_terms.specs.declared.terms.part_kind.Part.{Part}
 use Rattle.relation_terms.specs.declared.terms.part_kind.Part.TheVariants.{Ty as TyPart, Const as ConstPart}
+use Rattle.relation_terms.specs.declared.terms.ty_kind.TyKind.TheVariants.{Alias as AliasForm}
 use Rattle.relation_tools.specs.Components.{Choice, every, no_region, not_bivariant, alias_choice, takes, behind, components}
-use Rattle.relation_tools.specs.Outliving.{HasAll}
+use Rattle.relation_tools.specs.Components.{inside_alias}
+use Rattle.relation_tools.specs.Outliving.{AddsSome, HasAll}
 use Rattle.relation_tools.specs.Walking.{Adds}
 use Rattle.relation_tools.specs.declared.outlives.Component.{Component}
 use Rattle.relation_tools.specs.declared.outlives.chosen.Chosen.{Chosen}
@@ -39,6 +45,22 @@ module _ {Key Id Name : Type 0} (m : Meaning Key Id Name) where
   meant NoRegion = no_region
   meant (NotBivariant d) = alias_choice (m.alias_variances (m.id d.0))
 
+  -- The part, which stands before such a list, is chosen at a place.
+  abbrev pub takes_part : Chosen Id → ℕ → Part Key Id → Tree → Bool
+  takes_part c i p ts = takes (behind_all i (meant c)) (part_tree m p) ts
+
+  -- Behind what was there, each component stands for one of the components of the tree.
+  abbrev pub AddsFrom : Tree → List (Component Key Id Name) → List (Component Key Id Name) → Type 0
+  AddsFrom t old new = AddsSome m (components every t) old new
+
+  -- For each of the components of the tree a component stands.
+  abbrev pub HasAllOf : Tree → List (Component Key Id Name) → Type 0
+  HasAllOf t cs = HasAll m (components every t) cs
+
+  -- The components of the arguments of an alias.
+  abbrev pub arg_components : AliasTy Key Id → List Tree
+  arg_components a = inside_alias m.alias_variances (kind_tree m (AliasForm a))
+
   -- The components of a type that was found, if one was.
   abbrev pub found_components : Option (TyKey Key) → List Tree
   found_components None = []
@@ -59,6 +81,12 @@ module _ {Key Id Name : Type 0} (m : Meaning Key Id Name) where
     abbrev pub Meets : List (GenericArgKind Key) → List (GenericArgKind Key) → List (Component Key Id Name) → Type 0
     Meets old new cs = (q : GenericArgKind Key) → IsTrue (known (arg_tree m q)) → list_any (eq q) new ≡ true →
         (list_any (eq q) old ≡ true) ⊎ HasAll m (components every (arg_tree m q)) cs
+
+-- For whatever was met and is no larger than the part, the list has all components.
+abbrev pub Ready : {C Key Id Name S : Type 0} → (C → Meaning Key Id Name) → C →
+    (GenericArgKind Key → GenericArgKind Key → Bool) → Part Key Id → HashSet (GenericArgKind Key) S →
+    Vec (Component Key Id Name) → Type 0
+Ready meaning cx eq p seen cs = Settled (meaning cx) eq (suc (size (part_tree (meaning cx) p))) seen.keys cs.items
 
 -- What was kept was met before, and stays; or it is kept from now on; or nothing is kept.
 abbrev pub Keeps : {T : Type 0} → (T → T → Bool) → Option T → Bool → List T → List T → Type 0

@@ -6,8 +6,11 @@ use Rattle.relation_terms.specs.Heads.{adt, fn_def, closure, coroutine_closure, 
 use Rattle.relation_terms.specs.Heads.{array, slice, pattern_type, tuple, unsafe_binder, dynamic, fn_ptr, raw_ptr, ref}
 use Rattle.relation_terms.specs.Heads.{alias, placeholder, atom}
 use Rattle.relation_terms.specs.Trees.{Tree, leaf, node, cons, count}
+use Rattle.relation_terms.specs.Meaning.{Meaning}
+use Rattle.relation_terms.specs.declared.terms.keys.ExistentialPredicatesKey.{ExistentialPredicatesKey}
+use Rattle.relation_terms.specs.declared.terms.keys.TyKey.{TyKey}
 use Rattle.relation_folds.specs.Visits.{non_region_infer_stands}
-use Rattle.relation_folds.specs.Clashes.{inputs_count, object_principal}
+use Rattle.relation_folds.specs.Clashes.{inputs_count, object_principal, principal}
 use Rattle.relation_tools.specs.declared.fast_reject.simplify.TreatParams.{TreatParams}
 use Rattle.relation_tools.specs.declared.fast_reject.simplify.TreatParams.TheVariants.{AsRigid, InstantiateWithInfer}
 use Rattle.relation_tools.specs.declared.fast_reject.simplify.SimplifiedType.{SimplifiedType}
@@ -114,6 +117,15 @@ form_key autos solver treat t = None
 abbrev pub head_key : (ℕ → Bool) → Bool → TreatParams → Tree → Option (SimplifiedType ℕ)
 head_key autos solver treat (node pattern_type (cons t us)) = head_key autos solver treat t
 head_key autos solver treat t = form_key autos solver treat t
+
+module _ {Key Id Name : Type 0} (m : Meaning Key Id Name) where
+  -- The key of a known type.
+  abbrev pub type_key : TreatParams → TyKey Key → Option (SimplifiedType ℕ)
+  type_key treat t = head_key (m.tables).is_auto (m.tables).next_solver treat (m.ty t)
+
+  -- The principal of a known list of a trait object's predicates.
+  abbrev pub principal_of : ExistentialPredicatesKey Key → Option ℕ
+  principal_of ps = principal (m.existential_predicates ps)
 
 -- The type that a pattern type is of, under all its patterns; of any other type the type itself.
 abbrev pub plain_type : Tree → Tree

@@ -7,6 +7,7 @@ use Rattle.relation_folds.specs.Clashes.{Clash, Alike}
 use Rattle.relation_folds.specs.Forms.{Form, Leaf, Adt, FnDef, Closure, CoroutineClosure, Coroutine, CoroutineWitness}
 use Rattle.relation_folds.specs.Forms.{Tuple, FnPtr, Dynamic, Alias}
 use Rattle.relation_folds.specs.Outlines.{tree_outline}
+use Rattle.relation_tools.specs.declared.fast_reject.forms.Sides.{Sides}
 use Rattle.relation_tools.specs.declared.fast_reject.pairs.Pair.{Pair}
 use Rattle.relation_tools.specs.declared.fast_reject.pairs.Pair.TheVariants.{Apart, Nothing, Types, Arrays, Lists, Args}
 
@@ -35,6 +36,10 @@ IsOfItem a = IsTrue (is_of_item (tree_outline a).form)
 
 abbrev pub IsOfList : Tree → Type 0
 IsOfList a = IsTrue (is_of_list (tree_outline a).form)
+
+-- Two terms clash by their trees, within a depth.
+abbrev pub ClashAs : {K : Type 0} → Sides → ℕ → (K → Tree) → K → K → Type 0
+ClashAs sides d tree a b = Clash sides.left sides.right d (tree a) (tree b)
 
 module _ {Key Id Name : Type 0} (m : Meaning Key Id Name) where
   -- The terms of a pair are known.

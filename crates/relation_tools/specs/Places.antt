@@ -40,3 +40,8 @@ all_known (t ∷ ts) = known t && all_known ts
 abbrev pub Pushes : {Key Id Name : Type 0} → Meaning Key Id Name → List Tree → List (GenericArgKind Key) →
     List (GenericArgKind Key) → Type 0
 Pushes {Key} m ts old new = (xs : List (GenericArgKind Key)) × (new ≡ xs ++ old) × (map (arg_tree m) xs ≡ ts)
+
+-- The same under the arguments that stand in a tree.
+abbrev pub PushesPlaces : {Key Id Name : Type 0} → Meaning Key Id Name → Tree → List (GenericArgKind Key) →
+    List (GenericArgKind Key) → Type 0
+PushesPlaces m t old new = Pushes m (places false t) old new

@@ -79,3 +79,7 @@ module _ {I Key Id Name : Type 0} (m : Meaning Key Id Name) (eq : GenericArgKind
       (skips : ℕ → Bool) (calls : List Call) (answers : List (Option (GenericArgKind Key)))
       (v : Walk I (GenericArgKind Key)) → Runs w calls answers v → Tells skips 0 calls answers →
       GoesByPlaces w v t calls answers same skips
+
+  -- The same of an argument's tree.
+  abbrev pub ByPlacesUnder : Walk I (GenericArgKind Key) → GenericArgKind Key → Type 0
+  ByPlacesUnder w a = ByPlaces w (arg_tree m a)

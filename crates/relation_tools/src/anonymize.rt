@@ -1,8 +1,8 @@
 //! Predicates whose outermost binders differ in names, order or unused variables alone, made one.
-ghost use Rattle.std.specs.Prelude.{◌≡◌, IsTrue, IfOk};
+ghost use Rattle.std.specs.Prelude.{IsTrue, IfOk};
 ghost use Rattle.relation_terms.specs.Trees.{known};
 ghost use Rattle.relation_terms.specs.Meaning.{Extends};
-ghost use Rattle.relation_tools.specs.Anonymous.{anonymized};
+ghost use Rattle.relation_tools.specs.Anonymous.{IsAnonymized};
 
 mod collecting;
 mod renaming;
@@ -29,8 +29,7 @@ pub fn anonymize_bound_vars<I: Interner>(
     requires { IsTrue (known ((I.meaning cx.old).predicate predicate.now)) }
     ensures grown { Extends (I.meaning cx.old) (I.meaning cx.new) }
     ensures sure { IfOk result (λ k. IsTrue (known ((I.meaning cx.new).predicate k))) }
-    ensures made { let t = (I.meaning cx.old).predicate predicate.now in
-        IfOk result (λ k. (I.meaning cx.new).predicate k ≡ anonymized ((I.meaning cx.old).name name) t) }
+    ensures made { IfOk result (λ k. IsAnonymized (I.meaning cx.old) (I.meaning cx.new) name predicate.now k) }
 {
     let body = cx.predicate_kind(predicate).value;
     let used = used_vars(cx, &body)?;

@@ -1,8 +1,8 @@
 //! What follows from assumptions.
-ghost use Rattle.std.specs.Prelude.{IfOk, map};
+ghost use Rattle.std.specs.Prelude.{IfOk};
 ghost use Rattle.std.specs.List.{All};
 ghost use Rattle.relation_terms.specs.Meaning.{Extends};
-ghost use Rattle.relation_tools.specs.Assumptions.{IsKnown, assumed, all_elaborated, HaveSame};
+ghost use Rattle.relation_tools.specs.Assumptions.{IsKnown, AreElaborated};
 
 mod assuming;
 
@@ -28,8 +28,7 @@ pub fn elaborate_outlives_assumptions<I: Interner>(
     requires { All (IsKnown (I.meaning cx.old)) assumptions.now }
     ensures grown { Extends (I.meaning cx.old) (I.meaning cx.new) }
     ensures sure { IfOk result (λ set. All (IsKnown (I.meaning cx.new)) set.keys) }
-    ensures same { IfOk result (λ set. HaveSame (map (assumed (I.meaning cx.new)) set.keys)
-        (all_elaborated (I.meaning cx.old) assumptions.now)) }
+    ensures same { IfOk result (λ set. AreElaborated (I.meaning cx.old) (I.meaning cx.new) assumptions.now set.keys) }
 {
     let mut collected = HashSet::new(cx.alloc());
     for assumption in assumptions {

@@ -5,10 +5,8 @@
 //! outside the alias binds: there it is the components of its arguments.
 ghost use Rattle.std.specs.Prelude.{◌≡◌, ◌++◌, IsTrue, IfOk, OnOk, OnErr, []};
 ghost use Rattle.relation_terms.specs.Trees.{known};
-ghost use Rattle.relation_terms.specs.Meaning.{kind_tree};
-ghost use Rattle.relation_terms.specs.declared.terms.ty_kind.TyKind.TheVariants.{Alias as AliasForm};
-ghost use Rattle.relation_tools.specs.Components.{every, components, inside_alias};
 ghost use Rattle.relation_tools.specs.Outliving.{AddsSome, HasAll};
+ghost use Rattle.relation_tools.specs.Collecting.{AddsFrom, HasAllOf, arg_components};
 
 mod chosen;
 mod collecting;
@@ -65,10 +63,8 @@ pub fn push_outlives_components<I: Interner>(
     out: &mut SmallVec<ComponentOf<I>, 4>,
 ) -> Result<(), OutOfMemory>
     requires { IsTrue (known ((I.meaning cx.now).ty ty.now)) }
-    ensures some { AddsSome (I.meaning cx.now) (components every ((I.meaning cx.now).ty ty.now))
-        out.old.items out.new.items }
-    ensures all { OnOk result (HasAll (I.meaning cx.now) (components every ((I.meaning cx.now).ty ty.now))
-        out.new.items) }
+    ensures some { AddsFrom (I.meaning cx.now) ((I.meaning cx.now).ty ty.now) out.old.items out.new.items }
+    ensures all { OnOk result (HasAllOf (I.meaning cx.now) ((I.meaning cx.now).ty ty.now) out.new.items) }
 {
     let list = components_of(cx, ty)?;
     append(cx, list, out)
@@ -80,10 +76,8 @@ pub(crate) fn components_of<I: Interner>(
     ty: &Ty<I>,
 ) -> Result<Vec<ComponentOf<I>>, OutOfMemory>
     requires { IsTrue (known ((I.meaning cx.now).ty ty.now)) }
-    ensures some { IfOk result (λ list.
-        AddsSome (I.meaning cx.now) (components every ((I.meaning cx.now).ty ty.now)) [] list.items) }
-    ensures all { IfOk result (λ list.
-        HasAll (I.meaning cx.now) (components every ((I.meaning cx.now).ty ty.now)) list.items) }
+    ensures some { IfOk result (λ list. AddsFrom (I.meaning cx.now) ((I.meaning cx.now).ty ty.now) [] list.items) }
+    ensures all { IfOk result (λ list. HasAllOf (I.meaning cx.now) ((I.meaning cx.now).ty ty.now) list.items) }
 {
     let mut list = Vec::new(cx.alloc());
     let mut visited = none_met(cx);
@@ -120,12 +114,8 @@ pub fn compute_alias_components_recursive<I: Interner>(
     out: &mut SmallVec<ComponentOf<I>, 4>,
 ) -> Result<(), OutOfMemory>
     requires { IsTrue (known ((I.meaning cx.now).args (alias_ty.now).args)) }
-    ensures some { AddsSome (I.meaning cx.now)
-        (inside_alias (I.meaning cx.now).alias_variances (kind_tree (I.meaning cx.now) (AliasForm alias_ty.now)))
-        out.old.items out.new.items }
-    ensures all { OnOk result (HasAll (I.meaning cx.now)
-        (inside_alias (I.meaning cx.now).alias_variances (kind_tree (I.meaning cx.now) (AliasForm alias_ty.now)))
-        out.new.items) }
+    ensures some { let m = I.meaning cx.now in AddsSome m (arg_components m alias_ty.now) out.old.items out.new.items }
+    ensures all { let m = I.meaning cx.now in OnOk result (HasAll m (arg_components m alias_ty.now) out.new.items) }
 {
     let mut list = Vec::new(cx.alloc());
     collect_alias_args(cx, alias_ty, &mut list)?;

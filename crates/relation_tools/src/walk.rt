@@ -8,7 +8,7 @@ ghost use Rattle.relation_terms.specs.Meaning.{arg_tree};
 ghost use Rattle.relation_terms.specs.Parts.{part_of_arg};
 ghost use Rattle.relation_tools.specs.Places.{places_under, all_known, Pushes};
 ghost use Rattle.relation_tools.specs.Walking.{Walk, Pull, Pops, begun};
-ghost use Rattle.relation_tools.specs.Positions.{ByPlaces};
+ghost use Rattle.relation_tools.specs.Positions.{ByPlacesUnder};
 
 mod places;
 mod stack;
@@ -98,8 +98,7 @@ impl<'a, I: Interner> TypeWalker<'a, I> {
     pub fn new(cx: &'a I, root: GenericArg<I>) -> Self
         requires { IsTrue (known (arg_tree (I.meaning cx.now) root)) }
         ensures begins { result ≡ begun cx.now root }
-        ensures by_places { ByPlaces (I.meaning cx.now) ⟦<GenericArgKind<I::Key> as PartialEq>⟧.eq result
-            (arg_tree (I.meaning cx.now) root) }
+        ensures by_places { ByPlacesUnder (I.meaning cx.now) ⟦<GenericArgKind<I::Key> as PartialEq>⟧.eq result root }
     {
         TypeWalker {
             cx,
@@ -121,8 +120,7 @@ impl<'a, I: Interner> TypeWalker<'a, I> {
 
     /// What `next` answers, for a loop of which the caller shows that it ends.
     pub fn pull(&mut self) -> Option<Result<GenericArg<I>, OutOfMemory>>
-        ensures { Pull (I.meaning (self.old).cx) ⟦<GenericArgKind<I::Key> as PartialEq>⟧.eq
-            self.old result self.new }
+        ensures { Pull (I.meaning (self.old).cx) ⟦<GenericArgKind<I::Key> as PartialEq>⟧.eq self.old result self.new }
     {
         if self.failed {
             return Some(Err(OutOfMemory));

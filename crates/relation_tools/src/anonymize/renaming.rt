@@ -2,8 +2,7 @@
 ghost use Rattle.std.specs.Prelude.{◌≡◌, IsTrue, IfOk, None, cond, nat_eq, map, option_map};
 ghost use Rattle.relation_terms.specs.Trees.{known};
 ghost use Rattle.relation_terms.specs.Meaning.{Extends};
-ghost use Rattle.relation_folds.specs.Folds.{folded};
-ghost use Rattle.relation_tools.specs.Anonymous.{place_in, renames, named_as};
+ghost use Rattle.relation_tools.specs.Anonymous.{place_in, named_as, IsRenamed};
 
 use crate::anonymize::used::{UsedVar, place_of};
 use relation_folds::fold::{Fold, TypeFoldable, TypeFolder};
@@ -140,8 +139,7 @@ pub fn rename_bound_vars<I: Interner, T: TypeFoldable<I>>(
     requires { IsTrue (known (T.tree (I.meaning cx.old) body.now)) }
     ensures grown { Extends (I.meaning cx.old) (I.meaning cx.new) }
     ensures sure { IfOk result (λ x. IsTrue (known (T.tree (I.meaning cx.new) x))) }
-    ensures made { IfOk result (λ x. T.tree (I.meaning cx.new) x ≡
-        folded (renames ((I.meaning cx.old).name name) used.now) 0 (T.tree (I.meaning cx.old) body.now)) }
+    ensures made { IfOk result (λ x. IsRenamed T.tree (I.meaning cx.old) (I.meaning cx.new) name used.now body.now x) }
 {
     body.fold_with(cx, &mut Renamer { used, name })
 }

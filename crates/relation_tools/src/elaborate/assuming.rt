@@ -4,8 +4,8 @@ ghost use Rattle.std.specs.List.{All, filter_map};
 ghost use Rattle.std.specs.Option.{option_map};
 ghost use Rattle.relation_terms.specs.Trees.{known};
 ghost use Rattle.relation_terms.specs.Meaning.{Extends, arg_tree, kind_tree};
-ghost use Rattle.relation_tools.specs.Assumptions.{IsKnown, assumed, elaborated};
-ghost use Rattle.relation_tools.specs.Assuming.{argument_of, pair_of, IsKnownComponent, Gains};
+ghost use Rattle.relation_tools.specs.Assumptions.{IsKnown, assumed};
+ghost use Rattle.relation_tools.specs.Assuming.{argument_of, pair_of, IsKnownComponent, Gains, Assumes};
 ghost use Rattle.relation_tools.specs.declared.outlives.Component.{Region as RegionComponent};
 
 use crate::elaborate::OutlivesAssumption;
@@ -128,9 +128,7 @@ pub fn add_assumption<I: Interner>(
     requires known { IsKnown (I.meaning cx.old) assumption.now }
     requires sure { All (IsKnown (I.meaning cx.old)) collected.old.keys }
     ensures grown { Extends (I.meaning cx.old) (I.meaning cx.new) }
-    ensures gains { let m = I.meaning cx.old in
-        OnOk result (Gains m (I.meaning cx.new) collected.old.keys collected.new.keys
-        (elaborated (arg_tree m (assumption.now).0) (m.region (assumption.now).1))) }
+    ensures gains { OnOk result (Assumes I.meaning cx.old cx.new collected.old.keys collected.new.keys assumption.now) }
 {
     assume(cx, *assumption, collected)?;
     match &assumption.0 {

@@ -1,7 +1,7 @@
 //! The depth test over two constants, and over the value trees that they are.
 ghost use Rattle.std.specs.Prelude.{◌↔◌, IsTrue, IsFalse};
 ghost use Rattle.relation_terms.specs.Trees.{known, list_tree};
-ghost use Rattle.relation_folds.specs.Clashes.{Clash};
+ghost use Rattle.relation_tools.specs.Pairs.{ClashAs};
 
 use crate::fast_reject::forms::{Sides, is_flexible_const};
 use relation_terms::terms::{Const, ConstKind, Interner, ValTree, ValTreeKind};
@@ -17,8 +17,7 @@ pub fn consts_may_unify<I: Interner>(
 ) -> bool
     requires lhs_known { IsTrue (known ((I.meaning cx.now).const_ lhs.now)) }
     requires rhs_known { IsTrue (known ((I.meaning cx.now).const_ rhs.now)) }
-    ensures { IsFalse result ↔
-        Clash sides.left sides.right depth ((I.meaning cx.now).const_ lhs.now) ((I.meaning cx.now).const_ rhs.now) }
+    ensures { IsFalse result ↔ ClashAs sides depth (I.meaning cx.now).const_ lhs.now rhs.now }
 {
     if lhs == rhs {
         return true;
@@ -51,8 +50,7 @@ fn valtrees_may_unify<I: Interner>(
 ) -> bool
     requires lhs_known { IsTrue (known ((I.meaning cx.now).valtree lhs.now)) }
     requires rhs_known { IsTrue (known ((I.meaning cx.now).valtree rhs.now)) }
-    ensures { IsFalse result ↔
-        Clash sides.left sides.right depth ((I.meaning cx.now).valtree lhs.now) ((I.meaning cx.now).valtree rhs.now) }
+    ensures { IsFalse result ↔ ClashAs sides depth (I.meaning cx.now).valtree lhs.now rhs.now }
 {
     if lhs == rhs {
         return true;
@@ -84,8 +82,7 @@ fn branches_may_unify<I: Interner>(
 ) -> bool
     requires left_known { IsTrue (known (list_tree (I.meaning cx.now).const_ left.now)) }
     requires right_known { IsTrue (known (list_tree (I.meaning cx.now).const_ right.now)) }
-    ensures { IsFalse result ↔ Clash sides.left sides.right depth
-        (list_tree (I.meaning cx.now).const_ left.now) (list_tree (I.meaning cx.now).const_ right.now) }
+    ensures { IsFalse result ↔ ClashAs sides depth (list_tree (I.meaning cx.now).const_) left.now right.now }
 {
     for i in 0..left.len().min(right.len()) {
         if !consts_may_unify(cx, sides, &left[i], &right[i], depth) {

@@ -8,7 +8,7 @@ ghost use Rattle.relation_tools.specs.HeadKeys.{object_key as key_of_object};
 ghost use Rattle.relation_folds.specs.Clashes.{principal, inputs_count};
 ghost use Rattle.relation_terms.specs.Parts.{parts_of};
 ghost use Rattle.relation_tools.specs.declared.fast_reject.simplify.SimplifiedType.TheVariants.{Function};
-ghost use Rattle.relation_tools.specs.HeadKeys.{alias_key as key_of_alias, form_key as key_of_form, head_key};
+ghost use Rattle.relation_tools.specs.HeadKeys.{alias_key as key_of_alias, form_key as key_of_form, type_key};
 ghost use Rattle.relation_tools.specs.HeadKeys.{plain_type};
 ghost use Rattle.relation_folds.specs.Visits.{non_region_infer_stands};
 
@@ -239,8 +239,7 @@ pub fn simplify_type<I: Interner>(
     treat_params: TreatParams,
 ) -> Option<SimplifiedType<ItemOf<I>>>
     requires { IsTrue (known ((I.meaning cx.now).ty ty.now)) }
-    ensures { let m = I.meaning cx.now in numbered_key (λ d. m.id d.0) result ≡
-        head_key (m.tables).is_auto (m.tables).next_solver treat_params (m.ty ty.now) }
+    ensures { let m = I.meaning cx.now in numbered_key (λ d. m.id d.0) result ≡ type_key m treat_params ty.now }
 {
     let base = without_patterns(cx, *ty);
     let kind = cx.ty_kind(&base);

@@ -2,8 +2,7 @@
 ghost use Rattle.std.specs.Prelude.{◌↔◌, IsTrue, IsFalse};
 ghost use Rattle.relation_terms.specs.Trees.{known, list_tree};
 ghost use Rattle.relation_terms.specs.Meaning.{arg_tree};
-ghost use Rattle.relation_folds.specs.Clashes.{Clash};
-ghost use Rattle.relation_tools.specs.Pairs.{ClashIn, KnownPair};
+ghost use Rattle.relation_tools.specs.Pairs.{ClashAs, ClashIn, KnownPair};
 
 use crate::fast_reject::consts::consts_may_unify;
 use crate::fast_reject::forms::{Sides, depth_within, may_stand_for};
@@ -21,8 +20,7 @@ pub fn types_may_unify<I: Interner>(
 ) -> bool
     requires lhs_known { IsTrue (known ((I.meaning cx.now).ty lhs.now)) }
     requires rhs_known { IsTrue (known ((I.meaning cx.now).ty rhs.now)) }
-    ensures { IsFalse result ↔
-        Clash sides.left sides.right depth ((I.meaning cx.now).ty lhs.now) ((I.meaning cx.now).ty rhs.now) }
+    ensures { IsFalse result ↔ ClashAs sides depth (I.meaning cx.now).ty lhs.now rhs.now }
 {
     if lhs == rhs {
         return true;
@@ -78,8 +76,7 @@ fn tys_may_unify<I: Interner>(
 ) -> bool
     requires left_known { IsTrue (known (list_tree (I.meaning cx.now).ty left.now)) }
     requires right_known { IsTrue (known (list_tree (I.meaning cx.now).ty right.now)) }
-    ensures { IsFalse result ↔ Clash sides.left sides.right depth
-        (list_tree (I.meaning cx.now).ty left.now) (list_tree (I.meaning cx.now).ty right.now) }
+    ensures { IsFalse result ↔ ClashAs sides depth (list_tree (I.meaning cx.now).ty) left.now right.now }
 {
     for i in 0..left.len().min(right.len()) {
         if !types_may_unify(cx, sides, &left[i], &right[i], depth) {
@@ -100,8 +97,7 @@ fn arg_may_unify<I: Interner>(
 ) -> bool
     requires left_known { IsTrue (known (arg_tree (I.meaning cx.now) left.now)) }
     requires right_known { IsTrue (known (arg_tree (I.meaning cx.now) right.now)) }
-    ensures { IsFalse result ↔ Clash sides.left sides.right depth
-        (arg_tree (I.meaning cx.now) left.now) (arg_tree (I.meaning cx.now) right.now) }
+    ensures { IsFalse result ↔ ClashAs sides depth (arg_tree (I.meaning cx.now)) left.now right.now }
 {
     match left {
         GenericArgKind::Ty(lhs) => {
@@ -131,8 +127,7 @@ pub fn args_may_unify<I: Interner>(
 ) -> bool
     requires left_known { IsTrue (known (list_tree (arg_tree (I.meaning cx.now)) left.now)) }
     requires right_known { IsTrue (known (list_tree (arg_tree (I.meaning cx.now)) right.now)) }
-    ensures { IsFalse result ↔ Clash sides.left sides.right depth
-        (list_tree (arg_tree (I.meaning cx.now)) left.now) (list_tree (arg_tree (I.meaning cx.now)) right.now) }
+    ensures { IsFalse result ↔ ClashAs sides depth (list_tree (arg_tree (I.meaning cx.now))) left.now right.now }
 {
     for i in 0..left.len().min(right.len()) {
         if !arg_may_unify(cx, sides, &left[i], &right[i], depth) {

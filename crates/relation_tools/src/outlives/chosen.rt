@@ -4,7 +4,7 @@ ghost use Rattle.relation_terms.specs.Trees.{Tree, known};
 ghost use Rattle.relation_terms.specs.Meaning.{alias_id as id_of};
 ghost use Rattle.relation_terms.specs.Parts.{part_tree};
 ghost use Rattle.relation_tools.specs.Components.{takes, alias_choice};
-ghost use Rattle.relation_tools.specs.Collecting.{behind_all, meant};
+ghost use Rattle.relation_tools.specs.Collecting.{behind_all, takes_part};
 ghost use Rattle.relation_tools.specs.declared.outlives.chosen.Chosen.TheVariants.{NotBivariant};
 
 use relation_terms::terms::{AliasTyKind, DefId, Interner, Part, PartOf, Variance};
@@ -35,8 +35,7 @@ pub fn alias_chosen<D: Copy>(kind: &AliasTyKind<D>) -> Chosen<D>
 /// Whether the member at a place is gone into. The interner has to know it.
 pub fn is_chosen<I: Interner>(cx: &I, chosen: &Chosen<I::Id>, i: usize, part: &PartOf<I>) -> bool
     requires { IsTrue (known (part_tree (I.meaning cx.now) part.now)) }
-    ensures { (ts : Tree) → result ≡
-        takes (behind_all i (meant (I.meaning cx.now) chosen.now)) (part_tree (I.meaning cx.now) part.now) ts }
+    ensures { (ts : Tree) → result ≡ takes_part (I.meaning cx.now) chosen.now i part.now ts }
 {
     match chosen {
         Chosen::Every => true,

@@ -4,11 +4,11 @@ ghost use Rattle.relation_terms.specs.Trees.{known, size, count};
 ghost use Rattle.relation_terms.specs.Meaning.{kind_tree};
 ghost use Rattle.relation_terms.specs.Parts.{part_tree, parts_tree};
 ghost use Rattle.relation_terms.specs.declared.terms.ty_kind.TyKind.TheVariants.{Alias as AliasForm};
-ghost use Rattle.relation_tools.specs.Components.{every, last_types, components, inside_alias};
+ghost use Rattle.relation_tools.specs.Components.{last_types, components};
 ghost use Rattle.relation_folds.specs.Visits.{bound_var_escapes};
 ghost use Rattle.relation_tools.specs.Outliving.{AddsSome, HasAll};
 ghost use Rattle.relation_tools.specs.Collecting.{meant, of_member, kept_of, found_components, found_size};
-ghost use Rattle.relation_tools.specs.Collecting.{Settled, Meets, Keeps};
+ghost use Rattle.relation_tools.specs.Collecting.{Ready, Settled, Meets, Keeps, AddsFrom, HasAllOf, arg_components};
 
 use crate::keeping::keep;
 use crate::outlives::chosen::{Chosen, alias_chosen, is_chosen};
@@ -56,10 +56,8 @@ fn collect_region<I: Interner>(
     out: &mut Vec<ComponentOf<I>>,
 ) -> Result<(), OutOfMemory>
     requires { IsTrue (known ((I.meaning cx.now).region region.now)) }
-    ensures some { AddsSome (I.meaning cx.now) (components every ((I.meaning cx.now).region region.now))
-        out.old.items out.new.items }
-    ensures all { OnOk result (HasAll (I.meaning cx.now) (components every ((I.meaning cx.now).region region.now))
-        out.new.items) }
+    ensures some { AddsFrom (I.meaning cx.now) ((I.meaning cx.now).region region.now) out.old.items out.new.items }
+    ensures all { OnOk result (HasAllOf (I.meaning cx.now) ((I.meaning cx.now).region region.now) out.new.items) }
 {
     match cx.region_kind(region) {
         RegionKind::ReBound(..) => Ok(()),
@@ -76,12 +74,9 @@ pub fn collect_part<I: Interner>(
     visited: &mut Met<I>,
 ) -> Result<(), OutOfMemory>
     requires known { IsTrue (known (part_tree (I.meaning cx.now) part.now)) }
-    requires settled { Settled (I.meaning cx.now) ⟦<GenericArgKind<I::Key> as PartialEq>⟧.eq
-        (suc (size (part_tree (I.meaning cx.now) part.now))) visited.old.keys out.old.items }
-    ensures some { AddsSome (I.meaning cx.now) (components every (part_tree (I.meaning cx.now) part.now))
-        out.old.items out.new.items }
-    ensures all { OnOk result (HasAll (I.meaning cx.now) (components every (part_tree (I.meaning cx.now) part.now))
-        out.new.items) }
+    requires settled { Ready I.meaning cx.now ⟦<GenericArgKind<I::Key> as PartialEq>⟧.eq part.now visited.old out.old }
+    ensures some { AddsFrom (I.meaning cx.now) (part_tree (I.meaning cx.now) part.now) out.old.items out.new.items }
+    ensures all { OnOk result (HasAllOf (I.meaning cx.now) (part_tree (I.meaning cx.now) part.now) out.new.items) }
     ensures meets { OnOk result (Meets (I.meaning cx.now) ⟦<GenericArgKind<I::Key> as PartialEq>⟧.eq
         visited.old.keys visited.new.keys out.new.items) }
 {
@@ -109,10 +104,8 @@ fn collect_type<I: Interner>(
     requires known { IsTrue (known ((I.meaning cx.now).ty ty.now)) }
     requires settled { Settled (I.meaning cx.now) ⟦<GenericArgKind<I::Key> as PartialEq>⟧.eq
         (suc (size ((I.meaning cx.now).ty ty.now))) visited.old.keys out.old.items }
-    ensures some { AddsSome (I.meaning cx.now) (components every ((I.meaning cx.now).ty ty.now))
-        out.old.items out.new.items }
-    ensures all { OnOk result (HasAll (I.meaning cx.now) (components every ((I.meaning cx.now).ty ty.now))
-        out.new.items) }
+    ensures some { AddsFrom (I.meaning cx.now) ((I.meaning cx.now).ty ty.now) out.old.items out.new.items }
+    ensures all { OnOk result (HasAllOf (I.meaning cx.now) ((I.meaning cx.now).ty ty.now) out.new.items) }
     ensures meets { OnOk result (Meets (I.meaning cx.now) ⟦<GenericArgKind<I::Key> as PartialEq>⟧.eq
         visited.old.keys visited.new.keys out.new.items) }
 {
@@ -134,10 +127,8 @@ fn collect_tys<I: Interner>(
     requires known { IsTrue (known ((I.meaning cx.now).tys tys.now)) }
     requires settled { Settled (I.meaning cx.now) ⟦<GenericArgKind<I::Key> as PartialEq>⟧.eq
         (size ((I.meaning cx.now).tys tys.now)) visited.old.keys out.old.items }
-    ensures some { AddsSome (I.meaning cx.now) (components every ((I.meaning cx.now).tys tys.now))
-        out.old.items out.new.items }
-    ensures all { OnOk result (HasAll (I.meaning cx.now) (components every ((I.meaning cx.now).tys tys.now))
-        out.new.items) }
+    ensures some { AddsFrom (I.meaning cx.now) ((I.meaning cx.now).tys tys.now) out.old.items out.new.items }
+    ensures all { OnOk result (HasAllOf (I.meaning cx.now) ((I.meaning cx.now).tys tys.now) out.new.items) }
     ensures meets { OnOk result (Meets (I.meaning cx.now) ⟦<GenericArgKind<I::Key> as PartialEq>⟧.eq
         visited.old.keys visited.new.keys out.new.items) }
 {
@@ -285,10 +276,8 @@ fn collect_ty<I: Interner>(
     requires known { IsTrue (known ((I.meaning cx.now).ty ty.now)) }
     requires settled { Settled (I.meaning cx.now) ⟦<GenericArgKind<I::Key> as PartialEq>⟧.eq
         (size ((I.meaning cx.now).ty ty.now)) visited.old.keys out.old.items }
-    ensures some { AddsSome (I.meaning cx.now) (components every ((I.meaning cx.now).ty ty.now))
-        out.old.items out.new.items }
-    ensures all { OnOk result (HasAll (I.meaning cx.now) (components every ((I.meaning cx.now).ty ty.now))
-        out.new.items) }
+    ensures some { AddsFrom (I.meaning cx.now) ((I.meaning cx.now).ty ty.now) out.old.items out.new.items }
+    ensures all { OnOk result (HasAllOf (I.meaning cx.now) ((I.meaning cx.now).ty ty.now) out.new.items) }
     ensures meets { OnOk result (Meets (I.meaning cx.now) ⟦<GenericArgKind<I::Key> as PartialEq>⟧.eq
         visited.old.keys visited.new.keys out.new.items) }
 {
@@ -316,10 +305,8 @@ fn collect_form<I: Interner>(
     requires known { IsTrue (known ((I.meaning cx.now).ty ty.now)) }
     requires settled { Settled (I.meaning cx.now) ⟦<GenericArgKind<I::Key> as PartialEq>⟧.eq
         (size ((I.meaning cx.now).ty ty.now)) visited.old.keys out.old.items }
-    ensures some { AddsSome (I.meaning cx.now) (components every ((I.meaning cx.now).ty ty.now))
-        out.old.items out.new.items }
-    ensures all { OnOk result (HasAll (I.meaning cx.now) (components every ((I.meaning cx.now).ty ty.now))
-        out.new.items) }
+    ensures some { AddsFrom (I.meaning cx.now) ((I.meaning cx.now).ty ty.now) out.old.items out.new.items }
+    ensures all { OnOk result (HasAllOf (I.meaning cx.now) ((I.meaning cx.now).ty ty.now) out.new.items) }
     ensures meets { OnOk result (Meets (I.meaning cx.now) ⟦<GenericArgKind<I::Key> as PartialEq>⟧.eq
         visited.old.keys visited.new.keys out.new.items) }
 {
@@ -368,12 +355,8 @@ pub fn collect_alias_args<I: Interner>(
     out: &mut Vec<ComponentOf<I>>,
 ) -> Result<(), OutOfMemory>
     requires { IsTrue (known ((I.meaning cx.now).args (alias.now).args)) }
-    ensures some { AddsSome (I.meaning cx.now)
-        (inside_alias (I.meaning cx.now).alias_variances (kind_tree (I.meaning cx.now) (AliasForm alias.now)))
-        out.old.items out.new.items }
-    ensures all { OnOk result (HasAll (I.meaning cx.now)
-        (inside_alias (I.meaning cx.now).alias_variances (kind_tree (I.meaning cx.now) (AliasForm alias.now)))
-        out.new.items) }
+    ensures some { let m = I.meaning cx.now in AddsSome m (arg_components m alias.now) out.old.items out.new.items }
+    ensures all { let m = I.meaning cx.now in OnOk result (HasAll m (arg_components m alias.now) out.new.items) }
 {
     let mut visited = none_met(cx);
     let chosen = alias_chosen(&alias.kind);

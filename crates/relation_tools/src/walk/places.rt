@@ -4,8 +4,8 @@
 ghost use Rattle.std.specs.Prelude.{IsTrue, OnOk};
 ghost use Rattle.relation_terms.specs.Trees.{known};
 ghost use Rattle.relation_terms.specs.Parts.{part_tree, parts_tree};
-ghost use Rattle.relation_tools.specs.Places.{places, places_under, Pushes};
-ghost use Rattle.std.specs.Prelude.{false, true};
+ghost use Rattle.relation_tools.specs.Places.{places, places_under, Pushes, PushesPlaces};
+ghost use Rattle.std.specs.Prelude.{true};
 
 use crate::walk::stack::Stack;
 use relation_terms::terms::parts::{member, member_count, parts_of, ty_parts};
@@ -22,8 +22,7 @@ fn push_part<I: Interner>(
     stack: &mut Stack<GenericArg<I>>,
 ) -> Result<(), OutOfMemory>
     requires { IsTrue (known (part_tree (I.meaning cx.now) part.now)) }
-    ensures { OnOk result (Pushes (I.meaning cx.now) (places false (part_tree (I.meaning cx.now) part.now))
-        stack.old stack.new) }
+    ensures { let m = I.meaning cx.now in OnOk result (PushesPlaces m (part_tree m part.now) stack.old stack.new) }
 {
     match part {
         Part::Region(region) => stack.push(GenericArgKind::Lifetime(*region))?,
@@ -44,8 +43,7 @@ fn push_pat<I: Interner>(
     stack: &mut Stack<GenericArg<I>>,
 ) -> Result<(), OutOfMemory>
     requires { IsTrue (known ((I.meaning cx.now).pat pat.now)) }
-    ensures { OnOk result (Pushes (I.meaning cx.now) (places false ((I.meaning cx.now).pat pat.now))
-        stack.old stack.new) }
+    ensures { let m = I.meaning cx.now in OnOk result (PushesPlaces m (m.pat pat.now) stack.old stack.new) }
 {
     let kind = cx.pat_kind(pat);
     match &kind {
@@ -69,8 +67,7 @@ pub fn push_list<I: Interner>(
     stack: &mut Stack<GenericArg<I>>,
 ) -> Result<(), OutOfMemory>
     requires { IsTrue (known (parts_tree (I.meaning cx.now) parts.now)) }
-    ensures { OnOk result (Pushes (I.meaning cx.now) (places false (parts_tree (I.meaning cx.now) parts.now))
-        stack.old stack.new) }
+    ensures { let m = I.meaning cx.now in OnOk result (PushesPlaces m (parts_tree m parts.now) stack.old stack.new) }
 {
     let count = member_count(cx, parts);
     for i in 0..count {
@@ -104,8 +101,7 @@ pub fn push_under_ty<I: Interner>(
     stack: &mut Stack<GenericArg<I>>,
 ) -> Result<(), OutOfMemory>
     requires { IsTrue (known ((I.meaning cx.now).ty ty.now)) }
-    ensures { OnOk result (Pushes (I.meaning cx.now) (places_under ((I.meaning cx.now).ty ty.now))
-        stack.old stack.new) }
+    ensures { let m = I.meaning cx.now in OnOk result (Pushes m (places_under (m.ty ty.now)) stack.old stack.new) }
 {
     let kind = cx.ty_kind(ty);
     match &kind {
@@ -128,8 +124,7 @@ fn push_under_form<I: Interner>(
     stack: &mut Stack<GenericArg<I>>,
 ) -> Result<(), OutOfMemory>
     requires { IsTrue (known ((I.meaning cx.now).ty ty.now)) }
-    ensures { OnOk result (Pushes (I.meaning cx.now) (places_under ((I.meaning cx.now).ty ty.now))
-        stack.old stack.new) }
+    ensures { let m = I.meaning cx.now in OnOk result (Pushes m (places_under (m.ty ty.now)) stack.old stack.new) }
 {
     push_list(cx, &ty_parts(&cx.ty_kind(ty)), stack)
 }
@@ -141,8 +136,7 @@ fn push_tys<I: Interner>(
     stack: &mut Stack<GenericArg<I>>,
 ) -> Result<(), OutOfMemory>
     requires { IsTrue (known ((I.meaning cx.now).tys tys.now)) }
-    ensures { OnOk result (Pushes (I.meaning cx.now) (places false ((I.meaning cx.now).tys tys.now))
-        stack.old stack.new) }
+    ensures { let m = I.meaning cx.now in OnOk result (PushesPlaces m (m.tys tys.now) stack.old stack.new) }
 {
     let list = cx.tys(tys);
     let count = list.len();

@@ -52,8 +52,7 @@ impl<T: Drop> Stack<T> {
     /// Takes the top element off.
     #[inline(always)]
     pub fn pop(&mut self) -> Option<T>
-        ensures { MatchOption result ((self.old ≡ []) × (self.new ≡ []))
-            (λ item. self.old ≡ item ∷ self.new) }
+        ensures { MatchOption result ((self.old ≡ []) × (self.new ≡ [])) (λ item. self.old ≡ item ∷ self.new) }
     {
         self.places.pop().flatten()
     }
