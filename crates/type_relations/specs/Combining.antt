@@ -13,6 +13,7 @@ use Rattle.relation_contexts.specs.declared.relate.Step.{Step}
 use Rattle.relation_contexts.specs.declared.relate.Step.TheVariants.{Done, Parts, Again}
 use Rattle.relation_contexts.specs.Contexts.{Context}
 use Rattle.relation_contexts.specs.ContextCalls.{Instantiated, Reads}
+use Rattle.relation_contexts.specs.Lawful.{State}
 use Rattle.type_relations.specs.NumberVars.{IsNoNumberVar}
 use Rattle.relation_contexts.specs.Parts.{IsFormedConst}
 use Rattle.relation_contexts.specs.Resolving.{IsShallowConst}
@@ -112,3 +113,25 @@ module _ {Key Id Name : Type 0} where
       one_constant : m.const_ a ≡ m.const_ b → n ≡ m → after ≡ before → result ≡ Ok (Done a) → CombinesConsts a b result
       resolved_first : (x y : ConstKey Key) → m.const_ a ≢ m.const_ b → ReadsShallow a x → ReadsShallow b y →
           CombinesShallow x y result → CombinesConsts a b result
+
+-- Between what a context is before a call and after it.
+module _ {Key Id Name : Type 0} (c d : Context Key Id Name) where
+  -- What comes of two types there, of two constants, and of two constants that were resolved shallowly.
+  abbrev pub TysMeet : TyKey Key → TyKey Key → Result (Step (TyKey Key)) (RelateFault Key Id Name) → Type 0
+  TysMeet a b result = CombinesTys c.meaning c.store d.store a b result
+
+  abbrev pub ConstsMeet : ConstKey Key → ConstKey Key → Result (Step (ConstKey Key)) (RelateFault Key Id Name) → Type 0
+  ConstsMeet a b result = CombinesConsts c.meaning d.meaning c.store d.store a b result
+
+  abbrev pub ShallowMeet : ConstKey Key → ConstKey Key → Result (Step (ConstKey Key)) (RelateFault Key Id Name) → Type 0
+  ShallowMeet a b result = CombinesShallow c.meaning d.meaning c.store d.store a b result
+
+-- The same between two states of a relation.
+module _ {Key Id Name : Type 0} (r q : State Key Id Name) where
+  -- What comes of two types in a relation, and of two constants.
+  abbrev pub TysCombine : TyKey Key → TyKey Key → Result (Step (TyKey Key)) (RelateFault Key Id Name) → Type 0
+  TysCombine a b result = CombinesTys r.meaning r.store q.store a b result
+
+  abbrev pub ConstsCombine : ConstKey Key → ConstKey Key → Result (Step (ConstKey Key)) (RelateFault Key Id Name) →
+      Type 0
+  ConstsCombine a b result = CombinesConsts r.meaning q.meaning r.store q.store a b result

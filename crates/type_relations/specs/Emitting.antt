@@ -1,11 +1,16 @@
 -- What contracts see of a relation that registers goals, over a context.
-use Rattle.std.specs.Prelude.{◌≡◌, List, ◌++◌, map, IsTrue, Result, Ok, Err}
+use Rattle.std.specs.Prelude.{◌≡◌, Bool, List, ◌++◌, map, IsTrue, IfSome, IfOk, Result, Ok, Err}
+use Rattle.relation_terms.specs.declared.terms.enums.Variance.{Variance}
 use Rattle.relation_terms.specs.declared.terms.keys.PredicateKey.{PredicateKey}
+use Rattle.relation_terms.specs.declared.terms.keys.RegionKey.{RegionKey}
+use Rattle.relation_terms.specs.declared.terms.keys.TyKey.{TyKey}
 use Rattle.relation_terms.specs.Meaning.{Meaning}
 use Rattle.relation_terms.specs.Trees.{known}
 use Rattle.relation_contexts.specs.Contexts.{Context}
-use Rattle.relation_contexts.specs.Goals.{Goal, goal_of}
+use Rattle.relation_contexts.specs.Constraints.{constraint_at, constraint_of}
+use Rattle.relation_contexts.specs.Goals.{Goal, goal_of, subtype_predicate, well_formed_predicate}
 use Rattle.relation_contexts.specs.Lawful.{State}
+use Rattle.relation_contexts.specs.Steps.{AddsConstraint}
 
 -- The goals that there are after others were put behind them, or were not, where a growth was refused.
 abbrev pub with_goals : {A F : Type 0} → List Goal → List Goal → Result A F → List Goal
@@ -49,3 +54,18 @@ module _ {Key Id Name : Type 0} where
     pub settings : q.settings ≡ r.settings
     pub reference : q.reference ≡ r.reference
     pub lawful : r.lawful → q.lawful
+
+-- Between what a context is before a call and after it.
+module _ {Key Id Name : Type 0} (c d : Context Key Id Name) where
+  -- What two regions that are related at a variance are asked for was recorded.
+  abbrev pub AddsAsked : Variance → RegionKey Key → RegionKey Key → Type 0
+  AddsAsked v a b = IfSome (constraint_at v a b) (λ q. AddsConstraint c.store d.store (constraint_of c.meaning q))
+
+  -- The predicate that a type is a subtype of another was made, or that a type is well formed; or none was.
+  abbrev pub MakesSubtype : {E : Type 0} → Bool → TyKey Key → TyKey Key → Result (PredicateKey Key) E → Type 0
+  MakesSubtype a_is_expected a b result = IfOk result (λ p.
+      (d.meaning).predicate p ≡ subtype_predicate a_is_expected ((c.meaning).ty a) ((c.meaning).ty b))
+
+  abbrev pub MakesWellFormed : {E : Type 0} → TyKey Key → Result (PredicateKey Key) E → Type 0
+  MakesWellFormed t result =
+      IfOk result (λ p. (d.meaning).predicate p ≡ well_formed_predicate ((c.meaning).ty t))

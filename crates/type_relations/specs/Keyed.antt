@@ -1,6 +1,7 @@
 -- What is asked and promised of the keys of a relation's terms, at its ambient variance where no other is named.
-use Rattle.std.specs.Prelude.{◌≡◌, ℕ, List, ◌++◌, IsTrue, Result, IfOk}
+use Rattle.std.specs.Prelude.{◌≡◌, ◌≢◌, ℕ, List, ◌++◌, IsTrue, Result, IfOk}
 use Rattle.relation_terms.specs.declared.terms.enums.Variance.{Variance}
+use Rattle.relation_terms.specs.declared.terms.enums.Variance.TheVariants.{Bivariant}
 use Rattle.relation_terms.specs.declared.terms.ids.DefId.{DefId}
 use Rattle.relation_terms.specs.declared.terms.keys.TyKey.{TyKey}
 use Rattle.relation_terms.specs.declared.terms.keys.RegionKey.{RegionKey}
@@ -10,7 +11,7 @@ use Rattle.relation_terms.specs.declared.terms.keys.PatKey.{PatKey}
 use Rattle.relation_terms.specs.declared.terms.part_kind.Part.{Part}
 use Rattle.relation_terms.specs.declared.terms.generic_arg.GenericArgKind.{GenericArgKind}
 use Rattle.relation_terms.specs.Heads.{Head, adt}
-use Rattle.relation_terms.specs.Trees.{node, known, count}
+use Rattle.relation_terms.specs.Trees.{node, known, count, list_tree}
 use Rattle.relation_terms.specs.Meaning.{Meaning, arg_tree}
 use Rattle.relation_terms.specs.Parts.{part_tree}
 use Rattle.relation_terms.specs.Variances.{xform}
@@ -20,7 +21,8 @@ use Rattle.type_relations.specs.Arguments.{AreOverItem}
 use Rattle.relation_contexts.specs.Constraints.{constraint_at, asked_constraints}
 use Rattle.relation_contexts.specs.Goals.{Relates}
 use Rattle.relation_contexts.specs.Lawful.{State, Manners, Asked, Related, Stepped, items_in}
-use Rattle.relation_contexts.specs.Parts.{IsFormed, IsFormedConst, head_of}
+use Rattle.relation_contexts.specs.Making.{Made, over, const_over}
+use Rattle.relation_contexts.specs.Parts.{IsFormed, IsFormedConst, head_of, const_head_of}
 use Rattle.relation_contexts.specs.Relation.{part_at}
 use Rattle.type_relations.specs.Subtyping.{RegistersSubtype, StepRegistersSubtype}
 
@@ -32,6 +34,18 @@ module _ {Key Id Name : Type 0} where
   -- The variance of the part at a place of a form that is related at the ambient variance.
   abbrev pub part_in : State Key Id Name → Head → ℕ → Variance
   part_in r h i = part_at (items_in r) h i r.ambient
+
+  -- The same of a constant's part.
+  abbrev pub const_part_in : State Key Id Name → ConstKey Key → ℕ → Variance
+  const_part_in r c i = part_in r (const_head_of ((r.meaning).const_ c)) i
+
+  -- The variance that an item declares of its parameter at a place.
+  abbrev pub declared_in : State Key Id Name → DefId Id → ℕ → Variance
+  declared_in r d i = (items_in r).declared ((r.meaning).id d.0) i
+
+  -- The ambient variance is one at which something is asked.
+  abbrev pub Decides : State Key Id Name → Type 0
+  Decides r = r.ambient ≢ Bivariant
 
   -- The form of a type over an item, in what its interner knows.
   abbrev pub over_item : DefId Id → Meaning Key Id Name → Head
@@ -166,6 +180,20 @@ module _ {Key Id Name : Type 0} where
       Meaning Key Id Name → Result (TyKey Key) E → Type 0
   IsMadeOver r form m args n result = IfOk result (λ k. IsTrue (known (n.ty k)) ×
       (n.ty k ≡ node (head_of ((r.meaning).ty form)) (m.args args)))
+
+  -- A known type, constant or part of that one's form over these parts was made, between two meanings; or none was.
+  abbrev pub MakesTyOver : {E : Type 0} → Meaning Key Id Name → Meaning Key Id Name → TyKey Key →
+      List (GenericArgKind Key) → Result (TyKey Key) E → Type 0
+  MakesTyOver m n t parts result = Made m n n.ty (over (m.ty t) (list_tree (arg_tree m) parts)) result
+
+  abbrev pub MakesConstOver : {E : Type 0} → Meaning Key Id Name → Meaning Key Id Name → ConstKey Key →
+      List (GenericArgKind Key) → Result (ConstKey Key) E → Type 0
+  MakesConstOver m n c parts result = Made m n n.const_ (const_over (m.const_ c) (list_tree (arg_tree m) parts)) result
+
+  abbrev pub MakesPartOver : {E : Type 0} → Meaning Key Id Name → Meaning Key Id Name → Part Key Id →
+      List (Part Key Id) → Result (Part Key Id) E → Type 0
+  MakesPartOver m n t parts result =
+      Made m n (part_tree n) (over (part_tree m t) (list_tree (part_tree m) parts)) result
 
   -- Where the relation promises it, of two regions just what their variance asks for was recorded.
   abbrev pub RecordsAsked : Manners → State Key Id Name → State Key Id Name → RegionKey Key → RegionKey Key → Type 0

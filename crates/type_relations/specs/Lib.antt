@@ -17,6 +17,9 @@ pub mod Solving
 pub mod Bivariance
 pub mod Emitting
 pub mod Combining
+pub mod SolverTerms
+pub mod Comparing
+pub mod Variables
 pub use Rattle.relation_contexts.specs.Relation
 pub use Rattle.relation_contexts.specs.Stores
 pub use Rattle.relation_contexts.specs.Goals

@@ -1,5 +1,6 @@
 -- Integer and float variables together.
 use Rattle.std.specs.Prelude.{◌≡◌, ◌≢◌, ℕ}
+use Rattle.relation_terms.specs.declared.terms.keys.TyKey.{TyKey}
 use Rattle.relation_terms.specs.Heads.{VarKind, int_var, float_var, variable}
 use Rattle.relation_terms.specs.Trees.{Tree, leaf}
 use Rattle.relation_terms.specs.declared.terms.ty_kind.TyKind.{TyKind}
@@ -10,6 +11,9 @@ use Rattle.relation_terms.specs.declared.terms.ty_kind.IntVarValue.{IntVarValue}
 use Rattle.relation_terms.specs.declared.terms.ty_kind.IntVarValue.TheVariants.{Unknown, IntType, UintType}
 use Rattle.relation_terms.specs.declared.terms.ty_kind.FloatVarValue.{FloatVarValue}
 use Rattle.relation_terms.specs.declared.terms.ty_kind.FloatVarValue.TheVariants.{Unknown as UnknownFloat, Known}
+use Rattle.relation_contexts.specs.Contexts.{Context}
+use Rattle.relation_contexts.specs.ContextCalls.{EquatesTwo, BindsNumber}
+use Rattle.relation_contexts.specs.Steps.{IsNumberFor}
 use Rattle.type_relations.specs.declared.relate.number_vars.NumberVid.{NumberVid}
 use Rattle.type_relations.specs.declared.relate.number_vars.NumberVid.TheVariants as vid
 
@@ -42,3 +46,15 @@ IsIntValue k (UintType w) = k ≡ Uint w
 abbrev pub IsFloatValue : {Key Id Name : Type 0} → TyKind Key Id Name → FloatVarValue → Type 0
 IsFloatValue k UnknownFloat = ⊥
 IsFloatValue k (Known w) = k ≡ Float w
+
+module _ {Key Id Name : Type 0} where
+  -- A number variable may stand for a type.
+  abbrev pub FitsNumber : Context Key Id Name → NumberVid → TyKey Key → Type 0
+  FitsNumber c v t = IsNumberFor (number_kind v) ((c.meaning).ty t)
+
+  -- Two number variables, of the kind of the first, were made one; and one was bound to a type.
+  abbrev pub EquatesNumbers : Context Key Id Name → Context Key Id Name → NumberVid → NumberVid → Type 0
+  EquatesNumbers c d a b = EquatesTwo c d (number_kind a) (number_of a) (number_of b)
+
+  abbrev pub BindsNumberTo : Context Key Id Name → Context Key Id Name → NumberVid → TyKey Key → Type 0
+  BindsNumberTo c d v t = BindsNumber c d (number_kind v) (number_of v) ((c.meaning).ty t)

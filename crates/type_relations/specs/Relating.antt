@@ -24,7 +24,7 @@ use Rattle.relation_contexts.specs.Errors.{ErrorOf}
 use Rattle.relation_contexts.specs.Covered.{IsCovered}
 use Rattle.relation_contexts.specs.Lawful.{items_of}
 use Rattle.type_relations.specs.Arguments.{related_tree}
-use Rattle.relation_contexts.specs.Contexts.{Context}
+use Rattle.relation_contexts.specs.Contexts.{Context, DoesNothing}
 use Rattle.type_relations.specs.Subtyping.{OfSubtype}
 
 -- What is related of a value in a context.
@@ -52,6 +52,12 @@ module _ {Key Id Name A : Type 0} (c : Context Key Id Name) (over : Option Head)
     AreOne a b = term_in c over tree a ≡ term_in c over tree b
 
 -- Between what a context is before the call and after it, which `state` shows.
+module _ {S Key Id Name : Type 0} (state : S → Context Key Id Name) (old new : S) where
+  -- No goal is answered, and nothing is recorded.
+  abbrev pub Idle : Result (Vec (Goal Key (PredicateKey Key))) (RelateFault Key Id Name) → Type 0
+  Idle result = DoesNothing (state old) (state new) result
+
+-- The same of two values.
 module _ {S Key Id Name A : Type 0} (state : S → Context Key Id Name) (old new : S) (over : Option Head)
     (tree : Meaning Key Id Name → A → Tree) where
   -- What is related of a value, as the context stood before.

@@ -1,14 +1,20 @@
 -- Opening two binders in rounds: which bodies each round leaves to be related.
-use Rattle.std.specs.Prelude.{◌≡◌, ◌≢◌, ◌⊎◌, ◌+◌, ◌<◌, ℕ, List, [], Option, Some, None, Result, Ok, Err}
+use Rattle.std.specs.Prelude.{◌≡◌, ◌≢◌, ◌⊎◌, ◌+◌, ◌<◌, ◌||◌, ℕ, Bool, List, [], Option, Some, None, Result, Ok, Err}
+use Rattle.relation_terms.specs.declared.terms.binder.Binder.{Binder}
 use Rattle.relation_terms.specs.declared.terms.enums.Variance.{Variance}
 use Rattle.relation_terms.specs.declared.terms.enums.Variance.TheVariants.{Invariant}
+use Rattle.relation_terms.specs.declared.terms.part_kind.Part.{Part}
 use Rattle.relation_terms.specs.Heads.{BoundKind}
 use Rattle.relation_terms.specs.Trees.{Tree, bind}
 use Rattle.relation_terms.specs.Meaning.{Meaning}
+use Rattle.relation_terms.specs.Parts.{part_tree}
 use Rattle.relation_folds.specs.declared.error.TypeError.{TypeError}
 use Rattle.relation_folds.specs.declared.error.RelateFault.{RelateFault}
+use Rattle.relation_folds.specs.Visits.{bound_var_escapes}
+use Rattle.relation_contexts.specs.Binders.{binder_tree, OpensBoth}
+use Rattle.relation_contexts.specs.Contexts.{Context}
 use Rattle.relation_contexts.specs.Relation.{Items, Way, at, second_opened, first_opened, StaysWithin}
-use Rattle.relation_contexts.specs.Stores.{Store, IsSound, weight}
+use Rattle.relation_contexts.specs.Stores.{Store, IsSound, IsTermIn, weight}
 use Rattle.relation_contexts.specs.Goals.{Goal}
 use Rattle.relation_contexts.specs.Steps.{IsLater}
 use Rattle.relation_contexts.specs.Outcomes.{StepsTo}
@@ -63,3 +69,36 @@ module _ {Key Id Name : Type 0} where
       (result : Result (Option (T × T)) (RelateFault Key Id Name)) : Type 0 where
     pub passes : Passes (weight r.store a + weight r.store b) r q
     pub verdict : RoundVerdict M r q passes.added round a b tree result
+
+  -- The same of two parts.
+  abbrev pub OpenedParts : Manners → State Key Id Name → State Key Id Name → ℕ → Part Key Id → Part Key Id →
+      Result (Option (Part Key Id × Part Key Id)) (RelateFault Key Id Name) → Type 0
+  OpenedParts M r q round a b result =
+      Opened M r q round (part_tree r.meaning a) (part_tree r.meaning b) (part_tree q.meaning) result
+
+-- Of binders whose bodies have these trees.
+module _ {Key Id Name T : Type 0} (tree : Meaning Key Id Name → T → Tree) where
+  -- Either body uses what its binder binds.
+  abbrev pub one_uses_bound : Meaning Key Id Name → Binder Key T → Binder Key T → Bool
+  one_uses_bound m a b = bound_var_escapes (tree m a.value) || bound_var_escapes (tree m b.value)
+
+  -- The variables in a binder are the context's, and nothing in it is of a later universe or escapes a binder.
+  abbrev pub HasBinder : Context Key Id Name → Binder Key T → Type 0
+  HasBinder c a = IsTermIn c.store (binder_tree tree c.meaning a)
+
+  -- Of two the one was entered, and then the other instantiated, in a context; or a growth was refused.
+  abbrev pub Opens : {F : Type 0} → Context Key Id Name → Context Key Id Name → Binder Key T → Binder Key T →
+      Result (T × T) F → Type 0
+  Opens c d a b result = OpensBoth c d tree (binder_tree tree c.meaning a) (binder_tree tree c.meaning b) result
+
+-- Of a relation's binders whose bodies have these trees.
+module _ {Key Id Name T : Type 0} (M : Manners) (tree : Meaning Key Id Name → T → Tree) where
+  -- Two that the relation takes at its ambient variance.
+  abbrev pub AskedBinders : State Key Id Name → Binder Key T → Binder Key T → Type 0
+  AskedBinders r a b = Asked M r r.ambient (binder_tree tree r.meaning a) (binder_tree tree r.meaning b)
+
+  -- A round of them was begun.
+  abbrev pub OpenedBinders : State Key Id Name → State Key Id Name → ℕ → Binder Key T → Binder Key T →
+      Result (Option (T × T)) (RelateFault Key Id Name) → Type 0
+  OpenedBinders r q round a b result = Opened M r q round (binder_tree tree r.meaning a)
+      (binder_tree tree r.meaning b) (tree q.meaning) result

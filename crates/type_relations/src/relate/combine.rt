@@ -5,7 +5,7 @@ ghost use Rattle.relation_terms.specs.Trees.{known, count, nth};
 ghost use Rattle.relation_terms.specs.Meaning.{arg_tree};
 ghost use Rattle.relation_terms.specs.declared.terms.enums.Variance.TheVariants.{Bivariant};
 ghost use Rattle.type_relations.specs.Bivariance.{is_left_open, TellsOpen, TellsEitherOpen, RegistersWellFormed};
-ghost use Rattle.type_relations.specs.Combining.{CombinesTys, CombinesConsts, IsNoTyVar};
+ghost use Rattle.type_relations.specs.Combining.{TysCombine, ConstsCombine, IsNoTyVar};
 ghost use Rattle.relation_contexts.specs.ContextCalls.{Grows};
 ghost use Rattle.type_relations.specs.Emitting.{AddsGoals, IsOver, WithContext, KnowsPredicate, goals_in};
 ghost use Rattle.relation_contexts.specs.Contexts.{KnowsTy};
@@ -285,8 +285,7 @@ pub fn super_combine_tys<Infcx: InferCtxtLike, R: PredicateEmittingRelation<Infc
     ensures stepped { let r = R.state relation.old in
         IsNoTyVar (r.meaning.ty a.now) → IsNoTyVar (r.meaning.ty b.now) →
         SteppedTys solver_manner r (R.state relation.new) a.now b.now result }
-    ensures combines { let r = R.state relation.old in
-        CombinesTys r.meaning r.store (R.state relation.new).store a.now b.now result }
+    ensures combines { TysCombine (R.state relation.old) (R.state relation.new) a.now b.now result }
     ensures registers_nothing { (R.state relation.new).goals ≡ (R.state relation.old).goals }
 {
     relation.context_grows();
@@ -313,8 +312,7 @@ pub fn super_combine_consts<Infcx: InferCtxtLike, R: PredicateEmittingRelation<I
     requires decides { (R.state relation.old).ambient ≢ Bivariant }
     requires asked { AskedConsts solver_manner (R.state relation.old) a.now b.now }
     ensures stepped { SteppedConsts solver_manner (R.state relation.old) (R.state relation.new) a.now b.now result }
-    ensures combines { let r = R.state relation.old in let q = R.state relation.new in
-        CombinesConsts r.meaning q.meaning r.store q.store a.now b.now result }
+    ensures combines { ConstsCombine (R.state relation.old) (R.state relation.new) a.now b.now result }
     ensures registers_nothing { (R.state relation.new).goals ≡ (R.state relation.old).goals }
 {
     relation.context_grows();

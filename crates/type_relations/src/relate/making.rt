@@ -7,7 +7,8 @@ ghost use Rattle.relation_terms.specs.Parts.{Fit as PartsFit};
 ghost use Rattle.relation_contexts.specs.Parts.{parts_of, const_parts_of, IsByParts};
 ghost use Rattle.relation_contexts.specs.Covered.{IsCovered};
 ghost use Rattle.relation_contexts.specs.Lawful.{WithMeaning, OnlyMemory};
-ghost use Rattle.relation_contexts.specs.Making.{Fit, over, const_over, Made};
+ghost use Rattle.relation_contexts.specs.Making.{Fit};
+ghost use Rattle.type_relations.specs.Keyed.{MakesTyOver, MakesConstOver, MakesPartOver};
 
 use crate::relate::TypeRelation;
 use crate::relate::parts::parts_in;
@@ -92,8 +93,7 @@ fn ty_with_parts<I: Interner>(
     requires ty_known { IsTrue (known ((I.meaning cx.old).ty ty.now)) }
     requires args_known { IsTrue (known (list_tree (arg_tree (I.meaning cx.old)) args.now)) }
     requires fits { Fit args.now (parts_of ((I.meaning cx.old).ty ty.now)) }
-    ensures { let m = I.meaning cx.old in let n = I.meaning cx.new in
-        Made m n n.ty (over (m.ty ty.now) (list_tree (arg_tree m) args.now)) result }
+    ensures { MakesTyOver (I.meaning cx.old) (I.meaning cx.new) ty.now args.now result }
 {
     if are_its_parts(cx, ty, args) {
         return Ok(*ty);
@@ -112,8 +112,7 @@ fn const_with_parts<I: Interner>(
     requires constant_known { IsTrue (known ((I.meaning cx.old).const_ constant.now)) }
     requires args_known { IsTrue (known (list_tree (arg_tree (I.meaning cx.old)) args.now)) }
     requires fits { Fit args.now (const_parts_of ((I.meaning cx.old).const_ constant.now)) }
-    ensures { let m = I.meaning cx.old in let n = I.meaning cx.new in
-        Made m n n.const_ (const_over (m.const_ constant.now) (list_tree (arg_tree m) args.now)) result }
+    ensures { MakesConstOver (I.meaning cx.old) (I.meaning cx.new) constant.now args.now result }
 {
     let parts = as_parts(args, cx.alloc())?;
     match cx.const_kind(constant) {
@@ -138,8 +137,7 @@ fn term_with_parts<I: Interner>(
     requires form { IsByParts (part_tree (I.meaning cx.old) term.now) }
     requires parts_known { IsTrue (known (list_tree (part_tree (I.meaning cx.old)) parts.now)) }
     requires fits { PartsFit parts.now (parts_of (part_tree (I.meaning cx.old) term.now)) }
-    ensures made { let m = I.meaning cx.old in let n = I.meaning cx.new in
-        Made m n (part_tree n) (over (part_tree m term.now) (list_tree (part_tree m) parts.now)) result }
+    ensures made { MakesPartOver (I.meaning cx.old) (I.meaning cx.new) term.now parts.now result }
     ensures sort { IfOk result (λ p. part_sort p ≡ part_sort term.now) }
 {
     with_parts(cx, term, parts)
@@ -158,8 +156,7 @@ pub(crate) fn make_ty<I: Interner, R: TypeRelation<I>>(
     requires fits { Fit parts.now (parts_of ((R.state r.old).meaning.ty ty.now)) }
     ensures grown { WithMeaning (R.state r.old) (R.state r.new).meaning (R.state r.new) }
     ensures fault { OnlyMemory result }
-    ensures made { let m = (R.state r.old).meaning in let n = (R.state r.new).meaning in
-        Made m n n.ty (over (m.ty ty.now) (list_tree (arg_tree m) parts.now)) result }
+    ensures made { MakesTyOver (R.state r.old).meaning (R.state r.new).meaning ty.now parts.now result }
 {
     r.interner_grows();
     let made = ty_with_parts(r.cx_mut(), ty, parts)?;
@@ -178,8 +175,7 @@ pub(crate) fn make_const<I: Interner, R: TypeRelation<I>>(
     requires fits { Fit parts.now (const_parts_of ((R.state r.old).meaning.const_ constant.now)) }
     ensures grown { WithMeaning (R.state r.old) (R.state r.new).meaning (R.state r.new) }
     ensures fault { OnlyMemory result }
-    ensures made { let m = (R.state r.old).meaning in let n = (R.state r.new).meaning in
-        Made m n n.const_ (const_over (m.const_ constant.now) (list_tree (arg_tree m) parts.now)) result }
+    ensures made { MakesConstOver (R.state r.old).meaning (R.state r.new).meaning constant.now parts.now result }
 {
     r.interner_grows();
     let made = const_with_parts(r.cx_mut(), constant, parts)?;
@@ -199,8 +195,7 @@ pub(crate) fn make_part<I: Interner, R: TypeRelation<I>>(
     requires fits { PartsFit parts.now (parts_of (part_tree (R.state r.old).meaning term.now)) }
     ensures grown { WithMeaning (R.state r.old) (R.state r.new).meaning (R.state r.new) }
     ensures fault { OnlyMemory result }
-    ensures made { let m = (R.state r.old).meaning in let n = (R.state r.new).meaning in
-        Made m n (part_tree n) (over (part_tree m term.now) (list_tree (part_tree m) parts.now)) result }
+    ensures made { MakesPartOver (R.state r.old).meaning (R.state r.new).meaning term.now parts.now result }
     ensures sort { IfOk result (λ p. part_sort p ≡ part_sort term.now) }
 {
     r.interner_grows();

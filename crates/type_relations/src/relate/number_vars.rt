@@ -5,10 +5,9 @@ ghost use Rattle.relation_terms.specs.declared.terms.ty_kind.InferTy.TheVariants
 ghost use Rattle.relation_folds.specs.declared.error.TypeError.TheVariants.{Sorts};
 ghost use Rattle.relation_folds.specs.declared.error.RelateFault.TheVariants.{Unrelated};
 ghost use Rattle.relation_contexts.specs.Contexts.{KnowsTy};
-ghost use Rattle.relation_contexts.specs.ContextCalls.{IsUnresolved, EquatesTwo, BindsNumber};
-ghost use Rattle.relation_contexts.specs.Steps.{IsNumberFor};
+ghost use Rattle.relation_contexts.specs.ContextCalls.{IsUnresolved};
 ghost use Rattle.type_relations.specs.NumberVars.{number_kind, number_of, number_tree, infer_of, IsNoNumberVar};
-ghost use Rattle.type_relations.specs.NumberVars.{IsIntValue, IsFloatValue};
+ghost use Rattle.type_relations.specs.NumberVars.{IsIntValue, IsFloatValue, FitsNumber, EquatesNumbers, BindsNumberTo};
 
 use relation_contexts::infer_ctxt::InferCtxtLike;
 use relation_folds::error::{ExpectedFound, RelateFault, RelateFaultOf, TypeError};
@@ -82,8 +81,7 @@ pub(crate) fn equate_numbers<Infcx: InferCtxtLike>(
     requires a_unresolved { IsUnresolved (Infcx.state infcx.old) (number_kind a) (number_of a) }
     requires b_unresolved { IsUnresolved (Infcx.state infcx.old) (number_kind b) (number_of b) }
     ensures one_kind { IsTrue result → number_kind b ≡ number_kind a }
-    ensures equates { IsTrue result →
-        EquatesTwo (Infcx.state infcx.old) (Infcx.state infcx.new) (number_kind a) (number_of a) (number_of b) }
+    ensures equates { IsTrue result → EquatesNumbers (Infcx.state infcx.old) (Infcx.state infcx.new) a b }
     ensures unlike { IsFalse result → number_kind b ≢ number_kind a }
     ensures refused { IsFalse result → infcx.new ≡ infcx.old }
 {
@@ -115,10 +113,8 @@ pub(crate) fn bind_number<Infcx: InferCtxtLike>(
     requires lawful { (Infcx.state infcx.old).lawful }
     requires unresolved { IsUnresolved (Infcx.state infcx.old) (number_kind var) (number_of var) }
     requires ty_known { KnowsTy (Infcx.state infcx.old) ty.now }
-    ensures binds { let t = ((Infcx.state infcx.old).meaning).ty ty.now in IsTrue result →
-        BindsNumber (Infcx.state infcx.old) (Infcx.state infcx.new) (number_kind var) (number_of var) t }
-    ensures unlike { let t = ((Infcx.state infcx.old).meaning).ty ty.now in
-        IsFalse result → IsNumberFor (number_kind var) t → ⊥ }
+    ensures binds { IsTrue result → BindsNumberTo (Infcx.state infcx.old) (Infcx.state infcx.new) var ty.now }
+    ensures unlike { IsFalse result → FitsNumber (Infcx.state infcx.old) var ty.now → ⊥ }
     ensures refused { IsFalse result → infcx.new ≡ infcx.old }
 {
     let kind = infcx.cx().ty_kind(ty);

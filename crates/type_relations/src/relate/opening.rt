@@ -5,7 +5,7 @@ ghost use Rattle.relation_terms.specs.Trees.{known};
 ghost use Rattle.relation_terms.specs.declared.terms.enums.Variance.TheVariants.{Bivariant};
 ghost use Rattle.type_relations.specs.Keyed.{AskedParts};
 ghost use Rattle.relation_contexts.specs.Parts.{IsBinderPart, IsRelatedPart, ArePaired};
-ghost use Rattle.type_relations.specs.Rounds.{Opened};
+ghost use Rattle.type_relations.specs.Rounds.{OpenedParts};
 
 use crate::relate::TypeRelation;
 use relation_folds::error::RelateResult;
@@ -42,8 +42,7 @@ pub(crate) fn open_bodies<I: Interner, R: TypeRelation<I>>(
     requires asked { AskedParts R.manner (R.state r.old) a.now b.now }
     requires binder { IsBinderPart a.now }
     requires one_sort { part_sort b.now ≡ part_sort a.now }
-    ensures opened { let m = (R.state r.old).meaning in Opened R.manner (R.state r.old) (R.state r.new) round
-        (part_tree m a.now) (part_tree m b.now) (part_tree (R.state r.new).meaning) result }
+    ensures opened { OpenedParts R.manner (R.state r.old) (R.state r.new) round a.now b.now result }
     ensures related { IfOk result (λ o. IfSome o (λ p. IsRelatedPart p.0)) }
     ensures paired { IfOk result (λ o. IfSome o (λ p. ArePaired p.0 p.1)) }
 {

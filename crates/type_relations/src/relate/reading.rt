@@ -6,12 +6,13 @@ ghost use Rattle.relation_terms.specs.Variances.{xform};
 ghost use Rattle.relation_terms.specs.Meaning.{arg_tree};
 ghost use Rattle.relation_terms.specs.Parts.{part_tree, part_sort};
 ghost use Rattle.relation_contexts.specs.Relation.{part_at, pointee_variance};
-ghost use Rattle.relation_contexts.specs.Errors.{FormError, ConstFormError, PartError, AreOfOneForm, AreOfOneConst};
+ghost use Rattle.relation_contexts.specs.Errors.{FormError, ConstFormError, AreOfOneForm, AreOfOneConst};
 ghost use Rattle.relation_contexts.specs.Parts.{IsFormedConst, IsByParts, IsComparedPart, parts_of, const_parts_of};
-ghost use Rattle.relation_contexts.specs.Parts.{head_of, const_head_of};
+ghost use Rattle.relation_contexts.specs.Parts.{head_of};
 ghost use Rattle.relation_contexts.specs.Covered.{IsCovered};
-ghost use Rattle.relation_contexts.specs.Lawful.{Noted, items_in};
-ghost use Rattle.type_relations.specs.Keyed.{AskedTys, RelatesTys, AreOver, part_in};
+ghost use Rattle.relation_contexts.specs.Lawful.{Noted};
+ghost use Rattle.type_relations.specs.Keyed.{AskedTys, RelatesTys, AreOver, part_in, const_part_in, declared_in};
+ghost use Rattle.type_relations.specs.Comparing.{AreOfOneFormBy, PartsDiffer, nth_part, nth_const_part};
 ghost use Rattle.type_relations.specs.Handing.{IsResultOfTy, IsResultOfConst, named_place};
 
 use crate::relate::comparing::{compare_consts, compare_members, compare_parts, compare_tys};
@@ -67,10 +68,8 @@ pub(crate) fn compare_parts_of<I: Interner, R: TypeRelation<I>>(
     requires b_known { IsTrue (known (part_tree (R.state r.now).meaning b.now)) }
     requires kind { IsComparedPart a.now }
     requires one_sort { part_sort b.now ≡ part_sort a.now }
-    ensures alike { let m = (R.state r.now).meaning in
-        OnOk result (AreOfOneForm (part_tree m a.now) (part_tree m b.now)) }
-    ensures errors { let m = (R.state r.now).meaning in
-        IfErr result (PartError m (part_tree m a.now) (part_tree m b.now)) }
+    ensures alike { OnOk result (AreOfOneFormBy part_tree (R.state r.now).meaning a.now b.now) }
+    ensures errors { IfErr result (PartsDiffer (R.state r.now).meaning a.now b.now) }
 {
     compare_parts(r.cx(), a, b)
 }
@@ -86,8 +85,7 @@ pub(crate) fn compare_members_of<I: Interner, R: TypeRelation<I>>(
     requires in_a { i < count (parts_of (part_tree (R.state r.now).meaning a.now)) }
     requires in_b { i < count (parts_of (part_tree (R.state r.now).meaning b.now)) }
     requires one_sort { part_sort b.now ≡ part_sort a.now }
-    ensures { let m = (R.state r.now).meaning in
-        IfErr result (PartError m (part_tree m a.now) (part_tree m b.now)) }
+    ensures { IfErr result (PartsDiffer (R.state r.now).meaning a.now b.now) }
 {
     compare_members(r.cx(), a, b, i)
 }
@@ -137,8 +135,7 @@ pub(crate) fn const_part_of<I: Interner, R: TypeRelation<I>>(
     requires constant_known { IsTrue (known ((R.state r.now).meaning.const_ constant.now)) }
     requires in_bounds { i < count (const_parts_of ((R.state r.now).meaning.const_ constant.now)) }
     ensures sure { IsTrue (known (arg_tree (R.state r.now).meaning result)) }
-    ensures means { let m = (R.state r.now).meaning in
-        arg_tree m result ≡ nth i (const_parts_of (m.const_ constant.now)) }
+    ensures means { let m = (R.state r.now).meaning in arg_tree m result ≡ nth_const_part m i constant.now }
 {
     const_part(r.cx(), constant, i)
 }
@@ -160,8 +157,7 @@ pub(crate) fn term_part_of<I: Interner, R: TypeRelation<I>>(
     requires form { IsByParts (part_tree (R.state r.now).meaning term.now) }
     requires in_bounds { i < count (parts_of (part_tree (R.state r.now).meaning term.now)) }
     ensures sure { IsTrue (known (part_tree (R.state r.now).meaning result)) }
-    ensures means { part_tree (R.state r.now).meaning result ≡
-        nth i (parts_of (part_tree (R.state r.now).meaning term.now)) }
+    ensures means { let m = (R.state r.now).meaning in part_tree m result ≡ nth_part m i term.now }
 {
     term_part(r.cx(), term, i)
 }
@@ -182,8 +178,7 @@ pub(crate) fn declared_at<I: Interner, R: TypeRelation<I>>(
     def_id: &ItemOf<I>,
     i: usize,
 ) -> Variance
-    ensures { let q = R.state r.now in
-        xform q.ambient result ≡ xform q.ambient ((items_in q).declared (q.meaning.id (def_id.now).0) i) }
+    ensures { let q = R.state r.now in xform q.ambient result ≡ xform q.ambient (declared_in q def_id.now i) }
 {
     let Some(variances) = r.item_variances(def_id) else {
         return Variance::Invariant;
@@ -220,8 +215,7 @@ pub(crate) fn const_variance_at<I: Interner, R: TypeRelation<I>>(
     constant: &Const<I>,
 ) -> Variance
     requires { IsTrue (known ((R.state r.now).meaning.const_ constant.now)) }
-    ensures { let q = R.state r.now in
-        (i : _) → xform q.ambient result ≡ part_in q (const_head_of (q.meaning.const_ constant.now)) i }
+    ensures { let q = R.state r.now in (i : _) → xform q.ambient result ≡ const_part_in q constant.now i }
 {
     match r.cx().const_kind(constant) {
         ConstKind::Expr(..) => Variance::Invariant,

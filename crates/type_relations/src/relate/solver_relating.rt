@@ -4,12 +4,11 @@ ghost use Rattle.relation_terms.specs.Meaning.{Extends};
 ghost use Rattle.relation_folds.specs.Faults.{KnowsFault, IfSpent};
 ghost use Rattle.relation_contexts.specs.Stores.{IsSound};
 ghost use Rattle.relation_contexts.specs.Steps.{IsLater, BindsItsOwn};
-ghost use Rattle.relation_contexts.specs.Contexts.{KnowsEnv, DoesNothing, SpendsByBinding, RegistersGoals};
-ghost use Rattle.relation_contexts.specs.Lawful.{Asked, Related};
-ghost use Rattle.type_relations.specs.Relating.{term_in, KnowsTerm, TakesTerm, HasTerm, AreOne, AnswersTerms};
+ghost use Rattle.relation_contexts.specs.Contexts.{KnowsEnv, SpendsByBinding, RegistersGoals};
+ghost use Rattle.type_relations.specs.Relating.{KnowsTerm, TakesTerm, HasTerm, AreOne, AnswersTerms};
 ghost use Rattle.type_relations.specs.Relating.{KeepsEqual, TellsApart, AnswersError, AnswersExactly, ProvesApart};
-ghost use Rattle.type_relations.specs.Relating.{AnswersSubtype, SpendsNoMore, MakesToRelate};
-ghost use Rattle.type_relations.specs.Subtyping.{RegistersSubtype};
+ghost use Rattle.type_relations.specs.Relating.{AnswersSubtype, SpendsNoMore, MakesToRelate, Idle};
+ghost use Rattle.type_relations.specs.Terms.{AskedTerms, RelatedTerms, TermsRegister};
 ghost use Rattle.type_relations.specs.Solving.{solving_in, solver_manner};
 
 mod emitting;
@@ -90,8 +89,7 @@ pub trait RelateExt: InferCtxtLike {
         ensures apart { TellsApart Self.state self.old self.new T.over T.tree lhs rhs result }
         ensures errors { AnswersError Self.state self.old self.new T.over T.tree variance lhs rhs result }
         ensures spent { IfSpent result ((Self.state self.new).store.budget ≡ 0) }
-        ensures same { AreOne (Self.state self.old) T.over T.tree lhs rhs →
-            DoesNothing (Self.state self.old) (Self.state self.new) result }
+        ensures same { AreOne (Self.state self.old) T.over T.tree lhs rhs → Idle Self.state self.old self.new result }
         ensures subtype { AnswersSubtype Self.state self.old self.new T.over T.tree param_env variance lhs rhs result }
         ensures goals { RegistersGoals (Self.state self.old) (Self.state self.new) param_env variance result }
         ensures exact { AnswersExactly Self.state self.old self.new T.over T.tree variance lhs rhs result }
@@ -131,8 +129,7 @@ impl<Infcx: InferCtxtLike> RelateExt for Infcx {
         ensures apart { TellsApart Infcx.state self.old self.new T.over T.tree lhs rhs result }
         ensures errors { AnswersError Infcx.state self.old self.new T.over T.tree variance lhs rhs result }
         ensures spent { IfSpent result ((Infcx.state self.new).store.budget ≡ 0) }
-        ensures same { AreOne (Infcx.state self.old) T.over T.tree lhs rhs →
-            DoesNothing (Infcx.state self.old) (Infcx.state self.new) result }
+        ensures same { AreOne (Infcx.state self.old) T.over T.tree lhs rhs → Idle Infcx.state self.old self.new result }
         ensures subtype { AnswersSubtype Infcx.state self.old self.new T.over T.tree param_env variance lhs rhs result }
         ensures goals { RegistersGoals (Infcx.state self.old) (Infcx.state self.new) param_env variance result }
         ensures exact { AnswersExactly Infcx.state self.old self.new T.over T.tree variance lhs rhs result }
@@ -173,16 +170,14 @@ fn relate_in<Infcx: InferCtxtLike, T: Relate<Infcx::Interner>>(
     requires env_known { KnowsEnv (Infcx.state infcx.old) param_env }
     requires decides { variance ≢ Variance.Bivariant }
     requires fits { T.fits (Infcx.state infcx.old).meaning a.now b.now }
-    requires asked { let c = Infcx.state infcx.old in Asked solver_manner (solving_in [] c variance param_env) variance
-        (term_in c T.over T.tree a.now) (term_in c T.over T.tree b.now) }
-    ensures related { let c = Infcx.state infcx.old in let d = Infcx.state infcx.new in
-        let before = solving_in [] c variance param_env in let after = solving_in result.1.items d variance param_env in
-        Related solver_manner before after variance (term_in c T.over T.tree a.now) (term_in c T.over T.tree b.now)
-        (term_in d T.over T.tree) result.0 }
-    ensures registers { let c = Infcx.state infcx.old in let d = Infcx.state infcx.new in
-        let before = solving_in [] c variance param_env in let after = solving_in result.1.items d variance param_env in
-        RegistersSubtype solver_manner before after variance (term_in c T.over T.tree a.now)
-        (term_in c T.over T.tree b.now) result.0 }
+    requires asked { let before = solving_in [] (Infcx.state infcx.old) variance param_env in
+        AskedTerms solver_manner T.over T.tree before a.now b.now }
+    ensures related { let before = solving_in [] (Infcx.state infcx.old) variance param_env in
+        let after = solving_in result.1.items (Infcx.state infcx.new) variance param_env in
+        RelatedTerms solver_manner T.over T.tree before after a.now b.now result.0 }
+    ensures registers { let before = solving_in [] (Infcx.state infcx.old) variance param_env in
+        let after = solving_in result.1.items (Infcx.state infcx.new) variance param_env in
+        TermsRegister solver_manner T.over T.tree before after a.now b.now result.0 }
 {
     let goals = Vec::new(infcx.cx().alloc());
     let mut relation = SolverRelating {

@@ -7,7 +7,6 @@ ghost use Rattle.relation_terms.specs.Variances.{xform};
 ghost use Rattle.relation_terms.specs.Heads.{object};
 ghost use Rattle.relation_terms.specs.Meaning.{arg_tree, signature_tree, existential_tree};
 ghost use Rattle.relation_terms.specs.Parts.{part_tree, part_sort};
-ghost use Rattle.relation_contexts.specs.Errors.{AreOfOneForm};
 ghost use Rattle.relation_contexts.specs.Parts.{IsFormed, IsFormedConst, IsByParts, IsRelatedPart, IsComparedPart};
 ghost use Rattle.relation_contexts.specs.Parts.{IsBinderPart, ArePaired};
 ghost use Rattle.type_relations.specs.Keyed.{AskedArgs, AskedArgsAt, AskedConsts, AskedPats, AskedParts, AskedTys};
@@ -16,6 +15,7 @@ ghost use Rattle.type_relations.specs.Keyed.{RelatedParts, RelatedPartsAt, Relat
 ghost use Rattle.type_relations.specs.Keyed.{ArgsRegisterSubtype, TysRegisterSubtype};
 ghost use Rattle.relation_contexts.specs.Making.{arg_sort};
 ghost use Rattle.type_relations.specs.Arguments.{IsSkipped};
+ghost use Rattle.type_relations.specs.Comparing.{AreOfOneFormBy, object_members};
 ghost use Rattle.type_relations.specs.Terms.{AskedTerms, RelatedTerms};
 
 use crate::relate::handing::in_part;
@@ -322,9 +322,8 @@ pub fn objects<I: Interner, R: TypeRelation<I>>(
 ) -> RelateResult<I, ExistentialPredicates<I>>
     requires lawful { (R.state r.old).lawful }
     requires decides { (R.state r.old).ambient ≢ Bivariant }
-    requires asked { AskedTerms R.manner (Some object) (λ m. m.existential_predicates) (R.state r.old) a.now b.now }
-    ensures { RelatedTerms R.manner (Some object) (λ m. m.existential_predicates) (R.state r.old) (R.state r.new)
-        a.now b.now result }
+    requires asked { AskedTerms R.manner (Some object) object_members (R.state r.old) a.now b.now }
+    ensures { RelatedTerms R.manner (Some object) object_members (R.state r.old) (R.state r.new) a.now b.now result }
 {
     Ok(the_object(&relate_parts(r, &Part::Object(*a), &Part::Object(*b))?))
 }
@@ -342,7 +341,7 @@ fn relate_in_order<I: Interner, R: TypeRelation<I>>(
     requires asked { AskedParts R.manner (R.state r.old) a.now b.now }
     requires form { IsByParts (part_tree (R.state r.old).meaning a.now) }
     requires one_sort { part_sort b.now ≡ part_sort a.now }
-    requires alike { let m = (R.state r.old).meaning in AreOfOneForm (part_tree m a.now) (part_tree m b.now) }
+    requires alike { AreOfOneFormBy part_tree (R.state r.old).meaning a.now b.now }
     ensures related { RelatedParts R.manner (R.state r.old) (R.state r.new) a.now b.now result }
     ensures sort { IfOk result (λ p. part_sort p ≡ part_sort a.now) }
 {
@@ -377,8 +376,7 @@ fn relate_parts_with_variance<I: Interner, R: TypeRelation<I>>(
     requires paired { ArePaired a.now b.now }
     ensures related { RelatedPartsAt R.manner (R.state r.old) (R.state r.new) variance a.now b.now result }
     ensures sort { IfOk result (λ p. part_sort p ≡ part_sort a.now) }
-    ensures alike { let m = (R.state r.old).meaning in
-        IsComparedPart a.now → OnOk result (AreOfOneForm (part_tree m a.now) (part_tree m b.now)) }
+    ensures alike { IsComparedPart a.now → OnOk result (AreOfOneFormBy part_tree (R.state r.old).meaning a.now b.now) }
 {
     let old = r.ambient();
     r.set_ambient(old.xform(variance));
@@ -402,8 +400,7 @@ fn relate_parts<I: Interner, R: TypeRelation<I>>(
     requires paired { ArePaired a.now b.now }
     ensures related { RelatedParts R.manner (R.state r.old) (R.state r.new) a.now b.now result }
     ensures sort { IfOk result (λ p. part_sort p ≡ part_sort a.now) }
-    ensures alike { let m = (R.state r.old).meaning in
-        IsComparedPart a.now → OnOk result (AreOfOneForm (part_tree m a.now) (part_tree m b.now)) }
+    ensures alike { IsComparedPart a.now → OnOk result (AreOfOneFormBy part_tree (R.state r.old).meaning a.now b.now) }
 {
     match kind_of_part(a) {
         PartKind::Argument => {

@@ -6,12 +6,11 @@ ghost use Rattle.relation_terms.specs.declared.terms.enums.Variance.TheVariants.
 ghost use Rattle.relation_terms.specs.Meaning.{Extends};
 ghost use Rattle.relation_contexts.specs.Stores.{IsSound};
 ghost use Rattle.relation_contexts.specs.Lawful.{State, Manners, TakesParts, Turned, Noted, WithMeaning};
-ghost use Rattle.relation_contexts.specs.Lawful.{RelatesByDeclared, Asked};
-ghost use Rattle.relation_contexts.specs.Binders.{binder_tree};
-ghost use Rattle.type_relations.specs.Rounds.{Opened};
+ghost use Rattle.relation_contexts.specs.Lawful.{RelatesByDeclared};
+ghost use Rattle.type_relations.specs.Rounds.{AskedBinders, OpenedBinders};
 ghost use Rattle.type_relations.specs.Keyed.{AskedConsts, AskedRegions, AskedTys, RelatedRegions, RelatesTys};
 ghost use Rattle.type_relations.specs.Keyed.{SteppedConsts, SteppedTys, TysStepToSubtype, AreOver, RecordsAsked};
-ghost use Rattle.type_relations.specs.Keyed.{variances_in};
+ghost use Rattle.type_relations.specs.Keyed.{variances_in, Decides};
 
 use crate::relate::Step;
 use relation_contexts::infer_ctxt::BinderOf;
@@ -68,8 +67,7 @@ pub trait TypeRelation<I: Interner> {
     /// relation's settings say so.
     fn item_variances(&self, def_id: &ItemOf<I>) -> Option<&[Variance]>
         ensures declared { IfSome result (λ vs. vs.now ≡ variances_in (state self.now) def_id.now) }
-        ensures by_declared { IfSome result (λ _. (state self.now).ambient ≢ Bivariant →
-            RelatesByDeclared (state self.now)) }
+        ensures by_declared { let r = state self.now in IfSome result (λ _. Decides r → RelatesByDeclared r) }
         ensures none { IfNone result ((state self.now).ambient ≡ Invariant) };
 
     /// What comes of two types.
@@ -112,10 +110,8 @@ pub trait TypeRelation<I: Interner> {
         requires lawful { (state self.old).lawful }
         requires decides { (state self.old).ambient ≢ Bivariant }
         requires round { round < 2 }
-        requires asked { let m = (state self.old).meaning in Asked manner (state self.old) (state self.old).ambient
-            (binder_tree T.tree m a.now) (binder_tree T.tree m b.now) }
-        ensures { let m = (state self.old).meaning in Opened manner (state self.old) (state self.new) round
-            (binder_tree T.tree m a.now) (binder_tree T.tree m b.now) (T.tree (state self.new).meaning) result };
+        requires asked { AskedBinders manner T.tree (state self.old) a.now b.now }
+        ensures { OpenedBinders manner T.tree (state self.old) (state self.new) round a.now b.now result };
 
     /// Takes note that two types, as `tys` read them, were related.
     fn tys_done(&mut self, a: &Ty<I>, b: &Ty<I>) -> RelateResult<I, ()>

@@ -1,11 +1,11 @@
 //! Which variable a term of a context is.
-ghost use Rattle.std.specs.Prelude.{◌≡◌, ℕ, IsTrue, IfSome, IfNone};
-ghost use Rattle.relation_terms.specs.Heads.{type_var, const_var, variable};
-ghost use Rattle.relation_terms.specs.Trees.{leaf, known};
+ghost use Rattle.std.specs.Prelude.{ℕ, IsTrue, IfSome, IfNone};
+ghost use Rattle.relation_terms.specs.Trees.{known};
 ghost use Rattle.relation_contexts.specs.Contexts.{KnowsTy, KnowsConst};
 ghost use Rattle.relation_contexts.specs.Relation.{StaysWithin};
 ghost use Rattle.relation_contexts.specs.Covered.{IsCovered};
 ghost use Rattle.relation_contexts.specs.Parts.{IsFormed, IsFormedConst};
+ghost use Rattle.type_relations.specs.Variables.{MeansTyVar, MeansConstVar};
 
 use relation_contexts::infer_ctxt::InferCtxtLike;
 pub use relation_contexts::variable_forms::{const_vid, float_vid, int_vid, ty_vid};
@@ -14,10 +14,8 @@ use relation_terms::terms::{Const, ConstVid, Interner, Ty, TyVid};
 // The type variable that a type is, or none.
 pub(crate) fn ty_var<Infcx: InferCtxtLike>(infcx: &Infcx, ty: &Ty<Infcx::Interner>) -> Option<TyVid>
     requires { KnowsTy (Infcx.state infcx.now) ty.now }
-    ensures is { let m = (Infcx.state infcx.now).meaning in
-        IfSome result (λ v. m.ty ty.now ≡ leaf (variable type_var v.0)) }
-    ensures is_none { let m = (Infcx.state infcx.now).meaning in
-        IfNone result ((n : ℕ) → m.ty ty.now ≡ leaf (variable type_var n) → ⊥) }
+    ensures is { IfSome result (λ v. MeansTyVar (Infcx.state infcx.now) ty.now v.0) }
+    ensures is_none { IfNone result ((n : ℕ) → MeansTyVar (Infcx.state infcx.now) ty.now n → ⊥) }
 {
     ty_vid(&infcx.cx().ty_kind(ty))
 }
@@ -28,8 +26,7 @@ pub(crate) fn const_var<Infcx: InferCtxtLike>(
     constant: &Const<Infcx::Interner>,
 ) -> Option<ConstVid>
     requires { KnowsConst (Infcx.state infcx.now) constant.now }
-    ensures is { let m = (Infcx.state infcx.now).meaning in
-        IfSome result (λ v. m.const_ constant.now ≡ leaf (variable const_var v.0)) }
+    ensures is { IfSome result (λ v. MeansConstVar (Infcx.state infcx.now) constant.now v.0) }
     ensures formed { let t = ((Infcx.state infcx.now).meaning).const_ constant.now in
         IfNone result (IsCovered t → StaysWithin 0 t → IsFormedConst t) }
 {

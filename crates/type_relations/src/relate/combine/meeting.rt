@@ -1,6 +1,6 @@
 //! Two types, or two constants, of a context that meet, before their parts are related.
 ghost use Rattle.std.specs.Prelude.{◌⊎◌, IsTrue, IsFalse};
-ghost use Rattle.type_relations.specs.Combining.{CombinesTys, CombinesShallow, CombinesConsts, IsTyVar, IsNoTyVar};
+ghost use Rattle.type_relations.specs.Combining.{TysMeet, ShallowMeet, ConstsMeet, IsTyVar, IsNoTyVar};
 ghost use Rattle.relation_contexts.specs.Contexts.{KnowsTy, KnowsConst, HasTy, HasConst, TakesConst};
 ghost use Rattle.relation_contexts.specs.ContextCalls.{Grows, Stands};
 ghost use Rattle.relation_contexts.specs.Resolving.{IsShallow, IsShallowConst};
@@ -49,8 +49,7 @@ pub(crate) fn meet_tys<Infcx: InferCtxtLike>(
     requires a_shallow { let c = Infcx.state infcx.old in IsShallow c.store ((c.meaning).ty a.now) }
     requires b_shallow { let c = Infcx.state infcx.old in IsShallow c.store ((c.meaning).ty b.now) }
     ensures stands { Stands (Infcx.state infcx.old) (Infcx.state infcx.new) }
-    ensures combines { let c = Infcx.state infcx.old in
-        CombinesTys c.meaning c.store (Infcx.state infcx.new).store a.now b.now result }
+    ensures combines { TysMeet (Infcx.state infcx.old) (Infcx.state infcx.new) a.now b.now result }
 {
     match number_var(&*infcx, a) {
         Some(x) => match number_var(&*infcx, b) {
@@ -101,8 +100,7 @@ fn meet_shallow<Infcx: InferCtxtLike>(
     requires a_shallow { let c = Infcx.state infcx.old in IsShallowConst c.store ((c.meaning).const_ a.now) }
     requires b_shallow { let c = Infcx.state infcx.old in IsShallowConst c.store ((c.meaning).const_ b.now) }
     ensures grows { Grows (Infcx.state infcx.old) (Infcx.state infcx.new) }
-    ensures combines { let c = Infcx.state infcx.old in let d = Infcx.state infcx.new in
-        CombinesShallow c.meaning d.meaning c.store d.store a.now b.now result }
+    ensures combines { ShallowMeet (Infcx.state infcx.old) (Infcx.state infcx.new) a.now b.now result }
 {
     match const_var(&*infcx, a) {
         Some(x) => match const_var(&*infcx, b) {
@@ -154,8 +152,7 @@ pub(crate) fn meet_consts<Infcx: InferCtxtLike>(
     requires a_taken { TakesConst (Infcx.state infcx.old) a.now }
     requires b_taken { TakesConst (Infcx.state infcx.old) b.now }
     ensures grows { Grows (Infcx.state infcx.old) (Infcx.state infcx.new) }
-    ensures combines { let c = Infcx.state infcx.old in let d = Infcx.state infcx.new in
-        CombinesConsts c.meaning d.meaning c.store d.store a.now b.now result }
+    ensures combines { ConstsMeet (Infcx.state infcx.old) (Infcx.state infcx.new) a.now b.now result }
 {
     if a == b {
         return Ok(Step::Done(*a));

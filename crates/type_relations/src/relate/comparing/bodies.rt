@@ -1,13 +1,15 @@
 //! Comparing signatures and predicates of trait objects, and parts of terms.
 ghost use Rattle.std.specs.Prelude.{◌≡◌, ◌≢◌, ◌<◌, IsTrue, IsFalse, OnOk, IfErr};
-ghost use Rattle.relation_terms.specs.Heads.{object, inputs, object_sort};
-ghost use Rattle.relation_terms.specs.Trees.{known, node, count, nth, front};
+ghost use Rattle.relation_terms.specs.Heads.{inputs, object_sort};
+ghost use Rattle.relation_terms.specs.Trees.{known, node, count, front};
 ghost use Rattle.relation_terms.specs.Meaning.{existential_tree, signature_tree};
 ghost use Rattle.relation_folds.specs.declared.error.TypeError.TheVariants.{Mismatch};
 ghost use Rattle.relation_terms.specs.Parts.{part_tree, part_sort};
-ghost use Rattle.relation_contexts.specs.Errors.{AreOfOneForm, AreAlikeExistentials, AreAlikeMembers, SignatureError};
-ghost use Rattle.relation_contexts.specs.Errors.{ExistentialError, ObjectError, PartError};
+ghost use Rattle.relation_contexts.specs.Errors.{AreOfOneForm, AreAlikeExistentials, SignatureError};
+ghost use Rattle.relation_contexts.specs.Errors.{ObjectError};
 ghost use Rattle.relation_contexts.specs.Parts.{IsComparedPart, parts_of};
+ghost use Rattle.type_relations.specs.Comparing.{AreOfOneFormBy, AreAlikeAt, SignaturesDiffer, ExistentialsDiffer};
+ghost use Rattle.type_relations.specs.Comparing.{PartsDiffer, object_form};
 
 use crate::relate::comparing::compare_pats;
 use crate::relate::parts::{the_existential, the_inputs, the_object, the_signature};
@@ -25,10 +27,8 @@ pub fn compare_signatures<I: Interner>(
     a: &FnSig<I::Key>,
     b: &FnSig<I::Key>,
 ) -> Result<(), TypeErrorOf<I>>
-    ensures alike { let m = I.meaning cx.now in
-        OnOk result (AreOfOneForm (signature_tree m a.now) (signature_tree m b.now)) }
-    ensures errors { let m = I.meaning cx.now in
-        IfErr result (SignatureError (signature_tree m a.now) (signature_tree m b.now)) }
+    ensures alike { OnOk result (AreOfOneFormBy signature_tree (I.meaning cx.now) a.now b.now) }
+    ensures errors { IfErr result (SignaturesDiffer (I.meaning cx.now) a.now b.now) }
 {
     let _ = cx;
     let left = a.header;
@@ -84,10 +84,8 @@ pub fn compare_existentials<I: Interner>(
 ) -> Result<(), TypeErrorOf<I>>
     requires a_known { IsTrue (known (existential_tree (I.meaning cx.now) a.now)) }
     requires b_known { IsTrue (known (existential_tree (I.meaning cx.now) b.now)) }
-    ensures alike { let m = I.meaning cx.now in
-        OnOk result (AreOfOneForm (existential_tree m a.now) (existential_tree m b.now)) }
-    ensures errors { let m = I.meaning cx.now in
-        IfErr result (ExistentialError m (existential_tree m a.now) (existential_tree m b.now)) }
+    ensures alike { OnOk result (AreOfOneFormBy existential_tree (I.meaning cx.now) a.now b.now) }
+    ensures errors { IfErr result (ExistentialsDiffer (I.meaning cx.now) a.now b.now) }
 {
     match a {
         ExistentialPredicate::Trait(of) => {
@@ -165,8 +163,7 @@ pub fn compare_objects<I: Interner>(
 ) -> Result<(), TypeErrorOf<I>>
     requires a_known { IsTrue (known ((I.meaning cx.now).existential_predicates a.now)) }
     requires b_known { IsTrue (known ((I.meaning cx.now).existential_predicates b.now)) }
-    ensures alike { let m = I.meaning cx.now in OnOk result (AreOfOneForm
-        (node object (m.existential_predicates a.now)) (node object (m.existential_predicates b.now))) }
+    ensures alike { OnOk result (AreOfOneFormBy object_form (I.meaning cx.now) a.now b.now) }
     ensures errors { IfErr result (ObjectError (I.meaning cx.now) a.now b.now) }
 {
     if cx.existential_predicates(a).len() != cx.existential_predicates(b).len() {
@@ -191,10 +188,8 @@ pub fn compare_members<I: Interner>(
     requires in_a { i < count (parts_of (part_tree (I.meaning cx.now) a.now)) }
     requires in_b { i < count (parts_of (part_tree (I.meaning cx.now) b.now)) }
     requires one_sort { part_sort b.now ≡ part_sort a.now }
-    ensures alike { let m = I.meaning cx.now in OnOk result (part_sort a.now ≡ object_sort →
-        AreAlikeMembers (nth i (parts_of (part_tree m a.now))) (nth i (parts_of (part_tree m b.now)))) }
-    ensures errors { let m = I.meaning cx.now in
-        IfErr result (PartError m (part_tree m a.now) (part_tree m b.now)) }
+    ensures alike { OnOk result (part_sort a.now ≡ object_sort → AreAlikeAt (I.meaning cx.now) i a.now b.now) }
+    ensures errors { IfErr result (PartsDiffer (I.meaning cx.now) a.now b.now) }
 {
     let Part::Object(left) = a else {
         return Ok(());
@@ -224,10 +219,8 @@ pub fn compare_parts<I: Interner>(
     requires b_known { IsTrue (known (part_tree (I.meaning cx.now) b.now)) }
     requires kind { IsComparedPart a.now }
     requires one_sort { part_sort b.now ≡ part_sort a.now }
-    ensures alike { let m = I.meaning cx.now in
-        OnOk result (AreOfOneForm (part_tree m a.now) (part_tree m b.now)) }
-    ensures errors { let m = I.meaning cx.now in
-        IfErr result (PartError m (part_tree m a.now) (part_tree m b.now)) }
+    ensures alike { OnOk result (AreOfOneFormBy part_tree (I.meaning cx.now) a.now b.now) }
+    ensures errors { IfErr result (PartsDiffer (I.meaning cx.now) a.now b.now) }
 {
     match a {
         Part::Pat(a) => compare_pats(cx, a, &the_pat(b)),

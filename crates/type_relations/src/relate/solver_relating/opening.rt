@@ -1,12 +1,11 @@
 //! Opening two binders in a context.
-ghost use Rattle.std.specs.Prelude.{◌≡◌, ◌⊎◌, ◌↔◌, ◌||◌, IsTrue};
+ghost use Rattle.std.specs.Prelude.{◌≡◌, ◌⊎◌, ◌↔◌, IsTrue};
 ghost use Rattle.relation_terms.specs.Trees.{known};
 ghost use Rattle.relation_terms.specs.declared.terms.enums.Variance.TheVariants.{Covariant, Contravariant, Invariant};
-ghost use Rattle.relation_folds.specs.Visits.{bound_var_escapes};
-ghost use Rattle.relation_contexts.specs.Binders.{binder_tree, OpensBoth};
+ghost use Rattle.relation_contexts.specs.Binders.{binder_tree};
 ghost use Rattle.relation_contexts.specs.Bound.{BindsByList};
 ghost use Rattle.relation_contexts.specs.ContextCalls.{Grows};
-ghost use Rattle.relation_contexts.specs.Stores.{IsTermIn};
+ghost use Rattle.type_relations.specs.Rounds.{HasBinder, Opens, one_uses_bound};
 
 use relation_contexts::infer_ctxt::{BinderOf, InferCtxtLike};
 use relation_folds::fold::TypeFoldable;
@@ -42,8 +41,7 @@ pub(crate) fn one_uses<Infcx: InferCtxtLike, T: TypeVisitable<Infcx::Interner>>(
 ) -> bool
     requires a_known { IsTrue (known (binder_tree T.tree (Infcx.state infcx.now).meaning a.now)) }
     requires b_known { IsTrue (known (binder_tree T.tree (Infcx.state infcx.now).meaning b.now)) }
-    ensures { let m = (Infcx.state infcx.now).meaning in
-        result ≡ (bound_var_escapes (T.tree m (a.now).value) || bound_var_escapes (T.tree m (b.now).value)) }
+    ensures { result ≡ one_uses_bound T.tree (Infcx.state infcx.now).meaning a.now b.now }
 {
     let cx = infcx.cx();
     has_escaping_bound_vars(cx, &a.value) || has_escaping_bound_vars(cx, &b.value)
@@ -60,16 +58,13 @@ pub(crate) fn enter_and_instantiate<
 ) -> Result<(T, T), OutOfMemory>
     requires lawful { (Infcx.state infcx.old).lawful }
     requires entered_known { IsTrue (known (binder_tree T.tree (Infcx.state infcx.old).meaning entered.now)) }
-    requires entered_in { let c = Infcx.state infcx.old in
-        IsTermIn c.store (binder_tree T.tree c.meaning entered.now) }
+    requires entered_in { HasBinder T.tree (Infcx.state infcx.old) entered.now }
     requires entered_binds { BindsByList (binder_tree T.tree (Infcx.state infcx.old).meaning entered.now) }
     requires instantiated_known { IsTrue (known (binder_tree T.tree (Infcx.state infcx.old).meaning instantiated.now)) }
-    requires instantiated_in { let c = Infcx.state infcx.old in
-        IsTermIn c.store (binder_tree T.tree c.meaning instantiated.now) }
+    requires instantiated_in { HasBinder T.tree (Infcx.state infcx.old) instantiated.now }
     requires instantiated_binds { BindsByList (binder_tree T.tree (Infcx.state infcx.old).meaning instantiated.now) }
     ensures grows { Grows (Infcx.state infcx.old) (Infcx.state infcx.new) }
-    ensures opens { let c = Infcx.state infcx.old in OpensBoth c (Infcx.state infcx.new) T.tree
-        (binder_tree T.tree c.meaning entered.now) (binder_tree T.tree c.meaning instantiated.now) result }
+    ensures opens { Opens T.tree (Infcx.state infcx.old) (Infcx.state infcx.new) entered.now instantiated.now result }
 {
     let body = infcx.enter_forall(*entered)?;
     let other = infcx.instantiate_binder_with_infer(*instantiated)?;

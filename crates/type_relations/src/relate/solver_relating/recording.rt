@@ -1,15 +1,15 @@
 //! What relating records of regions, and the goals that it registers.
-ghost use Rattle.std.specs.Prelude.{◌≡◌, ◌≢◌, IsTrue, IfSome, IfOk, OnOk};
+ghost use Rattle.std.specs.Prelude.{◌≡◌, ◌≢◌, IsTrue, IfOk, OnOk};
 ghost use Rattle.relation_terms.specs.Trees.{known};
 ghost use Rattle.relation_terms.specs.Meaning.{Extends};
 ghost use Rattle.relation_terms.specs.declared.terms.enums.Variance.TheVariants.{Bivariant};
 ghost use Rattle.relation_contexts.specs.Stores.{all_bound};
-ghost use Rattle.relation_contexts.specs.Steps.{AddsConstraint, StaysFull};
+ghost use Rattle.relation_contexts.specs.Steps.{StaysFull};
 ghost use Rattle.relation_contexts.specs.Measures.{Goes};
 ghost use Rattle.relation_contexts.specs.Contexts.{KnowsTy, HasRegion};
 ghost use Rattle.relation_contexts.specs.ContextCalls.{Stands};
-ghost use Rattle.relation_contexts.specs.Constraints.{constraint_at, constraint_of};
 ghost use Rattle.relation_contexts.specs.Goals.{subtype_predicate, well_formed_predicate};
+ghost use Rattle.type_relations.specs.Emitting.{AddsAsked, MakesSubtype, MakesWellFormed};
 
 use relation_contexts::infer_ctxt::{InferCtxtLike, VisibleForLeakCheck};
 use relation_terms::predicate::{ClauseKind, PredicateKind, SubtypePredicate};
@@ -30,9 +30,7 @@ pub(crate) fn relate_regions<Infcx: InferCtxtLike>(
     requires a_in { HasRegion (Infcx.state infcx.old) a.now }
     requires b_in { HasRegion (Infcx.state infcx.old) b.now }
     ensures stands { Stands (Infcx.state infcx.old) (Infcx.state infcx.new) }
-    ensures adds { let c = Infcx.state infcx.old in
-        OnOk result (IfSome (constraint_at variance a.now b.now) (λ q.
-        AddsConstraint c.store (Infcx.state infcx.new).store (constraint_of c.meaning q))) }
+    ensures adds { OnOk result (AddsAsked (Infcx.state infcx.old) (Infcx.state infcx.new) variance a.now b.now) }
     ensures goes { Goes 0 (Infcx.state infcx.old).store (Infcx.state infcx.new).store }
     ensures bound { all_bound (Infcx.state infcx.new).store ≡ all_bound (Infcx.state infcx.old).store }
     ensures full { StaysFull (Infcx.state infcx.old).store (Infcx.state infcx.new).store }
@@ -81,9 +79,7 @@ pub(crate) fn subtype_predicate<Infcx: InferCtxtLike>(
     ensures grown { Extends (Infcx.state infcx.old).meaning (Infcx.state infcx.new).meaning }
     ensures same_store { (Infcx.state infcx.new).store ≡ (Infcx.state infcx.old).store }
     ensures lawful { (Infcx.state infcx.new).lawful }
-    ensures made { let m = (Infcx.state infcx.old).meaning in IfOk result (λ p.
-        (Infcx.state infcx.new).meaning.predicate p ≡
-        subtype_predicate a_is_expected (m.ty a.now) (m.ty b.now)) }
+    ensures made { MakesSubtype (Infcx.state infcx.old) (Infcx.state infcx.new) a_is_expected a.now b.now result }
 {
     infcx.interner_grows();
     mk_subtype(infcx.cx_mut(), a_is_expected, a, b)
@@ -112,8 +108,7 @@ pub(crate) fn well_formed_predicate<Infcx: InferCtxtLike>(
     ensures grown { Extends (Infcx.state infcx.old).meaning (Infcx.state infcx.new).meaning }
     ensures same_store { (Infcx.state infcx.new).store ≡ (Infcx.state infcx.old).store }
     ensures lawful { (Infcx.state infcx.new).lawful }
-    ensures made { let m = (Infcx.state infcx.old).meaning in
-        IfOk result (λ p. (Infcx.state infcx.new).meaning.predicate p ≡ well_formed_predicate (m.ty ty.now)) }
+    ensures made { MakesWellFormed (Infcx.state infcx.old) (Infcx.state infcx.new) ty.now result }
 {
     infcx.interner_grows();
     mk_well_formed(infcx.cx_mut(), ty)

@@ -1,17 +1,17 @@
 //! The relation of a context.
-ghost use Rattle.std.specs.Prelude.{◌≡◌, ◌≢◌, [], All, IfSome};
+ghost use Rattle.std.specs.Prelude.{◌≡◌, ◌≢◌, [], All};
 ghost use Rattle.relation_terms.specs.Heads.{type_var, variable};
 ghost use Rattle.relation_terms.specs.Trees.{leaf};
 ghost use Rattle.relation_terms.specs.declared.terms.enums.Variance.TheVariants.{Bivariant};
 ghost use Rattle.relation_contexts.specs.Contexts.{KnowsEnv, KnowsTy};
 ghost use Rattle.relation_contexts.specs.ContextCalls.{IsUnresolved};
 ghost use Rattle.relation_contexts.specs.Goals.{KnowsGoal};
-ghost use Rattle.type_relations.specs.Keyed.{AskedTys, SteppedTys};
-ghost use Rattle.relation_contexts.specs.Lawful.{Asked, Related};
-ghost use Rattle.type_relations.specs.Relating.{term_in};
+ghost use Rattle.type_relations.specs.Keyed.{AskedTys};
 ghost use Rattle.relation_contexts.specs.Resolving.{IsShallow};
-ghost use Rattle.type_relations.specs.Subtyping.{IsTyVar, RegistersSubtype, StepRegistersAlone, subtype_at};
-ghost use Rattle.type_relations.specs.Solving.{solving_in, solving_through, solver_manner};
+ghost use Rattle.type_relations.specs.Subtyping.{IsTyVar};
+ghost use Rattle.type_relations.specs.Solving.{solver_manner};
+ghost use Rattle.type_relations.specs.SolverTerms.{SolverAsked, SolverRelated, SolverRegisters, SolverSteps};
+ghost use Rattle.type_relations.specs.SolverTerms.{SolverStepRegisters, solver_through};
 
 use crate::relate::combine::{combine_ty_args, super_combine_consts, super_combine_tys};
 use crate::relate::solver_relating::opening::{
@@ -91,20 +91,10 @@ impl<'a, Infcx: InferCtxtLike> SolverRelating<'a, Infcx> {
         requires goals_known { All (KnowsGoal (Infcx.state self.old.infcx.now).meaning) self.old.goals.items }
         requires decides { self.old.ambient_variance ≢ Bivariant }
         requires fits { T.fits (Infcx.state self.old.infcx.now).meaning a.now b.now }
-        requires asked { let c = Infcx.state self.old.infcx.now in let v = self.old.ambient_variance in
-            Asked solver_manner (solving_in self.old.goals.items c v self.old.param_env) v
-            (term_in c T.over T.tree a.now) (term_in c T.over T.tree b.now) }
+        requires asked { SolverAsked Infcx.state T.over T.tree self.old a.now b.now }
         ensures same_reference { self.new.infcx.ghost_name ≡ self.old.infcx.ghost_name }
-        ensures related { let c = Infcx.state self.old.infcx.now in let d = Infcx.state self.new.infcx.now in
-            let v = self.old.ambient_variance in let before = solving_in self.old.goals.items c v self.old.param_env in
-            let after = solving_in self.new.goals.items d v self.old.param_env in
-            Related solver_manner before after v (term_in c T.over T.tree a.now) (term_in c T.over T.tree b.now)
-            (term_in d T.over T.tree) result }
-        ensures registers { let c = Infcx.state self.old.infcx.now in let d = Infcx.state self.new.infcx.now in
-            let v = self.old.ambient_variance in let before = solving_in self.old.goals.items c v self.old.param_env in
-            let after = solving_in self.new.goals.items d v self.old.param_env in
-            RegistersSubtype solver_manner before after v (term_in c T.over T.tree a.now)
-            (term_in c T.over T.tree b.now) result }
+        ensures related { SolverRelated Infcx.state T.over T.tree self.old self.new a.now b.now result }
+        ensures registers { SolverRegisters Infcx.state T.over T.tree self.old self.new a.now b.now result }
     {
         T::relate(self, a, b)
     }
@@ -128,19 +118,8 @@ impl<'a, Infcx: InferCtxtLike> SolverRelating<'a, Infcx> {
         requires b_is { ((Infcx.state self.old.infcx.now).meaning).ty b.now ≡ leaf (variable type_var y.0) }
         requires a_unresolved { IsUnresolved (Infcx.state self.old.infcx.now) type_var x.0 }
         requires b_unresolved { IsUnresolved (Infcx.state self.old.infcx.now) type_var y.0 }
-        ensures stepped { let r = self.old in let q = self.new in
-            let before = solving_through r.infcx.ghost_name r.goals.items (Infcx.state r.infcx.now) r.ambient_variance
-            r.param_env in
-            let after = solving_through q.infcx.ghost_name q.goals.items (Infcx.state q.infcx.now) q.ambient_variance
-            q.param_env in
-            SteppedTys solver_manner before after a.now b.now result }
-        ensures registers { let r = self.old in let q = self.new in let d = (Infcx.state q.infcx.now).meaning in
-            let before = solving_through r.infcx.ghost_name r.goals.items (Infcx.state r.infcx.now) r.ambient_variance
-            r.param_env in
-            let after = solving_through q.infcx.ghost_name q.goals.items (Infcx.state q.infcx.now) q.ambient_variance
-            q.param_env in
-            let x = (Infcx.state r.infcx.now).meaning.ty a.now in let y = (Infcx.state r.infcx.now).meaning.ty b.now in
-            IfSome (subtype_at r.ambient_variance x y) (λ p. StepRegistersAlone before after d.ty x p result) }
+        ensures stepped { SolverSteps Infcx.state self.old self.new a.now b.now result }
+        ensures registers { SolverStepRegisters Infcx.state self.old self.new a.now b.now result }
     {
         let param_env = self.param_env;
         match self.ambient_variance {
@@ -179,26 +158,13 @@ impl<'a, Infcx: InferCtxtLike> SolverRelating<'a, Infcx> {
         requires env_known { KnowsEnv (Infcx.state self.old.infcx.now) self.old.param_env }
         requires goals_known { All (KnowsGoal (Infcx.state self.old.infcx.now).meaning) self.old.goals.items }
         requires decides { self.old.ambient_variance ≢ Bivariant }
-        requires asked { let r = self.old in
-            let before = solving_through r.infcx.ghost_name r.goals.items (Infcx.state r.infcx.now) r.ambient_variance
-            r.param_env in
-            AskedTys solver_manner before a.now b.now }
+        requires asked { AskedTys solver_manner (solver_through Infcx.state self.old) a.now b.now }
         requires a_shallow { let r = Infcx.state self.old.infcx.now in IsShallow r.store ((r.meaning).ty a.now) }
         requires b_shallow { let r = Infcx.state self.old.infcx.now in IsShallow r.store ((r.meaning).ty b.now) }
-        ensures stepped { let r = self.old in let q = self.new in
-            let before = solving_through r.infcx.ghost_name r.goals.items (Infcx.state r.infcx.now) r.ambient_variance
-            r.param_env in
-            let after = solving_through q.infcx.ghost_name q.goals.items (Infcx.state q.infcx.now) q.ambient_variance
-            q.param_env in
-            SteppedTys solver_manner before after a.now b.now result }
-        ensures registers { let r = self.old in let q = self.new in let d = (Infcx.state q.infcx.now).meaning in
-            let before = solving_through r.infcx.ghost_name r.goals.items (Infcx.state r.infcx.now) r.ambient_variance
-            r.param_env in
-            let after = solving_through q.infcx.ghost_name q.goals.items (Infcx.state q.infcx.now) q.ambient_variance
-            q.param_env in
-            let x = (Infcx.state r.infcx.now).meaning.ty a.now in let y = (Infcx.state r.infcx.now).meaning.ty b.now in
-            IsTyVar x → IsTyVar y →
-            IfSome (subtype_at r.ambient_variance x y) (λ p. StepRegistersAlone before after d.ty x p result) }
+        ensures stepped { SolverSteps Infcx.state self.old self.new a.now b.now result }
+        ensures registers { let m = (Infcx.state self.old.infcx.now).meaning in
+            IsTyVar (m.ty a.now) → IsTyVar (m.ty b.now) →
+            SolverStepRegisters Infcx.state self.old self.new a.now b.now result }
     {
         match ty_var(&*self.infcx, a) {
             Some(x) => match ty_var(&*self.infcx, b) {

@@ -1,0 +1,48 @@
+-- What comparing two terms says, by their keys.
+use Rattle.std.specs.Prelude.{ℕ}
+use Rattle.relation_terms.specs.declared.predicate.ExistentialPredicate.{ExistentialPredicate}
+use Rattle.relation_terms.specs.declared.terms.fn_sig.FnSig.{FnSig}
+use Rattle.relation_terms.specs.declared.terms.keys.ConstKey.{ConstKey}
+use Rattle.relation_terms.specs.declared.terms.keys.ExistentialPredicatesKey.{ExistentialPredicatesKey}
+use Rattle.relation_terms.specs.declared.terms.part_kind.Part.{Part}
+use Rattle.relation_terms.specs.Heads.{object}
+use Rattle.relation_terms.specs.Trees.{Tree, node, nth}
+use Rattle.relation_terms.specs.Meaning.{Meaning, existential_tree, signature_tree}
+use Rattle.relation_terms.specs.Parts.{part_tree}
+use Rattle.relation_folds.specs.declared.error.TypeError.{TypeError}
+use Rattle.relation_contexts.specs.Errors.{AreOfOneForm, AreAlikeMembers, SignatureError, ExistentialError, PartError}
+use Rattle.relation_contexts.specs.Parts.{parts_of, const_parts_of}
+
+module _ {Key Id Name : Type 0} where
+  -- Two that have trees are of one form, with as many parts.
+  abbrev pub AreOfOneFormBy : {A : Type 0} → (Meaning Key Id Name → A → Tree) → Meaning Key Id Name → A → A → Type 0
+  AreOfOneFormBy tree m a b = AreOfOneForm (tree m a) (tree m b)
+
+  -- The predicates of a trait object, as a list, and as the form over them.
+  abbrev pub object_members : Meaning Key Id Name → ExistentialPredicatesKey Key → Tree
+  object_members m x = m.existential_predicates x
+
+  abbrev pub object_form : Meaning Key Id Name → ExistentialPredicatesKey Key → Tree
+  object_form m x = node object (m.existential_predicates x)
+
+  -- The part of a term, or of a constant, at a place.
+  abbrev pub nth_part : Meaning Key Id Name → ℕ → Part Key Id → Tree
+  nth_part m i t = nth i (parts_of (part_tree m t))
+
+  abbrev pub nth_const_part : Meaning Key Id Name → ℕ → ConstKey Key → Tree
+  nth_const_part m i c = nth i (const_parts_of (m.const_ c))
+
+  -- Two trait objects have predicates of one form at a place.
+  abbrev pub AreAlikeAt : Meaning Key Id Name → ℕ → Part Key Id → Part Key Id → Type 0
+  AreAlikeAt m i a b = AreAlikeMembers (nth_part m i a) (nth_part m i b)
+
+  -- The error of two signatures, of two predicates of trait objects, or of two parts, that differ.
+  abbrev pub SignaturesDiffer : Meaning Key Id Name → FnSig Key → FnSig Key → TypeError Key Id Name → Type 0
+  SignaturesDiffer m a b = SignatureError (signature_tree m a) (signature_tree m b)
+
+  abbrev pub ExistentialsDiffer : Meaning Key Id Name → ExistentialPredicate Key Id → ExistentialPredicate Key Id →
+      TypeError Key Id Name → Type 0
+  ExistentialsDiffer m a b = ExistentialError m (existential_tree m a) (existential_tree m b)
+
+  abbrev pub PartsDiffer : Meaning Key Id Name → Part Key Id → Part Key Id → TypeError Key Id Name → Type 0
+  PartsDiffer m a b = PartError m (part_tree m a) (part_tree m b)

@@ -1,0 +1,62 @@
+-- What the solver's relation asks and promises: what relating two values does, at the state in which it stands.
+use Rattle.std.specs.Prelude.{Option, IfSome, Result}
+use Rattle.relation_terms.specs.declared.terms.keys.TyKey.{TyKey}
+use Rattle.relation_terms.specs.Heads.{Head}
+use Rattle.relation_terms.specs.Trees.{Tree}
+use Rattle.relation_terms.specs.Meaning.{Meaning}
+use Rattle.relation_folds.specs.declared.error.RelateFault.{RelateFault}
+use Rattle.relation_contexts.specs.declared.relate.Step.{Step}
+use Rattle.relation_contexts.specs.Contexts.{Context}
+use Rattle.relation_contexts.specs.Lawful.{State}
+use Rattle.type_relations.specs.declared.relate.solver_relating.relation.SolverRelating.{SolverRelating}
+use Rattle.type_relations.specs.Keyed.{SteppedTys}
+use Rattle.type_relations.specs.Solving.{solving_in, solving_through, solver_manner}
+use Rattle.type_relations.specs.Subtyping.{StepRegistersAlone, subtype_at}
+use Rattle.type_relations.specs.Terms.{AskedTerms, RelatedTerms, TermsRegister}
+
+-- Of a relation over a context, which `state` shows.
+module _ {Infcx Interner Key Id Name Span : Type 0} (state : Infcx → Context Key Id Name) where
+  -- How it stands, through no reference.
+  abbrev pub solver_at : SolverRelating Infcx Interner Key Id Name Span → State Key Id Name
+  solver_at r = solving_in r.goals.items (state r.infcx.now) r.ambient_variance r.param_env
+
+  -- How the second stands, at the variance and in the environment of the first.
+  abbrev pub solver_after : SolverRelating Infcx Interner Key Id Name Span →
+      SolverRelating Infcx Interner Key Id Name Span → State Key Id Name
+  solver_after r q = solving_in q.goals.items (state q.infcx.now) r.ambient_variance r.param_env
+
+  -- How it stands, through its reference.
+  abbrev pub solver_through : SolverRelating Infcx Interner Key Id Name Span → State Key Id Name
+  solver_through r =
+      solving_through r.infcx.ghost_name r.goals.items (state r.infcx.now) r.ambient_variance r.param_env
+
+  -- A step was taken of two types.
+  abbrev pub SolverSteps : SolverRelating Infcx Interner Key Id Name Span →
+      SolverRelating Infcx Interner Key Id Name Span → TyKey Key → TyKey Key →
+      Result (Step (TyKey Key)) (RelateFault Key Id Name) → Type 0
+  SolverSteps r q a b result = SteppedTys solver_manner (solver_through r) (solver_through q) a b result
+
+  -- It was a step by registering just the goal that is asked of two type variables, where one is.
+  abbrev pub SolverStepRegisters : SolverRelating Infcx Interner Key Id Name Span →
+      SolverRelating Infcx Interner Key Id Name Span → TyKey Key → TyKey Key →
+      Result (Step (TyKey Key)) (RelateFault Key Id Name) → Type 0
+  SolverStepRegisters r q a b result =
+      let m = (state r.infcx.now).meaning in let n = (state q.infcx.now).meaning in
+      IfSome (subtype_at r.ambient_variance (m.ty a) (m.ty b)) (λ p.
+      StepRegistersAlone (solver_through r) (solver_through q) n.ty (m.ty a) p result)
+
+  -- Of values, by what is related of them.
+  module _ {A : Type 0} (over : Option Head) (tree : Meaning Key Id Name → A → Tree) where
+    -- Two that it takes, where it stands.
+    abbrev pub SolverAsked : SolverRelating Infcx Interner Key Id Name Span → A → A → Type 0
+    SolverAsked r a b = AskedTerms solver_manner over tree (solver_at r) a b
+
+    -- They were related, and what came of it, from where it stood to where it stands.
+    abbrev pub SolverRelated : SolverRelating Infcx Interner Key Id Name Span →
+        SolverRelating Infcx Interner Key Id Name Span → A → A → Result A (RelateFault Key Id Name) → Type 0
+    SolverRelated r q a b result = RelatedTerms solver_manner over tree (solver_at r) (solver_after r q) a b result
+
+    -- Two type variables were related by registering just that the one is a subtype of the other.
+    abbrev pub SolverRegisters : SolverRelating Infcx Interner Key Id Name Span →
+        SolverRelating Infcx Interner Key Id Name Span → A → A → Result A (RelateFault Key Id Name) → Type 0
+    SolverRegisters r q a b result = TermsRegister solver_manner over tree (solver_at r) (solver_after r q) a b result

@@ -1,0 +1,15 @@
+-- Which variable a term of a context is.
+use Rattle.std.specs.Prelude.{◌≡◌, ℕ}
+use Rattle.relation_terms.specs.declared.terms.keys.ConstKey.{ConstKey}
+use Rattle.relation_terms.specs.declared.terms.keys.TyKey.{TyKey}
+use Rattle.relation_terms.specs.Heads.{type_var, const_var, variable}
+use Rattle.relation_terms.specs.Trees.{leaf}
+use Rattle.relation_contexts.specs.Contexts.{Context}
+
+module _ {Key Id Name : Type 0} where
+  -- A type is the type variable of that number, or a constant the constant variable.
+  abbrev pub MeansTyVar : Context Key Id Name → TyKey Key → ℕ → Type 0
+  MeansTyVar c t n = (c.meaning).ty t ≡ leaf (variable type_var n)
+
+  abbrev pub MeansConstVar : Context Key Id Name → ConstKey Key → ℕ → Type 0
+  MeansConstVar c t n = (c.meaning).const_ t ≡ leaf (variable const_var n)
