@@ -1,5 +1,5 @@
 -- The trees of small variable-free terms.
-use Rattle.std.specs.Prelude.{◌≡◌, ◌⊎◌, [], ◌∷◌, Bool, true, false, List, map, Option, Some, None, get_or}
+use Rattle.std.specs.Prelude.{◌≡◌, ◌⊎◌, ◌↔◌, [], ◌∷◌, Bool, true, false, List, map, Option, Some, None, get_or}
 use Rattle.relation_terms.specs.declared.terms.enums.Variance.{Variance}
 use Rattle.relation_terms.specs.declared.terms.enums.Variance.TheVariants.{Invariant}
 use Rattle.relation_terms.specs.Heads.{Sort, region_sort, type_sort, const_sort, value_sort, value_type_sort}
@@ -11,7 +11,7 @@ use Rattle.relation_terms.specs.Heads.{coroutine, coroutine_witness, array, slic
 use Rattle.relation_terms.specs.Heads.{value, value_type, value_branch, expression, range_pattern, or_pattern, Leaf}
 use Rattle.relation_terms.specs.Heads.{placeholder, atom}
 use Rattle.relation_terms.specs.Trees.{Tree, leaf, node, nil, cons}
-use Rattle.relation_contexts.specs.Relation.{Items, plain_atom}
+use Rattle.relation_contexts.specs.Relation.{Items, Interpretation, Rel, at, plain_atom}
 use Rattle.relation_laws.specs.declared.decided.SmallLeaf.{SmallLeaf}
 use Rattle.relation_laws.specs.declared.decided.SmallLeaf.TheVariants as small
 use Rattle.relation_laws.specs.declared.decided.SmallHead.{SmallHead}
@@ -82,6 +82,14 @@ pair_of p = (leaf (leaf_of p.0), leaf (leaf_of p.1))
 abbrev pub outlives_by : Bool → List (SmallLeaf × SmallLeaf) → Option (List (Tree × Tree))
 outlives_by true ps = None
 outlives_by false ps = Some (map pair_of ps)
+
+-- An interpretation says of regions just that.
+abbrev pub Obeys : Interpretation → Bool → List (SmallLeaf × SmallLeaf) → Type 0
+Obeys w all ps = w.outlives ≡ outlives_by all ps
+
+-- The answer is whether two terms are related at a variance, where each item declares these variances.
+abbrev pub Decides : Bool → List Variance → Interpretation → Tree → Variance → SmallTerm → SmallTerm → Type 0
+Decides b vs w e v s t = b ≡ true ↔ Rel (all_declare vs) w e (at v) (small_tree s) (small_tree t)
 
 abbrev pub sort_meant : SmallSort → Sort
 sort_meant sort.Region = region_sort

@@ -4,8 +4,8 @@ ghost use Rattle.relation_terms.specs.Heads.{leaf_sort, head_sort};
 ghost use Rattle.relation_terms.specs.Trees.{Tree, leaf};
 ghost use Rattle.relation_terms.specs.Variances.{xform};
 ghost use Rattle.relation_contexts.specs.Relation.{Items, Interpretation, RegionRule, Rel, at, parts, part_at, IsError};
-ghost use Rattle.relation_laws.specs.Decided.{leaf_of, head_of, small_tree, small_parts, all_declare, pair_of};
-ghost use Rattle.relation_laws.specs.Decided.{outlives_by, sort_meant, plain_leaf, Leads};
+ghost use Rattle.relation_laws.specs.Decided.{leaf_of, head_of, small_parts, all_declare, pair_of};
+ghost use Rattle.relation_laws.specs.Decided.{sort_meant, plain_leaf, Leads, Obeys, Decides};
 
 use relation_terms::terms::{FloatTy, IntTy, Mutability, UintTy, Variance};
 
@@ -183,7 +183,7 @@ fn regions_related(
     a: SmallLeaf,
     b: SmallLeaf,
 ) -> bool
-    ensures { (w : Interpretation) → w.outlives ≡ outlives_by all pairs.now →
+    ensures { (w : Interpretation) → Obeys w all pairs.now →
         (result ≡ true ↔ RegionRule w v (leaf (leaf_of a)) (leaf (leaf_of b))) }
 {
     let forth = either(all, leads(pairs, a, b));
@@ -205,7 +205,7 @@ fn leaves_related(
     b: SmallLeaf,
 ) -> bool
     requires { v ≢ Variance.Bivariant }
-    ensures { (c : Items) (w : Interpretation) (e : Tree) → w.outlives ≡ outlives_by all pairs.now →
+    ensures { (c : Items) (w : Interpretation) (e : Tree) → Obeys w all pairs.now →
         (result ≡ true ↔ Rel c w e (at v) (leaf (leaf_of a)) (leaf (leaf_of b))) }
 {
     let alike = same_leaf(plain(a), plain(b));
@@ -299,8 +299,7 @@ pub fn related(
     a: &SmallTerm,
     b: &SmallTerm,
 ) -> bool
-    ensures { (w : Interpretation) (e : Tree) → w.outlives ≡ outlives_by all pairs.now →
-        (result ≡ true ↔ Rel (all_declare declared.now) w e (at v) (small_tree a.now) (small_tree b.now)) }
+    ensures { (w : Interpretation) (e : Tree) → Obeys w all pairs.now → Decides result declared.now w e v a.now b.now }
 {
     if let Variance::Bivariant = v {
         return true;
@@ -328,7 +327,7 @@ fn parts_related(
     xs: &SmallParts,
     ys: &SmallParts,
 ) -> bool
-    ensures { (w : Interpretation) (e : Tree) (j : ℕ) → w.outlives ≡ outlives_by all pairs.now →
+    ensures { (w : Interpretation) (e : Tree) (j : ℕ) → Obeys w all pairs.now →
         i ≡ min j (max (length declared.now) 1) →
         (result ≡ true ↔ Rel (all_declare declared.now) w e (parts (head_of head) j v)
         (small_parts xs.now) (small_parts ys.now)) }
