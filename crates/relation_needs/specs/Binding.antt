@@ -7,7 +7,7 @@ use Rattle.relation_contexts.specs.Bound.{BindByLists}
 use Rattle.relation_text.specs.declared.naming.program.Parts.{Parts}
 use Rattle.relation_text.specs.declared.naming.program.Term.{Term}
 use Rattle.relation_text.specs.declared.naming.program.Term.TheVariants as term
-use Rattle.relation_text.specs.Terms.{at}
+use Rattle.relation_text.specs.Terms.{at, trees_of}
 use Rattle.relation_needs.specs.declared.binding.BoundSort.{BoundSort}
 use Rattle.relation_needs.specs.declared.binding.BoundSort.TheVariants.{Region, Ty, Const}
 use Rattle.relation_needs.specs.declared.binding.Outer.{Outer}
@@ -42,6 +42,10 @@ Tells None t = t ≡ leaf unknown
 -- It is so of each term.
 abbrev pub AreTold : List Tree → List Uses → Type 0
 AreTold trees uses = (k : ℕ) → Tells (slice_get uses k) (at trees k)
+
+-- The same of all of a program's terms, whatever its items and names mean.
+abbrev pub AreAllTold : List ℕ → List Term → List Uses → Type 0
+AreAllTold parts terms uses = (items names : List ℕ) → AreTold (trees_of items names parts terms) uses
 
 -- All of the second things are among the first.
 abbrev pub AreIn : List Outer → List Outer → Type 0

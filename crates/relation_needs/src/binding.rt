@@ -1,10 +1,9 @@
 //! What terms use that binders outside them bind, and whether their own binders bind by their lists.
-ghost use Rattle.std.specs.Prelude.{◌≡◌, ℕ, suc, List, [], ◌∷◌, All, Contains, Some, IsTrue, IfOk, IfSome, OnOk};
+ghost use Rattle.std.specs.Prelude.{◌≡◌, ℕ, suc, [], ◌∷◌, All, Contains, Some, IsTrue, IfOk, IfSome, OnOk};
 ghost use Rattle.std.specs.Prelude.{slice_get, slice_range};
 ghost use Rattle.relation_needs.specs.declared.binding.Uses.{Uses};
-ghost use Rattle.relation_text.specs.Terms.{trees_of};
 ghost use Rattle.relation_needs.specs.Binding.{AreIn, TakesAll, TakesAt, TakesIf, TakesInside, Behind, HasSort};
-ghost use Rattle.relation_needs.specs.Binding.{BindsAll, SaysOf, AreTold, own_of, inside_of};
+ghost use Rattle.relation_needs.specs.Binding.{BindsAll, SaysOf, AreAllTold, own_of, inside_of};
 
 use crate::needs::number_at;
 use relation_text::naming::{Parts, Program, Term};
@@ -369,8 +368,7 @@ fn term_uses(
 /// # Errors
 /// `AllocError` where a growth was refused.
 pub fn uses_of(alloc: Global, program: &Program) -> Result<Vec<Uses>, AllocError>
-    ensures { IfOk result (λ uses. (items names : List ℕ) →
-        AreTold (trees_of items names program.now.parts.items program.now.terms.items) uses.items) }
+    ensures { IfOk result (λ uses. AreAllTold program.now.parts.items program.now.terms.items uses.items) }
 {
     let mut all = Vec::new(alloc);
     for term in &program.terms {

@@ -227,8 +227,7 @@ fn told_at(needs: Needs, all: &[Uses], number: usize) -> Needs
 /// # Errors
 /// `AllocError` where a growth was refused.
 pub fn needs_of(alloc: Global, program: &Program, uses: &[Uses]) -> Result<Vec<Needs>, AllocError>
-    ensures { let xs = program.now.terms.items in
-        IfOk result (λ needs. needs.items ≡ needs_of program.now.parts.items uses.now xs) }
+    ensures { IfOk result (λ needs. needs.items ≡ needs_of program.now.parts.items uses.now program.now.terms.items) }
 {
     let mut needs = Vec::with_capacity(alloc, program.terms.len())?;
     for term in &program.terms {
