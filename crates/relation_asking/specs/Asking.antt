@@ -24,6 +24,7 @@ use Rattle.relation_text.specs.declared.naming.program.Variables.{Variables}
 use Rattle.relation_asking.specs.declared.context.VariableKind.{VariableKind}
 use Rattle.relation_asking.specs.declared.context.VariableKind.TheVariants.{Ty, Int, Float, Const, Region}
 use Rattle.relation_needs.specs.declared.needs.Needs.{Needs}
+use Rattle.relation_asking.specs.declared.question.Ready.{Ready}
 use Rattle.relation_asking.specs.declared.question.Answer.{Answer}
 use Rattle.relation_asking.specs.declared.question.Answer.TheVariants.{Related, Met, Walked, Components, Folded, Is}
 use Rattle.relation_asking.specs.declared.question.Answer.TheVariants.{Assumed, Key as key}
@@ -53,6 +54,10 @@ abbrev pub AreReady : {Key Id Name : Type 0} → Meaning Key Id Name → List (O
     Type 0
 AreReady {Key = Key} m keys needs = (k : ℕ) (key : GenericArgKind Key) → slice_get keys k ≡ Some (Some key) →
     IsReady (need_at needs k) (arg_tree m key)
+
+-- The same of what questions are put over.
+abbrev pub AllReady : {I Key Id Name Span : Type 0} → Meaning Key Id Name → Ready I Key Id Name Span → Type 0
+AllReady m terms = AreReady m terms.built.now terms.needs.now
 
 -- The kind of variables that contracts speak of by this name.
 abbrev pub var_kind : VariableKind → VarKind

@@ -5,9 +5,10 @@ use Rattle.relation_terms.specs.Trees.{Tree, known, list_tree}
 use Rattle.relation_terms.specs.Meaning.{Meaning, arg_tree}
 use Rattle.relation_terms.specs.declared.terms.generic_arg.GenericArgKind.{GenericArgKind}
 use Rattle.relation_asking.specs.declared.visiting.Collects.{Collects}
+use Rattle.relation_asking.specs.declared.visiting.Met.{Met}
 use Rattle.relation_folds.specs.declared.visit.Visit.{Visit}
 use Rattle.relation_folds.specs.declared.visit.Visit.TheVariants.{Enter, Skip, Stop}
-use Rattle.relation_folds.specs.Visits.{Flow}
+use Rattle.relation_folds.specs.Visits.{Flow, Walks}
 use Rattle.relation_asking.specs.Codes.{same_tree}
 
 -- One of the things is the same as another.
@@ -41,3 +42,8 @@ module _ {Key Id Name : Type 0} (m : Meaning Key Id Name) where
       × (AllKnown v.skip.now → AllKnown v.stop.now → w.refused ≡ false →
       Meets (map (arg_tree m) v.skip.now) (map (arg_tree m) v.stop.now) (map (arg_tree m) v.terms.items) d t
       (map (arg_tree m) w.terms.items) a)
+
+  -- That is what a visitor of a term is asked about that skips the first and stops at the second.
+  abbrev pub IsMet : List (GenericArgKind Key) → List (GenericArgKind Key) → GenericArgKind Key → Met Key → Type 0
+  IsMet skip stop term met = Walks (Meets (map (arg_tree m) skip) (map (arg_tree m) stop)) 0 [] (arg_tree m term)
+      (map (arg_tree m) met.terms.items) (flow met.stopped)

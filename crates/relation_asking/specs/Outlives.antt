@@ -1,8 +1,10 @@
--- What components name is known.
-use Rattle.std.specs.Prelude.{List, IsTrue}
+-- What components name is known, and the components that a type has.
+use Rattle.std.specs.Prelude.{List, [], IsTrue}
+use Rattle.relation_terms.specs.declared.terms.keys.TyKey.{TyKey}
 use Rattle.relation_terms.specs.Trees.{known}
 use Rattle.relation_terms.specs.Meaning.{Meaning}
-use Rattle.relation_tools.specs.Outliving.{EachIs}
+use Rattle.relation_tools.specs.Components.{every, components}
+use Rattle.relation_tools.specs.Outliving.{EachIs, AddsSome, HasAll}
 use Rattle.relation_tools.specs.declared.outlives.Component.{Component, Region, Param, Placeholder, UnresolvedInferenceVariable, Alias, EscapingAlias', Row_of-Component, end_of-Component, more_of-Component}
 
 module _ {X D N : Type 0} (m : Meaning X D N) where
@@ -24,3 +26,10 @@ module _ {X D N : Type 0} (m : Meaning X D N) where
   -- The same of each of a list.
   abbrev pub KnowsComponents : List (Component X D N) → Type 0
   KnowsComponents cs = EachIs (λ c. KnowsComponent c) cs
+
+  -- Each is a component of a type, or for each component of a type one is there.
+  abbrev pub AreComponents : TyKey X → List (Component X D N) → Type 0
+  AreComponents t cs = AddsSome m (components every (m.ty t)) [] cs
+
+  abbrev pub HasComponents : TyKey X → List (Component X D N) → Type 0
+  HasComponents t cs = HasAll m (components every (m.ty t)) cs

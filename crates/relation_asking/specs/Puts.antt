@@ -6,6 +6,7 @@ use Rattle.relation_terms.specs.Trees.{Tree, known}
 use Rattle.relation_terms.specs.Meaning.{Meaning, Extends, arg_tree}
 use Rattle.relation_terms.proofs.Stays.{stays_arg, knows_arg}
 use Rattle.std.proofs.Common.{◌≡◌, refl, ap, ap₂, ◌∙◌}
+use Rattle.relation_folds.specs.Folds.{folded}
 use Rattle.relation_text.specs.declared.naming.program.Put.{Put}
 use Rattle.relation_asking.specs.Args.{alike}
 use Rattle.relation_asking.specs.Codes.{same_tree}
@@ -33,6 +34,11 @@ module _ {Key Id Name : Type 0} (m : Meaning Key Id Name) where
   -- The tree that is put for one.
   abbrev pub tree_put : List (Put (GenericArgKind Key)) → Tree → Option Tree
   tree_put ps t = first_put same_tree (put_trees ps) t
+
+  -- Of a term came that, in a later meaning, where others were put for its parts.
+  abbrev pub IsFolded : Meaning Key Id Name → List (Put (GenericArgKind Key)) → GenericArgKind Key →
+      GenericArgKind Key → Type 0
+  IsFolded n ps term key = arg_tree n key ≡ folded (λ d. tree_put ps) 0 (arg_tree m term)
 
   -- The tree of an argument that may be missing.
   abbrev pub tree_of : Option (GenericArgKind Key) → Option Tree

@@ -2,9 +2,8 @@
 ghost use Rattle.std.specs.Prelude.{◌≡◌, IsTrue, IfSome, IfOk, slice_range};
 ghost use Rattle.relation_terms.specs.Trees.{known};
 ghost use Rattle.relation_terms.specs.Meaning.{Extends, arg_tree};
-ghost use Rattle.relation_folds.specs.Folds.{folded};
 ghost use Rattle.relation_asking.specs.Args.{alike, same_arg};
-ghost use Rattle.relation_asking.specs.Puts.{first_put, IsMade, AreMade, ArePuts, tree_put, tree_of};
+ghost use Rattle.relation_asking.specs.Puts.{first_put, IsMade, AreMade, ArePuts, IsFolded, tree_put, tree_of};
 
 use crate::comparing::{alike, same_arg};
 use relation_folds::fold::{Fold, TypeFoldable, TypeFolder};
@@ -129,8 +128,7 @@ pub(super) fn puts_at<X: Copy>(
     built: &[Option<GenericArgKind<X>>],
     range: Parts,
 ) -> Option<Vec<Put<GenericArgKind<X>>>>
-    ensures { let places = slice_range numbers.now range.first range.behind in
-        IfSome result (λ puts. AreMade built.now places puts.items) }
+    ensures { IfSome result (λ puts. AreMade built.now (slice_range numbers.now range.first range.behind) puts.items) }
 {
     let places = numbers.get(range.first..range.behind)?;
     let mut puts = Vec::new(alloc);
@@ -153,9 +151,7 @@ pub(super) fn fold<I: Interner>(
     requires known { IsTrue (known (arg_tree (I.meaning cx.old) term.now)) }
     ensures grown { Extends (I.meaning cx.old) (I.meaning cx.new) }
     ensures sure { IfOk result (λ key. IsTrue (known (arg_tree (I.meaning cx.new) key))) }
-    ensures made { let m = I.meaning cx.old in
-        IfOk result (λ key. arg_tree (I.meaning cx.new) key ≡
-        folded (λ d. tree_put m puts.now) 0 (arg_tree m term.now)) }
+    ensures made { IfOk result (λ key. IsFolded (I.meaning cx.old) (I.meaning cx.new) puts.now term.now key) }
 {
     term.fold_with(cx, &mut Puts { puts })
 }

@@ -1,7 +1,7 @@
 //! Questions are asked in turn, and their answers are written, with a text of the caller's between two.
 #![tactic(auto)]
 
-ghost use Rattle.relation_asking.specs.Asking.{AreReady};
+ghost use Rattle.relation_asking.specs.Asking.{AllReady};
 
 mod comparing;
 mod context;
@@ -49,7 +49,7 @@ fn ask_ready<I: SizedKeys + Drop, W: Write>(
     between: &str,
     out: &mut W,
 ) -> fmt::Result
-    requires { AreReady (I.meaning interner) terms.now.built.now terms.now.needs.now }
+    requires { AllReady (I.meaning interner) terms.now }
 {
     let Ok(made) = RefCtxt::new(interner, true, BUDGET) else {
         return refuse_all(program, between, out);

@@ -3,7 +3,7 @@ ghost use Rattle.std.specs.Prelude.{◌≡◌, IsTrue, IfOk};
 ghost use Rattle.relation_terms.specs.Trees.{known, count};
 ghost use Rattle.relation_terms.specs.Meaning.{Extends};
 ghost use Rattle.relation_reference.specs.Tables.{IsLawful};
-ghost use Rattle.relation_asking.specs.Asking.{AreReady, IsReady, KnowsRelated};
+ghost use Rattle.relation_asking.specs.Asking.{AllReady, IsReady, KnowsRelated};
 
 use crate::context::{NotAsked, have_variables, refusal, relate};
 use crate::question::{Ready, Unasked};
@@ -22,7 +22,7 @@ pub(super) fn args_of<I: Interner>(
     list: Parts,
 ) -> Result<(GenericArgs<I>, Needs), Unasked>
     requires lawful { IsLawful (I.meaning ctx.old.interner) ctx.old.inner }
-    requires ready { AreReady (I.meaning ctx.old.interner) terms.now.built.now terms.now.needs.now }
+    requires ready { AllReady (I.meaning ctx.old.interner) terms.now }
     ensures lawful { IsLawful (I.meaning ctx.new.interner) ctx.new.inner }
     ensures grown { Extends (I.meaning ctx.old.interner) (I.meaning ctx.new.interner) }
     ensures sure { IfOk result (λ p. IsReady p.1 ((I.meaning ctx.new.interner).args p.0)) }
@@ -87,7 +87,7 @@ pub(super) fn ask_args_related<I: Interner>(
     rhs: Parts,
 ) -> Result<RelateGoals<I>, Unasked>
     requires lawful { IsLawful (I.meaning ctx.old.interner) ctx.old.inner }
-    requires ready { AreReady (I.meaning ctx.old.interner) terms.now.built.now terms.now.needs.now }
+    requires ready { AllReady (I.meaning ctx.old.interner) terms.now }
     ensures lawful { IsLawful (I.meaning ctx.new.interner) ctx.new.inner }
     ensures grown { Extends (I.meaning ctx.old.interner) (I.meaning ctx.new.interner) }
     ensures known { IfOk result (KnowsRelated (I.meaning ctx.new.interner)) }

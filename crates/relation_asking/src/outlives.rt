@@ -6,7 +6,7 @@ ghost use Rattle.relation_terms.specs.Meaning.{Meaning, Extends, arg_tree};
 ghost use Rattle.relation_tools.specs.Assumptions.{IsKnown};
 ghost use Rattle.relation_reference.specs.Tables.{IsLawful};
 ghost use Rattle.relation_asking.specs.Meets.{AllKnown};
-ghost use Rattle.relation_asking.specs.Asking.{AreReady};
+ghost use Rattle.relation_asking.specs.Asking.{AllReady};
 ghost use Rattle.relation_asking.specs.Outlives.{KnowsComponent, KnowsComponents};
 
 use crate::question::{Ready, Unasked, terms_of, type_of};
@@ -31,7 +31,7 @@ pub(super) fn ask_components<I: SizedKeys>(
     terms: &Ready<I>,
     number: usize,
 ) -> Result<Vec<ComponentOf<I>>, Unasked>
-    requires { AreReady (I.meaning cx.now) terms.now.built.now terms.now.needs.now }
+    requires { AllReady (I.meaning cx.now) terms.now }
     ensures { IfOk result (λ found. KnowsComponents (I.meaning cx.now) found.items) }
 {
     let Some((ty, _)) = type_of(terms, number) else {
@@ -153,7 +153,7 @@ pub(super) fn ask_assumptions<I: Interner>(
     regions: Parts,
 ) -> Result<Vec<OutlivesAssumption<I>>, Unasked>
     requires lawful { IsLawful (I.meaning ctx.old.interner) ctx.old.inner }
-    requires ready { AreReady (I.meaning ctx.old.interner) terms.now.built.now terms.now.needs.now }
+    requires ready { AllReady (I.meaning ctx.old.interner) terms.now }
     ensures lawful { IsLawful (I.meaning ctx.new.interner) ctx.new.inner }
     ensures grown { Extends (I.meaning ctx.old.interner) (I.meaning ctx.new.interner) }
     ensures sure { IfOk result (λ all. All (IsKnown (I.meaning ctx.new.interner)) all.items) }

@@ -5,7 +5,7 @@ ghost use Rattle.relation_terms.specs.Meaning.{Meaning, Extends, arg_tree};
 ghost use Rattle.relation_reference.specs.Tables.{IsLawful};
 ghost use Rattle.relation_asking.specs.Puts.{ArePuts};
 ghost use Rattle.relation_asking.specs.Meets.{AllKnown};
-ghost use Rattle.relation_asking.specs.Asking.{AreReady, IsReady, KnowsAnswer, KnowsRelated};
+ghost use Rattle.relation_asking.specs.Asking.{AllReady, IsReady, KnowsAnswer, KnowsRelated};
 
 use crate::BUDGET;
 use crate::context::{
@@ -125,8 +125,7 @@ pub(super) fn context_for<I: Interner>(
 
 // The type of that number, and what it needs.
 pub(super) fn type_of<I: Interner>(terms: &Ready<I>, number: usize) -> Option<(Ty<I>, Needs)>
-    ensures { (m : Meaning I.Key I.Id I.Name) → AreReady m terms.now.built.now terms.now.needs.now →
-        IfSome result (λ p. IsReady p.1 (m.ty p.0)) }
+    ensures { (m : Meaning I.Key I.Id I.Name) → AllReady m terms.now → IfSome result (λ p. IsReady p.1 (m.ty p.0)) }
 {
     let ty = ty_at(terms.built, number)?;
     Some((ty, need_at(terms.needs, number)))
@@ -141,7 +140,7 @@ fn ask_related<I: Interner>(
     rhs: usize,
 ) -> Result<RelateGoals<I>, Unasked>
     requires lawful { IsLawful (I.meaning ctx.old.interner) ctx.old.inner }
-    requires ready { AreReady (I.meaning ctx.old.interner) terms.now.built.now terms.now.needs.now }
+    requires ready { AllReady (I.meaning ctx.old.interner) terms.now }
     ensures lawful { IsLawful (I.meaning ctx.new.interner) ctx.new.inner }
     ensures grown { Extends (I.meaning ctx.old.interner) (I.meaning ctx.new.interner) }
     ensures known { IfOk result (KnowsRelated (I.meaning ctx.new.interner)) }
@@ -167,7 +166,7 @@ fn ask_related<I: Interner>(
 
 // The term of that number.
 fn term_of<I: Interner>(terms: &Ready<I>, number: usize) -> Result<GenericArg<I>, Unasked>
-    ensures { (m : Meaning I.Key I.Id I.Name) → AreReady m terms.now.built.now terms.now.needs.now →
+    ensures { (m : Meaning I.Key I.Id I.Name) → AllReady m terms.now →
         IfOk result (λ key. IsTrue (known (arg_tree m key))) }
 {
     match key_at(terms.built, number) {
@@ -182,8 +181,7 @@ pub(super) fn terms_of<I: Interner>(
     terms: &Ready<I>,
     list: Parts,
 ) -> Result<Vec<GenericArg<I>>, Unasked>
-    ensures { (m : Meaning I.Key I.Id I.Name) → AreReady m terms.now.built.now terms.now.needs.now →
-        IfOk result (λ keys. AllKnown m keys.items) }
+    ensures { (m : Meaning I.Key I.Id I.Name) → AllReady m terms.now → IfOk result (λ keys. AllKnown m keys.items) }
 {
     match keys_at(alloc, terms.parts, terms.built, list) {
         Some(keys) => Ok(keys),
@@ -197,8 +195,7 @@ fn puts_of<I: Interner>(
     terms: &Ready<I>,
     range: Parts,
 ) -> Result<Vec<Put<GenericArg<I>>>, Unasked>
-    ensures { (m : Meaning I.Key I.Id I.Name) → AreReady m terms.now.built.now terms.now.needs.now →
-        IfOk result (λ puts. ArePuts m puts.items) }
+    ensures { (m : Meaning I.Key I.Id I.Name) → AllReady m terms.now → IfOk result (λ puts. ArePuts m puts.items) }
 {
     match puts_at(alloc, terms.puts, terms.built, range) {
         Some(puts) => Ok(puts),
@@ -214,7 +211,7 @@ fn ask_visited<I: Interner>(
     skip: Parts,
     stop: Parts,
 ) -> Result<Met<I::Key>, Unasked>
-    requires { AreReady (I.meaning cx.now) terms.now.built.now terms.now.needs.now }
+    requires { AllReady (I.meaning cx.now) terms.now }
     ensures { IfOk result (λ met. AllKnown (I.meaning cx.now) met.terms.items) }
 {
     let term = term_of(terms, term)?;
@@ -233,7 +230,7 @@ fn ask_walked<I: SizedKeys>(
     term: usize,
     skips: Parts,
 ) -> Result<Vec<GenericArg<I>>, Unasked>
-    requires { AreReady (I.meaning cx.now) terms.now.built.now terms.now.needs.now }
+    requires { AllReady (I.meaning cx.now) terms.now }
     ensures { IfOk result (λ yielded. AllKnown (I.meaning cx.now) yielded.items) }
 {
     let term = term_of(terms, term)?;
@@ -252,7 +249,7 @@ fn ask_folded<I: Interner>(
     puts: Parts,
 ) -> Result<GenericArg<I>, Unasked>
     requires lawful { IsLawful (I.meaning ctx.old.interner) ctx.old.inner }
-    requires ready { AreReady (I.meaning ctx.old.interner) terms.now.built.now terms.now.needs.now }
+    requires ready { AllReady (I.meaning ctx.old.interner) terms.now }
     ensures lawful { IsLawful (I.meaning ctx.new.interner) ctx.new.inner }
     ensures grown { Extends (I.meaning ctx.old.interner) (I.meaning ctx.new.interner) }
     ensures sure { IfOk result (λ key. IsTrue (known (arg_tree (I.meaning ctx.new.interner) key))) }
@@ -267,7 +264,7 @@ fn ask_folded<I: Interner>(
 
 // Whether a variable stands in a term that a binder outside it binds.
 fn ask_escapes<I: Interner>(cx: &I, terms: &Ready<I>, number: usize) -> Result<bool, Unasked>
-    requires { AreReady (I.meaning cx.now) terms.now.built.now terms.now.needs.now }
+    requires { AllReady (I.meaning cx.now) terms.now }
 {
     let term = term_of(terms, number)?;
     Ok(has_escaping_bound_vars(cx, &term))
@@ -275,7 +272,7 @@ fn ask_escapes<I: Interner>(cx: &I, terms: &Ready<I>, number: usize) -> Result<b
 
 // Whether a variable that is no region stands in a term.
 fn ask_infers<I: Interner>(cx: &I, terms: &Ready<I>, number: usize) -> Result<bool, Unasked>
-    requires { AreReady (I.meaning cx.now) terms.now.built.now terms.now.needs.now }
+    requires { AllReady (I.meaning cx.now) terms.now }
 {
     let term = term_of(terms, number)?;
     Ok(has_non_region_infer(cx, &term))
@@ -283,7 +280,7 @@ fn ask_infers<I: Interner>(cx: &I, terms: &Ready<I>, number: usize) -> Result<bo
 
 // Whether a type's outermost form stays what it is.
 fn ask_rigid<I: Interner>(cx: &I, terms: &Ready<I>, number: usize) -> Result<bool, Unasked>
-    requires { AreReady (I.meaning cx.now) terms.now.built.now terms.now.needs.now }
+    requires { AllReady (I.meaning cx.now) terms.now }
 {
     let Some((ty, _)) = type_of(terms, number) else {
         return Err(Unasked::Memory);
@@ -295,7 +292,7 @@ fn ask_rigid<I: Interner>(cx: &I, terms: &Ready<I>, number: usize) -> Result<boo
 #[tactic(auto, using(relation_terms::proofs::Stays::stays_same))]
 fn ask<I: SizedKeys>(ctx: &mut RefCtxt<I>, terms: &Ready<I>, question: &Question) -> Outcome<I>
     requires lawful { IsLawful (I.meaning ctx.old.interner) ctx.old.inner }
-    requires ready { AreReady (I.meaning ctx.old.interner) terms.now.built.now terms.now.needs.now }
+    requires ready { AllReady (I.meaning ctx.old.interner) terms.now }
     ensures lawful { IsLawful (I.meaning ctx.new.interner) ctx.new.inner }
     ensures grown { Extends (I.meaning ctx.old.interner) (I.meaning ctx.new.interner) }
     ensures known { let m = I.meaning ctx.new.interner in
@@ -375,7 +372,7 @@ fn stated_for<'a, I: Interner>(terms: &Ready<'a, I>, question: &Question) -> &'a
 #[tactic(auto, using(crate::proofs::AskingLemmas::ready_stays, relation_terms::proofs::Stays::extends_on))]
 fn ask_in<I: SizedKeys>(ctx: &mut RefCtxt<I>, terms: &Ready<I>, question: &Question) -> Outcome<I>
     requires lawful { IsLawful (I.meaning ctx.old.interner) ctx.old.inner }
-    requires ready { AreReady (I.meaning ctx.old.interner) terms.now.built.now terms.now.needs.now }
+    requires ready { AllReady (I.meaning ctx.old.interner) terms.now }
     ensures lawful { IsLawful (I.meaning ctx.new.interner) ctx.new.inner }
     ensures grown { Extends (I.meaning ctx.old.interner) (I.meaning ctx.new.interner) }
     ensures known { let m = I.meaning ctx.new.interner in
@@ -394,7 +391,7 @@ pub(super) fn ask_often<I: SizedKeys>(
     question: &Question,
 ) -> (RefCtxt<I>, Outcome<I>)
     requires lawful { IsLawful (I.meaning ctx.interner) ctx.inner }
-    requires ready { AreReady (I.meaning ctx.interner) terms.now.built.now terms.now.needs.now }
+    requires ready { AllReady (I.meaning ctx.interner) terms.now }
     ensures lawful { IsLawful (I.meaning result.0.interner) result.0.inner }
     ensures grown { Extends (I.meaning ctx.interner) (I.meaning result.0.interner) }
     ensures known { let m = I.meaning result.0.interner in

@@ -3,7 +3,7 @@ ghost use Rattle.std.specs.Prelude.{IsTrue};
 ghost use Rattle.relation_terms.specs.Trees.{known};
 ghost use Rattle.relation_terms.specs.Meaning.{Extends};
 ghost use Rattle.relation_reference.specs.Tables.{IsLawful};
-ghost use Rattle.relation_asking.specs.Asking.{AreReady};
+ghost use Rattle.relation_asking.specs.Asking.{AllReady};
 
 use crate::lists::args_of;
 use crate::question::{Ready, Unasked, type_of};
@@ -44,7 +44,7 @@ pub(super) fn ask_may_unify<I: Interner>(
     rhs: usize,
     depth: Option<usize>,
 ) -> Result<bool, Unasked>
-    requires { AreReady (I.meaning cx.now) terms.now.built.now terms.now.needs.now }
+    requires { AllReady (I.meaning cx.now) terms.now }
 {
     let Some((lhs, _)) = type_of(terms, lhs) else {
         return Err(Unasked::Memory);
@@ -78,7 +78,7 @@ pub(super) fn ask_args_may_unify<I: Interner>(
     rhs: Parts,
 ) -> Result<bool, Unasked>
     requires lawful { IsLawful (I.meaning ctx.old.interner) ctx.old.inner }
-    requires ready { AreReady (I.meaning ctx.old.interner) terms.now.built.now terms.now.needs.now }
+    requires ready { AllReady (I.meaning ctx.old.interner) terms.now }
     ensures lawful { IsLawful (I.meaning ctx.new.interner) ctx.new.inner }
     ensures grown { Extends (I.meaning ctx.old.interner) (I.meaning ctx.new.interner) }
 {
@@ -108,7 +108,7 @@ pub(super) fn ask_key<I: Interner>(
     params: KeyParams,
     number: usize,
 ) -> Result<KeyOf<I>, Unasked>
-    requires { AreReady (I.meaning cx.now) terms.now.built.now terms.now.needs.now }
+    requires { AllReady (I.meaning cx.now) terms.now }
 {
     let Some((ty, _)) = type_of(terms, number) else {
         return Err(Unasked::Memory);

@@ -1,14 +1,10 @@
 //! Interners whose keys have a known size, over which all questions can be asked.
-ghost use Rattle.std.specs.Prelude.{◌≡◌, IsTrue, IfOk, false, map, []};
+ghost use Rattle.std.specs.Prelude.{IsTrue, IfOk};
 ghost use Rattle.relation_terms.specs.Trees.{known};
 ghost use Rattle.relation_terms.specs.Meaning.{arg_tree};
-ghost use Rattle.relation_tools.specs.Components.{every, components};
-ghost use Rattle.relation_tools.specs.Outliving.{AddsSome, HasAll};
-ghost use Rattle.relation_tools.specs.Positions.{yields};
-ghost use Rattle.relation_asking.specs.Codes.{same_tree};
 ghost use Rattle.relation_asking.specs.Meets.{AllKnown};
-ghost use Rattle.relation_asking.specs.Outlives.{KnowsComponents};
-ghost use Rattle.relation_asking.specs.Skips.{skipped_in};
+ghost use Rattle.relation_asking.specs.Outlives.{KnowsComponents, AreComponents, HasComponents};
+ghost use Rattle.relation_asking.specs.Skips.{AreYielded};
 
 use crate::walking::walk_on;
 use reference_interner::RefInterner;
@@ -32,8 +28,7 @@ pub trait SizedKeys: Interner {
     ) -> Result<Vec<GenericArg<Self>>, OutOfMemory>
         requires known { IsTrue (known (arg_tree (Self.meaning self.now) root.now)) }
         ensures sure { IfOk result (λ xs. AllKnown (Self.meaning self.now) xs.items) }
-        ensures by_places { let tree = arg_tree (Self.meaning self.now) in
-            IfOk result (λ xs. map tree xs.items ≡ yields same_tree (skipped_in skips.now) false [] (tree root.now)) };
+        ensures by_places { IfOk result (λ xs. AreYielded (Self.meaning self.now) root.now skips.now xs.items) };
 
     /// The components of a type: what has to outlive a region for the type to outlive it.
     ///
@@ -42,10 +37,8 @@ pub trait SizedKeys: Interner {
     fn components(&self, ty: &Ty<Self>) -> Result<Vec<ComponentOf<Self>>, OutOfMemory>
         requires known { IsTrue (known ((Self.meaning self.now).ty ty.now)) }
         ensures sure { IfOk result (λ cs. KnowsComponents (Self.meaning self.now) cs.items) }
-        ensures some { let m = Self.meaning self.now in
-            IfOk result (λ cs. AddsSome m (components every (m.ty ty.now)) [] cs.items) }
-        ensures all { let m = Self.meaning self.now in
-            IfOk result (λ cs. HasAll m (components every (m.ty ty.now)) cs.items) };
+        ensures some { IfOk result (λ cs. AreComponents (Self.meaning self.now) ty.now cs.items) }
+        ensures all { IfOk result (λ cs. HasComponents (Self.meaning self.now) ty.now cs.items) };
 }
 
 impl SizedKeys for RefInterner {

@@ -1,10 +1,10 @@
 //! Visits that are asked for: what a visitor is asked about.
-ghost use Rattle.std.specs.Prelude.{◌≡◌, IsTrue, IfSome, [], map};
+ghost use Rattle.std.specs.Prelude.{◌≡◌, IsTrue, IfSome, []};
 ghost use Rattle.relation_terms.specs.Trees.{known};
 ghost use Rattle.relation_terms.specs.Meaning.{arg_tree};
 ghost use Rattle.relation_folds.specs.Visits.{Walks};
 ghost use Rattle.relation_asking.specs.Args.{same_arg};
-ghost use Rattle.relation_asking.specs.Meets.{is_in, answer_at, Meets, AllKnown, Asks, flow};
+ghost use Rattle.relation_asking.specs.Meets.{is_in, answer_at, AllKnown, Asks, IsMet, flow};
 
 use crate::comparing::same_arg;
 use relation_folds::visit::{TypeVisitable, TypeVisitor, Visit};
@@ -110,8 +110,7 @@ pub(super) fn visit<I: Interner>(
     requires skip_known { AllKnown (I.meaning cx.now) skip.now }
     requires stop_known { AllKnown (I.meaning cx.now) stop.now }
     ensures sure { IfSome result (λ met. AllKnown (I.meaning cx.now) met.terms.items) }
-    ensures met { let tree = arg_tree (I.meaning cx.now) in let meets = Meets (map tree skip.now) (map tree stop.now) in
-        IfSome result (λ met. Walks meets 0 [] (tree term.now) (map tree met.terms.items) (flow met.stopped)) }
+    ensures met { IfSome result (λ met. IsMet (I.meaning cx.now) skip.now stop.now term.now met) }
 {
     let mut visitor = Collects {
         skip,

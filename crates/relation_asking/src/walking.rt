@@ -1,11 +1,8 @@
 //! Walks that are asked for: what a walk yields that skips after some of its pulls.
-ghost use Rattle.std.specs.Prelude.{◌≡◌, IfOk, false, map, cond, []};
-ghost use Rattle.relation_terms.specs.Meaning.{arg_tree};
+ghost use Rattle.std.specs.Prelude.{◌≡◌, IfOk, cond, []};
 ghost use Rattle.relation_tools.specs.Walking.{Walk};
-ghost use Rattle.relation_tools.specs.Positions.{yields, ByPlaces};
-ghost use Rattle.relation_asking.specs.Codes.{same_tree};
 ghost use Rattle.relation_asking.specs.Meets.{AllKnown};
-ghost use Rattle.relation_asking.specs.Skips.{stands_in, skipped_in};
+ghost use Rattle.relation_asking.specs.Skips.{stands_in, AreYielded, GoesOver};
 
 use relation_terms::terms::{GenericArg, GenericArgKind, Interner, OutOfMemory};
 use relation_text::naming::Parts;
@@ -44,11 +41,9 @@ pub(super) fn walk_on<I: Interner>(
     root: &GenericArg<I>,
     skips: &[usize],
 ) -> Result<Vec<GenericArg<I>>, OutOfMemory>
-    requires { ByPlaces (I.meaning (walker.old).cx) ⟦<GenericArgKind<I::Key> as PartialEq>⟧.eq walker.old
-        (arg_tree (I.meaning (walker.old).cx) root.now) }
+    requires { GoesOver (I.meaning (walker.old).cx) ⟦<GenericArgKind<I::Key> as PartialEq>⟧.eq walker.old root.now }
     ensures sure { IfOk result (λ xs. AllKnown (I.meaning (walker.old).cx) xs.items) }
-    ensures by_places { let tree = arg_tree (I.meaning (walker.old).cx) in
-        IfOk result (λ xs. map tree xs.items ≡ yields same_tree (skipped_in skips.now) false [] (tree root.now)) }
+    ensures by_places { IfOk result (λ xs. AreYielded (I.meaning (walker.old).cx) root.now skips.now xs.items) }
 {
     let mut found = Vec::new(alloc);
     skip_after(walker, skips, 0);
