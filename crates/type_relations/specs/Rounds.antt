@@ -78,7 +78,7 @@ module _ {Key Id Name : Type 0} where
 
 -- Of binders whose bodies have these trees.
 module _ {Key Id Name T : Type 0} (tree : Meaning Key Id Name → T → Tree) where
-  -- Either body uses what its binder binds.
+  -- Whether either body uses what its binder binds.
   abbrev pub one_uses_bound : Meaning Key Id Name → Binder Key T → Binder Key T → Bool
   one_uses_bound m a b = bound_var_escapes (tree m a.value) || bound_var_escapes (tree m b.value)
 
