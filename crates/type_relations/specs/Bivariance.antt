@@ -3,6 +3,10 @@ use Rattle.std.specs.Prelude.{◌≡◌, ◌⊎◌, ℕ, ◌<◌, Bool, List, []
 use Rattle.relation_terms.specs.declared.terms.enums.Variance.TheVariants.{Bivariant}
 use Rattle.relation_terms.specs.Flags.{has_non_region_infer}
 use Rattle.relation_terms.specs.Trees.{Tree, apply, count, nth}
+use Rattle.relation_terms.specs.declared.terms.ids.DefId.{DefId}
+use Rattle.relation_terms.specs.declared.terms.keys.TyKey.{TyKey}
+use Rattle.relation_terms.specs.declared.terms.keys.ArgsKey.{ArgsKey}
+use Rattle.relation_contexts.specs.Lawful.{State, items_in}
 use Rattle.relation_contexts.specs.Relation.{Items}
 use Rattle.relation_contexts.specs.Stores.{Store, resolved}
 use Rattle.relation_contexts.specs.Goals.{Goal, goal_of, well_formed_predicate}
@@ -35,3 +39,10 @@ pub record RegistersWellFormed (c : Items) (st : Store) (e : Tree) (d : ℕ) (a 
   pub both : HasOpenArgument c st d ts ⊎ HasOpenArgument c st d us →
       after ≡ before ++ goal_of e (well_formed_predicate a) ∷ goal_of e (well_formed_predicate b) ∷ []
   pub none : (HasOpenArgument c st d ts ⊎ HasOpenArgument c st d us → ⊥) → after ≡ before
+
+-- The same of two types over the item of an id and these lists, by the keys of a relation, unless nothing was answered.
+abbrev pub AsksWellFormed : {Key Id Name S A F : Type 0} → (S → State Key Id Name) → S → S → DefId Id → TyKey Key →
+    TyKey Key → ArgsKey Key → ArgsKey Key → Result A F → Type 0
+AsksWellFormed state before after d a b xs ys result = let r = state before in let m = r.meaning in IfOk result
+    (λ _. RegistersWellFormed (items_in r) r.store r.environment (m.id d.0) (m.ty a) (m.ty b) (m.args xs) (m.args ys)
+    r.goals (state after).goals)

@@ -20,6 +20,7 @@ pub mod Combining
 pub mod SolverTerms
 pub mod Comparing
 pub mod Variables
+pub mod Following
 pub use Rattle.relation_contexts.specs.Relation
 pub use Rattle.relation_contexts.specs.Stores
 pub use Rattle.relation_contexts.specs.Goals

@@ -9,10 +9,17 @@ use Rattle.relation_contexts.specs.declared.relate.Step.{Step}
 use Rattle.relation_contexts.specs.Contexts.{Context}
 use Rattle.relation_contexts.specs.Lawful.{State}
 use Rattle.type_relations.specs.declared.relate.solver_relating.relation.SolverRelating.{SolverRelating}
+use Rattle.type_relations.specs.Combining.{IsNoTyVar}
 use Rattle.type_relations.specs.Keyed.{SteppedTys}
 use Rattle.type_relations.specs.Solving.{solving_in, solving_through, solver_manner}
 use Rattle.type_relations.specs.Subtyping.{StepRegistersAlone, subtype_at}
 use Rattle.type_relations.specs.Terms.{AskedTerms, RelatedTerms, TermsRegister}
+
+-- Of two types that are no type variables a step was taken.
+abbrev pub StepsUnlessVars : {Key Id Name : Type 0} → State Key Id Name → State Key Id Name → TyKey Key → TyKey Key →
+    Result (Step (TyKey Key)) (RelateFault Key Id Name) → Type 0
+StepsUnlessVars r q a b result = IsNoTyVar ((r.meaning).ty a) → IsNoTyVar ((r.meaning).ty b) →
+    SteppedTys solver_manner r q a b result
 
 -- Of a relation over a context, which `state` shows.
 module _ {Infcx Interner Key Id Name Span : Type 0} (state : Infcx → Context Key Id Name) where

@@ -4,17 +4,18 @@ ghost use Rattle.std.specs.Borrow.{sem, Lends};
 ghost use Rattle.relation_terms.specs.Trees.{known, count, nth};
 ghost use Rattle.relation_terms.specs.Meaning.{arg_tree};
 ghost use Rattle.relation_terms.specs.declared.terms.enums.Variance.TheVariants.{Bivariant};
-ghost use Rattle.type_relations.specs.Bivariance.{is_left_open, TellsOpen, TellsEitherOpen, RegistersWellFormed};
-ghost use Rattle.type_relations.specs.Combining.{TysCombine, ConstsCombine, IsNoTyVar};
+ghost use Rattle.type_relations.specs.Bivariance.{is_left_open, TellsOpen, TellsEitherOpen, AsksWellFormed};
+ghost use Rattle.type_relations.specs.Combining.{TysCombine, ConstsCombine};
 ghost use Rattle.relation_contexts.specs.ContextCalls.{Grows};
-ghost use Rattle.type_relations.specs.Emitting.{AddsGoals, IsOver, WithContext, KnowsPredicate, goals_in};
+ghost use Rattle.type_relations.specs.Emitting.{AddsGoals, IsOver, KnowsPredicate, goals_in};
+ghost use Rattle.type_relations.specs.Following.{FollowsContext};
 ghost use Rattle.relation_contexts.specs.Contexts.{KnowsTy};
 ghost use Rattle.relation_contexts.specs.Goals.{KnowsGoal, goals_of, well_formed_predicate};
-ghost use Rattle.type_relations.specs.Keyed.{AreOver, AskedTys, AskedConsts, SteppedTys, SteppedConsts};
-ghost use Rattle.relation_contexts.specs.Lawful.{State, Noted, RelatesByDeclared, items_in, items_of, listed};
+ghost use Rattle.type_relations.specs.Keyed.{AreOver, AskedTys, AskedConsts, SteppedConsts};
+ghost use Rattle.relation_contexts.specs.Lawful.{State, Noted, RelatesByDeclared, items_of, listed};
 ghost use Rattle.relation_contexts.specs.Resolving.{IsShallow};
+ghost use Rattle.type_relations.specs.SolverTerms.{StepsUnlessVars};
 ghost use Rattle.type_relations.specs.Solving.{solver_manner};
-ghost use Rattle.relation_contexts.specs.Steps.{IsLater};
 ghost use Rattle.relation_contexts.specs.Stores.{IsTermIn};
 
 mod meeting;
@@ -49,15 +50,13 @@ pub trait PredicateEmittingRelation<Infcx: InferCtxtLike> {
 
     /// The context, to record in it.
     fn infcx_mut(&mut self) -> &mut Infcx
-        ensures* writes_back { sem 𝓛 (Lends Self.row Infcx.row self.entry result (with_context self.entry.now)) }
+        ensures* lends { sem 𝓛 (Lends Self.row Infcx.row self.entry result (with_context self.entry.now)) }
         ensures value { result.now ≡ context self.old };
 
     /// Does nothing: it shows that a later context in the place of the one that there is changes nothing of the
     /// relation but what is recorded and what its interner knows.
     fn context_grows(&self)
-        ensures { (c : Infcx) → Grows (Infcx.state (context self.now)) (Infcx.state c) →
-            IsLater (Infcx.state (context self.now)).store (Infcx.state c).store → (state self.now).lawful →
-            WithContext (state self.now) (Infcx.state c) (state (with_context self.now c)) };
+        ensures { FollowsContext Infcx.state state context with_context self.now };
 
     /// The span with which constraints on regions are recorded.
     fn span(&self) -> Span<Infcx::Interner>;
@@ -234,32 +233,30 @@ fn both_well_formed<Infcx: InferCtxtLike>(
 /// variances that the item declares. Answers `Memory` where a growth was refused, else nothing.
 /// Upstream it relates the arguments too, and looks at each as its place comes.
 pub fn combine_ty_args<Infcx: InferCtxtLike, R: PredicateEmittingRelation<Infcx>>(
-    relation: &mut R,
+    r: &mut R,
     a_ty: &Ty<Infcx::Interner>,
     b_ty: &Ty<Infcx::Interner>,
     def_id: &ItemOf<Infcx::Interner>,
     a_args: &GenericArgs<Infcx::Interner>,
     b_args: &GenericArgs<Infcx::Interner>,
 ) -> RelateResult<Infcx::Interner, ()>
-    requires lawful { (R.state relation.old).lawful }
-    requires a_known { IsTrue (known ((R.state relation.old).meaning.ty a_ty.now)) }
-    requires b_known { IsTrue (known ((R.state relation.old).meaning.ty b_ty.now)) }
-    requires a_in { let r = R.state relation.old in IsTermIn r.store (r.meaning.ty a_ty.now) }
-    requires b_in { let r = R.state relation.old in IsTermIn r.store (r.meaning.ty b_ty.now) }
-    requires by_declared { RelatesByDeclared (R.state relation.old) }
-    requires over { AreOver (R.state relation.old) def_id.now a_ty.now b_ty.now a_args.now b_args.now }
-    ensures noted { Noted (R.state relation.old) (R.state relation.new) result }
-    ensures registers { let r = R.state relation.old in let m = r.meaning in
-        IfOk result (λ _. RegistersWellFormed (items_in r) r.store r.environment (m.id (def_id.now).0) (m.ty a_ty.now)
-        (m.ty b_ty.now) (m.args a_args.now) (m.args b_args.now) r.goals (R.state relation.new).goals) }
+    requires lawful { (R.state r.old).lawful }
+    requires a_known { IsTrue (known ((R.state r.old).meaning.ty a_ty.now)) }
+    requires b_known { IsTrue (known ((R.state r.old).meaning.ty b_ty.now)) }
+    requires a_in { let q = R.state r.old in IsTermIn q.store (q.meaning.ty a_ty.now) }
+    requires b_in { let q = R.state r.old in IsTermIn q.store (q.meaning.ty b_ty.now) }
+    requires by_declared { RelatesByDeclared (R.state r.old) }
+    requires over { AreOver (R.state r.old) def_id.now a_ty.now b_ty.now a_args.now b_args.now }
+    ensures noted { Noted (R.state r.old) (R.state r.new) result }
+    ensures registers { AsksWellFormed R.state r.old r.new def_id.now a_ty.now b_ty.now a_args.now b_args.now result }
 {
-    relation.context_grows();
-    if !have_open_argument(relation.infcx_mut(), def_id, a_args, b_args)? {
+    r.context_grows();
+    if !have_open_argument(r.infcx_mut(), def_id, a_args, b_args)? {
         return Ok(());
     }
-    relation.context_grows();
-    let predicates = both_well_formed(relation.infcx_mut(), a_ty, b_ty)?;
-    relation.register_predicates(predicates.as_slice())?;
+    r.context_grows();
+    let predicates = both_well_formed(r.infcx_mut(), a_ty, b_ty)?;
+    r.register_predicates(predicates.as_slice())?;
     Ok(())
 }
 
@@ -282,9 +279,7 @@ pub fn super_combine_tys<Infcx: InferCtxtLike, R: PredicateEmittingRelation<Infc
     requires asked { AskedTys solver_manner (R.state relation.old) a.now b.now }
     requires a_shallow { let r = R.state relation.old in IsShallow r.store (r.meaning.ty a.now) }
     requires b_shallow { let r = R.state relation.old in IsShallow r.store (r.meaning.ty b.now) }
-    ensures stepped { let r = R.state relation.old in
-        IsNoTyVar (r.meaning.ty a.now) → IsNoTyVar (r.meaning.ty b.now) →
-        SteppedTys solver_manner r (R.state relation.new) a.now b.now result }
+    ensures stepped { StepsUnlessVars (R.state relation.old) (R.state relation.new) a.now b.now result }
     ensures combines { TysCombine (R.state relation.old) (R.state relation.new) a.now b.now result }
     ensures registers_nothing { (R.state relation.new).goals ≡ (R.state relation.old).goals }
 {

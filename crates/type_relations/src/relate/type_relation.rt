@@ -3,10 +3,10 @@ ghost use Rattle.std.specs.Prelude.{◌≡◌, ◌≢◌, ◌<◌, IfSome, IfNon
 ghost use Rattle.std.specs.Borrow.{sem, Lends};
 ghost use Rattle.relation_terms.specs.declared.terms.enums.Variance.{Variance};
 ghost use Rattle.relation_terms.specs.declared.terms.enums.Variance.TheVariants.{Invariant, Bivariant};
-ghost use Rattle.relation_terms.specs.Meaning.{Extends};
 ghost use Rattle.relation_contexts.specs.Stores.{IsSound};
-ghost use Rattle.relation_contexts.specs.Lawful.{State, Manners, TakesParts, Turned, Noted, WithMeaning};
+ghost use Rattle.relation_contexts.specs.Lawful.{State, Manners, TakesParts, Turned, Noted};
 ghost use Rattle.relation_contexts.specs.Lawful.{RelatesByDeclared};
+ghost use Rattle.type_relations.specs.Following.{FollowsInterner};
 ghost use Rattle.type_relations.specs.Rounds.{AskedBinders, OpenedBinders};
 ghost use Rattle.type_relations.specs.Keyed.{AskedConsts, AskedRegions, AskedTys, RelatedRegions, RelatesTys};
 ghost use Rattle.type_relations.specs.Keyed.{SteppedConsts, SteppedTys, TysStepToSubtype, AreOver, RecordsAsked};
@@ -46,13 +46,12 @@ pub trait TypeRelation<I: Interner> {
 
     /// The interner, to make terms.
     fn cx_mut(&mut self) -> &mut I
-        ensures* writes_back { sem 𝓛 (Lends Self.row I.row self.entry result (with_interner self.entry.now)) }
+        ensures* lends { sem 𝓛 (Lends Self.row I.row self.entry result (with_interner self.entry.now)) }
         ensures value { I.meaning result.now ≡ (state self.old).meaning };
 
     /// Does nothing: it shows that making terms changes nothing of the relation but what its interner knows.
     fn interner_grows(&self)
-        ensures { (cx : I) → Extends (state self.now).meaning (I.meaning cx) → (state self.now).lawful →
-            WithMeaning (state self.now) (I.meaning cx) (state (with_interner self.now cx)) };
+        ensures { FollowsInterner I.meaning state with_interner self.now };
 
     /// The variance at which terms are related.
     fn ambient(&self) -> Variance

@@ -15,7 +15,7 @@ use Rattle.type_relations.proofs.relate.combine.combine_ty_args.Goals as goal
 
 pub have_open_argument-requires-clause-a_in : goal.have_open_argument-requires-clause-a_in
 have_open_argument-requires-clause-a_in g c =
-    let x = c.args.relation.now in
+    let x = c.args.r.now in
     let r = g.R.PredicateEmittingRelation.state x in
     let o = g.met.R.PredicateEmittingRelation.over x in
     let s = g.Infcx.InferCtxtLike.state (g.R.PredicateEmittingRelation.context x) in
@@ -28,7 +28,7 @@ have_open_argument-requires-clause-a_in g c =
 
 pub have_open_argument-requires-clause-b_in : goal.have_open_argument-requires-clause-b_in
 have_open_argument-requires-clause-b_in g c =
-    let x = c.args.relation.now in
+    let x = c.args.r.now in
     let r = g.R.PredicateEmittingRelation.state x in
     let o = g.met.R.PredicateEmittingRelation.over x in
     let s = g.Infcx.InferCtxtLike.state (g.R.PredicateEmittingRelation.context x) in
@@ -41,7 +41,7 @@ have_open_argument-requires-clause-b_in g c =
 
 pub returns-in_err-have_open_argument-clause-noted : goal.returns-in_err-have_open_argument-clause-noted
 returns-in_err-have_open_argument-clause-noted g c =
-    let x = c.args.relation.now in
+    let x = c.args.r.now in
     let r = g.R.PredicateEmittingRelation.state x in
     let o = g.met.R.PredicateEmittingRelation.over x in
     let s = g.Infcx.InferCtxtLike.state (g.R.PredicateEmittingRelation.context x) in
@@ -59,7 +59,7 @@ returns-in_err-have_open_argument-clause-noted g c =
 
 pub returns-then-not-branch-clause-noted : goal.returns-then-not-branch-clause-noted
 returns-then-not-branch-clause-noted g c =
-    let x = c.args.relation.now in
+    let x = c.args.r.now in
     let r = g.R.PredicateEmittingRelation.state x in
     let o = g.met.R.PredicateEmittingRelation.over x in
     let s = g.Infcx.InferCtxtLike.state (g.R.PredicateEmittingRelation.context x) in
@@ -75,7 +75,7 @@ returns-then-not-branch-clause-noted g c =
 
 pub returns-in_err-predicates-clause-noted : goal.returns-in_err-predicates-clause-noted
 returns-in_err-predicates-clause-noted g c =
-    let x = c.args.relation.now in
+    let x = c.args.r.now in
     let r = g.R.PredicateEmittingRelation.state x in
     let o = g.met.R.PredicateEmittingRelation.over x in
     let s = g.Infcx.InferCtxtLike.state (g.R.PredicateEmittingRelation.context x) in
@@ -105,7 +105,7 @@ returns-in_err-predicates-clause-noted g c =
 
 pub returns-then-not-branch-clause-registers : goal.returns-then-not-branch-clause-registers
 returns-then-not-branch-clause-registers g c =
-    let x = c.args.relation.now in
+    let x = c.args.r.now in
     let r = g.R.PredicateEmittingRelation.state x in
     let o = g.met.R.PredicateEmittingRelation.over x in
     let s = g.Infcx.InferCtxtLike.state (g.R.PredicateEmittingRelation.context x) in
@@ -135,7 +135,7 @@ returns-then-not-branch-clause-registers g c =
 
 pub register_predicates-requires-clause-known : goal.register_predicates-requires-clause-known
 register_predicates-requires-clause-known g c =
-    let x = c.args.relation.now in
+    let x = c.args.r.now in
     let r = g.R.PredicateEmittingRelation.state x in
     let o = g.met.R.PredicateEmittingRelation.over x in
     let s = g.Infcx.InferCtxtLike.state (g.R.PredicateEmittingRelation.context x) in
@@ -184,7 +184,7 @@ register_predicates-requires-clause-known g c =
 
 pub returns-in_err-register_predicates-clause-noted : goal.returns-in_err-register_predicates-clause-noted
 returns-in_err-register_predicates-clause-noted g c =
-    let x = c.args.relation.now in
+    let x = c.args.r.now in
     let r = g.R.PredicateEmittingRelation.state x in
     let o = g.met.R.PredicateEmittingRelation.over x in
     let s = g.Infcx.InferCtxtLike.state (g.R.PredicateEmittingRelation.context x) in
@@ -238,7 +238,7 @@ returns-in_err-register_predicates-clause-noted g c =
 
 pub returns-clause-noted : goal.returns-clause-noted
 returns-clause-noted g c =
-    let x = c.args.relation.now in
+    let x = c.args.r.now in
     let r = g.R.PredicateEmittingRelation.state x in
     let o = g.met.R.PredicateEmittingRelation.over x in
     let s = g.Infcx.InferCtxtLike.state (g.R.PredicateEmittingRelation.context x) in
@@ -289,7 +289,7 @@ returns-clause-noted g c =
 
 pub returns-clause-registers : goal.returns-clause-registers
 returns-clause-registers g c =
-    let x = c.args.relation.now in
+    let x = c.args.r.now in
     let r = g.R.PredicateEmittingRelation.state x in
     let o = g.met.R.PredicateEmittingRelation.over x in
     let s = g.Infcx.InferCtxtLike.state (g.R.PredicateEmittingRelation.context x) in
@@ -340,7 +340,7 @@ returns-clause-registers g c =
 
 pub both_well_formed-requires-clause-lawful : goal.both_well_formed-requires-clause-lawful
 both_well_formed-requires-clause-lawful g c =
-    let x = c.args.relation.now in
+    let x = c.args.r.now in
     let r = g.R.PredicateEmittingRelation.state x in
     let o = g.met.R.PredicateEmittingRelation.over x in
     let s = g.Infcx.InferCtxtLike.state (g.R.PredicateEmittingRelation.context x) in
@@ -358,7 +358,7 @@ both_well_formed-requires-clause-lawful g c =
 
 pub both_well_formed-requires-clause-a_known : goal.both_well_formed-requires-clause-a_known
 both_well_formed-requires-clause-a_known g c =
-    let x = c.args.relation.now in
+    let x = c.args.r.now in
     let r = g.R.PredicateEmittingRelation.state x in
     let o = g.met.R.PredicateEmittingRelation.over x in
     let s = g.Infcx.InferCtxtLike.state (g.R.PredicateEmittingRelation.context x) in
@@ -380,7 +380,7 @@ both_well_formed-requires-clause-a_known g c =
 
 pub both_well_formed-requires-clause-b_known : goal.both_well_formed-requires-clause-b_known
 both_well_formed-requires-clause-b_known g c =
-    let x = c.args.relation.now in
+    let x = c.args.r.now in
     let r = g.R.PredicateEmittingRelation.state x in
     let o = g.met.R.PredicateEmittingRelation.over x in
     let s = g.Infcx.InferCtxtLike.state (g.R.PredicateEmittingRelation.context x) in
@@ -402,7 +402,7 @@ both_well_formed-requires-clause-b_known g c =
 
 pub register_predicates-requires-clause-lawful : goal.register_predicates-requires-clause-lawful
 register_predicates-requires-clause-lawful g c =
-    let x = c.args.relation.now in
+    let x = c.args.r.now in
     let r = g.R.PredicateEmittingRelation.state x in
     let o = g.met.R.PredicateEmittingRelation.over x in
     let s = g.Infcx.InferCtxtLike.state (g.R.PredicateEmittingRelation.context x) in
