@@ -21,6 +21,7 @@ pub mod SolverTerms
 pub mod Comparing
 pub mod Variables
 pub mod Following
+pub mod Makers
 pub use Rattle.relation_contexts.specs.Relation
 pub use Rattle.relation_contexts.specs.Stores
 pub use Rattle.relation_contexts.specs.Goals

@@ -6,7 +6,8 @@ ghost use Rattle.relation_terms.specs.Trees.{known, node, count, nth, IsList, li
 ghost use Rattle.relation_terms.specs.Meaning.{Extends, arg_tree};
 ghost use Rattle.relation_terms.specs.Variances.{xform};
 ghost use Rattle.relation_contexts.specs.Lawful.{WithMeaning, OnlyMemory};
-ghost use Rattle.type_relations.specs.Keyed.{AreAsMany, AreOver, AskedLists, AskedTys, IsMadeOver, RelatedLists};
+ghost use Rattle.type_relations.specs.Keyed.{AreAsMany, AreOver, AskedLists, AskedTys, RelatedLists};
+ghost use Rattle.type_relations.specs.Makers.{TakesLists, GrowsByCall, MakesOverList};
 ghost use Rattle.type_relations.specs.Keyed.{RelatedTys, over_item, part_in};
 ghost use Rattle.type_relations.specs.Arguments.{args_head, head_by, AreOverItem};
 ghost use Rattle.relation_contexts.specs.Parts.{head_of};
@@ -178,13 +179,9 @@ fn make_over<
 >(r: &mut R, form: &Ty<I>, args: GenericArgs<I>, mk: F) -> RelateResult<I, Ty<I>>
     requires lawful { (R.state r.old).lawful }
     requires args_known { IsTrue (known ((R.state r.old).meaning.args args)) }
-    requires callable { (cx : _) (list : _) → Extends (R.state r.old).meaning (I.meaning cx.now) →
-        IsTrue (known ((I.meaning cx.now).args list)) → F.pre mk cx list }
-    requires grows { (cx : _) (list : _) (res : _) (left : _) → F.post mk cx list res left →
-        Extends (I.meaning cx.now) (I.meaning left.now) }
-    requires makes { (cx : _) (list : _) (res : _) (left : _) → Extends (R.state r.old).meaning (I.meaning cx.now) →
-        F.post mk cx list res left →
-        IsMadeOver (R.state r.old) form.now (I.meaning cx.now) list (I.meaning left.now) res }
+    requires callable { TakesLists (λ x. I.meaning x.now) (R.state r.old) (F.pre mk) }
+    requires grows { GrowsByCall (λ x. I.meaning x.now) (λ x. I.meaning x.now) (F.post mk) }
+    requires makes { MakesOverList (λ x. I.meaning x.now) (λ x. I.meaning x.now) (R.state r.old) form.now (F.post mk) }
     ensures extends { Extends (R.state r.old).meaning (R.state r.new).meaning }
     ensures grown { WithMeaning (R.state r.old) (R.state r.new).meaning (R.state r.new) }
     ensures fault { OnlyMemory result }
@@ -246,13 +243,9 @@ pub fn relate_ty_args<
     requires args_known { IsTrue (known ((R.state r.old).meaning.args a_args.now)) }
     requires over { AreOver (R.state r.old) def_id.now a_ty.now b_ty.now a_args.now b_args.now }
     requires as_many { AreAsMany (R.state r.old) a_args.now b_args.now }
-    requires callable { (cx : _) (list : _) → Extends (R.state r.old).meaning (I.meaning cx.now) →
-        IsTrue (known ((I.meaning cx.now).args list)) → F.pre mk cx list }
-    requires grows { (cx : _) (list : _) (res : _) (left : _) → F.post mk cx list res left →
-        Extends (I.meaning cx.now) (I.meaning left.now) }
-    requires makes { (cx : _) (list : _) (res : _) (left : _) → Extends (R.state r.old).meaning (I.meaning cx.now) →
-        F.post mk cx list res left →
-        IsMadeOver (R.state r.old) a_ty.now (I.meaning cx.now) list (I.meaning left.now) res }
+    requires callable { TakesLists (λ x. I.meaning x.now) (R.state r.old) (F.pre mk) }
+    requires grows { GrowsByCall (λ x. I.meaning x.now) (λ x. I.meaning x.now) (F.post mk) }
+    requires makes { MakesOverList (λ x. I.meaning x.now) (λ x. I.meaning x.now) (R.state r.old) a_ty.now (F.post mk) }
     ensures { RelatedTys R.manner (R.state r.old) (R.state r.new) a_ty.now b_ty.now result }
 {
     let variances = item_variances::<I, R>(r, a_ty, def_id);

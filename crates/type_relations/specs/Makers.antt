@@ -1,0 +1,26 @@
+-- What is asked of a call that makes a type of a list of arguments, by what keys mean before it and after it.
+use Rattle.std.specs.Prelude.{IsTrue, Result}
+use Rattle.relation_terms.specs.declared.terms.keys.ArgsKey.{ArgsKey}
+use Rattle.relation_terms.specs.declared.terms.keys.TyKey.{TyKey}
+use Rattle.relation_terms.specs.Trees.{known}
+use Rattle.relation_terms.specs.Meaning.{Meaning, Extends}
+use Rattle.relation_contexts.specs.Lawful.{State}
+use Rattle.type_relations.specs.Keyed.{IsMadeOver}
+
+-- It may be made with an interner that has grown, on each list that the interner knows.
+abbrev pub TakesLists : {B Key Id Name : Type 0} → (B → Meaning Key Id Name) → State Key Id Name →
+    (B → ArgsKey Key → Type 0) → Type 0
+TakesLists {B} {Key} before r pre = (cx : B) (list : ArgsKey Key) → Extends r.meaning (before cx) →
+    IsTrue (known ((before cx).args list)) → pre cx list
+
+module _ {B C E Key Id Name : Type 0} (before : B → Meaning Key Id Name) (after : C → Meaning Key Id Name) where
+  -- The interner only grows.
+  abbrev pub GrowsByCall : (B → ArgsKey Key → Result (TyKey Key) E → C → Type 0) → Type 0
+  GrowsByCall post = (cx : B) (list : ArgsKey Key) (res : Result (TyKey Key) E) (left : C) → post cx list res left →
+      Extends (before cx) (after left)
+
+  -- It makes, with an interner that has grown, a type of that one's form over the list.
+  abbrev pub MakesOverList : State Key Id Name → TyKey Key → (B → ArgsKey Key → Result (TyKey Key) E → C → Type 0) →
+      Type 0
+  MakesOverList r form post = (cx : B) (list : ArgsKey Key) (res : Result (TyKey Key) E) (left : C) →
+      Extends r.meaning (before cx) → post cx list res left → IsMadeOver r form (before cx) list (after left) res
