@@ -4,6 +4,7 @@ pub mod Walking
 pub mod Positions
 pub mod Pairs
 pub mod Instances
+pub mod Rejecting
 pub mod Hashing
 pub mod HeadKeys
 pub mod KeyLaws

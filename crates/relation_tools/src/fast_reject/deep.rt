@@ -1,8 +1,7 @@
 //! The depth test, with parameters on each side as its user takes them.
 ghost use Rattle.std.specs.Prelude.{◌↔◌, ◌≤◌, ℕ, IsTrue, IsFalse};
 ghost use Rattle.relation_terms.specs.Trees.{known};
-ghost use Rattle.relation_folds.specs.Clashes.{Clash};
-ghost use Rattle.relation_tools.specs.Instances.{NoCommonInstance};
+ghost use Rattle.relation_tools.specs.Rejecting.{Bars, BarsArgs, AreApart};
 
 use crate::fast_reject::forms::{STARTING_DEPTH, Sides};
 use crate::fast_reject::walk::{args_may_unify, types_may_unify};
@@ -67,10 +66,8 @@ impl<
     ) -> bool
         requires left_known { IsTrue (known ((I.meaning cx.now).args obligation_args.now)) }
         requires right_known { IsTrue (known ((I.meaning cx.now).args impl_args.now)) }
-        ensures exact { IsFalse result ↔ Clash INSTANTIATE_LHS_WITH_INFER INSTANTIATE_RHS_WITH_INFER 8
-            ((I.meaning cx.now).args obligation_args.now) ((I.meaning cx.now).args impl_args.now) }
-        ensures apart { IsFalse result → NoCommonInstance INSTANTIATE_LHS_WITH_INFER INSTANTIATE_RHS_WITH_INFER
-            ((I.meaning cx.now).args obligation_args.now) ((I.meaning cx.now).args impl_args.now) }
+        ensures exact { IsFalse result ↔ BarsArgs self.now 8 I.meaning cx.now obligation_args.now impl_args.now }
+        ensures apart { IsFalse result → AreApart self.now (I.meaning cx.now).args obligation_args.now impl_args.now }
     {
         let sides = Sides {
             left: INSTANTIATE_LHS_WITH_INFER,
@@ -85,10 +82,8 @@ impl<
     pub fn types_may_unify(&self, cx: &I, lhs: &Ty<I>, rhs: &Ty<I>) -> bool
         requires lhs_known { IsTrue (known ((I.meaning cx.now).ty lhs.now)) }
         requires rhs_known { IsTrue (known ((I.meaning cx.now).ty rhs.now)) }
-        ensures exact { IsFalse result ↔ Clash INSTANTIATE_LHS_WITH_INFER INSTANTIATE_RHS_WITH_INFER 8
-            ((I.meaning cx.now).ty lhs.now) ((I.meaning cx.now).ty rhs.now) }
-        ensures apart { IsFalse result → NoCommonInstance INSTANTIATE_LHS_WITH_INFER INSTANTIATE_RHS_WITH_INFER
-            ((I.meaning cx.now).ty lhs.now) ((I.meaning cx.now).ty rhs.now) }
+        ensures exact { IsFalse result ↔ Bars self.now 8 I.meaning cx.now lhs.now rhs.now }
+        ensures apart { IsFalse result → AreApart self.now (I.meaning cx.now).ty lhs.now rhs.now }
     {
         self.types_may_unify_with_depth(cx, lhs, rhs, STARTING_DEPTH)
     }
@@ -104,13 +99,9 @@ impl<
     ) -> bool
         requires lhs_known { IsTrue (known ((I.meaning cx.now).ty lhs.now)) }
         requires rhs_known { IsTrue (known ((I.meaning cx.now).ty rhs.now)) }
-        ensures exact { IsFalse result ↔ Clash INSTANTIATE_LHS_WITH_INFER INSTANTIATE_RHS_WITH_INFER depth_limit
-            ((I.meaning cx.now).ty lhs.now) ((I.meaning cx.now).ty rhs.now) }
-        ensures apart { IsFalse result → NoCommonInstance INSTANTIATE_LHS_WITH_INFER INSTANTIATE_RHS_WITH_INFER
-            ((I.meaning cx.now).ty lhs.now) ((I.meaning cx.now).ty rhs.now) }
-        ensures deeper { IsFalse result → (e : ℕ) → depth_limit ≤ e →
-            Clash INSTANTIATE_LHS_WITH_INFER INSTANTIATE_RHS_WITH_INFER e
-            ((I.meaning cx.now).ty lhs.now) ((I.meaning cx.now).ty rhs.now) }
+        ensures exact { IsFalse result ↔ Bars self.now depth_limit I.meaning cx.now lhs.now rhs.now }
+        ensures apart { IsFalse result → AreApart self.now (I.meaning cx.now).ty lhs.now rhs.now }
+        ensures deeper { IsFalse result → (e : ℕ) → depth_limit ≤ e → Bars self.now e I.meaning cx.now lhs.now rhs.now }
     {
         let sides = Sides {
             left: INSTANTIATE_LHS_WITH_INFER,
