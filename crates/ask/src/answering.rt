@@ -1,17 +1,19 @@
 //! Answers to the questions of a text, or what is wrong with it.
+ghost use Rattle.std.specs.Prelude.{◌≡◌, ◌≢◌, ◌≤◌};
+ghost use Rattle.std.specs.IoError.{error_kind};
 
 use relation_asking::ask_all;
-use relation_text::naming::{Program, look_up};
-use relation_text::reading::read;
-use relation_text::telling::{Lines, tell_unnamed, tell_unread};
 use std::alloc::Global;
 use std::fmt::{self, Write};
-use std::io::{self, Read};
+use std::io::{self, ErrorKind, Read};
+use text_reading::naming::{Program, look_up};
+use text_reading::reading::read;
+use text_reading::telling::{Lines, tell_unnamed, tell_unread};
 
 /// The status where all was read and asked.
 pub const ANSWERED: u8 = 0;
 
-/// The status where an answer can't be written.
+/// The status where an answer can't be written, or a growth was refused before the text was read.
 pub const UNWRITTEN: u8 = 1;
 
 /// The status where the text is wrong, can't be read, or the words are wrong.
@@ -38,6 +40,38 @@ pub fn bytes_of<R: Read + Drop>(alloc: Global, reader: R) -> io::Result<Vec<u8>>
     Ok(bytes)
 }
 
+/// Tells why the program can't begin, and gives the status: the file's name is not UTF-8, or a growth was refused.
+pub fn tell_unbegun<E: io::Write>(error: &io::Error, err: &mut E) -> u8
+    ensures wrong { error_kind error.now ≡ ErrorKind.InvalidData → result ≡ 2 }
+    ensures refused { error_kind error.now ≢ ErrorKind.InvalidData → result ≡ 1 }
+{
+    if error.kind() == ErrorKind::InvalidData {
+        let _ = writeln!(err, "ask: the file's name is not UTF-8");
+        return WRONG;
+    }
+    let _ = writeln!(err, "ask: {error}");
+    UNWRITTEN
+}
+
+// A writer of text over one of bytes, which keeps why that failed.
+#[derive(Drop)]
+struct Answers<'a, O> {
+    out: &'a mut O,
+    fault: Option<io::Error>,
+}
+
+impl<O: io::Write> Write for Answers<'_, O> {
+    fn write_str(&mut self, text: &str) -> fmt::Result {
+        match self.out.write_all(text.as_bytes()) {
+            Ok(()) => Ok(()),
+            Err(error) => {
+                self.fault = Some(error);
+                Err(fmt::Error)
+            }
+        }
+    }
+}
+
 // Answers all questions of a program, each on a line of its own.
 fn answer_all<W: Write>(alloc: Global, program: &Program, out: &mut W) -> fmt::Result {
     ask_all(alloc, program, "\n", out)?;
@@ -47,16 +81,27 @@ fn answer_all<W: Write>(alloc: Global, program: &Program, out: &mut W) -> fmt::R
     out.write_str("\n")
 }
 
+// Writes all answers of a program, also those that wait in a buffer.
+fn write_all<O: io::Write>(alloc: Global, program: &Program, out: &mut O) -> io::Result<()> {
+    let mut answers = Answers { out, fault: None };
+    match (answer_all(alloc, program, &mut answers), answers.fault) {
+        (Ok(()), _) => answers.out.flush(),
+        (Err(_), Some(error)) => Err(error),
+        (Err(_), None) => Err(io::Error::from(ErrorKind::Other)),
+    }
+}
+
 /// Answers the questions of a text, each on a line of its own, and gives the status. Where the text is wrong, `err` is
-/// told so, and nothing is answered.
+/// told so, and nothing is answered; where an answer can't be written, it is told why.
 pub fn answer<O: io::Write, E: io::Write>(
     alloc: Global,
     name: &str,
     bytes: &[u8],
     out: &mut O,
     err: &mut E,
-) -> u8 {
-    let mut out = Lines { out };
+) -> u8
+    ensures status { result ≤ 2 }
+{
     let mut err = Lines { out: err };
     let tree = match read(alloc, bytes) {
         Ok(tree) => tree,
@@ -69,14 +114,18 @@ pub fn answer<O: io::Write, E: io::Write>(
         let _ = writeln!(err, "{name}: the text is not UTF-8");
         return WRONG;
     };
-    match look_up(alloc, text, &tree) {
+    let program = match look_up(alloc, text, &tree) {
+        Ok(program) => program,
         Err(error) => {
             let _ = tell_unnamed(name, text, &error, &mut err);
-            WRONG
+            return WRONG;
         }
-        Ok(program) => match answer_all(alloc, &program, &mut out) {
-            Ok(()) if out.out.flush().is_ok() => ANSWERED,
-            _ => UNWRITTEN,
-        },
+    };
+    match write_all(alloc, &program, out) {
+        Ok(()) => ANSWERED,
+        Err(error) => {
+            let _ = writeln!(err, "standard output: {error}");
+            UNWRITTEN
+        }
     }
 }

@@ -3,15 +3,27 @@
 
 mod answering;
 
-use answering::{STDIN, WRONG, answer, bytes_of, is_stdin};
+use answering::{STDIN, WRONG, answer, bytes_of, is_stdin, tell_unbegun};
 use std::io::{BufWriter, Write};
 use std::process::ExitCode;
 use std::{env, fs, io};
 
+// The words behind the program's name.
+fn words_of(rt: &HostRuntime) -> io::Result<Vec<String>> {
+    let words = env::args(rt)?.skip(1).collect(rt.alloc())?;
+    Ok(words)
+}
+
 fn main(rt: HostRuntime) -> io::Result<ExitCode> {
-    let words: Vec<String> = env::args(&rt)?.skip(1).collect(rt.alloc())?;
-    let mut out = BufWriter::new(rt.alloc(), rt.stdout())?;
     let mut err = rt.stderr();
+    let words = match words_of(&rt) {
+        Ok(words) => words,
+        Err(error) => return Ok(ExitCode::from(tell_unbegun(&error, &mut err))),
+    };
+    let mut out = match BufWriter::new(rt.alloc(), rt.stdout()) {
+        Ok(out) => out,
+        Err(error) => return Ok(ExitCode::from(tell_unbegun(&error, &mut err))),
+    };
     if words.len() > 1 {
         let _ = writeln!(err, "usage: ask [FILE]");
         return Ok(ExitCode::from(WRONG));

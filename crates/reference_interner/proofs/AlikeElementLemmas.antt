@@ -3,9 +3,11 @@ use Rattle.std.proofs.Common.{◌≡◌, IsTrue, Bool, ◌&&◌, eqb, ap, ap₂,
 use Rattle.std.proofs.lemmas.Bool.{false≢true, eqb-true, and_parts, and_from}
 use Rattle.relation_terms.specs.declared.terms.generic_arg.TermKind.{TermKind}
 use Rattle.relation_terms.specs.declared.terms.generic_arg.TermKind.TheVariants.{Ty as TyTerm, Const as ConstTerm}
-use Rattle.relation_terms.specs.declared.predicate.ExistentialPredicate.{ExistentialPredicate}
-use Rattle.relation_terms.specs.declared.predicate.ExistentialPredicate.TheVariants.{Trait, AutoTrait}
-use Rattle.relation_terms.specs.declared.predicate.ExistentialPredicate.TheVariants.{Projection as ProjectionPredicate}
+use Rattle.relation_terms.specs.declared.predicate.existential.ExistentialPredicate.{ExistentialPredicate}
+use Rattle.relation_terms.specs.declared.predicate.existential.ExistentialPredicate.TheVariants.{Trait, AutoTrait}
+use Rattle.relation_terms.specs.declared.predicate.existential.ExistentialPredicate.TheVariants.{
+  Projection as ProjectionPredicate,
+}
 use Rattle.relation_terms.specs.declared.terms.binder.Binder.{Binder}
 use Rattle.relation_terms.specs.declared.terms.binder.BoundVariableKind.{BoundVariableKind}
 use Rattle.relation_terms.specs.declared.terms.binder.BoundVariableKind.TheVariants.{Ty as TyVariable}
@@ -21,8 +23,8 @@ use Rattle.reference_interner.specs.contracts.keys.ItemId as item
 use Rattle.reference_interner.specs.contracts.keys.SymbolIdPartialEq.TheImpl as symbol_impl
 use Rattle.reference_interner.specs.contracts.keys.SymbolId as symbol
 use Rattle.relation_terms.specs.contracts.terms.generic_arg.TermKindPartialEq.TheImpl as term_impl
-use Rattle.relation_terms.specs.contracts.predicate.ExistentialPredicate as predicate
-use Rattle.relation_terms.specs.contracts.predicate.ExistentialPredicatePartialEq.TheImpl as predicate_impl
+use Rattle.relation_terms.specs.contracts.predicate.existential.ExistentialPredicate as predicate
+use Rattle.relation_terms.specs.contracts.predicate.existential.ExistentialPredicatePartialEq.TheImpl as predicate_impl
 use Rattle.relation_terms.specs.contracts.terms.binder.BinderPartialEq.TheImpl as binder_impl
 use Rattle.relation_terms.specs.contracts.terms.binder.BoundVariableKindPartialEq.TheImpl as variable_impl
 use Rattle.reference_interner.proofs.AlikeFormLemmas.{one_number, two_numbers, two_selves, eqb_self}

@@ -7,14 +7,14 @@ use Rattle.relation_terms.specs.declared.terms.keys.ArgsKey.{ArgsKey}
 use Rattle.relation_terms.specs.declared.terms.keys.PatKey.{PatKey}
 use Rattle.relation_terms.specs.declared.terms.alias.AliasTyKind.{AliasTyKind}
 use Rattle.relation_terms.specs.declared.terms.alias.AliasTyKind.TheVariants.{Projection, Inherent, Opaque, Free}
-use Rattle.relation_terms.specs.declared.terms.enums.IntTy.{IntTy}
-use Rattle.relation_terms.specs.declared.terms.enums.IntTy.TheVariants.{Isize, I8, I16, I32, I64, I128}
-use Rattle.relation_terms.specs.declared.terms.enums.UintTy.{UintTy}
-use Rattle.relation_terms.specs.declared.terms.enums.UintTy.TheVariants.{Usize, U8, U16, U32, U64, U128}
-use Rattle.relation_terms.specs.declared.terms.enums.FloatTy.{FloatTy}
-use Rattle.relation_terms.specs.declared.terms.enums.FloatTy.TheVariants.{F16, F32, F64, F128}
-use Rattle.relation_terms.specs.declared.terms.enums.Mutability.{Mutability}
-use Rattle.relation_terms.specs.declared.terms.enums.Mutability.TheVariants.{Not, Mut}
+use Rattle.term_enums.specs.declared.IntTy.{IntTy}
+use Rattle.term_enums.specs.declared.IntTy.TheVariants.{Isize, I8, I16, I32, I64, I128}
+use Rattle.term_enums.specs.declared.UintTy.{UintTy}
+use Rattle.term_enums.specs.declared.UintTy.TheVariants.{Usize, U8, U16, U32, U64, U128}
+use Rattle.term_enums.specs.declared.FloatTy.{FloatTy}
+use Rattle.term_enums.specs.declared.FloatTy.TheVariants.{F16, F32, F64, F128}
+use Rattle.term_enums.specs.declared.Mutability.{Mutability}
+use Rattle.term_enums.specs.declared.Mutability.TheVariants.{Not, Mut}
 use Rattle.relation_terms.specs.declared.terms.ty_kind.InferTy.TheVariants.{TyVar, IntVar, FloatVar}
 use Rattle.relation_terms.specs.declared.terms.ty_kind.InferTy.TheVariants.{FreshTy, FreshIntTy, FreshFloatTy}
 use Rattle.relation_terms.specs.declared.terms.ty_kind.TyKind.{TyKind}
@@ -56,10 +56,10 @@ use Rattle.reference_interner.specs.contracts.node.NodePartialEq.TheImpl as node
 use Rattle.reference_interner.specs.contracts.keys.NodeKeyPartialEq.TheImpl as key_impl
 use Rattle.reference_interner.specs.contracts.keys.NodeKey as key
 use Rattle.relation_terms.specs.contracts.terms.generic_arg.GenericArgKindPartialEq.TheImpl as arg_impl
-use Rattle.relation_terms.specs.contracts.terms.enums.IntTyPartialEq.TheImpl as int_impl
-use Rattle.relation_terms.specs.contracts.terms.enums.UintTyPartialEq.TheImpl as uint_impl
-use Rattle.relation_terms.specs.contracts.terms.enums.FloatTyPartialEq.TheImpl as float_impl
-use Rattle.relation_terms.specs.contracts.terms.enums.MutabilityPartialEq.TheImpl as mut_impl
+use Rattle.term_enums.specs.contracts.IntTyPartialEq.TheImpl as int_impl
+use Rattle.term_enums.specs.contracts.UintTyPartialEq.TheImpl as uint_impl
+use Rattle.term_enums.specs.contracts.FloatTyPartialEq.TheImpl as float_impl
+use Rattle.term_enums.specs.contracts.MutabilityPartialEq.TheImpl as mut_impl
 
 abbrev pub node_eq : Node → Node → Bool
 node_eq = node_impl.ghosts.eq

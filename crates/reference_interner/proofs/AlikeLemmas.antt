@@ -12,7 +12,7 @@ use Rattle.relation_terms.specs.declared.terms.const_kind.ValTreeKind.{ValTreeKi
 use Rattle.relation_terms.specs.declared.terms.pattern_kind.PatternKind.{PatternKind}
 use Rattle.relation_terms.specs.declared.terms.region_kind.RegionKind.{RegionKind}
 use Rattle.relation_terms.specs.declared.terms.generic_arg.GenericArgKind.{GenericArgKind}
-use Rattle.relation_terms.specs.declared.predicate.ExistentialPredicate.{ExistentialPredicate}
+use Rattle.relation_terms.specs.declared.predicate.existential.ExistentialPredicate.{ExistentialPredicate}
 use Rattle.relation_terms.specs.declared.terms.binder.Binder.{Binder}
 use Rattle.relation_terms.specs.declared.terms.binder.BoundVariableKind.{BoundVariableKind}
 use Rattle.reference_interner.specs.declared.keys.NodeKey.{NodeKey}

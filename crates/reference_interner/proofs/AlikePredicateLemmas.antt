@@ -2,13 +2,13 @@
 use Rattle.std.proofs.Common.{◌≡◌, IsTrue, Bool, true, false, ◌&&◌, eqb, refl, ap, ap₂, ◌∙◌}
 use Rattle.std.proofs.lemmas.Bool.{false≢true, eqb-true, and_parts, and_from}
 use Rattle.std.proofs.Math.Bool.{beq}
-use Rattle.relation_terms.specs.declared.terms.enums.PredicatePolarity.{PredicatePolarity}
-use Rattle.relation_terms.specs.declared.terms.enums.PredicatePolarity.TheVariants.{Positive, Negative}
-use Rattle.relation_terms.specs.declared.terms.enums.BoundConstness.{BoundConstness}
-use Rattle.relation_terms.specs.declared.terms.enums.BoundConstness.TheVariants.{Const as ConstBound, Maybe}
-use Rattle.relation_terms.specs.declared.terms.enums.AliasRelationDirection.{AliasRelationDirection}
-use Rattle.relation_terms.specs.declared.terms.enums.AliasRelationDirection.TheVariants.{Equate}
-use Rattle.relation_terms.specs.declared.terms.enums.AliasRelationDirection.TheVariants.{Subtype as SubtypeOf}
+use Rattle.term_enums.specs.declared.PredicatePolarity.{PredicatePolarity}
+use Rattle.term_enums.specs.declared.PredicatePolarity.TheVariants.{Positive, Negative}
+use Rattle.term_enums.specs.declared.BoundConstness.{BoundConstness}
+use Rattle.term_enums.specs.declared.BoundConstness.TheVariants.{Const as ConstBound, Maybe}
+use Rattle.term_enums.specs.declared.AliasRelationDirection.{AliasRelationDirection}
+use Rattle.term_enums.specs.declared.AliasRelationDirection.TheVariants.{Equate}
+use Rattle.term_enums.specs.declared.AliasRelationDirection.TheVariants.{Subtype as SubtypeOf}
 use Rattle.relation_terms.specs.declared.terms.binder.Binder.{Binder}
 use Rattle.relation_terms.specs.declared.terms.keys.ClauseKey.{ClauseKey}
 use Rattle.relation_terms.specs.declared.predicate.trait_ref.TraitRef.{TraitRef}
@@ -37,9 +37,9 @@ use Rattle.reference_interner.specs.contracts.keys.ItemIdPartialEq.TheImpl as it
 use Rattle.reference_interner.specs.contracts.keys.ItemId as item
 use Rattle.reference_interner.specs.contracts.keys.SymbolIdPartialEq.TheImpl as symbol_impl
 use Rattle.reference_interner.specs.contracts.keys.SymbolId as symbol
-use Rattle.relation_terms.specs.contracts.terms.enums.PredicatePolarityPartialEq.TheImpl as polarity_impl
-use Rattle.relation_terms.specs.contracts.terms.enums.BoundConstnessPartialEq.TheImpl as constness_impl
-use Rattle.relation_terms.specs.contracts.terms.enums.AliasRelationDirectionPartialEq.TheImpl as direction_impl
+use Rattle.term_enums.specs.contracts.PredicatePolarityPartialEq.TheImpl as polarity_impl
+use Rattle.term_enums.specs.contracts.BoundConstnessPartialEq.TheImpl as constness_impl
+use Rattle.term_enums.specs.contracts.AliasRelationDirectionPartialEq.TheImpl as direction_impl
 use Rattle.relation_terms.specs.contracts.predicate.alias_term.AliasTermKindPartialEq.TheImpl as kind_impl
 use Rattle.relation_terms.specs.contracts.predicate.kinds.ClauseKindPartialEq.TheImpl as clause_impl
 use Rattle.relation_terms.specs.contracts.predicate.kinds.PredicateKindPartialEq.TheImpl as predicate_impl

@@ -20,7 +20,7 @@ use Rattle.reference_interner.specs.declared.node.Node.{Node}
 use Rattle.reference_interner.specs.Nodes.{predicate_node, clauses_node, as_clause, tree_as, entry, no_entry, entries}
 use Rattle.reference_interner.specs.Nodes.{table_meaning, StandsAt}
 use Rattle.reference_interner.specs.Places.{key_reads}
-use Rattle.reference_interner.specs.Laws.{clause_same, clause_reads, clause_law, env_reads, parts_in}
+use Rattle.reference_interner.specs.Laws.{clause_same, clause_reads, all_sorted, env_reads, parts_in}
 use Rattle.reference_interner.proofs.OnceLemmas.{stands}
 use Rattle.reference_interner.specs.Items.{Items}
 
@@ -88,7 +88,8 @@ module _ (items : Items) (ns : List Node) (i : ℕ) where
       ((c : ClauseKind NodeKey ItemId SymbolId) → b.value ≡ Clause c → ⊥) → ⊥
   clause_form k b h u =
       no_clause (table_meaning items ns) b u
-      (subst (λ t. IsBinder clause_sort t) (sym (clause_predicate k) ∙ h) (clause_law items ns i k))
+      (subst (λ t. IsBinder clause_sort t) (sym (clause_predicate k) ∙ h)
+      ((all_sorted items ns).clause (record { 0 = record { 0 = i } }) k))
 
   -- What stands where a clause of a known tree is read.
   pub clause_stands : (t : Tree) → IsTrue (known t) →

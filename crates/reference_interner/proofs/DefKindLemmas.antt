@@ -1,8 +1,8 @@
 -- What is said of an item by how its kind was made.
 use Rattle.std.proofs.Common.{◌≡◌, ◌⊎◌, inl, inr, List, Some, None, refl, ap}
-use Rattle.relation_terms.specs.declared.terms.enums.Variance.{Variance}
-use Rattle.relation_terms.specs.declared.terms.enums.SolverTraitLangItem.{SolverTraitLangItem}
-use Rattle.relation_terms.specs.declared.terms.enums.SolverTraitLangItem.TheVariants.{Sized}
+use Rattle.term_enums.specs.declared.Variance.{Variance}
+use Rattle.term_enums.specs.declared.SolverTraitLangItem.{SolverTraitLangItem}
+use Rattle.term_enums.specs.declared.SolverTraitLangItem.TheVariants.{Sized}
 use Rattle.relation_terms.specs.declared.terms.ids.TraitId.{TraitId}
 use Rattle.reference_interner.specs.declared.keys.ItemId.{ItemId}
 use Rattle.reference_interner.specs.declared.items.Item.{Item}

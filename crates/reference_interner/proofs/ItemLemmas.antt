@@ -22,7 +22,7 @@ use Rattle.relation_terms.specs.Trees.{Tree, list_tree, node, bind, nil, cons}
 use Rattle.relation_terms.specs.Meaning.{existential_tree, term_tree, object_predicate_tree, bound_kind_of, bound_kinds}
 use Rattle.relation_terms.specs.Meaning.{under}
 use Rattle.relation_terms.specs.Meaning.{kind_tree, region_tree, const_tree, valtree_tree, pattern_tree, arg_tree}
-use Rattle.relation_terms.specs.declared.terms.enums.Variance.{Variance}
+use Rattle.term_enums.specs.declared.Variance.{Variance}
 use Rattle.relation_terms.specs.declared.terms.ty_kind.TyKind.{TyKind}
 use Rattle.relation_terms.specs.declared.terms.ty_kind.TyKind.TheVariants.{Bool, Char, Int, Uint, Float, Adt, Foreign}
 use Rattle.relation_terms.specs.declared.terms.ty_kind.TyKind.TheVariants.{Str, Array, Slice, RawPtr, Ref, FnDef}
@@ -50,9 +50,11 @@ use Rattle.relation_terms.specs.declared.terms.generic_arg.GenericArgKind.TheVar
 use Rattle.relation_terms.specs.declared.terms.ty_kind.TyKind.TheVariants.{FnPtr, UnsafeBinder, Dynamic}
 use Rattle.relation_terms.specs.declared.terms.generic_arg.TermKind.{TermKind}
 use Rattle.relation_terms.specs.declared.terms.generic_arg.TermKind.TheVariants.{Ty as TyTerm, Const as ConstTerm}
-use Rattle.relation_terms.specs.declared.predicate.ExistentialPredicate.{ExistentialPredicate}
-use Rattle.relation_terms.specs.declared.predicate.ExistentialPredicate.TheVariants.{Trait, AutoTrait}
-use Rattle.relation_terms.specs.declared.predicate.ExistentialPredicate.TheVariants.{Projection as ProjectionPredicate}
+use Rattle.relation_terms.specs.declared.predicate.existential.ExistentialPredicate.{ExistentialPredicate}
+use Rattle.relation_terms.specs.declared.predicate.existential.ExistentialPredicate.TheVariants.{Trait, AutoTrait}
+use Rattle.relation_terms.specs.declared.predicate.existential.ExistentialPredicate.TheVariants.{
+  Projection as ProjectionPredicate,
+}
 use Rattle.relation_terms.specs.declared.terms.binder.Binder.{Binder}
 use Rattle.relation_terms.specs.declared.terms.binder.BoundVariableKind.{BoundVariableKind}
 use Rattle.relation_terms.specs.declared.terms.binder.BoundVariableKind.TheVariants.{Ty as TyVariable}
@@ -65,12 +67,12 @@ use Rattle.reference_interner.specs.declared.items.Item.{Item}
 use Rattle.reference_interner.specs.declared.node.Node.{Node}
 use Rattle.reference_interner.specs.Forms.{Form, ty_form, region_form, const_form, valtree_form, args_form, tys_form}
 use Rattle.reference_interner.specs.Forms.{branches_form, pattern_form, alternatives_form, form_of, predicate_form, clauses_form}
-use Rattle.reference_interner.specs.Adding.{SameTerms, OthersStand, HasNoGenerics}
+use Rattle.reference_interner.specs.Adding.{SameTerms, OthersStand, HasNoGenerics, StatesNothing}
 use Rattle.reference_interner.specs.Items.{read_at, alias_variances_of, alias_variances_at, parent_of, alias_kind_of}
-use Rattle.reference_interner.specs.Items.{is_lang, tables_of, changed_at}
-use Rattle.relation_terms.specs.Heads.{AliasTermKind}
-use Rattle.relation_terms.specs.declared.terms.enums.SolverTraitLangItem.{SolverTraitLangItem}
-use Rattle.relation_terms.specs.declared.terms.enums.SolverTraitLangItem.TheVariants.{Sized}
+use Rattle.reference_interner.specs.Items.{is_lang, tables_of, changed_at, supers_of, implied_of, bounds_of, params_of}
+use Rattle.relation_terms.specs.Heads.{AliasTermKind, BoundKind}
+use Rattle.term_enums.specs.declared.SolverTraitLangItem.{SolverTraitLangItem}
+use Rattle.term_enums.specs.declared.SolverTraitLangItem.TheVariants.{Sized}
 use Rattle.std.specs.Prelude.{Bool as Bool_, false}
 use Rattle.reference_interner.specs.Forms.{predicates_form, bound_vars_form}
 use Rattle.reference_interner.specs.Nodes.{Entry, entry, meaning_of, form_sort, form_tree, entry_of, entries}
@@ -270,6 +272,9 @@ alias_kind_declared y = alias_kind_of (y.kind).def
 abbrev auto_declared : Item → Bool_
 auto_declared y = y.is_auto
 
+abbrev params_declared : Item → List BoundKind
+params_declared y = params_of y.kind
+
 -- An id that no item has.
 pub no_generics : (items : Items) (ns : List Node) (d : ℕ) → length items.list ≤ d →
     HasNoGenerics (table_meaning items ns) d
@@ -278,6 +283,7 @@ no_generics items ns d h = record {
   generics = ap length (read_past declared [] items d h);
   variances = read_past declared [] items d h;
   alias_variances = read_past alias_declared None items d h;
+  params = read_past params_declared [] items d h;
 }
 
 -- A list and one more element, read elsewhere than at its end.
@@ -370,6 +376,19 @@ module _ (items more : Items) (x : Item) (ns : List Node) (d : ℕ) (added : mor
   unfolding meaning_of
   new_lang i = new_read (is_lang i) false
 
+  pub new_params : ((table_meaning more ns).tables).params d ≡ params_of x.kind
+  unfolding meaning_of
+  new_params = new_read params_declared []
+
+  -- An item of which nothing is said states nothing.
+  pub new_states : supers_of x ≡ [] → implied_of x ≡ [] → bounds_of x ≡ [] → StatesNothing (table_meaning more ns) d
+  unfolding meaning_of
+  new_states s i b = record {
+    super_predicates = new_read supers_of [] ∙ s;
+    implied_predicates = new_read implied_of [] ∙ i;
+    const_bounds = new_read bounds_of [] ∙ b;
+  }
+
   pub others_stand : OthersStand (table_meaning items ns) (table_meaning more ns) d
   unfolding meaning_of
   others_stand = record {
@@ -381,6 +400,10 @@ module _ (items more : Items) (x : Item) (ns : List Node) (d : ℕ) (added : mor
     is_lang_item = λ e n i. other_read (is_lang i) false e n;
     alias_kind = λ e n. other_read alias_kind_declared None e n;
     next_solver = solver;
+    super_predicates = λ e n. other_read supers_of [] e n;
+    implied_predicates = λ e n. other_read implied_of [] e n;
+    const_bounds = λ e n. other_read bounds_of [] e n;
+    params = λ e n. other_read params_declared [] e n;
   }
 
 -- What is read of the tables of an interner.

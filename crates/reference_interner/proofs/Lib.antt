@@ -9,3 +9,4 @@ pub mod OnceLemmas
 pub mod FindingLemmas
 pub mod ClauseLemmas
 pub mod FlagLemmas
+pub mod StatedLemmas

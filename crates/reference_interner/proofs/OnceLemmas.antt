@@ -7,7 +7,7 @@ use Rattle.std.proofs.Math.Seq.{get_or-append_seam}
 use Rattle.relation_terms.specs.Trees.{Tree, known}
 use Rattle.relation_terms.specs.Meaning.{Meaning, Extends, arg_tree, object_predicate_tree, bound_kinds}
 use Rattle.relation_terms.proofs.Stays.{stays_same}
-use Rattle.relation_terms.proofs.Sorted.{Sorted}
+use Rattle.relation_terms.specs.Interning.{Sorted}
 use Rattle.relation_terms.proofs.Once.{Injective, kind_once, region_once, const_once, valtree_once, arg_once}
 use Rattle.relation_terms.proofs.Once.{pattern_once, list_once, object_predicate_once, bound_kinds_once}
 use Rattle.relation_terms.proofs.Predicates.{predicate_once}
@@ -184,4 +184,8 @@ none_known items ns p e = subst (λ m. KnowsNone m) (sym (ap₂ table_meaning p 
   is_lang_item = λ d i. refl;
   alias_kind = λ d. refl;
   next_solver = refl;
+  super_predicates = λ d. refl;
+  implied_predicates = λ d. refl;
+  const_bounds = λ d. refl;
+  params = λ d. refl;
 })

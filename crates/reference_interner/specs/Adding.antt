@@ -1,9 +1,9 @@
 -- What adding an item changes.
 use Rattle.std.specs.Prelude.{◌≡◌, ◌≢◌, ℕ, List, [], None, length, Result, IfOk, IsFalse}
 use Rattle.std.specs.Global.{Vec}
-use Rattle.relation_terms.specs.declared.terms.enums.Variance.{Variance}
+use Rattle.term_enums.specs.declared.Variance.{Variance}
 use Rattle.relation_terms.specs.Meaning.{Meaning}
-use Rattle.relation_terms.specs.declared.terms.enums.SolverTraitLangItem.{SolverTraitLangItem}
+use Rattle.term_enums.specs.declared.SolverTraitLangItem.{SolverTraitLangItem}
 use Rattle.relation_terms.specs.declared.terms.keys.TyKey.{TyKey}
 use Rattle.relation_terms.specs.declared.terms.keys.RegionKey.{RegionKey}
 use Rattle.relation_terms.specs.declared.terms.keys.ConstKey.{ConstKey}
@@ -81,12 +81,23 @@ module _ {Key Id Name : Type 0} (m n : Meaning Key Id Name) where
         (n.tables).is_lang_item e i ≡ (m.tables).is_lang_item e i
     pub alias_kind : (e : ℕ) → e ≢ d → (n.tables).alias_kind e ≡ (m.tables).alias_kind e
     pub next_solver : (n.tables).next_solver ≡ (m.tables).next_solver
+    pub super_predicates : (e : ℕ) → e ≢ d → (n.tables).super_predicates e ≡ (m.tables).super_predicates e
+    pub implied_predicates : (e : ℕ) → e ≢ d → (n.tables).implied_predicates e ≡ (m.tables).implied_predicates e
+    pub const_bounds : (e : ℕ) → e ≢ d → (n.tables).const_bounds e ≡ (m.tables).const_bounds e
+    pub params : (e : ℕ) → e ≢ d → (n.tables).params e ≡ (m.tables).params e
 
 -- The item of a number has no generic parameters.
 pub record HasNoGenerics {Key Id Name : Type 0} (m : Meaning Key Id Name) (d : ℕ) : Type 0 where
   pub generics : m.generics d ≡ 0
   pub variances : m.variances d ≡ []
   pub alias_variances : m.alias_variances d ≡ None
+  pub params : (m.tables).params d ≡ []
+
+-- The item of a number states nothing.
+pub record StatesNothing {Key Id Name : Type 0} (m : Meaning Key Id Name) (d : ℕ) : Type 0 where
+  pub super_predicates : (m.tables).super_predicates d ≡ []
+  pub implied_predicates : (m.tables).implied_predicates d ≡ []
+  pub const_bounds : (m.tables).const_bounds d ≡ []
 
 -- An alias type of the item of a number is related at the variances that its kind gives.
 abbrev pub HasAliasVariances : {Key Id Name : Type 0} → Meaning Key Id Name → ℕ → ItemKind → Vec Variance → Type 0

@@ -2,7 +2,7 @@
 use Rattle.std.specs.Prelude.{◌≡◌, ℕ, IsFalse, IsNone, None, []}
 use Rattle.relation_terms.specs.Trees.{known}
 use Rattle.relation_terms.specs.Meaning.{Meaning}
-use Rattle.relation_terms.specs.declared.terms.enums.SolverTraitLangItem.{SolverTraitLangItem}
+use Rattle.term_enums.specs.declared.SolverTraitLangItem.{SolverTraitLangItem}
 use Rattle.relation_terms.specs.declared.terms.keys.TyKey.{TyKey}
 use Rattle.relation_terms.specs.declared.terms.keys.RegionKey.{RegionKey}
 use Rattle.relation_terms.specs.declared.terms.keys.ConstKey.{ConstKey}
@@ -44,3 +44,7 @@ pub record KnowsNone {Key Id Name : Type 0} (m : Meaning Key Id Name) : Type 0 w
   pub is_lang_item : (n : ℕ) → (i : SolverTraitLangItem) → IsFalse ((m.tables).is_lang_item n i)
   pub alias_kind : (n : ℕ) → (m.tables).alias_kind n ≡ None
   pub next_solver : IsFalse ((m.tables).next_solver)
+  pub super_predicates : (n : ℕ) → (m.tables).super_predicates n ≡ []
+  pub implied_predicates : (n : ℕ) → (m.tables).implied_predicates n ≡ []
+  pub const_bounds : (n : ℕ) → (m.tables).const_bounds n ≡ []
+  pub params : (n : ℕ) → (m.tables).params n ≡ []

@@ -3,14 +3,19 @@
 use Rattle.std.proofs.Common.{ℕ, ◌≡◌, ◌↔◌, IsTrue, List, [], ◌∷◌, ◌++◌, length, get_or, eqb, refl, ap, sym, ◌∙◌}
 use Rattle.std.proofs.Common.{subst, inl, inr, Some, IsSome, Bool, true, false, cond}
 use Rattle.std.proofs.lemmas.Bool.{eqb-true, eq-eqb, cases_lt, false≢true}
-use Rattle.std.proofs.lemmas.List.{get_or_append_left, get_or_past}
+use Rattle.std.proofs.Common.{◌≤◌, map}
+use Rattle.std.specs.List.{All}
+use Rattle.std.proofs.lemmas.List.{get_or_append_left, get_or_past, length-map}
+use Rattle.std.proofs.lemmas.List.Elements.{All-map, All-nil}
 use Rattle.std.proofs.Math.Seq.{get_or-append_seam}
 use Rattle.relation_terms.specs.Heads.{type_sort, region_sort, const_sort, value_sort, pattern_sort, argument_sort}
 use Rattle.relation_terms.specs.Heads.{environment_sort, existential_sort, row, binder_of, environment, Sort, unknown}
 use Rattle.relation_terms.specs.Heads.{clause_sort, predicate_sort, Admits, head_sort, leaf_sort}
 use Rattle.relation_terms.specs.Trees.{Tree, leaf, node, bind, nil, known, Fits, IsTerm, AreTerms, IsBinder}
 use Rattle.relation_terms.specs.Meaning.{Meaning, arg_tree, object_predicate_tree, under}
-use Rattle.relation_terms.proofs.Sorted.{Sorted, kind_sorted, region_sorted, const_sorted, valtree_sorted, arg_sorted}
+use Rattle.relation_terms.specs.Interning.{Sorted}
+use Rattle.relation_terms.specs.Owned.{IsStated, IsStatedBound, StatesItsOwn}
+use Rattle.relation_terms.proofs.Sorted.{kind_sorted, region_sorted, const_sorted, valtree_sorted, arg_sorted}
 use Rattle.relation_terms.proofs.Sorted.{pattern_sorted, list_sorted, binders_sorted, object_predicate_sorted}
 use Rattle.relation_terms.proofs.Predicates.{predicate_sorted}
 use Rattle.relation_terms.proofs.Binders.{known_under}
@@ -32,7 +37,9 @@ use Rattle.reference_interner.specs.Nodes.{predicates_node, bound_vars_node}
 use Rattle.reference_interner.specs.Nodes.{Entry, no_entry, entry, tree_as, meaning_of, form_sort, form_tree, entry_of}
 use Rattle.reference_interner.specs.Nodes.{entries_from, entries, table_meaning, known_entry, AllDistinct}
 use Rattle.reference_interner.specs.Places.{known_in, of_sort, shown_as, tree_of_key, key_reads}
-use Rattle.reference_interner.specs.Items.{Items, no_items}
+use Rattle.reference_interner.specs.declared.items.Item.{Item}
+use Rattle.reference_interner.specs.Items.{Items, no_items, read_at, supers_of, implied_of, bounds_of}
+use Rattle.reference_interner.specs.Stated.{AllStated}
 
 -- The tree is a term, or a list of terms or of binders over terms, as a node of the sort has. Of a list of variables
 -- nothing is asked.
@@ -69,20 +76,6 @@ key_sorted : (items : Items) (es : List Entry) → AllSorted es → (s : NodeSor
 key_sorted items es h s i k =
     let e = key_reads items es s i in
     subst (IsOfSort s) (sym e) (sorted_as s (get_or es i no_entry) (h i) (subst (λ t. IsTrue (known t)) e k))
-
-sorted : (items : Items) (es : List Entry) → AllSorted es → Sorted (meaning_of items es)
-sorted items es h = record {
-  ty = λ k. key_sorted items es h ty_node (k.0).0;
-  region = λ k. key_sorted items es h region_node (k.0).0;
-  tys = λ k. key_sorted items es h tys_node (k.0).0;
-  const_ = λ k. key_sorted items es h const_node (k.0).0;
-  valtree = λ k. key_sorted items es h valtree_node (k.0).0;
-  args = λ k. key_sorted items es h args_node (k.0).0;
-  branches = λ k. key_sorted items es h branches_node (k.0).0;
-  pat = λ k. key_sorted items es h pat_node (k.0).0;
-  alternatives = λ k. key_sorted items es h alternatives_node (k.0).0;
-  existential_predicates = λ k. key_sorted items es h predicates_node (k.0).0;
-}
 
 -- What is known as a clause is the predicate's tree.
 known_as : (b : Bool) (t : Tree) → IsTrue (known (cond b t (leaf unknown))) → cond b t (leaf unknown) ≡ t
@@ -130,23 +123,55 @@ key_clause_sorted items es h k s =
     (as_clause_sorted (tree_as predicate_node x) (sorted_as predicate_node x (h (k.0).0))
     (subst (λ t. IsTrue (known t)) e s))
 
-form_sorted : (m : Meaning NodeKey ItemId SymbolId) → Sorted m →
-    ((k : ClauseKey NodeKey) → IsTrue (known (m.clause k)) → IsBinder clause_sort (m.clause k)) → (f : Form) →
-    IsTrue (known (form_tree m f)) → IsOfSort (form_sort f) (form_tree m f)
-form_sorted m s c (ty_form f) k = kind_sorted m s f k
-form_sorted m s c (region_form f) k = region_sorted m f
-form_sorted m s c (const_form f) k = const_sorted m s f k
-form_sorted m s c (valtree_form f) k = valtree_sorted m s f k
-form_sorted m s c (pattern_form f) k = pattern_sorted m s f k
-form_sorted m s c (args_form xs) k = list_sorted argument_sort (arg_tree m) (arg_sorted m s) xs k
-form_sorted m s c (tys_form ts) k = list_sorted type_sort m.ty s.ty ts k
-form_sorted m s c (branches_form cs) k = list_sorted const_sort m.const_ s.const_ cs k
-form_sorted m s c (alternatives_form ps) k = list_sorted pattern_sort m.pat s.pat ps k
-form_sorted m s c (predicates_form ps) k =
+-- An environment is that of the list of its number.
+env_is : (items : Items) (es : List Entry) (i : ℕ) →
+    (meaning_of items es).param_env (record { 0 = record { 0 = i } }) ≡
+    node environment ((meaning_of items es).clauses (record { 0 = record { 0 = i } }))
+unfolding meaning_of
+env_is items es i = refl
+
+key_env_sorted : (items : Items) (es : List Entry) → AllSorted es → (i : ℕ) →
+    IsTrue (known ((meaning_of items es).param_env (record { 0 = record { 0 = i } }))) →
+    IsTerm environment_sort ((meaning_of items es).param_env (record { 0 = record { 0 = i } }))
+key_env_sorted items es h i k =
+    let e = env_is items es i in
+    subst (λ t. IsTerm environment_sort t) (sym e)
+    (tt, key_sorted items es h clauses_node i (subst (λ t. IsTrue (known t)) e k))
+
+sorted : (items : Items) (es : List Entry) → AllSorted es → Sorted (meaning_of items es)
+sorted items es h = record {
+  ty = λ k. key_sorted items es h ty_node (k.0).0;
+  region = λ k. key_sorted items es h region_node (k.0).0;
+  tys = λ k. key_sorted items es h tys_node (k.0).0;
+  const_ = λ k. key_sorted items es h const_node (k.0).0;
+  valtree = λ k. key_sorted items es h valtree_node (k.0).0;
+  args = λ k. key_sorted items es h args_node (k.0).0;
+  branches = λ k. key_sorted items es h branches_node (k.0).0;
+  pat = λ k. key_sorted items es h pat_node (k.0).0;
+  alternatives = λ k. key_sorted items es h alternatives_node (k.0).0;
+  existential_predicates = λ k. key_sorted items es h predicates_node (k.0).0;
+  predicate = λ k. key_sorted items es h predicate_node (k.0).0;
+  clause = key_clause_sorted items es h;
+  clauses = λ k. key_sorted items es h clauses_node (k.0).0;
+  param_env = λ k. key_env_sorted items es h (k.0).0;
+}
+
+form_sorted : (m : Meaning NodeKey ItemId SymbolId) → Sorted m → (f : Form) → IsTrue (known (form_tree m f)) →
+    IsOfSort (form_sort f) (form_tree m f)
+form_sorted m s (ty_form f) k = kind_sorted m s f k
+form_sorted m s (region_form f) k = region_sorted m f
+form_sorted m s (const_form f) k = const_sorted m s f k
+form_sorted m s (valtree_form f) k = valtree_sorted m s f k
+form_sorted m s (pattern_form f) k = pattern_sorted m s f k
+form_sorted m s (args_form xs) k = list_sorted argument_sort (arg_tree m) (arg_sorted m s) xs k
+form_sorted m s (tys_form ts) k = list_sorted type_sort m.ty s.ty ts k
+form_sorted m s (branches_form cs) k = list_sorted const_sort m.const_ s.const_ cs k
+form_sorted m s (alternatives_form ps) k = list_sorted pattern_sort m.pat s.pat ps k
+form_sorted m s (predicates_form ps) k =
     binders_sorted existential_sort (object_predicate_tree m) (object_predicate_sorted m s) ps k
-form_sorted m s c (bound_vars_form xs) k = tt
-form_sorted m s c (predicate_form f) k = predicate_sorted m s f k
-form_sorted m s c (clauses_form cs) k = binders_sorted clause_sort m.clause c cs k
+form_sorted m s (bound_vars_form xs) k = tt
+form_sorted m s (predicate_form f) k = predicate_sorted m s f k
+form_sorted m s (clauses_form cs) k = binders_sorted clause_sort m.clause s.clause cs k
 
 one_more : (es : List Entry) (e : Entry) → AllSorted es → IsSorted e → AllSorted (es ++ e ∷ [])
 one_more es e s h = λ i. elim (cases_lt i (length (es ++ e ∷ []))) [
@@ -164,34 +189,44 @@ sorted_from es [] s = s
 sorted_from es (n ∷ ns) s =
     let m = meaning_of no_items es in
     sorted_from (es ++ entry_of m n ∷ []) ns
-    (one_more es (entry_of m n) s (form_sorted m (sorted no_items es s) (key_clause_sorted no_items es s) (form_of n)))
+    (one_more es (entry_of m n) s (form_sorted m (sorted no_items es s) (form_of n)))
 
 pub all_sorted : (items : Items) (ns : List Node) → Sorted (table_meaning items ns)
 all_sorted items ns = sorted items (entries ns) (sorted_from [] ns (λ i. tt))
 
+-- What holds of all that is read of items, and of what is read of none, holds of what is read of any number.
+read_holds : {A : Type 0} (P : A → Type 0) (reads : Item → A) (none : A) (items : Items) → P none →
+    All (λ x. P (reads x)) items.list → (n : ℕ) → P (read_at reads none items n)
+read_holds P reads none items z a n = elim (cases_lt n (length (map reads items.list))) [
+  | inl h ↦ All-map P reads items.list a n none h
+  | inr h ↦ subst P (sym (get_or_past (map reads items.list) n none h)) z
+]
+
+-- All that traits state binds in itself alone, and no trait states anything but those that were added.
+pub states_law : (items : Items) (ns : List Node) → AllStated ns items.list → StatesItsOwn (table_meaning items ns)
+unfolding meaning_of
+states_law items ns s =
+    let m = table_meaning no_items ns in
+    record {
+      supers =
+          read_holds (All (IsStated m)) supers_of [] items (All-nil (IsStated m)) (λ k d h. (s k d h).supers);
+      implied =
+          read_holds (All (IsStated m)) implied_of [] items (All-nil (IsStated m)) (λ k d h. (s k d h).implied);
+      bounds =
+          read_holds (All (IsStatedBound m)) bounds_of [] items (All-nil (IsStatedBound m))
+          (λ k d h. (s k d h).bounds);
+      finite = (
+        length items.list,
+        λ d h. get_or_past (map supers_of items.list) d []
+            (subst (λ n. n ≤ d) (sym (length-map items.list supers_of)) h),
+      );
+    }
+
 module _ (items : Items) (ns : List Node) where
-  -- The tree of a known key is a term of its sort.
-  pub sort_law : (s : NodeSort) (i : ℕ) → IsTrue (known (tree_of_key s (table_meaning items ns) i)) →
-      IsOfSort s (tree_of_key s (table_meaning items ns) i)
-  sort_law s i k = key_sorted items (entries ns) (sorted_from [] ns (λ j. tt)) s i k
-
-  pub clause_law : (i : ℕ) → IsTrue (known ((table_meaning items ns).clause (record { 0 = record { 0 = i } }))) →
-      IsBinder clause_sort ((table_meaning items ns).clause (record { 0 = record { 0 = i } }))
-  clause_law i k =
-      key_clause_sorted items (entries ns) (sorted_from [] ns (λ j. tt)) (record { 0 = record { 0 = i } }) k
-
   -- An environment is that of the list of its number.
   pub env_reads : (i : ℕ) → (table_meaning items ns).param_env (record { 0 = record { 0 = i } }) ≡
       node environment ((table_meaning items ns).clauses (record { 0 = record { 0 = i } }))
-  unfolding meaning_of
-  env_reads i = refl
-
-  pub env_law : (i : ℕ) → IsTrue (known ((table_meaning items ns).param_env (record { 0 = record { 0 = i } }))) →
-      IsTerm environment_sort ((table_meaning items ns).param_env (record { 0 = record { 0 = i } }))
-  env_law i k =
-      let e = env_reads i in
-      subst (λ t. IsTerm environment_sort t) (sym e)
-      (tt, sort_law clauses_node i (subst (λ t. IsTrue (known t)) e k))
+  env_reads i = env_is items (entries ns) i
 
   pub same_name_law : (x y : SymbolId) →
       (IsTrue (eqb x.0 y.0) ↔ ((table_meaning items ns).name x ≡ (table_meaning items ns).name y))

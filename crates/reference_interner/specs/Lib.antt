@@ -2,6 +2,7 @@ pub mod ShortLists
 pub mod Forms
 pub mod Items
 pub mod Nodes
+pub mod Stated
 pub mod Finding
 pub mod Empty
 pub mod Places

@@ -2,11 +2,13 @@
 ghost use Rattle.std.specs.Prelude.{◌≡◌, suc, IfOk, IsFalse, OnErr, length};
 
 use crate::keys::next_number;
-use crate::{ItemId, RefInterner, SymbolId};
-use relation_terms::predicate::AliasTermKind;
+use crate::{ItemId, NoSpan, NodeKey, RefInterner, SymbolId};
+use relation_terms::predicate::{AliasTermKind, TraitRef};
+pub use relation_terms::terms::{GenericParam, GenericParamKind};
 use relation_terms::terms::{
-    FreeConstAliasId, FreeTyAliasId, InherentAssocConstId, InherentAssocTyId, Interner, OpaqueTyId,
-    OutOfMemory, TraitAssocConstId, TraitAssocTyId, TraitId, UnevaluatedConstId, Variance,
+    Binder, ClauseKey, FreeConstAliasId, FreeTyAliasId, InherentAssocConstId, InherentAssocTyId,
+    Interner, OpaqueTyId, OutOfMemory, TraitAssocConstId, TraitAssocTyId, TraitId,
+    UnevaluatedConstId, Variance,
 };
 
 /// Which kind of item an item is.
@@ -84,26 +86,11 @@ impl DefKind {
     }
 }
 
-/// What a generic parameter stands for.
-#[derive(Clone, Copy)]
-pub enum GenericParamKind {
-    Lifetime,
-    Type,
-    Const,
-}
-
-/// A generic parameter of an item.
-#[derive(Clone, Copy)]
-pub struct GenericParam {
-    pub kind: GenericParamKind,
-    pub name: SymbolId,
-}
-
 /// What kind of item an item is, and its generic parameters.
 #[derive(Drop)]
 pub struct ItemKind {
     pub def: DefKind,
-    pub params: Vec<GenericParam>,
+    pub params: Vec<GenericParam<SymbolId>>,
 }
 
 /// An item, as it was added.
@@ -117,12 +104,19 @@ pub struct Item {
     pub is_auto: bool,
     /// Whether the item is the trait `Sized`.
     pub is_sized: bool,
+    /// The super-predicates of a trait, each with its place.
+    pub super_predicates: Vec<(ClauseKey<NodeKey>, NoSpan)>,
+    /// All predicates that a trait implies, each with its place.
+    pub implied_predicates: Vec<(ClauseKey<NodeKey>, NoSpan)>,
+    /// The const bounds of a trait.
+    pub const_bounds: Vec<Binder<NodeKey, TraitRef<NodeKey, ItemId>>>,
 }
 
 impl RefInterner {
     ghost use Rattle.reference_interner.specs.Adding.{items_of, item_count, meaning_in, SameTerms, OthersStand};
     ghost use Rattle.reference_interner.specs.Adding.{HasNoGenerics, HasAliasVariances, MakesNoLangItem};
-    ghost use Rattle.reference_interner.specs.Items.{parent_of, alias_kind_of, IsPutBehind};
+    ghost use Rattle.reference_interner.specs.Adding.{StatesNothing};
+    ghost use Rattle.reference_interner.specs.Items.{parent_of, alias_kind_of, params_of, IsPutBehind};
     ghost use Rattle.reference_interner.specs.Items.{changed_at, said_auto, said_sized};
 
     /// How many items were added.
@@ -153,8 +147,10 @@ impl RefInterner {
         ensures alias_variances { IfOk result (λ d. HasAliasVariances (meaning_in self.new) d.0 kind variances) }
         ensures parent { IfOk result (λ d. ((meaning_in self.new).tables).parent d.0 ≡ parent_of kind.def) }
         ensures alias_kind { IfOk result (λ d. ((meaning_in self.new).tables).alias_kind d.0 ≡ alias_kind_of kind.def) }
+        ensures params { IfOk result (λ d. ((meaning_in self.new).tables).params d.0 ≡ params_of kind) }
         ensures no_auto { IfOk result (λ d. IsFalse (((meaning_in self.new).tables).is_auto d.0)) }
         ensures no_lang_item { MakesNoLangItem (meaning_in self.new) result }
+        ensures nothing_stated { IfOk result (λ d. StatesNothing (meaning_in self.new) d.0) }
         ensures others { IfOk result (λ d. OthersStand (meaning_in self.old) (meaning_in self.new) d.0) }
         ensures refused { OnErr result (meaning_in self.new ≡ meaning_in self.old) }
         ensures none_recorded { OnErr result (items_of self.new ≡ items_of self.old) }
@@ -166,6 +162,9 @@ impl RefInterner {
             variances,
             is_auto: false,
             is_sized: false,
+            super_predicates: Vec::new(self.alloc),
+            implied_predicates: Vec::new(self.alloc),
+            const_bounds: Vec::new(self.alloc),
         })?;
         Ok(ItemId(number))
     }

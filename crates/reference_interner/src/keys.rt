@@ -12,7 +12,8 @@ pub struct NodeKey(pub u32);
 #[derive(Clone, Copy, PartialEq, Eq, Hash, Debug)]
 pub struct ItemId(pub u32);
 
-/// The number of a name.
+/// The number of a name. The last number stands for no name: names that are numbered by their places in a list are
+/// others.
 #[derive(Clone, Copy, PartialEq, Eq, Hash, Debug)]
 pub struct SymbolId(pub usize);
 

@@ -6,6 +6,7 @@ ghost use Rattle.std.specs.HashMap.{get};
 ghost use Rattle.reference_interner.specs.Nodes.{AllKnown, AllDistinct};
 ghost use Rattle.reference_interner.specs.Finding.{Finds};
 ghost use Rattle.reference_interner.specs.Flags.{AreFlags};
+ghost use Rattle.reference_interner.specs.Stated.{AllStated, stated_prop};
 
 mod flags;
 mod hashing;
@@ -13,6 +14,7 @@ mod items;
 mod keys;
 mod node;
 mod short_list;
+mod stating;
 mod table;
 
 use hashing::NodeHasher;
@@ -21,15 +23,15 @@ pub use keys::{ItemId, NoSpan, NodeKey, SymbolId};
 pub use node::Node;
 use node::copied;
 use relation_terms::predicate::{
-    AliasTermKind, ClauseForm, ObjectPredicate, PredicateForm, PredicateKind,
+    AliasTermKind, ClauseForm, ObjectPredicate, PredicateForm, PredicateKind, TraitRef,
 };
 use relation_terms::terms::{
     Alternatives, AlternativesKey, ArgsKey, Binder, BoundVariable, BoundVars, BoundVarsKey,
     Branches, BranchesKey, Clause, ClauseKey, Clauses, ClausesKey, Const, ConstForm, ConstKey,
     ExistentialPredicates, ExistentialPredicatesKey, GenericArg, GenericArgs, Interner, ItemOf,
     OutOfMemory, ParamEnv, ParamEnvKey, Pat, PatKey, PatternForm, Predicate, PredicateKey, Region,
-    RegionForm, RegionKey, SolverTraitLangItem, Span, TraitAssocTermId, TraitId, Ty, TyForm, TyKey,
-    TypeFlags, Tys, TysKey, ValTree, ValTreeForm, ValTreeKey, Variance,
+    RegionForm, RegionKey, SolverTraitLangItem, Span, Symbol, TraitAssocTermId, TraitId, Ty,
+    TyForm, TyKey, TypeFlags, Tys, TysKey, ValTree, ValTreeForm, ValTreeKey, Variance,
 };
 pub use short_list::ShortList;
 use std::alloc::Global;
@@ -55,6 +57,7 @@ pub struct RefInterner {
     ghost distinct: { AllDistinct nodes.items },
     ghost finds: { Finds nodes.items (get ⟦<Node as PartialEq>⟧.eq places) },
     ghost flagged: { AreFlags nodes.items flags.items },
+    ghost stated: { AllStated nodes.items items.items } by { stated_prop nodes.items items.items },
 }
 
 impl Interner for RefInterner {
@@ -74,8 +77,8 @@ impl Interner for RefInterner {
     ghost use Rattle.reference_interner.specs.Nodes.{tys_node, branches_node, clauses_node, predicate_node};
     ghost use Rattle.reference_interner.specs.Nodes.{pat_node, alternatives_node, predicates_node};
     ghost use Rattle.reference_interner.specs.Adding.{meaning_in, items_in, node_count};
-    ghost use Rattle.reference_interner.specs.Laws.{sort_law, same_law, same_kinds_law, same_name_law, same_id_law};
-    ghost use Rattle.reference_interner.specs.Laws.{same_clause_law, same_env_law, clause_law, env_law};
+    ghost use Rattle.reference_interner.specs.Laws.{all_sorted, same_law, same_kinds_law, same_name_law, same_id_law};
+    ghost use Rattle.reference_interner.specs.Laws.{same_clause_law, same_env_law, states_law};
 
     ghost meaning = { λ s. meaning_in s };
 
@@ -270,6 +273,47 @@ impl Interner for RefInterner {
 
     fn next_trait_solver_globally(&self) -> bool {
         self.next_solver
+    }
+
+    fn explicit_super_predicates_of(
+        &self,
+        trait_id: &TraitId<ItemId>,
+    ) -> &[(Clause<Self>, Span<Self>)] {
+        match self.items.get(trait_id.0.0 as usize) {
+            Some(item) => &item.super_predicates,
+            None => &[],
+        }
+    }
+
+    fn explicit_implied_predicates_of(
+        &self,
+        trait_id: &TraitId<ItemId>,
+    ) -> &[(Clause<Self>, Span<Self>)] {
+        match self.items.get(trait_id.0.0 as usize) {
+            Some(item) => &item.implied_predicates,
+            None => &[],
+        }
+    }
+
+    fn explicit_implied_const_bounds(
+        &self,
+        trait_id: &TraitId<ItemId>,
+    ) -> &[Binder<NodeKey, TraitRef<NodeKey, ItemId>>] {
+        match self.items.get(trait_id.0.0 as usize) {
+            Some(item) => &item.const_bounds,
+            None => &[],
+        }
+    }
+
+    fn generics_of(&self, def_id: &ItemOf<Self>) -> &[GenericParam<SymbolId>] {
+        match self.items.get(def_id.0.0 as usize) {
+            Some(item) => &item.kind.params,
+            None => &[],
+        }
+    }
+
+    fn dummy_name(&self) -> Symbol<Self> {
+        SymbolId(usize::MAX)
     }
 
     fn mk_ty(&mut self, kind: TyForm<Self>) -> Result<Ty<Self>, OutOfMemory>
@@ -530,31 +574,7 @@ impl Interner for RefInterner {
 
     ghost same_id = { λ a. same_id_law (items_in a) a.nodes.items };
 
-    ghost is_ty = { λ a k. sort_law (items_in a) a.nodes.items ty_node (k.0).0 };
+    ghost sorted = { λ a. all_sorted (items_in a) a.nodes.items };
 
-    ghost is_region = { λ a k. sort_law (items_in a) a.nodes.items region_node (k.0).0 };
-
-    ghost are_tys = { λ a k. sort_law (items_in a) a.nodes.items tys_node (k.0).0 };
-
-    ghost is_const = { λ a k. sort_law (items_in a) a.nodes.items const_node (k.0).0 };
-
-    ghost is_valtree = { λ a k. sort_law (items_in a) a.nodes.items valtree_node (k.0).0 };
-
-    ghost are_args = { λ a k. sort_law (items_in a) a.nodes.items args_node (k.0).0 };
-
-    ghost are_branches = { λ a k. sort_law (items_in a) a.nodes.items branches_node (k.0).0 };
-
-    ghost is_pat = { λ a k. sort_law (items_in a) a.nodes.items pat_node (k.0).0 };
-
-    ghost are_alternatives = { λ a k. sort_law (items_in a) a.nodes.items alternatives_node (k.0).0 };
-
-    ghost are_existential_predicates = { λ a k. sort_law (items_in a) a.nodes.items predicates_node (k.0).0 };
-
-    ghost is_predicate = { λ a k. sort_law (items_in a) a.nodes.items predicate_node (k.0).0 };
-
-    ghost is_clause = { λ a k. clause_law (items_in a) a.nodes.items (k.0).0 };
-
-    ghost are_clauses = { λ a k. sort_law (items_in a) a.nodes.items clauses_node (k.0).0 };
-
-    ghost is_param_env = { λ a k. env_law (items_in a) a.nodes.items (k.0).0 };
+    ghost states = { λ a. states_law (items_in a) a.nodes.items a.stated };
 }

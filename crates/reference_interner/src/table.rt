@@ -1,7 +1,9 @@
 //! The table of nodes: an empty one, how a node is found by its form, and how one is added.
 ghost use Rattle.std.specs.Prelude.{◌≡◌, ◌<◌, ◌≤◌, ◌↔◌, ◌⊎◌, ℕ, suc, [], ◌∷◌, ◌++◌, MatchOption};
 ghost use Rattle.std.specs.Prelude.{IsTrue, IfOk, IsOk, OnOk, OnErr};
-ghost use Rattle.relation_terms.specs.Trees.{known};
+ghost use Rattle.relation_terms.specs.Trees.{known, nil};
+ghost use Rattle.relation_terms.specs.Meaning.{Extends};
+ghost use Rattle.relation_terms.specs.Interning.{KeepsClauses};
 ghost use Rattle.reference_interner.specs.Nodes.{entry_of, known_entry, table_meaning, StandsAt};
 ghost use Rattle.reference_interner.specs.Finding.{Lacks, HasAt};
 ghost use Rattle.reference_interner.specs.Places.{HasKey};
@@ -11,7 +13,7 @@ ghost use Rattle.reference_interner.specs.Empty.{KnowsNone};
 use crate::keys::next_number;
 use crate::node::copied_node;
 use crate::{Node, NodeKey, RefInterner};
-use relation_terms::terms::{Interner, OutOfMemory};
+use relation_terms::terms::{Interner, LocalDefIds, LocalDefIdsKey, OutOfMemory};
 use std::alloc::Global;
 use std::collections::HashMap;
 use std::hash::BuildHasherDefault;
@@ -89,5 +91,20 @@ impl RefInterner {
         self.nodes.push_reserved(node);
         self.flags.push_reserved(flags);
         Ok(NodeKey(number))
+    }
+
+    /// The list without ids of items. No call reads a list of ids: the key is that of the list without clauses.
+    ///
+    /// # Errors
+    /// `OutOfMemory` where a growth was refused.
+    pub fn no_local_def_ids(&mut self) -> Result<LocalDefIds<Self>, OutOfMemory>
+        ensures grown { Extends (meaning_in self.old) (meaning_in self.new) }
+        ensures made { IfOk result (λ k. (meaning_in self.new).clauses (record { 0 = k.0 }) ≡ nil) }
+        ensures refused { OnErr result (meaning_in self.new ≡ meaning_in self.old) }
+        ensures there { KeepsClauses (meaning_in self.old) (meaning_in self.new) [] }
+        ensures one_more { node_count self.new ≤ suc (node_count self.old) }
+    {
+        let clauses = self.mk_clauses(&[])?;
+        Ok(LocalDefIdsKey(clauses.0))
     }
 }

@@ -19,14 +19,14 @@ use Rattle.relation_contexts.specs.Stores.{IsTermIn}
 use Rattle.relation_reference.specs.declared.context.inner.InferCtxtInner.{InferCtxtInner}
 use Rattle.relation_reference.specs.Tables.{store_of}
 use Rattle.relation_asking.proofs.Counting.{entries_count}
-use Rattle.relation_terms.specs.declared.terms.enums.Variance.{Variance}
+use Rattle.term_enums.specs.declared.Variance.{Variance}
 use Rattle.relation_needs.specs.declared.binding.Uses.{Uses}
 use Rattle.relation_needs.specs.declared.needs.Needs.{Needs}
 use Rattle.relation_needs.specs.Binding.{AreTold}
-use Rattle.relation_text.specs.declared.naming.program.Term.{Term}
-use Rattle.relation_text.specs.Terms.{at, trees_of}
-use Rattle.relation_text.specs.Built.{AreKnown, AreBuilt}
-use Rattle.relation_text.specs.declared.naming.program.Put.{Put}
+use Rattle.text_reading.specs.declared.naming.program.Term.{Term}
+use Rattle.text_terms.specs.Terms.{at, trees_of}
+use Rattle.text_terms.specs.Built.{AreKnown, AreBuilt}
+use Rattle.text_reading.specs.declared.naming.program.Put.{Put}
 use Rattle.relation_asking.specs.Meets.{AllKnown}
 use Rattle.relation_asking.specs.Puts.{AreMade, ArePuts}
 use Rattle.relation_asking.proofs.MeetLemmas.{and_both}

@@ -1,7 +1,6 @@
 pub mod AskingLemmas
 pub mod Counting
 pub mod Recorded
-pub mod CodeLemmas
 pub mod MeetLemmas
 pub mod PutLemmas
 pub mod WalkLemmas

@@ -9,12 +9,12 @@ use Rattle.relation_terms.specs.Meaning.{Meaning, arg_tree}
 use Rattle.relation_terms.specs.Interning.{AreEqualAsTrees, IsOfSort}
 use Rattle.relation_terms.specs.declared.terms.generic_arg.GenericArgKind.{GenericArgKind}
 use Rattle.relation_terms.specs.declared.terms.generic_arg.GenericArgKind.TheVariants.{Lifetime, Ty, Const}
-use Rattle.relation_text.specs.declared.naming.program.Put.{Put}
+use Rattle.text_reading.specs.declared.naming.program.Put.{Put}
 use Rattle.relation_asking.specs.Args.{same_arg, alike}
-use Rattle.relation_asking.specs.Codes.{same_tree}
+use Rattle.relation_terms.specs.Equality.{same_tree}
 use Rattle.relation_asking.specs.Meets.{is_in, answer_at}
 use Rattle.relation_asking.specs.Puts.{first_put, ArePuts, tree_put, tree_of}
-use Rattle.relation_asking.proofs.CodeLemmas.{same_is, is_same}
+use Rattle.relation_terms.proofs.Equality.{same_is, is_same}
 
 -- Lists that are related place by place stay so with one more of each.
 pub zip_push : {A B : Type 0} (R : A → B → Type 0) (xs : List A) (ys : List B) (x : A) (y : B) → AllZip R xs ys → R x y →

@@ -7,7 +7,7 @@ use Rattle.relation_terms.specs.Meaning.{Meaning}
 use Rattle.relation_contexts.specs.Steps.{MakesVariable}
 use Rattle.relation_reference.specs.declared.context.inner.InferCtxtInner.{InferCtxtInner}
 use Rattle.relation_reference.specs.Tables.{store_of}
-use Rattle.relation_text.specs.declared.naming.program.Variables.{Variables}
+use Rattle.text_reading.specs.declared.naming.program.Variables.{Variables}
 use Rattle.relation_asking.specs.Asking.{universes_in, variables_in, home, MakesIn, HasStated}
 
 -- The universes of a kind are those of its variables.

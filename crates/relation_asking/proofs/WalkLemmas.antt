@@ -1,5 +1,5 @@
 -- What a walk yields from here on, whatever is called on it, is what the places of its tree say.
-use Rattle.std.proofs.Common.{◌≡◌, ◌↔◌, ◌≤◌, ℕ, suc, Bool, true, false, cond, ◌&&◌, IsTrue, refl, sym, ap, ◌∙◌, subst, arith}
+use Rattle.std.proofs.Common.{◌≡◌, ◌≤◌, ℕ, suc, Bool, true, false, cond, ◌&&◌, IsTrue, refl, sym, ap, ◌∙◌, subst, arith}
 use Rattle.std.proofs.Common.{List, [], ◌∷◌, ◌++◌, map, length, Option, Some, None, Ok, append-nil}
 use Rattle.std.proofs.Common.{◌<◌, ◌||◌, ◌==◌, ◌+◌, drop, get_or}
 use Rattle.std.proofs.Math.Seq.{drop-cons}
@@ -13,10 +13,8 @@ use Rattle.relation_terms.specs.declared.terms.interner.OutOfMemory.{OutOfMemory
 use Rattle.relation_tools.specs.Stacks.{present}
 use Rattle.relation_tools.specs.Walking.{Walk, Pull, first_unseen}
 use Rattle.relation_tools.specs.Positions.{yields, Call, pull, skip, Tells, has_ended, Runs, ByPlaces}
-use Rattle.relation_asking.specs.Codes.{same_tree}
 use Rattle.relation_asking.specs.Meets.{AllKnown}
 use Rattle.relation_asking.specs.Skips.{stands_in}
-use Rattle.relation_asking.proofs.CodeLemmas.{same_is, is_same}
 
 pub cond_same : {A : Type 0} (b : Bool) (a : A) → cond b a a ≡ a
 cond_same true a = refl
@@ -55,9 +53,6 @@ module _ {I A : Type 0} (ns : List ℕ) (i p : ℕ) (w u z : Walk I A) where
       let first = ap (λ b. cond (b || stands_in rest p) (record w { inside = [] }) w) n in
       ap (λ j. looked (drop j ns) u) one ∙ ap (looked rest) e ∙ sym (cut ∙ first) ∙ k
 
-decides : (a b : Tree) → (IsTrue (same_tree a b) ↔ (a ≡ b))
-decides a b = (same_is a b, is_same a b)
-
 pub one_more : {A : Type 0} (ys : List A) (x : A) → length (ys ++ x ∷ []) ≡ suc (length ys)
 one_more ys x = let n = length-append ys (x ∷ []) in omega (arith, n)
 
@@ -65,7 +60,7 @@ module _ {Key Id Name : Type 0} (m : Meaning Key Id Name) (t : Tree) (skips : �
   -- What was yielded before and is then: no more than the tree is large, and all of it once the walk has ended.
   abbrev pub Comes : List (GenericArgKind Key) → List (Option (GenericArgKind Key)) → Type 0
   Comes ys rs = (length (ys ++ present rs) ≤ size t)
-      × (IsTrue (has_ended rs) → yields same_tree skips false [] t ≡ map (arg_tree m) (ys ++ present rs))
+      × (IsTrue (has_ended rs) → yields skips false [] t ≡ map (arg_tree m) (ys ++ present rs))
 
   comes_more : (ys : List (GenericArgKind Key)) (x : GenericArgKind Key) (rs : List (Option (GenericArgKind Key))) →
       Comes ys (Some x ∷ rs) → Comes (ys ++ x ∷ []) rs
@@ -85,13 +80,13 @@ module _ {I Key Id Name : Type 0} (m : Meaning Key Id Name) (eq : GenericArgKind
 
   pub goes_first : (w : Walk I (GenericArgKind Key)) (b : Bool) → ByPlaces m eq w t → Goes (skipped b w) []
   goes_first w true h = λ cs rs v r k.
-      let g = h same_tree decides skips (skip ∷ pull ∷ cs) rs v r k in (
+      let g = h skips (skip ∷ pull ∷ cs) rs v r k in (
         g.ends,
         λ e. g.first ∙ ap (λ z. map (arg_tree m) (present rs) ++ z) (g.all e)
             ∙ append-nil (map (arg_tree m) (present rs)),
       )
   goes_first w false h = λ cs rs v r k.
-      let g = h same_tree decides skips (pull ∷ cs) rs v r k in (
+      let g = h skips (pull ∷ cs) rs v r k in (
         g.ends,
         λ e. g.first ∙ ap (λ z. map (arg_tree m) (present rs) ++ z) (g.all e)
             ∙ append-nil (map (arg_tree m) (present rs)),
@@ -121,7 +116,7 @@ module _ {I Key Id Name : Type 0} (m : Meaning Key Id Name) (eq : GenericArgKind
       subst (λ z. z ≤ size t) (one_more ys x) c.0
 
   pub goes_end : (w u : Walk I (GenericArgKind Key)) (ys : List (GenericArgKind Key)) → Goes w ys →
-      Pull m eq {E = OutOfMemory} w None u → map (arg_tree m) ys ≡ yields same_tree skips false [] t
+      Pull m eq {E = OutOfMemory} w None u → map (arg_tree m) ys ≡ yields skips false [] t
   goes_end w u ys h p =
       let c = h [] (None ∷ []) u (u, p, refl) tt in
       sym (c.1 refl ∙ ap (map (arg_tree m)) (append-nil ys))

@@ -3,8 +3,8 @@ use Rattle.std.specs.Prelude.{◌≡◌, ◌≢◌, ℕ, ◌<◌, ◌≤◌, Lis
 use Rattle.std.specs.Prelude.{Ok, Err}
 use Rattle.std.specs.Global.{Vec}
 use Rattle.std.specs.List.{All}
-use Rattle.relation_terms.specs.declared.terms.enums.Variance.{Variance}
-use Rattle.relation_terms.specs.declared.terms.enums.Variance.TheVariants.{Bivariant}
+use Rattle.term_enums.specs.declared.Variance.{Variance}
+use Rattle.term_enums.specs.declared.Variance.TheVariants.{Bivariant}
 use Rattle.relation_terms.specs.declared.terms.generic_arg.GenericArgKind.{GenericArgKind}
 use Rattle.relation_terms.specs.declared.terms.goal.Goal.{Goal}
 use Rattle.relation_terms.specs.declared.terms.keys.PredicateKey.{PredicateKey}
@@ -20,7 +20,7 @@ use Rattle.relation_folds.specs.Faults.{KnowsFault}
 use Rattle.relation_contexts.specs.Covered.{IsCovered}
 use Rattle.relation_contexts.specs.Relation.{StaysWithin}
 use Rattle.relation_contexts.specs.Goals.{KnowsGoal}
-use Rattle.relation_text.specs.declared.naming.program.Variables.{Variables}
+use Rattle.text_reading.specs.declared.naming.program.Variables.{Variables}
 use Rattle.relation_asking.specs.declared.context.VariableKind.{VariableKind}
 use Rattle.relation_asking.specs.declared.context.VariableKind.TheVariants.{Ty, Int, Float, Const, Region}
 use Rattle.relation_needs.specs.declared.needs.Needs.{Needs}

@@ -9,7 +9,7 @@ use Rattle.relation_asking.specs.declared.visiting.Met.{Met}
 use Rattle.relation_folds.specs.declared.visit.Visit.{Visit}
 use Rattle.relation_folds.specs.declared.visit.Visit.TheVariants.{Enter, Skip, Stop}
 use Rattle.relation_folds.specs.Visits.{Flow, Walks}
-use Rattle.relation_asking.specs.Codes.{same_tree}
+use Rattle.relation_terms.specs.Equality.{same_tree}
 
 -- One of the things is the same as another.
 abbrev pub is_in : {T : Type 0} → (T → T → Bool) → List T → T → Bool

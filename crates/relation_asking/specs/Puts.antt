@@ -7,9 +7,9 @@ use Rattle.relation_terms.specs.Meaning.{Meaning, Extends, arg_tree}
 use Rattle.relation_terms.proofs.Stays.{stays_arg, knows_arg}
 use Rattle.std.proofs.Common.{◌≡◌, refl, ap, ap₂, ◌∙◌}
 use Rattle.relation_folds.specs.Folds.{folded}
-use Rattle.relation_text.specs.declared.naming.program.Put.{Put}
+use Rattle.text_reading.specs.declared.naming.program.Put.{Put}
 use Rattle.relation_asking.specs.Args.{alike}
-use Rattle.relation_asking.specs.Codes.{same_tree}
+use Rattle.relation_terms.specs.Equality.{same_tree}
 
 -- What is put for one thing: what stands behind the first that is the same, if one is.
 abbrev pub first_put : {T : Type 0} → (T → T → Bool) → List (Put T) → T → Option T

@@ -6,7 +6,6 @@ use Rattle.relation_terms.specs.Meaning.{Meaning, arg_tree}
 use Rattle.relation_terms.specs.declared.terms.generic_arg.GenericArgKind.{GenericArgKind}
 use Rattle.relation_tools.specs.Positions.{yields, ByPlaces}
 use Rattle.relation_tools.specs.Walking.{Walk}
-use Rattle.relation_asking.specs.Codes.{same_tree}
 
 -- A number stands among others.
 abbrev pub stands_in : List ℕ → ℕ → Bool
@@ -21,7 +20,7 @@ skipped_in ns n = stands_in ns (suc n)
 abbrev pub AreYielded : {Key Id Name : Type 0} → Meaning Key Id Name → GenericArgKind Key → List ℕ →
     List (GenericArgKind Key) → Type 0
 AreYielded m root skips xs =
-    map (arg_tree m) xs ≡ yields same_tree (skipped_in skips) false [] (arg_tree m root)
+    map (arg_tree m) xs ≡ yields (skipped_in skips) false [] (arg_tree m root)
 
 -- A walk has an argument to go over, which it does by places.
 abbrev pub GoesOver : {I Key Id Name : Type 0} → Meaning Key Id Name →

@@ -14,8 +14,8 @@ use relation_contexts::infer_ctxt::InferCtxtLike;
 use relation_needs::needs::Needs;
 use relation_reference::context::RefCtxt;
 use relation_terms::terms::{Interner, OutOfMemory, ParamEnv, Span, Variance};
-use relation_text::naming::Variables;
 use std::fmt::{self, Write};
+use text_reading::naming::Variables;
 use type_relations::relate::Relate;
 use type_relations::relate::solver_relating::{RelateExt, RelateGoals};
 

@@ -8,9 +8,9 @@ ghost use Rattle.relation_asking.specs.Puts.{first_put, IsMade, AreMade, ArePuts
 use crate::comparing::{alike, same_arg};
 use relation_folds::fold::{Fold, TypeFoldable, TypeFolder};
 use relation_terms::terms::{Const, GenericArg, GenericArgKind, Interner, OutOfMemory, Region, Ty};
-use relation_text::building::key_at;
-use relation_text::naming::{Parts, Put};
 use std::alloc::Global;
+use text_reading::naming::{Parts, Put};
+use text_terms::building::key_at;
 
 // Puts terms for others that are equal to what it is asked about, the first that fits.
 #[derive(Clone, Copy)]

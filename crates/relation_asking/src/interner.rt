@@ -4,10 +4,10 @@ use reference_interner::{
     DefKind, GenericParam, GenericParamKind, ItemId, ItemKind, RefInterner, SymbolId,
 };
 use relation_terms::terms::{OutOfMemory, TraitId, Variance};
-use relation_text::naming::{Declared, Item, ParamSort, Program};
-use relation_text::printing::{ItemText, Parameter, TraitText};
-use relation_text::reading::ItemSort;
 use std::alloc::{AllocError, Global};
+use text_reading::naming::{Declared, Item, ParamSort, Program};
+use text_reading::reading::ItemSort;
+use text_terms::printing::{ItemText, Parameter, TraitText};
 
 // The names of a program, and the texts of its names and items.
 #[derive(Drop)]

@@ -3,6 +3,7 @@
 
 ghost use Rattle.relation_asking.specs.Asking.{AllReady};
 
+mod answer_text;
 mod comparing;
 mod context;
 mod folding;
@@ -16,18 +17,19 @@ pub mod sized_keys;
 mod visiting;
 mod walking;
 
+use answer_text::AnswerText;
 use interner::{Tables, make_interner, make_tables};
-use question::{Ready, ask_often, context_for, is_memory, write_outcome};
+use question::{Ready, ask_often, context_for, write_whole};
 use relation_needs::binding::uses_of;
 pub use relation_needs::needs;
 use relation_needs::needs::needs_of;
 use relation_reference::context::RefCtxt;
-use relation_text::building::build;
-use relation_text::naming::Program;
-use relation_text::printing::{Texts, TextsOf};
 use sized_keys::SizedKeys;
 use std::alloc::Global;
 use std::fmt::{self, Write};
+use text_reading::naming::Program;
+use text_terms::building::build;
+use text_terms::printing::{Texts, TextsOf};
 
 /// How many instantiations a context may make where nothing is said of it.
 pub const BUDGET: usize = 100;
@@ -40,7 +42,7 @@ fn separate<W: Write>(any: bool, between: &str, out: &mut W) -> fmt::Result {
     Ok(())
 }
 
-// Asks all questions over terms that are ready. After a refused growth the next question is asked in a new context.
+// Asks all questions over terms that are ready.
 fn ask_ready<I: SizedKeys + Drop, W: Write>(
     interner: I,
     texts: &TextsOf<I>,
@@ -51,19 +53,22 @@ fn ask_ready<I: SizedKeys + Drop, W: Write>(
 ) -> fmt::Result
     requires { AllReady (I.meaning interner) terms.now }
 {
+    let alloc = interner.alloc();
     let Ok(made) = RefCtxt::new(interner, true, BUDGET) else {
         return refuse_all(program, between, out);
     };
+    let Ok(room) = AnswerText::new(alloc) else {
+        return refuse_all(program, between, out);
+    };
+    let mut text = room;
     let mut ctx = made;
-    let mut fresh = true;
     let mut any = false;
     for question in &program.questions {
         separate(any, between, out)?;
-        let asked = context_for(ctx, question, fresh);
+        let asked = context_for(ctx, question);
         let (left, outcome) = ask_often(asked, terms, question);
         ctx = left;
-        write_outcome(&ctx, texts, question, &outcome, out)?;
-        fresh = is_memory::<I>(&outcome);
+        write_whole(&ctx, texts, question, &outcome, &mut text, out)?;
         any = true;
     }
     Ok(())
@@ -81,7 +86,8 @@ fn refuse_all<W: Write>(program: &Program, between: &str, out: &mut W) -> fmt::R
 }
 
 /// Asks all questions of a program in turn, over an interner and the ids and names that its items and names have there,
-/// and writes the answers, with the given text between two.
+/// and writes the answers, with the given text between two. Where a growth is refused before an answer is whole, or it
+/// is longer than 16 MiB, `memory` stands in its place. A question with `then` goes on in the context that was left.
 ///
 /// # Errors
 /// What the writer answers where an answer can't be written.
@@ -117,7 +123,7 @@ pub fn ask_over<I: SizedKeys + Drop, W: Write>(
 }
 
 /// Asks all questions of a program in turn over the reference interner, and writes the answers, with the given text
-/// between two.
+/// between two, as `ask_over` does.
 ///
 /// # Errors
 /// What the writer answers where an answer can't be written.

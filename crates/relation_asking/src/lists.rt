@@ -11,8 +11,8 @@ use relation_needs::needs::{Needs, both, parts_need};
 use relation_reference::context::RefCtxt;
 use relation_terms::terms::parts::member_count;
 use relation_terms::terms::{GenericArgs, Interner, Parts as PartsOfTerm, Variance};
-use relation_text::building::keys_at;
-use relation_text::naming::Parts;
+use text_reading::naming::Parts;
+use text_terms::building::keys_at;
 use type_relations::relate::solver_relating::RelateGoals;
 
 // The arguments of a list of terms, and what they need.

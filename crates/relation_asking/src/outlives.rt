@@ -14,16 +14,16 @@ use crate::sized_keys::SizedKeys;
 use relation_reference::context::RefCtxt;
 use relation_terms::predicate::OutlivesPredicate;
 use relation_terms::terms::{GenericArg, GenericArgKind, Interner, OutOfMemory};
-use relation_text::naming::Parts;
-use relation_text::printing::{
-    TextsOf, write_alias, write_arg, write_param, write_placeholder, write_region, write_variable,
-};
 use relation_tools::elaborate::{OutlivesAssumption, elaborate_outlives_assumptions};
 use relation_tools::outlives::{Component, ComponentOf};
 use std::alloc::{AllocError, Global};
 use std::collections::HashSet;
 use std::fmt::{self, Write};
 use std::hash::Hash;
+use text_reading::naming::Parts;
+use text_terms::printing::{
+    TextsOf, write_alias, write_arg, write_param, write_placeholder, write_region, write_variable,
+};
 
 // The components of a type.
 pub(super) fn ask_components<I: SizedKeys>(

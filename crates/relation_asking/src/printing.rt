@@ -18,11 +18,11 @@ use relation_folds::error::{ExpectedFound, RelateFault, TypeError, TypeErrorOf};
 use relation_reference::context::{RefCtxt, Variable, VariableValue};
 use relation_terms::predicate::{ClauseKind, PredicateKind, RegionConstraint};
 use relation_terms::terms::{Const, DefId, Interner, TermKind, Ty};
-use relation_text::printing::{
+use std::fmt::{self, Write};
+use text_terms::printing::{
     TextsOf, write_arg, write_const, write_item_name, write_object_predicates, write_region,
     write_ty,
 };
-use std::fmt::{self, Write};
 use type_relations::relate::solver_relating::{GoalOf, RelateGoals};
 
 // The name of an error.

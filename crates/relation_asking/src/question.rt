@@ -8,6 +8,7 @@ ghost use Rattle.relation_asking.specs.Meets.{AllKnown};
 ghost use Rattle.relation_asking.specs.Asking.{AllReady, IsReady, KnowsAnswer, KnowsRelated};
 
 use crate::BUDGET;
+use crate::answer_text::AnswerText;
 use crate::context::{
     NotAsked, have_all_stated, have_variables, refusal, relate, renewed, write_not_asked,
 };
@@ -19,18 +20,17 @@ use crate::quick::{KeyOf, ask_args_may_unify, ask_key, ask_may_unify, write_key}
 use crate::sized_keys::SizedKeys;
 use crate::visiting::{Met, visit, write_met};
 use crate::walking::{numbers_at, write_walked};
-use relation_folds::error::RelateFault;
 use relation_folds::visit::{has_escaping_bound_vars, has_non_region_infer, is_known_rigid};
 use relation_needs::needs::{Needs, both, need_at};
 use relation_reference::context::RefCtxt;
 use relation_terms::predicate::OutlivesPredicate;
 use relation_terms::terms::{GenericArg, GenericArgKind, Interner, Keys, Ty, Variance};
-use relation_text::building::{key_at, keys_at, ty_at};
-use relation_text::naming::{Parts, Put, Question, QuestionKind, Variables};
-use relation_text::printing::{TextsOf, write_arg};
 use relation_tools::outlives::Component;
 use std::alloc::Global;
 use std::fmt::{self, Write};
+use text_reading::naming::{Parts, Put, Question, QuestionKind, Variables};
+use text_terms::building::{key_at, keys_at, ty_at};
+use text_terms::printing::{TextsOf, write_arg};
 use type_relations::relate::solver_relating::RelateGoals;
 
 // The keys of a program's terms, and what each term needs.
@@ -80,47 +80,22 @@ type AnswerOf<I> = Answer<
 // What came of a question.
 pub(super) type Outcome<I> = Result<AnswerOf<I>, Unasked>;
 
-// Whether a growth was refused while a question was answered.
-fn ran_out<I: Interner>(answer: &AnswerOf<I>) -> bool {
-    match answer {
-        Answer::Related(related) => matches!(related, Err(RelateFault::Memory)),
-        Answer::Met(_) => false,
-        Answer::Walked(_) => false,
-        Answer::Components(_) => false,
-        Answer::Assumed(_) => false,
-        Answer::Folded(_) => false,
-        Answer::Is(_) => false,
-        Answer::Key(_) => false,
-    }
-}
-
-// Whether a growth was refused.
-pub(super) fn is_memory<I: Interner>(outcome: &Outcome<I>) -> bool {
-    match outcome {
-        Ok(answer) => ran_out::<I>(answer),
-        Err(why) => matches!(why, Unasked::Memory),
-    }
-}
-
 // How many instantiations a new context of a question may make.
 pub(super) fn budget_of(question: &Question) -> usize {
     question.budget.unwrap_or(BUDGET)
 }
 
 // The context in which a question is asked: the one that the question before left, or a new one.
-pub(super) fn context_for<I: Interner>(
-    ctx: RefCtxt<I>,
-    question: &Question,
-    fresh: bool,
-) -> RefCtxt<I>
+pub(super) fn context_for<I: Interner>(ctx: RefCtxt<I>, question: &Question) -> RefCtxt<I>
     requires { IsLawful (I.meaning ctx.interner) ctx.inner }
     ensures interner { result.interner ≡ ctx.interner }
     ensures lawful { IsLawful (I.meaning result.interner) result.inner }
+    ensures goes_on { IsTrue question.now.then → result ≡ ctx }
 {
-    if fresh || !question.then {
-        return renewed(ctx, budget_of(question));
+    if question.then {
+        return ctx;
     }
-    ctx
+    renewed(ctx, budget_of(question))
 }
 
 // The type of that number, and what it needs.
@@ -438,7 +413,7 @@ fn write_given<I: Interner, W: Write>(
 }
 
 // Writes what came of a question.
-pub(super) fn write_outcome<I: Interner, W: Write>(
+fn write_outcome<I: Interner, W: Write>(
     ctx: &RefCtxt<I>,
     texts: &TextsOf<I>,
     question: &Question,
@@ -453,5 +428,25 @@ pub(super) fn write_outcome<I: Interner, W: Write>(
         Err(Unasked::Memory) => out.write_str("memory"),
         Err(Unasked::NotAsked(why)) => write_not_asked(*why, out),
         Ok(answer) => write_given(ctx, texts, question, answer, out),
+    }
+}
+
+// Writes what came of a question, as a text that is made first: where that can't be made, `memory` stands in its place.
+pub(super) fn write_whole<I: Interner, W: Write>(
+    ctx: &RefCtxt<I>,
+    texts: &TextsOf<I>,
+    question: &Question,
+    outcome: &Outcome<I>,
+    text: &mut AnswerText,
+    out: &mut W,
+) -> fmt::Result
+    requires lawful { IsLawful (I.meaning ctx.now.interner) ctx.now.inner }
+    requires known { let m = I.meaning ctx.now.interner in
+        IfOk outcome.now (KnowsAnswer m (KnowsRelated m)) }
+{
+    text.text.clear();
+    match write_outcome(ctx, texts, question, outcome, text) {
+        Ok(()) => out.write_str(text.text.as_str()),
+        Err(_) => out.write_str("memory"),
     }
 }

@@ -9,11 +9,11 @@ use crate::lists::args_of;
 use crate::question::{Ready, Unasked, type_of};
 use relation_reference::context::RefCtxt;
 use relation_terms::terms::{Interner, ItemOf, Mutability, Ty};
-use relation_text::naming::Parts;
-use relation_text::printing::{TextsOf, float_name, int_name, uint_name, write_item_name};
-use relation_text::reading::{KeyParams, SideParams};
 use relation_tools::fast_reject::{DeepRejectCtxt, SimplifiedType, TreatParams, simplify_type};
 use std::fmt::{self, Write};
+use text_reading::naming::Parts;
+use text_reading::reading::{KeyParams, SideParams};
+use text_terms::printing::{TextsOf, float_name, int_name, uint_name, write_item_name};
 
 // The key of a type over an interner, if it has one.
 pub(super) type KeyOf<I> = Option<SimplifiedType<ItemOf<I>>>;

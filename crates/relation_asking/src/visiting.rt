@@ -9,9 +9,9 @@ ghost use Rattle.relation_asking.specs.Meets.{is_in, answer_at, AllKnown, Asks, 
 use crate::comparing::same_arg;
 use relation_folds::visit::{TypeVisitable, TypeVisitor, Visit};
 use relation_terms::terms::{Const, GenericArg, GenericArgKind, Interner, Region, Ty};
-use relation_text::printing::{TextsOf, write_arg};
 use std::fmt::{self, Write};
 use std::ops::ControlFlow;
+use text_terms::printing::{TextsOf, write_arg};
 
 /// The terms that a visitor was asked about, in order, and whether it stopped.
 #[derive(Drop)]

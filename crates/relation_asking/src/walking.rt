@@ -5,11 +5,11 @@ ghost use Rattle.relation_asking.specs.Meets.{AllKnown};
 ghost use Rattle.relation_asking.specs.Skips.{stands_in, AreYielded, GoesOver};
 
 use relation_terms::terms::{GenericArg, GenericArgKind, Interner, OutOfMemory};
-use relation_text::naming::Parts;
-use relation_text::printing::{TextsOf, write_arg};
 use relation_tools::walk::TypeWalker;
 use std::alloc::Global;
 use std::fmt::{self, Write};
+use text_reading::naming::Parts;
+use text_terms::printing::{TextsOf, write_arg};
 
 // Skips what is under the last yielded argument, once for each time that a number of pulls stands among others.
 fn skip_after<I: Interner>(walker: &mut TypeWalker<'_, I>, skips: &[usize], pulls: usize)

@@ -4,7 +4,7 @@ use Rattle.std.proofs.lemmas.List.Elements.{All-nil, All-append}
 use native.Mathlib.Decide.{dec_lt}
 use Rattle.relation_terms.specs.Heads.{Head, subtype, alias_relate, ambiguous, atom}
 use Rattle.relation_terms.specs.Trees.{Tree, leaf, node, bind, nil, cons, Assign, apply, IsList, count, nth}
-use Rattle.relation_terms.specs.declared.terms.enums.Variance.{Variance}
+use Rattle.term_enums.specs.declared.Variance.{Variance}
 use Rattle.relation_contexts.specs.Relation.{Items, Interpretation, parts, at, part_at, Rel, forms, no_parts, next_part}
 use Rattle.relation_contexts.specs.Stores.{Store, Satisfies, InContext}
 use Rattle.relation_contexts.specs.Goals.{Goal, Asked, asks_subtype, asks_alias, asks_too_much, asks_nothing, asked, Holds, GoalInContext, HasOneTree, MakesOneTree}

@@ -1,10 +1,10 @@
 -- Erasure and unification.
 use Rattle.std.proofs.Common.{◌≡◌, ◌≢◌, ◌⊎◌, ℕ, ◌≤◌, refl, sym, ap, ap₂, ◌∙◌, arith, inl, inr, subst, [], le_of_eq}
-use Rattle.relation_terms.specs.declared.terms.enums.Variance.{Variance}
-use Rattle.relation_terms.specs.declared.terms.enums.Variance.TheVariants.{Invariant}
+use Rattle.term_enums.specs.declared.Variance.{Variance}
+use Rattle.term_enums.specs.declared.Variance.TheVariants.{Invariant}
 use Rattle.relation_terms.specs.Heads.{Kind, region_kind, kind_sort, bound_kind, VarKind, type_var, const_var, region_var, region_sort, Leaf, Atom, atom_sort, type_error, const_error, type_param, const_param, static_region, early_region, atom, variable, bound, placeholder, unknown, Head, value_type, alias, alias_term, unevaluated}
 use Rattle.relation_terms.specs.Trees.{Tree, leaf, node, bind, nil, cons, Assign, assigned, apply, Leaves, Occurs, size}
-use Rattle.relation_terms.specs.Variances.{xform}
+use Rattle.term_enums.specs.Variances.{xform}
 use Rattle.relation_terms.specs.Erasure.{erase, erase_atom, erase_kinded, kept_parts}
 use Rattle.relation_contexts.specs.Relation.{Items, Interpretation, parts, Rel, at, same, anything, error_left, error_right, regions, alias_types, equal_consts, atoms, forms, no_parts, next_part, covariant_binders, contravariant_binders, invariant_binders, part_at, plain, plain_atom, sort_of, IsError, IsErrorAtom, IsAlias, IsAliasHead, AliasRule}
 use Rattle.relation_contexts.specs.FirstOrder.{IsFirstOrder, IsFirstOrderHead, IsFirstOrderAtom, IsClosedLeaf}

@@ -2,8 +2,8 @@
 -- place it took, and that a variable can be bound to.
 use Rattle.std.proofs.Common.{◌≡◌, ◌≢◌, ◌⊎◌, ℕ, suc, ◌≤◌, refl, sym, ap, ap₂, ◌∙◌, arith, inl, inr, subst, subst₂, Option, Some, [], ◌∷◌, All, le_of_eq}
 use Rattle.std.proofs.lemmas.List.Elements.{All-nil, All-cons}
-use Rattle.relation_terms.specs.declared.terms.enums.Variance.{Variance}
-use Rattle.relation_terms.specs.declared.terms.enums.Variance.TheVariants.{Invariant}
+use Rattle.term_enums.specs.declared.Variance.{Variance}
+use Rattle.term_enums.specs.declared.Variance.TheVariants.{Invariant}
 use Rattle.relation_terms.specs.Heads.{leaf_sort, region_kind, type_kind, const_kind, bound_kind, VarKind, type_var, int_var, float_var, const_var, region_var, var_sort, static_region, early_region, Head, Leaf, variable, bound, placeholder, atom, unknown}
 use Rattle.relation_terms.specs.Trees.{Tree, leaf, node, bind, cons, Assign, apply, Leaves}
 use Rattle.relation_terms.specs.Erasure.{erase}

@@ -1,6 +1,6 @@
 -- Generalising has one outcome.
 use Rattle.std.proofs.Common.{◌≡◌, ◌⊎◌, ℕ, zero, suc, ◌+◌, ◌<◌, ◌≤◌, refl, sym, ap, ap₂, ◌∙◌, arith, inl, inr, subst, List, [], ◌∷◌, length, length-append, Contains}
-use Rattle.relation_terms.specs.declared.terms.enums.Variance.{Variance}
+use Rattle.term_enums.specs.declared.Variance.{Variance}
 use Rattle.relation_terms.specs.Heads.{VarKind, VarKind_discrete, variable}
 use Rattle.relation_terms.specs.Trees.{Tree, leaf, node, bind, cons, size}
 use Rattle.relation_contexts.specs.Relation.{Items}

@@ -1,6 +1,6 @@
 -- Generalising a form or a binder part by part.
 use Rattle.std.proofs.Common.{◌≡◌, ℕ, zero, suc, ◌+◌, ◌≤◌, refl, sym, ap, ◌∙◌, arith, subst, List}
-use Rattle.relation_terms.specs.declared.terms.enums.Variance.{Variance}
+use Rattle.term_enums.specs.declared.Variance.{Variance}
 use Rattle.relation_terms.specs.Heads.{VarKind, BoundKind, Head}
 use Rattle.relation_terms.specs.Trees.{Tree, leaf, node, bind, nil, cons, IsList, count, nth}
 use Rattle.relation_terms.specs.Parts.{parts_of, over}

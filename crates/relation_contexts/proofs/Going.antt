@@ -6,7 +6,7 @@ use Rattle.std.proofs.lemmas.List.{append-nil, get_or_past}
 use Rattle.relation_terms.specs.Heads.{VarKind, type_var, int_var, float_var, const_var, region_var}
 use Rattle.relation_terms.specs.Trees.{Tree, cons}
 use Rattle.relation_contexts.specs.Stores.{Store, Entry, unbound, same_as, bound_to, entry_of, IsMade, weight, counts_bound, tally, all_bound}
-use Rattle.relation_contexts.specs.Steps.{IsLater, BindsItsOwn}
+use Rattle.relation_contexts.specs.Steps.{IsLater}
 use Rattle.relation_contexts.specs.Measures.{grown, depth, Goes}
 use Rattle.relation_contexts.proofs.Classes.{entry_kept, stands_from, stands_through}
 
@@ -47,49 +47,6 @@ tally_less f z (e ∷ es) [] h zero l = let first : f e < f unbound = l in absur
 tally_less f z (e ∷ es) [] h (suc n) l = let rest : tally f es < tally f [] = tally_less f z es [] (λ m. h (suc m)) n l in absurd (omega (arith, rest))
 tally_less f z (e ∷ es) (d ∷ ds) h zero l = let first : f e < f d = l in let rest = tally_below f z es ds (λ m. h (suc m)) in omega (arith, first, rest)
 tally_less f z (e ∷ es) (d ∷ ds) h (suc n) l = let first : f e ≤ f d = h 0 in let rest = tally_less f z es ds (λ m. h (suc m)) n l in omega (arith, first, rest)
-
--- Each variable that was newly bound was there and unbound; or it was made on the way, and one of the budget was taken.
-pub binds_its_own : {n : ℕ} {before after : Store} → Goes n before after → ((m : ℕ) → entry_of after region_var m ≡ unbound) → BindsItsOwn before after
-binds_its_own {before = before} {after = after} g regions k i t now new = go (dec_le (suc i) (length (before.entries k)))
-  where
-    free : (e : Entry) → entry_of before k i ≡ e → entry_of before k i ≡ unbound
-    free unbound q = q
-    free (same_as m) q = absurd (let s = stands_from before after g.later k i (same_as m) q in let e = s.1 in cc (e, now))
-    free (bound_to u) q = absurd (new u q)
-
-    was_free : entry_of before k i ≡ unbound
-    was_free = free (entry_of before k i) refl
-
-    made_after : Dec (suc i ≤ length (after.entries k)) → i < length (after.entries k)
-    made_after (yes h) = h
-    made_after (no h) = absurd (let e : entry_of after k i ≡ unbound = get_or_past (after.entries k) i unbound (omega arith) in cc (e, now))
-
-    counts : (j : VarKind) (m : ℕ) (x : Entry) → entry_of before j m ≡ x → counts_bound x ≤ counts_bound (entry_of after j m)
-    counts j m unbound q = omega arith
-    counts j m (same_as p) q = omega arith
-    counts j m (bound_to u) q = let e : entry_of after j m ≡ bound_to u = stands_from before after g.later j m (bound_to u) q in let c = ap counts_bound e in omega (arith, c)
-
-    below : (j : VarKind) (m : ℕ) → counts_bound (entry_of before j m) ≤ counts_bound (entry_of after j m)
-    below j m = counts j m (entry_of before j m) refl
-
-    less : (j : VarKind) → j ≡ k → tally counts_bound (before.entries j) < tally counts_bound (after.entries j)
-    less j e = tally_less counts_bound refl (before.entries j) (after.entries j) (below j) i
-        (subst (λ z. counts_bound (entry_of before z i) < counts_bound (entry_of after z i)) (sym e)
-        (let a = ap counts_bound was_free in let b = ap counts_bound now in omega (arith, a, b)))
-
-    each : (j : VarKind) → tally counts_bound (before.entries j) ≤ tally counts_bound (after.entries j)
-    each j = tally_below counts_bound refl (before.entries j) (after.entries j) (below j)
-
-    more_bound : (j : VarKind) → j ≡ k → (i < length (before.entries k) → ⊥) → all_bound before < all_bound after
-    more_bound type_var e o = let a = less type_var e in let b = each const_var in omega (arith, a, b)
-    more_bound const_var e o = let a = less const_var e in let b = each type_var in omega (arith, a, b)
-    more_bound int_var e o = absurd (o (subst (λ z. i < length (before.entries z)) e (let l : i < length (after.entries int_var) = subst (λ z. i < length (after.entries z)) (sym e) (made_after (dec_le (suc i) (length (after.entries k)))) in let q = g.made int_var tt in omega (arith, l, q))))
-    more_bound float_var e o = absurd (o (subst (λ z. i < length (before.entries z)) e (let l : i < length (after.entries float_var) = subst (λ z. i < length (after.entries z)) (sym e) (made_after (dec_le (suc i) (length (after.entries k)))) in let q = g.made float_var tt in omega (arith, l, q))))
-    more_bound region_var e o = absurd (let f : entry_of after k i ≡ unbound = subst (λ z. entry_of after z i ≡ unbound) e (regions i) in cc (f, now))
-
-    go : Dec (suc i ≤ length (before.entries k)) → (IsMade before k i × (entry_of before k i ≡ unbound)) ⊎ ((IsMade before k i → ⊥) × ((after.budget < before.budget) ⊎ (before.universe < after.universe)))
-    go (yes h) = inl (h, was_free)
-    go (no o) = inr (o, inl (let m = more_bound k refl o in let b = g.binds in let c = g.counts in omega (arith, m, b, c)))
 
 le_refl_at : (n : ℕ) → n ≤ n
 le_refl_at n = omega arith

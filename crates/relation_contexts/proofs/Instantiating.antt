@@ -1,6 +1,6 @@
 -- Binding a variable to what a term comes to, and refusing to where it stands in that.
 use Rattle.std.proofs.Common.{◌≢◌, ℕ, zero, suc, refl, sym, ap, ◌∙◌, subst, le_of_eq}
-use Rattle.relation_terms.specs.declared.terms.enums.Variance.{Variance}
+use Rattle.term_enums.specs.declared.Variance.{Variance}
 use Rattle.relation_terms.specs.Heads.{VarKind, type_var, int_var, float_var, const_var, region_var, Leaf, atom, variable, bound, placeholder, unknown, Head, value_type}
 use Rattle.relation_terms.specs.Trees.{Tree, leaf, node, bind, nil, cons, Assign, assigned, apply, Leaves, Occurs}
 use Rattle.relation_contexts.specs.Stores.{Store, bound_to, entry_term, universe_of, IsIntegerTerm, IsFloatTerm, IsInScope, IsTermIn, IsSound, MayStandFor, resolve, resolved}

@@ -4,8 +4,8 @@ use Rattle.std.proofs.lemmas.List.Elements.{All-nil}
 use Rattle.std.proofs.lemmas.List.{append-nil}
 use Rattle.relation_terms.specs.Heads.{BoundKind, VarKind}
 use Rattle.relation_terms.specs.Trees.{Tree, bind, Assign, apply, inst, Leaves}
-use Rattle.relation_terms.specs.declared.terms.enums.Variance.{Variance}
-use Rattle.relation_terms.specs.declared.terms.enums.Variance.TheVariants.{Covariant, Contravariant, Invariant, Bivariant}
+use Rattle.term_enums.specs.declared.Variance.{Variance}
+use Rattle.term_enums.specs.declared.Variance.TheVariants.{Covariant, Contravariant, Invariant, Bivariant}
 use Rattle.relation_contexts.specs.Relation.{Items, Interpretation, at, second_opened, first_opened, Rel, covariant_binders, contravariant_binders, invariant_binders, open_second, open_first, FitKinds, Fresh, StaysWithin}
 use Rattle.relation_contexts.specs.Stores.{Store, unbound, entry_term, bound_term, universe_of, IsMade, IsAssignment, IsInScope, IsNamable, MeetsBindings, Satisfies, ConstraintHolds}
 use Rattle.relation_contexts.specs.Goals.{Goal, Holds, GoalInContext, MakesOneTree}

@@ -5,11 +5,11 @@ use Rattle.std.proofs.lemmas.List.{append-nil}
 use Rattle.std.proofs.lemmas.Bool.{false≢true}
 use Rattle.std.specs.Result.{IsErr, IsErrAnd}
 use Rattle.std.proofs.lemmas.List.Elements.{All-nil, All-append}
-use Rattle.relation_terms.specs.declared.terms.enums.Variance.{Variance}
+use Rattle.term_enums.specs.declared.Variance.{Variance}
 use Rattle.relation_terms.specs.Trees.{Tree, Assign, apply, known}
-use Rattle.relation_terms.specs.declared.terms.enums.Variance.TheVariants.{Bivariant, Invariant}
+use Rattle.term_enums.specs.declared.Variance.TheVariants.{Bivariant, Invariant}
 use Rattle.relation_terms.specs.Meaning.{Extends as ExtendsMeaning}
-use Rattle.relation_terms.specs.Variances.{xform}
+use Rattle.term_enums.specs.Variances.{xform}
 use Rattle.relation_terms.proofs.Stays.{stays_same, extends_on}
 use Rattle.relation_folds.specs.declared.error.RelateFault.{RelateFault}
 use Rattle.relation_folds.specs.declared.error.RelateFault.TheVariants.{Memory, Budget, Unrelated}
@@ -30,12 +30,12 @@ use Rattle.relation_contexts.proofs.Exactness.{exact_steps_compose}
 use Rattle.relation_contexts.specs.Lawful.{LeadsToParts, LeadsAgain, Noted, Turned, Stepped, OnlyMemory, WithMeaning, declared_by, items_of, items_in}
 use Rattle.relation_contexts.proofs.Registered.{registered_in, registered_both, registered_as}
 use Rattle.relation_contexts.proofs.Going.{goes_nowhere, goes_within, goes_then, le_grown, later_itself, later_through}
-use Rattle.relation_contexts.proofs.Full.{full_itself, full_then, full_led, full_could}
+use Rattle.relation_contexts.proofs.Full.{full_itself, full_same, full_then, full_led, full_could}
 use Rattle.relation_contexts.proofs.Composing.{steps_compose, first_goals}
 use Rattle.relation_contexts.proofs.Growing.{All_front}
 use Rattle.relation_contexts.proofs.Standing.{later_term}
 use Rattle.relation_contexts.proofs.Answering.{same_items, may_itself, may_later, if_ok_both}
-use Rattle.relation_contexts.specs.OneUniverse.{KeepsUniverseOf, LeadsInUniverse, BindsNoMore}
+use Rattle.relation_contexts.specs.OneUniverse.{KeepsUniverse, KeepsUniverseOf, LeadsInUniverse, BindsNoMore}
 use Rattle.relation_contexts.proofs.OneUniverse.{keeps_itself, keeps_binds, kept_then, binds_as_many, leads_itself, led_keeps, led_binds, led_fewer}
 
 -- An outcome over other items, in another environment, after other goals, which are the same.
@@ -202,8 +202,7 @@ module _ {Key Id Name : Type 0} where
   -- A note binds no further variable.
   noted_bound : {X : Type 0} {r q : State Key Id Name} {res : Result X (RelateFault Key Id Name)} → Noted r q res →
       all_bound q.store ≡ all_bound r.store
-  noted_bound h = let g = (h.passes).goes in let b = g.binds in let c = g.counts in let e = h.same_budget in
-      omega (arith, b, c, e)
+  noted_bound h = ap all_bound h.store
 
   -- What is related is so under the goals that are registered then.
   pub relates_by : {n : ℕ} {r q : State Key Id Name} (v : Variance) (a b : Tree) (g : Passes n r q) →
@@ -310,6 +309,12 @@ module _ {Key Id Name : Type 0} where
     both : Passes (weight r.store a + weight r.store b) r p
     both = passes_then f.passes h.passes (omega arith)
 
+    same_solutions : (s : Assign) → IsErasedSolution q.store s ↔ IsErasedSolution p.store s
+    same_solutions s = (
+      (λ y. subst (λ k. IsErasedSolution k s) (sym h.store) y),
+      (λ y. subst (λ k. IsErasedSolution k s) h.store y),
+    )
+
     one_tree : (s : Assign) (g : Goal) → IsQuiet g → MakesOneTree s g
     one_tree s g quiet = still (asked g.predicate) quiet
       where
@@ -330,7 +335,7 @@ module _ {Key Id Name : Type 0} where
         z.0,
         z.1,
         (
-          h.keeps w z.0 z.2.0,
+          subst (λ k. Satisfies w k z.0) (sym h.store) z.2.0,
           All-append (MakesOneTree z.0) (f.passes).added (h.passes).added z.2.1
               (λ k d i. one_tree z.0 (get_or (h.passes).added k d) (h.quiet k d i)),
         ),
@@ -347,11 +352,11 @@ module _ {Key Id Name : Type 0} where
         known = subst (λ u. IsTrue (known u)) (sym e) (f.verdict).known;
       };
       exact = λ k is pair. let z = f.exact k is pair in (
-        h.first_order z.0,
-        exact_kept r.store q.store p.store a b ((h.passes).goes).later h.keeps_erased z.1,
-        kept_then r.store q.store p.store a b z.2 h.universe,
+        subst IsFirstOrderStore (sym h.store) z.0,
+        exact_kept r.store q.store p.store a b ((h.passes).goes).later same_solutions z.1,
+        kept_then r.store q.store p.store a b z.2 (subst (KeepsUniverse q.store) (sym h.store) (keeps_itself q.store)),
       );
-      full = λ ha hb. full_then (f.full ha hb) h.full;
+      full = λ ha hb. full_then (f.full ha hb) (full_same h.store);
     }
 
     pub noted_refused : {Z : Type 0} (answer : Z → Tree) (e : RelateFault Key Id Name) → note ≡ Err e →
@@ -363,7 +368,7 @@ module _ {Key Id Name : Type 0} where
       exact = λ k is pair. memory_said Z Y r.store p.store a b e (subst OnlyMemory n h.fault)
           (binds_as_many r.store q.store p.store a b (noted_bound h)
           (keeps_binds r.store q.store a b (f.exact k is pair).2));
-      full = λ ha hb. full_then (f.full ha hb) h.full;
+      full = λ ha hb. full_then (f.full ha hb) (full_same h.store);
     }
       where
         refuses : (e : RelateFault Key Id Name) → OnlyMemory {X = Y} (Err e) → Refuses r p v a b e
@@ -453,13 +458,8 @@ module _ {Key Id Name : Type 0} where
   unfolding passes_nowhere
   noted_nothing x r = record {
     passes = passes_nowhere 0 r;
-    keeps = λ w s h. h;
-    keeps_erased = λ s. ((λ h. h), (λ h. h));
-    first_order = λ h. h;
-    universe = keeps_itself r.store;
+    store = refl;
     quiet = All-nil IsQuiet;
-    same_budget = refl;
-    full = full_itself r.store;
     fault = tt;
   }
 

@@ -1,7 +1,7 @@
 -- What small terms in the relation satisfy.
 use Rattle.std.proofs.Common.{◌≡◌, ◌≢◌, ◌⊎◌, ℕ, suc, refl, sym, inl, inr, subst, ap, List}
-use Rattle.relation_terms.specs.declared.terms.enums.Variance.{Variance}
-use Rattle.relation_terms.specs.declared.terms.enums.Variance.TheVariants.{Covariant, Contravariant, Invariant, Bivariant}
+use Rattle.term_enums.specs.declared.Variance.{Variance}
+use Rattle.term_enums.specs.declared.Variance.TheVariants.{Covariant, Contravariant, Invariant, Bivariant}
 use Rattle.relation_terms.specs.Heads.{region_sort, type_sort, const_sort, Atom, type_error, const_error, type_param, const_param, atom, Head, head_sort, atom_sort, adt, host_effect, subtype, region_outlives, type_outlives, projection, const_has_type, well_formed, const_evaluatable, coerce, normalizes_to, alias_relate, environment, BoundKind}
 use Rattle.relation_terms.specs.Trees.{Tree, leaf, node, bind, nil, cons, IsList}
 use Rattle.relation_contexts.specs.Relation.{Items, Interpretation, parts, second_opened, first_opened, Rel, at, same, anything, error_left, error_right, regions, alias_types, equal_consts, atoms, forms, no_parts, next_part, covariant_binders, contravariant_binders, invariant_binders, itself, sort_of, plain_atom, IsError, IsErrorAtom, IsAlias, RegionRule, plain, IsAliasHead, IsRelatedHead, AliasRule}

@@ -1,8 +1,8 @@
 -- Which assignments each call of a store keeps, and that a sound store stays sound.
 use Rattle.std.proofs.Common.{◌≡◌, ◌⊎◌, ℕ, zero, suc, ◌<◌, ◌≤◌, refl, sym, ap, ◌∙◌, arith, inl, inr, subst, subst₂, List, [], ◌∷◌, ◌++◌, length, map, get_or, All, le_trans, le_of_eq}
 use Rattle.relation_terms.specs.Heads.{VarKind, type_var, int_var, float_var, const_var, region_var, var_sort, Leaf, Atom, bool_type, int_type, uint_type, float_type, static_region, const_param, variable, bound, placeholder, atom, unknown}
-use Rattle.relation_terms.specs.declared.terms.enums.IntTy.TheVariants.{I32}
-use Rattle.relation_terms.specs.declared.terms.enums.FloatTy.TheVariants.{F32}
+use Rattle.term_enums.specs.declared.IntTy.TheVariants.{I32}
+use Rattle.term_enums.specs.declared.FloatTy.TheVariants.{F32}
 use Rattle.relation_terms.specs.Trees.{Tree, leaf, Assign, assigned, apply, Leaves, Occurs, IsTerm}
 use Rattle.relation_terms.specs.Erasure.{erase}
 use Rattle.relation_contexts.specs.Relation.{Interpretation, FitKinds, Outlives, IsValueAtom, IsValueLeaf, StaysWithin}

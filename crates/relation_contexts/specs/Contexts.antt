@@ -2,9 +2,9 @@
 use Rattle.std.specs.Prelude.{◌≡◌, ◌+◌, ℕ, Bool, false, List, IsTrue, IfOk, Result, [], All}
 use Rattle.std.specs.Global.{Vec}
 use Rattle.std.specs.Result.{IsOkAnd}
-use Rattle.relation_terms.specs.declared.predicate.OutlivesPredicate.{OutlivesPredicate}
-use Rattle.relation_terms.specs.declared.terms.enums.Variance.{Variance}
-use Rattle.relation_terms.specs.declared.terms.enums.Variance.TheVariants.{Invariant}
+use Rattle.relation_terms.specs.declared.predicate.regions.OutlivesPredicate.{OutlivesPredicate}
+use Rattle.term_enums.specs.declared.Variance.{Variance}
+use Rattle.term_enums.specs.declared.Variance.TheVariants.{Invariant}
 use Rattle.relation_terms.specs.declared.terms.goal.Goal.{Goal}
 use Rattle.relation_terms.specs.declared.terms.keys.TyKey.{TyKey}
 use Rattle.relation_terms.specs.declared.terms.keys.ConstKey.{ConstKey}

@@ -1,6 +1,6 @@
 -- Laws of erasure and of unification.
 use Rattle.std.specs.Prelude.{◌≡◌, ◌≢◌, ◌↔◌, ℕ}
-use Rattle.relation_terms.specs.declared.terms.enums.Variance.TheVariants.{Invariant}
+use Rattle.term_enums.specs.declared.Variance.TheVariants.{Invariant}
 use Rattle.relation_terms.specs.Heads.{region_sort, VarKind, type_var, const_var, region_var, Head, value_type}
 use Rattle.relation_terms.specs.Heads.{variable}
 use Rattle.relation_terms.specs.Trees.{Tree, leaf, node, cons, Assign, apply, Occurs}

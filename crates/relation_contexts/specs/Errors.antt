@@ -1,10 +1,10 @@
 -- Which error comes of relating two terms.
 use Rattle.std.specs.Prelude.{◌≡◌, ◌≢◌, ◌⊎◌, ℕ, zero, suc, ◌<◌, Bool, List, [], ◌∷◌}
-use Rattle.relation_terms.specs.declared.terms.enums.Variance.{Variance}
-use Rattle.relation_terms.specs.declared.terms.enums.Variance.TheVariants.{Bivariant}
-use Rattle.relation_terms.specs.declared.terms.enums.Mutability.TheVariants.{Not}
-use Rattle.relation_terms.specs.declared.terms.enums.Safety.{Safety}
-use Rattle.relation_terms.specs.declared.terms.enums.ExternAbi.{ExternAbi}
+use Rattle.term_enums.specs.declared.Variance.{Variance}
+use Rattle.term_enums.specs.declared.Variance.TheVariants.{Bivariant}
+use Rattle.term_enums.specs.declared.Mutability.TheVariants.{Not}
+use Rattle.term_enums.specs.declared.Safety.{Safety}
+use Rattle.term_enums.specs.declared.ExternAbi.{ExternAbi}
 use Rattle.relation_terms.specs.declared.terms.keys.TyKey.{TyKey}
 use Rattle.relation_terms.specs.declared.terms.keys.ConstKey.{ConstKey}
 use Rattle.relation_terms.specs.declared.terms.keys.ExistentialPredicatesKey.{ExistentialPredicatesKey}
@@ -391,9 +391,9 @@ module _ {Key Id Name : Type 0} (m : Meaning Key Id Name) where
     of_inputs : {v : Variance} {e f : _} {a b ts us : Tree} (i : ℕ) → a ≡ node inputs ts → b ≡ node inputs us →
         count ts ≡ count us → i < count ts → ErrorOf c st (part_at c inputs i v) e (nth i ts) (nth i us) →
         IsPlaced i e f → ErrorOf c st v f a b
-    of_outputs : {v : Variance} {e f : _} {x y : Bool} {s t : Safety} {k l : ExternAbi} {a b p q o r : Tree} →
+    of_outputs : {v : Variance} {e f : _} {x : Bool} {s : Safety} {k : ExternAbi} {a b p q o r : Tree} →
         a ≡ node (signature x s k) (cons (node inputs p) (cons o nil)) →
-        b ≡ node (signature y t l) (cons (node inputs q) (cons r nil)) → count p ≡ count q →
+        b ≡ node (signature x s k) (cons (node inputs q) (cons r nil)) → count p ≡ count q →
         ErrorOf c st (part_at c (signature x s k) 1 v) e o r → IsPlaced (count p) e f → ErrorOf c st v f a b
     of_branches : {v : Variance} {e : _} {t u ts us : Tree} (x y : ConstKey Key) (i : ℕ) →
         m.const_ x ≡ node value (cons t (cons (node value_branch ts) nil)) →

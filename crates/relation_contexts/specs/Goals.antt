@@ -3,10 +3,10 @@ use Rattle.std.specs.Prelude.{◌≡◌, ◌⊎◌, ℕ, Bool, List, [], All, Is
 use Rattle.relation_terms.specs.Meaning.{Meaning}
 use Rattle.relation_terms.specs.declared.terms.goal.Goal.{Goal as KeyedGoal}
 use Rattle.relation_terms.specs.declared.terms.keys.PredicateKey.{PredicateKey}
-use Rattle.relation_terms.specs.declared.terms.enums.AliasRelationDirection.{AliasRelationDirection}
-use Rattle.relation_terms.specs.declared.terms.enums.AliasRelationDirection.TheVariants.{Equate, Subtype}
-use Rattle.relation_terms.specs.declared.terms.enums.Variance.{Variance}
-use Rattle.relation_terms.specs.declared.terms.enums.Variance.TheVariants.{Covariant, Contravariant, Bivariant}
+use Rattle.term_enums.specs.declared.AliasRelationDirection.{AliasRelationDirection}
+use Rattle.term_enums.specs.declared.AliasRelationDirection.TheVariants.{Equate, Subtype}
+use Rattle.term_enums.specs.declared.Variance.{Variance}
+use Rattle.term_enums.specs.declared.Variance.TheVariants.{Covariant, Contravariant, Bivariant}
 use Rattle.relation_terms.specs.Heads.{type_var, ambiguous, subtype, well_formed, alias_relate, variable, atom}
 use Rattle.relation_terms.specs.Trees.{Tree, leaf, node, bind, nil, cons, Assign, apply, known}
 use Rattle.relation_contexts.specs.Relation.{Items, Interpretation, IsEqualPair, IsOrderedPair, Rel, at, mode}

@@ -1,6 +1,6 @@
 -- What relating two terms promises, as it stands on `relate`.
 use Rattle.std.specs.Prelude.{◌≡◌, ◌↔◌, List, All}
-use Rattle.relation_terms.specs.declared.terms.enums.Variance.{Variance}
+use Rattle.term_enums.specs.declared.Variance.{Variance}
 use Rattle.relation_terms.specs.Trees.{Tree, Assign, apply}
 use Rattle.relation_contexts.specs.Relation.{Items, Interpretation}
 use Rattle.relation_contexts.specs.Stores.{Store, Satisfies, OnlyShrinks}

@@ -1,12 +1,12 @@
 -- What contracts see of a relation in steps, and what its steps and the calls over it do.
-use Rattle.std.specs.Prelude.{◌≡◌, ◌↔◌, ℕ, suc, ◌+◌, ◌≤◌, Bool, List, ◌++◌, All, IsTrue, Result, Ok, Err, get_or}
+use Rattle.std.specs.Prelude.{◌≡◌, ℕ, suc, ◌+◌, ◌≤◌, Bool, List, ◌++◌, All, IsTrue, Result, Ok, Err, get_or}
 use Rattle.std.specs.Prelude.{Option, Some, None}
-use Rattle.relation_terms.specs.declared.terms.enums.Variance.{Variance}
-use Rattle.relation_terms.specs.declared.terms.enums.Variance.TheVariants.{Invariant}
+use Rattle.term_enums.specs.declared.Variance.{Variance}
+use Rattle.term_enums.specs.declared.Variance.TheVariants.{Invariant}
 use Rattle.relation_terms.specs.Heads.{Head, Leaf}
-use Rattle.relation_terms.specs.Trees.{Tree, Leaves, Assign, known}
+use Rattle.relation_terms.specs.Trees.{Tree, Leaves, known}
 use Rattle.relation_terms.specs.Meaning.{Meaning, Extends as ExtendsMeaning}
-use Rattle.relation_terms.specs.Variances.{xform}
+use Rattle.term_enums.specs.Variances.{xform}
 use Rattle.relation_folds.specs.declared.error.TypeError.{TypeError}
 use Rattle.relation_folds.specs.declared.error.RelateFault.{RelateFault}
 use Rattle.relation_folds.specs.declared.error.RelateFault.TheVariants.{Memory, Budget, Unrelated}
@@ -14,15 +14,15 @@ use Rattle.relation_folds.specs.Faults.{KnowsError}
 use Rattle.relation_contexts.specs.declared.relate.StructurallyRelateAliases.{StructurallyRelateAliases}
 use Rattle.relation_contexts.specs.declared.relate.Step.{Step}
 use Rattle.relation_contexts.specs.declared.relate.Step.TheVariants.{Done, Parts, Again}
-use Rattle.relation_contexts.specs.Relation.{Items, Interpretation, part_at, Way, at, parts, second_opened}
+use Rattle.relation_contexts.specs.Relation.{Items, part_at, Way, at, parts, second_opened}
 use Rattle.relation_contexts.specs.Relation.{first_opened}
-use Rattle.relation_contexts.specs.Stores.{Store, IsSound, Satisfies, IsTermIn, weight}
+use Rattle.relation_contexts.specs.Stores.{Store, IsSound, IsTermIn, weight}
 use Rattle.relation_contexts.specs.Goals.{Goal, Registered, ByDeclared, IsQuiet, Relates}
-use Rattle.relation_contexts.specs.Steps.{IsLater, HasNoBinder, BindsNoBinder, InstantiatesNone, StaysFull, StaysFullFor}
+use Rattle.relation_contexts.specs.Steps.{IsLater, HasNoBinder, BindsNoBinder, InstantiatesNone, StaysFullFor}
 use Rattle.relation_contexts.specs.Outcomes.{Outcome, StepsTo, CarriesOver, NeverOne, Exact, ExactStep, NoUnifier}
 use Rattle.relation_contexts.specs.Headline.{IsFirstOrderPair}
-use Rattle.relation_contexts.specs.OneUniverse.{KeepsUniverse, KeepsUniverseOf, LeadsInUniverse, BindsNoMore, BindsFewer}
-use Rattle.relation_contexts.specs.FirstOrder.{IsFirstOrderStore, IsErasedSolution}
+use Rattle.relation_contexts.specs.OneUniverse.{KeepsUniverseOf, LeadsInUniverse, BindsNoMore, BindsFewer}
+use Rattle.relation_contexts.specs.FirstOrder.{IsFirstOrderStore}
 use Rattle.relation_contexts.specs.Errors.{ErrorOf}
 use Rattle.relation_contexts.specs.Measures.{Goes, grown}
 use Rattle.relation_contexts.specs.Covered.{IsCovered}
@@ -315,16 +315,10 @@ module _ {Key Id Name : Type 0} where
   OnlyMemory (Err Memory) = Unit {0}
   OnlyMemory (Err f) = ⊥
 
-  -- Something was noted: the record keeps all its assignments, up to erasure too, and stays first-order and in its
-  -- universe; nothing of the budget is spent, no variable is made where none could be, no goal that was added asks
-  -- anything of two terms, and a fault is want of memory.
+  -- Something was noted: what is recorded stands, no goal that was added asks anything of two terms, and a fault is
+  -- want of memory.
   pub record Noted {X : Type 0} (r q : State Key Id Name) (result : Result X (RelateFault Key Id Name)) : Type 0 where
     pub passes : Passes 0 r q
-    pub keeps : (w : Interpretation) (s : _) → Satisfies w r.store s → Satisfies w q.store s
-    pub keeps_erased : (s : Assign) → IsErasedSolution r.store s ↔ IsErasedSolution q.store s
-    pub first_order : IsFirstOrderStore r.store → IsFirstOrderStore q.store
-    pub universe : KeepsUniverse r.store q.store
+    pub store : q.store ≡ r.store
     pub quiet : All IsQuiet passes.added
-    pub same_budget : (q.store).budget ≡ (r.store).budget
-    pub full : StaysFull r.store q.store
     pub fault : OnlyMemory result

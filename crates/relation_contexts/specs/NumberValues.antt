@@ -1,9 +1,9 @@
 -- The integer and float types, and what values of integer and float variables say.
 use Rattle.relation_terms.specs.Heads.{int_type, uint_type, float_type, atom}
 use Rattle.relation_terms.specs.Trees.{Tree, leaf, nil}
-use Rattle.relation_terms.specs.declared.terms.enums.IntTy.{IntTy}
-use Rattle.relation_terms.specs.declared.terms.enums.UintTy.{UintTy}
-use Rattle.relation_terms.specs.declared.terms.enums.FloatTy.{FloatTy}
+use Rattle.term_enums.specs.declared.IntTy.{IntTy}
+use Rattle.term_enums.specs.declared.UintTy.{UintTy}
+use Rattle.term_enums.specs.declared.FloatTy.{FloatTy}
 use Rattle.relation_terms.specs.declared.terms.ty_kind.IntVarValue.{IntVarValue}
 use Rattle.relation_terms.specs.declared.terms.ty_kind.IntVarValue.TheVariants.{Unknown, IntType, UintType}
 use Rattle.relation_terms.specs.declared.terms.ty_kind.FloatVarValue.{FloatVarValue}

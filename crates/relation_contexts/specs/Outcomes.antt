@@ -1,6 +1,6 @@
 -- What a relating call has done.
 use Rattle.std.specs.Prelude.{◌≡◌, ℕ, ◌<◌, List, ◌++◌, All}
-use Rattle.relation_terms.specs.declared.terms.enums.Variance.{Variance}
+use Rattle.term_enums.specs.declared.Variance.{Variance}
 use Rattle.relation_terms.specs.Heads.{Head}
 use Rattle.relation_terms.specs.Trees.{Tree, Assign, apply, nth}
 use Rattle.relation_contexts.specs.Relation.{Items, Interpretation, Way, at, parts, second_opened, first_opened, part_at}

@@ -1,11 +1,11 @@
 -- When two variable-free trees are related, at a variance, in an environment, under an interpretation.
 use Rattle.std.specs.Prelude.{◌≡◌, ◌≢◌, ◌⊎◌, ℕ, zero, suc, ◌<◌, List, [], ◌∷◌, Option, Some, None, Contains}
-use Rattle.relation_terms.specs.declared.terms.enums.Variance.{Variance}
-use Rattle.relation_terms.specs.declared.terms.enums.Variance.TheVariants.{Covariant, Contravariant, Invariant}
-use Rattle.relation_terms.specs.declared.terms.enums.Variance.TheVariants.{Bivariant}
-use Rattle.relation_terms.specs.declared.terms.enums.Mutability.{Mutability}
-use Rattle.relation_terms.specs.declared.terms.enums.Mutability.TheVariants.{Not, Mut}
-use Rattle.relation_terms.specs.Variances.{xform}
+use Rattle.term_enums.specs.declared.Variance.{Variance}
+use Rattle.term_enums.specs.declared.Variance.TheVariants.{Covariant, Contravariant, Invariant}
+use Rattle.term_enums.specs.declared.Variance.TheVariants.{Bivariant}
+use Rattle.term_enums.specs.declared.Mutability.{Mutability}
+use Rattle.term_enums.specs.declared.Mutability.TheVariants.{Not, Mut}
+use Rattle.term_enums.specs.Variances.{xform}
 use Rattle.relation_terms.specs.Heads.{Sort, region_sort, type_sort, const_sort, no_sort, BoundKind, bound_sort}
 use Rattle.relation_terms.specs.Heads.{leaf_sort, head_sort, projection_alias, opaque_alias, AliasTermKind, type_alias}
 use Rattle.relation_terms.specs.Heads.{Atom, type_error, const_error, fresh_type, fresh_int, fresh_float, fresh_const}

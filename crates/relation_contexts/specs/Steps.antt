@@ -1,7 +1,7 @@
 -- What each call of a lawful context does to what is recorded.
 use Rattle.std.specs.Prelude.{◌≡◌, ◌⊎◌, ℕ, suc, ◌<◌, ◌≤◌, min, List, [], ◌∷◌, ◌++◌, map, length}
-use Rattle.relation_terms.specs.declared.terms.enums.Variance.{Variance}
-use Rattle.relation_terms.specs.declared.terms.enums.Variance.TheVariants.{Invariant}
+use Rattle.term_enums.specs.declared.Variance.{Variance}
+use Rattle.term_enums.specs.declared.Variance.TheVariants.{Invariant}
 use Rattle.relation_terms.specs.Heads.{BoundKind, bound_sort, VarKind, int_var, float_var, var_sort, Head, Leaf}
 use Rattle.relation_terms.specs.Heads.{variable, placeholder, atom}
 use Rattle.relation_terms.specs.Trees.{Tree, leaf, node, bind, nil, cons, Assign, apply, inst, Leaves}
@@ -89,14 +89,6 @@ StaysFullFor before after a b = HasNoBinder a → HasNoBinder b → StaysFull be
 pub record MakesToInstantiate (before after : Store) (a b : Tree) : Type 0 where
   pub no_number : MakesNoNumber before after
   pub none : HasNoBinder a → HasNoBinder b → BindsNoBinder before → InstantiatesNone before → MakesNone before after
-
--- Each variable that was newly bound to a term was the context's and unbound; or it was made on the way, and then an
--- instantiation took one of the budget, or a universe was entered.
-abbrev pub BindsItsOwn : Store → Store → Type 0
-BindsItsOwn before after = (k : VarKind) (n : ℕ) (t : Tree) → entry_of after k n ≡ bound_to t →
-    ((u : Tree) → entry_of before k n ≡ bound_to u → ⊥) →
-    (IsMade before k n × (entry_of before k n ≡ unbound)) ⊎
-    ((IsMade before k n → ⊥) × ((after.budget < before.budget) ⊎ (before.universe < after.universe)))
 
 -- What comes of another variable's entry where a variable got one: it stands; or it was the same as that variable, and
 -- is now the same as what that one is the same as.

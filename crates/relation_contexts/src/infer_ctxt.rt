@@ -1,7 +1,7 @@
 //! Inference contexts, by what each of their calls does.
 ghost use Rattle.std.specs.Prelude.{◌≡◌, ◌≢◌, ◌≤◌, ℕ, IsTrue, length};
 ghost use Rattle.std.specs.Borrow.{sem, Lends};
-ghost use Rattle.relation_terms.specs.declared.terms.enums.Variance.TheVariants.{Bivariant};
+ghost use Rattle.term_enums.specs.declared.Variance.TheVariants.{Bivariant};
 ghost use Rattle.relation_terms.specs.declared.terms.ty_kind.IntVarValue.TheVariants.{Unknown};
 ghost use Rattle.relation_terms.specs.declared.terms.ty_kind.FloatVarValue.TheVariants.{Unknown as UnknownFloat};
 ghost use Rattle.relation_terms.specs.Heads.{type_var, int_var, float_var, const_var, region_var, variable};

@@ -11,7 +11,7 @@ use Rattle.relation_terms.specs.declared.terms.keys.RegionKey.{RegionKey}
 use Rattle.relation_terms.specs.declared.terms.keys.TyKey.{TyKey}
 use Rattle.relation_terms.specs.declared.terms.keys.ConstKey.{ConstKey}
 use Rattle.relation_terms.proofs.Members.{region_term, type_term, const_term}
-use Rattle.relation_terms.proofs.Sorted.{Sorted}
+use Rattle.relation_terms.specs.Interning.{Sorted}
 use Rattle.relation_folds.specs.Visits.{is_visited}
 use Rattle.relation_folds.proofs.Visiting.{visited_as}
 

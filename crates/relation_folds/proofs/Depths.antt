@@ -8,7 +8,7 @@ use Rattle.relation_terms.specs.declared.terms.part_kind.Part.{Part}
 use Rattle.relation_terms.specs.declared.terms.part_kind.Part.TheVariants.{Region, Ty, Const, ValTree, Pat, ValueType}
 use Rattle.relation_terms.specs.declared.terms.part_kind.Part.TheVariants.{Binder, Signature, Inputs, Existential}
 use Rattle.relation_terms.specs.declared.terms.part_kind.Part.TheVariants.{Object}
-use Rattle.relation_terms.proofs.Sorted.{Sorted}
+use Rattle.relation_terms.specs.Interning.{Sorted}
 use Rattle.relation_terms.proofs.Parts.{sort_known}
 use Rattle.relation_folds.specs.Folds.{inside, inside_part}
 use Rattle.relation_folds.specs.Visits.{deeper, told_inside, told_inside_part, is_visited}

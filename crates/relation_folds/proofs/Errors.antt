@@ -5,13 +5,14 @@ use Rattle.relation_terms.specs.Meaning.{Meaning}
 use Rattle.relation_terms.specs.declared.terms.keys.TyKey.{TyKey}
 use Rattle.relation_terms.specs.declared.terms.keys.RegionKey.{RegionKey}
 use Rattle.relation_terms.specs.declared.terms.keys.ConstKey.{ConstKey}
+use Rattle.relation_terms.specs.declared.terms.keys.ExistentialPredicatesKey.{ExistentialPredicatesKey}
 use Rattle.relation_terms.specs.declared.terms.region_kind.BoundRegion.{BoundRegion}
 use Rattle.relation_folds.specs.declared.error.ExpectedFound.{ExpectedFound}
 use Rattle.relation_folds.specs.declared.error.TypeError.{TypeError}
 use Rattle.relation_folds.specs.declared.error.TypeError.TheVariants.{ArraySize, RegionsDoesNotOutlive}
 use Rattle.relation_folds.specs.declared.error.TypeError.TheVariants.{RegionsInsufficientlyPolymorphic, Sorts}
 use Rattle.relation_folds.specs.declared.error.TypeError.TheVariants.{ArgumentSorts, CyclicTy, CyclicConst}
-use Rattle.relation_folds.specs.declared.error.TypeError.TheVariants.{ConstMismatch}
+use Rattle.relation_folds.specs.declared.error.TypeError.TheVariants.{ConstMismatch, ExistentialMismatch}
 use Rattle.relation_folds.specs.Faults.{KnowsError, error_tree}
 
 -- The errors that name no term.
@@ -23,16 +24,18 @@ pub names_nothing : {Key Id Name : Type 0} (m : Meaning Key Id Name) (e : TypeEr
     ((p : ExpectedFound (TyKey Key)) (i : _) → e ≡ ArgumentSorts p i → ⊥) →
     ((t : TyKey Key) → e ≡ CyclicTy t → ⊥) →
     ((c : ConstKey Key) → e ≡ CyclicConst c → ⊥) →
+    ((p : ExpectedFound (ExistentialPredicatesKey Key)) → e ≡ ExistentialMismatch p → ⊥) →
     ((p : ExpectedFound (ConstKey Key)) → e ≡ ConstMismatch p → ⊥) → error_tree m e ≡ nil
-names_nothing m (ArraySize p) f1 f2 f3 f4 f5 f6 f7 f8 = absurd (f1 p refl)
-names_nothing m (RegionsDoesNotOutlive r s) f1 f2 f3 f4 f5 f6 f7 f8 = absurd (f2 r s refl)
-names_nothing m (RegionsInsufficientlyPolymorphic b r) f1 f2 f3 f4 f5 f6 f7 f8 = absurd (f3 b r refl)
-names_nothing m (Sorts p) f1 f2 f3 f4 f5 f6 f7 f8 = absurd (f4 p refl)
-names_nothing m (ArgumentSorts p i) f1 f2 f3 f4 f5 f6 f7 f8 = absurd (f5 p i refl)
-names_nothing m (CyclicTy t) f1 f2 f3 f4 f5 f6 f7 f8 = absurd (f6 t refl)
-names_nothing m (CyclicConst c) f1 f2 f3 f4 f5 f6 f7 f8 = absurd (f7 c refl)
-names_nothing m (ConstMismatch p) f1 f2 f3 f4 f5 f6 f7 f8 = absurd (f8 p refl)
-names_nothing m e f1 f2 f3 f4 f5 f6 f7 f8 = refl
+names_nothing m (ArraySize p) f1 f2 f3 f4 f5 f6 f7 f8 f9 = absurd (f1 p refl)
+names_nothing m (RegionsDoesNotOutlive r s) f1 f2 f3 f4 f5 f6 f7 f8 f9 = absurd (f2 r s refl)
+names_nothing m (RegionsInsufficientlyPolymorphic b r) f1 f2 f3 f4 f5 f6 f7 f8 f9 = absurd (f3 b r refl)
+names_nothing m (Sorts p) f1 f2 f3 f4 f5 f6 f7 f8 f9 = absurd (f4 p refl)
+names_nothing m (ArgumentSorts p i) f1 f2 f3 f4 f5 f6 f7 f8 f9 = absurd (f5 p i refl)
+names_nothing m (CyclicTy t) f1 f2 f3 f4 f5 f6 f7 f8 f9 = absurd (f6 t refl)
+names_nothing m (CyclicConst c) f1 f2 f3 f4 f5 f6 f7 f8 f9 = absurd (f7 c refl)
+names_nothing m (ExistentialMismatch p) f1 f2 f3 f4 f5 f6 f7 f8 f9 = absurd (f8 p refl)
+names_nothing m (ConstMismatch p) f1 f2 f3 f4 f5 f6 f7 f8 f9 = absurd (f9 p refl)
+names_nothing m e f1 f2 f3 f4 f5 f6 f7 f8 f9 = refl
 
 both_known : (a b : Bool) → IsTrue a → IsTrue b → IsTrue (a && (b && true))
 both_known true true h k = refl
@@ -49,5 +52,7 @@ error_known m (Sorts p) h = both_known (known (m.ty p.expected)) (known (m.ty p.
 error_known m (ArgumentSorts p i) h = both_known (known (m.ty p.expected)) (known (m.ty p.found)) h.0 h.1
 error_known m (CyclicTy t) h = h
 error_known m (CyclicConst c) h = h
+error_known m (ExistentialMismatch p) h =
+    both_known (known (m.existential_predicates p.expected)) (known (m.existential_predicates p.found)) h.0 h.1
 error_known m (ConstMismatch p) h = both_known (known (m.const_ p.expected)) (known (m.const_ p.found)) h.0 h.1
 error_known m e h = refl

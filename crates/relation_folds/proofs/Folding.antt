@@ -2,11 +2,14 @@
 use Rattle.std.proofs.Common.{ℕ, suc, ◌≡◌, IsTrue, Bool, true, false}
 use Rattle.std.proofs.Common.{Option, Some, None, Result, Ok, Err, IfOk, refl}
 use Rattle.std.proofs.Common.{ap, ap₂, sym, ◌∙◌}
-use Rattle.relation_terms.specs.Heads.{Sort, region_sort, type_sort, const_sort, Admits, leaf_sort, head_sort}
+use Rattle.relation_terms.specs.Heads.{Sort, no_sort, region_sort, type_sort, const_sort, Admits, leaf_sort, head_sort}
 use Rattle.relation_terms.specs.Trees.{Tree, leaf, node, bind, nil, cons, IsTerm}
 use Rattle.relation_terms.specs.Meaning.{Meaning, Extends}
 use Rattle.relation_terms.proofs.Stays.{extends_on, stays_same}
-use Rattle.relation_folds.specs.Folds.{Steps, asks, put_or, folded, folded_parts}
+use Rattle.relation_terms.specs.Parts.{tree_sort}
+use Rattle.relation_folds.specs.declared.fold.Fold.{Fold}
+use Rattle.relation_folds.specs.declared.fold.Fold.TheVariants.{Replace, Descend}
+use Rattle.relation_folds.specs.Folds.{Steps, asks, put_or, folded, folded_parts, answered}
 
 -- Folders that put the same make the same.
 pub folded_alike : (f g : ℕ → Tree → Option Tree) → ((d : ℕ) (t : Tree) → g d t ≡ f d t) → (d : ℕ) (t : Tree) →
@@ -67,6 +70,24 @@ folded_left s f d (leaf l) h e = left (asks (leaf_sort l)) (f d (leaf l)) (leaf 
 folded_left s f d (node g ts) h e = left (asks (head_sort g)) (f d (node g ts)) (node g (folded f d ts)) e
 folded_left s f d t h e = absurd h
 
+-- What is made where an answer is given at a term: what is put, or the term over its folded parts.
+module _ {K : Type 0} (s : Sort) (f : ℕ → Tree → Option Tree) (d : ℕ) (t : Tree) (tree : K → Tree) (a : Fold K)
+    (is : IsTerm s t) (answers : f d t ≡ answered tree a) where
+  pub put_made : IsTrue (asks s) → (by : K) → a ≡ Replace by → tree by ≡ folded f d t
+  put_made q by e = sym (folded_put s q f d t (tree by) is (answers ∙ ap (answered tree) e))
+
+  pub left_made : a ≡ Descend → folded f d t ≡ folded_parts f d t
+  left_made e = folded_left s f d t is (answers ∙ ap (answered tree) e)
+
+-- A tree at which no folder is asked is left to its parts.
+pub unasked_made : (f : ℕ → Tree → Option Tree) (d : ℕ) (t : Tree) → asks (tree_sort t) ≡ false →
+    (tree_sort t ≡ no_sort → ⊥) → folded f d t ≡ folded_parts f d t
+unasked_made f d (leaf l) a n = ap (λ x. put_or x (f d (leaf l)) (leaf l)) a
+unasked_made f d (node h ts) a n = ap (λ x. put_or x (f d (node h ts)) (node h (folded f d ts))) a
+unasked_made f d (bind ks t) a n = refl
+unasked_made f d nil a n = refl
+unasked_made f d (cons t ts) a n = absurd (n refl)
+
 -- One step after another, a growth of the interner after steps, and no step.
 module _ {Key Id Name F : Type 0} {Ready : Meaning Key Id Name → F → Type 0}
     {puts : Meaning Key Id Name → F → ℕ → Tree → Option Tree} where
@@ -91,11 +112,7 @@ module _ {Key Id Name F : Type 0} {Ready : Meaning Key Id Name → F → Type 0}
   pub steps_none : (m : Meaning Key Id Name) (f : F) → Ready m f → Steps Ready puts m f m f
   steps_none m f r = record { grown = stays_same m; ready = r; kept = λ d x. refl }
 
--- What is said of a success follows from what is said of it otherwise.
-pub if_ok : {A E : Type 0} {P Q : A → Type 0} (r : Result A E) → ((x : A) → P x → Q x) → IfOk r P → IfOk r Q
-if_ok (Ok x) f p = f x p
-if_ok (Err e) f p = p
-
+-- What is said of a success follows from two things that are said of it otherwise.
 pub if_ok_both : {A E : Type 0} {P Q R : A → Type 0} (r : Result A E) → ((x : A) → P x → Q x → R x) → IfOk r P →
     IfOk r Q → IfOk r R
 if_ok_both (Ok x) f p q = f x p q

@@ -6,18 +6,19 @@ use Rattle.relation_terms.specs.Trees.{Tree, known, front, last}
 use Rattle.relation_terms.specs.Meaning.{Meaning, signature_tree, existential_tree, term_tree, under}
 use Rattle.relation_terms.specs.Parts.{tree_sort}
 use Rattle.relation_terms.specs.Interning.{AreEqualAsTrees, AreEqualAsKinds, AreEqualAsNumbers}
-use Rattle.relation_terms.specs.declared.predicate.ExistentialPredicate.{ExistentialPredicate}
-use Rattle.relation_terms.specs.declared.predicate.ExistentialPredicate.TheVariants.{Trait, Projection, AutoTrait}
-use Rattle.relation_terms.specs.declared.predicate.ExistentialTraitRef.{ExistentialTraitRef}
-use Rattle.relation_terms.specs.declared.predicate.ExistentialProjection.{ExistentialProjection}
+use Rattle.relation_terms.specs.declared.predicate.existential.ExistentialPredicate.{ExistentialPredicate}
+use Rattle.relation_terms.specs.declared.predicate.existential.ExistentialPredicate.TheVariants.{Trait, AutoTrait}
+use Rattle.relation_terms.specs.declared.predicate.existential.ExistentialPredicate.TheVariants.{Projection}
+use Rattle.relation_terms.specs.declared.predicate.existential.ExistentialTraitRef.{ExistentialTraitRef}
+use Rattle.relation_terms.specs.declared.predicate.existential.ExistentialProjection.{ExistentialProjection}
 use Rattle.relation_terms.specs.declared.terms.generic_arg.TermKind.{TermKind}
 use Rattle.relation_terms.specs.declared.terms.generic_arg.TermKind.TheVariants.{Ty as TyTerm, Const as ConstTerm}
 use Rattle.relation_terms.specs.declared.terms.keys.TyKey.{TyKey}
 use Rattle.relation_terms.specs.declared.terms.keys.ConstKey.{ConstKey}
 use Rattle.relation_terms.specs.declared.terms.ids.TraitId.{TraitId}
 use Rattle.relation_terms.proofs.Members.{type_term, const_term}
-use Rattle.relation_terms.proofs.Sorted.{Sorted}
-use Rattle.relation_terms.specs.declared.terms.fn_sig.FnHeader.{FnHeader}
+use Rattle.relation_terms.specs.Interning.{Sorted}
+use Rattle.term_enums.specs.declared.FnHeader.{FnHeader}
 use Rattle.relation_terms.specs.declared.terms.fn_sig.FnSig.{FnSig}
 use Rattle.relation_terms.specs.declared.terms.keys.BoundVarsKey.{BoundVarsKey}
 use Rattle.relation_terms.proofs.Binders.{front_known, front_last_once, under_known, under_once}

@@ -1,8 +1,8 @@
 -- When two terms are told apart at once, within a depth, without relating anything.
 use Rattle.std.specs.Prelude.{◌≡◌, ℕ, suc, Bool, true, false, not, ◌||◌, Option, Some, None}
-use Rattle.relation_terms.specs.declared.terms.enums.Mutability.{Mutability}
-use Rattle.relation_terms.specs.declared.terms.enums.Mutability.TheVariants.{Not, Mut}
-use Rattle.relation_terms.specs.declared.terms.fn_sig.FnHeader.{FnHeader}
+use Rattle.term_enums.specs.declared.Mutability.{Mutability}
+use Rattle.term_enums.specs.declared.Mutability.TheVariants.{Not, Mut}
+use Rattle.term_enums.specs.declared.FnHeader.{FnHeader}
 use Rattle.relation_terms.specs.Heads.{Sort, type_sort, const_sort, value_sort, signature_sort, inputs_sort, binder_sort}
 use Rattle.relation_terms.specs.Heads.{Atom, type_error, int_type, uint_type, float_type, type_param, const_error}
 use Rattle.relation_terms.specs.Heads.{early_region, const_param, fresh_type, fresh_int, fresh_float, fresh_const}

@@ -12,6 +12,9 @@ use Rattle.relation_folds.specs.declared.error.TypeError.TheVariants.{RegionsIns
 use Rattle.relation_folds.specs.declared.error.TypeError.TheVariants.{RegionsPlaceholderMismatch, VariadicMismatch}
 use Rattle.relation_folds.specs.declared.error.TypeError.TheVariants.{CyclicTy, CyclicConst, ExistentialMismatch}
 use Rattle.relation_folds.specs.declared.error.TypeError.TheVariants.{ConstMismatch, TargetFeatureCast}
+use Rattle.relation_folds.specs.declared.error.TypeError.TheVariants.{Mutability, ArgumentMutability, TupleSize}
+use Rattle.relation_folds.specs.declared.error.TypeError.TheVariants.{ArgCount, Traits, ProjectionMismatched}
+use Rattle.relation_folds.specs.declared.error.TypeError.TheVariants.{IntrinsicCast, ForceInlineCast}
 use Rattle.relation_folds.specs.declared.error.RelateFault.{RelateFault}
 use Rattle.relation_folds.specs.declared.error.RelateFault.TheVariants.{Memory, Budget, Unrelated}
 
@@ -41,8 +44,7 @@ MustIncludeNote e = Unit {0}
 abbrev pub pair_tree : {A : Type 0} → (A → Tree) → ExpectedFound A → Tree
 pair_tree tree pair = cons (tree pair.expected) (cons (tree pair.found) nil)
 
--- The tree of an error: the types, regions and constants that it names, in order. Lists of existential predicates
--- are left out.
+-- The tree of an error: the types, regions, constants and lists of predicates that it names, in order.
 abbrev pub error_tree : {Key Id Name : Type 0} → Meaning Key Id Name → TypeError Key Id Name → Tree
 error_tree m (ArraySize sizes) = pair_tree m.const_ sizes
 error_tree m (RegionsDoesNotOutlive r s) = cons (m.region r) (cons (m.region s) nil)
@@ -51,8 +53,23 @@ error_tree m (Sorts types) = pair_tree m.ty types
 error_tree m (ArgumentSorts types i) = pair_tree m.ty types
 error_tree m (CyclicTy t) = m.ty t
 error_tree m (CyclicConst c) = m.const_ c
+error_tree m (ExistentialMismatch lists) = pair_tree m.existential_predicates lists
 error_tree m (ConstMismatch constants) = pair_tree m.const_ constants
-error_tree m e = nil
+error_tree m Mismatch = nil
+error_tree m (PolarityMismatch polarities) = nil
+error_tree m (SafetyMismatch safeties) = nil
+error_tree m (AbiMismatch abis) = nil
+error_tree m Mutability = nil
+error_tree m (ArgumentMutability i) = nil
+error_tree m (TupleSize sizes) = nil
+error_tree m ArgCount = nil
+error_tree m RegionsPlaceholderMismatch = nil
+error_tree m (Traits traits) = nil
+error_tree m (VariadicMismatch variadics) = nil
+error_tree m (ProjectionMismatched items) = nil
+error_tree m IntrinsicCast = nil
+error_tree m ForceInlineCast = nil
+error_tree m (TargetFeatureCast d) = nil
 
 -- Known terms that an error names keep their trees while the interner grows.
 pub stays_pair : {A : Type 0} (f g : A → Tree) (p : ExpectedFound A) → ((x : A) → IsTrue (known (f x)) → g x ≡ f x) →
@@ -68,6 +85,8 @@ stays_error {m = m} {n = n} x (Sorts p) h = stays_pair m.ty n.ty p x.ty h
 stays_error {m = m} {n = n} x (ArgumentSorts p i) h = stays_pair m.ty n.ty p x.ty h
 stays_error x (CyclicTy t) h = x.ty t h
 stays_error x (CyclicConst c) h = x.const_ c h
+stays_error {m = m} {n = n} x (ExistentialMismatch p) h =
+    stays_pair m.existential_predicates n.existential_predicates p x.existential_predicates h
 stays_error {m = m} {n = n} x (ConstMismatch p) h = stays_pair m.const_ n.const_ p x.const_ h
 stays_error x e h = refl
 

@@ -1,6 +1,6 @@
 -- The forms of terms over parts, and what is compared of one besides its parts.
 use Rattle.std.specs.Prelude.{ℕ, Option}
-use Rattle.relation_terms.specs.declared.terms.fn_sig.FnHeader.{FnHeader}
+use Rattle.term_enums.specs.declared.FnHeader.{FnHeader}
 
 -- Which form a term over parts has: the form of that name, pointers and references by their mutability. A leaf has no
 -- parts.

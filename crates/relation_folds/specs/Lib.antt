@@ -8,3 +8,4 @@ pub mod Outlines
 pub mod Shifts
 pub mod FieldFolds
 pub mod InBinders
+pub mod Aliases

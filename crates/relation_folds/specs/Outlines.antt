@@ -3,8 +3,9 @@ use Rattle.std.specs.Prelude.{ℕ, Bool, cond, Option, Some, None}
 use Rattle.relation_terms.specs.Trees.{Tree, node}
 use Rattle.relation_folds.specs.Clashes.{flexible, may_stand, plain, outline}
 use Rattle.relation_folds.specs.Forms.{Outline, Leaf}
-use Rattle.relation_terms.specs.declared.predicate.ExistentialPredicate.{ExistentialPredicate}
-use Rattle.relation_terms.specs.declared.predicate.ExistentialPredicate.TheVariants.{Trait, Projection, AutoTrait}
+use Rattle.relation_terms.specs.declared.predicate.existential.ExistentialPredicate.{ExistentialPredicate}
+use Rattle.relation_terms.specs.declared.predicate.existential.ExistentialPredicate.TheVariants.{Trait, AutoTrait}
+use Rattle.relation_terms.specs.declared.predicate.existential.ExistentialPredicate.TheVariants.{Projection}
 use Rattle.relation_terms.specs.declared.terms.binder.Binder.{Binder}
 
 -- The number of an id, where there is one.

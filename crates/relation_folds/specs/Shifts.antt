@@ -63,14 +63,15 @@ abbrev pub the_const : {Key : Type 0} → Option (GenericArgKind Key) → Option
 the_const (Some (Const c)) = Some c
 the_const o = None
 
--- While an interner grows known arguments stay so, and mean the same.
-stays_map : {A : Type 0} (f g : A → Tree) (xs : List A) → ((x : A) → IsTrue (known (f x)) → g x ≡ f x) →
+-- Of a list of what is known the trees stay while an interner grows.
+pub stays_map : {A : Type 0} (f g : A → Tree) (xs : List A) → ((x : A) → IsTrue (known (f x)) → g x ≡ f x) →
     IsTrue (known (list_tree f xs)) → map g xs ≡ map f xs
 stays_map f g [] s k = refl
 stays_map f g (x ∷ xs) s k =
     let p = and_parts (known (f x)) (known (list_tree f xs)) k in
     ap₂ (λ y z. y ∷ z) (s x p.0) (stays_map f g xs s p.1)
 
+-- So known arguments stay so, and mean the same.
 module _ {Key Id Name : Type 0} {m n : Meaning Key Id Name} (e : Extends m n) where
   pub knows_all : (xs : List (GenericArgKind Key)) → IsTrue (known (list_tree (arg_tree m) xs)) →
       IsTrue (known (list_tree (arg_tree n) xs))

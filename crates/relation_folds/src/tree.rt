@@ -3,7 +3,8 @@ ghost use Rattle.std.specs.Prelude.{◌≡◌, IsTrue};
 ghost use Rattle.relation_terms.specs.Trees.{Tree, known};
 ghost use Rattle.relation_terms.specs.Meaning.{Meaning, Extends, arg_tree, term_tree};
 ghost use Rattle.relation_terms.specs.Meaning.{under, signature_tree, existential_tree};
-ghost use Rattle.relation_terms.specs.declared.predicate.ExistentialPredicate.TheVariants.{Trait, Projection};
+ghost use Rattle.relation_terms.specs.declared.predicate.existential.ExistentialPredicate.TheVariants.{Trait};
+ghost use Rattle.relation_terms.specs.declared.predicate.existential.ExistentialPredicate.TheVariants.{Projection};
 ghost use Rattle.relation_terms.proofs.Stays.{stays_arg, stays_term, stays_signature, stays_existential};
 ghost use Rattle.relation_terms.proofs.Binders.{under_stays};
 ghost use Rattle.relation_folds.specs.Faults.{pair_tree, error_tree, stays_pair, stays_error};
@@ -140,7 +141,7 @@ impl<I: Interner, T: HasTree<I>> HasTree<I> for ExpectedFound<T> {
     ghost stays = { λ m n e p h. stays_pair (T.tree m) (T.tree n) p (T.stays m n e) h };
 }
 
-/// The terms that an error names, in order. What is no term is passed over, and so are lists of existential predicates.
+/// The terms and the lists of predicates that an error names, in order. What is no term is passed over.
 impl<I: Interner> HasTree<I> for TypeError<I::Key, I::Id, I::Name> {
     ghost tree = { λ m e. error_tree m e };
 

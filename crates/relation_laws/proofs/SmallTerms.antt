@@ -1,15 +1,15 @@
 -- Small terms in the relation.
 use Rattle.std.proofs.Common.{◌≡◌, ◌≢◌, ℕ, refl, sym, inl, inr, subst, subst₂, ap, ◌∙◌, List, [], ◌∷◌, false}
-use Rattle.relation_terms.specs.declared.terms.enums.Variance.{Variance}
-use Rattle.relation_terms.specs.declared.terms.enums.Variance.TheVariants.{Covariant, Contravariant, Invariant, Bivariant}
-use Rattle.relation_terms.specs.declared.terms.enums.Mutability.TheVariants.{Not, Mut}
-use Rattle.relation_terms.specs.declared.terms.enums.Safety.TheVariants.{Safe}
-use Rattle.relation_terms.specs.declared.terms.enums.ExternAbi.TheVariants.{Rust}
+use Rattle.term_enums.specs.declared.Variance.{Variance}
+use Rattle.term_enums.specs.declared.Variance.TheVariants.{Covariant, Contravariant, Invariant, Bivariant}
+use Rattle.term_enums.specs.declared.Mutability.TheVariants.{Not, Mut}
+use Rattle.term_enums.specs.declared.Safety.TheVariants.{Safe}
+use Rattle.term_enums.specs.declared.ExternAbi.TheVariants.{Rust}
 use Rattle.relation_terms.specs.Heads.{Sort, Admits, leaf_sort, head_sort, region_sort, type_param, const_param, uint_type, bool_type, host_effect, subtype, region_outlives, type_outlives, projection, const_has_type, well_formed, const_evaluatable, coerce, normalizes_to, alias_relate, environment, trait_clause, Head, adt, ref, tuple, fn_ptr, signature, inputs, value, value_type, BoundKind}
 use Rattle.relation_terms.specs.Trees.{Tree, leaf, node, bind, nil, cons, inst, IsList, IsTerm}
-use Rattle.relation_terms.specs.declared.terms.enums.UintTy.TheVariants.{U8}
-use Rattle.relation_terms.specs.declared.terms.enums.PredicatePolarity.{PredicatePolarity}
-use Rattle.relation_terms.specs.Variances.{xform}
+use Rattle.term_enums.specs.declared.UintTy.TheVariants.{U8}
+use Rattle.term_enums.specs.declared.PredicatePolarity.{PredicatePolarity}
+use Rattle.term_enums.specs.Variances.{xform}
 use Rattle.relation_contexts.specs.Relation.{Items, Interpretation, parts, second_opened, first_opened, Rel, at, same, anything, regions, atoms, forms, no_parts, next_part, covariant_binders, open_second, open_first, Outlives, itself, sort_of, RegionRule, IsRelatedHead, plain_atom, error_left, error_right, alias_types, equal_consts, contravariant_binders, invariant_binders, Avoids}
 use Rattle.type_relations.specs.SmallTerms.{u8, bool, static, named, ref_to, value_of, fn_of, a_region, bound_region, region_placeholder, IsReflexive, AnythingAtBivariance, ErrorsAreRelated, ParametersByIndex, ValuesByTheirTrees, ReferencesByRegions, MutablePointeesAreFixed, InputsTurnRound, BivariantArguments, UnlikeHeadsAreUnrelated, UnlikeAtomsAreUnrelated, AtomsAreNoForms, FormsByParts, IsPredicateSort, PredicatesWithThemselvesAlone, AnyIsStatic, StaticIsNotAny, PlaceholderIsNotAny, OneRegionIsNotTwo, AnyIsNotInvariantlyStatic}
 use Rattle.relation_contexts.proofs.Related.{region_of, heads_inverted, forms_inverted, others_inverted, atoms_inverted, covariant_opened, invariant_opened, no_form_left, no_form_right}

@@ -1,7 +1,7 @@
 -- The trees of small variable-free terms.
 use Rattle.std.specs.Prelude.{◌≡◌, ◌⊎◌, ◌↔◌, [], ◌∷◌, Bool, true, false, List, map, Option, Some, None, get_or}
-use Rattle.relation_terms.specs.declared.terms.enums.Variance.{Variance}
-use Rattle.relation_terms.specs.declared.terms.enums.Variance.TheVariants.{Invariant}
+use Rattle.term_enums.specs.declared.Variance.{Variance}
+use Rattle.term_enums.specs.declared.Variance.TheVariants.{Invariant}
 use Rattle.relation_terms.specs.Heads.{Sort, region_sort, type_sort, const_sort, value_sort, value_type_sort}
 use Rattle.relation_terms.specs.Heads.{pattern_sort, region_kind, type_kind, const_kind, bound_kind, bool_type}
 use Rattle.relation_terms.specs.Heads.{char_type, str_type, never_type, type_error, int_type, uint_type, float_type}

@@ -1,8 +1,8 @@
 -- Variable-free terms that are first-order but for binders of regions, and what relates them where all regions
 -- outlive each other.
 use Rattle.std.specs.Prelude.{◌≡◌, ◌⊎◌, ◌↔◌, suc, List, [], ◌∷◌, None}
-use Rattle.relation_terms.specs.declared.terms.enums.Variance.{Variance}
-use Rattle.relation_terms.specs.declared.terms.enums.Variance.TheVariants.{Bivariant}
+use Rattle.term_enums.specs.declared.Variance.{Variance}
+use Rattle.term_enums.specs.declared.Variance.TheVariants.{Bivariant}
 use Rattle.relation_terms.specs.Heads.{Sort, region_sort, BoundKind, bound_sort, Head, fn_ptr, unsafe_binder, Leaf}
 use Rattle.relation_terms.specs.Heads.{variable, bound, placeholder, atom, unknown}
 use Rattle.relation_terms.specs.Trees.{Tree, leaf, node, bind, nil, cons, IsTerm}

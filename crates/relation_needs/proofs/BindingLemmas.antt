@@ -12,13 +12,13 @@ use Rattle.relation_terms.specs.Trees.{Tree, leaf, node, bind, nil, cons, list_t
 use Rattle.relation_terms.specs.Meaning.{under}
 use Rattle.relation_contexts.specs.Relation.{StaysWithin}
 use Rattle.relation_contexts.specs.Bound.{AreBoundAs}
-use Rattle.relation_text.specs.declared.reading.tree.ItemSort.{ItemSort}
-use Rattle.relation_text.specs.declared.reading.tree.ItemSort.TheVariants as sort
-use Rattle.relation_text.specs.declared.naming.program.Parts.{Parts}
-use Rattle.relation_text.specs.declared.naming.program.Term.{Term}
-use Rattle.relation_text.specs.declared.naming.program.Term.TheVariants as term
-use Rattle.relation_text.specs.Terms.{at, parts_tree, leaf_of, item_tree, head_of, variable_of, with_variable, variables_of}
-use Rattle.relation_text.specs.Terms.{term_tree, trees_from}
+use Rattle.text_reading.specs.declared.reading.tree.ItemSort.{ItemSort}
+use Rattle.text_reading.specs.declared.reading.tree.ItemSort.TheVariants as sort
+use Rattle.text_reading.specs.declared.naming.program.Parts.{Parts}
+use Rattle.text_reading.specs.declared.naming.program.Term.{Term}
+use Rattle.text_reading.specs.declared.naming.program.Term.TheVariants as term
+use Rattle.text_terms.specs.Terms.{at, parts_tree, leaf_of, item_tree, head_of, variable_of, with_variable, variables_of}
+use Rattle.text_terms.specs.Terms.{term_tree, trees_from}
 use Rattle.relation_needs.specs.declared.binding.BoundSort.{BoundSort}
 use Rattle.relation_needs.specs.declared.binding.Outer.{Outer}
 use Rattle.relation_needs.specs.declared.binding.Uses.{Uses}

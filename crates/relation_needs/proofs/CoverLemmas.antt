@@ -10,13 +10,13 @@ use Rattle.relation_terms.specs.Meaning.{under}
 use Rattle.relation_contexts.specs.Relation.{StaysWithin}
 use Rattle.relation_contexts.specs.Bound.{BindByLists}
 use Rattle.relation_contexts.specs.Covered.{IsCovered, IsCoveredLeaf, IsCoveredHead}
-use Rattle.relation_text.specs.declared.reading.tree.ItemSort.{ItemSort}
-use Rattle.relation_text.specs.declared.reading.tree.ItemSort.TheVariants as sort
-use Rattle.relation_text.specs.declared.naming.program.Term.{Term}
-use Rattle.relation_text.specs.declared.naming.program.Term.TheVariants as term
-use Rattle.relation_terms.specs.declared.terms.fn_sig.FnHeader.{FnHeader}
-use Rattle.relation_text.specs.Terms.{at, parts_tree, leaf_of, item_tree, head_of, variables_of, term_tree, trees_of}
-use Rattle.relation_text.specs.Terms.{fn_ptr_tree, unsafe_binder_tree, object_tree, value_tree}
+use Rattle.text_reading.specs.declared.reading.tree.ItemSort.{ItemSort}
+use Rattle.text_reading.specs.declared.reading.tree.ItemSort.TheVariants as sort
+use Rattle.text_reading.specs.declared.naming.program.Term.{Term}
+use Rattle.text_reading.specs.declared.naming.program.Term.TheVariants as term
+use Rattle.term_enums.specs.declared.FnHeader.{FnHeader}
+use Rattle.text_terms.specs.Terms.{at, parts_tree, leaf_of, item_tree, head_of, variables_of, term_tree, trees_of}
+use Rattle.text_terms.specs.Terms.{fn_ptr_tree, unsafe_binder_tree, object_tree, value_tree}
 use Rattle.relation_needs.specs.declared.binding.Uses.{Uses}
 use Rattle.relation_needs.specs.declared.needs.Needs.{Needs}
 use Rattle.relation_needs.specs.Binding.{Tells, AreTold}

@@ -10,19 +10,19 @@ use Rattle.relation_terms.specs.Heads.{VarKind, Head, existential_trait, existen
 use Rattle.relation_terms.specs.Heads.{variable, bound, placeholder, atom, unknown}
 use Rattle.relation_terms.specs.Trees.{Tree, leaf, node, bind, nil, cons, Leaves, known, list_tree, front, last}
 use Rattle.relation_terms.specs.Meaning.{under}
-use Rattle.relation_terms.specs.declared.terms.fn_sig.FnHeader.{FnHeader}
+use Rattle.term_enums.specs.declared.FnHeader.{FnHeader}
 use Rattle.relation_contexts.specs.Relation.{StaysWithin}
 use Rattle.relation_contexts.specs.Stores.{Store, IsTermIn, InContext, IsMadeLeaf, IsMade, IsNamable}
 use Rattle.relation_needs.specs.declared.binding.Uses.{Uses}
 use Rattle.relation_needs.specs.declared.needs.Needs.{Needs}
 use Rattle.relation_needs.specs.Binding.{Tells, AreTold}
 use Rattle.relation_needs.proofs.BindingLemmas.{next_is}
-use Rattle.relation_text.specs.declared.reading.tree.ItemSort.{ItemSort}
-use Rattle.relation_text.specs.declared.reading.tree.ItemSort.TheVariants as sort
-use Rattle.relation_text.specs.declared.naming.program.Term.{Term}
-use Rattle.relation_text.specs.declared.naming.program.Term.TheVariants as term
-use Rattle.relation_text.specs.Terms.{at, parts_tree, leaf_of, item_tree, term_tree, trees_from, trees_of}
-use Rattle.relation_text.specs.Terms.{variables_of, fn_ptr_tree, head_of, object_tree}
+use Rattle.text_reading.specs.declared.reading.tree.ItemSort.{ItemSort}
+use Rattle.text_reading.specs.declared.reading.tree.ItemSort.TheVariants as sort
+use Rattle.text_reading.specs.declared.naming.program.Term.{Term}
+use Rattle.text_reading.specs.declared.naming.program.Term.TheVariants as term
+use Rattle.text_terms.specs.Terms.{at, parts_tree, leaf_of, item_tree, term_tree, trees_from, trees_of}
+use Rattle.text_terms.specs.Terms.{variables_of, fn_ptr_tree, head_of, object_tree}
 use Rattle.relation_needs.specs.Needs.{larger, both_needs, no_needs, universe_need, without_rules, told, need_at, needs_with}
 use Rattle.relation_needs.specs.Needs.{item_need, parts_need, term_need, needs_from, needs_of, Reaches, largest, IsEnough, Allows, AreEnough}
 

@@ -5,10 +5,10 @@ use Rattle.std.specs.Prelude.{IfSome}
 use Rattle.std.proofs.lemmas.List.{length_push}
 use Rattle.std.proofs.lemmas.List.Elements.{All-push, All-weaker, Contains-push, Contains-push_cases, Contains-append_left}
 use Rattle.std.proofs.lemmas.Option.{IfSome_then}
-use Rattle.relation_text.specs.declared.naming.program.Parts.{Parts}
-use Rattle.relation_text.specs.declared.naming.program.Term.{Term}
-use Rattle.relation_text.specs.Terms.{term_tree, trees_of}
-use Rattle.relation_text.proofs.BuildingLemmas.{trees_more}
+use Rattle.text_reading.specs.declared.naming.program.Parts.{Parts}
+use Rattle.text_reading.specs.declared.naming.program.Term.{Term}
+use Rattle.text_terms.specs.Terms.{term_tree, trees_of}
+use Rattle.text_terms.proofs.BuildingLemmas.{trees_more}
 use Rattle.relation_needs.specs.declared.binding.Outer.{Outer}
 use Rattle.relation_needs.specs.declared.binding.Uses.{Uses}
 use Rattle.relation_needs.specs.declared.binding.Inside.{Inside}

@@ -4,10 +4,10 @@ use Rattle.std.specs.Prelude.{slice_get, slice_range}
 use Rattle.relation_terms.specs.Heads.{Sort, region_sort, type_sort, const_sort, bound_sort, Leaf, bound, unknown}
 use Rattle.relation_terms.specs.Trees.{Tree, leaf, node, bind, nil, cons}
 use Rattle.relation_contexts.specs.Bound.{BindByLists}
-use Rattle.relation_text.specs.declared.naming.program.Parts.{Parts}
-use Rattle.relation_text.specs.declared.naming.program.Term.{Term}
-use Rattle.relation_text.specs.declared.naming.program.Term.TheVariants as term
-use Rattle.relation_text.specs.Terms.{at, trees_of}
+use Rattle.text_reading.specs.declared.naming.program.Parts.{Parts}
+use Rattle.text_reading.specs.declared.naming.program.Term.{Term}
+use Rattle.text_reading.specs.declared.naming.program.Term.TheVariants as term
+use Rattle.text_terms.specs.Terms.{at, trees_of}
 use Rattle.relation_needs.specs.declared.binding.BoundSort.{BoundSort}
 use Rattle.relation_needs.specs.declared.binding.BoundSort.TheVariants.{Region, Ty, Const}
 use Rattle.relation_needs.specs.declared.binding.Outer.{Outer}

@@ -7,12 +7,12 @@ use Rattle.relation_terms.specs.Trees.{Tree, Leaves}
 use Rattle.relation_contexts.specs.Relation.{IsValueAtom}
 use Rattle.relation_needs.specs.declared.binding.Uses.{Uses}
 use Rattle.relation_needs.specs.declared.needs.Needs.{Needs}
-use Rattle.relation_text.specs.declared.reading.tree.ItemSort.{ItemSort}
-use Rattle.relation_text.specs.declared.reading.tree.ItemSort.TheVariants as sort
-use Rattle.relation_text.specs.declared.naming.program.Parts.{Parts}
-use Rattle.relation_text.specs.declared.naming.program.Term.{Term}
-use Rattle.relation_text.specs.declared.naming.program.Term.TheVariants as term
-use Rattle.relation_text.specs.Terms.{at}
+use Rattle.text_reading.specs.declared.reading.tree.ItemSort.{ItemSort}
+use Rattle.text_reading.specs.declared.reading.tree.ItemSort.TheVariants as sort
+use Rattle.text_reading.specs.declared.naming.program.Parts.{Parts}
+use Rattle.text_reading.specs.declared.naming.program.Term.{Term}
+use Rattle.text_reading.specs.declared.naming.program.Term.TheVariants as term
+use Rattle.text_terms.specs.Terms.{at}
 
 -- The larger of two numbers that may be missing.
 abbrev pub larger : Option ℕ → Option ℕ → Option ℕ

@@ -6,8 +6,8 @@ ghost use Rattle.relation_needs.specs.Binding.{AreIn, TakesAll, TakesAt, TakesIf
 ghost use Rattle.relation_needs.specs.Binding.{BindsAll, SaysOf, AreAllTold, own_of, inside_of};
 
 use crate::needs::number_at;
-use relation_text::naming::{Parts, Program, Term};
 use std::alloc::{AllocError, Global};
+use text_reading::naming::{Parts, Program, Term};
 
 /// What a binder binds.
 #[derive(Clone, Copy)]

@@ -5,9 +5,9 @@ ghost use Rattle.relation_needs.specs.Needs.{is_alias, item_need, told};
 ghost use Rattle.relation_needs.specs.Needs.{need_at, parts_need, term_need, needs_of};
 
 use crate::binding::Uses;
-use relation_text::naming::{Parts, Program, Term};
-use relation_text::reading::ItemSort;
 use std::alloc::{AllocError, Global};
+use text_reading::naming::{Parts, Program, Term};
+use text_reading::reading::ItemSort;
 
 /// What a term needs of a context: variables up to these numbers, the largest that it names, if it names any; and a
 /// universe that names its placeholders. To be related, it needs to be of forms that have rules, without what binders

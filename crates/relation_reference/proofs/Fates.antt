@@ -1,6 +1,6 @@
 -- What becomes of leaves.
 use Rattle.std.proofs.Common.{◌≡◌, ◌≢◌, ℕ, ◌≤◌, refl, sym, ap, ◌∙◌, subst, Option, Some}
-use Rattle.relation_terms.specs.declared.terms.enums.Variance.{Variance}
+use Rattle.term_enums.specs.declared.Variance.{Variance}
 use Rattle.relation_terms.specs.declared.terms.part_kind.Part.{Part}
 use Rattle.relation_terms.specs.declared.terms.part_kind.Part.TheVariants.{Region, Ty, Const, ValTree, Pat, ValueType, Binder, Signature, Inputs, Existential, Object}
 use Rattle.relation_terms.specs.declared.terms.keys.RegionKey.{RegionKey}

@@ -8,8 +8,8 @@ use Rattle.relation_terms.specs.Heads.{VarKind, type_var, int_var, float_var, co
 use Rattle.relation_terms.specs.Trees.{Tree, leaf, node, bind, nil, cons, known, list_tree}
 use Rattle.relation_terms.specs.Meaning.{Meaning, Extends}
 use Rattle.relation_terms.proofs.Stays.{stays_arg}
-use Rattle.relation_terms.specs.declared.predicate.RegionConstraint.{RegionConstraint}
-use Rattle.relation_terms.specs.declared.predicate.RegionConstraint.TheVariants.{Outlives, Eq}
+use Rattle.relation_terms.specs.declared.predicate.regions.RegionConstraint.{RegionConstraint}
+use Rattle.relation_terms.specs.declared.predicate.regions.RegionConstraint.TheVariants.{Outlives, Eq}
 use Rattle.relation_contexts.specs.Stores.{Store, Entry, unbound, same_as, bound_to, entry_of, entry_term, Constraint, outlives_constraint, equal_constraint, IsSound, InContext, IsTermIn, ConstraintIn}
 use Rattle.relation_contexts.specs.Constraints.{constraint_of}
 use Rattle.relation_contexts.proofs.Standing.{term_context}

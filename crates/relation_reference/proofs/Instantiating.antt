@@ -2,7 +2,7 @@
 use Rattle.std.proofs.Common.{◌≡◌, ◌≢◌, ℕ, suc, ◌<◌, refl, sym, ap, ◌∙◌, subst, subst₂, set, Some, List, [], length, get_or, Result, Ok, Err}
 use Rattle.std.proofs.lemmas.List.{get_or-map}
 use Rattle.std.specs.Result.{IsErr, IsErrAnd}
-use Rattle.relation_terms.specs.declared.terms.enums.Variance.{Variance}
+use Rattle.term_enums.specs.declared.Variance.{Variance}
 use Rattle.relation_terms.specs.declared.terms.part_kind.Part.{Part}
 use Rattle.relation_terms.specs.Heads.{region_kind, type_sort, const_sort, bound_kind, VarKind, type_var, int_var, float_var, const_var, region_var, static_region, early_region, Leaf, variable, bound, placeholder, atom, unknown}
 use Rattle.relation_terms.specs.Trees.{Tree, leaf, node, bind, nil, cons, apply, IsTerm}

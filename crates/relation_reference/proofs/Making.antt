@@ -7,7 +7,7 @@ use Rattle.std.specs.Global.{Vec}
 use Rattle.relation_terms.specs.Heads.{VarKind, VarKind_discrete, type_var, int_var, float_var, const_var, region_var, variable}
 use Rattle.relation_terms.specs.Trees.{Tree, leaf, nil}
 use Rattle.relation_terms.specs.Meaning.{Meaning, Extends}
-use Rattle.relation_terms.specs.declared.predicate.RegionConstraint.{RegionConstraint}
+use Rattle.relation_terms.specs.declared.predicate.regions.RegionConstraint.{RegionConstraint}
 use Rattle.relation_terms.specs.declared.terms.numbers.UniverseIndex.{UniverseIndex}
 use Rattle.relation_contexts.specs.Stores.{Store, unbound, entry_of, IsSound, Constraint, ConstraintIn}
 use Rattle.relation_contexts.specs.Steps.{IsNumberKind, MakesVariable, AddsConstraint, IsLater}

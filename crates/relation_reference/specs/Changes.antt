@@ -1,8 +1,8 @@
 -- What calls change in a context, between what it was before and what it is after.
 use Rattle.std.specs.Prelude.{◌≡◌, ℕ, min, max, List, length, Result, IfOk}
 use Rattle.relation_terms.specs.declared.terms.binder.Binder.{Binder}
-use Rattle.relation_terms.specs.declared.terms.enums.Variance.{Variance}
-use Rattle.relation_terms.specs.declared.terms.enums.Variance.TheVariants.{Invariant}
+use Rattle.term_enums.specs.declared.Variance.{Variance}
+use Rattle.term_enums.specs.declared.Variance.TheVariants.{Invariant}
 use Rattle.relation_terms.specs.declared.terms.keys.TyKey.{TyKey}
 use Rattle.relation_terms.specs.declared.terms.keys.RegionKey.{RegionKey}
 use Rattle.relation_terms.specs.declared.terms.keys.ConstKey.{ConstKey}

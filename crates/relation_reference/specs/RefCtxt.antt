@@ -1,6 +1,6 @@
 -- What contracts see of a `RefCtxt`, by what the keys of its interner mean.
 use Rattle.std.specs.Prelude.{◌≡◌, ℕ, List, []}
-use Rattle.relation_terms.specs.declared.predicate.OutlivesPredicate.{OutlivesPredicate}
+use Rattle.relation_terms.specs.declared.predicate.regions.OutlivesPredicate.{OutlivesPredicate}
 use Rattle.relation_terms.specs.declared.terms.keys.TyKey.{TyKey}
 use Rattle.relation_terms.specs.declared.terms.keys.ConstKey.{ConstKey}
 use Rattle.relation_terms.specs.declared.terms.part_kind.Part.{Part}

@@ -38,7 +38,7 @@ use Rattle.relation_terms.specs.declared.predicate.kinds.PredicateKind.TheVarian
 use Rattle.relation_terms.proofs.Members.{const_term, region_term, type_term}
 use Rattle.relation_terms.proofs.Parts.{known_parts, over_known}
 use Rattle.relation_terms.proofs.Predicates.{stays_trait_ref, stays_alias_term}
-use Rattle.relation_terms.proofs.Sorted.{Sorted}
+use Rattle.relation_terms.specs.Interning.{Sorted}
 use Rattle.relation_terms.proofs.Stays.{knows_as}
 
 -- The parts under a known binder, and the binder over the same form of others.

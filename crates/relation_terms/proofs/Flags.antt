@@ -18,8 +18,9 @@ use Rattle.relation_terms.specs.declared.terms.const_kind.ValTreeKind.{ValTreeKi
 use Rattle.relation_terms.specs.declared.terms.const_kind.ValTreeKind.TheVariants.{Leaf, Branch}
 use Rattle.relation_terms.specs.declared.terms.pattern_kind.PatternKind.{PatternKind}
 use Rattle.relation_terms.specs.declared.terms.pattern_kind.PatternKind.TheVariants.{Range, Or, NotNull}
-use Rattle.relation_terms.specs.declared.predicate.ExistentialPredicate.{ExistentialPredicate}
-use Rattle.relation_terms.specs.declared.predicate.ExistentialPredicate.TheVariants.{Trait, Projection, AutoTrait}
+use Rattle.relation_terms.specs.declared.predicate.existential.ExistentialPredicate.{ExistentialPredicate}
+use Rattle.relation_terms.specs.declared.predicate.existential.ExistentialPredicate.TheVariants.{Trait, AutoTrait}
+use Rattle.relation_terms.specs.declared.predicate.existential.ExistentialPredicate.TheVariants.{Projection}
 use Rattle.relation_terms.proofs.Binders.{with_last, front_and_last, front_is}
 
 -- Flags of equal fields are equal.

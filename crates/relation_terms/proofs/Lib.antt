@@ -12,3 +12,6 @@ pub mod Fields
 pub mod Clauses
 pub mod Flags
 mod Closures
+pub mod Edits
+mod Params
+pub mod Equality

@@ -3,6 +3,7 @@ use Rattle.std.proofs.Common.{◌≤◌, ◌≡◌, ℕ, zero, suc, ◌<◌, ref
 use Rattle.std.specs.Cmp.Derive.{both_true}
 use Rattle.std.proofs.Math.Seq.{take-length}
 use Rattle.std.proofs.Common.{drop, map, take, ◌++◌, ◌+◌, ◌-◌}
+use Rattle.relation_terms.specs.Orders.{order_of, in_turn}
 use Rattle.relation_terms.specs.Trees.{front, last}
 use Rattle.relation_terms.proofs.Binders.{front_known, front_count, front_nth, last_nth}
 use Rattle.std.proofs.lemmas.List.{map_push}
@@ -318,6 +319,12 @@ pub region_alone : (t : Tree) → IsTerm region_sort t → parts_of t ≡ nil
 region_alone (leaf l) h = refl
 region_alone (node g ts) h = absurd (no_region g h.0)
 region_alone t h = absurd h
+
+-- And its parts, which are none, come in turn.
+pub region_in_turn : (t : Tree) → IsTerm region_sort t → order_of t ≡ in_turn
+region_in_turn (leaf l) h = refl
+region_in_turn (node g ts) h = absurd (no_region g h.0)
+region_in_turn t h = absurd h
 
 -- What has no parts is itself over none.
 pub over_none : (t us : Tree) → parts_of t ≡ nil → us ≡ nil → over t us ≡ t

@@ -56,7 +56,7 @@ use Rattle.relation_terms.specs.declared.terms.pattern_kind.PatternKind.TheVaria
 use Rattle.relation_terms.specs.declared.terms.const_kind.ValTreeKind.{ValTreeKind}
 use Rattle.relation_terms.specs.declared.terms.const_kind.ValTreeKind.TheVariants.{Leaf, Branch}
 use Rattle.relation_terms.proofs.Stays.{knows_as, stays_kind, stays_const, stays_valtree, stays_pattern}
-use Rattle.relation_terms.proofs.Sorted.{Sorted}
+use Rattle.relation_terms.specs.Interning.{Sorted}
 use Rattle.relation_terms.proofs.Members.{const_term, fit_none, pattern_term, region_term, type_term, value_term}
 use Rattle.relation_terms.specs.Heads.{existential_sort, object_sort, signature_sort, binder_sort, fn_ptr}
 use Rattle.relation_terms.specs.Heads.{unsafe_binder, dynamic, inputs, object, existential_trait}
@@ -71,8 +71,8 @@ use Rattle.relation_terms.specs.declared.terms.keys.BoundVarsKey.{BoundVarsKey}
 use Rattle.relation_terms.specs.declared.terms.generic_arg.TermKind.{TermKind}
 use Rattle.relation_terms.specs.declared.terms.generic_arg.TermKind.TheVariants.{Ty as TyTerm, Const as ConstTerm}
 use Rattle.relation_terms.specs.declared.terms.fn_sig.FnSig.{FnSig}
-use Rattle.relation_terms.specs.declared.predicate.ExistentialPredicate.{ExistentialPredicate}
-use Rattle.relation_terms.specs.declared.predicate.ExistentialPredicate.TheVariants.{Trait, AutoTrait}
+use Rattle.relation_terms.specs.declared.predicate.existential.ExistentialPredicate.{ExistentialPredicate}
+use Rattle.relation_terms.specs.declared.predicate.existential.ExistentialPredicate.TheVariants.{Trait, AutoTrait}
 use Rattle.relation_terms.specs.declared.terms.ty_kind.TyKind.TheVariants.{FnPtr, UnsafeBinder, Dynamic}
 use Rattle.relation_terms.specs.declared.terms.part_kind.Body.{Body}
 use Rattle.relation_terms.specs.declared.terms.part_kind.Body.TheVariants.{Signature as SignatureBody, Ty as TyBody}
@@ -85,7 +85,9 @@ use Rattle.std.proofs.Common.{Some, length, ◌<◌, arith}
 use Rattle.std.specs.Cmp.Derive.{both_true}
 use Rattle.relation_terms.proofs.Binders.{under_stays, under_sort, front_known}
 use Rattle.relation_terms.proofs.Stays.{stays_signature, stays_existential, stays_term}
-use Rattle.relation_terms.specs.declared.predicate.ExistentialPredicate.TheVariants.{Projection as ProjectionPredicate}
+use Rattle.relation_terms.specs.declared.predicate.existential.ExistentialPredicate.TheVariants.{
+  Projection as ProjectionPredicate,
+}
 
 module _ {Key Id Name : Type 0} (m : Meaning Key Id Name) where
   pub arg_part : (a : GenericArgKind Key) → part_tree m (part_of_arg a) ≡ arg_tree m a

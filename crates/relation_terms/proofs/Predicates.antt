@@ -27,7 +27,8 @@ use Rattle.relation_terms.specs.declared.predicate.kinds.PredicateKind.{Predicat
 use Rattle.relation_terms.specs.declared.predicate.kinds.PredicateKind.TheVariants.{Clause, Subtype, Coerce}
 use Rattle.relation_terms.specs.declared.predicate.kinds.PredicateKind.TheVariants.{NormalizesTo, AliasRelate, Ambiguous}
 use Rattle.relation_terms.proofs.Binders.{under_known, under_once, under_stays, under_sorted}
-use Rattle.relation_terms.proofs.Sorted.{Sorted, widen, term_sorted}
+use Rattle.relation_terms.specs.Interning.{Sorted}
+use Rattle.relation_terms.proofs.Sorted.{widen, term_sorted}
 use Rattle.relation_terms.proofs.Stays.{stays_term}
 use Rattle.relation_terms.proofs.Once.{Injective, term_once}
 

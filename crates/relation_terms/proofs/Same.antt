@@ -7,18 +7,18 @@ use Rattle.relation_terms.specs.Trees.{Tree, node, nil, cons, known, front, last
 use Rattle.relation_terms.specs.Heads.{signature, inputs, existential_trait, existential_projection}
 use Rattle.relation_terms.specs.Meaning.{Meaning, signature_tree, existential_tree, term_tree}
 use Rattle.relation_terms.specs.Interning.{AreEqualAsTrees, AreEqualAsNumbers}
-use Rattle.relation_terms.specs.declared.terms.enums.Safety.{Safety}
-use Rattle.relation_terms.specs.declared.terms.enums.Safety.TheVariants.{Safe, Unsafe}
-use Rattle.relation_terms.specs.declared.terms.enums.ExternAbi.{ExternAbi}
-use Rattle.relation_terms.specs.declared.terms.enums.ExternAbi.TheVariants.{Rust, C, System}
-use Rattle.relation_terms.specs.declared.terms.fn_sig.FnHeader.{FnHeader}
+use Rattle.term_enums.specs.declared.Safety.{Safety}
+use Rattle.term_enums.specs.declared.Safety.TheVariants.{Safe, Unsafe}
+use Rattle.term_enums.specs.declared.ExternAbi.{ExternAbi}
+use Rattle.term_enums.specs.declared.ExternAbi.TheVariants.{Rust, C, System}
+use Rattle.term_enums.specs.declared.FnHeader.{FnHeader}
 use Rattle.relation_terms.specs.declared.terms.fn_sig.FnSig.{FnSig}
 use Rattle.relation_terms.specs.declared.terms.keys.TysKey.{TysKey}
-use Rattle.relation_terms.specs.declared.predicate.ExistentialProjection.{ExistentialProjection}
-use Rattle.relation_terms.specs.declared.predicate.ExistentialPredicate.TheVariants.{Projection}
-use Rattle.relation_terms.specs.contracts.terms.enums.SafetyPartialEq.TheImpl as safety_impl
-use Rattle.relation_terms.specs.contracts.terms.enums.ExternAbiPartialEq.TheImpl as abi_impl
-use Rattle.relation_terms.specs.contracts.terms.fn_sig.FnHeaderPartialEq.TheImpl as header_impl
+use Rattle.relation_terms.specs.declared.predicate.existential.ExistentialProjection.{ExistentialProjection}
+use Rattle.relation_terms.specs.declared.predicate.existential.ExistentialPredicate.TheVariants.{Projection}
+use Rattle.term_enums.specs.contracts.SafetyPartialEq.TheImpl as safety_impl
+use Rattle.term_enums.specs.contracts.ExternAbiPartialEq.TheImpl as abi_impl
+use Rattle.term_enums.specs.contracts.FnHeaderPartialEq.TheImpl as header_impl
 use Rattle.relation_terms.proofs.Binders.{front_known}
 
 abbrev pub safety_eq : Safety → Safety → Bool

@@ -6,6 +6,7 @@ use Rattle.relation_terms.specs.Heads.{environment_sort, pattern_sort, environme
 use Rattle.relation_terms.specs.Trees.{Tree, leaf, node, nil, known, list_tree, IsTerm, AreTerms}
 use Rattle.relation_terms.specs.Meaning.{Meaning, kind_tree, region_tree, const_tree, valtree_tree, arg_tree}
 use Rattle.relation_terms.specs.Meaning.{pattern_tree}
+use Rattle.relation_terms.specs.Interning.{Sorted}
 use Rattle.relation_terms.specs.declared.terms.keys.TyKey.{TyKey}
 use Rattle.relation_terms.specs.declared.terms.keys.RegionKey.{RegionKey}
 use Rattle.relation_terms.specs.declared.terms.keys.ConstKey.{ConstKey}
@@ -48,28 +49,15 @@ use Rattle.relation_terms.specs.declared.terms.keys.ExistentialPredicatesKey.{Ex
 use Rattle.relation_terms.specs.declared.terms.generic_arg.TermKind.{TermKind}
 use Rattle.relation_terms.specs.declared.terms.generic_arg.TermKind.TheVariants.{Ty as TyTerm, Const as ConstTerm}
 use Rattle.relation_terms.specs.declared.terms.fn_sig.FnSig.{FnSig}
-use Rattle.relation_terms.specs.declared.predicate.ExistentialPredicate.{ExistentialPredicate}
-use Rattle.relation_terms.specs.declared.predicate.ExistentialPredicate.TheVariants.{Trait, AutoTrait}
-use Rattle.relation_terms.specs.declared.predicate.ExistentialPredicate.TheVariants.{Projection as ProjectionPredicate}
+use Rattle.relation_terms.specs.declared.predicate.existential.ExistentialPredicate.{ExistentialPredicate}
+use Rattle.relation_terms.specs.declared.predicate.existential.ExistentialPredicate.TheVariants.{Trait, AutoTrait}
+use Rattle.relation_terms.specs.declared.predicate.existential.ExistentialPredicate.TheVariants.{
+  Projection as ProjectionPredicate,
+}
 use Rattle.relation_terms.specs.declared.terms.ty_kind.TyKind.TheVariants.{FnPtr, UnsafeBinder, Dynamic}
 use Rattle.relation_terms.specs.declared.terms.binder.Binder.{Binder}
 use Rattle.std.proofs.Common.{Some}
 use Rattle.relation_terms.proofs.Binders.{under_sorted, front_known, front_terms, last_term}
-
--- The trees of known keys are terms of their sorts.
-pub record Sorted {Key Id Name : Type 0} (m : Meaning Key Id Name) : Type 0 where
-  pub ty : (k : TyKey Key) → IsTrue (known (m.ty k)) → IsTerm type_sort (m.ty k)
-  pub region : (k : RegionKey Key) → IsTrue (known (m.region k)) → IsTerm region_sort (m.region k)
-  pub tys : (k : TysKey Key) → IsTrue (known (m.tys k)) → AreTerms type_sort (m.tys k)
-  pub const_ : (k : ConstKey Key) → IsTrue (known (m.const_ k)) → IsTerm const_sort (m.const_ k)
-  pub valtree : (k : ValTreeKey Key) → IsTrue (known (m.valtree k)) → IsTerm value_sort (m.valtree k)
-  pub args : (k : ArgsKey Key) → IsTrue (known (m.args k)) → AreTerms argument_sort (m.args k)
-  pub branches : (k : BranchesKey Key) → IsTrue (known (m.branches k)) → AreTerms const_sort (m.branches k)
-  pub pat : (k : PatKey Key) → IsTrue (known (m.pat k)) → IsTerm pattern_sort (m.pat k)
-  pub alternatives : (k : AlternativesKey Key) → IsTrue (known (m.alternatives k)) →
-      AreTerms pattern_sort (m.alternatives k)
-  pub existential_predicates : (k : ExistentialPredicatesKey Key) → IsTrue (known (m.existential_predicates k)) →
-      Fits (row [] (Some (binder_of existential_sort))) (m.existential_predicates k)
 
 pub list_sorted : {A : Type 0} (s : Sort) (f : A → Tree) → ((x : A) → IsTrue (known (f x)) → IsTerm s (f x)) →
     (xs : List A) → IsTrue (known (list_tree f xs)) → AreTerms s (list_tree f xs)

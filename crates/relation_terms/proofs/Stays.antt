@@ -53,9 +53,11 @@ use Rattle.relation_terms.specs.Heads.{existential_projection, existential_auto}
 use Rattle.relation_terms.specs.Trees.{front, last}
 use Rattle.relation_terms.specs.Meaning.{under, sig_of, signature_tree, existential_tree, object_predicate_tree}
 use Rattle.relation_terms.specs.declared.terms.fn_sig.FnSig.{FnSig}
-use Rattle.relation_terms.specs.declared.predicate.ExistentialPredicate.{ExistentialPredicate}
-use Rattle.relation_terms.specs.declared.predicate.ExistentialPredicate.TheVariants.{Trait, AutoTrait}
-use Rattle.relation_terms.specs.declared.predicate.ExistentialPredicate.TheVariants.{Projection as ProjectionPredicate}
+use Rattle.relation_terms.specs.declared.predicate.existential.ExistentialPredicate.{ExistentialPredicate}
+use Rattle.relation_terms.specs.declared.predicate.existential.ExistentialPredicate.TheVariants.{Trait, AutoTrait}
+use Rattle.relation_terms.specs.declared.predicate.existential.ExistentialPredicate.TheVariants.{
+  Projection as ProjectionPredicate,
+}
 use Rattle.relation_terms.specs.declared.terms.ty_kind.TyKind.TheVariants.{FnPtr, UnsafeBinder, Dynamic}
 use Rattle.relation_terms.specs.declared.terms.binder.Binder.{Binder}
 use Rattle.relation_terms.proofs.Binders.{under_stays, front_known}

@@ -1,11 +1,13 @@
 -- What making and reading keys promise, sort by sort.
 use Rattle.std.specs.Prelude.{◌≡◌, ◌↔◌, Bool, IsTrue, IsOk, IfOk, Result, List, [], ℕ, Option, Some, IsSome, MatchOption}
 use Rattle.relation_terms.specs.Trees.{Tree, node, nil, known, list_tree, Fits, IsTerm, AreTerms, IsBinder}
-use Rattle.relation_terms.specs.Heads.{Sort, clause_sort, environment, BoundKind, row, binder_of}
+use Rattle.relation_terms.specs.Heads.{Sort, type_sort, region_sort, const_sort, value_sort, argument_sort, pattern_sort}
+use Rattle.relation_terms.specs.Heads.{existential_sort, predicate_sort, clause_sort, environment_sort, environment}
+use Rattle.relation_terms.specs.Heads.{BoundKind, row, binder_of}
 use Rattle.relation_terms.specs.Meaning.{Meaning, kind_tree, region_tree, const_tree, valtree_tree, arg_tree}
 use Rattle.relation_terms.specs.Meaning.{pattern_tree, object_predicate_tree, bound_kinds}
 use Rattle.relation_terms.specs.Predicates.{predicate_tree, clause_tree}
-use Rattle.relation_terms.specs.declared.predicate.ExistentialPredicate.{ExistentialPredicate}
+use Rattle.relation_terms.specs.declared.predicate.existential.ExistentialPredicate.{ExistentialPredicate}
 use Rattle.relation_terms.specs.declared.predicate.kinds.ClauseKind.{ClauseKind}
 use Rattle.relation_terms.specs.declared.predicate.kinds.PredicateKind.{PredicateKind}
 use Rattle.relation_terms.specs.declared.terms.binder.Binder.{Binder}
@@ -56,6 +58,23 @@ IsBinderOf {K} tree sort = (k : K) → IsTrue (known (tree k)) → IsBinder sort
 -- The list of a known key is one of binders over terms of a sort.
 abbrev pub AreBindersOf : {K : Type 0} → (K → Tree) → Sort → Type 0
 AreBindersOf {K} tree sort = (k : K) → IsTrue (known (tree k)) → Fits (row [] (Some (binder_of sort))) (tree k)
+
+-- The tree of each known key is a term of its sort, or a list of such terms, or a binder over one.
+pub record Sorted {Key Id Name : Type 0} (m : Meaning Key Id Name) : Type 0 where
+  pub ty : IsOfSort m.ty type_sort
+  pub region : IsOfSort m.region region_sort
+  pub tys : AreOfSort m.tys type_sort
+  pub const_ : IsOfSort m.const_ const_sort
+  pub valtree : IsOfSort m.valtree value_sort
+  pub args : AreOfSort m.args argument_sort
+  pub branches : AreOfSort m.branches const_sort
+  pub pat : IsOfSort m.pat pattern_sort
+  pub alternatives : AreOfSort m.alternatives pattern_sort
+  pub existential_predicates : AreBindersOf m.existential_predicates existential_sort
+  pub predicate : IsBinderOf m.predicate predicate_sort
+  pub clause : IsBinderOf m.clause clause_sort
+  pub clauses : AreBindersOf m.clauses clause_sort
+  pub param_env : IsOfSort m.param_env environment_sort
 
 -- Ids and names are equal exactly where their numbers are.
 abbrev pub AreEqualAsNumbers : {N : Type 0} → (N → ℕ) → (N → N → Bool) → Type 0

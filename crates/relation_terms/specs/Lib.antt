@@ -1,6 +1,5 @@
 pub mod Heads
 pub mod Trees
-pub mod Variances
 pub mod Tables
 pub mod Meaning
 pub mod Predicates
@@ -12,3 +11,10 @@ pub mod Fields
 pub mod Orders
 pub mod Flags
 pub mod Closures
+pub mod Owned
+pub mod Edits
+pub mod Regions
+pub mod Conversions
+pub mod Aliases
+pub mod Objects
+pub mod Equality

@@ -14,7 +14,7 @@ use Rattle.relation_terms.specs.Heads.{existential_projection, existential_auto}
 use Rattle.relation_terms.specs.Heads.{variable, bound, placeholder, atom, unknown}
 use Rattle.relation_terms.specs.Trees.{Tree, leaf, node, bind, nil, cons, known, list_tree, front, last}
 use Rattle.relation_terms.specs.Tables.{Tables}
-use Rattle.relation_terms.specs.declared.terms.enums.Variance.{Variance}
+use Rattle.term_enums.specs.declared.Variance.{Variance}
 use Rattle.relation_terms.specs.declared.terms.keys.TyKey.{TyKey}
 use Rattle.relation_terms.specs.declared.terms.keys.RegionKey.{RegionKey}
 use Rattle.relation_terms.specs.declared.terms.keys.ConstKey.{ConstKey}
@@ -72,10 +72,12 @@ use Rattle.relation_terms.specs.declared.terms.binder.BoundVariableKind.TheVaria
 use Rattle.relation_terms.specs.declared.terms.binder.BoundVariableKind.TheVariants.{Const as ConstVariable}
 use Rattle.relation_terms.specs.declared.terms.fn_sig.FnSig.{FnSig}
 use Rattle.relation_terms.specs.declared.terms.fn_sig.FnSigTys.{FnSigTys}
-use Rattle.relation_terms.specs.declared.terms.fn_sig.FnHeader.{FnHeader}
-use Rattle.relation_terms.specs.declared.predicate.ExistentialPredicate.{ExistentialPredicate}
-use Rattle.relation_terms.specs.declared.predicate.ExistentialPredicate.TheVariants.{Trait, AutoTrait}
-use Rattle.relation_terms.specs.declared.predicate.ExistentialPredicate.TheVariants.{Projection as ProjectionPredicate}
+use Rattle.term_enums.specs.declared.FnHeader.{FnHeader}
+use Rattle.relation_terms.specs.declared.predicate.existential.ExistentialPredicate.{ExistentialPredicate}
+use Rattle.relation_terms.specs.declared.predicate.existential.ExistentialPredicate.TheVariants.{Trait, AutoTrait}
+use Rattle.relation_terms.specs.declared.predicate.existential.ExistentialPredicate.TheVariants.{
+  Projection as ProjectionPredicate,
+}
 use Rattle.relation_terms.specs.declared.terms.generic_arg.TermKind.{TermKind}
 use Rattle.relation_terms.specs.declared.terms.generic_arg.TermKind.TheVariants.{Ty as TyTerm, Const as ConstTerm}
 
@@ -104,7 +106,7 @@ pub record Meaning (Key Id Name : Type 0) : Type 0 where
   pub generics : ℕ → ℕ
   pub variances : ℕ → List Variance
   pub alias_variances : ℕ → Option (List Variance)
-  pub tables : Tables
+  pub tables : Tables Key Id
 
 -- The second has all that the first knows, and by the same trees.
 pub record Extends {Key Id Name : Type 0} (m n : Meaning Key Id Name) : Type 0 where

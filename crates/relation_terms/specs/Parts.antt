@@ -23,8 +23,9 @@ use Rattle.relation_terms.specs.declared.terms.generic_arg.TermKind.{TermKind}
 use Rattle.relation_terms.specs.declared.terms.generic_arg.TermKind.TheVariants.{Ty as TyTerm, Const as ConstTerm}
 use Rattle.relation_terms.specs.declared.terms.binder.Binder.{Binder as BinderOf}
 use Rattle.relation_terms.specs.declared.terms.fn_sig.FnSig.{FnSig}
-use Rattle.relation_terms.specs.declared.predicate.ExistentialPredicate.{ExistentialPredicate}
-use Rattle.relation_terms.specs.declared.predicate.ExistentialPredicate.TheVariants.{Trait, Projection, AutoTrait}
+use Rattle.relation_terms.specs.declared.predicate.existential.ExistentialPredicate.{ExistentialPredicate}
+use Rattle.relation_terms.specs.declared.predicate.existential.ExistentialPredicate.TheVariants.{Trait, AutoTrait}
+use Rattle.relation_terms.specs.declared.predicate.existential.ExistentialPredicate.TheVariants.{Projection}
 use Rattle.relation_terms.specs.declared.terms.keys.TyKey.{TyKey}
 use Rattle.relation_terms.specs.declared.terms.keys.RegionKey.{RegionKey}
 use Rattle.relation_terms.specs.declared.terms.keys.ConstKey.{ConstKey}

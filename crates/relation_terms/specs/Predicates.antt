@@ -7,7 +7,7 @@ use Rattle.relation_terms.specs.Heads.{type_outlives, projection, const_has_type
 use Rattle.relation_terms.specs.Heads.{coerce, normalizes_to, alias_relate, unstable_feature, ambiguous, atom}
 use Rattle.relation_terms.specs.Trees.{Tree, leaf, node, nil, cons}
 use Rattle.relation_terms.specs.Meaning.{Meaning, term_tree, under}
-use Rattle.relation_terms.specs.declared.terms.enums.Variance.{Variance}
+use Rattle.term_enums.specs.declared.Variance.{Variance}
 use Rattle.relation_terms.specs.declared.terms.binder.Binder.{Binder}
 use Rattle.relation_terms.specs.declared.predicate.alias_term.AliasTermKind.{AliasTermKind as TermKindOf}
 use Rattle.relation_terms.specs.declared.predicate.alias_term.AliasTermKind.TheVariants.{ProjectionTy, InherentTy}

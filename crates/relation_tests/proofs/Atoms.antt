@@ -1,17 +1,12 @@
--- Terms without parts stand in each context, and so do slices of its variables.
+-- Slices of a context's variables stand in it.
 use Rattle.std.proofs.Common.{◌≡◌, ℕ, ap, ◌∙◌, sym, subst}
-use Rattle.relation_terms.specs.Heads.{type_var, slice, Atom, atom, variable}
+use Rattle.relation_terms.specs.Heads.{type_var, slice, variable}
 use Rattle.relation_terms.specs.Trees.{Tree, leaf, node, cons, nil}
-use Rattle.relation_contexts.specs.Relation.{IsValueAtom}
 use Rattle.relation_contexts.specs.Stores.{Store, IsMade, IsTermIn, InContext}
 use Rattle.relation_contexts.specs.Steps.{MakesVariable}
 use Rattle.relation_reference.proofs.Marking.{made_new}
 
-pub atom_in : (st : Store) (t : Tree) (x : Atom) → IsValueAtom x → t ≡ leaf (atom x) → IsTermIn st t
-unfolding IsTermIn InContext
-atom_in st t x v e = subst (IsTermIn st) (sym e) (v, tt, tt)
-
-pub slice_in : (st : Store) (t : Tree) (n : ℕ) → IsMade st type_var n → t ≡ node slice (cons (leaf (variable type_var n)) nil) →
+slice_in : (st : Store) (t : Tree) (n : ℕ) → IsMade st type_var n → t ≡ node slice (cons (leaf (variable type_var n)) nil) →
     IsTermIn st t
 unfolding IsTermIn InContext
 slice_in st t n made e = subst (IsTermIn st) (sym e) ((made, tt), (tt, tt), (tt, tt))

@@ -1,15 +1,13 @@
 -- Terms that stand in each context.
-use Rattle.std.proofs.Common.{◌≡◌, ℕ, suc, cond, IsTrue, false, List, [], sym, ap, subst}
+use Rattle.std.proofs.Common.{◌≡◌, ℕ, suc, cond, IsTrue, false, List, [], sym, subst}
 use Rattle.std.proofs.Common.{Option, Some, Result, Ok, Err, IfOk}
-use Rattle.relation_terms.specs.declared.terms.enums.Variance.{Variance}
+use Rattle.term_enums.specs.declared.Variance.{Variance}
 use Rattle.relation_terms.specs.declared.terms.keys.TyKey.{TyKey}
 use Rattle.relation_terms.specs.declared.terms.keys.RegionKey.{RegionKey}
 use Rattle.relation_terms.specs.declared.terms.keys.ArgsKey.{ArgsKey}
-use Rattle.relation_terms.specs.declared.terms.keys.ConstKey.{ConstKey}
-use Rattle.relation_terms.specs.declared.terms.keys.ParamEnvKey.{ParamEnvKey}
 use Rattle.relation_terms.specs.declared.terms.keys.ExistentialPredicatesKey.{ExistentialPredicatesKey}
 use Rattle.relation_terms.specs.declared.terms.fn_sig.FnSig.{FnSig}
-use Rattle.relation_terms.specs.Heads.{BoundKind, Head, Leaf, Atom, variable, bound, placeholder, atom, unknown}
+use Rattle.relation_terms.specs.Heads.{BoundKind, Leaf, Atom, variable, bound, placeholder, atom, unknown}
 use Rattle.relation_terms.specs.Trees.{Tree, leaf, node, bind, nil, cons, known, Leaves, front, last}
 use Rattle.relation_terms.specs.Meaning.{Meaning, Extends, signature_tree, under}
 use Rattle.relation_terms.proofs.Stays.{stays_signature}
@@ -18,13 +16,9 @@ use Rattle.relation_contexts.specs.Bound.{AreBoundAs}
 use Rattle.relation_contexts.specs.Stores.{Store, IsTermIn, InContext, IsMadeLeaf, IsNamable}
 use Rattle.relation_contexts.specs.Covered.{IsCovered, IsCoveredAtom}
 use Rattle.relation_terms.specs.Heads.{fresh_type, fresh_int, fresh_float, fresh_const}
-use Rattle.type_relations.specs.Arguments.{related_tree}
 use Rattle.relation_contexts.specs.Lawful.{Asked}
-use Rattle.type_relations.proofs.Relatable.{tree_known}
 use Rattle.relation_tests.specs.Plain.{IsUnbound, plain_store, plain_state, plain_manner}
 use Rattle.relation_tests.specs.Concrete.{IsConcrete}
-use Rattle.relation_contexts.specs.Contexts.{Context}
-use Rattle.type_relations.specs.Solving.{solving_in, solver_manner}
 use Rattle.relation_reference.proofs.Grows.{known_of_term}
 
 -- A covered atom is no stand-in.
@@ -112,18 +106,6 @@ concrete_asked m v a b h k = record {
   right_taken = (concrete_leaves IsUnbound (λ x h. tt) b k, concrete_covered b k);
 }
 
--- Also in a context.
-pub concrete_solved : {Key Id Name : Type 0} (c : Context Key Id Name) (v : Variance) (e : ParamEnvKey Key)
-    (a b : Tree) → IsConcrete a → IsConcrete b → Asked solver_manner (solving_in [] c v e) v a b
-concrete_solved c v e a b h k = record {
-  left_known = concrete_known a h;
-  right_known = concrete_known b k;
-  left_in = concrete_in c.store a h;
-  right_in = concrete_in c.store b k;
-  left_taken = (concrete_leaves (λ l. Unit {0}) (λ x h. tt) a h, concrete_covered a h);
-  right_taken = (concrete_leaves (λ l. Unit {0}) (λ x h. tt) b k, concrete_covered b k);
-}
-
 -- What an equal tree was, this one is.
 pub concrete_as : (t u : Tree) → u ≡ t → IsConcrete t → IsConcrete u
 concrete_as t u e h = subst IsConcrete (sym e) h
@@ -146,16 +128,6 @@ module _ {Key Id Name : Type 0} {m n : Meaning Key Id Name} (e : Extends m n) wh
       IsConcrete (n.existential_predicates k)
   predicates_concrete k h = concrete_as (m.existential_predicates k) (n.existential_predicates k)
       (e.existential_predicates k (concrete_known (m.existential_predicates k) h)) h
-
-  pub const_concrete : (k : ConstKey Key) → IsConcrete (m.const_ k) → IsConcrete (n.const_ k)
-  const_concrete k h = concrete_as (m.const_ k) (n.const_ k) (e.const_ k (concrete_known (m.const_ k) h)) h
-
--- Of whatever keeps its tree while it is known.
-pub related_concrete : {Key Id Name A : Type 0} (m n : Meaning Key Id Name) (over : Option Head)
-    (tree : Meaning Key Id Name → A → Tree) (x : A) → (IsTrue (known (tree m x)) → tree n x ≡ tree m x) →
-    IsConcrete (related_tree over (tree m x)) → IsConcrete (related_tree over (tree n x))
-related_concrete m n over tree x stays h = concrete_as (related_tree over (tree m x)) (related_tree over (tree n x))
-    (ap (related_tree over) (stays (tree_known over (tree m x) (concrete_known (related_tree over (tree m x)) h)))) h
 
 -- The inputs and the output of a signature that returns such a type and takes nothing, a binder of nothing over such a
 -- term, and the list of one.

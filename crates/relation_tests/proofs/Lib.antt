@@ -3,4 +3,3 @@ pub mod Concrete
 pub mod OverItems
 pub mod Atoms
 pub mod Bodies
-pub mod Opening

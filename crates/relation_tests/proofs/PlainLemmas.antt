@@ -3,9 +3,9 @@ use Rattle.std.proofs.Common.{◌≡◌, ◌≢◌, ℕ, ◌≤◌, refl, sym, �
 use Rattle.std.proofs.Common.{Option, Some, IfSome, Result, Ok, Err}
 use Rattle.std.proofs.lemmas.List.{map-append}
 use Rattle.std.proofs.lemmas.List.Elements.{All-nil}
-use Rattle.relation_terms.specs.declared.terms.enums.Variance.{Variance}
+use Rattle.term_enums.specs.declared.Variance.{Variance}
 use Rattle.relation_terms.specs.declared.terms.keys.RegionKey.{RegionKey}
-use Rattle.relation_terms.specs.declared.predicate.RegionConstraint.{RegionConstraint}
+use Rattle.relation_terms.specs.declared.predicate.regions.RegionConstraint.{RegionConstraint}
 use Rattle.relation_terms.specs.Heads.{environment, type_sort, region_sort, region_var, type_var, const_var, variable}
 use Rattle.relation_terms.specs.Heads.{bound}
 use Rattle.relation_terms.specs.Heads.{placeholder, atom, unknown}
@@ -39,7 +39,7 @@ use Rattle.relation_terms.proofs.Stays.{stays_arg}
 use Rattle.relation_terms.specs.Meaning.{Extends}
 use Rattle.relation_contexts.specs.Lawful.{WithMeaning, RegisteredIn}
 use Rattle.relation_contexts.specs.Stores.{Store, IsSound, ConstraintIn, outlives_constraint, equal_constraint}
-use Rattle.relation_terms.specs.declared.predicate.RegionConstraint.TheVariants.{Outlives, Eq}
+use Rattle.relation_terms.specs.declared.predicate.regions.RegionConstraint.TheVariants.{Outlives, Eq}
 use Rattle.std.proofs.Common.{ap, ap₂, ◌∷◌}
 use Rattle.std.proofs.lemmas.List.Elements.{All-head, All-tail}
 

@@ -1,7 +1,7 @@
 -- What a relation of terms without variables records, and how it stands.
 use Rattle.std.specs.Prelude.{true, false, List, [], map}
-use Rattle.relation_terms.specs.declared.terms.enums.Variance.{Variance}
-use Rattle.relation_terms.specs.declared.predicate.RegionConstraint.{RegionConstraint}
+use Rattle.term_enums.specs.declared.Variance.{Variance}
+use Rattle.relation_terms.specs.declared.predicate.regions.RegionConstraint.{RegionConstraint}
 use Rattle.relation_terms.specs.Heads.{environment, Leaf, variable, bound}
 use Rattle.relation_terms.specs.Trees.{leaf, node, nil, Assign}
 use Rattle.relation_terms.specs.Meaning.{Meaning}

@@ -1,21 +1,20 @@
 //! What a context does, call by call, through the trait that it meets.
 ghost use Rattle.std.specs.Prelude.{◌≡◌, [], IfOk};
 ghost use Rattle.relation_terms.specs.Heads.{type_var, int_var, float_var, const_var, region_var};
-ghost use Rattle.relation_terms.specs.Heads.{atom, char_type, const_param, slice};
+ghost use Rattle.relation_terms.specs.Heads.{atom, char_type, slice};
 ghost use Rattle.relation_terms.specs.Trees.{leaf, node, cons, nil};
 ghost use Rattle.relation_terms.specs.Meaning.{region_tree};
 ghost use Rattle.relation_contexts.specs.Contexts.{KnowsTy};
 ghost use Rattle.relation_contexts.specs.ContextCalls.{IsUnresolved, Grows};
 
-use reference_interner::{RefInterner, SymbolId};
+use reference_interner::RefInterner;
 use relation_contexts::infer_ctxt::InferCtxtLike;
 use relation_folds::error::RelateResult;
 use relation_reference::context::RefCtxt;
 use relation_terms::predicate::OutlivesPredicate;
 use relation_terms::terms::{
-    Const, ConstKind, ConstVid, FloatTy, FloatVarValue, FloatVid, IntTy, IntVarValue, IntVid,
-    Interner, Keys, OutOfMemory, ParamConst, Region, RegionKind, RegionVid, Ty, TyKind, TyVid,
-    UniverseIndex, Variance,
+    ConstVid, FloatVid, IntVid, Interner, Keys, OutOfMemory, Region, RegionKind, RegionVid, Ty,
+    TyKind, TyVid, UniverseIndex, Variance,
 };
 use std::test::Fail;
 use type_relations::relate::StructurallyRelateAliases;
@@ -24,7 +23,7 @@ use type_relations::relate::StructurallyRelateAliases;
 const FIRST: Option<UniverseIndex> = Some(UniverseIndex(0));
 
 // A name of a context's interner.
-pub(crate) type NameOf<C> = <<C as InferCtxtLike>::Interner as Keys>::Name;
+type NameOf<C> = <<C as InferCtxtLike>::Interner as Keys>::Name;
 
 // Whether the next solver is on in a context, and three instantiations may be made.
 fn reads_settings<C: InferCtxtLike>(ctx: &C) -> bool {
@@ -48,7 +47,7 @@ fn is_new<I: Interner + Drop>(cx: I) -> Result<bool, OutOfMemory> {
 }
 
 // The type `char`.
-pub(crate) fn make_char<C: InferCtxtLike>(ctx: &mut C) -> Result<Ty<C::Interner>, OutOfMemory>
+fn make_char<C: InferCtxtLike>(ctx: &mut C) -> Result<Ty<C::Interner>, OutOfMemory>
     requires { (C.state ctx.old).lawful }
     ensures grows { Grows (C.state ctx.old) (C.state ctx.new) }
     ensures store { (C.state ctx.new).store ≡ (C.state ctx.old).store }
@@ -58,37 +57,23 @@ pub(crate) fn make_char<C: InferCtxtLike>(ctx: &mut C) -> Result<Ty<C::Interner>
     ctx.cx_mut().mk_ty(TyKind::Char)
 }
 
-// The first parameter for a constant.
-fn make_param<C: InferCtxtLike>(
-    ctx: &mut C,
-    name: NameOf<C>,
-) -> Result<Const<C::Interner>, OutOfMemory>
-    requires { (C.state ctx.old).lawful }
-    ensures grows { Grows (C.state ctx.old) (C.state ctx.new) }
-    ensures store { (C.state ctx.new).store ≡ (C.state ctx.old).store }
-    ensures is { let n = ((C.state ctx.old).meaning).name name in
-        IfOk result (λ k. ((C.state ctx.new).meaning).const_ k ≡ leaf (atom (const_param 0 n))) }
-{
-    ctx.interner_grows();
-    ctx.cx_mut()
-        .mk_const(ConstKind::Param(ParamConst { index: 0, name }))
-}
-
-// Whether a new type variable is its own root, marked as related to no other, of the first universe, and read as
-// itself.
-fn has_new_ty<C: InferCtxtLike>(ctx: &mut C) -> Result<bool, OutOfMemory>
+// Whether a new type variable is of the first universe and read as itself; and whether it has one root with another one
+// as they were marked as related, which is its own root all the same.
+fn has_new_tys<C: InferCtxtLike>(ctx: &mut C) -> Result<bool, OutOfMemory>
     requires lawful { (C.state ctx.old).lawful }
     requires none { ((C.state ctx.old).store).entries type_var ≡ [] }
 {
     let ty = ctx.next_ty_infer()?;
-    let root = ctx.root_ty_var(TyVid(0));
-    let mark = ctx.sub_unification_table_root_var(TyVid(0));
     let universe = ctx.universe_of_ty(TyVid(0));
     let read = ctx.opportunistic_resolve_ty_var(TyVid(0));
-    Ok(root == TyVid(0) && mark == root && universe == FIRST && read == ty)
+    let _ = ctx.next_ty_infer()?;
+    ctx.sub_unify_ty_vids_raw(TyVid(1), TyVid(0));
+    let mark = ctx.sub_unification_table_root_var(TyVid(1));
+    let apart = ctx.root_ty_var(TyVid(1)) == TyVid(1);
+    Ok(universe == FIRST && read == ty && mark == TyVid(0) && apart)
 }
 
-// The same of a constant variable.
+// Whether a new constant variable is its own root, of the first universe, and read as itself.
 fn has_new_const<C: InferCtxtLike>(ctx: &mut C) -> Result<bool, OutOfMemory>
     requires lawful { (C.state ctx.old).lawful }
     requires none { ((C.state ctx.old).store).entries const_var ≡ [] }
@@ -111,112 +96,30 @@ fn has_new_region<C: InferCtxtLike>(ctx: &mut C) -> Result<bool, OutOfMemory>
     Ok(universe == FIRST && read == region)
 }
 
-// Whether new variables of each kind are like that.
+// Whether new variables of these kinds are like that.
 fn has_new_variables<I: Interner + Drop>(cx: I) -> Result<bool, OutOfMemory> {
     let mut ctx = RefCtxt::new(cx, true, 0)?;
-    let ty = has_new_ty(&mut ctx)?;
+    let tys = has_new_tys(&mut ctx)?;
     let mut ctx = RefCtxt::new(ctx.interner, true, 0)?;
     let constant = has_new_const(&mut ctx)?;
     let mut ctx = RefCtxt::new(ctx.interner, true, 0)?;
-    Ok(has_new_region(&mut ctx)? && ty && constant)
+    Ok(has_new_region(&mut ctx)? && tys && constant)
 }
 
-// Whether the second of two type variables is read as the first, once they were made one.
-fn equates_tys<C: InferCtxtLike>(ctx: &mut C) -> Result<bool, OutOfMemory>
-    requires lawful { (C.state ctx.old).lawful }
-    requires none { ((C.state ctx.old).store).entries type_var ≡ [] }
+// What the first integer variable is read as.
+fn reads_int<C: InferCtxtLike>(ctx: &C) -> Ty<C::Interner>
+    requires lawful { (C.state ctx.now).lawful }
+    requires made { IsUnresolved (C.state ctx.now) int_var 0 }
 {
-    let first = ctx.next_ty_infer()?;
-    let _ = ctx.next_ty_infer()?;
-    ctx.equate_ty_vids_raw(TyVid(1), TyVid(0));
-    let read = ctx.opportunistic_resolve_ty_var(TyVid(1));
-    Ok(ctx.root_ty_var(TyVid(1)) == TyVid(0) && read == first)
+    ctx.opportunistic_resolve_int_var(IntVid(0))
 }
 
-// Whether two type variables that were marked as related have one root as such, and are two all the same.
-fn marks_tys<C: InferCtxtLike>(ctx: &mut C) -> Result<bool, OutOfMemory>
-    requires lawful { (C.state ctx.old).lawful }
-    requires none { ((C.state ctx.old).store).entries type_var ≡ [] }
+// The same of the first float variable.
+fn reads_float<C: InferCtxtLike>(ctx: &C) -> Ty<C::Interner>
+    requires lawful { (C.state ctx.now).lawful }
+    requires made { IsUnresolved (C.state ctx.now) float_var 0 }
 {
-    let _ = ctx.next_ty_infer()?;
-    let _ = ctx.next_ty_infer()?;
-    ctx.sub_unify_ty_vids_raw(TyVid(1), TyVid(0));
-    let mark = ctx.sub_unification_table_root_var(TyVid(1));
-    Ok(mark == TyVid(0) && ctx.root_ty_var(TyVid(1)) == TyVid(1))
-}
-
-// The same of two constant variables.
-fn equates_consts<C: InferCtxtLike>(ctx: &mut C) -> Result<bool, OutOfMemory>
-    requires lawful { (C.state ctx.old).lawful }
-    requires none { ((C.state ctx.old).store).entries const_var ≡ [] }
-{
-    let first = ctx.next_const_infer()?;
-    let _ = ctx.next_const_infer()?;
-    ctx.equate_const_vids_raw(ConstVid(1), ConstVid(0));
-    let read = ctx.opportunistic_resolve_ct_var(ConstVid(1));
-    Ok(ctx.root_const_var(ConstVid(1)) == ConstVid(0) && read == first)
-}
-
-// Whether all of that holds in new contexts.
-fn equates<I: Interner + Drop>(cx: I) -> Result<bool, OutOfMemory> {
-    let mut ctx = RefCtxt::new(cx, true, 0)?;
-    let tys = equates_tys(&mut ctx)?;
-    let mut ctx = RefCtxt::new(ctx.interner, true, 0)?;
-    let marks = marks_tys(&mut ctx)?;
-    let mut ctx = RefCtxt::new(ctx.interner, true, 0)?;
-    Ok(equates_consts(&mut ctx)? && tys && marks)
-}
-
-// Whether the second of two integer variables is read as the first, once they were made one.
-fn equates_ints<C: InferCtxtLike>(ctx: &mut C) -> bool
-    requires lawful { (C.state ctx.old).lawful }
-    requires first { IsUnresolved (C.state ctx.old) int_var 0 }
-    requires second { IsUnresolved (C.state ctx.old) int_var 1 }
-{
-    let first = ctx.opportunistic_resolve_int_var(IntVid(0));
-    let apart = ctx.opportunistic_resolve_int_var(IntVid(1)) != first;
-    ctx.equate_int_vids_raw(IntVid(1), IntVid(0));
-    apart && ctx.opportunistic_resolve_int_var(IntVid(1)) == first
-}
-
-// The same of two float variables.
-fn equates_floats<C: InferCtxtLike>(ctx: &mut C) -> bool
-    requires lawful { (C.state ctx.old).lawful }
-    requires first { IsUnresolved (C.state ctx.old) float_var 0 }
-    requires second { IsUnresolved (C.state ctx.old) float_var 1 }
-{
-    let first = ctx.opportunistic_resolve_float_var(FloatVid(0));
-    let apart = ctx.opportunistic_resolve_float_var(FloatVid(1)) != first;
-    ctx.equate_float_vids_raw(FloatVid(1), FloatVid(0));
-    apart && ctx.opportunistic_resolve_float_var(FloatVid(1)) == first
-}
-
-// Whether `char` is read as itself, at the top and at every depth.
-fn resolves_ty<C: InferCtxtLike>(ctx: &mut C) -> Result<bool, OutOfMemory>
-    requires { (C.state ctx.old).lawful }
-{
-    let ty = make_char(ctx)?;
-    let read = ctx.shallow_resolve(&ty);
-    let resolved = ctx.resolve_vars_if_possible(&ty)?;
-    Ok(read == ty && resolved == ty)
-}
-
-// The same of a parameter for a constant.
-fn resolves_const<C: InferCtxtLike>(ctx: &mut C, name: NameOf<C>) -> Result<bool, OutOfMemory>
-    requires { (C.state ctx.old).lawful }
-{
-    let constant = make_param(ctx, name)?;
-    let read = ctx.shallow_resolve_const(&constant);
-    let resolved = ctx.resolve_vars_if_possible(&constant)?;
-    Ok(read == constant && resolved == constant)
-}
-
-// Whether both are, in new contexts.
-fn resolves<I: Interner + Drop>(cx: I, name: I::Name) -> Result<bool, OutOfMemory> {
-    let mut ctx = RefCtxt::new(cx, true, 0)?;
-    let ty = resolves_ty(&mut ctx)?;
-    let mut ctx = RefCtxt::new(ctx.interner, true, 0)?;
-    Ok(resolves_const(&mut ctx, name)? && ty)
+    ctx.opportunistic_resolve_float_var(FloatVid(0))
 }
 
 // The slice of a type.
@@ -249,20 +152,14 @@ fn binds_slice<C: InferCtxtLike>(ctx: &mut C) -> RelateResult<C::Interner, ()>
     Ok(())
 }
 
-// Whether integer variables of a new context are made one.
-fn has_equal_ints<I: Interner + Drop>(cx: I) -> Result<bool, OutOfMemory> {
+// Whether a new integer variable is read as itself, and a float variable is.
+fn has_number_variables<I: Interner + Drop>(cx: I) -> Result<bool, OutOfMemory> {
     let mut ctx = RefCtxt::new(cx, true, 0)?;
-    let _ = ctx.next_int_var()?;
-    let _ = ctx.next_int_var()?;
-    Ok(equates_ints(&mut ctx))
-}
-
-// The same of float variables.
-fn has_equal_floats<I: Interner + Drop>(cx: I) -> Result<bool, OutOfMemory> {
-    let mut ctx = RefCtxt::new(cx, true, 0)?;
-    let _ = ctx.next_float_var()?;
-    let _ = ctx.next_float_var()?;
-    Ok(equates_floats(&mut ctx))
+    let int = ctx.next_int_var()?;
+    let same = reads_int(&ctx) == int;
+    let mut ctx = RefCtxt::new(ctx.interner, true, 0)?;
+    let float = ctx.next_float_var()?;
+    Ok(same && reads_float(&ctx) == float)
 }
 
 // Whether the variable that takes the place of the second type variable is marked as related to it, and to no other, for
@@ -280,7 +177,7 @@ fn marks_the_new_one<I: Interner + Drop>(cx: I) -> RelateResult<I, bool> {
 }
 
 // The region of a form.
-pub(crate) fn make_region<C: InferCtxtLike>(
+fn make_region<C: InferCtxtLike>(
     ctx: &mut C,
     kind: RegionKind<NameOf<C>>,
 ) -> Result<Region<C::Interner>, OutOfMemory>
@@ -323,20 +220,7 @@ fn a_new_context_is_in_the_first_universe(rt: HostRuntime) -> Result<(), Fail> {
 #[test]
 fn a_new_variable_is_its_own_root(rt: HostRuntime) -> Result<(), Fail> {
     assert!(rt; has_new_variables(RefInterner::new(rt.alloc()))?);
-    Ok(())
-}
-
-#[test]
-fn variables_are_made_one(rt: HostRuntime) -> Result<(), Fail> {
-    assert!(rt; equates(RefInterner::new(rt.alloc()))?);
-    assert!(rt; has_equal_ints(RefInterner::new(rt.alloc()))?);
-    assert!(rt; has_equal_floats(RefInterner::new(rt.alloc()))?);
-    Ok(())
-}
-
-#[test]
-fn what_has_no_variable_is_read_as_itself(rt: HostRuntime) -> Result<(), Fail> {
-    assert!(rt; resolves(RefInterner::new(rt.alloc()), SymbolId(0))?);
+    assert!(rt; has_number_variables(RefInterner::new(rt.alloc()))?);
     Ok(())
 }
 

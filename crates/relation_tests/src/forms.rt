@@ -105,6 +105,66 @@ fn make_object<I: Interner>(
     make_predicates(cx, &Binder { value, bound_vars })
 }
 
+// Whether relating two signatures asks just what their outputs do.
+fn signatures_ask<I: Interner + Drop>(mut cx: I, name: &I::Name) -> RelateResult<I, bool> {
+    let two = make_two(&mut cx, name)?;
+    let left = make_signature(&mut cx, &two.left)?;
+    let right = make_signature(&mut cx, &two.right)?;
+    let what = outlives(two.a, two.b);
+    asks(cx, Variance::Covariant, &left, &right, what)
+}
+
+// Whether relating two traits of trait objects asks that what stands in their arguments is one.
+fn traits_ask<I: Interner + Drop>(mut cx: I, id: I::Id, name: &I::Name) -> RelateResult<I, bool> {
+    let lists = make_lists(&mut cx, name)?;
+    let def_id = TraitId(id);
+    let args = lists.left;
+    let left = ExistentialTraitRef { def_id, args };
+    let args = lists.right;
+    let right = ExistentialTraitRef { def_id, args };
+    asks(
+        cx,
+        Variance::Covariant,
+        &left,
+        &right,
+        equal(lists.a, lists.b),
+    )
+}
+
+// Whether relating what an item of a trait is on either side asks that it is one.
+fn projections_ask<I: Interner + Drop>(
+    mut cx: I,
+    id: I::Id,
+    name: &I::Name,
+) -> RelateResult<I, bool> {
+    let two = make_two(&mut cx, name)?;
+    let args = make_no_args(&mut cx)?;
+    let def_id = TraitAssocTermId(id);
+    let term = TermKind::Ty(two.left);
+    let left = ExistentialProjection { def_id, args, term };
+    let term = TermKind::Ty(two.right);
+    let right = ExistentialProjection { def_id, args, term };
+    asks(cx, Variance::Covariant, &left, &right, equal(two.a, two.b))
+}
+
+// Whether relating two lists of predicates of trait objects asks what their predicates do.
+fn predicates_ask<I: Interner + Drop>(
+    mut cx: I,
+    id: I::Id,
+    name: &I::Name,
+) -> RelateResult<I, bool> {
+    let lists = make_lists(&mut cx, name)?;
+    let left = make_object(&mut cx, TraitId(id), lists.left)?;
+    let right = make_object(&mut cx, TraitId(id), lists.right)?;
+    asks(
+        cx,
+        Variance::Covariant,
+        &left,
+        &right,
+        equal(lists.a, lists.b),
+    )
+}
+
 // Whether relating two types under binders asks just this of regions.
 fn asks_under<I: Interner + Drop>(
     cx: I,
@@ -118,75 +178,51 @@ fn asks_under<I: Interner + Drop>(
     asks(cx, Variance::Covariant, a, b, what)
 }
 
-#[test]
-fn signatures_are_related(rt: HostRuntime) -> Result<(), Fail> {
-    let mut cx = RefInterner::new(rt.alloc());
-    let two = make_two(&mut cx, &SymbolId(0))?;
-    let left = make_signature(&mut cx, &two.left)?;
-    let right = make_signature(&mut cx, &two.right)?;
-    let what = outlives(two.a, two.b);
-    let answer = asks(cx, Variance::Covariant, &left, &right, what);
-    assert!(rt; matches!(answer, Ok(true)));
-    Ok(())
-}
-
-#[test]
-fn traits_of_objects_are_related(rt: HostRuntime) -> Result<(), Fail> {
-    let mut cx = RefInterner::new(rt.alloc());
-    let lists = make_lists(&mut cx, &SymbolId(0))?;
-    let left = ExistentialTraitRef {
-        def_id: TraitId(ItemId(0)),
-        args: lists.left,
-    };
-    let right = ExistentialTraitRef {
-        def_id: TraitId(ItemId(0)),
-        args: lists.right,
-    };
-    let what = equal(lists.a, lists.b);
-    let answer = asks(cx, Variance::Covariant, &left, &right, what);
-    assert!(rt; matches!(answer, Ok(true)));
-    Ok(())
-}
-
-#[test]
-fn projections_of_objects_are_related(rt: HostRuntime) -> Result<(), Fail> {
-    let mut cx = RefInterner::new(rt.alloc());
-    let two = make_two(&mut cx, &SymbolId(0))?;
-    let args = make_no_args(&mut cx)?;
-    let def_id = TraitAssocTermId(ItemId(0));
-    let term = TermKind::Ty(two.left);
-    let left = ExistentialProjection { def_id, args, term };
-    let term = TermKind::Ty(two.right);
-    let right = ExistentialProjection { def_id, args, term };
-    let what = equal(two.a, two.b);
-    let answer = asks(cx, Variance::Covariant, &left, &right, what);
-    assert!(rt; matches!(answer, Ok(true)));
-    Ok(())
-}
-
-#[test]
-fn predicates_of_objects_are_related(rt: HostRuntime) -> Result<(), Fail> {
-    let mut cx = RefInterner::new(rt.alloc());
-    let lists = make_lists(&mut cx, &SymbolId(0))?;
-    let left = make_object(&mut cx, TraitId(ItemId(0)), lists.left)?;
-    let right = make_object(&mut cx, TraitId(ItemId(0)), lists.right)?;
-    let what = equal(lists.a, lists.b);
-    let answer = asks(cx, Variance::Covariant, &left, &right, what);
-    assert!(rt; matches!(answer, Ok(true)));
-    Ok(())
-}
-
-#[test]
-fn binders_are_related(rt: HostRuntime) -> Result<(), Fail> {
-    let mut cx = RefInterner::new(rt.alloc());
-    let two = make_two(&mut cx, &SymbolId(0))?;
+// Whether relating two types under binders that bind nothing asks what the types do.
+fn binders_ask<I: Interner + Drop>(mut cx: I, name: &I::Name) -> RelateResult<I, bool> {
+    let two = make_two(&mut cx, name)?;
     let bound_vars = make_no_vars(&mut cx)?;
     let value = two.left;
     let left = Binder { value, bound_vars };
     let value = two.right;
     let right = Binder { value, bound_vars };
-    let what = outlives(two.a, two.b);
-    let answer = asks_under(cx, &left, &right, what);
-    assert!(rt; matches!(answer, Ok(true)));
+    asks_under(cx, &left, &right, outlives(two.a, two.b))
+}
+
+#[test]
+fn signatures_and_binders_are_related(rt: HostRuntime) -> Result<(), Fail> {
+    let name = SymbolId(0);
+    assert!(rt;
+        matches!(
+            signatures_ask(RefInterner::new(rt.alloc()), &name),
+            Ok(true)
+        )
+    );
+    assert!(rt; matches!(binders_ask(RefInterner::new(rt.alloc()), &name), Ok(true)));
+    Ok(())
+}
+
+#[test]
+fn parts_of_trait_objects_are_related(rt: HostRuntime) -> Result<(), Fail> {
+    let id = ItemId(0);
+    let name = SymbolId(0);
+    assert!(rt;
+        matches!(
+            traits_ask(RefInterner::new(rt.alloc()), id, &name),
+            Ok(true)
+        )
+    );
+    assert!(rt;
+        matches!(
+            projections_ask(RefInterner::new(rt.alloc()), id, &name),
+            Ok(true)
+        )
+    );
+    assert!(rt;
+        matches!(
+            predicates_ask(RefInterner::new(rt.alloc()), id, &name),
+            Ok(true)
+        )
+    );
     Ok(())
 }

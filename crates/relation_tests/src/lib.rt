@@ -3,8 +3,6 @@
 #![tactic(auto)]
 
 #[cfg(test)]
-mod binders;
-#[cfg(test)]
 mod contexts;
 #[cfg(test)]
 mod forms;

@@ -2,7 +2,7 @@
 //!
 //! It has no inference context, and so shows that what is asked of a relation can be met without one.
 ghost use Rattle.std.specs.Prelude.{◌≡◌, ◌≢◌, [], All, IfOk, map};
-ghost use Rattle.relation_terms.specs.declared.terms.enums.Variance.TheVariants.{Bivariant};
+ghost use Rattle.term_enums.specs.declared.Variance.TheVariants.{Bivariant};
 ghost use Rattle.relation_terms.specs.Heads.{environment};
 ghost use Rattle.relation_terms.specs.Trees.{node, nil};
 ghost use Rattle.relation_contexts.specs.Relation.{Interpretation, Rel, at};

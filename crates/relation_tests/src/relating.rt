@@ -3,7 +3,7 @@ ghost use Rattle.std.specs.Prelude.{◌≡◌, ◌≢◌, [], IfOk};
 ghost use Rattle.relation_terms.specs.Heads.{adt};
 ghost use Rattle.relation_terms.specs.Trees.{node, nil, cons, count};
 ghost use Rattle.relation_terms.specs.Meaning.{Extends, kind_tree};
-ghost use Rattle.relation_terms.specs.declared.terms.enums.Variance.TheVariants.{Bivariant};
+ghost use Rattle.term_enums.specs.declared.Variance.TheVariants.{Bivariant};
 ghost use Rattle.type_relations.specs.Arguments.{related_tree};
 ghost use Rattle.relation_contexts.specs.Lawful.{Asked};
 ghost use Rattle.relation_tests.specs.Concrete.{IsConcrete};
@@ -16,9 +16,9 @@ use reference_interner::{
 use relation_folds::error::RelateResult;
 use relation_terms::predicate::{OutlivesPredicate, RegionConstraint};
 use relation_terms::terms::{
-    ArgsKey, DefId, EarlyParamRegion, GenericArgKind, GenericArgs, Interner, ItemOf, Mutability,
-    OutOfMemory, Region, RegionKey, RegionKind, TermKind, Ty, TyForm, TyKey, TyKind, UintTy,
-    Variance,
+    ArgsKey, Const, ConstKind, DefId, EarlyParamRegion, GenericArgKind, GenericArgs, Interner,
+    ItemOf, Mutability, OutOfMemory, ParamConst, Region, RegionKey, RegionKind, TermKind, Ty,
+    TyForm, TyKey, TyKind, UintTy, Variance,
 };
 use std::alloc::Global;
 use std::test::Fail;
@@ -234,35 +234,76 @@ pub(super) fn make_lists<I: Interner>(
     })
 }
 
-#[test]
-fn regions_are_related(rt: HostRuntime) -> Result<(), Fail> {
-    let mut cx = RefInterner::new(rt.alloc());
-    let two = make_two(&mut cx, &SymbolId(0))?;
-    let what = outlives(two.a, two.b);
-    let answer = asks(cx, Variance::Covariant, &two.a, &two.b, what);
-    assert!(rt; matches!(answer, Ok(true)));
-    Ok(())
+// Whether relating two regions asks that the left one outlives the right one, covariantly.
+fn regions_ask<I: Interner + Drop>(mut cx: I, name: &I::Name) -> RelateResult<I, bool> {
+    let two = make_two(&mut cx, name)?;
+    asks(
+        cx,
+        Variance::Covariant,
+        &two.a,
+        &two.b,
+        outlives(two.a, two.b),
+    )
 }
 
-#[test]
-fn terms_are_related(rt: HostRuntime) -> Result<(), Fail> {
-    let mut cx = RefInterner::new(rt.alloc());
-    let two = make_two(&mut cx, &SymbolId(0))?;
+// Whether relating them as arguments asks it the other way round, contravariantly.
+fn arguments_ask<I: Interner + Drop>(mut cx: I, name: &I::Name) -> RelateResult<I, bool> {
+    let two = make_two(&mut cx, name)?;
+    let left = GenericArgKind::Lifetime(two.a);
+    let right = GenericArgKind::Lifetime(two.b);
+    asks(
+        cx,
+        Variance::Contravariant,
+        &left,
+        &right,
+        outlives(two.b, two.a),
+    )
+}
+
+// Whether relating two types as terms does.
+fn terms_ask<I: Interner + Drop>(mut cx: I, name: &I::Name) -> RelateResult<I, bool> {
+    let two = make_two(&mut cx, name)?;
     let left = TermKind::Ty(two.left);
     let right = TermKind::Ty(two.right);
-    let what = outlives(two.b, two.a);
-    let answer = asks(cx, Variance::Contravariant, &left, &right, what);
-    assert!(rt; matches!(answer, Ok(true)));
-    Ok(())
+    asks(
+        cx,
+        Variance::Contravariant,
+        &left,
+        &right,
+        outlives(two.b, two.a),
+    )
+}
+
+// The first constant parameter.
+fn make_parameter<I: Interner>(cx: &mut I, name: &I::Name) -> Result<Const<I>, OutOfMemory>
+    ensures { IfOk result (λ k. IsConcrete ((I.meaning cx.new).const_ k)) }
+{
+    let name = *name;
+    cx.mk_const(ConstKind::Param(ParamConst { index: 0, name }))
+}
+
+// Whether relating a constant with itself asks nothing.
+fn constants_ask<I: Interner + Drop>(mut cx: I, name: &I::Name) -> RelateResult<I, bool> {
+    let constant = make_parameter(&mut cx, name)?;
+    let relation = related(cx, Variance::Covariant, &constant, &constant)?;
+    Ok(relation.constraints.is_empty())
+}
+
+// Whether relating two types asks what their regions do.
+fn types_ask<I: Interner + Drop>(mut cx: I, name: &I::Name) -> RelateResult<I, bool> {
+    let two = make_two(&mut cx, name)?;
+    let what = outlives(two.a, two.b);
+    asks_of_types(cx, Variance::Covariant, &two.left, &two.right, what)
 }
 
 #[test]
-fn types_are_related_without_a_context(rt: HostRuntime) -> Result<(), Fail> {
-    let mut cx = RefInterner::new(rt.alloc());
-    let two = make_two(&mut cx, &SymbolId(0))?;
-    let what = outlives(two.a, two.b);
-    let answer = asks_of_types(cx, Variance::Covariant, &two.left, &two.right, what);
-    assert!(rt; matches!(answer, Ok(true)));
+fn each_kind_of_term_is_related(rt: HostRuntime) -> Result<(), Fail> {
+    let name = SymbolId(0);
+    assert!(rt; matches!(regions_ask(RefInterner::new(rt.alloc()), &name), Ok(true)));
+    assert!(rt; matches!(arguments_ask(RefInterner::new(rt.alloc()), &name), Ok(true)));
+    assert!(rt; matches!(terms_ask(RefInterner::new(rt.alloc()), &name), Ok(true)));
+    assert!(rt; matches!(constants_ask(RefInterner::new(rt.alloc()), &name), Ok(true)));
+    assert!(rt; matches!(types_ask(RefInterner::new(rt.alloc()), &name), Ok(true)));
     Ok(())
 }
 

@@ -1,5 +1,5 @@
-//! How variances compose, and what is kept of where a type is invariant.
-use relation_terms::terms::{TyKey, Variance};
+//! What is kept of where a type is invariant.
+use relation_terms::terms::TyKey;
 use std::test::Fail;
 use type_relations::relate::{StructurallyRelateAliases, VarianceDiagInfo};
 
@@ -17,25 +17,5 @@ fn the_outermost_is_kept(rt: HostRuntime) -> Result<(), Fail> {
     assert!(rt; VarianceDiagInfo::None.xform(invariant_in(2)) == invariant_in(2));
     assert!(rt; invariant_in(1).xform(VarianceDiagInfo::default()) == invariant_in(1));
     assert!(rt; StructurallyRelateAliases::Yes != StructurallyRelateAliases::No);
-    Ok(())
-}
-
-// The order in which a row of the table below has its columns.
-const VARIANCES: [Variance; 4] = [
-    Variance::Covariant,
-    Variance::Invariant,
-    Variance::Contravariant,
-    Variance::Bivariant,
-];
-
-#[test]
-fn variances_compose(rt: HostRuntime) -> Result<(), Fail> {
-    for v in &VARIANCES {
-        assert!(rt; Variance::Covariant.xform(*v) == *v);
-        assert!(rt; Variance::Invariant.xform(*v) == Variance::Invariant);
-        assert!(rt; Variance::Bivariant.xform(*v) == Variance::Bivariant);
-        assert!(rt; Variance::Contravariant.xform(Variance::Contravariant.xform(*v)) == *v);
-    }
-    assert!(rt; Variance::Contravariant.xform(Variance::Covariant) == Variance::Contravariant);
     Ok(())
 }

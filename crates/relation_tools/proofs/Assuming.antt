@@ -19,7 +19,7 @@ use Rattle.relation_terms.specs.Meaning.{Meaning, Extends, kind_tree, infer_tree
 use Rattle.relation_terms.specs.Interning.{AreEqualAsTrees}
 use Rattle.relation_terms.specs.Parts.{tree_sort}
 use Rattle.relation_terms.specs.Closures.{is_type_sort}
-use Rattle.relation_terms.specs.declared.predicate.OutlivesPredicate.{OutlivesPredicate}
+use Rattle.relation_terms.specs.declared.predicate.regions.OutlivesPredicate.{OutlivesPredicate}
 use Rattle.relation_terms.specs.declared.terms.generic_arg.GenericArgKind.{GenericArgKind}
 use Rattle.relation_terms.specs.declared.terms.generic_arg.GenericArgKind.TheVariants.{Lifetime, Ty, Const}
 use Rattle.relation_terms.specs.declared.terms.keys.RegionKey.{RegionKey}
@@ -35,7 +35,7 @@ use Rattle.relation_terms.specs.declared.terms.ty_kind.InferTy.TheVariants.{Fres
 use Rattle.relation_terms.specs.declared.terms.ty_kind.TyKind.TheVariants.{Param as TyParam, Alias as TyAlias}
 use Rattle.relation_terms.specs.declared.terms.ty_kind.TyKind.TheVariants.{Placeholder as TyPlaceholder}
 use Rattle.relation_terms.proofs.Members.{region_term, type_term, const_term}
-use Rattle.relation_terms.proofs.Sorted.{Sorted}
+use Rattle.relation_terms.specs.Interning.{Sorted}
 use Rattle.relation_terms.proofs.Stays.{knows_as, stays_arg, knows_arg, knows_region, stays_kind}
 use Rattle.relation_folds.specs.Visits.{bound_var_escapes}
 use Rattle.relation_tools.specs.Components.{Choice, every, takes, behind, choice_of, is_alias, is_component, components}

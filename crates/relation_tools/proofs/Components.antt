@@ -42,7 +42,7 @@ use Rattle.relation_terms.specs.declared.terms.part_kind.Part.{Part}
 use Rattle.relation_terms.specs.declared.terms.part_kind.Part.TheVariants.{Region, Ty, Const, ValTree, Pat as PatPart}
 use Rattle.relation_terms.specs.declared.terms.part_kind.Part.TheVariants.{ValueType, Binder, Signature, Inputs}
 use Rattle.relation_terms.specs.declared.terms.part_kind.Part.TheVariants.{Existential, Object}
-use Rattle.relation_terms.proofs.Sorted.{Sorted}
+use Rattle.relation_terms.specs.Interning.{Sorted}
 use Rattle.relation_terms.proofs.Parts.{sort_known}
 use Rattle.relation_tools.proofs.Meeting.{terms_list}
 use Rattle.relation_folds.proofs.Visiting.{has_sort}

@@ -8,8 +8,8 @@ use Rattle.relation_terms.specs.Heads.{const_param, fresh_type, fresh_int, fresh
 use Rattle.relation_terms.specs.Heads.{Head, alias, unevaluated, expression, tuple, fn_ptr, dynamic, value_branch}
 use Rattle.relation_terms.specs.Heads.{signature, inputs, object, existential_trait, Leaf, variable, bound}
 use Rattle.relation_terms.specs.Heads.{placeholder, atom, unknown}
-use Rattle.relation_terms.specs.declared.terms.enums.Safety.{Safety}
-use Rattle.relation_terms.specs.declared.terms.enums.ExternAbi.{ExternAbi}
+use Rattle.term_enums.specs.declared.Safety.{Safety}
+use Rattle.term_enums.specs.declared.ExternAbi.{ExternAbi}
 use Rattle.relation_terms.specs.Trees.{Tree, leaf, node, bind, nil, cons, IsTerm, count}
 use Rattle.relation_terms.specs.Erasure.{erase, erase_leaf, erase_atom}
 use Rattle.relation_terms.specs.Parts.{tree_sort}

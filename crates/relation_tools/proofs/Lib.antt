@@ -22,5 +22,6 @@ pub mod Anonymizing
 mod UsedVars
 mod UsedTrees
 mod UsedParts
-mod Renaming
-mod Assuming
+pub mod Renaming
+pub mod Assuming
+mod Within

@@ -17,13 +17,14 @@ use Rattle.relation_terms.specs.declared.terms.keys.TyKey.{TyKey}
 use Rattle.relation_terms.specs.declared.terms.keys.ConstKey.{ConstKey}
 use Rattle.relation_terms.specs.declared.terms.keys.ValTreeKey.{ValTreeKey}
 use Rattle.relation_terms.specs.declared.terms.keys.PatKey.{PatKey}
-use Rattle.relation_terms.specs.declared.predicate.ExistentialPredicate.TheVariants.{Trait, Projection, AutoTrait}
+use Rattle.relation_terms.specs.declared.predicate.existential.ExistentialPredicate.TheVariants.{Trait, AutoTrait}
+use Rattle.relation_terms.specs.declared.predicate.existential.ExistentialPredicate.TheVariants.{Projection}
 use Rattle.relation_terms.specs.declared.terms.part_kind.Part.{Part}
 use Rattle.relation_terms.specs.declared.terms.part_kind.Part.TheVariants.{Region, Ty, Const, ValTree, Pat, ValueType}
 use Rattle.relation_terms.specs.declared.terms.part_kind.Part.TheVariants.{Binder, Signature, Inputs, Existential}
 use Rattle.relation_terms.specs.declared.terms.part_kind.Part.TheVariants.{Object}
-use Rattle.relation_terms.proofs.Sorted.{Sorted}
-use Rattle.relation_terms.proofs.Parts.{sort_known}
+use Rattle.relation_terms.specs.Interning.{Sorted}
+use Rattle.relation_terms.proofs.Parts.{sort_known, known_parts}
 use Rattle.relation_folds.specs.Visits.{is_visited, visited_sort}
 use Rattle.relation_tools.specs.Places.{places, places_under, is_passed_over, goes_back, all_known, Pushes}
 use Rattle.relation_folds.proofs.Visiting.{rest, rest_next, rest_end, visited_as}
@@ -204,13 +205,6 @@ places_known true (cons t ts) k =
 places_known false (cons t ts) k =
     let p = and_parts (known t) (known ts) k in
     all_known_both (places false t) (places false ts) (places_known false t p.0) (places_known false ts p.1)
-
-known_parts : (t : Tree) → IsTrue (known t) → IsTrue (known (parts_of t))
-known_parts (leaf l) k = refl
-known_parts (node h ts) k = k
-known_parts (bind ks t) k = both_true k refl
-known_parts nil k = refl
-known_parts (cons t ts) k = refl
 
 pub under_known : (t : Tree) → IsTrue (known t) → IsTrue (all_known (places_under t))
 under_known t k = places_known false (parts_of t) (known_parts t k)

@@ -1,5 +1,5 @@
 -- What a walk yields, call by call, is what the places of its tree say.
-use Rattle.std.proofs.Common.{◌≡◌, ◌↔◌, ◌≤◌, ◌+◌, ℕ, suc, Bool, true, false, cond, ◌&&◌, ◌||◌, IsTrue, refl, sym}
+use Rattle.std.proofs.Common.{◌≡◌, ◌≤◌, ◌+◌, ℕ, suc, Bool, true, false, cond, ◌&&◌, ◌||◌, IsTrue, refl, sym}
 use Rattle.std.proofs.Common.{ap, ap₂, ◌∙◌, subst, arith, List, [], ◌∷◌, ◌++◌, map, length, Option, Some, None, append-nil}
 use Rattle.std.specs.Cmp.Derive.{both_true}
 use Rattle.std.specs.List.{list_any, sum_by}
@@ -9,7 +9,9 @@ use Rattle.std.proofs.lemmas.List.Folds.{list_any-append}
 use Rattle.std.proofs.lemmas.List.Sums.{sum_by-cons, sum_by-append}
 use Rattle.relation_terms.specs.Heads.{leaf_sort, head_sort, Head, Leaf}
 use Rattle.relation_terms.specs.Trees.{Tree, leaf, node, bind, nil, cons, known, size}
+use Rattle.relation_terms.specs.Equality.{same_tree}
 use Rattle.relation_terms.specs.Meaning.{Meaning, arg_tree}
+use Rattle.relation_terms.proofs.Equality.{same_decides}
 use Rattle.relation_terms.specs.declared.terms.generic_arg.GenericArgKind.{GenericArgKind}
 use Rattle.relation_folds.specs.Visits.{is_visited, visited_sort}
 use Rattle.relation_tools.specs.Places.{places, places_under, is_passed_over, goes_back, all_known}
@@ -96,53 +98,53 @@ cond_same : (p : Bool) (a : List Tree) → a ≡ cond p a a
 cond_same true a = refl
 cond_same false a = refl
 
-module _ (same : Tree → Tree → Bool) (skips : ℕ → Bool) where
+module _ (skips : ℕ → Bool) where
   -- Trees gone over one after another.
   abbrev over_all : List Tree → List Tree → List Tree
   over_all ys [] = ys
-  over_all ys (t ∷ ts) = over_all (yields same skips false ys t) ts
+  over_all ys (t ∷ ts) = over_all (yields skips false ys t) ts
 
   over_both : (ys xs zs : List Tree) → over_all ys (xs ++ zs) ≡ over_all (over_all ys xs) zs
   over_both ys [] zs = refl
-  over_both ys (x ∷ xs) zs = over_both (yields same skips false ys x) xs zs
+  over_both ys (x ∷ xs) zs = over_both (yields skips false ys x) xs zs
 
   over_if : (p : Bool) (ys ps a : List Tree) → a ≡ over_all ys ps → cond p ys a ≡ over_all ys (cond p [] ps)
   over_if true ys ps a e = refl
   over_if false ys ps a e = e
 
   over_leaf : (b v : Bool) (ys : List Tree) (l : Leaf) → visited_sort (leaf_sort l) ≡ v →
-      yields same skips b ys (leaf l) ≡ over_all ys (places b (leaf l))
+      yields skips b ys (leaf l) ≡ over_all ys (places b (leaf l))
   over_leaf b true ys l e = sym (ap (λ v. over_all ys (cond v (leaf l ∷ []) [])) e)
   over_leaf b false ys l e =
-      ap (λ v. cond v (cond (list_any (same (leaf l)) ys) ys (ys ++ leaf l ∷ [])) ys) e
+      ap (λ v. cond v (cond (list_any (same_tree (leaf l)) ys) ys (ys ++ leaf l ∷ [])) ys) e
       ∙ sym (ap (λ v. over_all ys (cond v (leaf l ∷ []) [])) e)
 
   over_node : (b v : Bool) (ys : List Tree) (h : Head) (ts : Tree) → visited_sort (head_sort h) ≡ v →
-      yields same skips (goes_back h) ys ts ≡ over_all ys (places (goes_back h) ts) →
-      yields same skips b ys (node h ts) ≡ over_all ys (places b (node h ts))
+      yields skips (goes_back h) ys ts ≡ over_all ys (places (goes_back h) ts) →
+      yields skips b ys (node h ts) ≡ over_all ys (places b (node h ts))
   over_node b true ys h ts e i =
       sym (ap (λ v. over_all ys (cond v (node h ts ∷ [])
       (cond (is_passed_over (head_sort h)) [] (places (goes_back h) ts)))) e)
   over_node b false ys h ts e i =
-      ap (λ v. cond v (cond (list_any (same (node h ts)) ys) ys
-      (cond (skips (length ys)) (ys ++ node h ts ∷ []) (yields same skips false (ys ++ node h ts ∷ []) ts)))
-      (cond (is_passed_over (head_sort h)) ys (yields same skips (goes_back h) ys ts))) e
-      ∙ over_if (is_passed_over (head_sort h)) ys (places (goes_back h) ts) (yields same skips (goes_back h) ys ts) i
+      ap (λ v. cond v (cond (list_any (same_tree (node h ts)) ys) ys
+      (cond (skips (length ys)) (ys ++ node h ts ∷ []) (yields skips false (ys ++ node h ts ∷ []) ts)))
+      (cond (is_passed_over (head_sort h)) ys (yields skips (goes_back h) ys ts))) e
+      ∙ over_if (is_passed_over (head_sort h)) ys (places (goes_back h) ts) (yields skips (goes_back h) ys ts) i
       ∙ sym (ap (λ v. over_all ys (cond v (node h ts ∷ [])
       (cond (is_passed_over (head_sort h)) [] (places (goes_back h) ts)))) e)
 
   -- Going over a tree is going over the arguments in it.
-  goes_over : (b : Bool) (ys : List Tree) (t : Tree) → yields same skips b ys t ≡ over_all ys (places b t)
+  goes_over : (b : Bool) (ys : List Tree) (t : Tree) → yields skips b ys t ≡ over_all ys (places b t)
   goes_over b ys (leaf l) = over_leaf b (visited_sort (leaf_sort l)) ys l refl
   goes_over b ys (node h ts) = over_node b (visited_sort (head_sort h)) ys h ts refl (goes_over (goes_back h) ys ts)
   goes_over b ys (bind ks t) = goes_over false ys t
   goes_over b ys nil = refl
   goes_over true ys (cons t ts) =
-      goes_over false (yields same skips true ys ts) t
+      goes_over false (yields skips true ys ts) t
       ∙ ap (λ zs. over_all zs (places false t)) (goes_over true ys ts)
       ∙ sym (over_both ys (places true ts) (places false t))
   goes_over false ys (cons t ts) =
-      goes_over false (yields same skips false ys t) ts
+      goes_over false (yields skips false ys t) ts
       ∙ ap (λ zs. over_all zs (places false ts)) (goes_over false ys t)
       ∙ sym (over_both ys (places false t) (places false ts))
 
@@ -151,50 +153,50 @@ module _ (same : Tree → Tree → Bool) (skips : ℕ → Bool) where
   entered ys t = cond (skips (length ys)) (ys ++ t ∷ []) (over_all (ys ++ t ∷ []) (places_under t))
 
   one_over : (ys : List Tree) (t : Tree) → is_visited t ≡ true →
-      yields same skips false ys t ≡ cond (list_any (same t) ys) ys (entered ys t)
+      yields skips false ys t ≡ cond (list_any (same_tree t) ys) ys (entered ys t)
   one_over ys (leaf l) e =
-      ap (λ v. cond v (cond (list_any (same (leaf l)) ys) ys (ys ++ leaf l ∷ [])) ys) e
-      ∙ ap (λ z. cond (list_any (same (leaf l)) ys) ys z) (cond_same (skips (length ys)) (ys ++ leaf l ∷ []))
+      ap (λ v. cond v (cond (list_any (same_tree (leaf l)) ys) ys (ys ++ leaf l ∷ [])) ys) e
+      ∙ ap (λ z. cond (list_any (same_tree (leaf l)) ys) ys z) (cond_same (skips (length ys)) (ys ++ leaf l ∷ []))
   one_over ys (node h ts) e =
-      ap (λ v. cond v (cond (list_any (same (node h ts)) ys) ys
-      (cond (skips (length ys)) (ys ++ node h ts ∷ []) (yields same skips false (ys ++ node h ts ∷ []) ts)))
-      (cond (is_passed_over (head_sort h)) ys (yields same skips (goes_back h) ys ts))) e
-      ∙ ap (λ z. cond (list_any (same (node h ts)) ys) ys (cond (skips (length ys)) (ys ++ node h ts ∷ []) z))
+      ap (λ v. cond v (cond (list_any (same_tree (node h ts)) ys) ys
+      (cond (skips (length ys)) (ys ++ node h ts ∷ []) (yields skips false (ys ++ node h ts ∷ []) ts)))
+      (cond (is_passed_over (head_sort h)) ys (yields skips (goes_back h) ys ts))) e
+      ∙ ap (λ z. cond (list_any (same_tree (node h ts)) ys) ys (cond (skips (length ys)) (ys ++ node h ts ∷ []) z))
       (goes_over false (ys ++ node h ts ∷ []) ts)
   one_over ys (bind ks t) e = absurd (cc)
   one_over ys nil e = absurd (cc)
   one_over ys (cons t ts) e = absurd (cc)
 
   -- Nothing that was yielded is lost.
-  yields_behind : (b : Bool) (ys : List Tree) (t : Tree) → Behind ys (yields same skips b ys t)
+  yields_behind : (b : Bool) (ys : List Tree) (t : Tree) → Behind ys (yields skips b ys t)
   yields_behind b ys (leaf l) =
-      behind_if (visited_sort (leaf_sort l)) ys (cond (list_any (same (leaf l)) ys) ys (ys ++ leaf l ∷ [])) ys
-      (behind_if (list_any (same (leaf l)) ys) ys ys (ys ++ leaf l ∷ []) (behind_itself ys) (leaf l ∷ [], refl))
+      behind_if (visited_sort (leaf_sort l)) ys (cond (list_any (same_tree (leaf l)) ys) ys (ys ++ leaf l ∷ [])) ys
+      (behind_if (list_any (same_tree (leaf l)) ys) ys ys (ys ++ leaf l ∷ []) (behind_itself ys) (leaf l ∷ [], refl))
       (behind_itself ys)
   yields_behind b ys (node h ts) =
       let zs = ys ++ node h ts ∷ [] in
-      let us = yields same skips false zs ts in
+      let us = yields skips false zs ts in
       behind_if (visited_sort (head_sort h)) ys
-      (cond (list_any (same (node h ts)) ys) ys (cond (skips (length ys)) zs us))
-      (cond (is_passed_over (head_sort h)) ys (yields same skips (goes_back h) ys ts))
-      (behind_if (list_any (same (node h ts)) ys) ys ys (cond (skips (length ys)) zs us) (behind_itself ys)
+      (cond (list_any (same_tree (node h ts)) ys) ys (cond (skips (length ys)) zs us))
+      (cond (is_passed_over (head_sort h)) ys (yields skips (goes_back h) ys ts))
+      (behind_if (list_any (same_tree (node h ts)) ys) ys ys (cond (skips (length ys)) zs us) (behind_itself ys)
       (behind_if (skips (length ys)) ys zs us (node h ts ∷ [], refl)
       (behind_behind ys zs us (node h ts ∷ [], refl) (yields_behind false zs ts))))
-      (behind_if (is_passed_over (head_sort h)) ys ys (yields same skips (goes_back h) ys ts) (behind_itself ys)
+      (behind_if (is_passed_over (head_sort h)) ys ys (yields skips (goes_back h) ys ts) (behind_itself ys)
       (yields_behind (goes_back h) ys ts))
   yields_behind b ys (bind ks t) = yields_behind false ys t
   yields_behind b ys nil = behind_itself ys
   yields_behind true ys (cons t ts) =
-      let zs = yields same skips true ys ts in
-      behind_behind ys zs (yields same skips false zs t) (yields_behind true ys ts) (yields_behind false zs t)
+      let zs = yields skips true ys ts in
+      behind_behind ys zs (yields skips false zs t) (yields_behind true ys ts) (yields_behind false zs t)
   yields_behind false ys (cons t ts) =
-      let zs = yields same skips false ys t in
-      behind_behind ys zs (yields same skips false zs ts) (yields_behind false ys t) (yields_behind false zs ts)
+      let zs = yields skips false ys t in
+      behind_behind ys zs (yields skips false zs ts) (yields_behind false ys t) (yields_behind false zs ts)
 
   all_behind : (ys ts : List Tree) → Behind ys (over_all ys ts)
   all_behind ys [] = behind_itself ys
   all_behind ys (t ∷ ts) =
-      let zs = yields same skips false ys t in
+      let zs = yields skips false ys t in
       behind_behind ys zs (over_all zs ts) (yields_behind false ys t) (all_behind zs ts)
 
 behind_nothing : (ys a c zs : List Tree) → zs ≡ ys → zs ≡ ys ++ a ++ c → c ≡ []
@@ -237,69 +239,69 @@ back_visited (x ∷ xs) ys k = back_visited xs ys (and_parts (is_visited x) (all
 module _ {Key Id Name : Type 0} (m : Meaning Key Id Name) (eq : GenericArgKind Key → GenericArgKind Key → Bool)
     (equal : (x q : GenericArgKind Key) → IsTrue (known (arg_tree m x)) → IsTrue (known (arg_tree m q)) →
     (IsTrue (eq x q) → arg_tree m x ≡ arg_tree m q) × (arg_tree m x ≡ arg_tree m q → IsTrue (eq x q)))
-    (same : Tree → Tree → Bool) (decides : (a b : Tree) → (IsTrue (same a b) ↔ (a ≡ b))) (skips : ℕ → Bool) where
+    (skips : ℕ → Bool) where
   -- A known argument was visited just where its tree was yielded.
   abbrev Seen : List (GenericArgKind Key) → List Tree → Type 0
   Seen vs ys = (q : GenericArgKind Key) → IsTrue (known (arg_tree m q)) →
-      list_any (eq q) vs ≡ list_any (same (arg_tree m q)) ys
+      list_any (eq q) vs ≡ list_any (same_tree (arg_tree m q)) ys
 
   equal_alike : (x q : GenericArgKind Key) → IsTrue (known (arg_tree m x)) → IsTrue (known (arg_tree m q)) →
-      eq x q ≡ same (arg_tree m q) (arg_tree m x)
+      eq x q ≡ same_tree (arg_tree m q) (arg_tree m x)
   equal_alike x q k h =
       let e = equal x q k h in
-      let d = decides (arg_tree m q) (arg_tree m x) in
-      bool_iff (eq x q) (same (arg_tree m q) (arg_tree m x)) (λ i. d.1 (sym (e.0 i))) (λ i. e.1 (sym (d.0 i)))
+      let d = same_decides (arg_tree m q) (arg_tree m x) in
+      bool_iff (eq x q) (same_tree (arg_tree m q) (arg_tree m x)) (λ i. d.1 (sym (e.0 i))) (λ i. e.1 (sym (d.0 i)))
 
   seen_more : (vs us : List (GenericArgKind Key)) (ys : List Tree) (x : GenericArgKind Key) →
       IsTrue (known (arg_tree m x)) → Seen vs ys → Adds eq vs x us → Seen us (ys ++ arg_tree m x ∷ [])
   seen_more vs us ys x k s a q h =
       let t = arg_tree m q in
       a q ∙ ap₂ (λ b v. cond b true v) (equal_alike x q k h) (s q h)
-      ∙ or_swap (same t (arg_tree m x)) (list_any (same t) ys)
-      ∙ sym (list_any-append (same t) ys (arg_tree m x ∷ []))
+      ∙ or_swap (same_tree t (arg_tree m x)) (list_any (same_tree t) ys)
+      ∙ sym (list_any-append (same_tree t) ys (arg_tree m x ∷ []))
 
   -- What is over all that is to come begins with the argument that comes next.
   next_over : (vs : List (GenericArgKind Key)) (ys : List Tree) → Seen vs ys → (todo : List (GenericArgKind Key)) →
       IsTrue (all_known (map (arg_tree m) todo)) → IsTrue (all_visited (map (arg_tree m) todo)) →
       (x : GenericArgKind Key) (rest : List (GenericArgKind Key)) →
       first_unseen (λ q. list_any (eq q) vs) todo ≡ Some (x, rest) →
-      over_all same skips ys (map (arg_tree m) todo)
-      ≡ over_all same skips (entered same skips ys (arg_tree m x)) (map (arg_tree m) rest)
+      over_all skips ys (map (arg_tree m) todo)
+      ≡ over_all skips (entered skips ys (arg_tree m x)) (map (arg_tree m) rest)
   next_over vs ys s [] k v x rest e = absurd (cc)
   next_over vs ys s (y ∷ todo) k v x rest e =
       let t = arg_tree m y in
       let p = and_parts (known t) (all_known (map (arg_tree m) todo)) k in
       let o = and_parts (is_visited t) (all_visited (map (arg_tree m) todo)) v in
-      let one = one_over same skips ys t o.0 in
+      let one = one_over skips ys t o.0 in
       at_head y todo (first_unseen (λ q. list_any (eq q) vs) todo) x rest (list_any (eq y) vs)
-      (over_all same skips ys (map (arg_tree m) (y ∷ todo))
-      ≡ over_all same skips (entered same skips ys (arg_tree m x)) (map (arg_tree m) rest)) e
+      (over_all skips ys (map (arg_tree m) (y ∷ todo))
+      ≡ over_all skips (entered skips ys (arg_tree m x)) (map (arg_tree m) rest)) e
       (λ b h.
-      ap (λ z. over_all same skips z (map (arg_tree m) todo))
-      (one ∙ ap (λ z. cond z ys (entered same skips ys t)) (sym (s y p.0) ∙ b))
+      ap (λ z. over_all skips z (map (arg_tree m) todo))
+      (one ∙ ap (λ z. cond z ys (entered skips ys t)) (sym (s y p.0) ∙ b))
       ∙ next_over vs ys s todo p.1 o.1 x rest h)
       (λ b h i.
-      ap (λ z. over_all same skips z (map (arg_tree m) todo))
-      (one ∙ ap (λ z. cond z ys (entered same skips ys t)) (sym (s y p.0) ∙ b))
-      ∙ ap₂ (λ z zs. over_all same skips (entered same skips ys (arg_tree m z)) (map (arg_tree m) zs)) h i)
+      ap (λ z. over_all skips z (map (arg_tree m) todo))
+      (one ∙ ap (λ z. cond z ys (entered skips ys t)) (sym (s y p.0) ∙ b))
+      ∙ ap₂ (λ z zs. over_all skips (entered skips ys (arg_tree m z)) (map (arg_tree m) zs)) h i)
 
   none_at : (vs : List (GenericArgKind Key)) (ys : List Tree) → Seen vs ys → (y : GenericArgKind Key)
       (todo : List (GenericArgKind Key)) → IsTrue (known (arg_tree m y)) → IsTrue (is_visited (arg_tree m y)) →
       (b : Bool) → list_any (eq y) vs ≡ b →
-      (first_unseen (λ q. list_any (eq q) vs) todo ≡ None → over_all same skips ys (map (arg_tree m) todo) ≡ ys) →
+      (first_unseen (λ q. list_any (eq q) vs) todo ≡ None → over_all skips ys (map (arg_tree m) todo) ≡ ys) →
       cond b (first_unseen (λ q. list_any (eq q) vs) todo) (Some (y, todo)) ≡ None →
-      over_all same skips ys (map (arg_tree m) (y ∷ todo)) ≡ ys
+      over_all skips ys (map (arg_tree m) (y ∷ todo)) ≡ ys
   none_at vs ys s y todo k v true b i e =
-      ap (λ z. over_all same skips z (map (arg_tree m) todo))
-      (one_over same skips ys (arg_tree m y) v
-      ∙ ap (λ z. cond z ys (entered same skips ys (arg_tree m y))) (sym (s y k) ∙ b))
+      ap (λ z. over_all skips z (map (arg_tree m) todo))
+      (one_over skips ys (arg_tree m y) v
+      ∙ ap (λ z. cond z ys (entered skips ys (arg_tree m y))) (sym (s y k) ∙ b))
       ∙ i e
   none_at vs ys s y todo k v false b i e = absurd (cc)
 
   -- At the end nothing is left to go over.
   none_over : (vs : List (GenericArgKind Key)) (ys : List Tree) → Seen vs ys → (todo : List (GenericArgKind Key)) →
       IsTrue (all_known (map (arg_tree m) todo)) → IsTrue (all_visited (map (arg_tree m) todo)) →
-      first_unseen (λ q. list_any (eq q) vs) todo ≡ None → over_all same skips ys (map (arg_tree m) todo) ≡ ys
+      first_unseen (λ q. list_any (eq q) vs) todo ≡ None → over_all skips ys (map (arg_tree m) todo) ≡ ys
   none_over vs ys s [] k v e = refl
   none_over vs ys s (y ∷ todo) k v e =
       let t = arg_tree m y in
@@ -314,7 +316,7 @@ module _ {Key Id Name : Type 0} (m : Meaning Key Id Name) (eq : GenericArgKind K
       known : IsTrue (all_known (map (arg_tree m) (w.inside ++ w.after)))
       visited : IsTrue (all_visited (map (arg_tree m) (w.inside ++ w.after)))
       seen : Seen w.visited ys
-      over : all ≡ over_all same skips (cond b ys (over_all same skips ys (map (arg_tree m) w.inside)))
+      over : all ≡ over_all skips (cond b ys (over_all skips ys (map (arg_tree m) w.inside)))
           (map (arg_tree m) w.after)
 
     -- What comes of calls after these were yielded.
@@ -328,29 +330,29 @@ module _ {Key Id Name : Type 0} (m : Meaning Key Id Name) (eq : GenericArgKind K
 
     -- Where the last is not skipped, what is to come is gone over one after another.
     over_todo : (all : List Tree) (b : Bool) (w : Walk I (GenericArgKind Key)) (ys : List Tree) → b ≡ false →
-        Stands all b w ys → all ≡ over_all same skips ys (map (arg_tree m) (w.inside ++ w.after))
+        Stands all b w ys → all ≡ over_all skips ys (map (arg_tree m) (w.inside ++ w.after))
     over_todo all b w ys e st =
         let ins = map (arg_tree m) w.inside in
         let aft = map (arg_tree m) w.after in
-        st.over ∙ ap (λ z. over_all same skips (cond z ys (over_all same skips ys ins)) aft) e
-        ∙ sym (over_both same skips ys ins aft) ∙ ap (over_all same skips ys) (sym (map-append (arg_tree m) w.inside w.after))
+        st.over ∙ ap (λ z. over_all skips (cond z ys (over_all skips ys ins)) aft) e
+        ∙ sym (over_both skips ys ins aft) ∙ ap (over_all skips ys) (sym (map-append (arg_tree m) w.inside w.after))
 
     goes_none : (all : List Tree) (b : Bool) (w v : Walk I (GenericArgKind Key)) (ys : List Tree) (n : ℕ) →
         Stands all b w ys → v ≡ w → Went all ys n v []
     goes_none all b w v ys n st r =
-        let ins = over_all same skips ys (map (arg_tree m) w.inside) in
+        let ins = over_all skips ys (map (arg_tree m) w.inside) in
         let aft = map (arg_tree m) w.after in
         let z = cond b ys ins in
-        let q = behind_behind ys z (over_all same skips z aft)
-        (behind_if b ys ys ins (behind_itself ys) (all_behind same skips ys (map (arg_tree m) w.inside)))
-        (all_behind same skips z aft) in
+        let q = behind_behind ys z (over_all skips z aft)
+        (behind_if b ys ys ins (behind_itself ys) (all_behind skips ys (map (arg_tree m) w.inside)))
+        (all_behind skips z aft) in
         record {
           rest = q.0;
           first = st.over ∙ q.1 ∙ ap (λ x. x ++ q.0) (sym (append-nil ys));
           ended = λ h. absurd (cc);
           ends = omega arith;
           seen = λ o k. ap (λ x. list_any (eq o) x.visited) r ∙ st.seen o k
-              ∙ ap (λ x. list_any (same (arg_tree m o)) x) (sym (append-nil ys));
+              ∙ ap (λ x. list_any (same_tree (arg_tree m o)) x) (sym (append-nil ys));
         }
 
     stands_skipped : (all : List Tree) (b c : Bool) (w : Walk I (GenericArgKind Key)) (ys : List Tree) → b ≡ true →
@@ -363,8 +365,8 @@ module _ {Key Id Name : Type 0} (m : Meaning Key Id Name) (eq : GenericArgKind K
           visited = back_visited ins aft
               (subst (λ z. IsTrue (all_visited z)) (map-append (arg_tree m) w.inside w.after) st.visited);
           seen = st.seen;
-          over = st.over ∙ ap (λ z. over_all same skips (cond z ys (over_all same skips ys ins)) aft) e
-              ∙ ap (λ z. over_all same skips z aft) (cond_same c ys);
+          over = st.over ∙ ap (λ z. over_all skips (cond z ys (over_all skips ys ins)) aft) e
+              ∙ ap (λ z. over_all skips z aft) (cond_same c ys);
         }
 
     stands_ended : (all : List Tree) (c : Bool) (w : Walk I (GenericArgKind Key)) (ys : List Tree) → all ≡ ys →
@@ -372,7 +374,7 @@ module _ {Key Id Name : Type 0} (m : Meaning Key Id Name) (eq : GenericArgKind K
     stands_ended all c w ys e s = record { known = refl; visited = refl; seen = s; over = e ∙ cond_same c ys }
 
     stands_next : (all ys : List Tree) (w u : Walk I (GenericArgKind Key)) (x : GenericArgKind Key) →
-        all ≡ over_all same skips ys (map (arg_tree m) (w.inside ++ w.after)) →
+        all ≡ over_all skips ys (map (arg_tree m) (w.inside ++ w.after)) →
         IsTrue (all_known (map (arg_tree m) (w.inside ++ w.after))) →
         IsTrue (all_visited (map (arg_tree m) (w.inside ++ w.after))) → Seen w.visited ys →
         IsTrue (known (arg_tree m x)) → next_of m eq w ≡ Some (x, u.after) →
@@ -394,8 +396,8 @@ module _ {Key Id Name : Type 0} (m : Meaning Key Id Name) (eq : GenericArgKind K
               (unseen_visited (arg_tree m) seen todo x u.after n v).1);
           seen = seen_more w.visited u.visited ys x h s a;
           over = e ∙ next_over w.visited ys s todo k v x u.after n
-              ∙ ap (λ z. over_all same skips (cond (skips (length ys)) (ys ++ t ∷ [])
-              (over_all same skips (ys ++ t ∷ []) z)) aft) (sym i);
+              ∙ ap (λ z. over_all skips (cond (skips (length ys)) (ys ++ t ∷ [])
+              (over_all skips (ys ++ t ∷ []) z)) aft) (sym i);
         }
 
     went_next : (all ys : List Tree) (w u v : Walk I (GenericArgKind Key)) (x : GenericArgKind Key)
@@ -421,7 +423,7 @@ module _ {Key Id Name : Type 0} (m : Meaning Key Id Name) (eq : GenericArgKind K
           first = o.first ∙ ap (λ z. z ++ o.rest) (append_assoc ys (t ∷ []) ps);
           ended = o.ended;
           ends = omega (arith, most, sum, is, small, less);
-          seen = λ q k. o.seen q k ∙ ap (λ z. list_any (same (arg_tree m q)) z) (append_assoc ys (t ∷ []) ps);
+          seen = λ q k. o.seen q k ∙ ap (λ z. list_any (same_tree (arg_tree m q)) z) (append_assoc ys (t ∷ []) ps);
         }
 
     went_ended : (all ys : List Tree) (n : ℕ) (u v : Walk I (GenericArgKind Key))
@@ -483,15 +485,15 @@ pub by_places : {I Key Id Name : Type 0} (m : Meaning Key Id Name)
     (IsTrue (eq x q) → arg_tree m x ≡ arg_tree m q) × (arg_tree m x ≡ arg_tree m q → IsTrue (eq x q))) (cx : I)
     (root : GenericArgKind Key) → IsTrue (known (arg_tree m root)) → is_visited (arg_tree m root) ≡ true →
     ByPlaces m eq (begun cx root) (arg_tree m root)
-by_places m eq equal cx root k i same decides skips cs rs v r tl =
+by_places m eq equal cx root k i skips cs rs v r tl =
     let t = arg_tree m root in
-    let all = yields same skips false [] t in
-    let o = goes m eq equal same decides skips all cs rs (next_flag cs) (begun cx root) v [] (is_next cs)
+    let all = yields skips false [] t in
+    let o = goes m eq equal skips all cs rs (next_flag cs) (begun cx root) v [] (is_next cs)
     (record {
       known = both_true k refl;
       visited = both_true i refl;
       seen = λ q h. refl;
-      over = ap (λ z. over_all same skips z (t ∷ [])) (cond_same (next_flag cs) []);
+      over = ap (λ z. over_all skips z (t ∷ [])) (cond_same (next_flag cs) []);
     }) r tl in
     let most = o.ends in
     let sum = sum_by-cons size t [] in

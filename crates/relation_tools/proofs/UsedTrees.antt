@@ -24,7 +24,7 @@ use Rattle.relation_terms.specs.declared.predicate.kinds.PredicateKind.TheVarian
 use Rattle.relation_terms.specs.declared.predicate.kinds.PredicateKind.TheVariants.{NormalizesTo, AliasRelate, Ambiguous}
 use Rattle.relation_terms.proofs.Fields.{predicate_viewed}
 use Rattle.relation_terms.proofs.Parts.{sort_known, known_parts}
-use Rattle.relation_terms.proofs.Sorted.{Sorted}
+use Rattle.relation_terms.specs.Interning.{Sorted}
 use Rattle.relation_folds.specs.Visits.{is_visited}
 use Rattle.relation_folds.specs.Folds.{inside}
 use Rattle.relation_tools.specs.Anonymous.{uses, ordered, here, with_vars}

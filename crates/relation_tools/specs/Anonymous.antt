@@ -1,5 +1,5 @@
 -- Predicates whose outermost binders differ in names, order or unused variables alone, and the one that stands for them.
-use Rattle.std.specs.Prelude.{◌≡◌, ℕ, suc, Bool, false, cond, nat_eq, List, [], ◌∷◌, ◌++◌, map}
+use Rattle.std.specs.Prelude.{◌≡◌, ◌<◌, ℕ, suc, Bool, false, cond, nat_eq, List, [], ◌∷◌, ◌++◌, map}
 use Rattle.std.specs.Prelude.{Option, Some, None, option_map}
 use Rattle.std.proofs.Common.{ap}
 use Rattle.relation_terms.specs.Heads.{Kind, type_kind, region_kind, const_kind, BoundKind, bound_kind, Leaf, bound}
@@ -25,6 +25,15 @@ abbrev pub kind_of : UsedVar → Kind
 kind_of (Ty i) = type_kind
 kind_of (Region i) = region_kind
 kind_of (Const i) = const_kind
+
+abbrev pub place_of : UsedVar → ℕ
+place_of (Ty i) = i
+place_of (Region i) = i
+place_of (Const i) = i
+
+-- A variable stands below a number in the binder's list.
+abbrev pub StandsBelow : ℕ → UsedVar → Type 0
+StandsBelow n u = place_of u < n
 
 -- Variables are one where their kinds and their places are.
 abbrev pub same_var : UsedVar → UsedVar → Bool

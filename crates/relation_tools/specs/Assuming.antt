@@ -1,10 +1,10 @@
 -- What a component gives of an assumption, and how a set of assumptions grows.
-use Rattle.std.specs.Prelude.{IsTrue, cond, List, ◌++◌, map, Option, Some, None}
+use Rattle.std.specs.Prelude.{◌≡◌, IsTrue, cond, List, ◌++◌, map, Option, Some, None}
 use Rattle.std.specs.List.{All}
 use Rattle.std.specs.Option.{option_map}
 use Rattle.relation_terms.specs.Trees.{Tree, known}
 use Rattle.relation_terms.specs.Meaning.{Meaning, arg_tree, kind_tree}
-use Rattle.relation_terms.specs.declared.predicate.OutlivesPredicate.{OutlivesPredicate}
+use Rattle.relation_terms.specs.declared.predicate.regions.OutlivesPredicate.{OutlivesPredicate}
 use Rattle.relation_terms.specs.declared.terms.generic_arg.GenericArgKind.{GenericArgKind}
 use Rattle.relation_terms.specs.declared.terms.ty_kind.TyKind.TheVariants.{Param as TyParam, Alias as TyAlias}
 use Rattle.relation_terms.specs.declared.terms.ty_kind.TyKind.TheVariants.{Placeholder as TyPlaceholder}
@@ -20,7 +20,11 @@ module _ {X D N : Type 0} (m : Meaning X D N) where
   argument_of (Alias a) = Some (kind_tree m (TyAlias a))
   argument_of c = None
 
-  -- The same with the region that it outlives.
+  -- This is that argument, if there is one, in an interner that may have grown.
+  abbrev pub IsArgumentOf : Meaning X D N → Component X D N → Option (GenericArgKind X) → Type 0
+  IsArgumentOf n c arg = option_map (arg_tree n) arg ≡ argument_of c
+
+  -- The tree of that argument, with that of the region that it outlives.
   abbrev pub pair_of : Tree → Component X D N → Option (Tree × Tree)
   pair_of r c = option_map (λ t. (t, r)) (argument_of c)
 

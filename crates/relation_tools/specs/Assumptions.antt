@@ -6,7 +6,7 @@ use Rattle.relation_terms.specs.Trees.{Tree, leaf, known}
 use Rattle.relation_terms.specs.Meaning.{Meaning, arg_tree}
 use Rattle.relation_terms.specs.Parts.{tree_sort}
 use Rattle.relation_terms.specs.Closures.{is_type_sort}
-use Rattle.relation_terms.specs.declared.predicate.OutlivesPredicate.{OutlivesPredicate}
+use Rattle.relation_terms.specs.declared.predicate.regions.OutlivesPredicate.{OutlivesPredicate}
 use Rattle.relation_terms.specs.declared.terms.generic_arg.GenericArgKind.{GenericArgKind}
 use Rattle.relation_folds.specs.Visits.{bound_var_escapes}
 use Rattle.relation_tools.specs.Components.{every, components}

@@ -1,10 +1,11 @@
 -- What a walk over a whole tree yields, by the places of arguments in the tree, and walks by any list of calls.
-use Rattle.std.specs.Prelude.{◌≡◌, ◌↔◌, ◌≤◌, ℕ, suc, Bool, true, false, cond, List, [], ◌∷◌, ◌++◌, map, length}
+use Rattle.std.specs.Prelude.{◌≡◌, ◌≤◌, ℕ, suc, Bool, true, false, cond, List, [], ◌∷◌, ◌++◌, map, length}
 use Rattle.std.specs.Prelude.{Option, Some, None, Ok, IsTrue}
 use Rattle.std.specs.Option.{option_map}
 use Rattle.std.specs.List.{list_any}
 use Rattle.relation_terms.specs.Heads.{leaf_sort, head_sort}
 use Rattle.relation_terms.specs.Trees.{Tree, leaf, node, bind, nil, cons, known, size}
+use Rattle.relation_terms.specs.Equality.{same_tree}
 use Rattle.relation_terms.specs.Meaning.{Meaning, arg_tree}
 use Rattle.relation_terms.specs.declared.terms.generic_arg.GenericArgKind.{GenericArgKind}
 use Rattle.relation_terms.specs.declared.terms.interner.OutOfMemory.{OutOfMemory}
@@ -13,15 +14,15 @@ use Rattle.relation_tools.specs.Places.{is_passed_over, goes_back}
 use Rattle.relation_tools.specs.Stacks.{present}
 use Rattle.relation_tools.specs.Walking.{Walk, Pull}
 
-module _ (same : Tree → Tree → Bool) (skips : ℕ → Bool) where
+module _ (skips : ℕ → Bool) where
   -- What was yielded once a tree has been gone over, `ys` having been yielded before. An argument that is the same as
   -- one of those is left out, and all that stands under it; any other is yielded, and what stands under it is gone over
   -- next, but where it is skipped: `skips` says so, by its number among what is yielded.
   abbrev pub yields : Bool → List Tree → Tree → List Tree
   yields back ys (leaf l) =
-      cond (visited_sort (leaf_sort l)) (cond (list_any (same (leaf l)) ys) ys (ys ++ leaf l ∷ [])) ys
+      cond (visited_sort (leaf_sort l)) (cond (list_any (same_tree (leaf l)) ys) ys (ys ++ leaf l ∷ [])) ys
   yields back ys (node h ts) = cond (visited_sort (head_sort h))
-      (cond (list_any (same (node h ts)) ys) ys
+      (cond (list_any (same_tree (node h ts)) ys) ys
       (cond (skips (length ys)) (ys ++ node h ts ∷ []) (yields false (ys ++ node h ts ∷ []) ts)))
       (cond (is_passed_over (head_sort h)) ys (yields (goes_back h) ys ts))
   yields back ys (bind ks t) = yields false ys t
@@ -66,19 +67,18 @@ module _ {I Key Id Name : Type 0} (m : Meaning Key Id Name) (eq : GenericArgKind
   -- Whatever calls are made on a walk that has this tree to go over: what it has yielded are the first of what the tree's
   -- places say, all of them once it has come to the end, and no more than the tree's size; and that was visited.
   pub record GoesByPlaces (w v : Walk I (GenericArgKind Key)) (t : Tree) (calls : List Call)
-      (answers : List (Option (GenericArgKind Key))) (same : Tree → Tree → Bool) (skips : ℕ → Bool) : Type 0 where
+      (answers : List (Option (GenericArgKind Key))) (skips : ℕ → Bool) : Type 0 where
     pub rest : List Tree
-    pub first : yields same skips false [] t ≡ map (arg_tree m) (present answers) ++ rest
+    pub first : yields skips false [] t ≡ map (arg_tree m) (present answers) ++ rest
     pub all : IsTrue (has_ended answers) → rest ≡ []
     pub ends : length (present answers) ≤ size t
     pub visited : (q : GenericArgKind Key) → IsTrue (known (arg_tree m q)) →
-        list_any (eq q) v.visited ≡ list_any (same (arg_tree m q)) (map (arg_tree m) (present answers))
+        list_any (eq q) v.visited ≡ list_any (same_tree (arg_tree m q)) (map (arg_tree m) (present answers))
 
   abbrev pub ByPlaces : Walk I (GenericArgKind Key) → Tree → Type 0
-  ByPlaces w t = (same : Tree → Tree → Bool) → ((a b : Tree) → (IsTrue (same a b) ↔ (a ≡ b))) →
-      (skips : ℕ → Bool) (calls : List Call) (answers : List (Option (GenericArgKind Key)))
+  ByPlaces w t = (skips : ℕ → Bool) (calls : List Call) (answers : List (Option (GenericArgKind Key)))
       (v : Walk I (GenericArgKind Key)) → Runs w calls answers v → Tells skips 0 calls answers →
-      GoesByPlaces w v t calls answers same skips
+      GoesByPlaces w v t calls answers skips
 
   -- The same of an argument's tree.
   abbrev pub ByPlacesUnder : Walk I (GenericArgKind Key) → GenericArgKind Key → Type 0

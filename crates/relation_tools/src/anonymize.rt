@@ -1,7 +1,8 @@
 //! Predicates whose outermost binders differ in names, order or unused variables alone, made one.
-ghost use Rattle.std.specs.Prelude.{IsTrue, IfOk};
+ghost use Rattle.std.specs.Prelude.{◌↔◌, IsTrue, IfOk};
 ghost use Rattle.relation_terms.specs.Trees.{known};
 ghost use Rattle.relation_terms.specs.Meaning.{Extends};
+ghost use Rattle.relation_terms.specs.Owned.{BindsWithin};
 ghost use Rattle.relation_tools.specs.Anonymous.{IsAnonymized};
 
 mod collecting;
@@ -11,6 +12,7 @@ mod used;
 use collecting::used_vars;
 use relation_terms::terms::{Binder, Interner, OutOfMemory, Predicate, Symbol};
 use renaming::{named_vars, rename_bound_vars};
+use used::stand_below;
 
 /// The predicate with its outermost binder over the variables alone that are used in it, in the order in which a visit
 /// first comes to them, all by the name that is handed in. So there is one value for two predicates exactly where their
@@ -37,4 +39,18 @@ pub fn anonymize_bound_vars<I: Interner>(
     let vars = named_vars(&used, name, cx.alloc())?;
     let bound_vars = cx.mk_bound_vars(&vars)?;
     cx.mk_predicate(Binder { value, bound_vars })
+}
+
+/// Whether all variables that the outermost binder of a predicate binds stand at places of the binder's list. So it is
+/// for every predicate that is written down; a key can mean one in which it isn't. The interner has to know the
+/// predicate.
+///
+/// Answers `OutOfMemory` where a growth was refused.
+pub fn binds_within<I: Interner>(cx: &I, predicate: &Predicate<I>) -> Result<bool, OutOfMemory>
+    requires { IsTrue (known ((I.meaning cx.now).predicate predicate.now)) }
+    ensures within { IfOk result (λ b. IsTrue b ↔ BindsWithin ((I.meaning cx.now).predicate predicate.now)) }
+{
+    let form = cx.predicate_kind(predicate);
+    let used = used_vars(cx, &form.value)?;
+    Ok(stand_below(&used, cx.bound_vars(&form.bound_vars).len()))
 }

@@ -7,6 +7,7 @@ ghost use Rattle.relation_tools.specs.Assumptions.{IsKnown, AreElaborated};
 mod assuming;
 
 use crate::elaborate::assuming::add_assumption;
+pub use crate::elaborate::assuming::assumed_argument;
 use relation_terms::predicate::OutlivesPredicate;
 use relation_terms::terms::{GenericArg, Interner, Keys, OutOfMemory};
 use std::collections::HashSet;

@@ -67,14 +67,13 @@ pub fn push_outlives_components<I: Interner>(
     ensures all { OnOk result (HasAllOf (I.meaning cx.now) ((I.meaning cx.now).ty ty.now) out.new.items) }
 {
     let list = components_of(cx, ty)?;
-    append(cx, list, out)
+    append(list, out)
 }
 
-/// The components of a type, in a list of their own.
-pub(crate) fn components_of<I: Interner>(
-    cx: &I,
-    ty: &Ty<I>,
-) -> Result<Vec<ComponentOf<I>>, OutOfMemory>
+/// The components of a type, in a list of their own: what `push_outlives_components` adds.
+///
+/// The interner has to know the type. Answers `OutOfMemory` where a growth was refused.
+pub fn components_of<I: Interner>(cx: &I, ty: &Ty<I>) -> Result<Vec<ComponentOf<I>>, OutOfMemory>
     requires { IsTrue (known ((I.meaning cx.now).ty ty.now)) }
     ensures some { IfOk result (λ list. AddsFrom (I.meaning cx.now) ((I.meaning cx.now).ty ty.now) [] list.items) }
     ensures all { IfOk result (λ list. HasAllOf (I.meaning cx.now) ((I.meaning cx.now).ty ty.now) list.items) }
@@ -85,18 +84,16 @@ pub(crate) fn components_of<I: Interner>(
     Ok(list)
 }
 
-// Puts the components of a list behind others. A list with a place for four is made only where one is given already:
-// nothing else bounds its size.
-fn append<I: Interner>(
-    cx: &I,
-    list: Vec<ComponentOf<I>>,
-    out: &mut SmallVec<ComponentOf<I>, 4>,
+// Puts the members of a list behind others. It is over any type: over components it would take its check five times as
+// long. A list with a place for four is made only where one is given already: nothing else bounds its size.
+fn append<T: Drop + MadeWith<Global>>(
+    list: Vec<T>,
+    out: &mut SmallVec<T, 4>,
 ) -> Result<(), OutOfMemory>
     ensures ok { OnOk result (out.new.items ≡ out.old.items ++ list.items) }
     ensures err { OnErr result (out.new.items ≡ out.old.items) }
 {
-    let _ = cx;
-    let mut added: SmallVec<ComponentOf<I>, 4> = SmallVec::from_vec(list);
+    let mut added: SmallVec<T, 4> = SmallVec::from_vec(list);
     out.append(&mut added)?;
     Ok(())
 }
@@ -119,5 +116,5 @@ pub fn compute_alias_components_recursive<I: Interner>(
 {
     let mut list = Vec::new(cx.alloc());
     collect_alias_args(cx, alias_ty, &mut list)?;
-    append(cx, list, out)
+    append(list, out)
 }

@@ -7,11 +7,19 @@ mod rows;
 use std::process::ExitCode;
 use std::{env, io};
 
+// The words behind the program's name.
+fn words_of(rt: &HostRuntime) -> io::Result<Vec<String>> {
+    let words = env::args(rt)?.skip(1).collect(rt.alloc())?;
+    Ok(words)
+}
+
 fn main(rt: HostRuntime) -> io::Result<ExitCode> {
-    let words: Vec<String> = env::args(&rt)?.skip(1).collect(rt.alloc())?;
     let mut out = rt.stdout();
     let mut err = rt.stderr();
-    let status = rows::run(rt.alloc(), words.as_slice(), &mut out, &mut err);
+    let status = match words_of(&rt) {
+        Ok(words) => rows::run(rt.alloc(), words.as_slice(), &mut out, &mut err),
+        Err(error) => rows::tell_unbegun(&error, &mut err),
+    };
     Ok(ExitCode::from(status))
 }
 

@@ -1,15 +1,16 @@
 //! The rows, their stored answers, and the program's runs.
-ghost use Rattle.std.specs.Prelude.{◌≡◌, ◌<◌, ◌≤◌, ◌↔◌, IsTrue, IfSome, length, slice_get, string_bytes};
+ghost use Rattle.std.specs.Prelude.{◌≡◌, ◌≢◌, ◌<◌, ◌≤◌, ◌↔◌, IsTrue, IfSome, length, slice_get, string_bytes};
+ghost use Rattle.std.specs.IoError.{error_kind};
 ghost use Rattle.relations.specs.Named.{IsHighRow, IsLowRow, IsMiddleRow, IsRow, IsUpperRow};
 
 use crate::doubling::count_terms_and_nodes;
 use relation_asking::ask_all;
-use relation_text::naming::{NameError, look_up};
-use relation_text::reading::{ReadError, read};
-use relation_text::telling::{Lines, tell_unnamed, tell_unread};
 use std::alloc::Global;
 use std::fmt::Write;
-use std::io;
+use std::io::{self, ErrorKind};
+use text_reading::naming::{NameError, look_up};
+use text_reading::reading::{ReadError, read};
+use text_reading::telling::{Lines, tell_unnamed, tell_unread};
 
 /// A row: its name, the questions that it asks, as text, and the answers that they are to have. One that asks none
 /// counts the terms and the nodes of a type that is doubled 60 times.
@@ -409,7 +410,7 @@ fn is_row(name: &str) -> bool
 }
 
 // Prints the row of a name, or all. The status is 1 if an answer is not the stored one, a row's text is wrong, or a
-// write failed.
+// write failed: then `err` is told why, and no more is written.
 fn print_rows<O: io::Write, E: io::Write>(
     alloc: Global,
     name: Option<&str>,
@@ -424,8 +425,16 @@ fn print_rows<O: io::Write, E: io::Write>(
             None => true,
             Some(name) => row.name == name,
         };
-        if asked && !matches!(print(alloc, row, out, err), Ok(true)) {
-            status = 1;
+        if !asked {
+            continue;
+        }
+        match print(alloc, row, out, err) {
+            Ok(true) => {}
+            Ok(false) => status = 1,
+            Err(error) => {
+                let _ = writeln!(err, "standard output: {error}");
+                return 1;
+            }
         }
     }
     status
@@ -457,4 +466,17 @@ pub fn run<O: io::Write, E: io::Write>(
         return 2;
     }
     print_rows(alloc, Some(name.as_str()), out, err)
+}
+
+/// Tells why the program can't begin, and gives the status: 2 where a word is not UTF-8, 1 where a growth was refused.
+pub fn tell_unbegun<E: io::Write>(error: &io::Error, err: &mut E) -> u8
+    ensures wrong { error_kind error.now ≡ ErrorKind.InvalidData → result ≡ 2 }
+    ensures refused { error_kind error.now ≢ ErrorKind.InvalidData → result ≡ 1 }
+{
+    if error.kind() == ErrorKind::InvalidData {
+        let _ = writeln!(err, "relations: the row's name is not UTF-8");
+        return 2;
+    }
+    let _ = writeln!(err, "relations: {error}");
+    1
 }

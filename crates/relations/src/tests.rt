@@ -139,7 +139,8 @@ fn a_failed_write_is_status_1(rt: HostRuntime) -> Result<(), Fail> {
         };
         let mut err = Vec::new(rt.alloc());
         assert_eq!(rt; run(rt.alloc(), &[], &mut out, &mut err), 1, "at {room}");
-        assert!(rt; err.is_empty());
+        assert_eq!(rt; out.bytes.len(), room);
+        assert!(rt; err.starts_with(b"standard output: "));
     }
     let mut out = Vec::new(rt.alloc());
     let mut err = Full {
@@ -221,11 +222,11 @@ const WRONG: [(&str, &str); 4] = [
     ("u8 == u8", "wrong:1:9: expected `;`, found the end\n"),
     (
         "() ==\n  [T];",
-        "wrong:2:4: expected a name that is known, found `T`\n",
+        "wrong:2:4: `T` is no type yet; `param T;` declares one\n",
     ),
     (
         "u8 == u8; then [u8] == 'a;",
-        "wrong:1:24: expected a name that is known, found `'a`\n",
+        "wrong:1:24: `'a` is no lifetime yet; `param 'a;` declares one\n",
     ),
     ("() == (); #", "wrong:1:11: no word begins here\n"),
 ];

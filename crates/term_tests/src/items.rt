@@ -1,4 +1,5 @@
 //! Items of the reference interner.
+use crate::{alias_terms, objects};
 use reference_interner::{
     DefKind, GenericParam, GenericParamKind, ItemId, ItemKind, RefInterner, SymbolId,
 };
@@ -28,35 +29,20 @@ fn add_struct(cx: &mut RefInterner, alloc: Global) -> Result<ItemId, OutOfMemory
     cx.add_item(ItemKind { def, params }, SymbolId(0), variances)
 }
 
-// An item of a kind, without parameters.
-fn add_plain(cx: &mut RefInterner, alloc: Global, def: DefKind) -> Result<ItemId, OutOfMemory> {
+/// An item of a kind, without parameters.
+pub fn add_plain(cx: &mut RefInterner, alloc: Global, def: DefKind) -> Result<ItemId, OutOfMemory> {
     let params = Vec::new(alloc);
     cx.add_item(ItemKind { def, params }, SymbolId(3), Vec::new(alloc))
 }
 
-// A function without parameters.
-fn add_fn(cx: &mut RefInterner, alloc: Global) -> Result<ItemId, OutOfMemory> {
-    add_plain(cx, alloc, DefKind::Fn)
-}
-
-// Whether each item has an id of its own.
-fn ids_are_apart(cx: &mut RefInterner, alloc: Global) -> Result<bool, OutOfMemory> {
-    let first = add_struct(cx, alloc)?;
-    let again = add_struct(cx, alloc)?;
-    let function = add_fn(cx, alloc)?;
-    let apart = first != again && first != function && again != function;
-    Ok(apart && cx.item_count() == 3)
-}
-
-// Whether variances are those that were added, and what there is not has none.
-fn variances_are_read(cx: &mut RefInterner, alloc: Global) -> Result<bool, OutOfMemory> {
-    let function = DefId(add_fn(cx, alloc)?);
+// Whether parameters and variances are those that were added, and what there is not has none.
+fn generics_are_read(cx: &mut RefInterner, alloc: Global) -> Result<bool, OutOfMemory> {
     let def = DefId(add_struct(cx, alloc)?);
-    let missing = DefId(ItemId(2));
+    let missing = DefId(ItemId(1));
     let added = [Variance::Covariant, Variance::Invariant];
     let read = cx.generics_count(&def) == 2 && cx.variances_of(&def) == added.as_slice();
-    let empty = cx.generics_count(&function) == 0 && cx.generics_count(&missing) == 0;
-    Ok(read && empty && cx.variances_of(&missing).is_empty())
+    let empty = cx.generics_count(&missing) == 0 && cx.generics_of(&missing).is_empty();
+    Ok(read && empty && cx.generics_of(&def).len() == 2 && cx.item_count() == 1)
 }
 
 // Whether it is told which trait declares an item, and which alias that is.
@@ -89,30 +75,30 @@ fn settings_are_told(cx: &mut RefInterner, alloc: Global) -> Result<bool, OutOfM
     Ok(auto && sized && off && cx.next_trait_solver_globally())
 }
 
-#[test]
-fn gives_each_item_an_id_of_its_own(rt: HostRuntime) -> Result<(), Fail> {
-    let mut cx = RefInterner::new(rt.alloc());
-    assert!(rt; ids_are_apart(&mut cx, rt.alloc())?);
-    Ok(())
+// An item that has a type as its one parameter.
+fn add_over_type(cx: &mut RefInterner, alloc: Global, def: DefKind) -> Result<ItemId, OutOfMemory> {
+    let kind = GenericParamKind::Type;
+    let name = SymbolId(0);
+    let mut params = Vec::new(alloc);
+    params.push(GenericParam { kind, name })?;
+    let mut variances = Vec::new(alloc);
+    variances.push(Variance::Invariant)?;
+    cx.add_item(ItemKind { def, params }, name, variances)
+}
+
+// Whether what is said of aliases and of trait objects holds of an item that a trait declares.
+fn aliases_go(cx: &mut RefInterner, alloc: Global) -> Result<bool, OutOfMemory> {
+    let of = TraitId(add_over_type(cx, alloc, DefKind::Trait)?);
+    let item = add_over_type(cx, alloc, DefKind::AssocTy(of))?;
+    Ok(alias_terms::all_go(cx, item)? && objects::all_go(cx, item)?)
 }
 
 #[test]
-fn reads_the_variances_of_what_it_added(rt: HostRuntime) -> Result<(), Fail> {
+fn says_what_was_added_and_set(rt: HostRuntime) -> Result<(), Fail> {
     let mut cx = RefInterner::new(rt.alloc());
-    assert!(rt; variances_are_read(&mut cx, rt.alloc())?);
-    Ok(())
-}
-
-#[test]
-fn says_which_trait_declares_an_item_and_which_alias_it_is(rt: HostRuntime) -> Result<(), Fail> {
-    let mut cx = RefInterner::new(rt.alloc());
+    assert!(rt; generics_are_read(&mut cx, rt.alloc())?);
     assert!(rt; aliases_are_told(&mut cx, rt.alloc())?);
-    Ok(())
-}
-
-#[test]
-fn says_what_is_set_of_a_trait_and_of_the_solver(rt: HostRuntime) -> Result<(), Fail> {
-    let mut cx = RefInterner::new(rt.alloc());
     assert!(rt; settings_are_told(&mut cx, rt.alloc())?);
+    assert!(rt; aliases_go(&mut cx, rt.alloc())?);
     Ok(())
 }

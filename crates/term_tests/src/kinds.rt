@@ -1,10 +1,15 @@
 //! What an argument and a term are, of which item an id is, and what stands with its arguments.
 use reference_interner::{ItemId, NodeKey};
-use relation_terms::predicate::{ExistentialProjection, ExistentialTraitRef};
-use relation_terms::terms::{
-    AdtId, ArgsKey, ClosureId, CoroutineClosureId, CoroutineId, DefId, ForeignId, FunctionId,
-    GenericArgKind, TermKind, TraitAssocTermId, TraitId, TyKey,
+use relation_terms::predicate::{
+    ExistentialProjection, ExistentialTraitRef, OutlivesPredicate, RegionConstraint,
+    RegionEqPredicate,
 };
+use relation_terms::terms::{
+    AdtId, ArgsKey, BoundConstness, ClosureId, CoroutineClosureId, CoroutineId, DefId, ForeignId,
+    FunctionId, GenericArgKind, ImplPolarity, PredicatePolarity, RegionKey, TermKind,
+    TraitAssocTermId, TraitId, TyKey,
+};
+use std::test::Fail;
 
 #[test]
 fn arguments_and_terms_tell_their_kind(rt: HostRuntime) {
@@ -36,4 +41,19 @@ fn what_a_trait_object_implements_is_made_from_its_arguments(rt: HostRuntime) {
     assert!(rt; of_item.def_id == TraitAssocTermId(ItemId(8)));
     assert!(rt; of_item.args == args);
     assert!(rt; of_item.term == term);
+}
+
+#[test]
+fn polarities_and_regions_turn(rt: HostRuntime) -> Result<(), Fail> {
+    assert!(rt; PredicatePolarity::Positive.flip() == PredicatePolarity::Negative);
+    assert!(rt; BoundConstness::Const.satisfies(&BoundConstness::Maybe));
+    let polarity = ImplPolarity::Reservation;
+    let text = format!(in rt.alloc(); "{polarity}")?;
+    assert_eq!(rt; text.as_str(), "reservation");
+    let (a, b) = (RegionKey(1u8), RegionKey(2u8));
+    let equal = RegionEqPredicate(a, b);
+    let outlives = OutlivesPredicate(GenericArgKind::Lifetime(a), b);
+    assert!(rt; equal.into_bidirectional_outlives()[0] == outlives);
+    assert!(rt; RegionConstraint::from(equal) != RegionConstraint::from(outlives));
+    Ok(())
 }

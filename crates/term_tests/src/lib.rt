@@ -3,25 +3,21 @@
 #![tactic(auto)]
 
 #[cfg(test)]
+mod alias_terms;
+#[cfg(test)]
 mod anonymizing;
 #[cfg(test)]
 mod binding;
 #[cfg(test)]
 mod clause_lists;
 #[cfg(test)]
-mod counting;
-#[cfg(test)]
 mod errors;
-#[cfg(test)]
-mod folding;
-#[cfg(test)]
-mod interning;
 #[cfg(test)]
 mod items;
 #[cfg(test)]
 mod kinds;
 #[cfg(test)]
-mod outlives;
+mod objects;
 #[cfg(test)]
 mod predicate_parts;
 #[cfg(test)]
@@ -29,4 +25,6 @@ mod predicates;
 #[cfg(test)]
 mod towers;
 #[cfg(test)]
-mod visiting;
+mod trait_refs;
+#[cfg(test)]
+mod walking;

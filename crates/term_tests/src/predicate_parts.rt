@@ -4,9 +4,10 @@ ghost use Rattle.relation_terms.specs.Trees.{known};
 ghost use Rattle.relation_terms.specs.Meaning.{Extends};
 ghost use Rattle.relation_terms.specs.Predicates.{clause_kind_tree, predicate_kind_tree};
 
+use crate::walking::{digits, goes};
 use reference_interner::{ItemId, RefInterner, SymbolId};
 use relation_folds::fold::{TypeFoldable, shift_vars};
-use relation_folds::visit::{TypeVisitable, TypeVisitor, Visit};
+use relation_folds::visit::TypeVisitable;
 use relation_terms::predicate::{
     AliasTerm, AliasTermKind, ClauseKind, CoercePredicate, HostEffectPredicate, NormalizesTo,
     OutlivesPredicate, PredicateKind, ProjectionPredicate, SubtypePredicate, TraitPredicate,
@@ -14,54 +15,11 @@ use relation_terms::predicate::{
 };
 use relation_terms::terms::{
     AliasRelationDirection, ArgsKey, Binder, BoundConst, BoundConstness, BoundRegion, BoundTy,
-    BoundVar, Clause, Const, ConstKey, ConstKind, DebruijnIndex, GenericArgKind, Interner,
-    OutOfMemory, Predicate, PredicatePolarity, Region, RegionKey, RegionKind, TermKind,
-    TraitAssocTyId, TraitId, Ty, TyKey, TyKind,
+    BoundVar, Clause, ConstKey, ConstKind, DebruijnIndex, GenericArgKind, Interner, OutOfMemory,
+    Predicate, PredicatePolarity, RegionKey, RegionKind, TermKind, TraitAssocTyId, TraitId, TyKey,
+    TyKind,
 };
 use std::test::Fail;
-
-// Writes a digit for each term that it is asked about: 1 for a type, 2 for a region and 3 for a constant, and 4 more
-// under a binder.
-#[derive(Clone, Copy)]
-struct Traces {
-    digits: u64,
-}
-
-impl Traces {
-    fn write(&mut self, digit: u64, depth: u128) -> Visit {
-        let written = if depth == 0 {
-            digit
-        } else {
-            digit.wrapping_add(4)
-        };
-        self.digits = self.digits.wrapping_mul(10).wrapping_add(written);
-        Visit::Enter
-    }
-}
-
-impl<I: Interner> TypeVisitor<I> for Traces {
-    ghost visits = { λ cx v d t w a. Unit {0} };
-
-    fn visit_ty(&mut self, _cx: &I, _ty: &Ty<I>, depth: u128) -> Visit {
-        self.write(1, depth)
-    }
-
-    fn visit_region(&mut self, _cx: &I, _region: &Region<I>, depth: u128) -> Visit {
-        self.write(2, depth)
-    }
-
-    fn visit_const(&mut self, _cx: &I, _constant: &Const<I>, depth: u128) -> Visit {
-        self.write(3, depth)
-    }
-}
-
-fn digits<I: Interner, T: TypeVisitable<I>>(cx: &I, term: &T) -> u64
-    requires { IsTrue (known (T.tree (I.meaning cx.now) term.now)) }
-{
-    let mut traces = Traces { digits: 0 };
-    let _ = term.visit_with(cx, &mut traces);
-    traces.digits
-}
 
 // Variables that a binder so many steps up binds: a type, a region, a constant, and a list of these in another order.
 #[derive(Clone, Copy)]
@@ -253,7 +211,7 @@ fn make_predicate<I: Interner>(
 }
 
 // Whether a visit writes these digits, and the term moved under one more binder is another.
-pub fn is_visited_and_moved<I: Interner, T: TypeVisitable<I> + TypeFoldable<I> + Drop>(
+fn is_visited_and_moved<I: Interner, T: TypeVisitable<I> + TypeFoldable<I> + Drop>(
     cx: &mut I,
     term: &T,
     written: u64,
@@ -265,22 +223,7 @@ pub fn is_visited_and_moved<I: Interner, T: TypeVisitable<I> + TypeFoldable<I> +
     Ok(seen && shift_vars(cx, term, 1)? == *moved)
 }
 
-// Whether the clause without a binder is visited and moved.
-fn clause_kind_goes<I: Interner>(
-    cx: &mut I,
-    def: I::Id,
-    name: I::Name,
-    form: Form,
-    written: u64,
-) -> Result<bool, OutOfMemory> {
-    let far = make_parts(cx, 1, def, name)?;
-    let moved = clause(cx, &far, form);
-    let near = make_parts(cx, 0, def, name)?;
-    let kind = clause(cx, &near, form);
-    is_visited_and_moved(cx, &kind, written, &moved)
-}
-
-// Whether the clause is: what its own binder binds stays.
+// Whether the clause is visited and moved.
 fn clause_goes<I: Interner>(
     cx: &mut I,
     def: I::Id,
@@ -290,130 +233,27 @@ fn clause_goes<I: Interner>(
 ) -> Result<bool, OutOfMemory> {
     let moved = make_clause(cx, 2, def, name, form)?;
     let clause = make_clause(cx, 1, def, name, form)?;
-    if !is_visited_and_moved(cx, &clause, written, &moved)? {
-        return Ok(false);
-    }
-    let bound = make_clause(cx, 0, def, name, form)?;
-    is_visited_and_moved(cx, &bound, written, &bound)
+    is_visited_and_moved(cx, &clause, written, &moved)
 }
 
-// Whether the clause as a predicate is.
-fn clause_as_predicate_goes<I: Interner>(
-    cx: &mut I,
-    def: I::Id,
-    name: I::Name,
-    form: Form,
-    written: u64,
-) -> Result<bool, OutOfMemory> {
-    let moved = make_clause(cx, 2, def, name, form)?;
-    let moved = cx.clause_as_predicate(&moved);
-    let clause = make_clause(cx, 1, def, name, form)?;
-    let predicate = cx.clause_as_predicate(&clause);
-    is_visited_and_moved(cx, &predicate, written, &moved)
-}
-
-// Whether clauses of each form are, with what is written of them without and under a binder.
+// Whether clauses of each form are, with what is written of them.
 fn clauses_go<I: Interner>(cx: &mut I, def: I::Id, name: I::Name) -> Result<bool, OutOfMemory> {
     let forms = [
-        (Form::Trait, 213, 657),
-        (Form::RegionOutlives, 22, 66),
-        (Form::TypeOutlives, 12, 56),
-        (Form::Projection, 2133, 6577),
-        (Form::ConstArgHasType, 31, 75),
-        (Form::WellFormed, 3, 7),
-        (Form::ConstEvaluatable, 3, 7),
-        (Form::HostEffect, 213, 657),
-        (Form::UnstableFeature, 0, 0),
+        (Form::Trait, 657),
+        (Form::RegionOutlives, 66),
+        (Form::TypeOutlives, 56),
+        (Form::Projection, 6577),
+        (Form::ConstArgHasType, 75),
+        (Form::WellFormed, 7),
+        (Form::ConstEvaluatable, 7),
+        (Form::HostEffect, 657),
+        (Form::UnstableFeature, 0),
     ];
     let mut fine = true;
-    for (form, written, under) in forms {
-        fine &= clause_kind_goes(cx, def, name, form, written)?;
-        fine &= clause_goes(cx, def, name, form, under)?;
-        fine &= clause_as_predicate_goes(cx, def, name, form, under)?;
+    for (form, written) in forms {
+        fine &= clause_goes(cx, def, name, form, written)?;
     }
     Ok(fine)
-}
-
-// Whether what stands in a clause is visited and moved by itself.
-fn clause_body_goes<I: Interner>(
-    cx: &mut I,
-    def: I::Id,
-    name: I::Name,
-    form: Form,
-    written: u64,
-) -> Result<bool, OutOfMemory> {
-    let far = make_parts(cx, 1, def, name)?;
-    let moved = clause(cx, &far, form);
-    let near = make_parts(cx, 0, def, name)?;
-    match (clause(cx, &near, form), moved) {
-        (ClauseKind::Trait(old), ClauseKind::Trait(new)) => {
-            is_visited_and_moved(cx, &old, written, &new)
-        }
-        (ClauseKind::RegionOutlives(old), ClauseKind::RegionOutlives(new)) => {
-            is_visited_and_moved(cx, &old, written, &new)
-        }
-        (ClauseKind::TypeOutlives(old), ClauseKind::TypeOutlives(new)) => {
-            is_visited_and_moved(cx, &old, written, &new)
-        }
-        (ClauseKind::Projection(old), ClauseKind::Projection(new)) => {
-            is_visited_and_moved(cx, &old, written, &new)
-        }
-        (ClauseKind::HostEffect(old), ClauseKind::HostEffect(new)) => {
-            is_visited_and_moved(cx, &old, written, &new)
-        }
-        _ => Ok(false),
-    }
-}
-
-// Whether the trait or the alias of a clause is.
-fn clause_head_goes<I: Interner>(
-    cx: &mut I,
-    def: I::Id,
-    name: I::Name,
-    form: Form,
-) -> Result<bool, OutOfMemory> {
-    let far = make_parts(cx, 1, def, name)?;
-    let moved = clause(cx, &far, form);
-    let near = make_parts(cx, 0, def, name)?;
-    match (clause(cx, &near, form), moved) {
-        (ClauseKind::Trait(old), ClauseKind::Trait(new)) => {
-            is_visited_and_moved(cx, &old.trait_ref, 213, &new.trait_ref)
-        }
-        (ClauseKind::Projection(old), ClauseKind::Projection(new)) => {
-            is_visited_and_moved(cx, &old.projection_term, 213, &new.projection_term)
-        }
-        _ => Ok(false),
-    }
-}
-
-// Whether the parts of clauses are.
-fn parts_of_clauses_go<I: Interner>(
-    cx: &mut I,
-    def: I::Id,
-    name: I::Name,
-) -> Result<bool, OutOfMemory> {
-    let mut fine = clause_head_goes(cx, def, name, Form::Trait)?;
-    fine &= clause_head_goes(cx, def, name, Form::Projection)?;
-    fine &= clause_body_goes(cx, def, name, Form::Trait, 213)?;
-    fine &= clause_body_goes(cx, def, name, Form::RegionOutlives, 22)?;
-    fine &= clause_body_goes(cx, def, name, Form::TypeOutlives, 12)?;
-    fine &= clause_body_goes(cx, def, name, Form::Projection, 2133)?;
-    Ok(fine && clause_body_goes(cx, def, name, Form::HostEffect, 213)?)
-}
-
-// Whether the predicate without a binder is visited and moved.
-fn predicate_kind_goes<I: Interner>(
-    cx: &mut I,
-    def: I::Id,
-    name: I::Name,
-    form: Other,
-    written: u64,
-) -> Result<bool, OutOfMemory> {
-    let far = make_parts(cx, 1, def, name)?;
-    let moved = predicate(cx, &far, form);
-    let near = make_parts(cx, 0, def, name)?;
-    let kind = predicate(cx, &near, form);
-    is_visited_and_moved(cx, &kind, written, &moved)
 }
 
 // Whether the predicate is.
@@ -429,67 +269,112 @@ fn predicate_goes<I: Interner>(
     is_visited_and_moved(cx, &predicate, written, &moved)
 }
 
-// Whether predicates of each form are, with what is written of them without and under a binder.
+// Whether predicates of each form are, with what is written of them.
 fn predicates_go<I: Interner>(cx: &mut I, def: I::Id, name: I::Name) -> Result<bool, OutOfMemory> {
     let forms = [
-        (Other::Subtype, 11, 55),
-        (Other::Coerce, 11, 55),
-        (Other::NormalizesTo, 2131, 6575),
-        (Other::AliasRelate, 31, 75),
-        (Other::Ambiguous, 0, 0),
+        (Other::Subtype, 55),
+        (Other::Coerce, 55),
+        (Other::NormalizesTo, 6575),
+        (Other::AliasRelate, 75),
+        (Other::Ambiguous, 0),
     ];
     let mut fine = true;
-    for (form, written, under) in forms {
-        fine &= predicate_kind_goes(cx, def, name, form, written)?;
-        fine &= predicate_goes(cx, def, name, form, under)?;
+    for (form, written) in forms {
+        fine &= predicate_goes(cx, def, name, form, written)?;
     }
     Ok(fine)
 }
 
-// Whether what stands in a predicate is visited and moved by itself.
-fn predicate_body_goes<I: Interner>(
-    cx: &mut I,
-    def: I::Id,
-    name: I::Name,
-    form: Other,
-    written: u64,
-) -> Result<bool, OutOfMemory> {
-    let far = make_parts(cx, 1, def, name)?;
-    let moved = predicate(cx, &far, form);
-    let near = make_parts(cx, 0, def, name)?;
-    match (predicate(cx, &near, form), moved) {
-        (PredicateKind::Subtype(old), PredicateKind::Subtype(new)) => {
-            is_visited_and_moved(cx, &old, written, &new)
-        }
-        (PredicateKind::Coerce(old), PredicateKind::Coerce(new)) => {
-            is_visited_and_moved(cx, &old, written, &new)
-        }
-        (PredicateKind::NormalizesTo(old), PredicateKind::NormalizesTo(new)) => {
-            is_visited_and_moved(cx, &old, written, &new)
-        }
-        _ => Ok(false),
-    }
+// Whether what says something of a trait goes by itself.
+#[tactic(auto, using(relation_terms::proofs::Stays::knows_args))]
+fn trait_parts_go<I: Interner>(cx: &mut I, def: I::Id, name: I::Name) -> Result<bool, OutOfMemory> {
+    let parts = make_parts(cx, 0, def, name)?;
+    let def_id = TraitId(def);
+    let args = parts.args;
+    let trait_ref = TraitRef { def_id, args };
+    let polarity = PredicatePolarity::Negative;
+    let constness = BoundConstness::Maybe;
+    let implemented = TraitPredicate {
+        trait_ref,
+        polarity,
+    };
+    let effect = HostEffectPredicate {
+        trait_ref,
+        constness,
+    };
+    let mut fine = goes(cx, &trait_ref, 213)?;
+    fine &= goes(cx, &implemented, 213)?;
+    Ok(goes(cx, &effect, 213)? && fine)
 }
 
-// Whether the parts of predicates that are no clauses are.
-fn parts_of_predicates_go<I: Interner>(
+// Whether what says that one thing outlives another does.
+#[tactic(auto, using(relation_terms::proofs::Stays::knows_ty, relation_terms::proofs::Stays::knows_region))]
+fn outlives_parts_go<I: Interner>(
     cx: &mut I,
     def: I::Id,
     name: I::Name,
 ) -> Result<bool, OutOfMemory> {
-    let mut fine = predicate_body_goes(cx, def, name, Other::Subtype, 11)?;
-    fine &= predicate_body_goes(cx, def, name, Other::Coerce, 11)?;
-    Ok(fine && predicate_body_goes(cx, def, name, Other::NormalizesTo, 2131)?)
+    let parts = make_parts(cx, 0, def, name)?;
+    let fine = goes(cx, &OutlivesPredicate(parts.region, parts.region), 22)?;
+    Ok(goes(cx, &OutlivesPredicate(parts.ty, parts.region), 12)? && fine)
+}
+
+// Whether what says something of an alias does.
+#[tactic(auto, using(relation_terms::proofs::Stays::knows_const, relation_terms::proofs::Stays::knows_args))]
+fn alias_parts_go<I: Interner>(cx: &mut I, def: I::Id, name: I::Name) -> Result<bool, OutOfMemory> {
+    let parts = make_parts(cx, 0, def, name)?;
+    let def_id = TraitAssocTyId(def);
+    let kind = AliasTermKind::ProjectionTy { def_id };
+    let args = parts.args;
+    let alias = AliasTerm { kind, args };
+    let projection_term = alias;
+    let term = TermKind::Const(parts.constant);
+    let projection = ProjectionPredicate {
+        projection_term,
+        term,
+    };
+    let mut fine = goes(cx, &alias, 213)?;
+    fine &= goes(cx, &projection, 2133)?;
+    Ok(goes(cx, &NormalizesTo { alias, term }, 2133)? && fine)
+}
+
+// Whether what says something of two types does.
+#[tactic(auto, using(relation_terms::proofs::Stays::knows_ty))]
+fn type_parts_go<I: Interner>(cx: &mut I, def: I::Id, name: I::Name) -> Result<bool, OutOfMemory> {
+    let parts = make_parts(cx, 0, def, name)?;
+    let a = parts.ty;
+    let b = parts.ty;
+    let a_is_expected = true;
+    let subtype = SubtypePredicate {
+        a_is_expected,
+        a,
+        b,
+    };
+    let mut fine = goes(cx, &subtype, 11)?;
+    fine &= goes(cx, &PredicateKind::Subtype(subtype), 11)?;
+    Ok(goes(cx, &CoercePredicate { a, b }, 11)? && fine)
+}
+
+// Whether a clause without a binder does.
+fn clause_kind_goes<I: Interner>(
+    cx: &mut I,
+    def: I::Id,
+    name: I::Name,
+) -> Result<bool, OutOfMemory> {
+    let parts = make_parts(cx, 0, def, name)?;
+    let kind = clause(cx, &parts, Form::Projection);
+    goes(cx, &kind, 2133)
 }
 
 // Whether each of them goes.
 fn all_go<I: Interner>(cx: &mut I, def: I::Id, name: I::Name) -> Result<bool, OutOfMemory> {
-    Ok(
-        clauses_go(cx, def, name)?
-            && parts_of_clauses_go(cx, def, name)?
-            && predicates_go(cx, def, name)?
-            && parts_of_predicates_go(cx, def, name)?,
-    )
+    let mut fine = clauses_go(cx, def, name)?;
+    fine &= predicates_go(cx, def, name)?;
+    fine &= trait_parts_go(cx, def, name)?;
+    fine &= outlives_parts_go(cx, def, name)?;
+    fine &= alias_parts_go(cx, def, name)?;
+    fine &= type_parts_go(cx, def, name)?;
+    Ok(clause_kind_goes(cx, def, name)? && fine)
 }
 
 #[test]

@@ -1,9 +1,9 @@
 //! What texts say, and each error.
-use relation_text::naming::{look_up, write_name_error};
-use relation_text::reading::{place_of, read};
 use std::alloc::Global;
 use std::fmt::{self, Write};
 use std::test::Fail;
+use text_reading::naming::{look_up, write_name_error};
+use text_reading::reading::{place_of, read};
 
 // How many items, names, terms, parts and questions a text has, or its error with the place.
 fn shown(alloc: Global, text: &str) -> Result<String, fmt::Error> {
@@ -90,7 +90,10 @@ fn variables_are_counted(rt: HostRuntime) -> Result<(), Fail> {
 
 // Texts with wrong names, and what is told of each.
 const WRONG_NAMES: &str = "\
-    X == u8; => 1:1: expected a name that is known, found `X`\n\
+    X == u8; => 1:1: `X` is no type yet; `param X;` declares one\n\
+    Vec<u8> == u8; => 1:1: `Vec` is no item yet; `struct Vec<+T>;` declares one\n\
+    [u8; N] == u8; => 1:6: `N` is no constant yet; `param const N;` declares one\n\
+    visit dyn Tr + 'static; => 1:11: `Tr` is no trait yet; `trait Tr;` declares one\n\
     struct u8; => 1:8: expected a new name, found `u8`\n\
     struct K<T, T>; => 1:13: expected a new name, found `T`\n\
     struct K<'a>; K<u8> == u8; => 1:17: expected a region, found a type\n\
@@ -112,7 +115,7 @@ const WRONG_NAMES: &str = "\
     then u8 == u8; => 1:1: expected a question before this, found none\n\
     budget 1u8; => 1:8: expected a number alone, found `1u8`\n\
     !1.x == u8; => 1:1: expected a place by its number, found `!1.x`\n\
-    let t = t; => 1:9: expected a name that is known, found `t`\n\
+    let t = t; => 1:9: `t` is no type yet; `param t;` declares one\n\
     param T = 4294967295, U; => 1:23: the number is too large\n\
     param 'a; fold u8 with u8 = 'a; => 1:29: expected a type, found a region\n\
     param 'a; rigid 'a; => 1:17: expected a type, found a region\n\
@@ -123,7 +126,7 @@ const WRONG_NAMES: &str = "\
     visit ?f10000; => 1:7: expected a variable below 10000, found `?f10000`\n\
     visit '!1.x; => 1:7: expected a place by its number, found `'!1.x`\n\
     then visit u8; => 1:1: expected a question before this, found none\n\
-    visit fn(^0); => 1:10: expected a name that is known, found `^0`\n\
+    visit fn(^0); => 1:10: `^0` is no variable of a binder around it; `for<^0> fn()` binds one\n\
     visit fn(^18446744073709551615.0); => 1:10: the number is too large\n\
     visit [u8; ^1.0]; => 1:12: expected a constant, found a type\n\
     rigid '^0; => 1:7: expected a type, found a region\n\
@@ -132,28 +135,28 @@ const WRONG_NAMES: &str = "\
     visit for<'static> fn(); => 1:11: expected a new name, found `'static`\n\
     visit for<'a> fn('a); => 1:18: expected a type, found a region\n\
     visit for<^0> fn([u8; ^0]); => 1:23: expected a constant, found a type\n\
-    visit (for<'a> fn(&'a u8), &'a u8); => 1:29: expected a name that is known, found `'a`\n\
+    visit (for<'a> fn(&'a u8), &'a u8); => 1:29: `'a` is no lifetime yet; `param 'a;` declares one\n\
     trait A; visit A; => 1:16: expected no trait, found `A`\n\
     struct A; param 'a; visit dyn A + 'a; => 1:31: expected a trait, found `A`\n\
     type u8::A; => 1:6: expected a trait, found `u8`\n\
     auto trait A<T>; => 1:14: expected no parameter, found `T`\n\
     trait A; type A::B; const A::B; => 1:30: expected a new name, found `B`\n\
     trait A<T>; visit dyn A + 'static; => 1:23: expected 1 argument, found 0\n\
-    trait A; visit dyn A<B = u8> + 'static; => 1:22: expected a name that is known, found `B`\n\
+    trait A; visit dyn A<B = u8> + 'static; => 1:22: `B` is no item of the trait yet; `type Tr::B;` declares one\n\
     trait A; const A::L; visit dyn A<L = u8> + 'static; => 1:38: expected a constant, found a type\n\
     trait A; type A::B; visit dyn A<B = u8>::B == u8 + 'static; => 1:33: expected an argument, found `B = u8`\n\
     trait A; type A::B; visit dyn A::B<B = u8> == u8 + 'static; => 1:36: expected an argument, found `B = u8`\n\
     trait A<T>; type A::B<T>; visit dyn A<u8, B = u8> + 'static; => 1:43: expected 1 argument, found 0\n\
     trait A<T>; type A::B; visit dyn A<u8>::B<u8> == u8 + 'static; => 1:41: expected 0 arguments, found 1\n\
     struct A; visit <u8 as A>::B; => 1:24: expected a trait, found `A`\n\
-    trait A; visit <u8 as A>::B; => 1:27: expected a name that is known, found `B`\n\
+    trait A; visit <u8 as A>::B; => 1:27: `B` is no item of the trait yet; `type Tr::B;` declares one\n\
     trait A<T>; type A::B; visit <u8 as A>::B; => 1:37: expected 1 argument, found 0\n\
     trait A; type A::B; visit <2 as A>::B; => 1:28: expected a type, found a constant\n\
     trait A; const A::B; visit [<u8 as A>::B]; => 1:29: expected a type, found a constant\n\
     trait A; type A::B; visit <u8 as A<B = u8>>::B; => 1:36: expected an argument, found `B = u8`\n\
     opaque A<T>; visit A; => 1:20: expected 1 argument, found 0\n\
     const A; visit &'static A; => 1:25: expected a type, found a constant\n\
-    trait A; type A::B; visit B; => 1:27: expected a name that is known, found `B`\n\
+    trait A; type A::B; visit B; => 1:27: `B` is no type yet; `param B;` declares one\n\
     trait A; type A::B<T>; visit dyn A::B<u8> == 2 + 'static; => 1:46: expected a type, found a constant\n\
     may unify[rigid, rigid] u8, u8 at 1u8; => 1:35: expected a number alone, found `1u8`\n\
     args may unify[rigid, rigid] [u8], [2]; => 1:37: expected a type, found a constant\n\

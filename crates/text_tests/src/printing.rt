@@ -11,9 +11,9 @@ use relation_terms::terms::{
     ExternAbi, ForeignId, Interner, ParamTy, PredicatePolarity, RegionKind, RegionVid, Safety,
     TyForm, TyKind,
 };
-use relation_text::printing::{ItemText, Parameter, Texts, TextsOf, write_ty};
 use std::fmt::{self, Write};
 use std::test::Fail;
+use text_terms::printing::{ItemText, Parameter, Texts, TextsOf, write_ty};
 
 // The first name and the first item have a text, the others have none.
 const TEXTS: Texts<'static, ItemId, SymbolId> = Texts {

@@ -1,8 +1,8 @@
 //! Each production once, and each error.
-use relation_text::reading::{Form, NodeKind, Tree, place_of, read, write_error};
 use std::alloc::Global;
 use std::fmt::{self, Write};
 use std::test::Fail;
+use text_reading::reading::{Form, NodeKind, Tree, place_of, read, write_error};
 
 // Writes a node: a leaf as its text, a form with its parts.
 fn write_node(
@@ -77,6 +77,7 @@ fn form_name(form: Form) -> &'static str {
         Form::Ref(_) => "ref",
         Form::Branch => "branch",
         Form::Expr => "expr",
+        Form::Const => "const",
         Form::Error => "error",
         Form::Pat => "pat",
         Form::Range => "range",
@@ -138,6 +139,10 @@ fn texts_are_read(rt: HostRuntime) -> Result<(), Fail> {
             "visit (T is 1..=?c2 | !null, ({error}) is | (A..=B | {error}..=!1N));",
             "file(visit(tuple(pat(T or(range(1 ?c2) not-null())) \
              pat(error() or(or(range(A B) range(error() !1N))))) terms() terms()))",
+        ),
+        (
+            "visit {const !1.0, const {error}};",
+            "file(visit(branch(const(!1.0) const(error())) terms() terms()))",
         ),
         (
             "visit &'!1a (?i0, *const ?f3 is (!null));",
@@ -209,6 +214,8 @@ const WRONG_TEXTS: &str = "\
     walk T skip after; => 1:18: expected a number, found `;`\n\
     walk T stop U; => 1:8: expected `;`, found `stop`\n\
     visit {error, T}; => 1:13: expected `}`, found `,`\n\
+    visit const T; => 1:13: expected a placeholder or `{error}`, found `T`\n\
+    visit const {T}; => 1:14: expected `error`, found `T`\n\
     visit T is 1; => 1:13: expected `..=`, found `;`\n\
     visit T is !; => 1:13: expected `null`, found `;`\n\
     visit T is 1..=2 |; => 1:19: expected a term, found `;`\n\

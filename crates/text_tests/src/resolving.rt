@@ -1,10 +1,10 @@
 //! Resolving and the occurs check go through each part once, however often it stands in a term.
 use relation_asking::ask_all;
-use relation_text::naming::look_up;
-use relation_text::reading::read;
 use std::alloc::Global;
 use std::fmt::{self, Write};
 use std::test::Fail;
+use text_reading::naming::look_up;
+use text_reading::reading::read;
 
 // How many bytes of an answer are looked at.
 const ENOUGH: usize = 64;

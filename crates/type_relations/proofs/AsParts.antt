@@ -21,7 +21,8 @@ use Rattle.relation_terms.specs.declared.terms.const_kind.ConstKind.{ConstKind}
 use Rattle.relation_terms.specs.declared.terms.const_kind.ConstKind.TheVariants.{Infer}
 use Rattle.relation_terms.specs.declared.terms.const_kind.ConstKind.TheVariants.{Value}
 use Rattle.relation_terms.specs.declared.terms.const_kind.InferConst.TheVariants.{Var, Fresh}
-use Rattle.relation_terms.proofs.Sorted.{Sorted, widen}
+use Rattle.relation_terms.specs.Interning.{Sorted}
+use Rattle.relation_terms.proofs.Sorted.{widen}
 use Rattle.relation_terms.proofs.Members.{fit_args, mapped, region_term, type_term, const_term}
 use Rattle.relation_terms.proofs.Parts.{sort_known, arg_part}
 use Rattle.relation_contexts.specs.Covered.{IsCovered, IsCoveredHead}

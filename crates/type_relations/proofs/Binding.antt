@@ -1,7 +1,7 @@
 -- Binding a type or constant variable to what a term comes to, in the first universe.
 use Rattle.std.proofs.Common.{◌≡◌, ◌≢◌, ℕ, ◌+◌, ◌*◌, ◌≤◌, refl, sym, ap, ap₂, ◌∙◌, arith, subst}
 use Rattle.std.proofs.Math.Nat.{mul-le-mul}
-use Rattle.relation_terms.specs.declared.terms.enums.Variance.{Variance}
+use Rattle.term_enums.specs.declared.Variance.{Variance}
 use Rattle.relation_terms.specs.Heads.{VarKind, type_var, int_var, float_var, const_var, region_var, variable}
 use Rattle.relation_terms.specs.Trees.{Tree, leaf, Assign, apply, Leaves, Occurs, size}
 use Rattle.relation_contexts.specs.Relation.{Interpretation}

@@ -1,6 +1,6 @@
 -- Not binding a variable to what a term comes to, since an obstacle stands in that.
 use Rattle.std.proofs.Common.{◌≡◌, ◌≢◌, ℕ, ◌<◌, refl, sym, ap, ◌∙◌, arith, inl, inr, subst}
-use Rattle.relation_terms.specs.declared.terms.enums.Variance.{Variance}
+use Rattle.term_enums.specs.declared.Variance.{Variance}
 use Rattle.relation_terms.specs.Heads.{region_sort, region_kind, type_kind, const_kind, BoundKind, bound_kind, bound_sort, VarKind, value_type, variable, placeholder}
 use Rattle.relation_terms.specs.Trees.{Tree, leaf, Assign, apply, Leaves, Occurs}
 use Rattle.relation_terms.specs.Erasure.{erase}

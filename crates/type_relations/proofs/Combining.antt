@@ -1,6 +1,6 @@
 -- What comes of two types and two constants before their parts are related, as a step of a relation over a context.
 use Rattle.std.proofs.Common.{◌≡◌, ◌≢◌, ◌∙◌, ℕ, IsTrue, refl, sym, ap, subst, subst₂, inl, inr, Result, Ok}
-use Rattle.relation_terms.specs.declared.terms.enums.Variance.TheVariants.{Invariant, Bivariant}
+use Rattle.term_enums.specs.declared.Variance.TheVariants.{Invariant, Bivariant}
 use Rattle.relation_terms.specs.declared.terms.keys.TyKey.{TyKey}
 use Rattle.relation_terms.specs.declared.terms.keys.ConstKey.{ConstKey}
 use Rattle.relation_terms.specs.Heads.{type_sort, const_sort, VarKind, int_var, float_var, const_var, variable}

@@ -2,7 +2,7 @@
 use Rattle.std.proofs.Common.{◌≡◌, ℕ, refl, sym, ap, ◌∙◌, subst, List, [], ◌∷◌, ◌++◌, All, IsTrue, map, Ok}
 use Rattle.std.proofs.lemmas.List.Elements.{All-nil, All-cons, All-head, All-tail, All-append}
 use Rattle.std.proofs.lemmas.List.{map-append}
-use Rattle.relation_terms.specs.declared.terms.enums.Variance.{Variance}
+use Rattle.term_enums.specs.declared.Variance.{Variance}
 use Rattle.relation_terms.specs.declared.terms.goal.Goal.{Goal as KeyedGoal}
 use Rattle.relation_terms.specs.declared.terms.keys.ParamEnvKey.{ParamEnvKey}
 use Rattle.relation_terms.specs.declared.terms.keys.PredicateKey.{PredicateKey}

@@ -1,8 +1,8 @@
 -- What is compared of types besides their parts: where it is one the forms are, and else which error says so.
 use Rattle.std.proofs.Common.{◌≡◌, ◌≢◌, ◌⊎◌, ℕ, suc, ◌<◌, refl, sym, ap, ◌∙◌, inl, inr, subst, Option, Some, None}
 use Rattle.std.proofs.Common.{List, [], ◌∷◌, length}
-use Rattle.relation_terms.specs.declared.terms.enums.Mutability.{Mutability}
-use Rattle.relation_terms.specs.declared.terms.enums.Mutability.TheVariants.{Not}
+use Rattle.term_enums.specs.declared.Mutability.{Mutability}
+use Rattle.term_enums.specs.declared.Mutability.TheVariants.{Not}
 use Rattle.relation_terms.specs.declared.terms.keys.TyKey.{TyKey}
 use Rattle.relation_terms.specs.Heads.{Head, adt, fn_def, closure, coroutine_closure, coroutine, coroutine_witness}
 use Rattle.relation_terms.specs.Heads.{array, slice, pattern_type, tuple, unsafe_binder, dynamic, fn_ptr, raw_ptr, ref}

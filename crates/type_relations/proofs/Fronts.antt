@@ -1,11 +1,11 @@
 -- A loop over the parts of two forms, which relates them one after another.
 use Rattle.std.proofs.Common.{◌≡◌, ℕ, zero, suc, ◌+◌, ◌≤◌, ◌<◌, refl, sym, ap, ◌∙◌, subst, subst₂, arith, [], Ok, Err}
-use Rattle.relation_terms.specs.declared.terms.enums.Variance.TheVariants.{Invariant}
-use Rattle.relation_terms.specs.Variances.{xform}
+use Rattle.term_enums.specs.declared.Variance.TheVariants.{Invariant}
+use Rattle.term_enums.specs.Variances.{xform}
 use Rattle.relation_contexts.specs.FirstOrder.{IsFirstOrder, IsFirstOrderStore}
 use Rattle.relation_contexts.specs.Headline.{IsFirstOrderPair}
 use Rattle.relation_contexts.proofs.Exactness.{exact_front_goes_on, exact_front_ends}
-use Rattle.relation_terms.specs.declared.terms.enums.Variance.{Variance}
+use Rattle.term_enums.specs.declared.Variance.{Variance}
 use Rattle.relation_terms.specs.Heads.{Head, value_type}
 use Rattle.relation_terms.specs.Trees.{Tree, leaf, node, bind, nil, cons, IsList, count, nth, Leaves}
 use Rattle.relation_contexts.specs.Relation.{Items, at, parts, part_at, mode}

@@ -1,7 +1,7 @@
 -- At invariance, where all stands in one universe, generalising makes variables of regions alone.
 use Rattle.std.proofs.Common.{◌≡◌, ◌⊎◌, ℕ, ◌<◌, refl, sym, ap, ◌∙◌, inl, inr, subst, Some, length}
-use Rattle.relation_terms.specs.declared.terms.enums.Variance.{Variance}
-use Rattle.relation_terms.specs.declared.terms.enums.Variance.TheVariants.{Invariant}
+use Rattle.term_enums.specs.declared.Variance.{Variance}
+use Rattle.term_enums.specs.declared.Variance.TheVariants.{Invariant}
 use Rattle.relation_terms.specs.Heads.{VarKind, type_var, const_var, region_var, region_kind, bound_kind, static_region, early_region, value_type, Head, Leaf, variable, placeholder, atom}
 use Rattle.relation_terms.specs.Trees.{Tree, Leaves, apply}
 use Rattle.relation_contexts.specs.Relation.{Items}

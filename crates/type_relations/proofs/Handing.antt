@@ -1,8 +1,8 @@
 -- What an error of two parts is as the error of the terms, and arguments of two kinds.
 use Rattle.std.proofs.Common.{◌≡◌, ℕ, zero, suc, ◌<◌, Bool, refl, sym, ap, ◌∙◌, subst, subst₂, inl, inr, arith, IsTrue, Option, Some, None, Result, Ok, Err, [], ◌∷◌}
-use Rattle.relation_terms.specs.declared.terms.enums.Variance.{Variance}
-use Rattle.relation_terms.specs.declared.terms.enums.Safety.{Safety}
-use Rattle.relation_terms.specs.declared.terms.enums.ExternAbi.{ExternAbi}
+use Rattle.term_enums.specs.declared.Variance.{Variance}
+use Rattle.term_enums.specs.declared.Safety.{Safety}
+use Rattle.term_enums.specs.declared.ExternAbi.{ExternAbi}
 use Rattle.relation_terms.specs.Heads.{Sort, Admits, region_sort, type_sort, const_sort, var_sort}
 use Rattle.relation_terms.specs.Heads.{head_sort, array, variable, bound, placeholder, atom, unknown}
 use Rattle.relation_terms.specs.Heads.{Leaf, inputs_sort, signature_sort, atom_sort, bound_sort, term_of, row, Atom, bool_type, Head, pattern_type}
@@ -17,7 +17,7 @@ use Rattle.relation_terms.specs.declared.terms.part_kind.Part.TheVariants.{Pat, 
 use Rattle.relation_terms.specs.declared.terms.part_kind.Part.TheVariants.{Existential, Object}
 use Rattle.relation_terms.specs.declared.terms.keys.TysKey.{TysKey}
 use Rattle.relation_terms.specs.declared.terms.fn_sig.FnSig.{FnSig}
-use Rattle.relation_terms.proofs.Sorted.{Sorted}
+use Rattle.relation_terms.specs.Interning.{Sorted}
 use Rattle.relation_terms.proofs.Parts.{sort_known}
 use Rattle.relation_terms.specs.declared.terms.ty_kind.TyKind.{TyKind}
 use Rattle.relation_terms.specs.declared.terms.ty_kind.TyKind.TheVariants.{Array, Infer}

@@ -1,8 +1,8 @@
 -- Terms that are related by their parts, one after another, and terms that differ.
 use Rattle.std.proofs.Common.{◌≡◌, ◌≢◌, ℕ, suc, ◌<◌, refl, sym, ap, ◌∙◌, subst, subst₂, arith, Ok, Err}
 use Rattle.std.proofs.Common.{IsTrue, List, [], ◌∷◌, ◌++◌, All}
-use Rattle.relation_terms.specs.declared.terms.enums.Variance.{Variance}
-use Rattle.relation_terms.specs.declared.terms.enums.Variance.TheVariants.{Bivariant, Invariant}
+use Rattle.term_enums.specs.declared.Variance.{Variance}
+use Rattle.term_enums.specs.declared.Variance.TheVariants.{Bivariant, Invariant}
 use Rattle.relation_terms.specs.declared.terms.part_kind.Part.{Part}
 use Rattle.relation_terms.specs.Heads.{Sort}
 use Rattle.relation_terms.specs.Trees.{Tree, node, leaf, bind, nil, cons, known, IsTerm, IsList, count, nth, apply}

@@ -1,6 +1,6 @@
 -- The next parts of two forms: what is asked of them, and that they are smaller.
 use Rattle.std.proofs.Common.{◌≡◌, ℕ, zero, suc, ◌+◌, ◌*◌, ◌<◌, refl, sym, ap, ◌∙◌, subst, subst₂, arith, IsTrue, List, Option, Result, Ok, Err}
-use Rattle.relation_terms.specs.declared.terms.enums.Variance.{Variance}
+use Rattle.term_enums.specs.declared.Variance.{Variance}
 use Rattle.relation_terms.specs.Heads.{Head, Leaf, unevaluated, expression, value, value_branch}
 use Rattle.relation_terms.specs.Trees.{Tree, leaf, node, bind, nil, cons, Leaves, known, count, nth}
 use Rattle.relation_terms.specs.declared.terms.keys.ConstKey.{ConstKey}

@@ -8,16 +8,12 @@ use Rattle.relation_terms.proofs.Stays.{stays_same}
 use Rattle.relation_contexts.specs.Contexts.{Context}
 use Rattle.relation_contexts.specs.ContextCalls.{Grows}
 use Rattle.type_relations.specs.Emitting.{AddsGoals, IsOver, WithContext, with_goals}
-use Rattle.relation_contexts.specs.FirstOrder.{IsFirstOrderStore, IsErasedSolution}
 use Rattle.relation_contexts.specs.Measures.{Goes}
 use Rattle.relation_contexts.specs.Goals.{Goal, IsQuiet}
 use Rattle.relation_contexts.specs.Lawful.{State, Noted, OnlyMemory, WithMeaning, RegisteredIn}
-use Rattle.relation_contexts.specs.OneUniverse.{KeepsUniverse}
 use Rattle.relation_contexts.specs.Steps.{IsLater}
-use Rattle.relation_contexts.specs.Stores.{Store, Satisfies}
+use Rattle.relation_contexts.specs.Stores.{Store}
 use Rattle.relation_contexts.proofs.Going.{goes_nowhere, later_itself}
-use Rattle.relation_contexts.proofs.Full.{full_same, full_then}
-use Rattle.relation_contexts.proofs.OneUniverse.{keeps_itself, keeps_then}
 use Rattle.relation_contexts.proofs.Passing.{passes_then, passes_nowhere, passes_grown}
 
 module _ {Key Id Name : Type 0} where
@@ -26,16 +22,8 @@ module _ {Key Id Name : Type 0} where
   unfolding passes_then
   noted_then {r = r} {q = q} {p = p} x y f g = record {
     passes = passes_then f.passes g.passes (omega arith);
-    keeps = λ w s sat. g.keeps w s (f.keeps w s sat);
-    keeps_erased = λ s. (
-      (λ h. (g.keeps_erased s).0 ((f.keeps_erased s).0 h)),
-      (λ h. (f.keeps_erased s).1 ((g.keeps_erased s).1 h)),
-    );
-    first_order = λ h. g.first_order (f.first_order h);
-    universe = keeps_then r.store q.store p.store f.universe g.universe;
+    store = g.store ∙ f.store;
     quiet = All-append IsQuiet (f.passes).added (g.passes).added f.quiet g.quiet;
-    same_budget = g.same_budget ∙ f.same_budget;
-    full = full_then f.full g.full;
     fault = g.fault;
   }
 
@@ -45,16 +33,8 @@ module _ {Key Id Name : Type 0} where
   unfolding passes_grown passes_nowhere
   noted_with {r = r} {q = q} e w x fault = record {
     passes = passes_grown (passes_nowhere 0 r) e w;
-    keeps = λ j s sat. subst (λ k. Satisfies j k s) (sym w.store) sat;
-    keeps_erased = λ s. (
-      (λ h. subst (λ k. IsErasedSolution k s) (sym w.store) h),
-      (λ h. subst (λ k. IsErasedSolution k s) w.store h),
-    );
-    first_order = λ h. subst IsFirstOrderStore (sym w.store) h;
-    universe = subst (KeepsUniverse r.store) (sym w.store) (keeps_itself r.store);
+    store = w.store;
     quiet = All-nil IsQuiet;
-    same_budget = ap (λ k. k.budget) w.store;
-    full = full_same w.store;
     fault = fault;
   }
 
@@ -79,16 +59,8 @@ module _ {Key Id Name : Type 0} where
           reference = h.reference;
           lawful = h.lawful;
         };
-        keeps = λ j s sat. subst (λ k. Satisfies j k s) (sym h.store) sat;
-        keeps_erased = λ s. (
-          (λ y. subst (λ k. IsErasedSolution k s) (sym h.store) y),
-          (λ y. subst (λ k. IsErasedSolution k s) h.store y),
-        );
-        first_order = λ y. subst IsFirstOrderStore (sym h.store) y;
-        universe = subst (KeepsUniverse r.store) (sym h.store) (keeps_itself r.store);
+        store = h.store;
         quiet = silent;
-        same_budget = ap (λ k. k.budget) h.store;
-        full = full_same h.store;
         fault = fault;
       }
 

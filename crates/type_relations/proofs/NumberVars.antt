@@ -16,9 +16,9 @@ use Rattle.relation_terms.specs.declared.terms.ty_kind.FloatVarValue.{FloatVarVa
 use Rattle.relation_terms.specs.declared.terms.ty_kind.FloatVarValue.TheVariants.{Unknown as UnknownFloat, Known}
 use Rattle.relation_terms.specs.declared.terms.numbers.IntVid.{IntVid}
 use Rattle.relation_terms.specs.declared.terms.numbers.FloatVid.{FloatVid}
-use Rattle.relation_terms.specs.declared.terms.enums.IntTy.{IntTy}
-use Rattle.relation_terms.specs.declared.terms.enums.UintTy.{UintTy}
-use Rattle.relation_terms.specs.declared.terms.enums.FloatTy.{FloatTy}
+use Rattle.term_enums.specs.declared.IntTy.{IntTy}
+use Rattle.term_enums.specs.declared.UintTy.{UintTy}
+use Rattle.term_enums.specs.declared.FloatTy.{FloatTy}
 use Rattle.relation_contexts.specs.Relation.{StaysWithin}
 use Rattle.relation_contexts.specs.Steps.{IsNumberFor}
 use Rattle.relation_contexts.specs.Relation.{StaysWithin}

@@ -4,8 +4,8 @@ use Rattle.std.proofs.Common.{◌≡◌, ◌≢◌, ◌⊎◌, ℕ, ◌+◌, ref
 use Rattle.std.proofs.Common.{max, min, Ok, Err}
 use Rattle.std.proofs.lemmas.List.Elements.{All-nil}
 use Rattle.std.proofs.lemmas.List.{append-nil}
-use Rattle.relation_terms.specs.declared.terms.enums.Variance.{Variance}
-use Rattle.relation_terms.specs.declared.terms.enums.Variance.TheVariants.{Bivariant}
+use Rattle.term_enums.specs.declared.Variance.{Variance}
+use Rattle.term_enums.specs.declared.Variance.TheVariants.{Bivariant}
 use Rattle.relation_terms.specs.declared.terms.keys.TyKey.{TyKey}
 use Rattle.relation_terms.specs.Heads.{type_sort, VarKind, type_var, region_var, variable}
 use Rattle.relation_terms.specs.Trees.{Tree, leaf, Assign, apply, IsTerm, known}

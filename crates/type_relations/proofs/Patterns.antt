@@ -1,13 +1,14 @@
 -- Terms that are related by their parts: patterns, and what stands over binders or under them.
 use Rattle.std.proofs.Common.{◌≡◌, ◌≢◌, ℕ, zero, suc, refl, sym, ap, ◌∙◌, subst, List, Option, None, Some, IsTrue}
-use Rattle.relation_terms.specs.declared.terms.enums.Variance.{Variance}
-use Rattle.relation_terms.specs.declared.terms.enums.Variance.TheVariants.{Covariant, Contravariant, Invariant, Bivariant}
+use Rattle.term_enums.specs.declared.Variance.{Variance}
+use Rattle.term_enums.specs.declared.Variance.TheVariants.{Covariant, Contravariant, Invariant, Bivariant}
 use Rattle.relation_terms.specs.declared.terms.part_kind.Part.{Part}
 use Rattle.relation_terms.specs.declared.terms.part_kind.Part.TheVariants.{Region, Ty, Const, ValTree, Pat, ValueType}
 use Rattle.relation_terms.specs.declared.terms.part_kind.Part.TheVariants.{Binder, Signature, Inputs, Existential, Object}
-use Rattle.relation_terms.specs.declared.predicate.ExistentialPredicate.{ExistentialPredicate}
-use Rattle.relation_terms.specs.declared.predicate.ExistentialPredicate.TheVariants.{Trait, Projection, AutoTrait}
-use Rattle.relation_terms.specs.Variances.{xform}
+use Rattle.relation_terms.specs.declared.predicate.existential.ExistentialPredicate.{ExistentialPredicate}
+use Rattle.relation_terms.specs.declared.predicate.existential.ExistentialPredicate.TheVariants.{Trait, AutoTrait}
+use Rattle.relation_terms.specs.declared.predicate.existential.ExistentialPredicate.TheVariants.{Projection}
+use Rattle.term_enums.specs.Variances.{xform}
 use Rattle.relation_terms.specs.Heads.{Sort, type_sort, argument_sort, pattern_sort, no_sort, signature_sort, inputs_sort}
 use Rattle.relation_terms.specs.Heads.{existential_sort, object_sort, Admits, VarKind, type_var, int_var, float_var, const_var}
 use Rattle.relation_terms.specs.Heads.{region_var, var_sort, atom_sort, head_sort, Head, pattern_type, range_pattern}
@@ -23,14 +24,15 @@ use Rattle.relation_terms.specs.declared.terms.ty_kind.InferTy.TheVariants.{TyVa
 use Rattle.relation_terms.specs.declared.terms.ty_kind.InferTy.TheVariants.{FreshTy, FreshIntTy, FreshFloatTy}
 use Rattle.relation_terms.specs.declared.terms.binder.Binder.{Binder as BinderOf}
 use Rattle.relation_terms.specs.declared.terms.fn_sig.FnSigTys.{FnSigTys}
-use Rattle.relation_terms.specs.declared.terms.fn_sig.FnHeader.{FnHeader}
+use Rattle.term_enums.specs.declared.FnHeader.{FnHeader}
 use Rattle.relation_terms.specs.declared.terms.keys.TyKey.{TyKey}
 use Rattle.relation_terms.specs.declared.terms.keys.PatKey.{PatKey}
 use Rattle.relation_terms.specs.declared.terms.keys.RegionKey.{RegionKey}
 use Rattle.relation_terms.specs.declared.terms.keys.ExistentialPredicatesKey.{ExistentialPredicatesKey}
 use Rattle.relation_terms.specs.Parts.{body_tree, part_tree, part_sort, parts_of as list_of_parts, over as term_over}
 use Rattle.relation_terms.proofs.Binders.{front_known, front_terms}
-use Rattle.relation_terms.proofs.Sorted.{Sorted, signature_sorted, existential_sorted}
+use Rattle.relation_terms.specs.Interning.{Sorted}
+use Rattle.relation_terms.proofs.Sorted.{signature_sorted, existential_sorted}
 use Rattle.relation_contexts.specs.Relation.{Items, mode, part_at, plain_atom, IsRelatedHead}
 use Rattle.relation_contexts.specs.FirstOrder.{IsFirstOrder}
 use Rattle.relation_contexts.specs.Errors.{AreOfOneForm, over_parts, one_leaf, parameters}

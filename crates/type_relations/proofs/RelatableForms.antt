@@ -1,8 +1,9 @@
 -- What can be related besides keys, by its tree: predicates of trait objects, and binders over whatever can be related.
 use Rattle.std.proofs.Common.{◌≡◌, ◌&&◌, Bool, IsTrue, refl, sym, subst, subst₂, List, Option, Some, None, Result, Ok}
 use Rattle.relation_terms.specs.declared.terms.binder.Binder.{Binder}
-use Rattle.relation_terms.specs.declared.predicate.ExistentialPredicate.{ExistentialPredicate}
-use Rattle.relation_terms.specs.declared.predicate.ExistentialPredicate.TheVariants.{Trait, Projection, AutoTrait}
+use Rattle.relation_terms.specs.declared.predicate.existential.ExistentialPredicate.{ExistentialPredicate}
+use Rattle.relation_terms.specs.declared.predicate.existential.ExistentialPredicate.TheVariants.{Trait, AutoTrait}
+use Rattle.relation_terms.specs.declared.predicate.existential.ExistentialPredicate.TheVariants.{Projection}
 use Rattle.relation_terms.specs.Heads.{Head, BoundKind, existential_trait, existential_projection}
 use Rattle.relation_terms.specs.Trees.{Tree, cons, known}
 use Rattle.relation_terms.specs.Meaning.{Meaning, Extends, existential_tree, term_tree, under}

@@ -1,9 +1,9 @@
 -- A step that was taken from terms as they are read was taken from the terms.
 use Rattle.std.proofs.Common.{◌≡◌, ◌+◌, List, ◌≤◌, ℕ, None, Result, Ok, Err, refl, sym, ap, ap₂, ◌∙◌, arith, subst, subst₂}
-use Rattle.relation_terms.specs.declared.terms.enums.Variance.{Variance}
+use Rattle.term_enums.specs.declared.Variance.{Variance}
 use Rattle.relation_terms.specs.Heads.{VarKind, const_var, variable, bound}
 use Rattle.relation_terms.specs.Trees.{Tree, leaf, Assign, apply}
-use Rattle.relation_terms.specs.Variances.{xform}
+use Rattle.term_enums.specs.Variances.{xform}
 use Rattle.relation_folds.specs.declared.error.RelateFault.{RelateFault}
 use Rattle.relation_folds.specs.declared.error.RelateFault.TheVariants.{Memory, Budget, Unrelated}
 use Rattle.relation_contexts.specs.declared.relate.Step.{Step}

@@ -1,8 +1,8 @@
 -- Constants that are related by their outermost forms and their parts, and terms whose outermost forms differ.
 use Rattle.std.proofs.Common.{◌≡◌, ◌≢◌, ℕ, ◌+◌, ◌<◌, refl, sym, ap, ◌∙◌, subst, subst₂, arith, ◌++◌, All, IsTrue, Ok, Err}
 use Rattle.std.proofs.lemmas.List.Elements.{All-nil}
-use Rattle.relation_terms.specs.declared.terms.enums.Variance.{Variance}
-use Rattle.relation_terms.specs.declared.terms.enums.Variance.TheVariants.{Bivariant}
+use Rattle.term_enums.specs.declared.Variance.{Variance}
+use Rattle.term_enums.specs.declared.Variance.TheVariants.{Bivariant}
 use Rattle.relation_terms.specs.Heads.{type_sort, const_sort, region_sort, Sort, expression, value, value_type, value_branch}
 use Rattle.relation_terms.specs.Trees.{Tree, node, nil, cons, known, IsTerm, count, nth, apply, Assign}
 use Rattle.relation_terms.specs.Meaning.{Meaning, arg_tree}
@@ -10,7 +10,7 @@ use Rattle.relation_terms.specs.declared.terms.keys.TyKey.{TyKey}
 use Rattle.relation_terms.specs.declared.terms.keys.ConstKey.{ConstKey}
 use Rattle.relation_terms.specs.declared.terms.generic_arg.GenericArgKind.{GenericArgKind}
 use Rattle.relation_terms.specs.declared.terms.generic_arg.GenericArgKind.TheVariants.{Lifetime, Ty, Const}
-use Rattle.relation_terms.proofs.Sorted.{Sorted}
+use Rattle.relation_terms.specs.Interning.{Sorted}
 use Rattle.relation_folds.specs.declared.error.TypeError.{TypeError}
 use Rattle.relation_folds.specs.declared.error.TypeError.TheVariants.{ConstMismatch, Mismatch}
 use Rattle.relation_folds.specs.declared.error.RelateFault.{RelateFault}

@@ -1,8 +1,8 @@
 -- What is related at a variance is related the other way round, seen from the other side.
 use Rattle.std.proofs.Common.{◌≡◌, ◌⊎◌, ℕ, refl, sym, ap, ◌∙◌, inl, inr, subst, List, [], ◌∷◌}
-use Rattle.relation_terms.specs.declared.terms.enums.Variance.{Variance}
-use Rattle.relation_terms.specs.declared.terms.enums.Variance.TheVariants.{Covariant, Contravariant, Invariant, Bivariant}
-use Rattle.relation_terms.specs.Variances.{xform}
+use Rattle.term_enums.specs.declared.Variance.{Variance}
+use Rattle.term_enums.specs.declared.Variance.TheVariants.{Covariant, Contravariant, Invariant, Bivariant}
+use Rattle.term_enums.specs.Variances.{xform}
 use Rattle.relation_terms.specs.Heads.{BoundKind, AliasTermKind, type_alias, opaque_alias, Head, alias, alias_term, value_type}
 use Rattle.relation_terms.specs.Trees.{Tree}
 use Rattle.relation_contexts.specs.Relation.{Items, Interpretation, Fresh, RegionRule, AliasRule, IsEqualPair, at, parts, second_opened, first_opened, Rel, same, anything, error_left, error_right, regions, alias_types, equal_consts, atoms, forms, no_parts, next_part, covariant_binders, contravariant_binders, invariant_binders, open_second, open_first, mode, alias_term_variance, plain_kind, plain, part_at, IsRelatedHead}

@@ -1,8 +1,8 @@
 -- Arguments that are not looked at, what is related of a tree, and lists of arguments as what they are related for.
 use Rattle.std.specs.Prelude.{◌≡◌, ℕ, Option, Some, None, Result}
 use Rattle.std.specs.Result.{IsOkAnd}
-use Rattle.relation_terms.specs.declared.terms.enums.Variance.{Variance}
-use Rattle.relation_terms.specs.declared.terms.enums.Variance.TheVariants.{Bivariant}
+use Rattle.term_enums.specs.declared.Variance.{Variance}
+use Rattle.term_enums.specs.declared.Variance.TheVariants.{Bivariant}
 use Rattle.relation_terms.specs.Heads.{Head, adt, fn_def, arguments, object}
 use Rattle.relation_terms.specs.Trees.{Tree, node}
 use Rattle.relation_terms.specs.Meaning.{Meaning}

@@ -1,6 +1,6 @@
 -- Bivariant arguments that are left open, and what is registered of types with such arguments.
 use Rattle.std.specs.Prelude.{◌≡◌, ◌⊎◌, ℕ, ◌<◌, Bool, List, [], ◌∷◌, ◌++◌, IsTrue, Result, IfOk, ◌↔◌}
-use Rattle.relation_terms.specs.declared.terms.enums.Variance.TheVariants.{Bivariant}
+use Rattle.term_enums.specs.declared.Variance.TheVariants.{Bivariant}
 use Rattle.relation_terms.specs.Flags.{has_non_region_infer}
 use Rattle.relation_terms.specs.Trees.{Tree, apply, count, nth}
 use Rattle.relation_terms.specs.declared.terms.ids.DefId.{DefId}

@@ -1,6 +1,6 @@
 -- What contracts see of a relation that registers goals, over a context.
 use Rattle.std.specs.Prelude.{◌≡◌, Bool, List, ◌++◌, map, IsTrue, IfSome, IfOk, Result, Ok, Err}
-use Rattle.relation_terms.specs.declared.terms.enums.Variance.{Variance}
+use Rattle.term_enums.specs.declared.Variance.{Variance}
 use Rattle.relation_terms.specs.declared.terms.keys.PredicateKey.{PredicateKey}
 use Rattle.relation_terms.specs.declared.terms.keys.RegionKey.{RegionKey}
 use Rattle.relation_terms.specs.declared.terms.keys.TyKey.{TyKey}

@@ -9,17 +9,18 @@ use Rattle.relation_terms.specs.declared.terms.generic_arg.TermKind.TheVariants.
 use Rattle.relation_terms.specs.declared.terms.ids.TraitId.{TraitId}
 use Rattle.relation_terms.specs.declared.terms.keys.TyKey.{TyKey}
 use Rattle.relation_terms.specs.declared.terms.keys.ConstKey.{ConstKey}
-use Rattle.relation_terms.specs.declared.predicate.ExistentialPredicate.{ExistentialPredicate}
-use Rattle.relation_terms.specs.declared.predicate.ExistentialPredicate.TheVariants.{Trait, Projection, AutoTrait}
-use Rattle.relation_terms.specs.declared.predicate.ExistentialTraitRef.{ExistentialTraitRef}
-use Rattle.relation_terms.specs.declared.predicate.ExistentialProjection.{ExistentialProjection}
+use Rattle.relation_terms.specs.declared.predicate.existential.ExistentialPredicate.{ExistentialPredicate}
+use Rattle.relation_terms.specs.declared.predicate.existential.ExistentialPredicate.TheVariants.{Trait, AutoTrait}
+use Rattle.relation_terms.specs.declared.predicate.existential.ExistentialPredicate.TheVariants.{Projection}
+use Rattle.relation_terms.specs.declared.predicate.existential.ExistentialTraitRef.{ExistentialTraitRef}
+use Rattle.relation_terms.specs.declared.predicate.existential.ExistentialProjection.{ExistentialProjection}
 use Rattle.relation_terms.specs.Heads.{existential_trait, existential_auto, atom}
 use Rattle.relation_terms.specs.Trees.{Tree, leaf, node, known}
 use Rattle.relation_terms.specs.Meaning.{Meaning, signature_tree, existential_tree, term_tree, under}
 use Rattle.relation_terms.specs.Interning.{AreEqualAsTrees, AreEqualAsKinds, AreEqualAsNumbers}
 use Rattle.relation_terms.proofs.Binders.{under_known}
 use Rattle.relation_terms.proofs.Same.{header_eq, same_signature, same_projection}
-use Rattle.relation_terms.proofs.Sorted.{Sorted}
+use Rattle.relation_terms.specs.Interning.{Sorted}
 use Rattle.relation_folds.proofs.Found.{signature_found, binder_found, existential_found}
 use Rattle.type_relations.specs.EqualTerms.{term_same}
 

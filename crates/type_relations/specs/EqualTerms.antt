@@ -7,32 +7,10 @@ use Rattle.relation_terms.specs.declared.terms.generic_arg.GenericArgKind.{Gener
 use Rattle.relation_terms.specs.declared.terms.generic_arg.GenericArgKind.TheVariants.{Lifetime, Ty as TyArg, Const as ConstArg}
 use Rattle.relation_terms.specs.declared.terms.generic_arg.TermKind.{TermKind}
 use Rattle.relation_terms.specs.declared.terms.generic_arg.TermKind.TheVariants.{Ty, Const}
-use Rattle.relation_terms.specs.Heads.{type_sort, region_sort, const_sort, value_sort, argument_sort, pattern_sort}
-use Rattle.relation_terms.specs.Heads.{existential_sort}
 use Rattle.relation_terms.specs.Trees.{known}
 use Rattle.relation_terms.specs.Meaning.{Meaning, arg_tree, term_tree}
-use Rattle.relation_terms.specs.Interning.{AreEqualAsTrees, IsOfSort, AreOfSort, AreBindersOf}
-use Rattle.relation_terms.proofs.Sorted.{Sorted}
+use Rattle.relation_terms.specs.Interning.{AreEqualAsTrees, Sorted}
 use Rattle.relation_folds.proofs.Arguments.{arg_same}
-
--- Trees of known keys are of their sorts.
-pub sorted_by : {Key Id Name : Type 0} (m : Meaning Key Id Name) → IsOfSort m.ty type_sort →
-    IsOfSort m.region region_sort → AreOfSort m.tys type_sort → IsOfSort m.const_ const_sort →
-    IsOfSort m.valtree value_sort → AreOfSort m.args argument_sort → AreOfSort m.branches const_sort →
-    IsOfSort m.pat pattern_sort → AreOfSort m.alternatives pattern_sort →
-    AreBindersOf m.existential_predicates existential_sort → Sorted m
-sorted_by m a b c d e f g h i j = record {
-  ty = a;
-  region = b;
-  tys = c;
-  const_ = d;
-  valtree = e;
-  args = f;
-  branches = g;
-  pat = h;
-  alternatives = i;
-  existential_predicates = j;
-}
 
 -- Of the equality of terms this is used: what it is of each two forms.
 module _ {Key Id Name : Type 0} (m : Meaning Key Id Name) (eq : Key → Key → Bool)

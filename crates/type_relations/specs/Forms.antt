@@ -1,7 +1,7 @@
 -- What is compared of types besides their parts.
 use Rattle.std.specs.Prelude.{ℕ, Some, None}
-use Rattle.relation_terms.specs.declared.terms.enums.Mutability.{Mutability}
-use Rattle.relation_terms.specs.declared.terms.enums.Mutability.TheVariants.{Not}
+use Rattle.term_enums.specs.declared.Mutability.{Mutability}
+use Rattle.term_enums.specs.declared.Mutability.TheVariants.{Not}
 use Rattle.relation_terms.specs.Heads.{Head, adt, fn_def, closure, coroutine_closure, coroutine, coroutine_witness}
 use Rattle.relation_terms.specs.Heads.{array, slice, pattern_type, tuple, unsafe_binder, dynamic, fn_ptr, raw_ptr, ref}
 use Rattle.relation_terms.specs.Heads.{alias}

@@ -1,13 +1,13 @@
 -- What the relation says of small terms and of forms.
 use Rattle.std.specs.Prelude.{◌≡◌, ◌≢◌, ◌⊎◌, ◌↔◌, ℕ, List, [], ◌∷◌, false}
-use Rattle.relation_terms.specs.declared.terms.enums.Variance.{Variance}
-use Rattle.relation_terms.specs.declared.terms.enums.Variance.TheVariants.{Covariant, Contravariant, Invariant}
-use Rattle.relation_terms.specs.declared.terms.enums.Variance.TheVariants.{Bivariant}
-use Rattle.relation_terms.specs.declared.terms.enums.Mutability.TheVariants.{Not, Mut}
-use Rattle.relation_terms.specs.declared.terms.enums.PredicatePolarity.{PredicatePolarity}
-use Rattle.relation_terms.specs.declared.terms.enums.UintTy.TheVariants.{U8}
-use Rattle.relation_terms.specs.declared.terms.enums.Safety.TheVariants.{Safe}
-use Rattle.relation_terms.specs.declared.terms.enums.ExternAbi.TheVariants.{Rust}
+use Rattle.term_enums.specs.declared.Variance.{Variance}
+use Rattle.term_enums.specs.declared.Variance.TheVariants.{Covariant, Contravariant, Invariant}
+use Rattle.term_enums.specs.declared.Variance.TheVariants.{Bivariant}
+use Rattle.term_enums.specs.declared.Mutability.TheVariants.{Not, Mut}
+use Rattle.term_enums.specs.declared.PredicatePolarity.{PredicatePolarity}
+use Rattle.term_enums.specs.declared.UintTy.TheVariants.{U8}
+use Rattle.term_enums.specs.declared.Safety.TheVariants.{Safe}
+use Rattle.term_enums.specs.declared.ExternAbi.TheVariants.{Rust}
 use Rattle.relation_terms.specs.Heads.{Sort, region_sort, const_sort, value_sort, value_type_sort, pattern_sort}
 use Rattle.relation_terms.specs.Heads.{clause_sort, predicate_sort, environment_sort, head_sort, trait_clause}
 use Rattle.relation_terms.specs.Heads.{region_kind, BoundKind, bound_kind, Atom, atom_sort, bool_type, uint_type}

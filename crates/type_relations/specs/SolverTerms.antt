@@ -1,5 +1,5 @@
 -- What the solver's relation asks and promises: what relating two values does, at the state in which it stands.
-use Rattle.std.specs.Prelude.{Option, IfSome, Result}
+use Rattle.std.specs.Prelude.{◌≡◌, Option, IfSome, Result}
 use Rattle.relation_terms.specs.declared.terms.keys.TyKey.{TyKey}
 use Rattle.relation_terms.specs.Heads.{Head}
 use Rattle.relation_terms.specs.Trees.{Tree}
@@ -36,6 +36,13 @@ module _ {Infcx Interner Key Id Name Span : Type 0} (state : Infcx → Context K
   abbrev pub solver_through : SolverRelating Infcx Interner Key Id Name Span → State Key Id Name
   solver_through r =
       solving_through r.infcx.ghost_name r.goals.items (state r.infcx.now) r.ambient_variance r.param_env
+
+  -- The environment of the second means what that of the first did.
+  abbrev pub KeepsEnvironment : SolverRelating Infcx Interner Key Id Name Span →
+      SolverRelating Infcx Interner Key Id Name Span → Type 0
+  KeepsEnvironment r q =
+      let m = (state r.infcx.now).meaning in let n = (state q.infcx.now).meaning in
+      n.param_env q.param_env ≡ m.param_env r.param_env
 
   -- A step was taken of two types.
   abbrev pub SolverSteps : SolverRelating Infcx Interner Key Id Name Span →

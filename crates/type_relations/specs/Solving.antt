@@ -1,6 +1,6 @@
 -- The relation of a context: how it stands, and which terms it takes.
 use Rattle.std.specs.Prelude.{ℕ, true, false, List, All, IsTrue}
-use Rattle.relation_terms.specs.declared.terms.enums.Variance.{Variance}
+use Rattle.term_enums.specs.declared.Variance.{Variance}
 use Rattle.relation_terms.specs.declared.terms.goal.Goal.{Goal}
 use Rattle.relation_terms.specs.declared.terms.keys.ParamEnvKey.{ParamEnvKey}
 use Rattle.relation_terms.specs.declared.terms.keys.PredicateKey.{PredicateKey}

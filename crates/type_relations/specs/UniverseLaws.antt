@@ -1,6 +1,6 @@
 -- Laws of types and constants in one universe.
 use Rattle.std.specs.Prelude.{◌≡◌, ◌≢◌, ℕ, ◌+◌}
-use Rattle.relation_terms.specs.declared.terms.enums.Variance.TheVariants.{Invariant}
+use Rattle.term_enums.specs.declared.Variance.TheVariants.{Invariant}
 use Rattle.relation_terms.specs.Heads.{VarKind, region_var}
 use Rattle.relation_terms.specs.Trees.{Tree, Leaves}
 use Rattle.relation_contexts.specs.Relation.{Items}

@@ -1,36 +1,9 @@
 //! Folds of forms that have no key: signatures and predicates of trait objects.
-ghost use Rattle.std.specs.Prelude.{◌≡◌};
-ghost use Rattle.relation_terms.specs.Heads.{signature_sort, existential_sort};
-ghost use Rattle.relation_terms.specs.Parts.{part_sort};
-ghost use Rattle.relation_terms.specs.declared.terms.part_kind.Part.TheVariants.{Signature as SignaturePart};
-ghost use Rattle.relation_terms.specs.declared.terms.part_kind.Part.TheVariants.{Existential as ExistentialPart};
-
 use crate::fold::walk::fold_part;
 use crate::fold::{TypeFoldable, TypeFolder, fold_args_with, fold_predicates_with};
 use relation_terms::predicate::{ExistentialPredicate, ExistentialProjection, ExistentialTraitRef};
+use relation_terms::terms::parts::{the_existential, the_signature};
 use relation_terms::terms::{ExistentialPredicatesKey, FnSig, Interner, OutOfMemory, Part};
-
-// The signature that a part is.
-fn the_signature<X: Copy, D: Copy>(part: &Part<X, D>) -> FnSig<X>
-    requires { part_sort part.now ≡ signature_sort }
-    ensures { SignaturePart result ≡ part.now }
-{
-    match part {
-        Part::Signature(sig) => *sig,
-        _ => unreachable!(),
-    }
-}
-
-// The predicate of a trait object that a part is.
-fn the_existential<X: Copy, D: Copy>(part: &Part<X, D>) -> ExistentialPredicate<X, D>
-    requires { part_sort part.now ≡ existential_sort }
-    ensures { ExistentialPart result ≡ part.now }
-{
-    match part {
-        Part::Existential(predicate) => *predicate,
-        _ => unreachable!(),
-    }
-}
 
 impl<I: Interner> TypeFoldable<I> for ExistentialPredicatesKey<I::Key> {
     fn fold_with<F: TypeFolder<I>>(&self, cx: &mut I, folder: &mut F) -> Result<Self, OutOfMemory> {

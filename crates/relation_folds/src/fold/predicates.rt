@@ -15,7 +15,7 @@ use relation_terms::predicate::{
 use relation_terms::terms::parts::{
     Field, Fields, FieldsOf, clause_fields, clause_over, predicate_fields, predicate_over,
 };
-use relation_terms::terms::{Interner, OutOfMemory, RegionKey, TyKey};
+use relation_terms::terms::{AliasTy, Interner, OutOfMemory, RegionKey, TyKey};
 
 // What the folder makes of a part of a predicate, or nothing where that is the part as it was.
 fn fold_field<I: Interner, F: TypeFolder<I>>(
@@ -157,6 +157,15 @@ impl<I: Interner> TypeFoldable<I> for TraitRef<I::Key, I::Id> {
 impl<I: Interner> TypeFoldable<I> for AliasTerm<I::Key, I::Id> {
     fn fold_with<F: TypeFolder<I>>(&self, cx: &mut I, folder: &mut F) -> Result<Self, OutOfMemory> {
         Ok(AliasTerm {
+            kind: self.kind,
+            args: fold_args_with(cx, &self.args, folder)?,
+        })
+    }
+}
+
+impl<I: Interner> TypeFoldable<I> for AliasTy<I::Key, I::Id> {
+    fn fold_with<F: TypeFolder<I>>(&self, cx: &mut I, folder: &mut F) -> Result<Self, OutOfMemory> {
+        Ok(AliasTy {
             kind: self.kind,
             args: fold_args_with(cx, &self.args, folder)?,
         })

@@ -6,6 +6,7 @@ ghost use Rattle.relation_terms.specs.declared.predicate.kinds.ClauseKind.TheVar
 ghost use Rattle.relation_terms.specs.declared.predicate.kinds.PredicateKind.TheVariants.{Subtype, Coerce, NormalizesTo};
 ghost use Rattle.relation_terms.proofs.Predicates.{stays_trait_ref, stays_alias_term};
 ghost use Rattle.relation_terms.proofs.Predicates.{stays_clause_kind, stays_predicate_kind};
+ghost use Rattle.relation_folds.specs.Aliases.{alias_ty_tree, stays_alias_ty};
 
 use crate::tree::HasTree;
 use relation_terms::predicate::{
@@ -14,7 +15,7 @@ use relation_terms::predicate::{
     SubtypePredicate, TraitPredicate, TraitRef,
 };
 use relation_terms::terms::{
-    ClauseKey, ClausesKey, Interner, ParamEnvKey, PredicateKey, RegionKey, TyKey,
+    AliasTy, ClauseKey, ClausesKey, Interner, ParamEnvKey, PredicateKey, RegionKey, TyKey,
 };
 
 impl<I: Interner> HasTree<I> for TraitRef<I::Key, I::Id> {
@@ -27,6 +28,13 @@ impl<I: Interner> HasTree<I> for AliasTerm<I::Key, I::Id> {
     ghost tree = { λ m a. alias_term_tree m a };
 
     ghost stays = { λ m n e a h. stays_alias_term e a h };
+}
+
+/// The tree of the alias term of its kind and its arguments: an alias by itself is no type.
+impl<I: Interner> HasTree<I> for AliasTy<I::Key, I::Id> {
+    ghost tree = { λ m a. alias_ty_tree m a };
+
+    ghost stays = { λ m n e a h. stays_alias_ty e a h };
 }
 
 impl<I: Interner> HasTree<I> for TraitPredicate<I::Key, I::Id> {

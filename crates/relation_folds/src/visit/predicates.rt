@@ -12,7 +12,7 @@ use relation_terms::predicate::{
     PredicateKind, ProjectionPredicate, SubtypePredicate, TraitPredicate, TraitRef,
 };
 use relation_terms::terms::parts::{Field, Fields, FieldsOf, clause_fields, predicate_fields};
-use relation_terms::terms::{Interner, RegionKey, TyKey};
+use relation_terms::terms::{AliasTy, Interner, RegionKey, TyKey};
 use std::ops::ControlFlow;
 
 // Goes over a part of a predicate.
@@ -61,6 +61,12 @@ impl<I: Interner> TypeVisitable<I> for TraitRef<I::Key, I::Id> {
 impl<I: Interner> TypeVisitable<I> for AliasTerm<I::Key, I::Id> {
     fn visit_with<V: TypeVisitor<I>>(&self, cx: &I, visitor: &mut V) -> ControlFlow<()> {
         visit_field(cx, &Field::AliasTerm(*self), visitor)
+    }
+}
+
+impl<I: Interner> TypeVisitable<I> for AliasTy<I::Key, I::Id> {
+    fn visit_with<V: TypeVisitor<I>>(&self, cx: &I, visitor: &mut V) -> ControlFlow<()> {
+        visit_args_with(cx, &self.args, visitor)
     }
 }
 

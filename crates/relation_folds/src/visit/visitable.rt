@@ -119,6 +119,7 @@ impl<I: Interner> TypeVisitable<I> for TypeError<I::Key, I::Id, I::Name> {
             }
             TypeError::CyclicTy(ty) => ty.visit_with(cx, visitor),
             TypeError::CyclicConst(constant) => constant.visit_with(cx, visitor),
+            TypeError::ExistentialMismatch(pair) => pair.visit_with(cx, visitor),
             _ => ControlFlow::Continue(()),
         }
     }

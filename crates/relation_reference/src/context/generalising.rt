@@ -7,7 +7,7 @@ ghost use Rattle.relation_terms.specs.Heads.{const_sort, type_var, region_var};
 ghost use Rattle.relation_terms.specs.Trees.{Tree, leaf, known, count, IsTerm};
 ghost use Rattle.relation_terms.specs.Meaning.{Extends};
 ghost use Rattle.relation_terms.specs.Parts.{part_tree, part_sort, parts_of};
-ghost use Rattle.relation_terms.specs.Variances.{xform};
+ghost use Rattle.term_enums.specs.Variances.{xform};
 ghost use Rattle.relation_contexts.specs.Relation.{pointee_variance};
 ghost use Rattle.relation_contexts.specs.Lawful.{items_of};
 ghost use Rattle.relation_contexts.specs.Covered.{IsCovered};
@@ -21,7 +21,7 @@ ghost use Rattle.relation_reference.specs.Remembering.{vid_kind, vid_number, vid
 ghost use Rattle.relation_reference.specs.Generalises.{new_kind, met_at, IsFate, IsSure, Keeps, Generalises};
 ghost use Rattle.relation_reference.specs.Generalises.{GeneralisesFor};
 ghost use Rattle.relation_reference.specs.declared.context.generalising.Fate.TheVariants.{ByParts, GivesWay};
-ghost use Rattle.relation_terms.specs.declared.terms.enums.Variance.TheVariants.{Invariant};
+ghost use Rattle.term_enums.specs.declared.Variance.TheVariants.{Invariant};
 
 use crate::context::RefCtxt;
 use crate::context::memory::TermVid;

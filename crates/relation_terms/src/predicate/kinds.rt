@@ -1,11 +1,14 @@
 //! The outermost forms of clauses and of predicates.
+ghost use Rattle.std.specs.Prelude.{◌≡◌};
+
 use crate::predicate::{
     HostEffectPredicate, NormalizesTo, OutlivesPredicate, ProjectionPredicate, TraitPredicate,
 };
 use crate::terms::{AliasRelationDirection, Binder, ConstKey, Keys, RegionKey, TermKind, TyKey};
+use std::alloc::AllocError;
 
 /// What may be taken to hold, over keys, ids of items and names.
-#[derive(Clone, Copy, PartialEq, Eq, Hash)]
+#[derive(PartialEq, Eq, Hash)]
 pub enum ClauseKind<X, D, N> {
     Trait(TraitPredicate<X, D>),
     RegionOutlives(OutlivesPredicate<X, RegionKey<X>>),
@@ -23,7 +26,7 @@ pub enum ClauseKind<X, D, N> {
 }
 
 /// What can be asked to hold, over keys, ids of items and names.
-#[derive(Clone, Copy, PartialEq, Eq, Hash)]
+#[derive(PartialEq, Eq, Hash)]
 pub enum PredicateKind<X, D, N> {
     Clause(ClauseKind<X, D, N>),
     Subtype(SubtypePredicate<X>),
@@ -62,3 +65,27 @@ pub type PredicateForm<I> = Binder<
     <I as Keys>::Key,
     PredicateKind<<I as Keys>::Key, <I as Keys>::Id, <I as Keys>::Name>,
 >;
+
+impl<X: Copy, D: Copy, N: Copy> Clone for ClauseKind<X, D, N> {
+    ghost is_clone = { λ source copy. copy ≡ source };
+
+    ghost is_infallible = { λ _. Unit {0} };
+
+    fn clone(&self) -> Result<Self, AllocError> {
+        Ok(*self)
+    }
+}
+
+impl<X: Copy, D: Copy, N: Copy> Copy for ClauseKind<X, D, N> {}
+
+impl<X: Copy, D: Copy, N: Copy> Clone for PredicateKind<X, D, N> {
+    ghost is_clone = { λ source copy. copy ≡ source };
+
+    ghost is_infallible = { λ _. Unit {0} };
+
+    fn clone(&self) -> Result<Self, AllocError> {
+        Ok(*self)
+    }
+}
+
+impl<X: Copy, D: Copy, N: Copy> Copy for PredicateKind<X, D, N> {}

@@ -1,11 +1,14 @@
 //! The outermost forms of constants and of value trees.
+ghost use Rattle.std.specs.Prelude.{◌≡◌};
+
 use crate::terms::{
     ArgsKey, BoundConst, BranchesKey, ConstVid, DebruijnIndex, ErrorGuaranteed, Keys,
     PlaceholderConst, TyKey, UnevaluatedConst, ValTreeKey,
 };
+use std::alloc::AllocError;
 
 /// The outermost form of a constant, over keys, ids of items and names.
-#[derive(Clone, Copy, PartialEq, Eq, Hash)]
+#[derive(PartialEq, Eq, Hash)]
 pub enum ConstKind<X, D, N> {
     Param(ParamConst<N>),
     Infer(InferConst),
@@ -40,7 +43,7 @@ pub struct ParamConst<N> {
 pub struct ExprKind(pub u32);
 
 /// The outermost form of a value tree, over keys.
-#[derive(Clone, Copy, PartialEq, Eq, Hash)]
+#[derive(PartialEq, Eq, Hash)]
 pub enum ValTreeKind<X> {
     /// A bit pattern and its size in bytes.
     Leaf { bits: u128, size: u8 },
@@ -53,3 +56,27 @@ pub type ConstForm<I> = ConstKind<<I as Keys>::Key, <I as Keys>::Id, <I as Keys>
 
 /// The outermost form of an interner's value tree.
 pub type ValTreeForm<I> = ValTreeKind<<I as Keys>::Key>;
+
+impl<X: Copy, D: Copy, N: Copy> Clone for ConstKind<X, D, N> {
+    ghost is_clone = { λ source copy. copy ≡ source };
+
+    ghost is_infallible = { λ _. Unit {0} };
+
+    fn clone(&self) -> Result<Self, AllocError> {
+        Ok(*self)
+    }
+}
+
+impl<X: Copy, D: Copy, N: Copy> Copy for ConstKind<X, D, N> {}
+
+impl<X: Copy> Clone for ValTreeKind<X> {
+    ghost is_clone = { λ source copy. copy ≡ source };
+
+    ghost is_infallible = { λ _. Unit {0} };
+
+    fn clone(&self) -> Result<Self, AllocError> {
+        Ok(*self)
+    }
+}
+
+impl<X: Copy> Copy for ValTreeKind<X> {}

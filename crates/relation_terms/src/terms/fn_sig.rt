@@ -2,16 +2,7 @@
 ghost use Rattle.std.specs.Prelude.{◌≡◌};
 ghost use Rattle.relation_terms.specs.Meaning.{sig_of};
 
-use crate::terms::{ExternAbi, Safety, TysKey};
-
-/// What a signature says besides its types.
-#[derive(Clone, Copy, PartialEq, Eq, Hash)]
-pub struct FnHeader {
-    /// Whether more arguments may follow, as in C.
-    pub c_variadic: bool,
-    pub safety: Safety,
-    pub abi: ExternAbi,
-}
+use crate::terms::{FnHeader, TysKey};
 
 /// The types of a signature.
 #[derive(Clone, Copy, PartialEq, Eq, Hash)]

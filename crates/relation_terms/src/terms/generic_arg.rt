@@ -2,9 +2,10 @@
 ghost use Rattle.std.specs.Prelude.{◌≡◌};
 
 use crate::terms::{ConstKey, Keys, RegionKey, TyKey};
+use std::alloc::AllocError;
 
 /// What a generic parameter may be given: a region, a type or a constant.
-#[derive(Clone, Copy, PartialEq, Eq, Hash)]
+#[derive(PartialEq, Eq, Hash)]
 pub enum GenericArgKind<X> {
     Lifetime(RegionKey<X>),
     Ty(TyKey<X>),
@@ -12,7 +13,7 @@ pub enum GenericArgKind<X> {
 }
 
 /// What a projection may come to: a type or a constant.
-#[derive(Clone, Copy, PartialEq, Eq, Hash)]
+#[derive(PartialEq, Eq, Hash)]
 pub enum TermKind<X> {
     Ty(TyKey<X>),
     Const(ConstKey<X>),
@@ -41,3 +42,27 @@ impl<X: Copy> TermKind<X> {
         *self
     }
 }
+
+impl<X: Copy> Clone for GenericArgKind<X> {
+    ghost is_clone = { λ source copy. copy ≡ source };
+
+    ghost is_infallible = { λ _. Unit {0} };
+
+    fn clone(&self) -> Result<Self, AllocError> {
+        Ok(*self)
+    }
+}
+
+impl<X: Copy> Copy for GenericArgKind<X> {}
+
+impl<X: Copy> Clone for TermKind<X> {
+    ghost is_clone = { λ source copy. copy ≡ source };
+
+    ghost is_infallible = { λ _. Unit {0} };
+
+    fn clone(&self) -> Result<Self, AllocError> {
+        Ok(*self)
+    }
+}
+
+impl<X: Copy> Copy for TermKind<X> {}

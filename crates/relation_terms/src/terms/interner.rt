@@ -1,31 +1,30 @@
 //! What makes and reads keys.
-ghost use Rattle.std.specs.Prelude.{◌≡◌, IsTrue, IfOk, OnErr, Some, IsSome};
+ghost use Rattle.std.specs.Prelude.{◌≡◌, IsTrue, IfOk, OnErr, Some, IsSome, map};
 ghost use Rattle.std.specs.Option.{option_map};
-ghost use Rattle.relation_terms.specs.Heads.{type_sort, region_sort, const_sort, value_sort, argument_sort};
-ghost use Rattle.relation_terms.specs.Heads.{pattern_sort, existential_sort};
-ghost use Rattle.relation_terms.specs.Heads.{environment, environment_sort, predicate_sort, clause_sort};
+ghost use Rattle.relation_terms.specs.Heads.{environment};
 ghost use Rattle.relation_terms.specs.Flags.{flags_of};
 ghost use Rattle.relation_terms.specs.Trees.{known, list_tree, node, nil};
 ghost use Rattle.relation_terms.specs.Meaning.{Meaning, Extends, kind_tree, region_tree, const_tree, valtree_tree};
 ghost use Rattle.relation_terms.specs.Meaning.{arg_tree, pattern_tree, object_predicate_tree, bound_kinds};
-ghost use Rattle.relation_terms.specs.Interning.{AreEqualAsTrees, AreEqualAsNumbers, IsOfSort, AreOfSort, RemakesTy};
+ghost use Rattle.relation_terms.specs.Interning.{AreEqualAsTrees, AreEqualAsNumbers, Sorted, RemakesTy};
 ghost use Rattle.relation_terms.specs.Interning.{RemakesRegion, RemakesConst, RemakesValTree, RemakesEmptyEnv};
 ghost use Rattle.relation_terms.specs.Interning.{RemakesPat, MakesAlternatives, KeepsAlternatives};
 ghost use Rattle.relation_terms.specs.Interning.{MakesTys, MakesArgs, MakesBranches, KeepsTys, KeepsArgs};
 ghost use Rattle.relation_terms.specs.Interning.{KeepsBranches, MakesPredicates, KeepsPredicates, MakesBoundVars};
-ghost use Rattle.relation_terms.specs.Interning.{KeepsBoundVars, AreEqualAsKinds, AreBindersOf};
+ghost use Rattle.relation_terms.specs.Interning.{KeepsBoundVars, AreEqualAsKinds};
 ghost use Rattle.relation_terms.specs.Predicates.{predicate_tree, clause_tree};
 ghost use Rattle.relation_terms.specs.Predicates.{item_alias_variances, item_parent, item_alias};
 ghost use Rattle.relation_terms.specs.Interning.{FindsClause, RemakesPredicate, RemakesClause, MakesClauses};
-ghost use Rattle.relation_terms.specs.Interning.{KeepsClauses, RemakesEnv, IsBinderOf, MakesEnv, ReadsPredicates};
+ghost use Rattle.relation_terms.specs.Interning.{KeepsClauses, RemakesEnv, MakesEnv, ReadsPredicates};
 ghost use Rattle.relation_terms.specs.Interning.{IsEnvironmentOf, MakesPredicate};
+ghost use Rattle.relation_terms.specs.Owned.{StatesItsOwn, param_of};
 
-use crate::predicate::{AliasTermKind, ClauseForm, ObjectPredicate, PredicateForm};
+use crate::predicate::{AliasTermKind, ClauseForm, ObjectPredicate, PredicateForm, TraitRef};
 use crate::terms::{
-    Alternatives, BoundVariable, BoundVars, Branches, Clause, Clauses, Const, ConstForm,
-    ExistentialPredicates, GenericArg, GenericArgs, ItemOf, Keys, ParamEnv, Pat, PatternForm,
-    Predicate, Region, RegionForm, SolverTraitLangItem, Span, TraitAssocTermId, TraitId, Ty,
-    TyForm, TypeFlags, Tys, ValTree, ValTreeForm, Variance,
+    Alternatives, Binder, BoundVariable, BoundVars, Branches, Clause, Clauses, Const, ConstForm,
+    ExistentialPredicates, GenericArg, GenericArgs, GenericParam, ItemOf, Keys, ParamEnv, Pat,
+    PatternForm, Predicate, Region, RegionForm, SolverTraitLangItem, Span, Symbol,
+    TraitAssocTermId, TraitId, Ty, TyForm, TypeFlags, Tys, ValTree, ValTreeForm, Variance,
 };
 use std::alloc::{AllocError, AllocFailed, Global};
 
@@ -197,6 +196,37 @@ pub trait Interner: Keys {
     /// Whether the next solver is on everywhere.
     fn next_trait_solver_globally(&self) -> bool
         ensures { result ≡ ((meaning self.now).tables).next_solver };
+
+    /// The super-predicates of a trait, each with its place.
+    fn explicit_super_predicates_of(
+        &self,
+        trait_id: &TraitId<Self::Id>,
+    ) -> &[(Clause<Self>, Span<Self>)]
+        ensures { let m = meaning self.now in
+            map (λ p. p.0) result.now ≡ (m.tables).super_predicates (m.id (trait_id.now).0) };
+
+    /// All predicates that a trait implies, each with its place.
+    fn explicit_implied_predicates_of(
+        &self,
+        trait_id: &TraitId<Self::Id>,
+    ) -> &[(Clause<Self>, Span<Self>)]
+        ensures { let m = meaning self.now in
+            map (λ p. p.0) result.now ≡ (m.tables).implied_predicates (m.id (trait_id.now).0) };
+
+    /// The const bounds of a trait.
+    fn explicit_implied_const_bounds(
+        &self,
+        trait_id: &TraitId<Self::Id>,
+    ) -> &[Binder<Self::Key, TraitRef<Self::Key, Self::Id>>]
+        ensures { let m = meaning self.now in result.now ≡ (m.tables).const_bounds (m.id (trait_id.now).0) };
+
+    /// The generic parameters of an item, in order.
+    fn generics_of(&self, def_id: &ItemOf<Self>) -> &[GenericParam<Self::Name>]
+        ensures { let m = meaning self.now in
+            map (param_of m) result.now ≡ (m.tables).params (m.id (def_id.now).0) };
+
+    /// The name that stands for no name.
+    fn dummy_name(&self) -> Symbol<Self>;
 
     /// The type of an outermost form.
     fn mk_ty(&mut self, kind: TyForm<Self>) -> Result<Ty<Self>, OutOfMemory>
@@ -386,31 +416,8 @@ pub trait Interner: Keys {
     ghost same_id: { (a : Self) → AreEqualAsNumbers (meaning a).id (λ d e. Self.Id.eq d e) };
 
     // The tree of a known key is a term of its sort.
-    ghost is_ty: { (a : Self) → IsOfSort (meaning a).ty type_sort };
+    ghost sorted: { (a : Self) → Sorted (meaning a) };
 
-    ghost is_region: { (a : Self) → IsOfSort (meaning a).region region_sort };
-
-    ghost are_tys: { (a : Self) → AreOfSort (meaning a).tys type_sort };
-
-    ghost is_const: { (a : Self) → IsOfSort (meaning a).const_ const_sort };
-
-    ghost is_valtree: { (a : Self) → IsOfSort (meaning a).valtree value_sort };
-
-    ghost are_args: { (a : Self) → AreOfSort (meaning a).args argument_sort };
-
-    ghost are_branches: { (a : Self) → AreOfSort (meaning a).branches const_sort };
-
-    ghost is_pat: { (a : Self) → IsOfSort (meaning a).pat pattern_sort };
-
-    ghost are_alternatives: { (a : Self) → AreOfSort (meaning a).alternatives pattern_sort };
-
-    ghost are_existential_predicates: { (a : Self) → AreBindersOf (meaning a).existential_predicates existential_sort };
-
-    ghost is_predicate: { (a : Self) → IsBinderOf (meaning a).predicate predicate_sort };
-
-    ghost is_clause: { (a : Self) → IsBinderOf (meaning a).clause clause_sort };
-
-    ghost are_clauses: { (a : Self) → AreBindersOf (meaning a).clauses clause_sort };
-
-    ghost is_param_env: { (a : Self) → IsOfSort (meaning a).param_env environment_sort };
+    // What traits state binds in itself alone, and finitely many state something.
+    ghost states: { (a : Self) → StatesItsOwn (meaning a) };
 }

@@ -79,6 +79,10 @@ pub struct ClausesKey<X>(pub X);
 #[derive(Clone, Copy, PartialEq, Eq, Hash)]
 pub struct ParamEnvKey<X>(pub X);
 
+/// The key of a list of ids of items.
+#[derive(Clone, Copy, PartialEq, Eq, Hash)]
+pub struct LocalDefIdsKey<X>(pub X);
+
 /// A type of an interner.
 pub type Ty<I> = TyKey<<I as Keys>::Key>;
 
@@ -123,6 +127,9 @@ pub type Clauses<I> = ClausesKey<<I as Keys>::Key>;
 
 /// An environment of an interner.
 pub type ParamEnv<I> = ParamEnvKey<<I as Keys>::Key>;
+
+/// A list of ids of items, of an interner.
+pub type LocalDefIds<I> = LocalDefIdsKey<<I as Keys>::Key>;
 
 /// A name of an interner.
 pub type Symbol<I> = <I as Keys>::Name;

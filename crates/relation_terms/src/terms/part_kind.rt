@@ -1,12 +1,14 @@
 //! Parts of terms, of any sort, and lists of them.
+ghost use Rattle.std.specs.Prelude.{◌≡◌};
+
 use crate::predicate::ExistentialPredicate;
 use crate::terms::{
     AlternativesKey, ArgsKey, BoundVarsKey, BranchesKey, ConstKey, ExistentialPredicatesKey, FnSig,
     Keys, PatKey, RegionKey, TermKind, TyKey, TysKey, ValTreeKey,
 };
+use std::alloc::AllocError;
 
 /// A term of any sort that can be a part.
-#[derive(Clone, Copy)]
 pub enum Part<X, D> {
     Region(RegionKey<X>),
     Ty(TyKey<X>),
@@ -26,7 +28,6 @@ pub enum Part<X, D> {
 }
 
 /// What stands under a binder.
-#[derive(Clone, Copy)]
 pub enum Body<X, D> {
     Signature(FnSig<X>),
     Ty(TyKey<X>),
@@ -34,7 +35,6 @@ pub enum Body<X, D> {
 }
 
 /// A list of parts: those of a form, as the form has them, or a list that has a key.
-#[derive(Clone, Copy)]
 pub enum Parts<X, D> {
     Empty,
     One(Part<X, D>),
@@ -55,3 +55,39 @@ pub type PartOf<I> = Part<<I as Keys>::Key, <I as Keys>::Id>;
 
 /// A list of parts of an interner's terms.
 pub type PartsOf<I> = Parts<<I as Keys>::Key, <I as Keys>::Id>;
+
+impl<X: Copy, D: Copy> Clone for Part<X, D> {
+    ghost is_clone = { λ source copy. copy ≡ source };
+
+    ghost is_infallible = { λ _. Unit {0} };
+
+    fn clone(&self) -> Result<Self, AllocError> {
+        Ok(*self)
+    }
+}
+
+impl<X: Copy, D: Copy> Copy for Part<X, D> {}
+
+impl<X: Copy, D: Copy> Clone for Body<X, D> {
+    ghost is_clone = { λ source copy. copy ≡ source };
+
+    ghost is_infallible = { λ _. Unit {0} };
+
+    fn clone(&self) -> Result<Self, AllocError> {
+        Ok(*self)
+    }
+}
+
+impl<X: Copy, D: Copy> Copy for Body<X, D> {}
+
+impl<X: Copy, D: Copy> Clone for Parts<X, D> {
+    ghost is_clone = { λ source copy. copy ≡ source };
+
+    ghost is_infallible = { λ _. Unit {0} };
+
+    fn clone(&self) -> Result<Self, AllocError> {
+        Ok(*self)
+    }
+}
+
+impl<X: Copy, D: Copy> Copy for Parts<X, D> {}

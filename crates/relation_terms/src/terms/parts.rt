@@ -13,8 +13,9 @@ mod whole;
 
 pub use forms::{const_parts, existential_parts, pattern_parts, ty_parts, valtree_parts};
 pub use keys::{
-    the_alternatives, the_args, the_branches, the_const, the_input_types, the_pat, the_predicates,
-    the_region, the_ty, the_tys, the_valtree,
+    of_arg, the_alternatives, the_arg, the_args, the_branches, the_const, the_existential,
+    the_input_types, the_inputs, the_pat, the_predicates, the_region, the_signature, the_ty,
+    the_tys, the_valtree,
 };
 pub use members::{make_parts, member, member_count};
 pub use orders::visited_place;

@@ -1,8 +1,11 @@
 //! The outermost forms of patterns.
+ghost use Rattle.std.specs.Prelude.{◌≡◌};
+
 use crate::terms::{AlternativesKey, ConstKey, Keys};
+use std::alloc::AllocError;
 
 /// The outermost form of a pattern, over keys.
-#[derive(Clone, Copy, PartialEq, Eq, Hash)]
+#[derive(PartialEq, Eq, Hash)]
 pub enum PatternKind<X> {
     /// The values between two constants, both included.
     Range {
@@ -17,3 +20,15 @@ pub enum PatternKind<X> {
 
 /// The outermost form of an interner's pattern.
 pub type PatternForm<I> = PatternKind<<I as Keys>::Key>;
+
+impl<X: Copy> Clone for PatternKind<X> {
+    ghost is_clone = { λ source copy. copy ≡ source };
+
+    ghost is_infallible = { λ _. Unit {0} };
+
+    fn clone(&self) -> Result<Self, AllocError> {
+        Ok(*self)
+    }
+}
+
+impl<X: Copy> Copy for PatternKind<X> {}

@@ -1,8 +1,11 @@
 //! The forms of regions.
+ghost use Rattle.std.specs.Prelude.{◌≡◌};
+
 use crate::terms::{BoundVar, DebruijnIndex, Keys, Placeholder, RegionVid};
+use std::alloc::AllocError;
 
 /// The form of a region, over names.
-#[derive(Clone, Copy, PartialEq, Eq, Hash)]
+#[derive(PartialEq, Eq, Hash)]
 pub enum RegionKind<N> {
     ReStatic,
     ReEarlyParam(EarlyParamRegion<N>),
@@ -31,3 +34,15 @@ pub type PlaceholderRegion<N> = Placeholder<BoundRegion<N>>;
 
 /// The form of an interner's region.
 pub type RegionForm<I> = RegionKind<<I as Keys>::Name>;
+
+impl<N: Copy> Clone for RegionKind<N> {
+    ghost is_clone = { λ source copy. copy ≡ source };
+
+    ghost is_infallible = { λ _. Unit {0} };
+
+    fn clone(&self) -> Result<Self, AllocError> {
+        Ok(*self)
+    }
+}
+
+impl<N: Copy> Copy for RegionKind<N> {}

@@ -1,6 +1,7 @@
 //! The variables of a binder, and lists of them.
-ghost use Rattle.std.specs.Prelude.{◌≡◌, OnOk};
-ghost use Rattle.relation_tools.specs.Anonymous.{same_var, place_in, one_more};
+ghost use Rattle.std.specs.Prelude.{◌≡◌, ◌↔◌, IsTrue, OnOk};
+ghost use Rattle.std.specs.List.{All};
+ghost use Rattle.relation_tools.specs.Anonymous.{same_var, place_in, one_more, StandsBelow};
 
 use relation_terms::terms::OutOfMemory;
 
@@ -45,4 +46,25 @@ pub fn add(vars: &mut Vec<UsedVar>, var: UsedVar) -> Result<(), OutOfMemory>
         Some(_) => Ok(()),
         None => Ok(vars.push(var)?),
     }
+}
+
+// Whether the place of a variable is below a number.
+fn stands_below(var: &UsedVar, count: usize) -> bool
+    ensures { IsTrue result ↔ StandsBelow count var.now }
+{
+    match var {
+        UsedVar::Ty(place) | UsedVar::Region(place) | UsedVar::Const(place) => *place < count,
+    }
+}
+
+/// Whether the places of all variables of a list are below a number.
+pub fn stand_below(vars: &[UsedVar], count: usize) -> bool
+    ensures { IsTrue result ↔ All (StandsBelow count) vars.now }
+{
+    for var in vars {
+        if !stands_below(var, count) {
+            return false;
+        }
+    }
+    true
 }

@@ -5,7 +5,7 @@ ghost use Rattle.std.specs.Option.{option_map};
 ghost use Rattle.relation_terms.specs.Trees.{known};
 ghost use Rattle.relation_terms.specs.Meaning.{Extends, arg_tree, kind_tree};
 ghost use Rattle.relation_tools.specs.Assumptions.{IsKnown, assumed};
-ghost use Rattle.relation_tools.specs.Assuming.{argument_of, pair_of, IsKnownComponent, Gains, Assumes};
+ghost use Rattle.relation_tools.specs.Assuming.{argument_of, pair_of, IsArgumentOf, IsKnownComponent, Gains, Assumes};
 ghost use Rattle.relation_tools.specs.declared.outlives.Component.{Region as RegionComponent};
 
 use crate::elaborate::OutlivesAssumption;
@@ -39,16 +39,18 @@ fn ty_arg<I: Interner>(cx: &mut I, kind: TyForm<I>) -> Result<Option<GenericArg<
     Ok(Some(GenericArgKind::Ty(cx.mk_ty(kind)?)))
 }
 
-// The argument that a component is, if it is an assumption of its own.
-fn arg_of<I: Interner>(
+/// The argument that a component is, if it is an assumption of its own that this outlives a region: a region that no
+/// binder binds, a parameter, a placeholder, and an alias that no variable escapes.
+///
+/// Answers `OutOfMemory` where a growth was refused; all keys keep their meanings.
+pub fn assumed_argument<I: Interner>(
     cx: &mut I,
     component: &ComponentOf<I>,
 ) -> Result<Option<GenericArg<I>>, OutOfMemory>
     requires { IsKnownComponent (I.meaning cx.old) component.now }
     ensures grown { Extends (I.meaning cx.old) (I.meaning cx.new) }
     ensures sure { IfOk result (λ o. IfSome o (λ a. IsTrue (known (arg_tree (I.meaning cx.new) a)))) }
-    ensures is { IfOk result (λ o. option_map (arg_tree (I.meaning cx.new)) o ≡
-        argument_of (I.meaning cx.old) component.now) }
+    ensures is { IfOk result (λ o. IsArgumentOf (I.meaning cx.old) (I.meaning cx.new) component.now o) }
 {
     match component {
         Component::Region(region) => Ok(unbound_region(cx, region)),
@@ -91,7 +93,7 @@ fn add_component<I: Interner>(
         OnOk result (Gains m (I.meaning cx.new) collected.old.keys collected.new.keys
         (filter_map (pair_of m (m.region region.now)) (component.now ∷ []))) }
 {
-    let found = arg_of(cx, component)?;
+    let found = assumed_argument(cx, component)?;
     match found {
         Some(arg) => assume(cx, OutlivesPredicate(arg, *region), collected),
         None => Ok(()),

@@ -1,10 +1,10 @@
 //! Relating the arguments of items.
 ghost use Rattle.std.specs.Prelude.{◌≡◌, ◌≢◌, ◌<◌, IsTrue, IfOk};
-ghost use Rattle.relation_terms.specs.declared.terms.enums.Variance.TheVariants.{Bivariant};
+ghost use Rattle.term_enums.specs.declared.Variance.TheVariants.{Bivariant};
 ghost use Rattle.relation_terms.specs.Heads.{arguments};
 ghost use Rattle.relation_terms.specs.Trees.{known, node, count, nth, IsList, list_tree};
 ghost use Rattle.relation_terms.specs.Meaning.{Extends, arg_tree};
-ghost use Rattle.relation_terms.specs.Variances.{xform};
+ghost use Rattle.term_enums.specs.Variances.{xform};
 ghost use Rattle.relation_contexts.specs.Lawful.{WithMeaning, OnlyMemory};
 ghost use Rattle.type_relations.specs.Keyed.{AreAsMany, AreOver, AskedLists, AskedTys, RelatedLists};
 ghost use Rattle.type_relations.specs.Makers.{TakesLists, GrowsByCall, MakesOverList};

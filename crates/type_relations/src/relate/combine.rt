@@ -3,7 +3,7 @@ ghost use Rattle.std.specs.Prelude.{◌≡◌, ◌≢◌, ◌<◌, [], ◌∷◌
 ghost use Rattle.std.specs.Borrow.{sem, Lends};
 ghost use Rattle.relation_terms.specs.Trees.{known, count, nth};
 ghost use Rattle.relation_terms.specs.Meaning.{arg_tree};
-ghost use Rattle.relation_terms.specs.declared.terms.enums.Variance.TheVariants.{Bivariant};
+ghost use Rattle.term_enums.specs.declared.Variance.TheVariants.{Bivariant};
 ghost use Rattle.type_relations.specs.Bivariance.{is_left_open, TellsOpen, TellsEitherOpen, AsksWellFormed};
 ghost use Rattle.type_relations.specs.Combining.{TysCombine, ConstsCombine};
 ghost use Rattle.relation_contexts.specs.ContextCalls.{Grows};

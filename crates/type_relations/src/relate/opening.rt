@@ -2,7 +2,7 @@
 ghost use Rattle.std.specs.Prelude.{◌≡◌, ◌≢◌, ◌<◌, IfOk, IfSome, IsTrue};
 ghost use Rattle.relation_terms.specs.Parts.{part_tree, part_sort};
 ghost use Rattle.relation_terms.specs.Trees.{known};
-ghost use Rattle.relation_terms.specs.declared.terms.enums.Variance.TheVariants.{Bivariant};
+ghost use Rattle.term_enums.specs.declared.Variance.TheVariants.{Bivariant};
 ghost use Rattle.type_relations.specs.Keyed.{AskedParts};
 ghost use Rattle.relation_contexts.specs.Parts.{IsBinderPart, IsRelatedPart, ArePaired};
 ghost use Rattle.type_relations.specs.Rounds.{OpenedParts};

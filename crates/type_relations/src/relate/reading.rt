@@ -1,8 +1,8 @@
 //! Reading terms through a relation's interner.
 ghost use Rattle.std.specs.Prelude.{◌≡◌, ◌≢◌, ◌↔◌, ◌<◌, IsTrue, OnOk, IfErr};
 ghost use Rattle.relation_terms.specs.Trees.{known, count, nth, IsList};
-ghost use Rattle.relation_terms.specs.declared.terms.enums.Variance.TheVariants.{Bivariant};
-ghost use Rattle.relation_terms.specs.Variances.{xform};
+ghost use Rattle.term_enums.specs.declared.Variance.TheVariants.{Bivariant};
+ghost use Rattle.term_enums.specs.Variances.{xform};
 ghost use Rattle.relation_terms.specs.Meaning.{arg_tree};
 ghost use Rattle.relation_terms.specs.Parts.{part_tree, part_sort};
 ghost use Rattle.relation_contexts.specs.Relation.{part_at, pointee_variance};

@@ -1,7 +1,7 @@
 //! What can be related.
 ghost use Rattle.std.specs.Prelude.{◌≡◌, ◌≢◌, IsTrue, Option, Some, None};
 ghost use Rattle.std.proofs.Common.{ap, refl, sym, ◌∙◌};
-ghost use Rattle.relation_terms.specs.declared.terms.enums.Variance.TheVariants.{Bivariant};
+ghost use Rattle.term_enums.specs.declared.Variance.TheVariants.{Bivariant};
 ghost use Rattle.relation_terms.specs.Meaning.{Meaning, Extends};
 ghost use Rattle.relation_terms.specs.Trees.{known, count};
 ghost use Rattle.relation_terms.specs.Heads.{Head, arguments};
@@ -9,7 +9,7 @@ ghost use Rattle.relation_terms.specs.Interning.{AreEqualAsTrees};
 ghost use Rattle.relation_folds.proofs.Arguments.{arg_same};
 ghost use Rattle.type_relations.specs.Arguments.{IsListForm};
 ghost use Rattle.type_relations.specs.Terms.{AskedTerms, RelatedTerms, TermsRegister};
-ghost use Rattle.type_relations.specs.EqualTerms.{sorted_by, term_same};
+ghost use Rattle.type_relations.specs.EqualTerms.{term_same};
 
 mod binder;
 mod forms;
@@ -141,9 +141,7 @@ impl<I: Interner> Relate<I> for GenericArgKind<I::Key> {
 
     ghost same = { λ cx. arg_same (I.meaning cx) I.Key.eq _ (λ x y. refl) (λ x y. refl) (λ x y. refl)
         (λ x y. refl) (λ x y. refl) (λ x y. refl) (λ x y. refl) (λ x y. refl) (λ x y. refl) (I.same_region cx)
-        (I.same_ty cx) (I.same_const cx) (sorted_by (I.meaning cx) (I.is_ty cx) (I.is_region cx) (I.are_tys cx)
-        (I.is_const cx) (I.is_valtree cx) (I.are_args cx) (I.are_branches cx) (I.is_pat cx) (I.are_alternatives cx)
-        (I.are_existential_predicates cx)) };
+        (I.same_ty cx) (I.same_const cx) (I.sorted cx) };
 }
 
 impl<I: Interner> Relate<I> for ArgsKey<I::Key> {
@@ -191,7 +189,5 @@ impl<I: Interner> Relate<I> for TermKind<I::Key> {
     ghost fits_on = { λ m n e x y h k f. tt };
 
     ghost same = { λ cx. term_same (I.meaning cx) I.Key.eq _ (λ x y. refl) (λ x y. refl) (λ x y. refl) (λ x y. refl)
-        (I.same_region cx) (I.same_ty cx) (I.same_const cx) (sorted_by (I.meaning cx) (I.is_ty cx) (I.is_region cx)
-        (I.are_tys cx) (I.is_const cx) (I.is_valtree cx) (I.are_args cx) (I.are_branches cx) (I.is_pat cx)
-        (I.are_alternatives cx) (I.are_existential_predicates cx)) };
+        (I.same_region cx) (I.same_ty cx) (I.same_const cx) (I.sorted cx) };
 }

@@ -3,7 +3,7 @@ ghost use Rattle.std.specs.Prelude.{◌≡◌, ◌≢◌, IfErr, []};
 ghost use Rattle.relation_terms.specs.Meaning.{Extends};
 ghost use Rattle.relation_folds.specs.Faults.{KnowsFault, IfSpent};
 ghost use Rattle.relation_contexts.specs.Stores.{IsSound};
-ghost use Rattle.relation_contexts.specs.Steps.{IsLater, BindsItsOwn};
+ghost use Rattle.relation_contexts.specs.Steps.{IsLater};
 ghost use Rattle.relation_contexts.specs.Contexts.{KnowsEnv, SpendsByBinding, RegistersGoals};
 ghost use Rattle.type_relations.specs.Relating.{KnowsTerm, TakesTerm, HasTerm, AreOne, AnswersTerms};
 ghost use Rattle.type_relations.specs.Relating.{KeepsEqual, TellsApart, AnswersError, AnswersExactly, ProvesApart};
@@ -96,7 +96,6 @@ pub trait RelateExt: InferCtxtLike {
         ensures no_unifier { ProvesApart Self.state self.old self.new T.over T.tree variance lhs rhs result }
         ensures later { IsLater (Self.state self.old).store (Self.state self.new).store }
         ensures made { MakesToRelate Self.state self.old self.new T.over T.tree lhs rhs }
-        ensures bound { BindsItsOwn (Self.state self.old).store (Self.state self.new).store }
         ensures sound { IsSound (Self.state self.new).store }
         ensures budget { SpendsByBinding (Self.state self.old) (Self.state self.new) }
         ensures enough { SpendsNoMore Self.state self.old self.new T.over T.tree variance lhs rhs result }
@@ -136,7 +135,6 @@ impl<Infcx: InferCtxtLike> RelateExt for Infcx {
         ensures no_unifier { ProvesApart Infcx.state self.old self.new T.over T.tree variance lhs rhs result }
         ensures later { IsLater (Infcx.state self.old).store (Infcx.state self.new).store }
         ensures made { MakesToRelate Infcx.state self.old self.new T.over T.tree lhs rhs }
-        ensures bound { BindsItsOwn (Infcx.state self.old).store (Infcx.state self.new).store }
         ensures sound { IsSound (Infcx.state self.new).store }
         ensures budget { SpendsByBinding (Infcx.state self.old) (Infcx.state self.new) }
         ensures enough { SpendsNoMore Infcx.state self.old self.new T.over T.tree variance lhs rhs result }

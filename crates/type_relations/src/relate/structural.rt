@@ -2,8 +2,8 @@
 //!
 //! These calls stand beside the relation, whose steps never call them: one proof serves all relations.
 ghost use Rattle.std.specs.Prelude.{◌≡◌, ◌≢◌, IsTrue, Some, None, IfOk, OnOk};
-ghost use Rattle.relation_terms.specs.declared.terms.enums.Variance.TheVariants.{Bivariant};
-ghost use Rattle.relation_terms.specs.Variances.{xform};
+ghost use Rattle.term_enums.specs.declared.Variance.TheVariants.{Bivariant};
+ghost use Rattle.term_enums.specs.Variances.{xform};
 ghost use Rattle.relation_terms.specs.Heads.{object};
 ghost use Rattle.relation_terms.specs.Meaning.{arg_tree, signature_tree, existential_tree};
 ghost use Rattle.relation_terms.specs.Parts.{part_tree, part_sort};

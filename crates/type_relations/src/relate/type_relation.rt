@@ -1,8 +1,8 @@
 //! Relations in steps, none of which relates anything by itself.
 ghost use Rattle.std.specs.Prelude.{◌≡◌, ◌≢◌, ◌<◌, IfSome, IfNone, IfOk};
 ghost use Rattle.std.specs.Borrow.{sem, Lends};
-ghost use Rattle.relation_terms.specs.declared.terms.enums.Variance.{Variance};
-ghost use Rattle.relation_terms.specs.declared.terms.enums.Variance.TheVariants.{Invariant, Bivariant};
+ghost use Rattle.term_enums.specs.declared.Variance.{Variance};
+ghost use Rattle.term_enums.specs.declared.Variance.TheVariants.{Invariant, Bivariant};
 ghost use Rattle.relation_contexts.specs.Stores.{IsSound};
 ghost use Rattle.relation_contexts.specs.Lawful.{State, Manners, TakesParts, Turned, Noted};
 ghost use Rattle.relation_contexts.specs.Lawful.{RelatesByDeclared};

@@ -1,8 +1,10 @@
-use Rattle.std.proofs.Common.{◌≤◌, subst, sym, length, le_refl, refl, ◌∙◌}
-use Rattle.reference_interner.specs.Items.{Items, new_item}
+use Rattle.std.proofs.Common.{◌≤◌, subst, sym, length, le_refl, refl, ◌∙◌, ap, map, is_ok}
+use Rattle.reference_interner.specs.Items.{Items}
 use Rattle.reference_interner.specs.Adding.{items_in}
 use Rattle.reference_interner.proofs.ItemLemmas.{same_terms, no_generics, new_variances, new_generics, new_alias_variances}
 use Rattle.reference_interner.proofs.ItemLemmas.{new_parent, new_alias_kind, new_auto, new_lang, no_lang, others_stand}
+use Rattle.reference_interner.proofs.ItemLemmas.{new_params, new_states}
+use Rattle.reference_interner.proofs.StatedLemmas.{stated_item}
 use Rattle.reference_interner.proofs.RefInterner.add_item.Goals as goal
 
 pub returns-clause-fresh : goal.returns-clause-fresh
@@ -15,64 +17,56 @@ pub returns-clause-generics : goal.returns-clause-generics
 returns-clause-generics c =
     let before = items_in c.args.self.now in
     let after : Items = record { list = c.push.new.self.items; next_solver = c.args.self.now.next_solver } in
-    let item = new_item c.args.kind c.args.name c.args.variances in
-    new_generics before after item c.args.self.now.nodes.items c.in_ok-number.number
+    new_generics before after _ c.args.self.now.nodes.items c.in_ok-number.number
     c.in_ok-push.ensures.items (c.in_ok-number.ensures.number ∙ c.item_count.ensures) refl
 
 pub returns-clause-variances : goal.returns-clause-variances
 returns-clause-variances c =
     let before = items_in c.args.self.now in
     let after : Items = record { list = c.push.new.self.items; next_solver = c.args.self.now.next_solver } in
-    let item = new_item c.args.kind c.args.name c.args.variances in
-    new_variances before after item c.args.self.now.nodes.items c.in_ok-number.number
+    new_variances before after _ c.args.self.now.nodes.items c.in_ok-number.number
     c.in_ok-push.ensures.items (c.in_ok-number.ensures.number ∙ c.item_count.ensures) refl
 
 pub returns-clause-alias_variances : goal.returns-clause-alias_variances
 returns-clause-alias_variances c =
     let before = items_in c.args.self.now in
     let after : Items = record { list = c.push.new.self.items; next_solver = c.args.self.now.next_solver } in
-    let item = new_item c.args.kind c.args.name c.args.variances in
-    new_alias_variances before after item c.args.self.now.nodes.items c.in_ok-number.number
+    new_alias_variances before after _ c.args.self.now.nodes.items c.in_ok-number.number
     c.in_ok-push.ensures.items (c.in_ok-number.ensures.number ∙ c.item_count.ensures) refl
 
 pub returns-clause-parent : goal.returns-clause-parent
 returns-clause-parent c =
     let before = items_in c.args.self.now in
     let after : Items = record { list = c.push.new.self.items; next_solver = c.args.self.now.next_solver } in
-    let item = new_item c.args.kind c.args.name c.args.variances in
-    new_parent before after item c.args.self.now.nodes.items c.in_ok-number.number
+    new_parent before after _ c.args.self.now.nodes.items c.in_ok-number.number
     c.in_ok-push.ensures.items (c.in_ok-number.ensures.number ∙ c.item_count.ensures) refl
 
 pub returns-clause-alias_kind : goal.returns-clause-alias_kind
 returns-clause-alias_kind c =
     let before = items_in c.args.self.now in
     let after : Items = record { list = c.push.new.self.items; next_solver = c.args.self.now.next_solver } in
-    let item = new_item c.args.kind c.args.name c.args.variances in
-    new_alias_kind before after item c.args.self.now.nodes.items c.in_ok-number.number
+    new_alias_kind before after _ c.args.self.now.nodes.items c.in_ok-number.number
     c.in_ok-push.ensures.items (c.in_ok-number.ensures.number ∙ c.item_count.ensures) refl
 
 pub returns-clause-no_auto : goal.returns-clause-no_auto
 returns-clause-no_auto c =
     let before = items_in c.args.self.now in
     let after : Items = record { list = c.push.new.self.items; next_solver = c.args.self.now.next_solver } in
-    let item = new_item c.args.kind c.args.name c.args.variances in
-    new_auto before after item c.args.self.now.nodes.items c.in_ok-number.number
+    new_auto before after _ c.args.self.now.nodes.items c.in_ok-number.number
     c.in_ok-push.ensures.items (c.in_ok-number.ensures.number ∙ c.item_count.ensures) refl
 
 pub returns-clause-no_lang_item : goal.returns-clause-no_lang_item
 returns-clause-no_lang_item c =
     let before = items_in c.args.self.now in
     let after : Items = record { list = c.push.new.self.items; next_solver = c.args.self.now.next_solver } in
-    let item = new_item c.args.kind c.args.name c.args.variances in
-    λ i. new_lang before after item c.args.self.now.nodes.items c.in_ok-number.number
-    c.in_ok-push.ensures.items (c.in_ok-number.ensures.number ∙ c.item_count.ensures) refl i ∙ no_lang i item refl
+    λ i. new_lang before after _ c.args.self.now.nodes.items c.in_ok-number.number
+    c.in_ok-push.ensures.items (c.in_ok-number.ensures.number ∙ c.item_count.ensures) refl i ∙ no_lang i _ refl
 
 pub returns-clause-others : goal.returns-clause-others
 returns-clause-others c =
     let before = items_in c.args.self.now in
     let after : Items = record { list = c.push.new.self.items; next_solver = c.args.self.now.next_solver } in
-    let item = new_item c.args.kind c.args.name c.args.variances in
-    others_stand before after item c.args.self.now.nodes.items c.in_ok-number.number
+    others_stand before after _ c.args.self.now.nodes.items c.in_ok-number.number
     c.in_ok-push.ensures.items (c.in_ok-number.ensures.number ∙ c.item_count.ensures) refl
 
 pub returns-clause-terms : goal.returns-clause-terms
@@ -80,3 +74,38 @@ returns-clause-terms c =
     let before = items_in c.args.self.now in
     let after : Items = record { list = c.push.new.self.items; next_solver = c.args.self.now.next_solver } in
     same_terms before after c.args.self.now.nodes.items
+
+pub returns-clause-params : goal.returns-clause-params
+returns-clause-params c =
+    let before = items_in c.args.self.now in
+    let after : Items = record { list = c.push.new.self.items; next_solver = c.args.self.now.next_solver } in
+    new_params before after _ c.args.self.now.nodes.items c.in_ok-number.number
+    c.in_ok-push.ensures.items (c.in_ok-number.ensures.number ∙ c.item_count.ensures) refl
+
+pub returns-clause-nothing_stated : goal.returns-clause-nothing_stated
+returns-clause-nothing_stated c =
+    let before = items_in c.args.self.now in
+    let after : Items = record { list = c.push.new.self.items; next_solver = c.args.self.now.next_solver } in
+    new_states before after _ c.args.self.now.nodes.items c.in_ok-number.number
+    c.in_ok-push.ensures.items (c.in_ok-number.ensures.number ∙ c.item_count.ensures) refl
+    (ap (map (λ p. p.0)) c.new.ensures.items) (ap (map (λ p. p.0)) c.new-2.ensures.items) c.new-3.ensures.items
+
+pub returns-clause-recorded : goal.returns-clause-recorded
+returns-clause-recorded c = record {
+  item = _;
+  put = c.in_ok-push.ensures.items;
+  kind = refl;
+  name = refl;
+  variances = refl;
+  no_auto = refl;
+  no_sized = refl;
+  no_supers = ap (map (λ p. p.0)) c.new.ensures.items;
+  no_implied = ap (map (λ p. p.0)) c.new-2.ensures.items;
+  no_bounds = c.new-3.ensures.items;
+}
+
+pub invariant_of-self-clause-stated : goal.invariant_of-self-clause-stated
+invariant_of-self-clause-stated c =
+    stated_item c.args.self.now.nodes.items c.args.self.now.items.items c.push.new.self.items _ (is_ok c.push.result)
+    (ap (map (λ p. p.0)) c.new.ensures.items) (ap (map (λ p. p.0)) c.new-2.ensures.items) c.new-3.ensures.items
+    c.push.ensures.items c.args.self.now.stated

@@ -1,5 +1,6 @@
 use Rattle.std.proofs.Common.{ℕ, ◌≡◌, Option, Some, cond, length, subst, subst₂, sym, ◌∙◌, ap, ◌++◌, ◌∷◌, []}
 use Rattle.std.specs.HashMap.{get}
+use Rattle.std.specs.Map.{lookup}
 use Rattle.reference_interner.specs.declared.node.Node.{Node}
 use Rattle.reference_interner.specs.Nodes.{AllKnown, AllDistinct}
 use Rattle.reference_interner.specs.Finding.{Finds}
@@ -9,6 +10,8 @@ use Rattle.reference_interner.proofs.OnceLemmas.{known_alone, all_known, all_dis
 use Rattle.reference_interner.proofs.FindingLemmas.{finds_more}
 use Rattle.reference_interner.specs.Flags.{AreFlags}
 use Rattle.reference_interner.proofs.FlagLemmas.{flags_more}
+use Rattle.reference_interner.specs.Stated.{AllStated}
+use Rattle.reference_interner.proofs.StatedLemmas.{stated_node}
 use Rattle.reference_interner.specs.Adding.{items_in}
 use Rattle.reference_interner.specs.Items.{no_items}
 use Rattle.reference_interner.proofs.RefInterner.put.Goals as goal
@@ -39,6 +42,9 @@ invariant_of-self-2 c =
           subst₂ AreFlags (sym e) (sym flags)
           (flags_more (items_in c.args.self.now) ns n c.args.self.now.flags.items c.node_flags-flags.result
           c.args.self.now.flagged c.node_flags-flags.ensures);
+      stated =
+          subst (λ xs. AllStated xs c.args.self.now.items.items) (sym e)
+          (stated_node ns n c.args.self.now.items.items c.args.self.now.stated);
     }
 
 pub returns-clause-number : goal.returns-clause-number
@@ -48,3 +54,40 @@ returns-clause-number c =
     new_at ns n c.push_reserved.new.self.items c.in_ok-number.number
     (c.push_reserved.ensures.items ∙ ap (λ xs. xs ++ n ∷ []) c.reserve.ensures.items)
     (c.in_ok-number.ensures.number ∙ c.len.ensures ∙ c.args.self.now.nodes.ok.0) ∙ same_entry no_items (items_in c.args.self.now) ns n
+
+pub invariant_of-self : goal.invariant_of-self
+invariant_of-self c =
+    let s = c.args.self.now in
+    let e = sym c.reserve.ensures.items in
+    record {
+      known_all = subst AllKnown e s.known_all;
+      distinct = subst AllDistinct e s.distinct;
+      finds = subst (λ xs. Finds xs (get node_eq s.places)) e s.finds;
+      flagged = subst (λ xs. AreFlags xs s.flags.items) e s.flagged;
+      stated = subst (λ xs. AllStated xs s.items.items) e s.stated;
+    }
+
+pub invariant_of-self-in-Break-branch-4 : goal.invariant_of-self-in-Break-branch-4
+invariant_of-self-in-Break-branch-4 c =
+    let s = c.args.self.now in
+    let e = sym c.reserve.ensures.items in
+    record {
+      known_all = subst AllKnown e s.known_all;
+      distinct = subst AllDistinct e s.distinct;
+      finds = subst (λ xs. Finds xs (get node_eq s.places)) e s.finds;
+      flagged = subst₂ AreFlags e (sym c.reserve-2.ensures.items) s.flagged;
+      stated = subst (λ xs. AllStated xs s.items.items) e s.stated;
+    }
+
+pub invariant_of-self-in-Break-branch-5 : goal.invariant_of-self-in-Break-branch-5
+invariant_of-self-in-Break-branch-5 c =
+    let s = c.args.self.now in
+    let e = sym c.reserve.ensures.items in
+    record {
+      known_all = subst AllKnown e s.known_all;
+      distinct = subst AllDistinct e s.distinct;
+      finds =
+          subst₂ (λ xs es. Finds xs (λ q. lookup (node_eq q) es)) e (sym c.in_err-insert.ensures.err) s.finds;
+      flagged = subst₂ AreFlags e (sym c.reserve-2.ensures.items) s.flagged;
+      stated = subst (λ xs. AllStated xs s.items.items) e s.stated;
+    }

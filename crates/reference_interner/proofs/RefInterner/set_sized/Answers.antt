@@ -1,7 +1,8 @@
-use Rattle.std.proofs.Common.{refl, sym, subst, ◌≤◌, ◌∙◌}
+use Rattle.std.proofs.Common.{refl, sym, subst, ◌<◌, ◌≤◌, ◌∙◌}
 use Rattle.reference_interner.specs.Nodes.{meaning_of}
 use Rattle.reference_interner.specs.Items.{said_sized}
 use Rattle.reference_interner.specs.Adding.{items_in}
+use Rattle.reference_interner.proofs.StatedLemmas.{stated_set}
 use Rattle.reference_interner.proofs.ItemLemmas.{same_terms, changed_set, changed_past}
 use Rattle.reference_interner.proofs.RefInterner.set_sized.Goals as goal
 
@@ -21,3 +22,11 @@ returns-else-number-len-clause-recorded c =
     let n = (c.args.trait_id.0).0 in
     let past = subst (λ l. l ≤ n) (c.len.ensures ∙ c.args.self.now.items.ok.0) c.if-number-len.false in
     sym (changed_past said_sized c.args.self.now.items.items n past)
+
+pub invariant_of-self-clause-stated : goal.invariant_of-self-clause-stated
+invariant_of-self-clause-stated c =
+    let n = (c.args.trait_id.0).0 in
+    let below = subst (λ l. n < l) (c.len.ensures ∙ c.args.self.now.items.ok.0) c.if-number-len.true in
+    stated_set c.args.self.now.nodes.items c.args.self.now.items.items n c.index_mut.result.now _
+    c.args.self.now.stated c.index_mut.ensures.value below
+    (λ s. record { supers = s.supers; implied = s.implied; bounds = s.bounds })

@@ -1,7 +1,7 @@
 use Rattle.std.proofs.Common.{take}
 use Rattle.std.proofs.lemmas.List.Elements.{All-more, All-weaker}
 use Rattle.relation_terms.proofs.Stays.{extends_on}
-use Rattle.relation_text.specs.declared.naming.program.Variables.{Variables}
+use Rattle.text_reading.specs.declared.naming.program.Variables.{Variables}
 use Rattle.relation_asking.specs.Asking.{HasStated}
 use Rattle.relation_asking.proofs.Universes.{stated_stays}
 use Rattle.relation_asking.proofs.context.have_all_stated.Goals as goal

@@ -14,9 +14,9 @@ returns g c =
       ty = g.met.I.Interner.same_ty c.args.cx.now;
       region = g.met.I.Interner.same_region c.args.cx.now;
       const_ = g.met.I.Interner.same_const c.args.cx.now;
-      is_ty = g.met.I.Interner.is_ty c.args.cx.now;
-      is_region = g.met.I.Interner.is_region c.args.cx.now;
-      is_const = g.met.I.Interner.is_const c.args.cx.now;
+      is_ty = (g.met.I.Interner.sorted c.args.cx.now).ty;
+      is_region = (g.met.I.Interner.sorted c.args.cx.now).region;
+      is_const = (g.met.I.Interner.sorted c.args.cx.now).const_;
     } in
     let means = put_means m eq is c.args.puts.now c.args.term c.requires.puts c.requires.known in
     let both = put_known m eq is c.args.puts.now c.args.term c.requires.puts in

@@ -1,7 +1,7 @@
 use Rattle.std.proofs.Common.{ℕ, [], ◌∷◌, ◌++◌, if◌then◌else◌, sym, ap, ◌∙◌, subst, take, get_or}
 use Rattle.std.specs.List.{AllZip}
 use Rattle.std.proofs.lemmas.List.{take_more}
-use Rattle.relation_text.specs.declared.naming.program.Put.{Put}
+use Rattle.text_reading.specs.declared.naming.program.Put.{Put}
 use Rattle.relation_asking.specs.Puts.{IsMade}
 use Rattle.relation_asking.proofs.PutLemmas.{zip_push}
 use Rattle.relation_asking.proofs.folding.puts_at.Goals as goal

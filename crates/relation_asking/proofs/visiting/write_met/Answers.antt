@@ -1,7 +1,7 @@
 use Rattle.std.proofs.Common.{IsTrue, sym, subst}
 use Rattle.relation_terms.specs.Trees.{known, list_tree}
 use Rattle.relation_terms.specs.Meaning.{arg_tree}
-use Rattle.relation_text.proofs.Parts.{known_part}
+use Rattle.text_terms.proofs.Parts.{known_part}
 use Rattle.relation_asking.proofs.visiting.write_met.Goals as goal
 
 pub write_arg-requires : goal.write_arg-requires

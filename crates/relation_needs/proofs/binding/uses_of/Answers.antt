@@ -1,7 +1,7 @@
 use Rattle.std.proofs.Common.{refl, sym, ◌∙◌, [], subst, subst₂, arith, take, get_or}
 use Rattle.std.proofs.lemmas.List.{take_more, take_all}
-use Rattle.relation_text.specs.declared.naming.program.Term.TheVariants.{Bool}
-use Rattle.relation_text.specs.Terms.{trees_of}
+use Rattle.text_reading.specs.declared.naming.program.Term.TheVariants.{Bool}
+use Rattle.text_terms.specs.Terms.{trees_of}
 use Rattle.relation_needs.specs.Binding.{AreTold, SaysOf}
 use Rattle.relation_needs.proofs.BindingLemmas.{none_told}
 use Rattle.relation_needs.proofs.UseLemmas.{Told, told_more}

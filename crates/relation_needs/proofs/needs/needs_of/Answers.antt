@@ -1,6 +1,6 @@
 use Rattle.std.proofs.Common.{sym, ap, ap₂, ◌∙◌, ◌++◌, ◌∷◌, [], take, get_or, length, slice_get}
 use Rattle.std.proofs.lemmas.List.{take_more}
-use Rattle.relation_text.specs.declared.naming.program.Term.TheVariants.{Bool}
+use Rattle.text_reading.specs.declared.naming.program.Term.TheVariants.{Bool}
 use Rattle.relation_needs.specs.Needs.{told, term_need, needs_of}
 use Rattle.relation_needs.proofs.NeedLemmas.{needs_more}
 use Rattle.relation_needs.proofs.needs.needs_of.Goals as goal

@@ -3,9 +3,11 @@ ghost use Rattle.std.specs.Prelude.{◌≡◌, ◌↔◌, IsTrue, [], ◌∷◌,
 ghost use Rattle.relation_terms.specs.Heads.{region_sort, type_sort, const_sort, value_sort};
 ghost use Rattle.relation_terms.specs.Trees.{known};
 ghost use Rattle.relation_terms.specs.Parts.{part_of_arg, part_sort, part_key, part_tree};
-ghost use Rattle.relation_terms.specs.Heads.{pattern_sort, inputs_sort};
+ghost use Rattle.relation_terms.specs.Heads.{pattern_sort, inputs_sort, signature_sort, existential_sort};
 ghost use Rattle.relation_terms.specs.Parts.{IsInputs, IsPredicates};
 ghost use Rattle.relation_terms.specs.declared.terms.part_kind.Part.TheVariants.{Inputs as InputsPart};
+ghost use Rattle.relation_terms.specs.declared.terms.part_kind.Part.TheVariants.{Signature as SignaturePart};
+ghost use Rattle.relation_terms.specs.declared.terms.part_kind.Part.TheVariants.{Existential as ExistentialPart};
 ghost use Rattle.relation_terms.specs.declared.terms.part_kind.Parts.TheVariants.{Inputs as InputsParts};
 ghost use Rattle.relation_terms.specs.declared.terms.part_kind.Parts.TheVariants.{Predicates as PredicatesParts};
 ghost use Rattle.relation_terms.specs.Parts.{AreArgs, IsArgs, IsTys, IsBranches, IsAlternatives};
@@ -45,7 +47,7 @@ pub fn key_of<X: Copy, D: Copy>(part: &Part<X, D>) -> Option<X>
     }
 }
 
-// A generic argument as a part.
+/// A generic argument as a part.
 pub fn of_arg<X: Copy, D: Copy>(arg: &GenericArgKind<X>) -> Part<X, D>
     ensures { result ≡ part_of_arg arg.now }
 {
@@ -112,7 +114,7 @@ pub fn the_predicate<X: Copy, D: Copy>(part: &Part<X, D>) -> Binder<X, Existenti
     }
 }
 
-// The generic argument that a part is.
+/// The generic argument that a part is.
 pub fn the_arg<X: Copy, D: Copy>(part: &Part<X, D>) -> GenericArgKind<X>
     requires { AreArgs (part.now ∷ []) }
     ensures { part_of_arg result ≡ part.now }
@@ -169,13 +171,35 @@ pub fn the_valtree<X: Copy, D: Copy>(part: &Part<X, D>) -> ValTreeKey<X>
     }
 }
 
-// The list of types whose inputs a part is.
+/// The list of types whose inputs a part is.
 pub fn the_inputs<X: Copy, D: Copy>(part: &Part<X, D>) -> TysKey<X>
     requires { part_sort part.now ≡ inputs_sort }
     ensures { InputsPart result ≡ part.now }
 {
     match part {
         Part::Inputs(types) => *types,
+        _ => unreachable!(),
+    }
+}
+
+/// The signature that a part is.
+pub fn the_signature<X: Copy, D: Copy>(part: &Part<X, D>) -> FnSig<X>
+    requires { part_sort part.now ≡ signature_sort }
+    ensures { SignaturePart result ≡ part.now }
+{
+    match part {
+        Part::Signature(sig) => *sig,
+        _ => unreachable!(),
+    }
+}
+
+/// The predicate of a trait object that a part is.
+pub fn the_existential<X: Copy, D: Copy>(part: &Part<X, D>) -> ExistentialPredicate<X, D>
+    requires { part_sort part.now ≡ existential_sort }
+    ensures { ExistentialPart result ≡ part.now }
+{
+    match part {
+        Part::Existential(predicate) => *predicate,
         _ => unreachable!(),
     }
 }

@@ -19,9 +19,9 @@ use crate::predicate::{
 use crate::terms::{
     Binder, Clause, ConstKey, Interner, Keys, OutOfMemory, Predicate, RegionKey, TermKind, TyKey,
 };
+use std::alloc::AllocError;
 
 /// A part of a predicate. The parts of a trait with its arguments, and of an alias with its own, are the arguments.
-#[derive(Clone, Copy)]
 pub enum Field<X, D> {
     Region(RegionKey<X>),
     Ty(TyKey<X>),
@@ -31,7 +31,6 @@ pub enum Field<X, D> {
 }
 
 /// The parts of a predicate, in the form's order.
-#[derive(Clone, Copy)]
 pub enum Fields<X, D> {
     Empty,
     One(Field<X, D>),
@@ -340,3 +339,27 @@ pub fn predicate_with_fields<I: Interner>(
     let value = predicate_over(&value, fields);
     cx.mk_predicate(Binder { value, bound_vars })
 }
+
+impl<X: Copy, D: Copy> Clone for Field<X, D> {
+    ghost is_clone = { λ source copy. copy ≡ source };
+
+    ghost is_infallible = { λ _. Unit {0} };
+
+    fn clone(&self) -> Result<Self, AllocError> {
+        Ok(*self)
+    }
+}
+
+impl<X: Copy, D: Copy> Copy for Field<X, D> {}
+
+impl<X: Copy, D: Copy> Clone for Fields<X, D> {
+    ghost is_clone = { λ source copy. copy ≡ source };
+
+    ghost is_infallible = { λ _. Unit {0} };
+
+    fn clone(&self) -> Result<Self, AllocError> {
+        Ok(*self)
+    }
+}
+
+impl<X: Copy, D: Copy> Copy for Fields<X, D> {}

@@ -5,10 +5,10 @@ use Rattle.relation_terms.specs.Predicates.{predicate_kind_tree}
 use Rattle.relation_terms.proofs.Binders.{known_under}
 use Rattle.relation_terms.proofs.Predicates.{stays_predicate_kind}
 use Rattle.relation_terms.proofs.Stays.{knows_as}
+use Rattle.relation_terms.proofs.Members.{if_ok}
 use Rattle.relation_folds.specs.Folds.{folded}
 use Rattle.relation_tools.specs.Anonymous.{used_vars, named, named_as, renames, anonymized}
 use Rattle.relation_tools.proofs.Anonymizing.{named_kinds, anonymized_under}
-use Rattle.relation_folds.proofs.Folding.{if_ok}
 use Rattle.relation_tools.proofs.anonymize.anonymize_bound_vars.Goals as goal
 
 pub mk_predicate-requires : goal.mk_predicate-requires

@@ -3,7 +3,6 @@ ghost use Rattle.std.specs.Prelude.{Some, None};
 ghost use Rattle.std.proofs.Common.{refl};
 ghost use Rattle.relation_terms.specs.Heads.{object};
 ghost use Rattle.type_relations.specs.EqualForms.{signature_same, predicate_same, trait_same, projection_same};
-ghost use Rattle.type_relations.specs.EqualTerms.{sorted_by};
 
 use crate::relate::structural::{existentials, objects, signatures};
 use crate::relate::{Relate, TypeRelation};
@@ -46,9 +45,7 @@ impl<I: Interner> Relate<I> for ExistentialPredicate<I::Key, I::Id> {
 
     ghost same = { λ cx. predicate_same (I.meaning cx) I.Key.eq I.Id.eq _ (λ x y. refl) (λ x y. refl) (λ x y. refl)
         (λ x y. refl) (I.same_id cx) (I.same_region cx) (I.same_ty cx) (I.same_const cx) (I.same_args cx)
-        (sorted_by (I.meaning cx) (I.is_ty cx) (I.is_region cx) (I.are_tys cx) (I.is_const cx) (I.is_valtree cx)
-        (I.are_args cx) (I.are_branches cx) (I.is_pat cx) (I.are_alternatives cx)
-        (I.are_existential_predicates cx)) _ (λ x y. refl) (λ x y. refl) (λ x y. refl) (λ x y. refl) (λ x y. refl)
+        (I.sorted cx) _ (λ x y. refl) (λ x y. refl) (λ x y. refl) (λ x y. refl) (λ x y. refl)
         (λ x y. refl) (λ x y. refl) (λ x y. refl) (λ x y. refl) };
 }
 
@@ -100,9 +97,7 @@ impl<I: Interner> Relate<I> for ExistentialProjection<I::Key, I::Id> {
 
     ghost same = { λ cx. projection_same (I.meaning cx) I.Key.eq I.Id.eq _ (λ x y. refl) (λ x y. refl) (λ x y. refl)
         (λ x y. refl) (I.same_id cx) (I.same_region cx) (I.same_ty cx) (I.same_const cx) (I.same_args cx)
-        (sorted_by (I.meaning cx) (I.is_ty cx) (I.is_region cx) (I.are_tys cx) (I.is_const cx) (I.is_valtree cx)
-        (I.are_args cx) (I.are_branches cx) (I.is_pat cx) (I.are_alternatives cx)
-        (I.are_existential_predicates cx)) _ (λ x y. refl) };
+        (I.sorted cx) _ (λ x y. refl) };
 }
 
 impl<I: Interner> Relate<I> for ExistentialPredicatesKey<I::Key> {

@@ -1,7 +1,7 @@
 //! Opening two binders in a context.
 ghost use Rattle.std.specs.Prelude.{◌≡◌, ◌⊎◌, ◌↔◌, IsTrue};
 ghost use Rattle.relation_terms.specs.Trees.{known};
-ghost use Rattle.relation_terms.specs.declared.terms.enums.Variance.TheVariants.{Covariant, Contravariant, Invariant};
+ghost use Rattle.term_enums.specs.declared.Variance.TheVariants.{Covariant, Contravariant, Invariant};
 ghost use Rattle.relation_contexts.specs.Binders.{binder_tree};
 ghost use Rattle.relation_contexts.specs.Bound.{BindsByList};
 ghost use Rattle.relation_contexts.specs.ContextCalls.{Grows};

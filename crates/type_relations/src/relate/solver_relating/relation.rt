@@ -2,7 +2,7 @@
 ghost use Rattle.std.specs.Prelude.{◌≡◌, ◌≢◌, [], All};
 ghost use Rattle.relation_terms.specs.Heads.{type_var, variable};
 ghost use Rattle.relation_terms.specs.Trees.{leaf};
-ghost use Rattle.relation_terms.specs.declared.terms.enums.Variance.TheVariants.{Bivariant};
+ghost use Rattle.term_enums.specs.declared.Variance.TheVariants.{Bivariant};
 ghost use Rattle.relation_contexts.specs.Contexts.{KnowsEnv, KnowsTy};
 ghost use Rattle.relation_contexts.specs.ContextCalls.{IsUnresolved};
 ghost use Rattle.relation_contexts.specs.Goals.{KnowsGoal};
@@ -10,7 +10,7 @@ ghost use Rattle.type_relations.specs.Keyed.{AskedTys};
 ghost use Rattle.relation_contexts.specs.Resolving.{IsShallow};
 ghost use Rattle.type_relations.specs.Subtyping.{IsTyVar};
 ghost use Rattle.type_relations.specs.Solving.{solver_manner};
-ghost use Rattle.type_relations.specs.SolverTerms.{SolverAsked, SolverRelated, SolverRegisters, SolverSteps};
+ghost use Rattle.type_relations.specs.SolverTerms.{KeepsEnvironment, SolverAsked, SolverRelated, SolverRegisters, SolverSteps};
 ghost use Rattle.type_relations.specs.SolverTerms.{SolverStepRegisters, solver_through};
 
 use crate::relate::combine::{combine_ty_args, super_combine_consts, super_combine_tys};
@@ -93,6 +93,8 @@ impl<'a, Infcx: InferCtxtLike> SolverRelating<'a, Infcx> {
         requires fits { T.fits (Infcx.state self.old.infcx.now).meaning a.now b.now }
         requires asked { SolverAsked Infcx.state T.over T.tree self.old a.now b.now }
         ensures same_reference { self.new.infcx.ghost_name ≡ self.old.infcx.ghost_name }
+        ensures variance { self.new.ambient_variance ≡ self.old.ambient_variance }
+        ensures environment { KeepsEnvironment Infcx.state self.old self.new }
         ensures related { SolverRelated Infcx.state T.over T.tree self.old self.new a.now b.now result }
         ensures registers { SolverRegisters Infcx.state T.over T.tree self.old self.new a.now b.now result }
     {
@@ -210,6 +212,8 @@ impl<'a, Infcx: InferCtxtLike> SolverRelating<'a, Infcx> {
         ensures none_left { self.new.goals.items ≡ [] }
         ensures same_reference { self.new.infcx.ghost_name ≡ self.old.infcx.ghost_name }
         ensures infcx { self.new.infcx.now ≡ self.old.infcx.now }
+        ensures variance { self.new.ambient_variance ≡ self.old.ambient_variance }
+        ensures environment { self.new.param_env ≡ self.old.param_env }
     {
         let none = Vec::new(self.infcx.cx().alloc());
         replace(&mut self.goals, none)

@@ -11,9 +11,9 @@ returns g c =
       ty = g.met.I.Interner.same_ty c.args._cx.now;
       region = g.met.I.Interner.same_region c.args._cx.now;
       const_ = g.met.I.Interner.same_const c.args._cx.now;
-      is_ty = g.met.I.Interner.is_ty c.args._cx.now;
-      is_region = g.met.I.Interner.is_region c.args._cx.now;
-      is_const = g.met.I.Interner.is_const c.args._cx.now;
+      is_ty = (g.met.I.Interner.sorted c.args._cx.now).ty;
+      is_region = (g.met.I.Interner.sorted c.args._cx.now).region;
+      is_const = (g.met.I.Interner.sorted c.args._cx.now).const_;
     } in
     let h = c.meet.ensures in
     asks m eq is c.args.self.now c.meet.new.self (Const c.args.constant.now) c.requires c.args._depth c.meet.result

@@ -2,11 +2,11 @@ use Rattle.std.proofs.Common.{IfSome, rules, arith, refl, sym, ap, ◌∙◌, �
 use Rattle.relation_terms.specs.Trees.{known, size, count, nth, list_tree}
 use Rattle.relation_terms.specs.Parts.{part_tree, parts_tree, parts_of, part_sort, tree_sort, Fit}
 use Rattle.relation_terms.proofs.Stays.{knows_as}
-use Rattle.relation_terms.proofs.Sorted.{Sorted}
-use Rattle.relation_terms.proofs.Members.{member_small, parts_small}
+use Rattle.relation_terms.specs.Interning.{Sorted}
+use Rattle.relation_terms.proofs.Members.{member_small, parts_small, if_ok}
 use Rattle.relation_terms.proofs.Parts.{sort_known, stays_part, stays_parts}
 use Rattle.relation_folds.specs.Folds.{Folds, KnownAnswer, IsMade, folded, folded_parts, inside}
-use Rattle.relation_folds.proofs.Folding.{steps_none, steps_on, steps_grown, folded_later, parts_later, later, if_ok}
+use Rattle.relation_folds.proofs.Folding.{steps_none, steps_on, steps_grown, folded_later, parts_later, later}
 use Rattle.relation_folds.proofs.Remembering.{place_eq, remembers_on}
 use Rattle.relation_folds.proofs.Members.{built_none, built_next, built_all, left_more, left_all, whole_made}
 use Rattle.relation_folds.proofs.Members.{whole_left}
@@ -153,18 +153,7 @@ fold_inside-returns-in-Some g t' c =
     let n = g.I.Interner.meaning c.fold_members.new.cx in
     let p = g.F.TypeFolder.replaces m c.args.folder.now in
     let x = c.args.part.now in
-    let sorted : Sorted m = record {
-      ty = g.met.I.Interner.is_ty c.args.cx.now;
-      region = g.met.I.Interner.is_region c.args.cx.now;
-      tys = g.met.I.Interner.are_tys c.args.cx.now;
-      const_ = g.met.I.Interner.is_const c.args.cx.now;
-      valtree = g.met.I.Interner.is_valtree c.args.cx.now;
-      args = g.met.I.Interner.are_args c.args.cx.now;
-      branches = g.met.I.Interner.are_branches c.args.cx.now;
-      pat = g.met.I.Interner.is_pat c.args.cx.now;
-      alternatives = g.met.I.Interner.are_alternatives c.args.cx.now;
-      existential_predicates = g.met.I.Interner.are_existential_predicates c.args.cx.now;
-    } in
+    let sorted : Sorted m = g.met.I.Interner.sorted c.args.cx.now in
     let deep : c.in_ok-inside.inside ≡ inside (part_tree m x) c.args.depth =
     c.in_ok-inside.ensures ∙ inside_known m sorted x c.args.depth c.requires.known in
     let ts = parts_tree m c.parts_of.result in
@@ -194,18 +183,7 @@ fold_inside-returns-in-None g t' c =
     let n = g.I.Interner.meaning c.fold_members.new.cx in
     let p = g.F.TypeFolder.replaces m c.args.folder.now in
     let x = c.args.part.now in
-    let sorted : Sorted m = record {
-      ty = g.met.I.Interner.is_ty c.args.cx.now;
-      region = g.met.I.Interner.is_region c.args.cx.now;
-      tys = g.met.I.Interner.are_tys c.args.cx.now;
-      const_ = g.met.I.Interner.is_const c.args.cx.now;
-      valtree = g.met.I.Interner.is_valtree c.args.cx.now;
-      args = g.met.I.Interner.are_args c.args.cx.now;
-      branches = g.met.I.Interner.are_branches c.args.cx.now;
-      pat = g.met.I.Interner.is_pat c.args.cx.now;
-      alternatives = g.met.I.Interner.are_alternatives c.args.cx.now;
-      existential_predicates = g.met.I.Interner.are_existential_predicates c.args.cx.now;
-    } in
+    let sorted : Sorted m = g.met.I.Interner.sorted c.args.cx.now in
     let deep : c.in_ok-inside.inside ≡ inside (part_tree m x) c.args.depth =
     c.in_ok-inside.ensures ∙ inside_known m sorted x c.args.depth c.requires.known in
     let ts = parts_tree m c.parts_of.result in
@@ -313,18 +291,7 @@ fold_members-loop-i-preserved g t' c =
     let at : part_tree n x ≡ nth i ts = c.member-old.ensures.means ∙ ap (nth i) e in
     let made : part_tree o y ≡ folded p d (nth i ts) = later s d (nth i ts) (part_tree n x) (part_tree o y) at r.made in
     let stay : part_tree o x ≡ part_tree n x = stays_part r.steps.grown x c.member-old.ensures.sure in
-    let sorted : Sorted n = record {
-      ty = g.met.I.Interner.is_ty c.loop-i.cx;
-      region = g.met.I.Interner.is_region c.loop-i.cx;
-      tys = g.met.I.Interner.are_tys c.loop-i.cx;
-      const_ = g.met.I.Interner.is_const c.loop-i.cx;
-      valtree = g.met.I.Interner.is_valtree c.loop-i.cx;
-      args = g.met.I.Interner.are_args c.loop-i.cx;
-      branches = g.met.I.Interner.are_branches c.loop-i.cx;
-      pat = g.met.I.Interner.is_pat c.loop-i.cx;
-      alternatives = g.met.I.Interner.are_alternatives c.loop-i.cx;
-      existential_predicates = g.met.I.Interner.are_existential_predicates c.loop-i.cx;
-    } in
+    let sorted : Sorted n = g.met.I.Interner.sorted c.loop-i.cx in
     record {
       steps = steps_on s r.steps;
       remembers = r.remembers;

@@ -3,7 +3,8 @@ use Rattle.relation_terms.specs.Trees.{known, list_tree}
 use Rattle.relation_terms.specs.Parts.{part_tree, parts_tree, Fit}
 use Rattle.relation_terms.proofs.Stays.{knows_as}
 use Rattle.relation_terms.proofs.Parts.{stays_parts, alike_same}
-use Rattle.relation_folds.proofs.Folding.{steps_grown, if_ok}
+use Rattle.relation_terms.proofs.Members.{if_ok}
+use Rattle.relation_folds.proofs.Folding.{steps_grown}
 use Rattle.relation_folds.proofs.Members.{some_sure, some_made, some_fits, none_made}
 use Rattle.relation_folds.proofs.fold.walk.fold_list.Goals as goal
 

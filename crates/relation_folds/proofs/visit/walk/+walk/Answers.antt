@@ -4,7 +4,7 @@ use Rattle.relation_terms.specs.Trees.{size, count}
 use Rattle.relation_terms.specs.Parts.{part_tree, parts_tree, parts_of, part_sort}
 use Rattle.relation_terms.specs.Orders.{in_order, list_order}
 use Rattle.relation_terms.proofs.Orders.{order_count, order_list, below_in_order, member_in_order}
-use Rattle.relation_terms.proofs.Sorted.{Sorted}
+use Rattle.relation_terms.specs.Interning.{Sorted}
 use Rattle.relation_terms.proofs.Members.{member_small, parts_small}
 use Rattle.relation_terms.proofs.Parts.{sort_known}
 use Rattle.relation_folds.specs.Visits.{Walks, visited_sort, told_inside}
@@ -100,18 +100,7 @@ visit_part-returns-in-Enter g t' c =
     let m = g.I.Interner.meaning c.args.cx.now in
     let p = c.args.part.now in
     let t = part_tree m p in
-    let sorted : Sorted m = record {
-      ty = g.met.I.Interner.is_ty c.args.cx.now;
-      region = g.met.I.Interner.is_region c.args.cx.now;
-      tys = g.met.I.Interner.are_tys c.args.cx.now;
-      const_ = g.met.I.Interner.is_const c.args.cx.now;
-      valtree = g.met.I.Interner.is_valtree c.args.cx.now;
-      args = g.met.I.Interner.are_args c.args.cx.now;
-      branches = g.met.I.Interner.are_branches c.args.cx.now;
-      pat = g.met.I.Interner.is_pat c.args.cx.now;
-      alternatives = g.met.I.Interner.are_alternatives c.args.cx.now;
-      existential_predicates = g.met.I.Interner.are_existential_predicates c.args.cx.now;
-    } in
+    let sorted : Sorted m = g.met.I.Interner.sorted c.args.cx.now in
     let s = sort_known m sorted p c.requires in
     let deep : c.depth_inside.result ≡ told_inside t c.args.depth =
     c.depth_inside.ensures ∙ told_known m sorted p c.args.depth c.requires in
@@ -128,18 +117,7 @@ visit_part-returns-in-Skip g t' c =
     let m = g.I.Interner.meaning c.args.cx.now in
     let p = c.args.part.now in
     let t = part_tree m p in
-    let sorted : Sorted m = record {
-      ty = g.met.I.Interner.is_ty c.args.cx.now;
-      region = g.met.I.Interner.is_region c.args.cx.now;
-      tys = g.met.I.Interner.are_tys c.args.cx.now;
-      const_ = g.met.I.Interner.is_const c.args.cx.now;
-      valtree = g.met.I.Interner.is_valtree c.args.cx.now;
-      args = g.met.I.Interner.are_args c.args.cx.now;
-      branches = g.met.I.Interner.are_branches c.args.cx.now;
-      pat = g.met.I.Interner.is_pat c.args.cx.now;
-      alternatives = g.met.I.Interner.are_alternatives c.args.cx.now;
-      existential_predicates = g.met.I.Interner.are_existential_predicates c.args.cx.now;
-    } in
+    let sorted : Sorted m = g.met.I.Interner.sorted c.args.cx.now in
     when_skipped visits c.args.depth (visited_sort (part_sort p)) c.args.visitor.now c.ask.new.visitor t c.ask.result
     (visited_as t (part_sort p) (sort_known m sorted p c.requires)) c.ask.ensures c.in-Skip.is
 
@@ -149,17 +127,6 @@ visit_part-returns-in-Stop g t' c =
     let m = g.I.Interner.meaning c.args.cx.now in
     let p = c.args.part.now in
     let t = part_tree m p in
-    let sorted : Sorted m = record {
-      ty = g.met.I.Interner.is_ty c.args.cx.now;
-      region = g.met.I.Interner.is_region c.args.cx.now;
-      tys = g.met.I.Interner.are_tys c.args.cx.now;
-      const_ = g.met.I.Interner.is_const c.args.cx.now;
-      valtree = g.met.I.Interner.is_valtree c.args.cx.now;
-      args = g.met.I.Interner.are_args c.args.cx.now;
-      branches = g.met.I.Interner.are_branches c.args.cx.now;
-      pat = g.met.I.Interner.is_pat c.args.cx.now;
-      alternatives = g.met.I.Interner.are_alternatives c.args.cx.now;
-      existential_predicates = g.met.I.Interner.are_existential_predicates c.args.cx.now;
-    } in
+    let sorted : Sorted m = g.met.I.Interner.sorted c.args.cx.now in
     when_stopped visits c.args.depth (visited_sort (part_sort p)) c.args.visitor.now c.ask.new.visitor t c.ask.result
     (visited_as t (part_sort p) (sort_known m sorted p c.requires)) c.ask.ensures c.in-Stop.is

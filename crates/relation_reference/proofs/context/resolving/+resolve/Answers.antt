@@ -4,7 +4,7 @@ use Rattle.std.proofs.lemmas.Bool.{and_parts}
 use Rattle.relation_terms.specs.Trees.{known, apply, count, list_tree}
 use Rattle.relation_terms.specs.Parts.{part_tree, parts_of, tree_sort, over, Fit}
 use Rattle.relation_terms.proofs.Stays.{knows_as, extends_on, stays_same}
-use Rattle.relation_terms.proofs.Sorted.{Sorted}
+use Rattle.relation_terms.specs.Interning.{Sorted}
 use Rattle.relation_terms.proofs.Members.{if_ok}
 use Rattle.relation_terms.proofs.Parts.{sort_known, stays_part}
 use Rattle.relation_contexts.specs.Stores.{weight, resolved, InContext}
@@ -112,18 +112,7 @@ resolve_inside-loop-i-preserved g t' c =
     let o = g.I.Interner.meaning c.resolve_part.new.cx in
     let r = c.in_ok-resolved.ensures in
     let w = c.in_ok-resolved.resolved in
-    let sorted : Sorted n = record {
-      ty = g.met.I.Interner.is_ty c.loop-i.cx;
-      region = g.met.I.Interner.is_region c.loop-i.cx;
-      tys = g.met.I.Interner.are_tys c.loop-i.cx;
-      const_ = g.met.I.Interner.is_const c.loop-i.cx;
-      valtree = g.met.I.Interner.is_valtree c.loop-i.cx;
-      args = g.met.I.Interner.are_args c.loop-i.cx;
-      branches = g.met.I.Interner.are_branches c.loop-i.cx;
-      pat = g.met.I.Interner.is_pat c.loop-i.cx;
-      alternatives = g.met.I.Interner.are_alternatives c.loop-i.cx;
-      existential_predicates = g.met.I.Interner.are_existential_predicates c.loop-i.cx;
-    } in
+    let sorted : Sorted n = g.met.I.Interner.sorted c.loop-i.cx in
     let next : i + 1 ≡ suc i = omega arith in
     let was = part_was inv.grown x x c.requires.lawful refl (part_tree m p) (part_tree n p) (part_tree n z) i e
     below means in

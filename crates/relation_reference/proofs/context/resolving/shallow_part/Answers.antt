@@ -2,7 +2,7 @@ use Rattle.std.proofs.Common.{subst, sym, ◌∙◌}
 use Rattle.relation_contexts.specs.Stores.{InContext}
 use Rattle.relation_terms.specs.Parts.{part_tree}
 use Rattle.relation_terms.specs.declared.terms.part_kind.Part.TheVariants.{Const}
-use Rattle.relation_terms.proofs.Sorted.{Sorted}
+use Rattle.relation_terms.specs.Interning.{Sorted}
 use Rattle.relation_terms.proofs.Parts.{sort_known}
 use Rattle.relation_reference.specs.Tables.{store_of}
 use Rattle.relation_reference.proofs.Reading.{context_read}
@@ -12,18 +12,7 @@ use Rattle.relation_reference.proofs.context.resolving.shallow_part.Goals as goa
 pub returns-in_default-clause-by_parts : goal.returns-in_default-clause-by_parts
 returns-in_default-clause-by_parts g c =
     let m = g.I.Interner.meaning c.args.cx.now in
-    let sorted : Sorted m = record {
-      ty = g.met.I.Interner.is_ty c.args.cx.now;
-      region = g.met.I.Interner.is_region c.args.cx.now;
-      tys = g.met.I.Interner.are_tys c.args.cx.now;
-      const_ = g.met.I.Interner.is_const c.args.cx.now;
-      valtree = g.met.I.Interner.is_valtree c.args.cx.now;
-      args = g.met.I.Interner.are_args c.args.cx.now;
-      branches = g.met.I.Interner.are_branches c.args.cx.now;
-      pat = g.met.I.Interner.is_pat c.args.cx.now;
-      alternatives = g.met.I.Interner.are_alternatives c.args.cx.now;
-      existential_predicates = g.met.I.Interner.are_existential_predicates c.args.cx.now;
-    } in
+    let sorted : Sorted m = g.met.I.Interner.sorted c.args.cx.now in
     other_by_parts m c.args.term.now c.in_default.not-Ty c.in_default.not-Const
     (sort_known m sorted c.args.term.now c.requires.term_known) (store_of m c.args.inner.now) c.requires.lawful.sound
 
@@ -50,18 +39,7 @@ returns-in-Const-clause-is_in g c =
 pub returns-in-Const-clause-by_parts : goal.returns-in-Const-clause-by_parts
 returns-in-Const-clause-by_parts g c =
     let m = g.I.Interner.meaning c.args.cx.now in
-    let sorted : Sorted m = record {
-      ty = g.met.I.Interner.is_ty c.args.cx.now;
-      region = g.met.I.Interner.is_region c.args.cx.now;
-      tys = g.met.I.Interner.are_tys c.args.cx.now;
-      const_ = g.met.I.Interner.is_const c.args.cx.now;
-      valtree = g.met.I.Interner.is_valtree c.args.cx.now;
-      args = g.met.I.Interner.are_args c.args.cx.now;
-      branches = g.met.I.Interner.are_branches c.args.cx.now;
-      pat = g.met.I.Interner.is_pat c.args.cx.now;
-      alternatives = g.met.I.Interner.are_alternatives c.args.cx.now;
-      existential_predicates = g.met.I.Interner.are_existential_predicates c.args.cx.now;
-    } in
+    let sorted : Sorted m = g.met.I.Interner.sorted c.args.cx.now in
     const_by_parts (store_of m c.args.inner.now) (m.const_ c.shallow_resolve_const.result)
     (λ s. some_sort {Id = g.row.I-Id.Denot} (Const c.shallow_resolve_const.result)
     (sym (sort_known m sorted (Const c.shallow_resolve_const.result) c.shallow_resolve_const.ensures.sure) ∙ s))

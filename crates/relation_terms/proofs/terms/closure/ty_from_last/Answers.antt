@@ -30,7 +30,7 @@ returns-in-Ty-clause-means g c =
     let k = subst (λ z. IsTrue (known (arg_tree m z))) c.in-Ty.is
     (found_known (arg_tree m) xs w c.args-list.ensures c.args.places x x c.requires c.if-list-places.false
     c.index-list-list.is) in
-    let s = type_term (m.ty c.in-Ty.ty) (g.met.I.Interner.is_ty c.args.cx.now c.in-Ty.ty k) in
+    let s = type_term (m.ty c.in-Ty.ty) ((g.met.I.Interner.sorted c.args.cx.now).ty c.in-Ty.ty k) in
     ap (λ z. Some (arg_tree m z)) (sym c.in-Ty.is)
     ∙ found (arg_tree m) xs w c.args-list.ensures c.args.places x x type_sort c.if-list-places.false
     c.index-list-list.is (ap (λ z. tree_sort (arg_tree m z)) c.in-Ty.is ∙ s)
@@ -46,10 +46,10 @@ returns-in-Lifetime-clause-means g c =
     ⊎_elim
     (λ h. found (arg_tree m) xs w c.args-list.ensures c.args.places x x region_sort c.if-list-places.false
     c.index-list-list.is (ap (λ z. tree_sort (arg_tree m z)) h.1
-    ∙ region_term (m.region h.0) (g.met.I.Interner.is_region c.args.cx.now h.0
+    ∙ region_term (m.region h.0) ((g.met.I.Interner.sorted c.args.cx.now).region h.0
     (subst (λ z. IsTrue (known (arg_tree m z))) h.1 k))))
     (λ h. found (arg_tree m) xs w c.args-list.ensures c.args.places x x const_sort c.if-list-places.false
     c.index-list-list.is (ap (λ z. tree_sort (arg_tree m z)) h.1
-    ∙ const_term (m.const_ h.0) (g.met.I.Interner.is_const c.args.cx.now h.0
+    ∙ const_term (m.const_ h.0) ((g.met.I.Interner.sorted c.args.cx.now).const_ h.0
     (subst (λ z. IsTrue (known (arg_tree m z))) h.1 k))))
     c.in-Lifetime.is

@@ -17,7 +17,7 @@ returns-in_err-push-clause-related g c =
 pub returns-clause-related : goal.returns-clause-related
 returns-clause-related g c =
     let m = g.I.Interner.meaning c.args.self.now.interner in
-    let is = g.met.I.Interner.is_region c.args.self.now.interner in
+    let is = (g.met.I.Interner.sorted c.args.self.now.interner).region in
     let k = c.requires.asked in
     regions_related m c.args.self.now.ambient c.args.self.now.constraints.items c.in-Some.constraint c.args.a.now
     c.args.b.now c.constraint.result (sym c.constraint.ensures) c.in-Some.is

@@ -9,7 +9,7 @@ pub returns-clause-stepped : goal.returns-clause-stepped
 returns-clause-stepped g c =
     let m = g.I.Interner.meaning c.args.self.now.interner in
     let cs = c.args.self.now.constraints.items in
-    let is = g.met.I.Interner.is_ty c.args.self.now.interner in
+    let is = (g.met.I.Interner.sorted c.args.self.now.interner).ty in
     let k = c.requires.asked in
     parts_left plain_manner IsFormed (plain_state m c.args.self.now.ambient cs) m.ty c.args.a.now c.args.b.now
     c.args.a.now c.args.b.now refl refl k

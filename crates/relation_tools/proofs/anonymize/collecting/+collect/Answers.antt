@@ -5,7 +5,7 @@ use Rattle.relation_terms.specs.Trees.{size, count, IsList}
 use Rattle.relation_terms.specs.Parts.{part_tree, parts_tree, parts_of}
 use Rattle.relation_terms.specs.Orders.{in_order, list_order, order_of}
 use Rattle.relation_terms.proofs.Orders.{order_count, order_list, below_in_order, member_in_order}
-use Rattle.relation_terms.proofs.Sorted.{Sorted}
+use Rattle.relation_terms.specs.Interning.{Sorted}
 use Rattle.relation_terms.proofs.Members.{member_small, parts_small}
 use Rattle.relation_terms.proofs.Parts.{sort_known}
 use Rattle.relation_folds.specs.Folds.{inside}
@@ -120,18 +120,7 @@ collect_new-returns-in_ok-inside-in-None-clause-collects g t' c =
     let d = c.args.depth in
     let us = c.args.vars.now.items in
     let ps = c.parts_of.result in
-    let sorted : Sorted m = record {
-      ty = g.met.I.Interner.is_ty c.args.cx.now;
-      region = g.met.I.Interner.is_region c.args.cx.now;
-      tys = g.met.I.Interner.are_tys c.args.cx.now;
-      const_ = g.met.I.Interner.is_const c.args.cx.now;
-      valtree = g.met.I.Interner.is_valtree c.args.cx.now;
-      args = g.met.I.Interner.are_args c.args.cx.now;
-      branches = g.met.I.Interner.are_branches c.args.cx.now;
-      pat = g.met.I.Interner.is_pat c.args.cx.now;
-      alternatives = g.met.I.Interner.are_alternatives c.args.cx.now;
-      existential_predicates = g.met.I.Interner.are_existential_predicates c.args.cx.now;
-    } in
+    let sorted : Sorted m = g.met.I.Interner.sorted c.args.cx.now in
     let k = c.requires.known in
     let none : here d t ≡ [] =
     subst (λ o. MatchOption o (here d t ≡ []) (λ var. here d t ≡ var ∷ [])) c.in-None.is c.part_var.ensures in

@@ -1,6 +1,6 @@
 use Rattle.std.proofs.Common.{◌≡◌, [], ◌∷◌, MatchOption, sym, subst}
 use Rattle.relation_terms.specs.Parts.{part_tree}
-use Rattle.relation_terms.proofs.Sorted.{Sorted}
+use Rattle.relation_terms.specs.Interning.{Sorted}
 use Rattle.relation_tools.specs.Anonymous.{here}
 use Rattle.relation_tools.proofs.UsedTrees.{none_here}
 use Rattle.relation_tools.proofs.anonymize.collecting.part_var.Goals as goal
@@ -26,17 +26,6 @@ returns-in-Const g c =
 pub returns-in_default : goal.returns-in_default
 returns-in_default g c =
     let m = g.I.Interner.meaning c.args.cx.now in
-    let sorted : Sorted m = record {
-      ty = g.met.I.Interner.is_ty c.args.cx.now;
-      region = g.met.I.Interner.is_region c.args.cx.now;
-      tys = g.met.I.Interner.are_tys c.args.cx.now;
-      const_ = g.met.I.Interner.is_const c.args.cx.now;
-      valtree = g.met.I.Interner.is_valtree c.args.cx.now;
-      args = g.met.I.Interner.are_args c.args.cx.now;
-      branches = g.met.I.Interner.are_branches c.args.cx.now;
-      pat = g.met.I.Interner.is_pat c.args.cx.now;
-      alternatives = g.met.I.Interner.are_alternatives c.args.cx.now;
-      existential_predicates = g.met.I.Interner.are_existential_predicates c.args.cx.now;
-    } in
+    let sorted : Sorted m = g.met.I.Interner.sorted c.args.cx.now in
     none_here m sorted c.args.depth c.args.part.now c.requires c.in_default.not-Region c.in_default.not-Ty
     c.in_default.not-Const

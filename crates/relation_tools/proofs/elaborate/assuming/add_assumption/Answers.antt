@@ -2,7 +2,7 @@ use Rattle.std.proofs.Common.{◌≡◌, ◌∷◌, ◌++◌, [], sym, subst, Is
 use Rattle.std.specs.List.{All, filter_map}
 use Rattle.relation_terms.specs.Trees.{Tree, known}
 use Rattle.relation_terms.specs.Meaning.{arg_tree}
-use Rattle.relation_terms.proofs.Sorted.{Sorted}
+use Rattle.relation_terms.specs.Interning.{Sorted}
 use Rattle.relation_terms.proofs.Stays.{stays_same}
 use Rattle.relation_tools.specs.Assumptions.{elaborated, HaveSame}
 use Rattle.relation_tools.specs.Assuming.{pair_of, IsKnownComponent}
@@ -51,18 +51,7 @@ returns-in_ok-components-in-Ty-clause-gains g c =
     let m = g.I.Interner.meaning b in
     let n = g.I.Interner.meaning c.add_components.new.cx in
     let laws = g.met.I.Interner in
-    let sorted : Sorted m = record {
-      ty = laws.is_ty b;
-      region = laws.is_region b;
-      tys = laws.are_tys b;
-      const_ = laws.is_const b;
-      valtree = laws.is_valtree b;
-      args = laws.are_args b;
-      branches = laws.are_branches b;
-      pat = laws.is_pat b;
-      alternatives = laws.are_alternatives b;
-      existential_predicates = laws.are_existential_predicates b;
-    } in
+    let sorted : Sorted m = laws.sorted b in
     let a = c.args.assumption.now in
     let t = arg_tree m a.0 in
     let r = m.region a.1 in
@@ -85,18 +74,7 @@ returns-in_default g c =
     let b = c.args.cx.now in
     let m = g.I.Interner.meaning b in
     let laws = g.met.I.Interner in
-    let sorted : Sorted m = record {
-      ty = laws.is_ty b;
-      region = laws.is_region b;
-      tys = laws.are_tys b;
-      const_ = laws.is_const b;
-      valtree = laws.is_valtree b;
-      args = laws.are_args b;
-      branches = laws.are_branches b;
-      pat = laws.is_pat b;
-      alternatives = laws.are_alternatives b;
-      existential_predicates = laws.are_existential_predicates b;
-    } in
+    let sorted : Sorted m = laws.sorted b in
     let a = c.args.assumption.now in
     let t = arg_tree m a.0 in
     let r = m.region a.1 in

@@ -9,27 +9,27 @@ use Rattle.relation_tools.proofs.Meeting.{ok_map}
 use Rattle.relation_tools.proofs.Assuming.{gains_grown, gains_after, gains_as, pairs_some, pairs_none, same_as}
 use Rattle.relation_tools.proofs.elaborate.assuming.add_component.Goals as goal
 
-pub arg_of-requires : goal.arg_of-requires
-arg_of-requires g c = c.requires.component
+pub assumed_argument-requires : goal.assumed_argument-requires
+assumed_argument-requires g c = c.requires.component
 
 pub assume-requires-clause-known : goal.assume-requires-clause-known
 assume-requires-clause-known g c =
-    let n = g.I.Interner.meaning c.arg_of.new.cx in (
+    let n = g.I.Interner.meaning c.assumed_argument.new.cx in (
       subst (λ o. IfSome o (λ a. IsTrue (known (arg_tree n a)))) c.in-Some.is c.in_ok-found.ensures.sure,
-      knows_region c.arg_of.ensures.grown c.args.region.now c.requires.region,
+      knows_region c.assumed_argument.ensures.grown c.args.region.now c.requires.region,
     )
 
 pub assume-requires-clause-sure : goal.assume-requires-clause-sure
-assume-requires-clause-sure g c = (gains_grown c.arg_of.ensures.grown c.args.collected.now.keys c.requires.sure).0
+assume-requires-clause-sure g c = (gains_grown c.assumed_argument.ensures.grown c.args.collected.now.keys c.requires.sure).0
 
 pub returns-in-Some-clause-grown : goal.returns-in-Some-clause-grown
-returns-in-Some-clause-grown g c = c.arg_of.ensures.grown
+returns-in-Some-clause-grown g c = c.assumed_argument.ensures.grown
 
 pub returns-in-Some-clause-gains : goal.returns-in-Some-clause-gains
 returns-in-Some-clause-gains g c =
     let m = g.I.Interner.meaning c.args.cx.now in
-    let n = g.I.Interner.meaning c.arg_of.new.cx in
-    let e = c.arg_of.ensures.grown in
+    let n = g.I.Interner.meaning c.assumed_argument.new.cx in
+    let e = c.assumed_argument.ensures.grown in
     let xs = c.args.collected.now.keys in
     let zs = c.assume.new.collected.keys in
     let r = c.args.region.now in
@@ -45,16 +45,16 @@ returns-in-Some-clause-gains g c =
     c.assume.ensures
 
 pub returns-in-None-clause-grown : goal.returns-in-None-clause-grown
-returns-in-None-clause-grown g c = c.arg_of.ensures.grown
+returns-in-None-clause-grown g c = c.assumed_argument.ensures.grown
 
 pub returns-in-None-clause-gains : goal.returns-in-None-clause-gains
 returns-in-None-clause-gains g c =
     let m = g.I.Interner.meaning c.args.cx.now in
-    let n = g.I.Interner.meaning c.arg_of.new.cx in
+    let n = g.I.Interner.meaning c.assumed_argument.new.cx in
     let xs = c.args.collected.now.keys in
     let r = c.args.region.now in
     let none : None ≡ argument_of m c.args.component.now =
     sym (ap (option_map (arg_tree n)) c.in-None.is) ∙ c.in_ok-found.ensures.is in
     let all = filter_map (pair_of m (m.region r)) (c.args.component.now ∷ []) in
     gains_as m n xs xs [] all (same_as [] all (pairs_none m c.args.component.now (m.region r) none))
-    (gains_grown c.arg_of.ensures.grown xs c.requires.sure)
+    (gains_grown c.assumed_argument.ensures.grown xs c.requires.sure)

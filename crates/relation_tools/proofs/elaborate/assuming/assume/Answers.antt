@@ -1,6 +1,6 @@
 use Rattle.std.proofs.Common.{refl}
 use Rattle.relation_terms.specs.contracts.terms.generic_arg.GenericArgKindPartialEq.TheImpl.{ghosts}
-use Rattle.relation_terms.proofs.Sorted.{Sorted}
+use Rattle.relation_terms.specs.Interning.{Sorted}
 use Rattle.relation_folds.proofs.Arguments.{arg_same}
 use Rattle.relation_tools.proofs.Assuming.{gains_put, pairs_same}
 use Rattle.relation_tools.proofs.elaborate.assuming.assume.Goals as goal
@@ -11,18 +11,7 @@ returns g c =
     let m = g.I.Interner.meaning a in
     let laws = g.met.I.Interner in
     let eq = (ghosts g.row.I-Key g.I.Key.PartialEq g.I.Key.PartialEq-dict).eq in
-    let sorted : Sorted m = record {
-      ty = laws.is_ty a;
-      region = laws.is_region a;
-      tys = laws.are_tys a;
-      const_ = laws.is_const a;
-      valtree = laws.is_valtree a;
-      args = laws.are_args a;
-      branches = laws.are_branches a;
-      pat = laws.is_pat a;
-      alternatives = laws.are_alternatives a;
-      existential_predicates = laws.are_existential_predicates a;
-    } in
+    let sorted : Sorted m = laws.sorted a in
     let same = arg_same m g.I.Key.PartialEq.eq eq (λ x y. refl) (λ x y. refl) (λ x y. refl) (λ x y. refl)
     (λ x y. refl) (λ x y. refl) (λ x y. refl) (λ x y. refl) (λ x y. refl) (laws.same_region a) (laws.same_ty a)
     (laws.same_const a) sorted in

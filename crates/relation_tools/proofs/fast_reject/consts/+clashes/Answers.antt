@@ -26,8 +26,8 @@ consts_may_unify-returns-then-is_flexible_const g t c =
     let m = g.I.Interner.meaning c.args.cx.now in
     let a = m.const_ c.args.lhs.now in
     let b = m.const_ c.args.rhs.now in
-    let ta = const_term a (g.met.I.Interner.is_const c.args.cx.now c.args.lhs.now c.requires.lhs_known) in
-    let tb = const_term b (g.met.I.Interner.is_const c.args.cx.now c.args.rhs.now c.requires.rhs_known) in
+    let ta = const_term a ((g.met.I.Interner.sorted c.args.cx.now).const_ c.args.lhs.now c.requires.lhs_known) in
+    let tb = const_term b ((g.met.I.Interner.sorted c.args.cx.now).const_ c.args.rhs.now c.requires.rhs_known) in
     let f = ap (flexible c.args.sides.right) c.const_kind-right.ensures ∙ sym c.is_flexible_const.ensures
     ∙ c.if-is_flexible_const.true in
     passes (flexible_right c.args.sides.left c.args.sides.right c.args.depth a b const_sort refl ta tb f)
@@ -37,8 +37,8 @@ consts_may_unify-returns-then-is_flexible_const-2 g t c =
     let m = g.I.Interner.meaning c.args.cx.now in
     let a = m.const_ c.args.lhs.now in
     let b = m.const_ c.args.rhs.now in
-    let ta = const_term a (g.met.I.Interner.is_const c.args.cx.now c.args.lhs.now c.requires.lhs_known) in
-    let tb = const_term b (g.met.I.Interner.is_const c.args.cx.now c.args.rhs.now c.requires.rhs_known) in
+    let ta = const_term a ((g.met.I.Interner.sorted c.args.cx.now).const_ c.args.lhs.now c.requires.lhs_known) in
+    let tb = const_term b ((g.met.I.Interner.sorted c.args.cx.now).const_ c.args.rhs.now c.requires.rhs_known) in
     let f = ap (flexible c.args.sides.left) c.const_kind-left.ensures ∙ sym c.is_flexible_const-2.ensures
     ∙ c.if-is_flexible_const-2.true in
     passes (flexible_left c.args.sides.left c.args.sides.right c.args.depth a b const_sort refl ta tb f)
@@ -48,8 +48,8 @@ consts_may_unify-returns-in_default g t c =
     let m = g.I.Interner.meaning c.args.cx.now in
     let a = m.const_ c.args.lhs.now in
     let b = m.const_ c.args.rhs.now in
-    let ta = const_term a (g.met.I.Interner.is_const c.args.cx.now c.args.lhs.now c.requires.lhs_known) in
-    let tb = const_term b (g.met.I.Interner.is_const c.args.cx.now c.args.rhs.now c.requires.rhs_known) in
+    let ta = const_term a ((g.met.I.Interner.sorted c.args.cx.now).const_ c.args.lhs.now c.requires.lhs_known) in
+    let tb = const_term b ((g.met.I.Interner.sorted c.args.cx.now).const_ c.args.rhs.now c.requires.rhs_known) in
     let own = sym c.is_flexible_const-2.ensures ∙ c.if-is_flexible_const-2.false in
     let f = ap (flexible c.args.sides.right) c.const_kind-right.ensures ∙ sym c.is_flexible_const.ensures
     ∙ c.if-is_flexible_const.false in
@@ -66,8 +66,8 @@ consts_may_unify-returns-in_default-right g t c =
     let m = g.I.Interner.meaning c.args.cx.now in
     let a = m.const_ c.args.lhs.now in
     let b = m.const_ c.args.rhs.now in
-    let ta = const_term a (g.met.I.Interner.is_const c.args.cx.now c.args.lhs.now c.requires.lhs_known) in
-    let tb = const_term b (g.met.I.Interner.is_const c.args.cx.now c.args.rhs.now c.requires.rhs_known) in
+    let ta = const_term a ((g.met.I.Interner.sorted c.args.cx.now).const_ c.args.lhs.now c.requires.lhs_known) in
+    let tb = const_term b ((g.met.I.Interner.sorted c.args.cx.now).const_ c.args.rhs.now c.requires.rhs_known) in
     let own = sym c.is_flexible_const.ensures ∙ c.if-is_flexible_const.false in
     let f = ap (flexible c.args.sides.right) c.const_kind-right.ensures ∙ own in
     let h = ap (flexible c.args.sides.left) c.const_kind-left.ensures ∙ sym c.is_flexible_const-2.ensures
@@ -123,8 +123,8 @@ valtrees_may_unify-returns-in_default g t c =
     let m = g.I.Interner.meaning c.args.cx.now in
     let a = m.valtree c.args.lhs.now in
     let b = m.valtree c.args.rhs.now in
-    let ta = value_term a (g.met.I.Interner.is_valtree c.args.cx.now c.args.lhs.now c.requires.lhs_known) in
-    let tb = value_term b (g.met.I.Interner.is_valtree c.args.cx.now c.args.rhs.now c.requires.rhs_known) in
+    let ta = value_term a ((g.met.I.Interner.sorted c.args.cx.now).valtree c.args.lhs.now c.requires.lhs_known) in
+    let tb = value_term b ((g.met.I.Interner.sorted c.args.cx.now).valtree c.args.rhs.now c.requires.rhs_known) in
     let f = ap (flexible c.args.sides.right) c.valtree_kind-right.ensures
     ∙ valtree_rigid m c.args.sides.right c.valtree_kind-right.result in
     let h = ap (flexible c.args.sides.left) c.valtree_kind-left.ensures
@@ -141,8 +141,8 @@ valtrees_may_unify-returns-in_default-right g t c =
     let m = g.I.Interner.meaning c.args.cx.now in
     let a = m.valtree c.args.lhs.now in
     let b = m.valtree c.args.rhs.now in
-    let ta = value_term a (g.met.I.Interner.is_valtree c.args.cx.now c.args.lhs.now c.requires.lhs_known) in
-    let tb = value_term b (g.met.I.Interner.is_valtree c.args.cx.now c.args.rhs.now c.requires.rhs_known) in
+    let ta = value_term a ((g.met.I.Interner.sorted c.args.cx.now).valtree c.args.lhs.now c.requires.lhs_known) in
+    let tb = value_term b ((g.met.I.Interner.sorted c.args.cx.now).valtree c.args.rhs.now c.requires.rhs_known) in
     let f = ap (flexible c.args.sides.right) c.valtree_kind-right.ensures
     ∙ valtree_rigid m c.args.sides.right c.valtree_kind-right.result in
     let h = ap (flexible c.args.sides.left) c.valtree_kind-left.ensures
@@ -168,8 +168,8 @@ valtrees_may_unify-returns-then-left_parts-right_parts g t c =
     let m = g.I.Interner.meaning c.args.cx.now in
     let a = m.valtree c.args.lhs.now in
     let b = m.valtree c.args.rhs.now in
-    let ta = value_term a (g.met.I.Interner.is_valtree c.args.cx.now c.args.lhs.now c.requires.lhs_known) in
-    let tb = value_term b (g.met.I.Interner.is_valtree c.args.cx.now c.args.rhs.now c.requires.rhs_known) in
+    let ta = value_term a ((g.met.I.Interner.sorted c.args.cx.now).valtree c.args.lhs.now c.requires.lhs_known) in
+    let tb = value_term b ((g.met.I.Interner.sorted c.args.cx.now).valtree c.args.rhs.now c.requires.rhs_known) in
     let f = ap (flexible c.args.sides.right) c.valtree_kind-right.ensures
     ∙ valtree_rigid m c.args.sides.right c.valtree_kind-right.result in
     let h = ap (flexible c.args.sides.left) c.valtree_kind-left.ensures

@@ -23,7 +23,7 @@ returns-in-Pat-right g c =
     let m = g.I.Interner.meaning c.args.cx.now in
     at_kinds m c.args.left.now c.args.right.now _ _ (Types c.in-Pat.ty c.in-Pat-right.other) c.in-Pat.is c.in-Pat-right.is c.requires.left_known
     c.requires.right_known (λ a b. patterns m c.in-Pat.ty c.in-Pat-right.other (m.pat c.in-Pat.field-1) (m.pat c.in-Pat-right.field-1)
-    (ap is_quiet (pattern_term (m.pat c.in-Pat.field-1) (g.met.I.Interner.is_pat c.args.cx.now c.in-Pat.field-1
+    (ap is_quiet (pattern_term (m.pat c.in-Pat.field-1) ((g.met.I.Interner.sorted c.args.cx.now).pat c.in-Pat.field-1
     (known_second (m.ty c.in-Pat.ty) (m.pat c.in-Pat.field-1) a)))) a b)
 
 pub returns-in_default-right-2 : goal.returns-in_default-right-2
@@ -60,7 +60,7 @@ returns-in-Ref-right g c =
     let m = g.I.Interner.meaning c.args.cx.now in
     at_kinds m c.args.left.now c.args.right.now _ _ _ c.in-Ref.is c.in-Ref-right.is c.requires.left_known
     c.requires.right_known (λ a b. references m _ _ c.in-Ref.ty c.in-Ref-right.other (m.region c.in-Ref.field-0) (m.region c.in-Ref-right.field-0)
-    (ap is_quiet (region_term (m.region c.in-Ref.field-0) (g.met.I.Interner.is_region c.args.cx.now c.in-Ref.field-0
+    (ap is_quiet (region_term (m.region c.in-Ref.field-0) ((g.met.I.Interner.sorted c.args.cx.now).region c.in-Ref.field-0
     (known_first (m.region c.in-Ref.field-0) (m.ty c.in-Ref.ty) a)))) a b c.is_mut_alike-in-Ref-right.result
     c.if_alike-in-Ref-right.result c.if_alike-in-Ref-right.ensures c.is_mut_alike-in-Ref-right.ensures)
 

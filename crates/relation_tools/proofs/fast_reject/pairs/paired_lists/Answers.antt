@@ -43,7 +43,7 @@ returns-in-Dynamic-right g c =
     at_kinds m c.args.left.now c.args.right.now _ _ _ c.in-Dynamic.is c.in-Dynamic-right.is c.requires.left_known
     c.requires.right_known (λ a b. objects m (m.existential_predicates c.in-Dynamic.predicates) (m.existential_predicates c.in-Dynamic-right.others)
     (m.region c.in-Dynamic.field-1) (m.region c.in-Dynamic-right.field-1) (ap is_quiet (region_term (m.region c.in-Dynamic.field-1)
-    (g.met.I.Interner.is_region c.args.cx.now c.in-Dynamic.field-1
+    ((g.met.I.Interner.sorted c.args.cx.now).region c.in-Dynamic.field-1
     (known_second (node object (m.existential_predicates c.in-Dynamic.predicates)) (m.region c.in-Dynamic.field-1) a))))
     c.is_same_principal.result c.if_alike-in-Dynamic-right.result c.if_alike-in-Dynamic-right.ensures
     c.is_same_principal.ensures)

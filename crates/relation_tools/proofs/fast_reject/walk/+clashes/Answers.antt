@@ -29,8 +29,8 @@ types_may_unify-returns-in-Some g t c =
     let m = g.I.Interner.meaning c.args.cx.now in
     let a = m.ty c.args.lhs.now in
     let b = m.ty c.args.rhs.now in
-    let ta = type_term a (g.met.I.Interner.is_ty c.args.cx.now c.args.lhs.now c.requires.lhs_known) in
-    let tb = type_term b (g.met.I.Interner.is_ty c.args.cx.now c.args.rhs.now c.requires.rhs_known) in
+    let ta = type_term a ((g.met.I.Interner.sorted c.args.cx.now).ty c.args.lhs.now c.requires.lhs_known) in
+    let tb = type_term b ((g.met.I.Interner.sorted c.args.cx.now).ty c.args.rhs.now c.requires.rhs_known) in
     let e = ap (λ x. stands c.args.sides.right x a) c.ty_kind-right.ensures ∙ sym c.may_stand_for.ensures ∙ c.in-Some.is in
     let s = some_stands c.args.sides.right b a c.in-Some.may e in
     right_decides c.args.sides.left c.args.sides.right c.args.depth a b ta tb c.in-Some.may (s.0) (s.1)
@@ -40,8 +40,8 @@ types_may_unify-returns-then-depth-eq0 g t c =
     let m = g.I.Interner.meaning c.args.cx.now in
     let a = m.ty c.args.lhs.now in
     let b = m.ty c.args.rhs.now in
-    let ta = type_term a (g.met.I.Interner.is_ty c.args.cx.now c.args.lhs.now c.requires.lhs_known) in
-    let tb = type_term b (g.met.I.Interner.is_ty c.args.cx.now c.args.rhs.now c.requires.rhs_known) in
+    let ta = type_term a ((g.met.I.Interner.sorted c.args.cx.now).ty c.args.lhs.now c.requires.lhs_known) in
+    let tb = type_term b ((g.met.I.Interner.sorted c.args.cx.now).ty c.args.rhs.now c.requires.rhs_known) in
     let f = none_stands c.args.sides.right b a c.may_stand_for.result
     (c.may_stand_for.ensures ∙ ap (λ x. stands c.args.sides.right x a) (sym c.ty_kind-right.ensures)) c.in_default.not-Some in
     passes (no_depth c.args.sides.left c.args.sides.right c.args.depth a b ta tb f c.if-depth-eq0.true)
@@ -51,8 +51,8 @@ types_may_unify-returns-in-Some-may_stand_for g t c =
     let m = g.I.Interner.meaning c.args.cx.now in
     let a = m.ty c.args.lhs.now in
     let b = m.ty c.args.rhs.now in
-    let ta = type_term a (g.met.I.Interner.is_ty c.args.cx.now c.args.lhs.now c.requires.lhs_known) in
-    let tb = type_term b (g.met.I.Interner.is_ty c.args.cx.now c.args.rhs.now c.requires.rhs_known) in
+    let ta = type_term a ((g.met.I.Interner.sorted c.args.cx.now).ty c.args.lhs.now c.requires.lhs_known) in
+    let tb = type_term b ((g.met.I.Interner.sorted c.args.cx.now).ty c.args.rhs.now c.requires.rhs_known) in
     let f = none_stands c.args.sides.right b a c.may_stand_for.result
     (c.may_stand_for.ensures ∙ ap (λ x. stands c.args.sides.right x a) (sym c.ty_kind-right.ensures)) c.in_default.not-Some in
     let n = c.if-depth-eq0.false in
@@ -92,8 +92,8 @@ types_may_unify-returns g t c =
     let r = c.args.sides.right in
     let a = m.ty c.args.lhs.now in
     let b = m.ty c.args.rhs.now in
-    let ta = type_term a (g.met.I.Interner.is_ty c.args.cx.now c.args.lhs.now c.requires.lhs_known) in
-    let tb = type_term b (g.met.I.Interner.is_ty c.args.cx.now c.args.rhs.now c.requires.rhs_known) in
+    let ta = type_term a ((g.met.I.Interner.sorted c.args.cx.now).ty c.args.lhs.now c.requires.lhs_known) in
+    let tb = type_term b ((g.met.I.Interner.sorted c.args.cx.now).ty c.args.rhs.now c.requires.rhs_known) in
     let f = none_stands r b a c.may_stand_for.result
     (c.may_stand_for.ensures ∙ ap (λ x. stands r x a) (sym c.ty_kind-right.ensures)) c.in_default.not-Some in
     let h = none_stands l a b c.may_stand_for-2.result
@@ -325,9 +325,9 @@ arg_may_unify-returns-in_default g t c =
     let m = g.I.Interner.meaning c.args.cx.now in
     let k = subst (λ x. IsTrue (known (arg_tree m x))) c.in-Ty.is c.requires.left_known in
     let is = ap (λ x. tree_sort (arg_tree m x)) c.in-Ty.is
-    ∙ type_term (m.ty c.in-Ty.lhs) (g.met.I.Interner.is_ty c.args.cx.now c.in-Ty.lhs k) in
-    passes (λ z. other_than_ty m (λ r h. region_term (m.region r) (g.met.I.Interner.is_region c.args.cx.now r h))
-    (λ n h. const_term (m.const_ n) (g.met.I.Interner.is_const c.args.cx.now n h)) c.args.right.now c.requires.right_known
+    ∙ type_term (m.ty c.in-Ty.lhs) ((g.met.I.Interner.sorted c.args.cx.now).ty c.in-Ty.lhs k) in
+    passes (λ z. other_than_ty m (λ r h. region_term (m.region r) ((g.met.I.Interner.sorted c.args.cx.now).region r h))
+    (λ n h. const_term (m.const_ n) ((g.met.I.Interner.sorted c.args.cx.now).const_ n h)) c.args.right.now c.requires.right_known
     c.in_default.not-Ty (type_pair z is))
 
 pub arg_may_unify-types_may_unify-requires : goal.arg_may_unify-types_may_unify-requires
@@ -353,9 +353,9 @@ arg_may_unify-returns-in_default-right g t c =
     let m = g.I.Interner.meaning c.args.cx.now in
     let k = subst (λ x. IsTrue (known (arg_tree m x))) c.in-Const.is c.requires.left_known in
     let is = ap (λ x. tree_sort (arg_tree m x)) c.in-Const.is
-    ∙ const_term (m.const_ c.in-Const.lhs) (g.met.I.Interner.is_const c.args.cx.now c.in-Const.lhs k) in
-    passes (λ z. other_than_const m (λ r h. region_term (m.region r) (g.met.I.Interner.is_region c.args.cx.now r h))
-    (λ n h. type_term (m.ty n) (g.met.I.Interner.is_ty c.args.cx.now n h)) c.args.right.now c.requires.right_known
+    ∙ const_term (m.const_ c.in-Const.lhs) ((g.met.I.Interner.sorted c.args.cx.now).const_ c.in-Const.lhs k) in
+    passes (λ z. other_than_const m (λ r h. region_term (m.region r) ((g.met.I.Interner.sorted c.args.cx.now).region r h))
+    (λ n h. type_term (m.ty n) ((g.met.I.Interner.sorted c.args.cx.now).ty n h)) c.args.right.now c.requires.right_known
     c.in_default-right.not-Const (const_pair z refl is))
 
 pub arg_may_unify-consts_may_unify-requires-clause-lhs_known : goal.arg_may_unify-consts_may_unify-requires-clause-lhs_known
@@ -379,7 +379,7 @@ arg_may_unify-returns-in-Lifetime g t c =
     let m = g.I.Interner.meaning c.args.cx.now in
     let k = subst (λ x. IsTrue (known (arg_tree m x))) c.in-Lifetime.is c.requires.left_known in
     let is = ap (λ x. tree_sort (arg_tree m x)) c.in-Lifetime.is
-    ∙ region_term (m.region c.in-Lifetime.field-0) (g.met.I.Interner.is_region c.args.cx.now c.in-Lifetime.field-0 k) in
+    ∙ region_term (m.region c.in-Lifetime.field-0) ((g.met.I.Interner.sorted c.args.cx.now).region c.in-Lifetime.field-0 k) in
     passes (λ z. quiet_clash z (ap is_quiet is))
 
 pub args_may_unify-loop-i-init : goal.args_may_unify-loop-i-init

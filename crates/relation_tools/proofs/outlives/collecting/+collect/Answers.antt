@@ -11,7 +11,7 @@ use Rattle.relation_terms.specs.declared.terms.ty_kind.TyKind.TheVariants.{Param
 use Rattle.relation_terms.specs.declared.terms.ty_kind.TyKind.TheVariants.{Placeholder as PlaceholderForm}
 use Rattle.relation_terms.specs.declared.terms.ty_kind.TyKind.TheVariants.{Alias as AliasForm, Ref as RefForm}
 use Rattle.relation_terms.specs.declared.terms.part_kind.Part.TheVariants.{Ty as TyPart}
-use Rattle.relation_terms.proofs.Sorted.{Sorted}
+use Rattle.relation_terms.specs.Interning.{Sorted}
 use Rattle.relation_terms.proofs.Members.{member_small, parts_small, slice_counts, slice_list, slice_nth, slice_sure}
 use Rattle.relation_terms.proofs.Parts.{ty_seen, known_parts}
 use Rattle.relation_folds.specs.Visits.{bound_var_escapes}
@@ -85,7 +85,7 @@ pub collect_closure-returns-clause-some : goal.collect_closure-returns-clause-so
 collect_closure-returns-clause-some g t' c =
     let m = g.I.Interner.meaning c.args.cx.now in
     let w = m.args c.args.args.now in
-    let l = terms_list argument_sort w (g.met.I.Interner.are_args c.args.cx.now c.args.args.now c.requires.known) in
+    let l = terms_list argument_sort w ((g.met.I.Interner.sorted c.args.cx.now).args c.args.args.now c.requires.known) in
     let f = c.closure_upvars.result in
     let e : found_components m f ≡ components (last_types 1) w =
     found_is m f ∙ ap of_found c.closure_upvars.ensures.means ∙ sym (captured_is w l) in
@@ -95,7 +95,7 @@ pub collect_closure-returns-clause-all : goal.collect_closure-returns-clause-all
 collect_closure-returns-clause-all g t' c =
     let m = g.I.Interner.meaning c.args.cx.now in
     let w = m.args c.args.args.now in
-    let l = terms_list argument_sort w (g.met.I.Interner.are_args c.args.cx.now c.args.args.now c.requires.known) in
+    let l = terms_list argument_sort w ((g.met.I.Interner.sorted c.args.cx.now).args c.args.args.now c.requires.known) in
     let f = c.closure_upvars.result in
     let e : found_components m f ≡ components (last_types 1) w =
     found_is m f ∙ ap of_found c.closure_upvars.ensures.means ∙ sym (captured_is w l) in
@@ -119,7 +119,7 @@ pub collect_coroutine-returns-in_err-collect_found-clause-some : goal.collect_co
 collect_coroutine-returns-in_err-collect_found-clause-some g t' c =
     let m = g.I.Interner.meaning c.args.cx.now in
     let w = m.args c.args.args.now in
-    let l = terms_list argument_sort w (g.met.I.Interner.are_args c.args.cx.now c.args.args.now c.requires.known) in
+    let l = terms_list argument_sort w ((g.met.I.Interner.sorted c.args.cx.now).args c.args.args.now c.requires.known) in
     let up = c.coroutine_upvars.result in
     let e : components (last_types 2) w ≡ of_found (resume_type w) ++ of_found (captured_types w) = resumed_is w l in
     let u : found_components m up ≡ of_found (captured_types w) =
@@ -151,7 +151,7 @@ pub collect_coroutine-returns-clause-some : goal.collect_coroutine-returns-claus
 collect_coroutine-returns-clause-some g t' c =
     let m = g.I.Interner.meaning c.args.cx.now in
     let w = m.args c.args.args.now in
-    let l = terms_list argument_sort w (g.met.I.Interner.are_args c.args.cx.now c.args.args.now c.requires.known) in
+    let l = terms_list argument_sort w ((g.met.I.Interner.sorted c.args.cx.now).args c.args.args.now c.requires.known) in
     let up = c.coroutine_upvars.result in
     let e : components (last_types 2) w ≡ of_found (resume_type w) ++ of_found (captured_types w) = resumed_is w l in
     let u : found_components m up ≡ of_found (captured_types w) =
@@ -172,7 +172,7 @@ pub collect_coroutine-returns-clause-all : goal.collect_coroutine-returns-clause
 collect_coroutine-returns-clause-all g t' c =
     let m = g.I.Interner.meaning c.args.cx.now in
     let w = m.args c.args.args.now in
-    let l = terms_list argument_sort w (g.met.I.Interner.are_args c.args.cx.now c.args.args.now c.requires.known) in
+    let l = terms_list argument_sort w ((g.met.I.Interner.sorted c.args.cx.now).args c.args.args.now c.requires.known) in
     let up = c.coroutine_upvars.result in
     let e : components (last_types 2) w ≡ of_found (resume_type w) ++ of_found (captured_types w) = resumed_is w l in
     let u : found_components m up ≡ of_found (captured_types w) =
@@ -470,18 +470,7 @@ collect_part-returns-then-not-first-clause-all g t' c =
     let eq = (ghosts g.row.I-Key g.I.Key.PartialEq g.I.Key.PartialEq-dict).eq in
     let a = c.args.cx.now in
     let laws = g.met.I.Interner in
-    let sorted : Sorted m = record {
-      ty = laws.is_ty a;
-      region = laws.is_region a;
-      tys = laws.are_tys a;
-      const_ = laws.is_const a;
-      valtree = laws.is_valtree a;
-      args = laws.are_args a;
-      branches = laws.are_branches a;
-      pat = laws.is_pat a;
-      alternatives = laws.are_alternatives a;
-      existential_predicates = laws.are_existential_predicates a;
-    } in
+    let sorted : Sorted m = laws.sorted a in
     let same = arg_same m g.I.Key.PartialEq.eq eq (λ a b. refl) (λ a b. refl) (λ a b. refl) (λ a b. refl)
     (λ a b. refl) (λ a b. refl) (λ a b. refl) (λ a b. refl) (λ a b. refl) (laws.same_region a) (laws.same_ty a)
     (laws.same_const a) sorted in
@@ -501,18 +490,7 @@ collect_part-returns-then-not-first-clause-meets g t' c =
     let eq = (ghosts g.row.I-Key g.I.Key.PartialEq g.I.Key.PartialEq-dict).eq in
     let a = c.args.cx.now in
     let laws = g.met.I.Interner in
-    let sorted : Sorted m = record {
-      ty = laws.is_ty a;
-      region = laws.is_region a;
-      tys = laws.are_tys a;
-      const_ = laws.is_const a;
-      valtree = laws.is_valtree a;
-      args = laws.are_args a;
-      branches = laws.are_branches a;
-      pat = laws.is_pat a;
-      alternatives = laws.are_alternatives a;
-      existential_predicates = laws.are_existential_predicates a;
-    } in
+    let sorted : Sorted m = laws.sorted a in
     let same = arg_same m g.I.Key.PartialEq.eq eq (λ a b. refl) (λ a b. refl) (λ a b. refl) (λ a b. refl)
     (λ a b. refl) (λ a b. refl) (λ a b. refl) (λ a b. refl) (λ a b. refl) (laws.same_region a) (laws.same_ty a)
     (laws.same_const a) sorted in
@@ -538,18 +516,7 @@ collect_part-collect_members-requires g t' c κs within =
     let eq = (ghosts g.row.I-Key g.I.Key.PartialEq g.I.Key.PartialEq-dict).eq in
     let a = c.args.cx.now in
     let laws = g.met.I.Interner in
-    let sorted : Sorted m = record {
-      ty = laws.is_ty a;
-      region = laws.is_region a;
-      tys = laws.are_tys a;
-      const_ = laws.is_const a;
-      valtree = laws.is_valtree a;
-      args = laws.are_args a;
-      branches = laws.are_branches a;
-      pat = laws.is_pat a;
-      alternatives = laws.are_alternatives a;
-      existential_predicates = laws.are_existential_predicates a;
-    } in
+    let sorted : Sorted m = laws.sorted a in
     let same = arg_same m g.I.Key.PartialEq.eq eq (λ a b. refl) (λ a b. refl) (λ a b. refl) (λ a b. refl)
     (λ a b. refl) (λ a b. refl) (λ a b. refl) (λ a b. refl) (λ a b. refl) (laws.same_region a) (laws.same_ty a)
     (laws.same_const a) sorted in
@@ -605,18 +572,7 @@ collect_part-returns-else-not-first g t' c =
     let eq = (ghosts g.row.I-Key g.I.Key.PartialEq g.I.Key.PartialEq-dict).eq in
     let a = c.args.cx.now in
     let laws = g.met.I.Interner in
-    let sorted : Sorted m = record {
-      ty = laws.is_ty a;
-      region = laws.is_region a;
-      tys = laws.are_tys a;
-      const_ = laws.is_const a;
-      valtree = laws.is_valtree a;
-      args = laws.are_args a;
-      branches = laws.are_branches a;
-      pat = laws.is_pat a;
-      alternatives = laws.are_alternatives a;
-      existential_predicates = laws.are_existential_predicates a;
-    } in
+    let sorted : Sorted m = laws.sorted a in
     let same = arg_same m g.I.Key.PartialEq.eq eq (λ a b. refl) (λ a b. refl) (λ a b. refl) (λ a b. refl)
     (λ a b. refl) (λ a b. refl) (λ a b. refl) (λ a b. refl) (λ a b. refl) (laws.same_region a) (laws.same_ty a)
     (laws.same_const a) sorted in
@@ -656,18 +612,7 @@ collect_type-returns-then-not-first-clause-all g t' c =
     let eq = (ghosts g.row.I-Key g.I.Key.PartialEq g.I.Key.PartialEq-dict).eq in
     let a = c.args.cx.now in
     let laws = g.met.I.Interner in
-    let sorted : Sorted m = record {
-      ty = laws.is_ty a;
-      region = laws.is_region a;
-      tys = laws.are_tys a;
-      const_ = laws.is_const a;
-      valtree = laws.is_valtree a;
-      args = laws.are_args a;
-      branches = laws.are_branches a;
-      pat = laws.is_pat a;
-      alternatives = laws.are_alternatives a;
-      existential_predicates = laws.are_existential_predicates a;
-    } in
+    let sorted : Sorted m = laws.sorted a in
     let same = arg_same m g.I.Key.PartialEq.eq eq (λ a b. refl) (λ a b. refl) (λ a b. refl) (λ a b. refl)
     (λ a b. refl) (λ a b. refl) (λ a b. refl) (λ a b. refl) (λ a b. refl) (laws.same_region a) (laws.same_ty a)
     (laws.same_const a) sorted in
@@ -687,18 +632,7 @@ collect_type-returns-then-not-first-clause-meets g t' c =
     let eq = (ghosts g.row.I-Key g.I.Key.PartialEq g.I.Key.PartialEq-dict).eq in
     let a = c.args.cx.now in
     let laws = g.met.I.Interner in
-    let sorted : Sorted m = record {
-      ty = laws.is_ty a;
-      region = laws.is_region a;
-      tys = laws.are_tys a;
-      const_ = laws.is_const a;
-      valtree = laws.is_valtree a;
-      args = laws.are_args a;
-      branches = laws.are_branches a;
-      pat = laws.is_pat a;
-      alternatives = laws.are_alternatives a;
-      existential_predicates = laws.are_existential_predicates a;
-    } in
+    let sorted : Sorted m = laws.sorted a in
     let same = arg_same m g.I.Key.PartialEq.eq eq (λ a b. refl) (λ a b. refl) (λ a b. refl) (λ a b. refl)
     (λ a b. refl) (λ a b. refl) (λ a b. refl) (λ a b. refl) (λ a b. refl) (laws.same_region a) (laws.same_ty a)
     (laws.same_const a) sorted in
@@ -718,18 +652,7 @@ collect_type-collect_ty-requires g t' c κs within =
     let eq = (ghosts g.row.I-Key g.I.Key.PartialEq g.I.Key.PartialEq-dict).eq in
     let a = c.args.cx.now in
     let laws = g.met.I.Interner in
-    let sorted : Sorted m = record {
-      ty = laws.is_ty a;
-      region = laws.is_region a;
-      tys = laws.are_tys a;
-      const_ = laws.is_const a;
-      valtree = laws.is_valtree a;
-      args = laws.are_args a;
-      branches = laws.are_branches a;
-      pat = laws.is_pat a;
-      alternatives = laws.are_alternatives a;
-      existential_predicates = laws.are_existential_predicates a;
-    } in
+    let sorted : Sorted m = laws.sorted a in
     let same = arg_same m g.I.Key.PartialEq.eq eq (λ a b. refl) (λ a b. refl) (λ a b. refl) (λ a b. refl)
     (λ a b. refl) (λ a b. refl) (λ a b. refl) (λ a b. refl) (λ a b. refl) (laws.same_region a) (laws.same_ty a)
     (laws.same_const a) sorted in
@@ -752,18 +675,7 @@ collect_type-returns-clause-meets g t' c =
     let eq = (ghosts g.row.I-Key g.I.Key.PartialEq g.I.Key.PartialEq-dict).eq in
     let a = c.args.cx.now in
     let laws = g.met.I.Interner in
-    let sorted : Sorted m = record {
-      ty = laws.is_ty a;
-      region = laws.is_region a;
-      tys = laws.are_tys a;
-      const_ = laws.is_const a;
-      valtree = laws.is_valtree a;
-      args = laws.are_args a;
-      branches = laws.are_branches a;
-      pat = laws.is_pat a;
-      alternatives = laws.are_alternatives a;
-      existential_predicates = laws.are_existential_predicates a;
-    } in
+    let sorted : Sorted m = laws.sorted a in
     let same = arg_same m g.I.Key.PartialEq.eq eq (λ a b. refl) (λ a b. refl) (λ a b. refl) (λ a b. refl)
     (λ a b. refl) (λ a b. refl) (λ a b. refl) (λ a b. refl) (λ a b. refl) (laws.same_region a) (laws.same_ty a)
     (laws.same_const a) sorted in
@@ -1014,7 +926,7 @@ collect_form-returns-in-CoroutineWitness-clause-all g t' c =
     let w = m.ty c.args.ty.now in
     let e = c.ty_kind-kind.ensures ∙ ap (kind_tree m) c.in-CoroutineWitness.is in
     has_as m [] (components every w) c.args.out.now.items
-    (sym (witness_has w _ _ e (g.met.I.Interner.is_ty c.args.cx.now c.args.ty.now c.requires.known))) tt
+    (sym (witness_has w _ _ e ((g.met.I.Interner.sorted c.args.cx.now).ty c.args.ty.now c.requires.known))) tt
 
 pub collect_form-returns-in-CoroutineWitness-clause-meets : goal.collect_form-returns-in-CoroutineWitness-clause-meets
 collect_form-returns-in-CoroutineWitness-clause-meets g t' c =

@@ -1,5 +1,5 @@
 use Rattle.std.proofs.Common.{refl}
-use Rattle.relation_terms.proofs.Sorted.{Sorted}
+use Rattle.relation_terms.specs.Interning.{Sorted}
 use Rattle.relation_terms.specs.contracts.terms.generic_arg.GenericArgKindPartialEq.TheImpl.{ghosts}
 use Rattle.relation_folds.proofs.Arguments.{arg_same, arg_visited}
 use Rattle.relation_tools.proofs.Positioning.{by_places}
@@ -11,18 +11,7 @@ returns-clause-by_places g c =
     let a = c.args.cx.now in
     let eq = (ghosts g.row.I-Key g.I.Key.PartialEq g.I.Key.PartialEq-dict).eq in
     let laws = g.met.I.Interner in
-    let sorted : Sorted m = record {
-      ty = laws.is_ty a;
-      region = laws.is_region a;
-      tys = laws.are_tys a;
-      const_ = laws.is_const a;
-      valtree = laws.is_valtree a;
-      args = laws.are_args a;
-      branches = laws.are_branches a;
-      pat = laws.is_pat a;
-      alternatives = laws.are_alternatives a;
-      existential_predicates = laws.are_existential_predicates a;
-    } in
+    let sorted : Sorted m = laws.sorted a in
     rw (c.one.ensures, c.none_met.ensures)
     (by_places m eq (arg_same m g.I.Key.PartialEq.eq eq (λ a b. refl) (λ a b. refl) (λ a b. refl) (λ a b. refl)
     (λ a b. refl) (λ a b. refl) (λ a b. refl) (λ a b. refl) (λ a b. refl) (laws.same_region a) (laws.same_ty a)

@@ -5,7 +5,7 @@ use Rattle.relation_terms.specs.Meaning.{pattern_tree}
 use Rattle.relation_terms.specs.Parts.{part_tree, parts_tree, parts_of, part_sort}
 use Rattle.relation_terms.specs.declared.terms.generic_arg.GenericArgKind.TheVariants.{Lifetime}
 use Rattle.relation_terms.specs.declared.terms.generic_arg.GenericArgKind.TheVariants.{Ty as TyArg, Const as ConstArg}
-use Rattle.relation_terms.proofs.Sorted.{Sorted}
+use Rattle.relation_terms.specs.Interning.{Sorted}
 use Rattle.relation_terms.proofs.Members.{member_small, parts_small}
 use Rattle.relation_terms.proofs.Parts.{sort_known}
 use Rattle.relation_folds.specs.Visits.{visited_sort}
@@ -17,18 +17,7 @@ use Rattle.relation_tools.proofs.walk.places.+places.Goals as goal
 pub push_part-returns-in_ok-push-in-Region : goal.push_part-returns-in_ok-push-in-Region
 push_part-returns-in_ok-push-in-Region g t' c =
     let m = g.I.Interner.meaning c.args.cx.now in
-    let sorted : Sorted m = record {
-      ty = g.met.I.Interner.is_ty c.args.cx.now;
-      region = g.met.I.Interner.is_region c.args.cx.now;
-      tys = g.met.I.Interner.are_tys c.args.cx.now;
-      const_ = g.met.I.Interner.is_const c.args.cx.now;
-      valtree = g.met.I.Interner.is_valtree c.args.cx.now;
-      args = g.met.I.Interner.are_args c.args.cx.now;
-      branches = g.met.I.Interner.are_branches c.args.cx.now;
-      pat = g.met.I.Interner.is_pat c.args.cx.now;
-      alternatives = g.met.I.Interner.are_alternatives c.args.cx.now;
-      existential_predicates = g.met.I.Interner.are_existential_predicates c.args.cx.now;
-    } in
+    let sorted : Sorted m = g.met.I.Interner.sorted c.args.cx.now in
     let p = c.args.part.now in
     let is = c.in-Region.is in
     pushes_one m _ _ (Lifetime c.in-Region.region) _ c.in_ok-push-in-Region.ensures.ok
@@ -37,18 +26,7 @@ push_part-returns-in_ok-push-in-Region g t' c =
 pub push_part-returns-in_ok-push-in-Ty : goal.push_part-returns-in_ok-push-in-Ty
 push_part-returns-in_ok-push-in-Ty g t' c =
     let m = g.I.Interner.meaning c.args.cx.now in
-    let sorted : Sorted m = record {
-      ty = g.met.I.Interner.is_ty c.args.cx.now;
-      region = g.met.I.Interner.is_region c.args.cx.now;
-      tys = g.met.I.Interner.are_tys c.args.cx.now;
-      const_ = g.met.I.Interner.is_const c.args.cx.now;
-      valtree = g.met.I.Interner.is_valtree c.args.cx.now;
-      args = g.met.I.Interner.are_args c.args.cx.now;
-      branches = g.met.I.Interner.are_branches c.args.cx.now;
-      pat = g.met.I.Interner.is_pat c.args.cx.now;
-      alternatives = g.met.I.Interner.are_alternatives c.args.cx.now;
-      existential_predicates = g.met.I.Interner.are_existential_predicates c.args.cx.now;
-    } in
+    let sorted : Sorted m = g.met.I.Interner.sorted c.args.cx.now in
     let p = c.args.part.now in
     let is = c.in-Ty.is in
     pushes_one m _ _ (TyArg c.in-Ty.ty) _ c.in_ok-push-in-Ty.ensures.ok
@@ -57,18 +35,7 @@ push_part-returns-in_ok-push-in-Ty g t' c =
 pub push_part-returns-in_ok-push-in-Const : goal.push_part-returns-in_ok-push-in-Const
 push_part-returns-in_ok-push-in-Const g t' c =
     let m = g.I.Interner.meaning c.args.cx.now in
-    let sorted : Sorted m = record {
-      ty = g.met.I.Interner.is_ty c.args.cx.now;
-      region = g.met.I.Interner.is_region c.args.cx.now;
-      tys = g.met.I.Interner.are_tys c.args.cx.now;
-      const_ = g.met.I.Interner.is_const c.args.cx.now;
-      valtree = g.met.I.Interner.is_valtree c.args.cx.now;
-      args = g.met.I.Interner.are_args c.args.cx.now;
-      branches = g.met.I.Interner.are_branches c.args.cx.now;
-      pat = g.met.I.Interner.is_pat c.args.cx.now;
-      alternatives = g.met.I.Interner.are_alternatives c.args.cx.now;
-      existential_predicates = g.met.I.Interner.are_existential_predicates c.args.cx.now;
-    } in
+    let sorted : Sorted m = g.met.I.Interner.sorted c.args.cx.now in
     let p = c.args.part.now in
     let is = c.in-Const.is in
     pushes_one m _ _ (ConstArg c.in-Const.constant) _ c.in_ok-push-in-Const.ensures.ok
@@ -77,18 +44,7 @@ push_part-returns-in_ok-push-in-Const g t' c =
 pub push_part-returns-in-ValTree : goal.push_part-returns-in-ValTree
 push_part-returns-in-ValTree g t' c =
     let m = g.I.Interner.meaning c.args.cx.now in
-    let sorted : Sorted m = record {
-      ty = g.met.I.Interner.is_ty c.args.cx.now;
-      region = g.met.I.Interner.is_region c.args.cx.now;
-      tys = g.met.I.Interner.are_tys c.args.cx.now;
-      const_ = g.met.I.Interner.is_const c.args.cx.now;
-      valtree = g.met.I.Interner.is_valtree c.args.cx.now;
-      args = g.met.I.Interner.are_args c.args.cx.now;
-      branches = g.met.I.Interner.are_branches c.args.cx.now;
-      pat = g.met.I.Interner.is_pat c.args.cx.now;
-      alternatives = g.met.I.Interner.are_alternatives c.args.cx.now;
-      existential_predicates = g.met.I.Interner.are_existential_predicates c.args.cx.now;
-    } in
+    let sorted : Sorted m = g.met.I.Interner.sorted c.args.cx.now in
     let p = c.args.part.now in
     pushes_none m _ _ (value_has_none false (part_tree m p) (sort_known m sorted p c.requires ∙ ap part_sort c.in-ValTree.is))
 
@@ -148,18 +104,7 @@ push_pat-returns-in_ok-push_back-in-Or g t' c =
 pub push_pat-returns-in_ok-push-in-Range-2 : goal.push_pat-returns-in_ok-push-in-Range-2
 push_pat-returns-in_ok-push-in-Range-2 g t' c =
     let m = g.I.Interner.meaning c.args.cx.now in
-    let sorted : Sorted m = record {
-      ty = g.met.I.Interner.is_ty c.args.cx.now;
-      region = g.met.I.Interner.is_region c.args.cx.now;
-      tys = g.met.I.Interner.are_tys c.args.cx.now;
-      const_ = g.met.I.Interner.is_const c.args.cx.now;
-      valtree = g.met.I.Interner.is_valtree c.args.cx.now;
-      args = g.met.I.Interner.are_args c.args.cx.now;
-      branches = g.met.I.Interner.are_branches c.args.cx.now;
-      pat = g.met.I.Interner.is_pat c.args.cx.now;
-      alternatives = g.met.I.Interner.are_alternatives c.args.cx.now;
-      existential_predicates = g.met.I.Interner.are_existential_predicates c.args.cx.now;
-    } in
+    let sorted : Sorted m = g.met.I.Interner.sorted c.args.cx.now in
     range_places m sorted (m.pat c.args.pat.now) c.in-Range.start c.in-Range.end
     (c.pat_kind-kind.ensures ∙ ap (pattern_tree m) c.in-Range.is) c.requires _ _ _ c.in_ok-push-in-Range.ensures.ok
     c.in_ok-push-in-Range-2.ensures.ok

@@ -2,7 +2,7 @@ use Rattle.std.proofs.Common.{sym, ap, ◌∙◌}
 use Rattle.relation_terms.specs.Heads.{slice, ref}
 use Rattle.relation_terms.specs.Meaning.{kind_tree}
 use Rattle.relation_terms.specs.declared.terms.generic_arg.GenericArgKind.TheVariants.{Ty as TyArg}
-use Rattle.relation_terms.proofs.Sorted.{Sorted}
+use Rattle.relation_terms.specs.Interning.{Sorted}
 use Rattle.relation_tools.specs.Places.{places_under}
 use Rattle.relation_tools.proofs.Placing.{pushes_one, pushes_as, slice_places, ref_places}
 use Rattle.relation_tools.proofs.walk.places.push_under_ty.Goals as goal
@@ -10,18 +10,7 @@ use Rattle.relation_tools.proofs.walk.places.push_under_ty.Goals as goal
 pub returns-in_ok-push-in-Slice : goal.returns-in_ok-push-in-Slice
 returns-in_ok-push-in-Slice g c =
     let m = g.I.Interner.meaning c.args.cx.now in
-    let sorted : Sorted m = record {
-      ty = g.met.I.Interner.is_ty c.args.cx.now;
-      region = g.met.I.Interner.is_region c.args.cx.now;
-      tys = g.met.I.Interner.are_tys c.args.cx.now;
-      const_ = g.met.I.Interner.is_const c.args.cx.now;
-      valtree = g.met.I.Interner.is_valtree c.args.cx.now;
-      args = g.met.I.Interner.are_args c.args.cx.now;
-      branches = g.met.I.Interner.are_branches c.args.cx.now;
-      pat = g.met.I.Interner.is_pat c.args.cx.now;
-      alternatives = g.met.I.Interner.are_alternatives c.args.cx.now;
-      existential_predicates = g.met.I.Interner.are_existential_predicates c.args.cx.now;
-    } in
+    let sorted : Sorted m = g.met.I.Interner.sorted c.args.cx.now in
     let e = c.ty_kind-kind.ensures ∙ ap (kind_tree m) c.in-Slice.is in
     pushes_one m _ _ (TyArg c.in-Slice.element) _ c.in_ok-push-in-Slice.ensures.ok
     (slice_places m sorted (m.ty c.args.ty.now) slice c.in-Slice.element e c.requires)
@@ -29,18 +18,7 @@ returns-in_ok-push-in-Slice g c =
 pub returns-in_ok-push-in-Ref-2 : goal.returns-in_ok-push-in-Ref-2
 returns-in_ok-push-in-Ref-2 g c =
     let m = g.I.Interner.meaning c.args.cx.now in
-    let sorted : Sorted m = record {
-      ty = g.met.I.Interner.is_ty c.args.cx.now;
-      region = g.met.I.Interner.is_region c.args.cx.now;
-      tys = g.met.I.Interner.are_tys c.args.cx.now;
-      const_ = g.met.I.Interner.is_const c.args.cx.now;
-      valtree = g.met.I.Interner.is_valtree c.args.cx.now;
-      args = g.met.I.Interner.are_args c.args.cx.now;
-      branches = g.met.I.Interner.are_branches c.args.cx.now;
-      pat = g.met.I.Interner.is_pat c.args.cx.now;
-      alternatives = g.met.I.Interner.are_alternatives c.args.cx.now;
-      existential_predicates = g.met.I.Interner.are_existential_predicates c.args.cx.now;
-    } in
+    let sorted : Sorted m = g.met.I.Interner.sorted c.args.cx.now in
     let e = c.ty_kind-kind.ensures ∙ ap (kind_tree m) c.in-Ref.is in
     ref_places m sorted (m.ty c.args.ty.now) (ref c.in-Ref.field-2) c.in-Ref.region c.in-Ref.pointee e c.requires _ _ _
     c.in_ok-push-in-Ref.ensures.ok c.in_ok-push-in-Ref-2.ensures.ok

@@ -2,9 +2,9 @@ use Rattle.std.proofs.Common.{◌≡◌, ◌<◌, suc, refl, sym, ap, ◌∙◌,
 use Rattle.relation_terms.specs.declared.terms.keys.ArgsKey.{ArgsKey}
 use Rattle.relation_terms.specs.Heads.{argument_sort}
 use Rattle.relation_terms.specs.Trees.{Tree, node, known, count, nth, list_tree}
-use Rattle.relation_terms.specs.Variances.{xform}
+use Rattle.term_enums.specs.Variances.{xform}
 use Rattle.relation_terms.specs.Meaning.{arg_tree}
-use Rattle.relation_terms.proofs.Sorted.{Sorted}
+use Rattle.relation_terms.specs.Interning.{Sorted}
 use Rattle.relation_contexts.specs.Relation.{part_at}
 use Rattle.type_relations.specs.Arguments.{args_head}
 use Rattle.relation_contexts.specs.Lawful.{MayAnswer, Related, items_in}
@@ -29,18 +29,7 @@ loop-i-init g c =
     let k = c.requires.asked in
     let e = g.met.R.TypeRelation.reads c.args.r.now in
     let cx = g.R.TypeRelation.interner c.args.r.now in
-    let sorted : Sorted r.meaning = subst (λ m. Sorted m) (sym e) (record {
-      ty = g.met.I.Interner.is_ty cx;
-      region = g.met.I.Interner.is_region cx;
-      tys = g.met.I.Interner.are_tys cx;
-      const_ = g.met.I.Interner.is_const cx;
-      valtree = g.met.I.Interner.is_valtree cx;
-      args = g.met.I.Interner.are_args cx;
-      branches = g.met.I.Interner.are_branches cx;
-      pat = g.met.I.Interner.is_pat cx;
-      alternatives = g.met.I.Interner.are_alternatives cx;
-      existential_predicates = g.met.I.Interner.are_existential_predicates cx;
-    }) in
+    let sorted : Sorted r.meaning = subst (λ m. Sorted m) (sym e) (g.met.I.Interner.sorted cx) in
     record {
       lawful = c.requires.lawful;
       fronted = fronted_none g.R.TypeRelation.manner r h r.ambient ts us;

@@ -17,4 +17,4 @@ returns-in-Lifetime-clause-tells g c =
     subst (λ a. IsTrue (known (arg_tree s.meaning a))) c.in-Lifetime.is c.requires.arg_known in
     subst (λ a. false ≡ is_left_open s.store (arg_tree s.meaning a)) (sym c.in-Lifetime.is)
     (sym (region_closed s.store sound ((s.meaning).region r)
-    (region_sorted of r (g.met.Infcx.Interner.Interner.is_region cx r) sure)))
+    (region_sorted of r ((g.met.Infcx.Interner.Interner.sorted cx).region r) sure)))

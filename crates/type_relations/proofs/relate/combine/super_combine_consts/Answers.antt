@@ -57,9 +57,9 @@ returns-clause-stepped g c =
     let covered = g.met.Infcx.InferCtxtLike.covered y lawful in
     let all = g.met.Infcx.InferCtxtLike.covered z grows.lawful in
     let w = c.context_grows.ensures z grows (consts_later r s d o c.requires.decides sound grows.extends numbers covered
-    all a b res c.requires.asked (λ k h. const_sorted of k (g.met.Infcx.Interner.Interner.is_const cx k) h) combines) c.requires.lawful in
+    all a b res c.requires.asked (λ k h. const_sorted of k ((g.met.Infcx.Interner.Interner.sorted cx).const_ k) h) combines) c.requires.lawful in
     consts_stepped r q s d o w c.requires.decides sound grows.extends numbers covered all a b res c.requires.asked
-    (λ k h. const_sorted of k (g.met.Infcx.Interner.Interner.is_const cx k) h) combines
+    (λ k h. const_sorted of k ((g.met.Infcx.Interner.Interner.sorted cx).const_ k) h) combines
 
 pub returns-clause-combines : goal.returns-clause-combines
 returns-clause-combines g c =
@@ -85,7 +85,7 @@ returns-clause-combines g c =
     let covered = g.met.Infcx.InferCtxtLike.covered y lawful in
     let all = g.met.Infcx.InferCtxtLike.covered z grows.lawful in
     let w = c.context_grows.ensures z grows (consts_later r s d o c.requires.decides sound grows.extends numbers covered
-    all a b res c.requires.asked (λ k h. const_sorted of k (g.met.Infcx.Interner.Interner.is_const cx k) h) combines) c.requires.lawful in
+    all a b res c.requires.asked (λ k h. const_sorted of k ((g.met.Infcx.Interner.Interner.sorted cx).const_ k) h) combines) c.requires.lawful in
     consts_combined r q s d o w a b res combines
 
 pub returns-clause-registers_nothing : goal.returns-clause-registers_nothing
@@ -112,5 +112,5 @@ returns-clause-registers_nothing g c =
     let covered = g.met.Infcx.InferCtxtLike.covered y lawful in
     let all = g.met.Infcx.InferCtxtLike.covered z grows.lawful in
     let w = c.context_grows.ensures z grows (consts_later r s d o c.requires.decides sound grows.extends numbers covered
-    all a b res c.requires.asked (λ k h. const_sorted of k (g.met.Infcx.Interner.Interner.is_const cx k) h) combines) c.requires.lawful in
+    all a b res c.requires.asked (λ k h. const_sorted of k ((g.met.Infcx.Interner.Interner.sorted cx).const_ k) h) combines) c.requires.lawful in
     w.goals

@@ -43,7 +43,7 @@ returns-clause-stepped g c = λ p q.
     c.requires.lawful in
     types_stepped r (g.R.PredicateEmittingRelation.state (g.R.PredicateEmittingRelation.with_context x z)) s d o w
     c.requires.decides sound stands.meaning a b res c.requires.asked (λ h. ty_sorted of a
-    (g.met.Infcx.Interner.Interner.is_ty cx a) h) (λ h. ty_sorted of b (g.met.Infcx.Interner.Interner.is_ty cx b) h) p q
+    ((g.met.Infcx.Interner.Interner.sorted cx).ty a) h) (λ h. ty_sorted of b ((g.met.Infcx.Interner.Interner.sorted cx).ty b) h) p q
     combines
 
 pub returns-clause-combines : goal.returns-clause-combines

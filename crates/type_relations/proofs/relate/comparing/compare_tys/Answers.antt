@@ -11,7 +11,7 @@ returns-then-eq-clause-alike g c =
     let m = g.I.Interner.meaning c.args.cx.now in
     let x = c.args.a.now in
     let y = c.args.b.now in
-    itself_alike (m.ty x) (m.ty y) (g.met.I.Interner.is_ty c.args.cx.now x c.requires.a_known) c.requires.a_covered
+    itself_alike (m.ty x) (m.ty y) ((g.met.I.Interner.sorted c.args.cx.now).ty x c.requires.a_known) c.requires.a_covered
     ((g.met.I.Interner.same_ty c.args.cx.now x y c.requires.a_known c.requires.b_known).0 (sym c.if-eq.ensures))
 
 pub compare_leaves-requires-clause-leaf : goal.compare_leaves-requires-clause-leaf
@@ -117,8 +117,8 @@ returns-then-has_fixed_parts-clause-alike g c =
     let same : o.mutability ≡ p.mutability =
     (let t = c.if-ne.false in let h = c.ne.ensures in let k = c.if-ne.ensures in search rules) in
     forms_alike m x y o p left right c.requires.a_covered c.requires.b_covered parted form item same
-    (fixed_counts (m.ty x) (m.ty y) o.form (g.met.I.Interner.is_ty c.args.cx.now x c.requires.a_known)
-    (g.met.I.Interner.is_ty c.args.cx.now y c.requires.b_known) (sym (ap (λ z. z.form) left))
+    (fixed_counts (m.ty x) (m.ty y) o.form ((g.met.I.Interner.sorted c.args.cx.now).ty x c.requires.a_known)
+    ((g.met.I.Interner.sorted c.args.cx.now).ty y c.requires.b_known) (sym (ap (λ z. z.form) left))
     (sym (ap (λ z. z.form) right) ∙ sym form) (c.has_fixed_parts.ensures c.if-has_fixed_parts.true))
 
 pub returns-clause-alike : goal.returns-clause-alike

@@ -3,7 +3,7 @@ use Rattle.std.proofs.lemmas.Bool.{and_parts}
 use Rattle.relation_terms.specs.Heads.{inputs}
 use Rattle.relation_terms.specs.Trees.{known, node, nil, cons, front, last}
 use Rattle.relation_terms.specs.Parts.{part_tree}
-use Rattle.relation_terms.proofs.Sorted.{Sorted}
+use Rattle.relation_terms.specs.Interning.{Sorted}
 use Rattle.type_relations.specs.Handing.{named_place}
 use Rattle.type_relations.proofs.Handing.{named_output, part_unnamed, above, no_signature_inputs}
 use Rattle.type_relations.proofs.relate.handing.named_place.Goals as goal
@@ -35,18 +35,7 @@ pub returns-in_default : goal.returns-in_default
 returns-in_default g c =
     let m = g.I.Interner.meaning c.args.cx.now in
     let cx = c.args.cx.now in
-    let sorted : Sorted m = record {
-      ty = g.met.I.Interner.is_ty cx;
-      region = g.met.I.Interner.is_region cx;
-      tys = g.met.I.Interner.are_tys cx;
-      const_ = g.met.I.Interner.is_const cx;
-      valtree = g.met.I.Interner.is_valtree cx;
-      args = g.met.I.Interner.are_args cx;
-      branches = g.met.I.Interner.are_branches cx;
-      pat = g.met.I.Interner.is_pat cx;
-      alternatives = g.met.I.Interner.are_alternatives cx;
-      existential_predicates = g.met.I.Interner.are_existential_predicates cx;
-    } in
+    let sorted : Sorted m = g.met.I.Interner.sorted cx in
     sym (part_unnamed m sorted c.args.term.now c.args.i c.requires c.in_default.not-Inputs
     (λ s e. absurd (c.in_default.not-Signature s e)))
 
@@ -54,18 +43,7 @@ pub returns-then-i-eq0 : goal.returns-then-i-eq0
 returns-then-i-eq0 g c =
     let m = g.I.Interner.meaning c.args.cx.now in
     let cx = c.args.cx.now in
-    let sorted : Sorted m = record {
-      ty = g.met.I.Interner.is_ty cx;
-      region = g.met.I.Interner.is_region cx;
-      tys = g.met.I.Interner.are_tys cx;
-      const_ = g.met.I.Interner.is_const cx;
-      valtree = g.met.I.Interner.is_valtree cx;
-      args = g.met.I.Interner.are_args cx;
-      branches = g.met.I.Interner.are_branches cx;
-      pat = g.met.I.Interner.is_pat cx;
-      alternatives = g.met.I.Interner.are_alternatives cx;
-      existential_predicates = g.met.I.Interner.are_existential_predicates cx;
-    } in
+    let sorted : Sorted m = g.met.I.Interner.sorted cx in
     let t = c.args.term.now in
     let no_inputs = no_signature_inputs c.in-Signature.sig t c.in-Signature.is in
     sym (part_unnamed m sorted t c.args.i c.requires no_inputs (λ s e. c.if-i-eq0.true))

@@ -18,7 +18,7 @@ with_parts-requires g c =
     let v = m.valtree c.in-Value.value in
     let e : k ≡ value_of t v = c.const_kind.ensures ∙ ap (const_tree m) c.in-Value.is in
     let sure = value_tree_known k t v e c.requires.constant_known in
-    let is = g.met.I.Interner.is_valtree c.args.cx.now c.in-Value.value sure in
+    let is = (g.met.I.Interner.sorted c.args.cx.now).valtree c.in-Value.value sure in
     let xs = c.args.args.now in
     let ps = c.as_slice.result.now in
     let q : ps ≡ map part_of_arg xs = c.as_slice.ensures.value ∙ c.in_ok-parts.ensures in
@@ -51,7 +51,7 @@ returns-in-Value g c =
     let t = m.ty c.in-Value.ty in
     let v = m.valtree c.in-Value.value in
     let e : k ≡ value_of t v = c.const_kind.ensures ∙ ap (const_tree m) c.in-Value.is in
-    let is = g.met.I.Interner.is_valtree c.args.cx.now c.in-Value.value
+    let is = (g.met.I.Interner.sorted c.args.cx.now).valtree c.in-Value.value
     (value_tree_known k t v e c.requires.constant_known) in
     let xs = c.args.args.now in
     let ps = c.as_slice.result.now in

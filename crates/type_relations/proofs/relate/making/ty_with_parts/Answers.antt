@@ -23,7 +23,7 @@ pub with_parts-requires : goal.with_parts-requires
 with_parts-requires g c =
     let m = g.I.Interner.meaning c.args.cx.now in
     let t = m.ty c.args.ty.now in
-    let is = g.met.I.Interner.is_ty c.args.cx.now c.args.ty.now c.requires.ty_known in
+    let is = (g.met.I.Interner.sorted c.args.cx.now).ty c.args.ty.now c.requires.ty_known in
     let xs = c.args.args.now in
     let ps = c.as_slice.result.now in
     let q : ps ≡ map part_of_arg xs = c.as_slice.ensures.value ∙ c.in_ok-parts.ensures in
@@ -38,7 +38,7 @@ returns g c =
     let m = g.I.Interner.meaning c.args.cx.now in
     let n = g.I.Interner.meaning c.with_parts.new.cx in
     let t = m.ty c.args.ty.now in
-    let is = g.met.I.Interner.is_ty c.args.cx.now c.args.ty.now c.requires.ty_known in
+    let is = (g.met.I.Interner.sorted c.args.cx.now).ty c.args.ty.now c.requires.ty_known in
     let xs = c.args.args.now in
     let ps = c.as_slice.result.now in
     let q : ps ≡ map part_of_arg xs = c.as_slice.ensures.value ∙ c.in_ok-parts.ensures in

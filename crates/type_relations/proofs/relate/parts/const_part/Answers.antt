@@ -3,7 +3,7 @@ use Rattle.relation_terms.specs.Heads.{argument_sort}
 use Rattle.relation_terms.specs.Trees.{known, count, nth, IsTerm}
 use Rattle.relation_terms.specs.Meaning.{arg_tree}
 use Rattle.relation_terms.specs.Parts.{part_tree}
-use Rattle.relation_terms.proofs.Sorted.{Sorted}
+use Rattle.relation_terms.specs.Interning.{Sorted}
 use Rattle.relation_terms.proofs.Parts.{arg_part}
 use Rattle.relation_contexts.specs.Parts.{const_parts_of}
 use Rattle.type_relations.proofs.AsParts.{const_argument, is_arg}
@@ -17,19 +17,8 @@ pub the_arg-requires : goal.the_arg-requires
 the_arg-requires g c =
     let m = g.I.Interner.meaning c.args.cx.now in
     let k = m.const_ c.args.constant.now in
-    let is = g.met.I.Interner.is_const c.args.cx.now c.args.constant.now c.requires.constant_known in
-    let sorted : Sorted m = record {
-      ty = g.met.I.Interner.is_ty c.args.cx.now;
-      region = g.met.I.Interner.is_region c.args.cx.now;
-      tys = g.met.I.Interner.are_tys c.args.cx.now;
-      const_ = g.met.I.Interner.is_const c.args.cx.now;
-      valtree = g.met.I.Interner.is_valtree c.args.cx.now;
-      args = g.met.I.Interner.are_args c.args.cx.now;
-      branches = g.met.I.Interner.are_branches c.args.cx.now;
-      pat = g.met.I.Interner.is_pat c.args.cx.now;
-      alternatives = g.met.I.Interner.are_alternatives c.args.cx.now;
-      existential_predicates = g.met.I.Interner.are_existential_predicates c.args.cx.now;
-    } in
+    let is = (g.met.I.Interner.sorted c.args.cx.now).const_ c.args.constant.now c.requires.constant_known in
+    let sorted : Sorted m = g.met.I.Interner.sorted c.args.cx.now in
     let at : part_tree m c.part.result ≡ nth c.args.i (const_parts_of k) =
     c.part.ensures.means ∙ ap (nth c.args.i) c.related_part.ensures.parts in
     is_arg m sorted c.part.result c.part.ensures.sure (subst (IsTerm argument_sort) (sym at)

@@ -16,7 +16,7 @@ returns-in-Value g c =
     let sure = value_tree_known k t v e c.requires in
     record {
       sure = sure;
-      parts = branches_as v (g.met.I.Interner.is_valtree c.args.cx.now c.in-Value.value sure)
+      parts = branches_as v ((g.met.I.Interner.sorted c.args.cx.now).valtree c.in-Value.value sure)
           ∙ sym (ap const_parts_of e);
     }
 

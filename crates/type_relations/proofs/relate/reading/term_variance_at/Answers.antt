@@ -1,9 +1,9 @@
 use Rattle.std.proofs.Common.{◌≡◌, ◌<◌, sym, subst}
 use Rattle.relation_terms.specs.Trees.{count}
-use Rattle.relation_terms.specs.Variances.{xform}
+use Rattle.term_enums.specs.Variances.{xform}
 use Rattle.relation_terms.specs.Parts.{part_tree}
-use Rattle.relation_terms.specs.declared.terms.enums.Variance.TheVariants.{Contravariant, Invariant}
-use Rattle.relation_terms.proofs.Sorted.{Sorted}
+use Rattle.term_enums.specs.declared.Variance.TheVariants.{Contravariant, Invariant}
+use Rattle.relation_terms.specs.Interning.{Sorted}
 use Rattle.type_relations.specs.Keyed.{part_in}
 use Rattle.relation_contexts.specs.Lawful.{items_in}
 use Rattle.relation_contexts.specs.Parts.{parts_of, head_of}
@@ -21,18 +21,7 @@ pub returns-else-i-eq0 : goal.returns-else-i-eq0
 returns-else-i-eq0 g c =
     let q = g.R.TypeRelation.state c.args.r.now in
     let cx = g.R.TypeRelation.interner c.args.r.now in
-    let sorted : Sorted q.meaning = subst (λ m. Sorted m) (sym (g.met.R.TypeRelation.reads c.args.r.now)) (record {
-      ty = g.met.I.Interner.is_ty cx;
-      region = g.met.I.Interner.is_region cx;
-      tys = g.met.I.Interner.are_tys cx;
-      const_ = g.met.I.Interner.is_const cx;
-      valtree = g.met.I.Interner.is_valtree cx;
-      args = g.met.I.Interner.are_args cx;
-      branches = g.met.I.Interner.are_branches cx;
-      pat = g.met.I.Interner.is_pat cx;
-      alternatives = g.met.I.Interner.are_alternatives cx;
-      existential_predicates = g.met.I.Interner.are_existential_predicates cx;
-    }) in
+    let sorted : Sorted q.meaning = subst (λ m. Sorted m) (sym (g.met.R.TypeRelation.reads c.args.r.now)) (g.met.I.Interner.sorted cx) in
     other_place q.meaning sorted (items_in q) c.args.term.now c.args.i q.ambient c.requires.known c.requires.form
     (λ o e. apart c.in-Signature.field-0 o c.args.term.now c.in-Signature.is e) (λ s e z. c.if-i-eq0.false z)
 
@@ -48,17 +37,6 @@ pub returns-in_default : goal.returns-in_default
 returns-in_default g c =
     let q = g.R.TypeRelation.state c.args.r.now in
     let cx = g.R.TypeRelation.interner c.args.r.now in
-    let sorted : Sorted q.meaning = subst (λ m. Sorted m) (sym (g.met.R.TypeRelation.reads c.args.r.now)) (record {
-      ty = g.met.I.Interner.is_ty cx;
-      region = g.met.I.Interner.is_region cx;
-      tys = g.met.I.Interner.are_tys cx;
-      const_ = g.met.I.Interner.is_const cx;
-      valtree = g.met.I.Interner.is_valtree cx;
-      args = g.met.I.Interner.are_args cx;
-      branches = g.met.I.Interner.are_branches cx;
-      pat = g.met.I.Interner.is_pat cx;
-      alternatives = g.met.I.Interner.are_alternatives cx;
-      existential_predicates = g.met.I.Interner.are_existential_predicates cx;
-    }) in
+    let sorted : Sorted q.meaning = subst (λ m. Sorted m) (sym (g.met.R.TypeRelation.reads c.args.r.now)) (g.met.I.Interner.sorted cx) in
     other_place q.meaning sorted (items_in q) c.args.term.now c.args.i q.ambient c.requires.known c.requires.form
     c.in_default.not-Existential (λ s e z. c.in_default.not-Signature s e)

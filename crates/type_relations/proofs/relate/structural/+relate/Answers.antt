@@ -1,14 +1,14 @@
 use Rattle.std.proofs.Common.{ap₂, suc, ◌+◌, ◌*◌, IfOk, rules, ◌≡◌, ◌≢◌, ◌↔◌, ◌<◌, IsTrue, refl, sym, ap, ◌∙◌, subst, subst₂, arith, Ok, Err, OnOk}
 use Rattle.std.proofs.lemmas.Bool.{false≢true}
-use Rattle.relation_terms.specs.declared.terms.enums.Variance.TheVariants.{Bivariant}
+use Rattle.term_enums.specs.declared.Variance.TheVariants.{Bivariant}
 use Rattle.relation_terms.specs.declared.terms.generic_arg.GenericArgKind.TheVariants.{Lifetime, Ty, Const}
 use Rattle.relation_terms.specs.Heads.{type_sort}
 use Rattle.relation_terms.specs.Trees.{nil, known, count, nth, list_tree}
-use Rattle.relation_terms.specs.Variances.{xform}
+use Rattle.term_enums.specs.Variances.{xform}
 use Rattle.relation_terms.specs.Meaning.{arg_tree}
 use Rattle.relation_terms.specs.Parts.{part_tree, part_sort, tree_sort, Fit as PartsFit}
 use Rattle.relation_terms.proofs.Parts.{sort_known, stays_part, arg_part}
-use Rattle.relation_terms.proofs.Sorted.{Sorted}
+use Rattle.relation_terms.specs.Interning.{Sorted}
 use Rattle.relation_terms.proofs.Stays.{knows_arg}
 use Rattle.relation_folds.specs.declared.error.TypeError.TheVariants.{Mismatch}
 use Rattle.relation_folds.specs.declared.error.RelateFault.TheVariants.{Unrelated, Memory}
@@ -580,18 +580,7 @@ relate-returns-in_default g t c =
     let M = g.R.TypeRelation.manner in
     let e = g.met.R.TypeRelation.reads c.args.r.now in
     let cx = g.R.TypeRelation.interner c.args.r.now in
-    let sorted : Sorted r.meaning = subst (λ m. Sorted m) (sym e) (record {
-      ty = g.met.I.Interner.is_ty cx;
-      region = g.met.I.Interner.is_region cx;
-      tys = g.met.I.Interner.are_tys cx;
-      const_ = g.met.I.Interner.is_const cx;
-      valtree = g.met.I.Interner.is_valtree cx;
-      args = g.met.I.Interner.are_args cx;
-      branches = g.met.I.Interner.are_branches cx;
-      pat = g.met.I.Interner.is_pat cx;
-      alternatives = g.met.I.Interner.are_alternatives cx;
-      existential_predicates = g.met.I.Interner.are_existential_predicates cx;
-    }) in
+    let sorted : Sorted r.meaning = subst (λ m. Sorted m) (sym e) (g.met.I.Interner.sorted cx) in
     let k = c.requires.asked in
     record {
       related = kinds_differ r.meaning sorted M r r.ambient (arg_tree r.meaning) c.requires.decides refl c.args.a.now c.args.b.now
@@ -608,18 +597,7 @@ relate-returns-in_default-b g t c =
     let M = g.R.TypeRelation.manner in
     let e = g.met.R.TypeRelation.reads c.args.r.now in
     let cx = g.R.TypeRelation.interner c.args.r.now in
-    let sorted : Sorted r.meaning = subst (λ m. Sorted m) (sym e) (record {
-      ty = g.met.I.Interner.is_ty cx;
-      region = g.met.I.Interner.is_region cx;
-      tys = g.met.I.Interner.are_tys cx;
-      const_ = g.met.I.Interner.is_const cx;
-      valtree = g.met.I.Interner.is_valtree cx;
-      args = g.met.I.Interner.are_args cx;
-      branches = g.met.I.Interner.are_branches cx;
-      pat = g.met.I.Interner.is_pat cx;
-      alternatives = g.met.I.Interner.are_alternatives cx;
-      existential_predicates = g.met.I.Interner.are_existential_predicates cx;
-    }) in
+    let sorted : Sorted r.meaning = subst (λ m. Sorted m) (sym e) (g.met.I.Interner.sorted cx) in
     let k = c.requires.asked in
     record {
       related = kinds_differ r.meaning sorted M r r.ambient (arg_tree r.meaning) c.requires.decides refl c.args.a.now c.args.b.now
@@ -636,18 +614,7 @@ relate-returns-in_default-b-2 g t c =
     let M = g.R.TypeRelation.manner in
     let e = g.met.R.TypeRelation.reads c.args.r.now in
     let cx = g.R.TypeRelation.interner c.args.r.now in
-    let sorted : Sorted r.meaning = subst (λ m. Sorted m) (sym e) (record {
-      ty = g.met.I.Interner.is_ty cx;
-      region = g.met.I.Interner.is_region cx;
-      tys = g.met.I.Interner.are_tys cx;
-      const_ = g.met.I.Interner.is_const cx;
-      valtree = g.met.I.Interner.is_valtree cx;
-      args = g.met.I.Interner.are_args cx;
-      branches = g.met.I.Interner.are_branches cx;
-      pat = g.met.I.Interner.is_pat cx;
-      alternatives = g.met.I.Interner.are_alternatives cx;
-      existential_predicates = g.met.I.Interner.are_existential_predicates cx;
-    }) in
+    let sorted : Sorted r.meaning = subst (λ m. Sorted m) (sym e) (g.met.I.Interner.sorted cx) in
     let k = c.requires.asked in
     record {
       related = kinds_differ r.meaning sorted M r r.ambient (arg_tree r.meaning) c.requires.decides refl c.args.a.now c.args.b.now
@@ -665,18 +632,7 @@ relate-returns-in_ok-regions-in-Lifetime g t c =
     let q = g.R.TypeRelation.state c.regions.new.self in
     let e = g.met.R.TypeRelation.reads c.args.r.now in
     let cx = g.R.TypeRelation.interner c.args.r.now in
-    let sorted : Sorted r.meaning = subst (λ m. Sorted m) (sym e) (record {
-      ty = g.met.I.Interner.is_ty cx;
-      region = g.met.I.Interner.is_region cx;
-      tys = g.met.I.Interner.are_tys cx;
-      const_ = g.met.I.Interner.is_const cx;
-      valtree = g.met.I.Interner.is_valtree cx;
-      args = g.met.I.Interner.are_args cx;
-      branches = g.met.I.Interner.are_branches cx;
-      pat = g.met.I.Interner.is_pat cx;
-      alternatives = g.met.I.Interner.are_alternatives cx;
-      existential_predicates = g.met.I.Interner.are_existential_predicates cx;
-    }) in
+    let sorted : Sorted r.meaning = subst (λ m. Sorted m) (sym e) (g.met.I.Interner.sorted cx) in
     let n = c.in_ok-regions-in-Lifetime in
     record {
       related = subst₂ (λ t u. Related M r q r.ambient (arg_tree r.meaning t) (arg_tree r.meaning u) (arg_tree q.meaning) (Ok (Lifetime n.field-0)))
@@ -695,18 +651,7 @@ relate-returns-in_err-regions-in-Lifetime-clause-registers g t c =
     let q = g.R.TypeRelation.state c.regions.new.self in
     let e = g.met.R.TypeRelation.reads c.args.r.now in
     let cx = g.R.TypeRelation.interner c.args.r.now in
-    let sorted : Sorted r.meaning = subst (λ m. Sorted m) (sym e) (record {
-      ty = g.met.I.Interner.is_ty cx;
-      region = g.met.I.Interner.is_region cx;
-      tys = g.met.I.Interner.are_tys cx;
-      const_ = g.met.I.Interner.is_const cx;
-      valtree = g.met.I.Interner.is_valtree cx;
-      args = g.met.I.Interner.are_args cx;
-      branches = g.met.I.Interner.are_branches cx;
-      pat = g.met.I.Interner.is_pat cx;
-      alternatives = g.met.I.Interner.are_alternatives cx;
-      existential_predicates = g.met.I.Interner.are_existential_predicates cx;
-    }) in
+    let sorted : Sorted r.meaning = subst (λ m. Sorted m) (sym e) (g.met.I.Interner.sorted cx) in
     left_none M r q (arg_tree r.meaning c.args.a.now) (arg_tree r.meaning c.args.b.now) r.ambient
     c.from_residual.result
     (lifetime_none sorted c.args.a.now (c.requires.asked).left_known c.in-Lifetime.a c.in-Lifetime.is)
@@ -747,18 +692,7 @@ relate-returns-in_ok-consts-in-Const g t c =
     let q = g.R.TypeRelation.state c.consts.new.r in
     let e = g.met.R.TypeRelation.reads c.args.r.now in
     let cx = g.R.TypeRelation.interner c.args.r.now in
-    let sorted : Sorted r.meaning = subst (λ m. Sorted m) (sym e) (record {
-      ty = g.met.I.Interner.is_ty cx;
-      region = g.met.I.Interner.is_region cx;
-      tys = g.met.I.Interner.are_tys cx;
-      const_ = g.met.I.Interner.is_const cx;
-      valtree = g.met.I.Interner.is_valtree cx;
-      args = g.met.I.Interner.are_args cx;
-      branches = g.met.I.Interner.are_branches cx;
-      pat = g.met.I.Interner.is_pat cx;
-      alternatives = g.met.I.Interner.are_alternatives cx;
-      existential_predicates = g.met.I.Interner.are_existential_predicates cx;
-    }) in
+    let sorted : Sorted r.meaning = subst (λ m. Sorted m) (sym e) (g.met.I.Interner.sorted cx) in
     let n = c.in_ok-consts-in-Const in
     record {
       related = subst₂ (λ t u. Related M r q r.ambient (arg_tree r.meaning t) (arg_tree r.meaning u) (arg_tree q.meaning) (Ok (Const n.field-0)))
@@ -777,18 +711,7 @@ relate-returns-in_err-consts-in-Const-clause-registers g t c =
     let q = g.R.TypeRelation.state c.consts.new.r in
     let e = g.met.R.TypeRelation.reads c.args.r.now in
     let cx = g.R.TypeRelation.interner c.args.r.now in
-    let sorted : Sorted r.meaning = subst (λ m. Sorted m) (sym e) (record {
-      ty = g.met.I.Interner.is_ty cx;
-      region = g.met.I.Interner.is_region cx;
-      tys = g.met.I.Interner.are_tys cx;
-      const_ = g.met.I.Interner.is_const cx;
-      valtree = g.met.I.Interner.is_valtree cx;
-      args = g.met.I.Interner.are_args cx;
-      branches = g.met.I.Interner.are_branches cx;
-      pat = g.met.I.Interner.is_pat cx;
-      alternatives = g.met.I.Interner.are_alternatives cx;
-      existential_predicates = g.met.I.Interner.are_existential_predicates cx;
-    }) in
+    let sorted : Sorted r.meaning = subst (λ m. Sorted m) (sym e) (g.met.I.Interner.sorted cx) in
     left_none M r q (arg_tree r.meaning c.args.a.now) (arg_tree r.meaning c.args.b.now) r.ambient
     c.from_residual-in_err-consts-in-Const.result
     (const_none sorted c.args.a.now (c.requires.asked).left_known c.in-Const.a c.in-Const.is)
@@ -878,18 +801,7 @@ structurally_relate_consts-returns-in_err-compare_consts_of g t c =
     let b = (r.meaning).const_ c.args.b.now in
     let e = g.met.R.TypeRelation.reads c.args.r.now in
     let cx = g.R.TypeRelation.interner c.args.r.now in
-    let sorted : Sorted r.meaning = subst (λ m. Sorted m) (sym e) (record {
-      ty = g.met.I.Interner.is_ty cx;
-      region = g.met.I.Interner.is_region cx;
-      tys = g.met.I.Interner.are_tys cx;
-      const_ = g.met.I.Interner.is_const cx;
-      valtree = g.met.I.Interner.is_valtree cx;
-      args = g.met.I.Interner.are_args cx;
-      branches = g.met.I.Interner.are_branches cx;
-      pat = g.met.I.Interner.is_pat cx;
-      alternatives = g.met.I.Interner.are_alternatives cx;
-      existential_predicates = g.met.I.Interner.are_existential_predicates cx;
-    }) in
+    let sorted : Sorted r.meaning = subst (λ m. Sorted m) (sym e) (g.met.I.Interner.sorted cx) in
     let n = c.in_err-compare_consts_of in
     let k = c.requires.asked in
     let failed = as_err c.from_residual.result (Unrelated n.field-0.0) c.from_residual.ensures.0 c.from_residual.ensures.1 in
@@ -906,18 +818,7 @@ structurally_relate_consts-loop-i-init g t c =
     let b = (r.meaning).const_ c.args.b.now in
     let e = g.met.R.TypeRelation.reads c.args.r.now in
     let cx = g.R.TypeRelation.interner c.args.r.now in
-    let sorted : Sorted r.meaning = subst (λ m. Sorted m) (sym e) (record {
-      ty = g.met.I.Interner.is_ty cx;
-      region = g.met.I.Interner.is_region cx;
-      tys = g.met.I.Interner.are_tys cx;
-      const_ = g.met.I.Interner.is_const cx;
-      valtree = g.met.I.Interner.is_valtree cx;
-      args = g.met.I.Interner.are_args cx;
-      branches = g.met.I.Interner.are_branches cx;
-      pat = g.met.I.Interner.is_pat cx;
-      alternatives = g.met.I.Interner.are_alternatives cx;
-      existential_predicates = g.met.I.Interner.are_existential_predicates cx;
-    }) in
+    let sorted : Sorted r.meaning = subst (λ m. Sorted m) (sym e) (g.met.I.Interner.sorted cx) in
     let k = c.requires.asked in
     let alike = (c.in_ok-compare_consts_of.ensures).alike in
     record {
@@ -1068,18 +969,7 @@ structurally_relate_consts-loop-i-preserved g t c =
     (subst (λ u. Related M q p w x y (arg_tree p.meaning) u) z (related.ensures).related) in
     let e = g.met.R.TypeRelation.reads c.loop-i.r in
     let cx = g.R.TypeRelation.interner c.loop-i.r in
-    let sorted : Sorted q.meaning = subst (λ m. Sorted m) (sym e) (record {
-      ty = g.met.I.Interner.is_ty cx;
-      region = g.met.I.Interner.is_region cx;
-      tys = g.met.I.Interner.are_tys cx;
-      const_ = g.met.I.Interner.is_const cx;
-      valtree = g.met.I.Interner.is_valtree cx;
-      args = g.met.I.Interner.are_args cx;
-      branches = g.met.I.Interner.are_branches cx;
-      pat = g.met.I.Interner.is_pat cx;
-      alternatives = g.met.I.Interner.are_alternatives cx;
-      existential_predicates = g.met.I.Interner.are_existential_predicates cx;
-    }) in
+    let sorted : Sorted q.meaning = subst (λ m. Sorted m) (sym e) (g.met.I.Interner.sorted cx) in
     let kind = subst (λ u. IfOk u (λ k. arg_sort k ≡ arg_sort X)) z (related.ensures).kind in
     let was = c.loop-i.answers.items in
     let next : suc i ≡ i + 1 = omega arith in
@@ -1230,18 +1120,7 @@ structurally_relate_tys-returns-in_err-compare_tys_of g t c =
     let b = (r.meaning).ty c.args.b.now in
     let e = g.met.R.TypeRelation.reads c.args.r.now in
     let cx = g.R.TypeRelation.interner c.args.r.now in
-    let sorted : Sorted r.meaning = subst (λ m. Sorted m) (sym e) (record {
-      ty = g.met.I.Interner.is_ty cx;
-      region = g.met.I.Interner.is_region cx;
-      tys = g.met.I.Interner.are_tys cx;
-      const_ = g.met.I.Interner.is_const cx;
-      valtree = g.met.I.Interner.is_valtree cx;
-      args = g.met.I.Interner.are_args cx;
-      branches = g.met.I.Interner.are_branches cx;
-      pat = g.met.I.Interner.is_pat cx;
-      alternatives = g.met.I.Interner.are_alternatives cx;
-      existential_predicates = g.met.I.Interner.are_existential_predicates cx;
-    }) in
+    let sorted : Sorted r.meaning = subst (λ m. Sorted m) (sym e) (g.met.I.Interner.sorted cx) in
     let n = c.in_err-compare_tys_of in
     let k = c.requires.asked in
     let failed = as_err c.from_residual.result (Unrelated n.field-0.0) c.from_residual.ensures.0 c.from_residual.ensures.1 in
@@ -1258,18 +1137,7 @@ structurally_relate_tys-loop-i-init g t c =
     let b = (r.meaning).ty c.args.b.now in
     let e = g.met.R.TypeRelation.reads c.args.r.now in
     let cx = g.R.TypeRelation.interner c.args.r.now in
-    let sorted : Sorted r.meaning = subst (λ m. Sorted m) (sym e) (record {
-      ty = g.met.I.Interner.is_ty cx;
-      region = g.met.I.Interner.is_region cx;
-      tys = g.met.I.Interner.are_tys cx;
-      const_ = g.met.I.Interner.is_const cx;
-      valtree = g.met.I.Interner.is_valtree cx;
-      args = g.met.I.Interner.are_args cx;
-      branches = g.met.I.Interner.are_branches cx;
-      pat = g.met.I.Interner.is_pat cx;
-      alternatives = g.met.I.Interner.are_alternatives cx;
-      existential_predicates = g.met.I.Interner.are_existential_predicates cx;
-    }) in
+    let sorted : Sorted r.meaning = subst (λ m. Sorted m) (sym e) (g.met.I.Interner.sorted cx) in
     let k = c.requires.asked in
     let alike = (c.in_ok-compare_tys_of.ensures).alike in
     record {
@@ -1398,18 +1266,7 @@ structurally_relate_tys-returns-in_err-answer g t c =
     later.ty c.args.b.now (subst (λ z. IsTrue (known z)) (sym same_b) k.right_known) ∙ same_b in
     let e = g.met.R.TypeRelation.reads c.loop-i.r in
     let cx = g.R.TypeRelation.interner c.loop-i.r in
-    let sorted : Sorted q.meaning = subst (λ m. Sorted m) (sym e) (record {
-      ty = g.met.I.Interner.is_ty cx;
-      region = g.met.I.Interner.is_region cx;
-      tys = g.met.I.Interner.are_tys cx;
-      const_ = g.met.I.Interner.is_const cx;
-      valtree = g.met.I.Interner.is_valtree cx;
-      args = g.met.I.Interner.are_args cx;
-      branches = g.met.I.Interner.are_branches cx;
-      pat = g.met.I.Interner.is_pat cx;
-      alternatives = g.met.I.Interner.are_alternatives cx;
-      existential_predicates = g.met.I.Interner.are_existential_predicates cx;
-    }) in
+    let sorted : Sorted q.meaning = subst (λ m. Sorted m) (sym e) (g.met.I.Interner.sorted cx) in
     let n = c.in_err-answer in
     let z = failed_ty a X Y related.result n.field-0.0
     (subst (λ z. IsResultOfTy z X Y related.result (Err n.field-0.0)) then_a n.ensures) in
@@ -1465,18 +1322,7 @@ structurally_relate_tys-loop-i-preserved g t c =
     (subst (λ u. Related M q p w x y (arg_tree p.meaning) u) z (related.ensures).related) in
     let e = g.met.R.TypeRelation.reads c.loop-i.r in
     let cx = g.R.TypeRelation.interner c.loop-i.r in
-    let sorted : Sorted q.meaning = subst (λ m. Sorted m) (sym e) (record {
-      ty = g.met.I.Interner.is_ty cx;
-      region = g.met.I.Interner.is_region cx;
-      tys = g.met.I.Interner.are_tys cx;
-      const_ = g.met.I.Interner.is_const cx;
-      valtree = g.met.I.Interner.is_valtree cx;
-      args = g.met.I.Interner.are_args cx;
-      branches = g.met.I.Interner.are_branches cx;
-      pat = g.met.I.Interner.is_pat cx;
-      alternatives = g.met.I.Interner.are_alternatives cx;
-      existential_predicates = g.met.I.Interner.are_existential_predicates cx;
-    }) in
+    let sorted : Sorted q.meaning = subst (λ m. Sorted m) (sym e) (g.met.I.Interner.sorted cx) in
     let kind = subst (λ u. IfOk u (λ k. arg_sort k ≡ arg_sort X)) z (related.ensures).kind in
     let was = c.loop-i.answers.items in
     let next : suc i ≡ i + 1 = omega arith in
@@ -1808,18 +1654,7 @@ relate_in_order-loop-i-init g t c =
     let b = part_tree r.meaning c.args.b.now in
     let e_sorted_before = g.met.R.TypeRelation.reads c.args.r.now in
     let cx_sorted_before = g.R.TypeRelation.interner c.args.r.now in
-    let sorted_before : Sorted r.meaning = subst (λ m. Sorted m) (sym e_sorted_before) (record {
-      ty = g.met.I.Interner.is_ty cx_sorted_before;
-      region = g.met.I.Interner.is_region cx_sorted_before;
-      tys = g.met.I.Interner.are_tys cx_sorted_before;
-      const_ = g.met.I.Interner.is_const cx_sorted_before;
-      valtree = g.met.I.Interner.is_valtree cx_sorted_before;
-      args = g.met.I.Interner.are_args cx_sorted_before;
-      branches = g.met.I.Interner.are_branches cx_sorted_before;
-      pat = g.met.I.Interner.is_pat cx_sorted_before;
-      alternatives = g.met.I.Interner.are_alternatives cx_sorted_before;
-      existential_predicates = g.met.I.Interner.are_existential_predicates cx_sorted_before;
-    }) in
+    let sorted_before : Sorted r.meaning = subst (λ m. Sorted m) (sym e_sorted_before) (g.met.I.Interner.sorted cx_sorted_before) in
     let k = c.requires.asked in
     let form = c.requires.form in
     let alike = c.requires.alike in
@@ -1925,18 +1760,7 @@ relate_in_order-returns-in_err-compare_members_of g t c =
     let b = part_tree r.meaning c.args.b.now in
     let e_sorted_before = g.met.R.TypeRelation.reads c.args.r.now in
     let cx_sorted_before = g.R.TypeRelation.interner c.args.r.now in
-    let sorted_before : Sorted r.meaning = subst (λ m. Sorted m) (sym e_sorted_before) (record {
-      ty = g.met.I.Interner.is_ty cx_sorted_before;
-      region = g.met.I.Interner.is_region cx_sorted_before;
-      tys = g.met.I.Interner.are_tys cx_sorted_before;
-      const_ = g.met.I.Interner.is_const cx_sorted_before;
-      valtree = g.met.I.Interner.is_valtree cx_sorted_before;
-      args = g.met.I.Interner.are_args cx_sorted_before;
-      branches = g.met.I.Interner.are_branches cx_sorted_before;
-      pat = g.met.I.Interner.is_pat cx_sorted_before;
-      alternatives = g.met.I.Interner.are_alternatives cx_sorted_before;
-      existential_predicates = g.met.I.Interner.are_existential_predicates cx_sorted_before;
-    }) in
+    let sorted_before : Sorted r.meaning = subst (λ m. Sorted m) (sym e_sorted_before) (g.met.I.Interner.sorted cx_sorted_before) in
     let q = g.R.TypeRelation.state c.loop-i.r in
     let i = c.loop-i.i in
     let inv = c.loop-i.invariant in
@@ -2130,18 +1954,7 @@ relate_in_order-relate_parts_with_variance-related-requires g t c κs within =
     let takes = g.met.R.TypeRelation.takes_parts in
     let e_sorted_before = g.met.R.TypeRelation.reads c.args.r.now in
     let cx_sorted_before = g.R.TypeRelation.interner c.args.r.now in
-    let sorted_before : Sorted r.meaning = subst (λ m. Sorted m) (sym e_sorted_before) (record {
-      ty = g.met.I.Interner.is_ty cx_sorted_before;
-      region = g.met.I.Interner.is_region cx_sorted_before;
-      tys = g.met.I.Interner.are_tys cx_sorted_before;
-      const_ = g.met.I.Interner.is_const cx_sorted_before;
-      valtree = g.met.I.Interner.is_valtree cx_sorted_before;
-      args = g.met.I.Interner.are_args cx_sorted_before;
-      branches = g.met.I.Interner.are_branches cx_sorted_before;
-      pat = g.met.I.Interner.is_pat cx_sorted_before;
-      alternatives = g.met.I.Interner.are_alternatives cx_sorted_before;
-      existential_predicates = g.met.I.Interner.are_existential_predicates cx_sorted_before;
-    }) in
+    let sorted_before : Sorted r.meaning = subst (λ m. Sorted m) (sym e_sorted_before) (g.met.I.Interner.sorted cx_sorted_before) in
     let q = g.R.TypeRelation.state c.loop-i.r in
     let i = c.loop-i.i in
     let inv = c.loop-i.invariant in
@@ -2153,18 +1966,7 @@ relate_in_order-relate_parts_with_variance-related-requires g t c κs within =
     let same_b : part_tree q.meaning c.args.b.now ≡ b = stays_part extends c.args.b.now k.right_known in
     let e = g.met.R.TypeRelation.reads c.loop-i.r in
     let cx = g.R.TypeRelation.interner c.loop-i.r in
-    let sorted : Sorted q.meaning = subst (λ m. Sorted m) (sym e) (record {
-      ty = g.met.I.Interner.is_ty cx;
-      region = g.met.I.Interner.is_region cx;
-      tys = g.met.I.Interner.are_tys cx;
-      const_ = g.met.I.Interner.is_const cx;
-      valtree = g.met.I.Interner.is_valtree cx;
-      args = g.met.I.Interner.are_args cx;
-      branches = g.met.I.Interner.are_branches cx;
-      pat = g.met.I.Interner.is_pat cx;
-      alternatives = g.met.I.Interner.are_alternatives cx;
-      existential_predicates = g.met.I.Interner.are_existential_predicates cx;
-    }) in
+    let sorted : Sorted q.meaning = subst (λ m. Sorted m) (sym e) (g.met.I.Interner.sorted cx) in
     let other = term_alike a b alike form in
     let ta = part_sorted r.meaning sorted_before c.args.a.now k.left_known form in
     let tb = part_sorted r.meaning sorted_before c.args.b.now k.right_known other in
@@ -2244,18 +2046,7 @@ relate_in_order-returns-in_err-answer g t c =
     let b = part_tree r.meaning c.args.b.now in
     let e_sorted_before = g.met.R.TypeRelation.reads c.args.r.now in
     let cx_sorted_before = g.R.TypeRelation.interner c.args.r.now in
-    let sorted_before : Sorted r.meaning = subst (λ m. Sorted m) (sym e_sorted_before) (record {
-      ty = g.met.I.Interner.is_ty cx_sorted_before;
-      region = g.met.I.Interner.is_region cx_sorted_before;
-      tys = g.met.I.Interner.are_tys cx_sorted_before;
-      const_ = g.met.I.Interner.is_const cx_sorted_before;
-      valtree = g.met.I.Interner.is_valtree cx_sorted_before;
-      args = g.met.I.Interner.are_args cx_sorted_before;
-      branches = g.met.I.Interner.are_branches cx_sorted_before;
-      pat = g.met.I.Interner.is_pat cx_sorted_before;
-      alternatives = g.met.I.Interner.are_alternatives cx_sorted_before;
-      existential_predicates = g.met.I.Interner.are_existential_predicates cx_sorted_before;
-    }) in
+    let sorted_before : Sorted r.meaning = subst (λ m. Sorted m) (sym e_sorted_before) (g.met.I.Interner.sorted cx_sorted_before) in
     let q = g.R.TypeRelation.state c.loop-i.r in
     let i = c.loop-i.i in
     let inv = c.loop-i.invariant in
@@ -2346,18 +2137,7 @@ relate_in_order-loop-i-preserved g t c =
     (part_tree p.meaning) n.answer inv.are_parts gone in
     let e = g.met.R.TypeRelation.reads c.loop-i.r in
     let cx = g.R.TypeRelation.interner c.loop-i.r in
-    let sorted : Sorted q.meaning = subst (λ m. Sorted m) (sym e) (record {
-      ty = g.met.I.Interner.is_ty cx;
-      region = g.met.I.Interner.is_region cx;
-      tys = g.met.I.Interner.are_tys cx;
-      const_ = g.met.I.Interner.is_const cx;
-      valtree = g.met.I.Interner.is_valtree cx;
-      args = g.met.I.Interner.are_args cx;
-      branches = g.met.I.Interner.are_branches cx;
-      pat = g.met.I.Interner.is_pat cx;
-      alternatives = g.met.I.Interner.are_alternatives cx;
-      existential_predicates = g.met.I.Interner.are_existential_predicates cx;
-    }) in
+    let sorted : Sorted q.meaning = subst (λ m. Sorted m) (sym e) (g.met.I.Interner.sorted cx) in
     let sort = subst (λ u. IfOk u (λ z. part_sort z ≡ part_sort X)) z (related.ensures).sort in
     let one : IsComparedPart X → AreOfOneForm x y =
     λ o. subst (λ u. OnOk u (AreOfOneForm x y)) z ((related.ensures).alike o) in
@@ -2784,18 +2564,7 @@ relate_parts-returns-in_err-compare_parts_of-in-Form g t c =
     let b = part_tree r.meaning c.args.b.now in
     let e = g.met.R.TypeRelation.reads c.args.r.now in
     let cx = g.R.TypeRelation.interner c.args.r.now in
-    let sorted : Sorted r.meaning = subst (λ m. Sorted m) (sym e) (record {
-      ty = g.met.I.Interner.is_ty cx;
-      region = g.met.I.Interner.is_region cx;
-      tys = g.met.I.Interner.are_tys cx;
-      const_ = g.met.I.Interner.is_const cx;
-      valtree = g.met.I.Interner.is_valtree cx;
-      args = g.met.I.Interner.are_args cx;
-      branches = g.met.I.Interner.are_branches cx;
-      pat = g.met.I.Interner.is_pat cx;
-      alternatives = g.met.I.Interner.are_alternatives cx;
-      existential_predicates = g.met.I.Interner.are_existential_predicates cx;
-    }) in
+    let sorted : Sorted r.meaning = subst (λ m. Sorted m) (sym e) (g.met.I.Interner.sorted cx) in
     let no_arg : IsArgPart c.args.a.now → ⊥ = λ o. let e = (c.in-Form.ensures.argument).1 o in absurd (cc) in
     let no_binder : IsBinderPart c.args.a.now → ⊥ = λ o. let e = (c.in-Form.ensures.binder).1 o in absurd (cc) in
     let kind : IsComparedPart c.args.a.now = form_compared c.args.a.now c.requires.kind no_arg no_binder in
@@ -2825,18 +2594,7 @@ relate_parts-relate_in_order-requires g t c κs within =
     let b = part_tree r.meaning c.args.b.now in
     let e = g.met.R.TypeRelation.reads c.args.r.now in
     let cx = g.R.TypeRelation.interner c.args.r.now in
-    let sorted : Sorted r.meaning = subst (λ m. Sorted m) (sym e) (record {
-      ty = g.met.I.Interner.is_ty cx;
-      region = g.met.I.Interner.is_region cx;
-      tys = g.met.I.Interner.are_tys cx;
-      const_ = g.met.I.Interner.is_const cx;
-      valtree = g.met.I.Interner.is_valtree cx;
-      args = g.met.I.Interner.are_args cx;
-      branches = g.met.I.Interner.are_branches cx;
-      pat = g.met.I.Interner.is_pat cx;
-      alternatives = g.met.I.Interner.are_alternatives cx;
-      existential_predicates = g.met.I.Interner.are_existential_predicates cx;
-    }) in
+    let sorted : Sorted r.meaning = subst (λ m. Sorted m) (sym e) (g.met.I.Interner.sorted cx) in
     let no_arg : IsArgPart c.args.a.now → ⊥ = λ o. let e = (c.in-Form.ensures.argument).1 o in absurd (cc) in
     let no_binder : IsBinderPart c.args.a.now → ⊥ = λ o. let e = (c.in-Form.ensures.binder).1 o in absurd (cc) in
     let kind : IsComparedPart c.args.a.now = form_compared c.args.a.now c.requires.kind no_arg no_binder in

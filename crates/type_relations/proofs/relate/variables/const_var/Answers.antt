@@ -16,7 +16,7 @@ returns g c =
           (some_const_variable (g.Infcx.Interner.Interner.meaning c.cx.result.now) c.const_kind.result _ c.const_kind.ensures c.const_vid.result c.const_vid.ensures.is);
       formed = subst (λ m. IfNone c.const_vid.result (IsCovered (m.const_ t) → StaysWithin 0 (m.const_ t) → IsFormedConst (m.const_ t))) c.cx.ensures
           (no_const_variable (g.Infcx.Interner.Interner.meaning c.cx.result.now) c.const_kind.result _ c.const_kind.ensures
-          (g.met.Infcx.Interner.Interner.is_const c.cx.result.now t
+          ((g.met.Infcx.Interner.Interner.sorted c.cx.result.now).const_ t
           (subst (λ m. IsTrue (known (m.const_ t))) (sym c.cx.ensures) c.requires)) c.const_vid.result
           c.const_vid.ensures.is_none);
     }

@@ -5,4 +5,4 @@ pub returns : goal.returns
 returns g c = λ without covered within. (
     let cx = c.args.cx.now in
     free_formed ((g.I.Interner.meaning cx).ty c.args.ty.now) c.ty_flags.result c.ty_flags.ensures without
-    (g.met.I.Interner.is_ty cx c.args.ty.now c.requires) covered within)
+    ((g.met.I.Interner.sorted cx).ty c.args.ty.now c.requires) covered within)

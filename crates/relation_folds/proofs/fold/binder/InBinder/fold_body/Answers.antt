@@ -1,6 +1,6 @@
 use Rattle.std.proofs.Common.{◌∙◌}
+use Rattle.relation_terms.proofs.Members.{if_ok}
 use Rattle.relation_folds.proofs.Entering.{steps_inside, folded_deeper}
-use Rattle.relation_folds.proofs.Folding.{if_ok}
 use Rattle.relation_folds.proofs.fold.binder.InBinder.fold_body.Goals as goal
 
 pub returns-clause-same_reference : goal.returns-clause-same_reference

@@ -11,7 +11,7 @@ shift_vars-requires g c =
     let laws = g.met.I.Interner in
     let a = c.args.cx.now in
     record {
-      known = region_known m (laws.is_ty a) (laws.is_region a) (laws.is_const a) c.args.self.now.args.now c.requires.ready
+      known = region_known m ((laws.sorted a).ty) ((laws.sorted a).region) ((laws.sorted a).const_) c.args.self.now.args.now c.requires.ready
           (c.in-ReBound.index).0 (c.in-ReBound.bound.var).0 c.args.depth c.region_for.result c.in-Some.by c.region_for.ensures
           c.in-Some.is;
     }
@@ -35,7 +35,7 @@ returns-in_ok-shift_vars-in-Some-clause-made g c =
     let a = c.args.cx.now in
     let xs = c.args.self.now.args.now in
     ap (opens (map (arg_tree m) xs) c.args.depth) (c.region_kind.ensures ∙ ap (region_tree m) c.in-ReBound.is)
-    ∙ opens_region m (laws.is_ty a) (laws.is_region a) (laws.is_const a) xs c.requires.ready
+    ∙ opens_region m ((laws.sorted a).ty) ((laws.sorted a).region) ((laws.sorted a).const_) xs c.requires.ready
     (m.name c.in-ReBound.bound.name) (c.in-ReBound.index).0 (c.in-ReBound.bound.var).0 c.args.depth
     ∙ ap (option_map (λ x. shifted c.args.depth (m.region x))) (sym c.region_for.ensures ∙ c.in-Some.is)
     ∙ ap Some (sym c.in_ok-shift_vars-in-Some.ensures.made)
@@ -47,6 +47,6 @@ returns-in-None-clause-made g c =
     let a = c.args.cx.now in
     let xs = c.args.self.now.args.now in
     ap (opens (map (arg_tree m) xs) c.args.depth) (c.region_kind.ensures ∙ ap (region_tree m) c.in-ReBound.is)
-    ∙ opens_region m (laws.is_ty a) (laws.is_region a) (laws.is_const a) xs c.requires.ready
+    ∙ opens_region m ((laws.sorted a).ty) ((laws.sorted a).region) ((laws.sorted a).const_) xs c.requires.ready
     (m.name c.in-ReBound.bound.name) (c.in-ReBound.index).0 (c.in-ReBound.bound.var).0 c.args.depth
     ∙ ap (option_map (λ x. shifted c.args.depth (m.region x))) (sym c.region_for.ensures ∙ c.in-None.is)

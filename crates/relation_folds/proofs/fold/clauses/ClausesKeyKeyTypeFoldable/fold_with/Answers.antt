@@ -1,8 +1,9 @@
 use Rattle.std.proofs.Common.{arith, refl, sym, ap, ◌∙◌, ◌≡◌, ◌<◌, ◌+◌, suc, subst, IsTrue}
 use Rattle.relation_terms.specs.Trees.{known, count, nth, list_tree}
 use Rattle.relation_terms.proofs.Stays.{knows_as}
+use Rattle.relation_terms.proofs.Members.{if_ok}
 use Rattle.relation_folds.specs.Folds.{folded}
-use Rattle.relation_folds.proofs.Folding.{steps_none, steps_on, steps_grown, later, if_ok, if_ok_both}
+use Rattle.relation_folds.proofs.Folding.{steps_none, steps_on, steps_grown, later, if_ok_both}
 use Rattle.relation_folds.proofs.ClauseLists.{listed_next, known_next, listed_all}
 use Rattle.relation_folds.proofs.fold.clauses.ClausesKeyKeyTypeFoldable.fold_with.Goals as goal
 

@@ -2,8 +2,9 @@ use Rattle.std.proofs.Common.{sym, ap, ◌∙◌}
 use Rattle.relation_terms.specs.Heads.{environment}
 use Rattle.relation_terms.specs.Trees.{node}
 use Rattle.relation_terms.proofs.Stays.{knows_as}
+use Rattle.relation_terms.proofs.Members.{if_ok}
 use Rattle.relation_folds.specs.Folds.{folded}
-use Rattle.relation_folds.proofs.Folding.{steps_grown, if_ok, if_ok_both}
+use Rattle.relation_folds.proofs.Folding.{steps_grown, if_ok_both}
 use Rattle.relation_folds.proofs.fold.clauses.ParamEnvKeyKeyTypeFoldable.fold_with.Goals as goal
 
 pub returns-clause-steps : goal.returns-clause-steps

@@ -3,8 +3,8 @@ use Rattle.relation_terms.specs.Meaning.{existential_tree}
 use Rattle.relation_terms.specs.Parts.{part_tree}
 use Rattle.relation_terms.proofs.Stays.{knows_as, stays_existential}
 use Rattle.relation_terms.specs.contracts.terms.generic_arg.TermKindPartialEq.TheImpl as term_impl
-use Rattle.relation_terms.specs.contracts.predicate.ExistentialPredicatePartialEq.TheImpl as predicate_impl
-use Rattle.relation_terms.proofs.Sorted.{Sorted}
+use Rattle.relation_terms.specs.contracts.predicate.existential.ExistentialPredicatePartialEq.TheImpl as predicate_impl
+use Rattle.relation_terms.specs.Interning.{Sorted}
 use Rattle.relation_folds.proofs.Found.{existential_found}
 use Rattle.relation_folds.proofs.fold.forms.ExistentialPredicateKeyIdTypeFoldable.fold_with.Goals as goal
 
@@ -17,18 +17,7 @@ returns-clause-same g c = λ q.
     let predicates = (predicate_impl.ghosts g.row.I-Key g.row.I-Id g.I.Key.PartialEq g.I.Key.PartialEq-dict
     g.I.Id.PartialEq g.I.Id.PartialEq-dict).eq in
     let laws = g.met.I.Interner in
-    let sorted : Sorted n = record {
-      ty = laws.is_ty a;
-      region = laws.is_region a;
-      tys = laws.are_tys a;
-      const_ = laws.is_const a;
-      valtree = laws.is_valtree a;
-      args = laws.are_args a;
-      branches = laws.are_branches a;
-      pat = laws.is_pat a;
-      alternatives = laws.are_alternatives a;
-      existential_predicates = laws.are_existential_predicates a;
-    } in
+    let sorted : Sorted n = laws.sorted a in
     let x = c.args.self.now in
     let y = c.the_existential.result in
     let r = c.in_ok-fold_part.ensures in

@@ -40,5 +40,5 @@ returns-in_default g c =
     let d = c.in_default in
     let none = names_nothing m c.args.self.now d.not-ArraySize d.not-RegionsDoesNotOutlive
     d.not-RegionsInsufficientlyPolymorphic d.not-Sorts d.not-ArgumentSorts d.not-CyclicTy d.not-CyclicConst
-    d.not-ConstMismatch in
+    d.not-ExistentialMismatch d.not-ConstMismatch in
     subst (λ t. Walks visits 0 v t v (Continue tt)) (sym none) no_part

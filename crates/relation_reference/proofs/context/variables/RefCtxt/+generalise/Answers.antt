@@ -4,7 +4,7 @@ use Rattle.relation_terms.specs.Heads.{type_var}
 use Rattle.relation_terms.specs.Trees.{leaf, size, known, count, nth, list_tree}
 use Rattle.relation_terms.specs.Parts.{part_tree, part_sort, parts_of, tree_sort, over, Fit}
 use Rattle.relation_terms.proofs.Stays.{knows_as, extends_on, stays_same, stays_list}
-use Rattle.relation_terms.proofs.Sorted.{Sorted}
+use Rattle.relation_terms.specs.Interning.{Sorted}
 use Rattle.relation_terms.proofs.Parts.{sort_known, stays_part}
 use Rattle.relation_terms.specs.declared.terms.part_kind.Part.TheVariants.{Ty}
 use Rattle.relation_contexts.specs.Covered.{IsCovered}
@@ -215,18 +215,7 @@ generalise_part-returns-in_default g t' c =
     let p = c.args.term.now in
     let t = part_tree m p in
     let v = c.args.variance in
-    let sorted : Sorted m = record {
-      ty = g.met.I.Interner.is_ty c.args.self.now.interner;
-      region = g.met.I.Interner.is_region c.args.self.now.interner;
-      tys = g.met.I.Interner.are_tys c.args.self.now.interner;
-      const_ = g.met.I.Interner.is_const c.args.self.now.interner;
-      valtree = g.met.I.Interner.is_valtree c.args.self.now.interner;
-      args = g.met.I.Interner.are_args c.args.self.now.interner;
-      branches = g.met.I.Interner.are_branches c.args.self.now.interner;
-      pat = g.met.I.Interner.is_pat c.args.self.now.interner;
-      alternatives = g.met.I.Interner.are_alternatives c.args.self.now.interner;
-      existential_predicates = g.met.I.Interner.are_existential_predicates c.args.self.now.interner;
-    } in
+    let sorted : Sorted m = g.met.I.Interner.sorted c.args.self.now.interner in
     generalises_no_type meaning eq c.args.self.now c.generalise_new.new.self k i u c.args.target.now.cyclic c.args.met.now c.generalise_new.new.met p v
     (not_type_sort t (λ e. not_type p c.in_default.not-Ty (sym (sort_known m sorted p c.requires.term_known) ∙ e)))
     c.generalise_new.result c.generalise_new.ensures
@@ -449,18 +438,7 @@ generalise_part-returns-in-Some g t' c =
     let p = c.args.term.now in
     let t = part_tree m p in
     let v = c.args.variance in
-    let sorted : Sorted m = record {
-      ty = g.met.I.Interner.is_ty c.args.self.now.interner;
-      region = g.met.I.Interner.is_region c.args.self.now.interner;
-      tys = g.met.I.Interner.are_tys c.args.self.now.interner;
-      const_ = g.met.I.Interner.is_const c.args.self.now.interner;
-      valtree = g.met.I.Interner.is_valtree c.args.self.now.interner;
-      args = g.met.I.Interner.are_args c.args.self.now.interner;
-      branches = g.met.I.Interner.are_branches c.args.self.now.interner;
-      pat = g.met.I.Interner.is_pat c.args.self.now.interner;
-      alternatives = g.met.I.Interner.are_alternatives c.args.self.now.interner;
-      existential_predicates = g.met.I.Interner.are_existential_predicates c.args.self.now.interner;
-    } in
+    let sorted : Sorted m = g.met.I.Interner.sorted c.args.self.now.interner in
     let sort = sort_known m sorted p c.requires.term_known ∙ ap part_sort c.in-Ty.is in
     record {
       lawful = c.requires.lawful;
@@ -591,18 +569,7 @@ generalise_part-returns g t' c =
     let n = meaning c.generalise_new-2.new.self.interner in
     let h = c.in_ok-became.ensures in
     let there = subst (λ q. IsTrue (known (part_tree m q))) c.in-Ty.is c.requires.term_known in
-    let sorted : Sorted m = record {
-      ty = g.met.I.Interner.is_ty c.args.self.now.interner;
-      region = g.met.I.Interner.is_region c.args.self.now.interner;
-      tys = g.met.I.Interner.are_tys c.args.self.now.interner;
-      const_ = g.met.I.Interner.is_const c.args.self.now.interner;
-      valtree = g.met.I.Interner.is_valtree c.args.self.now.interner;
-      args = g.met.I.Interner.are_args c.args.self.now.interner;
-      branches = g.met.I.Interner.are_branches c.args.self.now.interner;
-      pat = g.met.I.Interner.is_pat c.args.self.now.interner;
-      alternatives = g.met.I.Interner.are_alternatives c.args.self.now.interner;
-      existential_predicates = g.met.I.Interner.are_existential_predicates c.args.self.now.interner;
-    } in
+    let sorted : Sorted m = g.met.I.Interner.sorted c.args.self.now.interner in
     let sort = sort_known m sorted p c.requires.term_known ∙ ap part_sort c.in-Ty.is in
     record {
       lawful = h.lawful;
@@ -731,18 +698,7 @@ generalise_parts-loop-i-preserved g t' c =
     let at : part_tree n z ≡ nth j (parts_of t) = c.part-next.ensures.means ∙ ap (λ w. nth j (parts_of w)) e in
     let o = meaning c.generalise_part.new.self.interner in
     let then = store_of o c.generalise_part.new.self.inner in
-    let sorted : Sorted n = record {
-      ty = g.met.I.Interner.is_ty c.loop-i.self.interner;
-      region = g.met.I.Interner.is_region c.loop-i.self.interner;
-      tys = g.met.I.Interner.are_tys c.loop-i.self.interner;
-      const_ = g.met.I.Interner.is_const c.loop-i.self.interner;
-      valtree = g.met.I.Interner.is_valtree c.loop-i.self.interner;
-      args = g.met.I.Interner.are_args c.loop-i.self.interner;
-      branches = g.met.I.Interner.are_branches c.loop-i.self.interner;
-      pat = g.met.I.Interner.is_pat c.loop-i.self.interner;
-      alternatives = g.met.I.Interner.are_alternatives c.loop-i.self.interner;
-      existential_predicates = g.met.I.Interner.are_existential_predicates c.loop-i.self.interner;
-    } in
+    let sorted : Sorted n = g.met.I.Interner.sorted c.loop-i.self.interner in
     let h = c.in_ok-became.ensures in
     let a = h.answers in
     let w = c.in_ok-became.became in
@@ -796,18 +752,7 @@ generalise_parts-returns-then-same g t' c =
     let test = c.loop-i-test.false in
     let end = c.loop-i.auto.i-end in
     let all : j ≡ count (parts_of t) = omega (arith, counted, test, end) in
-    let sorted : Sorted m = record {
-      ty = g.met.I.Interner.is_ty c.args.self.now.interner;
-      region = g.met.I.Interner.is_region c.args.self.now.interner;
-      tys = g.met.I.Interner.are_tys c.args.self.now.interner;
-      const_ = g.met.I.Interner.is_const c.args.self.now.interner;
-      valtree = g.met.I.Interner.is_valtree c.args.self.now.interner;
-      args = g.met.I.Interner.are_args c.args.self.now.interner;
-      branches = g.met.I.Interner.are_branches c.args.self.now.interner;
-      pat = g.met.I.Interner.is_pat c.args.self.now.interner;
-      alternatives = g.met.I.Interner.are_alternatives c.args.self.now.interner;
-      existential_predicates = g.met.I.Interner.are_existential_predicates c.args.self.now.interner;
-    } in
+    let sorted : Sorted m = g.met.I.Interner.sorted c.args.self.now.interner in
     let whole : firsts j (parts_of t) ≡ parts_of t = ap (λ d. firsts d (parts_of t)) all ∙ firsts_all (parts_of t) c.parts_count-i-end.ensures.is_list in
     let became = went_whole eq m n was now k i u v c.args.met.now c.loop-i.met (new_kind p) t j us c.requires.term_covered (λ s. some_sort p (sym (sort_known m sorted p c.requires.term_known) ∙ s))
     c.parts_count-i-end.ensures.is_list all c.requires.stays inv.went in
@@ -944,18 +889,7 @@ generalise_parts-returns g t' c =
     let test = c.loop-i-test.false in
     let end = c.loop-i.auto.i-end in
     let all : j ≡ count (parts_of t) = omega (arith, counted, test, end) in
-    let sorted : Sorted m = record {
-      ty = g.met.I.Interner.is_ty c.args.self.now.interner;
-      region = g.met.I.Interner.is_region c.args.self.now.interner;
-      tys = g.met.I.Interner.are_tys c.args.self.now.interner;
-      const_ = g.met.I.Interner.is_const c.args.self.now.interner;
-      valtree = g.met.I.Interner.is_valtree c.args.self.now.interner;
-      args = g.met.I.Interner.are_args c.args.self.now.interner;
-      branches = g.met.I.Interner.are_branches c.args.self.now.interner;
-      pat = g.met.I.Interner.is_pat c.args.self.now.interner;
-      alternatives = g.met.I.Interner.are_alternatives c.args.self.now.interner;
-      existential_predicates = g.met.I.Interner.are_existential_predicates c.args.self.now.interner;
-    } in
+    let sorted : Sorted m = g.met.I.Interner.sorted c.args.self.now.interner in
     let whole : firsts j (parts_of t) ≡ parts_of t = ap (λ d. firsts d (parts_of t)) all ∙ firsts_all (parts_of t) c.parts_count-i-end.ensures.is_list in
     let became = went_whole eq m n was now k i u v c.args.met.now c.loop-i.met (new_kind p) t j us c.requires.term_covered (λ s. some_sort p (sym (sort_known m sorted p c.requires.term_known) ∙ s))
     c.parts_count-i-end.ensures.is_list all c.requires.stays inv.went in

@@ -1,7 +1,7 @@
 use Rattle.std.proofs.Common.{sym, ap, ◌∙◌, subst, subst₂}
 use Rattle.std.proofs.lemmas.Bool.{false≢true}
 use Rattle.relation_terms.specs.Parts.{part_tree, tree_sort}
-use Rattle.relation_terms.proofs.Sorted.{Sorted}
+use Rattle.relation_terms.specs.Interning.{Sorted}
 use Rattle.relation_terms.proofs.Parts.{sort_known}
 use Rattle.relation_reference.specs.Tables.{store_of}
 use Rattle.relation_reference.specs.Remembering.{vid_kind, vid_number}
@@ -30,18 +30,7 @@ fate_of_variable-requires g c =
 pub returns-in-Some : goal.returns-in-Some
 returns-in-Some g c =
     let m = g.I.Interner.meaning c.args.self.now.interner in
-    let sorted : Sorted m = record {
-      ty = g.met.I.Interner.is_ty c.args.self.now.interner;
-      region = g.met.I.Interner.is_region c.args.self.now.interner;
-      tys = g.met.I.Interner.are_tys c.args.self.now.interner;
-      const_ = g.met.I.Interner.is_const c.args.self.now.interner;
-      valtree = g.met.I.Interner.is_valtree c.args.self.now.interner;
-      args = g.met.I.Interner.are_args c.args.self.now.interner;
-      branches = g.met.I.Interner.are_branches c.args.self.now.interner;
-      pat = g.met.I.Interner.is_pat c.args.self.now.interner;
-      alternatives = g.met.I.Interner.are_alternatives c.args.self.now.interner;
-      existential_predicates = g.met.I.Interner.are_existential_predicates c.args.self.now.interner;
-    } in
+    let sorted : Sorted m = g.met.I.Interner.sorted c.args.self.now.interner in
     let sort = sym (sort_known m sorted c.args.term.now c.requires.term_known) ∙ ap tree_sort c.in-Some.ensures.is in
     subst₂ (λ t o. IsFate (store_of m c.args.self.now.inner) (vid_kind c.args.target.now.vid) (vid_number c.args.target.now.vid)
     c.args.target.now.universe.0 c.args.variance t o c.fate_of_variable.result) (sym c.in-Some.ensures.is)
@@ -50,18 +39,7 @@ returns-in-Some g c =
 pub returns-in_default-placeholder_universe : goal.returns-in_default-placeholder_universe
 returns-in_default-placeholder_universe g c =
     let m = g.I.Interner.meaning c.args.self.now.interner in
-    let sorted : Sorted m = record {
-      ty = g.met.I.Interner.is_ty c.args.self.now.interner;
-      region = g.met.I.Interner.is_region c.args.self.now.interner;
-      tys = g.met.I.Interner.are_tys c.args.self.now.interner;
-      const_ = g.met.I.Interner.is_const c.args.self.now.interner;
-      valtree = g.met.I.Interner.is_valtree c.args.self.now.interner;
-      args = g.met.I.Interner.are_args c.args.self.now.interner;
-      branches = g.met.I.Interner.are_branches c.args.self.now.interner;
-      pat = g.met.I.Interner.is_pat c.args.self.now.interner;
-      alternatives = g.met.I.Interner.are_alternatives c.args.self.now.interner;
-      existential_predicates = g.met.I.Interner.are_existential_predicates c.args.self.now.interner;
-    } in
+    let sorted : Sorted m = g.met.I.Interner.sorted c.args.self.now.interner in
     left_stays (store_of m c.args.self.now.inner) (vid_kind c.args.target.now.vid) (vid_number c.args.target.now.vid)
     c.args.target.now.universe.0 c.args.variance (part_tree m c.args.term.now) c.requires.term_covered
     (λ e. not_region c.args.term.now c.in_default.not-Region (sym (sort_known m sorted c.args.term.now c.requires.term_known) ∙ e))

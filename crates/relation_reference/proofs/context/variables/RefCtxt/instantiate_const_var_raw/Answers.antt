@@ -1,5 +1,5 @@
 use Rattle.std.proofs.Common.{◌≡◌, [], refl, ap, sym, subst, suc, arith, map, length, ◌<◌, IsTrue, ◌-◌}
-use Rattle.relation_terms.specs.declared.terms.enums.Variance.TheVariants.{Invariant}
+use Rattle.term_enums.specs.declared.Variance.TheVariants.{Invariant}
 use Rattle.relation_terms.specs.declared.terms.part_kind.Part.TheVariants.{Const}
 use Rattle.relation_terms.specs.Heads.{const_var}
 use Rattle.relation_terms.specs.Trees.{known}
@@ -163,12 +163,12 @@ returns g c =
     let keys = ap (map o.const_) c.bind.ensures.keys in
     let entries = bound_entries o.const_ z.consts.items ts.items i b c.bind.ensures.values in
     let made = table_made m.const_ x.consts.items i c.requires.target_made in
-    let sorted = g.met.I.Interner.is_const c.args.self.now.interner c.args.source.now c.requires.source_known in
+    let sorted = (g.met.I.Interner.sorted c.args.self.now.interner).const_ c.args.source.now c.requires.source_known in
     let full = n.const_ key in
     let comes = c.in_ok-resolved.ensures.resolves in
     let gen : (last : Stage) × (last.store ≡ store_of o z) × Generalised (items_of n) (store_of n w) const_var i (any_part Invariant) (record { store = store_of n w; met = [] }) full last (o.const_ b) = (e.generalised.2.0, e.generalised.2.1, subst (λ a. Generalised (items_of n) (store_of n w) const_var i (any_part Invariant) (record { store = store_of n w; met = [] }) full e.generalised.2.0 a) is e.generalised.2.2) in
     let here = generalised_here o r.grown x w z r.inner l const_var i u universe e.makes y (o.const_ b) full tt Invariant t made c.requires.target_unbound e.lawful beside keys entries c.bind.ensures.universes left comes gen c.requires.source_in sorted in
-    let may = const_may m x l t here c.requires.source_covered sorted c.requires.source_no_variable c.requires.source_in (g.met.I.Interner.is_const c.generalise.new.self.interner b sure) in
+    let may = const_may m x l t here c.requires.source_covered sorted c.requires.source_no_variable c.requires.source_in ((g.met.I.Interner.sorted c.generalise.new.self.interner).const_ b sure) in
     record {
       grows = record { extends = extends_on r.grown e.grown; lawful = bound_lawful o r.grown x w z r.inner l const_var i u universe e.makes y (o.const_ b) full tt Invariant t made c.requires.target_unbound e.lawful beside keys entries c.bind.ensures.universes left comes gen c.requires.source_in sorted may };
       instantiates = (sure, by_rules o r.grown x w z r.inner l const_var i u universe e.makes y (o.const_ b) full tt Invariant t made c.requires.target_unbound e.lawful beside keys entries c.bind.ensures.universes left comes gen c.requires.source_in sorted);

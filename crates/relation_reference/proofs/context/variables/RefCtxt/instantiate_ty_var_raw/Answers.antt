@@ -163,7 +163,7 @@ returns g c =
     let keys = ap (map o.ty) c.bind.ensures.keys in
     let entries = bound_entries o.ty z.types.items ts.items i b c.bind.ensures.values in
     let made = table_made m.ty x.types.items i c.requires.target_made in
-    let sorted = g.met.I.Interner.is_ty c.args.self.now.interner c.args.source.now c.requires.source_known in
+    let sorted = (g.met.I.Interner.sorted c.args.self.now.interner).ty c.args.source.now c.requires.source_known in
     let full = n.ty key in
     let comes = c.in_ok-resolved.ensures.resolves in
     let gen : (last : Stage) × (last.store ≡ store_of o z) × Generalised (items_of n) (store_of n w) type_var i (any_part c.args.variance) (record { store = store_of n w; met = [] }) full last (o.ty b) = (e.generalised.2.0, e.generalised.2.1, subst (λ a. Generalised (items_of n) (store_of n w) type_var i (any_part c.args.variance) (record { store = store_of n w; met = [] }) full e.generalised.2.0 a) is e.generalised.2.2) in

@@ -7,7 +7,7 @@ use Rattle.relation_terms.specs.declared.terms.part_kind.Part.TheVariants.{Ty, C
 use Rattle.relation_terms.specs.declared.terms.part_kind.Parts.TheVariants.{Empty, One, Two, Args, Tys, Branches}
 use Rattle.relation_terms.specs.declared.terms.part_kind.Parts.TheVariants.{Alternatives}
 use Rattle.relation_terms.proofs.Stays.{stays_same, knows_as}
-use Rattle.relation_terms.proofs.Sorted.{Sorted}
+use Rattle.relation_terms.specs.Interning.{Sorted}
 use Rattle.relation_terms.specs.Heads.{type_sort}
 use Rattle.relation_terms.specs.Trees.{front}
 use Rattle.relation_terms.specs.Meaning.{term_tree, object_predicate_tree}
@@ -38,18 +38,7 @@ returns-in-One g c =
     let m = g.I.Interner.meaning c.args.cx.now in
     let xs = c.args.members.now in
     let f = subst (λ p. Fit xs (parts_tree m p)) c.in-One.is c.requires.fits in
-    let s : Sorted m = record {
-      ty = g.met.I.Interner.is_ty c.args.cx.now;
-      region = g.met.I.Interner.is_region c.args.cx.now;
-      tys = g.met.I.Interner.are_tys c.args.cx.now;
-      const_ = g.met.I.Interner.is_const c.args.cx.now;
-      valtree = g.met.I.Interner.is_valtree c.args.cx.now;
-      args = g.met.I.Interner.are_args c.args.cx.now;
-      branches = g.met.I.Interner.are_branches c.args.cx.now;
-      pat = g.met.I.Interner.is_pat c.args.cx.now;
-      alternatives = g.met.I.Interner.are_alternatives c.args.cx.now;
-      existential_predicates = g.met.I.Interner.are_existential_predicates c.args.cx.now;
-    } in
+    let s : Sorted m = g.met.I.Interner.sorted c.args.cx.now in
     let p = c.in-One.field-0 in
     let k : IsTrue (known (cons (part_tree m p) nil)) = subst (λ p. IsTrue (known (parts_tree m p))) c.in-One.is c.requires.like_known in
     let x = c.index-members-0.result in
@@ -68,18 +57,7 @@ returns-in-Two g c =
     let m = g.I.Interner.meaning c.args.cx.now in
     let xs = c.args.members.now in
     let f = subst (λ p. Fit xs (parts_tree m p)) c.in-Two.is c.requires.fits in
-    let s : Sorted m = record {
-      ty = g.met.I.Interner.is_ty c.args.cx.now;
-      region = g.met.I.Interner.is_region c.args.cx.now;
-      tys = g.met.I.Interner.are_tys c.args.cx.now;
-      const_ = g.met.I.Interner.is_const c.args.cx.now;
-      valtree = g.met.I.Interner.is_valtree c.args.cx.now;
-      args = g.met.I.Interner.are_args c.args.cx.now;
-      branches = g.met.I.Interner.are_branches c.args.cx.now;
-      pat = g.met.I.Interner.is_pat c.args.cx.now;
-      alternatives = g.met.I.Interner.are_alternatives c.args.cx.now;
-      existential_predicates = g.met.I.Interner.are_existential_predicates c.args.cx.now;
-    } in
+    let s : Sorted m = g.met.I.Interner.sorted c.args.cx.now in
     let p = c.in-Two.field-0 in
     let q = c.in-Two.field-1 in
     let k : IsTrue (known (cons (part_tree m p) (cons (part_tree m q) nil))) = subst (λ p. IsTrue (known (parts_tree m p))) c.in-Two.is c.requires.like_known in
@@ -105,7 +83,7 @@ args_of-requires g c =
     let f = subst (λ p. Fit xs (parts_tree m p)) c.in-Args.is c.requires.fits in
     let a = c.in-Args.field-0 in
     let k : IsTrue (known (m.args a)) = subst (λ p. IsTrue (known (parts_tree m p))) c.in-Args.is c.requires.like_known in
-    fit_args xs (m.args a) f (g.met.I.Interner.are_args c.args.cx.now a k)
+    fit_args xs (m.args a) f ((g.met.I.Interner.sorted c.args.cx.now).args a k)
 
 pub mk_args-requires : goal.mk_args-requires
 mk_args-requires g c =
@@ -141,7 +119,7 @@ tys_of-requires g c =
     let f = subst (λ p. Fit xs (parts_tree m p)) c.in-Tys.is c.requires.fits in
     let a = c.in-Tys.field-0 in
     let k : IsTrue (known (m.tys a)) = subst (λ p. IsTrue (known (parts_tree m p))) c.in-Tys.is c.requires.like_known in
-    fit_tys xs (m.tys a) f (g.met.I.Interner.are_tys c.args.cx.now a k)
+    fit_tys xs (m.tys a) f ((g.met.I.Interner.sorted c.args.cx.now).tys a k)
 
 pub mk_type_list-requires : goal.mk_type_list-requires
 mk_type_list-requires g c =
@@ -177,7 +155,7 @@ consts_of-requires g c =
     let f = subst (λ p. Fit xs (parts_tree m p)) c.in-Branches.is c.requires.fits in
     let a = c.in-Branches.field-0 in
     let k : IsTrue (known (m.branches a)) = subst (λ p. IsTrue (known (parts_tree m p))) c.in-Branches.is c.requires.like_known in
-    fit_consts xs (m.branches a) f (g.met.I.Interner.are_branches c.args.cx.now a k)
+    fit_consts xs (m.branches a) f ((g.met.I.Interner.sorted c.args.cx.now).branches a k)
 
 pub mk_branches-requires : goal.mk_branches-requires
 mk_branches-requires g c =
@@ -213,7 +191,7 @@ pats_of-requires g c =
     let f = subst (λ p. Fit xs (parts_tree m p)) c.in-Alternatives.is c.requires.fits in
     let a = c.in-Alternatives.field-0 in
     let k : IsTrue (known (m.alternatives a)) = subst (λ p. IsTrue (known (parts_tree m p))) c.in-Alternatives.is c.requires.like_known in
-    fit_pats xs (m.alternatives a) f (g.met.I.Interner.are_alternatives c.args.cx.now a k)
+    fit_pats xs (m.alternatives a) f ((g.met.I.Interner.sorted c.args.cx.now).alternatives a k)
 
 pub mk_alternatives-requires : goal.mk_alternatives-requires
 mk_alternatives-requires g c =
@@ -253,18 +231,7 @@ pub make_term_args-requires-clause-fits : goal.make_term_args-requires-clause-fi
 make_term_args-requires-clause-fits g c =
     let m = g.I.Interner.meaning c.args.cx.now in
     let xs = c.args.members.now in
-    let s : Sorted m = record {
-      ty = g.met.I.Interner.is_ty c.args.cx.now;
-      region = g.met.I.Interner.is_region c.args.cx.now;
-      tys = g.met.I.Interner.are_tys c.args.cx.now;
-      const_ = g.met.I.Interner.is_const c.args.cx.now;
-      valtree = g.met.I.Interner.is_valtree c.args.cx.now;
-      args = g.met.I.Interner.are_args c.args.cx.now;
-      branches = g.met.I.Interner.are_branches c.args.cx.now;
-      pat = g.met.I.Interner.is_pat c.args.cx.now;
-      alternatives = g.met.I.Interner.are_alternatives c.args.cx.now;
-      existential_predicates = g.met.I.Interner.are_existential_predicates c.args.cx.now;
-    } in
+    let s : Sorted m = g.met.I.Interner.sorted c.args.cx.now in
     let t = c.in-TermArgs.field-0 in
     let a = c.in-TermArgs.field-1 in
     let f = subst (λ p. Fit xs (parts_tree m p)) c.in-TermArgs.is c.requires.fits in
@@ -286,7 +253,7 @@ make_inputs-requires-clause-fits g c =
     let k : IsTrue (known (front ts)) =
     subst (λ p. IsTrue (known (parts_tree m p))) c.in-Inputs.is c.requires.like_known in
     fit_tys xs (front ts) f
-    (front_terms type_sort ts k (g.met.I.Interner.are_tys c.args.cx.now c.in-Inputs.tys (front_known ts k)))
+    (front_terms type_sort ts k ((g.met.I.Interner.sorted c.args.cx.now).tys c.in-Inputs.tys (front_known ts k)))
 
 pub predicates_of-requires : goal.predicates_of-requires
 predicates_of-requires g c =
@@ -296,7 +263,7 @@ predicates_of-requires g c =
     let a = c.in-Predicates.field-0 in
     let k : IsTrue (known (m.existential_predicates a)) =
     subst (λ p. IsTrue (known (parts_tree m p))) c.in-Predicates.is c.requires.like_known in
-    fit_predicates xs (m.existential_predicates a) f (g.met.I.Interner.are_existential_predicates c.args.cx.now a k)
+    fit_predicates xs (m.existential_predicates a) f ((g.met.I.Interner.sorted c.args.cx.now).existential_predicates a k)
 
 pub mk_existential_predicates-requires : goal.mk_existential_predicates-requires
 mk_existential_predicates-requires g c =

@@ -3,24 +3,13 @@ use Rattle.relation_terms.specs.Trees.{known}
 use Rattle.relation_terms.specs.Fields.{fields_tree}
 use Rattle.relation_terms.proofs.Fields.{clause_over_parts, known_over_under}
 use Rattle.relation_terms.proofs.Members.{if_ok}
-use Rattle.relation_terms.proofs.Sorted.{Sorted}
+use Rattle.relation_terms.specs.Interning.{Sorted}
 use Rattle.relation_terms.proofs.terms.parts.predicates.clause_with_fields.Goals as goal
 
 pub mk_clause-requires : goal.mk_clause-requires
 mk_clause-requires g c =
     let m = g.I.Interner.meaning c.args.cx.now in
-    let s : Sorted m = record {
-      ty = g.met.I.Interner.is_ty c.args.cx.now;
-      region = g.met.I.Interner.is_region c.args.cx.now;
-      tys = g.met.I.Interner.are_tys c.args.cx.now;
-      const_ = g.met.I.Interner.is_const c.args.cx.now;
-      valtree = g.met.I.Interner.is_valtree c.args.cx.now;
-      args = g.met.I.Interner.are_args c.args.cx.now;
-      branches = g.met.I.Interner.are_branches c.args.cx.now;
-      pat = g.met.I.Interner.is_pat c.args.cx.now;
-      alternatives = g.met.I.Interner.are_alternatives c.args.cx.now;
-      existential_predicates = g.met.I.Interner.are_existential_predicates c.args.cx.now;
-    } in
+    let s : Sorted m = g.met.I.Interner.sorted c.args.cx.now in
     let t = m.clause c.args.clause.now in
     let r = clause_over_parts m s c.clause_kind-value.result c.clause_over-value.result t c.args.fields.now
     c.clause_over-value.ensures c.clause_kind-value.ensures c.requires.clause_known c.requires.fits in
@@ -30,18 +19,7 @@ mk_clause-requires g c =
 pub returns : goal.returns
 returns g c =
     let m = g.I.Interner.meaning c.args.cx.now in
-    let s : Sorted m = record {
-      ty = g.met.I.Interner.is_ty c.args.cx.now;
-      region = g.met.I.Interner.is_region c.args.cx.now;
-      tys = g.met.I.Interner.are_tys c.args.cx.now;
-      const_ = g.met.I.Interner.is_const c.args.cx.now;
-      valtree = g.met.I.Interner.is_valtree c.args.cx.now;
-      args = g.met.I.Interner.are_args c.args.cx.now;
-      branches = g.met.I.Interner.are_branches c.args.cx.now;
-      pat = g.met.I.Interner.is_pat c.args.cx.now;
-      alternatives = g.met.I.Interner.are_alternatives c.args.cx.now;
-      existential_predicates = g.met.I.Interner.are_existential_predicates c.args.cx.now;
-    } in
+    let s : Sorted m = g.met.I.Interner.sorted c.args.cx.now in
     let t = m.clause c.args.clause.now in
     let r = clause_over_parts m s c.clause_kind-value.result c.clause_over-value.result t c.args.fields.now
     c.clause_over-value.ensures c.clause_kind-value.ensures c.requires.clause_known c.requires.fits in

@@ -34,7 +34,7 @@ the_ty-requires g c =
     let x = c.index-parts-0.result in
     let y = c.index-parts-1.result in
     let k = (and_parts (known (front ts)) (known (last ts) && true) c.requires.term_known).0 in
-    let are = g.met.I.Interner.are_tys c.args.cx.now (c.args.sig.now).inputs_and_output (front_known ts k) in
+    let are = (g.met.I.Interner.sorted c.args.cx.now).tys (c.args.sig.now).inputs_and_output (front_known ts k) in
     (fit_two m (part_tree m) xs (node inputs (front ts)) (last ts) x x y y c.requires.fits c.index-parts-0.is
     c.index-parts-1.is).1.1 ∙ type_term (last ts) (last_term type_sort ts k are)
 

@@ -7,7 +7,7 @@ use Rattle.relation_terms.proofs.Stays.{stays_same}
 use Rattle.relation_terms.proofs.Members.{fit_none, over_none, region_alone, type_term}
 use Rattle.relation_terms.proofs.Parts.{fit_one, fit_one_some, over_known, body_got, body_sort_known}
 use Rattle.relation_terms.proofs.Binders.{under_known, under_parts, under_over}
-use Rattle.relation_terms.proofs.Sorted.{Sorted}
+use Rattle.relation_terms.specs.Interning.{Sorted}
 use Rattle.relation_terms.specs.Meaning.{under}
 use Rattle.relation_terms.specs.Parts.{body_tree, body_sort}
 use Rattle.relation_terms.specs.declared.terms.part_kind.Part.TheVariants.{Binder}
@@ -43,7 +43,7 @@ the_ty-requires g c =
     subst (λ p. IsTrue (known (part_tree m p))) c.in-ValueType.is c.requires.term_known in
     let x = c.index-parts-0.result in
     (fit_one m (part_tree m) xs (m.ty ty) x x f c.index-parts-0.is).1
-    ∙ type_term (m.ty ty) (g.met.I.Interner.is_ty c.args.cx.now ty (and_parts (known (m.ty ty)) true k).0)
+    ∙ type_term (m.ty ty) ((g.met.I.Interner.sorted c.args.cx.now).ty ty (and_parts (known (m.ty ty)) true k).0)
 
 pub returns-in-Region-clause-made : goal.returns-in-Region-clause-made
 returns-in-Region-clause-made g c =
@@ -54,7 +54,7 @@ returns-in-Region-clause-made g c =
     let k = subst (λ p. IsTrue (known (part_tree m p))) c.in-Region.is c.requires.term_known in
     let e : parts_of t ≡ nil =
     ap (λ p. parts_of (part_tree m p)) c.in-Region.is
-    ∙ region_alone (m.region r) (g.met.I.Interner.is_region c.args.cx.now r k) in
+    ∙ region_alone (m.region r) ((g.met.I.Interner.sorted c.args.cx.now).region r k) in
     sym (over_none t (list_tree (part_tree m) xs) e (fit_none (part_tree m) xs (subst (Fit xs) e c.requires.fits)))
 
 pub bounds-parts-0-in-Binder : goal.bounds-parts-0-in-Binder
@@ -71,18 +71,7 @@ bounds-parts-0-in-Binder g c =
 pub returns-in-Binder : goal.returns-in-Binder
 returns-in-Binder g c =
     let m = g.I.Interner.meaning c.args.cx.now in
-    let s : Sorted m = record {
-      ty = g.met.I.Interner.is_ty c.args.cx.now;
-      region = g.met.I.Interner.is_region c.args.cx.now;
-      tys = g.met.I.Interner.are_tys c.args.cx.now;
-      const_ = g.met.I.Interner.is_const c.args.cx.now;
-      valtree = g.met.I.Interner.is_valtree c.args.cx.now;
-      args = g.met.I.Interner.are_args c.args.cx.now;
-      branches = g.met.I.Interner.are_branches c.args.cx.now;
-      pat = g.met.I.Interner.is_pat c.args.cx.now;
-      alternatives = g.met.I.Interner.are_alternatives c.args.cx.now;
-      existential_predicates = g.met.I.Interner.are_existential_predicates c.args.cx.now;
-    } in
+    let s : Sorted m = g.met.I.Interner.sorted c.args.cx.now in
     let xs = c.args.parts.now in
     let us = list_tree (part_tree m) xs in
     let b = c.in-Binder.body in

@@ -9,4 +9,4 @@ returns-clause-registers g c =
     left_none g.R.TypeRelation.manner r (g.R.TypeRelation.state c.consts.new.r) ((r.meaning).const_ k)
     ((r.meaning).const_ c.args.b.now) r.ambient c.consts.result (const_is_none ((r.meaning).const_ k)
     (const_sorted (g.met.R.TypeRelation.reads c.args.r.now) k
-    (g.met.I.Interner.is_const (g.R.TypeRelation.interner c.args.r.now) k) (c.requires.asked).left_known))
+    ((g.met.I.Interner.sorted (g.R.TypeRelation.interner c.args.r.now)).const_ k) (c.requires.asked).left_known))

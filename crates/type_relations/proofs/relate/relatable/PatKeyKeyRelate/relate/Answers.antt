@@ -9,4 +9,4 @@ returns-clause-registers g c =
     left_none g.R.TypeRelation.manner r (g.R.TypeRelation.state c.pats.new.r) ((r.meaning).pat k)
     ((r.meaning).pat c.args.b.now) r.ambient c.pats.result (pattern_is_none ((r.meaning).pat k)
     (pat_sorted (g.met.R.TypeRelation.reads c.args.r.now) k
-    (g.met.I.Interner.is_pat (g.R.TypeRelation.interner c.args.r.now) k) (c.requires.asked).left_known))
+    ((g.met.I.Interner.sorted (g.R.TypeRelation.interner c.args.r.now)).pat k) (c.requires.asked).left_known))

@@ -9,4 +9,4 @@ returns-clause-registers g c =
     left_none g.R.TypeRelation.manner r (g.R.TypeRelation.state c.regions.new.self) ((r.meaning).region k)
     ((r.meaning).region c.args.b.now) r.ambient c.regions.result (region_is_none ((r.meaning).region k)
     (region_sorted (g.met.R.TypeRelation.reads c.args.r.now) k
-    (g.met.I.Interner.is_region (g.R.TypeRelation.interner c.args.r.now) k) (c.requires.asked).left_known))
+    ((g.met.I.Interner.sorted (g.R.TypeRelation.interner c.args.r.now)).region k) (c.requires.asked).left_known))

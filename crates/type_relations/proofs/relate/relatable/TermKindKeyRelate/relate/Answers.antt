@@ -3,7 +3,7 @@ use Rattle.relation_terms.specs.Meaning.{term_tree}
 use Rattle.relation_terms.specs.Trees.{known}
 use Rattle.relation_terms.specs.declared.terms.generic_arg.GenericArgKind.TheVariants.{Ty as TyArg, Const as ConstArg}
 use Rattle.relation_terms.specs.declared.terms.generic_arg.TermKind.TheVariants.{Ty, Const}
-use Rattle.relation_terms.proofs.Sorted.{Sorted}
+use Rattle.relation_terms.specs.Interning.{Sorted}
 use Rattle.relation_folds.specs.declared.error.TypeError.TheVariants.{Mismatch}
 use Rattle.relation_folds.specs.declared.error.RelateFault.TheVariants.{Unrelated}
 use Rattle.relation_contexts.specs.Lawful.{Asked, Related}
@@ -20,18 +20,7 @@ returns-in_default-clause-related g c =
     let M = g.R.TypeRelation.manner in
     let e = g.met.R.TypeRelation.reads c.args.r.now in
     let cx = g.R.TypeRelation.interner c.args.r.now in
-    let sorted : Sorted r.meaning = subst (λ m. Sorted m) (sym e) (record {
-      ty = g.met.I.Interner.is_ty cx;
-      region = g.met.I.Interner.is_region cx;
-      tys = g.met.I.Interner.are_tys cx;
-      const_ = g.met.I.Interner.is_const cx;
-      valtree = g.met.I.Interner.is_valtree cx;
-      args = g.met.I.Interner.are_args cx;
-      branches = g.met.I.Interner.are_branches cx;
-      pat = g.met.I.Interner.is_pat cx;
-      alternatives = g.met.I.Interner.are_alternatives cx;
-      existential_predicates = g.met.I.Interner.are_existential_predicates cx;
-    }) in
+    let sorted : Sorted r.meaning = subst (λ m. Sorted m) (sym e) (g.met.I.Interner.sorted cx) in
     let z = else_const c.args.b.now c.in_default.not-Ty in
     let k = subst₂ (λ a b. Asked M r r.ambient (term_tree r.meaning a) (term_tree r.meaning b)) c.in-Ty.is z.1
     c.requires.asked in
@@ -46,18 +35,7 @@ returns-in_default-b-clause-related g c =
     let M = g.R.TypeRelation.manner in
     let e = g.met.R.TypeRelation.reads c.args.r.now in
     let cx = g.R.TypeRelation.interner c.args.r.now in
-    let sorted : Sorted r.meaning = subst (λ m. Sorted m) (sym e) (record {
-      ty = g.met.I.Interner.is_ty cx;
-      region = g.met.I.Interner.is_region cx;
-      tys = g.met.I.Interner.are_tys cx;
-      const_ = g.met.I.Interner.is_const cx;
-      valtree = g.met.I.Interner.is_valtree cx;
-      args = g.met.I.Interner.are_args cx;
-      branches = g.met.I.Interner.are_branches cx;
-      pat = g.met.I.Interner.is_pat cx;
-      alternatives = g.met.I.Interner.are_alternatives cx;
-      existential_predicates = g.met.I.Interner.are_existential_predicates cx;
-    }) in
+    let sorted : Sorted r.meaning = subst (λ m. Sorted m) (sym e) (g.met.I.Interner.sorted cx) in
     let z = else_ty c.args.b.now c.in_default-b.not-Const in
     let k = subst₂ (λ a b. Asked M r r.ambient (term_tree r.meaning a) (term_tree r.meaning b)) c.in-Const.is z.1
     c.requires.asked in
@@ -94,18 +72,7 @@ returns-in_default-clause-registers g c =
     let M = g.R.TypeRelation.manner in
     let e = g.met.R.TypeRelation.reads c.args.r.now in
     let cx = g.R.TypeRelation.interner c.args.r.now in
-    let sorted : Sorted r.meaning = subst (λ m. Sorted m) (sym e) (record {
-      ty = g.met.I.Interner.is_ty cx;
-      region = g.met.I.Interner.is_region cx;
-      tys = g.met.I.Interner.are_tys cx;
-      const_ = g.met.I.Interner.is_const cx;
-      valtree = g.met.I.Interner.is_valtree cx;
-      args = g.met.I.Interner.are_args cx;
-      branches = g.met.I.Interner.are_branches cx;
-      pat = g.met.I.Interner.is_pat cx;
-      alternatives = g.met.I.Interner.are_alternatives cx;
-      existential_predicates = g.met.I.Interner.are_existential_predicates cx;
-    }) in
+    let sorted : Sorted r.meaning = subst (λ m. Sorted m) (sym e) (g.met.I.Interner.sorted cx) in
     let z = else_const c.args.b.now c.in_default.not-Ty in
     right_none M r r (term_tree r.meaning c.args.a.now) (term_tree r.meaning c.args.b.now) {X = ⊥} r.ambient
     (Err (Unrelated Mismatch)) (subst (λ x. IsTyVar (term_tree r.meaning x) → ⊥) (sym z.1)
@@ -118,18 +85,7 @@ returns-in_default-b-clause-registers g c =
     let M = g.R.TypeRelation.manner in
     let e = g.met.R.TypeRelation.reads c.args.r.now in
     let cx = g.R.TypeRelation.interner c.args.r.now in
-    let sorted : Sorted r.meaning = subst (λ m. Sorted m) (sym e) (record {
-      ty = g.met.I.Interner.is_ty cx;
-      region = g.met.I.Interner.is_region cx;
-      tys = g.met.I.Interner.are_tys cx;
-      const_ = g.met.I.Interner.is_const cx;
-      valtree = g.met.I.Interner.is_valtree cx;
-      args = g.met.I.Interner.are_args cx;
-      branches = g.met.I.Interner.are_branches cx;
-      pat = g.met.I.Interner.is_pat cx;
-      alternatives = g.met.I.Interner.are_alternatives cx;
-      existential_predicates = g.met.I.Interner.are_existential_predicates cx;
-    }) in
+    let sorted : Sorted r.meaning = subst (λ m. Sorted m) (sym e) (g.met.I.Interner.sorted cx) in
     left_none M r r (term_tree r.meaning c.args.a.now) (term_tree r.meaning c.args.b.now) {X = ⊥} r.ambient
     (Err (Unrelated Mismatch)) (subst (λ x. IsTyVar (term_tree r.meaning x) → ⊥) (sym c.in-Const.is)
     (const_none sorted (ConstArg c.in-Const.a) (subst (λ x. IsTrue (known (term_tree r.meaning x))) c.in-Const.is
@@ -142,18 +98,7 @@ returns-in_ok-consts-in-Const-clause-registers g c =
     let q = g.R.TypeRelation.state c.consts.new.r in
     let e = g.met.R.TypeRelation.reads c.args.r.now in
     let cx = g.R.TypeRelation.interner c.args.r.now in
-    let sorted : Sorted r.meaning = subst (λ m. Sorted m) (sym e) (record {
-      ty = g.met.I.Interner.is_ty cx;
-      region = g.met.I.Interner.is_region cx;
-      tys = g.met.I.Interner.are_tys cx;
-      const_ = g.met.I.Interner.is_const cx;
-      valtree = g.met.I.Interner.is_valtree cx;
-      args = g.met.I.Interner.are_args cx;
-      branches = g.met.I.Interner.are_branches cx;
-      pat = g.met.I.Interner.is_pat cx;
-      alternatives = g.met.I.Interner.are_alternatives cx;
-      existential_predicates = g.met.I.Interner.are_existential_predicates cx;
-    }) in
+    let sorted : Sorted r.meaning = subst (λ m. Sorted m) (sym e) (g.met.I.Interner.sorted cx) in
     left_none M r q (term_tree r.meaning c.args.a.now) (term_tree r.meaning c.args.b.now) r.ambient
     (Ok (Const c.in_ok-consts-in-Const.field-0)) (subst (λ x. IsTyVar (term_tree r.meaning x) → ⊥) (sym c.in-Const.is)
     (const_none sorted (ConstArg c.in-Const.a) (subst (λ x. IsTrue (known (term_tree r.meaning x))) c.in-Const.is
@@ -166,18 +111,7 @@ returns-in_err-consts-in-Const-clause-registers g c =
     let q = g.R.TypeRelation.state c.consts.new.r in
     let e = g.met.R.TypeRelation.reads c.args.r.now in
     let cx = g.R.TypeRelation.interner c.args.r.now in
-    let sorted : Sorted r.meaning = subst (λ m. Sorted m) (sym e) (record {
-      ty = g.met.I.Interner.is_ty cx;
-      region = g.met.I.Interner.is_region cx;
-      tys = g.met.I.Interner.are_tys cx;
-      const_ = g.met.I.Interner.is_const cx;
-      valtree = g.met.I.Interner.is_valtree cx;
-      args = g.met.I.Interner.are_args cx;
-      branches = g.met.I.Interner.are_branches cx;
-      pat = g.met.I.Interner.is_pat cx;
-      alternatives = g.met.I.Interner.are_alternatives cx;
-      existential_predicates = g.met.I.Interner.are_existential_predicates cx;
-    }) in
+    let sorted : Sorted r.meaning = subst (λ m. Sorted m) (sym e) (g.met.I.Interner.sorted cx) in
     left_none M r q (term_tree r.meaning c.args.a.now) (term_tree r.meaning c.args.b.now) r.ambient
     c.from_residual-in_err-consts-in-Const.result (subst (λ x. IsTyVar (term_tree r.meaning x) → ⊥) (sym c.in-Const.is)
     (const_none sorted (ConstArg c.in-Const.a) (subst (λ x. IsTrue (known (term_tree r.meaning x))) c.in-Const.is

@@ -7,7 +7,7 @@ use Rattle.relation_contexts.specs.Goals.{goals_of, KnowsGoal, MakesOneTree}
 use Rattle.relation_contexts.specs.OneUniverse.{all_unbound}
 use Rattle.relation_contexts.specs.Lawful.{Related, ExactResult}
 use Rattle.type_relations.specs.Solving.{solving_in, solver_manner}
-use Rattle.relation_contexts.proofs.Going.{later_itself, goes_nowhere, binds_its_own}
+use Rattle.relation_contexts.proofs.Going.{later_itself, goes_nowhere}
 use Rattle.relation_contexts.proofs.Full.{makes_to_instantiate}
 use Rattle.type_relations.proofs.Unifying.{exact_itself}
 use Rattle.relation_contexts.proofs.Passing.{as_err}
@@ -67,11 +67,6 @@ returns-clause-made g c =
     makes_to_instantiate (term_in s g.T.Relate.over g.T.HasTree.tree c.args.lhs)
     (term_in s g.T.Relate.over g.T.HasTree.tree c.args.rhs) (related.passes).goes related.full
 
-pub returns-then-eq-clause-bound : goal.returns-then-eq-clause-bound
-returns-then-eq-clause-bound g c =
-    let st = (g.Infcx.InferCtxtLike.state c.args.self.now).store in
-    binds_its_own (goes_nowhere 0 st) (λ m. (g.met.Infcx.InferCtxtLike.sound c.args.self.now c.requires.lawful).regions_unbound m)
-
 pub relate_in-related-requires-clause-asked : goal.relate_in-related-requires-clause-asked
 relate_in-related-requires-clause-asked g c =
     let s = g.Infcx.InferCtxtLike.state c.args.self.now in
@@ -84,22 +79,6 @@ relate_in-related-requires-clause-asked g c =
       left_taken = all_taken c.args.variance (term_in s g.T.Relate.over g.T.HasTree.tree c.args.lhs) k.lhs_taken;
       right_taken = all_taken c.args.variance (term_in s g.T.Relate.over g.T.HasTree.tree c.args.rhs) k.rhs_taken;
     }
-
-pub returns-in_err-related-clause-bound : goal.returns-in_err-related-clause-bound
-returns-in_err-related-clause-bound g c =
-    let s = g.Infcx.InferCtxtLike.state c.args.self.now in
-    let passes = (c.relate_in-related.ensures.related).passes in
-    let lawful = (passes.lawful (c.requires.lawful, (c.requires.env_known, All-nil (KnowsGoal s.meaning)))).0 in
-    binds_its_own passes.goes
-    (λ m. (g.met.Infcx.InferCtxtLike.sound c.relate_in-related.new.infcx lawful).regions_unbound m)
-
-pub returns-clause-bound : goal.returns-clause-bound
-returns-clause-bound g c =
-    let s = g.Infcx.InferCtxtLike.state c.args.self.now in
-    let passes = (c.relate_in-related.ensures.related).passes in
-    let lawful = (passes.lawful (c.requires.lawful, (c.requires.env_known, All-nil (KnowsGoal s.meaning)))).0 in
-    binds_its_own passes.goes
-    (λ m. (g.met.Infcx.InferCtxtLike.sound c.relate_in-related.new.infcx lawful).regions_unbound m)
 
 pub returns-in_err-related-clause-same : goal.returns-in_err-related-clause-same
 returns-in_err-related-clause-same g c =

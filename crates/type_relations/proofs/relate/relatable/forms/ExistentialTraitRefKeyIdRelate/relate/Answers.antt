@@ -1,5 +1,5 @@
 use Rattle.std.proofs.Common.{sym, ap, Ok}
-use Rattle.relation_terms.specs.declared.predicate.ExistentialPredicate.TheVariants.{Trait}
+use Rattle.relation_terms.specs.declared.predicate.existential.ExistentialPredicate.TheVariants.{Trait}
 use Rattle.relation_terms.specs.Meaning.{existential_tree}
 use Rattle.relation_terms.proofs.Stays.{stays_existential}
 use Rattle.relation_contexts.proofs.Passing.{retold}

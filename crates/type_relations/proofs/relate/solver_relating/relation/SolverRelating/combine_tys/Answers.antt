@@ -1,5 +1,5 @@
 use Rattle.std.proofs.Common.{◌≡◌, refl, sym, ◌∙◌, inl, inr, subst, Ok, Err}
-use Rattle.relation_terms.specs.declared.terms.enums.Variance.TheVariants.{Covariant, Contravariant}
+use Rattle.term_enums.specs.declared.Variance.TheVariants.{Covariant, Contravariant}
 use Rattle.relation_terms.specs.Heads.{type_var, variable}
 use Rattle.relation_terms.specs.Trees.{leaf}
 use Rattle.relation_folds.specs.declared.error.TypeError.TheVariants.{CyclicTy}
@@ -147,7 +147,7 @@ returns-in_ok-bound-in-None-ty_var-clause-stepped g c =
     (c.requires.env_known, c.requires.goals_known) h.grows.lawful) type_var tt s d grown sound
     (g.met.Infcx.InferCtxtLike.numbers r.infcx.now c.requires.lawful)
     (g.met.Infcx.InferCtxtLike.covered q h.grows.lawful) c.in-Some.x.0 t ((d.meaning).ty z) k.right_taken.1 k.right_in
-    k.right_known (ty_sorted of c.args.b.now (g.met.Infcx.Interner.Interner.is_ty cx c.args.b.now) k.right_known)
+    k.right_known (ty_sorted of c.args.b.now ((g.met.Infcx.Interner.Interner.sorted cx).ty c.args.b.now) k.right_known)
     r.ambient_variance (λ e. e) h.instantiates.0 h.instantiates.1 IsFormed c.args.a.now c.args.b.now z
     c.args.b.now c.args.a.now (d.meaning).ty root_stays t_stays refl t_stays
     (inl root_stays)))
@@ -182,7 +182,7 @@ returns-in_ok-bound-in-Some-ty_var-2-clause-stepped g c =
     (c.requires.env_known, c.requires.goals_known) h.grows.lawful) type_var tt s d grown sound
     (g.met.Infcx.InferCtxtLike.numbers r.infcx.now c.requires.lawful)
     (g.met.Infcx.InferCtxtLike.covered q h.grows.lawful) c.in-Some-ty_var-2.y.0 t ((d.meaning).ty z) k.left_taken.1
-    k.left_in k.left_known (ty_sorted of c.args.a.now (g.met.Infcx.Interner.Interner.is_ty cx c.args.a.now) k.left_known)
+    k.left_in k.left_known (ty_sorted of c.args.a.now ((g.met.Infcx.Interner.Interner.sorted cx).ty c.args.a.now) k.left_known)
     c.xform-variance.result (λ e. c.xform-variance.ensures ∙ invariantly Contravariant e)
     h.instantiates.0 h.instantiates.1 IsFormed c.args.a.now c.args.b.now
     c.args.a.now z c.args.a.now (d.meaning).ty t_stays root_stays t_stays refl

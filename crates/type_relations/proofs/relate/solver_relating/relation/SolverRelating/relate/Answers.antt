@@ -17,3 +17,9 @@ returns-clause-related g c =
 
 pub returns-clause-registers : goal.returns-clause-registers
 returns-clause-registers g c = c.relate.ensures.registers
+
+pub returns-clause-variance : goal.returns-clause-variance
+returns-clause-variance g c = ((c.relate.ensures.related).passes).ambient
+
+pub returns-clause-environment : goal.returns-clause-environment
+returns-clause-environment g c = ((c.relate.ensures.related).passes).environment

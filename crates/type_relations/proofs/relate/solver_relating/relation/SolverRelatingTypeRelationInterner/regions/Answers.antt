@@ -24,7 +24,7 @@ returns-clause-related g c =
     let d = g.Infcx.InferCtxtLike.state c.relate_regions.new.infcx in
     let f = c.relate_regions.ensures in
     let k = c.requires.asked in
-    let is = g.met.Infcx.Interner.Interner.is_region cx in
+    let is = (g.met.Infcx.Interner.Interner.sorted cx).region in
     regions_recorded r.infcx.ghost_name r.goals.items s.meaning s.store d.store s.lawful d.lawful r.ambient_variance r.param_env
     c.args.a.now c.args.b.now c.requires.decides
     (region_sorted of c.args.a.now (is c.args.a.now) k.left_known, k.left_in)
@@ -39,7 +39,7 @@ relate_regions-requires-clause-a_in g c =
     let cx = g.Infcx.InferCtxtLike.interner r.infcx.now in
     let of = g.met.Infcx.InferCtxtLike.reads r.infcx.now in
     let k = c.requires.asked in
-    (region_sorted of c.args.a.now (g.met.Infcx.Interner.Interner.is_region cx c.args.a.now) k.left_known, k.left_in)
+    (region_sorted of c.args.a.now ((g.met.Infcx.Interner.Interner.sorted cx).region c.args.a.now) k.left_known, k.left_in)
 
 pub relate_regions-requires-clause-b_in : goal.relate_regions-requires-clause-b_in
 relate_regions-requires-clause-b_in g c =
@@ -48,7 +48,7 @@ relate_regions-requires-clause-b_in g c =
     let cx = g.Infcx.InferCtxtLike.interner r.infcx.now in
     let of = g.met.Infcx.InferCtxtLike.reads r.infcx.now in
     let k = c.requires.asked in
-    (region_sorted of c.args.b.now (g.met.Infcx.Interner.Interner.is_region cx c.args.b.now) k.right_known, k.right_in)
+    (region_sorted of c.args.b.now ((g.met.Infcx.Interner.Interner.sorted cx).region c.args.b.now) k.right_known, k.right_in)
 
 pub returns-clause-recorded : goal.returns-clause-recorded
 returns-clause-recorded g c = λ p.

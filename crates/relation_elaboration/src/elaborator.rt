@@ -1,0 +1,211 @@
+//! The elaborator: predicates, and what follows from them, each once.
+ghost use Rattle.std.specs.Prelude.{◌≡◌, true, IsTrue, IfOk, IfSome, Err, None, length, map};
+ghost use Rattle.std.specs.Iterator.{UpTo, endless};
+ghost use Rattle.std.specs.Iterator.SizeHint.{IsWithinCount};
+ghost use Rattle.std.specs.List.{All};
+ghost use Rattle.relation_terms.specs.Trees.{known};
+ghost use Rattle.relation_terms.specs.Meaning.{Extends};
+ghost use Rattle.relation_elaboration.specs.declared.faults.ElabFault.TheVariants.{Limit};
+ghost use Rattle.relation_elaboration.specs.Runs.{AreTooMany};
+ghost use Rattle.relation_elaboration.specs.Pulling.{Pulls, BeginsWith, ByClosure, IsKept, Pushed};
+
+use crate::children::push_children;
+use crate::elaboratable::Elaboratable;
+use crate::faults::ElabFault;
+use crate::worklist::{Worklist, WorklistOf, push_new};
+use relation_terms::terms::Interner;
+use std::collections::HashSet;
+use std::marker::Model;
+
+/// Predicates, and what follows from them.
+///
+/// It yields each predicate once, where predicates whose binders differ in names, order or unused variables alone count
+/// as one: the last that was found first, and what it implies then. Where a growth was refused, or where there are more
+/// different predicates than the limit allows, it yields that fault, then and at each later pull; the predicate whose
+/// children were being made is not yielded.
+#[derive(Drop)]
+pub struct Elaborator<'a, I: Interner, O: Elaboratable<I>> {
+    cx: &'a mut I,
+    list: WorklistOf<I, O>,
+    only_self: bool,
+    sized: bool,
+    fault: Option<ElabFault>,
+}
+
+impl<'a, I: Interner, O: Elaboratable<I>> Model for Elaborator<'a, I, O> {
+    ghost use Rattle.relation_elaboration.specs.Pulling.{Elaboration, IsKept, mode_of};
+
+    ghost Value = { Elaboration I O I.Key I.Name };
+
+    ghost view = { λ e. record {
+      reference = e.cx.ghost_name;
+      cx = e.cx.now;
+      stack = e.list.stack.items;
+      visited = e.list.visited.keys;
+      limit = e.list.limit;
+      name = e.list.name;
+      mode = mode_of e.only_self e.sized;
+      fault = e.fault;
+    } };
+
+    ghost invariant = { λ e. IsKept O.tree (I.meaning e.cx.now) e.list };
+}
+
+/// Predicates, and what follows from them: what the trait of a positive trait clause implies, for the clause's
+/// arguments; what its const bounds are, for a clause on const contexts; and of a type that outlives a region that no
+/// binder binds, that its components do. Of `Sized` nothing is said to follow. The interner has to know the predicates.
+///
+/// There may be up to `limit` different predicates. Answers `Limit` where the given ones are more, and `Memory` where a
+/// growth was refused; all keys keep their meanings. Upstream's function of this name, which takes any iterator and has
+/// no limit.
+pub fn elaborate<I: Interner, O: Elaboratable<I>>(
+    cx: &mut I,
+    obligations: Vec<O>,
+    limit: usize,
+) -> Result<Elaborator<'_, I, O>, ElabFault>
+    requires { All (λ o. IsTrue (known (O.tree (I.meaning cx.old) o))) obligations.items }
+    ensures grown { IfOk result (λ e. Extends (I.meaning cx.old) (I.meaning e.cx)) }
+    ensures same_reference { IfOk result (λ e. e.reference ≡ cx.entry.ghost_name) }
+    ensures begins { IfOk result (λ e. BeginsWith I.meaning O.tree (I.meaning cx.old) obligations.items limit e) }
+    ensures limit { result ≡ Err Limit → AreTooMany (map (O.tree (I.meaning cx.old)) obligations.items) limit }
+    ensures closure { IfOk result (λ e. ByClosure I.meaning O.tree (I.meaning cx.old) obligations.items e) }
+{
+    let mut list = Worklist {
+        stack: Vec::new(cx.alloc()),
+        visited: HashSet::new(cx.alloc()),
+        limit,
+        name: cx.dummy_name(),
+    };
+    push_all(cx, &mut list, obligations)?;
+    Ok(Elaborator {
+        cx,
+        list,
+        only_self: false,
+        sized: false,
+        fault: None,
+    })
+}
+
+// Pushes the predicates of a list.
+fn push_all<I: Interner, O: Elaboratable<I>>(
+    cx: &mut I,
+    list: &mut WorklistOf<I, O>,
+    obligations: Vec<O>,
+) -> Result<(), ElabFault>
+    requires known { All (λ o. IsTrue (known (O.tree (I.meaning cx.old) o))) obligations.items }
+    requires kept { IsKept O.tree (I.meaning cx.old) list.old }
+    ensures { let m = I.meaning cx.old in Pushed O.tree m (I.meaning cx.new)
+        (map (O.tree m) obligations.items) list.old list.new result }
+{
+    for obligation in obligations {
+        match push_new(cx, list, obligation) {
+            Ok(()) => {}
+            Err(fault) => return Err(fault),
+        }
+    }
+    Ok(())
+}
+
+impl<'a, I: Interner, O: Elaboratable<I>> Elaborator<'a, I, O> {
+    /// The next predicate, or `None` where nothing is left. `Memory` where a growth was refused and `Limit` where what
+    /// the next predicate implies does not fit, then and at each later pull; all keys keep their meanings.
+    pub fn pull(&mut self) -> Option<Result<O, ElabFault>>
+        ensures steps { Pulls I.meaning O.tree self.old result self.new }
+    {
+        if let Some(fault) = self.fault {
+            return Some(Err(fault));
+        }
+        let obligation = self.list.stack.pop()?;
+        let mode = (self.only_self, self.sized);
+        match push_children(&mut *self.cx, &mut self.list, mode, &obligation) {
+            Ok(()) => Some(Ok(obligation)),
+            Err(fault) => {
+                self.fault = Some(fault);
+                Some(Err(fault))
+            }
+        }
+    }
+
+    /// The interner.
+    pub fn cx(&self) -> &I
+        ensures { result.now ≡ (self.now).cx }
+    {
+        &*self.cx
+    }
+
+    /// The same, but of what a trait implies only its super-predicates. To be asked for before the first pull.
+    pub fn filter_only_self(self) -> Self
+        ensures { result ≡ record self.entry { mode = record (self.entry).mode { only_self = true } } }
+    {
+        let Elaborator {
+            cx,
+            list,
+            only_self: _,
+            sized,
+            fault,
+        } = self;
+        Elaborator {
+            cx,
+            list,
+            only_self: true,
+            sized,
+            fault,
+        }
+    }
+
+    /// The same, but what the trait `Sized` implies follows too. To be asked for before the first pull.
+    pub fn elaborate_sized(self) -> Self
+        ensures { result ≡ record self.entry { mode = record (self.entry).mode { sized = true } } }
+    {
+        let Elaborator {
+            cx,
+            list,
+            only_self,
+            sized: _,
+            fault,
+        } = self;
+        Elaborator {
+            cx,
+            list,
+            only_self,
+            sized: true,
+            fault,
+        }
+    }
+
+    /// The interner, for who began the elaboration.
+    pub fn into_cx(self) -> &'a mut I
+        ensures same_reference { result.ghost_name ≡ (self.entry).reference }
+        ensures value { result.now ≡ (self.entry).cx }
+    {
+        let Elaborator {
+            cx,
+            list,
+            only_self: _,
+            sized: _,
+            fault: _,
+        } = self;
+        drop(list);
+        cx
+    }
+}
+
+impl<'a, I: Interner, O: Elaboratable<I>> Iterator for Elaborator<'a, I, O> {
+    type Item = Result<O, ElabFault>;
+
+    ghost use Rattle.relation_elaboration.specs.Pulling.{Pulls};
+
+    ghost next_gives = { λ s r t. Pulls I.meaning O.tree s r t };
+
+    fn next(&mut self) -> Option<Result<O, ElabFault>> {
+        self.pull()
+    }
+
+    fn size_hint(&self) -> (usize, Option<usize>)
+        ensures lower { IsWithinCount result.0 endless }
+        ensures upper { IfSome result.1 (UpTo endless) }
+        ensures value { result ≡ (length (self.now).stack, None) }
+    {
+        (self.list.stack.len(), None)
+    }
+}

@@ -1,0 +1,18 @@
+use Rattle.std.proofs.Common.{◌≡◌, IsTrue, drop, length}
+use Rattle.relation_terms.specs.Trees.{known, list_tree}
+use Rattle.relation_terms.specs.Meaning.{Extends, arg_tree}
+use Rattle.relation_terms.specs.Edits.{put_before, error_trees}
+use Rattle.relation_terms.proofs.predicate.item_args.extend_with_error.Given as goal
+
+-- What was made and the errors that are still to come are all that is to be made.
+abbrev pub invariant-loop-i : goal.invariant-loop-i
+invariant-loop-i g l =
+    let m = g.I.Interner.meaning l.fn.cx in
+    let n = g.I.Interner.meaning l.cx in
+    let ks = (m.tables).params (m.id (l.fn.def_id).0) in
+    record {
+      grown : Extends m n;
+      sure : IsTrue (known (list_tree (arg_tree n) l.args.items));
+      made : put_before (list_tree (arg_tree n) l.args.items) (error_trees (drop l.i ks)) ≡
+          put_before (list_tree (arg_tree m) l.fn.given) (error_trees (drop (length l.fn.given) ks));
+    }

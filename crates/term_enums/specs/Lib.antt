@@ -1,0 +1,3 @@
+pub mod Variances
+pub mod Polarities
+pub mod Words

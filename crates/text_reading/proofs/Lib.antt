@@ -1,0 +1,5 @@
+pub mod BlankLemmas
+pub mod PlaceLemmas
+pub mod TreeLemmas
+pub mod WordLemmas
+pub mod WriteLemmas

@@ -1,0 +1,7 @@
+pub mod Places
+pub mod Errors
+pub mod Signs
+pub mod Names
+pub mod Words
+pub mod Trees
+pub mod Reads

@@ -1,0 +1,21 @@
+//! Names are looked up: a tree of names becomes items, terms and questions.
+
+mod aliases;
+mod binders;
+mod error;
+mod namer;
+mod objects;
+mod outlives;
+mod plain;
+mod program;
+mod questions;
+mod quick;
+mod statements;
+mod terms;
+mod walks;
+
+pub use error::{Missing, NameError, Wrong, write_name_error};
+pub use program::{
+    Declared, Item, ParamSort, Parts, Program, Put, Question, QuestionKind, Sort, Term, Variables,
+};
+pub use statements::{LAST_UNIVERSE, MOST_VARIABLES, look_up};

@@ -1,0 +1,253 @@
+//! What a text says: its items, its terms and its questions.
+ghost use Rattle.std.specs.Prelude.{◌≡◌};
+
+use crate::reading::{ItemSort, KeyParams, SideParams};
+use std::alloc::AllocError;
+use term_enums::{FloatTy, FnHeader, IntTy, Mutability, UintTy, Variance};
+
+/// What a term stands for.
+#[derive(Clone, Copy, PartialEq, Eq, Debug)]
+pub enum Sort {
+    Region,
+    Type,
+    Const,
+    /// A pattern, which stands in the types that it is of and nowhere else.
+    Pattern,
+    /// What a trait object implements, which stands in it and nowhere else.
+    Predicate,
+}
+
+/// What a parameter that an item declares is given.
+#[derive(Clone, Copy, PartialEq, Eq, Debug)]
+pub enum ParamSort {
+    Region,
+    Type,
+    Const,
+}
+
+/// A parameter that an item declares: what it is given, and how the item varies with it.
+#[derive(Clone, Copy, PartialEq, Eq)]
+pub struct Declared<'a> {
+    pub sort: ParamSort,
+    pub variance: Variance,
+    pub text: &'a str,
+}
+
+/// An item: what it is, its name, and the parameters that it declares.
+#[derive(Drop)]
+pub struct Item<'a> {
+    pub sort: ItemSort,
+    pub text: &'a str,
+    /// The trait that declares it, by its number, if a trait does.
+    pub of: Option<usize>,
+    /// A trait's own parameters stand without the type that implements it, and before those of what it declares.
+    pub declared: Vec<Declared<'a>>,
+}
+
+/// Where the numbers of a term's parts stand in the list of parts: from `first` on, those before `behind`.
+#[derive(Clone, Copy, PartialEq, Eq)]
+pub struct Parts {
+    pub first: usize,
+    pub behind: usize,
+}
+
+/// A term over the numbers of other terms, which stand before it. Names and items are numbers too.
+pub enum Term {
+    Bool,
+    Char,
+    Str,
+    Never,
+    Int(IntTy),
+    Uint(UintTy),
+    Float(FloatTy),
+    /// An item over its arguments.
+    Item(ItemSort, usize, Parts),
+    Slice(usize),
+    /// An array: its element's type and its length.
+    Array(usize, usize),
+    Tuple(Parts),
+    RawPtr(usize, Mutability),
+    /// A reference: its region, and the type that it leads to.
+    Ref(usize, usize, Mutability),
+    /// A type that is a parameter: its index and its name.
+    TyParam(u32, usize),
+    /// A type that stands for a bound one: its universe, its place in the binder's list, and its name.
+    TyPlaceholder(usize, usize, usize),
+    TyVar(usize),
+    IntVar(usize),
+    FloatVar(usize),
+    /// A type that could not be told.
+    TyError,
+    /// The values of a type that a pattern admits.
+    Pat(usize, usize),
+    Static,
+    /// A region that is a parameter: its index and its name.
+    RegionParam(u32, usize),
+    RegionVar(usize),
+    /// A region that stands for a bound one: its universe, its place in the binder's list, and its name.
+    RegionPlaceholder(usize, usize, usize),
+    /// A constant that is a parameter: its index and its name.
+    ConstParam(u32, usize),
+    /// A constant that stands for a bound one: its universe, its place in the binder's list, and its name.
+    ConstPlaceholder(usize, usize, usize),
+    ConstVar(usize),
+    /// A constant that could not be told.
+    ConstError,
+    /// A number: its type, its bits, and how many bytes they take.
+    Number(usize, u128, u8),
+    /// A value that is made of constants, and its type.
+    Branch(usize, Parts),
+    /// An expression: the number of its operation, and its arguments.
+    Expr(u32, Parts),
+    /// The pattern of the values between two constants.
+    Range(usize, usize),
+    /// The pattern of what one of some patterns admits.
+    Or(Parts),
+    /// The pattern of all but null.
+    NotNull,
+    /// A type that a binder binds: how many binders stand between, its place in the binder's list, and its name.
+    TyBound(u64, usize, usize),
+    /// A region that a binder binds.
+    RegionBound(u64, usize, usize),
+    /// A constant that a binder binds.
+    ConstBound(u64, usize, usize),
+    /// A function pointer: its header, what its binder binds, each as it stands right under the binder, and its inputs
+    /// and its output.
+    FnPtr(FnHeader, Parts, Parts),
+    /// A type under a binder: what the binder binds, and the type.
+    UnsafeBinder(Parts, usize),
+    /// A trait object: what it implements, and its region.
+    Object(Parts, usize),
+    /// That a trait is implemented, under a binder: what the binder binds, the item, and its arguments.
+    Implements(Parts, usize, Parts),
+    /// What a trait's type or constant is, under a binder: what the binder binds, the item, its arguments, and the
+    /// term.
+    Projects(Parts, usize, Parts, usize),
+    /// That an auto trait is implemented, under a binder: what the binder binds, and the item.
+    IsAuto(Parts, usize),
+}
+
+// A derived copy matches over all forms, and takes its check as many seconds.
+impl Clone for Term {
+    ghost is_clone = { λ source copy. copy ≡ source };
+
+    ghost is_infallible = { λ _. Unit {0} };
+
+    fn clone(&self) -> Result<Self, AllocError> {
+        Ok(*self)
+    }
+}
+
+impl Copy for Term {}
+
+/// One thing that is put for another.
+#[derive(Clone, Copy, PartialEq, Eq)]
+pub struct Put<T> {
+    pub from: T,
+    pub to: T,
+}
+
+/// What is asked about terms, by their numbers.
+#[derive(Clone, Copy)]
+pub enum QuestionKind {
+    /// Whether a type is related with another at a variance.
+    Relate {
+        lhs: usize,
+        variance: Variance,
+        rhs: usize,
+    },
+    /// Which terms a visitor of a term is asked about that skips some terms, and stops at others.
+    Visit {
+        term: usize,
+        skip: Parts,
+        stop: Parts,
+    },
+    /// What a walk of a term yields that skips what is under an argument after so many pulls, those of a range of the
+    /// program's list.
+    Walk {
+        term: usize,
+        skips: Parts,
+    },
+    /// What has to outlive a region for a type to outlive it.
+    Components(usize),
+    /// What follows from terms that are assumed to outlive regions, each the one at its place in its list.
+    Assumptions {
+        terms: Parts,
+        regions: Parts,
+    },
+    /// What comes of a term where others are put for its parts, those of a range of the program's list.
+    Fold {
+        term: usize,
+        puts: Parts,
+    },
+    /// Whether a variable stands in a term that a binder outside it binds.
+    Escapes(usize),
+    /// Whether a variable that is no region stands in a term.
+    Infers(usize),
+    /// Whether a type's outermost form stays what it is.
+    Rigid(usize),
+    /// Whether two types may unify, as far as a depth goes if one is given.
+    MayUnify {
+        params: SideParams,
+        lhs: usize,
+        rhs: usize,
+        depth: Option<usize>,
+    },
+    /// Whether two lists of arguments may unify.
+    ArgsMayUnify {
+        params: SideParams,
+        lhs: Parts,
+        rhs: Parts,
+    },
+    /// Whether two lists of arguments are related at invariance.
+    RelateArgs {
+        lhs: Parts,
+        rhs: Parts,
+    },
+    /// The key of a type.
+    Key {
+        params: KeyParams,
+        ty: usize,
+    },
+}
+
+/// A question, and how it is asked.
+#[derive(Clone, Copy)]
+pub struct Question {
+    pub kind: QuestionKind,
+    /// Whether it is asked in the context that the question before left.
+    pub then: bool,
+    /// How many times it is asked.
+    pub repeat: usize,
+    /// How many instantiations its context may make, if that was said.
+    pub budget: Option<usize>,
+    /// How many statements of the program say which variables its context has, beside those that it names.
+    pub variables: usize,
+}
+
+/// Variables that contexts have: up to so many of each kind, those in its universe that stand in none before.
+#[derive(Clone, Copy, PartialEq, Eq)]
+pub struct Variables {
+    pub universe: usize,
+    pub types: usize,
+    pub consts: usize,
+    pub regions: usize,
+}
+
+/// What a text says.
+#[derive(Drop)]
+pub struct Program<'a> {
+    pub items: Vec<Item<'a>>,
+    /// The names of parameters and of what stands for bound variables.
+    pub names: Vec<&'a str>,
+    pub terms: Vec<Term>,
+    /// The numbers of the terms' parts, and of the terms in a question's lists.
+    pub parts: Vec<usize>,
+    /// The numbers of the terms that are put for others.
+    pub puts: Vec<Put<usize>>,
+    /// After how many pulls walks skip.
+    pub skips: Vec<usize>,
+    /// The variables that contexts have, in the order of their universes.
+    pub variables: Vec<Variables>,
+    pub questions: Vec<Question>,
+}

@@ -1,0 +1,157 @@
+//! Questions of the tree's nodes.
+
+use crate::naming::error::{NameError, Wrong, error_at};
+use crate::naming::namer::Namer;
+use crate::naming::program::{Parts, Put, Question, QuestionKind, Sort};
+use crate::reading::{Form, Node, NodeKind};
+use term_enums::Variance;
+
+impl<'a> Namer<'a> {
+    // Adds a question.
+    pub(super) fn ask(&mut self, kind: QuestionKind) -> Result<(), NameError> {
+        let variables = self.program.variables.len();
+        self.program.questions.push(Question {
+            kind,
+            then: false,
+            repeat: 1,
+            budget: self.budget,
+            variables,
+        })?;
+        Ok(())
+    }
+
+    // Whether two types are related.
+    fn ask_related(
+        &mut self,
+        node: &Node,
+        variance: Variance,
+        lhs: usize,
+        rhs: usize,
+    ) -> Result<(), NameError> {
+        let lhs = self.term(node, lhs, Some(Sort::Type))?;
+        let rhs = self.term(node, rhs, Some(Sort::Type))?;
+        self.ask(QuestionKind::Relate {
+            lhs: lhs.number,
+            variance,
+            rhs: rhs.number,
+        })
+    }
+
+    // The terms of a node that lists some.
+    fn listed(&mut self, whole: &Node, number: usize) -> Result<Parts, NameError> {
+        let node = self.node(whole, number)?;
+        if !matches!(node.kind, NodeKind::Form(Form::Terms)) {
+            return Err(error_at(&node, Wrong::NotRead));
+        }
+        let numbers = self.parts(&node)?;
+        self.terms(&node, numbers)
+    }
+
+    // Which terms a visitor is asked about.
+    fn ask_visit(
+        &mut self,
+        node: &Node,
+        term: usize,
+        skip: usize,
+        stop: usize,
+    ) -> Result<(), NameError> {
+        let made = self.term(node, term, None)?;
+        let skip = self.listed(node, skip)?;
+        let stop = self.listed(node, stop)?;
+        let term = made.number;
+        self.ask(QuestionKind::Visit { term, skip, stop })
+    }
+
+    // A term and the one that is put for it, which is of its sort.
+    fn put(&mut self, whole: &Node, number: usize) -> Result<Put<usize>, NameError> {
+        let node = self.node(whole, number)?;
+        let [from, to] = self.parts(&node)? else {
+            return Err(error_at(&node, Wrong::NotRead));
+        };
+        let from = self.term(&node, *from, None)?;
+        let to = self.term(&node, *to, Some(from.sort))?;
+        Ok(Put {
+            from: from.number,
+            to: to.number,
+        })
+    }
+
+    // What comes of a term where others are put for its parts.
+    fn ask_fold(&mut self, node: &Node, parts: &[usize]) -> Result<(), NameError> {
+        let Some((term, rest)) = parts.split_first() else {
+            return Err(error_at(node, Wrong::NotRead));
+        };
+        let made = self.term(node, *term, None)?;
+        let first = self.program.puts.len();
+        for number in rest {
+            let put = self.put(node, *number)?;
+            self.program.puts.push(put)?;
+        }
+        let behind = self.program.puts.len();
+        self.ask(QuestionKind::Fold {
+            term: made.number,
+            puts: Parts { first, behind },
+        })
+    }
+
+    // What is asked about one term.
+    fn ask_about(&mut self, node: &Node, form: Form, term: usize) -> Result<(), NameError> {
+        let sort = match form {
+            Form::Components | Form::Rigid => Some(Sort::Type),
+            _ => None,
+        };
+        let term = self.term(node, term, sort)?.number;
+        let kind = match form {
+            Form::Components => QuestionKind::Components(term),
+            Form::Escapes => QuestionKind::Escapes(term),
+            Form::Infers => QuestionKind::Infers(term),
+            Form::Rigid => QuestionKind::Rigid(term),
+            _ => return Err(error_at(node, Wrong::NotRead)),
+        };
+        self.ask(kind)
+    }
+
+    // The last question is asked in the context that the one before left.
+    fn ask_then(&mut self, node: &Node) -> Result<(), NameError> {
+        let any = self.program.questions.len() > 1;
+        match self.program.questions.last_mut() {
+            Some(question) if any => {
+                question.then = true;
+                Ok(())
+            }
+            _ => Err(error_at(node, Wrong::NothingBefore)),
+        }
+    }
+
+    // The last question is asked that many times.
+    fn ask_again(&mut self, node: &Node, times: usize) -> Result<(), NameError> {
+        let repeat = self.count(node, times)?;
+        if repeat == 0 {
+            return Err(error_at(&self.node(node, times)?, Wrong::NoTime));
+        }
+        if let Some(question) = self.program.questions.last_mut() {
+            question.repeat = repeat;
+        }
+        Ok(())
+    }
+
+    // A question, or a part of one.
+    pub fn question(&mut self, node: &Node, form: Form, parts: &[usize]) -> Result<(), NameError> {
+        match (form, parts) {
+            (Form::Question(variance), [lhs, rhs]) => self.ask_related(node, variance, *lhs, *rhs),
+            (Form::Visit, [term, skip, stop]) => self.ask_visit(node, *term, *skip, *stop),
+            (Form::Walk, _) => self.ask_walk(node, parts),
+            (Form::Assumptions, _) => self.ask_assumptions(node, parts),
+            (Form::Fold, _) => self.ask_fold(node, parts),
+            (Form::Components | Form::Escapes | Form::Infers | Form::Rigid, [term]) => {
+                self.ask_about(node, form, *term)
+            }
+            (Form::MayUnify(_) | Form::ArgsMayUnify(_) | Form::ArgsEqual | Form::Key(_), _) =>
+                self.ask_quickly(node, form, parts),
+            (Form::Then, [_]) => self.ask_then(node),
+            (Form::Repeat, [times, _]) => self.ask_again(node, *times),
+            (Form::Terms | Form::Put | Form::Outlives | Form::Error, _) => Ok(()),
+            _ => Err(error_at(node, Wrong::NotRead)),
+        }
+    }
+}

@@ -1,0 +1,3 @@
+pub mod BuildingLemmas
+pub mod ListLemmas
+pub mod Parts

@@ -1,0 +1,4 @@
+pub mod Texts
+pub mod Printed
+pub mod Terms
+pub mod Built

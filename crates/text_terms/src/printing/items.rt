@@ -1,0 +1,131 @@
+//! How items print over their arguments.
+ghost use Rattle.std.specs.Prelude.{◌≡◌, IfSome, IsTrue};
+ghost use Rattle.relation_terms.specs.Trees.{known};
+ghost use Rattle.relation_terms.specs.Meaning.{alias_id};
+ghost use Rattle.text_terms.specs.Printed.{IsOver};
+
+use crate::printing::binders::Entered;
+use crate::printing::leaves::write_between;
+use crate::printing::names::{TextsOf, TraitText, item_text, trait_text};
+use crate::printing::terms::write_arg;
+use relation_terms::terms::{AliasTyKind, ArgsKey, GenericArgs, Interner, TyKind};
+use std::fmt::{self, Write};
+
+// The id of an alias.
+pub(super) fn alias_id<D: Copy>(kind: &AliasTyKind<D>) -> D
+    ensures { result ≡ alias_id kind.now }
+{
+    match kind {
+        AliasTyKind::Projection { def_id } => def_id.0,
+        AliasTyKind::Inherent { def_id } => def_id.0,
+        AliasTyKind::Opaque { def_id } => def_id.0,
+        AliasTyKind::Free { def_id } => def_id.0,
+    }
+}
+
+// The item that a type is, and its arguments, if it is one over arguments.
+pub(super) fn over_args<X: Copy, D: Copy, N>(kind: &TyKind<X, D, N>) -> Option<(D, ArgsKey<X>)>
+    ensures { IfSome result (λ p. IsOver kind.now p.1) }
+{
+    match kind {
+        TyKind::Adt(def, args) => Some((def.0, *args)),
+        TyKind::FnDef(def, args) => Some((def.0, *args)),
+        TyKind::Closure(def, args) => Some((def.0, *args)),
+        TyKind::CoroutineClosure(def, args) => Some((def.0, *args)),
+        TyKind::Coroutine(def, args) => Some((def.0, *args)),
+        TyKind::CoroutineWitness(def, args) => Some((def.0, *args)),
+        TyKind::Alias(alias) => Some((alias_id(&alias.kind), alias.args)),
+        _ => None,
+    }
+}
+
+// Writes an item over its arguments: an associated item of a trait by the trait, any other by its name.
+#[cycle(write_ty)]
+#[tactic(auto, using(crate::proofs::Parts::size_part, crate::proofs::Parts::known_part))]
+pub(super) fn write_item<I: Interner, W: Write>(
+    cx: &I,
+    texts: &TextsOf<I>,
+    around: &[Entered],
+    id: &I::Id,
+    args: &GenericArgs<I>,
+    out: &mut W,
+) -> fmt::Result
+    requires { IsTrue (known ((I.meaning cx.now).args args.now)) }
+{
+    let name = item_text(texts.items, id);
+    let count = cx.args(args).len();
+    match trait_text(texts.items, id) {
+        Some(of) if 0 < of.count && of.count <= count => {
+            write_associated(cx, texts, around, of, args, out)?;
+            write_named(cx, texts, around, name, args, of.count, count, out)
+        }
+        _ => write_named(cx, texts, around, name, args, 0, count, out),
+    }
+}
+
+// Writes what stands before the name of an associated item: the type that its trait is of, and the trait.
+#[cycle(write_ty)]
+#[tactic(auto, using(crate::proofs::Parts::size_part, crate::proofs::Parts::known_part))]
+fn write_associated<I: Interner, W: Write>(
+    cx: &I,
+    texts: &TextsOf<I>,
+    around: &[Entered],
+    of: TraitText,
+    args: &GenericArgs<I>,
+    out: &mut W,
+) -> fmt::Result
+    requires { IsTrue (known ((I.meaning cx.now).args args.now)) }
+{
+    out.write_str("<")?;
+    write_args(cx, texts, around, args, 0, 1, out)?;
+    out.write_str(" as ")?;
+    write_named(cx, texts, around, of.text, args, 1, of.count, out)?;
+    out.write_str(">::")
+}
+
+// Writes a name and, where there are any, the arguments from a place on, up to another.
+#[cycle(write_ty)]
+#[tactic(auto, using(crate::proofs::Parts::size_part, crate::proofs::Parts::known_part))]
+pub(super) fn write_named<I: Interner, W: Write>(
+    cx: &I,
+    texts: &TextsOf<I>,
+    around: &[Entered],
+    name: &str,
+    args: &GenericArgs<I>,
+    first: usize,
+    behind: usize,
+    out: &mut W,
+) -> fmt::Result
+    requires { IsTrue (known ((I.meaning cx.now).args args.now)) }
+{
+    out.write_str(name)?;
+    if behind <= first {
+        return Ok(());
+    }
+    out.write_str("<")?;
+    write_args(cx, texts, around, args, first, behind, out)?;
+    out.write_str(">")
+}
+
+// Writes the arguments from a place on, up to another, with commas between.
+#[cycle(write_ty)]
+#[tactic(auto, using(crate::proofs::Parts::size_part, crate::proofs::Parts::known_part))]
+pub(super) fn write_args<I: Interner, W: Write>(
+    cx: &I,
+    texts: &TextsOf<I>,
+    around: &[Entered],
+    args: &GenericArgs<I>,
+    first: usize,
+    behind: usize,
+    out: &mut W,
+) -> fmt::Result
+    requires { IsTrue (known ((I.meaning cx.now).args args.now)) }
+{
+    for (place, arg) in cx.args(args).iter().enumerate() {
+        if first <= place && place < behind {
+            write_between(place - first, ", ", out)?;
+            write_arg(cx, texts, around, arg, out)?;
+        }
+    }
+    Ok(())
+}
