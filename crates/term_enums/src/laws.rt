@@ -24,5 +24,5 @@ pub fn polarities()
 /// A bound satisfies itself, and what the one that it satisfies does.
 pub fn constness()
     ensures reflexive { (a : Constness) → IsTrue (satisfied a a) }
-    ensures transitive { (a b c : Constness) → IsTrue (satisfied a b) → IsTrue (satisfied b c) → IsTrue (satisfied a c) }
+    ensures chains { (a b c : Constness) → IsTrue (satisfied a b) → IsTrue (satisfied b c) → IsTrue (satisfied a c) }
 {}

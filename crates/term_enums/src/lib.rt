@@ -105,8 +105,8 @@ pub struct FnHeader {
     pub abi: ExternAbi,
 }
 
-/// What an impl says of its trait, in this order: that it is implemented, that it is not, or neither, so that the one or
-/// the other may be said later.
+/// What an impl says of its trait, in this order: that it is implemented, that it is not, or neither, so that the one
+/// or the other may be said later.
 #[derive(Clone, Copy, PartialEq, Eq, PartialOrd, Ord, Hash, Debug)]
 pub enum ImplPolarity {
     Positive,
@@ -177,8 +177,8 @@ pub enum BoundConstness {
 }
 
 impl BoundConstness {
-    /// Whether a bound of this constness is enough where one of `goal` is asked: it is, unless this one holds only where
-    /// its own context is const and `goal` asks for const contexts always.
+    /// Whether a bound of this constness is enough where one of `goal` is asked: it is, unless this one holds only
+    /// where its own context is const and `goal` asks for const contexts always.
     pub fn satisfies(&self, goal: &BoundConstness) -> bool
         ensures { result ≡ satisfied self.now goal.now }
     {
