@@ -66,6 +66,17 @@ module _ {I Key Id Name O : Type 0} (meaning : I → Meaning Key Id Name) (tree 
   abbrev pub named : Elaboration I O Key Name → ℕ
   named e = (meaning e.cx).name e.name
 
+  -- Between what an interner is before a call and after it: a predicate was to be pushed, or all that one implies was.
+  abbrev pub PushedOne : {T : Type 0} → I → I → O → Worklist Key O Name → Worklist Key O Name → Result T ElabFault →
+      Type 0
+  PushedOne before after o w v result =
+      Pushed tree (meaning before) (meaning after) (tree (meaning before) o ∷ []) w v result
+
+  abbrev pub PushedChildren : {T : Type 0} → I → I → Bool → Bool → O → Worklist Key O Name → Worklist Key O Name →
+      Result T ElabFault → Type 0
+  PushedChildren before after only_self sized o w v result = Pushed tree (meaning before) (meaning after)
+      (children (statements (meaning before)) (mode_of only_self sized) (tree (meaning before) o)) w v result
+
   -- The interner grew, and the rest of how it is set up stayed.
   pub record Keeps (s t : Elaboration I O Key Name) : Type 0 where
     pub reference : t.reference ≡ s.reference

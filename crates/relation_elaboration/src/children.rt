@@ -10,7 +10,7 @@ ghost use Rattle.relation_tools.specs.Assuming.{IsKnownComponent};
 ghost use Rattle.relation_elaboration.specs.Children.{children, effect_of, is_bound as region_is_bound};
 ghost use Rattle.relation_elaboration.specs.Statements.{statements, listed, is_left};
 ghost use Rattle.relation_elaboration.specs.Statements.{outlives_tree, component_implied, type_outlives_tree};
-ghost use Rattle.relation_elaboration.specs.Pulling.{mode_of, IsKept, Pushed};
+ghost use Rattle.relation_elaboration.specs.Pulling.{mode_of, IsKept, Pushed, PushedChildren};
 
 use crate::elaboratable::Elaboratable;
 use crate::faults::ElabFault;
@@ -307,8 +307,7 @@ pub fn push_children<I: Interner, O: Elaboratable<I>>(
 ) -> Result<(), ElabFault>
     requires known { IsTrue (known (O.tree (I.meaning cx.old) obligation.now)) }
     requires kept { IsKept O.tree (I.meaning cx.old) list.old }
-    ensures { let m = I.meaning cx.old in Pushed O.tree m (I.meaning cx.new)
-        (children (statements m) (mode_of mode.0 mode.1) (O.tree m obligation.now)) list.old list.new result }
+    ensures { PushedChildren I.meaning O.tree cx.old cx.new mode.0 mode.1 obligation.now list.old list.new result }
 {
     let predicate = obligation.predicate(cx);
     let Some(clause) = cx.predicate_as_clause(&predicate) else {

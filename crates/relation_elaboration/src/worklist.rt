@@ -1,7 +1,7 @@
 //! What is still to be yielded, and what was ever put there.
-ghost use Rattle.std.specs.Prelude.{◌≡◌, ◌∷◌, [], IsTrue};
+ghost use Rattle.std.specs.Prelude.{IsTrue};
 ghost use Rattle.relation_terms.specs.Trees.{known};
-ghost use Rattle.relation_elaboration.specs.Pulling.{IsKept, Pushed};
+ghost use Rattle.relation_elaboration.specs.Pulling.{IsKept, PushedOne};
 
 use crate::elaboratable::Elaboratable;
 use crate::faults::ElabFault;
@@ -35,8 +35,7 @@ pub fn push_new<I: Interner, O: Elaboratable<I>>(
 ) -> Result<(), ElabFault>
     requires known { IsTrue (known (O.tree (I.meaning cx.old) obligation)) }
     requires kept { IsKept O.tree (I.meaning cx.old) list.old }
-    ensures { Pushed O.tree (I.meaning cx.old) (I.meaning cx.new) (O.tree (I.meaning cx.old) obligation ∷ [])
-        list.old list.new result }
+    ensures { PushedOne I.meaning O.tree cx.old cx.new obligation list.old list.new result }
 {
     let predicate = obligation.predicate(cx);
     let key = anonymize_bound_vars(cx, &predicate, list.name)?;

@@ -1,5 +1,5 @@
 -- Which alias terms are of types and which of traits, and the terms that they are.
-use Rattle.std.specs.Prelude.{ℕ, Bool, true, false, ◌≡◌, IsTrue, IsSome, List, Option, option_map, unwrap_or, codes}
+use Rattle.std.specs.Prelude.{ℕ, Bool, true, false, ◌≡◌, IsTrue, IsSome, List, option_map, unwrap_or, codes}
 use Rattle.relation_terms.specs.Heads.{Head, AliasTermKind, type_alias, unevaluated_const, projection_const, free_const}
 use Rattle.relation_terms.specs.Heads.{inherent_const, projection_alias, inherent_alias, opaque_alias, free_alias}
 use Rattle.relation_terms.specs.Heads.{alias, unevaluated}

@@ -17,4 +17,5 @@ pub mod Regions
 pub mod Conversions
 pub mod Aliases
 pub mod Objects
+pub mod Edited
 pub mod Equality

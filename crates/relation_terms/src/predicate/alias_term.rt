@@ -1,9 +1,10 @@
 //! Aliases of types and of constants, and what predicates say of them.
 ghost use Rattle.std.specs.Prelude.{◌≡◌, IsTrue, IsSome, IfOk, OnErr, Some};
-ghost use Rattle.relation_terms.specs.Trees.{known, list_tree};
-ghost use Rattle.relation_terms.specs.Meaning.{Extends, arg_tree, term_tree};
+ghost use Rattle.relation_terms.specs.Trees.{known};
+ghost use Rattle.relation_terms.specs.Meaning.{Extends, term_tree};
 ghost use Rattle.relation_terms.specs.Predicates.{alias_term_kind, alias_term_id, alias_term_tree, item_alias};
 ghost use Rattle.relation_terms.specs.Aliases.{IsTypeKind, IsConstKind, as_term_kind, alias_as_term};
+ghost use Rattle.relation_terms.specs.Edited.{args_tree};
 
 use crate::terms::{
     AliasTy, ArgsKey, ConstKind, DefId, FreeConstAliasId, FreeTyAliasId, GenericArg, GenericArgs,
@@ -72,12 +73,11 @@ impl<X: Copy, D: Copy> AliasTerm<X, D> {
         kind: AliasTermKind<D>,
         args: &[GenericArg<I>],
     ) -> Result<AliasTerm<X, D>, OutOfMemory>
-        requires { IsTrue (known (list_tree (arg_tree (I.meaning cx.old)) args.now)) }
+        requires { IsTrue (known (args_tree (I.meaning cx.old) args.now)) }
         ensures grown { Extends (I.meaning cx.old) (I.meaning cx.new) }
         ensures sure { IfOk result (λ t. IsTrue (known (alias_term_tree (I.meaning cx.new) t))) }
         ensures item { IfOk result (λ t. t.kind ≡ kind) }
-        ensures arguments { IfOk result (λ t.
-            (I.meaning cx.new).args t.args ≡ list_tree (arg_tree (I.meaning cx.old)) args.now) }
+        ensures arguments { IfOk result (λ t. (I.meaning cx.new).args t.args ≡ args_tree (I.meaning cx.old) args.now) }
         ensures refused { OnErr result (I.meaning cx.new ≡ I.meaning cx.old) }
     {
         let list = cx.mk_args(args)?;

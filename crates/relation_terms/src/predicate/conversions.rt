@@ -3,7 +3,8 @@ ghost use Rattle.std.specs.Prelude.{◌≡◌, IsTrue, IfOk, OnErr};
 ghost use Rattle.relation_terms.specs.Trees.{known};
 ghost use Rattle.relation_terms.specs.Meaning.{Extends};
 ghost use Rattle.relation_terms.specs.Owned.{bound_tree};
-ghost use Rattle.relation_terms.specs.Conversions.{trait_clause_tree, trait_predicate_tree, projection_tree};
+ghost use Rattle.relation_terms.specs.Conversions.{trait_predicate_tree, projection_tree};
+ghost use Rattle.relation_terms.specs.Edited.{IsTraitClause};
 
 use crate::predicate::{ClauseKind, ProjectionPredicate, TraitPredicate, TraitRef};
 use crate::terms::{Binder, Clause, Interner, OutOfMemory, PredicatePolarity};
@@ -19,8 +20,7 @@ pub fn clause_of_trait_ref<I: Interner>(
     requires { IsTrue (known (bound_tree (I.meaning cx.old) trait_ref)) }
     ensures grown { Extends (I.meaning cx.old) (I.meaning cx.new) }
     ensures sure { IfOk result (λ k. IsTrue (known ((I.meaning cx.new).clause k))) }
-    ensures made { IfOk result (λ k. (I.meaning cx.new).clause k ≡
-        trait_clause_tree (I.meaning cx.old) PredicatePolarity.Positive trait_ref) }
+    ensures made { IfOk result (λ k. IsTraitClause I.meaning cx.old cx.new trait_ref k) }
     ensures refused { OnErr result (I.meaning cx.new ≡ I.meaning cx.old) }
 {
     let value = ClauseKind::Trait(TraitPredicate {
@@ -35,8 +35,8 @@ pub fn clause_of_trait_ref<I: Interner>(
 
 /// The clause that a trait predicate is, under its binder.
 ///
-/// The interner has to know the predicate. Answers `OutOfMemory` where a growth was refused, which leaves the meaning of
-/// all keys as it was.
+/// The interner has to know the predicate. Answers `OutOfMemory` where a growth was refused, which leaves the meaning
+/// of all keys as it was.
 pub fn clause_of_trait_predicate<I: Interner>(
     cx: &mut I,
     predicate: Binder<I::Key, TraitPredicate<I::Key, I::Id>>,
@@ -44,8 +44,7 @@ pub fn clause_of_trait_predicate<I: Interner>(
     requires { IsTrue (known (trait_predicate_tree (I.meaning cx.old) predicate)) }
     ensures grown { Extends (I.meaning cx.old) (I.meaning cx.new) }
     ensures sure { IfOk result (λ k. IsTrue (known ((I.meaning cx.new).clause k))) }
-    ensures made { IfOk result (λ k. (I.meaning cx.new).clause k ≡
-        trait_predicate_tree (I.meaning cx.old) predicate) }
+    ensures made { IfOk result (λ k. (I.meaning cx.new).clause k ≡ trait_predicate_tree (I.meaning cx.old) predicate) }
     ensures refused { OnErr result (I.meaning cx.new ≡ I.meaning cx.old) }
 {
     cx.mk_clause(Binder {

@@ -104,7 +104,8 @@ pub(super) fn args_behind<I: Interner>(
     requires { IsTrue (known ((I.meaning cx.old).args args.now)) }
     ensures grown { Extends (I.meaning cx.old) (I.meaning cx.new) }
     ensures sure { IfOk result (λ k. IsTrue (known ((I.meaning cx.new).args k))) }
-    ensures made { IfOk result (λ k. (I.meaning cx.new).args k ≡ behind_first count ((I.meaning cx.old).args args.now)) }
+    ensures made { IfOk result (λ k.
+        (I.meaning cx.new).args k ≡ behind_first count ((I.meaning cx.old).args args.now)) }
     ensures refused { OnErr result (I.meaning cx.new ≡ I.meaning cx.old) }
 {
     let none = Vec::new(cx.alloc());

@@ -1,9 +1,11 @@
 //! What a trait object implements.
 ghost use Rattle.std.specs.Prelude.{◌≡◌, IsTrue, IfOk, OnErr};
-ghost use Rattle.relation_terms.specs.Trees.{known, list_tree, cons};
-ghost use Rattle.relation_terms.specs.Meaning.{Extends, arg_tree, existential_tree};
+ghost use Rattle.relation_terms.specs.Trees.{known};
+ghost use Rattle.relation_terms.specs.Meaning.{Extends};
 ghost use Rattle.relation_terms.specs.Predicates.{trait_ref_tree};
-ghost use Rattle.relation_terms.specs.Edits.{behind_first, HasSelf};
+ghost use Rattle.relation_terms.specs.Edits.{HasSelf};
+ghost use Rattle.relation_terms.specs.Edited.{args_tree, KnowsExistentialTrait, BehindSelf};
+ghost use Rattle.relation_terms.specs.Edited.{TraitAfterSelf};
 
 use crate::predicate::TraitRef;
 use crate::predicate::edits::{args_after_self, args_behind};
@@ -66,13 +68,11 @@ impl<X: Copy, D: Copy> ExistentialTraitRef<X, D> {
         trait_def_id: TraitId<D>,
         args: &[GenericArg<I>],
     ) -> Result<ExistentialTraitRef<X, D>, OutOfMemory>
-        requires { IsTrue (known (list_tree (arg_tree (I.meaning cx.old)) args.now)) }
+        requires { IsTrue (known (args_tree (I.meaning cx.old) args.now)) }
         ensures grown { Extends (I.meaning cx.old) (I.meaning cx.new) }
-        ensures sure { IfOk result (λ t.
-            IsTrue (known (existential_tree (I.meaning cx.new) (ExistentialPredicate.Trait t)))) }
+        ensures sure { IfOk result (λ t. KnowsExistentialTrait (I.meaning cx.new) t) }
         ensures item { IfOk result (λ t. t.def_id ≡ trait_def_id) }
-        ensures arguments { IfOk result (λ t.
-            (I.meaning cx.new).args t.args ≡ list_tree (arg_tree (I.meaning cx.old)) args.now) }
+        ensures arguments { IfOk result (λ t. (I.meaning cx.new).args t.args ≡ args_tree (I.meaning cx.old) args.now) }
         ensures refused { OnErr result (I.meaning cx.new ≡ I.meaning cx.old) }
     {
         let list = cx.mk_args(args)?;
@@ -93,11 +93,9 @@ impl<X: Copy, D: Copy> ExistentialTraitRef<X, D> {
         requires trait_known { IsTrue (known (trait_ref_tree (I.meaning cx.old) trait_ref.now)) }
         requires has_self { HasSelf ((I.meaning cx.old).args (trait_ref.now).args) }
         ensures grown { Extends (I.meaning cx.old) (I.meaning cx.new) }
-        ensures sure { IfOk result (λ t.
-            IsTrue (known (existential_tree (I.meaning cx.new) (ExistentialPredicate.Trait t)))) }
+        ensures sure { IfOk result (λ t. KnowsExistentialTrait (I.meaning cx.new) t) }
         ensures item { IfOk result (λ t. t.def_id ≡ (trait_ref.now).def_id) }
-        ensures arguments { IfOk result (λ t.
-            (I.meaning cx.new).args t.args ≡ behind_first 1 ((I.meaning cx.old).args (trait_ref.now).args)) }
+        ensures arguments { IfOk result (λ t. BehindSelf I.meaning cx.old cx.new (trait_ref.now).args t.args) }
         ensures refused { OnErr result (I.meaning cx.new ≡ I.meaning cx.old) }
     {
         let args = args_behind(cx, &trait_ref.args, 1)?;
@@ -117,13 +115,11 @@ impl<X: Copy, D: Copy> ExistentialTraitRef<X, D> {
         self_ty: Ty<I>,
     ) -> Result<TraitRef<X, D>, OutOfMemory>
         requires self_known { IsTrue (known ((I.meaning cx.old).ty self_ty)) }
-        requires trait_known { IsTrue
-            (known (existential_tree (I.meaning cx.old) (ExistentialPredicate.Trait self.now))) }
+        requires trait_known { KnowsExistentialTrait (I.meaning cx.old) self.now }
         ensures grown { Extends (I.meaning cx.old) (I.meaning cx.new) }
         ensures sure { IfOk result (λ t. IsTrue (known (trait_ref_tree (I.meaning cx.new) t))) }
         ensures item { IfOk result (λ t. t.def_id ≡ (self.now).def_id) }
-        ensures arguments { IfOk result (λ t. (I.meaning cx.new).args t.args ≡
-            cons ((I.meaning cx.old).ty self_ty) ((I.meaning cx.old).args (self.now).args)) }
+        ensures arguments { IfOk result (λ t. TraitAfterSelf I.meaning cx.old cx.new self_ty self.now t) }
         ensures refused { OnErr result (I.meaning cx.new ≡ I.meaning cx.old) }
     {
         let args = args_after_self(cx, self_ty, &self.args)?;
@@ -152,14 +148,12 @@ impl<X: Copy, D: Copy> Binder<X, ExistentialTraitRef<X, D>> {
         self_ty: Ty<I>,
     ) -> Result<Binder<X, TraitRef<X, D>>, OutOfMemory>
         requires self_known { IsTrue (known ((I.meaning cx.old).ty self_ty)) }
-        requires trait_known { IsTrue
-            (known (existential_tree (I.meaning cx.old) (ExistentialPredicate.Trait (self.now).value))) }
+        requires trait_known { KnowsExistentialTrait (I.meaning cx.old) (self.now).value }
         ensures grown { Extends (I.meaning cx.old) (I.meaning cx.new) }
         ensures sure { IfOk result (λ b. IsTrue (known (trait_ref_tree (I.meaning cx.new) b.value))) }
         ensures binder { IfOk result (λ b. b.bound_vars ≡ (self.now).bound_vars) }
         ensures item { IfOk result (λ b. (b.value).def_id ≡ ((self.now).value).def_id) }
-        ensures arguments { IfOk result (λ b. (I.meaning cx.new).args (b.value).args ≡
-            cons ((I.meaning cx.old).ty self_ty) ((I.meaning cx.old).args ((self.now).value).args)) }
+        ensures arguments { IfOk result (λ b. TraitAfterSelf I.meaning cx.old cx.new self_ty (self.now).value b.value) }
         ensures refused { OnErr result (I.meaning cx.new ≡ I.meaning cx.old) }
     {
         let value = self.value.with_self_ty(cx, self_ty)?;

@@ -1,10 +1,13 @@
 //! What trait objects say of the items of their traits.
-ghost use Rattle.std.specs.Prelude.{◌≡◌, ◌-◌, IsTrue, IsSome, IfOk, OnErr, Some};
-ghost use Rattle.relation_terms.specs.Trees.{known, list_tree, cons};
-ghost use Rattle.relation_terms.specs.Meaning.{Extends, arg_tree, term_tree, existential_tree};
-ghost use Rattle.relation_terms.specs.Predicates.{alias_term_id, item_parent, item_alias, clause_kind_tree};
-ghost use Rattle.relation_terms.specs.Edits.{first_of, behind_first, HasSelf};
-ghost use Rattle.relation_terms.specs.Aliases.{parent_count};
+ghost use Rattle.std.specs.Prelude.{◌≡◌, IsTrue, IsSome, IfOk, OnErr};
+ghost use Rattle.relation_terms.specs.Trees.{known};
+ghost use Rattle.relation_terms.specs.Meaning.{Extends, term_tree};
+ghost use Rattle.relation_terms.specs.Predicates.{alias_term_id, item_parent, item_alias};
+ghost use Rattle.relation_terms.specs.Edits.{HasSelf};
+ghost use Rattle.relation_terms.specs.Edited.{args_tree, KnowsExistentialTrait};
+ghost use Rattle.relation_terms.specs.Edited.{KnowsExistentialProjection, KnowsProjection};
+ghost use Rattle.relation_terms.specs.Edited.{Declares, IsOfItem, AliasAfterSelf, AliasBehindSelf};
+ghost use Rattle.relation_terms.specs.Edited.{FirstWithoutSelf};
 
 use crate::predicate::edits::{args_after_self, args_behind, first_args};
 use crate::predicate::parent::{parent_count, parent_of};
@@ -43,14 +46,12 @@ impl<X: Copy, D: Copy> ExistentialProjection<X, D> {
         args: &[GenericArg<I>],
         term: Term<I>,
     ) -> Result<ExistentialProjection<X, D>, OutOfMemory>
-        requires arguments_known { IsTrue (known (list_tree (arg_tree (I.meaning cx.old)) args.now)) }
+        requires arguments_known { IsTrue (known (args_tree (I.meaning cx.old) args.now)) }
         requires term_known { IsTrue (known (term_tree (I.meaning cx.old) term)) }
         ensures grown { Extends (I.meaning cx.old) (I.meaning cx.new) }
-        ensures sure { IfOk result (λ p.
-            IsTrue (known (existential_tree (I.meaning cx.new) (ExistentialPredicate.Projection p)))) }
+        ensures sure { IfOk result (λ p. KnowsExistentialProjection (I.meaning cx.new) p) }
         ensures item { IfOk result (λ p. p.def_id ≡ def_id) }
-        ensures arguments { IfOk result (λ p.
-            (I.meaning cx.new).args p.args ≡ list_tree (arg_tree (I.meaning cx.old)) args.now) }
+        ensures arguments { IfOk result (λ p. (I.meaning cx.new).args p.args ≡ args_tree (I.meaning cx.old) args.now) }
         ensures comes_to { IfOk result (λ p. p.term ≡ term) }
         ensures refused { OnErr result (I.meaning cx.new ≡ I.meaning cx.old) }
     {
@@ -71,16 +72,12 @@ impl<X: Copy, D: Copy> ExistentialProjection<X, D> {
         &self,
         cx: &mut I,
     ) -> Result<ExistentialTraitRef<X, D>, OutOfMemory>
-        requires projection_known { IsTrue
-            (known (existential_tree (I.meaning cx.old) (ExistentialPredicate.Projection self.now))) }
+        requires projection_known { KnowsExistentialProjection (I.meaning cx.old) self.now }
         requires declared { IsSome (item_parent (I.meaning cx.old) ((self.now).def_id).0) }
         ensures grown { Extends (I.meaning cx.old) (I.meaning cx.new) }
-        ensures sure { IfOk result (λ t.
-            IsTrue (known (existential_tree (I.meaning cx.new) (ExistentialPredicate.Trait t)))) }
-        ensures item { IfOk result (λ t.
-            Some ((I.meaning cx.old).id (t.def_id).0) ≡ item_parent (I.meaning cx.old) ((self.now).def_id).0) }
-        ensures arguments { let m = I.meaning cx.old in IfOk result (λ t. (I.meaning cx.new).args t.args ≡
-            first_of (parent_count m ((self.now).def_id).0 - 1) (m.args (self.now).args)) }
+        ensures sure { IfOk result (λ t. KnowsExistentialTrait (I.meaning cx.new) t) }
+        ensures item { IfOk result (λ t. Declares (I.meaning cx.old) t.def_id ((self.now).def_id).0) }
+        ensures arguments { IfOk result (λ t. FirstWithoutSelf I.meaning cx.old cx.new self.now t.args) }
         ensures refused { OnErr result (I.meaning cx.new ≡ I.meaning cx.old) }
     {
         let trait_id = parent_of(cx, &self.def_id);
@@ -103,16 +100,12 @@ impl<X: Copy, D: Copy> ExistentialProjection<X, D> {
         self_ty: Ty<I>,
     ) -> Result<ProjectionPredicate<X, D>, OutOfMemory>
         requires self_known { IsTrue (known ((I.meaning cx.old).ty self_ty)) }
-        requires projection_known { IsTrue
-            (known (existential_tree (I.meaning cx.old) (ExistentialPredicate.Projection self.now))) }
+        requires projection_known { KnowsExistentialProjection (I.meaning cx.old) self.now }
         requires is_alias { IsSome (item_alias (I.meaning cx.old) ((self.now).def_id).0) }
         ensures grown { Extends (I.meaning cx.old) (I.meaning cx.new) }
-        ensures sure { IfOk result (λ p.
-            IsTrue (known (clause_kind_tree (I.meaning cx.new) (ClauseKind.Projection p)))) }
-        ensures item { IfOk result (λ p.
-            Some (p.projection_term).kind ≡ item_alias (I.meaning cx.old) ((self.now).def_id).0) }
-        ensures arguments { IfOk result (λ p. (I.meaning cx.new).args (p.projection_term).args ≡
-            cons ((I.meaning cx.old).ty self_ty) ((I.meaning cx.old).args (self.now).args)) }
+        ensures sure { IfOk result (λ p. KnowsProjection (I.meaning cx.new) p) }
+        ensures item { IfOk result (λ p. IsOfItem (I.meaning cx.old) self.now p) }
+        ensures arguments { IfOk result (λ p. AliasAfterSelf I.meaning cx.old cx.new self_ty self.now p) }
         ensures comes_to { IfOk result (λ p. p.term ≡ (self.now).term) }
         ensures refused { OnErr result (I.meaning cx.new ≡ I.meaning cx.old) }
     {
@@ -132,15 +125,12 @@ impl<X: Copy, D: Copy> ExistentialProjection<X, D> {
         cx: &mut I,
         predicate: &ProjectionPredicate<X, D>,
     ) -> Result<ExistentialProjection<X, D>, OutOfMemory>
-        requires predicate_known { IsTrue
-            (known (clause_kind_tree (I.meaning cx.old) (ClauseKind.Projection predicate.now))) }
+        requires predicate_known { KnowsProjection (I.meaning cx.old) predicate.now }
         requires has_self { HasSelf ((I.meaning cx.old).args ((predicate.now).projection_term).args) }
         ensures grown { Extends (I.meaning cx.old) (I.meaning cx.new) }
-        ensures sure { IfOk result (λ p.
-            IsTrue (known (existential_tree (I.meaning cx.new) (ExistentialPredicate.Projection p)))) }
+        ensures sure { IfOk result (λ p. KnowsExistentialProjection (I.meaning cx.new) p) }
         ensures item { IfOk result (λ p. (p.def_id).0 ≡ alias_term_id ((predicate.now).projection_term).kind) }
-        ensures arguments { IfOk result (λ p. (I.meaning cx.new).args p.args ≡
-            behind_first 1 ((I.meaning cx.old).args ((predicate.now).projection_term).args)) }
+        ensures arguments { IfOk result (λ p. AliasBehindSelf I.meaning cx.old cx.new predicate.now p) }
         ensures comes_to { IfOk result (λ p. p.term ≡ (predicate.now).term) }
         ensures refused { OnErr result (I.meaning cx.new ≡ I.meaning cx.old) }
     {
@@ -166,17 +156,13 @@ impl<X: Copy, D: Copy> Binder<X, ExistentialProjection<X, D>> {
         self_ty: Ty<I>,
     ) -> Result<Binder<X, ProjectionPredicate<X, D>>, OutOfMemory>
         requires self_known { IsTrue (known ((I.meaning cx.old).ty self_ty)) }
-        requires projection_known { IsTrue
-            (known (existential_tree (I.meaning cx.old) (ExistentialPredicate.Projection (self.now).value))) }
+        requires projection_known { KnowsExistentialProjection (I.meaning cx.old) (self.now).value }
         requires is_alias { IsSome (item_alias (I.meaning cx.old) (((self.now).value).def_id).0) }
         ensures grown { Extends (I.meaning cx.old) (I.meaning cx.new) }
-        ensures sure { IfOk result (λ b.
-            IsTrue (known (clause_kind_tree (I.meaning cx.new) (ClauseKind.Projection b.value)))) }
+        ensures sure { IfOk result (λ b. KnowsProjection (I.meaning cx.new) b.value) }
         ensures binder { IfOk result (λ b. b.bound_vars ≡ (self.now).bound_vars) }
-        ensures item { IfOk result (λ b.
-            Some ((b.value).projection_term).kind ≡ item_alias (I.meaning cx.old) (((self.now).value).def_id).0) }
-        ensures arguments { IfOk result (λ b. (I.meaning cx.new).args ((b.value).projection_term).args ≡
-            cons ((I.meaning cx.old).ty self_ty) ((I.meaning cx.old).args ((self.now).value).args)) }
+        ensures item { IfOk result (λ b. IsOfItem (I.meaning cx.old) (self.now).value b.value) }
+        ensures arguments { IfOk result (λ b. AliasAfterSelf I.meaning cx.old cx.new self_ty (self.now).value b.value) }
         ensures comes_to { IfOk result (λ b. (b.value).term ≡ ((self.now).value).term) }
         ensures refused { OnErr result (I.meaning cx.new ≡ I.meaning cx.old) }
     {

@@ -1,9 +1,10 @@
 //! The arguments of an item that are its own generic parameters, and errors in their places.
-ghost use Rattle.std.specs.Prelude.{◌≡◌, IsTrue, IfOk, length, drop};
-ghost use Rattle.relation_terms.specs.Trees.{known, list_tree};
+ghost use Rattle.std.specs.Prelude.{◌≡◌, IsTrue, IfOk};
+ghost use Rattle.relation_terms.specs.Trees.{known};
 ghost use Rattle.relation_terms.specs.Meaning.{Extends, arg_tree};
 ghost use Rattle.relation_terms.specs.Owned.{param_of};
-ghost use Rattle.relation_terms.specs.Edits.{put_before, param_tree, error_tree, param_trees, error_trees};
+ghost use Rattle.relation_terms.specs.Edits.{param_tree, error_tree};
+ghost use Rattle.relation_terms.specs.Edited.{args_tree, IdentityArgs, ExtendedArgs};
 
 use crate::terms::{
     ConstKind, EarlyParamRegion, ErrorGuaranteed, GenericArg, GenericArgKind, GenericArgs,
@@ -80,8 +81,7 @@ pub fn identity_args<I: Interner>(
 ) -> Result<GenericArgs<I>, OutOfMemory>
     ensures grown { Extends (I.meaning cx.old) (I.meaning cx.new) }
     ensures sure { IfOk result (λ k. IsTrue (known ((I.meaning cx.new).args k))) }
-    ensures arguments { let m = I.meaning cx.old in
-        IfOk result (λ k. (I.meaning cx.new).args k ≡ param_trees ((m.tables).params (m.id (def_id.now).0))) }
+    ensures arguments { IfOk result (λ k. IdentityArgs I.meaning cx.old cx.new (def_id.now).0 k) }
 {
     let count = cx.generics_of(def_id).len();
     let mut args = Vec::new(cx.alloc());
@@ -104,12 +104,10 @@ pub fn extend_with_error<I: Interner>(
     def_id: &ItemOf<I>,
     given: &[GenericArg<I>],
 ) -> Result<GenericArgs<I>, OutOfMemory>
-    requires { IsTrue (known (list_tree (arg_tree (I.meaning cx.old)) given.now)) }
+    requires { IsTrue (known (args_tree (I.meaning cx.old) given.now)) }
     ensures grown { Extends (I.meaning cx.old) (I.meaning cx.new) }
     ensures sure { IfOk result (λ k. IsTrue (known ((I.meaning cx.new).args k))) }
-    ensures arguments { let m = I.meaning cx.old in
-        IfOk result (λ k. (I.meaning cx.new).args k ≡ put_before (list_tree (arg_tree m) given.now)
-        (error_trees (drop (length given.now) ((m.tables).params (m.id (def_id.now).0))))) }
+    ensures arguments { IfOk result (λ k. ExtendedArgs I.meaning cx.old cx.new (def_id.now).0 given.now k) }
 {
     let count = cx.generics_of(def_id).len();
     let mut args = Vec::new(cx.alloc());

@@ -1,9 +1,10 @@
 //! What the predicates of trait objects say of a type.
-ghost use Rattle.std.specs.Prelude.{◌≡◌, IsTrue, IfOk, OnErr};
+ghost use Rattle.std.specs.Prelude.{◌≡◌, IsTrue, IfOk};
 ghost use Rattle.relation_terms.specs.Trees.{known};
 ghost use Rattle.relation_terms.specs.Meaning.{Extends, existential_tree, object_predicate_tree};
 ghost use Rattle.relation_terms.specs.Predicates.{clause_kind_tree};
-ghost use Rattle.relation_terms.specs.Objects.{existential_id, ProjectsAlias, auto_args, self_form, self_clause};
+ghost use Rattle.relation_terms.specs.Objects.{existential_id, ProjectsAlias, auto_args, self_form};
+ghost use Rattle.relation_terms.specs.Edited.{IsSelfClause};
 
 use crate::predicate::item_args::extend_with_error;
 use crate::predicate::{ClauseKind, ExistentialPredicate, TraitPredicate, TraitRef};
@@ -107,8 +108,7 @@ impl<X: Copy, D: Copy> Binder<X, ExistentialPredicate<X, D>> {
         requires is_alias { ProjectsAlias (I.meaning cx.old) (self.now).value }
         ensures grown { Extends (I.meaning cx.old) (I.meaning cx.new) }
         ensures sure { IfOk result (λ k. IsTrue (known ((I.meaning cx.new).clause k))) }
-        ensures means { let m = I.meaning cx.old in
-            IfOk result (λ k. (I.meaning cx.new).clause k ≡ self_clause m self.now (m.ty self_ty)) }
+        ensures means { IfOk result (λ k. IsSelfClause I.meaning cx.old cx.new self.now self_ty k) }
     {
         let value = self_form(cx, &self.value, self_ty)?;
         cx.mk_clause(Binder {

@@ -1,11 +1,12 @@
 //! Predicates that say what an alias comes to.
-ghost use Rattle.std.specs.Prelude.{◌≡◌, IsTrue, IfOk, OnErr, Some};
-ghost use Rattle.relation_terms.specs.Trees.{known, nth};
+ghost use Rattle.std.specs.Prelude.{◌≡◌, IsTrue, IfOk, OnErr};
+ghost use Rattle.relation_terms.specs.Trees.{known};
 ghost use Rattle.relation_terms.specs.Meaning.{Extends};
-ghost use Rattle.relation_terms.specs.Predicates.{alias_term_kind, alias_term_id, alias_term_tree, item_parent};
-ghost use Rattle.relation_terms.specs.Predicates.{clause_kind_tree, predicate_kind_tree};
-ghost use Rattle.relation_terms.specs.Edits.{with_first, HasSelf};
+ghost use Rattle.relation_terms.specs.Predicates.{alias_term_kind, alias_term_id, alias_term_tree};
+ghost use Rattle.relation_terms.specs.Edits.{HasSelf};
 ghost use Rattle.relation_terms.specs.Aliases.{IsProjection, IsProjectionKind};
+ghost use Rattle.relation_terms.specs.Edited.{KnowsProjection, KnowsNormalizesTo, IsSelf, Declares};
+ghost use Rattle.relation_terms.specs.Edited.{ProjectionOtherSelf, NormalizesOtherSelf};
 
 use crate::predicate::{ClauseKind, NormalizesTo, PredicateKind, ProjectionPredicate};
 use crate::terms::{Binder, DefId, Interner, OutOfMemory, TermKind, TraitAssocTermId, TraitId, Ty};
@@ -17,8 +18,7 @@ impl<X: Copy, D: Copy> ProjectionPredicate<X, D> {
         requires alias_known { IsTrue (known (alias_term_tree (I.meaning cx.now) (self.now).projection_term)) }
         requires has_self { HasSelf ((I.meaning cx.now).args ((self.now).projection_term).args) }
         ensures sure { IsTrue (known ((I.meaning cx.now).ty result)) }
-        ensures means { (I.meaning cx.now).ty result ≡
-            nth 0 ((I.meaning cx.now).args ((self.now).projection_term).args) }
+        ensures means { IsSelf (I.meaning cx.now) result ((self.now).projection_term).args }
     {
         self.projection_term.self_ty(cx)
     }
@@ -33,15 +33,12 @@ impl<X: Copy, D: Copy> ProjectionPredicate<X, D> {
         self_ty: Ty<I>,
     ) -> Result<ProjectionPredicate<X, D>, OutOfMemory>
         requires self_known { IsTrue (known ((I.meaning cx.old).ty self_ty)) }
-        requires predicate_known { IsTrue
-            (known (clause_kind_tree (I.meaning cx.old) (ClauseKind.Projection self.now))) }
+        requires predicate_known { KnowsProjection (I.meaning cx.old) self.now }
         requires has_self { HasSelf ((I.meaning cx.old).args ((self.now).projection_term).args) }
         ensures grown { Extends (I.meaning cx.old) (I.meaning cx.new) }
-        ensures sure { IfOk result (λ p.
-            IsTrue (known (clause_kind_tree (I.meaning cx.new) (ClauseKind.Projection p)))) }
+        ensures sure { IfOk result (λ p. KnowsProjection (I.meaning cx.new) p) }
         ensures item { IfOk result (λ p. (p.projection_term).kind ≡ ((self.now).projection_term).kind) }
-        ensures arguments { IfOk result (λ p. (I.meaning cx.new).args (p.projection_term).args ≡
-            with_first ((I.meaning cx.old).ty self_ty) ((I.meaning cx.old).args ((self.now).projection_term).args)) }
+        ensures arguments { IfOk result (λ p. ProjectionOtherSelf I.meaning cx.old cx.new self_ty self.now p) }
         ensures comes_to { IfOk result (λ p. p.term ≡ (self.now).term) }
         ensures refused { OnErr result (I.meaning cx.new ≡ I.meaning cx.old) }
     {
@@ -55,8 +52,7 @@ impl<X: Copy, D: Copy> ProjectionPredicate<X, D> {
     /// The trait that declares the item. The alias has to be a projection, of an item that a trait declares.
     pub fn trait_def_id<I: Interner<Key = X, Id = D>>(&self, cx: &I) -> TraitId<D>
         requires { IsProjection (I.meaning cx.now) (self.now).projection_term }
-        ensures { Some ((I.meaning cx.now).id result.0) ≡
-            item_parent (I.meaning cx.now) (alias_term_id ((self.now).projection_term).kind) }
+        ensures { Declares (I.meaning cx.now) result (alias_term_id ((self.now).projection_term).kind) }
     {
         self.projection_term.trait_def_id(cx)
     }
@@ -74,8 +70,7 @@ impl<X: Copy, D: Copy> Binder<X, ProjectionPredicate<X, D>> {
     /// The trait that declares the item. The alias has to be a projection, of an item that a trait declares.
     pub fn trait_def_id<I: Interner<Key = X, Id = D>>(&self, cx: &I) -> TraitId<D>
         requires { IsProjection (I.meaning cx.now) ((self.now).value).projection_term }
-        ensures { Some ((I.meaning cx.now).id result.0) ≡
-            item_parent (I.meaning cx.now) (alias_term_id (((self.now).value).projection_term).kind) }
+        ensures { Declares (I.meaning cx.now) result (alias_term_id (((self.now).value).projection_term).kind) }
     {
         self.value.trait_def_id(cx)
     }
@@ -106,7 +101,7 @@ impl<X: Copy, D: Copy> NormalizesTo<X, D> {
         requires alias_known { IsTrue (known (alias_term_tree (I.meaning cx.now) (self.now).alias)) }
         requires has_self { HasSelf ((I.meaning cx.now).args ((self.now).alias).args) }
         ensures sure { IsTrue (known ((I.meaning cx.now).ty result)) }
-        ensures means { (I.meaning cx.now).ty result ≡ nth 0 ((I.meaning cx.now).args ((self.now).alias).args) }
+        ensures means { IsSelf (I.meaning cx.now) result ((self.now).alias).args }
     {
         self.alias.self_ty(cx)
     }
@@ -121,15 +116,12 @@ impl<X: Copy, D: Copy> NormalizesTo<X, D> {
         self_ty: Ty<I>,
     ) -> Result<NormalizesTo<X, D>, OutOfMemory>
         requires self_known { IsTrue (known ((I.meaning cx.old).ty self_ty)) }
-        requires predicate_known { IsTrue (known
-            (predicate_kind_tree (I.meaning cx.old) (PredicateKind.NormalizesTo self.now))) }
+        requires predicate_known { KnowsNormalizesTo (I.meaning cx.old) self.now }
         requires has_self { HasSelf ((I.meaning cx.old).args ((self.now).alias).args) }
         ensures grown { Extends (I.meaning cx.old) (I.meaning cx.new) }
-        ensures sure { IfOk result (λ p.
-            IsTrue (known (predicate_kind_tree (I.meaning cx.new) (PredicateKind.NormalizesTo p)))) }
+        ensures sure { IfOk result (λ p. KnowsNormalizesTo (I.meaning cx.new) p) }
         ensures item { IfOk result (λ p. (p.alias).kind ≡ ((self.now).alias).kind) }
-        ensures arguments { IfOk result (λ p. (I.meaning cx.new).args (p.alias).args ≡
-            with_first ((I.meaning cx.old).ty self_ty) ((I.meaning cx.old).args ((self.now).alias).args)) }
+        ensures arguments { IfOk result (λ p. NormalizesOtherSelf I.meaning cx.old cx.new self_ty self.now p) }
         ensures comes_to { IfOk result (λ p. p.term ≡ (self.now).term) }
         ensures refused { OnErr result (I.meaning cx.new ≡ I.meaning cx.old) }
     {
@@ -143,8 +135,7 @@ impl<X: Copy, D: Copy> NormalizesTo<X, D> {
     /// The trait that declares the item. The alias has to be a projection, of an item that a trait declares.
     pub fn trait_def_id<I: Interner<Key = X, Id = D>>(&self, cx: &I) -> TraitId<D>
         requires { IsProjection (I.meaning cx.now) (self.now).alias }
-        ensures { Some ((I.meaning cx.now).id result.0) ≡
-            item_parent (I.meaning cx.now) (alias_term_id ((self.now).alias).kind) }
+        ensures { Declares (I.meaning cx.now) result (alias_term_id ((self.now).alias).kind) }
     {
         self.alias.trait_def_id(cx)
     }

@@ -1,11 +1,13 @@
 //! What is read of the aliases of associated items, and other arguments for them.
-ghost use Rattle.std.specs.Prelude.{◌≡◌, IsTrue, IfOk, OnErr, Some};
-ghost use Rattle.relation_terms.specs.Trees.{known, list_tree, nth};
-ghost use Rattle.relation_terms.specs.Meaning.{Extends, arg_tree};
-ghost use Rattle.relation_terms.specs.Predicates.{alias_term_kind, alias_term_id, alias_term_tree, item_parent};
+ghost use Rattle.std.specs.Prelude.{◌≡◌, IsTrue, IfOk, OnErr};
+ghost use Rattle.relation_terms.specs.Trees.{known};
+ghost use Rattle.relation_terms.specs.Meaning.{Extends};
+ghost use Rattle.relation_terms.specs.Predicates.{alias_term_kind, alias_term_id, alias_term_tree};
 ghost use Rattle.relation_terms.specs.Predicates.{trait_ref_tree};
-ghost use Rattle.relation_terms.specs.Edits.{first_of, behind_first, put_before, with_first, HasSelf};
-ghost use Rattle.relation_terms.specs.Aliases.{IsProjection, IsInherentKind, parent_count};
+ghost use Rattle.relation_terms.specs.Edits.{HasSelf};
+ghost use Rattle.relation_terms.specs.Aliases.{IsProjection, IsInherentKind};
+ghost use Rattle.relation_terms.specs.Edited.{args_tree, own_args, IsSelf, Declares, OtherSelf};
+ghost use Rattle.relation_terms.specs.Edited.{FirstOfParent, RebasedArgs};
 
 use crate::predicate::edits::{args_behind, args_with_self, first_args, join_args, self_of};
 use crate::predicate::parent::{parent_count, parent_of};
@@ -18,7 +20,7 @@ impl<X: Copy, D: Copy> AliasTerm<X, D> {
         requires alias_known { IsTrue (known (alias_term_tree (I.meaning cx.now) self.now)) }
         requires has_self { HasSelf ((I.meaning cx.now).args (self.now).args) }
         ensures sure { IsTrue (known ((I.meaning cx.now).ty result)) }
-        ensures means { (I.meaning cx.now).ty result ≡ nth 0 ((I.meaning cx.now).args (self.now).args) }
+        ensures means { IsSelf (I.meaning cx.now) result (self.now).args }
     {
         self_of(cx, &self.args)
     }
@@ -37,8 +39,7 @@ impl<X: Copy, D: Copy> AliasTerm<X, D> {
         ensures grown { Extends (I.meaning cx.old) (I.meaning cx.new) }
         ensures sure { IfOk result (λ t. IsTrue (known (alias_term_tree (I.meaning cx.new) t))) }
         ensures item { IfOk result (λ t. t.kind ≡ (self.now).kind) }
-        ensures arguments { IfOk result (λ t. (I.meaning cx.new).args t.args ≡
-            with_first ((I.meaning cx.old).ty self_ty) ((I.meaning cx.old).args (self.now).args)) }
+        ensures arguments { IfOk result (λ t. OtherSelf I.meaning cx.old cx.new self_ty (self.now).args t.args) }
         ensures refused { OnErr result (I.meaning cx.new ≡ I.meaning cx.old) }
     {
         let args = args_with_self(cx, &self.args, self_ty)?;
@@ -51,8 +52,7 @@ impl<X: Copy, D: Copy> AliasTerm<X, D> {
     /// The trait that declares the item. The alias has to be a projection, of an item that a trait declares.
     pub fn trait_def_id<I: Interner<Key = X, Id = D>>(&self, cx: &I) -> TraitId<D>
         requires { IsProjection (I.meaning cx.now) self.now }
-        ensures { Some ((I.meaning cx.now).id result.0) ≡
-            item_parent (I.meaning cx.now) (alias_term_id (self.now).kind) }
+        ensures { Declares (I.meaning cx.now) result (alias_term_id (self.now).kind) }
     {
         parent_of(cx, &self.kind.expect_projection())
     }
@@ -71,12 +71,9 @@ impl<X: Copy, D: Copy> AliasTerm<X, D> {
         ensures grown { Extends (I.meaning cx.old) (I.meaning cx.new) }
         ensures sure { IfOk result (λ p. IsTrue (known (trait_ref_tree (I.meaning cx.new) p.0))) }
         ensures sure_own { IfOk result (λ p. IsTrue (known ((I.meaning cx.new).args p.1))) }
-        ensures item { IfOk result (λ p. Some ((I.meaning cx.old).id ((p.0).def_id).0) ≡
-            item_parent (I.meaning cx.old) (alias_term_id (self.now).kind)) }
-        ensures arguments { let m = I.meaning cx.old in IfOk result (λ p. (I.meaning cx.new).args (p.0).args ≡
-            first_of (parent_count m (alias_term_id (self.now).kind)) (m.args (self.now).args)) }
-        ensures own { let m = I.meaning cx.old in IfOk result (λ p. (I.meaning cx.new).args p.1 ≡
-            behind_first (parent_count m (alias_term_id (self.now).kind)) (m.args (self.now).args)) }
+        ensures item { IfOk result (λ p. Declares (I.meaning cx.old) (p.0).def_id (alias_term_id (self.now).kind)) }
+        ensures arguments { IfOk result (λ p. FirstOfParent I.meaning cx.old cx.new self.now (p.0).args) }
+        ensures own { IfOk result (λ p. (I.meaning cx.new).args p.1 ≡ own_args (I.meaning cx.old) self.now) }
     {
         let def_id = self.kind.expect_projection();
         let count = parent_count(cx, &def_id);
@@ -97,10 +94,8 @@ impl<X: Copy, D: Copy> AliasTerm<X, D> {
         requires projection { IsProjection (I.meaning cx.old) self.now }
         ensures grown { Extends (I.meaning cx.old) (I.meaning cx.new) }
         ensures sure { IfOk result (λ t. IsTrue (known (trait_ref_tree (I.meaning cx.new) t))) }
-        ensures item { IfOk result (λ t. Some ((I.meaning cx.old).id (t.def_id).0) ≡
-            item_parent (I.meaning cx.old) (alias_term_id (self.now).kind)) }
-        ensures arguments { let m = I.meaning cx.old in IfOk result (λ t. (I.meaning cx.new).args t.args ≡
-            first_of (parent_count m (alias_term_id (self.now).kind)) (m.args (self.now).args)) }
+        ensures item { IfOk result (λ t. Declares (I.meaning cx.old) t.def_id (alias_term_id (self.now).kind)) }
+        ensures arguments { IfOk result (λ t. FirstOfParent I.meaning cx.old cx.new self.now t.args) }
         ensures refused { OnErr result (I.meaning cx.new ≡ I.meaning cx.old) }
     {
         let def_id = self.kind.expect_projection();
@@ -118,8 +113,7 @@ impl<X: Copy, D: Copy> AliasTerm<X, D> {
     pub fn own_args<'a, I: Interner<Key = X, Id = D>>(&self, cx: &'a I) -> &'a [GenericArg<I>]
         requires alias_known { IsTrue (known (alias_term_tree (I.meaning cx.now) self.now)) }
         requires projection { IsProjection (I.meaning cx.now) self.now }
-        ensures { let m = I.meaning cx.now in list_tree (arg_tree m) result.now ≡
-            behind_first (parent_count m (alias_term_id (self.now).kind)) (m.args (self.now).args) }
+        ensures { args_tree (I.meaning cx.now) result.now ≡ own_args (I.meaning cx.now) self.now }
     {
         let count = parent_count(cx, &self.kind.expect_projection());
         let list = cx.args(&self.args);
@@ -143,8 +137,7 @@ impl<X: Copy, D: Copy> AliasTerm<X, D> {
         requires inherent { IsInherentKind (alias_term_kind (self.now).kind) }
         ensures grown { Extends (I.meaning cx.old) (I.meaning cx.new) }
         ensures sure { IfOk result (λ k. IsTrue (known ((I.meaning cx.new).args k))) }
-        ensures arguments { let m = I.meaning cx.old in IfOk result (λ k.
-            (I.meaning cx.new).args k ≡ put_before (m.args impl_args.now) (behind_first 1 (m.args (self.now).args))) }
+        ensures arguments { IfOk result (λ k. RebasedArgs I.meaning cx.old cx.new impl_args.now self.now k) }
         ensures refused { OnErr result (I.meaning cx.new ≡ I.meaning cx.old) }
     {
         let mut given = Vec::new(cx.alloc());

@@ -89,7 +89,8 @@ impl<X: Copy> RegionConstraint<X> {
                 first: Some(outlives),
                 second: None,
             },
-            // As `into_bidirectional_outlives` has them; of an array it would have to be known that it fits into memory.
+            // As `into_bidirectional_outlives` has them; of an array it would have to be known that it fits into
+            // memory.
             RegionConstraint::Eq(RegionEqPredicate(a, b)) => OutlivesIter {
                 first: Some(OutlivesPredicate(GenericArgKind::Lifetime(a), b)),
                 second: Some(OutlivesPredicate(GenericArgKind::Lifetime(b), a)),

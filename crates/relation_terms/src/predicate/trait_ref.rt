@@ -1,11 +1,13 @@
 //! Traits with their arguments, and what predicates say of them.
 ghost use Rattle.std.specs.Prelude.{◌≡◌, IsTrue, IfOk, OnErr};
-ghost use Rattle.relation_terms.specs.Trees.{known, list_tree, nth};
-ghost use Rattle.relation_terms.specs.Meaning.{Extends, arg_tree};
+ghost use Rattle.relation_terms.specs.Trees.{known};
+ghost use Rattle.relation_terms.specs.Meaning.{Extends};
 ghost use Rattle.relation_terms.specs.Predicates.{trait_ref_tree};
 ghost use Rattle.relation_terms.specs.Owned.{bound_tree};
-ghost use Rattle.relation_terms.specs.Edits.{first_of, with_first, param_trees, HasSelf};
-ghost use Rattle.relation_terms.specs.Conversions.{host_effect_tree};
+ghost use Rattle.relation_terms.specs.Edits.{HasSelf};
+ghost use Rattle.relation_terms.specs.Edited.{args_tree, IsSelf, OtherSelf, TraitOtherSelf};
+ghost use Rattle.relation_terms.specs.Edited.{HostEffectOtherSelf, FirstOfTrait, IdentityArgs};
+ghost use Rattle.relation_terms.specs.Edited.{IsHostEffectClause};
 
 use crate::predicate::ClauseKind;
 use crate::predicate::edits::{args_with_self, first_args, self_of};
@@ -57,12 +59,11 @@ impl<X: Copy, D: Copy> TraitRef<X, D> {
         trait_def_id: TraitId<D>,
         args: &[GenericArg<I>],
     ) -> Result<TraitRef<X, D>, OutOfMemory>
-        requires { IsTrue (known (list_tree (arg_tree (I.meaning cx.old)) args.now)) }
+        requires { IsTrue (known (args_tree (I.meaning cx.old) args.now)) }
         ensures grown { Extends (I.meaning cx.old) (I.meaning cx.new) }
         ensures sure { IfOk result (λ t. IsTrue (known (trait_ref_tree (I.meaning cx.new) t))) }
         ensures item { IfOk result (λ t. t.def_id ≡ trait_def_id) }
-        ensures arguments { IfOk result (λ t.
-            (I.meaning cx.new).args t.args ≡ list_tree (arg_tree (I.meaning cx.old)) args.now) }
+        ensures arguments { IfOk result (λ t. (I.meaning cx.new).args t.args ≡ args_tree (I.meaning cx.old) args.now) }
         ensures refused { OnErr result (I.meaning cx.new ≡ I.meaning cx.old) }
     {
         let args = cx.mk_args(args)?;
@@ -82,9 +83,7 @@ impl<X: Copy, D: Copy> TraitRef<X, D> {
         ensures grown { Extends (I.meaning cx.old) (I.meaning cx.new) }
         ensures sure { IfOk result (λ t. IsTrue (known (trait_ref_tree (I.meaning cx.new) t))) }
         ensures item { IfOk result (λ t. t.def_id ≡ trait_id) }
-        ensures arguments { let m = I.meaning cx.old in
-            IfOk result (λ t. (I.meaning cx.new).args t.args ≡
-            first_of (m.generics (m.id trait_id.0)) (m.args args.now)) }
+        ensures arguments { IfOk result (λ t. FirstOfTrait I.meaning cx.old cx.new trait_id args.now t.args) }
         ensures refused { OnErr result (I.meaning cx.new ≡ I.meaning cx.old) }
     {
         let count = cx.generics_count(&DefId(trait_id.0));
@@ -94,8 +93,8 @@ impl<X: Copy, D: Copy> TraitRef<X, D> {
 
     /// The trait with its own generic parameters, each as itself.
     ///
-    /// Answers `OutOfMemory` where a growth was refused, or where there are more parameters than indices. What was known
-    /// keeps its meaning, also then.
+    /// Answers `OutOfMemory` where a growth was refused, or where there are more parameters than indices. What was
+    /// known keeps its meaning, also then.
     pub fn identity<I: Interner<Key = X, Id = D>>(
         cx: &mut I,
         trait_id: TraitId<D>,
@@ -103,8 +102,7 @@ impl<X: Copy, D: Copy> TraitRef<X, D> {
         ensures grown { Extends (I.meaning cx.old) (I.meaning cx.new) }
         ensures sure { IfOk result (λ t. IsTrue (known (trait_ref_tree (I.meaning cx.new) t))) }
         ensures item { IfOk result (λ t. t.def_id ≡ trait_id) }
-        ensures arguments { let m = I.meaning cx.old in
-            IfOk result (λ t. (I.meaning cx.new).args t.args ≡ param_trees ((m.tables).params (m.id trait_id.0))) }
+        ensures arguments { IfOk result (λ t. IdentityArgs I.meaning cx.old cx.new trait_id.0 t.args) }
     {
         let args = identity_args(cx, &DefId(trait_id.0))?;
         Ok(TraitRef::new_from_args(trait_id, args))
@@ -125,8 +123,7 @@ impl<X: Copy, D: Copy> TraitRef<X, D> {
         ensures grown { Extends (I.meaning cx.old) (I.meaning cx.new) }
         ensures sure { IfOk result (λ t. IsTrue (known (trait_ref_tree (I.meaning cx.new) t))) }
         ensures item { IfOk result (λ t. t.def_id ≡ (self.now).def_id) }
-        ensures arguments { let m = I.meaning cx.old in
-            IfOk result (λ t. (I.meaning cx.new).args t.args ≡ with_first (m.ty self_ty) (m.args (self.now).args)) }
+        ensures arguments { IfOk result (λ t. OtherSelf I.meaning cx.old cx.new self_ty (self.now).args t.args) }
         ensures refused { OnErr result (I.meaning cx.new ≡ I.meaning cx.old) }
     {
         let args = args_with_self(cx, &self.args, self_ty)?;
@@ -139,7 +136,7 @@ impl<X: Copy, D: Copy> TraitRef<X, D> {
         requires trait_known { IsTrue (known (trait_ref_tree (I.meaning cx.now) self.now)) }
         requires has_self { HasSelf ((I.meaning cx.now).args (self.now).args) }
         ensures sure { IsTrue (known ((I.meaning cx.now).ty result)) }
-        ensures means { (I.meaning cx.now).ty result ≡ nth 0 ((I.meaning cx.now).args (self.now).args) }
+        ensures means { IsSelf (I.meaning cx.now) result (self.now).args }
     {
         self_of(cx, &self.args)
     }
@@ -152,7 +149,7 @@ impl<X: Copy, D: Copy> Binder<X, TraitRef<X, D>> {
         requires trait_known { IsTrue (known (trait_ref_tree (I.meaning cx.now) (self.now).value)) }
         requires has_self { HasSelf ((I.meaning cx.now).args ((self.now).value).args) }
         ensures sure { IsTrue (known ((I.meaning cx.now).ty result.value)) }
-        ensures means { (I.meaning cx.now).ty result.value ≡ nth 0 ((I.meaning cx.now).args ((self.now).value).args) }
+        ensures means { IsSelf (I.meaning cx.now) result.value ((self.now).value).args }
         ensures binder { result.bound_vars ≡ (self.now).bound_vars }
     {
         Binder {
@@ -180,8 +177,7 @@ impl<X: Copy, D: Copy> Binder<X, TraitRef<X, D>> {
         requires { IsTrue (known (bound_tree (I.meaning cx.old) self)) }
         ensures grown { Extends (I.meaning cx.old) (I.meaning cx.new) }
         ensures sure { IfOk result (λ k. IsTrue (known ((I.meaning cx.new).clause k))) }
-        ensures made { IfOk result (λ k.
-            (I.meaning cx.new).clause k ≡ host_effect_tree (I.meaning cx.old) constness self) }
+        ensures made { IfOk result (λ k. IsHostEffectClause I.meaning cx.old cx.new constness self k) }
         ensures refused { OnErr result (I.meaning cx.new ≡ I.meaning cx.old) }
     {
         let value = ClauseKind::HostEffect(HostEffectPredicate {
@@ -222,9 +218,7 @@ impl<X: Copy, D: Copy> TraitPredicate<X, D> {
         ensures grown { Extends (I.meaning cx.old) (I.meaning cx.new) }
         ensures sure { IfOk result (λ p. IsTrue (known (trait_ref_tree (I.meaning cx.new) p.trait_ref))) }
         ensures item { IfOk result (λ p. (p.trait_ref).def_id ≡ ((self.now).trait_ref).def_id) }
-        ensures arguments { let m = I.meaning cx.old in
-            IfOk result (λ p. (I.meaning cx.new).args (p.trait_ref).args ≡
-            with_first (m.ty self_ty) (m.args ((self.now).trait_ref).args)) }
+        ensures arguments { IfOk result (λ p. TraitOtherSelf I.meaning cx.old cx.new self_ty self.now p) }
         ensures polarity { IfOk result (λ p. p.polarity ≡ (self.now).polarity) }
         ensures refused { OnErr result (I.meaning cx.new ≡ I.meaning cx.old) }
     {
@@ -248,7 +242,7 @@ impl<X: Copy, D: Copy> TraitPredicate<X, D> {
         requires trait_known { IsTrue (known (trait_ref_tree (I.meaning cx.now) (self.now).trait_ref)) }
         requires has_self { HasSelf ((I.meaning cx.now).args ((self.now).trait_ref).args) }
         ensures sure { IsTrue (known ((I.meaning cx.now).ty result)) }
-        ensures means { (I.meaning cx.now).ty result ≡ nth 0 ((I.meaning cx.now).args ((self.now).trait_ref).args) }
+        ensures means { IsSelf (I.meaning cx.now) result ((self.now).trait_ref).args }
     {
         self.trait_ref.self_ty(cx)
     }
@@ -280,8 +274,7 @@ impl<X: Copy, D: Copy> Binder<X, TraitPredicate<X, D>> {
         requires trait_known { IsTrue (known (trait_ref_tree (I.meaning cx.now) ((self.now).value).trait_ref)) }
         requires has_self { HasSelf ((I.meaning cx.now).args (((self.now).value).trait_ref).args) }
         ensures sure { IsTrue (known ((I.meaning cx.now).ty result.value)) }
-        ensures means { (I.meaning cx.now).ty result.value ≡
-            nth 0 ((I.meaning cx.now).args (((self.now).value).trait_ref).args) }
+        ensures means { IsSelf (I.meaning cx.now) result.value (((self.now).value).trait_ref).args }
         ensures binder { result.bound_vars ≡ (self.now).bound_vars }
     {
         Binder {
@@ -305,7 +298,7 @@ impl<X: Copy, D: Copy> HostEffectPredicate<X, D> {
         requires trait_known { IsTrue (known (trait_ref_tree (I.meaning cx.now) (self.now).trait_ref)) }
         requires has_self { HasSelf ((I.meaning cx.now).args ((self.now).trait_ref).args) }
         ensures sure { IsTrue (known ((I.meaning cx.now).ty result)) }
-        ensures means { (I.meaning cx.now).ty result ≡ nth 0 ((I.meaning cx.now).args ((self.now).trait_ref).args) }
+        ensures means { IsSelf (I.meaning cx.now) result ((self.now).trait_ref).args }
     {
         self.trait_ref.self_ty(cx)
     }
@@ -325,9 +318,7 @@ impl<X: Copy, D: Copy> HostEffectPredicate<X, D> {
         ensures grown { Extends (I.meaning cx.old) (I.meaning cx.new) }
         ensures sure { IfOk result (λ p. IsTrue (known (trait_ref_tree (I.meaning cx.new) p.trait_ref))) }
         ensures item { IfOk result (λ p. (p.trait_ref).def_id ≡ ((self.now).trait_ref).def_id) }
-        ensures arguments { let m = I.meaning cx.old in
-            IfOk result (λ p. (I.meaning cx.new).args (p.trait_ref).args ≡
-            with_first (m.ty self_ty) (m.args ((self.now).trait_ref).args)) }
+        ensures arguments { IfOk result (λ p. HostEffectOtherSelf I.meaning cx.old cx.new self_ty self.now p) }
         ensures constness { IfOk result (λ p. p.constness ≡ (self.now).constness) }
         ensures refused { OnErr result (I.meaning cx.new ≡ I.meaning cx.old) }
     {
@@ -360,8 +351,7 @@ impl<X: Copy, D: Copy> Binder<X, HostEffectPredicate<X, D>> {
         requires trait_known { IsTrue (known (trait_ref_tree (I.meaning cx.now) ((self.now).value).trait_ref)) }
         requires has_self { HasSelf ((I.meaning cx.now).args (((self.now).value).trait_ref).args) }
         ensures sure { IsTrue (known ((I.meaning cx.now).ty result.value)) }
-        ensures means { (I.meaning cx.now).ty result.value ≡
-            nth 0 ((I.meaning cx.now).args (((self.now).value).trait_ref).args) }
+        ensures means { IsSelf (I.meaning cx.now) result.value (((self.now).value).trait_ref).args }
         ensures binder { result.bound_vars ≡ (self.now).bound_vars }
     {
         Binder {

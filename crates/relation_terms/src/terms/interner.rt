@@ -47,8 +47,8 @@ impl<T: Drop> From<AllocFailed<T>> for OutOfMemory {
 /// What gives out keys for terms, and reads them.
 ///
 /// A key means a finite tree, and an item has a count of generic parameters and a list of variances. The calls that
-/// read ask for keys that the interner knows and take no memory. The calls that make answer `OutOfMemory` where a growth
-/// was refused, which leaves the meaning of all keys as it was; what is there already is not made again.
+/// read ask for keys that the interner knows and take no memory. The calls that make answer `OutOfMemory` where a
+/// growth was refused, which leaves the meaning of all keys as it was; what is there already is not made again.
 pub trait Interner: Keys {
     ghost meaning: { Self → Meaning Self.Key Self.Id Self.Name };
 

@@ -196,8 +196,7 @@ pub fn with_output<I: Interner>(
     requires output_known { IsTrue (known ((I.meaning cx.old).ty output)) }
     ensures grown { Extends (I.meaning cx.old) (I.meaning cx.new) }
     ensures sure { IfOk result (λ k. IsTrue (known (front ((I.meaning cx.new).tys k)))) }
-    ensures inputs { IfOk result (λ k.
-        front ((I.meaning cx.new).tys k) ≡ front ((I.meaning cx.old).tys tys.now)) }
+    ensures inputs { IfOk result (λ k. front ((I.meaning cx.new).tys k) ≡ front ((I.meaning cx.old).tys tys.now)) }
     ensures output { IfOk result (λ k. last ((I.meaning cx.new).tys k) ≡ (I.meaning cx.old).ty output) }
 {
     let mut list = inputs_of(cx, tys)?;
