@@ -1,0 +1,116 @@
+"""Finds out in which universe each variable for a region is that opening binders has made: no answer prints that.
+
+It goes through two types as relating does, as far as that counts: which binders are opened in which order, and which
+variables types stand for. What it records of regions is not looked at.
+"""
+from judging.terms import ITEMS, Term, binds, free_regions, mapped, region
+
+CO, CONTRA, INV = 1, -1, 0
+
+
+class Opening:
+    """What there is while two types are related."""
+
+    def __init__(self, variables):
+        self.universe, self.bound = 0, {}
+        # The universe of each variable for a region, by its number.
+        self.universes = [0] * variables
+
+    def fresh(self, universe):
+        self.universes.append(universe)
+        return f"'?{len(self.universes) - 1}"
+
+    def resolve(self, term):
+        while term.form == "var" and term.data in self.bound:
+            term = self.bound[term.data]
+        return term
+
+    def relate(self, left, right, variance):
+        left, right = self.resolve(left), self.resolve(right)
+        if left == right or left.form in ("region", "const"):
+            return
+        if left.form == "var" or right.form == "var":
+            self.bind(left, right)
+        elif left.form == "fn":
+            pairs = list(zip(left.parts, right.parts))
+            turns = [-variance] * (len(pairs) - 1) + [variance]
+            self.binders(binds(left), left.parts, binds(right), right.parts, turns, variance)
+        elif left.form == "dyn":
+            self.objects(left, right, variance)
+        else:
+            for mine, theirs, own in zip(left.parts, right.parts, variances(left)):
+                self.relate(mine, theirs, variance * own)
+
+    def objects(self, left, right, variance):
+        """Relates trait objects: what a trait declares is a bound of its own, under a binder of its own."""
+        mine, theirs = left.parts[:-1], right.parts[:-1]
+        args = mine[:-1] if left.data[2] else mine
+        for count in dict.fromkeys((len(args), len(mine))):
+            self.binders(binds(left), mine[:count], binds(right), theirs[:count], [INV] * count, variance)
+
+    def binders(self, names, parts, other_names, other_parts, turns, variance):
+        if (names, parts) == (other_names, other_parts):
+            return
+        used = [any(it in free_regions(part) for it in some for part in where)
+                for some, where in ((names, parts), (other_names, other_parts))]
+        rounds = ([CO] if variance != CONTRA else []) + ([CONTRA] if variance != CO else [])
+        for turn in rounds if any(used) else [None]:
+            mine, theirs = parts, other_parts
+            if turn == CO:
+                theirs, mine = self.opened(other_names, theirs, used[1]), self.varied(names, mine)
+            if turn == CONTRA:
+                mine, theirs = self.opened(names, mine, used[0]), self.varied(other_names, theirs)
+            for one, other, part in zip(mine, theirs, turns):
+                self.relate(one, other, part)
+
+    def opened(self, names, parts, is_used):
+        """Puts placeholders of a new universe for what a binder binds."""
+        if not is_used:
+            return parts
+        self.universe += 1
+        return put_all(parts, {it: f"'!{self.universe}.{at}" for at, it in enumerate(names)})
+
+    def varied(self, names, parts):
+        return put_all(parts, {it: self.fresh(self.universe) for it in names})
+
+    def bind(self, left, right):
+        variable, term = (left, right) if left.form == "var" else (right, left)
+        self.bound[variable.data] = term if term.form == "var" else self.generalised(term, (), {})
+        if term.form != "var":
+            self.relate(self.bound[variable.data], term, INV)
+
+    def generalised(self, term, scope, met):
+        """Gives a term with new variables for the regions that universe 0 can't name."""
+        term = self.resolve(term)
+        if term.form == "region":
+            return term if term.data in scope or self.is_lowest(term.data) else region(self.fresh(0))
+        if term not in met:
+            inner = scope + binds(term)
+            met[term] = term._replace(parts=tuple(self.generalised(it, inner, met) for it in term.parts))
+        return met[term]
+
+    def is_lowest(self, name):
+        return not name.startswith("'!") and (not name.startswith("'?") or self.universes[int(name[2:])] == 0)
+
+
+def put_all(parts, names):
+    change = lambda leaf: region(names.get(leaf.data, leaf.data)) if leaf.form == "region" else leaf
+    return tuple(mapped(it, change) for it in parts)
+
+
+def variances(term):
+    """Gives the variances of the parts of a form without a binder."""
+    if term.form == "item":
+        return [{"+": CO, "-": CONTRA}.get(it[0], INV) for it in ITEMS[term.data]]
+    if term.form == "ref":
+        return [CO, INV if term.data else CO]
+    if term.form == "ptr":
+        return [INV if term.data else CO]
+    return [CO] * len(term.parts)
+
+
+def universes_of(left, right, variance, variables=0):
+    """Gives the universe of each variable for a region once two types were related: the first ones are the types' own."""
+    opening = Opening(variables)
+    opening.relate(left, right, variance)
+    return {f"'?{number}": universe for number, universe in enumerate(opening.universes)}
