@@ -34,6 +34,7 @@ def compile_some(lines):
         with open(f"{room}/judged.rs", "w", encoding="utf-8") as it:
             it.write(RUST_PRELUDE + "".join(f"{line}\n" for line in lines))
         words = ["rustc", "--edition=2021", "--crate-type=lib", "--emit=metadata", "--error-format=json"]
+        words += ["--force-warn=coherence-leak-check"]
         try:
             ran = subprocess.run(
                 [*words, "-o", f"{room}/judged.rmeta", f"{room}/judged.rs"],

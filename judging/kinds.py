@@ -10,7 +10,7 @@ Expected = collections.namedtuple("Expected", "verdict by")
 
 ACCEPTED, REFUSED = "accepted", "refused"
 # What rustc adds and `ask` has not.
-IMPLIED, SIZED, LEAST = "implied bounds", "Sized", "no least region"
+IMPLIED, SIZED, LEAST, LEAK = "implied bounds", "Sized", "no least region", "a lint"
 
 
 def decided(check, answer, universes):

@@ -37,7 +37,6 @@ AUTOS = ("Send", "Sync")
 
 RUST_PRELUDE = """
 #![allow(warnings)]
-#![warn(coherence_leak_check)]
 pub struct Co<T: ?Sized>(*const T);
 pub struct Contra<T: ?Sized>(fn(*const T));
 pub struct Inv<T: ?Sized>(*mut T);
