@@ -1,7 +1,7 @@
 """The headers of impls: the types that an impl is of, over parameters of its own, which may stand for any type."""
 from judging.asking import split_list
 from judging.terms import (
-    CONSTS, PARAMS, REGIONS, STATIC, Term, free_regions, is_valid, leaves, mapped, places, put, spell,
+    CONSTS, PARAMS, REGIONS, STATIC, Term, free_regions, is_valid_type, leaves, mapped, places, put, spell,
 )
 
 # The parameters that are `?Sized` where they may be.
@@ -24,6 +24,26 @@ def changed(maker, header, times=None):
     return Term("list", None, tuple(made))
 
 
+def changed_only(maker, header):
+    return header._replace(parts=tuple(maker.changed(it, False) for it in header.parts))
+
+
+def instantiated(maker, header):
+    """Puts a type for each parameter, a region for each region, and a constant for each constant."""
+    left = {}
+
+    def change(leaf):
+        if leaf.form not in ("param", "region", "const") or leaf.data not in (*PARAMS, *REGIONS, *CONSTS):
+            return leaf
+        if leaf not in left:
+            made = maker.valid_type(1, True) if leaf.form == "param" else maker.const()
+            left[leaf] = maker.region(()) if leaf.form == "region" else made
+        return left[leaf]
+
+    made = mapped(header, change)
+    return made if is_header(made) else header
+
+
 def exchanged(maker, term):
     found = [it for it in places(term, maker.regions, False) if it.term.form not in ("region", "const")]
     params = [it for it in found if it.term.form == "param"]
@@ -34,7 +54,7 @@ def exchanged(maker, term):
         place = maker.rng.choice(found)
         new = Term("param", maker.rng.choice(PARAMS), ())
     new = put(term, place.path, new)
-    return new if is_valid(new, REGIONS, False) else term
+    return new if is_valid_type(new, REGIONS, False) else term
 
 
 def may_be_unsized(header):
@@ -107,7 +127,7 @@ def is_slice(text):
 
 
 def is_header(header):
-    return header.form == "list" and all(is_valid(it, REGIONS, False) for it in header.parts)
+    return header.form == "list" and all(is_valid_type(it, REGIONS, False) for it in header.parts)
 
 
 def asks_sized(variable, variables):

@@ -1,7 +1,7 @@
 """Random terms, and terms with a few places changed."""
 from judging.terms import (
     AUTOS, CONSTS, ITEMS, NEVER, PARAMS, REGIONS, STATIC, TRAITS, UNIT, Term, binds, free_regions, is_bound_part, is_sized,
-    is_valid, mapped, places, plain, put, region,
+    is_valid_type, mapped, places, plain, put, region,
 )
 
 PLAIN = ("bool", "char", "u8", "u8", "u16", "i32", "i64", "usize", "f32", "f64")
@@ -39,7 +39,7 @@ class Maker:
         """Makes a type that Rust takes where the regions alone are known."""
         while True:
             made = self.type(depth, self.regions, sized)
-            if is_valid(made, self.regions, sized):
+            if is_valid_type(made, self.regions, sized):
                 return made
 
     def type(self, depth, scope, sized=True):
@@ -122,7 +122,7 @@ class Maker:
         for _ in range(self.rng.choice((0, 1, 1, 1, 2, 2, 3)) if times is None else times):
             for _ in range(20):
                 new = self.changed_once(term, sized)
-                if new is not None and new != term and is_valid(new, self.regions, sized):
+                if new is not None and new != term and is_valid_type(new, self.regions, sized):
                     term = new
                     break
         return term

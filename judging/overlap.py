@@ -8,7 +8,6 @@ OVERLAP, LINT, APART = "overlapping", "overlapping but for the leak check", "apa
 ALL = f"?{2 * len(PARAMS)}"
 
 name = "overlap"
-SCOPE = REGIONS
 
 
 def make(maker):

@@ -6,7 +6,7 @@ variables (`'?0`) and placeholders (`'!1.0`).
 import collections
 import re
 
-from judging.terms import STATIC, free_regions, leaves, places
+from judging.terms import REGIONS, STATIC, free_regions, leaves, places
 
 
 def is_variable(name):
@@ -100,3 +100,16 @@ def implied(term):
             if outlived.data not in place.scope and not set(free) & set(place.scope):
                 found += [(it, outlived.data) for it in (*free, *leaves(inner, "param"))]
     return found
+
+
+def some_facts(maker):
+    """Makes facts: pairs of regions of which the first is said to outlive the second."""
+    return tuple(dict.fromkeys(tuple(maker.rng.sample(REGIONS, 2)) for _ in range(maker.rng.choice((0, 1, 2)))))
+
+
+def spell_facts(facts):
+    return f" where {', '.join(f'{one}: {other}' for one, other in facts)}" if facts else ""
+
+
+def fewer(facts):
+    return [facts[:at] + facts[at + 1 :] for at in range(len(facts))]

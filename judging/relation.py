@@ -1,7 +1,7 @@
 """Pairs of types of which the one is given where the other is wanted, in a body."""
 from judging import kinds, regions
 from judging.opening import CO, universes_of
-from judging.terms import CONSTS, PARAMS, REGIONS, item, spell
+from judging.terms import CONSTS, PARAMS, REGIONS, is_valid_type, item, spell
 
 GENERICS = ", ".join([*REGIONS, *PARAMS, *(f"const {it}: usize" for it in CONSTS)])
 WRAPPERS = ("Co", "Contra", "Inv")
@@ -9,27 +9,31 @@ WRAPPERS = ("Co", "Contra", "Inv")
 REFUSALS = ("E0308", "")
 
 name = "relation"
-# The regions that a pair may name.
-SCOPE = REGIONS
 
 
 def make(maker):
     """A pair, the wrapper that keeps coercions away, and which regions are said to outlive which."""
     left = maker.valid_type(3, False)
-    facts = [tuple(maker.rng.sample(REGIONS, 2)) for _ in range(maker.rng.choice((0, 1, 2)))]
-    return kinds.Case(left, maker.changed(left, False), (maker.rng.choice(WRAPPERS), tuple(dict.fromkeys(facts))))
+    more = maker.rng.choice(WRAPPERS), regions.some_facts(maker)
+    return kinds.Case(left, maker.changed(left, False), more)
+
+
+def is_valid(case):
+    return all(is_valid_type(it, REGIONS, False) for it in (case.left, case.right))
+
+
+def spelled(case, rust):
+    return [spell(item(case.more[0], it), rust) for it in (case.left, case.right)]
 
 
 def questions(case):
-    wrapper, _ = case.more
-    return [f"{wrapper}<{spell(case.left, False)}> <: {wrapper}<{spell(case.right, False)}>"]
+    left, right = spelled(case, False)
+    return [f"{left} <: {right}"]
 
 
 def line(case, number):
-    wrapper, facts = case.more
-    bounds = f" where {', '.join(f'{one}: {other}' for one, other in facts)}" if facts else ""
-    left, right = (f"{wrapper}<{spell(it, True)}>" for it in (case.left, case.right))
-    return f"fn f{number}<{GENERICS}>(it: {left}) -> {right}{bounds} {{ it }}"
+    left, right = spelled(case, True)
+    return f"fn f{number}<{GENERICS}>(it: {left}) -> {right}{regions.spell_facts(case.more[1])} {{ it }}"
 
 
 def expected(case, answers):
@@ -49,7 +53,7 @@ def agrees(expected, seen):
 
 def smaller(case):
     wrapper, facts = case.more
-    for at in range(len(facts)):
-        yield case._replace(more=(wrapper, facts[:at] + facts[at + 1 :]))
+    for it in regions.fewer(facts):
+        yield case._replace(more=(wrapper, it))
     if wrapper != "Co":
         yield case._replace(more=("Co", facts))

@@ -1,6 +1,6 @@
 """Makes a pair smaller for as long as what differs on it does."""
 from judging.comparing import outcomes
-from judging.terms import STATIC, UNIT, binds, is_valid, places, plain, put, region, size
+from judging.terms import STATIC, UNIT, binds, places, plain, put, region, size
 
 # How many smaller pairs are tried at once, and how often.
 AT_ONCE, ROUNDS = 300, 40
@@ -32,7 +32,7 @@ def weight(case):
 
 def smaller(kind, case):
     """Gives pairs with a part left out or made plainer, on both sides at once or on one."""
-    left, right = list(variants(case.left, kind)), list(variants(case.right, kind))
+    left, right = list(variants(case.left)), list(variants(case.right))
     found = list(kind.smaller(case))
     for way, path, new in left:
         for other_way, other_path, other in right:
@@ -40,15 +40,15 @@ def smaller(kind, case):
                 found.append(case._replace(left=new, right=other))
     found += [case._replace(left=new) for _, _, new in left]
     found += [case._replace(right=new) for _, _, new in right]
-    return (it for it in found if weight(it) < weight(case))
+    return (it for it in found if weight(it) < weight(case) and kind.is_valid(it))
 
 
-def variants(term, kind):
+def variants(term):
     """Gives the terms with one place made smaller: each by the way and the place."""
-    for place in places(term, kind.SCOPE, False):
+    for place in places(term, (), False):
         for way, new in enumerate(plainer(place.term)):
             made = new and put(term, place.path, new)
-            if made and made != term and is_valid(made, kind.SCOPE, False):
+            if made and made != term:
                 yield way, place.path, made
 
 

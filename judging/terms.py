@@ -145,7 +145,7 @@ def size(term):
     return 1 + len(binds(term)) + sum(map(size, term.parts))
 
 
-def is_valid(term, scope, sized=True):
+def is_valid_type(term, scope, sized=True):
     """Says whether Rust takes a type: names are known and not given twice, and outputs use what inputs do."""
     return term != NEVER and all(is_valid_place(it) for it in places(term, scope, sized))
 
