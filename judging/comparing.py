@@ -1,7 +1,7 @@
 """Has pairs asked and compiled, and compares what both say."""
 import collections
 
-from judging import asking, compiling
+from judging import asking, compiling, kinds
 
 # A pair, its answers, what rustc said, what it should have said by the answers, and what that comes to.
 Outcome = collections.namedtuple("Outcome", "case answers said expected seen agrees")
@@ -15,6 +15,7 @@ def outcomes(kind, cases, program):
     found = []
     for case, some, what in zip(cases, questions, said):
         mine = [next(answers) for _ in some]
-        expected, seen = kind.expected(case, mine), kind.observed(case, what)
-        found.append(Outcome(case, mine, what, expected, seen, kind.agrees(expected.verdict, seen)))
+        expected, why = kind.expected(case, mine), kinds.given_up(what)
+        seen = why or kind.observed(case, what)
+        found.append(Outcome(case, mine, what, expected, seen, bool(why) or kind.agrees(expected.verdict, seen)))
     return found

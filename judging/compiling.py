@@ -14,6 +14,12 @@ SECONDS = 60
 # What rustc says of a line: the codes of its errors, the names of its lints, and the texts of both; `late` where it was
 # given up on.
 Said = collections.namedtuple("Said", "errors lints texts late")
+
+
+class Wrong(Exception):
+    """What stands before all programs was not compiled."""
+
+
 NOTHING = Said((), (), (), False)
 
 
@@ -61,7 +67,7 @@ def by_lines(said, count):
         code = told["code"]["code"] if told["code"] else ""
         for at in lines:
             if at < first:
-                raise RuntimeError(f"rustc takes no prelude: {told['rendered']}")
+                raise Wrong(f"rustc does not take what stands before all programs: {told['rendered']}")
             (errors if told["level"] == "error" else lints)[at - first].append(code)
             texts[at - first].append(told["rendered"])
     return [Said(tuple(a), tuple(b), tuple(c), False) for a, b, c in zip(errors, lints, texts)]

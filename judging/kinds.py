@@ -11,6 +11,8 @@ Expected = collections.namedtuple("Expected", "verdict by")
 ACCEPTED, REFUSED = "accepted", "refused"
 # What rustc adds and `ask` has not.
 IMPLIED, SIZED, LEAST, LEAK = "implied bounds", "Sized", "no least region", "a lint"
+# Why rustc says nothing of a pair, which is counted and not judged.
+LATE, OVERFLOW = "late", "overflow"
 
 
 def decided(check, answer, universes):
@@ -36,10 +38,13 @@ def body(answer, facts, implied, universes):
     return Expected(ACCEPTED if holds else REFUSED, tuple(by))
 
 
+def given_up(said):
+    """Says why a pair is not judged: rustc gave up on a goal, was stopped, or broke off."""
+    return LATE if said.late else OVERFLOW if "E0275" in said.errors else None
+
+
 def observed(said, refusals):
     """Says what rustc said of a body: refused by one of these errors, or by one that is not of the pair."""
-    if said.late:
-        return "late"
     other = sorted(set(said.errors) - set(refusals))
     if other:
         return f"refused by {' '.join(other)}"

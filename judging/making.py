@@ -12,7 +12,7 @@ FORMS = {
 }
 LOW_FORMS = {"plain": 3, "param": 2, "low ref": 4, "low item": 2}
 # How often a place is changed in a way, where there is one for it.
-WAYS = {"region_changed": 8, "binder_changed": 5, "opened": 4, "form_changed": 2}
+WAYS = {"region_changed": 10, "binder_changed": 6, "opened": 4, "form_changed": 2}
 
 
 class Maker:
@@ -119,7 +119,7 @@ class Maker:
 
     def changed(self, term, sized=True, times=None):
         """Gives a term with a few places changed, that Rust takes too."""
-        for _ in range(self.rng.choice((0, 1, 1, 1, 2, 2, 3)) if times is None else times):
+        for _ in range(self.rng.choice((0, 1, 1, 1, 1, 2, 2)) if times is None else times):
             for _ in range(20):
                 new = self.changed_once(term, sized)
                 if new is not None and new != term and is_valid_type(new, self.regions, sized):

@@ -51,8 +51,6 @@ def expected(case, answers):
 
 
 def observed(case, said):
-    if said.late:
-        return "late"
     other = sorted(set(said.errors) - {"E0119"})
     if other:
         return f"refused by {' '.join(other)}"

@@ -104,7 +104,7 @@ def implied(term):
 
 def some_facts(maker):
     """Makes facts: pairs of regions of which the first is said to outlive the second."""
-    return tuple(dict.fromkeys(tuple(maker.rng.sample(REGIONS, 2)) for _ in range(maker.rng.choice((0, 1, 2)))))
+    return tuple(dict.fromkeys(tuple(maker.rng.sample(REGIONS, 2)) for _ in range(maker.rng.choice((0, 2, 3, 4)))))
 
 
 def spell_facts(facts):
