@@ -1,7 +1,18 @@
 """The headers of impls: the types that an impl is of, over parameters of its own, which may stand for any type."""
 from judging.asking import split_list
 from judging.terms import (
-    CONSTS, PARAMS, REGIONS, STATIC, Term, free_regions, is_valid_type, leaves, mapped, places, put, spell,
+    CONSTS,
+    PARAMS,
+    REGIONS,
+    STATIC,
+    Term,
+    free_regions,
+    is_valid_type,
+    leaves,
+    mapped,
+    places,
+    put,
+    spell,
 )
 
 # The parameters that are `?Sized` where they may be.

@@ -2,7 +2,7 @@
 from judging import headers, kinds, regions
 from judging.opening import INV, universes_of
 from judging.relation import GENERICS
-from judging.terms import PARAMS, REGIONS, spell
+from judging.terms import PARAMS, spell
 
 # A bound that no impl meets; a type that is more general than the other; the check of regions has no other code.
 REFUSALS = ("E0277", "E0308", "")

@@ -11,6 +11,8 @@ Expected = collections.namedtuple("Expected", "verdict by")
 ACCEPTED, REFUSED = "accepted", "refused"
 # What rustc adds and `ask` has not.
 IMPLIED, SIZED, LEAST, LEAK = "implied bounds", "Sized", "no least region", "a lint"
+# What a quick test tells apart.
+TEST = "the quick test"
 # Why rustc says nothing of a pair, which is counted and not judged.
 LATE, OVERFLOW = "late", "overflow"
 

@@ -1,7 +1,25 @@
 """Random terms, and terms with a few places changed."""
 from judging.terms import (
-    AUTOS, CONSTS, ITEMS, NEVER, PARAMS, REGIONS, STATIC, TRAITS, UNIT, Term, binds, free_regions, is_bound_part, is_sized,
-    is_valid_type, mapped, places, plain, put, region,
+    AUTOS,
+    CONSTS,
+    ITEMS,
+    NEVER,
+    PARAMS,
+    REGIONS,
+    STATIC,
+    TRAITS,
+    UNIT,
+    Term,
+    binds,
+    free_regions,
+    is_bound_part,
+    is_sized,
+    is_valid_type,
+    mapped,
+    places,
+    plain,
+    put,
+    region,
 )
 
 PLAIN = ("bool", "char", "u8", "u8", "u16", "i32", "i64", "usize", "f32", "f64")

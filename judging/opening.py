@@ -3,7 +3,7 @@
 It goes through two types as relating does, as far as that counts: which binders are opened in which order, and which
 variables types stand for. What it records of regions is not looked at.
 """
-from judging.terms import ITEMS, Term, binds, free_regions, mapped, region
+from judging.terms import ITEMS, binds, free_regions, mapped, region
 
 CO, CONTRA, INV = 1, -1, 0
 
@@ -110,7 +110,7 @@ def variances(term):
 
 
 def universes_of(left, right, variance, variables=0):
-    """Gives the universe of each variable for a region once two types were related: the first ones are the types' own."""
+    """Gives the universe of each variable for a region once two types were related: the first are the types' own."""
     opening = Opening(variables)
     opening.relate(left, right, variance)
     return {f"'?{number}": universe for number, universe in enumerate(opening.universes)}

@@ -1,7 +1,7 @@
 """Pairs of impls of one trait: does a type have both?"""
 from judging import headers, kinds, regions
 from judging.opening import INV, universes_of
-from judging.terms import PARAMS, REGIONS
+from judging.terms import PARAMS
 
 OVERLAP, LINT, APART = "overlapping", "overlapping but for the leak check", "apart"
 # The variable that stands for all parameters that have to be sized.

@@ -42,7 +42,9 @@ def line(case, number):
 
 
 def expected(case, answers):
-    return kinds.Expected({"true": NOT_TOLD, "false": TOLD_APART}.get(answers[0].text, answers[0].text), ())
+    if answers[0].text == "false":
+        return kinds.Expected(TOLD_APART, (kinds.TEST,))
+    return kinds.Expected(NOT_TOLD if answers[0].text == "true" else f"no answer: {answers[0].text}", ())
 
 
 def observed(case, said):

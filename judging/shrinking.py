@@ -1,6 +1,6 @@
 """Makes a pair smaller for as long as what differs on it does."""
 from judging.comparing import outcomes
-from judging.terms import STATIC, UNIT, binds, places, plain, put, region, size
+from judging.terms import STATIC, UNIT, binds, free_regions, places, plain, put, region, size
 
 # How many smaller pairs are tried at once, and how often.
 AT_ONCE, ROUNDS = 300, 40
@@ -26,53 +26,47 @@ def is_alike(one, other):
 
 
 def weight(case):
-    """Says how large a pair is; of two as large the one with fewer regions and names comes first."""
-    return size(case.left) + size(case.right), len(repr(case)), repr(case)
+    """Says how large a pair is; of two as large the one that names fewer regions comes first, then the shorter one."""
+    named = {*free_regions(case.left), *free_regions(case.right)} - {STATIC}
+    return size(case.left) + size(case.right), len(named), len(repr(case)), repr(case)
 
 
 def smaller(kind, case):
     """Gives pairs with a part left out or made plainer, on both sides at once or on one."""
-    left, right = list(variants(case.left)), list(variants(case.right))
+    left, right = dict(variants(case.left)), dict(variants(case.right))
     found = list(kind.smaller(case))
-    for way, path, new in left:
-        for other_way, other_path, other in right:
-            if (way, path) == (other_way, other_path):
-                found.append(case._replace(left=new, right=other))
-    found += [case._replace(left=new) for _, _, new in left]
-    found += [case._replace(right=new) for _, _, new in right]
+    found += [case._replace(left=new, right=right[how]) for how, new in left.items() if how in right]
+    found += [case._replace(left=new) for new in left.values()]
+    found += [case._replace(right=new) for new in right.values()]
     return (it for it in found if weight(it) < weight(case) and kind.is_valid(it))
 
 
 def variants(term):
-    """Gives the terms with one place made smaller: each by the way and the place."""
+    """Gives the terms with one place made smaller: each by the place and how it was made so."""
     for place in places(term, (), False):
-        for way, new in enumerate(plainer(place.term)):
-            made = new and put(term, place.path, new)
-            if made and made != term:
-                yield way, place.path, made
+        for way, new in plainer(place.term).items():
+            made = put(term, place.path, new)
+            if made != term:
+                yield (place.path, way), made
 
 
 def plainer(term):
-    """Gives what may stand for a part: always as many, so that two alike parts are made smaller alike."""
-    if term.form == "region":
-        return [region(STATIC), region("'a"), region("'b")]
+    """Gives what may stand for a part, by how it comes of it: two alike parts are made smaller alike."""
     if term.form in ("const", "list"):
-        return []
-    found = [plain("u8"), UNIT, *[it if it.form not in ("region", "const") else None for it in term.parts]]
-    found += [None] * (8 - len(found))
+        return {}
+    if term.form == "region":
+        return {name: region(name) for name in (STATIC, "'a", "'b")}
+    found = {"byte": plain("u8"), "unit": UNIT}
+    found |= {("part", at): it for at, it in enumerate(term.parts) if it.form not in ("region", "const")}
+    names = binds(term)
+    for at in range(len(names)):
+        found["name", at] = term._replace(data=(names[:at] + names[at + 1 :], *term.data[1:]))
     if term.form in ("tuple", "fn"):
-        found += [dropped(term, at) for at in range(len(term.parts) - (term.form == "fn"))]
+        for at in range(len(term.parts) - (term.form == "fn")):
+            found["dropped", at] = term._replace(parts=term.parts[:at] + term.parts[at + 1 :])
     if term.form == "fn":
-        found = [*found[:8], *([*found[8:]] + [None] * 6)[:6], put(term, (len(term.parts) - 1,), UNIT)]
-    if term.form in ("fn", "dyn"):
-        names = binds(term)
-        found += [term._replace(data=(names[:at] + names[at + 1 :], *term.data[1:])) for at in range(len(names))]
-    if term.form == "fn":
-        found.append(term._replace(data=(binds(term), False, "", False)))
+        found["output"] = term._replace(parts=(*term.parts[:-1], UNIT))
+        found["header"] = term._replace(data=(names, False, "", False))
     if term.form == "dyn" and term.data[1]:
-        found.append(term._replace(data=(*term.data[:3], ())))
+        found["autos"] = term._replace(data=(*term.data[:3], ()))
     return found
-
-
-def dropped(term, at):
-    return term._replace(parts=term.parts[:at] + term.parts[at + 1 :])
