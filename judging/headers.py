@@ -1,6 +1,7 @@
 """The headers of impls: the types that an impl is of, over parameters of its own, which may stand for any type."""
 from judging.asking import split_list
 from judging.terms import (
+    ALL,
     CONSTS,
     PARAMS,
     REGIONS,
@@ -141,11 +142,11 @@ def is_header(header):
     return header.form == "list" and all(is_valid_type(it, REGIONS, False) for it in header.parts)
 
 
-def asks_sized(variable, variables):
+def asks_sized(variables):
     """Asks what some variables have come to stand for: another one is bound to all of them."""
-    return [f"then {variable} == ({', '.join(variables)},)"] if variables else []
+    return [f"then {ALL} == ({', '.join(variables)},)"] if variables else []
 
 
-def meets_unsized(answers, variable):
+def meets_unsized(answers):
     """Says whether a parameter that is sized would have to stand for a type that is not."""
-    return len(answers) > 1 and any(map(is_unsized, split_list(answers[1].bound[variable][1:-1])))
+    return any(map(is_unsized, split_list(answers[1].bound.get(ALL, "()")[1:-1]))) if answers[1:] else False

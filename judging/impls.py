@@ -1,12 +1,11 @@
 """A type and the one impl of a trait: does the type implement it?"""
 from judging import headers, kinds, regions
-from judging.opening import INV, universes_of
+from judging.opening import INV, probed, probes, universes_of
 from judging.relation import GENERICS
-from judging.terms import PARAMS, spell
+from judging.terms import spell
 
 # A bound that no impl meets; a type that is more general than the other; the check of regions has no other code.
 REFUSALS = ("E0277", "E0308", "")
-ALL = f"?{len(PARAMS)}"
 
 name = "impls"
 
@@ -25,7 +24,13 @@ def is_valid(case):
 def questions(case):
     varied = headers.varied(case.right, 0)
     sized = headers.sized_variables(case.right, 0)
-    return [f"args {headers.args(case.left)} == {headers.args(varied)}", *headers.asks_sized(ALL, sized)]
+    asked = f"args {headers.args(case.left)} == {headers.args(varied)}"
+    return [asked, *headers.asks_sized(sized), *probes(universes(case))]
+
+
+def universes(case):
+    right = headers.varied(case.right, 0)
+    return universes_of(case.left, right, INV, headers.regions_made(right))
 
 
 def line(case, number):
@@ -41,11 +46,10 @@ def line(case, number):
 
 
 def expected(case, answers):
-    if answers[0].said == "ok" and headers.meets_unsized(answers, ALL):
+    if answers[0].said == "ok" and headers.meets_unsized(answers):
         return kinds.Expected(kinds.REFUSED, (kinds.SIZED,))
-    right = headers.varied(case.right, 0)
-    universes = lambda: universes_of(case.left, right, INV, headers.regions_made(right))
-    return kinds.body(answers[0], list(case.more), regions.implied(case.left), universes)
+    implied = regions.implied(case.left)
+    return kinds.body(answers[0], list(case.more), implied, lambda: probed(universes(case), answers))
 
 
 def observed(case, said):

@@ -1,9 +1,10 @@
 """Finds out in which universe each variable for a region is that opening binders has made: no answer prints that.
 
 It goes through two types as relating does, as far as that counts: which binders are opened in which order, and which
-variables types stand for. What it records of regions is not looked at.
+types variables stand for. Nothing is recorded of regions. Whether a variable is in universe 0 is asked of `ask`, too.
 """
-from judging.terms import ITEMS, binds, free_regions, mapped, region
+from judging.asking import split_list
+from judging.terms import ITEMS, PROBE, binds, free_regions, mapped, region
 
 CO, CONTRA, INV = 1, -1, 0
 
@@ -114,3 +115,17 @@ def universes_of(left, right, variance, variables=0):
     opening = Opening(variables)
     opening.relate(left, right, variance)
     return {f"'?{number}": universe for number, universe in enumerate(opening.universes)}
+
+
+def probes(universes):
+    """Asks which variables universe 0 can name: a variable of it is bound to all of them, and has others for the rest."""
+    return [f"then {PROBE} == ({', '.join(f'&{it} u8' for it in universes)},)"] if universes else []
+
+
+def probed(universes, answers):
+    """Gives the universes once they were asked about by the last question, if there was one to ask."""
+    if not universes:
+        return universes
+    parts = split_list(answers[-1].bound[PROBE][1:-1])
+    asked = zip(universes.items(), parts)
+    return {it: 0 if part == f"&{it} u8" else max(universe, 1) for (it, universe), part in asked}

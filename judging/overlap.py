@@ -1,11 +1,9 @@
 """Pairs of impls of one trait: does a type have both?"""
 from judging import headers, kinds, regions
-from judging.opening import INV, universes_of
+from judging.opening import INV, probed, probes, universes_of
 from judging.terms import PARAMS
 
 OVERLAP, LINT, APART = "overlapping", "overlapping but for the leak check", "apart"
-# The variable that stands for all parameters that have to be sized.
-ALL = f"?{2 * len(PARAMS)}"
 
 name = "overlap"
 
@@ -30,7 +28,11 @@ def sized(case):
 
 def questions(case):
     left, right = map(headers.args, varied(case))
-    return [f"args {left} == {right}", *headers.asks_sized(ALL, sized(case))]
+    return [f"args {left} == {right}", *headers.asks_sized(sized(case)), *probes(universes(case))]
+
+
+def universes(case):
+    return universes_of(*varied(case), INV, headers.regions_made(*varied(case)))
 
 
 def line(case, number):
@@ -43,10 +45,10 @@ def expected(case, answers):
     answer = answers[0]
     if answer.said != "ok":
         return kinds.Expected(APART if answer.said == "err" else f"no answer: {answer.text}", ())
-    if headers.meets_unsized(answers, ALL):
+    if headers.meets_unsized(answers):
         return kinds.Expected(APART, (kinds.SIZED,))
-    universes = lambda: universes_of(*varied(case), INV, headers.regions_made(*varied(case)))
-    passes = kinds.decided(lambda it: regions.leak_check(answer.regions, it), answer, universes)
+    check = lambda it: regions.leak_check(answer.regions, it)
+    passes = kinds.decided(check, answer, lambda: probed(universes(case), answers))
     return kinds.Expected(OVERLAP, ()) if passes else kinds.Expected(LINT, (kinds.LEAK,))
 
 

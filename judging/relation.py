@@ -1,6 +1,6 @@
 """Pairs of types of which the one is given where the other is wanted, in a body."""
 from judging import kinds, regions
-from judging.opening import CO, universes_of
+from judging.opening import CO, probed, probes, universes_of
 from judging.terms import CONSTS, PARAMS, REGIONS, is_valid_type, item, spell
 
 GENERICS = ", ".join([*REGIONS, *PARAMS, *(f"const {it}: usize" for it in CONSTS)])
@@ -28,7 +28,12 @@ def spelled(case, rust):
 
 def questions(case):
     left, right = spelled(case, False)
-    return [f"{left} <: {right}"]
+    return [f"{left} <: {right}", *probes(universes(case))]
+
+
+def universes(case):
+    wrapper, _ = case.more
+    return universes_of(item(wrapper, case.left), item(wrapper, case.right), CO)
 
 
 def line(case, number):
@@ -37,10 +42,8 @@ def line(case, number):
 
 
 def expected(case, answers):
-    wrapper, facts = case.more
     implied = regions.implied(case.left) + regions.implied(case.right)
-    universes = lambda: universes_of(item(wrapper, case.left), item(wrapper, case.right), CO)
-    return kinds.body(answers[0], list(facts), implied, universes)
+    return kinds.body(answers[0], list(case.more[1]), implied, lambda: probed(universes(case), answers))
 
 
 def observed(case, said):

@@ -9,8 +9,7 @@ AT_ONCE, ROUNDS = 300, 40
 def smallest(kind, outcome, program):
     """Gives the outcome of a pair of which no smaller one differs alike."""
     for _ in range(ROUNDS):
-        found = {it: None for it in smaller(kind, outcome.case)}
-        tried = sorted(found, key=weight)
+        tried = sorted(set(smaller(kind, outcome.case)), key=weight)
         for at in range(0, len(tried), AT_ONCE):
             alike = [it for it in outcomes(kind, tried[at : at + AT_ONCE], program) if is_alike(it, outcome)]
             if alike:

@@ -63,12 +63,15 @@ def ask_prelude():
         if declared:
             lines.append(f"type {name}::{declared};")
     lines += [f"auto trait {name};" for name in AUTOS]
-    return "\n".join([*lines, f"param {', '.join([*REGIONS, *PARAMS, *(f'const {it}' for it in CONSTS)])};", ""])
+    lines.append(f"param {', '.join([*REGIONS, *PARAMS, *(f'const {it}' for it in CONSTS)])};")
+    return "\n".join([*lines, f"variables {PROBE};", ""])
 
 
 REGIONS = ("'a", "'b", "'c")
 PARAMS = ("T", "U", "V")
 CONSTS = ("N", "M")
+# Variables for types beside those that stand for the parameters of two headers, which each question has in universe 0.
+ALL, PROBE = f"?{2 * len(PARAMS)}", f"?{2 * len(PARAMS) + 1}"
 STATIC = "'static"
 
 
