@@ -43,11 +43,11 @@ class Opening:
                 self.relate(mine, theirs, variance * own)
 
     def objects(self, left, right, variance):
-        """Relates trait objects: what a trait declares is a bound of its own, under a binder of its own."""
+        """Relates trait objects: the type that a trait declares comes before the arguments, in a bound of its own."""
         mine, theirs = left.parts[:-1], right.parts[:-1]
-        args = mine[:-1] if left.data[2] else mine
-        for count in dict.fromkeys((len(args), len(mine))):
-            self.binders(binds(left), mine[:count], binds(right), theirs[:count], [INV] * count, variance)
+        bounds = [(mine[:-1], theirs[:-1]), (mine[-1:] + mine[:-1], theirs[-1:] + theirs[:-1])]
+        for one, other in bounds if left.data[2] else [(mine, theirs)]:
+            self.binders(binds(left), one, binds(right), other, [INV] * len(one), variance)
 
     def binders(self, names, parts, other_names, other_parts, turns, variance):
         if (names, parts) == (other_names, other_parts):
