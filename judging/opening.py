@@ -75,10 +75,14 @@ class Opening:
         return put_all(parts, {it: self.fresh(self.universe) for it in names})
 
     def bind(self, left, right):
+        """Binds a variable to a term, and of two variables the one of the larger number to the other."""
+        if left.form == right.form:
+            left, right = sorted((left, right), key=lambda it: int(it.data[1:]))
+            self.bound[right.data] = left
+            return
         variable, term = (left, right) if left.form == "var" else (right, left)
-        self.bound[variable.data] = term if term.form == "var" else self.generalised(term, (), {})
-        if term.form != "var":
-            self.relate(self.bound[variable.data], term, INV)
+        self.bound[variable.data] = self.generalised(term, (), {})
+        self.relate(self.bound[variable.data], term, INV)
 
     def generalised(self, term, scope, met):
         """Gives a term with new variables for the regions that universe 0 can't name."""
