@@ -9,6 +9,10 @@ from judging.terms import ITEMS, PROBE, binds, free_regions, mapped, region
 CO, CONTRA, INV = 1, -1, 0
 
 
+class Unrelated(Exception):
+    """The types do not relate, so that no binder is opened from here on."""
+
+
 class Opening:
     """What there is while two types are related."""
 
@@ -32,6 +36,8 @@ class Opening:
             return
         if left.form == "var" or right.form == "var":
             self.bind(left, right)
+        elif left.form != right.form or len(left.parts) != len(right.parts):
+            raise Unrelated
         elif left.form == "fn":
             pairs = list(zip(left.parts, right.parts))
             turns = [-variance] * (len(pairs) - 1) + [variance]
@@ -81,8 +87,14 @@ class Opening:
             self.bound[right.data] = left
             return
         variable, term = (left, right) if left.form == "var" else (right, left)
+        if self.stands_in(variable, term):
+            raise Unrelated
         self.bound[variable.data] = self.generalised(term, (), {})
         self.relate(self.bound[variable.data], term, INV)
+
+    def stands_in(self, variable, term):
+        term = self.resolve(term)
+        return term == variable or any(self.stands_in(variable, it) for it in term.parts)
 
     def generalised(self, term, scope, met):
         """Gives a term with new variables for the regions that universe 0 can't name."""
@@ -117,7 +129,10 @@ def variances(term):
 def universes_of(left, right, variance, variables=0):
     """Gives the universe of each variable for a region once two types were related: the first are the types' own."""
     opening = Opening(variables)
-    opening.relate(left, right, variance)
+    try:
+        opening.relate(left, right, variance)
+    except Unrelated:
+        return {}
     return {f"'?{number}": universe for number, universe in enumerate(opening.universes)}
 
 
