@@ -1,6 +1,6 @@
 """Makes a pair smaller for as long as what differs on it does."""
 from judging.comparing import outcomes
-from judging.terms import STATIC, UNIT, binds, free_regions, places, plain, put, region, size
+from judging.terms import STATIC, UNIT, binds, free_regions, places, plain, put, region, size, spell
 
 # How many smaller pairs are tried at once, and how often.
 AT_ONCE, ROUNDS = 300, 40
@@ -27,7 +27,8 @@ def is_alike(one, other):
 def weight(case):
     """Says how large a pair is; of two as large the one that names fewer regions comes first, then the shorter one."""
     named = {*free_regions(case.left), *free_regions(case.right)} - {STATIC}
-    return size(case.left) + size(case.right), len(named), len(repr(case)), repr(case)
+    length = sum(len(spell(it, True)) for it in (case.left, case.right)) + len(repr(case.more))
+    return size(case.left) + size(case.right), len(named), length, repr(case)
 
 
 def smaller(kind, case):
