@@ -137,7 +137,7 @@ def universes_of(left, right, variance, variables=0):
 
 
 def probes(universes):
-    """Asks which variables universe 0 can name: a variable of it is bound to all of them, and has others for the rest."""
+    """Asks which variables universe 0 can name: a variable of it is bound to all, and gets others for the rest."""
     return [f"then {PROBE} == ({', '.join(f'&{it} u8' for it in universes)},)"] if universes else []
 
 
