@@ -143,8 +143,7 @@ def probes(universes):
 
 def probed(universes, answers):
     """Gives the universes once they were asked about by the last question, if there was one to ask."""
-    if not universes:
+    if PROBE not in answers[-1].bound:
         return universes
-    parts = split_list(answers[-1].bound[PROBE][1:-1])
-    asked = zip(universes.items(), parts)
+    asked = zip(universes.items(), split_list(answers[-1].bound[PROBE][1:-1]))
     return {it: 0 if part == f"&{it} u8" else max(universe, 1) for (it, universe), part in asked}
