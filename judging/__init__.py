@@ -1,0 +1,1 @@
+"""What `./judge` is made of: random terms, questions to `ask`, programs for rustc, and what both say compared."""

@@ -1,0 +1,77 @@
+"""Asks `ask`: many questions in a file, and the answers of each."""
+import collections
+import re
+import subprocess
+
+from judging.terms import ask_prelude
+
+# A file may be of 1 MiB.
+MOST_BYTES = 900_000
+SECONDS = 120
+
+# What an answer says: `ok`, `err` and its error, or another first word; constraints of regions, and bindings.
+Answer = collections.namedtuple("Answer", "text said regions bound")
+
+
+class Wrong(Exception):
+    """The program did not answer."""
+
+
+def run(program, text):
+    ran = subprocess.run([program, "-"], input=text, capture_output=True, text=True, timeout=SECONDS)
+    if ran.returncode != 0:
+        raise Wrong(f"{program} has status {ran.returncode}: {ran.stderr.strip()[:500]}")
+    return ran.stdout.splitlines()
+
+
+def batches(questions):
+    """Cuts a row of questions into files."""
+    batch, length = [], 0
+    for it in questions:
+        if length + len(it) > MOST_BYTES:
+            yield batch
+            batch, length = [], 0
+        batch.append(it)
+        length += len(it) + 3
+    yield batch
+
+
+def ask_all(program, questions):
+    """Gives the answer of each question."""
+    answers = []
+    for batch in batches(questions):
+        printed = run(program, ask_prelude() + "".join(f"{it};\n" for it in batch))
+        if len(printed) != len(batch):
+            raise Wrong(f"{program} answers {len(printed)} of {len(batch)} questions")
+        answers += map(read, printed)
+    return answers
+
+
+def split_list(text):
+    """Splits a list at its commas that stand in no brackets."""
+    found, depth, begin = [], 0, 0
+    for at, sign in enumerate(text):
+        arrow = sign == ">" and text[at - 1 : at] == "-"
+        depth += (sign in "([{<") - (sign in ")]}>" and not arrow)
+        if sign == "," and depth == 0:
+            found.append(text[begin:at].strip())
+            begin = at + 1
+    return [*found, text[begin:].strip()] if text.strip() else []
+
+
+def read(text):
+    """Reads an answer: its constraints and its bindings where it is `ok`."""
+    said = re.match("[a-z ]*", text)[0].strip()
+    regions = re.search(r"; regions=\[([^\]]*)\]", text) if said == "ok" else None
+    bound = re.search(r"; bound=\[(.*)\]$", text) if said == "ok" else None
+    constraints = [constraint(it) for it in regions[1].split(", ")] if regions else []
+    bindings = [it.split("=", 1) for it in split_list(bound[1])] if bound else []
+    return Answer(text, said, [it for pair in constraints for it in pair], dict(bindings))
+
+
+def constraint(text):
+    """Gives what a constraint asks to outlive what: once, or each the other."""
+    if " == " in text:
+        one, other = text.split(" == ")
+        return [(one, other), (other, one)]
+    return [tuple(text.split(": "))]

@@ -1,0 +1,73 @@
+"""Asks rustc: many items in a file, one a line, and what it says of each."""
+import collections
+import concurrent.futures
+import json
+import os
+import subprocess
+import tempfile
+
+from judging.terms import RUST_PRELUDE
+
+LINES = 400
+SECONDS = 60
+
+# What rustc says of a line: the codes of its errors, the names of its lints, and the texts of both; `late` where it was
+# given up on.
+Said = collections.namedtuple("Said", "errors lints texts late")
+
+
+class Wrong(Exception):
+    """What stands before all programs was not compiled."""
+
+
+NOTHING = Said((), (), (), False)
+
+
+def version():
+    return subprocess.run(["rustc", "--version"], capture_output=True, text=True, check=True).stdout.strip()
+
+
+def compile_all(lines):
+    """Gives what rustc says of each line."""
+    cut = [lines[at : at + LINES] for at in range(0, len(lines), LINES)]
+    with concurrent.futures.ThreadPoolExecutor(min(4, os.cpu_count())) as pool:
+        return [it for said in pool.map(compile_some, cut) for it in said]
+
+
+def compile_some(lines):
+    """Compiles lines in one file; where that takes too long, or rustc breaks off, by halves."""
+    with tempfile.TemporaryDirectory() as room:
+        with open(f"{room}/judged.rs", "w", encoding="utf-8") as it:
+            it.write(RUST_PRELUDE + "".join(f"{line}\n" for line in lines))
+        words = ["rustc", "--edition=2021", "--crate-type=lib", "--emit=metadata", "--error-format=json"]
+        words += ["--force-warn=coherence-leak-check"]
+        try:
+            ran = subprocess.run(
+                [*words, "-o", f"{room}/judged.rmeta", f"{room}/judged.rs"],
+                capture_output=True,
+                text=True,
+                timeout=SECONDS,
+            )
+        except subprocess.TimeoutExpired:
+            ran = None
+    if ran is not None and ran.returncode in (0, 1):
+        return by_lines(ran.stderr, len(lines))
+    if len(lines) == 1:
+        return [NOTHING._replace(late=True)]
+    half = len(lines) // 2
+    return compile_some(lines[:half]) + compile_some(lines[half:])
+
+
+def by_lines(said, count):
+    first = RUST_PRELUDE.count("\n") + 1
+    errors, lints, texts = ([[] for _ in range(count)] for _ in range(3))
+    for text in said.splitlines():
+        told = json.loads(text)
+        lines = {it["line_start"] for it in told["spans"] if it["is_primary"]}
+        code = told["code"]["code"] if told["code"] else ""
+        for at in lines:
+            if at < first:
+                raise Wrong(f"rustc does not take what stands before all programs: {told['rendered']}")
+            (errors if told["level"] == "error" else lints)[at - first].append(code)
+            texts[at - first].append(told["rendered"])
+    return [Said(tuple(a), tuple(b), tuple(c), False) for a, b, c in zip(errors, lints, texts)]
