@@ -1,6 +1,7 @@
 //! Prints the answers of worked rows: what relating two types answers, and what it leaves recorded.
 #![tactic(auto)]
 
+mod calls;
 mod doubling;
 mod rows;
 
