@@ -1,11 +1,13 @@
 -- Traits that are gone through by super-predicates are those that are reached.
 use Rattle.std.proofs.Common.{ℕ, zero, suc, ◌+◌, ◌≤◌, ◌<◌, ◌≡◌, ◌⊎◌, refl, sym, ap, ◌∙◌, subst, arith, inl, inr}
-use Rattle.std.proofs.Common.{Bool, true, false, IsTrue, not, List, [], ◌∷◌, ◌++◌, map, length, length-append, append-nil, get_or}
+use Rattle.std.proofs.Common.{Bool, true, false, IsTrue, not, List, [], ◌∷◌, ◌++◌, map, length, length-append, append-nil}
+use Rattle.std.proofs.Common.{get_or}
 use Rattle.std.proofs.Common.{Option, Some, None, Result, Ok, Err}
 use Rattle.std.proofs.lemmas.List.{append_assoc}
 use Rattle.std.proofs.lemmas.List.Elements.{Contains-append_cases, Contains-append_left, filter_map-append}
 use Rattle.std.proofs.lemmas.List.Elements.{Contains-append_right, Contains-push_cases, Contains-push}
-use Rattle.std.proofs.lemmas.List.Sorted.{IsPermutation-map, Contains-permutation, IsPermutation-sym, length_permutation}
+use Rattle.std.proofs.lemmas.List.Sorted.{IsPermutation-map, Contains-permutation, IsPermutation-sym}
+use Rattle.std.proofs.lemmas.List.Sorted.{length_permutation}
 use Rattle.std.proofs.lemmas.Bool.{false≢true, or_cases, or_parts, cases_lt}
 use Rattle.std.specs.List.{Contains, filter_map, cons_option, list_any}
 use Rattle.std.specs.List.Sorted.{IsPermutation}
@@ -74,7 +76,8 @@ spreads_one d stack seen seen' absent perm = record {
     | inr none ↦ absurd (none_in e none)
   ];
   old = λ e k. Contains-permutation (d ∷ seen) seen' e perm (later_in d seen e k);
-  only = λ e k. elim (in_cases d seen e (Contains-permutation seen' (d ∷ seen) e (IsPermutation-sym (d ∷ seen) seen' perm) k)) [
+  only = λ e k. elim (in_cases d seen e
+      (Contains-permutation seen' (d ∷ seen) e (IsPermutation-sym (d ∷ seen) seen' perm) k)) [
     | inl is ↦ inr (subst (Contains (d ∷ [])) is (first_in d []))
     | inr l ↦ inl l
   ];

@@ -11,8 +11,8 @@ use relation_terms::terms::{Clause, Interner, OutOfMemory, TraitId};
 use std::collections::HashSet;
 use std::marker::Model;
 
-/// The traits that are reached from a trait by super-predicates, each once: the last that was found first. Where a growth
-/// was refused it yields `OutOfMemory`, then and at each later call.
+/// The traits that are reached from a trait by super-predicates, each once: the last that was found first. Where a
+/// growth was refused it yields `OutOfMemory`, then and at each later call.
 #[derive(Drop)]
 pub struct SupertraitDefIds<'a, I: Interner> {
     cx: &'a I,

@@ -16,3 +16,4 @@ pub use def_ids::{SupertraitDefIds, supertrait_def_ids};
 pub use elaboratable::{ClauseWithSupertraitSpan, Elaboratable};
 pub use elaborator::{Elaborator, elaborate};
 pub use faults::ElabFault;
+pub use relation_tools::elaborate::{OutlivesAssumption, elaborate_outlives_assumptions};

@@ -27,7 +27,9 @@ returns-in_default g c =
     let k = c.clause_kind-value.result in
     let is = c.clause_kind-value.ensures in
     record {
-      is = subst (λ z. None ≡ reference_of z) (sym is) (no_reference m k.value c.in_default.not-Trait (m.bound_vars k.bound_vars));
+      is = subst (λ z. None ≡ reference_of z) (sym is)
+          (no_reference m k.value c.in_default.not-Trait (m.bound_vars k.bound_vars));
       sure = tt;
-      names = subst (λ z. None ≡ trait_named z) (sym is) (no_name m k.value c.in_default.not-Trait (m.bound_vars k.bound_vars));
+      names = subst (λ z. None ≡ trait_named z) (sym is)
+          (no_name m k.value c.in_default.not-Trait (m.bound_vars k.bound_vars));
     }
