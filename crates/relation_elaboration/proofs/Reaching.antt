@@ -78,9 +78,9 @@ spreads_one d stack seen seen' absent perm = record {
   old = λ e k. Contains-permutation (d ∷ seen) seen' e perm (later_in d seen e k);
   only = λ e k. elim (in_cases d seen e
       (Contains-permutation seen' (d ∷ seen) e (IsPermutation-sym (d ∷ seen) seen' perm) k)) [
-    | inl is ↦ inr (subst (Contains (d ∷ [])) is (first_in d []))
-    | inr l ↦ inl l
-  ];
+        | inl is ↦ inr (subst (Contains (d ∷ [])) is (first_in d []))
+        | inr l ↦ inl l
+      ];
 }
 
 -- Some, and then others.
