@@ -21,21 +21,21 @@ use Rattle.relation_elaboration.proofs.Keeping.{follows_within}
 use Rattle.std.proofs.lemmas.Bool.{false≢true}
 
 -- Two lists have no member in common.
-abbrev Apart : List Tree → List Tree → Type 0
-Apart xs ys = (q : Tree) → Contains xs q → Contains ys q → ⊥
+abbrev pub Apart : {A : Type 0} → List A → List A → Type 0
+Apart {A} xs ys = (q : A) → Contains xs q → Contains ys q → ⊥
 
-pub distinct_both : (xs ys : List Tree) → IsDistinct xs → IsDistinct ys → Apart xs ys → IsDistinct (xs ++ ys)
+pub distinct_both : {A : Type 0} (xs ys : List A) → IsDistinct xs → IsDistinct ys → Apart xs ys → IsDistinct (xs ++ ys)
 distinct_both [] ys d e a = e
 distinct_both (x ∷ xs) ys d e a = (
   λ h. elim (Contains-append_cases xs ys x h) [ inl b ↦ d.0 b | inr b ↦ a x (first_in x xs) b ],
   distinct_both xs ys d.1 e (λ q h k. a q (later_in x xs q h) k),
 )
 
-distinct_left : (xs ys : List Tree) → IsDistinct (xs ++ ys) → IsDistinct xs
+pub distinct_left : {A : Type 0} (xs ys : List A) → IsDistinct (xs ++ ys) → IsDistinct xs
 distinct_left [] ys d = tt
 distinct_left (x ∷ xs) ys d = (λ h. d.0 (Contains-append_left xs ys x h), distinct_left xs ys d.1)
 
-distinct_apart : (xs ys : List Tree) → IsDistinct (xs ++ ys) → Apart xs ys
+pub distinct_apart : {A : Type 0} (xs ys : List A) → IsDistinct (xs ++ ys) → Apart xs ys
 distinct_apart [] ys d q h k = none_in q h
 distinct_apart (x ∷ xs) ys d q h k = elim (in_cases x xs q h) [
   | inl e ↦ d.0 (subst (λ z. Contains (xs ++ ys) z) (sym e) (Contains-append_right xs ys q k))
@@ -43,7 +43,7 @@ distinct_apart (x ∷ xs) ys d q h k = elim (in_cases x xs q h) [
 ]
 
 -- A list split where a member stands.
-split : (cs : List Tree) (x : Tree) → Contains cs x → (front : List Tree) × (back : List Tree) × (cs ≡ front ++ x ∷
+split : {A : Type 0} (cs : List A) (x : A) → Contains cs x → (front : List A) × (back : List A) × (cs ≡ front ++ x ∷
     back)
 split [] x h = absurd (none_in x h)
 split (c ∷ cs) x h = elim (in_cases c cs x h) [
@@ -52,7 +52,8 @@ split (c ∷ cs) x h = elim (in_cases c cs x h) [
 ]
 
 -- Different members of a list are no more than it has.
-pub no_more : (xs cs : List Tree) → IsDistinct xs → ((x : Tree) → Contains xs x → Contains cs x) → length xs ≤ length cs
+pub no_more : {A : Type 0} (xs cs : List A) → IsDistinct xs → ((x : A) → Contains xs x → Contains cs x) →
+    length xs ≤ length cs
 no_more [] cs d h = omega arith
 no_more (x ∷ xs) cs d h =
     let r = split cs x (h x (first_in x xs)) in

@@ -28,7 +28,7 @@ use Rattle.relation_elaboration.specs.Laws.{RenamingsImplyRenamings}
 use Rattle.relation_elaboration.proofs.Stating.{stated_same}
 use Rattle.relation_elaboration.proofs.Parting.{assumed_moved, closed_itself}
 
-pub none_in : (x : Tree) → Contains [] x → ⊥
+pub none_in : {A : Type 0} (x : A) → Contains [] x → ⊥
 none_in x h = omega (arith, h.1)
 
 -- A list made of another one by two functions that agree but for renaming.

@@ -12,3 +12,5 @@ pub mod Worklists
 pub mod Making
 pub mod Yielding
 pub mod Pulled
+pub mod TraitClauses
+pub mod Reaching

@@ -38,7 +38,7 @@ last_all : {A : Type 0} (P : A → Type 0) (xs : List A) (x : A) → All P (xs +
 last_all P [] x a = All-head P x [] a
 last_all P (y ∷ ys) x a = last_all P ys x (All-tail P y (ys ++ x ∷ []) a)
 
-none_left : {A : Type 0} (xs : List A) → (0 < length xs → IsTrue false) → xs ≡ []
+pub none_left : {A : Type 0} (xs : List A) → (0 < length xs → IsTrue false) → xs ≡ []
 none_left [] h = refl
 none_left (x ∷ xs) h = absurd (false≢true (h (omega arith)))
 

@@ -5,3 +5,5 @@ pub mod Closure
 pub mod Laws
 pub mod Runs
 pub mod Pulling
+pub mod TraitClauses
+pub mod Reach

@@ -14,7 +14,7 @@ pub record Standing : Type 0 where
   pub limit : ℕ
 
 -- No member stands in the list twice.
-abbrev pub IsDistinct : List Tree → Type 0
+abbrev pub IsDistinct : {A : Type 0} → List A → Type 0
 IsDistinct [] = Unit {0}
 IsDistinct (x ∷ xs) = (Contains xs x → ⊥) × IsDistinct xs
 

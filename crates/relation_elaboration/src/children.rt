@@ -27,7 +27,7 @@ use relation_tools::elaborate::assumed_argument;
 use relation_tools::outlives::{ComponentOf, components_of};
 
 /// A trait with its arguments, under its binder.
-type BoundTraitRef<I> = Binder<
+pub type BoundTraitRef<I> = Binder<
     <I as relation_terms::terms::Keys>::Key,
     TraitRef<<I as relation_terms::terms::Keys>::Key, <I as relation_terms::terms::Keys>::Id>,
 >;

@@ -3,13 +3,17 @@
 #![tactic(auto)]
 
 mod children;
+mod def_ids;
 mod elaboratable;
 mod elaborator;
 mod faults;
 pub mod instantiate;
 pub mod laws;
+mod trait_clauses;
 mod worklist;
 
+pub use def_ids::{SupertraitDefIds, supertrait_def_ids};
 pub use elaboratable::{ClauseWithSupertraitSpan, Elaboratable};
 pub use elaborator::{Elaborator, elaborate};
 pub use faults::ElabFault;
+pub use relation_tools::elaborate::{OutlivesAssumption, elaborate_outlives_assumptions};
