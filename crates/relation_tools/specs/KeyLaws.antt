@@ -1,6 +1,7 @@
 -- Laws of the keys of types.
 use Rattle.std.specs.Prelude.{◌≡◌, ◌≢◌, ℕ, Bool, true, false, Some}
 use Rattle.relation_terms.specs.Trees.{Tree, Leaves}
+use Rattle.relation_folds.specs.Clashes.{flexible}
 use Rattle.relation_tools.specs.HeadKeys.{head_key}
 use Rattle.relation_tools.specs.Instances.{CommonInstance, flexible_but_aliases, IsNoError}
 use Rattle.relation_tools.specs.declared.fast_reject.simplify.TreatParams.{TreatParams}
@@ -22,3 +23,16 @@ abbrev pub DifferentKeysAreApart : Type 0
 DifferentKeysAreApart = (autos : ℕ → Bool) (solver : Bool) (treat : TreatParams) (a b : Tree) (k m : SimplifiedType ℕ) →
     Leaves IsNoError a → Leaves IsNoError b → head_key autos solver treat a ≡ Some k →
     head_key autos solver treat b ≡ Some m → k ≢ m → CommonForm treat a b → ⊥
+
+-- The places that may stand for others under a mode: where parameters may, all that a quick test takes as such; where
+-- they are types of their own, aliases are too.
+abbrev pub places_of : TreatParams → Tree → Bool
+places_of InstantiateWithInfer t = flexible true t
+places_of AsRigid t = flexible_but_aliases false t
+
+-- Types without errors that have unlike keys, each under a mode of its own, have no common instance: as the type of an
+-- impl, and one that is looked up among them.
+abbrev pub UnlikeKeysAreApart : Type 0
+UnlikeKeysAreApart = (autos : ℕ → Bool) (solver : Bool) (left right : TreatParams) (a b : Tree)
+    (k m : SimplifiedType ℕ) → Leaves IsNoError a → Leaves IsNoError b → head_key autos solver left a ≡ Some k →
+    head_key autos solver right b ≡ Some m → k ≢ m → CommonInstance (places_of left) (places_of right) a b → ⊥

@@ -2,7 +2,7 @@
 //! the law.
 
 ghost use Rattle.relation_tools.specs.InstanceLaws.{TermsAreInstances, AliasesMeetTypes};
-ghost use Rattle.relation_tools.specs.KeyLaws.{DifferentKeysAreApart};
+ghost use Rattle.relation_tools.specs.KeyLaws.{DifferentKeysAreApart, UnlikeKeysAreApart};
 ghost use Rattle.relation_tools.specs.Renamings.{RenamingsAreOne};
 
 /// Instances that there are.
@@ -14,6 +14,7 @@ pub fn instances()
 /// Types of different keys.
 pub fn keys()
     ensures apart { DifferentKeysAreApart }
+    ensures unlike { UnlikeKeysAreApart }
 {}
 
 /// Predicates whose outermost binders differ in names, order or unused variables alone: these, and no others, are
