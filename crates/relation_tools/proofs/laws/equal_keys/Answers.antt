@@ -4,13 +4,15 @@ use Rattle.relation_terms.specs.declared.terms.ids.DefId.{DefId}
 use Rattle.relation_terms.specs.contracts.terms.ids.DefId as item
 use Rattle.relation_terms.specs.contracts.terms.ids.DefIdPartialEq.TheImpl as item_impl
 use Rattle.relation_tools.specs.HeadKeys.{numbered}
-use Rattle.relation_tools.specs.declared.fast_reject.simplify.SimplifiedType.TheVariants.{Bool as BoolKey, Char, Int, Uint}
-use Rattle.relation_tools.specs.declared.fast_reject.simplify.SimplifiedType.TheVariants.{Float, Adt, Foreign, Str, Array}
-use Rattle.relation_tools.specs.declared.fast_reject.simplify.SimplifiedType.TheVariants.{Slice, Ref, Ptr, Never, Tuple}
+use Rattle.relation_tools.specs.declared.fast_reject.simplify.SimplifiedType.TheVariants.{Bool as BoolKey, Char, Int}
+use Rattle.relation_tools.specs.declared.fast_reject.simplify.SimplifiedType.TheVariants.{Uint, Float, Adt, Foreign}
+use Rattle.relation_tools.specs.declared.fast_reject.simplify.SimplifiedType.TheVariants.{Str, Array, Slice, Ref, Ptr}
+use Rattle.relation_tools.specs.declared.fast_reject.simplify.SimplifiedType.TheVariants.{Never, Tuple}
 use Rattle.relation_tools.specs.declared.fast_reject.simplify.SimplifiedType.TheVariants.{MarkerTraitObject, Trait}
 use Rattle.relation_tools.specs.declared.fast_reject.simplify.SimplifiedType.TheVariants.{Closure, Coroutine}
 use Rattle.relation_tools.specs.declared.fast_reject.simplify.SimplifiedType.TheVariants.{CoroutineWitness, Function}
-use Rattle.relation_tools.specs.declared.fast_reject.simplify.SimplifiedType.TheVariants.{UnsafeBinder, Placeholder, Error}
+use Rattle.relation_tools.specs.declared.fast_reject.simplify.SimplifiedType.TheVariants.{UnsafeBinder, Placeholder}
+use Rattle.relation_tools.specs.declared.fast_reject.simplify.SimplifiedType.TheVariants.{Error}
 use Rattle.relation_tools.specs.contracts.fast_reject.simplify.SimplifiedTypePartialEq.TheImpl as key_impl
 use Rattle.relation_tools.proofs.SameKeys.{int_eq, int_same, int_self, uint_eq, uint_same, uint_self}
 use Rattle.relation_tools.proofs.SameKeys.{float_eq, float_same, float_self, mut_eq, mut_same, mut_self}
