@@ -3,3 +3,5 @@ pub mod Assigning
 pub mod RegionTerms
 pub mod Deciding
 pub mod Rejected
+pub mod FreeValues
+pub mod OpenedInstances

@@ -100,7 +100,7 @@ unfolding IsTermIn InContext
 made st t h = h.0
 
 pub clashes_do_not_unify : ClashesDoNotUnify
-clashes_do_not_unify st s d a b names fa fb ia ib c g e = clashes_are_apart false false d a b c names (record {
+clashes_do_not_unify st s d a b names fa fb ia ib c g e = clashes_are_apart false false d a b c (λ l r. names) (record {
   left = apply s a;
   right = apply s b;
   of_left = applied st s g a fa (made st a ia);

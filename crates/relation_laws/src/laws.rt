@@ -11,23 +11,26 @@ ghost use Rattle.relation_contexts.specs.StepLaws.{AssigningTwice, Instantiating
 ghost use Rattle.relation_contexts.specs.StepLaws.{ValuesAreNamable, RelatesLater, RelatesUnderMore, PartsCompose};
 ghost use Rattle.relation_contexts.specs.StepLaws.{NoPartsRelate, FormsRelate, StepsCompose, InstantiatingSteps};
 ghost use Rattle.relation_contexts.specs.StepLaws.{OpeningSteps, OneRoundRelates, TwoRoundsRelate, UnusedBindersRelate};
-ghost use Rattle.relation_contexts.specs.StepLaws.{FrontBegins, FrontGoesOn, FrontEnds, ExactsCompose, ExactStepsCompose};
-ghost use Rattle.relation_contexts.specs.StepLaws.{InstantiatingIsExactStep, ExactFrontGoesOn, ExactFrontEnds};
-ghost use Rattle.relation_contexts.specs.StepLaws.{ExactKeepsUnifiers};
+ghost use Rattle.relation_contexts.specs.StepLaws.{FrontBegins, FrontGoesOn, FrontEnds, ExactsCompose};
+ghost use Rattle.relation_contexts.specs.StepLaws.{ExactStepsCompose, InstantiatingIsExactStep, ExactFrontGoesOn};
+ghost use Rattle.relation_contexts.specs.StepLaws.{ExactFrontEnds, ExactKeepsUnifiers};
 ghost use Rattle.relation_contexts.specs.ErasureLaws.{ErasureAssigns, FormsUnifyByParts, TypesOfValuesUnify};
 ghost use Rattle.relation_contexts.specs.ErasureLaws.{ListsUnifyByItems, UnlikeFormsDoNotUnify, ErasedOccursCheck};
 ghost use Rattle.relation_contexts.specs.ErasureLaws.{InvariantTermsAreAlike};
 ghost use Rattle.relation_contexts.specs.StoreLaws.{EquatingStaysSound, EquatingIsExact, BindingStaysSound};
-ghost use Rattle.relation_contexts.specs.StoreLaws.{BindingIsExact, BindingInstantiates, CyclesRefuse, GeneralisingIsOne};
-ghost use Rattle.relation_contexts.specs.StoreLaws.{GeneralisingInstantiates, GeneralisingRefuses, NumbersStaySound};
-ghost use Rattle.relation_contexts.specs.StoreLaws.{NumbersAreExact, MakingStaysSound, MadeIsUnconstrained};
-ghost use Rattle.relation_contexts.specs.StoreLaws.{ConstrainingIsExact, NothingIsSeen, ResolvedResolves, MakingOneMakes};
+ghost use Rattle.relation_contexts.specs.StoreLaws.{BindingIsExact, BindingInstantiates, CyclesRefuse};
+ghost use Rattle.relation_contexts.specs.StoreLaws.{GeneralisingIsOne, GeneralisingInstantiates, GeneralisingRefuses};
+ghost use Rattle.relation_contexts.specs.StoreLaws.{NumbersStaySound, NumbersAreExact, MakingStaysSound};
+ghost use Rattle.relation_contexts.specs.StoreLaws.{MadeIsUnconstrained, ConstrainingIsExact, NothingIsSeen};
+ghost use Rattle.relation_contexts.specs.StoreLaws.{ResolvedResolves, MakingOneMakes};
 ghost use Rattle.relation_contexts.specs.OpeningLaws.{MakingEachMakes, InstantiatingEachOpens, EnteredBodyIsIn};
 ghost use Rattle.relation_contexts.specs.OpeningLaws.{InstantiatedBodyIsIn, EnteredBodyBinds, InstantiatedBodyBinds};
 ghost use Rattle.relation_contexts.specs.Stores.{BindingsAreMet};
 ghost use Rattle.type_relations.specs.UniverseLaws.{RootsAreBoundOrNot, EquatingKeepsUniverse, ReadingKeepsUniverse};
 ghost use Rattle.type_relations.specs.UniverseLaws.{GeneralisingKeepsUniverse};
 ghost use Rattle.relation_laws.specs.RejectionLaws.{ClashesDoNotUnify, ClashesAreNotRelated};
+ghost use Rattle.relation_laws.specs.SolutionLaws.{FreeValues, MadeIsUnconstrainedErased};
+ghost use Rattle.relation_laws.specs.OpenedInstances.{OpenedIsInstance};
 ghost use Rattle.relation_laws.specs.RegionTerms.{RelatedTermsAgree, RelatedIffAgree};
 
 /// What holds of all terms, and of errors, parameters and constants.
@@ -121,6 +124,7 @@ pub fn exactness()
 /// What a store's calls do to the assignments that satisfy it, and that it stays sound.
 pub fn stores()
     ensures met { BindingsAreMet }
+    ensures free { FreeValues }
     ensures equating { EquatingIsExact }
     ensures equated { EquatingStaysSound }
     ensures binding { BindingIsExact }
@@ -133,6 +137,7 @@ pub fn stores()
     ensures numbers { NumbersAreExact }
     ensures numbered { NumbersStaySound }
     ensures making { MadeIsUnconstrained }
+    ensures making_erased { MadeIsUnconstrainedErased }
     ensures made { MakingStaysSound }
     ensures makes { MakingOneMakes }
     ensures constraining { ConstrainingIsExact }
@@ -157,6 +162,7 @@ pub fn opening()
     ensures instantiated { InstantiatedBodyIsIn }
     ensures entered_binds { EnteredBodyBinds }
     ensures instantiated_binds { InstantiatedBodyBinds }
+    ensures instance { OpenedIsInstance }
 {}
 
 /// First-order terms that a quick test tells apart, parameters standing for themselves.

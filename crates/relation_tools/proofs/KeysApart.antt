@@ -17,7 +17,7 @@ use Rattle.relation_tools.specs.declared.fast_reject.simplify.SimplifiedType.{Si
 use Rattle.relation_tools.specs.declared.fast_reject.simplify.SimplifiedType.TheVariants.{Placeholder, Tuple, Function}
 use Rattle.relation_tools.specs.Instances.{Instance, put, kept_leaf, kept_node, kept_bind, kept_nil, kept_cons}
 use Rattle.relation_tools.specs.Instances.{flexible_but_aliases, IsNoError}
-use Rattle.relation_tools.specs.KeyLaws.{are_instantiated, DifferentKeysAreApart}
+use Rattle.relation_tools.specs.KeyLaws.{are_instantiated, DifferentKeysAreApart, places_of, UnlikeKeysAreApart}
 use Rattle.relation_tools.proofs.Instancing.{within_all, erased_count, erased_inputs, erased_object, count_kept}
 use Rattle.relation_tools.proofs.Instancing.{inputs_kept, object_kept}
 
@@ -101,32 +101,93 @@ module _ (autos : ℕ → Bool) (solver : Bool) (treat : TreatParams) where
   leaf_told (atom x) k e = e
   leaf_told unknown k e = absurd (cc)
 
-  -- A type that has a key tells it in the erasure of each instance.
-  told : {a x : Tree} → Instance (flexible_but_aliases (are_instantiated treat)) a x → Leaves IsNoError a →
-      (k : SimplifiedType ℕ) → head_key autos solver treat a ≡ Some k → erased_key (erase x) ≡ Some k
-  told (put {a = a} f h v g) n k e = absurd (none_some (place_keyless a f n) e)
-  told (kept_leaf {l = l} f) n k e = leaf_told l k e
-  told (kept_node {h = pattern_type} f (kept_cons i j)) n k e = told i n.0 k e
-  told (kept_node {h = pattern_type} f (put {a = a} q h v g)) n k e =
-      absurd (none_some (pattern_keyless a (within_aliases (are_instantiated treat) a q)) e)
-  told (kept_node {h = pattern_type} f i) n k e = absurd (cc)
-  told (kept_node {h = tuple} {us = us} f i) n k e =
-      ap (λ c. Some (Tuple c)) (erased_count us ∙ count_kept (within_aliases (are_instantiated treat)) i) ∙ e
-  told (kept_node {h = fn_ptr} {us = us} f i) n k e =
-      ap (λ c. Some (Function c)) (erased_inputs us ∙ inputs_kept (within_aliases (are_instantiated treat)) i) ∙ e
-  told (kept_node {h = dynamic} {us = us} f i) n k e =
-      ap (λ p. Some (object_key autos p)) (erased_object us ∙ object_kept (within_aliases (are_instantiated treat)) i) ∙ e
-  told (kept_node {h = alias q d} {ts = ts} f i) n k e =
-      alias_told (not (non_region_infer_stands (node (alias q d) ts)) || solver) (param_key treat) k e
-  told (kept_node f i) n k e = e
-  told (kept_bind i) n k e = absurd (cc)
-  told kept_nil n k e = absurd (cc)
-  told (kept_cons i j) n k e = absurd (cc)
+  -- A type that has a key tells it in the erasure of each instance, where no place has one.
+  module _ {places : Tree → Bool} (within : (a : Tree) → places a ≡ true → flexible true a ≡ true)
+      (keyless : (a : Tree) → places a ≡ true → Leaves IsNoError a → head_key autos solver treat a ≡ None) where
+    told : {a x : Tree} → Instance places a x → Leaves IsNoError a → (k : SimplifiedType ℕ) →
+        head_key autos solver treat a ≡ Some k → erased_key (erase x) ≡ Some k
+    told (put {a = a} f h v g) n k e = absurd (none_some (keyless a f n) e)
+    told (kept_leaf {l = l} f) n k e = leaf_told l k e
+    told (kept_node {h = pattern_type} f (kept_cons i j)) n k e = told i n.0 k e
+    told (kept_node {h = pattern_type} f (put {a = a} q h v g)) n k e =
+        absurd (none_some (pattern_keyless a (within a q)) e)
+    told (kept_node {h = pattern_type} f i) n k e = absurd (cc)
+    told (kept_node {h = tuple} {us = us} f i) n k e =
+        ap (λ c. Some (Tuple c)) (erased_count us ∙ count_kept within i) ∙ e
+    told (kept_node {h = fn_ptr} {us = us} f i) n k e =
+        ap (λ c. Some (Function c)) (erased_inputs us ∙ inputs_kept within i) ∙ e
+    told (kept_node {h = dynamic} {us = us} f i) n k e =
+        ap (λ p. Some (object_key autos p)) (erased_object us ∙ object_kept within i) ∙ e
+    told (kept_node {h = alias q d} {ts = ts} f i) n k e =
+        alias_told (not (non_region_infer_stands (node (alias q d) ts)) || solver) (param_key treat) k e
+    told (kept_node f i) n k e = e
+    told (kept_bind i) n k e = absurd (cc)
+    told kept_nil n k e = absurd (cc)
+    told (kept_cons i j) n k e = absurd (cc)
 
 some_path : {k m : SimplifiedType ℕ} → Some k ≡ Some m → k ≡ m
 some_path e = cc
 
 pub different_keys_are_apart : DifferentKeysAreApart
 different_keys_are_apart autos solver treat a b k m p q e f n c =
-    n (some_path (sym (told autos solver treat c.of_left p k e) ∙ ap (erased_key autos solver treat) c.same ∙
-    told autos solver treat c.of_right q m f))
+    n (some_path (sym (tells c.of_left p k e) ∙ ap (erased_key autos solver treat) c.same ∙ tells c.of_right q m f))
+  where
+    tells : {a x : Tree} → Instance (flexible_but_aliases (are_instantiated treat)) a x → Leaves IsNoError a →
+        (k : SimplifiedType ℕ) → head_key autos solver treat a ≡ Some k →
+        erased_key autos solver treat (erase x) ≡ Some k
+    tells i n k e = told autos solver treat (within_aliases (are_instantiated treat)) (place_keyless autos solver treat)
+        i n k e
+
+-- Where parameters have no key, aliases have none.
+alias_keyless : (b : Bool) (o : Option (SimplifiedType ℕ)) → o ≡ None → cond b o None ≡ None
+alias_keyless true o e = e
+alias_keyless false o e = refl
+
+within_mode : (treat : TreatParams) (a : Tree) → places_of treat a ≡ true → flexible true a ≡ true
+within_mode InstantiateWithInfer a f = f
+within_mode AsRigid a f = within_aliases false a f
+
+module _ (autos : ℕ → Bool) (solver : Bool) where
+  infer_keyless : (a : Tree) → flexible true a ≡ true → Leaves IsNoError a →
+      head_key autos solver InstantiateWithInfer a ≡ None
+  infer_keyless (node (alias k d) ts) f n =
+      alias_keyless (not (non_region_infer_stands (node (alias k d) ts)) || solver) None refl
+  infer_keyless (node h ts) f n = place_keyless autos solver InstantiateWithInfer (node h ts) f n
+  infer_keyless (leaf l) f n = place_keyless autos solver InstantiateWithInfer (leaf l) f n
+  infer_keyless (bind ks t) f n = absurd (cc)
+  infer_keyless nil f n = absurd (cc)
+  infer_keyless (cons t ts) f n = absurd (cc)
+
+  mode_keyless : (treat : TreatParams) (a : Tree) → places_of treat a ≡ true → Leaves IsNoError a →
+      head_key autos solver treat a ≡ None
+  mode_keyless InstantiateWithInfer a f n = infer_keyless a f n
+  mode_keyless AsRigid a f n = place_keyless autos solver AsRigid a f n
+
+  -- What an erasure tells where parameters have no key it tells where they have one.
+  tells_as_rigid : (t : Tree) (k : SimplifiedType ℕ) → erased_key autos solver InstantiateWithInfer t ≡ Some k →
+      erased_key autos solver AsRigid t ≡ Some k
+  tells_as_rigid (leaf (atom (type_param i n))) k e = absurd (cc)
+  tells_as_rigid (leaf (atom x)) k e = e
+  tells_as_rigid (leaf l) k e = e
+  tells_as_rigid (node (alias q d) ts) k e = absurd (cc)
+  tells_as_rigid (node pattern_type (cons t us)) k e = tells_as_rigid t k e
+  tells_as_rigid (node h ts) k e = e
+  tells_as_rigid (bind ks t) k e = e
+  tells_as_rigid nil k e = e
+  tells_as_rigid (cons t ts) k e = e
+
+  rigid_tells : (treat : TreatParams) (t : Tree) (k : SimplifiedType ℕ) → erased_key autos solver treat t ≡ Some k →
+      erased_key autos solver AsRigid t ≡ Some k
+  rigid_tells AsRigid t k e = e
+  rigid_tells InstantiateWithInfer t k e = tells_as_rigid t k e
+
+  mode_told : (treat : TreatParams) {a x : Tree} → Instance (places_of treat) a x → Leaves IsNoError a →
+      (k : SimplifiedType ℕ) → head_key autos solver treat a ≡ Some k →
+      erased_key autos solver AsRigid (erase x) ≡ Some k
+  mode_told treat {x = x} i n k e =
+      rigid_tells treat (erase x) k (told autos solver treat (within_mode treat) (mode_keyless treat) i n k e)
+
+pub unlike_keys_are_apart : UnlikeKeysAreApart
+unlike_keys_are_apart autos solver left right a b k m p q e f n c =
+    n (some_path (sym (mode_told autos solver left c.of_left p k e) ∙ ap (erased_key autos solver AsRigid) c.same ∙
+    mode_told autos solver right c.of_right q m f))

@@ -10,6 +10,7 @@ mod Unlike
 pub mod Instancing
 pub mod Rejecting
 pub mod KeysApart
+mod SameKeys
 pub mod Themselves
 pub mod Keying
 pub mod Positioning

@@ -51,6 +51,54 @@ module _ (types consts : ℕ → ℕ) where
       (leaf_sort m ≡ region_sort → ⊥) → erase_leaf l ≡ erase_leaf m → l ≡ m
   one_leaf l m h k s z e = sym (leaf_named l h s) ∙ ap (named_leaf types consts) e ∙ leaf_named m k z
 
+-- A parameter of a type or a constant, and what is none, which has no name.
+abbrev is_param : Leaf → Bool
+is_param (atom (type_param i n)) = true
+is_param (atom (const_param i n)) = true
+is_param l = false
+
+param_erased : (l : Leaf) → is_param (erase_leaf l) ≡ is_param l
+param_erased (variable region_var n) = refl
+param_erased (variable k n) = refl
+param_erased (bound (bound_kind region_kind m) d i) = refl
+param_erased (bound (bound_kind k m) d i) = refl
+param_erased (placeholder (bound_kind region_kind m) u n) = refl
+param_erased (placeholder (bound_kind k m) u n) = refl
+param_erased (atom (early_region i n)) = refl
+param_erased (atom (type_param i n)) = refl
+param_erased (atom (const_param i n)) = refl
+param_erased (atom x) = refl
+param_erased unknown = refl
+
+param_flexible : (l : Leaf) → flexible true (leaf l) ≡ false → is_param l ≡ false
+param_flexible (atom (type_param i n)) f = absurd (cc)
+param_flexible (atom (const_param i n)) f = absurd (cc)
+param_flexible (atom x) f = refl
+param_flexible (variable k n) f = refl
+param_flexible (bound k d i) f = refl
+param_flexible (placeholder k u n) f = refl
+param_flexible unknown f = refl
+
+unnamed : (types consts : ℕ → ℕ) (l : Leaf) → is_param l ≡ false → IsNamed types consts l
+unnamed types consts (atom (type_param i n)) p = absurd (cc)
+unnamed types consts (atom (const_param i n)) p = absurd (cc)
+unnamed types consts (atom x) p = tt
+unnamed types consts (variable k n) p = tt
+unnamed types consts (bound k d i) p = tt
+unnamed types consts (placeholder k u n) p = tt
+unnamed types consts unknown p = tt
+
+-- Two leaves that are one up to erasure are one, where one of them is no parameter.
+one_unnamed : (l m : Leaf) → is_param l ≡ false → (leaf_sort l ≡ region_sort → ⊥) → (leaf_sort m ≡ region_sort → ⊥) →
+    erase_leaf l ≡ erase_leaf m → l ≡ m
+one_unnamed l m p s z e = one_leaf (λ i. 0) (λ i. 0) l m (unnamed (λ i. 0) (λ i. 0) l p)
+    (unnamed (λ i. 0) (λ i. 0) m (sym (param_erased m) ∙ ap is_param (sym e) ∙ param_erased l ∙ p)) s z e
+
+-- What shows of two leaves that are no places, and no regions, that they are one where they are up to erasure.
+abbrev Tells : (Tree → Bool) → (Tree → Bool) → (Leaf → Type 0) → (Leaf → Type 0) → Type 0
+Tells f g P Q = (l m : Leaf) → f (leaf l) ≡ false → g (leaf m) ≡ false → P l → Q m →
+    (leaf_sort l ≡ region_sort → ⊥) → (leaf_sort m ≡ region_sort → ⊥) → erase_leaf l ≡ erase_leaf m → l ≡ m
+
 leaf_path : {l m : Leaf} → leaf l ≡ leaf m → l ≡ m
 leaf_path e = cc
 
@@ -239,22 +287,21 @@ module _ {f g : Tree → Bool} (within : (a : Tree) → f a ≡ true → flexibl
   parts_meet (kept_cons i j) (kept_cons k m) fa fb n e = none_meet refl refl
   parts_meet i j fa fb n e = absurd (cc)
 
-  met_alike : (types consts : ℕ → ℕ) {a b x y : Tree} → Instance f a x → Instance g b y → f a ≡ false → g b ≡ false →
-      is_met (tree_sort a) ≡ true → Leaves (IsNamed types consts) a → Leaves (IsNamed types consts) b →
-      erase x ≡ erase y → Alike a b
-  met_alike types consts (put p h v w) j fa fb n o k e = absurd (both p fa)
-  met_alike types consts i (put p h v w) fa fb n o k e = absurd (both p fb)
-  met_alike types consts (kept_leaf {l = l} p) (kept_leaf {l = m} q) fa fb n o k e =
-      ap leaf (one_leaf types consts l m o k (no_region n)
+  met_alike : {P Q : Leaf → Type 0} → Tells f g P Q → {a b x y : Tree} → Instance f a x → Instance g b y →
+      f a ≡ false → g b ≡ false → is_met (tree_sort a) ≡ true → Leaves P a → Leaves Q b → erase x ≡ erase y → Alike a b
+  met_alike tells (put p h v w) j fa fb n o k e = absurd (both p fa)
+  met_alike tells i (put p h v w) fa fb n o k e = absurd (both p fb)
+  met_alike tells (kept_leaf {l = l} p) (kept_leaf {l = m} q) fa fb n o k e =
+      ap leaf (tells l m fa fb o k (no_region n)
       (no_region (sym (ap is_met (one_sort (kept_leaf p) (kept_leaf q) e)) ∙ n)) (leaf_path e))
-  met_alike types consts (kept_node {h = h} {ts = ts} {us = vs} p i) (kept_node {h = k} {ts = us} {us = ws} q j)
+  met_alike tells (kept_node {h = h} {ts = ts} {us = vs} p i) (kept_node {h = k} {ts = us} {us = ws} q j)
       fa fb n o c e =
       let z = nodes_meet h k ts us vs ws i j (no_value_type n) e in
       sym (outline_kept within h i) ∙ ap₂ (λ u t. outline u t) z.0 z.1 ∙ outline_kept also k j
-  met_alike types consts (kept_bind i) j fa fb n o k e = absurd (cc)
-  met_alike types consts kept_nil j fa fb n o k e = absurd (cc)
-  met_alike types consts (kept_cons i m) j fa fb n o k e = absurd (cc)
-  met_alike types consts i j fa fb n o k e = absurd (cc)
+  met_alike tells (kept_bind i) j fa fb n o k e = absurd (cc)
+  met_alike tells kept_nil j fa fb n o k e = absurd (cc)
+  met_alike tells (kept_cons i m) j fa fb n o k e = absurd (cc)
+  met_alike tells i j fa fb n o k e = absurd (cc)
 
 -- The same of the first members of two lists and of the rest.
 record ListsMeet (left_places right_places : Tree → Bool) (a b ts us : Tree) : Type 0 where
@@ -303,7 +350,7 @@ no_place p a n = neither (flexible p a) refl
     neither false e = e
 
 -- Two terms that clash have no instances that are one up to erasure.
-module _ {l r : Bool} (types consts : ℕ → ℕ) where
+module _ {l r : Bool} {P Q : Leaf → Type 0} (tells : Tells (flexible l) (flexible r) P Q) where
   number_left : {a b x y : Tree} → tree_sort b ≡ type_sort → may_stand a b ≡ false → Instance (flexible l) a x →
       Instance (flexible r) b y → erase x ≡ erase y → ⊥
   number_left {a = a} {b = b} {x = x} {y = y} t m i j e =
@@ -315,30 +362,56 @@ module _ {l r : Bool} (types consts : ℕ → ℕ) where
       number_apart b a y x m (fitting j (number_flexible r b a m)) i (rigid_alone l a t (number_rigid b a m)) (sym e)
 
   apart : {d : ℕ} {a b x y : Tree} → Clash l r d a b → Instance (flexible l) a x → Instance (flexible r) b y →
-      Leaves (IsNamed types consts) a → Leaves (IsNamed types consts) b → erase x ≡ erase y → ⊥
+      Leaves P a → Leaves Q b → erase x ≡ erase y → ⊥
   apart (unlike_types {a = a} o s n) i j p q e =
-      n (met_alike (within_all l) (within_all r) types consts i j s.0 s.1 (met_sort a refl o.0) p q e)
+      n (met_alike (within_all l) (within_all r) tells i j s.0 s.1 (met_sort a refl o.0) p q e)
   apart (left_number o n) i j p q e = number_left o.1 n i j e
   apart (right_number o n) i j p q e = number_right o.0 n i j e
   apart (unlike_consts {a = a} {s = u} c o s n) i j p q e =
-      n (met_alike (within_all l) (within_all r) types consts i j s.0 s.1 (met_sort a (const_met u c) o.0) p q e)
+      n (met_alike (within_all l) (within_all r) tells i j s.0 s.1 (met_sort a (const_met u c) o.0) p q e)
   apart (in_types {a = a} {b = b} o s k c) i j p q e =
       let z = parts_meet (within_all l) (within_all r) i j s.0 s.1 (no_value_type (met_sort a refl o.0)) e in
-      apart c z.of_left z.of_right (parts_leaves (IsNamed types consts) a p) (parts_leaves (IsNamed types consts) b q) z.same
+      apart c z.of_left z.of_right (parts_leaves P a p) (parts_leaves Q b q) z.same
   apart (in_consts {a = a} {b = b} {s = u} h o s k c) i j p q e =
       let z = parts_meet (within_all l) (within_all r) i j s.0 s.1 (no_value_type (met_sort a (const_met u h) o.0)) e
       in
-      apart c z.of_left z.of_right (parts_leaves (IsNamed types consts) a p) (parts_leaves (IsNamed types consts) b q) z.same
+      apart c z.of_left z.of_right (parts_leaves P a p) (parts_leaves Q b q) z.same
   apart (between {a = a} {b = b} h c) i j p q e =
       let t = one_sort (within_all l) (within_all r) i j e in
       let f = between_no_place (tree_sort a) h in
       let z = parts_meet (within_all l) (within_all r) i j (no_place l a f) (no_place r b (sym (ap is_place_sort t) ∙ f))
       (between_no_value_type (tree_sort a) h) e in
-      apart c z.of_left z.of_right (parts_leaves (IsNamed types consts) a p) (parts_leaves (IsNamed types consts) b q) z.same
+      apart c z.of_left z.of_right (parts_leaves P a p) (parts_leaves Q b q) z.same
   apart (here c) i j p q e =
       let z = lists_meet (within_all l) (within_all r) i j e in apart c z.first_left z.first_right p.0 q.0 z.first_same
   apart (further c) i j p q e =
       let z = lists_meet (within_all l) (within_all r) i j e in apart c z.rest_left z.rest_right p.1 q.1 z.rest_same
 
+-- Nothing is asked of leaves.
+abbrev Anything : Leaf → Type 0
+Anything l = Unit {0}
+
+all_leaves : (t : Tree) → Leaves Anything t
+all_leaves (leaf l) = tt
+all_leaves (node h ts) = all_leaves ts
+all_leaves (bind ks t) = all_leaves t
+all_leaves nil = tt
+all_leaves (cons t ts) = (all_leaves t, all_leaves ts)
+
+-- Where the parameters of a side stand for others, none of that side is left to be compared.
+apart_anyway : {l r : Bool} {d : ℕ} {a b x y : Tree} → Tells (flexible l) (flexible r) Anything Anything →
+    Clash l r d a b → Instance (flexible l) a x → Instance (flexible r) b y → erase x ≡ erase y → ⊥
+apart_anyway {a = a} {b = b} tells c i j e = apart tells c i j (all_leaves a) (all_leaves b) e
+
+tells_left : (r : Bool) → Tells (flexible true) (flexible r) Anything Anything
+tells_left r l m f g p q s z e = one_unnamed l m (param_flexible l f) s z e
+
+tells_right : (l : Bool) → Tells (flexible l) (flexible true) Anything Anything
+tells_right b l m f g p q s z e = sym (one_unnamed m l (param_flexible m g) z s (sym e))
+
 pub clashes_are_apart : (l r : Bool) (d : ℕ) (a b : Tree) → Clash l r d a b → NoCommonInstance l r a b
-clashes_are_apart l r d a b c n i = apart n.types n.consts c i.of_left i.of_right n.left n.right i.same
+clashes_are_apart true r d a b c n i = apart_anyway (tells_left r) c i.of_left i.of_right i.same
+clashes_are_apart false true d a b c n i = apart_anyway (tells_right false) c i.of_left i.of_right i.same
+clashes_are_apart false false d a b c n i =
+    let w = n refl refl in
+    apart (λ l m f g p q s z e. one_leaf w.types w.consts l m p q s z e) c i.of_left i.of_right w.left w.right i.same

@@ -26,7 +26,7 @@ no_binder region_sort u h = h
 no_binder s u h = h
 
 -- A sort that stands anywhere stands where it is asked for.
-stands_itself : (s u : Sort) → Admits s u → Admits u u
+pub stands_itself : (s u : Sort) → Admits s u → Admits u u
 stands_itself s argument_sort h = absurd (no_argument s h)
 stands_itself s term_sort h = absurd (no_term s h)
 stands_itself s no_sort h = absurd (no_none s h)

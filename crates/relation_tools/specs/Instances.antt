@@ -54,8 +54,10 @@ pub record AgreeOnNames (a b : Tree) : Type 0 where
   pub right : Leaves (IsNamed types consts) b
 
 -- Two terms have no common instance, where parameters may stand for others on the left if `l`, on the right if `r`.
+-- Where they may on neither side, those of one index have one name.
 abbrev pub NoCommonInstance : Bool → Bool → Tree → Tree → Type 0
-NoCommonInstance l r a b = AgreeOnNames a b → CommonInstance (flexible l) (flexible r) a b → ⊥
+NoCommonInstance l r a b = (l ≡ false → r ≡ false → AgreeOnNames a b) →
+    CommonInstance (flexible l) (flexible r) a b → ⊥
 
 -- The places that may stand for others where aliases are taken as types of their own.
 abbrev pub flexible_but_aliases : Bool → Tree → Bool

@@ -10,8 +10,8 @@ use std::alloc::AllocError;
 use std::marker::PhantomData;
 
 /// A quick test of whether two types, or two lists of arguments, may unify. Where it answers false no instances of the
-/// two are equal, even with all regions, variables of binders and types of values taken as alike, if parameters of one
-/// index have one name; a true says nothing.
+/// two are equal, even with all regions, variables of binders and types of values taken as alike; if parameters stand
+/// for themselves on both sides, where those of one index have one name. A true says nothing.
 ///
 /// A coherence checker or a solver drops a candidate by it before it relates anything. Parameters on the left stand for
 /// any type if `INSTANTIATE_LHS_WITH_INFER`, those on the right if `INSTANTIATE_RHS_WITH_INFER`; else each for itself.

@@ -20,8 +20,8 @@ const MULTIPLIER: u64 = 0x9e37_79b9_7f4a_7c15;
 
 /// Hashes a key that is a number or a few, each by one multiplication.
 ///
-/// The hasher that a set has by default reads a number byte by byte, which takes longer than all else that is done for a
-/// type that was met before.
+/// The hasher that a set has by default reads a number byte by byte, which takes longer than all else that is done for
+/// a type that was met before.
 #[derive(Clone, Copy, Drop)]
 pub struct KeyHasher {
     state: u64,

@@ -1,6 +1,7 @@
 use Rattle.relation_contexts.proofs.MakingEach.{making_each_makes, instantiating_each_opens}
 use Rattle.type_relations.proofs.OpenedTerms.{entered_body_is_in, instantiated_body_is_in, entered_body_binds}
 use Rattle.type_relations.proofs.OpenedTerms.{instantiated_body_binds}
+use Rattle.relation_laws.proofs.OpenedInstances.{opened_is_instance}
 use Rattle.relation_laws.proofs.laws.opening.Goals as goal
 
 pub returns : goal.returns
@@ -11,4 +12,5 @@ returns c = record {
   instantiated = instantiated_body_is_in;
   entered_binds = entered_body_binds;
   instantiated_binds = instantiated_body_binds;
+  instance = opened_is_instance;
 }

@@ -10,8 +10,8 @@ ghost use Rattle.type_relations.specs.Keyed.{AskedTys};
 ghost use Rattle.relation_contexts.specs.Resolving.{IsShallow};
 ghost use Rattle.type_relations.specs.Subtyping.{IsTyVar};
 ghost use Rattle.type_relations.specs.Solving.{solver_manner};
-ghost use Rattle.type_relations.specs.SolverTerms.{KeepsEnvironment, SolverAsked, SolverRelated, SolverRegisters, SolverSteps};
-ghost use Rattle.type_relations.specs.SolverTerms.{SolverStepRegisters, solver_through};
+ghost use Rattle.type_relations.specs.SolverTerms.{KeepsEnvironment, SolverAsked, SolverRelated, SolverRegisters};
+ghost use Rattle.type_relations.specs.SolverTerms.{SolverSteps, SolverStepRegisters, solver_through};
 
 use crate::relate::combine::{combine_ty_args, super_combine_consts, super_combine_tys};
 use crate::relate::solver_relating::opening::{

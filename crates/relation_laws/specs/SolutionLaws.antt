@@ -1,0 +1,28 @@
+-- Laws of the assignments that satisfy what is recorded.
+use Rattle.std.specs.Prelude.{◌≡◌, ℕ, None}
+use Rattle.relation_terms.specs.Heads.{VarKind}
+use Rattle.relation_terms.specs.Trees.{Tree, Assign, apply, Leaves}
+use Rattle.relation_contexts.specs.Relation.{IsValueLeaf, StaysWithin}
+use Rattle.relation_contexts.specs.Stores.{Store, IsMade, bound_term, universe_of, MayStandFor, IsNamable, IsAssignment}
+use Rattle.relation_contexts.specs.Stores.{MeetsBindings, IsSound, resolved}
+use Rattle.relation_contexts.specs.Steps.{MakesVariable, Extends}
+use Rattle.relation_contexts.specs.FirstOrder.{IsErasedSolution}
+
+-- A value for each variable, which names what the variable's universe can.
+abbrev pub GivesValues : Store → Assign → Type 0
+GivesValues st t =
+    ((k : VarKind) (n : ℕ) → MayStandFor k (t k n) × Leaves IsValueLeaf (t k n) × StaysWithin 0 (t k n)) ×
+    ((k : VarKind) (n : ℕ) → IsMade st k n → Leaves (IsNamable (universe_of st k n)) (t k n))
+
+-- Whatever the variables without a term stand for, the others have values to match.
+abbrev pub FreeValues : Type 0
+FreeValues = (st : Store) → IsSound st → (t : Assign) → GivesValues st t →
+    IsAssignment st (λ k n. apply t (resolved st k n)) × MeetsBindings st (λ k n. apply t (resolved st k n)) ×
+    ((k : VarKind) (n : ℕ) → bound_term st k n ≡ None → apply t (resolved st k n) ≡ t k n)
+
+-- A new variable may have any value that its universe can name, also where an assignment satisfies what is recorded up
+-- to erasure alone.
+abbrev pub MadeIsUnconstrainedErased : Type 0
+MadeIsUnconstrainedErased = (before after : Store) (k : VarKind) (n u : ℕ) → MakesVariable before after k n u →
+    IsSound before → (s : Assign) (t : Tree) → IsErasedSolution before s → MayStandFor k t → Leaves IsValueLeaf t →
+    StaysWithin 0 t → Leaves (IsNamable u) t → Extends before s (λ s'. IsErasedSolution after s' × (s' k n ≡ t))
