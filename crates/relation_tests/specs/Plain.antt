@@ -47,7 +47,7 @@ IsUnbound (bound k d i) = ⊥
 IsUnbound l = Unit {0}
 
 -- It takes all terms in which no binder binds anything, answers the left one, is exact, and records just what is asked of
--- regions. It registers nothing.
+-- regions. It registers nothing, and what it relates agrees.
 abbrev pub plain_manner : Manners
 plain_manner k = record {
   takes = λ v l. IsUnbound l;
@@ -55,6 +55,7 @@ plain_manner k = record {
   is_exact = Unit {0};
   records_asked = Unit {0};
   registers_subtype = ⊥;
+  relates_agreeing = Unit {0};
 }
 
 -- Each variable stands for itself.

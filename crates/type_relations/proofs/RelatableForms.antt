@@ -63,13 +63,14 @@ module _ {Key Id Name : Type 0} where
       outcome = (f.verdict).outcome;
       answer = subst (MayAnswer M q r.ambient a) (sym e) (may_itself M q r.ambient a);
       known = subst (λ u. IsTrue (known u)) (sym e) k;
+      agrees = (f.verdict).agrees;
     };
     exact = f.exact;
     full = f.full;
   }
 
   -- Binders are still the relation's after round 0, by the trees that they have then.
-  pub still_asked : {r p : State Key Id Name} (M : Manners) (a b x y : Tree) → x ≡ a → y ≡ b → HalfDone r p a b →
+  pub still_asked : {r p : State Key Id Name} (M : Manners) (a b x y : Tree) → x ≡ a → y ≡ b → HalfDone M r p a b →
       Asked M r r.ambient a b → Asked M p p.ambient x y
   still_asked {r} {p} M a b x y i j h k =
       subst₂ (λ t u. Asked M p p.ambient t u) (sym i) (sym j)

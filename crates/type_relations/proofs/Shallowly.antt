@@ -18,6 +18,7 @@ use Rattle.relation_contexts.specs.Errors.{IsReadAs, of_entries}
 use Rattle.relation_contexts.specs.Parts.{IsFormed}
 use Rattle.relation_contexts.specs.Lawful.{State, Passes, Leads, StepVerdict, ExactVerdict, Stepped, items_in}
 use Rattle.relation_contexts.proofs.ReadAs.{read_value, read_later, read_weight}
+use Rattle.relation_contexts.proofs.Agreeing.{agree_read}
 use Rattle.relation_contexts.proofs.Going.{later_through, goes_within}
 use Rattle.relation_contexts.proofs.Full.{read_plain}
 use Rattle.relation_contexts.proofs.Standing.{made_of_term}
@@ -101,6 +102,7 @@ module _ {Key Id Name : Type 0} (r q : State Key Id Name) (g : IsSound r.store) 
     };
     errors = λ m c st e l g z. of_entries (read_later r.store st (later_through (h.steps).later l) a u p)
         (read_later r.store st (later_through (h.steps).later l) b w o) (h.errors m c st e l g z);
+    agrees = λ c z. agree_read c r.store g r.ambient a b u w p o (h.agrees c z);
   }
 
   as_read : LeadsInUniverse r.store r.store a b u w
@@ -122,6 +124,7 @@ module _ {Key Id Name : Type 0} (r q : State Key Id Name) (g : IsSound r.store) 
           left = λ z. absurd z;
         };
         known = h.known;
+        agrees = λ k. agree_read (items_in r) r.store g r.ambient a b u w p o (h.agrees k);
       }
       read_verdict (Ok (Parts x y)) h = record {
         leads = read_leads passes.added r.ambient (tree x) (tree y) h.leads;
