@@ -15,7 +15,7 @@ use Rattle.relation_contexts.specs.Steps.{IsNumberFor}
 use Rattle.relation_contexts.specs.Bound.{IsBoundAs, AreBoundAs}
 use Rattle.relation_contexts.specs.Errors.{outer_leaf, outer_head, outermost, AreAlike, IsStandIn, StandFor, IsReadAs, itself}
 use Rattle.relation_contexts.specs.Errors.{by_class, by_binding}
-use Rattle.relation_contexts.specs.Agreeing.{IsOpen, AreOpen, Agree}
+use Rattle.relation_contexts.specs.Agreeing.{IsFlexible, AreFlexible, Agree}
 use Rattle.relation_contexts.proofs.Related.{no_region_head}
 use Rattle.relation_contexts.proofs.Standing.{stands_term, term_sort_of}
 
@@ -24,12 +24,12 @@ agree_anything c v (node h xs) (node k ys) p = inl p
 agree_anything c v (bind ks a) (bind ls b) p = inl p
 agree_anything c v a b p = inl p
 
-pub agree_open : (c : Items) (v : Variance) (a b : Tree) → AreOpen a b → Agree c (at v) a b
-agree_open c v (node h xs) (node k ys) (inl o, s) = absurd o
-agree_open c v (node h xs) (node k ys) (inr o, s) = absurd o
-agree_open c v (bind ks a) (bind ls b) (inl o, s) = absurd o
-agree_open c v (bind ks a) (bind ls b) (inr o, s) = absurd o
-agree_open c v a b o = inr (inl o)
+pub agree_flexible : (c : Items) (v : Variance) (a b : Tree) → AreFlexible a b → Agree c (at v) a b
+agree_flexible c v (node h xs) (node k ys) (inl o, s) = absurd o
+agree_flexible c v (node h xs) (node k ys) (inr o, s) = absurd o
+agree_flexible c v (bind ks a) (bind ls b) (inl o, s) = absurd o
+agree_flexible c v (bind ks a) (bind ls b) (inr o, s) = absurd o
+agree_flexible c v a b o = inr (inl o)
 
 mutual
   pub agree_itself : (c : Items) (v : Variance) (a : Tree) → Agree c (at v) a a
@@ -76,7 +76,7 @@ outer_sort (cons t ts) = refl
 alike_sorts : (a b : Tree) → AreAlike a b → sort_of a ≡ sort_of b
 alike_sorts a b e = sym (outer_sort a) ∙ ap sort_of e ∙ outer_sort b
 
-sorts_by : (v : Variance) (a b : Tree) → (v ≡ Bivariant) ⊎ (AreOpen a b ⊎ AreAlike a b) →
+sorts_by : (v : Variance) (a b : Tree) → (v ≡ Bivariant) ⊎ (AreFlexible a b ⊎ AreAlike a b) →
     (v ≡ Bivariant) ⊎ (sort_of a ≡ sort_of b)
 sorts_by v a b (inl p) = inl p
 sorts_by v a b (inr (inl o)) = inr o.1
@@ -90,27 +90,27 @@ agree_sorts c v (bind ks a) (bind ls b) (inl p) = inl p
 agree_sorts c v (bind ks a) (bind ls b) (inr r) = inr refl
 agree_sorts c v a b g = sorts_by v a b g
 
--- Where one of two is open they agree if both are of one sort.
+-- Where one of two is flexible they agree if both are of one sort.
 pub agree_if_sorts : (c : Items) (v : Variance) (a b : Tree) → (v ≡ Bivariant) ⊎ (sort_of a ≡ sort_of b) →
-    IsOpen a ⊎ IsOpen b → Agree c (at v) a b
+    IsFlexible a ⊎ IsFlexible b → Agree c (at v) a b
 agree_if_sorts c v a b (inl p) o = agree_anything c v a b p
-agree_if_sorts c v a b (inr s) o = agree_open c v a b (o, s)
+agree_if_sorts c v a b (inr s) o = agree_flexible c v a b (o, s)
 
 -- Regions do, and parameters of one index.
-pub region_open : (a : Tree) → sort_of a ≡ region_sort → IsOpen a
-region_open (leaf (variable k n)) p = tt
-region_open (leaf (bound k d i)) p = tt
-region_open (leaf (placeholder k u n)) p = p
-region_open (leaf (atom x)) p = inr p
-region_open (leaf unknown) p = absurd cc
-region_open (node h ts) p = absurd (no_region_head h p)
-region_open (bind ks t) p = absurd cc
-region_open nil p = absurd cc
-region_open (cons t ts) p = absurd cc
+pub region_flexible : (a : Tree) → sort_of a ≡ region_sort → IsFlexible a
+region_flexible (leaf (variable k n)) p = tt
+region_flexible (leaf (bound k d i)) p = tt
+region_flexible (leaf (placeholder k u n)) p = p
+region_flexible (leaf (atom x)) p = inr p
+region_flexible (leaf unknown) p = absurd cc
+region_flexible (node h ts) p = absurd (no_region_head h p)
+region_flexible (bind ks t) p = absurd cc
+region_flexible nil p = absurd cc
+region_flexible (cons t ts) p = absurd cc
 
 pub agree_regions : (c : Items) (v : Variance) (a b : Tree) → sort_of a ≡ region_sort → sort_of b ≡ region_sort →
     Agree c (at v) a b
-agree_regions c v a b p q = agree_open c v a b (inl (region_open a p), p ∙ sym q)
+agree_regions c v a b p q = agree_flexible c v a b (inl (region_flexible a p), p ∙ sym q)
 
 pub agree_atoms : (c : Items) (v : Variance) (x y : Atom) → plain_atom x ≡ plain_atom y →
     Agree c (at v) (leaf (atom x)) (leaf (atom y))
@@ -133,12 +133,12 @@ stands_sort k t h = term_sort_of k t (stands_term k t h)
 pub agree_root : (c : Items) (v : Variance) (k : VarKind) (n : ℕ) (a b : Tree) → a ≡ leaf (variable k n) →
     sort_of b ≡ var_sort k → Agree c (at v) a b
 agree_root c v k n a b e s =
-    agree_open c v a b (inl (subst IsOpen (sym e) tt), ap sort_of e ∙ sym s)
+    agree_flexible c v a b (inl (subst IsFlexible (sym e) tt), ap sort_of e ∙ sym s)
 
 pub agree_root_back : (c : Items) (v : Variance) (k : VarKind) (n : ℕ) (a b : Tree) → b ≡ leaf (variable k n) →
     sort_of a ≡ var_sort k → Agree c (at v) a b
 agree_root_back c v k n a b e s =
-    agree_open c v a b (inr (subst IsOpen (sym e) tt), s ∙ sym (ap sort_of e))
+    agree_flexible c v a b (inr (subst IsFlexible (sym e) tt), s ∙ sym (ap sort_of e))
 
 number_stands : (k : VarKind) (t : Tree) → IsNumberFor k t → MayStandFor k t
 number_stands int_var (leaf (atom x)) h = h
@@ -154,20 +154,20 @@ read_sort st g t u (by_class k n m e c r) = read_sort st g (leaf (variable k m))
 read_sort st g t u (by_binding {u = x} k n e b r) = read_sort st g x u r
     ∙ stands_sort k x (g.bindings k n x (ap (entry_term k) b)).stands ∙ sym (ap sort_of e)
 
-read_open : (st : Store) (t u : Tree) → IsReadAs st t u → (t ≡ u) ⊎ IsOpen t
-read_open st t u (itself e) = inl e
-read_open st t u (by_class k n m e c r) = inr (subst IsOpen (sym e) tt)
-read_open st t u (by_binding k n e b r) = inr (subst IsOpen (sym e) tt)
+read_flexible : (st : Store) (t u : Tree) → IsReadAs st t u → (t ≡ u) ⊎ IsFlexible t
+read_flexible st t u (itself e) = inl e
+read_flexible st t u (by_class k n m e c r) = inr (subst IsFlexible (sym e) tt)
+read_flexible st t u (by_binding k n e b r) = inr (subst IsFlexible (sym e) tt)
 
 pub agree_read : (c : Items) (st : Store) → IsSound st → (v : Variance) (a b u w : Tree) → IsReadAs st a u →
     IsReadAs st b w → Agree c (at v) u w → Agree c (at v) a b
-agree_read c st g v a b u w p q h = go (read_open st a u p) (read_open st b w q)
+agree_read c st g v a b u w p q h = go (read_flexible st a u p) (read_flexible st b w q)
   where
     sorts : (v ≡ Bivariant) ⊎ (sort_of u ≡ sort_of w) → (v ≡ Bivariant) ⊎ (sort_of a ≡ sort_of b)
     sorts (inl e) = inl e
     sorts (inr s) = inr (sym (read_sort st g a u p) ∙ s ∙ read_sort st g b w q)
 
-    go : (a ≡ u) ⊎ IsOpen a → (b ≡ w) ⊎ IsOpen b → Agree c (at v) a b
+    go : (a ≡ u) ⊎ IsFlexible a → (b ≡ w) ⊎ IsFlexible b → Agree c (at v) a b
     go (inl x) (inl y) = subst₂ (Agree c (at v)) (sym x) (sym y) h
     go (inr o) y = agree_if_sorts c v a b (sorts (agree_sorts c v u w h)) (inl o)
     go (inl x) (inr o) = agree_if_sorts c v a b (sorts (agree_sorts c v u w h)) (inr o)
@@ -224,19 +224,19 @@ module _ (ks : List BoundKind) (xs : List Tree) (h : StandFor ks xs) where
   inst_count d nil b = refl
   inst_count d (cons t u) b = ap suc (inst_count d u b.1)
 
--- What is open once a binder was opened was so before.
-inst_open : (xs : List Tree) (d : ℕ) (t : Tree) → IsOpen (inst xs d t) → IsOpen t
-inst_open xs d (leaf (variable k n)) o = tt
-inst_open xs d (leaf (bound k e i)) o = tt
-inst_open xs d (leaf (placeholder k u n)) o = o
-inst_open xs d (leaf (atom x)) o = o
-inst_open xs d (leaf unknown) o = o
-inst_open xs d (node a t) o = o
-inst_open xs d (bind ks t) o = o
-inst_open xs d nil o = o
-inst_open xs d (cons t u) o = o
+-- What is flexible once a binder was opened was so before.
+inst_flexible : (xs : List Tree) (d : ℕ) (t : Tree) → IsFlexible (inst xs d t) → IsFlexible t
+inst_flexible xs d (leaf (variable k n)) o = tt
+inst_flexible xs d (leaf (bound k e i)) o = tt
+inst_flexible xs d (leaf (placeholder k u n)) o = o
+inst_flexible xs d (leaf (atom x)) o = o
+inst_flexible xs d (leaf unknown) o = o
+inst_flexible xs d (node a t) o = o
+inst_flexible xs d (bind ks t) o = o
+inst_flexible xs d nil o = o
+inst_flexible xs d (cons t u) o = o
 
-inst_outer : (xs : List Tree) (d : ℕ) (t : Tree) → IsOpen t ⊎ (outermost (inst xs d t) ≡ outermost t)
+inst_outer : (xs : List Tree) (d : ℕ) (t : Tree) → IsFlexible t ⊎ (outermost (inst xs d t) ≡ outermost t)
 inst_outer xs d (leaf (variable k n)) = inl tt
 inst_outer xs d (leaf (bound k e i)) = inl tt
 inst_outer xs d (leaf (placeholder k u n)) = inr refl
@@ -247,17 +247,17 @@ inst_outer xs d (bind ks t) = inr refl
 inst_outer xs d nil = inr refl
 inst_outer xs d (cons t u) = inr refl
 
-both_open : (a b : Tree) (A B : Type 0) → (A → IsOpen a) → (B → IsOpen b) → A ⊎ B → IsOpen a ⊎ IsOpen b
-both_open a b A B f g (inl x) = inl (f x)
-both_open a b A B f g (inr y) = inr (g y)
+both_flexible : (a b : Tree) (A B : Type 0) → (A → IsFlexible a) → (B → IsFlexible b) → A ⊎ B → IsFlexible a ⊎ IsFlexible b
+both_flexible a b A B f g (inl x) = inl (f x)
+both_flexible a b A B f g (inr y) = inr (g y)
 
 -- So for terms one of which is no form, or no binder.
 pub opened_leaves : (v : Variance) (xs ys : List Tree) (d : ℕ) (t u : Tree) → sort_of (inst xs d t) ≡ sort_of t →
-    sort_of (inst ys d u) ≡ sort_of u → (v ≡ Bivariant) ⊎ (AreOpen (inst xs d t) (inst ys d u) ⊎
-    AreAlike (inst xs d t) (inst ys d u)) → (v ≡ Bivariant) ⊎ (AreOpen t u ⊎ AreAlike t u)
+    sort_of (inst ys d u) ≡ sort_of u → (v ≡ Bivariant) ⊎ (AreFlexible (inst xs d t) (inst ys d u) ⊎
+    AreAlike (inst xs d t) (inst ys d u)) → (v ≡ Bivariant) ⊎ (AreFlexible t u ⊎ AreAlike t u)
 opened_leaves v xs ys d t u p q (inl e) = inl e
 opened_leaves v xs ys d t u p q (inr (inl o)) = inr (inl (
-  both_open t u (IsOpen (inst xs d t)) (IsOpen (inst ys d u)) (inst_open xs d t) (inst_open ys d u) o.0,
+  both_flexible t u (IsFlexible (inst xs d t)) (IsFlexible (inst ys d u)) (inst_flexible xs d t) (inst_flexible ys d u) o.0,
   sym p ∙ o.1 ∙ q,
 ))
 opened_leaves v xs ys d t u p q (inr (inr e)) = go (inst_outer xs d t) (inst_outer ys d u)
@@ -265,8 +265,8 @@ opened_leaves v xs ys d t u p q (inr (inr e)) = go (inst_outer xs d t) (inst_out
     sorts : sort_of t ≡ sort_of u
     sorts = sym p ∙ alike_sorts (inst xs d t) (inst ys d u) e ∙ q
 
-    go : IsOpen t ⊎ (outermost (inst xs d t) ≡ outermost t) → IsOpen u ⊎ (outermost (inst ys d u) ≡ outermost u) →
-        (v ≡ Bivariant) ⊎ (AreOpen t u ⊎ AreAlike t u)
+    go : IsFlexible t ⊎ (outermost (inst xs d t) ≡ outermost t) → IsFlexible u ⊎ (outermost (inst ys d u) ≡ outermost u) →
+        (v ≡ Bivariant) ⊎ (AreFlexible t u ⊎ AreAlike t u)
     go (inl o) k = inr (inl (inl o, sorts))
     go (inr x) (inl o) = inr (inl (inr o, sorts))
     go (inr x) (inr y) = inr (inr (sym x ∙ e ∙ y))
@@ -279,7 +279,7 @@ agree_count c h i v xs ys g = g
 -- Bodies that agree once they are opened agreed before.
 module _ (c : Items) (ks ls : List BoundKind) (xs ys : List Tree) (h : StandFor ks xs) (k : StandFor ls ys) where
   -- Where one is what a binder binds, by the sorts alone.
-  by_sorts : (v : Variance) (d : ℕ) (t u : Tree) → AreBoundAs ks d t → AreBoundAs ls d u → IsOpen t ⊎ IsOpen u →
+  by_sorts : (v : Variance) (d : ℕ) (t u : Tree) → AreBoundAs ks d t → AreBoundAs ls d u → IsFlexible t ⊎ IsFlexible u →
       Agree c (at v) (inst xs d t) (inst ys d u) → Agree c (at v) t u
   by_sorts v d t u p q o g = agree_if_sorts c v t u (sorts (agree_sorts c v (inst xs d t) (inst ys d u) g)) o
     where
@@ -289,8 +289,8 @@ module _ (c : Items) (ks ls : List BoundKind) (xs ys : List Tree) (h : StandFor 
       sorts (inr s) = inr (sym (inst_sort ks xs h d t p) ∙ s ∙ inst_sort ls ys k d u q)
 
   as_leaves : (v : Variance) (d : ℕ) (t u : Tree) → AreBoundAs ks d t → AreBoundAs ls d u →
-      (v ≡ Bivariant) ⊎ (AreOpen (inst xs d t) (inst ys d u) ⊎ AreAlike (inst xs d t) (inst ys d u)) →
-      (v ≡ Bivariant) ⊎ (AreOpen t u ⊎ AreAlike t u)
+      (v ≡ Bivariant) ⊎ (AreFlexible (inst xs d t) (inst ys d u) ⊎ AreAlike (inst xs d t) (inst ys d u)) →
+      (v ≡ Bivariant) ⊎ (AreFlexible t u ⊎ AreAlike t u)
   as_leaves v d t u p q g =
       opened_leaves v xs ys d t u (inst_sort ks xs h d t p) (inst_sort ls ys k d u q) g
 

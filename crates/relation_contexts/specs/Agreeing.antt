@@ -10,29 +10,29 @@ use Rattle.relation_contexts.specs.Relation.{IsErrorAtom}
 use Rattle.relation_contexts.specs.Errors.{AreAlike}
 
 -- What agrees with each term of its sort: a region, a variable, what a binder binds, and an error.
-abbrev pub IsOpenLeaf : Leaf → Type 0
-IsOpenLeaf (variable k n) = Unit {0}
-IsOpenLeaf (bound k d i) = Unit {0}
-IsOpenLeaf (placeholder k u n) = bound_sort k ≡ region_sort
-IsOpenLeaf (atom x) = IsErrorAtom x ⊎ (atom_sort x ≡ region_sort)
-IsOpenLeaf unknown = ⊥
+abbrev pub IsFlexibleLeaf : Leaf → Type 0
+IsFlexibleLeaf (variable k n) = Unit {0}
+IsFlexibleLeaf (bound k d i) = Unit {0}
+IsFlexibleLeaf (placeholder k u n) = bound_sort k ≡ region_sort
+IsFlexibleLeaf (atom x) = IsErrorAtom x ⊎ (atom_sort x ≡ region_sort)
+IsFlexibleLeaf unknown = ⊥
 
 -- The same of a term.
-abbrev pub IsOpen : Tree → Type 0
-IsOpen (leaf l) = IsOpenLeaf l
-IsOpen t = ⊥
+abbrev pub IsFlexible : Tree → Type 0
+IsFlexible (leaf l) = IsFlexibleLeaf l
+IsFlexible t = ⊥
 
 -- Two terms of one sort, of which one agrees with each of that sort.
-abbrev pub AreOpen : Tree → Tree → Type 0
-AreOpen a b = (IsOpen a ⊎ IsOpen b) × (sort_of a ≡ sort_of b)
+abbrev pub AreFlexible : Tree → Tree → Type 0
+AreFlexible a b = (IsFlexible a ⊎ IsFlexible b) × (sort_of a ≡ sort_of b)
 
--- Two terms agree at a variance: at bivariance all do, one of which is open with each of its sort; others are of one
+-- Two terms agree at a variance: at bivariance all do, one of which is flexible with each of its sort; others are of one
 -- form, an alias's kind and a parameter's name aside, and as many parts that agree, each two at the variance of their
 -- place; binders are over bodies that agree. So do the parts of two forms from a place on.
 abbrev pub Agree : Items → Way → Tree → Tree → Type 0
 Agree c (at v) (node h xs) (node k ys) = (v ≡ Bivariant) ⊎ ((plain h ≡ plain k) × Agree c (parts h 0 v) xs ys)
 Agree c (at v) (bind ks a) (bind ls b) = (v ≡ Bivariant) ⊎ Agree c (at v) a b
-Agree c (at v) a b = (v ≡ Bivariant) ⊎ (AreOpen a b ⊎ AreAlike a b)
+Agree c (at v) a b = (v ≡ Bivariant) ⊎ (AreFlexible a b ⊎ AreAlike a b)
 Agree c (parts h i v) (cons a xs) (cons b ys) = Agree c (at (part_at c h i v)) a b × Agree c (parts h (suc i) v) xs ys
 Agree c way a b = count a ≡ count b
 

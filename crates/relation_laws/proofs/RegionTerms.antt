@@ -9,7 +9,7 @@ use Rattle.relation_contexts.specs.Relation.{Items, Interpretation, parts, secon
 use Rattle.relation_contexts.specs.FirstOrder.{IsFirstOrderAtom}
 use Rattle.relation_contexts.specs.Stores.{IsNamable}
 use Rattle.relation_laws.specs.RegionTerms.{IsRegionTermHead, IsRegionTermLeaf, BindsRegions, IsRegionTerm, RelatedTermsAgree, RelatedIffAgree}
-use Rattle.relation_contexts.specs.Agreeing.{IsOpen, AreOpen, Agree}
+use Rattle.relation_contexts.specs.Agreeing.{IsFlexible, AreFlexible, Agree}
 use Rattle.relation_contexts.specs.Errors.{outer_leaf, AreAlike}
 use Rattle.relation_contexts.proofs.Agreeing.{agree_anything, agree_same}
 use Rattle.relation_laws.specs.Decided.{plain_leaf}
@@ -420,7 +420,7 @@ erased_open_atom : (x : Atom) → IsFirstOrderAtom x → IsErrorAtom (erase_atom
 erased_open_atom x r (inl e) = absurd (no_error_atom x (erased_error x e) r)
 erased_open_atom x r (inr s) = sym (erase_atom_sort x) ∙ s
 
-erased_open : (l : Leaf) → IsRegionTermLeaf l → IsOpen (leaf (erase_leaf l)) → leaf_sort l ≡ region_sort
+erased_open : (l : Leaf) → IsRegionTermLeaf l → IsFlexible (leaf (erase_leaf l)) → leaf_sort l ≡ region_sort
 erased_open (variable k n) r o = absurd r
 erased_open (bound k d i) r o = r
 erased_open (placeholder (bound_kind region_kind m) u n) r o = refl
@@ -429,7 +429,7 @@ erased_open (placeholder (bound_kind const_kind m) u n) r o = o
 erased_open (atom x) r o = erased_open_atom x r o
 erased_open unknown r o = absurd r
 
-open_regions : (l m : Leaf) → IsRegionTermLeaf l → IsRegionTermLeaf m → AreOpen (leaf (erase_leaf l)) (leaf (erase_leaf m)) → (leaf_sort l ≡ region_sort) × (leaf_sort m ≡ region_sort)
+open_regions : (l m : Leaf) → IsRegionTermLeaf l → IsRegionTermLeaf m → AreFlexible (leaf (erase_leaf l)) (leaf (erase_leaf m)) → (leaf_sort l ≡ region_sort) × (leaf_sort m ≡ region_sort)
 open_regions l m f g (inl o, s) = let p = erased_open l f o in (p, sym (erase_sort m) ∙ sym s ∙ erase_sort l ∙ p)
 open_regions l m f g (inr o, s) = let q = erased_open m g o in (sym (erase_sort l) ∙ s ∙ erase_sort m ∙ q, q)
 
@@ -452,17 +452,17 @@ outer_erased unknown = refl
 alike_erased : (l m : Leaf) → AreAlike (leaf (erase_leaf l)) (leaf (erase_leaf m)) → erase_leaf l ≡ erase_leaf m
 alike_erased l m e = let z : outer_leaf (erase_leaf l) ≡ outer_leaf (erase_leaf m) = cc in sym (outer_erased l) ∙ z ∙ outer_erased m
 
-apart_leaf : (l : Leaf) (b : Tree) → IsRegionTermLeaf l → (sort_of b ≡ region_sort → ⊥) → (IsOpen b → ⊥) → (AreAlike (leaf (erase_leaf l)) b → ⊥) → AreOpen (leaf (erase_leaf l)) b ⊎ AreAlike (leaf (erase_leaf l)) b → ⊥
+apart_leaf : (l : Leaf) (b : Tree) → IsRegionTermLeaf l → (sort_of b ≡ region_sort → ⊥) → (IsFlexible b → ⊥) → (AreAlike (leaf (erase_leaf l)) b → ⊥) → AreFlexible (leaf (erase_leaf l)) b ⊎ AreAlike (leaf (erase_leaf l)) b → ⊥
 apart_leaf l b r n m k (inl (inl o, s)) = n (sym s ∙ erase_sort l ∙ erased_open l r o)
 apart_leaf l b r n m k (inl (inr o, s)) = m o
 apart_leaf l b r n m k (inr e) = k e
 
-apart_leaf_back : (l : Leaf) (a : Tree) → IsRegionTermLeaf l → (sort_of a ≡ region_sort → ⊥) → (IsOpen a → ⊥) → (AreAlike a (leaf (erase_leaf l)) → ⊥) → AreOpen a (leaf (erase_leaf l)) ⊎ AreAlike a (leaf (erase_leaf l)) → ⊥
+apart_leaf_back : (l : Leaf) (a : Tree) → IsRegionTermLeaf l → (sort_of a ≡ region_sort → ⊥) → (IsFlexible a → ⊥) → (AreAlike a (leaf (erase_leaf l)) → ⊥) → AreFlexible a (leaf (erase_leaf l)) ⊎ AreAlike a (leaf (erase_leaf l)) → ⊥
 apart_leaf_back l a r n m k (inl (inl o, s)) = m o
 apart_leaf_back l a r n m k (inl (inr o, s)) = n (s ∙ erase_sort l ∙ erased_open l r o)
 apart_leaf_back l a r n m k (inr e) = k e
 
-apart_forms : (a b : Tree) → (IsOpen a → ⊥) → (IsOpen b → ⊥) → (AreAlike a b → ⊥) → AreOpen a b ⊎ AreAlike a b → ⊥
+apart_forms : (a b : Tree) → (IsFlexible a → ⊥) → (IsFlexible b → ⊥) → (AreAlike a b → ⊥) → AreFlexible a b ⊎ AreAlike a b → ⊥
 apart_forms a b n m k (inl (inl o, s)) = n o
 apart_forms a b n m k (inl (inr o, s)) = m o
 apart_forms a b n m k (inr e) = k e
