@@ -1,8 +1,8 @@
 -- Two terms of one form agree if their parts do.
 use Rattle.std.proofs.Common.{◌≡◌, ◌⊎◌, ℕ, suc, ◌<◌, refl, sym, ap, ◌∙◌, inl, inr, subst, subst₂}
 use Rattle.term_enums.specs.declared.Variance.{Variance}
-use Rattle.relation_terms.specs.Heads.{Head, value, value_type, value_branch, expression, atom}
-use Rattle.relation_terms.specs.Trees.{Tree, leaf, node, cons, nil, nth}
+use Rattle.relation_terms.specs.Heads.{Head, value, value_type, value_branch}
+use Rattle.relation_terms.specs.Trees.{Tree, node, cons, nil, nth}
 use Rattle.relation_contexts.specs.Relation.{Items, at, parts, part_at}
 use Rattle.relation_contexts.specs.Parts.{parts_of, head_of, const_parts_of, const_head_of, branches_of}
 use Rattle.relation_contexts.specs.Errors.{AreOfOneForm, over_parts, one_leaf, parameters, AreOfOneConst, values}

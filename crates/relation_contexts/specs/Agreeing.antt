@@ -1,10 +1,9 @@
 -- When two terms agree: nothing in them clashes.
-use Rattle.std.specs.Prelude.{◌≡◌, ◌⊎◌, ℕ, suc}
-use Rattle.term_enums.specs.declared.Variance.{Variance}
+use Rattle.std.specs.Prelude.{◌≡◌, ◌⊎◌, suc}
 use Rattle.term_enums.specs.declared.Variance.TheVariants.{Bivariant}
 use Rattle.relation_terms.specs.Heads.{region_sort, bound_sort, atom_sort, Leaf, variable, bound, placeholder, atom}
 use Rattle.relation_terms.specs.Heads.{unknown}
-use Rattle.relation_terms.specs.Trees.{Tree, leaf, node, bind, nil, cons, count}
+use Rattle.relation_terms.specs.Trees.{Tree, leaf, node, bind, cons, count}
 use Rattle.relation_contexts.specs.Relation.{Items, Way, at, parts, second_opened, first_opened, part_at, plain, sort_of}
 use Rattle.relation_contexts.specs.Relation.{IsErrorAtom}
 use Rattle.relation_contexts.specs.Errors.{AreAlike}
