@@ -5,7 +5,8 @@ use Rattle.std.specs.Prelude.{nat_eq, cond, Some, slice_get}
 use Rattle.std.proofs.lemmas.Bool.Decides.{eqb_tells}
 use Rattle.term_enums.specs.declared.Variance.{Variance}
 use Rattle.term_enums.specs.declared.Variance.TheVariants.{Bivariant}
-use Rattle.relation_terms.specs.Heads.{region_sort, BoundKind, bound_sort, VarKind, var_sort, head_sort, atom_sort, Head, adt}
+use Rattle.relation_terms.specs.Heads.{region_sort, BoundKind, bound_sort, VarKind, var_sort, head_sort, atom_sort}
+use Rattle.relation_terms.specs.Heads.{Head, adt}
 use Rattle.relation_terms.specs.Heads.{alias, alias_term, Leaf, leaf_sort, Atom, type_param, const_param, variable}
 use Rattle.relation_terms.specs.Heads.{bound, placeholder, atom, unknown, int_var, float_var}
 use Rattle.relation_terms.specs.Trees.{Tree, leaf, node, bind, nil, cons, tree_at, put, inst, count, nth}
@@ -13,7 +14,8 @@ use Rattle.relation_contexts.specs.Relation.{Items, at, parts, part_at, plain, p
 use Rattle.relation_contexts.specs.Stores.{Store, entry_term, MayStandFor, IsSound}
 use Rattle.relation_contexts.specs.Steps.{IsNumberFor}
 use Rattle.relation_contexts.specs.Bound.{IsBoundAs, AreBoundAs}
-use Rattle.relation_contexts.specs.Errors.{outer_leaf, outer_head, outermost, AreAlike, IsStandIn, StandFor, IsReadAs, itself}
+use Rattle.relation_contexts.specs.Errors.{outer_leaf, outer_head, outermost, AreAlike, IsStandIn, StandFor}
+use Rattle.relation_contexts.specs.Errors.{IsReadAs, itself}
 use Rattle.relation_contexts.specs.Errors.{by_class, by_binding}
 use Rattle.relation_contexts.specs.Agreeing.{IsFlexible, AreFlexible, Agree}
 use Rattle.relation_contexts.proofs.Related.{no_region_head}
@@ -247,7 +249,8 @@ inst_outer xs d (bind ks t) = inr refl
 inst_outer xs d nil = inr refl
 inst_outer xs d (cons t u) = inr refl
 
-both_flexible : (a b : Tree) (A B : Type 0) → (A → IsFlexible a) → (B → IsFlexible b) → A ⊎ B → IsFlexible a ⊎ IsFlexible b
+both_flexible : (a b : Tree) (A B : Type 0) → (A → IsFlexible a) → (B → IsFlexible b) → A ⊎ B →
+    IsFlexible a ⊎ IsFlexible b
 both_flexible a b A B f g (inl x) = inl (f x)
 both_flexible a b A B f g (inr y) = inr (g y)
 
@@ -257,7 +260,8 @@ pub opened_leaves : (v : Variance) (xs ys : List Tree) (d : ℕ) (t u : Tree) �
     AreAlike (inst xs d t) (inst ys d u)) → (v ≡ Bivariant) ⊎ (AreFlexible t u ⊎ AreAlike t u)
 opened_leaves v xs ys d t u p q (inl e) = inl e
 opened_leaves v xs ys d t u p q (inr (inl o)) = inr (inl (
-  both_flexible t u (IsFlexible (inst xs d t)) (IsFlexible (inst ys d u)) (inst_flexible xs d t) (inst_flexible ys d u) o.0,
+  both_flexible t u (IsFlexible (inst xs d t)) (IsFlexible (inst ys d u)) (inst_flexible xs d t)
+      (inst_flexible ys d u) o.0,
   sym p ∙ o.1 ∙ q,
 ))
 opened_leaves v xs ys d t u p q (inr (inr e)) = go (inst_outer xs d t) (inst_outer ys d u)
@@ -265,8 +269,8 @@ opened_leaves v xs ys d t u p q (inr (inr e)) = go (inst_outer xs d t) (inst_out
     sorts : sort_of t ≡ sort_of u
     sorts = sym p ∙ alike_sorts (inst xs d t) (inst ys d u) e ∙ q
 
-    go : IsFlexible t ⊎ (outermost (inst xs d t) ≡ outermost t) → IsFlexible u ⊎ (outermost (inst ys d u) ≡ outermost u) →
-        (v ≡ Bivariant) ⊎ (AreFlexible t u ⊎ AreAlike t u)
+    go : IsFlexible t ⊎ (outermost (inst xs d t) ≡ outermost t) →
+        IsFlexible u ⊎ (outermost (inst ys d u) ≡ outermost u) → (v ≡ Bivariant) ⊎ (AreFlexible t u ⊎ AreAlike t u)
     go (inl o) k = inr (inl (inl o, sorts))
     go (inr x) (inl o) = inr (inl (inr o, sorts))
     go (inr x) (inr y) = inr (inr (sym x ∙ e ∙ y))

@@ -4,8 +4,8 @@ use Rattle.term_enums.specs.declared.Variance.TheVariants.{Bivariant}
 use Rattle.relation_terms.specs.Heads.{region_sort, bound_sort, atom_sort, Leaf, variable, bound, placeholder, atom}
 use Rattle.relation_terms.specs.Heads.{unknown}
 use Rattle.relation_terms.specs.Trees.{Tree, leaf, node, bind, cons, count}
-use Rattle.relation_contexts.specs.Relation.{Items, Way, at, parts, second_opened, first_opened, part_at, plain, sort_of}
-use Rattle.relation_contexts.specs.Relation.{IsErrorAtom}
+use Rattle.relation_contexts.specs.Relation.{Items, Way, at, parts, second_opened, first_opened, part_at, plain}
+use Rattle.relation_contexts.specs.Relation.{sort_of, IsErrorAtom}
 use Rattle.relation_contexts.specs.Errors.{AreAlike}
 
 -- What agrees with each term of its sort: a region, a variable, what a binder binds, and an error.
@@ -25,9 +25,9 @@ IsFlexible t = ⊥
 abbrev pub AreFlexible : Tree → Tree → Type 0
 AreFlexible a b = (IsFlexible a ⊎ IsFlexible b) × (sort_of a ≡ sort_of b)
 
--- Two terms agree at a variance: at bivariance all do, one of which is flexible with each of its sort; others are of one
--- form, an alias's kind and a parameter's name aside, and as many parts that agree, each two at the variance of their
--- place; binders are over bodies that agree. So do the parts of two forms from a place on.
+-- Two terms agree at a variance: at bivariance all do, and a flexible one does with each of its sort; others are of one
+-- form, an alias's kind and a parameter's name aside, over as many parts that agree, each two at the variance of their
+-- place, or binders over bodies that agree. The same of the parts of two forms from a place on.
 abbrev pub Agree : Items → Way → Tree → Tree → Type 0
 Agree c (at v) (node h xs) (node k ys) = (v ≡ Bivariant) ⊎ ((plain h ≡ plain k) × Agree c (parts h 0 v) xs ys)
 Agree c (at v) (bind ks a) (bind ls b) = (v ≡ Bivariant) ⊎ Agree c (at v) a b

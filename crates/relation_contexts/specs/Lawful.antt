@@ -242,8 +242,8 @@ module _ {Key Id Name : Type 0} where
   Related M r q v = RelatedBy M r q (at v)
 
   -- A step led from one pair to another, at a variance: what relates the second relates the first, no equal pair is
-  -- lost, an error of the second at its variance is one of the first at the ambient one, and if the second agrees, so does
-  -- the first.
+  -- lost, an error of the second at its variance is one of the first at the ambient one, and if the second agrees, so
+  -- does the first.
   pub record LeadsBy (r q : State Key Id Name) (added : List Goal) (way : Way) (a b : Tree) (way' : Way)
       (x y : Tree) : Type 0 where
     pub steps : StepsTo (items_in r) r.environment r.store q.store r.goals added way a b way' x y

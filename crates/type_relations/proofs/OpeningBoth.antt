@@ -150,7 +150,8 @@ bodies_error m c st v e ks ls t u x y p q o =
 
 -- Two binders agree if the opened bodies do.
 pub bodies_agree : (c : Items) (v : Variance) (ks ls : List BoundKind) (t u x y : Tree) → StandIns ks t x →
-    StandIns ls u y → AreBoundAs ks 0 t → AreBoundAs ls 0 u → Agree c (at v) x y → Agree c (at v) (bind ks t) (bind ls u)
+    StandIns ls u y → AreBoundAs ks 0 t → AreBoundAs ls 0 u → Agree c (at v) x y →
+    Agree c (at v) (bind ks t) (bind ls u)
 bodies_agree c v ks ls t u x y p q f h g =
     inr (agree_opened c ks ls p.trees q.trees p.stand q.stand v 0 t u f h (subst₂ (Agree c (at v)) p.put q.put g))
 

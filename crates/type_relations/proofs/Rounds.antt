@@ -360,8 +360,8 @@ module _ {Key Id Name : Type 0} where
       let one : OneRound p.ambient a b = subst (λ v. OneRound v a b) (sym (h.passes).ambient) o in n one
 
   -- Round 1, where round 0 related the binders by half.
-  module _ {M : Manners} {r p q : State Key Id Name} (a b x y : Tree) (ina : InContext r.store a) (inb : InContext r.store b)
-      (h : HalfDone M r p a b) (added : List Goal) where
+  module _ {M : Manners} {r p q : State Key Id Name} (a b x y : Tree) (ina : InContext r.store a)
+      (inb : InContext r.store b) (h : HalfDone M r p a b) (added : List Goal) where
     -- Where its bodies are never one, nor are the binders.
     second_never : Begun (items_in r) r.environment r.ambient r.store p.store r.goals (h.passes).added a b →
         RoundSteps p q added 1 a b x y → NeverOne (at p.ambient) q.store x y → NeverOne (at r.ambient) r.store a b
@@ -471,8 +471,8 @@ module _ {Key Id Name : Type 0} where
       let e = ap (λ n. depth n (weight r.store a + weight r.store b)) l.same_budget in
       omega (arith, d, e)
 
-  pub second_under : {r p q : State Key Id Name} (M : Manners) (added : List Goal) (a b x y : Tree) → HalfDone M r p a b →
-      RoundLeads M p q added 1 a b x y → 8 * depth (q.store).budget (weight q.store x + weight q.store y) + 7 <
+  pub second_under : {r p q : State Key Id Name} (M : Manners) (added : List Goal) (a b x y : Tree) →
+      HalfDone M r p a b → RoundLeads M p q added 1 a b x y → 8 * depth (q.store).budget (weight q.store x + weight q.store y) + 7 <
       8 * depth (r.store).budget (weight r.store a + weight r.store b)
   second_under {r} {p} {q} M added a b x y h l =
       let d = depth-strict (q.store).budget (weight q.store x + weight q.store y)

@@ -425,7 +425,8 @@ module _ {Key Id Name X : Type 0} (m n : Meaning Key Id Name) (was now : Store) 
   keeps_equal t h = λ w s sat one. let z = ((h.verdict).outcome).keeps w s sat one in
       (z.0, z.1, (z.2.0, subst (All (MakesOneTree z.0)) (sym (h.passes).lengthens) z.2.1))
 
-  pub relates_agreeing : (t : X) → Related solver_manner (solving 0 [] m was L v e) (solving 0 hs n now K v e) v a b tree (Ok t) →
+  pub relates_agreeing : (t : X) →
+      Related solver_manner (solving 0 [] m was L v e) (solving 0 hs n now K v e) v a b tree (Ok t) →
       Agree (items_of m) (at v) a b
   relates_agreeing t h = (h.verdict).agrees tt
 

@@ -37,7 +37,8 @@ use Rattle.relation_contexts.proofs.Opened.{none_escapes, within_none}
 use Rattle.relation_contexts.proofs.Opening.{covariant_step, contravariant_step, unused_step}
 use Rattle.type_relations.proofs.OverContext.{all_taken}
 use Rattle.type_relations.proofs.Solving.{solver_passes}
-use Rattle.type_relations.proofs.OpeningBoth.{changes_made, opened_goes, body_scope, unused_stand_ins, bodies_error, bodies_agree}
+use Rattle.type_relations.proofs.OpeningBoth.{changes_made, opened_goes, body_scope, unused_stand_ins, bodies_error}
+use Rattle.type_relations.proofs.OpeningBoth.{bodies_agree}
 use Rattle.type_relations.proofs.OpeningBoth.{BothOpened, both_opened, bodies_smaller}
 
 -- A body in which something is bound outside uses what its binder binds.

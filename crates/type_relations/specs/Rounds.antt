@@ -45,8 +45,8 @@ module _ {Key Id Name : Type 0} where
         a ≡ bind ks t → b ≡ bind ls u → StepsToBodies r q added (first_opened ks ls r.ambient) t u x y →
         RoundSteps r q added round a b x y
 
-  -- A round led to two bodies. They are the relation's, weigh less, and cost nothing of the budget; an error of theirs is
-  -- one of the binders, which agree if the bodies do.
+  -- A round led to two bodies. They are the relation's, weigh less, and cost nothing of the budget; an error of theirs
+  -- is one of the binders, which agree if the bodies do.
   pub record RoundLeads (M : Manners) (r q : State Key Id Name) (added : List Goal) (round : ℕ)
       (a b x y : Tree) : Type 0 where
     pub steps : RoundSteps r q added round a b x y

@@ -47,8 +47,8 @@ pub trait RelateExt: InferCtxtLike {
     /// first-order record at `Invariant` just those solutions up to erasure stay that unify them: what is recorded is
     /// then a most general unifier.
     ///
-    /// What clashes is refused at each variance: after `Ok` the two are of one form throughout, down to variables, which
-    /// agree with each term of their sort; so do regions with regions, and under binders what these bind.
+    /// What clashes is refused at each variance: after `Ok` the two are of one form throughout, down to variables,
+    /// which agree with each term of their sort; so do regions with regions, and under binders what these bind.
     ///
     /// Two different types that are unresolved type variables answer just one goal, and nothing is recorded: at
     /// `Covariant` that the first is a subtype of the second, at `Contravariant` that the second is one of the first.
