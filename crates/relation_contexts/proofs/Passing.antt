@@ -260,7 +260,6 @@ module _ {Key Id Name : Type 0} where
         answer = record {
           related = λ w s sat all. carries_later f.passes (at r.ambient) x (tree t) (at r.ambient) a (tree t)
               (l.answers (tree t)) w s sat all ((v.answer).related w s sat all);
-          left = λ k. (v.answer).left k ∙ l.left (same_manner M (λ z. z.keeps_left) (passes_then g f.passes small) k);
         };
         known = v.known;
         agrees = λ k. led_agrees g a b x y r.ambient l.leads (v.agrees (manner_then M (λ z. z.relates_agreeing) g k));
@@ -288,7 +287,6 @@ module _ {Key Id Name : Type 0} where
         answer = subst (MayAnswer M p r.ambient a) (sym e) (record {
           related = λ w s sat all. carries_later f.passes (at (xform r.ambient v)) x y (at r.ambient) a u led.answers w s
               sat all (relates_by (xform r.ambient v) x y f.passes (f.verdict).outcome w s sat all);
-          left = λ k. led.left (same_manner M (λ z. z.keeps_left) (passes_then g f.passes small) k);
         });
         known = subst (λ t. IsTrue (known t)) (sym e) led.answer_known;
         agrees = λ k. led_agrees g a b x y (xform r.ambient v) led.leads
@@ -424,7 +422,6 @@ module _ {Key Id Name : Type 0} where
             subst₂ (λ c e. Rel c w e (at v) (apply s a) (apply s z)) (ap items_of (sym back.meaning))
             (sym back.environment) ((h.answer).related w s (subst (λ k. Satisfies w k s) back.store sat)
             (subst₂ (λ m gs. All (Holds (items_of m) w s) gs) back.meaning back.goals all));
-        left = λ k. (h.answer).left (subst (λ j. (M j).keeps_left) back.settings k);
       };
       known = h.known;
       agrees = λ k. subst (λ m. Agree (items_of m) (at v) a b) there.meaning
@@ -502,7 +499,6 @@ module _ {Key Id Name : Type 0} where
         subst₂ (λ c k. Rel c j k (at v) (apply s t) (apply s u)) (sym same) (sym w.environment)
         (h.related j s (subst (λ k. Satisfies j k s) w.store sat)
         (subst₂ (λ c gs. All (Holds c j s) gs) same w.goals all));
-    left = λ k. h.left (subst (λ j. (M j).keeps_left) w.settings k);
   }
     where
       same : items_in p ≡ items_in q
@@ -622,7 +618,6 @@ module _ {Key Id Name K : Type 0} (M : Manners) (F : Tree → Type 0) (r : State
       left_form = f;
       right_form = g;
       answers = λ t w s sat all h. h;
-      left = λ k. refl;
       no_binder = λ all ha hb. (ha, hb);
       same_budget = refl;
       not_larger = omega arith;

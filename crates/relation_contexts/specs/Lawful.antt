@@ -70,12 +70,11 @@ abbrev pub items_in : {Key Id Name : Type 0} → State Key Id Name → Items
 items_in r = items_of r.meaning
 
 -- What a relation takes and gives, set up as it is: which leaves may stand in terms at a variance; whether it promises
--- to answer the left side of a pair; whether it promises to be exact; whether it promises to record of two regions just
--- what their variance asks for; whether it promises to register of two unresolved type variables, at covariance and
--- contravariance, just that the one is a subtype of the other; and whether it promises that what it relates agrees.
+-- to be exact; whether it promises to record of two regions just what their variance asks for; whether it promises to
+-- register of two unresolved type variables, at covariance and contravariance, just that the one is a subtype of the
+-- other; and whether it promises that what it relates agrees.
 pub record Manner : Type 1 where
   pub takes : Variance → Leaf → Type 0
-  pub keeps_left : Type 0
   pub is_exact : Type 0
   pub records_asked : Type 0
   pub registers_subtype : Type 0
@@ -157,10 +156,9 @@ module _ {Key Id Name : Type 0} where
     pub right_taken : Takes (M r.settings) v b
 
   -- What may be answered for the left term of a pair at a variance: one that it is related with there, under each
-  -- assignment that satisfies what is recorded and makes all registered goals true; itself, where that is promised.
+  -- assignment that satisfies what is recorded and makes all registered goals true.
   pub record MayAnswer (M : Manners) (q : State Key Id Name) (v : Variance) (t u : Tree) : Type 0 where
     pub related : Relates (items_in q) q.store q.goals q.environment v t u
-    pub left : (M q.settings).keeps_left → u ≡ t
 
   -- The same of two things that are brought together. Only of terms the answer is looked at.
   abbrev pub MayAnswerBy : Manners → State Key Id Name → Way → Tree → Tree → Type 0
@@ -265,7 +263,6 @@ module _ {Key Id Name : Type 0} where
     pub right_form : IsForm y
     pub answers : (t : Tree) → CarriesOver (items_in q) q.environment q.store q.goals (at r.ambient) x t
         (at r.ambient) a t
-    pub left : (M r.settings).keeps_left → x ≡ a
     pub no_binder : BindsNoBinder r.store → HasNoBinder a → HasNoBinder b → HasNoBinder x × HasNoBinder y
     pub same_budget : (q.store).budget ≡ (r.store).budget
     pub not_larger : weight q.store x + weight q.store y ≤ weight r.store a + weight r.store b
@@ -281,7 +278,6 @@ module _ {Key Id Name : Type 0} where
     pub asked : Asked M q (xform r.ambient v) x y
     pub answers : CarriesOver (items_in q) q.environment q.store q.goals (at (xform r.ambient v)) x y
         (at r.ambient) a answer
-    pub left : (M r.settings).keeps_left → answer ≡ a
     pub answer_known : IsTrue (known answer)
     pub falls : (r.store).budget ≡ suc (q.store).budget
     pub may_instantiate : InstantiatesNone r.store → ⊥

@@ -116,7 +116,7 @@ module _ {Key Id Name : Type 0} (r : State Key Id Name) where
             relates = λ w s sat all. same_rel (equal w s sat);
             keeps = λ w s sat h. (s, (λ k n h. refl), (keep w s sat h, All-nil (MakesOneTree s)));
           };
-          answer = record { related = λ w s sat all. same_rel (answers answer w s sat); left = λ k. absurd k };
+          answer = record { related = λ w s sat all. same_rel (answers answer w s sat) };
           known = sure;
           agrees = λ k. agreeing (items_of m);
         };
@@ -266,7 +266,6 @@ module _ {Key Id Name : Type 0} (r : State Key Id Name) where
       right_form = h;
       answers = λ z w s sat all o. subst (λ i. Rel (items_of m) w r.environment (at r.ambient) i (apply s z))
           (sym (read_value was s sat.bindings a (tree t) p)) o;
-      left = λ k. absurd k;
       no_binder = λ all ha hb. (read_plain was all a (tree t) p ha, read_plain was all b (tree u) q hb);
       same_budget = refl;
       not_larger = let i = read_weight was g a (tree t) p in

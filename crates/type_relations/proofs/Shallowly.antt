@@ -121,7 +121,6 @@ module _ {Key Id Name : Type 0} (r q : State Key Id Name) (g : IsSound r.store) 
         answer = record {
           related = λ i s sat all. subst (λ z. Rel (items_in q) i q.environment (at r.ambient) z (apply s (tree t)))
               (sym (value_a i s (shrinks i s sat))) ((h.answer).related i s sat all);
-          left = λ z. absurd z;
         };
         known = h.known;
         agrees = λ k. agree_read (items_in r) r.store g r.ambient a b u w p o (h.agrees k);
@@ -133,7 +132,6 @@ module _ {Key Id Name : Type 0} (r q : State Key Id Name) (g : IsSound r.store) 
         right_form = h.right_form;
         answers = λ t i s sat all f. subst (λ z. Rel (items_in q) i q.environment (at r.ambient) z (apply s t))
             (sym (value_a i s (shrinks i s sat))) (h.answers t i s sat all f);
-        left = λ z. absurd z;
         no_binder = λ all ha hb. h.no_binder all (read_plain r.store all a u p ha) (read_plain r.store all b w o hb);
         same_budget = h.same_budget;
         not_larger = let e = as_large in let l = h.not_larger in omega (arith, e, l);
@@ -145,7 +143,6 @@ module _ {Key Id Name : Type 0} (r q : State Key Id Name) (g : IsSound r.store) 
         asked = h.asked;
         answers = λ i s sat all f. subst (λ z. Rel (items_in q) i q.environment (at r.ambient) z (apply s (tree t)))
             (sym (value_a i s (shrinks i s sat))) (h.answers i s sat all f);
-        left = λ z. absurd z;
         answer_known = h.answer_known;
         falls = h.falls;
         may_instantiate = h.may_instantiate;

@@ -351,7 +351,7 @@ module _ {Key Id Name : Type 0} (j : ℕ) (gs : List (KeyedGoal Key (PredicateKe
             Verdict solver_manner (solving 0 gs m was L v e) (solving 0 hs n now K v e) ((h.passes).added) v a b tree r
         verdict (Ok t) o = record {
           outcome = o.outcome;
-          answer = record { related = (o.answer).related; left = (o.answer).left };
+          answer = record { related = (o.answer).related };
           known = o.known;
           agrees = o.agrees;
         }

@@ -269,7 +269,6 @@ module _ {Key Id Name : Type 0} (r0 : State Key Id Name) (L K : Type 0) (lawful 
       read_asked = asked_now v root t refl t_known root_in (later t t_in) tt covered;
       asked = asked_now (xform v b) u t u_known t_known u_in (later t t_in) u_covered covered;
       answers = subst (λ z. Answers z u t root an) (sym seen) answers;
-      left = λ k. absurd k;
       answer_known = sure;
       falls = steps.one_spent;
       may_instantiate = could;
@@ -284,7 +283,6 @@ module _ {Key Id Name : Type 0} (r0 : State Key Id Name) (L K : Type 0) (lawful 
       read_asked = asked_now v t root t_known refl (later t t_in) root_in covered tt;
       asked = asked_now (xform v b) t u t_known u_known (later t t_in) u_in covered u_covered;
       answers = subst (λ z. Answers z t u t an) (sym seen) answers;
-      left = λ k. absurd k;
       answer_known = sure;
       falls = steps.one_spent;
       may_instantiate = could;

@@ -50,7 +50,6 @@ solving_through j gs c v e = solving j gs c.meaning c.store c.lawful v e
 abbrev pub solver_manner : Manners
 solver_manner k = record {
   takes = λ v l. Unit {0};
-  keeps_left = ⊥;
   is_exact = Unit {0};
   records_asked = Unit {0};
   registers_subtype = Unit {0};
