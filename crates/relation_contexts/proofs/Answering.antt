@@ -17,7 +17,7 @@ use Rattle.relation_contexts.proofs.Growing.{All_front}
 use Rattle.relation_contexts.proofs.Composing.{places, below_or}
 use Rattle.relation_contexts.proofs.Values.{apply-nth, apply-count, apply-list}
 use Rattle.relation_contexts.proofs.OneParts.{related_head}
-use Rattle.relation_contexts.proofs.Lists.{firsts, snoc, firsts_more, firsts_all}
+use Rattle.relation_contexts.proofs.Lists.{snoc}
 
 -- Seen from a variance, covariance is the variance itself.
 pub covariantly : (v : Variance) → xform v Covariant ≡ v
@@ -42,15 +42,12 @@ module _ {Key Id Name : Type 0} where
 
   module _ (M : Manners) where
     pub may_itself : (q : State Key Id Name) (v : Variance) (t : Tree) → MayAnswer M q v t t
-    may_itself q v t = record { related = λ w s sat all. same refl; left = λ k. refl }
+    may_itself q v t = record { related = λ w s sat all. same refl }
 
     -- What was an answer stays one.
     pub may_later : {n : ℕ} {q p : State Key Id Name} (v : Variance) (t u : Tree) → Passes n q p → MayAnswer M q v t u →
         MayAnswer M p v t u
-    may_later v t u g a = record {
-      related = relates_still v t u g a.related;
-      left = λ k. a.left (subst (λ j. (M j).keeps_left) g.settings k);
-    }
+    may_later v t u g a = record { related = relates_still v t u g a.related }
 
 -- A list with one more behind it.
 snoc_list : (ts u : Tree) → IsList ts → IsList (snoc ts u)
@@ -100,14 +97,12 @@ pub record AreAnswers {Key Id Name : Type 0} (M : Manners) (q : State Key Id Nam
   pub counted : count us ≡ i
   pub related : (j : ℕ) → j < i →
       Relates (items_in q) q.store q.goals q.environment (part_at (items_in q) h j v) (nth j ts) (nth j us)
-  pub left : (M q.settings).keeps_left → us ≡ firsts i ts
 
 -- What may be answered for all parts of a form.
 pub record AnswersParts {Key Id Name : Type 0} (M : Manners) (q : State Key Id Name) (h : Head) (v : Variance)
     (ts us : Tree) : Type 0 where
   pub related : (w : Interpretation) (s : Assign) → Satisfies w q.store s → All (Holds (items_in q) w s) q.goals →
       Rel (items_in q) w q.environment (parts h 0 v) (apply s ts) (apply s us)
-  pub left : (M q.settings).keeps_left → us ≡ ts
 
 module _ {Key Id Name : Type 0} (M : Manners) where
   pub answers_none : (q : State Key Id Name) (h : Head) (v : Variance) (ts : Tree) → AreAnswers M q h v 0 ts nil
@@ -116,7 +111,6 @@ module _ {Key Id Name : Type 0} (M : Manners) where
     sure = refl;
     counted = refl;
     related = λ j l. absurd (omega (arith, l));
-    left = λ k. refl;
   }
 
   pub answers_next : {n : ℕ} {q p : State Key Id Name} (h : Head) (v : Variance) (i : ℕ) (ts us x u : Tree) →
@@ -127,7 +121,6 @@ module _ {Key Id Name : Type 0} (M : Manners) where
     sure = snoc_known us u a.is_list a.sure k;
     counted = snoc_count us u a.is_list ∙ ap suc a.counted;
     related = λ j z. place j (below_or i j z);
-    left = λ z. ap₂ snoc (a.left (subst (λ o. (M o).keeps_left) g.settings z)) (m.left z ∙ e) ∙ sym (firsts_more i ts l);
   }
     where
       place : (j : ℕ) → (j < i) ⊎ (j ≡ i) →
@@ -156,16 +149,12 @@ module _ {Key Id Name : Type 0} (M : Manners) where
         (subst (λ o. Rel (items_in q) w q.environment (at (part_at (items_in q) h o v)) (apply s (nth j ts))
         (apply s (nth j us))) (omega arith)
         (a.related j (subst (λ o. j < o) (apply-count s ts l ∙ sym e) z) w s sat all)));
-    left = λ k. a.left k ∙ ap (λ j. firsts j ts) e ∙ firsts_all ts l;
   }
 
   -- A form over what may be answered for its parts may be answered for it.
   pub may_form : (q : State Key Id Name) (h : Head) (v : Variance) (ts us : Tree) → IsRelatedHead h →
       AnswersParts M q h v ts us → MayAnswer M q v (node h ts) (node h us)
-  may_form q h v ts us is a = record {
-    related = λ w s sat all. forms is refl (a.related w s sat all);
-    left = λ k. ap (node h) (a.left k);
-  }
+  may_form q h v ts us is a = record { related = λ w s sat all. forms is refl (a.related w s sat all) }
 
   pub may_over : (q : State Key Id Name) (v : Variance) (t us : Tree) → IsFormed t →
       AnswersParts M q (head_of t) v (parts_of t) us → MayAnswer M q v t (over t us)
@@ -181,7 +170,6 @@ module _ {Key Id Name : Type 0} (M : Manners) where
       (node value (cons t (cons (node value_branch us) nil)))
   may_value q v t vs us a = record {
     related = λ w s sat all. forms tt refl (next_part (same refl) (next_part (branch w s sat all) no_parts));
-    left = λ k. ap (λ z. node value (cons t (cons (node value_branch z) nil))) (a.left k);
   }
     where
       branch : (w : Interpretation) (s : Assign) → Satisfies w q.store s → All (Holds (items_in q) w s) q.goals →

@@ -12,6 +12,7 @@ pub mod Growing
 pub mod NewVariables
 pub mod MakingEach
 pub mod Opened
+pub mod Agreeing
 pub mod Erased
 pub mod Composing
 pub mod Opening
@@ -35,6 +36,7 @@ pub mod GeneralisingParts
 pub mod GeneralisingOnce
 pub mod OneUniverse
 pub mod Answering
+pub mod AgreeingForms
 pub mod Roots
 pub mod Numbers
 pub mod Variables

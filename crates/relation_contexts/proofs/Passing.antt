@@ -17,6 +17,7 @@ use Rattle.relation_contexts.specs.Relation.{Items, Way, at, anything, Rel}
 use Rattle.relation_contexts.specs.declared.relate.Step.TheVariants.{Done, Parts}
 use Rattle.relation_folds.specs.Faults.{KnowsError}
 use Rattle.relation_contexts.specs.Errors.{ErrorOf}
+use Rattle.relation_contexts.specs.Agreeing.{Agree}
 use Rattle.relation_contexts.specs.Stores.{Store, IsSound, Satisfies, all_bound, weight}
 use Rattle.relation_contexts.specs.Goals.{Goal, GoalInContext, IsDirected, Holds, Relates, Asked as Asks, asked, asks_too_much, asks_nothing, IsQuiet, AsksNoPair, HasOneTree, MakesOneTree}
 use Rattle.relation_contexts.specs.Outcomes.{Outcome, CarriesOver, NeverOne, Exact, ExactStep}
@@ -34,6 +35,7 @@ use Rattle.relation_contexts.proofs.Full.{full_itself, full_same, full_then, ful
 use Rattle.relation_contexts.proofs.Composing.{steps_compose, first_goals}
 use Rattle.relation_contexts.proofs.Growing.{All_front}
 use Rattle.relation_contexts.proofs.Standing.{later_term}
+use Rattle.relation_contexts.proofs.Agreeing.{agree_anything}
 use Rattle.relation_contexts.proofs.Answering.{same_items, may_itself, may_later, if_ok_both}
 use Rattle.relation_contexts.specs.OneUniverse.{KeepsUniverse, KeepsUniverseOf, LeadsInUniverse, BindsNoMore}
 use Rattle.relation_contexts.proofs.OneUniverse.{keeps_itself, keeps_binds, kept_then, binds_as_many, leads_itself, led_keeps, led_binds, led_fewer}
@@ -149,6 +151,12 @@ module _ {Key Id Name : Type 0} where
       (steps_compose (items_in r) r.environment (at r.ambient) (at v) r.store q.store p.store r.goals g.added f.added
       a b x y l.steps).0 (outcome_seen g (at v) p.store f.added x y o)
 
+  -- So the pair that it was asked about agrees if the one that is left does.
+  pub led_agrees : {n : ℕ} {r q : State Key Id Name} (g : Passes n r q) (a b x y : Tree) (v : Variance) →
+      Leads r q g.added a b v x y → Agree (items_in q) (at v) x y → Agree (items_in r) (at r.ambient) a b
+  led_agrees {r = r} g a b x y v l h =
+      l.agrees (items_in r) (subst (λ c. Agree c (at v) x y) (same_items g) h)
+
   pub led_refuses : {n m : ℕ} {r q p : State Key Id Name} (g : Passes n r q) (f : Passes m q p) → IsSound p.store →
       (a b x y : Tree) (v : Variance) → Leads r q g.added a b v x y → (e : RelateFault Key Id Name) →
       Refuses q p v x y e → Refuses r p r.ambient a b e
@@ -252,9 +260,9 @@ module _ {Key Id Name : Type 0} where
         answer = record {
           related = λ w s sat all. carries_later f.passes (at r.ambient) x (tree t) (at r.ambient) a (tree t)
               (l.answers (tree t)) w s sat all ((v.answer).related w s sat all);
-          left = λ k. (v.answer).left k ∙ l.left (same_manner M (λ z. z.keeps_left) (passes_then g f.passes small) k);
         };
         known = v.known;
+        agrees = λ k. led_agrees g a b x y r.ambient l.leads (v.agrees (manner_then M (λ z. z.relates_agreeing) g k));
       }
       verdict (Err e) v = led_refuses g f.passes sound a b x y r.ambient l.leads e v
 
@@ -279,9 +287,10 @@ module _ {Key Id Name : Type 0} where
         answer = subst (MayAnswer M p r.ambient a) (sym e) (record {
           related = λ w s sat all. carries_later f.passes (at (xform r.ambient v)) x y (at r.ambient) a u led.answers w s
               sat all (relates_by (xform r.ambient v) x y f.passes (f.verdict).outcome w s sat all);
-          left = λ k. led.left (same_manner M (λ z. z.keeps_left) (passes_then g f.passes small) k);
         });
         known = subst (λ t. IsTrue (known t)) (sym e) led.answer_known;
+        agrees = λ k. led_agrees g a b x y (xform r.ambient v) led.leads
+            ((f.verdict).agrees (manner_then M (λ z. z.relates_agreeing) g k));
       };
       exact = exact_led {X = Y} (M r.settings) r.store q.store p.store a b x y r.ambient (xform r.ambient v)
           (invariantly v) exactly (Ok z)
@@ -350,6 +359,7 @@ module _ {Key Id Name : Type 0} where
         outcome = outcome;
         answer = subst (MayAnswer M p v a) (sym e) (may_later M v a (tree t) h.passes (f.verdict).answer);
         known = subst (λ u. IsTrue (known u)) (sym e) (f.verdict).known;
+        agrees = (f.verdict).agrees;
       };
       exact = λ k is pair. let z = f.exact k is pair in (
         subst IsFirstOrderStore (sym h.store) z.0,
@@ -412,9 +422,10 @@ module _ {Key Id Name : Type 0} where
             subst₂ (λ c e. Rel c w e (at v) (apply s a) (apply s z)) (ap items_of (sym back.meaning))
             (sym back.environment) ((h.answer).related w s (subst (λ k. Satisfies w k s) back.store sat)
             (subst₂ (λ m gs. All (Holds (items_of m) w s) gs) back.meaning back.goals all));
-        left = λ k. (h.answer).left (subst (λ j. (M j).keeps_left) back.settings k);
       };
       known = h.known;
+      agrees = λ k. subst (λ m. Agree (items_of m) (at v) a b) there.meaning
+          (h.agrees (subst (λ j. (M j).relates_agreeing) (sym there.settings) k));
     }
 
     pub turned : (result : Result X (RelateFault Key Id Name)) → Related M t q v a b tree result →
@@ -448,6 +459,7 @@ module _ {Key Id Name : Type 0} where
       };
       answer = subst (MayAnswer M r v a) (sym same) (may_itself M r v a);
       known = subst (λ u. IsTrue (known u)) (sym same) k;
+      agrees = λ j. agree_anything (items_in r) v a b e;
     };
     exact = λ k is pair. absurd (invariant_is_not (sym is ∙ e));
     full = λ ha hb. full_itself r.store;
@@ -487,7 +499,6 @@ module _ {Key Id Name : Type 0} where
         subst₂ (λ c k. Rel c j k (at v) (apply s t) (apply s u)) (sym same) (sym w.environment)
         (h.related j s (subst (λ k. Satisfies j k s) w.store sat)
         (subst₂ (λ c gs. All (Holds c j s) gs) same w.goals all));
-    left = λ k. h.left (subst (λ j. (M j).keeps_left) w.settings k);
   }
     where
       same : items_in p ≡ items_in q
@@ -506,6 +517,7 @@ module _ {Key Id Name : Type 0} where
             (f.verdict).outcome;
         answer = may_with M v a (answer z) e w value;
         known = sure;
+        agrees = (f.verdict).agrees;
       };
       exact = λ k is pair. subst (λ s. IsFirstOrderStore s × Exact r.store s a b × KeepsUniverseOf r.store s a b)
           (sym w.store) (f.exact k is pair);
@@ -600,12 +612,12 @@ module _ {Key Id Name K : Type 0} (M : Manners) (F : Tree → Type 0) (r : State
           keeps = λ w s sat one. (s, (λ j i h. refl), (sat, All-nil (MakesOneTree s), one));
         };
         errors = λ m c st e l g h. h;
+        agrees = λ c h. h;
       };
       asked = k;
       left_form = f;
       right_form = g;
       answers = λ t w s sat all h. h;
-      left = λ k. refl;
       no_binder = λ all ha hb. (ha, hb);
       same_budget = refl;
       not_larger = omega arith;

@@ -24,6 +24,7 @@ use Rattle.relation_contexts.specs.Headline.{IsFirstOrderPair}
 use Rattle.relation_contexts.specs.OneUniverse.{KeepsUniverseOf, LeadsInUniverse, BindsNoMore, BindsFewer}
 use Rattle.relation_contexts.specs.FirstOrder.{IsFirstOrderStore}
 use Rattle.relation_contexts.specs.Errors.{ErrorOf}
+use Rattle.relation_contexts.specs.Agreeing.{AgreeBy}
 use Rattle.relation_contexts.specs.Measures.{Goes, grown}
 use Rattle.relation_contexts.specs.Covered.{IsCovered}
 
@@ -69,15 +70,15 @@ abbrev pub items_in : {Key Id Name : Type 0} → State Key Id Name → Items
 items_in r = items_of r.meaning
 
 -- What a relation takes and gives, set up as it is: which leaves may stand in terms at a variance; whether it promises
--- to answer the left side of a pair; whether it promises to be exact; whether it promises to record of two regions just
--- what their variance asks for; and whether it promises to register of two unresolved type variables, at covariance and
--- contravariance, just that the one is a subtype of the other.
+-- to be exact; whether it promises to record of two regions just what their variance asks for; whether it promises to
+-- register of two unresolved type variables, at covariance and contravariance, just that the one is a subtype of the
+-- other; and whether it promises that what it relates agrees.
 pub record Manner : Type 1 where
   pub takes : Variance → Leaf → Type 0
-  pub keeps_left : Type 0
   pub is_exact : Type 0
   pub records_asked : Type 0
   pub registers_subtype : Type 0
+  pub relates_agreeing : Type 0
 
 -- The same by how a relation is set up.
 abbrev pub Manners : Type 1
@@ -155,10 +156,9 @@ module _ {Key Id Name : Type 0} where
     pub right_taken : Takes (M r.settings) v b
 
   -- What may be answered for the left term of a pair at a variance: one that it is related with there, under each
-  -- assignment that satisfies what is recorded and makes all registered goals true; itself, where that is promised.
+  -- assignment that satisfies what is recorded and makes all registered goals true.
   pub record MayAnswer (M : Manners) (q : State Key Id Name) (v : Variance) (t u : Tree) : Type 0 where
     pub related : Relates (items_in q) q.store q.goals q.environment v t u
-    pub left : (M q.settings).keeps_left → u ≡ t
 
   -- The same of two things that are brought together. Only of terms the answer is looked at.
   abbrev pub MayAnswerBy : Manners → State Key Id Name → Way → Tree → Tree → Type 0
@@ -179,12 +179,14 @@ module _ {Key Id Name : Type 0} where
   abbrev pub Refuses : State Key Id Name → State Key Id Name → Variance → Tree → Tree → RelateFault Key Id Name → Type 0
   Refuses r q v = RefusesBy r q (at v)
 
-  -- What an answer says of two things: they are related, no equal pair is lost, and a known term is answered.
+  -- What an answer says of two things: they are related, no equal pair is lost, and a known term is answered; and where
+  -- that is promised, they agree.
   pub record AnswersBy (M : Manners) (r q : State Key Id Name) (added : List Goal) (way : Way)
       (a b t : Tree) : Type 0 where
     pub outcome : Outcome (items_in r) r.environment way r.store q.store r.goals added a b
     pub answer : MayAnswerBy M q way a t
     pub known : IsTrue (known t)
+    pub agrees : (M r.settings).relates_agreeing → AgreeBy (items_in r) way a b
 
   -- The same of two terms at a variance.
   abbrev pub Answers : Manners → State Key Id Name → State Key Id Name → List Goal → Variance → Tree → Tree → Tree →
@@ -238,12 +240,14 @@ module _ {Key Id Name : Type 0} where
   Related M r q v = RelatedBy M r q (at v)
 
   -- A step led from one pair to another, at a variance: what relates the second relates the first, no equal pair is
-  -- lost, and an error of the second at its variance is one of the first at the ambient one.
+  -- lost, an error of the second at its variance is one of the first at the ambient one, and if the second agrees, so
+  -- does the first.
   pub record LeadsBy (r q : State Key Id Name) (added : List Goal) (way : Way) (a b : Tree) (way' : Way)
       (x y : Tree) : Type 0 where
     pub steps : StepsTo (items_in r) r.environment r.store q.store r.goals added way a b way' x y
     pub errors : (m : Meaning Key Id Name) (c : Items) (st : Store) (e : TypeError Key Id Name) → IsLater q.store st →
         IsSound st → ErrorOf m c st (seen_at way') e x y → ErrorOf m c st (seen_at way) e a b
+    pub agrees : (c : Items) → AgreeBy c way' x y → AgreeBy c way a b
 
   -- The same of terms: of the first two at the ambient variance.
   abbrev pub Leads : State Key Id Name → State Key Id Name → List Goal → Tree → Tree → Variance → Tree → Tree → Type 0
@@ -259,7 +263,6 @@ module _ {Key Id Name : Type 0} where
     pub right_form : IsForm y
     pub answers : (t : Tree) → CarriesOver (items_in q) q.environment q.store q.goals (at r.ambient) x t
         (at r.ambient) a t
-    pub left : (M r.settings).keeps_left → x ≡ a
     pub no_binder : BindsNoBinder r.store → HasNoBinder a → HasNoBinder b → HasNoBinder x × HasNoBinder y
     pub same_budget : (q.store).budget ≡ (r.store).budget
     pub not_larger : weight q.store x + weight q.store y ≤ weight r.store a + weight r.store b
@@ -275,7 +278,6 @@ module _ {Key Id Name : Type 0} where
     pub asked : Asked M q (xform r.ambient v) x y
     pub answers : CarriesOver (items_in q) q.environment q.store q.goals (at (xform r.ambient v)) x y
         (at r.ambient) a answer
-    pub left : (M r.settings).keeps_left → answer ≡ a
     pub answer_known : IsTrue (known answer)
     pub falls : (r.store).budget ≡ suc (q.store).budget
     pub may_instantiate : InstantiatesNone r.store → ⊥

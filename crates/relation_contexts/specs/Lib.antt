@@ -7,6 +7,7 @@ pub mod Generalising
 pub mod Outcomes
 pub mod Headline
 pub mod Errors
+pub mod Agreeing
 pub mod StepLaws
 pub mod ErasureLaws
 pub mod StoreLaws

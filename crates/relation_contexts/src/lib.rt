@@ -5,3 +5,4 @@
 pub mod infer_ctxt;
 pub mod relate;
 pub mod variable_forms;
+pub mod variances;

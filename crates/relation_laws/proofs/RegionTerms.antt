@@ -2,13 +2,16 @@
 use Rattle.std.proofs.Common.{◌≡◌, ◌⊎◌, ℕ, zero, suc, refl, sym, ap, ap₂, ◌∙◌, inl, inr, subst, subst₂, List, [], ◌∷◌, map, Option, Some, None, nat_eq, cond, Bool, true, false, ◌+◌, ◌<◌, ◌≤◌, arith}
 use Rattle.term_enums.specs.declared.Variance.{Variance}
 use Rattle.term_enums.specs.declared.Variance.TheVariants.{Covariant, Contravariant, Invariant, Bivariant}
-use Rattle.relation_terms.specs.Heads.{Sort, Kind, region_kind, kind_sort, BoundKind, bound_kind, bound_sort, region_var, region_sort, Part, term_of, binder_of, Shape, one, row, head_parts, leaf_sort, Leaf, Atom, atom_sort, type_param, const_param, static_region, early_region, atom, variable, bound, placeholder, unknown, Head, slice, value_type, alias, alias_term, unevaluated, host_effect, subtype, region_outlives, type_outlives, projection, const_has_type, well_formed, const_evaluatable, coerce, normalizes_to, alias_relate, environment}
+use Rattle.relation_terms.specs.Heads.{Sort, Kind, region_kind, type_kind, const_kind, kind_sort, BoundKind, bound_kind, bound_sort, region_var, region_sort, Part, term_of, binder_of, Shape, one, row, head_parts, leaf_sort, Leaf, Atom, atom_sort, type_param, const_param, static_region, early_region, atom, variable, bound, placeholder, unknown, Head, slice, value_type, alias, alias_term, unevaluated, host_effect, subtype, region_outlives, type_outlives, projection, const_has_type, well_formed, const_evaluatable, coerce, normalizes_to, alias_relate, environment}
 use Rattle.relation_terms.specs.Trees.{Tree, leaf, node, bind, nil, cons, Leaves, inst, put, tree_at, size, IsList, IsTerm, Fits}
 use Rattle.relation_terms.specs.Erasure.{erase, erase_leaf, erase_atom, erase_kinded, kept_parts}
-use Rattle.relation_contexts.specs.Relation.{Items, Interpretation, parts, second_opened, first_opened, Rel, at, same, anything, error_left, error_right, regions, alias_types, equal_consts, atoms, forms, no_parts, next_part, covariant_binders, contravariant_binders, invariant_binders, open_second, open_first, part_at, plain, plain_atom, sort_of, IsError, IsAlias, IsAliasHead, IsRelatedHead, AliasRule, IsValueLeaf, FitKinds, Fresh, RegionRule, all_outlive}
+use Rattle.relation_contexts.specs.Relation.{Items, Interpretation, parts, second_opened, first_opened, Rel, at, same, anything, error_left, error_right, regions, alias_types, equal_consts, atoms, forms, no_parts, next_part, covariant_binders, contravariant_binders, invariant_binders, open_second, open_first, part_at, plain, plain_atom, sort_of, IsError, IsErrorAtom, IsAlias, IsAliasHead, IsRelatedHead, AliasRule, IsValueLeaf, FitKinds, Fresh, RegionRule, all_outlive}
 use Rattle.relation_contexts.specs.FirstOrder.{IsFirstOrderAtom}
 use Rattle.relation_contexts.specs.Stores.{IsNamable}
-use Rattle.relation_laws.specs.RegionTerms.{IsRegionTermHead, IsRegionTermLeaf, BindsRegions, IsRegionTerm, Agree, RelatedTermsAgree, RelatedIffAgree}
+use Rattle.relation_laws.specs.RegionTerms.{IsRegionTermHead, IsRegionTermLeaf, BindsRegions, IsRegionTerm, RelatedTermsAgree, RelatedIffAgree}
+use Rattle.relation_contexts.specs.Agreeing.{IsFlexible, AreFlexible, Agree}
+use Rattle.relation_contexts.specs.Errors.{outer_leaf, AreAlike}
+use Rattle.relation_contexts.proofs.Agreeing.{agree_anything, agree_same}
 use Rattle.relation_laws.specs.Decided.{plain_leaf}
 use Rattle.relation_contexts.proofs.Erased.{erase_region, erase_plain, no_error_atom}
 use Rattle.relation_contexts.proofs.Related.{no_region_head}
@@ -164,24 +167,6 @@ term_plain (alias k d) f = absurd f
 term_plain (alias_term k d) f = absurd f
 term_plain h f = refl
 
-agree_anything : (c : Items) (v : Variance) (a b : Tree) → v ≡ Bivariant → Agree c (at v) a b
-agree_anything c v (node h xs) (node k ys) p = inl p
-agree_anything c v (bind ks a) (bind ls b) p = inl p
-agree_anything c v a b p = inl p
-
-mutual
-  agree_itself : (c : Items) (v : Variance) (a : Tree) → Agree c (at v) a a
-  agree_itself c v (node h xs) = inr (refl, parts_themselves c h 0 v xs)
-  agree_itself c v (bind ks a) = inr (agree_itself c v a)
-  agree_itself c v a = inr refl
-
-  parts_themselves : (c : Items) (h : Head) (i : ℕ) (v : Variance) (xs : Tree) → Agree c (parts h i v) xs xs
-  parts_themselves c h i v (cons x xs) = (agree_itself c (part_at c h i v) x, parts_themselves c h (suc i) v xs)
-  parts_themselves c h i v xs = refl
-
-agree_same : (c : Items) (v : Variance) (a b : Tree) → a ≡ b → Agree c (at v) a b
-agree_same c v a b p = subst (λ z. Agree c (at v) a z) p (agree_itself c v a)
-
 kept_agree : (c : Items) (h : Head) (v : Variance) (xs ys : Tree) → Agree c (parts h 0 v) xs ys → Agree c (parts h 0 v) (kept_parts h xs) (kept_parts h ys)
 kept_agree c value_type v xs ys r = refl
 kept_agree c h v xs ys r = r
@@ -209,7 +194,7 @@ mutual
   agree {c = c} {v = v} {a = a} {b = b} (regions p q _) f g = agree_same c v _ _ (erase_region a p ∙ sym (erase_region b q))
   agree {c = c} {w = w} {e = e} {v = v} {a = a} {b = b} (alias_types _ _ r) f g = aliases_agree c v a b f g (rule_alias w e v a b r)
   agree {a = a} {b = b} (equal_consts _ _ r) f g = no_alias a b f g r.1
-  agree (atoms {x = x} {y = y} p) f g = inr (ap (λ z. leaf (atom z)) (sym (erase_plain x) ∙ ap erase_atom p ∙ erase_plain y))
+  agree {c = c} {v = v} (atoms {x = x} {y = y} p) f g = agree_same c v _ _ (ap (λ z. leaf (atom z)) (sym (erase_plain x) ∙ ap erase_atom p ∙ erase_plain y))
   agree {c = c} {v = v} (forms {h = h} {k = k} {xs = xs} {ys = ys} i p r) f g = forms_agree c h k v (erase xs) (erase ys) p (sym (term_plain h f.0) ∙ p ∙ term_plain k g.0) (agree_parts r f.1 g.1)
   agree (covariant_binders _ r) f g = inr (agree_second r f.0 g.0 f.1 g.1)
   agree (contravariant_binders _ r) f g = inr (agree_first r f.0 g.0 f.1 g.1)
@@ -424,6 +409,64 @@ mixed : {c : Items} {w : Interpretation} {e : Tree} {v : Variance} {a b : Tree} 
 mixed (inl p) n = anything p
 mixed (inr x) n = absurd (n x)
 
+-- What is open of an erased term without variables is a region.
+erased_error : (x : Atom) → IsErrorAtom (erase_atom x) → IsErrorAtom x
+erased_error (early_region i n) e = e
+erased_error (type_param i n) e = e
+erased_error (const_param i n) e = e
+erased_error x e = e
+
+erased_open_atom : (x : Atom) → IsFirstOrderAtom x → IsErrorAtom (erase_atom x) ⊎ (atom_sort (erase_atom x) ≡ region_sort) → atom_sort x ≡ region_sort
+erased_open_atom x r (inl e) = absurd (no_error_atom x (erased_error x e) r)
+erased_open_atom x r (inr s) = sym (erase_atom_sort x) ∙ s
+
+erased_open : (l : Leaf) → IsRegionTermLeaf l → IsFlexible (leaf (erase_leaf l)) → leaf_sort l ≡ region_sort
+erased_open (variable k n) r o = absurd r
+erased_open (bound k d i) r o = r
+erased_open (placeholder (bound_kind region_kind m) u n) r o = refl
+erased_open (placeholder (bound_kind type_kind m) u n) r o = o
+erased_open (placeholder (bound_kind const_kind m) u n) r o = o
+erased_open (atom x) r o = erased_open_atom x r o
+erased_open unknown r o = absurd r
+
+open_regions : (l m : Leaf) → IsRegionTermLeaf l → IsRegionTermLeaf m → AreFlexible (leaf (erase_leaf l)) (leaf (erase_leaf m)) → (leaf_sort l ≡ region_sort) × (leaf_sort m ≡ region_sort)
+open_regions l m f g (inl o, s) = let p = erased_open l f o in (p, sym (erase_sort m) ∙ sym s ∙ erase_sort l ∙ p)
+open_regions l m f g (inr o, s) = let q = erased_open m g o in (sym (erase_sort l) ∙ s ∙ erase_sort m ∙ q, q)
+
+plain_erased : (x : Atom) → plain_atom (erase_atom x) ≡ erase_atom x
+plain_erased (early_region i n) = refl
+plain_erased (type_param i n) = refl
+plain_erased (const_param i n) = refl
+plain_erased x = refl
+
+outer_erased : (l : Leaf) → outer_leaf (erase_leaf l) ≡ erase_leaf l
+outer_erased (variable region_var n) = refl
+outer_erased (variable k n) = refl
+outer_erased (bound (bound_kind region_kind m) d i) = refl
+outer_erased (bound (bound_kind k m) d i) = refl
+outer_erased (placeholder (bound_kind region_kind m) u n) = refl
+outer_erased (placeholder (bound_kind k m) u n) = refl
+outer_erased (atom x) = ap atom (plain_erased x)
+outer_erased unknown = refl
+
+alike_erased : (l m : Leaf) → AreAlike (leaf (erase_leaf l)) (leaf (erase_leaf m)) → erase_leaf l ≡ erase_leaf m
+alike_erased l m e = let z : outer_leaf (erase_leaf l) ≡ outer_leaf (erase_leaf m) = cc in sym (outer_erased l) ∙ z ∙ outer_erased m
+
+apart_leaf : (l : Leaf) (b : Tree) → IsRegionTermLeaf l → (sort_of b ≡ region_sort → ⊥) → (IsFlexible b → ⊥) → (AreAlike (leaf (erase_leaf l)) b → ⊥) → AreFlexible (leaf (erase_leaf l)) b ⊎ AreAlike (leaf (erase_leaf l)) b → ⊥
+apart_leaf l b r n m k (inl (inl o, s)) = n (sym s ∙ erase_sort l ∙ erased_open l r o)
+apart_leaf l b r n m k (inl (inr o, s)) = m o
+apart_leaf l b r n m k (inr e) = k e
+
+apart_leaf_back : (l : Leaf) (a : Tree) → IsRegionTermLeaf l → (sort_of a ≡ region_sort → ⊥) → (IsFlexible a → ⊥) → (AreAlike a (leaf (erase_leaf l)) → ⊥) → AreFlexible a (leaf (erase_leaf l)) ⊎ AreAlike a (leaf (erase_leaf l)) → ⊥
+apart_leaf_back l a r n m k (inl (inl o, s)) = m o
+apart_leaf_back l a r n m k (inl (inr o, s)) = n (s ∙ erase_sort l ∙ erased_open l r o)
+apart_leaf_back l a r n m k (inr e) = k e
+
+apart_forms : (a b : Tree) → (IsFlexible a → ⊥) → (IsFlexible b → ⊥) → (AreAlike a b → ⊥) → AreFlexible a b ⊎ AreAlike a b → ⊥
+apart_forms a b n m k (inl (inl o, s)) = n o
+apart_forms a b n m k (inl (inr o, s)) = m o
+apart_forms a b n m k (inr e) = k e
+
 one_type : (c : Items) (w : Interpretation) (e : Tree) (v : Variance) (xs ys : Tree) → HasOneType value_type xs → HasOneType value_type ys → Rel c w e (parts value_type 0 v) xs ys
 one_type c w e v (cons t nil) (cons u nil) p q = next_part (anything refl) no_parts
 one_type c w e v (cons t nil) ys p q = absurd q
@@ -440,7 +483,8 @@ mutual
   back : (n : ℕ) (c : Items) (w : Interpretation) (e : Tree) (v : Variance) (a b : Tree) → size a ≤ n → w.outlives ≡ None → IsNode a → IsNode b → IsShaped a → IsShaped b → IsRegionTerm a → IsRegionTerm b → Agree c (at v) (erase a) (erase b) → Rel c w e (at v) a b
   back zero c w e v a b le all ta tb sa sb ra rb g = let p = size_pos a in absurd (omega arith)
   back (suc n) c w e v (leaf l) (leaf m) le all ta tb sa sb ra rb (inl p) = anything p
-  back (suc n) c w e v (leaf l) (leaf m) le all ta tb sa sb ra rb (inr p) = leaves_related c w e v l m all cc
+  back (suc n) c w e v (leaf l) (leaf m) le all ta tb sa sb ra rb (inr (inl o)) = let z = open_regions l m ra rb o in regions z.0 z.1 (all_rule w v (leaf l) (leaf m) all)
+  back (suc n) c w e v (leaf l) (leaf m) le all ta tb sa sb ra rb (inr (inr p)) = leaves_related c w e v l m all (alike_erased l m p)
   back (suc n) c w e v (node h xs) (node k ys) le all ta tb sa sb ra rb (inl p) = anything p
   back (suc n) c w e v (node h xs) (node k ys) le all ta tb sa sb ra rb (inr r) = forms (related_head h ra.0) r.0 (forms_back c w e h k v xs ys (sym (term_plain k rb.0) ∙ sym r.0 ∙ term_plain h ra.0) sa.1 sb.1 (λ g. back_parts n c w e h 0 v xs ys (omega arith) all sa.0 sb.0 sa.2 sb.2 ra.1 rb.1 g) r.1)
   back (suc n) c w e v (bind ks a) (bind ls b) le all ta tb sa sb ra rb (inl p) = anything p
@@ -451,7 +495,12 @@ mutual
   back (suc n) c w e v (cons a xs) b le all ta tb sa sb ra rb g = absurd ta
   back (suc n) c w e v a nil le all ta tb sa sb ra rb g = absurd tb
   back (suc n) c w e v a (cons b ys) le all ta tb sa sb ra rb g = absurd tb
-  back (suc n) c w e v a b le all ta tb sa sb ra rb g = mixed g (λ q. cc)
+  back (suc n) c w e v (leaf l) (node k ys) le all ta tb sa sb ra rb g = mixed g (apart_leaf l (erase (node k ys)) ra (no_region_head k) (λ o. o) (λ q. cc))
+  back (suc n) c w e v (leaf l) (bind ls b) le all ta tb sa sb ra rb g = mixed g (apart_leaf l (erase (bind ls b)) ra (λ q. cc) (λ o. o) (λ q. cc))
+  back (suc n) c w e v (node h xs) (leaf m) le all ta tb sa sb ra rb g = mixed g (apart_leaf_back m (erase (node h xs)) rb (no_region_head h) (λ o. o) (λ q. cc))
+  back (suc n) c w e v (node h xs) (bind ls b) le all ta tb sa sb ra rb g = mixed g (apart_forms (erase (node h xs)) (erase (bind ls b)) (λ o. o) (λ o. o) (λ q. cc))
+  back (suc n) c w e v (bind ks a) (leaf m) le all ta tb sa sb ra rb g = mixed g (apart_leaf_back m (erase (bind ks a)) rb (λ q. cc) (λ o. o) (λ q. cc))
+  back (suc n) c w e v (bind ks a) (node k ys) le all ta tb sa sb ra rb g = mixed g (apart_forms (erase (bind ks a)) (erase (node k ys)) (λ o. o) (λ o. o) (λ q. cc))
 
   back_parts : (n : ℕ) (c : Items) (w : Interpretation) (e : Tree) (h : Head) (i : ℕ) (v : Variance) (xs ys : Tree) → size xs ≤ n → w.outlives ≡ None → IsList xs → IsList ys → IsShaped xs → IsShaped ys → IsRegionTerm xs → IsRegionTerm ys → Agree c (parts h i v) (erase xs) (erase ys) → Rel c w e (parts h i v) xs ys
   back_parts zero c w e h i v xs ys le all la lb sa sb ra rb g = let p = size_pos xs in absurd (omega arith)

@@ -1,14 +1,14 @@
 -- Variable-free terms that are first-order but for binders of regions, and what relates them where all regions
 -- outlive each other.
-use Rattle.std.specs.Prelude.{◌≡◌, ◌⊎◌, ◌↔◌, suc, List, [], ◌∷◌, None}
+use Rattle.std.specs.Prelude.{◌≡◌, ◌↔◌, List, [], ◌∷◌, None}
 use Rattle.term_enums.specs.declared.Variance.{Variance}
-use Rattle.term_enums.specs.declared.Variance.TheVariants.{Bivariant}
 use Rattle.relation_terms.specs.Heads.{Sort, region_sort, BoundKind, bound_sort, Head, fn_ptr, unsafe_binder, Leaf}
 use Rattle.relation_terms.specs.Heads.{variable, bound, placeholder, atom, unknown}
 use Rattle.relation_terms.specs.Trees.{Tree, leaf, node, bind, nil, cons, IsTerm}
 use Rattle.relation_terms.specs.Erasure.{erase}
-use Rattle.relation_contexts.specs.Relation.{Items, Interpretation, Way, at, parts, part_at, plain, Rel}
+use Rattle.relation_contexts.specs.Relation.{Items, Interpretation, at, Rel}
 use Rattle.relation_contexts.specs.FirstOrder.{IsFirstOrderAtom, IsFirstOrderHead}
+use Rattle.relation_contexts.specs.Agreeing.{Agree}
 
 abbrev pub IsRegionTermHead : Head → Type 0
 IsRegionTermHead fn_ptr = Unit {0}
@@ -33,14 +33,6 @@ IsRegionTerm (node h ts) = IsRegionTermHead h × IsRegionTerm ts
 IsRegionTerm (bind ks t) = BindsRegions ks × IsRegionTerm t
 IsRegionTerm nil = Unit {0}
 IsRegionTerm (cons t ts) = IsRegionTerm t × IsRegionTerm ts
-
--- Two erased trees are alike but for what stands at bivariance.
-abbrev pub Agree : Items → Way → Tree → Tree → Type 0
-Agree c (at v) (node h xs) (node k ys) = (v ≡ Bivariant) ⊎ ((plain h ≡ plain k) × Agree c (parts h 0 v) xs ys)
-Agree c (at v) (bind ks a) (bind ls b) = (v ≡ Bivariant) ⊎ Agree c (at v) a b
-Agree c (at v) a b = (v ≡ Bivariant) ⊎ (a ≡ b)
-Agree c (parts h i v) (cons a xs) (cons b ys) = Agree c (at (part_at c h i v)) a b × Agree c (parts h (suc i) v) xs ys
-Agree c way a b = a ≡ b
 
 -- Such terms that are in the relation have erasures that agree.
 abbrev pub RelatedTermsAgree : Type 0

@@ -12,7 +12,7 @@ use Rattle.relation_contexts.specs.Stores.{Store, IsSound, IsTermIn, InContext}
 use Rattle.relation_contexts.specs.Lawful.{Asked, items_of}
 use Rattle.type_relations.specs.Rounds.{OneRound, one_round, RoundLeads, Opened}
 use Rattle.relation_contexts.proofs.Opening.{unused_step}
-use Rattle.type_relations.proofs.OpeningBoth.{body_scope, unused_stand_ins, bodies_error, bodies_smaller}
+use Rattle.type_relations.proofs.OpeningBoth.{body_scope, unused_stand_ins, bodies_error, bodies_agree, bodies_smaller}
 use Rattle.relation_contexts.proofs.Passing.{passes_nowhere}
 use Rattle.relation_tests.specs.Plain.{IsUnbound, plain_store, plain_state, plain_manner}
 
@@ -59,6 +59,8 @@ module _ {Key Id Name : Type 0} (m : Meaning Key Id Name) (v : Variance) (cs : L
         };
         errors = λ n i st e later s o.
             bodies_error n i st v e ks ls t u t u (unused_stand_ins ks t w.0) (unused_stand_ins ls u w.1) o;
+        agrees = λ i o. bodies_agree i v ks ls t u t u (unused_stand_ins ks t w.0) (unused_stand_ins ls u w.1)
+            k.left_taken.1.0 k.right_taken.1.0 o;
         same_budget = refl;
         smaller = bodies_smaller (plain_store m cs) ks ls t u;
       }

@@ -32,6 +32,7 @@ use Rattle.relation_contexts.proofs.Growing.{constraint_sound, constraint_is_lat
 use Rattle.relation_contexts.proofs.Growing.{constraint_holds, constraint_keeps}
 use Rattle.relation_contexts.proofs.Passing.{passes_nowhere}
 use Rattle.relation_contexts.proofs.Answering.{may_itself}
+use Rattle.relation_contexts.proofs.Agreeing.{agree_regions}
 use Rattle.relation_contexts.proofs.Erased.{erase_region}
 use Rattle.relation_contexts.proofs.OneUniverse.{keeps_pair, standing_keeps, binds_itself}
 use Rattle.relation_reference.proofs.Grows.{known_of_term}
@@ -176,7 +177,13 @@ module _ {Key Id Name : Type 0} (m : Meaning Key Id Name) where
     unfolding recorded_passes
     itself_answered k = record {
       passes = recorded_passes v cs c of_store _;
-      verdict = record { outcome = outcome; answer = may_itself plain_manner (plain_state m v (cs ++ c ∷ [])) v (m.region a); known = k };
+      verdict = record {
+        outcome = outcome;
+        answer = may_itself plain_manner (plain_state m v (cs ++ c ∷ [])) v (m.region a);
+        known = k;
+        agrees = λ z. agree_regions (items_of m) v (m.region a) (m.region b)
+            (term_sort_of region_var (m.region a) left.0) (term_sort_of region_var (m.region b) right.0);
+      };
       exact = λ q is pair. (
         (λ j n t found. absurd cc),
         exactly,

@@ -46,15 +46,15 @@ abbrev pub IsUnbound : Leaf → Type 0
 IsUnbound (bound k d i) = ⊥
 IsUnbound l = Unit {0}
 
--- It takes all terms in which no binder binds anything, answers the left one, is exact, and records just what is asked of
--- regions. It registers nothing.
+-- It takes all terms in which no binder binds anything, is exact, and records just what is asked of regions. It
+-- registers nothing, and what it relates agrees.
 abbrev pub plain_manner : Manners
 plain_manner k = record {
   takes = λ v l. IsUnbound l;
-  keeps_left = Unit {0};
   is_exact = Unit {0};
   records_asked = Unit {0};
   registers_subtype = ⊥;
+  relates_agreeing = Unit {0};
 }
 
 -- Each variable stands for itself.

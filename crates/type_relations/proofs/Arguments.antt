@@ -1,5 +1,5 @@
 -- Forms that are related by their parts, one after another.
-use Rattle.std.proofs.Common.{◌≡◌, ◌≢◌, ℕ, ◌<◌, refl, sym, ap, ◌∙◌, subst, subst₂, arith, IsTrue, Ok, Err}
+use Rattle.std.proofs.Common.{◌≡◌, ◌≢◌, ℕ, ◌<◌, refl, sym, ap, ◌∙◌, subst, subst₂, inr, arith, IsTrue, Ok, Err}
 use Rattle.term_enums.specs.declared.Variance.{Variance}
 use Rattle.relation_terms.specs.Heads.{Sort, Head, adt, fn_def}
 use Rattle.relation_terms.specs.Trees.{Tree, leaf, node, bind, nil, cons, known, count, nth, IsList, AreTerms}
@@ -20,7 +20,7 @@ use Rattle.type_relations.proofs.PartSizes.{weight_parts_most}
 use Rattle.relation_contexts.proofs.Registered.{registered_in}
 use Rattle.relation_contexts.proofs.Passing.{passes_within, manner_then, stopped}
 use Rattle.type_relations.proofs.Fronts.{Fronted, AreParts, IsLookedAt, fronted_all, fronted_never, fronted_passes, fronted_fault, fronted_exactly}
-use Rattle.type_relations.proofs.Fronts.{fronted_full}
+use Rattle.type_relations.proofs.Fronts.{fronted_full, fronted_agree}
 use Rattle.type_relations.proofs.Structural.{types_never}
 use Rattle.relation_contexts.proofs.Answering.{same_items, may_itself}
 use Rattle.relation_contexts.proofs.OneUniverse.{keeps_binds, binds_as}
@@ -78,6 +78,7 @@ module _ {Key Id Name : Type 0} {r q : State Key Id Name} (M : Manners) (v : Var
       };
       answer = subst (MayAnswer M q v (node h ts)) (sym answer) (may_itself M q v (node h ts));
       known = subst (λ u. IsTrue (known u)) (sym answer) k;
+      agrees = λ k. inr (refl, fronted_agree h v i ts us e (e ∙ n) f k);
     };
     exact = λ exact is' pair.
         answered_as r.store q.store (node h ts) (node h us) ts us (λ s. forms_unify_by_parts s h ts us apart) (λ u z. z)

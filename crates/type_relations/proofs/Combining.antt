@@ -39,6 +39,7 @@ use Rattle.relation_contexts.proofs.Roots.{roots_goes, exact_itself}
 use Rattle.type_relations.proofs.Shallowly.{read_step, shallow_free_const, variable_made}
 use Rattle.type_relations.proofs.SolvingVariables.{const_left_step, const_right_step, left_refused, right_refused, const_comes_to_none}
 use Rattle.relation_contexts.proofs.Standing.{term_context, term_within}
+use Rattle.relation_contexts.proofs.Agreeing.{agree_same}
 
 of_numbers : (k : VarKind) → IsNumberKind k → IsNumber k
 of_numbers int_var h = tt
@@ -188,7 +189,7 @@ module _ {Key Id Name : Type 0} where
           (one_step r IsFormedConst m m was was L K (m.const_ a) (m.const_ b) m.const_ a refl (goes_nowhere _ was) l
           (λ w s sat. ap (apply s) e) (λ w s sat h. sat)
           (λ h. (h, exact_itself was (m.const_ a) (m.const_ b) e)) (keeps_itself was) (full_itself was) (inl refl)
-          asked.left_known))
+          asked.left_known (λ c. agree_same c r.ambient (m.const_ a) (m.const_ b) e)))
       combined_consts result (resolved_first x y differ f h combines) =
           let k = read_asked x y f h in
           read_step (standing r m was L) (standing r n now K) sound (m.const_ a) (m.const_ b) (m.const_ x) (m.const_ y)

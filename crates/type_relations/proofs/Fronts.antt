@@ -10,6 +10,7 @@ use Rattle.relation_terms.specs.Heads.{Head, value_type}
 use Rattle.relation_terms.specs.Trees.{Tree, leaf, node, bind, nil, cons, IsList, count, nth, Leaves}
 use Rattle.relation_contexts.specs.Relation.{Items, at, parts, part_at, mode}
 use Rattle.relation_contexts.specs.Stores.{Store, InContext, weight, resolved}
+use Rattle.relation_contexts.specs.Agreeing.{Agree}
 use Rattle.relation_contexts.specs.Outcomes.{Outcome, Front, NeverOne, Exact, ExactFront, NoUnifier}
 use Rattle.relation_contexts.specs.Measures.{grown}
 use Rattle.relation_contexts.specs.Steps.{HasNoBinder, StaysFullFor}
@@ -23,6 +24,9 @@ use Rattle.relation_contexts.proofs.Full.{full_itself, full_then, nth_plain}
 use Rattle.relation_contexts.proofs.Composing.{front_begins, front_goes_on, front_ends}
 use Rattle.relation_contexts.proofs.Passing.{passes_nowhere, passes_then, manner_then, outcome_seen}
 use Rattle.relation_contexts.proofs.Parts.{nth_size}
+use Rattle.relation_contexts.proofs.Agreeing.{agree_parts}
+use Rattle.relation_contexts.proofs.AgreeingForms.{next_agrees}
+use Rattle.relation_contexts.proofs.Answering.{same_items}
 
 -- Forms whose parts are looked at, which are at invariance where the form is.
 abbrev pub IsLookedAt : Head → Type 0
@@ -59,6 +63,8 @@ pub record Fronted {Key Id Name : Type 0} (M : Manners) (r q : State Key Id Name
   pub exact : (M r.settings).is_exact → v ≡ Invariant → IsLookedAt h → IsFirstOrderPair r.store xs ys →
       IsFirstOrderStore q.store × ExactFront i r.store q.store xs ys × KeepsUniverseOf r.store q.store xs ys
   pub full : StaysFullFor r.store q.store xs ys
+  pub agrees : (M r.settings).relates_agreeing → (j : ℕ) → j < i →
+      Agree (items_in r) (at (part_at (items_in r) h j v)) (nth j xs) (nth j ys)
 
 -- What is asked of two lists of parts.
 pub record AreParts (st : Store) (xs ys : Tree) : Type 0 where
@@ -85,6 +91,7 @@ module _ {Key Id Name : Type 0} where
       keeps_pair r.store r.store xs ys (keeps_itself r.store),
     );
     full = λ ha hb. full_itself r.store;
+    agrees = λ k j l. absurd (omega (arith, l));
   }
 
   module _ {M : Manners} {r q : State Key Id Name} (h : Head) (v : Variance) (i : ℕ) (xs ys x y : Tree)
@@ -143,6 +150,10 @@ module _ {Key Id Name : Type 0} where
             led_keeps r.store q.store p.store xs ys x y (leads_at z.2) o.2,
           );
       full = fronted_full g.full;
+      agrees = λ k. next_agrees (items_in r) h v i xs ys (f.agrees k)
+          (subst₂ (Agree (items_in r) (at (part_at (items_in r) h i v))) ex ey
+          (subst (λ c. Agree c (at (part_at (items_in r) h i v)) x y) (same_items f.passes)
+          ((g.verdict).agrees (manner_then M (λ m. m.relates_agreeing) f.passes k))));
     }
 
     -- A fault of two parts is one of the lists: they are not unified where the parts are not.
@@ -176,6 +187,15 @@ module _ {Key Id Name : Type 0} where
     pub fronted_passes : {p : State Key Id Name} → Passes (weight q.store x + weight q.store y) q p →
         Passes (weight r.store xs + weight r.store ys) r p
     fronted_passes g = passes_then f.passes g part_small
+
+  -- All parts were related, and agree.
+  pub fronted_agree : {M : Manners} {r q : State Key Id Name} (h : Head) (v : Variance) (n : ℕ) (xs ys : Tree) →
+      n ≡ count xs → n ≡ count ys → Fronted M r q h v n xs ys → (M r.settings).relates_agreeing →
+      Agree (items_in r) (parts h 0 v) xs ys
+  fronted_agree {r = r} h v n xs ys e d f k =
+      agree_parts (items_in r) h 0 v xs ys (sym e ∙ d) (λ j l. subst
+      (λ i. Agree (items_in r) (at (part_at (items_in r) h i v)) (nth j xs) (nth j ys)) (omega arith)
+      (f.agrees k j (omega (arith, e, l))))
 
   -- All parts were related exactly.
   pub fronted_exactly : {M : Manners} {r q : State Key Id Name} (h : Head) (v : Variance) (n : ℕ) (xs ys : Tree) →

@@ -25,6 +25,7 @@ pub mod PartPlaces
 pub mod PartErrors
 pub mod InOrder
 pub mod ByParts
+pub mod PredicateForms
 pub mod Unifying
 pub mod Binding
 pub mod Exactly

@@ -18,6 +18,9 @@ use Rattle.relation_contexts.specs.Steps.{ArePlaceholders}
 use Rattle.relation_contexts.specs.Outcomes.{StepsTo}
 use Rattle.relation_contexts.specs.Measures.{Goes}
 use Rattle.relation_contexts.specs.Errors.{IsStandIn, StandFor, ErrorOf, of_bodies}
+use Rattle.relation_contexts.specs.Bound.{AreBoundAs}
+use Rattle.relation_contexts.specs.Agreeing.{Agree}
+use Rattle.relation_contexts.proofs.Agreeing.{agree_opened}
 use Rattle.relation_contexts.specs.Covered.{IsCovered}
 use Rattle.relation_contexts.specs.Generalising.{MakesUnbound}
 use Rattle.relation_contexts.specs.Binders.{variable_kind, MakesEach, makes_none, makes_next, InstantiatesEach}
@@ -144,6 +147,13 @@ pub bodies_error : {Key Id Name : Type 0} (m : Meaning Key Id Name) (c : Items) 
     ErrorOf m c st v e x y → ErrorOf m c st v e (bind ks t) (bind ls u)
 bodies_error m c st v e ks ls t u x y p q o =
     of_bodies p.trees q.trees refl refl p.stand q.stand (subst₂ (ErrorOf m c st v e) p.put q.put o)
+
+-- Two binders agree if the opened bodies do.
+pub bodies_agree : (c : Items) (v : Variance) (ks ls : List BoundKind) (t u x y : Tree) → StandIns ks t x →
+    StandIns ls u y → AreBoundAs ks 0 t → AreBoundAs ls 0 u → Agree c (at v) x y →
+    Agree c (at v) (bind ks t) (bind ls u)
+bodies_agree c v ks ls t u x y p q f h g =
+    inr (agree_opened c ks ls p.trees q.trees p.stand q.stand v 0 t u f h (subst₂ (Agree c (at v)) p.put q.put g))
 
 -- What is shown of both bodies together, of which the first was entered and the second instantiated.
 pub record BothOpened (before after : Store) (ks ls : List BoundKind) (t u x y : Tree) : Type 0 where

@@ -18,7 +18,9 @@ use Rattle.relation_folds.specs.declared.error.RelateFault.{RelateFault}
 use Rattle.relation_folds.specs.declared.error.RelateFault.TheVariants.{Unrelated}
 use Rattle.relation_folds.specs.Faults.{KnowsError}
 use Rattle.relation_contexts.specs.declared.relate.Step.TheVariants.{Done, Parts}
-use Rattle.relation_contexts.specs.Relation.{Interpretation, Rel, at, same as same_rel}
+use Rattle.relation_contexts.specs.Relation.{Items, Interpretation, Rel, at, sort_of, same as same_rel}
+use Rattle.relation_contexts.specs.Agreeing.{Agree}
+use Rattle.relation_contexts.proofs.Agreeing.{agree_read, agree_root, agree_root_back, number_sort}
 use Rattle.relation_contexts.specs.Stores.{Store, IsSound, Satisfies, IsMade, InContext, MayStandFor, weight}
 use Rattle.relation_contexts.specs.Goals.{Goal, GoalInContext, MakesOneTree}
 use Rattle.relation_contexts.specs.Steps.{Equates, InstantiatesNumber, StaysFull}
@@ -92,10 +94,10 @@ module _ {Key Id Name : Type 0} (r : State Key Id Name) where
       ((w : Interpretation) (s : Assign) → Satisfies w was s → apply s a ≡ apply s b →
       Satisfies w now s) →
       (IsFirstOrderStore was → IsFirstOrderStore now × Exact was now a b) → KeepsUniverse was now → StaysFull was now →
-      (tree t ≡ a) ⊎ (tree t ≡ b) → IsTrue (known (tree t)) →
+      (tree t ≡ a) ⊎ (tree t ≡ b) → IsTrue (known (tree t)) → ((c : Items) → Agree c (at r.ambient) a b) →
       Stepped solver_manner F (standing r m was L) (standing r n now K) a b tree (Ok (Done t))
   unfolding over_passes
-  one_step {X} F m n was now L K a b tree t same goes l equal keep exactly universe full answer sure =
+  one_step {X} F m n was now L K a b tree t same goes l equal keep exactly universe full answer sure agreeing =
       subst (λ n. Stepped solver_manner F (standing r m was L) (standing r n now K) a b tree (Ok (Done t))) (sym same)
       (record { passes = related.passes; verdict = related.verdict; exact = related.exact; full = related.full })
     where
@@ -114,8 +116,9 @@ module _ {Key Id Name : Type 0} (r : State Key Id Name) where
             relates = λ w s sat all. same_rel (equal w s sat);
             keeps = λ w s sat h. (s, (λ k n h. refl), (keep w s sat h, All-nil (MakesOneTree s)));
           };
-          answer = record { related = λ w s sat all. same_rel (answers answer w s sat); left = λ k. absurd k };
+          answer = record { related = λ w s sat all. same_rel (answers answer w s sat) };
           known = sure;
+          agrees = λ k. agreeing (items_of m);
         };
         exact = λ k is pair. let z = exactly pair.bindings in (z.0, z.1, keeps_pair was now a b universe);
         full = λ ha hb. full;
@@ -151,6 +154,7 @@ module _ {Key Id Name : Type 0} (r : State Key Id Name) where
       (z.0, subst₂ (Exact was now) (sym p) (sym q) z.1))
       (roots_universe was now k o i l sound still equates) (roots_full was now k o i l sound still equates)
       (inl answer) (subst (λ z. IsTrue (known z)) (sym (answer ∙ p)) refl)
+      (λ c. agree_root c r.ambient k i a b p (ap sort_of q))
 
   -- A root of a number variable was bound to the other side, a type of its kind.
   pub number_step : {X : Type 0} (F : Tree → Type 0) (m n : Meaning Key Id Name) (was now : Store) (L K : Type 0) (k : VarKind) (i : ℕ) (a b : Tree) (tree : X → Tree) (t : X) → n ≡ m →
@@ -165,6 +169,7 @@ module _ {Key Id Name : Type 0} (r : State Key Id Name) where
       (z.0, subst (λ c. Exact was now c b) (sym p) z.1))
       (number_universe was now k i b h sound) (number_full was now k i b h sound)
       (inr answer) (subst (λ z. IsTrue (known z)) (sym answer) sure)
+      (λ c. agree_root c r.ambient k i a b p (number_sort k b h.fits))
 
   pub number_step_back : {X : Type 0} (F : Tree → Type 0) (m n : Meaning Key Id Name) (was now : Store) (L K : Type 0) (k : VarKind) (i : ℕ) (a b : Tree) (tree : X → Tree) (t : X) → n ≡ m →
       IsSound was → (L → K) →
@@ -182,6 +187,7 @@ module _ {Key Id Name : Type 0} (r : State Key Id Name) where
       ))
       (number_universe was now k i a h sound) (number_full was now k i a h sound)
       (inl answer) (subst (λ z. IsTrue (known z)) (sym answer) sure)
+      (λ c. agree_root_back c r.ambient k i a b p (number_sort k a h.fits))
 
   -- Or the other side is a type that may not stand for it.
   module _ {X : Type 0} (F : Tree → Type 0) (m n : Meaning Key Id Name) (was now : Store) (L K : Type 0)
@@ -246,6 +252,7 @@ module _ {Key Id Name : Type 0} (r : State Key Id Name) where
         };
         errors = λ n c st f l g o. of_entries (read_later was st l a (tree t) p)
             (read_later was st l b (tree u) q) o;
+        agrees = λ c z. agree_read c was g r.ambient a b (tree t) (tree u) p q z;
       };
       asked = record {
         left_known = k.left_known;
@@ -259,7 +266,6 @@ module _ {Key Id Name : Type 0} (r : State Key Id Name) where
       right_form = h;
       answers = λ z w s sat all o. subst (λ i. Rel (items_of m) w r.environment (at r.ambient) i (apply s z))
           (sym (read_value was s sat.bindings a (tree t) p)) o;
-      left = λ k. absurd k;
       no_binder = λ all ha hb. (read_plain was all a (tree t) p ha, read_plain was all b (tree u) q hb);
       same_budget = refl;
       not_larger = let i = read_weight was g a (tree t) p in

@@ -1,5 +1,5 @@
 -- What can be related besides keys, by its tree: predicates of trait objects, and binders over whatever can be related.
-use Rattle.std.proofs.Common.{◌≡◌, ◌&&◌, Bool, IsTrue, refl, sym, subst, subst₂, List, Option, Some, None, Result, Ok}
+use Rattle.std.proofs.Common.{◌≡◌, ◌&&◌, Bool, IsTrue, refl, sym, subst, subst₂, List, Option, Some, None, Result}
 use Rattle.relation_terms.specs.declared.terms.binder.Binder.{Binder}
 use Rattle.relation_terms.specs.declared.predicate.existential.ExistentialPredicate.{ExistentialPredicate}
 use Rattle.relation_terms.specs.declared.predicate.existential.ExistentialPredicate.TheVariants.{Trait, AutoTrait}
@@ -13,9 +13,8 @@ use Rattle.relation_folds.specs.declared.error.RelateFault.{RelateFault}
 use Rattle.type_relations.specs.Arguments.{related_tree}
 use Rattle.relation_contexts.specs.Binders.{binder_tree}
 use Rattle.type_relations.specs.EqualForms.{binder_same}
-use Rattle.relation_contexts.specs.Lawful.{State, Manners, MayAnswer, Asked, Related}
+use Rattle.relation_contexts.specs.Lawful.{State, Manners, Asked, Related}
 use Rattle.type_relations.specs.Subtyping.{IsTyVar}
-use Rattle.relation_contexts.proofs.Answering.{may_itself}
 use Rattle.relation_contexts.proofs.Passing.{asked_later}
 use Rattle.type_relations.proofs.Relatable.{equal_one}
 use Rattle.type_relations.proofs.Rounds.{HalfDone}
@@ -53,23 +52,8 @@ module _ {Key Id Name T : Type 0} (tree : Meaning Key Id Name → T → Tree) wh
       (λ x y. refl) same kinds) a b h k i
 
 module _ {Key Id Name : Type 0} where
-  -- In place of what was answered the left term may be.
-  pub answers_left : {X Y : Type 0} {r q : State Key Id Name} (M : Manners) (a b : Tree) (tree : X → Tree) (t : X)
-      (answer : Y → Tree) (z : Y) → answer z ≡ a → IsTrue (known a) → Related M r q r.ambient a b tree (Ok t) →
-      Related M r q r.ambient a b answer (Ok z)
-  answers_left {r = r} {q = q} M a b tree t answer z e k f = record {
-    passes = f.passes;
-    verdict = record {
-      outcome = (f.verdict).outcome;
-      answer = subst (MayAnswer M q r.ambient a) (sym e) (may_itself M q r.ambient a);
-      known = subst (λ u. IsTrue (known u)) (sym e) k;
-    };
-    exact = f.exact;
-    full = f.full;
-  }
-
   -- Binders are still the relation's after round 0, by the trees that they have then.
-  pub still_asked : {r p : State Key Id Name} (M : Manners) (a b x y : Tree) → x ≡ a → y ≡ b → HalfDone r p a b →
+  pub still_asked : {r p : State Key Id Name} (M : Manners) (a b x y : Tree) → x ≡ a → y ≡ b → HalfDone M r p a b →
       Asked M r r.ambient a b → Asked M p p.ambient x y
   still_asked {r} {p} M a b x y i j h k =
       subst₂ (λ t u. Asked M p p.ambient t u) (sym i) (sym j)

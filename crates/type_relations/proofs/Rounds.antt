@@ -22,6 +22,7 @@ use Rattle.relation_contexts.specs.Outcomes.{Outcome, NeverOne}
 use Rattle.relation_contexts.specs.Measures.{grown, depth, Goes}
 use Rattle.relation_contexts.specs.Steps.{HasNoBinder}
 use Rattle.relation_contexts.specs.Errors.{ErrorOf}
+use Rattle.relation_contexts.specs.Agreeing.{Agree}
 use Rattle.relation_contexts.specs.Lawful.{State, Manners, MayAnswer, Passes, Asked, Refuses, Related, items_in}
 use Rattle.relation_contexts.specs.Parts.{IsBinderPart}
 use Rattle.type_relations.specs.Rounds.{OneRound, StepsToBodies, RoundSteps, one_round, first_round, second_round}
@@ -29,10 +30,10 @@ use Rattle.type_relations.specs.Rounds.{RoundLeads, Opened}
 use Rattle.relation_contexts.proofs.Standing.{term_context}
 use Rattle.relation_contexts.proofs.Going.{grown-mono, le_grown, depth-strict, depth_later}
 use Rattle.relation_contexts.proofs.Full.{first_order_plain, full_never}
-use Rattle.relation_contexts.proofs.Answering.{may_itself}
+use Rattle.relation_contexts.proofs.Answering.{may_itself, same_items}
 use Rattle.relation_contexts.proofs.Composing.{steps_compose, values_still}
 use Rattle.relation_contexts.proofs.Opening.{two_rounds_relate}
-use Rattle.relation_contexts.proofs.Passing.{passes_then, stopped, asked_later, outcome_seen}
+use Rattle.relation_contexts.proofs.Passing.{passes_then, manner_then, stopped, asked_later, outcome_seen}
 
 binder_kinds : {ks ls : List BoundKind} {a b : Tree} → bind ks a ≡ bind ls b → ks ≡ ls
 binder_kinds e = cc
@@ -194,11 +195,12 @@ pub data Begun (c : Items) (e : Tree) (v : Variance) (before after : Store) (ear
       Outcome c e (second_opened ks ls v) before after earlier added t u → Begun c e v before after earlier added a b
 
 -- The bodies of round 0 were related.
-pub record HalfDone {Key Id Name : Type 0} (r p : State Key Id Name) (a b : Tree) : Type 0 where
+pub record HalfDone {Key Id Name : Type 0} (M : Manners) (r p : State Key Id Name) (a b : Tree) : Type 0 where
   pub passes : Passes (weight r.store a + weight r.store b) r p
   pub begun : Begun (items_in r) r.environment r.ambient r.store p.store r.goals passes.added a b
   pub room : weight p.store a + weight p.store b ≤
       grown (passes.goes).spent (weight r.store a + weight r.store b)
+  pub agrees : (M r.settings).relates_agreeing → Agree (items_in r) (at r.ambient) a b
 
 module _ {Key Id Name : Type 0} where
   -- Opening was refused in round 0.
@@ -258,12 +260,14 @@ module _ {Key Id Name : Type 0} where
   -- The bodies of round 0 were related.
   pub first_done : {X : Type 0} {r q p : State Key Id Name} (M : Manners) (a b x y : Tree) (tree : X → Tree) (t : X)
       (g : Passes (weight r.store a + weight r.store b) r q) → RoundLeads M r q g.added 0 a b x y →
-      Related M q p r.ambient x y tree (Ok t) → HalfDone r p a b
+      Related M q p r.ambient x y tree (Ok t) → HalfDone M r p a b
   unfolding passes_then
   first_done {r = r} {q = q} {p = p} M a b x y tree t g l f = record {
     passes = passes_then g f.passes (round_small M 0 a b x y g l);
     begun = begun l.steps;
     room = room (passes_then g f.passes (round_small M 0 a b x y g l)) (binders l.steps);
+    agrees = λ k. l.agrees (items_in r) (subst (λ c. Agree c (at r.ambient) x y) (same_items g)
+        ((f.verdict).agrees (manner_then M (λ z. z.relates_agreeing) g k)));
   }
     where
       bodies : Outcome (items_in r) r.environment (at r.ambient) q.store p.store (r.goals ++ g.added)
@@ -296,7 +300,7 @@ module _ {Key Id Name : Type 0} where
 
   -- The binders are still the relation's after round 0.
   pub half_asked : {r p : State Key Id Name} (M : Manners) (a b : Part Key Id) →
-      HalfDone r p (part_tree r.meaning a) (part_tree r.meaning b) →
+      HalfDone M r p (part_tree r.meaning a) (part_tree r.meaning b) →
       Asked M r r.ambient (part_tree r.meaning a) (part_tree r.meaning b) →
       Asked M p p.ambient (part_tree p.meaning a) (part_tree p.meaning b)
   half_asked {r} {p} M a b h k =
@@ -307,7 +311,7 @@ module _ {Key Id Name : Type 0} where
 
   -- Opening was refused in round 1.
   pub reopening_refused : {T X : Type 0} {r p q : State Key Id Name} (M : Manners) (n : ℕ) (a b : Tree)
-      (tree : T → Tree) (answer : X → Tree) → (HasNoBinder a → ⊥) → HalfDone r p a b → (f : RelateFault Key Id Name) →
+      (tree : T → Tree) (answer : X → Tree) → (HasNoBinder a → ⊥) → HalfDone M r p a b → (f : RelateFault Key Id Name) →
       Opened M p q n a b tree (Err f) → Related {X = X} M r q r.ambient a b answer (Err f)
   reopening_refused {r = r} M n a b tree answer never h Memory o =
       stopped M r.ambient a b answer (passes_then h.passes o.passes h.room)
@@ -316,7 +320,7 @@ module _ {Key Id Name : Type 0} where
 
   -- Nothing was left for round 1.
   pub nothing_left : {T X : Type 0} {r p q : State Key Id Name} (M : Manners) (n : ℕ) (a b : Tree) (tree : T → Tree)
-      (answer : X → Tree) (x : X) → (HasNoBinder a → ⊥) → answer x ≡ a → IsTrue (known a) → HalfDone r p a b →
+      (answer : X → Tree) (x : X) → (HasNoBinder a → ⊥) → answer x ≡ a → IsTrue (known a) → HalfDone M r p a b →
       Opened M p q n a b tree (Ok None) → Related M r q r.ambient a b answer (Ok x)
   unfolding passes_then
   nothing_left {r = r} {p = p} {q = q} M n a b tree answer x never e k h o = record {
@@ -328,6 +332,7 @@ module _ {Key Id Name : Type 0} where
           (sym (append-nil (h.passes).added)) (whole h.begun));
       answer = subst (MayAnswer M q r.ambient a) (sym e) (may_itself M q r.ambient a);
       known = subst (λ t. IsTrue (known t)) (sym e) k;
+      agrees = h.agrees;
     };
     exact = λ j is pair. absurd (never (first_order_plain a pair.left));
     full = full_never a b never;
@@ -349,14 +354,14 @@ module _ {Key Id Name : Type 0} where
       renamed (λ k l z w. StepsToBodies p q added (first_opened k l p.ambient) z w x y) left right s
 
   -- One round was not all.
-  not_wholly : {r p : State Key Id Name} (a b : Tree) → HalfDone r p a b → OneRound r.ambient a b →
+  not_wholly : {M : Manners} {r p : State Key Id Name} (a b : Tree) → HalfDone M r p a b → OneRound r.ambient a b →
       (OneRound p.ambient a b → ⊥) → ⊥
-  not_wholly {r} {p} a b h o n =
+  not_wholly {r = r} {p = p} a b h o n =
       let one : OneRound p.ambient a b = subst (λ v. OneRound v a b) (sym (h.passes).ambient) o in n one
 
   -- Round 1, where round 0 related the binders by half.
-  module _ {r p q : State Key Id Name} (a b x y : Tree) (ina : InContext r.store a) (inb : InContext r.store b)
-      (h : HalfDone r p a b) (added : List Goal) where
+  module _ {M : Manners} {r p q : State Key Id Name} (a b x y : Tree) (ina : InContext r.store a)
+      (inb : InContext r.store b) (h : HalfDone M r p a b) (added : List Goal) where
     -- Where its bodies are never one, nor are the binders.
     second_never : Begun (items_in r) r.environment r.ambient r.store p.store r.goals (h.passes).added a b →
         RoundSteps p q added 1 a b x y → NeverOne (at p.ambient) q.store x y → NeverOne (at r.ambient) r.store a b
@@ -409,7 +414,7 @@ module _ {Key Id Name : Type 0} where
             z.store p.goals added f.added t u x y (second_step p q added a b x y i j i' j' s)).0 bodies
 
   module _ {r p q : State Key Id Name} (M : Manners) (a b x y : Tree) (never : HasNoBinder a → ⊥)
-      (k : Asked M r r.ambient a b) (h : HalfDone r p a b) (g : Passes (weight p.store a + weight p.store b) p q)
+      (k : Asked M r r.ambient a b) (h : HalfDone M r p a b) (g : Passes (weight p.store a + weight p.store b) p q)
       (l : RoundLeads M p q g.added 1 a b x y) where
     left_context : InContext r.store a
     left_context = term_context r.store a k.left_in
@@ -450,6 +455,7 @@ module _ {Key Id Name : Type 0} where
             (f.verdict).outcome;
         answer = subst (MayAnswer M z r.ambient a) (sym e) (may_itself M z r.ambient a);
         known = subst (λ t. IsTrue (known t)) (sym e) k.left_known;
+        agrees = h.agrees;
       };
       exact = λ j is pair. absurd (never (first_order_plain a pair.left));
       full = full_never a b never;
@@ -465,8 +471,8 @@ module _ {Key Id Name : Type 0} where
       let e = ap (λ n. depth n (weight r.store a + weight r.store b)) l.same_budget in
       omega (arith, d, e)
 
-  pub second_under : {r p q : State Key Id Name} (M : Manners) (added : List Goal) (a b x y : Tree) → HalfDone r p a b →
-      RoundLeads M p q added 1 a b x y → 8 * depth (q.store).budget (weight q.store x + weight q.store y) + 7 <
+  pub second_under : {r p q : State Key Id Name} (M : Manners) (added : List Goal) (a b x y : Tree) →
+      HalfDone M r p a b → RoundLeads M p q added 1 a b x y → 8 * depth (q.store).budget (weight q.store x + weight q.store y) + 7 <
       8 * depth (r.store).budget (weight r.store a + weight r.store b)
   second_under {r} {p} {q} M added a b x y h l =
       let d = depth-strict (q.store).budget (weight q.store x + weight q.store y)

@@ -18,6 +18,7 @@ use Rattle.relation_contexts.specs.Errors.{IsReadAs, of_entries}
 use Rattle.relation_contexts.specs.Parts.{IsFormed}
 use Rattle.relation_contexts.specs.Lawful.{State, Passes, Leads, StepVerdict, ExactVerdict, Stepped, items_in}
 use Rattle.relation_contexts.proofs.ReadAs.{read_value, read_later, read_weight}
+use Rattle.relation_contexts.proofs.Agreeing.{agree_read}
 use Rattle.relation_contexts.proofs.Going.{later_through, goes_within}
 use Rattle.relation_contexts.proofs.Full.{read_plain}
 use Rattle.relation_contexts.proofs.Standing.{made_of_term}
@@ -101,6 +102,7 @@ module _ {Key Id Name : Type 0} (r q : State Key Id Name) (g : IsSound r.store) 
     };
     errors = λ m c st e l g z. of_entries (read_later r.store st (later_through (h.steps).later l) a u p)
         (read_later r.store st (later_through (h.steps).later l) b w o) (h.errors m c st e l g z);
+    agrees = λ c z. agree_read c r.store g r.ambient a b u w p o (h.agrees c z);
   }
 
   as_read : LeadsInUniverse r.store r.store a b u w
@@ -119,9 +121,9 @@ module _ {Key Id Name : Type 0} (r q : State Key Id Name) (g : IsSound r.store) 
         answer = record {
           related = λ i s sat all. subst (λ z. Rel (items_in q) i q.environment (at r.ambient) z (apply s (tree t)))
               (sym (value_a i s (shrinks i s sat))) ((h.answer).related i s sat all);
-          left = λ z. absurd z;
         };
         known = h.known;
+        agrees = λ k. agree_read (items_in r) r.store g r.ambient a b u w p o (h.agrees k);
       }
       read_verdict (Ok (Parts x y)) h = record {
         leads = read_leads passes.added r.ambient (tree x) (tree y) h.leads;
@@ -130,7 +132,6 @@ module _ {Key Id Name : Type 0} (r q : State Key Id Name) (g : IsSound r.store) 
         right_form = h.right_form;
         answers = λ t i s sat all f. subst (λ z. Rel (items_in q) i q.environment (at r.ambient) z (apply s t))
             (sym (value_a i s (shrinks i s sat))) (h.answers t i s sat all f);
-        left = λ z. absurd z;
         no_binder = λ all ha hb. h.no_binder all (read_plain r.store all a u p ha) (read_plain r.store all b w o hb);
         same_budget = h.same_budget;
         not_larger = let e = as_large in let l = h.not_larger in omega (arith, e, l);
@@ -142,7 +143,6 @@ module _ {Key Id Name : Type 0} (r q : State Key Id Name) (g : IsSound r.store) 
         asked = h.asked;
         answers = λ i s sat all f. subst (λ z. Rel (items_in q) i q.environment (at r.ambient) z (apply s (tree t)))
             (sym (value_a i s (shrinks i s sat))) (h.answers i s sat all f);
-        left = λ z. absurd z;
         answer_known = h.answer_known;
         falls = h.falls;
         may_instantiate = h.may_instantiate;

@@ -38,6 +38,9 @@ use Rattle.relation_contexts.specs.Measures.{Goes}
 use Rattle.relation_contexts.specs.Parts.{IsFormedConst}
 use Rattle.relation_contexts.specs.Constraints.{constraint_at, constraint_of, asked_constraints}
 use Rattle.relation_contexts.specs.Lawful.{Passes, Related, Stepped, items_of, State}
+use Rattle.relation_contexts.proofs.Standing.{term_sort_of}
+use Rattle.relation_contexts.proofs.Agreeing.{agree_regions}
+use Rattle.relation_contexts.specs.Agreeing.{Agree}
 use Rattle.relation_contexts.specs.Lawful.{Verdict, WithMeaning, RegisteredIn}
 use Rattle.relation_contexts.proofs.Going.{goes_nowhere, goes_within}
 use Rattle.relation_contexts.proofs.Full.{full_itself, full_same, full_by, constraint_plain}
@@ -215,7 +218,13 @@ module _ {Key Id Name : Type 0} (j : ℕ) (gs : List (KeyedGoal Key (PredicateKe
             (m.region b) m.region (Ok a)
         answer = record {
           passes = solver_passes v e (stays_same m) env (goes_within (omega arith) goes) l;
-          verdict = record { outcome = outcome; answer = may_itself solver_manner (solving j gs m now K v e) v (m.region a); known = sure };
+          verdict = record {
+            outcome = outcome;
+            answer = may_itself solver_manner (solving j gs m now K v e) v (m.region a);
+            known = sure;
+            agrees = λ k. agree_regions (items_of m) v (m.region a) (m.region b)
+                (term_sort_of region_var (m.region a) left.0) (term_sort_of region_var (m.region b) right.0);
+          };
           exact = λ k is pair.
               let z = regions_exactly was now (m.region a) (m.region b) left right goes.later added.same_entries
               added.same_universes pair.bindings in (
@@ -342,8 +351,9 @@ module _ {Key Id Name : Type 0} (j : ℕ) (gs : List (KeyedGoal Key (PredicateKe
             Verdict solver_manner (solving 0 gs m was L v e) (solving 0 hs n now K v e) ((h.passes).added) v a b tree r
         verdict (Ok t) o = record {
           outcome = o.outcome;
-          answer = record { related = (o.answer).related; left = (o.answer).left };
+          answer = record { related = (o.answer).related };
           known = o.known;
+          agrees = o.agrees;
         }
         verdict (Err (Unrelated g)) o = o
         verdict (Err Budget) o = o
@@ -414,6 +424,11 @@ module _ {Key Id Name X : Type 0} (m n : Meaning Key Id Name) (was now : Store) 
       KeepsEqualTerms was now (goals_of n hs) a b
   keeps_equal t h = λ w s sat one. let z = ((h.verdict).outcome).keeps w s sat one in
       (z.0, z.1, (z.2.0, subst (All (MakesOneTree z.0)) (sym (h.passes).lengthens) z.2.1))
+
+  pub relates_agreeing : (t : X) →
+      Related solver_manner (solving 0 [] m was L v e) (solving 0 hs n now K v e) v a b tree (Ok t) →
+      Agree (items_of m) (at v) a b
+  relates_agreeing t h = (h.verdict).agrees tt
 
   pub registers_goals : (result : Result X (RelateFault Key Id Name)) → L → KnowsGoals m e [] →
       Related solver_manner (solving 0 [] m was L v e) (solving 0 hs n now K v e) v a b tree result →

@@ -22,7 +22,7 @@ use Rattle.relation_contexts.specs.Steps.{ChangesNothing, EntersForall}
 use Rattle.relation_contexts.specs.Measures.{Goes}
 use Rattle.relation_contexts.specs.Generalising.{MakesUnbound, makes_none}
 use Rattle.relation_contexts.specs.Covered.{IsCovered}
-use Rattle.relation_contexts.specs.Bound.{BindsByList}
+use Rattle.relation_contexts.specs.Bound.{BindsByList, AreBoundAs}
 use Rattle.relation_contexts.specs.Lawful.{State, Asked, items_of}
 use Rattle.relation_contexts.specs.Goals.{goals_of}
 use Rattle.relation_contexts.specs.Contexts.{Context}
@@ -38,6 +38,7 @@ use Rattle.relation_contexts.proofs.Opening.{covariant_step, contravariant_step,
 use Rattle.type_relations.proofs.OverContext.{all_taken}
 use Rattle.type_relations.proofs.Solving.{solver_passes}
 use Rattle.type_relations.proofs.OpeningBoth.{changes_made, opened_goes, body_scope, unused_stand_ins, bodies_error}
+use Rattle.type_relations.proofs.OpeningBoth.{bodies_agree}
 use Rattle.type_relations.proofs.OpeningBoth.{BothOpened, both_opened, bodies_smaller}
 
 -- A body in which something is bound outside uses what its binder binds.
@@ -162,7 +163,8 @@ module _ {Key Id Name : Type 0} (j : ℕ) (gs : List (KeyedGoal Key (PredicateKe
 
   -- Bodies that were opened.
   module _ (round : ℕ) (ks ls : List BoundKind) (t u x y : Tree)
-      (uses : StaysWithin 0 t × StaysWithin 0 u → ⊥) (left : IsTrue (known x)) (right : IsTrue (known y)) where
+      (uses : StaysWithin 0 t × StaysWithin 0 u → ⊥) (left : IsTrue (known x)) (right : IsTrue (known y))
+      (binds : AreBoundAs ks 0 t) (binds_too : AreBoundAs ls 0 u) where
     second_leads : BothOpened c.store d.store ls ks u t y x → round ≡ 0 → (v ≡ Covariant) ⊎ (v ≡ Invariant) →
         RoundLeads solver_manner before after [] round (bind ks t) (bind ls u) x y
     second_leads both zero_round at_variance = record {
@@ -177,6 +179,8 @@ module _ {Key Id Name : Type 0} (j : ℕ) (gs : List (KeyedGoal Key (PredicateKe
       };
       errors = λ m i st f later sound o.
           bodies_error m i st v f ks ls t u x y both.instantiated_for both.entered_for o;
+      agrees = λ i o.
+          bodies_agree i v ks ls t u x y both.instantiated_for both.entered_for binds binds_too o;
       same_budget = both.same_budget;
       smaller = let h = both.smaller in omega (arith, h);
     }
@@ -204,6 +208,8 @@ module _ {Key Id Name : Type 0} (j : ℕ) (gs : List (KeyedGoal Key (PredicateKe
       };
       errors = λ m i st f later sound o.
           bodies_error m i st v f ks ls t u x y both.entered_for both.instantiated_for o;
+      agrees = λ i o.
+          bodies_agree i v ks ls t u x y both.entered_for both.instantiated_for binds binds_too o;
       same_budget = both.same_budget;
       smaller = both.smaller;
     }
@@ -231,8 +237,8 @@ module _ {Key Id Name : Type 0} (j : ℕ) (gs : List (KeyedGoal Key (PredicateKe
         let both = both_opened c.store from.0 d.store sound ls ks u t (tree d.meaning y) (tree d.meaning x) from.1
         from.2 k.right_in k.left_in k.right_taken.1 k.left_taken.1 in
         opened env grows both.goes round (bind ks t) (bind ls u) (tree d.meaning) (Ok (Some (x, y)))
-        (second_leads round ks ls t u (tree d.meaning x) (tree d.meaning y) (one_uses t u some) h.1 h.0 both zero_round
-        at_variance)
+        (second_leads round ks ls t u (tree d.meaning x) (tree d.meaning y) (one_uses t u some) h.1 h.0
+        k.left_taken.1.0 k.right_taken.1.0 both zero_round at_variance)
     opens_second (Some ks) None k h zero_round at_variance = absurd (false≢true k.right_known)
     opens_second None p k h zero_round at_variance = absurd (false≢true k.left_known)
 
@@ -246,7 +252,8 @@ module _ {Key Id Name : Type 0} (j : ℕ) (gs : List (KeyedGoal Key (PredicateKe
         let both = both_opened c.store from.0 d.store sound ks ls t u (tree d.meaning x) (tree d.meaning y) from.1
         from.2 k.left_in k.right_in k.left_taken.1 k.right_taken.1 in
         opened env grows both.goes round (bind ks t) (bind ls u) (tree d.meaning) (Ok (Some (x, y)))
-        (first_leads round ks ls t u (tree d.meaning x) (tree d.meaning y) (one_uses t u some) h.0 h.1 both at_variance)
+        (first_leads round ks ls t u (tree d.meaning x) (tree d.meaning y) (one_uses t u some) h.0 h.1
+        k.left_taken.1.0 k.right_taken.1.0 both at_variance)
     opens_first (Some ks) None k h at_variance = absurd (false≢true k.right_known)
     opens_first None p k h at_variance = absurd (false≢true k.left_known)
 
@@ -284,6 +291,8 @@ module _ {Key Id Name T : Type 0} (j : ℕ) (gs : List (KeyedGoal Key (Predicate
         };
         errors = λ m i st f later sound o.
             bodies_error m i st v f ks ls t u t u (unused_stand_ins ks t w.0) (unused_stand_ins ls u w.1) o;
+        agrees = λ i o. bodies_agree i v ks ls t u t u (unused_stand_ins ks t w.0) (unused_stand_ins ls u w.1)
+            k.left_taken.1.0 k.right_taken.1.0 o;
         same_budget = refl;
         smaller = bodies_smaller c.store ks ls t u;
       }))

@@ -11,7 +11,9 @@ use Rattle.relation_terms.specs.Heads.{type_var, variable}
 use Rattle.relation_terms.specs.Trees.{Tree, leaf, Assign, apply, known}
 use Rattle.relation_terms.specs.Meaning.{Meaning, Extends}
 use Rattle.relation_contexts.specs.declared.relate.Step.TheVariants.{Done}
-use Rattle.relation_contexts.specs.Relation.{Items, Interpretation, Rel, at}
+use Rattle.relation_contexts.specs.Relation.{Items, Interpretation, Rel, at, sort_of}
+use Rattle.relation_contexts.specs.Agreeing.{Agree}
+use Rattle.relation_contexts.proofs.Agreeing.{agree_root}
 use Rattle.relation_contexts.specs.Stores.{Store}
 use Rattle.relation_contexts.specs.Goals.{Goal, goal_of, goals_of, KnowsGoal, subtype_predicate, IsOpen, IsDirected, IsRegistered, of_variables, Holds, MakesOneTree}
 use Rattle.relation_contexts.specs.Lawful.{Stepped, Passes, MayAnswer, RegisteredIn, items_of}
@@ -82,9 +84,10 @@ module _ {Key Id Name : Type 0} (j : ℕ) (gs hs : List (KeyedGoal Key (Predicat
       Rel c w d (at v) (apply s a) (apply s b)) →
       ((s : Assign) → apply s a ≡ apply s b →
       apply s (leaf (variable type_var i)) ≡ apply s (leaf (variable type_var k))) →
+      ((c : Items) → Agree c (at v) a b) →
       Stepped solver_manner F (solving j gs m st L v e) (solving j hs n st K v e) a b tree (Ok (Done t))
   unfolding passes
-  registered_step F a b tree t answer sure relates equal = record {
+  registered_step F a b tree t answer sure relates equal agreeing = record {
     passes = passes j gs hs m n st L K v e grown env l p asked.predicate pushed means refl in_order _;
     verdict = record {
       outcome = record {
@@ -102,6 +105,7 @@ module _ {Key Id Name : Type 0} (j : ℕ) (gs hs : List (KeyedGoal Key (Predicat
       answer = subst (MayAnswer solver_manner (solving j hs n st K v e) v a) (sym answer)
           (may_itself solver_manner (solving j hs n st K v e) v a);
       known = subst (λ z. IsTrue (known z)) (sym answer) sure;
+      agrees = λ z. agreeing (items_of m);
     };
     exact = λ z is pair. absurd (subst IsDirected is directed);
     full = λ ha hb. full_itself st;
@@ -123,7 +127,8 @@ module _ {Key Id Name : Type 0} (j : ℕ) (gs hs : List (KeyedGoal Key (Predicat
       (means ∙ ap₂ (subtype_predicate x) a_is b_is) i_open k_open (subst IsDirected (sym is) tt) F a b tree t answer sure
       (λ c w d s r. subst (λ z. Rel c w d (at z) (apply s a) (apply s b)) (sym is)
       (subst₂ (λ f g. Rel c w d (at Covariant) (apply s f) (apply s g)) (sym a_is) (sym b_is) r))
-      (λ s q. sym (ap (apply s) a_is) ∙ q ∙ ap (apply s) b_is))
+      (λ s q. sym (ap (apply s) a_is) ∙ q ∙ ap (apply s) b_is)
+      (λ c. agree_root c v type_var i a b a_is (ap sort_of b_is)))
 
   -- At contravariance that the second is one of the first.
   pub contravariant_step : {X : Type 0} (F : Tree → Type 0) (tree : X → Tree) (t : X) → v ≡ Contravariant →
@@ -135,4 +140,5 @@ module _ {Key Id Name : Type 0} (j : ℕ) (gs hs : List (KeyedGoal Key (Predicat
       (means ∙ ap₂ (subtype_predicate x) b_is a_is) k_open i_open (subst IsDirected (sym is) tt) F a b tree t answer sure
       (λ c w d s r. subst (λ z. Rel c w d (at z) (apply s a) (apply s b)) (sym is)
       (subst₂ (λ f g. Rel c w d (at Contravariant) (apply s f) (apply s g)) (sym a_is) (sym b_is) (turned r)))
-      (λ s q. sym (ap (apply s) b_is) ∙ sym q ∙ ap (apply s) a_is))
+      (λ s q. sym (ap (apply s) b_is) ∙ sym q ∙ ap (apply s) a_is)
+      (λ c. agree_root c v type_var i a b a_is (ap sort_of b_is)))

@@ -38,6 +38,7 @@ use Rattle.relation_contexts.proofs.Going.{goes_nowhere, goes_within}
 use Rattle.relation_contexts.proofs.ReadAs.{read_later}
 use Rattle.relation_contexts.proofs.Resolved.{resolved_free, resolved_weight}
 use Rattle.relation_contexts.proofs.Standing.{later_term, term_context, term_of_made}
+use Rattle.relation_contexts.proofs.Agreeing.{stands_sort, agree_root, agree_root_back}
 use Rattle.relation_contexts.proofs.Opening.{instantiating_steps}
 use Rattle.relation_contexts.proofs.Exactness.{instantiating_is_exact_step}
 use Rattle.type_relations.proofs.Binding.{square_above}
@@ -218,6 +219,7 @@ module _ {Key Id Name : Type 0} (r0 : State Key Id Name) (L K : Type 0) (lawful 
         keeps = (both.0).keeps;
       };
       errors = λ i c st f h g o. of_entries (read_later now st h root u root_reads) (itself refl) (l.errors i c st f g o);
+      agrees = λ c z. agree_root c v k target root t refl (stands_sort k t stands);
     }
 
     right_leads : (w : Variance) → Lifts Key Id Name now w v t u → Leads r q [] t root w t u
@@ -230,6 +232,7 @@ module _ {Key Id Name : Type 0} (r0 : State Key Id Name) (L K : Type 0) (lawful 
         keeps = (both.1).keeps;
       };
       errors = λ i c st f h g o. of_entries (itself refl) (read_later now st h root u root_reads) (l.errors i c st f g o);
+      agrees = λ c z. agree_root_back c v k target t root refl (stands_sort k t stands);
     }
 
     exactly : ExactStep was now root t u t × ExactStep was now t root t u
@@ -266,7 +269,6 @@ module _ {Key Id Name : Type 0} (r0 : State Key Id Name) (L K : Type 0) (lawful 
       read_asked = asked_now v root t refl t_known root_in (later t t_in) tt covered;
       asked = asked_now (xform v b) u t u_known t_known u_in (later t t_in) u_covered covered;
       answers = subst (λ z. Answers z u t root an) (sym seen) answers;
-      left = λ k. absurd k;
       answer_known = sure;
       falls = steps.one_spent;
       may_instantiate = could;
@@ -281,7 +283,6 @@ module _ {Key Id Name : Type 0} (r0 : State Key Id Name) (L K : Type 0) (lawful 
       read_asked = asked_now v t root t_known refl (later t t_in) root_in covered tt;
       asked = asked_now (xform v b) t u t_known u_known (later t t_in) u_in covered u_covered;
       answers = subst (λ z. Answers z t u t an) (sym seen) answers;
-      left = λ k. absurd k;
       answer_known = sure;
       falls = steps.one_spent;
       may_instantiate = could;

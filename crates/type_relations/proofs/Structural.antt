@@ -26,6 +26,8 @@ use Rattle.relation_contexts.specs.Lawful.{State, Manners, MayAnswer, Passes, Re
 use Rattle.relation_contexts.proofs.Registered.{registered_in}
 use Rattle.relation_contexts.proofs.Passing.{passes_within, manner_then, stopped}
 use Rattle.type_relations.proofs.Fronts.{Fronted, AreParts, fronted_never, fronted_all, fronted_passes, fronted_fault, fronted_exactly, fronted_full}
+use Rattle.type_relations.proofs.Fronts.{fronted_agree}
+use Rattle.relation_contexts.proofs.AgreeingForms.{form_agrees}
 use Rattle.relation_contexts.proofs.Full.{parts_plain}
 use Rattle.type_relations.proofs.Unifying.{first_order_parts, formed_looked_at, types_unify, answered_as, refused_as}
 use Rattle.relation_contexts.specs.Headline.{IsFirstOrderPair}
@@ -245,6 +247,8 @@ module _ {Key Id Name : Type 0} {r q : State Key Id Name} (M : Manners) (v : Var
       };
       answer = subst (MayAnswer M q v a) (sym answer) (may_itself M q v a);
       known = subst (λ u. IsTrue (known u)) (sym answer) k;
+      agrees = λ k. form_agrees (items_in r) v a b o
+          (fronted_agree (head_of a) v i (parts_of a) (parts_of b) ea eb f k);
     };
     exact = λ exact is pair.
         answered_as r.store q.store a b (parts_of a) (parts_of b) (types_unify a b is_formed is_formed' o)

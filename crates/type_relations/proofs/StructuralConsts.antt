@@ -31,6 +31,9 @@ use Rattle.relation_contexts.specs.Lawful.{State, Manners, MayAnswer, Passes, Re
 use Rattle.relation_contexts.proofs.Registered.{registered_in}
 use Rattle.relation_contexts.proofs.Passing.{passes_within, passes_nowhere, manner_then, stopped}
 use Rattle.type_relations.proofs.Fronts.{Fronted, AreParts, fronted_never, fronted_all, fronted_passes, fronted_fault, fronted_exactly, fronted_full}
+use Rattle.type_relations.proofs.Fronts.{fronted_agree}
+use Rattle.relation_contexts.proofs.Agreeing.{agree_same}
+use Rattle.relation_contexts.proofs.AgreeingForms.{const_agrees}
 use Rattle.relation_contexts.proofs.Full.{full_itself, const_parts_plain}
 use Rattle.type_relations.proofs.Unifying.{first_order_const_parts, const_looked_at, consts_unify, answered_as, refused_as, exact_itself}
 use Rattle.type_relations.proofs.Unifying.{forms_not_unified, const_forms_not_unified, erased_sort}
@@ -247,6 +250,8 @@ module _ {Key Id Name : Type 0} {r q : State Key Id Name} (M : Manners) (v : Var
       };
       answer = subst (MayAnswer M q v a) (sym answer) (may_itself M q v a);
       known = subst (λ u. IsTrue (known u)) (sym answer) k;
+      agrees = λ k. const_agrees (items_in r) v a b o
+          (fronted_agree (const_head_of a) v i (const_parts_of a) (const_parts_of b) ea eb f k);
     };
     exact = λ exact is pair.
         answered_as r.store q.store a b (const_parts_of a) (const_parts_of b) (consts_unify a b fa fb o)
@@ -272,6 +277,7 @@ module _ {Key Id Name : Type 0} {X : Type 0} (M : Manners) (r : State Key Id Nam
       };
       answer = subst (MayAnswer M r v a) (sym answer) (may_itself M r v a);
       known = subst (λ u. IsTrue (known u)) (sym answer) k;
+      agrees = λ k. agree_same (items_in r) v a b e;
     };
     exact = λ exact is pair.
         (pair.bindings, exact_itself r.store a b e, keeps_pair r.store r.store a b (keeps_itself r.store));

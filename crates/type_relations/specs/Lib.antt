@@ -19,6 +19,7 @@ pub mod Emitting
 pub mod Combining
 pub mod SolverTerms
 pub mod Comparing
+pub mod PredicateForms
 pub mod Variables
 pub mod Following
 pub mod Makers

@@ -20,7 +20,9 @@ use Rattle.relation_contexts.specs.FirstOrder.{IsFirstOrderStore}
 use Rattle.relation_contexts.specs.Outcomes.{NoEqualTerms, Exact, NoUnifier}
 use Rattle.relation_contexts.specs.Headline.{AnswersGoals, KeepsEqualTerms, IsFirstOrderPair}
 use Rattle.relation_contexts.specs.OneUniverse.{IsPairOf, all_unbound}
+use Rattle.relation_contexts.specs.Relation.{at}
 use Rattle.relation_contexts.specs.Errors.{ErrorOf}
+use Rattle.relation_contexts.specs.Agreeing.{Agree}
 use Rattle.relation_contexts.specs.Covered.{IsCovered}
 use Rattle.relation_contexts.specs.Lawful.{items_of}
 use Rattle.type_relations.specs.Arguments.{related_tree}
@@ -88,6 +90,10 @@ module _ {S Key Id Name A : Type 0} (state : S → Context Key Id Name) (old new
   abbrev pub AnswersError : {X : Type 0} → Variance → A → A → Result X (RelateFault Key Id Name) → Type 0
   AnswersError v a b result = IfUnrelated result (λ e. ErrorOf (state new).meaning (items_of (state new).meaning)
       (state new).store v e (term a) (term b))
+
+  -- What clashes is refused: the two agree, where they are related.
+  abbrev pub RelatesAgreeing : {X : Type 0} → Variance → A → A → Result X (RelateFault Key Id Name) → Type 0
+  RelatesAgreeing v a b result = IfOk result (λ goals. Agree (items_of (state old).meaning) (at v) (term a) (term b))
 
   -- Exact, of first-order terms in a first-order record at invariance: just the solutions that unify them stay, up to
   -- erasure, and the record stays first-order.

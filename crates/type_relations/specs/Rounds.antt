@@ -19,6 +19,7 @@ use Rattle.relation_contexts.specs.Goals.{Goal}
 use Rattle.relation_contexts.specs.Steps.{IsLater}
 use Rattle.relation_contexts.specs.Outcomes.{StepsTo}
 use Rattle.relation_contexts.specs.Errors.{ErrorOf}
+use Rattle.relation_contexts.specs.Agreeing.{Agree}
 use Rattle.relation_contexts.specs.Lawful.{State, Manners, Passes, Asked, OnlyMemory, items_in}
 
 -- One round relates two binders at a variance that is not invariance; or where neither body uses what its binder binds.
@@ -44,14 +45,15 @@ module _ {Key Id Name : Type 0} where
         a ≡ bind ks t → b ≡ bind ls u → StepsToBodies r q added (first_opened ks ls r.ambient) t u x y →
         RoundSteps r q added round a b x y
 
-  -- A round led to two bodies. They are the relation's, weigh less, and cost nothing of the budget, and an error of
-  -- theirs is one of the binders.
+  -- A round led to two bodies. They are the relation's, weigh less, and cost nothing of the budget; an error of theirs
+  -- is one of the binders, which agree if the bodies do.
   pub record RoundLeads (M : Manners) (r q : State Key Id Name) (added : List Goal) (round : ℕ)
       (a b x y : Tree) : Type 0 where
     pub steps : RoundSteps r q added round a b x y
     pub asked : Asked M q r.ambient x y
     pub errors : (m : Meaning Key Id Name) (c : Items) (st : Store) (e : TypeError Key Id Name) → IsLater q.store st →
         IsSound st → ErrorOf m c st r.ambient e x y → ErrorOf m c st r.ambient e a b
+    pub agrees : (c : Items) → Agree c (at r.ambient) x y → Agree c (at r.ambient) a b
     pub same_budget : (q.store).budget ≡ (r.store).budget
     pub smaller : weight q.store x + weight q.store y < weight r.store a + weight r.store b
 

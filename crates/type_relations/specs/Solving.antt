@@ -45,15 +45,15 @@ abbrev pub solving_through : {Key Id Name : Type 0} → ℕ → List (Goal Key (
     Context Key Id Name → Variance → ParamEnvKey Key → State Key Id Name
 solving_through j gs c v e = solving j gs c.meaning c.store c.lawful v e
 
--- It takes all variables at each variance, it is exact at invariance, it records just what is asked of regions, and it
--- registers just one goal of two type variables.
+-- It takes all variables at each variance, it is exact at invariance, it records just what is asked of regions, it
+-- registers just one goal of two type variables, and what it relates agrees.
 abbrev pub solver_manner : Manners
 solver_manner k = record {
   takes = λ v l. Unit {0};
-  keeps_left = ⊥;
   is_exact = Unit {0};
   records_asked = Unit {0};
   registers_subtype = Unit {0};
+  relates_agreeing = Unit {0};
 }
 
 pub solver_takes : TakesParts solver_manner

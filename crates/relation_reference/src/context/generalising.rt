@@ -8,7 +8,6 @@ ghost use Rattle.relation_terms.specs.Trees.{Tree, leaf, known, count, IsTerm};
 ghost use Rattle.relation_terms.specs.Meaning.{Extends};
 ghost use Rattle.relation_terms.specs.Parts.{part_tree, part_sort, parts_of};
 ghost use Rattle.term_enums.specs.Variances.{xform};
-ghost use Rattle.relation_contexts.specs.Relation.{pointee_variance};
 ghost use Rattle.relation_contexts.specs.Lawful.{items_of};
 ghost use Rattle.relation_contexts.specs.Covered.{IsCovered};
 ghost use Rattle.relation_contexts.specs.Stores.{InContext, IsMade, universe_of};
@@ -26,11 +25,12 @@ ghost use Rattle.term_enums.specs.declared.Variance.TheVariants.{Invariant};
 use crate::context::RefCtxt;
 use crate::context::memory::TermVid;
 use crate::context::resolving::{is_same_vid, variable_of};
+use relation_contexts::variances::{declared_variance, pointee};
 use relation_folds::error::{RelateFault, RelateFaultOf, TypeError};
 use relation_terms::terms::parts::{is_same, part, parts_count, the_ty, with_parts};
 use relation_terms::terms::{
-    Const, ConstKind, DefId, Interner, ItemOf, Keys, Mutability, OutOfMemory, Part, PartOf, Region,
-    RegionKind, RegionVid, Ty, TyKey, TyKind, TyVid, UniverseIndex, Variance,
+    Const, ConstKind, DefId, Interner, Keys, OutOfMemory, Part, PartOf, Region, RegionKind,
+    RegionVid, Ty, TyKey, TyKind, TyVid, UniverseIndex, Variance,
 };
 use std::collections::HashMap;
 
@@ -130,25 +130,6 @@ fn keep<I: Interner>(
     Ok(())
 }
 
-// The variance that an item declares for a parameter.
-fn declared_by<I: Interner>(cx: &I, def_id: &ItemOf<I>, i: usize) -> Variance
-    ensures { let m = I.meaning cx.now in result ≡ (items_of m).declared (m.id (def_id.now).0) i }
-{
-    match cx.variances_of(def_id).get(i) {
-        Some(variance) => *variance,
-        None => Variance::Invariant,
-    }
-}
-
-fn pointee(mutability: Mutability) -> Variance
-    ensures { result ≡ pointee_variance mutability }
-{
-    match mutability {
-        Mutability::Not => Variance::Covariant,
-        Mutability::Mut => Variance::Invariant,
-    }
-}
-
 // How the part of a type at a place varies with the type.
 fn mode_in_ty<I: Interner>(cx: &I, ty: &Ty<I>, i: usize) -> Variance
     requires ty_known { IsTrue (known ((I.meaning cx.now).ty ty.now)) }
@@ -158,8 +139,8 @@ fn mode_in_ty<I: Interner>(cx: &I, ty: &Ty<I>, i: usize) -> Variance
         (v : Variance) → variance_of_part (items_of (I.meaning cx.now)) t i v ≡ xform v result }
 {
     match &cx.ty_kind(ty) {
-        TyKind::Adt(def, _) => declared_by(cx, &DefId(def.0), i),
-        TyKind::FnDef(def, _) => declared_by(cx, &DefId(def.0), i),
+        TyKind::Adt(def, _) => declared_variance(cx, &DefId(def.0), i),
+        TyKind::FnDef(def, _) => declared_variance(cx, &DefId(def.0), i),
         TyKind::Closure(..)
         | TyKind::CoroutineClosure(..)
         | TyKind::Coroutine(..)

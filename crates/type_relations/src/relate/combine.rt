@@ -12,7 +12,7 @@ ghost use Rattle.type_relations.specs.Following.{FollowsContext};
 ghost use Rattle.relation_contexts.specs.Contexts.{KnowsTy};
 ghost use Rattle.relation_contexts.specs.Goals.{KnowsGoal, goals_of, well_formed_predicate};
 ghost use Rattle.type_relations.specs.Keyed.{AreOver, AskedTys, AskedConsts, SteppedConsts};
-ghost use Rattle.relation_contexts.specs.Lawful.{State, Noted, RelatesByDeclared, items_of, listed};
+ghost use Rattle.relation_contexts.specs.Lawful.{State, Noted, RelatesByDeclared, items_of};
 ghost use Rattle.relation_contexts.specs.Resolving.{IsShallow};
 ghost use Rattle.type_relations.specs.SolverTerms.{StepsUnlessVars};
 ghost use Rattle.type_relations.specs.Solving.{solver_manner};
@@ -25,6 +25,7 @@ use crate::relate::combine::meeting::{meet_consts, meet_tys};
 use crate::relate::solver_relating::{GoalOf, recording};
 use crate::relate::{Step, StructurallyRelateAliases};
 use relation_contexts::infer_ctxt::InferCtxtLike;
+use relation_contexts::variances::declared_variance;
 use relation_folds::error::RelateResult;
 use relation_terms::terms::{
     Const, GenericArg, GenericArgKind, GenericArgs, Interner, ItemOf, OutOfMemory, ParamEnv,
@@ -87,17 +88,7 @@ pub trait PredicateEmittingRelation<Infcx: InferCtxtLike> {
     ghost over: { (r : Self) → IsOver (state r) (Infcx.state (context r)) };
 }
 
-// The variance that an item declares of its parameter at a place.
-fn declared_variance<I: Interner>(cx: &I, def_id: &ItemOf<I>, i: usize) -> Variance
-    ensures { let m = I.meaning cx.now in result ≡ listed (m.variances (m.id (def_id.now).0)) i }
-{
-    match cx.variances_of(def_id).get(i) {
-        Some(variance) => *variance,
-        None => Variance::Invariant,
-    }
-}
-
-// The same, of a context's interner.
+// The variance that an item declares of its parameter at a place, to a context's interner.
 fn variance_of<Infcx: InferCtxtLike>(
     infcx: &Infcx,
     def_id: &ItemOf<Infcx::Interner>,

@@ -13,22 +13,11 @@ ghost use Rattle.type_relations.specs.Keyed.{MakesTyOver, MakesConstOver, MakesP
 use crate::relate::TypeRelation;
 use crate::relate::parts::parts_in;
 use relation_folds::error::RelateResult;
-use relation_terms::terms::parts::{member, the_const, the_ty, the_valtree, with_parts};
+use relation_terms::terms::parts::{member, of_arg, the_const, the_ty, the_valtree, with_parts};
 use relation_terms::terms::{
     Const, ConstKind, GenericArg, GenericArgKind, Interner, OutOfMemory, Part, PartOf, Ty,
 };
 use std::alloc::Global;
-
-// A generic argument as a part.
-pub(crate) fn of_arg<X: Copy, D: Copy>(arg: &GenericArgKind<X>) -> Part<X, D>
-    ensures { result ≡ part_of_arg arg.now }
-{
-    match arg {
-        GenericArgKind::Lifetime(region) => Part::Region(*region),
-        GenericArgKind::Ty(ty) => Part::Ty(*ty),
-        GenericArgKind::Const(constant) => Part::Const(*constant),
-    }
-}
 
 // Generic arguments as parts.
 fn as_parts<X: Copy, D: Copy>(

@@ -1,23 +1,19 @@
 //! The parts that are related of terms: of types and constants as generic arguments.
-ghost use Rattle.std.specs.Prelude.{◌≡◌, ◌↔◌, ◌<◌, IsTrue, [], ◌∷◌};
-ghost use Rattle.relation_terms.specs.Heads.{signature_sort, inputs_sort, existential_sort, object_sort};
+ghost use Rattle.std.specs.Prelude.{◌≡◌, ◌↔◌, ◌<◌, IsTrue};
+ghost use Rattle.relation_terms.specs.Heads.{object_sort};
 ghost use Rattle.relation_terms.specs.Trees.{known, count, nth, IsList};
 ghost use Rattle.relation_terms.specs.Meaning.{arg_tree, kind_tree};
-ghost use Rattle.relation_terms.specs.Parts.{part_tree, part_sort, parts_tree, part_of_arg, AreArgs};
-ghost use Rattle.relation_terms.specs.declared.terms.part_kind.Part.TheVariants.{Signature as SignaturePart};
-ghost use Rattle.relation_terms.specs.declared.terms.part_kind.Part.TheVariants.{Inputs as InputsPart};
-ghost use Rattle.relation_terms.specs.declared.terms.part_kind.Part.TheVariants.{Existential as ExistentialPart};
+ghost use Rattle.relation_terms.specs.Parts.{part_tree, part_sort, parts_tree};
 ghost use Rattle.relation_terms.specs.declared.terms.part_kind.Part.TheVariants.{Object as ObjectPart};
 ghost use Rattle.relation_terms.specs.Parts.{parts_of as list_of_parts};
 ghost use Rattle.relation_contexts.specs.Parts.{parts_of, const_parts_of, IsByParts, IsArgPart, IsBinderPart};
 ghost use Rattle.type_relations.specs.declared.relate.parts.PartKind.TheVariants.{Argument, Binder};
 ghost use Rattle.relation_contexts.specs.Covered.{IsCovered};
 
-use relation_terms::predicate::ExistentialPredicate;
-use relation_terms::terms::parts::{member, member_count, ty_parts};
+use relation_terms::terms::parts::{member, member_count, the_arg, ty_parts};
 use relation_terms::terms::{
-    Const, ConstKind, ExistentialPredicatesKey, FnSig, GenericArg, GenericArgKind, Interner, Part,
-    PartOf, PartsOf, Ty, TyForm, TyKind, TysKey, parts,
+    Const, ConstKind, ExistentialPredicatesKey, GenericArg, Interner, Part, PartOf, PartsOf, Ty,
+    TyForm, TyKind, parts,
 };
 
 // Of which kind a part is, as far as relating looks at it.
@@ -48,50 +44,7 @@ pub(crate) fn kind_of_part<X: Copy, D: Copy>(part: &Part<X, D>) -> PartKind
     }
 }
 
-// The generic argument that a part is.
-pub(crate) fn the_arg<X: Copy, D: Copy>(part: &Part<X, D>) -> GenericArgKind<X>
-    requires { AreArgs (part.now ∷ []) }
-    ensures { part_of_arg result ≡ part.now }
-{
-    match part {
-        Part::Region(region) => GenericArgKind::Lifetime(*region),
-        Part::Ty(ty) => GenericArgKind::Ty(*ty),
-        Part::Const(constant) => GenericArgKind::Const(*constant),
-        _ => unreachable!(),
-    }
-}
-
-// The signature that a part is, its inputs, the predicate of a trait object, and the list of these.
-pub(crate) fn the_signature<X: Copy, D: Copy>(part: &Part<X, D>) -> FnSig<X>
-    requires { part_sort part.now ≡ signature_sort }
-    ensures { SignaturePart result ≡ part.now }
-{
-    match part {
-        Part::Signature(sig) => *sig,
-        _ => unreachable!(),
-    }
-}
-
-pub(crate) fn the_inputs<X: Copy, D: Copy>(part: &Part<X, D>) -> TysKey<X>
-    requires { part_sort part.now ≡ inputs_sort }
-    ensures { InputsPart result ≡ part.now }
-{
-    match part {
-        Part::Inputs(tys) => *tys,
-        _ => unreachable!(),
-    }
-}
-
-pub(crate) fn the_existential<X: Copy, D: Copy>(part: &Part<X, D>) -> ExistentialPredicate<X, D>
-    requires { part_sort part.now ≡ existential_sort }
-    ensures { ExistentialPart result ≡ part.now }
-{
-    match part {
-        Part::Existential(predicate) => *predicate,
-        _ => unreachable!(),
-    }
-}
-
+// The list of the predicates of a trait object that a part is.
 pub(crate) fn the_object<X: Copy, D: Copy>(part: &Part<X, D>) -> ExistentialPredicatesKey<X>
     requires { part_sort part.now ≡ object_sort }
     ensures { ObjectPart result ≡ part.now }

@@ -5,7 +5,7 @@ ghost use Rattle.term_enums.specs.declared.Variance.TheVariants.{Bivariant};
 ghost use Rattle.term_enums.specs.Variances.{xform};
 ghost use Rattle.relation_terms.specs.Meaning.{arg_tree};
 ghost use Rattle.relation_terms.specs.Parts.{part_tree, part_sort};
-ghost use Rattle.relation_contexts.specs.Relation.{part_at, pointee_variance};
+ghost use Rattle.relation_contexts.specs.Relation.{part_at};
 ghost use Rattle.relation_contexts.specs.Errors.{FormError, ConstFormError, AreOfOneForm, AreOfOneConst};
 ghost use Rattle.relation_contexts.specs.Parts.{IsFormedConst, IsByParts, IsComparedPart, parts_of, const_parts_of};
 ghost use Rattle.relation_contexts.specs.Parts.{head_of};
@@ -20,10 +20,11 @@ use crate::relate::parts::{
     const_part, const_parts_count, is_by_parts, part, parts_count, term_part, term_parts_count,
 };
 use crate::relate::{TypeRelation, handing};
+use relation_contexts::variances::pointee;
 use relation_folds::error::{RelateResult, TypeErrorOf};
 use relation_terms::terms::{
-    Const, ConstKind, DefId, GenericArg, GenericArgs, Interner, ItemOf, Mutability, Part, PartOf,
-    Ty, TyKind, Variance,
+    Const, ConstKind, DefId, GenericArg, GenericArgs, Interner, ItemOf, Part, PartOf, Ty, TyKind,
+    Variance,
 };
 
 pub(crate) fn compare_tys_of<I: Interner, R: TypeRelation<I>>(
@@ -160,16 +161,6 @@ pub(crate) fn term_part_of<I: Interner, R: TypeRelation<I>>(
     ensures means { let m = (R.state r.now).meaning in part_tree m result ≡ nth_part m i term.now }
 {
     term_part(r.cx(), term, i)
-}
-
-// How a pointee varies with its pointer.
-fn pointee(mutability: Mutability) -> Variance
-    ensures { result ≡ pointee_variance mutability }
-{
-    match mutability {
-        Mutability::Not => Variance::Covariant,
-        Mutability::Mut => Variance::Invariant,
-    }
 }
 
 // The variance at which an item's argument is related.

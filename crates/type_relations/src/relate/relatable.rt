@@ -35,8 +35,7 @@ pub trait Relate<I: Interner>: TypeFoldable<I> + PartialEq + Copy {
     ghost fits: { Meaning I.Key I.Id I.Name → Self → Self → Type 0 };
 
     /// Relates the two at the ambient variance, and answers what the relation may answer for the left one: a term that
-    /// it is related with there, under each assignment that the relation left; or itself, where the relation promises
-    /// that.
+    /// it is related with there, under each assignment that the relation left.
     ///
     /// Both are the relation's, which takes them at the ambient variance; that is not `Bivariant`. Two lists have as
     /// many arguments.

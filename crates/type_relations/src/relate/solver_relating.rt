@@ -7,6 +7,7 @@ ghost use Rattle.relation_contexts.specs.Steps.{IsLater};
 ghost use Rattle.relation_contexts.specs.Contexts.{KnowsEnv, SpendsByBinding, RegistersGoals};
 ghost use Rattle.type_relations.specs.Relating.{KnowsTerm, TakesTerm, HasTerm, AreOne, AnswersTerms};
 ghost use Rattle.type_relations.specs.Relating.{KeepsEqual, TellsApart, AnswersError, AnswersExactly, ProvesApart};
+ghost use Rattle.type_relations.specs.Relating.{RelatesAgreeing};
 ghost use Rattle.type_relations.specs.Relating.{AnswersSubtype, SpendsNoMore, MakesToRelate, Idle};
 ghost use Rattle.type_relations.specs.Terms.{AskedTerms, RelatedTerms, TermsRegister};
 ghost use Rattle.type_relations.specs.Solving.{solving_in, solver_manner};
@@ -45,6 +46,9 @@ pub trait RelateExt: InferCtxtLike {
     /// `Invariant` there is no goal. Equal ones record nothing, and ask for no goal. Of first-order terms in a
     /// first-order record at `Invariant` just those solutions up to erasure stay that unify them: what is recorded is
     /// then a most general unifier.
+    ///
+    /// What clashes is refused at each variance: after `Ok` the two are of one form throughout, down to variables,
+    /// which agree with each term of their sort; so do regions with regions, and under binders what these bind.
     ///
     /// Two different types that are unresolved type variables answer just one goal, and nothing is recorded: at
     /// `Covariant` that the first is a subtype of the second, at `Contravariant` that the second is one of the first.
@@ -88,6 +92,7 @@ pub trait RelateExt: InferCtxtLike {
         ensures keeps { KeepsEqual Self.state self.old self.new T.over T.tree lhs rhs result }
         ensures apart { TellsApart Self.state self.old self.new T.over T.tree lhs rhs result }
         ensures errors { AnswersError Self.state self.old self.new T.over T.tree variance lhs rhs result }
+        ensures agrees { RelatesAgreeing Self.state self.old self.new T.over T.tree variance lhs rhs result }
         ensures spent { IfSpent result ((Self.state self.new).store.budget ≡ 0) }
         ensures same { AreOne (Self.state self.old) T.over T.tree lhs rhs → Idle Self.state self.old self.new result }
         ensures subtype { AnswersSubtype Self.state self.old self.new T.over T.tree param_env variance lhs rhs result }
@@ -127,6 +132,7 @@ impl<Infcx: InferCtxtLike> RelateExt for Infcx {
         ensures keeps { KeepsEqual Infcx.state self.old self.new T.over T.tree lhs rhs result }
         ensures apart { TellsApart Infcx.state self.old self.new T.over T.tree lhs rhs result }
         ensures errors { AnswersError Infcx.state self.old self.new T.over T.tree variance lhs rhs result }
+        ensures agrees { RelatesAgreeing Infcx.state self.old self.new T.over T.tree variance lhs rhs result }
         ensures spent { IfSpent result ((Infcx.state self.new).store.budget ≡ 0) }
         ensures same { AreOne (Infcx.state self.old) T.over T.tree lhs rhs → Idle Infcx.state self.old self.new result }
         ensures subtype { AnswersSubtype Infcx.state self.old self.new T.over T.tree param_env variance lhs rhs result }

@@ -16,14 +16,13 @@ ghost use Rattle.type_relations.specs.Keyed.{ArgsRegisterSubtype, TysRegisterSub
 ghost use Rattle.relation_contexts.specs.Making.{arg_sort};
 ghost use Rattle.type_relations.specs.Arguments.{IsSkipped};
 ghost use Rattle.type_relations.specs.Comparing.{AreOfOneFormBy, object_members};
+ghost use Rattle.type_relations.specs.PredicateForms.{predicate_form, form_of_part};
 ghost use Rattle.type_relations.specs.Terms.{AskedTerms, RelatedTerms};
 
 use crate::relate::handing::in_part;
-use crate::relate::making::{make_const, make_part, make_ty, of_arg};
+use crate::relate::making::{make_const, make_part, make_ty};
 use crate::relate::opening::{is_same_of, open_bodies};
-use crate::relate::parts::{
-    PartKind, kind_of_part, the_arg, the_existential, the_object, the_signature,
-};
+use crate::relate::parts::{PartKind, kind_of_part, the_object};
 use crate::relate::reading::{
     compare_consts_of, compare_members_of, compare_parts_of, compare_tys_of, const_part_of,
     const_parts_count_of, const_variance_at, in_const, in_ty, is_by_parts_of, named_place_of,
@@ -33,7 +32,9 @@ use crate::relate::reading::{
 use crate::relate::{Step, TypeRelation};
 use relation_folds::error::{RelateFault, RelateResult, TypeError};
 use relation_terms::predicate::ExistentialPredicate;
-use relation_terms::terms::parts::{the_pat, the_ty};
+use relation_terms::terms::parts::{
+    of_arg, the_arg, the_existential, the_pat, the_signature, the_ty,
+};
 use relation_terms::terms::{
     Const, ExistentialPredicates, FnSig, GenericArg, GenericArgKind, Interner, Part, PartOf, Pat,
     Ty, Variance,
@@ -291,7 +292,7 @@ pub fn signatures<I: Interner, R: TypeRelation<I>>(
 }
 
 /// Relates two predicates of trait objects at the ambient variance, and answers the left one's form over what its parts
-/// answered, invariantly: of a projection first its term, then its arguments.
+/// answered, invariantly: of a projection first its term, then its arguments. So a trait is answered for a trait.
 ///
 /// Conditions are those of `tys`. Answers `Traits` for two traits or two auto traits that differ,
 /// `ProjectionMismatched` for projections of different items, and `Mismatch` for predicates of different forms or with
@@ -304,7 +305,8 @@ pub fn existentials<I: Interner, R: TypeRelation<I>>(
     requires lawful { (R.state r.old).lawful }
     requires decides { (R.state r.old).ambient ≢ Bivariant }
     requires asked { AskedTerms R.manner None existential_tree (R.state r.old) a.now b.now }
-    ensures { RelatedTerms R.manner None existential_tree (R.state r.old) (R.state r.new) a.now b.now result }
+    ensures related { RelatedTerms R.manner None existential_tree (R.state r.old) (R.state r.new) a.now b.now result }
+    ensures form { IfOk result (λ p. predicate_form p ≡ predicate_form a.now) }
 {
     Ok(the_existential(&relate_parts(r, &Part::Existential(*a), &Part::Existential(*b))?))
 }
@@ -344,6 +346,7 @@ fn relate_in_order<I: Interner, R: TypeRelation<I>>(
     requires alike { AreOfOneFormBy part_tree (R.state r.old).meaning a.now b.now }
     ensures related { RelatedParts R.manner (R.state r.old) (R.state r.new) a.now b.now result }
     ensures sort { IfOk result (λ p. part_sort p ≡ part_sort a.now) }
+    ensures predicate { IfOk result (λ p. form_of_part p ≡ form_of_part a.now) }
 {
     let n = term_parts_count_of::<I, R>(r, a);
     let mut answers = Vec::new(r.cx().alloc());
@@ -400,6 +403,7 @@ fn relate_parts<I: Interner, R: TypeRelation<I>>(
     requires paired { ArePaired a.now b.now }
     ensures related { RelatedParts R.manner (R.state r.old) (R.state r.new) a.now b.now result }
     ensures sort { IfOk result (λ p. part_sort p ≡ part_sort a.now) }
+    ensures predicate { IfOk result (λ p. form_of_part p ≡ form_of_part a.now) }
     ensures alike { IsComparedPart a.now → OnOk result (AreOfOneFormBy part_tree (R.state r.old).meaning a.now b.now) }
 {
     match kind_of_part(a) {

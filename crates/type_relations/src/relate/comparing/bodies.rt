@@ -12,10 +12,10 @@ ghost use Rattle.type_relations.specs.Comparing.{AreOfOneFormBy, AreAlikeAt, Sig
 ghost use Rattle.type_relations.specs.Comparing.{PartsDiffer, object_form};
 
 use crate::relate::comparing::compare_pats;
-use crate::relate::parts::{the_existential, the_inputs, the_object, the_signature};
+use crate::relate::parts::the_object;
 use relation_folds::error::{ExpectedFound, TypeError, TypeErrorOf};
 use relation_terms::predicate::ExistentialPredicate;
-use relation_terms::terms::parts::the_pat;
+use relation_terms::terms::parts::{the_existential, the_inputs, the_pat, the_signature};
 use relation_terms::terms::{ExistentialPredicates, FnSig, Interner, Part, PartOf, Tys};
 
 /// Answers `Ok` where two signatures say the same besides their types, which are not compared.

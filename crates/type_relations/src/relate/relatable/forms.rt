@@ -61,8 +61,7 @@ impl<I: Interner> Relate<I> for ExistentialTraitRef<I::Key, I::Id> {
         let right = ExistentialPredicate::Trait(*b);
         match existentials(r, &left, &right)? {
             ExistentialPredicate::Trait(answer) => Ok(answer),
-            // No other comes of two traits, but the recursion does not say so.
-            _ => Ok(*a),
+            _ => unreachable!(),
         }
     }
 
@@ -86,8 +85,7 @@ impl<I: Interner> Relate<I> for ExistentialProjection<I::Key, I::Id> {
         let right = ExistentialPredicate::Projection(*b);
         match existentials(r, &left, &right)? {
             ExistentialPredicate::Projection(answer) => Ok(answer),
-            // No other comes of two projections, but the recursion does not say so.
-            _ => Ok(*a),
+            _ => unreachable!(),
         }
     }
 

@@ -31,7 +31,9 @@ use Rattle.type_relations.proofs.ByParts.{no_inputs_yet, inputs_next, compared_a
 use Rattle.type_relations.proofs.ByParts.{depth_turned}
 use Rattle.type_relations.specs.Handing.{IsResultOfTy, IsResultOfConst, IsResultOfPart, named_place}
 use Rattle.relation_contexts.specs.Making.{arg_sort, Fit, over, const_over}
-use Rattle.relation_contexts.proofs.Answering.{same_items, AreAnswers, answers_none, answers_next, answers_end, may_over, may_const_over, may_later}
+use Rattle.relation_contexts.proofs.Answering.{same_items, AreAnswers, answers_none, answers_next, answers_end, may_over, may_const_over, may_later, if_ok_both}
+use Rattle.type_relations.specs.PredicateForms.{form_of_part}
+use Rattle.type_relations.proofs.PredicateForms.{arg_form, binder_form, made_form}
 use Rattle.type_relations.proofs.Making.{fit_pushed, fit_end, fits_place}
 use Rattle.relation_contexts.proofs.Lists.{firsts, snoc, list_push}
 use Rattle.relation_terms.proofs.Stays.{stays_list, stays_arg}
@@ -1781,6 +1783,7 @@ relate_in_order-returns-in_err-compare_members_of g t c =
           (terms_unlike M r.ambient a b i form (part_tree q.meaning) (part_sort c.args.a.now) (part_sort c.args.b.now)
           n.field-0.0 c.requires.decides other ta tb k.left_known k.right_known unlike inv.fronted);
       sort = subst (λ u. IfOk u (λ z. part_sort z ≡ part_sort c.args.a.now)) (sym failed) tt;
+      predicate = subst (λ u. IfOk u (λ z. form_of_part z ≡ form_of_part c.args.a.now)) (sym failed) tt;
     }
 
 pub relate_in_order-term_part_of-x-requires-clause-term_known : goal.relate_in_order-term_part_of-x-requires-clause-term_known
@@ -2093,6 +2096,7 @@ relate_in_order-returns-in_err-answer g t c =
           (part_sort c.args.b.now) ta tb inv.inputs x y lx ly ex ey (part_tree p.meaning) (part_tree p.meaning) z.0
           n.field-0.0 z.2 gone);
       sort = subst (λ u. IfOk u (λ z. part_sort z ≡ part_sort c.args.a.now)) (sym failed) tt;
+      predicate = subst (λ u. IfOk u (λ z. form_of_part z ≡ form_of_part c.args.a.now)) (sym failed) tt;
     }
 
 pub relate_in_order-loop-i-preserved : goal.relate_in_order-loop-i-preserved
@@ -2213,6 +2217,7 @@ relate_in_order-returns-in_err-push g t c =
       related = subst (λ z. Related M r p r.ambient a b (part_tree p.meaning) z) (sym failed)
           (terms_stopped M r.ambient a b (suc i) form (part_tree p.meaning) next);
       sort = subst (λ u. IfOk u (λ z. part_sort z ≡ part_sort c.args.a.now)) (sym failed) tt;
+      predicate = subst (λ u. IfOk u (λ z. form_of_part z ≡ form_of_part c.args.a.now)) (sym failed) tt;
     }
 
 pub relate_in_order-make_part-requires-clause-lawful : goal.relate_in_order-make_part-requires-clause-lawful
@@ -2328,6 +2333,10 @@ relate_in_order-returns g t c =
           (ap₂ over same_a (ap (list_tree (part_tree q.meaning)) c.as_slice.ensures.value)) (made.made).sure
           (made.made).means;
       sort = made.sort;
+      predicate = if_ok_both (λ z. part_sort z ≡ part_sort c.args.a.now) (λ z. part_tree p.meaning z ≡
+          over (part_tree q.meaning c.args.a.now) (list_tree (part_tree q.meaning) c.as_slice.result.now))
+          (λ z. form_of_part z ≡ form_of_part c.args.a.now) c.make_part.result
+          (λ z o e. made_form q.meaning p.meaning c.args.a.now z _ o e) made.sort (made.made).means;
     }
 
 pub relate_parts_with_variance-relate_parts-answer-requires : goal.relate_parts_with_variance-relate_parts-answer-requires
@@ -2462,13 +2471,16 @@ relate_parts-returns-in_ok-answer-in-Argument g t c =
     let eb : b ≡ arg_tree r.meaning Y = ap (part_tree r.meaning) (sym c.the_arg-in-Argument.ensures) ∙ arg_part r.meaning Y in
     let q = g.R.TypeRelation.state c.relate.new.r in
     let n = c.in_ok-answer-in-Argument in
+    let sort : part_sort c.of_arg.result ≡ part_sort c.args.a.now =
+    sort_as_arg c.of_arg.result n.answer c.of_arg.ensures ∙ (n.ensures).kind
+    ∙ sym (sort_as_arg c.args.a.now X (sym c.the_arg.ensures)) in
     record {
       related = subst₂ (λ x y. Related M r q r.ambient x y (part_tree q.meaning) (Ok c.of_arg.result)) (sym ea) (sym eb)
           (retold M r.ambient (arg_tree r.meaning X) (arg_tree r.meaning Y) (arg_tree q.meaning) n.answer
           (part_tree q.meaning) c.of_arg.result
           (ap (part_tree q.meaning) c.of_arg.ensures ∙ arg_part q.meaning n.answer) (n.ensures).related);
-      sort = sort_as_arg c.of_arg.result n.answer c.of_arg.ensures ∙ (n.ensures).kind
-          ∙ sym (sort_as_arg c.args.a.now X (sym c.the_arg.ensures));
+      sort = sort;
+      predicate = arg_form c.args.a.now c.of_arg.result arg sort;
       alike = λ o. absurd (arg_not_compared c.args.a.now arg o);
     }
 
@@ -2493,6 +2505,7 @@ relate_parts-returns-in_err-answer-in-Argument g t c =
           (refused_again M r.ambient (arg_tree r.meaning X) (arg_tree r.meaning Y) (arg_tree q.meaning)
           (part_tree q.meaning) n.field-0.0 (n.ensures).related));
       sort = subst (λ u. IfOk u (λ z. part_sort z ≡ part_sort c.args.a.now)) (sym failed) tt;
+      predicate = subst (λ u. IfOk u (λ z. form_of_part z ≡ form_of_part c.args.a.now)) (sym failed) tt;
       alike = λ o. subst (λ u. OnOk u (AreOfOneForm a b)) (sym failed) tt;
     }
 
@@ -2538,6 +2551,7 @@ relate_parts-returns-in-Binder g t c =
     record {
       related = (c.binders.ensures).related;
       sort = (c.binders.ensures).sort;
+      predicate = binder_form c.args.a.now c.binders.result binder (c.binders.ensures).sort;
       alike = λ o. absurd (binder_not_compared c.args.a.now binder o);
     }
 
@@ -2583,6 +2597,7 @@ relate_parts-returns-in_err-compare_parts_of-in-Form g t c =
           (part_sorted r.meaning sorted c.args.b.now k.right_known other) k.left_known k.right_known
           (n.ensures).errors);
       sort = subst (λ u. IfOk u (λ z. part_sort z ≡ part_sort c.args.a.now)) (sym failed) tt;
+      predicate = subst (λ u. IfOk u (λ z. form_of_part z ≡ form_of_part c.args.a.now)) (sym failed) tt;
       alike = λ o. subst (λ u. OnOk u (AreOfOneForm a b)) (sym failed) tt;
     }
 
@@ -2640,6 +2655,7 @@ relate_parts-returns-in_ok-compare_parts_of-in-Form g t c =
     record {
       related = (c.relate_in_order.ensures).related;
       sort = (c.relate_in_order.ensures).sort;
+      predicate = (c.relate_in_order.ensures).predicate;
       alike = λ o. on_ok res (AreOfOneForm a b) (c.in_ok-compare_parts_of-in-Form.ensures).alike;
     }
 

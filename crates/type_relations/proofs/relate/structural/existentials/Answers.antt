@@ -1,6 +1,8 @@
-use Rattle.std.proofs.Common.{refl, sym, ap, subst, inr}
+use Rattle.std.proofs.Common.{◌≡◌, refl, sym, ap, subst, inr, IfOk}
 use Rattle.relation_terms.specs.Meaning.{existential_tree}
 use Rattle.relation_terms.specs.Parts.{part_tree}
+use Rattle.type_relations.specs.PredicateForms.{predicate_form}
+use Rattle.type_relations.proofs.PredicateForms.{same_form}
 use Rattle.relation_contexts.specs.Lawful.{Related}
 use Rattle.relation_contexts.proofs.Passing.{retold, refused_again, as_err}
 use Rattle.type_relations.proofs.relate.structural.existentials.Goals as goal
@@ -22,8 +24,11 @@ returns-in_err-relate_parts g c =
     let n = c.in_err-relate_parts in
     let res = c.from_residual.result in
     let failed = as_err res n.field-0.0 c.from_residual.ensures.0 c.from_residual.ensures.1 in
-    subst (λ z. Related M r q r.ambient a b tree z) (sym failed)
-    (refused_again M r.ambient a b (part_tree q.meaning) tree n.field-0.0 (n.ensures).related)
+    record {
+      related = subst (λ z. Related M r q r.ambient a b tree z) (sym failed)
+          (refused_again M r.ambient a b (part_tree q.meaning) tree n.field-0.0 (n.ensures).related);
+      form = subst (λ z. IfOk z (λ p. predicate_form p ≡ predicate_form c.args.a.now)) (sym failed) tt;
+    }
 
 pub returns : goal.returns
 returns g c =
@@ -33,5 +38,8 @@ returns g c =
     let b = existential_tree r.meaning c.args.b.now in
     let q = g.R.TypeRelation.state c.relate_parts.new.r in
     let n = c.in_ok-relate_parts in
-    retold M r.ambient a b (part_tree q.meaning) n.field-0 (existential_tree q.meaning) c.the_existential.result
-    (ap (part_tree q.meaning) c.the_existential.ensures) (n.ensures).related
+    record {
+      related = retold M r.ambient a b (part_tree q.meaning) n.field-0 (existential_tree q.meaning)
+          c.the_existential.result (ap (part_tree q.meaning) c.the_existential.ensures) (n.ensures).related;
+      form = same_form c.the_existential.result c.args.a.now n.field-0 c.the_existential.ensures (n.ensures).predicate;
+    }

@@ -5,7 +5,7 @@ use Rattle.relation_terms.specs.Trees.{apply}
 use Rattle.relation_contexts.specs.Relation.{same}
 use Rattle.relation_contexts.specs.Goals.{goals_of, KnowsGoal, MakesOneTree}
 use Rattle.relation_contexts.specs.OneUniverse.{all_unbound}
-use Rattle.relation_contexts.specs.Lawful.{Related, ExactResult}
+use Rattle.relation_contexts.specs.Lawful.{Related, ExactResult, items_of}
 use Rattle.type_relations.specs.Solving.{solving_in, solver_manner}
 use Rattle.relation_contexts.proofs.Going.{later_itself, goes_nowhere}
 use Rattle.relation_contexts.proofs.Full.{makes_to_instantiate}
@@ -18,7 +18,8 @@ use Rattle.type_relations.specs.Subtyping.{RegistersSubtype}
 use Rattle.type_relations.proofs.Relatable.{equal_one, one_equal}
 use Rattle.type_relations.proofs.Relating.{refused_alone_in}
 use Rattle.type_relations.proofs.OverContext.{all_taken}
-use Rattle.type_relations.proofs.Solving.{answers_goals, keeps_equal, registers_goals}
+use Rattle.type_relations.proofs.Solving.{answers_goals, keeps_equal, relates_agreeing, registers_goals}
+use Rattle.relation_contexts.proofs.Agreeing.{agree_same}
 use Rattle.type_relations.proofs.relate.solver_relating.AnyRelateExt.relate.Goals as goal
 
 pub returns-then-eq-clause-answers : goal.returns-then-eq-clause-answers
@@ -102,6 +103,27 @@ returns-clause-answers g c =
     let b = term_in s g.T.Relate.over g.T.HasTree.tree c.args.rhs in
     let hs = c.relate_in-related.result.1.items in
     answers_goals s.meaning d.meaning s.store d.store s.lawful d.lawful c.args.variance c.args.param_env a b
+    (term_in d g.T.Relate.over g.T.HasTree.tree) hs c.in_ok-related.field-0 (subst (λ z. Related solver_manner
+    (solving_in [] s c.args.variance c.args.param_env) (solving_in hs d c.args.variance c.args.param_env)
+    c.args.variance a b (term_in d g.T.Relate.over g.T.HasTree.tree) z) c.in_ok-related.was c.relate_in-related.ensures.related)
+
+pub returns-then-eq-clause-agrees : goal.returns-then-eq-clause-agrees
+returns-then-eq-clause-agrees g c =
+    let s = g.Infcx.InferCtxtLike.state c.args.self.now in
+    agree_same (items_of s.meaning) c.args.variance (term_in s g.T.Relate.over g.T.HasTree.tree c.args.lhs)
+    (term_in s g.T.Relate.over g.T.HasTree.tree c.args.rhs)
+    (equal_one (g.met.Infcx.InferCtxtLike.reads c.args.self.now) g.T.Relate.over g.T.HasTree.tree
+    g.T.PartialEq.eq (g.met.T.Relate.same (g.Infcx.InferCtxtLike.interner c.args.self.now)) c.args.lhs c.args.rhs
+    c.requires.lhs_known c.requires.rhs_known (sym c.if-eq.ensures))
+
+pub returns-clause-agrees : goal.returns-clause-agrees
+returns-clause-agrees g c =
+    let s = g.Infcx.InferCtxtLike.state c.args.self.now in
+    let d = g.Infcx.InferCtxtLike.state c.relate_in-related.new.infcx in
+    let a = term_in s g.T.Relate.over g.T.HasTree.tree c.args.lhs in
+    let b = term_in s g.T.Relate.over g.T.HasTree.tree c.args.rhs in
+    let hs = c.relate_in-related.result.1.items in
+    relates_agreeing s.meaning d.meaning s.store d.store s.lawful d.lawful c.args.variance c.args.param_env a b
     (term_in d g.T.Relate.over g.T.HasTree.tree) hs c.in_ok-related.field-0 (subst (λ z. Related solver_manner
     (solving_in [] s c.args.variance c.args.param_env) (solving_in hs d c.args.variance c.args.param_env)
     c.args.variance a b (term_in d g.T.Relate.over g.T.HasTree.tree) z) c.in_ok-related.was c.relate_in-related.ensures.related)
