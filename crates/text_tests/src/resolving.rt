@@ -53,7 +53,11 @@ fn answer_of(alloc: Global, question: &str) -> Result<String, fmt::Error> {
 // tower has 2^60 leaves.
 #[test]
 fn towers_are_gone_through_at_once(rt: HostRuntime) -> Result<(), Fail> {
-    for question in ["?1 == t60;", "(?0, ?1) == (u8, (?0, t60));", "?0 == (t60, ?0);"] {
+    for question in [
+        "?1 == t60;",
+        "(?0, ?1) == (u8, (?0, t60));",
+        "?0 == (t60, ?0);",
+    ] {
         let answer = answer_of(rt.alloc(), question)?;
         assert_eq!(rt; answer.as_str(), "memory", "{question}");
     }
