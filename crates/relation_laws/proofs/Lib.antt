@@ -4,4 +4,5 @@ pub mod RegionTerms
 pub mod Deciding
 pub mod Rejected
 pub mod FreeValues
+pub mod StaysShown
 pub mod OpenedInstances

@@ -1,12 +1,15 @@
--- Laws of the assignments that satisfy what is recorded.
-use Rattle.std.specs.Prelude.{◌≡◌, ℕ, None}
-use Rattle.relation_terms.specs.Heads.{VarKind}
+-- Laws of the assignments that satisfy what is recorded, and of what was shown of terms.
+use Rattle.std.specs.Prelude.{◌≡◌, ℕ, Option, None}
+use Rattle.relation_terms.specs.Heads.{VarKind, Head}
 use Rattle.relation_terms.specs.Trees.{Tree, Assign, apply, Leaves}
+use Rattle.relation_terms.specs.Meaning.{Meaning, Extends as Grows}
 use Rattle.relation_contexts.specs.Relation.{IsValueLeaf, StaysWithin}
 use Rattle.relation_contexts.specs.Stores.{Store, IsMade, bound_term, universe_of, MayStandFor, IsNamable, IsAssignment}
 use Rattle.relation_contexts.specs.Stores.{MeetsBindings, IsSound, resolved}
-use Rattle.relation_contexts.specs.Steps.{MakesVariable, Extends}
+use Rattle.relation_contexts.specs.Steps.{IsLater, MakesVariable, Extends}
 use Rattle.relation_contexts.specs.FirstOrder.{IsErasedSolution}
+use Rattle.relation_contexts.specs.Contexts.{Context}
+use Rattle.type_relations.specs.Relating.{term_in, KnowsTerm, TakesTerm, HasTerm}
 
 -- A value for each variable, which names what the variable's universe can.
 abbrev pub GivesValues : Store → Assign → Type 0
@@ -26,3 +29,13 @@ abbrev pub MadeIsUnconstrainedErased : Type 0
 MadeIsUnconstrainedErased = (before after : Store) (k : VarKind) (n u : ℕ) → MakesVariable before after k n u →
     IsSound before → (s : Assign) (t : Tree) → IsErasedSolution before s → MayStandFor k t → Leaves IsValueLeaf t →
     StaysWithin 0 t → Leaves (IsNamable u) t → Extends before s (λ s'. IsErasedSolution after s' × (s' k n ≡ t))
+
+-- In a later context, which `state` shows, a known value has the tree that it had; it is known still, may be related if
+-- it might be, and is the context's if it was.
+abbrev pub TermStays : {S Key Id Name A : Type 0} → (S → Context Key Id Name) → Option Head →
+    (Meaning Key Id Name → A → Tree) → Type 0
+TermStays {S = S} {A = A} state over tree = (old new : S) → Grows (state old).meaning (state new).meaning →
+    IsLater (state old).store (state new).store → (x : A) → KnowsTerm (state old) over tree x →
+    (term_in (state new) over tree x ≡ term_in (state old) over tree x) × KnowsTerm (state new) over tree x ×
+    (TakesTerm (state old) over tree x → TakesTerm (state new) over tree x) ×
+    (HasTerm (state old) over tree x → HasTerm (state new) over tree x)

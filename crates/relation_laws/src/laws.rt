@@ -29,9 +29,12 @@ ghost use Rattle.relation_contexts.specs.Stores.{BindingsAreMet};
 ghost use Rattle.type_relations.specs.UniverseLaws.{RootsAreBoundOrNot, EquatingKeepsUniverse, ReadingKeepsUniverse};
 ghost use Rattle.type_relations.specs.UniverseLaws.{GeneralisingKeepsUniverse};
 ghost use Rattle.relation_laws.specs.RejectionLaws.{ClashesDoNotUnify, ClashesAreNotRelated};
-ghost use Rattle.relation_laws.specs.SolutionLaws.{FreeValues, MadeIsUnconstrainedErased};
+ghost use Rattle.relation_laws.specs.SolutionLaws.{FreeValues, MadeIsUnconstrainedErased, TermStays};
 ghost use Rattle.relation_laws.specs.OpenedInstances.{OpenedIsInstance};
 ghost use Rattle.relation_laws.specs.RegionTerms.{RelatedTermsAgree, RelatedIffAgree};
+
+use relation_contexts::infer_ctxt::InferCtxtLike;
+use type_relations::relate::Relate;
 
 /// What holds of all terms, and of errors, parameters and constants.
 pub fn all_terms()
@@ -163,6 +166,11 @@ pub fn opening()
     ensures entered_binds { EnteredBodyBinds }
     ensures instantiated_binds { InstantiatedBodyBinds }
     ensures instance { OpenedIsInstance }
+{}
+
+/// What was shown of a term stays shown in a later context.
+pub fn later_contexts<C: InferCtxtLike, T: Relate<C::Interner>>()
+    ensures stays { TermStays C.state T.over T.tree }
 {}
 
 /// First-order terms that a quick test tells apart, parameters standing for themselves.
