@@ -14,15 +14,15 @@ abbrev pub IsMiddleRow : List ℕ → Type 0
 IsMiddleRow name =
     (name ≡ codes "r20") ⊎ ((name ≡ codes "r21") ⊎ ((name ≡ codes "r22") ⊎ ((name ≡ codes "r23") ⊎ (
     (name ≡ codes "r24") ⊎ ((name ≡ codes "r26") ⊎ ((name ≡ codes "r27") ⊎ ((name ≡ codes "r28") ⊎ (
-    (name ≡ codes "r30") ⊎ ((name ≡ codes "r32") ⊎ ((name ≡ codes "r34") ⊎ ((name ≡ codes "r35") ⊎ (
-    (name ≡ codes "r36") ⊎ (name ≡ codes "r37")))))))))))))
+    (name ≡ codes "r30") ⊎ ((name ≡ codes "r34") ⊎ ((name ≡ codes "r35") ⊎ ((name ≡ codes "r36") ⊎
+    (name ≡ codes "r37"))))))))))))
 
 -- A row from r40 on, but below r60, has that name.
 abbrev pub IsUpperRow : List ℕ → Type 0
 IsUpperRow name =
     (name ≡ codes "r42") ⊎ ((name ≡ codes "r43") ⊎ ((name ≡ codes "r44") ⊎ ((name ≡ codes "r45") ⊎ (
-    (name ≡ codes "r46") ⊎ ((name ≡ codes "r49") ⊎ ((name ≡ codes "r50") ⊎ ((name ≡ codes "r51") ⊎ (
-    (name ≡ codes "r53") ⊎ ((name ≡ codes "r54") ⊎ ((name ≡ codes "r55") ⊎ (name ≡ codes "r59")))))))))))
+    (name ≡ codes "r46") ⊎ ((name ≡ codes "r53") ⊎ ((name ≡ codes "r54") ⊎ ((name ≡ codes "r55") ⊎
+    (name ≡ codes "r59"))))))))
 
 -- A row from r60 on has that name.
 abbrev pub IsHighRow : List ℕ → Type 0

@@ -1,7 +1,6 @@
 //! Prints the answers of worked rows: what relating two types answers, and what it leaves recorded.
 #![tactic(auto)]
 
-mod calls;
 mod doubling;
 mod rows;
 

@@ -3,16 +3,17 @@ ghost use Rattle.std.specs.Prelude.{◌≡◌, ◌≢◌, ◌<◌, ◌≤◌, �
 ghost use Rattle.std.specs.IoError.{error_kind};
 ghost use Rattle.relations.specs.Named.{IsHighRow, IsLowRow, IsMiddleRow, IsRow, IsUpperRow};
 
-use crate::calls::call;
+use crate::doubling::count_terms_and_nodes;
 use relation_asking::ask_all;
 use std::alloc::Global;
+use std::fmt::Write;
 use std::io::{self, ErrorKind};
 use text_reading::naming::{NameError, look_up};
 use text_reading::reading::{ReadError, read};
 use text_reading::telling::{Lines, tell_unnamed, tell_unread};
 
-/// A row: its name, the questions that it asks, as text, and the answers that they are to have. What no question can
-/// ask, one without questions answers by calls.
+/// A row: its name, the questions that it asks, as text, and the answers that they are to have. One that asks none
+/// counts the terms and the nodes of a type that is doubled 60 times.
 #[derive(Clone, Copy)]
 pub struct Row {
     pub name: &'static str,
@@ -32,7 +33,7 @@ pub enum RowFault {
 }
 
 /// The rows, in the order of their numbers.
-pub const ROWS: [Row; 44] = [
+pub const ROWS: [Row; 40] = [
     Row {
         name: "r01",
         questions: "may unify[rigid, rigid] bool, char at 0; may unify[rigid, rigid] bool, char at 1;",
@@ -159,11 +160,6 @@ pub const ROWS: [Row; 44] = [
         stored: "ok; bound=[?i0=u16] | err Sorts(?i0, bool)",
     },
     Row {
-        name: "r32",
-        questions: "",
-        stored: "negative | [const] | ! | unevaluated constant",
-    },
-    Row {
         name: "r34",
         questions: "param 'a, 'b, 'c, 'd;
             &'a mut &'b u8 <: &'c mut &'d u8;
@@ -211,21 +207,6 @@ pub const ROWS: [Row; 44] = [
         name: "r46",
         questions: "unsafe<'a> &'a u8 == unsafe<> &'static u8;",
         stored: "ok; regions=['?0 == 'static, '!1.0 == 'static]",
-    },
-    Row {
-        name: "r49",
-        questions: "",
-        stored: "[u8, bool, P] | T: StreamingIterator | ['a]",
-    },
-    Row {
-        name: "r50",
-        questions: "",
-        stored: "PartialEq<u32> | bool: PartialEq<u32>",
-    },
-    Row {
-        name: "r51",
-        questions: "",
-        stored: "'a: 'b | 'b: 'a | end | true | false",
     },
     Row {
         name: "r53",
@@ -283,6 +264,18 @@ pub const ROWS: [Row; 44] = [
     },
 ];
 
+// What is counted where a row asks no question: the terms, and the nodes that are added.
+fn counts(alloc: Global) -> Result<String, RowFault> {
+    let Ok((terms, nodes)) = count_terms_and_nodes(alloc, 60) else {
+        return Err(RowFault::Memory);
+    };
+    let mut text = String::new(alloc);
+    match write!(text, "{terms} | {nodes}") {
+        Ok(()) => Ok(text),
+        Err(_) => Err(RowFault::Memory),
+    }
+}
+
 /// The answers to a row's questions, with ` | ` between two.
 ///
 /// # Errors
@@ -290,7 +283,7 @@ pub const ROWS: [Row; 44] = [
 /// language, or say that a growth was refused.
 pub fn answers(alloc: Global, row: &Row) -> Result<String, RowFault> {
     if row.questions.is_empty() {
-        return call(alloc, row.name);
+        return counts(alloc);
     }
     let tree = read(alloc, row.questions.as_bytes()).map_err(RowFault::Unread)?;
     let program = look_up(alloc, row.questions, &tree).map_err(RowFault::Unnamed)?;
@@ -381,7 +374,6 @@ fn is_middle_row(name: &str) -> bool
         || name == "r27"
         || name == "r28"
         || name == "r30"
-        || name == "r32"
         || name == "r34"
         || name == "r35"
         || name == "r36"
@@ -397,9 +389,6 @@ fn is_upper_row(name: &str) -> bool
         || name == "r44"
         || name == "r45"
         || name == "r46"
-        || name == "r49"
-        || name == "r50"
-        || name == "r51"
         || name == "r53"
         || name == "r54"
         || name == "r55"

@@ -30,7 +30,6 @@ r26: Placeholder | none | Closure(f) | Tuple(0) | Error
 r27: err Mismatch
 r28: true
 r30: ok; bound=[?i0=u16] | err Sorts(?i0, bool)
-r32: negative | [const] | ! | unevaluated constant
 r34: ok; regions=['a: 'c, 'b == 'd] | err Mutability
 r35: ok; regions=['b: 'a] | ok; regions=['a: 'b]
 r36: ok; bound=[?0=u8, ?i0=u16]; left=0
@@ -40,9 +39,6 @@ r43: err ArgumentSorts(u8, bool, 1) | err ArgCount
 r44: ok; regions=['a: 'b] | err Traits(Tr, Us)
 r45: err Mismatch | err ConstMismatch(2, 3)
 r46: ok; regions=['?0 == 'static, '!1.0 == 'static]
-r49: [u8, bool, P] | T: StreamingIterator | ['a]
-r50: PartialEq<u32> | bool: PartialEq<u32>
-r51: 'a: 'b | 'b: 'a | end | true | false
 r53: dyn Tr<bool, A = u8> + 'a | bool | u8 | 'a | end
 r54: 'a, T, 'b | 'b | none | escaping[T]
 r55: 'a: 'b | (&'a T, u8): 'b | T: 'b

@@ -19,13 +19,9 @@ mod kinds;
 #[cfg(test)]
 mod objects;
 #[cfg(test)]
-mod outlives;
-#[cfg(test)]
 mod predicate_parts;
 #[cfg(test)]
 mod predicates;
-#[cfg(test)]
-mod stating;
 #[cfg(test)]
 mod towers;
 #[cfg(test)]
