@@ -4,8 +4,8 @@ use Rattle.relation_terms.specs.Meaning.{existential_tree}
 use Rattle.relation_contexts.proofs.Passing.{retold}
 use Rattle.type_relations.proofs.relate.relatable.forms.ExistentialProjectionKeyIdRelate.relate.Goals as goal
 
-pub returns-in-Projection-clause-related : goal.returns-in-Projection-clause-related
-returns-in-Projection-clause-related g c =
+pub returns-clause-related : goal.returns-clause-related
+returns-clause-related g c =
     let r = g.R.TypeRelation.state c.args.r.now in
     let q = g.R.TypeRelation.state c.existentials.new.r in
     let a = existential_tree r.meaning (Projection c.args.a.now) in
