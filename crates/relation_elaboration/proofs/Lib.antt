@@ -15,3 +15,4 @@ pub mod Pulled
 pub mod TraitClauses
 pub mod Passing
 pub mod Reaching
+pub mod Finding

@@ -18,4 +18,4 @@ pub use elaboratable::{ClauseWithSupertraitSpan, Elaboratable};
 pub use elaborator::{Elaborator, elaborate};
 pub use faults::ElabFault;
 pub use relation_tools::elaborate::{OutlivesAssumption, elaborate_outlives_assumptions};
-pub use sources::{ClauseSource, FilterToTraits};
+pub use sources::{ClauseSource, FilterToTraits, supertraits};
