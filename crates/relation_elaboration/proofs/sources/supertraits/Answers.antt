@@ -13,7 +13,7 @@ use Rattle.relation_elaboration.proofs.sources.supertraits.Goals as goal
 
 pub elaborate-requires : goal.elaborate-requires
 elaborate-requires g c =
-    let n = g.I.Interner.meaning c.clause_of_trait_ref-clause.new.cx in
+    let n = g.I.Interner.meaning c.clause_of_trait_ref.new.cx in
     let k = c.in_ok-clause.clause in
     subst (All (λ o. IsTrue (known (n.clause o))))
     (sym (c.in_ok-push.ensures.items ∙ ap (λ z. z ++ k ∷ []) c.new-obligations.ensures.items))
@@ -23,7 +23,7 @@ elaborate-requires g c =
 pub returns-in-Ok : goal.returns-in-Ok
 returns-in-Ok g c =
     let m = g.I.Interner.meaning c.args.cx.now in
-    let n = g.I.Interner.meaning c.clause_of_trait_ref-clause.new.cx in
+    let n = g.I.Interner.meaning c.clause_of_trait_ref.new.cx in
     let k = c.in_ok-clause.clause in
     let d = c.in-Ok.elaborator in
     let e = c.new.result in
@@ -49,7 +49,7 @@ returns-in-Ok g c =
 
 pub returns-in-Err-clause-limit : goal.returns-in-Err-clause-limit
 returns-in-Err-clause-limit g c = λ q.
-    let n = g.I.Interner.meaning c.clause_of_trait_ref-clause.new.cx in
+    let n = g.I.Interner.meaning c.clause_of_trait_ref.new.cx in
     let k = c.in_ok-clause.clause in
     let items = c.in_ok-push.ensures.items ∙ ap (λ z. z ++ k ∷ []) c.new-obligations.ensures.items in
     one_too_many (n.clause k) c.args.limit
