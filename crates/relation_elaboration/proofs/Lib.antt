@@ -13,4 +13,6 @@ pub mod Making
 pub mod Yielding
 pub mod Pulled
 pub mod TraitClauses
+pub mod Passing
 pub mod Reaching
+pub mod Finding

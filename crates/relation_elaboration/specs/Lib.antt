@@ -6,4 +6,5 @@ pub mod Laws
 pub mod Runs
 pub mod Pulling
 pub mod TraitClauses
+pub mod Finding
 pub mod Reach

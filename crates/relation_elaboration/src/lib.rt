@@ -9,6 +9,7 @@ mod elaborator;
 mod faults;
 pub mod instantiate;
 pub mod laws;
+mod sources;
 mod trait_clauses;
 mod worklist;
 
@@ -17,3 +18,4 @@ pub use elaboratable::{ClauseWithSupertraitSpan, Elaboratable};
 pub use elaborator::{Elaborator, elaborate};
 pub use faults::ElabFault;
 pub use relation_tools::elaborate::{OutlivesAssumption, elaborate_outlives_assumptions};
+pub use sources::{ClauseSource, FilterToTraits, supertraits};

@@ -119,3 +119,8 @@ module _ {Key Id Name : Type 0} (m : Meaning Key Id Name) (puts : ℕ → Tree �
   -- What is found was made so.
   abbrev pub Remembers : {S : Type 0} → (Place Key → Place Key → Bool) → HashMap (Place Key) (Part Key Id) S → Type 0
   Remembers eq memory = (q : Place Key) (by : Part Key Id) → get eq memory q ≡ Some by → IsKept eq q by
+
+-- The same, of what a folder puts under one meaning.
+abbrev pub Recalls : {Key Id Name F S : Type 0} → (Meaning Key Id Name → F → ℕ → Tree → Option Tree) →
+    Meaning Key Id Name → F → (Place Key → Place Key → Bool) → HashMap (Place Key) (Part Key Id) S → Type 0
+Recalls puts m f eq memory = Remembers m (puts m f) eq memory

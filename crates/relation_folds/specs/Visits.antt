@@ -9,12 +9,13 @@ use Rattle.relation_terms.specs.Heads.{Leaf, variable, bound, atom}
 use Rattle.relation_terms.specs.Trees.{Tree, leaf, node, bind, nil, cons}
 use Rattle.relation_terms.specs.Meaning.{Meaning}
 use Rattle.relation_terms.specs.Flags.{outer_exclusive_binder, has_non_region_infer}
-use Rattle.relation_terms.specs.Parts.{parts_of}
-use Rattle.relation_terms.specs.Orders.{in_order, order_of}
+use Rattle.relation_terms.specs.Parts.{parts_of, parts_tree}
+use Rattle.relation_terms.specs.Orders.{in_order, order_of, list_order}
 use Rattle.relation_terms.specs.declared.terms.keys.AlternativesKey.{AlternativesKey}
 use Rattle.relation_terms.specs.declared.terms.keys.ExistentialPredicatesKey.{ExistentialPredicatesKey}
 use Rattle.relation_terms.specs.declared.terms.part_kind.Part.{Part}
 use Rattle.relation_terms.specs.declared.terms.part_kind.Part.TheVariants.{Binder}
+use Rattle.relation_terms.specs.declared.terms.part_kind.Parts.{Parts}
 use Rattle.relation_folds.specs.declared.visit.Visit.{Visit}
 use Rattle.relation_folds.specs.declared.visit.Visit.TheVariants.{Enter, Skip, Stop}
 
@@ -80,6 +81,10 @@ pub data Walks {V : Type 0} (visits : V → ℕ → Tree → V → Visit → Typ
 -- From one visitor to another over the parts of a tree, and over the list of a key: of alternatives, of predicates.
 abbrev pub WalksParts : {V : Type 0} → (V → ℕ → Tree → V → Visit → Type 0) → V → Tree → V → Flow → Type 0
 WalksParts visits v t w r = Walks visits 0 v (parts_of t) w r
+
+-- The members of a list, in its order.
+abbrev pub in_turns : {Key Id Name : Type 0} → Meaning Key Id Name → Parts Key Id → Tree
+in_turns m ps = in_order (list_order ps) (parts_tree m ps)
 
 module _ {Key Id Name V : Type 0} (visits : V → ℕ → Tree → V → Visit → Type 0) (m : Meaning Key Id Name) where
   abbrev pub WalksAlternatives : V → AlternativesKey Key → V → Flow → Type 0

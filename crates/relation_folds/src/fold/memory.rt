@@ -5,7 +5,7 @@ ghost use Rattle.std.specs.Prelude.{◌≡◌, IsTrue, IfSome};
 ghost use Rattle.std.specs.HashMap.{IsEmpty};
 ghost use Rattle.relation_terms.specs.Trees.{known};
 ghost use Rattle.relation_terms.specs.Parts.{part_tree};
-ghost use Rattle.relation_folds.specs.Folds.{IsMade, Remembers, place_of as the_place};
+ghost use Rattle.relation_folds.specs.Folds.{IsMade, Recalls, place_of as the_place};
 
 use crate::fold::TypeFolder;
 use relation_terms::terms::{Interner, OutOfMemory, Part, PartOf};
@@ -57,10 +57,8 @@ pub fn recall<I: Interner, F: TypeFolder<I>>(
     depth: u128,
 ) -> Option<PartOf<I>>
     requires known { IsTrue (known (part_tree (I.meaning cx.now) part.now)) }
-    requires remembers { Remembers (I.meaning cx.now) (F.replaces (I.meaning cx.now) folder.now)
-        ⟦<Place<I::Key> as PartialEq>⟧.eq memory.now }
-    ensures { IfSome result
-        (λ by. IsMade (I.meaning cx.now) (F.replaces (I.meaning cx.now) folder.now) part.now depth by) }
+    requires remembers { Recalls F.replaces (I.meaning cx.now) folder.now ⟦<Place<I::Key> as PartialEq>⟧.eq memory.now }
+    ensures { IfSome result (IsMade (I.meaning cx.now) (F.replaces (I.meaning cx.now) folder.now) part.now depth) }
 {
     let _ = cx;
     let _ = folder;
@@ -78,10 +76,8 @@ pub fn keep<I: Interner, F: TypeFolder<I>>(
     made: PartOf<I>,
 ) -> Result<(), OutOfMemory>
     requires made { IsMade (I.meaning cx.now) (F.replaces (I.meaning cx.now) folder.now) part.now depth made }
-    requires remembers { Remembers (I.meaning cx.now) (F.replaces (I.meaning cx.now) folder.now)
-        ⟦<Place<I::Key> as PartialEq>⟧.eq memory.old }
-    ensures { Remembers (I.meaning cx.now) (F.replaces (I.meaning cx.now) folder.now)
-        ⟦<Place<I::Key> as PartialEq>⟧.eq memory.new }
+    requires remembers { Recalls F.replaces (I.meaning cx.now) folder.now ⟦<Place<I::Key> as PartialEq>⟧.eq memory.old }
+    ensures { Recalls F.replaces (I.meaning cx.now) folder.now ⟦<Place<I::Key> as PartialEq>⟧.eq memory.new }
 {
     let _ = cx;
     let _ = folder;

@@ -3,7 +3,8 @@ ghost use Rattle.relation_terms.specs.Predicates.{trait_ref_tree, alias_term_tre
 ghost use Rattle.relation_terms.specs.Predicates.{clause_kind_tree, predicate_kind_tree};
 ghost use Rattle.relation_terms.specs.declared.predicate.kinds.ClauseKind.TheVariants.{Trait, Projection, HostEffect};
 ghost use Rattle.relation_terms.specs.declared.predicate.kinds.ClauseKind.TheVariants.{RegionOutlives, TypeOutlives};
-ghost use Rattle.relation_terms.specs.declared.predicate.kinds.PredicateKind.TheVariants.{Subtype, Coerce, NormalizesTo};
+ghost use Rattle.relation_terms.specs.declared.predicate.kinds.PredicateKind.TheVariants.{Subtype, Coerce};
+ghost use Rattle.relation_terms.specs.declared.predicate.kinds.PredicateKind.TheVariants.{NormalizesTo};
 ghost use Rattle.relation_terms.proofs.Predicates.{stays_trait_ref, stays_alias_term};
 ghost use Rattle.relation_terms.proofs.Predicates.{stays_clause_kind, stays_predicate_kind};
 ghost use Rattle.relation_folds.specs.Aliases.{alias_ty_tree, stays_alias_ty};

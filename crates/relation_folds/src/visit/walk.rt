@@ -4,9 +4,8 @@
 //! The part of a binder stands one binder deeper, and all others as deep as the term that they are parts of.
 ghost use Rattle.std.specs.Prelude.{◌≡◌, IsTrue};
 ghost use Rattle.relation_terms.specs.Trees.{known};
-ghost use Rattle.relation_terms.specs.Orders.{in_order, list_order};
 ghost use Rattle.relation_terms.specs.Parts.{part_tree, parts_tree, part_sort};
-ghost use Rattle.relation_folds.specs.Visits.{Walks, Asks, visited_sort, told_inside_part};
+ghost use Rattle.relation_folds.specs.Visits.{Walks, Asks, visited_sort, in_turns, told_inside_part};
 
 use crate::visit::{TypeVisitor, Visit};
 use relation_terms::terms::parts::{member, member_count, parts_of, visited_place};
@@ -73,8 +72,7 @@ pub fn visit_list<I: Interner, V: TypeVisitor<I>>(
     visitor: &mut V,
 ) -> ControlFlow<()>
     requires { IsTrue (known (parts_tree (I.meaning cx.now) parts.now)) }
-    ensures { Walks (V.visits cx.now) depth visitor.old
-        (in_order (list_order parts.now) (parts_tree (I.meaning cx.now) parts.now)) visitor.new result }
+    ensures { Walks (V.visits cx.now) depth visitor.old (in_turns (I.meaning cx.now) parts.now) visitor.new result }
 {
     let count = member_count(cx, parts);
     for step in 0..count {
