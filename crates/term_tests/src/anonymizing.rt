@@ -8,7 +8,7 @@ use relation_terms::terms::{
     Binder, BoundRegion, BoundTy, BoundVar, BoundVariableKind, DebruijnIndex, Interner,
     OutOfMemory, Predicate, RegionKind, TyKind,
 };
-use relation_tools::anonymize::anonymize_bound_vars;
+use relation_tools::anonymize::{anonymize_bound_vars, binds_within};
 use std::test::Fail;
 
 // Of two variables with names, at two places of the binder's list, the type outlives the region.
@@ -52,9 +52,21 @@ fn is_one<I: Interner>(cx: &mut I, a: I::Name, b: I::Name) -> Result<bool, OutOf
     Ok(plain != other && first == plain && second == plain)
 }
 
+// Whether it is told that both variables stand at places of the binder's list, and that one does not.
+fn places_are_told<I: Interner>(cx: &mut I, name: I::Name) -> Result<bool, OutOfMemory> {
+    let mut vars = Vec::new(cx.alloc());
+    vars.push(BoundVariableKind::Ty(name))?;
+    vars.push(BoundVariableKind::Region(name))?;
+    let within = outlives(cx, &vars, (0, name), (1, name))?;
+    let fine = binds_within(cx, &within)?;
+    let beyond = outlives(cx, &vars, (0, name), (2, name))?;
+    Ok(fine && !binds_within(cx, &beyond)?)
+}
+
 #[test]
 fn renamed_predicates_are_one(rt: HostRuntime) -> Result<(), Fail> {
     let mut cx = RefInterner::new(rt.alloc());
     assert!(rt; is_one(&mut cx, SymbolId(0), SymbolId(1))?);
+    assert!(rt; places_are_told(&mut cx, SymbolId(0))?);
     Ok(())
 }

@@ -23,6 +23,8 @@ mod predicate_parts;
 #[cfg(test)]
 mod predicates;
 #[cfg(test)]
+mod stating;
+#[cfg(test)]
 mod towers;
 #[cfg(test)]
 mod trait_refs;
