@@ -2,6 +2,9 @@
 use Rattle.std.specs.Prelude.{ℕ, Option, Some, None, option_map}
 use Rattle.relation_terms.specs.Heads.{Head, trait_ref, trait_clause}
 use Rattle.relation_terms.specs.Trees.{Tree, node, bind}
+use Rattle.relation_terms.specs.Meaning.{Meaning}
+use Rattle.relation_terms.specs.declared.terms.binder.Binder.{Binder}
+use Rattle.relation_terms.specs.declared.predicate.trait_ref.TraitRef.{TraitRef}
 use Rattle.relation_elaboration.specs.Children.{trait_of}
 
 -- The trait that a clause of a form over parts is of, in any polarity, and its arguments.
@@ -18,3 +21,7 @@ reference_of t = None
 abbrev pub trait_named : Tree → Option ℕ
 trait_named (bind ks (node h ts)) = option_map (λ t. t.0) (said_of h ts)
 trait_named t = None
+
+-- The trait of a trait reference, by its number.
+abbrev pub named_by : {Key Id Name : Type 0} → Meaning Key Id Name → Binder Key (TraitRef Key Id) → ℕ
+named_by m b = m.id ((b.value).def_id).0
