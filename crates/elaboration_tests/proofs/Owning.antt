@@ -70,6 +70,11 @@ module _ {Key Id Name : Type 0} {m n : Meaning Key Id Name} (e : Extends m n) wh
   bounds_more bs b h a =
       All-push (IsStatedBound n) bs b (All-weaker (IsStatedBound m) (IsStatedBound n) bound_stays bs a) h
 
+-- A const bound that may be stated is known.
+pub bound_known : {Key Id Name : Type 0} (m : Meaning Key Id Name) (b : Binder Key (TraitRef Key Id)) →
+    IsStatedBound m b → IsTrue (known (bound_tree m b))
+bound_known m b h = h.0
+
 -- One more clause that may be stated, with its place.
 pub stated_more : {Key Id Name S : Type 0} (n : Meaning Key Id Name) (ks : List (ClauseKey Key × S)) (k : ClauseKey Key)
     (s : S) → IsStated n k → All (IsStated n) (map (λ p. p.0) ks) → All (IsStated n) (map (λ p. p.0) (ks ++ (k, s) ∷ []))

@@ -13,4 +13,6 @@ mod pulling;
 #[cfg(test)]
 mod stating;
 #[cfg(test)]
+mod supers;
+#[cfg(test)]
 mod traits;

@@ -44,6 +44,11 @@ ready_stays {m = m} {n = n} e keys needs r = λ k key there.
     let same : arg_tree n key ≡ arg_tree m key = stays_arg e key h.0 in
     subst (IsReady (need_at needs k)) (sym same) h
 
+-- Keys that are ready are known.
+pub ready_keys : {Key Id Name : Type 0} (m : Meaning Key Id Name) (keys : List (Option (GenericArgKind Key)))
+    (needs : List Needs) → AreReady m keys needs → AreKnown m keys
+ready_keys m keys needs r = λ k key there. (r k key there).0
+
 pub one_ready : (t u : Tree) (needs : Needs) → u ≡ t → IsReady needs t → IsReady needs u
 one_ready t u needs e h = subst (IsReady needs) (sym e) h
 

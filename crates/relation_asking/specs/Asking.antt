@@ -27,10 +27,11 @@ use Rattle.relation_needs.specs.declared.needs.Needs.{Needs}
 use Rattle.relation_asking.specs.declared.question.Ready.{Ready}
 use Rattle.relation_asking.specs.declared.question.Answer.{Answer}
 use Rattle.relation_asking.specs.declared.question.Answer.TheVariants.{Related, Met, Walked, Components, Folded, Is}
-use Rattle.relation_asking.specs.declared.question.Answer.TheVariants.{Assumed, Key as key}
+use Rattle.relation_asking.specs.declared.question.Answer.TheVariants.{Assumed, Key as key, Pulls}
 use Rattle.relation_tools.specs.Assumptions.{IsKnown}
 use Rattle.relation_asking.specs.Meets.{AllKnown}
 use Rattle.relation_needs.specs.Needs.{Allows, Reaches, largest, need_at}
+use Rattle.elaboration_asking.specs.Pulls.{KnowsPulled}
 use Rattle.relation_asking.specs.Outlives.{KnowsComponents}
 
 -- What relating takes: a term of forms that have rules, in which each binder binds by its list, and nothing that one
@@ -133,6 +134,7 @@ KnowsAnswer m Knows (Assumed all) = All (IsKnown m) all.items
 KnowsAnswer m Knows (Folded a) = IsTrue (known (arg_tree m a))
 KnowsAnswer m Knows (Is b) = Unit {0}
 KnowsAnswer m Knows (key k) = Unit {0}
+KnowsAnswer m Knows (Pulls ps) = All (KnowsPulled m) ps.items
 
 -- What variables are bound to is known.
 abbrev pub AreBoundKnown : {K : Type 0} → (K → Tree) → List (Variable K) → Type 0

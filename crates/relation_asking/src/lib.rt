@@ -6,6 +6,7 @@ ghost use Rattle.relation_asking.specs.Asking.{AllReady};
 mod answer_text;
 mod comparing;
 mod context;
+mod elaborating;
 mod folding;
 mod interner;
 mod lists;
@@ -18,6 +19,7 @@ mod visiting;
 mod walking;
 
 use answer_text::AnswerText;
+use elaboration_asking::stating::state_all;
 use interner::{Tables, make_interner, make_tables};
 use question::{Ready, ask_often, context_for, write_whole};
 use relation_needs::binding::uses_of;
@@ -30,6 +32,9 @@ use std::fmt::{self, Write};
 use text_reading::naming::Program;
 use text_terms::building::build;
 use text_terms::printing::{Texts, TextsOf};
+
+// What is answered where a trait states a predicate in which a variable stands that its binder does not bind.
+const NOT_OWN: &str = "not asked: what a trait states is to bind its variables itself";
 
 /// How many instantiations a context may make where nothing is said of it.
 pub const BUDGET: usize = 100;
@@ -74,15 +79,25 @@ fn ask_ready<I: SizedKeys + Drop, W: Write>(
     Ok(())
 }
 
-// Answers that a growth was refused, to each question.
-fn refuse_all<W: Write>(program: &Program, between: &str, out: &mut W) -> fmt::Result {
+// Answers the same to each question.
+fn answer_all<W: Write>(
+    program: &Program,
+    answer: &str,
+    between: &str,
+    out: &mut W,
+) -> fmt::Result {
     let mut any = false;
     for _ in &program.questions {
         separate(any, between, out)?;
-        out.write_str("memory")?;
+        out.write_str(answer)?;
         any = true;
     }
     Ok(())
+}
+
+// Answers that a growth was refused, to each question.
+fn refuse_all<W: Write>(program: &Program, between: &str, out: &mut W) -> fmt::Result {
+    answer_all(program, "memory", between, out)
 }
 
 /// Asks all questions of a program in turn, over an interner and the ids and names that its items and names have there,
@@ -117,13 +132,17 @@ pub fn ask_over<I: SizedKeys + Drop, W: Write>(
         parts: &program.parts,
         puts: &program.puts,
         skips: &program.skips,
+        clauses: &program.clauses,
+        ids,
+        names,
         variables: &program.variables,
     };
     ask_ready(interner, texts, program, &terms, between, out)
 }
 
 /// Asks all questions of a program in turn over the reference interner, and writes the answers, with the given text
-/// between two, as `ask_over` does.
+/// between two, as `ask_over` does. Where a trait of the program states what binds a variable outside of itself, that is
+/// the answer to each.
 ///
 /// # Errors
 /// What the writer answers where an answer can't be written.
@@ -133,7 +152,7 @@ pub fn ask_all<W: Write>(
     between: &str,
     out: &mut W,
 ) -> fmt::Result {
-    let Ok((interner, ids)) = make_interner(alloc, program) else {
+    let Ok((mut interner, ids)) = make_interner(alloc, program) else {
         return refuse_all(program, between, out);
     };
     let Ok(tables) = make_tables(alloc, program, &ids) else {
@@ -144,6 +163,11 @@ pub fn ask_all<W: Write>(
         name_texts,
         item_texts,
     } = tables;
+    match state_all(&mut interner, &ids, &names, program) {
+        Ok(true) => {}
+        Ok(false) => return answer_all(program, NOT_OWN, between, out),
+        Err(_) => return refuse_all(program, between, out),
+    }
     let texts = Texts {
         names: &name_texts,
         items: &item_texts,

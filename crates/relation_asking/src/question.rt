@@ -12,6 +12,7 @@ use crate::answer_text::AnswerText;
 use crate::context::{
     NotAsked, have_all_stated, have_variables, refusal, relate, renewed, write_not_asked,
 };
+use crate::elaborating::{ask_elaborated, ask_supertrait_ids, ask_supertraits};
 use crate::folding::{fold, puts_at};
 use crate::lists::ask_args_related;
 use crate::outlives::{ask_assumptions, ask_components, write_assumptions, write_components};
@@ -20,6 +21,7 @@ use crate::quick::{KeyOf, ask_args_may_unify, ask_key, ask_may_unify, write_key}
 use crate::sized_keys::SizedKeys;
 use crate::visiting::{Met, visit, write_met};
 use crate::walking::{numbers_at, write_walked};
+use elaboration_asking::pulls::{Manner, Pulled, write_pulls};
 use relation_folds::visit::{has_escaping_bound_vars, has_non_region_infer, is_known_rigid};
 use relation_needs::needs::{Needs, both, need_at};
 use relation_reference::context::RefCtxt;
@@ -28,7 +30,7 @@ use relation_terms::terms::{GenericArg, GenericArgKind, Interner, Keys, Ty, Vari
 use relation_tools::outlives::Component;
 use std::alloc::Global;
 use std::fmt::{self, Write};
-use text_reading::naming::{Parts, Put, Question, QuestionKind, Variables};
+use text_reading::naming::{Clause, Parts, Put, Question, QuestionKind, Variables};
 use text_terms::building::{key_at, keys_at, ty_at};
 use text_terms::printing::{TextsOf, write_arg};
 use type_relations::relate::solver_relating::RelateGoals;
@@ -43,6 +45,10 @@ pub(super) struct Ready<'a, I: Interner> {
     pub puts: &'a [Put<usize>],
     // After how many pulls walks skip.
     pub skips: &'a [usize],
+    // The predicates of questions, and the ids and names that they are made of.
+    pub clauses: &'a [Clause],
+    pub ids: &'a [I::Id],
+    pub names: &'a [I::Name],
     // What is said of variables.
     pub variables: &'a [Variables],
 }
@@ -66,6 +72,7 @@ pub(super) enum Answer<R, K, X, D, N> {
     Folded(GenericArgKind<X>),
     Is(bool),
     Key(K),
+    Pulls(Vec<Pulled<X, D>>),
 }
 
 // What is answered to a question over an interner.
@@ -334,6 +341,30 @@ fn ask<I: SizedKeys>(ctx: &mut RefCtxt<I>, terms: &Ready<I>, question: &Question
             let key = ask_key(&ctx.interner, terms, params, ty)?;
             Ok(Answer::Key(key))
         }
+        QuestionKind::Elaborate {
+            clauses,
+            only_self,
+            sized,
+            limit,
+            pulls,
+        } => {
+            let manner = Manner {
+                only_self,
+                sized,
+                limit,
+                pulls,
+            };
+            let all = ask_elaborated(ctx, terms, clauses, &manner)?;
+            Ok(Answer::Pulls(all))
+        }
+        QuestionKind::Supertraits { clause, limit } => {
+            let all = ask_supertraits(ctx, terms, clause, limit)?;
+            Ok(Answer::Pulls(all))
+        }
+        QuestionKind::SupertraitIds(item) => {
+            let all = ask_supertrait_ids(&ctx.interner, terms, item)?;
+            Ok(Answer::Pulls(all))
+        }
     }
 }
 
@@ -409,6 +440,7 @@ fn write_given<I: Interner, W: Write>(
         Answer::Folded(term) => write_arg(&ctx.interner, texts, term, out),
         Answer::Is(holds) => write!(out, "{holds}"),
         Answer::Key(key) => write_key::<I, W>(texts, key, out),
+        Answer::Pulls(all) => write_pulls(&ctx.interner, texts, all, out),
     }
 }
 

@@ -12,7 +12,7 @@ use Rattle.relation_contexts.specs.Goals.{Holds, Relates}
 use Rattle.relation_contexts.specs.Parts.{IsFormed, parts_of, head_of, const_parts_of, const_head_of}
 use Rattle.relation_contexts.specs.Making.{over, const_over}
 use Rattle.relation_contexts.specs.Stores.{Satisfies}
-use Rattle.relation_contexts.specs.Lawful.{State, Manners, MayAnswer, Passes, declared_by, items_in}
+use Rattle.relation_contexts.specs.Lawful.{Kept, State, Manners, MayAnswer, Passes, declared_by, items_in}
 use Rattle.relation_contexts.proofs.Growing.{All_front}
 use Rattle.relation_contexts.proofs.Composing.{places, below_or}
 use Rattle.relation_contexts.proofs.Values.{apply-nth, apply-count, apply-list}
@@ -26,6 +26,13 @@ covariantly Contravariant = refl
 covariantly Invariant = refl
 covariantly Bivariant = refl
 
+-- With what no step changes the environment stands, and so do the settings.
+pub same_environment : {Key : Type 0} {k l : Kept Key} → k ≡ l → k.environment ≡ l.environment
+same_environment e = ap (λ k. k.environment) e
+
+pub same_settings : {Key : Type 0} {k l : Kept Key} → k ≡ l → k.settings ≡ l.settings
+same_settings e = ap (λ k. k.settings) e
+
 module _ {Key Id Name : Type 0} where
   -- Items declare what they declared.
   pub same_items : {n : ℕ} {r q : State Key Id Name} → Passes n r q → items_in q ≡ items_in r
@@ -33,9 +40,9 @@ module _ {Key Id Name : Type 0} where
 
   -- What is related by what is recorded and registered stays so.
   pub relates_still : {n : ℕ} {r q : State Key Id Name} (v : Variance) (a b : Tree) → Passes n r q →
-      Relates (items_in r) r.store r.goals r.environment v a b → Relates (items_in q) q.store q.goals q.environment v a b
+      Relates (items_in r) r.store r.goals r.kept.environment v a b → Relates (items_in q) q.store q.goals q.kept.environment v a b
   relates_still {r = r} {q = q} v a b g h = λ w s sat all.
-      subst₂ (λ c e. Rel c w e (at v) (apply s a) (apply s b)) (sym (same_items g)) (sym g.environment)
+      subst₂ (λ c e. Rel c w e (at v) (apply s a) (apply s b)) (sym (same_items g)) (sym (same_environment g.kept))
       (h w s ((g.goes).later.shrinks w s sat) (All_front (Holds (items_in r) w s) r.goals g.added
       (subst (λ gs. All (Holds (items_in r) w s) gs) g.lengthens
       (subst (λ c. All (Holds c w s) q.goals) (same_items g) all))))
@@ -96,13 +103,13 @@ pub record AreAnswers {Key Id Name : Type 0} (M : Manners) (q : State Key Id Nam
   pub sure : IsTrue (known us)
   pub counted : count us ≡ i
   pub related : (j : ℕ) → j < i →
-      Relates (items_in q) q.store q.goals q.environment (part_at (items_in q) h j v) (nth j ts) (nth j us)
+      Relates (items_in q) q.store q.goals q.kept.environment (part_at (items_in q) h j v) (nth j ts) (nth j us)
 
 -- What may be answered for all parts of a form.
 pub record AnswersParts {Key Id Name : Type 0} (M : Manners) (q : State Key Id Name) (h : Head) (v : Variance)
     (ts us : Tree) : Type 0 where
   pub related : (w : Interpretation) (s : Assign) → Satisfies w q.store s → All (Holds (items_in q) w s) q.goals →
-      Rel (items_in q) w q.environment (parts h 0 v) (apply s ts) (apply s us)
+      Rel (items_in q) w q.kept.environment (parts h 0 v) (apply s ts) (apply s us)
 
 module _ {Key Id Name : Type 0} (M : Manners) where
   pub answers_none : (q : State Key Id Name) (h : Head) (v : Variance) (ts : Tree) → AreAnswers M q h v 0 ts nil
@@ -124,29 +131,29 @@ module _ {Key Id Name : Type 0} (M : Manners) where
   }
     where
       place : (j : ℕ) → (j < i) ⊎ (j ≡ i) →
-          Relates (items_in p) p.store p.goals p.environment (part_at (items_in p) h j v) (nth j ts) (nth j (snoc us u))
+          Relates (items_in p) p.store p.goals p.kept.environment (part_at (items_in p) h j v) (nth j ts) (nth j (snoc us u))
       place j (inl z) =
-          subst (λ t. Relates (items_in p) p.store p.goals p.environment (part_at (items_in p) h j v) (nth j ts) t)
+          subst (λ t. Relates (items_in p) p.store p.goals p.kept.environment (part_at (items_in p) h j v) (nth j ts) t)
           (sym (snoc_before us u j a.is_list (omega (arith, z, a.counted))))
-          (subst (λ c. Relates (items_in p) p.store p.goals p.environment (part_at c h j v) (nth j ts) (nth j us))
+          (subst (λ c. Relates (items_in p) p.store p.goals p.kept.environment (part_at c h j v) (nth j ts) (nth j us))
           (sym (same_items g)) (relates_still (part_at (items_in q) h j v) (nth j ts) (nth j us) g (a.related j z)))
       place j (inr z) =
-          subst (λ o. Relates (items_in p) p.store p.goals p.environment (part_at (items_in p) h o v) (nth o ts)
+          subst (λ o. Relates (items_in p) p.store p.goals p.kept.environment (part_at (items_in p) h o v) (nth o ts)
           (nth o (snoc us u))) (sym z)
-          (subst₂ (λ t y. Relates (items_in p) p.store p.goals p.environment (part_at (items_in p) h i v) t y) e
+          (subst₂ (λ t y. Relates (items_in p) p.store p.goals p.kept.environment (part_at (items_in p) h i v) t y) e
           (sym (subst (λ o. nth o (snoc us u) ≡ u) a.counted (snoc_last us u a.is_list)))
-          (subst (λ c. Relates (items_in p) p.store p.goals p.environment (part_at c h i v) x u) (sym (same_items g))
+          (subst (λ c. Relates (items_in p) p.store p.goals p.kept.environment (part_at c h i v) x u) (sym (same_items g))
           m.related))
 
   pub answers_end : (q : State Key Id Name) (h : Head) (v : Variance) (i : ℕ) (ts us : Tree) → IsList ts →
       i ≡ count ts → AreAnswers M q h v i ts us → AnswersParts M q h v ts us
   answers_end q h v i ts us l e a = record {
-    related = λ w s sat all. places (items_in q) w q.environment h v 0 (apply s ts) (apply s us) (apply-list s ts l)
+    related = λ w s sat all. places (items_in q) w q.kept.environment h v 0 (apply s ts) (apply s us) (apply-list s ts l)
         (apply-list s us a.is_list)
         (apply-count s ts l ∙ sym e ∙ sym a.counted ∙ sym (apply-count s us a.is_list))
-        (λ j z. subst₂ (Rel (items_in q) w q.environment (at (part_at (items_in q) h (0 + j) v)))
+        (λ j z. subst₂ (Rel (items_in q) w q.kept.environment (at (part_at (items_in q) h (0 + j) v)))
         (apply-nth s j ts l) (apply-nth s j us a.is_list)
-        (subst (λ o. Rel (items_in q) w q.environment (at (part_at (items_in q) h o v)) (apply s (nth j ts))
+        (subst (λ o. Rel (items_in q) w q.kept.environment (at (part_at (items_in q) h o v)) (apply s (nth j ts))
         (apply s (nth j us))) (omega arith)
         (a.related j (subst (λ o. j < o) (apply-count s ts l ∙ sym e) z) w s sat all)));
   }
@@ -173,9 +180,9 @@ module _ {Key Id Name : Type 0} (M : Manners) where
   }
     where
       branch : (w : Interpretation) (s : Assign) → Satisfies w q.store s → All (Holds (items_in q) w s) q.goals →
-          Rel (items_in q) w q.environment (at (part_at (items_in q) value 1 v)) (node value_branch (apply s vs))
+          Rel (items_in q) w q.kept.environment (at (part_at (items_in q) value 1 v)) (node value_branch (apply s vs))
           (node value_branch (apply s us))
-      branch w s sat all = subst (λ z. Rel (items_in q) w q.environment (at z) (node value_branch (apply s vs))
+      branch w s sat all = subst (λ z. Rel (items_in q) w q.kept.environment (at z) (node value_branch (apply s vs))
           (node value_branch (apply s us))) (sym (covariantly v)) (forms tt refl (a.related w s sat all))
 
   pub may_const_over : (q : State Key Id Name) (v : Variance) (c us : Tree) →

@@ -36,7 +36,7 @@ use Rattle.relation_contexts.proofs.Composing.{steps_compose, first_goals}
 use Rattle.relation_contexts.proofs.Growing.{All_front}
 use Rattle.relation_contexts.proofs.Standing.{later_term}
 use Rattle.relation_contexts.proofs.Agreeing.{agree_anything}
-use Rattle.relation_contexts.proofs.Answering.{same_items, may_itself, may_later, if_ok_both}
+use Rattle.relation_contexts.proofs.Answering.{same_environment, same_settings, same_items, may_itself, may_later, if_ok_both}
 use Rattle.relation_contexts.specs.OneUniverse.{KeepsUniverse, KeepsUniverseOf, LeadsInUniverse, BindsNoMore}
 use Rattle.relation_contexts.proofs.OneUniverse.{keeps_itself, keeps_binds, kept_then, binds_as_many, leads_itself, led_keeps, led_binds, led_fewer}
 
@@ -77,10 +77,9 @@ module _ {Key Id Name : Type 0} where
     added = [];
     lengthens = sym (append-nil r.goals);
     goals_in = All-nil (RegisteredIn r r.store);
-    environment = refl;
+    kept = refl;
     ambient = refl;
-    settings = refl;
-    reference = refl;
+    remembered = refl;
     lawful = λ l. l;
   }
 
@@ -91,10 +90,9 @@ module _ {Key Id Name : Type 0} where
     added = g.added;
     lengthens = g.lengthens;
     goals_in = g.goals_in;
-    environment = g.environment;
+    kept = g.kept;
     ambient = g.ambient;
-    settings = g.settings;
-    reference = g.reference;
+    remembered = g.remembered;
     lawful = g.lawful;
   }
 
@@ -105,23 +103,22 @@ module _ {Key Id Name : Type 0} where
     goes = goes_then g.goes f.goes h;
     added = g.added ++ f.added;
     lengthens = f.lengthens ∙ ap (λ gs. gs ++ f.added) g.lengthens ∙ append_assoc r.goals g.added f.added;
-    goals_in = registered_both r q p.store g.added f.added (same_items g) g.environment g.settings
-        g.ambient (g.goes).later (f.goes).later g.goals_in f.goals_in;
-    environment = f.environment ∙ g.environment;
+    goals_in = registered_both r q p.store g.added f.added (same_items g) (same_environment g.kept)
+        (same_settings g.kept) g.ambient (g.goes).later (f.goes).later g.goals_in f.goals_in;
+    kept = f.kept ∙ g.kept;
     ambient = f.ambient ∙ g.ambient;
-    settings = f.settings ∙ g.settings;
-    reference = f.reference ∙ g.reference;
+    remembered = f.remembered ∙ g.remembered;
     lawful = λ l. f.lawful (g.lawful l);
   }
 
   -- What a relation takes and promises stays, as its settings do.
   pub same_manner : {n : ℕ} {r q : State Key Id Name} (M : Manners) (P : Manner → Type 0) → Passes n r q →
-      P (M q.settings) → P (M r.settings)
-  same_manner M P g h = subst (λ k. P (M k)) g.settings h
+      P (M q.kept.settings) → P (M r.kept.settings)
+  same_manner M P g h = subst (λ k. P (M k)) (same_settings g.kept) h
 
   pub manner_then : {n : ℕ} {r q : State Key Id Name} (M : Manners) (P : Manner → Type 0) → Passes n r q →
-      P (M r.settings) → P (M q.settings)
-  manner_then M P g h = subst (λ k. P (M k)) (sym g.settings) h
+      P (M r.kept.settings) → P (M q.kept.settings)
+  manner_then M P g h = subst (λ k. P (M k)) (sym (same_settings g.kept)) h
 
   pub asked_later : {n : ℕ} {r q : State Key Id Name} (M : Manners) (v : Variance) (a b : Tree) → Passes n r q →
       Asked M r v a b → Asked M q v a b
@@ -137,18 +134,18 @@ module _ {Key Id Name : Type 0} where
 
   -- An outcome after other work, seen from before it.
   pub outcome_seen : {n : ℕ} {r q : State Key Id Name} (g : Passes n r q) (way : Way) (after : Store) (added : List Goal)
-      (a b : Tree) → Outcome (items_in q) q.environment way q.store after q.goals added a b →
-      Outcome (items_in r) r.environment way q.store after (r.goals ++ g.added) added a b
+      (a b : Tree) → Outcome (items_in q) q.kept.environment way q.store after q.goals added a b →
+      Outcome (items_in r) r.kept.environment way q.store after (r.goals ++ g.added) added a b
   outcome_seen {q = q} g way after added a b f =
-      moved way q.store after added a b (same_items g) g.environment g.lengthens f
+      moved way q.store after added a b (same_items g) (same_environment g.kept) g.lengthens f
 
   -- What comes of the pair that a step left comes of the pair that it was asked about.
   pub led_outcome : {n m : ℕ} {r q p : State Key Id Name} (g : Passes n r q) (f : Passes m q p) (a b x y : Tree)
       (v : Variance) → Leads r q g.added a b v x y →
-      Outcome (items_in q) q.environment (at v) q.store p.store q.goals f.added x y →
-      Outcome (items_in r) r.environment (at r.ambient) r.store p.store r.goals (g.added ++ f.added) a b
+      Outcome (items_in q) q.kept.environment (at v) q.store p.store q.goals f.added x y →
+      Outcome (items_in r) r.kept.environment (at r.ambient) r.store p.store r.goals (g.added ++ f.added) a b
   led_outcome {r = r} {q = q} {p = p} g f a b x y v l o =
-      (steps_compose (items_in r) r.environment (at r.ambient) (at v) r.store q.store p.store r.goals g.added f.added
+      (steps_compose (items_in r) r.kept.environment (at r.ambient) (at v) r.store q.store p.store r.goals g.added f.added
       a b x y l.steps).0 (outcome_seen g (at v) p.store f.added x y o)
 
   -- So the pair that it was asked about agrees if the one that is left does.
@@ -161,7 +158,7 @@ module _ {Key Id Name : Type 0} where
       (a b x y : Tree) (v : Variance) → Leads r q g.added a b v x y → (e : RelateFault Key Id Name) →
       Refuses q p v x y e → Refuses r p r.ambient a b e
   led_refuses {r = r} {q = q} {p = p} g f sound a b x y v l (Unrelated e) h = (
-    (steps_compose (items_in r) r.environment (at r.ambient) (at v) r.store q.store p.store r.goals g.added f.added
+    (steps_compose (items_in r) r.kept.environment (at r.ambient) (at v) r.store q.store p.store r.goals g.added f.added
         a b x y l.steps).1 h.0,
     l.errors p.meaning (items_in p) p.store e (f.goes).later sound h.1,
     h.2,
@@ -171,7 +168,7 @@ module _ {Key Id Name : Type 0} where
 
   -- A step led exactly to another pair, and what comes of that.
   abbrev pub LeadsExactly : Manners → State Key Id Name → State Key Id Name → Tree → Tree → Tree → Tree → Type 0
-  LeadsExactly M r q a b x y = (M r.settings).is_exact → r.ambient ≡ Invariant → IsFirstOrderPair r.store a b →
+  LeadsExactly M r q a b x y = (M r.kept.settings).is_exact → r.ambient ≡ Invariant → IsFirstOrderPair r.store a b →
       IsFirstOrderPair q.store x y × ExactStep r.store q.store a b x y × LeadsInUniverse r.store q.store a b x y
 
   exact_led : {X : Type 0} (M : Manner) (before middle after : Store) (a b x y : Tree) (v w : Variance) →
@@ -214,21 +211,21 @@ module _ {Key Id Name : Type 0} where
 
   -- What is related is so under the goals that are registered then.
   pub relates_by : {n : ℕ} {r q : State Key Id Name} (v : Variance) (a b : Tree) (g : Passes n r q) →
-      Outcome (items_in r) r.environment (at v) r.store q.store r.goals g.added a b →
-      Relates (items_in q) q.store q.goals q.environment v a b
+      Outcome (items_in r) r.kept.environment (at v) r.store q.store r.goals g.added a b →
+      Relates (items_in q) q.store q.goals q.kept.environment v a b
   relates_by {r = r} {q = q} v a b g o = λ w s sat all.
-      subst₂ (λ c e. Rel c w e (at v) (apply s a) (apply s b)) (sym (same_items g)) (sym g.environment)
+      subst₂ (λ c e. Rel c w e (at v) (apply s a) (apply s b)) (sym (same_items g)) (sym (same_environment g.kept))
       (o.relates w s sat
       (subst (λ gs. All (Holds (items_in r) w s) gs) g.lengthens
       (subst (λ c. All (Holds c w s) q.goals) (same_items g) all)))
 
   -- What relates one pair by another does so still.
   carries_later : {n : ℕ} {q p : State Key Id Name} → Passes n q p → (way' : Way) (x y : Tree) (way : Way) (a b : Tree) →
-      CarriesOver (items_in q) q.environment q.store q.goals way' x y way a b →
-      CarriesOver (items_in p) p.environment p.store p.goals way' x y way a b
+      CarriesOver (items_in q) q.kept.environment q.store q.goals way' x y way a b →
+      CarriesOver (items_in p) p.kept.environment p.store p.goals way' x y way a b
   carries_later {q = q} {p = p} g way' x y way a b h = λ w s sat all.
       subst₂ (λ c e. Rel c w e way' (apply s x) (apply s y) → Rel c w e way (apply s a) (apply s b)) (sym (same_items g))
-      (sym g.environment) (h w s ((g.goes).later.shrinks w s sat) (All_front (Holds (items_in q) w s) q.goals g.added
+      (sym (same_environment g.kept)) (h w s ((g.goes).later.shrinks w s sat) (All_front (Holds (items_in q) w s) q.goals g.added
       (subst (λ gs. All (Holds (items_in q) w s) gs) g.lengthens
       (subst (λ c. All (Holds c w s) p.goals) (same_items g) all))))
 
@@ -242,7 +239,7 @@ module _ {Key Id Name : Type 0} where
   parts_related {X} {r} {q} {p} M F sound a b x y tree result g l exactly full f = record {
     passes = passes_then g f.passes small;
     verdict = verdict result f.verdict;
-    exact = exact_led (M r.settings) r.store q.store p.store a b x y r.ambient r.ambient (λ e. e) exactly result
+    exact = exact_led (M r.kept.settings) r.store q.store p.store a b x y r.ambient r.ambient (λ e. e) exactly result
         (same_manner M (λ z. ExactlyRelated z q.store p.store r.ambient x y result) g f.exact);
     full = full_led a b x y full l.no_binder f.full;
   }
@@ -292,7 +289,7 @@ module _ {Key Id Name : Type 0} where
         agrees = λ k. led_agrees g a b x y (xform r.ambient v) led.leads
             ((f.verdict).agrees (manner_then M (λ z. z.relates_agreeing) g k));
       };
-      exact = exact_led {X = Y} (M r.settings) r.store q.store p.store a b x y r.ambient (xform r.ambient v)
+      exact = exact_led {X = Y} (M r.kept.settings) r.store q.store p.store a b x y r.ambient (xform r.ambient v)
           (invariantly v) exactly (Ok z)
           (same_manner M (λ m. ExactlyRelated {Key = Key} {Id = Id} {Name = Name} m q.store p.store (xform r.ambient v) x y
           (Ok t)) g f.exact);
@@ -305,7 +302,7 @@ module _ {Key Id Name : Type 0} where
     again_refused {X = X} {Y = Y} {p = p} sound tree answer e f = record {
       passes = passes_then g f.passes small;
       verdict = led_refuses g f.passes sound a b x y (xform r.ambient v) led.leads e f.verdict;
-      exact = exact_led {X = Y} (M r.settings) r.store q.store p.store a b x y r.ambient (xform r.ambient v)
+      exact = exact_led {X = Y} (M r.kept.settings) r.store q.store p.store a b x y r.ambient (xform r.ambient v)
           (invariantly v) exactly (Err e) (λ k is pair. exact_fault X Y q.store p.store x y e
           (f.exact (manner_then M (λ z. z.is_exact) g k) is pair));
       full = λ ha hb. full_could led.may_instantiate;
@@ -332,12 +329,12 @@ module _ {Key Id Name : Type 0} where
         still asks_nothing h = tt
         still q h = absurd h
 
-    outcome : Outcome (items_in r) r.environment (at v) r.store p.store r.goals ((f.passes).added ++ (h.passes).added) a b
+    outcome : Outcome (items_in r) r.kept.environment (at v) r.store p.store r.goals ((f.passes).added ++ (h.passes).added) a b
     outcome = record {
       later = later_through ((f.passes).goes).later ((h.passes).goes).later;
       goals_in = registered_in ((f.passes).added ++ (h.passes).added) (registered_both r q p.store
-          (f.passes).added (h.passes).added (same_items f.passes) (f.passes).environment (f.passes).settings
-          (f.passes).ambient ((f.passes).goes).later ((h.passes).goes).later (f.passes).goals_in (h.passes).goals_in);
+          (f.passes).added (h.passes).added (same_items f.passes) (same_environment (f.passes).kept)
+          (same_settings (f.passes).kept) (f.passes).ambient ((f.passes).goes).later ((h.passes).goes).later (f.passes).goals_in (h.passes).goals_in);
       relates = λ w s sat all. ((f.verdict).outcome).relates w s (((h.passes).goes).later.shrinks w s sat)
           (first_goals (Holds (items_in r) w s) r.goals (f.passes).added (h.passes).added all);
       keeps = λ w s sat one. let z = ((f.verdict).outcome).keeps w s sat one in (
@@ -394,12 +391,11 @@ module _ {Key Id Name : Type 0} where
       goes = subst₂ (λ s z. Goes (weight s a + weight s b) s z) there.store (sym back.store) f.goes;
       added = f.added;
       lengthens = back.goals ∙ f.lengthens ∙ ap (λ gs. gs ++ f.added) there.goals;
-      goals_in = registered_as t r q.store u.store f.added (ap items_of there.meaning) there.environment there.settings
-          (λ o. seen (subst IsDirected there.ambient o)) there.store (sym back.store) f.goals_in;
-      environment = back.environment ∙ f.environment ∙ there.environment;
+      goals_in = registered_as t r q.store u.store f.added (ap items_of there.meaning)
+          (same_environment there.kept) (same_settings there.kept) (λ o. seen (subst IsDirected there.ambient o)) there.store (sym back.store) f.goals_in;
+      kept = back.kept ∙ f.kept ∙ there.kept;
       ambient = back.ambient;
-      settings = back.settings ∙ f.settings ∙ there.settings;
-      reference = back.reference ∙ f.reference ∙ there.reference;
+      remembered = back.remembered ∙ f.remembered ∙ there.remembered;
       lawful = λ l. back.lawful (f.lawful (there.lawful l));
     }
 
@@ -414,18 +410,18 @@ module _ {Key Id Name : Type 0} where
 
     turned_answers : (added : List Goal) (z : Tree) → Answers M t q added v a b z → Answers M r u added v a b z
     turned_answers added z h = record {
-      outcome = subst₂ (λ s k. Outcome (items_in r) r.environment (at v) s k r.goals added a b) there.store (sym back.store)
-          (moved (at v) t.store q.store added a b (ap items_of there.meaning) there.environment
+      outcome = subst₂ (λ s k. Outcome (items_in r) r.kept.environment (at v) s k r.goals added a b) there.store (sym back.store)
+          (moved (at v) t.store q.store added a b (ap items_of there.meaning) (same_environment there.kept)
           there.goals h.outcome);
       answer = record {
         related = λ w s sat all.
             subst₂ (λ c e. Rel c w e (at v) (apply s a) (apply s z)) (ap items_of (sym back.meaning))
-            (sym back.environment) ((h.answer).related w s (subst (λ k. Satisfies w k s) back.store sat)
+            (sym (same_environment back.kept)) ((h.answer).related w s (subst (λ k. Satisfies w k s) back.store sat)
             (subst₂ (λ m gs. All (Holds (items_of m) w s) gs) back.meaning back.goals all));
       };
       known = h.known;
       agrees = λ k. subst (λ m. Agree (items_of m) (at v) a b) there.meaning
-          (h.agrees (subst (λ j. (M j).relates_agreeing) (sym there.settings) k));
+          (h.agrees (subst (λ j. (M j).relates_agreeing) (sym (same_settings there.kept)) k));
     }
 
     pub turned : (result : Result X (RelateFault Key Id Name)) → Related M t q v a b tree result →
@@ -434,8 +430,8 @@ module _ {Key Id Name : Type 0} where
     turned result f = record {
       passes = turned_passes f.passes;
       verdict = verdict result f.verdict;
-      exact = subst₂ (λ s z. ExactlyRelated (M r.settings) s z v a b result) there.store (sym back.store)
-          (subst (λ k. ExactlyRelated (M k) t.store q.store v a b result) there.settings f.exact);
+      exact = subst₂ (λ s z. ExactlyRelated (M r.kept.settings) s z v a b result) there.store (sym back.store)
+          (subst (λ k. ExactlyRelated (M k) t.store q.store v a b result) (same_settings there.kept) f.exact);
       full = subst₂ (λ s z. StaysFullFor s z a b) there.store (sym back.store) f.full;
     }
       where
@@ -484,10 +480,9 @@ module _ {Key Id Name : Type 0} where
     added = g.added;
     lengthens = w.goals ∙ g.lengthens;
     goals_in = subst (λ s. All (RegisteredIn r s) g.added) (sym w.store) g.goals_in;
-    environment = w.environment ∙ g.environment;
+    kept = w.kept ∙ g.kept;
     ambient = w.ambient ∙ g.ambient;
-    settings = w.settings ∙ g.settings;
-    reference = w.reference ∙ g.reference;
+    remembered = w.remembered ∙ g.remembered;
     lawful = λ l. w.lawful (g.lawful l);
   }
 
@@ -496,7 +491,7 @@ module _ {Key Id Name : Type 0} where
       WithMeaning q p.meaning p → MayAnswer M q v t u → MayAnswer M p v t u
   may_with {q} {p} M v t u e w h = record {
     related = λ j s sat all.
-        subst₂ (λ c k. Rel c j k (at v) (apply s t) (apply s u)) (sym same) (sym w.environment)
+        subst₂ (λ c k. Rel c j k (at v) (apply s t) (apply s u)) (sym same) (sym (same_environment w.kept))
         (h.related j s (subst (λ k. Satisfies j k s) w.store sat)
         (subst₂ (λ c gs. All (Holds c j s) gs) same w.goals all));
   }
@@ -513,7 +508,7 @@ module _ {Key Id Name : Type 0} where
     remade tree t f z value sure = record {
       passes = passes_grown f.passes e w;
       verdict = record {
-        outcome = subst (λ s. Outcome (items_in r) r.environment (at v) r.store s r.goals (f.passes).added a b) (sym w.store)
+        outcome = subst (λ s. Outcome (items_in r) r.kept.environment (at v) r.store s r.goals (f.passes).added a b) (sym w.store)
             (f.verdict).outcome;
         answer = may_with M v a (answer z) e w value;
         known = sure;
@@ -550,7 +545,7 @@ module _ {Key Id Name : Type 0} where
 
   -- Memory ran out.
   pub stopped : {X : Type 0} {r q : State Key Id Name} (M : Manners) (v : Variance) (a b : Tree) (tree : X → Tree) →
-      Passes (weight r.store a + weight r.store b) r q → ((M r.settings).is_exact → v ≡ Invariant →
+      Passes (weight r.store a + weight r.store b) r q → ((M r.kept.settings).is_exact → v ≡ Invariant →
       IsFirstOrderPair r.store a b → BindsNoMore r.store q.store a b) → StaysFullFor r.store q.store a b →
       Related {X = X} M r q v a b tree (Err Memory)
   stopped M v a b tree g f h = record { passes = g; verdict = tt; exact = f; full = h }
@@ -583,14 +578,14 @@ module _ {Key Id Name : Type 0} where
       }
 
   pub relates_now : {X : Type 0} {r q : State Key Id Name} (M : Manners) (v : Variance) (a b : Tree) (tree : X → Tree)
-      (t : X) → Related M r q v a b tree (Ok t) → Relates (items_in q) q.store q.goals q.environment v a b
+      (t : X) → Related M r q v a b tree (Ok t) → Relates (items_in q) q.store q.goals q.kept.environment v a b
   relates_now M v a b tree t f = relates_by v a b f.passes (f.verdict).outcome
 
   -- So are the terms as a step read them, when the pair that it left is related.
   pub again_relates : {X : Type 0} {r q p : State Key Id Name} (M : Manners) (a b k l x y u : Tree) (v : Variance)
       (g : Passes (weight r.store a + weight r.store b) r q) (led : LeadsAgain M r q g.added a b k l v x y u)
       (exactly : LeadsExactly M r q a b x y) (tree : X → Tree) (t : X) → Related M q p (xform r.ambient v) x y tree (Ok t) →
-      Relates (items_in p) p.store p.goals p.environment r.ambient k l
+      Relates (items_in p) p.store p.goals p.kept.environment r.ambient k l
   unfolding passes_then
   again_relates {r = r} {q = q} M a b k l x y u v g led exactly tree t f =
       relates_by r.ambient k l (passes_then g f.passes (small M a b k l x y u v g led exactly))

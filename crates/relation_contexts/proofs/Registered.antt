@@ -63,38 +63,38 @@ asks_since l (of_type t o e i b) = of_type t o e i b
 
 module _ {Key Id Name : Type 0} where
   pub registered_both : (r q : State Key Id Name) (after : Store) (first others : List Goal) → items_in q ≡ items_in r →
-      q.environment ≡ r.environment → q.settings ≡ r.settings → q.ambient ≡ r.ambient → IsLater r.store q.store →
+      q.kept.environment ≡ r.kept.environment → q.kept.settings ≡ r.kept.settings → q.ambient ≡ r.ambient → IsLater r.store q.store →
       IsLater q.store after → All (RegisteredIn r q.store) first → All (RegisteredIn q after) others →
       All (RegisteredIn r after) (first ++ others)
   registered_both r q after first others items same k v l t f g =
       All-append (RegisteredIn r after) first others
       (All-weaker (RegisteredIn r q.store) (RegisteredIn r after)
       (λ x y. record { environment = y.environment; asks = still_asks t y.asks }) first f)
-      (All-weaker (Registered (items_in r) (r.settings).declared_at_invariance r.ambient q.environment q.store after)
+      (All-weaker (Registered (items_in r) r.kept.settings.declared_at_invariance r.ambient q.kept.environment q.store after)
       (RegisteredIn r after)
       (λ x y. record { environment = y.environment ∙ same; asks = asks_since l y.asks }) others
-      (subst (λ z. All (Registered z (r.settings).declared_at_invariance r.ambient q.environment q.store after) others) items
-      (subst₂ (λ z w. All (Registered (items_in q) z.declared_at_invariance w q.environment q.store after) others) k v g)))
+      (subst (λ z. All (Registered z r.kept.settings.declared_at_invariance r.ambient q.kept.environment q.store after) others) items
+      (subst₂ (λ z w. All (Registered (items_in q) z.declared_at_invariance w q.kept.environment q.store after) others) k v g)))
 
   -- The same in other states that are alike.
   pub registered_as : (r q : State Key Id Name) (after now : Store) (gs : List Goal) → items_in r ≡ items_in q →
-      r.environment ≡ q.environment → r.settings ≡ q.settings → (IsDirected r.ambient → IsDirected q.ambient) →
+      r.kept.environment ≡ q.kept.environment → r.kept.settings ≡ q.kept.settings → (IsDirected r.ambient → IsDirected q.ambient) →
       r.store ≡ q.store → after ≡ now → All (RegisteredIn r after) gs → All (RegisteredIn q now) gs
   registered_as r q after now gs i p k v s t h =
-      All-weaker (Registered (items_in q) (q.settings).declared_at_invariance r.ambient q.environment q.store now)
+      All-weaker (Registered (items_in q) q.kept.settings.declared_at_invariance r.ambient q.kept.environment q.store now)
       (RegisteredIn q now) (λ x y. record { environment = y.environment; asks = seen_from y.asks }) gs
-      (subst (λ z. All (Registered z (q.settings).declared_at_invariance r.ambient q.environment q.store now) gs) i
+      (subst (λ z. All (Registered z q.kept.settings.declared_at_invariance r.ambient q.kept.environment q.store now) gs) i
       (subst₂ (λ z y. All (Registered (items_in r) z.declared_at_invariance r.ambient y q.store now) gs) k p
-      (subst₂ (λ s t. All (Registered (items_in r) (r.settings).declared_at_invariance r.ambient r.environment s t) gs) s t
+      (subst₂ (λ s t. All (Registered (items_in r) r.kept.settings.declared_at_invariance r.ambient r.kept.environment s t) gs) s t
       h)))
     where
-      by_declared : ByDeclared (q.settings).declared_at_invariance r.ambient →
-          ByDeclared (q.settings).declared_at_invariance q.ambient
+      by_declared : ByDeclared q.kept.settings.declared_at_invariance r.ambient →
+          ByDeclared q.kept.settings.declared_at_invariance q.ambient
       by_declared (inl o) = inl (v o)
       by_declared (inr o) = inr o
 
-      seen_from : {x : Tree} → IsRegistered (items_in q) (q.settings).declared_at_invariance r.ambient q.store now x →
-          IsRegistered (items_in q) (q.settings).declared_at_invariance q.ambient q.store now x
+      seen_from : {x : Tree} → IsRegistered (items_in q) q.kept.settings.declared_at_invariance r.ambient q.store now x →
+          IsRegistered (items_in q) q.kept.settings.declared_at_invariance q.ambient q.store now x
       seen_from (of_variables x n m o e f g) = of_variables x n m (v o) e f g
       seen_from (of_type t o e i b) = of_type t (by_declared o) e i b
 

@@ -95,22 +95,32 @@ module _ {Key Id Name : Type 0} (c d : Context Key Id Name) where
     pub outliving : KeepsOutliving
     pub marks : KeepsMarks
 
-  -- The same, but that each type variable that was made is marked as related to one that there was.
+  -- All that but the marks of related variables stands.
+  pub record KeepsBeside : Type 0 where
+    pub solver : KeepsSolver
+    pub outliving : KeepsOutliving
+
+  -- All of it stands, but that each type variable that was made is marked as related to one that there was.
   pub record MarksNew : Type 0 where
     pub solver : KeepsSolver
     pub outliving : KeepsOutliving
     pub marks : (n : ℕ) → IsMade c.store type_var n → d.sub_root n ≡ c.sub_root n
     pub related : (n : ℕ) → IsMade d.store type_var n → IsMade c.store type_var (d.sub_root n)
 
-  -- What keys mean stands, and the invariant holds.
+  -- What keys mean stands, whether the next solver is on does, and so do the types that are to outlive regions; and the
+  -- invariant holds.
   pub record Stands : Type 0 where
     pub meaning : d.meaning ≡ c.meaning
     pub lawful : d.lawful
+    pub solver : KeepsSolver
+    pub outliving : KeepsOutliving
 
-  -- Keys may have been added, and the invariant holds.
+  -- The same, but keys may have been added.
   pub record Grows : Type 0 where
     pub extends : Extends c.meaning d.meaning
     pub lawful : d.lawful
+    pub solver : KeepsSolver
+    pub outliving : KeepsOutliving
 
   -- What a term comes to at every depth was answered; or a growth was refused.
   abbrev pub ComesTo : {K F : Type 0} → (Meaning Key Id Name → K → Tree) → K → Result K F → Type 0

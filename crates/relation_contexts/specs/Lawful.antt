@@ -3,6 +3,8 @@ use Rattle.std.specs.Prelude.{◌≡◌, ℕ, suc, ◌+◌, ◌≤◌, Bool, Lis
 use Rattle.std.specs.Prelude.{Option, Some, None}
 use Rattle.term_enums.specs.declared.Variance.{Variance}
 use Rattle.term_enums.specs.declared.Variance.TheVariants.{Invariant}
+use Rattle.relation_terms.specs.declared.predicate.regions.OutlivesPredicate.{OutlivesPredicate}
+use Rattle.relation_terms.specs.declared.terms.keys.TyKey.{TyKey}
 use Rattle.relation_terms.specs.Heads.{Head, Leaf}
 use Rattle.relation_terms.specs.Trees.{Tree, Leaves, known}
 use Rattle.relation_terms.specs.Meaning.{Meaning, Extends as ExtendsMeaning}
@@ -52,17 +54,29 @@ pub record Settings : Type 0 where
   pub next_solver : Bool
   pub declared_at_invariance : Bool
 
--- A relation as it stands: what the keys of its interner mean; what it has recorded; the goals that it has registered,
--- and the environment in which they are to hold; the variance at which it relates; how it was set up; the reference
--- that it holds, by its name, where it holds one; and its own invariant.
+-- What no step of a relation changes: the environment in which its goals are to hold; how it was set up; the reference
+-- that it holds, by its name, where it holds one; and the types that are to outlive regions.
+pub record Kept (Key : Type 0) : Type 0 where
+  pub environment : Tree
+  pub settings : Settings
+  pub reference : ℕ
+  pub outliving : List (OutlivesPredicate Key (TyKey Key))
+
+-- A pair that a relation remembers: two terms that it has related, and the variance at which it did.
+pub record Pair : Type 0 where
+  pub variance : Variance
+  pub left : Tree
+  pub right : Tree
+
+-- A relation as it stands: what the keys of its interner mean; what it has recorded; the goals that it has registered;
+-- what no step changes; the variance at which it relates; the pairs that it remembers; and its own invariant.
 pub record State (Key Id Name : Type 0) : Type 1 where
   pub meaning : Meaning Key Id Name
   pub store : Store
   pub goals : List Goal
-  pub environment : Tree
+  pub kept : Kept Key
   pub ambient : Variance
-  pub settings : Settings
-  pub reference : ℕ
+  pub remembered : List Pair
   pub lawful : Type 0
 
 -- The declared variances of a relation's items.
@@ -106,10 +120,9 @@ module _ {Key Id Name : Type 0} where
     pub meaning : q.meaning ≡ r.meaning
     pub store : q.store ≡ r.store
     pub goals : q.goals ≡ r.goals
-    pub environment : q.environment ≡ r.environment
+    pub kept : q.kept ≡ r.kept
     pub ambient : q.ambient ≡ v
-    pub settings : q.settings ≡ r.settings
-    pub reference : q.reference ≡ r.reference
+    pub remembered : q.remembered ≡ r.remembered
     pub lawful : r.lawful → q.lawful
 
   -- Only the interner's keys were added to.
@@ -117,33 +130,32 @@ module _ {Key Id Name : Type 0} where
     pub meaning : q.meaning ≡ m
     pub store : q.store ≡ r.store
     pub goals : q.goals ≡ r.goals
-    pub environment : q.environment ≡ r.environment
+    pub kept : q.kept ≡ r.kept
     pub ambient : q.ambient ≡ r.ambient
-    pub settings : q.settings ≡ r.settings
-    pub reference : q.reference ≡ r.reference
+    pub remembered : q.remembered ≡ r.remembered
     pub lawful : r.lawful → q.lawful
 
   -- A goal that a relation registers, between where it stands and a later store.
   abbrev pub RegisteredIn : State Key Id Name → Store → Goal → Type 0
-  RegisteredIn r now = Registered (items_in r) (r.settings).declared_at_invariance r.ambient r.environment r.store now
+  RegisteredIn r now = Registered (items_in r) r.kept.settings.declared_at_invariance r.ambient
+      r.kept.environment r.store now
 
   -- Where it stands, a relation relates items' arguments at the variances that the items declare.
   abbrev pub RelatesByDeclared : State Key Id Name → Type 0
-  RelatesByDeclared r = ByDeclared (r.settings).declared_at_invariance r.ambient
+  RelatesByDeclared r = ByDeclared r.kept.settings.declared_at_invariance r.ambient
 
   -- From one state to another with a pair of size `n` related, or a part of the work for it done: keys mean what they
-  -- meant, all that was recorded and registered stands, goals are registered in the relation's environment, and the
-  -- variance, the settings and the reference are as they were.
+  -- meant, all that was recorded and registered stands, goals are registered in the relation's environment, and what no
+  -- step changes, the variance and what is remembered are as they were.
   pub record Passes (n : ℕ) (r q : State Key Id Name) : Type 0 where
     pub extends : ExtendsMeaning r.meaning q.meaning
     pub goes : Goes n r.store q.store
     pub added : List Goal
     pub lengthens : q.goals ≡ r.goals ++ added
     pub goals_in : All (RegisteredIn r q.store) added
-    pub environment : q.environment ≡ r.environment
+    pub kept : q.kept ≡ r.kept
     pub ambient : q.ambient ≡ r.ambient
-    pub settings : q.settings ≡ r.settings
-    pub reference : q.reference ≡ r.reference
+    pub remembered : q.remembered ≡ r.remembered
     pub lawful : r.lawful → q.lawful
 
   -- Two known terms of the relation's context that it takes at a variance.
@@ -152,13 +164,13 @@ module _ {Key Id Name : Type 0} where
     pub right_known : IsTrue (known b)
     pub left_in : IsTermIn r.store a
     pub right_in : IsTermIn r.store b
-    pub left_taken : Takes (M r.settings) v a
-    pub right_taken : Takes (M r.settings) v b
+    pub left_taken : Takes (M r.kept.settings) v a
+    pub right_taken : Takes (M r.kept.settings) v b
 
   -- What may be answered for the left term of a pair at a variance: one that it is related with there, under each
   -- assignment that satisfies what is recorded and makes all registered goals true.
   pub record MayAnswer (M : Manners) (q : State Key Id Name) (v : Variance) (t u : Tree) : Type 0 where
-    pub related : Relates (items_in q) q.store q.goals q.environment v t u
+    pub related : Relates (items_in q) q.store q.goals q.kept.environment v t u
 
   -- The same of two things that are brought together. Only of terms the answer is looked at.
   abbrev pub MayAnswerBy : Manners → State Key Id Name → Way → Tree → Tree → Type 0
@@ -183,10 +195,10 @@ module _ {Key Id Name : Type 0} where
   -- that is promised, they agree.
   pub record AnswersBy (M : Manners) (r q : State Key Id Name) (added : List Goal) (way : Way)
       (a b t : Tree) : Type 0 where
-    pub outcome : Outcome (items_in r) r.environment way r.store q.store r.goals added a b
+    pub outcome : Outcome (items_in r) r.kept.environment way r.store q.store r.goals added a b
     pub answer : MayAnswerBy M q way a t
     pub known : IsTrue (known t)
-    pub agrees : (M r.settings).relates_agreeing → AgreeBy (items_in r) way a b
+    pub agrees : (M r.kept.settings).relates_agreeing → AgreeBy (items_in r) way a b
 
   -- The same of two terms at a variance.
   abbrev pub Answers : Manners → State Key Id Name → State Key Id Name → List Goal → Variance → Tree → Tree → Tree →
@@ -231,7 +243,7 @@ module _ {Key Id Name : Type 0} where
       (tree : X → Tree) (result : Result X (RelateFault Key Id Name)) : Type 0 where
     pub passes : Passes (weight r.store a + weight r.store b) r q
     pub verdict : VerdictBy M r q passes.added way a b tree result
-    pub exact : ExactlyBy (M r.settings) r.store q.store way a b result
+    pub exact : ExactlyBy (M r.kept.settings) r.store q.store way a b result
     pub full : StaysFullFor r.store q.store a b
 
   -- Two terms were related at a variance.
@@ -244,7 +256,7 @@ module _ {Key Id Name : Type 0} where
   -- does the first.
   pub record LeadsBy (r q : State Key Id Name) (added : List Goal) (way : Way) (a b : Tree) (way' : Way)
       (x y : Tree) : Type 0 where
-    pub steps : StepsTo (items_in r) r.environment r.store q.store r.goals added way a b way' x y
+    pub steps : StepsTo (items_in r) r.kept.environment r.store q.store r.goals added way a b way' x y
     pub errors : (m : Meaning Key Id Name) (c : Items) (st : Store) (e : TypeError Key Id Name) → IsLater q.store st →
         IsSound st → ErrorOf m c st (seen_at way') e x y → ErrorOf m c st (seen_at way) e a b
     pub agrees : (c : Items) → AgreeBy c way' x y → AgreeBy c way a b
@@ -261,7 +273,7 @@ module _ {Key Id Name : Type 0} where
     pub asked : Asked M q r.ambient x y
     pub left_form : IsForm x
     pub right_form : IsForm y
-    pub answers : (t : Tree) → CarriesOver (items_in q) q.environment q.store q.goals (at r.ambient) x t
+    pub answers : (t : Tree) → CarriesOver (items_in q) q.kept.environment q.store q.goals (at r.ambient) x t
         (at r.ambient) a t
     pub no_binder : BindsNoBinder r.store → HasNoBinder a → HasNoBinder b → HasNoBinder x × HasNoBinder y
     pub same_budget : (q.store).budget ≡ (r.store).budget
@@ -276,7 +288,7 @@ module _ {Key Id Name : Type 0} where
     pub read_leads : Leads r q added read_left read_right (xform r.ambient v) x y
     pub read_asked : Asked M q r.ambient read_left read_right
     pub asked : Asked M q (xform r.ambient v) x y
-    pub answers : CarriesOver (items_in q) q.environment q.store q.goals (at (xform r.ambient v)) x y
+    pub answers : CarriesOver (items_in q) q.kept.environment q.store q.goals (at (xform r.ambient v)) x y
         (at r.ambient) a answer
     pub answer_known : IsTrue (known answer)
     pub falls : (r.store).budget ≡ suc (q.store).budget
@@ -307,7 +319,7 @@ module _ {Key Id Name : Type 0} where
       (a b : Tree) (tree : K → Tree) (result : Result (Step K) (RelateFault Key Id Name)) : Type 0 where
     pub passes : Passes (weight r.store a + weight r.store b) r q
     pub verdict : StepVerdict M F r q passes.added a b tree result
-    pub exact : (M r.settings).is_exact → r.ambient ≡ Invariant → IsFirstOrderPair r.store a b →
+    pub exact : (M r.kept.settings).is_exact → r.ambient ≡ Invariant → IsFirstOrderPair r.store a b →
         ExactVerdict r q a b tree result
     pub full : StaysFullFor r.store q.store a b
 

@@ -17,7 +17,7 @@ ghost use Rattle.relation_contexts.specs.ContextCalls.{OnlyLearns, EntersNext, E
 ghost use Rattle.relation_contexts.specs.ContextCalls.{ConstrainsOutlives};
 ghost use Rattle.relation_contexts.specs.ContextCalls.{ConstrainsEqual, IsNotVariable, BindsTy, BindsConst};
 ghost use Rattle.relation_contexts.specs.ContextCalls.{HasUniverse, ComesTo, JoinsRoots, Registers, HasCoveredBindings};
-ghost use Rattle.relation_contexts.specs.ContextCalls.{KeepsRest, KeepsSolver, KeepsOutliving, KeepsMarks, MarksNew};
+ghost use Rattle.relation_contexts.specs.ContextCalls.{KeepsSolver, KeepsMarks, MarksNew};
 ghost use Rattle.relation_contexts.specs.Bound.{BindsByList};
 ghost use Rattle.relation_contexts.specs.Binders.{binder_tree, EntersBinderOf, InstantiatesBinderOf};
 
@@ -185,7 +185,7 @@ pub trait InferCtxtLike {
         ensures grows { Grows (state self.old) (state self.new) }
         ensures same_record { (state self.new).store ≡ (state self.old).store }
         ensures comes { ComesTo (state self.old) (state self.new) T.tree value.now result }
-        ensures rest { KeepsRest (state self.old) (state self.new) };
+        ensures marks { KeepsMarks (state self.old) (state self.new) };
 
     /// A new type variable in the current universe, which is marked as related to no other. After `OutOfMemory` no
     /// variable was made.
@@ -193,28 +193,28 @@ pub trait InferCtxtLike {
         requires lawful { (state self.old).lawful }
         ensures grows { Grows (state self.old) (state self.new) }
         ensures makes { MakesNext (state self.old) (state self.new) type_var (λ m. m.ty) result }
-        ensures rest { KeepsRest (state self.old) (state self.new) };
+        ensures marks { KeepsMarks (state self.old) (state self.new) };
 
     /// A new constant variable in the current universe. After `OutOfMemory` no variable was made.
     fn next_const_infer(&mut self) -> Result<Const<Self::Interner>, OutOfMemory>
         requires lawful { (state self.old).lawful }
         ensures grows { Grows (state self.old) (state self.new) }
         ensures makes { MakesNext (state self.old) (state self.new) const_var (λ m. m.const_) result }
-        ensures rest { KeepsRest (state self.old) (state self.new) };
+        ensures marks { KeepsMarks (state self.old) (state self.new) };
 
     /// A new region variable in the current universe. After `OutOfMemory` no variable was made.
     fn next_region_infer(&mut self) -> Result<Region<Self::Interner>, OutOfMemory>
         requires lawful { (state self.old).lawful }
         ensures grows { Grows (state self.old) (state self.new) }
         ensures makes { MakesNext (state self.old) (state self.new) region_var (λ m. m.region) result }
-        ensures rest { KeepsRest (state self.old) (state self.new) };
+        ensures marks { KeepsMarks (state self.old) (state self.new) };
 
     /// A new universe, above all earlier ones, and the current one from then on. After `OutOfMemory` there is none.
     fn create_next_universe(&mut self) -> Result<UniverseIndex, OutOfMemory>
         requires lawful { (state self.old).lawful }
         ensures stands { Stands (state self.old) (state self.new) }
         ensures enters { EntersNext (state self.old) (state self.new) result }
-        ensures rest { KeepsRest (state self.old) (state self.new) };
+        ensures marks { KeepsMarks (state self.old) (state self.new) };
 
     /// The body of a binder, with placeholders for what the binder binds. They are of a new universe, above all earlier
     /// ones, which is the current one from then on. A body that uses nothing of its binder is answered as it is, and no
@@ -229,7 +229,7 @@ pub trait InferCtxtLike {
         requires value_binds { BindsByList (binder_tree T.tree (state self.old).meaning value) }
         ensures grows { Grows (state self.old) (state self.new) }
         ensures enters { EntersBinderOf (state self.old) (state self.new) T.tree value result }
-        ensures rest { KeepsRest (state self.old) (state self.new) };
+        ensures marks { KeepsMarks (state self.old) (state self.new) };
 
     /// The body of a binder, with new variables of the current universe for what the binder binds: one for each place
     /// of its list, in that order, also where the body uses none. After `OutOfMemory` some may have been made, of which
@@ -244,7 +244,7 @@ pub trait InferCtxtLike {
         requires value_binds { BindsByList (binder_tree T.tree (state self.old).meaning value) }
         ensures grows { Grows (state self.old) (state self.new) }
         ensures instantiates { InstantiatesBinderOf (state self.old) (state self.new) T.tree value result }
-        ensures rest { KeepsRest (state self.old) (state self.new) };
+        ensures marks { KeepsMarks (state self.old) (state self.new) };
 
     /// Makes two unresolved type variables one. The smaller number is the root, with the smaller of both universes.
     /// Both are marked as related too.
@@ -253,8 +253,6 @@ pub trait InferCtxtLike {
         requires a_unresolved { IsUnresolved (state self.old) type_var a.0 }
         requires b_unresolved { IsUnresolved (state self.old) type_var b.0 }
         ensures equates { EquatesTwo (state self.old) (state self.new) type_var a.0 b.0 }
-        ensures solver { KeepsSolver (state self.old) (state self.new) }
-        ensures outliving { KeepsOutliving (state self.old) (state self.new) }
         ensures marks { JoinsRoots (state self.old).sub_root (state self.new).sub_root a.0 b.0 };
 
     /// Marks two type variables as related, with all that either is related to: the smaller of both roots is that of
@@ -265,8 +263,6 @@ pub trait InferCtxtLike {
         requires b_made { IsMade (state self.old).store type_var b.0 }
         ensures stands { Stands (state self.old) (state self.new) }
         ensures same_record { (state self.new).store ≡ (state self.old).store }
-        ensures solver { KeepsSolver (state self.old) (state self.new) }
-        ensures outliving { KeepsOutliving (state self.old) (state self.new) }
         ensures marks { JoinsRoots (state self.old).sub_root (state self.new).sub_root a.0 b.0 };
 
     /// Makes two unresolved integer variables one. The smaller number is the root, with the smaller of both universes.
@@ -275,7 +271,7 @@ pub trait InferCtxtLike {
         requires a_unresolved { IsUnresolved (state self.old) int_var a.0 }
         requires b_unresolved { IsUnresolved (state self.old) int_var b.0 }
         ensures equates { EquatesTwo (state self.old) (state self.new) int_var a.0 b.0 }
-        ensures rest { KeepsRest (state self.old) (state self.new) };
+        ensures marks { KeepsMarks (state self.old) (state self.new) };
 
     /// Makes two unresolved float variables one. The smaller number is the root, with the smaller of both universes.
     fn equate_float_vids_raw(&mut self, a: FloatVid, b: FloatVid)
@@ -283,7 +279,7 @@ pub trait InferCtxtLike {
         requires a_unresolved { IsUnresolved (state self.old) float_var a.0 }
         requires b_unresolved { IsUnresolved (state self.old) float_var b.0 }
         ensures equates { EquatesTwo (state self.old) (state self.new) float_var a.0 b.0 }
-        ensures rest { KeepsRest (state self.old) (state self.new) };
+        ensures marks { KeepsMarks (state self.old) (state self.new) };
 
     /// Makes two unresolved constant variables one. The smaller number is the root, with the smaller of both universes.
     fn equate_const_vids_raw(&mut self, a: ConstVid, b: ConstVid)
@@ -291,7 +287,7 @@ pub trait InferCtxtLike {
         requires a_unresolved { IsUnresolved (state self.old) const_var a.0 }
         requires b_unresolved { IsUnresolved (state self.old) const_var b.0 }
         ensures equates { EquatesTwo (state self.old) (state self.new) const_var a.0 b.0 }
-        ensures rest { KeepsRest (state self.old) (state self.new) };
+        ensures marks { KeepsMarks (state self.old) (state self.new) };
 
     /// Binds an unresolved integer variable to an integer type, for nothing of the budget.
     fn instantiate_int_var_raw(&mut self, vid: IntVid, value: IntVarValue)
@@ -299,7 +295,7 @@ pub trait InferCtxtLike {
         requires unresolved { IsUnresolved (state self.old) int_var vid.0 }
         requires value_known { value ≢ Unknown }
         ensures binds { BindsNumber (state self.old) (state self.new) int_var vid.0 (int_value_tree value) }
-        ensures rest { KeepsRest (state self.old) (state self.new) };
+        ensures marks { KeepsMarks (state self.old) (state self.new) };
 
     /// Binds an unresolved float variable to a float type, for nothing of the budget.
     fn instantiate_float_var_raw(&mut self, vid: FloatVid, value: FloatVarValue)
@@ -307,7 +303,7 @@ pub trait InferCtxtLike {
         requires unresolved { IsUnresolved (state self.old) float_var vid.0 }
         requires value_known { value ≢ UnknownFloat }
         ensures binds { BindsNumber (state self.old) (state self.new) float_var vid.0 (float_value_tree value) }
-        ensures rest { KeepsRest (state self.old) (state self.new) };
+        ensures marks { KeepsMarks (state self.old) (state self.new) };
 
     /// Binds an unresolved type variable, at a variance, to what a type comes to, generalised for what the variable can
     /// name, for one of the budget, and answers the bound type. The type is no type variable, and has rules.
@@ -366,7 +362,7 @@ pub trait InferCtxtLike {
         requires sup_in { HasRegion (state self.old) sup.now }
         ensures stands { Stands (state self.old) (state self.new) }
         ensures constrains { ConstrainsOutlives (state self.old) (state self.new) sup.now sub.now result }
-        ensures rest { KeepsRest (state self.old) (state self.new) };
+        ensures marks { KeepsMarks (state self.old) (state self.new) };
 
     /// Records that two regions outlive each other, also where both are one. After `OutOfMemory` nothing was recorded.
     fn equate_regions(
@@ -381,7 +377,7 @@ pub trait InferCtxtLike {
         requires b_in { HasRegion (state self.old) b.now }
         ensures stands { Stands (state self.old) (state self.new) }
         ensures constrains { ConstrainsEqual (state self.old) (state self.new) a.now b.now result }
-        ensures rest { KeepsRest (state self.old) (state self.new) };
+        ensures marks { KeepsMarks (state self.old) (state self.new) };
 
     /// Registers that a type is to outlive a region, behind what was registered before. Nothing else is recorded. After
     /// `OutOfMemory` nothing was registered.
@@ -392,7 +388,8 @@ pub trait InferCtxtLike {
         span: Span<Self::Interner>,
     ) -> Result<(), OutOfMemory>
         requires { (state self.old).lawful }
-        ensures stands { Stands (state self.old) (state self.new) }
+        ensures meaning { (state self.new).meaning ≡ (state self.old).meaning }
+        ensures lawful { (state self.new).lawful }
         ensures same_record { (state self.new).store ≡ (state self.old).store }
         ensures solver { KeepsSolver (state self.old) (state self.new) }
         ensures marks { KeepsMarks (state self.old) (state self.new) }

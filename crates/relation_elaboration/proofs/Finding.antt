@@ -1,10 +1,10 @@
 -- What is found of an elaboration that goes to super-predicates alone are the traits of its closure.
-use Rattle.std.proofs.Common.{◌≡◌, ◌<◌, ◌∙◌, ◌⊎◌, inl, inr, refl, sym, ap, ap₂, subst, arith, ℕ, true, false, IsTrue}
-use Rattle.std.proofs.Common.{List, [], ◌∷◌, ◌++◌, map, length, append-nil, Option, Some, None, Result, Ok, Err}
+use Rattle.std.proofs.Common.{◌≡◌, ◌<◌, ◌∙◌, inl, inr, refl, sym, ap, ap₂, subst, arith, ℕ, true, false}
+use Rattle.std.proofs.Common.{List, [], ◌∷◌, ◌++◌, map, length, append-nil, Some, Ok}
 use Rattle.std.specs.List.{Contains, filter_map, cons_option}
 use Rattle.std.proofs.lemmas.List.Elements.{filter_map-append}
 use Rattle.term_enums.specs.declared.PredicatePolarity.TheVariants.{Positive}
-use Rattle.relation_terms.specs.Trees.{Tree, known}
+use Rattle.relation_terms.specs.Trees.{Tree}
 use Rattle.relation_terms.specs.Meaning.{Meaning, Extends}
 use Rattle.relation_terms.specs.Owned.{bound_tree, StatesItsOwn}
 use Rattle.relation_terms.specs.Conversions.{trait_clause_tree}

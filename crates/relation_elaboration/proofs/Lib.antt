@@ -12,6 +12,7 @@ pub mod Worklists
 pub mod Making
 pub mod Yielding
 pub mod Pulled
+pub mod Taking
 pub mod TraitClauses
 pub mod Passing
 pub mod Reaching

@@ -1,5 +1,5 @@
 -- What was passed over on the way to what is found.
-use Rattle.std.proofs.Common.{◌≡◌, ◌≤◌, ◌<◌, refl, sym, subst, arith, IsTrue, List, [], ◌∷◌, ◌++◌, Option, Some, None}
+use Rattle.std.proofs.Common.{◌≡◌, ◌≤◌, refl, sym, subst, arith, IsTrue, List, [], ◌∷◌, ◌++◌, Option, Some, None}
 use Rattle.std.proofs.Common.{Result, Ok, Err}
 use Rattle.std.specs.Iterator.{Count, IsFinite, size, MakesProgress}
 use Rattle.relation_terms.specs.Trees.{known}
@@ -10,7 +10,7 @@ use Rattle.relation_terms.specs.declared.terms.binder.Binder.{Binder}
 use Rattle.relation_terms.specs.declared.terms.keys.ClauseKey.{ClauseKey}
 use Rattle.relation_elaboration.specs.declared.faults.ElabFault.{ElabFault}
 use Rattle.relation_elaboration.specs.TraitClauses.{reference_of}
-use Rattle.relation_elaboration.specs.Finding.{PassesOver, Stops, Finds}
+use Rattle.relation_elaboration.specs.Finding.{PassesOver, Finds}
 
 module _ {Key Id Name I S : Type 0} (meaning : I → Meaning Key Id Name) (interner : S → I)
     (steps : S → Option (Result (ClauseKey Key) ElabFault) → S → Type 0) (can : S → Type 0) (left : S → Count) where

@@ -1,6 +1,6 @@
 -- What a pull does, by what it does to the worklist.
 use Rattle.std.proofs.Common.{◌≡◌, ◌∙◌, refl, sym, ap, subst, ℕ, IsTrue, List, [], ◌∷◌, ◌++◌, map, Option, Some, None}
-use Rattle.std.proofs.Common.{Result, Ok, Err, false, ◌<◌, length, append-nil, arith}
+use Rattle.std.proofs.Common.{Result, Ok, Err, false, ◌<◌, length, append-nil, length-append, arith}
 use Rattle.std.proofs.lemmas.Bool.{false≢true}
 use Rattle.std.proofs.lemmas.List.Elements.{All-head, All-tail, All-cons, All-nil}
 use Rattle.std.specs.List.{All}
@@ -13,7 +13,7 @@ use Rattle.relation_elaboration.specs.declared.worklist.Worklist.{Worklist}
 use Rattle.relation_elaboration.specs.Children.{Mode, children}
 use Rattle.relation_elaboration.specs.Statements.{statements}
 use Rattle.relation_elaboration.specs.Runs.{Pushes, IsFull}
-use Rattle.relation_elaboration.specs.Pulling.{Elaboration, AreKept, Pushed, Faults, Pulls, BeginsWith, mode_of}
+use Rattle.relation_elaboration.specs.Pulling.{Elaboration, AreKept, Pushed, Faults, Pulls}
 use Rattle.relation_elaboration.proofs.Pushing.{map_push}
 
 -- The last member of a list, or else a given one.
@@ -27,6 +27,9 @@ last_pushed d (y ∷ ys) x = last_pushed y ys x
 
 pub same_last : {A : Type 0} (xs ys : List A) (x y : A) → xs ++ x ∷ [] ≡ ys ++ y ∷ [] → x ≡ y
 same_last xs ys x y e = sym (last_pushed x xs x) ∙ ap (last_or x) e ∙ last_pushed x ys y
+
+no_last : {A : Type 0} (xs : List A) (x : A) → xs ++ x ∷ [] ≡ [] → ⊥
+no_last xs x e = (let n = ap length e in let both = length-append xs (x ∷ []) in omega (arith, n, both))
 
 -- What each member of a list has, its last one and the others have.
 front_all : {A : Type 0} (P : A → Type 0) (xs : List A) (x : A) → All P (xs ++ x ∷ []) → All P xs
@@ -115,30 +118,6 @@ module _ {I Key Id Name O : Type 0} (meaning : I → Meaning Key Id Name) (tree 
         },
       )
 
-  -- An elaboration begins with what was pushed from nothing.
-  pub begun : {T : Type 0} (r : ℕ) (c d : I) (w v : Worklist Key O Name) (given : List O) (limit : ℕ) (a : T)
-      (res : Result T ElabFault) → res ≡ Ok a → w.stack.items ≡ [] → w.visited.keys ≡ [] → w.limit ≡ limit →
-      Pushed tree (meaning c) (meaning d) (map (tree (meaning c)) given) w v res →
-      BeginsWith meaning tree (meaning c) given limit (standing_by r d v (mode_of false false) None)
-  begun r c d w v given limit a res is stack keys most pushed =
-      let m = meaning c in
-      let n = meaning d in
-      let cs = map (tree m) given in
-      let h : Pushed tree m n cs w v (Ok a) = subst (λ z. Pushed tree m n cs w v z) is pushed in
-      let ys = map (tree n) v.stack.items in
-      let ks = map n.predicate v.visited.keys in
-      let same : m.name w.name ≡ n.name v.name = sym (ap n.name h.name ∙ (h.grown).name w.name) in
-      record {
-        pushes = subst (λ z. Pushes z cs [] [] ys ks limit) same
-            (subst (λ z. Pushes (m.name w.name) cs [] [] ys ks z) (h.limit ∙ most)
-            (subst (λ z. Pushes (m.name w.name) cs (map (tree m) z) [] ys ks v.limit) stack
-            (subst (λ z. Pushes (m.name w.name) cs (map (tree m) w.stack.items) (map m.predicate z) ys ks v.limit) keys
-            h.all)));
-        limit = h.limit ∙ most;
-        mode = refl;
-        fault = refl;
-      }
-
   module _ (r : ℕ) (c d : I) (u w v : Worklist Key O Name) (mode : Mode) (x : O)
       (popped : u.stack.items ≡ w.stack.items ++ x ∷ []) (keys : w.visited.keys ≡ u.visited.keys)
       (limit : w.limit ≡ u.limit) (name : w.name ≡ u.name) where
@@ -175,14 +154,17 @@ module _ {I Key Id Name O : Type 0} (meaning : I → Meaning Key Id Name) (tree 
     pulled_fault f h = (
       refl,
       record { reference = refl; grown = h.grown; limit = h.limit ∙ limit; name = h.name ∙ name; mode = refl },
-      λ e rest y top.
-          let is : x ≡ y = same_last w.stack.items rest x y (sym popped ∙ top) in
-          subst (λ z. IsFull ((meaning c).name u.name) (children (statements (meaning c)) mode (tree (meaning c) z))
-          (map (meaning c).predicate u.visited.keys) u.limit) is
-          (subst (λ z. IsFull z implied (map (meaning c).predicate u.visited.keys) u.limit) names
-          (subst (λ z. IsFull ((meaning c).name w.name) implied (map (meaning c).predicate z) u.limit) keys
-          (subst (λ z. IsFull ((meaning c).name w.name) implied (map (meaning c).predicate w.visited.keys) z) limit
-          (h.full (ap (λ z. Err z) e))))),
+      (
+        λ none. no_last w.stack.items x (sym popped ∙ none),
+        λ e rest y top.
+            let is : x ≡ y = same_last w.stack.items rest x y (sym popped ∙ top) in
+            subst (λ z. IsFull ((meaning c).name u.name) (children (statements (meaning c)) mode (tree (meaning c) z))
+            (map (meaning c).predicate u.visited.keys) u.limit) is
+            (subst (λ z. IsFull z implied (map (meaning c).predicate u.visited.keys) u.limit) names
+            (subst (λ z. IsFull ((meaning c).name w.name) implied (map (meaning c).predicate z) u.limit) keys
+            (subst (λ z. IsFull ((meaning c).name w.name) implied (map (meaning c).predicate w.visited.keys) z) limit
+            (h.full (ap (λ z. Err z) e))))),
+      ),
     )
 
     -- The same where that no fault was met is known.

@@ -3,10 +3,10 @@ use Rattle.std.proofs.Common.{◌≡◌, refl, sym, subst, ℕ, true, IsTrue, Li
 use Rattle.std.proofs.lemmas.Bool.{false≢true, and_parts}
 use Rattle.term_enums.specs.declared.PredicatePolarity.{PredicatePolarity}
 use Rattle.relation_terms.specs.Heads.{BoundKind, trait_ref, trait_clause}
-use Rattle.relation_terms.specs.Trees.{Tree, node, bind, nil, cons, known}
+use Rattle.relation_terms.specs.Trees.{Tree, node, nil, cons, known}
 use Rattle.relation_terms.specs.Meaning.{Meaning, under}
 use Rattle.relation_terms.specs.Owned.{bound_tree}
-use Rattle.relation_terms.specs.Predicates.{trait_ref_tree, clause_kind_tree}
+use Rattle.relation_terms.specs.Predicates.{clause_kind_tree}
 use Rattle.relation_terms.specs.declared.predicate.kinds.ClauseKind.{ClauseKind}
 use Rattle.relation_terms.specs.declared.predicate.kinds.ClauseKind.TheVariants.{Trait}
 use Rattle.relation_terms.specs.declared.predicate.trait_ref.TraitPredicate.{TraitPredicate}

@@ -1,5 +1,5 @@
 -- Runs of pulls of an elaborator yield the closure.
-use Rattle.std.proofs.Common.{◌≡◌, ◌∙◌, sym, ap, subst, ℕ, IsTrue, List, [], ◌∷◌, map}
+use Rattle.std.proofs.Common.{◌≡◌, ◌∙◌, sym, ap, subst, IsTrue, List, [], ◌∷◌, map}
 use Rattle.relation_terms.specs.Trees.{Tree, known}
 use Rattle.relation_terms.specs.Meaning.{Meaning, Extends}
 use Rattle.relation_terms.specs.Owned.{StatesItsOwn}
@@ -7,7 +7,7 @@ use Rattle.relation_terms.proofs.Stays.{stays_same, extends_on}
 use Rattle.relation_tools.proofs.Renaming.{renamings_are_one}
 use Rattle.relation_elaboration.specs.Statements.{statements}
 use Rattle.relation_elaboration.specs.Runs.{Pushes, Yields, Runs}
-use Rattle.relation_elaboration.specs.Pulling.{Elaboration, standing, named, RunsTo, BeginsWith, ByClosure}
+use Rattle.relation_elaboration.specs.Pulling.{Elaboration, standing, named, RunsTo, ByClosure}
 use Rattle.relation_elaboration.proofs.Growing.{states_stay, states_within}
 use Rattle.relation_elaboration.proofs.Closing.{runs_close}
 
@@ -48,11 +48,10 @@ module _ {I Key Id Name O : Type 0} (meaning : I → Meaning Key Id Name) (tree 
       (far, (standing meaning tree g, first, rest))
 
   -- What begins with predicates yields their closure.
-  pub closes_with : (given : List O) (limit : ℕ) (e : Elaboration I O Key Name) → Extends m (meaning e.cx) →
-      BeginsWith meaning tree m given limit e → ByClosure meaning tree m given e
-  closes_with given limit e on begins mode ys f r =
+  pub closes_from : (given : List O) (e : Elaboration I O Key Name) → Extends m (meaning e.cx) →
+      Pushes (named meaning tree e) (map (tree m) given) [] [] (standing meaning tree e).stack
+      (standing meaning tree e).visited e.limit → ByClosure meaning tree m given e
+  closes_from given e on begins mode ys f r =
       runs_close renamings_are_one (named meaning tree e) (statements m) mode (map (tree m) given)
-      (map (tree (meaning f.cx)) ys) (standing meaning tree e) (standing meaning tree f) (states_within m own)
-      (subst (λ z. Pushes (named meaning tree e) (map (tree m) given) [] [] (standing meaning tree e).stack
-      (standing meaning tree e).visited z) (sym begins.limit) begins.pushes)
+      (map (tree (meaning f.cx)) ys) (standing meaning tree e) (standing meaning tree f) (states_within m own) begins
       (runs_of (record e { mode = mode }) f ys on r).1

@@ -1,5 +1,5 @@
 -- What a pull does to an elaboration, and what an elaboration yields.
-use Rattle.std.specs.Prelude.{◌≡◌, ◌≤◌, ℕ, Bool, false, IsTrue, List, [], ◌∷◌, ◌++◌, length, map}
+use Rattle.std.specs.Prelude.{◌≡◌, ◌≢◌, ◌≤◌, ℕ, Bool, false, IsTrue, List, [], ◌∷◌, ◌++◌, length, map}
 use Rattle.std.specs.Prelude.{Option, Some, None, Result, Ok, Err, OnOk}
 use Rattle.std.specs.List.{All}
 use Rattle.relation_terms.specs.Trees.{Tree, known}
@@ -85,13 +85,22 @@ module _ {I Key Id Name O : Type 0} (meaning : I → Meaning Key Id Name) (tree 
     pub name : t.name ≡ s.name
     pub mode : t.mode ≡ s.mode
 
-  -- A fault: the one that was met before, and nothing changes; or a new one, and it is that of the limit only where
-  -- what the last predicate of the stack implies does not fit.
+  -- Of these predicates, those of which no renaming was ever there were put there, each once.
+  abbrev pub Takes : List O → Elaboration I O Key Name → Elaboration I O Key Name → Type 0
+  Takes given s t = Pushes (named s) (map (tree (meaning s.cx)) given) (standing s).stack (standing s).visited
+      (standing t).stack (standing t).visited t.limit
+
+  -- More of these predicates were never there than there is room for, if no fault was met before.
+  abbrev pub HasNoRoom : List O → Elaboration I O Key Name → Type 0
+  HasNoRoom given s = s.fault ≡ None → IsFull (named s) (map (tree (meaning s.cx)) given) (standing s).visited s.limit
+
+  -- A fault: the one that was met before, and nothing changes; or a new one, where something was left, and it is that
+  -- of the limit only where what the last predicate of the stack implies does not fit.
   abbrev pub Faults : Option ElabFault → Elaboration I O Key Name → ElabFault → Elaboration I O Key Name → Type 0
   Faults (Some g) s f t = (f ≡ g) × (t ≡ s)
-  Faults None s f t = f ≡ Limit → (rest : List O) (x : O) → s.stack ≡ rest ++ x ∷ [] →
+  Faults None s f t = (s.stack ≢ []) × (f ≡ Limit → (rest : List O) (x : O) → s.stack ≡ rest ++ x ∷ [] →
       IsFull (named s) (children (statements (meaning s.cx)) s.mode (tree (meaning s.cx) x))
-      (map (meaning s.cx).predicate s.visited) s.limit
+      (map (meaning s.cx).predicate s.visited) s.limit)
 
   -- A pull: at the end nothing; else the last predicate of the stack, and what it implies was pushed; or a fault, which
   -- is kept.
@@ -119,3 +128,7 @@ module _ {I Key Id Name O : Type 0} (meaning : I → Meaning Key Id Name) (tree 
   ByClosure m given e = (mode : Mode) (ys : List O) (f : Elaboration I O Key Name) →
       RunsTo (record e { mode = mode }) ys f →
       Closes (named e) (statements m) mode (map (tree m) given) (map (tree (meaning f.cx)) ys) (standing f)
+
+  -- The same where no predicate was ever there before these.
+  abbrev pub BeginsClosure : List O → Elaboration I O Key Name → Elaboration I O Key Name → Type 0
+  BeginsClosure given s t = s.stack ≡ [] → s.visited ≡ [] → ByClosure (meaning s.cx) given t

@@ -1,5 +1,5 @@
 -- Which trait a clause is of.
-use Rattle.std.specs.Prelude.{ℕ, Option, Some, None, option_map}
+use Rattle.std.specs.Prelude.{ℕ, Option, None, option_map}
 use Rattle.relation_terms.specs.Heads.{Head, trait_ref, trait_clause}
 use Rattle.relation_terms.specs.Trees.{Tree, node, bind}
 use Rattle.relation_terms.specs.Meaning.{Meaning}

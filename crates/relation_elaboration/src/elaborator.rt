@@ -1,5 +1,6 @@
 //! The elaborator: predicates, and what follows from them, each once.
-ghost use Rattle.std.specs.Prelude.{◌≡◌, true, IsTrue, IfOk, IfSome, Err, None, length, map};
+ghost use Rattle.std.specs.Prelude.{◌≡◌, true, false, IsTrue, IfOk, IfSome, Err, None, [], length, map};
+ghost use Rattle.std.specs.Result.{result_err};
 ghost use Rattle.std.specs.Iterator.{UpTo, endless};
 ghost use Rattle.std.specs.Iterator.SizeHint.{IsWithinCount};
 ghost use Rattle.std.specs.List.{All};
@@ -7,7 +8,8 @@ ghost use Rattle.relation_terms.specs.Trees.{known};
 ghost use Rattle.relation_terms.specs.Meaning.{Extends};
 ghost use Rattle.relation_elaboration.specs.declared.faults.ElabFault.TheVariants.{Limit};
 ghost use Rattle.relation_elaboration.specs.Runs.{AreTooMany};
-ghost use Rattle.relation_elaboration.specs.Pulling.{Pulls, BeginsWith, ByClosure, IsKept, Pushed};
+ghost use Rattle.relation_elaboration.specs.Pulling.{mode_of, IsKept, Pushed, Pulls, Keeps, Takes};
+ghost use Rattle.relation_elaboration.specs.Pulling.{HasNoRoom, BeginsWith, ByClosure, BeginsClosure};
 
 use crate::children::push_children;
 use crate::elaboratable::Elaboratable;
@@ -56,8 +58,8 @@ impl<'a, I: Interner, O: Elaboratable<I>> Model for Elaborator<'a, I, O> {
 /// binder binds, that its components do. Of `Sized` nothing is said to follow. The interner has to know the predicates.
 ///
 /// There may be up to `limit` different predicates. Answers `Limit` where the given ones are more, and `Memory` where a
-/// growth was refused; all keys keep their meanings. Upstream's function of this name, which takes any iterator and has
-/// no limit.
+/// growth was refused; all keys keep their meanings. A caller whose contract says so makes an `Elaborator` and extends
+/// it: no clause says it here. Upstream's function of this name, which takes any iterator and has no limit.
 pub fn elaborate<I: Interner, O: Elaboratable<I>>(
     cx: &mut I,
     obligations: Vec<O>,
@@ -70,20 +72,11 @@ pub fn elaborate<I: Interner, O: Elaboratable<I>>(
     ensures limit { result ≡ Err Limit → AreTooMany (map (O.tree (I.meaning cx.old)) obligations.items) limit }
     ensures closure { IfOk result (λ e. ByClosure I.meaning O.tree (I.meaning cx.old) obligations.items e) }
 {
-    let mut list = Worklist {
-        stack: Vec::new(cx.alloc()),
-        visited: HashSet::new(cx.alloc()),
-        limit,
-        name: cx.dummy_name(),
-    };
-    push_all(cx, &mut list, obligations)?;
-    Ok(Elaborator {
-        cx,
-        list,
-        only_self: false,
-        sized: false,
-        fault: None,
-    })
+    let mut elaborator = Elaborator::new(cx, limit);
+    match elaborator.extend_deduped(obligations) {
+        Ok(()) => Ok(elaborator),
+        Err(fault) => Err(fault),
+    }
 }
 
 // Pushes the predicates of a list.
@@ -107,6 +100,59 @@ fn push_all<I: Interner, O: Elaboratable<I>>(
 }
 
 impl<'a, I: Interner, O: Elaboratable<I>> Elaborator<'a, I, O> {
+    /// An elaboration that has no predicate yet, of which there may be up to `limit` different ones. Nothing can fail
+    /// here, so that a caller who extends it has its interner back, by `into_cx`, whatever that answers. Upstream makes
+    /// one only in `elaborate`.
+    pub fn new(cx: &'a mut I, limit: usize) -> Self
+        ensures same_reference { result.reference ≡ cx.entry.ghost_name }
+        ensures same { result.cx ≡ cx.old }
+        ensures stack { result.stack ≡ [] }
+        ensures visited { result.visited ≡ [] }
+        ensures limit { result.limit ≡ limit }
+        ensures mode { result.mode ≡ mode_of false false }
+        ensures fault { result.fault ≡ None }
+    {
+        let list = Worklist {
+            stack: Vec::new(cx.alloc()),
+            visited: HashSet::new(cx.alloc()),
+            limit,
+            name: cx.dummy_name(),
+        };
+        Elaborator {
+            cx,
+            list,
+            only_self: false,
+            sized: false,
+            fault: None,
+        }
+    }
+
+    /// Takes up predicates, each if none that is the same but for renaming was ever taken up or implied. The interner
+    /// has to know them.
+    ///
+    /// Answers `Limit` where they do not fit, and `Memory` where a growth was refused: then, and at each later call and
+    /// pull. All keys keep their meanings, also then. Upstream has it as a private function.
+    pub fn extend_deduped(&mut self, obligations: Vec<O>) -> Result<(), ElabFault>
+        requires { All (λ o. IsTrue (known (O.tree (I.meaning self.old.cx) o))) obligations.items }
+        ensures keeps { Keeps I.meaning O.tree self.old self.new }
+        ensures takes { IfOk result (λ _. Takes I.meaning O.tree obligations.items self.old self.new) }
+        ensures fault { self.new.fault ≡ result_err result }
+        ensures again { IfSome self.old.fault (λ f. (result ≡ Err f) × (self.new ≡ self.old)) }
+        ensures limit { result ≡ Err Limit → HasNoRoom I.meaning O.tree obligations.items self.old }
+        ensures closure { IfOk result (λ _. BeginsClosure I.meaning O.tree obligations.items self.old self.new) }
+    {
+        if let Some(fault) = self.fault {
+            return Err(fault);
+        }
+        match push_all(&mut *self.cx, &mut self.list, obligations) {
+            Ok(()) => Ok(()),
+            Err(refused) => {
+                self.fault = Some(refused);
+                Err(refused)
+            }
+        }
+    }
+
     /// The next predicate, or `None` where nothing is left. `Memory` where a growth was refused and `Limit` where what
     /// the next predicate implies does not fit, then and at each later pull; all keys keep their meanings.
     pub fn pull(&mut self) -> Option<Result<O, ElabFault>>

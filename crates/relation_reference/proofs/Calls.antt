@@ -4,7 +4,7 @@ use Rattle.relation_terms.specs.Heads.{VarKind, variable}
 use Rattle.relation_terms.specs.Trees.{Tree, leaf, known}
 use Rattle.relation_terms.specs.Meaning.{Meaning}
 use Rattle.relation_contexts.specs.Contexts.{Context}
-use Rattle.relation_contexts.specs.ContextCalls.{Reads, MakesNext, EquatesTwo, BindsNumber, Constrains}
+use Rattle.relation_contexts.specs.ContextCalls.{Reads, MakesNext, EquatesTwo, BindsNumber, Constrains, Stands, KeepsSolver, KeepsOutliving}
 use Rattle.relation_contexts.specs.Errors.{IsReadAs}
 use Rattle.relation_contexts.specs.Steps.{Equates, InstantiatesNumber, MakesVariable, AddsConstraint}
 use Rattle.relation_contexts.specs.Stores.{Constraint}
@@ -50,20 +50,30 @@ module _ {I Key Id Name Span : Type 0} (meaning : I → Meaning Key Id Name) (p 
     constrains c (Ok x) adds refused = back (λ d. AddsConstraint (store_in meaning p) d.store c) adds
     constrains c (Err f) adds refused = back (λ d. d.store ≡ store_in meaning p) refused
 
-    module _ (l : IsLawful (meaning p.interner) q.inner) where
+    module _ (l : IsLawful (meaning p.interner) q.inner)
+        (solver : KeepsSolver (context_in meaning p) (context_in meaning q))
+        (outliving : KeepsOutliving (context_in meaning p) (context_in meaning q)) where
+      pub stood : Stands (context_in meaning p) (context_in meaning q)
+      stood = record {
+        meaning = ap meaning same;
+        lawful = back (λ d. d.lawful) l;
+        solver = solver;
+        outliving = outliving;
+      }
+
       pub equated : (k : VarKind) (a b : ℕ) → (a ≡ b → q.inner ≡ p.inner) →
           ((a ≡ b → ⊥) → Equates (store_in meaning p) (store_of (meaning p.interner) q.inner) k (max a b) (min a b)) →
           EquatesTwo (context_in meaning p) (context_in meaning q) k a b
-      equated k a b one two = back (λ d. EquatesTwo (context_in meaning p) d k a b) (record {
-        stands = record { meaning = refl; lawful = l };
-        same = λ h. ap (store_of (meaning p.interner)) (one h);
-        equates = two;
-      })
+      equated k a b one two = record {
+        stands = stood;
+        same = λ h. back (λ d. d.store ≡ store_in meaning p) (ap (store_of (meaning p.interner)) (one h));
+        equates = λ h. back (λ d. Equates (store_in meaning p) d.store k (max a b) (min a b)) (two h);
+      }
 
       pub number_bound : (k : VarKind) (n : ℕ) (t : Tree) →
           InstantiatesNumber (store_in meaning p) (store_of (meaning p.interner) q.inner) k n t →
           BindsNumber (context_in meaning p) (context_in meaning q) k n t
-      number_bound k n t binds = back (λ d. BindsNumber (context_in meaning p) d k n t) (record {
-        stands = record { meaning = refl; lawful = l };
-        binds = binds;
-      })
+      number_bound k n t binds = record {
+        stands = stood;
+        binds = back (λ d. InstantiatesNumber (store_in meaning p) d.store k n t) binds;
+      }

@@ -2,7 +2,7 @@
 use Rattle.std.proofs.Common.{◌≡◌, sym, ap, ◌∙◌, subst, IsTrue, Result, Ok, Err, IfOk}
 use Rattle.relation_terms.specs.Trees.{Tree, known}
 use Rattle.relation_terms.specs.Meaning.{Meaning, Extends}
-use Rattle.relation_contexts.specs.ContextCalls.{Grows, ComesTo, KeepsRest}
+use Rattle.relation_contexts.specs.ContextCalls.{Grows, ComesTo, KeepsMarks}
 use Rattle.relation_reference.specs.declared.context.variables.RefCtxt.{RefCtxt}
 use Rattle.relation_reference.specs.SubRoots.{root_in}
 use Rattle.relation_reference.specs.Tables.{store_of, IsLawful}
@@ -20,15 +20,13 @@ module _ {I Key Id Name Span : Type 0} (meaning : I → Meaning Key Id Name) (p 
   grows = record {
     extends = grown;
     lawful = subst (IsLawful (meaning q.interner)) (sym same) (lawful_grows grown p.inner l);
+    solver = ap (λ x. x.next_solver) same;
+    outliving = ap (λ x. x.ty_outlives.items) same;
   }
 
-pub rest : {I Key Id Name Span : Type 0} (meaning : I → Meaning Key Id Name) (p q : RefCtxt I Key Id Name Span) →
-    q.inner ≡ p.inner → KeepsRest (context_in meaning p) (context_in meaning q)
-rest meaning p q same = record {
-  solver = ap (λ x. x.next_solver) same;
-  outliving = ap (λ x. x.ty_outlives.items) same;
-  marks = λ n. ap (λ x. root_in x.sub_roots.items n) same;
-}
+pub marks : {I Key Id Name Span : Type 0} (meaning : I → Meaning Key Id Name) (p q : RefCtxt I Key Id Name Span) →
+    q.inner ≡ p.inner → KeepsMarks (context_in meaning p) (context_in meaning q)
+marks meaning p q same = λ n. ap (λ x. root_in x.sub_roots.items n) same
 
 pub comes : {I Key Id Name Span K F : Type 0} (meaning : I → Meaning Key Id Name) (p q : RefCtxt I Key Id Name Span)
     (tree : Meaning Key Id Name → K → Tree) (t : K) (r : Result K F) →

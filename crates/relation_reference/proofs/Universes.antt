@@ -3,7 +3,7 @@ use Rattle.std.proofs.Common.{◌≡◌, suc, ◌<◌, refl, sym, ap, arith, sub
 use Rattle.relation_terms.specs.Meaning.{Meaning}
 use Rattle.relation_terms.specs.declared.terms.numbers.UniverseIndex.{UniverseIndex}
 use Rattle.relation_contexts.specs.Steps.{ChangesNothing}
-use Rattle.relation_contexts.specs.ContextCalls.{Stands, EntersNext, KeepsRest}
+use Rattle.relation_contexts.specs.ContextCalls.{EntersNext, KeepsRest}
 use Rattle.relation_contexts.proofs.StoreCalls.{nothing_is_seen}
 use Rattle.relation_reference.specs.declared.context.inner.InferCtxtInner.{InferCtxtInner}
 use Rattle.relation_reference.specs.declared.context.variables.RefCtxt.{RefCtxt}
@@ -38,9 +38,6 @@ module _ {Key Id Name : Type 0} (m : Meaning Key Id Name) (x : InferCtxtInner Ke
 -- As the trait of contexts asks it.
 module _ {I Key Id Name Span : Type 0} (meaning : I → Meaning Key Id Name) (p q : RefCtxt I Key Id Name Span) (same : q.interner ≡ p.interner)
     (before : IsLawful (meaning p.interner) p.inner) (after : IsLawful (meaning p.interner) q.inner) where
-  pub universe_stands : Stands (context_in meaning p) (context_in meaning q)
-  universe_stands = subst (λ i. Stands (context_in meaning p) (context_of (meaning i) q.inner)) (sym same) (record { meaning = refl; lawful = after })
-
   pub universe_entered : {F : Type 0} (r : Result UniverseIndex F) → IfOk r (λ u. q.inner ≡ record p.inner { universe = u }) → IfOk r (λ u. u.0 ≡ suc (p.inner.universe).0) →
       OnErr r (q.inner ≡ p.inner) → EntersNext (context_in meaning p) (context_in meaning q) r
   universe_entered {F = F} (Ok u) is next refused =

@@ -111,10 +111,9 @@ module _ {Key Id Name : Type 0} (m : Meaning Key Id Name) where
       added = [];
       lengthens = refl;
       goals_in = All-nil (RegisteredIn (plain_state m v cs) (plain_store m (cs ++ c ∷ [])));
-      environment = refl;
+      kept = refl;
       ambient = refl;
-      settings = refl;
-      reference = refl;
+      remembered = refl;
       lawful = λ l. constraint_sound (plain_store m cs) (plain_store m (cs ++ c ∷ [])) (constraint_of m c) added l
           is_in;
     }
@@ -262,9 +261,8 @@ module _ {Key Id Name : Type 0} {m n : Meaning Key Id Name} (e : Extends m n) wh
     meaning = refl;
     store = store_stands cs l;
     goals = refl;
-    environment = refl;
+    kept = refl;
     ambient = refl;
-    settings = refl;
-    reference = refl;
+    remembered = refl;
     lawful = λ l. subst IsSound (sym (store_stands cs l)) l;
   }

@@ -8,7 +8,7 @@ use Rattle.relation_terms.specs.Meaning.{Meaning}
 use Rattle.relation_contexts.specs.Stores.{Store, IsSound}
 use Rattle.relation_contexts.specs.Constraints.{constraint_of}
 use Rattle.relation_contexts.specs.declared.relate.StructurallyRelateAliases.TheVariants.{Yes}
-use Rattle.relation_contexts.specs.Lawful.{State, Settings, Manners}
+use Rattle.relation_contexts.specs.Lawful.{State, Kept, Settings, Manners}
 
 -- Aliases are related by their items and arguments, arguments of items at declared variances at invariance too, and no
 -- goal is left to a solver.
@@ -27,17 +27,25 @@ module _ {Key Id Name : Type 0} (m : Meaning Key Id Name) where
     budget = 0;
   }
 
-  -- The relation at a variance, with these recorded. It registers no goal, so any environment would do; and it holds no
-  -- reference. It is lawful where each constraint is on regions without variables that its interner knows.
+  -- It registers no goal, so any environment would do; and it holds no reference, and no type that is to outlive a region.
+  abbrev pub plain_kept : Kept Key
+  plain_kept = record {
+    environment = node environment nil;
+    settings = plain_settings;
+    reference = 0;
+    outliving = [];
+  }
+
+  -- The relation at a variance, with these recorded. It remembers nothing. It is lawful where each constraint is on
+  -- regions without variables that its interner knows.
   abbrev pub plain_state : Variance → List (RegionConstraint Key) → State Key Id Name
   plain_state v cs = record {
     meaning = m;
     store = plain_store cs;
     goals = [];
-    environment = node environment nil;
+    kept = plain_kept;
     ambient = v;
-    settings = plain_settings;
-    reference = 0;
+    remembered = [];
     lawful = IsSound (plain_store cs);
   }
 

@@ -1,7 +1,10 @@
 //! Prints the answers of worked rows: what relating two types answers, and what it leaves recorded.
 #![tactic(auto)]
 
+mod beginning;
+mod calls;
 mod doubling;
+mod row_names;
 mod rows;
 
 use std::process::ExitCode;
@@ -18,7 +21,7 @@ fn main(rt: HostRuntime) -> io::Result<ExitCode> {
     let mut err = rt.stderr();
     let status = match words_of(&rt) {
         Ok(words) => rows::run(rt.alloc(), words.as_slice(), &mut out, &mut err),
-        Err(error) => rows::tell_unbegun(&error, &mut err),
+        Err(error) => beginning::tell_unbegun(&error, &mut err),
     };
     Ok(ExitCode::from(status))
 }

@@ -1,19 +1,18 @@
 //! The rows, their stored answers, and the program's runs.
-ghost use Rattle.std.specs.Prelude.{◌≡◌, ◌≢◌, ◌<◌, ◌≤◌, ◌↔◌, IsTrue, IfSome, length, slice_get, string_bytes};
-ghost use Rattle.std.specs.IoError.{error_kind};
-ghost use Rattle.relations.specs.Named.{IsHighRow, IsLowRow, IsMiddleRow, IsRow, IsUpperRow};
+ghost use Rattle.std.specs.Prelude.{◌≡◌, ◌<◌, ◌≤◌, IfSome, length, slice_get, string_bytes};
+ghost use Rattle.relations.specs.Named.{IsRow};
 
-use crate::doubling::count_terms_and_nodes;
+use crate::calls::call;
+use crate::row_names::is_row;
 use relation_asking::ask_all;
 use std::alloc::Global;
-use std::fmt::Write;
-use std::io::{self, ErrorKind};
+use std::io;
 use text_reading::naming::{NameError, look_up};
 use text_reading::reading::{ReadError, read};
 use text_reading::telling::{Lines, tell_unnamed, tell_unread};
 
-/// A row: its name, the questions that it asks, as text, and the answers that they are to have. One that asks none
-/// counts the terms and the nodes of a type that is doubled 60 times.
+/// A row: its name, the questions that it asks, as text, and the answers that they are to have. What no question can
+/// ask, one without questions answers by calls.
 #[derive(Clone, Copy)]
 pub struct Row {
     pub name: &'static str,
@@ -33,7 +32,7 @@ pub enum RowFault {
 }
 
 /// The rows, in the order of their numbers.
-pub const ROWS: [Row; 40] = [
+pub const ROWS: [Row; 57] = [
     Row {
         name: "r01",
         questions: "may unify[rigid, rigid] bool, char at 0; may unify[rigid, rigid] bool, char at 1;",
@@ -60,6 +59,11 @@ pub const ROWS: [Row; 40] = [
         questions: "struct Foo<T, U, V>; struct Bar<T>;
             walk Foo<Bar<i32>, Bar<i32>, i32> skip after 2;",
         stored: "Foo<Bar<i32>, Bar<i32>, i32> | Bar<i32> | i32 | end",
+    },
+    Row {
+        name: "r06",
+        questions: "",
+        stored: "none | 33",
     },
     Row {
         name: "r07",
@@ -90,6 +94,26 @@ pub const ROWS: [Row; 40] = [
         name: "r12",
         questions: "struct Vec<+T>; Vec<?0> <: ?1;",
         stored: "ok; goals=[Subtype(?0, ?2, true)]; bound=[?1=Vec<?2>]",
+    },
+    Row {
+        name: "r14",
+        questions: "param T; trait PartialEq; trait Eq; trait PartialOrd; trait Ord;
+            super Eq: Self: PartialEq; super PartialOrd: Self: PartialEq;
+            super Ord: Self: Eq, Self: PartialOrd;
+            elaborate T: Ord limit 4;",
+        stored: "T: Ord | T: PartialOrd | T: PartialEq | T: Eq | end",
+    },
+    Row {
+        name: "r15",
+        questions: "struct Vec<+T>; param U; trait Foo<T>; super Foo: Self: Foo<Vec<T>>;
+            elaborate U: Foo<u8> limit 5 pulls 6;",
+        stored: "U: Foo<u8> | U: Foo<Vec<u8>> | U: Foo<Vec<Vec<u8>>> | U: Foo<Vec<Vec<Vec<u8>>>> | \
+            limit | limit",
+    },
+    Row {
+        name: "r16",
+        questions: "param U, 'a, 'b; elaborate [U]: 'a; elaborate &'a U: 'b; elaborate for<'a> U: 'a;",
+        stored: "[U]: 'a | U: 'a | end | &'a U: 'b | U: 'b | 'a: 'b | end | for<'a> U: 'a | end",
     },
     Row {
         name: "r17",
@@ -139,6 +163,11 @@ pub const ROWS: [Row; 40] = [
         stored: "ok; goals=[WellFormed(P<?0>), WellFormed(P<u8>)] | ok; bound=[?0=u8]",
     },
     Row {
+        name: "r25",
+        questions: "param U, 'a; elaborate limit 0; elaborate [U]: 'a limit 0;",
+        stored: "end | limit",
+    },
+    Row {
         name: "r26",
         questions: "fn f; param T;
             key rigid T; key T; key f; key (); key {error};",
@@ -158,6 +187,20 @@ pub const ROWS: [Row; 40] = [
         name: "r30",
         questions: "?i0 == u16; ?i0 == bool;",
         stored: "ok; bound=[?i0=u16] | err Sorts(?i0, bool)",
+    },
+    Row {
+        name: "r31",
+        questions: "trait PartialEq; trait Eq; trait PartialOrd; trait Ord;
+            super Eq: Self: PartialEq; super PartialOrd: Self: PartialEq;
+            super Ord: Self: Eq, Self: PartialOrd;
+            trait A; trait B; super A: Self: B; super B: Self: A;
+            supertraits Ord; supertraits A;",
+        stored: "Ord | PartialOrd | PartialEq | Eq | end | A | B | end",
+    },
+    Row {
+        name: "r32",
+        questions: "",
+        stored: "negative | [const] | ! | unevaluated constant",
     },
     Row {
         name: "r34",
@@ -209,6 +252,21 @@ pub const ROWS: [Row; 40] = [
         stored: "ok; regions=['?0 == 'static, '!1.0 == 'static]",
     },
     Row {
+        name: "r49",
+        questions: "",
+        stored: "[u8, bool, P] | T: StreamingIterator | ['a]",
+    },
+    Row {
+        name: "r50",
+        questions: "",
+        stored: "PartialEq<u32> | bool: PartialEq<u32>",
+    },
+    Row {
+        name: "r51",
+        questions: "",
+        stored: "'a: 'b | 'b: 'a | end | true | false",
+    },
+    Row {
         name: "r53",
         questions: "trait Tr<T>; type Tr::A; param 'a; walk dyn Tr<bool, A = u8> + 'a;",
         stored: "dyn Tr<bool, A = u8> + 'a | bool | u8 | 'a | end",
@@ -224,6 +282,30 @@ pub const ROWS: [Row; 40] = [
         name: "r55",
         questions: "param T, 'a, 'b; assumptions (&'a T, u8): 'b;",
         stored: "'a: 'b | (&'a T, u8): 'b | T: 'b",
+    },
+    Row {
+        name: "r56",
+        questions: "param T; trait MetaSized; trait Sized; sized Sized; super Sized: Self: MetaSized;
+            elaborate T: Sized; elaborate[sized] T: Sized;",
+        stored: "T: Sized | end | T: Sized | T: MetaSized | end",
+    },
+    Row {
+        name: "r57",
+        questions: "param T; trait PartialEq; trait Eq; trait PartialOrd; trait Ord;
+            super Eq: Self: PartialEq; super PartialOrd: Self: PartialEq;
+            super Ord: Self: Eq, Self: PartialOrd;
+            trait A; trait B; const super A: Self: B;
+            elaborate T: !Ord; elaborate T: const A;",
+        stored: "T: !Ord | end | T: const A | T: const B | end",
+    },
+    Row {
+        name: "r58",
+        questions: "param T; trait PartialEq; trait Eq; trait PartialOrd; trait Ord;
+            super Eq: Self: PartialEq; super PartialOrd: Self: PartialEq;
+            super Ord: Self: Eq, Self: PartialOrd;
+            trait A; trait B; super A: Self: B; super B: Self: A;
+            elaborate T: Ord limit 3 pulls 3; elaborate T: A limit 2;",
+        stored: "T: Ord | limit | limit | T: A | T: B | end",
     },
     Row {
         name: "r59",
@@ -254,6 +336,26 @@ pub const ROWS: [Row; 40] = [
             ok; regions=['?0 == '!1.0, '?0 == '?1]; bound=[?0=&'?0 u8] | err Mismatch",
     },
     Row {
+        name: "r65",
+        questions: "",
+        stored: "999 | limit",
+    },
+    Row {
+        name: "r66",
+        questions: "budget 0; ?0 == ?1; ?0 == u8; ?0 == [?0]; ?i0 == u8;",
+        stored: "ok; left=0 | budget; left=0 | budget; left=0 | ok; bound=[?i0=u8]; left=0",
+    },
+    Row {
+        name: "r67",
+        questions: "struct C<const N>; budget 1; ?0 == [?0]; budget 0; C<{?c0}> == C<{3}>;",
+        stored: "err CyclicTy([?0]); left=1 | budget; left=0",
+    },
+    Row {
+        name: "r68",
+        questions: "param U, 'a; elaborate [U]: 'a limit 1 pulls 2; elaborate U: 'a limit 1;",
+        stored: "limit | limit | U: 'a | end",
+    },
+    Row {
         name: "r69",
         questions: "struct C<const N>;
             may unify[rigid, rigid] C<{?c0, 2}>, C<{1, 2}>;
@@ -264,34 +366,30 @@ pub const ROWS: [Row; 40] = [
     },
 ];
 
-// What is counted where a row asks no question: the terms, and the nodes that are added.
-fn counts(alloc: Global) -> Result<String, RowFault> {
-    let Ok((terms, nodes)) = count_terms_and_nodes(alloc, 60) else {
-        return Err(RowFault::Memory);
-    };
-    let mut text = String::new(alloc);
-    match write!(text, "{terms} | {nodes}") {
-        Ok(()) => Ok(text),
-        Err(_) => Err(RowFault::Memory),
-    }
-}
-
-/// The answers to a row's questions, with ` | ` between two.
+/// The answers to questions, with ` | ` between two.
 ///
 /// # Errors
 /// `Memory` where the text of the answers can't grow. `Unread` and `Unnamed` where the questions are no text of the
 /// language, or say that a growth was refused.
-pub fn answers(alloc: Global, row: &Row) -> Result<String, RowFault> {
-    if row.questions.is_empty() {
-        return counts(alloc);
-    }
-    let tree = read(alloc, row.questions.as_bytes()).map_err(RowFault::Unread)?;
-    let program = look_up(alloc, row.questions, &tree).map_err(RowFault::Unnamed)?;
+pub fn asked(alloc: Global, questions: &str) -> Result<String, RowFault> {
+    let tree = read(alloc, questions.as_bytes()).map_err(RowFault::Unread)?;
+    let program = look_up(alloc, questions, &tree).map_err(RowFault::Unnamed)?;
     let mut text = String::new(alloc);
     match ask_all(alloc, &program, " | ", &mut text) {
         Ok(()) => Ok(text),
         Err(_) => Err(RowFault::Memory),
     }
+}
+
+/// The answers to a row's questions, or of its calls.
+///
+/// # Errors
+/// As `asked` has them, and `Memory` where a call was refused a growth.
+pub fn answers(alloc: Global, row: &Row) -> Result<String, RowFault> {
+    if row.questions.is_empty() {
+        return call(alloc, row.name);
+    }
+    asked(alloc, row.questions)
 }
 
 // Says why a row has no answers: that a growth was refused among the answers, and what is wrong with its text to `err`.
@@ -339,74 +437,6 @@ pub fn print<O: io::Write, E: io::Write>(
             Ok(false)
         }
     }
-}
-
-// Whether a row below r20 has that name.
-fn is_low_row(name: &str) -> bool
-    ensures { IsTrue result ↔ IsLowRow name.now }
-{
-    name == "r01"
-        || name == "r02"
-        || name == "r03"
-        || name == "r04"
-        || name == "r05"
-        || name == "r07"
-        || name == "r08"
-        || name == "r09"
-        || name == "r10"
-        || name == "r11"
-        || name == "r12"
-        || name == "r17"
-        || name == "r18"
-        || name == "r19"
-}
-
-// Whether a row from r20 on, but below r40, has that name.
-fn is_middle_row(name: &str) -> bool
-    ensures { IsTrue result ↔ IsMiddleRow name.now }
-{
-    name == "r20"
-        || name == "r21"
-        || name == "r22"
-        || name == "r23"
-        || name == "r24"
-        || name == "r26"
-        || name == "r27"
-        || name == "r28"
-        || name == "r30"
-        || name == "r34"
-        || name == "r35"
-        || name == "r36"
-        || name == "r37"
-}
-
-// Whether a row from r40 on, but below r60, has that name.
-fn is_upper_row(name: &str) -> bool
-    ensures { IsTrue result ↔ IsUpperRow name.now }
-{
-    name == "r42"
-        || name == "r43"
-        || name == "r44"
-        || name == "r45"
-        || name == "r46"
-        || name == "r53"
-        || name == "r54"
-        || name == "r55"
-        || name == "r59"
-}
-
-// Whether a row from r60 on has that name.
-fn is_high_row(name: &str) -> bool
-    ensures { IsTrue result ↔ IsHighRow name.now }
-{
-    name == "r60" || name == "r61" || name == "r63" || name == "r69"
-}
-
-// Whether a row has that name.
-fn is_row(name: &str) -> bool
-    ensures { IsTrue result ↔ IsRow name.now }
-{
-    is_low_row(name) || is_middle_row(name) || is_upper_row(name) || is_high_row(name)
 }
 
 // Prints the row of a name, or all. The status is 1 if an answer is not the stored one, a row's text is wrong, or a
@@ -466,17 +496,4 @@ pub fn run<O: io::Write, E: io::Write>(
         return 2;
     }
     print_rows(alloc, Some(name.as_str()), out, err)
-}
-
-/// Tells why the program can't begin, and gives the status: 2 where a word is not UTF-8, 1 where a growth was refused.
-pub fn tell_unbegun<E: io::Write>(error: &io::Error, err: &mut E) -> u8
-    ensures wrong { error_kind error.now ≡ ErrorKind.InvalidData → result ≡ 2 }
-    ensures refused { error_kind error.now ≢ ErrorKind.InvalidData → result ≡ 1 }
-{
-    if error.kind() == ErrorKind::InvalidData {
-        let _ = writeln!(err, "relations: the row's name is not UTF-8");
-        return 2;
-    }
-    let _ = writeln!(err, "relations: {error}");
-    1
 }

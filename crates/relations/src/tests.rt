@@ -12,12 +12,17 @@ r02: false | true | false
 r03: true | err Sorts(?i0, ?f0)
 r04: &'a (i32, i32) | 'a | (i32, i32) | i32 | end
 r05: Foo<Bar<i32>, Bar<i32>, i32> | Bar<i32> | i32 | end
+r06: none | 33
 r07: err TupleSize(2, 3) | err Sorts((), (u8,))
 r08: err CyclicTy([?0])
 r09: err Sorts(u8, bool); bound=[?0=u8]
 r10: ok; regions=['!1.0: 'static]
 r11: ok; regions=['?0 == '!1.0, '?1 == '!1.0, '!2.0 == '?2, '!2.1 == '?2]
 r12: ok; goals=[Subtype(?0, ?2, true)]; bound=[?1=Vec<?2>]
+r14: T: Ord | T: PartialOrd | T: PartialEq | T: Eq | end
+r15: U: Foo<u8> | U: Foo<Vec<u8>> | U: Foo<Vec<Vec<u8>>> | U: Foo<Vec<Vec<Vec<u8>>>> | \
+    limit | limit
+r16: [U]: 'a | U: 'a | end | &'a U: 'b | U: 'b | 'a: 'b | end | for<'a> U: 'a | end
 r17: budget; bound=[?0=u8]; left=0
 r18: 'a
 r19: false | ok
@@ -26,10 +31,13 @@ r21: err ArgumentSorts(bool, char, 1) | err ArgumentMutability(0)
 r22: err ArraySize(2, 3)
 r23: ok; regions=['a: 'b] | ok; regions=['b: 'a] | ok; regions=['a == 'b]
 r24: ok; goals=[WellFormed(P<?0>), WellFormed(P<u8>)] | ok; bound=[?0=u8]
+r25: end | limit
 r26: Placeholder | none | Closure(f) | Tuple(0) | Error
 r27: err Mismatch
 r28: true
 r30: ok; bound=[?i0=u16] | err Sorts(?i0, bool)
+r31: Ord | PartialOrd | PartialEq | Eq | end | A | B | end
+r32: negative | [const] | ! | unevaluated constant
 r34: ok; regions=['a: 'c, 'b == 'd] | err Mutability
 r35: ok; regions=['b: 'a] | ok; regions=['a: 'b]
 r36: ok; bound=[?0=u8, ?i0=u16]; left=0
@@ -39,14 +47,24 @@ r43: err ArgumentSorts(u8, bool, 1) | err ArgCount
 r44: ok; regions=['a: 'b] | err Traits(Tr, Us)
 r45: err Mismatch | err ConstMismatch(2, 3)
 r46: ok; regions=['?0 == 'static, '!1.0 == 'static]
+r49: [u8, bool, P] | T: StreamingIterator | ['a]
+r50: PartialEq<u32> | bool: PartialEq<u32>
+r51: 'a: 'b | 'b: 'a | end | true | false
 r53: dyn Tr<bool, A = u8> + 'a | bool | u8 | 'a | end
 r54: 'a, T, 'b | 'b | none | escaping[T]
 r55: 'a: 'b | (&'a T, u8): 'b | T: 'b
+r56: T: Sized | end | T: Sized | T: MetaSized | end
+r57: T: !Ord | end | T: const A | T: const B | end
+r58: T: Ord | limit | limit | T: A | T: B | end
 r59: false | true | false | true
 r60: true | false | true | false
 r61: 61 | 0
 r63: ok; regions=['!1.0: '?0]; bound=[?0=&'?0 u8] | \
     ok; regions=['?0 == '!1.0, '?0 == '?1]; bound=[?0=&'?0 u8] | err Mismatch
+r65: 999 | limit
+r66: ok; left=0 | budget; left=0 | budget; left=0 | ok; bound=[?i0=u8]; left=0
+r67: err CyclicTy([?0]); left=1 | budget; left=0
+r68: limit | limit | U: 'a | end
 r69: true | false | false | ok; bound=[?c0=1]
 ";
 
@@ -79,7 +97,7 @@ const RUNS: [(&[&str], u8, &str, &str); 11] = [
         "r35: ok; regions=['b: 'a] | ok; regions=['a: 'b]\n",
         "",
     ),
-    (&["r06"], 2, "", "unknown row: r06\n"),
+    (&["r00"], 2, "", "unknown row: r00\n"),
     (&[""], 2, "", "unknown row: \n"),
     (&["r07", "r08"], 2, "", "usage: relations [name]\n"),
     (&["none", "r08", "r09"], 2, "", "usage: relations [name]\n"),

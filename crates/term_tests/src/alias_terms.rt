@@ -6,12 +6,12 @@ ghost use Rattle.relation_terms.specs.Predicates.{item_parent, item_alias};
 
 use crate::trait_refs::{make_args, make_no_vars};
 use relation_terms::predicate::{
-    AliasTerm, AliasTermKind, NormalizesTo, ProjectionPredicate, as_trait_clause,
-    clause_of_projection,
+    AliasTerm, AliasTermKind, ExistentialProjection, NormalizesTo, ProjectionPredicate,
+    as_trait_clause, clause_of_projection,
 };
 use relation_terms::terms::{
-    Binder, BoundVars, DefId, FreeConstAliasId, GenericArgs, Interner, OutOfMemory, TermKind,
-    TraitAssocTermId, TraitAssocTyId, UnevaluatedConst, UnevaluatedConstId,
+    Binder, BoundVars, DefId, FreeConstAliasId, GenericArgKind, GenericArgs, Interner, OutOfMemory,
+    TermKind, TraitAssocTermId, TraitAssocTyId, TyKind, UnevaluatedConst, UnevaluatedConstId,
 };
 
 // Whether an alias of an associated type is read.
@@ -23,6 +23,7 @@ fn reads<I: Interner>(cx: &I, id: I::Id, args: GenericArgs<I>) -> bool
     let alias = AliasTerm { kind, args };
     let def = UnevaluatedConstId(id);
     let mut fine = AliasTerm::from(alias.expect_ty()) == alias;
+    fine &= AliasTerm::new_from_def_id(cx, &DefId(id), args) == alias;
     fine &= AliasTerm::from_unevaluated_const(cx, &UnevaluatedConst { def, args }) == alias;
     fine &= alias.kind() == kind && alias.with_args(args) == alias;
     fine & (AliasTerm::new_from_args(kind, args) == alias)
@@ -52,6 +53,7 @@ fn predicates_read<I: Interner>(
     let bound = Binder { value, bound_vars };
     let normalizes = NormalizesTo { alias, term };
     let mut fine = bound.trait_def_id(cx) == normalizes.trait_def_id(cx);
+    fine &= value.trait_def_id(cx) == alias.trait_def_id(cx);
     fine &= bound.term().value == term && bound.item_def_id() == DefId(id);
     fine &= value.def_id() == TraitAssocTermId(id) && normalizes.def_id() == DefId(id);
     fine & (value.self_ty(cx) == ty && normalizes.self_ty(cx) == ty)
@@ -96,6 +98,37 @@ fn normalized_stays<I: Interner>(
     let normalizes = NormalizesTo { alias, term };
     let replaced = normalizes.with_replaced_self_ty(cx, ty)?;
     Ok(replaced == normalizes)
+}
+
+// Whether an alias, and what a trait object says of one, have the list that they are made of.
+#[tactic(auto, using(relation_terms::proofs::Stays::knows_ty))]
+fn lists_are_kept<I: Interner>(cx: &mut I, id: I::Id) -> Result<bool, OutOfMemory> {
+    let ty = cx.mk_ty(TyKind::Bool)?;
+    let mut given = Vec::new(cx.alloc());
+    given.push(GenericArgKind::Ty(ty))?;
+    let def_id = TraitAssocTyId(id);
+    let kind = AliasTermKind::ProjectionTy { def_id };
+    let alias = AliasTerm::new(cx, kind, &given)?;
+    let term = TermKind::Ty(ty);
+    let named = ExistentialProjection::new(cx, TraitAssocTermId(id), &given, term)?;
+    Ok(alias.kind == kind && alias.args == named.args && named.term == term)
+}
+
+// Whether an alias of its own self type is itself.
+fn alias_stays<I: Interner>(
+    cx: &mut I,
+    id: I::Id,
+    args: GenericArgs<I>,
+) -> Result<bool, OutOfMemory>
+    requires sure { IsTrue (known ((I.meaning cx.old).args args)) }
+    requires has_self { HasSelf ((I.meaning cx.old).args args) }
+{
+    let def_id = TraitAssocTyId(id);
+    let kind = AliasTermKind::ProjectionTy { def_id };
+    let alias = AliasTerm { kind, args };
+    let ty = alias.self_ty(cx);
+    let replaced = alias.with_replaced_self_ty(cx, ty)?;
+    Ok(replaced == alias)
 }
 
 // Whether an alias has just the arguments of its trait, and none of its own.
@@ -176,9 +209,12 @@ pub fn all_go<I: Interner>(cx: &mut I, id: I::Id) -> Result<bool, OutOfMemory> {
     let args = make_args(cx)?;
     fine &= terms_are_made(cx, id, args)?;
     let args = make_args(cx)?;
+    fine &= alias_stays(cx, id, args)?;
+    let args = make_args(cx)?;
     fine &= projection_stays(cx, id, args)?;
     let args = make_args(cx)?;
     fine &= normalized_stays(cx, id, args)?;
+    fine &= lists_are_kept(cx, id)?;
     let args = make_args(cx)?;
     Ok(clause_is_made(cx, id, args)? && fine)
 }

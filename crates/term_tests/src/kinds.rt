@@ -1,13 +1,13 @@
 //! What an argument and a term are, of which item an id is, and what stands with its arguments.
 use reference_interner::{ItemId, NodeKey};
 use relation_terms::predicate::{
-    ExistentialProjection, ExistentialTraitRef, OutlivesPredicate, RegionConstraint,
-    RegionEqPredicate,
+    AliasTerm, AliasTermKind, ExistentialProjection, ExistentialTraitRef, OutlivesPredicate,
+    RegionConstraint, RegionEqPredicate, TraitRef,
 };
 use relation_terms::terms::{
-    AdtId, ArgsKey, BoundConstness, ClosureId, CoroutineClosureId, CoroutineId, DefId, ForeignId,
-    FunctionId, GenericArgKind, ImplPolarity, PredicatePolarity, RegionKey, TermKind,
-    TraitAssocTermId, TraitId, TyKey,
+    AdtId, AliasTyKind, ArgsKey, BoundConstness, ClosureId, CoroutineClosureId, CoroutineId, DefId,
+    ForeignId, FreeConstAliasId, FunctionId, GenericArgKind, ImplPolarity, PredicatePolarity,
+    RegionKey, TermKind, TraitAssocTermId, TraitAssocTyId, TraitId, TyKey, UnevaluatedConstId,
 };
 use std::test::Fail;
 
@@ -41,6 +41,32 @@ fn what_a_trait_object_implements_is_made_from_its_arguments(rt: HostRuntime) {
     assert!(rt; of_item.def_id == TraitAssocTermId(ItemId(8)));
     assert!(rt; of_item.args == args);
     assert!(rt; of_item.term == term);
+}
+
+#[test]
+fn aliases_are_types_or_constants(rt: HostRuntime) {
+    let id = ItemId(7);
+    let def_id = TraitAssocTyId(id);
+    let of_type = AliasTermKind::from(AliasTyKind::Projection { def_id });
+    assert!(rt; of_type == AliasTermKind::ProjectionTy { def_id });
+    assert!(rt; of_type.is_type());
+    assert!(rt; of_type.def_id() == DefId(id));
+    let def_id = FreeConstAliasId(id);
+    let of_constant = AliasTermKind::FreeConst { def_id };
+    assert!(rt; !of_constant.is_type());
+    let args = ArgsKey(NodeKey(2));
+    let alias = AliasTerm {
+        kind: of_constant,
+        args,
+    };
+    assert!(rt; AliasTerm::new_from_args(of_constant, args) == alias);
+    assert!(rt; alias.def_id() == DefId(id));
+    let constant = alias.expect_ct();
+    assert!(rt; constant.def == UnevaluatedConstId(id));
+    assert!(rt; constant.args == args);
+    let of_trait = TraitRef::new_from_args(TraitId(id), args);
+    assert!(rt; of_trait.def_id == TraitId(id));
+    assert!(rt; of_trait.args == args);
 }
 
 #[test]

@@ -11,6 +11,8 @@ mod binding;
 #[cfg(test)]
 mod clause_lists;
 #[cfg(test)]
+mod delaying;
+#[cfg(test)]
 mod errors;
 #[cfg(test)]
 mod items;
@@ -18,6 +20,8 @@ mod items;
 mod kinds;
 #[cfg(test)]
 mod objects;
+#[cfg(test)]
+mod outlives;
 #[cfg(test)]
 mod predicate_parts;
 #[cfg(test)]

@@ -8,12 +8,18 @@ use Rattle.term_enums.specs.declared.Safety.{Safety}
 use Rattle.term_enums.specs.declared.Safety.TheVariants as safety
 use Rattle.term_enums.specs.declared.ExternAbi.{ExternAbi}
 use Rattle.term_enums.specs.declared.ExternAbi.TheVariants as abi
+use Rattle.term_enums.specs.declared.PredicatePolarity.TheVariants as polarity
+use Rattle.term_enums.specs.declared.BoundConstness.TheVariants as constness
 use Rattle.text_reading.specs.declared.reading.signs.Sign.{Sign}
 use Rattle.text_reading.specs.declared.reading.signs.Sign.TheVariants as sign
 use Rattle.text_reading.specs.declared.reading.tree.ItemSort.{ItemSort}
 use Rattle.text_reading.specs.declared.reading.tree.ItemSort.TheVariants as sort
 use Rattle.text_reading.specs.declared.reading.tree.SideParams.{SideParams}
 use Rattle.text_reading.specs.declared.reading.tree.SideParams.TheVariants as sides
+use Rattle.text_reading.specs.declared.reading.tree.StatedKind.{StatedKind}
+use Rattle.text_reading.specs.declared.reading.tree.StatedKind.TheVariants as stated
+use Rattle.text_reading.specs.declared.reading.tree.Claim.{Claim}
+use Rattle.text_reading.specs.declared.reading.tree.Claim.TheVariants as claim
 use Rattle.text_reading.specs.declared.reading.tree.Form.{Form}
 use Rattle.text_reading.specs.declared.reading.tree.Form.TheVariants as form
 use Rattle.text_reading.specs.declared.reading.openings.Rest.{Rest}
@@ -62,6 +68,7 @@ spelling sign.Components = codes "components"
 spelling sign.Const = codes "const"
 spelling sign.Coroutine = codes "coroutine"
 spelling sign.Dyn = codes "dyn"
+spelling sign.Elaborate = codes "elaborate"
 spelling sign.Error = codes "error"
 spelling sign.Escapes = codes "escapes"
 spelling sign.Expr = codes "expr"
@@ -69,6 +76,7 @@ spelling sign.Extern = codes "extern"
 spelling sign.Fn = codes "fn"
 spelling sign.Fold = codes "fold"
 spelling sign.For = codes "for"
+spelling sign.Implied = codes "implied"
 spelling sign.In = codes "in"
 spelling sign.Infer = codes "infer"
 spelling sign.Infers = codes "infers"
@@ -76,16 +84,22 @@ spelling sign.Inherent = codes "inherent"
 spelling sign.Is = codes "is"
 spelling sign.Key = codes "key"
 spelling sign.Let = codes "let"
+spelling sign.Limit = codes "limit"
 spelling sign.May = codes "may"
 spelling sign.Mut = codes "mut"
 spelling sign.Null = codes "null"
 spelling sign.Opaque = codes "opaque"
 spelling sign.Param = codes "param"
+spelling sign.Pulls = codes "pulls"
 spelling sign.Repeat = codes "repeat"
 spelling sign.Rigid = codes "rigid"
+spelling sign.SelfType = codes "self"
+spelling sign.Sized = codes "sized"
 spelling sign.Skip = codes "skip"
 spelling sign.Stop = codes "stop"
 spelling sign.Struct = codes "struct"
+spelling sign.Super = codes "super"
+spelling sign.Supertraits = codes "supertraits"
 spelling sign.Then = codes "then"
 spelling sign.Trait = codes "trait"
 spelling sign.Type = codes "type"
@@ -143,6 +157,19 @@ sort_signs sort.FreeConst = sign.Const ∷ []
 sort_signs sort.Opaque = sign.Opaque ∷ []
 sort_signs sort.InherentTy = sign.Inherent ∷ sign.Type ∷ []
 sort_signs sort.InherentConst = sign.Inherent ∷ sign.Const ∷ []
+
+-- what begins a statement of what a trait states
+abbrev pub stated_signs : StatedKind → List Sign
+stated_signs stated.Super = sign.Super ∷ []
+stated_signs stated.Implied = sign.Implied ∷ []
+stated_signs stated.Const = sign.Const ∷ sign.Super ∷ []
+
+-- what stands behind the `:` of a predicate before a trait
+abbrev pub claim_signs : Claim → List Sign
+claim_signs (claim.Trait polarity.Positive) = []
+claim_signs (claim.Trait polarity.Negative) = sign.Bang ∷ []
+claim_signs (claim.HostEffect constness.Const) = sign.Const ∷ []
+claim_signs (claim.HostEffect constness.Maybe) = sign.LeftBracket ∷ sign.Const ∷ sign.RightBracket ∷ []
 
 -- the words from that number on are these signs
 abbrev pub StandFrom : List Word → ℕ → List Sign → Type 0

@@ -2,11 +2,13 @@
 
 mod aliases;
 mod binders;
+mod elaborations;
 mod error;
 mod namer;
 mod objects;
 mod outlives;
 mod plain;
+mod predicates;
 mod program;
 mod questions;
 mod quick;
@@ -16,6 +18,7 @@ mod walks;
 
 pub use error::{Missing, NameError, Wrong, write_name_error};
 pub use program::{
-    Declared, Item, ParamSort, Parts, Program, Put, Question, QuestionKind, Sort, Term, Variables,
+    Clause, Declared, Item, ParamSort, Parts, Program, Put, Question, QuestionKind, Says, Sort,
+    Stated, Term, Variables,
 };
 pub use statements::{LAST_UNIVERSE, MOST_VARIABLES, look_up};

@@ -1,10 +1,12 @@
 //! A text becomes words, and the words a tree of names with places.
 
+mod elaborations;
 mod error;
 mod headers;
 mod openings;
 mod outlives;
 mod place;
+mod predicates;
 mod questions;
 mod quick;
 mod reader;
@@ -21,5 +23,5 @@ pub use error::{Expected, ReadError, write_error};
 pub use place::{Place, place_of};
 pub use signs::Sign;
 pub use statements::read;
-pub use tree::{Form, ItemSort, KeyParams, Node, NodeKind, SideParams, Tree};
+pub use tree::{Claim, Form, ItemSort, KeyParams, Node, NodeKind, SideParams, StatedKind, Tree};
 pub use words::{Leaf, Word, WordKind};

@@ -11,8 +11,11 @@ mod making;
 mod objects;
 mod patterns;
 
-pub use lists::{key_at, keys_at, ty_at};
+pub use binders::variables_at;
+pub use inner::term_of;
+pub use lists::{const_at, key_at, keys_at, region_at, ty_at};
 use making::make_either;
+pub use making::name_at;
 use relation_terms::terms::{GenericArg, Interner, OutOfMemory};
 use text_reading::naming::Program;
 

@@ -50,6 +50,18 @@ fn form_name(form: Form) -> &'static str {
         Form::Budget => "budget",
         Form::Variables => "variables",
         Form::Let => "let",
+        Form::States(_) => "states",
+        Form::Stating => "stating",
+        Form::IsSized => "is-sized",
+        Form::Claims(_) => "claims",
+        Form::OutlivesUnder => "outlives-under",
+        Form::ComesTo => "comes-to",
+        Form::Says => "says",
+        Form::Elaborate { .. } => "elaborate",
+        Form::Supertraits => "supertraits",
+        Form::SupertraitIds => "supertrait-ids",
+        Form::Limit => "limit",
+        Form::Pulls => "pulls",
         Form::Question(_) => "question",
         Form::Visit => "visit",
         Form::Walk => "walk",
@@ -139,6 +151,17 @@ fn texts_are_read(rt: HostRuntime) -> Result<(), Fail> {
             "visit (T is 1..=?c2 | !null, ({error}) is | (A..=B | {error}..=!1N));",
             "file(visit(tuple(pat(T or(range(1 ?c2) not-null())) \
              pat(error() or(or(range(A B) range(error() !1N))))) terms() terms()))",
+        ),
+        (
+            "super A: Self: B, Self: 'a; implied B: <Self as B>::X == T; const super A: Self: const B; sized S;",
+            "file(states(stating(A) claims(bound() Self named(B)) outlives-under(bound() Self 'a)) \
+             states(stating(B) comes-to(bound() associated(Self named(B) named(X)) T)) \
+             states(stating(A) claims(bound() Self named(B))) is-sized(S))",
+        ),
+        (
+            "elaborate[self] T: !A, for<'a> 'a: 'b limit 2 pulls 3; supertraits T: A limit 1; supertraits A;",
+            "file(elaborate(claims(bound() T named(A)) outlives-under(bound('a) 'a 'b) limit(2) pulls(3)) \
+             supertraits(claims(bound() T named(A)) limit(1)) supertrait-ids(A))",
         ),
         (
             "visit {const !1.0, const {error}};",

@@ -110,8 +110,8 @@ module _ {Key Id Name : Type 0} {r q : State Key Id Name} (M : Manners) (v : Var
     refuses l Memory o = tt
 
     exactly : (A B : Type 0) (p : State Key Id Name) (e : RelateFault Key Id Name) →
-        ExactlyRelated {X = A} (M q.settings) q.store p.store (part_at (items_in r) h i v) x y (Err e) →
-        ExactlyRelated {X = B} (M r.settings) r.store p.store v (node h ts) (node h us) (Err e)
+        ExactlyRelated {X = A} (M q.kept.settings) q.store p.store (part_at (items_in r) h i v) x y (Err e) →
+        ExactlyRelated {X = B} (M r.kept.settings) r.store p.store v (node h ts) (node h us) (Err e)
     exactly A B p e g exact is pair =
         refused_as r.store p.store (node h ts) (node h us) ts us (λ s. forms_unify_by_parts s h ts us apart) (λ u z. z)
         (λ u z. z) A B e (fronted_fault h v i ts us x y f lx ly ex ey A A p e are exact is looked

@@ -19,6 +19,7 @@ use Rattle.relation_contexts.specs.Parts.{parts_of, IsRelatedPart, IsComparedPar
 use Rattle.relation_contexts.specs.Measures.{depth}
 use Rattle.relation_contexts.specs.Stores.{Store, IsTermIn, weight}
 use Rattle.relation_contexts.proofs.OneParts.{parts_counted}
+use Rattle.relation_contexts.proofs.Answering.{same_settings}
 use Rattle.type_relations.proofs.Handing.{HaveAsManyInputs}
 use Rattle.type_relations.proofs.Patterns.{IsFormSort}
 
@@ -149,8 +150,8 @@ asked_turned M w a b there k = record {
   right_known = k.right_known;
   left_in = subst (λ s. IsTermIn s a) (sym there.store) k.left_in;
   right_in = subst (λ s. IsTermIn s b) (sym there.store) k.right_in;
-  left_taken = subst (λ z. Takes (M z) w a) (sym there.settings) k.left_taken;
-  right_taken = subst (λ z. Takes (M z) w b) (sym there.settings) k.right_taken;
+  left_taken = subst (λ z. Takes (M z) w a) (sym (same_settings there.kept)) k.left_taken;
+  right_taken = subst (λ z. Takes (M z) w b) (sym (same_settings there.kept)) k.right_taken;
 }
 
 pub depth_turned : {Key Id Name : Type 0} {v : Variance} {r t : State Key Id Name} (x y : Part Key Id) → Turned v r t →

@@ -10,12 +10,12 @@ use Rattle.relation_terms.specs.Trees.{known}
 use Rattle.relation_terms.specs.Meaning.{Meaning}
 use Rattle.type_relations.specs.Emitting.{AddsGoals, KnowsPredicate}
 use Rattle.relation_contexts.specs.Goals.{goal_of, goals_of, KnowsGoal}
-use Rattle.type_relations.specs.Solving.{solving}
+use Rattle.type_relations.specs.Solving.{Held, solving}
 use Rattle.relation_contexts.specs.Stores.{Store}
 
 module _ {Key Id Name : Type 0} (m : Meaning Key Id Name) where
   -- Goals were put behind those that there were.
-  pub goals_added : {A F : Type 0} (j : ℕ) (gs hs xs : List (KeyedGoal Key (PredicateKey Key))) (st : Store) (L : Type 0)
+  pub goals_added : {A F : Type 0} (j : Held Key) (gs hs xs : List (KeyedGoal Key (PredicateKey Key))) (st : Store) (L : Type 0)
       (v : Variance) (e : ParamEnvKey Key) → hs ≡ gs ++ xs → All (KnowsGoal m) xs → (x : A) →
       AddsGoals {F = F} (solving j gs m st L v e) (solving j hs m st L v e) (goals_of m xs) (Ok x)
   goals_added j gs hs xs st L v e pushed sure x = record {
@@ -23,10 +23,9 @@ module _ {Key Id Name : Type 0} (m : Meaning Key Id Name) where
     store = refl;
     goals = ap (goals_of m) pushed
         ∙ map-append (λ g. goal_of (m.param_env g.param_env) (m.predicate g.predicate)) gs xs;
-    environment = refl;
+    kept = refl;
     ambient = refl;
-    settings = refl;
-    reference = refl;
+    remembered = refl;
     lawful = λ l. (l.0, (l.1.0, subst (All (KnowsGoal m)) (sym pushed) (All-append (KnowsGoal m) gs xs l.1.1 sure)));
   }
 

@@ -15,6 +15,7 @@ use Rattle.relation_contexts.specs.Stores.{InContext, IsTermIn}
 use Rattle.type_relations.proofs.Bivariance.{bivariant_parts, items_stay}
 use Rattle.type_relations.proofs.Noting.{noted_with, noted_then, noted_added}
 use Rattle.relation_contexts.proofs.Standing.{term_context}
+use Rattle.relation_contexts.proofs.Answering.{same_environment, same_settings}
 
 -- Predicates of known trees are known.
 pub listed_known : {Key Id Name : Type 0} (m : Meaning Key Id Name) (ps : List (PredicateKey Key)) →
@@ -46,15 +47,15 @@ module _ {Key Id Name : Type 0} (r q p : State Key Id Name) (d : ℕ) (a b ts us
   abbrev both : Tree → List Goal
   both z = goal_of z (well_formed_predicate a) ∷ goal_of z (well_formed_predicate b) ∷ []
 
-  listed : goals_in p ps ≡ both p.environment
-  listed = goals_over p.environment (p.meaning).predicate ps ∙ ap (map (goal_of p.environment)) made
+  listed : goals_in p ps ≡ both p.kept.environment
+  listed = goals_over p.kept.environment (p.meaning).predicate ps ∙ ap (map (goal_of p.kept.environment)) made
 
   by_declared : RelatesByDeclared p
-  by_declared = subst₂ (λ k u. ByDeclared k.declared_at_invariance u) (sym (v.settings ∙ w.settings))
+  by_declared = subst₂ (λ k u. ByDeclared k.declared_at_invariance u) (sym (same_settings (v.kept ∙ w.kept)))
       (sym (v.ambient ∙ w.ambient)) declared
 
   registered : (t : Tree) → IsTermIn r.store t → HasBivariantPart (items_in r) t →
-      RegisteredIn p p.store (goal_of p.environment (well_formed_predicate t))
+      RegisteredIn p p.store (goal_of p.kept.environment (well_formed_predicate t))
   registered t i bivariant = record {
     environment = refl;
     asks = of_type t by_declared refl
@@ -62,18 +63,18 @@ module _ {Key Id Name : Type 0} (r q p : State Key Id Name) (d : ℕ) (a b ts us
         (subst (λ c. HasBivariantPart c t) (sym (items_stay f ∙ items_stay e)) bivariant);
   }
 
-  asks : All (RegisteredIn p p.store) (both p.environment)
+  asks : All (RegisteredIn p p.store) (both p.kept.environment)
   asks =
       let P = RegisteredIn p p.store in
       let parts = bivariant_parts (items_in r) r.store d a b ts us over h in
-      All-cons P (goal_of p.environment (well_formed_predicate a)) (goal_of p.environment (well_formed_predicate b) ∷ [])
-      (registered a a_in parts.0) (All-cons P (goal_of p.environment (well_formed_predicate b)) []
+      All-cons P (goal_of p.kept.environment (well_formed_predicate a)) (goal_of p.kept.environment (well_formed_predicate b) ∷ [])
+      (registered a a_in parts.0) (All-cons P (goal_of p.kept.environment (well_formed_predicate b)) []
       (registered b b_in parts.1) (All-nil P))
 
-  quiet : All IsQuiet (both p.environment)
-  quiet = All-cons IsQuiet (goal_of p.environment (well_formed_predicate a))
-      (goal_of p.environment (well_formed_predicate b) ∷ []) tt
-      (All-cons IsQuiet (goal_of p.environment (well_formed_predicate b)) [] tt (All-nil IsQuiet))
+  quiet : All IsQuiet (both p.kept.environment)
+  quiet = All-cons IsQuiet (goal_of p.kept.environment (well_formed_predicate a))
+      (goal_of p.kept.environment (well_formed_predicate b) ∷ []) tt
+      (All-cons IsQuiet (goal_of p.kept.environment (well_formed_predicate b)) [] tt (All-nil IsQuiet))
 
   module _ {A F : Type 0} (u : State Key Id Name) (result : Result A F) (adds : AddsGoals p u (goals_in p ps) result) where
     pub noted_both : (x : Result (Unit {0}) (RelateFault Key Id Name)) → OnlyMemory x → Noted r u x
@@ -85,10 +86,10 @@ module _ {Key Id Name : Type 0} (r q p : State Key Id Name) (d : ℕ) (a b ts us
         (subst (All IsQuiet) (sym listed) quiet) x fault))
 
     pub both_registered : (y : A) → result ≡ Ok y →
-        RegistersWellFormed (items_in r) r.store r.environment d a b ts us r.goals u.goals
+        RegistersWellFormed (items_in r) r.store r.kept.environment d a b ts us r.goals u.goals
     both_registered y is = record {
       both = λ o. adds.goals ∙ ap (with_goals p.goals (goals_in p ps)) is ∙ ap (λ gs. p.goals ++ gs) listed
-          ∙ ap (λ gs. gs ++ both p.environment) (v.goals ∙ w.goals)
-          ∙ ap (λ z. r.goals ++ both z) (v.environment ∙ w.environment);
+          ∙ ap (λ gs. gs ++ both p.kept.environment) (v.goals ∙ w.goals)
+          ∙ ap (λ z. r.goals ++ both z) (same_environment (v.kept ∙ w.kept));
       none = λ closed. absurd (closed h);
     }

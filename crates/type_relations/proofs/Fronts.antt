@@ -59,11 +59,11 @@ exact_front_begins st xs ys = record {
 pub record Fronted {Key Id Name : Type 0} (M : Manners) (r q : State Key Id Name) (h : Head) (v : Variance) (i : ℕ)
     (xs ys : Tree) : Type 0 where
   pub passes : Passes (weight r.store xs + weight r.store ys) r q
-  pub front : Front (items_in r) r.environment h v i r.store q.store r.goals passes.added xs ys
-  pub exact : (M r.settings).is_exact → v ≡ Invariant → IsLookedAt h → IsFirstOrderPair r.store xs ys →
+  pub front : Front (items_in r) r.kept.environment h v i r.store q.store r.goals passes.added xs ys
+  pub exact : (M r.kept.settings).is_exact → v ≡ Invariant → IsLookedAt h → IsFirstOrderPair r.store xs ys →
       IsFirstOrderStore q.store × ExactFront i r.store q.store xs ys × KeepsUniverseOf r.store q.store xs ys
   pub full : StaysFullFor r.store q.store xs ys
-  pub agrees : (M r.settings).relates_agreeing → (j : ℕ) → j < i →
+  pub agrees : (M r.kept.settings).relates_agreeing → (j : ℕ) → j < i →
       Agree (items_in r) (at (part_at (items_in r) h j v)) (nth j xs) (nth j ys)
 
 -- What is asked of two lists of parts.
@@ -84,7 +84,7 @@ module _ {Key Id Name : Type 0} where
   unfolding passes_nowhere
   fronted_none M r h v xs ys = record {
     passes = passes_nowhere (weight r.store xs + weight r.store ys) r;
-    front = front_begins (items_in r) r.environment h v r.store r.goals xs ys;
+    front = front_begins (items_in r) r.kept.environment h v r.store r.goals xs ys;
     exact = λ k is looked pair. (
       pair.bindings,
       exact_front_begins r.store xs ys,
@@ -136,10 +136,10 @@ module _ {Key Id Name : Type 0} where
     unfolding passes_then
     fronted_next {X} {p} tree t are g = record {
       passes = passes_then f.passes g.passes part_small;
-      front = (front_goes_on (items_in r) r.environment h v i r.store q.store p.store r.goals (f.passes).added
+      front = (front_goes_on (items_in r) r.kept.environment h v i r.store q.store p.store r.goals (f.passes).added
           (g.passes).added xs ys are.left_list are.right_list are.left_in are.right_in f.front).0
           (outcome_seen f.passes (at (part_at (items_in r) h i v)) p.store (g.passes).added (nth i xs) (nth i ys)
-          (subst₂ (λ t u. Outcome (items_in q) q.environment (at (part_at (items_in r) h i v)) q.store p.store q.goals
+          (subst₂ (λ t u. Outcome (items_in q) q.kept.environment (at (part_at (items_in r) h i v)) q.store p.store q.goals
           (g.passes).added t u) ex ey (g.verdict).outcome));
       exact = λ k is looked pair.
           let z = f.exact k is looked pair in
@@ -158,8 +158,8 @@ module _ {Key Id Name : Type 0} where
 
     -- A fault of two parts is one of the lists: they are not unified where the parts are not.
     pub fronted_fault : (A B : Type 0) (p : State Key Id Name) (e : RelateFault Key Id Name) → AreParts r.store xs ys →
-        (M r.settings).is_exact → v ≡ Invariant → IsLookedAt h → IsFirstOrderPair r.store xs ys →
-        ((M r.settings).is_exact → part_at (items_in r) h i v ≡ Invariant → IsFirstOrderPair q.store x y →
+        (M r.kept.settings).is_exact → v ≡ Invariant → IsLookedAt h → IsFirstOrderPair r.store xs ys →
+        ((M r.kept.settings).is_exact → part_at (items_in r) h i v ≡ Invariant → IsFirstOrderPair q.store x y →
         ExactResult {X = A} q.store p.store x y (Err e)) → ExactResult {X = B} r.store p.store xs ys (Err e)
     fronted_fault A B p e are k is looked pair g = go e (g k (part_invariant (items_in r) h i v looked is) (pair_at pair z.0))
       where
@@ -180,7 +180,7 @@ module _ {Key Id Name : Type 0} where
     pub fronted_never : AreParts r.store xs ys → NeverOne (at (part_at (items_in r) h i v)) q.store x y →
         NeverOne (parts h 0 v) r.store xs ys
     fronted_never are n =
-        (front_goes_on (items_in r) r.environment h v i r.store q.store q.store r.goals (f.passes).added
+        (front_goes_on (items_in r) r.kept.environment h v i r.store q.store q.store r.goals (f.passes).added
         [] xs ys are.left_list are.right_list are.left_in are.right_in f.front).1
         (subst₂ (λ t u. NeverOne (at (part_at (items_in r) h i v)) q.store t u) ex ey n)
 
@@ -190,7 +190,7 @@ module _ {Key Id Name : Type 0} where
 
   -- All parts were related, and agree.
   pub fronted_agree : {M : Manners} {r q : State Key Id Name} (h : Head) (v : Variance) (n : ℕ) (xs ys : Tree) →
-      n ≡ count xs → n ≡ count ys → Fronted M r q h v n xs ys → (M r.settings).relates_agreeing →
+      n ≡ count xs → n ≡ count ys → Fronted M r q h v n xs ys → (M r.kept.settings).relates_agreeing →
       Agree (items_in r) (parts h 0 v) xs ys
   fronted_agree {r = r} h v n xs ys e d f k =
       agree_parts (items_in r) h 0 v xs ys (sym e ∙ d) (λ j l. subst
@@ -199,7 +199,7 @@ module _ {Key Id Name : Type 0} where
 
   -- All parts were related exactly.
   pub fronted_exactly : {M : Manners} {r q : State Key Id Name} (h : Head) (v : Variance) (n : ℕ) (xs ys : Tree) →
-      AreParts r.store xs ys → n ≡ count xs → n ≡ count ys → Fronted M r q h v n xs ys → (M r.settings).is_exact → v ≡ Invariant →
+      AreParts r.store xs ys → n ≡ count xs → n ≡ count ys → Fronted M r q h v n xs ys → (M r.kept.settings).is_exact → v ≡ Invariant →
       IsLookedAt h → IsFirstOrderPair r.store xs ys → IsFirstOrderStore q.store × Exact r.store q.store xs ys ×
       KeepsUniverseOf r.store q.store xs ys
   fronted_exactly {M} {r} {q} h v n xs ys are e d f k is looked pair =
@@ -212,8 +212,8 @@ module _ {Key Id Name : Type 0} where
 
   pub fronted_all : {M : Manners} {r q : State Key Id Name} (h : Head) (v : Variance) (n : ℕ) (xs ys : Tree) →
       AreParts r.store xs ys → n ≡ count xs → n ≡ count ys → (f : Fronted M r q h v n xs ys) →
-      Outcome (items_in r) r.environment (parts h 0 v) r.store q.store r.goals (f.passes).added xs ys
+      Outcome (items_in r) r.kept.environment (parts h 0 v) r.store q.store r.goals (f.passes).added xs ys
   fronted_all {M} {r} {q} h v n xs ys are e d f =
-      front_ends (items_in r) r.environment h v r.store q.store r.goals (f.passes).added xs ys are.left_list are.right_list
+      front_ends (items_in r) r.kept.environment h v r.store q.store r.goals (f.passes).added xs ys are.left_list are.right_list
       (sym e ∙ d)
-      (subst (λ i. Front (items_in r) r.environment h v i r.store q.store r.goals (f.passes).added xs ys) e f.front)
+      (subst (λ i. Front (items_in r) r.kept.environment h v i r.store q.store r.goals (f.passes).added xs ys) e f.front)

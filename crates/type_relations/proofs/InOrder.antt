@@ -47,7 +47,7 @@ use Rattle.type_relations.proofs.Handing.{part_fault_known}
 module _ {Key Id Name : Type 0} {r q : State Key Id Name} (M : Manners) (v : Variance) (a b : Tree) (i : ℕ)
     (form : IsByParts a) where
   -- Some of the parts were related: no more variables are bound than there were.
-  front_binds : Fronted M r q (head_of a) v i (parts_of a) (parts_of b) → (M r.settings).is_exact → v ≡ Invariant →
+  front_binds : Fronted M r q (head_of a) v i (parts_of a) (parts_of b) → (M r.kept.settings).is_exact → v ≡ Invariant →
       IsFirstOrderPair r.store a b → BindsNoMore r.store q.store a b
   front_binds f exact is pair =
       binds_as r.store q.store a b (parts_of a) (parts_of b) (λ u. leaves_parts (NamesTypesTo u) a)
@@ -66,18 +66,18 @@ module _ {Key Id Name : Type 0} {r q : State Key Id Name} (M : Manners) (v : Var
       AreParts r.store (parts_of a) (parts_of b) → i ≡ count (parts_of a) → i ≡ count (parts_of b) →
       (w : Interpretation) (s : Assign) → Satisfies w q.store s →
       All (Holds (items_in r) w s) (r.goals ++ (f.passes).added) →
-      Rel (items_in r) w r.environment (at v) (apply s a) (apply s b)
+      Rel (items_in r) w r.kept.environment (at v) (apply s a) (apply s b)
   terms_relate (over_parts {h} {ts} {us} d e n) f are ea eb w s sat all =
       let whole = fronted_all (head_of a) v i (parts_of a) (parts_of b) are ea eb f in
-      subst₂ (λ x y. Rel (items_in r) w r.environment (at v) (apply s x) (apply s y)) (sym d) (sym e)
+      subst₂ (λ x y. Rel (items_in r) w r.kept.environment (at v) (apply s x) (apply s y)) (sym d) (sym e)
       (forms (term_related h ts (subst IsByParts d form)) refl
-      (subst (λ z. Rel (items_in r) w r.environment (parts h 0 v) (apply s (parts_of z)) (apply s us)) d
-      (subst (λ z. Rel (items_in r) w r.environment (parts h 0 v) (apply s (parts_of a)) (apply s (parts_of z))) e
-      (subst (λ z. Rel (items_in r) w r.environment (parts (head_of z) 0 v) (apply s (parts_of a)) (apply s (parts_of b))) d
+      (subst (λ z. Rel (items_in r) w r.kept.environment (parts h 0 v) (apply s (parts_of z)) (apply s us)) d
+      (subst (λ z. Rel (items_in r) w r.kept.environment (parts h 0 v) (apply s (parts_of a)) (apply s (parts_of z))) e
+      (subst (λ z. Rel (items_in r) w r.kept.environment (parts (head_of z) 0 v) (apply s (parts_of a)) (apply s (parts_of b))) d
       (whole.relates w s sat all)))))
   terms_relate (one_leaf d e) f are ea eb w s sat all = same (ap (apply s) (d ∙ sym e))
   terms_relate (parameters d e p) f are ea eb w s sat all =
-      subst₂ (λ x y. Rel (items_in r) w r.environment (at v) (apply s x) (apply s y)) (sym d) (sym e) (atoms p)
+      subst₂ (λ x y. Rel (items_in r) w r.kept.environment (at v) (apply s x) (apply s y)) (sym d) (sym e) (atoms p)
 
   pub terms_answer : {X : Type 0} (tree : X → Tree) (x : X) → AreOfOneForm a b →
       Fronted M r q (head_of a) v i (parts_of a) (parts_of b) → AreParts r.store (parts_of a) (parts_of b) →
@@ -144,8 +144,8 @@ module _ {Key Id Name : Type 0} {r q : State Key Id Name} (M : Manners) (v : Var
         )
 
     whole_term : (A B : Type 0) (p : State Key Id Name) (e : RelateFault Key Id Name) →
-        ExactlyRelated {X = A} (M q.settings) q.store p.store (part_at (items_in r) (head_of a) i v) x y (Err e) →
-        ExactlyRelated {X = B} (M r.settings) r.store p.store v a b (Err e)
+        ExactlyRelated {X = A} (M q.kept.settings) q.store p.store (part_at (items_in r) (head_of a) i v) x y (Err e) →
+        ExactlyRelated {X = B} (M r.kept.settings) r.store p.store v a b (Err e)
     whole_term A B p e g exact is pair =
         refused_as r.store p.store a b (parts_of a) (parts_of b) (terms_unify a b form o)
         (λ u. leaves_parts (NamesTypesTo u) a) (λ u. leaves_parts (NamesTypesTo u) b) A B e
@@ -153,8 +153,8 @@ module _ {Key Id Name : Type 0} {r q : State Key Id Name} (M : Manners) (v : Var
         (term_looked_at a form) (parts_pair r.store a b pair) (λ z. g (manner_then M (λ m. m.is_exact) f.passes z)))
 
     term_exactly : (A B : Type 0) (p : State Key Id Name) (e d : RelateFault Key Id Name) → IsFaultOfPart (named_place a i) e d →
-        ExactlyRelated {X = A} (M q.settings) q.store p.store (part_at (items_in r) (head_of a) i v) x y (Err e) →
-        ExactlyRelated {X = B} (M r.settings) r.store p.store v a b (Err d)
+        ExactlyRelated {X = A} (M q.kept.settings) q.store p.store (part_at (items_in r) (head_of a) i v) x y (Err e) →
+        ExactlyRelated {X = B} (M r.kept.settings) r.store p.store v a b (Err d)
     term_exactly A B p Memory d t g exact is pair = subst (λ z. ExactResult {X = B} r.store p.store a b (Err z))
         (sym (same_part_fault (named_place a i) Memory d t (λ e z. cc))) (whole_term A B p Memory g exact is pair)
     term_exactly A B p Budget d t g exact is pair = subst (λ z. ExactResult {X = B} r.store p.store a b (Err z))

@@ -88,10 +88,10 @@ module _ {Key Id Name : Type 0} (M : Manners) (is : TakesParts M) (r q : State K
               (nth i (parts_of a)) (in_part r.store a i lx k.left_in));
           right_in = subst (IsTermIn q.store) (sym ey) (later_term r.store q.store l.grows l.universe_stands
               (nth i (parts_of b)) (in_part r.store b i ly k.right_in));
-          left_taken = manner_then M (λ z. Takes z w x) f.passes (subst₂ (Takes (M r.settings)) (sym ew) (sym ex)
-              (takes_ty_part (M r.settings) (is r.settings) (items_in r) r.ambient a i lx k.left_taken));
-          right_taken = manner_then M (λ z. Takes z w y) f.passes (subst₂ (Takes (M r.settings)) (sym eu) (sym ey)
-              (takes_ty_part (M r.settings) (is r.settings) (items_in r) r.ambient b i ly k.right_taken));
+          left_taken = manner_then M (λ z. Takes z w x) f.passes (subst₂ (Takes (M r.kept.settings)) (sym ew) (sym ex)
+              (takes_ty_part (M r.kept.settings) (is r.kept.settings) (items_in r) r.ambient a i lx k.left_taken));
+          right_taken = manner_then M (λ z. Takes z w y) f.passes (subst₂ (Takes (M r.kept.settings)) (sym eu) (sym ey)
+              (takes_ty_part (M r.kept.settings) (is r.kept.settings) (items_in r) r.ambient b i ly k.right_taken));
         }
 
     pub next_under : 8 * depth (q.store).budget (weight q.store x + weight q.store y) + 4 <
@@ -120,10 +120,10 @@ module _ {Key Id Name : Type 0} (M : Manners) (is : TakesParts M) (r q : State K
               (nth i (const_parts_of a)) (in_const_part r.store a i lx k.left_in));
           right_in = subst (IsTermIn q.store) (sym ey) (later_term r.store q.store l.grows l.universe_stands
               (nth i (const_parts_of b)) (in_const_part r.store b i ly k.right_in));
-          left_taken = manner_then M (λ z. Takes z w x) f.passes (subst₂ (Takes (M r.settings)) (sym ew) (sym ex)
-              (takes_const_part (M r.settings) (is r.settings) (items_in r) r.ambient a i lx k.left_taken));
-          right_taken = manner_then M (λ z. Takes z w y) f.passes (subst₂ (Takes (M r.settings)) (sym eu) (sym ey)
-              (takes_const_part (M r.settings) (is r.settings) (items_in r) r.ambient b i ly k.right_taken));
+          left_taken = manner_then M (λ z. Takes z w x) f.passes (subst₂ (Takes (M r.kept.settings)) (sym ew) (sym ex)
+              (takes_const_part (M r.kept.settings) (is r.kept.settings) (items_in r) r.ambient a i lx k.left_taken));
+          right_taken = manner_then M (λ z. Takes z w y) f.passes (subst₂ (Takes (M r.kept.settings)) (sym eu) (sym ey)
+              (takes_const_part (M r.kept.settings) (is r.kept.settings) (items_in r) r.ambient b i ly k.right_taken));
         }
 
     pub next_const_under : 8 * depth (q.store).budget (weight q.store x + weight q.store y) + 4 <

@@ -53,10 +53,9 @@ module _ {Key Id Name : Type 0} where
           added = added;
           lengthens = lengthens;
           goals_in = subst (λ k. All (RegisteredIn r k) added) (sym h.store) registered;
-          environment = h.environment;
+          kept = h.kept;
           ambient = h.ambient;
-          settings = h.settings;
-          reference = h.reference;
+          remembered = h.remembered;
           lawful = h.lawful;
         };
         store = h.store;
@@ -89,9 +88,8 @@ with_meaning o w same = record {
   meaning = w.meaning;
   store = w.store ∙ same ∙ sym o.store;
   goals = w.goals;
-  environment = w.environment;
+  kept = w.kept;
   ambient = w.ambient;
-  settings = w.settings;
-  reference = w.reference;
+  remembered = w.remembered;
   lawful = w.lawful;
 }

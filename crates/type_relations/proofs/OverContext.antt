@@ -1,7 +1,7 @@
 -- Steps of a relation over a context: what its keys mean and what is recorded is the context's, and nothing is
 -- registered.
 use Rattle.std.proofs.Common.{◌≡◌, ◌≢◌, ◌⊎◌, ℕ, ◌+◌, refl, sym, ap, ap₂, ◌∙◌, arith, inl, inr, subst, subst₂, List, [], IsTrue}
-use Rattle.std.proofs.Common.{max, min, Ok, Err}
+use Rattle.std.proofs.Common.{max, min, Ok, Err, true}
 use Rattle.std.proofs.lemmas.List.Elements.{All-nil}
 use Rattle.std.proofs.lemmas.List.{append-nil}
 use Rattle.term_enums.specs.declared.Variance.{Variance}
@@ -11,7 +11,7 @@ use Rattle.relation_terms.specs.Heads.{type_sort, VarKind, type_var, region_var,
 use Rattle.relation_terms.specs.Trees.{Tree, leaf, Assign, apply, IsTerm, known}
 use Rattle.relation_terms.specs.Erasure.{erase}
 use Rattle.relation_terms.specs.Meaning.{Meaning, Extends}
-use Rattle.relation_terms.proofs.Stays.{stays_same}
+use Rattle.relation_terms.proofs.Stays.{stays_same, extends_on}
 use Rattle.relation_folds.specs.declared.error.TypeError.{TypeError}
 use Rattle.relation_folds.specs.declared.error.TypeError.TheVariants.{Sorts}
 use Rattle.relation_folds.specs.declared.error.RelateFault.{RelateFault}
@@ -29,7 +29,7 @@ use Rattle.relation_contexts.specs.Measures.{Goes}
 use Rattle.relation_contexts.specs.Errors.{ErrorOf, of_entries, IsReadAs, itself, by_class, by_binding}
 use Rattle.relation_contexts.specs.FirstOrder.{IsFirstOrderStore}
 use Rattle.relation_contexts.specs.Covered.{IsCovered}
-use Rattle.relation_contexts.specs.Lawful.{RegisteredIn, Passes, Asked, Takes, Related, Stepped, items_of, Settings, State}
+use Rattle.relation_contexts.specs.Lawful.{RegisteredIn, Passes, Asked, Takes, Related, Stepped, items_of, Kept, Pair, State}
 use Rattle.type_relations.specs.Emitting.{IsOver, WithContext}
 use Rattle.relation_contexts.specs.Contexts.{Context}
 use Rattle.relation_contexts.specs.ContextCalls.{Grows, Stands, HasCoveredBindings}
@@ -53,15 +53,14 @@ standing r m st L = record {
   meaning = m;
   store = st;
   goals = r.goals;
-  environment = r.environment;
+  kept = r.kept;
   ambient = r.ambient;
-  settings = r.settings;
-  reference = r.reference;
+  remembered = r.remembered;
   lawful = L;
 }
 
 -- What is covered is taken at each variance.
-pub all_taken : (v : Variance) (t : Tree) → IsCovered t → Takes (solver_manner solver_settings) v t
+pub all_taken : (v : Variance) (t : Tree) → IsCovered t → Takes (solver_manner (solver_settings true)) v t
 all_taken v t c = (all_leaves _ (λ l. tt) t, c)
 
 -- What is read of what is covered is covered, where all that is bound is.
@@ -80,10 +79,9 @@ module _ {Key Id Name : Type 0} (r : State Key Id Name) where
     added = [];
     lengthens = sym (append-nil r.goals);
     goals_in = All-nil (RegisteredIn (standing r m was L) now);
-    environment = refl;
+    kept = refl;
     ambient = refl;
-    settings = refl;
-    reference = refl;
+    remembered = refl;
     lawful = l;
   }
 
@@ -236,7 +234,7 @@ module _ {Key Id Name : Type 0} (r : State Key Id Name) where
           later = later_itself was;
           goals_in = All-nil (GoalInContext was);
           relates = λ w s sat all o.
-              subst₂ (Rel (items_of m) w r.environment (at r.ambient))
+              subst₂ (Rel (items_of m) w r.kept.environment (at r.ambient))
               (sym (read_value was s sat.bindings a (tree t) p))
               (sym (read_value was s sat.bindings b (tree u) q)) o;
           keeps = λ w s sat one. (
@@ -264,7 +262,7 @@ module _ {Key Id Name : Type 0} (r : State Key Id Name) where
       };
       left_form = f;
       right_form = h;
-      answers = λ z w s sat all o. subst (λ i. Rel (items_of m) w r.environment (at r.ambient) i (apply s z))
+      answers = λ z w s sat all o. subst (λ i. Rel (items_of m) w r.kept.environment (at r.ambient) i (apply s z))
           (sym (read_value was s sat.bindings a (tree t) p)) o;
       no_binder = λ all ha hb. (read_plain was all a (tree t) p ha, read_plain was all b (tree u) q hb);
       same_budget = refl;
@@ -291,23 +289,21 @@ module _ {Key Id Name : Type 0} {r : State Key Id Name} {c : Context Key Id Name
 -- Another context took the place of the relation's.
 module _ {Key Id Name : Type 0} {r q : State Key Id Name} {c d : Context Key Id Name} (o : IsOver r c)
     (w : WithContext r d q) where
-  abbrev made : Meaning Key Id Name → Store → List Goal → Tree → Variance → Settings → ℕ → State Key Id Name
-  made m st gs e v k j = record {
+  abbrev made : Meaning Key Id Name → Store → List Goal → Kept Key → Variance → List Pair → State Key Id Name
+  made m st gs k v ps = record {
     meaning = m;
     store = st;
     goals = gs;
-    environment = e;
+    kept = k;
     ambient = v;
-    settings = k;
-    reference = j;
+    remembered = ps;
     lawful = q.lawful;
   }
 
   after_is : q ≡ standing r d.meaning d.store q.lawful
-  after_is = ap₂ (λ m st. made m st q.goals q.environment q.ambient q.settings q.reference) w.meaning w.store
-      ∙ ap₂ (λ gs e. made d.meaning d.store gs e q.ambient q.settings q.reference) w.goals w.environment
-      ∙ ap₂ (λ v k. made d.meaning d.store r.goals r.environment v k q.reference) w.ambient w.settings
-      ∙ ap (made d.meaning d.store r.goals r.environment r.ambient r.settings) w.reference
+  after_is = ap₂ (λ m st. made m st q.goals q.kept q.ambient q.remembered) w.meaning w.store
+      ∙ ap₂ (λ gs k. made d.meaning d.store gs k q.ambient q.remembered) w.goals w.kept
+      ∙ ap₂ (λ v ps. made d.meaning d.store r.goals r.kept v ps) w.ambient w.remembered
 
   -- What is shown of the contexts' keys and records is shown of the relation's.
   pub carried : (P : State Key Id Name → State Key Id Name → Type 0) →
@@ -316,5 +312,22 @@ module _ {Key Id Name : Type 0} {r q : State Key Id Name} {c d : Context Key Id 
 
 -- Of a context whose keys stand no more is asked than of one whose keys grow.
 pub stands_grows : {Key Id Name : Type 0} (c d : Context Key Id Name) → Stands c d → Grows c d
-stands_grows c d h =
-    record { extends = subst (Extends c.meaning) (sym h.meaning) (stays_same c.meaning); lawful = h.lawful }
+stands_grows c d h = record {
+  extends = subst (Extends c.meaning) (sym h.meaning) (stays_same c.meaning);
+  lawful = h.lawful;
+  solver = h.solver;
+  outliving = h.outliving;
+}
+
+-- A context that nothing happens to.
+pub grows_itself : {Key Id Name : Type 0} (c : Context Key Id Name) → c.lawful → Grows c c
+grows_itself c l = record { extends = stays_same c.meaning; lawful = l; solver = refl; outliving = refl }
+
+-- One that grows twice.
+pub grows_then : {Key Id Name : Type 0} (c d e : Context Key Id Name) → Grows c d → Grows d e → Grows c e
+grows_then c d e f g = record {
+  extends = extends_on f.extends g.extends;
+  lawful = g.lawful;
+  solver = g.solver ∙ f.solver;
+  outliving = g.outliving ∙ f.outliving;
+}

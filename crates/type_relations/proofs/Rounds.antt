@@ -197,10 +197,10 @@ pub data Begun (c : Items) (e : Tree) (v : Variance) (before after : Store) (ear
 -- The bodies of round 0 were related.
 pub record HalfDone {Key Id Name : Type 0} (M : Manners) (r p : State Key Id Name) (a b : Tree) : Type 0 where
   pub passes : Passes (weight r.store a + weight r.store b) r p
-  pub begun : Begun (items_in r) r.environment r.ambient r.store p.store r.goals passes.added a b
+  pub begun : Begun (items_in r) r.kept.environment r.ambient r.store p.store r.goals passes.added a b
   pub room : weight p.store a + weight p.store b ≤
       grown (passes.goes).spent (weight r.store a + weight r.store b)
-  pub agrees : (M r.settings).relates_agreeing → Agree (items_in r) (at r.ambient) a b
+  pub agrees : (M r.kept.settings).relates_agreeing → Agree (items_in r) (at r.ambient) a b
 
 module _ {Key Id Name : Type 0} where
   -- Opening was refused in round 0.
@@ -225,11 +225,11 @@ module _ {Key Id Name : Type 0} where
   round_never : {r q : State Key Id Name} (added : List Goal) (a b x y : Tree) → RoundSteps r q added 0 a b x y →
       NeverOne (at r.ambient) q.store x y → NeverOne (at r.ambient) r.store a b
   round_never {r} {q} added a b x y (one_round e o f) n =
-      (steps_compose (items_in r) r.environment (at r.ambient) (at r.ambient) r.store q.store q.store r.goals added []
+      (steps_compose (items_in r) r.kept.environment (at r.ambient) (at r.ambient) r.store q.store q.store r.goals added []
       a b x y f).1 n
   round_never {r} {q} added a b x y (first_round {ks} {ls} {t} {u} e o i j f) n =
       subst₂ (λ z w. NeverOne (at r.ambient) r.store z w) (sym i) (sym j)
-      (λ w s sat one. (steps_compose (items_in r) r.environment (second_opened ks ls r.ambient) (at r.ambient) r.store
+      (λ w s sat one. (steps_compose (items_in r) r.kept.environment (second_opened ks ls r.ambient) (at r.ambient) r.store
       q.store q.store r.goals added [] t u x y f).1 n w s sat (binder_kinds one, binder_bodies one))
   round_never added a b x y (second_round e o i j f) n = absurd (omega (arith, e))
 
@@ -270,15 +270,15 @@ module _ {Key Id Name : Type 0} where
         ((f.verdict).agrees (manner_then M (λ z. z.relates_agreeing) g k)));
   }
     where
-      bodies : Outcome (items_in r) r.environment (at r.ambient) q.store p.store (r.goals ++ g.added)
+      bodies : Outcome (items_in r) r.kept.environment (at r.ambient) q.store p.store (r.goals ++ g.added)
           (f.passes).added x y
       bodies = outcome_seen g (at r.ambient) p.store (f.passes).added x y (f.verdict).outcome
 
       begun : RoundSteps r q g.added 0 a b x y →
-          Begun (items_in r) r.environment r.ambient r.store p.store r.goals (g.added ++ (f.passes).added) a b
-      begun (one_round e o s) = wholly o ((steps_compose (items_in r) r.environment (at r.ambient) (at r.ambient)
+          Begun (items_in r) r.kept.environment r.ambient r.store p.store r.goals (g.added ++ (f.passes).added) a b
+      begun (one_round e o s) = wholly o ((steps_compose (items_in r) r.kept.environment (at r.ambient) (at r.ambient)
           r.store q.store p.store r.goals g.added (f.passes).added a b x y s).0 bodies)
-      begun (first_round {ks} {ls} {t} {u} e o i j s) = by_half o i j ((steps_compose (items_in r) r.environment
+      begun (first_round {ks} {ls} {t} {u} e o i j s) = by_half o i j ((steps_compose (items_in r) r.kept.environment
           (second_opened ks ls r.ambient) (at r.ambient) r.store q.store p.store r.goals g.added (f.passes).added
           t u x y s).0 bodies)
       begun (second_round e o i j s) = absurd (omega (arith, e))
@@ -326,9 +326,9 @@ module _ {Key Id Name : Type 0} where
   nothing_left {r = r} {p = p} {q = q} M n a b tree answer x never e k h o = record {
     passes = passes_then h.passes o.passes h.room;
     verdict = record {
-      outcome = subst₂ (λ s gs. Outcome (items_in r) r.environment (at r.ambient) r.store s r.goals
+      outcome = subst₂ (λ s gs. Outcome (items_in r) r.kept.environment (at r.ambient) r.store s r.goals
           ((h.passes).added ++ gs) a b) (sym (o.verdict).2) (sym (o.verdict).3)
-          (subst (λ gs. Outcome (items_in r) r.environment (at r.ambient) r.store p.store r.goals gs a b)
+          (subst (λ gs. Outcome (items_in r) r.kept.environment (at r.ambient) r.store p.store r.goals gs a b)
           (sym (append-nil (h.passes).added)) (whole h.begun));
       answer = subst (MayAnswer M q r.ambient a) (sym e) (may_itself M q r.ambient a);
       known = subst (λ t. IsTrue (known t)) (sym e) k;
@@ -338,8 +338,8 @@ module _ {Key Id Name : Type 0} where
     full = full_never a b never;
   }
     where
-      whole : Begun (items_in r) r.environment r.ambient r.store p.store r.goals (h.passes).added a b →
-          Outcome (items_in r) r.environment (at r.ambient) r.store p.store r.goals (h.passes).added a b
+      whole : Begun (items_in r) r.kept.environment r.ambient r.store p.store r.goals (h.passes).added a b →
+          Outcome (items_in r) r.kept.environment (at r.ambient) r.store p.store r.goals (h.passes).added a b
       whole (wholly one f) = f
       whole (by_half two i j f) = absurd (two (subst (λ v. OneRound v a b) (h.passes).ambient (o.verdict).1))
 
@@ -363,7 +363,7 @@ module _ {Key Id Name : Type 0} where
   module _ {M : Manners} {r p q : State Key Id Name} (a b x y : Tree) (ina : InContext r.store a)
       (inb : InContext r.store b) (h : HalfDone M r p a b) (added : List Goal) where
     -- Where its bodies are never one, nor are the binders.
-    second_never : Begun (items_in r) r.environment r.ambient r.store p.store r.goals (h.passes).added a b →
+    second_never : Begun (items_in r) r.kept.environment r.ambient r.store p.store r.goals (h.passes).added a b →
         RoundSteps p q added 1 a b x y → NeverOne (at p.ambient) q.store x y → NeverOne (at r.ambient) r.store a b
     second_never f (one_round e o s) n = absurd (omega (arith, e))
     second_never f (first_round e o i j s) n = absurd (omega (arith, e))
@@ -372,7 +372,7 @@ module _ {Key Id Name : Type 0} where
         subst₂ (λ z w. NeverOne (at r.ambient) r.store z w) (sym i') (sym j') apart
       where
         never : NeverOne (first_opened ks ls p.ambient) p.store t u
-        never = (steps_compose (items_in p) p.environment (first_opened ks ls p.ambient) (at p.ambient) p.store q.store
+        never = (steps_compose (items_in p) p.kept.environment (first_opened ks ls p.ambient) (at p.ambient) p.store q.store
             q.store p.goals added [] t u x y (second_step p q added a b x y i j i' j' s)).1 n
 
         apart : NeverOne (at r.ambient) r.store (bind ks t) (bind ls u)
@@ -386,31 +386,31 @@ module _ {Key Id Name : Type 0} where
 
     -- What relating its bodies did, after round 0.
     second_outcome : {m k : ℕ} {z : State Key Id Name} → (g : Passes m p q) → added ≡ g.added → (f : Passes k q z) →
-        Begun (items_in r) r.environment r.ambient r.store p.store r.goals (h.passes).added a b →
+        Begun (items_in r) r.kept.environment r.ambient r.store p.store r.goals (h.passes).added a b →
         RoundSteps p q added 1 a b x y →
-        Outcome (items_in q) q.environment (at p.ambient) q.store z.store q.goals f.added x y →
-        Outcome (items_in r) r.environment (at r.ambient) r.store z.store r.goals
+        Outcome (items_in q) q.kept.environment (at p.ambient) q.store z.store q.goals f.added x y →
+        Outcome (items_in r) r.kept.environment (at r.ambient) r.store z.store r.goals
         ((h.passes).added ++ (added ++ f.added)) a b
     second_outcome g is f begun (one_round e o s) n = absurd (omega (arith, e))
     second_outcome g is f begun (first_round e o i j s) n = absurd (omega (arith, e))
     second_outcome g is f (wholly one half) (second_round e o i j s) n = absurd (not_wholly a b h one o)
     second_outcome {z = z} g is f (by_half {ks} {ls} {t} {u} two i' j' half) (second_round e o i j s) n =
-        subst₂ (λ t u. Outcome (items_in r) r.environment (at r.ambient) r.store z.store r.goals
+        subst₂ (λ t u. Outcome (items_in r) r.kept.environment (at r.ambient) r.store z.store r.goals
         ((h.passes).added ++ (added ++ f.added)) t u) (sym i') (sym j')
-        (both_rounds (items_in r) r.environment r.ambient r.store p.store z.store r.goals (h.passes).added
+        (both_rounds (items_in r) r.kept.environment r.ambient r.store p.store z.store r.goals (h.passes).added
         (added ++ f.added) ks ls t u (two_rounds_variance r.ambient ks ls a b t u i' j' two)
         (body_context r.store a ks t i' ina) (body_context r.store b ls u j' inb) half
-        (subst (λ v. Outcome (items_in r) r.environment (first_opened ks ls v) p.store z.store
+        (subst (λ v. Outcome (items_in r) r.kept.environment (first_opened ks ls v) p.store z.store
         (r.goals ++ (h.passes).added) (added ++ f.added) t u) (h.passes).ambient
         (outcome_seen h.passes (first_opened ks ls p.ambient) z.store (added ++ f.added) t u opened)))
       where
-        bodies : Outcome (items_in p) p.environment (at p.ambient) q.store z.store (p.goals ++ added) f.added x y
-        bodies = subst (λ gs. Outcome (items_in p) p.environment (at p.ambient) q.store z.store (p.goals ++ gs) f.added
+        bodies : Outcome (items_in p) p.kept.environment (at p.ambient) q.store z.store (p.goals ++ added) f.added x y
+        bodies = subst (λ gs. Outcome (items_in p) p.kept.environment (at p.ambient) q.store z.store (p.goals ++ gs) f.added
             x y) (sym is) (outcome_seen g (at p.ambient) z.store f.added x y n)
 
-        opened : Outcome (items_in p) p.environment (first_opened ks ls p.ambient) p.store z.store p.goals
+        opened : Outcome (items_in p) p.kept.environment (first_opened ks ls p.ambient) p.store z.store p.goals
             (added ++ f.added) t u
-        opened = (steps_compose (items_in p) p.environment (first_opened ks ls p.ambient) (at p.ambient) p.store q.store
+        opened = (steps_compose (items_in p) p.kept.environment (first_opened ks ls p.ambient) (at p.ambient) p.store q.store
             z.store p.goals added f.added t u x y (second_step p q added a b x y i j i' j' s)).0 bodies
 
   module _ {r p q : State Key Id Name} (M : Manners) (a b x y : Tree) (never : HasNoBinder a → ⊥)

@@ -79,13 +79,13 @@ module _ {Key Id Name : Type 0} (r q : State Key Id Name) (g : IsSound r.store) 
   as_large = ap₂ ◌+◌ (read_weight r.store g a u p) (read_weight r.store g b w o)
 
   read_outcome : (added : List Goal) (v : Variance) →
-      Outcome (items_in r) r.environment (at v) r.store q.store r.goals added u w →
-      Outcome (items_in r) r.environment (at v) r.store q.store r.goals added a b
+      Outcome (items_in r) r.kept.environment (at v) r.store q.store r.goals added u w →
+      Outcome (items_in r) r.kept.environment (at v) r.store q.store r.goals added a b
   read_outcome added v h = record {
     later = h.later;
     goals_in = h.goals_in;
     relates = λ i s sat all. let was = (h.later).shrinks i s sat in
-        subst₂ (Rel (items_in r) i r.environment (at v)) (sym (value_a i s was)) (sym (value_b i s was))
+        subst₂ (Rel (items_in r) i r.kept.environment (at v)) (sym (value_a i s was)) (sym (value_b i s was))
         (h.relates i s sat all);
     keeps = λ i s sat one. h.keeps i s sat (sym (value_a i s sat) ∙ one ∙ value_b i s sat);
   }
@@ -96,7 +96,7 @@ module _ {Key Id Name : Type 0} (r q : State Key Id Name) (g : IsSound r.store) 
       later = (h.steps).later;
       goals_in = (h.steps).goals_in;
       relates = λ i s sat all f. let was = ((h.steps).later).shrinks i s sat in
-          subst₂ (Rel (items_in r) i r.environment (at r.ambient)) (sym (value_a i s was)) (sym (value_b i s was))
+          subst₂ (Rel (items_in r) i r.kept.environment (at r.ambient)) (sym (value_a i s was)) (sym (value_b i s was))
           ((h.steps).relates i s sat all f);
       keeps = λ i s sat one. (h.steps).keeps i s sat (sym (value_a i s sat) ∙ one ∙ value_b i s sat);
     };
@@ -119,7 +119,7 @@ module _ {Key Id Name : Type 0} (r q : State Key Id Name) (g : IsSound r.store) 
       read_verdict (Ok (Done t)) h = record {
         outcome = read_outcome passes.added r.ambient h.outcome;
         answer = record {
-          related = λ i s sat all. subst (λ z. Rel (items_in q) i q.environment (at r.ambient) z (apply s (tree t)))
+          related = λ i s sat all. subst (λ z. Rel (items_in q) i q.kept.environment (at r.ambient) z (apply s (tree t)))
               (sym (value_a i s (shrinks i s sat))) ((h.answer).related i s sat all);
         };
         known = h.known;
@@ -130,7 +130,7 @@ module _ {Key Id Name : Type 0} (r q : State Key Id Name) (g : IsSound r.store) 
         asked = h.asked;
         left_form = h.left_form;
         right_form = h.right_form;
-        answers = λ t i s sat all f. subst (λ z. Rel (items_in q) i q.environment (at r.ambient) z (apply s t))
+        answers = λ t i s sat all f. subst (λ z. Rel (items_in q) i q.kept.environment (at r.ambient) z (apply s t))
             (sym (value_a i s (shrinks i s sat))) (h.answers t i s sat all f);
         no_binder = λ all ha hb. h.no_binder all (read_plain r.store all a u p ha) (read_plain r.store all b w o hb);
         same_budget = h.same_budget;
@@ -141,7 +141,7 @@ module _ {Key Id Name : Type 0} (r q : State Key Id Name) (g : IsSound r.store) 
         read_leads = h.read_leads;
         read_asked = h.read_asked;
         asked = h.asked;
-        answers = λ i s sat all f. subst (λ z. Rel (items_in q) i q.environment (at r.ambient) z (apply s (tree t)))
+        answers = λ i s sat all f. subst (λ z. Rel (items_in q) i q.kept.environment (at r.ambient) z (apply s (tree t)))
             (sym (value_a i s (shrinks i s sat))) (h.answers i s sat all f);
         answer_known = h.answer_known;
         falls = h.falls;
@@ -188,10 +188,9 @@ module _ {Key Id Name : Type 0} (r q : State Key Id Name) (g : IsSound r.store) 
       added = (h.passes).added;
       lengthens = (h.passes).lengthens;
       goals_in = (h.passes).goals_in;
-      environment = (h.passes).environment;
+      kept = (h.passes).kept;
       ambient = (h.passes).ambient;
-      settings = (h.passes).settings;
-      reference = (h.passes).reference;
+      remembered = (h.passes).remembered;
       lawful = (h.passes).lawful;
     };
     verdict = read_verdict F tree h.passes res h.verdict;

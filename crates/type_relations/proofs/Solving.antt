@@ -1,12 +1,13 @@
 -- Relating in a context, step by step.
-use Rattle.std.proofs.Common.{◌≡◌, ◌≢◌, ℕ, ◌≤◌, refl, sym, ap, ◌∙◌, arith, subst, subst₂, [], All}
+use Rattle.std.proofs.Common.{◌≡◌, ◌≢◌, ℕ, ◌≤◌, refl, sym, ap, ap₂, ◌∙◌, arith, subst, subst₂, [], All}
 use Rattle.std.proofs.Common.{IsTrue, Some, IfSome, ◌++◌, max, min, length}
-use Rattle.std.proofs.Common.{Result, Ok, Err, List, ◌∷◌, false}
+use Rattle.std.proofs.Common.{Result, Ok, Err, List, ◌∷◌, Bool, false}
 use Rattle.std.proofs.lemmas.List.Elements.{All-nil}
 use Rattle.std.proofs.lemmas.List.{append-nil}
 use Rattle.term_enums.specs.declared.Variance.{Variance}
 use Rattle.term_enums.specs.declared.Variance.TheVariants.{Covariant, Contravariant, Invariant}
 use Rattle.term_enums.specs.declared.Variance.TheVariants.{Bivariant}
+use Rattle.relation_terms.specs.declared.predicate.regions.OutlivesPredicate.{OutlivesPredicate}
 use Rattle.relation_terms.specs.declared.predicate.regions.RegionConstraint.{RegionConstraint}
 use Rattle.relation_terms.specs.declared.predicate.regions.RegionConstraint.TheVariants.{Outlives, Eq}
 use Rattle.relation_terms.specs.declared.terms.generic_arg.GenericArgKind.TheVariants.{Lifetime}
@@ -37,7 +38,7 @@ use Rattle.relation_contexts.specs.Outcomes.{Outcome}
 use Rattle.relation_contexts.specs.Measures.{Goes}
 use Rattle.relation_contexts.specs.Parts.{IsFormedConst}
 use Rattle.relation_contexts.specs.Constraints.{constraint_at, constraint_of, asked_constraints}
-use Rattle.relation_contexts.specs.Lawful.{Passes, Related, Stepped, items_of, State}
+use Rattle.relation_contexts.specs.Lawful.{Passes, Related, Stepped, items_of, Kept, State}
 use Rattle.relation_contexts.proofs.Standing.{term_sort_of}
 use Rattle.relation_contexts.proofs.Agreeing.{agree_regions}
 use Rattle.relation_contexts.specs.Agreeing.{Agree}
@@ -47,14 +48,14 @@ use Rattle.relation_contexts.proofs.Full.{full_itself, full_same, full_by, const
 use Rattle.relation_contexts.proofs.Growing.{constraint_holds, constraint_keeps}
 use Rattle.type_relations.proofs.Constraints.{asked_relates, asked_met}
 use Rattle.type_relations.proofs.OverContext.{standing, roots_step as roots_equated}
-use Rattle.relation_contexts.proofs.Answering.{may_itself}
+use Rattle.relation_contexts.proofs.Answering.{may_itself, same_environment}
 use Rattle.relation_contexts.proofs.OneUniverse.{keeps_pair, binds_itself, binds_none, standing_keeps}
-use Rattle.type_relations.specs.Solving.{KnowsGoals, solving, solver_settings, solver_manner}
+use Rattle.type_relations.specs.Solving.{KnowsGoals, Held, held_by, kept_in, solving, solving_through, solver_manner}
 use Rattle.relation_contexts.proofs.Registered.{goals_stay, goals_known, none_at_invariance}
 use Rattle.type_relations.proofs.Exactly.{region_value, regions_exactly}
 use Rattle.relation_contexts.proofs.Growing.{constraint_is_later, constraint_bound, constraint_weight}
 use Rattle.relation_contexts.specs.Contexts.{Context}
-use Rattle.relation_contexts.specs.ContextCalls.{Grows, Knows, Constrains}
+use Rattle.relation_contexts.specs.ContextCalls.{Stands, Grows, Knows, Constrains, KeepsSolver, KeepsOutliving, KeepsBeside}
 use Rattle.type_relations.specs.Emitting.{WithContext}
 
 -- Seen from the other side too the variance decides something.
@@ -137,21 +138,34 @@ pub constrained_bound : {Key Id Name A F : Type 0} (c d : Context Key Id Name) (
 constrained_bound c d q (Ok x) h = constraint_bound c.store d.store q h
 constrained_bound c d q (Err f) h = ap all_bound h
 
-module _ {Key Id Name : Type 0} (j : ℕ) (gs : List (KeyedGoal Key (PredicateKey Key))) where
+abbrev held_of : {Key : Type 0} → ℕ → Bool → List (OutlivesPredicate Key (TyKey Key)) → Held Key
+held_of j s o = record { reference = j; next_solver = s; outliving = o }
+
+-- What is left as it is in a context is so in one that has grown from it.
+pub held_kept : {Key Id Name : Type 0} (j : ℕ) (c d : Context Key Id Name) → KeepsSolver c d → KeepsOutliving c d →
+    held_by j d ≡ held_by j c
+held_kept j c d solver outliving = ap₂ (held_of j) solver outliving
+
+pub held_grows : {Key Id Name : Type 0} (j : ℕ) (c d : Context Key Id Name) → Grows c d → held_by j d ≡ held_by j c
+held_grows j c d g = held_kept j c d g.solver g.outliving
+
+pub held_stands : {Key Id Name : Type 0} (j : ℕ) (c d : Context Key Id Name) → Stands c d → held_by j d ≡ held_by j c
+held_stands j c d g = held_kept j c d g.solver g.outliving
+
+module _ {Key Id Name : Type 0} {j j' : Held Key} (held : j' ≡ j) (gs : List (KeyedGoal Key (PredicateKey Key))) where
   -- Work that recorded something, and registered no goal.
   unfoldable pub solver_passes : {N : ℕ} {m n : Meaning Key Id Name} {was now : Store} {L K : Type 0} (v : Variance)
       (e : ParamEnvKey Key) → Extends m n → KnowsGoals m e gs → Goes N was now →
-      K → Passes N (solving j gs m was L v e) (solving j gs n now K v e)
+      K → Passes N (solving j gs m was L v e) (solving j' gs n now K v e)
   solver_passes {m = m} {n = n} {was = was} {now = now} {L = L} v e grown env goes l = record {
     extends = grown;
     goes = goes;
     added = [];
     lengthens = goals_stay grown gs env.1 ∙ sym (append-nil (goals_of m gs));
     goals_in = All-nil (RegisteredIn (solving j gs m was L v e) now);
-    environment = grown.param_env e env.0;
+    kept = ap₂ kept_in held (grown.param_env e env.0);
     ambient = refl;
-    settings = refl;
-    reference = refl;
+    remembered = refl;
     lawful = λ k. (l, (subst (λ t. IsTrue (known t)) (sym (grown.param_env e env.0)) env.0, goals_known grown gs env.1));
   }
 
@@ -161,9 +175,9 @@ module _ {Key Id Name : Type 0} (j : ℕ) (gs : List (KeyedGoal Key (PredicateKe
     -- Memory ran out.
     pub memory_refused : (tree : X → Tree) (r : Result X (RelateFault Key Id Name)) → r ≡ Err Memory →
         Goes 0 was now → all_bound now ≡ all_bound was → StaysFull was now →
-        Related solver_manner (solving j gs m was L v e) (solving j gs n now K v e) v a b tree r
+        Related solver_manner (solving j gs m was L v e) (solving j' gs n now K v e) v a b tree r
     memory_refused tree r is goes as_many full = subst₂ (λ n r. Related solver_manner (solving j gs m was L v e)
-        (solving j gs n now K v e) v a b tree r)
+        (solving j' gs n now K v e) v a b tree r)
         (sym same) (sym is)
         (record {
           passes = solver_passes v e (stays_same m) env (goes_within (omega arith) goes) l;
@@ -208,19 +222,19 @@ module _ {Key Id Name : Type 0} (j : ℕ) (gs : List (KeyedGoal Key (PredicateKe
 
     pub regions_related : (n : Meaning Key Id Name) (k : RegionKey Key) → n ≡ m → k ≡ a → K →
         KnowsGoals m e gs → IsTrue (known (m.region a)) →
-        Related solver_manner (solving j gs m was L v e) (solving j gs n now K v e) v (m.region a) (m.region b) n.region (Ok k)
+        Related solver_manner (solving j gs m was L v e) (solving j' gs n now K v e) v (m.region a) (m.region b) n.region (Ok k)
     unfolding solver_passes
     regions_related n k same is l env sure = subst₂
-        (λ n k. Related solver_manner (solving j gs m was L v e) (solving j gs n now K v e) v
+        (λ n k. Related solver_manner (solving j gs m was L v e) (solving j' gs n now K v e) v
         (m.region a) (m.region b) n.region (Ok k)) (sym same) (sym is) answer
       where
-        answer : Related solver_manner (solving j gs m was L v e) (solving j gs m now K v e) v (m.region a)
+        answer : Related solver_manner (solving j gs m was L v e) (solving j' gs m now K v e) v (m.region a)
             (m.region b) m.region (Ok a)
         answer = record {
           passes = solver_passes v e (stays_same m) env (goes_within (omega arith) goes) l;
           verdict = record {
             outcome = outcome;
-            answer = may_itself solver_manner (solving j gs m now K v e) v (m.region a);
+            answer = may_itself solver_manner (solving j' gs m now K v e) v (m.region a);
             known = sure;
             agrees = λ k. agree_regions (items_of m) v (m.region a) (m.region b)
                 (term_sort_of region_var (m.region a) left.0) (term_sort_of region_var (m.region b) right.0);
@@ -243,7 +257,7 @@ module _ {Key Id Name : Type 0} (j : ℕ) (gs : List (KeyedGoal Key (PredicateKe
       IfSome (constraint_at v a b) (λ c. AddsConstraint was now (constraint_of m c)) →
       (n : Meaning Key Id Name) (k : RegionKey Key) → n ≡ m → k ≡ a → K → KnowsGoals m e gs →
       IsTrue (known (m.region a)) →
-      Related solver_manner (solving j gs m was L v e) (solving j gs n now K v e) v (m.region a) (m.region b) n.region (Ok k)
+      Related solver_manner (solving j gs m was L v e) (solving j' gs n now K v e) v (m.region a) (m.region b) n.region (Ok k)
   regions_recorded m was now L K Covariant e a b d left right goes added =
       regions_related m was now L K Covariant e a b (Outlives (record { 0 = Lifetime a; 1 = b })) refl left right goes added
   regions_recorded m was now L K Contravariant e a b d left right goes added =
@@ -255,8 +269,8 @@ module _ {Key Id Name : Type 0} (j : ℕ) (gs : List (KeyedGoal Key (PredicateKe
   -- A step that answers.
   pub answered_step : {X : Type 0} (F : Tree → Type 0) (m n : Meaning Key Id Name) (was now : Store) (L K : Type 0)
       (v : Variance) (e : ParamEnvKey Key) (a b : Tree) (tree : X → Tree) (t : X) →
-      Related solver_manner (solving j gs m was L v e) (solving j gs n now K v e) v a b tree (Ok t) →
-      Stepped solver_manner F (solving j gs m was L v e) (solving j gs n now K v e) a b tree (Ok (Done t))
+      Related solver_manner (solving j gs m was L v e) (solving j' gs n now K v e) v a b tree (Ok t) →
+      Stepped solver_manner F (solving j gs m was L v e) (solving j' gs n now K v e) a b tree (Ok (Done t))
   answered_step F m n was now L K v e a b tree t h =
       record { passes = h.passes; verdict = h.verdict; exact = h.exact; full = h.full }
 
@@ -269,17 +283,16 @@ module _ {Key Id Name : Type 0} (j : ℕ) (gs : List (KeyedGoal Key (PredicateKe
   -- What was shown of work over its context is shown of the relation after it.
   pub as_solving : {m n : Meaning Key Id Name} (was now : Store) (L K : Type 0) (v : Variance) (e : ParamEnvKey Key) →
       Extends m n → KnowsGoals m e gs → (P : State Key Id Name → Type 0) →
-      P (standing (solving j gs m was L v e) n now (K × KnowsGoals n e gs)) → P (solving j gs n now K v e)
-  as_solving {n = n} was now L K v e grown env P h = subst₂ (λ goals environment. P (record {
+      P (standing (solving j gs m was L v e) n now (K × KnowsGoals n e gs)) → P (solving j' gs n now K v e)
+  as_solving {n = n} was now L K v e grown env P h = subst₂ (λ goals kept. P (record {
     meaning = n;
     store = now;
     goals = goals;
-    environment = environment;
+    kept = kept;
     ambient = v;
-    settings = solver_settings;
-    reference = j;
+    remembered = [];
     lawful = K × KnowsGoals n e gs;
-  })) (sym (goals_stay grown gs env.1)) (sym (grown.param_env e env.0)) h
+  })) (sym (goals_stay grown gs env.1)) (sym (ap₂ kept_in held (grown.param_env e env.0))) h
 
   -- Two roots of a kind were made one.
   pub roots_step : {X : Type 0} (F : Tree → Type 0) (m n : Meaning Key Id Name) (was now : Store) (L K : Type 0) (v : Variance)
@@ -287,7 +300,7 @@ module _ {Key Id Name : Type 0} (j : ℕ) (gs : List (KeyedGoal Key (PredicateKe
       KnowsGoals m e gs → IsSound was → K → (i ≡ l → now ≡ was) →
       ((i ≡ l → ⊥) → Equates was now k (max i l) (min i l)) → a ≡ leaf (variable k i) →
       b ≡ leaf (variable k l) → tree t ≡ a →
-      Stepped solver_manner F (solving j gs m was L v e) (solving j gs n now K v e) a b tree (Ok (Done t))
+      Stepped solver_manner F (solving j gs m was L v e) (solving j' gs n now K v e) a b tree (Ok (Done t))
   roots_step F m n was now L K v e k o i l a b tree t same env sound after still equates p q answer =
       let grown = subst (Extends m) (sym same) (stays_same m) in
       as_solving was now L K v e grown env
@@ -300,9 +313,9 @@ module _ {Key Id Name : Type 0} (j : ℕ) (gs : List (KeyedGoal Key (PredicateKe
       (v : Variance) (e : ParamEnvKey Key) (a b : Tree) (tree : X → Tree)
       (result : Result (Step X) (RelateFault Key Id Name)) → Extends m n → KnowsGoals m e gs → now ≡ was → K →
       result ≡ Err Memory →
-      Stepped solver_manner F (solving j gs m was L v e) (solving j gs n now K v e) a b tree result
+      Stepped solver_manner F (solving j gs m was L v e) (solving j' gs n now K v e) a b tree result
   memory_step F m n was now L K v e a b tree result grown env stays l is =
-      subst₂ (λ now r. Stepped solver_manner F (solving j gs m was L v e) (solving j gs n now K v e) a b tree r) (sym stays)
+      subst₂ (λ now r. Stepped solver_manner F (solving j gs m was L v e) (solving j' gs n now K v e) a b tree r) (sym stays)
       (sym is) (record {
         passes = solver_passes v e grown env (goes_nowhere _ was) l;
         verdict = tt;
@@ -310,76 +323,82 @@ module _ {Key Id Name : Type 0} (j : ℕ) (gs : List (KeyedGoal Key (PredicateKe
         full = λ ha hb. full_itself was;
       })
 
-  -- What a relation leaves as it was need not be named, nor the reference that it held.
-  module _ {X : Type 0} (hs : List (KeyedGoal Key (PredicateKey Key))) (m n : Meaning Key Id Name) (was now : Store)
-      (L K : Type 0) (v w : Variance) (e f : ParamEnvKey Key) (i : ℕ) (env : IsTrue (known (m.param_env e))) (a b : Tree)
-      (tree : X → Tree) (result : Result X (RelateFault Key Id Name)) where
-    abbrev state_at : ℕ → Variance → Tree → State Key Id Name
-    state_at l u t = record {
-      meaning = n;
-      store = now;
-      goals = goals_of n hs;
-      environment = t;
-      ambient = u;
-      settings = solver_settings;
-      reference = l;
-      lawful = K × (IsTrue (known t) × All (KnowsGoal n) hs);
-    }
+-- The reference that a relation holds need not be named.
+abbrev unnamed : {Key : Type 0} → Held Key → Held Key
+unnamed j = record { reference = 0; next_solver = j.next_solver; outliving = j.outliving }
 
-    unnamed : Related solver_manner (solving j gs m was L v e) (solving j hs n now K v e) v a b tree result →
-        Related solver_manner (solving 0 gs m was L v e) (solving 0 hs n now K v e) v a b tree result
-    unnamed h = record {
-      passes = record {
-        extends = (h.passes).extends;
-        goes = (h.passes).goes;
-        added = (h.passes).added;
-        lengthens = (h.passes).lengthens;
-        goals_in = (h.passes).goals_in;
-        environment = (h.passes).environment;
-        ambient = (h.passes).ambient;
-        settings = refl;
-        reference = refl;
-        lawful = (h.passes).lawful;
-      };
-      verdict = verdict result h.verdict;
-      exact = h.exact;
-      full = h.full;
-    }
-      where
-        verdict : (r : Result X (RelateFault Key Id Name)) →
-            Verdict solver_manner (solving j gs m was L v e) (solving j hs n now K v e) ((h.passes).added) v a b tree r →
-            Verdict solver_manner (solving 0 gs m was L v e) (solving 0 hs n now K v e) ((h.passes).added) v a b tree r
-        verdict (Ok t) o = record {
-          outcome = o.outcome;
-          answer = record { related = (o.answer).related };
-          known = o.known;
-          agrees = o.agrees;
-        }
-        verdict (Err (Unrelated g)) o = o
-        verdict (Err Budget) o = o
-        verdict (Err Memory) o = tt
+abbrev without_name : {Key : Type 0} → Kept Key → Kept Key
+without_name k =
+    record { environment = k.environment; settings = k.settings; reference = 0; outliving = k.outliving }
 
-    pub as_before : Related solver_manner (solving j gs m was L v e) (solving i hs n now K w f) v a b tree result →
-        Related solver_manner (solving 0 gs m was L v e) (solving 0 hs n now K v e) v a b tree result
-    as_before h =
-        let same_environment = (h.passes).environment ∙ sym (((h.passes).extends).param_env e env) in
-        unnamed (subst (λ l. Related solver_manner (solving j gs m was L v e) (state_at l v (n.param_env e)) v a b tree
-        result) (h.passes).reference (subst₂ (λ u t. Related solver_manner (solving j gs m was L v e)
-        (state_at i u t) v a b tree result)
-        (h.passes).ambient same_environment h))
+-- Nor what it leaves as it was.
+module _ {Key Id Name X : Type 0} (j i : Held Key) (gs hs : List (KeyedGoal Key (PredicateKey Key)))
+    (m n : Meaning Key Id Name) (was now : Store) (L K : Type 0) (v w : Variance) (e f : ParamEnvKey Key)
+    (env : IsTrue (known (m.param_env e))) (a b : Tree) (tree : X → Tree)
+    (result : Result X (RelateFault Key Id Name)) where
+  abbrev state_at : Variance → Tree → State Key Id Name
+  state_at u t = record {
+    meaning = n;
+    store = now;
+    goals = goals_of n hs;
+    kept = kept_in i t;
+    ambient = u;
+    remembered = [];
+    lawful = K × (IsTrue (known t) × All (KnowsGoal n) hs);
+  }
 
+  told_unnamed : Related solver_manner (solving j gs m was L v e) (solving i hs n now K v e) v a b tree result →
+      Related solver_manner (solving (unnamed j) gs m was L v e) (solving (unnamed i) hs n now K v e) v a b tree result
+  told_unnamed h = record {
+    passes = record {
+      extends = (h.passes).extends;
+      goes = (h.passes).goes;
+      added = (h.passes).added;
+      lengthens = (h.passes).lengthens;
+      goals_in = (h.passes).goals_in;
+      kept = ap without_name (h.passes).kept;
+      ambient = (h.passes).ambient;
+      remembered = refl;
+      lawful = (h.passes).lawful;
+    };
+    verdict = verdict result h.verdict;
+    exact = h.exact;
+    full = h.full;
+  }
+    where
+      verdict : (r : Result X (RelateFault Key Id Name)) →
+          Verdict solver_manner (solving j gs m was L v e) (solving i hs n now K v e) ((h.passes).added) v a b tree r →
+          Verdict solver_manner (solving (unnamed j) gs m was L v e) (solving (unnamed i) hs n now K v e)
+          ((h.passes).added) v a b tree r
+      verdict (Ok t) o = record {
+        outcome = o.outcome;
+        answer = record { related = (o.answer).related };
+        known = o.known;
+        agrees = o.agrees;
+      }
+      verdict (Err (Unrelated g)) o = o
+      verdict (Err Budget) o = o
+      verdict (Err Memory) o = tt
+
+  pub as_before : Related solver_manner (solving j gs m was L v e) (solving i hs n now K w f) v a b tree result →
+      Related solver_manner (solving (unnamed j) gs m was L v e) (solving (unnamed i) hs n now K v e) v a b tree result
+  as_before h =
+      let environment = same_environment (h.passes).kept ∙ sym (((h.passes).extends).param_env e env) in
+      told_unnamed (subst₂ (λ u t. Related solver_manner (solving j gs m was L v e) (state_at u t) v a b tree result)
+      (h.passes).ambient environment h)
+
+module _ {Key Id Name : Type 0} (j : ℕ) (gs : List (KeyedGoal Key (PredicateKey Key))) where
   -- Another context in the place of the relation's changes nothing but what is recorded, and what keys mean.
   pub solver_with : (c d : Context Key Id Name) → Grows c d → (v : Variance) (e : ParamEnvKey Key) →
       KnowsGoals c.meaning e gs →
-      WithContext (solving j gs c.meaning c.store c.lawful v e) d (solving j gs d.meaning d.store d.lawful v e)
+      WithContext (solving_through j gs c v e) d (solving_through j gs d v e)
   solver_with c d h v e env = record {
     meaning = refl;
     store = refl;
     goals = goals_stay h.extends gs env.1;
-    environment = (h.extends).param_env e env.0;
+    kept = ap₂ kept_in (held_grows j c d h) ((h.extends).param_env e env.0);
     ambient = refl;
-    settings = refl;
-    reference = refl;
+    remembered = refl;
     lawful = λ k. (
       h.lawful,
       (subst (λ t. IsTrue (known t)) (sym ((h.extends).param_env e env.0)) env.0, goals_known h.extends gs env.1),
@@ -389,7 +408,7 @@ module _ {Key Id Name : Type 0} (j : ℕ) (gs : List (KeyedGoal Key (PredicateKe
   -- Making terms changes nothing of the relation but what its interner knows.
   pub solver_grows : (c d : Context Key Id Name) (n : Meaning Key Id Name) → Extends c.meaning n → Knows c n d →
       (v : Variance) (e : ParamEnvKey Key) → KnowsGoals c.meaning e gs →
-      WithMeaning (solving j gs c.meaning c.store c.lawful v e) n (solving j gs d.meaning d.store d.lawful v e)
+      WithMeaning (solving_through j gs c v e) n (solving_through j gs d v e)
   solver_grows c d n grown h v e env =
       let stays : (d.meaning).param_env e ≡ (c.meaning).param_env e =
       ap (λ z. z.param_env e) h.meaning ∙ grown.param_env e env.0 in
@@ -397,10 +416,9 @@ module _ {Key Id Name : Type 0} (j : ℕ) (gs : List (KeyedGoal Key (PredicateKe
         meaning = h.meaning;
         store = h.store;
         goals = ap (λ z. goals_of z gs) h.meaning ∙ goals_stay grown gs env.1;
-        environment = stays;
+        kept = ap₂ kept_in (held_kept j c d h.rest.solver h.rest.outliving) stays;
         ambient = refl;
-        settings = refl;
-        reference = refl;
+        remembered = refl;
         lawful = λ k. (
           h.lawful,
           (
@@ -411,27 +429,27 @@ module _ {Key Id Name : Type 0} (j : ℕ) (gs : List (KeyedGoal Key (PredicateKe
       }
 
 -- What relating has shown, as a solver answers it.
-module _ {Key Id Name X : Type 0} (m n : Meaning Key Id Name) (was now : Store) (L K : Type 0) (v : Variance)
-    (e : ParamEnvKey Key) (a b : Tree) (tree : X → Tree) (hs : List (KeyedGoal Key (PredicateKey Key))) where
-  pub answers_goals : (t : X) → Related solver_manner (solving 0 [] m was L v e) (solving 0 hs n now K v e) v a b tree (Ok t) →
+module _ {Key Id Name X : Type 0} {j j' : Held Key} (m n : Meaning Key Id Name) (was now : Store) (L K : Type 0)
+    (v : Variance) (e : ParamEnvKey Key) (a b : Tree) (tree : X → Tree) (hs : List (KeyedGoal Key (PredicateKey Key))) where
+  pub answers_goals : (t : X) → Related solver_manner (solving j [] m was L v e) (solving j' hs n now K v e) v a b tree (Ok t) →
       AnswersGoals (items_of m) was now (goals_of n hs) (m.param_env e) v a b
   answers_goals t h = (
     λ w s sat all. ((h.verdict).outcome).relates w s sat (subst (All (Holds (items_of m) w s)) (h.passes).lengthens all),
     ((h.passes).goes).later.shrinks,
   )
 
-  pub keeps_equal : (t : X) → Related solver_manner (solving 0 [] m was L v e) (solving 0 hs n now K v e) v a b tree (Ok t) →
+  pub keeps_equal : (t : X) → Related solver_manner (solving j [] m was L v e) (solving j' hs n now K v e) v a b tree (Ok t) →
       KeepsEqualTerms was now (goals_of n hs) a b
   keeps_equal t h = λ w s sat one. let z = ((h.verdict).outcome).keeps w s sat one in
       (z.0, z.1, (z.2.0, subst (All (MakesOneTree z.0)) (sym (h.passes).lengthens) z.2.1))
 
   pub relates_agreeing : (t : X) →
-      Related solver_manner (solving 0 [] m was L v e) (solving 0 hs n now K v e) v a b tree (Ok t) →
+      Related solver_manner (solving j [] m was L v e) (solving j' hs n now K v e) v a b tree (Ok t) →
       Agree (items_of m) (at v) a b
   relates_agreeing t h = (h.verdict).agrees tt
 
   pub registers_goals : (result : Result X (RelateFault Key Id Name)) → L → KnowsGoals m e [] →
-      Related solver_manner (solving 0 [] m was L v e) (solving 0 hs n now K v e) v a b tree result →
+      Related solver_manner (solving j [] m was L v e) (solving j' hs n now K v e) v a b tree result →
       All (KnowsGoal n) hs × All (Registered (items_of m) false v (m.param_env e) was now) (goals_of n hs) ×
       (v ≡ Invariant → hs ≡ [])
   registers_goals result l env h = (
@@ -457,3 +475,9 @@ asked_recorded m was now Covariant a b d h = h.one_more
 asked_recorded m was now Contravariant a b d h = h.one_more
 asked_recorded m was now Invariant a b d h = h.one_more
 asked_recorded m was now Bivariant a b d h = absurd (d refl)
+
+-- What no step changes stands in the context.
+pub keeps_beside : {Key Id Name : Type 0} (c d : Context Key Id Name) (e f : Tree) →
+    kept_in (held_by 0 d) f ≡ kept_in (held_by 0 c) e → KeepsBeside c d
+keeps_beside c d e f g =
+    record { solver = ap (λ k. k.settings.next_solver) g; outliving = ap (λ k. k.outliving) g }

@@ -36,7 +36,7 @@ use Rattle.relation_contexts.proofs.Going.{goes_nowhere, goes_within}
 use Rattle.relation_contexts.proofs.Opened.{none_escapes, within_none}
 use Rattle.relation_contexts.proofs.Opening.{covariant_step, contravariant_step, unused_step}
 use Rattle.type_relations.proofs.OverContext.{all_taken}
-use Rattle.type_relations.proofs.Solving.{solver_passes}
+use Rattle.type_relations.proofs.Solving.{held_grows, solver_passes}
 use Rattle.type_relations.proofs.OpeningBoth.{changes_made, opened_goes, body_scope, unused_stand_ins, bodies_error}
 use Rattle.type_relations.proofs.OpeningBoth.{bodies_agree}
 use Rattle.type_relations.proofs.OpeningBoth.{BothOpened, both_opened, bodies_smaller}
@@ -148,7 +148,7 @@ module _ {Key Id Name : Type 0} (j : ℕ) (gs : List (KeyedGoal Key (PredicateKe
       Opened solver_manner before after round a b tree result
   unfolding solver_passes
   opened env grows goes round a b tree result h = record {
-    passes = solver_passes j gs v e grows.extends env (goes_within (omega arith) goes) grows.lawful;
+    passes = solver_passes (held_grows j c d grows) gs v e grows.extends env (goes_within (omega arith) goes) grows.lawful;
     verdict = h;
   }
 

@@ -17,7 +17,7 @@ use Rattle.relation_contexts.proofs.Agreeing.{agree_root}
 use Rattle.relation_contexts.specs.Stores.{Store}
 use Rattle.relation_contexts.specs.Goals.{Goal, goal_of, goals_of, KnowsGoal, subtype_predicate, IsOpen, IsDirected, IsRegistered, of_variables, Holds, MakesOneTree}
 use Rattle.relation_contexts.specs.Lawful.{Stepped, Passes, MayAnswer, RegisteredIn, items_of}
-use Rattle.type_relations.specs.Solving.{KnowsGoals, solving, solver_manner}
+use Rattle.type_relations.specs.Solving.{KnowsGoals, Held, kept_in, solving, solver_manner}
 use Rattle.relation_contexts.proofs.Answering.{may_itself}
 use Rattle.relation_contexts.proofs.Going.{goes_nowhere, later_itself}
 use Rattle.relation_contexts.proofs.Full.{full_itself}
@@ -26,8 +26,8 @@ use Rattle.type_relations.proofs.Turning.{turned}
 use Rattle.relation_contexts.proofs.Registered.{registered_in, goals_stay, goals_known}
 
 -- One more goal was registered.
-module _ {Key Id Name : Type 0} (j : ℕ) (gs hs : List (KeyedGoal Key (PredicateKey Key))) (m n : Meaning Key Id Name)
-    (st : Store) (L K : Type 0) (v : Variance) (e : ParamEnvKey Key) (grown : Extends m n) (env : KnowsGoals m e gs) (l : K)
+module _ {Key Id Name : Type 0} {j j' : Held Key} (held : j' ≡ j) (gs hs : List (KeyedGoal Key (PredicateKey Key)))
+    (m n : Meaning Key Id Name) (st : Store) (L K : Type 0) (v : Variance) (e : ParamEnvKey Key) (grown : Extends m n) (env : KnowsGoals m e gs) (l : K)
     (p : PredicateKey Key) (t : Tree) (pushed : hs ≡ gs ++ record { param_env = e; predicate = p } ∷ [])
     (means : n.predicate p ≡ t) (sure : IsTrue (known t)) (asks : IsRegistered (items_of m) false v st st t) where
   lengthens : goals_of n hs ≡ goals_of m gs ++ goal_of (m.param_env e) t ∷ []
@@ -48,23 +48,22 @@ module _ {Key Id Name : Type 0} (j : ℕ) (gs hs : List (KeyedGoal Key (Predicat
       (goals_known grown gs env.1) (All-cons (KnowsGoal n) (record { param_env = e; predicate = p }) []
       (env_known, subst (λ z. IsTrue (known z)) (sym means) sure) (All-nil (KnowsGoal n))))
 
-  unfoldable passes : (N : ℕ) → Passes N (solving j gs m st L v e) (solving j hs n st K v e)
+  unfoldable passes : (N : ℕ) → Passes N (solving j gs m st L v e) (solving j' hs n st K v e)
   passes N = record {
     extends = grown;
     goes = goes_nowhere N st;
     added = goal_of (m.param_env e) t ∷ [];
     lengthens = lengthens;
     goals_in = is_registered;
-    environment = grown.param_env e env.0;
+    kept = ap₂ kept_in held (grown.param_env e env.0);
     ambient = refl;
-    settings = refl;
-    reference = refl;
+    remembered = refl;
     lawful = λ h. (l, (env_known, all_known));
   }
 
 -- That of two type variables the one is a subtype of the other was registered.
-module _ {Key Id Name : Type 0} (j : ℕ) (gs hs : List (KeyedGoal Key (PredicateKey Key))) (m n : Meaning Key Id Name)
-    (st : Store) (L K : Type 0) (v : Variance) (e : ParamEnvKey Key) (grown : Extends m n) (env : KnowsGoals m e gs) (l : K)
+module _ {Key Id Name : Type 0} {j j' : Held Key} (held : j' ≡ j) (gs hs : List (KeyedGoal Key (PredicateKey Key)))
+    (m n : Meaning Key Id Name) (st : Store) (L K : Type 0) (v : Variance) (e : ParamEnvKey Key) (grown : Extends m n) (env : KnowsGoals m e gs) (l : K)
     (p : PredicateKey Key) (x : Bool) (i k : ℕ)
     (pushed : hs ≡ gs ++ record { param_env = e; predicate = p } ∷ [])
     (means : n.predicate p ≡ subtype_predicate x (leaf (variable type_var i)) (leaf (variable type_var k)))
@@ -85,15 +84,15 @@ module _ {Key Id Name : Type 0} (j : ℕ) (gs hs : List (KeyedGoal Key (Predicat
       ((s : Assign) → apply s a ≡ apply s b →
       apply s (leaf (variable type_var i)) ≡ apply s (leaf (variable type_var k))) →
       ((c : Items) → Agree c (at v) a b) →
-      Stepped solver_manner F (solving j gs m st L v e) (solving j hs n st K v e) a b tree (Ok (Done t))
+      Stepped solver_manner F (solving j gs m st L v e) (solving j' hs n st K v e) a b tree (Ok (Done t))
   unfolding passes
   registered_step F a b tree t answer sure relates equal agreeing = record {
-    passes = passes j gs hs m n st L K v e grown env l p asked.predicate pushed means refl in_order _;
+    passes = passes held gs hs m n st L K v e grown env l p asked.predicate pushed means refl in_order _;
     verdict = record {
       outcome = record {
         later = later_itself st;
         goals_in = registered_in (asked ∷ [])
-            (is_registered j gs hs m n st L K v e grown env l p asked.predicate pushed means refl in_order);
+            (is_registered held gs hs m n st L K v e grown env l p asked.predicate pushed means refl in_order);
         relates = λ w s sat all. relates (items_of m) w (m.param_env e) s
             (All-head (Holds (items_of m) w s) asked [] (All_back (Holds (items_of m) w s) (goals_of m gs) (asked ∷ []) all));
         keeps = λ w s sat one. (
@@ -102,8 +101,8 @@ module _ {Key Id Name : Type 0} (j : ℕ) (gs hs : List (KeyedGoal Key (Predicat
           (sat, All-cons (MakesOneTree s) asked [] (equal s one) (All-nil (MakesOneTree s))),
         );
       };
-      answer = subst (MayAnswer solver_manner (solving j hs n st K v e) v a) (sym answer)
-          (may_itself solver_manner (solving j hs n st K v e) v a);
+      answer = subst (MayAnswer solver_manner (solving j' hs n st K v e) v a) (sym answer)
+          (may_itself solver_manner (solving j' hs n st K v e) v a);
       known = subst (λ z. IsTrue (known z)) (sym answer) sure;
       agrees = λ z. agreeing (items_of m);
     };
@@ -111,8 +110,8 @@ module _ {Key Id Name : Type 0} (j : ℕ) (gs hs : List (KeyedGoal Key (Predicat
     full = λ ha hb. full_itself st;
   }
 
-module _ {Key Id Name : Type 0} (j : ℕ) (gs hs : List (KeyedGoal Key (PredicateKey Key))) (m n : Meaning Key Id Name)
-    (st now : Store) (L K : Type 0) (v : Variance) (e : ParamEnvKey Key) (grown : Extends m n) (env : KnowsGoals m e gs) (l : K)
+module _ {Key Id Name : Type 0} {j j' : Held Key} (held : j' ≡ j) (gs hs : List (KeyedGoal Key (PredicateKey Key)))
+    (m n : Meaning Key Id Name) (st now : Store) (L K : Type 0) (v : Variance) (e : ParamEnvKey Key) (grown : Extends m n) (env : KnowsGoals m e gs) (l : K)
     (stays : now ≡ st) (p : PredicateKey Key) (x : Bool)
     (pushed : hs ≡ gs ++ record { param_env = e; predicate = p } ∷ []) (i k : ℕ) (a b : Tree)
     (a_is : a ≡ leaf (variable type_var i)) (b_is : b ≡ leaf (variable type_var k)) (i_open : IsOpen st st i)
@@ -120,10 +119,10 @@ module _ {Key Id Name : Type 0} (j : ℕ) (gs hs : List (KeyedGoal Key (Predicat
   -- At covariance that the first is a subtype of the second.
   pub covariant_step : {X : Type 0} (F : Tree → Type 0) (tree : X → Tree) (t : X) → v ≡ Covariant →
       n.predicate p ≡ subtype_predicate x a b → tree t ≡ a → IsTrue (known a) →
-      Stepped solver_manner F (solving j gs m st L v e) (solving j hs n now K v e) a b tree (Ok (Done t))
+      Stepped solver_manner F (solving j gs m st L v e) (solving j' hs n now K v e) a b tree (Ok (Done t))
   covariant_step F tree t is means answer sure =
-      subst (λ z. Stepped solver_manner F (solving j gs m st L v e) (solving j hs n z K v e) a b tree (Ok (Done t)))
-      (sym stays) (registered_step j gs hs m n st L K v e grown env l p x i k pushed
+      subst (λ z. Stepped solver_manner F (solving j gs m st L v e) (solving j' hs n z K v e) a b tree (Ok (Done t)))
+      (sym stays) (registered_step held gs hs m n st L K v e grown env l p x i k pushed
       (means ∙ ap₂ (subtype_predicate x) a_is b_is) i_open k_open (subst IsDirected (sym is) tt) F a b tree t answer sure
       (λ c w d s r. subst (λ z. Rel c w d (at z) (apply s a) (apply s b)) (sym is)
       (subst₂ (λ f g. Rel c w d (at Covariant) (apply s f) (apply s g)) (sym a_is) (sym b_is) r))
@@ -133,10 +132,10 @@ module _ {Key Id Name : Type 0} (j : ℕ) (gs hs : List (KeyedGoal Key (Predicat
   -- At contravariance that the second is one of the first.
   pub contravariant_step : {X : Type 0} (F : Tree → Type 0) (tree : X → Tree) (t : X) → v ≡ Contravariant →
       n.predicate p ≡ subtype_predicate x b a → tree t ≡ a → IsTrue (known a) →
-      Stepped solver_manner F (solving j gs m st L v e) (solving j hs n now K v e) a b tree (Ok (Done t))
+      Stepped solver_manner F (solving j gs m st L v e) (solving j' hs n now K v e) a b tree (Ok (Done t))
   contravariant_step F tree t is means answer sure =
-      subst (λ z. Stepped solver_manner F (solving j gs m st L v e) (solving j hs n z K v e) a b tree (Ok (Done t)))
-      (sym stays) (registered_step j gs hs m n st L K v e grown env l p x k i pushed
+      subst (λ z. Stepped solver_manner F (solving j gs m st L v e) (solving j' hs n z K v e) a b tree (Ok (Done t)))
+      (sym stays) (registered_step held gs hs m n st L K v e grown env l p x k i pushed
       (means ∙ ap₂ (subtype_predicate x) b_is a_is) k_open i_open (subst IsDirected (sym is) tt) F a b tree t answer sure
       (λ c w d s r. subst (λ z. Rel c w d (at z) (apply s a) (apply s b)) (sym is)
       (subst₂ (λ f g. Rel c w d (at Contravariant) (apply s f) (apply s g)) (sym a_is) (sym b_is) (turned r)))

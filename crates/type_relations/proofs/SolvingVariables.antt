@@ -204,9 +204,9 @@ module _ {Key Id Name : Type 0} (r0 : State Key Id Name) (L K : Type 0) (lawful 
     right_above : weight was t + 1 ≤ weight was t + weight was root
     right_above = let h = root_weight in omega (arith, h)
 
-    both : StepsTo (items_of c.meaning) r0.environment was now r0.goals [] (at v) root t (at v) u t ×
-        StepsTo (items_of c.meaning) r0.environment was now r0.goals [] (at v) t root (at v) t u
-    both = instantiating_steps (items_of c.meaning) r0.environment v x was now r0.goals k target t u
+    both : StepsTo (items_of c.meaning) r0.kept.environment was now r0.goals [] (at v) root t (at v) u t ×
+        StepsTo (items_of c.meaning) r0.kept.environment was now r0.goals [] (at v) t root (at v) t u
+    both = instantiating_steps (items_of c.meaning) r0.kept.environment v x was now r0.goals k target t u
         (term_context was t t_in) steps
 
     left_leads : (w : Variance) → Lifts Key Id Name now w v u t → Leads r q [] root t w u t
@@ -215,7 +215,7 @@ module _ {Key Id Name : Type 0} (r0 : State Key Id Name) (L K : Type 0) (lawful 
         later = (both.0).later;
         goals_in = (both.0).goals_in;
         relates = λ i s sat all o. (both.0).relates i s sat all
-            (l.relates (items_of c.meaning) i r0.environment s sat o);
+            (l.relates (items_of c.meaning) i r0.kept.environment s sat o);
         keeps = (both.0).keeps;
       };
       errors = λ i c st f h g o. of_entries (read_later now st h root u root_reads) (itself refl) (l.errors i c st f g o);
@@ -228,7 +228,7 @@ module _ {Key Id Name : Type 0} (r0 : State Key Id Name) (L K : Type 0) (lawful 
         later = (both.1).later;
         goals_in = (both.1).goals_in;
         relates = λ i s sat all o. (both.1).relates i s sat all
-            (l.relates (items_of c.meaning) i r0.environment s sat o);
+            (l.relates (items_of c.meaning) i r0.kept.environment s sat o);
         keeps = (both.1).keeps;
       };
       errors = λ i c st f h g o. of_entries (itself refl) (read_later now st h root u root_reads) (l.errors i c st f g o);
@@ -259,7 +259,7 @@ module _ {Key Id Name : Type 0} (r0 : State Key Id Name) (L K : Type 0) (lawful 
     -- A pair of a variance that relates another.
     abbrev Answers : Variance → Tree → Tree → Tree → Tree → Type 0
     Answers w x y a an =
-        CarriesOver (items_of d.meaning) r0.environment now r0.goals (at w) x y (at v) a an
+        CarriesOver (items_of d.meaning) r0.kept.environment now r0.goals (at w) x y (at v) a an
 
     left_again : (b w : Variance) (an : Tree) → xform v b ≡ w → Lifts Key Id Name now w v u t → IsTrue (known an) →
         Answers w u t root an → LeadsAgain solver_manner r q [] root t root t b u t an
@@ -297,15 +297,15 @@ module _ {Key Id Name : Type 0} (r0 : State Key Id Name) (L K : Type 0) (lawful 
       to_root : (w : Variance) → Lifts Key Id Name now w v u t → (tree a ≡ root) ⊎ (tree a ≡ t) →
           Answers w u t root (tree a)
       to_root w o (inl h) i s sat holds f = same_rel (ap (apply s) (sym h))
-      to_root w o (inr h) i s sat holds f = subst₂ (Rel (items_of d.meaning) i r0.environment (at v))
+      to_root w o (inr h) i s sat holds f = subst₂ (Rel (items_of d.meaning) i r0.kept.environment (at v))
           (sym (root_value i s sat)) (ap (apply s) (sym h))
-          (o.relates (items_of d.meaning) i r0.environment s sat f)
+          (o.relates (items_of d.meaning) i r0.kept.environment s sat f)
 
       to_term : (w : Variance) → Lifts Key Id Name now w v t u → (tree a ≡ root) ⊎ (tree a ≡ t) →
           Answers w t u t (tree a)
-      to_term w o (inl h) i s sat holds f = subst (Rel (items_of d.meaning) i r0.environment (at v)
+      to_term w o (inl h) i s sat holds f = subst (Rel (items_of d.meaning) i r0.kept.environment (at v)
           (apply s t)) (sym (root_value i s sat) ∙ ap (apply s) (sym h))
-          (o.relates (items_of d.meaning) i r0.environment s sat f)
+          (o.relates (items_of d.meaning) i r0.kept.environment s sat f)
       to_term w o (inr h) i s sat holds f = same_rel (ap (apply s) (sym h))
 
       left_by : (b w : Variance) → xform v b ≡ w → Lifts Key Id Name now w v u t → tree y ≡ root → tree z ≡ t →

@@ -23,7 +23,7 @@ module _ {n : ℕ} {was now : Store} (goes : Goes n was now) where
 
 -- At most as many instantiations were made as there were unresolved variables.
 module _ {Key Id Name X : Type 0} {r q : State Key Id Name} (M : Manners) (v : Variance) (a b : Tree) (tree : X → Tree)
-    (exact : (M r.settings).is_exact) (is : v ≡ Invariant) (pair : IsFirstOrderPair r.store a b) (u : ℕ)
+    (exact : (M r.kept.settings).is_exact) (is : v ≡ Invariant) (pair : IsFirstOrderPair r.store a b) (u : ℕ)
     (one : IsPairOf u r.store a b) where
   pub spends_no_more : (res : Result X (RelateFault Key Id Name)) → Related M r q v a b tree res →
       ((r.store).budget ≤ (q.store).budget + all_unbound r.store) ×

@@ -166,8 +166,8 @@ module _ {Key Id Name : Type 0} {r q : State Key Id Name} (M : Manners) (v : Var
         )
 
     whole_type : (A B : Type 0) (p : State Key Id Name) (e : RelateFault Key Id Name) → IsFormed b →
-        ExactlyRelated {X = A} (M q.settings) q.store p.store (part_at (items_in r) (head_of a) i v) (arg_tree q.meaning X)
-        (arg_tree q.meaning Y) (Err e) → ExactlyRelated {X = B} (M r.settings) r.store p.store v a b (Err e)
+        ExactlyRelated {X = A} (M q.kept.settings) q.store p.store (part_at (items_in r) (head_of a) i v) (arg_tree q.meaning X)
+        (arg_tree q.meaning Y) (Err e) → ExactlyRelated {X = B} (M r.kept.settings) r.store p.store v a b (Err e)
     whole_type A B p e is_formed' g exact is pair =
         refused_as r.store p.store a b (parts_of a) (parts_of b) (types_unify a b is_formed is_formed' o)
         (λ u. leaves_parts (NamesTypesTo u) a) (λ u. leaves_parts (NamesTypesTo u) b) A B e
@@ -177,8 +177,8 @@ module _ {Key Id Name : Type 0} {r q : State Key Id Name} (M : Manners) (v : Var
 
     ty_exactly : (A B : Type 0) (p : State Key Id Name) (e k : RelateFault Key Id Name) → IsFormed b →
         IsFaultOfTy a X Y e k →
-        ExactlyRelated {X = A} (M q.settings) q.store p.store (part_at (items_in r) (head_of a) i v) (arg_tree q.meaning X)
-        (arg_tree q.meaning Y) (Err e) → ExactlyRelated {X = B} (M r.settings) r.store p.store v a b (Err k)
+        ExactlyRelated {X = A} (M q.kept.settings) q.store p.store (part_at (items_in r) (head_of a) i v) (arg_tree q.meaning X)
+        (arg_tree q.meaning Y) (Err e) → ExactlyRelated {X = B} (M r.kept.settings) r.store p.store v a b (Err k)
     ty_exactly A B p Memory k is_formed' t g exact is pair = subst (λ k. ExactResult {X = B} r.store p.store a b (Err k))
         (sym (same_fault a X Y Memory k t (λ e z. cc))) (whole_type A B p Memory is_formed' g exact is pair)
     ty_exactly A B p Budget k is_formed' t g exact is pair = subst (λ k. ExactResult {X = B} r.store p.store a b (Err k))
@@ -218,18 +218,18 @@ module _ {Key Id Name : Type 0} {r q : State Key Id Name} (M : Manners) (v : Var
       AreParts r.store (parts_of a) (parts_of b) → i ≡ count (parts_of a) → i ≡ count (parts_of b) →
       (w : Interpretation) (s : Assign) → Satisfies w q.store s →
       All (Holds (items_in r) w s) (r.goals ++ (f.passes).added) →
-      Rel (items_in r) w r.environment (at v) (apply s a) (apply s b)
+      Rel (items_in r) w r.kept.environment (at v) (apply s a) (apply s b)
   types_relate is_formed (over_parts {h} {ts} {us} d e n) f are ea eb w s sat all =
       let whole = fronted_all (head_of a) v i (parts_of a) (parts_of b) are ea eb f in
-      subst₂ (λ x y. Rel (items_in r) w r.environment (at v) (apply s x) (apply s y)) (sym d) (sym e)
+      subst₂ (λ x y. Rel (items_in r) w r.kept.environment (at v) (apply s x) (apply s y)) (sym d) (sym e)
       (forms (related_head h (subst IsFormed d is_formed)) refl
-      (subst (λ z. Rel (items_in r) w r.environment (parts h 0 v) (apply s (parts_of z)) (apply s us)) d
-      (subst (λ z. Rel (items_in r) w r.environment (parts h 0 v) (apply s (parts_of a)) (apply s (parts_of z))) e
-      (subst (λ z. Rel (items_in r) w r.environment (parts (head_of z) 0 v) (apply s (parts_of a)) (apply s (parts_of b))) d
+      (subst (λ z. Rel (items_in r) w r.kept.environment (parts h 0 v) (apply s (parts_of z)) (apply s us)) d
+      (subst (λ z. Rel (items_in r) w r.kept.environment (parts h 0 v) (apply s (parts_of a)) (apply s (parts_of z))) e
+      (subst (λ z. Rel (items_in r) w r.kept.environment (parts (head_of z) 0 v) (apply s (parts_of a)) (apply s (parts_of b))) d
       (whole.relates w s sat all)))))
   types_relate is_formed (one_leaf d e) f are ea eb w s sat all = same (ap (apply s) (d ∙ sym e))
   types_relate is_formed (parameters d e p) f are ea eb w s sat all =
-      subst₂ (λ x y. Rel (items_in r) w r.environment (at v) (apply s x) (apply s y)) (sym d) (sym e) (atoms p)
+      subst₂ (λ x y. Rel (items_in r) w r.kept.environment (at v) (apply s x) (apply s y)) (sym d) (sym e) (atoms p)
 
   pub types_related : {X : Type 0} (tree : X → Tree) (x : X) → IsFormed a → IsFormed b → AreOfOneForm a b →
       Fronted M r q (head_of a) v i (parts_of a) (parts_of b) → AreParts r.store (parts_of a) (parts_of b) →

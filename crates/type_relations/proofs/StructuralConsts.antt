@@ -153,8 +153,8 @@ module _ {Key Id Name : Type 0} {r q : State Key Id Name} (M : Manners) (v : Var
 
     whole_const : (A B : Type 0) (p : State Key Id Name) (e : RelateFault Key Id Name) → IsFormedConst a →
         IsFormedConst b →
-        ExactlyRelated {X = A} (M q.settings) q.store p.store (part_at (items_in r) (const_head_of a) i v) x y (Err e) →
-        ExactlyRelated {X = B} (M r.settings) r.store p.store v a b (Err e)
+        ExactlyRelated {X = A} (M q.kept.settings) q.store p.store (part_at (items_in r) (const_head_of a) i v) x y (Err e) →
+        ExactlyRelated {X = B} (M r.kept.settings) r.store p.store v a b (Err e)
     whole_const A B p e fa fb g exact is pair =
         refused_as r.store p.store a b (const_parts_of a) (const_parts_of b) (consts_unify a b fa fb o)
         (λ u. leaves_const_parts (NamesTypesTo u) a) (λ u. leaves_const_parts (NamesTypesTo u) b) A B e
@@ -164,8 +164,8 @@ module _ {Key Id Name : Type 0} {r q : State Key Id Name} (M : Manners) (v : Var
 
     const_exactly : (A B : Type 0) (p : State Key Id Name) (e k : RelateFault Key Id Name) → IsFormedConst a →
         IsFormedConst b → IsFaultOfConst a c d e k →
-        ExactlyRelated {X = A} (M q.settings) q.store p.store (part_at (items_in r) (const_head_of a) i v) x y (Err e) →
-        ExactlyRelated {X = B} (M r.settings) r.store p.store v a b (Err k)
+        ExactlyRelated {X = A} (M q.kept.settings) q.store p.store (part_at (items_in r) (const_head_of a) i v) x y (Err e) →
+        ExactlyRelated {X = B} (M r.kept.settings) r.store p.store v a b (Err k)
     const_exactly A B p Memory k fa fb t g exact is pair = subst (λ k. ExactResult {X = B} r.store p.store a b (Err k))
         (sym (same_const_fault a c d Memory k t (λ e z. cc))) (whole_const A B p Memory fa fb g exact is pair)
     const_exactly A B p Budget k fa fb t g exact is pair = subst (λ k. ExactResult {X = B} r.store p.store a b (Err k))
@@ -207,32 +207,32 @@ module _ {Key Id Name : Type 0} {r q : State Key Id Name} (M : Manners) (v : Var
       AreParts r.store (const_parts_of a) (const_parts_of b) → i ≡ count (const_parts_of a) →
       i ≡ count (const_parts_of b) → (w : Interpretation) (s : Assign) → Satisfies w q.store s →
       All (Holds (items_in r) w s) (r.goals ++ (f.passes).added) →
-      Rel (items_in r) w r.environment (at v) (apply s a) (apply s b)
+      Rel (items_in r) w r.kept.environment (at v) (apply s a) (apply s b)
   consts_relate (values {t} {u} {v = x} {w = y} d e (one_value z)) f are ea eb w s sat all =
-      subst₂ (λ m n. Rel (items_in r) w r.environment (at v) (apply s m) (apply s n)) (sym d) (sym e)
-      (value_parts (items_in r) w r.environment v s t u x y (same (ap (apply s) z)))
+      subst₂ (λ m n. Rel (items_in r) w r.kept.environment (at v) (apply s m) (apply s n)) (sym d) (sym e)
+      (value_parts (items_in r) w r.kept.environment v s t u x y (same (ap (apply s) z)))
   consts_relate (values {t} {u} {v = x} {w = y} d e (as_many_branches {ts} {us} m n k)) f are ea eb w s sat all =
       let all_parts = fronted_all (const_head_of a) v i (const_parts_of a) (const_parts_of b) are ea eb f in
       let left : const_parts_of a ≡ ts = ap const_parts_of d ∙ ap branches_of m in
       let right : const_parts_of b ≡ us = ap const_parts_of e ∙ ap branches_of n in
-      let branches : Rel (items_in r) w r.environment (parts value_branch 0 v) (apply s ts) (apply s us) =
-      subst₂ (λ j l. Rel (items_in r) w r.environment (parts value_branch 0 v) (apply s j) (apply s l)) left right
-      (subst (λ z. Rel (items_in r) w r.environment (parts (const_head_of z) 0 v) (apply s (const_parts_of a))
+      let branches : Rel (items_in r) w r.kept.environment (parts value_branch 0 v) (apply s ts) (apply s us) =
+      subst₂ (λ j l. Rel (items_in r) w r.kept.environment (parts value_branch 0 v) (apply s j) (apply s l)) left right
+      (subst (λ z. Rel (items_in r) w r.kept.environment (parts (const_head_of z) 0 v) (apply s (const_parts_of a))
       (apply s (const_parts_of b))) d (all_parts.relates w s sat all)) in
-      subst₂ (λ j l. Rel (items_in r) w r.environment (at v) (apply s j) (apply s l)) (sym d) (sym e)
-      (value_parts (items_in r) w r.environment v s t u x y
-      (subst₂ (λ j l. Rel (items_in r) w r.environment (at v) (apply s j) (apply s l)) (sym m) (sym n)
+      subst₂ (λ j l. Rel (items_in r) w r.kept.environment (at v) (apply s j) (apply s l)) (sym d) (sym e)
+      (value_parts (items_in r) w r.kept.environment v s t u x y
+      (subst₂ (λ j l. Rel (items_in r) w r.kept.environment (at v) (apply s j) (apply s l)) (sym m) (sym n)
       (forms tt refl branches)))
   consts_relate (expressions {k} {ts} {us} d e n) f are ea eb w s sat all =
       let all_parts = fronted_all (const_head_of a) v i (const_parts_of a) (const_parts_of b) are ea eb f in
-      subst₂ (λ j l. Rel (items_in r) w r.environment (at v) (apply s j) (apply s l)) (sym d) (sym e)
+      subst₂ (λ j l. Rel (items_in r) w r.kept.environment (at v) (apply s j) (apply s l)) (sym d) (sym e)
       (forms tt refl
-      (subst₂ (λ j l. Rel (items_in r) w r.environment (parts (expression k) 0 v) (apply s j) (apply s l))
+      (subst₂ (λ j l. Rel (items_in r) w r.kept.environment (parts (expression k) 0 v) (apply s j) (apply s l))
       (ap const_parts_of d) (ap const_parts_of e)
-      (subst (λ z. Rel (items_in r) w r.environment (parts (const_head_of z) 0 v) (apply s (const_parts_of a))
+      (subst (λ z. Rel (items_in r) w r.kept.environment (parts (const_head_of z) 0 v) (apply s (const_parts_of a))
       (apply s (const_parts_of b))) d (all_parts.relates w s sat all))))
   consts_relate (const_parameters d e p) f are ea eb w s sat all =
-      subst₂ (λ j l. Rel (items_in r) w r.environment (at v) (apply s j) (apply s l)) (sym d) (sym e) (atoms p)
+      subst₂ (λ j l. Rel (items_in r) w r.kept.environment (at v) (apply s j) (apply s l)) (sym d) (sym e) (atoms p)
 
   pub consts_related : {X : Type 0} (tree : X → Tree) (x : X) → IsFormedConst a → IsFormedConst b → AreOfOneConst a b →
       Fronted M r q (const_head_of a) v i (const_parts_of a) (const_parts_of b) →

@@ -27,25 +27,25 @@ use Rattle.relation_contexts.specs.Resolving.{IsShallow}
 use Rattle.relation_contexts.specs.Lawful.{State, Manners}
 use Rattle.type_relations.specs.Subtyping.{IsTyVar, IsTyVarOf, subtype_at, RegistersAlone, StepRegistersAlone}
 use Rattle.type_relations.specs.Subtyping.{RegistersSubtype, StepRegistersSubtype}
-use Rattle.type_relations.specs.Solving.{KnowsGoals, solving}
+use Rattle.type_relations.specs.Solving.{KnowsGoals, Held, solving}
 use Rattle.relation_contexts.proofs.Classes.{one_leads, leads_through}
 use Rattle.relation_contexts.proofs.Registered.{goals_stay}
 use Rattle.type_relations.proofs.Shallowly.{shallow_free}
 
 -- One goal was registered alone, or a growth was refused.
-module _ {Key Id Name : Type 0} (j : ℕ) (gs hs : List (KeyedGoal Key (PredicateKey Key))) (m n : Meaning Key Id Name)
-    (st now : Store) (L K : Type 0) (v : Variance) (e : ParamEnvKey Key) (grown : Extends m n) (env : KnowsGoals m e gs)
+module _ {Key Id Name : Type 0} {j j' : Held Key} (held : j' ≡ j) (gs hs : List (KeyedGoal Key (PredicateKey Key)))
+    (m n : Meaning Key Id Name) (st now : Store) (L K : Type 0) (v : Variance) (e : ParamEnvKey Key) (grown : Extends m n) (env : KnowsGoals m e gs)
     (stays : now ≡ st) where
   pub refused_alone : {X : Type 0} (p : Tree) (tree : X → Tree) (t : Tree) (res : Result (Step X) (RelateFault Key Id Name)) →
       hs ≡ gs → res ≡ Err Memory →
-      StepRegistersAlone (solving j gs m st L v e) (solving j hs n now K v e) tree t p res
+      StepRegistersAlone (solving j gs m st L v e) (solving j' hs n now K v e) tree t p res
   refused_alone p tree t res same is =
-      subst (StepRegistersAlone (solving j gs m st L v e) (solving j hs n now K v e) tree t p) (sym is)
+      subst (StepRegistersAlone (solving j gs m st L v e) (solving j' hs n now K v e) tree t p) (sym is)
       (stays, ap (goals_of n) same ∙ goals_stay grown gs env.1)
 
   pub pushed_alone : {X : Type 0} (p : PredicateKey Key) (t : Tree) (tree : X → Tree) (x : X) (a : Tree) →
       hs ≡ gs ++ record { param_env = e; predicate = p } ∷ [] → n.predicate p ≡ t → tree x ≡ a →
-      StepRegistersAlone (solving j gs m st L v e) (solving j hs n now K v e) tree a t (Ok (Done x))
+      StepRegistersAlone (solving j gs m st L v e) (solving j' hs n now K v e) tree a t (Ok (Done x))
   pushed_alone p t tree x a pushed means answer = (
     answer,
     (

@@ -44,5 +44,5 @@ pub record RegistersWellFormed (c : Items) (st : Store) (e : Tree) (d : ℕ) (a 
 abbrev pub AsksWellFormed : {Key Id Name S A F : Type 0} → (S → State Key Id Name) → S → S → DefId Id → TyKey Key →
     TyKey Key → ArgsKey Key → ArgsKey Key → Result A F → Type 0
 AsksWellFormed state before after d a b xs ys result = let r = state before in let m = r.meaning in IfOk result
-    (λ _. RegistersWellFormed (items_in r) r.store r.environment (m.id d.0) (m.ty a) (m.ty b) (m.args xs) (m.args ys)
+    (λ _. RegistersWellFormed (items_in r) r.store r.kept.environment (m.id d.0) (m.ty a) (m.ty b) (m.args xs) (m.args ys)
     r.goals (state after).goals)

@@ -24,12 +24,15 @@ module _ {Key Id Name : Type 0} where
 
   -- The goals of predicates in a relation's environment.
   abbrev pub goals_in : State Key Id Name → List (PredicateKey Key) → List Goal
-  goals_in r ps = map (λ p. goal_of r.environment ((r.meaning).predicate p)) ps
+  goals_in r ps = map (λ p. goal_of r.kept.environment ((r.meaning).predicate p)) ps
 
-  -- A relation has recorded what a context has, over its keys, which is lawful while the relation is.
+  -- A relation has recorded what a context has, over its keys, which is lawful while the relation is. It is set up for
+  -- the context's solver, and keeps the context's types that are to outlive regions.
   pub record IsOver (r : State Key Id Name) (c : Context Key Id Name) : Type 0 where
     pub meaning : r.meaning ≡ c.meaning
     pub store : r.store ≡ c.store
+    pub solver : r.kept.settings.next_solver ≡ c.is_next_solver
+    pub outliving : r.kept.outliving ≡ c.outliving
     pub lawful : r.lawful → c.lawful
 
   -- A context took the place of a relation's: what keys mean and what is recorded is that context's, all else is as it
@@ -38,10 +41,9 @@ module _ {Key Id Name : Type 0} where
     pub meaning : q.meaning ≡ c.meaning
     pub store : q.store ≡ c.store
     pub goals : q.goals ≡ r.goals
-    pub environment : q.environment ≡ r.environment
+    pub kept : q.kept ≡ r.kept
     pub ambient : q.ambient ≡ r.ambient
-    pub settings : q.settings ≡ r.settings
-    pub reference : q.reference ≡ r.reference
+    pub remembered : q.remembered ≡ r.remembered
     pub lawful : r.lawful → q.lawful
 
   -- Goals were put behind those that there were, or were not, where a growth was refused. Nothing else was done.
@@ -49,10 +51,9 @@ module _ {Key Id Name : Type 0} where
     pub meaning : q.meaning ≡ r.meaning
     pub store : q.store ≡ r.store
     pub goals : q.goals ≡ with_goals r.goals added result
-    pub environment : q.environment ≡ r.environment
+    pub kept : q.kept ≡ r.kept
     pub ambient : q.ambient ≡ r.ambient
-    pub settings : q.settings ≡ r.settings
-    pub reference : q.reference ≡ r.reference
+    pub remembered : q.remembered ≡ r.remembered
     pub lawful : r.lawful → q.lawful
 
 -- Between what a context is before a call and after it.

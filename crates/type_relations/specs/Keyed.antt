@@ -168,7 +168,7 @@ module _ {Key Id Name : Type 0} where
   -- What is recorded and registered relates two types.
   abbrev pub RelatesTys : State Key Id Name → TyKey Key → TyKey Key → Type 0
   RelatesTys r a b =
-      Relates (items_in r) r.store r.goals r.environment r.ambient ((r.meaning).ty a) ((r.meaning).ty b)
+      Relates (items_in r) r.store r.goals r.kept.environment r.ambient ((r.meaning).ty a) ((r.meaning).ty b)
 
   -- Two types are of one form over an item and these lists of arguments.
   abbrev pub AreOver : State Key Id Name → DefId Id → TyKey Key → TyKey Key → ArgsKey Key → ArgsKey Key → Type 0
@@ -197,5 +197,5 @@ module _ {Key Id Name : Type 0} where
 
   -- Where the relation promises it, of two regions just what their variance asks for was recorded.
   abbrev pub RecordsAsked : Manners → State Key Id Name → State Key Id Name → RegionKey Key → RegionKey Key → Type 0
-  RecordsAsked M r q a b = (M r.settings).records_asked →
+  RecordsAsked M r q a b = (M r.kept.settings).records_asked →
       (q.store).constraints ≡ (r.store).constraints ++ asked_constraints r.meaning (constraint_at r.ambient a b)

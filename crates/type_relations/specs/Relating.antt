@@ -19,7 +19,7 @@ use Rattle.relation_contexts.specs.Steps.{MakesToInstantiate}
 use Rattle.relation_contexts.specs.FirstOrder.{IsFirstOrderStore}
 use Rattle.relation_contexts.specs.Outcomes.{NoEqualTerms, Exact, NoUnifier}
 use Rattle.relation_contexts.specs.Headline.{AnswersGoals, KeepsEqualTerms, IsFirstOrderPair}
-use Rattle.relation_contexts.specs.OneUniverse.{IsPairOf, all_unbound}
+use Rattle.relation_contexts.specs.OneUniverse.{IsPairOf, KeepsUniverseOf, all_unbound}
 use Rattle.relation_contexts.specs.Relation.{at}
 use Rattle.relation_contexts.specs.Errors.{ErrorOf}
 use Rattle.relation_contexts.specs.Agreeing.{Agree}
@@ -96,11 +96,12 @@ module _ {S Key Id Name A : Type 0} (state : S → Context Key Id Name) (old new
   RelatesAgreeing v a b result = IfOk result (λ goals. Agree (items_of (state old).meaning) (at v) (term a) (term b))
 
   -- Exact, of first-order terms in a first-order record at invariance: just the solutions that unify them stay, up to
-  -- erasure, and the record stays first-order.
+  -- erasure, the record stays first-order, and in one universe what was in one, with no more variables.
   abbrev pub AnswersExactly : {X : Type 0} → Variance → A → A → Result X (RelateFault Key Id Name) → Type 0
   AnswersExactly v a b result = IfOk result (λ goals. v ≡ Invariant →
       IsFirstOrderPair (state old).store (term a) (term b) →
-      Exact (state old).store (state new).store (term a) (term b) × IsFirstOrderStore (state new).store)
+      Exact (state old).store (state new).store (term a) (term b) × IsFirstOrderStore (state new).store ×
+      KeepsUniverseOf (state old).store (state new).store (term a) (term b))
 
   -- A type error of such terms says that nothing unified them, up to erasure.
   abbrev pub ProvesApart : {X : Type 0} → Variance → A → A → Result X (RelateFault Key Id Name) → Type 0

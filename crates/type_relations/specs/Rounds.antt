@@ -32,7 +32,7 @@ module _ {Key Id Name : Type 0} where
   abbrev pub StepsToBodies : State Key Id Name → State Key Id Name → List Goal → Way → Tree → Tree → Tree → Tree →
       Type 0
   StepsToBodies r q added way a b x y =
-      StepsTo (items_in r) r.environment r.store q.store r.goals added way a b (at r.ambient) x y
+      StepsTo (items_in r) r.kept.environment r.store q.store r.goals added way a b (at r.ambient) x y
 
   -- What relating two bodies does for the binders in a round: all of it; or, in each of two rounds, its part of that.
   pub data RoundSteps (r q : State Key Id Name) (added : List Goal) (round : ℕ) (a b x y : Tree) : Type 0 where

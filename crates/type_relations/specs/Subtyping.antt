@@ -42,7 +42,7 @@ module _ {Key Id Name : Type 0} where
   -- was registered either.
   abbrev pub RegistersAlone : {X : Type 0} → State Key Id Name → State Key Id Name → Tree →
       Result X (RelateFault Key Id Name) → Type 0
-  RegistersAlone r q p (Ok x) = (q.store ≡ r.store) × (q.goals ≡ r.goals ++ goal_of r.environment p ∷ [])
+  RegistersAlone r q p (Ok x) = (q.store ≡ r.store) × (q.goals ≡ r.goals ++ goal_of r.kept.environment p ∷ [])
   RegistersAlone r q p (Err Memory) = (q.store ≡ r.store) × (q.goals ≡ r.goals)
   RegistersAlone r q p (Err f) = ⊥
 
@@ -57,11 +57,11 @@ module _ {Key Id Name : Type 0} where
   -- that predicate alone.
   abbrev pub RegistersSubtype : {X : Type 0} → Manners → State Key Id Name → State Key Id Name → Variance → Tree →
       Tree → Result X (RelateFault Key Id Name) → Type 0
-  RegistersSubtype M r q v a b result = (M r.settings).registers_subtype →
+  RegistersSubtype M r q v a b result = (M r.kept.settings).registers_subtype →
       OfSubtype r.store v a b (λ t p. RegistersAlone r q p result)
 
   -- The same of a step.
   abbrev pub StepRegistersSubtype : {K : Type 0} → Manners → State Key Id Name → State Key Id Name → (K → Tree) →
       Tree → Tree → Result (Step K) (RelateFault Key Id Name) → Type 0
-  StepRegistersSubtype M r q tree a b result = (M r.settings).registers_subtype →
+  StepRegistersSubtype M r q tree a b result = (M r.kept.settings).registers_subtype →
       OfSubtype r.store r.ambient a b (λ t p. StepRegistersAlone r q tree t p result)

@@ -1,7 +1,7 @@
 //! The context by what the trait of contexts asks of it.
 ghost use Rattle.std.specs.Prelude.{IsTrue};
 ghost use Rattle.relation_terms.specs.Trees.{known};
-ghost use Rattle.relation_contexts.specs.ContextCalls.{Grows, KeepsRest};
+ghost use Rattle.relation_contexts.specs.ContextCalls.{Grows, KeepsMarks};
 ghost use Rattle.relation_contexts.specs.Bound.{BindsByList};
 ghost use Rattle.relation_contexts.specs.Binders.{binder_tree};
 ghost use Rattle.relation_reference.specs.RefCtxt.{context_in};
@@ -138,7 +138,7 @@ impl<I: Interner> InferCtxtLike for RefCtxt<I> {
         requires value_binds { BindsByList (binder_tree T.tree (context_in I.meaning self.old).meaning value) }
         ensures grows { Grows (context_in I.meaning self.old) (context_in I.meaning self.new) }
         ensures enters { EntersValue I.meaning self.old self.new T.tree value result }
-        ensures rest { KeepsRest (context_in I.meaning self.old) (context_in I.meaning self.new) }
+        ensures marks { KeepsMarks (context_in I.meaning self.old) (context_in I.meaning self.new) }
     {
         self.enter_forall(value)
     }
@@ -153,7 +153,7 @@ impl<I: Interner> InferCtxtLike for RefCtxt<I> {
         requires value_binds { BindsByList (binder_tree T.tree (context_in I.meaning self.old).meaning value) }
         ensures grows { Grows (context_in I.meaning self.old) (context_in I.meaning self.new) }
         ensures instantiates { InstantiatesValue I.meaning self.old self.new T.tree value result }
-        ensures rest { KeepsRest (context_in I.meaning self.old) (context_in I.meaning self.new) }
+        ensures marks { KeepsMarks (context_in I.meaning self.old) (context_in I.meaning self.new) }
     {
         self.instantiate_binder_with_infer(value)
     }

@@ -101,7 +101,7 @@ impl<'a> Namer<'a> {
     }
 
     // The same of a node that assigns nothing.
-    fn given_alone(&self, whole: &Node, number: usize) -> Result<Given, NameError> {
+    pub fn given_alone(&self, whole: &Node, number: usize) -> Result<Given, NameError> {
         let given = self.given(whole, number)?;
         match given.assigned.first() {
             None => Ok(given),

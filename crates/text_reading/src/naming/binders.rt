@@ -13,7 +13,16 @@ const STATIC: &str = "'static";
 fn is_binder(node: &Node) -> bool {
     matches!(
         node.kind,
-        NodeKind::Form(Form::FnPtr(_) | Form::UnsafeBinder | Form::Implements | Form::Projects)
+        NodeKind::Form(
+            Form::FnPtr(_)
+                | Form::UnsafeBinder
+                | Form::Implements
+                | Form::Projects
+                | Form::Claims(_)
+                | Form::OutlivesUnder
+                | Form::ComesTo
+                | Form::Says
+        )
     )
 }
 

@@ -60,6 +60,12 @@ pub enum Wrong {
     Counted,
     /// What stands behind the universe of a placeholder is no place of a binder's list.
     Place,
+    /// The predicate does not claim that a trait is implemented.
+    NoBound,
+    /// What is to come to a term is no trait's type or constant.
+    NoProjection,
+    /// No predicate has the name.
+    NoPredicate,
     /// A question is asked no time at all.
     NoTime,
     /// No question stands before it.
@@ -227,6 +233,9 @@ fn write_wrong<W: Write>(found: &str, why: Wrong, out: &mut W) -> fmt::Result
         Wrong::NumberType => write_expected("a number of a type of numbers", found, out),
         Wrong::Counted => write_expected("a number alone", found, out),
         Wrong::Place => write_expected("a place by its number", found, out),
+        Wrong::NoBound => write_expected("that a trait is implemented", found, out),
+        Wrong::NoProjection => write_expected("a trait's type or constant", found, out),
+        Wrong::NoPredicate => write_expected("a predicate", found, out),
         Wrong::NoTime => write_expected("a number above 0", found, out),
         Wrong::Sort { expected, found } => {
             let (expected, found) = (sort_name(expected), sort_name(found));

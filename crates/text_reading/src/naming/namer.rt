@@ -46,6 +46,8 @@ pub(super) struct Namer<'a> {
     // The index of the next parameter, while there is one.
     pub next_index: Option<u32>,
     pub budget: Option<usize>,
+    // The trait whose statement this is, by its number: in it the trait's own parameters have names.
+    pub stating: Option<usize>,
     pub program: Program<'a>,
 }
 
@@ -64,6 +66,7 @@ impl<'a> Namer<'a> {
             bound: HashMap::new(alloc),
             next_index: Some(0),
             budget: None,
+            stating: None,
             program: Program {
                 items: Vec::new(alloc),
                 names: Vec::new(alloc),
@@ -72,6 +75,9 @@ impl<'a> Namer<'a> {
                 puts: Vec::new(alloc),
                 skips: Vec::new(alloc),
                 variables: Vec::new(alloc),
+                clauses: Vec::new(alloc),
+                stated: Vec::new(alloc),
+                sized: Vec::new(alloc),
                 questions: Vec::new(alloc),
             },
         };

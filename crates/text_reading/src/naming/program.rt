@@ -1,7 +1,7 @@
 //! What a text says: its items, its terms and its questions.
 ghost use Rattle.std.specs.Prelude.{◌≡◌};
 
-use crate::reading::{ItemSort, KeyParams, SideParams};
+use crate::reading::{Claim, ItemSort, KeyParams, SideParams, StatedKind};
 use std::alloc::AllocError;
 use term_enums::{FloatTy, FnHeader, IntTy, Mutability, UintTy, Variance};
 
@@ -140,6 +140,38 @@ impl Clone for Term {
 
 impl Copy for Term {}
 
+/// What a predicate says of terms, by their numbers.
+#[derive(Clone, Copy)]
+pub enum Says {
+    /// What is claimed of a trait, over its arguments, the type that implements it first.
+    Claims(Claim, usize, Parts),
+    RegionOutlives(usize, usize),
+    TypeOutlives(usize, usize),
+    /// What a trait's type or constant comes to: the item, its arguments, and the term.
+    ComesTo(ItemSort, usize, Parts, usize),
+    WellFormed(usize),
+    ConstEvaluatable(usize),
+    /// A constant, and the type that it is of.
+    ConstArgHasType(usize, usize),
+    /// The name of the feature.
+    UnstableFeature(usize),
+}
+
+/// A predicate: what its binder binds, each as it stands right under the binder, and what it says.
+#[derive(Clone, Copy)]
+pub struct Clause {
+    pub variables: Parts,
+    pub says: Says,
+}
+
+/// What a trait states, by its number: the predicates of a range of the program's list.
+#[derive(Clone, Copy)]
+pub struct Stated {
+    pub of: usize,
+    pub kind: StatedKind,
+    pub clauses: Parts,
+}
+
 /// One thing that is put for another.
 #[derive(Clone, Copy, PartialEq, Eq)]
 pub struct Put<T> {
@@ -209,6 +241,22 @@ pub enum QuestionKind {
         params: KeyParams,
         ty: usize,
     },
+    /// What follows from the predicates of a range of the program's list, if a limit was said, of up to so many
+    /// different ones, and as often as was said.
+    Elaborate {
+        clauses: Parts,
+        only_self: bool,
+        sized: bool,
+        limit: Option<usize>,
+        pulls: Option<usize>,
+    },
+    /// The supertraits of what a predicate claims.
+    Supertraits {
+        clause: usize,
+        limit: Option<usize>,
+    },
+    /// The traits that a trait, by its number, leads to.
+    SupertraitIds(usize),
 }
 
 /// A question, and how it is asked.
@@ -249,5 +297,10 @@ pub struct Program<'a> {
     pub skips: Vec<usize>,
     /// The variables that contexts have, in the order of their universes.
     pub variables: Vec<Variables>,
+    /// The predicates that traits state, and those of questions.
+    pub clauses: Vec<Clause>,
+    pub stated: Vec<Stated>,
+    /// The traits, by their numbers, that the language knows as `Sized`.
+    pub sized: Vec<usize>,
     pub questions: Vec<Question>,
 }

@@ -150,7 +150,16 @@ impl<'a> Namer<'a> {
                 self.ask_quickly(node, form, parts),
             (Form::Then, [_]) => self.ask_then(node),
             (Form::Repeat, [times, _]) => self.ask_again(node, *times),
+            (Form::Elaborate { only_self, sized }, _) => {
+                self.ask_elaborated(node, only_self, sized, parts)
+            }
+            (Form::Supertraits, _) => self.ask_supertraits(node, parts),
+            (Form::SupertraitIds, [name]) => {
+                let of = self.trait_of(node, *name)?;
+                self.ask(QuestionKind::SupertraitIds(of))
+            }
             (Form::Terms | Form::Put | Form::Outlives | Form::Error, _) => Ok(()),
+            (Form::Limit | Form::Pulls, _) => Ok(()),
             _ => Err(error_at(node, Wrong::NotRead)),
         }
     }

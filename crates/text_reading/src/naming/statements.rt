@@ -243,6 +243,10 @@ impl<'a> Namer<'a> {
                 Ok(())
             }
             (Form::Implements | Form::Projects | Form::Named | Form::Assigned, _) => Ok(()),
+            (Form::Claims(_) | Form::OutlivesUnder | Form::ComesTo | Form::Says, _) => Ok(()),
+            (Form::IsSized, [name]) => self.declare_sized(node, *name),
+            (Form::Stating, [name]) => self.begin_stating(node, *name),
+            (Form::States(kind), [_, clauses @ ..]) => self.state(node, kind, clauses),
             _ => self.question(node, form, parts),
         }
     }

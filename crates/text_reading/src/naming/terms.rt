@@ -20,7 +20,7 @@ pub(super) enum Wanted {
 }
 
 // What a parameter is given.
-fn given_to(param: ParamSort) -> Sort {
+pub(super) fn given_to(param: ParamSort) -> Sort {
     match param {
         ParamSort::Region => Sort::Region,
         ParamSort::Type => Sort::Type,
@@ -137,6 +137,9 @@ impl<'a> Namer<'a> {
 
     // What a name means as a term.
     fn named(&mut self, node: &Node, missing: Missing) -> Result<Made, NameError> {
+        if let Some(own) = self.own_parameter(node)? {
+            return Ok(own);
+        }
         match self.meaning(node, missing)? {
             Meaning::Term(made) => Ok(made),
             Meaning::Item(number) => self.item_alone(node, number),

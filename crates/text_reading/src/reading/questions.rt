@@ -5,6 +5,7 @@ ghost use Rattle.text_reading.specs.Words.{StandsAt};
 ghost use Rattle.text_reading.specs.Signs.{relation_sign};
 ghost use Rattle.text_reading.specs.Reads.{GoesOn, AddsRoots, Makes};
 
+use crate::reading::elaborations::{read_elaborate, read_supertraits};
 use crate::reading::error::{Expected, ReadError};
 use crate::reading::outlives::read_assumptions;
 use crate::reading::quick::{read_key, read_lists, read_may_unify};
@@ -162,6 +163,12 @@ fn read_asked(reader: &mut Reader) -> Result<usize, ReadError>
     }
     if reader.accept(Sign::Key) {
         return read_key(reader, start);
+    }
+    if reader.is_at(reader.at, Sign::Elaborate) {
+        return read_elaborate(reader, start);
+    }
+    if reader.accept(Sign::Supertraits) {
+        return read_supertraits(reader, start);
     }
     read_pair(reader)
 }

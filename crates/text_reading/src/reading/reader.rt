@@ -79,20 +79,32 @@ impl Reader {
         self.word(self.at)
     }
 
-    // What the next word is.
-    pub fn peek(&self) -> Option<WordKind> {
-        match self.next() {
+    // What the word of that number is.
+    pub fn kind_at(&self, number: usize) -> Option<WordKind> {
+        match self.word(number) {
             Some(word) => Some(word.kind),
             None => None,
         }
     }
 
+    // Whether the word of that number is that sign.
+    pub fn is_at(&self, number: usize, sign: Sign) -> bool
+        ensures { IsTrue result → StandsAt self.now.words.items number sign }
+    {
+        match self.word(number) {
+            Some(word) => is_sign(&word, sign),
+            None => false,
+        }
+    }
+
+    // What the next word is.
+    pub fn peek(&self) -> Option<WordKind> {
+        self.kind_at(self.at)
+    }
+
     // What the word behind the next is.
     pub fn peek_behind(&self) -> Option<WordKind> {
-        match self.word(self.at.saturating_add(1)) {
-            Some(word) => Some(word.kind),
-            None => None,
-        }
+        self.kind_at(self.at.saturating_add(1))
     }
 
     // Where the next word begins, or else the text ends.

@@ -10,6 +10,7 @@ ghost use Rattle.text_reading.specs.declared.reading.error.ReadError.TheVariants
 
 use crate::reading::error::{Expected, ReadError};
 use crate::reading::headers::is_pointer_next;
+use crate::reading::predicates::read_said;
 use crate::reading::questions::read_question;
 use crate::reading::reader::Reader;
 use crate::reading::signs::Sign;
@@ -300,6 +301,9 @@ fn read_statement(reader: &mut Reader) -> Result<usize, ReadError>
     let start = reader.place();
     if is_pointer_next(reader) {
         return read_question(reader, start);
+    }
+    if let Some(said) = read_said(reader, start)? {
+        return Ok(said);
     }
     if let Some(sort) = read_sort(reader)? {
         return read_item(reader, start, sort);

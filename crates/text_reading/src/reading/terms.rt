@@ -161,7 +161,7 @@ fn read_argument(reader: &mut Reader, levels: usize) -> Result<usize, ReadError>
 
 // Reads the name of a trait, or of what one declares, and what is given to it.
 #[cycle(terms)]
-fn read_named(reader: &mut Reader, levels: usize) -> Result<usize, ReadError>
+pub(super) fn read_named(reader: &mut Reader, levels: usize) -> Result<usize, ReadError>
     ensures goes { GoesOn reader.old reader.new }
     ensures node { IfOk result (Makes reader.old reader.new) }
     ensures wrong { IfErr result (LiesIn reader.old.tree.text_len) }

@@ -4,7 +4,7 @@ ghost use Rattle.text_reading.specs.Trees.{IsFounded, EachStands, EachBelow, nod
 
 use crate::reading::words::Leaf;
 use std::alloc::{AllocError, Global};
-use term_enums::{FnHeader, Mutability, Variance};
+use term_enums::{BoundConstness, FnHeader, Mutability, PredicatePolarity, Variance};
 
 /// What an item is.
 #[derive(Clone, Copy, PartialEq, Eq, Debug)]
@@ -49,6 +49,22 @@ pub enum KeyParams {
     Rigid,
 }
 
+/// What the predicates are that a trait states: its super-predicates, what it implies, or what holds where it is
+/// implemented in const contexts.
+#[derive(Clone, Copy, PartialEq, Eq, Debug)]
+pub enum StatedKind {
+    Super,
+    Implied,
+    Const,
+}
+
+/// What a predicate claims of a trait: that it is implemented, or is not, or in const contexts too.
+#[derive(Clone, Copy, PartialEq, Eq)]
+pub enum Claim {
+    Trait(PredicatePolarity),
+    HostEffect(BoundConstness),
+}
+
 /// What a node makes of its parts.
 #[derive(Clone, Copy)]
 pub enum Form {
@@ -72,6 +88,30 @@ pub enum Form {
     Variables,
     /// A name for a term: the name and the term.
     Let,
+    /// What a trait states: the `Stating` of the trait, and its predicates.
+    States(StatedKind),
+    /// The trait that states the predicates behind it: its name.
+    Stating,
+    /// The trait that the language knows as `Sized`: its name.
+    IsSized,
+    /// That a type implements a trait, or not: the `Bound` of the binder, the type, and the `Named` of the trait.
+    Claims(Claim),
+    /// That a term outlives a region: the `Bound` of the binder, the term, and the region.
+    OutlivesUnder,
+    /// What an alias comes to: the `Bound` of the binder, the alias, and the term.
+    ComesTo,
+    /// A predicate that is said by its name: the `Bound` of the binder, the name, and the terms.
+    Says,
+    /// What follows from predicates: these, and the `Limit` and the `Pulls` that are given.
+    Elaborate { only_self: bool, sized: bool },
+    /// The supertraits of a predicate: the predicate, and the `Limit` if one is given.
+    Supertraits,
+    /// The traits that a trait leads to: its name.
+    SupertraitIds,
+    /// How many different predicates there may be: a number.
+    Limit,
+    /// How many predicates are asked for: a number.
+    Pulls,
     /// Whether two terms are related at a variance.
     Question(Variance),
     /// Which terms a visitor meets: the visited term, the `Terms` at which it skips, and those at which it stops.

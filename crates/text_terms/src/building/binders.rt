@@ -42,8 +42,9 @@ fn places_at(numbers: &[usize], parts: Parts) -> Option<&[usize]>
     numbers.get(parts.first..parts.behind)
 }
 
-// What a binder binds, by the numbers of the terms that stand for it.
-pub(super) fn variables_at<I: Interner>(
+/// What a binder binds, by the numbers of the terms that stand for it. The interner has to know each key that is there.
+/// There is none where a term has no key or stands for nothing that is bound, or where memory is refused.
+pub fn variables_at<I: Interner>(
     cx: &I,
     numbers: &[usize],
     built: &[Option<GenericArg<I>>],

@@ -66,8 +66,8 @@ pub(super) fn predicates_of<X: Copy, D: Copy>(
     Some(predicates)
 }
 
-// A type or a constant, as a term.
-pub(super) fn term_of<X: Copy>(key: &GenericArgKind<X>) -> Option<TermKind<X>>
+/// A type or a constant, as a term. A region is none.
+pub fn term_of<X: Copy>(key: &GenericArgKind<X>) -> Option<TermKind<X>>
     ensures { IfSome result (λ term. key.now ≡ term_arg term) }
 {
     match key {

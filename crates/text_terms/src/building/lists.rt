@@ -27,8 +27,8 @@ pub fn ty_at<X: Copy>(built: &[Option<GenericArgKind<X>>], number: usize) -> Opt
     }
 }
 
-// The region of that number.
-pub(super) fn region_at<X: Copy>(
+/// The region of that number, if that is a region.
+pub fn region_at<X: Copy>(
     built: &[Option<GenericArgKind<X>>],
     number: usize,
 ) -> Option<RegionKey<X>>
@@ -41,11 +41,8 @@ pub(super) fn region_at<X: Copy>(
     }
 }
 
-// The constant of that number.
-pub(super) fn const_at<X: Copy>(
-    built: &[Option<GenericArgKind<X>>],
-    number: usize,
-) -> Option<ConstKey<X>>
+/// The constant of that number, if that is a constant.
+pub fn const_at<X: Copy>(built: &[Option<GenericArgKind<X>>], number: usize) -> Option<ConstKey<X>>
     ensures { IfSome result (λ x. slice_get built.now number ≡ Some (Some (GenericArgKind.Const x))) }
 {
     match key_at(built, number)? {

@@ -56,8 +56,8 @@ pub(super) fn make_const<I: Interner>(cx: &mut I, form: ConstForm<I>) -> Option<
     }
 }
 
-// The name or the id of that number.
-pub(super) fn name_at<N: Copy>(names: &[N], number: usize) -> Option<N>
+/// The name or the id of that number, if there is one.
+pub fn name_at<N: Copy>(names: &[N], number: usize) -> Option<N>
     ensures { result ≡ slice_get names.now number }
 {
     names.get(number).copied()

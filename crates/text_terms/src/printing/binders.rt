@@ -4,10 +4,10 @@ use relation_terms::terms::{BoundVar, BoundVariableKind, DebruijnIndex};
 use std::alloc::{AllocError, Global};
 use std::fmt::{self, Write};
 
-// A binder around a term. Each of its variables has a number: how many stand bound outside the binder, and before it in
-// the binder's list.
+/// A binder around a term. Each of its variables has a number: how many stand bound outside the binder, and before it
+/// in the binder's list.
 #[derive(Clone, Copy)]
-pub(super) struct Entered {
+pub struct Entered {
     first: usize,
     behind: usize,
 }
@@ -20,12 +20,11 @@ enum Bound {
     Outside(u64),
 }
 
-// What stands around the body of a binder of so many variables.
-pub(super) fn enter(
-    alloc: Global,
-    around: &[Entered],
-    count: usize,
-) -> Result<Vec<Entered>, fmt::Error> {
+/// What stands around the body of a binder of so many variables, the outermost binder first.
+///
+/// # Errors
+/// `fmt::Error` where memory for the list was refused.
+pub fn enter(alloc: Global, around: &[Entered], count: usize) -> Result<Vec<Entered>, fmt::Error> {
     match with_binder(alloc, around, count) {
         Ok(inside) => Ok(inside),
         Err(_) => Err(fmt::Error),
@@ -120,8 +119,11 @@ fn write_letter<W: Write>(number: usize, out: &mut W) -> fmt::Result {
     }
 }
 
-// Writes a binder, unless it binds nothing: `for<'a, ^1> `.
-pub(super) fn write_for<N, W: Write>(
+/// Writes a binder, unless it binds nothing: `for<'a, ^1> `.
+///
+/// # Errors
+/// `fmt::Error` where `out` refused to take some of the text. What it took before stands.
+pub fn write_for<N, W: Write>(
     vars: &[BoundVariableKind<N>],
     around: &[Entered],
     out: &mut W,

@@ -11,10 +11,14 @@ use relation_terms::terms::{
 };
 use std::fmt::{self, Write};
 
-// Writes a constant.
+/// Writes a constant under binders: of a value the value alone, without its type. The interner has to know it.
+///
+/// # Errors
+/// `fmt::Error` where `out` refused to take some of the text, or memory for the list of binders around a part was
+/// refused. What `out` took before stands.
 #[cycle(write_ty)]
 #[tactic(auto, using(crate::proofs::Parts::size_part, crate::proofs::Parts::known_part))]
-pub(super) fn write_const<I: Interner, W: Write>(
+pub fn write_const<I: Interner, W: Write>(
     cx: &I,
     texts: &TextsOf<I>,
     around: &[Entered],

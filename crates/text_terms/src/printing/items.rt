@@ -39,10 +39,15 @@ pub(super) fn over_args<X: Copy, D: Copy, N>(kind: &TyKind<X, D, N>) -> Option<(
     }
 }
 
-// Writes an item over its arguments: an associated item of a trait by the trait, any other by its name.
+/// Writes an item over its arguments under binders: an associated item of a trait by the trait, any other by its name.
+/// The interner has to know the arguments.
+///
+/// # Errors
+/// `fmt::Error` where `out` refused to take some of the text, or memory for the list of binders around a part was
+/// refused. What `out` took before stands.
 #[cycle(write_ty)]
 #[tactic(auto, using(crate::proofs::Parts::size_part, crate::proofs::Parts::known_part))]
-pub(super) fn write_item<I: Interner, W: Write>(
+pub fn write_item<I: Interner, W: Write>(
     cx: &I,
     texts: &TextsOf<I>,
     around: &[Entered],
@@ -83,10 +88,15 @@ fn write_associated<I: Interner, W: Write>(
     out.write_str(">::")
 }
 
-// Writes a name and, where there are any, the arguments from a place on, up to another.
+/// Writes a name and, where there are any, the arguments from a place on, up to another, under binders. The interner
+/// has to know the arguments.
+///
+/// # Errors
+/// `fmt::Error` where `out` refused to take some of the text, or memory for the list of binders around a part was
+/// refused. What `out` took before stands.
 #[cycle(write_ty)]
 #[tactic(auto, using(crate::proofs::Parts::size_part, crate::proofs::Parts::known_part))]
-pub(super) fn write_named<I: Interner, W: Write>(
+pub fn write_named<I: Interner, W: Write>(
     cx: &I,
     texts: &TextsOf<I>,
     around: &[Entered],

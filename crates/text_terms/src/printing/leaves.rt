@@ -11,8 +11,11 @@ use relation_terms::terms::{
 };
 use std::fmt::{self, Write};
 
-// Writes a region.
-pub(super) fn write_region<I: Interner, W: Write>(
+/// Writes a region under binders. A parameter that has no text is `'_`. The interner has to know the region.
+///
+/// # Errors
+/// `fmt::Error` where `out` refused to take some of the text. What it took before stands.
+pub fn write_region<I: Interner, W: Write>(
     cx: &I,
     texts: &TextsOf<I>,
     around: &[Entered],
@@ -86,8 +89,11 @@ pub(super) fn write_const_variable<W: Write>(variable: InferConst, out: &mut W) 
     }
 }
 
-// Writes what stands between the members of a list, before the one at that place.
-pub(super) fn write_between<W: Write>(place: usize, between: &str, out: &mut W) -> fmt::Result {
+/// Writes what stands between the members of a list, before the one at that place: nothing before the first.
+///
+/// # Errors
+/// `fmt::Error` where `out` refused to take some of the text. What it took before stands.
+pub fn write_between<W: Write>(place: usize, between: &str, out: &mut W) -> fmt::Result {
     if place == 0 {
         return Ok(());
     }

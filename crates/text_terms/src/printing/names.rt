@@ -50,8 +50,8 @@ pub struct Texts<'a, D, N> {
 /// The texts of an interner's names and items.
 pub type TextsOf<'a, I> = Texts<'a, <I as Keys>::Id, <I as Keys>::Name>;
 
-// The text of a name, or else the given one.
-pub(super) fn name_text<'a, N: PartialEq>(
+/// The text of a name, or else the given one.
+pub fn name_text<'a, N: PartialEq>(
     names: &[Parameter<'a, N>],
     name: &N,
     otherwise: &'a str,
@@ -64,8 +64,8 @@ pub(super) fn name_text<'a, N: PartialEq>(
     otherwise
 }
 
-// The text of an item. One that has no text is `_`.
-pub(super) fn item_text<'a, D: PartialEq>(items: &[ItemText<'a, D>], id: &D) -> &'a str {
+/// The text of an item. One that has no text is `_`.
+pub fn item_text<'a, D: PartialEq>(items: &[ItemText<'a, D>], id: &D) -> &'a str {
     for item in items {
         if item.id == *id {
             return item.text;

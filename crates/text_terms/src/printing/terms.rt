@@ -17,10 +17,14 @@ use relation_terms::terms::{
 };
 use std::fmt::{self, Write};
 
-// Writes a type.
+/// Writes a type under binders. The interner has to know it.
+///
+/// # Errors
+/// `fmt::Error` where `out` refused to take some of the text, or memory for the list of binders around a part was
+/// refused. What `out` took before stands.
 #[cycle(write_ty)]
 #[tactic(auto, using(crate::proofs::Parts::size_part, crate::proofs::Parts::known_part))]
-pub(super) fn write_ty<I: Interner, W: Write>(
+pub fn write_ty<I: Interner, W: Write>(
     cx: &I,
     texts: &TextsOf<I>,
     around: &[Entered],
@@ -120,11 +124,15 @@ fn write_tuple<I: Interner, W: Write>(
     out.write_str(")")
 }
 
-// Writes a type that another form ends in. The bounds of a trait object would be taken for more, so that one stands in
-// brackets.
+/// Writes a type under binders that another form ends in. The bounds of a trait object would be taken for more, so that
+/// one stands in brackets. The interner has to know the type.
+///
+/// # Errors
+/// `fmt::Error` where `out` refused to take some of the text, or memory for the list of binders around a part was
+/// refused. What `out` took before stands.
 #[cycle(write_ty)]
 #[tactic(auto, using(crate::proofs::Parts::size_part, crate::proofs::Parts::known_part))]
-pub(super) fn write_operand<I: Interner, W: Write>(
+pub fn write_operand<I: Interner, W: Write>(
     cx: &I,
     texts: &TextsOf<I>,
     around: &[Entered],
@@ -142,10 +150,15 @@ pub(super) fn write_operand<I: Interner, W: Write>(
     out.write_str(close)
 }
 
-// Writes a term: a type or a constant.
+/// Writes a term under binders: a type or a constant. A trait object stands in brackets. The interner has to know the
+/// term.
+///
+/// # Errors
+/// `fmt::Error` where `out` refused to take some of the text, or memory for the list of binders around a part was
+/// refused. What `out` took before stands.
 #[cycle(write_ty)]
 #[tactic(auto, using(crate::proofs::Parts::size_part, crate::proofs::Parts::known_part))]
-pub(super) fn write_term<I: Interner, W: Write>(
+pub fn write_term<I: Interner, W: Write>(
     cx: &I,
     texts: &TextsOf<I>,
     around: &[Entered],
@@ -160,10 +173,14 @@ pub(super) fn write_term<I: Interner, W: Write>(
     }
 }
 
-// Writes a generic argument.
+/// Writes a generic argument under binders. The interner has to know it.
+///
+/// # Errors
+/// `fmt::Error` where `out` refused to take some of the text, or memory for the list of binders around a part was
+/// refused. What `out` took before stands.
 #[cycle(write_ty)]
 #[tactic(auto, using(crate::proofs::Parts::size_part, crate::proofs::Parts::known_part))]
-pub(super) fn write_arg<I: Interner, W: Write>(
+pub fn write_arg<I: Interner, W: Write>(
     cx: &I,
     texts: &TextsOf<I>,
     around: &[Entered],

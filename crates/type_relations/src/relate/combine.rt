@@ -64,11 +64,11 @@ pub trait PredicateEmittingRelation<Infcx: InferCtxtLike> {
 
     /// The environment in which goals are registered.
     fn param_env(&self) -> ParamEnv<Infcx::Interner>
-        ensures { (state self.now).meaning.param_env result ≡ (state self.now).environment };
+        ensures { (state self.now).meaning.param_env result ≡ (state self.now).kept.environment };
 
     /// Whether aliases are related by their items and arguments, or by a goal.
     fn structurally_relate_aliases(&self) -> StructurallyRelateAliases
-        ensures { result ≡ ((state self.now).settings).structurally_relate_aliases };
+        ensures { result ≡ (state self.now).kept.settings.structurally_relate_aliases };
 
     /// Registers goals, behind those that there were. After `OutOfMemory` none was registered.
     fn register_goals(&mut self, goals: &[GoalOf<Infcx::Interner>]) -> Result<(), OutOfMemory>

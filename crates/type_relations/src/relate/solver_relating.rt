@@ -5,6 +5,7 @@ ghost use Rattle.relation_folds.specs.Faults.{KnowsFault, IfSpent};
 ghost use Rattle.relation_contexts.specs.Stores.{IsSound};
 ghost use Rattle.relation_contexts.specs.Steps.{IsLater};
 ghost use Rattle.relation_contexts.specs.Contexts.{KnowsEnv, SpendsByBinding, RegistersGoals};
+ghost use Rattle.relation_contexts.specs.ContextCalls.{KeepsBeside};
 ghost use Rattle.type_relations.specs.Relating.{KnowsTerm, TakesTerm, HasTerm, AreOne, AnswersTerms};
 ghost use Rattle.type_relations.specs.Relating.{KeepsEqual, TellsApart, AnswersError, AnswersExactly, ProvesApart};
 ghost use Rattle.type_relations.specs.Relating.{RelatesAgreeing};
@@ -64,7 +65,8 @@ pub trait RelateExt: InferCtxtLike {
     /// one or to open a binder: none where no binder stands in either or in what a variable was bound to, and nothing
     /// was left of the budget or no variable of a type or a constant was unbound. It binds only what was the context's
     /// and unbound, or was made on the way: variables of types and constants each for one instantiation, those of
-    /// numbers for none. After an error more may have been recorded and made on the way.
+    /// numbers for none. After an error more may have been recorded and made on the way. Whether the next solver is on
+    /// stands, and so do the types that are to outlive regions.
     ///
     /// Of first-order terms in a first-order record at `Invariant`, where the variables of types and constants are of
     /// one universe and no placeholder of a type or a constant in the terms is beyond it, at most as many
@@ -105,6 +107,7 @@ pub trait RelateExt: InferCtxtLike {
         ensures budget { SpendsByBinding (Self.state self.old) (Self.state self.new) }
         ensures enough { SpendsNoMore Self.state self.old self.new T.over T.tree variance lhs rhs result }
         ensures lawful { (Self.state self.new).lawful }
+        ensures rest { KeepsBeside (Self.state self.old) (Self.state self.new) }
         ensures grown { Extends (Self.state self.old).meaning (Self.state self.new).meaning }
         ensures why_known { IfErr result (λ e. KnowsFault (Self.state self.new).meaning e) };
 }
@@ -145,6 +148,7 @@ impl<Infcx: InferCtxtLike> RelateExt for Infcx {
         ensures budget { SpendsByBinding (Infcx.state self.old) (Infcx.state self.new) }
         ensures enough { SpendsNoMore Infcx.state self.old self.new T.over T.tree variance lhs rhs result }
         ensures lawful { (Infcx.state self.new).lawful }
+        ensures rest { KeepsBeside (Infcx.state self.old) (Infcx.state self.new) }
         ensures grown { Extends (Infcx.state self.old).meaning (Infcx.state self.new).meaning }
         ensures why_known { IfErr result (λ e. KnowsFault (Infcx.state self.new).meaning e) }
     {

@@ -1,4 +1,4 @@
-use Rattle.std.proofs.Common.{◌∙◌, ◌+◌, ◌∷◌, [], refl, ap, subst, take}
+use Rattle.std.proofs.Common.{◌∙◌, ◌∷◌, [], refl, ap, subst, take}
 use Rattle.std.specs.List.{filter_map}
 use Rattle.std.proofs.lemmas.List.{take_all}
 use Rattle.relation_tools.proofs.Assuming.{filter_next}

@@ -1,5 +1,4 @@
-use Rattle.std.proofs.Common.{◌≡◌, ◌∙◌, sym, subst, ap, IsTrue, None}
-use Rattle.relation_terms.specs.Trees.{Tree, known}
+use Rattle.std.proofs.Common.{◌≡◌, ◌∙◌, sym, subst, ap, None}
 use Rattle.relation_terms.specs.Meaning.{under}
 use Rattle.relation_terms.specs.Predicates.{clause_kind_tree}
 use Rattle.relation_terms.specs.declared.predicate.kinds.ClauseKind.TheVariants.{Trait}

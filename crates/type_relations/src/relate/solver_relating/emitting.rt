@@ -75,5 +75,5 @@ impl<'a, Infcx: InferCtxtLike> PredicateEmittingRelation<Infcx> for SolverRelati
         self.register_goals(goals.as_slice())
     }
 
-    ghost over = { λ r. record { meaning = refl; store = refl; lawful = λ l. l.0 } };
+    ghost over = { λ r. record { meaning = refl; store = refl; solver = refl; outliving = refl; lawful = λ l. l.0 } };
 }

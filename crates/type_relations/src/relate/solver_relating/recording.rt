@@ -7,7 +7,7 @@ ghost use Rattle.relation_contexts.specs.Stores.{all_bound};
 ghost use Rattle.relation_contexts.specs.Steps.{StaysFull};
 ghost use Rattle.relation_contexts.specs.Measures.{Goes};
 ghost use Rattle.relation_contexts.specs.Contexts.{KnowsTy, HasRegion};
-ghost use Rattle.relation_contexts.specs.ContextCalls.{Stands};
+ghost use Rattle.relation_contexts.specs.ContextCalls.{Stands, Grows};
 ghost use Rattle.relation_contexts.specs.Goals.{subtype_predicate, well_formed_predicate};
 ghost use Rattle.type_relations.specs.Emitting.{AddsAsked, MakesSubtype, MakesWellFormed};
 
@@ -76,9 +76,8 @@ pub(crate) fn subtype_predicate<Infcx: InferCtxtLike>(
     requires lawful { (Infcx.state infcx.old).lawful }
     requires a_known { KnowsTy (Infcx.state infcx.old) a.now }
     requires b_known { KnowsTy (Infcx.state infcx.old) b.now }
-    ensures grown { Extends (Infcx.state infcx.old).meaning (Infcx.state infcx.new).meaning }
+    ensures grows { Grows (Infcx.state infcx.old) (Infcx.state infcx.new) }
     ensures same_store { (Infcx.state infcx.new).store ≡ (Infcx.state infcx.old).store }
-    ensures lawful { (Infcx.state infcx.new).lawful }
     ensures made { MakesSubtype (Infcx.state infcx.old) (Infcx.state infcx.new) a_is_expected a.now b.now result }
 {
     infcx.interner_grows();
@@ -105,9 +104,8 @@ pub(crate) fn well_formed_predicate<Infcx: InferCtxtLike>(
 ) -> Result<Predicate<Infcx::Interner>, OutOfMemory>
     requires lawful { (Infcx.state infcx.old).lawful }
     requires ty_known { KnowsTy (Infcx.state infcx.old) ty.now }
-    ensures grown { Extends (Infcx.state infcx.old).meaning (Infcx.state infcx.new).meaning }
+    ensures grows { Grows (Infcx.state infcx.old) (Infcx.state infcx.new) }
     ensures same_store { (Infcx.state infcx.new).store ≡ (Infcx.state infcx.old).store }
-    ensures lawful { (Infcx.state infcx.new).lawful }
     ensures made { MakesWellFormed (Infcx.state infcx.old) (Infcx.state infcx.new) ty.now result }
 {
     infcx.interner_grows();

@@ -63,6 +63,7 @@ impl<'a, Infcx: InferCtxtLike> SolverRelating<'a, Infcx> {
         ensures param_env { result.param_env ≡ param_env }
         ensures span { result.span ≡ span }
         ensures goals { result.goals.items ≡ [] }
+        ensures remembers_none { (solver_through Infcx.state result).remembered ≡ [] }
     {
         let goals = Vec::new(infcx.cx().alloc());
         SolverRelating {

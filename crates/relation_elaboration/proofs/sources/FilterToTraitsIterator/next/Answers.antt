@@ -1,4 +1,4 @@
-use Rattle.std.proofs.Common.{◌≡◌, ◌∙◌, sym, subst, ap, IsTrue, Some, None, Ok}
+use Rattle.std.proofs.Common.{◌≡◌, ◌∙◌, sym, subst, ap, IsTrue, Some, None}
 use Rattle.std.specs.Iterator.{MakesProgress}
 use Rattle.std.specs.Option.{option_map}
 use Rattle.relation_terms.specs.Trees.{known}

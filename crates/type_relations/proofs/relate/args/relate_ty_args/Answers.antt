@@ -71,9 +71,9 @@ note_declared-requires-clause-related g c =
     let done = subst₂ (λ a b. Related M r q r.ambient a b (λ k. node (args_head (q.meaning) v) ((q.meaning).args k))
     (Ok args)) (sym is.0) (sym is.1) c.in_ok-args.ensures in
     let passes = done.passes in
-    subst₂ (λ t u. Relates (items_in q) q.store q.goals q.environment q.ambient t u)
+    subst₂ (λ t u. Relates (items_in q) q.store q.goals q.kept.environment q.ambient t u)
     (sym ((passes.extends).ty c.args.a_ty.now k.left_known)) (sym ((passes.extends).ty c.args.b_ty.now k.right_known))
-    (subst (λ v. Relates (items_in q) q.store q.goals q.environment v a b) (sym passes.ambient)
+    (subst (λ v. Relates (items_in q) q.store q.goals q.kept.environment v a b) (sym passes.ambient)
     (relates_now M r.ambient a b (λ k. node (args_head (q.meaning) v) ((q.meaning).args k)) args done))
 
 pub returns-in_err-note_declared : goal.returns-in_err-note_declared

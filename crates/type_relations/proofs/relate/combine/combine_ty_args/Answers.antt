@@ -130,7 +130,7 @@ returns-then-not-branch-clause-registers g c =
     HasOpenArgument (items_of (g.Infcx.InferCtxtLike.state z).meaning)
     (g.Infcx.InferCtxtLike.state z).store (((g.Infcx.InferCtxtLike.state z).meaning).id i)
     (((g.Infcx.InferCtxtLike.state z).meaning).args ys)) c.infcx_mut.ensures.value f.tells) in
-    registers_none (items_of m) r.store r.environment (m.id i) (m.ty c.args.a_ty.now) (m.ty c.args.b_ty.now) (m.args xs)
+    registers_none (items_of m) r.store r.kept.environment (m.id i) (m.ty c.args.a_ty.now) (m.ty c.args.b_ty.now) (m.args xs)
     (m.args ys) r.goals q.goals (λ z. false≢true (sym c.if-not-branch.true ∙ tells.1 z)) w.goals
 
 pub register_predicates-requires-clause-known : goal.register_predicates-requires-clause-known

@@ -1,6 +1,6 @@
 use Rattle.std.proofs.Common.{◌≡◌}
-use Rattle.relation_terms.specs.Meaning.{Extends}
 use Rattle.relation_terms.specs.Trees.{count}
+use Rattle.relation_contexts.specs.ContextCalls.{Grows}
 use Rattle.relation_contexts.specs.Lawful.{items_of}
 use Rattle.type_relations.proofs.Bivariance.{NoneOpenBefore}
 use Rattle.type_relations.proofs.relate.combine.has_open_argument.Given as goal
@@ -11,8 +11,7 @@ invariant-loop-i g l =
     let d = g.Infcx.InferCtxtLike.state l.infcx in
     let ts = (c.meaning).args l.args in
     record {
-      extends : Extends c.meaning d.meaning;
-      lawful : d.lawful;
+      grows : Grows c d;
       same_record : d.store ≡ c.store;
       counts : l.n ≡ count ts;
       none_open : NoneOpenBefore (items_of c.meaning) c.store ((c.meaning).id (l.def_id).0) ts l.i;

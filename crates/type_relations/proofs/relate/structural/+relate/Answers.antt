@@ -317,8 +317,8 @@ tys-tys_done-requires-clause-related g t c =
     ((inner.passes).extends).ty c.in-Parts.a ((step.verdict).asked).left_known in
     let same_y : (p.meaning).ty c.in-Parts.b ≡ (q.meaning).ty c.in-Parts.b =
     ((inner.passes).extends).ty c.in-Parts.b ((step.verdict).asked).right_known in
-    subst₂ (λ t u. Relates (items_in p) p.store p.goals p.environment p.ambient t u) (sym same_x) (sym same_y)
-    (subst (λ v. Relates (items_in p) p.store p.goals p.environment v x y)
+    subst₂ (λ t u. Relates (items_in p) p.store p.goals p.kept.environment p.ambient t u) (sym same_x) (sym same_y)
+    (subst (λ v. Relates (items_in p) p.store p.goals p.kept.environment v x y)
     (sym ((inner.passes).ambient ∙ (step.passes).ambient)) (relates_now M r.ambient x y (p.meaning).ty z.answer inner))
 
 pub tys-returns-in_err-tys_done-in-Parts-clause-related : goal.tys-returns-in_err-tys_done-in-Parts-clause-related
@@ -421,8 +421,8 @@ tys-tys_done-requires-in-Again-clause-related g t c =
     ((inner.passes).extends).ty c.in-Again.a ((step.verdict).read_asked).left_known in
     let same_y : (p.meaning).ty c.in-Again.b ≡ (q.meaning).ty c.in-Again.b =
     ((inner.passes).extends).ty c.in-Again.b ((step.verdict).read_asked).right_known in
-    subst₂ (λ t u. Relates (items_in p) p.store p.goals p.environment p.ambient t u) (sym same_x) (sym same_y)
-    (subst (λ v. Relates (items_in p) p.store p.goals p.environment v k l)
+    subst₂ (λ t u. Relates (items_in p) p.store p.goals p.kept.environment p.ambient t u) (sym same_x) (sym same_y)
+    (subst (λ v. Relates (items_in p) p.store p.goals p.kept.environment v k l)
     (sym ((inner.passes).ambient ∙ (step.passes).ambient)) (again_relates M a b k l x y o v step.passes step.verdict step.exact (arg_tree p.meaning) c.in_ok-relate_with_variance-in-Again.field-0 inner))
 
 pub tys-returns-in_err-tys_done-in-Again-clause-related : goal.tys-returns-in_err-tys_done-in-Again-clause-related
@@ -1437,8 +1437,8 @@ structurally_relate_tys-note_args-requires-clause-related g t c =
     let done : Related M r q r.ambient a b (q.meaning).ty (Ok c.args.a.now) =
     types_related M r.ambient a b i (q.meaning).ty c.args.a.now c.requires.a_formed c.requires.b_formed alike inv.fronted inv.are_parts left
     right same_a k.left_known in
-    subst₂ (λ t u. Relates (items_in q) q.store q.goals q.environment q.ambient t u) (sym same_a) (sym same_b)
-    (subst (λ v. Relates (items_in q) q.store q.goals q.environment v a b) (sym ((inv.fronted).passes).ambient)
+    subst₂ (λ t u. Relates (items_in q) q.store q.goals q.kept.environment q.ambient t u) (sym same_a) (sym same_b)
+    (subst (λ v. Relates (items_in q) q.store q.goals q.kept.environment v a b) (sym ((inv.fronted).passes).ambient)
     (relates_now M r.ambient a b (q.meaning).ty c.args.a.now done))
 
 pub structurally_relate_tys-note_args-requires-clause-asked : goal.structurally_relate_tys-note_args-requires-clause-asked

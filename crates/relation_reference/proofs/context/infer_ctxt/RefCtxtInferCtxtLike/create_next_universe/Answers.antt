@@ -1,3 +1,4 @@
+use Rattle.relation_reference.proofs.Calls.{stood}
 use Rattle.relation_reference.proofs.Universes.{universe_entered, universe_rest}
 use Rattle.relation_reference.proofs.context.infer_ctxt.RefCtxtInferCtxtLike.create_next_universe.Goals as goal
 
@@ -7,7 +8,16 @@ returns-clause-enters g c =
     universe_entered g.I.Interner.meaning c.args.self.now c.create_next_universe.new.self done.interner c.requires.lawful done.lawful
     c.create_next_universe.result done.enters done.next done.refused
 
-pub returns-clause-rest : goal.returns-clause-rest
-returns-clause-rest g c =
+pub returns-clause-stands : goal.returns-clause-stands
+returns-clause-stands g c =
     let done = c.create_next_universe.ensures in
-    universe_rest g.I.Interner.meaning c.args.self.now c.create_next_universe.new.self c.create_next_universe.result done.enters done.refused
+    let rest = universe_rest g.I.Interner.meaning c.args.self.now c.create_next_universe.new.self
+    c.create_next_universe.result done.enters done.refused in
+    stood g.I.Interner.meaning c.args.self.now c.create_next_universe.new.self done.interner done.lawful rest.solver
+    rest.outliving
+
+pub returns-clause-marks : goal.returns-clause-marks
+returns-clause-marks g c =
+    let done = c.create_next_universe.ensures in
+    (universe_rest g.I.Interner.meaning c.args.self.now c.create_next_universe.new.self c.create_next_universe.result
+    done.enters done.refused).marks

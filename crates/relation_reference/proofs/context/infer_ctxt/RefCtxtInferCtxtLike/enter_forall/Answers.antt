@@ -10,9 +10,14 @@ returns g c =
     let q = c.enter_forall.new.self in
     let done = c.enter_forall.ensures in
     record {
-      grows = record { extends = done.grown; lawful = done.lawful };
+      grows = record {
+        extends = done.grown;
+        lawful = done.lawful;
+        solver = done.rest.solver;
+        outliving = done.rest.outliving;
+      };
       enters = entered_binder (context_in meaning p) (context_in meaning q) g.T.HasTree.tree
           (binder_tree g.T.HasTree.tree (meaning p.interner) c.args.value) c.enter_forall.result done.sure done.enters
           done.refused;
-      rest = done.rest;
+      marks = done.rest.marks;
     }

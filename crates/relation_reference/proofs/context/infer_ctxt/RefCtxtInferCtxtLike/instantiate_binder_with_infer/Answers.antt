@@ -10,10 +10,15 @@ returns g c =
     let q = c.instantiate_binder_with_infer.new.self in
     let done = c.instantiate_binder_with_infer.ensures in
     record {
-      grows = record { extends = done.grown; lawful = done.lawful };
+      grows = record {
+        extends = done.grown;
+        lawful = done.lawful;
+        solver = done.rest.solver;
+        outliving = done.rest.outliving;
+      };
       instantiates = instantiated_binder (context_in meaning p) (context_in meaning q) g.T.HasTree.tree
           (binder_tree g.T.HasTree.tree (meaning p.interner) c.args.value) c.instantiate_binder_with_infer.result
           done.sure done.instantiates
           done.refused;
-      rest = done.rest;
+      marks = done.rest.marks;
     }

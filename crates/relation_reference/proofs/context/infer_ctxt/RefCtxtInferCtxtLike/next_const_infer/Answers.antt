@@ -10,3 +10,15 @@ returns-clause-makes g c =
     makes_next g.I.Interner.meaning p c.next_const_infer.new.self const_var (λ m. m.const_) _
     (entries_long (g.I.Interner.meaning p.interner).const_ p.inner.consts.items) c.next_const_infer.result done.sure done.means
     done.makes done.refused
+
+pub returns-clause-grows : goal.returns-clause-grows
+returns-clause-grows g c =
+    let done = c.next_const_infer.ensures in record {
+      extends = done.grown;
+      lawful = done.lawful;
+      solver = done.rest.solver;
+      outliving = done.rest.outliving;
+    }
+
+pub returns-clause-marks : goal.returns-clause-marks
+returns-clause-marks g c = c.next_const_infer.ensures.rest.marks

@@ -10,3 +10,15 @@ returns-clause-makes g c =
     makes_next g.I.Interner.meaning p c.next_ty_infer.new.self type_var (λ m. m.ty) _
     (entries_long (g.I.Interner.meaning p.interner).ty p.inner.types.items) c.next_ty_infer.result done.sure done.means
     done.makes done.refused
+
+pub returns-clause-grows : goal.returns-clause-grows
+returns-clause-grows g c =
+    let done = c.next_ty_infer.ensures in record {
+      extends = done.grown;
+      lawful = done.lawful;
+      solver = done.rest.solver;
+      outliving = done.rest.outliving;
+    }
+
+pub returns-clause-marks : goal.returns-clause-marks
+returns-clause-marks g c = c.next_ty_infer.ensures.rest.marks

@@ -1,4 +1,4 @@
-use Rattle.relation_reference.proofs.Comes.{same_record, grows, comes, rest}
+use Rattle.relation_reference.proofs.Comes.{same_record, grows, comes, marks}
 use Rattle.relation_reference.proofs.context.infer_ctxt.RefCtxtInferCtxtLike.resolve_vars_if_possible.Goals as goal
 
 pub returns : goal.returns
@@ -11,5 +11,5 @@ returns g c =
       same_record = same_record g.I.Interner.meaning p q done.grown done.inner c.requires.lawful;
       comes = comes g.I.Interner.meaning p q g.T.HasTree.tree c.args.value.now c.resolve_vars_if_possible.result
           done.sure done.resolves;
-      rest = rest g.I.Interner.meaning p q done.inner;
+      marks = marks g.I.Interner.meaning p q done.inner;
     }

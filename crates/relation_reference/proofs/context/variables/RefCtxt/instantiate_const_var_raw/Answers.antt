@@ -26,8 +26,12 @@ resolve_const-requires-clause-const_in g c =
 
 pub returns-in_err-resolved-clause-grows : goal.returns-in_err-resolved-clause-grows
 returns-in_err-resolved-clause-grows g c =
-    let r = c.resolve_const.ensures in
-    record { extends = r.grown; lawful = resolved_lawful r.grown c.args.self.now.inner c.resolve_const.new.self.inner r.inner c.requires.lawful }
+    let r = c.resolve_const.ensures in record {
+      extends = r.grown;
+      lawful = resolved_lawful r.grown c.args.self.now.inner c.resolve_const.new.self.inner r.inner c.requires.lawful;
+      solver = ap (λ x. x.next_solver) r.inner;
+      outliving = ap (λ x. x.ty_outlives.items) r.inner;
+    }
 
 pub returns-in_err-resolved-clause-rest : goal.returns-in_err-resolved-clause-rest
 returns-in_err-resolved-clause-rest g c =
@@ -70,15 +74,20 @@ generalise-requires-clause-source_covered g c =
     source_covered r.grown c.args.self.now.inner c.resolve_const.new.self.inner r.inner c.requires.lawful (m.const_ c.args.source.now) (n.const_ c.in_ok-resolved.resolved)
     c.in_ok-resolved.ensures.resolves c.requires.source_covered
 
-pub returns-in_err-part-clause-grows : goal.returns-in_err-part-clause-grows
-returns-in_err-part-clause-grows g c =
-    record { extends = extends_on c.resolve_const.ensures.grown c.in_err-part.ensures.grown; lawful = c.in_err-part.ensures.lawful }
-
 pub returns-in_err-part-clause-rest : goal.returns-in_err-part-clause-rest
 returns-in_err-part-clause-rest g c =
     let r = c.resolve_const.ensures in
     marks_bound g.I.Interner.meaning c.args.self.now c.resolve_const.new.self c.generalise.new.self c.generalise.new.self
     r.grown r.inner c.requires.lawful refl refl refl (λ n h. h) c.in_err-part.ensures.rest
+
+pub returns-in_err-part-clause-grows : goal.returns-in_err-part-clause-grows
+returns-in_err-part-clause-grows g c =
+    let rest = returns-in_err-part-clause-rest g c in record {
+      extends = extends_on c.resolve_const.ensures.grown c.in_err-part.ensures.grown;
+      lawful = c.in_err-part.ensures.lawful;
+      solver = rest.solver;
+      outliving = rest.outliving;
+    }
 
 pub returns-in_err-part-clause-instantiates : goal.returns-in_err-part-clause-instantiates
 returns-in_err-part-clause-instantiates g c =
@@ -169,12 +178,18 @@ returns g c =
     let gen : (last : Stage) × (last.store ≡ store_of o z) × Generalised (items_of n) (store_of n w) const_var i (any_part Invariant) (record { store = store_of n w; met = [] }) full last (o.const_ b) = (e.generalised.2.0, e.generalised.2.1, subst (λ a. Generalised (items_of n) (store_of n w) const_var i (any_part Invariant) (record { store = store_of n w; met = [] }) full e.generalised.2.0 a) is e.generalised.2.2) in
     let here = generalised_here o r.grown x w z r.inner l const_var i u universe e.makes y (o.const_ b) full tt Invariant t made c.requires.target_unbound e.lawful beside keys entries c.bind.ensures.universes left comes gen c.requires.source_in sorted in
     let may = const_may m x l t here c.requires.source_covered sorted c.requires.source_no_variable c.requires.source_in ((g.met.I.Interner.sorted c.generalise.new.self.interner).const_ b sure) in
+    let rest = marks_bound g.I.Interner.meaning c.args.self.now c.resolve_const.new.self c.generalise.new.self
+    (record { interner = c.generalise.new.self.interner; inner = y }) r.grown r.inner l refl refl refl
+    (λ j h. h) e.rest in
     record {
-      grows = record { extends = extends_on r.grown e.grown; lawful = bound_lawful o r.grown x w z r.inner l const_var i u universe e.makes y (o.const_ b) full tt Invariant t made c.requires.target_unbound e.lawful beside keys entries c.bind.ensures.universes left comes gen c.requires.source_in sorted may };
+      grows = record {
+        extends = extends_on r.grown e.grown;
+        lawful = bound_lawful o r.grown x w z r.inner l const_var i u universe e.makes y (o.const_ b) full tt Invariant t made c.requires.target_unbound e.lawful beside keys entries c.bind.ensures.universes left comes gen c.requires.source_in sorted may;
+        solver = rest.solver;
+        outliving = rest.outliving;
+      };
       instantiates = (sure, by_rules o r.grown x w z r.inner l const_var i u universe e.makes y (o.const_ b) full tt Invariant t made c.requires.target_unbound e.lawful beside keys entries c.bind.ensures.universes left comes gen c.requires.source_in sorted);
-      rest = marks_bound g.I.Interner.meaning c.args.self.now c.resolve_const.new.self c.generalise.new.self
-          (record { interner = c.generalise.new.self.interner; inner = y }) r.grown r.inner l refl refl refl
-          (λ j h. h) e.rest;
+      rest = rest;
     }
 
 pub returns-then-self-eq0-clause-rest : goal.returns-then-self-eq0-clause-rest

@@ -2,14 +2,14 @@ use Rattle.std.proofs.Common.{◌≡◌, refl, sym, ◌∙◌, subst, IsTrue}
 use Rattle.std.proofs.lemmas.Bool.{false≢true}
 use Rattle.relation_terms.specs.Trees.{known}
 use Rattle.type_relations.specs.Combining.{one_constant, resolved_first}
-use Rattle.type_relations.proofs.OverContext.{stands_grows, read_covered}
+use Rattle.type_relations.proofs.OverContext.{grows_itself, read_covered}
 use Rattle.type_relations.proofs.Solving.{one_const}
 use Rattle.type_relations.proofs.relate.combine.meeting.meet_consts.Goals as goal
 
 pub returns-then-eq-clause-grows : goal.returns-then-eq-clause-grows
 returns-then-eq-clause-grows g c =
     let s = g.Infcx.InferCtxtLike.state c.args.infcx.now in
-    stands_grows s s (record { meaning = refl; lawful = c.requires.lawful })
+    grows_itself s c.requires.lawful
 
 pub returns-then-eq-clause-combines : goal.returns-then-eq-clause-combines
 returns-then-eq-clause-combines g c =

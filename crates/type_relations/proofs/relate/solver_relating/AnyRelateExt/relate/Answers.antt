@@ -18,7 +18,7 @@ use Rattle.type_relations.specs.Subtyping.{RegistersSubtype}
 use Rattle.type_relations.proofs.Relatable.{equal_one, one_equal}
 use Rattle.type_relations.proofs.Relating.{refused_alone_in}
 use Rattle.type_relations.proofs.OverContext.{all_taken}
-use Rattle.type_relations.proofs.Solving.{answers_goals, keeps_equal, relates_agreeing, registers_goals}
+use Rattle.type_relations.proofs.Solving.{keeps_beside, answers_goals, keeps_equal, relates_agreeing, registers_goals}
 use Rattle.relation_contexts.proofs.Agreeing.{agree_same}
 use Rattle.type_relations.proofs.relate.solver_relating.AnyRelateExt.relate.Goals as goal
 
@@ -35,7 +35,7 @@ returns-then-eq-clause-exact g c = λ is pair.
     let one = equal_one (g.met.Infcx.InferCtxtLike.reads c.args.self.now) g.T.Relate.over g.T.HasTree.tree
     g.T.PartialEq.eq (g.met.T.Relate.same (g.Infcx.InferCtxtLike.interner c.args.self.now)) c.args.lhs c.args.rhs
     c.requires.lhs_known c.requires.rhs_known (sym c.if-eq.ensures) in
-    (exact_itself s.store (term_in s g.T.Relate.over g.T.HasTree.tree c.args.lhs) (term_in s g.T.Relate.over g.T.HasTree.tree c.args.rhs) one, pair.bindings)
+    (exact_itself s.store (term_in s g.T.Relate.over g.T.HasTree.tree c.args.lhs) (term_in s g.T.Relate.over g.T.HasTree.tree c.args.rhs) one, pair.bindings, λ u p. (p.variables, omega arith))
 
 pub returns-then-eq-clause-keeps : goal.returns-then-eq-clause-keeps
 returns-then-eq-clause-keeps g c = λ w s sat one. (
@@ -154,7 +154,7 @@ returns-clause-exact g c = λ is pair.
     let s = g.Infcx.InferCtxtLike.state c.args.self.now in
     let d = g.Infcx.InferCtxtLike.state c.relate_in-related.new.infcx in
     let o = subst (ExactResult s.store d.store (term_in s g.T.Relate.over g.T.HasTree.tree c.args.lhs) (term_in s g.T.Relate.over g.T.HasTree.tree c.args.rhs))
-    c.in_ok-related.was ((c.relate_in-related.ensures.related).exact tt is pair) in (o.1, o.0)
+    c.in_ok-related.was ((c.relate_in-related.ensures.related).exact tt is pair) in (o.1, o.0, o.2)
 
 pub returns-in_err-related-clause-no_unifier : goal.returns-in_err-related-clause-no_unifier
 returns-in_err-related-clause-no_unifier g c =
@@ -234,3 +234,16 @@ returns-in_err-related-clause-enough g c = λ is pair u one.
       spent_as ((s.store).budget < all_unbound s.store) c.relate_in-related.result.0 c.from_residual.result f
           c.in_err-related.was (as_err c.from_residual.result f c.from_residual.ensures.0 c.from_residual.ensures.1) z.1,
     )
+
+pub returns-then-eq-clause-rest : goal.returns-then-eq-clause-rest
+returns-then-eq-clause-rest g c = record { solver = refl; outliving = refl }
+
+pub returns-in_err-related-clause-rest : goal.returns-in_err-related-clause-rest
+returns-in_err-related-clause-rest g c =
+    keeps_beside (g.Infcx.InferCtxtLike.state c.args.self.now)
+    (g.Infcx.InferCtxtLike.state c.relate_in-related.new.infcx) _ _ ((c.relate_in-related.ensures.related).passes).kept
+
+pub returns-clause-rest : goal.returns-clause-rest
+returns-clause-rest g c =
+    keeps_beside (g.Infcx.InferCtxtLike.state c.args.self.now)
+    (g.Infcx.InferCtxtLike.state c.relate_in-related.new.infcx) _ _ ((c.relate_in-related.ensures.related).passes).kept

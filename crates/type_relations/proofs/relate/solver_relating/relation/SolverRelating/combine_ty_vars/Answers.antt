@@ -8,7 +8,7 @@ use Rattle.relation_contexts.specs.Lawful.{Stepped}
 use Rattle.type_relations.specs.Solving.{solving_through, solver_manner}
 use Rattle.type_relations.proofs.Binding.{no_region}
 use Rattle.relation_contexts.proofs.Passing.{as_err}
-use Rattle.type_relations.proofs.Solving.{roots_step, memory_step}
+use Rattle.type_relations.proofs.Solving.{held_grows, held_stands, roots_step, memory_step}
 use Rattle.type_relations.proofs.SolvingGoals.{covariant_step, contravariant_step}
 use Rattle.type_relations.specs.Subtyping.{subtype_at, StepRegistersAlone}
 use Rattle.type_relations.proofs.Subtyping.{refused_alone, pushed_alone}
@@ -20,9 +20,9 @@ returns-in_err-predicate-in-Covariant-clause-stepped g c =
     let s = g.Infcx.InferCtxtLike.state r.infcx.now in
     let d = g.Infcx.InferCtxtLike.state c.subtype_predicate.new.infcx in
     let h = c.in_err-predicate-in-Covariant.ensures in
-    memory_step r.infcx.ghost_name r.goals.items IsFormed s.meaning d.meaning s.store d.store s.lawful d.lawful
+    memory_step (held_grows r.infcx.ghost_name s d h.grows) r.goals.items IsFormed s.meaning d.meaning s.store d.store s.lawful d.lawful
     r.ambient_variance r.param_env ((s.meaning).ty c.args.a.now) ((s.meaning).ty c.args.b.now) (d.meaning).ty
-    c.from_residual.result h.grown (c.requires.env_known, c.requires.goals_known) h.same_store h.lawful
+    c.from_residual.result h.grows.extends (c.requires.env_known, c.requires.goals_known) h.same_store h.grows.lawful
     (as_err c.from_residual.result Memory c.from_residual.ensures.0 c.from_residual.ensures.1)
 
 pub returns-in_err-push-in-Covariant-clause-stepped : goal.returns-in_err-push-in-Covariant-clause-stepped
@@ -37,9 +37,9 @@ returns-in_err-push-in-Covariant-clause-stepped g c =
     (solving_through r.infcx.ghost_name hs d r.ambient_variance r.param_env)
     ((s.meaning).ty c.args.a.now) ((s.meaning).ty c.args.b.now) (d.meaning).ty res)
     (sym c.in_err-push-in-Covariant.ensures.items)
-    (memory_step r.infcx.ghost_name r.goals.items IsFormed s.meaning d.meaning s.store d.store s.lawful d.lawful
+    (memory_step (held_grows r.infcx.ghost_name s d h.grows) r.goals.items IsFormed s.meaning d.meaning s.store d.store s.lawful d.lawful
     r.ambient_variance r.param_env ((s.meaning).ty c.args.a.now) ((s.meaning).ty c.args.b.now) (d.meaning).ty
-    res h.grown (c.requires.env_known, c.requires.goals_known) h.same_store h.lawful
+    res h.grows.extends (c.requires.env_known, c.requires.goals_known) h.same_store h.grows.lawful
     (as_err res Memory c.from_residual-in_err-push-in-Covariant.ensures.0 c.from_residual-in_err-push-in-Covariant.ensures.1))
 
 pub returns-in_ok-push-in-Covariant-clause-stepped : goal.returns-in_ok-push-in-Covariant-clause-stepped
@@ -48,12 +48,12 @@ returns-in_ok-push-in-Covariant-clause-stepped g c =
     let s = g.Infcx.InferCtxtLike.state r.infcx.now in
     let d = g.Infcx.InferCtxtLike.state c.subtype_predicate.new.infcx in
     let h = c.in_ok-predicate-in-Covariant.ensures in
-    covariant_step r.infcx.ghost_name r.goals.items c.push.new.self.items s.meaning d.meaning s.store d.store s.lawful
-    d.lawful r.ambient_variance r.param_env h.grown (c.requires.env_known, c.requires.goals_known) h.lawful h.same_store
+    covariant_step (held_grows r.infcx.ghost_name s d h.grows) r.goals.items c.push.new.self.items s.meaning d.meaning s.store d.store s.lawful
+    d.lawful r.ambient_variance r.param_env h.grows.extends (c.requires.env_known, c.requires.goals_known) h.grows.lawful h.same_store
     c.in_ok-predicate-in-Covariant.predicate _ c.in_ok-push-in-Covariant.ensures.items c.args.x.0 c.args.y.0
     ((s.meaning).ty c.args.a.now) ((s.meaning).ty c.args.b.now) c.requires.a_is c.requires.b_is
     c.requires.a_unresolved c.requires.b_unresolved IsFormed (d.meaning).ty c.args.a.now c.in-Covariant.is h.made
-    (h.grown.ty c.args.a.now c.requires.a_known) c.requires.a_known
+    (h.grows.extends.ty c.args.a.now c.requires.a_known) c.requires.a_known
 
 pub returns-in_err-predicate-in-Contravariant-clause-stepped : goal.returns-in_err-predicate-in-Contravariant-clause-stepped
 returns-in_err-predicate-in-Contravariant-clause-stepped g c =
@@ -61,9 +61,9 @@ returns-in_err-predicate-in-Contravariant-clause-stepped g c =
     let s = g.Infcx.InferCtxtLike.state r.infcx.now in
     let d = g.Infcx.InferCtxtLike.state c.subtype_predicate-in-Contravariant.new.infcx in
     let h = c.in_err-predicate-in-Contravariant.ensures in
-    memory_step r.infcx.ghost_name r.goals.items IsFormed s.meaning d.meaning s.store d.store s.lawful d.lawful
+    memory_step (held_grows r.infcx.ghost_name s d h.grows) r.goals.items IsFormed s.meaning d.meaning s.store d.store s.lawful d.lawful
     r.ambient_variance r.param_env ((s.meaning).ty c.args.a.now) ((s.meaning).ty c.args.b.now) (d.meaning).ty
-    c.from_residual-in_err-predicate-in-Contravariant.result h.grown (c.requires.env_known, c.requires.goals_known) h.same_store h.lawful
+    c.from_residual-in_err-predicate-in-Contravariant.result h.grows.extends (c.requires.env_known, c.requires.goals_known) h.same_store h.grows.lawful
     (as_err c.from_residual-in_err-predicate-in-Contravariant.result Memory c.from_residual-in_err-predicate-in-Contravariant.ensures.0 c.from_residual-in_err-predicate-in-Contravariant.ensures.1)
 
 pub returns-in_err-push-in-Contravariant-clause-stepped : goal.returns-in_err-push-in-Contravariant-clause-stepped
@@ -78,9 +78,9 @@ returns-in_err-push-in-Contravariant-clause-stepped g c =
     (solving_through r.infcx.ghost_name hs d r.ambient_variance r.param_env)
     ((s.meaning).ty c.args.a.now) ((s.meaning).ty c.args.b.now) (d.meaning).ty res)
     (sym c.in_err-push-in-Contravariant.ensures.items)
-    (memory_step r.infcx.ghost_name r.goals.items IsFormed s.meaning d.meaning s.store d.store s.lawful d.lawful
+    (memory_step (held_grows r.infcx.ghost_name s d h.grows) r.goals.items IsFormed s.meaning d.meaning s.store d.store s.lawful d.lawful
     r.ambient_variance r.param_env ((s.meaning).ty c.args.a.now) ((s.meaning).ty c.args.b.now) (d.meaning).ty
-    res h.grown (c.requires.env_known, c.requires.goals_known) h.same_store h.lawful
+    res h.grows.extends (c.requires.env_known, c.requires.goals_known) h.same_store h.grows.lawful
     (as_err res Memory c.from_residual-in_err-push-in-Contravariant.ensures.0 c.from_residual-in_err-push-in-Contravariant.ensures.1))
 
 pub returns-in_ok-push-in-Contravariant-clause-stepped : goal.returns-in_ok-push-in-Contravariant-clause-stepped
@@ -89,12 +89,12 @@ returns-in_ok-push-in-Contravariant-clause-stepped g c =
     let s = g.Infcx.InferCtxtLike.state r.infcx.now in
     let d = g.Infcx.InferCtxtLike.state c.subtype_predicate-in-Contravariant.new.infcx in
     let h = c.in_ok-predicate-in-Contravariant.ensures in
-    contravariant_step r.infcx.ghost_name r.goals.items c.push-in-Contravariant.new.self.items s.meaning d.meaning s.store d.store s.lawful
-    d.lawful r.ambient_variance r.param_env h.grown (c.requires.env_known, c.requires.goals_known) h.lawful h.same_store
+    contravariant_step (held_grows r.infcx.ghost_name s d h.grows) r.goals.items c.push-in-Contravariant.new.self.items s.meaning d.meaning s.store d.store s.lawful
+    d.lawful r.ambient_variance r.param_env h.grows.extends (c.requires.env_known, c.requires.goals_known) h.grows.lawful h.same_store
     c.in_ok-predicate-in-Contravariant.predicate _ c.in_ok-push-in-Contravariant.ensures.items c.args.x.0 c.args.y.0
     ((s.meaning).ty c.args.a.now) ((s.meaning).ty c.args.b.now) c.requires.a_is c.requires.b_is
     c.requires.a_unresolved c.requires.b_unresolved IsFormed (d.meaning).ty c.args.a.now c.in-Contravariant.is h.made
-    (h.grown.ty c.args.a.now c.requires.a_known) c.requires.a_known
+    (h.grows.extends.ty c.args.a.now c.requires.a_known) c.requires.a_known
 
 pub returns-in-Invariant-clause-stepped : goal.returns-in-Invariant-clause-stepped
 returns-in-Invariant-clause-stepped g c =
@@ -103,7 +103,7 @@ returns-in-Invariant-clause-stepped g c =
     let sound = g.met.Infcx.InferCtxtLike.sound r.infcx.now c.requires.lawful in
     let d = g.Infcx.InferCtxtLike.state c.equate_ty_vids_raw.new.self in
     let done = c.equate_ty_vids_raw.ensures.equates in
-    roots_step r.infcx.ghost_name r.goals.items IsFormed s.meaning d.meaning s.store d.store s.lawful d.lawful
+    roots_step (held_stands r.infcx.ghost_name s d done.stands) r.goals.items IsFormed s.meaning d.meaning s.store d.store s.lawful d.lawful
     r.ambient_variance r.param_env type_var (no_region type_var tt) c.args.x.0 c.args.y.0 ((s.meaning).ty c.args.a.now)
     ((s.meaning).ty c.args.b.now) (d.meaning).ty c.args.a.now done.stands.meaning
     (c.requires.env_known, c.requires.goals_known) sound done.stands.lawful done.same done.equates c.requires.a_is
@@ -121,8 +121,8 @@ returns-in_err-predicate-in-Covariant-clause-registers g c =
     (solving_through r.infcx.ghost_name r.goals.items s r.ambient_variance r.param_env)
     (solving_through r.infcx.ghost_name r.goals.items d r.ambient_variance r.param_env) (d.meaning).ty a p
     c.from_residual.result)) (sym c.in-Covariant.is)
-    (refused_alone r.infcx.ghost_name r.goals.items r.goals.items s.meaning d.meaning s.store d.store s.lawful d.lawful
-    r.ambient_variance r.param_env h.grown (c.requires.env_known, c.requires.goals_known) h.same_store (subtype_predicate true a b)
+    (refused_alone (held_grows r.infcx.ghost_name s d h.grows) r.goals.items r.goals.items s.meaning d.meaning s.store d.store s.lawful d.lawful
+    r.ambient_variance r.param_env h.grows.extends (c.requires.env_known, c.requires.goals_known) h.same_store (subtype_predicate true a b)
     (d.meaning).ty a c.from_residual.result refl (as_err c.from_residual.result Memory c.from_residual.ensures.0
     c.from_residual.ensures.1))
 
@@ -138,8 +138,8 @@ returns-in_err-push-in-Covariant-clause-registers g c =
     (solving_through r.infcx.ghost_name r.goals.items s r.ambient_variance r.param_env)
     (solving_through r.infcx.ghost_name c.push.new.self.items d r.ambient_variance r.param_env) (d.meaning).ty a p
     c.from_residual-in_err-push-in-Covariant.result)) (sym c.in-Covariant.is)
-    (refused_alone r.infcx.ghost_name r.goals.items c.push.new.self.items s.meaning d.meaning s.store d.store s.lawful d.lawful
-    r.ambient_variance r.param_env h.grown (c.requires.env_known, c.requires.goals_known) h.same_store (subtype_predicate true a b)
+    (refused_alone (held_grows r.infcx.ghost_name s d h.grows) r.goals.items c.push.new.self.items s.meaning d.meaning s.store d.store s.lawful d.lawful
+    r.ambient_variance r.param_env h.grows.extends (c.requires.env_known, c.requires.goals_known) h.same_store (subtype_predicate true a b)
     (d.meaning).ty a c.from_residual-in_err-push-in-Covariant.result c.in_err-push-in-Covariant.ensures.items (as_err c.from_residual-in_err-push-in-Covariant.result Memory c.from_residual-in_err-push-in-Covariant.ensures.0
     c.from_residual-in_err-push-in-Covariant.ensures.1))
 
@@ -155,10 +155,10 @@ returns-in_ok-push-in-Covariant-clause-registers g c =
     (solving_through r.infcx.ghost_name r.goals.items s r.ambient_variance r.param_env)
     (solving_through r.infcx.ghost_name c.push.new.self.items d r.ambient_variance r.param_env) (d.meaning).ty a p
     (Ok (Done c.args.a.now)))) (sym c.in-Covariant.is)
-    (pushed_alone r.infcx.ghost_name r.goals.items c.push.new.self.items s.meaning d.meaning s.store d.store s.lawful d.lawful
-    r.ambient_variance r.param_env h.grown (c.requires.env_known, c.requires.goals_known) h.same_store c.in_ok-predicate-in-Covariant.predicate
+    (pushed_alone (held_grows r.infcx.ghost_name s d h.grows) r.goals.items c.push.new.self.items s.meaning d.meaning s.store d.store s.lawful d.lawful
+    r.ambient_variance r.param_env h.grows.extends (c.requires.env_known, c.requires.goals_known) h.same_store c.in_ok-predicate-in-Covariant.predicate
     (subtype_predicate true a b) (d.meaning).ty c.args.a.now a c.in_ok-push-in-Covariant.ensures.items h.made
-    (h.grown.ty c.args.a.now c.requires.a_known))
+    (h.grows.extends.ty c.args.a.now c.requires.a_known))
 
 pub returns-in_err-predicate-in-Contravariant-clause-registers : goal.returns-in_err-predicate-in-Contravariant-clause-registers
 returns-in_err-predicate-in-Contravariant-clause-registers g c =
@@ -172,8 +172,8 @@ returns-in_err-predicate-in-Contravariant-clause-registers g c =
     (solving_through r.infcx.ghost_name r.goals.items s r.ambient_variance r.param_env)
     (solving_through r.infcx.ghost_name r.goals.items d r.ambient_variance r.param_env) (d.meaning).ty a p
     c.from_residual-in_err-predicate-in-Contravariant.result)) (sym c.in-Contravariant.is)
-    (refused_alone r.infcx.ghost_name r.goals.items r.goals.items s.meaning d.meaning s.store d.store s.lawful d.lawful
-    r.ambient_variance r.param_env h.grown (c.requires.env_known, c.requires.goals_known) h.same_store (subtype_predicate false b a)
+    (refused_alone (held_grows r.infcx.ghost_name s d h.grows) r.goals.items r.goals.items s.meaning d.meaning s.store d.store s.lawful d.lawful
+    r.ambient_variance r.param_env h.grows.extends (c.requires.env_known, c.requires.goals_known) h.same_store (subtype_predicate false b a)
     (d.meaning).ty a c.from_residual-in_err-predicate-in-Contravariant.result refl (as_err c.from_residual-in_err-predicate-in-Contravariant.result Memory c.from_residual-in_err-predicate-in-Contravariant.ensures.0
     c.from_residual-in_err-predicate-in-Contravariant.ensures.1))
 
@@ -189,8 +189,8 @@ returns-in_err-push-in-Contravariant-clause-registers g c =
     (solving_through r.infcx.ghost_name r.goals.items s r.ambient_variance r.param_env)
     (solving_through r.infcx.ghost_name c.push-in-Contravariant.new.self.items d r.ambient_variance r.param_env) (d.meaning).ty a p
     c.from_residual-in_err-push-in-Contravariant.result)) (sym c.in-Contravariant.is)
-    (refused_alone r.infcx.ghost_name r.goals.items c.push-in-Contravariant.new.self.items s.meaning d.meaning s.store d.store s.lawful d.lawful
-    r.ambient_variance r.param_env h.grown (c.requires.env_known, c.requires.goals_known) h.same_store (subtype_predicate false b a)
+    (refused_alone (held_grows r.infcx.ghost_name s d h.grows) r.goals.items c.push-in-Contravariant.new.self.items s.meaning d.meaning s.store d.store s.lawful d.lawful
+    r.ambient_variance r.param_env h.grows.extends (c.requires.env_known, c.requires.goals_known) h.same_store (subtype_predicate false b a)
     (d.meaning).ty a c.from_residual-in_err-push-in-Contravariant.result c.in_err-push-in-Contravariant.ensures.items (as_err c.from_residual-in_err-push-in-Contravariant.result Memory c.from_residual-in_err-push-in-Contravariant.ensures.0
     c.from_residual-in_err-push-in-Contravariant.ensures.1))
 
@@ -206,10 +206,10 @@ returns-in_ok-push-in-Contravariant-clause-registers g c =
     (solving_through r.infcx.ghost_name r.goals.items s r.ambient_variance r.param_env)
     (solving_through r.infcx.ghost_name c.push-in-Contravariant.new.self.items d r.ambient_variance r.param_env) (d.meaning).ty a p
     (Ok (Done c.args.a.now)))) (sym c.in-Contravariant.is)
-    (pushed_alone r.infcx.ghost_name r.goals.items c.push-in-Contravariant.new.self.items s.meaning d.meaning s.store d.store s.lawful d.lawful
-    r.ambient_variance r.param_env h.grown (c.requires.env_known, c.requires.goals_known) h.same_store c.in_ok-predicate-in-Contravariant.predicate
+    (pushed_alone (held_grows r.infcx.ghost_name s d h.grows) r.goals.items c.push-in-Contravariant.new.self.items s.meaning d.meaning s.store d.store s.lawful d.lawful
+    r.ambient_variance r.param_env h.grows.extends (c.requires.env_known, c.requires.goals_known) h.same_store c.in_ok-predicate-in-Contravariant.predicate
     (subtype_predicate false b a) (d.meaning).ty c.args.a.now a c.in_ok-push-in-Contravariant.ensures.items h.made
-    (h.grown.ty c.args.a.now c.requires.a_known))
+    (h.grows.extends.ty c.args.a.now c.requires.a_known))
 
 pub returns-in-Invariant-clause-registers : goal.returns-in-Invariant-clause-registers
 returns-in-Invariant-clause-registers g c =

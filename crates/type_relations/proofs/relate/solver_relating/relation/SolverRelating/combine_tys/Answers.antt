@@ -11,7 +11,7 @@ use Rattle.type_relations.specs.Solving.{solving_through, solver_manner, KnowsGo
 use Rattle.relation_contexts.proofs.Passing.{as_err, invariantly}
 use Rattle.type_relations.proofs.Shallowly.{shallow_free, variable_made}
 use Rattle.type_relations.proofs.GeneralisingErrors.{cycle_error}
-use Rattle.type_relations.proofs.Solving.{decides_back, ty_sorted, as_solving, still_lawful}
+use Rattle.type_relations.proofs.Solving.{held_grows, decides_back, ty_sorted, as_solving, still_lawful}
 use Rattle.type_relations.proofs.SolvingVariables.{left_step, right_step, left_refused, right_refused, type_comes_to_none}
 use Rattle.type_relations.proofs.relate.solver_relating.relation.SolverRelating.combine_tys.Goals as goal
 
@@ -75,12 +75,12 @@ returns-in_err-bound-in-None-ty_var-clause-stepped g c =
     (subst (λ l. Stepped solver_manner IsFormed (solving_through r.infcx.ghost_name r.goals.items s r.ambient_variance r.param_env)
     (solving_through r.infcx.ghost_name r.goals.items d r.ambient_variance r.param_env) l t
     (d.meaning).ty (Err f)) (sym is)
-    (as_solving r.infcx.ghost_name r.goals.items s.store d.store s.lawful d.lawful r.ambient_variance r.param_env h.grows.extends
+    (as_solving (held_grows r.infcx.ghost_name s d h.grows) r.goals.items s.store d.store s.lawful d.lawful r.ambient_variance r.param_env h.grows.extends
     (c.requires.env_known, c.requires.goals_known) (λ q. Stepped solver_manner IsFormed
     (solving_through r.infcx.ghost_name r.goals.items s r.ambient_variance r.param_env) q (leaf (variable type_var n)) t (d.meaning).ty
     (Err f)) (left_refused (solving_through r.infcx.ghost_name r.goals.items s r.ambient_variance r.param_env)
     (s.lawful × KnowsGoals s.meaning r.param_env r.goals.items) (d.lawful × KnowsGoals d.meaning r.param_env r.goals.items)
-    (still_lawful r.infcx.ghost_name r.goals.items r.param_env h.grows.extends
+    (still_lawful (held_grows r.infcx.ghost_name s d h.grows) r.goals.items r.param_env h.grows.extends
     (c.requires.env_known, c.requires.goals_known) h.grows.lawful) IsFormed s d h.grows.extends c.requires.decides sound type_var tt n t unresolved other (λ m. m.ty) CyclicTy r.ambient_variance
     (d.meaning).ty (λ o z i x. cycle_error d.meaning s.store d.store n t sound o z i other x) f h.instantiates)))
 
@@ -108,12 +108,12 @@ returns-in_err-bound-in-Some-ty_var-2-clause-stepped g c =
     (subst (λ l. Stepped solver_manner IsFormed (solving_through r.infcx.ghost_name r.goals.items s r.ambient_variance r.param_env)
     (solving_through r.infcx.ghost_name r.goals.items d r.ambient_variance r.param_env) t l
     (d.meaning).ty (Err f)) (sym is)
-    (as_solving r.infcx.ghost_name r.goals.items s.store d.store s.lawful d.lawful r.ambient_variance r.param_env h.grows.extends
+    (as_solving (held_grows r.infcx.ghost_name s d h.grows) r.goals.items s.store d.store s.lawful d.lawful r.ambient_variance r.param_env h.grows.extends
     (c.requires.env_known, c.requires.goals_known) (λ q. Stepped solver_manner IsFormed
     (solving_through r.infcx.ghost_name r.goals.items s r.ambient_variance r.param_env) q t (leaf (variable type_var n)) (d.meaning).ty
     (Err f)) (right_refused (solving_through r.infcx.ghost_name r.goals.items s r.ambient_variance r.param_env)
     (s.lawful × KnowsGoals s.meaning r.param_env r.goals.items) (d.lawful × KnowsGoals d.meaning r.param_env r.goals.items)
-    (still_lawful r.infcx.ghost_name r.goals.items r.param_env h.grows.extends
+    (still_lawful (held_grows r.infcx.ghost_name s d h.grows) r.goals.items r.param_env h.grows.extends
     (c.requires.env_known, c.requires.goals_known) h.grows.lawful) IsFormed s d h.grows.extends c.requires.decides sound type_var tt n t unresolved other (λ m. m.ty) CyclicTy c.xform-variance.result
     (d.meaning).ty (λ o z i x. cycle_error d.meaning s.store d.store n t sound o z i other x) f h.instantiates)))
 
@@ -138,12 +138,12 @@ returns-in_ok-bound-in-None-ty_var-clause-stepped g c =
     subst (λ l. Stepped solver_manner IsFormed (solving_through r.infcx.ghost_name r.goals.items s r.ambient_variance r.param_env)
     (solving_through r.infcx.ghost_name r.goals.items d r.ambient_variance r.param_env) l t
     (d.meaning).ty (Ok (Again c.args.a.now c.args.b.now z c.args.b.now Covariant c.args.a.now))) (sym is)
-    (as_solving r.infcx.ghost_name r.goals.items s.store d.store s.lawful d.lawful r.ambient_variance r.param_env grown
+    (as_solving (held_grows r.infcx.ghost_name s d h.grows) r.goals.items s.store d.store s.lawful d.lawful r.ambient_variance r.param_env grown
     (c.requires.env_known, c.requires.goals_known) (λ q. Stepped solver_manner IsFormed
     (solving_through r.infcx.ghost_name r.goals.items s r.ambient_variance r.param_env) q (leaf (variable type_var c.in-Some.x.0)) t (d.meaning).ty
     (Ok (Again c.args.a.now c.args.b.now z c.args.b.now Covariant c.args.a.now))) (left_step (solving_through r.infcx.ghost_name r.goals.items s r.ambient_variance r.param_env)
     (s.lawful × KnowsGoals s.meaning r.param_env r.goals.items) (d.lawful × KnowsGoals d.meaning r.param_env r.goals.items)
-    (still_lawful r.infcx.ghost_name r.goals.items r.param_env grown
+    (still_lawful (held_grows r.infcx.ghost_name s d h.grows) r.goals.items r.param_env grown
     (c.requires.env_known, c.requires.goals_known) h.grows.lawful) type_var tt s d grown sound
     (g.met.Infcx.InferCtxtLike.numbers r.infcx.now c.requires.lawful)
     (g.met.Infcx.InferCtxtLike.covered q h.grows.lawful) c.in-Some.x.0 t ((d.meaning).ty z) k.right_taken.1 k.right_in
@@ -173,12 +173,12 @@ returns-in_ok-bound-in-Some-ty_var-2-clause-stepped g c =
     subst (λ l. Stepped solver_manner IsFormed (solving_through r.infcx.ghost_name r.goals.items s r.ambient_variance r.param_env)
     (solving_through r.infcx.ghost_name r.goals.items d r.ambient_variance r.param_env) t l
     (d.meaning).ty (Ok (Again c.args.a.now c.args.b.now c.args.a.now z Covariant c.args.a.now))) (sym is)
-    (as_solving r.infcx.ghost_name r.goals.items s.store d.store s.lawful d.lawful r.ambient_variance r.param_env grown
+    (as_solving (held_grows r.infcx.ghost_name s d h.grows) r.goals.items s.store d.store s.lawful d.lawful r.ambient_variance r.param_env grown
     (c.requires.env_known, c.requires.goals_known) (λ q. Stepped solver_manner IsFormed
     (solving_through r.infcx.ghost_name r.goals.items s r.ambient_variance r.param_env) q t (leaf (variable type_var c.in-Some-ty_var-2.y.0)) (d.meaning).ty
     (Ok (Again c.args.a.now c.args.b.now c.args.a.now z Covariant c.args.a.now))) (right_step (solving_through r.infcx.ghost_name r.goals.items s r.ambient_variance r.param_env)
     (s.lawful × KnowsGoals s.meaning r.param_env r.goals.items) (d.lawful × KnowsGoals d.meaning r.param_env r.goals.items)
-    (still_lawful r.infcx.ghost_name r.goals.items r.param_env grown
+    (still_lawful (held_grows r.infcx.ghost_name s d h.grows) r.goals.items r.param_env grown
     (c.requires.env_known, c.requires.goals_known) h.grows.lawful) type_var tt s d grown sound
     (g.met.Infcx.InferCtxtLike.numbers r.infcx.now c.requires.lawful)
     (g.met.Infcx.InferCtxtLike.covered q h.grows.lawful) c.in-Some-ty_var-2.y.0 t ((d.meaning).ty z) k.left_taken.1

@@ -1,4 +1,7 @@
+use Rattle.std.proofs.Common.{ap}
+use Rattle.relation_contexts.proofs.Answering.{same_environment}
 use Rattle.type_relations.specs.Relating.{term_in}
+use Rattle.type_relations.specs.Solving.{held_by}
 use Rattle.type_relations.proofs.Solving.{as_before}
 use Rattle.type_relations.proofs.relate.solver_relating.relation.SolverRelating.relate.Goals as goal
 
@@ -10,8 +13,9 @@ returns-clause-related g c =
     let d = g.Infcx.InferCtxtLike.state q.infcx.now in
     let over = g.T.Relate.over in
     let tree = g.T.HasTree.tree in
-    as_before r.infcx.ghost_name r.goals.items q.goals.items s.meaning d.meaning s.store d.store s.lawful d.lawful
-    r.ambient_variance q.ambient_variance r.param_env q.param_env q.infcx.ghost_name c.requires.env_known
+    as_before (held_by r.infcx.ghost_name s) (held_by q.infcx.ghost_name d) r.goals.items q.goals.items s.meaning
+    d.meaning s.store d.store s.lawful d.lawful r.ambient_variance q.ambient_variance r.param_env q.param_env
+    c.requires.env_known
     (term_in s over tree c.args.a.now) (term_in s over tree c.args.b.now) (term_in d over tree) c.relate.result
     c.relate.ensures.related
 
@@ -22,4 +26,7 @@ pub returns-clause-variance : goal.returns-clause-variance
 returns-clause-variance g c = ((c.relate.ensures.related).passes).ambient
 
 pub returns-clause-environment : goal.returns-clause-environment
-returns-clause-environment g c = ((c.relate.ensures.related).passes).environment
+returns-clause-environment g c = same_environment ((c.relate.ensures.related).passes).kept
+
+pub returns-clause-same_reference : goal.returns-clause-same_reference
+returns-clause-same_reference g c = ap (λ k. k.reference) ((c.relate.ensures.related).passes).kept

@@ -1,7 +1,7 @@
 use Rattle.std.proofs.Common.{◌≡◌, ◌||◌, true, false, refl, sym, ◌∙◌, arith, inl, inr}
 use Rattle.std.proofs.lemmas.Bool.{false≢true}
 use Rattle.std.proofs.lemmas.Grind.{common_steps}
-use Rattle.relation_terms.proofs.Stays.{stays_same}
+use Rattle.type_relations.proofs.OverContext.{grows_itself}
 use Rattle.relation_folds.specs.Visits.{bound_var_escapes}
 use Rattle.relation_folds.specs.declared.error.RelateFault.TheVariants.{Memory}
 use Rattle.relation_contexts.specs.Binders.{binder_tree}
@@ -20,7 +20,7 @@ returns-then-round-gt0 g c =
     let none : (bound_var_escapes (tree a.value) || bound_var_escapes (tree b.value)) ≡ false =
     grind (arith, common_steps) in
     no_more r.infcx.ghost_name r.goals.items s r.ambient_variance r.param_env c.requires.lawful.1
-    (record { extends = stays_same s.meaning; lawful = c.requires.lawful.0 }) (tree a.value) (tree b.value)
+    (grows_itself s c.requires.lawful.0) (tree a.value) (tree b.value)
     c.args.round tree ((s.meaning).bound_vars a.bound_vars) ((s.meaning).bound_vars b.bound_vars) c.requires.asked
     (grind (arith, common_steps)) (inr none)
 
@@ -34,7 +34,7 @@ returns-then-not-one_uses g c =
     let none : (bound_var_escapes (tree a.value) || bound_var_escapes (tree b.value)) ≡ false =
     grind (arith, common_steps) in
     opens_none r.infcx.ghost_name r.goals.items s r.ambient_variance r.param_env c.requires.lawful.1
-    (record { extends = stays_same s.meaning; lawful = c.requires.lawful.0 }) (tree a.value) (tree b.value)
+    (grows_itself s c.requires.lawful.0) (tree a.value) (tree b.value)
     c.args.round tree ((s.meaning).bound_vars a.bound_vars) ((s.meaning).bound_vars b.bound_vars) c.requires.asked
     c.requires.decides (g.met.Infcx.InferCtxtLike.sound r.infcx.now c.requires.lawful.0) none
     (grind (arith, common_steps)) a.value b.value refl refl
@@ -133,6 +133,6 @@ returns g c =
     (λ h. false≢true (sym c.if-enters_second.false ∙ c.enters_second.ensures.1 h))
     (λ h. false≢true (sym c.if-enters_first.false ∙ c.enters_first.ensures.1 h)) in
     no_more r.infcx.ghost_name r.goals.items s r.ambient_variance r.param_env c.requires.lawful.1
-    (record { extends = stays_same s.meaning; lawful = c.requires.lawful.0 }) (tree a.value) (tree b.value)
+    (grows_itself s c.requires.lawful.0) (tree a.value) (tree b.value)
     c.args.round tree ((s.meaning).bound_vars a.bound_vars) ((s.meaning).bound_vars b.bound_vars) c.requires.asked
     last.0 (inl last.1)

@@ -6,7 +6,7 @@ use Rattle.type_relations.proofs.StructuralConsts.{itself_related}
 use Rattle.relation_contexts.proofs.Standing.{term_within}
 use Rattle.type_relations.proofs.Shallowly.{read_step}
 use Rattle.type_relations.proofs.OverContext.{all_taken, parts_step, read_covered}
-use Rattle.type_relations.proofs.Solving.{answered_step, one_ty}
+use Rattle.type_relations.proofs.Solving.{held_kept, answered_step, one_ty}
 use Rattle.relation_contexts.specs.declared.relate.Step.TheVariants.{Done, Parts}
 use Rattle.type_relations.proofs.Subtyping.{step_of_one, step_left_none, read_registers}
 use Rattle.type_relations.proofs.relate.solver_relating.relation.SolverRelatingTypeRelationInterner.tys.Goals as goal
@@ -21,7 +21,7 @@ returns-then-eq-clause-stepped g c =
     let same = one_ty of c.args.a.now c.args.b.now (λ h i.
     (g.met.Infcx.Interner.Interner.same_ty cx c.args.a.now c.args.b.now h i).0 (sym c.if-eq.ensures)) k.left_known
     k.right_known in
-    answered_step r.infcx.ghost_name r.goals.items IsFormed s.meaning s.meaning s.store s.store s.lawful s.lawful r.ambient_variance
+    answered_step (held_kept r.infcx.ghost_name s s refl refl) r.goals.items IsFormed s.meaning s.meaning s.store s.store s.lawful s.lawful r.ambient_variance
     r.param_env ((s.meaning).ty c.args.a.now) ((s.meaning).ty c.args.b.now) (s.meaning).ty c.args.a.now
     (itself_related solver_manner (solving_through r.infcx.ghost_name r.goals.items s r.ambient_variance r.param_env)
     r.ambient_variance (s.meaning).ty ((s.meaning).ty c.args.a.now) ((s.meaning).ty c.args.b.now) c.args.a.now same

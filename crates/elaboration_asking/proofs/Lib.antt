@@ -1,0 +1,2 @@
+pub mod PullLemmas
+pub mod StatedLemmas

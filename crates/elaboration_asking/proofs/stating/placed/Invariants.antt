@@ -1,0 +1,9 @@
+use Rattle.std.specs.List.{All}
+use Rattle.relation_terms.specs.Owned.{IsStated}
+use Rattle.reference_interner.specs.Adding.{meaning_in}
+use Rattle.reference_interner.specs.Items.{clauses_in}
+use Rattle.elaboration_asking.proofs.stating.placed.Given as goal
+
+-- what stands in the list may be stated
+abbrev pub invariant-loop-clause : goal.invariant-loop-clause
+invariant-loop-clause l = All (IsStated (meaning_in l.cx)) (clauses_in l.all)

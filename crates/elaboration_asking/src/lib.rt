@@ -1,0 +1,5 @@
+//! Elaborations of what a text says: what its traits state, and what the pulls answer.
+#![tactic(auto)]
+
+pub mod pulls;
+pub mod stating;

@@ -1,0 +1,116 @@
+//! How what clauses say prints.
+ghost use Rattle.std.specs.Prelude.{IsTrue};
+ghost use Rattle.relation_terms.specs.Trees.{known};
+ghost use Rattle.relation_terms.specs.Meaning.{term_tree};
+ghost use Rattle.relation_terms.specs.Predicates.{clause_kind_tree, alias_term_tree};
+
+use crate::printing::claims::{constness_text, polarity_text, write_implemented, write_subject};
+use relation_terms::predicate::{ClauseKind, ProjectionPredicate};
+use relation_terms::terms::{Const, Interner, Term, TermKind, Ty};
+use std::fmt::{self, Write};
+use text_terms::printing::under::{
+    Entered, write_const, write_item, write_region, write_term, write_ty,
+};
+use text_terms::printing::{TextsOf, name_text};
+
+// Writes what an alias comes to: `<T as Tr>::A == u8`.
+fn write_projection<I: Interner, W: Write>(
+    cx: &I,
+    texts: &TextsOf<I>,
+    around: &[Entered],
+    of: &ProjectionPredicate<I::Key, I::Id>,
+    out: &mut W,
+) -> fmt::Result
+    requires alias { IsTrue (known (alias_term_tree (I.meaning cx.now) (of.now).projection_term)) }
+    requires term { IsTrue (known (term_tree (I.meaning cx.now) (of.now).term)) }
+{
+    let id = of.projection_term.def_id();
+    write_item(cx, texts, around, &id.0, &of.projection_term.args, out)?;
+    out.write_str(" == ")?;
+    write_term(cx, texts, around, &of.term, out)
+}
+
+// Writes a term in brackets, behind the name of what it is said to be: `WellFormed(T)`.
+fn write_said<I: Interner, W: Write>(
+    cx: &I,
+    texts: &TextsOf<I>,
+    around: &[Entered],
+    name: &str,
+    term: &Term<I>,
+    out: &mut W,
+) -> fmt::Result
+    requires { IsTrue (known (term_tree (I.meaning cx.now) term.now)) }
+{
+    out.write_str(name)?;
+    out.write_str("(")?;
+    match term {
+        TermKind::Ty(ty) => write_ty(cx, texts, around, ty, out)?,
+        TermKind::Const(constant) => write_const(cx, texts, around, constant, out)?,
+    }
+    out.write_str(")")
+}
+
+// Writes which type a constant is of: `ConstArgHasType(1, usize)`.
+fn write_typed<I: Interner, W: Write>(
+    cx: &I,
+    texts: &TextsOf<I>,
+    around: &[Entered],
+    constant: &Const<I>,
+    ty: &Ty<I>,
+    out: &mut W,
+) -> fmt::Result
+    requires constant { IsTrue (known ((I.meaning cx.now).const_ constant.now)) }
+    requires ty { IsTrue (known ((I.meaning cx.now).ty ty.now)) }
+{
+    out.write_str("ConstArgHasType(")?;
+    write_const(cx, texts, around, constant, out)?;
+    out.write_str(", ")?;
+    write_ty(cx, texts, around, ty, out)?;
+    out.write_str(")")
+}
+
+// Writes what a clause says, behind a binder or not.
+pub(super) fn write_kind<I: Interner, W: Write>(
+    cx: &I,
+    texts: &TextsOf<I>,
+    around: &[Entered],
+    kind: &ClauseKind<I::Key, I::Id, I::Name>,
+    is_behind: bool,
+    out: &mut W,
+) -> fmt::Result
+    requires { IsTrue (known (clause_kind_tree (I.meaning cx.now) kind.now)) }
+{
+    match kind {
+        ClauseKind::Trait(of) => {
+            let mark = polarity_text(of.polarity);
+            write_implemented(cx, texts, around, &of.trait_ref, mark, is_behind, out)
+        }
+        ClauseKind::HostEffect(of) => {
+            let mark = constness_text(of.constness);
+            write_implemented(cx, texts, around, &of.trait_ref, mark, is_behind, out)
+        }
+        ClauseKind::RegionOutlives(of) => {
+            write_region(cx, texts, around, &of.0, out)?;
+            out.write_str(": ")?;
+            write_region(cx, texts, around, &of.1, out)
+        }
+        ClauseKind::TypeOutlives(of) => {
+            write_subject(cx, texts, around, &of.0, is_behind, out)?;
+            out.write_str(": ")?;
+            write_region(cx, texts, around, &of.1, out)
+        }
+        ClauseKind::Projection(of) => write_projection(cx, texts, around, of, out),
+        ClauseKind::ConstArgHasType(constant, ty) => {
+            write_typed(cx, texts, around, constant, ty, out)
+        }
+        ClauseKind::WellFormed(term) => write_said(cx, texts, around, "WellFormed", term, out),
+        ClauseKind::ConstEvaluatable(constant) => {
+            let term = TermKind::Const(*constant);
+            write_said(cx, texts, around, "ConstEvaluatable", &term, out)
+        }
+        ClauseKind::UnstableFeature(name) => {
+            let text = name_text(texts.names, name, "_");
+            write!(out, "UnstableFeature({text})")
+        }
+    }
+}
