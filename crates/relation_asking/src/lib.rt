@@ -22,6 +22,7 @@ use answer_text::AnswerText;
 use elaboration_asking::stating::state_all;
 use interner::{Tables, make_interner, make_tables};
 use question::{Ready, ask_often, context_for, write_whole};
+use relation_contexts::infer_ctxt::TypingMode;
 use relation_needs::binding::uses_of;
 pub use relation_needs::needs;
 use relation_needs::needs::needs_of;
@@ -59,7 +60,7 @@ fn ask_ready<I: SizedKeys + Drop, W: Write>(
     requires { AllReady (I.meaning interner) terms.now }
 {
     let alloc = interner.alloc();
-    let Ok(made) = RefCtxt::new(interner, true, BUDGET) else {
+    let Ok(made) = RefCtxt::new(interner, TypingMode::PostAnalysis, true, BUDGET) else {
         return refuse_all(program, between, out);
     };
     let Ok(room) = AnswerText::new(alloc) else {

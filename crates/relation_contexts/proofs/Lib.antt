@@ -40,3 +40,4 @@ pub mod AgreeingForms
 pub mod Roots
 pub mod Numbers
 pub mod Variables
+pub mod Shrinking

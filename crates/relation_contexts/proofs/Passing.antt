@@ -28,9 +28,10 @@ use Rattle.relation_contexts.specs.Measures.{grown, Goes}
 use Rattle.relation_contexts.specs.Lawful.{State, Manner, Manners, Takes, MayAnswer, Passes, Asked, Refuses, Answers, Verdict, Related, Leads}
 use Rattle.relation_contexts.specs.Lawful.{ExactResult, ExactlyRelated, RegisteredIn}
 use Rattle.relation_contexts.proofs.Exactness.{exact_steps_compose}
-use Rattle.relation_contexts.specs.Lawful.{LeadsToParts, LeadsAgain, Noted, Turned, Stepped, OnlyMemory, WithMeaning, declared_by, items_of, items_in}
+use Rattle.relation_contexts.specs.Lawful.{LeadsToParts, LeadsAgain, Shown, Noted, Turned, Stepped, OnlyMemory, WithMeaning, declared_by, items_of, items_in}
 use Rattle.relation_contexts.proofs.Registered.{registered_in, registered_both, registered_as}
 use Rattle.relation_contexts.proofs.Going.{goes_nowhere, goes_within, goes_then, le_grown, later_itself, later_through}
+use Rattle.relation_contexts.proofs.Shrinking.{first_order_before}
 use Rattle.relation_contexts.proofs.Full.{full_itself, full_same, full_then, full_led, full_could}
 use Rattle.relation_contexts.proofs.Composing.{steps_compose, first_goals}
 use Rattle.relation_contexts.proofs.Growing.{All_front}
@@ -590,6 +591,39 @@ module _ {Key Id Name : Type 0} where
   again_relates {r = r} {q = q} M a b k l x y u v g led exactly tree t f =
       relates_by r.ambient k l (passes_then g f.passes (small M a b k l x y u v g led exactly))
       (led_outcome g f.passes k l x y (xform r.ambient v) led.read_leads (f.verdict).outcome)
+
+  -- So all is known of two terms that were related that is known of such.
+  pub shown_now : {X : Type 0} {r q : State Key Id Name} (M : Manners) (v : Variance) (a b : Tree) (tree : X → Tree)
+      (t : X) → Related M r q v a b tree (Ok t) → Shown M q v a b
+  shown_now {r = r} {q = q} M v a b tree t f = record {
+    relates = relates_now M v a b tree t f;
+    unifies = λ k is pair s sol.
+        let bindings = first_order_before r.store q.store ((f.passes).goes).later pair.bindings in
+        let o = f.exact (same_manner M (λ z. z.is_exact) f.passes k) is
+        (record { left = pair.left; right = pair.right; bindings = bindings }) in
+        ((o.1).shrinks s sol).1;
+    agrees = λ k. subst (λ c. Agree c (at v) a b) (sym (same_items f.passes))
+        ((f.verdict).agrees (same_manner M (λ z. z.relates_agreeing) f.passes k));
+  }
+
+  -- And of the terms as a step read them, when the pair that it left is related.
+  pub again_shown : {X : Type 0} {r q p : State Key Id Name} (M : Manners) (a b k l x y u : Tree) (v : Variance)
+      (g : Passes (weight r.store a + weight r.store b) r q) (led : LeadsAgain M r q g.added a b k l v x y u)
+      (exactly : LeadsExactly M r q a b x y) (tree : X → Tree) (t : X) → Related M q p (xform r.ambient v) x y tree (Ok t) →
+      Shown M p r.ambient k l
+  again_shown {r = r} {q = q} {p = p} M a b k l x y u v g led exactly tree t f = record {
+    relates = again_relates M a b k l x y u v g led exactly tree t f;
+    unifies = λ z is pair s sol.
+        let bindings = first_order_before r.store p.store (later_through (g.goes).later ((f.passes).goes).later)
+        pair.bindings in
+        let promised = same_manner M (λ z. z.is_exact) f.passes z in
+        let read = led.read_exactly (same_manner M (λ z. z.is_exact) g promised) is
+        (record { left = pair.left; right = pair.right; bindings = bindings }) in
+        let one = ((f.exact promised (invariantly v is) read.0).1).shrinks s sol in
+        ((read.1).shrinks s one.0 one.1).1;
+    agrees = λ z. (led.read_leads).agrees (items_in p) (subst (λ c. Agree c (at (xform r.ambient v)) x y)
+        (sym (same_items f.passes)) ((f.verdict).agrees (same_manner M (λ z. z.relates_agreeing) f.passes z)));
+  }
 
 -- A step that leaves the pair as it is.
 module _ {Key Id Name K : Type 0} (M : Manners) (F : Tree → Type 0) (r : State Key Id Name) (tree : K → Tree) where

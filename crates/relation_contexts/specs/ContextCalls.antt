@@ -79,9 +79,9 @@ module _ {Key Id Name : Type 0} (c : Context Key Id Name) where
 
 -- Between a context before a call and after it.
 module _ {Key Id Name : Type 0} (c d : Context Key Id Name) where
-  -- Whether the next solver is on stands, the types that are to outlive regions do, or what is marked as related does.
-  abbrev pub KeepsSolver : Type 0
-  KeepsSolver = d.is_next_solver ≡ c.is_next_solver
+  -- How the context was made stands, the types that are to outlive regions do, or what is marked as related does.
+  abbrev pub KeepsSetup : Type 0
+  KeepsSetup = d.setup ≡ c.setup
 
   abbrev pub KeepsOutliving : Type 0
   KeepsOutliving = d.outliving ≡ c.outliving
@@ -91,35 +91,35 @@ module _ {Key Id Name : Type 0} (c d : Context Key Id Name) where
 
   -- All that there is beside variables and constraints on regions stands.
   pub record KeepsRest : Type 0 where
-    pub solver : KeepsSolver
+    pub setup : KeepsSetup
     pub outliving : KeepsOutliving
     pub marks : KeepsMarks
 
   -- All that but the marks of related variables stands.
   pub record KeepsBeside : Type 0 where
-    pub solver : KeepsSolver
+    pub setup : KeepsSetup
     pub outliving : KeepsOutliving
 
   -- All of it stands, but that each type variable that was made is marked as related to one that there was.
   pub record MarksNew : Type 0 where
-    pub solver : KeepsSolver
+    pub setup : KeepsSetup
     pub outliving : KeepsOutliving
     pub marks : (n : ℕ) → IsMade c.store type_var n → d.sub_root n ≡ c.sub_root n
     pub related : (n : ℕ) → IsMade d.store type_var n → IsMade c.store type_var (d.sub_root n)
 
-  -- What keys mean stands, whether the next solver is on does, and so do the types that are to outlive regions; and the
+  -- What keys mean stands, how the context was made does, and so do the types that are to outlive regions; and the
   -- invariant holds.
   pub record Stands : Type 0 where
     pub meaning : d.meaning ≡ c.meaning
     pub lawful : d.lawful
-    pub solver : KeepsSolver
+    pub setup : KeepsSetup
     pub outliving : KeepsOutliving
 
   -- The same, but keys may have been added.
   pub record Grows : Type 0 where
     pub extends : Extends c.meaning d.meaning
     pub lawful : d.lawful
-    pub solver : KeepsSolver
+    pub setup : KeepsSetup
     pub outliving : KeepsOutliving
 
   -- What a term comes to at every depth was answered; or a growth was refused.

@@ -1,5 +1,5 @@
 -- What contracts see of a context, which terms are its own, and what relating in it registers and spends.
-use Rattle.std.specs.Prelude.{◌≡◌, ◌+◌, ℕ, Bool, false, List, IsTrue, IfOk, Result, [], All}
+use Rattle.std.specs.Prelude.{◌≡◌, ◌+◌, ℕ, false, List, IsTrue, IfOk, Result, [], All}
 use Rattle.std.specs.Global.{Vec}
 use Rattle.std.specs.Result.{IsOkAnd}
 use Rattle.relation_terms.specs.declared.predicate.regions.OutlivesPredicate.{OutlivesPredicate}
@@ -18,15 +18,16 @@ use Rattle.relation_contexts.specs.Stores.{Store, IsTermIn, IsRegionIn, all_boun
 use Rattle.relation_contexts.specs.Goals.{goals_of, KnowsGoal, Registered}
 use Rattle.relation_contexts.specs.Covered.{IsCovered}
 use Rattle.relation_contexts.specs.Lawful.{items_of}
+use Rattle.relation_contexts.specs.Settings.{Setup}
 
 -- A context as it stands: what the keys of its interner mean, what it has recorded of variables and regions, and its
--- own invariant; whether the next solver is on, the types that are to outlive regions in the order in which that was
--- registered, and of each type variable the root of those that it is marked as related to.
+-- own invariant; how it was made, the types that are to outlive regions in the order in which that was registered, and
+-- of each type variable the root of those that it is marked as related to.
 pub record Context (Key Id Name : Type 0) : Type 1 where
   pub meaning : Meaning Key Id Name
   pub store : Store
   pub lawful : Type 0
-  pub is_next_solver : Bool
+  pub setup : Setup Key
   pub outliving : List (OutlivesPredicate Key (TyKey Key))
   pub sub_root : ℕ → ℕ
 

@@ -1,32 +1,33 @@
 -- What contracts see of a relation in steps, and what its steps and the calls over it do.
-use Rattle.std.specs.Prelude.{◌≡◌, ℕ, suc, ◌+◌, ◌≤◌, Bool, List, ◌++◌, All, IsTrue, Result, Ok, Err, get_or}
+use Rattle.std.specs.Prelude.{◌≡◌, ℕ, suc, ◌+◌, ◌≤◌, List, ◌++◌, All, IsTrue, Result, Ok, Err, get_or}
 use Rattle.std.specs.Prelude.{Option, Some, None}
 use Rattle.term_enums.specs.declared.Variance.{Variance}
 use Rattle.term_enums.specs.declared.Variance.TheVariants.{Invariant}
 use Rattle.relation_terms.specs.declared.predicate.regions.OutlivesPredicate.{OutlivesPredicate}
 use Rattle.relation_terms.specs.declared.terms.keys.TyKey.{TyKey}
 use Rattle.relation_terms.specs.Heads.{Head, Leaf}
-use Rattle.relation_terms.specs.Trees.{Tree, Leaves, known}
+use Rattle.relation_terms.specs.Trees.{Tree, Assign, Leaves, known}
 use Rattle.relation_terms.specs.Meaning.{Meaning, Extends as ExtendsMeaning}
 use Rattle.term_enums.specs.Variances.{xform}
 use Rattle.relation_folds.specs.declared.error.TypeError.{TypeError}
 use Rattle.relation_folds.specs.declared.error.RelateFault.{RelateFault}
 use Rattle.relation_folds.specs.declared.error.RelateFault.TheVariants.{Memory, Budget, Unrelated}
 use Rattle.relation_folds.specs.Faults.{KnowsError}
-use Rattle.relation_contexts.specs.declared.relate.StructurallyRelateAliases.{StructurallyRelateAliases}
+use Rattle.relation_contexts.specs.declared.infer_ctxt.TypingMode.{TypingMode}
 use Rattle.relation_contexts.specs.declared.relate.Step.{Step}
 use Rattle.relation_contexts.specs.declared.relate.Step.TheVariants.{Done, Parts, Again}
 use Rattle.relation_contexts.specs.Relation.{Items, part_at, Way, at, parts, second_opened}
 use Rattle.relation_contexts.specs.Relation.{first_opened}
 use Rattle.relation_contexts.specs.Stores.{Store, IsSound, IsTermIn, weight}
 use Rattle.relation_contexts.specs.Goals.{Goal, Registered, ByDeclared, IsQuiet, Relates}
+use Rattle.relation_contexts.specs.Settings.{Settings}
 use Rattle.relation_contexts.specs.Steps.{IsLater, HasNoBinder, BindsNoBinder, InstantiatesNone, StaysFullFor}
 use Rattle.relation_contexts.specs.Outcomes.{Outcome, StepsTo, CarriesOver, NeverOne, Exact, ExactStep, NoUnifier}
 use Rattle.relation_contexts.specs.Headline.{IsFirstOrderPair}
 use Rattle.relation_contexts.specs.OneUniverse.{KeepsUniverseOf, LeadsInUniverse, BindsNoMore, BindsFewer}
-use Rattle.relation_contexts.specs.FirstOrder.{IsFirstOrderStore}
+use Rattle.relation_contexts.specs.FirstOrder.{IsFirstOrderStore, Unifies, IsErasedSolution}
 use Rattle.relation_contexts.specs.Errors.{ErrorOf}
-use Rattle.relation_contexts.specs.Agreeing.{AgreeBy}
+use Rattle.relation_contexts.specs.Agreeing.{Agree, AgreeBy}
 use Rattle.relation_contexts.specs.Measures.{Goes, grown}
 use Rattle.relation_contexts.specs.Covered.{IsCovered}
 
@@ -47,18 +48,12 @@ declared_by table aliases = record { declared = λ d. listed (table d); of_alias
 abbrev pub items_of : {Key Id Name : Type 0} → Meaning Key Id Name → Items
 items_of m = declared_by m.variances m.alias_variances
 
--- How a relation was set up: whether it relates aliases by their items and arguments, or by goals; which solver is to
--- answer its goals; and whether it relates items' arguments at declared variances at invariance too.
-pub record Settings : Type 0 where
-  pub structurally_relate_aliases : StructurallyRelateAliases
-  pub next_solver : Bool
-  pub declared_at_invariance : Bool
-
--- What no step of a relation changes: the environment in which its goals are to hold; how it was set up; the reference
--- that it holds, by its name, where it holds one; and the types that are to outlive regions.
+-- What no step of a relation changes: the environment in which its goals are to hold; how it was set up; the typing
+-- mode; the reference that it holds, by its name, where it holds one; and the types that are to outlive regions.
 pub record Kept (Key : Type 0) : Type 0 where
   pub environment : Tree
   pub settings : Settings
+  pub mode : TypingMode Key
   pub reference : ℕ
   pub outliving : List (OutlivesPredicate Key (TyKey Key))
 
@@ -280,12 +275,15 @@ module _ {Key Id Name : Type 0} where
     pub not_larger : weight q.store x + weight q.store y ≤ weight r.store a + weight r.store b
 
   -- A step to another pair that is to be related at a variance, for one of the budget, where something could be
-  -- instantiated. What was asked about is read as two terms. When the pair is related, the left term is related with
-  -- the answer.
+  -- instantiated. What was asked about is read as two terms; where exactness is promised, these lose and gain no
+  -- solution either. When the pair is related, the left term is related with the answer.
   pub record LeadsAgain (M : Manners) (r q : State Key Id Name) (added : List Goal)
       (a b read_left read_right : Tree) (v : Variance) (x y answer : Tree) : Type 0 where
     pub leads : Leads r q added a b (xform r.ambient v) x y
     pub read_leads : Leads r q added read_left read_right (xform r.ambient v) x y
+    pub read_exactly : (M r.kept.settings).is_exact → r.ambient ≡ Invariant →
+        IsFirstOrderPair r.store read_left read_right → IsFirstOrderPair q.store x y ×
+        ExactStep r.store q.store read_left read_right x y
     pub read_asked : Asked M q r.ambient read_left read_right
     pub asked : Asked M q (xform r.ambient v) x y
     pub answers : CarriesOver (items_in q) q.kept.environment q.store q.goals (at (xform r.ambient v)) x y
@@ -322,6 +320,15 @@ module _ {Key Id Name : Type 0} where
     pub exact : (M r.kept.settings).is_exact → r.ambient ≡ Invariant → IsFirstOrderPair r.store a b →
         ExactVerdict r q a b tree result
     pub full : StaysFullFor r.store q.store a b
+
+  -- What is known of two terms that were related at a variance: what is recorded and registered relates them; where
+  -- exactness is promised, of first-order terms and records at invariance, each solution up to erasure unifies them;
+  -- and where that is promised, they agree.
+  pub record Shown (M : Manners) (r : State Key Id Name) (v : Variance) (a b : Tree) : Type 0 where
+    pub relates : Relates (items_in r) r.store r.goals r.kept.environment v a b
+    pub unifies : (M r.kept.settings).is_exact → v ≡ Invariant → IsFirstOrderPair r.store a b → (s : Assign) →
+        IsErasedSolution r.store s → Unifies s a b
+    pub agrees : (M r.kept.settings).relates_agreeing → Agree (items_in r) (at v) a b
 
   -- A fault is want of memory.
   abbrev pub OnlyMemory : {X : Type 0} → Result X (RelateFault Key Id Name) → Type 0

@@ -14,6 +14,7 @@ pub mod StoreLaws
 pub mod Bound
 pub mod Covered
 pub mod Measures
+pub mod Settings
 pub mod Parts
 pub mod OneUniverse
 pub mod Lawful

@@ -1,5 +1,5 @@
 -- What each call of a lawful context does to what is recorded.
-use Rattle.std.specs.Prelude.{◌≡◌, ◌⊎◌, ℕ, suc, ◌<◌, ◌≤◌, min, List, [], ◌∷◌, ◌++◌, map, length}
+use Rattle.std.specs.Prelude.{◌≡◌, ◌⊎◌, ℕ, suc, ◌<◌, ◌≤◌, min, List, [], ◌∷◌, ◌++◌, map, length, IsTrue}
 use Rattle.term_enums.specs.declared.Variance.{Variance}
 use Rattle.term_enums.specs.declared.Variance.TheVariants.{Invariant}
 use Rattle.relation_terms.specs.Heads.{BoundKind, bound_sort, VarKind, int_var, float_var, var_sort, Head, Leaf}
@@ -156,6 +156,12 @@ pub record ChangesNothing (before after : Store) : Type 0 where
   pub same_constraints : after.constraints ≡ before.constraints
   pub universe_stands : before.universe ≤ after.universe
   pub same_budget : after.budget ≡ before.budget
+
+-- That an error was met was recorded, and nothing else was.
+pub record Taints (before after : Store) : Type 0 where
+  pub nothing_else : ChangesNothing before after
+  pub same_universe : after.universe ≡ before.universe
+  pub tainted : IsTrue after.tainted
 
 -- A type for a kind of number variables.
 abbrev pub IsNumberFor : VarKind → Tree → Type 0

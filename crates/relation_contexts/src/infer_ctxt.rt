@@ -1,5 +1,5 @@
 //! Inference contexts, by what each of their calls does.
-ghost use Rattle.std.specs.Prelude.{◌≡◌, ◌≢◌, ◌≤◌, ℕ, IsTrue, length};
+ghost use Rattle.std.specs.Prelude.{◌≡◌, ◌≢◌, ◌≤◌, ◌↔◌, ℕ, IsTrue, length};
 ghost use Rattle.std.specs.Borrow.{sem, Lends};
 ghost use Rattle.term_enums.specs.declared.Variance.TheVariants.{Bivariant};
 ghost use Rattle.relation_terms.specs.declared.terms.ty_kind.IntVarValue.TheVariants.{Unknown};
@@ -9,6 +9,8 @@ ghost use Rattle.relation_terms.specs.Trees.{leaf, known};
 ghost use Rattle.relation_contexts.specs.Stores.{IsSound, IsMade, IsTermIn};
 ghost use Rattle.relation_contexts.specs.Contexts.{Context, KnowsTy, KnowsConst, HasTy, HasConst, HasRegion};
 ghost use Rattle.relation_contexts.specs.Covered.{IsCovered};
+ghost use Rattle.relation_contexts.specs.Settings.{in_coherence};
+ghost use Rattle.relation_contexts.specs.Steps.{Taints};
 ghost use Rattle.relation_contexts.specs.Generalising.{NumbersNameNothing};
 ghost use Rattle.relation_contexts.specs.Resolving.{IsShallow, IsShallowTy, IsShallowConst};
 ghost use Rattle.relation_contexts.specs.NumberValues.{int_value_tree, float_value_tree};
@@ -17,7 +19,7 @@ ghost use Rattle.relation_contexts.specs.ContextCalls.{OnlyLearns, EntersNext, E
 ghost use Rattle.relation_contexts.specs.ContextCalls.{ConstrainsOutlives};
 ghost use Rattle.relation_contexts.specs.ContextCalls.{ConstrainsEqual, IsNotVariable, BindsTy, BindsConst};
 ghost use Rattle.relation_contexts.specs.ContextCalls.{HasUniverse, ComesTo, JoinsRoots, Registers, HasCoveredBindings};
-ghost use Rattle.relation_contexts.specs.ContextCalls.{KeepsSolver, KeepsMarks, MarksNew};
+ghost use Rattle.relation_contexts.specs.ContextCalls.{KeepsSetup, KeepsMarks, MarksNew};
 ghost use Rattle.relation_contexts.specs.Bound.{BindsByList};
 ghost use Rattle.relation_contexts.specs.Binders.{binder_tree, EntersBinderOf, InstantiatesBinderOf};
 
@@ -26,8 +28,9 @@ use relation_folds::error::RelateResult;
 use relation_folds::fold::TypeFoldable;
 use relation_folds::visit::TypeVisitable;
 use relation_terms::terms::{
-    Binder, Const, ConstVid, FloatVarValue, FloatVid, IntVarValue, IntVid, Interner, Keys,
-    OutOfMemory, Region, RegionVid, Span, Ty, TyVid, UniverseIndex, Variance,
+    Binder, Const, ConstVid, ErrorGuaranteed, FloatVarValue, FloatVid, IntVarValue, IntVid,
+    Interner, Keys, LocalDefIdsKey, OutOfMemory, Region, RegionVid, Span, Ty, TyVid, UniverseIndex,
+    Variance,
 };
 
 /// A binder of an interner over what stands for a tree.
@@ -38,6 +41,48 @@ pub type BinderOf<I, T> = Binder<<I as Keys>::Key, T>;
 pub enum VisibleForLeakCheck {
     Yes,
     No,
+}
+
+/// What a context types: it says which opaque types may be looked into, and whether one may still be left open.
+///
+/// The lists are of the opaque types that a body defines, and in analysis of its coroutines too. Upstream it can't be
+/// compared, so that who asks for one mode has to think of each; here the hash asks for that.
+#[derive(Clone, Copy, PartialEq, Eq, Hash)]
+pub enum TypingMode<X> {
+    /// Impls are checked for overlap: nothing is told apart that may be one.
+    Coherence,
+    /// Items are checked, and the types of a body are inferred.
+    Analysis {
+        defining_opaque_types_and_generators: LocalDefIdsKey<X>,
+    },
+    /// The regions of a body are checked.
+    Borrowck {
+        defining_opaque_types: LocalDefIdsKey<X>,
+    },
+    /// A body is looked at whose regions were checked.
+    PostBorrowckAnalysis {
+        defined_opaque_types: LocalDefIdsKey<X>,
+    },
+    /// After analysis: all opaque types are looked into.
+    PostAnalysis,
+    /// Any mode but that of coherence: no answer may hang on which.
+    ErasedNotCoherence,
+}
+
+impl<X> TypingMode<X> {
+    /// Whether it is the mode of coherence.
+    pub fn is_coherence(&self) -> bool
+        ensures { result ≡ in_coherence self.now }
+    {
+        matches!(self, TypingMode::Coherence)
+    }
+
+    /// Whether it was left open which mode it is.
+    pub fn is_erased_not_coherence(&self) -> bool
+        ensures { IsTrue result ↔ (self.now ≡ TypingMode.ErasedNotCoherence) }
+    {
+        matches!(self, TypingMode::ErasedNotCoherence)
+    }
 }
 
 /// An inference context: an interner, and what is recorded of variables and regions.
@@ -73,7 +118,11 @@ pub trait InferCtxtLike {
 
     /// Whether the next trait solver is on, as it is everywhere but in parts of the compiler.
     fn next_trait_solver(&self) -> bool
-        ensures { result ≡ (state self.now).is_next_solver };
+        ensures { result ≡ (state self.now).setup.is_next_solver };
+
+    /// The typing mode, as it is also where it was left open.
+    fn typing_mode_raw(&self) -> TypingMode<<Self::Interner as Keys>::Key>
+        ensures { result ≡ (state self.now).setup.typing_mode };
 
     /// The current universe.
     fn universe(&self) -> UniverseIndex
@@ -391,9 +440,16 @@ pub trait InferCtxtLike {
         ensures meaning { (state self.new).meaning ≡ (state self.old).meaning }
         ensures lawful { (state self.new).lawful }
         ensures same_record { (state self.new).store ≡ (state self.old).store }
-        ensures solver { KeepsSolver (state self.old) (state self.new) }
+        ensures setup { KeepsSetup (state self.old) (state self.new) }
         ensures marks { KeepsMarks (state self.old) (state self.new) }
         ensures registers { Registers (state self.old).outliving (state self.new).outliving ty.now r.now result };
+
+    /// Records that an error was met. Nothing else is.
+    fn set_tainted_by_errors(&mut self, e: ErrorGuaranteed)
+        requires { (state self.old).lawful }
+        ensures stands { Stands (state self.old) (state self.new) }
+        ensures taints { Taints (state self.old).store (state self.new).store }
+        ensures marks { KeepsMarks (state self.old) (state self.new) };
 
     // Its keys mean what they mean to the interner.
     ghost reads: { (c : Self) → (state c).meaning ≡ Self.Interner.meaning (interner c) };

@@ -22,6 +22,7 @@ module _ {Key Id Name : Type 0} (m : Meaning Key Id Name) where
     pub keys : (j : VarKind) → (j ≡ k → ⊥) → keys_in m y j ≡ keys_in m x j
     pub constraints : (store_of m y).constraints ≡ (store_of m x).constraints
     pub universe : (store_of m y).universe ≡ (store_of m x).universe
+    pub tainted : (store_of m y).tainted ≡ (store_of m x).tainted
     pub numbers : map m.ty y.numbers.items ≡ map m.ty x.numbers.items
     pub sub_roots : y.sub_roots.items ≡ x.sub_roots.items
 
@@ -48,7 +49,7 @@ module _ {Key Id Name : Type 0} (m : Meaning Key Id Name) where
     types_keys region_var o = refl
 
     pub types_beside : Beside x (record x { types = ts; budget = b }) type_var
-    types_beside = record { entries = types_entries; universes = types_universes; keys = types_keys; constraints = refl; universe = refl; numbers = refl; sub_roots = refl }
+    types_beside = record { entries = types_entries; universes = types_universes; keys = types_keys; constraints = refl; universe = refl; tainted = refl; numbers = refl; sub_roots = refl }
 
   module _ (x : InferCtxtInner Key) (ts : Vec (Variable (TyKey Key))) (b : ℕ) where
     ints_entries : (j : VarKind) → (j ≡ int_var → ⊥) → (store_of m (record x { ints = ts; budget = b })).entries j ≡ (store_of m x).entries j
@@ -73,7 +74,7 @@ module _ {Key Id Name : Type 0} (m : Meaning Key Id Name) where
     ints_keys region_var o = refl
 
     pub ints_beside : Beside x (record x { ints = ts; budget = b }) int_var
-    ints_beside = record { entries = ints_entries; universes = ints_universes; keys = ints_keys; constraints = refl; universe = refl; numbers = refl; sub_roots = refl }
+    ints_beside = record { entries = ints_entries; universes = ints_universes; keys = ints_keys; constraints = refl; universe = refl; tainted = refl; numbers = refl; sub_roots = refl }
 
   module _ (x : InferCtxtInner Key) (ts : Vec (Variable (TyKey Key))) (b : ℕ) where
     floats_entries : (j : VarKind) → (j ≡ float_var → ⊥) → (store_of m (record x { floats = ts; budget = b })).entries j ≡ (store_of m x).entries j
@@ -98,7 +99,7 @@ module _ {Key Id Name : Type 0} (m : Meaning Key Id Name) where
     floats_keys region_var o = refl
 
     pub floats_beside : Beside x (record x { floats = ts; budget = b }) float_var
-    floats_beside = record { entries = floats_entries; universes = floats_universes; keys = floats_keys; constraints = refl; universe = refl; numbers = refl; sub_roots = refl }
+    floats_beside = record { entries = floats_entries; universes = floats_universes; keys = floats_keys; constraints = refl; universe = refl; tainted = refl; numbers = refl; sub_roots = refl }
 
   module _ (x : InferCtxtInner Key) (ts : Vec (Variable (ConstKey Key))) (b : ℕ) where
     consts_entries : (j : VarKind) → (j ≡ const_var → ⊥) → (store_of m (record x { consts = ts; budget = b })).entries j ≡ (store_of m x).entries j
@@ -123,7 +124,7 @@ module _ {Key Id Name : Type 0} (m : Meaning Key Id Name) where
     consts_keys region_var o = refl
 
     pub consts_beside : Beside x (record x { consts = ts; budget = b }) const_var
-    consts_beside = record { entries = consts_entries; universes = consts_universes; keys = consts_keys; constraints = refl; universe = refl; numbers = refl; sub_roots = refl }
+    consts_beside = record { entries = consts_entries; universes = consts_universes; keys = consts_keys; constraints = refl; universe = refl; tainted = refl; numbers = refl; sub_roots = refl }
 
   module _ (x : InferCtxtInner Key) (ts : Vec (Variable (RegionKey Key))) (b : ℕ) where
     regions_entries : (j : VarKind) → (j ≡ region_var → ⊥) → (store_of m (record x { regions = ts; budget = b })).entries j ≡ (store_of m x).entries j
@@ -148,7 +149,7 @@ module _ {Key Id Name : Type 0} (m : Meaning Key Id Name) where
     regions_keys region_var o = absurd (o refl)
 
     pub regions_beside : Beside x (record x { regions = ts; budget = b }) region_var
-    regions_beside = record { entries = regions_entries; universes = regions_universes; keys = regions_keys; constraints = refl; universe = refl; numbers = refl; sub_roots = refl }
+    regions_beside = record { entries = regions_entries; universes = regions_universes; keys = regions_keys; constraints = refl; universe = refl; tainted = refl; numbers = refl; sub_roots = refl }
 
   -- So the context is lawful where its table is.
   pub lawful_beside : (x y : InferCtxtInner Key) (k : VarKind) → Beside x y k →

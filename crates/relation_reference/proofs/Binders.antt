@@ -185,11 +185,11 @@ module _ {Key Id Name : Type 0} (c d : Context Key Id Name) where
 -- What stands beside variables and constraints stands through two calls, and where nothing happens.
 module _ {Key Id Name : Type 0} where
   pub rest_itself : (c : Context Key Id Name) → KeepsRest c c
-  rest_itself c = record { solver = refl; outliving = refl; marks = λ n. refl }
+  rest_itself c = record { setup = refl; outliving = refl; marks = λ n. refl }
 
   pub rest_on : {c d e : Context Key Id Name} → KeepsRest c d → KeepsRest d e → KeepsRest c e
   rest_on p q = record {
-    solver = q.solver ∙ p.solver;
+    setup = q.setup ∙ p.setup;
     outliving = q.outliving ∙ p.outliving;
     marks = λ n. q.marks n ∙ p.marks n;
   }

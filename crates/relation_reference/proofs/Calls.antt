@@ -4,7 +4,7 @@ use Rattle.relation_terms.specs.Heads.{VarKind, variable}
 use Rattle.relation_terms.specs.Trees.{Tree, leaf, known}
 use Rattle.relation_terms.specs.Meaning.{Meaning}
 use Rattle.relation_contexts.specs.Contexts.{Context}
-use Rattle.relation_contexts.specs.ContextCalls.{Reads, MakesNext, EquatesTwo, BindsNumber, Constrains, Stands, KeepsSolver, KeepsOutliving}
+use Rattle.relation_contexts.specs.ContextCalls.{Reads, MakesNext, EquatesTwo, BindsNumber, Constrains, Stands, KeepsSetup, KeepsOutliving}
 use Rattle.relation_contexts.specs.Errors.{IsReadAs}
 use Rattle.relation_contexts.specs.Steps.{Equates, InstantiatesNumber, MakesVariable, AddsConstraint}
 use Rattle.relation_contexts.specs.Stores.{Constraint}
@@ -51,13 +51,13 @@ module _ {I Key Id Name Span : Type 0} (meaning : I → Meaning Key Id Name) (p 
     constrains c (Err f) adds refused = back (λ d. d.store ≡ store_in meaning p) refused
 
     module _ (l : IsLawful (meaning p.interner) q.inner)
-        (solver : KeepsSolver (context_in meaning p) (context_in meaning q))
+        (setup : KeepsSetup (context_in meaning p) (context_in meaning q))
         (outliving : KeepsOutliving (context_in meaning p) (context_in meaning q)) where
       pub stood : Stands (context_in meaning p) (context_in meaning q)
       stood = record {
         meaning = ap meaning same;
         lawful = back (λ d. d.lawful) l;
-        solver = solver;
+        setup = setup;
         outliving = outliving;
       }
 

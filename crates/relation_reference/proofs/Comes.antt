@@ -5,7 +5,7 @@ use Rattle.relation_terms.specs.Meaning.{Meaning, Extends}
 use Rattle.relation_contexts.specs.ContextCalls.{Grows, ComesTo, KeepsMarks}
 use Rattle.relation_reference.specs.declared.context.variables.RefCtxt.{RefCtxt}
 use Rattle.relation_reference.specs.SubRoots.{root_in}
-use Rattle.relation_reference.specs.Tables.{store_of, IsLawful}
+use Rattle.relation_reference.specs.Tables.{setup_in, store_of, IsLawful}
 use Rattle.relation_reference.specs.RefCtxt.{store_in, context_in, resolved_in}
 use Rattle.relation_reference.proofs.Grows.{store_grows, lawful_grows}
 
@@ -20,7 +20,7 @@ module _ {I Key Id Name Span : Type 0} (meaning : I → Meaning Key Id Name) (p 
   grows = record {
     extends = grown;
     lawful = subst (IsLawful (meaning q.interner)) (sym same) (lawful_grows grown p.inner l);
-    solver = ap (λ x. x.next_solver) same;
+    setup = ap setup_in same;
     outliving = ap (λ x. x.ty_outlives.items) same;
   }
 

@@ -105,7 +105,7 @@ module _ {Key Id Name : Type 0} {m n : Meaning Key Id Name} (e : Extends m n) (x
     universes = by_kind (universes_of x.types.items) (universes_of x.ints.items) (universes_of x.floats.items) (universes_of x.consts.items) (universes_of x.regions.items);
     universe = (x.universe).0;
     constraints = cs;
-    tainted = false;
+    tainted = x.tainted;
     budget = x.budget;
   }
 

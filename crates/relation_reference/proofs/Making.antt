@@ -1,5 +1,5 @@
 -- New variables, new constraints, and growths that were refused.
-use Rattle.std.proofs.Common.{◌≡◌, ℕ, zero, suc, ◌+◌, ◌<◌, ◌≤◌, refl, sym, ap, ap₂, ◌∙◌, arith, subst, List, [], ◌∷◌, ◌++◌, length, map, get_or, length-append, false, Result, Ok, Err, OnErr}
+use Rattle.std.proofs.Common.{◌≡◌, ℕ, zero, suc, ◌+◌, ◌<◌, ◌≤◌, refl, sym, ap, ap₂, ◌∙◌, arith, subst, List, [], ◌∷◌, ◌++◌, length, map, get_or, length-append, Bool, Result, Ok, Err, OnErr}
 use Rattle.std.proofs.lemmas.List.{map-append, length-map, get_or_append_left}
 use Rattle.std.proofs.Math.Seq.{get_or-append_seam}
 use native.Mathlib.Decide.{ℕ_discrete}
@@ -38,6 +38,7 @@ pub record SameTables {Key : Type 0} (x y : InferCtxtInner Key) : Type 0 where
   pub constraints : y.constraints.items ≡ x.constraints.items
   pub universe : y.universe ≡ x.universe
   pub budget : y.budget ≡ x.budget
+  pub tainted : y.tainted ≡ x.tainted
   pub numbers : y.numbers.items ≡ x.numbers.items
   pub sub_roots : y.sub_roots.items ≡ x.sub_roots.items
 
@@ -48,23 +49,25 @@ module _ {Key Id Name : Type 0} (m : Meaning Key Id Name) (x y : InferCtxtInner 
     universes = by_kind (universes_of ts) (universes_of is) (universes_of fs) (universes_of cs) (universes_of rs);
     universe = (x.universe).0;
     constraints = map (constraint_of m) x.constraints.items;
-    tainted = false;
+    tainted = x.tainted;
     budget = x.budget;
   }
 
-  of_rest : List (RegionConstraint Key) → UniverseIndex → ℕ → Store
-  of_rest qs u b = record {
+  of_rest : List (RegionConstraint Key) → UniverseIndex → Bool → ℕ → Store
+  of_rest qs u t b = record {
     entries = (store_of m y).entries;
     universes = (store_of m y).universes;
     universe = u.0;
     constraints = map (constraint_of m) qs;
-    tainted = false;
+    tainted = t;
     budget = b;
   }
 
   pub same_store : store_of m y ≡ store_of m x
   unfolding of_variables of_rest
-  same_store = ap (λ qs. of_rest qs y.universe y.budget) s.constraints ∙ ap₂ (of_rest x.constraints.items) s.universe s.budget
+  same_store = ap (λ qs. of_rest qs y.universe y.tainted y.budget) s.constraints
+      ∙ ap (λ u. of_rest x.constraints.items u y.tainted y.budget) s.universe
+      ∙ ap₂ (of_rest x.constraints.items x.universe) s.tainted s.budget
       ∙ ap (λ ts. of_variables ts y.ints.items y.floats.items y.consts.items y.regions.items) s.types
       ∙ ap (λ is. of_variables x.types.items is y.floats.items y.consts.items y.regions.items) s.ints
       ∙ ap (λ fs. of_variables x.types.items x.ints.items fs y.consts.items y.regions.items) s.floats
@@ -138,7 +141,7 @@ module _ {Key Id Name : Type 0} {m n : Meaning Key Id Name} (e : Extends m n) (x
     other_universes = b.universes;
     same_constraints = b.constraints;
     same_universe = b.universe;
-    same_taint = refl;
+    same_taint = b.tainted;
     same_budget = budget;
   }
 

@@ -13,7 +13,7 @@ use Rattle.relation_reference.specs.declared.context.variables.RefCtxt.{RefCtxt}
 use Rattle.relation_reference.specs.declared.context.inner.Variable.{Variable}
 use Rattle.relation_reference.specs.Variables.{keys_of}
 use Rattle.relation_reference.specs.SubRoots.{root_in}
-use Rattle.relation_reference.specs.Tables.{store_of, IsLawful}
+use Rattle.relation_reference.specs.Tables.{setup_in, store_of, IsLawful}
 use Rattle.relation_reference.specs.RefCtxt.{store_in, context_in}
 use Rattle.relation_reference.proofs.Grows.{store_grows}
 
@@ -104,7 +104,7 @@ module _ {I Key Id Name Span : Type 0} (meaning : I → Meaning Key Id Name) whe
       length ((store_in meaning q).entries type_var) ≡ length ((store_in meaning p).entries type_var) →
       KeepsRest (context_in meaning p) (context_in meaning q) → MarksNew (context_in meaning p) (context_in meaning q)
   marks_kept p q l long r = record {
-    solver = r.solver;
+    setup = r.setup;
     outliving = r.outliving;
     marks = λ n h. r.marks n;
     related = λ n h.
@@ -118,7 +118,7 @@ module _ {I Key Id Name Span : Type 0} (meaning : I → Meaning Key Id Name) whe
 
   pub marks_none : (p : RefCtxt I Key Id Name Span) → IsLawful (meaning p.interner) p.inner →
       MarksNew (context_in meaning p) (context_in meaning p)
-  marks_none p l = marks_kept p p l refl (record { solver = refl; outliving = refl; marks = λ n. refl })
+  marks_none p l = marks_kept p p l refl (record { setup = refl; outliving = refl; marks = λ n. refl })
 
   -- One after another.
   pub marks_then : (p q r : RefCtxt I Key Id Name Span) → IsLawful (meaning r.interner) r.inner →
@@ -126,7 +126,7 @@ module _ {I Key Id Name Span : Type 0} (meaning : I → Meaning Key Id Name) whe
       MarksNew (context_in meaning p) (context_in meaning q) → MarksNew (context_in meaning q) (context_in meaning r) →
       MarksNew (context_in meaning p) (context_in meaning r)
   marks_then p q r l grew a b = record {
-    solver = b.solver ∙ a.solver;
+    setup = b.setup ∙ a.setup;
     outliving = b.outliving ∙ a.outliving;
     marks = λ n h. b.marks n (grew n h) ∙ a.marks n h;
     related = λ n h.
@@ -141,7 +141,7 @@ module _ {I Key Id Name Span : Type 0} (meaning : I → Meaning Key Id Name) whe
       store_in meaning r ≡ store_in meaning q → MarksNew (context_in meaning p) (context_in meaning q) →
       MarksNew (context_in meaning p) (context_in meaning r)
   marks_grow p q r same record_same a = record {
-    solver = ap (λ x. x.next_solver) same ∙ a.solver;
+    setup = ap setup_in same ∙ a.setup;
     outliving = ap (λ x. x.ty_outlives.items) same ∙ a.outliving;
     marks = λ n h. ap (λ x. root_in x.sub_roots.items n) same ∙ a.marks n h;
     related = λ n h. subst (λ i. IsMade (store_in meaning p) type_var i)
@@ -170,7 +170,7 @@ module _ {I Key Id Name Span : Type 0} (meaning : I → Meaning Key Id Name) whe
     pub joined_marks : MarksNew (context_in meaning p)
         (context_in meaning (record q { inner = record q.inner { sub_roots = rs } }))
     joined_marks = record {
-      solver = rest.solver;
+      setup = rest.setup;
       outliving = rest.outliving;
       marks = mark_stands (root_in p.inner.sub_roots.items) (root_in q.inner.sub_roots.items) (root_in rs.items)
           l.sub_rooted.rooted.below count of own made rest.marks joins;
@@ -184,7 +184,7 @@ module _ {I Key Id Name Span : Type 0} (meaning : I → Meaning Key Id Name) whe
   -- Of what was resolved before, and bound after.
   module _ (p w z r : RefCtxt I Key Id Name Span) (e : Extends (meaning p.interner) (meaning w.interner))
       (same : w.inner ≡ p.inner) (l : IsLawful (meaning p.interner) p.inner)
-      (solver : r.inner.next_solver ≡ z.inner.next_solver)
+      (setup : setup_in r.inner ≡ setup_in z.inner)
       (outliving : r.inner.ty_outlives.items ≡ z.inner.ty_outlives.items)
       (roots : r.inner.sub_roots.items ≡ z.inner.sub_roots.items)
       (back : (n : ℕ) → IsMade (store_in meaning r) type_var n → IsMade (store_in meaning z) type_var n) where
@@ -194,7 +194,7 @@ module _ {I Key Id Name Span : Type 0} (meaning : I → Meaning Key Id Name) whe
     pub marks_bound : MarksNew (context_in meaning w) (context_in meaning z) →
         MarksNew (context_in meaning p) (context_in meaning r)
     marks_bound a = record {
-      solver = solver ∙ a.solver ∙ ap (λ x. x.next_solver) same;
+      setup = setup ∙ a.setup ∙ ap setup_in same;
       outliving = outliving ∙ a.outliving ∙ ap (λ x. x.ty_outlives.items) same;
       marks = λ n h. ap (λ rs. root_in rs n) roots ∙ a.marks n (subst (λ st. IsMade st type_var n) (sym here) h)
           ∙ ap (λ x. root_in x.sub_roots.items n) same;

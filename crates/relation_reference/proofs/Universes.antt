@@ -8,7 +8,7 @@ use Rattle.relation_contexts.proofs.StoreCalls.{nothing_is_seen}
 use Rattle.relation_reference.specs.declared.context.inner.InferCtxtInner.{InferCtxtInner}
 use Rattle.relation_reference.specs.declared.context.variables.RefCtxt.{RefCtxt}
 use Rattle.relation_reference.specs.SubRoots.{root_in}
-use Rattle.relation_reference.specs.Tables.{store_of, context_of, IsLawful}
+use Rattle.relation_reference.specs.Tables.{setup_in, store_of, context_of, IsLawful}
 use Rattle.relation_reference.specs.RefCtxt.{context_in}
 
 module _ {Key Id Name : Type 0} (m : Meaning Key Id Name) (x : InferCtxtInner Key) (u : UniverseIndex) (above : (x.universe).0 < u.0) where
@@ -52,12 +52,12 @@ module _ {I Key Id Name Span : Type 0} (meaning : I → Meaning Key Id Name) (p 
   pub universe_rest : {F : Type 0} (r : Result UniverseIndex F) → IfOk r (λ u. q.inner ≡ record p.inner { universe = u }) →
       OnErr r (q.inner ≡ p.inner) → KeepsRest (context_in meaning p) (context_in meaning q)
   universe_rest (Ok u) is refused = record {
-    solver = ap (λ x. x.next_solver) is;
+    setup = ap setup_in is;
     outliving = ap (λ x. x.ty_outlives.items) is;
     marks = λ n. ap (λ x. root_in x.sub_roots.items n) is;
   }
   universe_rest (Err f) is refused = record {
-    solver = ap (λ x. x.next_solver) refused;
+    setup = ap setup_in refused;
     outliving = ap (λ x. x.ty_outlives.items) refused;
     marks = λ n. ap (λ x. root_in x.sub_roots.items n) refused;
   }

@@ -270,7 +270,7 @@ module _ (before after : Store) (k : VarKind) (n : ℕ) (t : Tree) (o : OtherKin
 -- The same of the tables of a context.
 module _ {Key Id Name : Type 0} (m : Meaning Key Id Name) (x y : InferCtxtInner Key) (k : VarKind) (b : Beside m x y k) where
   abbrev others : OtherKinds (store_of m x) (store_of m y) k
-  others = record { entries = b.entries; universes = b.universes; constraints = b.constraints; universe = b.universe; taint = refl }
+  others = record { entries = b.entries; universes = b.universes; constraints = b.constraints; universe = b.universe; taint = b.tainted }
 
   module _ (keys : keys_in m y k ≡ keys_in m x k) (l : IsLawful m x) where
     written_lawful : (n : ℕ) (e : Entry) → WritesEntry (store_of m x) (store_of m y) k n e → ((t : Tree) → e ≡ bound_to t → MayBeBoundTo k t) → IsSound (store_of m y) → IsRooted (store_of m y) → (IsNumberKind k → (i : ℕ) → universe_of (store_of m y) k i ≡ 0) → IsLawful m y

@@ -1,5 +1,5 @@
 -- What contracts see of a `RefCtxt`, by what the keys of its interner mean.
-use Rattle.std.specs.Prelude.{◌≡◌, ℕ, List, []}
+use Rattle.std.specs.Prelude.{◌≡◌, ℕ, List, [], false}
 use Rattle.relation_terms.specs.declared.predicate.regions.OutlivesPredicate.{OutlivesPredicate}
 use Rattle.relation_terms.specs.declared.terms.keys.TyKey.{TyKey}
 use Rattle.relation_terms.specs.declared.terms.keys.ConstKey.{ConstKey}
@@ -14,7 +14,7 @@ use Rattle.relation_reference.specs.declared.context.inner.InferCtxtInner.{Infer
 use Rattle.relation_reference.specs.SubRoots.{root_in}
 use Rattle.relation_reference.specs.Tables.{store_of, context_of}
 
--- It has no variable, no constraint, and no type that is to outlive a region.
+-- It has no variable, no constraint, and no type that is to outlive a region; and no error was met.
 pub record IsNew {Key : Type 0} (x : InferCtxtInner Key) : Type 0 where
   pub types : x.types.items ≡ []
   pub ints : x.ints.items ≡ []
@@ -24,6 +24,7 @@ pub record IsNew {Key : Type 0} (x : InferCtxtInner Key) : Type 0 where
   pub constraints : x.constraints.items ≡ []
   pub ty_outlives : x.ty_outlives.items ≡ []
   pub sub_roots : x.sub_roots.items ≡ []
+  pub untainted : x.tainted ≡ false
 
 module _ {Key : Type 0} where
   -- The root of each variable among those that are marked as related.

@@ -1,5 +1,5 @@
 -- What the tables of a context mean: the store that they record, and the invariant of a context.
-use Rattle.std.specs.Prelude.{◌≡◌, ◌≢◌, ℕ, ◌<◌, ◌≤◌, false, List, map, length, get_or}
+use Rattle.std.specs.Prelude.{◌≡◌, ◌≢◌, ℕ, ◌<◌, ◌≤◌, List, map, length, get_or}
 use Rattle.relation_terms.specs.Heads.{VarKind, type_var, int_var, float_var, const_var, region_var, variable}
 use Rattle.relation_terms.specs.Trees.{Tree, leaf, nil}
 use Rattle.relation_terms.specs.Meaning.{Meaning}
@@ -9,6 +9,7 @@ use Rattle.relation_contexts.specs.Constraints.{constraint_of}
 use Rattle.relation_contexts.specs.Parts.{IsFormed, IsFormedConst}
 use Rattle.relation_contexts.specs.Covered.{IsCovered}
 use Rattle.relation_contexts.specs.Contexts.{Context}
+use Rattle.relation_contexts.specs.Settings.{Setup}
 use Rattle.relation_contexts.specs.ContextCalls.{HasCoveredBindings}
 use Rattle.relation_reference.specs.declared.context.inner.InferCtxtInner.{InferCtxtInner}
 use Rattle.relation_reference.specs.Variables.{entries_of, universes_of, trees_of}
@@ -38,6 +39,10 @@ IsRooted st = (k : VarKind) (n r p : ℕ) → entry_of st k n ≡ same_as r → 
 abbrev pub IsFilled : Store → Type 0
 IsFilled st = (k : VarKind) (n : ℕ) (t : Tree) → entry_of st k n ≡ bound_to t → MayBeBoundTo k t
 
+-- How the context was made.
+abbrev pub setup_in : {Key : Type 0} → InferCtxtInner Key → Setup Key
+setup_in x = record { is_next_solver = x.next_solver; typing_mode = x.mode }
+
 module _ {Key Id Name : Type 0} (m : Meaning Key Id Name) where
   -- The store that the tables record.
   abbrev pub store_of : InferCtxtInner Key → Store
@@ -48,7 +53,7 @@ module _ {Key Id Name : Type 0} (m : Meaning Key Id Name) where
         (universes_of x.consts.items) (universes_of x.regions.items);
     universe = (x.universe).0;
     constraints = map (constraint_of m) x.constraints.items;
-    tainted = false;
+    tainted = x.tainted;
     budget = x.budget;
   }
 
@@ -89,7 +94,7 @@ module _ {Key Id Name : Type 0} (m : Meaning Key Id Name) where
     meaning = m;
     store = store_of x;
     lawful = IsLawful x;
-    is_next_solver = x.next_solver;
+    setup = setup_in x;
     outliving = x.ty_outlives.items;
     sub_root = root_in x.sub_roots.items;
   }

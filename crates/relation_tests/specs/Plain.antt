@@ -7,13 +7,20 @@ use Rattle.relation_terms.specs.Trees.{leaf, node, nil, Assign}
 use Rattle.relation_terms.specs.Meaning.{Meaning}
 use Rattle.relation_contexts.specs.Stores.{Store, IsSound}
 use Rattle.relation_contexts.specs.Constraints.{constraint_of}
+use Rattle.relation_contexts.specs.declared.infer_ctxt.TypingMode.TheVariants.{PostAnalysis}
 use Rattle.relation_contexts.specs.declared.relate.StructurallyRelateAliases.TheVariants.{Yes}
-use Rattle.relation_contexts.specs.Lawful.{State, Kept, Settings, Manners}
+use Rattle.relation_contexts.specs.Lawful.{State, Kept, Manners}
+use Rattle.relation_contexts.specs.Settings.{Settings}
 
 -- Aliases are related by their items and arguments, arguments of items at declared variances at invariance too, and no
 -- goal is left to a solver.
 abbrev pub plain_settings : Settings
-plain_settings = record { structurally_relate_aliases = Yes; next_solver = true; declared_at_invariance = true }
+plain_settings = record {
+  structurally_relate_aliases = Yes;
+  next_solver = true;
+  coherence = false;
+  declared_at_invariance = true;
+}
 
 module _ {Key Id Name : Type 0} (m : Meaning Key Id Name) where
   -- The store without variables that has recorded these.
@@ -32,6 +39,7 @@ module _ {Key Id Name : Type 0} (m : Meaning Key Id Name) where
   plain_kept = record {
     environment = node environment nil;
     settings = plain_settings;
+    mode = PostAnalysis;
     reference = 0;
     outliving = [];
   }

@@ -8,13 +8,13 @@ ghost use Rattle.relation_contexts.specs.Contexts.{KnowsTy};
 ghost use Rattle.relation_contexts.specs.ContextCalls.{IsUnresolved, Grows};
 
 use reference_interner::RefInterner;
-use relation_contexts::infer_ctxt::InferCtxtLike;
+use relation_contexts::infer_ctxt::{InferCtxtLike, TypingMode};
 use relation_folds::error::RelateResult;
 use relation_reference::context::RefCtxt;
 use relation_terms::predicate::OutlivesPredicate;
 use relation_terms::terms::{
-    ConstVid, FloatVid, IntVid, Interner, Keys, OutOfMemory, Region, RegionKind, RegionVid, Ty,
-    TyKind, TyVid, UniverseIndex, Variance,
+    ConstVid, ErrorGuaranteed, FloatVid, IntVid, Interner, Keys, OutOfMemory, Region, RegionKind,
+    RegionVid, Ty, TyKind, TyVid, UniverseIndex, Variance,
 };
 use std::test::Fail;
 use type_relations::relate::StructurallyRelateAliases;
@@ -25,9 +25,28 @@ const FIRST: Option<UniverseIndex> = Some(UniverseIndex(0));
 // A name of a context's interner.
 type NameOf<C> = <<C as InferCtxtLike>::Interner as Keys>::Name;
 
-// Whether the next solver is on in a context, and three instantiations may be made.
+// Whether the next solver is on in a context, its mode is that of coherence, and three instantiations may be made.
 fn reads_settings<C: InferCtxtLike>(ctx: &C) -> bool {
-    ctx.next_trait_solver() && ctx.budget_left() == 3
+    let mode = ctx.typing_mode_raw();
+    let coherence = mode.is_coherence() && !mode.is_erased_not_coherence();
+    ctx.next_trait_solver() && coherence && ctx.budget_left() == 3
+}
+
+// Meets an error in a context.
+fn meets_an_error<C: InferCtxtLike>(ctx: &mut C)
+    requires { (C.state ctx.old).lawful }
+{
+    ctx.set_tainted_by_errors(ErrorGuaranteed);
+}
+
+// Whether a context is tainted just where an error was met.
+fn is_tainted_by_errors<I: Interner + Drop>(cx: I) -> Result<bool, OutOfMemory> {
+    let mut ctx = RefCtxt::new(cx, TypingMode::PostAnalysis, false, 0)?;
+    let before = ctx.tainted();
+    meets_an_error(&mut ctx);
+    let after = ctx.tainted();
+    let new = ctx.renewed(1);
+    Ok(!before && after && !new.tainted() && !new.typing_mode_raw().is_coherence())
 }
 
 // Whether a context is in the first universe, and in the next one once that was made.
@@ -41,7 +60,7 @@ fn enters_next<C: InferCtxtLike>(ctx: &mut C) -> Result<bool, OutOfMemory>
 
 // Whether a new context is what it was made as, and stays that where it enters a universe.
 fn is_new<I: Interner + Drop>(cx: I) -> Result<bool, OutOfMemory> {
-    let mut ctx = RefCtxt::new(cx, true, 3)?;
+    let mut ctx = RefCtxt::new(cx, TypingMode::Coherence, true, 3)?;
     let entered = enters_next(&mut ctx)?;
     Ok(entered && reads_settings(&ctx))
 }
@@ -98,11 +117,11 @@ fn has_new_region<C: InferCtxtLike>(ctx: &mut C) -> Result<bool, OutOfMemory>
 
 // Whether new variables of these kinds are like that.
 fn has_new_variables<I: Interner + Drop>(cx: I) -> Result<bool, OutOfMemory> {
-    let mut ctx = RefCtxt::new(cx, true, 0)?;
+    let mut ctx = RefCtxt::new(cx, TypingMode::Coherence, true, 0)?;
     let tys = has_new_tys(&mut ctx)?;
-    let mut ctx = RefCtxt::new(ctx.interner, true, 0)?;
+    let mut ctx = RefCtxt::new(ctx.interner, TypingMode::Coherence, true, 0)?;
     let constant = has_new_const(&mut ctx)?;
-    let mut ctx = RefCtxt::new(ctx.interner, true, 0)?;
+    let mut ctx = RefCtxt::new(ctx.interner, TypingMode::Coherence, true, 0)?;
     Ok(has_new_region(&mut ctx)? && tys && constant)
 }
 
@@ -154,10 +173,10 @@ fn binds_slice<C: InferCtxtLike>(ctx: &mut C) -> RelateResult<C::Interner, ()>
 
 // Whether a new integer variable is read as itself, and a float variable is.
 fn has_number_variables<I: Interner + Drop>(cx: I) -> Result<bool, OutOfMemory> {
-    let mut ctx = RefCtxt::new(cx, true, 0)?;
+    let mut ctx = RefCtxt::new(cx, TypingMode::Coherence, true, 0)?;
     let int = ctx.next_int_var()?;
     let same = reads_int(&ctx) == int;
-    let mut ctx = RefCtxt::new(ctx.interner, true, 0)?;
+    let mut ctx = RefCtxt::new(ctx.interner, TypingMode::Coherence, true, 0)?;
     let float = ctx.next_float_var()?;
     Ok(same && reads_float(&ctx) == float)
 }
@@ -165,7 +184,7 @@ fn has_number_variables<I: Interner + Drop>(cx: I) -> Result<bool, OutOfMemory> 
 // Whether the variable that takes the place of the second type variable is marked as related to it, and to no other, for
 // one of the budget.
 fn marks_the_new_one<I: Interner + Drop>(cx: I) -> RelateResult<I, bool> {
-    let mut ctx = RefCtxt::new(cx, true, 0)?;
+    let mut ctx = RefCtxt::new(cx, TypingMode::Coherence, true, 0)?;
     ctx.set_budget(2);
     binds_slice(&mut ctx)?;
     Ok(
@@ -206,9 +225,15 @@ fn registers_outlives<C: InferCtxtLike>(
 
 // Whether that is what the context has then.
 fn has_registered<I: Interner + Drop>(cx: I) -> Result<bool, OutOfMemory> {
-    let mut ctx = RefCtxt::new(cx, true, 0)?;
+    let mut ctx = RefCtxt::new(cx, TypingMode::Coherence, true, 0)?;
     let (ty, region) = registers_outlives(&mut ctx)?;
     Ok(ctx.ty_outlives().len() == 1 && ctx.ty_outlives().contains(&OutlivesPredicate(ty, region)))
+}
+
+#[test]
+fn a_context_is_tainted_by_errors(rt: HostRuntime) -> Result<(), Fail> {
+    assert!(rt; is_tainted_by_errors(RefInterner::new(rt.alloc()))?);
+    Ok(())
 }
 
 #[test]

@@ -20,7 +20,7 @@ use relation_terms::terms::{
     Const, GenericArgKind, GenericArgs, Interner, ItemOf, Region, RegionKey, Ty, Variance,
 };
 use type_relations::relate::structural::tys;
-use type_relations::relate::{Step, TypeRelation};
+use type_relations::relate::{HasState, Step, TypeRelation};
 
 /// Terms are related at `ambient`, and what that asks of their regions is in `constraints`.
 #[derive(Drop)]
@@ -89,10 +89,12 @@ fn constraint<X: Copy>(
     }
 }
 
+impl<I: Interner> HasState<I> for PlainRelation<I> {
+    ghost state = { λ r. plain_state (I.meaning r.interner) r.ambient r.constraints.items };
+}
+
 impl<I: Interner> TypeRelation<I> for PlainRelation<I> {
     ghost use Rattle.std.specs.Prelude.{refl};
-
-    ghost state = { λ r. plain_state (I.meaning r.interner) r.ambient r.constraints.items };
 
     ghost interner = { λ r. r.interner };
 

@@ -1,7 +1,7 @@
 -- Steps of a relation over a context: what its keys mean and what is recorded is the context's, and nothing is
 -- registered.
 use Rattle.std.proofs.Common.{◌≡◌, ◌≢◌, ◌⊎◌, ℕ, ◌+◌, refl, sym, ap, ap₂, ◌∙◌, arith, inl, inr, subst, subst₂, List, [], IsTrue}
-use Rattle.std.proofs.Common.{max, min, Ok, Err, true}
+use Rattle.std.proofs.Common.{max, min, Ok, Err, true, false}
 use Rattle.std.proofs.lemmas.List.Elements.{All-nil}
 use Rattle.std.proofs.lemmas.List.{append-nil}
 use Rattle.term_enums.specs.declared.Variance.{Variance}
@@ -18,6 +18,8 @@ use Rattle.relation_folds.specs.declared.error.RelateFault.{RelateFault}
 use Rattle.relation_folds.specs.declared.error.RelateFault.TheVariants.{Unrelated}
 use Rattle.relation_folds.specs.Faults.{KnowsError}
 use Rattle.relation_contexts.specs.declared.relate.Step.TheVariants.{Done, Parts}
+use Rattle.relation_contexts.specs.declared.relate.StructurallyRelateAliases.TheVariants.{No}
+use Rattle.relation_contexts.specs.Settings.{Settings}
 use Rattle.relation_contexts.specs.Relation.{Items, Interpretation, Rel, at, sort_of, same as same_rel}
 use Rattle.relation_contexts.specs.Agreeing.{Agree}
 use Rattle.relation_contexts.proofs.Agreeing.{agree_read, agree_root, agree_root_back, number_sort}
@@ -33,7 +35,7 @@ use Rattle.relation_contexts.specs.Lawful.{RegisteredIn, Passes, Asked, Takes, R
 use Rattle.type_relations.specs.Emitting.{IsOver, WithContext}
 use Rattle.relation_contexts.specs.Contexts.{Context}
 use Rattle.relation_contexts.specs.ContextCalls.{Grows, Stands, HasCoveredBindings}
-use Rattle.type_relations.specs.Solving.{solver_manner, solver_settings}
+use Rattle.type_relations.specs.Solving.{solver_manner}
 use Rattle.relation_contexts.proofs.Trees.{all_leaves}
 use Rattle.relation_contexts.proofs.Going.{later_itself, goes_nowhere}
 use Rattle.relation_contexts.proofs.Full.{full_itself, read_plain}
@@ -59,8 +61,16 @@ standing r m st L = record {
   lawful = L;
 }
 
--- What is covered is taken at each variance.
-pub all_taken : (v : Variance) (t : Tree) → IsCovered t → Takes (solver_manner (solver_settings true)) v t
+-- What is covered is taken at each variance, however the relation is set up.
+abbrev pub any_settings : Settings
+any_settings = record {
+  structurally_relate_aliases = No;
+  next_solver = true;
+  coherence = false;
+  declared_at_invariance = false;
+}
+
+pub all_taken : (v : Variance) (t : Tree) → IsCovered t → Takes (solver_manner any_settings) v t
 all_taken v t c = (all_leaves _ (λ l. tt) t, c)
 
 -- What is read of what is covered is covered, where all that is bound is.
@@ -315,19 +325,19 @@ pub stands_grows : {Key Id Name : Type 0} (c d : Context Key Id Name) → Stands
 stands_grows c d h = record {
   extends = subst (Extends c.meaning) (sym h.meaning) (stays_same c.meaning);
   lawful = h.lawful;
-  solver = h.solver;
+  setup = h.setup;
   outliving = h.outliving;
 }
 
 -- A context that nothing happens to.
 pub grows_itself : {Key Id Name : Type 0} (c : Context Key Id Name) → c.lawful → Grows c c
-grows_itself c l = record { extends = stays_same c.meaning; lawful = l; solver = refl; outliving = refl }
+grows_itself c l = record { extends = stays_same c.meaning; lawful = l; setup = refl; outliving = refl }
 
 -- One that grows twice.
 pub grows_then : {Key Id Name : Type 0} (c d e : Context Key Id Name) → Grows c d → Grows d e → Grows c e
 grows_then c d e f g = record {
   extends = extends_on f.extends g.extends;
   lawful = g.lawful;
-  solver = g.solver ∙ f.solver;
+  setup = g.setup ∙ f.setup;
   outliving = g.outliving ∙ f.outliving;
 }

@@ -11,17 +11,19 @@ use Rattle.relation_terms.specs.Trees.{Tree, leaf}
 use Rattle.relation_terms.specs.Meaning.{Meaning}
 use Rattle.relation_folds.specs.declared.error.RelateFault.{RelateFault}
 use Rattle.relation_folds.specs.declared.error.RelateFault.TheVariants.{Memory, Budget, Unrelated}
+use Rattle.relation_contexts.specs.declared.relate.StructurallyRelateAliases.{StructurallyRelateAliases}
 use Rattle.relation_contexts.specs.Contexts.{Context}
 use Rattle.type_relations.specs.Relating.{term_in, AnswersAlone, AnswersSubtype}
 use Rattle.type_relations.specs.Subtyping.{subtype_at, RegistersAlone, RegistersSubtype}
 use Rattle.type_relations.specs.Solving.{solving_in, solver_manner}
 
 -- What else might have been answered is of no matter.
-module _ {S Key Id Name A : Type 0} (X : Type 0) (state : S → Context Key Id Name) (old new : S) (over : Option Head)
+module _ {S Key Id Name A : Type 0} (aliases : StructurallyRelateAliases) (X : Type 0) (state : S → Context Key Id Name)
+    (old new : S) (over : Option Head)
     (tree : Meaning Key Id Name → A → Tree) (e : ParamEnvKey Key) (v : Variance) (a b : A)
     (hs : List (Goal Key (PredicateKey Key))) where
   refused : (p : Tree) (f : RelateFault Key Id Name) →
-      RegistersAlone {X = X} (solving_in [] (state old) v e) (solving_in hs (state new) v e) p (Err f) →
+      RegistersAlone {X = X} (solving_in aliases [] (state old) v e) (solving_in aliases hs (state new) v e) p (Err f) →
       AnswersAlone state old new over tree e p (Err f)
   refused p Memory h = h.0
   refused p Budget h = h
@@ -29,7 +31,7 @@ module _ {S Key Id Name A : Type 0} (X : Type 0) (state : S → Context Key Id N
 
   pub refused_alone_in : (f : RelateFault Key Id Name)
       (res : Result (Vec (Goal Key (PredicateKey Key))) (RelateFault Key Id Name)) → res ≡ Err f →
-      RegistersSubtype {X = X} solver_manner (solving_in [] (state old) v e) (solving_in hs (state new) v e) v
+      RegistersSubtype {X = X} solver_manner (solving_in aliases [] (state old) v e) (solving_in aliases hs (state new) v e) v
       (term_in (state old) over tree a) (term_in (state old) over tree b) (Err f) →
       AnswersSubtype state old new over tree e v a b res
   refused_alone_in f res is h = subst (AnswersSubtype state old new over tree e v a b) (sym is)

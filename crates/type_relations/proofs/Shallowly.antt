@@ -139,6 +139,7 @@ module _ {Key Id Name : Type 0} (r q : State Key Id Name) (g : IsSound r.store) 
       read_verdict (Ok (Again k l x y v t)) h = record {
         leads = read_leads passes.added (xform r.ambient v) (tree x) (tree y) h.leads;
         read_leads = h.read_leads;
+        read_exactly = h.read_exactly;
         read_asked = h.read_asked;
         asked = h.asked;
         answers = λ i s sat all f. subst (λ z. Rel (items_in q) i q.kept.environment (at r.ambient) z (apply s (tree t)))

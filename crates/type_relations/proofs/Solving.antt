@@ -1,7 +1,7 @@
 -- Relating in a context, step by step.
 use Rattle.std.proofs.Common.{◌≡◌, ◌≢◌, ℕ, ◌≤◌, refl, sym, ap, ap₂, ◌∙◌, arith, subst, subst₂, [], All}
 use Rattle.std.proofs.Common.{IsTrue, Some, IfSome, ◌++◌, max, min, length}
-use Rattle.std.proofs.Common.{Result, Ok, Err, List, ◌∷◌, Bool, false}
+use Rattle.std.proofs.Common.{Result, Ok, Err, List, ◌∷◌, false}
 use Rattle.std.proofs.lemmas.List.Elements.{All-nil}
 use Rattle.std.proofs.lemmas.List.{append-nil}
 use Rattle.term_enums.specs.declared.Variance.{Variance}
@@ -27,6 +27,7 @@ use Rattle.relation_terms.proofs.Stays.{stays_same}
 use Rattle.relation_folds.specs.declared.error.RelateFault.{RelateFault}
 use Rattle.relation_folds.specs.declared.error.RelateFault.TheVariants.{Memory, Budget, Unrelated}
 use Rattle.relation_contexts.specs.declared.relate.Step.{Step}
+use Rattle.relation_contexts.specs.declared.relate.StructurallyRelateAliases.{StructurallyRelateAliases}
 use Rattle.relation_contexts.specs.declared.relate.Step.TheVariants.{Done}
 use Rattle.relation_contexts.specs.Relation.{Interpretation, RegionRule, regions, at}
 use Rattle.relation_contexts.specs.Stores.{Store, Constraint, IsRegionIn, IsSound}
@@ -55,7 +56,8 @@ use Rattle.relation_contexts.proofs.Registered.{goals_stay, goals_known, none_at
 use Rattle.type_relations.proofs.Exactly.{region_value, regions_exactly}
 use Rattle.relation_contexts.proofs.Growing.{constraint_is_later, constraint_bound, constraint_weight}
 use Rattle.relation_contexts.specs.Contexts.{Context}
-use Rattle.relation_contexts.specs.ContextCalls.{Stands, Grows, Knows, Constrains, KeepsSolver, KeepsOutliving, KeepsBeside}
+use Rattle.relation_contexts.specs.Settings.{Setup}
+use Rattle.relation_contexts.specs.ContextCalls.{Stands, Grows, Knows, Constrains, KeepsSetup, KeepsOutliving, KeepsBeside}
 use Rattle.type_relations.specs.Emitting.{WithContext}
 
 -- Seen from the other side too the variance decides something.
@@ -138,19 +140,20 @@ pub constrained_bound : {Key Id Name A F : Type 0} (c d : Context Key Id Name) (
 constrained_bound c d q (Ok x) h = constraint_bound c.store d.store q h
 constrained_bound c d q (Err f) h = ap all_bound h
 
-abbrev held_of : {Key : Type 0} → ℕ → Bool → List (OutlivesPredicate Key (TyKey Key)) → Held Key
-held_of j s o = record { reference = j; next_solver = s; outliving = o }
+abbrev pub held_of : {Key : Type 0} → StructurallyRelateAliases → ℕ → Setup Key → List (OutlivesPredicate Key (TyKey Key)) →
+    Held Key
+held_of aliases j s o = record { reference = j; structurally_relate_aliases = aliases; setup = s; outliving = o }
 
 -- What is left as it is in a context is so in one that has grown from it.
-pub held_kept : {Key Id Name : Type 0} (j : ℕ) (c d : Context Key Id Name) → KeepsSolver c d → KeepsOutliving c d →
-    held_by j d ≡ held_by j c
-held_kept j c d solver outliving = ap₂ (held_of j) solver outliving
+module _ {Key Id Name : Type 0} (aliases : StructurallyRelateAliases) (j : ℕ) (c d : Context Key Id Name) where
+  pub held_kept : KeepsSetup c d → KeepsOutliving c d → held_by aliases j d ≡ held_by aliases j c
+  held_kept setup outliving = ap₂ (held_of aliases j) setup outliving
 
-pub held_grows : {Key Id Name : Type 0} (j : ℕ) (c d : Context Key Id Name) → Grows c d → held_by j d ≡ held_by j c
-held_grows j c d g = held_kept j c d g.solver g.outliving
+  pub held_grows : Grows c d → held_by aliases j d ≡ held_by aliases j c
+  held_grows g = held_kept g.setup g.outliving
 
-pub held_stands : {Key Id Name : Type 0} (j : ℕ) (c d : Context Key Id Name) → Stands c d → held_by j d ≡ held_by j c
-held_stands j c d g = held_kept j c d g.solver g.outliving
+  pub held_stands : Stands c d → held_by aliases j d ≡ held_by aliases j c
+  held_stands g = held_kept g.setup g.outliving
 
 module _ {Key Id Name : Type 0} {j j' : Held Key} (held : j' ≡ j) (gs : List (KeyedGoal Key (PredicateKey Key))) where
   -- Work that recorded something, and registered no goal.
@@ -323,15 +326,29 @@ module _ {Key Id Name : Type 0} {j j' : Held Key} (held : j' ≡ j) (gs : List (
         full = λ ha hb. full_itself was;
       })
 
--- The reference that a relation holds need not be named.
-abbrev unnamed : {Key : Type 0} → Held Key → Held Key
-unnamed j = record { reference = 0; next_solver = j.next_solver; outliving = j.outliving }
+-- The reference that a relation holds need not be named, nor what it leaves as it was.
+abbrev pub seen_from : {Key : Type 0} → Held Key → Held Key → Held Key
+seen_from j i = record {
+  reference = 0;
+  structurally_relate_aliases = j.structurally_relate_aliases;
+  setup = i.setup;
+  outliving = i.outliving;
+}
 
-abbrev without_name : {Key : Type 0} → Kept Key → Kept Key
-without_name k =
-    record { environment = k.environment; settings = k.settings; reference = 0; outliving = k.outliving }
+abbrev without_name : {Key : Type 0} → StructurallyRelateAliases → Kept Key → Kept Key
+without_name aliases k = record {
+  environment = k.environment;
+  settings = record {
+    structurally_relate_aliases = aliases;
+    next_solver = (k.settings).next_solver;
+    coherence = (k.settings).coherence;
+    declared_at_invariance = (k.settings).declared_at_invariance;
+  };
+  mode = k.mode;
+  reference = 0;
+  outliving = k.outliving;
+}
 
--- Nor what it leaves as it was.
 module _ {Key Id Name X : Type 0} (j i : Held Key) (gs hs : List (KeyedGoal Key (PredicateKey Key)))
     (m n : Meaning Key Id Name) (was now : Store) (L K : Type 0) (v w : Variance) (e f : ParamEnvKey Key)
     (env : IsTrue (known (m.param_env e))) (a b : Tree) (tree : X → Tree)
@@ -348,7 +365,7 @@ module _ {Key Id Name X : Type 0} (j i : Held Key) (gs hs : List (KeyedGoal Key 
   }
 
   told_unnamed : Related solver_manner (solving j gs m was L v e) (solving i hs n now K v e) v a b tree result →
-      Related solver_manner (solving (unnamed j) gs m was L v e) (solving (unnamed i) hs n now K v e) v a b tree result
+      Related solver_manner (solving (seen_from j j) gs m was L v e) (solving (seen_from j i) hs n now K v e) v a b tree result
   told_unnamed h = record {
     passes = record {
       extends = (h.passes).extends;
@@ -356,7 +373,7 @@ module _ {Key Id Name X : Type 0} (j i : Held Key) (gs hs : List (KeyedGoal Key 
       added = (h.passes).added;
       lengthens = (h.passes).lengthens;
       goals_in = (h.passes).goals_in;
-      kept = ap without_name (h.passes).kept;
+      kept = ap (without_name j.structurally_relate_aliases) (h.passes).kept;
       ambient = (h.passes).ambient;
       remembered = refl;
       lawful = (h.passes).lawful;
@@ -368,7 +385,7 @@ module _ {Key Id Name X : Type 0} (j i : Held Key) (gs hs : List (KeyedGoal Key 
     where
       verdict : (r : Result X (RelateFault Key Id Name)) →
           Verdict solver_manner (solving j gs m was L v e) (solving i hs n now K v e) ((h.passes).added) v a b tree r →
-          Verdict solver_manner (solving (unnamed j) gs m was L v e) (solving (unnamed i) hs n now K v e)
+          Verdict solver_manner (solving (seen_from j j) gs m was L v e) (solving (seen_from j i) hs n now K v e)
           ((h.passes).added) v a b tree r
       verdict (Ok t) o = record {
         outcome = o.outcome;
@@ -381,22 +398,23 @@ module _ {Key Id Name X : Type 0} (j i : Held Key) (gs hs : List (KeyedGoal Key 
       verdict (Err Memory) o = tt
 
   pub as_before : Related solver_manner (solving j gs m was L v e) (solving i hs n now K w f) v a b tree result →
-      Related solver_manner (solving (unnamed j) gs m was L v e) (solving (unnamed i) hs n now K v e) v a b tree result
+      Related solver_manner (solving (seen_from j j) gs m was L v e) (solving (seen_from j i) hs n now K v e) v a b tree result
   as_before h =
       let environment = same_environment (h.passes).kept ∙ sym (((h.passes).extends).param_env e env) in
       told_unnamed (subst₂ (λ u t. Related solver_manner (solving j gs m was L v e) (state_at u t) v a b tree result)
       (h.passes).ambient environment h)
 
-module _ {Key Id Name : Type 0} (j : ℕ) (gs : List (KeyedGoal Key (PredicateKey Key))) where
+module _ {Key Id Name : Type 0} (aliases : StructurallyRelateAliases) (j : ℕ)
+    (gs : List (KeyedGoal Key (PredicateKey Key))) where
   -- Another context in the place of the relation's changes nothing but what is recorded, and what keys mean.
   pub solver_with : (c d : Context Key Id Name) → Grows c d → (v : Variance) (e : ParamEnvKey Key) →
       KnowsGoals c.meaning e gs →
-      WithContext (solving_through j gs c v e) d (solving_through j gs d v e)
+      WithContext (solving_through aliases j gs c v e) d (solving_through aliases j gs d v e)
   solver_with c d h v e env = record {
     meaning = refl;
     store = refl;
     goals = goals_stay h.extends gs env.1;
-    kept = ap₂ kept_in (held_grows j c d h) ((h.extends).param_env e env.0);
+    kept = ap₂ kept_in (held_grows aliases j c d h) ((h.extends).param_env e env.0);
     ambient = refl;
     remembered = refl;
     lawful = λ k. (
@@ -408,7 +426,7 @@ module _ {Key Id Name : Type 0} (j : ℕ) (gs : List (KeyedGoal Key (PredicateKe
   -- Making terms changes nothing of the relation but what its interner knows.
   pub solver_grows : (c d : Context Key Id Name) (n : Meaning Key Id Name) → Extends c.meaning n → Knows c n d →
       (v : Variance) (e : ParamEnvKey Key) → KnowsGoals c.meaning e gs →
-      WithMeaning (solving_through j gs c v e) n (solving_through j gs d v e)
+      WithMeaning (solving_through aliases j gs c v e) n (solving_through aliases j gs d v e)
   solver_grows c d n grown h v e env =
       let stays : (d.meaning).param_env e ≡ (c.meaning).param_env e =
       ap (λ z. z.param_env e) h.meaning ∙ grown.param_env e env.0 in
@@ -416,7 +434,7 @@ module _ {Key Id Name : Type 0} (j : ℕ) (gs : List (KeyedGoal Key (PredicateKe
         meaning = h.meaning;
         store = h.store;
         goals = ap (λ z. goals_of z gs) h.meaning ∙ goals_stay grown gs env.1;
-        kept = ap₂ kept_in (held_kept j c d h.rest.solver h.rest.outliving) stays;
+        kept = ap₂ kept_in (held_kept aliases j c d h.rest.setup h.rest.outliving) stays;
         ambient = refl;
         remembered = refl;
         lawful = λ k. (
@@ -477,7 +495,9 @@ asked_recorded m was now Invariant a b d h = h.one_more
 asked_recorded m was now Bivariant a b d h = absurd (d refl)
 
 -- What no step changes stands in the context.
-pub keeps_beside : {Key Id Name : Type 0} (c d : Context Key Id Name) (e f : Tree) →
-    kept_in (held_by 0 d) f ≡ kept_in (held_by 0 c) e → KeepsBeside c d
-keeps_beside c d e f g =
-    record { solver = ap (λ k. k.settings.next_solver) g; outliving = ap (λ k. k.outliving) g }
+abbrev setup_of : {Key : Type 0} → Kept Key → Setup Key
+setup_of k = record { is_next_solver = k.settings.next_solver; typing_mode = k.mode }
+
+pub keeps_beside : {Key Id Name : Type 0} (aliases : StructurallyRelateAliases) (c d : Context Key Id Name) (e f : Tree) →
+    kept_in (held_by aliases 0 d) f ≡ kept_in (held_by aliases 0 c) e → KeepsBeside c d
+keeps_beside aliases c d e f g = record { setup = ap setup_of g; outliving = ap (λ k. k.outliving) g }

@@ -16,6 +16,7 @@ use Rattle.relation_terms.proofs.Binders.{under_stays}
 use Rattle.relation_folds.specs.declared.error.RelateFault.{RelateFault}
 use Rattle.relation_folds.specs.declared.error.RelateFault.TheVariants.{Memory}
 use Rattle.relation_folds.specs.Visits.{bound_var_escapes}
+use Rattle.relation_contexts.specs.declared.relate.StructurallyRelateAliases.{StructurallyRelateAliases}
 use Rattle.relation_contexts.specs.Relation.{StaysWithin}
 use Rattle.relation_contexts.specs.Stores.{Store, InContext, IsTermIn, IsSound}
 use Rattle.relation_contexts.specs.Steps.{ChangesNothing, EntersForall}
@@ -134,13 +135,14 @@ module _ {Key Id Name : Type 0} where
       (c.store, same_changes c.store, subst (MakesUnbound (c.store).universe c.store) (sym same) makes_none)
 
 -- The relation of a context before opening and after it.
-module _ {Key Id Name : Type 0} (j : ℕ) (gs : List (KeyedGoal Key (PredicateKey Key))) (c d : Context Key Id Name)
+module _ {Key Id Name : Type 0} (aliases : StructurallyRelateAliases) (j : ℕ)
+    (gs : List (KeyedGoal Key (PredicateKey Key))) (c d : Context Key Id Name)
     (v : Variance) (e : ParamEnvKey Key) where
   abbrev before : State Key Id Name
-  before = solving_through j gs c v e
+  before = solving_through aliases j gs c v e
 
   abbrev after : State Key Id Name
-  after = solving_through j gs d v e
+  after = solving_through aliases j gs d v e
 
   opened : {T : Type 0} → KnowsGoals c.meaning e gs → Grows c d → Goes 0 c.store d.store → (round : ℕ) (a b : Tree)
       (tree : T → Tree) (result : Result (Option (T × T)) (RelateFault Key Id Name)) →
@@ -148,7 +150,7 @@ module _ {Key Id Name : Type 0} (j : ℕ) (gs : List (KeyedGoal Key (PredicateKe
       Opened solver_manner before after round a b tree result
   unfolding solver_passes
   opened env grows goes round a b tree result h = record {
-    passes = solver_passes (held_grows j c d grows) gs v e grows.extends env (goes_within (omega arith) goes) grows.lawful;
+    passes = solver_passes (held_grows aliases j c d grows) gs v e grows.extends env (goes_within (omega arith) goes) grows.lawful;
     verdict = h;
   }
 
@@ -258,11 +260,12 @@ module _ {Key Id Name : Type 0} (j : ℕ) (gs : List (KeyedGoal Key (PredicateKe
     opens_first None p k h at_variance = absurd (false≢true k.left_known)
 
 -- The relation of a context that nothing happens to.
-module _ {Key Id Name T : Type 0} (j : ℕ) (gs : List (KeyedGoal Key (PredicateKey Key))) (c : Context Key Id Name)
+module _ {Key Id Name T : Type 0} (aliases : StructurallyRelateAliases) (j : ℕ)
+    (gs : List (KeyedGoal Key (PredicateKey Key))) (c : Context Key Id Name)
     (v : Variance) (e : ParamEnvKey Key) (env : KnowsGoals c.meaning e gs) (grows : Grows c c) (t u : Tree)
     (round : ℕ) (tree : T → Tree) where
   abbrev there : State Key Id Name
-  there = solving_through j gs c v e
+  there = solving_through aliases j gs c v e
 
   -- The term under a binder that binds nothing that stands in it.
   unused_in : (ks : List BoundKind) (t : Tree) → IsTermIn c.store (bind ks t) → StaysWithin 0 t → IsTermIn c.store t
@@ -276,7 +279,7 @@ module _ {Key Id Name T : Type 0} (j : ℕ) (gs : List (KeyedGoal Key (Predicate
       Opened solver_manner there there round (under o t) (under p u) tree (Ok (Some (x, y)))
   opens_none (Some ks) (Some ls) k decides sound none zero_round x y p q =
       let w = none_uses t u none in
-      opened j gs c c v e env grows (goes_nowhere 0 c.store) round (bind ks t) (bind ls u) tree (Ok (Some (x, y)))
+      opened aliases j gs c c v e env grows (goes_nowhere 0 c.store) round (bind ks t) (bind ls u) tree (Ok (Some (x, y)))
       (subst₂ (RoundLeads solver_manner there there [] round (bind ks t) (bind ls u)) (sym p) (sym q) (record {
         steps = one_round zero_round (inr w) (unused_step (items_of c.meaning) ((c.meaning).param_env e) v c.store
             (goals_of c.meaning gs) ks ls t u decides (body_scope c.store sound ks t k.left_in)
@@ -303,7 +306,7 @@ module _ {Key Id Name T : Type 0} (j : ℕ) (gs : List (KeyedGoal Key (Predicate
   pub no_more : (o p : Option (List BoundKind)) → Asked solver_manner there v (under o t) (under p u) → round ≡ 1 →
       (v ≢ Invariant) ⊎ ((bound_var_escapes t || bound_var_escapes u) ≡ false) →
       Opened solver_manner there there round (under o t) (under p u) tree (Ok None)
-  no_more (Some ks) (Some ls) k is_last h = opened j gs c c v e env grows (goes_nowhere 0 c.store) round (bind ks t)
+  no_more (Some ks) (Some ls) k is_last h = opened aliases j gs c c v e env grows (goes_nowhere 0 c.store) round (bind ks t)
       (bind ls u) tree (Ok None) (is_last, go h, refl, refl)
     where
       go : (v ≢ Invariant) ⊎ ((bound_var_escapes t || bound_var_escapes u) ≡ false) →

@@ -266,6 +266,7 @@ module _ {Key Id Name : Type 0} (r0 : State Key Id Name) (L K : Type 0) (lawful 
     left_again b w an seen l sure answers = record {
       leads = subst (λ z. Leads r q [] root t z u t) (sym seen) (left_leads w l);
       read_leads = subst (λ z. Leads r q [] root t z u t) (sym seen) (left_leads w l);
+      read_exactly = λ o same pair. (pair_left pair.bindings pair.right, exactly.0);
       read_asked = asked_now v root t refl t_known root_in (later t t_in) tt covered;
       asked = asked_now (xform v b) u t u_known t_known u_in (later t t_in) u_covered covered;
       answers = subst (λ z. Answers z u t root an) (sym seen) answers;
@@ -280,6 +281,8 @@ module _ {Key Id Name : Type 0} (r0 : State Key Id Name) (L K : Type 0) (lawful 
     right_again b w an seen l sure answers = record {
       leads = subst (λ z. Leads r q [] t root z t u) (sym seen) (right_leads w l);
       read_leads = subst (λ z. Leads r q [] t root z t u) (sym seen) (right_leads w l);
+      read_exactly = λ o same pair. let f = pair_left pair.bindings pair.left in
+          (record { left = f.right; right = f.left; bindings = f.bindings }, exactly.1);
       read_asked = asked_now v t root t_known refl (later t t_in) root_in covered tt;
       asked = asked_now (xform v b) t u t_known u_known (later t t_in) u_in covered u_covered;
       answers = subst (λ z. Answers z t u t an) (sym seen) answers;

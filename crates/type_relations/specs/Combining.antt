@@ -9,6 +9,7 @@ use Rattle.relation_terms.specs.Meaning.{Meaning}
 use Rattle.relation_folds.specs.declared.error.TypeError.TheVariants.{Sorts, CyclicConst}
 use Rattle.relation_folds.specs.declared.error.RelateFault.{RelateFault}
 use Rattle.relation_folds.specs.declared.error.RelateFault.TheVariants.{Unrelated}
+use Rattle.relation_contexts.specs.declared.infer_ctxt.TypingMode.TheVariants.{PostAnalysis}
 use Rattle.relation_contexts.specs.declared.relate.Step.{Step}
 use Rattle.relation_contexts.specs.declared.relate.Step.TheVariants.{Done, Parts, Again}
 use Rattle.relation_contexts.specs.Contexts.{Context}
@@ -50,7 +51,7 @@ module _ {Key Id Name : Type 0} where
     meaning = m;
     store = st;
     lawful = Unit {0};
-    is_next_solver = true;
+    setup = record { is_next_solver = true; typing_mode = PostAnalysis };
     outliving = [];
     sub_root = λ n. n;
   }

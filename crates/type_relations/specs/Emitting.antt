@@ -10,6 +10,7 @@ use Rattle.relation_contexts.specs.Contexts.{Context}
 use Rattle.relation_contexts.specs.Constraints.{constraint_at, constraint_of}
 use Rattle.relation_contexts.specs.Goals.{Goal, goal_of, subtype_predicate, well_formed_predicate}
 use Rattle.relation_contexts.specs.Lawful.{State}
+use Rattle.relation_contexts.specs.Settings.{in_coherence}
 use Rattle.relation_contexts.specs.Steps.{AddsConstraint}
 
 -- The goals that there are after others were put behind them, or were not, where a growth was refused.
@@ -27,11 +28,13 @@ module _ {Key Id Name : Type 0} where
   goals_in r ps = map (λ p. goal_of r.kept.environment ((r.meaning).predicate p)) ps
 
   -- A relation has recorded what a context has, over its keys, which is lawful while the relation is. It is set up for
-  -- the context's solver, and keeps the context's types that are to outlive regions.
+  -- the context's solver and in its mode, and keeps the context's types that are to outlive regions.
   pub record IsOver (r : State Key Id Name) (c : Context Key Id Name) : Type 0 where
     pub meaning : r.meaning ≡ c.meaning
     pub store : r.store ≡ c.store
-    pub solver : r.kept.settings.next_solver ≡ c.is_next_solver
+    pub solver : r.kept.settings.next_solver ≡ c.setup.is_next_solver
+    pub coherence : r.kept.settings.coherence ≡ in_coherence c.setup.typing_mode
+    pub mode : r.kept.mode ≡ c.setup.typing_mode
     pub outliving : r.kept.outliving ≡ c.outliving
     pub lawful : r.lawful → c.lawful
 

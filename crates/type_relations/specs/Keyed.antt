@@ -19,8 +19,7 @@ use Rattle.relation_folds.specs.declared.error.RelateFault.{RelateFault}
 use Rattle.relation_contexts.specs.declared.relate.Step.{Step}
 use Rattle.type_relations.specs.Arguments.{AreOverItem}
 use Rattle.relation_contexts.specs.Constraints.{constraint_at, asked_constraints}
-use Rattle.relation_contexts.specs.Goals.{Relates}
-use Rattle.relation_contexts.specs.Lawful.{State, Manners, Asked, Related, Stepped, items_in}
+use Rattle.relation_contexts.specs.Lawful.{State, Manners, Asked, Related, Shown, Stepped, items_in}
 use Rattle.relation_contexts.specs.Making.{Made, over, const_over}
 use Rattle.relation_contexts.specs.Parts.{IsFormed, IsFormedConst, head_of, const_head_of}
 use Rattle.relation_contexts.specs.Relation.{part_at}
@@ -165,10 +164,9 @@ module _ {Key Id Name : Type 0} where
   TysStepToSubtype M r q a b result =
       StepRegistersSubtype M r q (q.meaning).ty ((r.meaning).ty a) ((r.meaning).ty b) result
 
-  -- What is recorded and registered relates two types.
-  abbrev pub RelatesTys : State Key Id Name → TyKey Key → TyKey Key → Type 0
-  RelatesTys r a b =
-      Relates (items_in r) r.store r.goals r.kept.environment r.ambient ((r.meaning).ty a) ((r.meaning).ty b)
+  -- Two types were related: all is known of them that is known of such.
+  abbrev pub ShownTys : Manners → State Key Id Name → TyKey Key → TyKey Key → Type 0
+  ShownTys M r a b = Shown M r r.ambient ((r.meaning).ty a) ((r.meaning).ty b)
 
   -- Two types are of one form over an item and these lists of arguments.
   abbrev pub AreOver : State Key Id Name → DefId Id → TyKey Key → TyKey Key → ArgsKey Key → ArgsKey Key → Type 0

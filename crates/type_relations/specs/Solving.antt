@@ -1,5 +1,5 @@
 -- The relation of a context: how it stands, and which terms it takes.
-use Rattle.std.specs.Prelude.{ℕ, Bool, false, List, [], All, IsTrue}
+use Rattle.std.specs.Prelude.{ℕ, false, List, [], All, IsTrue}
 use Rattle.term_enums.specs.declared.Variance.{Variance}
 use Rattle.relation_terms.specs.declared.predicate.regions.OutlivesPredicate.{OutlivesPredicate}
 use Rattle.relation_terms.specs.declared.terms.goal.Goal.{Goal}
@@ -8,32 +8,42 @@ use Rattle.relation_terms.specs.declared.terms.keys.PredicateKey.{PredicateKey}
 use Rattle.relation_terms.specs.declared.terms.keys.TyKey.{TyKey}
 use Rattle.relation_terms.specs.Trees.{Tree, known}
 use Rattle.relation_terms.specs.Meaning.{Meaning}
-use Rattle.relation_contexts.specs.declared.relate.StructurallyRelateAliases.TheVariants.{No}
+use Rattle.relation_contexts.specs.declared.relate.StructurallyRelateAliases.{StructurallyRelateAliases}
 use Rattle.relation_contexts.specs.Goals.{goals_of, KnowsGoal}
-use Rattle.relation_contexts.specs.Lawful.{State, Kept, Settings, Manners, TakesParts}
+use Rattle.relation_contexts.specs.Lawful.{State, Kept, Manners, TakesParts}
+use Rattle.relation_contexts.specs.Settings.{Settings, Setup, in_coherence}
 use Rattle.relation_contexts.specs.Contexts.{Context}
 use Rattle.relation_contexts.specs.Stores.{Store}
 
--- Aliases are left to goals, which the next solver answers or not; at invariance all arguments are related invariantly.
-abbrev pub solver_settings : Bool → Settings
-solver_settings b = record { structurally_relate_aliases = No; next_solver = b; declared_at_invariance = false }
+-- How relating in a context is set up, by how aliases are related and how the context was made. At invariance all
+-- arguments are related invariantly.
+abbrev pub solver_settings : {Key : Type 0} → StructurallyRelateAliases → Setup Key → Settings
+solver_settings aliases s = record {
+  structurally_relate_aliases = aliases;
+  next_solver = s.is_next_solver;
+  coherence = in_coherence s.typing_mode;
+  declared_at_invariance = false;
+}
 
--- What relating in a context leaves as it is: the reference to the context, by its name, where it is through one;
--- whether the next solver is on; and the types that are to outlive regions.
+-- What relating in a context leaves as it is: the reference to the context, by its name, where it is through one; how
+-- aliases are related; how the context was made; and the types that are to outlive regions.
 pub record Held (Key : Type 0) : Type 0 where
   pub reference : ℕ
-  pub next_solver : Bool
+  pub structurally_relate_aliases : StructurallyRelateAliases
+  pub setup : Setup Key
   pub outliving : List (OutlivesPredicate Key (TyKey Key))
 
--- What is left as it is in a context, through a reference of this name.
-abbrev pub held_by : {Key Id Name : Type 0} → ℕ → Context Key Id Name → Held Key
-held_by j c = record { reference = j; next_solver = c.is_next_solver; outliving = c.outliving }
+-- What is left as it is in a context, through a reference of this name, where aliases are so related.
+abbrev pub held_by : {Key Id Name : Type 0} → StructurallyRelateAliases → ℕ → Context Key Id Name → Held Key
+held_by aliases j c =
+    record { reference = j; structurally_relate_aliases = aliases; setup = c.setup; outliving = c.outliving }
 
 -- With the environment it is all that no step changes.
 abbrev pub kept_in : {Key : Type 0} → Held Key → Tree → Kept Key
 kept_in h e = record {
   environment = e;
-  settings = solver_settings h.next_solver;
+  settings = solver_settings h.structurally_relate_aliases h.setup;
+  mode = h.setup.typing_mode;
   reference = h.reference;
   outliving = h.outliving;
 }
@@ -57,14 +67,14 @@ solving h gs m st lawful v e = record {
 }
 
 -- The same in a context by itself, through no reference.
-abbrev pub solving_in : {Key Id Name : Type 0} → List (Goal Key (PredicateKey Key)) → Context Key Id Name → Variance →
-    ParamEnvKey Key → State Key Id Name
-solving_in gs c v e = solving (held_by 0 c) gs c.meaning c.store c.lawful v e
+abbrev pub solving_in : {Key Id Name : Type 0} → StructurallyRelateAliases → List (Goal Key (PredicateKey Key)) →
+    Context Key Id Name → Variance → ParamEnvKey Key → State Key Id Name
+solving_in aliases gs c v e = solving (held_by aliases 0 c) gs c.meaning c.store c.lawful v e
 
 -- The same through a reference of this name.
-abbrev pub solving_through : {Key Id Name : Type 0} → ℕ → List (Goal Key (PredicateKey Key)) →
-    Context Key Id Name → Variance → ParamEnvKey Key → State Key Id Name
-solving_through j gs c v e = solving (held_by j c) gs c.meaning c.store c.lawful v e
+abbrev pub solving_through : {Key Id Name : Type 0} → StructurallyRelateAliases → ℕ →
+    List (Goal Key (PredicateKey Key)) → Context Key Id Name → Variance → ParamEnvKey Key → State Key Id Name
+solving_through aliases j gs c v e = solving (held_by aliases j c) gs c.meaning c.store c.lawful v e
 
 -- It takes all variables at each variance, it is exact at invariance, it records just what is asked of regions, it
 -- registers just one goal of two type variables, and what it relates agrees.

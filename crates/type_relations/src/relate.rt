@@ -22,7 +22,7 @@ pub use args::{relate_args_invariantly, relate_args_with_variances, relate_ty_ar
 pub use relatable::Relate;
 pub use relation_contexts::relate::{Step, StructurallyRelateAliases};
 use relation_terms::terms::{Keys, TyKey};
-pub use type_relation::TypeRelation;
+pub use type_relation::{HasState, TypeRelation};
 
 /// Why two terms are related at invariance, for whoever explains an error. No answer of relating looks at it.
 #[derive(Clone, Copy, PartialEq, Eq)]

@@ -4,7 +4,7 @@ ghost use Rattle.relation_terms.specs.Heads.{type_var, int_var, float_var, const
 ghost use Rattle.relation_terms.specs.declared.terms.ty_kind.IntVarValue.TheVariants.{Unknown};
 ghost use Rattle.relation_terms.specs.declared.terms.ty_kind.FloatVarValue.TheVariants.{Unknown as UnknownFloat};
 ghost use Rattle.relation_contexts.specs.Stores.{unbound, entry_of};
-ghost use Rattle.relation_contexts.specs.ContextCalls.{JoinsRoots, KeepsRest, KeepsSolver, KeepsOutliving};
+ghost use Rattle.relation_contexts.specs.ContextCalls.{JoinsRoots, KeepsRest, KeepsSetup, KeepsOutliving};
 ghost use Rattle.relation_contexts.specs.NumberValues.{int_value_tree, float_value_tree};
 ghost use Rattle.relation_reference.specs.Tables.{IsLawful};
 ghost use Rattle.relation_reference.specs.RefCtxt.{store_in, context_in, sub_root_in};
@@ -32,7 +32,7 @@ impl<I: Interner> RefCtxt<I> {
         ensures lawful { IsLawful (I.meaning self.old.interner) self.new.inner }
         ensures same { a.0 ≡ b.0 → self.new.inner ≡ self.old.inner }
         ensures equates { (a.0 ≡ b.0 → ⊥) → EquatesVids I.meaning self.old self.new type_var a.0 b.0 }
-        ensures solver { KeepsSolver (context_in I.meaning self.old) (context_in I.meaning self.new) }
+        ensures setup { KeepsSetup (context_in I.meaning self.old) (context_in I.meaning self.new) }
         ensures outliving { KeepsOutliving (context_in I.meaning self.old) (context_in I.meaning self.new) }
         ensures marks { JoinsRoots (sub_root_in self.old.inner) (sub_root_in self.new.inner) a.0 b.0 }
     {

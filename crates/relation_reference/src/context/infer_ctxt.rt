@@ -9,14 +9,14 @@ ghost use Rattle.relation_reference.specs.Opened.{IsBinderIn};
 ghost use Rattle.relation_reference.specs.Changes.{EntersValue, InstantiatesValue};
 
 use crate::context::RefCtxt;
-use relation_contexts::infer_ctxt::{BinderOf, InferCtxtLike, VisibleForLeakCheck};
+use relation_contexts::infer_ctxt::{BinderOf, InferCtxtLike, TypingMode, VisibleForLeakCheck};
 use relation_contexts::relate::StructurallyRelateAliases;
 use relation_folds::error::RelateResult;
 use relation_folds::fold::TypeFoldable;
 use relation_folds::visit::TypeVisitable;
 use relation_terms::terms::{
-    Const, ConstVid, FloatVarValue, FloatVid, IntVarValue, IntVid, Interner, OutOfMemory, Region,
-    RegionVid, Span, Ty, TyVid, UniverseIndex, Variance,
+    Const, ConstVid, ErrorGuaranteed, FloatVarValue, FloatVid, IntVarValue, IntVid, Interner,
+    OutOfMemory, Region, RegionVid, Span, Ty, TyVid, UniverseIndex, Variance,
 };
 
 impl<I: Interner> InferCtxtLike for RefCtxt<I> {
@@ -43,6 +43,10 @@ impl<I: Interner> InferCtxtLike for RefCtxt<I> {
 
     fn next_trait_solver(&self) -> bool {
         self.next_trait_solver()
+    }
+
+    fn typing_mode_raw(&self) -> TypingMode<I::Key> {
+        self.typing_mode_raw()
     }
 
     fn universe(&self) -> UniverseIndex {
@@ -232,6 +236,10 @@ impl<I: Interner> InferCtxtLike for RefCtxt<I> {
         _span: Span<I>,
     ) -> Result<(), OutOfMemory> {
         self.register_ty_outlives(ty, r)
+    }
+
+    fn set_tainted_by_errors(&mut self, e: ErrorGuaranteed) {
+        self.set_tainted_by_errors(e);
     }
 
     ghost reads = { λ c. refl };

@@ -1,4 +1,5 @@
 //! The tables of a context.
+use relation_contexts::infer_ctxt::TypingMode;
 use relation_terms::predicate::{OutlivesPredicate, RegionConstraint};
 use relation_terms::terms::{ConstKey, RegionKey, TyKey, UniverseIndex};
 
@@ -23,8 +24,8 @@ pub struct Variable<K> {
 
 /// What a context has recorded: its variables of each kind by their numbers, the constraints on regions and the types
 /// that are to outlive regions in order, of each type variable the root of those that it is marked as related to, the
-/// current universe, and how many instantiations may still be made; whether the next solver is on; and the keys of all
-/// integer and float types.
+/// current universe, and how many instantiations may still be made; whether the next solver is on, the typing mode, and
+/// whether an error was met; and the keys of all integer and float types.
 #[derive(Drop)]
 pub struct InferCtxtInner<X> {
     pub types: Vec<Variable<TyKey<X>>>,
@@ -38,5 +39,7 @@ pub struct InferCtxtInner<X> {
     pub universe: UniverseIndex,
     pub budget: usize,
     pub next_solver: bool,
+    pub mode: TypingMode<X>,
+    pub tainted: bool,
     pub numbers: Vec<TyKey<X>>,
 }

@@ -1,6 +1,6 @@
 //! The types that are to outlive regions.
 ghost use Rattle.std.specs.Prelude.{◌≡◌};
-ghost use Rattle.relation_contexts.specs.ContextCalls.{Registers, KeepsSolver, KeepsMarks};
+ghost use Rattle.relation_contexts.specs.ContextCalls.{Registers, KeepsSetup, KeepsMarks};
 ghost use Rattle.relation_reference.specs.Tables.{store_of, IsLawful};
 ghost use Rattle.relation_reference.specs.RefCtxt.{store_in, context_in, outliving_in};
 
@@ -15,7 +15,7 @@ impl<I: Interner> RefCtxt<I> {
         ensures interner { self.new.interner ≡ self.old.interner }
         ensures lawful { IsLawful (I.meaning self.old.interner) self.new.inner }
         ensures same_record { store_of (I.meaning self.old.interner) self.new.inner ≡ store_in I.meaning self.old }
-        ensures solver { KeepsSolver (context_in I.meaning self.old) (context_in I.meaning self.new) }
+        ensures setup { KeepsSetup (context_in I.meaning self.old) (context_in I.meaning self.new) }
         ensures marks { KeepsMarks (context_in I.meaning self.old) (context_in I.meaning self.new) }
         ensures registers { Registers (outliving_in self.old.inner) (outliving_in self.new.inner) ty.now r.now result }
     {

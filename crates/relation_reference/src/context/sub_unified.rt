@@ -4,7 +4,7 @@ ghost use Rattle.relation_terms.specs.Heads.{type_var};
 ghost use Rattle.relation_terms.specs.Trees.{known};
 ghost use Rattle.relation_terms.specs.Meaning.{Extends};
 ghost use Rattle.relation_contexts.specs.Stores.{IsMade};
-ghost use Rattle.relation_contexts.specs.ContextCalls.{JoinsRoots, KeepsSolver, KeepsOutliving, MarksNew};
+ghost use Rattle.relation_contexts.specs.ContextCalls.{JoinsRoots, KeepsSetup, KeepsOutliving, MarksNew};
 ghost use Rattle.relation_reference.specs.RefCtxt.{store_in, context_in, sub_root_in};
 ghost use Rattle.relation_reference.specs.SubRoots.{root_in, led_root, IsRootTable};
 ghost use Rattle.relation_reference.specs.Tables.{store_of, IsLawful};
@@ -70,7 +70,7 @@ impl<I: Interner> RefCtxt<I> {
         ensures interner { self.new.interner ≡ self.old.interner }
         ensures lawful { IsLawful (I.meaning self.old.interner) self.new.inner }
         ensures same_record { store_of (I.meaning self.old.interner) self.new.inner ≡ store_in I.meaning self.old }
-        ensures solver { KeepsSolver (context_in I.meaning self.old) (context_in I.meaning self.new) }
+        ensures setup { KeepsSetup (context_in I.meaning self.old) (context_in I.meaning self.new) }
         ensures outliving { KeepsOutliving (context_in I.meaning self.old) (context_in I.meaning self.new) }
         ensures marks { JoinsRoots (sub_root_in self.old.inner) (sub_root_in self.new.inner) a.0 b.0 }
     {

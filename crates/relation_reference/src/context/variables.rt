@@ -1,13 +1,14 @@
 //! The context, and what is asked of it as a whole.
-ghost use Rattle.std.specs.Prelude.{◌≡◌, IfOk};
+ghost use Rattle.std.specs.Prelude.{◌≡◌, IfOk, true};
 ghost use Rattle.relation_terms.specs.Meaning.{Extends};
 ghost use Rattle.relation_reference.specs.Tables.{IsLawful};
 ghost use Rattle.relation_reference.specs.RefCtxt.{IsNew};
 
 use crate::context::InferCtxtInner;
 use crate::context::numbers::number_keys;
+use relation_contexts::infer_ctxt::TypingMode;
 use relation_terms::predicate::RegionConstraint;
-use relation_terms::terms::{Interner, OutOfMemory, TyKey, UniverseIndex};
+use relation_terms::terms::{ErrorGuaranteed, Interner, OutOfMemory, TyKey, UniverseIndex};
 use std::alloc::Global;
 
 /// An inference context: an interner, and what is recorded of variables and regions.
@@ -20,6 +21,7 @@ pub struct RefCtxt<I: Interner> {
 // Tables without variables and constraints, at the first universe.
 fn empty_tables<X>(
     alloc: Global,
+    mode: TypingMode<X>,
     next_solver: bool,
     budget: usize,
     numbers: Vec<TyKey<X>>,
@@ -29,6 +31,7 @@ fn empty_tables<X>(
     ensures budget { result.budget ≡ budget }
     ensures numbers { result.numbers ≡ numbers }
     ensures next_solver { result.next_solver ≡ next_solver }
+    ensures mode { result.mode ≡ mode }
 {
     InferCtxtInner {
         types: Vec::new(alloc),
@@ -42,33 +45,43 @@ fn empty_tables<X>(
         universe: UniverseIndex(0),
         budget,
         next_solver,
+        mode,
+        tainted: false,
         numbers,
     }
 }
 
 impl<I: Interner + Drop> RefCtxt<I> {
-    /// A context at the first universe, without variables and constraints, for the next solver or the old one, which
-    /// may make so many instantiations. It makes the keys of all integer and float types.
+    /// A context at the first universe, without variables and constraints, in a typing mode, for the next solver or the
+    /// old one, which may make so many instantiations. No error was met. It makes the keys of all integer and float
+    /// types.
     ///
     /// # Errors
     /// `OutOfMemory` where a growth was refused.
-    pub fn new(interner: I, next_solver: bool, budget: usize) -> Result<RefCtxt<I>, OutOfMemory>
+    pub fn new(
+        interner: I,
+        mode: TypingMode<I::Key>,
+        next_solver: bool,
+        budget: usize,
+    ) -> Result<RefCtxt<I>, OutOfMemory>
         ensures grown { IfOk result (λ c. Extends (I.meaning interner) (I.meaning c.interner)) }
         ensures lawful { IfOk result (λ c. IsLawful (I.meaning c.interner) c.inner) }
         ensures new { IfOk result (λ c. IsNew c.inner) }
         ensures first_universe { IfOk result (λ c. c.inner.universe.0 ≡ 0) }
         ensures budget { IfOk result (λ c. c.inner.budget ≡ budget) }
         ensures next_solver { IfOk result (λ c. c.inner.next_solver ≡ next_solver) }
+        ensures mode { IfOk result (λ c. c.inner.mode ≡ mode) }
     {
         let mut interner = interner;
         let numbers = number_keys(&mut interner)?;
-        let inner = empty_tables(interner.alloc(), next_solver, budget, numbers);
+        let inner = empty_tables(interner.alloc(), mode, next_solver, budget, numbers);
         Ok(RefCtxt { interner, inner })
     }
 }
 
 impl<I: Interner> RefCtxt<I> {
-    /// A context over the same interner and for the same solver, as `new` makes one. It takes no memory.
+    /// A context over the same interner, in the same mode and for the same solver, as `new` makes one. It takes no
+    /// memory.
     pub fn renewed(self, budget: usize) -> RefCtxt<I>
         requires { IsLawful (I.meaning self.interner) self.inner }
         ensures interner { result.interner ≡ self.interner }
@@ -77,9 +90,16 @@ impl<I: Interner> RefCtxt<I> {
         ensures first_universe { result.inner.universe.0 ≡ 0 }
         ensures budget { result.inner.budget ≡ budget }
         ensures next_solver { result.inner.next_solver ≡ self.inner.next_solver }
+        ensures mode { result.inner.mode ≡ self.inner.mode }
     {
         let RefCtxt { interner, inner } = self;
-        let inner = empty_tables(interner.alloc(), inner.next_solver, budget, inner.numbers);
+        let inner = empty_tables(
+            interner.alloc(),
+            inner.mode,
+            inner.next_solver,
+            budget,
+            inner.numbers,
+        );
         RefCtxt { interner, inner }
     }
 
@@ -88,6 +108,31 @@ impl<I: Interner> RefCtxt<I> {
         ensures { result ≡ self.now.inner.next_solver }
     {
         self.inner.next_solver
+    }
+
+    /// The typing mode, by how the context was made.
+    pub fn typing_mode_raw(&self) -> TypingMode<I::Key>
+        ensures { result ≡ self.now.inner.mode }
+    {
+        self.inner.mode
+    }
+
+    /// Whether an error was met.
+    pub fn tainted(&self) -> bool
+        ensures { result ≡ self.now.inner.tainted }
+    {
+        self.inner.tainted
+    }
+
+    /// Records that an error was met. All else stands.
+    pub fn set_tainted_by_errors(&mut self, _e: ErrorGuaranteed)
+        requires { IsLawful (I.meaning self.old.interner) self.old.inner }
+        ensures interner { self.new.interner ≡ self.old.interner }
+        ensures lawful { IsLawful (I.meaning self.old.interner) self.new.inner }
+        ensures sets { self.new.inner ≡ record self.old.inner { tainted = true } }
+    {
+        let inner = &mut self.inner;
+        inner.tainted = true;
     }
 
     /// How many instantiations may still be made.

@@ -23,7 +23,7 @@ mod meeting;
 use crate::relate::args::{arg_at, args_count};
 use crate::relate::combine::meeting::{meet_consts, meet_tys};
 use crate::relate::solver_relating::{GoalOf, recording};
-use crate::relate::{Step, StructurallyRelateAliases};
+use crate::relate::{HasState, Step, StructurallyRelateAliases};
 use relation_contexts::infer_ctxt::InferCtxtLike;
 use relation_contexts::variances::declared_variance;
 use relation_folds::error::RelateResult;
@@ -35,10 +35,7 @@ use relation_terms::terms::{
 /// A relation of the terms of a context, which registers goals.
 ///
 /// Upstream each is a `TypeRelation`. Here it is not: else no step of a relation could call what is written over it.
-pub trait PredicateEmittingRelation<Infcx: InferCtxtLike> {
-    // The relation as it stands.
-    ghost state: { Self → State Infcx.Interner.Key Infcx.Interner.Id Infcx.Interner.Name };
-
+pub trait PredicateEmittingRelation<Infcx: InferCtxtLike>: HasState<Infcx::Interner> {
     // The context.
     ghost context: { Self → Infcx };
 
@@ -57,35 +54,35 @@ pub trait PredicateEmittingRelation<Infcx: InferCtxtLike> {
     /// Does nothing: it shows that a later context in the place of the one that there is changes nothing of the
     /// relation but what is recorded and what its interner knows.
     fn context_grows(&self)
-        ensures { FollowsContext Infcx.state state context with_context self.now };
+        ensures { FollowsContext Infcx.state Self.state context with_context self.now };
 
     /// The span with which constraints on regions are recorded.
     fn span(&self) -> Span<Infcx::Interner>;
 
     /// The environment in which goals are registered.
     fn param_env(&self) -> ParamEnv<Infcx::Interner>
-        ensures { (state self.now).meaning.param_env result ≡ (state self.now).kept.environment };
+        ensures { (Self.state self.now).meaning.param_env result ≡ (Self.state self.now).kept.environment };
 
     /// Whether aliases are related by their items and arguments, or by a goal.
     fn structurally_relate_aliases(&self) -> StructurallyRelateAliases
-        ensures { result ≡ (state self.now).kept.settings.structurally_relate_aliases };
+        ensures { result ≡ (Self.state self.now).kept.settings.structurally_relate_aliases };
 
     /// Registers goals, behind those that there were. After `OutOfMemory` none was registered.
     fn register_goals(&mut self, goals: &[GoalOf<Infcx::Interner>]) -> Result<(), OutOfMemory>
-        requires known { All (KnowsGoal (state self.old).meaning) goals.now }
-        ensures { AddsGoals (state self.old) (state self.new) (goals_of (state self.old).meaning goals.now) result };
+        requires known { All (KnowsGoal (Self.state self.old).meaning) goals.now }
+        ensures { AddsGoals (Self.state self.old) (Self.state self.new) (goals_of (Self.state self.old).meaning goals.now) result };
 
     /// The same of predicates, in the relation's environment.
     fn register_predicates(
         &mut self,
         predicates: &[Predicate<Infcx::Interner>],
     ) -> Result<(), OutOfMemory>
-        requires lawful { (state self.old).lawful }
-        requires known { All (KnowsPredicate (state self.old).meaning) predicates.now }
-        ensures { AddsGoals (state self.old) (state self.new) (goals_in (state self.old) predicates.now) result };
+        requires lawful { (Self.state self.old).lawful }
+        requires known { All (KnowsPredicate (Self.state self.old).meaning) predicates.now }
+        ensures { AddsGoals (Self.state self.old) (Self.state self.new) (goals_in (Self.state self.old) predicates.now) result };
 
     // What it has recorded is what the context has, over its keys.
-    ghost over: { (r : Self) → IsOver (state r) (Infcx.state (context r)) };
+    ghost over: { (r : Self) → IsOver (Self.state r) (Infcx.state (context r)) };
 }
 
 // The variance that an item declares of its parameter at a place, to a context's interner.
@@ -302,5 +299,6 @@ pub fn super_combine_consts<Infcx: InferCtxtLike, R: PredicateEmittingRelation<I
     ensures registers_nothing { (R.state relation.new).goals ≡ (R.state relation.old).goals }
 {
     relation.context_grows();
-    meet_consts(relation.infcx_mut(), a, b)
+    let aliases = relation.structurally_relate_aliases();
+    meet_consts(relation.infcx_mut(), aliases, a, b)
 }

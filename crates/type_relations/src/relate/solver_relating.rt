@@ -2,6 +2,7 @@
 ghost use Rattle.std.specs.Prelude.{◌≡◌, ◌≢◌, IfErr, []};
 ghost use Rattle.relation_terms.specs.Meaning.{Extends};
 ghost use Rattle.relation_folds.specs.Faults.{KnowsFault, IfSpent};
+ghost use Rattle.relation_contexts.specs.declared.relate.StructurallyRelateAliases.TheVariants.{No};
 ghost use Rattle.relation_contexts.specs.Stores.{IsSound};
 ghost use Rattle.relation_contexts.specs.Steps.{IsLater};
 ghost use Rattle.relation_contexts.specs.Contexts.{KnowsEnv, SpendsByBinding, RegistersGoals};
@@ -18,7 +19,7 @@ mod opening;
 pub(crate) mod recording;
 mod relation;
 
-use crate::relate::Relate;
+use crate::relate::{Relate, StructurallyRelateAliases};
 pub use relation::{GoalOf, SolverRelating};
 use relation_contexts::infer_ctxt::InferCtxtLike;
 use relation_folds::error::RelateResult;
@@ -65,7 +66,7 @@ pub trait RelateExt: InferCtxtLike {
     /// one or to open a binder: none where no binder stands in either or in what a variable was bound to, and nothing
     /// was left of the budget or no variable of a type or a constant was unbound. It binds only what was the context's
     /// and unbound, or was made on the way: variables of types and constants each for one instantiation, those of
-    /// numbers for none. After an error more may have been recorded and made on the way. Whether the next solver is on
+    /// numbers for none. After an error more may have been recorded and made on the way. How the context was made
     /// stands, and so do the types that are to outlive regions.
     ///
     /// Of first-order terms in a first-order record at `Invariant`, where the variables of types and constants are of
@@ -178,18 +179,19 @@ fn relate_in<Infcx: InferCtxtLike, T: Relate<Infcx::Interner>>(
     requires env_known { KnowsEnv (Infcx.state infcx.old) param_env }
     requires decides { variance ≢ Variance.Bivariant }
     requires fits { T.fits (Infcx.state infcx.old).meaning a.now b.now }
-    requires asked { let before = solving_in [] (Infcx.state infcx.old) variance param_env in
+    requires asked { let before = solving_in No [] (Infcx.state infcx.old) variance param_env in
         AskedTerms solver_manner T.over T.tree before a.now b.now }
-    ensures related { let before = solving_in [] (Infcx.state infcx.old) variance param_env in
-        let after = solving_in result.1.items (Infcx.state infcx.new) variance param_env in
+    ensures related { let before = solving_in No [] (Infcx.state infcx.old) variance param_env in
+        let after = solving_in No result.1.items (Infcx.state infcx.new) variance param_env in
         RelatedTerms solver_manner T.over T.tree before after a.now b.now result.0 }
-    ensures registers { let before = solving_in [] (Infcx.state infcx.old) variance param_env in
-        let after = solving_in result.1.items (Infcx.state infcx.new) variance param_env in
+    ensures registers { let before = solving_in No [] (Infcx.state infcx.old) variance param_env in
+        let after = solving_in No result.1.items (Infcx.state infcx.new) variance param_env in
         TermsRegister solver_manner T.over T.tree before after a.now b.now result.0 }
 {
     let goals = Vec::new(infcx.cx().alloc());
     let mut relation = SolverRelating {
         infcx,
+        structurally_relate_aliases: StructurallyRelateAliases::No,
         ambient_variance: variance,
         param_env,
         span,

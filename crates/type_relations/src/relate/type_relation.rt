@@ -8,7 +8,7 @@ ghost use Rattle.relation_contexts.specs.Lawful.{State, Manners, TakesParts, Tur
 ghost use Rattle.relation_contexts.specs.Lawful.{RelatesByDeclared};
 ghost use Rattle.type_relations.specs.Following.{FollowsInterner};
 ghost use Rattle.type_relations.specs.Rounds.{AskedBinders, OpenedBinders};
-ghost use Rattle.type_relations.specs.Keyed.{AskedConsts, AskedRegions, AskedTys, RelatedRegions, RelatesTys};
+ghost use Rattle.type_relations.specs.Keyed.{AskedConsts, AskedRegions, AskedTys, RelatedRegions, ShownTys};
 ghost use Rattle.type_relations.specs.Keyed.{SteppedConsts, SteppedTys, TysStepToSubtype, AreOver, RecordsAsked};
 ghost use Rattle.type_relations.specs.Keyed.{variances_in, Decides};
 
@@ -19,6 +19,12 @@ use relation_folds::fold::TypeFoldable;
 use relation_folds::visit::TypeVisitable;
 use relation_terms::terms::{Const, GenericArgs, Interner, ItemOf, Region, Ty, Variance};
 
+/// What stands as a relation does. All that is said of one relation speaks of this state.
+pub trait HasState<I: Interner> {
+    // The relation as it stands.
+    ghost state: { Self → State I.Key I.Id I.Name };
+}
+
 /// A relation of types, regions and constants, at an ambient variance.
 ///
 /// It is given in steps: each answers what comes of two terms, or which two are to be related next. No step relates
@@ -27,10 +33,7 @@ use relation_terms::terms::{Const, GenericArgs, Interner, ItemOf, Region, Ty, Va
 /// The steps ask for terms that the relation's interner knows, that are the relation's own and that it takes at the
 /// ambient variance, which is not `Bivariant`. No relation takes terms of forms that have no rule yet: aliases,
 /// unevaluated constants and errors; nor what a binder does not bind as its list says.
-pub trait TypeRelation<I: Interner> {
-    // The relation as it stands.
-    ghost state: { Self → State I.Key I.Id I.Name };
-
+pub trait TypeRelation<I: Interner>: HasState<I> {
     // The interner of its terms.
     ghost interner: { Self → I };
 
@@ -42,55 +45,55 @@ pub trait TypeRelation<I: Interner> {
 
     /// The interner of the terms.
     fn cx(&self) -> &I
-        ensures { I.meaning result.now ≡ (state self.now).meaning };
+        ensures { I.meaning result.now ≡ (Self.state self.now).meaning };
 
     /// The interner, to make terms.
     fn cx_mut(&mut self) -> &mut I
         ensures* lends { sem 𝓛 (Lends Self.row I.row self.entry result (with_interner self.entry.now)) }
-        ensures value { I.meaning result.now ≡ (state self.old).meaning };
+        ensures value { I.meaning result.now ≡ (Self.state self.old).meaning };
 
     /// Does nothing: it shows that making terms changes nothing of the relation but what its interner knows.
     fn interner_grows(&self)
-        ensures { FollowsInterner I.meaning state with_interner self.now };
+        ensures { FollowsInterner I.meaning Self.state with_interner self.now };
 
     /// The variance at which terms are related.
     fn ambient(&self) -> Variance
-        ensures { result ≡ (state self.now).ambient };
+        ensures { result ≡ (Self.state self.now).ambient };
 
     /// Relates at this variance from now on.
     fn set_ambient(&mut self, v: Variance)
-        ensures { Turned v (state self.old) (state self.new) };
+        ensures { Turned v (Self.state self.old) (Self.state self.new) };
 
     /// The variances at which the arguments of an item's types are related: those that the item declares; or none, for
     /// all of them invariantly, where the ambient variance is `Invariant`. There it answers variances only where the
     /// relation's settings say so.
     fn item_variances(&self, def_id: &ItemOf<I>) -> Option<&[Variance]>
-        ensures declared { IfSome result (λ vs. vs.now ≡ variances_in (state self.now) def_id.now) }
-        ensures by_declared { let r = state self.now in IfSome result (λ _. Decides r → RelatesByDeclared r) }
-        ensures none { IfNone result ((state self.now).ambient ≡ Invariant) };
+        ensures declared { IfSome result (λ vs. vs.now ≡ variances_in (Self.state self.now) def_id.now) }
+        ensures by_declared { let r = Self.state self.now in IfSome result (λ _. Decides r → RelatesByDeclared r) }
+        ensures none { IfNone result ((Self.state self.now).ambient ≡ Invariant) };
 
     /// What comes of two types.
     fn tys(&mut self, a: &Ty<I>, b: &Ty<I>) -> RelateResult<I, Step<Ty<I>>>
-        requires lawful { (state self.old).lawful }
-        requires decides { (state self.old).ambient ≢ Bivariant }
-        requires asked { AskedTys manner (state self.old) a.now b.now }
-        ensures stepped { SteppedTys manner (state self.old) (state self.new) a.now b.now result }
-        ensures registers { TysStepToSubtype manner (state self.old) (state self.new) a.now b.now result };
+        requires lawful { (Self.state self.old).lawful }
+        requires decides { (Self.state self.old).ambient ≢ Bivariant }
+        requires asked { AskedTys manner (Self.state self.old) a.now b.now }
+        ensures stepped { SteppedTys manner (Self.state self.old) (Self.state self.new) a.now b.now result }
+        ensures registers { TysStepToSubtype manner (Self.state self.old) (Self.state self.new) a.now b.now result };
 
     /// What comes of two constants.
     fn consts(&mut self, a: &Const<I>, b: &Const<I>) -> RelateResult<I, Step<Const<I>>>
-        requires lawful { (state self.old).lawful }
-        requires decides { (state self.old).ambient ≢ Bivariant }
-        requires asked { AskedConsts manner (state self.old) a.now b.now }
-        ensures { SteppedConsts manner (state self.old) (state self.new) a.now b.now result };
+        requires lawful { (Self.state self.old).lawful }
+        requires decides { (Self.state self.old).ambient ≢ Bivariant }
+        requires asked { AskedConsts manner (Self.state self.old) a.now b.now }
+        ensures { SteppedConsts manner (Self.state self.old) (Self.state self.new) a.now b.now result };
 
     /// Relates two regions.
     fn regions(&mut self, a: &Region<I>, b: &Region<I>) -> RelateResult<I, Region<I>>
-        requires lawful { (state self.old).lawful }
-        requires decides { (state self.old).ambient ≢ Bivariant }
-        requires asked { AskedRegions manner (state self.old) a.now b.now }
-        ensures related { RelatedRegions manner (state self.old) (state self.new) a.now b.now result }
-        ensures recorded { IfOk result (λ _. RecordsAsked manner (state self.old) (state self.new) a.now b.now) };
+        requires lawful { (Self.state self.old).lawful }
+        requires decides { (Self.state self.old).ambient ≢ Bivariant }
+        requires asked { AskedRegions manner (Self.state self.old) a.now b.now }
+        ensures related { RelatedRegions manner (Self.state self.old) (Self.state self.new) a.now b.now result }
+        ensures recorded { IfOk result (λ _. RecordsAsked manner (Self.state self.old) (Self.state self.new) a.now b.now) };
 
     /// The bodies of two binders that are to be related in a round, 0 or 1, the left one's first; or none.
     ///
@@ -106,19 +109,19 @@ pub trait TypeRelation<I: Interner> {
         b: &BinderOf<I, T>,
         round: usize,
     ) -> RelateResult<I, Option<(T, T)>>
-        requires lawful { (state self.old).lawful }
-        requires decides { (state self.old).ambient ≢ Bivariant }
+        requires lawful { (Self.state self.old).lawful }
+        requires decides { (Self.state self.old).ambient ≢ Bivariant }
         requires round { round < 2 }
-        requires asked { AskedBinders manner T.tree (state self.old) a.now b.now }
-        ensures { OpenedBinders manner T.tree (state self.old) (state self.new) round a.now b.now result };
+        requires asked { AskedBinders manner T.tree (Self.state self.old) a.now b.now }
+        ensures { OpenedBinders manner T.tree (Self.state self.old) (Self.state self.new) round a.now b.now result };
 
     /// Takes note that two types, as `tys` read them, were related.
     fn tys_done(&mut self, a: &Ty<I>, b: &Ty<I>) -> RelateResult<I, ()>
-        requires lawful { (state self.old).lawful }
-        requires decides { (state self.old).ambient ≢ Bivariant }
-        requires asked { AskedTys manner (state self.old) a.now b.now }
-        requires related { RelatesTys (state self.old) a.now b.now }
-        ensures { Noted (state self.old) (state self.new) result };
+        requires lawful { (Self.state self.old).lawful }
+        requires decides { (Self.state self.old).ambient ≢ Bivariant }
+        requires asked { AskedTys manner (Self.state self.old) a.now b.now }
+        requires related { ShownTys manner (Self.state self.old) a.now b.now }
+        ensures { Noted (Self.state self.old) (Self.state self.new) result };
 
     /// Takes note that the arguments of two types over one item were related at the variances that it declares, and so
     /// the types. The lists are theirs.
@@ -130,19 +133,19 @@ pub trait TypeRelation<I: Interner> {
         a_args: &GenericArgs<I>,
         b_args: &GenericArgs<I>,
     ) -> RelateResult<I, ()>
-        requires lawful { (state self.old).lawful }
-        requires decides { (state self.old).ambient ≢ Bivariant }
-        requires asked { AskedTys manner (state self.old) a_ty.now b_ty.now }
-        requires by_declared { RelatesByDeclared (state self.old) }
-        requires over { AreOver (state self.old) def_id.now a_ty.now b_ty.now a_args.now b_args.now }
-        requires related { RelatesTys (state self.old) a_ty.now b_ty.now }
-        ensures { Noted (state self.old) (state self.new) result };
+        requires lawful { (Self.state self.old).lawful }
+        requires decides { (Self.state self.old).ambient ≢ Bivariant }
+        requires asked { AskedTys manner (Self.state self.old) a_ty.now b_ty.now }
+        requires by_declared { RelatesByDeclared (Self.state self.old) }
+        requires over { AreOver (Self.state self.old) def_id.now a_ty.now b_ty.now a_args.now b_args.now }
+        requires related { ShownTys manner (Self.state self.old) a_ty.now b_ty.now }
+        ensures { Noted (Self.state self.old) (Self.state self.new) result };
 
     // Its keys mean what they mean to the interner.
-    ghost reads: { (r : Self) → (state r).meaning ≡ I.meaning (interner r) };
+    ghost reads: { (r : Self) → (Self.state r).meaning ≡ I.meaning (interner r) };
 
     // What a lawful relation has recorded is sound.
-    ghost sound: { (r : Self) → (state r).lawful → IsSound (state r).store };
+    ghost sound: { (r : Self) → (Self.state r).lawful → IsSound (Self.state r).store };
 
     // What it takes goes through forms.
     ghost takes_parts: { TakesParts manner };

@@ -87,6 +87,7 @@ pub(crate) fn meet_tys<Infcx: InferCtxtLike>(
 // constant, which is then to be related with that; all others are left to be related by their parts.
 fn meet_shallow<Infcx: InferCtxtLike>(
     infcx: &mut Infcx,
+    aliases: StructurallyRelateAliases,
     a: &Const<Infcx::Interner>,
     b: &Const<Infcx::Interner>,
 ) -> RelateResult<Infcx::Interner, Step<Const<Infcx::Interner>>>
@@ -109,7 +110,7 @@ fn meet_shallow<Infcx: InferCtxtLike>(
                 Ok(Step::Done(*a))
             }
             None => {
-                let value = infcx.instantiate_const_var_raw(StructurallyRelateAliases::No, x, b)?;
+                let value = infcx.instantiate_const_var_raw(aliases, x, b)?;
                 Ok(Step::Again {
                     a: *a,
                     b: *b,
@@ -122,7 +123,7 @@ fn meet_shallow<Infcx: InferCtxtLike>(
         },
         None => match const_var(&*infcx, b) {
             Some(y) => {
-                let value = infcx.instantiate_const_var_raw(StructurallyRelateAliases::No, y, a)?;
+                let value = infcx.instantiate_const_var_raw(aliases, y, a)?;
                 Ok(Step::Again {
                     a: *a,
                     b: *b,
@@ -141,6 +142,7 @@ fn meet_shallow<Infcx: InferCtxtLike>(
 // shallowly.
 pub(crate) fn meet_consts<Infcx: InferCtxtLike>(
     infcx: &mut Infcx,
+    aliases: StructurallyRelateAliases,
     a: &Const<Infcx::Interner>,
     b: &Const<Infcx::Interner>,
 ) -> RelateResult<Infcx::Interner, Step<Const<Infcx::Interner>>>
@@ -159,5 +161,5 @@ pub(crate) fn meet_consts<Infcx: InferCtxtLike>(
     }
     let left = infcx.shallow_resolve_const(a);
     let right = infcx.shallow_resolve_const(b);
-    meet_shallow(infcx, &left, &right)
+    meet_shallow(infcx, aliases, &left, &right)
 }

@@ -31,10 +31,6 @@ fn goals_of<X: Copy>(
 
 impl<'a, Infcx: InferCtxtLike> PredicateEmittingRelation<Infcx> for SolverRelating<'a, Infcx> {
     ghost use Rattle.std.specs.Prelude.{refl};
-    ghost use Rattle.type_relations.specs.Solving.{solving_through};
-
-    ghost state = { λ r. solving_through r.infcx.ghost_name r.goals.items (Infcx.state r.infcx.now) r.ambient_variance
-        r.param_env };
 
     ghost context = { λ r. r.infcx.now };
 
@@ -59,7 +55,7 @@ impl<'a, Infcx: InferCtxtLike> PredicateEmittingRelation<Infcx> for SolverRelati
     }
 
     fn structurally_relate_aliases(&self) -> StructurallyRelateAliases {
-        StructurallyRelateAliases::No
+        self.structurally_relate_aliases
     }
 
     fn register_goals(&mut self, goals: &[GoalOf<Infcx::Interner>]) -> Result<(), OutOfMemory> {
@@ -75,5 +71,13 @@ impl<'a, Infcx: InferCtxtLike> PredicateEmittingRelation<Infcx> for SolverRelati
         self.register_goals(goals.as_slice())
     }
 
-    ghost over = { λ r. record { meaning = refl; store = refl; solver = refl; outliving = refl; lawful = λ l. l.0 } };
+    ghost over = { λ r. record {
+      meaning = refl;
+      store = refl;
+      solver = refl;
+      coherence = refl;
+      mode = refl;
+      outliving = refl;
+      lawful = λ l. l.0;
+    } };
 }

@@ -19,7 +19,7 @@ use crate::relate::solver_relating::opening::{
 };
 use crate::relate::solver_relating::recording::{relate_regions, subtype_predicate};
 use crate::relate::variables::{have_no_variable, ty_var};
-use crate::relate::{Relate, Step, StructurallyRelateAliases, TypeRelation};
+use crate::relate::{HasState, Relate, Step, StructurallyRelateAliases, TypeRelation};
 use relation_contexts::infer_ctxt::{BinderOf, InferCtxtLike};
 use relation_folds::error::RelateResult;
 use relation_folds::fold::TypeFoldable;
@@ -42,6 +42,7 @@ pub type GoalOf<I> = Goal<<I as Keys>::Key, Predicate<I>>;
 #[derive(Drop)]
 pub struct SolverRelating<'a, Infcx: InferCtxtLike> {
     pub(crate) infcx: &'a mut Infcx,
+    pub(crate) structurally_relate_aliases: StructurallyRelateAliases,
     pub(crate) ambient_variance: Variance,
     pub(crate) param_env: ParamEnv<Infcx::Interner>,
     pub(crate) span: Span<Infcx::Interner>,
@@ -49,16 +50,18 @@ pub struct SolverRelating<'a, Infcx: InferCtxtLike> {
 }
 
 impl<'a, Infcx: InferCtxtLike> SolverRelating<'a, Infcx> {
-    /// The relation of a context. Constraints on regions are recorded with the span, and goals are registered in the
-    /// environment: none yet.
+    /// The relation of a context, which relates aliases so. Constraints on regions are recorded with the span, and goals
+    /// are registered in the environment: none yet. It is set up for the context's solver and in its typing mode.
     pub fn new(
         infcx: &'a mut Infcx,
+        structurally_relate_aliases: StructurallyRelateAliases,
         ambient_variance: Variance,
         param_env: ParamEnv<Infcx::Interner>,
         span: Span<Infcx::Interner>,
     ) -> SolverRelating<'a, Infcx>
         ensures same_reference { result.infcx.ghost_name ≡ infcx.entry.ghost_name }
         ensures infcx { result.infcx.now ≡ infcx.entry.now }
+        ensures aliases { result.structurally_relate_aliases ≡ structurally_relate_aliases }
         ensures ambient_variance { result.ambient_variance ≡ ambient_variance }
         ensures param_env { result.param_env ≡ param_env }
         ensures span { result.span ≡ span }
@@ -68,6 +71,7 @@ impl<'a, Infcx: InferCtxtLike> SolverRelating<'a, Infcx> {
         let goals = Vec::new(infcx.cx().alloc());
         SolverRelating {
             infcx,
+            structurally_relate_aliases,
             ambient_variance,
             param_env,
             span,
@@ -94,6 +98,7 @@ impl<'a, Infcx: InferCtxtLike> SolverRelating<'a, Infcx> {
         requires fits { T.fits (Infcx.state self.old.infcx.now).meaning a.now b.now }
         requires asked { SolverAsked Infcx.state T.over T.tree self.old a.now b.now }
         ensures same_reference { self.new.infcx.ghost_name ≡ self.old.infcx.ghost_name }
+        ensures aliases { self.new.structurally_relate_aliases ≡ self.old.structurally_relate_aliases }
         ensures variance { self.new.ambient_variance ≡ self.old.ambient_variance }
         ensures environment { KeepsEnvironment Infcx.state self.old self.new }
         ensures related { SolverRelated Infcx.state T.over T.tree self.old self.new a.now b.now result }
@@ -174,9 +179,8 @@ impl<'a, Infcx: InferCtxtLike> SolverRelating<'a, Infcx> {
                 Some(y) => self.combine_ty_vars(a, x, b, y),
                 None => {
                     let variance = self.ambient_variance;
-                    let bound = self
-                        .infcx
-                        .instantiate_ty_var_raw(StructurallyRelateAliases::No, x, variance, b)?;
+                    let aliases = self.structurally_relate_aliases;
+                    let bound = self.infcx.instantiate_ty_var_raw(aliases, x, variance, b)?;
                     Ok(Step::Again {
                         a: *a,
                         b: *b,
@@ -190,9 +194,8 @@ impl<'a, Infcx: InferCtxtLike> SolverRelating<'a, Infcx> {
             None => match ty_var(&*self.infcx, b) {
                 Some(y) => {
                     let variance = self.ambient_variance.xform(Variance::Contravariant);
-                    let bound = self
-                        .infcx
-                        .instantiate_ty_var_raw(StructurallyRelateAliases::No, y, variance, a)?;
+                    let aliases = self.structurally_relate_aliases;
+                    let bound = self.infcx.instantiate_ty_var_raw(aliases, y, variance, a)?;
                     Ok(Step::Again {
                         a: *a,
                         b: *b,
@@ -213,6 +216,7 @@ impl<'a, Infcx: InferCtxtLike> SolverRelating<'a, Infcx> {
         ensures none_left { self.new.goals.items ≡ [] }
         ensures same_reference { self.new.infcx.ghost_name ≡ self.old.infcx.ghost_name }
         ensures infcx { self.new.infcx.now ≡ self.old.infcx.now }
+        ensures aliases { self.new.structurally_relate_aliases ≡ self.old.structurally_relate_aliases }
         ensures variance { self.new.ambient_variance ≡ self.old.ambient_variance }
         ensures environment { self.new.param_env ≡ self.old.param_env }
     {
@@ -227,6 +231,7 @@ impl<'a, Infcx: InferCtxtLike> SolverRelating<'a, Infcx> {
     {
         let SolverRelating {
             infcx,
+            structurally_relate_aliases: _,
             ambient_variance: _,
             param_env: _,
             span: _,
@@ -236,12 +241,16 @@ impl<'a, Infcx: InferCtxtLike> SolverRelating<'a, Infcx> {
     }
 }
 
+impl<'a, Infcx: InferCtxtLike> HasState<Infcx::Interner> for SolverRelating<'a, Infcx> {
+    ghost use Rattle.type_relations.specs.Solving.{solving_through};
+
+    ghost state = { λ r. solving_through r.structurally_relate_aliases r.infcx.ghost_name r.goals.items
+        (Infcx.state r.infcx.now) r.ambient_variance r.param_env };
+}
+
 impl<'a, Infcx: InferCtxtLike> TypeRelation<Infcx::Interner> for SolverRelating<'a, Infcx> {
     ghost use Rattle.std.specs.Prelude.{refl};
-    ghost use Rattle.type_relations.specs.Solving.{solving_through, solver_manner, solver_takes};
-
-    ghost state = { λ r. solving_through r.infcx.ghost_name r.goals.items (Infcx.state r.infcx.now) r.ambient_variance
-        r.param_env };
+    ghost use Rattle.type_relations.specs.Solving.{solver_manner, solver_takes};
 
     ghost interner = { λ r. Infcx.interner r.infcx.now };
 

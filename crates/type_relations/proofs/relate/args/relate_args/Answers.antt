@@ -22,7 +22,7 @@ use Rattle.type_relations.proofs.relate.args.relate_args.Goals as goal
 
 pub loop-i-init : goal.loop-i-init
 loop-i-init g c =
-    let r = g.R.TypeRelation.state c.args.r.now in
+    let r = g.R.HasState.state c.args.r.now in
     let h = args_head r.meaning c.args.variances.now in
     let ts = (r.meaning).args c.args.a.now in
     let us = (r.meaning).args c.args.b.now in
@@ -46,9 +46,9 @@ loop-i-init g c =
 
 pub relate_with_variance-requires-clause-asked : goal.relate_with_variance-requires-clause-asked
 relate_with_variance-requires-clause-asked g c =
-    let r = g.R.TypeRelation.state c.args.r.now in
+    let r = g.R.HasState.state c.args.r.now in
     let M = g.R.TypeRelation.manner in
-    let q = g.R.TypeRelation.state c.loop-i.r in
+    let q = g.R.HasState.state c.loop-i.r in
     let h = args_head r.meaning c.args.variances.now in
     let ts = (r.meaning).args c.args.a.now in
     let us = (r.meaning).args c.args.b.now in
@@ -75,10 +75,10 @@ relate_with_variance-requires-clause-asked g c =
 
 pub returns-in_err-answer : goal.returns-in_err-answer
 returns-in_err-answer g c =
-    let r = g.R.TypeRelation.state c.args.r.now in
+    let r = g.R.HasState.state c.args.r.now in
     let M = g.R.TypeRelation.manner in
-    let q = g.R.TypeRelation.state c.loop-i.r in
-    let p = g.R.TypeRelation.state c.relate_with_variance.new.r in
+    let q = g.R.HasState.state c.loop-i.r in
+    let p = g.R.HasState.state c.relate_with_variance.new.r in
     let h = args_head r.meaning c.args.variances.now in
     let ts = (r.meaning).args c.args.a.now in
     let us = (r.meaning).args c.args.b.now in
@@ -112,10 +112,10 @@ returns-in_err-answer g c =
 
 pub returns-in_err-push : goal.returns-in_err-push
 returns-in_err-push g c =
-    let r = g.R.TypeRelation.state c.args.r.now in
+    let r = g.R.HasState.state c.args.r.now in
     let M = g.R.TypeRelation.manner in
-    let q = g.R.TypeRelation.state c.loop-i.r in
-    let p = g.R.TypeRelation.state c.relate_with_variance.new.r in
+    let q = g.R.HasState.state c.loop-i.r in
+    let p = g.R.HasState.state c.relate_with_variance.new.r in
     let h = args_head r.meaning c.args.variances.now in
     let ts = (r.meaning).args c.args.a.now in
     let us = (r.meaning).args c.args.b.now in
@@ -151,10 +151,10 @@ returns-in_err-push g c =
 
 pub loop-i-preserved : goal.loop-i-preserved
 loop-i-preserved g c =
-    let r = g.R.TypeRelation.state c.args.r.now in
+    let r = g.R.HasState.state c.args.r.now in
     let M = g.R.TypeRelation.manner in
-    let q = g.R.TypeRelation.state c.loop-i.r in
-    let p = g.R.TypeRelation.state c.relate_with_variance.new.r in
+    let q = g.R.HasState.state c.loop-i.r in
+    let p = g.R.HasState.state c.relate_with_variance.new.r in
     let h = args_head r.meaning c.args.variances.now in
     let ts = (r.meaning).args c.args.a.now in
     let us = (r.meaning).args c.args.b.now in
@@ -201,10 +201,10 @@ loop-i-preserved g c =
 
 pub returns : goal.returns
 returns g c =
-    let r = g.R.TypeRelation.state c.args.r.now in
+    let r = g.R.HasState.state c.args.r.now in
     let M = g.R.TypeRelation.manner in
-    let q = g.R.TypeRelation.state c.loop-i.r in
-    let p = g.R.TypeRelation.state c.make_args.new.r in
+    let q = g.R.HasState.state c.loop-i.r in
+    let p = g.R.HasState.state c.make_args.new.r in
     let h = args_head r.meaning c.args.variances.now in
     let ts = (r.meaning).args c.args.a.now in
     let us = (r.meaning).args c.args.b.now in

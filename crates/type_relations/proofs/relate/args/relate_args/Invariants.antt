@@ -8,8 +8,8 @@ use Rattle.type_relations.proofs.relate.args.relate_args.Given as goal
 
 abbrev pub invariant-loop-i : goal.invariant-loop-i
 invariant-loop-i g l =
-    let r = g.R.TypeRelation.state l.initial.r in
-    let q = g.R.TypeRelation.state l.r in
+    let r = g.R.HasState.state l.initial.r in
+    let q = g.R.HasState.state l.r in
     let ts = (r.meaning).args l.a in
     let us = (r.meaning).args l.b in
     record {

@@ -4,16 +4,15 @@ use Rattle.relation_terms.specs.Trees.{Tree, node, known}
 use Rattle.relation_terms.proofs.Stays.{extends_on}
 use Rattle.relation_contexts.specs.Parts.{head_of}
 use Rattle.type_relations.specs.Arguments.{args_head}
-use Rattle.relation_contexts.specs.Lawful.{Asked, Related, MayAnswer, items_in}
-use Rattle.relation_contexts.specs.Goals.{Relates}
-use Rattle.relation_contexts.proofs.Passing.{as_err, asked_later, refused_again, noted_related, noted_refused, made_or_not, relates_now}
+use Rattle.relation_contexts.specs.Lawful.{Asked, Related, Shown, MayAnswer, items_in}
+use Rattle.relation_contexts.proofs.Passing.{as_err, asked_later, refused_again, noted_related, noted_refused, made_or_not, shown_now}
 use Rattle.type_relations.proofs.Arguments.{args_heads, over_later}
 use Rattle.relation_contexts.proofs.Answering.{if_ok_both}
 use Rattle.type_relations.proofs.relate.args.relate_ty_args.Goals as goal
 
 pub relate_args-requires-clause-asked : goal.relate_args-requires-clause-asked
 relate_args-requires-clause-asked g c =
-    let r = g.R.TypeRelation.state c.args.r.now in
+    let r = g.R.HasState.state c.args.r.now in
     let m = r.meaning in
     let is = c.item_variances-variances.ensures (m.ty c.args.b_ty.now) (m.args c.args.a_args.now)
     (m.args c.args.b_args.now) c.requires.over in
@@ -21,8 +20,8 @@ relate_args-requires-clause-asked g c =
 
 pub returns-in_err-args : goal.returns-in_err-args
 returns-in_err-args g c =
-    let r = g.R.TypeRelation.state c.args.r.now in
-    let q = g.R.TypeRelation.state c.relate_args.new.r in
+    let r = g.R.HasState.state c.args.r.now in
+    let q = g.R.HasState.state c.relate_args.new.r in
     let M = g.R.TypeRelation.manner in
     let m = r.meaning in
     let v = c.item_variances-variances.result in
@@ -39,8 +38,8 @@ returns-in_err-args g c =
 
 pub note_declared-requires-clause-asked : goal.note_declared-requires-clause-asked
 note_declared-requires-clause-asked g c =
-    let r = g.R.TypeRelation.state c.args.r.now in
-    let q = g.R.TypeRelation.state c.relate_args.new.r in
+    let r = g.R.HasState.state c.args.r.now in
+    let q = g.R.HasState.state c.relate_args.new.r in
     let M = g.R.TypeRelation.manner in
     let m = r.meaning in
     let passes = (c.in_ok-args.ensures).passes in
@@ -58,8 +57,8 @@ note_declared-requires-clause-over g c =
 
 pub note_declared-requires-clause-related : goal.note_declared-requires-clause-related
 note_declared-requires-clause-related g c =
-    let r = g.R.TypeRelation.state c.args.r.now in
-    let q = g.R.TypeRelation.state c.relate_args.new.r in
+    let r = g.R.HasState.state c.args.r.now in
+    let q = g.R.HasState.state c.relate_args.new.r in
     let M = g.R.TypeRelation.manner in
     let m = r.meaning in
     let v = c.item_variances-variances.result in
@@ -71,16 +70,16 @@ note_declared-requires-clause-related g c =
     let done = subst₂ (λ a b. Related M r q r.ambient a b (λ k. node (args_head (q.meaning) v) ((q.meaning).args k))
     (Ok args)) (sym is.0) (sym is.1) c.in_ok-args.ensures in
     let passes = done.passes in
-    subst₂ (λ t u. Relates (items_in q) q.store q.goals q.kept.environment q.ambient t u)
+    subst₂ (λ t u. Shown M q q.ambient t u)
     (sym ((passes.extends).ty c.args.a_ty.now k.left_known)) (sym ((passes.extends).ty c.args.b_ty.now k.right_known))
-    (subst (λ v. Relates (items_in q) q.store q.goals q.kept.environment v a b) (sym passes.ambient)
-    (relates_now M r.ambient a b (λ k. node (args_head (q.meaning) v) ((q.meaning).args k)) args done))
+    (subst (λ v. Shown M q v a b) (sym passes.ambient)
+    (shown_now M r.ambient a b (λ k. node (args_head (q.meaning) v) ((q.meaning).args k)) args done))
 
 pub returns-in_err-note_declared : goal.returns-in_err-note_declared
 returns-in_err-note_declared g c =
-    let r = g.R.TypeRelation.state c.args.r.now in
-    let q = g.R.TypeRelation.state c.relate_args.new.r in
-    let p = g.R.TypeRelation.state c.note_declared.new.r in
+    let r = g.R.HasState.state c.args.r.now in
+    let q = g.R.HasState.state c.relate_args.new.r in
+    let p = g.R.HasState.state c.note_declared.new.r in
     let M = g.R.TypeRelation.manner in
     let m = r.meaning in
     let v = c.item_variances-variances.result in
@@ -106,8 +105,8 @@ make_over-requires-clause-callable g c cx list e known =
 
 pub make_over-requires-clause-makes : goal.make_over-requires-clause-makes
 make_over-requires-clause-makes g c cx list res left e post =
-    let r = g.R.TypeRelation.state c.args.r.now in
-    let p = g.R.TypeRelation.state c.note_declared.new.r in
+    let r = g.R.HasState.state c.args.r.now in
+    let p = g.R.HasState.state c.note_declared.new.r in
     let n = g.I.Interner.meaning left.now in
     let us = (g.I.Interner.meaning cx.now).args list in
     let through = extends_on ((c.in_ok-args.ensures).passes).extends ((c.in_ok-note_declared.ensures).passes).extends in
@@ -117,10 +116,10 @@ make_over-requires-clause-makes g c cx list res left e post =
 
 pub returns : goal.returns
 returns g c =
-    let r = g.R.TypeRelation.state c.args.r.now in
-    let q = g.R.TypeRelation.state c.relate_args.new.r in
-    let p = g.R.TypeRelation.state c.note_declared.new.r in
-    let u = g.R.TypeRelation.state c.make_over.new.r in
+    let r = g.R.HasState.state c.args.r.now in
+    let q = g.R.HasState.state c.relate_args.new.r in
+    let p = g.R.HasState.state c.note_declared.new.r in
+    let u = g.R.HasState.state c.make_over.new.r in
     let M = g.R.TypeRelation.manner in
     let m = r.meaning in
     let v = c.item_variances-variances.result in

@@ -16,7 +16,7 @@ use Rattle.type_relations.proofs.relate.combine.combine_ty_args.Goals as goal
 pub have_open_argument-requires-clause-a_in : goal.have_open_argument-requires-clause-a_in
 have_open_argument-requires-clause-a_in g c =
     let x = c.args.r.now in
-    let r = g.R.PredicateEmittingRelation.state x in
+    let r = g.R.HasState.state x in
     let o = g.met.R.PredicateEmittingRelation.over x in
     let s = g.Infcx.InferCtxtLike.state (g.R.PredicateEmittingRelation.context x) in
     let m = r.meaning in
@@ -29,7 +29,7 @@ have_open_argument-requires-clause-a_in g c =
 pub have_open_argument-requires-clause-b_in : goal.have_open_argument-requires-clause-b_in
 have_open_argument-requires-clause-b_in g c =
     let x = c.args.r.now in
-    let r = g.R.PredicateEmittingRelation.state x in
+    let r = g.R.HasState.state x in
     let o = g.met.R.PredicateEmittingRelation.over x in
     let s = g.Infcx.InferCtxtLike.state (g.R.PredicateEmittingRelation.context x) in
     let m = r.meaning in
@@ -42,11 +42,11 @@ have_open_argument-requires-clause-b_in g c =
 pub returns-in_err-have_open_argument-clause-noted : goal.returns-in_err-have_open_argument-clause-noted
 returns-in_err-have_open_argument-clause-noted g c =
     let x = c.args.r.now in
-    let r = g.R.PredicateEmittingRelation.state x in
+    let r = g.R.HasState.state x in
     let o = g.met.R.PredicateEmittingRelation.over x in
     let s = g.Infcx.InferCtxtLike.state (g.R.PredicateEmittingRelation.context x) in
     let y = g.R.PredicateEmittingRelation.with_context x c.have_open_argument.new.infcx in
-    let q = g.R.PredicateEmittingRelation.state y in
+    let q = g.R.HasState.state y in
     let d = g.Infcx.InferCtxtLike.state c.have_open_argument.new.infcx in
     let f = c.in_err-have_open_argument.ensures in
     let grows = subst (λ z. Grows (g.Infcx.InferCtxtLike.state z) d) c.infcx_mut.ensures.value f.grows in
@@ -60,11 +60,11 @@ returns-in_err-have_open_argument-clause-noted g c =
 pub returns-then-not-branch-clause-noted : goal.returns-then-not-branch-clause-noted
 returns-then-not-branch-clause-noted g c =
     let x = c.args.r.now in
-    let r = g.R.PredicateEmittingRelation.state x in
+    let r = g.R.HasState.state x in
     let o = g.met.R.PredicateEmittingRelation.over x in
     let s = g.Infcx.InferCtxtLike.state (g.R.PredicateEmittingRelation.context x) in
     let y = g.R.PredicateEmittingRelation.with_context x c.have_open_argument.new.infcx in
-    let q = g.R.PredicateEmittingRelation.state y in
+    let q = g.R.HasState.state y in
     let d = g.Infcx.InferCtxtLike.state c.have_open_argument.new.infcx in
     let f = c.in_ok-have_open_argument.ensures in
     let grows = subst (λ z. Grows (g.Infcx.InferCtxtLike.state z) d) c.infcx_mut.ensures.value f.grows in
@@ -76,11 +76,11 @@ returns-then-not-branch-clause-noted g c =
 pub returns-in_err-predicates-clause-noted : goal.returns-in_err-predicates-clause-noted
 returns-in_err-predicates-clause-noted g c =
     let x = c.args.r.now in
-    let r = g.R.PredicateEmittingRelation.state x in
+    let r = g.R.HasState.state x in
     let o = g.met.R.PredicateEmittingRelation.over x in
     let s = g.Infcx.InferCtxtLike.state (g.R.PredicateEmittingRelation.context x) in
     let y = g.R.PredicateEmittingRelation.with_context x c.have_open_argument.new.infcx in
-    let q = g.R.PredicateEmittingRelation.state y in
+    let q = g.R.HasState.state y in
     let d = g.Infcx.InferCtxtLike.state c.have_open_argument.new.infcx in
     let f = c.in_ok-have_open_argument.ensures in
     let grows = subst (λ z. Grows (g.Infcx.InferCtxtLike.state z) d) c.infcx_mut.ensures.value f.grows in
@@ -88,7 +88,7 @@ returns-in_err-predicates-clause-noted g c =
     let w = with_meaning o (c.context_grows.ensures c.have_open_argument.new.infcx grows (later_same same)
     c.requires.lawful) same in
     let u = g.R.PredicateEmittingRelation.with_context y c.both_well_formed.new.infcx in
-    let p = g.R.PredicateEmittingRelation.state u in
+    let p = g.R.HasState.state u in
     let over = g.met.R.PredicateEmittingRelation.over y in
     let t = g.Infcx.InferCtxtLike.state (g.R.PredicateEmittingRelation.context y) in
     let e = g.Infcx.InferCtxtLike.state c.both_well_formed.new.infcx in
@@ -106,12 +106,12 @@ returns-in_err-predicates-clause-noted g c =
 pub returns-then-not-branch-clause-registers : goal.returns-then-not-branch-clause-registers
 returns-then-not-branch-clause-registers g c =
     let x = c.args.r.now in
-    let r = g.R.PredicateEmittingRelation.state x in
+    let r = g.R.HasState.state x in
     let o = g.met.R.PredicateEmittingRelation.over x in
     let s = g.Infcx.InferCtxtLike.state (g.R.PredicateEmittingRelation.context x) in
     let m = r.meaning in
     let y = g.R.PredicateEmittingRelation.with_context x c.have_open_argument.new.infcx in
-    let q = g.R.PredicateEmittingRelation.state y in
+    let q = g.R.HasState.state y in
     let d = g.Infcx.InferCtxtLike.state c.have_open_argument.new.infcx in
     let f = c.in_ok-have_open_argument.ensures in
     let grows = subst (λ z. Grows (g.Infcx.InferCtxtLike.state z) d) c.infcx_mut.ensures.value f.grows in
@@ -136,12 +136,12 @@ returns-then-not-branch-clause-registers g c =
 pub register_predicates-requires-clause-known : goal.register_predicates-requires-clause-known
 register_predicates-requires-clause-known g c =
     let x = c.args.r.now in
-    let r = g.R.PredicateEmittingRelation.state x in
+    let r = g.R.HasState.state x in
     let o = g.met.R.PredicateEmittingRelation.over x in
     let s = g.Infcx.InferCtxtLike.state (g.R.PredicateEmittingRelation.context x) in
     let m = r.meaning in
     let y = g.R.PredicateEmittingRelation.with_context x c.have_open_argument.new.infcx in
-    let q = g.R.PredicateEmittingRelation.state y in
+    let q = g.R.HasState.state y in
     let d = g.Infcx.InferCtxtLike.state c.have_open_argument.new.infcx in
     let f = c.in_ok-have_open_argument.ensures in
     let grows = subst (λ z. Grows (g.Infcx.InferCtxtLike.state z) d) c.infcx_mut.ensures.value f.grows in
@@ -161,7 +161,7 @@ register_predicates-requires-clause-known g c =
     (g.Infcx.InferCtxtLike.state z).store (((g.Infcx.InferCtxtLike.state z).meaning).id i)
     (((g.Infcx.InferCtxtLike.state z).meaning).args ys)) c.infcx_mut.ensures.value f.tells) in
     let u = g.R.PredicateEmittingRelation.with_context y c.both_well_formed.new.infcx in
-    let p = g.R.PredicateEmittingRelation.state u in
+    let p = g.R.HasState.state u in
     let over = g.met.R.PredicateEmittingRelation.over y in
     let t = g.Infcx.InferCtxtLike.state (g.R.PredicateEmittingRelation.context y) in
     let e = g.Infcx.InferCtxtLike.state c.both_well_formed.new.infcx in
@@ -185,12 +185,12 @@ register_predicates-requires-clause-known g c =
 pub returns-in_err-register_predicates-clause-noted : goal.returns-in_err-register_predicates-clause-noted
 returns-in_err-register_predicates-clause-noted g c =
     let x = c.args.r.now in
-    let r = g.R.PredicateEmittingRelation.state x in
+    let r = g.R.HasState.state x in
     let o = g.met.R.PredicateEmittingRelation.over x in
     let s = g.Infcx.InferCtxtLike.state (g.R.PredicateEmittingRelation.context x) in
     let m = r.meaning in
     let y = g.R.PredicateEmittingRelation.with_context x c.have_open_argument.new.infcx in
-    let q = g.R.PredicateEmittingRelation.state y in
+    let q = g.R.HasState.state y in
     let d = g.Infcx.InferCtxtLike.state c.have_open_argument.new.infcx in
     let f = c.in_ok-have_open_argument.ensures in
     let grows = subst (λ z. Grows (g.Infcx.InferCtxtLike.state z) d) c.infcx_mut.ensures.value f.grows in
@@ -210,7 +210,7 @@ returns-in_err-register_predicates-clause-noted g c =
     (g.Infcx.InferCtxtLike.state z).store (((g.Infcx.InferCtxtLike.state z).meaning).id i)
     (((g.Infcx.InferCtxtLike.state z).meaning).args ys)) c.infcx_mut.ensures.value f.tells) in
     let u = g.R.PredicateEmittingRelation.with_context y c.both_well_formed.new.infcx in
-    let p = g.R.PredicateEmittingRelation.state u in
+    let p = g.R.HasState.state u in
     let over = g.met.R.PredicateEmittingRelation.over y in
     let t = g.Infcx.InferCtxtLike.state (g.R.PredicateEmittingRelation.context y) in
     let e = g.Infcx.InferCtxtLike.state c.both_well_formed.new.infcx in
@@ -231,7 +231,7 @@ returns-in_err-register_predicates-clause-noted g c =
     let res = c.from_residual-in_err-register_predicates.result in
     noted_both r q p (m.id i) (m.ty k) (m.ty l) (m.args xs) (m.args ys) stay (over_with r q s d o grows w)
     (over_extends q p t e over grows' v) (over_with q p t e over grows' v) c.requires.over c.requires.by_declared (tells.0 c.if-not-branch.false)
-    c.requires.a_in c.requires.b_in c.as_slice.result.now made (g.R.PredicateEmittingRelation.state
+    c.requires.a_in c.requires.b_in c.as_slice.result.now made (g.R.HasState.state
     c.register_predicates.new.self) c.register_predicates.result c.register_predicates.ensures res
     (subst OnlyMemory (sym (as_err res Memory c.from_residual-in_err-register_predicates.ensures.0
     c.from_residual-in_err-register_predicates.ensures.1)) tt)
@@ -239,12 +239,12 @@ returns-in_err-register_predicates-clause-noted g c =
 pub returns-clause-noted : goal.returns-clause-noted
 returns-clause-noted g c =
     let x = c.args.r.now in
-    let r = g.R.PredicateEmittingRelation.state x in
+    let r = g.R.HasState.state x in
     let o = g.met.R.PredicateEmittingRelation.over x in
     let s = g.Infcx.InferCtxtLike.state (g.R.PredicateEmittingRelation.context x) in
     let m = r.meaning in
     let y = g.R.PredicateEmittingRelation.with_context x c.have_open_argument.new.infcx in
-    let q = g.R.PredicateEmittingRelation.state y in
+    let q = g.R.HasState.state y in
     let d = g.Infcx.InferCtxtLike.state c.have_open_argument.new.infcx in
     let f = c.in_ok-have_open_argument.ensures in
     let grows = subst (λ z. Grows (g.Infcx.InferCtxtLike.state z) d) c.infcx_mut.ensures.value f.grows in
@@ -264,7 +264,7 @@ returns-clause-noted g c =
     (g.Infcx.InferCtxtLike.state z).store (((g.Infcx.InferCtxtLike.state z).meaning).id i)
     (((g.Infcx.InferCtxtLike.state z).meaning).args ys)) c.infcx_mut.ensures.value f.tells) in
     let u = g.R.PredicateEmittingRelation.with_context y c.both_well_formed.new.infcx in
-    let p = g.R.PredicateEmittingRelation.state u in
+    let p = g.R.HasState.state u in
     let over = g.met.R.PredicateEmittingRelation.over y in
     let t = g.Infcx.InferCtxtLike.state (g.R.PredicateEmittingRelation.context y) in
     let e = g.Infcx.InferCtxtLike.state c.both_well_formed.new.infcx in
@@ -284,18 +284,18 @@ returns-clause-noted g c =
     ∙ ap₂ (λ a b. well_formed_predicate a ∷ well_formed_predicate b ∷ []) same_a same_b in
     noted_both r q p (m.id i) (m.ty k) (m.ty l) (m.args xs) (m.args ys) stay (over_with r q s d o grows w)
     (over_extends q p t e over grows' v) (over_with q p t e over grows' v) c.requires.over c.requires.by_declared (tells.0 c.if-not-branch.false)
-    c.requires.a_in c.requires.b_in c.as_slice.result.now made (g.R.PredicateEmittingRelation.state
+    c.requires.a_in c.requires.b_in c.as_slice.result.now made (g.R.HasState.state
     c.register_predicates.new.self) c.register_predicates.result c.register_predicates.ensures (Ok (tt {0})) tt
 
 pub returns-clause-registers : goal.returns-clause-registers
 returns-clause-registers g c =
     let x = c.args.r.now in
-    let r = g.R.PredicateEmittingRelation.state x in
+    let r = g.R.HasState.state x in
     let o = g.met.R.PredicateEmittingRelation.over x in
     let s = g.Infcx.InferCtxtLike.state (g.R.PredicateEmittingRelation.context x) in
     let m = r.meaning in
     let y = g.R.PredicateEmittingRelation.with_context x c.have_open_argument.new.infcx in
-    let q = g.R.PredicateEmittingRelation.state y in
+    let q = g.R.HasState.state y in
     let d = g.Infcx.InferCtxtLike.state c.have_open_argument.new.infcx in
     let f = c.in_ok-have_open_argument.ensures in
     let grows = subst (λ z. Grows (g.Infcx.InferCtxtLike.state z) d) c.infcx_mut.ensures.value f.grows in
@@ -315,7 +315,7 @@ returns-clause-registers g c =
     (g.Infcx.InferCtxtLike.state z).store (((g.Infcx.InferCtxtLike.state z).meaning).id i)
     (((g.Infcx.InferCtxtLike.state z).meaning).args ys)) c.infcx_mut.ensures.value f.tells) in
     let u = g.R.PredicateEmittingRelation.with_context y c.both_well_formed.new.infcx in
-    let p = g.R.PredicateEmittingRelation.state u in
+    let p = g.R.HasState.state u in
     let over = g.met.R.PredicateEmittingRelation.over y in
     let t = g.Infcx.InferCtxtLike.state (g.R.PredicateEmittingRelation.context y) in
     let e = g.Infcx.InferCtxtLike.state c.both_well_formed.new.infcx in
@@ -335,17 +335,17 @@ returns-clause-registers g c =
     ∙ ap₂ (λ a b. well_formed_predicate a ∷ well_formed_predicate b ∷ []) same_a same_b in
     both_registered r q p (m.id i) (m.ty k) (m.ty l) (m.args xs) (m.args ys) stay (over_with r q s d o grows w)
     (over_extends q p t e over grows' v) (over_with q p t e over grows' v) c.requires.over c.requires.by_declared (tells.0 c.if-not-branch.false)
-    c.requires.a_in c.requires.b_in c.as_slice.result.now made (g.R.PredicateEmittingRelation.state
+    c.requires.a_in c.requires.b_in c.as_slice.result.now made (g.R.HasState.state
     c.register_predicates.new.self) c.register_predicates.result c.register_predicates.ensures c.in_ok-register_predicates.field-0 c.in_ok-register_predicates.was
 
 pub both_well_formed-requires-clause-lawful : goal.both_well_formed-requires-clause-lawful
 both_well_formed-requires-clause-lawful g c =
     let x = c.args.r.now in
-    let r = g.R.PredicateEmittingRelation.state x in
+    let r = g.R.HasState.state x in
     let o = g.met.R.PredicateEmittingRelation.over x in
     let s = g.Infcx.InferCtxtLike.state (g.R.PredicateEmittingRelation.context x) in
     let y = g.R.PredicateEmittingRelation.with_context x c.have_open_argument.new.infcx in
-    let q = g.R.PredicateEmittingRelation.state y in
+    let q = g.R.HasState.state y in
     let d = g.Infcx.InferCtxtLike.state c.have_open_argument.new.infcx in
     let f = c.in_ok-have_open_argument.ensures in
     let grows = subst (λ z. Grows (g.Infcx.InferCtxtLike.state z) d) c.infcx_mut.ensures.value f.grows in
@@ -359,12 +359,12 @@ both_well_formed-requires-clause-lawful g c =
 pub both_well_formed-requires-clause-a_known : goal.both_well_formed-requires-clause-a_known
 both_well_formed-requires-clause-a_known g c =
     let x = c.args.r.now in
-    let r = g.R.PredicateEmittingRelation.state x in
+    let r = g.R.HasState.state x in
     let o = g.met.R.PredicateEmittingRelation.over x in
     let s = g.Infcx.InferCtxtLike.state (g.R.PredicateEmittingRelation.context x) in
     let m = r.meaning in
     let y = g.R.PredicateEmittingRelation.with_context x c.have_open_argument.new.infcx in
-    let q = g.R.PredicateEmittingRelation.state y in
+    let q = g.R.HasState.state y in
     let d = g.Infcx.InferCtxtLike.state c.have_open_argument.new.infcx in
     let f = c.in_ok-have_open_argument.ensures in
     let grows = subst (λ z. Grows (g.Infcx.InferCtxtLike.state z) d) c.infcx_mut.ensures.value f.grows in
@@ -381,12 +381,12 @@ both_well_formed-requires-clause-a_known g c =
 pub both_well_formed-requires-clause-b_known : goal.both_well_formed-requires-clause-b_known
 both_well_formed-requires-clause-b_known g c =
     let x = c.args.r.now in
-    let r = g.R.PredicateEmittingRelation.state x in
+    let r = g.R.HasState.state x in
     let o = g.met.R.PredicateEmittingRelation.over x in
     let s = g.Infcx.InferCtxtLike.state (g.R.PredicateEmittingRelation.context x) in
     let m = r.meaning in
     let y = g.R.PredicateEmittingRelation.with_context x c.have_open_argument.new.infcx in
-    let q = g.R.PredicateEmittingRelation.state y in
+    let q = g.R.HasState.state y in
     let d = g.Infcx.InferCtxtLike.state c.have_open_argument.new.infcx in
     let f = c.in_ok-have_open_argument.ensures in
     let grows = subst (λ z. Grows (g.Infcx.InferCtxtLike.state z) d) c.infcx_mut.ensures.value f.grows in
@@ -403,11 +403,11 @@ both_well_formed-requires-clause-b_known g c =
 pub register_predicates-requires-clause-lawful : goal.register_predicates-requires-clause-lawful
 register_predicates-requires-clause-lawful g c =
     let x = c.args.r.now in
-    let r = g.R.PredicateEmittingRelation.state x in
+    let r = g.R.HasState.state x in
     let o = g.met.R.PredicateEmittingRelation.over x in
     let s = g.Infcx.InferCtxtLike.state (g.R.PredicateEmittingRelation.context x) in
     let y = g.R.PredicateEmittingRelation.with_context x c.have_open_argument.new.infcx in
-    let q = g.R.PredicateEmittingRelation.state y in
+    let q = g.R.HasState.state y in
     let d = g.Infcx.InferCtxtLike.state c.have_open_argument.new.infcx in
     let f = c.in_ok-have_open_argument.ensures in
     let grows = subst (λ z. Grows (g.Infcx.InferCtxtLike.state z) d) c.infcx_mut.ensures.value f.grows in

@@ -24,7 +24,7 @@ meet_tys-requires-clause-b_shallow g c =
 pub returns-clause-stepped : goal.returns-clause-stepped
 returns-clause-stepped g c = λ p q.
     let x = c.args.relation.now in
-    let r = g.R.PredicateEmittingRelation.state x in
+    let r = g.R.HasState.state x in
     let o = g.met.R.PredicateEmittingRelation.over x in
     let y = g.R.PredicateEmittingRelation.context x in
     let cx = g.Infcx.InferCtxtLike.interner y in
@@ -41,7 +41,7 @@ returns-clause-stepped g c = λ p q.
     d.store a b res) c.infcx_mut.ensures.value c.meet_tys.ensures.combines in
     let w = c.context_grows.ensures z (stands_grows s d stands) (combined_later s.meaning s.store d.store a b res sound combines)
     c.requires.lawful in
-    types_stepped r (g.R.PredicateEmittingRelation.state (g.R.PredicateEmittingRelation.with_context x z)) s d o w
+    types_stepped r (g.R.HasState.state (g.R.PredicateEmittingRelation.with_context x z)) s d o w
     c.requires.decides sound stands.meaning a b res c.requires.asked (λ h. ty_sorted of a
     ((g.met.Infcx.Interner.Interner.sorted cx).ty a) h) (λ h. ty_sorted of b ((g.met.Infcx.Interner.Interner.sorted cx).ty b) h) p q
     combines
@@ -49,7 +49,7 @@ returns-clause-stepped g c = λ p q.
 pub returns-clause-combines : goal.returns-clause-combines
 returns-clause-combines g c =
     let x = c.args.relation.now in
-    let r = g.R.PredicateEmittingRelation.state x in
+    let r = g.R.HasState.state x in
     let o = g.met.R.PredicateEmittingRelation.over x in
     let y = g.R.PredicateEmittingRelation.context x in
     let s = g.Infcx.InferCtxtLike.state y in
@@ -64,7 +64,7 @@ returns-clause-combines g c =
     d.store a b res) c.infcx_mut.ensures.value c.meet_tys.ensures.combines in
     let w = c.context_grows.ensures z (stands_grows s d stands) (combined_later s.meaning s.store d.store a b res sound combines)
     c.requires.lawful in
-    types_combined r (g.R.PredicateEmittingRelation.state (g.R.PredicateEmittingRelation.with_context x z)) s d o w a b res
+    types_combined r (g.R.HasState.state (g.R.PredicateEmittingRelation.with_context x z)) s d o w a b res
     combines
 
 pub returns-clause-registers_nothing : goal.returns-clause-registers_nothing

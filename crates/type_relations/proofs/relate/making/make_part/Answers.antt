@@ -9,9 +9,9 @@ use Rattle.type_relations.proofs.relate.making.make_part.Goals as goal
 
 pub returns-in_err-made-clause-made : goal.returns-in_err-made-clause-made
 returns-in_err-made-clause-made g c =
-    let r = g.R.TypeRelation.state c.args.r.now in
+    let r = g.R.HasState.state c.args.r.now in
     let cx = c.term_with_parts.new.cx in
-    let q = g.R.TypeRelation.state (g.R.TypeRelation.with_interner c.args.r.now cx) in
+    let q = g.R.HasState.state (g.R.TypeRelation.with_interner c.args.r.now cx) in
     let made = c.in_err-made.ensures.made in
     let later = subst (λ m. Extends m (g.I.Interner.meaning cx)) c.cx_mut.ensures.value made.extends in
     let grown : WithMeaning r (g.I.Interner.meaning cx) q = c.interner_grows.ensures cx later c.requires.lawful in
@@ -22,9 +22,9 @@ returns-in_err-made-clause-made g c =
 
 pub returns-clause-grown : goal.returns-clause-grown
 returns-clause-grown g c =
-    let r = g.R.TypeRelation.state c.args.r.now in
+    let r = g.R.HasState.state c.args.r.now in
     let cx = c.term_with_parts.new.cx in
-    let q = g.R.TypeRelation.state (g.R.TypeRelation.with_interner c.args.r.now cx) in
+    let q = g.R.HasState.state (g.R.TypeRelation.with_interner c.args.r.now cx) in
     let made = c.in_ok-made.ensures.made in
     let later = subst (λ m. Extends m (g.I.Interner.meaning cx)) c.cx_mut.ensures.value made.extends in
     let grown : WithMeaning r (g.I.Interner.meaning cx) q = c.interner_grows.ensures cx later c.requires.lawful in
@@ -32,9 +32,9 @@ returns-clause-grown g c =
 
 pub returns-clause-made : goal.returns-clause-made
 returns-clause-made g c =
-    let r = g.R.TypeRelation.state c.args.r.now in
+    let r = g.R.HasState.state c.args.r.now in
     let cx = c.term_with_parts.new.cx in
-    let q = g.R.TypeRelation.state (g.R.TypeRelation.with_interner c.args.r.now cx) in
+    let q = g.R.HasState.state (g.R.TypeRelation.with_interner c.args.r.now cx) in
     let made = c.in_ok-made.ensures.made in
     let p = c.in_ok-made.made in
     let t = c.args.term.now in

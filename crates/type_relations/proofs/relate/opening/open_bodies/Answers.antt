@@ -8,8 +8,8 @@ use Rattle.type_relations.proofs.relate.opening.open_bodies.Goals as goal
 
 pub returns-in_default-2-clause-opened : goal.returns-in_default-2-clause-opened
 returns-in_default-2-clause-opened g c =
-    let r = g.R.TypeRelation.state c.args.r.now in
-    let q = g.R.TypeRelation.state c.open_binders.new.self in
+    let r = g.R.HasState.state c.args.r.now in
+    let q = g.R.HasState.state c.open_binders.new.self in
     let m = r.meaning in
     let M = g.R.TypeRelation.manner in
     let n = c.args.round in
@@ -27,8 +27,8 @@ returns-in_default-2-clause-opened g c =
 
 pub returns-in-Some-clause-opened : goal.returns-in-Some-clause-opened
 returns-in-Some-clause-opened g c =
-    let r = g.R.TypeRelation.state c.args.r.now in
-    let q = g.R.TypeRelation.state c.open_binders.new.self in
+    let r = g.R.HasState.state c.args.r.now in
+    let q = g.R.HasState.state c.open_binders.new.self in
     let m = r.meaning in
     let M = g.R.TypeRelation.manner in
     let n = c.args.round in
@@ -48,8 +48,8 @@ returns-in-Some-clause-opened g c =
 
 pub returns-in_default-3-clause-opened : goal.returns-in_default-3-clause-opened
 returns-in_default-3-clause-opened g c =
-    let r = g.R.TypeRelation.state c.args.r.now in
-    let q = g.R.TypeRelation.state c.open_binders-in-Ty.new.self in
+    let r = g.R.HasState.state c.args.r.now in
+    let q = g.R.HasState.state c.open_binders-in-Ty.new.self in
     let m = r.meaning in
     let M = g.R.TypeRelation.manner in
     let n = c.args.round in
@@ -67,8 +67,8 @@ returns-in_default-3-clause-opened g c =
 
 pub returns-in-Some-2-clause-opened : goal.returns-in-Some-2-clause-opened
 returns-in-Some-2-clause-opened g c =
-    let r = g.R.TypeRelation.state c.args.r.now in
-    let q = g.R.TypeRelation.state c.open_binders-in-Ty.new.self in
+    let r = g.R.HasState.state c.args.r.now in
+    let q = g.R.HasState.state c.open_binders-in-Ty.new.self in
     let m = r.meaning in
     let M = g.R.TypeRelation.manner in
     let n = c.args.round in
@@ -88,8 +88,8 @@ returns-in-Some-2-clause-opened g c =
 
 pub returns-in_default-4-clause-opened : goal.returns-in_default-4-clause-opened
 returns-in_default-4-clause-opened g c =
-    let r = g.R.TypeRelation.state c.args.r.now in
-    let q = g.R.TypeRelation.state c.open_binders-in-Existential.new.self in
+    let r = g.R.HasState.state c.args.r.now in
+    let q = g.R.HasState.state c.open_binders-in-Existential.new.self in
     let m = r.meaning in
     let M = g.R.TypeRelation.manner in
     let n = c.args.round in
@@ -107,8 +107,8 @@ returns-in_default-4-clause-opened g c =
 
 pub returns-in-Some-3-clause-opened : goal.returns-in-Some-3-clause-opened
 returns-in-Some-3-clause-opened g c =
-    let r = g.R.TypeRelation.state c.args.r.now in
-    let q = g.R.TypeRelation.state c.open_binders-in-Existential.new.self in
+    let r = g.R.HasState.state c.args.r.now in
+    let q = g.R.HasState.state c.open_binders-in-Existential.new.self in
     let m = r.meaning in
     let M = g.R.TypeRelation.manner in
     let n = c.args.round in

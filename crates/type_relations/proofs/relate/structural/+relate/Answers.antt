@@ -13,7 +13,6 @@ use Rattle.relation_terms.proofs.Stays.{knows_arg}
 use Rattle.relation_folds.specs.declared.error.TypeError.TheVariants.{Mismatch}
 use Rattle.relation_folds.specs.declared.error.RelateFault.TheVariants.{Unrelated, Memory}
 use Rattle.relation_contexts.specs.Relation.{part_at}
-use Rattle.relation_contexts.specs.Goals.{Relates}
 use Rattle.relation_contexts.specs.Errors.{AreOfOneForm, PartError}
 use Rattle.relation_contexts.specs.Covered.{IsCovered}
 use Rattle.relation_contexts.specs.Parts.{IsFormed, IsFormedConst, IsByParts, IsRelatedPart, IsComparedPart, IsArgPart}
@@ -37,14 +36,14 @@ use Rattle.type_relations.proofs.PredicateForms.{arg_form, binder_form, made_for
 use Rattle.type_relations.proofs.Making.{fit_pushed, fit_end, fits_place}
 use Rattle.relation_contexts.proofs.Lists.{firsts, snoc, list_push}
 use Rattle.relation_terms.proofs.Stays.{stays_list, stays_arg}
-use Rattle.relation_contexts.specs.Lawful.{Asked, Related, MayAnswer, Stepped, Turned, items_in}
+use Rattle.relation_contexts.specs.Lawful.{Asked, Related, Shown, MayAnswer, Stepped, Turned, items_in}
 use Rattle.relation_contexts.proofs.Standing.{term_context}
 use Rattle.relation_contexts.proofs.Parts.{in_parts, in_const_parts}
 use Rattle.relation_contexts.proofs.OneParts.{parts_counted, const_parts_counted}
 use Rattle.type_relations.proofs.Comparing.{parts_of_list, const_parts_list}
 use Rattle.type_relations.proofs.Handing.{AreOfTwoKinds, no_lifetime, no_ty, no_const_arg, HaveAsManyInputs}
-use Rattle.relation_contexts.proofs.Passing.{asked_later, parts_related, again_related, again_refused, again_relates, noted_related, noted_refused}
-use Rattle.relation_contexts.proofs.Passing.{turned, unlooked, step_done, retold, refused_again, relates_now, as_err}
+use Rattle.relation_contexts.proofs.Passing.{asked_later, parts_related, again_related, again_refused, again_shown, noted_related, noted_refused}
+use Rattle.relation_contexts.proofs.Passing.{turned, unlooked, step_done, retold, refused_again, shown_now, as_err}
 use Rattle.relation_contexts.proofs.Registered.{directed_from}
 use Rattle.relation_contexts.specs.Goals.{IsDirected}
 use Rattle.relation_contexts.proofs.Passing.{form_made}
@@ -68,21 +67,21 @@ use Rattle.type_relations.proofs.relate.structural.+relate.Goals as goal
 
 pub consts-returns-in-Done : goal.consts-returns-in-Done
 consts-returns-in-Done g t c =
-    let r = g.R.TypeRelation.state c.args.r.now in
+    let r = g.R.HasState.state c.args.r.now in
     let M = g.R.TypeRelation.manner in
     let a = (r.meaning).const_ c.args.a.now in
     let b = (r.meaning).const_ c.args.b.now in
-    let q = g.R.TypeRelation.state c.consts.new.self in
+    let q = g.R.HasState.state c.consts.new.self in
     let step = subst (λ z. Stepped M IsFormedConst r q a b (q.meaning).const_ (Ok z)) c.in-Done.is c.in_ok-answer.ensures in
     step_done M IsFormedConst a b (q.meaning).const_ c.in-Done.answer step
 
 pub consts-structurally_relate_consts-requires : goal.consts-structurally_relate_consts-requires
 consts-structurally_relate_consts-requires g t c κs within =
-    let r = g.R.TypeRelation.state c.args.r.now in
+    let r = g.R.HasState.state c.args.r.now in
     let M = g.R.TypeRelation.manner in
     let a = (r.meaning).const_ c.args.a.now in
     let b = (r.meaning).const_ c.args.b.now in
-    let q = g.R.TypeRelation.state c.consts.new.self in
+    let q = g.R.HasState.state c.consts.new.self in
     let step = subst (λ z. Stepped M IsFormedConst r q a b (q.meaning).const_ (Ok z)) c.in-Parts.is c.in_ok-answer.ensures in
     let x = (q.meaning).const_ c.in-Parts.a in
     let y = (q.meaning).const_ c.in-Parts.b in
@@ -97,11 +96,11 @@ consts-structurally_relate_consts-requires g t c κs within =
 
 pub consts-relate_with_variance-requires : goal.consts-relate_with_variance-requires
 consts-relate_with_variance-requires g t c κs within =
-    let r = g.R.TypeRelation.state c.args.r.now in
+    let r = g.R.HasState.state c.args.r.now in
     let M = g.R.TypeRelation.manner in
     let a = (r.meaning).const_ c.args.a.now in
     let b = (r.meaning).const_ c.args.b.now in
-    let q = g.R.TypeRelation.state c.consts.new.self in
+    let q = g.R.HasState.state c.consts.new.self in
     let step = subst (λ z. Stepped M IsFormedConst r q a b (q.meaning).const_ (Ok z)) c.in-Again.is c.in_ok-answer.ensures in
     let x = (q.meaning).const_ c.in-Again.x in
     let y = (q.meaning).const_ c.in-Again.y in
@@ -118,11 +117,11 @@ consts-relate_with_variance-requires g t c κs within =
 
 pub consts-returns-in_err-relate_with_variance-in-Again : goal.consts-returns-in_err-relate_with_variance-in-Again
 consts-returns-in_err-relate_with_variance-in-Again g t c =
-    let r = g.R.TypeRelation.state c.args.r.now in
+    let r = g.R.HasState.state c.args.r.now in
     let M = g.R.TypeRelation.manner in
     let a = (r.meaning).const_ c.args.a.now in
     let b = (r.meaning).const_ c.args.b.now in
-    let q = g.R.TypeRelation.state c.consts.new.self in
+    let q = g.R.HasState.state c.consts.new.self in
     let step = subst (λ z. Stepped M IsFormedConst r q a b (q.meaning).const_ (Ok z)) c.in-Again.is c.in_ok-answer.ensures in
     let x = (q.meaning).const_ c.in-Again.x in
     let y = (q.meaning).const_ c.in-Again.y in
@@ -130,7 +129,7 @@ consts-returns-in_err-relate_with_variance-in-Again g t c =
     let l = (q.meaning).const_ c.in-Again.b in
     let v = c.in-Again.variance in
     let o = (q.meaning).const_ c.in-Again.answer in
-    let p = g.R.TypeRelation.state c.relate_with_variance.new.r in
+    let p = g.R.HasState.state c.relate_with_variance.new.r in
     let inner : Related M q p (xform r.ambient v) x y (arg_tree p.meaning) (Err c.in_err-relate_with_variance-in-Again.field-0.0) =
     subst (λ z. Related M q p (xform z v) x y (arg_tree p.meaning) (Err c.in_err-relate_with_variance-in-Again.field-0.0)) (step.passes).ambient c.in_err-relate_with_variance-in-Again.ensures.related in
     let failed = as_err c.from_residual-in_err-relate_with_variance-in-Again.result c.in_err-relate_with_variance-in-Again.field-0.0
@@ -142,11 +141,11 @@ consts-returns-in_err-relate_with_variance-in-Again g t c =
 
 pub consts-returns-in_ok-relate_with_variance-in-Again : goal.consts-returns-in_ok-relate_with_variance-in-Again
 consts-returns-in_ok-relate_with_variance-in-Again g t c =
-    let r = g.R.TypeRelation.state c.args.r.now in
+    let r = g.R.HasState.state c.args.r.now in
     let M = g.R.TypeRelation.manner in
     let a = (r.meaning).const_ c.args.a.now in
     let b = (r.meaning).const_ c.args.b.now in
-    let q = g.R.TypeRelation.state c.consts.new.self in
+    let q = g.R.HasState.state c.consts.new.self in
     let step = subst (λ z. Stepped M IsFormedConst r q a b (q.meaning).const_ (Ok z)) c.in-Again.is c.in_ok-answer.ensures in
     let x = (q.meaning).const_ c.in-Again.x in
     let y = (q.meaning).const_ c.in-Again.y in
@@ -154,7 +153,7 @@ consts-returns-in_ok-relate_with_variance-in-Again g t c =
     let l = (q.meaning).const_ c.in-Again.b in
     let v = c.in-Again.variance in
     let o = (q.meaning).const_ c.in-Again.answer in
-    let p = g.R.TypeRelation.state c.relate_with_variance.new.r in
+    let p = g.R.HasState.state c.relate_with_variance.new.r in
     let inner : Related M q p (xform r.ambient v) x y (arg_tree p.meaning) (Ok c.in_ok-relate_with_variance-in-Again.field-0) =
     subst (λ z. Related M q p (xform z v) x y (arg_tree p.meaning) (Ok c.in_ok-relate_with_variance-in-Again.field-0)) (step.passes).ambient c.in_ok-relate_with_variance-in-Again.ensures.related in
     let same_o : (p.meaning).const_ c.in-Again.answer ≡ o =
@@ -166,15 +165,15 @@ consts-returns-in_ok-relate_with_variance-in-Again g t c =
 
 pub consts-returns-in-Parts : goal.consts-returns-in-Parts
 consts-returns-in-Parts g t c =
-    let r = g.R.TypeRelation.state c.args.r.now in
+    let r = g.R.HasState.state c.args.r.now in
     let M = g.R.TypeRelation.manner in
     let a = (r.meaning).const_ c.args.a.now in
     let b = (r.meaning).const_ c.args.b.now in
-    let q = g.R.TypeRelation.state c.consts.new.self in
+    let q = g.R.HasState.state c.consts.new.self in
     let step = subst (λ z. Stepped M IsFormedConst r q a b (q.meaning).const_ (Ok z)) c.in-Parts.is c.in_ok-answer.ensures in
     let x = (q.meaning).const_ c.in-Parts.a in
     let y = (q.meaning).const_ c.in-Parts.b in
-    let p = g.R.TypeRelation.state c.structurally_relate_consts.new.r in
+    let p = g.R.HasState.state c.structurally_relate_consts.new.r in
     let inner = subst (λ z. Related M q p z x y (p.meaning).const_ c.structurally_relate_consts.result) (step.passes).ambient
     c.structurally_relate_consts.ensures in
     parts_related M IsFormedConst (g.met.R.TypeRelation.sound c.structurally_relate_consts.new.r ((inner.passes).lawful ((step.passes).lawful c.requires.lawful)))
@@ -182,21 +181,21 @@ consts-returns-in-Parts g t c =
 
 pub tys-returns-in-Done-clause-related : goal.tys-returns-in-Done-clause-related
 tys-returns-in-Done-clause-related g t c =
-    let r = g.R.TypeRelation.state c.args.r.now in
+    let r = g.R.HasState.state c.args.r.now in
     let M = g.R.TypeRelation.manner in
     let a = (r.meaning).ty c.args.a.now in
     let b = (r.meaning).ty c.args.b.now in
-    let q = g.R.TypeRelation.state c.tys.new.self in
+    let q = g.R.HasState.state c.tys.new.self in
     let step = subst (λ z. Stepped M IsFormed r q a b (q.meaning).ty (Ok z)) c.in-Done.is c.in_ok-answer.ensures.stepped in
     step_done M IsFormed a b (q.meaning).ty c.in-Done.answer step
 
 pub tys-structurally_relate_tys-requires : goal.tys-structurally_relate_tys-requires
 tys-structurally_relate_tys-requires g t c κs within =
-    let r = g.R.TypeRelation.state c.args.r.now in
+    let r = g.R.HasState.state c.args.r.now in
     let M = g.R.TypeRelation.manner in
     let a = (r.meaning).ty c.args.a.now in
     let b = (r.meaning).ty c.args.b.now in
-    let q = g.R.TypeRelation.state c.tys.new.self in
+    let q = g.R.HasState.state c.tys.new.self in
     let step = subst (λ z. Stepped M IsFormed r q a b (q.meaning).ty (Ok z)) c.in-Parts.is c.in_ok-answer.ensures.stepped in
     let x = (q.meaning).ty c.in-Parts.a in
     let y = (q.meaning).ty c.in-Parts.b in
@@ -211,11 +210,11 @@ tys-structurally_relate_tys-requires g t c κs within =
 
 pub tys-relate_with_variance-requires : goal.tys-relate_with_variance-requires
 tys-relate_with_variance-requires g t c κs within =
-    let r = g.R.TypeRelation.state c.args.r.now in
+    let r = g.R.HasState.state c.args.r.now in
     let M = g.R.TypeRelation.manner in
     let a = (r.meaning).ty c.args.a.now in
     let b = (r.meaning).ty c.args.b.now in
-    let q = g.R.TypeRelation.state c.tys.new.self in
+    let q = g.R.HasState.state c.tys.new.self in
     let step = subst (λ z. Stepped M IsFormed r q a b (q.meaning).ty (Ok z)) c.in-Again.is c.in_ok-answer.ensures.stepped in
     let x = (q.meaning).ty c.in-Again.x in
     let y = (q.meaning).ty c.in-Again.y in
@@ -232,11 +231,11 @@ tys-relate_with_variance-requires g t c κs within =
 
 pub tys-returns-in_err-relate_with_variance-in-Again-clause-related : goal.tys-returns-in_err-relate_with_variance-in-Again-clause-related
 tys-returns-in_err-relate_with_variance-in-Again-clause-related g t c =
-    let r = g.R.TypeRelation.state c.args.r.now in
+    let r = g.R.HasState.state c.args.r.now in
     let M = g.R.TypeRelation.manner in
     let a = (r.meaning).ty c.args.a.now in
     let b = (r.meaning).ty c.args.b.now in
-    let q = g.R.TypeRelation.state c.tys.new.self in
+    let q = g.R.HasState.state c.tys.new.self in
     let step = subst (λ z. Stepped M IsFormed r q a b (q.meaning).ty (Ok z)) c.in-Again.is c.in_ok-answer.ensures.stepped in
     let x = (q.meaning).ty c.in-Again.x in
     let y = (q.meaning).ty c.in-Again.y in
@@ -244,7 +243,7 @@ tys-returns-in_err-relate_with_variance-in-Again-clause-related g t c =
     let l = (q.meaning).ty c.in-Again.b in
     let v = c.in-Again.variance in
     let o = (q.meaning).ty c.in-Again.answer in
-    let p = g.R.TypeRelation.state c.relate_with_variance.new.r in
+    let p = g.R.HasState.state c.relate_with_variance.new.r in
     let inner : Related M q p (xform r.ambient v) x y (arg_tree p.meaning) (Err c.in_err-relate_with_variance-in-Again.field-0.0) =
     subst (λ z. Related M q p (xform z v) x y (arg_tree p.meaning) (Err c.in_err-relate_with_variance-in-Again.field-0.0)) (step.passes).ambient c.in_err-relate_with_variance-in-Again.ensures.related in
     let failed = as_err c.from_residual-in_err-relate_with_variance-in-Again.result c.in_err-relate_with_variance-in-Again.field-0.0
@@ -256,15 +255,15 @@ tys-returns-in_err-relate_with_variance-in-Again-clause-related g t c =
 
 pub tys-returns-in_err-answer-in-Parts-clause-related : goal.tys-returns-in_err-answer-in-Parts-clause-related
 tys-returns-in_err-answer-in-Parts-clause-related g t c =
-    let r = g.R.TypeRelation.state c.args.r.now in
+    let r = g.R.HasState.state c.args.r.now in
     let M = g.R.TypeRelation.manner in
     let a = (r.meaning).ty c.args.a.now in
     let b = (r.meaning).ty c.args.b.now in
-    let q = g.R.TypeRelation.state c.tys.new.self in
+    let q = g.R.HasState.state c.tys.new.self in
     let step = subst (λ z. Stepped M IsFormed r q a b (q.meaning).ty (Ok z)) c.in-Parts.is c.in_ok-answer.ensures.stepped in
     let x = (q.meaning).ty c.in-Parts.a in
     let y = (q.meaning).ty c.in-Parts.b in
-    let p = g.R.TypeRelation.state c.structurally_relate_tys.new.r in
+    let p = g.R.HasState.state c.structurally_relate_tys.new.r in
     let e = c.in_err-answer-in-Parts in
     let inner = subst (λ z. Related M q p z x y (p.meaning).ty (Err e.field-0.0)) (step.passes).ambient e.ensures in
     let failed = as_err c.from_residual-in_err-answer-in-Parts.result e.field-0.0
@@ -275,15 +274,15 @@ tys-returns-in_err-answer-in-Parts-clause-related g t c =
 
 pub tys-tys_done-requires-clause-asked : goal.tys-tys_done-requires-clause-asked
 tys-tys_done-requires-clause-asked g t c =
-    let r = g.R.TypeRelation.state c.args.r.now in
+    let r = g.R.HasState.state c.args.r.now in
     let M = g.R.TypeRelation.manner in
     let a = (r.meaning).ty c.args.a.now in
     let b = (r.meaning).ty c.args.b.now in
-    let q = g.R.TypeRelation.state c.tys.new.self in
+    let q = g.R.HasState.state c.tys.new.self in
     let step = subst (λ z. Stepped M IsFormed r q a b (q.meaning).ty (Ok z)) c.in-Parts.is c.in_ok-answer.ensures.stepped in
     let x = (q.meaning).ty c.in-Parts.a in
     let y = (q.meaning).ty c.in-Parts.b in
-    let p = g.R.TypeRelation.state c.structurally_relate_tys.new.r in
+    let p = g.R.HasState.state c.structurally_relate_tys.new.r in
     let z = c.in_ok-answer-in-Parts in
     let inner = subst (λ v. Related M q p v x y (p.meaning).ty (Ok z.answer)) (step.passes).ambient z.ensures in
     let done : Related M r p r.ambient a b (p.meaning).ty (Ok z.answer) =
@@ -299,15 +298,15 @@ tys-tys_done-requires-clause-asked g t c =
 
 pub tys-tys_done-requires-clause-related : goal.tys-tys_done-requires-clause-related
 tys-tys_done-requires-clause-related g t c =
-    let r = g.R.TypeRelation.state c.args.r.now in
+    let r = g.R.HasState.state c.args.r.now in
     let M = g.R.TypeRelation.manner in
     let a = (r.meaning).ty c.args.a.now in
     let b = (r.meaning).ty c.args.b.now in
-    let q = g.R.TypeRelation.state c.tys.new.self in
+    let q = g.R.HasState.state c.tys.new.self in
     let step = subst (λ z. Stepped M IsFormed r q a b (q.meaning).ty (Ok z)) c.in-Parts.is c.in_ok-answer.ensures.stepped in
     let x = (q.meaning).ty c.in-Parts.a in
     let y = (q.meaning).ty c.in-Parts.b in
-    let p = g.R.TypeRelation.state c.structurally_relate_tys.new.r in
+    let p = g.R.HasState.state c.structurally_relate_tys.new.r in
     let z = c.in_ok-answer-in-Parts in
     let inner = subst (λ v. Related M q p v x y (p.meaning).ty (Ok z.answer)) (step.passes).ambient z.ensures in
     let done : Related M r p r.ambient a b (p.meaning).ty (Ok z.answer) =
@@ -317,27 +316,27 @@ tys-tys_done-requires-clause-related g t c =
     ((inner.passes).extends).ty c.in-Parts.a ((step.verdict).asked).left_known in
     let same_y : (p.meaning).ty c.in-Parts.b ≡ (q.meaning).ty c.in-Parts.b =
     ((inner.passes).extends).ty c.in-Parts.b ((step.verdict).asked).right_known in
-    subst₂ (λ t u. Relates (items_in p) p.store p.goals p.kept.environment p.ambient t u) (sym same_x) (sym same_y)
-    (subst (λ v. Relates (items_in p) p.store p.goals p.kept.environment v x y)
-    (sym ((inner.passes).ambient ∙ (step.passes).ambient)) (relates_now M r.ambient x y (p.meaning).ty z.answer inner))
+    subst₂ (λ t u. Shown M p p.ambient t u) (sym same_x) (sym same_y)
+    (subst (λ v. Shown M p v x y)
+    (sym ((inner.passes).ambient ∙ (step.passes).ambient)) (shown_now M r.ambient x y (p.meaning).ty z.answer inner))
 
 pub tys-returns-in_err-tys_done-in-Parts-clause-related : goal.tys-returns-in_err-tys_done-in-Parts-clause-related
 tys-returns-in_err-tys_done-in-Parts-clause-related g t c =
-    let r = g.R.TypeRelation.state c.args.r.now in
+    let r = g.R.HasState.state c.args.r.now in
     let M = g.R.TypeRelation.manner in
     let a = (r.meaning).ty c.args.a.now in
     let b = (r.meaning).ty c.args.b.now in
-    let q = g.R.TypeRelation.state c.tys.new.self in
+    let q = g.R.HasState.state c.tys.new.self in
     let step = subst (λ z. Stepped M IsFormed r q a b (q.meaning).ty (Ok z)) c.in-Parts.is c.in_ok-answer.ensures.stepped in
     let x = (q.meaning).ty c.in-Parts.a in
     let y = (q.meaning).ty c.in-Parts.b in
-    let p = g.R.TypeRelation.state c.structurally_relate_tys.new.r in
+    let p = g.R.HasState.state c.structurally_relate_tys.new.r in
     let z = c.in_ok-answer-in-Parts in
     let inner = subst (λ v. Related M q p v x y (p.meaning).ty (Ok z.answer)) (step.passes).ambient z.ensures in
     let done : Related M r p r.ambient a b (p.meaning).ty (Ok z.answer) =
     parts_related M IsFormed (g.met.R.TypeRelation.sound c.structurally_relate_tys.new.r ((inner.passes).lawful ((step.passes).lawful c.requires.lawful)))
     a b x y (p.meaning).ty (Ok z.answer) step.passes step.verdict step.exact step.full inner in
-    let u = g.R.TypeRelation.state c.tys_done.new.self in
+    let u = g.R.HasState.state c.tys_done.new.self in
     let e = c.in_err-tys_done-in-Parts in
     let failed = as_err c.from_residual-in_err-tys_done-in-Parts.result e.field-0.0
     c.from_residual-in_err-tys_done-in-Parts.ensures.0 c.from_residual-in_err-tys_done-in-Parts.ensures.1 in
@@ -346,32 +345,32 @@ tys-returns-in_err-tys_done-in-Parts-clause-related g t c =
 
 pub tys-returns-in_ok-tys_done-in-Parts-clause-related : goal.tys-returns-in_ok-tys_done-in-Parts-clause-related
 tys-returns-in_ok-tys_done-in-Parts-clause-related g t c =
-    let r = g.R.TypeRelation.state c.args.r.now in
+    let r = g.R.HasState.state c.args.r.now in
     let M = g.R.TypeRelation.manner in
     let a = (r.meaning).ty c.args.a.now in
     let b = (r.meaning).ty c.args.b.now in
-    let q = g.R.TypeRelation.state c.tys.new.self in
+    let q = g.R.HasState.state c.tys.new.self in
     let step = subst (λ z. Stepped M IsFormed r q a b (q.meaning).ty (Ok z)) c.in-Parts.is c.in_ok-answer.ensures.stepped in
     let x = (q.meaning).ty c.in-Parts.a in
     let y = (q.meaning).ty c.in-Parts.b in
-    let p = g.R.TypeRelation.state c.structurally_relate_tys.new.r in
+    let p = g.R.HasState.state c.structurally_relate_tys.new.r in
     let z = c.in_ok-answer-in-Parts in
     let inner = subst (λ v. Related M q p v x y (p.meaning).ty (Ok z.answer)) (step.passes).ambient z.ensures in
     let done : Related M r p r.ambient a b (p.meaning).ty (Ok z.answer) =
     parts_related M IsFormed (g.met.R.TypeRelation.sound c.structurally_relate_tys.new.r ((inner.passes).lawful ((step.passes).lawful c.requires.lawful)))
     a b x y (p.meaning).ty (Ok z.answer) step.passes step.verdict step.exact step.full inner in
-    let u = g.R.TypeRelation.state c.tys_done.new.self in
+    let u = g.R.HasState.state c.tys_done.new.self in
     let n = c.in_ok-tys_done-in-Parts in
     noted_related M r.ambient a b (p.meaning).ty z.answer done (Ok n.field-0) n.ensures (u.meaning).ty
     ((((n.ensures).passes).extends).ty z.answer (done.verdict).known)
 
 pub tys-tys_done-requires-in-Again-clause-asked : goal.tys-tys_done-requires-in-Again-clause-asked
 tys-tys_done-requires-in-Again-clause-asked g t c =
-    let r = g.R.TypeRelation.state c.args.r.now in
+    let r = g.R.HasState.state c.args.r.now in
     let M = g.R.TypeRelation.manner in
     let a = (r.meaning).ty c.args.a.now in
     let b = (r.meaning).ty c.args.b.now in
-    let q = g.R.TypeRelation.state c.tys.new.self in
+    let q = g.R.HasState.state c.tys.new.self in
     let step = subst (λ z. Stepped M IsFormed r q a b (q.meaning).ty (Ok z)) c.in-Again.is c.in_ok-answer.ensures.stepped in
     let x = (q.meaning).ty c.in-Again.x in
     let y = (q.meaning).ty c.in-Again.y in
@@ -379,7 +378,7 @@ tys-tys_done-requires-in-Again-clause-asked g t c =
     let l = (q.meaning).ty c.in-Again.b in
     let v = c.in-Again.variance in
     let o = (q.meaning).ty c.in-Again.answer in
-    let p = g.R.TypeRelation.state c.relate_with_variance.new.r in
+    let p = g.R.HasState.state c.relate_with_variance.new.r in
     let inner : Related M q p (xform r.ambient v) x y (arg_tree p.meaning) (Ok c.in_ok-relate_with_variance-in-Again.field-0) =
     subst (λ z. Related M q p (xform z v) x y (arg_tree p.meaning) (Ok c.in_ok-relate_with_variance-in-Again.field-0)) (step.passes).ambient c.in_ok-relate_with_variance-in-Again.ensures.related in
     let same_o : (p.meaning).ty c.in-Again.answer ≡ o =
@@ -397,11 +396,11 @@ tys-tys_done-requires-in-Again-clause-asked g t c =
 
 pub tys-tys_done-requires-in-Again-clause-related : goal.tys-tys_done-requires-in-Again-clause-related
 tys-tys_done-requires-in-Again-clause-related g t c =
-    let r = g.R.TypeRelation.state c.args.r.now in
+    let r = g.R.HasState.state c.args.r.now in
     let M = g.R.TypeRelation.manner in
     let a = (r.meaning).ty c.args.a.now in
     let b = (r.meaning).ty c.args.b.now in
-    let q = g.R.TypeRelation.state c.tys.new.self in
+    let q = g.R.HasState.state c.tys.new.self in
     let step = subst (λ z. Stepped M IsFormed r q a b (q.meaning).ty (Ok z)) c.in-Again.is c.in_ok-answer.ensures.stepped in
     let x = (q.meaning).ty c.in-Again.x in
     let y = (q.meaning).ty c.in-Again.y in
@@ -409,7 +408,7 @@ tys-tys_done-requires-in-Again-clause-related g t c =
     let l = (q.meaning).ty c.in-Again.b in
     let v = c.in-Again.variance in
     let o = (q.meaning).ty c.in-Again.answer in
-    let p = g.R.TypeRelation.state c.relate_with_variance.new.r in
+    let p = g.R.HasState.state c.relate_with_variance.new.r in
     let inner : Related M q p (xform r.ambient v) x y (arg_tree p.meaning) (Ok c.in_ok-relate_with_variance-in-Again.field-0) =
     subst (λ z. Related M q p (xform z v) x y (arg_tree p.meaning) (Ok c.in_ok-relate_with_variance-in-Again.field-0)) (step.passes).ambient c.in_ok-relate_with_variance-in-Again.ensures.related in
     let same_o : (p.meaning).ty c.in-Again.answer ≡ o =
@@ -421,17 +420,17 @@ tys-tys_done-requires-in-Again-clause-related g t c =
     ((inner.passes).extends).ty c.in-Again.a ((step.verdict).read_asked).left_known in
     let same_y : (p.meaning).ty c.in-Again.b ≡ (q.meaning).ty c.in-Again.b =
     ((inner.passes).extends).ty c.in-Again.b ((step.verdict).read_asked).right_known in
-    subst₂ (λ t u. Relates (items_in p) p.store p.goals p.kept.environment p.ambient t u) (sym same_x) (sym same_y)
-    (subst (λ v. Relates (items_in p) p.store p.goals p.kept.environment v k l)
-    (sym ((inner.passes).ambient ∙ (step.passes).ambient)) (again_relates M a b k l x y o v step.passes step.verdict step.exact (arg_tree p.meaning) c.in_ok-relate_with_variance-in-Again.field-0 inner))
+    subst₂ (λ t u. Shown M p p.ambient t u) (sym same_x) (sym same_y)
+    (subst (λ v. Shown M p v k l)
+    (sym ((inner.passes).ambient ∙ (step.passes).ambient)) (again_shown M a b k l x y o v step.passes step.verdict step.exact (arg_tree p.meaning) c.in_ok-relate_with_variance-in-Again.field-0 inner))
 
 pub tys-returns-in_err-tys_done-in-Again-clause-related : goal.tys-returns-in_err-tys_done-in-Again-clause-related
 tys-returns-in_err-tys_done-in-Again-clause-related g t c =
-    let r = g.R.TypeRelation.state c.args.r.now in
+    let r = g.R.HasState.state c.args.r.now in
     let M = g.R.TypeRelation.manner in
     let a = (r.meaning).ty c.args.a.now in
     let b = (r.meaning).ty c.args.b.now in
-    let q = g.R.TypeRelation.state c.tys.new.self in
+    let q = g.R.HasState.state c.tys.new.self in
     let step = subst (λ z. Stepped M IsFormed r q a b (q.meaning).ty (Ok z)) c.in-Again.is c.in_ok-answer.ensures.stepped in
     let x = (q.meaning).ty c.in-Again.x in
     let y = (q.meaning).ty c.in-Again.y in
@@ -439,7 +438,7 @@ tys-returns-in_err-tys_done-in-Again-clause-related g t c =
     let l = (q.meaning).ty c.in-Again.b in
     let v = c.in-Again.variance in
     let o = (q.meaning).ty c.in-Again.answer in
-    let p = g.R.TypeRelation.state c.relate_with_variance.new.r in
+    let p = g.R.HasState.state c.relate_with_variance.new.r in
     let inner : Related M q p (xform r.ambient v) x y (arg_tree p.meaning) (Ok c.in_ok-relate_with_variance-in-Again.field-0) =
     subst (λ z. Related M q p (xform z v) x y (arg_tree p.meaning) (Ok c.in_ok-relate_with_variance-in-Again.field-0)) (step.passes).ambient c.in_ok-relate_with_variance-in-Again.ensures.related in
     let same_o : (p.meaning).ty c.in-Again.answer ≡ o =
@@ -447,7 +446,7 @@ tys-returns-in_err-tys_done-in-Again-clause-related g t c =
     let done : Related M r p r.ambient a b (p.meaning).ty (Ok c.in-Again.answer) =
     again_related M a b k l x y o v step.passes step.verdict step.exact (arg_tree p.meaning) c.in_ok-relate_with_variance-in-Again.field-0 (p.meaning).ty
     c.in-Again.answer same_o inner in
-    let u = g.R.TypeRelation.state c.tys_done-in-Again.new.self in
+    let u = g.R.HasState.state c.tys_done-in-Again.new.self in
     let e = c.in_err-tys_done-in-Again in
     let failed = as_err c.from_residual-in_err-tys_done-in-Again.result e.field-0.0
     c.from_residual-in_err-tys_done-in-Again.ensures.0 c.from_residual-in_err-tys_done-in-Again.ensures.1 in
@@ -456,11 +455,11 @@ tys-returns-in_err-tys_done-in-Again-clause-related g t c =
 
 pub tys-returns-in_ok-tys_done-in-Again-clause-related : goal.tys-returns-in_ok-tys_done-in-Again-clause-related
 tys-returns-in_ok-tys_done-in-Again-clause-related g t c =
-    let r = g.R.TypeRelation.state c.args.r.now in
+    let r = g.R.HasState.state c.args.r.now in
     let M = g.R.TypeRelation.manner in
     let a = (r.meaning).ty c.args.a.now in
     let b = (r.meaning).ty c.args.b.now in
-    let q = g.R.TypeRelation.state c.tys.new.self in
+    let q = g.R.HasState.state c.tys.new.self in
     let step = subst (λ z. Stepped M IsFormed r q a b (q.meaning).ty (Ok z)) c.in-Again.is c.in_ok-answer.ensures.stepped in
     let x = (q.meaning).ty c.in-Again.x in
     let y = (q.meaning).ty c.in-Again.y in
@@ -468,7 +467,7 @@ tys-returns-in_ok-tys_done-in-Again-clause-related g t c =
     let l = (q.meaning).ty c.in-Again.b in
     let v = c.in-Again.variance in
     let o = (q.meaning).ty c.in-Again.answer in
-    let p = g.R.TypeRelation.state c.relate_with_variance.new.r in
+    let p = g.R.HasState.state c.relate_with_variance.new.r in
     let inner : Related M q p (xform r.ambient v) x y (arg_tree p.meaning) (Ok c.in_ok-relate_with_variance-in-Again.field-0) =
     subst (λ z. Related M q p (xform z v) x y (arg_tree p.meaning) (Ok c.in_ok-relate_with_variance-in-Again.field-0)) (step.passes).ambient c.in_ok-relate_with_variance-in-Again.ensures.related in
     let same_o : (p.meaning).ty c.in-Again.answer ≡ o =
@@ -476,26 +475,26 @@ tys-returns-in_ok-tys_done-in-Again-clause-related g t c =
     let done : Related M r p r.ambient a b (p.meaning).ty (Ok c.in-Again.answer) =
     again_related M a b k l x y o v step.passes step.verdict step.exact (arg_tree p.meaning) c.in_ok-relate_with_variance-in-Again.field-0 (p.meaning).ty
     c.in-Again.answer same_o inner in
-    let u = g.R.TypeRelation.state c.tys_done-in-Again.new.self in
+    let u = g.R.HasState.state c.tys_done-in-Again.new.self in
     let n = c.in_ok-tys_done-in-Again in
     noted_related M r.ambient a b (p.meaning).ty c.in-Again.answer done (Ok n.field-0) n.ensures (u.meaning).ty
     ((((n.ensures).passes).extends).ty c.in-Again.answer (done.verdict).known)
 
 pub tys-returns-in-Done-clause-registers : goal.tys-returns-in-Done-clause-registers
 tys-returns-in-Done-clause-registers g t c =
-    let r = g.R.TypeRelation.state c.args.r.now in
+    let r = g.R.HasState.state c.args.r.now in
     let M = g.R.TypeRelation.manner in
     let a = (r.meaning).ty c.args.a.now in
     let b = (r.meaning).ty c.args.b.now in
-    let q = g.R.TypeRelation.state c.tys.new.self in
+    let q = g.R.HasState.state c.tys.new.self in
     done_registers M r q a b (q.meaning).ty c.in-Done.answer
     (subst (λ z. StepRegistersSubtype M r q (q.meaning).ty a b (Ok z)) c.in-Done.is c.in_ok-answer.ensures.registers)
 
 pub tys-returns-in_err-answer-clause-registers : goal.tys-returns-in_err-answer-clause-registers
 tys-returns-in_err-answer-clause-registers g t c =
-    let r = g.R.TypeRelation.state c.args.r.now in
+    let r = g.R.HasState.state c.args.r.now in
     let M = g.R.TypeRelation.manner in
-    let q = g.R.TypeRelation.state c.tys.new.self in
+    let q = g.R.HasState.state c.tys.new.self in
     let e = c.in_err-answer in
     refused_registers M r q ((r.meaning).ty c.args.a.now) ((r.meaning).ty c.args.b.now) (q.meaning).ty e.field-0.0
     c.from_residual.result
@@ -503,48 +502,48 @@ tys-returns-in_err-answer-clause-registers g t c =
 
 pub tys-returns-in_err-answer-in-Parts-clause-registers : goal.tys-returns-in_err-answer-in-Parts-clause-registers
 tys-returns-in_err-answer-in-Parts-clause-registers g t c =
-    let r = g.R.TypeRelation.state c.args.r.now in
+    let r = g.R.HasState.state c.args.r.now in
     let M = g.R.TypeRelation.manner in
     let a = (r.meaning).ty c.args.a.now in
     let b = (r.meaning).ty c.args.b.now in
-    let q = g.R.TypeRelation.state c.tys.new.self in
-    let s = g.R.TypeRelation.state c.structurally_relate_tys.new.r in
+    let q = g.R.HasState.state c.tys.new.self in
+    let s = g.R.HasState.state c.structurally_relate_tys.new.r in
     parts_register M r q a b s (q.meaning).ty c.in-Parts.a c.in-Parts.b
     c.from_residual-in_err-answer-in-Parts.result
     (subst (λ z. StepRegistersSubtype M r q (q.meaning).ty a b (Ok z)) c.in-Parts.is c.in_ok-answer.ensures.registers)
 
 pub tys-returns-in_err-tys_done-in-Parts-clause-registers : goal.tys-returns-in_err-tys_done-in-Parts-clause-registers
 tys-returns-in_err-tys_done-in-Parts-clause-registers g t c =
-    let r = g.R.TypeRelation.state c.args.r.now in
+    let r = g.R.HasState.state c.args.r.now in
     let M = g.R.TypeRelation.manner in
     let a = (r.meaning).ty c.args.a.now in
     let b = (r.meaning).ty c.args.b.now in
-    let q = g.R.TypeRelation.state c.tys.new.self in
-    let s = g.R.TypeRelation.state c.tys_done.new.self in
+    let q = g.R.HasState.state c.tys.new.self in
+    let s = g.R.HasState.state c.tys_done.new.self in
     parts_register M r q a b s (q.meaning).ty c.in-Parts.a c.in-Parts.b
     c.from_residual-in_err-tys_done-in-Parts.result
     (subst (λ z. StepRegistersSubtype M r q (q.meaning).ty a b (Ok z)) c.in-Parts.is c.in_ok-answer.ensures.registers)
 
 pub tys-returns-in_ok-tys_done-in-Parts-clause-registers : goal.tys-returns-in_ok-tys_done-in-Parts-clause-registers
 tys-returns-in_ok-tys_done-in-Parts-clause-registers g t c =
-    let r = g.R.TypeRelation.state c.args.r.now in
+    let r = g.R.HasState.state c.args.r.now in
     let M = g.R.TypeRelation.manner in
     let a = (r.meaning).ty c.args.a.now in
     let b = (r.meaning).ty c.args.b.now in
-    let q = g.R.TypeRelation.state c.tys.new.self in
-    let s = g.R.TypeRelation.state c.tys_done.new.self in
+    let q = g.R.HasState.state c.tys.new.self in
+    let s = g.R.HasState.state c.tys_done.new.self in
     parts_register M r q a b s (q.meaning).ty c.in-Parts.a c.in-Parts.b
     (Ok c.in_ok-answer-in-Parts.answer)
     (subst (λ z. StepRegistersSubtype M r q (q.meaning).ty a b (Ok z)) c.in-Parts.is c.in_ok-answer.ensures.registers)
 
 pub tys-returns-in_err-relate_with_variance-in-Again-clause-registers : goal.tys-returns-in_err-relate_with_variance-in-Again-clause-registers
 tys-returns-in_err-relate_with_variance-in-Again-clause-registers g t c =
-    let r = g.R.TypeRelation.state c.args.r.now in
+    let r = g.R.HasState.state c.args.r.now in
     let M = g.R.TypeRelation.manner in
     let a = (r.meaning).ty c.args.a.now in
     let b = (r.meaning).ty c.args.b.now in
-    let q = g.R.TypeRelation.state c.tys.new.self in
-    let s = g.R.TypeRelation.state c.relate_with_variance.new.r in
+    let q = g.R.HasState.state c.tys.new.self in
+    let s = g.R.HasState.state c.relate_with_variance.new.r in
     again_registers M r q a b s (q.meaning).ty c.in-Again.a c.in-Again.b c.in-Again.x c.in-Again.y
     c.in-Again.answer c.in-Again.variance
     c.from_residual-in_err-relate_with_variance-in-Again.result
@@ -552,12 +551,12 @@ tys-returns-in_err-relate_with_variance-in-Again-clause-registers g t c =
 
 pub tys-returns-in_err-tys_done-in-Again-clause-registers : goal.tys-returns-in_err-tys_done-in-Again-clause-registers
 tys-returns-in_err-tys_done-in-Again-clause-registers g t c =
-    let r = g.R.TypeRelation.state c.args.r.now in
+    let r = g.R.HasState.state c.args.r.now in
     let M = g.R.TypeRelation.manner in
     let a = (r.meaning).ty c.args.a.now in
     let b = (r.meaning).ty c.args.b.now in
-    let q = g.R.TypeRelation.state c.tys.new.self in
-    let s = g.R.TypeRelation.state c.tys_done-in-Again.new.self in
+    let q = g.R.HasState.state c.tys.new.self in
+    let s = g.R.HasState.state c.tys_done-in-Again.new.self in
     again_registers M r q a b s (q.meaning).ty c.in-Again.a c.in-Again.b c.in-Again.x c.in-Again.y
     c.in-Again.answer c.in-Again.variance
     c.from_residual-in_err-tys_done-in-Again.result
@@ -565,12 +564,12 @@ tys-returns-in_err-tys_done-in-Again-clause-registers g t c =
 
 pub tys-returns-in_ok-tys_done-in-Again-clause-registers : goal.tys-returns-in_ok-tys_done-in-Again-clause-registers
 tys-returns-in_ok-tys_done-in-Again-clause-registers g t c =
-    let r = g.R.TypeRelation.state c.args.r.now in
+    let r = g.R.HasState.state c.args.r.now in
     let M = g.R.TypeRelation.manner in
     let a = (r.meaning).ty c.args.a.now in
     let b = (r.meaning).ty c.args.b.now in
-    let q = g.R.TypeRelation.state c.tys.new.self in
-    let s = g.R.TypeRelation.state c.tys_done-in-Again.new.self in
+    let q = g.R.HasState.state c.tys.new.self in
+    let s = g.R.HasState.state c.tys_done-in-Again.new.self in
     again_registers M r q a b s (q.meaning).ty c.in-Again.a c.in-Again.b c.in-Again.x c.in-Again.y
     c.in-Again.answer c.in-Again.variance
     (Ok c.in-Again.answer)
@@ -578,7 +577,7 @@ tys-returns-in_ok-tys_done-in-Again-clause-registers g t c =
 
 pub relate-returns-in_default : goal.relate-returns-in_default
 relate-returns-in_default g t c =
-    let r = g.R.TypeRelation.state c.args.r.now in
+    let r = g.R.HasState.state c.args.r.now in
     let M = g.R.TypeRelation.manner in
     let e = g.met.R.TypeRelation.reads c.args.r.now in
     let cx = g.R.TypeRelation.interner c.args.r.now in
@@ -595,7 +594,7 @@ relate-returns-in_default g t c =
 
 pub relate-returns-in_default-b : goal.relate-returns-in_default-b
 relate-returns-in_default-b g t c =
-    let r = g.R.TypeRelation.state c.args.r.now in
+    let r = g.R.HasState.state c.args.r.now in
     let M = g.R.TypeRelation.manner in
     let e = g.met.R.TypeRelation.reads c.args.r.now in
     let cx = g.R.TypeRelation.interner c.args.r.now in
@@ -612,7 +611,7 @@ relate-returns-in_default-b g t c =
 
 pub relate-returns-in_default-b-2 : goal.relate-returns-in_default-b-2
 relate-returns-in_default-b-2 g t c =
-    let r = g.R.TypeRelation.state c.args.r.now in
+    let r = g.R.HasState.state c.args.r.now in
     let M = g.R.TypeRelation.manner in
     let e = g.met.R.TypeRelation.reads c.args.r.now in
     let cx = g.R.TypeRelation.interner c.args.r.now in
@@ -629,9 +628,9 @@ relate-returns-in_default-b-2 g t c =
 
 pub relate-returns-in_ok-regions-in-Lifetime : goal.relate-returns-in_ok-regions-in-Lifetime
 relate-returns-in_ok-regions-in-Lifetime g t c =
-    let r = g.R.TypeRelation.state c.args.r.now in
+    let r = g.R.HasState.state c.args.r.now in
     let M = g.R.TypeRelation.manner in
-    let q = g.R.TypeRelation.state c.regions.new.self in
+    let q = g.R.HasState.state c.regions.new.self in
     let e = g.met.R.TypeRelation.reads c.args.r.now in
     let cx = g.R.TypeRelation.interner c.args.r.now in
     let sorted : Sorted r.meaning = subst (λ m. Sorted m) (sym e) (g.met.I.Interner.sorted cx) in
@@ -648,9 +647,9 @@ relate-returns-in_ok-regions-in-Lifetime g t c =
 
 pub relate-returns-in_err-regions-in-Lifetime-clause-registers : goal.relate-returns-in_err-regions-in-Lifetime-clause-registers
 relate-returns-in_err-regions-in-Lifetime-clause-registers g t c =
-    let r = g.R.TypeRelation.state c.args.r.now in
+    let r = g.R.HasState.state c.args.r.now in
     let M = g.R.TypeRelation.manner in
-    let q = g.R.TypeRelation.state c.regions.new.self in
+    let q = g.R.HasState.state c.regions.new.self in
     let e = g.met.R.TypeRelation.reads c.args.r.now in
     let cx = g.R.TypeRelation.interner c.args.r.now in
     let sorted : Sorted r.meaning = subst (λ m. Sorted m) (sym e) (g.met.I.Interner.sorted cx) in
@@ -660,9 +659,9 @@ relate-returns-in_err-regions-in-Lifetime-clause-registers g t c =
 
 pub relate-returns-in_ok-tys-in-Ty : goal.relate-returns-in_ok-tys-in-Ty
 relate-returns-in_ok-tys-in-Ty g t c =
-    let r = g.R.TypeRelation.state c.args.r.now in
+    let r = g.R.HasState.state c.args.r.now in
     let M = g.R.TypeRelation.manner in
-    let q = g.R.TypeRelation.state c.tys.new.r in
+    let q = g.R.HasState.state c.tys.new.r in
     let n = c.in_ok-tys-in-Ty in
     record {
       related = subst₂ (λ t u. Related M r q r.ambient (arg_tree r.meaning t) (arg_tree r.meaning u) (arg_tree q.meaning) (Ok (Ty n.field-0)))
@@ -676,9 +675,9 @@ relate-returns-in_ok-tys-in-Ty g t c =
 
 pub relate-returns-in_err-tys-in-Ty-clause-registers : goal.relate-returns-in_err-tys-in-Ty-clause-registers
 relate-returns-in_err-tys-in-Ty-clause-registers g t c =
-    let r = g.R.TypeRelation.state c.args.r.now in
+    let r = g.R.HasState.state c.args.r.now in
     let M = g.R.TypeRelation.manner in
-    let q = g.R.TypeRelation.state c.tys.new.r in
+    let q = g.R.HasState.state c.tys.new.r in
     let n = c.in_err-tys-in-Ty in
     let res = c.from_residual-in_err-tys-in-Ty.result in
     subst₂ (λ t u. RegistersSubtype M r q r.ambient (arg_tree r.meaning t) (arg_tree r.meaning u) res)
@@ -689,9 +688,9 @@ relate-returns-in_err-tys-in-Ty-clause-registers g t c =
 
 pub relate-returns-in_ok-consts-in-Const : goal.relate-returns-in_ok-consts-in-Const
 relate-returns-in_ok-consts-in-Const g t c =
-    let r = g.R.TypeRelation.state c.args.r.now in
+    let r = g.R.HasState.state c.args.r.now in
     let M = g.R.TypeRelation.manner in
-    let q = g.R.TypeRelation.state c.consts.new.r in
+    let q = g.R.HasState.state c.consts.new.r in
     let e = g.met.R.TypeRelation.reads c.args.r.now in
     let cx = g.R.TypeRelation.interner c.args.r.now in
     let sorted : Sorted r.meaning = subst (λ m. Sorted m) (sym e) (g.met.I.Interner.sorted cx) in
@@ -708,9 +707,9 @@ relate-returns-in_ok-consts-in-Const g t c =
 
 pub relate-returns-in_err-consts-in-Const-clause-registers : goal.relate-returns-in_err-consts-in-Const-clause-registers
 relate-returns-in_err-consts-in-Const-clause-registers g t c =
-    let r = g.R.TypeRelation.state c.args.r.now in
+    let r = g.R.HasState.state c.args.r.now in
     let M = g.R.TypeRelation.manner in
-    let q = g.R.TypeRelation.state c.consts.new.r in
+    let q = g.R.HasState.state c.consts.new.r in
     let e = g.met.R.TypeRelation.reads c.args.r.now in
     let cx = g.R.TypeRelation.interner c.args.r.now in
     let sorted : Sorted r.meaning = subst (λ m. Sorted m) (sym e) (g.met.I.Interner.sorted cx) in
@@ -720,7 +719,7 @@ relate-returns-in_err-consts-in-Const-clause-registers g t c =
 
 pub relate_with_variance-returns-in-Bivariant : goal.relate_with_variance-returns-in-Bivariant
 relate_with_variance-returns-in-Bivariant g t c =
-    let r = g.R.TypeRelation.state c.args.r.now in
+    let r = g.R.HasState.state c.args.r.now in
     let M = g.R.TypeRelation.manner in
     let v = xform r.ambient c.args.variance in
     let e : v ≡ Bivariant =
@@ -734,11 +733,11 @@ relate_with_variance-returns-in-Bivariant g t c =
 
 pub relate_with_variance-returns : goal.relate_with_variance-returns
 relate_with_variance-returns g t c =
-    let r = g.R.TypeRelation.state c.args.r.now in
+    let r = g.R.HasState.state c.args.r.now in
     let M = g.R.TypeRelation.manner in
-    let s = g.R.TypeRelation.state c.set_ambient.new.self in
-    let q = g.R.TypeRelation.state c.relate-answer.new.r in
-    let u = g.R.TypeRelation.state c.set_ambient-2.new.self in
+    let s = g.R.HasState.state c.set_ambient.new.self in
+    let q = g.R.HasState.state c.relate-answer.new.r in
+    let u = g.R.HasState.state c.set_ambient-2.new.self in
     let a = arg_tree r.meaning c.args.a.now in
     let b = arg_tree r.meaning c.args.b.now in
     let res = c.relate-answer.result in
@@ -761,7 +760,7 @@ relate_with_variance-returns g t c =
 
 pub structurally_relate_consts-returns-then-eq : goal.structurally_relate_consts-returns-then-eq
 structurally_relate_consts-returns-then-eq g t c =
-    let r = g.R.TypeRelation.state c.args.r.now in
+    let r = g.R.HasState.state c.args.r.now in
     let M = g.R.TypeRelation.manner in
     let a = (r.meaning).const_ c.args.a.now in
     let b = (r.meaning).const_ c.args.b.now in
@@ -776,7 +775,7 @@ structurally_relate_consts-returns-then-eq g t c =
 
 pub structurally_relate_consts-compare_consts_of-requires-clause-differ : goal.structurally_relate_consts-compare_consts_of-requires-clause-differ
 structurally_relate_consts-compare_consts_of-requires-clause-differ g t c =
-    let r = g.R.TypeRelation.state c.args.r.now in
+    let r = g.R.HasState.state c.args.r.now in
     let M = g.R.TypeRelation.manner in
     let a = (r.meaning).const_ c.args.a.now in
     let b = (r.meaning).const_ c.args.b.now in
@@ -797,7 +796,7 @@ structurally_relate_consts-compare_consts_of-requires-clause-b_covered g t c = (
 
 pub structurally_relate_consts-returns-in_err-compare_consts_of : goal.structurally_relate_consts-returns-in_err-compare_consts_of
 structurally_relate_consts-returns-in_err-compare_consts_of g t c =
-    let r = g.R.TypeRelation.state c.args.r.now in
+    let r = g.R.HasState.state c.args.r.now in
     let M = g.R.TypeRelation.manner in
     let a = (r.meaning).const_ c.args.a.now in
     let b = (r.meaning).const_ c.args.b.now in
@@ -814,7 +813,7 @@ structurally_relate_consts-returns-in_err-compare_consts_of g t c =
 
 pub structurally_relate_consts-loop-i-init : goal.structurally_relate_consts-loop-i-init
 structurally_relate_consts-loop-i-init g t c =
-    let r = g.R.TypeRelation.state c.args.r.now in
+    let r = g.R.HasState.state c.args.r.now in
     let M = g.R.TypeRelation.manner in
     let a = (r.meaning).const_ c.args.a.now in
     let b = (r.meaning).const_ c.args.b.now in
@@ -842,12 +841,12 @@ structurally_relate_consts-loop-i-init g t c =
 
 pub structurally_relate_consts-relate_with_variance-related-requires : goal.structurally_relate_consts-relate_with_variance-related-requires
 structurally_relate_consts-relate_with_variance-related-requires g t c κs within =
-    let r = g.R.TypeRelation.state c.args.r.now in
+    let r = g.R.HasState.state c.args.r.now in
     let M = g.R.TypeRelation.manner in
     let a = (r.meaning).const_ c.args.a.now in
     let b = (r.meaning).const_ c.args.b.now in
     let takes = g.met.R.TypeRelation.takes_parts in
-    let q = g.R.TypeRelation.state c.loop-i.r in
+    let q = g.R.HasState.state c.loop-i.r in
     let i = c.loop-i.i in
     let inv = c.loop-i.invariant in
     let k = c.requires.asked in
@@ -881,11 +880,11 @@ structurally_relate_consts-relate_with_variance-related-requires g t c κs withi
 
 pub structurally_relate_consts-returns-in_err-answer : goal.structurally_relate_consts-returns-in_err-answer
 structurally_relate_consts-returns-in_err-answer g t c =
-    let r = g.R.TypeRelation.state c.args.r.now in
+    let r = g.R.HasState.state c.args.r.now in
     let M = g.R.TypeRelation.manner in
     let a = (r.meaning).const_ c.args.a.now in
     let b = (r.meaning).const_ c.args.b.now in
-    let q = g.R.TypeRelation.state c.loop-i.r in
+    let q = g.R.HasState.state c.loop-i.r in
     let i = c.loop-i.i in
     let inv = c.loop-i.invariant in
     let k = c.requires.asked in
@@ -909,7 +908,7 @@ structurally_relate_consts-returns-in_err-answer g t c =
     c.const_variance_at-variance.ensures i ∙ ap (λ z. part_at (items_in q) (const_head_of z) i q.ambient) same_a ∙
     ap (λ z. part_at z (const_head_of a) i q.ambient) (same_items (inv.fronted).passes) ∙
     ap (λ z. part_at (items_in r) (const_head_of a) i z) ((inv.fronted).passes).ambient in
-    let p = g.R.TypeRelation.state c.relate_with_variance-related.new.r in
+    let p = g.R.HasState.state c.relate_with_variance-related.new.r in
     let related = c.relate_with_variance-related in
     let later = (((related.ensures).related).passes).extends in
     let then_a : (p.meaning).const_ c.args.a.now ≡ a =
@@ -929,11 +928,11 @@ structurally_relate_consts-returns-in_err-answer g t c =
 
 pub structurally_relate_consts-loop-i-preserved : goal.structurally_relate_consts-loop-i-preserved
 structurally_relate_consts-loop-i-preserved g t c =
-    let r = g.R.TypeRelation.state c.args.r.now in
+    let r = g.R.HasState.state c.args.r.now in
     let M = g.R.TypeRelation.manner in
     let a = (r.meaning).const_ c.args.a.now in
     let b = (r.meaning).const_ c.args.b.now in
-    let q = g.R.TypeRelation.state c.loop-i.r in
+    let q = g.R.HasState.state c.loop-i.r in
     let i = c.loop-i.i in
     let inv = c.loop-i.invariant in
     let k = c.requires.asked in
@@ -957,7 +956,7 @@ structurally_relate_consts-loop-i-preserved g t c =
     c.const_variance_at-variance.ensures i ∙ ap (λ z. part_at (items_in q) (const_head_of z) i q.ambient) same_a ∙
     ap (λ z. part_at z (const_head_of a) i q.ambient) (same_items (inv.fronted).passes) ∙
     ap (λ z. part_at (items_in r) (const_head_of a) i z) ((inv.fronted).passes).ambient in
-    let p = g.R.TypeRelation.state c.relate_with_variance-related.new.r in
+    let p = g.R.HasState.state c.relate_with_variance-related.new.r in
     let related = c.relate_with_variance-related in
     let later = (((related.ensures).related).passes).extends in
     let then_a : (p.meaning).const_ c.args.a.now ≡ a =
@@ -1000,11 +999,11 @@ structurally_relate_consts-loop-i-preserved g t c =
 
 pub structurally_relate_consts-returns-in_err-push : goal.structurally_relate_consts-returns-in_err-push
 structurally_relate_consts-returns-in_err-push g t c =
-    let r = g.R.TypeRelation.state c.args.r.now in
+    let r = g.R.HasState.state c.args.r.now in
     let M = g.R.TypeRelation.manner in
     let a = (r.meaning).const_ c.args.a.now in
     let b = (r.meaning).const_ c.args.b.now in
-    let q = g.R.TypeRelation.state c.loop-i.r in
+    let q = g.R.HasState.state c.loop-i.r in
     let i = c.loop-i.i in
     let inv = c.loop-i.invariant in
     let k = c.requires.asked in
@@ -1028,7 +1027,7 @@ structurally_relate_consts-returns-in_err-push g t c =
     c.const_variance_at-variance.ensures i ∙ ap (λ z. part_at (items_in q) (const_head_of z) i q.ambient) same_a ∙
     ap (λ z. part_at z (const_head_of a) i q.ambient) (same_items (inv.fronted).passes) ∙
     ap (λ z. part_at (items_in r) (const_head_of a) i z) ((inv.fronted).passes).ambient in
-    let p = g.R.TypeRelation.state c.relate_with_variance-related.new.r in
+    let p = g.R.HasState.state c.relate_with_variance-related.new.r in
     let related = c.relate_with_variance-related in
     let later = (((related.ensures).related).passes).extends in
     let then_a : (p.meaning).const_ c.args.a.now ≡ a =
@@ -1055,11 +1054,11 @@ structurally_relate_consts-make_const-requires-clause-constant_known g t c =
 
 pub structurally_relate_consts-make_const-requires-clause-fits : goal.structurally_relate_consts-make_const-requires-clause-fits
 structurally_relate_consts-make_const-requires-clause-fits g t c =
-    let r = g.R.TypeRelation.state c.args.r.now in
+    let r = g.R.HasState.state c.args.r.now in
     let M = g.R.TypeRelation.manner in
     let a = (r.meaning).const_ c.args.a.now in
     let b = (r.meaning).const_ c.args.b.now in
-    let q = g.R.TypeRelation.state c.loop-i.r in
+    let q = g.R.HasState.state c.loop-i.r in
     let i = c.loop-i.i in
     let inv = c.loop-i.invariant in
     let k = c.requires.asked in
@@ -1078,11 +1077,11 @@ structurally_relate_consts-make_const-requires-clause-fits g t c =
 
 pub structurally_relate_consts-returns : goal.structurally_relate_consts-returns
 structurally_relate_consts-returns g t c =
-    let r = g.R.TypeRelation.state c.args.r.now in
+    let r = g.R.HasState.state c.args.r.now in
     let M = g.R.TypeRelation.manner in
     let a = (r.meaning).const_ c.args.a.now in
     let b = (r.meaning).const_ c.args.b.now in
-    let q = g.R.TypeRelation.state c.loop-i.r in
+    let q = g.R.HasState.state c.loop-i.r in
     let i = c.loop-i.i in
     let inv = c.loop-i.invariant in
     let k = c.requires.asked in
@@ -1099,7 +1098,7 @@ structurally_relate_consts-returns g t c =
     let done : Related M r q r.ambient a b (q.meaning).const_ (Ok c.args.a.now) =
     consts_related M r.ambient a b i (q.meaning).const_ c.args.a.now c.requires.a_formed c.requires.b_formed alike inv.fronted inv.are_parts left right same_a
     k.left_known in
-    let p = g.R.TypeRelation.state c.make_const.new.r in
+    let p = g.R.HasState.state c.make_const.new.r in
     let made = c.make_const.ensures in
     form_made M r.ambient a b (made.made).extends made.grown (p.meaning).const_ (q.meaning).const_ c.args.a.now done
     c.make_const.result made.fault (const_over a was) _
@@ -1116,7 +1115,7 @@ structurally_relate_tys-compare_tys_of-requires-clause-b_covered g t c = ((c.req
 
 pub structurally_relate_tys-returns-in_err-compare_tys_of : goal.structurally_relate_tys-returns-in_err-compare_tys_of
 structurally_relate_tys-returns-in_err-compare_tys_of g t c =
-    let r = g.R.TypeRelation.state c.args.r.now in
+    let r = g.R.HasState.state c.args.r.now in
     let M = g.R.TypeRelation.manner in
     let a = (r.meaning).ty c.args.a.now in
     let b = (r.meaning).ty c.args.b.now in
@@ -1133,7 +1132,7 @@ structurally_relate_tys-returns-in_err-compare_tys_of g t c =
 
 pub structurally_relate_tys-loop-i-init : goal.structurally_relate_tys-loop-i-init
 structurally_relate_tys-loop-i-init g t c =
-    let r = g.R.TypeRelation.state c.args.r.now in
+    let r = g.R.HasState.state c.args.r.now in
     let M = g.R.TypeRelation.manner in
     let a = (r.meaning).ty c.args.a.now in
     let b = (r.meaning).ty c.args.b.now in
@@ -1160,36 +1159,36 @@ structurally_relate_tys-loop-i-init g t c =
 
 pub structurally_relate_tys-part_of-x-requires-clause-ty_covered : goal.structurally_relate_tys-part_of-x-requires-clause-ty_covered
 structurally_relate_tys-part_of-x-requires-clause-ty_covered g t c =
-    let r = g.R.TypeRelation.state c.args.r.now in
-    let q = g.R.TypeRelation.state c.loop-i.r in
+    let r = g.R.HasState.state c.args.r.now in
+    let q = g.R.HasState.state c.loop-i.r in
     let k = c.requires.asked in
     let same = (((c.loop-i.invariant.fronted).passes).extends).ty c.args.a.now k.left_known in
     subst IsCovered (sym same) (k.left_taken).1
 
 pub structurally_relate_tys-part_of-y-requires-clause-ty_covered : goal.structurally_relate_tys-part_of-y-requires-clause-ty_covered
 structurally_relate_tys-part_of-y-requires-clause-ty_covered g t c =
-    let r = g.R.TypeRelation.state c.args.r.now in
-    let q = g.R.TypeRelation.state c.loop-i.r in
+    let r = g.R.HasState.state c.args.r.now in
+    let q = g.R.HasState.state c.loop-i.r in
     let k = c.requires.asked in
     let same = (((c.loop-i.invariant.fronted).passes).extends).ty c.args.b.now k.right_known in
     subst IsCovered (sym same) (k.right_taken).1
 
 pub structurally_relate_tys-variance_at-variance-requires-clause-ty_covered : goal.structurally_relate_tys-variance_at-variance-requires-clause-ty_covered
 structurally_relate_tys-variance_at-variance-requires-clause-ty_covered g t c =
-    let r = g.R.TypeRelation.state c.args.r.now in
-    let q = g.R.TypeRelation.state c.loop-i.r in
+    let r = g.R.HasState.state c.args.r.now in
+    let q = g.R.HasState.state c.loop-i.r in
     let k = c.requires.asked in
     let same = (((c.loop-i.invariant.fronted).passes).extends).ty c.args.a.now k.left_known in
     subst IsCovered (sym same) (k.left_taken).1
 
 pub structurally_relate_tys-relate_with_variance-related-requires : goal.structurally_relate_tys-relate_with_variance-related-requires
 structurally_relate_tys-relate_with_variance-related-requires g t c κs within =
-    let r = g.R.TypeRelation.state c.args.r.now in
+    let r = g.R.HasState.state c.args.r.now in
     let M = g.R.TypeRelation.manner in
     let a = (r.meaning).ty c.args.a.now in
     let b = (r.meaning).ty c.args.b.now in
     let takes = g.met.R.TypeRelation.takes_parts in
-    let q = g.R.TypeRelation.state c.loop-i.r in
+    let q = g.R.HasState.state c.loop-i.r in
     let i = c.loop-i.i in
     let inv = c.loop-i.invariant in
     let k = c.requires.asked in
@@ -1231,11 +1230,11 @@ structurally_relate_tys-in_ty-requires g t c =
 
 pub structurally_relate_tys-returns-in_err-answer : goal.structurally_relate_tys-returns-in_err-answer
 structurally_relate_tys-returns-in_err-answer g t c =
-    let r = g.R.TypeRelation.state c.args.r.now in
+    let r = g.R.HasState.state c.args.r.now in
     let M = g.R.TypeRelation.manner in
     let a = (r.meaning).ty c.args.a.now in
     let b = (r.meaning).ty c.args.b.now in
-    let q = g.R.TypeRelation.state c.loop-i.r in
+    let q = g.R.HasState.state c.loop-i.r in
     let i = c.loop-i.i in
     let inv = c.loop-i.invariant in
     let k = c.requires.asked in
@@ -1259,7 +1258,7 @@ structurally_relate_tys-returns-in_err-answer g t c =
     c.variance_at-variance.ensures ∙ ap (λ z. part_at (items_in q) (head_of z) i q.ambient) same_a ∙
     ap (λ z. part_at z (head_of a) i q.ambient) (same_items (inv.fronted).passes) ∙
     ap (λ z. part_at (items_in r) (head_of a) i z) ((inv.fronted).passes).ambient in
-    let p = g.R.TypeRelation.state c.relate_with_variance-related.new.r in
+    let p = g.R.HasState.state c.relate_with_variance-related.new.r in
     let related = c.relate_with_variance-related in
     let later = (((related.ensures).related).passes).extends in
     let then_a : (p.meaning).ty c.args.a.now ≡ a =
@@ -1282,11 +1281,11 @@ structurally_relate_tys-returns-in_err-answer g t c =
 
 pub structurally_relate_tys-loop-i-preserved : goal.structurally_relate_tys-loop-i-preserved
 structurally_relate_tys-loop-i-preserved g t c =
-    let r = g.R.TypeRelation.state c.args.r.now in
+    let r = g.R.HasState.state c.args.r.now in
     let M = g.R.TypeRelation.manner in
     let a = (r.meaning).ty c.args.a.now in
     let b = (r.meaning).ty c.args.b.now in
-    let q = g.R.TypeRelation.state c.loop-i.r in
+    let q = g.R.HasState.state c.loop-i.r in
     let i = c.loop-i.i in
     let inv = c.loop-i.invariant in
     let k = c.requires.asked in
@@ -1310,7 +1309,7 @@ structurally_relate_tys-loop-i-preserved g t c =
     c.variance_at-variance.ensures ∙ ap (λ z. part_at (items_in q) (head_of z) i q.ambient) same_a ∙
     ap (λ z. part_at z (head_of a) i q.ambient) (same_items (inv.fronted).passes) ∙
     ap (λ z. part_at (items_in r) (head_of a) i z) ((inv.fronted).passes).ambient in
-    let p = g.R.TypeRelation.state c.relate_with_variance-related.new.r in
+    let p = g.R.HasState.state c.relate_with_variance-related.new.r in
     let related = c.relate_with_variance-related in
     let later = (((related.ensures).related).passes).extends in
     let then_a : (p.meaning).ty c.args.a.now ≡ a =
@@ -1353,11 +1352,11 @@ structurally_relate_tys-loop-i-preserved g t c =
 
 pub structurally_relate_tys-returns-in_err-push : goal.structurally_relate_tys-returns-in_err-push
 structurally_relate_tys-returns-in_err-push g t c =
-    let r = g.R.TypeRelation.state c.args.r.now in
+    let r = g.R.HasState.state c.args.r.now in
     let M = g.R.TypeRelation.manner in
     let a = (r.meaning).ty c.args.a.now in
     let b = (r.meaning).ty c.args.b.now in
-    let q = g.R.TypeRelation.state c.loop-i.r in
+    let q = g.R.HasState.state c.loop-i.r in
     let i = c.loop-i.i in
     let inv = c.loop-i.invariant in
     let k = c.requires.asked in
@@ -1381,7 +1380,7 @@ structurally_relate_tys-returns-in_err-push g t c =
     c.variance_at-variance.ensures ∙ ap (λ z. part_at (items_in q) (head_of z) i q.ambient) same_a ∙
     ap (λ z. part_at z (head_of a) i q.ambient) (same_items (inv.fronted).passes) ∙
     ap (λ z. part_at (items_in r) (head_of a) i z) ((inv.fronted).passes).ambient in
-    let p = g.R.TypeRelation.state c.relate_with_variance-related.new.r in
+    let p = g.R.HasState.state c.relate_with_variance-related.new.r in
     let related = c.relate_with_variance-related in
     let later = (((related.ensures).related).passes).extends in
     let then_a : (p.meaning).ty c.args.a.now ≡ a =
@@ -1402,11 +1401,11 @@ structurally_relate_tys-returns-in_err-push g t c =
 
 pub structurally_relate_tys-note_args-requires-clause-one_form : goal.structurally_relate_tys-note_args-requires-clause-one_form
 structurally_relate_tys-note_args-requires-clause-one_form g t c =
-    let r = g.R.TypeRelation.state c.args.r.now in
+    let r = g.R.HasState.state c.args.r.now in
     let M = g.R.TypeRelation.manner in
     let a = (r.meaning).ty c.args.a.now in
     let b = (r.meaning).ty c.args.b.now in
-    let q = g.R.TypeRelation.state c.loop-i.r in
+    let q = g.R.HasState.state c.loop-i.r in
     let i = c.loop-i.i in
     let inv = c.loop-i.invariant in
     let k = c.requires.asked in
@@ -1418,11 +1417,11 @@ structurally_relate_tys-note_args-requires-clause-one_form g t c =
 
 pub structurally_relate_tys-note_args-requires-clause-related : goal.structurally_relate_tys-note_args-requires-clause-related
 structurally_relate_tys-note_args-requires-clause-related g t c =
-    let r = g.R.TypeRelation.state c.args.r.now in
+    let r = g.R.HasState.state c.args.r.now in
     let M = g.R.TypeRelation.manner in
     let a = (r.meaning).ty c.args.a.now in
     let b = (r.meaning).ty c.args.b.now in
-    let q = g.R.TypeRelation.state c.loop-i.r in
+    let q = g.R.HasState.state c.loop-i.r in
     let i = c.loop-i.i in
     let inv = c.loop-i.invariant in
     let k = c.requires.asked in
@@ -1437,17 +1436,17 @@ structurally_relate_tys-note_args-requires-clause-related g t c =
     let done : Related M r q r.ambient a b (q.meaning).ty (Ok c.args.a.now) =
     types_related M r.ambient a b i (q.meaning).ty c.args.a.now c.requires.a_formed c.requires.b_formed alike inv.fronted inv.are_parts left
     right same_a k.left_known in
-    subst₂ (λ t u. Relates (items_in q) q.store q.goals q.kept.environment q.ambient t u) (sym same_a) (sym same_b)
-    (subst (λ v. Relates (items_in q) q.store q.goals q.kept.environment v a b) (sym ((inv.fronted).passes).ambient)
-    (relates_now M r.ambient a b (q.meaning).ty c.args.a.now done))
+    subst₂ (λ t u. Shown M q q.ambient t u) (sym same_a) (sym same_b)
+    (subst (λ v. Shown M q v a b) (sym ((inv.fronted).passes).ambient)
+    (shown_now M r.ambient a b (q.meaning).ty c.args.a.now done))
 
 pub structurally_relate_tys-note_args-requires-clause-asked : goal.structurally_relate_tys-note_args-requires-clause-asked
 structurally_relate_tys-note_args-requires-clause-asked g t c =
-    let r = g.R.TypeRelation.state c.args.r.now in
+    let r = g.R.HasState.state c.args.r.now in
     let M = g.R.TypeRelation.manner in
     let a = (r.meaning).ty c.args.a.now in
     let b = (r.meaning).ty c.args.b.now in
-    let q = g.R.TypeRelation.state c.loop-i.r in
+    let q = g.R.HasState.state c.loop-i.r in
     let i = c.loop-i.i in
     let inv = c.loop-i.invariant in
     let k = c.requires.asked in
@@ -1460,11 +1459,11 @@ structurally_relate_tys-note_args-requires-clause-asked g t c =
 
 pub structurally_relate_tys-returns-in_err-note_args : goal.structurally_relate_tys-returns-in_err-note_args
 structurally_relate_tys-returns-in_err-note_args g t c =
-    let r = g.R.TypeRelation.state c.args.r.now in
+    let r = g.R.HasState.state c.args.r.now in
     let M = g.R.TypeRelation.manner in
     let a = (r.meaning).ty c.args.a.now in
     let b = (r.meaning).ty c.args.b.now in
-    let q = g.R.TypeRelation.state c.loop-i.r in
+    let q = g.R.HasState.state c.loop-i.r in
     let i = c.loop-i.i in
     let inv = c.loop-i.invariant in
     let k = c.requires.asked in
@@ -1479,7 +1478,7 @@ structurally_relate_tys-returns-in_err-note_args g t c =
     let done : Related M r q r.ambient a b (q.meaning).ty (Ok c.args.a.now) =
     types_related M r.ambient a b i (q.meaning).ty c.args.a.now c.requires.a_formed c.requires.b_formed alike inv.fronted inv.are_parts left
     right same_a k.left_known in
-    let u = g.R.TypeRelation.state c.note_args.new.r in
+    let u = g.R.HasState.state c.note_args.new.r in
     let n = c.in_err-note_args in
     let failed = as_err c.from_residual-in_err-note_args.result n.field-0.0 c.from_residual-in_err-note_args.ensures.0
     c.from_residual-in_err-note_args.ensures.1 in
@@ -1489,11 +1488,11 @@ structurally_relate_tys-returns-in_err-note_args g t c =
 
 pub structurally_relate_tys-make_ty-requires-clause-ty_known : goal.structurally_relate_tys-make_ty-requires-clause-ty_known
 structurally_relate_tys-make_ty-requires-clause-ty_known g t c =
-    let r = g.R.TypeRelation.state c.args.r.now in
+    let r = g.R.HasState.state c.args.r.now in
     let M = g.R.TypeRelation.manner in
     let a = (r.meaning).ty c.args.a.now in
     let b = (r.meaning).ty c.args.b.now in
-    let q = g.R.TypeRelation.state c.loop-i.r in
+    let q = g.R.HasState.state c.loop-i.r in
     let i = c.loop-i.i in
     let inv = c.loop-i.invariant in
     let k = c.requires.asked in
@@ -1508,7 +1507,7 @@ structurally_relate_tys-make_ty-requires-clause-ty_known g t c =
     let done : Related M r q r.ambient a b (q.meaning).ty (Ok c.args.a.now) =
     types_related M r.ambient a b i (q.meaning).ty c.args.a.now c.requires.a_formed c.requires.b_formed alike inv.fronted inv.are_parts left
     right same_a k.left_known in
-    let u = g.R.TypeRelation.state c.note_args.new.r in
+    let u = g.R.HasState.state c.note_args.new.r in
     let n = c.in_ok-note_args in
     let noted = noted_related M r.ambient a b (q.meaning).ty c.args.a.now done (Ok n.field-0) n.ensures (u.meaning).ty
     ((((n.ensures).passes).extends).ty c.args.a.now (subst (λ z. IsTrue (known z)) (sym same_a) k.left_known)) in
@@ -1523,14 +1522,14 @@ structurally_relate_tys-make_ty-requires-clause-ty_known g t c =
 
 pub structurally_relate_tys-make_ty-requires-clause-ty_covered : goal.structurally_relate_tys-make_ty-requires-clause-ty_covered
 structurally_relate_tys-make_ty-requires-clause-ty_covered g t c =
-    let r = g.R.TypeRelation.state c.args.r.now in
+    let r = g.R.HasState.state c.args.r.now in
     let a = (r.meaning).ty c.args.a.now in
-    let q = g.R.TypeRelation.state c.loop-i.r in
+    let q = g.R.HasState.state c.loop-i.r in
     let inv = c.loop-i.invariant in
     let k = c.requires.asked in
     let extends = ((inv.fronted).passes).extends in
     let same_a : (q.meaning).ty c.args.a.now ≡ a = extends.ty c.args.a.now k.left_known in
-    let u = g.R.TypeRelation.state c.note_args.new.r in
+    let u = g.R.HasState.state c.note_args.new.r in
     let e = (((c.in_ok-note_args.ensures).passes).extends) in
     let stays : (u.meaning).ty c.args.a.now ≡ a =
     e.ty c.args.a.now (subst (λ z. IsTrue (known z)) (sym same_a) k.left_known) ∙ same_a in
@@ -1538,11 +1537,11 @@ structurally_relate_tys-make_ty-requires-clause-ty_covered g t c =
 
 pub structurally_relate_tys-make_ty-requires-clause-parts_known : goal.structurally_relate_tys-make_ty-requires-clause-parts_known
 structurally_relate_tys-make_ty-requires-clause-parts_known g t c =
-    let r = g.R.TypeRelation.state c.args.r.now in
+    let r = g.R.HasState.state c.args.r.now in
     let M = g.R.TypeRelation.manner in
     let a = (r.meaning).ty c.args.a.now in
     let b = (r.meaning).ty c.args.b.now in
-    let q = g.R.TypeRelation.state c.loop-i.r in
+    let q = g.R.HasState.state c.loop-i.r in
     let i = c.loop-i.i in
     let inv = c.loop-i.invariant in
     let k = c.requires.asked in
@@ -1557,7 +1556,7 @@ structurally_relate_tys-make_ty-requires-clause-parts_known g t c =
     let done : Related M r q r.ambient a b (q.meaning).ty (Ok c.args.a.now) =
     types_related M r.ambient a b i (q.meaning).ty c.args.a.now c.requires.a_formed c.requires.b_formed alike inv.fronted inv.are_parts left
     right same_a k.left_known in
-    let u = g.R.TypeRelation.state c.note_args.new.r in
+    let u = g.R.HasState.state c.note_args.new.r in
     let n = c.in_ok-note_args in
     let noted = noted_related M r.ambient a b (q.meaning).ty c.args.a.now done (Ok n.field-0) n.ensures (u.meaning).ty
     ((((n.ensures).passes).extends).ty c.args.a.now (subst (λ z. IsTrue (known z)) (sym same_a) k.left_known)) in
@@ -1573,11 +1572,11 @@ structurally_relate_tys-make_ty-requires-clause-parts_known g t c =
 
 pub structurally_relate_tys-make_ty-requires-clause-fits : goal.structurally_relate_tys-make_ty-requires-clause-fits
 structurally_relate_tys-make_ty-requires-clause-fits g t c =
-    let r = g.R.TypeRelation.state c.args.r.now in
+    let r = g.R.HasState.state c.args.r.now in
     let M = g.R.TypeRelation.manner in
     let a = (r.meaning).ty c.args.a.now in
     let b = (r.meaning).ty c.args.b.now in
-    let q = g.R.TypeRelation.state c.loop-i.r in
+    let q = g.R.HasState.state c.loop-i.r in
     let i = c.loop-i.i in
     let inv = c.loop-i.invariant in
     let k = c.requires.asked in
@@ -1592,7 +1591,7 @@ structurally_relate_tys-make_ty-requires-clause-fits g t c =
     let done : Related M r q r.ambient a b (q.meaning).ty (Ok c.args.a.now) =
     types_related M r.ambient a b i (q.meaning).ty c.args.a.now c.requires.a_formed c.requires.b_formed alike inv.fronted inv.are_parts left
     right same_a k.left_known in
-    let u = g.R.TypeRelation.state c.note_args.new.r in
+    let u = g.R.HasState.state c.note_args.new.r in
     let n = c.in_ok-note_args in
     let noted = noted_related M r.ambient a b (q.meaning).ty c.args.a.now done (Ok n.field-0) n.ensures (u.meaning).ty
     ((((n.ensures).passes).extends).ty c.args.a.now (subst (λ z. IsTrue (known z)) (sym same_a) k.left_known)) in
@@ -1608,11 +1607,11 @@ structurally_relate_tys-make_ty-requires-clause-fits g t c =
 
 pub structurally_relate_tys-returns : goal.structurally_relate_tys-returns
 structurally_relate_tys-returns g t c =
-    let r = g.R.TypeRelation.state c.args.r.now in
+    let r = g.R.HasState.state c.args.r.now in
     let M = g.R.TypeRelation.manner in
     let a = (r.meaning).ty c.args.a.now in
     let b = (r.meaning).ty c.args.b.now in
-    let q = g.R.TypeRelation.state c.loop-i.r in
+    let q = g.R.HasState.state c.loop-i.r in
     let i = c.loop-i.i in
     let inv = c.loop-i.invariant in
     let k = c.requires.asked in
@@ -1627,7 +1626,7 @@ structurally_relate_tys-returns g t c =
     let done : Related M r q r.ambient a b (q.meaning).ty (Ok c.args.a.now) =
     types_related M r.ambient a b i (q.meaning).ty c.args.a.now c.requires.a_formed c.requires.b_formed alike inv.fronted inv.are_parts left
     right same_a k.left_known in
-    let u = g.R.TypeRelation.state c.note_args.new.r in
+    let u = g.R.HasState.state c.note_args.new.r in
     let n = c.in_ok-note_args in
     let noted = noted_related M r.ambient a b (q.meaning).ty c.args.a.now done (Ok n.field-0) n.ensures (u.meaning).ty
     ((((n.ensures).passes).extends).ty c.args.a.now (subst (λ z. IsTrue (known z)) (sym same_a) k.left_known)) in
@@ -1638,7 +1637,7 @@ structurally_relate_tys-returns g t c =
     let was = list_tree (arg_tree q.meaning) items in
     let listed : list_tree (arg_tree u.meaning) items ≡ was =
     stays_list (arg_tree q.meaning) (arg_tree u.meaning) items (stays_arg e) (inv.answers).sure in
-    let p = g.R.TypeRelation.state c.make_ty.new.r in
+    let p = g.R.HasState.state c.make_ty.new.r in
     let made = c.make_ty.ensures in
     let may = may_over M q r.ambient a was c.requires.a_formed
     (answers_end M q (head_of a) r.ambient i (parts_of a) was (inv.are_parts).left_list left inv.answers) in
@@ -1650,7 +1649,7 @@ structurally_relate_tys-returns g t c =
 
 pub relate_in_order-loop-i-init : goal.relate_in_order-loop-i-init
 relate_in_order-loop-i-init g t c =
-    let r = g.R.TypeRelation.state c.args.r.now in
+    let r = g.R.HasState.state c.args.r.now in
     let M = g.R.TypeRelation.manner in
     let a = part_tree r.meaning c.args.a.now in
     let b = part_tree r.meaning c.args.b.now in
@@ -1682,11 +1681,11 @@ relate_in_order-loop-i-init g t c =
 
 pub relate_in_order-compare_members_of-requires-clause-a_known : goal.relate_in_order-compare_members_of-requires-clause-a_known
 relate_in_order-compare_members_of-requires-clause-a_known g t c =
-    let r = g.R.TypeRelation.state c.args.r.now in
+    let r = g.R.HasState.state c.args.r.now in
     let M = g.R.TypeRelation.manner in
     let a = part_tree r.meaning c.args.a.now in
     let b = part_tree r.meaning c.args.b.now in
-    let q = g.R.TypeRelation.state c.loop-i.r in
+    let q = g.R.HasState.state c.loop-i.r in
     let i = c.loop-i.i in
     let inv = c.loop-i.invariant in
     let k = c.requires.asked in
@@ -1699,11 +1698,11 @@ relate_in_order-compare_members_of-requires-clause-a_known g t c =
 
 pub relate_in_order-compare_members_of-requires-clause-b_known : goal.relate_in_order-compare_members_of-requires-clause-b_known
 relate_in_order-compare_members_of-requires-clause-b_known g t c =
-    let r = g.R.TypeRelation.state c.args.r.now in
+    let r = g.R.HasState.state c.args.r.now in
     let M = g.R.TypeRelation.manner in
     let a = part_tree r.meaning c.args.a.now in
     let b = part_tree r.meaning c.args.b.now in
-    let q = g.R.TypeRelation.state c.loop-i.r in
+    let q = g.R.HasState.state c.loop-i.r in
     let i = c.loop-i.i in
     let inv = c.loop-i.invariant in
     let k = c.requires.asked in
@@ -1716,11 +1715,11 @@ relate_in_order-compare_members_of-requires-clause-b_known g t c =
 
 pub relate_in_order-compare_members_of-requires-clause-in_a : goal.relate_in_order-compare_members_of-requires-clause-in_a
 relate_in_order-compare_members_of-requires-clause-in_a g t c =
-    let r = g.R.TypeRelation.state c.args.r.now in
+    let r = g.R.HasState.state c.args.r.now in
     let M = g.R.TypeRelation.manner in
     let a = part_tree r.meaning c.args.a.now in
     let b = part_tree r.meaning c.args.b.now in
-    let q = g.R.TypeRelation.state c.loop-i.r in
+    let q = g.R.HasState.state c.loop-i.r in
     let i = c.loop-i.i in
     let inv = c.loop-i.invariant in
     let k = c.requires.asked in
@@ -1736,11 +1735,11 @@ relate_in_order-compare_members_of-requires-clause-in_a g t c =
 
 pub relate_in_order-compare_members_of-requires-clause-in_b : goal.relate_in_order-compare_members_of-requires-clause-in_b
 relate_in_order-compare_members_of-requires-clause-in_b g t c =
-    let r = g.R.TypeRelation.state c.args.r.now in
+    let r = g.R.HasState.state c.args.r.now in
     let M = g.R.TypeRelation.manner in
     let a = part_tree r.meaning c.args.a.now in
     let b = part_tree r.meaning c.args.b.now in
-    let q = g.R.TypeRelation.state c.loop-i.r in
+    let q = g.R.HasState.state c.loop-i.r in
     let i = c.loop-i.i in
     let inv = c.loop-i.invariant in
     let k = c.requires.asked in
@@ -1756,14 +1755,14 @@ relate_in_order-compare_members_of-requires-clause-in_b g t c =
 
 pub relate_in_order-returns-in_err-compare_members_of : goal.relate_in_order-returns-in_err-compare_members_of
 relate_in_order-returns-in_err-compare_members_of g t c =
-    let r = g.R.TypeRelation.state c.args.r.now in
+    let r = g.R.HasState.state c.args.r.now in
     let M = g.R.TypeRelation.manner in
     let a = part_tree r.meaning c.args.a.now in
     let b = part_tree r.meaning c.args.b.now in
     let e_sorted_before = g.met.R.TypeRelation.reads c.args.r.now in
     let cx_sorted_before = g.R.TypeRelation.interner c.args.r.now in
     let sorted_before : Sorted r.meaning = subst (λ m. Sorted m) (sym e_sorted_before) (g.met.I.Interner.sorted cx_sorted_before) in
-    let q = g.R.TypeRelation.state c.loop-i.r in
+    let q = g.R.HasState.state c.loop-i.r in
     let i = c.loop-i.i in
     let inv = c.loop-i.invariant in
     let k = c.requires.asked in
@@ -1788,11 +1787,11 @@ relate_in_order-returns-in_err-compare_members_of g t c =
 
 pub relate_in_order-term_part_of-x-requires-clause-term_known : goal.relate_in_order-term_part_of-x-requires-clause-term_known
 relate_in_order-term_part_of-x-requires-clause-term_known g t c =
-    let r = g.R.TypeRelation.state c.args.r.now in
+    let r = g.R.HasState.state c.args.r.now in
     let M = g.R.TypeRelation.manner in
     let a = part_tree r.meaning c.args.a.now in
     let b = part_tree r.meaning c.args.b.now in
-    let q = g.R.TypeRelation.state c.loop-i.r in
+    let q = g.R.HasState.state c.loop-i.r in
     let i = c.loop-i.i in
     let inv = c.loop-i.invariant in
     let k = c.requires.asked in
@@ -1805,11 +1804,11 @@ relate_in_order-term_part_of-x-requires-clause-term_known g t c =
 
 pub relate_in_order-term_part_of-x-requires-clause-form : goal.relate_in_order-term_part_of-x-requires-clause-form
 relate_in_order-term_part_of-x-requires-clause-form g t c =
-    let r = g.R.TypeRelation.state c.args.r.now in
+    let r = g.R.HasState.state c.args.r.now in
     let M = g.R.TypeRelation.manner in
     let a = part_tree r.meaning c.args.a.now in
     let b = part_tree r.meaning c.args.b.now in
-    let q = g.R.TypeRelation.state c.loop-i.r in
+    let q = g.R.HasState.state c.loop-i.r in
     let i = c.loop-i.i in
     let inv = c.loop-i.invariant in
     let k = c.requires.asked in
@@ -1822,11 +1821,11 @@ relate_in_order-term_part_of-x-requires-clause-form g t c =
 
 pub relate_in_order-term_part_of-x-requires-clause-in_bounds : goal.relate_in_order-term_part_of-x-requires-clause-in_bounds
 relate_in_order-term_part_of-x-requires-clause-in_bounds g t c =
-    let r = g.R.TypeRelation.state c.args.r.now in
+    let r = g.R.HasState.state c.args.r.now in
     let M = g.R.TypeRelation.manner in
     let a = part_tree r.meaning c.args.a.now in
     let b = part_tree r.meaning c.args.b.now in
-    let q = g.R.TypeRelation.state c.loop-i.r in
+    let q = g.R.HasState.state c.loop-i.r in
     let i = c.loop-i.i in
     let inv = c.loop-i.invariant in
     let k = c.requires.asked in
@@ -1842,11 +1841,11 @@ relate_in_order-term_part_of-x-requires-clause-in_bounds g t c =
 
 pub relate_in_order-term_part_of-y-requires-clause-term_known : goal.relate_in_order-term_part_of-y-requires-clause-term_known
 relate_in_order-term_part_of-y-requires-clause-term_known g t c =
-    let r = g.R.TypeRelation.state c.args.r.now in
+    let r = g.R.HasState.state c.args.r.now in
     let M = g.R.TypeRelation.manner in
     let a = part_tree r.meaning c.args.a.now in
     let b = part_tree r.meaning c.args.b.now in
-    let q = g.R.TypeRelation.state c.loop-i.r in
+    let q = g.R.HasState.state c.loop-i.r in
     let i = c.loop-i.i in
     let inv = c.loop-i.invariant in
     let k = c.requires.asked in
@@ -1859,11 +1858,11 @@ relate_in_order-term_part_of-y-requires-clause-term_known g t c =
 
 pub relate_in_order-term_part_of-y-requires-clause-form : goal.relate_in_order-term_part_of-y-requires-clause-form
 relate_in_order-term_part_of-y-requires-clause-form g t c =
-    let r = g.R.TypeRelation.state c.args.r.now in
+    let r = g.R.HasState.state c.args.r.now in
     let M = g.R.TypeRelation.manner in
     let a = part_tree r.meaning c.args.a.now in
     let b = part_tree r.meaning c.args.b.now in
-    let q = g.R.TypeRelation.state c.loop-i.r in
+    let q = g.R.HasState.state c.loop-i.r in
     let i = c.loop-i.i in
     let inv = c.loop-i.invariant in
     let k = c.requires.asked in
@@ -1876,11 +1875,11 @@ relate_in_order-term_part_of-y-requires-clause-form g t c =
 
 pub relate_in_order-term_part_of-y-requires-clause-in_bounds : goal.relate_in_order-term_part_of-y-requires-clause-in_bounds
 relate_in_order-term_part_of-y-requires-clause-in_bounds g t c =
-    let r = g.R.TypeRelation.state c.args.r.now in
+    let r = g.R.HasState.state c.args.r.now in
     let M = g.R.TypeRelation.manner in
     let a = part_tree r.meaning c.args.a.now in
     let b = part_tree r.meaning c.args.b.now in
-    let q = g.R.TypeRelation.state c.loop-i.r in
+    let q = g.R.HasState.state c.loop-i.r in
     let i = c.loop-i.i in
     let inv = c.loop-i.invariant in
     let k = c.requires.asked in
@@ -1896,11 +1895,11 @@ relate_in_order-term_part_of-y-requires-clause-in_bounds g t c =
 
 pub relate_in_order-term_variance_at-variance-requires-clause-known : goal.relate_in_order-term_variance_at-variance-requires-clause-known
 relate_in_order-term_variance_at-variance-requires-clause-known g t c =
-    let r = g.R.TypeRelation.state c.args.r.now in
+    let r = g.R.HasState.state c.args.r.now in
     let M = g.R.TypeRelation.manner in
     let a = part_tree r.meaning c.args.a.now in
     let b = part_tree r.meaning c.args.b.now in
-    let q = g.R.TypeRelation.state c.loop-i.r in
+    let q = g.R.HasState.state c.loop-i.r in
     let i = c.loop-i.i in
     let inv = c.loop-i.invariant in
     let k = c.requires.asked in
@@ -1913,11 +1912,11 @@ relate_in_order-term_variance_at-variance-requires-clause-known g t c =
 
 pub relate_in_order-term_variance_at-variance-requires-clause-form : goal.relate_in_order-term_variance_at-variance-requires-clause-form
 relate_in_order-term_variance_at-variance-requires-clause-form g t c =
-    let r = g.R.TypeRelation.state c.args.r.now in
+    let r = g.R.HasState.state c.args.r.now in
     let M = g.R.TypeRelation.manner in
     let a = part_tree r.meaning c.args.a.now in
     let b = part_tree r.meaning c.args.b.now in
-    let q = g.R.TypeRelation.state c.loop-i.r in
+    let q = g.R.HasState.state c.loop-i.r in
     let i = c.loop-i.i in
     let inv = c.loop-i.invariant in
     let k = c.requires.asked in
@@ -1930,11 +1929,11 @@ relate_in_order-term_variance_at-variance-requires-clause-form g t c =
 
 pub relate_in_order-term_variance_at-variance-requires-clause-in_bounds : goal.relate_in_order-term_variance_at-variance-requires-clause-in_bounds
 relate_in_order-term_variance_at-variance-requires-clause-in_bounds g t c =
-    let r = g.R.TypeRelation.state c.args.r.now in
+    let r = g.R.HasState.state c.args.r.now in
     let M = g.R.TypeRelation.manner in
     let a = part_tree r.meaning c.args.a.now in
     let b = part_tree r.meaning c.args.b.now in
-    let q = g.R.TypeRelation.state c.loop-i.r in
+    let q = g.R.HasState.state c.loop-i.r in
     let i = c.loop-i.i in
     let inv = c.loop-i.invariant in
     let k = c.requires.asked in
@@ -1950,7 +1949,7 @@ relate_in_order-term_variance_at-variance-requires-clause-in_bounds g t c =
 
 pub relate_in_order-relate_parts_with_variance-related-requires : goal.relate_in_order-relate_parts_with_variance-related-requires
 relate_in_order-relate_parts_with_variance-related-requires g t c κs within =
-    let r = g.R.TypeRelation.state c.args.r.now in
+    let r = g.R.HasState.state c.args.r.now in
     let M = g.R.TypeRelation.manner in
     let a = part_tree r.meaning c.args.a.now in
     let b = part_tree r.meaning c.args.b.now in
@@ -1958,7 +1957,7 @@ relate_in_order-relate_parts_with_variance-related-requires g t c κs within =
     let e_sorted_before = g.met.R.TypeRelation.reads c.args.r.now in
     let cx_sorted_before = g.R.TypeRelation.interner c.args.r.now in
     let sorted_before : Sorted r.meaning = subst (λ m. Sorted m) (sym e_sorted_before) (g.met.I.Interner.sorted cx_sorted_before) in
-    let q = g.R.TypeRelation.state c.loop-i.r in
+    let q = g.R.HasState.state c.loop-i.r in
     let i = c.loop-i.i in
     let inv = c.loop-i.invariant in
     let k = c.requires.asked in
@@ -2033,7 +2032,7 @@ relate_in_order-named_place_of-place-requires-clause-term_known g t c =
 
 pub relate_in_order-named_place_of-place-requires-clause-in_bounds : goal.relate_in_order-named_place_of-place-requires-clause-in_bounds
 relate_in_order-named_place_of-place-requires-clause-in_bounds g t c =
-    let a = part_tree (g.R.TypeRelation.state c.args.r.now).meaning c.args.a.now in
+    let a = part_tree (g.R.HasState.state c.args.r.now).meaning c.args.a.now in
     let i = c.loop-i.i in
     let inv = c.loop-i.invariant in
     let same_a = stays_part ((inv.fronted).passes).extends c.args.a.now (c.requires.asked).left_known in
@@ -2043,14 +2042,14 @@ relate_in_order-named_place_of-place-requires-clause-in_bounds g t c =
 
 pub relate_in_order-returns-in_err-answer : goal.relate_in_order-returns-in_err-answer
 relate_in_order-returns-in_err-answer g t c =
-    let r = g.R.TypeRelation.state c.args.r.now in
+    let r = g.R.HasState.state c.args.r.now in
     let M = g.R.TypeRelation.manner in
     let a = part_tree r.meaning c.args.a.now in
     let b = part_tree r.meaning c.args.b.now in
     let e_sorted_before = g.met.R.TypeRelation.reads c.args.r.now in
     let cx_sorted_before = g.R.TypeRelation.interner c.args.r.now in
     let sorted_before : Sorted r.meaning = subst (λ m. Sorted m) (sym e_sorted_before) (g.met.I.Interner.sorted cx_sorted_before) in
-    let q = g.R.TypeRelation.state c.loop-i.r in
+    let q = g.R.HasState.state c.loop-i.r in
     let i = c.loop-i.i in
     let inv = c.loop-i.invariant in
     let k = c.requires.asked in
@@ -2078,7 +2077,7 @@ relate_in_order-returns-in_err-answer g t c =
     c.term_variance_at-variance.ensures ∙ ap (λ z. part_at (items_in q) (head_of z) i q.ambient) same_a ∙
     ap (λ z. part_at z (head_of a) i q.ambient) (same_items (inv.fronted).passes) ∙
     ap (λ z. part_at (items_in r) (head_of a) i z) ((inv.fronted).passes).ambient in
-    let p = g.R.TypeRelation.state c.relate_parts_with_variance-related.new.r in
+    let p = g.R.HasState.state c.relate_parts_with_variance-related.new.r in
     let related = c.relate_parts_with_variance-related in
     let later = (((related.ensures).related).passes).extends in
     let n = c.in_err-answer in
@@ -2101,11 +2100,11 @@ relate_in_order-returns-in_err-answer g t c =
 
 pub relate_in_order-loop-i-preserved : goal.relate_in_order-loop-i-preserved
 relate_in_order-loop-i-preserved g t c =
-    let r = g.R.TypeRelation.state c.args.r.now in
+    let r = g.R.HasState.state c.args.r.now in
     let M = g.R.TypeRelation.manner in
     let a = part_tree r.meaning c.args.a.now in
     let b = part_tree r.meaning c.args.b.now in
-    let q = g.R.TypeRelation.state c.loop-i.r in
+    let q = g.R.HasState.state c.loop-i.r in
     let i = c.loop-i.i in
     let inv = c.loop-i.invariant in
     let k = c.requires.asked in
@@ -2130,7 +2129,7 @@ relate_in_order-loop-i-preserved g t c =
     c.term_variance_at-variance.ensures ∙ ap (λ z. part_at (items_in q) (head_of z) i q.ambient) same_a ∙
     ap (λ z. part_at z (head_of a) i q.ambient) (same_items (inv.fronted).passes) ∙
     ap (λ z. part_at (items_in r) (head_of a) i z) ((inv.fronted).passes).ambient in
-    let p = g.R.TypeRelation.state c.relate_parts_with_variance-related.new.r in
+    let p = g.R.HasState.state c.relate_parts_with_variance-related.new.r in
     let related = c.relate_parts_with_variance-related in
     let later = (((related.ensures).related).passes).extends in
     let n = c.in_ok-answer in
@@ -2173,11 +2172,11 @@ relate_in_order-loop-i-preserved g t c =
 
 pub relate_in_order-returns-in_err-push : goal.relate_in_order-returns-in_err-push
 relate_in_order-returns-in_err-push g t c =
-    let r = g.R.TypeRelation.state c.args.r.now in
+    let r = g.R.HasState.state c.args.r.now in
     let M = g.R.TypeRelation.manner in
     let a = part_tree r.meaning c.args.a.now in
     let b = part_tree r.meaning c.args.b.now in
-    let q = g.R.TypeRelation.state c.loop-i.r in
+    let q = g.R.HasState.state c.loop-i.r in
     let i = c.loop-i.i in
     let inv = c.loop-i.invariant in
     let k = c.requires.asked in
@@ -2202,7 +2201,7 @@ relate_in_order-returns-in_err-push g t c =
     c.term_variance_at-variance.ensures ∙ ap (λ z. part_at (items_in q) (head_of z) i q.ambient) same_a ∙
     ap (λ z. part_at z (head_of a) i q.ambient) (same_items (inv.fronted).passes) ∙
     ap (λ z. part_at (items_in r) (head_of a) i z) ((inv.fronted).passes).ambient in
-    let p = g.R.TypeRelation.state c.relate_parts_with_variance-related.new.r in
+    let p = g.R.HasState.state c.relate_parts_with_variance-related.new.r in
     let related = c.relate_parts_with_variance-related in
     let later = (((related.ensures).related).passes).extends in
     let n = c.in_ok-answer in
@@ -2225,11 +2224,11 @@ relate_in_order-make_part-requires-clause-lawful g t c = c.loop-i.invariant.lawf
 
 pub relate_in_order-make_part-requires-clause-term_known : goal.relate_in_order-make_part-requires-clause-term_known
 relate_in_order-make_part-requires-clause-term_known g t c =
-    let r = g.R.TypeRelation.state c.args.r.now in
+    let r = g.R.HasState.state c.args.r.now in
     let M = g.R.TypeRelation.manner in
     let a = part_tree r.meaning c.args.a.now in
     let b = part_tree r.meaning c.args.b.now in
-    let q = g.R.TypeRelation.state c.loop-i.r in
+    let q = g.R.HasState.state c.loop-i.r in
     let i = c.loop-i.i in
     let inv = c.loop-i.invariant in
     let k = c.requires.asked in
@@ -2242,11 +2241,11 @@ relate_in_order-make_part-requires-clause-term_known g t c =
 
 pub relate_in_order-make_part-requires-clause-form : goal.relate_in_order-make_part-requires-clause-form
 relate_in_order-make_part-requires-clause-form g t c =
-    let r = g.R.TypeRelation.state c.args.r.now in
+    let r = g.R.HasState.state c.args.r.now in
     let M = g.R.TypeRelation.manner in
     let a = part_tree r.meaning c.args.a.now in
     let b = part_tree r.meaning c.args.b.now in
-    let q = g.R.TypeRelation.state c.loop-i.r in
+    let q = g.R.HasState.state c.loop-i.r in
     let i = c.loop-i.i in
     let inv = c.loop-i.invariant in
     let k = c.requires.asked in
@@ -2259,11 +2258,11 @@ relate_in_order-make_part-requires-clause-form g t c =
 
 pub relate_in_order-make_part-requires-clause-parts_known : goal.relate_in_order-make_part-requires-clause-parts_known
 relate_in_order-make_part-requires-clause-parts_known g t c =
-    let r = g.R.TypeRelation.state c.args.r.now in
+    let r = g.R.HasState.state c.args.r.now in
     let M = g.R.TypeRelation.manner in
     let a = part_tree r.meaning c.args.a.now in
     let b = part_tree r.meaning c.args.b.now in
-    let q = g.R.TypeRelation.state c.loop-i.r in
+    let q = g.R.HasState.state c.loop-i.r in
     let i = c.loop-i.i in
     let inv = c.loop-i.invariant in
     let k = c.requires.asked in
@@ -2277,11 +2276,11 @@ relate_in_order-make_part-requires-clause-parts_known g t c =
 
 pub relate_in_order-make_part-requires-clause-fits : goal.relate_in_order-make_part-requires-clause-fits
 relate_in_order-make_part-requires-clause-fits g t c =
-    let r = g.R.TypeRelation.state c.args.r.now in
+    let r = g.R.HasState.state c.args.r.now in
     let M = g.R.TypeRelation.manner in
     let a = part_tree r.meaning c.args.a.now in
     let b = part_tree r.meaning c.args.b.now in
-    let q = g.R.TypeRelation.state c.loop-i.r in
+    let q = g.R.HasState.state c.loop-i.r in
     let i = c.loop-i.i in
     let inv = c.loop-i.invariant in
     let k = c.requires.asked in
@@ -2301,11 +2300,11 @@ relate_in_order-make_part-requires-clause-fits g t c =
 
 pub relate_in_order-returns : goal.relate_in_order-returns
 relate_in_order-returns g t c =
-    let r = g.R.TypeRelation.state c.args.r.now in
+    let r = g.R.HasState.state c.args.r.now in
     let M = g.R.TypeRelation.manner in
     let a = part_tree r.meaning c.args.a.now in
     let b = part_tree r.meaning c.args.b.now in
-    let q = g.R.TypeRelation.state c.loop-i.r in
+    let q = g.R.HasState.state c.loop-i.r in
     let i = c.loop-i.i in
     let inv = c.loop-i.invariant in
     let k = c.requires.asked in
@@ -2323,7 +2322,7 @@ relate_in_order-returns g t c =
     let done : Related M r q r.ambient a b (part_tree q.meaning) (Ok c.args.a.now) =
     terms_answer M r.ambient a b i form (part_tree q.meaning) c.args.a.now alike inv.fronted inv.are_parts left right
     same_a k.left_known in
-    let p = g.R.TypeRelation.state c.make_part.new.r in
+    let p = g.R.HasState.state c.make_part.new.r in
     let made = c.make_part.ensures in
     record {
       related = form_made M r.ambient a b (made.made).extends made.grown (part_tree p.meaning) (part_tree q.meaning)
@@ -2341,11 +2340,11 @@ relate_in_order-returns g t c =
 
 pub relate_parts_with_variance-relate_parts-answer-requires : goal.relate_parts_with_variance-relate_parts-answer-requires
 relate_parts_with_variance-relate_parts-answer-requires g t c κs within =
-    let r = g.R.TypeRelation.state c.args.r.now in
+    let r = g.R.HasState.state c.args.r.now in
     let M = g.R.TypeRelation.manner in
     let a = part_tree r.meaning c.args.a.now in
     let b = part_tree r.meaning c.args.b.now in
-    let s = g.R.TypeRelation.state c.set_ambient.new.self in
+    let s = g.R.HasState.state c.set_ambient.new.self in
     let there = c.set_ambient.ensures in
     let e : c.xform.result ≡ xform r.ambient c.args.variance =
     c.xform.ensures ∙ ap (λ z. xform z c.args.variance) c.ambient-old.ensures in
@@ -2385,16 +2384,16 @@ relate_parts_with_variance-relate_parts-answer-requires g t c κs within =
 
 pub relate_parts_with_variance-returns : goal.relate_parts_with_variance-returns
 relate_parts_with_variance-returns g t c =
-    let r = g.R.TypeRelation.state c.args.r.now in
+    let r = g.R.HasState.state c.args.r.now in
     let M = g.R.TypeRelation.manner in
     let a = part_tree r.meaning c.args.a.now in
     let b = part_tree r.meaning c.args.b.now in
-    let s = g.R.TypeRelation.state c.set_ambient.new.self in
+    let s = g.R.HasState.state c.set_ambient.new.self in
     let there = c.set_ambient.ensures in
     let e : c.xform.result ≡ xform r.ambient c.args.variance =
     c.xform.ensures ∙ ap (λ z. xform z c.args.variance) c.ambient-old.ensures in
-    let q = g.R.TypeRelation.state c.relate_parts-answer.new.r in
-    let u = g.R.TypeRelation.state c.set_ambient-2.new.self in
+    let q = g.R.HasState.state c.relate_parts-answer.new.r in
+    let u = g.R.HasState.state c.set_ambient-2.new.self in
     let res = c.relate_parts-answer.result in
     let back = subst (λ z. Turned z q u) c.ambient-old.ensures c.set_ambient-2.ensures in
     let f = subst (λ m. Related M s q s.ambient (part_tree m c.args.a.now) (part_tree m c.args.b.now) (part_tree q.meaning) res)
@@ -2420,7 +2419,7 @@ relate_parts-the_arg-requires-in-Argument g t c = are_args c.args.b.now
 
 pub relate_parts-relate-requires : goal.relate_parts-relate-requires
 relate_parts-relate-requires g t c κs within =
-    let r = g.R.TypeRelation.state c.args.r.now in
+    let r = g.R.HasState.state c.args.r.now in
     let M = g.R.TypeRelation.manner in
     let a = part_tree r.meaning c.args.a.now in
     let b = part_tree r.meaning c.args.b.now in
@@ -2460,7 +2459,7 @@ relate_parts-relate-requires g t c κs within =
 
 pub relate_parts-returns-in_ok-answer-in-Argument : goal.relate_parts-returns-in_ok-answer-in-Argument
 relate_parts-returns-in_ok-answer-in-Argument g t c =
-    let r = g.R.TypeRelation.state c.args.r.now in
+    let r = g.R.HasState.state c.args.r.now in
     let M = g.R.TypeRelation.manner in
     let a = part_tree r.meaning c.args.a.now in
     let b = part_tree r.meaning c.args.b.now in
@@ -2469,7 +2468,7 @@ relate_parts-returns-in_ok-answer-in-Argument g t c =
     let Y = c.the_arg-in-Argument.result in
     let ea : a ≡ arg_tree r.meaning X = ap (part_tree r.meaning) (sym c.the_arg.ensures) ∙ arg_part r.meaning X in
     let eb : b ≡ arg_tree r.meaning Y = ap (part_tree r.meaning) (sym c.the_arg-in-Argument.ensures) ∙ arg_part r.meaning Y in
-    let q = g.R.TypeRelation.state c.relate.new.r in
+    let q = g.R.HasState.state c.relate.new.r in
     let n = c.in_ok-answer-in-Argument in
     let sort : part_sort c.of_arg.result ≡ part_sort c.args.a.now =
     sort_as_arg c.of_arg.result n.answer c.of_arg.ensures ∙ (n.ensures).kind
@@ -2486,7 +2485,7 @@ relate_parts-returns-in_ok-answer-in-Argument g t c =
 
 pub relate_parts-returns-in_err-answer-in-Argument : goal.relate_parts-returns-in_err-answer-in-Argument
 relate_parts-returns-in_err-answer-in-Argument g t c =
-    let r = g.R.TypeRelation.state c.args.r.now in
+    let r = g.R.HasState.state c.args.r.now in
     let M = g.R.TypeRelation.manner in
     let a = part_tree r.meaning c.args.a.now in
     let b = part_tree r.meaning c.args.b.now in
@@ -2495,7 +2494,7 @@ relate_parts-returns-in_err-answer-in-Argument g t c =
     let Y = c.the_arg-in-Argument.result in
     let ea : a ≡ arg_tree r.meaning X = ap (part_tree r.meaning) (sym c.the_arg.ensures) ∙ arg_part r.meaning X in
     let eb : b ≡ arg_tree r.meaning Y = ap (part_tree r.meaning) (sym c.the_arg-in-Argument.ensures) ∙ arg_part r.meaning Y in
-    let q = g.R.TypeRelation.state c.relate.new.r in
+    let q = g.R.HasState.state c.relate.new.r in
     let n = c.in_err-answer-in-Argument in
     let res = c.from_residual.result in
     let failed = as_err res n.field-0.0 c.from_residual.ensures.0 c.from_residual.ensures.1 in
@@ -2511,7 +2510,7 @@ relate_parts-returns-in_err-answer-in-Argument g t c =
 
 pub relate_parts-binders-requires : goal.relate_parts-binders-requires
 relate_parts-binders-requires g t c κs within =
-    let r = g.R.TypeRelation.state c.args.r.now in
+    let r = g.R.HasState.state c.args.r.now in
     let M = g.R.TypeRelation.manner in
     let a = part_tree r.meaning c.args.a.now in
     let b = part_tree r.meaning c.args.b.now in
@@ -2572,7 +2571,7 @@ relate_parts-compare_parts_of-requires-clause-one_sort g t c =
 
 pub relate_parts-returns-in_err-compare_parts_of-in-Form : goal.relate_parts-returns-in_err-compare_parts_of-in-Form
 relate_parts-returns-in_err-compare_parts_of-in-Form g t c =
-    let r = g.R.TypeRelation.state c.args.r.now in
+    let r = g.R.HasState.state c.args.r.now in
     let M = g.R.TypeRelation.manner in
     let a = part_tree r.meaning c.args.a.now in
     let b = part_tree r.meaning c.args.b.now in
@@ -2603,7 +2602,7 @@ relate_parts-returns-in_err-compare_parts_of-in-Form g t c =
 
 pub relate_parts-relate_in_order-requires : goal.relate_parts-relate_in_order-requires
 relate_parts-relate_in_order-requires g t c κs within =
-    let r = g.R.TypeRelation.state c.args.r.now in
+    let r = g.R.HasState.state c.args.r.now in
     let M = g.R.TypeRelation.manner in
     let a = part_tree r.meaning c.args.a.now in
     let b = part_tree r.meaning c.args.b.now in
@@ -2647,7 +2646,7 @@ relate_parts-relate_in_order-requires g t c κs within =
 
 pub relate_parts-returns-in_ok-compare_parts_of-in-Form : goal.relate_parts-returns-in_ok-compare_parts_of-in-Form
 relate_parts-returns-in_ok-compare_parts_of-in-Form g t c =
-    let r = g.R.TypeRelation.state c.args.r.now in
+    let r = g.R.HasState.state c.args.r.now in
     let M = g.R.TypeRelation.manner in
     let a = part_tree r.meaning c.args.a.now in
     let b = part_tree r.meaning c.args.b.now in
@@ -2661,7 +2660,7 @@ relate_parts-returns-in_ok-compare_parts_of-in-Form g t c =
 
 pub structurally_relate_tys-relate_in_order-requires : goal.structurally_relate_tys-relate_in_order-requires
 structurally_relate_tys-relate_in_order-requires g t c κs within =
-    let r = g.R.TypeRelation.state c.args.r.now in
+    let r = g.R.HasState.state c.args.r.now in
     let M = g.R.TypeRelation.manner in
     let a = (r.meaning).ty c.args.a.now in
     let b = (r.meaning).ty c.args.b.now in
@@ -2700,11 +2699,11 @@ structurally_relate_tys-the_ty-requires g t c = (c.in_ok-relate_in_order.ensures
 
 pub structurally_relate_tys-returns-in_err-relate_in_order : goal.structurally_relate_tys-returns-in_err-relate_in_order
 structurally_relate_tys-returns-in_err-relate_in_order g t c =
-    let r = g.R.TypeRelation.state c.args.r.now in
+    let r = g.R.HasState.state c.args.r.now in
     let M = g.R.TypeRelation.manner in
     let a = (r.meaning).ty c.args.a.now in
     let b = (r.meaning).ty c.args.b.now in
-    let q = g.R.TypeRelation.state c.relate_in_order.new.r in
+    let q = g.R.HasState.state c.relate_in_order.new.r in
     let n = c.in_err-relate_in_order in
     let res = c.from_residual-in_err-relate_in_order.result in
     let failed = as_err res n.field-0.0 c.from_residual-in_err-relate_in_order.ensures.0
@@ -2714,11 +2713,11 @@ structurally_relate_tys-returns-in_err-relate_in_order g t c =
 
 pub structurally_relate_tys-returns-then-is_by_parts_of : goal.structurally_relate_tys-returns-then-is_by_parts_of
 structurally_relate_tys-returns-then-is_by_parts_of g t c =
-    let r = g.R.TypeRelation.state c.args.r.now in
+    let r = g.R.HasState.state c.args.r.now in
     let M = g.R.TypeRelation.manner in
     let a = (r.meaning).ty c.args.a.now in
     let b = (r.meaning).ty c.args.b.now in
-    let q = g.R.TypeRelation.state c.relate_in_order.new.r in
+    let q = g.R.HasState.state c.relate_in_order.new.r in
     let n = c.in_ok-relate_in_order in
     retold M r.ambient a b (part_tree q.meaning) n.field-0 (q.meaning).ty c.the_ty.result
     (ap (part_tree q.meaning) c.the_ty.ensures) (n.ensures).related
@@ -2731,7 +2730,7 @@ structurally_relate_tys-part_of-x-requires-clause-over_args g t c =
 
 pub structurally_relate_tys-part_of-y-requires-clause-over_args : goal.structurally_relate_tys-part_of-y-requires-clause-over_args
 structurally_relate_tys-part_of-y-requires-clause-over_args g t c =
-    let r = g.R.TypeRelation.state c.args.r.now in
+    let r = g.R.HasState.state c.args.r.now in
     let M = g.R.TypeRelation.manner in
     let a = (r.meaning).ty c.args.a.now in
     let b = (r.meaning).ty c.args.b.now in
@@ -2743,7 +2742,7 @@ structurally_relate_tys-part_of-y-requires-clause-over_args g t c =
 
 pub binders-returns-then-is_same_of : goal.binders-returns-then-is_same_of
 binders-returns-then-is_same_of g t c =
-    let r = g.R.TypeRelation.state c.args.r.now in
+    let r = g.R.HasState.state c.args.r.now in
     let M = g.R.TypeRelation.manner in
     let a = part_tree r.meaning c.args.a.now in
     let b = part_tree r.meaning c.args.b.now in
@@ -2756,13 +2755,13 @@ binders-returns-then-is_same_of g t c =
 
 pub binders-returns-in_err-x : goal.binders-returns-in_err-x
 binders-returns-in_err-x g t c =
-    let r = g.R.TypeRelation.state c.args.r.now in
+    let r = g.R.HasState.state c.args.r.now in
     let M = g.R.TypeRelation.manner in
     let a = part_tree r.meaning c.args.a.now in
     let b = part_tree r.meaning c.args.b.now in
     let k = c.requires.asked in
     let never = has_binder r.meaning c.args.a.now c.requires.binder c.requires.asked.left_known in
-    let q = g.R.TypeRelation.state c.open_bodies.new.r in
+    let q = g.R.HasState.state c.open_bodies.new.r in
     let e = c.in_err-x in
     let failed = as_err c.from_residual.result e.field-0.0 c.from_residual.ensures.0 c.from_residual.ensures.1 in
     record {
@@ -2773,12 +2772,12 @@ binders-returns-in_err-x g t c =
 
 pub binders-returns-in_default : goal.binders-returns-in_default
 binders-returns-in_default g t c =
-    let r = g.R.TypeRelation.state c.args.r.now in
+    let r = g.R.HasState.state c.args.r.now in
     let M = g.R.TypeRelation.manner in
     let a = part_tree r.meaning c.args.a.now in
     let b = part_tree r.meaning c.args.b.now in
     let k = c.requires.asked in
-    let q = g.R.TypeRelation.state c.open_bodies.new.r in
+    let q = g.R.HasState.state c.open_bodies.new.r in
     let o : Opened M r q 0 a b (part_tree q.meaning) (Ok None) =
     subst (λ z. Opened M r q 0 a b (part_tree q.meaning) (Ok z)) c.in_default.is (c.in_ok-x.ensures).opened in
     let never = (o.verdict).0 in
@@ -2786,12 +2785,12 @@ binders-returns-in_default g t c =
 
 pub binders-relate_parts-requires : goal.binders-relate_parts-requires
 binders-relate_parts-requires g t c κs within =
-    let r = g.R.TypeRelation.state c.args.r.now in
+    let r = g.R.HasState.state c.args.r.now in
     let M = g.R.TypeRelation.manner in
     let a = part_tree r.meaning c.args.a.now in
     let b = part_tree r.meaning c.args.b.now in
     let k = c.requires.asked in
-    let q = g.R.TypeRelation.state c.open_bodies.new.r in
+    let q = g.R.HasState.state c.open_bodies.new.r in
     let x = part_tree q.meaning c.in-Some.x in
     let y = part_tree q.meaning c.in-Some.y in
     let o : Opened M r q 0 a b (part_tree q.meaning) (Ok (Some (c.in-Some.x, c.in-Some.y))) =
@@ -2809,18 +2808,18 @@ binders-relate_parts-requires g t c κs within =
 
 pub binders-returns-in_err-relate_parts : goal.binders-returns-in_err-relate_parts
 binders-returns-in_err-relate_parts g t c =
-    let r = g.R.TypeRelation.state c.args.r.now in
+    let r = g.R.HasState.state c.args.r.now in
     let M = g.R.TypeRelation.manner in
     let a = part_tree r.meaning c.args.a.now in
     let b = part_tree r.meaning c.args.b.now in
     let k = c.requires.asked in
     let never = has_binder r.meaning c.args.a.now c.requires.binder c.requires.asked.left_known in
-    let q = g.R.TypeRelation.state c.open_bodies.new.r in
+    let q = g.R.HasState.state c.open_bodies.new.r in
     let x = part_tree q.meaning c.in-Some.x in
     let y = part_tree q.meaning c.in-Some.y in
     let o : Opened M r q 0 a b (part_tree q.meaning) (Ok (Some (c.in-Some.x, c.in-Some.y))) =
     subst (λ z. Opened M r q 0 a b (part_tree q.meaning) (Ok z)) c.in-Some.is (c.in_ok-x.ensures).opened in
-    let p = g.R.TypeRelation.state c.relate_parts.new.r in
+    let p = g.R.HasState.state c.relate_parts.new.r in
     let e = c.in_err-relate_parts in
     let failed = as_err c.from_residual-in_err-relate_parts.result e.field-0.0 c.from_residual-in_err-relate_parts.ensures.0 c.from_residual-in_err-relate_parts.ensures.1 in
     let inner = subst (λ v. Related M q p v x y (part_tree p.meaning) (Err e.field-0.0)) (o.passes).ambient
@@ -2835,17 +2834,17 @@ binders-returns-in_err-relate_parts g t c =
 
 pub binders-open_bodies-requires-2-clause-lawful : goal.binders-open_bodies-requires-2-clause-lawful
 binders-open_bodies-requires-2-clause-lawful g t c =
-    let r = g.R.TypeRelation.state c.args.r.now in
+    let r = g.R.HasState.state c.args.r.now in
     let M = g.R.TypeRelation.manner in
     let a = part_tree r.meaning c.args.a.now in
     let b = part_tree r.meaning c.args.b.now in
     let k = c.requires.asked in
-    let q = g.R.TypeRelation.state c.open_bodies.new.r in
+    let q = g.R.HasState.state c.open_bodies.new.r in
     let x = part_tree q.meaning c.in-Some.x in
     let y = part_tree q.meaning c.in-Some.y in
     let o : Opened M r q 0 a b (part_tree q.meaning) (Ok (Some (c.in-Some.x, c.in-Some.y))) =
     subst (λ z. Opened M r q 0 a b (part_tree q.meaning) (Ok z)) c.in-Some.is (c.in_ok-x.ensures).opened in
-    let p = g.R.TypeRelation.state c.relate_parts.new.r in
+    let p = g.R.HasState.state c.relate_parts.new.r in
     let n = c.in_ok-relate_parts in
     let inner = subst (λ v. Related M q p v x y (part_tree p.meaning) (Ok n.field-0)) (o.passes).ambient
     (n.ensures).related in
@@ -2854,17 +2853,17 @@ binders-open_bodies-requires-2-clause-lawful g t c =
 
 pub binders-open_bodies-requires-2-clause-decides : goal.binders-open_bodies-requires-2-clause-decides
 binders-open_bodies-requires-2-clause-decides g t c =
-    let r = g.R.TypeRelation.state c.args.r.now in
+    let r = g.R.HasState.state c.args.r.now in
     let M = g.R.TypeRelation.manner in
     let a = part_tree r.meaning c.args.a.now in
     let b = part_tree r.meaning c.args.b.now in
     let k = c.requires.asked in
-    let q = g.R.TypeRelation.state c.open_bodies.new.r in
+    let q = g.R.HasState.state c.open_bodies.new.r in
     let x = part_tree q.meaning c.in-Some.x in
     let y = part_tree q.meaning c.in-Some.y in
     let o : Opened M r q 0 a b (part_tree q.meaning) (Ok (Some (c.in-Some.x, c.in-Some.y))) =
     subst (λ z. Opened M r q 0 a b (part_tree q.meaning) (Ok z)) c.in-Some.is (c.in_ok-x.ensures).opened in
-    let p = g.R.TypeRelation.state c.relate_parts.new.r in
+    let p = g.R.HasState.state c.relate_parts.new.r in
     let n = c.in_ok-relate_parts in
     let inner = subst (λ v. Related M q p v x y (part_tree p.meaning) (Ok n.field-0)) (o.passes).ambient
     (n.ensures).related in
@@ -2873,17 +2872,17 @@ binders-open_bodies-requires-2-clause-decides g t c =
 
 pub binders-open_bodies-requires-2-clause-asked : goal.binders-open_bodies-requires-2-clause-asked
 binders-open_bodies-requires-2-clause-asked g t c =
-    let r = g.R.TypeRelation.state c.args.r.now in
+    let r = g.R.HasState.state c.args.r.now in
     let M = g.R.TypeRelation.manner in
     let a = part_tree r.meaning c.args.a.now in
     let b = part_tree r.meaning c.args.b.now in
     let k = c.requires.asked in
-    let q = g.R.TypeRelation.state c.open_bodies.new.r in
+    let q = g.R.HasState.state c.open_bodies.new.r in
     let x = part_tree q.meaning c.in-Some.x in
     let y = part_tree q.meaning c.in-Some.y in
     let o : Opened M r q 0 a b (part_tree q.meaning) (Ok (Some (c.in-Some.x, c.in-Some.y))) =
     subst (λ z. Opened M r q 0 a b (part_tree q.meaning) (Ok z)) c.in-Some.is (c.in_ok-x.ensures).opened in
-    let p = g.R.TypeRelation.state c.relate_parts.new.r in
+    let p = g.R.HasState.state c.relate_parts.new.r in
     let n = c.in_ok-relate_parts in
     let inner = subst (λ v. Related M q p v x y (part_tree p.meaning) (Ok n.field-0)) (o.passes).ambient
     (n.ensures).related in
@@ -2892,25 +2891,25 @@ binders-open_bodies-requires-2-clause-asked g t c =
 
 pub binders-returns-in_err-x-2 : goal.binders-returns-in_err-x-2
 binders-returns-in_err-x-2 g t c =
-    let r = g.R.TypeRelation.state c.args.r.now in
+    let r = g.R.HasState.state c.args.r.now in
     let M = g.R.TypeRelation.manner in
     let a = part_tree r.meaning c.args.a.now in
     let b = part_tree r.meaning c.args.b.now in
     let k = c.requires.asked in
     let never = has_binder r.meaning c.args.a.now c.requires.binder c.requires.asked.left_known in
-    let q = g.R.TypeRelation.state c.open_bodies.new.r in
+    let q = g.R.HasState.state c.open_bodies.new.r in
     let x = part_tree q.meaning c.in-Some.x in
     let y = part_tree q.meaning c.in-Some.y in
     let o : Opened M r q 0 a b (part_tree q.meaning) (Ok (Some (c.in-Some.x, c.in-Some.y))) =
     subst (λ z. Opened M r q 0 a b (part_tree q.meaning) (Ok z)) c.in-Some.is (c.in_ok-x.ensures).opened in
-    let p = g.R.TypeRelation.state c.relate_parts.new.r in
+    let p = g.R.HasState.state c.relate_parts.new.r in
     let n = c.in_ok-relate_parts in
     let inner = subst (λ v. Related M q p v x y (part_tree p.meaning) (Ok n.field-0)) (o.passes).ambient
     (n.ensures).related in
     let half = first_done M a b x y (part_tree p.meaning) n.field-0 o.passes o.verdict inner in
     let same_a = stays_part (half.passes).extends c.args.a.now k.left_known in
     let same_b = stays_part (half.passes).extends c.args.b.now k.right_known in
-    let w = g.R.TypeRelation.state c.open_bodies-2.new.r in
+    let w = g.R.HasState.state c.open_bodies-2.new.r in
     let e = c.in_err-x-2 in
     let failed = as_err c.from_residual-in_err-x-2.result e.field-0.0 c.from_residual-in_err-x-2.ensures.0 c.from_residual-in_err-x-2.ensures.1 in
     let again = subst₂ (λ t u. Opened M p w 1 t u (part_tree w.meaning) (Err e.field-0.0)) same_a same_b
@@ -2923,25 +2922,25 @@ binders-returns-in_err-x-2 g t c =
 
 pub binders-returns-in_default-2 : goal.binders-returns-in_default-2
 binders-returns-in_default-2 g t c =
-    let r = g.R.TypeRelation.state c.args.r.now in
+    let r = g.R.HasState.state c.args.r.now in
     let M = g.R.TypeRelation.manner in
     let a = part_tree r.meaning c.args.a.now in
     let b = part_tree r.meaning c.args.b.now in
     let k = c.requires.asked in
     let never = has_binder r.meaning c.args.a.now c.requires.binder c.requires.asked.left_known in
-    let q = g.R.TypeRelation.state c.open_bodies.new.r in
+    let q = g.R.HasState.state c.open_bodies.new.r in
     let x = part_tree q.meaning c.in-Some.x in
     let y = part_tree q.meaning c.in-Some.y in
     let o : Opened M r q 0 a b (part_tree q.meaning) (Ok (Some (c.in-Some.x, c.in-Some.y))) =
     subst (λ z. Opened M r q 0 a b (part_tree q.meaning) (Ok z)) c.in-Some.is (c.in_ok-x.ensures).opened in
-    let p = g.R.TypeRelation.state c.relate_parts.new.r in
+    let p = g.R.HasState.state c.relate_parts.new.r in
     let n = c.in_ok-relate_parts in
     let inner = subst (λ v. Related M q p v x y (part_tree p.meaning) (Ok n.field-0)) (o.passes).ambient
     (n.ensures).related in
     let half = first_done M a b x y (part_tree p.meaning) n.field-0 o.passes o.verdict inner in
     let same_a = stays_part (half.passes).extends c.args.a.now k.left_known in
     let same_b = stays_part (half.passes).extends c.args.b.now k.right_known in
-    let w = g.R.TypeRelation.state c.open_bodies-2.new.r in
+    let w = g.R.HasState.state c.open_bodies-2.new.r in
     let again = subst₂ (λ t u. Opened M p w 1 t u (part_tree w.meaning) (Ok None)) same_a same_b
     (subst (λ z. Opened M p w 1 (part_tree p.meaning c.args.a.now) (part_tree p.meaning c.args.b.now)
     (part_tree w.meaning) (Ok z)) c.in_default-2.is (c.in_ok-x-2.ensures).opened) in
@@ -2954,24 +2953,24 @@ binders-returns-in_default-2 g t c =
 
 pub binders-relate_parts-requires-2 : goal.binders-relate_parts-requires-2
 binders-relate_parts-requires-2 g t c κs within =
-    let r = g.R.TypeRelation.state c.args.r.now in
+    let r = g.R.HasState.state c.args.r.now in
     let M = g.R.TypeRelation.manner in
     let a = part_tree r.meaning c.args.a.now in
     let b = part_tree r.meaning c.args.b.now in
     let k = c.requires.asked in
-    let q = g.R.TypeRelation.state c.open_bodies.new.r in
+    let q = g.R.HasState.state c.open_bodies.new.r in
     let x = part_tree q.meaning c.in-Some.x in
     let y = part_tree q.meaning c.in-Some.y in
     let o : Opened M r q 0 a b (part_tree q.meaning) (Ok (Some (c.in-Some.x, c.in-Some.y))) =
     subst (λ z. Opened M r q 0 a b (part_tree q.meaning) (Ok z)) c.in-Some.is (c.in_ok-x.ensures).opened in
-    let p = g.R.TypeRelation.state c.relate_parts.new.r in
+    let p = g.R.HasState.state c.relate_parts.new.r in
     let n = c.in_ok-relate_parts in
     let inner = subst (λ v. Related M q p v x y (part_tree p.meaning) (Ok n.field-0)) (o.passes).ambient
     (n.ensures).related in
     let half = first_done M a b x y (part_tree p.meaning) n.field-0 o.passes o.verdict inner in
     let same_a = stays_part (half.passes).extends c.args.a.now k.left_known in
     let same_b = stays_part (half.passes).extends c.args.b.now k.right_known in
-    let w = g.R.TypeRelation.state c.open_bodies-2.new.r in
+    let w = g.R.HasState.state c.open_bodies-2.new.r in
     let s = part_tree w.meaning c.in-Some-2.x in
     let u = part_tree w.meaning c.in-Some-2.y in
     let again : Opened M p w 1 a b (part_tree w.meaning) (Ok (Some (c.in-Some-2.x, c.in-Some-2.y))) =
@@ -2993,32 +2992,32 @@ binders-relate_parts-requires-2 g t c κs within =
 
 pub binders-returns-in_err-relate_parts-2 : goal.binders-returns-in_err-relate_parts-2
 binders-returns-in_err-relate_parts-2 g t c =
-    let r = g.R.TypeRelation.state c.args.r.now in
+    let r = g.R.HasState.state c.args.r.now in
     let M = g.R.TypeRelation.manner in
     let a = part_tree r.meaning c.args.a.now in
     let b = part_tree r.meaning c.args.b.now in
     let k = c.requires.asked in
     let never = has_binder r.meaning c.args.a.now c.requires.binder c.requires.asked.left_known in
-    let q = g.R.TypeRelation.state c.open_bodies.new.r in
+    let q = g.R.HasState.state c.open_bodies.new.r in
     let x = part_tree q.meaning c.in-Some.x in
     let y = part_tree q.meaning c.in-Some.y in
     let o : Opened M r q 0 a b (part_tree q.meaning) (Ok (Some (c.in-Some.x, c.in-Some.y))) =
     subst (λ z. Opened M r q 0 a b (part_tree q.meaning) (Ok z)) c.in-Some.is (c.in_ok-x.ensures).opened in
-    let p = g.R.TypeRelation.state c.relate_parts.new.r in
+    let p = g.R.HasState.state c.relate_parts.new.r in
     let n = c.in_ok-relate_parts in
     let inner = subst (λ v. Related M q p v x y (part_tree p.meaning) (Ok n.field-0)) (o.passes).ambient
     (n.ensures).related in
     let half = first_done M a b x y (part_tree p.meaning) n.field-0 o.passes o.verdict inner in
     let same_a = stays_part (half.passes).extends c.args.a.now k.left_known in
     let same_b = stays_part (half.passes).extends c.args.b.now k.right_known in
-    let w = g.R.TypeRelation.state c.open_bodies-2.new.r in
+    let w = g.R.HasState.state c.open_bodies-2.new.r in
     let s = part_tree w.meaning c.in-Some-2.x in
     let u = part_tree w.meaning c.in-Some-2.y in
     let again : Opened M p w 1 a b (part_tree w.meaning) (Ok (Some (c.in-Some-2.x, c.in-Some-2.y))) =
     subst₂ (λ t u. Opened M p w 1 t u (part_tree w.meaning) (Ok (Some (c.in-Some-2.x, c.in-Some-2.y)))) same_a same_b
     (subst (λ z. Opened M p w 1 (part_tree p.meaning c.args.a.now) (part_tree p.meaning c.args.b.now)
     (part_tree w.meaning) (Ok z)) c.in-Some-2.is (c.in_ok-x-2.ensures).opened) in
-    let z = g.R.TypeRelation.state c.relate_parts-2.new.r in
+    let z = g.R.HasState.state c.relate_parts-2.new.r in
     let e = c.in_err-relate_parts-2 in
     let failed = as_err c.from_residual-in_err-relate_parts-2.result e.field-0.0 c.from_residual-in_err-relate_parts-2.ensures.0 c.from_residual-in_err-relate_parts-2.ensures.1 in
     let last = subst (λ v. Related M w z v s u (part_tree z.meaning) (Err e.field-0.0)) (again.passes).ambient
@@ -3034,32 +3033,32 @@ binders-returns-in_err-relate_parts-2 g t c =
 
 pub binders-returns : goal.binders-returns
 binders-returns g t c =
-    let r = g.R.TypeRelation.state c.args.r.now in
+    let r = g.R.HasState.state c.args.r.now in
     let M = g.R.TypeRelation.manner in
     let a = part_tree r.meaning c.args.a.now in
     let b = part_tree r.meaning c.args.b.now in
     let k = c.requires.asked in
     let never = has_binder r.meaning c.args.a.now c.requires.binder c.requires.asked.left_known in
-    let q = g.R.TypeRelation.state c.open_bodies.new.r in
+    let q = g.R.HasState.state c.open_bodies.new.r in
     let x = part_tree q.meaning c.in-Some.x in
     let y = part_tree q.meaning c.in-Some.y in
     let o : Opened M r q 0 a b (part_tree q.meaning) (Ok (Some (c.in-Some.x, c.in-Some.y))) =
     subst (λ z. Opened M r q 0 a b (part_tree q.meaning) (Ok z)) c.in-Some.is (c.in_ok-x.ensures).opened in
-    let p = g.R.TypeRelation.state c.relate_parts.new.r in
+    let p = g.R.HasState.state c.relate_parts.new.r in
     let n = c.in_ok-relate_parts in
     let inner = subst (λ v. Related M q p v x y (part_tree p.meaning) (Ok n.field-0)) (o.passes).ambient
     (n.ensures).related in
     let half = first_done M a b x y (part_tree p.meaning) n.field-0 o.passes o.verdict inner in
     let same_a = stays_part (half.passes).extends c.args.a.now k.left_known in
     let same_b = stays_part (half.passes).extends c.args.b.now k.right_known in
-    let w = g.R.TypeRelation.state c.open_bodies-2.new.r in
+    let w = g.R.HasState.state c.open_bodies-2.new.r in
     let s = part_tree w.meaning c.in-Some-2.x in
     let u = part_tree w.meaning c.in-Some-2.y in
     let again : Opened M p w 1 a b (part_tree w.meaning) (Ok (Some (c.in-Some-2.x, c.in-Some-2.y))) =
     subst₂ (λ t u. Opened M p w 1 t u (part_tree w.meaning) (Ok (Some (c.in-Some-2.x, c.in-Some-2.y)))) same_a same_b
     (subst (λ z. Opened M p w 1 (part_tree p.meaning c.args.a.now) (part_tree p.meaning c.args.b.now)
     (part_tree w.meaning) (Ok z)) c.in-Some-2.is (c.in_ok-x-2.ensures).opened) in
-    let z = g.R.TypeRelation.state c.relate_parts-2.new.r in
+    let z = g.R.HasState.state c.relate_parts-2.new.r in
     let m = c.in_ok-relate_parts-2 in
     let last = subst (λ v. Related M w z v s u (part_tree z.meaning) (Ok m.field-0)) (again.passes).ambient
     (m.ensures).related in

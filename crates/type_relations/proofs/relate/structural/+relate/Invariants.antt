@@ -14,58 +14,58 @@ use Rattle.type_relations.proofs.relate.structural.+relate.Given as goal
 
 abbrev pub decreases-structurally_relate_tys : goal.decreases-structurally_relate_tys
 decreases-structurally_relate_tys g l =
-    let r = g.R.TypeRelation.state l.r.now in
+    let r = g.R.HasState.state l.r.now in
     8 * depth (r.store).budget (weight r.store ((r.meaning).ty l.a.now) + weight r.store ((r.meaning).ty l.b.now)) + 1
 
 abbrev pub decreases-structurally_relate_consts : goal.decreases-structurally_relate_consts
 decreases-structurally_relate_consts g l =
-    let r = g.R.TypeRelation.state l.r.now in
+    let r = g.R.HasState.state l.r.now in
     8 * depth (r.store).budget (weight r.store ((r.meaning).const_ l.a.now) + weight r.store ((r.meaning).const_ l.b.now)) + 1
 
 abbrev pub decreases-tys : goal.decreases-tys
 decreases-tys g l =
-    let r = g.R.TypeRelation.state l.r.now in
+    let r = g.R.HasState.state l.r.now in
     8 * depth (r.store).budget (weight r.store ((r.meaning).ty l.a.now) + weight r.store ((r.meaning).ty l.b.now)) + 2
 
 abbrev pub decreases-consts : goal.decreases-consts
 decreases-consts g l =
-    let r = g.R.TypeRelation.state l.r.now in
+    let r = g.R.HasState.state l.r.now in
     8 * depth (r.store).budget (weight r.store ((r.meaning).const_ l.a.now) + weight r.store ((r.meaning).const_ l.b.now)) + 2
 
 abbrev pub decreases-relate : goal.decreases-relate
 decreases-relate g l =
-    let r = g.R.TypeRelation.state l.r.now in
+    let r = g.R.HasState.state l.r.now in
     8 * depth (r.store).budget (weight r.store (arg_tree r.meaning l.a.now) + weight r.store (arg_tree r.meaning l.b.now)) + 3
 
 abbrev pub decreases-relate_with_variance : goal.decreases-relate_with_variance
 decreases-relate_with_variance g l =
-    let r = g.R.TypeRelation.state l.r.now in
+    let r = g.R.HasState.state l.r.now in
     8 * depth (r.store).budget (weight r.store (arg_tree r.meaning l.a.now) + weight r.store (arg_tree r.meaning l.b.now)) + 4
 
 abbrev pub decreases-relate_in_order : goal.decreases-relate_in_order
 decreases-relate_in_order g l =
-    let r = g.R.TypeRelation.state l.r.now in
+    let r = g.R.HasState.state l.r.now in
     8 * depth (r.store).budget (weight r.store (part_tree r.meaning l.a.now) + weight r.store (part_tree r.meaning l.b.now))
 
 abbrev pub decreases-relate_parts : goal.decreases-relate_parts
 decreases-relate_parts g l =
-    let r = g.R.TypeRelation.state l.r.now in
+    let r = g.R.HasState.state l.r.now in
     8 * depth (r.store).budget (weight r.store (part_tree r.meaning l.a.now) + weight r.store (part_tree r.meaning l.b.now)) + 5
 
 abbrev pub decreases-relate_parts_with_variance : goal.decreases-relate_parts_with_variance
 decreases-relate_parts_with_variance g l =
-    let r = g.R.TypeRelation.state l.r.now in
+    let r = g.R.HasState.state l.r.now in
     8 * depth (r.store).budget (weight r.store (part_tree r.meaning l.a.now) + weight r.store (part_tree r.meaning l.b.now)) + 6
 
 abbrev pub decreases-binders : goal.decreases-binders
 decreases-binders g l =
-    let r = g.R.TypeRelation.state l.r.now in
+    let r = g.R.HasState.state l.r.now in
     8 * depth (r.store).budget (weight r.store (part_tree r.meaning l.a.now) + weight r.store (part_tree r.meaning l.b.now)) + 4
 
 abbrev pub invariant-structurally_relate_tys-loop-i : goal.invariant-structurally_relate_tys-loop-i
 invariant-structurally_relate_tys-loop-i g l =
-    let r = g.R.TypeRelation.state l.initial.r in
-    let q = g.R.TypeRelation.state l.r in
+    let r = g.R.HasState.state l.initial.r in
+    let q = g.R.HasState.state l.r in
     let t = (r.meaning).ty l.a in
     let u = (r.meaning).ty l.b in
     record {
@@ -81,8 +81,8 @@ invariant-structurally_relate_tys-loop-i g l =
 
 abbrev pub invariant-structurally_relate_consts-loop-i : goal.invariant-structurally_relate_consts-loop-i
 invariant-structurally_relate_consts-loop-i g l =
-    let r = g.R.TypeRelation.state l.initial.r in
-    let q = g.R.TypeRelation.state l.r in
+    let r = g.R.HasState.state l.initial.r in
+    let q = g.R.HasState.state l.r in
     let t = (r.meaning).const_ l.a in
     let u = (r.meaning).const_ l.b in
     record {
@@ -98,8 +98,8 @@ invariant-structurally_relate_consts-loop-i g l =
 
 abbrev pub invariant-relate_in_order-loop-i : goal.invariant-relate_in_order-loop-i
 invariant-relate_in_order-loop-i g l =
-    let r = g.R.TypeRelation.state l.initial.r in
-    let q = g.R.TypeRelation.state l.r in
+    let r = g.R.HasState.state l.initial.r in
+    let q = g.R.HasState.state l.r in
     let t = part_tree r.meaning l.a in
     let u = part_tree r.meaning l.b in
     record {

@@ -14,11 +14,11 @@ the_object-requires g c = (c.in_ok-relate_parts.ensures).sort
 
 pub returns-in_err-relate_parts : goal.returns-in_err-relate_parts
 returns-in_err-relate_parts g c =
-    let r = g.R.TypeRelation.state c.args.r.now in
+    let r = g.R.HasState.state c.args.r.now in
     let M = g.R.TypeRelation.manner in
     let a = node object ((r.meaning).existential_predicates c.args.a.now) in
     let b = node object ((r.meaning).existential_predicates c.args.b.now) in
-    let q = g.R.TypeRelation.state c.relate_parts.new.r in
+    let q = g.R.HasState.state c.relate_parts.new.r in
     let n = c.in_err-relate_parts in
     let res = c.from_residual.result in
     let failed = as_err res n.field-0.0 c.from_residual.ensures.0 c.from_residual.ensures.1 in
@@ -28,11 +28,11 @@ returns-in_err-relate_parts g c =
 
 pub returns : goal.returns
 returns g c =
-    let r = g.R.TypeRelation.state c.args.r.now in
+    let r = g.R.HasState.state c.args.r.now in
     let M = g.R.TypeRelation.manner in
     let a = node object ((r.meaning).existential_predicates c.args.a.now) in
     let b = node object ((r.meaning).existential_predicates c.args.b.now) in
-    let q = g.R.TypeRelation.state c.relate_parts.new.r in
+    let q = g.R.HasState.state c.relate_parts.new.r in
     let n = c.in_ok-relate_parts in
     retold M r.ambient a b (part_tree q.meaning) n.field-0 (λ k. node object ((q.meaning).existential_predicates k)) c.the_object.result
     (ap (part_tree q.meaning) c.the_object.ensures) (n.ensures).related

@@ -13,11 +13,11 @@ the_signature-requires g c = (c.in_ok-relate_parts.ensures).sort
 
 pub returns-in_err-relate_parts : goal.returns-in_err-relate_parts
 returns-in_err-relate_parts g c =
-    let r = g.R.TypeRelation.state c.args.r.now in
+    let r = g.R.HasState.state c.args.r.now in
     let M = g.R.TypeRelation.manner in
     let a = signature_tree r.meaning c.args.a.now in
     let b = signature_tree r.meaning c.args.b.now in
-    let q = g.R.TypeRelation.state c.relate_parts.new.r in
+    let q = g.R.HasState.state c.relate_parts.new.r in
     let tree = signature_tree q.meaning in
     let n = c.in_err-relate_parts in
     let res = c.from_residual.result in
@@ -27,11 +27,11 @@ returns-in_err-relate_parts g c =
 
 pub returns : goal.returns
 returns g c =
-    let r = g.R.TypeRelation.state c.args.r.now in
+    let r = g.R.HasState.state c.args.r.now in
     let M = g.R.TypeRelation.manner in
     let a = signature_tree r.meaning c.args.a.now in
     let b = signature_tree r.meaning c.args.b.now in
-    let q = g.R.TypeRelation.state c.relate_parts.new.r in
+    let q = g.R.HasState.state c.relate_parts.new.r in
     let n = c.in_ok-relate_parts in
     retold M r.ambient a b (part_tree q.meaning) n.field-0 (signature_tree q.meaning) c.the_signature.result
     (ap (part_tree q.meaning) c.the_signature.ensures) (n.ensures).related

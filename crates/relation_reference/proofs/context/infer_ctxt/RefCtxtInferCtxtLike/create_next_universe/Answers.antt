@@ -13,7 +13,7 @@ returns-clause-stands g c =
     let done = c.create_next_universe.ensures in
     let rest = universe_rest g.I.Interner.meaning c.args.self.now c.create_next_universe.new.self
     c.create_next_universe.result done.enters done.refused in
-    stood g.I.Interner.meaning c.args.self.now c.create_next_universe.new.self done.interner done.lawful rest.solver
+    stood g.I.Interner.meaning c.args.self.now c.create_next_universe.new.self done.interner done.lawful rest.setup
     rest.outliving
 
 pub returns-clause-marks : goal.returns-clause-marks

@@ -13,7 +13,7 @@ returns g c =
       grows = record {
         extends = done.grown;
         lawful = done.lawful;
-        solver = done.rest.solver;
+        setup = done.rest.setup;
         outliving = done.rest.outliving;
       };
       enters = entered_binder (context_in meaning p) (context_in meaning q) g.T.HasTree.tree

@@ -6,7 +6,7 @@ pub returns-clause-equates : goal.returns-clause-equates
 returns-clause-equates g c =
     let done = c.equate_float_vids_raw.ensures in
     equated g.I.Interner.meaning c.args.self.now c.equate_float_vids_raw.new.self done.interner done.lawful
-    done.rest.solver done.rest.outliving
+    done.rest.setup done.rest.outliving
     float_var c.args.a.0 c.args.b.0 done.same done.equates
 
 pub returns-clause-marks : goal.returns-clause-marks

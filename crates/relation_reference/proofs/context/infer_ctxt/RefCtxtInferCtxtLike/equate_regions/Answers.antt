@@ -12,7 +12,7 @@ returns-clause-constrains g c =
 pub returns-clause-stands : goal.returns-clause-stands
 returns-clause-stands g c =
     let done = c.equate_regions.ensures in
-    stood g.I.Interner.meaning c.args.self.now c.equate_regions.new.self done.interner done.lawful done.rest.solver
+    stood g.I.Interner.meaning c.args.self.now c.equate_regions.new.self done.interner done.lawful done.rest.setup
     done.rest.outliving
 
 pub returns-clause-marks : goal.returns-clause-marks

@@ -6,5 +6,5 @@ pub returns-clause-equates : goal.returns-clause-equates
 returns-clause-equates g c =
     let done = c.equate_ty_vids_raw.ensures in
     equated g.I.Interner.meaning c.args.self.now c.equate_ty_vids_raw.new.self done.interner done.lawful
-    done.solver done.outliving
+    done.setup done.outliving
     type_var c.args.a.0 c.args.b.0 done.same done.equates

@@ -7,7 +7,7 @@ pub returns-clause-binds : goal.returns-clause-binds
 returns-clause-binds g c =
     let done = c.instantiate_float_var_raw.ensures in
     number_bound g.I.Interner.meaning c.args.self.now c.instantiate_float_var_raw.new.self done.interner done.lawful
-    done.rest.solver done.rest.outliving
+    done.rest.setup done.rest.outliving
     float_var c.args.vid.0 (float_value_tree c.args.value) done.binds
 
 pub returns-clause-marks : goal.returns-clause-marks

@@ -9,5 +9,5 @@ returns g c = λ cx e l.
       meaning = refl;
       store = store_grows e x l;
       lawful = lawful_grows e x l;
-      rest = record { solver = refl; outliving = refl; marks = λ n. refl };
+      rest = record { setup = refl; outliving = refl; marks = λ n. refl };
     }

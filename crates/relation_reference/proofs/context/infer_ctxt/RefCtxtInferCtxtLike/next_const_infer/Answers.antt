@@ -16,7 +16,7 @@ returns-clause-grows g c =
     let done = c.next_const_infer.ensures in record {
       extends = done.grown;
       lawful = done.lawful;
-      solver = done.rest.solver;
+      setup = done.rest.setup;
       outliving = done.rest.outliving;
     }
 

@@ -11,5 +11,5 @@ returns-clause-same_record g c =
 pub returns-clause-stands : goal.returns-clause-stands
 returns-clause-stands g c =
     let done = c.sub_unify_ty_vids_raw.ensures in
-    stood g.I.Interner.meaning c.args.self.now c.sub_unify_ty_vids_raw.new.self done.interner done.lawful done.solver
+    stood g.I.Interner.meaning c.args.self.now c.sub_unify_ty_vids_raw.new.self done.interner done.lawful done.setup
     done.outliving

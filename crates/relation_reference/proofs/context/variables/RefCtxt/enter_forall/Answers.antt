@@ -56,7 +56,7 @@ returns-in_err-args-clause-refused g c = on_err c.from_residual-in_err-args.resu
     (store_grows c.in_err-args.ensures.grown c.args.self.now.inner c.requires.lawful)
 
 pub returns-in_err-args-clause-rest : goal.returns-in_err-args-clause-rest
-returns-in_err-args-clause-rest g c = record { solver = refl; outliving = refl; marks = λ n. refl }
+returns-in_err-args-clause-rest g c = record { setup = refl; outliving = refl; marks = λ n. refl }
 
 pub instantiate_bound_vars-requires : goal.instantiate_bound_vars-requires
 instantiate_bound_vars-requires g c =
@@ -84,7 +84,7 @@ returns-in_err-entered-clause-refused g c = on_err c.from_residual-in_err-entere
     c.requires.lawful)
 
 pub returns-in_err-entered-clause-rest : goal.returns-in_err-entered-clause-rest
-returns-in_err-entered-clause-rest g c = record { solver = refl; outliving = refl; marks = λ n. refl }
+returns-in_err-entered-clause-rest g c = record { setup = refl; outliving = refl; marks = λ n. refl }
 
 pub returns-clause-lawful : goal.returns-clause-lawful
 returns-clause-lawful g c =
@@ -127,4 +127,4 @@ returns-clause-enters g c =
     made.made is
 
 pub returns-clause-rest : goal.returns-clause-rest
-returns-clause-rest g c = record { solver = refl; outliving = refl; marks = λ n. refl }
+returns-clause-rest g c = record { setup = refl; outliving = refl; marks = λ n. refl }

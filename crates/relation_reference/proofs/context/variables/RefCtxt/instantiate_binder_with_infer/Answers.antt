@@ -75,4 +75,4 @@ returns-clause-refused g c =
 
 pub returns-clause-rest : goal.returns-clause-rest
 returns-clause-rest g c =
-    rest_on c.in_ok-args.ensures.rest (record { solver = refl; outliving = refl; marks = λ n. refl })
+    rest_on c.in_ok-args.ensures.rest (record { setup = refl; outliving = refl; marks = λ n. refl })

@@ -11,7 +11,7 @@ use Rattle.relation_contexts.specs.Generalising.{Stage, any_part, Generalised}
 use Rattle.relation_contexts.proofs.Passing.{as_err}
 use Rattle.relation_contexts.proofs.Standing.{term_context}
 use Rattle.relation_reference.specs.declared.context.inner.InferCtxtInner.{InferCtxtInner}
-use Rattle.relation_reference.specs.Tables.{store_of}
+use Rattle.relation_reference.specs.Tables.{setup_in, store_of}
 use Rattle.relation_reference.proofs.Comes.{same_record}
 use Rattle.relation_reference.proofs.Marking.{set_back, marks_none, marks_grow, marks_bound}
 use Rattle.relation_reference.proofs.Beside.{types_beside}
@@ -29,7 +29,7 @@ returns-in_err-resolved-clause-grows g c =
     let r = c.resolve_ty.ensures in record {
       extends = r.grown;
       lawful = resolved_lawful r.grown c.args.self.now.inner c.resolve_ty.new.self.inner r.inner c.requires.lawful;
-      solver = ap (λ x. x.next_solver) r.inner;
+      setup = ap setup_in r.inner;
       outliving = ap (λ x. x.ty_outlives.items) r.inner;
     }
 
@@ -85,7 +85,7 @@ returns-in_err-part-clause-grows g c =
     let rest = returns-in_err-part-clause-rest g c in record {
       extends = extends_on c.resolve_ty.ensures.grown c.in_err-part.ensures.grown;
       lawful = c.in_err-part.ensures.lawful;
-      solver = rest.solver;
+      setup = rest.setup;
       outliving = rest.outliving;
     }
 
@@ -185,7 +185,7 @@ returns g c =
       grows = record {
         extends = extends_on r.grown e.grown;
         lawful = bound_lawful o r.grown x w z r.inner l type_var i u universe e.makes y (o.ty b) full tt c.args.variance t made c.requires.target_unbound e.lawful beside keys entries c.bind.ensures.universes left comes gen c.requires.source_in sorted may;
-        solver = rest.solver;
+        setup = rest.setup;
         outliving = rest.outliving;
       };
       instantiates = (sure, by_rules o r.grown x w z r.inner l type_var i u universe e.makes y (o.ty b) full tt c.args.variance t made c.requires.target_unbound e.lawful beside keys entries c.bind.ensures.universes left comes gen c.requires.source_in sorted);

@@ -12,13 +12,13 @@ pub returns-in_err-key-clause-refused : goal.returns-in_err-key-clause-refused
 returns-in_err-key-clause-refused g c = on_err c.from_residual.result _ (ap (λ m. store_of m c.args.self.now.inner) c.in_err-key.ensures.refused)
 
 pub returns-in_err-push-clause-lawful : goal.returns-in_err-push-clause-lawful
-returns-in_err-push-clause-lawful g c = refused_lawful c.in_ok-key.ensures.grown c.args.self.now.inner (record c.args.self.now.inner { floats = c.push.new.self }) (record { types = refl; ints = refl; floats = c.in_err-push.ensures.items; consts = refl; regions = refl; constraints = refl; universe = refl; budget = refl; numbers = refl; sub_roots = refl }) c.requires
+returns-in_err-push-clause-lawful g c = refused_lawful c.in_ok-key.ensures.grown c.args.self.now.inner (record c.args.self.now.inner { floats = c.push.new.self }) (record { types = refl; ints = refl; floats = c.in_err-push.ensures.items; consts = refl; regions = refl; constraints = refl; universe = refl; budget = refl; tainted = refl; numbers = refl; sub_roots = refl }) c.requires
 
 pub returns-in_err-push-clause-later : goal.returns-in_err-push-clause-later
-returns-in_err-push-clause-later g c = refused_later c.in_ok-key.ensures.grown c.args.self.now.inner (record c.args.self.now.inner { floats = c.push.new.self }) (record { types = refl; ints = refl; floats = c.in_err-push.ensures.items; consts = refl; regions = refl; constraints = refl; universe = refl; budget = refl; numbers = refl; sub_roots = refl }) c.requires
+returns-in_err-push-clause-later g c = refused_later c.in_ok-key.ensures.grown c.args.self.now.inner (record c.args.self.now.inner { floats = c.push.new.self }) (record { types = refl; ints = refl; floats = c.in_err-push.ensures.items; consts = refl; regions = refl; constraints = refl; universe = refl; budget = refl; tainted = refl; numbers = refl; sub_roots = refl }) c.requires
 
 pub returns-in_err-push-clause-refused : goal.returns-in_err-push-clause-refused
-returns-in_err-push-clause-refused g c = on_err c.from_residual-in_err-push.result _ (refused_store c.in_ok-key.ensures.grown c.args.self.now.inner (record c.args.self.now.inner { floats = c.push.new.self }) (record { types = refl; ints = refl; floats = c.in_err-push.ensures.items; consts = refl; regions = refl; constraints = refl; universe = refl; budget = refl; numbers = refl; sub_roots = refl }) c.requires)
+returns-in_err-push-clause-refused g c = on_err c.from_residual-in_err-push.result _ (refused_store c.in_ok-key.ensures.grown c.args.self.now.inner (record c.args.self.now.inner { floats = c.push.new.self }) (record { types = refl; ints = refl; floats = c.in_err-push.ensures.items; consts = refl; regions = refl; constraints = refl; universe = refl; budget = refl; tainted = refl; numbers = refl; sub_roots = refl }) c.requires)
 
 pub returns-clause-lawful : goal.returns-clause-lawful
 returns-clause-lawful g c = float_made_lawful c.in_ok-key.ensures.grown c.args.self.now.inner c.requires c.push.new.self _ c.in_ok-push.ensures.items refl refl

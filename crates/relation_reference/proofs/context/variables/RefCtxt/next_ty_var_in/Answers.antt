@@ -14,33 +14,33 @@ pub returns-in_err-key-clause-refused : goal.returns-in_err-key-clause-refused
 returns-in_err-key-clause-refused g c = on_err c.from_residual.result _ (ap (λ m. store_of m c.args.self.now.inner) c.in_err-key.ensures.refused)
 
 pub returns-in_err-reserve-clause-lawful : goal.returns-in_err-reserve-clause-lawful
-returns-in_err-reserve-clause-lawful g c = refused_lawful c.in_ok-key.ensures.grown c.args.self.now.inner (record c.args.self.now.inner { sub_roots = c.reserve.new.self }) (record { types = refl; ints = refl; floats = refl; consts = refl; regions = refl; constraints = refl; universe = refl; budget = refl; numbers = refl; sub_roots = c.in_err-reserve.ensures.items }) c.requires.lawful
+returns-in_err-reserve-clause-lawful g c = refused_lawful c.in_ok-key.ensures.grown c.args.self.now.inner (record c.args.self.now.inner { sub_roots = c.reserve.new.self }) (record { types = refl; ints = refl; floats = refl; consts = refl; regions = refl; constraints = refl; universe = refl; budget = refl; tainted = refl; numbers = refl; sub_roots = c.in_err-reserve.ensures.items }) c.requires.lawful
 
 pub returns-in_err-reserve-clause-later : goal.returns-in_err-reserve-clause-later
-returns-in_err-reserve-clause-later g c = refused_later c.in_ok-key.ensures.grown c.args.self.now.inner (record c.args.self.now.inner { sub_roots = c.reserve.new.self }) (record { types = refl; ints = refl; floats = refl; consts = refl; regions = refl; constraints = refl; universe = refl; budget = refl; numbers = refl; sub_roots = c.in_err-reserve.ensures.items }) c.requires.lawful
+returns-in_err-reserve-clause-later g c = refused_later c.in_ok-key.ensures.grown c.args.self.now.inner (record c.args.self.now.inner { sub_roots = c.reserve.new.self }) (record { types = refl; ints = refl; floats = refl; consts = refl; regions = refl; constraints = refl; universe = refl; budget = refl; tainted = refl; numbers = refl; sub_roots = c.in_err-reserve.ensures.items }) c.requires.lawful
 
 pub returns-in_err-reserve-clause-refused : goal.returns-in_err-reserve-clause-refused
-returns-in_err-reserve-clause-refused g c = on_err c.from_residual-in_err-reserve.result _ (refused_store c.in_ok-key.ensures.grown c.args.self.now.inner (record c.args.self.now.inner { sub_roots = c.reserve.new.self }) (record { types = refl; ints = refl; floats = refl; consts = refl; regions = refl; constraints = refl; universe = refl; budget = refl; numbers = refl; sub_roots = c.in_err-reserve.ensures.items }) c.requires.lawful)
+returns-in_err-reserve-clause-refused g c = on_err c.from_residual-in_err-reserve.result _ (refused_store c.in_ok-key.ensures.grown c.args.self.now.inner (record c.args.self.now.inner { sub_roots = c.reserve.new.self }) (record { types = refl; ints = refl; floats = refl; consts = refl; regions = refl; constraints = refl; universe = refl; budget = refl; tainted = refl; numbers = refl; sub_roots = c.in_err-reserve.ensures.items }) c.requires.lawful)
 
 pub returns-in_err-reserve-clause-rest : goal.returns-in_err-reserve-clause-rest
 returns-in_err-reserve-clause-rest g c = record {
-  solver = refl;
+  setup = refl;
   outliving = refl;
   marks = λ n. ap (λ rs. root_in rs n) c.in_err-reserve.ensures.items;
 }
 
 pub returns-in_err-push-clause-lawful : goal.returns-in_err-push-clause-lawful
-returns-in_err-push-clause-lawful g c = refused_lawful c.in_ok-key.ensures.grown c.args.self.now.inner (record c.args.self.now.inner { types = c.push.new.self; sub_roots = c.reserve.new.self }) (record { types = c.in_err-push.ensures.items; ints = refl; floats = refl; consts = refl; regions = refl; constraints = refl; universe = refl; budget = refl; numbers = refl; sub_roots = c.in_ok-reserve.ensures.items }) c.requires.lawful
+returns-in_err-push-clause-lawful g c = refused_lawful c.in_ok-key.ensures.grown c.args.self.now.inner (record c.args.self.now.inner { types = c.push.new.self; sub_roots = c.reserve.new.self }) (record { types = c.in_err-push.ensures.items; ints = refl; floats = refl; consts = refl; regions = refl; constraints = refl; universe = refl; budget = refl; tainted = refl; numbers = refl; sub_roots = c.in_ok-reserve.ensures.items }) c.requires.lawful
 
 pub returns-in_err-push-clause-later : goal.returns-in_err-push-clause-later
-returns-in_err-push-clause-later g c = refused_later c.in_ok-key.ensures.grown c.args.self.now.inner (record c.args.self.now.inner { types = c.push.new.self; sub_roots = c.reserve.new.self }) (record { types = c.in_err-push.ensures.items; ints = refl; floats = refl; consts = refl; regions = refl; constraints = refl; universe = refl; budget = refl; numbers = refl; sub_roots = c.in_ok-reserve.ensures.items }) c.requires.lawful
+returns-in_err-push-clause-later g c = refused_later c.in_ok-key.ensures.grown c.args.self.now.inner (record c.args.self.now.inner { types = c.push.new.self; sub_roots = c.reserve.new.self }) (record { types = c.in_err-push.ensures.items; ints = refl; floats = refl; consts = refl; regions = refl; constraints = refl; universe = refl; budget = refl; tainted = refl; numbers = refl; sub_roots = c.in_ok-reserve.ensures.items }) c.requires.lawful
 
 pub returns-in_err-push-clause-refused : goal.returns-in_err-push-clause-refused
-returns-in_err-push-clause-refused g c = on_err c.from_residual-in_err-push.result _ (refused_store c.in_ok-key.ensures.grown c.args.self.now.inner (record c.args.self.now.inner { types = c.push.new.self; sub_roots = c.reserve.new.self }) (record { types = c.in_err-push.ensures.items; ints = refl; floats = refl; consts = refl; regions = refl; constraints = refl; universe = refl; budget = refl; numbers = refl; sub_roots = c.in_ok-reserve.ensures.items }) c.requires.lawful)
+returns-in_err-push-clause-refused g c = on_err c.from_residual-in_err-push.result _ (refused_store c.in_ok-key.ensures.grown c.args.self.now.inner (record c.args.self.now.inner { types = c.push.new.self; sub_roots = c.reserve.new.self }) (record { types = c.in_err-push.ensures.items; ints = refl; floats = refl; consts = refl; regions = refl; constraints = refl; universe = refl; budget = refl; tainted = refl; numbers = refl; sub_roots = c.in_ok-reserve.ensures.items }) c.requires.lawful)
 
 pub returns-in_err-push-clause-rest : goal.returns-in_err-push-clause-rest
 returns-in_err-push-clause-rest g c = record {
-  solver = refl;
+  setup = refl;
   outliving = refl;
   marks = λ n. ap (λ rs. root_in rs n) c.in_ok-reserve.ensures.items;
 }
@@ -51,7 +51,7 @@ returns-clause-rest g c =
     let e : c.len-own_root.result ≡ length c.reserve.new.self.items = omega (arith, c.len-own_root.ensures, c.reserve.new.self.ok.0) in
     let grown : c.push_reserved.new.self.items ≡ rs ++ length rs ∷ [] = c.push_reserved.ensures.items
     ∙ ap (λ z. c.reserve.new.self.items ++ z ∷ []) e ∙ ap (λ zs. zs ++ length zs ∷ []) c.in_ok-reserve.ensures.items in
-    record { solver = refl; outliving = refl; marks = λ n. ap (λ zs. root_in zs n) grown ∙ root_more rs n }
+    record { setup = refl; outliving = refl; marks = λ n. ap (λ zs. root_in zs n) grown ∙ root_more rs n }
 
 pub returns-clause-lawful : goal.returns-clause-lawful
 returns-clause-lawful g c =

@@ -10,7 +10,7 @@ pub returns-in_err-push-clause-lawful : goal.returns-in_err-push-clause-lawful
 returns-in_err-push-clause-lawful g c =
     let x = c.args.self.now.inner in
     same_lawful (g.I.Interner.meaning c.args.self.now.interner) x (record x { constraints = c.push.new.self })
-    (record { types = refl; ints = refl; floats = refl; consts = refl; regions = refl; constraints = c.in_err-push.ensures.items; universe = refl; budget = refl; numbers = refl; sub_roots = refl })
+    (record { types = refl; ints = refl; floats = refl; consts = refl; regions = refl; constraints = c.in_err-push.ensures.items; universe = refl; budget = refl; tainted = refl; numbers = refl; sub_roots = refl })
     c.requires.lawful
 
 pub returns-in_err-push-clause-goes : goal.returns-in_err-push-clause-goes
@@ -27,6 +27,7 @@ returns-in_err-push-clause-goes g c =
       constraints = c.in_err-push.ensures.items;
       universe = refl;
       budget = refl;
+      tainted = refl;
       numbers = refl;
       sub_roots = refl;
     }))
@@ -44,6 +45,7 @@ returns-in_err-push-clause-refused g c =
       constraints = c.in_err-push.ensures.items;
       universe = refl;
       budget = refl;
+      tainted = refl;
       numbers = refl;
       sub_roots = refl;
     }))
@@ -59,6 +61,6 @@ returns g c =
       lawful = constraint_lawful m x c.requires.lawful r (c.requires.sup_in, c.requires.sub_in) c.push.new.self more;
       adds = constraint_added m x c.requires.lawful r (c.requires.sup_in, c.requires.sub_in) c.push.new.self more;
       refused = tt;
-      rest = record { solver = refl; outliving = refl; marks = λ n. refl };
+      rest = record { setup = refl; outliving = refl; marks = λ n. refl };
       goes = constraint_goes m x c.requires.lawful r (c.requires.sup_in, c.requires.sub_in) c.push.new.self more;
     }

@@ -4,9 +4,9 @@ use Rattle.type_relations.proofs.relate.relatable.PatKeyKeyRelate.relate.Goals a
 
 pub returns-clause-registers : goal.returns-clause-registers
 returns-clause-registers g c =
-    let r = g.R.TypeRelation.state c.args.r.now in
+    let r = g.R.HasState.state c.args.r.now in
     let k = c.args.a.now in
-    left_none g.R.TypeRelation.manner r (g.R.TypeRelation.state c.pats.new.r) ((r.meaning).pat k)
+    left_none g.R.TypeRelation.manner r (g.R.HasState.state c.pats.new.r) ((r.meaning).pat k)
     ((r.meaning).pat c.args.b.now) r.ambient c.pats.result (pattern_is_none ((r.meaning).pat k)
     (pat_sorted (g.met.R.TypeRelation.reads c.args.r.now) k
     ((g.met.I.Interner.sorted (g.R.TypeRelation.interner c.args.r.now)).pat k) (c.requires.asked).left_known))

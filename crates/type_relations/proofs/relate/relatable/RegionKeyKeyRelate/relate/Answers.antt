@@ -4,9 +4,9 @@ use Rattle.type_relations.proofs.relate.relatable.RegionKeyKeyRelate.relate.Goal
 
 pub returns-clause-registers : goal.returns-clause-registers
 returns-clause-registers g c =
-    let r = g.R.TypeRelation.state c.args.r.now in
+    let r = g.R.HasState.state c.args.r.now in
     let k = c.args.a.now in
-    left_none g.R.TypeRelation.manner r (g.R.TypeRelation.state c.regions.new.self) ((r.meaning).region k)
+    left_none g.R.TypeRelation.manner r (g.R.HasState.state c.regions.new.self) ((r.meaning).region k)
     ((r.meaning).region c.args.b.now) r.ambient c.regions.result (region_is_none ((r.meaning).region k)
     (region_sorted (g.met.R.TypeRelation.reads c.args.r.now) k
     ((g.met.I.Interner.sorted (g.R.TypeRelation.interner c.args.r.now)).region k) (c.requires.asked).left_known))

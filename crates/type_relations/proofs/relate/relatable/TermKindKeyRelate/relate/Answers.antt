@@ -16,7 +16,7 @@ use Rattle.type_relations.proofs.relate.relatable.TermKindKeyRelate.relate.Goals
 
 pub returns-in_default-clause-related : goal.returns-in_default-clause-related
 returns-in_default-clause-related g c =
-    let r = g.R.TypeRelation.state c.args.r.now in
+    let r = g.R.HasState.state c.args.r.now in
     let M = g.R.TypeRelation.manner in
     let e = g.met.R.TypeRelation.reads c.args.r.now in
     let cx = g.R.TypeRelation.interner c.args.r.now in
@@ -31,7 +31,7 @@ returns-in_default-clause-related g c =
 
 pub returns-in_default-b-clause-related : goal.returns-in_default-b-clause-related
 returns-in_default-b-clause-related g c =
-    let r = g.R.TypeRelation.state c.args.r.now in
+    let r = g.R.HasState.state c.args.r.now in
     let M = g.R.TypeRelation.manner in
     let e = g.met.R.TypeRelation.reads c.args.r.now in
     let cx = g.R.TypeRelation.interner c.args.r.now in
@@ -46,9 +46,9 @@ returns-in_default-b-clause-related g c =
 
 pub returns-in_ok-tys-in-Ty-clause-related : goal.returns-in_ok-tys-in-Ty-clause-related
 returns-in_ok-tys-in-Ty-clause-related g c =
-    let r = g.R.TypeRelation.state c.args.r.now in
+    let r = g.R.HasState.state c.args.r.now in
     let M = g.R.TypeRelation.manner in
-    let q = g.R.TypeRelation.state c.tys.new.r in
+    let q = g.R.HasState.state c.tys.new.r in
     let n = c.in_ok-tys-in-Ty in
     subst₂ (λ t u. Related M r q r.ambient (term_tree r.meaning t) (term_tree r.meaning u) (term_tree q.meaning)
     (Ok (Ty n.field-0))) (sym c.in-Ty.is) (sym c.in-Ty-b.is)
@@ -57,9 +57,9 @@ returns-in_ok-tys-in-Ty-clause-related g c =
 
 pub returns-in_ok-consts-in-Const-clause-related : goal.returns-in_ok-consts-in-Const-clause-related
 returns-in_ok-consts-in-Const-clause-related g c =
-    let r = g.R.TypeRelation.state c.args.r.now in
+    let r = g.R.HasState.state c.args.r.now in
     let M = g.R.TypeRelation.manner in
-    let q = g.R.TypeRelation.state c.consts.new.r in
+    let q = g.R.HasState.state c.consts.new.r in
     let n = c.in_ok-consts-in-Const in
     subst₂ (λ t u. Related M r q r.ambient (term_tree r.meaning t) (term_tree r.meaning u) (term_tree q.meaning)
     (Ok (Const n.field-0))) (sym c.in-Const.is) (sym c.in-Const-b.is)
@@ -68,7 +68,7 @@ returns-in_ok-consts-in-Const-clause-related g c =
 
 pub returns-in_default-clause-registers : goal.returns-in_default-clause-registers
 returns-in_default-clause-registers g c =
-    let r = g.R.TypeRelation.state c.args.r.now in
+    let r = g.R.HasState.state c.args.r.now in
     let M = g.R.TypeRelation.manner in
     let e = g.met.R.TypeRelation.reads c.args.r.now in
     let cx = g.R.TypeRelation.interner c.args.r.now in
@@ -81,7 +81,7 @@ returns-in_default-clause-registers g c =
 
 pub returns-in_default-b-clause-registers : goal.returns-in_default-b-clause-registers
 returns-in_default-b-clause-registers g c =
-    let r = g.R.TypeRelation.state c.args.r.now in
+    let r = g.R.HasState.state c.args.r.now in
     let M = g.R.TypeRelation.manner in
     let e = g.met.R.TypeRelation.reads c.args.r.now in
     let cx = g.R.TypeRelation.interner c.args.r.now in
@@ -93,9 +93,9 @@ returns-in_default-b-clause-registers g c =
 
 pub returns-in_ok-consts-in-Const-clause-registers : goal.returns-in_ok-consts-in-Const-clause-registers
 returns-in_ok-consts-in-Const-clause-registers g c =
-    let r = g.R.TypeRelation.state c.args.r.now in
+    let r = g.R.HasState.state c.args.r.now in
     let M = g.R.TypeRelation.manner in
-    let q = g.R.TypeRelation.state c.consts.new.r in
+    let q = g.R.HasState.state c.consts.new.r in
     let e = g.met.R.TypeRelation.reads c.args.r.now in
     let cx = g.R.TypeRelation.interner c.args.r.now in
     let sorted : Sorted r.meaning = subst (λ m. Sorted m) (sym e) (g.met.I.Interner.sorted cx) in
@@ -106,9 +106,9 @@ returns-in_ok-consts-in-Const-clause-registers g c =
 
 pub returns-in_err-consts-in-Const-clause-registers : goal.returns-in_err-consts-in-Const-clause-registers
 returns-in_err-consts-in-Const-clause-registers g c =
-    let r = g.R.TypeRelation.state c.args.r.now in
+    let r = g.R.HasState.state c.args.r.now in
     let M = g.R.TypeRelation.manner in
-    let q = g.R.TypeRelation.state c.consts.new.r in
+    let q = g.R.HasState.state c.consts.new.r in
     let e = g.met.R.TypeRelation.reads c.args.r.now in
     let cx = g.R.TypeRelation.interner c.args.r.now in
     let sorted : Sorted r.meaning = subst (λ m. Sorted m) (sym e) (g.met.I.Interner.sorted cx) in
@@ -119,18 +119,18 @@ returns-in_err-consts-in-Const-clause-registers g c =
 
 pub returns-in_ok-tys-in-Ty-clause-registers : goal.returns-in_ok-tys-in-Ty-clause-registers
 returns-in_ok-tys-in-Ty-clause-registers g c =
-    let r = g.R.TypeRelation.state c.args.r.now in
+    let r = g.R.HasState.state c.args.r.now in
     let M = g.R.TypeRelation.manner in
-    let q = g.R.TypeRelation.state c.tys.new.r in
+    let q = g.R.HasState.state c.tys.new.r in
     let n = c.in_ok-tys-in-Ty in
     subst₂ (λ t u. RegistersSubtype M r q r.ambient (term_tree r.meaning t) (term_tree r.meaning u)
     (Ok (Ty n.field-0))) (sym c.in-Ty.is) (sym c.in-Ty-b.is) n.ensures.registers
 
 pub returns-in_err-tys-in-Ty-clause-registers : goal.returns-in_err-tys-in-Ty-clause-registers
 returns-in_err-tys-in-Ty-clause-registers g c =
-    let r = g.R.TypeRelation.state c.args.r.now in
+    let r = g.R.HasState.state c.args.r.now in
     let M = g.R.TypeRelation.manner in
-    let q = g.R.TypeRelation.state c.tys.new.r in
+    let q = g.R.HasState.state c.tys.new.r in
     let n = c.in_err-tys-in-Ty in
     let res = c.from_residual.result in
     subst₂ (λ t u. RegistersSubtype M r q r.ambient (term_tree r.meaning t) (term_tree r.meaning u) res)

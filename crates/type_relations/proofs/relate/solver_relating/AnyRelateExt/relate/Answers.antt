@@ -1,3 +1,4 @@
+use Rattle.relation_contexts.specs.declared.relate.StructurallyRelateAliases.TheVariants.{No}
 use Rattle.std.proofs.Common.{◌<◌, refl, sym, ap, ◌∙◌, arith, subst, [], All}
 use Rattle.std.proofs.lemmas.Bool.{false≢true}
 use Rattle.std.proofs.lemmas.List.Elements.{All-nil}
@@ -104,7 +105,7 @@ returns-clause-answers g c =
     let hs = c.relate_in-related.result.1.items in
     answers_goals s.meaning d.meaning s.store d.store s.lawful d.lawful c.args.variance c.args.param_env a b
     (term_in d g.T.Relate.over g.T.HasTree.tree) hs c.in_ok-related.field-0 (subst (λ z. Related solver_manner
-    (solving_in [] s c.args.variance c.args.param_env) (solving_in hs d c.args.variance c.args.param_env)
+    (solving_in No [] s c.args.variance c.args.param_env) (solving_in No hs d c.args.variance c.args.param_env)
     c.args.variance a b (term_in d g.T.Relate.over g.T.HasTree.tree) z) c.in_ok-related.was c.relate_in-related.ensures.related)
 
 pub returns-then-eq-clause-agrees : goal.returns-then-eq-clause-agrees
@@ -125,7 +126,7 @@ returns-clause-agrees g c =
     let hs = c.relate_in-related.result.1.items in
     relates_agreeing s.meaning d.meaning s.store d.store s.lawful d.lawful c.args.variance c.args.param_env a b
     (term_in d g.T.Relate.over g.T.HasTree.tree) hs c.in_ok-related.field-0 (subst (λ z. Related solver_manner
-    (solving_in [] s c.args.variance c.args.param_env) (solving_in hs d c.args.variance c.args.param_env)
+    (solving_in No [] s c.args.variance c.args.param_env) (solving_in No hs d c.args.variance c.args.param_env)
     c.args.variance a b (term_in d g.T.Relate.over g.T.HasTree.tree) z) c.in_ok-related.was c.relate_in-related.ensures.related)
 
 pub returns-clause-keeps : goal.returns-clause-keeps
@@ -137,7 +138,7 @@ returns-clause-keeps g c =
     let hs = c.relate_in-related.result.1.items in
     keeps_equal s.meaning d.meaning s.store d.store s.lawful d.lawful c.args.variance c.args.param_env a b
     (term_in d g.T.Relate.over g.T.HasTree.tree) hs c.in_ok-related.field-0 (subst (λ z. Related solver_manner
-    (solving_in [] s c.args.variance c.args.param_env) (solving_in hs d c.args.variance c.args.param_env)
+    (solving_in No [] s c.args.variance c.args.param_env) (solving_in No hs d c.args.variance c.args.param_env)
     c.args.variance a b (term_in d g.T.Relate.over g.T.HasTree.tree) z) c.in_ok-related.was c.relate_in-related.ensures.related)
 
 pub returns-clause-goals : goal.returns-clause-goals
@@ -193,19 +194,19 @@ pub returns-in_err-related-clause-subtype : goal.returns-in_err-related-clause-s
 returns-in_err-related-clause-subtype g c =
     let s = g.Infcx.InferCtxtLike.state c.args.self.now in
     let f = c.in_err-related.field-0.0 in
-    refused_alone_in ⊥ g.Infcx.InferCtxtLike.state c.args.self.now c.relate_in-related.new.infcx g.T.Relate.over
+    refused_alone_in No ⊥ g.Infcx.InferCtxtLike.state c.args.self.now c.relate_in-related.new.infcx g.T.Relate.over
     g.T.HasTree.tree c.args.param_env c.args.variance c.args.lhs c.args.rhs c.relate_in-related.result.1.items
     f c.from_residual.result (as_err c.from_residual.result f c.from_residual.ensures.0 c.from_residual.ensures.1)
-    (subst (RegistersSubtype solver_manner (solving_in [] s c.args.variance c.args.param_env)
-    (solving_in c.relate_in-related.result.1.items (g.Infcx.InferCtxtLike.state c.relate_in-related.new.infcx)
+    (subst (RegistersSubtype solver_manner (solving_in No [] s c.args.variance c.args.param_env)
+    (solving_in No c.relate_in-related.result.1.items (g.Infcx.InferCtxtLike.state c.relate_in-related.new.infcx)
     c.args.variance c.args.param_env) c.args.variance (term_in s g.T.Relate.over g.T.HasTree.tree c.args.lhs)
     (term_in s g.T.Relate.over g.T.HasTree.tree c.args.rhs)) c.in_err-related.was c.relate_in-related.ensures.registers)
 
 pub returns-clause-subtype : goal.returns-clause-subtype
 returns-clause-subtype g c =
     let s = g.Infcx.InferCtxtLike.state c.args.self.now in
-    subst (RegistersSubtype solver_manner (solving_in [] s c.args.variance c.args.param_env)
-    (solving_in c.relate_in-related.result.1.items (g.Infcx.InferCtxtLike.state c.relate_in-related.new.infcx)
+    subst (RegistersSubtype solver_manner (solving_in No [] s c.args.variance c.args.param_env)
+    (solving_in No c.relate_in-related.result.1.items (g.Infcx.InferCtxtLike.state c.relate_in-related.new.infcx)
     c.args.variance c.args.param_env) c.args.variance (term_in s g.T.Relate.over g.T.HasTree.tree c.args.lhs)
     (term_in s g.T.Relate.over g.T.HasTree.tree c.args.rhs)) c.in_ok-related.was c.relate_in-related.ensures.registers tt
 
@@ -236,14 +237,14 @@ returns-in_err-related-clause-enough g c = λ is pair u one.
     )
 
 pub returns-then-eq-clause-rest : goal.returns-then-eq-clause-rest
-returns-then-eq-clause-rest g c = record { solver = refl; outliving = refl }
+returns-then-eq-clause-rest g c = record { setup = refl; outliving = refl }
 
 pub returns-in_err-related-clause-rest : goal.returns-in_err-related-clause-rest
 returns-in_err-related-clause-rest g c =
-    keeps_beside (g.Infcx.InferCtxtLike.state c.args.self.now)
+    keeps_beside No (g.Infcx.InferCtxtLike.state c.args.self.now)
     (g.Infcx.InferCtxtLike.state c.relate_in-related.new.infcx) _ _ ((c.relate_in-related.ensures.related).passes).kept
 
 pub returns-clause-rest : goal.returns-clause-rest
 returns-clause-rest g c =
-    keeps_beside (g.Infcx.InferCtxtLike.state c.args.self.now)
+    keeps_beside No (g.Infcx.InferCtxtLike.state c.args.self.now)
     (g.Infcx.InferCtxtLike.state c.relate_in-related.new.infcx) _ _ ((c.relate_in-related.ensures.related).passes).kept

@@ -12,7 +12,7 @@ use Rattle.type_relations.proofs.relate.relatable.binder.BinderKeyRelate.relate.
 
 pub returns-then-eq-clause-related : goal.returns-then-eq-clause-related
 returns-then-eq-clause-related g c =
-    let r = g.R.TypeRelation.state c.args.r.now in
+    let r = g.R.HasState.state c.args.r.now in
     let M = g.R.TypeRelation.manner in
     let tree = g.T.HasTree.tree in
     let over = g.T.Relate.over in
@@ -27,7 +27,7 @@ returns-then-eq-clause-related g c =
 
 pub returns-in_err-relate-clause-related : goal.returns-in_err-relate-clause-related
 returns-in_err-relate-clause-related g c =
-    let r = g.R.TypeRelation.state c.args.r.now in
+    let r = g.R.HasState.state c.args.r.now in
     let M = g.R.TypeRelation.manner in
     let tree = g.T.HasTree.tree in
     let over = g.T.Relate.over in
@@ -36,12 +36,12 @@ returns-in_err-relate-clause-related g c =
     let k = c.requires.asked in
     let never = under_known ((r.meaning).bound_vars c.args.a.now.bound_vars) (tree r.meaning c.args.a.now.value)
     k.left_known in
-    let q = g.R.TypeRelation.state c.open_binders.new.self in
+    let q = g.R.HasState.state c.open_binders.new.self in
     let x = tree q.meaning (c.in-Some.bodies).0 in
     let y = tree q.meaning (c.in-Some.bodies).1 in
     let o : Opened M r q 0 a b (tree q.meaning) (Ok (Some c.in-Some.bodies)) =
     subst (λ z. Opened M r q 0 a b (tree q.meaning) (Ok z)) c.in-Some.is c.in_ok-bodies.ensures in
-    let p = g.R.TypeRelation.state c.relate.new.r in
+    let p = g.R.HasState.state c.relate.new.r in
     let e = c.in_err-relate in
     let res = c.from_residual-in_err-relate in
     let failed = as_err res.result e.field-0.0 res.ensures.0 res.ensures.1 in
@@ -56,19 +56,19 @@ returns-in_err-relate-clause-related g c =
 
 pub open_binders-requires-2-clause-asked : goal.open_binders-requires-2-clause-asked
 open_binders-requires-2-clause-asked g c =
-    let r = g.R.TypeRelation.state c.args.r.now in
+    let r = g.R.HasState.state c.args.r.now in
     let M = g.R.TypeRelation.manner in
     let tree = g.T.HasTree.tree in
     let over = g.T.Relate.over in
     let a = binder_tree tree r.meaning c.args.a.now in
     let b = binder_tree tree r.meaning c.args.b.now in
     let k = c.requires.asked in
-    let q = g.R.TypeRelation.state c.open_binders.new.self in
+    let q = g.R.HasState.state c.open_binders.new.self in
     let x = tree q.meaning (c.in-Some.bodies).0 in
     let y = tree q.meaning (c.in-Some.bodies).1 in
     let o : Opened M r q 0 a b (tree q.meaning) (Ok (Some c.in-Some.bodies)) =
     subst (λ z. Opened M r q 0 a b (tree q.meaning) (Ok z)) c.in-Some.is c.in_ok-bodies.ensures in
-    let p = g.R.TypeRelation.state c.relate.new.r in
+    let p = g.R.HasState.state c.relate.new.r in
     let n = c.in_ok-relate in
     let met = (n.ensures).related in
     let inner = subst (λ v. Related M q p v x y (tree p.meaning) (Ok n.field-0)) (o.passes).ambient
@@ -80,7 +80,7 @@ open_binders-requires-2-clause-asked g c =
 
 pub returns-in_err-bodies-2-clause-related : goal.returns-in_err-bodies-2-clause-related
 returns-in_err-bodies-2-clause-related g c =
-    let r = g.R.TypeRelation.state c.args.r.now in
+    let r = g.R.HasState.state c.args.r.now in
     let M = g.R.TypeRelation.manner in
     let tree = g.T.HasTree.tree in
     let over = g.T.Relate.over in
@@ -89,12 +89,12 @@ returns-in_err-bodies-2-clause-related g c =
     let k = c.requires.asked in
     let never = under_known ((r.meaning).bound_vars c.args.a.now.bound_vars) (tree r.meaning c.args.a.now.value)
     k.left_known in
-    let q = g.R.TypeRelation.state c.open_binders.new.self in
+    let q = g.R.HasState.state c.open_binders.new.self in
     let x = tree q.meaning (c.in-Some.bodies).0 in
     let y = tree q.meaning (c.in-Some.bodies).1 in
     let o : Opened M r q 0 a b (tree q.meaning) (Ok (Some c.in-Some.bodies)) =
     subst (λ z. Opened M r q 0 a b (tree q.meaning) (Ok z)) c.in-Some.is c.in_ok-bodies.ensures in
-    let p = g.R.TypeRelation.state c.relate.new.r in
+    let p = g.R.HasState.state c.relate.new.r in
     let n = c.in_ok-relate in
     let met = (n.ensures).related in
     let inner = subst (λ v. Related M q p v x y (tree p.meaning) (Ok n.field-0)) (o.passes).ambient
@@ -102,7 +102,7 @@ returns-in_err-bodies-2-clause-related g c =
     let half = first_done M a b x y (tree p.meaning) n.field-0 o.passes o.verdict inner in
     let same_a = stays_binder tree g.T.HasTree.stays (half.passes).extends c.args.a.now k.left_known in
     let same_b = stays_binder tree g.T.HasTree.stays (half.passes).extends c.args.b.now k.right_known in
-    let w = g.R.TypeRelation.state c.open_binders-2.new.self in
+    let w = g.R.HasState.state c.open_binders-2.new.self in
     let e = c.in_err-bodies-2 in
     let res = c.from_residual-in_err-bodies-2 in
     let failed = as_err res.result e.field-0.0 res.ensures.0 res.ensures.1 in
@@ -112,7 +112,7 @@ returns-in_err-bodies-2-clause-related g c =
 
 pub returns-in_default-2-clause-related : goal.returns-in_default-2-clause-related
 returns-in_default-2-clause-related g c =
-    let r = g.R.TypeRelation.state c.args.r.now in
+    let r = g.R.HasState.state c.args.r.now in
     let M = g.R.TypeRelation.manner in
     let tree = g.T.HasTree.tree in
     let over = g.T.Relate.over in
@@ -121,12 +121,12 @@ returns-in_default-2-clause-related g c =
     let k = c.requires.asked in
     let never = under_known ((r.meaning).bound_vars c.args.a.now.bound_vars) (tree r.meaning c.args.a.now.value)
     k.left_known in
-    let q = g.R.TypeRelation.state c.open_binders.new.self in
+    let q = g.R.HasState.state c.open_binders.new.self in
     let x = tree q.meaning (c.in-Some.bodies).0 in
     let y = tree q.meaning (c.in-Some.bodies).1 in
     let o : Opened M r q 0 a b (tree q.meaning) (Ok (Some c.in-Some.bodies)) =
     subst (λ z. Opened M r q 0 a b (tree q.meaning) (Ok z)) c.in-Some.is c.in_ok-bodies.ensures in
-    let p = g.R.TypeRelation.state c.relate.new.r in
+    let p = g.R.HasState.state c.relate.new.r in
     let n = c.in_ok-relate in
     let met = (n.ensures).related in
     let inner = subst (λ v. Related M q p v x y (tree p.meaning) (Ok n.field-0)) (o.passes).ambient
@@ -134,7 +134,7 @@ returns-in_default-2-clause-related g c =
     let half = first_done M a b x y (tree p.meaning) n.field-0 o.passes o.verdict inner in
     let same_a = stays_binder tree g.T.HasTree.stays (half.passes).extends c.args.a.now k.left_known in
     let same_b = stays_binder tree g.T.HasTree.stays (half.passes).extends c.args.b.now k.right_known in
-    let w = g.R.TypeRelation.state c.open_binders-2.new.self in
+    let w = g.R.HasState.state c.open_binders-2.new.self in
     let again = subst₂ (λ t u. Opened M p w 1 t u (tree w.meaning) (Ok None)) same_a same_b
     (subst (λ z. Opened M p w 1 (binder_tree tree p.meaning c.args.a.now) (binder_tree tree p.meaning c.args.b.now)
     (tree w.meaning) (Ok z)) c.in_default-2.is c.in_ok-bodies-2.ensures) in
@@ -144,19 +144,19 @@ returns-in_default-2-clause-related g c =
 
 pub relate-requires-2-clause-fits : goal.relate-requires-2-clause-fits
 relate-requires-2-clause-fits g c =
-    let r = g.R.TypeRelation.state c.args.r.now in
+    let r = g.R.HasState.state c.args.r.now in
     let M = g.R.TypeRelation.manner in
     let tree = g.T.HasTree.tree in
     let over = g.T.Relate.over in
     let a = binder_tree tree r.meaning c.args.a.now in
     let b = binder_tree tree r.meaning c.args.b.now in
     let k = c.requires.asked in
-    let q = g.R.TypeRelation.state c.open_binders.new.self in
+    let q = g.R.HasState.state c.open_binders.new.self in
     let x = tree q.meaning (c.in-Some.bodies).0 in
     let y = tree q.meaning (c.in-Some.bodies).1 in
     let o : Opened M r q 0 a b (tree q.meaning) (Ok (Some c.in-Some.bodies)) =
     subst (λ z. Opened M r q 0 a b (tree q.meaning) (Ok z)) c.in-Some.is c.in_ok-bodies.ensures in
-    let p = g.R.TypeRelation.state c.relate.new.r in
+    let p = g.R.HasState.state c.relate.new.r in
     let n = c.in_ok-relate in
     let met = (n.ensures).related in
     let inner = subst (λ v. Related M q p v x y (tree p.meaning) (Ok n.field-0)) (o.passes).ambient
@@ -164,7 +164,7 @@ relate-requires-2-clause-fits g c =
     let half = first_done M a b x y (tree p.meaning) n.field-0 o.passes o.verdict inner in
     let same_a = stays_binder tree g.T.HasTree.stays (half.passes).extends c.args.a.now k.left_known in
     let same_b = stays_binder tree g.T.HasTree.stays (half.passes).extends c.args.b.now k.right_known in
-    let w = g.R.TypeRelation.state c.open_binders-2.new.self in
+    let w = g.R.HasState.state c.open_binders-2.new.self in
     let s = tree w.meaning (c.in-Some-2.bodies).0 in
     let u = tree w.meaning (c.in-Some-2.bodies).1 in
     let again : Opened M p w 1 a b (tree w.meaning) (Ok (Some c.in-Some-2.bodies)) =
@@ -177,7 +177,7 @@ relate-requires-2-clause-fits g c =
 
 pub returns-in_err-relate-2-clause-related : goal.returns-in_err-relate-2-clause-related
 returns-in_err-relate-2-clause-related g c =
-    let r = g.R.TypeRelation.state c.args.r.now in
+    let r = g.R.HasState.state c.args.r.now in
     let M = g.R.TypeRelation.manner in
     let tree = g.T.HasTree.tree in
     let over = g.T.Relate.over in
@@ -186,12 +186,12 @@ returns-in_err-relate-2-clause-related g c =
     let k = c.requires.asked in
     let never = under_known ((r.meaning).bound_vars c.args.a.now.bound_vars) (tree r.meaning c.args.a.now.value)
     k.left_known in
-    let q = g.R.TypeRelation.state c.open_binders.new.self in
+    let q = g.R.HasState.state c.open_binders.new.self in
     let x = tree q.meaning (c.in-Some.bodies).0 in
     let y = tree q.meaning (c.in-Some.bodies).1 in
     let o : Opened M r q 0 a b (tree q.meaning) (Ok (Some c.in-Some.bodies)) =
     subst (λ z. Opened M r q 0 a b (tree q.meaning) (Ok z)) c.in-Some.is c.in_ok-bodies.ensures in
-    let p = g.R.TypeRelation.state c.relate.new.r in
+    let p = g.R.HasState.state c.relate.new.r in
     let n = c.in_ok-relate in
     let met = (n.ensures).related in
     let inner = subst (λ v. Related M q p v x y (tree p.meaning) (Ok n.field-0)) (o.passes).ambient
@@ -199,14 +199,14 @@ returns-in_err-relate-2-clause-related g c =
     let half = first_done M a b x y (tree p.meaning) n.field-0 o.passes o.verdict inner in
     let same_a = stays_binder tree g.T.HasTree.stays (half.passes).extends c.args.a.now k.left_known in
     let same_b = stays_binder tree g.T.HasTree.stays (half.passes).extends c.args.b.now k.right_known in
-    let w = g.R.TypeRelation.state c.open_binders-2.new.self in
+    let w = g.R.HasState.state c.open_binders-2.new.self in
     let s = tree w.meaning (c.in-Some-2.bodies).0 in
     let u = tree w.meaning (c.in-Some-2.bodies).1 in
     let again : Opened M p w 1 a b (tree w.meaning) (Ok (Some c.in-Some-2.bodies)) =
     subst₂ (λ t u. Opened M p w 1 t u (tree w.meaning) (Ok (Some c.in-Some-2.bodies))) same_a same_b
     (subst (λ z. Opened M p w 1 (binder_tree tree p.meaning c.args.a.now) (binder_tree tree p.meaning c.args.b.now)
     (tree w.meaning) (Ok z)) c.in-Some-2.is c.in_ok-bodies-2.ensures) in
-    let z = g.R.TypeRelation.state c.relate-2.new.r in
+    let z = g.R.HasState.state c.relate-2.new.r in
     let e = c.in_err-relate-2 in
     let res = c.from_residual-in_err-relate-2 in
     let failed = as_err res.result e.field-0.0 res.ensures.0 res.ensures.1 in
@@ -221,7 +221,7 @@ returns-in_err-relate-2-clause-related g c =
 
 pub returns-clause-related : goal.returns-clause-related
 returns-clause-related g c =
-    let r = g.R.TypeRelation.state c.args.r.now in
+    let r = g.R.HasState.state c.args.r.now in
     let M = g.R.TypeRelation.manner in
     let tree = g.T.HasTree.tree in
     let over = g.T.Relate.over in
@@ -230,12 +230,12 @@ returns-clause-related g c =
     let k = c.requires.asked in
     let never = under_known ((r.meaning).bound_vars c.args.a.now.bound_vars) (tree r.meaning c.args.a.now.value)
     k.left_known in
-    let q = g.R.TypeRelation.state c.open_binders.new.self in
+    let q = g.R.HasState.state c.open_binders.new.self in
     let x = tree q.meaning (c.in-Some.bodies).0 in
     let y = tree q.meaning (c.in-Some.bodies).1 in
     let o : Opened M r q 0 a b (tree q.meaning) (Ok (Some c.in-Some.bodies)) =
     subst (λ z. Opened M r q 0 a b (tree q.meaning) (Ok z)) c.in-Some.is c.in_ok-bodies.ensures in
-    let p = g.R.TypeRelation.state c.relate.new.r in
+    let p = g.R.HasState.state c.relate.new.r in
     let n = c.in_ok-relate in
     let met = (n.ensures).related in
     let inner = subst (λ v. Related M q p v x y (tree p.meaning) (Ok n.field-0)) (o.passes).ambient
@@ -243,14 +243,14 @@ returns-clause-related g c =
     let half = first_done M a b x y (tree p.meaning) n.field-0 o.passes o.verdict inner in
     let same_a = stays_binder tree g.T.HasTree.stays (half.passes).extends c.args.a.now k.left_known in
     let same_b = stays_binder tree g.T.HasTree.stays (half.passes).extends c.args.b.now k.right_known in
-    let w = g.R.TypeRelation.state c.open_binders-2.new.self in
+    let w = g.R.HasState.state c.open_binders-2.new.self in
     let s = tree w.meaning (c.in-Some-2.bodies).0 in
     let u = tree w.meaning (c.in-Some-2.bodies).1 in
     let again : Opened M p w 1 a b (tree w.meaning) (Ok (Some c.in-Some-2.bodies)) =
     subst₂ (λ t u. Opened M p w 1 t u (tree w.meaning) (Ok (Some c.in-Some-2.bodies))) same_a same_b
     (subst (λ z. Opened M p w 1 (binder_tree tree p.meaning c.args.a.now) (binder_tree tree p.meaning c.args.b.now)
     (tree w.meaning) (Ok z)) c.in-Some-2.is c.in_ok-bodies-2.ensures) in
-    let z = g.R.TypeRelation.state c.relate-2.new.r in
+    let z = g.R.HasState.state c.relate-2.new.r in
     let m = c.in_ok-relate-2 in
     let met-2 = (m.ensures).related in
     let last = subst (λ v. Related M w z v s u (tree z.meaning) (Ok m.field-0)) (again.passes).ambient

@@ -5,7 +5,7 @@ use Rattle.type_relations.proofs.relate.relatable.forms.ExistentialPredicateKeyI
 
 pub returns-clause-registers : goal.returns-clause-registers
 returns-clause-registers g c =
-    let r = g.R.TypeRelation.state c.args.r.now in
-    left_none g.R.TypeRelation.manner r (g.R.TypeRelation.state c.existentials.new.r)
+    let r = g.R.HasState.state c.args.r.now in
+    left_none g.R.TypeRelation.manner r (g.R.HasState.state c.existentials.new.r)
     (existential_tree r.meaning c.args.a.now) (existential_tree r.meaning c.args.b.now) r.ambient c.existentials.result
     (existential_is_none r.meaning c.args.a.now)

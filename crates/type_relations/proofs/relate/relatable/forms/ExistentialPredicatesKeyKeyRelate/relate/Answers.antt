@@ -5,7 +5,7 @@ use Rattle.type_relations.proofs.relate.relatable.forms.ExistentialPredicatesKey
 
 pub returns-clause-registers : goal.returns-clause-registers
 returns-clause-registers g c =
-    let r = g.R.TypeRelation.state c.args.r.now in
+    let r = g.R.HasState.state c.args.r.now in
     let a = (r.meaning).existential_predicates c.args.a.now in
-    left_none g.R.TypeRelation.manner r (g.R.TypeRelation.state c.objects.new.r) (node object a)
+    left_none g.R.TypeRelation.manner r (g.R.HasState.state c.objects.new.r) (node object a)
     (node object ((r.meaning).existential_predicates c.args.b.now)) r.ambient c.objects.result (node_is_none object a)

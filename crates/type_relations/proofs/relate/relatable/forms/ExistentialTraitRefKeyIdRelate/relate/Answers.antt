@@ -6,8 +6,8 @@ use Rattle.type_relations.proofs.relate.relatable.forms.ExistentialTraitRefKeyId
 
 pub returns-clause-related : goal.returns-clause-related
 returns-clause-related g c =
-    let r = g.R.TypeRelation.state c.args.r.now in
-    let q = g.R.TypeRelation.state c.existentials.new.r in
+    let r = g.R.HasState.state c.args.r.now in
+    let q = g.R.HasState.state c.existentials.new.r in
     let a = existential_tree r.meaning (Trait c.args.a.now) in
     let b = existential_tree r.meaning (Trait c.args.b.now) in
     let n = c.in_ok-answer in

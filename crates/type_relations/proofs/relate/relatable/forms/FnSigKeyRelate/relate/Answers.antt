@@ -6,10 +6,10 @@ use Rattle.type_relations.proofs.relate.relatable.forms.FnSigKeyRelate.relate.Go
 
 pub returns-clause-registers : goal.returns-clause-registers
 returns-clause-registers g c =
-    let r = g.R.TypeRelation.state c.args.r.now in
+    let r = g.R.HasState.state c.args.r.now in
     let s = c.args.a.now in
     let tys = (r.meaning).tys s.inputs_and_output in
-    left_none g.R.TypeRelation.manner r (g.R.TypeRelation.state c.signatures.new.r) (signature_tree r.meaning s)
+    left_none g.R.TypeRelation.manner r (g.R.HasState.state c.signatures.new.r) (signature_tree r.meaning s)
     (signature_tree r.meaning c.args.b.now) r.ambient c.signatures.result
     (node_is_none (signature (s.header).c_variadic (s.header).safety (s.header).abi)
     (cons (node inputs (front tys)) (cons (last tys) nil)))

@@ -20,7 +20,7 @@ returns-in_err-predicate-in-Covariant-clause-stepped g c =
     let s = g.Infcx.InferCtxtLike.state r.infcx.now in
     let d = g.Infcx.InferCtxtLike.state c.subtype_predicate.new.infcx in
     let h = c.in_err-predicate-in-Covariant.ensures in
-    memory_step (held_grows r.infcx.ghost_name s d h.grows) r.goals.items IsFormed s.meaning d.meaning s.store d.store s.lawful d.lawful
+    memory_step (held_grows r.structurally_relate_aliases r.infcx.ghost_name s d h.grows) r.goals.items IsFormed s.meaning d.meaning s.store d.store s.lawful d.lawful
     r.ambient_variance r.param_env ((s.meaning).ty c.args.a.now) ((s.meaning).ty c.args.b.now) (d.meaning).ty
     c.from_residual.result h.grows.extends (c.requires.env_known, c.requires.goals_known) h.same_store h.grows.lawful
     (as_err c.from_residual.result Memory c.from_residual.ensures.0 c.from_residual.ensures.1)
@@ -33,11 +33,11 @@ returns-in_err-push-in-Covariant-clause-stepped g c =
     let h = c.in_ok-predicate-in-Covariant.ensures in
     let res = c.from_residual-in_err-push-in-Covariant.result in
     subst (λ hs. Stepped solver_manner IsFormed
-    (solving_through r.infcx.ghost_name r.goals.items s r.ambient_variance r.param_env)
-    (solving_through r.infcx.ghost_name hs d r.ambient_variance r.param_env)
+    (solving_through r.structurally_relate_aliases r.infcx.ghost_name r.goals.items s r.ambient_variance r.param_env)
+    (solving_through r.structurally_relate_aliases r.infcx.ghost_name hs d r.ambient_variance r.param_env)
     ((s.meaning).ty c.args.a.now) ((s.meaning).ty c.args.b.now) (d.meaning).ty res)
     (sym c.in_err-push-in-Covariant.ensures.items)
-    (memory_step (held_grows r.infcx.ghost_name s d h.grows) r.goals.items IsFormed s.meaning d.meaning s.store d.store s.lawful d.lawful
+    (memory_step (held_grows r.structurally_relate_aliases r.infcx.ghost_name s d h.grows) r.goals.items IsFormed s.meaning d.meaning s.store d.store s.lawful d.lawful
     r.ambient_variance r.param_env ((s.meaning).ty c.args.a.now) ((s.meaning).ty c.args.b.now) (d.meaning).ty
     res h.grows.extends (c.requires.env_known, c.requires.goals_known) h.same_store h.grows.lawful
     (as_err res Memory c.from_residual-in_err-push-in-Covariant.ensures.0 c.from_residual-in_err-push-in-Covariant.ensures.1))
@@ -48,7 +48,7 @@ returns-in_ok-push-in-Covariant-clause-stepped g c =
     let s = g.Infcx.InferCtxtLike.state r.infcx.now in
     let d = g.Infcx.InferCtxtLike.state c.subtype_predicate.new.infcx in
     let h = c.in_ok-predicate-in-Covariant.ensures in
-    covariant_step (held_grows r.infcx.ghost_name s d h.grows) r.goals.items c.push.new.self.items s.meaning d.meaning s.store d.store s.lawful
+    covariant_step (held_grows r.structurally_relate_aliases r.infcx.ghost_name s d h.grows) r.goals.items c.push.new.self.items s.meaning d.meaning s.store d.store s.lawful
     d.lawful r.ambient_variance r.param_env h.grows.extends (c.requires.env_known, c.requires.goals_known) h.grows.lawful h.same_store
     c.in_ok-predicate-in-Covariant.predicate _ c.in_ok-push-in-Covariant.ensures.items c.args.x.0 c.args.y.0
     ((s.meaning).ty c.args.a.now) ((s.meaning).ty c.args.b.now) c.requires.a_is c.requires.b_is
@@ -61,7 +61,7 @@ returns-in_err-predicate-in-Contravariant-clause-stepped g c =
     let s = g.Infcx.InferCtxtLike.state r.infcx.now in
     let d = g.Infcx.InferCtxtLike.state c.subtype_predicate-in-Contravariant.new.infcx in
     let h = c.in_err-predicate-in-Contravariant.ensures in
-    memory_step (held_grows r.infcx.ghost_name s d h.grows) r.goals.items IsFormed s.meaning d.meaning s.store d.store s.lawful d.lawful
+    memory_step (held_grows r.structurally_relate_aliases r.infcx.ghost_name s d h.grows) r.goals.items IsFormed s.meaning d.meaning s.store d.store s.lawful d.lawful
     r.ambient_variance r.param_env ((s.meaning).ty c.args.a.now) ((s.meaning).ty c.args.b.now) (d.meaning).ty
     c.from_residual-in_err-predicate-in-Contravariant.result h.grows.extends (c.requires.env_known, c.requires.goals_known) h.same_store h.grows.lawful
     (as_err c.from_residual-in_err-predicate-in-Contravariant.result Memory c.from_residual-in_err-predicate-in-Contravariant.ensures.0 c.from_residual-in_err-predicate-in-Contravariant.ensures.1)
@@ -74,11 +74,11 @@ returns-in_err-push-in-Contravariant-clause-stepped g c =
     let h = c.in_ok-predicate-in-Contravariant.ensures in
     let res = c.from_residual-in_err-push-in-Contravariant.result in
     subst (λ hs. Stepped solver_manner IsFormed
-    (solving_through r.infcx.ghost_name r.goals.items s r.ambient_variance r.param_env)
-    (solving_through r.infcx.ghost_name hs d r.ambient_variance r.param_env)
+    (solving_through r.structurally_relate_aliases r.infcx.ghost_name r.goals.items s r.ambient_variance r.param_env)
+    (solving_through r.structurally_relate_aliases r.infcx.ghost_name hs d r.ambient_variance r.param_env)
     ((s.meaning).ty c.args.a.now) ((s.meaning).ty c.args.b.now) (d.meaning).ty res)
     (sym c.in_err-push-in-Contravariant.ensures.items)
-    (memory_step (held_grows r.infcx.ghost_name s d h.grows) r.goals.items IsFormed s.meaning d.meaning s.store d.store s.lawful d.lawful
+    (memory_step (held_grows r.structurally_relate_aliases r.infcx.ghost_name s d h.grows) r.goals.items IsFormed s.meaning d.meaning s.store d.store s.lawful d.lawful
     r.ambient_variance r.param_env ((s.meaning).ty c.args.a.now) ((s.meaning).ty c.args.b.now) (d.meaning).ty
     res h.grows.extends (c.requires.env_known, c.requires.goals_known) h.same_store h.grows.lawful
     (as_err res Memory c.from_residual-in_err-push-in-Contravariant.ensures.0 c.from_residual-in_err-push-in-Contravariant.ensures.1))
@@ -89,7 +89,7 @@ returns-in_ok-push-in-Contravariant-clause-stepped g c =
     let s = g.Infcx.InferCtxtLike.state r.infcx.now in
     let d = g.Infcx.InferCtxtLike.state c.subtype_predicate-in-Contravariant.new.infcx in
     let h = c.in_ok-predicate-in-Contravariant.ensures in
-    contravariant_step (held_grows r.infcx.ghost_name s d h.grows) r.goals.items c.push-in-Contravariant.new.self.items s.meaning d.meaning s.store d.store s.lawful
+    contravariant_step (held_grows r.structurally_relate_aliases r.infcx.ghost_name s d h.grows) r.goals.items c.push-in-Contravariant.new.self.items s.meaning d.meaning s.store d.store s.lawful
     d.lawful r.ambient_variance r.param_env h.grows.extends (c.requires.env_known, c.requires.goals_known) h.grows.lawful h.same_store
     c.in_ok-predicate-in-Contravariant.predicate _ c.in_ok-push-in-Contravariant.ensures.items c.args.x.0 c.args.y.0
     ((s.meaning).ty c.args.a.now) ((s.meaning).ty c.args.b.now) c.requires.a_is c.requires.b_is
@@ -103,7 +103,7 @@ returns-in-Invariant-clause-stepped g c =
     let sound = g.met.Infcx.InferCtxtLike.sound r.infcx.now c.requires.lawful in
     let d = g.Infcx.InferCtxtLike.state c.equate_ty_vids_raw.new.self in
     let done = c.equate_ty_vids_raw.ensures.equates in
-    roots_step (held_stands r.infcx.ghost_name s d done.stands) r.goals.items IsFormed s.meaning d.meaning s.store d.store s.lawful d.lawful
+    roots_step (held_stands r.structurally_relate_aliases r.infcx.ghost_name s d done.stands) r.goals.items IsFormed s.meaning d.meaning s.store d.store s.lawful d.lawful
     r.ambient_variance r.param_env type_var (no_region type_var tt) c.args.x.0 c.args.y.0 ((s.meaning).ty c.args.a.now)
     ((s.meaning).ty c.args.b.now) (d.meaning).ty c.args.a.now done.stands.meaning
     (c.requires.env_known, c.requires.goals_known) sound done.stands.lawful done.same done.equates c.requires.a_is
@@ -118,10 +118,10 @@ returns-in_err-predicate-in-Covariant-clause-registers g c =
     let b = (s.meaning).ty c.args.b.now in
     let h = c.in_err-predicate-in-Covariant.ensures in
     subst (λ z. IfSome (subtype_at z a b) (λ p. StepRegistersAlone
-    (solving_through r.infcx.ghost_name r.goals.items s r.ambient_variance r.param_env)
-    (solving_through r.infcx.ghost_name r.goals.items d r.ambient_variance r.param_env) (d.meaning).ty a p
+    (solving_through r.structurally_relate_aliases r.infcx.ghost_name r.goals.items s r.ambient_variance r.param_env)
+    (solving_through r.structurally_relate_aliases r.infcx.ghost_name r.goals.items d r.ambient_variance r.param_env) (d.meaning).ty a p
     c.from_residual.result)) (sym c.in-Covariant.is)
-    (refused_alone (held_grows r.infcx.ghost_name s d h.grows) r.goals.items r.goals.items s.meaning d.meaning s.store d.store s.lawful d.lawful
+    (refused_alone (held_grows r.structurally_relate_aliases r.infcx.ghost_name s d h.grows) r.goals.items r.goals.items s.meaning d.meaning s.store d.store s.lawful d.lawful
     r.ambient_variance r.param_env h.grows.extends (c.requires.env_known, c.requires.goals_known) h.same_store (subtype_predicate true a b)
     (d.meaning).ty a c.from_residual.result refl (as_err c.from_residual.result Memory c.from_residual.ensures.0
     c.from_residual.ensures.1))
@@ -135,10 +135,10 @@ returns-in_err-push-in-Covariant-clause-registers g c =
     let b = (s.meaning).ty c.args.b.now in
     let h = c.in_ok-predicate-in-Covariant.ensures in
     subst (λ z. IfSome (subtype_at z a b) (λ p. StepRegistersAlone
-    (solving_through r.infcx.ghost_name r.goals.items s r.ambient_variance r.param_env)
-    (solving_through r.infcx.ghost_name c.push.new.self.items d r.ambient_variance r.param_env) (d.meaning).ty a p
+    (solving_through r.structurally_relate_aliases r.infcx.ghost_name r.goals.items s r.ambient_variance r.param_env)
+    (solving_through r.structurally_relate_aliases r.infcx.ghost_name c.push.new.self.items d r.ambient_variance r.param_env) (d.meaning).ty a p
     c.from_residual-in_err-push-in-Covariant.result)) (sym c.in-Covariant.is)
-    (refused_alone (held_grows r.infcx.ghost_name s d h.grows) r.goals.items c.push.new.self.items s.meaning d.meaning s.store d.store s.lawful d.lawful
+    (refused_alone (held_grows r.structurally_relate_aliases r.infcx.ghost_name s d h.grows) r.goals.items c.push.new.self.items s.meaning d.meaning s.store d.store s.lawful d.lawful
     r.ambient_variance r.param_env h.grows.extends (c.requires.env_known, c.requires.goals_known) h.same_store (subtype_predicate true a b)
     (d.meaning).ty a c.from_residual-in_err-push-in-Covariant.result c.in_err-push-in-Covariant.ensures.items (as_err c.from_residual-in_err-push-in-Covariant.result Memory c.from_residual-in_err-push-in-Covariant.ensures.0
     c.from_residual-in_err-push-in-Covariant.ensures.1))
@@ -152,10 +152,10 @@ returns-in_ok-push-in-Covariant-clause-registers g c =
     let b = (s.meaning).ty c.args.b.now in
     let h = c.in_ok-predicate-in-Covariant.ensures in
     subst (λ z. IfSome (subtype_at z a b) (λ p. StepRegistersAlone
-    (solving_through r.infcx.ghost_name r.goals.items s r.ambient_variance r.param_env)
-    (solving_through r.infcx.ghost_name c.push.new.self.items d r.ambient_variance r.param_env) (d.meaning).ty a p
+    (solving_through r.structurally_relate_aliases r.infcx.ghost_name r.goals.items s r.ambient_variance r.param_env)
+    (solving_through r.structurally_relate_aliases r.infcx.ghost_name c.push.new.self.items d r.ambient_variance r.param_env) (d.meaning).ty a p
     (Ok (Done c.args.a.now)))) (sym c.in-Covariant.is)
-    (pushed_alone (held_grows r.infcx.ghost_name s d h.grows) r.goals.items c.push.new.self.items s.meaning d.meaning s.store d.store s.lawful d.lawful
+    (pushed_alone (held_grows r.structurally_relate_aliases r.infcx.ghost_name s d h.grows) r.goals.items c.push.new.self.items s.meaning d.meaning s.store d.store s.lawful d.lawful
     r.ambient_variance r.param_env h.grows.extends (c.requires.env_known, c.requires.goals_known) h.same_store c.in_ok-predicate-in-Covariant.predicate
     (subtype_predicate true a b) (d.meaning).ty c.args.a.now a c.in_ok-push-in-Covariant.ensures.items h.made
     (h.grows.extends.ty c.args.a.now c.requires.a_known))
@@ -169,10 +169,10 @@ returns-in_err-predicate-in-Contravariant-clause-registers g c =
     let b = (s.meaning).ty c.args.b.now in
     let h = c.in_err-predicate-in-Contravariant.ensures in
     subst (λ z. IfSome (subtype_at z a b) (λ p. StepRegistersAlone
-    (solving_through r.infcx.ghost_name r.goals.items s r.ambient_variance r.param_env)
-    (solving_through r.infcx.ghost_name r.goals.items d r.ambient_variance r.param_env) (d.meaning).ty a p
+    (solving_through r.structurally_relate_aliases r.infcx.ghost_name r.goals.items s r.ambient_variance r.param_env)
+    (solving_through r.structurally_relate_aliases r.infcx.ghost_name r.goals.items d r.ambient_variance r.param_env) (d.meaning).ty a p
     c.from_residual-in_err-predicate-in-Contravariant.result)) (sym c.in-Contravariant.is)
-    (refused_alone (held_grows r.infcx.ghost_name s d h.grows) r.goals.items r.goals.items s.meaning d.meaning s.store d.store s.lawful d.lawful
+    (refused_alone (held_grows r.structurally_relate_aliases r.infcx.ghost_name s d h.grows) r.goals.items r.goals.items s.meaning d.meaning s.store d.store s.lawful d.lawful
     r.ambient_variance r.param_env h.grows.extends (c.requires.env_known, c.requires.goals_known) h.same_store (subtype_predicate false b a)
     (d.meaning).ty a c.from_residual-in_err-predicate-in-Contravariant.result refl (as_err c.from_residual-in_err-predicate-in-Contravariant.result Memory c.from_residual-in_err-predicate-in-Contravariant.ensures.0
     c.from_residual-in_err-predicate-in-Contravariant.ensures.1))
@@ -186,10 +186,10 @@ returns-in_err-push-in-Contravariant-clause-registers g c =
     let b = (s.meaning).ty c.args.b.now in
     let h = c.in_ok-predicate-in-Contravariant.ensures in
     subst (λ z. IfSome (subtype_at z a b) (λ p. StepRegistersAlone
-    (solving_through r.infcx.ghost_name r.goals.items s r.ambient_variance r.param_env)
-    (solving_through r.infcx.ghost_name c.push-in-Contravariant.new.self.items d r.ambient_variance r.param_env) (d.meaning).ty a p
+    (solving_through r.structurally_relate_aliases r.infcx.ghost_name r.goals.items s r.ambient_variance r.param_env)
+    (solving_through r.structurally_relate_aliases r.infcx.ghost_name c.push-in-Contravariant.new.self.items d r.ambient_variance r.param_env) (d.meaning).ty a p
     c.from_residual-in_err-push-in-Contravariant.result)) (sym c.in-Contravariant.is)
-    (refused_alone (held_grows r.infcx.ghost_name s d h.grows) r.goals.items c.push-in-Contravariant.new.self.items s.meaning d.meaning s.store d.store s.lawful d.lawful
+    (refused_alone (held_grows r.structurally_relate_aliases r.infcx.ghost_name s d h.grows) r.goals.items c.push-in-Contravariant.new.self.items s.meaning d.meaning s.store d.store s.lawful d.lawful
     r.ambient_variance r.param_env h.grows.extends (c.requires.env_known, c.requires.goals_known) h.same_store (subtype_predicate false b a)
     (d.meaning).ty a c.from_residual-in_err-push-in-Contravariant.result c.in_err-push-in-Contravariant.ensures.items (as_err c.from_residual-in_err-push-in-Contravariant.result Memory c.from_residual-in_err-push-in-Contravariant.ensures.0
     c.from_residual-in_err-push-in-Contravariant.ensures.1))
@@ -203,10 +203,10 @@ returns-in_ok-push-in-Contravariant-clause-registers g c =
     let b = (s.meaning).ty c.args.b.now in
     let h = c.in_ok-predicate-in-Contravariant.ensures in
     subst (λ z. IfSome (subtype_at z a b) (λ p. StepRegistersAlone
-    (solving_through r.infcx.ghost_name r.goals.items s r.ambient_variance r.param_env)
-    (solving_through r.infcx.ghost_name c.push-in-Contravariant.new.self.items d r.ambient_variance r.param_env) (d.meaning).ty a p
+    (solving_through r.structurally_relate_aliases r.infcx.ghost_name r.goals.items s r.ambient_variance r.param_env)
+    (solving_through r.structurally_relate_aliases r.infcx.ghost_name c.push-in-Contravariant.new.self.items d r.ambient_variance r.param_env) (d.meaning).ty a p
     (Ok (Done c.args.a.now)))) (sym c.in-Contravariant.is)
-    (pushed_alone (held_grows r.infcx.ghost_name s d h.grows) r.goals.items c.push-in-Contravariant.new.self.items s.meaning d.meaning s.store d.store s.lawful d.lawful
+    (pushed_alone (held_grows r.structurally_relate_aliases r.infcx.ghost_name s d h.grows) r.goals.items c.push-in-Contravariant.new.self.items s.meaning d.meaning s.store d.store s.lawful d.lawful
     r.ambient_variance r.param_env h.grows.extends (c.requires.env_known, c.requires.goals_known) h.same_store c.in_ok-predicate-in-Contravariant.predicate
     (subtype_predicate false b a) (d.meaning).ty c.args.a.now a c.in_ok-push-in-Contravariant.ensures.items h.made
     (h.grows.extends.ty c.args.a.now c.requires.a_known))
@@ -218,6 +218,6 @@ returns-in-Invariant-clause-registers g c =
     let d = g.Infcx.InferCtxtLike.state c.equate_ty_vids_raw.new.self in
     let a = (s.meaning).ty c.args.a.now in
     subst (λ z. IfSome (subtype_at z a ((s.meaning).ty c.args.b.now)) (λ p. StepRegistersAlone
-    (solving_through r.infcx.ghost_name r.goals.items s r.ambient_variance r.param_env)
-    (solving_through r.infcx.ghost_name r.goals.items d r.ambient_variance r.param_env) (d.meaning).ty a p
+    (solving_through r.structurally_relate_aliases r.infcx.ghost_name r.goals.items s r.ambient_variance r.param_env)
+    (solving_through r.structurally_relate_aliases r.infcx.ghost_name r.goals.items d r.ambient_variance r.param_env) (d.meaning).ty a p
     (Ok (Done c.args.a.now)))) (sym c.in-Invariant.is) tt

@@ -68,19 +68,19 @@ returns-in_err-bound-in-None-ty_var-clause-stepped g c =
       shallow_free s.store type_var n ((s.meaning).ty c.args.a.now) is c.requires.a_shallow,
     ) in
     let other = type_comes_to_none s.store t n c.requires.b_shallow c.in-None-ty_var.ensures.is_none in
-    subst (λ res. Stepped solver_manner IsFormed (solving_through r.infcx.ghost_name r.goals.items s r.ambient_variance r.param_env)
-    (solving_through r.infcx.ghost_name r.goals.items d r.ambient_variance r.param_env)
+    subst (λ res. Stepped solver_manner IsFormed (solving_through r.structurally_relate_aliases r.infcx.ghost_name r.goals.items s r.ambient_variance r.param_env)
+    (solving_through r.structurally_relate_aliases r.infcx.ghost_name r.goals.items d r.ambient_variance r.param_env)
     ((s.meaning).ty c.args.a.now) ((s.meaning).ty c.args.b.now) (d.meaning).ty res)
     (sym (as_err c.from_residual.result f c.from_residual.ensures.0 c.from_residual.ensures.1))
-    (subst (λ l. Stepped solver_manner IsFormed (solving_through r.infcx.ghost_name r.goals.items s r.ambient_variance r.param_env)
-    (solving_through r.infcx.ghost_name r.goals.items d r.ambient_variance r.param_env) l t
+    (subst (λ l. Stepped solver_manner IsFormed (solving_through r.structurally_relate_aliases r.infcx.ghost_name r.goals.items s r.ambient_variance r.param_env)
+    (solving_through r.structurally_relate_aliases r.infcx.ghost_name r.goals.items d r.ambient_variance r.param_env) l t
     (d.meaning).ty (Err f)) (sym is)
-    (as_solving (held_grows r.infcx.ghost_name s d h.grows) r.goals.items s.store d.store s.lawful d.lawful r.ambient_variance r.param_env h.grows.extends
+    (as_solving (held_grows r.structurally_relate_aliases r.infcx.ghost_name s d h.grows) r.goals.items s.store d.store s.lawful d.lawful r.ambient_variance r.param_env h.grows.extends
     (c.requires.env_known, c.requires.goals_known) (λ q. Stepped solver_manner IsFormed
-    (solving_through r.infcx.ghost_name r.goals.items s r.ambient_variance r.param_env) q (leaf (variable type_var n)) t (d.meaning).ty
-    (Err f)) (left_refused (solving_through r.infcx.ghost_name r.goals.items s r.ambient_variance r.param_env)
+    (solving_through r.structurally_relate_aliases r.infcx.ghost_name r.goals.items s r.ambient_variance r.param_env) q (leaf (variable type_var n)) t (d.meaning).ty
+    (Err f)) (left_refused (solving_through r.structurally_relate_aliases r.infcx.ghost_name r.goals.items s r.ambient_variance r.param_env)
     (s.lawful × KnowsGoals s.meaning r.param_env r.goals.items) (d.lawful × KnowsGoals d.meaning r.param_env r.goals.items)
-    (still_lawful (held_grows r.infcx.ghost_name s d h.grows) r.goals.items r.param_env h.grows.extends
+    (still_lawful (held_grows r.structurally_relate_aliases r.infcx.ghost_name s d h.grows) r.goals.items r.param_env h.grows.extends
     (c.requires.env_known, c.requires.goals_known) h.grows.lawful) IsFormed s d h.grows.extends c.requires.decides sound type_var tt n t unresolved other (λ m. m.ty) CyclicTy r.ambient_variance
     (d.meaning).ty (λ o z i x. cycle_error d.meaning s.store d.store n t sound o z i other x) f h.instantiates)))
 
@@ -101,19 +101,19 @@ returns-in_err-bound-in-Some-ty_var-2-clause-stepped g c =
       shallow_free s.store type_var n ((s.meaning).ty c.args.b.now) is c.requires.b_shallow,
     ) in
     let other = type_comes_to_none s.store t n c.requires.a_shallow c.in-None.ensures.is_none in
-    subst (λ res. Stepped solver_manner IsFormed (solving_through r.infcx.ghost_name r.goals.items s r.ambient_variance r.param_env)
-    (solving_through r.infcx.ghost_name r.goals.items d r.ambient_variance r.param_env)
+    subst (λ res. Stepped solver_manner IsFormed (solving_through r.structurally_relate_aliases r.infcx.ghost_name r.goals.items s r.ambient_variance r.param_env)
+    (solving_through r.structurally_relate_aliases r.infcx.ghost_name r.goals.items d r.ambient_variance r.param_env)
     ((s.meaning).ty c.args.a.now) ((s.meaning).ty c.args.b.now) (d.meaning).ty res)
     (sym (as_err c.from_residual-in_err-bound-in-Some-ty_var-2.result f c.from_residual-in_err-bound-in-Some-ty_var-2.ensures.0 c.from_residual-in_err-bound-in-Some-ty_var-2.ensures.1))
-    (subst (λ l. Stepped solver_manner IsFormed (solving_through r.infcx.ghost_name r.goals.items s r.ambient_variance r.param_env)
-    (solving_through r.infcx.ghost_name r.goals.items d r.ambient_variance r.param_env) t l
+    (subst (λ l. Stepped solver_manner IsFormed (solving_through r.structurally_relate_aliases r.infcx.ghost_name r.goals.items s r.ambient_variance r.param_env)
+    (solving_through r.structurally_relate_aliases r.infcx.ghost_name r.goals.items d r.ambient_variance r.param_env) t l
     (d.meaning).ty (Err f)) (sym is)
-    (as_solving (held_grows r.infcx.ghost_name s d h.grows) r.goals.items s.store d.store s.lawful d.lawful r.ambient_variance r.param_env h.grows.extends
+    (as_solving (held_grows r.structurally_relate_aliases r.infcx.ghost_name s d h.grows) r.goals.items s.store d.store s.lawful d.lawful r.ambient_variance r.param_env h.grows.extends
     (c.requires.env_known, c.requires.goals_known) (λ q. Stepped solver_manner IsFormed
-    (solving_through r.infcx.ghost_name r.goals.items s r.ambient_variance r.param_env) q t (leaf (variable type_var n)) (d.meaning).ty
-    (Err f)) (right_refused (solving_through r.infcx.ghost_name r.goals.items s r.ambient_variance r.param_env)
+    (solving_through r.structurally_relate_aliases r.infcx.ghost_name r.goals.items s r.ambient_variance r.param_env) q t (leaf (variable type_var n)) (d.meaning).ty
+    (Err f)) (right_refused (solving_through r.structurally_relate_aliases r.infcx.ghost_name r.goals.items s r.ambient_variance r.param_env)
     (s.lawful × KnowsGoals s.meaning r.param_env r.goals.items) (d.lawful × KnowsGoals d.meaning r.param_env r.goals.items)
-    (still_lawful (held_grows r.infcx.ghost_name s d h.grows) r.goals.items r.param_env h.grows.extends
+    (still_lawful (held_grows r.structurally_relate_aliases r.infcx.ghost_name s d h.grows) r.goals.items r.param_env h.grows.extends
     (c.requires.env_known, c.requires.goals_known) h.grows.lawful) IsFormed s d h.grows.extends c.requires.decides sound type_var tt n t unresolved other (λ m. m.ty) CyclicTy c.xform-variance.result
     (d.meaning).ty (λ o z i x. cycle_error d.meaning s.store d.store n t sound o z i other x) f h.instantiates)))
 
@@ -135,15 +135,15 @@ returns-in_ok-bound-in-None-ty_var-clause-stepped g c =
     let root_stays : (d.meaning).ty c.args.a.now ≡ leaf (variable type_var c.in-Some.x.0) =
     grown.ty c.args.a.now k.left_known ∙ is in
     let t_stays : (d.meaning).ty c.args.b.now ≡ t = grown.ty c.args.b.now k.right_known in
-    subst (λ l. Stepped solver_manner IsFormed (solving_through r.infcx.ghost_name r.goals.items s r.ambient_variance r.param_env)
-    (solving_through r.infcx.ghost_name r.goals.items d r.ambient_variance r.param_env) l t
+    subst (λ l. Stepped solver_manner IsFormed (solving_through r.structurally_relate_aliases r.infcx.ghost_name r.goals.items s r.ambient_variance r.param_env)
+    (solving_through r.structurally_relate_aliases r.infcx.ghost_name r.goals.items d r.ambient_variance r.param_env) l t
     (d.meaning).ty (Ok (Again c.args.a.now c.args.b.now z c.args.b.now Covariant c.args.a.now))) (sym is)
-    (as_solving (held_grows r.infcx.ghost_name s d h.grows) r.goals.items s.store d.store s.lawful d.lawful r.ambient_variance r.param_env grown
+    (as_solving (held_grows r.structurally_relate_aliases r.infcx.ghost_name s d h.grows) r.goals.items s.store d.store s.lawful d.lawful r.ambient_variance r.param_env grown
     (c.requires.env_known, c.requires.goals_known) (λ q. Stepped solver_manner IsFormed
-    (solving_through r.infcx.ghost_name r.goals.items s r.ambient_variance r.param_env) q (leaf (variable type_var c.in-Some.x.0)) t (d.meaning).ty
-    (Ok (Again c.args.a.now c.args.b.now z c.args.b.now Covariant c.args.a.now))) (left_step (solving_through r.infcx.ghost_name r.goals.items s r.ambient_variance r.param_env)
+    (solving_through r.structurally_relate_aliases r.infcx.ghost_name r.goals.items s r.ambient_variance r.param_env) q (leaf (variable type_var c.in-Some.x.0)) t (d.meaning).ty
+    (Ok (Again c.args.a.now c.args.b.now z c.args.b.now Covariant c.args.a.now))) (left_step (solving_through r.structurally_relate_aliases r.infcx.ghost_name r.goals.items s r.ambient_variance r.param_env)
     (s.lawful × KnowsGoals s.meaning r.param_env r.goals.items) (d.lawful × KnowsGoals d.meaning r.param_env r.goals.items)
-    (still_lawful (held_grows r.infcx.ghost_name s d h.grows) r.goals.items r.param_env grown
+    (still_lawful (held_grows r.structurally_relate_aliases r.infcx.ghost_name s d h.grows) r.goals.items r.param_env grown
     (c.requires.env_known, c.requires.goals_known) h.grows.lawful) type_var tt s d grown sound
     (g.met.Infcx.InferCtxtLike.numbers r.infcx.now c.requires.lawful)
     (g.met.Infcx.InferCtxtLike.covered q h.grows.lawful) c.in-Some.x.0 t ((d.meaning).ty z) k.right_taken.1 k.right_in
@@ -170,15 +170,15 @@ returns-in_ok-bound-in-Some-ty_var-2-clause-stepped g c =
     let root_stays : (d.meaning).ty c.args.b.now ≡ leaf (variable type_var c.in-Some-ty_var-2.y.0) =
     grown.ty c.args.b.now k.right_known ∙ is in
     let t_stays : (d.meaning).ty c.args.a.now ≡ t = grown.ty c.args.a.now k.left_known in
-    subst (λ l. Stepped solver_manner IsFormed (solving_through r.infcx.ghost_name r.goals.items s r.ambient_variance r.param_env)
-    (solving_through r.infcx.ghost_name r.goals.items d r.ambient_variance r.param_env) t l
+    subst (λ l. Stepped solver_manner IsFormed (solving_through r.structurally_relate_aliases r.infcx.ghost_name r.goals.items s r.ambient_variance r.param_env)
+    (solving_through r.structurally_relate_aliases r.infcx.ghost_name r.goals.items d r.ambient_variance r.param_env) t l
     (d.meaning).ty (Ok (Again c.args.a.now c.args.b.now c.args.a.now z Covariant c.args.a.now))) (sym is)
-    (as_solving (held_grows r.infcx.ghost_name s d h.grows) r.goals.items s.store d.store s.lawful d.lawful r.ambient_variance r.param_env grown
+    (as_solving (held_grows r.structurally_relate_aliases r.infcx.ghost_name s d h.grows) r.goals.items s.store d.store s.lawful d.lawful r.ambient_variance r.param_env grown
     (c.requires.env_known, c.requires.goals_known) (λ q. Stepped solver_manner IsFormed
-    (solving_through r.infcx.ghost_name r.goals.items s r.ambient_variance r.param_env) q t (leaf (variable type_var c.in-Some-ty_var-2.y.0)) (d.meaning).ty
-    (Ok (Again c.args.a.now c.args.b.now c.args.a.now z Covariant c.args.a.now))) (right_step (solving_through r.infcx.ghost_name r.goals.items s r.ambient_variance r.param_env)
+    (solving_through r.structurally_relate_aliases r.infcx.ghost_name r.goals.items s r.ambient_variance r.param_env) q t (leaf (variable type_var c.in-Some-ty_var-2.y.0)) (d.meaning).ty
+    (Ok (Again c.args.a.now c.args.b.now c.args.a.now z Covariant c.args.a.now))) (right_step (solving_through r.structurally_relate_aliases r.infcx.ghost_name r.goals.items s r.ambient_variance r.param_env)
     (s.lawful × KnowsGoals s.meaning r.param_env r.goals.items) (d.lawful × KnowsGoals d.meaning r.param_env r.goals.items)
-    (still_lawful (held_grows r.infcx.ghost_name s d h.grows) r.goals.items r.param_env grown
+    (still_lawful (held_grows r.structurally_relate_aliases r.infcx.ghost_name s d h.grows) r.goals.items r.param_env grown
     (c.requires.env_known, c.requires.goals_known) h.grows.lawful) type_var tt s d grown sound
     (g.met.Infcx.InferCtxtLike.numbers r.infcx.now c.requires.lawful)
     (g.met.Infcx.InferCtxtLike.covered q h.grows.lawful) c.in-Some-ty_var-2.y.0 t ((d.meaning).ty z) k.left_taken.1

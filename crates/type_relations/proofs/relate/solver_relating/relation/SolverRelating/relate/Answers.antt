@@ -13,7 +13,7 @@ returns-clause-related g c =
     let d = g.Infcx.InferCtxtLike.state q.infcx.now in
     let over = g.T.Relate.over in
     let tree = g.T.HasTree.tree in
-    as_before (held_by r.infcx.ghost_name s) (held_by q.infcx.ghost_name d) r.goals.items q.goals.items s.meaning
+    as_before (held_by r.structurally_relate_aliases r.infcx.ghost_name s) (held_by q.structurally_relate_aliases q.infcx.ghost_name d) r.goals.items q.goals.items s.meaning
     d.meaning s.store d.store s.lawful d.lawful r.ambient_variance q.ambient_variance r.param_env q.param_env
     c.requires.env_known
     (term_in s over tree c.args.a.now) (term_in s over tree c.args.b.now) (term_in d over tree) c.relate.result
@@ -30,3 +30,6 @@ returns-clause-environment g c = same_environment ((c.relate.ensures.related).pa
 
 pub returns-clause-same_reference : goal.returns-clause-same_reference
 returns-clause-same_reference g c = ap (λ k. k.reference) ((c.relate.ensures.related).passes).kept
+
+pub returns-clause-aliases : goal.returns-clause-aliases
+returns-clause-aliases g c = ap (λ k. k.settings.structurally_relate_aliases) ((c.relate.ensures.related).passes).kept

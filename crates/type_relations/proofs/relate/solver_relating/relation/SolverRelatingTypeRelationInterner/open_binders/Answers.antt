@@ -19,7 +19,7 @@ returns-then-round-gt0 g c =
     let b = c.args.b.now in
     let none : (bound_var_escapes (tree a.value) || bound_var_escapes (tree b.value)) ≡ false =
     grind (arith, common_steps) in
-    no_more r.infcx.ghost_name r.goals.items s r.ambient_variance r.param_env c.requires.lawful.1
+    no_more r.structurally_relate_aliases r.infcx.ghost_name r.goals.items s r.ambient_variance r.param_env c.requires.lawful.1
     (grows_itself s c.requires.lawful.0) (tree a.value) (tree b.value)
     c.args.round tree ((s.meaning).bound_vars a.bound_vars) ((s.meaning).bound_vars b.bound_vars) c.requires.asked
     (grind (arith, common_steps)) (inr none)
@@ -33,7 +33,7 @@ returns-then-not-one_uses g c =
     let b = c.args.b.now in
     let none : (bound_var_escapes (tree a.value) || bound_var_escapes (tree b.value)) ≡ false =
     grind (arith, common_steps) in
-    opens_none r.infcx.ghost_name r.goals.items s r.ambient_variance r.param_env c.requires.lawful.1
+    opens_none r.structurally_relate_aliases r.infcx.ghost_name r.goals.items s r.ambient_variance r.param_env c.requires.lawful.1
     (grows_itself s c.requires.lawful.0) (tree a.value) (tree b.value)
     c.args.round tree ((s.meaning).bound_vars a.bound_vars) ((s.meaning).bound_vars b.bound_vars) c.requires.asked
     c.requires.decides (g.met.Infcx.InferCtxtLike.sound r.infcx.now c.requires.lawful.0) none
@@ -69,7 +69,7 @@ returns-in_err-y g c =
     let d = g.Infcx.InferCtxtLike.state c.enter_and_instantiate.new.infcx in
     let done = c.in_err-y.ensures in
     let h = done.opens in
-    opening_refused r.infcx.ghost_name r.goals.items s d r.ambient_variance r.param_env c.requires.lawful.1
+    opening_refused r.structurally_relate_aliases r.infcx.ghost_name r.goals.items s d r.ambient_variance r.param_env c.requires.lawful.1
     (g.met.Infcx.InferCtxtLike.sound r.infcx.now c.requires.lawful.0) done.grows h.0 h.1 h.2 c.args.round
     (binder_tree g.T.HasTree.tree s.meaning c.args.a.now) (binder_tree g.T.HasTree.tree s.meaning c.args.b.now)
     (g.T.HasTree.tree d.meaning) c.from_residual.result
@@ -87,7 +87,7 @@ returns-then-enters_second g c =
     grind (arith, common_steps) in
     let done = c.in_ok-y.ensures in
     let at = c.enters_second.ensures.0 c.if-enters_second.true in
-    opens_second r.infcx.ghost_name r.goals.items s d r.ambient_variance r.param_env c.requires.lawful.1
+    opens_second r.structurally_relate_aliases r.infcx.ghost_name r.goals.items s d r.ambient_variance r.param_env c.requires.lawful.1
     (g.met.Infcx.InferCtxtLike.sound r.infcx.now c.requires.lawful.0) done.grows c.args.round (tree s.meaning a.value)
     (tree s.meaning b.value) tree c.in_ok-y.x c.in_ok-y.y some ((s.meaning).bound_vars a.bound_vars)
     ((s.meaning).bound_vars b.bound_vars) c.requires.asked done.opens at.0 at.1
@@ -100,7 +100,7 @@ returns-in_err-x g c =
     let done = c.in_err-x.ensures in
     let h = done.opens in
     let from = c.from_residual-in_err-x in
-    opening_refused r.infcx.ghost_name r.goals.items s d r.ambient_variance r.param_env c.requires.lawful.1
+    opening_refused r.structurally_relate_aliases r.infcx.ghost_name r.goals.items s d r.ambient_variance r.param_env c.requires.lawful.1
     (g.met.Infcx.InferCtxtLike.sound r.infcx.now c.requires.lawful.0) done.grows h.0 h.1 h.2 c.args.round
     (binder_tree g.T.HasTree.tree s.meaning c.args.a.now) (binder_tree g.T.HasTree.tree s.meaning c.args.b.now)
     (g.T.HasTree.tree d.meaning) from.result (as_err from.result Memory from.ensures.0 from.ensures.1)
@@ -116,7 +116,7 @@ returns-then-enters_first g c =
     let some : (bound_var_escapes (tree s.meaning a.value) || bound_var_escapes (tree s.meaning b.value)) ≡ true =
     grind (arith, common_steps) in
     let done = c.in_ok-x.ensures in
-    opens_first r.infcx.ghost_name r.goals.items s d r.ambient_variance r.param_env c.requires.lawful.1
+    opens_first r.structurally_relate_aliases r.infcx.ghost_name r.goals.items s d r.ambient_variance r.param_env c.requires.lawful.1
     (g.met.Infcx.InferCtxtLike.sound r.infcx.now c.requires.lawful.0) done.grows c.args.round (tree s.meaning a.value)
     (tree s.meaning b.value) tree c.in_ok-x.x c.in_ok-x.y some ((s.meaning).bound_vars a.bound_vars)
     ((s.meaning).bound_vars b.bound_vars) c.requires.asked done.opens
@@ -132,7 +132,7 @@ returns g c =
     let last = opens_neither r.ambient_variance c.args.round c.requires.decides c.requires.round
     (λ h. false≢true (sym c.if-enters_second.false ∙ c.enters_second.ensures.1 h))
     (λ h. false≢true (sym c.if-enters_first.false ∙ c.enters_first.ensures.1 h)) in
-    no_more r.infcx.ghost_name r.goals.items s r.ambient_variance r.param_env c.requires.lawful.1
+    no_more r.structurally_relate_aliases r.infcx.ghost_name r.goals.items s r.ambient_variance r.param_env c.requires.lawful.1
     (grows_itself s c.requires.lawful.0) (tree a.value) (tree b.value)
     c.args.round tree ((s.meaning).bound_vars a.bound_vars) ((s.meaning).bound_vars b.bound_vars) c.requires.asked
     last.0 (inl last.1)

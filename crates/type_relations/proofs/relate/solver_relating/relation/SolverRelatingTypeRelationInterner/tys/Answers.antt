@@ -21,9 +21,9 @@ returns-then-eq-clause-stepped g c =
     let same = one_ty of c.args.a.now c.args.b.now (λ h i.
     (g.met.Infcx.Interner.Interner.same_ty cx c.args.a.now c.args.b.now h i).0 (sym c.if-eq.ensures)) k.left_known
     k.right_known in
-    answered_step (held_kept r.infcx.ghost_name s s refl refl) r.goals.items IsFormed s.meaning s.meaning s.store s.store s.lawful s.lawful r.ambient_variance
+    answered_step (held_kept r.structurally_relate_aliases r.infcx.ghost_name s s refl refl) r.goals.items IsFormed s.meaning s.meaning s.store s.store s.lawful s.lawful r.ambient_variance
     r.param_env ((s.meaning).ty c.args.a.now) ((s.meaning).ty c.args.b.now) (s.meaning).ty c.args.a.now
-    (itself_related solver_manner (solving_through r.infcx.ghost_name r.goals.items s r.ambient_variance r.param_env)
+    (itself_related solver_manner (solving_through r.structurally_relate_aliases r.infcx.ghost_name r.goals.items s r.ambient_variance r.param_env)
     r.ambient_variance (s.meaning).ty ((s.meaning).ty c.args.a.now) ((s.meaning).ty c.args.b.now) c.args.a.now same
     refl k.left_known)
 
@@ -54,8 +54,8 @@ returns-clause-stepped g c =
     let s = g.Infcx.InferCtxtLike.state r.infcx.now in
     let q = c.combine_tys.new.self in
     let d = g.Infcx.InferCtxtLike.state q.infcx.now in
-    read_step (solving_through r.infcx.ghost_name r.goals.items s r.ambient_variance r.param_env)
-    (solving_through q.infcx.ghost_name q.goals.items d q.ambient_variance q.param_env)
+    read_step (solving_through r.structurally_relate_aliases r.infcx.ghost_name r.goals.items s r.ambient_variance r.param_env)
+    (solving_through q.structurally_relate_aliases q.infcx.ghost_name q.goals.items d q.ambient_variance q.param_env)
     (g.met.Infcx.InferCtxtLike.sound r.infcx.now c.requires.lawful.0) ((s.meaning).ty c.args.a.now)
     ((s.meaning).ty c.args.b.now) ((s.meaning).ty c.shallow_resolve-left.result)
     ((s.meaning).ty c.shallow_resolve-right.result) c.shallow_resolve-left.ensures.reads.reads
@@ -67,7 +67,7 @@ returns-then-have_no_variable-clause-stepped g c =
     let s = g.Infcx.InferCtxtLike.state r.infcx.now in
     let k = c.requires.asked in
     let none = c.have_no_variable.ensures in
-    let z = solving_through r.infcx.ghost_name r.goals.items s r.ambient_variance r.param_env in
+    let z = solving_through r.structurally_relate_aliases r.infcx.ghost_name r.goals.items s r.ambient_variance r.param_env in
     parts_step z s.meaning s.store z.lawful z.lawful (λ l. l) IsFormed
     ((s.meaning).ty c.args.a.now) ((s.meaning).ty c.args.b.now) (s.meaning).ty c.args.a.now c.args.b.now
     (g.met.Infcx.InferCtxtLike.sound r.infcx.now c.requires.lawful.0) (itself refl) (itself refl) k
@@ -84,8 +84,8 @@ returns-then-eq-clause-registers g c =
     let same = one_ty of c.args.a.now c.args.b.now (λ h i.
     (g.met.Infcx.Interner.Interner.same_ty cx c.args.a.now c.args.b.now h i).0 (sym c.if-eq.ensures)) k.left_known
     k.right_known in
-    step_of_one solver_manner (solving_through r.infcx.ghost_name r.goals.items s r.ambient_variance r.param_env)
-    (solving_through r.infcx.ghost_name r.goals.items s r.ambient_variance r.param_env) ((s.meaning).ty c.args.a.now)
+    step_of_one solver_manner (solving_through r.structurally_relate_aliases r.infcx.ghost_name r.goals.items s r.ambient_variance r.param_env)
+    (solving_through r.structurally_relate_aliases r.infcx.ghost_name r.goals.items s r.ambient_variance r.param_env) ((s.meaning).ty c.args.a.now)
     ((s.meaning).ty c.args.b.now) (s.meaning).ty (Ok (Done c.args.a.now)) same
 
 pub returns-then-have_no_variable-clause-registers : goal.returns-then-have_no_variable-clause-registers
@@ -93,8 +93,8 @@ returns-then-have_no_variable-clause-registers g c =
     let r = c.args.self.now in
     let s = g.Infcx.InferCtxtLike.state r.infcx.now in
     let none = c.have_no_variable.ensures in
-    step_left_none solver_manner (solving_through r.infcx.ghost_name r.goals.items s r.ambient_variance r.param_env)
-    (solving_through r.infcx.ghost_name r.goals.items s r.ambient_variance r.param_env) ((s.meaning).ty c.args.a.now)
+    step_left_none solver_manner (solving_through r.structurally_relate_aliases r.infcx.ghost_name r.goals.items s r.ambient_variance r.param_env)
+    (solving_through r.structurally_relate_aliases r.infcx.ghost_name r.goals.items s r.ambient_variance r.param_env) ((s.meaning).ty c.args.a.now)
     ((s.meaning).ty c.args.b.now) (s.meaning).ty (Ok (Parts c.args.a.now c.args.b.now)) (λ h. subst IsFormed h.1
     (none.a_formed c.if-have_no_variable.true c.requires.asked.left_taken.1
     (term_within s.store _ c.requires.asked.left_in)))
@@ -105,8 +105,8 @@ returns-clause-registers g c =
     let s = g.Infcx.InferCtxtLike.state r.infcx.now in
     let q = c.combine_tys.new.self in
     let d = g.Infcx.InferCtxtLike.state q.infcx.now in
-    read_registers solver_manner (solving_through r.infcx.ghost_name r.goals.items s r.ambient_variance r.param_env)
-    (solving_through q.infcx.ghost_name q.goals.items d q.ambient_variance q.param_env) ((s.meaning).ty c.args.a.now)
+    read_registers solver_manner (solving_through r.structurally_relate_aliases r.infcx.ghost_name r.goals.items s r.ambient_variance r.param_env)
+    (solving_through q.structurally_relate_aliases q.infcx.ghost_name q.goals.items d q.ambient_variance q.param_env) ((s.meaning).ty c.args.a.now)
     ((s.meaning).ty c.args.b.now) (d.meaning).ty c.combine_tys.result ((s.meaning).ty c.shallow_resolve-left.result)
     ((s.meaning).ty c.shallow_resolve-right.result) c.shallow_resolve-left.ensures.reads.reads
     c.shallow_resolve-right.ensures.reads.reads c.shallow_resolve-left.ensures.shallow

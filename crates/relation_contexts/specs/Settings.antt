@@ -1,0 +1,24 @@
+-- How contexts and relations are set up.
+use Rattle.std.specs.Prelude.{Bool, true, false}
+use Rattle.relation_contexts.specs.declared.infer_ctxt.TypingMode.{TypingMode}
+use Rattle.relation_contexts.specs.declared.infer_ctxt.TypingMode.TheVariants.{Coherence}
+use Rattle.relation_contexts.specs.declared.relate.StructurallyRelateAliases.{StructurallyRelateAliases}
+
+-- A typing mode is that of coherence.
+abbrev pub in_coherence : {Key : Type 0} → TypingMode Key → Bool
+in_coherence Coherence = true
+in_coherence m = false
+
+-- How a context was made: whether the next solver is on, and its typing mode.
+pub record Setup (Key : Type 0) : Type 0 where
+  pub is_next_solver : Bool
+  pub typing_mode : TypingMode Key
+
+-- How a relation was set up: whether it relates aliases by their items and arguments, or by goals; whether the next
+-- solver is to answer its goals, or the old one; whether it relates in coherence; and whether it relates items'
+-- arguments at declared variances at invariance too.
+pub record Settings : Type 0 where
+  pub structurally_relate_aliases : StructurallyRelateAliases
+  pub next_solver : Bool
+  pub coherence : Bool
+  pub declared_at_invariance : Bool
