@@ -7,14 +7,6 @@ use Rattle.relation_terms.specs.declared.terms.keys.ArgsKey.{ArgsKey}
 use Rattle.relation_terms.specs.declared.terms.keys.PatKey.{PatKey}
 use Rattle.relation_terms.specs.declared.terms.alias.AliasTyKind.{AliasTyKind}
 use Rattle.relation_terms.specs.declared.terms.alias.AliasTyKind.TheVariants.{Projection, Inherent, Opaque, Free}
-use Rattle.term_enums.specs.declared.IntTy.{IntTy}
-use Rattle.term_enums.specs.declared.IntTy.TheVariants.{Isize, I8, I16, I32, I64, I128}
-use Rattle.term_enums.specs.declared.UintTy.{UintTy}
-use Rattle.term_enums.specs.declared.UintTy.TheVariants.{Usize, U8, U16, U32, U64, U128}
-use Rattle.term_enums.specs.declared.FloatTy.{FloatTy}
-use Rattle.term_enums.specs.declared.FloatTy.TheVariants.{F16, F32, F64, F128}
-use Rattle.term_enums.specs.declared.Mutability.{Mutability}
-use Rattle.term_enums.specs.declared.Mutability.TheVariants.{Not, Mut}
 use Rattle.relation_terms.specs.declared.terms.ty_kind.InferTy.TheVariants.{TyVar, IntVar, FloatVar}
 use Rattle.relation_terms.specs.declared.terms.ty_kind.InferTy.TheVariants.{FreshTy, FreshIntTy, FreshFloatTy}
 use Rattle.relation_terms.specs.declared.terms.ty_kind.TyKind.{TyKind}
@@ -45,6 +37,8 @@ use Rattle.relation_terms.specs.declared.terms.generic_arg.GenericArgKind.{Gener
 use Rattle.relation_terms.specs.declared.terms.generic_arg.GenericArgKind.TheVariants.{Lifetime, Ty as TyArg}
 use Rattle.relation_terms.specs.declared.terms.generic_arg.GenericArgKind.TheVariants.{Const as ConstArg}
 use Rattle.relation_terms.specs.declared.terms.ty_kind.TyKind.TheVariants.{FnPtr, UnsafeBinder, Dynamic}
+use Rattle.relation_terms.proofs.Widths.{mut_eq, int_same, int_self, uint_same, uint_self, float_same, float_self}
+use Rattle.relation_terms.proofs.Widths.{mut_same, mut_self}
 use Rattle.relation_terms.proofs.Same.{header_eq, header_same, header_self}
 use Rattle.reference_interner.specs.declared.keys.NodeKey.{NodeKey}
 use Rattle.reference_interner.specs.declared.keys.ItemId.{ItemId}
@@ -56,25 +50,9 @@ use Rattle.reference_interner.specs.contracts.node.NodePartialEq.TheImpl as node
 use Rattle.reference_interner.specs.contracts.keys.NodeKeyPartialEq.TheImpl as key_impl
 use Rattle.reference_interner.specs.contracts.keys.NodeKey as key
 use Rattle.relation_terms.specs.contracts.terms.generic_arg.GenericArgKindPartialEq.TheImpl as arg_impl
-use Rattle.term_enums.specs.contracts.IntTyPartialEq.TheImpl as int_impl
-use Rattle.term_enums.specs.contracts.UintTyPartialEq.TheImpl as uint_impl
-use Rattle.term_enums.specs.contracts.FloatTyPartialEq.TheImpl as float_impl
-use Rattle.term_enums.specs.contracts.MutabilityPartialEq.TheImpl as mut_impl
 
 abbrev pub node_eq : Node → Node → Bool
 node_eq = node_impl.ghosts.eq
-
-abbrev int_eq : IntTy → IntTy → Bool
-int_eq = int_impl.ghosts.eq
-
-abbrev uint_eq : UintTy → UintTy → Bool
-uint_eq = uint_impl.ghosts.eq
-
-abbrev float_eq : FloatTy → FloatTy → Bool
-float_eq = float_impl.ghosts.eq
-
-abbrev mut_eq : Mutability → Mutability → Bool
-mut_eq = mut_impl.ghosts.eq
 
 abbrev pub arg_eq : GenericArgKind NodeKey → GenericArgKind NodeKey → Bool
 arg_eq = (arg_impl.ghosts key.the_row key_impl.ghosts key_impl.dict).eq
@@ -90,62 +68,6 @@ pat_eq t u = eqb (t.0).0 (u.0).0
 
 abbrev alias : AliasTyKind ItemId → ArgsKey NodeKey → TyKind NodeKey ItemId SymbolId
 alias k a = Alias (record { kind = k; args = a })
-
-int_same : (i j : IntTy) → IsTrue (int_eq i j) → i ≡ j
-int_same Isize Isize h = refl
-int_same I8 I8 h = refl
-int_same I16 I16 h = refl
-int_same I32 I32 h = refl
-int_same I64 I64 h = refl
-int_same I128 I128 h = refl
-int_same _ _ h = absurd (false≢true h)
-
-int_self : (i : IntTy) → IsTrue (int_eq i i)
-int_self Isize = refl
-int_self I8 = refl
-int_self I16 = refl
-int_self I32 = refl
-int_self I64 = refl
-int_self I128 = refl
-
-uint_same : (i j : UintTy) → IsTrue (uint_eq i j) → i ≡ j
-uint_same Usize Usize h = refl
-uint_same U8 U8 h = refl
-uint_same U16 U16 h = refl
-uint_same U32 U32 h = refl
-uint_same U64 U64 h = refl
-uint_same U128 U128 h = refl
-uint_same _ _ h = absurd (false≢true h)
-
-uint_self : (i : UintTy) → IsTrue (uint_eq i i)
-uint_self Usize = refl
-uint_self U8 = refl
-uint_self U16 = refl
-uint_self U32 = refl
-uint_self U64 = refl
-uint_self U128 = refl
-
-float_same : (i j : FloatTy) → IsTrue (float_eq i j) → i ≡ j
-float_same F16 F16 h = refl
-float_same F32 F32 h = refl
-float_same F64 F64 h = refl
-float_same F128 F128 h = refl
-float_same _ _ h = absurd (false≢true h)
-
-float_self : (i : FloatTy) → IsTrue (float_eq i i)
-float_self F16 = refl
-float_self F32 = refl
-float_self F64 = refl
-float_self F128 = refl
-
-mut_same : (i j : Mutability) → IsTrue (mut_eq i j) → i ≡ j
-mut_same Not Not h = refl
-mut_same Mut Mut h = refl
-mut_same _ _ h = absurd (false≢true h)
-
-mut_self : (i : Mutability) → IsTrue (mut_eq i i)
-mut_self Not = refl
-mut_self Mut = refl
 
 pub eqb_self : (n : ℕ) → IsTrue (eqb n n)
 eqb_self n = eq-eqb n n refl

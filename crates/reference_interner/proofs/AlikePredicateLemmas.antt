@@ -2,6 +2,7 @@
 use Rattle.std.proofs.Common.{◌≡◌, IsTrue, Bool, true, false, ◌&&◌, eqb, refl, ap, ap₂, ◌∙◌}
 use Rattle.std.proofs.lemmas.Bool.{false≢true, eqb-true, and_parts, and_from}
 use Rattle.std.proofs.Math.Bool.{beq}
+use Rattle.relation_terms.proofs.Same.{bool_same, bool_self}
 use Rattle.term_enums.specs.declared.PredicatePolarity.{PredicatePolarity}
 use Rattle.term_enums.specs.declared.PredicatePolarity.TheVariants.{Positive, Negative}
 use Rattle.term_enums.specs.declared.BoundConstness.{BoundConstness}
@@ -73,15 +74,6 @@ abbrev predicate_eq : PredicateKind NodeKey ItemId SymbolId → PredicateKind No
 predicate_eq =
     (predicate_impl.ghosts key.the_row item.the_row symbol.the_row key_impl.ghosts key_impl.dict item_impl.ghosts
     item_impl.dict symbol_impl.ghosts symbol_impl.dict).eq
-
-bool_same : (a b : Bool) → IsTrue (beq a b) → a ≡ b
-bool_same true true h = refl
-bool_same false false h = refl
-bool_same _ _ h = absurd (false≢true h)
-
-bool_self : (a : Bool) → IsTrue (beq a a)
-bool_self true = refl
-bool_self false = refl
 
 polarity_same : (a b : PredicatePolarity) → IsTrue (polarity_eq a b) → a ≡ b
 polarity_same Positive Positive h = refl

@@ -9,4 +9,3 @@ pub mod Places
 pub mod Laws
 pub mod Adding
 pub mod Flags
-pub mod Hashing

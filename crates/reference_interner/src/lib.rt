@@ -9,7 +9,6 @@ ghost use Rattle.reference_interner.specs.Flags.{AreFlags};
 ghost use Rattle.reference_interner.specs.Stated.{AllStated, stated_prop};
 
 mod flags;
-mod hashing;
 mod items;
 mod keys;
 mod node;
@@ -17,7 +16,7 @@ mod short_list;
 mod stating;
 mod table;
 
-use hashing::NodeHasher;
+use relation_terms::hashing::KeyHasher;
 pub use items::{DefKind, GenericParam, GenericParamKind, Item, ItemKind};
 pub use keys::{ItemId, NoSpan, NodeKey, SymbolId};
 pub use node::Node;
@@ -46,7 +45,7 @@ pub struct RefInterner {
     // What the keys stand for, by their numbers.
     nodes: Vec<Node>,
     // Where the nodes stand.
-    places: HashMap<Node, u32, BuildHasherDefault<NodeHasher>>,
+    places: HashMap<Node, u32, BuildHasherDefault<KeyHasher>>,
     // What the ids stand for, by their numbers.
     items: Vec<Item>,
     // What is asked of the nodes' terms as a whole, by the nodes' numbers.

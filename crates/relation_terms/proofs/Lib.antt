@@ -7,6 +7,7 @@ pub mod Members
 pub mod Parts
 pub mod Orders
 pub mod Same
+pub mod Widths
 pub mod Predicates
 pub mod Fields
 pub mod Clauses

@@ -223,23 +223,23 @@ module _ {K P : Type 0} (f : K → Tree) (g : P → Tree) (h : K → P) (e : (k 
   mapped xs ys q = all_mapped xs ∙ ap (list_tree g) q
 
 -- The sorts of known trees.
-region_only : (x : Sort) → Admits region_sort x → x ≡ region_sort
+pub region_only : (x : Sort) → Admits region_sort x → x ≡ region_sort
 region_only region_sort h = refl
 region_only x h = absurd h
 
-type_only : (x : Sort) → Admits type_sort x → x ≡ type_sort
+pub type_only : (x : Sort) → Admits type_sort x → x ≡ type_sort
 type_only type_sort h = refl
 type_only x h = absurd h
 
-const_only : (x : Sort) → Admits const_sort x → x ≡ const_sort
+pub const_only : (x : Sort) → Admits const_sort x → x ≡ const_sort
 const_only const_sort h = refl
 const_only x h = absurd h
 
-value_only : (x : Sort) → Admits value_sort x → x ≡ value_sort
+pub value_only : (x : Sort) → Admits value_sort x → x ≡ value_sort
 value_only value_sort h = refl
 value_only x h = absurd h
 
-pattern_only : (x : Sort) → Admits pattern_sort x → x ≡ pattern_sort
+pub pattern_only : (x : Sort) → Admits pattern_sort x → x ≡ pattern_sort
 pattern_only pattern_sort h = refl
 pattern_only x h = absurd h
 
@@ -269,7 +269,7 @@ pattern_term (node g ts) h = pattern_only (head_sort g) h.0
 pattern_term t h = absurd h
 
 -- No form is a region: one has no parts.
-no_region : (h : Head) → Admits region_sort (head_sort h) → ⊥
+pub no_region : (h : Head) → Admits region_sort (head_sort h) → ⊥
 no_region (adt d) q = q
 no_region (fn_def d) q = q
 no_region (closure d) q = q
@@ -334,7 +334,7 @@ over_none (bind ks t) us e f = absurd (cc)
 over_none nil us e f = refl
 over_none (cons t ts) us e f = refl
 
-existential_only : (x : Sort) → Admits existential_sort x → x ≡ existential_sort
+pub existential_only : (x : Sort) → Admits existential_sort x → x ≡ existential_sort
 existential_only existential_sort h = refl
 existential_only x h = absurd h
 

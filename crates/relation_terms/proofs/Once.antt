@@ -112,20 +112,20 @@ list_once f s (x ∷ xs) (y ∷ ys) k e =
 list_once f s xs ys k e = absurd (cc)
 
 -- No tree is a term of two sorts that admit no common one.
-apart : (s u : Sort) → ((x : Sort) → Admits s x → Admits u x → ⊥) → (t : Tree) → IsTerm s t → IsTerm u t → ⊥
+pub apart : (s u : Sort) → ((x : Sort) → Admits s x → Admits u x → ⊥) → (t : Tree) → IsTerm s t → IsTerm u t → ⊥
 apart s u f (leaf l) p q = f (leaf_sort l) p q
 apart s u f (node h ts) p q = f (head_sort h) p.0 q.0
 apart s u f t p q = absurd p
 
-region_no_type : (x : Sort) → Admits region_sort x → Admits type_sort x → ⊥
+pub region_no_type : (x : Sort) → Admits region_sort x → Admits type_sort x → ⊥
 region_no_type region_sort p q = q
 region_no_type x p q = p
 
-region_no_const : (x : Sort) → Admits region_sort x → Admits const_sort x → ⊥
+pub region_no_const : (x : Sort) → Admits region_sort x → Admits const_sort x → ⊥
 region_no_const region_sort p q = q
 region_no_const x p q = p
 
-type_no_const : (x : Sort) → Admits type_sort x → Admits const_sort x → ⊥
+pub type_no_const : (x : Sort) → Admits type_sort x → Admits const_sort x → ⊥
 type_no_const type_sort p q = q
 type_no_const x p q = p
 

@@ -30,12 +30,12 @@ abi_eq = abi_impl.ghosts.eq
 abbrev pub header_eq : FnHeader → FnHeader → Bool
 header_eq = header_impl.ghosts.eq
 
-bool_same : (a b : Bool) → IsTrue (beq a b) → a ≡ b
+pub bool_same : (a b : Bool) → IsTrue (beq a b) → a ≡ b
 bool_same true true h = refl
 bool_same false false h = refl
 bool_same _ _ h = absurd (false≢true h)
 
-bool_self : (a : Bool) → IsTrue (beq a a)
+pub bool_self : (a : Bool) → IsTrue (beq a a)
 bool_self true = refl
 bool_self false = refl
 

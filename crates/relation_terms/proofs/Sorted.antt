@@ -72,15 +72,15 @@ widen s u f (leaf l) h = f (leaf_sort l) h
 widen s u f (node x ts) h = (f (head_sort x) h.0, h.1)
 widen s u f t h = absurd h
 
-region_admitted : (x : Sort) → Admits region_sort x → Admits argument_sort x
+pub region_admitted : (x : Sort) → Admits region_sort x → Admits argument_sort x
 region_admitted region_sort h = tt
 region_admitted x h = absurd h
 
-type_admitted : (x : Sort) → Admits type_sort x → Admits argument_sort x
+pub type_admitted : (x : Sort) → Admits type_sort x → Admits argument_sort x
 type_admitted type_sort h = tt
 type_admitted x h = absurd h
 
-const_admitted : (x : Sort) → Admits const_sort x → Admits argument_sort x
+pub const_admitted : (x : Sort) → Admits const_sort x → Admits argument_sort x
 const_admitted const_sort h = tt
 const_admitted x h = absurd h
 

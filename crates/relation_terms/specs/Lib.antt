@@ -19,3 +19,4 @@ pub mod Aliases
 pub mod Objects
 pub mod Edited
 pub mod Equality
+pub mod Hashing

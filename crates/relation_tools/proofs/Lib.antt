@@ -10,7 +10,6 @@ mod Unlike
 pub mod Instancing
 pub mod Rejecting
 pub mod KeysApart
-mod SameKeys
 pub mod Themselves
 pub mod Keying
 pub mod Positioning

@@ -5,7 +5,6 @@ pub mod Positions
 pub mod Pairs
 pub mod Instances
 pub mod Rejecting
-pub mod Hashing
 pub mod HeadKeys
 pub mod KeyLaws
 pub mod InstanceLaws

@@ -14,8 +14,8 @@ use Rattle.relation_tools.specs.declared.fast_reject.simplify.SimplifiedType.The
 use Rattle.relation_tools.specs.declared.fast_reject.simplify.SimplifiedType.TheVariants.{UnsafeBinder, Placeholder}
 use Rattle.relation_tools.specs.declared.fast_reject.simplify.SimplifiedType.TheVariants.{Error}
 use Rattle.relation_tools.specs.contracts.fast_reject.simplify.SimplifiedTypePartialEq.TheImpl as key_impl
-use Rattle.relation_tools.proofs.SameKeys.{int_eq, int_same, int_self, uint_eq, uint_same, uint_self}
-use Rattle.relation_tools.proofs.SameKeys.{float_eq, float_same, float_self, mut_eq, mut_same, mut_self}
+use Rattle.relation_terms.proofs.Widths.{int_eq, int_same, int_self, uint_eq, uint_same, uint_self}
+use Rattle.relation_terms.proofs.Widths.{float_eq, float_same, float_self, mut_eq, mut_same, mut_self}
 use Rattle.relation_tools.proofs.laws.equal_keys.Goals as goal
 
 pub returns : goal.returns

@@ -1,25 +1,25 @@
-//! How a node is hashed, to find it.
+//! How keys, and nodes made of keys, are hashed, to find them.
 ghost use Rattle.std.specs.Prelude.{◌≡◌, ◌≤◌, length};
-ghost use Rattle.reference_interner.specs.Hashing.{folded_product, word, write_words};
+ghost use Rattle.relation_terms.specs.Hashing.{folded_product, word, write_words};
 
 use std::hash::Hasher;
 
 const MULTIPLIER: u64 = 0x9e37_79b9_7f4a_7c15;
 
-/// Hashes what a node is made of: numbers, each by one multiplication, and those of 16 bytes by two.
+/// Hashes keys that are numbers, and what is made of these: each number by one multiplication, and one of 16 bytes by two.
 ///
 /// The hasher that a table has by default reads a number byte by byte, which takes longer than all else that finding a
-/// node takes.
+/// key takes.
 #[derive(Clone, Copy, Drop)]
-pub struct NodeHasher {
+pub struct KeyHasher {
     state: u64,
 }
 
-impl Default for NodeHasher {
+impl Default for KeyHasher {
     ghost is_default = { λ s. s.state ≡ 0 };
 
-    fn default() -> NodeHasher {
-        NodeHasher { state: 0 }
+    fn default() -> KeyHasher {
+        KeyHasher { state: 0 }
     }
 }
 
@@ -44,7 +44,7 @@ fn number(bytes: &[u8]) -> u64
     number
 }
 
-impl Hasher for NodeHasher {
+impl Hasher for KeyHasher {
     ghost write = { write_words };
 
     ghost finish = { λ s. s.state };

@@ -1,6 +1,6 @@
--- How a node is hashed.
+-- How keys are hashed.
 use Rattle.std.specs.Prelude.{ℕ, List, ◌*◌, ◌+◌, ◌%◌, ◌^◌, ◌-◌, ◌/◌, bit_xor, bit_and, fold, cond, nat_le, length, take, drop}
-use Rattle.reference_interner.specs.declared.hashing.NodeHasher.{NodeHasher}
+use Rattle.relation_terms.specs.declared.hashing.KeyHasher.{KeyHasher}
 
 -- The two halves of a product, joined.
 unfoldable pub folded_product : ℕ → ℕ → ℕ
@@ -19,7 +19,7 @@ abbrev pub after : ℕ → ℕ → ℕ
 after state n = folded_product (bit_xor state n) 0x9e3779b97f4a7c15
 
 -- The state after these bytes were written: as one number, or, where they are more than eight, as two.
-abbrev pub write_words : NodeHasher → List ℕ → NodeHasher
+abbrev pub write_words : KeyHasher → List ℕ → KeyHasher
 write_words s bytes = record {
   state = cond (nat_le (length bytes) 8) (after s.state (word bytes))
       (after (after s.state (word (take 8 bytes))) (word (drop 8 bytes)));
