@@ -21,9 +21,8 @@ mod walk;
 
 pub use bound::instantiate_bound_vars;
 pub use keyed::{
-    fold_alternatives_with, fold_arg_with, fold_args_with, fold_branches_with, fold_const_with,
-    fold_pat_with, fold_predicates_with, fold_region_with, fold_ty_with, fold_tys_with,
-    fold_valtree_with, super_fold_const, super_fold_ty,
+    fold_args_with, fold_const_with, fold_region_with, fold_ty_with, super_fold_const,
+    super_fold_ty,
 };
 pub use memory::{Place, place_of};
 pub use shift::shift_vars;
