@@ -14,7 +14,7 @@ use Rattle.type_relations.specs.Subtyping.{subtype_at, StepRegistersAlone}
 use Rattle.type_relations.proofs.Subtyping.{refused_alone, pushed_alone}
 use Rattle.type_relations.specs.Stepping.{made_one, left_subtype, right_subtype}
 use Rattle.type_relations.proofs.Stepping.{covariant_directed, contravariant_directed, registered_one, refused_goal}
-use Rattle.type_relations.proofs.relate.solver_relating.steps.SolverRelating.combine_ty_vars.Goals as goal
+use Rattle.type_relations.proofs.relate.solver_relating.relation.SolverRelating.combine_ty_vars.Goals as goal
 
 pub returns-in_err-predicate-in-Covariant-clause-stepped : goal.returns-in_err-predicate-in-Covariant-clause-stepped
 returns-in_err-predicate-in-Covariant-clause-stepped g c =

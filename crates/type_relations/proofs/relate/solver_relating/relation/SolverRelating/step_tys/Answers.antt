@@ -13,7 +13,7 @@ use Rattle.relation_contexts.specs.declared.relate.Step.TheVariants.{Done, Parts
 use Rattle.type_relations.proofs.Subtyping.{step_of_one, step_left_none, read_registers}
 use Rattle.type_relations.specs.Stepping.{one_type, without_variables, resolved_first}
 use Rattle.type_relations.proofs.Stepping.{leaves_itself}
-use Rattle.type_relations.proofs.relate.solver_relating.steps.SolverRelating.step_tys.Goals as goal
+use Rattle.type_relations.proofs.relate.solver_relating.relation.SolverRelating.step_tys.Goals as goal
 
 pub returns-then-eq-clause-stepped : goal.returns-then-eq-clause-stepped
 returns-then-eq-clause-stepped g c =

@@ -5,7 +5,7 @@ use Rattle.type_relations.proofs.Solving.{held_stands, regions_recorded, memory_
 use Rattle.relation_contexts.specs.Goals.{goals_of}
 use Rattle.type_relations.specs.Stepping.{constraint_refused}
 use Rattle.type_relations.proofs.Stepping.{regions_step}
-use Rattle.type_relations.proofs.relate.solver_relating.steps.SolverRelating.step_regions.Goals as goal
+use Rattle.type_relations.proofs.relate.solver_relating.relation.SolverRelating.step_regions.Goals as goal
 
 pub returns-in_err-relate_regions-clause-related : goal.returns-in_err-relate_regions-clause-related
 returns-in_err-relate_regions-clause-related g c =

@@ -13,7 +13,7 @@ use Rattle.relation_contexts.proofs.Registered.{goals_stay}
 use Rattle.type_relations.specs.Stepping.{as_they_stand, right_entered, right_not_entered, left_entered}
 use Rattle.type_relations.specs.Stepping.{left_not_entered, none_left}
 use Rattle.type_relations.proofs.Stepping.{leaves_itself, opens_seen}
-use Rattle.type_relations.proofs.relate.solver_relating.steps.SolverRelating.step_binders.Goals as goal
+use Rattle.type_relations.proofs.relate.solver_relating.relation.SolverRelating.step_binders.Goals as goal
 
 pub returns-then-round-gt0-clause-opened : goal.returns-then-round-gt0-clause-opened
 returns-then-round-gt0-clause-opened g c =

@@ -16,7 +16,7 @@ use Rattle.type_relations.proofs.SolvingVariables.{left_step, right_step, left_r
 use Rattle.relation_contexts.proofs.Registered.{goals_stay}
 use Rattle.type_relations.specs.Stepping.{BindsTyVar, two_variables, left_bound, left_refused as left_not_bound}
 use Rattle.type_relations.specs.Stepping.{right_bound, right_refused as right_not_bound, no_ty_variables}
-use Rattle.type_relations.proofs.relate.solver_relating.steps.SolverRelating.combine_tys.Goals as goal
+use Rattle.type_relations.proofs.relate.solver_relating.relation.SolverRelating.combine_tys.Goals as goal
 
 pub instantiate_ty_var_raw-requires-clause-target_unresolved : goal.instantiate_ty_var_raw-requires-clause-target_unresolved
 instantiate_ty_var_raw-requires-clause-target_unresolved g c =
