@@ -119,12 +119,14 @@ pub data AreOfOneValue (a b : Tree) : Type 0 where
   as_many_branches : {ts us : Tree} → a ≡ node value_branch ts → b ≡ node value_branch us → count ts ≡ count us →
       AreOfOneValue a b
 
--- Two constants of one outermost form with as many parts, the types of values apart; or two parameters of one index.
+-- Two constants of one outermost form with as many parts, the types of values apart; or one form without parts; or two
+-- parameters of one index.
 pub data AreOfOneConst (a b : Tree) : Type 0 where
   values : {t u v w : Tree} → a ≡ node value (cons (node value_type (cons t nil)) (cons v nil)) →
       b ≡ node value (cons (node value_type (cons u nil)) (cons w nil)) → AreOfOneValue v w → AreOfOneConst a b
   expressions : {k : ℕ} {ts us : Tree} → a ≡ node (expression k) ts → b ≡ node (expression k) us →
       count ts ≡ count us → AreOfOneConst a b
+  one_const_leaf : {l : Leaf} → a ≡ leaf l → b ≡ leaf l → AreOfOneConst a b
   const_parameters : {x y : Atom} → a ≡ leaf (atom x) → b ≡ leaf (atom y) → plain_atom x ≡ plain_atom y →
       AreOfOneConst a b
 

@@ -26,7 +26,7 @@ use Rattle.relation_contexts.proofs.OneUniverse.{keeps_itself, keeps_pair, binds
 use Rattle.relation_contexts.specs.Settings.{Settings}
 use Rattle.relation_contexts.specs.Errors.{ErrorOf, ErrorByForms, ErrorAs, Meeting, as_pair, as_forms, of_parts}
 use Rattle.relation_contexts.specs.Errors.{of_branches, of_kinds, of_forms, of_const_forms, FormError, ConstFormError}
-use Rattle.relation_contexts.specs.Errors.{AreOfOneConst, AreOfOneValue, values, expressions, const_parameters, one_value, as_many_branches}
+use Rattle.relation_contexts.specs.Errors.{AreOfOneConst, AreOfOneValue, values, expressions, const_parameters, one_value, as_many_branches, one_const_leaf}
 use Rattle.relation_contexts.specs.Parts.{IsFormed, IsFormedConst, const_parts_of, branches_of, const_head_of}
 use Rattle.type_relations.specs.Handing.{IsPassedOnConst, IsFaultOfConst, passed_const, whole}
 use Rattle.relation_contexts.specs.Lawful.{State, Manners, MayAnswer, Passes, Refuses, RefusesAs, Related}
@@ -72,6 +72,8 @@ module _ {Key Id Name : Type 0} (p : Meaning Key Id Name) (set : Settings) (js :
       IsFaultOfConst (p.const_ c) c d (Unrelated f) g →
       ErrorOf p set js st (part_at js (const_head_of (p.const_ c)) i at_v) f x y →
       (k : TypeError Key Id Name) × (g ≡ Unrelated k) × ErrorByForms p set js st at_v k (p.const_ c) (p.const_ d)
+  const_complains st f g (one_const_leaf j k) l z w o h =
+      absurd (let e : count (const_parts_of (p.const_ c)) ≡ 0 = ap (λ z. count (const_parts_of z)) j in omega (arith, e, l))
   const_complains st f g (const_parameters j k n) l z w o h =
       absurd (let e : count (const_parts_of (p.const_ c)) ≡ 0 = ap (λ z. count (const_parts_of z)) j in omega (arith, e, l))
   const_complains st f g (values j k n) l z w (passed_const is o) h = absurd (subst (IsPassedOnConst (Unrelated f)) j o)
@@ -234,6 +236,7 @@ module _ {Key Id Name : Type 0} {r q : State Key Id Name} (M : Manners) (v : Var
       (ap const_parts_of d) (ap const_parts_of e)
       (subst (λ z. Rel (items_in r) w r.kept.environment (parts (const_head_of z) 0 v) (apply s (const_parts_of a))
       (apply s (const_parts_of b))) d (all_parts.relates w s sat all))))
+  consts_relate (one_const_leaf d e) f are ea eb w s sat all = same (ap (apply s) (d ∙ sym e))
   consts_relate (const_parameters d e p) f are ea eb w s sat all =
       subst₂ (λ j l. Rel (items_in r) w r.kept.environment (at v) (apply s j) (apply s l)) (sym d) (sym e) (atoms p)
 

@@ -238,9 +238,6 @@ pub fn structurally_relate_consts<I: Interner, R: TypeRelation<I>>(
     requires b_formed { IsFormedConst ((R.state r.old).meaning.const_ b.now) }
     ensures { RelatedConstForms R.manner (R.state r.old) (R.state r.new) a.now b.now result }
 {
-    if a == b {
-        return Ok(*a);
-    }
     compare_consts_of::<I, R>(r, a, b)?;
     let n = const_parts_count_of::<I, R>(r, a);
     let mut answers = Vec::new(r.cx().alloc());

@@ -759,36 +759,6 @@ relate_with_variance-returns g t c =
       kind = (c.relate-answer.ensures).kind;
     }
 
-pub structurally_relate_consts-returns-then-eq : goal.structurally_relate_consts-returns-then-eq
-structurally_relate_consts-returns-then-eq g t c =
-    let r = g.R.HasState.state c.args.r.now in
-    let M = g.R.TypeRelation.manner in
-    let a = (r.meaning).const_ c.args.a.now in
-    let b = (r.meaning).const_ c.args.b.now in
-    let e = g.met.R.TypeRelation.reads c.args.r.now in
-    let cx = g.R.TypeRelation.interner c.args.r.now in
-    let k = c.requires.asked in
-    let same : IsTrue (g.I.Key.PartialEq.eq (c.args.a.now).0 (c.args.b.now).0) ↔ (a ≡ b) =
-    subst (λ m. IsTrue (known (m.const_ c.args.a.now)) → IsTrue (known (m.const_ c.args.b.now)) →
-    (IsTrue (g.I.Key.PartialEq.eq (c.args.a.now).0 (c.args.b.now).0) ↔ (m.const_ c.args.a.now ≡ m.const_ c.args.b.now)))
-    (sym e) (g.met.I.Interner.same_const cx c.args.a.now c.args.b.now) k.left_known k.right_known in
-    itself_related M r r.ambient (r.meaning).const_ a b c.args.a.now (same.0 (sym c.if-eq.ensures)) refl k.left_known
-
-pub structurally_relate_consts-compare_consts_of-requires-clause-differ : goal.structurally_relate_consts-compare_consts_of-requires-clause-differ
-structurally_relate_consts-compare_consts_of-requires-clause-differ g t c =
-    let r = g.R.HasState.state c.args.r.now in
-    let M = g.R.TypeRelation.manner in
-    let a = (r.meaning).const_ c.args.a.now in
-    let b = (r.meaning).const_ c.args.b.now in
-    let e = g.met.R.TypeRelation.reads c.args.r.now in
-    let cx = g.R.TypeRelation.interner c.args.r.now in
-    let k = c.requires.asked in
-    let same : IsTrue (g.I.Key.PartialEq.eq (c.args.a.now).0 (c.args.b.now).0) ↔ (a ≡ b) =
-    subst (λ m. IsTrue (known (m.const_ c.args.a.now)) → IsTrue (known (m.const_ c.args.b.now)) →
-    (IsTrue (g.I.Key.PartialEq.eq (c.args.a.now).0 (c.args.b.now).0) ↔ (m.const_ c.args.a.now ≡ m.const_ c.args.b.now)))
-    (sym e) (g.met.I.Interner.same_const cx c.args.a.now c.args.b.now) k.left_known k.right_known in
-    λ h. false≢true (c.if-eq.ensures ∙ same.1 h)
-
 pub structurally_relate_consts-compare_consts_of-requires-clause-a_covered : goal.structurally_relate_consts-compare_consts_of-requires-clause-a_covered
 structurally_relate_consts-compare_consts_of-requires-clause-a_covered g t c = ((c.requires.asked).left_taken).1
 
