@@ -233,11 +233,11 @@ module _ {Key Id Name : Type 0} where
       (subst (λ c. All (Holds c w s) p.goals) (same_items g) all))))
 
   -- A pair that was related as two forms, and isn't left to a goal, was related as it is met.
-  met_refuses : {r q : State Key Id Name} (v : Variance) (a b : Tree) → (IsLeftToGoal q.kept.settings a b → ⊥) →
+  met_refuses : (r q : State Key Id Name) (v : Variance) (a b : Tree) → (IsLeftToGoal q.kept.settings a b → ⊥) →
       (e : RelateFault Key Id Name) → RefusesAs as_forms r q (at v) a b e → Refuses r q v a b e
-  met_refuses v a b n (Unrelated e) h = (h.0, by_forms n h.1, h.2)
-  met_refuses v a b n Budget h = h
-  met_refuses v a b n Memory h = tt
+  met_refuses r q v a b n (Unrelated e) h = (h.0, by_forms n h.1, h.2)
+  met_refuses r q v a b n Budget h = h
+  met_refuses r q v a b n Memory h = tt
 
   pub forms_met : {X : Type 0} {r q : State Key Id Name} (M : Manners) (v : Variance) (a b : Tree) (tree : X → Tree)
       (result : Result X (RelateFault Key Id Name)) → (IsLeftToGoal r.kept.settings a b → ⊥) →
@@ -253,7 +253,7 @@ module _ {Key Id Name : Type 0} where
           Verdict M r q (f.passes).added v a b tree res
       verdict (Ok t) h = h
       verdict (Err e) h =
-          met_refuses v a b (subst (λ k. IsLeftToGoal k a b → ⊥) (sym (same_settings (f.passes).kept)) n) e h
+          met_refuses r q v a b (subst (λ k. IsLeftToGoal k a b → ⊥) (sym (same_settings (f.passes).kept)) n) e h
 
   -- The two forms to which a step led were related by their parts.
   pub parts_related : {X : Type 0} {r q p : State Key Id Name} (M : Manners) (F : Tree → Type 0) → IsSound p.store →
@@ -288,7 +288,7 @@ module _ {Key Id Name : Type 0} where
         agrees = λ k. led_agrees g a b x y r.ambient l.leads (v.agrees (manner_then M (λ z. z.relates_agreeing) g k));
       }
       verdict (Err e) v = led_refuses g f.passes sound a b x y r.ambient l.leads e
-          (met_refuses r.ambient x y (subst (λ k. IsLeftToGoal k x y → ⊥) (sym (same_settings (f.passes).kept)) l.not_left) e v)
+          (met_refuses q p r.ambient x y (subst (λ k. IsLeftToGoal k x y → ⊥) (sym (same_settings (f.passes).kept)) l.not_left) e v)
 
   -- The pair to which a step led was related, and the answer is the one that the step named.
   module _ {r q : State Key Id Name} (M : Manners) (a b k l x y u : Tree) (v : Variance)
