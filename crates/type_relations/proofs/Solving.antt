@@ -52,6 +52,8 @@ use Rattle.type_relations.proofs.OverContext.{standing, roots_step as roots_equa
 use Rattle.relation_contexts.proofs.Answering.{may_itself, same_environment}
 use Rattle.relation_contexts.proofs.OneUniverse.{keeps_pair, binds_itself, binds_none, standing_keeps}
 use Rattle.type_relations.specs.Solving.{KnowsGoals, Held, held_by, kept_in, solving, solving_through, solver_manner}
+use Rattle.type_relations.specs.Solving.{solver_settings}
+use Rattle.relation_contexts.specs.Errors.{ErrorOf}
 use Rattle.relation_contexts.proofs.Registered.{goals_stay, goals_known, none_at_invariance}
 use Rattle.type_relations.proofs.Exactly.{region_value, regions_exactly}
 use Rattle.relation_contexts.proofs.Growing.{constraint_is_later, constraint_bound, constraint_weight}
@@ -393,7 +395,12 @@ module _ {Key Id Name X : Type 0} (j i : Held Key) (gs hs : List (KeyedGoal Key 
         known = o.known;
         agrees = o.agrees;
       }
-      verdict (Err (Unrelated g)) o = o
+      verdict (Err (Unrelated g)) o = (
+        o.0,
+        subst (λ x. ErrorOf n (solver_settings x i.setup) (items_of n) now v g a b)
+            (ap (λ k. (k.settings).structurally_relate_aliases) (h.passes).kept) o.1,
+        o.2,
+      )
       verdict (Err Budget) o = o
       verdict (Err Memory) o = tt
 
