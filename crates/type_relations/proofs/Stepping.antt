@@ -12,24 +12,22 @@ use Rattle.relation_terms.specs.declared.terms.keys.ParamEnvKey.{ParamEnvKey}
 use Rattle.relation_terms.specs.declared.terms.keys.PredicateKey.{PredicateKey}
 use Rattle.relation_terms.specs.Heads.{BoundKind}
 use Rattle.relation_terms.specs.Trees.{Tree}
-use Rattle.relation_terms.specs.Meaning.{Meaning, Extends, under}
+use Rattle.relation_terms.specs.Meaning.{Extends, under}
 use Rattle.relation_folds.specs.declared.error.RelateFault.{RelateFault}
 use Rattle.relation_folds.specs.declared.error.RelateFault.TheVariants.{Memory}
 use Rattle.relation_contexts.specs.declared.relate.Step.{Step}
-use Rattle.relation_contexts.specs.declared.relate.Step.TheVariants.{Done}
 use Rattle.relation_contexts.specs.declared.relate.StructurallyRelateAliases.{StructurallyRelateAliases}
 use Rattle.relation_contexts.specs.Binders.{OpensFrom}
 use Rattle.relation_contexts.specs.Contexts.{Context}
-use Rattle.relation_contexts.specs.ContextCalls.{Constrains, Reads}
-use Rattle.relation_contexts.specs.Goals.{goal_of, goals_of, KnowsGoal}
+use Rattle.relation_contexts.specs.ContextCalls.{Constrains}
+use Rattle.relation_contexts.specs.Goals.{goal_of, goals_of}
 use Rattle.relation_contexts.specs.Lawful.{State}
-use Rattle.relation_contexts.specs.Resolving.{IsShallow}
 use Rattle.relation_contexts.specs.Stores.{Constraint}
 use Rattle.relation_contexts.proofs.Registered.{goals_stay}
 use Rattle.type_relations.specs.Combining.{seen}
 use Rattle.type_relations.specs.Emitting.{AddsAsked}
 use Rattle.type_relations.specs.Solving.{KnowsGoals, solving_through}
-use Rattle.type_relations.specs.Stepping.{LeavesAll, RegistersOne, CombinesTyVars, goal_refused, ReadsTy, StepsRegions}
+use Rattle.type_relations.specs.Stepping.{LeavesAll, RegistersOne, CombinesTyVars, goal_refused, StepsRegions}
 use Rattle.type_relations.specs.Stepping.{left_outlives, right_outlives, both_outlive}
 
 pub covariant_directed : {v : Variance} → v ≡ Covariant → v ≢ Invariant
