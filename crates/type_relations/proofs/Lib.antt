@@ -37,6 +37,7 @@ pub mod OverContext
 pub mod Solving
 pub mod OpeningBoth
 pub mod SolvingBinders
+pub mod Stepping
 pub mod GeneralisingInOne
 pub mod Spending
 pub mod SolvingVariables

@@ -17,6 +17,7 @@ pub mod Solving
 pub mod Bivariance
 pub mod Emitting
 pub mod Combining
+pub mod Stepping
 pub mod SolverTerms
 pub mod Comparing
 pub mod PredicateForms

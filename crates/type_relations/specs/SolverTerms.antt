@@ -1,5 +1,8 @@
 -- What the solver's relation asks and promises: what relating two values does, at the state in which it stands.
-use Rattle.std.specs.Prelude.{◌≡◌, Option, IfSome, Result}
+use Rattle.std.specs.Prelude.{◌≡◌, ℕ, Option, IfSome, Result}
+use Rattle.relation_terms.specs.declared.terms.binder.Binder.{Binder}
+use Rattle.relation_terms.specs.declared.terms.keys.ConstKey.{ConstKey}
+use Rattle.relation_terms.specs.declared.terms.keys.RegionKey.{RegionKey}
 use Rattle.relation_terms.specs.declared.terms.keys.TyKey.{TyKey}
 use Rattle.relation_terms.specs.Heads.{Head}
 use Rattle.relation_terms.specs.Trees.{Tree}
@@ -9,9 +12,11 @@ use Rattle.relation_contexts.specs.declared.relate.Step.{Step}
 use Rattle.relation_contexts.specs.Contexts.{Context}
 use Rattle.relation_contexts.specs.Lawful.{State}
 use Rattle.type_relations.specs.declared.relate.solver_relating.relation.SolverRelating.{SolverRelating}
-use Rattle.type_relations.specs.Combining.{IsNoTyVar}
-use Rattle.type_relations.specs.Keyed.{SteppedTys}
+use Rattle.type_relations.specs.Combining.{IsNoTyVar, ConstsCombine}
+use Rattle.type_relations.specs.Keyed.{RelatedRegions, SteppedConsts, SteppedTys, TysStepToSubtype}
+use Rattle.type_relations.specs.Rounds.{OpenedBinders}
 use Rattle.type_relations.specs.Solving.{solving_in, solving_through, solver_manner}
+use Rattle.type_relations.specs.Stepping.{CombinesShallowTys, CombinesTyVars, StepsBinders, StepsRegions, StepsTys}
 use Rattle.type_relations.specs.Subtyping.{StepRegistersAlone, subtype_at}
 use Rattle.type_relations.specs.Terms.{AskedTerms, RelatedTerms, TermsRegister}
 
@@ -60,6 +65,70 @@ module _ {Infcx Interner Key Id Name Span : Type 0} (state : Infcx → Context K
       let m = (state r.infcx.now).meaning in let n = (state q.infcx.now).meaning in
       IfSome (subtype_at r.ambient_variance (m.ty a) (m.ty b)) (λ p.
       StepRegistersAlone (solver_through r) (solver_through q) n.ty (m.ty a) p result)
+
+  -- It was that step of two types, case by case; of two that were resolved shallowly; and of two type variables.
+  abbrev pub SolverStepsTys : SolverRelating Infcx Interner Key Id Name Span →
+      SolverRelating Infcx Interner Key Id Name Span → TyKey Key → TyKey Key →
+      Result (Step (TyKey Key)) (RelateFault Key Id Name) → Type 0
+  SolverStepsTys r q a b result = StepsTys (solver_through r) (solver_through q) a b result
+
+  abbrev pub SolverCombinesShallow : SolverRelating Infcx Interner Key Id Name Span →
+      SolverRelating Infcx Interner Key Id Name Span → TyKey Key → TyKey Key →
+      Result (Step (TyKey Key)) (RelateFault Key Id Name) → Type 0
+  SolverCombinesShallow r q a b result = CombinesShallowTys (solver_through r) (solver_through q) a b result
+
+  abbrev pub SolverCombinesVars : SolverRelating Infcx Interner Key Id Name Span →
+      SolverRelating Infcx Interner Key Id Name Span → TyKey Key → TyKey Key →
+      Result (Step (TyKey Key)) (RelateFault Key Id Name) → Type 0
+  SolverCombinesVars r q a b result = CombinesTyVars (solver_through r) (solver_through q) a b result
+
+  -- Of two types that are unresolved type variables it was a step by registering one goal alone.
+  abbrev pub SolverStepsToSubtype : SolverRelating Infcx Interner Key Id Name Span →
+      SolverRelating Infcx Interner Key Id Name Span → TyKey Key → TyKey Key →
+      Result (Step (TyKey Key)) (RelateFault Key Id Name) → Type 0
+  SolverStepsToSubtype r q a b result =
+      TysStepToSubtype solver_manner (solver_through r) (solver_through q) a b result
+
+  -- A step was taken of two constants, and which, case by case.
+  abbrev pub SolverStepped : SolverRelating Infcx Interner Key Id Name Span →
+      SolverRelating Infcx Interner Key Id Name Span → ConstKey Key → ConstKey Key →
+      Result (Step (ConstKey Key)) (RelateFault Key Id Name) → Type 0
+  SolverStepped r q a b result = SteppedConsts solver_manner (solver_through r) (solver_through q) a b result
+
+  abbrev pub SolverStepsConsts : SolverRelating Infcx Interner Key Id Name Span →
+      SolverRelating Infcx Interner Key Id Name Span → ConstKey Key → ConstKey Key →
+      Result (Step (ConstKey Key)) (RelateFault Key Id Name) → Type 0
+  SolverStepsConsts r q a b result = ConstsCombine (solver_through r) (solver_through q) a b result
+
+  -- Two regions were related, and what was recorded of them, case by case.
+  abbrev pub SolverRelatedRegions : SolverRelating Infcx Interner Key Id Name Span →
+      SolverRelating Infcx Interner Key Id Name Span → RegionKey Key → RegionKey Key →
+      Result (RegionKey Key) (RelateFault Key Id Name) → Type 0
+  SolverRelatedRegions r q a b result = RelatedRegions solver_manner (solver_through r) (solver_through q) a b result
+
+  abbrev pub SolverStepsRegions : SolverRelating Infcx Interner Key Id Name Span →
+      SolverRelating Infcx Interner Key Id Name Span → RegionKey Key → RegionKey Key →
+      Result (RegionKey Key) (RelateFault Key Id Name) → Type 0
+  SolverStepsRegions r q a b result = StepsRegions (solver_through r) (solver_through q) a b result
+
+  -- A round of two binders was begun whose bodies have these trees, and what it led to, case by case.
+  module _ {T : Type 0} (tree : Meaning Key Id Name → T → Tree) where
+    abbrev pub SolverOpened : SolverRelating Infcx Interner Key Id Name Span →
+        SolverRelating Infcx Interner Key Id Name Span → ℕ → Binder Key T → Binder Key T →
+        Result (Option (T × T)) (RelateFault Key Id Name) → Type 0
+    SolverOpened r q round a b result =
+        OpenedBinders solver_manner tree (solver_through r) (solver_through q) round a b result
+
+    abbrev pub SolverStepsBinders : SolverRelating Infcx Interner Key Id Name Span →
+        SolverRelating Infcx Interner Key Id Name Span → ℕ → Binder Key T → Binder Key T →
+        Result (Option (T × T)) (RelateFault Key Id Name) → Type 0
+    SolverStepsBinders r q round a b result =
+        StepsBinders (solver_through r) (solver_through q) tree round a b result
+
+  -- No goal was registered.
+  abbrev pub KeepsGoals : SolverRelating Infcx Interner Key Id Name Span →
+      SolverRelating Infcx Interner Key Id Name Span → Type 0
+  KeepsGoals r q = (solver_through q).goals ≡ (solver_through r).goals
 
   -- Of values, by what is related of them.
   module _ {A : Type 0} (over : Option Head) (tree : Meaning Key Id Name → A → Tree) where

@@ -18,6 +18,7 @@ mod emitting;
 mod opening;
 pub(crate) mod recording;
 mod relation;
+mod steps;
 
 use crate::relate::{Relate, StructurallyRelateAliases};
 pub use relation::{GoalOf, SolverRelating};

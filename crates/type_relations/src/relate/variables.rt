@@ -1,11 +1,12 @@
 //! Which variable a term of a context is.
-ghost use Rattle.std.specs.Prelude.{ℕ, IsTrue, IfSome, IfNone};
+ghost use Rattle.std.specs.Prelude.{◌≡◌, ℕ, false, not, IsTrue, IsFalse, IfSome, IfNone};
+ghost use Rattle.relation_terms.specs.Flags.{has_non_region_infer};
 ghost use Rattle.relation_terms.specs.Trees.{known};
 ghost use Rattle.relation_contexts.specs.Contexts.{KnowsTy, KnowsConst};
 ghost use Rattle.relation_contexts.specs.Relation.{StaysWithin};
 ghost use Rattle.relation_contexts.specs.Covered.{IsCovered};
 ghost use Rattle.relation_contexts.specs.Parts.{IsFormed, IsFormedConst};
-ghost use Rattle.type_relations.specs.Variables.{MeansTyVar, MeansConstVar};
+ghost use Rattle.type_relations.specs.Variables.{MeansTyVar, MeansConstVar, one_has_variable};
 
 use relation_contexts::infer_ctxt::InferCtxtLike;
 pub use relation_contexts::variable_forms::{const_vid, float_vid, int_vid, ty_vid};
@@ -36,7 +37,9 @@ pub(crate) fn const_var<Infcx: InferCtxtLike>(
 // Whether no variable but of regions stands in a type, so that it has a form if nothing in it escapes a binder.
 fn has_no_variable<I: Interner>(cx: &I, ty: &Ty<I>) -> bool
     requires { IsTrue (known ((I.meaning cx.now).ty ty.now)) }
-    ensures { let t = (I.meaning cx.now).ty ty.now in IsTrue result → IsCovered t → StaysWithin 0 t → IsFormed t }
+    ensures tells { result ≡ not (has_non_region_infer ((I.meaning cx.now).ty ty.now)) }
+    ensures formed { let t = (I.meaning cx.now).ty ty.now in
+        IsTrue result → IsCovered t → StaysWithin 0 t → IsFormed t }
 {
     !cx.ty_flags(ty).has_non_region_infer
 }
@@ -49,6 +52,8 @@ pub(crate) fn have_no_variable<Infcx: InferCtxtLike>(
 ) -> bool
     requires a_known { KnowsTy (Infcx.state infcx.now) a.now }
     requires b_known { KnowsTy (Infcx.state infcx.now) b.now }
+    ensures none { IsTrue result → one_has_variable (Infcx.state infcx.now).meaning a.now b.now ≡ false }
+    ensures one { IsFalse result → IsTrue (one_has_variable (Infcx.state infcx.now).meaning a.now b.now) }
     ensures a_formed { let t = ((Infcx.state infcx.now).meaning).ty a.now in
         IsTrue result → IsCovered t → StaysWithin 0 t → IsFormed t }
     ensures b_formed { let t = ((Infcx.state infcx.now).meaning).ty b.now in

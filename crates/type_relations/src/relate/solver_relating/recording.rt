@@ -1,5 +1,5 @@
 //! What relating records of regions, and the goals that it registers.
-ghost use Rattle.std.specs.Prelude.{◌≡◌, ◌≢◌, IsTrue, IfOk, OnOk};
+ghost use Rattle.std.specs.Prelude.{◌≡◌, ◌≢◌, IsTrue, IfOk, OnErr, OnOk};
 ghost use Rattle.relation_terms.specs.Trees.{known};
 ghost use Rattle.relation_terms.specs.Meaning.{Extends};
 ghost use Rattle.term_enums.specs.declared.Variance.TheVariants.{Bivariant};
@@ -31,6 +31,7 @@ pub(crate) fn relate_regions<Infcx: InferCtxtLike>(
     requires b_in { HasRegion (Infcx.state infcx.old) b.now }
     ensures stands { Stands (Infcx.state infcx.old) (Infcx.state infcx.new) }
     ensures adds { OnOk result (AddsAsked (Infcx.state infcx.old) (Infcx.state infcx.new) variance a.now b.now) }
+    ensures refused { OnErr result ((Infcx.state infcx.new).store ≡ (Infcx.state infcx.old).store) }
     ensures goes { Goes 0 (Infcx.state infcx.old).store (Infcx.state infcx.new).store }
     ensures bound { all_bound (Infcx.state infcx.new).store ≡ all_bound (Infcx.state infcx.old).store }
     ensures full { StaysFull (Infcx.state infcx.old).store (Infcx.state infcx.new).store }

@@ -1,31 +1,18 @@
 //! The relation of a context.
 ghost use Rattle.std.specs.Prelude.{◌≡◌, ◌≢◌, [], All};
-ghost use Rattle.relation_terms.specs.Heads.{type_var, variable};
-ghost use Rattle.relation_terms.specs.Trees.{leaf};
 ghost use Rattle.term_enums.specs.declared.Variance.TheVariants.{Bivariant};
-ghost use Rattle.relation_contexts.specs.Contexts.{KnowsEnv, KnowsTy};
-ghost use Rattle.relation_contexts.specs.ContextCalls.{IsUnresolved};
+ghost use Rattle.relation_contexts.specs.Contexts.{KnowsEnv};
 ghost use Rattle.relation_contexts.specs.Goals.{KnowsGoal};
-ghost use Rattle.type_relations.specs.Keyed.{AskedTys};
-ghost use Rattle.relation_contexts.specs.Resolving.{IsShallow};
-ghost use Rattle.type_relations.specs.Subtyping.{IsTyVar};
-ghost use Rattle.type_relations.specs.Solving.{solver_manner};
 ghost use Rattle.type_relations.specs.SolverTerms.{KeepsEnvironment, SolverAsked, SolverRelated, SolverRegisters};
-ghost use Rattle.type_relations.specs.SolverTerms.{SolverSteps, SolverStepRegisters, solver_through};
+ghost use Rattle.type_relations.specs.SolverTerms.{solver_through};
 
-use crate::relate::combine::{combine_ty_args, super_combine_consts, super_combine_tys};
-use crate::relate::solver_relating::opening::{
-    enter_and_instantiate, enters_first, enters_second, one_uses,
-};
-use crate::relate::solver_relating::recording::{relate_regions, subtype_predicate};
-use crate::relate::variables::{have_no_variable, ty_var};
 use crate::relate::{HasState, Relate, Step, StructurallyRelateAliases, TypeRelation};
 use relation_contexts::infer_ctxt::{BinderOf, InferCtxtLike};
 use relation_folds::error::RelateResult;
 use relation_folds::fold::TypeFoldable;
 use relation_folds::visit::TypeVisitable;
 use relation_terms::terms::{
-    Const, GenericArgs, Goal, Interner, ItemOf, Keys, ParamEnv, Predicate, Region, Span, Ty, TyVid,
+    Const, GenericArgs, Goal, Interner, ItemOf, Keys, ParamEnv, Predicate, Region, Span, Ty,
     Variance,
 };
 use std::mem::replace;
@@ -105,109 +92,6 @@ impl<'a, Infcx: InferCtxtLike> SolverRelating<'a, Infcx> {
         ensures registers { SolverRegisters Infcx.state T.over T.tree self.old self.new a.now b.now result }
     {
         T::relate(self, a, b)
-    }
-
-    // What comes of two type variables, of which nothing is recorded: at invariance they are made one, else it is
-    // registered that the one is a subtype of the other.
-    fn combine_ty_vars(
-        &mut self,
-        a: &Ty<Infcx::Interner>,
-        x: TyVid,
-        b: &Ty<Infcx::Interner>,
-        y: TyVid,
-    ) -> RelateResult<Infcx::Interner, Step<Ty<Infcx::Interner>>>
-        requires lawful { (Infcx.state self.old.infcx.now).lawful }
-        requires env_known { KnowsEnv (Infcx.state self.old.infcx.now) self.old.param_env }
-        requires goals_known { All (KnowsGoal (Infcx.state self.old.infcx.now).meaning) self.old.goals.items }
-        requires decides { self.old.ambient_variance ≢ Bivariant }
-        requires a_known { KnowsTy (Infcx.state self.old.infcx.now) a.now }
-        requires b_known { KnowsTy (Infcx.state self.old.infcx.now) b.now }
-        requires a_is { ((Infcx.state self.old.infcx.now).meaning).ty a.now ≡ leaf (variable type_var x.0) }
-        requires b_is { ((Infcx.state self.old.infcx.now).meaning).ty b.now ≡ leaf (variable type_var y.0) }
-        requires a_unresolved { IsUnresolved (Infcx.state self.old.infcx.now) type_var x.0 }
-        requires b_unresolved { IsUnresolved (Infcx.state self.old.infcx.now) type_var y.0 }
-        ensures stepped { SolverSteps Infcx.state self.old self.new a.now b.now result }
-        ensures registers { SolverStepRegisters Infcx.state self.old self.new a.now b.now result }
-    {
-        let param_env = self.param_env;
-        match self.ambient_variance {
-            Variance::Covariant => {
-                let predicate = subtype_predicate(&mut *self.infcx, true, a, b)?;
-                self.goals.push(Goal {
-                    param_env,
-                    predicate,
-                })?;
-                Ok(Step::Done(*a))
-            }
-            Variance::Contravariant => {
-                let predicate = subtype_predicate(&mut *self.infcx, false, b, a)?;
-                self.goals.push(Goal {
-                    param_env,
-                    predicate,
-                })?;
-                Ok(Step::Done(*a))
-            }
-            Variance::Invariant => {
-                self.infcx.equate_ty_vids_raw(x, y);
-                Ok(Step::Done(*a))
-            }
-            Variance::Bivariant => unreachable!(),
-        }
-    }
-
-    // What comes of two types that were resolved shallowly: two type variables as above; a type variable is bound to a
-    // type, which is then related with that.
-    fn combine_tys(
-        &mut self,
-        a: &Ty<Infcx::Interner>,
-        b: &Ty<Infcx::Interner>,
-    ) -> RelateResult<Infcx::Interner, Step<Ty<Infcx::Interner>>>
-        requires lawful { (Infcx.state self.old.infcx.now).lawful }
-        requires env_known { KnowsEnv (Infcx.state self.old.infcx.now) self.old.param_env }
-        requires goals_known { All (KnowsGoal (Infcx.state self.old.infcx.now).meaning) self.old.goals.items }
-        requires decides { self.old.ambient_variance ≢ Bivariant }
-        requires asked { AskedTys solver_manner (solver_through Infcx.state self.old) a.now b.now }
-        requires a_shallow { let r = Infcx.state self.old.infcx.now in IsShallow r.store ((r.meaning).ty a.now) }
-        requires b_shallow { let r = Infcx.state self.old.infcx.now in IsShallow r.store ((r.meaning).ty b.now) }
-        ensures stepped { SolverSteps Infcx.state self.old self.new a.now b.now result }
-        ensures registers { let m = (Infcx.state self.old.infcx.now).meaning in
-            IsTyVar (m.ty a.now) → IsTyVar (m.ty b.now) →
-            SolverStepRegisters Infcx.state self.old self.new a.now b.now result }
-    {
-        match ty_var(&*self.infcx, a) {
-            Some(x) => match ty_var(&*self.infcx, b) {
-                Some(y) => self.combine_ty_vars(a, x, b, y),
-                None => {
-                    let variance = self.ambient_variance;
-                    let aliases = self.structurally_relate_aliases;
-                    let bound = self.infcx.instantiate_ty_var_raw(aliases, x, variance, b)?;
-                    Ok(Step::Again {
-                        a: *a,
-                        b: *b,
-                        x: bound,
-                        y: *b,
-                        variance: Variance::Covariant,
-                        answer: *a,
-                    })
-                }
-            },
-            None => match ty_var(&*self.infcx, b) {
-                Some(y) => {
-                    let variance = self.ambient_variance.xform(Variance::Contravariant);
-                    let aliases = self.structurally_relate_aliases;
-                    let bound = self.infcx.instantiate_ty_var_raw(aliases, y, variance, a)?;
-                    Ok(Step::Again {
-                        a: *a,
-                        b: *b,
-                        x: *a,
-                        y: bound,
-                        variance: Variance::Covariant,
-                        answer: *a,
-                    })
-                }
-                None => super_combine_tys::<Infcx, SolverRelating<'a, Infcx>>(self, a, b),
-            },
-        }
     }
 
     /// The goals that were registered. None is left.
@@ -291,15 +175,7 @@ impl<'a, Infcx: InferCtxtLike> TypeRelation<Infcx::Interner> for SolverRelating<
         a: &Ty<Infcx::Interner>,
         b: &Ty<Infcx::Interner>,
     ) -> RelateResult<Infcx::Interner, Step<Ty<Infcx::Interner>>> {
-        if a == b {
-            return Ok(Step::Done(*a));
-        }
-        if have_no_variable(&*self.infcx, a, b) {
-            return Ok(Step::Parts { a: *a, b: *b });
-        }
-        let left = self.infcx.shallow_resolve(a);
-        let right = self.infcx.shallow_resolve(b);
-        self.combine_tys(&left, &right)
+        self.step_tys(a, b)
     }
 
     fn consts(
@@ -307,7 +183,7 @@ impl<'a, Infcx: InferCtxtLike> TypeRelation<Infcx::Interner> for SolverRelating<
         a: &Const<Infcx::Interner>,
         b: &Const<Infcx::Interner>,
     ) -> RelateResult<Infcx::Interner, Step<Const<Infcx::Interner>>> {
-        super_combine_consts::<Infcx, SolverRelating<'a, Infcx>>(self, a, b)
+        self.step_consts(a, b)
     }
 
     fn regions(
@@ -315,8 +191,7 @@ impl<'a, Infcx: InferCtxtLike> TypeRelation<Infcx::Interner> for SolverRelating<
         a: &Region<Infcx::Interner>,
         b: &Region<Infcx::Interner>,
     ) -> RelateResult<Infcx::Interner, Region<Infcx::Interner>> {
-        relate_regions(&mut *self.infcx, self.ambient_variance, a, b, self.span)?;
-        Ok(*a)
+        self.step_regions(a, b)
     }
 
     fn open_binders<T: TypeFoldable<Infcx::Interner> + TypeVisitable<Infcx::Interner> + Copy>(
@@ -325,21 +200,7 @@ impl<'a, Infcx: InferCtxtLike> TypeRelation<Infcx::Interner> for SolverRelating<
         b: &BinderOf<Infcx::Interner, T>,
         round: usize,
     ) -> RelateResult<Infcx::Interner, Option<(T, T)>> {
-        if !one_uses(&*self.infcx, a, b) {
-            if round > 0 {
-                return Ok(None);
-            }
-            return Ok(Some((a.value, b.value)));
-        }
-        if enters_second(self.ambient_variance, round) {
-            let (y, x) = enter_and_instantiate(&mut *self.infcx, b, a)?;
-            return Ok(Some((x, y)));
-        }
-        if enters_first(self.ambient_variance, round) {
-            let (x, y) = enter_and_instantiate(&mut *self.infcx, a, b)?;
-            return Ok(Some((x, y)));
-        }
-        Ok(None)
+        self.step_binders(a, b, round)
     }
 
     fn tys_done(
@@ -358,9 +219,7 @@ impl<'a, Infcx: InferCtxtLike> TypeRelation<Infcx::Interner> for SolverRelating<
         a_args: &GenericArgs<Infcx::Interner>,
         b_args: &GenericArgs<Infcx::Interner>,
     ) -> RelateResult<Infcx::Interner, ()> {
-        combine_ty_args::<Infcx, SolverRelating<'a, Infcx>>(
-            self, a_ty, b_ty, def_id, a_args, b_args,
-        )
+        self.step_ty_args(a_ty, b_ty, def_id, a_args, b_args)
     }
 
     ghost reads = { λ r. Infcx.reads r.infcx.now };

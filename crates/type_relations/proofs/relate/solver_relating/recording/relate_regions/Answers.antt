@@ -1,4 +1,5 @@
 use Rattle.type_relations.proofs.Solving.{constrained_goes, constrained_bound, constrained_full}
+use Rattle.type_relations.proofs.Stepping.{constrained_refused}
 use Rattle.type_relations.proofs.relate.solver_relating.recording.relate_regions.Goals as goal
 
 pub returns-in-Covariant-clause-goes : goal.returns-in-Covariant-clause-goes
@@ -44,4 +45,19 @@ returns-in-Contravariant-clause-full g c =
 pub returns-in-Invariant-clause-full : goal.returns-in-Invariant-clause-full
 returns-in-Invariant-clause-full g c =
     constrained_full (g.Infcx.InferCtxtLike.state c.args.infcx.now) (g.Infcx.InferCtxtLike.state c.equate_regions.new.self) _
+    c.equate_regions.result c.equate_regions.ensures.constrains
+
+pub returns-in-Covariant-clause-refused : goal.returns-in-Covariant-clause-refused
+returns-in-Covariant-clause-refused g c =
+    constrained_refused (g.Infcx.InferCtxtLike.state c.args.infcx.now) (g.Infcx.InferCtxtLike.state c.sub_regions.new.self) _
+    c.sub_regions.result c.sub_regions.ensures.constrains
+
+pub returns-in-Contravariant-clause-refused : goal.returns-in-Contravariant-clause-refused
+returns-in-Contravariant-clause-refused g c =
+    constrained_refused (g.Infcx.InferCtxtLike.state c.args.infcx.now) (g.Infcx.InferCtxtLike.state c.sub_regions-in-Contravariant.new.self) _
+    c.sub_regions-in-Contravariant.result c.sub_regions-in-Contravariant.ensures.constrains
+
+pub returns-in-Invariant-clause-refused : goal.returns-in-Invariant-clause-refused
+returns-in-Invariant-clause-refused g c =
+    constrained_refused (g.Infcx.InferCtxtLike.state c.args.infcx.now) (g.Infcx.InferCtxtLike.state c.equate_regions.new.self) _
     c.equate_regions.result c.equate_regions.ensures.constrains

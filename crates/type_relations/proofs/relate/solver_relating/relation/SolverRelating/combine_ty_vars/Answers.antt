@@ -2,7 +2,7 @@ use Rattle.std.proofs.Common.{refl, sym, ap, subst, IfSome, true, false, Ok}
 use Rattle.relation_terms.specs.Heads.{type_var}
 use Rattle.relation_folds.specs.declared.error.RelateFault.TheVariants.{Memory}
 use Rattle.relation_contexts.specs.declared.relate.Step.TheVariants.{Done}
-use Rattle.relation_contexts.specs.Goals.{subtype_predicate}
+use Rattle.relation_contexts.specs.Goals.{subtype_predicate, goals_of}
 use Rattle.relation_contexts.specs.Parts.{IsFormed}
 use Rattle.relation_contexts.specs.Lawful.{Stepped}
 use Rattle.type_relations.specs.Solving.{solving_through, solver_manner}
@@ -12,6 +12,8 @@ use Rattle.type_relations.proofs.Solving.{held_grows, held_stands, roots_step, m
 use Rattle.type_relations.proofs.SolvingGoals.{covariant_step, contravariant_step}
 use Rattle.type_relations.specs.Subtyping.{subtype_at, StepRegistersAlone}
 use Rattle.type_relations.proofs.Subtyping.{refused_alone, pushed_alone}
+use Rattle.type_relations.specs.Stepping.{made_one, left_subtype, right_subtype}
+use Rattle.type_relations.proofs.Stepping.{covariant_directed, contravariant_directed, registered_one, refused_goal}
 use Rattle.type_relations.proofs.relate.solver_relating.relation.SolverRelating.combine_ty_vars.Goals as goal
 
 pub returns-in_err-predicate-in-Covariant-clause-stepped : goal.returns-in_err-predicate-in-Covariant-clause-stepped
@@ -221,3 +223,80 @@ returns-in-Invariant-clause-registers g c =
     (solving_through r.structurally_relate_aliases r.infcx.ghost_name r.goals.items s r.ambient_variance r.param_env)
     (solving_through r.structurally_relate_aliases r.infcx.ghost_name r.goals.items d r.ambient_variance r.param_env) (d.meaning).ty a p
     (Ok (Done c.args.a.now)))) (sym c.in-Invariant.is) tt
+
+pub returns-in_err-predicate-in-Covariant-clause-combines : goal.returns-in_err-predicate-in-Covariant-clause-combines
+returns-in_err-predicate-in-Covariant-clause-combines g c =
+    let r = c.args.self.now in
+    let s = g.Infcx.InferCtxtLike.state r.infcx.now in
+    let d = g.Infcx.InferCtxtLike.state c.subtype_predicate.new.infcx in
+    let h = c.in_err-predicate-in-Covariant.ensures in
+    refused_goal r.structurally_relate_aliases r.infcx.ghost_name r.goals.items r.goals.items s d
+    r.ambient_variance r.param_env h.grows.extends (c.requires.env_known, c.requires.goals_known) h.same_store
+    c.args.a.now c.args.b.now c.from_residual.result (covariant_directed c.in-Covariant.is) refl
+    (as_err c.from_residual.result Memory c.from_residual.ensures.0 c.from_residual.ensures.1)
+
+pub returns-in_err-push-in-Covariant-clause-combines : goal.returns-in_err-push-in-Covariant-clause-combines
+returns-in_err-push-in-Covariant-clause-combines g c =
+    let r = c.args.self.now in
+    let s = g.Infcx.InferCtxtLike.state r.infcx.now in
+    let d = g.Infcx.InferCtxtLike.state c.subtype_predicate.new.infcx in
+    let h = c.in_ok-predicate-in-Covariant.ensures in
+    refused_goal r.structurally_relate_aliases r.infcx.ghost_name r.goals.items c.push.new.self.items s d
+    r.ambient_variance r.param_env h.grows.extends (c.requires.env_known, c.requires.goals_known) h.same_store
+    c.args.a.now c.args.b.now c.from_residual-in_err-push-in-Covariant.result (covariant_directed c.in-Covariant.is) c.in_err-push-in-Covariant.ensures.items
+    (as_err c.from_residual-in_err-push-in-Covariant.result Memory c.from_residual-in_err-push-in-Covariant.ensures.0 c.from_residual-in_err-push-in-Covariant.ensures.1)
+
+pub returns-in_ok-push-in-Covariant-clause-combines : goal.returns-in_ok-push-in-Covariant-clause-combines
+returns-in_ok-push-in-Covariant-clause-combines g c =
+    let r = c.args.self.now in
+    let s = g.Infcx.InferCtxtLike.state r.infcx.now in
+    let d = g.Infcx.InferCtxtLike.state c.subtype_predicate.new.infcx in
+    let h = c.in_ok-predicate-in-Covariant.ensures in
+    left_subtype c.in-Covariant.is
+    (registered_one r.structurally_relate_aliases r.infcx.ghost_name r.goals.items c.push.new.self.items s d
+    r.ambient_variance r.param_env h.grows.extends (c.requires.env_known, c.requires.goals_known) h.same_store
+    c.in_ok-predicate-in-Covariant.predicate
+    (subtype_predicate true ((s.meaning).ty c.args.a.now) ((s.meaning).ty c.args.b.now))
+    c.in_ok-push-in-Covariant.ensures.items h.made) refl
+
+pub returns-in_err-predicate-in-Contravariant-clause-combines : goal.returns-in_err-predicate-in-Contravariant-clause-combines
+returns-in_err-predicate-in-Contravariant-clause-combines g c =
+    let r = c.args.self.now in
+    let s = g.Infcx.InferCtxtLike.state r.infcx.now in
+    let d = g.Infcx.InferCtxtLike.state c.subtype_predicate-in-Contravariant.new.infcx in
+    let h = c.in_err-predicate-in-Contravariant.ensures in
+    refused_goal r.structurally_relate_aliases r.infcx.ghost_name r.goals.items r.goals.items s d
+    r.ambient_variance r.param_env h.grows.extends (c.requires.env_known, c.requires.goals_known) h.same_store
+    c.args.a.now c.args.b.now c.from_residual-in_err-predicate-in-Contravariant.result (contravariant_directed c.in-Contravariant.is) refl
+    (as_err c.from_residual-in_err-predicate-in-Contravariant.result Memory c.from_residual-in_err-predicate-in-Contravariant.ensures.0 c.from_residual-in_err-predicate-in-Contravariant.ensures.1)
+
+pub returns-in_err-push-in-Contravariant-clause-combines : goal.returns-in_err-push-in-Contravariant-clause-combines
+returns-in_err-push-in-Contravariant-clause-combines g c =
+    let r = c.args.self.now in
+    let s = g.Infcx.InferCtxtLike.state r.infcx.now in
+    let d = g.Infcx.InferCtxtLike.state c.subtype_predicate-in-Contravariant.new.infcx in
+    let h = c.in_ok-predicate-in-Contravariant.ensures in
+    refused_goal r.structurally_relate_aliases r.infcx.ghost_name r.goals.items c.push-in-Contravariant.new.self.items s d
+    r.ambient_variance r.param_env h.grows.extends (c.requires.env_known, c.requires.goals_known) h.same_store
+    c.args.a.now c.args.b.now c.from_residual-in_err-push-in-Contravariant.result (contravariant_directed c.in-Contravariant.is) c.in_err-push-in-Contravariant.ensures.items
+    (as_err c.from_residual-in_err-push-in-Contravariant.result Memory c.from_residual-in_err-push-in-Contravariant.ensures.0 c.from_residual-in_err-push-in-Contravariant.ensures.1)
+
+pub returns-in_ok-push-in-Contravariant-clause-combines : goal.returns-in_ok-push-in-Contravariant-clause-combines
+returns-in_ok-push-in-Contravariant-clause-combines g c =
+    let r = c.args.self.now in
+    let s = g.Infcx.InferCtxtLike.state r.infcx.now in
+    let d = g.Infcx.InferCtxtLike.state c.subtype_predicate-in-Contravariant.new.infcx in
+    let h = c.in_ok-predicate-in-Contravariant.ensures in
+    right_subtype c.in-Contravariant.is
+    (registered_one r.structurally_relate_aliases r.infcx.ghost_name r.goals.items c.push-in-Contravariant.new.self.items s d
+    r.ambient_variance r.param_env h.grows.extends (c.requires.env_known, c.requires.goals_known) h.same_store
+    c.in_ok-predicate-in-Contravariant.predicate
+    (subtype_predicate false ((s.meaning).ty c.args.b.now) ((s.meaning).ty c.args.a.now))
+    c.in_ok-push-in-Contravariant.ensures.items h.made) refl
+
+pub returns-in-Invariant-clause-combines : goal.returns-in-Invariant-clause-combines
+returns-in-Invariant-clause-combines g c =
+    let done = c.equate_ty_vids_raw.ensures.equates in
+    made_one c.args.x.0 c.args.y.0 c.in-Invariant.is c.requires.a_is c.requires.b_is
+    (record { same = done.same; equates = done.equates }) done.stands.meaning
+    (ap (λ m. goals_of m c.args.self.now.goals.items) done.stands.meaning) refl

@@ -13,6 +13,9 @@ use Rattle.type_relations.proofs.Shallowly.{shallow_free, variable_made}
 use Rattle.type_relations.proofs.GeneralisingErrors.{cycle_error}
 use Rattle.type_relations.proofs.Solving.{held_grows, decides_back, ty_sorted, as_solving, still_lawful}
 use Rattle.type_relations.proofs.SolvingVariables.{left_step, right_step, left_refused, right_refused, type_comes_to_none}
+use Rattle.relation_contexts.proofs.Registered.{goals_stay}
+use Rattle.type_relations.specs.Stepping.{BindsTyVar, two_variables, left_bound, left_refused as left_not_bound}
+use Rattle.type_relations.specs.Stepping.{right_bound, right_refused as right_not_bound, no_ty_variables}
 use Rattle.type_relations.proofs.relate.solver_relating.relation.SolverRelating.combine_tys.Goals as goal
 
 pub instantiate_ty_var_raw-requires-clause-target_unresolved : goal.instantiate_ty_var_raw-requires-clause-target_unresolved
@@ -216,3 +219,63 @@ returns-in_err-bound-in-Some-ty_var-2-clause-registers g c = λ f h. absurd (c.i
 
 pub returns-in_ok-bound-in-Some-ty_var-2-clause-registers : goal.returns-in_ok-bound-in-Some-ty_var-2-clause-registers
 returns-in_ok-bound-in-Some-ty_var-2-clause-registers g c = λ f h. absurd (c.in-None.ensures.is_none f.0 f.1)
+
+pub returns-in-Some-ty_var-clause-combines : goal.returns-in-Some-ty_var-clause-combines
+returns-in-Some-ty_var-clause-combines g c = two_variables c.in-Some.x.0 c.in-Some-ty_var.y.0 c.in-Some.ensures.is
+    c.in-Some-ty_var.ensures.is c.combine_ty_vars.ensures.combines
+
+pub returns-in_err-bound-in-None-ty_var-clause-combines : goal.returns-in_err-bound-in-None-ty_var-clause-combines
+returns-in_err-bound-in-None-ty_var-clause-combines g c =
+    let h = c.in_err-bound-in-None-ty_var.ensures in
+    let f = c.in_err-bound-in-None-ty_var.field-0.0 in
+    left_not_bound c.in-Some.x.0 f c.in-Some.ensures.is c.in-None-ty_var.ensures.is_none
+    (record {
+      instantiated = h.instantiates;
+      goals = goals_stay h.grows.extends c.args.self.now.goals.items c.requires.goals_known;
+    }) (as_err c.from_residual.result f c.from_residual.ensures.0 c.from_residual.ensures.1)
+
+pub returns-in_ok-bound-in-None-ty_var-clause-combines : goal.returns-in_ok-bound-in-None-ty_var-clause-combines
+returns-in_ok-bound-in-None-ty_var-clause-combines g c =
+    let h = c.in_ok-bound-in-None-ty_var.ensures in
+    left_bound c.in-Some.x.0 c.in_ok-bound-in-None-ty_var.bound c.in-Some.ensures.is c.in-None-ty_var.ensures.is_none
+    (record {
+      instantiated = h.instantiates;
+      goals = goals_stay h.grows.extends c.args.self.now.goals.items c.requires.goals_known;
+    }) refl
+
+pub returns-in_err-bound-in-Some-ty_var-2-clause-combines : goal.returns-in_err-bound-in-Some-ty_var-2-clause-combines
+returns-in_err-bound-in-Some-ty_var-2-clause-combines g c =
+    let r = c.args.self.now in
+    let d = c.instantiate_ty_var_raw-in-Some-ty_var-2.new.self in
+    let h = c.in_err-bound-in-Some-ty_var-2.ensures in
+    let f = c.in_err-bound-in-Some-ty_var-2.field-0.0 in
+    let from = c.from_residual-in_err-bound-in-Some-ty_var-2 in
+    right_not_bound c.in-Some-ty_var-2.y.0 f c.in-Some-ty_var-2.ensures.is c.in-None.ensures.is_none
+    (subst (λ z. BindsTyVar
+    (solving_through r.structurally_relate_aliases r.infcx.ghost_name r.goals.items (g.Infcx.InferCtxtLike.state r.infcx.now) r.ambient_variance r.param_env)
+    (solving_through r.structurally_relate_aliases r.infcx.ghost_name r.goals.items (g.Infcx.InferCtxtLike.state d) r.ambient_variance r.param_env)
+    z c.in-Some-ty_var-2.y.0 c.args.a.now (Err f)) c.xform-variance.ensures
+    (record {
+      instantiated = h.instantiates;
+      goals = goals_stay h.grows.extends r.goals.items c.requires.goals_known;
+    })) (as_err from.result f from.ensures.0 from.ensures.1)
+
+pub returns-in_ok-bound-in-Some-ty_var-2-clause-combines : goal.returns-in_ok-bound-in-Some-ty_var-2-clause-combines
+returns-in_ok-bound-in-Some-ty_var-2-clause-combines g c =
+    let r = c.args.self.now in
+    let d = c.instantiate_ty_var_raw-in-Some-ty_var-2.new.self in
+    let h = c.in_ok-bound-in-Some-ty_var-2.ensures in
+    let x = c.in_ok-bound-in-Some-ty_var-2.bound in
+    right_bound c.in-Some-ty_var-2.y.0 x c.in-Some-ty_var-2.ensures.is c.in-None.ensures.is_none
+    (subst (λ z. BindsTyVar
+    (solving_through r.structurally_relate_aliases r.infcx.ghost_name r.goals.items (g.Infcx.InferCtxtLike.state r.infcx.now) r.ambient_variance r.param_env)
+    (solving_through r.structurally_relate_aliases r.infcx.ghost_name r.goals.items (g.Infcx.InferCtxtLike.state d) r.ambient_variance r.param_env)
+    z c.in-Some-ty_var-2.y.0 c.args.a.now (Ok x)) c.xform-variance.ensures
+    (record {
+      instantiated = h.instantiates;
+      goals = goals_stay h.grows.extends r.goals.items c.requires.goals_known;
+    })) refl
+
+pub returns-in-None-ty_var-2-clause-combines : goal.returns-in-None-ty_var-2-clause-combines
+returns-in-None-ty_var-2-clause-combines g c = no_ty_variables c.in-None.ensures.is_none
+    c.in-None-ty_var-2.ensures.is_none c.super_combine_tys.ensures.combines c.super_combine_tys.ensures.registers_nothing

@@ -1,4 +1,6 @@
-use Rattle.std.proofs.Common.{refl, sym, subst, Ok}
+use Rattle.std.proofs.Common.{◌≡◌, refl, sym, ◌∙◌, subst, Ok, IsTrue}
+use Rattle.std.proofs.lemmas.Bool.{false≢true}
+use Rattle.relation_terms.specs.Trees.{known}
 use Rattle.relation_contexts.specs.Errors.{itself}
 use Rattle.relation_contexts.specs.Parts.{IsFormed}
 use Rattle.type_relations.specs.Solving.{solving_through, solver_manner}
@@ -9,7 +11,9 @@ use Rattle.type_relations.proofs.OverContext.{all_taken, parts_step, read_covere
 use Rattle.type_relations.proofs.Solving.{held_kept, answered_step, one_ty}
 use Rattle.relation_contexts.specs.declared.relate.Step.TheVariants.{Done, Parts}
 use Rattle.type_relations.proofs.Subtyping.{step_of_one, step_left_none, read_registers}
-use Rattle.type_relations.proofs.relate.solver_relating.relation.SolverRelatingTypeRelationInterner.tys.Goals as goal
+use Rattle.type_relations.specs.Stepping.{one_type, without_variables, resolved_first}
+use Rattle.type_relations.proofs.Stepping.{leaves_itself}
+use Rattle.type_relations.proofs.relate.solver_relating.relation.SolverRelating.step_tys.Goals as goal
 
 pub returns-then-eq-clause-stepped : goal.returns-then-eq-clause-stepped
 returns-then-eq-clause-stepped g c =
@@ -111,3 +115,53 @@ returns-clause-registers g c =
     ((s.meaning).ty c.shallow_resolve-right.result) c.shallow_resolve-left.ensures.reads.reads
     c.shallow_resolve-right.ensures.reads.reads c.shallow_resolve-left.ensures.shallow
     c.shallow_resolve-right.ensures.shallow c.combine_tys.ensures.registers
+
+pub returns-then-eq-clause-steps : goal.returns-then-eq-clause-steps
+returns-then-eq-clause-steps g c =
+    let r = c.args.self.now in
+    let s = g.Infcx.InferCtxtLike.state r.infcx.now in
+    let cx = g.Infcx.InferCtxtLike.interner r.infcx.now in
+    let of = g.met.Infcx.InferCtxtLike.reads r.infcx.now in
+    let k = c.requires.asked in
+    let a = c.args.a.now in
+    let b = c.args.b.now in
+    one_type (one_ty of a b (λ h i. (g.met.Infcx.Interner.Interner.same_ty cx a b h i).0 (sym c.if-eq.ensures))
+    k.left_known k.right_known) (leaves_itself (solving_through r.structurally_relate_aliases r.infcx.ghost_name r.goals.items s r.ambient_variance r.param_env)) refl
+
+pub returns-then-have_no_variable-clause-steps : goal.returns-then-have_no_variable-clause-steps
+returns-then-have_no_variable-clause-steps g c =
+    let r = c.args.self.now in
+    let s = g.Infcx.InferCtxtLike.state r.infcx.now in
+    let cx = g.Infcx.InferCtxtLike.interner r.infcx.now in
+    let of = g.met.Infcx.InferCtxtLike.reads r.infcx.now in
+    let k = c.requires.asked in
+    let a = c.args.a.now in
+    let b = c.args.b.now in
+    without_variables (λ e. false≢true (c.if-eq.ensures ∙ (g.met.Infcx.Interner.Interner.same_ty cx a b
+    (subst (λ z. IsTrue (known (z.ty a))) of k.left_known)
+    (subst (λ z. IsTrue (known (z.ty b))) of k.right_known)).1 (subst (λ z. z.ty a ≡ z.ty b) of e)))
+    (c.have_no_variable.ensures.none c.if-have_no_variable.true) (leaves_itself (solving_through r.structurally_relate_aliases r.infcx.ghost_name r.goals.items s r.ambient_variance r.param_env)) refl
+
+pub returns-clause-steps : goal.returns-clause-steps
+returns-clause-steps g c =
+    let r = c.args.self.now in
+    let cx = g.Infcx.InferCtxtLike.interner r.infcx.now in
+    let of = g.met.Infcx.InferCtxtLike.reads r.infcx.now in
+    let k = c.requires.asked in
+    let a = c.args.a.now in
+    let b = c.args.b.now in
+    let left = c.shallow_resolve-left.ensures in
+    let right = c.shallow_resolve-right.ensures in
+    resolved_first c.shallow_resolve-left.result c.shallow_resolve-right.result
+    (λ e. false≢true (c.if-eq.ensures ∙ (g.met.Infcx.Interner.Interner.same_ty cx a b
+    (subst (λ z. IsTrue (known (z.ty a))) of k.left_known)
+    (subst (λ z. IsTrue (known (z.ty b))) of k.right_known)).1 (subst (λ z. z.ty a ≡ z.ty b) of e)))
+    (c.have_no_variable.ensures.one c.if-have_no_variable.false)
+    (record {
+      reads = record { sure = left.reads.sure; reads = left.reads.reads; resolves = left.reads.resolves };
+      shallow = left.shallow;
+    })
+    (record {
+      reads = record { sure = right.reads.sure; reads = right.reads.reads; resolves = right.reads.resolves };
+      shallow = right.shallow;
+    }) c.combine_tys.ensures.combines

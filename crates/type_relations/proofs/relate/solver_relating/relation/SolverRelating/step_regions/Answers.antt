@@ -1,8 +1,11 @@
-use Rattle.std.proofs.Common.{refl}
+use Rattle.std.proofs.Common.{refl, ap}
 use Rattle.relation_folds.specs.declared.error.RelateFault.TheVariants.{Memory}
 use Rattle.relation_contexts.proofs.Passing.{as_err}
-use Rattle.type_relations.proofs.Solving.{held_stands, regions_recorded, memory_refused, asked_recorded, region_sorted}
-use Rattle.type_relations.proofs.relate.solver_relating.relation.SolverRelatingTypeRelationInterner.regions.Goals as goal
+use Rattle.type_relations.proofs.Solving.{held_stands, regions_recorded, memory_refused, region_sorted}
+use Rattle.relation_contexts.specs.Goals.{goals_of}
+use Rattle.type_relations.specs.Stepping.{constraint_refused}
+use Rattle.type_relations.proofs.Stepping.{regions_step}
+use Rattle.type_relations.proofs.relate.solver_relating.relation.SolverRelating.step_regions.Goals as goal
 
 pub returns-in_err-relate_regions-clause-related : goal.returns-in_err-relate_regions-clause-related
 returns-in_err-relate_regions-clause-related g c =
@@ -50,10 +53,22 @@ relate_regions-requires-clause-b_in g c =
     let k = c.requires.asked in
     (region_sorted of c.args.b.now ((g.met.Infcx.Interner.Interner.sorted cx).region c.args.b.now) k.right_known, k.right_in)
 
-pub returns-clause-recorded : goal.returns-clause-recorded
-returns-clause-recorded g c = λ p.
+pub returns-in_err-relate_regions-clause-steps : goal.returns-in_err-relate_regions-clause-steps
+returns-in_err-relate_regions-clause-steps g c = constraint_refused c.in_err-relate_regions.ensures.refused
+    (as_err c.from_residual.result Memory c.from_residual.ensures.0 c.from_residual.ensures.1)
+
+pub returns-clause-steps : goal.returns-clause-steps
+returns-clause-steps g c =
     let r = c.args.self.now in
-    let s = g.Infcx.InferCtxtLike.state r.infcx.now in
-    let d = g.Infcx.InferCtxtLike.state c.relate_regions.new.infcx in
-    asked_recorded s.meaning s.store d.store r.ambient_variance c.args.a.now c.args.b.now c.requires.decides
-    c.in_ok-relate_regions.ensures.adds
+    regions_step r.structurally_relate_aliases r.infcx.ghost_name r.goals.items r.goals.items
+    (g.Infcx.InferCtxtLike.state r.infcx.now) (g.Infcx.InferCtxtLike.state c.relate_regions.new.infcx)
+    r.ambient_variance r.param_env c.args.a.now c.args.b.now c.requires.decides c.in_ok-relate_regions.ensures.adds
+
+pub returns-in_err-relate_regions-clause-registers_nothing :
+    goal.returns-in_err-relate_regions-clause-registers_nothing
+returns-in_err-relate_regions-clause-registers_nothing g c =
+    ap (λ m. goals_of m c.args.self.now.goals.items) c.relate_regions.ensures.stands.meaning
+
+pub returns-clause-registers_nothing : goal.returns-clause-registers_nothing
+returns-clause-registers_nothing g c =
+    ap (λ m. goals_of m c.args.self.now.goals.items) c.relate_regions.ensures.stands.meaning

@@ -6,12 +6,17 @@ use Rattle.relation_folds.specs.Visits.{bound_var_escapes}
 use Rattle.relation_folds.specs.declared.error.RelateFault.TheVariants.{Memory}
 use Rattle.relation_contexts.specs.Binders.{binder_tree}
 use Rattle.relation_contexts.proofs.Passing.{as_err}
+use Rattle.type_relations.specs.Solving.{solving_through}
 use Rattle.type_relations.proofs.SolvingBinders.{covered_binds, opens_neither, opening_refused, opens_second}
 use Rattle.type_relations.proofs.SolvingBinders.{opens_first, opens_none, no_more}
-use Rattle.type_relations.proofs.relate.solver_relating.relation.SolverRelatingTypeRelationInterner.open_binders.Goals as goal
+use Rattle.relation_contexts.proofs.Registered.{goals_stay}
+use Rattle.type_relations.specs.Stepping.{as_they_stand, right_entered, right_not_entered, left_entered}
+use Rattle.type_relations.specs.Stepping.{left_not_entered, none_left}
+use Rattle.type_relations.proofs.Stepping.{leaves_itself, opens_seen}
+use Rattle.type_relations.proofs.relate.solver_relating.relation.SolverRelating.step_binders.Goals as goal
 
-pub returns-then-round-gt0 : goal.returns-then-round-gt0
-returns-then-round-gt0 g c =
+pub returns-then-round-gt0-clause-opened : goal.returns-then-round-gt0-clause-opened
+returns-then-round-gt0-clause-opened g c =
     let r = c.args.self.now in
     let s = g.Infcx.InferCtxtLike.state r.infcx.now in
     let tree = g.T.HasTree.tree s.meaning in
@@ -24,8 +29,8 @@ returns-then-round-gt0 g c =
     c.args.round tree ((s.meaning).bound_vars a.bound_vars) ((s.meaning).bound_vars b.bound_vars) c.requires.asked
     (grind (arith, common_steps)) (inr none)
 
-pub returns-then-not-one_uses : goal.returns-then-not-one_uses
-returns-then-not-one_uses g c =
+pub returns-then-not-one_uses-clause-opened : goal.returns-then-not-one_uses-clause-opened
+returns-then-not-one_uses-clause-opened g c =
     let r = c.args.self.now in
     let s = g.Infcx.InferCtxtLike.state r.infcx.now in
     let tree = g.T.HasTree.tree s.meaning in
@@ -62,8 +67,8 @@ enter_and_instantiate-requires-then-enters_first-clause-instantiated_binds g c =
     let s = g.Infcx.InferCtxtLike.state c.args.self.now.infcx.now in
     covered_binds (binder_tree g.T.HasTree.tree s.meaning c.args.b.now) c.requires.asked.right_taken.1
 
-pub returns-in_err-y : goal.returns-in_err-y
-returns-in_err-y g c =
+pub returns-in_err-y-clause-opened : goal.returns-in_err-y-clause-opened
+returns-in_err-y-clause-opened g c =
     let r = c.args.self.now in
     let s = g.Infcx.InferCtxtLike.state r.infcx.now in
     let d = g.Infcx.InferCtxtLike.state c.enter_and_instantiate.new.infcx in
@@ -75,8 +80,8 @@ returns-in_err-y g c =
     (g.T.HasTree.tree d.meaning) c.from_residual.result
     (as_err c.from_residual.result Memory c.from_residual.ensures.0 c.from_residual.ensures.1)
 
-pub returns-then-enters_second : goal.returns-then-enters_second
-returns-then-enters_second g c =
+pub returns-then-enters_second-clause-opened : goal.returns-then-enters_second-clause-opened
+returns-then-enters_second-clause-opened g c =
     let r = c.args.self.now in
     let s = g.Infcx.InferCtxtLike.state r.infcx.now in
     let d = g.Infcx.InferCtxtLike.state c.enter_and_instantiate.new.infcx in
@@ -92,8 +97,8 @@ returns-then-enters_second g c =
     (tree s.meaning b.value) tree c.in_ok-y.x c.in_ok-y.y some ((s.meaning).bound_vars a.bound_vars)
     ((s.meaning).bound_vars b.bound_vars) c.requires.asked done.opens at.0 at.1
 
-pub returns-in_err-x : goal.returns-in_err-x
-returns-in_err-x g c =
+pub returns-in_err-x-clause-opened : goal.returns-in_err-x-clause-opened
+returns-in_err-x-clause-opened g c =
     let r = c.args.self.now in
     let s = g.Infcx.InferCtxtLike.state r.infcx.now in
     let d = g.Infcx.InferCtxtLike.state c.enter_and_instantiate-then-enters_first.new.infcx in
@@ -105,8 +110,8 @@ returns-in_err-x g c =
     (binder_tree g.T.HasTree.tree s.meaning c.args.a.now) (binder_tree g.T.HasTree.tree s.meaning c.args.b.now)
     (g.T.HasTree.tree d.meaning) from.result (as_err from.result Memory from.ensures.0 from.ensures.1)
 
-pub returns-then-enters_first : goal.returns-then-enters_first
-returns-then-enters_first g c =
+pub returns-then-enters_first-clause-opened : goal.returns-then-enters_first-clause-opened
+returns-then-enters_first-clause-opened g c =
     let r = c.args.self.now in
     let s = g.Infcx.InferCtxtLike.state r.infcx.now in
     let d = g.Infcx.InferCtxtLike.state c.enter_and_instantiate-then-enters_first.new.infcx in
@@ -122,8 +127,8 @@ returns-then-enters_first g c =
     ((s.meaning).bound_vars b.bound_vars) c.requires.asked done.opens
     (c.enters_first.ensures.0 c.if-enters_first.true)
 
-pub returns : goal.returns
-returns g c =
+pub returns-clause-opened : goal.returns-clause-opened
+returns-clause-opened g c =
     let r = c.args.self.now in
     let s = g.Infcx.InferCtxtLike.state r.infcx.now in
     let tree = g.T.HasTree.tree s.meaning in
@@ -136,3 +141,114 @@ returns g c =
     (grows_itself s c.requires.lawful.0) (tree a.value) (tree b.value)
     c.args.round tree ((s.meaning).bound_vars a.bound_vars) ((s.meaning).bound_vars b.bound_vars) c.requires.asked
     last.0 (inl last.1)
+
+pub returns-then-round-gt0-clause-steps : goal.returns-then-round-gt0-clause-steps
+returns-then-round-gt0-clause-steps g c =
+    let r = c.args.self.now in
+    let s = g.Infcx.InferCtxtLike.state r.infcx.now in
+    let tree = g.T.HasTree.tree in
+    let a = c.args.a.now in
+    let b = c.args.b.now in
+    let none : (bound_var_escapes (tree s.meaning a.value) || bound_var_escapes (tree s.meaning b.value)) ≡ false =
+    grind (arith, common_steps) in
+    none_left (grind (arith, common_steps)) (inr none) (leaves_itself (solving_through r.structurally_relate_aliases r.infcx.ghost_name r.goals.items s r.ambient_variance r.param_env)) refl
+
+pub returns-then-not-one_uses-clause-steps : goal.returns-then-not-one_uses-clause-steps
+returns-then-not-one_uses-clause-steps g c =
+    let r = c.args.self.now in
+    let s = g.Infcx.InferCtxtLike.state r.infcx.now in
+    let tree = g.T.HasTree.tree in
+    let a = c.args.a.now in
+    let b = c.args.b.now in
+    let none : (bound_var_escapes (tree s.meaning a.value) || bound_var_escapes (tree s.meaning b.value)) ≡ false =
+    grind (arith, common_steps) in
+    as_they_stand (grind (arith, common_steps)) none (leaves_itself (solving_through r.structurally_relate_aliases r.infcx.ghost_name r.goals.items s r.ambient_variance r.param_env)) refl
+
+pub returns-in_err-y-clause-steps : goal.returns-in_err-y-clause-steps
+returns-in_err-y-clause-steps g c =
+    let r = c.args.self.now in
+    let s = g.Infcx.InferCtxtLike.state r.infcx.now in
+    let tree = g.T.HasTree.tree in
+    let a = c.args.a.now in
+    let b = c.args.b.now in
+    let some : (bound_var_escapes (tree s.meaning a.value) || bound_var_escapes (tree s.meaning b.value)) ≡ true =
+    grind (arith, common_steps) in
+    right_not_entered (c.enters_second.ensures.0 c.if-enters_second.true) some c.in_err-y.ensures.opens
+    (as_err c.from_residual.result Memory c.from_residual.ensures.0 c.from_residual.ensures.1)
+
+pub returns-then-enters_second-clause-steps : goal.returns-then-enters_second-clause-steps
+returns-then-enters_second-clause-steps g c =
+    let r = c.args.self.now in
+    let s = g.Infcx.InferCtxtLike.state r.infcx.now in
+    let tree = g.T.HasTree.tree in
+    let a = c.args.a.now in
+    let b = c.args.b.now in
+    let some : (bound_var_escapes (tree s.meaning a.value) || bound_var_escapes (tree s.meaning b.value)) ≡ true =
+    grind (arith, common_steps) in
+    let d = g.Infcx.InferCtxtLike.state c.enter_and_instantiate.new.infcx in
+    let h = c.in_ok-y.ensures.opens in
+    right_entered c.in_ok-y.x c.in_ok-y.y (c.enters_second.ensures.0 c.if-enters_second.true) some (
+      h.0,
+      h.1,
+      opens_seen s d ((s.meaning).bound_vars b.bound_vars) ((s.meaning).bound_vars a.bound_vars)
+          (tree s.meaning b.value) (tree s.meaning a.value) (tree d.meaning c.in_ok-y.y) (tree d.meaning c.in_ok-y.x) h.2,
+    ) refl
+
+pub returns-in_err-x-clause-steps : goal.returns-in_err-x-clause-steps
+returns-in_err-x-clause-steps g c =
+    let r = c.args.self.now in
+    let s = g.Infcx.InferCtxtLike.state r.infcx.now in
+    let tree = g.T.HasTree.tree in
+    let a = c.args.a.now in
+    let b = c.args.b.now in
+    let some : (bound_var_escapes (tree s.meaning a.value) || bound_var_escapes (tree s.meaning b.value)) ≡ true =
+    grind (arith, common_steps) in
+    let from = c.from_residual-in_err-x in
+    left_not_entered (c.enters_first.ensures.0 c.if-enters_first.true) some c.in_err-x.ensures.opens
+    (as_err from.result Memory from.ensures.0 from.ensures.1)
+
+pub returns-then-enters_first-clause-steps : goal.returns-then-enters_first-clause-steps
+returns-then-enters_first-clause-steps g c =
+    let r = c.args.self.now in
+    let s = g.Infcx.InferCtxtLike.state r.infcx.now in
+    let tree = g.T.HasTree.tree in
+    let a = c.args.a.now in
+    let b = c.args.b.now in
+    let some : (bound_var_escapes (tree s.meaning a.value) || bound_var_escapes (tree s.meaning b.value)) ≡ true =
+    grind (arith, common_steps) in
+    let d = g.Infcx.InferCtxtLike.state c.enter_and_instantiate-then-enters_first.new.infcx in
+    let h = c.in_ok-x.ensures.opens in
+    left_entered c.in_ok-x.x c.in_ok-x.y (c.enters_first.ensures.0 c.if-enters_first.true) some (
+      h.0,
+      h.1,
+      opens_seen s d ((s.meaning).bound_vars a.bound_vars) ((s.meaning).bound_vars b.bound_vars)
+          (tree s.meaning a.value) (tree s.meaning b.value) (tree d.meaning c.in_ok-x.x) (tree d.meaning c.in_ok-x.y) h.2,
+    ) refl
+
+pub returns-clause-steps : goal.returns-clause-steps
+returns-clause-steps g c =
+    let r = c.args.self.now in
+    let s = g.Infcx.InferCtxtLike.state r.infcx.now in
+    let tree = g.T.HasTree.tree in
+    let a = c.args.a.now in
+    let b = c.args.b.now in
+    let last = opens_neither r.ambient_variance c.args.round c.requires.decides c.requires.round
+    (λ h. false≢true (sym c.if-enters_second.false ∙ c.enters_second.ensures.1 h))
+    (λ h. false≢true (sym c.if-enters_first.false ∙ c.enters_first.ensures.1 h)) in
+    none_left last.0 (inl last.1) (leaves_itself (solving_through r.structurally_relate_aliases r.infcx.ghost_name r.goals.items s r.ambient_variance r.param_env)) refl
+
+pub returns-in_err-y-clause-registers_nothing : goal.returns-in_err-y-clause-registers_nothing
+returns-in_err-y-clause-registers_nothing g c =
+    goals_stay c.in_err-y.ensures.grows.extends c.args.self.now.goals.items c.requires.lawful.1.1
+
+pub returns-then-enters_second-clause-registers_nothing : goal.returns-then-enters_second-clause-registers_nothing
+returns-then-enters_second-clause-registers_nothing g c =
+    goals_stay c.in_ok-y.ensures.grows.extends c.args.self.now.goals.items c.requires.lawful.1.1
+
+pub returns-in_err-x-clause-registers_nothing : goal.returns-in_err-x-clause-registers_nothing
+returns-in_err-x-clause-registers_nothing g c =
+    goals_stay c.in_err-x.ensures.grows.extends c.args.self.now.goals.items c.requires.lawful.1.1
+
+pub returns-then-enters_first-clause-registers_nothing : goal.returns-then-enters_first-clause-registers_nothing
+returns-then-enters_first-clause-registers_nothing g c =
+    goals_stay c.in_ok-x.ensures.grows.extends c.args.self.now.goals.items c.requires.lawful.1.1

@@ -1,0 +1,148 @@
+-- What each step of the relation of a context does, case by case, between how the relation stands before and after.
+use Rattle.std.specs.Prelude.{◌≡◌, ◌≢◌, ◌⊎◌, ℕ, true, false, IsTrue, [], ◌∷◌, ◌++◌}
+use Rattle.std.specs.Prelude.{Option, Some, None, Result, Ok, Err}
+use Rattle.term_enums.specs.declared.Variance.{Variance}
+use Rattle.term_enums.specs.declared.Variance.TheVariants.{Covariant, Contravariant, Invariant}
+use Rattle.term_enums.specs.Variances.{xform}
+use Rattle.relation_terms.specs.declared.terms.binder.Binder.{Binder}
+use Rattle.relation_terms.specs.declared.terms.keys.TyKey.{TyKey}
+use Rattle.relation_terms.specs.declared.terms.keys.RegionKey.{RegionKey}
+use Rattle.relation_terms.specs.Heads.{type_var, variable}
+use Rattle.relation_terms.specs.Trees.{Tree, leaf}
+use Rattle.relation_terms.specs.Meaning.{Meaning}
+use Rattle.relation_folds.specs.declared.error.TypeError.TheVariants.{CyclicTy}
+use Rattle.relation_folds.specs.declared.error.RelateFault.{RelateFault}
+use Rattle.relation_folds.specs.declared.error.RelateFault.TheVariants.{Memory}
+use Rattle.relation_contexts.specs.declared.relate.Step.{Step}
+use Rattle.relation_contexts.specs.declared.relate.Step.TheVariants.{Done, Parts, Again}
+use Rattle.relation_contexts.specs.ContextCalls.{Instantiated, Reads}
+use Rattle.relation_contexts.specs.Goals.{goal_of, subtype_predicate}
+use Rattle.relation_contexts.specs.Lawful.{State}
+use Rattle.relation_contexts.specs.Resolving.{IsShallow}
+use Rattle.relation_contexts.specs.Steps.{AddsConstraint}
+use Rattle.relation_contexts.specs.Stores.{outlives_constraint, equal_constraint}
+use Rattle.type_relations.specs.Combining.{Joins, IsNoTyVar, TysCombine, seen}
+use Rattle.type_relations.specs.Rounds.{Opens, one_uses_bound}
+use Rattle.type_relations.specs.Variables.{one_has_variable}
+
+module _ {Key Id Name : Type 0} (r q : State Key Id Name) where
+  -- Nothing was done: no key was made, nothing was recorded, and no goal was registered.
+  pub record LeavesAll : Type 0 where
+    pub meaning : q.meaning ≡ r.meaning
+    pub store : q.store ≡ r.store
+    pub goals : q.goals ≡ r.goals
+
+  -- A goal was registered in the relation's environment, behind those that there were. Nothing was recorded.
+  pub record RegistersOne (predicate : Tree) : Type 0 where
+    pub store : q.store ≡ r.store
+    pub goals : q.goals ≡ r.goals ++ goal_of r.kept.environment predicate ∷ []
+
+  -- What comes of two type variables of which nothing is recorded. At invariance they are made one. At covariance a
+  -- goal asks that the left one is a subtype of the right one, and at contravariance that the right one is one of the
+  -- left one, which is the expected one of both; or a growth was refused, and no goal was registered.
+  pub data CombinesTyVars (a b : TyKey Key) (result : Result (Step (TyKey Key)) (RelateFault Key Id Name)) :
+      Type 0 where
+    made_one : (i j : ℕ) → r.ambient ≡ Invariant → (r.meaning).ty a ≡ leaf (variable type_var i) →
+        (r.meaning).ty b ≡ leaf (variable type_var j) → Joins r.store q.store type_var i j → q.meaning ≡ r.meaning →
+        q.goals ≡ r.goals → result ≡ Ok (Done a) → CombinesTyVars a b result
+    left_subtype : r.ambient ≡ Covariant →
+        RegistersOne (subtype_predicate true ((r.meaning).ty a) ((r.meaning).ty b)) → result ≡ Ok (Done a) →
+        CombinesTyVars a b result
+    right_subtype : r.ambient ≡ Contravariant →
+        RegistersOne (subtype_predicate false ((r.meaning).ty b) ((r.meaning).ty a)) → result ≡ Ok (Done a) →
+        CombinesTyVars a b result
+    goal_refused : r.ambient ≢ Invariant → q.store ≡ r.store → q.goals ≡ r.goals → result ≡ Err Memory →
+        CombinesTyVars a b result
+
+  -- What binding a type variable, at a variance, to what a type comes to answers. No goal is registered.
+  pub record BindsTyVar (v : Variance) (i : ℕ) (t : TyKey Key) (answer : Result (TyKey Key) (RelateFault Key Id Name)) :
+      Type 0 where
+    pub instantiated : Instantiated (seen r.meaning r.store) (seen q.meaning q.store) v type_var i ((r.meaning).ty t)
+        (λ m. m.ty) CyclicTy answer
+    pub goals : q.goals ≡ r.goals
+
+  -- What comes of two types that were resolved shallowly. Of two type variables what is said above. A type variable on
+  -- the left is bound at the ambient variance to what the right type comes to, and the bound type is to be related with
+  -- the right one, at covariance seen from the ambient variance; one on the right is bound at the variance seen from
+  -- the other side, and the left type is to be related with the bound one. The left type is the answer. Or nothing is
+  -- bound, and the fault is that of binding. Of all others no goal is registered, and it is said of them what combining
+  -- says.
+  pub data CombinesShallowTys (a b : TyKey Key) (result : Result (Step (TyKey Key)) (RelateFault Key Id Name)) :
+      Type 0 where
+    two_variables : (i j : ℕ) → (r.meaning).ty a ≡ leaf (variable type_var i) →
+        (r.meaning).ty b ≡ leaf (variable type_var j) → CombinesTyVars a b result → CombinesShallowTys a b result
+    left_bound : (i : ℕ) (x : TyKey Key) → (r.meaning).ty a ≡ leaf (variable type_var i) →
+        IsNoTyVar ((r.meaning).ty b) → BindsTyVar r.ambient i b (Ok x) → result ≡ Ok (Again a b x b Covariant a) →
+        CombinesShallowTys a b result
+    left_refused : (i : ℕ) (f : RelateFault Key Id Name) → (r.meaning).ty a ≡ leaf (variable type_var i) →
+        IsNoTyVar ((r.meaning).ty b) → BindsTyVar r.ambient i b (Err f) → result ≡ Err f → CombinesShallowTys a b result
+    right_bound : (i : ℕ) (x : TyKey Key) → (r.meaning).ty b ≡ leaf (variable type_var i) →
+        IsNoTyVar ((r.meaning).ty a) → BindsTyVar (xform r.ambient Contravariant) i a (Ok x) →
+        result ≡ Ok (Again a b a x Covariant a) → CombinesShallowTys a b result
+    right_refused : (i : ℕ) (f : RelateFault Key Id Name) → (r.meaning).ty b ≡ leaf (variable type_var i) →
+        IsNoTyVar ((r.meaning).ty a) → BindsTyVar (xform r.ambient Contravariant) i a (Err f) → result ≡ Err f →
+        CombinesShallowTys a b result
+    no_ty_variables : IsNoTyVar ((r.meaning).ty a) → IsNoTyVar ((r.meaning).ty b) → TysCombine r q a b result →
+        q.goals ≡ r.goals → CombinesShallowTys a b result
+
+  -- A type is read as one that was resolved shallowly.
+  pub record ReadsTy (a x : TyKey Key) : Type 0 where
+    pub reads : Reads (seen r.meaning r.store) ((r.meaning).ty a) ((r.meaning).ty x)
+    pub shallow : IsShallow r.store ((r.meaning).ty x)
+
+  -- What comes of two types: of one and the same it is the answer; two in which no variable stands, but of regions, are
+  -- left to be related by their parts; of all others what comes of both, resolved shallowly.
+  pub data StepsTys (a b : TyKey Key) (result : Result (Step (TyKey Key)) (RelateFault Key Id Name)) : Type 0 where
+    one_type : (r.meaning).ty a ≡ (r.meaning).ty b → LeavesAll → result ≡ Ok (Done a) → StepsTys a b result
+    without_variables : (r.meaning).ty a ≢ (r.meaning).ty b → one_has_variable r.meaning a b ≡ false → LeavesAll →
+        result ≡ Ok (Parts a b) → StepsTys a b result
+    resolved_first : (x y : TyKey Key) → (r.meaning).ty a ≢ (r.meaning).ty b → IsTrue (one_has_variable r.meaning a b) →
+        ReadsTy a x → ReadsTy b y → CombinesShallowTys x y result → StepsTys a b result
+
+  -- What is recorded of two regions: at covariance that the left one outlives the right one, at contravariance that the
+  -- right one outlives the left one, at invariance that both outlive each other. The left one is the answer. Or a
+  -- growth was refused, and nothing was recorded.
+  pub data StepsRegions (a b : RegionKey Key) (result : Result (RegionKey Key) (RelateFault Key Id Name)) : Type 0 where
+    left_outlives : r.ambient ≡ Covariant →
+        AddsConstraint r.store q.store (outlives_constraint ((r.meaning).region a) ((r.meaning).region b)) →
+        result ≡ Ok a → StepsRegions a b result
+    right_outlives : r.ambient ≡ Contravariant →
+        AddsConstraint r.store q.store (outlives_constraint ((r.meaning).region b) ((r.meaning).region a)) →
+        result ≡ Ok a → StepsRegions a b result
+    both_outlive : r.ambient ≡ Invariant →
+        AddsConstraint r.store q.store (equal_constraint ((r.meaning).region a) ((r.meaning).region b)) →
+        result ≡ Ok a → StepsRegions a b result
+    constraint_refused : q.store ≡ r.store → result ≡ Err Memory → StepsRegions a b result
+
+  -- In a round placeholders stand for what the right binder binds, and new variables for what the left one does; or the
+  -- other way round.
+  abbrev pub EntersRight : ℕ → Type 0
+  EntersRight round = (round ≡ 0) × ((r.ambient ≡ Covariant) ⊎ (r.ambient ≡ Invariant))
+
+  abbrev pub EntersLeft : ℕ → Type 0
+  EntersLeft round = ((round ≡ 0) × (r.ambient ≡ Contravariant)) ⊎ ((round ≡ 1) × (r.ambient ≡ Invariant))
+
+  -- Of binders whose bodies have these trees.
+  module _ {T : Type 0} (tree : Meaning Key Id Name → T → Tree) where
+    -- Of two the first was entered, and then the second instantiated; or a growth was refused.
+    abbrev pub OpensBinders : Binder Key T → Binder Key T → Result (T × T) (RelateFault Key Id Name) → Type 0
+    OpensBinders a b result = Opens tree (seen r.meaning r.store) (seen q.meaning q.store) a b result
+
+    -- What a round of two binders leads to, the left body first. Where neither body uses what its binder binds, round 0
+    -- leads to the bodies as they stand. Else, at covariance and in round 0 of invariance, the right binder is entered
+    -- and the left one instantiated; at contravariance and in round 1 of invariance it is the other way round. Nothing
+    -- is left in any other round 1.
+    pub data StepsBinders (round : ℕ) (a b : Binder Key T)
+        (result : Result (Option (T × T)) (RelateFault Key Id Name)) : Type 0 where
+      as_they_stand : round ≡ 0 → one_uses_bound tree r.meaning a b ≡ false → LeavesAll →
+          result ≡ Ok (Some (a.value, b.value)) → StepsBinders round a b result
+      right_entered : (x y : T) → EntersRight round → IsTrue (one_uses_bound tree r.meaning a b) →
+          OpensBinders b a (Ok (y, x)) → result ≡ Ok (Some (x, y)) → StepsBinders round a b result
+      right_not_entered : EntersRight round → IsTrue (one_uses_bound tree r.meaning a b) →
+          OpensBinders b a (Err Memory) → result ≡ Err Memory → StepsBinders round a b result
+      left_entered : (x y : T) → EntersLeft round → IsTrue (one_uses_bound tree r.meaning a b) →
+          OpensBinders a b (Ok (x, y)) → result ≡ Ok (Some (x, y)) → StepsBinders round a b result
+      left_not_entered : EntersLeft round → IsTrue (one_uses_bound tree r.meaning a b) →
+          OpensBinders a b (Err Memory) → result ≡ Err Memory → StepsBinders round a b result
+      none_left : round ≡ 1 → (r.ambient ≢ Invariant) ⊎ (one_uses_bound tree r.meaning a b ≡ false) → LeavesAll →
+          result ≡ Ok None → StepsBinders round a b result

@@ -1,0 +1,303 @@
+//! What the relation of a context does of two types, constants, regions or binders that meet.
+ghost use Rattle.std.specs.Prelude.{◌≡◌, ◌≢◌, ◌<◌, All};
+ghost use Rattle.relation_terms.specs.Heads.{type_var, variable};
+ghost use Rattle.relation_terms.specs.Trees.{leaf};
+ghost use Rattle.term_enums.specs.declared.Variance.TheVariants.{Bivariant};
+ghost use Rattle.relation_contexts.specs.Contexts.{KnowsEnv, KnowsTy};
+ghost use Rattle.relation_contexts.specs.ContextCalls.{IsUnresolved};
+ghost use Rattle.relation_contexts.specs.Goals.{KnowsGoal};
+ghost use Rattle.relation_contexts.specs.Lawful.{Noted, RelatesByDeclared};
+ghost use Rattle.relation_contexts.specs.Resolving.{IsShallow};
+ghost use Rattle.type_relations.specs.Bivariance.{AsksWellFormed};
+ghost use Rattle.type_relations.specs.Keyed.{AreOver, AskedConsts, AskedRegions, AskedTys};
+ghost use Rattle.type_relations.specs.Rounds.{AskedBinders};
+ghost use Rattle.type_relations.specs.Solving.{solver_manner};
+ghost use Rattle.type_relations.specs.SolverTerms.{KeepsGoals, SolverCombinesShallow, SolverCombinesVars};
+ghost use Rattle.type_relations.specs.SolverTerms.{SolverOpened, SolverRelatedRegions, SolverStepRegisters};
+ghost use Rattle.type_relations.specs.SolverTerms.{SolverStepped, SolverSteps, SolverStepsBinders, SolverStepsConsts};
+ghost use Rattle.type_relations.specs.SolverTerms.{SolverStepsRegions, SolverStepsToSubtype, SolverStepsTys};
+ghost use Rattle.type_relations.specs.SolverTerms.{solver_through};
+ghost use Rattle.type_relations.specs.Subtyping.{IsTyVar};
+
+use crate::relate::Step;
+use crate::relate::combine::{combine_ty_args, super_combine_consts, super_combine_tys};
+use crate::relate::solver_relating::SolverRelating;
+use crate::relate::solver_relating::opening::{
+    enter_and_instantiate, enters_first, enters_second, one_uses,
+};
+use crate::relate::solver_relating::recording::{relate_regions, subtype_predicate};
+use crate::relate::variables::{have_no_variable, ty_var};
+use relation_contexts::infer_ctxt::{BinderOf, InferCtxtLike};
+use relation_folds::error::RelateResult;
+use relation_folds::fold::TypeFoldable;
+use relation_folds::visit::TypeVisitable;
+use relation_terms::terms::{
+    Const, GenericArgs, Goal, Interner, ItemOf, Region, Ty, TyVid, Variance,
+};
+
+impl<'a, Infcx: InferCtxtLike> SolverRelating<'a, Infcx> {
+    /// What comes of two types, before their parts are related. Of one and the same it is the answer; two in neither of
+    /// which a variable stands, but of regions, are left to be related by their parts. All others are resolved
+    /// shallowly first:
+    ///
+    /// - Two type variables are made one at `Invariant`. At `Covariant` a goal is registered that the left one is a
+    ///   subtype of the right one, and at `Contravariant` that the right one is a subtype of the left one, which is the
+    ///   expected one of both. The left one is the answer.
+    /// - A type variable on the left is bound at the ambient variance, and the bound type is to be related with the
+    ///   right one. A type variable on the right is bound at the variance seen from there, and the left type is to be
+    ///   related with the bound one. The left one is the answer.
+    /// - What comes of all others is said by `super_combine_tys`.
+    ///
+    /// It is the step `tys`. Both types are the relation's. Upstream `tys` relates what is left too.
+    ///
+    /// # Errors
+    /// `CyclicTy` where the variable stands in what the other side comes to, `Mismatch` where a placeholder does that
+    /// the variable can't name, `Budget` where no instantiation is left, `Sorts` of a number variable and a type that
+    /// it can't be, `Memory` where a growth was refused. Nothing was bound or registered then.
+    pub fn step_tys(
+        &mut self,
+        a: &Ty<Infcx::Interner>,
+        b: &Ty<Infcx::Interner>,
+    ) -> RelateResult<Infcx::Interner, Step<Ty<Infcx::Interner>>>
+        requires lawful { (solver_through Infcx.state self.old).lawful }
+        requires decides { self.old.ambient_variance ≢ Bivariant }
+        requires asked { AskedTys solver_manner (solver_through Infcx.state self.old) a.now b.now }
+        ensures stepped { SolverSteps Infcx.state self.old self.new a.now b.now result }
+        ensures steps { SolverStepsTys Infcx.state self.old self.new a.now b.now result }
+        ensures registers { SolverStepsToSubtype Infcx.state self.old self.new a.now b.now result }
+    {
+        if a == b {
+            return Ok(Step::Done(*a));
+        }
+        if have_no_variable(&*self.infcx, a, b) {
+            return Ok(Step::Parts { a: *a, b: *b });
+        }
+        let left = self.infcx.shallow_resolve(a);
+        let right = self.infcx.shallow_resolve(b);
+        self.combine_tys(&left, &right)
+    }
+
+    // What comes of two types that were resolved shallowly: two type variables as below; a type variable is bound to a
+    // type, which is then related with that.
+    fn combine_tys(
+        &mut self,
+        a: &Ty<Infcx::Interner>,
+        b: &Ty<Infcx::Interner>,
+    ) -> RelateResult<Infcx::Interner, Step<Ty<Infcx::Interner>>>
+        requires lawful { (Infcx.state self.old.infcx.now).lawful }
+        requires env_known { KnowsEnv (Infcx.state self.old.infcx.now) self.old.param_env }
+        requires goals_known { All (KnowsGoal (Infcx.state self.old.infcx.now).meaning) self.old.goals.items }
+        requires decides { self.old.ambient_variance ≢ Bivariant }
+        requires asked { AskedTys solver_manner (solver_through Infcx.state self.old) a.now b.now }
+        requires a_shallow { let r = Infcx.state self.old.infcx.now in IsShallow r.store ((r.meaning).ty a.now) }
+        requires b_shallow { let r = Infcx.state self.old.infcx.now in IsShallow r.store ((r.meaning).ty b.now) }
+        ensures stepped { SolverSteps Infcx.state self.old self.new a.now b.now result }
+        ensures combines { SolverCombinesShallow Infcx.state self.old self.new a.now b.now result }
+        ensures registers { let m = (Infcx.state self.old.infcx.now).meaning in
+            IsTyVar (m.ty a.now) → IsTyVar (m.ty b.now) →
+            SolverStepRegisters Infcx.state self.old self.new a.now b.now result }
+    {
+        match ty_var(&*self.infcx, a) {
+            Some(x) => match ty_var(&*self.infcx, b) {
+                Some(y) => self.combine_ty_vars(a, x, b, y),
+                None => {
+                    let variance = self.ambient_variance;
+                    let aliases = self.structurally_relate_aliases;
+                    let bound = self.infcx.instantiate_ty_var_raw(aliases, x, variance, b)?;
+                    Ok(Step::Again {
+                        a: *a,
+                        b: *b,
+                        x: bound,
+                        y: *b,
+                        variance: Variance::Covariant,
+                        answer: *a,
+                    })
+                }
+            },
+            None => match ty_var(&*self.infcx, b) {
+                Some(y) => {
+                    let variance = self.ambient_variance.xform(Variance::Contravariant);
+                    let aliases = self.structurally_relate_aliases;
+                    let bound = self.infcx.instantiate_ty_var_raw(aliases, y, variance, a)?;
+                    Ok(Step::Again {
+                        a: *a,
+                        b: *b,
+                        x: *a,
+                        y: bound,
+                        variance: Variance::Covariant,
+                        answer: *a,
+                    })
+                }
+                None => super_combine_tys::<Infcx, SolverRelating<'a, Infcx>>(self, a, b),
+            },
+        }
+    }
+
+    // What comes of two type variables, of which nothing is recorded: at invariance they are made one, else it is
+    // registered that the one is a subtype of the other.
+    fn combine_ty_vars(
+        &mut self,
+        a: &Ty<Infcx::Interner>,
+        x: TyVid,
+        b: &Ty<Infcx::Interner>,
+        y: TyVid,
+    ) -> RelateResult<Infcx::Interner, Step<Ty<Infcx::Interner>>>
+        requires lawful { (Infcx.state self.old.infcx.now).lawful }
+        requires env_known { KnowsEnv (Infcx.state self.old.infcx.now) self.old.param_env }
+        requires goals_known { All (KnowsGoal (Infcx.state self.old.infcx.now).meaning) self.old.goals.items }
+        requires decides { self.old.ambient_variance ≢ Bivariant }
+        requires a_known { KnowsTy (Infcx.state self.old.infcx.now) a.now }
+        requires b_known { KnowsTy (Infcx.state self.old.infcx.now) b.now }
+        requires a_is { ((Infcx.state self.old.infcx.now).meaning).ty a.now ≡ leaf (variable type_var x.0) }
+        requires b_is { ((Infcx.state self.old.infcx.now).meaning).ty b.now ≡ leaf (variable type_var y.0) }
+        requires a_unresolved { IsUnresolved (Infcx.state self.old.infcx.now) type_var x.0 }
+        requires b_unresolved { IsUnresolved (Infcx.state self.old.infcx.now) type_var y.0 }
+        ensures stepped { SolverSteps Infcx.state self.old self.new a.now b.now result }
+        ensures combines { SolverCombinesVars Infcx.state self.old self.new a.now b.now result }
+        ensures registers { SolverStepRegisters Infcx.state self.old self.new a.now b.now result }
+    {
+        let param_env = self.param_env;
+        match self.ambient_variance {
+            Variance::Covariant => {
+                let predicate = subtype_predicate(&mut *self.infcx, true, a, b)?;
+                self.goals.push(Goal {
+                    param_env,
+                    predicate,
+                })?;
+                Ok(Step::Done(*a))
+            }
+            Variance::Contravariant => {
+                let predicate = subtype_predicate(&mut *self.infcx, false, b, a)?;
+                self.goals.push(Goal {
+                    param_env,
+                    predicate,
+                })?;
+                Ok(Step::Done(*a))
+            }
+            Variance::Invariant => {
+                self.infcx.equate_ty_vids_raw(x, y);
+                Ok(Step::Done(*a))
+            }
+            Variance::Bivariant => unreachable!(),
+        }
+    }
+
+    /// What comes of two constants, before their parts are related, as `super_combine_consts` says it. No goal is
+    /// registered.
+    ///
+    /// It is the step `consts`. Both constants are the relation's.
+    ///
+    /// # Errors
+    /// Those of `super_combine_consts`. Nothing was bound then.
+    pub fn step_consts(
+        &mut self,
+        a: &Const<Infcx::Interner>,
+        b: &Const<Infcx::Interner>,
+    ) -> RelateResult<Infcx::Interner, Step<Const<Infcx::Interner>>>
+        requires lawful { (solver_through Infcx.state self.old).lawful }
+        requires decides { self.old.ambient_variance ≢ Bivariant }
+        requires asked { AskedConsts solver_manner (solver_through Infcx.state self.old) a.now b.now }
+        ensures stepped { SolverStepped Infcx.state self.old self.new a.now b.now result }
+        ensures steps { SolverStepsConsts Infcx.state self.old self.new a.now b.now result }
+        ensures registers_nothing { KeepsGoals Infcx.state self.old self.new }
+    {
+        super_combine_consts::<Infcx, SolverRelating<'a, Infcx>>(self, a, b)
+    }
+
+    /// Records of two regions what the ambient variance asks for: at `Covariant` that the left one outlives the right
+    /// one, at `Contravariant` that the right one outlives the left one, at `Invariant` that both outlive each other.
+    /// Nothing else is recorded, and no goal registered. The left one is the answer.
+    ///
+    /// It is the step `regions`. Both regions are the relation's.
+    ///
+    /// # Errors
+    /// `Memory` where a growth was refused. Nothing was recorded then.
+    pub fn step_regions(
+        &mut self,
+        a: &Region<Infcx::Interner>,
+        b: &Region<Infcx::Interner>,
+    ) -> RelateResult<Infcx::Interner, Region<Infcx::Interner>>
+        requires lawful { (solver_through Infcx.state self.old).lawful }
+        requires decides { self.old.ambient_variance ≢ Bivariant }
+        requires asked { AskedRegions solver_manner (solver_through Infcx.state self.old) a.now b.now }
+        ensures related { SolverRelatedRegions Infcx.state self.old self.new a.now b.now result }
+        ensures steps { SolverStepsRegions Infcx.state self.old self.new a.now b.now result }
+        ensures registers_nothing { KeepsGoals Infcx.state self.old self.new }
+    {
+        relate_regions(&mut *self.infcx, self.ambient_variance, a, b, self.span)?;
+        Ok(*a)
+    }
+
+    /// The bodies of two binders that are to be related in a round, 0 or 1, the left one's first; or none.
+    ///
+    /// Where neither body uses what its binder binds, round 0 answers both as they stand. Else, at `Covariant` and in
+    /// round 0 at `Invariant`, placeholders stand in the right one for what its binder binds, and new variables in the
+    /// left one; at `Contravariant` and in round 1 at `Invariant` it is the other way round. Any other round 1 answers
+    /// none. No goal is registered.
+    ///
+    /// It is the step `open_binders`. Both binders are the relation's. Upstream `binders` relates the bodies too.
+    ///
+    /// # Errors
+    /// `Memory` where a growth was refused. A universe may have been made then, and variables that stay unbound.
+    pub fn step_binders<T: TypeFoldable<Infcx::Interner> + TypeVisitable<Infcx::Interner> + Copy>(
+        &mut self,
+        a: &BinderOf<Infcx::Interner, T>,
+        b: &BinderOf<Infcx::Interner, T>,
+        round: usize,
+    ) -> RelateResult<Infcx::Interner, Option<(T, T)>>
+        requires lawful { (solver_through Infcx.state self.old).lawful }
+        requires decides { self.old.ambient_variance ≢ Bivariant }
+        requires round { round < 2 }
+        requires asked { AskedBinders solver_manner T.tree (solver_through Infcx.state self.old) a.now b.now }
+        ensures opened { SolverOpened Infcx.state T.tree self.old self.new round a.now b.now result }
+        ensures steps { SolverStepsBinders Infcx.state T.tree self.old self.new round a.now b.now result }
+        ensures registers_nothing { KeepsGoals Infcx.state self.old self.new }
+    {
+        if !one_uses(&*self.infcx, a, b) {
+            if round > 0 {
+                return Ok(None);
+            }
+            return Ok(Some((a.value, b.value)));
+        }
+        if enters_second(self.ambient_variance, round) {
+            let (y, x) = enter_and_instantiate(&mut *self.infcx, b, a)?;
+            return Ok(Some((x, y)));
+        }
+        if enters_first(self.ambient_variance, round) {
+            let (x, y) = enter_and_instantiate(&mut *self.infcx, a, b)?;
+            return Ok(Some((x, y)));
+        }
+        Ok(None)
+    }
+
+    /// Registers, behind the goals that there are, that two types over one item are well formed, the left one's first,
+    /// where an argument of either that the item declares bivariant is left open; else nothing. It is what
+    /// `combine_ty_args` does.
+    ///
+    /// It is the step `ty_args_done`, and called where the arguments were related at the variances that the item
+    /// declares. Both types are the relation's, and the lists are theirs.
+    ///
+    /// # Errors
+    /// `Memory` where a growth was refused.
+    pub fn step_ty_args(
+        &mut self,
+        a_ty: &Ty<Infcx::Interner>,
+        b_ty: &Ty<Infcx::Interner>,
+        def_id: &ItemOf<Infcx::Interner>,
+        a_args: &GenericArgs<Infcx::Interner>,
+        b_args: &GenericArgs<Infcx::Interner>,
+    ) -> RelateResult<Infcx::Interner, ()>
+        requires lawful { (solver_through Infcx.state self.old).lawful }
+        requires asked { AskedTys solver_manner (solver_through Infcx.state self.old) a_ty.now b_ty.now }
+        requires by_declared { RelatesByDeclared (solver_through Infcx.state self.old) }
+        requires over { let r = solver_through Infcx.state self.old in
+            AreOver r def_id.now a_ty.now b_ty.now a_args.now b_args.now }
+        ensures noted { Noted (solver_through Infcx.state self.old) (solver_through Infcx.state self.new) result }
+        ensures registers { AsksWellFormed (solver_through Infcx.state) self.old self.new
+            def_id.now a_ty.now b_ty.now a_args.now b_args.now result }
+    {
+        combine_ty_args::<Infcx, SolverRelating<'a, Infcx>>(
+            self, a_ty, b_ty, def_id, a_args, b_args,
+        )
+    }
+}
