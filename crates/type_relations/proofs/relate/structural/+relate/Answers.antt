@@ -42,6 +42,7 @@ use Rattle.relation_contexts.proofs.Parts.{in_parts, in_const_parts}
 use Rattle.relation_contexts.proofs.OneParts.{parts_counted, const_parts_counted}
 use Rattle.type_relations.proofs.Comparing.{parts_of_list, const_parts_list}
 use Rattle.type_relations.proofs.Handing.{AreOfTwoKinds, no_lifetime, no_ty, no_const_arg, HaveAsManyInputs}
+use Rattle.relation_contexts.proofs.Building.{built_again, built_as}
 use Rattle.relation_contexts.proofs.Passing.{asked_later, parts_related, again_related, again_refused, again_shown, noted_related, noted_refused}
 use Rattle.relation_contexts.proofs.Passing.{turned, unlooked, step_done, retold, refused_again, shown_now, as_err}
 use Rattle.relation_contexts.proofs.Registered.{directed_from}
@@ -136,7 +137,7 @@ consts-returns-in_err-relate_with_variance-in-Again g t c =
     c.from_residual-in_err-relate_with_variance-in-Again.ensures.0
     c.from_residual-in_err-relate_with_variance-in-Again.ensures.1 in
     subst (λ z. Related M r p r.ambient a b (p.meaning).const_ z) (sym failed)
-    (again_refused M a b k l x y o v step.passes step.verdict step.exact
+    (again_refused M a b k l x y o v step.passes step.verdict step.exact step.built
     (g.met.R.TypeRelation.sound c.relate_with_variance.new.r ((inner.passes).lawful ((step.passes).lawful c.requires.lawful))) (arg_tree p.meaning) (p.meaning).const_ c.in_err-relate_with_variance-in-Again.field-0.0 inner)
 
 pub consts-returns-in_ok-relate_with_variance-in-Again : goal.consts-returns-in_ok-relate_with_variance-in-Again
@@ -159,7 +160,7 @@ consts-returns-in_ok-relate_with_variance-in-Again g t c =
     let same_o : (p.meaning).const_ c.in-Again.answer ≡ o =
     ((inner.passes).extends).const_ c.in-Again.answer (step.verdict).answer_known in
     let done : Related M r p r.ambient a b (p.meaning).const_ (Ok c.in-Again.answer) =
-    again_related M a b k l x y o v step.passes step.verdict step.exact (arg_tree p.meaning) c.in_ok-relate_with_variance-in-Again.field-0 (p.meaning).const_
+    again_related M a b k l x y o v step.passes step.verdict step.exact step.built (arg_tree p.meaning) c.in_ok-relate_with_variance-in-Again.field-0 (p.meaning).const_
     c.in-Again.answer same_o inner in
     done
 
@@ -177,7 +178,7 @@ consts-returns-in-Parts g t c =
     let inner = subst (λ z. Related M q p z x y (p.meaning).const_ c.structurally_relate_consts.result) (step.passes).ambient
     c.structurally_relate_consts.ensures in
     parts_related M IsFormedConst (g.met.R.TypeRelation.sound c.structurally_relate_consts.new.r ((inner.passes).lawful ((step.passes).lawful c.requires.lawful)))
-    a b x y (p.meaning).const_ c.structurally_relate_consts.result step.passes step.verdict step.exact step.full inner
+    a b x y (p.meaning).const_ c.structurally_relate_consts.result step.passes step.verdict step.exact step.full step.built inner
 
 pub tys-returns-in-Done-clause-related : goal.tys-returns-in-Done-clause-related
 tys-returns-in-Done-clause-related g t c =
@@ -250,7 +251,7 @@ tys-returns-in_err-relate_with_variance-in-Again-clause-related g t c =
     c.from_residual-in_err-relate_with_variance-in-Again.ensures.0
     c.from_residual-in_err-relate_with_variance-in-Again.ensures.1 in
     subst (λ z. Related M r p r.ambient a b (p.meaning).ty z) (sym failed)
-    (again_refused M a b k l x y o v step.passes step.verdict step.exact
+    (again_refused M a b k l x y o v step.passes step.verdict step.exact step.built
     (g.met.R.TypeRelation.sound c.relate_with_variance.new.r ((inner.passes).lawful ((step.passes).lawful c.requires.lawful))) (arg_tree p.meaning) (p.meaning).ty c.in_err-relate_with_variance-in-Again.field-0.0 inner)
 
 pub tys-returns-in_err-answer-in-Parts-clause-related : goal.tys-returns-in_err-answer-in-Parts-clause-related
@@ -270,7 +271,7 @@ tys-returns-in_err-answer-in-Parts-clause-related g t c =
     c.from_residual-in_err-answer-in-Parts.ensures.0 c.from_residual-in_err-answer-in-Parts.ensures.1 in
     subst (λ z. Related M r p r.ambient a b (p.meaning).ty z) (sym failed)
     (parts_related M IsFormed (g.met.R.TypeRelation.sound c.structurally_relate_tys.new.r ((inner.passes).lawful ((step.passes).lawful c.requires.lawful)))
-    a b x y (p.meaning).ty (Err e.field-0.0) step.passes step.verdict step.exact step.full inner)
+    a b x y (p.meaning).ty (Err e.field-0.0) step.passes step.verdict step.exact step.full step.built inner)
 
 pub tys-tys_done-requires-clause-asked : goal.tys-tys_done-requires-clause-asked
 tys-tys_done-requires-clause-asked g t c =
@@ -287,7 +288,7 @@ tys-tys_done-requires-clause-asked g t c =
     let inner = subst (λ v. Related M q p v x y (p.meaning).ty (Ok z.answer)) (step.passes).ambient z.ensures in
     let done : Related M r p r.ambient a b (p.meaning).ty (Ok z.answer) =
     parts_related M IsFormed (g.met.R.TypeRelation.sound c.structurally_relate_tys.new.r ((inner.passes).lawful ((step.passes).lawful c.requires.lawful)))
-    a b x y (p.meaning).ty (Ok z.answer) step.passes step.verdict step.exact step.full inner in
+    a b x y (p.meaning).ty (Ok z.answer) step.passes step.verdict step.exact step.full step.built inner in
     let same_x : (p.meaning).ty c.in-Parts.a ≡ (q.meaning).ty c.in-Parts.a =
     ((inner.passes).extends).ty c.in-Parts.a ((step.verdict).asked).left_known in
     let same_y : (p.meaning).ty c.in-Parts.b ≡ (q.meaning).ty c.in-Parts.b =
@@ -311,7 +312,7 @@ tys-tys_done-requires-clause-related g t c =
     let inner = subst (λ v. Related M q p v x y (p.meaning).ty (Ok z.answer)) (step.passes).ambient z.ensures in
     let done : Related M r p r.ambient a b (p.meaning).ty (Ok z.answer) =
     parts_related M IsFormed (g.met.R.TypeRelation.sound c.structurally_relate_tys.new.r ((inner.passes).lawful ((step.passes).lawful c.requires.lawful)))
-    a b x y (p.meaning).ty (Ok z.answer) step.passes step.verdict step.exact step.full inner in
+    a b x y (p.meaning).ty (Ok z.answer) step.passes step.verdict step.exact step.full step.built inner in
     let same_x : (p.meaning).ty c.in-Parts.a ≡ (q.meaning).ty c.in-Parts.a =
     ((inner.passes).extends).ty c.in-Parts.a ((step.verdict).asked).left_known in
     let same_y : (p.meaning).ty c.in-Parts.b ≡ (q.meaning).ty c.in-Parts.b =
@@ -335,13 +336,15 @@ tys-returns-in_err-tys_done-in-Parts-clause-related g t c =
     let inner = subst (λ v. Related M q p v x y (p.meaning).ty (Ok z.answer)) (step.passes).ambient z.ensures in
     let done : Related M r p r.ambient a b (p.meaning).ty (Ok z.answer) =
     parts_related M IsFormed (g.met.R.TypeRelation.sound c.structurally_relate_tys.new.r ((inner.passes).lawful ((step.passes).lawful c.requires.lawful)))
-    a b x y (p.meaning).ty (Ok z.answer) step.passes step.verdict step.exact step.full inner in
+    a b x y (p.meaning).ty (Ok z.answer) step.passes step.verdict step.exact step.full step.built inner in
     let u = g.R.HasState.state c.tys_done.new.self in
     let e = c.in_err-tys_done-in-Parts in
     let failed = as_err c.from_residual-in_err-tys_done-in-Parts.result e.field-0.0
     c.from_residual-in_err-tys_done-in-Parts.ensures.0 c.from_residual-in_err-tys_done-in-Parts.ensures.1 in
     subst (λ z. Related M r u r.ambient a b (u.meaning).ty z) (sym failed)
-    (noted_refused M r.ambient a b (p.meaning).ty z.answer done (Err e.field-0.0) e.ensures (u.meaning).ty e.field-0.0 refl)
+    (noted_refused M r.ambient a b (p.meaning).ty z.answer done (Err e.field-0.0) e.ensures
+    (built_again (step.verdict).built (((inner.passes).extends).ty c.in-Parts.a ((step.verdict).asked).left_known)
+    (((inner.passes).extends).ty c.in-Parts.b ((step.verdict).asked).right_known)) (u.meaning).ty e.field-0.0 refl)
 
 pub tys-returns-in_ok-tys_done-in-Parts-clause-related : goal.tys-returns-in_ok-tys_done-in-Parts-clause-related
 tys-returns-in_ok-tys_done-in-Parts-clause-related g t c =
@@ -358,10 +361,12 @@ tys-returns-in_ok-tys_done-in-Parts-clause-related g t c =
     let inner = subst (λ v. Related M q p v x y (p.meaning).ty (Ok z.answer)) (step.passes).ambient z.ensures in
     let done : Related M r p r.ambient a b (p.meaning).ty (Ok z.answer) =
     parts_related M IsFormed (g.met.R.TypeRelation.sound c.structurally_relate_tys.new.r ((inner.passes).lawful ((step.passes).lawful c.requires.lawful)))
-    a b x y (p.meaning).ty (Ok z.answer) step.passes step.verdict step.exact step.full inner in
+    a b x y (p.meaning).ty (Ok z.answer) step.passes step.verdict step.exact step.full step.built inner in
     let u = g.R.HasState.state c.tys_done.new.self in
     let n = c.in_ok-tys_done-in-Parts in
-    noted_related M r.ambient a b (p.meaning).ty z.answer done (Ok n.field-0) n.ensures (u.meaning).ty
+    noted_related M r.ambient a b (p.meaning).ty z.answer done (Ok n.field-0) n.ensures
+    (built_again (step.verdict).built (((inner.passes).extends).ty c.in-Parts.a ((step.verdict).asked).left_known)
+    (((inner.passes).extends).ty c.in-Parts.b ((step.verdict).asked).right_known)) (u.meaning).ty
     ((((n.ensures).passes).extends).ty z.answer (done.verdict).known)
 
 pub tys-tys_done-requires-in-Again-clause-asked : goal.tys-tys_done-requires-in-Again-clause-asked
@@ -384,7 +389,7 @@ tys-tys_done-requires-in-Again-clause-asked g t c =
     let same_o : (p.meaning).ty c.in-Again.answer ≡ o =
     ((inner.passes).extends).ty c.in-Again.answer (step.verdict).answer_known in
     let done : Related M r p r.ambient a b (p.meaning).ty (Ok c.in-Again.answer) =
-    again_related M a b k l x y o v step.passes step.verdict step.exact (arg_tree p.meaning) c.in_ok-relate_with_variance-in-Again.field-0 (p.meaning).ty
+    again_related M a b k l x y o v step.passes step.verdict step.exact step.built (arg_tree p.meaning) c.in_ok-relate_with_variance-in-Again.field-0 (p.meaning).ty
     c.in-Again.answer same_o inner in
     let same_x : (p.meaning).ty c.in-Again.a ≡ (q.meaning).ty c.in-Again.a =
     ((inner.passes).extends).ty c.in-Again.a ((step.verdict).read_asked).left_known in
@@ -414,7 +419,7 @@ tys-tys_done-requires-in-Again-clause-related g t c =
     let same_o : (p.meaning).ty c.in-Again.answer ≡ o =
     ((inner.passes).extends).ty c.in-Again.answer (step.verdict).answer_known in
     let done : Related M r p r.ambient a b (p.meaning).ty (Ok c.in-Again.answer) =
-    again_related M a b k l x y o v step.passes step.verdict step.exact (arg_tree p.meaning) c.in_ok-relate_with_variance-in-Again.field-0 (p.meaning).ty
+    again_related M a b k l x y o v step.passes step.verdict step.exact step.built (arg_tree p.meaning) c.in_ok-relate_with_variance-in-Again.field-0 (p.meaning).ty
     c.in-Again.answer same_o inner in
     let same_x : (p.meaning).ty c.in-Again.a ≡ (q.meaning).ty c.in-Again.a =
     ((inner.passes).extends).ty c.in-Again.a ((step.verdict).read_asked).left_known in
@@ -422,7 +427,7 @@ tys-tys_done-requires-in-Again-clause-related g t c =
     ((inner.passes).extends).ty c.in-Again.b ((step.verdict).read_asked).right_known in
     subst₂ (λ t u. Shown M p p.ambient t u) (sym same_x) (sym same_y)
     (subst (λ v. Shown M p v k l)
-    (sym ((inner.passes).ambient ∙ (step.passes).ambient)) (again_shown M a b k l x y o v step.passes step.verdict step.exact (arg_tree p.meaning) c.in_ok-relate_with_variance-in-Again.field-0 inner))
+    (sym ((inner.passes).ambient ∙ (step.passes).ambient)) (again_shown M a b k l x y o v step.passes step.verdict step.exact step.built (arg_tree p.meaning) c.in_ok-relate_with_variance-in-Again.field-0 inner))
 
 pub tys-returns-in_err-tys_done-in-Again-clause-related : goal.tys-returns-in_err-tys_done-in-Again-clause-related
 tys-returns-in_err-tys_done-in-Again-clause-related g t c =
@@ -444,14 +449,16 @@ tys-returns-in_err-tys_done-in-Again-clause-related g t c =
     let same_o : (p.meaning).ty c.in-Again.answer ≡ o =
     ((inner.passes).extends).ty c.in-Again.answer (step.verdict).answer_known in
     let done : Related M r p r.ambient a b (p.meaning).ty (Ok c.in-Again.answer) =
-    again_related M a b k l x y o v step.passes step.verdict step.exact (arg_tree p.meaning) c.in_ok-relate_with_variance-in-Again.field-0 (p.meaning).ty
+    again_related M a b k l x y o v step.passes step.verdict step.exact step.built (arg_tree p.meaning) c.in_ok-relate_with_variance-in-Again.field-0 (p.meaning).ty
     c.in-Again.answer same_o inner in
     let u = g.R.HasState.state c.tys_done-in-Again.new.self in
     let e = c.in_err-tys_done-in-Again in
     let failed = as_err c.from_residual-in_err-tys_done-in-Again.result e.field-0.0
     c.from_residual-in_err-tys_done-in-Again.ensures.0 c.from_residual-in_err-tys_done-in-Again.ensures.1 in
     subst (λ z. Related M r u r.ambient a b (u.meaning).ty z) (sym failed)
-    (noted_refused M r.ambient a b (p.meaning).ty c.in-Again.answer done (Err e.field-0.0) e.ensures (u.meaning).ty e.field-0.0 refl)
+    (noted_refused M r.ambient a b (p.meaning).ty c.in-Again.answer done (Err e.field-0.0) e.ensures
+    (built_again (step.verdict).read_built (((inner.passes).extends).ty c.in-Again.a ((step.verdict).read_asked).left_known)
+    (((inner.passes).extends).ty c.in-Again.b ((step.verdict).read_asked).right_known)) (u.meaning).ty e.field-0.0 refl)
 
 pub tys-returns-in_ok-tys_done-in-Again-clause-related : goal.tys-returns-in_ok-tys_done-in-Again-clause-related
 tys-returns-in_ok-tys_done-in-Again-clause-related g t c =
@@ -473,11 +480,13 @@ tys-returns-in_ok-tys_done-in-Again-clause-related g t c =
     let same_o : (p.meaning).ty c.in-Again.answer ≡ o =
     ((inner.passes).extends).ty c.in-Again.answer (step.verdict).answer_known in
     let done : Related M r p r.ambient a b (p.meaning).ty (Ok c.in-Again.answer) =
-    again_related M a b k l x y o v step.passes step.verdict step.exact (arg_tree p.meaning) c.in_ok-relate_with_variance-in-Again.field-0 (p.meaning).ty
+    again_related M a b k l x y o v step.passes step.verdict step.exact step.built (arg_tree p.meaning) c.in_ok-relate_with_variance-in-Again.field-0 (p.meaning).ty
     c.in-Again.answer same_o inner in
     let u = g.R.HasState.state c.tys_done-in-Again.new.self in
     let n = c.in_ok-tys_done-in-Again in
-    noted_related M r.ambient a b (p.meaning).ty c.in-Again.answer done (Ok n.field-0) n.ensures (u.meaning).ty
+    noted_related M r.ambient a b (p.meaning).ty c.in-Again.answer done (Ok n.field-0) n.ensures
+    (built_again (step.verdict).read_built (((inner.passes).extends).ty c.in-Again.a ((step.verdict).read_asked).left_known)
+    (((inner.passes).extends).ty c.in-Again.b ((step.verdict).read_asked).right_known)) (u.meaning).ty
     ((((n.ensures).passes).extends).ty c.in-Again.answer (done.verdict).known)
 
 pub tys-returns-in-Done-clause-registers : goal.tys-returns-in-Done-clause-registers
@@ -1483,7 +1492,8 @@ structurally_relate_tys-returns-in_err-note_args g t c =
     let failed = as_err c.from_residual-in_err-note_args.result n.field-0.0 c.from_residual-in_err-note_args.ensures.0
     c.from_residual-in_err-note_args.ensures.1 in
     subst (λ z. Related M r u r.ambient a b (u.meaning).ty z) (sym failed)
-    (noted_refused M r.ambient a b (q.meaning).ty c.args.a.now done (Err n.field-0.0) n.ensures (u.meaning).ty n.field-0.0
+    (noted_refused M r.ambient a b (q.meaning).ty c.args.a.now done (Err n.field-0.0) n.ensures (built_as same_a same_b)
+    (u.meaning).ty n.field-0.0
     refl)
 
 pub structurally_relate_tys-make_ty-requires-clause-ty_known : goal.structurally_relate_tys-make_ty-requires-clause-ty_known
@@ -1509,7 +1519,8 @@ structurally_relate_tys-make_ty-requires-clause-ty_known g t c =
     right same_a k.left_known in
     let u = g.R.HasState.state c.note_args.new.r in
     let n = c.in_ok-note_args in
-    let noted = noted_related M r.ambient a b (q.meaning).ty c.args.a.now done (Ok n.field-0) n.ensures (u.meaning).ty
+    let noted = noted_related M r.ambient a b (q.meaning).ty c.args.a.now done (Ok n.field-0) n.ensures (built_as same_a same_b)
+    (u.meaning).ty
     ((((n.ensures).passes).extends).ty c.args.a.now (subst (λ z. IsTrue (known z)) (sym same_a) k.left_known)) in
     let e = ((n.ensures).passes).extends in
     let stays : (u.meaning).ty c.args.a.now ≡ a =
@@ -1558,7 +1569,8 @@ structurally_relate_tys-make_ty-requires-clause-parts_known g t c =
     right same_a k.left_known in
     let u = g.R.HasState.state c.note_args.new.r in
     let n = c.in_ok-note_args in
-    let noted = noted_related M r.ambient a b (q.meaning).ty c.args.a.now done (Ok n.field-0) n.ensures (u.meaning).ty
+    let noted = noted_related M r.ambient a b (q.meaning).ty c.args.a.now done (Ok n.field-0) n.ensures (built_as same_a same_b)
+    (u.meaning).ty
     ((((n.ensures).passes).extends).ty c.args.a.now (subst (λ z. IsTrue (known z)) (sym same_a) k.left_known)) in
     let e = ((n.ensures).passes).extends in
     let stays : (u.meaning).ty c.args.a.now ≡ a =
@@ -1593,7 +1605,8 @@ structurally_relate_tys-make_ty-requires-clause-fits g t c =
     right same_a k.left_known in
     let u = g.R.HasState.state c.note_args.new.r in
     let n = c.in_ok-note_args in
-    let noted = noted_related M r.ambient a b (q.meaning).ty c.args.a.now done (Ok n.field-0) n.ensures (u.meaning).ty
+    let noted = noted_related M r.ambient a b (q.meaning).ty c.args.a.now done (Ok n.field-0) n.ensures (built_as same_a same_b)
+    (u.meaning).ty
     ((((n.ensures).passes).extends).ty c.args.a.now (subst (λ z. IsTrue (known z)) (sym same_a) k.left_known)) in
     let e = ((n.ensures).passes).extends in
     let stays : (u.meaning).ty c.args.a.now ≡ a =
@@ -1628,7 +1641,8 @@ structurally_relate_tys-returns g t c =
     right same_a k.left_known in
     let u = g.R.HasState.state c.note_args.new.r in
     let n = c.in_ok-note_args in
-    let noted = noted_related M r.ambient a b (q.meaning).ty c.args.a.now done (Ok n.field-0) n.ensures (u.meaning).ty
+    let noted = noted_related M r.ambient a b (q.meaning).ty c.args.a.now done (Ok n.field-0) n.ensures (built_as same_a same_b)
+    (u.meaning).ty
     ((((n.ensures).passes).extends).ty c.args.a.now (subst (λ z. IsTrue (known z)) (sym same_a) k.left_known)) in
     let e = ((n.ensures).passes).extends in
     let stays : (u.meaning).ty c.args.a.now ≡ a =
@@ -2828,7 +2842,7 @@ binders-returns-in_err-relate_parts g t c =
     ((inner.passes).lawful ((o.passes).lawful c.requires.lawful)) in
     record {
       related = subst (λ z. Related M r p r.ambient a b (part_tree p.meaning) z) (sym failed)
-          (first_refused M a b x y (part_tree p.meaning) (part_tree p.meaning) never sound o.passes o.verdict e.field-0.0 inner);
+          (first_refused M a b x y (part_tree p.meaning) (part_tree p.meaning) never sound o.passes o.verdict o.built e.field-0.0 inner);
       sort = subst (λ u. IfOk u (λ z. part_sort z ≡ part_sort c.args.a.now)) (sym failed) tt;
     }
 
@@ -2848,7 +2862,7 @@ binders-open_bodies-requires-2-clause-lawful g t c =
     let n = c.in_ok-relate_parts in
     let inner = subst (λ v. Related M q p v x y (part_tree p.meaning) (Ok n.field-0)) (o.passes).ambient
     (n.ensures).related in
-    let half = first_done M a b x y (part_tree p.meaning) n.field-0 o.passes o.verdict inner in
+    let half = first_done M a b x y (part_tree p.meaning) n.field-0 o.passes o.verdict o.built inner in
     (half.passes).lawful c.requires.lawful
 
 pub binders-open_bodies-requires-2-clause-decides : goal.binders-open_bodies-requires-2-clause-decides
@@ -2867,7 +2881,7 @@ binders-open_bodies-requires-2-clause-decides g t c =
     let n = c.in_ok-relate_parts in
     let inner = subst (λ v. Related M q p v x y (part_tree p.meaning) (Ok n.field-0)) (o.passes).ambient
     (n.ensures).related in
-    let half = first_done M a b x y (part_tree p.meaning) n.field-0 o.passes o.verdict inner in
+    let half = first_done M a b x y (part_tree p.meaning) n.field-0 o.passes o.verdict o.built inner in
     λ e. c.requires.decides (sym (half.passes).ambient ∙ e)
 
 pub binders-open_bodies-requires-2-clause-asked : goal.binders-open_bodies-requires-2-clause-asked
@@ -2886,7 +2900,7 @@ binders-open_bodies-requires-2-clause-asked g t c =
     let n = c.in_ok-relate_parts in
     let inner = subst (λ v. Related M q p v x y (part_tree p.meaning) (Ok n.field-0)) (o.passes).ambient
     (n.ensures).related in
-    let half = first_done M a b x y (part_tree p.meaning) n.field-0 o.passes o.verdict inner in
+    let half = first_done M a b x y (part_tree p.meaning) n.field-0 o.passes o.verdict o.built inner in
     half_asked M c.args.a.now c.args.b.now half k
 
 pub binders-returns-in_err-x-2 : goal.binders-returns-in_err-x-2
@@ -2906,7 +2920,7 @@ binders-returns-in_err-x-2 g t c =
     let n = c.in_ok-relate_parts in
     let inner = subst (λ v. Related M q p v x y (part_tree p.meaning) (Ok n.field-0)) (o.passes).ambient
     (n.ensures).related in
-    let half = first_done M a b x y (part_tree p.meaning) n.field-0 o.passes o.verdict inner in
+    let half = first_done M a b x y (part_tree p.meaning) n.field-0 o.passes o.verdict o.built inner in
     let same_a = stays_part (half.passes).extends c.args.a.now k.left_known in
     let same_b = stays_part (half.passes).extends c.args.b.now k.right_known in
     let w = g.R.HasState.state c.open_bodies-2.new.r in
@@ -2937,7 +2951,7 @@ binders-returns-in_default-2 g t c =
     let n = c.in_ok-relate_parts in
     let inner = subst (λ v. Related M q p v x y (part_tree p.meaning) (Ok n.field-0)) (o.passes).ambient
     (n.ensures).related in
-    let half = first_done M a b x y (part_tree p.meaning) n.field-0 o.passes o.verdict inner in
+    let half = first_done M a b x y (part_tree p.meaning) n.field-0 o.passes o.verdict o.built inner in
     let same_a = stays_part (half.passes).extends c.args.a.now k.left_known in
     let same_b = stays_part (half.passes).extends c.args.b.now k.right_known in
     let w = g.R.HasState.state c.open_bodies-2.new.r in
@@ -2967,7 +2981,7 @@ binders-relate_parts-requires-2 g t c κs within =
     let n = c.in_ok-relate_parts in
     let inner = subst (λ v. Related M q p v x y (part_tree p.meaning) (Ok n.field-0)) (o.passes).ambient
     (n.ensures).related in
-    let half = first_done M a b x y (part_tree p.meaning) n.field-0 o.passes o.verdict inner in
+    let half = first_done M a b x y (part_tree p.meaning) n.field-0 o.passes o.verdict o.built inner in
     let same_a = stays_part (half.passes).extends c.args.a.now k.left_known in
     let same_b = stays_part (half.passes).extends c.args.b.now k.right_known in
     let w = g.R.HasState.state c.open_bodies-2.new.r in
@@ -3007,7 +3021,7 @@ binders-returns-in_err-relate_parts-2 g t c =
     let n = c.in_ok-relate_parts in
     let inner = subst (λ v. Related M q p v x y (part_tree p.meaning) (Ok n.field-0)) (o.passes).ambient
     (n.ensures).related in
-    let half = first_done M a b x y (part_tree p.meaning) n.field-0 o.passes o.verdict inner in
+    let half = first_done M a b x y (part_tree p.meaning) n.field-0 o.passes o.verdict o.built inner in
     let same_a = stays_part (half.passes).extends c.args.a.now k.left_known in
     let same_b = stays_part (half.passes).extends c.args.b.now k.right_known in
     let w = g.R.HasState.state c.open_bodies-2.new.r in
@@ -3026,7 +3040,7 @@ binders-returns-in_err-relate_parts-2 g t c =
     ((last.passes).lawful ((again.passes).lawful ((half.passes).lawful c.requires.lawful))) in
     record {
       related = subst (λ t. Related M r z r.ambient a b (part_tree z.meaning) t) (sym failed)
-          (second_refused M a b s u never k half again.passes again.verdict (part_tree z.meaning) (part_tree z.meaning)
+          (second_refused M a b s u never k half again.passes again.verdict again.built (part_tree z.meaning) (part_tree z.meaning)
           sound e.field-0.0 last);
       sort = subst (λ u. IfOk u (λ z. part_sort z ≡ part_sort c.args.a.now)) (sym failed) tt;
     }
@@ -3048,7 +3062,7 @@ binders-returns g t c =
     let n = c.in_ok-relate_parts in
     let inner = subst (λ v. Related M q p v x y (part_tree p.meaning) (Ok n.field-0)) (o.passes).ambient
     (n.ensures).related in
-    let half = first_done M a b x y (part_tree p.meaning) n.field-0 o.passes o.verdict inner in
+    let half = first_done M a b x y (part_tree p.meaning) n.field-0 o.passes o.verdict o.built inner in
     let same_a = stays_part (half.passes).extends c.args.a.now k.left_known in
     let same_b = stays_part (half.passes).extends c.args.b.now k.right_known in
     let w = g.R.HasState.state c.open_bodies-2.new.r in
@@ -3064,7 +3078,7 @@ binders-returns g t c =
     (m.ensures).related in
     let stays = extends_on (half.passes).extends (extends_on (again.passes).extends (last.passes).extends) in
     record {
-      related = second_related M a b s u never k half again.passes again.verdict (part_tree z.meaning) m.field-0
+      related = second_related M a b s u never k half again.passes again.verdict again.built (part_tree z.meaning) m.field-0
           (part_tree z.meaning) c.args.a.now (stays_part stays c.args.a.now k.left_known) last;
       sort = refl;
     }

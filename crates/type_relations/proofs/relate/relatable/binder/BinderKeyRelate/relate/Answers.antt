@@ -51,7 +51,7 @@ returns-in_err-relate-clause-related g c =
     let sound = g.met.R.TypeRelation.sound c.relate.new.r
     ((inner.passes).lawful ((o.passes).lawful c.requires.lawful)) in
     subst (λ z. Related M r p r.ambient a b (binder_tree tree p.meaning) z) (sym failed)
-    (first_refused M a b x y (tree p.meaning) (binder_tree tree p.meaning) never sound o.passes o.verdict e.field-0.0
+    (first_refused M a b x y (tree p.meaning) (binder_tree tree p.meaning) never sound o.passes o.verdict o.built e.field-0.0
     inner)
 
 pub open_binders-requires-2-clause-asked : goal.open_binders-requires-2-clause-asked
@@ -73,7 +73,7 @@ open_binders-requires-2-clause-asked g c =
     let met = (n.ensures).related in
     let inner = subst (λ v. Related M q p v x y (tree p.meaning) (Ok n.field-0)) (o.passes).ambient
     (related_bodies M over x y (tree p.meaning) (Ok n.field-0) c.requires.fits.0 met) in
-    let half = first_done M a b x y (tree p.meaning) n.field-0 o.passes o.verdict inner in
+    let half = first_done M a b x y (tree p.meaning) n.field-0 o.passes o.verdict o.built inner in
     let same_a = stays_binder tree g.T.HasTree.stays (half.passes).extends c.args.a.now k.left_known in
     let same_b = stays_binder tree g.T.HasTree.stays (half.passes).extends c.args.b.now k.right_known in
     still_asked M a b (binder_tree tree p.meaning c.args.a.now) (binder_tree tree p.meaning c.args.b.now) same_a same_b half k
@@ -99,7 +99,7 @@ returns-in_err-bodies-2-clause-related g c =
     let met = (n.ensures).related in
     let inner = subst (λ v. Related M q p v x y (tree p.meaning) (Ok n.field-0)) (o.passes).ambient
     (related_bodies M over x y (tree p.meaning) (Ok n.field-0) c.requires.fits.0 met) in
-    let half = first_done M a b x y (tree p.meaning) n.field-0 o.passes o.verdict inner in
+    let half = first_done M a b x y (tree p.meaning) n.field-0 o.passes o.verdict o.built inner in
     let same_a = stays_binder tree g.T.HasTree.stays (half.passes).extends c.args.a.now k.left_known in
     let same_b = stays_binder tree g.T.HasTree.stays (half.passes).extends c.args.b.now k.right_known in
     let w = g.R.HasState.state c.open_binders-2.new.self in
@@ -131,7 +131,7 @@ returns-in_default-2-clause-related g c =
     let met = (n.ensures).related in
     let inner = subst (λ v. Related M q p v x y (tree p.meaning) (Ok n.field-0)) (o.passes).ambient
     (related_bodies M over x y (tree p.meaning) (Ok n.field-0) c.requires.fits.0 met) in
-    let half = first_done M a b x y (tree p.meaning) n.field-0 o.passes o.verdict inner in
+    let half = first_done M a b x y (tree p.meaning) n.field-0 o.passes o.verdict o.built inner in
     let same_a = stays_binder tree g.T.HasTree.stays (half.passes).extends c.args.a.now k.left_known in
     let same_b = stays_binder tree g.T.HasTree.stays (half.passes).extends c.args.b.now k.right_known in
     let w = g.R.HasState.state c.open_binders-2.new.self in
@@ -161,7 +161,7 @@ relate-requires-2-clause-fits g c =
     let met = (n.ensures).related in
     let inner = subst (λ v. Related M q p v x y (tree p.meaning) (Ok n.field-0)) (o.passes).ambient
     (related_bodies M over x y (tree p.meaning) (Ok n.field-0) c.requires.fits.0 met) in
-    let half = first_done M a b x y (tree p.meaning) n.field-0 o.passes o.verdict inner in
+    let half = first_done M a b x y (tree p.meaning) n.field-0 o.passes o.verdict o.built inner in
     let same_a = stays_binder tree g.T.HasTree.stays (half.passes).extends c.args.a.now k.left_known in
     let same_b = stays_binder tree g.T.HasTree.stays (half.passes).extends c.args.b.now k.right_known in
     let w = g.R.HasState.state c.open_binders-2.new.self in
@@ -196,7 +196,7 @@ returns-in_err-relate-2-clause-related g c =
     let met = (n.ensures).related in
     let inner = subst (λ v. Related M q p v x y (tree p.meaning) (Ok n.field-0)) (o.passes).ambient
     (related_bodies M over x y (tree p.meaning) (Ok n.field-0) c.requires.fits.0 met) in
-    let half = first_done M a b x y (tree p.meaning) n.field-0 o.passes o.verdict inner in
+    let half = first_done M a b x y (tree p.meaning) n.field-0 o.passes o.verdict o.built inner in
     let same_a = stays_binder tree g.T.HasTree.stays (half.passes).extends c.args.a.now k.left_known in
     let same_b = stays_binder tree g.T.HasTree.stays (half.passes).extends c.args.b.now k.right_known in
     let w = g.R.HasState.state c.open_binders-2.new.self in
@@ -216,7 +216,7 @@ returns-in_err-relate-2-clause-related g c =
     let sound = g.met.R.TypeRelation.sound c.relate-2.new.r
     ((last.passes).lawful ((again.passes).lawful ((half.passes).lawful c.requires.lawful))) in
     subst (λ t. Related M r z r.ambient a b (binder_tree tree z.meaning) t) (sym failed)
-    (second_refused M a b s u never k half again.passes again.verdict (tree z.meaning) (binder_tree tree z.meaning) sound
+    (second_refused M a b s u never k half again.passes again.verdict again.built (tree z.meaning) (binder_tree tree z.meaning) sound
     e.field-0.0 last)
 
 pub returns-clause-related : goal.returns-clause-related
@@ -240,7 +240,7 @@ returns-clause-related g c =
     let met = (n.ensures).related in
     let inner = subst (λ v. Related M q p v x y (tree p.meaning) (Ok n.field-0)) (o.passes).ambient
     (related_bodies M over x y (tree p.meaning) (Ok n.field-0) c.requires.fits.0 met) in
-    let half = first_done M a b x y (tree p.meaning) n.field-0 o.passes o.verdict inner in
+    let half = first_done M a b x y (tree p.meaning) n.field-0 o.passes o.verdict o.built inner in
     let same_a = stays_binder tree g.T.HasTree.stays (half.passes).extends c.args.a.now k.left_known in
     let same_b = stays_binder tree g.T.HasTree.stays (half.passes).extends c.args.b.now k.right_known in
     let w = g.R.HasState.state c.open_binders-2.new.self in
@@ -256,6 +256,6 @@ returns-clause-related g c =
     let last = subst (λ v. Related M w z v s u (tree z.meaning) (Ok m.field-0)) (again.passes).ambient
     (related_bodies M over s u (tree z.meaning) (Ok m.field-0) c.requires.fits.0 met-2) in
     let stays = extends_on (half.passes).extends (extends_on (again.passes).extends (last.passes).extends) in
-    second_related M a b s u never k half again.passes again.verdict (tree z.meaning) m.field-0
+    second_related M a b s u never k half again.passes again.verdict again.built (tree z.meaning) m.field-0
     (binder_tree tree z.meaning) c.args.a.now
     (stays_binder tree g.T.HasTree.stays stays c.args.a.now k.left_known) last

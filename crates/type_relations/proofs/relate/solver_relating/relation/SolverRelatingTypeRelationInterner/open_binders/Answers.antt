@@ -6,6 +6,7 @@ use Rattle.relation_folds.specs.Visits.{bound_var_escapes}
 use Rattle.relation_folds.specs.declared.error.RelateFault.TheVariants.{Memory}
 use Rattle.relation_contexts.specs.Binders.{binder_tree}
 use Rattle.relation_contexts.proofs.Passing.{as_err}
+use Rattle.type_relations.proofs.Rounds.{under_built}
 use Rattle.type_relations.proofs.SolvingBinders.{covered_binds, opens_neither, opening_refused, opens_second}
 use Rattle.type_relations.proofs.SolvingBinders.{opens_first, opens_none, no_more}
 use Rattle.type_relations.proofs.relate.solver_relating.relation.SolverRelatingTypeRelationInterner.open_binders.Goals as goal
@@ -74,6 +75,8 @@ returns-in_err-y g c =
     (binder_tree g.T.HasTree.tree s.meaning c.args.a.now) (binder_tree g.T.HasTree.tree s.meaning c.args.b.now)
     (g.T.HasTree.tree d.meaning) c.from_residual.result
     (as_err c.from_residual.result Memory c.from_residual.ensures.0 c.from_residual.ensures.1)
+    (under_built ((s.meaning).bound_vars c.args.a.now.bound_vars)
+    (g.T.HasTree.tree s.meaning c.args.a.now.value) c.requires.asked.left_known)
 
 pub returns-then-enters_second : goal.returns-then-enters_second
 returns-then-enters_second g c =
@@ -104,6 +107,8 @@ returns-in_err-x g c =
     (g.met.Infcx.InferCtxtLike.sound r.infcx.now c.requires.lawful.0) done.grows h.0 h.1 h.2 c.args.round
     (binder_tree g.T.HasTree.tree s.meaning c.args.a.now) (binder_tree g.T.HasTree.tree s.meaning c.args.b.now)
     (g.T.HasTree.tree d.meaning) from.result (as_err from.result Memory from.ensures.0 from.ensures.1)
+    (under_built ((s.meaning).bound_vars c.args.a.now.bound_vars)
+    (g.T.HasTree.tree s.meaning c.args.a.now.value) c.requires.asked.left_known)
 
 pub returns-then-enters_first : goal.returns-then-enters_first
 returns-then-enters_first g c =
