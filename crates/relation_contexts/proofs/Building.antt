@@ -21,11 +21,11 @@ use Rattle.relation_contexts.proofs.Only.{which}
 use Rattle.relation_contexts.proofs.Growing.{same_entries}
 
 -- The kit of all but binders: what is built of it has none.
-pub plain : Kit
-plain = record { heads = λ h. true; atoms = λ x. true; binders = false }
+pub all_but_binders : Kit
+all_but_binders = record { heads = λ h. true; atoms = λ x. true; binders = false }
 
-pub plain_built : (t : Tree) → HasNoBinder t → IsBuiltOf plain t
-unfolding plain
+pub plain_built : (t : Tree) → HasNoBinder t → IsBuiltOf all_but_binders t
+unfolding all_but_binders
 plain_built (leaf (variable k n)) h = tt
 plain_built (leaf (bound k d i)) h = tt
 plain_built (leaf (placeholder k u n)) h = tt
@@ -36,25 +36,22 @@ plain_built (bind ks t) h = absurd h
 plain_built nil h = tt
 plain_built (cons t u) h = (plain_built t h.0, plain_built u h.1)
 
-pub built_plain : (t : Tree) → IsBuiltOf plain t → HasNoBinder t
-unfolding plain
+pub built_plain : (t : Tree) → IsBuiltOf all_but_binders t → HasNoBinder t
+unfolding all_but_binders
 built_plain (leaf l) h = tt
 built_plain (node a t) h = built_plain t h.1
 built_plain (bind ks t) h = absurd (false≢true h.0)
 built_plain nil h = tt
 built_plain (cons t u) h = (built_plain t h.0, built_plain u h.1)
 
-pub plain_binds : (st : Store) → BindsNoBinder st → BindsBuiltOf plain st
+pub plain_binds : (st : Store) → BindsNoBinder st → BindsBuiltOf all_but_binders st
 plain_binds st all k n t e = plain_built t (all k n t e)
-
-pub binds_plain : (st : Store) → BindsBuiltOf plain st → BindsNoBinder st
-binds_plain st all k n t e = built_plain t (all k n t e)
 
 -- So where no binder stands in two terms and what is bound, none stands in what they lead to.
 pub no_binder_from : (st : Store) (a b x y : Tree) → BuiltFrom st a b x y → BindsNoBinder st → HasNoBinder a →
     HasNoBinder b → HasNoBinder x × HasNoBinder y
 no_binder_from st a b x y f all ha hb =
-    let z = f plain (plain_built a ha) (plain_built b hb) (plain_binds st all) in
+    let z = f all_but_binders (plain_built a ha) (plain_built b hb) (plain_binds st all) in
     (built_plain x z.0, built_plain y z.1)
 
 -- Parts are built of what the whole is.
@@ -229,9 +226,9 @@ builds_asking k st goals asks all = record { binds = all; asks = asks; universe 
 -- So where no binder stands in two terms and what was bound, no universe was made.
 pub no_universe_made : {before after : Store} (gs : List Goal) (a b : Tree) → StaysBuilt before after gs a b →
     HasNoBinder a → HasNoBinder b → BindsNoBinder before → after.universe ≡ before.universe
-unfolding plain
+unfolding all_but_binders
 no_universe_made {before} gs a b f ha hb all =
-    (f plain (plain_built a ha) (plain_built b hb) (plain_binds before all)).universe refl
+    (f all_but_binders (plain_built a ha) (plain_built b hb) (plain_binds before all)).universe refl
 
 -- Goals were registered after a part of the work, and nothing else was done.
 pub builds_noting : (k : Kit) {r q p : Store} (gs hs : List Goal) → p ≡ q → Builds k r q gs → All (IsGoalOf k) hs →
