@@ -6,7 +6,7 @@ use Rattle.relation_terms.specs.Trees.{Tree, node, cons, nil, nth}
 use Rattle.relation_contexts.specs.Relation.{Items, at, parts, part_at}
 use Rattle.relation_contexts.specs.Parts.{parts_of, head_of, const_parts_of, const_head_of, branches_of}
 use Rattle.relation_contexts.specs.Errors.{AreOfOneForm, over_parts, one_leaf, parameters, AreOfOneConst, values}
-use Rattle.relation_contexts.specs.Errors.{expressions, const_parameters, one_value, as_many_branches}
+use Rattle.relation_contexts.specs.Errors.{expressions, const_parameters, one_value, as_many_branches, one_const_leaf}
 use Rattle.relation_contexts.specs.Agreeing.{Agree}
 use Rattle.relation_contexts.proofs.Agreeing.{agree_anything, agree_same, agree_atoms}
 use Rattle.relation_contexts.proofs.Answering.{covariantly}
@@ -55,5 +55,6 @@ const_agrees c v a b (values {t} {u} {v = x} {w = y} d e (as_many_branches {ts} 
     (subst₂ (Agree c (at v)) (sym m) (sym n) (inr (refl, branches))))
 const_agrees c v a b (expressions {k} {ts} {us} d e n) g = subst₂ (Agree c (at v)) (sym d) (sym e)
     (inr (refl, subst₂ (λ x y. Agree c (parts (const_head_of x) 0 v) (const_parts_of x) (const_parts_of y)) d e g))
+const_agrees c v a b (one_const_leaf d e) g = agree_same c v a b (d ∙ sym e)
 const_agrees c v a b (const_parameters {x} {y} d e p) g =
     subst₂ (Agree c (at v)) (sym d) (sym e) (agree_atoms c v x y p)

@@ -19,10 +19,11 @@ use Rattle.relation_contexts.specs.FirstOrder.{IsFirstOrder, IsFirstOrderStore}
 use Rattle.relation_contexts.specs.Steps.{InstantiatesNumber, IsNumberFor, HasNoBinder, StaysFull}
 use Rattle.relation_contexts.specs.Measures.{Goes}
 use Rattle.relation_contexts.specs.Outcomes.{Exact, NoEqualTerms, NoUnifier}
-use Rattle.relation_contexts.specs.Errors.{ErrorOf, HaveNoError, AreAlike, AreBindable, IsVariableFor, of_forms, sorts}
+use Rattle.relation_contexts.specs.Settings.{Settings}
+use Rattle.relation_contexts.specs.Errors.{IsUnnormalized, by_forms, ErrorOf, HaveNoError, AreAlike, AreBindable, IsVariableFor, of_forms, sorts}
 use Rattle.relation_contexts.specs.Parts.{IsFormed}
 use Rattle.relation_contexts.specs.Covered.{IsCovered}
-use Rattle.relation_contexts.proofs.Covered.{covered_no_error}
+use Rattle.relation_contexts.proofs.Covered.{covered_no_error, covered_normal, normal_not_left}
 use Rattle.relation_contexts.proofs.Full.{full_by, written_plain}
 use Rattle.relation_contexts.proofs.Standing.{itself_stands}
 use Rattle.relation_contexts.proofs.Written.{is_later, equal, weight_after, kinds_stand, others}
@@ -291,11 +292,13 @@ module _ (st : Store) (k : VarKind) (i : IsNumber k) (n : ℕ) (made : IsMade st
   not_alike a = differs (subst (MayStandFor k) (variable_alone k n t a) (itself_stands k n))
 
   -- The error that comes of them.
-  module _ {Key Id Name : Type 0} (m : Meaning Key Id Name) (w : Items) (x y : TyKey Key) (v : Variance)
+  module _ {Key Id Name : Type 0} (m : Meaning Key Id Name) (j : Settings) (w : Items) (x y : TyKey Key) (v : Variance)
       (decides : v ≢ Bivariant) where
     pub number_error : m.ty x ≡ leaf (variable k n) → m.ty y ≡ t →
-        ErrorOf m w st v (Sorts (record { expected = x; found = y })) (m.ty x) (m.ty y)
-    number_error p q = of_forms x y decides refl refl bindable (sorts no_error (λ a. not_alike (subst₂ AreAlike p q a)))
+        ErrorOf m j w st v (Sorts (record { expected = x; found = y })) (m.ty x) (m.ty y)
+    number_error p q = by_forms (normal_not_left j (m.ty x) (m.ty y) (λ o. subst IsUnnormalized p o)
+        (λ o. covered_normal t c (subst IsUnnormalized q o)))
+        (of_forms x y decides refl refl bindable (sorts no_error (λ a. not_alike (subst₂ AreAlike p q a))))
       where
         bindable : AreBindable (m.ty x) (m.ty y) → ⊥
         bindable (inl z) = differs (subst (MayStandFor k) q (subst (λ r. IsVariableFor r (m.ty y)) p z))
@@ -308,9 +311,10 @@ module _ (st : Store) (k : VarKind) (i : IsNumber k) (n : ℕ) (made : IsMade st
         )
 
     pub number_error_back : m.ty x ≡ t → m.ty y ≡ leaf (variable k n) →
-        ErrorOf m w st v (Sorts (record { expected = x; found = y })) (m.ty x) (m.ty y)
-    number_error_back p q = of_forms x y decides refl refl bindable
-        (sorts no_error (λ a. not_alike (sym (subst₂ AreAlike p q a))))
+        ErrorOf m j w st v (Sorts (record { expected = x; found = y })) (m.ty x) (m.ty y)
+    number_error_back p q = by_forms (normal_not_left j (m.ty x) (m.ty y)
+        (λ o. covered_normal t c (subst IsUnnormalized p o)) (λ o. subst IsUnnormalized q o))
+        (of_forms x y decides refl refl bindable (sorts no_error (λ a. not_alike (sym (subst₂ AreAlike p q a)))))
       where
         bindable : AreBindable (m.ty x) (m.ty y) → ⊥
         bindable (inl z) = variable_for k i n t f o differs (subst₂ IsVariableFor p q z)

@@ -7,7 +7,7 @@ use Rattle.relation_terms.specs.Trees.{Tree, leaf, node, bind, nil, cons, Assign
 use Rattle.relation_contexts.specs.Relation.{IsRelatedHead, sort_of}
 use Rattle.relation_contexts.specs.Stores.{Store}
 use Rattle.relation_contexts.specs.Outcomes.{NoEqualTerms}
-use Rattle.relation_contexts.specs.Errors.{AreOfOneForm, over_parts, one_leaf, parameters, AreOfOneConst, AreOfOneValue, values, expressions, const_parameters, one_value, as_many_branches}
+use Rattle.relation_contexts.specs.Errors.{AreOfOneForm, over_parts, one_leaf, parameters, AreOfOneConst, AreOfOneValue, values, expressions, const_parameters, one_value, as_many_branches, one_const_leaf}
 use Rattle.relation_contexts.specs.Parts.{parts_of, const_parts_of, branches_of}
 
 -- Lists.
@@ -76,6 +76,7 @@ const_parts_equal a b (expressions {k} {ts} {us} d e n) s q =
     let z : apply s (node (expression k) ts) ≡ apply s (node (expression k) us) = sym (ap (apply s) d) ∙ q ∙ ap (apply s) e in
     let y : apply s ts ≡ apply s us = cc in
     ap (λ t. apply s (const_parts_of t)) d ∙ y ∙ sym (ap (λ t. apply s (const_parts_of t)) e)
+const_parts_equal a b (one_const_leaf d e) s q = ap (λ t. apply s (const_parts_of t)) (d ∙ sym e)
 const_parts_equal a b (const_parameters d e p) s q = ap (λ t. apply s (const_parts_of t)) d ∙ sym (ap (λ t. apply s (const_parts_of t)) e)
 
 -- They have as many.
@@ -89,6 +90,7 @@ const_parts_counted a b (values d e (one_value o)) = ap (λ t. count (const_part
 const_parts_counted a b (values d e (as_many_branches p q n)) =
     ap (λ t. count (const_parts_of t)) d ∙ ap (λ t. count (branches_of t)) p ∙ n ∙ sym (ap (λ t. count (branches_of t)) q) ∙ sym (ap (λ t. count (const_parts_of t)) e)
 const_parts_counted a b (expressions d e n) = ap (λ t. count (const_parts_of t)) d ∙ n ∙ sym (ap (λ t. count (const_parts_of t)) e)
+const_parts_counted a b (one_const_leaf d e) = ap (λ t. count (const_parts_of t)) (d ∙ sym e)
 const_parts_counted a b (const_parameters d e p) = ap (λ t. count (const_parts_of t)) d ∙ sym (ap (λ t. count (const_parts_of t)) e)
 
 -- The sort of a term of a sort.

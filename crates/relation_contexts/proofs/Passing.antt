@@ -16,7 +16,7 @@ use Rattle.relation_folds.specs.declared.error.RelateFault.TheVariants.{Memory, 
 use Rattle.relation_contexts.specs.Relation.{Items, Way, at, anything, Rel}
 use Rattle.relation_contexts.specs.declared.relate.Step.TheVariants.{Done, Parts}
 use Rattle.relation_folds.specs.Faults.{KnowsError}
-use Rattle.relation_contexts.specs.Errors.{ErrorOf}
+use Rattle.relation_contexts.specs.Errors.{ErrorOf, by_forms, IsLeftToGoal, Meeting, as_forms}
 use Rattle.relation_contexts.specs.Agreeing.{Agree}
 use Rattle.relation_contexts.specs.Stores.{Store, IsSound, Satisfies, all_bound, weight}
 use Rattle.relation_contexts.specs.Goals.{Goal, GoalInContext, IsDirected, Holds, Relates, Asked as Asks, asked, asks_too_much, asks_nothing, IsQuiet, AsksNoPair, HasOneTree, MakesOneTree}
@@ -27,6 +27,7 @@ use Rattle.relation_contexts.specs.Steps.{IsLater, StaysFullFor}
 use Rattle.relation_contexts.specs.Kits.{StaysBuilt, BuiltFrom, IsGoalOf}
 use Rattle.relation_contexts.specs.Measures.{grown, Goes}
 use Rattle.relation_contexts.specs.Lawful.{State, Manner, Manners, Takes, MayAnswer, Passes, Asked, Refuses, Answers, Verdict, Related, Leads}
+use Rattle.relation_contexts.specs.Lawful.{RefusesAs, VerdictAs, RelatedAs, RelatedForms}
 use Rattle.relation_contexts.specs.Lawful.{ExactResult, ExactlyRelated, RegisteredIn}
 use Rattle.relation_contexts.proofs.Exactness.{exact_steps_compose}
 use Rattle.relation_contexts.specs.Lawful.{LeadsToParts, LeadsAgain, Shown, Noted, Turned, Stepped, OnlyMemory, WithMeaning, declared_by, items_of, items_in}
@@ -39,6 +40,7 @@ use Rattle.relation_contexts.proofs.Composing.{steps_compose, first_goals}
 use Rattle.relation_contexts.proofs.Growing.{All_front}
 use Rattle.relation_contexts.proofs.Standing.{later_term}
 use Rattle.relation_contexts.proofs.Agreeing.{agree_anything}
+use Rattle.relation_contexts.proofs.Covered.{covered_not_left}
 use Rattle.relation_contexts.proofs.Answering.{same_environment, same_settings, same_items, may_itself, may_later, if_ok_both}
 use Rattle.relation_contexts.specs.OneUniverse.{KeepsUniverse, KeepsUniverseOf, LeadsInUniverse, BindsNoMore}
 use Rattle.relation_contexts.proofs.OneUniverse.{keeps_itself, keeps_binds, kept_then, binds_as_many, leads_itself, led_keeps, led_binds, led_fewer}
@@ -163,7 +165,7 @@ module _ {Key Id Name : Type 0} where
   led_refuses {r = r} {q = q} {p = p} g f sound a b x y v l (Unrelated e) h = (
     (steps_compose (items_in r) r.kept.environment (at r.ambient) (at v) r.store q.store p.store r.goals g.added f.added
         a b x y l.steps).1 h.0,
-    l.errors p.meaning (items_in p) p.store e (f.goes).later sound h.1,
+    l.errors p.meaning p.kept.settings (items_in p) p.store e (f.goes).later sound h.1,
     h.2,
   )
   led_refuses g f sound a b x y v l Budget h = h
@@ -233,12 +235,36 @@ module _ {Key Id Name : Type 0} where
       (subst (λ gs. All (Holds (items_in q) w s) gs) g.lengthens
       (subst (λ c. All (Holds c w s) p.goals) (same_items g) all))))
 
+  -- A pair that was related as two forms, and isn't left to a goal, was related as it is met.
+  met_refuses : (r q : State Key Id Name) (v : Variance) (a b : Tree) → (IsLeftToGoal q.kept.settings a b → ⊥) →
+      (e : RelateFault Key Id Name) → RefusesAs as_forms r q (at v) a b e → Refuses r q v a b e
+  met_refuses r q v a b n (Unrelated e) h = (h.0, by_forms n h.1, h.2)
+  met_refuses r q v a b n Budget h = h
+  met_refuses r q v a b n Memory h = tt
+
+  pub forms_met : {X : Type 0} {r q : State Key Id Name} (M : Manners) (v : Variance) (a b : Tree) (tree : X → Tree)
+      (result : Result X (RelateFault Key Id Name)) → (IsLeftToGoal r.kept.settings a b → ⊥) →
+      RelatedForms M r q v a b tree result → Related M r q v a b tree result
+  forms_met {X} {r} {q} M v a b tree result n f = record {
+    passes = f.passes;
+    verdict = verdict result f.verdict;
+    exact = f.exact;
+    full = f.full;
+    built = f.built;
+  }
+    where
+      verdict : (res : Result X (RelateFault Key Id Name)) → VerdictAs as_forms M r q (f.passes).added (at v) a b tree res →
+          Verdict M r q (f.passes).added v a b tree res
+      verdict (Ok t) h = h
+      verdict (Err e) h =
+          met_refuses r q v a b (subst (λ k. IsLeftToGoal k a b → ⊥) (sym (same_settings (f.passes).kept)) n) e h
+
   -- The two forms to which a step led were related by their parts.
   pub parts_related : {X : Type 0} {r q p : State Key Id Name} (M : Manners) (F : Tree → Type 0) → IsSound p.store →
       (a b x y : Tree) (tree : X → Tree) (result : Result X (RelateFault Key Id Name))
       (g : Passes (weight r.store a + weight r.store b) r q) → LeadsToParts M F r q g.added a b x y →
       LeadsExactly M r q a b x y → StaysFullFor r.store q.store a b → StaysBuilt r.store q.store g.added a b →
-      Related M q p r.ambient x y tree result → Related M r p r.ambient a b tree result
+      RelatedForms M q p r.ambient x y tree result → Related M r p r.ambient a b tree result
   unfolding passes_then
   parts_related {X} {r} {q} {p} M F sound a b x y tree result g l exactly full built f = record {
     passes = passes_then g f.passes small;
@@ -255,7 +281,7 @@ module _ {Key Id Name : Type 0} where
           let n = l.not_larger in omega arith
 
       verdict : (res : Result X (RelateFault Key Id Name)) →
-          Verdict M q p (f.passes).added r.ambient x y tree res →
+          VerdictAs as_forms M q p (f.passes).added (at r.ambient) x y tree res →
           Verdict M r p (g.added ++ (f.passes).added) r.ambient a b tree res
       verdict (Ok t) v = record {
         outcome = led_outcome g f.passes a b x y r.ambient l.leads v.outcome;
@@ -266,7 +292,8 @@ module _ {Key Id Name : Type 0} where
         known = v.known;
         agrees = λ k. led_agrees g a b x y r.ambient l.leads (v.agrees (manner_then M (λ z. z.relates_agreeing) g k));
       }
-      verdict (Err e) v = led_refuses g f.passes sound a b x y r.ambient l.leads e v
+      verdict (Err e) v = led_refuses g f.passes sound a b x y r.ambient l.leads e
+          (met_refuses q p r.ambient x y (subst (λ k. IsLeftToGoal k x y → ⊥) (sym (same_settings (f.passes).kept)) l.not_left) e v)
 
   -- The pair to which a step led was related, and the answer is the one that the step named.
   module _ {r q : State Key Id Name} (M : Manners) (a b k l x y u : Tree) (v : Variance)
@@ -316,8 +343,8 @@ module _ {Key Id Name : Type 0} where
     }
 
   -- What is noted after two terms were related leaves them so.
-  module _ {X Y : Type 0} {r q p : State Key Id Name} (M : Manners) (v : Variance) (a b : Tree)
-      (tree : X → Tree) (t : X) (f : Related M r q v a b tree (Ok t)) (note : Result Y (RelateFault Key Id Name))
+  module _ {X Y : Type 0} {w : Meeting} {r q p : State Key Id Name} (M : Manners) (v : Variance) (a b : Tree)
+      (tree : X → Tree) (t : X) (f : RelatedAs w M r q (at v) a b tree (Ok t)) (note : Result Y (RelateFault Key Id Name))
       {x y : Tree} (h : Noted q p x y note) (from : BuiltFrom r.store a b x y) where
     both : Passes (weight r.store a + weight r.store b) r p
     both = passes_then f.passes h.passes (omega arith)
@@ -360,7 +387,7 @@ module _ {Key Id Name : Type 0} where
         let z = from k ha hb all in
         builds_noting k (f.passes).added (h.passes).added h.store (f.built k ha hb all) (h.built k z.0 z.1)
 
-    pub noted_related : (answer : X → Tree) → answer t ≡ tree t → Related M r p v a b answer (Ok t)
+    pub noted_related : (answer : X → Tree) → answer t ≡ tree t → RelatedAs w M r p (at v) a b answer (Ok t)
     unfolding passes_then both
     noted_related answer e = record {
       passes = both;
@@ -380,7 +407,7 @@ module _ {Key Id Name : Type 0} where
     }
 
     pub noted_refused : {Z : Type 0} (answer : Z → Tree) (e : RelateFault Key Id Name) → note ≡ Err e →
-        Related {X = Z} M r p v a b answer (Err e)
+        RelatedAs {X = Z} w M r p (at v) a b answer (Err e)
     unfolding passes_then both
     noted_refused {Z} answer e n = record {
       passes = both;
@@ -392,7 +419,7 @@ module _ {Key Id Name : Type 0} where
       built = noted_built;
     }
       where
-        refuses : (e : RelateFault Key Id Name) → OnlyMemory {X = Y} (Err e) → Refuses r p v a b e
+        refuses : (e : RelateFault Key Id Name) → OnlyMemory {X = Y} (Err e) → RefusesAs w r p (at v) a b e
         refuses Memory k = tt
         refuses e k = absurd k
 
@@ -416,7 +443,8 @@ module _ {Key Id Name : Type 0} where
     turned_refuses : (e : RelateFault Key Id Name) → Refuses t q v a b e → Refuses r u v a b e
     turned_refuses (Unrelated e) h = (
       subst (λ s. NeverOne (at v) s a b) there.store h.0,
-      subst₂ (λ m s. ErrorOf m (items_of m) s v e a b) (sym back.meaning) (sym back.store) h.1,
+      subst (λ k. ErrorOf u.meaning k (items_of u.meaning) u.store v e a b) (sym (same_settings back.kept))
+          (subst₂ (λ m s. ErrorOf m q.kept.settings (items_of m) s v e a b) (sym back.meaning) (sym back.store) h.1),
       subst (λ m. KnowsError m e) (sym back.meaning) h.2,
     )
     turned_refuses Budget h = ap (λ s. s.budget) back.store ∙ h
@@ -516,11 +544,11 @@ module _ {Key Id Name : Type 0} where
       same : items_in p ≡ items_in q
       same = ap₂ declared_by e.variances e.alias_variances
 
-  module _ {X Y : Type 0} {r q p : State Key Id Name} (M : Manners) (v : Variance) (a b : Tree)
+  module _ {X Y : Type 0} {x y : Meeting} {r q p : State Key Id Name} (M : Manners) (v : Variance) (a b : Tree)
       (e : ExtendsMeaning q.meaning p.meaning) (w : WithMeaning q p.meaning p) (answer : Y → Tree) where
     -- An answer was made anew of the same value.
-    pub remade : (tree : X → Tree) (t : X) → Related M r q v a b tree (Ok t) → (z : Y) → MayAnswer M q v a (answer z) →
-        IsTrue (known (answer z)) → Related M r p v a b answer (Ok z)
+    pub remade : (tree : X → Tree) (t : X) → RelatedAs x M r q (at v) a b tree (Ok t) → (z : Y) →
+        MayAnswer M q v a (answer z) → IsTrue (known (answer z)) → RelatedAs y M r p (at v) a b answer (Ok z)
     unfolding passes_grown
     remade tree t f z value sure = record {
       passes = passes_grown f.passes e w;
@@ -538,9 +566,10 @@ module _ {Key Id Name : Type 0} where
     }
 
     -- Or it could not be made.
-    pub made_or_not : (tree : X → Tree) (t : X) → Related M r q v a b tree (Ok t) →
+    pub made_or_not : (tree : X → Tree) (t : X) → RelatedAs x M r q (at v) a b tree (Ok t) →
         (res : Result Y (RelateFault Key Id Name)) → OnlyMemory res →
-        IfOk res (λ z. MayAnswer M q v a (answer z) × IsTrue (known (answer z))) → Related M r p v a b answer res
+        IfOk res (λ z. MayAnswer M q v a (answer z) × IsTrue (known (answer z))) →
+        RelatedAs y M r p (at v) a b answer res
     unfolding passes_grown
     made_or_not tree t f (Ok z) only h = remade tree t f z h.0 h.1
     made_or_not tree t f (Err Memory) only h = record {
@@ -554,19 +583,20 @@ module _ {Key Id Name : Type 0} where
     made_or_not tree t f (Err g) only h = absurd only
 
     -- The form over what may be answered for the parts was made, or could not be.
-    pub form_made : (tree : X → Tree) (t : X) → Related M r q v a b tree (Ok t) → (res : Result Y (RelateFault Key Id Name)) →
+    pub form_made : (tree : X → Tree) (t : X) → RelatedAs x M r q (at v) a b tree (Ok t) → (res : Result Y (RelateFault Key Id Name)) →
         OnlyMemory res → (formed made : Tree) → MayAnswer M q v a formed → made ≡ formed →
-        IfOk res (λ z. IsTrue (known (answer z))) → IfOk res (λ z. answer z ≡ made) → Related M r p v a b answer res
+        IfOk res (λ z. IsTrue (known (answer z))) → IfOk res (λ z. answer z ≡ made) →
+        RelatedAs y M r p (at v) a b answer res
     form_made tree t f res only formed made value same sure means = made_or_not tree t f res only
         (if_ok_both (λ z. IsTrue (known (answer z))) (λ z. answer z ≡ made)
         (λ z. MayAnswer M q v a (answer z) × IsTrue (known (answer z))) res
         (λ z k is. (subst (MayAnswer M q v a) (sym (is ∙ same)) value, k)) sure means)
 
   -- Memory ran out.
-  pub stopped : {X : Type 0} {r q : State Key Id Name} (M : Manners) (v : Variance) (a b : Tree) (tree : X → Tree) →
+  pub stopped : {X : Type 0} {w : Meeting} {r q : State Key Id Name} (M : Manners) (v : Variance) (a b : Tree) (tree : X → Tree) →
       (g : Passes (weight r.store a + weight r.store b) r q) → ((M r.kept.settings).is_exact → v ≡ Invariant →
       IsFirstOrderPair r.store a b → BindsNoMore r.store q.store a b) → StaysFullFor r.store q.store a b →
-      StaysBuilt r.store q.store g.added a b → Related {X = X} M r q v a b tree (Err Memory)
+      StaysBuilt r.store q.store g.added a b → RelatedAs {X = X} w M r q (at v) a b tree (Err Memory)
   stopped M v a b tree g f h d = record { passes = g; verdict = tt; exact = f; full = h; built = d }
 
   -- A step that answers.
@@ -576,9 +606,9 @@ module _ {Key Id Name : Type 0} where
       record { passes = s.passes; verdict = s.verdict; exact = s.exact; full = s.full; built = s.built }
 
   -- The same answer in other words, and the same fault.
-  pub retold : {X Y : Type 0} {r q : State Key Id Name} (M : Manners) (v : Variance) (a b : Tree) (tree : X → Tree) (t : X)
-      (answer : Y → Tree) (z : Y) → answer z ≡ tree t → Related M r q v a b tree (Ok t) →
-      Related M r q v a b answer (Ok z)
+  pub retold : {X Y : Type 0} {w : Meeting} {r q : State Key Id Name} (M : Manners) (v : Variance) (a b : Tree) (tree : X → Tree) (t : X)
+      (answer : Y → Tree) (z : Y) → answer z ≡ tree t → RelatedAs w M r q (at v) a b tree (Ok t) →
+      RelatedAs w M r q (at v) a b answer (Ok z)
   retold {r = r} {q = q} M v a b tree t answer z e f = record {
     passes = f.passes;
     verdict = subst (λ u. Answers M r q (f.passes).added v a b u) (sym e) f.verdict;
@@ -587,9 +617,9 @@ module _ {Key Id Name : Type 0} where
     built = f.built;
   }
 
-  pub refused_again : {X Y : Type 0} {r q : State Key Id Name} (M : Manners) (v : Variance) (a b : Tree) (tree : X → Tree)
-      (answer : Y → Tree) (e : RelateFault Key Id Name) → Related M r q v a b tree (Err e) →
-      Related M r q v a b answer (Err e)
+  pub refused_again : {X Y : Type 0} {w : Meeting} {r q : State Key Id Name} (M : Manners) (v : Variance) (a b : Tree) (tree : X → Tree)
+      (answer : Y → Tree) (e : RelateFault Key Id Name) → RelatedAs w M r q (at v) a b tree (Err e) →
+      RelatedAs w M r q (at v) a b answer (Err e)
   refused_again {X} {Y} {r} {q} M v a b tree answer e f =
       record {
         passes = f.passes;
@@ -599,8 +629,8 @@ module _ {Key Id Name : Type 0} where
         built = f.built;
       }
 
-  pub relates_now : {X : Type 0} {r q : State Key Id Name} (M : Manners) (v : Variance) (a b : Tree) (tree : X → Tree)
-      (t : X) → Related M r q v a b tree (Ok t) → Relates (items_in q) q.store q.goals q.kept.environment v a b
+  pub relates_now : {X : Type 0} {w : Meeting} {r q : State Key Id Name} (M : Manners) (v : Variance) (a b : Tree) (tree : X → Tree)
+      (t : X) → RelatedAs w M r q (at v) a b tree (Ok t) → Relates (items_in q) q.store q.goals q.kept.environment v a b
   relates_now M v a b tree t f = relates_by v a b f.passes (f.verdict).outcome
 
   -- So are the terms as a step read them, when the pair that it left is related.
@@ -614,8 +644,8 @@ module _ {Key Id Name : Type 0} where
       (led_outcome g f.passes k l x y (xform r.ambient v) led.read_leads (f.verdict).outcome)
 
   -- So all is known of two terms that were related that is known of such.
-  pub shown_now : {X : Type 0} {r q : State Key Id Name} (M : Manners) (v : Variance) (a b : Tree) (tree : X → Tree)
-      (t : X) → Related M r q v a b tree (Ok t) → Shown M q v a b
+  pub shown_now : {X : Type 0} {w : Meeting} {r q : State Key Id Name} (M : Manners) (v : Variance) (a b : Tree) (tree : X → Tree)
+      (t : X) → RelatedAs w M r q (at v) a b tree (Ok t) → Shown M q v a b
   shown_now {r = r} {q = q} M v a b tree t f = record {
     relates = relates_now M v a b tree t f;
     unifies = λ k is pair s sol.
@@ -649,9 +679,9 @@ module _ {Key Id Name : Type 0} where
 -- A step that leaves the pair as it is.
 module _ {Key Id Name K : Type 0} (M : Manners) (F : Tree → Type 0) (r : State Key Id Name) (tree : K → Tree) where
   itself_left : (a b : K) → Asked M r r.ambient (tree a) (tree b) → F (tree a) → F (tree b) →
-      Stepped M F r r (tree a) (tree b) tree (Ok (Parts a b))
+      (IsLeftToGoal r.kept.settings (tree a) (tree b) → ⊥) → Stepped M F r r (tree a) (tree b) tree (Ok (Parts a b))
   unfolding passes_nowhere
-  itself_left a b k f g = record {
+  itself_left a b k f g left = record {
     passes = passes_nowhere _ r;
     verdict = record {
       leads = record {
@@ -661,12 +691,13 @@ module _ {Key Id Name K : Type 0} (M : Manners) (F : Tree → Type 0) (r : State
           relates = λ w s sat all h. h;
           keeps = λ w s sat one. (s, (λ j i h. refl), (sat, All-nil (MakesOneTree s), one));
         };
-        errors = λ m c st e l g h. h;
+        errors = λ m j c st e l g h. h;
         agrees = λ c h. h;
       };
       asked = k;
       left_form = f;
       right_form = g;
+      not_left = left;
       answers = λ t w s sat all h. h;
       built = λ k ha hb all. (ha, hb);
       same_budget = refl;
@@ -688,7 +719,8 @@ module _ {Key Id Name K : Type 0} (M : Manners) (F : Tree → Type 0) (r : State
   pub parts_left : (a b x y : K) → x ≡ a → y ≡ b → Asked M r r.ambient (tree a) (tree b) → F (tree a) → F (tree b) →
       Stepped M F r r (tree a) (tree b) tree (Ok (Parts x y))
   parts_left a b x y e d k f g =
-      subst₂ (λ x y. Stepped M F r r (tree a) (tree b) tree (Ok (Parts x y))) (sym e) (sym d) (itself_left a b k f g)
+      let left = covered_not_left r.kept.settings (tree a) (tree b) k.left_taken.1 k.right_taken.1 in
+      subst₂ (λ x y. Stepped M F r r (tree a) (tree b) tree (Ok (Parts x y))) (sym e) (sym d) (itself_left a b k f g left)
 
 -- A result that is a fault.
 pub as_err : {X F : Type 0} (res : Result X F) (f : F) → IsErr res → IsErrAnd res (λ e. e ≡ f) → res ≡ Err f

@@ -11,7 +11,8 @@ use Rattle.relation_terms.specs.declared.terms.keys.ExistentialPredicatesKey.{Ex
 use Rattle.relation_terms.specs.declared.terms.ids.TraitId.{TraitId}
 use Rattle.relation_terms.specs.Heads.{const_sort, region_sort, pattern_sort, existential_sort, VarKind, type_var, const_var}
 use Rattle.relation_terms.specs.Heads.{var_sort, head_sort, BoundKind, bound_sort, existential_auto}
-use Rattle.relation_terms.specs.Heads.{Atom, Head, array, tuple, raw_ptr, ref, AliasKind, projection_alias, alias}
+use Rattle.relation_terms.specs.Heads.{Atom, Head, array, tuple, raw_ptr, ref, AliasKind, projection_alias, opaque_alias}
+use Rattle.relation_terms.specs.Heads.{alias}
 use Rattle.relation_terms.specs.Heads.{adt, fn_def, closure, coroutine_closure, coroutine, coroutine_witness, slice}
 use Rattle.relation_terms.specs.Heads.{pattern_type, unsafe_binder, dynamic, fn_ptr, signature, inputs, unevaluated}
 use Rattle.relation_terms.specs.Heads.{range_pattern, or_pattern, arguments, object, existential_trait}
@@ -32,6 +33,7 @@ use Rattle.relation_folds.specs.declared.error.TypeError.TheVariants.{Traits, Ex
 use Rattle.relation_contexts.specs.Relation.{Items, plain_atom, sort_of, part_at, IsError}
 use Rattle.relation_contexts.specs.Stores.{Store, bound_to, entry_of, resolved, universe_of, MayStandFor}
 use Rattle.relation_contexts.specs.Steps.{OneClass}
+use Rattle.relation_contexts.specs.Settings.{Settings, LeavesAliases, LeavesOpaque}
 
 -- A form without parts, but for what types and constants of one form may differ in: a parameter's name.
 abbrev pub outer_leaf : Leaf → Leaf
@@ -117,12 +119,14 @@ pub data AreOfOneValue (a b : Tree) : Type 0 where
   as_many_branches : {ts us : Tree} → a ≡ node value_branch ts → b ≡ node value_branch us → count ts ≡ count us →
       AreOfOneValue a b
 
--- Two constants of one outermost form with as many parts, the types of values apart; or two parameters of one index.
+-- Two constants of one outermost form with as many parts, the types of values apart; or one form without parts; or two
+-- parameters of one index.
 pub data AreOfOneConst (a b : Tree) : Type 0 where
   values : {t u v w : Tree} → a ≡ node value (cons (node value_type (cons t nil)) (cons v nil)) →
       b ≡ node value (cons (node value_type (cons u nil)) (cons w nil)) → AreOfOneValue v w → AreOfOneConst a b
   expressions : {k : ℕ} {ts us : Tree} → a ≡ node (expression k) ts → b ≡ node (expression k) us →
       count ts ≡ count us → AreOfOneConst a b
+  one_const_leaf : {l : Leaf} → a ≡ leaf l → b ≡ leaf l → AreOfOneConst a b
   const_parameters : {x y : Atom} → a ≡ leaf (atom x) → b ≡ leaf (atom y) → plain_atom x ≡ plain_atom y →
       AreOfOneConst a b
 
@@ -291,6 +295,33 @@ pub data IsReadAs (st : Store) : Tree → Tree → Type 0 where
   by_binding : {t u v : Tree} (k : VarKind) (n : ℕ) → t ≡ leaf (variable k n) → entry_of st k n ≡ bound_to u →
       IsReadAs st u v → IsReadAs st t v
 
+-- An alias type, or a constant that isn't evaluated.
+abbrev pub IsUnnormalized : Tree → Type 0
+IsUnnormalized (node (alias k d) ts) = Unit {0}
+IsUnnormalized (node (unevaluated d) ts) = Unit {0}
+IsUnnormalized t = ⊥
+
+-- An opaque type.
+abbrev pub IsOpaque : Tree → Type 0
+IsOpaque (node (alias opaque_alias d) ts) = Unit {0}
+IsOpaque t = ⊥
+
+-- An opaque type is left open beside another type that is no variable.
+abbrev pub IsOpaqueBeside : Tree → Tree → Type 0
+IsOpaqueBeside t (leaf (variable k n)) = ⊥
+IsOpaqueBeside t u = IsOpaque t
+
+-- A pair is left to a goal, as a relation is set up: one of the two is an alias, and aliases are; or an opaque type beside
+-- no variable, and opaque types are.
+abbrev pub IsLeftToGoal : Settings → Tree → Tree → Type 0
+IsLeftToGoal k a b = (LeavesAliases k × (IsUnnormalized a ⊎ IsUnnormalized b)) ⊎
+    (LeavesOpaque k × (IsOpaqueBeside a b ⊎ IsOpaqueBeside b a))
+
+-- How two terms are brought together: as a pair that is met, which may be left to a goal, or a variable bound by it; or
+-- as two forms, which are related by their parts alone.
+pub data Meeting : Type 0 where
+  as_pair as_forms : Meeting
+
 module _ {Key Id Name : Type 0} (m : Meaning Key Id Name) where
   -- The outermost forms of two types differ, and the error that says how.
   pub data FormError (x y : TyKey Key) : TypeError Key Id Name → Type 0 where
@@ -363,43 +394,58 @@ module _ {Key Id Name : Type 0} (m : Meaning Key Id Name) where
         StandsOutside (placeholder q u i) (apply (resolved st) b) → bound_sort q ≢ region_sort →
         universe_of st k n < u → e ≡ Mismatch → BindingError st a b e
 
-  -- The error comes of a pair that is met when two terms are related at a variance that is not bivariance: of two
-  -- types, constants, patterns, signatures or predicates of trait objects, as read, that differ in form; of what they are
-  -- read as by what is recorded; of two arguments of different kinds; of two parts at one place of one form, at the
-  -- variance of that place, as the whole's error; of the bodies of two binders, with variables or placeholders for what
-  -- these bind; or of a variable that can't be bound to the other side. Two terms of which one is a variable that may be bound to the other
-  -- do not differ in form.
-  pub data ErrorOf (c : Items) (st : Store) : Variance → TypeError Key Id Name → Tree → Tree → Type 0 where
-    of_forms : {v : Variance} {e : _} {a b : Tree} (x y : TyKey Key) → v ≢ Bivariant → m.ty x ≡ a → m.ty y ≡ b →
-        (AreBindable a b → ⊥) → FormError x y e → ErrorOf c st v e a b
-    of_const_forms : {v : Variance} {e : _} {a b : Tree} (x y : ConstKey Key) → v ≢ Bivariant → m.const_ x ≡ a →
-        m.const_ y ≡ b → (AreBindable a b → ⊥) → ConstFormError x y e → ErrorOf c st v e a b
-    of_kinds : {v : Variance} {a b : Tree} → v ≢ Bivariant → sort_of a ≢ sort_of b → ErrorOf c st v Mismatch a b
-    of_part_forms : {v : Variance} {e : _} {a b : Tree} → v ≢ Bivariant → PartError a b e → ErrorOf c st v e a b
-    of_bodies : {v : Variance} {e : _} {ks ls : List BoundKind} {a b t u : Tree} (xs ys : List Tree) →
-        a ≡ bind ks t → b ≡ bind ls u → StandFor ks xs → StandFor ls ys →
-        ErrorOf c st v e (inst xs 0 t) (inst ys 0 u) → ErrorOf c st v e a b
-    of_entries : {v : Variance} {e : _} {a b t u : Tree} → IsReadAs st a t → IsReadAs st b u → ErrorOf c st v e t u →
-        ErrorOf c st v e a b
-    of_parts : {v : Variance} {e : _} {h : Head} {a b ts us : Tree} (i : ℕ) → a ≡ node h ts → b ≡ node h us →
-        count ts ≡ count us → i < count ts → IsHandedOn e h i (nth i ts) (nth i us) →
-        ErrorOf c st (part_at c h i v) e (nth i ts) (nth i us) → ErrorOf c st v e a b
-    of_length : {v : Variance} {p : ExpectedFound (ConstKey Key)} {a b ts us : Tree} (x y : ConstKey Key) (i : ℕ) →
-        a ≡ node array ts → b ≡ node array us → count ts ≡ count us → i < count ts → nth i ts ≡ m.const_ x →
-        nth i us ≡ m.const_ y → ErrorOf c st (part_at c array i v) (ConstMismatch p) (nth i ts) (nth i us) →
-        ErrorOf c st v (ArraySize (record { expected = x; found = y })) a b
-    of_inputs : {v : Variance} {e f : _} {a b ts us : Tree} (i : ℕ) → a ≡ node inputs ts → b ≡ node inputs us →
-        count ts ≡ count us → i < count ts → ErrorOf c st (part_at c inputs i v) e (nth i ts) (nth i us) →
-        IsPlaced i e f → ErrorOf c st v f a b
-    of_outputs : {v : Variance} {e f : _} {x : Bool} {s : Safety} {k : ExternAbi} {a b p q o r : Tree} →
-        a ≡ node (signature x s k) (cons (node inputs p) (cons o nil)) →
-        b ≡ node (signature x s k) (cons (node inputs q) (cons r nil)) → count p ≡ count q →
-        ErrorOf c st (part_at c (signature x s k) 1 v) e o r → IsPlaced (count p) e f → ErrorOf c st v f a b
-    of_branches : {v : Variance} {e : _} {t u ts us : Tree} (x y : ConstKey Key) (i : ℕ) →
-        m.const_ x ≡ node value (cons t (cons (node value_branch ts) nil)) →
-        m.const_ y ≡ node value (cons u (cons (node value_branch us) nil)) → count ts ≡ count us → i < count ts →
-        ErrorOf c st (part_at c value_branch i v) e (nth i ts) (nth i us) →
-        ErrorOf c st v (ConstMismatch (record { expected = x; found = y })) (m.const_ x) (m.const_ y)
-    of_binding : {v : Variance} {e : _} {a b : Tree} → v ≢ Bivariant → BindingError st a b e → ErrorOf c st v e a b
-    of_binding_back : {v : Variance} {e : _} {a b : Tree} → v ≢ Bivariant → BindingError st b a e →
-        ErrorOf c st v e a b
+  mutual
+    -- The error comes of a pair that is met when two terms are related at a variance that is not bivariance: of what they
+    -- are read as by what is recorded; of the bodies of two binders, with variables or placeholders for what these bind;
+    -- of a variable that can't be bound to the other side; of two arguments of different kinds; or, where the pair isn't
+    -- left to a goal, of the two as forms.
+    pub data ErrorOf (k : Settings) (c : Items) (st : Store) : Variance → TypeError Key Id Name → Tree → Tree → Type 0 where
+      of_entries : {v : Variance} {e : _} {a b t u : Tree} → IsReadAs st a t → IsReadAs st b u →
+          ErrorOf k c st v e t u → ErrorOf k c st v e a b
+      of_bodies : {v : Variance} {e : _} {ks ls : List BoundKind} {a b t u : Tree} (xs ys : List Tree) →
+          a ≡ bind ks t → b ≡ bind ls u → StandFor ks xs → StandFor ls ys →
+          ErrorOf k c st v e (inst xs 0 t) (inst ys 0 u) → ErrorOf k c st v e a b
+      of_binding : {v : Variance} {e : _} {a b : Tree} → v ≢ Bivariant → BindingError st a b e →
+          ErrorOf k c st v e a b
+      of_binding_back : {v : Variance} {e : _} {a b : Tree} → v ≢ Bivariant → BindingError st b a e →
+          ErrorOf k c st v e a b
+      of_kinds : {v : Variance} {a b : Tree} → v ≢ Bivariant → sort_of a ≢ sort_of b → ErrorOf k c st v Mismatch a b
+      by_forms : {v : Variance} {e : _} {a b : Tree} → (IsLeftToGoal k a b → ⊥) → ErrorByForms k c st v e a b →
+          ErrorOf k c st v e a b
+
+    -- The error comes of two as forms: of two types, constants, patterns, signatures or predicates of trait objects that
+    -- differ in form; or of a pair that is met, two parts at one place of one form, at the variance of that place, as the
+    -- whole's error. Two terms of which one is a variable that may be bound to the other do not differ in form.
+    pub data ErrorByForms (k : Settings) (c : Items) (st : Store) : Variance → TypeError Key Id Name → Tree → Tree →
+        Type 0 where
+      of_forms : {v : Variance} {e : _} {a b : Tree} (x y : TyKey Key) → v ≢ Bivariant → m.ty x ≡ a → m.ty y ≡ b →
+          (AreBindable a b → ⊥) → FormError x y e → ErrorByForms k c st v e a b
+      of_const_forms : {v : Variance} {e : _} {a b : Tree} (x y : ConstKey Key) → v ≢ Bivariant → m.const_ x ≡ a →
+          m.const_ y ≡ b → (AreBindable a b → ⊥) → ConstFormError x y e → ErrorByForms k c st v e a b
+      of_part_forms : {v : Variance} {e : _} {a b : Tree} → v ≢ Bivariant → PartError a b e →
+          ErrorByForms k c st v e a b
+      of_parts : {v : Variance} {e : _} {h : Head} {a b ts us : Tree} (i : ℕ) → a ≡ node h ts → b ≡ node h us →
+          count ts ≡ count us → i < count ts → IsHandedOn e h i (nth i ts) (nth i us) →
+          ErrorOf k c st (part_at c h i v) e (nth i ts) (nth i us) → ErrorByForms k c st v e a b
+      of_length : {v : Variance} {p : ExpectedFound (ConstKey Key)} {a b ts us : Tree} (x y : ConstKey Key) (i : ℕ) →
+          a ≡ node array ts → b ≡ node array us → count ts ≡ count us → i < count ts → nth i ts ≡ m.const_ x →
+          nth i us ≡ m.const_ y → ErrorOf k c st (part_at c array i v) (ConstMismatch p) (nth i ts) (nth i us) →
+          ErrorByForms k c st v (ArraySize (record { expected = x; found = y })) a b
+      of_inputs : {v : Variance} {e f : _} {a b ts us : Tree} (i : ℕ) → a ≡ node inputs ts → b ≡ node inputs us →
+          count ts ≡ count us → i < count ts → ErrorOf k c st (part_at c inputs i v) e (nth i ts) (nth i us) →
+          IsPlaced i e f → ErrorByForms k c st v f a b
+      of_outputs : {v : Variance} {e f : _} {x : Bool} {s : Safety} {w : ExternAbi} {a b p q o r : Tree} →
+          a ≡ node (signature x s w) (cons (node inputs p) (cons o nil)) →
+          b ≡ node (signature x s w) (cons (node inputs q) (cons r nil)) → count p ≡ count q →
+          ErrorOf k c st (part_at c (signature x s w) 1 v) e o r → IsPlaced (count p) e f →
+          ErrorByForms k c st v f a b
+      of_branches : {v : Variance} {e : _} {t u ts us : Tree} (x y : ConstKey Key) (i : ℕ) →
+          m.const_ x ≡ node value (cons t (cons (node value_branch ts) nil)) →
+          m.const_ y ≡ node value (cons u (cons (node value_branch us) nil)) → count ts ≡ count us → i < count ts →
+          ErrorOf k c st (part_at c value_branch i v) e (nth i ts) (nth i us) →
+          ErrorByForms k c st v (ConstMismatch (record { expected = x; found = y })) (m.const_ x) (m.const_ y)
+
+  -- The error comes of two terms, as they are brought together.
+  abbrev pub ErrorAs : Meeting → Settings → Items → Store → Variance → TypeError Key Id Name → Tree → Tree → Type 0
+  ErrorAs as_pair k c st v e a b = ErrorOf k c st v e a b
+  ErrorAs as_forms k c st v e a b = ErrorByForms k c st v e a b

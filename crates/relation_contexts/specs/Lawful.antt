@@ -27,7 +27,7 @@ use Rattle.relation_contexts.specs.Outcomes.{Outcome, StepsTo, CarriesOver, Neve
 use Rattle.relation_contexts.specs.Headline.{IsFirstOrderPair}
 use Rattle.relation_contexts.specs.OneUniverse.{KeepsUniverseOf, LeadsInUniverse, BindsNoMore, BindsFewer}
 use Rattle.relation_contexts.specs.FirstOrder.{IsFirstOrderStore, Unifies, IsErasedSolution}
-use Rattle.relation_contexts.specs.Errors.{ErrorOf}
+use Rattle.relation_contexts.specs.Errors.{ErrorOf, ErrorAs, Meeting, as_pair, as_forms, IsLeftToGoal}
 use Rattle.relation_contexts.specs.Agreeing.{Agree, AgreeBy}
 use Rattle.relation_contexts.specs.Measures.{Goes, grown}
 use Rattle.relation_contexts.specs.Covered.{IsCovered}
@@ -177,13 +177,17 @@ module _ {Key Id Name : Type 0} where
 
   -- What a fault says of two terms at a variance: a type error that no assignment makes them one, and which error it
   -- is, over known terms; a spent budget that nothing is left of it; want of memory nothing.
-  abbrev pub RefusesBy : State Key Id Name → State Key Id Name → Way → Tree → Tree → RelateFault Key Id Name → Type 0
-  RefusesBy r q way a b (Unrelated e) = NeverOne way r.store a b ×
-      ErrorOf q.meaning (items_in q) q.store (seen_at way) e a b × KnowsError q.meaning e
-  RefusesBy r q way a b Budget = (q.store).budget ≡ 0
-  RefusesBy r q way a b Memory = Unit {0}
+  abbrev pub RefusesAs : Meeting → State Key Id Name → State Key Id Name → Way → Tree → Tree → RelateFault Key Id Name →
+      Type 0
+  RefusesAs x r q way a b (Unrelated e) = NeverOne way r.store a b ×
+      ErrorAs q.meaning x q.kept.settings (items_in q) q.store (seen_at way) e a b × KnowsError q.meaning e
+  RefusesAs x r q way a b Budget = (q.store).budget ≡ 0
+  RefusesAs x r q way a b Memory = Unit {0}
 
-  -- The same of two terms at a variance.
+  -- The same of a pair that is met, and of two terms at a variance.
+  abbrev pub RefusesBy : State Key Id Name → State Key Id Name → Way → Tree → Tree → RelateFault Key Id Name → Type 0
+  RefusesBy r q way a b fault = RefusesAs as_pair r q way a b fault
+
   abbrev pub Refuses : State Key Id Name → State Key Id Name → Variance → Tree → Tree → RelateFault Key Id Name → Type 0
   Refuses r q v = RefusesBy r q (at v)
 
@@ -201,11 +205,15 @@ module _ {Key Id Name : Type 0} where
       Type 0
   Answers M r q added v = AnswersBy M r q added (at v)
 
-  -- What a result says of two things, and of two terms at a variance.
+  -- What a result says of two things, as they are brought together; of a pair that is met; of two terms at a variance.
+  abbrev pub VerdictAs : {X : Type 0} → Meeting → Manners → State Key Id Name → State Key Id Name → List Goal → Way →
+      Tree → Tree → (X → Tree) → Result X (RelateFault Key Id Name) → Type 0
+  VerdictAs y M r q added way a b tree (Ok x) = AnswersBy M r q added way a b (tree x)
+  VerdictAs y M r q added way a b tree (Err f) = RefusesAs y r q way a b f
+
   abbrev pub VerdictBy : {X : Type 0} → Manners → State Key Id Name → State Key Id Name → List Goal → Way →
       Tree → Tree → (X → Tree) → Result X (RelateFault Key Id Name) → Type 0
-  VerdictBy M r q added way a b tree (Ok x) = AnswersBy M r q added way a b (tree x)
-  VerdictBy M r q added way a b tree (Err f) = RefusesBy r q way a b f
+  VerdictBy M r q added way a b tree result = VerdictAs as_pair M r q added way a b tree result
 
   abbrev pub Verdict : {X : Type 0} → Manners → State Key Id Name → State Key Id Name → List Goal → Variance →
       Tree → Tree → (X → Tree) → Result X (RelateFault Key Id Name) → Type 0
@@ -236,18 +244,26 @@ module _ {Key Id Name : Type 0} where
 
   -- Two things were related. Where no variable could be made of terms without binders, and they are such, none was. What
   -- was bound and registered is built of what they and the bindings before were built of.
-  pub record RelatedBy {X : Type 0} (M : Manners) (r q : State Key Id Name) (way : Way) (a b : Tree)
+  pub record RelatedAs {X : Type 0} (y : Meeting) (M : Manners) (r q : State Key Id Name) (way : Way) (a b : Tree)
       (tree : X → Tree) (result : Result X (RelateFault Key Id Name)) : Type 0 where
     pub passes : Passes (weight r.store a + weight r.store b) r q
-    pub verdict : VerdictBy M r q passes.added way a b tree result
+    pub verdict : VerdictAs y M r q passes.added way a b tree result
     pub exact : ExactlyBy (M r.kept.settings) r.store q.store way a b result
     pub full : StaysFullFor r.store q.store a b
     pub built : StaysBuilt r.store q.store passes.added a b
 
-  -- Two terms were related at a variance.
+  -- A pair that is met was related, by whatever way; two terms were at a variance; and two were as forms.
+  abbrev pub RelatedBy : {X : Type 0} → Manners → State Key Id Name → State Key Id Name → Way → Tree → Tree →
+      (X → Tree) → Result X (RelateFault Key Id Name) → Type 0
+  RelatedBy M r q way a b tree result = RelatedAs as_pair M r q way a b tree result
+
   abbrev pub Related : {X : Type 0} → Manners → State Key Id Name → State Key Id Name → Variance → Tree →
       Tree → (X → Tree) → Result X (RelateFault Key Id Name) → Type 0
   Related M r q v = RelatedBy M r q (at v)
+
+  abbrev pub RelatedForms : {X : Type 0} → Manners → State Key Id Name → State Key Id Name → Variance → Tree →
+      Tree → (X → Tree) → Result X (RelateFault Key Id Name) → Type 0
+  RelatedForms M r q v = RelatedAs as_forms M r q (at v)
 
   -- A step led from one pair to another, at a variance: what relates the second relates the first, no equal pair is
   -- lost, an error of the second at its variance is one of the first at the ambient one, and if the second agrees, so
@@ -255,22 +271,24 @@ module _ {Key Id Name : Type 0} where
   pub record LeadsBy (r q : State Key Id Name) (added : List Goal) (way : Way) (a b : Tree) (way' : Way)
       (x y : Tree) : Type 0 where
     pub steps : StepsTo (items_in r) r.kept.environment r.store q.store r.goals added way a b way' x y
-    pub errors : (m : Meaning Key Id Name) (c : Items) (st : Store) (e : TypeError Key Id Name) → IsLater q.store st →
-        IsSound st → ErrorOf m c st (seen_at way') e x y → ErrorOf m c st (seen_at way) e a b
+    pub errors : (m : Meaning Key Id Name) (k : Settings) (c : Items) (st : Store) (e : TypeError Key Id Name) →
+        IsLater q.store st → IsSound st → ErrorOf m k c st (seen_at way') e x y → ErrorOf m k c st (seen_at way) e a b
     pub agrees : (c : Items) → AgreeBy c way' x y → AgreeBy c way a b
 
   -- The same of terms: of the first two at the ambient variance.
   abbrev pub Leads : State Key Id Name → State Key Id Name → List Goal → Tree → Tree → Variance → Tree → Tree → Type 0
   Leads r q added a b v x y = LeadsBy r q added (at r.ambient) a b (at v) x y
 
-  -- A step to two forms that are to be related by their parts, which costs nothing of the budget. Whatever the left
-  -- form is related with, the left term is. The forms are built of what the terms and the bindings are built of.
+  -- A step to two forms that are to be related by their parts and aren't left to a goal, which costs nothing of the
+  -- budget. Whatever the left form is related with, the left term is. The forms are built of what the terms and the
+  -- bindings are built of.
   pub record LeadsToParts (M : Manners) (IsForm : Tree → Type 0) (r q : State Key Id Name)
       (added : List Goal) (a b x y : Tree) : Type 0 where
     pub leads : Leads r q added a b r.ambient x y
     pub asked : Asked M q r.ambient x y
     pub left_form : IsForm x
     pub right_form : IsForm y
+    pub not_left : IsLeftToGoal q.kept.settings x y → ⊥
     pub answers : (t : Tree) → CarriesOver (items_in q) q.kept.environment q.store q.goals (at r.ambient) x t
         (at r.ambient) a t
     pub built : BuiltFrom r.store a b x y

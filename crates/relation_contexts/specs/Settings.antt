@@ -1,8 +1,9 @@
 -- How contexts and relations are set up.
-use Rattle.std.specs.Prelude.{Bool, true, false}
+use Rattle.std.specs.Prelude.{◌≡◌, Bool, true, false, IsTrue}
 use Rattle.relation_contexts.specs.declared.infer_ctxt.TypingMode.{TypingMode}
 use Rattle.relation_contexts.specs.declared.infer_ctxt.TypingMode.TheVariants.{Coherence}
 use Rattle.relation_contexts.specs.declared.relate.StructurallyRelateAliases.{StructurallyRelateAliases}
+use Rattle.relation_contexts.specs.declared.relate.StructurallyRelateAliases.TheVariants.{No}
 
 -- A typing mode is that of coherence.
 abbrev pub in_coherence : {Key : Type 0} → TypingMode Key → Bool
@@ -22,3 +23,11 @@ pub record Settings : Type 0 where
   pub next_solver : Bool
   pub coherence : Bool
   pub declared_at_invariance : Bool
+
+-- A relation that is so set up leaves aliases, and constants that aren't evaluated, to goals.
+abbrev pub LeavesAliases : Settings → Type 0
+LeavesAliases k = IsTrue k.next_solver × (k.structurally_relate_aliases ≡ No)
+
+-- It leaves open what opaque types are.
+abbrev pub LeavesOpaque : Settings → Type 0
+LeavesOpaque k = (k.next_solver ≡ false) × IsTrue k.coherence

@@ -1,25 +1,18 @@
 -- The members of a list of keys folded one after another.
-use Rattle.std.proofs.Common.{◌≡◌, ℕ, zero, suc, ◌<◌, refl, sym, ap, ap₂, ◌∙◌, subst, arith, IsTrue, true, Option}
+use Rattle.std.proofs.Common.{◌≡◌, ℕ, zero, suc, ◌<◌, refl, sym, ap, ap₂, ◌∙◌, subst, arith, IsTrue, Option}
 use Rattle.std.proofs.Common.{List, [], ◌∷◌, ◌++◌}
-use Rattle.std.proofs.lemmas.Bool.{and_parts, and_from}
 use Rattle.relation_terms.specs.Trees.{Tree, leaf, node, bind, nil, cons, known, list_tree, count, nth, IsList}
 use Rattle.relation_terms.specs.Orders.{behind}
+use Rattle.relation_terms.proofs.Members.{known_with_last}
 use Rattle.relation_terms.proofs.Stays.{stays_list, knows_as}
 use Rattle.relation_folds.specs.Folds.{folded}
-use Rattle.relation_folds.proofs.Members.{firsts}
+use Rattle.relation_folds.proofs.Members.{firsts, firsts_all}
 
 -- One more member stands behind all others.
 list_behind : {K : Type 0} (g : K → Tree) (xs : List K) (y : K) →
     list_tree g (xs ++ y ∷ []) ≡ behind (g y) (list_tree g xs)
 list_behind g [] y = refl
 list_behind g (x ∷ xs) y = ap (λ z. cons (g x) z) (list_behind g xs y)
-
-list_known : {K : Type 0} (g : K → Tree) (xs : List K) (y : K) → IsTrue (known (list_tree g xs)) →
-    IsTrue (known (g y)) → IsTrue (known (list_tree g (xs ++ y ∷ [])))
-list_known g [] y k h = and_from (known (g y)) true h refl
-list_known g (x ∷ xs) y k h =
-    let o = and_parts (known (g x)) (known (list_tree g xs)) k in
-    and_from (known (g x)) (known (list_tree g (xs ++ y ∷ []))) o.0 (list_known g xs y o.1 h)
 
 firsts_next : (i : ℕ) (ts : Tree) → i < count ts → firsts (suc i) ts ≡ behind (nth i ts) (firsts i ts)
 firsts_next zero (cons t ts) h = refl
@@ -36,13 +29,6 @@ firsts_list (suc i) (leaf l) = tt
 firsts_list (suc i) (node g ts) = tt
 firsts_list (suc i) (bind ks t) = tt
 firsts_list (suc i) nil = tt
-
-firsts_all : (ts : Tree) → IsList ts → firsts (count ts) ts ≡ ts
-firsts_all nil h = refl
-firsts_all (cons t ts) h = ap (cons t) (firsts_all ts h)
-firsts_all (leaf l) h = absurd h
-firsts_all (node g ts) h = absurd h
-firsts_all (bind ks t) h = absurd h
 
 folded_behind : (p : ℕ → Tree → Option Tree) (d : ℕ) (t us : Tree) → IsList us →
     folded p d (behind t us) ≡ behind (folded p d t) (folded p d us)
@@ -66,7 +52,7 @@ module _ {K : Type 0} (p : ℕ → Tree → Option Tree) (f g : K → Tree)
   pub known_next : IsTrue (known (g y)) → IsTrue (known (list_tree g ys))
   known_next k =
       subst (λ zs. IsTrue (known (list_tree g zs))) (sym is)
-      (list_known g xs y (knows_as (list_tree f xs) (list_tree g xs) (stays_list f g xs stay sure) sure) k)
+      (known_with_last g xs y (knows_as (list_tree f xs) (list_tree g xs) (stays_list f g xs stay sure) sure) k)
 
 -- All are folded.
 pub listed_all : (p : ℕ → Tree → Option Tree) (i : ℕ) (ts us : Tree) → IsList ts → i ≡ count ts →

@@ -1,5 +1,5 @@
 -- The terms that errors name.
-use Rattle.std.proofs.Common.{◌≡◌, refl, IsTrue, Bool, true, false, ◌&&◌}
+use Rattle.std.proofs.Common.{◌≡◌, refl, IsTrue}
 use Rattle.relation_terms.specs.Trees.{nil, known}
 use Rattle.relation_terms.specs.Meaning.{Meaning}
 use Rattle.relation_terms.specs.declared.terms.keys.TyKey.{TyKey}
@@ -14,6 +14,7 @@ use Rattle.relation_folds.specs.declared.error.TypeError.TheVariants.{RegionsIns
 use Rattle.relation_folds.specs.declared.error.TypeError.TheVariants.{ArgumentSorts, CyclicTy, CyclicConst}
 use Rattle.relation_folds.specs.declared.error.TypeError.TheVariants.{ConstMismatch, ExistentialMismatch}
 use Rattle.relation_folds.specs.Faults.{KnowsError, error_tree}
+use Rattle.relation_folds.proofs.FieldFolding.{both_known}
 
 -- The errors that name no term.
 pub names_nothing : {Key Id Name : Type 0} (m : Meaning Key Id Name) (e : TypeError Key Id Name) →
@@ -37,22 +38,17 @@ names_nothing m (ExistentialMismatch p) f1 f2 f3 f4 f5 f6 f7 f8 f9 = absurd (f8 
 names_nothing m (ConstMismatch p) f1 f2 f3 f4 f5 f6 f7 f8 f9 = absurd (f9 p refl)
 names_nothing m e f1 f2 f3 f4 f5 f6 f7 f8 f9 = refl
 
-both_known : (a b : Bool) → IsTrue a → IsTrue b → IsTrue (a && (b && true))
-both_known true true h k = refl
-both_known true false h k = k
-both_known false b h k = h
-
 -- Of an error whose terms are known, all that a visit goes over is known.
 pub error_known : {Key Id Name : Type 0} (m : Meaning Key Id Name) (e : TypeError Key Id Name) → KnowsError m e →
     IsTrue (known (error_tree m e))
-error_known m (ArraySize p) h = both_known (known (m.const_ p.expected)) (known (m.const_ p.found)) h.0 h.1
-error_known m (RegionsDoesNotOutlive r s) h = both_known (known (m.region r)) (known (m.region s)) h.0 h.1
+error_known m (ArraySize p) h = both_known (m.const_ p.expected) (m.const_ p.found) h.0 h.1
+error_known m (RegionsDoesNotOutlive r s) h = both_known (m.region r) (m.region s) h.0 h.1
 error_known m (RegionsInsufficientlyPolymorphic b r) h = h
-error_known m (Sorts p) h = both_known (known (m.ty p.expected)) (known (m.ty p.found)) h.0 h.1
-error_known m (ArgumentSorts p i) h = both_known (known (m.ty p.expected)) (known (m.ty p.found)) h.0 h.1
+error_known m (Sorts p) h = both_known (m.ty p.expected) (m.ty p.found) h.0 h.1
+error_known m (ArgumentSorts p i) h = both_known (m.ty p.expected) (m.ty p.found) h.0 h.1
 error_known m (CyclicTy t) h = h
 error_known m (CyclicConst c) h = h
 error_known m (ExistentialMismatch p) h =
-    both_known (known (m.existential_predicates p.expected)) (known (m.existential_predicates p.found)) h.0 h.1
-error_known m (ConstMismatch p) h = both_known (known (m.const_ p.expected)) (known (m.const_ p.found)) h.0 h.1
+    both_known (m.existential_predicates p.expected) (m.existential_predicates p.found) h.0 h.1
+error_known m (ConstMismatch p) h = both_known (m.const_ p.expected) (m.const_ p.found) h.0 h.1
 error_known m e h = refl

@@ -11,6 +11,11 @@ use Rattle.relation_folds.specs.declared.fold.Fold.{Fold}
 use Rattle.relation_folds.specs.declared.fold.Fold.TheVariants.{Replace, Descend}
 use Rattle.relation_folds.specs.Folds.{Steps, asks, put_or, folded, folded_parts, answered}
 
+-- Where nothing is put, a tree stands as it is.
+pub put_none : (a : Bool) (t : Tree) → put_or a None t ≡ t
+put_none true t = refl
+put_none false t = refl
+
 -- Folders that put the same make the same.
 pub folded_alike : (f g : ℕ → Tree → Option Tree) → ((d : ℕ) (t : Tree) → g d t ≡ f d t) → (d : ℕ) (t : Tree) →
     folded g d t ≡ folded f d t

@@ -1,10 +1,12 @@
 -- The members of a list folded one after another, and a form over its folded parts.
 use Rattle.std.proofs.Common.{◌≡◌, ℕ, zero, suc, ◌<◌, refl, sym, ap, ap₂, ◌∙◌, subst, arith}
-use Rattle.std.proofs.Common.{◌&&◌, IsTrue, Bool, true, false, List, [], ◌∷◌, ◌++◌, Option, Some, None, option_map}
+use Rattle.std.proofs.Common.{◌&&◌, IsTrue, Bool, List, [], ◌∷◌, ◌++◌, Option, Some, None, option_map}
 use Rattle.std.proofs.lemmas.Bool.{and_parts}
 use Rattle.relation_terms.specs.Trees.{Tree, leaf, node, bind, nil, cons, known, list_tree, count, nth, IsList}
 use Rattle.relation_terms.specs.Parts.{part_sort, tree_sort, parts_of, over, Fit}
 use Rattle.relation_terms.specs.declared.terms.part_kind.Part.{Part}
+use Rattle.relation_terms.proofs.Members.{known_with_last}
+use Rattle.relation_terms.proofs.Stays.{stays_list, knows_as}
 use Rattle.relation_folds.specs.Folds.{folded, folded_parts, inside, members_tree, FitMembers}
 
 abbrev pub firsts : ℕ → Tree → Tree
@@ -12,16 +14,12 @@ firsts zero t = nil
 firsts (suc i) (cons t ts) = cons t (firsts i ts)
 firsts (suc i) t = nil
 
-firsts_all : (t : Tree) → IsList t → firsts (count t) t ≡ t
+pub firsts_all : (t : Tree) → IsList t → firsts (count t) t ≡ t
 firsts_all nil h = refl
 firsts_all (cons t ts) h = ap (cons t) (firsts_all ts h)
 firsts_all (leaf l) h = absurd h
 firsts_all (node g ts) h = absurd h
 firsts_all (bind ks t) h = absurd h
-
-both_known : (a b : Bool) → IsTrue a → IsTrue b → IsTrue (a && b)
-both_known true b h k = k
-both_known false b h k = h
 
 -- The first parts are built.
 pub record Built {Key Id : Type 0} (p : ℕ → Tree → Option Tree) (d : ℕ) (f : Part Key Id → Tree) (i : ℕ) (ts : Tree) (xs : List (Part Key Id))
@@ -51,11 +49,8 @@ module _ {Key Id : Type 0} (p : ℕ → Tree → Option Tree) (d : ℕ) (f g : P
 
   sure_next : (xs : List (Part Key Id)) → IsTrue (known (list_tree f xs)) → IsTrue (known (g y)) →
       IsTrue (known (list_tree g (xs ++ y ∷ [])))
-  sure_next [] h k = both_known (known (g y)) true k refl
-  sure_next (x ∷ xs) h k =
-      let o = and_parts (known (f x)) (known (list_tree f xs)) h in
-      both_known (known (g x)) (known (list_tree g (xs ++ y ∷ [])))
-      (subst (λ z. IsTrue (known z)) (sym (stay x o.0)) o.0) (sure_next xs o.1 k)
+  sure_next xs h k =
+      known_with_last g xs y (knows_as (list_tree f xs) (list_tree g xs) (stays_list f g xs stay h) h) k
 
   fit_next : (i : ℕ) (ts : Tree) (xs : List (Part Key Id)) → i < count ts → Fit xs (firsts i ts) →
       part_sort y ≡ tree_sort (nth i ts) → Fit (xs ++ y ∷ []) (firsts (suc i) ts)

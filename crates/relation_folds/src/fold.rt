@@ -3,7 +3,7 @@ ghost use Rattle.std.specs.Prelude.{◌≡◌, ℕ, IsTrue, IfOk, Option};
 ghost use Rattle.relation_terms.specs.Trees.{Tree, known};
 ghost use Rattle.relation_terms.specs.Meaning.{Meaning, Extends};
 ghost use Rattle.relation_folds.specs.Folds.{Steps, KnownAnswer};
-ghost use Rattle.relation_folds.specs.KeyFolds.{PutsTy, PutsRegion, PutsConst, FoldsTo, LeavesAs};
+ghost use Rattle.relation_folds.specs.KeyFolds.{PutsFor, FoldsTo, LeavesAs};
 
 use crate::tree::HasTree;
 use relation_terms::terms::{Const, Interner, OutOfMemory, Region, Ty};
@@ -21,9 +21,8 @@ mod walk;
 
 pub use bound::instantiate_bound_vars;
 pub use keyed::{
-    fold_alternatives_with, fold_arg_with, fold_args_with, fold_branches_with, fold_const_with,
-    fold_pat_with, fold_predicates_with, fold_region_with, fold_ty_with, fold_tys_with,
-    fold_valtree_with, super_fold_const, super_fold_ty,
+    fold_args_with, fold_const_with, fold_region_with, fold_ty_with, super_fold_const,
+    super_fold_ty,
 };
 pub use memory::{Place, place_of};
 pub use shift::shift_vars;
@@ -56,7 +55,8 @@ pub trait TypeFolder<I: Interner> {
         requires ready { ready (I.meaning cx.old) self.old }
         ensures steps { Steps ready replaces (I.meaning cx.old) self.old (I.meaning cx.new) self.new }
         ensures sure { IfOk result (λ a. KnownAnswer (I.meaning cx.new).ty a) }
-        ensures made { PutsTy replaces (I.meaning cx.old) self.old (I.meaning cx.new) depth ty.now result };
+        ensures made { PutsFor replaces (I.meaning cx.old) self.old (I.meaning cx.new)
+            (λ m. m.ty) depth ty.now result };
 
     /// What stands in the place of a region that stands under `depth` binders.
     fn fold_region(
@@ -69,7 +69,8 @@ pub trait TypeFolder<I: Interner> {
         requires ready { ready (I.meaning cx.old) self.old }
         ensures steps { Steps ready replaces (I.meaning cx.old) self.old (I.meaning cx.new) self.new }
         ensures sure { IfOk result (λ a. KnownAnswer (I.meaning cx.new).region a) }
-        ensures made { PutsRegion replaces (I.meaning cx.old) self.old (I.meaning cx.new) depth region.now result };
+        ensures made { PutsFor replaces (I.meaning cx.old) self.old (I.meaning cx.new)
+            (λ m. m.region) depth region.now result };
 
     /// What stands in the place of a constant that stands under `depth` binders.
     fn fold_const(
@@ -82,7 +83,8 @@ pub trait TypeFolder<I: Interner> {
         requires ready { ready (I.meaning cx.old) self.old }
         ensures steps { Steps ready replaces (I.meaning cx.old) self.old (I.meaning cx.new) self.new }
         ensures sure { IfOk result (λ a. KnownAnswer (I.meaning cx.new).const_ a) }
-        ensures made { PutsConst replaces (I.meaning cx.old) self.old (I.meaning cx.new) depth constant.now result };
+        ensures made { PutsFor replaces (I.meaning cx.old) self.old (I.meaning cx.new)
+            (λ m. m.const_) depth constant.now result };
 
     // A folder that is ready stays so while the interner grows, and puts the same.
     ghost ready_on: { (m n : Meaning I.Key I.Id I.Name) → Extends m n → (f : Self) → ready m f → ready n f };

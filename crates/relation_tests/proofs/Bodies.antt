@@ -58,8 +58,8 @@ module _ {Key Id Name : Type 0} (m : Meaning Key Id Name) (v : Variance) (cs : L
           left_taken = (k.left_taken.0, k.left_taken.1.1);
           right_taken = (k.right_taken.0, k.right_taken.1.1);
         };
-        errors = λ n i st e later s o.
-            bodies_error n i st v e ks ls t u t u (unused_stand_ins ks t w.0) (unused_stand_ins ls u w.1) o;
+        errors = λ n set i st e later s o.
+            bodies_error n set i st v e ks ls t u t u (unused_stand_ins ks t w.0) (unused_stand_ins ls u w.1) o;
         agrees = λ i o. bodies_agree i v ks ls t u t u (unused_stand_ins ks t w.0) (unused_stand_ins ls u w.1)
             k.left_taken.1.0 k.right_taken.1.0 o;
         built = bodies_built ks ls t u t u (unused_stand_ins ks t w.0) (unused_stand_ins ls u w.1);

@@ -1,4 +1,5 @@
-//! What is asked of terms beside relating them: walks, components, quick tests. Gives visits, folds and errors again.
+//! What is asked of terms beside relating them: walks, components, quick tests. Gives visits, folds, errors and delayed
+//! collections again.
 #![tactic(auto)]
 
 pub mod anonymize;
@@ -10,4 +11,5 @@ pub mod outlives;
 pub mod trait_object;
 pub mod walk;
 
+pub use delayed_map;
 pub use relation_folds::{error, fold, tree, visit};

@@ -12,7 +12,9 @@ use Rattle.relation_folds.specs.declared.error.RelateFault.TheVariants.{Memory, 
 use Rattle.type_relations.specs.declared.relate.args.ArgVariances.{ArgVariances}
 use Rattle.type_relations.specs.declared.relate.args.ArgVariances.TheVariants.{Invariant, Adt, FnDef}
 use Rattle.relation_contexts.specs.Relation.{forms, part_at, IsRelatedHead}
-use Rattle.relation_contexts.specs.Errors.{ErrorOf, IsHandedOn, of_parts, AreOfOneForm, over_parts, one_leaf, parameters}
+use Rattle.relation_contexts.specs.Errors.{ErrorOf, by_forms, IsUnnormalized, IsHandedOn, of_parts, AreOfOneForm}
+use Rattle.relation_contexts.specs.Errors.{over_parts, one_leaf, parameters}
+use Rattle.relation_contexts.proofs.Covered.{normal_not_left}
 use Rattle.type_relations.specs.Arguments.{args_head, AreOverItem, adts, functions}
 use Rattle.relation_contexts.specs.Lawful.{State, Manners, MayAnswer, Passes, Refuses, Related, ExactlyRelated, items_in}
 use Rattle.relation_contexts.proofs.OneParts.{parts_equal}
@@ -97,15 +99,17 @@ module _ {Key Id Name : Type 0} {r q : State Key Id Name} (M : Manners) (v : Var
 
   -- Two parts of two forms were refused, and so are the forms.
   module _ (x y : Tree) (lx : i < count ts) (ly : i < count us) (ex : x ≡ nth i ts) (ey : y ≡ nth i us)
-      (handed : (g : TypeError Key Id Name) → IsHandedOn g h i x y) where
+      (handed : (g : TypeError Key Id Name) → IsHandedOn g h i x y)
+      (normal : (ts : Tree) → IsUnnormalized (node h ts) → ⊥) where
     refuses : {k : ℕ} {p : State Key Id Name} (l : Passes k q p) (e : RelateFault Key Id Name) →
         Refuses q p (part_at (items_in r) h i v) x y e → Refuses r p v (node h ts) (node h us) e
     refuses {p = p} l (Unrelated g) o = (
       types_never r.store v (node h ts) (node h us) one_form (fronted_never h v i ts us x y f lx ly ex ey are o.0),
-      of_parts i refl refl n lx (subst₂ (IsHandedOn g h i) ex ey (handed g))
-          (subst₂ (ErrorOf p.meaning (items_in p) p.store (part_at (items_in p) h i v) g) ex ey
-          (subst (λ c. ErrorOf p.meaning (items_in p) p.store (part_at c h i v) g x y)
-          (sym (same_items l ∙ same_items f.passes)) o.1)),
+      by_forms (normal_not_left p.kept.settings (node h ts) (node h us) (normal ts) (normal us)) (of_parts i refl refl n lx
+          (subst₂ (IsHandedOn g h i) ex ey (handed g))
+          (subst₂ (ErrorOf p.meaning p.kept.settings (items_in p) p.store (part_at (items_in p) h i v) g) ex ey
+          (subst (λ c. ErrorOf p.meaning p.kept.settings (items_in p) p.store (part_at c h i v) g x y)
+          (sym (same_items l ∙ same_items f.passes)) o.1))),
       o.2,
     )
     refuses l Budget o = o
@@ -160,6 +164,13 @@ over_one_function d e a b ts us x y (over_parts p q n) =
     let k : e ≡ d = cc in functions x (y ∙ ap (λ z. node (fn_def z) us) k)
 over_one_function d e a b ts us x y (one_leaf p q) = cc
 over_one_function d e a b ts us x y (parameters p q i) = cc
+
+-- Types over items, and lists of arguments, are no aliases.
+pub args_normal : {Key Id Name : Type 0} (m : Meaning Key Id Name) (d : ArgVariances Id) (ts : Tree) →
+    IsUnnormalized (node (args_head m d) ts) → ⊥
+args_normal m Invariant ts u = u
+args_normal m (Adt d) ts u = u
+args_normal m (FnDef d) ts u = u
 
 -- The lists that two known types are over are known.
 pub over_knows : (d : ℕ) (a b ts us : Tree) → AreOverItem d a b ts us → IsTrue (known a) → IsTrue (known b) →

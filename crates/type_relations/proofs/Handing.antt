@@ -36,7 +36,8 @@ use Rattle.relation_folds.specs.declared.error.RelateFault.TheVariants.{Unrelate
 use Rattle.relation_folds.specs.Faults.{KnowsFault}
 use Rattle.relation_contexts.specs.Relation.{Items, part_at, sort_of}
 use Rattle.relation_contexts.specs.Stores.{Store, IsAssignment, InContext}
-use Rattle.relation_contexts.specs.Errors.{ErrorOf, of_parts, of_inputs, of_outputs, IsHandedOn, IsPlaced, NamesNoPlace}
+use Rattle.relation_contexts.specs.Settings.{Settings}
+use Rattle.relation_contexts.specs.Errors.{ErrorOf, ErrorByForms, of_parts, of_inputs, of_outputs, IsHandedOn, IsPlaced, NamesNoPlace}
 use Rattle.relation_contexts.specs.Errors.{sorts_at, argument_sorts_at, mutability_at, argument_mutability_at, AreOfOneForm}
 use Rattle.relation_contexts.specs.Errors.{over_parts, one_leaf, parameters}
 use Rattle.relation_contexts.specs.Parts.{parts_of, head_of, IsByParts}
@@ -316,7 +317,8 @@ HaveAsManyInputs (node (signature x s k) (cons (node inputs p) us)) (node (signa
     count p ≡ count q
 HaveAsManyInputs a b i = Unit {0}
 
-module _ {Key Id Name : Type 0} (m : Meaning Key Id Name) (c : Items) (st : Store) (v : Variance) where
+module _ {Key Id Name : Type 0} (m : Meaning Key Id Name) (set : Settings) (c : Items) (st : Store) (v : Variance)
+  where
   output_error : {x : Bool} {s : Safety} {w : ExternAbi} (p q t u a b : Tree) →
       a ≡ node (signature x s w) (cons (node inputs p) (cons t nil)) →
       b ≡ node (signature x s w) (cons (node inputs q) (cons u nil)) → (i j : ℕ) → i < 2 →
@@ -324,8 +326,8 @@ module _ {Key Id Name : Type 0} (m : Meaning Key Id Name) (c : Items) (st : Stor
       (node (signature x s w) (cons (node inputs q) (cons u nil))) i →
       named_place (node (signature x s w) (cons (node inputs p) (cons t nil))) i ≡ Some j →
       (e d : TypeError Key Id Name) → IsPlaced j e d →
-      ErrorOf m c st (part_at c (signature x s w) i v) e (nth i (cons (node inputs p) (cons t nil)))
-      (nth i (cons (node inputs q) (cons u nil))) → ErrorOf m c st v d a b
+      ErrorOf m set c st (part_at c (signature x s w) i v) e (nth i (cons (node inputs p) (cons t nil)))
+      (nth i (cons (node inputs q) (cons u nil))) → ErrorByForms m set c st v d a b
   output_error p q t u a b da db zero j l n named e d is h = absurd (cc)
   output_error p q t u a b da db (suc zero) j l n named e d is h =
       let same : j ≡ count p = cc in
@@ -336,7 +338,7 @@ module _ {Key Id Name : Type 0} (m : Meaning Key Id Name) (c : Items) (st : Stor
       IsByParts (node h ts) → IsTerm k (node h ts) → IsTerm l (node h us) → a ≡ node h ts → b ≡ node h us →
       count ts ≡ count us → i < count ts → HaveAsManyInputs (node h ts) (node h us) i →
       named_place (node h ts) i ≡ Some j → IsPlaced j e d →
-      ErrorOf m c st (part_at c h i v) e (nth i ts) (nth i us) → ErrorOf m c st v d a b
+      ErrorOf m set c st (part_at c h i v) e (nth i ts) (nth i us) → ErrorByForms m set c st v d a b
   placed_error k l a b i j pattern_type ts us e d o f g da db n lt many named is z = absurd (cc)
   placed_error k l a b i j range_pattern ts us e d o f g da db n lt many named is z = absurd (cc)
   placed_error k l a b i j or_pattern ts us e d o f g da db n lt many named is z = absurd (cc)
@@ -351,7 +353,7 @@ module _ {Key Id Name : Type 0} (m : Meaning Key Id Name) (c : Items) (st : Stor
       (subst (λ z. i < count z) q lt)
       (subst₂ (λ t u. HaveAsManyInputs (node (signature x s w) t) (node (signature x s w) u) i) q y many)
       (subst (λ z. named_place (node (signature x s w) z) i ≡ Some j) q named) e d is
-      (subst₂ (λ t u. ErrorOf m c st (part_at c (signature x s w) i v) e (nth i t) (nth i u)) q y z)
+      (subst₂ (λ t u. ErrorOf m set c st (part_at c (signature x s w) i v) e (nth i t) (nth i u)) q y z)
   placed_error k l a b i j inputs ts us e d o f g da db n lt many named is z =
       let same : j ≡ i = cc in
       of_inputs i da db n lt z (subst (λ y. IsPlaced y e d) same is)
@@ -366,23 +368,23 @@ module _ {Key Id Name : Type 0} (m : Meaning Key Id Name) (c : Items) (st : Stor
     none d = let z : count (parts_of a) ≡ 0 = ap (λ z. count (parts_of z)) d in omega (arith, z, lx)
 
     at_parts : (e : TypeError Key Id Name) (h : Head) (ts us : Tree) → a ≡ node h ts → b ≡ node h us →
-        ErrorOf m c st (part_at c (head_of a) i v) e x y →
-        ErrorOf m c st (part_at c h i v) e (nth i ts) (nth i us)
+        ErrorOf m set c st (part_at c (head_of a) i v) e x y →
+        ErrorOf m set c st (part_at c h i v) e (nth i ts) (nth i us)
     at_parts e h ts us d w z =
-        subst₂ (ErrorOf m c st (part_at c h i v) e) (ex ∙ ap (λ z. nth i (parts_of z)) d)
+        subst₂ (ErrorOf m set c st (part_at c h i v) e) (ex ∙ ap (λ z. nth i (parts_of z)) d)
         (ey ∙ ap (λ z. nth i (parts_of z)) w)
-        (subst (λ z. ErrorOf m c st (part_at c (head_of z) i v) e x y) d z)
+        (subst (λ z. ErrorOf m set c st (part_at c (head_of z) i v) e x y) d z)
 
     hand_on : (e : TypeError Key Id Name) → ((h : Head) (ts us : Tree) → a ≡ node h ts →
-        IsHandedOn e h i (nth i ts) (nth i us)) → ErrorOf m c st (part_at c (head_of a) i v) e x y →
-        AreOfOneForm a b → ErrorOf m c st v e a b
+        IsHandedOn e h i (nth i ts) (nth i us)) → ErrorOf m set c st (part_at c (head_of a) i v) e x y →
+        AreOfOneForm a b → ErrorByForms m set c st v e a b
     hand_on e n z (over_parts {h} {ts} {us} d w q) = of_parts i d w q (subst (λ z. i < count (parts_of z)) d lx)
         (n h ts us d) (at_parts e h ts us d w z)
     hand_on e n z (one_leaf d w) = absurd (none d)
     hand_on e n z (parameters d w q) = absurd (none d)
 
     place : (j : ℕ) (e d : TypeError Key Id Name) → named_place a i ≡ Some j → IsPlaced j e d →
-        ErrorOf m c st (part_at c (head_of a) i v) e x y → AreOfOneForm a b → ErrorOf m c st v d a b
+        ErrorOf m set c st (part_at c (head_of a) i v) e x y → AreOfOneForm a b → ErrorByForms m set c st v d a b
     place j e d n is z (over_parts {h} {ts} {us} p w q) = placed_error k l a b i j h ts us e d (subst IsByParts p o)
         (subst (IsTerm k) p f) (subst (IsTerm l) w g) p w q (subst (λ z. i < count (parts_of z)) p lx)
         (subst₂ (λ t u. HaveAsManyInputs t u i) p w many) (subst (λ t. named_place t i ≡ Some j) p n) is
@@ -392,8 +394,8 @@ module _ {Key Id Name : Type 0} (m : Meaning Key Id Name) (c : Items) (st : Stor
 
     -- What two terms say where their parts at a place are refused.
     pub part_complains : (e : TypeError Key Id Name) (r : RelateFault Key Id Name) →
-        IsFaultOfPart (named_place a i) (Unrelated e) r → ErrorOf m c st (part_at c (head_of a) i v) e x y →
-        (d : TypeError Key Id Name) × (r ≡ Unrelated d) × ErrorOf m c st v d a b
+        IsFaultOfPart (named_place a i) (Unrelated e) r → ErrorOf m set c st (part_at c (head_of a) i v) e x y →
+        (d : TypeError Key Id Name) × (r ≡ Unrelated d) × ErrorByForms m set c st v d a b
     part_complains e r (no_place is n) h = (
       e,
       is,

@@ -17,12 +17,14 @@ use Rattle.relation_contexts.specs.Stores.{Satisfies}
 use Rattle.relation_contexts.specs.Goals.{Holds}
 use Rattle.relation_contexts.specs.Headline.{IsFirstOrderPair}
 use Rattle.relation_contexts.specs.OneUniverse.{NamesTypesTo, BindsNoMore}
-use Rattle.relation_contexts.specs.Errors.{ErrorOf, of_part_forms, AreOfOneForm, over_parts, one_leaf, parameters}
+use Rattle.relation_contexts.specs.Errors.{ErrorOf, Meeting, of_part_forms, AreOfOneForm, over_parts, one_leaf, parameters}
 use Rattle.relation_contexts.specs.Errors.{PartError}
 use Rattle.relation_contexts.specs.Parts.{parts_of, head_of, IsByParts}
 use Rattle.type_relations.specs.Handing.{named_place, IsFaultOfPart}
 use Rattle.relation_contexts.specs.Making.{over}
-use Rattle.relation_contexts.specs.Lawful.{State, Manners, MayAnswer, Passes, Refuses, Related, items_in}
+use Rattle.relation_contexts.specs.Lawful.{State, Manners, MayAnswer, Passes, Refuses, RefusesAs, Related, RelatedAs}
+use Rattle.relation_contexts.specs.Lawful.{items_in}
+use Rattle.relation_contexts.proofs.Covered.{said_as, parts_not_left, form_not_left}
 use Rattle.relation_contexts.specs.Lawful.{ExactResult, ExactlyRelated}
 use Rattle.relation_contexts.proofs.Registered.{registered_in}
 use Rattle.relation_contexts.proofs.Passing.{passes_within, passes_then, manner_then, stopped}
@@ -56,8 +58,8 @@ module _ {Key Id Name : Type 0} {r q : State Key Id Name} (M : Manners) (v : Var
       (f.exact exact is (term_looked_at a form) (parts_pair r.store a b pair)).2)
 
   -- Memory ran out after some of the parts.
-  pub terms_stopped : {X : Type 0} (tree : X → Tree) →
-      Fronted M r q (head_of a) v i (parts_of a) (parts_of b) → Related {X = X} M r q v a b tree (Err Memory)
+  pub terms_stopped : {X : Type 0} {w : Meeting} (tree : X → Tree) →
+      Fronted M r q (head_of a) v i (parts_of a) (parts_of b) → RelatedAs {X = X} w M r q (at v) a b tree (Err Memory)
   unfolding passes_within
   terms_stopped tree f = stopped M v a b tree
       (passes_within (omega (arith, weight_parts_most r.store a, weight_parts_most r.store b)) f.passes) (front_binds f)
@@ -82,10 +84,10 @@ module _ {Key Id Name : Type 0} {r q : State Key Id Name} (M : Manners) (v : Var
   terms_relate (parameters d e p) f are ea eb w s sat all =
       subst₂ (λ x y. Rel (items_in r) w r.kept.environment (at v) (apply s x) (apply s y)) (sym d) (sym e) (atoms p)
 
-  pub terms_answer : {X : Type 0} (tree : X → Tree) (x : X) → AreOfOneForm a b →
+  pub terms_answer : {X : Type 0} {w : Meeting} (tree : X → Tree) (x : X) → AreOfOneForm a b →
       Fronted M r q (head_of a) v i (parts_of a) (parts_of b) → AreParts r.store (parts_of a) (parts_of b) →
       i ≡ count (parts_of a) → i ≡ count (parts_of b) → tree x ≡ a → IsTrue (known a) →
-      Related M r q v a b tree (Ok x)
+      RelatedAs w M r q (at v) a b tree (Ok x)
   unfolding passes_within
   terms_answer tree x o f are ea eb answer k = record {
     passes = passes_within (omega (arith, weight_parts_most r.store a, weight_parts_most r.store b)) f.passes;
@@ -111,15 +113,16 @@ module _ {Key Id Name : Type 0} {r q : State Key Id Name} (M : Manners) (v : Var
   }
 
   -- After some of the parts it is seen that the two are not of one form.
-  pub terms_unlike : {X : Type 0} (tree : X → Tree) (k l : Sort) (e : TypeError Key Id Name) → v ≢ Bivariant →
+  pub terms_unlike : {X : Type 0} {w : Meeting} (tree : X → Tree) (k l : Sort) (e : TypeError Key Id Name) → v ≢ Bivariant →
       IsByParts b → IsTerm k a → IsTerm l b → IsTrue (known a) → IsTrue (known b) → PartError q.meaning a b e →
-      Fronted M r q (head_of a) v i (parts_of a) (parts_of b) → Related {X = X} M r q v a b tree (Err (Unrelated e))
+      Fronted M r q (head_of a) v i (parts_of a) (parts_of b) →
+      RelatedAs {X = X} w M r q (at v) a b tree (Err (Unrelated e))
   unfolding passes_within
-  terms_unlike tree k l e d other ta tb ka kb unlike f = record {
+  terms_unlike {w = w} tree k l e d other ta tb ka kb unlike f = record {
     passes = passes_within (omega (arith, weight_parts_most r.store a, weight_parts_most r.store b)) f.passes;
     verdict = (
       part_error_never q.meaning r.store v k l a b e form other ta tb unlike,
-      of_part_forms d unlike,
+      said_as w (parts_not_left q.kept.settings a b form other) (of_part_forms d unlike),
       part_error_known q.meaning a b e ka kb unlike,
     );
     exact = λ exact is pair.
@@ -133,19 +136,20 @@ module _ {Key Id Name : Type 0} {r q : State Key Id Name} (M : Manners) (v : Var
       (are : AreParts r.store (parts_of a) (parts_of b)) (k l : Sort) (ta : IsTerm k a) (tb : IsTerm l b)
       (many : HaveAsManyInputs a b i) (x y : Tree) (lx : i < count (parts_of a)) (ly : i < count (parts_of b))
       (ex : x ≡ nth i (parts_of a)) (ey : y ≡ nth i (parts_of b)) where
-    term_refuses : {n : ℕ} {p : State Key Id Name} (g : Passes n q p) (e d : RelateFault Key Id Name) →
-        IsFaultOfPart (named_place a i) e d → Refuses q p (part_at (items_in r) (head_of a) i v) x y e → Refuses r p v a b d
-    term_refuses {p = p} g Memory d t h =
-        subst (Refuses r p v a b) (sym (same_part_fault (named_place a i) Memory d t (λ e z. cc))) tt
-    term_refuses {p = p} g Budget d t h =
-        subst (Refuses r p v a b) (sym (same_part_fault (named_place a i) Budget d t (λ e z. cc))) h
-    term_refuses {p = p} g (Unrelated e) d t h =
+    term_refuses : {w : Meeting} {n : ℕ} {p : State Key Id Name} (g : Passes n q p) (e d : RelateFault Key Id Name) →
+        IsFaultOfPart (named_place a i) e d → Refuses q p (part_at (items_in r) (head_of a) i v) x y e →
+        RefusesAs w r p (at v) a b d
+    term_refuses {w = w} {p = p} g Memory d t h =
+        subst (RefusesAs w r p (at v) a b) (sym (same_part_fault (named_place a i) Memory d t (λ e z. cc))) tt
+    term_refuses {w = w} {p = p} g Budget d t h =
+        subst (RefusesAs w r p (at v) a b) (sym (same_part_fault (named_place a i) Budget d t (λ e z. cc))) h
+    term_refuses {w = w} {p = p} g (Unrelated e) d t h =
         let items : items_in p ≡ items_in r = same_items g ∙ same_items f.passes in
-        let z = part_complains p.meaning (items_in p) p.store v k l a b i ta tb form o lx x y ex ey many e d t
-        (subst (λ c. ErrorOf p.meaning (items_in p) p.store (part_at c (head_of a) i v) e x y) (sym items) h.1) in
-        subst (Refuses r p v a b) (sym z.1) (
+        let z = part_complains p.meaning p.kept.settings (items_in p) p.store v k l a b i ta tb form o lx x y ex ey many e d t
+        (subst (λ c. ErrorOf p.meaning p.kept.settings (items_in p) p.store (part_at c (head_of a) i v) e x y) (sym items) h.1) in
+        subst (RefusesAs w r p (at v) a b) (sym z.1) (
           types_never r.store v a b o (fronted_never (head_of a) v i (parts_of a) (parts_of b) x y f lx ly ex ey are h.0),
-          z.2,
+          said_as w (form_not_left p.kept.settings a b form o) z.2,
           subst (KnowsFault p.meaning) z.1 (part_fault_known (named_place a i) (Unrelated e) d p.meaning t h.2),
         )
 
@@ -170,11 +174,12 @@ module _ {Key Id Name : Type 0} {r q : State Key Id Name} (M : Manners) (v : Var
         subst (λ z. ExactResult {X = B} r.store p.store a b (Err z)) (sym z.1)
         (whole_term A B p (Unrelated e) g exact is pair)
 
-    pub term_refused : {A B : Type 0} {p : State Key Id Name} (tree : A → Tree) (answer : B → Tree)
+    pub term_refused : {A B : Type 0} {w : Meeting} {p : State Key Id Name} (tree : A → Tree) (answer : B → Tree)
         (e d : RelateFault Key Id Name) → IsFaultOfPart (named_place a i) e d →
-        Related M q p (part_at (items_in r) (head_of a) i v) x y tree (Err e) → Related M r p v a b answer (Err d)
+        Related M q p (part_at (items_in r) (head_of a) i v) x y tree (Err e) →
+        RelatedAs w M r p (at v) a b answer (Err d)
     unfolding passes_within fronted_passes passes_then
-    term_refused {A} {B} {p} tree answer e d t g = record {
+    term_refused {A} {B} {w} {p} tree answer e d t g = record {
       passes = passes_within (omega (arith, weight_parts_most r.store a, weight_parts_most r.store b))
           (fronted_passes (head_of a) v i (parts_of a) (parts_of b) x y f lx ly ex ey g.passes);
       verdict = term_refuses g.passes e d t g.verdict;
@@ -187,12 +192,12 @@ module _ {Key Id Name : Type 0} {r q : State Key Id Name} (M : Manners) (v : Var
 
 -- Two terms that are not of one form.
 module _ {Key Id Name : Type 0} {X : Type 0} (M : Manners) (r : State Key Id Name) (v : Variance) (tree : X → Tree) where
-  pub terms_differ : (k l : Sort) (a b : Tree) (e : TypeError Key Id Name) → v ≢ Bivariant → IsByParts a → IsByParts b →
+  pub terms_differ : {w : Meeting} (k l : Sort) (a b : Tree) (e : TypeError Key Id Name) → v ≢ Bivariant → IsByParts a → IsByParts b →
       IsTerm k a → IsTerm l b → IsTrue (known a) → IsTrue (known b) → PartError r.meaning a b e →
-      Related M r r v a b tree (Err (Unrelated e))
-  terms_differ k l a b e d form other ta tb ka kb unlike =
+      RelatedAs w M r r (at v) a b tree (Err (Unrelated e))
+  terms_differ {w = w} k l a b e d form other ta tb ka kb unlike =
       refused_here M r v tree a b e (part_error_never r.meaning r.store v k l a b e form other ta tb unlike)
-      (of_part_forms d unlike) (part_error_known r.meaning a b e ka kb unlike)
+      (said_as w (parts_not_left r.kept.settings a b form other) (of_part_forms d unlike)) (part_error_known r.meaning a b e ka kb unlike)
       (λ pair. part_error_apart r.meaning r.store k l a b e form other ta tb unlike)
 
 -- A form over what may be answered for its parts.

@@ -10,7 +10,7 @@ use Rattle.relation_contexts.specs.Relation.{Items, part_at}
 use Rattle.relation_contexts.specs.Stores.{IsTermIn, weight}
 use Rattle.relation_contexts.specs.Measures.{depth}
 use Rattle.relation_contexts.specs.Goals.{Goal}
-use Rattle.relation_contexts.specs.Errors.{AreOfOneForm, over_parts, one_leaf, parameters, AreOfOneConst, values, expressions, const_parameters}
+use Rattle.relation_contexts.specs.Errors.{AreOfOneForm, over_parts, one_leaf, parameters, AreOfOneConst, values, expressions, const_parameters, one_const_leaf}
 use Rattle.relation_contexts.specs.Parts.{parts_of, const_parts_of, branches_of, head_of, const_head_of}
 use Rattle.type_relations.specs.Handing.{IsFaultOfTy, IsFaultOfConst, IsFaultOfPart, IsResultOfTy, IsResultOfConst, IsResultOfPart}
 use Rattle.relation_contexts.specs.Lawful.{State, Manner, Manners, TakesParts, Takes, Asked, LeadsToParts, LeadsAgain, items_in}
@@ -205,4 +205,5 @@ heads_alike a b (parameters d e p) = ap head_of d ∙ sym (ap head_of e)
 pub const_heads_alike : (a b : Tree) → AreOfOneConst a b → const_head_of a ≡ const_head_of b
 const_heads_alike a b (values d e o) = ap const_head_of d ∙ sym (ap const_head_of e)
 const_heads_alike a b (expressions d e n) = ap const_head_of d ∙ sym (ap const_head_of e)
+const_heads_alike a b (one_const_leaf d e) = ap const_head_of (d ∙ sym e)
 const_heads_alike a b (const_parameters d e p) = ap const_head_of d ∙ sym (ap const_head_of e)

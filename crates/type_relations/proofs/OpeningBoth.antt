@@ -19,6 +19,7 @@ use Rattle.relation_contexts.specs.Outcomes.{StepsTo}
 use Rattle.relation_contexts.specs.Kits.{Kit, IsBuiltOf, StaysBuilt, BuiltFrom}
 use Rattle.relation_contexts.proofs.Building.{body_built, built_opened}
 use Rattle.relation_contexts.specs.Measures.{Goes}
+use Rattle.relation_contexts.specs.Settings.{Settings}
 use Rattle.relation_contexts.specs.Errors.{IsStandIn, StandFor, ErrorOf, of_bodies}
 use Rattle.relation_contexts.specs.Bound.{AreBoundAs}
 use Rattle.relation_contexts.specs.Agreeing.{Agree}
@@ -144,11 +145,11 @@ instantiated_stand_ins before after ks t x f =
     record { trees = f.variables; stand = variables_stand_for f.makes; put = f.body_is }
 
 -- An error of two opened bodies is one of the binders.
-pub bodies_error : {Key Id Name : Type 0} (m : Meaning Key Id Name) (c : Items) (st : Store) (v : Variance)
-    (e : TypeError Key Id Name) (ks ls : List BoundKind) (t u x y : Tree) → StandIns ks t x → StandIns ls u y →
-    ErrorOf m c st v e x y → ErrorOf m c st v e (bind ks t) (bind ls u)
-bodies_error m c st v e ks ls t u x y p q o =
-    of_bodies p.trees q.trees refl refl p.stand q.stand (subst₂ (ErrorOf m c st v e) p.put q.put o)
+pub bodies_error : {Key Id Name : Type 0} (m : Meaning Key Id Name) (k : Settings) (c : Items) (st : Store)
+    (v : Variance) (e : TypeError Key Id Name) (ks ls : List BoundKind) (t u x y : Tree) → StandIns ks t x → StandIns ls u y →
+    ErrorOf m k c st v e x y → ErrorOf m k c st v e (bind ks t) (bind ls u)
+bodies_error m k c st v e ks ls t u x y p q o =
+    of_bodies p.trees q.trees refl refl p.stand q.stand (subst₂ (ErrorOf m k c st v e) p.put q.put o)
 
 -- Opened bodies are built of what the binders are.
 pub bodies_built : {st : Store} (ks ls : List BoundKind) (t u x y : Tree) → StandIns ks t x → StandIns ls u y →

@@ -22,6 +22,7 @@ use Rattle.relation_contexts.specs.declared.relate.StructurallyRelateAliases.The
 use Rattle.relation_contexts.specs.Settings.{Settings}
 use Rattle.relation_contexts.specs.Relation.{Items, Interpretation, Rel, at, sort_of, same as same_rel}
 use Rattle.relation_contexts.specs.Agreeing.{Agree}
+use Rattle.relation_contexts.proofs.Covered.{covered_not_left}
 use Rattle.relation_contexts.proofs.Agreeing.{agree_read, agree_root, agree_root_back, number_sort}
 use Rattle.relation_contexts.specs.Stores.{Store, IsSound, Satisfies, IsMade, InContext, MayStandFor, weight}
 use Rattle.relation_contexts.specs.Goals.{Goal, GoalInContext, MakesOneTree}
@@ -145,7 +146,7 @@ module _ {Key Id Name : Type 0} (r : State Key Id Name) where
   -- Nothing was recorded, and an error tells two terms apart.
   pub unrelated_step : {X : Type 0} (F : Tree → Type 0) (m n : Meaning Key Id Name) (was now : Store) (L K : Type 0) (a b : Tree) (tree : X → Tree) (f : RelateFault Key Id Name)
       (g : TypeError Key Id Name) → n ≡ m → now ≡ was → (L → K) → f ≡ Unrelated g →
-      NoEqualTerms was a b → NoUnifier was a b → ErrorOf m (items_of m) was r.ambient g a b → KnowsError m g →
+      NoEqualTerms was a b → NoUnifier was a b → ErrorOf m r.kept.settings (items_of m) was r.ambient g a b → KnowsError m g →
       Stepped solver_manner F (standing r m was L) (standing r n now K) a b tree (Err f)
   unfolding over_passes
   unrelated_step {X} F m n was now L K a b tree f g same stays l is apart no_unifier error sure =
@@ -228,7 +229,7 @@ module _ {Key Id Name : Type 0} (r : State Key Id Name) where
         (number_apart was k number i made (m.ty q) s c o g d))
         (subst (λ z. NoUnifier was z (m.ty q)) (sym h)
         (number_no_unifier was k number i made (m.ty q) s c o g d))
-        (number_error was k number i made (m.ty q) s c o g d m (items_of m) p q r.ambient decides h refl)
+        (number_error was k number i made (m.ty q) s c o g d m r.kept.settings (items_of m) p q r.ambient decides h refl)
         (p_known, q_known)
 
     pub right_apart : m.ty q ≡ leaf (variable k i) → IsTerm type_sort (m.ty p) → IsCovered (m.ty p) →
@@ -241,7 +242,7 @@ module _ {Key Id Name : Type 0} (r : State Key Id Name) where
         (sym (ap (apply s') h) ∙ sym one))
         (λ s' sol one. number_no_unifier was k number i made (m.ty p) s c o g d s' sol
         (ap (λ z. erase (apply s' z)) (sym h) ∙ sym one))
-        (number_error_back was k number i made (m.ty p) s c o g d m (items_of m) p q r.ambient decides refl h)
+        (number_error_back was k number i made (m.ty p) s c o g d m r.kept.settings (items_of m) p q r.ambient decides refl h)
         (p_known, q_known)
 
   -- What is shown of two types as they are read is shown of the types.
@@ -273,7 +274,7 @@ module _ {Key Id Name : Type 0} (r : State Key Id Name) where
             ),
           );
         };
-        errors = λ n c st f l g o. of_entries (read_later was st l a (tree t) p)
+        errors = λ n j c st f l g o. of_entries (read_later was st l a (tree t) p)
             (read_later was st l b (tree u) q) o;
         agrees = λ c z. agree_read c was g r.ambient a b (tree t) (tree u) p q z;
       };
@@ -287,6 +288,7 @@ module _ {Key Id Name : Type 0} (r : State Key Id Name) where
       };
       left_form = f;
       right_form = h;
+      not_left = covered_not_left r.kept.settings (tree t) (tree u) k.left_taken.1 k.right_taken.1;
       answers = λ z w s sat all o. subst (λ i. Rel (items_of m) w r.kept.environment (at r.ambient) i (apply s z))
           (sym (read_value was s sat.bindings a (tree t) p)) o;
       built = read_from was a b (tree t) (tree u) p q;

@@ -247,7 +247,7 @@ module _ {Key Id Name : Type 0} where
       Refuses q p r.ambient x y e → Refuses r p r.ambient a b e
   round_refuses {r = r} {q = q} {p = p} M added a b x y l f sound (Unrelated e) h = (
     round_never added a b x y l.steps h.0,
-    l.errors p.meaning (items_in p) p.store e (f.goes).later sound h.1,
+    l.errors p.meaning p.kept.settings (items_in p) p.store e (f.goes).later sound h.1,
     h.2,
   )
   round_refuses M added a b x y l f sound Budget h = h
@@ -441,8 +441,8 @@ module _ {Key Id Name : Type 0} where
         Refuses q z p.ambient x y e → Refuses r z r.ambient a b e
     second_refuses {z = z} f sound (Unrelated e) c = (
       second_never a b x y left_context right_context h g.added h.begun l.steps c.0,
-      subst (λ v. ErrorOf z.meaning (items_in z) z.store v e a b) (h.passes).ambient
-          (l.errors z.meaning (items_in z) z.store e (f.goes).later sound c.1),
+      subst (λ v. ErrorOf z.meaning z.kept.settings (items_in z) z.store v e a b) (h.passes).ambient
+          (l.errors z.meaning z.kept.settings (items_in z) z.store e (f.goes).later sound c.1),
       c.2,
     )
     second_refuses f sound Budget c = c

@@ -102,8 +102,8 @@ module _ {Key Id Name : Type 0} (r q : State Key Id Name) (g : IsSound r.store) 
           ((h.steps).relates i s sat all f);
       keeps = λ i s sat one. (h.steps).keeps i s sat (sym (value_a i s sat) ∙ one ∙ value_b i s sat);
     };
-    errors = λ m c st e l g z. of_entries (read_later r.store st (later_through (h.steps).later l) a u p)
-        (read_later r.store st (later_through (h.steps).later l) b w o) (h.errors m c st e l g z);
+    errors = λ m j c st e l g z. of_entries (read_later r.store st (later_through (h.steps).later l) a u p)
+        (read_later r.store st (later_through (h.steps).later l) b w o) (h.errors m j c st e l g z);
     agrees = λ c z. agree_read c r.store g r.ambient a b u w p o (h.agrees c z);
   }
 
@@ -135,6 +135,7 @@ module _ {Key Id Name : Type 0} (r q : State Key Id Name) (g : IsSound r.store) 
         asked = h.asked;
         left_form = h.left_form;
         right_form = h.right_form;
+        not_left = h.not_left;
         answers = λ t i s sat all f. subst (λ z. Rel (items_in q) i q.kept.environment (at r.ambient) z (apply s t))
             (sym (value_a i s (shrinks i s sat))) (h.answers t i s sat all f);
         built = read_built h.built;

@@ -183,8 +183,8 @@ module _ {Key Id Name : Type 0} (aliases : StructurallyRelateAliases) (j : ℕ)
         left_taken = all_taken v x both.instantiated_covered;
         right_taken = all_taken v y both.entered_covered;
       };
-      errors = λ m i st f later sound o.
-          bodies_error m i st v f ks ls t u x y both.instantiated_for both.entered_for o;
+      errors = λ m set i st f later sound o.
+          bodies_error m set i st v f ks ls t u x y both.instantiated_for both.entered_for o;
       agrees = λ i o.
           bodies_agree i v ks ls t u x y both.instantiated_for both.entered_for binds binds_too o;
       built = bodies_built ks ls t u x y both.instantiated_for both.entered_for;
@@ -213,8 +213,8 @@ module _ {Key Id Name : Type 0} (aliases : StructurallyRelateAliases) (j : ℕ)
         left_taken = all_taken v x both.entered_covered;
         right_taken = all_taken v y both.instantiated_covered;
       };
-      errors = λ m i st f later sound o.
-          bodies_error m i st v f ks ls t u x y both.entered_for both.instantiated_for o;
+      errors = λ m set i st f later sound o.
+          bodies_error m set i st v f ks ls t u x y both.entered_for both.instantiated_for o;
       agrees = λ i o.
           bodies_agree i v ks ls t u x y both.entered_for both.instantiated_for binds binds_too o;
       built = bodies_built ks ls t u x y both.entered_for both.instantiated_for;
@@ -298,8 +298,8 @@ module _ {Key Id Name T : Type 0} (aliases : StructurallyRelateAliases) (j : ℕ
           left_taken = all_taken v t k.left_taken.1.1;
           right_taken = all_taken v u k.right_taken.1.1;
         };
-        errors = λ m i st f later sound o.
-            bodies_error m i st v f ks ls t u t u (unused_stand_ins ks t w.0) (unused_stand_ins ls u w.1) o;
+        errors = λ m set i st f later sound o.
+            bodies_error m set i st v f ks ls t u t u (unused_stand_ins ks t w.0) (unused_stand_ins ls u w.1) o;
         agrees = λ i o. bodies_agree i v ks ls t u t u (unused_stand_ins ks t w.0) (unused_stand_ins ls u w.1)
             k.left_taken.1.0 k.right_taken.1.0 o;
         built = bodies_built ks ls t u t u (unused_stand_ins ks t w.0) (unused_stand_ins ls u w.1);

@@ -20,6 +20,7 @@ use Rattle.relation_contexts.specs.Kits.{StaysBuilt}
 use Rattle.relation_contexts.proofs.Building.{term_built, builds_instantiated, built_same, built_unbound}
 use Rattle.relation_contexts.specs.Outcomes.{StepsTo, CarriesOver, ExactStep}
 use Rattle.relation_contexts.specs.Measures.{Goes}
+use Rattle.relation_contexts.specs.Settings.{Settings}
 use Rattle.relation_contexts.specs.Errors.{ErrorOf, BindingError, of_binding, of_binding_back, of_entries, IsReadAs, itself, by_binding}
 use Rattle.relation_contexts.specs.ErasureLaws.{IsTypeOrConst}
 use Rattle.relation_contexts.specs.Parts.{IsFormed}
@@ -87,11 +88,11 @@ const_comes_to_none st t n (no_variable f) o h = variable_alone (resolved st) t 
 record Lifts (Key Id Name : Type 0) (st : Store) (w v : Variance) (x y : Tree) : Type 0 where
   relates : (c : Items) (i : Interpretation) (e : Tree) (s : Assign) → Satisfies i st s →
       Rel c i e (at w) (apply s x) (apply s y) → Rel c i e (at v) (apply s x) (apply s y)
-  errors : (m : Meaning Key Id Name) (c : Items) (now : Store) (f : TypeError Key Id Name) → IsSound now →
-      ErrorOf m c now w f x y → ErrorOf m c now v f x y
+  errors : (m : Meaning Key Id Name) (j : Settings) (c : Items) (now : Store) (f : TypeError Key Id Name) → IsSound now →
+      ErrorOf m j c now w f x y → ErrorOf m j c now v f x y
 
 lifts_itself : {Key Id Name : Type 0} (st : Store) (v : Variance) (x y : Tree) → Lifts Key Id Name st v v x y
-lifts_itself st v x y = record { relates = λ c i e s sat r. r; errors = λ m c now f g o. o }
+lifts_itself st v x y = record { relates = λ c i e s sat r. r; errors = λ m j c now f g o. o }
 
 -- Constants from invariance to each variance.
 invariant_decides : Invariant ≢ Bivariant
@@ -110,7 +111,7 @@ const_lifts : {Key Id Name : Type 0} (st : Store) (v : Variance) → v ≢ Bivar
 const_lifts st v d x y k f = record {
   relates = λ c i e s sat r. constants_at_each_variance c i e Invariant v const_sort (apply s x) (apply s y) tt (f i s sat)
       invariant_decides d r;
-  errors = λ m c now f g o. const_error_alike m c now g invariant_decides d k o;
+  errors = λ m j c now f g o. const_error_alike m j c now g invariant_decides d k o;
 }
 
 const_lifts_back : {Key Id Name : Type 0} (st : Store) (v : Variance) → v ≢ Bivariant → (x y : Tree) →
@@ -120,7 +121,7 @@ const_lifts_back st v d x y k f = record {
   relates = λ c i e s sat r. let b = twice_back v d in
       subst (λ z. Rel c i e (at z) (apply s x) (apply s y)) b.1 (turned (constants_at_each_variance c i e Invariant
       (xform v Contravariant) const_sort (apply s y) (apply s x) tt (f i s sat) invariant_decides b.0 (turned r)));
-  errors = λ m c now f g o. const_error_alike m c now g invariant_decides d k o;
+  errors = λ m j c now f g o. const_error_alike m j c now g invariant_decides d k o;
 }
 
 module _ {Key Id Name : Type 0} (r0 : State Key Id Name) (L K : Type 0) (lawful : L → K) where
@@ -220,7 +221,7 @@ module _ {Key Id Name : Type 0} (r0 : State Key Id Name) (L K : Type 0) (lawful 
             (l.relates (items_of c.meaning) i r0.kept.environment s sat o);
         keeps = (both.0).keeps;
       };
-      errors = λ i c st f h g o. of_entries (read_later now st h root u root_reads) (itself refl) (l.errors i c st f g o);
+      errors = λ i j c st f h g o. of_entries (read_later now st h root u root_reads) (itself refl) (l.errors i j c st f g o);
       agrees = λ c z. agree_root c v k target root t refl (stands_sort k t stands);
     }
 
@@ -233,7 +234,7 @@ module _ {Key Id Name : Type 0} (r0 : State Key Id Name) (L K : Type 0) (lawful 
             (l.relates (items_of c.meaning) i r0.kept.environment s sat o);
         keeps = (both.1).keeps;
       };
-      errors = λ i c st f h g o. of_entries (itself refl) (read_later now st h root u root_reads) (l.errors i c st f g o);
+      errors = λ i j c st f h g o. of_entries (itself refl) (read_later now st h root u root_reads) (l.errors i j c st f g o);
       agrees = λ c z. agree_root_back c v k target t root refl (stands_sort k t stands);
     }
 

@@ -18,11 +18,14 @@ use Rattle.relation_contexts.specs.Relation.{Items, Interpretation, at, parts, p
 use Rattle.relation_contexts.specs.Stores.{Store, Satisfies}
 use Rattle.relation_contexts.specs.Goals.{Holds}
 use Rattle.relation_contexts.specs.Outcomes.{NeverOne}
-use Rattle.relation_contexts.specs.Errors.{ErrorOf, IsHandedOn, of_parts, of_length, AreOfOneForm, over_parts, one_leaf, parameters}
+use Rattle.relation_contexts.specs.Settings.{Settings}
+use Rattle.relation_contexts.specs.Errors.{ErrorOf, ErrorByForms, as_forms, IsHandedOn, of_parts, of_length}
+use Rattle.relation_contexts.specs.Errors.{AreOfOneForm, over_parts, one_leaf, parameters}
 use Rattle.relation_contexts.specs.Errors.{AreOfOneConst}
 use Rattle.relation_contexts.specs.Parts.{IsFormed, parts_of, const_parts_of, head_of, const_head_of}
 use Rattle.type_relations.specs.Handing.{IsPassedOn, IsNoLength, IsFaultOfTy, passed, sized, IsFaultOfConst, passed_const, whole}
-use Rattle.relation_contexts.specs.Lawful.{State, Manners, MayAnswer, Passes, Refuses, Related, ExactResult, ExactlyRelated, items_in}
+use Rattle.relation_contexts.specs.Lawful.{State, Manners, MayAnswer, Passes, Refuses, RefusesAs, Related}
+use Rattle.relation_contexts.specs.Lawful.{RelatedForms, ExactResult, ExactlyRelated, items_in}
 use Rattle.relation_contexts.proofs.Registered.{registered_in}
 use Rattle.relation_contexts.proofs.Passing.{passes_within, passes_then, manner_then, stopped}
 use Rattle.type_relations.proofs.Fronts.{Fronted, AreParts, fronted_never, fronted_all, fronted_passes, fronted_fault, fronted_exactly, fronted_full, fronted_built}
@@ -62,27 +65,28 @@ module _ {Key Id Name : Type 0} (n p : Meaning Key Id Name) (e : Extends n p) (s
   handed_on value_branch ts f g o = absurd (cc)
   handed_on h ts f g o = tt
 
-  module _ (x y : Tree) (ex : arg_tree n X ≡ x) (ey : arg_tree n Y ≡ y) (j : Items) (v : Variance) where
+  module _ (x y : Tree) (ex : arg_tree n X ≡ x) (ey : arg_tree n Y ≡ y) (set : Settings) (j : Items)
+      (v : Variance) where
     -- The types' own error.
     ty_error : (st : Store) (f : TypeError Key Id Name) (h : Head) (ts us : Tree) → a ≡ node h ts → b ≡ node h us → head_sort h ≡ type_sort → count ts ≡ count us → i < count ts → x ≡ nth i ts → y ≡ nth i us
-        → IsPassedOn (Unrelated f) a X Y → ErrorOf p j st (part_at j h i v) f x y → ErrorOf p j st v f a b
+        → IsPassedOn (Unrelated f) a X Y → ErrorOf p set j st (part_at j h i v) f x y → ErrorByForms p set j st v f a b
     ty_error st f h ts us d c g m l z w o u = of_parts i d c m l
-        (subst₂ (IsHandedOn f h i) (ex ∙ z) (ey ∙ w) (handed_on h ts f g (subst (λ t. IsPassedOn (Unrelated f) t X Y) d o))) (subst₂ (ErrorOf p j st (part_at j h i v) f) z w u)
+        (subst₂ (IsHandedOn f h i) (ex ∙ z) (ey ∙ w) (handed_on h ts f g (subst (λ t. IsPassedOn (Unrelated f) t X Y) d o))) (subst₂ (ErrorOf p set j st (part_at j h i v) f) z w u)
 
     length_error : (st : Store) (f : ExpectedFound (ConstKey Key)) (c d : ConstKey Key) (ts us : Tree) (h : Head) (vs : Tree) → a ≡ node h ts → b ≡ node h us → a ≡ node array vs → count ts ≡ count us → i < count ts
-        → x ≡ nth i ts → y ≡ nth i us → X ≡ Const c → Y ≡ Const d → ErrorOf p j st (part_at j h i v) (ConstMismatch f) x y → ErrorOf p j st v (ArraySize (record { expected = c; found = d })) a b
+        → x ≡ nth i ts → y ≡ nth i us → X ≡ Const c → Y ≡ Const d → ErrorOf p set j st (part_at j h i v) (ConstMismatch f) x y → ErrorByForms p set j st v (ArraySize (record { expected = c; found = d })) a b
     length_error st f c d ts us h vs s' k g m l z w u o t =
         let is : h ≡ array = (let q = sym s' ∙ g in cc) in
         of_length c d i (s' ∙ ap (λ z. node z ts) is) (k ∙ ap (λ z. node z us) is) m l
         (sym z ∙ sym ex ∙ ap (arg_tree n) u ∙ sym (e.const_ c (subst (λ z. IsTrue (known (arg_tree n z))) u x_known)))
         (sym w ∙ sym ey ∙ ap (arg_tree n) o ∙ sym (e.const_ d (subst (λ z. IsTrue (known (arg_tree n z))) o y_known)))
-        (subst (λ h. ErrorOf p j st (part_at j h i v) (ConstMismatch f) (nth i ts) (nth i us)) is
-        (subst₂ (ErrorOf p j st (part_at j h i v) (ConstMismatch f)) z w t))
+        (subst (λ h. ErrorOf p set j st (part_at j h i v) (ConstMismatch f) (nth i ts) (nth i us)) is
+        (subst₂ (ErrorOf p set j st (part_at j h i v) (ConstMismatch f)) z w t))
 
     pub ty_complains : (st : Store) (f : TypeError Key Id Name) (g : RelateFault Key Id Name) → IsFormed a →
         AreOfOneForm a b → i < count (parts_of a) → x ≡ nth i (parts_of a) → y ≡ nth i (parts_of b) →
-        IsFaultOfTy a X Y (Unrelated f) g → ErrorOf p j st (part_at j (head_of a) i v) f x y →
-        (k : TypeError Key Id Name) × (g ≡ Unrelated k) × ErrorOf p j st v k a b
+        IsFaultOfTy a X Y (Unrelated f) g → ErrorOf p set j st (part_at j (head_of a) i v) f x y →
+        (k : TypeError Key Id Name) × (g ≡ Unrelated k) × ErrorByForms p set j st v k a b
     ty_complains st f g t (one_leaf s' k) l z w o h =
         absurd (let c : count (parts_of a) ≡ 0 = ap (λ z. count (parts_of z)) s' in omega (arith, c, l))
     ty_complains st f g t (parameters s' k m) l z w o h =
@@ -92,7 +96,7 @@ module _ {Key Id Name : Type 0} (n p : Meaning Key Id Name) (e : Extends n p) (s
       is,
       ty_error st f hd ts us s' k (subst IsFormed s' t) m (subst (λ z. i < count (parts_of z)) s' l)
           (z ∙ ap (λ z. nth i (parts_of z)) s') (w ∙ ap (λ z. nth i (parts_of z)) k) o
-          (subst (λ z. ErrorOf p j st (part_at j (head_of z) i v) f x y) s' h),
+          (subst (λ z. ErrorOf p set j st (part_at j (head_of z) i v) f x y) s' h),
     )
     ty_complains st f g t (over_parts {h = hd} {ts} {us} s' k m) l z w (sized {ts = vs} c d o j' k' l' is eq) h =
         let same : f ≡ ConstMismatch o = cc in (
@@ -100,8 +104,8 @@ module _ {Key Id Name : Type 0} (n p : Meaning Key Id Name) (e : Extends n p) (s
           eq,
           length_error st o c d ts us hd vs s' k j' m (subst (λ z. i < count (parts_of z)) s' l)
               (z ∙ ap (λ z. nth i (parts_of z)) s') (w ∙ ap (λ z. nth i (parts_of z)) k) k' l'
-              (subst (λ z. ErrorOf p j st (part_at j hd i v) z x y) same
-              (subst (λ z. ErrorOf p j st (part_at j (head_of z) i v) f x y) s' h)),
+              (subst (λ z. ErrorOf p set j st (part_at j hd i v) z x y) same
+              (subst (λ z. ErrorOf p set j st (part_at j (head_of z) i v) f x y) s' h)),
         )
 
 -- A fault of two parts as the fault of the types, and as that of the constants.
@@ -148,18 +152,18 @@ module _ {Key Id Name : Type 0} {r q : State Key Id Name} (M : Manners) (v : Var
     ty_refuses : {n : ℕ} {p : State Key Id Name} (g : Passes n q p) (e k : RelateFault Key Id Name) →
         IsTrue (known (arg_tree p.meaning X)) → IsTrue (known (arg_tree p.meaning Y)) → IsFaultOfTy a X Y e k →
         Refuses q p (part_at (items_in r) (head_of a) i v) (arg_tree q.meaning X) (arg_tree q.meaning Y) e →
-        Refuses r p v a b k
+        RefusesAs as_forms r p (at v) a b k
     ty_refuses {p = p} g Memory k kx ky t h =
-        subst (Refuses r p v a b) (sym (same_fault a X Y Memory k t (λ e z. cc))) tt
+        subst (RefusesAs as_forms r p (at v) a b) (sym (same_fault a X Y Memory k t (λ e z. cc))) tt
     ty_refuses {p = p} g Budget k kx ky t h =
-        subst (Refuses r p v a b) (sym (same_fault a X Y Budget k t (λ e z. cc))) h
+        subst (RefusesAs as_forms r p (at v) a b) (sym (same_fault a X Y Budget k t (λ e z. cc))) h
     ty_refuses {p = p} g (Unrelated e) k kx ky t h =
         let same : items_in p ≡ items_in r = same_items g ∙ same_items f.passes in
         let z = ty_complains q.meaning p.meaning g.extends s a b i X Y x_known y_known (arg_tree q.meaning X)
-        (arg_tree q.meaning Y) refl refl (items_in p) v p.store e k is_formed o lx ex ey t
-        (subst (λ c. ErrorOf p.meaning (items_in p) p.store (part_at c (head_of a) i v) e (arg_tree q.meaning X)
+        (arg_tree q.meaning Y) refl refl p.kept.settings (items_in p) v p.store e k is_formed o lx ex ey t
+        (subst (λ c. ErrorOf p.meaning p.kept.settings (items_in p) p.store (part_at c (head_of a) i v) e (arg_tree q.meaning X)
         (arg_tree q.meaning Y)) (sym same) h.1) in
-        subst (Refuses r p v a b) (sym z.1) (
+        subst (RefusesAs as_forms r p (at v) a b) (sym z.1) (
           types_never r.store v a b o (fronted_never (head_of a) v i (parts_of a) (parts_of b) (arg_tree q.meaning X)
               (arg_tree q.meaning Y) f lx ly ex ey are h.0),
           z.2,
@@ -193,7 +197,7 @@ module _ {Key Id Name : Type 0} {r q : State Key Id Name} (M : Manners) (v : Var
         (e k : RelateFault Key Id Name) → IsFormed b → IsTrue (known (arg_tree p.meaning X)) →
         IsTrue (known (arg_tree p.meaning Y)) → IsFaultOfTy a X Y e k →
         Related M q p (part_at (items_in r) (head_of a) i v) (arg_tree q.meaning X) (arg_tree q.meaning Y) tree (Err e) →
-        Related M r p v a b answer (Err k)
+        RelatedForms M r p v a b answer (Err k)
     unfolding passes_within fronted_passes passes_then
     ty_refused {A} {B} {p} tree answer e k is_formed' kx ky t g = record {
       passes = passes_within (omega (arith, weight_parts_most r.store a, weight_parts_most r.store b))
@@ -209,7 +213,7 @@ module _ {Key Id Name : Type 0} {r q : State Key Id Name} (M : Manners) (v : Var
 
   -- Memory ran out after some of the parts.
   pub types_stopped : {X : Type 0} (tree : X → Tree) → IsFormed a →
-      Fronted M r q (head_of a) v i (parts_of a) (parts_of b) → Related {X = X} M r q v a b tree (Err Memory)
+      Fronted M r q (head_of a) v i (parts_of a) (parts_of b) → RelatedForms {X = X} M r q v a b tree (Err Memory)
   unfolding passes_within
   types_stopped tree is_formed f = stopped M v a b tree
       (passes_within (omega (arith, weight_parts_most r.store a, weight_parts_most r.store b)) f.passes)
@@ -240,7 +244,7 @@ module _ {Key Id Name : Type 0} {r q : State Key Id Name} (M : Manners) (v : Var
   pub types_related : {X : Type 0} (tree : X → Tree) (x : X) → IsFormed a → IsFormed b → AreOfOneForm a b →
       Fronted M r q (head_of a) v i (parts_of a) (parts_of b) → AreParts r.store (parts_of a) (parts_of b) →
       i ≡ count (parts_of a) → i ≡ count (parts_of b) → tree x ≡ a → IsTrue (known a) →
-      Related M r q v a b tree (Ok x)
+      RelatedForms M r q v a b tree (Ok x)
   unfolding passes_within
   types_related tree x is_formed is_formed' o f are ea eb answer k = record {
     passes = passes_within (omega (arith, weight_parts_most r.store a, weight_parts_most r.store b)) f.passes;

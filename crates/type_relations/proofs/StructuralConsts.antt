@@ -23,11 +23,14 @@ use Rattle.relation_contexts.specs.Outcomes.{NeverOne, NoUnifier}
 use Rattle.relation_contexts.specs.Headline.{IsFirstOrderPair}
 use Rattle.relation_contexts.specs.OneUniverse.{NamesTypesTo}
 use Rattle.relation_contexts.proofs.OneUniverse.{keeps_itself, keeps_pair, binds_itself, leaves_const_parts, keeps_binds, binds_as}
-use Rattle.relation_contexts.specs.Errors.{ErrorOf, of_parts, of_branches, of_kinds, of_forms, of_const_forms, FormError, ConstFormError}
-use Rattle.relation_contexts.specs.Errors.{AreOfOneConst, AreOfOneValue, values, expressions, const_parameters, one_value, as_many_branches}
+use Rattle.relation_contexts.specs.Settings.{Settings}
+use Rattle.relation_contexts.specs.Errors.{ErrorOf, ErrorByForms, ErrorAs, Meeting, as_pair, as_forms, of_parts}
+use Rattle.relation_contexts.specs.Errors.{of_branches, of_kinds, of_forms, of_const_forms, FormError, ConstFormError}
+use Rattle.relation_contexts.specs.Errors.{AreOfOneConst, AreOfOneValue, values, expressions, const_parameters, one_value, as_many_branches, one_const_leaf}
 use Rattle.relation_contexts.specs.Parts.{IsFormed, IsFormedConst, const_parts_of, branches_of, const_head_of}
 use Rattle.type_relations.specs.Handing.{IsPassedOnConst, IsFaultOfConst, passed_const, whole}
-use Rattle.relation_contexts.specs.Lawful.{State, Manners, MayAnswer, Passes, Refuses, Related, ExactResult, ExactlyRelated, items_in}
+use Rattle.relation_contexts.specs.Lawful.{State, Manners, MayAnswer, Passes, Refuses, RefusesAs, Related}
+use Rattle.relation_contexts.specs.Lawful.{RelatedAs, RelatedForms, ExactResult, ExactlyRelated, items_in}
 use Rattle.relation_contexts.proofs.Registered.{registered_in}
 use Rattle.relation_contexts.proofs.Passing.{passes_within, passes_then, passes_nowhere, manner_then, stopped}
 use Rattle.type_relations.proofs.Fronts.{Fronted, AreParts, fronted_never, fronted_all, fronted_passes, fronted_fault, fronted_exactly, fronted_full, fronted_built}
@@ -46,30 +49,32 @@ use Rattle.type_relations.proofs.PartSizes.{weight_const_parts_most}
 use Rattle.relation_contexts.proofs.Answering.{same_items, may_itself, covariantly}
 
 -- The error of two parts of two constants as the error of the constants.
-module _ {Key Id Name : Type 0} (p : Meaning Key Id Name) (js : Items) (at_v : Variance) (c d : ConstKey Key) (i : ℕ)
+module _ {Key Id Name : Type 0} (p : Meaning Key Id Name) (set : Settings) (js : Items) (at_v : Variance) (c d : ConstKey Key) (i : ℕ)
     (x y : Tree) where
   branch_error : (st : Store) (e : TypeError Key Id Name) (t u v w : Tree) →
       p.const_ c ≡ node value (cons (node value_type (cons t nil)) (cons v nil)) →
       p.const_ d ≡ node value (cons (node value_type (cons u nil)) (cons w nil)) → AreOfOneValue v w →
       i < count (branches_of v) → x ≡ nth i (branches_of v) → y ≡ nth i (branches_of w) →
-      ErrorOf p js st (part_at js value_branch i at_v) e x y →
-      ErrorOf p js st at_v (ConstMismatch (record { expected = c; found = d })) (p.const_ c) (p.const_ d)
+      ErrorOf p set js st (part_at js value_branch i at_v) e x y →
+      ErrorByForms p set js st at_v (ConstMismatch (record { expected = c; found = d })) (p.const_ c) (p.const_ d)
   branch_error st e t u v w j k (as_many_branches {ts} {us} a b n) l z o h =
       of_branches c d i (j ∙ ap (λ z. node value (cons (node value_type (cons t nil)) (cons z nil))) a)
       (k ∙ ap (λ z. node value (cons (node value_type (cons u nil)) (cons z nil))) b) n
       (subst (λ z. i < count (branches_of z)) a l)
-      (subst₂ (ErrorOf p js st (part_at js value_branch i at_v) e) (z ∙ ap (λ z. nth i (branches_of z)) a) (o ∙ ap (λ z. nth i (branches_of z)) b) h)
+      (subst₂ (ErrorOf p set js st (part_at js value_branch i at_v) e) (z ∙ ap (λ z. nth i (branches_of z)) a) (o ∙ ap (λ z. nth i (branches_of z)) b) h)
   branch_error st e t u (node value_branch ts) w j k (one_value a) l z o h =
       of_branches c d i j (k ∙ ap (λ z. node value (cons (node value_type (cons u nil)) (cons z nil))) (sym a)) refl l
-      (subst₂ (ErrorOf p js st (part_at js value_branch i at_v) e) z (o ∙ ap (λ z. nth i (branches_of z)) (sym a)) h)
+      (subst₂ (ErrorOf p set js st (part_at js value_branch i at_v) e) z (o ∙ ap (λ z. nth i (branches_of z)) (sym a)) h)
   branch_error st e t u v w j k (one_value a) l z o h = absurd (omega (arith, l))
 
   pub const_complains : (st : Store) (f : TypeError Key Id Name) (g : RelateFault Key Id Name) →
       AreOfOneConst (p.const_ c) (p.const_ d) → i < count (const_parts_of (p.const_ c)) →
       x ≡ nth i (const_parts_of (p.const_ c)) → y ≡ nth i (const_parts_of (p.const_ d)) →
       IsFaultOfConst (p.const_ c) c d (Unrelated f) g →
-      ErrorOf p js st (part_at js (const_head_of (p.const_ c)) i at_v) f x y →
-      (k : TypeError Key Id Name) × (g ≡ Unrelated k) × ErrorOf p js st at_v k (p.const_ c) (p.const_ d)
+      ErrorOf p set js st (part_at js (const_head_of (p.const_ c)) i at_v) f x y →
+      (k : TypeError Key Id Name) × (g ≡ Unrelated k) × ErrorByForms p set js st at_v k (p.const_ c) (p.const_ d)
+  const_complains st f g (one_const_leaf j k) l z w o h =
+      absurd (let e : count (const_parts_of (p.const_ c)) ≡ 0 = ap (λ z. count (const_parts_of z)) j in omega (arith, e, l))
   const_complains st f g (const_parameters j k n) l z w o h =
       absurd (let e : count (const_parts_of (p.const_ c)) ≡ 0 = ap (λ z. count (const_parts_of z)) j in omega (arith, e, l))
   const_complains st f g (values j k n) l z w (passed_const is o) h = absurd (subst (IsPassedOnConst (Unrelated f)) j o)
@@ -78,14 +83,14 @@ module _ {Key Id Name : Type 0} (p : Meaning Key Id Name) (js : Items) (at_v : V
     eq,
     branch_error st f t t' v v' j k n (subst (λ z. i < count z) (ap const_parts_of j) l)
         (z ∙ ap (λ z. nth i (const_parts_of z)) j) (w ∙ ap (λ z. nth i (const_parts_of z)) k)
-        (subst (λ z. ErrorOf p js st (part_at js (const_head_of z) i at_v) f x y) j h),
+        (subst (λ z. ErrorOf p set js st (part_at js (const_head_of z) i at_v) f x y) j h),
   )
   const_complains st f g (expressions {k = op} {ts} {us} j k n) l z w (passed_const is o) h = (
     f,
     is,
     of_parts i j k n (subst (λ z. i < count (const_parts_of z)) j l) tt
-        (subst₂ (ErrorOf p js st (part_at js (expression op) i at_v) f) (z ∙ ap (λ z. nth i (const_parts_of z)) j) (w ∙ ap (λ z. nth i (const_parts_of z)) k)
-        (subst (λ z. ErrorOf p js st (part_at js (const_head_of z) i at_v) f x y) j h)),
+        (subst₂ (ErrorOf p set js st (part_at js (expression op) i at_v) f) (z ∙ ap (λ z. nth i (const_parts_of z)) j) (w ∙ ap (λ z. nth i (const_parts_of z)) k)
+        (subst (λ z. ErrorOf p set js st (part_at js (const_head_of z) i at_v) f x y) j h)),
   )
   const_complains st f g (expressions {k = op} {ts} {us} j k n) l z w (whole {ts = vs} e o is eq) h =
       absurd (let y' = sym j ∙ o in cc)
@@ -106,17 +111,17 @@ const_parts_pair st a b pair = record {
 }
 
 -- The same, of trees that are the constants'.
-pub consts_complain : {Key Id Name : Type 0} (p : Meaning Key Id Name) (js : Items) (at_v : Variance)
+pub consts_complain : {Key Id Name : Type 0} (p : Meaning Key Id Name) (set : Settings) (js : Items) (at_v : Variance)
     (c d : ConstKey Key) (i : ℕ) (x y a b : Tree) → p.const_ c ≡ a → p.const_ d ≡ b → (st : Store) (f : TypeError Key Id Name) (g : RelateFault Key Id Name) →
     AreOfOneConst a b → i < count (const_parts_of a) → x ≡ nth i (const_parts_of a) → y ≡ nth i (const_parts_of b) →
-    IsFaultOfConst a c d (Unrelated f) g → ErrorOf p js st (part_at js (const_head_of a) i at_v) f x y →
-    (k : TypeError Key Id Name) × (g ≡ Unrelated k) × ErrorOf p js st at_v k a b
-consts_complain p js at_v c d i x y a b j k st f g o l z w t h =
-    subst₂ (λ a b. (k : TypeError _ _ _) × (g ≡ Unrelated k) × ErrorOf p js st at_v k a b) j k
-    (const_complains p js at_v c d i x y st f g (subst₂ AreOfOneConst (sym j) (sym k) o)
+    IsFaultOfConst a c d (Unrelated f) g → ErrorOf p set js st (part_at js (const_head_of a) i at_v) f x y →
+    (k : TypeError Key Id Name) × (g ≡ Unrelated k) × ErrorByForms p set js st at_v k a b
+consts_complain p set js at_v c d i x y a b j k st f g o l z w t h =
+    subst₂ (λ a b. (k : TypeError _ _ _) × (g ≡ Unrelated k) × ErrorByForms p set js st at_v k a b) j k
+    (const_complains p set js at_v c d i x y st f g (subst₂ AreOfOneConst (sym j) (sym k) o)
     (subst (λ v. i < count (const_parts_of v)) (sym j) l) (z ∙ ap (λ v. nth i (const_parts_of v)) (sym j))
     (w ∙ ap (λ v. nth i (const_parts_of v)) (sym k)) (subst (λ v. IsFaultOfConst v c d (Unrelated f) g) (sym j) t)
-    (subst (λ v. ErrorOf p js st (part_at js (const_head_of v) i at_v) f x y) (sym j) h))
+    (subst (λ v. ErrorOf p set js st (part_at js (const_head_of v) i at_v) f x y) (sym j) h))
 
 -- Two values are related by what stands beside their types.
 value_parts : (c : Items) (w : Interpretation) (e : Tree) (v : Variance) (s : Assign) (t u x y : Tree) →
@@ -135,16 +140,16 @@ module _ {Key Id Name : Type 0} {r q : State Key Id Name} (M : Manners) (v : Var
     const_refuses : {n : ℕ} {p : State Key Id Name} (g : Passes n q p) (e k : RelateFault Key Id Name) →
         (p.meaning).const_ c ≡ a →
         (p.meaning).const_ d ≡ b → IsTrue (known a) → IsTrue (known b) → IsFaultOfConst a c d e k →
-        Refuses q p (part_at (items_in r) (const_head_of a) i v) x y e → Refuses r p v a b k
+        Refuses q p (part_at (items_in r) (const_head_of a) i v) x y e → RefusesAs as_forms r p (at v) a b k
     const_refuses {p = p} g Memory k ec ed ka kb t h =
-        subst (Refuses r p v a b) (sym (same_const_fault a c d Memory k t (λ e z. cc))) tt
+        subst (RefusesAs as_forms r p (at v) a b) (sym (same_const_fault a c d Memory k t (λ e z. cc))) tt
     const_refuses {p = p} g Budget k ec ed ka kb t h =
-        subst (Refuses r p v a b) (sym (same_const_fault a c d Budget k t (λ e z. cc))) h
+        subst (RefusesAs as_forms r p (at v) a b) (sym (same_const_fault a c d Budget k t (λ e z. cc))) h
     const_refuses {p = p} g (Unrelated e) k ec ed ka kb t h =
         let same : items_in p ≡ items_in r = same_items g ∙ same_items f.passes in
-        let z = consts_complain p.meaning (items_in p) v c d i x y a b ec ed p.store e k o lx ex ey t
-        (subst (λ s. ErrorOf p.meaning (items_in p) p.store (part_at s (const_head_of a) i v) e x y) (sym same) h.1) in
-        subst (Refuses r p v a b) (sym z.1) (
+        let z = consts_complain p.meaning p.kept.settings (items_in p) v c d i x y a b ec ed p.store e k o lx ex ey t
+        (subst (λ s. ErrorOf p.meaning p.kept.settings (items_in p) p.store (part_at s (const_head_of a) i v) e x y) (sym same) h.1) in
+        subst (RefusesAs as_forms r p (at v) a b) (sym z.1) (
           consts_never r.store v a b o
               (fronted_never (const_head_of a) v i (const_parts_of a) (const_parts_of b) x y f lx ly ex ey are h.0),
           z.2,
@@ -180,7 +185,7 @@ module _ {Key Id Name : Type 0} {r q : State Key Id Name} (M : Manners) (v : Var
         (e k : RelateFault Key Id Name) → IsFormedConst a → IsFormedConst b → (p.meaning).const_ c ≡ a → (p.meaning).const_ d ≡ b → IsTrue (known a) →
         IsTrue (known b) → IsFaultOfConst a c d e k →
         Related M q p (part_at (items_in r) (const_head_of a) i v) x y tree (Err e) →
-        Related M r p v a b answer (Err k)
+        RelatedForms M r p v a b answer (Err k)
     unfolding passes_within fronted_passes passes_then
     const_refused {A} {B} {p} tree answer e k fa fb ec ed ka kb t g = record {
       passes = passes_within (omega (arith, weight_const_parts_most r.store a, weight_const_parts_most r.store b))
@@ -196,7 +201,7 @@ module _ {Key Id Name : Type 0} {r q : State Key Id Name} (M : Manners) (v : Var
   -- Memory ran out after some of the parts.
   pub consts_stopped : {X : Type 0} (tree : X → Tree) →
       Fronted M r q (const_head_of a) v i (const_parts_of a) (const_parts_of b) →
-      Related {X = X} M r q v a b tree (Err Memory)
+      RelatedForms {X = X} M r q v a b tree (Err Memory)
   unfolding passes_within
   consts_stopped tree f = stopped M v a b tree
       (passes_within (omega (arith, weight_const_parts_most r.store a, weight_const_parts_most r.store b)) f.passes)
@@ -237,13 +242,14 @@ module _ {Key Id Name : Type 0} {r q : State Key Id Name} (M : Manners) (v : Var
       (ap const_parts_of d) (ap const_parts_of e)
       (subst (λ z. Rel (items_in r) w r.kept.environment (parts (const_head_of z) 0 v) (apply s (const_parts_of a))
       (apply s (const_parts_of b))) d (all_parts.relates w s sat all))))
+  consts_relate (one_const_leaf d e) f are ea eb w s sat all = same (ap (apply s) (d ∙ sym e))
   consts_relate (const_parameters d e p) f are ea eb w s sat all =
       subst₂ (λ j l. Rel (items_in r) w r.kept.environment (at v) (apply s j) (apply s l)) (sym d) (sym e) (atoms p)
 
   pub consts_related : {X : Type 0} (tree : X → Tree) (x : X) → IsFormedConst a → IsFormedConst b → AreOfOneConst a b →
       Fronted M r q (const_head_of a) v i (const_parts_of a) (const_parts_of b) →
       AreParts r.store (const_parts_of a) (const_parts_of b) → i ≡ count (const_parts_of a) →
-      i ≡ count (const_parts_of b) → tree x ≡ a → IsTrue (known a) → Related M r q v a b tree (Ok x)
+      i ≡ count (const_parts_of b) → tree x ≡ a → IsTrue (known a) → RelatedForms M r q v a b tree (Ok x)
   unfolding passes_within
   consts_related tree x fa fb o f are ea eb answer k = record {
     passes = passes_within (omega (arith, weight_const_parts_most r.store a, weight_const_parts_most r.store b)) f.passes;
@@ -270,8 +276,8 @@ module _ {Key Id Name : Type 0} {r q : State Key Id Name} (M : Manners) (v : Var
 
 module _ {Key Id Name : Type 0} {X : Type 0} (M : Manners) (r : State Key Id Name) (v : Variance) (tree : X → Tree) where
   -- One term is related with itself.
-  pub itself_related : (a b : Tree) (x : X) → a ≡ b → tree x ≡ a → IsTrue (known a) →
-      Related M r r v a b tree (Ok x)
+  pub itself_related : {w : Meeting} (a b : Tree) (x : X) → a ≡ b → tree x ≡ a → IsTrue (known a) →
+      RelatedAs w M r r (at v) a b tree (Ok x)
   unfolding passes_nowhere
   itself_related a b x e answer k = record {
     passes = passes_nowhere (weight r.store a + weight r.store b) r;
@@ -293,9 +299,9 @@ module _ {Key Id Name : Type 0} {X : Type 0} (M : Manners) (r : State Key Id Nam
   }
 
   -- Two terms are refused at once.
-  pub refused_here : (a b : Tree) (e : TypeError Key Id Name) → NeverOne (at v) r.store a b →
-      ErrorOf r.meaning (items_in r) r.store v e a b → KnowsError r.meaning e → (IsFirstOrderPair r.store a b → NoUnifier r.store a b) →
-      Related M r r v a b tree (Err (Unrelated e))
+  pub refused_here : {w : Meeting} (a b : Tree) (e : TypeError Key Id Name) → NeverOne (at v) r.store a b →
+      ErrorAs r.meaning w r.kept.settings (items_in r) r.store v e a b → KnowsError r.meaning e →
+      (IsFirstOrderPair r.store a b → NoUnifier r.store a b) → RelatedAs w M r r (at v) a b tree (Err (Unrelated e))
   unfolding passes_nowhere
   refused_here a b e n o k u = record {
     passes = passes_nowhere (weight r.store a + weight r.store b) r;
@@ -308,9 +314,9 @@ module _ {Key Id Name : Type 0} {X : Type 0} (M : Manners) (r : State Key Id Nam
   pub types_differ : (x y : TyKey Key) (e : TypeError Key Id Name) → v ≢ Bivariant → IsFormed ((r.meaning).ty x) →
       IsFormed ((r.meaning).ty y) → IsTerm type_sort ((r.meaning).ty x) → IsTerm type_sort ((r.meaning).ty y) →
       IsTrue (known ((r.meaning).ty x)) → IsTrue (known ((r.meaning).ty y)) → FormError r.meaning x y e →
-      Related M r r v ((r.meaning).ty x) ((r.meaning).ty y) tree (Err (Unrelated e))
+      RelatedForms M r r v ((r.meaning).ty x) ((r.meaning).ty y) tree (Err (Unrelated e))
   types_differ x y e d f g s t k l h =
-      refused_here ((r.meaning).ty x) ((r.meaning).ty y) e (form_apart r.meaning r.store x y e f g s t h)
+      refused_here {as_forms} ((r.meaning).ty x) ((r.meaning).ty y) e (form_apart r.meaning r.store x y e f g s t h)
       (of_forms x y d refl refl (formed_not_bindable ((r.meaning).ty x) ((r.meaning).ty y) f g) h)
       (known_error r.meaning x y e k l h) (λ pair j sol one. forms_not_unified r.meaning j x y e f g s t h one)
 
@@ -318,9 +324,9 @@ module _ {Key Id Name : Type 0} {X : Type 0} (M : Manners) (r : State Key Id Nam
       IsFormedConst ((r.meaning).const_ y) → IsTerm const_sort ((r.meaning).const_ x) →
       IsTerm const_sort ((r.meaning).const_ y) → IsTrue (known ((r.meaning).const_ x)) →
       IsTrue (known ((r.meaning).const_ y)) → ConstFormError r.meaning x y e →
-      Related M r r v ((r.meaning).const_ x) ((r.meaning).const_ y) tree (Err (Unrelated e))
+      RelatedForms M r r v ((r.meaning).const_ x) ((r.meaning).const_ y) tree (Err (Unrelated e))
   consts_differ x y e d f g s t k l h =
-      refused_here ((r.meaning).const_ x) ((r.meaning).const_ y) e (const_form_apart r.meaning r.store x y e f g s t h)
+      refused_here {as_forms} ((r.meaning).const_ x) ((r.meaning).const_ y) e (const_form_apart r.meaning r.store x y e f g s t h)
       (of_const_forms x y d refl refl (formed_consts_not_bindable ((r.meaning).const_ x) ((r.meaning).const_ y) f g) h)
       (known_const_error r.meaning x y e k l h)
       (λ pair j sol one. const_forms_not_unified r.meaning j x y e f g s t pair.left h one)
@@ -357,7 +363,7 @@ module _ {Key Id Name : Type 0} (m : Meaning Key Id Name) (sorted : Sorted m) wh
       Related M r r v (arg_tree m X) (arg_tree m Y) tree (Err (Unrelated Mismatch))
   unfolding IsTermIn
   kinds_differ M r v tree d is X Y o k l x y =
-      refused_here M r v tree (arg_tree m X) (arg_tree m Y) Mismatch
+      refused_here M r v tree {as_pair} (arg_tree m X) (arg_tree m Y) Mismatch
       (λ w s sat e. two_sorts X Y (sort_of (apply s (arg_tree m X))) (sort_of (apply s (arg_tree m Y))) o
       (value_top r.store s (kind_sort X) (arg_tree m X) (kind_top X) sat.assigns x.0 (kind_term X k))
       (value_top r.store s (kind_sort Y) (arg_tree m Y) (kind_top Y) sat.assigns y.0 (kind_term Y l)) (ap sort_of e))

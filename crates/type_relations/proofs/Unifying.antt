@@ -17,7 +17,7 @@ use Rattle.relation_terms.specs.Erasure.{erase, erase_atom, erase_kinded}
 use Rattle.relation_contexts.specs.Relation.{plain_atom, sort_of}
 use Rattle.relation_contexts.specs.FirstOrder.{IsFirstOrder, IsFirstOrderStore, Unifies}
 use Rattle.relation_contexts.specs.Errors.{AreAlike, outer_head, unlike_aliases, AreOfOneForm, over_parts, one_leaf, parameters}
-use Rattle.relation_contexts.specs.Errors.{AreOfOneConst, values, expressions, const_parameters}
+use Rattle.relation_contexts.specs.Errors.{AreOfOneConst, values, expressions, const_parameters, one_const_leaf}
 use Rattle.relation_contexts.specs.Errors.{AreOfOneValue, one_value, as_many_branches}
 use Rattle.relation_contexts.specs.Stores.{Store}
 use Rattle.relation_contexts.specs.Outcomes.{Exact, NoUnifier}
@@ -319,6 +319,8 @@ consts_unify a b f g (values {t} {u} {v} {w} d e o) s =
 consts_unify a b f g (expressions {k} {ts} {us} d e n) s = subst₂
     (λ x y. Unifies s x y ↔ Unifies s (const_parts_of x) (const_parts_of y)) (sym d) (sym e)
     (forms_unify_by_parts s (expression k) ts us (λ q. absurd (cc)))
+consts_unify a b f g (one_const_leaf d e) s =
+    ((λ z. ap (λ x. erase (apply s (const_parts_of x))) (d ∙ sym e)), λ z. ap (λ x. erase (apply s x)) (d ∙ sym e))
 consts_unify a b f g (const_parameters {x} {y} d e p) s =
     let i = formed_const_leaf (atom x) (subst IsFormedConst d f) in
     let j = formed_const_leaf (atom y) (subst IsFormedConst e g) in

@@ -19,7 +19,7 @@ use Rattle.relation_folds.specs.declared.error.RelateFault.{RelateFault}
 use Rattle.relation_contexts.specs.declared.relate.Step.{Step}
 use Rattle.type_relations.specs.Arguments.{AreOverItem}
 use Rattle.relation_contexts.specs.Constraints.{constraint_at, asked_constraints}
-use Rattle.relation_contexts.specs.Lawful.{State, Manners, Asked, Related, Shown, Stepped, Noted, items_in}
+use Rattle.relation_contexts.specs.Lawful.{State, Manners, Asked, Related, RelatedForms, Shown, Stepped, Noted, items_in}
 use Rattle.relation_contexts.specs.Making.{Made, over, const_over}
 use Rattle.relation_contexts.specs.Parts.{IsFormed, IsFormedConst, head_of, const_head_of}
 use Rattle.relation_contexts.specs.Relation.{part_at}
@@ -87,12 +87,22 @@ module _ {Key Id Name : Type 0} where
   AskedLists M r h a b = Asked M r r.ambient (node (h r.meaning) ((r.meaning).args a))
       (node (h r.meaning) ((r.meaning).args b))
 
-  -- Two types were related, and what came of it. The same of constants, regions, arguments and patterns, and of parts
-  -- of terms.
+  -- Two types were related, and what came of it. The same of types, constants and parts as forms, by their parts alone;
+  -- of constants, regions, arguments and patterns, and of parts of terms.
   abbrev pub RelatedTys : Manners → State Key Id Name → State Key Id Name → TyKey Key → TyKey Key →
       Result (TyKey Key) (RelateFault Key Id Name) → Type 0
   RelatedTys M r q a b result =
       Related M r q r.ambient ((r.meaning).ty a) ((r.meaning).ty b) (q.meaning).ty result
+
+  abbrev pub RelatedTyForms : Manners → State Key Id Name → State Key Id Name → TyKey Key → TyKey Key →
+      Result (TyKey Key) (RelateFault Key Id Name) → Type 0
+  RelatedTyForms M r q a b result =
+      RelatedForms M r q r.ambient ((r.meaning).ty a) ((r.meaning).ty b) (q.meaning).ty result
+
+  abbrev pub RelatedConstForms : Manners → State Key Id Name → State Key Id Name → ConstKey Key → ConstKey Key →
+      Result (ConstKey Key) (RelateFault Key Id Name) → Type 0
+  RelatedConstForms M r q a b result =
+      RelatedForms M r q r.ambient ((r.meaning).const_ a) ((r.meaning).const_ b) (q.meaning).const_ result
 
   abbrev pub RelatedConsts : Manners → State Key Id Name → State Key Id Name → ConstKey Key → ConstKey Key →
       Result (ConstKey Key) (RelateFault Key Id Name) → Type 0
@@ -118,6 +128,11 @@ module _ {Key Id Name : Type 0} where
       Result (Part Key Id) (RelateFault Key Id Name) → Type 0
   RelatedParts M r q a b result =
       Related M r q r.ambient (part_tree r.meaning a) (part_tree r.meaning b) (part_tree q.meaning) result
+
+  abbrev pub RelatedPartForms : Manners → State Key Id Name → State Key Id Name → Part Key Id → Part Key Id →
+      Result (Part Key Id) (RelateFault Key Id Name) → Type 0
+  RelatedPartForms M r q a b result =
+      RelatedForms M r q r.ambient (part_tree r.meaning a) (part_tree r.meaning b) (part_tree q.meaning) result
 
   -- The same of arguments, and of parts, at a variance, seen from the ambient one.
   abbrev pub RelatedArgsAt : Manners → State Key Id Name → State Key Id Name → Variance → GenericArgKind Key →

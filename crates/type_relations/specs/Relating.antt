@@ -28,6 +28,8 @@ use Rattle.relation_contexts.specs.Covered.{IsCovered}
 use Rattle.relation_contexts.specs.Lawful.{items_of}
 use Rattle.type_relations.specs.Arguments.{related_tree}
 use Rattle.relation_contexts.specs.Contexts.{Context, DoesNothing}
+use Rattle.relation_contexts.specs.declared.relate.StructurallyRelateAliases.TheVariants.{No}
+use Rattle.type_relations.specs.Solving.{solver_settings}
 use Rattle.type_relations.specs.Subtyping.{OfSubtype}
 
 -- What is related of a value in a context.
@@ -100,8 +102,8 @@ module _ {S Key Id Name A : Type 0} (state : S → Context Key Id Name) (old new
 
   -- Which error comes, where they are not related.
   abbrev pub AnswersError : {X : Type 0} → Variance → A → A → Result X (RelateFault Key Id Name) → Type 0
-  AnswersError v a b result = IfUnrelated result (λ e. ErrorOf (state new).meaning (items_of (state new).meaning)
-      (state new).store v e (term a) (term b))
+  AnswersError v a b result = IfUnrelated result (λ e. ErrorOf (state new).meaning
+      (solver_settings No (state new).setup) (items_of (state new).meaning) (state new).store v e (term a) (term b))
 
   -- What clashes is refused: the two agree, where they are related.
   abbrev pub RelatesAgreeing : {X : Type 0} → Variance → A → A → Result X (RelateFault Key Id Name) → Type 0

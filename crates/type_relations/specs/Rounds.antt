@@ -19,6 +19,7 @@ use Rattle.relation_contexts.specs.Goals.{Goal}
 use Rattle.relation_contexts.specs.Steps.{IsLater}
 use Rattle.relation_contexts.specs.Kits.{StaysBuilt, BuiltFrom}
 use Rattle.relation_contexts.specs.Outcomes.{StepsTo}
+use Rattle.relation_contexts.specs.Settings.{Settings}
 use Rattle.relation_contexts.specs.Errors.{ErrorOf}
 use Rattle.relation_contexts.specs.Agreeing.{Agree}
 use Rattle.relation_contexts.specs.Lawful.{State, Manners, Passes, Asked, OnlyMemory, items_in}
@@ -52,8 +53,8 @@ module _ {Key Id Name : Type 0} where
       (a b x y : Tree) : Type 0 where
     pub steps : RoundSteps r q added round a b x y
     pub asked : Asked M q r.ambient x y
-    pub errors : (m : Meaning Key Id Name) (c : Items) (st : Store) (e : TypeError Key Id Name) → IsLater q.store st →
-        IsSound st → ErrorOf m c st r.ambient e x y → ErrorOf m c st r.ambient e a b
+    pub errors : (m : Meaning Key Id Name) (k : Settings) (c : Items) (st : Store) (e : TypeError Key Id Name) →
+        IsLater q.store st → IsSound st → ErrorOf m k c st r.ambient e x y → ErrorOf m k c st r.ambient e a b
     pub agrees : (c : Items) → Agree c (at r.ambient) x y → Agree c (at r.ambient) a b
     pub built : BuiltFrom r.store a b x y
     pub same_budget : (q.store).budget ≡ (r.store).budget

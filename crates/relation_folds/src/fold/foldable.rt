@@ -1,14 +1,14 @@
 //! What can be folded: keys of terms, generic arguments, terms of projections, and pairs in errors.
 
 use crate::error::ExpectedFound;
+use crate::fold::walk::{fold_list, fold_part};
 use crate::fold::{
-    TypeFoldable, TypeFolder, fold_alternatives_with, fold_arg_with, fold_args_with,
-    fold_branches_with, fold_const_with, fold_pat_with, fold_region_with, fold_ty_with,
-    fold_tys_with, fold_valtree_with,
+    TypeFoldable, TypeFolder, fold_args_with, fold_const_with, fold_region_with, fold_ty_with,
 };
+use relation_terms::terms::parts::{the_alternatives, the_branches, the_pat, the_tys, the_valtree};
 use relation_terms::terms::{
-    AlternativesKey, ArgsKey, BranchesKey, ConstKey, GenericArgKind, Interner, OutOfMemory, PatKey,
-    RegionKey, TermKind, TyKey, TysKey, ValTreeKey,
+    AlternativesKey, ArgsKey, BranchesKey, ConstKey, GenericArgKind, Interner, OutOfMemory, Part,
+    Parts, PatKey, RegionKey, TermKind, TyKey, TysKey, ValTreeKey,
 };
 
 impl<I: Interner> TypeFoldable<I> for TyKey<I::Key> {
@@ -37,37 +37,45 @@ impl<I: Interner> TypeFoldable<I> for ArgsKey<I::Key> {
 
 impl<I: Interner> TypeFoldable<I> for TysKey<I::Key> {
     fn fold_with<F: TypeFolder<I>>(&self, cx: &mut I, folder: &mut F) -> Result<Self, OutOfMemory> {
-        fold_tys_with(cx, self, folder)
+        Ok(the_tys(&fold_list(cx, &Parts::Tys(*self), 0, folder)?))
     }
 }
 
 impl<I: Interner> TypeFoldable<I> for ValTreeKey<I::Key> {
     fn fold_with<F: TypeFolder<I>>(&self, cx: &mut I, folder: &mut F) -> Result<Self, OutOfMemory> {
-        fold_valtree_with(cx, self, folder)
+        Ok(the_valtree(&fold_part(cx, &Part::ValTree(*self), 0, folder)?))
     }
 }
 
 impl<I: Interner> TypeFoldable<I> for BranchesKey<I::Key> {
     fn fold_with<F: TypeFolder<I>>(&self, cx: &mut I, folder: &mut F) -> Result<Self, OutOfMemory> {
-        fold_branches_with(cx, self, folder)
+        Ok(the_branches(&fold_list(cx, &Parts::Branches(*self), 0, folder)?))
     }
 }
 
 impl<I: Interner> TypeFoldable<I> for PatKey<I::Key> {
     fn fold_with<F: TypeFolder<I>>(&self, cx: &mut I, folder: &mut F) -> Result<Self, OutOfMemory> {
-        fold_pat_with(cx, self, folder)
+        Ok(the_pat(&fold_part(cx, &Part::Pat(*self), 0, folder)?))
     }
 }
 
 impl<I: Interner> TypeFoldable<I> for AlternativesKey<I::Key> {
     fn fold_with<F: TypeFolder<I>>(&self, cx: &mut I, folder: &mut F) -> Result<Self, OutOfMemory> {
-        fold_alternatives_with(cx, self, folder)
+        Ok(the_alternatives(&fold_list(cx, &Parts::Alternatives(*self), 0, folder)?))
     }
 }
 
 impl<I: Interner> TypeFoldable<I> for GenericArgKind<I::Key> {
     fn fold_with<F: TypeFolder<I>>(&self, cx: &mut I, folder: &mut F) -> Result<Self, OutOfMemory> {
-        fold_arg_with(cx, self, folder)
+        match self {
+            GenericArgKind::Lifetime(region) => {
+                Ok(GenericArgKind::Lifetime(fold_region_with(cx, region, folder)?))
+            }
+            GenericArgKind::Ty(ty) => Ok(GenericArgKind::Ty(fold_ty_with(cx, ty, folder)?)),
+            GenericArgKind::Const(constant) => {
+                Ok(GenericArgKind::Const(fold_const_with(cx, constant, folder)?))
+            }
+        }
     }
 }
 

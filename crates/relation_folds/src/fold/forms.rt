@@ -1,13 +1,13 @@
 //! Folds of forms that have no key: signatures and predicates of trait objects.
-use crate::fold::walk::fold_part;
-use crate::fold::{TypeFoldable, TypeFolder, fold_args_with, fold_predicates_with};
+use crate::fold::walk::{fold_list, fold_part};
+use crate::fold::{TypeFoldable, TypeFolder, fold_args_with};
 use relation_terms::predicate::{ExistentialPredicate, ExistentialProjection, ExistentialTraitRef};
-use relation_terms::terms::parts::{the_existential, the_signature};
-use relation_terms::terms::{ExistentialPredicatesKey, FnSig, Interner, OutOfMemory, Part};
+use relation_terms::terms::parts::{the_existential, the_predicates, the_signature};
+use relation_terms::terms::{ExistentialPredicatesKey, FnSig, Interner, OutOfMemory, Part, Parts};
 
 impl<I: Interner> TypeFoldable<I> for ExistentialPredicatesKey<I::Key> {
     fn fold_with<F: TypeFolder<I>>(&self, cx: &mut I, folder: &mut F) -> Result<Self, OutOfMemory> {
-        fold_predicates_with(cx, self, folder)
+        Ok(the_predicates(&fold_list(cx, &Parts::Predicates(*self), 0, folder)?))
     }
 }
 

@@ -96,8 +96,8 @@ fn compare_leaves<I: Interner>(cx: &I, a: &Ty<I>, b: &Ty<I>) -> Result<(), TypeE
 /// are of one form where they have one index, values where their value trees are one or have as many branches. The
 /// types of values are not looked at.
 ///
-/// The interner has to know both constants, which may not be one, are no variables and are of forms that relating has
-/// rules for; it is only read.
+/// The interner has to know both constants, which are no variables and are of forms that relating has rules for; it is
+/// only read.
 ///
 /// Answers `Mismatch` for two expressions of unlike operations or with unlike numbers of arguments, and
 /// `ConstMismatch`, which names the left one first, for all other constants that differ. Upstream these cases stand in
@@ -109,7 +109,6 @@ pub fn compare_consts<I: Interner>(cx: &I, a: &Const<I>, b: &Const<I>) -> Result
     requires b_covered { IsCovered ((I.meaning cx.now).const_ b.now) }
     requires a_formed { IsFormedConst ((I.meaning cx.now).const_ a.now) }
     requires b_formed { IsFormedConst ((I.meaning cx.now).const_ b.now) }
-    requires differ { (I.meaning cx.now).const_ a.now ≢ (I.meaning cx.now).const_ b.now }
     ensures alike { OnOk result (AreOfOneConst ((I.meaning cx.now).const_ a.now) ((I.meaning cx.now).const_ b.now)) }
     ensures errors { IfErr result (ConstFormError (I.meaning cx.now) a.now b.now) }
 {
@@ -124,7 +123,12 @@ pub fn compare_consts<I: Interner>(cx: &I, a: &Const<I>, b: &Const<I>) -> Result
             }
             Ok(())
         }
-        ConstKind::Placeholder(_) => Err(unlike_consts::<I>(a, b)),
+        ConstKind::Placeholder(_) => {
+            if a != b {
+                return Err(unlike_consts::<I>(a, b));
+            }
+            Ok(())
+        }
         ConstKind::Infer(_)
         | ConstKind::Bound(..)
         | ConstKind::Unevaluated(_)

@@ -52,7 +52,6 @@ pub(crate) fn compare_consts_of<I: Interner, R: TypeRelation<I>>(
     requires b_covered { IsCovered ((R.state r.now).meaning.const_ b.now) }
     requires a_formed { IsFormedConst ((R.state r.now).meaning.const_ a.now) }
     requires b_formed { IsFormedConst ((R.state r.now).meaning.const_ b.now) }
-    requires differ { (R.state r.now).meaning.const_ a.now ≢ (R.state r.now).meaning.const_ b.now }
     ensures alike { let m = (R.state r.now).meaning in OnOk result (AreOfOneConst (m.const_ a.now) (m.const_ b.now)) }
     ensures errors { IfErr result (ConstFormError (R.state r.now).meaning a.now b.now) }
 {

@@ -11,7 +11,8 @@ ghost use Rattle.relation_contexts.specs.Parts.{IsFormed, IsFormedConst, IsByPar
 ghost use Rattle.relation_contexts.specs.Parts.{IsBinderPart, ArePaired};
 ghost use Rattle.type_relations.specs.Keyed.{AskedArgs, AskedArgsAt, AskedConsts, AskedPats, AskedParts, AskedTys};
 ghost use Rattle.type_relations.specs.Keyed.{AskedPartsAt, RelatedArgs, RelatedArgsAt, RelatedConsts, RelatedPats};
-ghost use Rattle.type_relations.specs.Keyed.{RelatedParts, RelatedPartsAt, RelatedTys};
+ghost use Rattle.type_relations.specs.Keyed.{RelatedConstForms, RelatedParts, RelatedPartForms, RelatedPartsAt};
+ghost use Rattle.type_relations.specs.Keyed.{RelatedTys, RelatedTyForms};
 ghost use Rattle.type_relations.specs.Keyed.{ArgsRegisterSubtype, TysRegisterSubtype};
 ghost use Rattle.relation_contexts.specs.Making.{arg_sort};
 ghost use Rattle.type_relations.specs.Arguments.{IsSkipped};
@@ -198,7 +199,7 @@ pub fn structurally_relate_tys<I: Interner, R: TypeRelation<I>>(
     requires asked { AskedTys R.manner (R.state r.old) a.now b.now }
     requires a_formed { IsFormed ((R.state r.old).meaning.ty a.now) }
     requires b_formed { IsFormed ((R.state r.old).meaning.ty b.now) }
-    ensures { RelatedTys R.manner (R.state r.old) (R.state r.new) a.now b.now result }
+    ensures { RelatedTyForms R.manner (R.state r.old) (R.state r.new) a.now b.now result }
 {
     compare_tys_of::<I, R>(r, a, b)?;
     if is_by_parts_of::<I, R>(r, a) {
@@ -235,11 +236,8 @@ pub fn structurally_relate_consts<I: Interner, R: TypeRelation<I>>(
     requires asked { AskedConsts R.manner (R.state r.old) a.now b.now }
     requires a_formed { IsFormedConst ((R.state r.old).meaning.const_ a.now) }
     requires b_formed { IsFormedConst ((R.state r.old).meaning.const_ b.now) }
-    ensures { RelatedConsts R.manner (R.state r.old) (R.state r.new) a.now b.now result }
+    ensures { RelatedConstForms R.manner (R.state r.old) (R.state r.new) a.now b.now result }
 {
-    if a == b {
-        return Ok(*a);
-    }
     compare_consts_of::<I, R>(r, a, b)?;
     let n = const_parts_count_of::<I, R>(r, a);
     let mut answers = Vec::new(r.cx().alloc());
@@ -344,7 +342,7 @@ fn relate_in_order<I: Interner, R: TypeRelation<I>>(
     requires form { IsByParts (part_tree (R.state r.old).meaning a.now) }
     requires one_sort { part_sort b.now ≡ part_sort a.now }
     requires alike { AreOfOneFormBy part_tree (R.state r.old).meaning a.now b.now }
-    ensures related { RelatedParts R.manner (R.state r.old) (R.state r.new) a.now b.now result }
+    ensures related { RelatedPartForms R.manner (R.state r.old) (R.state r.new) a.now b.now result }
     ensures sort { IfOk result (λ p. part_sort p ≡ part_sort a.now) }
     ensures predicate { IfOk result (λ p. form_of_part p ≡ form_of_part a.now) }
 {

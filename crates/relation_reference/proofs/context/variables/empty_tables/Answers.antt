@@ -1,3 +1,4 @@
+use Rattle.std.proofs.Common.{refl}
 use Rattle.relation_reference.proofs.context.variables.empty_tables.Goals as goal
 
 pub returns-clause-new : goal.returns-clause-new
@@ -10,4 +11,5 @@ returns-clause-new g c = record {
   constraints = c.new-6.ensures.items;
   ty_outlives = c.new-7.ensures.items;
   sub_roots = c.new-8.ensures.items;
+  untainted = refl;
 }

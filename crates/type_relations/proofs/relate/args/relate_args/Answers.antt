@@ -16,7 +16,7 @@ use Rattle.relation_contexts.proofs.Lists.{snoc, list_push}
 use Rattle.relation_contexts.proofs.Passing.{as_err, made_or_not}
 use Rattle.type_relations.proofs.Fronts.{Fronted, fronted_none, fronted_next}
 use Rattle.type_relations.proofs.Looping.{next_asked}
-use Rattle.type_relations.proofs.Arguments.{form_related, form_refused, form_stopped, args_related_head, args_looked_at, args_handed_on, args_heads, are_list}
+use Rattle.type_relations.proofs.Arguments.{form_related, form_refused, form_stopped, args_related_head, args_looked_at, args_handed_on, args_normal, args_heads, are_list}
 use Rattle.relation_contexts.proofs.Answering.{same_items, AreAnswers, answers_none, answers_next, answers_end, may_form, if_ok_both}
 use Rattle.type_relations.proofs.relate.args.relate_args.Goals as goal
 
@@ -107,7 +107,8 @@ returns-in_err-answer g c =
     (sym (as_err c.from_residual.result f c.from_residual.ensures.0 c.from_residual.ensures.1))
     (form_refused M r.ambient h ts us i inv.fronted inv.are_parts as_many
     (args_looked_at r.meaning c.args.variances.now) x y lx ly ex ey
-    (λ e. args_handed_on r.meaning c.args.variances.now e i x y) (arg_tree p.meaning)
+    (λ e. args_handed_on r.meaning c.args.variances.now e i x y)
+    (λ ts. args_normal r.meaning c.args.variances.now ts) (arg_tree p.meaning)
     (λ k. node (args_head p.meaning c.args.variances.now) ((p.meaning).args k)) f gone)
 
 pub returns-in_err-push : goal.returns-in_err-push

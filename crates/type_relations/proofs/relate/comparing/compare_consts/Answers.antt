@@ -3,7 +3,7 @@ use Rattle.relation_terms.specs.Heads.{const_param, expression}
 use Rattle.relation_terms.specs.Meaning.{const_tree, arg_tree}
 use Rattle.relation_terms.specs.Trees.{node, count}
 use Rattle.relation_terms.specs.declared.terms.const_kind.ConstKind.TheVariants.{Param, Placeholder, Value, Expr}
-use Rattle.relation_contexts.specs.Errors.{values, expressions, const_parameters, operations}
+use Rattle.relation_contexts.specs.Errors.{values, expressions, const_parameters, operations, one_const_leaf}
 use Rattle.type_relations.proofs.Comparing.{unlike_const, param_const, value_const, expr_const}
 use Rattle.relation_contexts.proofs.Lists.{list_count}
 use Rattle.type_relations.proofs.relate.comparing.compare_consts.Goals as goal
@@ -33,10 +33,20 @@ returns-else-parameter-other-clause-alike g c =
     let m = g.I.Interner.meaning c.args.cx.now in
     const_parameters (c.const_kind.ensures ∙ ap (const_tree m) c.in-Param.is) (c.const_kind-right.ensures ∙ ap (const_tree m) c.in-Param-right.is) (ap (λ i. const_param i 0) c.if-parameter-other.false)
 
-pub returns-in-Placeholder-clause-errors : goal.returns-in-Placeholder-clause-errors
-returns-in-Placeholder-clause-errors g c =
+pub returns-then-a-clause-errors : goal.returns-then-a-clause-errors
+returns-then-a-clause-errors g c =
     let m = g.I.Interner.meaning c.args.cx.now in
-    unlike_const m (Placeholder c.in-Placeholder.field-0) c.const_kind-right.result c.args.a.now c.args.b.now c.unlike_consts-in-Placeholder.result (c.const_kind.ensures ∙ ap (const_tree m) c.in-Placeholder.is) c.const_kind-right.ensures c.requires.a_covered c.requires.b_covered (λ e. c.requires.differ ((c.const_kind.ensures ∙ ap (const_tree m) c.in-Placeholder.is) ∙ e ∙ sym c.const_kind-right.ensures)) c.unlike_consts-in-Placeholder.ensures
+    let same = g.met.I.Interner.same_const c.args.cx.now c.args.a.now c.args.b.now c.requires.a_known c.requires.b_known in
+    let differ : m.const_ c.args.a.now ≢ m.const_ c.args.b.now = λ e. (let d = same.1 e in let t = c.if-a.true in let h = c.ne-a.ensures in search rules) in
+    unlike_const m (Placeholder c.in-Placeholder.field-0) c.const_kind-right.result c.args.a.now c.args.b.now c.unlike_consts-then-a.result (c.const_kind.ensures ∙ ap (const_tree m) c.in-Placeholder.is) c.const_kind-right.ensures c.requires.a_covered c.requires.b_covered (λ e. differ ((c.const_kind.ensures ∙ ap (const_tree m) c.in-Placeholder.is) ∙ e ∙ sym c.const_kind-right.ensures)) c.unlike_consts-then-a.ensures
+
+pub returns-else-a-clause-alike : goal.returns-else-a-clause-alike
+returns-else-a-clause-alike g c =
+    let m = g.I.Interner.meaning c.args.cx.now in
+    let same = g.met.I.Interner.same_const c.args.cx.now c.args.a.now c.args.b.now c.requires.a_known c.requires.b_known in
+    let one : m.const_ c.args.a.now ≡ m.const_ c.args.b.now = same.0 (let t = c.if-a.false in let h = c.ne-a.ensures in search rules) in
+    let left = c.const_kind.ensures ∙ ap (const_tree m) c.in-Placeholder.is in
+    one_const_leaf left (sym one ∙ left)
 
 pub returns-then-not-is_one_value-clause-errors : goal.returns-then-not-is_one_value-clause-errors
 returns-then-not-is_one_value-clause-errors g c =

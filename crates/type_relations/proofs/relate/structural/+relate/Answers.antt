@@ -36,7 +36,7 @@ use Rattle.type_relations.proofs.PredicateForms.{arg_form, binder_form, made_for
 use Rattle.type_relations.proofs.Making.{fit_pushed, fit_end, fits_place}
 use Rattle.relation_contexts.proofs.Lists.{firsts, snoc, list_push}
 use Rattle.relation_terms.proofs.Stays.{stays_list, stays_arg}
-use Rattle.relation_contexts.specs.Lawful.{Asked, Related, Shown, MayAnswer, Stepped, Turned, items_in}
+use Rattle.relation_contexts.specs.Lawful.{Asked, Related, RelatedForms, Shown, MayAnswer, Stepped, Turned, items_in}
 use Rattle.relation_contexts.proofs.Standing.{term_context}
 use Rattle.relation_contexts.proofs.Parts.{in_parts, in_const_parts}
 use Rattle.relation_contexts.proofs.OneParts.{parts_counted, const_parts_counted}
@@ -47,7 +47,8 @@ use Rattle.relation_contexts.proofs.Passing.{asked_later, parts_related, again_r
 use Rattle.relation_contexts.proofs.Passing.{turned, unlooked, step_done, retold, refused_again, shown_now, as_err}
 use Rattle.relation_contexts.proofs.Registered.{directed_from}
 use Rattle.relation_contexts.specs.Goals.{IsDirected}
-use Rattle.relation_contexts.proofs.Passing.{form_made}
+use Rattle.relation_contexts.proofs.Passing.{form_made, forms_met}
+use Rattle.relation_contexts.proofs.Covered.{form_not_left}
 use Rattle.type_relations.proofs.Fronts.{Fronted, fronted_none, fronted_next}
 use Rattle.type_relations.proofs.Structural.{types_related, types_stopped, ty_refused}
 use Rattle.type_relations.proofs.StructuralConsts.{consts_related, consts_stopped, const_refused, itself_related, types_differ, consts_differ, kinds_differ}
@@ -175,7 +176,7 @@ consts-returns-in-Parts g t c =
     let x = (q.meaning).const_ c.in-Parts.a in
     let y = (q.meaning).const_ c.in-Parts.b in
     let p = g.R.HasState.state c.structurally_relate_consts.new.r in
-    let inner = subst (λ z. Related M q p z x y (p.meaning).const_ c.structurally_relate_consts.result) (step.passes).ambient
+    let inner = subst (λ z. RelatedForms M q p z x y (p.meaning).const_ c.structurally_relate_consts.result) (step.passes).ambient
     c.structurally_relate_consts.ensures in
     parts_related M IsFormedConst (g.met.R.TypeRelation.sound c.structurally_relate_consts.new.r ((inner.passes).lawful ((step.passes).lawful c.requires.lawful)))
     a b x y (p.meaning).const_ c.structurally_relate_consts.result step.passes step.verdict step.exact step.full step.built inner
@@ -266,7 +267,7 @@ tys-returns-in_err-answer-in-Parts-clause-related g t c =
     let y = (q.meaning).ty c.in-Parts.b in
     let p = g.R.HasState.state c.structurally_relate_tys.new.r in
     let e = c.in_err-answer-in-Parts in
-    let inner = subst (λ z. Related M q p z x y (p.meaning).ty (Err e.field-0.0)) (step.passes).ambient e.ensures in
+    let inner = subst (λ z. RelatedForms M q p z x y (p.meaning).ty (Err e.field-0.0)) (step.passes).ambient e.ensures in
     let failed = as_err c.from_residual-in_err-answer-in-Parts.result e.field-0.0
     c.from_residual-in_err-answer-in-Parts.ensures.0 c.from_residual-in_err-answer-in-Parts.ensures.1 in
     subst (λ z. Related M r p r.ambient a b (p.meaning).ty z) (sym failed)
@@ -285,7 +286,7 @@ tys-tys_done-requires-clause-asked g t c =
     let y = (q.meaning).ty c.in-Parts.b in
     let p = g.R.HasState.state c.structurally_relate_tys.new.r in
     let z = c.in_ok-answer-in-Parts in
-    let inner = subst (λ v. Related M q p v x y (p.meaning).ty (Ok z.answer)) (step.passes).ambient z.ensures in
+    let inner = subst (λ v. RelatedForms M q p v x y (p.meaning).ty (Ok z.answer)) (step.passes).ambient z.ensures in
     let done : Related M r p r.ambient a b (p.meaning).ty (Ok z.answer) =
     parts_related M IsFormed (g.met.R.TypeRelation.sound c.structurally_relate_tys.new.r ((inner.passes).lawful ((step.passes).lawful c.requires.lawful)))
     a b x y (p.meaning).ty (Ok z.answer) step.passes step.verdict step.exact step.full step.built inner in
@@ -309,7 +310,7 @@ tys-tys_done-requires-clause-related g t c =
     let y = (q.meaning).ty c.in-Parts.b in
     let p = g.R.HasState.state c.structurally_relate_tys.new.r in
     let z = c.in_ok-answer-in-Parts in
-    let inner = subst (λ v. Related M q p v x y (p.meaning).ty (Ok z.answer)) (step.passes).ambient z.ensures in
+    let inner = subst (λ v. RelatedForms M q p v x y (p.meaning).ty (Ok z.answer)) (step.passes).ambient z.ensures in
     let done : Related M r p r.ambient a b (p.meaning).ty (Ok z.answer) =
     parts_related M IsFormed (g.met.R.TypeRelation.sound c.structurally_relate_tys.new.r ((inner.passes).lawful ((step.passes).lawful c.requires.lawful)))
     a b x y (p.meaning).ty (Ok z.answer) step.passes step.verdict step.exact step.full step.built inner in
@@ -333,7 +334,7 @@ tys-returns-in_err-tys_done-in-Parts-clause-related g t c =
     let y = (q.meaning).ty c.in-Parts.b in
     let p = g.R.HasState.state c.structurally_relate_tys.new.r in
     let z = c.in_ok-answer-in-Parts in
-    let inner = subst (λ v. Related M q p v x y (p.meaning).ty (Ok z.answer)) (step.passes).ambient z.ensures in
+    let inner = subst (λ v. RelatedForms M q p v x y (p.meaning).ty (Ok z.answer)) (step.passes).ambient z.ensures in
     let done : Related M r p r.ambient a b (p.meaning).ty (Ok z.answer) =
     parts_related M IsFormed (g.met.R.TypeRelation.sound c.structurally_relate_tys.new.r ((inner.passes).lawful ((step.passes).lawful c.requires.lawful)))
     a b x y (p.meaning).ty (Ok z.answer) step.passes step.verdict step.exact step.full step.built inner in
@@ -358,7 +359,7 @@ tys-returns-in_ok-tys_done-in-Parts-clause-related g t c =
     let y = (q.meaning).ty c.in-Parts.b in
     let p = g.R.HasState.state c.structurally_relate_tys.new.r in
     let z = c.in_ok-answer-in-Parts in
-    let inner = subst (λ v. Related M q p v x y (p.meaning).ty (Ok z.answer)) (step.passes).ambient z.ensures in
+    let inner = subst (λ v. RelatedForms M q p v x y (p.meaning).ty (Ok z.answer)) (step.passes).ambient z.ensures in
     let done : Related M r p r.ambient a b (p.meaning).ty (Ok z.answer) =
     parts_related M IsFormed (g.met.R.TypeRelation.sound c.structurally_relate_tys.new.r ((inner.passes).lawful ((step.passes).lawful c.requires.lawful)))
     a b x y (p.meaning).ty (Ok z.answer) step.passes step.verdict step.exact step.full step.built inner in
@@ -767,36 +768,6 @@ relate_with_variance-returns g t c =
       kind = (c.relate-answer.ensures).kind;
     }
 
-pub structurally_relate_consts-returns-then-eq : goal.structurally_relate_consts-returns-then-eq
-structurally_relate_consts-returns-then-eq g t c =
-    let r = g.R.HasState.state c.args.r.now in
-    let M = g.R.TypeRelation.manner in
-    let a = (r.meaning).const_ c.args.a.now in
-    let b = (r.meaning).const_ c.args.b.now in
-    let e = g.met.R.TypeRelation.reads c.args.r.now in
-    let cx = g.R.TypeRelation.interner c.args.r.now in
-    let k = c.requires.asked in
-    let same : IsTrue (g.I.Key.PartialEq.eq (c.args.a.now).0 (c.args.b.now).0) ↔ (a ≡ b) =
-    subst (λ m. IsTrue (known (m.const_ c.args.a.now)) → IsTrue (known (m.const_ c.args.b.now)) →
-    (IsTrue (g.I.Key.PartialEq.eq (c.args.a.now).0 (c.args.b.now).0) ↔ (m.const_ c.args.a.now ≡ m.const_ c.args.b.now)))
-    (sym e) (g.met.I.Interner.same_const cx c.args.a.now c.args.b.now) k.left_known k.right_known in
-    itself_related M r r.ambient (r.meaning).const_ a b c.args.a.now (same.0 (sym c.if-eq.ensures)) refl k.left_known
-
-pub structurally_relate_consts-compare_consts_of-requires-clause-differ : goal.structurally_relate_consts-compare_consts_of-requires-clause-differ
-structurally_relate_consts-compare_consts_of-requires-clause-differ g t c =
-    let r = g.R.HasState.state c.args.r.now in
-    let M = g.R.TypeRelation.manner in
-    let a = (r.meaning).const_ c.args.a.now in
-    let b = (r.meaning).const_ c.args.b.now in
-    let e = g.met.R.TypeRelation.reads c.args.r.now in
-    let cx = g.R.TypeRelation.interner c.args.r.now in
-    let k = c.requires.asked in
-    let same : IsTrue (g.I.Key.PartialEq.eq (c.args.a.now).0 (c.args.b.now).0) ↔ (a ≡ b) =
-    subst (λ m. IsTrue (known (m.const_ c.args.a.now)) → IsTrue (known (m.const_ c.args.b.now)) →
-    (IsTrue (g.I.Key.PartialEq.eq (c.args.a.now).0 (c.args.b.now).0) ↔ (m.const_ c.args.a.now ≡ m.const_ c.args.b.now)))
-    (sym e) (g.met.I.Interner.same_const cx c.args.a.now c.args.b.now) k.left_known k.right_known in
-    λ h. false≢true (c.if-eq.ensures ∙ same.1 h)
-
 pub structurally_relate_consts-compare_consts_of-requires-clause-a_covered : goal.structurally_relate_consts-compare_consts_of-requires-clause-a_covered
 structurally_relate_consts-compare_consts_of-requires-clause-a_covered g t c = ((c.requires.asked).left_taken).1
 
@@ -815,7 +786,7 @@ structurally_relate_consts-returns-in_err-compare_consts_of g t c =
     let n = c.in_err-compare_consts_of in
     let k = c.requires.asked in
     let failed = as_err c.from_residual.result (Unrelated n.field-0.0) c.from_residual.ensures.0 c.from_residual.ensures.1 in
-    subst (λ z. Related M r r r.ambient a b (r.meaning).const_ z) (sym failed)
+    subst (λ z. RelatedForms M r r r.ambient a b (r.meaning).const_ z) (sym failed)
     (consts_differ M r r.ambient (r.meaning).const_ c.args.a.now c.args.b.now n.field-0.0 c.requires.decides c.requires.a_formed c.requires.b_formed
     (sorted.const_ c.args.a.now k.left_known) (sorted.const_ c.args.b.now k.right_known) k.left_known k.right_known
     (n.ensures).errors)
@@ -931,7 +902,7 @@ structurally_relate_consts-returns-in_err-answer g t c =
     (subst (λ u. Related M q p w x y (arg_tree p.meaning) u) z.1 (related.ensures).related) in
     let failed = as_err c.from_residual-in_err-answer.result n.field-0.0 c.from_residual-in_err-answer.ensures.0
     c.from_residual-in_err-answer.ensures.1 in
-    subst (λ u. Related M r p r.ambient a b (p.meaning).const_ u) (sym failed)
+    subst (λ u. RelatedForms M r p r.ambient a b (p.meaning).const_ u) (sym failed)
     (const_refused M r.ambient a b i alike inv.fronted inv.are_parts c.args.a.now c.args.b.now x y lx ly ex ey (arg_tree p.meaning)
     (p.meaning).const_ z.0 n.field-0.0 c.requires.a_formed c.requires.b_formed then_a then_b k.left_known k.right_known z.2 gone)
 
@@ -1050,7 +1021,7 @@ structurally_relate_consts-returns-in_err-push g t c =
     (subst (λ u. Related M q p w x y (arg_tree p.meaning) u) z (related.ensures).related) in
     let next = fronted_next (const_head_of a) r.ambient i (const_parts_of a) (const_parts_of b) x y inv.fronted lx ly ex ey (arg_tree p.meaning) n.answer
     inv.are_parts gone in
-    subst (λ z. Related M r p r.ambient a b (p.meaning).const_ z)
+    subst (λ z. RelatedForms M r p r.ambient a b (p.meaning).const_ z)
     (sym (as_err c.from_residual-in_err-push.result Memory c.from_residual-in_err-push.ensures.0
     c.from_residual-in_err-push.ensures.1))
     (consts_stopped M r.ambient a b (suc i) (p.meaning).const_ next)
@@ -1104,7 +1075,7 @@ structurally_relate_consts-returns g t c =
     let right : i ≡ count (const_parts_of b) = omega (arith, test, end, inv.right_count) in
     let items = c.loop-i.answers.items in
     let was = list_tree (arg_tree q.meaning) items in
-    let done : Related M r q r.ambient a b (q.meaning).const_ (Ok c.args.a.now) =
+    let done : RelatedForms M r q r.ambient a b (q.meaning).const_ (Ok c.args.a.now) =
     consts_related M r.ambient a b i (q.meaning).const_ c.args.a.now c.requires.a_formed c.requires.b_formed alike inv.fronted inv.are_parts left right same_a
     k.left_known in
     let p = g.R.HasState.state c.make_const.new.r in
@@ -1134,7 +1105,7 @@ structurally_relate_tys-returns-in_err-compare_tys_of g t c =
     let n = c.in_err-compare_tys_of in
     let k = c.requires.asked in
     let failed = as_err c.from_residual.result (Unrelated n.field-0.0) c.from_residual.ensures.0 c.from_residual.ensures.1 in
-    subst (λ z. Related M r r r.ambient a b (r.meaning).ty z) (sym failed)
+    subst (λ z. RelatedForms M r r r.ambient a b (r.meaning).ty z) (sym failed)
     (types_differ M r r.ambient (r.meaning).ty c.args.a.now c.args.b.now n.field-0.0 c.requires.decides c.requires.a_formed c.requires.b_formed
     (sorted.ty c.args.a.now k.left_known) (sorted.ty c.args.b.now k.right_known) k.left_known k.right_known
     (n.ensures).errors)
@@ -1284,7 +1255,7 @@ structurally_relate_tys-returns-in_err-answer g t c =
     (subst (λ u. Related M q p w x y (arg_tree p.meaning) u) z.1 (related.ensures).related) in
     let failed = as_err c.from_residual-in_err-answer.result n.field-0.0 c.from_residual-in_err-answer.ensures.0
     c.from_residual-in_err-answer.ensures.1 in
-    subst (λ u. Related M r p r.ambient a b (p.meaning).ty u) (sym failed)
+    subst (λ u. RelatedForms M r p r.ambient a b (p.meaning).ty u) (sym failed)
     (ty_refused M r.ambient a b i c.requires.a_formed alike inv.fronted inv.are_parts X Y kx ky sorted lx ly ex ey
     (arg_tree p.meaning) (p.meaning).ty z.0 n.field-0.0 c.requires.b_formed (knows_arg later X kx) (knows_arg later Y ky) z.2 gone)
 
@@ -1403,7 +1374,7 @@ structurally_relate_tys-returns-in_err-push g t c =
     (subst (λ u. Related M q p w x y (arg_tree p.meaning) u) z (related.ensures).related) in
     let next = fronted_next (head_of a) r.ambient i (parts_of a) (parts_of b) x y inv.fronted lx ly ex ey (arg_tree p.meaning) n.answer
     inv.are_parts gone in
-    subst (λ z. Related M r p r.ambient a b (p.meaning).ty z)
+    subst (λ z. RelatedForms M r p r.ambient a b (p.meaning).ty z)
     (sym (as_err c.from_residual-in_err-push.result Memory c.from_residual-in_err-push.ensures.0
     c.from_residual-in_err-push.ensures.1))
     (types_stopped M r.ambient a b (suc i) (p.meaning).ty c.requires.a_formed next)
@@ -1442,7 +1413,7 @@ structurally_relate_tys-note_args-requires-clause-related g t c =
     let end = (c.loop-i.auto).i-end in
     let left : i ≡ count (parts_of a) = omega (arith, test, end, inv.left_count) in
     let right : i ≡ count (parts_of b) = omega (arith, test, end, inv.right_count) in
-    let done : Related M r q r.ambient a b (q.meaning).ty (Ok c.args.a.now) =
+    let done : RelatedForms M r q r.ambient a b (q.meaning).ty (Ok c.args.a.now) =
     types_related M r.ambient a b i (q.meaning).ty c.args.a.now c.requires.a_formed c.requires.b_formed alike inv.fronted inv.are_parts left
     right same_a k.left_known in
     subst₂ (λ t u. Shown M q q.ambient t u) (sym same_a) (sym same_b)
@@ -1484,14 +1455,14 @@ structurally_relate_tys-returns-in_err-note_args g t c =
     let end = (c.loop-i.auto).i-end in
     let left : i ≡ count (parts_of a) = omega (arith, test, end, inv.left_count) in
     let right : i ≡ count (parts_of b) = omega (arith, test, end, inv.right_count) in
-    let done : Related M r q r.ambient a b (q.meaning).ty (Ok c.args.a.now) =
+    let done : RelatedForms M r q r.ambient a b (q.meaning).ty (Ok c.args.a.now) =
     types_related M r.ambient a b i (q.meaning).ty c.args.a.now c.requires.a_formed c.requires.b_formed alike inv.fronted inv.are_parts left
     right same_a k.left_known in
     let u = g.R.HasState.state c.note_args.new.r in
     let n = c.in_err-note_args in
     let failed = as_err c.from_residual-in_err-note_args.result n.field-0.0 c.from_residual-in_err-note_args.ensures.0
     c.from_residual-in_err-note_args.ensures.1 in
-    subst (λ z. Related M r u r.ambient a b (u.meaning).ty z) (sym failed)
+    subst (λ z. RelatedForms M r u r.ambient a b (u.meaning).ty z) (sym failed)
     (noted_refused M r.ambient a b (q.meaning).ty c.args.a.now done (Err n.field-0.0) n.ensures (built_as same_a same_b)
     (u.meaning).ty n.field-0.0
     refl)
@@ -1514,7 +1485,7 @@ structurally_relate_tys-make_ty-requires-clause-ty_known g t c =
     let end = (c.loop-i.auto).i-end in
     let left : i ≡ count (parts_of a) = omega (arith, test, end, inv.left_count) in
     let right : i ≡ count (parts_of b) = omega (arith, test, end, inv.right_count) in
-    let done : Related M r q r.ambient a b (q.meaning).ty (Ok c.args.a.now) =
+    let done : RelatedForms M r q r.ambient a b (q.meaning).ty (Ok c.args.a.now) =
     types_related M r.ambient a b i (q.meaning).ty c.args.a.now c.requires.a_formed c.requires.b_formed alike inv.fronted inv.are_parts left
     right same_a k.left_known in
     let u = g.R.HasState.state c.note_args.new.r in
@@ -1564,7 +1535,7 @@ structurally_relate_tys-make_ty-requires-clause-parts_known g t c =
     let end = (c.loop-i.auto).i-end in
     let left : i ≡ count (parts_of a) = omega (arith, test, end, inv.left_count) in
     let right : i ≡ count (parts_of b) = omega (arith, test, end, inv.right_count) in
-    let done : Related M r q r.ambient a b (q.meaning).ty (Ok c.args.a.now) =
+    let done : RelatedForms M r q r.ambient a b (q.meaning).ty (Ok c.args.a.now) =
     types_related M r.ambient a b i (q.meaning).ty c.args.a.now c.requires.a_formed c.requires.b_formed alike inv.fronted inv.are_parts left
     right same_a k.left_known in
     let u = g.R.HasState.state c.note_args.new.r in
@@ -1600,7 +1571,7 @@ structurally_relate_tys-make_ty-requires-clause-fits g t c =
     let end = (c.loop-i.auto).i-end in
     let left : i ≡ count (parts_of a) = omega (arith, test, end, inv.left_count) in
     let right : i ≡ count (parts_of b) = omega (arith, test, end, inv.right_count) in
-    let done : Related M r q r.ambient a b (q.meaning).ty (Ok c.args.a.now) =
+    let done : RelatedForms M r q r.ambient a b (q.meaning).ty (Ok c.args.a.now) =
     types_related M r.ambient a b i (q.meaning).ty c.args.a.now c.requires.a_formed c.requires.b_formed alike inv.fronted inv.are_parts left
     right same_a k.left_known in
     let u = g.R.HasState.state c.note_args.new.r in
@@ -1636,7 +1607,7 @@ structurally_relate_tys-returns g t c =
     let end = (c.loop-i.auto).i-end in
     let left : i ≡ count (parts_of a) = omega (arith, test, end, inv.left_count) in
     let right : i ≡ count (parts_of b) = omega (arith, test, end, inv.right_count) in
-    let done : Related M r q r.ambient a b (q.meaning).ty (Ok c.args.a.now) =
+    let done : RelatedForms M r q r.ambient a b (q.meaning).ty (Ok c.args.a.now) =
     types_related M r.ambient a b i (q.meaning).ty c.args.a.now c.requires.a_formed c.requires.b_formed alike inv.fronted inv.are_parts left
     right same_a k.left_known in
     let u = g.R.HasState.state c.note_args.new.r in
@@ -1792,7 +1763,7 @@ relate_in_order-returns-in_err-compare_members_of g t c =
     let unlike = subst₂ (λ x y. PartError q.meaning x y n.field-0.0) same_a same_b n.ensures in
     let failed = as_err c.from_residual.result (Unrelated n.field-0.0) c.from_residual.ensures.0 c.from_residual.ensures.1 in
     record {
-      related = subst (λ u. Related M r q r.ambient a b (part_tree q.meaning) u) (sym failed)
+      related = subst (λ u. RelatedForms M r q r.ambient a b (part_tree q.meaning) u) (sym failed)
           (terms_unlike M r.ambient a b i form (part_tree q.meaning) (part_sort c.args.a.now) (part_sort c.args.b.now)
           n.field-0.0 c.requires.decides other ta tb k.left_known k.right_known unlike inv.fronted);
       sort = subst (λ u. IfOk u (λ z. part_sort z ≡ part_sort c.args.a.now)) (sym failed) tt;
@@ -2104,7 +2075,7 @@ relate_in_order-returns-in_err-answer g t c =
     let failed = as_err c.from_residual-in_err-answer.result n.field-0.0 c.from_residual-in_err-answer.ensures.0
     c.from_residual-in_err-answer.ensures.1 in
     record {
-      related = subst (λ u. Related M r p r.ambient a b (part_tree p.meaning) u) (sym failed)
+      related = subst (λ u. RelatedForms M r p r.ambient a b (part_tree p.meaning) u) (sym failed)
           (term_refused M r.ambient a b i form alike inv.fronted inv.are_parts (part_sort c.args.a.now)
           (part_sort c.args.b.now) ta tb inv.inputs x y lx ly ex ey (part_tree p.meaning) (part_tree p.meaning) z.0
           n.field-0.0 z.2 gone);
@@ -2227,7 +2198,7 @@ relate_in_order-returns-in_err-push g t c =
     let failed = as_err c.from_residual-in_err-push.result Memory c.from_residual-in_err-push.ensures.0
     c.from_residual-in_err-push.ensures.1 in
     record {
-      related = subst (λ z. Related M r p r.ambient a b (part_tree p.meaning) z) (sym failed)
+      related = subst (λ z. RelatedForms M r p r.ambient a b (part_tree p.meaning) z) (sym failed)
           (terms_stopped M r.ambient a b (suc i) form (part_tree p.meaning) next);
       sort = subst (λ u. IfOk u (λ z. part_sort z ≡ part_sort c.args.a.now)) (sym failed) tt;
       predicate = subst (λ u. IfOk u (λ z. form_of_part z ≡ form_of_part c.args.a.now)) (sym failed) tt;
@@ -2333,7 +2304,7 @@ relate_in_order-returns g t c =
     let right : i ≡ count (parts_of b) = omega (arith, test, end, inv.right_count) in
     let items = c.loop-i.answers.items in
     let was = list_tree (part_tree q.meaning) items in
-    let done : Related M r q r.ambient a b (part_tree q.meaning) (Ok c.args.a.now) =
+    let done : RelatedForms M r q r.ambient a b (part_tree q.meaning) (Ok c.args.a.now) =
     terms_answer M r.ambient a b i form (part_tree q.meaning) c.args.a.now alike inv.fronted inv.are_parts left right
     same_a k.left_known in
     let p = g.R.HasState.state c.make_part.new.r in
@@ -2665,8 +2636,17 @@ relate_parts-returns-in_ok-compare_parts_of-in-Form g t c =
     let a = part_tree r.meaning c.args.a.now in
     let b = part_tree r.meaning c.args.b.now in
     let res = c.relate_in_order.result in
+    let q = g.R.HasState.state c.relate_in_order.new.r in
+    let cx = g.R.TypeRelation.interner c.args.r.now in
+    let sorted : Sorted r.meaning = subst (λ m. Sorted m) (sym (g.met.R.TypeRelation.reads c.args.r.now)) (g.met.I.Interner.sorted cx) in
+    let no_arg : IsArgPart c.args.a.now → ⊥ = λ o. let e = (c.in-Form.ensures.argument).1 o in absurd (cc) in
+    let no_binder : IsBinderPart c.args.a.now → ⊥ = λ o. let e = (c.in-Form.ensures.binder).1 o in absurd (cc) in
+    let kind : IsComparedPart c.args.a.now = form_compared c.args.a.now c.requires.kind no_arg no_binder in
+    let form = compared_is r.meaning sorted c.args.a.now kind (c.requires.asked).left_known in
     record {
-      related = (c.relate_in_order.ensures).related;
+      related = forms_met M r.ambient a b (part_tree q.meaning) res
+          (form_not_left r.kept.settings a b form (c.in_ok-compare_parts_of-in-Form.ensures).alike)
+          (c.relate_in_order.ensures).related;
       sort = (c.relate_in_order.ensures).sort;
       predicate = (c.relate_in_order.ensures).predicate;
       alike = λ o. on_ok res (AreOfOneForm a b) (c.in_ok-compare_parts_of-in-Form.ensures).alike;
@@ -2722,7 +2702,7 @@ structurally_relate_tys-returns-in_err-relate_in_order g t c =
     let res = c.from_residual-in_err-relate_in_order.result in
     let failed = as_err res n.field-0.0 c.from_residual-in_err-relate_in_order.ensures.0
     c.from_residual-in_err-relate_in_order.ensures.1 in
-    subst (λ z. Related M r q r.ambient a b (q.meaning).ty z) (sym failed)
+    subst (λ z. RelatedForms M r q r.ambient a b (q.meaning).ty z) (sym failed)
     (refused_again M r.ambient a b (part_tree q.meaning) (q.meaning).ty n.field-0.0 (n.ensures).related)
 
 pub structurally_relate_tys-returns-then-is_by_parts_of : goal.structurally_relate_tys-returns-then-is_by_parts_of

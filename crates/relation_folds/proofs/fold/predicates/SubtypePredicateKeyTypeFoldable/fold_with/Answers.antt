@@ -1,16 +1,12 @@
-use Rattle.std.proofs.Common.{◌≡◌, ap, IsTrue, Bool, true, false, refl}
-use Rattle.std.proofs.Math.Bool.{beq}
+use Rattle.std.proofs.Common.{◌≡◌, ap}
 use Rattle.std.specs.Cmp.Derive.{both_true}
 use Rattle.relation_terms.specs.Trees.{nth}
 use Rattle.relation_terms.specs.Parts.{parts_of}
+use Rattle.relation_terms.proofs.Same.{bool_self}
 use Rattle.relation_folds.specs.Folds.{folded}
 use Rattle.relation_folds.proofs.Folding.{left_later}
 use Rattle.relation_folds.proofs.FieldFolding.{two_known}
 use Rattle.relation_folds.proofs.fold.predicates.SubtypePredicateKeyTypeFoldable.fold_with.Goals as goal
-
-bool_self : (a : Bool) → IsTrue (beq a a)
-bool_self true = refl
-bool_self false = refl
 
 pub returns-clause-same : goal.returns-clause-same
 returns-clause-same g c = λ q.
