@@ -85,12 +85,13 @@ pub read_from : (st : Store) (a b x y : Tree) → IsReadAs st a x → IsReadAs s
 read_from st a b x y p q = λ k ha hb all. (built_read k st all a x p ha, built_read k st all b y q hb)
 
 -- So is what is read as another, and what two terms stand for by another name.
-pub built_again : {st : Store} {a b x y t u : Tree} → BuiltFrom st a b x y → t ≡ x → u ≡ y → BuiltFrom st a b t u
-built_again f e d = λ k ha hb all.
+pub built_again : (st : Store) (a b : Tree) {x y t u : Tree} → BuiltFrom st a b x y → t ≡ x → u ≡ y →
+    BuiltFrom st a b t u
+built_again st a b f e d = λ k ha hb all.
     let z = f k ha hb all in (subst (IsBuiltOf k) (sym e) z.0, subst (IsBuiltOf k) (sym d) z.1)
 
-pub built_as : {st : Store} {a b t u : Tree} → t ≡ a → u ≡ b → BuiltFrom st a b t u
-built_as e d = built_again (λ k ha hb all. (ha, hb)) e d
+pub built_as : (st : Store) {a b t u : Tree} → t ≡ a → u ≡ b → BuiltFrom st a b t u
+built_as st {a} {b} e d = built_again st a b (λ k ha hb all. (ha, hb)) e d
 
 -- So is what a term comes to.
 apply_built : (k : Kit) (s : Assign) → ((j : VarKind) (n : ℕ) → IsBuiltOf k (s j n)) → (t : Tree) → IsBuiltOf k t →

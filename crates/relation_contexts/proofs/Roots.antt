@@ -1,5 +1,5 @@
 -- Two unbound variables of a kind were made one, or one variable was equated with itself.
-use Rattle.std.proofs.Common.{◌≡◌, ◌≢◌, ◌⊎◌, ℕ, ◌≤◌, max, min, refl, sym, ap, ap₂, ◌∙◌, arith, inl, inr, subst, subst₂, Some}
+use Rattle.std.proofs.Common.{◌≡◌, ◌≢◌, ◌⊎◌, ℕ, ◌≤◌, max, min, refl, sym, ap, ap₂, ◌∙◌, arith, inl, inr, subst, subst₂, Some, []}
 use native.Mathlib.Decide.{ℕ_discrete, dec_le}
 use Rattle.relation_terms.specs.Heads.{VarKind, region_var, variable}
 use Rattle.relation_terms.specs.Trees.{Tree, leaf, Assign, apply}

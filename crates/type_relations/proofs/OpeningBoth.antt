@@ -152,9 +152,9 @@ bodies_error m k c st v e ks ls t u x y p q o =
     of_bodies p.trees q.trees refl refl p.stand q.stand (subst₂ (ErrorOf m k c st v e) p.put q.put o)
 
 -- Opened bodies are built of what the binders are.
-pub bodies_built : {st : Store} (ks ls : List BoundKind) (t u x y : Tree) → StandIns ks t x → StandIns ls u y →
+pub bodies_built : (st : Store) (ks ls : List BoundKind) (t u x y : Tree) → StandIns ks t x → StandIns ls u y →
     BuiltFrom st (bind ks t) (bind ls u) x y
-bodies_built ks ls t u x y p q = λ k ha hb all.
+bodies_built st ks ls t u x y p q = λ k ha hb all.
     (body_built k ks p.trees t x p.stand p.put ha.1, body_built k ls q.trees u y q.stand q.put hb.1)
 
 -- Two binders agree if the opened bodies do.

@@ -107,8 +107,8 @@ module _ {Key Id Name : Type 0} (r q : State Key Id Name) (g : IsSound r.store) 
     agrees = λ c z. agree_read c r.store g r.ambient a b u w p o (h.agrees c z);
   }
 
-  read_built : {x y : Tree} → BuiltFrom r.store u w x y → BuiltFrom r.store a b x y
-  read_built f k ha hb all = f k (built_read k r.store all a u p ha) (built_read k r.store all b w o hb) all
+  read_built : (x y : Tree) → BuiltFrom r.store u w x y → BuiltFrom r.store a b x y
+  read_built x y f k ha hb all = f k (built_read k r.store all a u p ha) (built_read k r.store all b w o hb) all
 
   as_read : LeadsInUniverse r.store r.store a b u w
   as_read = reading_leads r.store g a b u w p o
@@ -138,7 +138,7 @@ module _ {Key Id Name : Type 0} (r q : State Key Id Name) (g : IsSound r.store) 
         not_left = h.not_left;
         answers = λ t i s sat all f. subst (λ z. Rel (items_in q) i q.kept.environment (at r.ambient) z (apply s t))
             (sym (value_a i s (shrinks i s sat))) (h.answers t i s sat all f);
-        built = read_built h.built;
+        built = read_built (tree x) (tree y) h.built;
         same_budget = h.same_budget;
         not_larger = let e = as_large in let l = h.not_larger in omega (arith, e, l);
       }
@@ -153,8 +153,8 @@ module _ {Key Id Name : Type 0} (r q : State Key Id Name) (g : IsSound r.store) 
         answer_known = h.answer_known;
         falls = h.falls;
         may_instantiate = h.may_instantiate;
-        built = read_built h.built;
-        read_built = read_built h.read_built;
+        built = read_built (tree x) (tree y) h.built;
+        read_built = read_built (tree k) (tree l) h.read_built;
         not_larger = subst (λ z. weight q.store (tree x) + weight q.store (tree y) ≤ grown 1 z) (sym as_large) h.not_larger;
       }
       read_verdict (Err (Unrelated e)) h = (

@@ -187,7 +187,7 @@ module _ {Key Id Name : Type 0} (aliases : StructurallyRelateAliases) (j : ℕ)
           bodies_error m set i st v f ks ls t u x y both.instantiated_for both.entered_for o;
       agrees = λ i o.
           bodies_agree i v ks ls t u x y both.instantiated_for both.entered_for binds binds_too o;
-      built = bodies_built ks ls t u x y both.instantiated_for both.entered_for;
+      built = bodies_built c.store ks ls t u x y both.instantiated_for both.entered_for;
       same_budget = both.same_budget;
       smaller = let h = both.smaller in omega (arith, h);
     }
@@ -217,7 +217,7 @@ module _ {Key Id Name : Type 0} (aliases : StructurallyRelateAliases) (j : ℕ)
           bodies_error m set i st v f ks ls t u x y both.entered_for both.instantiated_for o;
       agrees = λ i o.
           bodies_agree i v ks ls t u x y both.entered_for both.instantiated_for binds binds_too o;
-      built = bodies_built ks ls t u x y both.entered_for both.instantiated_for;
+      built = bodies_built c.store ks ls t u x y both.entered_for both.instantiated_for;
       same_budget = both.same_budget;
       smaller = both.smaller;
     }
@@ -302,7 +302,7 @@ module _ {Key Id Name T : Type 0} (aliases : StructurallyRelateAliases) (j : ℕ
             bodies_error m set i st v f ks ls t u t u (unused_stand_ins ks t w.0) (unused_stand_ins ls u w.1) o;
         agrees = λ i o. bodies_agree i v ks ls t u t u (unused_stand_ins ks t w.0) (unused_stand_ins ls u w.1)
             k.left_taken.1.0 k.right_taken.1.0 o;
-        built = bodies_built ks ls t u t u (unused_stand_ins ks t w.0) (unused_stand_ins ls u w.1);
+        built = bodies_built c.store ks ls t u t u (unused_stand_ins ks t w.0) (unused_stand_ins ls u w.1);
         same_budget = refl;
         smaller = bodies_smaller c.store ks ls t u;
       })) (built_itself c.store (bind ks t) (bind ls u))

@@ -97,7 +97,7 @@ returns-in_err-note_declared g c =
     (λ k. node (args_head (q.meaning) v) ((q.meaning).args k)) (p.meaning).ty n.field-0.0
     (noted_refused M r.ambient (m.ty c.args.a_ty.now) (m.ty c.args.b_ty.now)
     (λ k. node (args_head (q.meaning) v) ((q.meaning).args k)) args done (Err n.field-0.0) n.ensures
-    (built_as (((done.passes).extends).ty c.args.a_ty.now (c.requires.asked).left_known)
+    (built_as r.store (((done.passes).extends).ty c.args.a_ty.now (c.requires.asked).left_known)
     (((done.passes).extends).ty c.args.b_ty.now (c.requires.asked).right_known))
     (λ k. node (args_head (q.meaning) v) ((q.meaning).args k)) n.field-0.0 refl))
 
@@ -141,7 +141,7 @@ returns g c =
     (done.verdict).known) in
     let first = (done.passes).extends in
     let noted = noted_related M r.ambient a b (λ k. node (args_head (q.meaning) v) ((q.meaning).args k)) args done
-    (Ok n.field-0) n.ensures (built_as (first.ty c.args.a_ty.now k.left_known) (first.ty c.args.b_ty.now k.right_known))
+    (Ok n.field-0) n.ensures (built_as r.store (first.ty c.args.a_ty.now k.left_known) (first.ty c.args.b_ty.now k.right_known))
     answer same in
     let a_stays : (p.meaning).ty c.args.a_ty.now ≡ a = e.ty c.args.a_ty.now
     (subst (λ z. IsTrue (known z)) (sym (first.ty c.args.a_ty.now k.left_known)) k.left_known)

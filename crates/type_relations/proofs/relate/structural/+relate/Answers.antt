@@ -344,7 +344,7 @@ tys-returns-in_err-tys_done-in-Parts-clause-related g t c =
     c.from_residual-in_err-tys_done-in-Parts.ensures.0 c.from_residual-in_err-tys_done-in-Parts.ensures.1 in
     subst (λ z. Related M r u r.ambient a b (u.meaning).ty z) (sym failed)
     (noted_refused M r.ambient a b (p.meaning).ty z.answer done (Err e.field-0.0) e.ensures
-    (built_again (step.verdict).built (((inner.passes).extends).ty c.in-Parts.a ((step.verdict).asked).left_known)
+    (built_again r.store a b (step.verdict).built (((inner.passes).extends).ty c.in-Parts.a ((step.verdict).asked).left_known)
     (((inner.passes).extends).ty c.in-Parts.b ((step.verdict).asked).right_known)) (u.meaning).ty e.field-0.0 refl)
 
 pub tys-returns-in_ok-tys_done-in-Parts-clause-related : goal.tys-returns-in_ok-tys_done-in-Parts-clause-related
@@ -366,7 +366,7 @@ tys-returns-in_ok-tys_done-in-Parts-clause-related g t c =
     let u = g.R.HasState.state c.tys_done.new.self in
     let n = c.in_ok-tys_done-in-Parts in
     noted_related M r.ambient a b (p.meaning).ty z.answer done (Ok n.field-0) n.ensures
-    (built_again (step.verdict).built (((inner.passes).extends).ty c.in-Parts.a ((step.verdict).asked).left_known)
+    (built_again r.store a b (step.verdict).built (((inner.passes).extends).ty c.in-Parts.a ((step.verdict).asked).left_known)
     (((inner.passes).extends).ty c.in-Parts.b ((step.verdict).asked).right_known)) (u.meaning).ty
     ((((n.ensures).passes).extends).ty z.answer (done.verdict).known)
 
@@ -458,7 +458,7 @@ tys-returns-in_err-tys_done-in-Again-clause-related g t c =
     c.from_residual-in_err-tys_done-in-Again.ensures.0 c.from_residual-in_err-tys_done-in-Again.ensures.1 in
     subst (λ z. Related M r u r.ambient a b (u.meaning).ty z) (sym failed)
     (noted_refused M r.ambient a b (p.meaning).ty c.in-Again.answer done (Err e.field-0.0) e.ensures
-    (built_again (step.verdict).read_built (((inner.passes).extends).ty c.in-Again.a ((step.verdict).read_asked).left_known)
+    (built_again r.store a b (step.verdict).read_built (((inner.passes).extends).ty c.in-Again.a ((step.verdict).read_asked).left_known)
     (((inner.passes).extends).ty c.in-Again.b ((step.verdict).read_asked).right_known)) (u.meaning).ty e.field-0.0 refl)
 
 pub tys-returns-in_ok-tys_done-in-Again-clause-related : goal.tys-returns-in_ok-tys_done-in-Again-clause-related
@@ -486,7 +486,7 @@ tys-returns-in_ok-tys_done-in-Again-clause-related g t c =
     let u = g.R.HasState.state c.tys_done-in-Again.new.self in
     let n = c.in_ok-tys_done-in-Again in
     noted_related M r.ambient a b (p.meaning).ty c.in-Again.answer done (Ok n.field-0) n.ensures
-    (built_again (step.verdict).read_built (((inner.passes).extends).ty c.in-Again.a ((step.verdict).read_asked).left_known)
+    (built_again r.store a b (step.verdict).read_built (((inner.passes).extends).ty c.in-Again.a ((step.verdict).read_asked).left_known)
     (((inner.passes).extends).ty c.in-Again.b ((step.verdict).read_asked).right_known)) (u.meaning).ty
     ((((n.ensures).passes).extends).ty c.in-Again.answer (done.verdict).known)
 
@@ -1463,7 +1463,7 @@ structurally_relate_tys-returns-in_err-note_args g t c =
     let failed = as_err c.from_residual-in_err-note_args.result n.field-0.0 c.from_residual-in_err-note_args.ensures.0
     c.from_residual-in_err-note_args.ensures.1 in
     subst (λ z. RelatedForms M r u r.ambient a b (u.meaning).ty z) (sym failed)
-    (noted_refused M r.ambient a b (q.meaning).ty c.args.a.now done (Err n.field-0.0) n.ensures (built_as same_a same_b)
+    (noted_refused M r.ambient a b (q.meaning).ty c.args.a.now done (Err n.field-0.0) n.ensures (built_as r.store same_a same_b)
     (u.meaning).ty n.field-0.0
     refl)
 
@@ -1490,7 +1490,7 @@ structurally_relate_tys-make_ty-requires-clause-ty_known g t c =
     right same_a k.left_known in
     let u = g.R.HasState.state c.note_args.new.r in
     let n = c.in_ok-note_args in
-    let noted = noted_related M r.ambient a b (q.meaning).ty c.args.a.now done (Ok n.field-0) n.ensures (built_as same_a same_b)
+    let noted = noted_related M r.ambient a b (q.meaning).ty c.args.a.now done (Ok n.field-0) n.ensures (built_as r.store same_a same_b)
     (u.meaning).ty
     ((((n.ensures).passes).extends).ty c.args.a.now (subst (λ z. IsTrue (known z)) (sym same_a) k.left_known)) in
     let e = ((n.ensures).passes).extends in
@@ -1540,7 +1540,7 @@ structurally_relate_tys-make_ty-requires-clause-parts_known g t c =
     right same_a k.left_known in
     let u = g.R.HasState.state c.note_args.new.r in
     let n = c.in_ok-note_args in
-    let noted = noted_related M r.ambient a b (q.meaning).ty c.args.a.now done (Ok n.field-0) n.ensures (built_as same_a same_b)
+    let noted = noted_related M r.ambient a b (q.meaning).ty c.args.a.now done (Ok n.field-0) n.ensures (built_as r.store same_a same_b)
     (u.meaning).ty
     ((((n.ensures).passes).extends).ty c.args.a.now (subst (λ z. IsTrue (known z)) (sym same_a) k.left_known)) in
     let e = ((n.ensures).passes).extends in
@@ -1576,7 +1576,7 @@ structurally_relate_tys-make_ty-requires-clause-fits g t c =
     right same_a k.left_known in
     let u = g.R.HasState.state c.note_args.new.r in
     let n = c.in_ok-note_args in
-    let noted = noted_related M r.ambient a b (q.meaning).ty c.args.a.now done (Ok n.field-0) n.ensures (built_as same_a same_b)
+    let noted = noted_related M r.ambient a b (q.meaning).ty c.args.a.now done (Ok n.field-0) n.ensures (built_as r.store same_a same_b)
     (u.meaning).ty
     ((((n.ensures).passes).extends).ty c.args.a.now (subst (λ z. IsTrue (known z)) (sym same_a) k.left_known)) in
     let e = ((n.ensures).passes).extends in
@@ -1612,7 +1612,7 @@ structurally_relate_tys-returns g t c =
     right same_a k.left_known in
     let u = g.R.HasState.state c.note_args.new.r in
     let n = c.in_ok-note_args in
-    let noted = noted_related M r.ambient a b (q.meaning).ty c.args.a.now done (Ok n.field-0) n.ensures (built_as same_a same_b)
+    let noted = noted_related M r.ambient a b (q.meaning).ty c.args.a.now done (Ok n.field-0) n.ensures (built_as r.store same_a same_b)
     (u.meaning).ty
     ((((n.ensures).passes).extends).ty c.args.a.now (subst (λ z. IsTrue (known z)) (sym same_a) k.left_known)) in
     let e = ((n.ensures).passes).extends in
