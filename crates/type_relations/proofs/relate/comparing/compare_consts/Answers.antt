@@ -33,18 +33,18 @@ returns-else-parameter-other-clause-alike g c =
     let m = g.I.Interner.meaning c.args.cx.now in
     const_parameters (c.const_kind.ensures ∙ ap (const_tree m) c.in-Param.is) (c.const_kind-right.ensures ∙ ap (const_tree m) c.in-Param-right.is) (ap (λ i. const_param i 0) c.if-parameter-other.false)
 
-pub returns-then-a-clause-errors : goal.returns-then-a-clause-errors
-returns-then-a-clause-errors g c =
+pub returns-then-ne-clause-errors : goal.returns-then-ne-clause-errors
+returns-then-ne-clause-errors g c =
     let m = g.I.Interner.meaning c.args.cx.now in
     let same = g.met.I.Interner.same_const c.args.cx.now c.args.a.now c.args.b.now c.requires.a_known c.requires.b_known in
-    let differ : m.const_ c.args.a.now ≢ m.const_ c.args.b.now = λ e. (let d = same.1 e in let t = c.if-a.true in let h = c.ne-a.ensures in search rules) in
-    unlike_const m (Placeholder c.in-Placeholder.field-0) c.const_kind-right.result c.args.a.now c.args.b.now c.unlike_consts-then-a.result (c.const_kind.ensures ∙ ap (const_tree m) c.in-Placeholder.is) c.const_kind-right.ensures c.requires.a_covered c.requires.b_covered (λ e. differ ((c.const_kind.ensures ∙ ap (const_tree m) c.in-Placeholder.is) ∙ e ∙ sym c.const_kind-right.ensures)) c.unlike_consts-then-a.ensures
+    let differ : m.const_ c.args.a.now ≢ m.const_ c.args.b.now = (λ e. (let d = same.1 e in let t = c.if-ne.true in let h = c.ne.ensures in let k = c.if-ne.ensures in search rules)) in
+    unlike_const m (Placeholder c.in-Placeholder.field-0) c.const_kind-right.result c.args.a.now c.args.b.now c.unlike_consts-then-ne.result (c.const_kind.ensures ∙ ap (const_tree m) c.in-Placeholder.is) c.const_kind-right.ensures c.requires.a_covered c.requires.b_covered (λ e. differ ((c.const_kind.ensures ∙ ap (const_tree m) c.in-Placeholder.is) ∙ e ∙ sym c.const_kind-right.ensures)) c.unlike_consts-then-ne.ensures
 
-pub returns-else-a-clause-alike : goal.returns-else-a-clause-alike
-returns-else-a-clause-alike g c =
+pub returns-else-ne-clause-alike : goal.returns-else-ne-clause-alike
+returns-else-ne-clause-alike g c =
     let m = g.I.Interner.meaning c.args.cx.now in
     let same = g.met.I.Interner.same_const c.args.cx.now c.args.a.now c.args.b.now c.requires.a_known c.requires.b_known in
-    let one : m.const_ c.args.a.now ≡ m.const_ c.args.b.now = same.0 (let t = c.if-a.false in let h = c.ne-a.ensures in search rules) in
+    let one : m.const_ c.args.a.now ≡ m.const_ c.args.b.now = same.0 (let t = c.if-ne.false in let h = c.ne.ensures in let k = c.if-ne.ensures in search rules) in
     let left = c.const_kind.ensures ∙ ap (const_tree m) c.in-Placeholder.is in
     one_const_leaf left (sym one ∙ left)
 
@@ -58,10 +58,10 @@ returns-else-not-is_one_value-clause-alike g c =
     let m = g.I.Interner.meaning c.args.cx.now in
     values (c.const_kind.ensures ∙ ap (const_tree m) c.in-Value.is) (c.const_kind-right.ensures ∙ ap (const_tree m) c.in-Value-right.is) (c.if-not-is_one_value.ensures.one refl)
 
-pub returns-then-ne-clause-errors : goal.returns-then-ne-clause-errors
-returns-then-ne-clause-errors g c =
+pub returns-then-ne-2-clause-errors : goal.returns-then-ne-2-clause-errors
+returns-then-ne-2-clause-errors g c =
     let m = g.I.Interner.meaning c.args.cx.now in
-    let differ : c.in-Expr.kind ≢ c.in-Expr-right.other_kind = (λ e. (let t = c.if-ne.true in let h = c.ne.ensures in let k = c.if-ne.ensures in search rules)) in
+    let differ : c.in-Expr.kind ≢ c.in-Expr-right.other_kind = (λ e. (let t = c.if-ne-2.true in let h = c.ne-in-Expr.ensures in let k = c.if-ne-2.ensures in search rules)) in
     operations (c.const_kind.ensures ∙ ap (const_tree m) c.in-Expr.is) (c.const_kind-right.ensures ∙ ap (const_tree m) c.in-Expr-right.is) (inl (λ e. differ (ap (λ n. record { 0 = n }) e)))
 
 pub returns-then-args-clause-errors : goal.returns-then-args-clause-errors
@@ -72,5 +72,5 @@ returns-then-args-clause-errors g c =
 pub returns-else-args-clause-alike : goal.returns-else-args-clause-alike
 returns-else-args-clause-alike g c =
     let m = g.I.Interner.meaning c.args.cx.now in
-    let one : c.in-Expr.kind ≡ c.in-Expr-right.other_kind = (let t = c.if-ne.false in let h = c.ne.ensures in let k = c.if-ne.ensures in search rules) in
+    let one : c.in-Expr.kind ≡ c.in-Expr-right.other_kind = (let t = c.if-ne-2.false in let h = c.ne-in-Expr.ensures in let k = c.if-ne-2.ensures in search rules) in
     expressions (c.const_kind.ensures ∙ ap (const_tree m) c.in-Expr.is) ((c.const_kind-right.ensures ∙ ap (const_tree m) c.in-Expr-right.is) ∙ ap (λ k. node (expression k.0) (m.args c.in-Expr-right.other)) (sym one)) ((ap count c.args-in-Expr.ensures ∙ list_count (arg_tree m) c.args-in-Expr.result.now) ∙ c.if-args.false ∙ sym (ap count c.args-in-Expr-2.ensures ∙ list_count (arg_tree m) c.args-in-Expr-2.result.now))
