@@ -5,7 +5,7 @@ use Rattle.relation_contexts.specs.Lawful.{Related}
 use Rattle.type_relations.specs.Rounds.{Opened}
 use Rattle.relation_contexts.proofs.Passing.{as_err}
 use Rattle.type_relations.proofs.RelatableForms.{equal_binders, stays_binder, still_asked, related_bodies}
-use Rattle.type_relations.proofs.Rounds.{under_known, first_refused, first_done, reopening_refused, nothing_left}
+use Rattle.type_relations.proofs.Rounds.{under_known, opening_refused, first_refused, first_done, reopening_refused, nothing_left}
 use Rattle.type_relations.proofs.Rounds.{second_refused, second_related}
 use Rattle.type_relations.proofs.StructuralConsts.{itself_related}
 use Rattle.type_relations.proofs.relate.relatable.binder.BinderKeyRelate.relate.Goals as goal
@@ -24,6 +24,23 @@ returns-then-eq-clause-related g c =
     g.I.Key.PartialEq.eq (g.met.T.Relate.same cx) (g.met.I.Interner.same_bound_vars cx) c.args.a.now c.args.b.now
     k.left_known k.right_known (sym c.if-eq.ensures) in
     itself_related M r r.ambient (binder_tree tree r.meaning) a b c.args.a.now one refl k.left_known
+
+pub returns-in_err-bodies-clause-related : goal.returns-in_err-bodies-clause-related
+returns-in_err-bodies-clause-related g c =
+    let r = g.R.HasState.state c.args.r.now in
+    let M = g.R.TypeRelation.manner in
+    let tree = g.T.HasTree.tree in
+    let a = binder_tree tree r.meaning c.args.a.now in
+    let b = binder_tree tree r.meaning c.args.b.now in
+    let k = c.requires.asked in
+    let never = under_known ((r.meaning).bound_vars c.args.a.now.bound_vars) (tree r.meaning c.args.a.now.value)
+    k.left_known in
+    let q = g.R.HasState.state c.open_binders.new.self in
+    let e = c.in_err-bodies in
+    let res = c.from_residual in
+    let failed = as_err res.result e.field-0.0 res.ensures.0 res.ensures.1 in
+    subst (λ z. Related M r q r.ambient a b (binder_tree tree q.meaning) z) (sym failed)
+    (opening_refused M 0 a b (tree q.meaning) (binder_tree tree q.meaning) never e.field-0.0 e.ensures)
 
 pub returns-in_err-relate-clause-related : goal.returns-in_err-relate-clause-related
 returns-in_err-relate-clause-related g c =
