@@ -605,6 +605,18 @@ module _ {Key Id Name : Type 0} where
   step_done M F a b tree t s =
       record { passes = s.passes; verdict = s.verdict; exact = s.exact; full = s.full; built = s.built }
 
+  -- A step that refuses.
+  pub step_refused : {K X : Type 0} {r q : State Key Id Name} (M : Manners) (F : Tree → Type 0) (a b : Tree)
+      (tree : K → Tree) (answer : X → Tree) (e : RelateFault Key Id Name) → Stepped M F r q a b tree (Err e) →
+      Related M r q r.ambient a b answer (Err e)
+  step_refused {K} {X} {r} {q} M F a b tree answer e s = record {
+    passes = s.passes;
+    verdict = s.verdict;
+    exact = λ k is pair. exact_fault K X r.store q.store a b e (s.exact k is pair);
+    full = s.full;
+    built = s.built;
+  }
+
   -- The same answer in other words, and the same fault.
   pub retold : {X Y : Type 0} {w : Meeting} {r q : State Key Id Name} (M : Manners) (v : Variance) (a b : Tree) (tree : X → Tree) (t : X)
       (answer : Y → Tree) (z : Y) → answer z ≡ tree t → RelatedAs w M r q (at v) a b tree (Ok t) →

@@ -136,14 +136,14 @@ module _ {Key Id Name : Type 0} {r q : State Key Id Name} (M : Manners) (v : Var
       (are : AreParts r.store (parts_of a) (parts_of b)) (k l : Sort) (ta : IsTerm k a) (tb : IsTerm l b)
       (many : HaveAsManyInputs a b i) (x y : Tree) (lx : i < count (parts_of a)) (ly : i < count (parts_of b))
       (ex : x ≡ nth i (parts_of a)) (ey : y ≡ nth i (parts_of b)) where
-    term_refuses : {w : Meeting} {n : ℕ} {p : State Key Id Name} (g : Passes n q p) (e d : RelateFault Key Id Name) →
+    term_refuses : (w : Meeting) {n : ℕ} {p : State Key Id Name} (g : Passes n q p) (e d : RelateFault Key Id Name) →
         IsFaultOfPart (named_place a i) e d → Refuses q p (part_at (items_in r) (head_of a) i v) x y e →
         RefusesAs w r p (at v) a b d
-    term_refuses {w = w} {p = p} g Memory d t h =
+    term_refuses w {p = p} g Memory d t h =
         subst (RefusesAs w r p (at v) a b) (sym (same_part_fault (named_place a i) Memory d t (λ e z. cc))) tt
-    term_refuses {w = w} {p = p} g Budget d t h =
+    term_refuses w {p = p} g Budget d t h =
         subst (RefusesAs w r p (at v) a b) (sym (same_part_fault (named_place a i) Budget d t (λ e z. cc))) h
-    term_refuses {w = w} {p = p} g (Unrelated e) d t h =
+    term_refuses w {p = p} g (Unrelated e) d t h =
         let items : items_in p ≡ items_in r = same_items g ∙ same_items f.passes in
         let z = part_complains p.meaning p.kept.settings (items_in p) p.store v k l a b i ta tb form o lx x y ex ey many e d t
         (subst (λ c. ErrorOf p.meaning p.kept.settings (items_in p) p.store (part_at c (head_of a) i v) e x y) (sym items) h.1) in
@@ -182,7 +182,7 @@ module _ {Key Id Name : Type 0} {r q : State Key Id Name} (M : Manners) (v : Var
     term_refused {A} {B} {w} {p} tree answer e d t g = record {
       passes = passes_within (omega (arith, weight_parts_most r.store a, weight_parts_most r.store b))
           (fronted_passes (head_of a) v i (parts_of a) (parts_of b) x y f lx ly ex ey g.passes);
-      verdict = term_refuses g.passes e d t g.verdict;
+      verdict = term_refuses w g.passes e d t g.verdict;
       exact = term_exactly A B p e d t g.exact;
       full = λ ha hb. fronted_full (head_of a) v i (parts_of a) (parts_of b) x y f lx ly ex ey g.full
           (parts_plain a ha) (parts_plain b hb);

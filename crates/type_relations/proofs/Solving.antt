@@ -39,7 +39,6 @@ use Rattle.relation_contexts.specs.Kits.{StaysBuilt}
 use Rattle.relation_contexts.proofs.Building.{built_itself, built_same, built_constraint}
 use Rattle.relation_contexts.specs.Outcomes.{Outcome}
 use Rattle.relation_contexts.specs.Measures.{Goes}
-use Rattle.relation_contexts.specs.Errors.{ErrorOf}
 use Rattle.relation_contexts.specs.Parts.{IsFormedConst}
 use Rattle.relation_contexts.specs.Constraints.{constraint_at, constraint_of, asked_constraints}
 use Rattle.relation_contexts.specs.Lawful.{Passes, Related, Stepped, items_of, Kept, State}
@@ -54,7 +53,9 @@ use Rattle.type_relations.proofs.Constraints.{asked_relates, asked_met}
 use Rattle.type_relations.proofs.OverContext.{standing, roots_step as roots_equated}
 use Rattle.relation_contexts.proofs.Answering.{may_itself, same_environment}
 use Rattle.relation_contexts.proofs.OneUniverse.{keeps_pair, binds_itself, binds_none, standing_keeps}
-use Rattle.type_relations.specs.Solving.{KnowsGoals, Held, held_by, kept_in, solver_settings, solving, solving_through, solver_manner}
+use Rattle.type_relations.specs.Solving.{KnowsGoals, Held, held_by, kept_in, solving, solving_through, solver_manner}
+use Rattle.type_relations.specs.Solving.{solver_settings}
+use Rattle.relation_contexts.specs.Errors.{ErrorOf}
 use Rattle.relation_contexts.proofs.Registered.{goals_stay, goals_known, none_at_invariance}
 use Rattle.type_relations.proofs.Exactly.{region_value, regions_exactly}
 use Rattle.relation_contexts.proofs.Growing.{constraint_is_later, constraint_bound, constraint_weight}
@@ -397,10 +398,6 @@ module _ {Key Id Name X : Type 0} (j i : Held Key) (gs hs : List (KeyedGoal Key 
     built = h.built;
   }
     where
-      settings : solver_settings i.structurally_relate_aliases i.setup ≡ solver_settings j.structurally_relate_aliases i.setup
-      settings =
-          ap (λ (k : Kept Key). solver_settings (k.settings).structurally_relate_aliases i.setup) (h.passes).kept
-
       verdict : (r : Result X (RelateFault Key Id Name)) →
           Verdict solver_manner (solving j gs m was L v e) (solving i hs n now K v e) ((h.passes).added) v a b tree r →
           Verdict solver_manner (solving (seen_from j j) gs m was L v e) (solving (seen_from j i) hs n now K v e)
@@ -411,7 +408,12 @@ module _ {Key Id Name X : Type 0} (j i : Held Key) (gs hs : List (KeyedGoal Key 
         known = o.known;
         agrees = o.agrees;
       }
-      verdict (Err (Unrelated g)) o = (o.0, subst (λ k. ErrorOf n k (items_of n) now v g a b) settings o.1, o.2)
+      verdict (Err (Unrelated g)) o = (
+        o.0,
+        subst (λ x. ErrorOf n (solver_settings x i.setup) (items_of n) now v g a b)
+            (ap (λ k. (k.settings).structurally_relate_aliases) (h.passes).kept) o.1,
+        o.2,
+      )
       verdict (Err Budget) o = o
       verdict (Err Memory) o = tt
 

@@ -316,7 +316,7 @@ module _ {Key Id Name : Type 0} {X : Type 0} (M : Manners) (r : State Key Id Nam
       IsTrue (known ((r.meaning).ty x)) → IsTrue (known ((r.meaning).ty y)) → FormError r.meaning x y e →
       RelatedForms M r r v ((r.meaning).ty x) ((r.meaning).ty y) tree (Err (Unrelated e))
   types_differ x y e d f g s t k l h =
-      refused_here {as_forms} ((r.meaning).ty x) ((r.meaning).ty y) e (form_apart r.meaning r.store x y e f g s t h)
+      refused_here {w = as_forms} ((r.meaning).ty x) ((r.meaning).ty y) e (form_apart r.meaning r.store x y e f g s t h)
       (of_forms x y d refl refl (formed_not_bindable ((r.meaning).ty x) ((r.meaning).ty y) f g) h)
       (known_error r.meaning x y e k l h) (λ pair j sol one. forms_not_unified r.meaning j x y e f g s t h one)
 
@@ -326,7 +326,7 @@ module _ {Key Id Name : Type 0} {X : Type 0} (M : Manners) (r : State Key Id Nam
       IsTrue (known ((r.meaning).const_ y)) → ConstFormError r.meaning x y e →
       RelatedForms M r r v ((r.meaning).const_ x) ((r.meaning).const_ y) tree (Err (Unrelated e))
   consts_differ x y e d f g s t k l h =
-      refused_here {as_forms} ((r.meaning).const_ x) ((r.meaning).const_ y) e (const_form_apart r.meaning r.store x y e f g s t h)
+      refused_here {w = as_forms} ((r.meaning).const_ x) ((r.meaning).const_ y) e (const_form_apart r.meaning r.store x y e f g s t h)
       (of_const_forms x y d refl refl (formed_consts_not_bindable ((r.meaning).const_ x) ((r.meaning).const_ y) f g) h)
       (known_const_error r.meaning x y e k l h)
       (λ pair j sol one. const_forms_not_unified r.meaning j x y e f g s t pair.left h one)
@@ -363,7 +363,7 @@ module _ {Key Id Name : Type 0} (m : Meaning Key Id Name) (sorted : Sorted m) wh
       Related M r r v (arg_tree m X) (arg_tree m Y) tree (Err (Unrelated Mismatch))
   unfolding IsTermIn
   kinds_differ M r v tree d is X Y o k l x y =
-      refused_here M r v tree {as_pair} (arg_tree m X) (arg_tree m Y) Mismatch
+      refused_here M r v tree {w = as_pair} (arg_tree m X) (arg_tree m Y) Mismatch
       (λ w s sat e. two_sorts X Y (sort_of (apply s (arg_tree m X))) (sort_of (apply s (arg_tree m Y))) o
       (value_top r.store s (kind_sort X) (arg_tree m X) (kind_top X) sat.assigns x.0 (kind_term X k))
       (value_top r.store s (kind_sort Y) (arg_tree m Y) (kind_top Y) sat.assigns y.0 (kind_term Y l)) (ap sort_of e))

@@ -25,12 +25,14 @@ StepsUnlessVars r q a b result = IsNoTyVar ((r.meaning).ty a) → IsNoTyVar ((r.
 module _ {Infcx Interner Key Id Name Span : Type 0} (state : Infcx → Context Key Id Name) where
   -- How it stands, through no reference.
   abbrev pub solver_at : SolverRelating Infcx Interner Key Id Name Span → State Key Id Name
-  solver_at r = solving_in r.structurally_relate_aliases r.goals.items (state r.infcx.now) r.ambient_variance r.param_env
+  solver_at r =
+      solving_in r.structurally_relate_aliases r.goals.items (state r.infcx.now) r.ambient_variance r.param_env
 
   -- How the second stands, where aliases are related as by the first, at its variance and in its environment.
   abbrev pub solver_after : SolverRelating Infcx Interner Key Id Name Span →
       SolverRelating Infcx Interner Key Id Name Span → State Key Id Name
-  solver_after r q = solving_in r.structurally_relate_aliases q.goals.items (state q.infcx.now) r.ambient_variance r.param_env
+  solver_after r q =
+      solving_in r.structurally_relate_aliases q.goals.items (state q.infcx.now) r.ambient_variance r.param_env
 
   -- How it stands, through its reference.
   abbrev pub solver_through : SolverRelating Infcx Interner Key Id Name Span → State Key Id Name

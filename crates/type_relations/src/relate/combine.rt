@@ -70,7 +70,8 @@ pub trait PredicateEmittingRelation<Infcx: InferCtxtLike>: HasState<Infcx::Inter
     /// Registers goals, behind those that there were. After `OutOfMemory` none was registered.
     fn register_goals(&mut self, goals: &[GoalOf<Infcx::Interner>]) -> Result<(), OutOfMemory>
         requires known { All (KnowsGoal (Self.state self.old).meaning) goals.now }
-        ensures { AddsGoals (Self.state self.old) (Self.state self.new) (goals_of (Self.state self.old).meaning goals.now) result };
+        ensures { let r = Self.state self.old in
+            AddsGoals r (Self.state self.new) (goals_of r.meaning goals.now) result };
 
     /// The same of predicates, in the relation's environment.
     fn register_predicates(
@@ -79,7 +80,8 @@ pub trait PredicateEmittingRelation<Infcx: InferCtxtLike>: HasState<Infcx::Inter
     ) -> Result<(), OutOfMemory>
         requires lawful { (Self.state self.old).lawful }
         requires known { All (KnowsPredicate (Self.state self.old).meaning) predicates.now }
-        ensures { AddsGoals (Self.state self.old) (Self.state self.new) (goals_in (Self.state self.old) predicates.now) result };
+        ensures { let r = Self.state self.old in
+            AddsGoals r (Self.state self.new) (goals_in r predicates.now) result };
 
     // What it has recorded is what the context has, over its keys.
     ghost over: { (r : Self) → IsOver (Self.state r) (Infcx.state (context r)) };

@@ -93,7 +93,8 @@ pub trait TypeRelation<I: Interner>: HasState<I> {
         requires decides { (Self.state self.old).ambient ≢ Bivariant }
         requires asked { AskedRegions manner (Self.state self.old) a.now b.now }
         ensures related { RelatedRegions manner (Self.state self.old) (Self.state self.new) a.now b.now result }
-        ensures recorded { IfOk result (λ _. RecordsAsked manner (Self.state self.old) (Self.state self.new) a.now b.now) };
+        ensures recorded { let r = Self.state self.old in
+            IfOk result (λ _. RecordsAsked manner r (Self.state self.new) a.now b.now) };
 
     /// The bodies of two binders that are to be related in a round, 0 or 1, the left one's first; or none.
     ///

@@ -47,7 +47,7 @@ use Rattle.relation_contexts.proofs.Passing.{asked_later, parts_related, again_r
 use Rattle.relation_contexts.proofs.Passing.{turned, unlooked, step_done, retold, refused_again, shown_now, as_err}
 use Rattle.relation_contexts.proofs.Registered.{directed_from}
 use Rattle.relation_contexts.specs.Goals.{IsDirected}
-use Rattle.relation_contexts.proofs.Passing.{form_made, forms_met}
+use Rattle.relation_contexts.proofs.Passing.{form_made, forms_met, step_refused}
 use Rattle.relation_contexts.proofs.Covered.{form_not_left}
 use Rattle.type_relations.proofs.Fronts.{Fronted, fronted_none, fronted_next}
 use Rattle.type_relations.proofs.Structural.{types_related, types_stopped, ty_refused}
@@ -3062,3 +3062,71 @@ binders-returns g t c =
           (part_tree z.meaning) c.args.a.now (stays_part stays c.args.a.now k.left_known) last;
       sort = refl;
     }
+
+pub consts-returns-in_err-answer : goal.consts-returns-in_err-answer
+consts-returns-in_err-answer g t c =
+    let r = g.R.HasState.state c.args.r.now in
+    let M = g.R.TypeRelation.manner in
+    let a = (r.meaning).const_ c.args.a.now in
+    let b = (r.meaning).const_ c.args.b.now in
+    let q = g.R.HasState.state c.consts.new.self in
+    let n = c.in_err-answer in
+    let f = n.field-0.0 in
+    let res = c.from_residual in
+    subst (Related M r q r.ambient a b (q.meaning).const_) (sym (as_err res.result f res.ensures.0 res.ensures.1))
+    (step_refused M IsFormedConst a b (q.meaning).const_ (q.meaning).const_ f n.ensures)
+
+pub tys-returns-in_err-answer-clause-related : goal.tys-returns-in_err-answer-clause-related
+tys-returns-in_err-answer-clause-related g t c =
+    let r = g.R.HasState.state c.args.r.now in
+    let M = g.R.TypeRelation.manner in
+    let a = (r.meaning).ty c.args.a.now in
+    let b = (r.meaning).ty c.args.b.now in
+    let q = g.R.HasState.state c.tys.new.self in
+    let n = c.in_err-answer in
+    let f = n.field-0.0 in
+    let res = c.from_residual in
+    subst (Related M r q r.ambient a b (q.meaning).ty) (sym (as_err res.result f res.ensures.0 res.ensures.1))
+    (step_refused M IsFormed a b (q.meaning).ty (q.meaning).ty f n.ensures.stepped)
+
+pub relate-returns-in_err-regions-in-Lifetime-clause-related : goal.relate-returns-in_err-regions-in-Lifetime-clause-related
+relate-returns-in_err-regions-in-Lifetime-clause-related g t c =
+    let r = g.R.HasState.state c.args.r.now in
+    let M = g.R.TypeRelation.manner in
+    let q = g.R.HasState.state c.regions.new.self in
+    let n = c.in_err-regions-in-Lifetime in
+    let f = n.field-0.0 in
+    let res = c.from_residual in
+    subst (Related M r q r.ambient (arg_tree r.meaning c.args.a.now) (arg_tree r.meaning c.args.b.now) (arg_tree q.meaning))
+    (sym (as_err res.result f res.ensures.0 res.ensures.1))
+    (subst₂ (λ t u. Related M r q r.ambient (arg_tree r.meaning t) (arg_tree r.meaning u) (arg_tree q.meaning) (Err f))
+    (sym c.in-Lifetime.is) (sym c.in-Lifetime-b.is) (refused_again M r.ambient ((r.meaning).region c.in-Lifetime.a)
+    ((r.meaning).region c.in-Lifetime-b.b) (q.meaning).region (arg_tree q.meaning) f n.ensures.related))
+
+pub relate-returns-in_err-tys-in-Ty-clause-related : goal.relate-returns-in_err-tys-in-Ty-clause-related
+relate-returns-in_err-tys-in-Ty-clause-related g t c =
+    let r = g.R.HasState.state c.args.r.now in
+    let M = g.R.TypeRelation.manner in
+    let q = g.R.HasState.state c.tys.new.r in
+    let n = c.in_err-tys-in-Ty in
+    let f = n.field-0.0 in
+    let res = c.from_residual-in_err-tys-in-Ty in
+    subst (Related M r q r.ambient (arg_tree r.meaning c.args.a.now) (arg_tree r.meaning c.args.b.now) (arg_tree q.meaning))
+    (sym (as_err res.result f res.ensures.0 res.ensures.1))
+    (subst₂ (λ t u. Related M r q r.ambient (arg_tree r.meaning t) (arg_tree r.meaning u) (arg_tree q.meaning) (Err f))
+    (sym c.in-Ty.is) (sym c.in-Ty-b.is) (refused_again M r.ambient ((r.meaning).ty c.in-Ty.a)
+    ((r.meaning).ty c.in-Ty-b.b) (q.meaning).ty (arg_tree q.meaning) f n.ensures.related))
+
+pub relate-returns-in_err-consts-in-Const-clause-related : goal.relate-returns-in_err-consts-in-Const-clause-related
+relate-returns-in_err-consts-in-Const-clause-related g t c =
+    let r = g.R.HasState.state c.args.r.now in
+    let M = g.R.TypeRelation.manner in
+    let q = g.R.HasState.state c.consts.new.r in
+    let n = c.in_err-consts-in-Const in
+    let f = n.field-0.0 in
+    let res = c.from_residual-in_err-consts-in-Const in
+    subst (Related M r q r.ambient (arg_tree r.meaning c.args.a.now) (arg_tree r.meaning c.args.b.now) (arg_tree q.meaning))
+    (sym (as_err res.result f res.ensures.0 res.ensures.1))
+    (subst₂ (λ t u. Related M r q r.ambient (arg_tree r.meaning t) (arg_tree r.meaning u) (arg_tree q.meaning) (Err f))
+    (sym c.in-Const.is) (sym c.in-Const-b.is) (refused_again M r.ambient ((r.meaning).const_ c.in-Const.a)
+    ((r.meaning).const_ c.in-Const-b.b) (q.meaning).const_ (arg_tree q.meaning) f n.ensures))
