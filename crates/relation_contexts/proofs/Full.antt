@@ -1,6 +1,6 @@
 -- Where nothing can be instantiated and no binder stands in what is related or bound, no variable is made.
 use Rattle.std.proofs.Common.{◌≡◌, ◌⊎◌, ◌≢◌, ℕ, zero, suc, ◌<◌, refl, sym, ap, ap₂, ◌∙◌, arith, inl, inr, subst}
-use Rattle.std.proofs.Common.{get_or}
+use Rattle.std.proofs.Common.{List, get_or}
 use Rattle.relation_terms.specs.Heads.{VarKind, variable, value, value_branch, unevaluated, expression}
 use Rattle.relation_terms.specs.Trees.{Tree, leaf, node, bind, nil, cons, nth}
 use Rattle.relation_contexts.specs.Stores.{Store, Entry, unbound, same_as, bound_to, entry_of, IsMade}
@@ -11,6 +11,9 @@ use Rattle.relation_contexts.specs.Measures.{Goes}
 use Rattle.relation_contexts.specs.Parts.{parts_of, branches_of, const_parts_of}
 use Rattle.relation_contexts.specs.Steps.{MakesNone, InstantiatesNone, HasNoBinder, BindsNoBinder, StaysFull, StaysFullFor}
 use Rattle.relation_contexts.specs.Steps.{WritesEntry, StandsBeside, as_it_was, led_on, MakesToInstantiate}
+use Rattle.relation_contexts.specs.Goals.{Goal}
+use Rattle.relation_contexts.specs.Kits.{StaysBuilt}
+use Rattle.relation_contexts.proofs.Building.{no_universe_made}
 use Rattle.relation_contexts.proofs.Classes.{stands_from}
 use Rattle.relation_contexts.proofs.Only.{which}
 
@@ -117,9 +120,10 @@ pub constraint_plain : (before after : Store) → ((k : VarKind) → after.entri
 constraint_plain before after same all k n t e = all k n t (ap (λ es. get_or es n unbound) (sym (same k)) ∙ e)
 
 -- What is said in the end.
-pub makes_to_instantiate : {n : ℕ} {before after : Store} (a b : Tree) → Goes n before after →
-    StaysFullFor before after a b → MakesToInstantiate before after a b
-makes_to_instantiate a b g f = record {
+pub makes_to_instantiate : {n : ℕ} {before after : Store} (gs : List Goal) (a b : Tree) → Goes n before after →
+    StaysFullFor before after a b → StaysBuilt before after gs a b → MakesToInstantiate before after a b
+makes_to_instantiate gs a b g f built = record {
   no_number = g.made;
+  no_universe = no_universe_made gs a b built;
   none = λ ha hb binds none. (f ha hb (record { instantiates_none = none; binds_no_binder = binds })).1;
 }

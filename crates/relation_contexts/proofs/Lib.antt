@@ -19,6 +19,7 @@ pub mod Opening
 pub mod Exactness
 pub mod Going
 pub mod Full
+pub mod Building
 pub mod Registered
 pub mod Passing
 pub mod Lists

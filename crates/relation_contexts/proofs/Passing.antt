@@ -24,6 +24,7 @@ use Rattle.relation_contexts.specs.Outcomes.{Outcome, CarriesOver, NeverOne, Exa
 use Rattle.relation_contexts.specs.Headline.{IsFirstOrderPair}
 use Rattle.relation_contexts.specs.FirstOrder.{IsFirstOrderStore, IsErasedSolution}
 use Rattle.relation_contexts.specs.Steps.{IsLater, StaysFullFor}
+use Rattle.relation_contexts.specs.Kits.{StaysBuilt, BuiltFrom, IsGoalOf}
 use Rattle.relation_contexts.specs.Measures.{grown, Goes}
 use Rattle.relation_contexts.specs.Lawful.{State, Manner, Manners, Takes, MayAnswer, Passes, Asked, Refuses, Answers, Verdict, Related, Leads}
 use Rattle.relation_contexts.specs.Lawful.{RefusesAs, VerdictAs, RelatedAs, RelatedForms}
@@ -34,6 +35,7 @@ use Rattle.relation_contexts.proofs.Registered.{registered_in, registered_both, 
 use Rattle.relation_contexts.proofs.Going.{goes_nowhere, goes_within, goes_then, le_grown, later_itself, later_through}
 use Rattle.relation_contexts.proofs.Shrinking.{first_order_before}
 use Rattle.relation_contexts.proofs.Full.{full_itself, full_same, full_then, full_led, full_could}
+use Rattle.relation_contexts.proofs.Building.{built_itself, built_led, no_binder_from, builds_noting}
 use Rattle.relation_contexts.proofs.Composing.{steps_compose, first_goals}
 use Rattle.relation_contexts.proofs.Growing.{All_front}
 use Rattle.relation_contexts.proofs.Standing.{later_term}
@@ -208,7 +210,8 @@ module _ {Key Id Name : Type 0} where
   memory_said X Y before after a b e k f = absurd k
 
   -- A note binds no further variable.
-  noted_bound : {X : Type 0} {r q : State Key Id Name} {res : Result X (RelateFault Key Id Name)} → Noted r q res →
+  noted_bound : {X : Type 0} {r q : State Key Id Name} {a b : Tree} {res : Result X (RelateFault Key Id Name)} →
+      Noted r q a b res →
       all_bound q.store ≡ all_bound r.store
   noted_bound h = ap all_bound h.store
 
@@ -247,6 +250,7 @@ module _ {Key Id Name : Type 0} where
     verdict = verdict result f.verdict;
     exact = f.exact;
     full = f.full;
+    built = f.built;
   }
     where
       verdict : (res : Result X (RelateFault Key Id Name)) → VerdictAs as_forms M r q (f.passes).added (at v) a b tree res →
@@ -259,15 +263,16 @@ module _ {Key Id Name : Type 0} where
   pub parts_related : {X : Type 0} {r q p : State Key Id Name} (M : Manners) (F : Tree → Type 0) → IsSound p.store →
       (a b x y : Tree) (tree : X → Tree) (result : Result X (RelateFault Key Id Name))
       (g : Passes (weight r.store a + weight r.store b) r q) → LeadsToParts M F r q g.added a b x y →
-      LeadsExactly M r q a b x y → StaysFullFor r.store q.store a b → RelatedForms M q p r.ambient x y tree result →
-      Related M r p r.ambient a b tree result
+      LeadsExactly M r q a b x y → StaysFullFor r.store q.store a b → StaysBuilt r.store q.store g.added a b →
+      RelatedForms M q p r.ambient x y tree result → Related M r p r.ambient a b tree result
   unfolding passes_then
-  parts_related {X} {r} {q} {p} M F sound a b x y tree result g l exactly full f = record {
+  parts_related {X} {r} {q} {p} M F sound a b x y tree result g l exactly full built f = record {
     passes = passes_then g f.passes small;
     verdict = verdict result f.verdict;
     exact = exact_led (M r.kept.settings) r.store q.store p.store a b x y r.ambient r.ambient (λ e. e) exactly result
         (same_manner M (λ z. ExactlyRelated z q.store p.store r.ambient x y result) g f.exact);
-    full = full_led a b x y full l.no_binder f.full;
+    full = full_led a b x y full (no_binder_from r.store a b x y l.built) f.full;
+    built = built_led g.added (f.passes).added a b x y built l.built f.built;
   }
     where
       small : weight q.store x + weight q.store y ≤ grown (g.goes).spent (weight r.store a + weight r.store b)
@@ -293,7 +298,7 @@ module _ {Key Id Name : Type 0} where
   -- The pair to which a step led was related, and the answer is the one that the step named.
   module _ {r q : State Key Id Name} (M : Manners) (a b k l x y u : Tree) (v : Variance)
       (g : Passes (weight r.store a + weight r.store b) r q) (led : LeadsAgain M r q g.added a b k l v x y u)
-      (exactly : LeadsExactly M r q a b x y) where
+      (exactly : LeadsExactly M r q a b x y) (built : StaysBuilt r.store q.store g.added a b) where
     one_spent : (g.goes).spent ≡ 1
     one_spent = let c = (g.goes).counts in let f = led.falls in omega arith
 
@@ -321,6 +326,7 @@ module _ {Key Id Name : Type 0} where
           (same_manner M (λ m. ExactlyRelated {Key = Key} {Id = Id} {Name = Name} m q.store p.store (xform r.ambient v) x y
           (Ok t)) g f.exact);
       full = λ ha hb. full_could led.may_instantiate;
+      built = built_led g.added (f.passes).added a b x y built led.built f.built;
     }
 
     pub again_refused : {X Y : Type 0} {p : State Key Id Name} → IsSound p.store → (tree : X → Tree) (answer : Y → Tree)
@@ -333,12 +339,13 @@ module _ {Key Id Name : Type 0} where
           (invariantly v) exactly (Err e) (λ k is pair. exact_fault X Y q.store p.store x y e
           (f.exact (manner_then M (λ z. z.is_exact) g k) is pair));
       full = λ ha hb. full_could led.may_instantiate;
+      built = built_led g.added (f.passes).added a b x y built led.built f.built;
     }
 
   -- What is noted after two terms were related leaves them so.
   module _ {X Y : Type 0} {w : Meeting} {r q p : State Key Id Name} (M : Manners) (v : Variance) (a b : Tree)
       (tree : X → Tree) (t : X) (f : RelatedAs w M r q (at v) a b tree (Ok t)) (note : Result Y (RelateFault Key Id Name))
-      (h : Noted q p note) where
+      {x y : Tree} (h : Noted q p x y note) (from : BuiltFrom r.store a b x y) where
     both : Passes (weight r.store a + weight r.store b) r p
     both = passes_then f.passes h.passes (omega arith)
 
@@ -375,6 +382,11 @@ module _ {Key Id Name : Type 0} where
       );
     }
 
+    noted_built : StaysBuilt r.store p.store ((f.passes).added ++ (h.passes).added) a b
+    noted_built k ha hb all =
+        let z = from k ha hb all in
+        builds_noting k (f.passes).added (h.passes).added h.store (f.built k ha hb all) (h.built k z.0 z.1)
+
     pub noted_related : (answer : X → Tree) → answer t ≡ tree t → RelatedAs w M r p (at v) a b answer (Ok t)
     unfolding passes_then both
     noted_related answer e = record {
@@ -391,6 +403,7 @@ module _ {Key Id Name : Type 0} where
         kept_then r.store q.store p.store a b z.2 (subst (KeepsUniverse q.store) (sym h.store) (keeps_itself q.store)),
       );
       full = λ ha hb. full_then (f.full ha hb) (full_same h.store);
+      built = noted_built;
     }
 
     pub noted_refused : {Z : Type 0} (answer : Z → Tree) (e : RelateFault Key Id Name) → note ≡ Err e →
@@ -403,6 +416,7 @@ module _ {Key Id Name : Type 0} where
           (binds_as_many r.store q.store p.store a b (noted_bound h)
           (keeps_binds r.store q.store a b (f.exact k is pair).2));
       full = λ ha hb. full_then (f.full ha hb) (full_same h.store);
+      built = noted_built;
     }
       where
         refuses : (e : RelateFault Key Id Name) → OnlyMemory {X = Y} (Err e) → RefusesAs w r p (at v) a b e
@@ -461,6 +475,7 @@ module _ {Key Id Name : Type 0} where
       exact = subst₂ (λ s z. ExactlyRelated (M r.kept.settings) s z v a b result) there.store (sym back.store)
           (subst (λ k. ExactlyRelated (M k) t.store q.store v a b result) (same_settings there.kept) f.exact);
       full = subst₂ (λ s z. StaysFullFor s z a b) there.store (sym back.store) f.full;
+      built = subst₂ (λ s z. StaysBuilt s z (f.passes).added a b) there.store (sym back.store) f.built;
     }
       where
         verdict : (res : Result X (RelateFault Key Id Name)) → Verdict M t q (f.passes).added v a b tree res →
@@ -487,15 +502,17 @@ module _ {Key Id Name : Type 0} where
     };
     exact = λ k is pair. absurd (invariant_is_not (sym is ∙ e));
     full = λ ha hb. full_itself r.store;
+    built = built_itself r.store a b;
   }
 
   -- Nothing was noted.
-  pub noted_nothing : {X : Type 0} (x : X) (r : State Key Id Name) → Noted r r (Ok x)
+  pub noted_nothing : {X : Type 0} (x : X) (r : State Key Id Name) (a b : Tree) → Noted r r a b (Ok x)
   unfolding passes_nowhere
-  noted_nothing x r = record {
+  noted_nothing x r a b = record {
     passes = passes_nowhere 0 r;
     store = refl;
     quiet = All-nil IsQuiet;
+    built = λ k ha hb. All-nil (IsGoalOf k);
     fault = tt;
   }
 
@@ -545,6 +562,7 @@ module _ {Key Id Name : Type 0} where
       exact = λ k is pair. subst (λ s. IsFirstOrderStore s × Exact r.store s a b × KeepsUniverseOf r.store s a b)
           (sym w.store) (f.exact k is pair);
       full = subst (λ s. StaysFullFor r.store s a b) (sym w.store) f.full;
+      built = subst (λ s. StaysBuilt r.store s (f.passes).added a b) (sym w.store) f.built;
     }
 
     -- Or it could not be made.
@@ -560,6 +578,7 @@ module _ {Key Id Name : Type 0} where
       exact = λ k is pair. subst (λ s. BindsNoMore r.store s a b) (sym w.store)
           (keeps_binds r.store q.store a b (f.exact k is pair).2);
       full = subst (λ s. StaysFullFor r.store s a b) (sym w.store) f.full;
+      built = subst (λ s. StaysBuilt r.store s (f.passes).added a b) (sym w.store) f.built;
     }
     made_or_not tree t f (Err g) only h = absurd only
 
@@ -575,15 +594,28 @@ module _ {Key Id Name : Type 0} where
 
   -- Memory ran out.
   pub stopped : {X : Type 0} {w : Meeting} {r q : State Key Id Name} (M : Manners) (v : Variance) (a b : Tree) (tree : X → Tree) →
-      Passes (weight r.store a + weight r.store b) r q → ((M r.kept.settings).is_exact → v ≡ Invariant →
+      (g : Passes (weight r.store a + weight r.store b) r q) → ((M r.kept.settings).is_exact → v ≡ Invariant →
       IsFirstOrderPair r.store a b → BindsNoMore r.store q.store a b) → StaysFullFor r.store q.store a b →
-      RelatedAs {X = X} w M r q (at v) a b tree (Err Memory)
-  stopped M v a b tree g f h = record { passes = g; verdict = tt; exact = f; full = h }
+      StaysBuilt r.store q.store g.added a b → RelatedAs {X = X} w M r q (at v) a b tree (Err Memory)
+  stopped M v a b tree g f h d = record { passes = g; verdict = tt; exact = f; full = h; built = d }
 
   -- A step that answers.
   pub step_done : {K : Type 0} {r q : State Key Id Name} (M : Manners) (F : Tree → Type 0) (a b : Tree) (tree : K → Tree)
       (t : K) → Stepped M F r q a b tree (Ok (Done t)) → Related M r q r.ambient a b tree (Ok t)
-  step_done M F a b tree t s = record { passes = s.passes; verdict = s.verdict; exact = s.exact; full = s.full }
+  step_done M F a b tree t s =
+      record { passes = s.passes; verdict = s.verdict; exact = s.exact; full = s.full; built = s.built }
+
+  -- A step that refuses.
+  pub step_refused : {K X : Type 0} {r q : State Key Id Name} (M : Manners) (F : Tree → Type 0) (a b : Tree)
+      (tree : K → Tree) (answer : X → Tree) (e : RelateFault Key Id Name) → Stepped M F r q a b tree (Err e) →
+      Related M r q r.ambient a b answer (Err e)
+  step_refused {K} {X} {r} {q} M F a b tree answer e s = record {
+    passes = s.passes;
+    verdict = s.verdict;
+    exact = λ k is pair. exact_fault K X r.store q.store a b e (s.exact k is pair);
+    full = s.full;
+    built = s.built;
+  }
 
   -- The same answer in other words, and the same fault.
   pub retold : {X Y : Type 0} {w : Meeting} {r q : State Key Id Name} (M : Manners) (v : Variance) (a b : Tree) (tree : X → Tree) (t : X)
@@ -594,6 +626,7 @@ module _ {Key Id Name : Type 0} where
     verdict = subst (λ u. Answers M r q (f.passes).added v a b u) (sym e) f.verdict;
     exact = f.exact;
     full = f.full;
+    built = f.built;
   }
 
   pub refused_again : {X Y : Type 0} {w : Meeting} {r q : State Key Id Name} (M : Manners) (v : Variance) (a b : Tree) (tree : X → Tree)
@@ -605,6 +638,7 @@ module _ {Key Id Name : Type 0} where
         verdict = f.verdict;
         exact = λ k is pair. exact_fault X Y r.store q.store a b e (f.exact k is pair);
         full = f.full;
+        built = f.built;
       }
 
   pub relates_now : {X : Type 0} {w : Meeting} {r q : State Key Id Name} (M : Manners) (v : Variance) (a b : Tree) (tree : X → Tree)
@@ -614,11 +648,11 @@ module _ {Key Id Name : Type 0} where
   -- So are the terms as a step read them, when the pair that it left is related.
   pub again_relates : {X : Type 0} {r q p : State Key Id Name} (M : Manners) (a b k l x y u : Tree) (v : Variance)
       (g : Passes (weight r.store a + weight r.store b) r q) (led : LeadsAgain M r q g.added a b k l v x y u)
-      (exactly : LeadsExactly M r q a b x y) (tree : X → Tree) (t : X) → Related M q p (xform r.ambient v) x y tree (Ok t) →
-      Relates (items_in p) p.store p.goals p.kept.environment r.ambient k l
+      (exactly : LeadsExactly M r q a b x y) (built : StaysBuilt r.store q.store g.added a b) (tree : X → Tree) (t : X) →
+      Related M q p (xform r.ambient v) x y tree (Ok t) → Relates (items_in p) p.store p.goals p.kept.environment r.ambient k l
   unfolding passes_then
-  again_relates {r = r} {q = q} M a b k l x y u v g led exactly tree t f =
-      relates_by r.ambient k l (passes_then g f.passes (small M a b k l x y u v g led exactly))
+  again_relates {r = r} {q = q} M a b k l x y u v g led exactly built tree t f =
+      relates_by r.ambient k l (passes_then g f.passes (small M a b k l x y u v g led exactly built))
       (led_outcome g f.passes k l x y (xform r.ambient v) led.read_leads (f.verdict).outcome)
 
   -- So all is known of two terms that were related that is known of such.
@@ -638,10 +672,10 @@ module _ {Key Id Name : Type 0} where
   -- And of the terms as a step read them, when the pair that it left is related.
   pub again_shown : {X : Type 0} {r q p : State Key Id Name} (M : Manners) (a b k l x y u : Tree) (v : Variance)
       (g : Passes (weight r.store a + weight r.store b) r q) (led : LeadsAgain M r q g.added a b k l v x y u)
-      (exactly : LeadsExactly M r q a b x y) (tree : X → Tree) (t : X) → Related M q p (xform r.ambient v) x y tree (Ok t) →
-      Shown M p r.ambient k l
-  again_shown {r = r} {q = q} {p = p} M a b k l x y u v g led exactly tree t f = record {
-    relates = again_relates M a b k l x y u v g led exactly tree t f;
+      (exactly : LeadsExactly M r q a b x y) (built : StaysBuilt r.store q.store g.added a b) (tree : X → Tree) (t : X) →
+      Related M q p (xform r.ambient v) x y tree (Ok t) → Shown M p r.ambient k l
+  again_shown {r = r} {q = q} {p = p} M a b k l x y u v g led exactly built tree t f = record {
+    relates = again_relates M a b k l x y u v g led exactly built tree t f;
     unifies = λ z is pair s sol.
         let bindings = first_order_before r.store p.store (later_through (g.goes).later ((f.passes).goes).later)
         pair.bindings in
@@ -677,7 +711,7 @@ module _ {Key Id Name K : Type 0} (M : Manners) (F : Tree → Type 0) (r : State
       right_form = g;
       not_left = left;
       answers = λ t w s sat all h. h;
-      no_binder = λ all ha hb. (ha, hb);
+      built = λ k ha hb all. (ha, hb);
       same_budget = refl;
       not_larger = omega arith;
     };
@@ -691,6 +725,7 @@ module _ {Key Id Name K : Type 0} (M : Manners) (F : Tree → Type 0) (r : State
       leads_itself r.store (tree a) (tree b),
     );
     full = λ ha hb. full_itself r.store;
+    built = built_itself r.store (tree a) (tree b);
   }
 
   pub parts_left : (a b x y : K) → x ≡ a → y ≡ b → Asked M r r.ambient (tree a) (tree b) → F (tree a) → F (tree b) →

@@ -1,5 +1,5 @@
 -- Two unbound variables of a kind were made one, or one variable was equated with itself.
-use Rattle.std.proofs.Common.{◌≡◌, ◌≢◌, ◌⊎◌, ℕ, ◌≤◌, max, min, refl, sym, ap, ap₂, ◌∙◌, arith, inl, inr, subst, subst₂, Some}
+use Rattle.std.proofs.Common.{◌≡◌, ◌≢◌, ◌⊎◌, ℕ, ◌≤◌, max, min, refl, sym, ap, ap₂, ◌∙◌, arith, inl, inr, subst, subst₂, Some, []}
 use native.Mathlib.Decide.{ℕ_discrete, dec_le}
 use Rattle.relation_terms.specs.Heads.{VarKind, region_var, variable}
 use Rattle.relation_terms.specs.Trees.{Tree, leaf, Assign, apply}
@@ -8,6 +8,8 @@ use Rattle.relation_contexts.specs.Relation.{Interpretation}
 use Rattle.relation_contexts.specs.Stores.{Store, same_as, entry_term, bound_term, IsSound, Satisfies}
 use Rattle.relation_contexts.specs.FirstOrder.{IsFirstOrder, IsFirstOrderStore}
 use Rattle.relation_contexts.specs.Steps.{Equates, StaysFull}
+use Rattle.relation_contexts.specs.Kits.{StaysBuilt}
+use Rattle.relation_contexts.proofs.Building.{built_same, built_equated}
 use Rattle.relation_contexts.specs.Measures.{Goes}
 use Rattle.relation_contexts.specs.Outcomes.{Exact}
 use Rattle.relation_contexts.proofs.Only.{which}
@@ -85,6 +87,14 @@ module _ (before after : Store) (k : VarKind) (no_region : k ≢ region_var) (x 
       go : Dec (x ≡ y) → StaysFull before after
       go (yes e) = full_same (stays e)
       go (no o) = equated_full before after k (max x y) (min x y) (q o) g no_region
+
+  -- Nothing that is built of anything was bound.
+  pub roots_built : (a b : Tree) → StaysBuilt before after [] a b
+  roots_built a b = go (ℕ_discrete x y)
+    where
+      go : Dec (x ≡ y) → StaysBuilt before after [] a b
+      go (yes e) = built_same a b (stays e)
+      go (no o) = built_equated a b (q o)
 
   pub roots_equal : (w : Interpretation) (s : Assign) → Satisfies w after s → s k x ≡ s k y
   roots_equal w s sat = go (ℕ_discrete x y)

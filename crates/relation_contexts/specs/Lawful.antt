@@ -21,7 +21,8 @@ use Rattle.relation_contexts.specs.Relation.{first_opened}
 use Rattle.relation_contexts.specs.Stores.{Store, IsSound, IsTermIn, weight}
 use Rattle.relation_contexts.specs.Goals.{Goal, Registered, ByDeclared, IsQuiet, Relates}
 use Rattle.relation_contexts.specs.Settings.{Settings}
-use Rattle.relation_contexts.specs.Steps.{IsLater, HasNoBinder, BindsNoBinder, InstantiatesNone, StaysFullFor}
+use Rattle.relation_contexts.specs.Steps.{IsLater, InstantiatesNone, StaysFullFor}
+use Rattle.relation_contexts.specs.Kits.{Kit, IsBuiltOf, IsGoalOf, StaysBuilt, BuiltFrom}
 use Rattle.relation_contexts.specs.Outcomes.{Outcome, StepsTo, CarriesOver, NeverOne, Exact, ExactStep, NoUnifier}
 use Rattle.relation_contexts.specs.Headline.{IsFirstOrderPair}
 use Rattle.relation_contexts.specs.OneUniverse.{KeepsUniverseOf, LeadsInUniverse, BindsNoMore, BindsFewer}
@@ -241,13 +242,15 @@ module _ {Key Id Name : Type 0} where
   ExactlyBy M before after (second_opened ks ls v) a b result = Unit {0}
   ExactlyBy M before after (first_opened ks ls v) a b result = Unit {0}
 
-  -- Two things were related. Where no variable could be made of terms without binders, and they are such, none was.
+  -- Two things were related. Where no variable could be made of terms without binders, and they are such, none was. What
+  -- was bound and registered is built of what they and the bindings before were built of.
   pub record RelatedAs {X : Type 0} (y : Meeting) (M : Manners) (r q : State Key Id Name) (way : Way) (a b : Tree)
       (tree : X → Tree) (result : Result X (RelateFault Key Id Name)) : Type 0 where
     pub passes : Passes (weight r.store a + weight r.store b) r q
     pub verdict : VerdictAs y M r q passes.added way a b tree result
     pub exact : ExactlyBy (M r.kept.settings) r.store q.store way a b result
     pub full : StaysFullFor r.store q.store a b
+    pub built : StaysBuilt r.store q.store passes.added a b
 
   -- A pair that is met was related, by whatever way; two terms were at a variance; and two were as forms.
   abbrev pub RelatedBy : {X : Type 0} → Manners → State Key Id Name → State Key Id Name → Way → Tree → Tree →
@@ -277,8 +280,8 @@ module _ {Key Id Name : Type 0} where
   Leads r q added a b v x y = LeadsBy r q added (at r.ambient) a b (at v) x y
 
   -- A step to two forms that are to be related by their parts and aren't left to a goal, which costs nothing of the
-  -- budget. Whatever the left form is related with, the left term is. No binder stands in the forms where none stood in
-  -- the terms or was bound.
+  -- budget. Whatever the left form is related with, the left term is. The forms are built of what the terms and the
+  -- bindings are built of.
   pub record LeadsToParts (M : Manners) (IsForm : Tree → Type 0) (r q : State Key Id Name)
       (added : List Goal) (a b x y : Tree) : Type 0 where
     pub leads : Leads r q added a b r.ambient x y
@@ -288,13 +291,14 @@ module _ {Key Id Name : Type 0} where
     pub not_left : IsLeftToGoal q.kept.settings x y → ⊥
     pub answers : (t : Tree) → CarriesOver (items_in q) q.kept.environment q.store q.goals (at r.ambient) x t
         (at r.ambient) a t
-    pub no_binder : BindsNoBinder r.store → HasNoBinder a → HasNoBinder b → HasNoBinder x × HasNoBinder y
+    pub built : BuiltFrom r.store a b x y
     pub same_budget : (q.store).budget ≡ (r.store).budget
     pub not_larger : weight q.store x + weight q.store y ≤ weight r.store a + weight r.store b
 
   -- A step to another pair that is to be related at a variance, for one of the budget, where something could be
   -- instantiated. What was asked about is read as two terms; where exactness is promised, these lose and gain no
-  -- solution either. When the pair is related, the left term is related with the answer.
+  -- solution either. When the pair is related, the left term is related with the answer. That pair and what was
+  -- read are built of what the terms and the bindings were built of.
   pub record LeadsAgain (M : Manners) (r q : State Key Id Name) (added : List Goal)
       (a b read_left read_right : Tree) (v : Variance) (x y answer : Tree) : Type 0 where
     pub leads : Leads r q added a b (xform r.ambient v) x y
@@ -309,6 +313,8 @@ module _ {Key Id Name : Type 0} where
     pub answer_known : IsTrue (known answer)
     pub falls : (r.store).budget ≡ suc (q.store).budget
     pub may_instantiate : InstantiatesNone r.store → ⊥
+    pub built : BuiltFrom r.store a b x y
+    pub read_built : BuiltFrom r.store a b read_left read_right
     pub not_larger : weight q.store x + weight q.store y ≤ grown 1 (weight r.store a + weight r.store b)
 
   -- What a step's result says of two terms.
@@ -330,7 +336,8 @@ module _ {Key Id Name : Type 0} where
       ExactStep r.store q.store a b (tree x) (tree y) × LeadsInUniverse r.store q.store a b (tree x) (tree y)
   ExactVerdict {K} r q a b tree (Err f) = ExactResult {X = K} r.store q.store a b (Err f)
 
-  -- A step was taken. Where no variable could be made of terms without binders, and they are such, none was.
+  -- A step was taken. Where no variable could be made of terms without binders, and they are such, none was. What was bound
+  -- and registered is built of what they and the bindings before were built of.
   pub record Stepped {K : Type 0} (M : Manners) (F : Tree → Type 0) (r q : State Key Id Name)
       (a b : Tree) (tree : K → Tree) (result : Result (Step K) (RelateFault Key Id Name)) : Type 0 where
     pub passes : Passes (weight r.store a + weight r.store b) r q
@@ -338,6 +345,7 @@ module _ {Key Id Name : Type 0} where
     pub exact : (M r.kept.settings).is_exact → r.ambient ≡ Invariant → IsFirstOrderPair r.store a b →
         ExactVerdict r q a b tree result
     pub full : StaysFullFor r.store q.store a b
+    pub built : StaysBuilt r.store q.store passes.added a b
 
   -- What is known of two terms that were related at a variance: what is recorded and registered relates them; where
   -- exactness is promised, of first-order terms and records at invariance, each solution up to erasure unifies them;
@@ -354,10 +362,12 @@ module _ {Key Id Name : Type 0} where
   OnlyMemory (Err Memory) = Unit {0}
   OnlyMemory (Err f) = ⊥
 
-  -- Something was noted: what is recorded stands, no goal that was added asks anything of two terms, and a fault is
-  -- want of memory.
-  pub record Noted {X : Type 0} (r q : State Key Id Name) (result : Result X (RelateFault Key Id Name)) : Type 0 where
+  -- Something was noted of two terms: what is recorded stands; no goal that was added asks anything of two terms, and
+  -- each is built of what they are built of; and a fault is want of memory.
+  pub record Noted {X : Type 0} (r q : State Key Id Name) (a b : Tree) (result : Result X (RelateFault Key Id Name)) :
+      Type 0 where
     pub passes : Passes 0 r q
     pub store : q.store ≡ r.store
     pub quiet : All IsQuiet passes.added
+    pub built : (k : Kit) → IsBuiltOf k a → IsBuiltOf k b → All (IsGoalOf k) passes.added
     pub fault : OnlyMemory result

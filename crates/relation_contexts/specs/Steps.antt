@@ -84,11 +84,12 @@ StaysFull before after = IsFull before → IsFull after × MakesNone before afte
 abbrev pub StaysFullFor : Store → Store → Tree → Tree → Type 0
 StaysFullFor before after a b = HasNoBinder a → HasNoBinder b → StaysFull before after
 
--- No variable of a number was made; and none at all where nothing could be instantiated, and no binder stands in either
--- of two terms or in what a variable was bound to.
+-- No variable of a number was made; and where no binder stands in either of two terms or in what a variable was bound
+-- to, no universe was, nor any variable if nothing could be instantiated.
 pub record MakesToInstantiate (before after : Store) (a b : Tree) : Type 0 where
   pub no_number : MakesNoNumber before after
   pub none : HasNoBinder a → HasNoBinder b → BindsNoBinder before → InstantiatesNone before → MakesNone before after
+  pub no_universe : HasNoBinder a → HasNoBinder b → BindsNoBinder before → after.universe ≡ before.universe
 
 -- What comes of another variable's entry where a variable got one: it stands; or it was the same as that variable, and
 -- is now the same as what that one is the same as.

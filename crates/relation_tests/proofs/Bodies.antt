@@ -11,8 +11,9 @@ use Rattle.relation_contexts.specs.Relation.{StaysWithin}
 use Rattle.relation_contexts.specs.Stores.{Store, IsSound, IsTermIn, InContext}
 use Rattle.relation_contexts.specs.Lawful.{Asked, items_of}
 use Rattle.type_relations.specs.Rounds.{OneRound, one_round, RoundLeads, Opened}
+use Rattle.relation_contexts.proofs.Building.{built_itself}
 use Rattle.relation_contexts.proofs.Opening.{unused_step}
-use Rattle.type_relations.proofs.OpeningBoth.{body_scope, unused_stand_ins, bodies_error, bodies_agree, bodies_smaller}
+use Rattle.type_relations.proofs.OpeningBoth.{body_scope, unused_stand_ins, bodies_error, bodies_built, bodies_agree, bodies_smaller}
 use Rattle.relation_contexts.proofs.Passing.{passes_nowhere}
 use Rattle.relation_tests.specs.Plain.{IsUnbound, plain_store, plain_state, plain_manner}
 
@@ -61,6 +62,7 @@ module _ {Key Id Name : Type 0} (m : Meaning Key Id Name) (v : Variance) (cs : L
             bodies_error n set i st v e ks ls t u t u (unused_stand_ins ks t w.0) (unused_stand_ins ls u w.1) o;
         agrees = λ i o. bodies_agree i v ks ls t u t u (unused_stand_ins ks t w.0) (unused_stand_ins ls u w.1)
             k.left_taken.1.0 k.right_taken.1.0 o;
+        built = bodies_built (plain_store m cs) ks ls t u t u (unused_stand_ins ks t w.0) (unused_stand_ins ls u w.1);
         same_budget = refl;
         smaller = bodies_smaller (plain_store m cs) ks ls t u;
       }
@@ -75,6 +77,7 @@ module _ {Key Id Name : Type 0} (m : Meaning Key Id Name) (v : Variance) (cs : L
     passes = passes_nowhere _ (plain_state m v cs);
     verdict = subst₂ (RoundLeads plain_manner (plain_state m v cs) (plain_state m v cs) [] round (bind ks t) (bind ls u))
         (sym a) (sym b) (leads ks ls sound k round first);
+    built = built_itself (plain_store m cs) (bind ks t) (bind ls u);
   }
   opens_none (Some ks) None sound k round first tree x y a b = absurd (false≢true k.right_known)
   opens_none None p sound k round first tree x y a b = absurd (false≢true k.left_known)
@@ -87,6 +90,7 @@ module _ {Key Id Name : Type 0} (m : Meaning Key Id Name) (v : Variance) (cs : L
   no_more (Some ks) (Some ls) k round second tree = record {
     passes = passes_nowhere _ (plain_state m v cs);
     verdict = (second, inr (relates_once ks ls k), refl, refl);
+    built = built_itself (plain_store m cs) (bind ks t) (bind ls u);
   }
   no_more (Some ks) None k round second tree = absurd (false≢true k.right_known)
   no_more None p k round second tree = absurd (false≢true k.left_known)

@@ -25,6 +25,7 @@ use Rattle.relation_contexts.specs.Lawful.{items_of, Passes, Related, items_in}
 use Rattle.relation_contexts.specs.Constraints.{constraint_at, constraint_of}
 use Rattle.relation_tests.specs.Plain.{as_is, plain_store, plain_state, plain_manner}
 use Rattle.relation_contexts.proofs.Full.{full_itself, full_by}
+use Rattle.relation_contexts.proofs.Building.{builds_none, built_itself}
 use Rattle.relation_contexts.proofs.Trees.{all_leaves, apply_own, own_other}
 use Rattle.type_relations.proofs.Constraints.{asked_in, asked_relates, asked_met}
 use Rattle.relation_contexts.proofs.Standing.{made_of_term, term_within, term_sort_of}
@@ -190,6 +191,7 @@ module _ {Key Id Name : Type 0} (m : Meaning Key Id Name) where
             (standing_keeps (plain_store m cs) (plain_store m (cs ++ c ∷ [])) (λ k. refl) (λ k. refl)),
       );
       full = λ ha hb. full_by (goes v cs c of_store 0) (λ k. refl) (λ all. all);
+      built = λ k ha hb all. builds_none k (plain_store m cs) (plain_store m (cs ++ c ∷ [])) all refl;
     }
 
     pub regions_related : (ds : List (RegionConstraint Key)) (x : RegionKey Key) → ds ≡ cs ++ c ∷ [] → x ≡ a →
@@ -201,11 +203,13 @@ module _ {Key Id Name : Type 0} (m : Meaning Key Id Name) where
   -- A growth was refused.
   module _ {X : Type 0} (v w : Variance) (cs : List (RegionConstraint Key)) (a b : Tree) (tree : X → Tree) where
     refused : Related plain_manner (plain_state m v cs) (plain_state m v cs) w a b tree (Err Memory)
+    unfolding passes_nowhere
     refused = record {
       passes = passes_nowhere _ (plain_state m v cs);
       verdict = tt;
       exact = λ k is pair. binds_itself (plain_store m cs) a b;
       full = λ ha hb. full_itself (plain_store m cs);
+      built = built_itself (plain_store m cs) a b;
     }
 
     pub not_recorded : (ds : List (RegionConstraint Key)) (r : Result X (RelateFault Key Id Name)) → ds ≡ cs →

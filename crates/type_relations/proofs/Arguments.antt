@@ -20,9 +20,9 @@ use Rattle.relation_contexts.specs.Lawful.{State, Manners, MayAnswer, Passes, Re
 use Rattle.relation_contexts.proofs.OneParts.{parts_equal}
 use Rattle.type_relations.proofs.PartSizes.{weight_parts_most}
 use Rattle.relation_contexts.proofs.Registered.{registered_in}
-use Rattle.relation_contexts.proofs.Passing.{passes_within, manner_then, stopped}
+use Rattle.relation_contexts.proofs.Passing.{passes_within, passes_then, manner_then, stopped}
 use Rattle.type_relations.proofs.Fronts.{Fronted, AreParts, IsLookedAt, fronted_all, fronted_never, fronted_passes, fronted_fault, fronted_exactly}
-use Rattle.type_relations.proofs.Fronts.{fronted_full, fronted_agree}
+use Rattle.type_relations.proofs.Fronts.{fronted_full, fronted_built, fronted_agree}
 use Rattle.type_relations.proofs.Structural.{types_never}
 use Rattle.relation_contexts.proofs.Answering.{same_items, may_itself}
 use Rattle.relation_contexts.proofs.OneUniverse.{keeps_binds, binds_as}
@@ -86,14 +86,16 @@ module _ {Key Id Name : Type 0} {r q : State Key Id Name} (M : Manners) (v : Var
         answered_as r.store q.store (node h ts) (node h us) ts us (λ s. forms_unify_by_parts s h ts us apart) (λ u z. z)
         (λ u z. z) (fronted_exactly h v i ts us are e (e ∙ n) f exact is' looked (list_pair pair));
     full = f.full;
+    built = λ j ha hb. f.built j ha.1 hb.1;
   }
 
   -- Memory ran out after some of the parts.
   pub form_stopped : {X : Type 0} (tree : X → Tree) → Related {X = X} M r q v (node h ts) (node h us) tree (Err Memory)
+  unfolding passes_within
   form_stopped tree = stopped M v (node h ts) (node h us) tree
       (passes_within (omega (arith, weight_parts_most r.store (node h ts), weight_parts_most r.store (node h us))) f.passes)
       (λ exact is pair. binds_as r.store q.store (node h ts) (node h us) ts us (λ u z. z) (λ u z. z)
-      (keeps_binds r.store q.store ts us (f.exact exact is looked (list_pair pair)).2)) f.full
+      (keeps_binds r.store q.store ts us (f.exact exact is looked (list_pair pair)).2)) f.full (λ j ha hb. f.built j ha.1 hb.1)
 
   -- Two parts of two forms were refused, and so are the forms.
   module _ (x y : Tree) (lx : i < count ts) (ly : i < count us) (ex : x ≡ nth i ts) (ey : y ≡ nth i us)
@@ -124,12 +126,14 @@ module _ {Key Id Name : Type 0} {r q : State Key Id Name} (M : Manners) (v : Var
     pub form_refused : {A B : Type 0} {p : State Key Id Name} (tree : A → Tree) (answer : B → Tree)
         (e : RelateFault Key Id Name) → Related M q p (part_at (items_in r) h i v) x y tree (Err e) →
         Related M r p v (node h ts) (node h us) answer (Err e)
+    unfolding passes_within fronted_passes passes_then
     form_refused {A} {B} {p} tree answer e g = record {
       passes = passes_within (omega (arith, weight_parts_most r.store (node h ts), weight_parts_most r.store (node h us)))
           (fronted_passes h v i ts us x y f lx ly ex ey g.passes);
       verdict = refuses g.passes e g.verdict;
       exact = exactly A B p e g.exact;
       full = fronted_full h v i ts us x y f lx ly ex ey g.full;
+      built = λ j ha hb. fronted_built h v i ts us x y f lx ly ex ey (g.passes).added g.built j ha.1 hb.1;
     }
 
 -- Items have the numbers that they had.

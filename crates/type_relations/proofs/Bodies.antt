@@ -70,14 +70,15 @@ module _ {Key Id Name : Type 0} where
   opened_some {r = r} {q = q} M n a b tree other x y u v i j o = record {
     passes = o.passes;
     verdict = subst₂ (λ s t. RoundLeads M r q (o.passes).added n a b s t) (sym i) (sym j) o.verdict;
+    built = o.built;
   }
 
   pub opened_none : {T U : Type 0} {r q : State Key Id Name} (M : Manners) (n : ℕ) (a b : Tree) (tree : T → Tree)
       (other : U → Tree) → Opened M r q n a b tree (Ok None) → Opened M r q n a b other (Ok None)
-  opened_none M n a b tree other o = record { passes = o.passes; verdict = o.verdict }
+  opened_none M n a b tree other o = record { passes = o.passes; verdict = o.verdict; built = o.built }
 
   pub opened_not : {T U : Type 0} {r q : State Key Id Name} (M : Manners) (n : ℕ) (a b : Tree) (tree : T → Tree)
       (other : U → Tree) (f : RelateFault Key Id Name) → Opened M r q n a b tree (Err f) →
       Opened M r q n a b other (Err f)
-  opened_not M n a b tree other Memory o = record { passes = o.passes; verdict = tt }
+  opened_not M n a b tree other Memory o = record { passes = o.passes; verdict = tt; built = o.built }
   opened_not M n a b tree other f o = absurd o.verdict

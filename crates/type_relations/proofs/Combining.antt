@@ -34,6 +34,7 @@ use Rattle.type_relations.proofs.NumberVars.{is_number, type_formed}
 use Rattle.relation_contexts.proofs.Numbers.{IsNumber, number_no_region, number_goes}
 use Rattle.relation_contexts.proofs.OneUniverse.{keeps_itself}
 use Rattle.relation_contexts.proofs.Full.{full_itself}
+use Rattle.relation_contexts.proofs.Building.{built_itself}
 use Rattle.type_relations.proofs.OverContext.{carried, over_it, standing, all_taken, read_covered, one_step, roots_step, number_step, number_step_back, left_apart, right_apart, parts_step}
 use Rattle.relation_contexts.proofs.Roots.{roots_goes, exact_itself}
 use Rattle.type_relations.proofs.Shallowly.{read_step, shallow_free_const, variable_made}
@@ -188,7 +189,8 @@ module _ {Key Id Name : Type 0} where
           (m.const_ a) (m.const_ b) z.const_ (Ok (Done a))) (sym same) (sym stays)
           (one_step r IsFormedConst m m was was L K (m.const_ a) (m.const_ b) m.const_ a refl (goes_nowhere _ was) l
           (λ w s sat. ap (apply s) e) (λ w s sat h. sat)
-          (λ h. (h, exact_itself was (m.const_ a) (m.const_ b) e)) (keeps_itself was) (full_itself was) (inl refl)
+          (λ h. (h, exact_itself was (m.const_ a) (m.const_ b) e)) (keeps_itself was) (full_itself was)
+          (built_itself was (m.const_ a) (m.const_ b)) (inl refl)
           asked.left_known (λ c. agree_same c r.ambient (m.const_ a) (m.const_ b) e)))
       combined_consts result (resolved_first x y differ f h combines) =
           let k = read_asked x y f h in

@@ -1,5 +1,5 @@
 -- A loop over the parts of two forms, which relates them one after another.
-use Rattle.std.proofs.Common.{◌≡◌, ℕ, zero, suc, ◌+◌, ◌≤◌, ◌<◌, refl, sym, ap, ◌∙◌, subst, subst₂, arith, [], Ok, Err}
+use Rattle.std.proofs.Common.{◌≡◌, ℕ, zero, suc, ◌+◌, ◌≤◌, ◌<◌, refl, sym, ap, ◌∙◌, subst, subst₂, arith, List, [], ◌++◌, Ok, Err}
 use Rattle.term_enums.specs.declared.Variance.TheVariants.{Invariant}
 use Rattle.term_enums.specs.Variances.{xform}
 use Rattle.relation_contexts.specs.FirstOrder.{IsFirstOrder, IsFirstOrderStore}
@@ -14,6 +14,8 @@ use Rattle.relation_contexts.specs.Agreeing.{Agree}
 use Rattle.relation_contexts.specs.Outcomes.{Outcome, Front, NeverOne, Exact, ExactFront, NoUnifier}
 use Rattle.relation_contexts.specs.Measures.{grown}
 use Rattle.relation_contexts.specs.Steps.{HasNoBinder, StaysFullFor}
+use Rattle.relation_contexts.specs.Goals.{Goal}
+use Rattle.relation_contexts.specs.Kits.{IsBuiltOf, StaysBuilt}
 use Rattle.relation_folds.specs.declared.error.RelateFault.{RelateFault}
 use Rattle.relation_folds.specs.declared.error.RelateFault.TheVariants.{Memory, Budget, Unrelated}
 use Rattle.relation_contexts.specs.OneUniverse.{NamesTypesTo, KeepsUniverseOf, LeadsInUniverse}
@@ -21,6 +23,7 @@ use Rattle.relation_contexts.specs.Lawful.{State, Manners, Passes, Related, Exac
 use Rattle.relation_contexts.proofs.OneUniverse.{keeps_itself, keeps_pair, leaves_nth, led_keeps, led_binds, led_fewer}
 use Rattle.relation_contexts.proofs.Going.{pair_grown, later_itself}
 use Rattle.relation_contexts.proofs.Full.{full_itself, full_then, nth_plain}
+use Rattle.relation_contexts.proofs.Building.{built_itself, built_led, built_nth}
 use Rattle.relation_contexts.proofs.Composing.{front_begins, front_goes_on, front_ends}
 use Rattle.relation_contexts.proofs.Passing.{passes_nowhere, passes_then, manner_then, outcome_seen}
 use Rattle.relation_contexts.proofs.Parts.{nth_size}
@@ -63,6 +66,7 @@ pub record Fronted {Key Id Name : Type 0} (M : Manners) (r q : State Key Id Name
   pub exact : (M r.kept.settings).is_exact → v ≡ Invariant → IsLookedAt h → IsFirstOrderPair r.store xs ys →
       IsFirstOrderStore q.store × ExactFront i r.store q.store xs ys × KeepsUniverseOf r.store q.store xs ys
   pub full : StaysFullFor r.store q.store xs ys
+  pub built : StaysBuilt r.store q.store passes.added xs ys
   pub agrees : (M r.kept.settings).relates_agreeing → (j : ℕ) → j < i →
       Agree (items_in r) (at (part_at (items_in r) h j v)) (nth j xs) (nth j ys)
 
@@ -91,6 +95,7 @@ module _ {Key Id Name : Type 0} where
       keeps_pair r.store r.store xs ys (keeps_itself r.store),
     );
     full = λ ha hb. full_itself r.store;
+    built = built_itself r.store xs ys;
     agrees = λ k j l. absurd (omega (arith, l));
   }
 
@@ -130,6 +135,15 @@ module _ {Key Id Name : Type 0} where
     fronted_full g ha hb = full_then (f.full ha hb)
         (g (subst HasNoBinder (sym ex) (nth_plain i xs ha)) (subst HasNoBinder (sym ey) (nth_plain i ys hb)))
 
+    -- Nothing was bound and registered that is not built of what the lists and the bindings were built of.
+    pub fronted_built : {p : Store} (gs : List Goal) → StaysBuilt q.store p gs x y →
+        StaysBuilt r.store p ((f.passes).added ++ gs) xs ys
+    fronted_built gs g = built_led (f.passes).added gs xs ys x y f.built
+        (λ k ha hb all. (
+          subst (IsBuiltOf k) (sym ex) (built_nth k i xs ha),
+          subst (IsBuiltOf k) (sym ey) (built_nth k i ys hb),
+        )) g
+
     pub fronted_next : {X : Type 0} {p : State Key Id Name} (tree : X → Tree) (t : X) →
         AreParts r.store xs ys → Related M q p (part_at (items_in r) h i v) x y tree (Ok t) →
         Fronted M r p h v (suc i) xs ys
@@ -150,6 +164,7 @@ module _ {Key Id Name : Type 0} where
             led_keeps r.store q.store p.store xs ys x y (leads_at z.2) o.2,
           );
       full = fronted_full g.full;
+      built = fronted_built (g.passes).added g.built;
       agrees = λ k. next_agrees (items_in r) h v i xs ys (f.agrees k)
           (subst₂ (Agree (items_in r) (at (part_at (items_in r) h i v))) ex ey
           (subst (λ c. Agree c (at (part_at (items_in r) h i v)) x y) (same_items f.passes)
@@ -184,7 +199,7 @@ module _ {Key Id Name : Type 0} where
         [] xs ys are.left_list are.right_list are.left_in are.right_in f.front).1
         (subst₂ (λ t u. NeverOne (at (part_at (items_in r) h i v)) q.store t u) ex ey n)
 
-    pub fronted_passes : {p : State Key Id Name} → Passes (weight q.store x + weight q.store y) q p →
+    unfoldable pub fronted_passes : {p : State Key Id Name} → Passes (weight q.store x + weight q.store y) q p →
         Passes (weight r.store xs + weight r.store ys) r p
     fronted_passes g = passes_then f.passes g part_small
 

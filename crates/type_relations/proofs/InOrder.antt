@@ -27,9 +27,10 @@ use Rattle.relation_contexts.specs.Lawful.{items_in}
 use Rattle.relation_contexts.proofs.Covered.{said_as, parts_not_left, form_not_left}
 use Rattle.relation_contexts.specs.Lawful.{ExactResult, ExactlyRelated}
 use Rattle.relation_contexts.proofs.Registered.{registered_in}
-use Rattle.relation_contexts.proofs.Passing.{passes_within, manner_then, stopped}
+use Rattle.relation_contexts.proofs.Passing.{passes_within, passes_then, manner_then, stopped}
 use Rattle.type_relations.proofs.Fronts.{Fronted, AreParts, fronted_never, fronted_all, fronted_passes, fronted_fault}
-use Rattle.type_relations.proofs.Fronts.{fronted_exactly, fronted_full, fronted_agree}
+use Rattle.type_relations.proofs.Fronts.{fronted_exactly, fronted_full, fronted_built, fronted_agree}
+use Rattle.relation_contexts.proofs.Building.{built_parts}
 use Rattle.relation_contexts.proofs.AgreeingForms.{form_agrees}
 use Rattle.relation_contexts.proofs.Full.{parts_plain}
 use Rattle.type_relations.proofs.Structural.{types_never, parts_pair}
@@ -59,9 +60,11 @@ module _ {Key Id Name : Type 0} {r q : State Key Id Name} (M : Manners) (v : Var
   -- Memory ran out after some of the parts.
   pub terms_stopped : {X : Type 0} {w : Meeting} (tree : X → Tree) →
       Fronted M r q (head_of a) v i (parts_of a) (parts_of b) → RelatedAs {X = X} w M r q (at v) a b tree (Err Memory)
+  unfolding passes_within
   terms_stopped tree f = stopped M v a b tree
       (passes_within (omega (arith, weight_parts_most r.store a, weight_parts_most r.store b)) f.passes) (front_binds f)
       (λ ha hb. f.full (parts_plain a ha) (parts_plain b hb))
+      (λ k ha hb. f.built k (built_parts k a ha) (built_parts k b hb))
 
   -- All parts were related, and so are the two.
   terms_relate : (o : AreOfOneForm a b) → (f : Fronted M r q (head_of a) v i (parts_of a) (parts_of b)) →
@@ -106,6 +109,7 @@ module _ {Key Id Name : Type 0} {r q : State Key Id Name} (M : Manners) (v : Var
         (fronted_exactly (head_of a) v i (parts_of a) (parts_of b) are ea eb f exact is (term_looked_at a form)
         (parts_pair r.store a b pair));
     full = λ ha hb. f.full (parts_plain a ha) (parts_plain b hb);
+    built = λ k ha hb. f.built k (built_parts k a ha) (built_parts k b hb);
   }
 
   -- After some of the parts it is seen that the two are not of one form.
@@ -113,6 +117,7 @@ module _ {Key Id Name : Type 0} {r q : State Key Id Name} (M : Manners) (v : Var
       IsByParts b → IsTerm k a → IsTerm l b → IsTrue (known a) → IsTrue (known b) → PartError q.meaning a b e →
       Fronted M r q (head_of a) v i (parts_of a) (parts_of b) →
       RelatedAs {X = X} w M r q (at v) a b tree (Err (Unrelated e))
+  unfolding passes_within
   terms_unlike {w = w} tree k l e d other ta tb ka kb unlike f = record {
     passes = passes_within (omega (arith, weight_parts_most r.store a, weight_parts_most r.store b)) f.passes;
     verdict = (
@@ -123,6 +128,7 @@ module _ {Key Id Name : Type 0} {r q : State Key Id Name} (M : Manners) (v : Var
     exact = λ exact is pair.
         (part_error_apart q.meaning r.store k l a b e form other ta tb unlike, front_binds f exact is pair);
     full = λ ha hb. f.full (parts_plain a ha) (parts_plain b hb);
+    built = λ k ha hb. f.built k (built_parts k a ha) (built_parts k b hb);
   }
 
   -- Two parts were refused, and so are the two.
@@ -130,14 +136,14 @@ module _ {Key Id Name : Type 0} {r q : State Key Id Name} (M : Manners) (v : Var
       (are : AreParts r.store (parts_of a) (parts_of b)) (k l : Sort) (ta : IsTerm k a) (tb : IsTerm l b)
       (many : HaveAsManyInputs a b i) (x y : Tree) (lx : i < count (parts_of a)) (ly : i < count (parts_of b))
       (ex : x ≡ nth i (parts_of a)) (ey : y ≡ nth i (parts_of b)) where
-    term_refuses : {w : Meeting} {n : ℕ} {p : State Key Id Name} (g : Passes n q p) (e d : RelateFault Key Id Name) →
+    term_refuses : (w : Meeting) {n : ℕ} {p : State Key Id Name} (g : Passes n q p) (e d : RelateFault Key Id Name) →
         IsFaultOfPart (named_place a i) e d → Refuses q p (part_at (items_in r) (head_of a) i v) x y e →
         RefusesAs w r p (at v) a b d
-    term_refuses {w = w} {p = p} g Memory d t h =
+    term_refuses w {p = p} g Memory d t h =
         subst (RefusesAs w r p (at v) a b) (sym (same_part_fault (named_place a i) Memory d t (λ e z. cc))) tt
-    term_refuses {w = w} {p = p} g Budget d t h =
+    term_refuses w {p = p} g Budget d t h =
         subst (RefusesAs w r p (at v) a b) (sym (same_part_fault (named_place a i) Budget d t (λ e z. cc))) h
-    term_refuses {w = w} {p = p} g (Unrelated e) d t h =
+    term_refuses w {p = p} g (Unrelated e) d t h =
         let items : items_in p ≡ items_in r = same_items g ∙ same_items f.passes in
         let z = part_complains p.meaning p.kept.settings (items_in p) p.store v k l a b i ta tb form o lx x y ex ey many e d t
         (subst (λ c. ErrorOf p.meaning p.kept.settings (items_in p) p.store (part_at c (head_of a) i v) e x y) (sym items) h.1) in
@@ -172,13 +178,16 @@ module _ {Key Id Name : Type 0} {r q : State Key Id Name} (M : Manners) (v : Var
         (e d : RelateFault Key Id Name) → IsFaultOfPart (named_place a i) e d →
         Related M q p (part_at (items_in r) (head_of a) i v) x y tree (Err e) →
         RelatedAs w M r p (at v) a b answer (Err d)
+    unfolding passes_within fronted_passes passes_then
     term_refused {A} {B} {w} {p} tree answer e d t g = record {
       passes = passes_within (omega (arith, weight_parts_most r.store a, weight_parts_most r.store b))
           (fronted_passes (head_of a) v i (parts_of a) (parts_of b) x y f lx ly ex ey g.passes);
-      verdict = term_refuses g.passes e d t g.verdict;
+      verdict = term_refuses w g.passes e d t g.verdict;
       exact = term_exactly A B p e d t g.exact;
       full = λ ha hb. fronted_full (head_of a) v i (parts_of a) (parts_of b) x y f lx ly ex ey g.full
           (parts_plain a ha) (parts_plain b hb);
+      built = λ k ha hb. fronted_built (head_of a) v i (parts_of a) (parts_of b) x y f lx ly ex ey (g.passes).added g.built
+          k (built_parts k a ha) (built_parts k b hb);
     }
 
 -- Two terms that are not of one form.

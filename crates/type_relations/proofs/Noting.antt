@@ -2,6 +2,7 @@
 use Rattle.std.proofs.Common.{◌≡◌, ◌∙◌, sym, ap, subst, arith, List, [], ◌++◌, All, Result, Ok, Err}
 use Rattle.std.proofs.lemmas.List.{append-nil}
 use Rattle.std.proofs.lemmas.List.Elements.{All-nil, All-append}
+use Rattle.relation_terms.specs.Trees.{Tree}
 use Rattle.relation_terms.specs.Meaning.{Extends}
 use Rattle.relation_folds.specs.declared.error.RelateFault.{RelateFault}
 use Rattle.relation_terms.proofs.Stays.{stays_same}
@@ -10,6 +11,7 @@ use Rattle.relation_contexts.specs.ContextCalls.{Grows}
 use Rattle.type_relations.specs.Emitting.{AddsGoals, IsOver, WithContext, with_goals}
 use Rattle.relation_contexts.specs.Measures.{Goes}
 use Rattle.relation_contexts.specs.Goals.{Goal, IsQuiet}
+use Rattle.relation_contexts.specs.Kits.{Kit, IsBuiltOf, IsGoalOf}
 use Rattle.relation_contexts.specs.Lawful.{State, Noted, OnlyMemory, WithMeaning, RegisteredIn}
 use Rattle.relation_contexts.specs.Steps.{IsLater}
 use Rattle.relation_contexts.specs.Stores.{Store}
@@ -17,36 +19,39 @@ use Rattle.relation_contexts.proofs.Going.{goes_nowhere, later_itself}
 use Rattle.relation_contexts.proofs.Passing.{passes_then, passes_nowhere, passes_grown}
 
 module _ {Key Id Name : Type 0} where
-  pub noted_then : {X Y : Type 0} {r q p : State Key Id Name} (x : Result X (RelateFault Key Id Name))
-      (y : Result Y (RelateFault Key Id Name)) → Noted r q x → Noted q p y → Noted r p y
+  pub noted_then : {X Y : Type 0} {r q p : State Key Id Name} {a b : Tree} (x : Result X (RelateFault Key Id Name))
+      (y : Result Y (RelateFault Key Id Name)) → Noted r q a b x → Noted q p a b y → Noted r p a b y
   unfolding passes_then
   noted_then {r = r} {q = q} {p = p} x y f g = record {
     passes = passes_then f.passes g.passes (omega arith);
     store = g.store ∙ f.store;
     quiet = All-append IsQuiet (f.passes).added (g.passes).added f.quiet g.quiet;
+    built = λ k ha hb. All-append (IsGoalOf k) (f.passes).added (g.passes).added (f.built k ha hb) (g.built k ha hb);
     fault = g.fault;
   }
 
   -- Only the interner's keys were added to.
-  pub noted_with : {X : Type 0} {r q : State Key Id Name} → Extends r.meaning q.meaning → WithMeaning r q.meaning q →
-      (x : Result X (RelateFault Key Id Name)) → OnlyMemory x → Noted r q x
+  pub noted_with : {X : Type 0} {r q : State Key Id Name} {a b : Tree} → Extends r.meaning q.meaning →
+      WithMeaning r q.meaning q → (x : Result X (RelateFault Key Id Name)) → OnlyMemory x → Noted r q a b x
   unfolding passes_grown passes_nowhere
   noted_with {r = r} {q = q} e w x fault = record {
     passes = passes_grown (passes_nowhere 0 r) e w;
     store = w.store;
     quiet = All-nil IsQuiet;
+    built = λ k ha hb. All-nil (IsGoalOf k);
     fault = fault;
   }
 
   -- Goals that ask nothing of two terms were added, or were not.
-  pub noted_added : {X A F : Type 0} {r q : State Key Id Name} (goals : List Goal) (result : Result A F) →
-      AddsGoals r q goals result → All (RegisteredIn r r.store) goals →
-      All IsQuiet goals → (x : Result X (RelateFault Key Id Name)) → OnlyMemory x → Noted r q x
-  noted_added {X = X} {r = r} {q = q} goals result h asks quiet x fault = go result h.goals
+  pub noted_added : {X A F : Type 0} {r q : State Key Id Name} {a b : Tree} (goals : List Goal) (result : Result A F) →
+      AddsGoals r q goals result → All (RegisteredIn r r.store) goals → All IsQuiet goals →
+      ((k : Kit) → IsBuiltOf k a → IsBuiltOf k b → All (IsGoalOf k) goals) →
+      (x : Result X (RelateFault Key Id Name)) → OnlyMemory x → Noted r q a b x
+  noted_added {X = X} {r = r} {q = q} {a = a} {b = b} goals result h asks quiet built x fault = go result h.goals
     where
-      noted : (added : List Goal) → q.goals ≡ r.goals ++ added →
-          All (RegisteredIn r r.store) added → All IsQuiet added → Noted r q x
-      noted added lengthens registered silent = record {
+      noted : (added : List Goal) → q.goals ≡ r.goals ++ added → All (RegisteredIn r r.store) added →
+          All IsQuiet added → ((k : Kit) → IsBuiltOf k a → IsBuiltOf k b → All (IsGoalOf k) added) → Noted r q a b x
+      noted added lengthens registered silent of_kit = record {
         passes = record {
           extends = subst (λ m. Extends r.meaning m) (sym h.meaning) (stays_same r.meaning);
           goes = subst (Goes 0 r.store) (sym h.store) (goes_nowhere 0 r.store);
@@ -60,13 +65,14 @@ module _ {Key Id Name : Type 0} where
         };
         store = h.store;
         quiet = silent;
+        built = of_kit;
         fault = fault;
       }
 
-      go : {A F : Type 0} (res : Result A F) → q.goals ≡ with_goals r.goals goals res → Noted r q x
-      go (Ok a) e = noted goals e asks quiet
+      go : {A F : Type 0} (res : Result A F) → q.goals ≡ with_goals r.goals goals res → Noted r q a b x
+      go (Ok y) e = noted goals e asks quiet built
       go (Err f) e = noted [] (e ∙ sym (append-nil r.goals))
-          (All-nil (RegisteredIn r r.store)) (All-nil IsQuiet)
+          (All-nil (RegisteredIn r r.store)) (All-nil IsQuiet) (λ k ha hb. All-nil (IsGoalOf k))
 
 -- Where nothing was recorded, what is recorded is later.
 pub later_same : {was now : Store} → now ≡ was → IsLater was now

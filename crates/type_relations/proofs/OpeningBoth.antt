@@ -1,7 +1,7 @@
 -- Opening two binders in a context, the one with placeholders and the other with new variables: what that does to the
 -- context, and that the bodies may stand for the binders.
 use Rattle.std.proofs.Common.{◌≡◌, ◌⊎◌, ℕ, ◌+◌, ◌<◌, refl, sym, ap, ap₂, ◌∙◌, arith, inl, inr, subst, subst₂, List}
-use Rattle.std.proofs.Common.{[], ◌∷◌, ◌++◌, length, get_or}
+use Rattle.std.proofs.Common.{[], ◌∷◌, ◌++◌, length, get_or, IsTrue}
 use Rattle.term_enums.specs.declared.Variance.{Variance}
 use Rattle.relation_terms.specs.Heads.{BoundKind, VarKind, type_var, const_var, Leaf, variable, bound, placeholder}
 use Rattle.relation_terms.specs.Heads.{atom, unknown}
@@ -16,6 +16,8 @@ use Rattle.relation_contexts.specs.Goals.{Goal}
 use Rattle.relation_contexts.specs.Steps.{ChangesNothing, EntersForall, LeavesBody, EntersUniverse, InstantiatesBinder}
 use Rattle.relation_contexts.specs.Steps.{ArePlaceholders}
 use Rattle.relation_contexts.specs.Outcomes.{StepsTo}
+use Rattle.relation_contexts.specs.Kits.{Kit, IsBuiltOf, StaysBuilt, BuiltFrom}
+use Rattle.relation_contexts.proofs.Building.{body_built, built_opened}
 use Rattle.relation_contexts.specs.Measures.{Goes}
 use Rattle.relation_contexts.specs.Settings.{Settings}
 use Rattle.relation_contexts.specs.Errors.{IsStandIn, StandFor, ErrorOf, of_bodies}
@@ -149,6 +151,12 @@ pub bodies_error : {Key Id Name : Type 0} (m : Meaning Key Id Name) (k : Setting
 bodies_error m k c st v e ks ls t u x y p q o =
     of_bodies p.trees q.trees refl refl p.stand q.stand (subst₂ (ErrorOf m k c st v e) p.put q.put o)
 
+-- Opened bodies are built of what the binders are.
+pub bodies_built : (st : Store) (ks ls : List BoundKind) (t u x y : Tree) → StandIns ks t x → StandIns ls u y →
+    BuiltFrom st (bind ks t) (bind ls u) x y
+bodies_built st ks ls t u x y p q = λ k ha hb all.
+    (body_built k ks p.trees t x p.stand p.put ha.1, body_built k ls q.trees u y q.stand q.put hb.1)
+
 -- Two binders agree if the opened bodies do.
 pub bodies_agree : (c : Items) (v : Variance) (ks ls : List BoundKind) (t u x y : Tree) → StandIns ks t x →
     StandIns ls u y → AreBoundAs ks 0 t → AreBoundAs ls 0 u → Agree c (at v) x y →
@@ -159,6 +167,7 @@ bodies_agree c v ks ls t u x y p q f h g =
 -- What is shown of both bodies together, of which the first was entered and the second instantiated.
 pub record BothOpened (before after : Store) (ks ls : List BoundKind) (t u x y : Tree) : Type 0 where
   pub goes : Goes 0 before after
+  pub built : (a b : Tree) → ((k : Kit) → IsBuiltOf k a → IsTrue k.binders) → StaysBuilt before after [] a b
   pub same_budget : after.budget ≡ before.budget
   pub entered_in : IsTermIn after x
   pub instantiated_in : IsTermIn after y
@@ -205,6 +214,7 @@ module _ (before middle after : Store) (g : IsSound before) (ks ls : List BoundK
   pub both_opened : BothOpened before after ks ls t u x y
   both_opened = record {
     goes = opened_goes before middle after enters.changes_nothing g (each_unbound makes.makes);
+    built = λ a b has. built_opened before after a b enters.changes_nothing (each_unbound makes.makes) has;
     same_budget = added.budget ∙ enters.changes_nothing.same_budget;
     entered_in = let e = added.universe in
         later_term middle after (added.later).grows (omega (arith, e)) x entered_there.0;

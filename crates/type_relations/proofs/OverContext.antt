@@ -27,6 +27,8 @@ use Rattle.relation_contexts.proofs.Agreeing.{agree_read, agree_root, agree_root
 use Rattle.relation_contexts.specs.Stores.{Store, IsSound, Satisfies, IsMade, InContext, MayStandFor, weight}
 use Rattle.relation_contexts.specs.Goals.{Goal, GoalInContext, MakesOneTree}
 use Rattle.relation_contexts.specs.Steps.{Equates, InstantiatesNumber, StaysFull}
+use Rattle.relation_contexts.specs.Kits.{StaysBuilt}
+use Rattle.relation_contexts.proofs.Building.{built_itself, builds_number, read_from}
 use Rattle.relation_contexts.specs.Outcomes.{Exact, NoEqualTerms, NoUnifier}
 use Rattle.relation_contexts.specs.Measures.{Goes}
 use Rattle.relation_contexts.specs.Errors.{ErrorOf, of_entries, IsReadAs, itself, by_class, by_binding}
@@ -39,11 +41,11 @@ use Rattle.relation_contexts.specs.ContextCalls.{Grows, Stands, HasCoveredBindin
 use Rattle.type_relations.specs.Solving.{solver_manner}
 use Rattle.relation_contexts.proofs.Trees.{all_leaves}
 use Rattle.relation_contexts.proofs.Going.{later_itself, goes_nowhere}
-use Rattle.relation_contexts.proofs.Full.{full_itself, read_plain}
+use Rattle.relation_contexts.proofs.Full.{full_itself}
 use Rattle.relation_contexts.proofs.ReadAs.{read_value, read_later, read_weight}
 use Rattle.relation_contexts.specs.OneUniverse.{KeepsUniverse}
 use Rattle.relation_contexts.proofs.OneUniverse.{keeps_pair, binds_itself, reading_leads}
-use Rattle.relation_contexts.proofs.Roots.{roots_goes, roots_equal, roots_keep, roots_exactly, roots_universe, roots_full, exact_turned}
+use Rattle.relation_contexts.proofs.Roots.{roots_goes, roots_equal, roots_keep, roots_exactly, roots_universe, roots_full, roots_built, exact_turned}
 use Rattle.relation_contexts.proofs.Numbers.{IsNumber, number_goes, number_equal, number_keep, number_exactly, number_apart}
 use Rattle.relation_contexts.proofs.Numbers.{number_universe, number_full}
 use Rattle.relation_contexts.proofs.Numbers.{number_no_unifier, number_error, number_error_back}
@@ -103,12 +105,19 @@ module _ {Key Id Name : Type 0} (r : State Key Id Name) where
       ((w : Interpretation) (s : Assign) → Satisfies w was s → apply s a ≡ apply s b →
       Satisfies w now s) →
       (IsFirstOrderStore was → IsFirstOrderStore now × Exact was now a b) → KeepsUniverse was now → StaysFull was now →
+      StaysBuilt was now [] a b →
       (tree t ≡ a) ⊎ (tree t ≡ b) → IsTrue (known (tree t)) → ((c : Items) → Agree c (at r.ambient) a b) →
       Stepped solver_manner F (standing r m was L) (standing r n now K) a b tree (Ok (Done t))
   unfolding over_passes
-  one_step {X} F m n was now L K a b tree t same goes l equal keep exactly universe full answer sure agreeing =
+  one_step {X} F m n was now L K a b tree t same goes l equal keep exactly universe full built answer sure agreeing =
       subst (λ n. Stepped solver_manner F (standing r m was L) (standing r n now K) a b tree (Ok (Done t))) (sym same)
-      (record { passes = related.passes; verdict = related.verdict; exact = related.exact; full = related.full })
+      (record {
+        passes = related.passes;
+        verdict = related.verdict;
+        exact = related.exact;
+        full = related.full;
+        built = related.built;
+      })
     where
       answers : (tree t ≡ a) ⊎ (tree t ≡ b) → (w : Interpretation) (s : Assign) → Satisfies w now s →
           apply s a ≡ apply s (tree t)
@@ -131,6 +140,7 @@ module _ {Key Id Name : Type 0} (r : State Key Id Name) where
         };
         exact = λ k is pair. let z = exactly pair.bindings in (z.0, z.1, keeps_pair was now a b universe);
         full = λ ha hb. full;
+        built = built;
       }
 
   -- Nothing was recorded, and an error tells two terms apart.
@@ -138,6 +148,7 @@ module _ {Key Id Name : Type 0} (r : State Key Id Name) where
       (g : TypeError Key Id Name) → n ≡ m → now ≡ was → (L → K) → f ≡ Unrelated g →
       NoEqualTerms was a b → NoUnifier was a b → ErrorOf m r.kept.settings (items_of m) was r.ambient g a b → KnowsError m g →
       Stepped solver_manner F (standing r m was L) (standing r n now K) a b tree (Err f)
+  unfolding over_passes
   unrelated_step {X} F m n was now L K a b tree f g same stays l is apart no_unifier error sure =
       subst₂ (λ n now. Stepped solver_manner F (standing r m was L) (standing r n now K) a b tree (Err f)) (sym same)
       (sym stays) (subst (λ f. Stepped solver_manner F (standing r m was L) (standing r m was K) a b tree (Err f))
@@ -146,6 +157,7 @@ module _ {Key Id Name : Type 0} (r : State Key Id Name) where
         verdict = (apart, error, sure);
         exact = λ k is pair. (no_unifier, binds_itself was a b);
         full = λ ha hb. full_itself was;
+        built = built_itself was a b;
       }))
 
   -- Two roots of a kind were made one.
@@ -162,6 +174,7 @@ module _ {Key Id Name : Type 0} (r : State Key Id Name) where
       (λ h. let z = roots_exactly was now k o i l sound still equates h in
       (z.0, subst₂ (Exact was now) (sym p) (sym q) z.1))
       (roots_universe was now k o i l sound still equates) (roots_full was now k o i l sound still equates)
+      (roots_built was now k o i l sound still equates a b)
       (inl answer) (subst (λ z. IsTrue (known z)) (sym (answer ∙ p)) refl)
       (λ c. agree_root c r.ambient k i a b p (ap sort_of q))
 
@@ -177,6 +190,7 @@ module _ {Key Id Name : Type 0} (r : State Key Id Name) where
       (λ f. let z = number_exactly was now k i b h sound f in
       (z.0, subst (λ c. Exact was now c b) (sym p) z.1))
       (number_universe was now k i b h sound) (number_full was now k i b h sound)
+      (λ j ha hb all. builds_number j b h hb all)
       (inr answer) (subst (λ z. IsTrue (known z)) (sym answer) sure)
       (λ c. agree_root c r.ambient k i a b p (number_sort k b h.fits))
 
@@ -195,6 +209,7 @@ module _ {Key Id Name : Type 0} (r : State Key Id Name) where
             (subst (λ c. Exact was now c a) (sym p) z.1),
       ))
       (number_universe was now k i a h sound) (number_full was now k i a h sound)
+      (λ j ha hb all. builds_number j a h ha all)
       (inl answer) (subst (λ z. IsTrue (known z)) (sym answer) sure)
       (λ c. agree_root_back c r.ambient k i a b p (number_sort k a h.fits))
 
@@ -276,7 +291,7 @@ module _ {Key Id Name : Type 0} (r : State Key Id Name) where
       not_left = covered_not_left r.kept.settings (tree t) (tree u) k.left_taken.1 k.right_taken.1;
       answers = λ z w s sat all o. subst (λ i. Rel (items_of m) w r.kept.environment (at r.ambient) i (apply s z))
           (sym (read_value was s sat.bindings a (tree t) p)) o;
-      no_binder = λ all ha hb. (read_plain was all a (tree t) p ha, read_plain was all b (tree u) q hb);
+      built = read_from was a b (tree t) (tree u) p q;
       same_budget = refl;
       not_larger = let i = read_weight was g a (tree t) p in
           let j = read_weight was g b (tree u) q in omega (arith, i, j);
@@ -287,6 +302,7 @@ module _ {Key Id Name : Type 0} (r : State Key Id Name) where
       reading_leads was g a b (tree t) (tree u) p q,
     );
     full = λ ha hb. full_itself was;
+    built = built_itself was a b;
   }
 
 -- A relation has recorded what a context has.

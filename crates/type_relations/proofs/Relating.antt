@@ -13,7 +13,10 @@ use Rattle.relation_folds.specs.declared.error.RelateFault.{RelateFault}
 use Rattle.relation_folds.specs.declared.error.RelateFault.TheVariants.{Memory, Budget, Unrelated}
 use Rattle.relation_contexts.specs.declared.relate.StructurallyRelateAliases.{StructurallyRelateAliases}
 use Rattle.relation_contexts.specs.Contexts.{Context}
-use Rattle.type_relations.specs.Relating.{term_in, AnswersAlone, AnswersSubtype}
+use Rattle.relation_contexts.specs.Goals.{Goal as GoalOf}
+use Rattle.relation_contexts.specs.Kits.{StaysBuilt}
+use Rattle.relation_contexts.proofs.Building.{built_refused}
+use Rattle.type_relations.specs.Relating.{term_in, AnswersAlone, AnswersSubtype, BuildsNoMore}
 use Rattle.type_relations.specs.Subtyping.{subtype_at, RegistersAlone, RegistersSubtype}
 use Rattle.type_relations.specs.Solving.{solving_in, solver_manner}
 
@@ -37,3 +40,12 @@ module _ {S Key Id Name A : Type 0} (aliases : StructurallyRelateAliases) (X : T
   refused_alone_in f res is h = subst (AnswersSubtype state old new over tree e v a b) (sym is)
       (λ differ x y i j. IfSome_then (subtype_at v (leaf (variable type_var x)) (leaf (variable type_var y)))
       (h tt differ x y i j) (λ p z. refused p f z))
+
+-- What was bound is built of no more, where goals that were registered are not answered.
+pub refused_built : {S Key Id Name A : Type 0} (state : S → Context Key Id Name) (old new : S) (over : Option Head)
+    (tree : Meaning Key Id Name → A → Tree) (a b : A) (f : RelateFault Key Id Name)
+    (res : Result (Vec (Goal Key (PredicateKey Key))) (RelateFault Key Id Name)) → res ≡ Err f → (gs : List GoalOf) →
+    StaysBuilt (state old).store (state new).store gs (term_in (state old) over tree a) (term_in (state old) over tree b) →
+    BuildsNoMore state old new over tree a b res
+refused_built state old new over tree a b f res is gs h = subst (BuildsNoMore state old new over tree a b) (sym is)
+    (built_refused gs (term_in (state old) over tree a) (term_in (state old) over tree b) h)

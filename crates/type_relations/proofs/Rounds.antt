@@ -21,6 +21,7 @@ use Rattle.relation_contexts.specs.Goals.{Goal}
 use Rattle.relation_contexts.specs.Outcomes.{Outcome, NeverOne}
 use Rattle.relation_contexts.specs.Measures.{grown, depth, Goes}
 use Rattle.relation_contexts.specs.Steps.{HasNoBinder}
+use Rattle.relation_contexts.specs.Kits.{Kit, IsBuiltOf, StaysBuilt}
 use Rattle.relation_contexts.specs.Errors.{ErrorOf}
 use Rattle.relation_contexts.specs.Agreeing.{Agree}
 use Rattle.relation_contexts.specs.Lawful.{State, Manners, MayAnswer, Passes, Asked, Refuses, Related, items_in}
@@ -30,6 +31,7 @@ use Rattle.type_relations.specs.Rounds.{RoundLeads, Opened}
 use Rattle.relation_contexts.proofs.Standing.{term_context}
 use Rattle.relation_contexts.proofs.Going.{grown-mono, le_grown, depth-strict, depth_later}
 use Rattle.relation_contexts.proofs.Full.{first_order_plain, full_never}
+use Rattle.relation_contexts.proofs.Building.{built_led, built_then}
 use Rattle.relation_contexts.proofs.Answering.{may_itself, same_items}
 use Rattle.relation_contexts.proofs.Composing.{steps_compose, values_still}
 use Rattle.relation_contexts.proofs.Opening.{two_rounds_relate}
@@ -55,6 +57,12 @@ pub under_known : (vars : Option (List BoundKind)) (t : Tree) → IsTrue (known 
     HasNoBinder (under vars t) → ⊥
 under_known (Some ks) t k h = h
 under_known None t k h = false≢true k
+
+-- What a known binder is built of has binders.
+pub under_built : (vars : Option (List BoundKind)) (t : Tree) → IsTrue (known (under vars t)) → (k : Kit) →
+    IsBuiltOf k (under vars t) → IsTrue k.binders
+under_built (Some ks) t known k h = h.0
+under_built None t known k h = absurd (false≢true known)
 
 pub has_binder : {Key Id Name : Type 0} (m : Meaning Key Id Name) (p : Part Key Id) → IsBinderPart p →
     IsTrue (known (part_tree m p)) → HasNoBinder (part_tree m p) → ⊥
@@ -200,6 +208,7 @@ pub record HalfDone {Key Id Name : Type 0} (M : Manners) (r p : State Key Id Nam
   pub begun : Begun (items_in r) r.kept.environment r.ambient r.store p.store r.goals passes.added a b
   pub room : weight p.store a + weight p.store b ≤
       grown (passes.goes).spent (weight r.store a + weight r.store b)
+  pub built : StaysBuilt r.store p.store passes.added a b
   pub agrees : (M r.kept.settings).relates_agreeing → Agree (items_in r) (at r.ambient) a b
 
 module _ {Key Id Name : Type 0} where
@@ -209,7 +218,7 @@ module _ {Key Id Name : Type 0} where
       Related {X = X} M r q r.ambient a b answer (Err f)
   opening_refused {r = r} M n a b tree answer never Memory o =
       stopped M r.ambient a b answer o.passes (λ k is pair. absurd (never (first_order_plain a pair.left)))
-      (full_never a b never)
+      (full_never a b never) o.built
   opening_refused M n a b tree answer never f o = absurd o.verdict
 
   -- The bodies of a round weigh less.
@@ -248,24 +257,27 @@ module _ {Key Id Name : Type 0} where
   pub first_refused : {X Y : Type 0} {r q p : State Key Id Name} (M : Manners) (a b x y : Tree) (tree : X → Tree)
       (answer : Y → Tree) → (HasNoBinder a → ⊥) → IsSound p.store →
       (g : Passes (weight r.store a + weight r.store b) r q) → RoundLeads M r q g.added 0 a b x y →
-      (e : RelateFault Key Id Name) → Related M q p r.ambient x y tree (Err e) →
-      Related {X = Y} M r p r.ambient a b answer (Err e)
-  first_refused M a b x y tree answer never sound g l e f = record {
+      StaysBuilt r.store q.store g.added a b → (e : RelateFault Key Id Name) →
+      Related M q p r.ambient x y tree (Err e) → Related {X = Y} M r p r.ambient a b answer (Err e)
+  unfolding passes_then
+  first_refused M a b x y tree answer never sound g l built e f = record {
     passes = passes_then g f.passes (round_small M 0 a b x y g l);
     verdict = round_refuses M g.added a b x y l f.passes sound e f.verdict;
     exact = λ k is pair. absurd (never (first_order_plain a pair.left));
     full = full_never a b never;
+    built = built_led g.added (f.passes).added a b x y built l.built f.built;
   }
 
   -- The bodies of round 0 were related.
   pub first_done : {X : Type 0} {r q p : State Key Id Name} (M : Manners) (a b x y : Tree) (tree : X → Tree) (t : X)
       (g : Passes (weight r.store a + weight r.store b) r q) → RoundLeads M r q g.added 0 a b x y →
-      Related M q p r.ambient x y tree (Ok t) → HalfDone M r p a b
+      StaysBuilt r.store q.store g.added a b → Related M q p r.ambient x y tree (Ok t) → HalfDone M r p a b
   unfolding passes_then
-  first_done {r = r} {q = q} {p = p} M a b x y tree t g l f = record {
+  first_done {r = r} {q = q} {p = p} M a b x y tree t g l built f = record {
     passes = passes_then g f.passes (round_small M 0 a b x y g l);
     begun = begun l.steps;
     room = room (passes_then g f.passes (round_small M 0 a b x y g l)) (binders l.steps);
+    built = built_led g.added (f.passes).added a b x y built l.built f.built;
     agrees = λ k. l.agrees (items_in r) (subst (λ c. Agree c (at r.ambient) x y) (same_items g)
         ((f.verdict).agrees (manner_then M (λ z. z.relates_agreeing) g k)));
   }
@@ -313,9 +325,11 @@ module _ {Key Id Name : Type 0} where
   pub reopening_refused : {T X : Type 0} {r p q : State Key Id Name} (M : Manners) (n : ℕ) (a b : Tree)
       (tree : T → Tree) (answer : X → Tree) → (HasNoBinder a → ⊥) → HalfDone M r p a b → (f : RelateFault Key Id Name) →
       Opened M p q n a b tree (Err f) → Related {X = X} M r q r.ambient a b answer (Err f)
+  unfolding passes_then
   reopening_refused {r = r} M n a b tree answer never h Memory o =
       stopped M r.ambient a b answer (passes_then h.passes o.passes h.room)
       (λ k is pair. absurd (never (first_order_plain a pair.left))) (full_never a b never)
+      (built_then (h.passes).added (o.passes).added a b h.built o.built)
   reopening_refused M n a b tree answer never h f o = absurd o.verdict
 
   -- Nothing was left for round 1.
@@ -336,6 +350,7 @@ module _ {Key Id Name : Type 0} where
     };
     exact = λ j is pair. absurd (never (first_order_plain a pair.left));
     full = full_never a b never;
+    built = built_then (h.passes).added (o.passes).added a b h.built o.built;
   }
     where
       whole : Begun (items_in r) r.kept.environment r.ambient r.store p.store r.goals (h.passes).added a b →
@@ -415,7 +430,7 @@ module _ {Key Id Name : Type 0} where
 
   module _ {r p q : State Key Id Name} (M : Manners) (a b x y : Tree) (never : HasNoBinder a → ⊥)
       (k : Asked M r r.ambient a b) (h : HalfDone M r p a b) (g : Passes (weight p.store a + weight p.store b) p q)
-      (l : RoundLeads M p q g.added 1 a b x y) where
+      (l : RoundLeads M p q g.added 1 a b x y) (opened : StaysBuilt p.store q.store g.added a b) where
     left_context : InContext r.store a
     left_context = term_context r.store a k.left_in
 
@@ -433,15 +448,22 @@ module _ {Key Id Name : Type 0} where
     second_refuses f sound Budget c = c
     second_refuses f sound Memory c = tt
 
+    second_built : {n : ℕ} {z : State Key Id Name} (f : Passes n q z) → StaysBuilt q.store z.store f.added x y →
+        StaysBuilt r.store z.store ((h.passes).added ++ (g.added ++ f.added)) a b
+    second_built f built = built_then (h.passes).added (g.added ++ f.added) a b h.built
+        (built_led g.added f.added a b x y opened l.built built)
+
     -- The bodies of round 1 were refused, and so are the binders.
     pub second_refused : {X Y : Type 0} {z : State Key Id Name} (tree : X → Tree) (answer : Y → Tree) →
         IsSound z.store → (e : RelateFault Key Id Name) → Related M q z p.ambient x y tree (Err e) →
         Related {X = Y} M r z r.ambient a b answer (Err e)
+    unfolding passes_then
     second_refused tree answer sound e f = record {
       passes = passes_then h.passes (passes_then g f.passes (round_small M 1 a b x y g l)) h.room;
       verdict = second_refuses f.passes sound e f.verdict;
       exact = λ j is pair. absurd (never (first_order_plain a pair.left));
       full = full_never a b never;
+      built = second_built f.passes f.built;
     }
 
     -- They were related, and so are the binders.
@@ -459,6 +481,7 @@ module _ {Key Id Name : Type 0} where
       };
       exact = λ j is pair. absurd (never (first_order_plain a pair.left));
       full = full_never a b never;
+      built = second_built f.passes f.built;
     }
 
   -- The bodies that a round leads to are less deep than the binders, in round 0 and in round 1.

@@ -21,6 +21,8 @@ use Rattle.relation_contexts.proofs.ReadAs.{read_value, read_later, read_weight}
 use Rattle.relation_contexts.proofs.Agreeing.{agree_read}
 use Rattle.relation_contexts.proofs.Going.{later_through, goes_within}
 use Rattle.relation_contexts.proofs.Full.{read_plain}
+use Rattle.relation_contexts.specs.Kits.{BuiltFrom}
+use Rattle.relation_contexts.proofs.Building.{built_read}
 use Rattle.relation_contexts.proofs.Standing.{made_of_term}
 use Rattle.relation_contexts.specs.Resolving.{IsShallow, root, stays_bound, formed, IsShallowConst, const_root, no_variable}
 use Rattle.type_relations.specs.Solving.{solver_manner}
@@ -105,6 +107,9 @@ module _ {Key Id Name : Type 0} (r q : State Key Id Name) (g : IsSound r.store) 
     agrees = λ c z. agree_read c r.store g r.ambient a b u w p o (h.agrees c z);
   }
 
+  read_built : (x y : Tree) → BuiltFrom r.store u w x y → BuiltFrom r.store a b x y
+  read_built x y f k ha hb all = f k (built_read k r.store all a u p ha) (built_read k r.store all b w o hb) all
+
   as_read : LeadsInUniverse r.store r.store a b u w
   as_read = reading_leads r.store g a b u w p o
 
@@ -133,7 +138,7 @@ module _ {Key Id Name : Type 0} (r q : State Key Id Name) (g : IsSound r.store) 
         not_left = h.not_left;
         answers = λ t i s sat all f. subst (λ z. Rel (items_in q) i q.kept.environment (at r.ambient) z (apply s t))
             (sym (value_a i s (shrinks i s sat))) (h.answers t i s sat all f);
-        no_binder = λ all ha hb. h.no_binder all (read_plain r.store all a u p ha) (read_plain r.store all b w o hb);
+        built = read_built (tree x) (tree y) h.built;
         same_budget = h.same_budget;
         not_larger = let e = as_large in let l = h.not_larger in omega (arith, e, l);
       }
@@ -148,6 +153,8 @@ module _ {Key Id Name : Type 0} (r q : State Key Id Name) (g : IsSound r.store) 
         answer_known = h.answer_known;
         falls = h.falls;
         may_instantiate = h.may_instantiate;
+        built = read_built (tree x) (tree y) h.built;
+        read_built = read_built (tree k) (tree l) h.read_built;
         not_larger = subst (λ z. weight q.store (tree x) + weight q.store (tree y) ≤ grown 1 z) (sym as_large) h.not_larger;
       }
       read_verdict (Err (Unrelated e)) h = (
@@ -200,4 +207,5 @@ module _ {Key Id Name : Type 0} (r q : State Key Id Name) (g : IsSound r.store) 
         (h.exact z is (read_pair r.store a b u w p o pair));
     full = λ ha hb full. h.full (read_plain r.store full.binds_no_binder a u p ha)
         (read_plain r.store full.binds_no_binder b w o hb) full;
+    built = λ k ha hb all. h.built k (built_read k r.store all a u p ha) (built_read k r.store all b w o hb) all;
   }

@@ -35,6 +35,8 @@ use Rattle.relation_contexts.specs.Stores.{ConstraintHolds, all_bound}
 use Rattle.relation_contexts.specs.Goals.{goals_of, KnowsGoal, Registered, GoalInContext, Holds, MakesOneTree}
 use Rattle.relation_contexts.specs.Headline.{AnswersGoals, KeepsEqualTerms}
 use Rattle.relation_contexts.specs.Steps.{AddsConstraint, Equates, StaysFull}
+use Rattle.relation_contexts.specs.Kits.{StaysBuilt}
+use Rattle.relation_contexts.proofs.Building.{built_itself, built_same, built_constraint}
 use Rattle.relation_contexts.specs.Outcomes.{Outcome}
 use Rattle.relation_contexts.specs.Measures.{Goes}
 use Rattle.relation_contexts.specs.Parts.{IsFormedConst}
@@ -137,6 +139,11 @@ pub constrained_full : {Key Id Name A F : Type 0} (c d : Context Key Id Name) (q
 constrained_full c d q (Ok x) h = constraint_full c.store d.store q h
 constrained_full c d q (Err f) h = full_same h
 
+pub constrained_built : {Key Id Name A F : Type 0} (c d : Context Key Id Name) (q : Constraint) (r : Result A F)
+    (a b : Tree) → Constrains c d q r → StaysBuilt c.store d.store [] a b
+constrained_built c d q (Ok x) a b h = built_constraint c.store d.store a b h.same_entries h.same_universe
+constrained_built c d q (Err f) a b h = built_same a b h
+
 pub constrained_bound : {Key Id Name A F : Type 0} (c d : Context Key Id Name) (q : Constraint) (r : Result A F) →
     Constrains c d q r → all_bound d.store ≡ all_bound c.store
 constrained_bound c d q (Ok x) h = constraint_bound c.store d.store q h
@@ -179,9 +186,10 @@ module _ {Key Id Name : Type 0} {j j' : Held Key} (held : j' ≡ j) (gs : List (
       (env : KnowsGoals m e gs) (same : n ≡ m) (l : K) (a b : Tree) where
     -- Memory ran out.
     pub memory_refused : (tree : X → Tree) (r : Result X (RelateFault Key Id Name)) → r ≡ Err Memory →
-        Goes 0 was now → all_bound now ≡ all_bound was → StaysFull was now →
+        Goes 0 was now → all_bound now ≡ all_bound was → StaysFull was now → StaysBuilt was now [] a b →
         Related solver_manner (solving j gs m was L v e) (solving j' gs n now K v e) v a b tree r
-    memory_refused tree r is goes as_many full = subst₂ (λ n r. Related solver_manner (solving j gs m was L v e)
+    unfolding solver_passes
+    memory_refused tree r is goes as_many full built = subst₂ (λ n r. Related solver_manner (solving j gs m was L v e)
         (solving j' gs n now K v e) v a b tree r)
         (sym same) (sym is)
         (record {
@@ -189,6 +197,7 @@ module _ {Key Id Name : Type 0} {j j' : Held Key} (held : j' ≡ j) (gs : List (
           verdict = tt;
           exact = λ k is pair. binds_none was now a b as_many;
           full = λ ha hb. full;
+          built = built;
         })
 
   -- Two regions were related by what was recorded.
@@ -253,6 +262,7 @@ module _ {Key Id Name : Type 0} {j j' : Held Key} (held : j' ≡ j) (gs : List (
                     (standing_keeps was now added.same_entries added.same_universes),
               );
           full = λ ha hb. constraint_full was now (constraint_of m c) added;
+          built = built_constraint was now (m.region a) (m.region b) added.same_entries added.same_universe;
         }
 
   -- The same by what the variance asks for.
@@ -277,7 +287,7 @@ module _ {Key Id Name : Type 0} {j j' : Held Key} (held : j' ≡ j) (gs : List (
       Related solver_manner (solving j gs m was L v e) (solving j' gs n now K v e) v a b tree (Ok t) →
       Stepped solver_manner F (solving j gs m was L v e) (solving j' gs n now K v e) a b tree (Ok (Done t))
   answered_step F m n was now L K v e a b tree t h =
-      record { passes = h.passes; verdict = h.verdict; exact = h.exact; full = h.full }
+      record { passes = h.passes; verdict = h.verdict; exact = h.exact; full = h.full; built = h.built }
 
   -- The relation is lawful after work over its context.
   pub still_lawful : {m n : Meaning Key Id Name} {L K : Type 0} (e : ParamEnvKey Key) → Extends m n → KnowsGoals m e gs →
@@ -319,6 +329,7 @@ module _ {Key Id Name : Type 0} {j j' : Held Key} (held : j' ≡ j) (gs : List (
       (result : Result (Step X) (RelateFault Key Id Name)) → Extends m n → KnowsGoals m e gs → now ≡ was → K →
       result ≡ Err Memory →
       Stepped solver_manner F (solving j gs m was L v e) (solving j' gs n now K v e) a b tree result
+  unfolding solver_passes
   memory_step F m n was now L K v e a b tree result grown env stays l is =
       subst₂ (λ now r. Stepped solver_manner F (solving j gs m was L v e) (solving j' gs n now K v e) a b tree r) (sym stays)
       (sym is) (record {
@@ -326,6 +337,7 @@ module _ {Key Id Name : Type 0} {j j' : Held Key} (held : j' ≡ j) (gs : List (
         verdict = tt;
         exact = λ k is pair. binds_itself was a b;
         full = λ ha hb. full_itself was;
+        built = built_itself was a b;
       })
 
 -- The reference that a relation holds need not be named, nor what it leaves as it was.
@@ -383,6 +395,7 @@ module _ {Key Id Name X : Type 0} (j i : Held Key) (gs hs : List (KeyedGoal Key 
     verdict = verdict result h.verdict;
     exact = h.exact;
     full = h.full;
+    built = h.built;
   }
     where
       verdict : (r : Result X (RelateFault Key Id Name)) →

@@ -40,7 +40,9 @@ use Rattle.type_relations.proofs.OverContext.{all_taken}
 use Rattle.type_relations.proofs.Solving.{held_grows, solver_passes}
 use Rattle.type_relations.proofs.OpeningBoth.{changes_made, opened_goes, body_scope, unused_stand_ins, bodies_error}
 use Rattle.type_relations.proofs.OpeningBoth.{bodies_agree}
-use Rattle.type_relations.proofs.OpeningBoth.{BothOpened, both_opened, bodies_smaller}
+use Rattle.type_relations.proofs.OpeningBoth.{BothOpened, both_opened, bodies_smaller, bodies_built}
+use Rattle.relation_contexts.specs.Kits.{Kit, IsBuiltOf, StaysBuilt}
+use Rattle.relation_contexts.proofs.Building.{built_itself, built_opened}
 
 -- A body in which something is bound outside uses what its binder binds.
 one_uses : (t u : Tree) → (bound_var_escapes t || bound_var_escapes u) ≡ true → StaysWithin 0 t × StaysWithin 0 u → ⊥
@@ -146,22 +148,24 @@ module _ {Key Id Name : Type 0} (aliases : StructurallyRelateAliases) (j : ℕ)
 
   opened : {T : Type 0} → KnowsGoals c.meaning e gs → Grows c d → Goes 0 c.store d.store → (round : ℕ) (a b : Tree)
       (tree : T → Tree) (result : Result (Option (T × T)) (RelateFault Key Id Name)) →
-      RoundVerdict solver_manner before after [] round a b tree result →
+      RoundVerdict solver_manner before after [] round a b tree result → StaysBuilt c.store d.store [] a b →
       Opened solver_manner before after round a b tree result
   unfolding solver_passes
-  opened env grows goes round a b tree result h = record {
+  opened env grows goes round a b tree result h built = record {
     passes = solver_passes (held_grows aliases j c d grows) gs v e grows.extends env (goes_within (omega arith) goes) grows.lawful;
     verdict = h;
+    built = built;
   }
 
   -- A growth was refused.
   pub opening_refused : {T : Type 0} → KnowsGoals c.meaning e gs → IsSound c.store → Grows c d → (middle : Store) →
       ChangesNothing c.store middle → MakesUnbound middle.universe middle d.store → (round : ℕ) (a b : Tree)
       (tree : T → Tree) (result : Result (Option (T × T)) (RelateFault Key Id Name)) → result ≡ Err Memory →
-      Opened solver_manner before after round a b tree result
-  opening_refused env sound grows middle changes makes round a b tree result is =
+      ((k : Kit) → IsBuiltOf k a → IsTrue k.binders) → Opened solver_manner before after round a b tree result
+  opening_refused env sound grows middle changes makes round a b tree result is has =
       subst (Opened solver_manner before after round a b tree) (sym is)
-      (opened env grows (opened_goes c.store middle d.store changes sound makes) round a b tree (Err Memory) tt)
+      (opened env grows (opened_goes c.store middle d.store changes sound makes) round a b tree (Err Memory) tt
+      (built_opened c.store d.store a b changes makes has))
 
   -- Bodies that were opened.
   module _ (round : ℕ) (ks ls : List BoundKind) (t u x y : Tree)
@@ -183,6 +187,7 @@ module _ {Key Id Name : Type 0} (aliases : StructurallyRelateAliases) (j : ℕ)
           bodies_error m set i st v f ks ls t u x y both.instantiated_for both.entered_for o;
       agrees = λ i o.
           bodies_agree i v ks ls t u x y both.instantiated_for both.entered_for binds binds_too o;
+      built = bodies_built c.store ks ls t u x y both.instantiated_for both.entered_for;
       same_budget = both.same_budget;
       smaller = let h = both.smaller in omega (arith, h);
     }
@@ -212,6 +217,7 @@ module _ {Key Id Name : Type 0} (aliases : StructurallyRelateAliases) (j : ℕ)
           bodies_error m set i st v f ks ls t u x y both.entered_for both.instantiated_for o;
       agrees = λ i o.
           bodies_agree i v ks ls t u x y both.entered_for both.instantiated_for binds binds_too o;
+      built = bodies_built c.store ks ls t u x y both.entered_for both.instantiated_for;
       same_budget = both.same_budget;
       smaller = both.smaller;
     }
@@ -240,7 +246,7 @@ module _ {Key Id Name : Type 0} (aliases : StructurallyRelateAliases) (j : ℕ)
         from.2 k.right_in k.left_in k.right_taken.1 k.left_taken.1 in
         opened env grows both.goes round (bind ks t) (bind ls u) (tree d.meaning) (Ok (Some (x, y)))
         (second_leads round ks ls t u (tree d.meaning x) (tree d.meaning y) (one_uses t u some) h.1 h.0
-        k.left_taken.1.0 k.right_taken.1.0 both zero_round at_variance)
+        k.left_taken.1.0 k.right_taken.1.0 both zero_round at_variance) (both.built (bind ks t) (bind ls u) (λ k h. h.0))
     opens_second (Some ks) None k h zero_round at_variance = absurd (false≢true k.right_known)
     opens_second None p k h zero_round at_variance = absurd (false≢true k.left_known)
 
@@ -255,7 +261,7 @@ module _ {Key Id Name : Type 0} (aliases : StructurallyRelateAliases) (j : ℕ)
         from.2 k.left_in k.right_in k.left_taken.1 k.right_taken.1 in
         opened env grows both.goes round (bind ks t) (bind ls u) (tree d.meaning) (Ok (Some (x, y)))
         (first_leads round ks ls t u (tree d.meaning x) (tree d.meaning y) (one_uses t u some) h.0 h.1
-        k.left_taken.1.0 k.right_taken.1.0 both at_variance)
+        k.left_taken.1.0 k.right_taken.1.0 both at_variance) (both.built (bind ks t) (bind ls u) (λ k h. h.0))
     opens_first (Some ks) None k h at_variance = absurd (false≢true k.right_known)
     opens_first None p k h at_variance = absurd (false≢true k.left_known)
 
@@ -296,9 +302,10 @@ module _ {Key Id Name T : Type 0} (aliases : StructurallyRelateAliases) (j : ℕ
             bodies_error m set i st v f ks ls t u t u (unused_stand_ins ks t w.0) (unused_stand_ins ls u w.1) o;
         agrees = λ i o. bodies_agree i v ks ls t u t u (unused_stand_ins ks t w.0) (unused_stand_ins ls u w.1)
             k.left_taken.1.0 k.right_taken.1.0 o;
+        built = bodies_built c.store ks ls t u t u (unused_stand_ins ks t w.0) (unused_stand_ins ls u w.1);
         same_budget = refl;
         smaller = bodies_smaller c.store ks ls t u;
-      }))
+      })) (built_itself c.store (bind ks t) (bind ls u))
   opens_none (Some ks) None k decides sound none zero_round x y p q = absurd (false≢true k.right_known)
   opens_none None o k decides sound none zero_round x y p q = absurd (false≢true k.left_known)
 
@@ -307,7 +314,7 @@ module _ {Key Id Name T : Type 0} (aliases : StructurallyRelateAliases) (j : ℕ
       (v ≢ Invariant) ⊎ ((bound_var_escapes t || bound_var_escapes u) ≡ false) →
       Opened solver_manner there there round (under o t) (under p u) tree (Ok None)
   no_more (Some ks) (Some ls) k is_last h = opened aliases j gs c c v e env grows (goes_nowhere 0 c.store) round (bind ks t)
-      (bind ls u) tree (Ok None) (is_last, go h, refl, refl)
+      (bind ls u) tree (Ok None) (is_last, go h, refl, refl) (built_itself c.store (bind ks t) (bind ls u))
     where
       go : (v ≢ Invariant) ⊎ ((bound_var_escapes t || bound_var_escapes u) ≡ false) →
           OneRound v (bind ks t) (bind ls u)

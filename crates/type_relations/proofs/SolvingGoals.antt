@@ -21,6 +21,8 @@ use Rattle.type_relations.specs.Solving.{KnowsGoals, Held, kept_in, solving, sol
 use Rattle.relation_contexts.proofs.Answering.{may_itself}
 use Rattle.relation_contexts.proofs.Going.{goes_nowhere, later_itself}
 use Rattle.relation_contexts.proofs.Full.{full_itself}
+use Rattle.relation_contexts.specs.Kits.{IsGoalOf}
+use Rattle.relation_contexts.proofs.Building.{builds_asking}
 use Rattle.relation_contexts.proofs.Growing.{All_back}
 use Rattle.type_relations.proofs.Turning.{turned}
 use Rattle.relation_contexts.proofs.Registered.{registered_in, goals_stay, goals_known}
@@ -108,6 +110,8 @@ module _ {Key Id Name : Type 0} {j j' : Held Key} (held : j' ≡ j) (gs hs : Lis
     };
     exact = λ z is pair. absurd (subst IsDirected is directed);
     full = λ ha hb. full_itself st;
+    built = λ k ha hb all. builds_asking k st (asked ∷ [])
+        (All-cons (IsGoalOf k) asked [] (tt, (tt, tt)) (All-nil (IsGoalOf k))) all;
   }
 
 module _ {Key Id Name : Type 0} {j j' : Held Key} (held : j' ≡ j) (gs hs : List (KeyedGoal Key (PredicateKey Key)))

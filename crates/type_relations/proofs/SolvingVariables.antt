@@ -16,6 +16,8 @@ use Rattle.relation_contexts.specs.Stores.{Store, unbound, entry_of, entry_term,
 use Rattle.relation_contexts.specs.Stores.{MayStandFor, universe_of, all_bound, resolved, weight}
 use Rattle.relation_contexts.specs.Headline.{IsFirstOrderPair}
 use Rattle.relation_contexts.specs.Steps.{Instantiates, RefusesToInstantiate, InstantiatesNone, StaysFull}
+use Rattle.relation_contexts.specs.Kits.{StaysBuilt}
+use Rattle.relation_contexts.proofs.Building.{term_built, builds_instantiated, built_same, built_unbound}
 use Rattle.relation_contexts.specs.Outcomes.{StepsTo, CarriesOver, ExactStep}
 use Rattle.relation_contexts.specs.Measures.{Goes}
 use Rattle.relation_contexts.specs.Settings.{Settings}
@@ -274,6 +276,8 @@ module _ {Key Id Name : Type 0} (r0 : State Key Id Name) (L K : Type 0) (lawful 
       answer_known = sure;
       falls = steps.one_spent;
       may_instantiate = could;
+      built = λ j ha hb all. (term_built steps j all hb, hb);
+      read_built = λ j ha hb all. (ha, hb);
       not_larger = squares (weight was root + weight was t) left_above;
     }
 
@@ -290,6 +294,8 @@ module _ {Key Id Name : Type 0} (r0 : State Key Id Name) (L K : Type 0) (lawful 
       answer_known = sure;
       falls = steps.one_spent;
       may_instantiate = could;
+      built = λ j ha hb all. (ha, term_built steps j all ha);
+      read_built = λ j ha hb all. (ha, hb);
       not_larger = let i = squares (weight was t + weight was root) right_above in omega (arith, i);
     }
 
@@ -329,6 +335,7 @@ module _ {Key Id Name : Type 0} (r0 : State Key Id Name) (L K : Type 0) (lawful 
               left_universe same pair.right pair.bindings,
             );
         full = λ ha hb. full_could could;
+        built = λ j ha hb all. builds_instantiated steps j all hb;
       }
 
       right_by : (b w : Variance) → xform v b ≡ w → Lifts Key Id Name now w v t u → tree y ≡ t → tree z ≡ root →
@@ -348,6 +355,7 @@ module _ {Key Id Name : Type 0} (r0 : State Key Id Name) (L K : Type 0) (lawful 
               right_universe same pair.left pair.bindings,
             );
         full = λ ha hb. full_could could;
+        built = λ j ha hb all. builds_instantiated steps j all ha;
       }
         where
           back : IsFirstOrderPair now u t → IsFirstOrderPair now t u
@@ -400,7 +408,7 @@ module _ {Key Id Name : Type 0} (r0 : State Key Id Name) (L K : Type 0) (lawful 
     refusing N Memory h = goes_within (omega arith)
         (adds_goes (adds before (before.below_current k target) h.1))
 
-    passes : (N : ℕ) (f : RelateFault Key Id Name) → Instantiated c d x k target t means cyclic (Err f) →
+    unfoldable passes : (N : ℕ) (f : RelateFault Key Id Name) → Instantiated c d x k target t means cyclic (Err f) →
         Passes N (standing r0 c.meaning c.store L) (standing r0 d.meaning d.store K)
     passes N f h = over_passes r0 grown (refusing N f h) lawful
 
@@ -408,6 +416,12 @@ module _ {Key Id Name : Type 0} (r0 : State Key Id Name) (L K : Type 0) (lawful 
     full (Unrelated g) h = full_could (instantiates_one c.store k target counted unresolved.0 unresolved.1 (h.1.1).may_spend)
     full Budget h = full_same h.1
     full Memory h = full_could (instantiates_one c.store k target counted unresolved.0 unresolved.1 h.0)
+
+    none_built : (a b : Tree) (f : RelateFault Key Id Name) → Instantiated c d x k target t means cyclic (Err f) →
+        StaysBuilt c.store d.store [] a b
+    none_built a b (Unrelated g) h = built_unbound a b (h.1.1).makes
+    none_built a b Budget h = built_same a b h.1
+    none_built a b Memory h = built_unbound a b h.1
 
     -- The error is that of the obstacle.
     binding_error : (g : TypeError Key Id Name) (o : Obstacle) → RefusesBy c.store d.store k target t o →
@@ -436,6 +450,7 @@ module _ {Key Id Name : Type 0} (r0 : State Key Id Name) (L K : Type 0) (lawful 
     pub left_refused : (f : RelateFault Key Id Name) → Instantiated c d x k target t means cyclic (Err f) →
         Stepped solver_manner F (standing r0 c.meaning c.store L) (standing r0 d.meaning d.store K)
         (leaf (variable k target)) t tree (Err f)
+    unfolding passes over_passes
     left_refused (Unrelated g) h = record {
       passes = passes _ (Unrelated g) h;
       verdict = ((refuses g h).apart, of_binding decides (binding_error g h.1.0 h.1.1 h.1.2), h.0);
@@ -444,23 +459,27 @@ module _ {Key Id Name : Type 0} (r0 : State Key Id Name) (L K : Type 0) (lawful 
         binds_none c.store d.store (leaf (variable k target)) t (none_bound (h.1.1).makes),
       );
       full = λ ha hb. full (Unrelated g) h;
+      built = none_built (leaf (variable k target)) t (Unrelated g) h;
     }
     left_refused Budget h = record {
       passes = passes _ Budget h;
       verdict = ap (λ st. st.budget) h.1 ∙ h.0;
       exact = λ o is pair. fewer (leaf (variable k target)) t h.1;
       full = λ ha hb. full Budget h;
+      built = none_built (leaf (variable k target)) t Budget h;
     }
     left_refused Memory h = record {
       passes = passes _ Memory h;
       verdict = tt;
       exact = λ o is pair. binds_none c.store d.store (leaf (variable k target)) t (none_bound h.1);
       full = λ ha hb. full Memory h;
+      built = none_built (leaf (variable k target)) t Memory h;
     }
 
     pub right_refused : (f : RelateFault Key Id Name) → Instantiated c d x k target t means cyclic (Err f) →
         Stepped solver_manner F (standing r0 c.meaning c.store L) (standing r0 d.meaning d.store K)
         t (leaf (variable k target)) tree (Err f)
+    unfolding passes over_passes
     right_refused (Unrelated g) h = record {
       passes = passes _ (Unrelated g) h;
       verdict = (
@@ -473,16 +492,19 @@ module _ {Key Id Name : Type 0} (r0 : State Key Id Name) (L K : Type 0) (lawful 
         binds_none c.store d.store t (leaf (variable k target)) (none_bound (h.1.1).makes),
       );
       full = λ ha hb. full (Unrelated g) h;
+      built = none_built t (leaf (variable k target)) (Unrelated g) h;
     }
     right_refused Budget h = record {
       passes = passes _ Budget h;
       verdict = ap (λ st. st.budget) h.1 ∙ h.0;
       exact = λ o is pair. fewer t (leaf (variable k target)) h.1;
       full = λ ha hb. full Budget h;
+      built = none_built t (leaf (variable k target)) Budget h;
     }
     right_refused Memory h = record {
       passes = passes _ Memory h;
       verdict = tt;
       exact = λ o is pair. binds_none c.store d.store t (leaf (variable k target)) (none_bound h.1);
       full = λ ha hb. full Memory h;
+      built = none_built t (leaf (variable k target)) Memory h;
     }

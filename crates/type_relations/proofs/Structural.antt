@@ -27,8 +27,9 @@ use Rattle.type_relations.specs.Handing.{IsPassedOn, IsNoLength, IsFaultOfTy, pa
 use Rattle.relation_contexts.specs.Lawful.{State, Manners, MayAnswer, Passes, Refuses, RefusesAs, Related}
 use Rattle.relation_contexts.specs.Lawful.{RelatedForms, ExactResult, ExactlyRelated, items_in}
 use Rattle.relation_contexts.proofs.Registered.{registered_in}
-use Rattle.relation_contexts.proofs.Passing.{passes_within, manner_then, stopped}
-use Rattle.type_relations.proofs.Fronts.{Fronted, AreParts, fronted_never, fronted_all, fronted_passes, fronted_fault, fronted_exactly, fronted_full}
+use Rattle.relation_contexts.proofs.Passing.{passes_within, passes_then, manner_then, stopped}
+use Rattle.type_relations.proofs.Fronts.{Fronted, AreParts, fronted_never, fronted_all, fronted_passes, fronted_fault, fronted_exactly, fronted_full, fronted_built}
+use Rattle.relation_contexts.proofs.Building.{built_parts}
 use Rattle.type_relations.proofs.Fronts.{fronted_agree}
 use Rattle.relation_contexts.proofs.AgreeingForms.{form_agrees}
 use Rattle.relation_contexts.proofs.Full.{parts_plain}
@@ -197,6 +198,7 @@ module _ {Key Id Name : Type 0} {r q : State Key Id Name} (M : Manners) (v : Var
         IsTrue (known (arg_tree p.meaning Y)) → IsFaultOfTy a X Y e k →
         Related M q p (part_at (items_in r) (head_of a) i v) (arg_tree q.meaning X) (arg_tree q.meaning Y) tree (Err e) →
         RelatedForms M r p v a b answer (Err k)
+    unfolding passes_within fronted_passes passes_then
     ty_refused {A} {B} {p} tree answer e k is_formed' kx ky t g = record {
       passes = passes_within (omega (arith, weight_parts_most r.store a, weight_parts_most r.store b))
           (fronted_passes (head_of a) v i (parts_of a) (parts_of b) (arg_tree q.meaning X) (arg_tree q.meaning Y) f lx ly
@@ -205,17 +207,21 @@ module _ {Key Id Name : Type 0} {r q : State Key Id Name} (M : Manners) (v : Var
       exact = ty_exactly A B p e k is_formed' t g.exact;
       full = λ ha hb. fronted_full (head_of a) v i (parts_of a) (parts_of b) (arg_tree q.meaning X)
           (arg_tree q.meaning Y) f lx ly ex ey g.full (parts_plain a ha) (parts_plain b hb);
+      built = λ k ha hb. fronted_built (head_of a) v i (parts_of a) (parts_of b) (arg_tree q.meaning X)
+          (arg_tree q.meaning Y) f lx ly ex ey (g.passes).added g.built k (built_parts k a ha) (built_parts k b hb);
     }
 
   -- Memory ran out after some of the parts.
   pub types_stopped : {X : Type 0} (tree : X → Tree) → IsFormed a →
       Fronted M r q (head_of a) v i (parts_of a) (parts_of b) → RelatedForms {X = X} M r q v a b tree (Err Memory)
+  unfolding passes_within
   types_stopped tree is_formed f = stopped M v a b tree
       (passes_within (omega (arith, weight_parts_most r.store a, weight_parts_most r.store b)) f.passes)
       (λ exact is pair. binds_as r.store q.store a b (parts_of a) (parts_of b) (λ u. leaves_parts (NamesTypesTo u) a)
       (λ u. leaves_parts (NamesTypesTo u) b) (keeps_binds r.store q.store (parts_of a) (parts_of b)
       (f.exact exact is (formed_looked_at a is_formed) (parts_pair r.store a b pair)).2))
       (λ ha hb. f.full (parts_plain a ha) (parts_plain b hb))
+      (λ k ha hb. f.built k (built_parts k a ha) (built_parts k b hb))
 
   -- All parts of two types were related, and so are the types.
   types_relate : IsFormed a → (o : AreOfOneForm a b) → (f : Fronted M r q (head_of a) v i (parts_of a) (parts_of b)) →
@@ -260,4 +266,5 @@ module _ {Key Id Name : Type 0} {r q : State Key Id Name} (M : Manners) (v : Var
         (fronted_exactly (head_of a) v i (parts_of a) (parts_of b) are ea eb f exact is
         (formed_looked_at a is_formed) (parts_pair r.store a b pair));
     full = λ ha hb. f.full (parts_plain a ha) (parts_plain b hb);
+    built = λ k ha hb. f.built k (built_parts k a ha) (built_parts k b hb);
   }

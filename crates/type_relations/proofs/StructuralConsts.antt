@@ -32,8 +32,9 @@ use Rattle.type_relations.specs.Handing.{IsPassedOnConst, IsFaultOfConst, passed
 use Rattle.relation_contexts.specs.Lawful.{State, Manners, MayAnswer, Passes, Refuses, RefusesAs, Related}
 use Rattle.relation_contexts.specs.Lawful.{RelatedAs, RelatedForms, ExactResult, ExactlyRelated, items_in}
 use Rattle.relation_contexts.proofs.Registered.{registered_in}
-use Rattle.relation_contexts.proofs.Passing.{passes_within, passes_nowhere, manner_then, stopped}
-use Rattle.type_relations.proofs.Fronts.{Fronted, AreParts, fronted_never, fronted_all, fronted_passes, fronted_fault, fronted_exactly, fronted_full}
+use Rattle.relation_contexts.proofs.Passing.{passes_within, passes_then, passes_nowhere, manner_then, stopped}
+use Rattle.type_relations.proofs.Fronts.{Fronted, AreParts, fronted_never, fronted_all, fronted_passes, fronted_fault, fronted_exactly, fronted_full, fronted_built}
+use Rattle.relation_contexts.proofs.Building.{built_itself, built_const_parts}
 use Rattle.type_relations.proofs.Fronts.{fronted_agree}
 use Rattle.relation_contexts.proofs.Agreeing.{agree_same}
 use Rattle.relation_contexts.proofs.AgreeingForms.{const_agrees}
@@ -185,6 +186,7 @@ module _ {Key Id Name : Type 0} {r q : State Key Id Name} (M : Manners) (v : Var
         IsTrue (known b) → IsFaultOfConst a c d e k →
         Related M q p (part_at (items_in r) (const_head_of a) i v) x y tree (Err e) →
         RelatedForms M r p v a b answer (Err k)
+    unfolding passes_within fronted_passes passes_then
     const_refused {A} {B} {p} tree answer e k fa fb ec ed ka kb t g = record {
       passes = passes_within (omega (arith, weight_const_parts_most r.store a, weight_const_parts_most r.store b))
           (fronted_passes (const_head_of a) v i (const_parts_of a) (const_parts_of b) x y f lx ly ex ey g.passes);
@@ -192,12 +194,15 @@ module _ {Key Id Name : Type 0} {r q : State Key Id Name} (M : Manners) (v : Var
       exact = const_exactly A B p e k fa fb t g.exact;
       full = λ ha hb. fronted_full (const_head_of a) v i (const_parts_of a) (const_parts_of b) x y f lx ly ex ey g.full
           (const_parts_plain a ha) (const_parts_plain b hb);
+      built = λ j ha hb. fronted_built (const_head_of a) v i (const_parts_of a) (const_parts_of b) x y f lx ly ex ey
+          (g.passes).added g.built j (built_const_parts j a ha) (built_const_parts j b hb);
     }
 
   -- Memory ran out after some of the parts.
   pub consts_stopped : {X : Type 0} (tree : X → Tree) →
       Fronted M r q (const_head_of a) v i (const_parts_of a) (const_parts_of b) →
       RelatedForms {X = X} M r q v a b tree (Err Memory)
+  unfolding passes_within
   consts_stopped tree f = stopped M v a b tree
       (passes_within (omega (arith, weight_const_parts_most r.store a, weight_const_parts_most r.store b)) f.passes)
       (λ exact is pair. binds_as r.store q.store a b (const_parts_of a) (const_parts_of b)
@@ -205,6 +210,7 @@ module _ {Key Id Name : Type 0} {r q : State Key Id Name} (M : Manners) (v : Var
       (keeps_binds r.store q.store (const_parts_of a) (const_parts_of b)
       (f.exact exact is (const_looked_at a) (const_parts_pair r.store a b pair)).2))
       (λ ha hb. f.full (const_parts_plain a ha) (const_parts_plain b hb))
+      (λ k ha hb. f.built k (built_const_parts k a ha) (built_const_parts k b hb))
 
   -- All parts of two constants were related, and so are the constants.
   consts_relate : (o : AreOfOneConst a b) →
@@ -265,6 +271,7 @@ module _ {Key Id Name : Type 0} {r q : State Key Id Name} (M : Manners) (v : Var
         (fronted_exactly (const_head_of a) v i (const_parts_of a) (const_parts_of b) are ea eb f exact is
         (const_looked_at a) (const_parts_pair r.store a b pair));
     full = λ ha hb. f.full (const_parts_plain a ha) (const_parts_plain b hb);
+    built = λ k ha hb. f.built k (built_const_parts k a ha) (built_const_parts k b hb);
   }
 
 module _ {Key Id Name : Type 0} {X : Type 0} (M : Manners) (r : State Key Id Name) (v : Variance) (tree : X → Tree) where
@@ -288,6 +295,7 @@ module _ {Key Id Name : Type 0} {X : Type 0} (M : Manners) (r : State Key Id Nam
     exact = λ exact is pair.
         (pair.bindings, exact_itself r.store a b e, keeps_pair r.store r.store a b (keeps_itself r.store));
     full = λ ha hb. full_itself r.store;
+    built = built_itself r.store a b;
   }
 
   -- Two terms are refused at once.
@@ -300,6 +308,7 @@ module _ {Key Id Name : Type 0} {X : Type 0} (M : Manners) (r : State Key Id Nam
     verdict = (n, o, k);
     exact = λ exact is pair. (u pair, binds_itself r.store a b);
     full = λ ha hb. full_itself r.store;
+    built = built_itself r.store a b;
   }
 
   pub types_differ : (x y : TyKey Key) (e : TypeError Key Id Name) → v ≢ Bivariant → IsFormed ((r.meaning).ty x) →

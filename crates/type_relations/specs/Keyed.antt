@@ -19,7 +19,7 @@ use Rattle.relation_folds.specs.declared.error.RelateFault.{RelateFault}
 use Rattle.relation_contexts.specs.declared.relate.Step.{Step}
 use Rattle.type_relations.specs.Arguments.{AreOverItem}
 use Rattle.relation_contexts.specs.Constraints.{constraint_at, asked_constraints}
-use Rattle.relation_contexts.specs.Lawful.{State, Manners, Asked, Related, RelatedForms, Shown, Stepped, items_in}
+use Rattle.relation_contexts.specs.Lawful.{State, Manners, Asked, Related, RelatedForms, Shown, Stepped, Noted, items_in}
 use Rattle.relation_contexts.specs.Making.{Made, over, const_over}
 use Rattle.relation_contexts.specs.Parts.{IsFormed, IsFormedConst, head_of, const_head_of}
 use Rattle.relation_contexts.specs.Relation.{part_at}
@@ -182,6 +182,11 @@ module _ {Key Id Name : Type 0} where
   -- Two types were related: all is known of them that is known of such.
   abbrev pub ShownTys : Manners → State Key Id Name → TyKey Key → TyKey Key → Type 0
   ShownTys M r a b = Shown M r r.ambient ((r.meaning).ty a) ((r.meaning).ty b)
+
+  -- Something was noted of two types.
+  abbrev pub NotedTys : {X : Type 0} → State Key Id Name → State Key Id Name → TyKey Key → TyKey Key →
+      Result X (RelateFault Key Id Name) → Type 0
+  NotedTys r q a b result = Noted r q ((r.meaning).ty a) ((r.meaning).ty b) result
 
   -- Two types are of one form over an item and these lists of arguments.
   abbrev pub AreOver : State Key Id Name → DefId Id → TyKey Key → TyKey Key → ArgsKey Key → ArgsKey Key → Type 0

@@ -1,6 +1,6 @@
 -- What relating two values in a context asks and promises, by what is related of them: of a value that is `over` no form
 -- its tree, of another that form over its tree.
-use Rattle.std.specs.Prelude.{◌≡◌, ◌+◌, ◌<◌, ◌≤◌, ℕ, [], ◌∷◌, Option, IsTrue, IfOk, Result, Ok, Err}
+use Rattle.std.specs.Prelude.{◌≡◌, ◌+◌, ◌<◌, ◌≤◌, ℕ, List, [], ◌∷◌, Option, IsTrue, IfOk, Result, Ok, Err}
 use Rattle.std.specs.Global.{Vec}
 use Rattle.term_enums.specs.declared.Variance.{Variance}
 use Rattle.term_enums.specs.declared.Variance.TheVariants.{Invariant}
@@ -14,8 +14,9 @@ use Rattle.relation_folds.specs.declared.error.RelateFault.{RelateFault}
 use Rattle.relation_folds.specs.declared.error.RelateFault.TheVariants.{Memory}
 use Rattle.relation_folds.specs.Faults.{IfUnrelated, IfSpent}
 use Rattle.relation_contexts.specs.Stores.{IsTermIn}
-use Rattle.relation_contexts.specs.Goals.{goals_of, goal_of}
+use Rattle.relation_contexts.specs.Goals.{Goal as GoalOf, goals_of, goal_of}
 use Rattle.relation_contexts.specs.Steps.{MakesToInstantiate}
+use Rattle.relation_contexts.specs.Kits.{StaysBuilt}
 use Rattle.relation_contexts.specs.FirstOrder.{IsFirstOrderStore}
 use Rattle.relation_contexts.specs.Outcomes.{NoEqualTerms, Exact, NoUnifier}
 use Rattle.relation_contexts.specs.Headline.{AnswersGoals, KeepsEqualTerms, IsFirstOrderPair}
@@ -83,10 +84,21 @@ module _ {S Key Id Name A : Type 0} (state : S → Context Key Id Name) (old new
   abbrev pub TellsApart : {X : Type 0} → A → A → Result X (RelateFault Key Id Name) → Type 0
   TellsApart a b result = IfUnrelated result (λ e. NoEqualTerms (state old).store (term a) (term b))
 
-  -- No variable of a number was made; and none at all where nothing could be instantiated, and no binder stands in
-  -- either value or in what a variable was bound to.
+  -- No variable of a number was made; and where no binder stands in either value or in what a variable was bound to, no
+  -- universe was, nor any variable if nothing could be instantiated.
   abbrev pub MakesToRelate : A → A → Type 0
   MakesToRelate a b = MakesToInstantiate (state old).store (state new).store (term a) (term b)
+
+  -- The goals that were answered, as the context knows them then.
+  abbrev pub answered_goals : Result (Vec (Goal Key (PredicateKey Key))) (RelateFault Key Id Name) → List GoalOf
+  answered_goals (Ok goals) = goals_of (state new).meaning goals.items
+  answered_goals (Err f) = []
+
+  -- Of whatever forms, atoms and binders the two and all that was bound are built, so is all that is bound then, and what
+  -- each goal speaks of; and without binders no universe was made.
+  abbrev pub BuildsNoMore : A → A → Result (Vec (Goal Key (PredicateKey Key))) (RelateFault Key Id Name) → Type 0
+  BuildsNoMore a b result =
+      StaysBuilt (state old).store (state new).store (answered_goals result) (term a) (term b)
 
   -- Which error comes, where they are not related.
   abbrev pub AnswersError : {X : Type 0} → Variance → A → A → Result X (RelateFault Key Id Name) → Type 0

@@ -17,6 +17,7 @@ use Rattle.relation_contexts.specs.Relation.{Items, Way, at, second_opened, firs
 use Rattle.relation_contexts.specs.Stores.{Store, IsSound, IsTermIn, weight}
 use Rattle.relation_contexts.specs.Goals.{Goal}
 use Rattle.relation_contexts.specs.Steps.{IsLater}
+use Rattle.relation_contexts.specs.Kits.{StaysBuilt, BuiltFrom}
 use Rattle.relation_contexts.specs.Outcomes.{StepsTo}
 use Rattle.relation_contexts.specs.Settings.{Settings}
 use Rattle.relation_contexts.specs.Errors.{ErrorOf}
@@ -46,8 +47,8 @@ module _ {Key Id Name : Type 0} where
         a ≡ bind ks t → b ≡ bind ls u → StepsToBodies r q added (first_opened ks ls r.ambient) t u x y →
         RoundSteps r q added round a b x y
 
-  -- A round led to two bodies. They are the relation's, weigh less, and cost nothing of the budget; an error of theirs
-  -- is one of the binders, which agree if the bodies do.
+  -- A round led to two bodies. They are the relation's, weigh less, are built of what the binders are, and cost nothing
+  -- of the budget; an error of theirs is one of the binders, which agree if the bodies do.
   pub record RoundLeads (M : Manners) (r q : State Key Id Name) (added : List Goal) (round : ℕ)
       (a b x y : Tree) : Type 0 where
     pub steps : RoundSteps r q added round a b x y
@@ -55,6 +56,7 @@ module _ {Key Id Name : Type 0} where
     pub errors : (m : Meaning Key Id Name) (k : Settings) (c : Items) (st : Store) (e : TypeError Key Id Name) →
         IsLater q.store st → IsSound st → ErrorOf m k c st r.ambient e x y → ErrorOf m k c st r.ambient e a b
     pub agrees : (c : Items) → Agree c (at r.ambient) x y → Agree c (at r.ambient) a b
+    pub built : BuiltFrom r.store a b x y
     pub same_budget : (q.store).budget ≡ (r.store).budget
     pub smaller : weight q.store x + weight q.store y < weight r.store a + weight r.store b
 
@@ -67,11 +69,12 @@ module _ {Key Id Name : Type 0} where
       (round ≡ 1) × OneRound r.ambient a b × (q.store ≡ r.store) × (added ≡ [])
   RoundVerdict {T} M r q added round a b tree (Err f) = OnlyMemory {X = T} (Err f)
 
-  -- A round was begun.
+  -- A round was begun. Nothing was bound but of what the binders and the bindings were built of.
   pub record Opened {T : Type 0} (M : Manners) (r q : State Key Id Name) (round : ℕ) (a b : Tree) (tree : T → Tree)
       (result : Result (Option (T × T)) (RelateFault Key Id Name)) : Type 0 where
     pub passes : Passes (weight r.store a + weight r.store b) r q
     pub verdict : RoundVerdict M r q passes.added round a b tree result
+    pub built : StaysBuilt r.store q.store passes.added a b
 
   -- The same of two parts.
   abbrev pub OpenedParts : Manners → State Key Id Name → State Key Id Name → ℕ → Part Key Id → Part Key Id →

@@ -11,8 +11,8 @@ ghost use Rattle.type_relations.specs.Emitting.{AddsGoals, IsOver, KnowsPredicat
 ghost use Rattle.type_relations.specs.Following.{FollowsContext};
 ghost use Rattle.relation_contexts.specs.Contexts.{KnowsTy};
 ghost use Rattle.relation_contexts.specs.Goals.{KnowsGoal, goals_of, well_formed_predicate};
-ghost use Rattle.type_relations.specs.Keyed.{AreOver, AskedTys, AskedConsts, SteppedConsts};
-ghost use Rattle.relation_contexts.specs.Lawful.{State, Noted, RelatesByDeclared, items_of};
+ghost use Rattle.type_relations.specs.Keyed.{AreOver, AskedTys, AskedConsts, SteppedConsts, NotedTys};
+ghost use Rattle.relation_contexts.specs.Lawful.{State, RelatesByDeclared, items_of};
 ghost use Rattle.relation_contexts.specs.Resolving.{IsShallow};
 ghost use Rattle.type_relations.specs.SolverTerms.{StepsUnlessVars};
 ghost use Rattle.type_relations.specs.Solving.{solver_manner};
@@ -237,7 +237,7 @@ pub fn combine_ty_args<Infcx: InferCtxtLike, R: PredicateEmittingRelation<Infcx>
     requires b_in { let q = R.state r.old in IsTermIn q.store (q.meaning.ty b_ty.now) }
     requires by_declared { RelatesByDeclared (R.state r.old) }
     requires over { AreOver (R.state r.old) def_id.now a_ty.now b_ty.now a_args.now b_args.now }
-    ensures noted { Noted (R.state r.old) (R.state r.new) result }
+    ensures noted { NotedTys (R.state r.old) (R.state r.new) a_ty.now b_ty.now result }
     ensures registers { AsksWellFormed R.state r.old r.new def_id.now a_ty.now b_ty.now a_args.now b_args.now result }
 {
     r.context_grows();

@@ -10,8 +10,7 @@ ghost use Rattle.relation_contexts.specs.Errors.{FormError, ConstFormError, AreO
 ghost use Rattle.relation_contexts.specs.Parts.{IsFormedConst, IsByParts, IsComparedPart, parts_of, const_parts_of};
 ghost use Rattle.relation_contexts.specs.Parts.{head_of};
 ghost use Rattle.relation_contexts.specs.Covered.{IsCovered};
-ghost use Rattle.relation_contexts.specs.Lawful.{Noted};
-ghost use Rattle.type_relations.specs.Keyed.{AskedTys, ShownTys, AreOver, part_in, const_part_in, declared_in};
+ghost use Rattle.type_relations.specs.Keyed.{AskedTys, ShownTys, NotedTys, AreOver, part_in, const_part_in, declared_in};
 ghost use Rattle.type_relations.specs.Comparing.{AreOfOneFormBy, PartsDiffer, nth_part, nth_const_part};
 ghost use Rattle.type_relations.specs.Handing.{IsResultOfTy, IsResultOfConst, named_place};
 
@@ -299,7 +298,7 @@ pub(crate) fn note_declared<I: Interner, R: TypeRelation<I>>(
     requires asked { AskedTys R.manner (R.state r.old) a.now b.now }
     requires over { AreOver (R.state r.old) def_id.now a.now b.now a_args.now b_args.now }
     requires related { ShownTys R.manner (R.state r.old) a.now b.now }
-    ensures { Noted (R.state r.old) (R.state r.new) result }
+    ensures { NotedTys (R.state r.old) (R.state r.new) a.now b.now result }
 {
     if r.item_variances(def_id).is_none() {
         return Ok(());
@@ -318,7 +317,7 @@ pub(crate) fn note_args<I: Interner, R: TypeRelation<I>>(
     requires asked { AskedTys R.manner (R.state r.old) a.now b.now }
     requires one_form { AreOfOneForm ((R.state r.old).meaning.ty a.now) ((R.state r.old).meaning.ty b.now) }
     requires related { ShownTys R.manner (R.state r.old) a.now b.now }
-    ensures { Noted (R.state r.old) (R.state r.new) result }
+    ensures { NotedTys (R.state r.old) (R.state r.new) a.now b.now result }
 {
     let left = r.cx().ty_kind(a);
     match &left {

@@ -10,7 +10,7 @@ ghost use Rattle.relation_contexts.specs.ContextCalls.{KeepsBeside};
 ghost use Rattle.type_relations.specs.Relating.{KnowsTerm, TakesTerm, HasTerm, AreOne, AnswersTerms};
 ghost use Rattle.type_relations.specs.Relating.{KeepsEqual, TellsApart, AnswersError, AnswersExactly, ProvesApart};
 ghost use Rattle.type_relations.specs.Relating.{RelatesAgreeing};
-ghost use Rattle.type_relations.specs.Relating.{AnswersSubtype, SpendsNoMore, MakesToRelate, Idle};
+ghost use Rattle.type_relations.specs.Relating.{AnswersSubtype, SpendsNoMore, MakesToRelate, BuildsNoMore, Idle};
 ghost use Rattle.type_relations.specs.Terms.{AskedTerms, RelatedTerms, TermsRegister};
 ghost use Rattle.type_relations.specs.Solving.{solving_in, solver_manner};
 
@@ -70,6 +70,10 @@ pub trait RelateExt: InferCtxtLike {
     /// numbers for none. After an error more may have been recorded and made on the way. How the context was made
     /// stands, and so do the types that are to outlive regions.
     ///
+    /// It brings in no form, no atom and no binder: what is bound then, and what the goals speak of, is built of those
+    /// that stood in the two or in what a variable was bound to. Where no binder stood there, no universe is made: the
+    /// current one is the old one.
+    ///
     /// Of first-order terms in a first-order record at `Invariant`, where the variables of types and constants are of
     /// one universe and no placeholder of a type or a constant in the terms is beyond it, at most as many
     /// instantiations are made as there were unresolved variables of types and constants: with a budget of that number
@@ -105,6 +109,7 @@ pub trait RelateExt: InferCtxtLike {
         ensures no_unifier { ProvesApart Self.state self.old self.new T.over T.tree variance lhs rhs result }
         ensures later { IsLater (Self.state self.old).store (Self.state self.new).store }
         ensures made { MakesToRelate Self.state self.old self.new T.over T.tree lhs rhs }
+        ensures built { BuildsNoMore Self.state self.old self.new T.over T.tree lhs rhs result }
         ensures sound { IsSound (Self.state self.new).store }
         ensures budget { SpendsByBinding (Self.state self.old) (Self.state self.new) }
         ensures enough { SpendsNoMore Self.state self.old self.new T.over T.tree variance lhs rhs result }
@@ -146,6 +151,7 @@ impl<Infcx: InferCtxtLike> RelateExt for Infcx {
         ensures no_unifier { ProvesApart Infcx.state self.old self.new T.over T.tree variance lhs rhs result }
         ensures later { IsLater (Infcx.state self.old).store (Infcx.state self.new).store }
         ensures made { MakesToRelate Infcx.state self.old self.new T.over T.tree lhs rhs }
+        ensures built { BuildsNoMore Infcx.state self.old self.new T.over T.tree lhs rhs result }
         ensures sound { IsSound (Infcx.state self.new).store }
         ensures budget { SpendsByBinding (Infcx.state self.old) (Infcx.state self.new) }
         ensures enough { SpendsNoMore Infcx.state self.old self.new T.over T.tree variance lhs rhs result }

@@ -4,11 +4,11 @@ ghost use Rattle.std.specs.Borrow.{sem, Lends};
 ghost use Rattle.term_enums.specs.declared.Variance.{Variance};
 ghost use Rattle.term_enums.specs.declared.Variance.TheVariants.{Invariant, Bivariant};
 ghost use Rattle.relation_contexts.specs.Stores.{IsSound};
-ghost use Rattle.relation_contexts.specs.Lawful.{State, Manners, TakesParts, Turned, Noted};
+ghost use Rattle.relation_contexts.specs.Lawful.{State, Manners, TakesParts, Turned};
 ghost use Rattle.relation_contexts.specs.Lawful.{RelatesByDeclared};
 ghost use Rattle.type_relations.specs.Following.{FollowsInterner};
 ghost use Rattle.type_relations.specs.Rounds.{AskedBinders, OpenedBinders};
-ghost use Rattle.type_relations.specs.Keyed.{AskedConsts, AskedRegions, AskedTys, RelatedRegions, ShownTys};
+ghost use Rattle.type_relations.specs.Keyed.{AskedConsts, AskedRegions, AskedTys, RelatedRegions, ShownTys, NotedTys};
 ghost use Rattle.type_relations.specs.Keyed.{SteppedConsts, SteppedTys, TysStepToSubtype, AreOver, RecordsAsked};
 ghost use Rattle.type_relations.specs.Keyed.{variances_in, Decides};
 
@@ -122,7 +122,7 @@ pub trait TypeRelation<I: Interner>: HasState<I> {
         requires decides { (Self.state self.old).ambient ≢ Bivariant }
         requires asked { AskedTys manner (Self.state self.old) a.now b.now }
         requires related { ShownTys manner (Self.state self.old) a.now b.now }
-        ensures { Noted (Self.state self.old) (Self.state self.new) result };
+        ensures { NotedTys (Self.state self.old) (Self.state self.new) a.now b.now result };
 
     /// Takes note that the arguments of two types over one item were related at the variances that it declares, and so
     /// the types. The lists are theirs.
@@ -140,7 +140,7 @@ pub trait TypeRelation<I: Interner>: HasState<I> {
         requires by_declared { RelatesByDeclared (Self.state self.old) }
         requires over { AreOver (Self.state self.old) def_id.now a_ty.now b_ty.now a_args.now b_args.now }
         requires related { ShownTys manner (Self.state self.old) a_ty.now b_ty.now }
-        ensures { Noted (Self.state self.old) (Self.state self.new) result };
+        ensures { NotedTys (Self.state self.old) (Self.state self.new) a_ty.now b_ty.now result };
 
     // Its keys mean what they mean to the interner.
     ghost reads: { (r : Self) → (Self.state r).meaning ≡ I.meaning (interner r) };

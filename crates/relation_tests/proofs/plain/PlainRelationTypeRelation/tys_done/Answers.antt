@@ -5,4 +5,4 @@ use Rattle.relation_tests.proofs.plain.PlainRelationTypeRelation.tys_done.Goals 
 pub returns : goal.returns
 returns g c =
     let r = c.args.self.now in
-    noted_nothing _ (plain_state (g.I.Interner.meaning r.interner) r.ambient r.constraints.items)
+    noted_nothing _ (plain_state (g.I.Interner.meaning r.interner) r.ambient r.constraints.items) _ _

@@ -5,6 +5,7 @@ use Rattle.relation_terms.proofs.Stays.{extends_on}
 use Rattle.relation_contexts.specs.Parts.{head_of}
 use Rattle.type_relations.specs.Arguments.{args_head}
 use Rattle.relation_contexts.specs.Lawful.{Asked, Related, Shown, MayAnswer, items_in}
+use Rattle.relation_contexts.proofs.Building.{built_as}
 use Rattle.relation_contexts.proofs.Passing.{as_err, asked_later, refused_again, noted_related, noted_refused, made_or_not, shown_now}
 use Rattle.type_relations.proofs.Arguments.{args_heads, over_later}
 use Rattle.relation_contexts.proofs.Answering.{if_ok_both}
@@ -96,6 +97,8 @@ returns-in_err-note_declared g c =
     (λ k. node (args_head (q.meaning) v) ((q.meaning).args k)) (p.meaning).ty n.field-0.0
     (noted_refused M r.ambient (m.ty c.args.a_ty.now) (m.ty c.args.b_ty.now)
     (λ k. node (args_head (q.meaning) v) ((q.meaning).args k)) args done (Err n.field-0.0) n.ensures
+    (built_as r.store (((done.passes).extends).ty c.args.a_ty.now (c.requires.asked).left_known)
+    (((done.passes).extends).ty c.args.b_ty.now (c.requires.asked).right_known))
     (λ k. node (args_head (q.meaning) v) ((q.meaning).args k)) n.field-0.0 refl))
 
 pub make_over-requires-clause-callable : goal.make_over-requires-clause-callable
@@ -136,9 +139,10 @@ returns g c =
     let same : answer args ≡ node (args_head (q.meaning) v) ((q.meaning).args args) =
     ap (λ h. node h ((p.meaning).args args)) (args_heads e v) ∙ ap (node (args_head (q.meaning) v)) (e.args args
     (done.verdict).known) in
-    let noted = noted_related M r.ambient a b (λ k. node (args_head (q.meaning) v) ((q.meaning).args k)) args done
-    (Ok n.field-0) n.ensures answer same in
     let first = (done.passes).extends in
+    let noted = noted_related M r.ambient a b (λ k. node (args_head (q.meaning) v) ((q.meaning).args k)) args done
+    (Ok n.field-0) n.ensures (built_as r.store (first.ty c.args.a_ty.now k.left_known) (first.ty c.args.b_ty.now k.right_known))
+    answer same in
     let a_stays : (p.meaning).ty c.args.a_ty.now ≡ a = e.ty c.args.a_ty.now
     (subst (λ z. IsTrue (known z)) (sym (first.ty c.args.a_ty.now k.left_known)) k.left_known)
     ∙ first.ty c.args.a_ty.now k.left_known in

@@ -2,10 +2,10 @@ use Rattle.relation_contexts.proofs.Passing.{noted_nothing}
 use Rattle.type_relations.proofs.relate.reading.note_args.Goals as goal
 
 pub returns-in_default-ty_kind : goal.returns-in_default-ty_kind
-returns-in_default-ty_kind g c = noted_nothing tt (g.R.HasState.state c.args.r.now)
+returns-in_default-ty_kind g c = noted_nothing tt (g.R.HasState.state c.args.r.now) _ _
 
 pub returns-in_default-ty_kind-2 : goal.returns-in_default-ty_kind-2
-returns-in_default-ty_kind-2 g c = noted_nothing tt (g.R.HasState.state c.args.r.now)
+returns-in_default-ty_kind-2 g c = noted_nothing tt (g.R.HasState.state c.args.r.now) _ _
 
 pub returns-in_default : goal.returns-in_default
-returns-in_default g c = noted_nothing tt (g.R.HasState.state c.args.r.now)
+returns-in_default g c = noted_nothing tt (g.R.HasState.state c.args.r.now) _ _

@@ -42,11 +42,12 @@ use Rattle.relation_contexts.proofs.Parts.{in_parts, in_const_parts}
 use Rattle.relation_contexts.proofs.OneParts.{parts_counted, const_parts_counted}
 use Rattle.type_relations.proofs.Comparing.{parts_of_list, const_parts_list}
 use Rattle.type_relations.proofs.Handing.{AreOfTwoKinds, no_lifetime, no_ty, no_const_arg, HaveAsManyInputs}
+use Rattle.relation_contexts.proofs.Building.{built_again, built_as}
 use Rattle.relation_contexts.proofs.Passing.{asked_later, parts_related, again_related, again_refused, again_shown, noted_related, noted_refused}
 use Rattle.relation_contexts.proofs.Passing.{turned, unlooked, step_done, retold, refused_again, shown_now, as_err}
 use Rattle.relation_contexts.proofs.Registered.{directed_from}
 use Rattle.relation_contexts.specs.Goals.{IsDirected}
-use Rattle.relation_contexts.proofs.Passing.{form_made, forms_met}
+use Rattle.relation_contexts.proofs.Passing.{form_made, forms_met, step_refused}
 use Rattle.relation_contexts.proofs.Covered.{form_not_left}
 use Rattle.type_relations.proofs.Fronts.{Fronted, fronted_none, fronted_next}
 use Rattle.type_relations.proofs.Structural.{types_related, types_stopped, ty_refused}
@@ -137,7 +138,7 @@ consts-returns-in_err-relate_with_variance-in-Again g t c =
     c.from_residual-in_err-relate_with_variance-in-Again.ensures.0
     c.from_residual-in_err-relate_with_variance-in-Again.ensures.1 in
     subst (λ z. Related M r p r.ambient a b (p.meaning).const_ z) (sym failed)
-    (again_refused M a b k l x y o v step.passes step.verdict step.exact
+    (again_refused M a b k l x y o v step.passes step.verdict step.exact step.built
     (g.met.R.TypeRelation.sound c.relate_with_variance.new.r ((inner.passes).lawful ((step.passes).lawful c.requires.lawful))) (arg_tree p.meaning) (p.meaning).const_ c.in_err-relate_with_variance-in-Again.field-0.0 inner)
 
 pub consts-returns-in_ok-relate_with_variance-in-Again : goal.consts-returns-in_ok-relate_with_variance-in-Again
@@ -160,7 +161,7 @@ consts-returns-in_ok-relate_with_variance-in-Again g t c =
     let same_o : (p.meaning).const_ c.in-Again.answer ≡ o =
     ((inner.passes).extends).const_ c.in-Again.answer (step.verdict).answer_known in
     let done : Related M r p r.ambient a b (p.meaning).const_ (Ok c.in-Again.answer) =
-    again_related M a b k l x y o v step.passes step.verdict step.exact (arg_tree p.meaning) c.in_ok-relate_with_variance-in-Again.field-0 (p.meaning).const_
+    again_related M a b k l x y o v step.passes step.verdict step.exact step.built (arg_tree p.meaning) c.in_ok-relate_with_variance-in-Again.field-0 (p.meaning).const_
     c.in-Again.answer same_o inner in
     done
 
@@ -178,7 +179,7 @@ consts-returns-in-Parts g t c =
     let inner = subst (λ z. RelatedForms M q p z x y (p.meaning).const_ c.structurally_relate_consts.result) (step.passes).ambient
     c.structurally_relate_consts.ensures in
     parts_related M IsFormedConst (g.met.R.TypeRelation.sound c.structurally_relate_consts.new.r ((inner.passes).lawful ((step.passes).lawful c.requires.lawful)))
-    a b x y (p.meaning).const_ c.structurally_relate_consts.result step.passes step.verdict step.exact step.full inner
+    a b x y (p.meaning).const_ c.structurally_relate_consts.result step.passes step.verdict step.exact step.full step.built inner
 
 pub tys-returns-in-Done-clause-related : goal.tys-returns-in-Done-clause-related
 tys-returns-in-Done-clause-related g t c =
@@ -251,7 +252,7 @@ tys-returns-in_err-relate_with_variance-in-Again-clause-related g t c =
     c.from_residual-in_err-relate_with_variance-in-Again.ensures.0
     c.from_residual-in_err-relate_with_variance-in-Again.ensures.1 in
     subst (λ z. Related M r p r.ambient a b (p.meaning).ty z) (sym failed)
-    (again_refused M a b k l x y o v step.passes step.verdict step.exact
+    (again_refused M a b k l x y o v step.passes step.verdict step.exact step.built
     (g.met.R.TypeRelation.sound c.relate_with_variance.new.r ((inner.passes).lawful ((step.passes).lawful c.requires.lawful))) (arg_tree p.meaning) (p.meaning).ty c.in_err-relate_with_variance-in-Again.field-0.0 inner)
 
 pub tys-returns-in_err-answer-in-Parts-clause-related : goal.tys-returns-in_err-answer-in-Parts-clause-related
@@ -271,7 +272,7 @@ tys-returns-in_err-answer-in-Parts-clause-related g t c =
     c.from_residual-in_err-answer-in-Parts.ensures.0 c.from_residual-in_err-answer-in-Parts.ensures.1 in
     subst (λ z. Related M r p r.ambient a b (p.meaning).ty z) (sym failed)
     (parts_related M IsFormed (g.met.R.TypeRelation.sound c.structurally_relate_tys.new.r ((inner.passes).lawful ((step.passes).lawful c.requires.lawful)))
-    a b x y (p.meaning).ty (Err e.field-0.0) step.passes step.verdict step.exact step.full inner)
+    a b x y (p.meaning).ty (Err e.field-0.0) step.passes step.verdict step.exact step.full step.built inner)
 
 pub tys-tys_done-requires-clause-asked : goal.tys-tys_done-requires-clause-asked
 tys-tys_done-requires-clause-asked g t c =
@@ -288,7 +289,7 @@ tys-tys_done-requires-clause-asked g t c =
     let inner = subst (λ v. RelatedForms M q p v x y (p.meaning).ty (Ok z.answer)) (step.passes).ambient z.ensures in
     let done : Related M r p r.ambient a b (p.meaning).ty (Ok z.answer) =
     parts_related M IsFormed (g.met.R.TypeRelation.sound c.structurally_relate_tys.new.r ((inner.passes).lawful ((step.passes).lawful c.requires.lawful)))
-    a b x y (p.meaning).ty (Ok z.answer) step.passes step.verdict step.exact step.full inner in
+    a b x y (p.meaning).ty (Ok z.answer) step.passes step.verdict step.exact step.full step.built inner in
     let same_x : (p.meaning).ty c.in-Parts.a ≡ (q.meaning).ty c.in-Parts.a =
     ((inner.passes).extends).ty c.in-Parts.a ((step.verdict).asked).left_known in
     let same_y : (p.meaning).ty c.in-Parts.b ≡ (q.meaning).ty c.in-Parts.b =
@@ -312,7 +313,7 @@ tys-tys_done-requires-clause-related g t c =
     let inner = subst (λ v. RelatedForms M q p v x y (p.meaning).ty (Ok z.answer)) (step.passes).ambient z.ensures in
     let done : Related M r p r.ambient a b (p.meaning).ty (Ok z.answer) =
     parts_related M IsFormed (g.met.R.TypeRelation.sound c.structurally_relate_tys.new.r ((inner.passes).lawful ((step.passes).lawful c.requires.lawful)))
-    a b x y (p.meaning).ty (Ok z.answer) step.passes step.verdict step.exact step.full inner in
+    a b x y (p.meaning).ty (Ok z.answer) step.passes step.verdict step.exact step.full step.built inner in
     let same_x : (p.meaning).ty c.in-Parts.a ≡ (q.meaning).ty c.in-Parts.a =
     ((inner.passes).extends).ty c.in-Parts.a ((step.verdict).asked).left_known in
     let same_y : (p.meaning).ty c.in-Parts.b ≡ (q.meaning).ty c.in-Parts.b =
@@ -336,13 +337,15 @@ tys-returns-in_err-tys_done-in-Parts-clause-related g t c =
     let inner = subst (λ v. RelatedForms M q p v x y (p.meaning).ty (Ok z.answer)) (step.passes).ambient z.ensures in
     let done : Related M r p r.ambient a b (p.meaning).ty (Ok z.answer) =
     parts_related M IsFormed (g.met.R.TypeRelation.sound c.structurally_relate_tys.new.r ((inner.passes).lawful ((step.passes).lawful c.requires.lawful)))
-    a b x y (p.meaning).ty (Ok z.answer) step.passes step.verdict step.exact step.full inner in
+    a b x y (p.meaning).ty (Ok z.answer) step.passes step.verdict step.exact step.full step.built inner in
     let u = g.R.HasState.state c.tys_done.new.self in
     let e = c.in_err-tys_done-in-Parts in
     let failed = as_err c.from_residual-in_err-tys_done-in-Parts.result e.field-0.0
     c.from_residual-in_err-tys_done-in-Parts.ensures.0 c.from_residual-in_err-tys_done-in-Parts.ensures.1 in
     subst (λ z. Related M r u r.ambient a b (u.meaning).ty z) (sym failed)
-    (noted_refused M r.ambient a b (p.meaning).ty z.answer done (Err e.field-0.0) e.ensures (u.meaning).ty e.field-0.0 refl)
+    (noted_refused M r.ambient a b (p.meaning).ty z.answer done (Err e.field-0.0) e.ensures
+    (built_again r.store a b (step.verdict).built (((inner.passes).extends).ty c.in-Parts.a ((step.verdict).asked).left_known)
+    (((inner.passes).extends).ty c.in-Parts.b ((step.verdict).asked).right_known)) (u.meaning).ty e.field-0.0 refl)
 
 pub tys-returns-in_ok-tys_done-in-Parts-clause-related : goal.tys-returns-in_ok-tys_done-in-Parts-clause-related
 tys-returns-in_ok-tys_done-in-Parts-clause-related g t c =
@@ -359,10 +362,12 @@ tys-returns-in_ok-tys_done-in-Parts-clause-related g t c =
     let inner = subst (λ v. RelatedForms M q p v x y (p.meaning).ty (Ok z.answer)) (step.passes).ambient z.ensures in
     let done : Related M r p r.ambient a b (p.meaning).ty (Ok z.answer) =
     parts_related M IsFormed (g.met.R.TypeRelation.sound c.structurally_relate_tys.new.r ((inner.passes).lawful ((step.passes).lawful c.requires.lawful)))
-    a b x y (p.meaning).ty (Ok z.answer) step.passes step.verdict step.exact step.full inner in
+    a b x y (p.meaning).ty (Ok z.answer) step.passes step.verdict step.exact step.full step.built inner in
     let u = g.R.HasState.state c.tys_done.new.self in
     let n = c.in_ok-tys_done-in-Parts in
-    noted_related M r.ambient a b (p.meaning).ty z.answer done (Ok n.field-0) n.ensures (u.meaning).ty
+    noted_related M r.ambient a b (p.meaning).ty z.answer done (Ok n.field-0) n.ensures
+    (built_again r.store a b (step.verdict).built (((inner.passes).extends).ty c.in-Parts.a ((step.verdict).asked).left_known)
+    (((inner.passes).extends).ty c.in-Parts.b ((step.verdict).asked).right_known)) (u.meaning).ty
     ((((n.ensures).passes).extends).ty z.answer (done.verdict).known)
 
 pub tys-tys_done-requires-in-Again-clause-asked : goal.tys-tys_done-requires-in-Again-clause-asked
@@ -385,7 +390,7 @@ tys-tys_done-requires-in-Again-clause-asked g t c =
     let same_o : (p.meaning).ty c.in-Again.answer ≡ o =
     ((inner.passes).extends).ty c.in-Again.answer (step.verdict).answer_known in
     let done : Related M r p r.ambient a b (p.meaning).ty (Ok c.in-Again.answer) =
-    again_related M a b k l x y o v step.passes step.verdict step.exact (arg_tree p.meaning) c.in_ok-relate_with_variance-in-Again.field-0 (p.meaning).ty
+    again_related M a b k l x y o v step.passes step.verdict step.exact step.built (arg_tree p.meaning) c.in_ok-relate_with_variance-in-Again.field-0 (p.meaning).ty
     c.in-Again.answer same_o inner in
     let same_x : (p.meaning).ty c.in-Again.a ≡ (q.meaning).ty c.in-Again.a =
     ((inner.passes).extends).ty c.in-Again.a ((step.verdict).read_asked).left_known in
@@ -415,7 +420,7 @@ tys-tys_done-requires-in-Again-clause-related g t c =
     let same_o : (p.meaning).ty c.in-Again.answer ≡ o =
     ((inner.passes).extends).ty c.in-Again.answer (step.verdict).answer_known in
     let done : Related M r p r.ambient a b (p.meaning).ty (Ok c.in-Again.answer) =
-    again_related M a b k l x y o v step.passes step.verdict step.exact (arg_tree p.meaning) c.in_ok-relate_with_variance-in-Again.field-0 (p.meaning).ty
+    again_related M a b k l x y o v step.passes step.verdict step.exact step.built (arg_tree p.meaning) c.in_ok-relate_with_variance-in-Again.field-0 (p.meaning).ty
     c.in-Again.answer same_o inner in
     let same_x : (p.meaning).ty c.in-Again.a ≡ (q.meaning).ty c.in-Again.a =
     ((inner.passes).extends).ty c.in-Again.a ((step.verdict).read_asked).left_known in
@@ -423,7 +428,7 @@ tys-tys_done-requires-in-Again-clause-related g t c =
     ((inner.passes).extends).ty c.in-Again.b ((step.verdict).read_asked).right_known in
     subst₂ (λ t u. Shown M p p.ambient t u) (sym same_x) (sym same_y)
     (subst (λ v. Shown M p v k l)
-    (sym ((inner.passes).ambient ∙ (step.passes).ambient)) (again_shown M a b k l x y o v step.passes step.verdict step.exact (arg_tree p.meaning) c.in_ok-relate_with_variance-in-Again.field-0 inner))
+    (sym ((inner.passes).ambient ∙ (step.passes).ambient)) (again_shown M a b k l x y o v step.passes step.verdict step.exact step.built (arg_tree p.meaning) c.in_ok-relate_with_variance-in-Again.field-0 inner))
 
 pub tys-returns-in_err-tys_done-in-Again-clause-related : goal.tys-returns-in_err-tys_done-in-Again-clause-related
 tys-returns-in_err-tys_done-in-Again-clause-related g t c =
@@ -445,14 +450,16 @@ tys-returns-in_err-tys_done-in-Again-clause-related g t c =
     let same_o : (p.meaning).ty c.in-Again.answer ≡ o =
     ((inner.passes).extends).ty c.in-Again.answer (step.verdict).answer_known in
     let done : Related M r p r.ambient a b (p.meaning).ty (Ok c.in-Again.answer) =
-    again_related M a b k l x y o v step.passes step.verdict step.exact (arg_tree p.meaning) c.in_ok-relate_with_variance-in-Again.field-0 (p.meaning).ty
+    again_related M a b k l x y o v step.passes step.verdict step.exact step.built (arg_tree p.meaning) c.in_ok-relate_with_variance-in-Again.field-0 (p.meaning).ty
     c.in-Again.answer same_o inner in
     let u = g.R.HasState.state c.tys_done-in-Again.new.self in
     let e = c.in_err-tys_done-in-Again in
     let failed = as_err c.from_residual-in_err-tys_done-in-Again.result e.field-0.0
     c.from_residual-in_err-tys_done-in-Again.ensures.0 c.from_residual-in_err-tys_done-in-Again.ensures.1 in
     subst (λ z. Related M r u r.ambient a b (u.meaning).ty z) (sym failed)
-    (noted_refused M r.ambient a b (p.meaning).ty c.in-Again.answer done (Err e.field-0.0) e.ensures (u.meaning).ty e.field-0.0 refl)
+    (noted_refused M r.ambient a b (p.meaning).ty c.in-Again.answer done (Err e.field-0.0) e.ensures
+    (built_again r.store a b (step.verdict).read_built (((inner.passes).extends).ty c.in-Again.a ((step.verdict).read_asked).left_known)
+    (((inner.passes).extends).ty c.in-Again.b ((step.verdict).read_asked).right_known)) (u.meaning).ty e.field-0.0 refl)
 
 pub tys-returns-in_ok-tys_done-in-Again-clause-related : goal.tys-returns-in_ok-tys_done-in-Again-clause-related
 tys-returns-in_ok-tys_done-in-Again-clause-related g t c =
@@ -474,11 +481,13 @@ tys-returns-in_ok-tys_done-in-Again-clause-related g t c =
     let same_o : (p.meaning).ty c.in-Again.answer ≡ o =
     ((inner.passes).extends).ty c.in-Again.answer (step.verdict).answer_known in
     let done : Related M r p r.ambient a b (p.meaning).ty (Ok c.in-Again.answer) =
-    again_related M a b k l x y o v step.passes step.verdict step.exact (arg_tree p.meaning) c.in_ok-relate_with_variance-in-Again.field-0 (p.meaning).ty
+    again_related M a b k l x y o v step.passes step.verdict step.exact step.built (arg_tree p.meaning) c.in_ok-relate_with_variance-in-Again.field-0 (p.meaning).ty
     c.in-Again.answer same_o inner in
     let u = g.R.HasState.state c.tys_done-in-Again.new.self in
     let n = c.in_ok-tys_done-in-Again in
-    noted_related M r.ambient a b (p.meaning).ty c.in-Again.answer done (Ok n.field-0) n.ensures (u.meaning).ty
+    noted_related M r.ambient a b (p.meaning).ty c.in-Again.answer done (Ok n.field-0) n.ensures
+    (built_again r.store a b (step.verdict).read_built (((inner.passes).extends).ty c.in-Again.a ((step.verdict).read_asked).left_known)
+    (((inner.passes).extends).ty c.in-Again.b ((step.verdict).read_asked).right_known)) (u.meaning).ty
     ((((n.ensures).passes).extends).ty c.in-Again.answer (done.verdict).known)
 
 pub tys-returns-in-Done-clause-registers : goal.tys-returns-in-Done-clause-registers
@@ -1454,7 +1463,8 @@ structurally_relate_tys-returns-in_err-note_args g t c =
     let failed = as_err c.from_residual-in_err-note_args.result n.field-0.0 c.from_residual-in_err-note_args.ensures.0
     c.from_residual-in_err-note_args.ensures.1 in
     subst (λ z. RelatedForms M r u r.ambient a b (u.meaning).ty z) (sym failed)
-    (noted_refused M r.ambient a b (q.meaning).ty c.args.a.now done (Err n.field-0.0) n.ensures (u.meaning).ty n.field-0.0
+    (noted_refused M r.ambient a b (q.meaning).ty c.args.a.now done (Err n.field-0.0) n.ensures (built_as r.store same_a same_b)
+    (u.meaning).ty n.field-0.0
     refl)
 
 pub structurally_relate_tys-make_ty-requires-clause-ty_known : goal.structurally_relate_tys-make_ty-requires-clause-ty_known
@@ -1480,7 +1490,8 @@ structurally_relate_tys-make_ty-requires-clause-ty_known g t c =
     right same_a k.left_known in
     let u = g.R.HasState.state c.note_args.new.r in
     let n = c.in_ok-note_args in
-    let noted = noted_related M r.ambient a b (q.meaning).ty c.args.a.now done (Ok n.field-0) n.ensures (u.meaning).ty
+    let noted = noted_related M r.ambient a b (q.meaning).ty c.args.a.now done (Ok n.field-0) n.ensures (built_as r.store same_a same_b)
+    (u.meaning).ty
     ((((n.ensures).passes).extends).ty c.args.a.now (subst (λ z. IsTrue (known z)) (sym same_a) k.left_known)) in
     let e = ((n.ensures).passes).extends in
     let stays : (u.meaning).ty c.args.a.now ≡ a =
@@ -1529,7 +1540,8 @@ structurally_relate_tys-make_ty-requires-clause-parts_known g t c =
     right same_a k.left_known in
     let u = g.R.HasState.state c.note_args.new.r in
     let n = c.in_ok-note_args in
-    let noted = noted_related M r.ambient a b (q.meaning).ty c.args.a.now done (Ok n.field-0) n.ensures (u.meaning).ty
+    let noted = noted_related M r.ambient a b (q.meaning).ty c.args.a.now done (Ok n.field-0) n.ensures (built_as r.store same_a same_b)
+    (u.meaning).ty
     ((((n.ensures).passes).extends).ty c.args.a.now (subst (λ z. IsTrue (known z)) (sym same_a) k.left_known)) in
     let e = ((n.ensures).passes).extends in
     let stays : (u.meaning).ty c.args.a.now ≡ a =
@@ -1564,7 +1576,8 @@ structurally_relate_tys-make_ty-requires-clause-fits g t c =
     right same_a k.left_known in
     let u = g.R.HasState.state c.note_args.new.r in
     let n = c.in_ok-note_args in
-    let noted = noted_related M r.ambient a b (q.meaning).ty c.args.a.now done (Ok n.field-0) n.ensures (u.meaning).ty
+    let noted = noted_related M r.ambient a b (q.meaning).ty c.args.a.now done (Ok n.field-0) n.ensures (built_as r.store same_a same_b)
+    (u.meaning).ty
     ((((n.ensures).passes).extends).ty c.args.a.now (subst (λ z. IsTrue (known z)) (sym same_a) k.left_known)) in
     let e = ((n.ensures).passes).extends in
     let stays : (u.meaning).ty c.args.a.now ≡ a =
@@ -1599,7 +1612,8 @@ structurally_relate_tys-returns g t c =
     right same_a k.left_known in
     let u = g.R.HasState.state c.note_args.new.r in
     let n = c.in_ok-note_args in
-    let noted = noted_related M r.ambient a b (q.meaning).ty c.args.a.now done (Ok n.field-0) n.ensures (u.meaning).ty
+    let noted = noted_related M r.ambient a b (q.meaning).ty c.args.a.now done (Ok n.field-0) n.ensures (built_as r.store same_a same_b)
+    (u.meaning).ty
     ((((n.ensures).passes).extends).ty c.args.a.now (subst (λ z. IsTrue (known z)) (sym same_a) k.left_known)) in
     let e = ((n.ensures).passes).extends in
     let stays : (u.meaning).ty c.args.a.now ≡ a =
@@ -2808,7 +2822,7 @@ binders-returns-in_err-relate_parts g t c =
     ((inner.passes).lawful ((o.passes).lawful c.requires.lawful)) in
     record {
       related = subst (λ z. Related M r p r.ambient a b (part_tree p.meaning) z) (sym failed)
-          (first_refused M a b x y (part_tree p.meaning) (part_tree p.meaning) never sound o.passes o.verdict e.field-0.0 inner);
+          (first_refused M a b x y (part_tree p.meaning) (part_tree p.meaning) never sound o.passes o.verdict o.built e.field-0.0 inner);
       sort = subst (λ u. IfOk u (λ z. part_sort z ≡ part_sort c.args.a.now)) (sym failed) tt;
     }
 
@@ -2828,7 +2842,7 @@ binders-open_bodies-requires-2-clause-lawful g t c =
     let n = c.in_ok-relate_parts in
     let inner = subst (λ v. Related M q p v x y (part_tree p.meaning) (Ok n.field-0)) (o.passes).ambient
     (n.ensures).related in
-    let half = first_done M a b x y (part_tree p.meaning) n.field-0 o.passes o.verdict inner in
+    let half = first_done M a b x y (part_tree p.meaning) n.field-0 o.passes o.verdict o.built inner in
     (half.passes).lawful c.requires.lawful
 
 pub binders-open_bodies-requires-2-clause-decides : goal.binders-open_bodies-requires-2-clause-decides
@@ -2847,7 +2861,7 @@ binders-open_bodies-requires-2-clause-decides g t c =
     let n = c.in_ok-relate_parts in
     let inner = subst (λ v. Related M q p v x y (part_tree p.meaning) (Ok n.field-0)) (o.passes).ambient
     (n.ensures).related in
-    let half = first_done M a b x y (part_tree p.meaning) n.field-0 o.passes o.verdict inner in
+    let half = first_done M a b x y (part_tree p.meaning) n.field-0 o.passes o.verdict o.built inner in
     λ e. c.requires.decides (sym (half.passes).ambient ∙ e)
 
 pub binders-open_bodies-requires-2-clause-asked : goal.binders-open_bodies-requires-2-clause-asked
@@ -2866,7 +2880,7 @@ binders-open_bodies-requires-2-clause-asked g t c =
     let n = c.in_ok-relate_parts in
     let inner = subst (λ v. Related M q p v x y (part_tree p.meaning) (Ok n.field-0)) (o.passes).ambient
     (n.ensures).related in
-    let half = first_done M a b x y (part_tree p.meaning) n.field-0 o.passes o.verdict inner in
+    let half = first_done M a b x y (part_tree p.meaning) n.field-0 o.passes o.verdict o.built inner in
     half_asked M c.args.a.now c.args.b.now half k
 
 pub binders-returns-in_err-x-2 : goal.binders-returns-in_err-x-2
@@ -2886,7 +2900,7 @@ binders-returns-in_err-x-2 g t c =
     let n = c.in_ok-relate_parts in
     let inner = subst (λ v. Related M q p v x y (part_tree p.meaning) (Ok n.field-0)) (o.passes).ambient
     (n.ensures).related in
-    let half = first_done M a b x y (part_tree p.meaning) n.field-0 o.passes o.verdict inner in
+    let half = first_done M a b x y (part_tree p.meaning) n.field-0 o.passes o.verdict o.built inner in
     let same_a = stays_part (half.passes).extends c.args.a.now k.left_known in
     let same_b = stays_part (half.passes).extends c.args.b.now k.right_known in
     let w = g.R.HasState.state c.open_bodies-2.new.r in
@@ -2917,7 +2931,7 @@ binders-returns-in_default-2 g t c =
     let n = c.in_ok-relate_parts in
     let inner = subst (λ v. Related M q p v x y (part_tree p.meaning) (Ok n.field-0)) (o.passes).ambient
     (n.ensures).related in
-    let half = first_done M a b x y (part_tree p.meaning) n.field-0 o.passes o.verdict inner in
+    let half = first_done M a b x y (part_tree p.meaning) n.field-0 o.passes o.verdict o.built inner in
     let same_a = stays_part (half.passes).extends c.args.a.now k.left_known in
     let same_b = stays_part (half.passes).extends c.args.b.now k.right_known in
     let w = g.R.HasState.state c.open_bodies-2.new.r in
@@ -2947,7 +2961,7 @@ binders-relate_parts-requires-2 g t c κs within =
     let n = c.in_ok-relate_parts in
     let inner = subst (λ v. Related M q p v x y (part_tree p.meaning) (Ok n.field-0)) (o.passes).ambient
     (n.ensures).related in
-    let half = first_done M a b x y (part_tree p.meaning) n.field-0 o.passes o.verdict inner in
+    let half = first_done M a b x y (part_tree p.meaning) n.field-0 o.passes o.verdict o.built inner in
     let same_a = stays_part (half.passes).extends c.args.a.now k.left_known in
     let same_b = stays_part (half.passes).extends c.args.b.now k.right_known in
     let w = g.R.HasState.state c.open_bodies-2.new.r in
@@ -2987,7 +3001,7 @@ binders-returns-in_err-relate_parts-2 g t c =
     let n = c.in_ok-relate_parts in
     let inner = subst (λ v. Related M q p v x y (part_tree p.meaning) (Ok n.field-0)) (o.passes).ambient
     (n.ensures).related in
-    let half = first_done M a b x y (part_tree p.meaning) n.field-0 o.passes o.verdict inner in
+    let half = first_done M a b x y (part_tree p.meaning) n.field-0 o.passes o.verdict o.built inner in
     let same_a = stays_part (half.passes).extends c.args.a.now k.left_known in
     let same_b = stays_part (half.passes).extends c.args.b.now k.right_known in
     let w = g.R.HasState.state c.open_bodies-2.new.r in
@@ -3006,7 +3020,7 @@ binders-returns-in_err-relate_parts-2 g t c =
     ((last.passes).lawful ((again.passes).lawful ((half.passes).lawful c.requires.lawful))) in
     record {
       related = subst (λ t. Related M r z r.ambient a b (part_tree z.meaning) t) (sym failed)
-          (second_refused M a b s u never k half again.passes again.verdict (part_tree z.meaning) (part_tree z.meaning)
+          (second_refused M a b s u never k half again.passes again.verdict again.built (part_tree z.meaning) (part_tree z.meaning)
           sound e.field-0.0 last);
       sort = subst (λ u. IfOk u (λ z. part_sort z ≡ part_sort c.args.a.now)) (sym failed) tt;
     }
@@ -3028,7 +3042,7 @@ binders-returns g t c =
     let n = c.in_ok-relate_parts in
     let inner = subst (λ v. Related M q p v x y (part_tree p.meaning) (Ok n.field-0)) (o.passes).ambient
     (n.ensures).related in
-    let half = first_done M a b x y (part_tree p.meaning) n.field-0 o.passes o.verdict inner in
+    let half = first_done M a b x y (part_tree p.meaning) n.field-0 o.passes o.verdict o.built inner in
     let same_a = stays_part (half.passes).extends c.args.a.now k.left_known in
     let same_b = stays_part (half.passes).extends c.args.b.now k.right_known in
     let w = g.R.HasState.state c.open_bodies-2.new.r in
@@ -3044,7 +3058,75 @@ binders-returns g t c =
     (m.ensures).related in
     let stays = extends_on (half.passes).extends (extends_on (again.passes).extends (last.passes).extends) in
     record {
-      related = second_related M a b s u never k half again.passes again.verdict (part_tree z.meaning) m.field-0
+      related = second_related M a b s u never k half again.passes again.verdict again.built (part_tree z.meaning) m.field-0
           (part_tree z.meaning) c.args.a.now (stays_part stays c.args.a.now k.left_known) last;
       sort = refl;
     }
+
+pub consts-returns-in_err-answer : goal.consts-returns-in_err-answer
+consts-returns-in_err-answer g t c =
+    let r = g.R.HasState.state c.args.r.now in
+    let M = g.R.TypeRelation.manner in
+    let a = (r.meaning).const_ c.args.a.now in
+    let b = (r.meaning).const_ c.args.b.now in
+    let q = g.R.HasState.state c.consts.new.self in
+    let n = c.in_err-answer in
+    let f = n.field-0.0 in
+    let res = c.from_residual in
+    subst (Related M r q r.ambient a b (q.meaning).const_) (sym (as_err res.result f res.ensures.0 res.ensures.1))
+    (step_refused M IsFormedConst a b (q.meaning).const_ (q.meaning).const_ f n.ensures)
+
+pub tys-returns-in_err-answer-clause-related : goal.tys-returns-in_err-answer-clause-related
+tys-returns-in_err-answer-clause-related g t c =
+    let r = g.R.HasState.state c.args.r.now in
+    let M = g.R.TypeRelation.manner in
+    let a = (r.meaning).ty c.args.a.now in
+    let b = (r.meaning).ty c.args.b.now in
+    let q = g.R.HasState.state c.tys.new.self in
+    let n = c.in_err-answer in
+    let f = n.field-0.0 in
+    let res = c.from_residual in
+    subst (Related M r q r.ambient a b (q.meaning).ty) (sym (as_err res.result f res.ensures.0 res.ensures.1))
+    (step_refused M IsFormed a b (q.meaning).ty (q.meaning).ty f n.ensures.stepped)
+
+pub relate-returns-in_err-regions-in-Lifetime-clause-related : goal.relate-returns-in_err-regions-in-Lifetime-clause-related
+relate-returns-in_err-regions-in-Lifetime-clause-related g t c =
+    let r = g.R.HasState.state c.args.r.now in
+    let M = g.R.TypeRelation.manner in
+    let q = g.R.HasState.state c.regions.new.self in
+    let n = c.in_err-regions-in-Lifetime in
+    let f = n.field-0.0 in
+    let res = c.from_residual in
+    subst (Related M r q r.ambient (arg_tree r.meaning c.args.a.now) (arg_tree r.meaning c.args.b.now) (arg_tree q.meaning))
+    (sym (as_err res.result f res.ensures.0 res.ensures.1))
+    (subst₂ (λ t u. Related M r q r.ambient (arg_tree r.meaning t) (arg_tree r.meaning u) (arg_tree q.meaning) (Err f))
+    (sym c.in-Lifetime.is) (sym c.in-Lifetime-b.is) (refused_again M r.ambient ((r.meaning).region c.in-Lifetime.a)
+    ((r.meaning).region c.in-Lifetime-b.b) (q.meaning).region (arg_tree q.meaning) f n.ensures.related))
+
+pub relate-returns-in_err-tys-in-Ty-clause-related : goal.relate-returns-in_err-tys-in-Ty-clause-related
+relate-returns-in_err-tys-in-Ty-clause-related g t c =
+    let r = g.R.HasState.state c.args.r.now in
+    let M = g.R.TypeRelation.manner in
+    let q = g.R.HasState.state c.tys.new.r in
+    let n = c.in_err-tys-in-Ty in
+    let f = n.field-0.0 in
+    let res = c.from_residual-in_err-tys-in-Ty in
+    subst (Related M r q r.ambient (arg_tree r.meaning c.args.a.now) (arg_tree r.meaning c.args.b.now) (arg_tree q.meaning))
+    (sym (as_err res.result f res.ensures.0 res.ensures.1))
+    (subst₂ (λ t u. Related M r q r.ambient (arg_tree r.meaning t) (arg_tree r.meaning u) (arg_tree q.meaning) (Err f))
+    (sym c.in-Ty.is) (sym c.in-Ty-b.is) (refused_again M r.ambient ((r.meaning).ty c.in-Ty.a)
+    ((r.meaning).ty c.in-Ty-b.b) (q.meaning).ty (arg_tree q.meaning) f n.ensures.related))
+
+pub relate-returns-in_err-consts-in-Const-clause-related : goal.relate-returns-in_err-consts-in-Const-clause-related
+relate-returns-in_err-consts-in-Const-clause-related g t c =
+    let r = g.R.HasState.state c.args.r.now in
+    let M = g.R.TypeRelation.manner in
+    let q = g.R.HasState.state c.consts.new.r in
+    let n = c.in_err-consts-in-Const in
+    let f = n.field-0.0 in
+    let res = c.from_residual-in_err-consts-in-Const in
+    subst (Related M r q r.ambient (arg_tree r.meaning c.args.a.now) (arg_tree r.meaning c.args.b.now) (arg_tree q.meaning))
+    (sym (as_err res.result f res.ensures.0 res.ensures.1))
+    (subst₂ (λ t u. Related M r q r.ambient (arg_tree r.meaning t) (arg_tree r.meaning u) (arg_tree q.meaning) (Err f))
+    (sym c.in-Const.is) (sym c.in-Const-b.is) (refused_again M r.ambient ((r.meaning).const_ c.in-Const.a)
+    ((r.meaning).const_ c.in-Const-b.b) (q.meaning).const_ (arg_tree q.meaning) f n.ensures))

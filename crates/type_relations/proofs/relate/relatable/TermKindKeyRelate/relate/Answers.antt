@@ -8,7 +8,7 @@ use Rattle.relation_folds.specs.declared.error.TypeError.TheVariants.{Mismatch}
 use Rattle.relation_folds.specs.declared.error.RelateFault.TheVariants.{Unrelated}
 use Rattle.relation_contexts.specs.Lawful.{Asked, Related}
 use Rattle.type_relations.specs.Subtyping.{IsTyVar, RegistersSubtype}
-use Rattle.relation_contexts.proofs.Passing.{retold, as_err}
+use Rattle.relation_contexts.proofs.Passing.{retold, refused_again, as_err}
 use Rattle.type_relations.proofs.Subtyping.{left_none, right_none, const_none, refused_told}
 use Rattle.type_relations.proofs.StructuralConsts.{kinds_differ}
 use Rattle.type_relations.proofs.Relatable.{else_const, else_ty}
@@ -137,3 +137,31 @@ returns-in_err-tys-in-Ty-clause-registers g c =
     (sym c.in-Ty.is) (sym c.in-Ty-b.is)
     (refused_told ⊥ _ M r q r.ambient ((r.meaning).ty c.in-Ty.a) ((r.meaning).ty c.in-Ty-b.b) n.field-0.0 res
     (as_err res n.field-0.0 c.from_residual.ensures.0 c.from_residual.ensures.1) n.ensures.registers)
+
+pub returns-in_err-tys-in-Ty-clause-related : goal.returns-in_err-tys-in-Ty-clause-related
+returns-in_err-tys-in-Ty-clause-related g c =
+    let r = g.R.HasState.state c.args.r.now in
+    let M = g.R.TypeRelation.manner in
+    let q = g.R.HasState.state c.tys.new.r in
+    let n = c.in_err-tys-in-Ty in
+    let f = n.field-0.0 in
+    let res = c.from_residual in
+    subst (Related M r q r.ambient (term_tree r.meaning c.args.a.now) (term_tree r.meaning c.args.b.now)
+    (term_tree q.meaning)) (sym (as_err res.result f res.ensures.0 res.ensures.1))
+    (subst₂ (λ t u. Related M r q r.ambient (term_tree r.meaning t) (term_tree r.meaning u) (term_tree q.meaning) (Err f))
+    (sym c.in-Ty.is) (sym c.in-Ty-b.is) (refused_again M r.ambient ((r.meaning).ty c.in-Ty.a)
+    ((r.meaning).ty c.in-Ty-b.b) (q.meaning).ty (term_tree q.meaning) f n.ensures.related))
+
+pub returns-in_err-consts-in-Const-clause-related : goal.returns-in_err-consts-in-Const-clause-related
+returns-in_err-consts-in-Const-clause-related g c =
+    let r = g.R.HasState.state c.args.r.now in
+    let M = g.R.TypeRelation.manner in
+    let q = g.R.HasState.state c.consts.new.r in
+    let n = c.in_err-consts-in-Const in
+    let f = n.field-0.0 in
+    let res = c.from_residual-in_err-consts-in-Const in
+    subst (Related M r q r.ambient (term_tree r.meaning c.args.a.now) (term_tree r.meaning c.args.b.now)
+    (term_tree q.meaning)) (sym (as_err res.result f res.ensures.0 res.ensures.1))
+    (subst₂ (λ t u. Related M r q r.ambient (term_tree r.meaning t) (term_tree r.meaning u) (term_tree q.meaning) (Err f))
+    (sym c.in-Const.is) (sym c.in-Const-b.is) (refused_again M r.ambient ((r.meaning).const_ c.in-Const.a)
+    ((r.meaning).const_ c.in-Const-b.b) (q.meaning).const_ (term_tree q.meaning) f n.ensures))

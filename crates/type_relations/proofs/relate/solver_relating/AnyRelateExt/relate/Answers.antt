@@ -17,7 +17,9 @@ use Rattle.type_relations.proofs.Spending.{spends_no_more, spent_as}
 use Rattle.type_relations.specs.Relating.{term_in}
 use Rattle.type_relations.specs.Subtyping.{RegistersSubtype}
 use Rattle.type_relations.proofs.Relatable.{equal_one, one_equal}
-use Rattle.type_relations.proofs.Relating.{refused_alone_in}
+use Rattle.type_relations.proofs.Relating.{refused_alone_in, refused_built}
+use Rattle.relation_contexts.specs.Kits.{StaysBuilt}
+use Rattle.relation_contexts.proofs.Building.{built_itself}
 use Rattle.type_relations.proofs.OverContext.{all_taken}
 use Rattle.type_relations.proofs.Solving.{keeps_beside, answers_goals, keeps_equal, relates_agreeing, registers_goals}
 use Rattle.relation_contexts.proofs.Agreeing.{agree_same}
@@ -53,21 +55,25 @@ pub returns-then-eq-clause-later : goal.returns-then-eq-clause-later
 returns-then-eq-clause-later g c = later_itself (g.Infcx.InferCtxtLike.state c.args.self.now).store
 
 pub returns-then-eq-clause-made : goal.returns-then-eq-clause-made
-returns-then-eq-clause-made g c = record { no_number = λ k h. refl; none = λ ha hb binds none k. refl }
+returns-then-eq-clause-made g c = record {
+  no_number = λ k h. refl;
+  none = λ ha hb binds none k. refl;
+  no_universe = λ ha hb binds. refl;
+}
 
 pub returns-in_err-related-clause-made : goal.returns-in_err-related-clause-made
 returns-in_err-related-clause-made g c =
     let s = g.Infcx.InferCtxtLike.state c.args.self.now in
     let related = c.relate_in-related.ensures.related in
-    makes_to_instantiate (term_in s g.T.Relate.over g.T.HasTree.tree c.args.lhs)
-    (term_in s g.T.Relate.over g.T.HasTree.tree c.args.rhs) (related.passes).goes related.full
+    makes_to_instantiate (related.passes).added (term_in s g.T.Relate.over g.T.HasTree.tree c.args.lhs)
+    (term_in s g.T.Relate.over g.T.HasTree.tree c.args.rhs) (related.passes).goes related.full related.built
 
 pub returns-clause-made : goal.returns-clause-made
 returns-clause-made g c =
     let s = g.Infcx.InferCtxtLike.state c.args.self.now in
     let related = c.relate_in-related.ensures.related in
-    makes_to_instantiate (term_in s g.T.Relate.over g.T.HasTree.tree c.args.lhs)
-    (term_in s g.T.Relate.over g.T.HasTree.tree c.args.rhs) (related.passes).goes related.full
+    makes_to_instantiate (related.passes).added (term_in s g.T.Relate.over g.T.HasTree.tree c.args.lhs)
+    (term_in s g.T.Relate.over g.T.HasTree.tree c.args.rhs) (related.passes).goes related.full related.built
 
 pub relate_in-related-requires-clause-asked : goal.relate_in-related-requires-clause-asked
 relate_in-related-requires-clause-asked g c =
@@ -248,3 +254,28 @@ pub returns-clause-rest : goal.returns-clause-rest
 returns-clause-rest g c =
     keeps_beside No (g.Infcx.InferCtxtLike.state c.args.self.now)
     (g.Infcx.InferCtxtLike.state c.relate_in-related.new.infcx) _ _ ((c.relate_in-related.ensures.related).passes).kept
+
+pub returns-then-eq-clause-built : goal.returns-then-eq-clause-built
+returns-then-eq-clause-built g c =
+    let s = g.Infcx.InferCtxtLike.state c.args.self.now in
+    let a = term_in s g.T.Relate.over g.T.HasTree.tree c.args.lhs in
+    let b = term_in s g.T.Relate.over g.T.HasTree.tree c.args.rhs in
+    subst (λ gs. StaysBuilt s.store s.store (goals_of s.meaning gs) a b) (sym c.new.ensures.items) (built_itself s.store a b)
+
+pub returns-in_err-related-clause-built : goal.returns-in_err-related-clause-built
+returns-in_err-related-clause-built g c =
+    let f = c.in_err-related.field-0.0 in
+    let related = c.relate_in-related.ensures.related in
+    refused_built g.Infcx.InferCtxtLike.state c.args.self.now c.relate_in-related.new.infcx g.T.Relate.over g.T.HasTree.tree
+    c.args.lhs c.args.rhs f c.from_residual.result
+    (as_err c.from_residual.result f c.from_residual.ensures.0 c.from_residual.ensures.1) (related.passes).added
+    related.built
+
+pub returns-clause-built : goal.returns-clause-built
+returns-clause-built g c =
+    let s = g.Infcx.InferCtxtLike.state c.args.self.now in
+    let d = g.Infcx.InferCtxtLike.state c.relate_in-related.new.infcx in
+    let a = term_in s g.T.Relate.over g.T.HasTree.tree c.args.lhs in
+    let b = term_in s g.T.Relate.over g.T.HasTree.tree c.args.rhs in
+    let related = c.relate_in-related.ensures.related in
+    subst (λ gs. StaysBuilt s.store d.store gs a b) (sym (related.passes).lengthens) related.built

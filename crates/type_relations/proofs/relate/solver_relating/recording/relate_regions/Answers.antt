@@ -1,5 +1,5 @@
-use Rattle.type_relations.proofs.Solving.{constrained_goes, constrained_bound, constrained_full}
 use Rattle.type_relations.proofs.Stepping.{constrained_refused}
+use Rattle.type_relations.proofs.Solving.{constrained_goes, constrained_bound, constrained_full, constrained_built}
 use Rattle.type_relations.proofs.relate.solver_relating.recording.relate_regions.Goals as goal
 
 pub returns-in-Covariant-clause-goes : goal.returns-in-Covariant-clause-goes
@@ -61,3 +61,18 @@ pub returns-in-Invariant-clause-refused : goal.returns-in-Invariant-clause-refus
 returns-in-Invariant-clause-refused g c =
     constrained_refused (g.Infcx.InferCtxtLike.state c.args.infcx.now) (g.Infcx.InferCtxtLike.state c.equate_regions.new.self) _
     c.equate_regions.result c.equate_regions.ensures.constrains
+
+pub returns-in-Covariant-clause-built : goal.returns-in-Covariant-clause-built
+returns-in-Covariant-clause-built g c =
+    constrained_built (g.Infcx.InferCtxtLike.state c.args.infcx.now) (g.Infcx.InferCtxtLike.state c.sub_regions.new.self) _
+    c.sub_regions.result _ _ c.sub_regions.ensures.constrains
+
+pub returns-in-Contravariant-clause-built : goal.returns-in-Contravariant-clause-built
+returns-in-Contravariant-clause-built g c =
+    constrained_built (g.Infcx.InferCtxtLike.state c.args.infcx.now) (g.Infcx.InferCtxtLike.state c.sub_regions-in-Contravariant.new.self) _
+    c.sub_regions-in-Contravariant.result _ _ c.sub_regions-in-Contravariant.ensures.constrains
+
+pub returns-in-Invariant-clause-built : goal.returns-in-Invariant-clause-built
+returns-in-Invariant-clause-built g c =
+    constrained_built (g.Infcx.InferCtxtLike.state c.args.infcx.now) (g.Infcx.InferCtxtLike.state c.equate_regions.new.self) _
+    c.equate_regions.result _ _ c.equate_regions.ensures.constrains

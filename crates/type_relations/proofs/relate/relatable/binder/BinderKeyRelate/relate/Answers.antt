@@ -5,7 +5,7 @@ use Rattle.relation_contexts.specs.Lawful.{Related}
 use Rattle.type_relations.specs.Rounds.{Opened}
 use Rattle.relation_contexts.proofs.Passing.{as_err}
 use Rattle.type_relations.proofs.RelatableForms.{equal_binders, stays_binder, still_asked, related_bodies}
-use Rattle.type_relations.proofs.Rounds.{under_known, first_refused, first_done, reopening_refused, nothing_left}
+use Rattle.type_relations.proofs.Rounds.{under_known, opening_refused, first_refused, first_done, reopening_refused, nothing_left}
 use Rattle.type_relations.proofs.Rounds.{second_refused, second_related}
 use Rattle.type_relations.proofs.StructuralConsts.{itself_related}
 use Rattle.type_relations.proofs.relate.relatable.binder.BinderKeyRelate.relate.Goals as goal
@@ -24,6 +24,23 @@ returns-then-eq-clause-related g c =
     g.I.Key.PartialEq.eq (g.met.T.Relate.same cx) (g.met.I.Interner.same_bound_vars cx) c.args.a.now c.args.b.now
     k.left_known k.right_known (sym c.if-eq.ensures) in
     itself_related M r r.ambient (binder_tree tree r.meaning) a b c.args.a.now one refl k.left_known
+
+pub returns-in_err-bodies-clause-related : goal.returns-in_err-bodies-clause-related
+returns-in_err-bodies-clause-related g c =
+    let r = g.R.HasState.state c.args.r.now in
+    let M = g.R.TypeRelation.manner in
+    let tree = g.T.HasTree.tree in
+    let a = binder_tree tree r.meaning c.args.a.now in
+    let b = binder_tree tree r.meaning c.args.b.now in
+    let k = c.requires.asked in
+    let never = under_known ((r.meaning).bound_vars c.args.a.now.bound_vars) (tree r.meaning c.args.a.now.value)
+    k.left_known in
+    let q = g.R.HasState.state c.open_binders.new.self in
+    let e = c.in_err-bodies in
+    let res = c.from_residual in
+    let failed = as_err res.result e.field-0.0 res.ensures.0 res.ensures.1 in
+    subst (λ z. Related M r q r.ambient a b (binder_tree tree q.meaning) z) (sym failed)
+    (opening_refused M 0 a b (tree q.meaning) (binder_tree tree q.meaning) never e.field-0.0 e.ensures)
 
 pub returns-in_err-relate-clause-related : goal.returns-in_err-relate-clause-related
 returns-in_err-relate-clause-related g c =
@@ -51,7 +68,7 @@ returns-in_err-relate-clause-related g c =
     let sound = g.met.R.TypeRelation.sound c.relate.new.r
     ((inner.passes).lawful ((o.passes).lawful c.requires.lawful)) in
     subst (λ z. Related M r p r.ambient a b (binder_tree tree p.meaning) z) (sym failed)
-    (first_refused M a b x y (tree p.meaning) (binder_tree tree p.meaning) never sound o.passes o.verdict e.field-0.0
+    (first_refused M a b x y (tree p.meaning) (binder_tree tree p.meaning) never sound o.passes o.verdict o.built e.field-0.0
     inner)
 
 pub open_binders-requires-2-clause-asked : goal.open_binders-requires-2-clause-asked
@@ -73,7 +90,7 @@ open_binders-requires-2-clause-asked g c =
     let met = (n.ensures).related in
     let inner = subst (λ v. Related M q p v x y (tree p.meaning) (Ok n.field-0)) (o.passes).ambient
     (related_bodies M over x y (tree p.meaning) (Ok n.field-0) c.requires.fits.0 met) in
-    let half = first_done M a b x y (tree p.meaning) n.field-0 o.passes o.verdict inner in
+    let half = first_done M a b x y (tree p.meaning) n.field-0 o.passes o.verdict o.built inner in
     let same_a = stays_binder tree g.T.HasTree.stays (half.passes).extends c.args.a.now k.left_known in
     let same_b = stays_binder tree g.T.HasTree.stays (half.passes).extends c.args.b.now k.right_known in
     still_asked M a b (binder_tree tree p.meaning c.args.a.now) (binder_tree tree p.meaning c.args.b.now) same_a same_b half k
@@ -99,7 +116,7 @@ returns-in_err-bodies-2-clause-related g c =
     let met = (n.ensures).related in
     let inner = subst (λ v. Related M q p v x y (tree p.meaning) (Ok n.field-0)) (o.passes).ambient
     (related_bodies M over x y (tree p.meaning) (Ok n.field-0) c.requires.fits.0 met) in
-    let half = first_done M a b x y (tree p.meaning) n.field-0 o.passes o.verdict inner in
+    let half = first_done M a b x y (tree p.meaning) n.field-0 o.passes o.verdict o.built inner in
     let same_a = stays_binder tree g.T.HasTree.stays (half.passes).extends c.args.a.now k.left_known in
     let same_b = stays_binder tree g.T.HasTree.stays (half.passes).extends c.args.b.now k.right_known in
     let w = g.R.HasState.state c.open_binders-2.new.self in
@@ -131,7 +148,7 @@ returns-in_default-2-clause-related g c =
     let met = (n.ensures).related in
     let inner = subst (λ v. Related M q p v x y (tree p.meaning) (Ok n.field-0)) (o.passes).ambient
     (related_bodies M over x y (tree p.meaning) (Ok n.field-0) c.requires.fits.0 met) in
-    let half = first_done M a b x y (tree p.meaning) n.field-0 o.passes o.verdict inner in
+    let half = first_done M a b x y (tree p.meaning) n.field-0 o.passes o.verdict o.built inner in
     let same_a = stays_binder tree g.T.HasTree.stays (half.passes).extends c.args.a.now k.left_known in
     let same_b = stays_binder tree g.T.HasTree.stays (half.passes).extends c.args.b.now k.right_known in
     let w = g.R.HasState.state c.open_binders-2.new.self in
@@ -161,7 +178,7 @@ relate-requires-2-clause-fits g c =
     let met = (n.ensures).related in
     let inner = subst (λ v. Related M q p v x y (tree p.meaning) (Ok n.field-0)) (o.passes).ambient
     (related_bodies M over x y (tree p.meaning) (Ok n.field-0) c.requires.fits.0 met) in
-    let half = first_done M a b x y (tree p.meaning) n.field-0 o.passes o.verdict inner in
+    let half = first_done M a b x y (tree p.meaning) n.field-0 o.passes o.verdict o.built inner in
     let same_a = stays_binder tree g.T.HasTree.stays (half.passes).extends c.args.a.now k.left_known in
     let same_b = stays_binder tree g.T.HasTree.stays (half.passes).extends c.args.b.now k.right_known in
     let w = g.R.HasState.state c.open_binders-2.new.self in
@@ -196,7 +213,7 @@ returns-in_err-relate-2-clause-related g c =
     let met = (n.ensures).related in
     let inner = subst (λ v. Related M q p v x y (tree p.meaning) (Ok n.field-0)) (o.passes).ambient
     (related_bodies M over x y (tree p.meaning) (Ok n.field-0) c.requires.fits.0 met) in
-    let half = first_done M a b x y (tree p.meaning) n.field-0 o.passes o.verdict inner in
+    let half = first_done M a b x y (tree p.meaning) n.field-0 o.passes o.verdict o.built inner in
     let same_a = stays_binder tree g.T.HasTree.stays (half.passes).extends c.args.a.now k.left_known in
     let same_b = stays_binder tree g.T.HasTree.stays (half.passes).extends c.args.b.now k.right_known in
     let w = g.R.HasState.state c.open_binders-2.new.self in
@@ -216,7 +233,7 @@ returns-in_err-relate-2-clause-related g c =
     let sound = g.met.R.TypeRelation.sound c.relate-2.new.r
     ((last.passes).lawful ((again.passes).lawful ((half.passes).lawful c.requires.lawful))) in
     subst (λ t. Related M r z r.ambient a b (binder_tree tree z.meaning) t) (sym failed)
-    (second_refused M a b s u never k half again.passes again.verdict (tree z.meaning) (binder_tree tree z.meaning) sound
+    (second_refused M a b s u never k half again.passes again.verdict again.built (tree z.meaning) (binder_tree tree z.meaning) sound
     e.field-0.0 last)
 
 pub returns-clause-related : goal.returns-clause-related
@@ -240,7 +257,7 @@ returns-clause-related g c =
     let met = (n.ensures).related in
     let inner = subst (λ v. Related M q p v x y (tree p.meaning) (Ok n.field-0)) (o.passes).ambient
     (related_bodies M over x y (tree p.meaning) (Ok n.field-0) c.requires.fits.0 met) in
-    let half = first_done M a b x y (tree p.meaning) n.field-0 o.passes o.verdict inner in
+    let half = first_done M a b x y (tree p.meaning) n.field-0 o.passes o.verdict o.built inner in
     let same_a = stays_binder tree g.T.HasTree.stays (half.passes).extends c.args.a.now k.left_known in
     let same_b = stays_binder tree g.T.HasTree.stays (half.passes).extends c.args.b.now k.right_known in
     let w = g.R.HasState.state c.open_binders-2.new.self in
@@ -256,6 +273,6 @@ returns-clause-related g c =
     let last = subst (λ v. Related M w z v s u (tree z.meaning) (Ok m.field-0)) (again.passes).ambient
     (related_bodies M over s u (tree z.meaning) (Ok m.field-0) c.requires.fits.0 met-2) in
     let stays = extends_on (half.passes).extends (extends_on (again.passes).extends (last.passes).extends) in
-    second_related M a b s u never k half again.passes again.verdict (tree z.meaning) m.field-0
+    second_related M a b s u never k half again.passes again.verdict again.built (tree z.meaning) m.field-0
     (binder_tree tree z.meaning) c.args.a.now
     (stays_binder tree g.T.HasTree.stays stays c.args.a.now k.left_known) last

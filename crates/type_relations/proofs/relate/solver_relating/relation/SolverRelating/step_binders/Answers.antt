@@ -7,6 +7,7 @@ use Rattle.relation_folds.specs.declared.error.RelateFault.TheVariants.{Memory}
 use Rattle.relation_contexts.specs.Binders.{binder_tree}
 use Rattle.relation_contexts.proofs.Passing.{as_err}
 use Rattle.type_relations.specs.Solving.{solving_through}
+use Rattle.type_relations.proofs.Rounds.{under_built}
 use Rattle.type_relations.proofs.SolvingBinders.{covered_binds, opens_neither, opening_refused, opens_second}
 use Rattle.type_relations.proofs.SolvingBinders.{opens_first, opens_none, no_more}
 use Rattle.relation_contexts.proofs.Registered.{goals_stay}
@@ -79,6 +80,8 @@ returns-in_err-y-clause-opened g c =
     (binder_tree g.T.HasTree.tree s.meaning c.args.a.now) (binder_tree g.T.HasTree.tree s.meaning c.args.b.now)
     (g.T.HasTree.tree d.meaning) c.from_residual.result
     (as_err c.from_residual.result Memory c.from_residual.ensures.0 c.from_residual.ensures.1)
+    (under_built ((s.meaning).bound_vars c.args.a.now.bound_vars)
+    (g.T.HasTree.tree s.meaning c.args.a.now.value) c.requires.asked.left_known)
 
 pub returns-then-enters_second-clause-opened : goal.returns-then-enters_second-clause-opened
 returns-then-enters_second-clause-opened g c =
@@ -109,6 +112,8 @@ returns-in_err-x-clause-opened g c =
     (g.met.Infcx.InferCtxtLike.sound r.infcx.now c.requires.lawful.0) done.grows h.0 h.1 h.2 c.args.round
     (binder_tree g.T.HasTree.tree s.meaning c.args.a.now) (binder_tree g.T.HasTree.tree s.meaning c.args.b.now)
     (g.T.HasTree.tree d.meaning) from.result (as_err from.result Memory from.ensures.0 from.ensures.1)
+    (under_built ((s.meaning).bound_vars c.args.a.now.bound_vars)
+    (g.T.HasTree.tree s.meaning c.args.a.now.value) c.requires.asked.left_known)
 
 pub returns-then-enters_first-clause-opened : goal.returns-then-enters_first-clause-opened
 returns-then-enters_first-clause-opened g c =

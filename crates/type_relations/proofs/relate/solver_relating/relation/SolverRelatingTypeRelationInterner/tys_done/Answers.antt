@@ -6,4 +6,4 @@ pub returns : goal.returns
 returns g c =
     let r = c.args.self.now in
     let s = g.Infcx.InferCtxtLike.state r.infcx.now in
-    noted_nothing tt (solving_through r.structurally_relate_aliases r.infcx.ghost_name r.goals.items s r.ambient_variance r.param_env)
+    noted_nothing tt (solving_through r.structurally_relate_aliases r.infcx.ghost_name r.goals.items s r.ambient_variance r.param_env) _ _

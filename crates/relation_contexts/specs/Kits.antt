@@ -1,0 +1,60 @@
+-- What terms are built of. Relating binds, and asks about, only what is built of what the two terms and the bindings were
+-- built of: it brings in no form, no atom and no binder of its own.
+--
+--   Kit                    which forms and atoms may be used, and whether binders
+--   IsBuiltOf k t          a term is built of a kit
+--   BindsBuiltOf k st      so is each term that a variable is bound to
+--   IsGoalOf k g           so are the terms that a goal speaks of
+--   Builds k st st' gs     so is what was bound and registered from one record to another
+--   StaysBuilt st st' gs a b    so it is by each kit of which two terms and the bindings before were built
+--   BuiltFrom st a b x y   by each such kit two other terms are built of it too
+use Rattle.std.specs.Prelude.{◌≡◌, ℕ, Bool, false, List, All, IsTrue}
+use Rattle.relation_terms.specs.Heads.{VarKind, Head, Atom, atom}
+use Rattle.relation_terms.specs.Trees.{Tree, leaf, node, bind, nil, cons}
+use Rattle.relation_contexts.specs.Stores.{Store, bound_to, entry_of}
+use Rattle.relation_contexts.specs.Goals.{Goal}
+
+-- What terms may be built of: which forms and atoms may be used, and whether binders. All other leaves may be.
+pub record Kit : Type 0 where
+  pub heads : Head → Bool
+  pub atoms : Atom → Bool
+  pub binders : Bool
+
+-- A tree is built of a kit.
+abbrev pub IsBuiltOf : Kit → Tree → Type 0
+IsBuiltOf k (leaf (atom x)) = IsTrue (k.atoms x)
+IsBuiltOf k (leaf l) = Unit {0}
+IsBuiltOf k (node h ts) = IsTrue (k.heads h) × IsBuiltOf k ts
+IsBuiltOf k (bind ks t) = IsTrue k.binders × IsBuiltOf k t
+IsBuiltOf k nil = Unit {0}
+IsBuiltOf k (cons t ts) = IsBuiltOf k t × IsBuiltOf k ts
+
+-- Each term that a variable is bound to is built of it.
+abbrev pub BindsBuiltOf : Kit → Store → Type 0
+BindsBuiltOf k st = (j : VarKind) (n : ℕ) (t : Tree) → entry_of st j n ≡ bound_to t → IsBuiltOf k t
+
+-- What a predicate speaks of: the parts of its form.
+abbrev pub spoken_of : Tree → Tree
+spoken_of (bind ks (node h ts)) = ts
+spoken_of p = p
+
+-- All that a goal speaks of, beside its environment, is built of it.
+abbrev pub IsGoalOf : Kit → Goal → Type 0
+IsGoalOf k g = IsBuiltOf k (spoken_of g.predicate)
+
+-- What is bound after, and what was registered, is built of a kit; and the current universe is the old one, unless the
+-- kit has binders.
+pub record Builds (k : Kit) (before after : Store) (added : List Goal) : Type 0 where
+  pub binds : BindsBuiltOf k after
+  pub asks : All (IsGoalOf k) added
+  pub universe : k.binders ≡ false → after.universe ≡ before.universe
+
+-- Of whatever two terms and all that was bound are built, so is what is bound after and what was registered.
+abbrev pub StaysBuilt : Store → Store → List Goal → Tree → Tree → Type 0
+StaysBuilt before after added a b =
+    (k : Kit) → IsBuiltOf k a → IsBuiltOf k b → BindsBuiltOf k before → Builds k before after added
+
+-- Of whatever two terms and all that is bound are built, so are two other terms.
+abbrev pub BuiltFrom : Store → Tree → Tree → Tree → Tree → Type 0
+BuiltFrom st a b x y =
+    (k : Kit) → IsBuiltOf k a → IsBuiltOf k b → BindsBuiltOf k st → IsBuiltOf k x × IsBuiltOf k y
