@@ -6,10 +6,10 @@ ghost use Rattle.term_enums.specs.declared.Variance.TheVariants.{Bivariant};
 ghost use Rattle.relation_contexts.specs.Contexts.{KnowsEnv, KnowsTy};
 ghost use Rattle.relation_contexts.specs.ContextCalls.{IsUnresolved};
 ghost use Rattle.relation_contexts.specs.Goals.{KnowsGoal};
-ghost use Rattle.relation_contexts.specs.Lawful.{Noted, RelatesByDeclared};
+ghost use Rattle.relation_contexts.specs.Lawful.{RelatesByDeclared};
 ghost use Rattle.relation_contexts.specs.Resolving.{IsShallow};
 ghost use Rattle.type_relations.specs.Bivariance.{AsksWellFormed};
-ghost use Rattle.type_relations.specs.Keyed.{AreOver, AskedConsts, AskedRegions, AskedTys};
+ghost use Rattle.type_relations.specs.Keyed.{AreOver, AskedConsts, AskedRegions, AskedTys, NotedTys};
 ghost use Rattle.type_relations.specs.Rounds.{AskedBinders};
 ghost use Rattle.type_relations.specs.Solving.{solver_manner};
 ghost use Rattle.type_relations.specs.SolverTerms.{KeepsGoals, SolverCombinesShallow, SolverCombinesVars};
@@ -292,7 +292,8 @@ impl<'a, Infcx: InferCtxtLike> SolverRelating<'a, Infcx> {
         requires by_declared { RelatesByDeclared (solver_through Infcx.state self.old) }
         requires over { let r = solver_through Infcx.state self.old in
             AreOver r def_id.now a_ty.now b_ty.now a_args.now b_args.now }
-        ensures noted { Noted (solver_through Infcx.state self.old) (solver_through Infcx.state self.new) result }
+        ensures noted { let r = solver_through Infcx.state self.old in
+            NotedTys r (solver_through Infcx.state self.new) a_ty.now b_ty.now result }
         ensures registers { AsksWellFormed (solver_through Infcx.state) self.old self.new
             def_id.now a_ty.now b_ty.now a_args.now b_args.now result }
     {
