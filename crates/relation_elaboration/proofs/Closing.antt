@@ -1,6 +1,6 @@
 -- Runs of an elaboration yield the closure.
 use Rattle.std.proofs.Common.{ℕ, ◌+◌, ◌≤◌, ◌≡◌, ◌⊎◌, sym, ap, ◌∙◌, subst, arith, inl, inr}
-use Rattle.std.proofs.Common.{Bool, true, false, List, [], ◌∷◌, ◌++◌, map, length}
+use Rattle.std.proofs.Common.{List, [], ◌∷◌, ◌++◌, map, length}
 use Rattle.std.proofs.Common.{length-append, append-nil}
 use Rattle.std.proofs.lemmas.List.{append_assoc}
 use Rattle.std.proofs.lemmas.List.Elements.{Contains-append_cases, Contains-append_left}
@@ -15,7 +15,7 @@ use Rattle.relation_elaboration.specs.Closure.Follows.{given_one, implied_by}
 use Rattle.relation_elaboration.specs.Runs.{anon, Standing, IsDistinct, Pushes, Yields, Begins, Runs, StatesWithin}
 use Rattle.relation_elaboration.specs.Runs.{Closes, IsFull, AreTooMany}
 use Rattle.relation_elaboration.specs.Runs.{EachRunCloses}
-use Rattle.relation_elaboration.proofs.Implying.{none_in, renamings_imply}
+use Rattle.relation_elaboration.proofs.Implying.{none_in, is_binder, renamings_imply}
 use Rattle.relation_elaboration.proofs.Members.{first_in, later_in, in_cases, map_in, from_map, map_both, map_length}
 use Rattle.relation_elaboration.proofs.Keeping.{follows_within}
 use Rattle.std.proofs.lemmas.Bool.{false≢true}
@@ -70,10 +70,6 @@ no_more (x ∷ xs) cs d h =
     let m = length-append r.0 (x ∷ r.1) in
     let n = ap length r.2 in
     omega (arith, others, l, m, n)
-
-abbrev is_binder : Tree → Bool
-is_binder (bind ks t) = true
-is_binder t = false
 
 module _ (one : RenamingsAreOne) (name : ℕ) where
   -- Predicates are the same but for renaming where one tree stands for both.

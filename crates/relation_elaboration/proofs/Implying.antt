@@ -223,7 +223,7 @@ module _ (s : Statements) (mode : Mode) (ks ls : List BoundKind) (to back : Kind
   children_imply (cons t ts) u b = λ c h. absurd (none_in c h)
   children_imply t u b = absurd b.0
 
-abbrev is_binder : Tree → Bool
+abbrev pub is_binder : Tree → Bool
 is_binder (bind ks t) = true
 is_binder t = false
 

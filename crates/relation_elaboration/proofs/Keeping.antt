@@ -24,7 +24,8 @@ use Rattle.relation_elaboration.specs.Children.{of_trait, of_effect, of_outlives
 use Rattle.relation_elaboration.specs.Closure.{Follows}
 use Rattle.relation_elaboration.specs.Closure.Follows.{given_one, implied_by}
 use Rattle.relation_elaboration.specs.Runs.{StatesWithin}
-use Rattle.relation_elaboration.proofs.Moving.{put_none, within_shifted}
+use Rattle.relation_folds.proofs.Folding.{put_none}
+use Rattle.relation_elaboration.proofs.Moving.{within_shifted}
 use Rattle.relation_elaboration.proofs.Stating.{own_bound, stated_node}
 use Rattle.relation_elaboration.proofs.Implying.{none_in, escapes_not}
 use Rattle.relation_elaboration.proofs.Members.{from_map}

@@ -39,11 +39,8 @@ use Rattle.relation_terms.specs.declared.terms.binder.Binder.{Binder}
 use Rattle.relation_terms.specs.declared.terms.keys.TyKey.{TyKey}
 use Rattle.relation_terms.specs.declared.terms.keys.BoundVarsKey.{BoundVarsKey}
 use Rattle.relation_terms.specs.declared.terms.keys.RegionKey.{RegionKey}
-use Rattle.relation_terms.specs.declared.terms.ty_kind.TyKind.TheVariants.{Param as TyParam, Alias as TyAlias}
-use Rattle.relation_terms.specs.declared.terms.ty_kind.TyKind.TheVariants.{Placeholder as TyPlaceholder}
 use Rattle.relation_terms.proofs.Binders.{under_known}
 use Rattle.relation_terms.proofs.Members.{type_term, region_term, const_term}
-use Rattle.relation_terms.proofs.Stays.{stays_kind}
 use Rattle.relation_tools.specs.Components.{every, components, is_region_sort}
 use Rattle.relation_tools.specs.Assumptions.{is_assumed, assumed_parts, HaveSame}
 use Rattle.relation_tools.specs.Assuming.{argument_of, IsKnownComponent}
@@ -51,7 +48,7 @@ use Rattle.relation_tools.specs.Outliving.{AddsSome, HasAll}
 use Rattle.relation_tools.specs.declared.outlives.Component.{Component, Region, Param, Placeholder}
 use Rattle.relation_tools.specs.declared.outlives.Component.{UnresolvedInferenceVariable, Alias, EscapingAlias'}
 use Rattle.relation_tools.proofs.Assuming.{mapped_filter, given_same, same_mapped, same_as, same_on}
-use Rattle.relation_tools.proofs.Assuming.{added_known, components_known}
+use Rattle.relation_tools.proofs.Assuming.{added_known, components_known, stays_argument}
 use Rattle.relation_elaboration.specs.Stated.{stated_of}
 use Rattle.relation_elaboration.specs.Children.{Statements, Mode, children, effect_of, is_bound, outlives, of_form}
 use Rattle.relation_elaboration.specs.Statements.{statements, listed, is_left, outlives_tree, component_implied}
@@ -227,20 +224,12 @@ module _ {Key Id Name : Type 0} (m n : Meaning Key Id Name) (e : Extends m n) (o
 
 -- What follows for the components of a type.
 module _ {Key Id Name : Type 0} {m n : Meaning Key Id Name} (e : Extends m n) where
-  stays_argument : (c : Component Key Id Name) → IsKnownComponent m c → argument_of n c ≡ argument_of m c
-  stays_argument (Region r) k = ap (λ t. cond (is_assumed t) (Some t) None) (e.region r k)
-  stays_argument (Param p) k = ap (λ z. Some z) (stays_kind e (TyParam p) refl)
-  stays_argument (Placeholder p) k = ap (λ z. Some z) (stays_kind e (TyPlaceholder p) refl)
-  stays_argument (Alias a) k = ap (λ z. Some z) (stays_kind e (TyAlias a) k)
-  stays_argument (UnresolvedInferenceVariable i) k = refl
-  stays_argument (EscapingAlias' s all) k = refl
-
   pub stays_implied : (b : BoundVarsKey Key) (r : RegionKey Key) (c : Component Key Id Name) →
       IsSome (m.bound_vars b) → IsTrue (known (m.region r)) → IsKnownComponent m c →
       filter_map (component_implied n b r) (c ∷ []) ≡ filter_map (component_implied m b r) (c ∷ [])
   stays_implied b r c i h k = ap (λ o. cons_option o [])
       (ap₂ (λ o z. option_map (λ u. under o (outlives u z)) (argument_of n c)) (e.bound_vars b i) (e.region r h)
-      ∙ ap (option_map (λ u. under (m.bound_vars b) (outlives u (m.region r)))) (stays_argument c k))
+      ∙ ap (option_map (λ u. under (m.bound_vars b) (outlives u (m.region r)))) (stays_argument e c k))
 
 module _ {Key Id Name : Type 0} (m : Meaning Key Id Name) (sorted : Sorted m) (mode : Mode) where
   pub bound_nothing : (s : Statements) (b : BoundVarsKey Key) (p : OutlivesPredicate Key (TyKey Key)) →

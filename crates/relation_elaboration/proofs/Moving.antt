@@ -10,12 +10,9 @@ use Rattle.relation_terms.specs.Trees.{Tree, leaf, node, bind, nil, cons}
 use Rattle.relation_terms.specs.Parts.{tree_sort}
 use Rattle.relation_folds.specs.Folds.{folded, put_or, asks}
 use Rattle.relation_folds.specs.Shifts.{moves, shifted}
+use Rattle.relation_folds.proofs.Folding.{put_none}
 use Rattle.relation_tools.specs.Renamings.{MovedLeaf, Moved}
 use Rattle.relation_terms.specs.Owned.{AreWithin}
-
-pub put_none : (b : Bool) (t : Tree) → put_or b None t ≡ t
-put_none true t = refl
-put_none false t = refl
 
 pub put_kind : (k : Kind) (n d i : ℕ) (o : Option Tree) (t : Tree) →
     put_or (asks (leaf_sort (bound (bound_kind k n) d i))) o t ≡ put_or true o t

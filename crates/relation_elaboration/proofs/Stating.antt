@@ -14,7 +14,8 @@ use Rattle.relation_tools.specs.Renamings.{Moved, AreRenamings}
 use Rattle.relation_terms.specs.Owned.{AreWithin}
 use Rattle.relation_elaboration.specs.Stated.{member, stands_for, stated_of}
 use Rattle.relation_elaboration.specs.Closure.{AreSame}
-use Rattle.relation_elaboration.proofs.Moving.{put_none, put_kind, moved_shifted, sorts, moved_within, within_shifted}
+use Rattle.relation_folds.proofs.Folding.{put_none}
+use Rattle.relation_elaboration.proofs.Moving.{put_kind, moved_shifted, sorts, moved_within, within_shifted}
 
 -- Where the clause's own variable stands.
 pub own_bound : (count : ℕ) (args : Tree) (depth : ℕ) (k : Kind) (n d i : ℕ) →

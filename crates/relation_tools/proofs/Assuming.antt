@@ -357,7 +357,7 @@ module _ {X D N : Type 0} {m n : Meaning X D N} (e : Extends m n) where
         (stays_all xs a ∙ sym (append-nil (map (assumed m) xs))),
   )
 
-  stays_argument : (c : Component X D N) → IsKnownComponent m c → argument_of n c ≡ argument_of m c
+  pub stays_argument : (c : Component X D N) → IsKnownComponent m c → argument_of n c ≡ argument_of m c
   stays_argument (Region r) k = ap (λ z. cond (is_assumed z) (Some z) None) (e.region r k)
   stays_argument (Param p) k = ap (λ z. Some z) (stays_kind e (TyParam p) refl)
   stays_argument (Placeholder p) k = ap (λ z. Some z) (stays_kind e (TyPlaceholder p) refl)

@@ -13,6 +13,7 @@ use Rattle.term_enums.specs.declared.ExternAbi.{ExternAbi}
 use Rattle.relation_terms.specs.Trees.{Tree, leaf, node, bind, nil, cons, IsTerm, count}
 use Rattle.relation_terms.specs.Erasure.{erase, erase_leaf, erase_atom}
 use Rattle.relation_terms.specs.Parts.{tree_sort}
+use Rattle.relation_terms.proofs.Members.{region_only, type_only, const_only}
 use Rattle.relation_folds.specs.Clashes.{flexible, outline, header_of, inputs_count, object_principal, principal}
 use Rattle.relation_folds.specs.Clashes.{counted}
 use Rattle.relation_folds.specs.Forms.{Tuple, FnPtr, Dynamic, Branch}
@@ -83,22 +84,10 @@ within_all false nil f = f
 within_all false (cons t ts) f = f
 
 -- A term that is put for a place is of the place's sort.
-admitted_region : (u : Sort) → Admits region_sort u → u ≡ region_sort
-admitted_region region_sort h = refl
-admitted_region u h = absurd h
-
-admitted_type : (u : Sort) → Admits type_sort u → u ≡ type_sort
-admitted_type type_sort h = refl
-admitted_type u h = absurd h
-
-admitted_const : (u : Sort) → Admits const_sort u → u ≡ const_sort
-admitted_const const_sort h = refl
-admitted_const u h = absurd h
-
 admitted : (s u : Sort) → is_place_sort s ≡ true → Admits s u → u ≡ s
-admitted region_sort u p h = admitted_region u h
-admitted type_sort u p h = admitted_type u h
-admitted const_sort u p h = admitted_const u h
+admitted region_sort u p h = region_only u h
+admitted type_sort u p h = type_only u h
+admitted const_sort u p h = const_only u h
 admitted s u p h = absurd (cc)
 
 term_sort_of : (s : Sort) (x : Tree) → IsTerm s x → Admits s (tree_sort x)

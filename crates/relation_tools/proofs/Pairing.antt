@@ -23,6 +23,7 @@ use Rattle.relation_terms.specs.declared.terms.fn_sig.FnSigTys.{FnSigTys}
 use Rattle.relation_folds.specs.Forms.{Form, Outline, Tuple, FnPtr}
 use Rattle.relation_folds.specs.Clashes.{Clash, Alike, outline, of_item, plain, counted, pointer_form, reference_form}
 use Rattle.relation_folds.specs.Clashes.{of_object, principal, is_between, between, here, further}
+use Rattle.relation_folds.proofs.FieldFolding.{one_known}
 use Rattle.relation_tools.specs.Pairs.{Pairs}
 use Rattle.relation_tools.specs.declared.fast_reject.pairs.Pair.{Pair}
 use Rattle.relation_tools.specs.declared.fast_reject.pairs.Pair.TheVariants.{Apart, Nothing, Types, Arrays, Lists, Args}
@@ -194,9 +195,6 @@ known_first x y k = (and_parts (known x) (known y && true) k).0
 pub known_second : (x y : Tree) → IsTrue (known (cons x (cons y nil))) → IsTrue (known y)
 known_second x y k = (and_parts (known y) true ((and_parts (known x) (known y && true) k).1)).0
 
-known_only : (x : Tree) → IsTrue (known (cons x nil)) → IsTrue (known x)
-known_only x k = (and_parts (known x) true k).0
-
 -- One truth, where one holds just where the other does.
 pub one_truth : (w v : Bool) → (IsTrue w ↔ IsTrue v) → w ≡ v
 one_truth true v i = sym (i.0 refl)
@@ -229,7 +227,7 @@ module _ {Key Id Name : Type 0} (m : Meaning Key Id Name) where
   pub slices : (t u : TyKey Key) → IsTrue (known (cons (m.ty t) nil)) → IsTrue (known (cons (m.ty u) nil)) →
       Pairs m (node slice (cons (m.ty t) nil)) (node slice (cons (m.ty u) nil)) (Types t u)
   slices t u a b =
-      (refl, ((known_only (m.ty t) a, known_only (m.ty u) b), (omega arith, λ l r d. one l r d (m.ty t) (m.ty u))))
+      (refl, ((one_known (m.ty t) a, one_known (m.ty u) b), (omega arith, λ l r d. one l r d (m.ty t) (m.ty u))))
 
   pub arrays : (t u : TyKey Key) (n k : ConstKey Key) → IsTrue (known (cons (m.ty t) (cons (m.const_ n) nil))) →
       IsTrue (known (cons (m.ty u) (cons (m.const_ k) nil))) →
@@ -265,7 +263,7 @@ module _ {Key Id Name : Type 0} (m : Meaning Key Id Name) where
       (λ s. (
         ap (λ x. plain {D = ℕ} (pointer_form x)) s,
         (
-          (known_only (m.ty t) a, known_only (m.ty u) b),
+          (one_known (m.ty t) a, one_known (m.ty u) b),
           (omega arith, λ l r d. one l r d (m.ty t) (m.ty u)),
         ),
       ))
@@ -293,7 +291,7 @@ module _ {Key Id Name : Type 0} (m : Meaning Key Id Name) where
   unsafe_binders (Some ks) (Some js) t u a b = (
     refl,
     (
-      (known_only (m.ty t) a, known_only (m.ty u) b),
+      (one_known (m.ty t) a, one_known (m.ty u) b),
       (omega arith, λ l r d. bound l r d ks js (m.ty t) (m.ty u)),
     ),
   )
@@ -349,11 +347,11 @@ module _ {Key Id Name : Type 0} (m : Meaning Key Id Name) where
 
       left_known : IsTrue (known (front (m.tys ts)))
       left_known = known_first (node inputs (front (m.tys ts))) (last (m.tys ts))
-          (known_only (signed_tree ts h) a)
+          (one_known (signed_tree ts h) a)
 
       right_known : IsTrue (known (front (m.tys us)))
       right_known = known_first (node inputs (front (m.tys us))) (last (m.tys us))
-          (known_only (signed_tree us j) b)
+          (one_known (signed_tree us j) b)
 
       counted_same : count (front (m.tys ts)) ≡ count (front (m.tys us)) → count (m.tys ts) ≡ count (m.tys us)
       counted_same k = sym (front_count (m.tys ts) left_known) ∙ ap suc k ∙ front_count (m.tys us) right_known
@@ -395,7 +393,7 @@ module _ {Key Id Name : Type 0} (m : Meaning Key Id Name) where
       let ts = m.tys (b.value).inputs_and_output in
       let under_vars = under (m.bound_vars b.bound_vars) (signed_tree (b.value).inputs_and_output h) in
       let body = (under_known (m.bound_vars b.bound_vars) (signed_tree (b.value).inputs_and_output h)
-      (known_only under_vars k)).1 in
+      (one_known under_vars k)).1 in
       front_known ts (known_first (node inputs (front ts)) (last ts) body)
 
   -- Two aliases are alike, whatever they are of.

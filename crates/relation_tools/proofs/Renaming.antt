@@ -1,12 +1,14 @@
 -- Bodies that are renamings of one another, and what they are made to.
 use Rattle.std.proofs.Common.{◌≡◌, ℕ, suc, refl, sym, ap, ap₂, ◌∙◌, subst, Bool, true, false, cond, nat_eq, IsSome}
 use Rattle.std.proofs.Common.{List, [], ◌∷◌, ◌++◌, map, get_or, Option, Some, None, option_map}
-use Rattle.std.proofs.lemmas.Bool.{false≢true}
+use Rattle.std.proofs.Common.{length, ◌==◌, arith}
+use Rattle.std.proofs.lemmas.Bool.{false≢true, eqb-true}
 use Rattle.relation_terms.specs.Heads.{Kind, type_kind, region_kind, const_kind, BoundKind, bound_kind, Head, Leaf}
 use Rattle.relation_terms.specs.Heads.{existential_projection, bound, variable, placeholder, atom, unknown, leaf_sort, head_sort}
 use Rattle.relation_terms.specs.Trees.{Tree, leaf, node, bind, nil, cons}
 use Rattle.relation_terms.specs.Orders.{Order, in_turn, first_last, order_of}
 use Rattle.relation_folds.specs.Folds.{folded, put_or, asks}
+use Rattle.relation_folds.proofs.Folding.{put_none}
 use Rattle.relation_tools.specs.Anonymous.{var_of, same_var, place_in, var_at, ordered, uses, one_more, with_vars}
 use Rattle.relation_tools.specs.Anonymous.{used_vars, named, at_place, renames, anonymized}
 use Rattle.relation_tools.specs.UsedParts.{AllIn}
@@ -166,10 +168,6 @@ module _ (f g : UsedVar → UsedVar) where
       )
 
 -- What is put for a variable of the list, and for no other.
-put_none : (b : Bool) (t : Tree) → put_or b None t ≡ t
-put_none true t = refl
-put_none false t = refl
-
 put_here : (k : Kind) (n : ℕ) (t : Tree) (by : Option Tree) (x : Tree) (e i : ℕ) → by ≡ Some x →
     put_or (asks (leaf_sort (bound (bound_kind k n) e i))) by t ≡ x
 put_here type_kind n t by x e i q = ap (λ o. put_or true o t) q
@@ -195,6 +193,32 @@ module _ (name : ℕ) (us : List UsedVar) where
   renamed_node : (d : ℕ) (h : Head) (ts : Tree) →
       folded (renames name us) d (node h ts) ≡ node h (folded (renames name us) d ts)
   renamed_node d h ts = put_none (asks (head_sort h)) (node h (folded (renames name us) d ts))
+
+-- Where no variable is in the list all stand as they are.
+either_way : (b : Bool) (o : Option ℕ) → cond b o o ≡ o
+either_way true o = refl
+either_way false o = refl
+
+renamed_none : (name d : ℕ) (t : Tree) → folded (renames name []) d t ≡ t
+renamed_none name d (leaf (bound (bound_kind k n) e i)) =
+    let t = leaf (bound (bound_kind k n) e i) in
+    ap (λ o. put_or (asks (leaf_sort (bound (bound_kind k n) e i))) (at_place name k e o) t)
+    (either_way (nat_eq e d) None)
+    ∙ put_none (asks (leaf_sort (bound (bound_kind k n) e i))) t
+renamed_none name d (leaf (variable k n)) = put_none (asks (leaf_sort (variable k n))) (leaf (variable k n))
+renamed_none name d (leaf (placeholder k u n)) =
+    put_none (asks (leaf_sort (placeholder k u n))) (leaf (placeholder k u n))
+renamed_none name d (leaf (atom x)) = put_none (asks (leaf_sort (atom x))) (leaf (atom x))
+renamed_none name d (leaf unknown) = refl
+renamed_none name d (node h ts) = renamed_node name [] d h ts ∙ ap (node h) (renamed_none name d ts)
+renamed_none name d (bind ks t) = ap (bind ks) (renamed_none name (suc d) t)
+renamed_none name d nil = refl
+renamed_none name d (cons t ts) = ap₂ cons (renamed_none name d t) (renamed_none name d ts)
+
+pub renamed_empty : (us : List UsedVar) (name : ℕ) (t : Tree) → (length us == 0) ≡ true →
+    t ≡ folded (renames name us) 0 t
+renamed_empty [] name t e = sym (renamed_none name 0 t)
+renamed_empty (u ∷ us) name t e = let none = eqb-true (length (u ∷ us)) 0 e in absurd (omega (arith, none))
 
 is_some_at : (o : Option ℕ) → IsSome o → (j : ℕ) × (o ≡ Some j)
 is_some_at (Some j) s = (j, refl)

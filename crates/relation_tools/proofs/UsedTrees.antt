@@ -1,7 +1,9 @@
 -- What is used in a tree, by its parts.
-use Rattle.std.proofs.Common.{◌≡◌, ◌<◌, ℕ, suc, refl, sym, ap, ◌∙◌, subst, false, IsTrue}
+use Rattle.std.proofs.Common.{◌≡◌, ◌<◌, ℕ, suc, refl, sym, ap, ap₂, ◌∙◌, subst, Bool, true, false, IsTrue, arith}
+use Rattle.std.proofs.Common.{cond, not, nat_eq, nat_lt}
+use Rattle.std.proofs.lemmas.Bool.{eqb-true, false≢true, le-ltb, or_parts}
 use Rattle.std.proofs.Common.{List, [], ◌∷◌, ◌++◌, append_assoc, append-nil}
-use Rattle.relation_terms.specs.Heads.{Head, no_sort, type_kind, region_kind, const_kind, bound_kind}
+use Rattle.relation_terms.specs.Heads.{Head, Kind, no_sort, type_kind, region_kind, const_kind, bound_kind}
 use Rattle.relation_terms.specs.Heads.{bound, variable, placeholder, atom, unknown}
 use Rattle.relation_terms.specs.Trees.{Tree, leaf, node, bind, nil, cons, IsList, known, count, nth}
 use Rattle.relation_terms.specs.Meaning.{Meaning}
@@ -25,9 +27,9 @@ use Rattle.relation_terms.specs.declared.predicate.kinds.PredicateKind.TheVarian
 use Rattle.relation_terms.proofs.Fields.{predicate_viewed}
 use Rattle.relation_terms.proofs.Parts.{sort_known, known_parts}
 use Rattle.relation_terms.specs.Interning.{Sorted}
-use Rattle.relation_folds.specs.Visits.{is_visited}
+use Rattle.relation_folds.specs.Visits.{is_visited, has_leaf, is_escaping}
 use Rattle.relation_folds.specs.Folds.{inside}
-use Rattle.relation_tools.specs.Anonymous.{uses, ordered, here, with_vars}
+use Rattle.relation_tools.specs.Anonymous.{var_of, uses, ordered, here, with_vars}
 use Rattle.relation_tools.specs.declared.anonymize.used.UsedVar.{UsedVar}
 use Rattle.relation_tools.proofs.UsedVars.{with_both}
 use Rattle.relation_folds.proofs.Visiting.{rest, rest_next, rest_end, visited_as}
@@ -67,6 +69,38 @@ uses_inside d (node h ts) n p e = uses_parts d h ts p
 uses_inside d (bind ks t) n p e = sym (append-nil (uses (suc d) t))
 uses_inside d nil n p e = refl
 uses_inside d (cons t ts) n p e = absurd (n refl)
+
+-- Where no variable escapes, none of a binder outside is used.
+none_at : (d : ℕ) (k : Kind) (e i : ℕ) (b : Bool) → nat_eq e d ≡ b → not (nat_lt e d) ≡ false →
+    cond b (var_of k i ∷ []) [] ≡ []
+none_at d k e i true q c =
+    let at : e ≡ d = eqb-true e d q in
+    absurd (false≢true (sym c ∙ ap not (le-ltb e d (omega (arith, at)))))
+none_at d k e i false q c = refl
+
+none_ordered : (o : Order) → ordered o [] [] ≡ []
+none_ordered in_turn = refl
+none_ordered first_last = refl
+
+pub none_used : (d : ℕ) (t : Tree) → has_leaf is_escaping d t ≡ false → uses d t ≡ []
+none_used d (leaf (bound (bound_kind k n) e i)) c = none_at d k e i (nat_eq e d) refl c
+none_used d (leaf (variable k n)) c = refl
+none_used d (leaf (placeholder k u n)) c = refl
+none_used d (leaf (atom x)) c = refl
+none_used d (leaf unknown) c = refl
+none_used d (node h (cons t ts)) c =
+    let z = or_parts (has_leaf is_escaping d t) (has_leaf is_escaping d ts) c in
+    ap₂ (ordered (order_of (node h (cons t ts)))) (none_used d t z.0) (none_used d ts z.1)
+    ∙ none_ordered (order_of (node h (cons t ts)))
+none_used d (node h (leaf l)) c = none_used d (leaf l) c
+none_used d (node h (node g ts)) c = none_used d (node g ts) c
+none_used d (node h (bind ks t)) c = none_used d (bind ks t) c
+none_used d (node h nil) c = refl
+none_used d (bind ks t) c = none_used (suc d) t c
+none_used d nil c = refl
+none_used d (cons t ts) c =
+    let z = or_parts (has_leaf is_escaping d t) (has_leaf is_escaping d ts) c in
+    ap₂ (λ us vs. us ++ vs) (none_used d t z.0) (none_used d ts z.1)
 
 -- What is no type, region or constant is no variable.
 none_unvisited : (d : ℕ) (t : Tree) → is_visited t ≡ false → here d t ≡ []

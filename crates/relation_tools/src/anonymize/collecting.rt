@@ -1,18 +1,19 @@
 //! Which variables of a binder are used in its body: one recursion over the parts of all forms.
 //!
 //! A part that has a key is gone into once at each depth, so this takes as many steps as there are different parts.
-ghost use Rattle.std.specs.Prelude.{◌≡◌, IsTrue, IfOk, OnOk, MatchOption, cond, nat_eq, None, Some, [], ◌∷◌};
+ghost use Rattle.std.specs.Prelude.{◌≡◌, IsTrue, IfOk, OnOk, cond, nat_eq, None, Some};
 ghost use Rattle.std.specs.Bool.{OnTrue};
 ghost use Rattle.relation_terms.specs.Trees.{known, IsList};
 ghost use Rattle.relation_terms.specs.Parts.{part_tree, parts_tree};
-ghost use Rattle.relation_terms.specs.Orders.{in_order, list_order};
 ghost use Rattle.relation_terms.specs.Fields.{field_tree, fields_tree};
 ghost use Rattle.relation_terms.specs.Predicates.{predicate_kind_tree};
-ghost use Rattle.relation_tools.specs.Anonymous.{here, uses, with_vars, used_vars as the_used_vars};
-ghost use Rattle.relation_tools.specs.UsedParts.{AllIn, Remembered, AreRemembered};
+ghost use Rattle.relation_folds.specs.Visits.{in_turns};
+ghost use Rattle.relation_tools.specs.Anonymous.{uses, used_vars as the_used_vars};
+ghost use Rattle.relation_tools.specs.UsedParts.{AllIn, Remembered, AreRemembered, Collects, TellsVar};
 
 use crate::anonymize::used::{UsedVar, add};
 use relation_folds::fold::{Place, depth_inside, place_of};
+use relation_folds::visit::has_escaping_bound_vars;
 use relation_terms::predicate::PredicateKind;
 use relation_terms::terms::parts::{
     Field, Fields, FieldsOf, member, member_count, parts_of, predicate_fields, visited_place,
@@ -40,8 +41,7 @@ fn bound_here(index: &DebruijnIndex, depth: u128, var: UsedVar) -> Option<UsedVa
 // The variable that a type is, if the binder around the whole binds it.
 fn ty_var<I: Interner>(cx: &I, ty: &Ty<I>, depth: u128) -> Option<UsedVar>
     requires { IsTrue (known ((I.meaning cx.now).ty ty.now)) }
-    ensures { let vars = here depth ((I.meaning cx.now).ty ty.now) in
-        MatchOption result (vars ≡ []) (λ var. vars ≡ var ∷ []) }
+    ensures { TellsVar depth ((I.meaning cx.now).ty ty.now) result }
 {
     match cx.ty_kind(ty) {
         TyKind::Bound(index, bound) => bound_here(&index, depth, UsedVar::Ty(bound.var.0)),
@@ -52,8 +52,7 @@ fn ty_var<I: Interner>(cx: &I, ty: &Ty<I>, depth: u128) -> Option<UsedVar>
 // The same of a region.
 fn region_var<I: Interner>(cx: &I, region: &Region<I>, depth: u128) -> Option<UsedVar>
     requires { IsTrue (known ((I.meaning cx.now).region region.now)) }
-    ensures { let vars = here depth ((I.meaning cx.now).region region.now) in
-        MatchOption result (vars ≡ []) (λ var. vars ≡ var ∷ []) }
+    ensures { TellsVar depth ((I.meaning cx.now).region region.now) result }
 {
     match cx.region_kind(region) {
         RegionKind::ReBound(index, bound) => {
@@ -66,8 +65,7 @@ fn region_var<I: Interner>(cx: &I, region: &Region<I>, depth: u128) -> Option<Us
 // The same of a constant.
 fn const_var<I: Interner>(cx: &I, constant: &Const<I>, depth: u128) -> Option<UsedVar>
     requires { IsTrue (known ((I.meaning cx.now).const_ constant.now)) }
-    ensures { let vars = here depth ((I.meaning cx.now).const_ constant.now) in
-        MatchOption result (vars ≡ []) (λ var. vars ≡ var ∷ []) }
+    ensures { TellsVar depth ((I.meaning cx.now).const_ constant.now) result }
 {
     match cx.const_kind(constant) {
         ConstKind::Bound(index, bound) => bound_here(&index, depth, UsedVar::Const(bound.var.0)),
@@ -78,8 +76,7 @@ fn const_var<I: Interner>(cx: &I, constant: &Const<I>, depth: u128) -> Option<Us
 // The same of any part. All other parts are no variables.
 fn part_var<I: Interner>(cx: &I, part: &PartOf<I>, depth: u128) -> Option<UsedVar>
     requires { IsTrue (known (part_tree (I.meaning cx.now) part.now)) }
-    ensures { let vars = here depth (part_tree (I.meaning cx.now) part.now) in
-        MatchOption result (vars ≡ []) (λ var. vars ≡ var ∷ []) }
+    ensures { TellsVar depth (part_tree (I.meaning cx.now) part.now) result }
 {
     match part {
         Part::Region(region) => region_var(cx, region, depth),
@@ -120,8 +117,7 @@ fn keep<I: Interner>(
     requires known { IsTrue (known (part_tree (I.meaning cx.now) part.now)) }
     requires collected { AllIn vars.now (uses depth (part_tree (I.meaning cx.now) part.now)) }
     requires remembered { Remembered (I.meaning cx.now) vars.now ⟦<Place<I::Key> as PartialEq>⟧.eq met.old.keys }
-    ensures { OnOk result
-        (Remembered (I.meaning cx.now) vars.now ⟦<Place<I::Key> as PartialEq>⟧.eq met.new.keys) }
+    ensures { OnOk result (Remembered (I.meaning cx.now) vars.now ⟦<Place<I::Key> as PartialEq>⟧.eq met.new.keys) }
 {
     let _ = cx;
     let _ = vars;
@@ -142,10 +138,8 @@ fn collect_part<I: Interner>(
 ) -> Result<(), OutOfMemory>
     requires known { IsTrue (known (part_tree (I.meaning cx.now) part.now)) }
     requires remembered { AreRemembered (I.meaning cx.now) vars.old ⟦<Place<I::Key> as PartialEq>⟧.eq met.old }
-    ensures collects { OnOk result
-        (vars.new.items ≡ with_vars vars.old.items (uses depth (part_tree (I.meaning cx.now) part.now))) }
-    ensures remembered { OnOk result
-        (AreRemembered (I.meaning cx.now) vars.new ⟦<Place<I::Key> as PartialEq>⟧.eq met.new) }
+    ensures collects { OnOk result (Collects depth (part_tree (I.meaning cx.now) part.now) vars.old vars.new) }
+    ensures kept { OnOk result (AreRemembered (I.meaning cx.now) vars.new ⟦<Place<I::Key> as PartialEq>⟧.eq met.new) }
 {
     if was_met(cx, part, depth, vars, met) {
         return Ok(());
@@ -165,10 +159,8 @@ fn collect_new<I: Interner>(
 ) -> Result<(), OutOfMemory>
     requires known { IsTrue (known (part_tree (I.meaning cx.now) part.now)) }
     requires remembered { AreRemembered (I.meaning cx.now) vars.old ⟦<Place<I::Key> as PartialEq>⟧.eq met.old }
-    ensures collects { OnOk result
-        (vars.new.items ≡ with_vars vars.old.items (uses depth (part_tree (I.meaning cx.now) part.now))) }
-    ensures remembered { OnOk result
-        (AreRemembered (I.meaning cx.now) vars.new ⟦<Place<I::Key> as PartialEq>⟧.eq met.new) }
+    ensures collects { OnOk result (Collects depth (part_tree (I.meaning cx.now) part.now) vars.old vars.new) }
+    ensures kept { OnOk result (AreRemembered (I.meaning cx.now) vars.new ⟦<Place<I::Key> as PartialEq>⟧.eq met.new) }
 {
     match part_var(cx, part, depth) {
         Some(var) => add(vars, var),
@@ -191,10 +183,8 @@ fn collect_list<I: Interner>(
     requires known { IsTrue (known (parts_tree (I.meaning cx.now) parts.now)) }
     requires remembered { AreRemembered (I.meaning cx.now) vars.old ⟦<Place<I::Key> as PartialEq>⟧.eq met.old }
     ensures is_list { IsList (parts_tree (I.meaning cx.now) parts.now) }
-    ensures collects { OnOk result (vars.new.items ≡ with_vars vars.old.items
-        (uses depth (in_order (list_order parts.now) (parts_tree (I.meaning cx.now) parts.now)))) }
-    ensures remembered { OnOk result
-        (AreRemembered (I.meaning cx.now) vars.new ⟦<Place<I::Key> as PartialEq>⟧.eq met.new) }
+    ensures collects { OnOk result (Collects depth (in_turns (I.meaning cx.now) parts.now) vars.old vars.new) }
+    ensures kept { OnOk result (AreRemembered (I.meaning cx.now) vars.new ⟦<Place<I::Key> as PartialEq>⟧.eq met.new) }
 {
     let count = member_count(cx, parts);
     for step in 0..count {
@@ -213,10 +203,8 @@ fn collect_field<I: Interner>(
 ) -> Result<(), OutOfMemory>
     requires known { IsTrue (known (field_tree (I.meaning cx.now) field.now)) }
     requires remembered { AreRemembered (I.meaning cx.now) vars.old ⟦<Place<I::Key> as PartialEq>⟧.eq met.old }
-    ensures collects { OnOk result
-        (vars.new.items ≡ with_vars vars.old.items (uses 0 (field_tree (I.meaning cx.now) field.now))) }
-    ensures remembered { OnOk result
-        (AreRemembered (I.meaning cx.now) vars.new ⟦<Place<I::Key> as PartialEq>⟧.eq met.new) }
+    ensures collects { OnOk result (Collects 0 (field_tree (I.meaning cx.now) field.now) vars.old vars.new) }
+    ensures kept { OnOk result (AreRemembered (I.meaning cx.now) vars.new ⟦<Place<I::Key> as PartialEq>⟧.eq met.new) }
 {
     match field {
         Field::Region(region) => collect_part(cx, &Part::Region(*region), 0, vars, met),
@@ -236,8 +224,7 @@ fn collect_fields<I: Interner>(
 ) -> Result<(), OutOfMemory>
     requires known { IsTrue (known (fields_tree (I.meaning cx.now) fields.now)) }
     requires remembered { AreRemembered (I.meaning cx.now) vars.old ⟦<Place<I::Key> as PartialEq>⟧.eq met.old }
-    ensures { OnOk result
-        (vars.new.items ≡ with_vars vars.old.items (uses 0 (fields_tree (I.meaning cx.now) fields.now))) }
+    ensures { OnOk result (Collects 0 (fields_tree (I.meaning cx.now) fields.now) vars.old vars.new) }
 {
     match fields {
         Fields::Empty => Ok(()),
@@ -250,7 +237,7 @@ fn collect_fields<I: Interner>(
 }
 
 /// The variables of the binder around the form of a predicate that are used in it, each once, as a visit first comes to
-/// them.
+/// them. Where the flags of its terms tell that there are none, nothing is gone into.
 pub fn used_vars<I: Interner>(
     cx: &I,
     body: &PredicateKind<I::Key, I::Id, I::Name>,
@@ -259,7 +246,9 @@ pub fn used_vars<I: Interner>(
     ensures { IfOk result (λ list. list.items ≡ the_used_vars (predicate_kind_tree (I.meaning cx.now) body.now)) }
 {
     let mut vars = Vec::new(cx.alloc());
-    let mut met = HashSet::new(cx.alloc());
-    collect_fields(cx, &predicate_fields(body), &mut vars, &mut met)?;
+    if has_escaping_bound_vars(cx, body) {
+        let mut met = HashSet::new(cx.alloc());
+        collect_fields(cx, &predicate_fields(body), &mut vars, &mut met)?;
+    }
     Ok(vars)
 }

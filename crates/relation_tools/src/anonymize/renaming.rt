@@ -129,8 +129,8 @@ impl<'a, I: Interner> TypeFolder<I> for Renamer<'a, I::Name> {
 }
 
 /// A body with the variables of the binder around it that stand in a list put at their places there, by one name for
-/// all. The interner has to know the body.
-pub fn rename_bound_vars<I: Interner, T: TypeFoldable<I>>(
+/// all. Where the list is empty, that is the body. The interner has to know the body.
+pub fn rename_bound_vars<I: Interner, T: TypeFoldable<I> + Copy>(
     cx: &mut I,
     body: &T,
     used: &[UsedVar],
@@ -141,5 +141,8 @@ pub fn rename_bound_vars<I: Interner, T: TypeFoldable<I>>(
     ensures sure { IfOk result (λ x. IsTrue (known (T.tree (I.meaning cx.new) x))) }
     ensures made { IfOk result (λ x. IsRenamed T.tree (I.meaning cx.old) (I.meaning cx.new) name used.now body.now x) }
 {
+    if used.is_empty() {
+        return Ok(*body);
+    }
     body.fold_with(cx, &mut Renamer { used, name })
 }

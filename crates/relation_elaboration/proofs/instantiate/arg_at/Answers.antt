@@ -3,7 +3,8 @@ use Rattle.std.specs.Prelude.{option_map}
 use Rattle.relation_terms.specs.Trees.{known}
 use Rattle.relation_terms.specs.Meaning.{arg_tree}
 use Rattle.relation_elaboration.specs.Stated.{member}
-use Rattle.relation_elaboration.proofs.Instantiating.{member_list, known_at}
+use Rattle.relation_folds.proofs.Shifting.{known_at}
+use Rattle.relation_elaboration.proofs.Instantiating.{member_list}
 use Rattle.relation_elaboration.proofs.instantiate.arg_at.Goals as goal
 
 pub returns-clause-is : goal.returns-clause-is

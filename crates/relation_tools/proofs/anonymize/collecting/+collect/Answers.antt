@@ -56,7 +56,7 @@ collect_list-loop-step-preserved g t' c =
       collects = used_next c.args.depth c.args.vars.now.items c.loop-step.vars.items k (in_order o ts)
           c.loop-step.invariant.collects c.collect_part.new.vars.items (k + 1) (part_tree m c.member-part.result)
           (below_in_order o ts k below) next is c.in_ok-collect_part.ensures.collects;
-      remembered = c.in_ok-collect_part.ensures.remembered;
+      remembered = c.in_ok-collect_part.ensures.kept;
     }
 
 pub collect_list-returns-clause-is_list : goal.collect_list-returns-clause-is_list
@@ -78,8 +78,8 @@ collect_list-returns-clause-collects g t' c =
     used_all c.args.depth c.args.vars.now.items c.loop-step.vars.items c.loop-step.step (in_order o ts)
     c.loop-step.invariant.collects (order_list o ts c.member_count-count.ensures.is_list) all
 
-pub collect_list-returns-clause-remembered : goal.collect_list-returns-clause-remembered
-collect_list-returns-clause-remembered g t' c = c.loop-step.invariant.remembered
+pub collect_list-returns-clause-kept : goal.collect_list-returns-clause-kept
+collect_list-returns-clause-kept g t' c = c.loop-step.invariant.remembered
 
 pub collect_new-collect_list-requires : goal.collect_new-collect_list-requires
 collect_new-collect_list-requires g t' c κs within =
@@ -104,8 +104,8 @@ collect_new-returns-in-Some-clause-collects g t' c =
     ok_map c.add.result (λ e. e ∙ ap (with_vars c.args.vars.now.items) (sym (uses_itself d t c.in-Some.var is)))
     c.add.ensures
 
-pub collect_new-returns-in-Some-clause-remembered : goal.collect_new-returns-in-Some-clause-remembered
-collect_new-returns-in-Some-clause-remembered g t' c =
+pub collect_new-returns-in-Some-clause-kept : goal.collect_new-returns-in-Some-clause-kept
+collect_new-returns-in-Some-clause-kept g t' c =
     let m = g.I.Interner.meaning c.args.cx.now in
     let eq = place_eq g.I.Key.PartialEq.eq in
     let us = c.args.vars.now.items in
@@ -141,8 +141,8 @@ collect_part-returns-then-was_met-clause-collects g t' c =
     let all : AllIn c.deref.result.now vs = OnTrue_at c.if-was_met.true c.was_met.ensures in
     sym (all_there vs us (subst (λ z. AllIn z vs) c.deref.ensures.value all))
 
-pub collect_part-returns-then-was_met-clause-remembered : goal.collect_part-returns-then-was_met-clause-remembered
-collect_part-returns-then-was_met-clause-remembered g t' c = c.requires.remembered
+pub collect_part-returns-then-was_met-clause-kept : goal.collect_part-returns-then-was_met-clause-kept
+collect_part-returns-then-was_met-clause-kept g t' c = c.requires.remembered
 
 pub collect_part-collect_new-requires : goal.collect_part-collect_new-requires
 collect_part-collect_new-requires g t' c κs within =
@@ -165,16 +165,16 @@ pub collect_part-keep-requires-clause-remembered : goal.collect_part-keep-requir
 collect_part-keep-requires-clause-remembered g t' c =
     let m = g.I.Interner.meaning c.args.cx.now in
     subst (λ z. Remembered m z (place_eq g.I.Key.PartialEq.eq) c.collect_new.new.met.keys)
-    (sym c.deref-2.ensures.value) c.in_ok-collect_new.ensures.remembered
+    (sym c.deref-2.ensures.value) c.in_ok-collect_new.ensures.kept
 
 pub collect_part-returns-clause-collects : goal.collect_part-returns-clause-collects
 collect_part-returns-clause-collects g t' c = ok_any c.keep.result c.in_ok-collect_new.ensures.collects
 
-pub collect_part-returns-clause-remembered : goal.collect_part-returns-clause-remembered
-collect_part-returns-clause-remembered g t' c =
+pub collect_part-returns-clause-kept : goal.collect_part-returns-clause-kept
+collect_part-returns-clause-kept g t' c =
     let m = g.I.Interner.meaning c.args.cx.now in
     subst (λ z. OnOk c.keep.result (Remembered m z (place_eq g.I.Key.PartialEq.eq) c.keep.new.met.keys))
     c.deref-2.ensures.value c.keep.ensures
 
-pub collect_new-returns-in_ok-inside-in-None-clause-remembered : goal.collect_new-returns-in_ok-inside-in-None-clause-remembered
-collect_new-returns-in_ok-inside-in-None-clause-remembered g t' c = c.collect_list.ensures.remembered
+pub collect_new-returns-in_ok-inside-in-None-clause-kept : goal.collect_new-returns-in_ok-inside-in-None-clause-kept
+collect_new-returns-in_ok-inside-in-None-clause-kept g t' c = c.collect_list.ensures.kept

@@ -1,10 +1,13 @@
-use Rattle.std.proofs.Common.{ap, ◌∙◌, []}
+use Rattle.std.proofs.Common.{ap, sym, ◌∙◌, []}
 use Rattle.relation_terms.specs.Fields.{fields_tree}
+use Rattle.relation_terms.specs.Predicates.{predicate_kind_tree}
 use Rattle.relation_tools.specs.Anonymous.{uses, with_vars}
 use Rattle.relation_folds.proofs.Remembering.{place_eq}
 use Rattle.relation_tools.proofs.UsedParts.{remembers_none}
-use Rattle.relation_tools.proofs.UsedTrees.{fields_known, uses_fields}
+use Rattle.relation_tools.proofs.UsedTrees.{fields_known, uses_fields, none_used}
 use Rattle.relation_tools.proofs.anonymize.collecting.used_vars.Goals as goal
+use Rattle.relation_tools.proofs.anonymize.collecting.used_vars.Goals.{then-has_escaping_bound_vars+in_ok-collect_fields}
+use Rattle.relation_tools.proofs.anonymize.collecting.used_vars.Goals.{else-has_escaping_bound_vars}
 
 pub collect_fields-requires-clause-known : goal.collect_fields-requires-clause-known
 collect_fields-requires-clause-known g c =
@@ -19,7 +22,15 @@ collect_fields-requires-clause-remembered g c =
 pub returns : goal.returns
 returns g c =
     let m = g.I.Interner.meaning c.args.cx.now in
-    let fs = c.predicate_fields.result in
-    c.in_ok-collect_fields.ensures
-    ∙ ap (λ us. with_vars us (uses 0 (fields_tree m fs))) c.new-vars.ensures.items
-    ∙ ap (with_vars []) (uses_fields m c.args.body.now fs c.predicate_fields.ensures)
+    let t = predicate_kind_tree m c.args.body.now in
+    elim c.if-has_escaping_bound_vars.branch [
+      | then-has_escaping_bound_vars+in_ok-collect_fields w ↦
+          let fs = w.predicate_fields.result in
+          ap (λ v. v.items) w.vars-is ∙ w.in_ok-collect_fields.ensures
+          ∙ ap (λ us. with_vars us (uses 0 (fields_tree m fs))) c.new-vars.ensures.items
+          ∙ ap (with_vars []) (uses_fields m c.args.body.now fs w.predicate_fields.ensures)
+      | else-has_escaping_bound_vars w ↦
+          ap (λ v. v.items) w.vars-is ∙ c.new-vars.ensures.items
+          ∙ ap (with_vars [])
+          (sym (none_used 0 t (sym c.has_escaping_bound_vars.ensures ∙ w.if-has_escaping_bound_vars.false)))
+    ]
