@@ -1,2 +1,4 @@
 pub mod PullLemmas
 pub mod StatedLemmas
+pub mod ReachLemmas
+pub mod SupertraitLemmas

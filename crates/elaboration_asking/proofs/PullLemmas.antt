@@ -46,18 +46,18 @@ module _ {I Key Id Name : Type 0} (meaning : I → Meaning Key Id Name) where
   PullsClause = Pulls meaning (λ m c. m.clause c)
 
   abbrev Same : State → State → Type 0
-  Same s t = (t.reference ≡ s.reference) × Extends (meaning s.cx) (meaning t.cx)
+  Same s t = (t.reference ≡ s.reference) × Extends (meaning s.cx) (meaning t.cx) × (t.limit ≡ s.limit)
 
   pub same_at_once : (s t : State) → t ≡ s → Same s t
-  same_at_once s t is = subst (Same s) (sym is) (refl, stays_same (meaning s.cx))
+  same_at_once s t is = subst (Same s) (sym is) (refl, stays_same (meaning s.cx), refl)
 
   pub same_then : (s t u : State) → Same s t → Same t u → Same s u
-  same_then s t u a b = (b.0 ∙ a.0, extends_on a.1 b.1)
+  same_then s t u a b = (b.0 ∙ a.0, extends_on a.1 b.1, b.2 ∙ a.2)
 
   pub pull_keeps : (s t : State) (r : Option (Result (ClauseKey Key) ElabFault)) → PullsClause s r t → Same s t
   pull_keeps s t None h = same_at_once s t h.2
-  pull_keeps s t (Some (Ok c)) h = ((h.2).reference, (h.2).grown)
-  pull_keeps s t (Some (Err f)) h = ((h.1).reference, (h.1).grown)
+  pull_keeps s t (Some (Ok c)) h = ((h.2).reference, (h.2).grown, (h.2).limit)
+  pull_keeps s t (Some (Err f)) h = ((h.1).reference, (h.1).grown, (h.1).limit)
 
   pub pull_knows : (s t : State) (c : ClauseKey Key) → PullsClause s (Some (Ok c)) t →
       KnowsPulled (meaning t.cx) (pulled.Clause c)
@@ -131,3 +131,8 @@ module _ {I Key Id Name : Type 0} (meaning : I → Meaning Key Id Name) where
 pub if_ok : {T E : Type 0} (P Q : T → Type 0) (r : Result T E) → ((x : T) → P x → Q x) → IfOk r P → IfOk r Q
 if_ok P Q (Ok x) f h = f x h
 if_ok P Q (Err e) f h = h
+
+pub if_ok2 : {T E : Type 0} (P Q R : T → Type 0) (r : Result T E) → ((x : T) → P x → Q x → R x) → IfOk r P → IfOk r Q →
+    IfOk r R
+if_ok2 P Q R (Ok x) f h k = f x h k
+if_ok2 P Q R (Err e) f h k = h

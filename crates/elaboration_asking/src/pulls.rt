@@ -1,11 +1,14 @@
 //! What the pulls of elaborations answer, and how that is written.
-ghost use Rattle.std.specs.Prelude.{◌≡◌, ◌∷◌, ◌||◌, [], IsTrue, IfOk};
+ghost use Rattle.std.specs.Prelude.{◌≡◌, ◌∷◌, ◌||◌, [], codes, IsTrue, IfOk, IfSome, OnOk};
+ghost use Rattle.std.specs.Fmt.{WritesInCalls};
 ghost use Rattle.std.specs.List.{All};
 ghost use Rattle.relation_terms.specs.Trees.{known};
 ghost use Rattle.relation_terms.specs.Meaning.{Meaning, Extends};
 ghost use Rattle.relation_terms.specs.Owned.{bound_tree};
 ghost use Rattle.relation_elaboration.specs.Pulling.{mode_of};
-ghost use Rattle.elaboration_asking.specs.Pulls.{KnowsPulled, AnswersOne, Answers, Goes, Elaborates, most};
+ghost use Rattle.elaboration_asking.specs.Pulls.{KnowsPulled, AnswersOne, Answers, Goes, Elaborates, most, is_last};
+ghost use Rattle.elaboration_asking.specs.Pulls.{FindsOne, FindsUpTo, WentOn, AnswersSupertraits, ReachesOne, AreReached};
+ghost use Rattle.elaboration_asking.specs.Pulls.{sign_text};
 
 use relation_clauses::printing::{write_bound, write_clause};
 use relation_elaboration::{
@@ -34,7 +37,9 @@ pub enum Pulled<X, D> {
 
 impl<X: Copy, D: Copy> Pulled<X, D> {
     // Whether no more is pulled behind it: nothing is left, or the limit is met, if that is an end.
-    fn is_last(&self, at_limit: bool) -> bool {
+    fn is_last(&self, at_limit: bool) -> bool
+        ensures { result ≡ is_last at_limit self.now }
+    {
         match self {
             Pulled::End => true,
             Pulled::Limit => at_limit,
@@ -200,6 +205,7 @@ fn pull_trait<I: Interner>(
     ensures same_reference { traits.new.reference ≡ traits.old.reference }
     ensures grown { Extends (I.meaning traits.old.cx) (I.meaning traits.new.cx) }
     ensures sure { IfOk result (KnowsPulled (I.meaning traits.new.cx)) }
+    ensures finds { IfOk result (λ p. FindsOne I.meaning traits.old p traits.new) }
 {
     match traits.next() {
         None => Ok(Pulled::End),
@@ -209,17 +215,19 @@ fn pull_trait<I: Interner>(
     }
 }
 
-// What the pulls of supertraits answer, up to the one behind the last that the limit allows.
+// What so many pulls of supertraits answer, or those up to the last one.
 fn pull_traits<I: Interner>(
     traits: &mut FilterToTraits<I, Elaborator<'_, I, Clause<I>>>,
-    limit: usize,
+    count: usize,
 ) -> Result<Vec<PulledOf<I>>, OutOfMemory>
     ensures same_reference { traits.new.reference ≡ traits.old.reference }
     ensures grown { Extends (I.meaning traits.old.cx) (I.meaning traits.new.cx) }
     ensures sure { IfOk result (λ all. All (KnowsPulled (I.meaning traits.new.cx)) all.items) }
+    ensures finds { IfOk result (λ all. FindsUpTo I.meaning traits.old all.items traits.new) }
+    ensures went_on { IfOk result (λ all. WentOn count all.items) }
 {
     let mut all = Vec::new(traits.cx().alloc());
-    for _ in 0..limit.saturating_add(1) {
+    for _ in 0..count {
         let pulled = pull_trait(traits)?;
         all.push(pulled)?;
         if pulled.is_last(true) {
@@ -229,8 +237,9 @@ fn pull_traits<I: Interner>(
     Ok(all)
 }
 
-/// The supertraits of a trait reference, pull by pull, up to the one behind the last that the limit allows. The interner
-/// has to know the trait reference.
+/// The supertraits of a trait reference, pull by pull, up to the one behind the last that the limit allows: the trait
+/// references of all trait clauses that follow by super-predicates, itself first. The interner has to know the trait
+/// reference.
 ///
 /// # Errors
 /// `OutOfMemory` where a growth was refused. All keys keep their meanings.
@@ -242,6 +251,8 @@ pub fn supertraits_of<I: Interner>(
     requires { IsTrue (known (bound_tree (I.meaning cx.old) of)) }
     ensures grown { Extends (I.meaning cx.old) (I.meaning cx.new) }
     ensures sure { IfOk result (λ all. All (KnowsPulled (I.meaning cx.new)) all.items) }
+    ensures answers { let m = I.meaning cx.old in let n = I.meaning cx.new in
+        IfOk result (λ all. AnswersSupertraits m n of limit all.items) }
 {
     let clause = clause_of_trait_ref(cx, of)?;
     let mut clauses = Vec::new(cx.alloc());
@@ -250,14 +261,15 @@ pub fn supertraits_of<I: Interner>(
     // What this answers the first pull answers again.
     let _ = elaborator.extend_deduped(clauses);
     let mut traits = FilterToTraits::new(elaborator);
-    let all = pull_traits(&mut traits, limit);
+    let all = pull_traits(&mut traits, limit.saturating_add(1));
     let _ = traits.into_base().into_cx();
     all
 }
 
 // What the next pull of traits answers.
 fn pull_id<I: Interner>(ids: &mut SupertraitDefIds<'_, I>) -> Result<PulledOf<I>, OutOfMemory>
-    ensures { (m : Meaning I.Key I.Id I.Name) → IfOk result (KnowsPulled m) }
+    ensures sure { (m : Meaning I.Key I.Id I.Name) → IfOk result (KnowsPulled m) }
+    ensures reaches { IfOk result (λ p. ReachesOne I.meaning ids.old p ids.new) }
 {
     match ids.next() {
         Some(trait_id) => Ok(Pulled::Trait(trait_id?)),
@@ -265,7 +277,8 @@ fn pull_id<I: Interner>(ids: &mut SupertraitDefIds<'_, I>) -> Result<PulledOf<I>
     }
 }
 
-/// The traits that a trait leads to, pull by pull, of which there are up to so many.
+/// The traits that a trait leads to by super-predicates, itself first and each once, pull by pull, of which there are
+/// up to so many.
 ///
 /// # Errors
 /// `OutOfMemory` where a growth was refused.
@@ -274,7 +287,8 @@ pub fn supertrait_ids_of<I: Interner>(
     of: I::Id,
     most: usize,
 ) -> Result<Vec<PulledOf<I>>, OutOfMemory>
-    ensures { (m : Meaning I.Key I.Id I.Name) → IfOk result (λ all. All (KnowsPulled m) all.items) }
+    ensures sure { (m : Meaning I.Key I.Id I.Name) → IfOk result (λ all. All (KnowsPulled m) all.items) }
+    ensures reached { IfOk result (λ all. AreReached (I.meaning cx.now) ((I.meaning cx.now).id of) most all.items) }
 {
     let mut all = Vec::new(cx.alloc());
     let mut ids = supertrait_def_ids(cx, TraitId(of))?;
@@ -296,6 +310,7 @@ fn write_pulled<I: Interner, W: Write>(
     out: &mut W,
 ) -> fmt::Result
     requires { KnowsPulled (I.meaning cx.now) pulled.now }
+    ensures { IfSome (sign_text pulled.now) (λ t. OnOk result (WritesInCalls W.write_str_gives out.old t out.new)) }
 {
     match pulled {
         Pulled::Clause(clause) => write_clause(cx, texts, clause, out),
@@ -317,6 +332,7 @@ pub fn write_pulls<I: Interner, W: Write>(
     out: &mut W,
 ) -> fmt::Result
     requires { All (KnowsPulled (I.meaning cx.now)) pulls.now }
+    ensures none { pulls.now ≡ [] → OnOk result (WritesInCalls W.write_str_gives out.old (codes "none") out.new) }
 {
     if pulls.is_empty() {
         return out.write_str("none");

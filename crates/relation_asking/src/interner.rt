@@ -5,16 +5,16 @@ use reference_interner::{
 };
 use relation_terms::terms::{OutOfMemory, TraitId, Variance};
 use std::alloc::{AllocError, Global};
+use std::collections::HashMap;
 use text_reading::naming::{Declared, Item, ParamSort, Program};
 use text_reading::reading::ItemSort;
-use text_terms::printing::{ItemText, Parameter, TraitText};
+use text_terms::printing::{ItemText, Texts, TraitText};
 
 // The names of a program, and the texts of its names and items.
 #[derive(Drop)]
 pub(super) struct Tables<'a> {
     pub names: Vec<SymbolId>,
-    pub name_texts: Vec<Parameter<'a, SymbolId>>,
-    pub item_texts: Vec<ItemText<'a, ItemId>>,
+    pub texts: Texts<'a, ItemId, SymbolId>,
 }
 
 // Which kind of item an item is. Only a trait's asks for the trait.
@@ -114,24 +114,19 @@ pub(super) fn make_tables<'a>(
     ids: &[ItemId],
 ) -> Result<Tables<'a>, AllocError> {
     let mut names = Vec::new(alloc);
-    let mut name_texts = Vec::new(alloc);
-    let mut item_texts = Vec::new(alloc);
+    let mut texts = Texts {
+        names: HashMap::new(alloc),
+        items: HashMap::new(alloc),
+    };
     for (number, text) in program.names.iter().enumerate() {
         let name = SymbolId(number);
         names.push(name)?;
-        name_texts.push(Parameter { name, text: *text })?;
+        let _ = texts.names.insert(name, *text)?;
     }
     for (item, id) in program.items.iter().zip(ids) {
-        let of = item.of.and_then(|of| program.items.get(of));
-        item_texts.push(ItemText {
-            id: *id,
-            text: item.text,
-            of: of.map(trait_text),
-        })?;
+        let of = item.of.and_then(|of| program.items.get(of)).map(trait_text);
+        let text = item.text;
+        let _ = texts.items.insert(*id, ItemText { text, of })?;
     }
-    Ok(Tables {
-        names,
-        name_texts,
-        item_texts,
-    })
+    Ok(Tables { names, texts })
 }

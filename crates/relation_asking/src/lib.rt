@@ -32,7 +32,7 @@ use std::alloc::Global;
 use std::fmt::{self, Write};
 use text_reading::naming::Program;
 use text_terms::building::build;
-use text_terms::printing::{Texts, TextsOf};
+use text_terms::printing::TextsOf;
 
 // What is answered where a trait states a predicate in which a variable stands that its binder does not bind.
 const NOT_OWN: &str = "not asked: what a trait states is to bind its variables itself";
@@ -159,19 +159,11 @@ pub fn ask_all<W: Write>(
     let Ok(tables) = make_tables(alloc, program, &ids) else {
         return refuse_all(program, between, out);
     };
-    let Tables {
-        names,
-        name_texts,
-        item_texts,
-    } = tables;
+    let Tables { names, texts } = tables;
     match state_all(&mut interner, &ids, &names, program) {
         Ok(true) => {}
         Ok(false) => return answer_all(program, NOT_OWN, between, out),
         Err(_) => return refuse_all(program, between, out),
     }
-    let texts = Texts {
-        names: &name_texts,
-        items: &item_texts,
-    };
     ask_over(interner, &ids, &names, &texts, program, between, out)
 }

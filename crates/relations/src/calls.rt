@@ -21,11 +21,12 @@ use relation_terms::terms::{
     Variance,
 };
 use std::alloc::Global;
+use std::collections::HashMap;
 use std::fmt::{self, Write};
-use text_terms::printing::{ItemText, Parameter, Texts};
+use text_terms::printing::{ItemText, Texts};
 use writing::{write_constraints, write_object, write_projection, write_rebased};
 
-// The names of parameters, two traits, and their texts.
+// The names of parameters, and two traits.
 const OF: SymbolId = SymbolId(0);
 
 const OWN: SymbolId = SymbolId(1);
@@ -38,39 +39,6 @@ const STREAMING_ITERATOR: ItemId = ItemId(0);
 
 const PARTIAL_EQ: ItemId = ItemId(1);
 
-const TEXTS: Texts<'static, ItemId, SymbolId> = Texts {
-    names: &[
-        Parameter {
-            name: OF,
-            text: "T",
-        },
-        Parameter {
-            name: OWN,
-            text: "P",
-        },
-        Parameter {
-            name: LONGER,
-            text: "'a",
-        },
-        Parameter {
-            name: SHORTER,
-            text: "'b",
-        },
-    ],
-    items: &[
-        ItemText {
-            id: STREAMING_ITERATOR,
-            text: "StreamingIterator",
-            of: None,
-        },
-        ItemText {
-            id: PARTIAL_EQ,
-            text: "PartialEq",
-            of: None,
-        },
-    ],
-};
-
 // What refuses memory to a call refuses it to its row.
 impl From<OutOfMemory> for RowFault {
     fn from(_refused: OutOfMemory) -> RowFault {
@@ -82,6 +50,18 @@ impl From<fmt::Error> for RowFault {
     fn from(_refused: fmt::Error) -> RowFault {
         RowFault::Memory
     }
+}
+
+// The texts of the names and the traits.
+fn make_texts(alloc: Global) -> Result<Texts<'static, ItemId, SymbolId>, OutOfMemory> {
+    let mut names = HashMap::new(alloc);
+    for (name, text) in [(OF, "T"), (OWN, "P"), (LONGER, "'a"), (SHORTER, "'b")] {
+        let _ = names.insert(name, text)?;
+    }
+    let mut items = HashMap::new(alloc);
+    let _ = items.insert(STREAMING_ITERATOR, ItemText::new("StreamingIterator"))?;
+    let _ = items.insert(PARTIAL_EQ, ItemText::new("PartialEq"))?;
+    Ok(Texts { names, items })
 }
 
 // Writes what a negative polarity, a constness, a negative impl and an alias of a constant are called.
@@ -115,22 +95,25 @@ fn add_associated(cx: &mut RefInterner, alloc: Global) -> Result<ItemId, OutOfMe
 #[tactic(auto, using(crate::proofs::Arguments::parent_on))]
 fn write_aliases<W: Write>(alloc: Global, out: &mut W) -> Result<(), RowFault> {
     let mut cx = RefInterner::new(alloc);
+    let texts = make_texts(alloc)?;
     let item = add_associated(&mut cx, alloc)?;
-    write_rebased(&mut cx, &TEXTS, item, (OF, OWN), out)?;
+    write_rebased(&mut cx, &texts, item, (OF, OWN), out)?;
     out.write_str(" | ")?;
-    write_projection(&mut cx, &TEXTS, item, (OF, LONGER), out)
+    write_projection(&mut cx, &texts, item, (OF, LONGER), out)
 }
 
 // Writes a trait without the type that implements it, and with another one.
 fn write_objects<W: Write>(alloc: Global, out: &mut W) -> Result<(), RowFault> {
     let mut cx = RefInterner::new(alloc);
-    write_object(&mut cx, &TEXTS, TraitId(PARTIAL_EQ), OF, out)
+    let texts = make_texts(alloc)?;
+    write_object(&mut cx, &texts, TraitId(PARTIAL_EQ), OF, out)
 }
 
 // Writes what outlives which where two regions are equal, and which constraints are trivial.
 fn write_regions<W: Write>(alloc: Global, out: &mut W) -> Result<(), RowFault> {
     let mut cx = RefInterner::new(alloc);
-    write_constraints(&mut cx, &TEXTS, (LONGER, SHORTER), out)
+    let texts = make_texts(alloc)?;
+    write_constraints(&mut cx, &texts, (LONGER, SHORTER), out)
 }
 
 // Writes how many terms are walked of a type that is doubled 60 times, and how many nodes are added for it again.

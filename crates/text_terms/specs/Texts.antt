@@ -1,5 +1,5 @@
 -- How the small enums are written.
-use Rattle.std.specs.Prelude.{ℕ, List, ◌++◌, codes}
+use Rattle.std.specs.Prelude.{ℕ, List, ◌++◌, codes, Option, Some, None}
 use Rattle.term_enums.specs.declared.IntTy.{IntTy}
 use Rattle.term_enums.specs.declared.IntTy.TheVariants as int
 use Rattle.term_enums.specs.declared.UintTy.{UintTy}
@@ -8,12 +8,26 @@ use Rattle.term_enums.specs.declared.FloatTy.{FloatTy}
 use Rattle.term_enums.specs.declared.FloatTy.TheVariants as float
 use Rattle.term_enums.specs.declared.Mutability.{Mutability}
 use Rattle.term_enums.specs.declared.Mutability.TheVariants as mutability
+use Rattle.relation_terms.specs.declared.terms.const_kind.ConstKind.{ConstKind}
+use Rattle.relation_terms.specs.declared.terms.const_kind.ConstKind.TheVariants as const_kind
 use Rattle.term_enums.specs.declared.Safety.{Safety}
 use Rattle.term_enums.specs.declared.Safety.TheVariants as safety
 use Rattle.term_enums.specs.declared.ExternAbi.{ExternAbi}
 use Rattle.term_enums.specs.declared.ExternAbi.TheVariants as abi
 use Rattle.text_reading.specs.declared.reading.signs.Sign.TheVariants as sign
 use Rattle.text_reading.specs.Signs.{spelling, pointer_sign}
+use Rattle.text_terms.specs.declared.printing.names.ItemText.{ItemText}
+use Rattle.text_terms.specs.declared.printing.names.TraitText.{TraitText}
+
+-- the text of an item, of which that is handed in
+abbrev pub item_text : Option ItemText → List ℕ
+item_text None = codes "_"
+item_text (Some t) = t.text.now
+
+-- the trait that an item is an associated one of, of which that is handed in
+abbrev pub trait_text : Option ItemText → Option TraitText
+trait_text None = None
+trait_text (Some t) = t.of
 
 -- the name of a signed integer type
 abbrev pub int_name : IntTy → List ℕ
@@ -59,3 +73,9 @@ abbrev pub abi_text : ExternAbi → List ℕ
 abi_text abi.Rust = codes ""
 abi_text abi.C = codes "extern \"C\" "
 abi_text abi.System = codes "extern \"system\" "
+
+-- what stands before a constant where any term may stand: `const` before one that would be read as a type
+abbrev pub const_mark : {Key Id Name : Type 0} → ConstKind Key Id Name → List ℕ
+const_mark (const_kind.Placeholder p) = spelling sign.Const ++ codes " "
+const_mark (const_kind.Error e) = spelling sign.Const ++ codes " "
+const_mark k = codes ""

@@ -13,8 +13,8 @@ pub mod under;
 mod whole;
 
 pub use names::{
-    ItemText, Parameter, Texts, TextsOf, TraitText, float_name, int_name, item_text, name_text,
-    uint_name,
+    ItemText, ItemTexts, NameTexts, Texts, TextsOf, TraitText, float_name, int_name, item_text,
+    name_text, uint_name,
 };
 pub use whole::{
     write_alias, write_arg, write_const, write_item_name, write_object_predicates, write_param,

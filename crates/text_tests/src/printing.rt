@@ -11,22 +11,20 @@ use relation_terms::terms::{
     ExternAbi, ForeignId, Interner, ParamTy, PredicatePolarity, RegionKind, RegionVid, Safety,
     TyForm, TyKind,
 };
+use std::alloc::Global;
+use std::collections::HashMap;
 use std::fmt::{self, Write};
 use std::test::Fail;
-use text_terms::printing::{ItemText, Parameter, Texts, TextsOf, write_ty};
+use text_terms::printing::{ItemText, Texts, TextsOf, write_ty};
 
 // The first name and the first item have a text, the others have none.
-const TEXTS: Texts<'static, ItemId, SymbolId> = Texts {
-    names: &[Parameter {
-        name: SymbolId(0),
-        text: "T",
-    }],
-    items: &[ItemText {
-        id: ItemId(0),
-        text: "Item",
-        of: None,
-    }],
-};
+fn make_texts(alloc: Global) -> Result<Texts<'static, ItemId, SymbolId>, Fail> {
+    let mut names = HashMap::new(alloc);
+    let _ = names.insert(SymbolId(0), "T")?;
+    let mut items = HashMap::new(alloc);
+    let _ = items.insert(ItemId(0), ItemText::new("Item"))?;
+    Ok(Texts { names, items })
+}
 
 // Writes the type of a form, and a space.
 fn write_form<I: Interner, W: Write>(
@@ -59,9 +57,10 @@ fn write_named<I: Interner, W: Write>(
 #[test]
 fn what_has_no_text_prints(rt: HostRuntime) -> Result<(), Fail> {
     let mut cx = RefInterner::new(rt.alloc());
+    let texts = make_texts(rt.alloc())?;
     let mut text = String::new(rt.alloc());
-    write_named(&mut cx, &TEXTS, ItemId(0), SymbolId(0), &mut text)?;
-    write_named(&mut cx, &TEXTS, ItemId(1), SymbolId(1), &mut text)?;
+    write_named(&mut cx, &texts, ItemId(0), SymbolId(0), &mut text)?;
+    write_named(&mut cx, &texts, ItemId(1), SymbolId(1), &mut text)?;
     assert_eq!(rt; text.as_str(), "Item T _ _ ");
     Ok(())
 }
@@ -118,9 +117,10 @@ fn write_errors_of_terms<I: Interner, W: Write>(
 #[test]
 fn errors_print_their_parts(rt: HostRuntime) -> Result<(), Fail> {
     let mut cx = RefInterner::new(rt.alloc());
+    let texts = make_texts(rt.alloc())?;
     let mut text = String::new(rt.alloc());
-    write_plain_errors(&cx, &TEXTS, &mut text)?;
-    write_errors_of_terms(&mut cx, &TEXTS, &mut text)?;
+    write_plain_errors(&cx, &texts, &mut text)?;
+    write_errors_of_terms(&mut cx, &texts, &mut text)?;
     assert_eq!(rt;
         text.as_str(),
         "ForceInlineCast;ArgumentMutability(1);VariadicMismatch(true, false);\

@@ -91,6 +91,6 @@ pub(super) fn write_implemented<I: Interner, W: Write>(
     }
     out.write_str(": ")?;
     out.write_str(mark)?;
-    let name = item_text(texts.items, &of.def_id.0);
+    let name = item_text(&texts.items, &of.def_id.0);
     write_named(cx, texts, around, name, &of.args, 1, args.len(), out)
 }

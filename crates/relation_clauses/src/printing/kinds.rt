@@ -6,10 +6,10 @@ ghost use Rattle.relation_terms.specs.Predicates.{clause_kind_tree, alias_term_t
 
 use crate::printing::claims::{constness_text, polarity_text, write_implemented, write_subject};
 use relation_terms::predicate::{ClauseKind, ProjectionPredicate};
-use relation_terms::terms::{Const, Interner, Term, TermKind, Ty};
+use relation_terms::terms::{Const, GenericArgKind, Interner, Term, TermKind, Ty};
 use std::fmt::{self, Write};
 use text_terms::printing::under::{
-    Entered, write_const, write_item, write_region, write_term, write_ty,
+    Entered, write_any_arg, write_const, write_item, write_region, write_term, write_ty,
 };
 use text_terms::printing::{TextsOf, name_text};
 
@@ -30,23 +30,37 @@ fn write_projection<I: Interner, W: Write>(
     write_term(cx, texts, around, &of.term, out)
 }
 
-// Writes a term in brackets, behind the name of what it is said to be: `WellFormed(T)`.
-fn write_said<I: Interner, W: Write>(
+// Writes that a term is well-formed: `WellFormed(T)`. It may be of either sort.
+fn write_well_formed<I: Interner, W: Write>(
     cx: &I,
     texts: &TextsOf<I>,
     around: &[Entered],
-    name: &str,
     term: &Term<I>,
     out: &mut W,
 ) -> fmt::Result
     requires { IsTrue (known (term_tree (I.meaning cx.now) term.now)) }
 {
-    out.write_str(name)?;
-    out.write_str("(")?;
-    match term {
-        TermKind::Ty(ty) => write_ty(cx, texts, around, ty, out)?,
-        TermKind::Const(constant) => write_const(cx, texts, around, constant, out)?,
-    }
+    let arg = match term {
+        TermKind::Ty(ty) => GenericArgKind::Ty(*ty),
+        TermKind::Const(constant) => GenericArgKind::Const(*constant),
+    };
+    out.write_str("WellFormed(")?;
+    write_any_arg(cx, texts, around, &arg, out)?;
+    out.write_str(")")
+}
+
+// Writes that a constant can be evaluated: `ConstEvaluatable(N)`.
+fn write_evaluatable<I: Interner, W: Write>(
+    cx: &I,
+    texts: &TextsOf<I>,
+    around: &[Entered],
+    constant: &Const<I>,
+    out: &mut W,
+) -> fmt::Result
+    requires { IsTrue (known ((I.meaning cx.now).const_ constant.now)) }
+{
+    out.write_str("ConstEvaluatable(")?;
+    write_const(cx, texts, around, constant, out)?;
     out.write_str(")")
 }
 
@@ -103,13 +117,12 @@ pub(super) fn write_kind<I: Interner, W: Write>(
         ClauseKind::ConstArgHasType(constant, ty) => {
             write_typed(cx, texts, around, constant, ty, out)
         }
-        ClauseKind::WellFormed(term) => write_said(cx, texts, around, "WellFormed", term, out),
+        ClauseKind::WellFormed(term) => write_well_formed(cx, texts, around, term, out),
         ClauseKind::ConstEvaluatable(constant) => {
-            let term = TermKind::Const(*constant);
-            write_said(cx, texts, around, "ConstEvaluatable", &term, out)
+            write_evaluatable(cx, texts, around, constant, out)
         }
         ClauseKind::UnstableFeature(name) => {
-            let text = name_text(texts.names, name, "_");
+            let text = name_text(&texts.names, name);
             write!(out, "UnstableFeature({text})")
         }
     }

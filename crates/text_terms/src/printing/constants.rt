@@ -1,15 +1,27 @@
 //! How constants print.
-ghost use Rattle.std.specs.Prelude.{IsTrue};
+ghost use Rattle.std.specs.Prelude.{◌≡◌, IsTrue};
 ghost use Rattle.relation_terms.specs.Trees.{known};
+ghost use Rattle.text_terms.specs.Texts.{const_mark};
 
 use crate::printing::binders::{Entered, write_bound};
-use crate::printing::items::{write_args, write_item};
+use crate::printing::items::write_item;
 use crate::printing::leaves::{write_between, write_const_variable, write_placeholder};
 use crate::printing::names::{TextsOf, name_text};
+use crate::printing::terms::write_any_arg;
 use relation_terms::terms::{
     Const, ConstKind, ExprKind, GenericArgs, Interner, ValTree, ValTreeKind,
 };
 use std::fmt::{self, Write};
+
+// What stands before a constant where any term may stand: `const` before one that would be read as a type.
+pub(super) fn const_mark<X, D, N>(kind: &ConstKind<X, D, N>) -> &'static str
+    ensures { result.now ≡ const_mark kind.now }
+{
+    match kind {
+        ConstKind::Placeholder(_) | ConstKind::Error(_) => "const ",
+        _ => "",
+    }
+}
 
 /// Writes a constant under binders: of a value the value alone, without its type. The interner has to know it.
 ///
@@ -28,9 +40,9 @@ pub fn write_const<I: Interner, W: Write>(
     requires { IsTrue (known ((I.meaning cx.now).const_ constant.now)) }
 {
     match cx.const_kind(constant) {
-        ConstKind::Param(named) => out.write_str(name_text(texts.names, &named.name, "_")),
+        ConstKind::Param(named) => out.write_str(name_text(&texts.names, &named.name)),
         ConstKind::Placeholder(of) => write_placeholder(
-            texts.names,
+            &texts.names,
             of.universe,
             of.bound.var,
             &of.bound.name,
@@ -45,7 +57,7 @@ pub fn write_const<I: Interner, W: Write>(
     }
 }
 
-// Writes an expression: the number of its operation, and its arguments.
+// Writes an expression: the number of its operation, and its arguments, which may be of any sort.
 #[cycle(write_ty)]
 #[tactic(auto, using(crate::proofs::Parts::size_part, crate::proofs::Parts::known_part))]
 fn write_expression<I: Interner, W: Write>(
@@ -59,9 +71,11 @@ fn write_expression<I: Interner, W: Write>(
     requires { IsTrue (known ((I.meaning cx.now).args args.now)) }
 {
     let number = kind.0;
-    let count = cx.args(args).len();
     write!(out, "expr {number}(")?;
-    write_args(cx, texts, around, args, 0, count, out)?;
+    for (place, arg) in cx.args(args).iter().enumerate() {
+        write_between(place, ", ", out)?;
+        write_any_arg(cx, texts, around, arg, out)?;
+    }
     out.write_str(")")
 }
 

@@ -57,9 +57,9 @@ pub fn write_item<I: Interner, W: Write>(
 ) -> fmt::Result
     requires { IsTrue (known ((I.meaning cx.now).args args.now)) }
 {
-    let name = item_text(texts.items, id);
+    let name = item_text(&texts.items, id);
     let count = cx.args(args).len();
-    match trait_text(texts.items, id) {
+    match trait_text(&texts.items, id) {
         Some(of) if 0 < of.count && of.count <= count => {
             write_associated(cx, texts, around, of, args, out)?;
             write_named(cx, texts, around, name, args, of.count, count, out)

@@ -4,12 +4,14 @@ ghost use Rattle.relation_terms.specs.Trees.{known};
 
 use crate::printing::binders::{Entered, write_bound, write_bound_region};
 use crate::printing::names::{
-    Parameter, Texts, TextsOf, float_name, int_name, item_text, name_text, uint_name,
+    NameTexts, Texts, TextsOf, float_name, int_name, item_text, name_text, region_name_text,
+    uint_name,
 };
 use relation_terms::terms::{
     BoundVar, InferConst, InferTy, Interner, Region, RegionKind, TyKind, UniverseIndex,
 };
 use std::fmt::{self, Write};
+use std::hash::Hash;
 
 /// Writes a region under binders. A parameter that has no text is `'_`. The interner has to know the region.
 ///
@@ -31,12 +33,12 @@ pub fn write_region<I: Interner, W: Write>(
             write!(out, "'?{number}")
         }
         RegionKind::ReEarlyParam(named) => {
-            out.write_str(name_text(texts.names, &named.name, "'_"))
+            out.write_str(region_name_text(&texts.names, &named.name))
         }
         RegionKind::ReBound(depth, of) => write_bound_region(around, depth, of.var, out),
         RegionKind::RePlaceholder(of) => {
             out.write_str("'")?;
-            write_placeholder(texts.names, of.universe, of.bound.var, &of.bound.name, out)
+            write_placeholder(&texts.names, of.universe, of.bound.var, &of.bound.name, out)
         }
     }
 }
@@ -48,15 +50,15 @@ fn is_bound_name(text: &str) -> bool {
 
 // Writes a placeholder: the number of its universe, and its name, or the place that it has in a binder's list where
 // that named it.
-pub(super) fn write_placeholder<N: PartialEq, W: Write>(
-    names: &[Parameter<N>],
+pub(super) fn write_placeholder<N: Eq + Hash, W: Write>(
+    names: &NameTexts<N>,
     universe: UniverseIndex,
     var: BoundVar,
     name: &N,
     out: &mut W,
 ) -> fmt::Result {
     let number = universe.0;
-    let text = name_text(names, name, "_");
+    let text = name_text(names, name);
     if is_bound_name(text) {
         let place = var.0;
         write!(out, "!{number}.{place}")
@@ -101,7 +103,7 @@ pub fn write_between<W: Write>(place: usize, between: &str, out: &mut W) -> fmt:
 }
 
 // The text of a type that has no parts and no number.
-fn leaf_text<'a, X, D: PartialEq, N: PartialEq>(
+fn leaf_text<'a, X, D: Eq + Hash, N: Eq + Hash>(
     texts: &Texts<'a, D, N>,
     kind: &TyKind<X, D, N>,
 ) -> &'a str {
@@ -113,15 +115,15 @@ fn leaf_text<'a, X, D: PartialEq, N: PartialEq>(
         TyKind::Int(width) => int_name(*width),
         TyKind::Uint(width) => uint_name(*width),
         TyKind::Float(width) => float_name(*width),
-        TyKind::Foreign(def) => item_text(texts.items, &def.0),
-        TyKind::Param(named) => name_text(texts.names, &named.name, "_"),
+        TyKind::Foreign(def) => item_text(&texts.items, &def.0),
+        TyKind::Param(named) => name_text(&texts.names, &named.name),
         TyKind::Error(_) => "{error}",
         _ => "",
     }
 }
 
 // Writes a type that has no parts.
-pub(super) fn write_leaf<X, D: PartialEq, N: PartialEq, W: Write>(
+pub(super) fn write_leaf<X, D: Eq + Hash, N: Eq + Hash, W: Write>(
     texts: &Texts<D, N>,
     around: &[Entered],
     kind: &TyKind<X, D, N>,
@@ -129,7 +131,7 @@ pub(super) fn write_leaf<X, D: PartialEq, N: PartialEq, W: Write>(
 ) -> fmt::Result {
     match kind {
         TyKind::Placeholder(of) => write_placeholder(
-            texts.names,
+            &texts.names,
             of.universe,
             of.bound.var,
             &of.bound.name,

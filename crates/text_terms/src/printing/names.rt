@@ -1,16 +1,12 @@
 //! The texts of names, of items and of the small enums.
-ghost use Rattle.std.specs.Prelude.{◌≡◌, None};
+ghost use Rattle.std.specs.Prelude.{◌≡◌, None, codes, option_map, unwrap_or};
+ghost use Rattle.std.specs.HashMap.{get};
 ghost use Rattle.text_terms.specs.Texts.{int_name, uint_name, float_name, pointer_name, mutability_text};
-ghost use Rattle.text_terms.specs.Texts.{safety_text, abi_text};
+ghost use Rattle.text_terms.specs.Texts.{safety_text, abi_text, item_text, trait_text};
 
 use relation_terms::terms::{ExternAbi, FloatTy, IntTy, Keys, Mutability, Safety, UintTy};
-
-/// A name in an interner, and its text.
-#[derive(Clone, Copy)]
-pub struct Parameter<'a, N> {
-    pub name: N,
-    pub text: &'a str,
-}
+use std::collections::HashMap;
+use std::hash::Hash;
 
 /// The trait that an item is an associated one of: its text, and how many of the item's arguments are the trait's, the
 /// first of which is the type that the trait is of.
@@ -20,71 +16,77 @@ pub struct TraitText<'a> {
     pub count: usize,
 }
 
-/// An item's id in an interner, and its text; of an associated item of a trait also the trait's.
+/// An item's text; of an associated item of a trait also the trait's.
 #[derive(Clone, Copy)]
-pub struct ItemText<'a, D> {
-    pub id: D,
+pub struct ItemText<'a> {
     pub text: &'a str,
     pub of: Option<TraitText<'a>>,
 }
 
-impl<'a, D> ItemText<'a, D> {
+impl<'a> ItemText<'a> {
     /// The text of an item that is no associated item of a trait.
-    pub fn new(id: D, text: &'a str) -> ItemText<'a, D>
-        ensures id { result.id ≡ id }
+    pub fn new(text: &'a str) -> ItemText<'a>
         ensures text { result.text.now ≡ text.now }
         ensures of { result.of ≡ None }
     {
-        ItemText { id, text, of: None }
+        ItemText { text, of: None }
     }
 }
 
-/// The texts of names and of items, as the caller hands them in. Of several texts of one name or one item the first is
-/// taken.
+/// The texts of names.
+pub type NameTexts<'a, N> = HashMap<N, &'a str>;
+
+/// The texts of items, by their ids.
+pub type ItemTexts<'a, D> = HashMap<D, ItemText<'a>>;
+
+/// The texts of names and of items, as the caller hands them in.
 #[derive(Drop)]
-pub struct Texts<'a, D, N> {
-    pub names: &'a [Parameter<'a, N>],
-    pub items: &'a [ItemText<'a, D>],
+pub struct Texts<'a, D: Eq + Hash, N: Eq + Hash> {
+    pub names: NameTexts<'a, N>,
+    pub items: ItemTexts<'a, D>,
 }
 
 /// The texts of an interner's names and items.
 pub type TextsOf<'a, I> = Texts<'a, <I as Keys>::Id, <I as Keys>::Name>;
 
-/// The text of a name, or else the given one.
-pub fn name_text<'a, N: PartialEq>(
-    names: &[Parameter<'a, N>],
-    name: &N,
-    otherwise: &'a str,
-) -> &'a str {
-    for named in names {
-        if named.name == *name {
-            return named.text;
-        }
+/// The text of a name that stands for no region. One that has no text is `_`.
+pub fn name_text<'a, N: Eq + Hash>(names: &NameTexts<'a, N>, name: &N) -> &'a str
+    ensures { result.now ≡ unwrap_or (option_map (λ t. t.now) (get N.eq names.now name.now)) (codes "_") }
+{
+    match names.get(name) {
+        Some(found) => *found,
+        None => "_",
     }
-    otherwise
+}
+
+// The text of a name that stands for a region. One that has no text is `'_`.
+pub(super) fn region_name_text<'a, N: Eq + Hash>(names: &NameTexts<'a, N>, name: &N) -> &'a str
+    ensures { result.now ≡ unwrap_or (option_map (λ t. t.now) (get N.eq names.now name.now)) (codes "'_") }
+{
+    match names.get(name) {
+        Some(text) => *text,
+        None => "'_",
+    }
 }
 
 /// The text of an item. One that has no text is `_`.
-pub fn item_text<'a, D: PartialEq>(items: &[ItemText<'a, D>], id: &D) -> &'a str {
-    for item in items {
-        if item.id == *id {
-            return item.text;
-        }
+pub fn item_text<'a, D: Eq + Hash>(items: &ItemTexts<'a, D>, id: &D) -> &'a str
+    ensures { result.now ≡ item_text (get D.eq items.now id.now) }
+{
+    match items.get(id) {
+        Some(item) => item.text,
+        None => "_",
     }
-    "_"
 }
 
 // The trait that an item is an associated one of, if the texts say so.
-pub(super) fn trait_text<'a, D: PartialEq>(
-    items: &[ItemText<'a, D>],
+pub(super) fn trait_text<'a, D: Eq + Hash>(
+    items: &ItemTexts<'a, D>,
     id: &D,
-) -> Option<TraitText<'a>> {
-    for item in items {
-        if item.id == *id {
-            return item.of;
-        }
-    }
-    None
+) -> Option<TraitText<'a>>
+    ensures { result ≡ trait_text (get D.eq items.now id.now) }
+{
+    items.get(id)?.of
 }
 
 /// The name of a signed integer type.

@@ -121,7 +121,7 @@ fn write_object_bound<I: Interner, W: Write>(
         ExistentialPredicate::Trait(of) => write_trait(cx, texts, &inside, of, assigned, out),
         ExistentialPredicate::Projection(of) => write_projection(cx, texts, &inside, of, out),
         ExistentialPredicate::AutoTrait(def_id) => {
-            out.write_str(item_text(texts.items, &def_id.0))
+            out.write_str(item_text(&texts.items, &def_id.0))
         }
     }
 }
@@ -140,7 +140,7 @@ fn write_trait<I: Interner, W: Write>(
     requires args { IsTrue (known ((I.meaning cx.now).args (of.now).args)) }
     requires assigned { IsTrue (known (list_tree (object_predicate_tree (I.meaning cx.now)) assigned.now)) }
 {
-    out.write_str(item_text(texts.items, &of.def_id.0))?;
+    out.write_str(item_text(&texts.items, &of.def_id.0))?;
     let count = cx.args(&of.args).len();
     if count == 0 && assigned.is_empty() {
         return Ok(());
@@ -171,7 +171,7 @@ fn write_assigned<I: Interner, W: Write>(
     let ExistentialPredicate::Projection(of) = predicate.value else {
         return Ok(());
     };
-    out.write_str(item_text(texts.items, &of.def_id.0))?;
+    out.write_str(item_text(&texts.items, &of.def_id.0))?;
     out.write_str(" = ")?;
     match of.term {
         TermKind::Ty(ty) => write_ty(cx, texts, around, &ty, out),
@@ -193,9 +193,9 @@ fn write_projection<I: Interner, W: Write>(
     requires args { IsTrue (known ((I.meaning cx.now).args (of.now).args)) }
     requires term { IsTrue (known (term_tree (I.meaning cx.now) (of.now).term)) }
 {
-    let name = item_text(texts.items, &of.def_id.0);
+    let name = item_text(&texts.items, &of.def_id.0);
     let count = cx.args(&of.args).len();
-    match trait_text(texts.items, &of.def_id.0) {
+    match trait_text(&texts.items, &of.def_id.0) {
         Some(item) if 0 < item.count && item.count - 1 <= count => {
             let own = item.count - 1;
             write_named(cx, texts, around, item.text, &of.args, 0, own, out)?;

@@ -4,7 +4,7 @@ ghost use Rattle.relation_terms.specs.Trees.{known};
 ghost use Rattle.relation_terms.specs.Meaning.{arg_tree, term_tree};
 
 use crate::printing::binders::Entered;
-use crate::printing::constants::write_const;
+use crate::printing::constants::{const_mark, write_const};
 use crate::printing::items::{over_args, write_item};
 use crate::printing::leaves::{write_between, write_leaf, write_region};
 use crate::printing::names::{TextsOf, mutability_text, pointer_name};
@@ -173,7 +173,7 @@ pub fn write_term<I: Interner, W: Write>(
     }
 }
 
-/// Writes a generic argument under binders. The interner has to know it.
+/// Writes a generic argument under binders, where it is told which sort it is of. The interner has to know it.
 ///
 /// # Errors
 /// `fmt::Error` where `out` refused to take some of the text, or memory for the list of binders around a part was
@@ -194,4 +194,27 @@ pub fn write_arg<I: Interner, W: Write>(
         GenericArgKind::Ty(ty) => write_ty(cx, texts, around, ty, out),
         GenericArgKind::Const(constant) => write_const(cx, texts, around, constant, out),
     }
+}
+
+/// Writes a generic argument under binders, where one of any sort may stand: `const` stands before a constant that
+/// would be read as a type. The interner has to know the argument.
+///
+/// # Errors
+/// `fmt::Error` where `out` refused to take some of the text, or memory for the list of binders around a part was
+/// refused. What `out` took before stands.
+#[cycle(write_ty)]
+#[tactic(auto, using(crate::proofs::Parts::size_part, crate::proofs::Parts::known_part))]
+pub fn write_any_arg<I: Interner, W: Write>(
+    cx: &I,
+    texts: &TextsOf<I>,
+    around: &[Entered],
+    arg: &GenericArg<I>,
+    out: &mut W,
+) -> fmt::Result
+    requires { IsTrue (known (arg_tree (I.meaning cx.now) arg.now)) }
+{
+    if let GenericArgKind::Const(constant) = arg {
+        out.write_str(const_mark(&cx.const_kind(constant)))?;
+    }
+    write_arg(cx, texts, around, arg, out)
 }

@@ -1,7 +1,10 @@
 //! How terms print that stand alone.
-ghost use Rattle.std.specs.Prelude.{IsTrue};
+ghost use Rattle.std.specs.Prelude.{IsTrue, OnOk};
+ghost use Rattle.std.specs.Fmt.{WritesInCalls};
+ghost use Rattle.std.specs.HashMap.{get};
 ghost use Rattle.relation_terms.specs.Trees.{known};
 ghost use Rattle.relation_terms.specs.Meaning.{arg_tree};
+ghost use Rattle.text_terms.specs.Texts.{item_text};
 
 use crate::printing::names::{TextsOf, item_text, name_text};
 use crate::printing::{constants, items, leaves, objects, terms};
@@ -58,7 +61,8 @@ pub fn write_const<I: Interner, W: Write>(
     constants::write_const(cx, texts, &[], constant, out)
 }
 
-/// Writes a generic argument: a region, a type or a constant, as each is written alone.
+/// Writes a generic argument: a region, a type or a constant, as each is written alone, with `const` before a constant
+/// that would be read as a type.
 ///
 /// # Errors
 /// `fmt::Error` where `out` refused to take some of the text, or memory for the list of binders around a part was
@@ -71,7 +75,7 @@ pub fn write_arg<I: Interner, W: Write>(
 ) -> fmt::Result
     requires { IsTrue (known (arg_tree (I.meaning cx.now) arg.now)) }
 {
-    terms::write_arg(cx, texts, &[], arg, out)
+    terms::write_any_arg(cx, texts, &[], arg, out)
 }
 
 /// Writes the predicates of a trait object as they stand behind `dyn`, with `+` between; nothing where there are none.
@@ -98,8 +102,11 @@ pub fn write_item_name<I: Interner, W: Write>(
     texts: &TextsOf<I>,
     item: &ItemOf<I>,
     out: &mut W,
-) -> fmt::Result {
-    out.write_str(item_text(texts.items, &item.0))
+) -> fmt::Result
+    ensures { let text = item_text (get I.Id.eq (texts.now).items (item.now).0) in
+        OnOk result (WritesInCalls W.write_str_gives out.old text out.new) }
+{
+    out.write_str(item_text(&texts.items, &item.0))
 }
 
 /// Writes a parameter that stands for a type. One that has no text is `_`.
@@ -111,7 +118,7 @@ pub fn write_param<I: Interner, W: Write>(
     param: &ParamTy<I::Name>,
     out: &mut W,
 ) -> fmt::Result {
-    out.write_str(name_text(texts.names, &param.name, "_"))
+    out.write_str(name_text(&texts.names, &param.name))
 }
 
 /// Writes a placeholder that stands for a type: `!`, the number of its universe, and its name, or `_` if that has no
@@ -126,7 +133,7 @@ pub fn write_placeholder<I: Interner, W: Write>(
     out: &mut W,
 ) -> fmt::Result {
     leaves::write_placeholder(
-        texts.names,
+        &texts.names,
         placeholder.universe,
         placeholder.bound.var,
         &placeholder.bound.name,

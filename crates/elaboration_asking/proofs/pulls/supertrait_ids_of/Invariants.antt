@@ -1,9 +1,16 @@
+use Rattle.std.proofs.Common.{◌≡◌, length}
 use Rattle.std.specs.List.{All}
 use Rattle.relation_terms.specs.Meaning.{Meaning}
 use Rattle.elaboration_asking.specs.Pulls.{KnowsPulled}
+use Rattle.elaboration_asking.proofs.ReachLemmas.{StillReaches}
 use Rattle.elaboration_asking.proofs.pulls.supertrait_ids_of.Given as goal
 
--- what was pulled so far is known
+-- what was pulled so far is known, and is reached
 abbrev pub invariant-loop : goal.invariant-loop
 invariant-loop g l =
-    (m : Meaning g.row.I-Key.Denot g.row.I-Id.Denot g.row.I-Name.Denot) → All (KnowsPulled m) l.all.items
+    record {
+      sure : (m : Meaning g.row.I-Key.Denot g.row.I-Id.Denot g.row.I-Name.Denot) → All (KnowsPulled m) l.all.items;
+      reaches : let m = g.I.Interner.meaning l.fn.cx.now in
+          StillReaches g.I.Interner.meaning m (m.id l.fn.of) l.all.items l.ids;
+      count : length l.all.items ≡ l.counter;
+    }

@@ -15,6 +15,17 @@ items::write_args-write_arg-requires g t c κs within =
     let small = part.1 in
     search rules
 
+pub constants::write_expression-write_any_arg-requires : goal.constants::write_expression-write_any_arg-requires
+constants::write_expression-write_any_arg-requires g t c κs within =
+    let m = g.I.Interner.meaning c.args.cx.now in
+    let d = c.decreases in
+    let part =
+    part_of (arg_tree m) (m.args c.args.args.now) c.args-arg-items.result.now c.loop-place.place c.arg-item.result
+    c.arg-item.is c.args-arg-items.ensures c.loop-place-test.true c.requires in
+    let sure = part.0 in
+    let small = part.1 in
+    search rules
+
 pub objects::write_trait-write_assigned-requires : goal.objects::write_trait-write_assigned-requires
 objects::write_trait-write_assigned-requires g t c κs within =
     let m = g.I.Interner.meaning c.args.cx.now in

@@ -33,6 +33,9 @@ decreases-items::write_args g l = 4 * size ((g.I.Interner.meaning l.cx.now).args
 abbrev pub decreases-terms::write_arg : goal.decreases-terms::write_arg
 decreases-terms::write_arg g l = 4 * size (arg_tree (g.I.Interner.meaning l.cx.now) l.arg.now) + 1
 
+abbrev pub decreases-terms::write_any_arg : goal.decreases-terms::write_any_arg
+decreases-terms::write_any_arg g l = 4 * size (arg_tree (g.I.Interner.meaning l.cx.now) l.arg.now) + 2
+
 abbrev pub decreases-patterns::write_pattern_type : goal.decreases-patterns::write_pattern_type
 decreases-patterns::write_pattern_type g l =
     let m = g.I.Interner.meaning l.cx.now in
