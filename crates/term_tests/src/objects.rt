@@ -1,4 +1,4 @@
-//! What the predicates of trait objects say of a type.
+//! What the predicates of trait objects say of a type, and which trait is the principal.
 ghost use Rattle.std.specs.Prelude.{IsTrue, IsSome};
 ghost use Rattle.relation_terms.specs.Trees.{known};
 ghost use Rattle.relation_terms.specs.Meaning.{object_predicate_tree};
@@ -15,6 +15,7 @@ use relation_terms::terms::{
     Binder, BoundVars, DefId, GenericArgKind, GenericArgs, Interner, OutOfMemory, TermKind,
     TraitAssocTermId, TraitAssocTyId, TraitId, Ty, TyKind,
 };
+use relation_tools::trait_object::principal_def_id;
 
 // Whether a trait that an object implements is that of a type, and has its id, under a binder too.
 #[tactic(auto, using(relation_terms::proofs::Stays::knows_ty, relation_terms::proofs::Stays::knows_args))]
@@ -138,6 +139,37 @@ fn item_is_told<I: Interner>(cx: &mut I, id: I::Id) -> Result<bool, OutOfMemory>
     item_goes(cx, id, args, ty, bound_vars)
 }
 
+// The principal of a trait object of one predicate.
+fn principal_of<I: Interner>(
+    cx: &mut I,
+    predicate: ObjectPredicate<I>,
+) -> Result<Option<TraitId<I::Id>>, OutOfMemory>
+    requires { IsTrue (known (object_predicate_tree (I.meaning cx.old) predicate)) }
+{
+    let mut list = Vec::new(cx.alloc());
+    list.push(predicate)?;
+    let predicates = cx.mk_existential_predicates(&list)?;
+    Ok(principal_def_id(cx, &predicates))
+}
+
+// Whether a trait is the principal of its object.
+#[tactic(auto, using(relation_terms::proofs::Stays::knows_args, crate::proofs::Arguments::known_under))]
+fn trait_is_principal<I: Interner>(cx: &mut I, id: I::Id) -> Result<bool, OutOfMemory> {
+    let args = make_args(cx)?;
+    let bound_vars = make_no_vars(cx)?;
+    let def_id = TraitId(id);
+    let value = ExistentialPredicate::Trait(ExistentialTraitRef { def_id, args });
+    Ok(principal_of(cx, Binder { value, bound_vars })? == Some(def_id))
+}
+
+// Whether an auto trait is not the principal of its object.
+#[tactic(auto, using(crate::proofs::Arguments::known_under))]
+fn auto_trait_is_no_principal<I: Interner>(cx: &mut I, id: I::Id) -> Result<bool, OutOfMemory> {
+    let bound_vars = make_no_vars(cx)?;
+    let value = ExistentialPredicate::AutoTrait(TraitId(id));
+    Ok(principal_of(cx, Binder { value, bound_vars })?.is_none())
+}
+
 /// Whether all of these hold of an item that a trait declares, and of an auto trait.
 pub fn all_go<I: Interner>(cx: &mut I, id: I::Id) -> Result<bool, OutOfMemory> {
     let mut fine = trait_is_told(cx, id)? && item_is_told(cx, id)?;
@@ -145,5 +177,6 @@ pub fn all_go<I: Interner>(cx: &mut I, id: I::Id) -> Result<bool, OutOfMemory> {
     fine &= item_is_kept(cx, id, args)?;
     let bound_vars = make_no_vars(cx)?;
     fine &= trait_goes(cx, id, bound_vars)?;
+    fine &= trait_is_principal(cx, id)? && auto_trait_is_no_principal(cx, id)?;
     Ok(auto_trait_goes(cx, id)? && fine)
 }

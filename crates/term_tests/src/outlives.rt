@@ -2,13 +2,14 @@
 ghost use Rattle.std.specs.Prelude.{IsTrue, IfOk};
 ghost use Rattle.relation_terms.specs.Trees.{known};
 
-use reference_interner::{RefInterner, SymbolId};
+use reference_interner::{ItemId, RefInterner, SymbolId};
 use relation_terms::terms::{
-    EarlyParamRegion, GenericArgKind, InferTy, Interner, Mutability, OutOfMemory, ParamTy,
-    RegionKind, Ty, TyKind, TyVid,
+    AliasTy, AliasTyKind, EarlyParamRegion, GenericArgKind, InferTy, Interner, Mutability,
+    OutOfMemory, ParamTy, RegionKind, TraitAssocTyId, Ty, TyKind, TyVid,
 };
 use relation_tools::elaborate::assumed_argument;
-use relation_tools::outlives::{Component, components_of};
+use relation_tools::outlives::{Component, components_of, compute_alias_components_recursive};
+use smallvec::SmallVec;
 use std::test::Fail;
 
 // `&'a T`.
@@ -45,10 +46,25 @@ fn arguments_are_told<I: Interner>(cx: &mut I, name: I::Name) -> Result<bool, Ou
     Ok(are_told && of_variable.is_none())
 }
 
+// Whether the components of an alias's arguments are these, and the alias is none.
+fn alias_has_those_of_its_arguments(cx: &mut RefInterner) -> Result<bool, OutOfMemory> {
+    let ty = make_ref(cx, SymbolId(0))?;
+    let args = cx.mk_args(&[GenericArgKind::Ty(ty)])?;
+    let def_id = TraitAssocTyId(ItemId(0));
+    let kind = AliasTyKind::Projection { def_id };
+    let mut found = SmallVec::new(cx.alloc());
+    compute_alias_components_recursive(cx, &AliasTy { kind, args }, &mut found)?;
+    Ok(matches!(
+        found.as_slice(),
+        [Component::Region(_), Component::Param(_)]
+    ))
+}
+
 #[test]
 fn components_are_told(rt: HostRuntime) -> Result<(), Fail> {
     let mut cx = RefInterner::new(rt.alloc());
     assert!(rt; components_are_parts(&mut cx, SymbolId(0))?);
     assert!(rt; arguments_are_told(&mut cx, SymbolId(0))?);
+    assert!(rt; alias_has_those_of_its_arguments(&mut cx)?);
     Ok(())
 }
