@@ -35,6 +35,7 @@ fn reads_settings<C: InferCtxtLike>(ctx: &C) -> bool {
 // Meets an error in a context.
 fn meets_an_error<C: InferCtxtLike>(ctx: &mut C)
     requires { (C.state ctx.old).lawful }
+    ensures { (C.state ctx.new).lawful }
 {
     ctx.set_tainted_by_errors(ErrorGuaranteed);
 }
