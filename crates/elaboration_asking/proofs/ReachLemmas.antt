@@ -104,6 +104,6 @@ pub reaches_first : {I Key Id Name : Type 0} (meaning : I → Meaning Key Id Nam
 reaches_first meaning cx d ps s none same by = record {
   runs = λ ds t g.
       subst (λ z. ReachesAll (statements (meaning cx)) d (numbers (meaning cx) (filter_map trait_in z ++ ds)) t)
-      (sym none)  (subst (λ z. ReachesAll (statements (meaning z)) d (numbers (meaning z) ds) t) same (by.runs ds t g));
+      (sym none) (subst (λ z. ReachesAll (statements (meaning z)) d (numbers (meaning z) ds) t) same (by.runs ds t g));
   no_end = λ h. none_there ps none h;
 }

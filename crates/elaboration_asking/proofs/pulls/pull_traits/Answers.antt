@@ -40,7 +40,7 @@ returns-then-is_last-clause-finds g c = inr (record {
   last = c.in_ok-pulled.pulled;
   between = c.loop.traits;
   is = c.in_ok-push.ensures.items;
-  ends = sym c.is_last.ensures ∙ c.then-is_last.true;
+  ends = sym c.is_last.ensures ∙ c.if-is_last.true;
   finds = c.loop.invariant.finds;
   stops = c.in_ok-pulled.ensures.finds;
 })
@@ -48,7 +48,7 @@ returns-then-is_last-clause-finds g c = inr (record {
 pub returns-then-is_last-clause-went_on : goal.returns-then-is_last-clause-went_on
 returns-then-is_last-clause-went_on g c =
     subst (WentOn c.args.count) (sym c.in_ok-push.ensures.items)
-    (went_to_last c.args.count c.loop.all.items c.in_ok-pulled.pulled (sym c.is_last.ensures ∙ c.then-is_last.true))
+    (went_to_last c.args.count c.loop.all.items c.in_ok-pulled.pulled (sym c.is_last.ensures ∙ c.if-is_last.true))
 
 pub loop-preserved : goal.loop-preserved
 loop-preserved g c =
@@ -64,7 +64,7 @@ loop-preserved g c =
           (pulls_more c.pull_trait.ensures.grown ps p before.sure c.in_ok-pulled.ensures.sure);
       finds = subst (λ z. FindsEach g.I.Interner.meaning c.args.traits.now z u) (sym c.in_ok-push.ensures.items)
           (each_more g.I.Interner.meaning ps p c.args.traits.now c.loop.traits u before.finds c.in_ok-pulled.ensures.finds
-          (sym c.is_last.ensures ∙ c.if-not-is_last.false));
+          (sym c.is_last.ensures ∙ c.if-is_last.false));
       count = omega (arith, sum, count);
     }
 

@@ -29,7 +29,7 @@ loop-preserved g c =
       reaches = subst (λ z. StillReaches g.I.Interner.meaning m (m.id c.args.of) z c.pull_id.new.ids)
           (sym c.in_ok-push.ensures.items)
           (reaches_more g.I.Interner.meaning m (m.id c.args.of) ps p c.loop.ids c.pull_id.new.ids before.reaches
-          c.in_ok-pulled.ensures.reaches (sym c.is_last.ensures ∙ c.if-not-is_last.false));
+          c.in_ok-pulled.ensures.reaches (sym c.is_last.ensures ∙ c.if-is_last.false));
       count = omega (arith, sum, count);
     }
 
@@ -45,7 +45,7 @@ returns-then-is_last-clause-reached g c =
     subst (AreReached m (m.id c.args.of) c.args.most) (sym c.in_ok-push.ensures.items)
     (reached_at_last g.I.Interner.meaning m (m.id c.args.of) c.args.most c.loop.all.items c.in_ok-pulled.pulled c.loop.ids
     c.pull_id.new.ids c.loop.invariant.reaches c.in_ok-pulled.ensures.reaches
-    (sym c.is_last.ensures ∙ c.then-is_last.true))
+    (sym c.is_last.ensures ∙ c.if-is_last.true))
 
 pub returns-clause-sure : goal.returns-clause-sure
 returns-clause-sure g c = c.loop.invariant.sure
@@ -54,6 +54,6 @@ pub returns-clause-reached : goal.returns-clause-reached
 returns-clause-reached g c =
     let m = g.I.Interner.meaning c.args.cx.now in
     let count = c.loop.invariant.count in
-    let most = c.saturating_add.ensures in
+    let most = c.saturating_add-end.ensures in
     reached_so_far g.I.Interner.meaning m (m.id c.args.of) c.args.most c.loop.all.items c.loop.ids
     c.loop.invariant.reaches (inr (inr (omega (arith, count, most))))

@@ -10,7 +10,7 @@ abbrev pub invariant-loop : goal.invariant-loop
 invariant-loop g l =
     record {
       sure : (m : Meaning g.row.I-Key.Denot g.row.I-Id.Denot g.row.I-Name.Denot) → All (KnowsPulled m) l.all.items;
-      reaches : let m = g.I.Interner.meaning l.fn.cx.now in
+      reaches : let m = g.I.Interner.meaning l.fn.cx in
           StillReaches g.I.Interner.meaning m (m.id l.fn.of) l.all.items l.ids;
       count : length l.all.items ≡ l.counter;
     }
