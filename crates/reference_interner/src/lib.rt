@@ -16,11 +16,11 @@ mod short_list;
 mod stating;
 mod table;
 
-use relation_terms::hashing::KeyHasher;
 pub use items::{DefKind, GenericParam, GenericParamKind, Item, ItemKind};
 pub use keys::{ItemId, NoSpan, NodeKey, SymbolId};
 pub use node::Node;
 use node::copied;
+use relation_terms::hashing::KeyHasher;
 use relation_terms::predicate::{
     AliasTermKind, ClauseForm, ObjectPredicate, PredicateForm, PredicateKind, TraitRef,
 };

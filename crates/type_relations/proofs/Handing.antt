@@ -319,100 +319,100 @@ HaveAsManyInputs a b i = Unit {0}
 
 module _ {Key Id Name : Type 0} (m : Meaning Key Id Name) (set : Settings) (c : Items) (st : Store) (v : Variance)
   where
-  output_error : {x : Bool} {s : Safety} {w : ExternAbi} (p q t u a b : Tree) →
-      a ≡ node (signature x s w) (cons (node inputs p) (cons t nil)) →
-      b ≡ node (signature x s w) (cons (node inputs q) (cons u nil)) → (i j : ℕ) → i < 2 →
-      HaveAsManyInputs (node (signature x s w) (cons (node inputs p) (cons t nil)))
-      (node (signature x s w) (cons (node inputs q) (cons u nil))) i →
-      named_place (node (signature x s w) (cons (node inputs p) (cons t nil))) i ≡ Some j →
-      (e d : TypeError Key Id Name) → IsPlaced j e d →
-      ErrorOf m set c st (part_at c (signature x s w) i v) e (nth i (cons (node inputs p) (cons t nil)))
-      (nth i (cons (node inputs q) (cons u nil))) → ErrorByForms m set c st v d a b
-  output_error p q t u a b da db zero j l n named e d is h = absurd (cc)
-  output_error p q t u a b da db (suc zero) j l n named e d is h =
-      let same : j ≡ count p = cc in
-      of_outputs da db n h (subst (λ z. IsPlaced z e d) same is)
-  output_error p q t u a b da db (suc (suc i)) j l n named e d is h = absurd (omega (arith, l))
+    output_error : {x : Bool} {s : Safety} {w : ExternAbi} (p q t u a b : Tree) →
+        a ≡ node (signature x s w) (cons (node inputs p) (cons t nil)) →
+        b ≡ node (signature x s w) (cons (node inputs q) (cons u nil)) → (i j : ℕ) → i < 2 →
+        HaveAsManyInputs (node (signature x s w) (cons (node inputs p) (cons t nil)))
+        (node (signature x s w) (cons (node inputs q) (cons u nil))) i →
+        named_place (node (signature x s w) (cons (node inputs p) (cons t nil))) i ≡ Some j →
+        (e d : TypeError Key Id Name) → IsPlaced j e d →
+        ErrorOf m set c st (part_at c (signature x s w) i v) e (nth i (cons (node inputs p) (cons t nil)))
+        (nth i (cons (node inputs q) (cons u nil))) → ErrorByForms m set c st v d a b
+    output_error p q t u a b da db zero j l n named e d is h = absurd (cc)
+    output_error p q t u a b da db (suc zero) j l n named e d is h =
+        let same : j ≡ count p = cc in
+        of_outputs da db n h (subst (λ z. IsPlaced z e d) same is)
+    output_error p q t u a b da db (suc (suc i)) j l n named e d is h = absurd (omega (arith, l))
 
-  placed_error : (k l : Sort) (a b : Tree) (i j : ℕ) (h : Head) (ts us : Tree) (e d : TypeError Key Id Name) →
-      IsByParts (node h ts) → IsTerm k (node h ts) → IsTerm l (node h us) → a ≡ node h ts → b ≡ node h us →
-      count ts ≡ count us → i < count ts → HaveAsManyInputs (node h ts) (node h us) i →
-      named_place (node h ts) i ≡ Some j → IsPlaced j e d →
-      ErrorOf m set c st (part_at c h i v) e (nth i ts) (nth i us) → ErrorByForms m set c st v d a b
-  placed_error k l a b i j pattern_type ts us e d o f g da db n lt many named is z = absurd (cc)
-  placed_error k l a b i j range_pattern ts us e d o f g da db n lt many named is z = absurd (cc)
-  placed_error k l a b i j or_pattern ts us e d o f g da db n lt many named is z = absurd (cc)
-  placed_error k l a b i j fn_ptr ts us e d o f g da db n lt many named is z = absurd (cc)
-  placed_error k l a b i j unsafe_binder ts us e d o f g da db n lt many named is z = absurd (cc)
-  placed_error k l a b i j dynamic ts us e d o f g da db n lt many named is z = absurd (cc)
-  placed_error k l a b i j object ts us e d o f g da db n lt many named is z = absurd (cc)
-  placed_error k l a b i j (signature x s w) ts us e d o f g da db n lt many named is z =
-      let (p, t, q) = signature_shape ts f.1 in
-      let (r, u, y) = signature_shape us g.1 in
-      output_error p r t u a b (da ∙ ap (λ z. node (signature x s w) z) q) (db ∙ ap (λ z. node (signature x s w) z) y) i j
-      (subst (λ z. i < count z) q lt)
-      (subst₂ (λ t u. HaveAsManyInputs (node (signature x s w) t) (node (signature x s w) u) i) q y many)
-      (subst (λ z. named_place (node (signature x s w) z) i ≡ Some j) q named) e d is
-      (subst₂ (λ t u. ErrorOf m set c st (part_at c (signature x s w) i v) e (nth i t) (nth i u)) q y z)
-  placed_error k l a b i j inputs ts us e d o f g da db n lt many named is z =
-      let same : j ≡ i = cc in
-      of_inputs i da db n lt z (subst (λ y. IsPlaced y e d) same is)
-  placed_error k l a b i j (existential_trait x) ts us e d o f g da db n lt many named is z = absurd (cc)
-  placed_error k l a b i j (existential_projection x) ts us e d o f g da db n lt many named is z = absurd (cc)
-  placed_error k l a b i j h ts us e d o f g da db n lt many named is z = absurd o
+    placed_error : (k l : Sort) (a b : Tree) (i j : ℕ) (h : Head) (ts us : Tree) (e d : TypeError Key Id Name) →
+        IsByParts (node h ts) → IsTerm k (node h ts) → IsTerm l (node h us) → a ≡ node h ts → b ≡ node h us →
+        count ts ≡ count us → i < count ts → HaveAsManyInputs (node h ts) (node h us) i →
+        named_place (node h ts) i ≡ Some j → IsPlaced j e d →
+        ErrorOf m set c st (part_at c h i v) e (nth i ts) (nth i us) → ErrorByForms m set c st v d a b
+    placed_error k l a b i j pattern_type ts us e d o f g da db n lt many named is z = absurd (cc)
+    placed_error k l a b i j range_pattern ts us e d o f g da db n lt many named is z = absurd (cc)
+    placed_error k l a b i j or_pattern ts us e d o f g da db n lt many named is z = absurd (cc)
+    placed_error k l a b i j fn_ptr ts us e d o f g da db n lt many named is z = absurd (cc)
+    placed_error k l a b i j unsafe_binder ts us e d o f g da db n lt many named is z = absurd (cc)
+    placed_error k l a b i j dynamic ts us e d o f g da db n lt many named is z = absurd (cc)
+    placed_error k l a b i j object ts us e d o f g da db n lt many named is z = absurd (cc)
+    placed_error k l a b i j (signature x s w) ts us e d o f g da db n lt many named is z =
+        let (p, t, q) = signature_shape ts f.1 in
+        let (r, u, y) = signature_shape us g.1 in
+        output_error p r t u a b (da ∙ ap (λ z. node (signature x s w) z) q) (db ∙ ap (λ z. node (signature x s w) z) y) i j
+        (subst (λ z. i < count z) q lt)
+        (subst₂ (λ t u. HaveAsManyInputs (node (signature x s w) t) (node (signature x s w) u) i) q y many)
+        (subst (λ z. named_place (node (signature x s w) z) i ≡ Some j) q named) e d is
+        (subst₂ (λ t u. ErrorOf m set c st (part_at c (signature x s w) i v) e (nth i t) (nth i u)) q y z)
+    placed_error k l a b i j inputs ts us e d o f g da db n lt many named is z =
+        let same : j ≡ i = cc in
+        of_inputs i da db n lt z (subst (λ y. IsPlaced y e d) same is)
+    placed_error k l a b i j (existential_trait x) ts us e d o f g da db n lt many named is z = absurd (cc)
+    placed_error k l a b i j (existential_projection x) ts us e d o f g da db n lt many named is z = absurd (cc)
+    placed_error k l a b i j h ts us e d o f g da db n lt many named is z = absurd o
 
-  module _ (k l : Sort) (a b : Tree) (i : ℕ) (f : IsTerm k a) (g : IsTerm l b) (o : IsByParts a)
-      (one : AreOfOneForm a b) (lx : i < count (parts_of a)) (x y : Tree) (ex : x ≡ nth i (parts_of a))
-      (ey : y ≡ nth i (parts_of b)) (many : HaveAsManyInputs a b i) where
-    none : {x : Leaf} → a ≡ leaf x → ⊥
-    none d = let z : count (parts_of a) ≡ 0 = ap (λ z. count (parts_of z)) d in omega (arith, z, lx)
+    module _ (k l : Sort) (a b : Tree) (i : ℕ) (f : IsTerm k a) (g : IsTerm l b) (o : IsByParts a)
+        (one : AreOfOneForm a b) (lx : i < count (parts_of a)) (x y : Tree) (ex : x ≡ nth i (parts_of a))
+        (ey : y ≡ nth i (parts_of b)) (many : HaveAsManyInputs a b i) where
+      none : {x : Leaf} → a ≡ leaf x → ⊥
+      none d = let z : count (parts_of a) ≡ 0 = ap (λ z. count (parts_of z)) d in omega (arith, z, lx)
 
-    at_parts : (e : TypeError Key Id Name) (h : Head) (ts us : Tree) → a ≡ node h ts → b ≡ node h us →
-        ErrorOf m set c st (part_at c (head_of a) i v) e x y →
-        ErrorOf m set c st (part_at c h i v) e (nth i ts) (nth i us)
-    at_parts e h ts us d w z =
-        subst₂ (ErrorOf m set c st (part_at c h i v) e) (ex ∙ ap (λ z. nth i (parts_of z)) d)
-        (ey ∙ ap (λ z. nth i (parts_of z)) w)
-        (subst (λ z. ErrorOf m set c st (part_at c (head_of z) i v) e x y) d z)
+      at_parts : (e : TypeError Key Id Name) (h : Head) (ts us : Tree) → a ≡ node h ts → b ≡ node h us →
+          ErrorOf m set c st (part_at c (head_of a) i v) e x y →
+          ErrorOf m set c st (part_at c h i v) e (nth i ts) (nth i us)
+      at_parts e h ts us d w z =
+          subst₂ (ErrorOf m set c st (part_at c h i v) e) (ex ∙ ap (λ z. nth i (parts_of z)) d)
+          (ey ∙ ap (λ z. nth i (parts_of z)) w)
+          (subst (λ z. ErrorOf m set c st (part_at c (head_of z) i v) e x y) d z)
 
-    hand_on : (e : TypeError Key Id Name) → ((h : Head) (ts us : Tree) → a ≡ node h ts →
-        IsHandedOn e h i (nth i ts) (nth i us)) → ErrorOf m set c st (part_at c (head_of a) i v) e x y →
-        AreOfOneForm a b → ErrorByForms m set c st v e a b
-    hand_on e n z (over_parts {h} {ts} {us} d w q) = of_parts i d w q (subst (λ z. i < count (parts_of z)) d lx)
-        (n h ts us d) (at_parts e h ts us d w z)
-    hand_on e n z (one_leaf d w) = absurd (none d)
-    hand_on e n z (parameters d w q) = absurd (none d)
+      hand_on : (e : TypeError Key Id Name) → ((h : Head) (ts us : Tree) → a ≡ node h ts →
+          IsHandedOn e h i (nth i ts) (nth i us)) → ErrorOf m set c st (part_at c (head_of a) i v) e x y →
+          AreOfOneForm a b → ErrorByForms m set c st v e a b
+      hand_on e n z (over_parts {h} {ts} {us} d w q) = of_parts i d w q (subst (λ z. i < count (parts_of z)) d lx)
+          (n h ts us d) (at_parts e h ts us d w z)
+      hand_on e n z (one_leaf d w) = absurd (none d)
+      hand_on e n z (parameters d w q) = absurd (none d)
 
-    place : (j : ℕ) (e d : TypeError Key Id Name) → named_place a i ≡ Some j → IsPlaced j e d →
-        ErrorOf m set c st (part_at c (head_of a) i v) e x y → AreOfOneForm a b → ErrorByForms m set c st v d a b
-    place j e d n is z (over_parts {h} {ts} {us} p w q) = placed_error k l a b i j h ts us e d (subst IsByParts p o)
-        (subst (IsTerm k) p f) (subst (IsTerm l) w g) p w q (subst (λ z. i < count (parts_of z)) p lx)
-        (subst₂ (λ t u. HaveAsManyInputs t u i) p w many) (subst (λ t. named_place t i ≡ Some j) p n) is
-        (at_parts e h ts us p w z)
-    place j e d n is z (one_leaf p w) = absurd (none p)
-    place j e d n is z (parameters p w q) = absurd (none p)
+      place : (j : ℕ) (e d : TypeError Key Id Name) → named_place a i ≡ Some j → IsPlaced j e d →
+          ErrorOf m set c st (part_at c (head_of a) i v) e x y → AreOfOneForm a b → ErrorByForms m set c st v d a b
+      place j e d n is z (over_parts {h} {ts} {us} p w q) = placed_error k l a b i j h ts us e d (subst IsByParts p o)
+          (subst (IsTerm k) p f) (subst (IsTerm l) w g) p w q (subst (λ z. i < count (parts_of z)) p lx)
+          (subst₂ (λ t u. HaveAsManyInputs t u i) p w many) (subst (λ t. named_place t i ≡ Some j) p n) is
+          (at_parts e h ts us p w z)
+      place j e d n is z (one_leaf p w) = absurd (none p)
+      place j e d n is z (parameters p w q) = absurd (none p)
 
-    -- What two terms say where their parts at a place are refused.
-    pub part_complains : (e : TypeError Key Id Name) (r : RelateFault Key Id Name) →
-        IsFaultOfPart (named_place a i) (Unrelated e) r → ErrorOf m set c st (part_at c (head_of a) i v) e x y →
-        (d : TypeError Key Id Name) × (r ≡ Unrelated d) × ErrorByForms m set c st v d a b
-    part_complains e r (no_place is n) h = (
-      e,
-      is,
-      hand_on e (λ p ts us d. term_handed e k p ts i (nth i ts) (nth i us)
-          (subst (IsTerm k) d f) (subst IsByParts d o) (subst (λ t. named_place t i ≡ None) d n)) h one,
-    )
-    part_complains e r (no_error is n) h = absurd (n e refl)
-    part_complains e r (unplaced d p n is) h =
-        let same : d ≡ e = cc in (
-          e,
-          is,
-          hand_on e (λ q ts us w. term_unplaced e q ts i (nth i ts) (nth i us) (subst IsByParts w o)
-              (subst (λ z. NamesNoPlace z) same n)) h one,
-        )
-    part_complains e r (placed {j} z d n p q is) h =
-        let same : z ≡ e = cc in
-        (d, is, place j e d n (subst (λ z. IsPlaced j z d) same q) h one)
+      -- What two terms say where their parts at a place are refused.
+      pub part_complains : (e : TypeError Key Id Name) (r : RelateFault Key Id Name) →
+          IsFaultOfPart (named_place a i) (Unrelated e) r → ErrorOf m set c st (part_at c (head_of a) i v) e x y →
+          (d : TypeError Key Id Name) × (r ≡ Unrelated d) × ErrorByForms m set c st v d a b
+      part_complains e r (no_place is n) h = (
+        e,
+        is,
+        hand_on e (λ p ts us d. term_handed e k p ts i (nth i ts) (nth i us)
+            (subst (IsTerm k) d f) (subst IsByParts d o) (subst (λ t. named_place t i ≡ None) d n)) h one,
+      )
+      part_complains e r (no_error is n) h = absurd (n e refl)
+      part_complains e r (unplaced d p n is) h =
+          let same : d ≡ e = cc in (
+            e,
+            is,
+            hand_on e (λ q ts us w. term_unplaced e q ts i (nth i ts) (nth i us) (subst IsByParts w o)
+                (subst (λ z. NamesNoPlace z) same n)) h one,
+          )
+      part_complains e r (placed {j} z d n p q is) h =
+          let same : z ≡ e = cc in
+          (d, is, place j e d n (subst (λ z. IsPlaced j z d) same q) h one)
 
 placed_known : {Key Id Name : Type 0} (m : Meaning Key Id Name) (j : ℕ) (e d : TypeError Key Id Name) → IsPlaced j e d →
     KnowsError m e → KnowsError m d
