@@ -1,12 +1,12 @@
 -- What terms and bindings are built of, step after step.
-use Rattle.std.proofs.Common.{◌≡◌, ◌⊎◌, ℕ, zero, suc, refl, sym, ap, ap₂, ◌∙◌, inl, inr, subst, subst₂, Bool, true, false}
+use Rattle.std.proofs.Common.{◌≡◌, ◌⊎◌, ℕ, zero, suc, refl, sym, ap, ap₂, ◌∙◌, inl, inr, subst, Bool, true, false}
 use Rattle.std.proofs.Common.{List, [], ◌∷◌, ◌++◌, All, IsTrue, Option, Some, None, get_or, nat_eq, cond}
 use Rattle.std.proofs.lemmas.Bool.{false≢true}
 use Rattle.std.proofs.lemmas.List.Elements.{All-nil, All-append}
 use Rattle.term_enums.specs.declared.Variance.{Variance}
-use Rattle.relation_terms.specs.Heads.{BoundKind, VarKind, Leaf, variable, bound, placeholder, atom, unknown}
+use Rattle.relation_terms.specs.Heads.{BoundKind, VarKind, variable, bound, placeholder, atom, unknown}
 use Rattle.relation_terms.specs.Heads.{value, value_branch, unevaluated, expression}
-use Rattle.relation_terms.specs.Trees.{Tree, leaf, node, bind, nil, cons, nth, Assign, apply, tree_at, put, inst}
+use Rattle.relation_terms.specs.Trees.{Tree, leaf, node, bind, nil, cons, nth, Assign, apply, tree_at, inst}
 use Rattle.relation_contexts.specs.Stores.{Store, Entry, unbound, same_as, bound_to, entry_of, entry_term, bound_term}
 use Rattle.relation_contexts.specs.Stores.{through, resolve, resolved}
 use Rattle.relation_contexts.specs.Goals.{Goal}

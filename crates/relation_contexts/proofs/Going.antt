@@ -1,14 +1,12 @@
 -- States in a row, what is made and bound between them, and sizes and budgets over parts of the work.
-use Rattle.std.proofs.Common.{ℕ, suc, zero, ◌+◌, ◌*◌, ◌≤◌, ◌<◌, ◌≡◌, ◌⊎◌, refl, arith, ap, sym, ◌∙◌, subst, zero-add, le_trans, inl, inr, List, [], ◌∷◌, ◌++◌, append_assoc, length, get_or}
-use native.Mathlib.Decide.{dec_le}
+use Rattle.std.proofs.Common.{ℕ, suc, zero, ◌+◌, ◌*◌, ◌≤◌, ◌<◌, ◌≡◌, refl, arith, ap, sym, ◌∙◌, subst, zero-add, le_trans, List, [], ◌∷◌, ◌++◌, append_assoc, get_or}
 use Rattle.std.proofs.Math.Nat.{suc-add, mul-le-mul}
-use Rattle.std.proofs.lemmas.List.{append-nil, get_or_past}
-use Rattle.relation_terms.specs.Heads.{VarKind, type_var, int_var, float_var, const_var, region_var}
+use Rattle.std.proofs.lemmas.List.{append-nil}
 use Rattle.relation_terms.specs.Trees.{Tree, cons}
-use Rattle.relation_contexts.specs.Stores.{Store, Entry, unbound, same_as, bound_to, entry_of, IsMade, weight, counts_bound, tally, all_bound}
+use Rattle.relation_contexts.specs.Stores.{Store, Entry, unbound, entry_of, weight, tally}
 use Rattle.relation_contexts.specs.Steps.{IsLater}
 use Rattle.relation_contexts.specs.Measures.{grown, depth, Goes}
-use Rattle.relation_contexts.proofs.Classes.{entry_kept, stands_from, stands_through}
+use Rattle.relation_contexts.proofs.Classes.{entry_kept, stands_through}
 
 pub later_itself : (st : Store) → IsLater st st
 later_itself st = record {
