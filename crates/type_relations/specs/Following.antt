@@ -1,7 +1,4 @@
 -- What of a relation follows its interner and its context, and what stands.
-use Rattle.std.specs.Prelude.{IsTrue}
-use Rattle.relation_terms.specs.declared.terms.keys.ArgsKey.{ArgsKey}
-use Rattle.relation_terms.specs.Trees.{known}
 use Rattle.relation_terms.specs.Meaning.{Meaning, Extends}
 use Rattle.relation_contexts.specs.Contexts.{Context}
 use Rattle.relation_contexts.specs.ContextCalls.{Grows}

@@ -4,7 +4,7 @@ use Rattle.relation_terms.specs.Trees.{Tree, node, known}
 use Rattle.relation_terms.proofs.Stays.{extends_on}
 use Rattle.relation_contexts.specs.Parts.{head_of}
 use Rattle.type_relations.specs.Arguments.{args_head}
-use Rattle.relation_contexts.specs.Lawful.{Asked, Related, Shown, MayAnswer, items_in}
+use Rattle.relation_contexts.specs.Lawful.{Asked, Related, Shown, MayAnswer}
 use Rattle.relation_contexts.proofs.Building.{built_as}
 use Rattle.relation_contexts.proofs.Passing.{as_err, asked_later, refused_again, noted_related, noted_refused, made_or_not, shown_now}
 use Rattle.type_relations.proofs.Arguments.{args_heads, over_later}

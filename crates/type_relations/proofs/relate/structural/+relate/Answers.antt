@@ -1,4 +1,4 @@
-use Rattle.std.proofs.Common.{ap₂, suc, ◌+◌, ◌*◌, IfOk, rules, ◌≡◌, ◌≢◌, ◌↔◌, ◌<◌, IsTrue, refl, sym, ap, ◌∙◌, subst, subst₂, arith, Ok, Err, OnOk}
+use Rattle.std.proofs.Common.{ap₂, suc, ◌+◌, ◌*◌, IfOk, rules, ◌≡◌, ◌≢◌, ◌<◌, IsTrue, refl, sym, ap, ◌∙◌, subst, subst₂, arith, Ok, Err, OnOk}
 use Rattle.std.proofs.lemmas.Bool.{false≢true}
 use Rattle.term_enums.specs.declared.Variance.TheVariants.{Bivariant}
 use Rattle.relation_terms.specs.declared.terms.generic_arg.GenericArgKind.TheVariants.{Lifetime, Ty, Const}

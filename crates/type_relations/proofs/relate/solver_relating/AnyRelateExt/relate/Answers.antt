@@ -8,7 +8,7 @@ use Rattle.relation_contexts.specs.Goals.{goals_of, KnowsGoal, MakesOneTree}
 use Rattle.relation_contexts.specs.OneUniverse.{all_unbound}
 use Rattle.relation_contexts.specs.Lawful.{Related, ExactResult, items_of}
 use Rattle.type_relations.specs.Solving.{solving_in, solver_manner}
-use Rattle.relation_contexts.proofs.Going.{later_itself, goes_nowhere}
+use Rattle.relation_contexts.proofs.Going.{later_itself}
 use Rattle.relation_contexts.proofs.Full.{makes_to_instantiate}
 use Rattle.type_relations.proofs.Unifying.{exact_itself}
 use Rattle.relation_contexts.proofs.Passing.{as_err}
