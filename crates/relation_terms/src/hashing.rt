@@ -6,7 +6,8 @@ use std::hash::Hasher;
 
 const MULTIPLIER: u64 = 0x9e37_79b9_7f4a_7c15;
 
-/// Hashes keys that are numbers, and what is made of these: each number by one multiplication, and one of 16 bytes by two.
+/// Hashes keys that are numbers, and what is made of these: each number by one multiplication, and one of 16 bytes by
+/// two.
 ///
 /// The hasher that a table has by default reads a number byte by byte, which takes longer than all else that finding a
 /// key takes.
