@@ -2,7 +2,7 @@
 use Rattle.std.specs.Prelude.{◌≡◌, ◌⊎◌, ℕ, suc, ◌<◌, ◌≤◌, min, List, [], ◌∷◌, ◌++◌, map, length, IsTrue}
 use Rattle.term_enums.specs.declared.Variance.{Variance}
 use Rattle.term_enums.specs.declared.Variance.TheVariants.{Invariant}
-use Rattle.relation_terms.specs.Heads.{BoundKind, bound_sort, VarKind, int_var, float_var, var_sort, Head, Leaf}
+use Rattle.relation_terms.specs.Heads.{BoundKind, bound_sort, VarKind, int_var, float_var, var_sort, Head, Leaf, alias}
 use Rattle.relation_terms.specs.Heads.{variable, placeholder, atom}
 use Rattle.relation_terms.specs.Trees.{Tree, leaf, node, bind, nil, cons, Assign, apply, inst, Leaves}
 use Rattle.relation_terms.specs.Erasure.{erase}
@@ -263,6 +263,18 @@ pub record EntersForall (before after : Store) (ks : List BoundKind) (body opene
   pub opens : LeavesBody before after body opened ⊎ ((StaysWithin 0 body → ⊥) ×
       EntersUniverse before after ks body opened)
 
+-- No alias type stands in a tree.
+abbrev pub IsNoAlias : Head → Type 0
+IsNoAlias (alias k d) = ⊥
+IsNoAlias h = Unit {0}
+
+abbrev pub LacksAliases : Tree → Type 0
+LacksAliases (leaf l) = Unit {0}
+LacksAliases (node h ts) = IsNoAlias h × LacksAliases ts
+LacksAliases (bind ks t) = LacksAliases t
+LacksAliases nil = Unit {0}
+LacksAliases (cons t ts) = LacksAliases t × LacksAliases ts
+
 -- A tree with some places replaced by new variables of their sort.
 pub data IsGeneralised (before after : Store) : Tree → Tree → Type 0 where
   kept : {t u : Tree} → t ≡ u → IsGeneralised before after t u
@@ -301,8 +313,8 @@ pub record Instantiates (before after : Store) (v : Variance) (k : VarKind) (n :
   pub stays_sound : IsSound before → IsSound after
   pub keeps : (w : Interpretation) (s : Assign) → Satisfies w before s → s k n ≡ apply s source →
       Extends before s (λ s'. Satisfies w after s')
-  pub keeps_erased : (s : Assign) → IsErasedSolution before s → Unifies s (leaf (variable k n)) source →
-      ExtendsErased before s (IsErasedSolution after)
+  pub keeps_erased : LacksAliases (apply (resolved before) source) → (s : Assign) → IsErasedSolution before s →
+      Unifies s (leaf (variable k n)) source → ExtendsErased before s (IsErasedSolution after)
   pub regions_alone : v ≡ Invariant → IsFirstOrder source → IsFirstOrderStore before →
       Leaves (IsNamedBy before (universe_of before k n)) (apply (resolved before) source) →
       erase term ≡ erase (apply (resolved before) source)

@@ -378,7 +378,8 @@ pub trait InferCtxtLike {
         requires source_covered { IsCovered (((state self.old).meaning).ty source_ty.now) }
         requires source_no_variable { IsNotVariable type_var (((state self.old).meaning).ty source_ty.now) }
         ensures grows { Grows (state self.old) (state self.new) }
-        ensures instantiates { BindsTy state self.old self.new instantiation_variance target_vid source_ty.now result }
+        ensures instantiates { let g = structurally_relate_aliases in let v = instantiation_variance in
+            BindsTy g state self.old self.new v target_vid source_ty.now result }
         ensures rest { MarksNew (state self.old) (state self.new) };
 
     /// The same of a constant variable and a constant that is no variable, at `Invariant`, with `CyclicConst`.
@@ -395,7 +396,8 @@ pub trait InferCtxtLike {
         requires source_covered { IsCovered (((state self.old).meaning).const_ source_ct.now) }
         requires source_no_variable { IsNotVariable const_var (((state self.old).meaning).const_ source_ct.now) }
         ensures grows { Grows (state self.old) (state self.new) }
-        ensures instantiates { BindsConst state self.old self.new target_vid source_ct.now result }
+        ensures instantiates { let g = structurally_relate_aliases in
+            BindsConst g state self.old self.new target_vid source_ct.now result }
         ensures rest { MarksNew (state self.old) (state self.new) };
 
     /// Records that `sup` outlives `sub`. After `OutOfMemory` nothing was recorded.
