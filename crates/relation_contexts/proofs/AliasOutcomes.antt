@@ -3,7 +3,7 @@ use Rattle.std.proofs.Common.{◌≡◌, ◌⊎◌, ℕ, refl, sym, ap, ◌∙�
 use Rattle.std.proofs.lemmas.List.Elements.{All-nil, All-cons, All-head}
 use Rattle.term_enums.specs.declared.Variance.{Variance}
 use Rattle.term_enums.specs.declared.Variance.TheVariants.{Covariant, Contravariant, Invariant, Bivariant}
-use Rattle.relation_terms.specs.declared.terms.enums.AliasRelationDirection.TheVariants.{Equate}
+use Rattle.term_enums.specs.declared.AliasRelationDirection.TheVariants.{Equate}
 use Rattle.relation_terms.specs.Heads.{type_sort, VarKind, type_var, const_var, var_sort, variable, bound, placeholder, atom, unknown}
 use Rattle.relation_terms.specs.Trees.{Tree, leaf, node, bind, nil, cons, Assign, apply, IsTerm}
 use Rattle.relation_contexts.specs.Relation.{Items, Interpretation, at, Rel, AliasRule, alias_types, equal_consts, error_left, error_right, sort_of, IsError}

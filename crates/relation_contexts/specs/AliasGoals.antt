@@ -2,7 +2,7 @@
 use Rattle.std.specs.Prelude.{◌≡◌, ◌⊎◌, ℕ, List, [], ◌∷◌, Bool, IsTrue, IsFalse, Option, Some, None}
 use Rattle.term_enums.specs.declared.Variance.{Variance}
 use Rattle.term_enums.specs.declared.Variance.TheVariants.{Covariant, Contravariant, Invariant, Bivariant}
-use Rattle.relation_terms.specs.declared.terms.enums.AliasRelationDirection.TheVariants.{Equate, Subtype}
+use Rattle.term_enums.specs.declared.AliasRelationDirection.TheVariants.{Equate, Subtype}
 use Rattle.relation_terms.specs.Heads.{type_sort, const_sort, VarKind, type_var, Head, variable}
 use Rattle.relation_terms.specs.Trees.{Tree, leaf, node, bind, nil, cons, IsTerm}
 use Rattle.relation_contexts.specs.Relation.{Items, at, IsError}
