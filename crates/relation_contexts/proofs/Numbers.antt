@@ -11,7 +11,7 @@ use Rattle.relation_terms.specs.Trees.{Tree, leaf, node, bind, nil, cons, Assign
 use Rattle.relation_terms.specs.Erasure.{erase, erase_atom}
 use Rattle.relation_terms.specs.Meaning.{Meaning}
 use Rattle.relation_folds.specs.declared.error.TypeError.TheVariants.{Sorts}
-use Rattle.relation_contexts.specs.Relation.{Interpretation, Items, IsValueLeaf, IsError, StaysWithin}
+use Rattle.relation_contexts.specs.Relation.{Interpretation, Items, IsValueLeaf, IsError, StaysWithin, IsAlias}
 use Rattle.relation_contexts.specs.Stores.{Store, bound_to, entry_term, IsMade, IsAssignment, IsIntegerAtom, IsFloatAtom}
 use Rattle.relation_contexts.specs.Stores.{IsIntegerTerm, IsFloatTerm, MayStandFor, InContext, IsSound, Satisfies, resolved}
 use Rattle.relation_contexts.specs.Stores.{weight, counts_bound}
@@ -20,7 +20,7 @@ use Rattle.relation_contexts.specs.Steps.{InstantiatesNumber, IsNumberFor, HasNo
 use Rattle.relation_contexts.specs.Measures.{Goes}
 use Rattle.relation_contexts.specs.Outcomes.{Exact, NoEqualTerms, NoUnifier}
 use Rattle.relation_contexts.specs.Settings.{Settings}
-use Rattle.relation_contexts.specs.Errors.{IsUnnormalized, by_forms, ErrorOf, HaveNoError, AreAlike, AreBindable, IsVariableFor, of_forms, sorts}
+use Rattle.relation_contexts.specs.Errors.{by_forms, ErrorOf, HaveNoError, AreAlike, AreBindable, IsVariableFor, of_forms, sorts}
 use Rattle.relation_contexts.specs.Parts.{IsFormed}
 use Rattle.relation_contexts.specs.Covered.{IsCovered}
 use Rattle.relation_contexts.proofs.Covered.{covered_no_error, covered_normal, normal_not_left}
@@ -296,8 +296,8 @@ module _ (st : Store) (k : VarKind) (i : IsNumber k) (n : ℕ) (made : IsMade st
       (decides : v ≢ Bivariant) where
     pub number_error : m.ty x ≡ leaf (variable k n) → m.ty y ≡ t →
         ErrorOf m j w st v (Sorts (record { expected = x; found = y })) (m.ty x) (m.ty y)
-    number_error p q = by_forms (normal_not_left j (m.ty x) (m.ty y) (λ o. subst IsUnnormalized p o)
-        (λ o. covered_normal t c (subst IsUnnormalized q o)))
+    number_error p q = by_forms (normal_not_left j (m.ty x) (m.ty y) (λ o. subst IsAlias p o)
+        (λ o. covered_normal t c (subst IsAlias q o)))
         (of_forms x y decides refl refl bindable (sorts no_error (λ a. not_alike (subst₂ AreAlike p q a))))
       where
         bindable : AreBindable (m.ty x) (m.ty y) → ⊥
@@ -313,7 +313,7 @@ module _ (st : Store) (k : VarKind) (i : IsNumber k) (n : ℕ) (made : IsMade st
     pub number_error_back : m.ty x ≡ t → m.ty y ≡ leaf (variable k n) →
         ErrorOf m j w st v (Sorts (record { expected = x; found = y })) (m.ty x) (m.ty y)
     number_error_back p q = by_forms (normal_not_left j (m.ty x) (m.ty y)
-        (λ o. covered_normal t c (subst IsUnnormalized p o)) (λ o. subst IsUnnormalized q o))
+        (λ o. covered_normal t c (subst IsAlias p o)) (λ o. subst IsAlias q o))
         (of_forms x y decides refl refl bindable (sorts no_error (λ a. not_alike (sym (subst₂ AreAlike p q a)))))
       where
         bindable : AreBindable (m.ty x) (m.ty y) → ⊥

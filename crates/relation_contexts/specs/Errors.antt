@@ -30,7 +30,7 @@ use Rattle.relation_folds.specs.declared.error.TypeError.TheVariants.{Sorts, Cyc
 use Rattle.relation_folds.specs.declared.error.TypeError.TheVariants.{ArgumentSorts, ArgumentMutability, ProjectionMismatched}
 use Rattle.relation_folds.specs.declared.error.TypeError.TheVariants.{VariadicMismatch, SafetyMismatch, AbiMismatch, ArgCount}
 use Rattle.relation_folds.specs.declared.error.TypeError.TheVariants.{Traits, ExistentialMismatch}
-use Rattle.relation_contexts.specs.Relation.{Items, plain_atom, sort_of, part_at, IsError}
+use Rattle.relation_contexts.specs.Relation.{Items, plain_atom, sort_of, part_at, IsError, IsAlias}
 use Rattle.relation_contexts.specs.Stores.{Store, bound_to, entry_of, resolved, universe_of, MayStandFor}
 use Rattle.relation_contexts.specs.Steps.{OneClass}
 use Rattle.relation_contexts.specs.Settings.{Settings, LeavesAliases, LeavesOpaque}
@@ -295,12 +295,6 @@ pub data IsReadAs (st : Store) : Tree → Tree → Type 0 where
   by_binding : {t u v : Tree} (k : VarKind) (n : ℕ) → t ≡ leaf (variable k n) → entry_of st k n ≡ bound_to u →
       IsReadAs st u v → IsReadAs st t v
 
--- An alias type, or a constant that isn't evaluated.
-abbrev pub IsUnnormalized : Tree → Type 0
-IsUnnormalized (node (alias k d) ts) = Unit {0}
-IsUnnormalized (node (unevaluated d) ts) = Unit {0}
-IsUnnormalized t = ⊥
-
 -- An opaque type.
 abbrev pub IsOpaque : Tree → Type 0
 IsOpaque (node (alias opaque_alias d) ts) = Unit {0}
@@ -314,7 +308,7 @@ IsOpaqueBeside t u = IsOpaque t
 -- A pair is left to a goal, as a relation is set up: one of the two is an alias, and aliases are; or an opaque type beside
 -- no variable, and opaque types are.
 abbrev pub IsLeftToGoal : Settings → Tree → Tree → Type 0
-IsLeftToGoal k a b = (LeavesAliases k × (IsUnnormalized a ⊎ IsUnnormalized b)) ⊎
+IsLeftToGoal k a b = (LeavesAliases k × (IsAlias a ⊎ IsAlias b)) ⊎
     (LeavesOpaque k × (IsOpaqueBeside a b ⊎ IsOpaqueBeside b a))
 
 -- How two terms are brought together: as a pair that is met, which may be left to a goal, or a variable bound by it; or

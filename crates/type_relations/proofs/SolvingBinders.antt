@@ -105,6 +105,7 @@ same_changes st = record {
   same_universes = λ k. refl;
   same_constraints = refl;
   universe_stands = omega arith;
+  taint_stands = λ h. h;
   same_budget = refl;
 }
 
