@@ -5,8 +5,8 @@ use Rattle.relation_terms.specs.Heads.{Head, value, value_type, value_branch}
 use Rattle.relation_terms.specs.Trees.{Tree, node, cons, nil, nth}
 use Rattle.relation_contexts.specs.Relation.{Items, at, parts, part_at}
 use Rattle.relation_contexts.specs.Parts.{parts_of, head_of, const_parts_of, const_head_of, branches_of}
-use Rattle.relation_contexts.specs.Errors.{AreOfOneForm, over_parts, one_leaf, parameters, AreOfOneConst, values}
-use Rattle.relation_contexts.specs.Errors.{expressions, const_parameters, one_value, as_many_branches, one_const_leaf}
+use Rattle.relation_contexts.specs.Errors.{AreOfOneForm, over_parts, over_aliases, one_leaf, parameters, AreOfOneConst, values}
+use Rattle.relation_contexts.specs.Errors.{expressions, over_arguments, const_parameters, one_value, as_many_branches, one_const_leaf}
 use Rattle.relation_contexts.specs.Settings.{Settings}
 use Rattle.relation_contexts.specs.Agreeing.{Agree}
 use Rattle.relation_contexts.proofs.Agreeing.{agree_anything, agree_same, agree_atoms}
@@ -27,6 +27,8 @@ next_agrees set c h v i xs ys f g j l = go (below_or i j l)
 pub form_agrees : (set : Settings) (c : Items) (v : Variance) (a b : Tree) → AreOfOneForm a b →
     Agree set c (parts (head_of a) 0 v) (parts_of a) (parts_of b) → Agree set c (at v) a b
 form_agrees set c v a b (over_parts d e n) g = subst₂ (Agree set c (at v)) (sym d) (sym e)
+    (inr (refl, subst₂ (λ x y. Agree set c (parts (head_of x) 0 v) (parts_of x) (parts_of y)) d e g))
+form_agrees set c v a b (over_aliases d e n) g = subst₂ (Agree set c (at v)) (sym d) (sym e)
     (inr (refl, subst₂ (λ x y. Agree set c (parts (head_of x) 0 v) (parts_of x) (parts_of y)) d e g))
 form_agrees set c v a b (one_leaf d e) g = agree_same set c v a b (d ∙ sym e)
 form_agrees set c v a b (parameters {x} {y} d e p) g = subst₂ (Agree set c (at v)) (sym d) (sym e) (agree_atoms set c v x y p)
@@ -55,6 +57,8 @@ const_agrees set c v a b (values {t} {u} {v = x} {w = y} d e (as_many_branches {
     subst₂ (Agree set c (at v)) (sym d) (sym e) (values_agree set c v t u x y
     (subst₂ (Agree set c (at v)) (sym m) (sym n) (inr (refl, branches))))
 const_agrees set c v a b (expressions {k} {ts} {us} d e n) g = subst₂ (Agree set c (at v)) (sym d) (sym e)
+    (inr (refl, subst₂ (λ x y. Agree set c (parts (const_head_of x) 0 v) (const_parts_of x) (const_parts_of y)) d e g))
+const_agrees set c v a b (over_arguments {d = i} {ts} {us} d e n) g = subst₂ (Agree set c (at v)) (sym d) (sym e)
     (inr (refl, subst₂ (λ x y. Agree set c (parts (const_head_of x) 0 v) (const_parts_of x) (const_parts_of y)) d e g))
 const_agrees set c v a b (one_const_leaf d e) g = agree_same set c v a b (d ∙ sym e)
 const_agrees set c v a b (const_parameters {x} {y} d e p) g =

@@ -11,7 +11,7 @@ use Rattle.relation_contexts.specs.Covered.{IsCovered}
 use Rattle.relation_contexts.specs.Relation.{Items, IsError, IsAlias}
 use Rattle.relation_contexts.specs.Settings.{Settings}
 use Rattle.relation_contexts.specs.Errors.{Meeting, as_pair, as_forms, ErrorByForms, ErrorAs, by_forms}
-use Rattle.relation_contexts.specs.Errors.{AreOfOneForm, over_parts, one_leaf, parameters}
+use Rattle.relation_contexts.specs.Errors.{AreOfOneForm, over_parts, over_aliases, one_leaf, parameters}
 use Rattle.relation_contexts.specs.Errors.{IsOpaque, IsOpaqueBeside, IsLeftToGoal}
 use Rattle.relation_contexts.specs.Parts.{IsByParts, parts_of, branches_of, const_parts_of}
 
@@ -44,13 +44,6 @@ covered_part t i l c = covered_nth (parts_of t) i l (covered_parts t c)
 pub covered_const_part : (t : Tree) (i : ℕ) → i < count (const_parts_of t) → IsCovered t →
     IsCovered (nth i (const_parts_of t))
 covered_const_part t i l c = covered_nth (const_parts_of t) i l (covered_const_parts t c)
-
--- It is no error.
-pub covered_no_error : (t : Tree) → IsCovered t → IsError t → ⊥
-covered_no_error (leaf (atom type_error)) c e = c
-covered_no_error (leaf (atom const_error)) c e = c
-covered_no_error (leaf (atom x)) c e = e
-covered_no_error t c e = e
 
 -- What is neither an alias nor an unevaluated constant is left to no goal.
 opaque_alias_type : (t : Tree) → IsOpaque t → IsAlias t
@@ -94,6 +87,7 @@ by_parts_normal t p u = u
 
 pub one_form_normal : (a b : Tree) → AreOfOneForm a b → (IsAlias a → ⊥) → IsAlias b → ⊥
 one_form_normal a b (over_parts {h} {ts} {us} d e n) f u = f (subst IsAlias (sym d) (head_normal h us ts (subst IsAlias e u)))
+one_form_normal a b (over_aliases d e n) f u = f (subst IsAlias (sym d) tt)
 one_form_normal a b (one_leaf d e) f u = subst IsAlias e u
 one_form_normal a b (parameters d e n) f u = subst IsAlias e u
 
@@ -102,12 +96,3 @@ parts_not_left k a b p q = normal_not_left k a b (by_parts_normal a p) (by_parts
 
 pub form_not_left : (k : Settings) (a b : Tree) → IsByParts a → AreOfOneForm a b → IsLeftToGoal k a b → ⊥
 form_not_left k a b p o = normal_not_left k a b (by_parts_normal a p) (one_form_normal a b o (by_parts_normal a p))
-
--- Nor is what relating has rules for.
-pub covered_normal : (t : Tree) → IsCovered t → IsAlias t → ⊥
-covered_normal (node (alias k d) ts) c u = c.0
-covered_normal (node (unevaluated d) ts) c u = c.0
-covered_normal t c u = u
-
-pub covered_not_left : (k : Settings) (a b : Tree) → IsCovered a → IsCovered b → IsLeftToGoal k a b → ⊥
-covered_not_left k a b c d = normal_not_left k a b (covered_normal a c) (covered_normal b d)

@@ -40,7 +40,6 @@ use Rattle.relation_contexts.proofs.Composing.{steps_compose, first_goals}
 use Rattle.relation_contexts.proofs.Growing.{All_front}
 use Rattle.relation_contexts.proofs.Standing.{later_term}
 use Rattle.relation_contexts.proofs.Agreeing.{agree_anything}
-use Rattle.relation_contexts.proofs.Covered.{covered_not_left}
 use Rattle.relation_contexts.proofs.Answering.{same_environment, same_settings, same_items, may_itself, may_later, if_ok_both}
 use Rattle.relation_contexts.specs.OneUniverse.{KeepsUniverse, KeepsUniverseOf, LeadsInUniverse, BindsNoMore}
 use Rattle.relation_contexts.proofs.OneUniverse.{keeps_itself, keeps_binds, kept_then, binds_as_many, leads_itself, led_keeps, led_binds, led_fewer}
@@ -731,9 +730,8 @@ module _ {Key Id Name K : Type 0} (M : Manners) (F : Tree → Type 0) (r : State
   }
 
   pub parts_left : (a b x y : K) → x ≡ a → y ≡ b → Asked M r r.ambient (tree a) (tree b) → F (tree a) → F (tree b) →
-      Stepped M F r r (tree a) (tree b) tree (Ok (Parts x y))
-  parts_left a b x y e d k f g =
-      let left = covered_not_left r.kept.settings (tree a) (tree b) k.left_taken.1 k.right_taken.1 in
+      (IsLeftToGoal r.kept.settings (tree a) (tree b) → ⊥) → Stepped M F r r (tree a) (tree b) tree (Ok (Parts x y))
+  parts_left a b x y e d k f g left =
       subst₂ (λ x y. Stepped M F r r (tree a) (tree b) tree (Ok (Parts x y))) (sym e) (sym d) (itself_left a b k f g left)
 
 -- A result that is a fault.
