@@ -11,7 +11,7 @@ use Rattle.relation_terms.specs.Trees.{Tree, leaf, node, bind, nil, cons, Assign
 use Rattle.relation_terms.specs.Erasure.{erase, erase_atom}
 use Rattle.relation_terms.specs.Meaning.{Meaning}
 use Rattle.relation_folds.specs.declared.error.TypeError.TheVariants.{Sorts}
-use Rattle.relation_contexts.specs.Relation.{Interpretation, Items, IsValueLeaf, IsError, StaysWithin, IsAlias}
+use Rattle.relation_contexts.specs.Relation.{Interpretation, Items, IsValueLeaf, IsError, StaysWithin}
 use Rattle.relation_contexts.specs.Stores.{Store, bound_to, entry_term, IsMade, IsAssignment, IsIntegerAtom, IsFloatAtom}
 use Rattle.relation_contexts.specs.Stores.{IsIntegerTerm, IsFloatTerm, MayStandFor, InContext, IsSound, Satisfies, resolved}
 use Rattle.relation_contexts.specs.Stores.{weight, counts_bound}
@@ -20,10 +20,9 @@ use Rattle.relation_contexts.specs.Steps.{InstantiatesNumber, IsNumberFor, HasNo
 use Rattle.relation_contexts.specs.Measures.{Goes}
 use Rattle.relation_contexts.specs.Outcomes.{Exact, NoEqualTerms, NoUnifier}
 use Rattle.relation_contexts.specs.Settings.{Settings}
-use Rattle.relation_contexts.specs.Errors.{by_forms, ErrorOf, HaveNoError, AreAlike, AreBindable, IsVariableFor, of_forms, sorts}
+use Rattle.relation_contexts.specs.Errors.{by_forms, ErrorOf, IsLeftToGoal, HaveNoError, AreAlike, AreBindable, IsVariableFor, of_forms, sorts}
 use Rattle.relation_contexts.specs.Parts.{IsFormed}
 use Rattle.relation_contexts.specs.Covered.{IsCovered}
-use Rattle.relation_contexts.proofs.Covered.{covered_no_error, covered_normal, normal_not_left}
 use Rattle.relation_contexts.proofs.Full.{full_by, written_plain}
 use Rattle.relation_contexts.proofs.Standing.{itself_stands}
 use Rattle.relation_contexts.proofs.Written.{is_later, equal, weight_after, kinds_stand, others}
