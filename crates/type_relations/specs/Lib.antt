@@ -16,6 +16,7 @@ pub mod NumberVars
 pub mod Solving
 pub mod Bivariance
 pub mod Emitting
+pub mod Leaving
 pub mod Combining
 pub mod Stepping
 pub mod SolverTerms
