@@ -222,7 +222,7 @@ module _ {Key Id Name : Type 0} (r0 : State Key Id Name) (L K : Type 0) (lawful 
         keeps = (both.0).keeps;
       };
       errors = λ i j c st f h g o. of_entries (read_later now st h root u root_reads) (itself refl) (l.errors i j c st f g o);
-      agrees = λ c z. agree_root c v k target root t refl (stands_sort k t stands);
+      agrees = λ set c z. agree_root set c v k target root t refl (stands_sort k t stands);
     }
 
     right_leads : (w : Variance) → Lifts Key Id Name now w v t u → Leads r q [] t root w t u
@@ -235,7 +235,7 @@ module _ {Key Id Name : Type 0} (r0 : State Key Id Name) (L K : Type 0) (lawful 
         keeps = (both.1).keeps;
       };
       errors = λ i j c st f h g o. of_entries (itself refl) (read_later now st h root u root_reads) (l.errors i j c st f g o);
-      agrees = λ c z. agree_root_back c v k target t root refl (stands_sort k t stands);
+      agrees = λ set c z. agree_root_back set c v k target t root refl (stands_sort k t stands);
     }
 
     exactly : ExactStep was now root t u t × ExactStep was now t root t u

@@ -3,7 +3,7 @@ pub mod SmallTerms
 pub mod DiagInfo
 pub mod Handing
 pub mod UniverseLaws
-pub mod Subtyping
+pub mod Alone
 pub mod Arguments
 pub mod Terms
 pub mod Keyed

@@ -13,12 +13,11 @@ ghost use Rattle.type_relations.specs.Keyed.{AreOver, AskedConsts, AskedRegions,
 ghost use Rattle.type_relations.specs.Rounds.{AskedBinders};
 ghost use Rattle.type_relations.specs.Solving.{solver_manner};
 ghost use Rattle.type_relations.specs.SolverTerms.{KeepsGoals, SolverCombinesShallow, SolverCombinesVars};
-ghost use Rattle.type_relations.specs.SolverTerms.{SolverOpened, SolverRelatedRegions, SolverStepRegisters};
+ghost use Rattle.type_relations.specs.SolverTerms.{SolverOpened, SolverRelatedRegions};
 ghost use Rattle.type_relations.specs.SolverTerms.{SolverStepped, SolverSteps, SolverStepsBinders, SolverStepsConsts};
-ghost use Rattle.type_relations.specs.SolverTerms.{SolverStepsRegions, SolverStepsToSubtype, SolverStepsTys};
+ghost use Rattle.type_relations.specs.SolverTerms.{SolverStepsRegions, SolverStepsAlone, SolverStepsTys};
 ghost use Rattle.type_relations.specs.SolverTerms.{solver_through};
 ghost use Rattle.type_relations.specs.Combining.{IsNoTyVar};
-ghost use Rattle.type_relations.specs.Subtyping.{IsTyVar};
 
 use crate::relate::Step;
 use crate::relate::combine::{
@@ -68,7 +67,7 @@ impl<'a, Infcx: InferCtxtLike> SolverRelating<'a, Infcx> {
         requires asked { AskedTys solver_manner (solver_through Infcx.state self.old) a.now b.now }
         ensures stepped { SolverSteps Infcx.state self.old self.new a.now b.now result }
         ensures steps { SolverStepsTys Infcx.state self.old self.new a.now b.now result }
-        ensures registers { SolverStepsToSubtype Infcx.state self.old self.new a.now b.now result }
+        ensures alone { SolverStepsAlone Infcx.state self.old self.new a.now b.now result }
     {
         if a == b {
             return Ok(Step::Done(*a));
@@ -97,9 +96,6 @@ impl<'a, Infcx: InferCtxtLike> SolverRelating<'a, Infcx> {
         requires b_shallow { let r = Infcx.state self.old.infcx.now in IsShallow r.store ((r.meaning).ty b.now) }
         ensures stepped { SolverSteps Infcx.state self.old self.new a.now b.now result }
         ensures combines { SolverCombinesShallow Infcx.state self.old self.new a.now b.now result }
-        ensures registers { let m = (Infcx.state self.old.infcx.now).meaning in
-            IsTyVar (m.ty a.now) → IsTyVar (m.ty b.now) →
-            SolverStepRegisters Infcx.state self.old self.new a.now b.now result }
     {
         match ty_var(&*self.infcx, a) {
             Some(x) => match ty_var(&*self.infcx, b) {
@@ -207,7 +203,6 @@ impl<'a, Infcx: InferCtxtLike> SolverRelating<'a, Infcx> {
         requires b_unresolved { IsUnresolved (Infcx.state self.old.infcx.now) type_var y.0 }
         ensures stepped { SolverSteps Infcx.state self.old self.new a.now b.now result }
         ensures combines { SolverCombinesVars Infcx.state self.old self.new a.now b.now result }
-        ensures registers { SolverStepRegisters Infcx.state self.old self.new a.now b.now result }
     {
         let param_env = self.param_env;
         match self.ambient_variance {
