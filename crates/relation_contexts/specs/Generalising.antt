@@ -123,8 +123,8 @@ abbrev pub GoesInto : StructurallyRelateAliases → Store → VarKind → ℕ �
 GoesInto g st k n e h ts = e ≡ outside → (IsSeen g h → ⊥) → Leaves (IsNoObstacle st k n) ts
 
 -- From one stage to another a term was generalised for a variable, which stands for itself nowhere in it: the places of
--- its leaves that do not stay are taken by new variables, of the universe of the variable, and so is that of the outermost
--- alias in which an obstacle stands, where aliases are left to goals.
+-- its leaves that do not stay are taken by new variables, of the universe of the variable, and so is that of the
+-- outermost alias in which an obstacle stands, where aliases are left to goals.
 pub data Generalised (g : StructurallyRelateAliases) (c : Items) (start : Store) (k : VarKind) (n : ℕ) :
     Turn → Stage → Tree → Stage → Tree → Type 0 where
   -- equal types become one term on one side at one variance, with all that stands in it

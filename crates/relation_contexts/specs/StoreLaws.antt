@@ -64,8 +64,8 @@ GeneralisingIsOne = (g : StructurallyRelateAliases) (c : Items) (start : Store) 
 -- Binding a variable of a type or a constant to what a term comes to, generalised for it, instantiates it; new
 -- variables on the way cost nothing, and the binding squares sizes at most.
 abbrev pub GeneralisingInstantiates : Type 0
-GeneralisingInstantiates = (g : StructurallyRelateAliases) (c : Items) (before after : Store) (v : Variance) (k : VarKind)
-    (n : ℕ) (source term : Tree) → IsTypeOrConst k → InstantiatesBy g c before after v k n source term →
+GeneralisingInstantiates = (g : StructurallyRelateAliases) (c : Items) (before after : Store) (v : Variance)
+    (k : VarKind) (n : ℕ) (source term : Tree) → IsTypeOrConst k → InstantiatesBy g c before after v k n source term →
     NumbersNameNothing before → IsSound before → IsTermIn before source → MayStandFor k source →
     Instantiates before after v k n source term × Goes (weight before source) before after
 

@@ -12,6 +12,7 @@ use Rattle.relation_folds.specs.declared.error.RelateFault.TheVariants.{Unrelate
 use Rattle.relation_contexts.specs.declared.infer_ctxt.TypingMode.TheVariants.{PostAnalysis}
 use Rattle.relation_contexts.specs.declared.relate.Step.{Step}
 use Rattle.relation_contexts.specs.declared.relate.Step.TheVariants.{Done, Parts, Again}
+use Rattle.relation_contexts.specs.declared.relate.StructurallyRelateAliases.{StructurallyRelateAliases}
 use Rattle.relation_contexts.specs.Contexts.{Context}
 use Rattle.relation_contexts.specs.ContextCalls.{Instantiated, Reads}
 use Rattle.relation_contexts.specs.Lawful.{State}
@@ -77,31 +78,32 @@ module _ {Key Id Name : Type 0} where
         CombinesTys m before after a b result
 
   module _ (m n : Meaning Key Id Name) (before after : Store) where
-    -- What binding a variable of constants to what a constant comes to answers.
-    abbrev pub Binds : ℕ → ConstKey Key → Result (ConstKey Key) (RelateFault Key Id Name) → Type 0
-    Binds i a answer = Instantiated (seen m before) (seen n after) Invariant const_var i (m.const_ a) (λ m. m.const_)
-        CyclicConst answer
+    -- What binding a variable of constants to what a constant comes to answers, by how aliases are related.
+    abbrev pub Binds : StructurallyRelateAliases → ℕ → ConstKey Key →
+        Result (ConstKey Key) (RelateFault Key Id Name) → Type 0
+    Binds g i a answer = Instantiated (seen m before) (seen n after) g Invariant const_var i (m.const_ a)
+        (λ m. m.const_) CyclicConst answer
 
     -- What comes of two constants that were resolved shallowly: two variables are made one, and the left one is the
     -- answer; a variable is bound to what the other side comes to, and the bound constant is to be related with that
     -- side, which is the answer, at invariance; or nothing is bound, and the fault is that of binding; two constants
     -- with outermost forms are left to be related by their parts.
-    pub data CombinesShallow (a b : ConstKey Key) (result : Result (Step (ConstKey Key)) (RelateFault Key Id Name)) :
-        Type 0 where
+    pub data CombinesShallow (g : StructurallyRelateAliases) (a b : ConstKey Key)
+        (result : Result (Step (ConstKey Key)) (RelateFault Key Id Name)) : Type 0 where
       roots_equated : (i j : ℕ) → m.const_ a ≡ leaf (variable const_var i) → m.const_ b ≡ leaf (variable const_var j) →
-          Joins before after const_var i j → n ≡ m → result ≡ Ok (Done a) → CombinesShallow a b result
+          Joins before after const_var i j → n ≡ m → result ≡ Ok (Done a) → CombinesShallow g a b result
       left_root_bound : (i : ℕ) (x : ConstKey Key) → m.const_ a ≡ leaf (variable const_var i) →
-          IsFormedConst (m.const_ b) → Binds i b (Ok x) → result ≡ Ok (Again a b x b Invariant b) →
-          CombinesShallow a b result
+          IsFormedConst (m.const_ b) → Binds g i b (Ok x) → result ≡ Ok (Again a b x b Invariant b) →
+          CombinesShallow g a b result
       left_root_refused : (i : ℕ) (f : RelateFault Key Id Name) → m.const_ a ≡ leaf (variable const_var i) →
-          IsFormedConst (m.const_ b) → Binds i b (Err f) → result ≡ Err f → CombinesShallow a b result
+          IsFormedConst (m.const_ b) → Binds g i b (Err f) → result ≡ Err f → CombinesShallow g a b result
       right_root_bound : (i : ℕ) (x : ConstKey Key) → m.const_ b ≡ leaf (variable const_var i) →
-          IsFormedConst (m.const_ a) → Binds i a (Ok x) → result ≡ Ok (Again a b a x Invariant a) →
-          CombinesShallow a b result
+          IsFormedConst (m.const_ a) → Binds g i a (Ok x) → result ≡ Ok (Again a b a x Invariant a) →
+          CombinesShallow g a b result
       right_root_refused : (i : ℕ) (f : RelateFault Key Id Name) → m.const_ b ≡ leaf (variable const_var i) →
-          IsFormedConst (m.const_ a) → Binds i a (Err f) → result ≡ Err f → CombinesShallow a b result
+          IsFormedConst (m.const_ a) → Binds g i a (Err f) → result ≡ Err f → CombinesShallow g a b result
       formed_by_parts : IsFormedConst (m.const_ a) → IsFormedConst (m.const_ b) → n ≡ m → after ≡ before →
-          result ≡ Ok (Parts a b) → CombinesShallow a b result
+          result ≡ Ok (Parts a b) → CombinesShallow g a b result
 
     -- A constant is read as one that was resolved shallowly.
     pub record ReadsShallow (a x : ConstKey Key) : Type 0 where
@@ -109,11 +111,12 @@ module _ {Key Id Name : Type 0} where
       pub shallow : IsShallowConst before (m.const_ x)
 
     -- What comes of two constants: of one and the same it is the answer; else what comes of both, resolved shallowly.
-    pub data CombinesConsts (a b : ConstKey Key) (result : Result (Step (ConstKey Key)) (RelateFault Key Id Name)) :
-        Type 0 where
-      one_constant : m.const_ a ≡ m.const_ b → n ≡ m → after ≡ before → result ≡ Ok (Done a) → CombinesConsts a b result
+    pub data CombinesConsts (g : StructurallyRelateAliases) (a b : ConstKey Key)
+        (result : Result (Step (ConstKey Key)) (RelateFault Key Id Name)) : Type 0 where
+      one_constant : m.const_ a ≡ m.const_ b → n ≡ m → after ≡ before → result ≡ Ok (Done a) →
+          CombinesConsts g a b result
       resolved_first : (x y : ConstKey Key) → m.const_ a ≢ m.const_ b → ReadsShallow a x → ReadsShallow b y →
-          CombinesShallow x y result → CombinesConsts a b result
+          CombinesShallow g x y result → CombinesConsts g a b result
 
 -- Between what a context is before a call and after it.
 module _ {Key Id Name : Type 0} (c d : Context Key Id Name) where
@@ -121,11 +124,13 @@ module _ {Key Id Name : Type 0} (c d : Context Key Id Name) where
   abbrev pub TysMeet : TyKey Key → TyKey Key → Result (Step (TyKey Key)) (RelateFault Key Id Name) → Type 0
   TysMeet a b result = CombinesTys c.meaning c.store d.store a b result
 
-  abbrev pub ConstsMeet : ConstKey Key → ConstKey Key → Result (Step (ConstKey Key)) (RelateFault Key Id Name) → Type 0
-  ConstsMeet a b result = CombinesConsts c.meaning d.meaning c.store d.store a b result
+  abbrev pub ConstsMeet : StructurallyRelateAliases → ConstKey Key → ConstKey Key →
+      Result (Step (ConstKey Key)) (RelateFault Key Id Name) → Type 0
+  ConstsMeet g a b result = CombinesConsts c.meaning d.meaning c.store d.store g a b result
 
-  abbrev pub ShallowMeet : ConstKey Key → ConstKey Key → Result (Step (ConstKey Key)) (RelateFault Key Id Name) → Type 0
-  ShallowMeet a b result = CombinesShallow c.meaning d.meaning c.store d.store a b result
+  abbrev pub ShallowMeet : StructurallyRelateAliases → ConstKey Key → ConstKey Key →
+      Result (Step (ConstKey Key)) (RelateFault Key Id Name) → Type 0
+  ShallowMeet g a b result = CombinesShallow c.meaning d.meaning c.store d.store g a b result
 
 -- The same between two states of a relation.
 module _ {Key Id Name : Type 0} (r q : State Key Id Name) where
@@ -135,4 +140,5 @@ module _ {Key Id Name : Type 0} (r q : State Key Id Name) where
 
   abbrev pub ConstsCombine : ConstKey Key → ConstKey Key → Result (Step (ConstKey Key)) (RelateFault Key Id Name) →
       Type 0
-  ConstsCombine a b result = CombinesConsts r.meaning q.meaning r.store q.store a b result
+  ConstsCombine a b result = CombinesConsts r.meaning q.meaning r.store q.store
+      r.kept.settings.structurally_relate_aliases a b result

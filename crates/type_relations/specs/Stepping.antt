@@ -57,8 +57,8 @@ module _ {Key Id Name : Type 0} (r q : State Key Id Name) where
   -- What binding a type variable, at a variance, to what a type comes to answers. No goal is registered.
   pub record BindsTyVar (v : Variance) (i : ℕ) (t : TyKey Key) (answer : Result (TyKey Key) (RelateFault Key Id Name)) :
       Type 0 where
-    pub instantiated : Instantiated (seen r.meaning r.store) (seen q.meaning q.store) v type_var i ((r.meaning).ty t)
-        (λ m. m.ty) CyclicTy answer
+    pub instantiated : Instantiated (seen r.meaning r.store) (seen q.meaning q.store)
+        r.kept.settings.structurally_relate_aliases v type_var i ((r.meaning).ty t) (λ m. m.ty) CyclicTy answer
     pub goals : q.goals ≡ r.goals
 
   -- What comes of two types that were resolved shallowly. Of two type variables what is said above. A type variable on

@@ -101,7 +101,7 @@ fn meet_shallow<Infcx: InferCtxtLike>(
     requires a_shallow { let c = Infcx.state infcx.old in IsShallowConst c.store ((c.meaning).const_ a.now) }
     requires b_shallow { let c = Infcx.state infcx.old in IsShallowConst c.store ((c.meaning).const_ b.now) }
     ensures grows { Grows (Infcx.state infcx.old) (Infcx.state infcx.new) }
-    ensures combines { ShallowMeet (Infcx.state infcx.old) (Infcx.state infcx.new) a.now b.now result }
+    ensures combines { ShallowMeet (Infcx.state infcx.old) (Infcx.state infcx.new) aliases a.now b.now result }
 {
     match const_var(&*infcx, a) {
         Some(x) => match const_var(&*infcx, b) {
@@ -154,7 +154,7 @@ pub(crate) fn meet_consts<Infcx: InferCtxtLike>(
     requires a_taken { TakesConst (Infcx.state infcx.old) a.now }
     requires b_taken { TakesConst (Infcx.state infcx.old) b.now }
     ensures grows { Grows (Infcx.state infcx.old) (Infcx.state infcx.new) }
-    ensures combines { ConstsMeet (Infcx.state infcx.old) (Infcx.state infcx.new) a.now b.now result }
+    ensures combines { ConstsMeet (Infcx.state infcx.old) (Infcx.state infcx.new) aliases a.now b.now result }
 {
     if a == b {
         return Ok(Step::Done(*a));
