@@ -171,7 +171,8 @@ pub trait InferCtxtLike {
         requires made { IsMade (state self.now).store const_var var.0 }
         ensures { IsRootOf (state self.now) const_var var.0 result.0 };
 
-    /// The type that a type variable's class is bound to, or else its root.
+    /// The type that a type variable's class is bound to, or else its root. Of another type variable that is read in
+    /// turn.
     fn opportunistic_resolve_ty_var(&self, vid: TyVid) -> Ty<Self::Interner>
         requires lawful { (state self.now).lawful }
         requires made { IsMade (state self.now).store type_var vid.0 }
@@ -206,7 +207,8 @@ pub trait InferCtxtLike {
         ensures reads { let c = state self.now in Reads c (leaf (variable region_var vid.0)) (c.meaning.region result) }
         ensures itself { ((state self.now).meaning).region result ≡ leaf (variable region_var vid.0) };
 
-    /// The type itself, or for a variable what its class is bound to, or else its root. It takes no memory.
+    /// The type itself, or for a variable what its class is bound to, or else its root. Of another variable that is read
+    /// in turn. It takes no memory.
     fn shallow_resolve(&self, ty: &Ty<Self::Interner>) -> Ty<Self::Interner>
         requires lawful { (state self.now).lawful }
         requires ty_known { KnowsTy (state self.now) ty.now }

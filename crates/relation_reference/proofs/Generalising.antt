@@ -83,7 +83,7 @@ clear_stays st k n v (placeholder (bound_kind const_kind x) w i) o s = s
 clear_stays st k n v (atom x) o s = tt
 clear_stays st k n v unknown o s = tt
 
-clear_gives : (st : Store) (k : VarKind) (n : ℕ) (l : Leaf) (j : VarKind) → l ≢ variable k n → gives_way_to l ≡ Some j → IsNoObstacle st k n l
+pub clear_gives : (st : Store) (k : VarKind) (n : ℕ) (l : Leaf) (j : VarKind) → l ≢ variable k n → gives_way_to l ≡ Some j → IsNoObstacle st k n l
 clear_gives st k n (variable i m) j o e = o
 clear_gives st k n (bound q d i) j o e = tt
 clear_gives st k n (placeholder (bound_kind region_kind x) w i) j o e = tt
@@ -223,7 +223,7 @@ none_kept (Ok x) e = absurd (cc)
 none_kept (Err f) e = tt
 
 -- Errors pass through.
-module _ {I Key Id Name Span S T : Type 0} (meaning : I → Meaning Key Id Name) (eq : MetKey Key → MetKey Key → Bool) (eqt : TyKey Key → TyKey Key → Bool)
+module _ {I Key Id Name Span S : Type 0} (meaning : I → Meaning Key Id Name) (eq : MetKey Key → MetKey Key → Bool)
     (before after : RefCtxt I Key Id Name Span) (g : StructurallyRelateAliases) (k : VarKind) (i u : ℕ) (cyclic : TypeError Key Id Name)
     (old new : HashMap (MetKey Key) (TyKey Key) S) (p : Part Key Id) where
   abbrev m : Meaning Key Id Name
@@ -250,8 +250,8 @@ module _ {I Key Id Name Span S T : Type 0} (meaning : I → Meaning Key Id Name)
   to_any e v o (Err Budget) h = h
   to_any e v o (Err Memory) h = tt
 
-  pub generalises_no_type : (found : HashSet (TyKey Key) T) (e : Side) (v : Variance) → sort_of t ≢ type_sort → (r : Result (Part Key Id) (RelateFault Key Id Name)) → Generalises meaning eq eqt before after g k i u cyclic (new_part e v) old new found p r → Generalises meaning eq eqt before after g k i u cyclic (any_part e v) old new found p r
-  generalises_no_type found e v o r h = record { lawful = h.lawful; grown = h.grown; universe = h.universe; makes = h.makes; rest = h.rest; clear = h.clear; answers = to_any e v o r h.answers }
+  pub generalises_no_type : {T : Type 0} (eqt : TyKey Key → TyKey Key → Bool) (found : HashSet (TyKey Key) T) (e : Side) (v : Variance) → sort_of t ≢ type_sort → (r : Result (Part Key Id) (RelateFault Key Id Name)) → Generalises meaning eq eqt before after g k i u cyclic (new_part e v) old new found p r → Generalises meaning eq eqt before after g k i u cyclic (any_part e v) old new found p r
+  generalises_no_type eqt found e v o r h = record { lawful = h.lawful; grown = h.grown; universe = h.universe; makes = h.makes; rest = h.rest; clear = h.clear; answers = to_any e v o r h.answers }
 
   -- Of a type that is not met yet.
   pub fails_any : (e : Side) (v : Variance) → (r s : Result (Part Key Id) (RelateFault Key Id Name)) (f : RelateFault Key Id Name) → r ≡ Err f → s ≡ Err f → Answers (new_part e v) new r → Answers (any_part e v) new s

@@ -21,7 +21,7 @@ use Rattle.relation_contexts.specs.declared.relate.StructurallyRelateAliases.{St
 use Rattle.relation_contexts.specs.declared.relate.StructurallyRelateAliases.TheVariants.{Yes, No}
 use Rattle.relation_contexts.specs.Relation.{Items}
 use Rattle.relation_contexts.specs.Lawful.{items_of}
-use Rattle.relation_contexts.specs.Stores.{Store, universe_of, InContext, IsSound}
+use Rattle.relation_contexts.specs.Stores.{Store, universe_of, IsMade, InContext, IsSound}
 use Rattle.relation_contexts.specs.Generalising.{Stays, gives_way_to, Side, outside, inside, side_in, Met, Stage}
 use Rattle.relation_contexts.specs.Generalising.{Turn, any_part, new_part, parts_from, Generalised, MakesUnbound}
 use Rattle.relation_contexts.specs.Generalising.{Obstacle, cycle, beyond, IsNoObstacle, IsSeen, IsClear, StopsAt}
@@ -206,6 +206,15 @@ module _ {Key Id Name S : Type 0} (eq : MetKey Key → MetKey Key → Bool) (m n
   GeneralisesTo cyclic p (Err Budget) = ⊥
   GeneralisesTo cyclic p (Err Memory) = Unit {0}
 
+-- Where a term was generalised, type variables stay marked as they were since any earlier context of which the term is:
+-- each that was made is marked as related to one that there was, or to none.
+abbrev pub MarksFrom : {I Key Id Name Span : Type 0} → (I → Meaning Key Id Name) → RefCtxt I Key Id Name Span →
+    RefCtxt I Key Id Name Span → Tree → Type 0
+MarksFrom meaning before after t = (start : RefCtxt _ _ _ _ _) →
+    ((n : ℕ) → IsMade (store_in meaning start) type_var n → IsMade (store_in meaning before) type_var n) →
+    MarksNew (context_in meaning start) (context_in meaning before) → InContext (store_in meaning start) t →
+    MarksNew (context_in meaning start) (context_in meaning after)
+
 -- A part was generalised in a context, for variable `i` of kind `k` in universe `u`; unbound variables may have been
 -- made, also where that failed, and those of types were marked as related to ones that there were, or to none.
 pub record Generalises {I Key Id Name Span S T : Type 0} (meaning : I → Meaning Key Id Name)
@@ -219,7 +228,7 @@ pub record Generalises {I Key Id Name Span S T : Type 0} (meaning : I → Meanin
   pub universe : (after.inner.universe).0 ≡ (before.inner.universe).0
   pub makes : MakesUnbound u (store_of (meaning before.interner) before.inner)
       (store_of (meaning after.interner) after.inner)
-  pub rest : MarksNew (context_in meaning before) (context_in meaning after)
+  pub rest : MarksFrom meaning before after (part_tree (meaning before.interner) p)
   pub clear : OnOk result (AreClear eqt (meaning after.interner) k i u found)
   pub answers : GeneralisesTo eq (meaning before.interner) (meaning after.interner)
       (store_of (meaning before.interner) before.inner) (store_of (meaning after.interner) after.inner) g k i u turn old

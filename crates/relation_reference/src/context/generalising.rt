@@ -19,7 +19,7 @@ ghost use Rattle.relation_contexts.specs.ContextCalls.{MarksNew};
 ghost use Rattle.relation_reference.specs.RefCtxt.{store_in, context_in, part_term};
 ghost use Rattle.relation_reference.specs.Remembering.{vid_kind, vid_number, vid_universe};
 ghost use Rattle.relation_reference.specs.Generalises.{side_of, new_kind, met_at, IsFate, IsSure, Keeps, Generalises};
-ghost use Rattle.relation_reference.specs.Generalises.{AreClear, MayGoInto, GeneralisesFor};
+ghost use Rattle.relation_reference.specs.Generalises.{AreClear, MayGoInto, MarksFrom, GeneralisesFor};
 ghost use Rattle.relation_reference.specs.declared.context.generalising.Fate.TheVariants.{ByParts, GivesWay};
 ghost use Rattle.term_enums.specs.declared.Variance.TheVariants.{Invariant};
 
@@ -345,7 +345,7 @@ impl<I: Interner> RefCtxt<I> {
         ensures makes { IfOk result (λ x. (j : VarKind) → new_kind term.now ≡ Some j → (n : ℕ) ×
             MakesVariable (store_in I.meaning self.old) (store_in I.meaning self.new) j n universe.0 ×
             (part_tree (I.meaning self.new.interner) x ≡ leaf (variable j n))) }
-        ensures rest { MarksNew (context_in I.meaning self.old) (context_in I.meaning self.new) }
+        ensures rest { MarksFrom I.meaning self.old self.new (part_term I.meaning self.old term.now) }
         ensures refused { OnErr result (store_in I.meaning self.new ≡ store_in I.meaning self.old) }
     {
         match term {
@@ -370,7 +370,7 @@ impl<I: Interner> RefCtxt<I> {
         ensures makes { IfOk result (λ x. (n : ℕ) ×
             MakesVariable (store_in I.meaning self.old) (store_in I.meaning self.new) type_var n universe.0 ×
             (part_tree (I.meaning self.new.interner) x ≡ leaf (variable type_var n))) }
-        ensures rest { MarksNew (context_in I.meaning self.old) (context_in I.meaning self.new) }
+        ensures rest { (t : Tree) → MarksFrom I.meaning self.old self.new t }
         ensures refused { OnErr result (store_in I.meaning self.new ≡ store_in I.meaning self.old) }
     {
         Ok(Part::Ty(self.next_ty_var_in(universe)?))
