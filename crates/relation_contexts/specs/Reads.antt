@@ -2,8 +2,8 @@
 use Rattle.std.specs.Prelude.{◌≡◌, ◌⊎◌, ℕ, suc, ◌+◌, ◌≤◌, Bool, None, []}
 use Rattle.relation_contexts.specs.declared.relate.StructurallyRelateAliases.{StructurallyRelateAliases}
 use Rattle.term_enums.specs.declared.Variance.{Variance}
-use Rattle.relation_terms.specs.Heads.{type_sort, head_sort, atom_sort, leaf_sort, VarKind, type_var, BoundKind, Head, variable, bound, placeholder, atom}
-use Rattle.relation_terms.specs.Trees.{Tree, leaf, node}
+use Rattle.relation_terms.specs.Heads.{VarKind, type_var, Head, variable}
+use Rattle.relation_terms.specs.Trees.{Tree, leaf}
 use Rattle.relation_contexts.specs.Relation.{Items, IsAlias}
 use Rattle.relation_contexts.specs.Stores.{Store, bound_to, entry_of, bound_term}
 use Rattle.relation_contexts.specs.Steps.{OneClass, Instantiates}

@@ -1,5 +1,5 @@
 -- Binding a variable, as a step of a relation over a context, and being refused.
-use Rattle.std.proofs.Common.{◌≡◌, ◌≢◌, ◌⊎◌, ℕ, ◌+◌, ◌*◌, ◌<◌, ◌≤◌, refl, sym, ap, ap₂, ◌∙◌, arith, inl, inr, subst, subst₂, [], IsTrue}
+use Rattle.std.proofs.Common.{◌≡◌, ◌≢◌, ◌⊎◌, ℕ, suc, ◌+◌, ◌<◌, ◌≤◌, refl, sym, ap, ap₂, ◌∙◌, arith, inl, inr, subst, subst₂, [], IsTrue}
 use Rattle.std.proofs.Common.{Ok, Err}
 use Rattle.term_enums.specs.declared.Variance.{Variance}
 use Rattle.term_enums.specs.declared.Variance.TheVariants.{Covariant, Contravariant, Invariant, Bivariant}
@@ -19,7 +19,8 @@ use Rattle.relation_contexts.specs.Steps.{Instantiates, RefusesToInstantiate, In
 use Rattle.relation_contexts.specs.Kits.{StaysBuilt}
 use Rattle.relation_contexts.proofs.Building.{term_built, builds_instantiated, built_same, built_unbound}
 use Rattle.relation_contexts.specs.Outcomes.{StepsTo, CarriesOver, ExactStep}
-use Rattle.relation_contexts.specs.Measures.{Goes}
+use Rattle.relation_contexts.specs.Measures.{Goes, grown as squared}
+use Rattle.relation_contexts.specs.declared.relate.StructurallyRelateAliases.{StructurallyRelateAliases}
 use Rattle.relation_contexts.specs.Settings.{Settings}
 use Rattle.relation_contexts.specs.Errors.{ErrorOf, BindingError, of_binding, of_binding_back, of_entries, IsReadAs, itself, by_binding}
 use Rattle.relation_contexts.specs.ErasureLaws.{IsTypeOrConst}
@@ -37,15 +38,16 @@ use Rattle.relation_contexts.proofs.Answering.{covariantly}
 use Rattle.type_relations.proofs.Constants.{fixed, constants_at_each_variance}
 use Rattle.type_relations.proofs.ConstErrors.{const_error_alike}
 use Rattle.type_relations.proofs.Turning.{turned}
-use Rattle.relation_contexts.proofs.Going.{goes_nowhere, goes_within}
+use Rattle.relation_contexts.proofs.Going.{goes_nowhere, goes_within, grown-mono}
 use Rattle.relation_contexts.proofs.ReadAs.{read_later}
 use Rattle.relation_contexts.proofs.Resolved.{resolved_free, resolved_weight}
 use Rattle.relation_contexts.proofs.Standing.{later_term, term_context, term_of_made}
 use Rattle.relation_contexts.proofs.Agreeing.{stands_sort, agree_root, agree_root_back}
 use Rattle.relation_contexts.proofs.Opening.{instantiating_steps}
 use Rattle.relation_contexts.proofs.Exactness.{instantiating_is_exact_step}
-use Rattle.type_relations.proofs.Binding.{square_above}
-use Rattle.relation_contexts.proofs.BindingGeneralised.{generalised_instantiates, generalised_goes, generalised_weights, generalised_first_order}
+use Rattle.relation_contexts.proofs.AliasSteps.{no_larger}
+use Rattle.relation_contexts.proofs.Instantiating.{resolved_first_order}
+use Rattle.relation_contexts.proofs.BindingGeneralised.{generalised_instantiates, generalised_goes, generalised_weights, generalised_first_order, first_order_lacks}
 use Rattle.type_relations.proofs.BindingRefused.{generalising_refuses, refused}
 use Rattle.type_relations.proofs.GeneralisingErrors.{beyond_error}
 use Rattle.relation_contexts.proofs.NewVariables.{adds, adds_goes}
@@ -125,12 +127,15 @@ const_lifts_back st v d x y k f = record {
 }
 
 module _ {Key Id Name : Type 0} (r0 : State Key Id Name) (L K : Type 0) (lawful : L → K) where
+  abbrev al : StructurallyRelateAliases
+  al = r0.kept.settings.structurally_relate_aliases
+
   -- A variable was bound to what a term comes to.
   module _ (k : VarKind) (counted : IsTypeOrConst k) (c d : Context Key Id Name) (grown : Extends c.meaning d.meaning)
       (before : IsSound c.store) (numbers : NumbersNameNothing c.store) (all : HasCoveredBindings d.store) (target : ℕ) (t u : Tree)
       (covered : IsCovered t) (t_in : IsTermIn c.store t) (t_known : IsTrue (known t)) (stands : MayStandFor k t)
       (x : Variance) (seen : r0.ambient ≡ Invariant → x ≡ Invariant) (u_known : IsTrue (known u))
-      (f : InstantiatesBy (items_of c.meaning) c.store d.store x k target t u) where
+      (f : InstantiatesBy al (items_of c.meaning) c.store d.store x k target t u) where
     abbrev v : Variance
     v = r0.ambient
 
@@ -144,24 +149,25 @@ module _ {Key Id Name : Type 0} (r0 : State Key Id Name) (L K : Type 0) (lawful 
     root = leaf (variable k target)
 
     steps : Instantiates was now x k target t u
-    steps = generalised_instantiates (items_of c.meaning) was now x k target t u counted f numbers before t_in stands
+    steps = generalised_instantiates al (items_of c.meaning) was now x k target t u counted f numbers before t_in stands
 
     goes : (N : ℕ) → weight was t ≤ N → Goes N was now
     goes N small =
-        goes_within small (generalised_goes (items_of c.meaning) was now x k target t u counted f numbers before t_in stands)
+        goes_within small (generalised_goes al (items_of c.meaning) was now x k target t u counted f numbers before t_in stands)
 
     could : InstantiatesNone was → ⊥
     could = instantiates_one was k target counted steps.made steps.was_unbound
         (λ e. let o = steps.one_spent in omega (arith, e, o))
 
     -- The pair that is left is no larger than the square of a pair that is larger than the term.
-    squares : (N : ℕ) → weight was t + 1 ≤ N → weight now u + weight now t ≤ N * N
+    squares : (N : ℕ) → weight was t + 1 ≤ N → weight now u + weight now t ≤ squared 1 N
     squares N h =
-        let w = generalised_weights (items_of c.meaning) was now x k target t u counted f numbers before t_in stands in
-        square_above (weight was t) N (weight now u + weight now t) (ap₂ ◌+◌ w.0 w.1) h
+        let w = generalised_weights al (items_of c.meaning) was now x k target t u counted f numbers before t_in stands in
+        let i = no_larger (weight now u) (weight now t) (weight was t) w.0 w.1 in
+        let j = grown-mono 1 (suc (weight was t)) N (omega (arith, h)) in omega (arith, i, j)
 
     first_order : IsFirstOrder t → IsFirstOrderStore was → IsFirstOrder u × IsFirstOrderStore now
-    first_order = generalised_first_order (items_of c.meaning) was now x k target t u counted f numbers before t_in stands
+    first_order = generalised_first_order al (items_of c.meaning) was now x k target t u counted f numbers before t_in stands
 
     u_in : IsTermIn now u
     u_in = steps.term_in
@@ -238,9 +244,10 @@ module _ {Key Id Name : Type 0} (r0 : State Key Id Name) (L K : Type 0) (lawful 
       agrees = λ set c z. agree_root_back set c v k target t root refl (stands_sort k t stands);
     }
 
-    exactly : ExactStep was now root t u t × ExactStep was now t root t u
-    exactly = instantiating_is_exact_step x was now k target t u (λ j i z e. (before.bindings j i z e).made)
-        (term_context was t t_in) steps
+    exactly : IsFirstOrder t → IsFirstOrderStore was → ExactStep was now root t u t × ExactStep was now t root t u
+    exactly h simple = instantiating_is_exact_step x was now k target t u (λ j i z e. (before.bindings j i z e).made)
+        (term_context was t t_in)
+        (first_order_lacks (apply (resolved was) t) (resolved_first_order was before simple t h)) steps
 
     pair_left : IsFirstOrderStore was → IsFirstOrder t → IsFirstOrderPair now u t
     pair_left f h = let stays = first_order h f in record { left = stays.0; right = h; bindings = stays.1 }
@@ -249,7 +256,7 @@ module _ {Key Id Name : Type 0} (r0 : State Key Id Name) (L K : Type 0) (lawful 
     in_one : v ≡ Invariant → IsFirstOrder t → IsFirstOrderStore was → (w : ℕ) → HasOneUniverse w was →
         Leaves (NamesTypesTo w) t → StaysOf w was now × Leaves (NamesTypesTo w) u
     in_one same h simple =
-        instantiates_in_one (items_of c.meaning) was now x k target t u counted f numbers before t_in stands (seen same) h simple
+        instantiates_in_one al (items_of c.meaning) was now x k target t u counted f numbers before t_in stands (seen same) h simple
 
     left_universe : v ≡ Invariant → IsFirstOrder t → IsFirstOrderStore was → LeadsInUniverse was now root t u t
     left_universe same h simple w p = let z = in_one same h simple w p.variables p.right in
@@ -269,7 +276,7 @@ module _ {Key Id Name : Type 0} (r0 : State Key Id Name) (L K : Type 0) (lawful 
     left_again b w an seen l sure answers = record {
       leads = subst (λ z. Leads r q [] root t z u t) (sym seen) (left_leads w l);
       read_leads = subst (λ z. Leads r q [] root t z u t) (sym seen) (left_leads w l);
-      read_exactly = λ o same pair. (pair_left pair.bindings pair.right, exactly.0);
+      read_exactly = λ o same pair. (pair_left pair.bindings pair.right, (exactly pair.right pair.bindings).0);
       read_asked = asked_now v root t refl t_known root_in (later t t_in) tt covered;
       asked = asked_now (xform v b) u t u_known t_known u_in (later t t_in) u_covered covered;
       answers = subst (λ z. Answers z u t root an) (sym seen) answers;
@@ -287,7 +294,7 @@ module _ {Key Id Name : Type 0} (r0 : State Key Id Name) (L K : Type 0) (lawful 
       leads = subst (λ z. Leads r q [] t root z t u) (sym seen) (right_leads w l);
       read_leads = subst (λ z. Leads r q [] t root z t u) (sym seen) (right_leads w l);
       read_exactly = λ o same pair. let f = pair_left pair.bindings pair.left in
-          (record { left = f.right; right = f.left; bindings = f.bindings }, exactly.1);
+          (record { left = f.right; right = f.left; bindings = f.bindings }, (exactly pair.left pair.bindings).1);
       read_asked = asked_now v t root t_known refl (later t t_in) root_in covered tt;
       asked = asked_now (xform v b) t u t_known u_known (later t t_in) u_in covered u_covered;
       answers = subst (λ z. Answers z t u t an) (sym seen) answers;
@@ -331,7 +338,7 @@ module _ {Key Id Name : Type 0} (r0 : State Key Id Name) (L K : Type 0) (lawful 
         exact = λ o same pair. subst₂ (λ f g. IsFirstOrderPair now f g × ExactStep was now root t f g ×
             LeadsInUniverse was now root t f g) (sym ei) (sym el) (
               pair_left pair.bindings pair.right,
-              exactly.0,
+              (exactly pair.right pair.bindings).0,
               left_universe same pair.right pair.bindings,
             );
         full = λ ha hb. full_could could;
@@ -351,7 +358,7 @@ module _ {Key Id Name : Type 0} (r0 : State Key Id Name) (L K : Type 0) (lawful 
         exact = λ o same pair. subst₂ (λ f g. IsFirstOrderPair now f g × ExactStep was now t root f g ×
             LeadsInUniverse was now t root f g) (sym ei) (sym el) (
               back (pair_left pair.bindings pair.left),
-              exactly.1,
+              (exactly pair.left pair.bindings).1,
               right_universe same pair.left pair.bindings,
             );
         full = λ ha hb. full_could could;
@@ -398,46 +405,46 @@ module _ {Key Id Name : Type 0} (r0 : State Key Id Name) (L K : Type 0) (lawful 
       (unresolved : IsMade c.store k target × (entry_of c.store k target ≡ unbound))
       (other : apply (resolved c.store) t ≢ leaf (variable k target)) (means : Meaning Key Id Name → X → Tree)
       (cyclic : X → TypeError Key Id Name) (x : Variance) (tree : X → Tree)
-      (cycles : (o : Obstacle) → RefusesBy c.store d.store k target t o → o ≡ cycle → (y : X) →
+      (cycles : (o : Obstacle) → RefusesBy al c.store d.store k target t o → o ≡ cycle → (y : X) →
       means d.meaning y ≡ apply (resolved c.store) t →
-      BindingError d.meaning d.store (leaf (variable k target)) t (cyclic y)) where
-    refusing : (N : ℕ) (f : RelateFault Key Id Name) → Instantiated c d x k target t means cyclic (Err f) → Goes N c.store d.store
+      BindingError d.meaning al d.store (leaf (variable k target)) t (cyclic y)) where
+    refusing : (N : ℕ) (f : RelateFault Key Id Name) → Instantiated c d al x k target t means cyclic (Err f) → Goes N c.store d.store
     refusing N (Unrelated g) h = goes_within (omega arith)
-        (generalising_refuses c.store d.store x k target t h.1.0 counted h.1.1 before other).1
+        (generalising_refuses al c.store d.store x k target t h.1.0 counted h.1.1 before other).1
     refusing N Budget h = subst (Goes N c.store) (sym h.1) (goes_nowhere N c.store)
     refusing N Memory h = goes_within (omega arith)
         (adds_goes (adds before (before.below_current k target) h.1))
 
-    unfoldable passes : (N : ℕ) (f : RelateFault Key Id Name) → Instantiated c d x k target t means cyclic (Err f) →
+    unfoldable passes : (N : ℕ) (f : RelateFault Key Id Name) → Instantiated c d al x k target t means cyclic (Err f) →
         Passes N (standing r0 c.meaning c.store L) (standing r0 d.meaning d.store K)
     passes N f h = over_passes r0 grown (refusing N f h) lawful
 
-    full : (f : RelateFault Key Id Name) → Instantiated c d x k target t means cyclic (Err f) → StaysFull c.store d.store
+    full : (f : RelateFault Key Id Name) → Instantiated c d al x k target t means cyclic (Err f) → StaysFull c.store d.store
     full (Unrelated g) h = full_could (instantiates_one c.store k target counted unresolved.0 unresolved.1 (h.1.1).may_spend)
     full Budget h = full_same h.1
     full Memory h = full_could (instantiates_one c.store k target counted unresolved.0 unresolved.1 h.0)
 
-    none_built : (a b : Tree) (f : RelateFault Key Id Name) → Instantiated c d x k target t means cyclic (Err f) →
+    none_built : (a b : Tree) (f : RelateFault Key Id Name) → Instantiated c d al x k target t means cyclic (Err f) →
         StaysBuilt c.store d.store [] a b
     none_built a b (Unrelated g) h = built_unbound a b (h.1.1).makes
     none_built a b Budget h = built_same a b h.1
     none_built a b Memory h = built_unbound a b h.1
 
     -- The error is that of the obstacle.
-    binding_error : (g : TypeError Key Id Name) (o : Obstacle) → RefusesBy c.store d.store k target t o →
+    binding_error : (g : TypeError Key Id Name) (o : Obstacle) → RefusesBy al c.store d.store k target t o →
         ObstacleError (means d.meaning) cyclic (apply (resolved c.store) t) g o →
-        BindingError d.meaning d.store (leaf (variable k target)) t g
+        BindingError d.meaning al d.store (leaf (variable k target)) t g
     binding_error g o f h = go o refl h
       where
         go : (p : Obstacle) → o ≡ p → ObstacleError (means d.meaning) cyclic (apply (resolved c.store) t) g p →
-            BindingError d.meaning d.store (leaf (variable k target)) t g
-        go cycle i h = subst (BindingError d.meaning d.store (leaf (variable k target)) t) (sym h.2) (cycles o f i h.0 h.1)
-        go beyond i h = subst (BindingError d.meaning d.store (leaf (variable k target)) t) (sym h)
-            (beyond_error d.meaning c.store d.store target t before k o f i)
+            BindingError d.meaning al d.store (leaf (variable k target)) t g
+        go cycle i h = subst (BindingError d.meaning al d.store (leaf (variable k target)) t) (sym h.2) (cycles o f i h.0 h.1)
+        go beyond i h = subst (BindingError d.meaning al d.store (leaf (variable k target)) t) (sym h)
+            (beyond_error d.meaning al c.store d.store target t before k o f i)
 
-    refuses : (g : TypeError Key Id Name) → Instantiated c d x k target t means cyclic (Err (Unrelated g)) →
+    refuses : (g : TypeError Key Id Name) → Instantiated c d al x k target t means cyclic (Err (Unrelated g)) →
         RefusesToInstantiate c.store d.store Invariant k target t
-    refuses g h = refused c.store d.store Invariant k target t h.1.0 counted h.1.1 before other
+    refuses g h = refused al c.store d.store Invariant k target t h.1.0 counted h.1.1 before other
 
     -- No further variable is bound.
     none_bound : MakesUnbound (universe_of c.store k target) c.store d.store → all_bound d.store ≡ all_bound c.store
@@ -447,7 +454,7 @@ module _ {Key Id Name : Type 0} (r0 : State Key Id Name) (L K : Type 0) (lawful 
     fewer a b h w p = subst (λ st. all_bound st < all_roots c.store) (sym h)
         (bound_fewer c.store k target counted unresolved.0 unresolved.1)
 
-    pub left_refused : (f : RelateFault Key Id Name) → Instantiated c d x k target t means cyclic (Err f) →
+    pub left_refused : (f : RelateFault Key Id Name) → Instantiated c d al x k target t means cyclic (Err f) →
         Stepped solver_manner F (standing r0 c.meaning c.store L) (standing r0 d.meaning d.store K)
         (leaf (variable k target)) t tree (Err f)
     unfolding passes over_passes
@@ -476,7 +483,7 @@ module _ {Key Id Name : Type 0} (r0 : State Key Id Name) (L K : Type 0) (lawful 
       built = none_built (leaf (variable k target)) t Memory h;
     }
 
-    pub right_refused : (f : RelateFault Key Id Name) → Instantiated c d x k target t means cyclic (Err f) →
+    pub right_refused : (f : RelateFault Key Id Name) → Instantiated c d al x k target t means cyclic (Err f) →
         Stepped solver_manner F (standing r0 c.meaning c.store L) (standing r0 d.meaning d.store K)
         t (leaf (variable k target)) tree (Err f)
     unfolding passes over_passes

@@ -11,9 +11,9 @@ use Rattle.relation_folds.specs.declared.error.RelateFault.{RelateFault}
 use Rattle.term_enums.specs.declared.AliasRelationDirection.TheVariants.{Equate}
 use Rattle.relation_folds.specs.declared.error.RelateFault.TheVariants.{Memory, Unrelated}
 use Rattle.relation_contexts.specs.declared.infer_ctxt.TypingMode.TheVariants.{PostAnalysis}
-use Rattle.relation_contexts.specs.declared.relate.StructurallyRelateAliases.{StructurallyRelateAliases}
 use Rattle.relation_contexts.specs.declared.relate.Step.{Step}
 use Rattle.relation_contexts.specs.declared.relate.Step.TheVariants.{Done, Parts, Again}
+use Rattle.relation_contexts.specs.declared.relate.StructurallyRelateAliases.{StructurallyRelateAliases}
 use Rattle.relation_contexts.specs.Contexts.{Context}
 use Rattle.relation_contexts.specs.ContextCalls.{Instantiated, Reads}
 use Rattle.relation_contexts.specs.AliasGoals.{alias_at}
@@ -84,32 +84,33 @@ module _ {Key Id Name : Type 0} where
     by_parts : IsNoVariable (m.ty a) → IsNoVariable (m.ty b) → after ≡ before → result ≡ Ok (Parts a b) →
         MeetsTys m before after a b result
 
-  module _ (aliases : StructurallyRelateAliases) (m n : Meaning Key Id Name) (before after : Store) where
-    -- What binding a variable of constants to what a constant comes to answers, where aliases are related so.
-    abbrev pub Binds : ℕ → ConstKey Key → Result (ConstKey Key) (RelateFault Key Id Name) → Type 0
-    Binds i a answer = Instantiated (seen m before) (seen n after) aliases Invariant const_var i (m.const_ a)
+  module _ (m n : Meaning Key Id Name) (before after : Store) where
+    -- What binding a variable of constants to what a constant comes to answers, by how aliases are related.
+    abbrev pub Binds : StructurallyRelateAliases → ℕ → ConstKey Key →
+        Result (ConstKey Key) (RelateFault Key Id Name) → Type 0
+    Binds g i a answer = Instantiated (seen m before) (seen n after) g Invariant const_var i (m.const_ a)
         (λ m. m.const_) CyclicConst answer
 
-    -- What comes of two constants that were resolved shallowly and aren't left to a goal: two variables are made one, and
-    -- the left one is the answer; a variable is bound to what the other side comes to, and the bound constant is to be
-    -- related with that side, which is the answer, at invariance; or nothing is bound, and the fault is that of binding;
-    -- two constants with outermost forms are left to be related by their parts.
-    pub data MeetsConsts (a b : ConstKey Key) (result : Result (Step (ConstKey Key)) (RelateFault Key Id Name)) :
-        Type 0 where
+    -- What comes of two constants that were resolved shallowly and aren't left to a goal, by how aliases are related:
+    -- two variables are made one, and the left one is the answer; a variable is bound to what the other side comes to, and
+    -- the bound constant is to be related with that side, which is the answer, at invariance; or nothing is bound, and the
+    -- fault is that of binding; two constants with outermost forms are left to be related by their parts.
+    pub data MeetsConsts (g : StructurallyRelateAliases) (a b : ConstKey Key)
+        (result : Result (Step (ConstKey Key)) (RelateFault Key Id Name)) : Type 0 where
       roots_equated : (i j : ℕ) → m.const_ a ≡ leaf (variable const_var i) → m.const_ b ≡ leaf (variable const_var j) →
-          Joins before after const_var i j → n ≡ m → result ≡ Ok (Done a) → MeetsConsts a b result
+          Joins before after const_var i j → n ≡ m → result ≡ Ok (Done a) → MeetsConsts g a b result
       left_root_bound : (i : ℕ) (x : ConstKey Key) → m.const_ a ≡ leaf (variable const_var i) →
-          IsFormedConst (m.const_ b) → Binds i b (Ok x) → result ≡ Ok (Again a b x b Invariant b) →
-          MeetsConsts a b result
+          IsFormedConst (m.const_ b) → Binds g i b (Ok x) → result ≡ Ok (Again a b x b Invariant b) →
+          MeetsConsts g a b result
       left_root_refused : (i : ℕ) (f : RelateFault Key Id Name) → m.const_ a ≡ leaf (variable const_var i) →
-          IsFormedConst (m.const_ b) → Binds i b (Err f) → result ≡ Err f → MeetsConsts a b result
+          IsFormedConst (m.const_ b) → Binds g i b (Err f) → result ≡ Err f → MeetsConsts g a b result
       right_root_bound : (i : ℕ) (x : ConstKey Key) → m.const_ b ≡ leaf (variable const_var i) →
-          IsFormedConst (m.const_ a) → Binds i a (Ok x) → result ≡ Ok (Again a b a x Invariant a) →
-          MeetsConsts a b result
+          IsFormedConst (m.const_ a) → Binds g i a (Ok x) → result ≡ Ok (Again a b a x Invariant a) →
+          MeetsConsts g a b result
       right_root_refused : (i : ℕ) (f : RelateFault Key Id Name) → m.const_ b ≡ leaf (variable const_var i) →
-          IsFormedConst (m.const_ a) → Binds i a (Err f) → result ≡ Err f → MeetsConsts a b result
+          IsFormedConst (m.const_ a) → Binds g i a (Err f) → result ≡ Err f → MeetsConsts g a b result
       formed_by_parts : IsFormedConst (m.const_ a) → IsFormedConst (m.const_ b) → n ≡ m → after ≡ before →
-          result ≡ Ok (Parts a b) → MeetsConsts a b result
+          result ≡ Ok (Parts a b) → MeetsConsts g a b result
 
   -- Two constants have outermost forms.
   abbrev pub AreFormedConsts : Meaning Key Id Name → ConstKey Key → ConstKey Key → Type 0
@@ -129,7 +130,7 @@ module _ {Key Id Name : Type 0} (c d : Context Key Id Name) where
 
   abbrev pub ConstsMeet : StructurallyRelateAliases → ConstKey Key → ConstKey Key →
       Result (Step (ConstKey Key)) (RelateFault Key Id Name) → Type 0
-  ConstsMeet aliases a b result = MeetsConsts aliases c.meaning d.meaning c.store d.store a b result
+  ConstsMeet g a b result = MeetsConsts c.meaning d.meaning c.store d.store g a b result
 
 -- The same between two states of a relation.
 module _ {Key Id Name : Type 0} (r q : State Key Id Name) where
@@ -192,7 +193,7 @@ module _ {Key Id Name : Type 0} (r q : State Key Id Name) where
         RegistersNone → result ≡ Err Memory → CombinesShallow a b result
     const_not_left : (IsFormedConst ((r.meaning).const_ a) → IsFormedConst ((r.meaning).const_ b) →
         IsLeftToGoal r.kept.settings ((r.meaning).const_ a) ((r.meaning).const_ b) → ⊥) → q.goals ≡ r.goals →
-        MeetsConsts r.kept.settings.structurally_relate_aliases r.meaning q.meaning r.store q.store a b result →
+        MeetsConsts r.meaning q.meaning r.store q.store r.kept.settings.structurally_relate_aliases a b result →
         CombinesShallow a b result
 
   -- What comes of two constants: of one and the same it is the answer; else what comes of both, resolved shallowly.
