@@ -13,7 +13,7 @@ use Rattle.type_relations.specs.declared.relate.args.ArgVariances.{ArgVariances}
 use Rattle.type_relations.specs.declared.relate.args.ArgVariances.TheVariants.{Invariant, Adt, FnDef}
 use Rattle.relation_contexts.specs.Relation.{forms, part_at, IsRelatedHead, IsAlias}
 use Rattle.relation_contexts.specs.Errors.{ErrorOf, by_forms, IsHandedOn, of_parts, AreOfOneForm}
-use Rattle.relation_contexts.specs.Errors.{over_parts, one_leaf, parameters}
+use Rattle.relation_contexts.specs.Errors.{over_parts, over_aliases, one_leaf, parameters}
 use Rattle.relation_contexts.proofs.Covered.{normal_not_left}
 use Rattle.type_relations.specs.Arguments.{args_head, AreOverItem, adts, functions}
 use Rattle.relation_contexts.specs.Lawful.{State, Manners, MayAnswer, Passes, Refuses, Related, ExactlyRelated, items_in}
@@ -155,6 +155,7 @@ pub over_one_adt : (d e : ℕ) (a b ts us : Tree) → a ≡ node (adt d) ts → 
     AreOverItem d a b ts us
 over_one_adt d e a b ts us x y (over_parts p q n) =
     let k : e ≡ d = cc in adts x (y ∙ ap (λ z. node (adt z) us) k)
+over_one_adt d e a b ts us x y (over_aliases p q n) = cc
 over_one_adt d e a b ts us x y (one_leaf p q) = cc
 over_one_adt d e a b ts us x y (parameters p q i) = cc
 
@@ -162,6 +163,7 @@ pub over_one_function : (d e : ℕ) (a b ts us : Tree) → a ≡ node (fn_def d)
     AreOfOneForm a b → AreOverItem d a b ts us
 over_one_function d e a b ts us x y (over_parts p q n) =
     let k : e ≡ d = cc in functions x (y ∙ ap (λ z. node (fn_def z) us) k)
+over_one_function d e a b ts us x y (over_aliases p q n) = cc
 over_one_function d e a b ts us x y (one_leaf p q) = cc
 over_one_function d e a b ts us x y (parameters p q i) = cc
 

@@ -31,8 +31,8 @@ pub trait HasState<I: Interner> {
 /// these itself, so one recursion serves all relations, and what it does follows from what the steps do.
 ///
 /// The steps ask for terms that the relation's interner knows, that are the relation's own and that it takes at the
-/// ambient variance, which is not `Bivariant`. No relation takes terms of forms that have no rule yet: aliases,
-/// unevaluated constants and errors; nor what a binder does not bind as its list says.
+/// ambient variance, which is not `Bivariant`. No relation takes what a binder does not bind as its list says, nor what
+/// stands for a variable.
 pub trait TypeRelation<I: Interner>: HasState<I> {
     // The interner of its terms.
     ghost interner: { Self → I };
