@@ -15,7 +15,6 @@ use Rattle.relation_contexts.specs.Goals.{Goal, goal_of, IsRegistered}
 use Rattle.relation_contexts.specs.Headline.{IsFirstOrderPair}
 use Rattle.relation_contexts.specs.Kits.{Kit, IsBuiltOf, IsPredicateOf, IsGoalOf, HasNoError, Builds}
 use Rattle.relation_contexts.specs.Lawful.{State, Passes, Stepped, MayAnswer, RegisteredIn, items_in}
-use Rattle.relation_contexts.specs.Measures.{Goes}
 use Rattle.relation_contexts.specs.Outcomes.{Outcome}
 use Rattle.relation_contexts.specs.Relation.{at, sort_of, IsError}
 use Rattle.relation_contexts.specs.OneUniverse.{BindsNoMore}
@@ -26,12 +25,13 @@ use Rattle.relation_contexts.proofs.AliasOutcomes.{errors_relate}
 use Rattle.relation_contexts.proofs.Answering.{may_itself}
 use Rattle.relation_contexts.proofs.Building.{builds_asking, built_same, builds_tainted}
 use Rattle.relation_contexts.proofs.Full.{full_same, full_by}
-use Rattle.relation_contexts.proofs.Going.{goes_nowhere, goes_within}
+use Rattle.relation_contexts.proofs.Going.{goes_within}
 use Rattle.relation_contexts.proofs.OneUniverse.{binds_itself}
 use Rattle.relation_contexts.proofs.Passing.{relates_by}
 use Rattle.type_relations.specs.Combining.{TaintsAlone, KeepsKept}
 use Rattle.type_relations.specs.Emitting.{RegistersGoal}
 use Rattle.type_relations.specs.Solving.{solver_manner}
+use Rattle.type_relations.proofs.GoalPasses.{goal_passes, no_goal_passes}
 use Rattle.type_relations.proofs.OpeningBoth.{changes_goes}
 
 -- Errors.
@@ -58,23 +58,6 @@ module _ {Key Id Name K : Type 0} (F : Tree → Type 0) {r q : State Key Id Name
   -- One goal was registered.
   module _ (p : Tree) {A E : Type 0} {x : A} (h : RegistersGoal {F = E} r q p (Ok x))
       (asks : IsRegistered (items_in r) r.kept.settings r.ambient r.store r.store p) where
-    pub goal_in : All (RegisteredIn r r.store) (asked p ∷ [])
-    goal_in = All-cons (RegisteredIn r r.store) (asked p) [] (record { environment = refl; asks = asks })
-        (All-nil (RegisteredIn r r.store))
-
-    unfoldable pub goal_passes : (n : ℕ) → Passes n r q
-    goal_passes n = record {
-      extends = h.extends;
-      goes = subst (Goes n r.store) (sym h.store) (goes_nowhere n r.store);
-      added = asked p ∷ [];
-      lengthens = h.goals;
-      goals_in = subst (λ st. All (RegisteredIn r st) (asked p ∷ [])) (sym h.store) goal_in;
-      kept = h.kept;
-      ambient = h.ambient;
-      remembered = h.remembered;
-      lawful = h.lawful;
-    }
-
     -- It relates the two, and the answer is one that it does.
     pub goal_step : Outcome (items_in r) r.kept.environment (at r.ambient) r.store r.store r.goals (asked p ∷ []) a b →
         (t : K) → MayAnswer solver_manner q r.ambient a (tree t) → IsTrue (known (tree t)) →
@@ -83,7 +66,7 @@ module _ {Key Id Name K : Type 0} (F : Tree → Type 0) {r q : State Key Id Name
         Stepped solver_manner F r q a b tree (Ok (Done t))
     unfolding goal_passes
     goal_step outcome t answer sure agreeing not_first built = record {
-      passes = goal_passes (weight r.store a + weight r.store b);
+      passes = goal_passes p h asks (weight r.store a + weight r.store b);
       verdict = record {
         outcome = subst (λ st. Outcome (items_in r) r.kept.environment (at r.ambient) r.store st r.goals (asked p ∷ []) a b)
             (sym h.store) outcome;
@@ -101,18 +84,9 @@ module _ {Key Id Name K : Type 0} (F : Tree → Type 0) {r q : State Key Id Name
   -- Or it was not.
   pub goal_refused : (p : Tree) {A E : Type 0} {e : E} → RegistersGoal {A = A} r q p (Err e) →
       Stepped solver_manner F r q a b tree (Err Memory)
+  unfolding no_goal_passes
   goal_refused p h = record {
-    passes = record {
-      extends = h.extends;
-      goes = subst (Goes _ r.store) (sym h.store) (goes_nowhere _ r.store);
-      added = [];
-      lengthens = h.goals ∙ sym (append-nil r.goals);
-      goals_in = All-nil (RegisteredIn r q.store);
-      kept = h.kept;
-      ambient = h.ambient;
-      remembered = h.remembered;
-      lawful = h.lawful;
-    };
+    passes = no_goal_passes p h (weight r.store a + weight r.store b);
     verdict = tt;
     exact = λ z is pair. subst (λ st. BindsNoMore r.store st a b) (sym h.store) (binds_itself r.store a b);
     full = λ ha hb. full_same h.store;

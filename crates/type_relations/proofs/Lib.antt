@@ -49,5 +49,6 @@ pub mod Combining
 pub mod Noting
 pub mod Emitting
 pub mod EmittingBoth
+pub mod GoalPasses
 pub mod Leaving
 pub mod LeavingSteps
