@@ -52,3 +52,6 @@ pub mod EmittingBoth
 pub mod GoalPasses
 pub mod Leaving
 pub mod LeavingSteps
+mod BindingAsked
+mod CombiningTys
+mod Registering
