@@ -6,22 +6,26 @@ ghost use Rattle.relation_terms.specs.Trees.{known, node, count, nth, IsList, li
 ghost use Rattle.relation_terms.specs.Meaning.{Extends, arg_tree};
 ghost use Rattle.term_enums.specs.Variances.{xform};
 ghost use Rattle.relation_contexts.specs.Lawful.{WithMeaning, OnlyMemory};
-ghost use Rattle.type_relations.specs.Keyed.{AreAsMany, AreOver, AskedLists, AskedTys, RelatedLists};
+ghost use Rattle.type_relations.specs.Keyed.{AreAsMany, AreOver, AskedLists, AskedTys, RelatedLists, RelatedOver};
 ghost use Rattle.type_relations.specs.Makers.{TakesLists, GrowsByCall, MakesOverList};
 ghost use Rattle.type_relations.specs.Keyed.{RelatedTys, over_item, part_in};
-ghost use Rattle.type_relations.specs.Arguments.{args_head, head_by, AreOverItem};
+ghost use Rattle.type_relations.specs.Arguments.{args_head, args_meeting, head_by, AreOverItem};
+ghost use Rattle.relation_contexts.specs.Errors.{as_pair};
 ghost use Rattle.relation_contexts.specs.Parts.{head_of};
 
 use crate::relate::TypeRelation;
-use crate::relate::reading::{declared_at, note_declared};
+use crate::relate::forms::aliased_item;
+use crate::relate::reading::{alias_at, declared_at, note_declared};
 use crate::relate::structural::relate_with_variance;
 use relation_folds::error::RelateResult;
+use relation_terms::predicate::AliasTermKind;
 use relation_terms::terms::{
-    DefId, GenericArg, GenericArgs, Interner, ItemOf, OutOfMemory, Ty, TyKind, Variance,
+    AliasTyKind, DefId, GenericArg, GenericArgs, Interner, ItemOf, OutOfMemory, TraitId, Ty, TyKind,
+    Variance,
 };
+use std::alloc::AllocError;
 
 // The variances at which arguments are related.
-#[derive(Clone, Copy)]
 pub(crate) enum ArgVariances<D> {
     // Invariance, of all of them.
     Invariant,
@@ -29,7 +33,25 @@ pub(crate) enum ArgVariances<D> {
     Adt(DefId<D>),
     // The same of a function.
     FnDef(DefId<D>),
+    // Those of an alias type of this kind.
+    AliasTy(AliasTyKind<D>),
+    // Those of an alias term of this kind: an opaque type's are declared.
+    AliasTerm(AliasTermKind<D>),
+    // Invariance, of a reference to this trait.
+    Trait(TraitId<D>),
 }
+
+impl<D: Copy> Clone for ArgVariances<D> {
+    ghost is_clone = { λ source copy. copy ≡ source };
+
+    ghost is_infallible = { λ _. Unit {0} };
+
+    fn clone(&self) -> Result<Self, AllocError> {
+        Ok(*self)
+    }
+}
+
+impl<D: Copy> Copy for ArgVariances<D> {}
 
 // The number of arguments of a list.
 pub(crate) fn args_count<I: Interner>(cx: &I, args: &GenericArgs<I>) -> usize
@@ -80,6 +102,12 @@ fn variance_of<I: Interner, R: TypeRelation<I>>(
         ArgVariances::Invariant => Variance::Invariant,
         ArgVariances::Adt(def_id) => declared_at(r, def_id, i),
         ArgVariances::FnDef(def_id) => declared_at(r, def_id, i),
+        ArgVariances::AliasTy(kind) => alias_at(r, &DefId(aliased_item(kind)), i),
+        ArgVariances::AliasTerm(kind) => match kind {
+            AliasTermKind::OpaqueTy { def_id } => declared_at(r, &DefId(def_id.0), i),
+            _ => Variance::Invariant,
+        },
+        ArgVariances::Trait(_) => Variance::Invariant,
     }
 }
 
@@ -103,7 +131,7 @@ fn make_args<I: Interner, R: TypeRelation<I>>(
 }
 
 // Relates the arguments of two lists pair by pair.
-fn relate_args<I: Interner, R: TypeRelation<I>>(
+pub(crate) fn relate_args<I: Interner, R: TypeRelation<I>>(
     r: &mut R,
     variances: &ArgVariances<I::Id>,
     a: &GenericArgs<I>,
@@ -113,7 +141,7 @@ fn relate_args<I: Interner, R: TypeRelation<I>>(
     requires decides { (R.state r.old).ambient ≢ Bivariant }
     requires asked { AskedLists R.manner (R.state r.old) (head_by variances.now) a.now b.now }
     requires as_many { AreAsMany (R.state r.old) a.now b.now }
-    ensures { RelatedLists R.manner (R.state r.old) (R.state r.new) (head_by variances.now) a.now b.now result }
+    ensures { RelatedOver R.manner (R.state r.old) (R.state r.new) variances.now a.now b.now result }
 {
     let n = args_count_of::<I, R>(r, a);
     let mut answers = Vec::new(r.cx().alloc());
@@ -202,9 +230,10 @@ fn item_variances<I: Interner, R: TypeRelation<I>>(
     def_id: &ItemOf<I>,
 ) -> ArgVariances<I::Id>
     requires { IsTrue (known ((R.state r.now).meaning.ty ty.now)) }
-    ensures { let m = (R.state r.now).meaning in let h = args_head m result in
+    ensures form { let m = (R.state r.now).meaning in let h = args_head m result in
         (b ts us : _) → AreOverItem (m.id (def_id.now).0) (m.ty ty.now) b ts us →
         (m.ty ty.now ≡ node h ts) × (b ≡ node h us) }
+    ensures pair { args_meeting result ≡ as_pair }
 {
     let kind = r.cx().ty_kind(ty);
     let def_id = DefId(def_id.0);

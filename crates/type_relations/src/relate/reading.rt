@@ -192,7 +192,7 @@ pub(crate) fn declared_at<I: Interner, R: TypeRelation<I>>(
 }
 
 // The variance at which an alias type's argument is related.
-fn alias_at<I: Interner, R: TypeRelation<I>>(r: &R, def_id: &ItemOf<I>, i: usize) -> Variance
+pub(crate) fn alias_at<I: Interner, R: TypeRelation<I>>(r: &R, def_id: &ItemOf<I>, i: usize) -> Variance
     ensures { result ≡ alias_in (R.state r.now) def_id.now i }
 {
     let Some(variances) = r.cx().opt_alias_variances(def_id) else {

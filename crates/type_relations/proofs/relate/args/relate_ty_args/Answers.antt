@@ -4,7 +4,8 @@ use Rattle.relation_terms.specs.Trees.{Tree, node, known}
 use Rattle.relation_terms.proofs.Stays.{extends_on}
 use Rattle.relation_contexts.specs.Parts.{head_of}
 use Rattle.type_relations.specs.Arguments.{args_head}
-use Rattle.relation_contexts.specs.Lawful.{Asked, Related, Shown, MayAnswer}
+use Rattle.relation_contexts.specs.Lawful.{Asked, Related, RelatedAs, Shown, MayAnswer}
+use Rattle.relation_contexts.specs.Relation.{at}
 use Rattle.relation_contexts.proofs.Building.{built_as}
 use Rattle.relation_contexts.proofs.Passing.{as_err, asked_later, refused_again, noted_related, noted_refused, made_or_not, shown_now}
 use Rattle.type_relations.proofs.Arguments.{args_heads, over_later}
@@ -15,7 +16,7 @@ pub relate_args-requires-clause-asked : goal.relate_args-requires-clause-asked
 relate_args-requires-clause-asked g c =
     let r = g.R.HasState.state c.args.r.now in
     let m = r.meaning in
-    let is = c.item_variances-variances.ensures (m.ty c.args.b_ty.now) (m.args c.args.a_args.now)
+    let is = c.item_variances-variances.ensures.form (m.ty c.args.b_ty.now) (m.args c.args.a_args.now)
     (m.args c.args.b_args.now) c.requires.over in
     subst₂ (Asked g.R.TypeRelation.manner r r.ambient) is.0 is.1 c.requires.asked
 
@@ -26,12 +27,12 @@ returns-in_err-args g c =
     let M = g.R.TypeRelation.manner in
     let m = r.meaning in
     let v = c.item_variances-variances.result in
-    let is = c.item_variances-variances.ensures (m.ty c.args.b_ty.now) (m.args c.args.a_args.now)
+    let is = c.item_variances-variances.ensures.form (m.ty c.args.b_ty.now) (m.args c.args.a_args.now)
     (m.args c.args.b_args.now) c.requires.over in
     let h = args_head m v in
     let f = c.in_err-args.field-0.0 in
     let gone = subst₂ (λ a b. Related M r q r.ambient a b (λ k. node (args_head (q.meaning) v) ((q.meaning).args k)) (Err f))
-    (sym is.0) (sym is.1) c.in_err-args.ensures in
+    (sym is.0) (sym is.1) (subst (λ y. RelatedAs y M r q (at r.ambient) (node (args_head m v) (m.args c.args.a_args.now)) (node (args_head m v) (m.args c.args.b_args.now)) (λ k. node (args_head (q.meaning) v) ((q.meaning).args k)) (Err f)) c.item_variances-variances.ensures.pair (c.in_err-args.ensures (args_head m v) refl)) in
     subst (Related M r q r.ambient (m.ty c.args.a_ty.now) (m.ty c.args.b_ty.now) (q.meaning).ty)
     (sym (as_err c.from_residual.result f c.from_residual.ensures.0 c.from_residual.ensures.1))
     (refused_again M r.ambient (m.ty c.args.a_ty.now) (m.ty c.args.b_ty.now)
@@ -43,7 +44,7 @@ note_declared-requires-clause-asked g c =
     let q = g.R.HasState.state c.relate_args.new.r in
     let M = g.R.TypeRelation.manner in
     let m = r.meaning in
-    let passes = (c.in_ok-args.ensures).passes in
+    let passes = (c.in_ok-args.ensures (args_head (g.R.HasState.state c.args.r.now).meaning c.item_variances-variances.result) refl).passes in
     let k = c.requires.asked in
     subst₂ (λ t u. Asked M q q.ambient t u) (sym ((passes.extends).ty c.args.a_ty.now k.left_known))
     (sym ((passes.extends).ty c.args.b_ty.now k.right_known))
@@ -53,7 +54,7 @@ note_declared-requires-clause-asked g c =
 pub note_declared-requires-clause-over : goal.note_declared-requires-clause-over
 note_declared-requires-clause-over g c =
     let k = c.requires.asked in
-    over_later (((c.in_ok-args.ensures).passes).extends) c.args.def_id.now.0 c.args.a_ty.now c.args.b_ty.now
+    over_later (((c.in_ok-args.ensures (args_head (g.R.HasState.state c.args.r.now).meaning c.item_variances-variances.result) refl).passes).extends) c.args.def_id.now.0 c.args.a_ty.now c.args.b_ty.now
     c.args.a_args.now c.args.b_args.now k.left_known k.right_known c.requires.over
 
 pub note_declared-requires-clause-related : goal.note_declared-requires-clause-related
@@ -66,10 +67,10 @@ note_declared-requires-clause-related g c =
     let a = m.ty c.args.a_ty.now in
     let b = m.ty c.args.b_ty.now in
     let k = c.requires.asked in
-    let is = c.item_variances-variances.ensures b (m.args c.args.a_args.now) (m.args c.args.b_args.now) c.requires.over in
+    let is = c.item_variances-variances.ensures.form b (m.args c.args.a_args.now) (m.args c.args.b_args.now) c.requires.over in
     let args = c.in_ok-args.args in
     let done = subst₂ (λ a b. Related M r q r.ambient a b (λ k. node (args_head (q.meaning) v) ((q.meaning).args k))
-    (Ok args)) (sym is.0) (sym is.1) c.in_ok-args.ensures in
+    (Ok args)) (sym is.0) (sym is.1) (subst (λ y. RelatedAs y M r q (at r.ambient) (node (args_head m v) (m.args c.args.a_args.now)) (node (args_head m v) (m.args c.args.b_args.now)) (λ k. node (args_head (q.meaning) v) ((q.meaning).args k)) (Ok args)) c.item_variances-variances.ensures.pair (c.in_ok-args.ensures (args_head m v) refl)) in
     let passes = done.passes in
     subst₂ (λ t u. Shown M q q.ambient t u)
     (sym ((passes.extends).ty c.args.a_ty.now k.left_known)) (sym ((passes.extends).ty c.args.b_ty.now k.right_known))
@@ -84,11 +85,11 @@ returns-in_err-note_declared g c =
     let M = g.R.TypeRelation.manner in
     let m = r.meaning in
     let v = c.item_variances-variances.result in
-    let is = c.item_variances-variances.ensures (m.ty c.args.b_ty.now) (m.args c.args.a_args.now)
+    let is = c.item_variances-variances.ensures.form (m.ty c.args.b_ty.now) (m.args c.args.a_args.now)
     (m.args c.args.b_args.now) c.requires.over in
     let args = c.in_ok-args.args in
     let done = subst₂ (λ a b. Related M r q r.ambient a b (λ k. node (args_head (q.meaning) v) ((q.meaning).args k))
-    (Ok args)) (sym is.0) (sym is.1) c.in_ok-args.ensures in
+    (Ok args)) (sym is.0) (sym is.1) (subst (λ y. RelatedAs y M r q (at r.ambient) (node (args_head m v) (m.args c.args.a_args.now)) (node (args_head m v) (m.args c.args.b_args.now)) (λ k. node (args_head (q.meaning) v) ((q.meaning).args k)) (Ok args)) c.item_variances-variances.ensures.pair (c.in_ok-args.ensures (args_head m v) refl)) in
     let n = c.in_err-note_declared in
     let res = c.from_residual-in_err-note_declared in
     subst (Related M r p r.ambient (m.ty c.args.a_ty.now) (m.ty c.args.b_ty.now) (p.meaning).ty)
@@ -103,7 +104,7 @@ returns-in_err-note_declared g c =
 
 pub make_over-requires-clause-callable : goal.make_over-requires-clause-callable
 make_over-requires-clause-callable g c cx list e known =
-    let on = extends_on (extends_on ((c.in_ok-args.ensures).passes).extends ((c.in_ok-note_declared.ensures).passes).extends) e in
+    let on = extends_on (extends_on ((c.in_ok-args.ensures (args_head (g.R.HasState.state c.args.r.now).meaning c.item_variances-variances.result) refl).passes).extends ((c.in_ok-note_declared.ensures).passes).extends) e in
     c.requires.callable cx list on known
 
 pub make_over-requires-clause-makes : goal.make_over-requires-clause-makes
@@ -112,7 +113,7 @@ make_over-requires-clause-makes g c cx list res left e post =
     let p = g.R.HasState.state c.note_declared.new.r in
     let n = g.I.Interner.meaning left.now in
     let us = (g.I.Interner.meaning cx.now).args list in
-    let through = extends_on ((c.in_ok-args.ensures).passes).extends ((c.in_ok-note_declared.ensures).passes).extends in
+    let through = extends_on ((c.in_ok-args.ensures (args_head (g.R.HasState.state c.args.r.now).meaning c.item_variances-variances.result) refl).passes).extends ((c.in_ok-note_declared.ensures).passes).extends in
     let same : (p.meaning).ty c.args.a_ty.now ≡ (r.meaning).ty c.args.a_ty.now = through.ty c.args.a_ty.now (c.requires.asked).left_known in
     subst (λ t. IfOk res (λ k. IsTrue (known (n.ty k)) × (n.ty k ≡ node (head_of t) us))) (sym same)
     (c.requires.makes cx list res left (extends_on through e) post)
@@ -129,10 +130,10 @@ returns g c =
     let a = m.ty c.args.a_ty.now in
     let b = m.ty c.args.b_ty.now in
     let k = c.requires.asked in
-    let is = c.item_variances-variances.ensures b (m.args c.args.a_args.now) (m.args c.args.b_args.now) c.requires.over in
+    let is = c.item_variances-variances.ensures.form b (m.args c.args.a_args.now) (m.args c.args.b_args.now) c.requires.over in
     let args = c.in_ok-args.args in
     let done = subst₂ (λ a b. Related M r q r.ambient a b (λ k. node (args_head (q.meaning) v) ((q.meaning).args k))
-    (Ok args)) (sym is.0) (sym is.1) c.in_ok-args.ensures in
+    (Ok args)) (sym is.0) (sym is.1) (subst (λ y. RelatedAs y M r q (at r.ambient) (node (args_head m v) (m.args c.args.a_args.now)) (node (args_head m v) (m.args c.args.b_args.now)) (λ k. node (args_head (q.meaning) v) ((q.meaning).args k)) (Ok args)) c.item_variances-variances.ensures.pair (c.in_ok-args.ensures (args_head m v) refl)) in
     let n = c.in_ok-note_declared in
     let e = ((n.ensures).passes).extends in
     let answer : ArgsKey g.row.I-Key.Denot → Tree = λ k. node (args_head (p.meaning) v) ((p.meaning).args k) in
