@@ -3,7 +3,10 @@ use Rattle.std.proofs.Common.{◌≡◌, ◌≢◌, ◌⊎◌, ℕ, inl, inr, re
 use Rattle.std.proofs.lemmas.Bool.{and_from, false≢true}
 use Rattle.term_enums.specs.declared.Variance.{Variance}
 use Rattle.term_enums.specs.declared.Variance.TheVariants.{Covariant, Contravariant, Invariant, Bivariant}
+use Rattle.term_enums.specs.declared.AliasRelationDirection.TheVariants.{Equate, Subtype as SubtypeOf}
 use Rattle.term_enums.specs.Variances.{xform}
+use Rattle.relation_contexts.specs.declared.relate.StructurallyRelateAliases.TheVariants.{No}
+use Rattle.relation_contexts.specs.AliasGoals.{alias_at}
 use Rattle.relation_contexts.specs.Lawful.{State, RegisteredIn, items_in}
 use Rattle.std.proofs.lemmas.List.Elements.{All-append, All-head, All-tail, All-weaker}
 use Rattle.relation_terms.specs.declared.terms.goal.Goal.{Goal as KeyedGoal}
@@ -112,6 +115,26 @@ module _ {Key Id Name : Type 0} where
       seen_from (of_type t o e i b) = of_type t (by_declared o) e i b
       seen_from (of_alias d a b o e s h i j) = of_alias d a b o e s (still_directed h) i j
       seen_from (of_too_much o e) = of_too_much o e
+
+-- What is asked of two types, one an alias, is registered where aliases are left to goals, and speaks of the two.
+alias_is : {x y : Tree} → Some x ≡ Some y → y ≡ x
+alias_is e = cc
+
+pub alias_registered : (c : Items) (k : Settings) (v : Variance) (before after : Store) (a b p : Tree) →
+    k.structurally_relate_aliases ≡ No → alias_at v a b ≡ Some p → IsAlias a ⊎ IsAlias b → InContext after a →
+    InContext after b → IsRegistered c k v before after p
+alias_registered c k Covariant before after a b p no e o i j = of_alias SubtypeOf a b no (alias_is e) o (inr tt) i j
+alias_registered c k Contravariant before after a b p no e (inl o) i j = of_alias SubtypeOf b a no (alias_is e) (inr o) (inr tt) j i
+alias_registered c k Contravariant before after a b p no e (inr o) i j = of_alias SubtypeOf b a no (alias_is e) (inl o) (inr tt) j i
+alias_registered c k Invariant before after a b p no e o i j = of_alias Equate a b no (alias_is e) o (inl refl) i j
+alias_registered c k Bivariant before after a b p no e o i j = absurd cc
+
+pub alias_built : (k : Kit) (v : Variance) (a b p : Tree) → alias_at v a b ≡ Some p → IsBuiltOf k a → IsBuiltOf k b →
+    IsPredicateOf k p
+alias_built k Covariant a b p e h i = subst (IsPredicateOf k) (sym (alias_is e)) (h, (i, tt))
+alias_built k Contravariant a b p e h i = subst (IsPredicateOf k) (sym (alias_is e)) (i, (h, tt))
+alias_built k Invariant a b p e h i = subst (IsPredicateOf k) (sym (alias_is e)) (h, (i, tt))
+alias_built k Bivariant a b p e h i = absurd cc
 
 -- What is directed where it is seen from a variance: the variance is.
 pub directed_from : (v w : Variance) → IsDirected (xform v w) → IsDirected v

@@ -101,12 +101,13 @@ module _ {Key Id Name : Type 0} (c d : Context Key Id Name) where
     pub setup : KeepsSetup
     pub outliving : KeepsOutliving
 
-  -- All of it stands, but that each type variable that was made is marked as related to one that there was.
+  -- All of it stands, but that each type variable that was made is marked as related to one that there was, or to none
+  -- but itself, as one that took the place of an alias.
   pub record MarksNew : Type 0 where
     pub setup : KeepsSetup
     pub outliving : KeepsOutliving
     pub marks : (n : ℕ) → IsMade c.store type_var n → d.sub_root n ≡ c.sub_root n
-    pub related : (n : ℕ) → IsMade d.store type_var n → IsMade c.store type_var (d.sub_root n)
+    pub related : (n : ℕ) → IsMade d.store type_var n → IsMade c.store type_var (d.sub_root n) ⊎ (d.sub_root n ≡ n)
 
   -- What keys mean stands, how the context was made does, and so do the types that are to outlive regions; and the
   -- invariant holds.

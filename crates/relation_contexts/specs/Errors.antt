@@ -31,6 +31,8 @@ use Rattle.relation_folds.specs.declared.error.TypeError.TheVariants.{Sorts, Cyc
 use Rattle.relation_folds.specs.declared.error.TypeError.TheVariants.{ArgumentSorts, ArgumentMutability, ProjectionMismatched}
 use Rattle.relation_folds.specs.declared.error.TypeError.TheVariants.{VariadicMismatch, SafetyMismatch, AbiMismatch, ArgCount}
 use Rattle.relation_folds.specs.declared.error.TypeError.TheVariants.{Traits, PolarityMismatch, ExistentialMismatch}
+use Rattle.relation_contexts.specs.declared.relate.StructurallyRelateAliases.{StructurallyRelateAliases}
+use Rattle.relation_contexts.specs.Generalising.{IsSeen}
 use Rattle.relation_contexts.specs.Relation.{Items, plain, plain_kind, plain_atom, sort_of, part_at, IsError, IsAlias}
 use Rattle.relation_contexts.specs.Stores.{Store, bound_to, entry_of, resolved, universe_of, MayStandFor}
 use Rattle.relation_contexts.specs.Steps.{OneClass}
@@ -265,19 +267,18 @@ IsHandedOn e normalizes_to i t u = Unit {0}
 IsHandedOn e (alias_relate d) i t u = Unit {0}
 IsHandedOn e environment i t u = Unit {0}
 
--- The leaf stands in the term, outside the aliases in it.
-abbrev pub StandsOutside : Leaf → Tree → Type 0
-StandsOutside l (leaf k) = leaf k ≡ leaf l
-StandsOutside l (node (alias k d) ts) = ⊥
-StandsOutside l (node h ts) = StandsOutside l ts
-StandsOutside l (bind ks t) = StandsOutside l t
-StandsOutside l nil = ⊥
-StandsOutside l (cons t ts) = StandsOutside l t ⊎ StandsOutside l ts
+-- The leaf stands in the term, outside the aliases in it where these are left to goals.
+abbrev pub StandsSeen : StructurallyRelateAliases → Leaf → Tree → Type 0
+StandsSeen g l (leaf k) = leaf k ≡ leaf l
+StandsSeen g l (node h ts) = IsSeen g h × StandsSeen g l ts
+StandsSeen g l (bind ks t) = StandsSeen g l t
+StandsSeen g l nil = ⊥
+StandsSeen g l (cons t ts) = StandsSeen g l t ⊎ StandsSeen g l ts
 
--- The variable stands in the term outside the aliases in it, and the term is not the variable itself. In an alias it
--- makes no cycle, as a variable takes the alias's place where the term is bound.
-abbrev pub IsCycle : VarKind → ℕ → Tree → Type 0
-IsCycle k n t = StandsOutside (variable k n) t × (t ≢ leaf (variable k n))
+-- The variable stands in the term, which is not the variable itself. In an alias that is left to a goal it makes no
+-- cycle, as a variable takes the alias's place where the term is bound.
+abbrev pub IsCycle : StructurallyRelateAliases → VarKind → ℕ → Tree → Type 0
+IsCycle g k n t = StandsSeen g (variable k n) t × (t ≢ leaf (variable k n))
 
 -- The first of two terms is a variable that may be bound to the second: of a kind for which that may stand.
 abbrev pub IsVariableFor : Tree → Tree → Type 0
@@ -411,16 +412,18 @@ module _ {Key Id Name : Type 0} (m : Meaning Key Id Name) where
         node object (m.existential_predicates y) ≡ b → ObjectError x y e → PartError a b e
 
   -- A variable can't be bound to a term, and the error that says why: it stands in what the term comes to; or there
-  -- stands a placeholder of a type or a constant that is of a universe beyond the variable's.
-  pub data BindingError (st : Store) (a b : Tree) (e : TypeError Key Id Name) : Type 0 where
+  -- stands a placeholder of a type or a constant that is of a universe beyond the variable's. What stands in aliases
+  -- counts where these are related by their parts.
+  pub data BindingError (g : StructurallyRelateAliases) (st : Store) (a b : Tree) (e : TypeError Key Id Name) :
+      Type 0 where
     cyclic_ty : (n : ℕ) (k : TyKey Key) → a ≡ leaf (variable type_var n) → m.ty k ≡ apply (resolved st) b →
-        IsCycle type_var n (m.ty k) → e ≡ CyclicTy k → BindingError st a b e
+        IsCycle g type_var n (m.ty k) → e ≡ CyclicTy k → BindingError g st a b e
     cyclic_const : (n : ℕ) (k : ConstKey Key) → a ≡ leaf (variable const_var n) →
-        m.const_ k ≡ apply (resolved st) b → IsCycle const_var n (m.const_ k) → e ≡ CyclicConst k →
-        BindingError st a b e
+        m.const_ k ≡ apply (resolved st) b → IsCycle g const_var n (m.const_ k) → e ≡ CyclicConst k →
+        BindingError g st a b e
     beyond : (k : VarKind) (n : ℕ) (q : BoundKind) (u i : ℕ) → a ≡ leaf (variable k n) →
-        StandsOutside (placeholder q u i) (apply (resolved st) b) → bound_sort q ≢ region_sort →
-        universe_of st k n < u → e ≡ Mismatch → BindingError st a b e
+        StandsSeen g (placeholder q u i) (apply (resolved st) b) → bound_sort q ≢ region_sort →
+        universe_of st k n < u → e ≡ Mismatch → BindingError g st a b e
 
   mutual
     -- The error comes of a pair that is met when two terms are related at a variance that is not bivariance: of what they
@@ -433,10 +436,10 @@ module _ {Key Id Name : Type 0} (m : Meaning Key Id Name) where
       of_bodies : {v : Variance} {e : _} {ks ls : List BoundKind} {a b t u : Tree} (xs ys : List Tree) →
           a ≡ bind ks t → b ≡ bind ls u → StandFor ks xs → StandFor ls ys →
           ErrorOf k c st v e (inst xs 0 t) (inst ys 0 u) → ErrorOf k c st v e a b
-      of_binding : {v : Variance} {e : _} {a b : Tree} → v ≢ Bivariant → BindingError st a b e →
-          ErrorOf k c st v e a b
-      of_binding_back : {v : Variance} {e : _} {a b : Tree} → v ≢ Bivariant → BindingError st b a e →
-          ErrorOf k c st v e a b
+      of_binding : {v : Variance} {e : _} {a b : Tree} → v ≢ Bivariant →
+          BindingError k.structurally_relate_aliases st a b e → ErrorOf k c st v e a b
+      of_binding_back : {v : Variance} {e : _} {a b : Tree} → v ≢ Bivariant →
+          BindingError k.structurally_relate_aliases st b a e → ErrorOf k c st v e a b
       of_kinds : {v : Variance} {a b : Tree} → v ≢ Bivariant → sort_of a ≢ sort_of b → ErrorOf k c st v Mismatch a b
       by_forms : {v : Variance} {e : _} {a b : Tree} → (IsLeftToGoal k a b → ⊥) → ErrorByForms k c st v e a b →
           ErrorOf k c st v e a b

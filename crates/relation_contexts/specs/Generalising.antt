@@ -5,8 +5,8 @@ use Rattle.term_enums.specs.declared.Variance.{Variance}
 use Rattle.term_enums.specs.declared.Variance.TheVariants.{Invariant}
 use Rattle.relation_terms.specs.Heads.{region_sort, type_sort, region_kind, BoundKind, bound_kind, bound_sort}
 use Rattle.relation_terms.specs.Heads.{VarKind, type_var, int_var, float_var, const_var, region_var}
-use Rattle.relation_terms.specs.Heads.{static_region, early_region, AliasKind, Head, alias, Leaf, variable, bound, placeholder}
-use Rattle.relation_terms.specs.Heads.{atom, unknown}
+use Rattle.relation_terms.specs.Heads.{static_region, early_region, AliasKind, Head, alias, Leaf, variable, bound}
+use Rattle.relation_terms.specs.Heads.{placeholder, atom, unknown}
 use Rattle.relation_terms.specs.Trees.{Tree, leaf, node, bind, nil, cons, apply, Leaves}
 use Rattle.relation_contexts.specs.declared.relate.StructurallyRelateAliases.{StructurallyRelateAliases}
 use Rattle.relation_contexts.specs.declared.relate.StructurallyRelateAliases.TheVariants.{Yes, No}
@@ -123,35 +123,40 @@ abbrev pub GoesInto : StructurallyRelateAliases → Store → VarKind → ℕ �
 GoesInto g st k n e h ts = e ≡ outside → (IsSeen g h → ⊥) → Leaves (IsNoObstacle st k n) ts
 
 -- From one stage to another a term was generalised for a variable, which stands for itself nowhere in it: the places of
--- its leaves that do not stay are taken by new variables, of the universe of the variable.
-pub data Generalised (g : StructurallyRelateAliases) (c : Items) (start : Store) (k : VarKind) (n : ℕ) : Turn → Stage → Tree → Stage → Tree →
-    Type 0 where
-  -- equal types become one term at one variance, with all that stands in it
+-- its leaves that do not stay are taken by new variables, of the universe of the variable, and so is that of the
+-- outermost alias in which an obstacle stands, where aliases are left to goals.
+pub data Generalised (g : StructurallyRelateAliases) (c : Items) (start : Store) (k : VarKind) (n : ℕ) :
+    Turn → Stage → Tree → Stage → Tree → Type 0 where
+  -- equal types become one term on one side at one variance, with all that stands in it
   met_before : {e : Side} {v : Variance} {r : Stage} {t x : Tree} → sort_of t ≡ type_sort →
-      Contains r.met (record { side = e; variance = v; type = t; term = x }) → Generalised g c start k n (any_part e v) r t r x
+      Contains r.met (record { side = e; variance = v; type = t; term = x }) →
+      Generalised g c start k n (any_part e v) r t r x
   met_first : {e : Side} {v : Variance} {r q p : Stage} {t x : Tree} → sort_of t ≡ type_sort → IsNew r e v t →
       Generalised g c start k n (new_part e v) r t q x → p.store ≡ q.store →
-      p.met ≡ record { side = e; variance = v; type = t; term = x } ∷ q.met → Generalised g c start k n (any_part e v) r t p x
+      p.met ≡ record { side = e; variance = v; type = t; term = x } ∷ q.met →
+      Generalised g c start k n (any_part e v) r t p x
   -- regions and constants become one at each place
   no_type : {e : Side} {v : Variance} {r q : Stage} {t x : Tree} → sort_of t ≢ type_sort →
       Generalised g c start k n (new_part e v) r t q x → Generalised g c start k n (any_part e v) r t q x
-  stays : {e : Side} {v : Variance} {r : Stage} {l : Leaf} → l ≢ variable k n → Stays start (universe_of start k n) v l →
-      Generalised g c start k n (new_part e v) r (leaf l) r (leaf l)
+  stays : {e : Side} {v : Variance} {r : Stage} {l : Leaf} → l ≢ variable k n →
+      Stays start (universe_of start k n) v l → Generalised g c start k n (new_part e v) r (leaf l) r (leaf l)
   gives_way : {e : Side} {v : Variance} {r q : Stage} {l : Leaf} {j : VarKind} {m : ℕ} → l ≢ variable k n →
       (Stays start (universe_of start k n) v l → ⊥) → gives_way_to l ≡ Some j →
       MakesVariable r.store q.store j m (universe_of start k n) → q.met ≡ r.met →
       Generalised g c start k n (new_part e v) r (leaf l) q (leaf (variable j m))
-  -- the outermost alias in which an obstacle stands, where aliases are left to goals
   alias_gives_way : {v : Variance} {r q : Stage} {a : AliasKind} {d m : ℕ} {ts : Tree} {o : Obstacle} → g ≡ No →
-      StopsAt Yes start k n o ts → MakesVariable r.store q.store type_var m (universe_of start k n) → q.met ≡ r.met →
+      StopsAt Yes start k n o ts → MakesVariable r.store q.store type_var m (universe_of start k n) →
+      q.met ≡ r.met →
       Generalised g c start k n (new_part outside v) r (node (alias a d) ts) q (leaf (variable type_var m))
   -- all else by its parts, each at its own variance
   by_parts : {e : Side} {v : Variance} {r q : Stage} {h : Head} {ts xs : Tree} → GoesInto g start k n e h ts →
       Generalised g c start k n (parts_from (side_in g e h) h 0 v) r ts q xs →
       Generalised g c start k n (new_part e v) r (node h ts) q (node h xs)
   in_binder : {e : Side} {v : Variance} {r q : Stage} {ks : List BoundKind} {t x : Tree} →
-      Generalised g c start k n (any_part e v) r t q x → Generalised g c start k n (new_part e v) r (bind ks t) q (bind ks x)
-  no_parts : {e : Side} {h : Head} {i : ℕ} {v : Variance} {r : Stage} → Generalised g c start k n (parts_from e h i v) r nil r nil
+      Generalised g c start k n (any_part e v) r t q x →
+      Generalised g c start k n (new_part e v) r (bind ks t) q (bind ks x)
+  no_parts : {e : Side} {h : Head} {i : ℕ} {v : Variance} {r : Stage} →
+      Generalised g c start k n (parts_from e h i v) r nil r nil
   next_part : {e : Side} {h : Head} {i : ℕ} {v : Variance} {r q p : Stage} {t x ts xs : Tree} →
       Generalised g c start k n (any_part e (part_at c h i v)) r t q x →
       Generalised g c start k n (parts_from e h (suc i) v) q ts p xs →
@@ -163,12 +168,12 @@ variance_for const_var v = Invariant
 variance_for k v = v
 
 -- A variable of the context was bound, at a variance, to what a term comes to, generalised for it.
-pub record InstantiatesBy (g : StructurallyRelateAliases) (c : Items) (before after : Store) (v : Variance) (k : VarKind) (n : ℕ)
-    (source term : Tree) : Type 0 where
+pub record InstantiatesBy (g : StructurallyRelateAliases) (c : Items) (before after : Store) (v : Variance)
+    (k : VarKind) (n : ℕ) (source term : Tree) : Type 0 where
   pub made : IsMade before k n
   pub last : Stage
-  pub generalised : Generalised g c before k n (any_part outside (variance_for k v)) (record { store = before; met = [] })
-      (apply (resolved before) source) last term
+  pub generalised : Generalised g c before k n (any_part outside (variance_for k v))
+      (record { store = before; met = [] }) (apply (resolved before) source) last term
   pub binds : BindsTo last.store after k n term
 
 -- Variables of types, constants and regions, of a universe, were made one after another, or none.
@@ -179,7 +184,8 @@ pub data MakesUnbound (u : ℕ) (before : Store) : Store → Type 0 where
 
 -- An unbound variable of the context was not bound to what a term comes to, since an obstacle stands in that, and not
 -- for want of budget. Variables that were made on the way stay unbound.
-pub record RefusesBy (g : StructurallyRelateAliases) (before after : Store) (k : VarKind) (n : ℕ) (source : Tree) (o : Obstacle) : Type 0 where
+pub record RefusesBy (g : StructurallyRelateAliases) (before after : Store) (k : VarKind) (n : ℕ) (source : Tree)
+    (o : Obstacle) : Type 0 where
   pub made : IsMade before k n
   pub was_unbound : entry_of before k n ≡ unbound
   pub may_spend : before.budget ≢ 0

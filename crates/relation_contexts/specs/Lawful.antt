@@ -87,7 +87,7 @@ pub record Manner : Type 1 where
   pub takes : Variance → Leaf → Type 0
   pub is_exact : Type 0
   pub records_asked : Type 0
-  pub registers_subtype : Type 0
+  pub registers_alone : Type 0
   pub relates_agreeing : Type 0
 
 -- The same by how a relation is set up.

@@ -132,7 +132,8 @@ module _ {Key Id Name : Type 0} where
 
       -- Of two constants a step was taken.
       pub combined_shallow : (result : Result (Step (ConstKey Key)) (RelateFault Key Id Name)) →
-          CombinesShallow m n was now a b result → Steps (m.const_ a) (m.const_ b) result
+          CombinesShallow m n was now r.kept.settings.structurally_relate_aliases a b result →
+          Steps (m.const_ a) (m.const_ b) result
       combined_shallow result (roots_equated i j x y joins same is) = subst (Steps (m.const_ a) (m.const_ b)) (sym is)
           (roots_step r IsFormedConst m n was now L K const_var (no_region const_var tt) i j (m.const_ a) (m.const_ b)
           n.const_ a same sound l joins.same joins.equates x y a_stays)
@@ -145,7 +146,7 @@ module _ {Key Id Name : Type 0} where
           subst₂ (λ z. Steps z (m.const_ b)) (sym p) (sym is)
           (left_refused r L K l IsFormedConst (seen m was) (seen n now) grown decides sound const_var tt i (m.const_ b)
           (a_free i p) (b_none o i) (λ m. m.const_) CyclicConst Invariant n.const_
-          (λ k z h x. const_cycle_error n was now i (m.const_ b) sound k z h (b_none o i) x) f binds)
+          (λ k z h x. const_cycle_error n r.kept.settings.structurally_relate_aliases was now i (m.const_ b) sound k z h (b_none o i) x) f binds)
       combined_shallow result (right_root_bound i x p f binds is) =
           subst₂ (λ z. Steps (m.const_ a) z) (sym p) (sym is)
           (const_right_step r L K l const_var tt (seen m was) (seen n now) grown sound numbers all i (m.const_ a) (n.const_ x)
@@ -155,7 +156,7 @@ module _ {Key Id Name : Type 0} where
           subst₂ (λ z. Steps (m.const_ a) z) (sym p) (sym is)
           (right_refused r L K l IsFormedConst (seen m was) (seen n now) grown decides sound const_var tt i (m.const_ a)
           (b_free i p) (a_none o i) (λ m. m.const_) CyclicConst Invariant n.const_
-          (λ k z h x. const_cycle_error n was now i (m.const_ a) sound k z h (a_none o i) x) f binds)
+          (λ k z h x. const_cycle_error n r.kept.settings.structurally_relate_aliases was now i (m.const_ a) sound k z h (a_none o i) x) f binds)
       combined_shallow result (formed_by_parts f h same stays is) = subst (Steps (m.const_ a) (m.const_ b)) (sym is)
           (subst₂ (λ z st. Stepped solver_manner IsFormedConst (standing r m was L) (standing r z st K) (m.const_ a)
           (m.const_ b) z.const_ (Ok (Parts a b))) (sym same) (sym stays)
@@ -181,7 +182,7 @@ module _ {Key Id Name : Type 0} where
 
       -- Of two constants, resolved or not, a step was taken.
       pub combined_consts : (result : Result (Step (ConstKey Key)) (RelateFault Key Id Name)) →
-          CombinesConsts m n was now a b result → Stepped solver_manner IsFormedConst (standing r m was L)
+          CombinesConsts m n was now r.kept.settings.structurally_relate_aliases a b result → Stepped solver_manner IsFormedConst (standing r m was L)
           (standing r n now K) (m.const_ a) (m.const_ b) n.const_ result
       combined_consts result (one_constant e same stays is) =
           subst (Stepped solver_manner IsFormedConst (standing r m was L) (standing r n now K) (m.const_ a) (m.const_ b)
@@ -213,7 +214,7 @@ pub consts_later : {Key Id Name : Type 0} (r : State Key Id Name) (c d : Context
     HasCoveredBindings c.store → HasCoveredBindings d.store → (a b : ConstKey Key)
     (result : Result (Step (ConstKey Key)) (RelateFault Key Id Name)) → AskedConsts solver_manner r a b →
     ((k : ConstKey Key) → IsTrue (known ((c.meaning).const_ k)) → IsTerm const_sort ((c.meaning).const_ k)) →
-    CombinesConsts c.meaning d.meaning c.store d.store a b result → IsLater c.store d.store
+    CombinesConsts c.meaning d.meaning c.store d.store r.kept.settings.structurally_relate_aliases a b result → IsLater c.store d.store
 consts_later r c d o decides sound grown numbers covered all a b result asked f combines =
     (((combined_consts r decides c.meaning d.meaning c.store d.store r.lawful r.lawful (λ l. l) sound grown numbers covered all
     a b (over_it o (λ z. AskedConsts solver_manner z a b) asked) f result combines).passes).goes).later
@@ -239,7 +240,7 @@ module _ {Key Id Name : Type 0} (r q : State Key Id Name) (c d : Context Key Id 
         HasCoveredBindings d.store → (a b : ConstKey Key) (result : Result (Step (ConstKey Key)) (RelateFault Key Id Name)) →
         AskedConsts solver_manner r a b →
         ((k : ConstKey Key) → IsTrue (known ((c.meaning).const_ k)) → IsTerm const_sort ((c.meaning).const_ k)) →
-        CombinesConsts c.meaning d.meaning c.store d.store a b result → SteppedConsts solver_manner r q a b result
+        CombinesConsts c.meaning d.meaning c.store d.store r.kept.settings.structurally_relate_aliases a b result → SteppedConsts solver_manner r q a b result
     consts_stepped grown numbers was_covered all a b result asked f combines =
         carried o w (λ z u. SteppedConsts solver_manner z u a b result)
         (combined_consts r decides c.meaning d.meaning c.store d.store r.lawful q.lawful w.lawful sound grown numbers
@@ -250,7 +251,7 @@ module _ {Key Id Name : Type 0} (r q : State Key Id Name) (c d : Context Key Id 
   types_combined a b result h = carried o w (λ z u. CombinesTys z.meaning z.store u.store a b result) h
 
   pub consts_combined : (a b : ConstKey Key) (result : Result (Step (ConstKey Key)) (RelateFault Key Id Name)) →
-      CombinesConsts c.meaning d.meaning c.store d.store a b result →
-      CombinesConsts r.meaning q.meaning r.store q.store a b result
+      CombinesConsts c.meaning d.meaning c.store d.store r.kept.settings.structurally_relate_aliases a b result →
+      CombinesConsts r.meaning q.meaning r.store q.store r.kept.settings.structurally_relate_aliases a b result
   consts_combined a b result h =
-      carried o w (λ z u. CombinesConsts z.meaning u.meaning z.store u.store a b result) h
+      carried o w (λ z u. CombinesConsts z.meaning u.meaning z.store u.store z.kept.settings.structurally_relate_aliases a b result) h

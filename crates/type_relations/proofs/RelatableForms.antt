@@ -14,11 +14,11 @@ use Rattle.type_relations.specs.Arguments.{related_tree}
 use Rattle.relation_contexts.specs.Binders.{binder_tree}
 use Rattle.type_relations.specs.EqualForms.{binder_same}
 use Rattle.relation_contexts.specs.Lawful.{State, Manners, Asked, Related}
-use Rattle.type_relations.specs.Subtyping.{IsTyVar}
+use Rattle.type_relations.specs.Alone.{IsTyVar}
 use Rattle.relation_contexts.proofs.Passing.{asked_later}
 use Rattle.type_relations.proofs.Relatable.{equal_one}
 use Rattle.type_relations.proofs.Rounds.{HalfDone}
-use Rattle.type_relations.proofs.Subtyping.{node_is_none}
+use Rattle.type_relations.proofs.Alone.{node_is_none}
 
 -- No predicate of a trait object is a type variable, and no binder.
 pub existential_is_none : {Key Id Name : Type 0} (m : Meaning Key Id Name) (p : ExistentialPredicate Key Id) →

@@ -16,8 +16,8 @@ use Rattle.relation_contexts.specs.Contexts.{Context}
 use Rattle.relation_contexts.specs.Goals.{Goal as GoalOf}
 use Rattle.relation_contexts.specs.Kits.{StaysBuilt}
 use Rattle.relation_contexts.proofs.Building.{built_refused}
-use Rattle.type_relations.specs.Relating.{term_in, AnswersAlone, AnswersSubtype, BuildsNoMore}
-use Rattle.type_relations.specs.Subtyping.{subtype_at, RegistersAlone, RegistersSubtype}
+use Rattle.type_relations.specs.Relating.{term_in, AnswersAlone, AnswersAsked, BuildsNoMore}
+use Rattle.type_relations.specs.Alone.{subtype_at, RegistersAlone, RelatesAlone}
 use Rattle.type_relations.specs.Solving.{solving_in, solver_manner}
 
 -- What else might have been answered is of no matter.
@@ -34,10 +34,10 @@ module _ {S Key Id Name A : Type 0} (aliases : StructurallyRelateAliases) (X : T
 
   pub refused_alone_in : (f : RelateFault Key Id Name)
       (res : Result (Vec (Goal Key (PredicateKey Key))) (RelateFault Key Id Name)) → res ≡ Err f →
-      RegistersSubtype {X = X} solver_manner (solving_in aliases [] (state old) v e) (solving_in aliases hs (state new) v e) v
+      RelatesAlone {X = X} solver_manner (solving_in aliases [] (state old) v e) (solving_in aliases hs (state new) v e) v
       (term_in (state old) over tree a) (term_in (state old) over tree b) (Err f) →
-      AnswersSubtype state old new over tree e v a b res
-  refused_alone_in f res is h = subst (AnswersSubtype state old new over tree e v a b) (sym is)
+      AnswersAsked state old new over tree e v a b res
+  refused_alone_in f res is h = subst (AnswersAsked state old new over tree e v a b) (sym is)
       (λ differ x y i j. IfSome_then (subtype_at v (leaf (variable type_var x)) (leaf (variable type_var y)))
       (h tt differ x y i j) (λ p z. refused p f z))
 

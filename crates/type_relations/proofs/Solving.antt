@@ -141,7 +141,7 @@ constrained_full c d q (Err f) h = full_same h
 
 pub constrained_built : {Key Id Name A F : Type 0} (c d : Context Key Id Name) (q : Constraint) (r : Result A F)
     (a b : Tree) → Constrains c d q r → StaysBuilt c.store d.store [] a b
-constrained_built c d q (Ok x) a b h = built_constraint c.store d.store a b h.same_entries h.same_universe
+constrained_built c d q (Ok x) a b h = built_constraint c.store d.store a b h.same_entries h.same_universe h.same_taint
 constrained_built c d q (Err f) a b h = built_same a b h
 
 pub constrained_bound : {Key Id Name A F : Type 0} (c d : Context Key Id Name) (q : Constraint) (r : Result A F) →
@@ -250,7 +250,8 @@ module _ {Key Id Name : Type 0} {j j' : Held Key} (held : j' ≡ j) (gs : List (
             outcome = outcome;
             answer = may_itself solver_manner (solving j' gs m now K v e) v (m.region a);
             known = sure;
-            agrees = λ k. agree_regions (items_of m) v (m.region a) (m.region b)
+            agrees = λ k. agree_regions (solver_settings j.structurally_relate_aliases j.setup) (items_of m) v
+                (m.region a) (m.region b)
                 (term_sort_of region_var (m.region a) left.0) (term_sort_of region_var (m.region b) right.0);
           };
           exact = λ k is pair.
@@ -262,7 +263,8 @@ module _ {Key Id Name : Type 0} {j j' : Held Key} (held : j' ≡ j) (gs : List (
                     (standing_keeps was now added.same_entries added.same_universes),
               );
           full = λ ha hb. constraint_full was now (constraint_of m c) added;
-          built = built_constraint was now (m.region a) (m.region b) added.same_entries added.same_universe;
+          built = built_constraint was now (m.region a) (m.region b) added.same_entries added.same_universe
+              added.same_taint;
         }
 
   -- The same by what the variance asks for.

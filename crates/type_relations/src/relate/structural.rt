@@ -13,7 +13,7 @@ ghost use Rattle.type_relations.specs.Keyed.{AskedArgs, AskedArgsAt, AskedConsts
 ghost use Rattle.type_relations.specs.Keyed.{AskedPartsAt, RelatedArgs, RelatedArgsAt, RelatedConsts, RelatedPats};
 ghost use Rattle.type_relations.specs.Keyed.{RelatedConstForms, RelatedParts, RelatedPartForms, RelatedPartsAt};
 ghost use Rattle.type_relations.specs.Keyed.{RelatedTys, RelatedTyForms};
-ghost use Rattle.type_relations.specs.Keyed.{ArgsRegisterSubtype, TysRegisterSubtype};
+ghost use Rattle.type_relations.specs.Keyed.{ArgsRelateAlone, TysRelateAlone};
 ghost use Rattle.relation_contexts.specs.Making.{arg_sort};
 ghost use Rattle.type_relations.specs.Arguments.{IsSkipped};
 ghost use Rattle.type_relations.specs.Comparing.{AreOfOneFormBy, object_members};
@@ -60,7 +60,7 @@ pub fn tys<I: Interner, R: TypeRelation<I>>(
     requires decides { (R.state r.old).ambient ≢ Bivariant }
     requires asked { AskedTys R.manner (R.state r.old) a.now b.now }
     ensures related { RelatedTys R.manner (R.state r.old) (R.state r.new) a.now b.now result }
-    ensures registers { TysRegisterSubtype R.manner (R.state r.old) (R.state r.new) a.now b.now result }
+    ensures registers { TysRelateAlone R.manner (R.state r.old) (R.state r.new) a.now b.now result }
 {
     match r.tys(a, b)? {
         Step::Done(answer) => Ok(answer),
@@ -129,7 +129,7 @@ pub fn relate<I: Interner, R: TypeRelation<I>>(
     requires decides { (R.state r.old).ambient ≢ Bivariant }
     requires asked { AskedArgs R.manner (R.state r.old) a.now b.now }
     ensures related { RelatedArgs R.manner (R.state r.old) (R.state r.new) a.now b.now result }
-    ensures registers { ArgsRegisterSubtype R.manner (R.state r.old) (R.state r.new) a.now b.now result }
+    ensures registers { ArgsRelateAlone R.manner (R.state r.old) (R.state r.new) a.now b.now result }
     ensures kind { IfOk result (λ k. arg_sort k ≡ arg_sort a.now) }
 {
     match a {

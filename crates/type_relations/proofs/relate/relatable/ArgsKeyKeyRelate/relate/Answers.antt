@@ -1,6 +1,6 @@
 use Rattle.relation_terms.specs.Heads.{arguments}
 use Rattle.relation_terms.specs.Trees.{node}
-use Rattle.type_relations.proofs.Subtyping.{left_none, node_is_none}
+use Rattle.type_relations.proofs.Alone.{left_none, node_is_none}
 use Rattle.type_relations.proofs.relate.relatable.ArgsKeyKeyRelate.relate.Goals as goal
 
 pub returns-clause-registers : goal.returns-clause-registers

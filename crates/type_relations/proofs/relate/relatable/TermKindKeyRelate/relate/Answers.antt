@@ -7,9 +7,9 @@ use Rattle.relation_terms.specs.Interning.{Sorted}
 use Rattle.relation_folds.specs.declared.error.TypeError.TheVariants.{Mismatch}
 use Rattle.relation_folds.specs.declared.error.RelateFault.TheVariants.{Unrelated}
 use Rattle.relation_contexts.specs.Lawful.{Asked, Related}
-use Rattle.type_relations.specs.Subtyping.{IsTyVar, RegistersSubtype}
+use Rattle.type_relations.specs.Alone.{IsTyVar, RelatesAlone}
 use Rattle.relation_contexts.proofs.Passing.{retold, refused_again, as_err}
-use Rattle.type_relations.proofs.Subtyping.{left_none, right_none, const_none, refused_told}
+use Rattle.type_relations.proofs.Alone.{left_none, right_none, const_none, refused_told}
 use Rattle.type_relations.proofs.StructuralConsts.{kinds_differ}
 use Rattle.type_relations.proofs.Relatable.{else_const, else_ty}
 use Rattle.type_relations.proofs.relate.relatable.TermKindKeyRelate.relate.Goals as goal
@@ -123,7 +123,7 @@ returns-in_ok-tys-in-Ty-clause-registers g c =
     let M = g.R.TypeRelation.manner in
     let q = g.R.HasState.state c.tys.new.r in
     let n = c.in_ok-tys-in-Ty in
-    subst₂ (λ t u. RegistersSubtype M r q r.ambient (term_tree r.meaning t) (term_tree r.meaning u)
+    subst₂ (λ t u. RelatesAlone M r q r.ambient (term_tree r.meaning t) (term_tree r.meaning u)
     (Ok (Ty n.field-0))) (sym c.in-Ty.is) (sym c.in-Ty-b.is) n.ensures.registers
 
 pub returns-in_err-tys-in-Ty-clause-registers : goal.returns-in_err-tys-in-Ty-clause-registers
@@ -133,7 +133,7 @@ returns-in_err-tys-in-Ty-clause-registers g c =
     let q = g.R.HasState.state c.tys.new.r in
     let n = c.in_err-tys-in-Ty in
     let res = c.from_residual.result in
-    subst₂ (λ t u. RegistersSubtype M r q r.ambient (term_tree r.meaning t) (term_tree r.meaning u) res)
+    subst₂ (λ t u. RelatesAlone M r q r.ambient (term_tree r.meaning t) (term_tree r.meaning u) res)
     (sym c.in-Ty.is) (sym c.in-Ty-b.is)
     (refused_told ⊥ _ M r q r.ambient ((r.meaning).ty c.in-Ty.a) ((r.meaning).ty c.in-Ty-b.b) n.field-0.0 res
     (as_err res n.field-0.0 c.from_residual.ensures.0 c.from_residual.ensures.1) n.ensures.registers)

@@ -15,7 +15,7 @@ use Rattle.relation_contexts.proofs.Passing.{as_err}
 use Rattle.type_relations.proofs.Exactly.{unrelated_apart}
 use Rattle.type_relations.proofs.Spending.{spends_no_more, spent_as}
 use Rattle.type_relations.specs.Relating.{term_in}
-use Rattle.type_relations.specs.Subtyping.{RegistersSubtype}
+use Rattle.type_relations.specs.Alone.{RelatesAlone}
 use Rattle.type_relations.proofs.Relatable.{equal_one, one_equal}
 use Rattle.type_relations.proofs.Relating.{refused_alone_in, refused_built}
 use Rattle.relation_contexts.specs.Kits.{StaysBuilt}
@@ -203,7 +203,7 @@ returns-in_err-related-clause-subtype g c =
     refused_alone_in No ⊥ g.Infcx.InferCtxtLike.state c.args.self.now c.relate_in-related.new.infcx g.T.Relate.over
     g.T.HasTree.tree c.args.param_env c.args.variance c.args.lhs c.args.rhs c.relate_in-related.result.1.items
     f c.from_residual.result (as_err c.from_residual.result f c.from_residual.ensures.0 c.from_residual.ensures.1)
-    (subst (RegistersSubtype solver_manner (solving_in No [] s c.args.variance c.args.param_env)
+    (subst (RelatesAlone solver_manner (solving_in No [] s c.args.variance c.args.param_env)
     (solving_in No c.relate_in-related.result.1.items (g.Infcx.InferCtxtLike.state c.relate_in-related.new.infcx)
     c.args.variance c.args.param_env) c.args.variance (term_in s g.T.Relate.over g.T.HasTree.tree c.args.lhs)
     (term_in s g.T.Relate.over g.T.HasTree.tree c.args.rhs)) c.in_err-related.was c.relate_in-related.ensures.registers)
@@ -211,7 +211,7 @@ returns-in_err-related-clause-subtype g c =
 pub returns-clause-subtype : goal.returns-clause-subtype
 returns-clause-subtype g c =
     let s = g.Infcx.InferCtxtLike.state c.args.self.now in
-    subst (RegistersSubtype solver_manner (solving_in No [] s c.args.variance c.args.param_env)
+    subst (RelatesAlone solver_manner (solving_in No [] s c.args.variance c.args.param_env)
     (solving_in No c.relate_in-related.result.1.items (g.Infcx.InferCtxtLike.state c.relate_in-related.new.infcx)
     c.args.variance c.args.param_env) c.args.variance (term_in s g.T.Relate.over g.T.HasTree.tree c.args.lhs)
     (term_in s g.T.Relate.over g.T.HasTree.tree c.args.rhs)) c.in_ok-related.was c.relate_in-related.ensures.registers tt

@@ -1,7 +1,7 @@
 use Rattle.relation_terms.specs.Heads.{signature, inputs}
 use Rattle.relation_terms.specs.Trees.{node, nil, cons, front, last}
 use Rattle.relation_terms.specs.Meaning.{signature_tree}
-use Rattle.type_relations.proofs.Subtyping.{left_none, node_is_none}
+use Rattle.type_relations.proofs.Alone.{left_none, node_is_none}
 use Rattle.type_relations.proofs.relate.relatable.forms.FnSigKeyRelate.relate.Goals as goal
 
 pub returns-clause-registers : goal.returns-clause-registers
