@@ -23,7 +23,7 @@ use Rattle.relation_contexts.specs.Constraints.{constraint_at, asked_constraints
 use Rattle.relation_contexts.specs.Lawful.{State, Manners, Asked, Related, RelatedAs, RelatedForms, Shown, Stepped, Noted, items_in}
 use Rattle.relation_contexts.specs.Making.{Made, over, const_over}
 use Rattle.relation_contexts.specs.Parts.{IsFormed, IsFormedConst, head_of, const_head_of}
-use Rattle.relation_contexts.specs.Relation.{at, plain, part_at, alias_variance}
+use Rattle.relation_contexts.specs.Relation.{at, plain, part_at}
 use Rattle.type_relations.specs.Alone.{RelatesAlone, StepsAlone}
 
 module _ {Key Id Name : Type 0} where
@@ -42,10 +42,6 @@ module _ {Key Id Name : Type 0} where
   -- The variance that an item declares of its parameter at a place.
   abbrev pub declared_in : State Key Id Name → DefId Id → ℕ → Variance
   declared_in r d i = (items_in r).declared ((r.meaning).id d.0) i
-
-  -- The variance of an alias type's argument at a place.
-  abbrev pub alias_in : State Key Id Name → DefId Id → ℕ → Variance
-  alias_in r d i = alias_variance ((items_in r).of_alias ((r.meaning).id d.0)) i
 
   -- The ambient variance is one at which something is asked.
   abbrev pub Decides : State Key Id Name → Type 0

@@ -14,9 +14,9 @@ ghost use Rattle.relation_contexts.specs.Errors.{as_pair};
 ghost use Rattle.relation_contexts.specs.Parts.{head_of};
 
 use crate::relate::TypeRelation;
-use crate::relate::forms::aliased_item;
-use crate::relate::reading::{alias_at, declared_at, note_declared};
+use crate::relate::reading::{declared_at, note_declared};
 use crate::relate::structural::relate_with_variance;
+use relation_contexts::variances::alias_argument_variance;
 use relation_folds::error::RelateResult;
 use relation_terms::predicate::AliasTermKind;
 use relation_terms::terms::{
@@ -102,7 +102,7 @@ fn variance_of<I: Interner, R: TypeRelation<I>>(
         ArgVariances::Invariant => Variance::Invariant,
         ArgVariances::Adt(def_id) => declared_at(r, def_id, i),
         ArgVariances::FnDef(def_id) => declared_at(r, def_id, i),
-        ArgVariances::AliasTy(kind) => alias_at(r, &DefId(aliased_item(kind)), i),
+        ArgVariances::AliasTy(kind) => alias_argument_variance(r.cx(), kind, i),
         ArgVariances::AliasTerm(kind) => match kind {
             AliasTermKind::OpaqueTy { def_id } => declared_at(r, &DefId(def_id.0), i),
             _ => Variance::Invariant,

@@ -1,14 +1,13 @@
 //! The outermost forms of types, as comparing tells them apart.
 ghost use Rattle.std.specs.Prelude.{◌≡◌, ◌↔◌, IsTrue};
 ghost use Rattle.relation_terms.specs.Trees.{known};
-ghost use Rattle.relation_terms.specs.Meaning.{alias_id, kind_tree};
+ghost use Rattle.relation_terms.specs.Meaning.{kind_tree};
 ghost use Rattle.relation_contexts.specs.Relation.{IsError};
 ghost use Rattle.relation_folds.specs.Outlines.{named};
 ghost use Rattle.type_relations.specs.Forms.{plain, of_item, of_pointer, named_outline, tree_outline, IsFixed};
 
-use relation_terms::terms::{
-    AliasTyKind, Const, ConstKind, Interner, Mutability, Ty, TyForm, TyKind,
-};
+use relation_contexts::variances::alias_item;
+use relation_terms::terms::{Const, ConstKind, Interner, Mutability, Ty, TyForm, TyKind};
 
 // Which form a type over parts has. Each is the form of `TyKind` of that name.
 #[derive(Clone, Copy, PartialEq, Eq)]
@@ -69,18 +68,6 @@ fn item_outline<D: Copy>(form: Form, item: &D) -> Outline<D>
     }
 }
 
-// The item that an alias type is of.
-pub(crate) fn aliased_item<D: Copy>(kind: &AliasTyKind<D>) -> D
-    ensures { result ≡ alias_id kind.now }
-{
-    match kind {
-        AliasTyKind::Projection { def_id } => def_id.0,
-        AliasTyKind::Inherent { def_id } => def_id.0,
-        AliasTyKind::Opaque { def_id } => def_id.0,
-        AliasTyKind::Free { def_id } => def_id.0,
-    }
-}
-
 // What is compared of a type besides its parts.
 pub(crate) fn outline_of<I: Interner>(cx: &I, kind: &TyForm<I>) -> Outline<I::Id>
     ensures { named_outline (I.meaning cx.now).id result ≡ tree_outline (kind_tree (I.meaning cx.now) kind.now) }
@@ -93,7 +80,7 @@ pub(crate) fn outline_of<I: Interner>(cx: &I, kind: &TyForm<I>) -> Outline<I::Id
         TyKind::CoroutineClosure(def, _) => item_outline(Form::CoroutineClosure, &def.0),
         TyKind::Coroutine(def, _) => item_outline(Form::Coroutine, &def.0),
         TyKind::CoroutineWitness(def, _) => item_outline(Form::CoroutineWitness, &def.0),
-        TyKind::Alias(alias) => item_outline(Form::Alias, &aliased_item(&alias.kind)),
+        TyKind::Alias(alias) => item_outline(Form::Alias, &alias_item(&alias.kind).0),
         TyKind::RawPtr(_, mutability) => pointer_outline(Form::RawPtr, *mutability),
         TyKind::Ref(_, _, mutability) => pointer_outline(Form::Ref, *mutability),
         TyKind::Array(..) => plain_outline(Form::Array),

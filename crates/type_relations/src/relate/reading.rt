@@ -10,17 +10,16 @@ ghost use Rattle.relation_contexts.specs.Errors.{FormError, ConstFormError, AreO
 ghost use Rattle.relation_contexts.specs.Parts.{IsFormedConst, IsByParts, IsComparedPart, parts_of, const_parts_of};
 ghost use Rattle.relation_contexts.specs.Parts.{head_of};
 ghost use Rattle.type_relations.specs.Keyed.{AskedTys, ShownTys, NotedTys, AreOver, part_in, const_part_in, declared_in};
-ghost use Rattle.type_relations.specs.Keyed.{alias_in};
 ghost use Rattle.type_relations.specs.Comparing.{AreOfOneFormBy, PartsDiffer, nth_part, nth_const_part};
 ghost use Rattle.type_relations.specs.Handing.{IsResultOfTy, IsResultOfConst, named_place};
 
 use crate::relate::comparing::{compare_consts, compare_members, compare_parts, compare_tys};
-use crate::relate::forms::{aliased_item, is_error, is_error_const};
+use crate::relate::forms::{is_error, is_error_const};
 use crate::relate::parts::{
     const_part, const_parts_count, is_by_parts, part, parts_count, term_part, term_parts_count,
 };
 use crate::relate::{TypeRelation, handing};
-use relation_contexts::variances::pointee;
+use relation_contexts::variances::{alias_argument_variance, pointee};
 use relation_folds::error::{RelateResult, TypeErrorOf};
 use relation_terms::terms::{
     Const, ConstKind, DefId, GenericArg, GenericArgs, Interner, ItemOf, Part, PartOf, Ty, TyKind,
@@ -191,19 +190,6 @@ pub(crate) fn declared_at<I: Interner, R: TypeRelation<I>>(
     }
 }
 
-// The variance at which an alias type's argument is related.
-pub(crate) fn alias_at<I: Interner, R: TypeRelation<I>>(r: &R, def_id: &ItemOf<I>, i: usize) -> Variance
-    ensures { result ≡ alias_in (R.state r.now) def_id.now i }
-{
-    let Some(variances) = r.cx().opt_alias_variances(def_id) else {
-        return Variance::Invariant;
-    };
-    match variances.get(i) {
-        Some(variance) => *variance,
-        None => Variance::Invariant,
-    }
-}
-
 // The variance at which the part of a type at a place is related, seen from the type's own.
 pub(crate) fn variance_at<I: Interner, R: TypeRelation<I>>(r: &R, ty: &Ty<I>, i: usize) -> Variance
     requires ty_known { IsTrue (known ((R.state r.now).meaning.ty ty.now)) }
@@ -213,7 +199,7 @@ pub(crate) fn variance_at<I: Interner, R: TypeRelation<I>>(r: &R, ty: &Ty<I>, i:
     match &kind {
         TyKind::Adt(def, _) => declared_at(r, &DefId(def.0), i),
         TyKind::FnDef(def, _) => declared_at(r, &DefId(def.0), i),
-        TyKind::Alias(alias) => alias_at(r, &DefId(aliased_item(&alias.kind)), i),
+        TyKind::Alias(alias) => alias_argument_variance(r.cx(), &alias.kind, i),
         TyKind::Closure(..)
         | TyKind::CoroutineClosure(..)
         | TyKind::Coroutine(..)
