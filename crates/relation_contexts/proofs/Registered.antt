@@ -18,14 +18,15 @@ use Rattle.relation_terms.specs.declared.predicate.kinds.PredicateKind.{Predicat
 use Rattle.relation_terms.specs.declared.predicate.kinds.PredicateKind.TheVariants.{Subtype, Clause}
 use Rattle.relation_terms.specs.declared.predicate.kinds.ClauseKind.TheVariants.{WellFormed}
 use Rattle.relation_terms.specs.declared.terms.generic_arg.TermKind.TheVariants.{Ty as TyTerm}
-use Rattle.relation_terms.specs.Heads.{type_var, Head, alias, unevaluated, subtype, well_formed}
-use Rattle.relation_terms.specs.Trees.{Tree, node, bind, nil, cons, known}
+use Rattle.relation_terms.specs.Heads.{type_var, Head, alias, unevaluated, subtype, well_formed, variable, bound, placeholder, atom, unknown}
+use Rattle.relation_terms.specs.Trees.{Tree, leaf, node, bind, nil, cons, known}
 use Rattle.relation_terms.specs.Meaning.{Meaning, Extends, under}
 use Rattle.relation_terms.specs.Predicates.{predicate_tree}
-use Rattle.relation_contexts.specs.Stores.{Store, Entry, unbound, same_as, bound_to, entry_of, InContext}
+use Rattle.relation_contexts.specs.Stores.{Store, Entry, unbound, same_as, bound_to, entry_of, entry_term, InContext}
 use Rattle.relation_contexts.specs.Relation.{Items, IsAlias}
 use Rattle.relation_contexts.specs.Settings.{Settings}
-use Rattle.relation_contexts.specs.Kits.{Kit, IsBuiltOf, IsPredicateOf, IsGoalOf}
+use Rattle.relation_contexts.specs.Kits.{Kit, IsBuiltOf, BindsBuiltOf, IsPredicateOf, IsGoalOf}
+use Rattle.relation_contexts.specs.FirstOrder.{IsFirstOrderHead, IsFirstOrder, IsFirstOrderStore}
 use Rattle.relation_contexts.specs.Goals.{Goal, goal_of, goals_of, KnowsGoal, subtype_predicate, well_formed_predicate, IsRegistered, of_variables, of_type, of_alias, of_too_much, Registered, GoalInContext, IsDirected, ByDeclared}
 use Rattle.relation_contexts.specs.Steps.{IsLater}
 use Rattle.relation_contexts.proofs.Classes.{stands_from}
@@ -166,6 +167,26 @@ lacks_alias (node (alias k d) ts) h o = false≢true h.0
 lacks_alias (node (unevaluated d) ts) h o = false≢true h.0
 lacks_alias (node h ts) f o = o
 lacks_alias t h o = o
+
+first_order_head : (h : Head) → IsFirstOrderHead h → IsTrue (no_aliases h)
+first_order_head (alias k d) o = absurd o
+first_order_head (unevaluated d) o = absurd o
+first_order_head h o = refl
+
+pub first_order_built : (t : Tree) → IsFirstOrder t → IsBuiltOf all_but_aliases t
+unfolding all_but_aliases
+first_order_built (leaf (variable k n)) h = tt
+first_order_built (leaf (bound k d i)) h = tt
+first_order_built (leaf (placeholder k u n)) h = tt
+first_order_built (leaf (atom x)) h = refl
+first_order_built (leaf unknown) h = tt
+first_order_built (node f ts) h = (first_order_head f h.0, first_order_built ts h.2.2.1)
+first_order_built (bind ks t) h = absurd h
+first_order_built nil h = tt
+first_order_built (cons t u) h = (first_order_built t h.0, first_order_built u h.1)
+
+pub first_order_bindings : (st : Store) → IsFirstOrderStore st → BindsBuiltOf all_but_aliases st
+first_order_bindings st h = λ j n t e. first_order_built t (h j n t (ap (entry_term j) e))
 
 pub none_at_invariance : {c : Items} {k : Settings} {e : Tree} {before after : Store} (gs : List Goal) (v : Variance) →
     v ≡ Invariant → IsFalse k.declared_at_invariance → All (IsGoalOf all_but_aliases) gs →
