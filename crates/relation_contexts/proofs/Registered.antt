@@ -124,11 +124,11 @@ alias_is e = cc
 pub alias_registered : (c : Items) (k : Settings) (v : Variance) (before after : Store) (a b p : Tree) →
     k.structurally_relate_aliases ≡ No → alias_at v a b ≡ Some p → IsAlias a ⊎ IsAlias b → InContext after a →
     InContext after b → IsRegistered c k v before after p
-alias_registered c k Covariant before after a b p no e o i j = of_alias SubtypeOf a b no (alias_is e) o (inr tt) i j
-alias_registered c k Contravariant before after a b p no e (inl o) i j = of_alias SubtypeOf b a no (alias_is e) (inr o) (inr tt) j i
-alias_registered c k Contravariant before after a b p no e (inr o) i j = of_alias SubtypeOf b a no (alias_is e) (inl o) (inr tt) j i
-alias_registered c k Invariant before after a b p no e o i j = of_alias Equate a b no (alias_is e) o (inl refl) i j
-alias_registered c k Bivariant before after a b p no e o i j = absurd cc
+alias_registered c k Covariant before after a b p is e o i j = of_alias SubtypeOf a b is (alias_is e) o (inr tt) i j
+alias_registered c k Contravariant before after a b p is e (inl o) i j = of_alias SubtypeOf b a is (alias_is e) (inr o) (inr tt) j i
+alias_registered c k Contravariant before after a b p is e (inr o) i j = of_alias SubtypeOf b a is (alias_is e) (inl o) (inr tt) j i
+alias_registered c k Invariant before after a b p is e o i j = of_alias Equate a b is (alias_is e) o (inl refl) i j
+alias_registered c k Bivariant before after a b p is e o i j = absurd cc
 
 pub alias_built : (k : Kit) (v : Variance) (a b p : Tree) → alias_at v a b ≡ Some p → IsBuiltOf k a → IsBuiltOf k b →
     IsPredicateOf k p
@@ -180,7 +180,7 @@ first_order_built (leaf (bound k d i)) h = tt
 first_order_built (leaf (placeholder k u n)) h = tt
 first_order_built (leaf (atom x)) h = refl
 first_order_built (leaf unknown) h = tt
-first_order_built (node f ts) h = (first_order_head f h.0, first_order_built ts h.2.2.1)
+first_order_built (node f ts) h = (first_order_head f h.0, first_order_built ts h.3)
 first_order_built (bind ks t) h = absurd h
 first_order_built nil h = tt
 first_order_built (cons t u) h = (first_order_built t h.0, first_order_built u h.1)
@@ -191,6 +191,7 @@ first_order_bindings st h = λ j n t e. first_order_built t (h j n t (ap (entry_
 pub none_at_invariance : {c : Items} {k : Settings} {e : Tree} {before after : Store} (gs : List Goal) (v : Variance) →
     v ≡ Invariant → IsFalse k.declared_at_invariance → All (IsGoalOf all_but_aliases) gs →
     All (Registered c k v e before after) gs → gs ≡ []
+unfolding all_but_aliases
 none_at_invariance [] v is off asks h = refl
 none_at_invariance {c = c} {k = k} {e = e} {before = before} {after = after} (g ∷ gs) v is off asks h =
     absurd (not_so g.predicate (All-head (IsGoalOf all_but_aliases) g gs asks)
@@ -200,7 +201,6 @@ none_at_invariance {c = c} {k = k} {e = e} {before = before} {after = after} (g 
     undirected o = subst IsDirected is o
 
     not_so : (p : Tree) → IsPredicateOf all_but_aliases p → IsRegistered c k v before after p → ⊥
-    unfolding all_but_aliases
     not_so p s (of_variables x n m o e f g) = undirected o
     not_so p s (of_type t (inl o) e i b) = undirected o
     not_so p s (of_type t (inr o) e i b) = false≢true (sym off ∙ o)

@@ -58,8 +58,8 @@ module _ {Key Id Name : Type 0} (r q : State Key Id Name) where
     stopped p h is = subst (StepRegistersAlone r q (q.meaning).ty ((r.meaning).ty a) p) (sym is)
         (none_alone ((r.meaning).ty a) p h)
 
-    same_goal : {x y p : Tree} → Some x ≡ Some p → RegistersOne r q x → RegistersOne r q p
-    same_goal e h = let i = e in let z : _ ≡ _ = some_is i in subst (RegistersOne r q) z h
+    same_goal : (x p : Tree) → Some x ≡ Some p → RegistersOne r q x → RegistersOne r q p
+    same_goal x p e h = subst (RegistersOne r q) (some_is e) h
       where
         some_is : {x y : Tree} → Some x ≡ Some y → x ≡ y
         some_is e = cc
@@ -73,9 +73,9 @@ module _ {Key Id Name : Type 0} (r q : State Key Id Name) where
         none : None ≡ Some p → ⊥
         none e = cc
     variables_alone p e (left_subtype is h o) =
-        done p (same_goal {y = p} (subst (λ v. subtype_at v ((r.meaning).ty a) ((r.meaning).ty b) ≡ Some p) is e) h) o
+        done p (same_goal _ p (subst (λ v. subtype_at v ((r.meaning).ty a) ((r.meaning).ty b) ≡ Some p) is e) h) o
     variables_alone p e (right_subtype is h o) =
-        done p (same_goal {y = p} (subst (λ v. subtype_at v ((r.meaning).ty a) ((r.meaning).ty b) ≡ Some p) is e) h) o
+        done p (same_goal _ p (subst (λ v. subtype_at v ((r.meaning).ty a) ((r.meaning).ty b) ≡ Some p) is e) h) o
     variables_alone p e (goal_refused directed h o) = stopped p h o
 
     -- Of an alias and another type.
@@ -84,7 +84,7 @@ module _ {Key Id Name : Type 0} (r q : State Key Id Name) where
         TysCombine r q a b res → Alone p
     alias_alone p l o clean e (left_error h t is) = absurd (clean.0 h)
     alias_alone p l o clean e (right_error n h t is) = absurd (clean.1 h)
-    alias_alone p l o clean e (left_to_goal z c k i d h is) = done p (same_goal {y = p} (sym d ∙ e) h) is
+    alias_alone p l o clean e (left_to_goal z c k i d h is) = done p (same_goal _ p (sym d ∙ e) h) is
     alias_alone p l o clean e (left_open c k i h is) = absurd (false≢true (sym k.0 ∙ l.0))
     alias_alone p l o clean e (not_registered c k h is) = stopped p h is
     alias_alone p l o clean e (not_left c n g h) = absurd (n (inl (l, o)))

@@ -20,6 +20,10 @@ use Rattle.relation_terms.specs.declared.terms.ty_kind.InferTy.{InferTy}
 use Rattle.relation_terms.specs.declared.terms.const_kind.ConstKind.{ConstKind}
 use Rattle.relation_terms.specs.declared.terms.const_kind.InferConst.TheVariants.{Var, Fresh}
 use Rattle.relation_terms.specs.declared.terms.const_kind.ParamConst.{ParamConst}
+use Rattle.relation_terms.specs.declared.terms.const_kind.InferConst.{InferConst}
+use Rattle.relation_terms.specs.declared.terms.placeholder.BoundConst.{BoundConst}
+use Rattle.relation_terms.specs.declared.terms.numbers.DebruijnIndex.{DebruijnIndex}
+use Rattle.relation_terms.specs.declared.terms.alias.ErrorGuaranteed.{ErrorGuaranteed}
 use Rattle.relation_terms.specs.declared.terms.const_kind.ExprKind.{ExprKind}
 use Rattle.relation_terms.specs.declared.terms.keys.ValTreeKey.{ValTreeKey}
 use Rattle.relation_terms.specs.declared.terms.keys.ArgsKey.{ArgsKey}
@@ -406,6 +410,26 @@ module _ {Key Id Name : Type 0} (m : Meaning Key Id Name) where
 
   pub unlike_const : (k l : ConstKind Key Id Name) (x y : ConstKey Key) (e : TypeError Key Id Name) → m.const_ x ≡ const_tree m k → m.const_ y ≡ const_tree m l → HaveNoError (m.const_ x) (m.const_ y) → IsUnlikeConst k l → e ≡ ConstMismatch (record { expected = x; found = y }) → ConstFormError m x y e
   unlike_const k l x y e p q none o is = unlike_consts_as x y (const_tree m k) (const_tree m l) e p q (subst₂ HaveNoError p q none) (unlike_const_trees k l o) is
+
+  -- Variables, stand-ins, what a binder binds, and errors.
+  abbrev IsUnruled : ConstKind Key Id Name → Type 0
+  IsUnruled k = ((i : InferConst) × (k ≡ ConstInfer i)) ⊎
+      ((d : DebruijnIndex) × (b : BoundConst Name) × (k ≡ ConstBound d b)) ⊎ ((z : ErrorGuaranteed) × (k ≡ ConstError z))
+
+  -- No constant that is asked about is of these.
+  pub ruled_const : (k : ConstKind Key Id Name) (t : Tree) → t ≡ const_tree m k → IsFormedConst t → IsCovered t →
+      (IsError t → ⊥) → IsUnruled k → ⊥
+  ruled_const k t is f c n u = go k (subst IsFormedConst is f) (subst IsCovered is c) (λ e. n (subst IsError (sym is) e)) u
+    where
+      go : (k : ConstKind Key Id Name) → IsFormedConst (const_tree m k) → IsCovered (const_tree m k) →
+          (IsError (const_tree m k) → ⊥) → IsUnruled k → ⊥
+      go (ConstInfer (Var v)) f c n u = absurd f
+      go (ConstInfer (Fresh x)) f c n u = absurd c
+      go (ConstBound d b) f c n u = absurd f
+      go (ConstError z) f c n u = n tt
+      go k f c n (inl (i, e)) = absurd (cc)
+      go k f c n (inr (inl (d, b, e))) = absurd (cc)
+      go k f c n (inr (inr (z, e))) = absurd (cc)
 
   pub param_const : (p : ParamConst Name) (l : ConstKind Key Id Name) → ((q : ParamConst Name) → l ≡ ConstParam q → p.index ≡ q.index → ⊥) → IsUnlikeConst (ConstParam p) l
   param_const p (ConstParam q) o = o q refl

@@ -202,9 +202,9 @@ module _ {Key Id Name : Type 0} (m : Meaning Key Id Name) (x y : TyKey Key) (o p
 
       go : (o.form ≡ Alias) ⊎ (o.form ≢ Alias) → FormError m x y e
       go (inl is) = apart is
-      go (inr no) = unlike_types (λ a. n (ap (λ z. z.item) left
-          ∙ alike_item (m.ty x) (m.ty y) (λ z. no (ap (λ z. z.form) left ∙ z))
-          (λ z. no (form ∙ ap (λ z. z.form) right ∙ z)) a ∙ sym (ap (λ z. z.item) right))) e (others no)
+      go (inr other) = unlike_types (λ a. n (ap (λ z. z.item) left
+          ∙ alike_item (m.ty x) (m.ty y) (λ z. other (ap (λ z. z.form) left ∙ z))
+          (λ z. other (form ∙ ap (λ z. z.form) right ∙ z)) a ∙ sym (ap (λ z. z.item) right))) e (others other)
 
   module _ (parted : o.form ≡ Leaf → ⊥) (form : o.form ≡ p.form) where
     some_left : (tree_outline (m.ty x)).form ≡ Leaf → ⊥
@@ -220,11 +220,11 @@ module _ {Key Id Name : Type 0} (m : Meaning Key Id Name) (x y : TyKey Key) (o p
     right_head = right ∙ outline_head (m.ty y) some_right
 
     left_from : o.form ≢ Alias → head_of (m.ty x) ≡ from o.form (named m.id o.item) o.mutability
-    left_from no = rebuilt (head_of (m.ty x)) (λ e. no (ap (λ z. z.form) left_head ∙ e))
+    left_from other = rebuilt (head_of (m.ty x)) (λ e. other (ap (λ z. z.form) left_head ∙ e))
         (λ e. some_left (ap (λ z. z.form) (outline_head (m.ty x) some_left) ∙ e)) ∙ ap head_from (sym left_head)
 
     right_from : o.form ≢ Alias → head_of (m.ty y) ≡ from p.form (named m.id p.item) p.mutability
-    right_from no = rebuilt (head_of (m.ty y)) (λ e. no (form ∙ ap (λ z. z.form) right_head ∙ e))
+    right_from other = rebuilt (head_of (m.ty y)) (λ e. other (form ∙ ap (λ z. z.form) right_head ∙ e))
         (λ e. some_right (ap (λ z. z.form) (outline_head (m.ty y) some_right) ∙ e)) ∙ ap head_from (sym right_head)
 
     left_own : o.mutability ≡ own_mutability o.form o.mutability
@@ -241,13 +241,13 @@ module _ {Key Id Name : Type 0} (m : Meaning Key Id Name) (x y : TyKey Key) (o p
       where
         is_left : (f : Form) → f ≢ Alias → o.form ≡ f →
             m.ty x ≡ node (from f (named m.id o.item) o.mutability) (parts_of (m.ty x))
-        is_left f no e = over_node (m.ty x) some_left ∙ ap (λ h. node h (parts_of (m.ty x)))
-            (left_from (λ z. no (sym e ∙ z)) ∙ ap (λ z. from z (named m.id o.item) o.mutability) e)
+        is_left f other e = over_node (m.ty x) some_left ∙ ap (λ h. node h (parts_of (m.ty x)))
+            (left_from (λ z. other (sym e ∙ z)) ∙ ap (λ z. from z (named m.id o.item) o.mutability) e)
 
         is_right : (f : Form) → f ≢ Alias → o.form ≡ f →
             m.ty y ≡ node (from f (named m.id p.item) p.mutability) (parts_of (m.ty y))
-        is_right f no e = over_node (m.ty y) some_right ∙ ap (λ h. node h (parts_of (m.ty y)))
-            (right_from (λ z. no (sym e ∙ z)) ∙ ap (λ z. from z (named m.id p.item) p.mutability) (sym form ∙ e))
+        is_right f other e = over_node (m.ty y) some_right ∙ ap (λ h. node h (parts_of (m.ty y)))
+            (right_from (λ z. other (sym e ∙ z)) ∙ ap (λ z. from z (named m.id p.item) p.mutability) (sym form ∙ e))
 
         both : (f : Form) → o.form ≡ f → own_mutability f o.mutability ≡ own_mutability f p.mutability → ⊥
         both f e q = n (left_own ∙ ap (λ z. own_mutability z o.mutability) e ∙ q
@@ -255,19 +255,19 @@ module _ {Key Id Name : Type 0} (m : Meaning Key Id Name) (x y : TyKey Key) (o p
 
         go : (f : Form) → o.form ≡ f → FormError m x y MutabilityError
         go RawPtr e =
-            let no : RawPtr ≢ Alias = (λ z. absurd (cc)) in
-            pointer_mutability (is_left RawPtr no e) (is_right RawPtr no e) n
+            let other : RawPtr ≢ Alias = (λ z. absurd (cc)) in
+            pointer_mutability (is_left RawPtr other e) (is_right RawPtr other e) n
         go Ref e =
-            let no : Ref ≢ Alias = (λ z. absurd (cc)) in mutability (is_left Ref no e) (is_right Ref no e) n
+            let other : Ref ≢ Alias = (λ z. absurd (cc)) in mutability (is_left Ref other e) (is_right Ref other e) n
         go f e = absurd (both f e refl)
 
     module _ (item : named m.id o.item ≡ named m.id p.item) (same : o.mutability ≡ p.mutability) where
       one_head : o.form ≢ Alias → head_of (m.ty x) ≡ head_of (m.ty y)
-      one_head no = left_from no ∙ ap (λ z. from z (named m.id o.item) o.mutability) form
-          ∙ ap (λ z. from p.form z o.mutability) item ∙ ap (from p.form (named m.id p.item)) same ∙ sym (right_from no)
+      one_head other = left_from other ∙ ap (λ z. from z (named m.id o.item) o.mutability) form
+          ∙ ap (λ z. from p.form z o.mutability) item ∙ ap (from p.form (named m.id p.item)) same ∙ sym (right_from other)
 
       over_right : o.form ≢ Alias → m.ty y ≡ node (head_of (m.ty x)) (parts_of (m.ty y))
-      over_right no = over_node (m.ty y) some_right ∙ ap (λ h. node h (parts_of (m.ty y))) (sym (one_head no))
+      over_right other = over_node (m.ty y) some_right ∙ ap (λ h. node h (parts_of (m.ty y))) (sym (one_head other))
 
       -- Two aliases of one item.
       one_item : o.form ≡ Alias → (k : AliasKind) × (l : AliasKind) × (d : ℕ) ×
@@ -284,7 +284,7 @@ module _ {Key Id Name : Type 0} (m : Meaning Key Id Name) (x y : TyKey Key) (o p
         where
           go : (o.form ≡ Alias) ⊎ (o.form ≢ Alias) → AreOfOneForm (m.ty x) (m.ty y)
           go (inl is) = let (k, l, d, t, u) = one_item is in over_aliases t u n
-          go (inr no) = over_parts (over_node (m.ty x) some_left) (over_right no) n
+          go (inr other) = over_parts (over_node (m.ty x) some_left) (over_right other) n
 
       pub unlike_counts : (i j : ℕ) → i ≡ count (parts_of (m.ty x)) → j ≡ count (parts_of (m.ty y)) → i ≢ j →
           (e : TypeError Key Id Name) →
@@ -298,15 +298,15 @@ module _ {Key Id Name : Type 0} (m : Meaning Key Id Name) (x y : TyKey Key) (o p
 
           go : (o.form ≡ Tuple) ⊎ (o.form ≢ Tuple) → (o.form ≡ Alias) ⊎ (o.form ≢ Alias) → FormError m x y e
           go (inl t) (inl is) = absurd (let z : Tuple ≡ Alias = sym t ∙ is in cc)
-          go (inl t) (inr no) =
+          go (inl t) (inr other) =
               let h : head_of (m.ty x) ≡ tuple =
-              left_from no ∙ ap (λ z. from z (named m.id o.item) o.mutability) t in
+              left_from other ∙ ap (λ z. from z (named m.id o.item) o.mutability) t in
               lengths_error m i j (parts_of (m.ty x)) (parts_of (m.ty y)) x y e
               (over_node (m.ty x) some_left ∙ ap (λ z. node z (parts_of (m.ty x))) h)
-              (over_right no ∙ ap (λ z. node z (parts_of (m.ty y))) h) ci cj differ (sizes t) empty
+              (over_right other ∙ ap (λ z. node z (parts_of (m.ty y))) h) ci cj differ (sizes t) empty
           go (inr n) (inl is) =
               let (k, l, d, t, u) = one_item is in
               subst (FormError m x y) (sym (others n)) (alias_arguments t u unequal)
-          go (inr n) (inr no) = subst (FormError m x y) (sym (others n))
-              (as_many (over_node (m.ty x) some_left) (over_right no)
+          go (inr n) (inr other) = subst (FormError m x y) (sym (others n))
+              (as_many (over_node (m.ty x) some_left) (over_right other)
               (λ h. n (ap (λ z. z.form) left_head ∙ ap (λ z. (head_outline z).form) h)) unequal)

@@ -66,7 +66,12 @@ module _ {Key Id Name : Type 0} (m : Meaning Key Id Name) where
   alias_form a f = (tt, opaque_kind a.kind _ _ f)
 
   pub opaque_form : (a : AliasTy Key Id) (x : _) → a.kind ≡ OpaqueKind x → StandsAs Opaque (kind_tree m (AliasForm a))
-  opaque_form a x e = subst (λ k. IsOpaque (node (alias (alias_kind k) _) (m.args a.args))) (sym e) tt
+  opaque_form a x e = form a.kind e
+    where
+      form : (k : AliasTyKind Id) → k ≡ OpaqueKind x →
+          StandsAs Opaque (kind_tree m (AliasForm (record { kind = k; args = a.args })))
+      form (OpaqueKind y) i = tt
+      form k i = absurd cc
 
   -- A constant that isn't evaluated, and no opaque type is a constant.
   pub evaluated_kind : (k : ConstKind Key Id Name) → ((u : _) → k ≡ Unevaluated u → ⊥) → IsAlias (const_tree m k) → ⊥
@@ -94,7 +99,7 @@ opaque_beside t (leaf (variable k n)) o f = absurd (f (k, n, refl))
 opaque_beside t u o f = o
 
 pub beside_no_variable : (t u : Tree) → IsOpaqueBeside t u → IsVariable u → ⊥
-beside_no_variable t u o v = subst (IsOpaqueBeside t) v.2.1 o
+beside_no_variable t u o v = subst (IsOpaqueBeside t) v.2 o
 
 -- What stands so is no error, or an alias, or none.
 error_no_alias : (t : Tree) → IsError t → IsAlias t → ⊥
@@ -102,11 +107,11 @@ error_no_alias (leaf l) e a = a
 error_no_alias t e a = e
 
 variable_no_alias : (t : Tree) → IsVariable t → IsAlias t → ⊥
-variable_no_alias t v a = subst IsAlias v.2.1 a
+variable_no_alias t v a = subst IsAlias v.2 a
 
 pub clean : (s : Standing) (t : Tree) → StandsAs s t → (s ≡ Error → ⊥) → IsError t → ⊥
 clean Error t h f e = f refl
-clean Variable t h f e = subst IsError h.2.1 e
+clean Variable t h f e = subst IsError h.2 e
 clean Opaque t h f e = error_no_alias t e (opaque_is_alias t h)
 clean Alias t h f e = error_no_alias t e h.0
 clean Other t h f e = h.0 e

@@ -52,14 +52,11 @@ error_in_kit k (leaf (atom x)) e h n = e
 error_in_kit k t e h n = e
 
 module _ {Key Id Name K : Type 0} (F : Tree → Type 0) {r q : State Key Id Name} (a b : Tree) (tree : K → Tree) where
-  abbrev asked : Tree → Goal
-  asked p = goal_of r.kept.environment p
-
   -- One goal was registered.
   module _ (p : Tree) {A E : Type 0} {x : A} (h : RegistersGoal {F = E} r q p (Ok x))
       (asks : IsRegistered (items_in r) r.kept.settings r.ambient r.store r.store p) where
     -- It relates the two, and the answer is one that it does.
-    pub goal_step : Outcome (items_in r) r.kept.environment (at r.ambient) r.store r.store r.goals (asked p ∷ []) a b →
+    pub goal_step : Outcome (items_in r) r.kept.environment (at r.ambient) r.store r.store r.goals (goal_of r.kept.environment p ∷ []) a b →
         (t : K) → MayAnswer solver_manner q r.ambient a (tree t) → IsTrue (known (tree t)) →
         Agree r.kept.settings (items_in r) (at r.ambient) a b → (IsFirstOrderPair r.store a b → ⊥) →
         ((k : Kit) → IsBuiltOf k a → IsBuiltOf k b → IsPredicateOf k p) →
@@ -68,7 +65,7 @@ module _ {Key Id Name K : Type 0} (F : Tree → Type 0) {r q : State Key Id Name
     goal_step outcome t answer sure agreeing not_first built = record {
       passes = goal_passes p h asks (weight r.store a + weight r.store b);
       verdict = record {
-        outcome = subst (λ st. Outcome (items_in r) r.kept.environment (at r.ambient) r.store st r.goals (asked p ∷ []) a b)
+        outcome = subst (λ st. Outcome (items_in r) r.kept.environment (at r.ambient) r.store st r.goals (goal_of r.kept.environment p ∷ []) a b)
             (sym h.store) outcome;
         answer = answer;
         known = sure;
@@ -76,9 +73,9 @@ module _ {Key Id Name K : Type 0} (F : Tree → Type 0) {r q : State Key Id Name
       };
       exact = λ z is pair. absurd (not_first pair);
       full = λ ha hb. full_same h.store;
-      built = λ k ha hb all. subst (λ st. Builds k r.store st (asked p ∷ [])) (sym h.store)
-          (builds_asking k r.store (asked p ∷ [])
-          (All-cons (IsGoalOf k) (asked p) [] (built k ha hb) (All-nil (IsGoalOf k))) all);
+      built = λ k ha hb all. subst (λ st. Builds k r.store st (goal_of r.kept.environment p ∷ [])) (sym h.store)
+          (builds_asking k r.store (goal_of r.kept.environment p ∷ [])
+          (All-cons (IsGoalOf k) (goal_of r.kept.environment p) [] (built k ha hb) (All-nil (IsGoalOf k))) all);
     }
 
   -- Or it was not.

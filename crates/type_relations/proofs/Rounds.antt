@@ -32,7 +32,7 @@ use Rattle.relation_contexts.proofs.Standing.{term_context}
 use Rattle.relation_contexts.proofs.Going.{grown-mono, le_grown, depth-strict, depth_later}
 use Rattle.relation_contexts.proofs.Full.{first_order_plain, full_never}
 use Rattle.relation_contexts.proofs.Building.{built_led, built_then}
-use Rattle.relation_contexts.proofs.Answering.{may_itself, same_items}
+use Rattle.relation_contexts.proofs.Answering.{may_itself, same_items, same_settings}
 use Rattle.relation_contexts.proofs.Composing.{steps_compose, values_still}
 use Rattle.relation_contexts.proofs.Opening.{two_rounds_relate}
 use Rattle.relation_contexts.proofs.Passing.{passes_then, manner_then, stopped, asked_later, outcome_seen}

@@ -420,25 +420,24 @@ module _ {Key Id Name : Type 0} (r0 : State Key Id Name) (L K : Type 0) (lawful 
       (covered : IsCovered t) (t_in : IsTermIn c.store t) (t_known : IsTrue (known t)) (stands : IsTerm type_sort t)
       (x : Variance) (seen : r0.ambient ≡ Invariant → x ≡ Invariant) (u_known : IsTrue (known u))
       (f : InstantiatesBy al (items_of c.meaning) c.store d.store x type_var target t u)
-      (is : u ≡ leaf (variable type_var m)) (no : al ≡ No) (left : IsAlias t) {p : State Key Id Name} (pred : Tree)
-      {A E : Type 0} where
-    abbrev r : State Key Id Name
-    r = standing r0 c.meaning c.store L
+      (is : u ≡ leaf (variable type_var m)) (no_sides : al ≡ No) (left : IsAlias t) (p : State Key Id Name) (pred : Tree) where
+    abbrev ra : State Key Id Name
+    ra = standing r0 c.meaning c.store L
 
-    abbrev q : State Key Id Name
-    q = standing r0 d.meaning d.store K
+    abbrev qa : State Key Id Name
+    qa = standing r0 d.meaning d.store K
 
-    abbrev root : Tree
-    root = leaf (variable type_var target)
+    abbrev lone : Tree
+    lone = leaf (variable type_var target)
 
-    abbrev asked : Goal
-    asked = goal_of r0.kept.environment pred
+    abbrev the_goal : Goal
+    the_goal = goal_of r0.kept.environment pred
 
-    bound : Instantiates c.store d.store x type_var target t u
-    bound = steps type_var tt c d grown before numbers all target t u covered t_in t_known stands x seen u_known f
+    is_bound : Instantiates c.store d.store x type_var target t u
+    is_bound = steps type_var tt c d grown before numbers all target t u covered t_in t_known stands x seen u_known f
 
     bound_to_it : Instantiates c.store d.store x type_var target t (leaf (variable type_var m))
-    bound_to_it = subst (Instantiates c.store d.store x type_var target t) is bound
+    bound_to_it = subst (Instantiates c.store d.store x type_var target t) is is_bound
 
     spends : (N : ℕ) → weight c.store t ≤ N → Goes N c.store d.store
     spends N small =
@@ -447,17 +446,17 @@ module _ {Key Id Name : Type 0} (r0 : State Key Id Name) (L K : Type 0) (lawful 
     instantiates : InstantiatesNone c.store → ⊥
     instantiates = could type_var tt c d grown before numbers all target t u covered t_in t_known stands x seen u_known f
 
-    first_weight : weight c.store t ≤ weight c.store root + weight c.store t
+    first_weight : weight c.store t ≤ weight c.store lone + weight c.store t
     first_weight = omega arith
 
-    second_weight : weight c.store t ≤ weight c.store t + weight c.store root
+    second_weight : weight c.store t ≤ weight c.store t + weight c.store lone
     second_weight = omega arith
 
     now_in : InContext d.store t
-    now_in = later_context c.store d.store (bound.later).grows t (term_context c.store t t_in)
+    now_in = later_context c.store d.store (is_bound.later).grows t (term_context c.store t t_in)
 
     u_context : InContext d.store u
-    u_context = term_context d.store u bound.term_in
+    u_context = term_context d.store u is_bound.term_in
 
     root_sort : sort_of t ≡ type_sort
     root_sort = term_sort_of type_var t stands
@@ -466,27 +465,27 @@ module _ {Key Id Name : Type 0} (r0 : State Key Id Name) (L K : Type 0) (lawful 
     not_first = alias_not_first t left
 
     built_then : (k : Kit) → IsBuiltOf k t → BindsBuiltOf k c.store → IsPredicateOf k pred → p.store ≡ d.store →
-        Builds k c.store p.store (asked ∷ [])
-    built_then k h binds asks same = builds_noting k [] (asked ∷ []) same (builds_instantiated bound k binds h)
-        (All-cons (IsGoalOf k) asked [] asks (All-nil (IsGoalOf k)))
+        Builds k c.store p.store (the_goal ∷ [])
+    built_then k h binds asks same = builds_noting k [] (the_goal ∷ []) same (builds_instantiated is_bound k binds h)
+        (All-cons (IsGoalOf k) the_goal [] asks (All-nil (IsGoalOf k)))
 
-    module _ {z : A} (h : RegistersGoal {F = E} q p pred (Ok z)) {X : Type 0} (F : Tree → Type 0) (tree : X → Tree) (a : X) where
+    module _ {A E : Type 0} {z : A} (h : RegistersGoal {F = E} qa p pred (Ok z)) {X : Type 0} (F : Tree → Type 0) (tree : X → Tree) (a : X) where
       -- What is asked of that one and the alias was registered.
-      pub left_asks : alias_at r0.ambient u t ≡ Some pred → tree a ≡ root →
-          Stepped solver_manner F r p root t tree (Ok (Done a))
+      pub left_asks : alias_at r0.ambient u t ≡ Some pred → tree a ≡ lone →
+          Stepped solver_manner F ra p lone t tree (Ok (Done a))
       unfolding over_passes passes_then goal_passes
       left_asks e answer = record {
-        passes = passes_then (over_passes r0 grown (spends (weight c.store root + weight c.store t) first_weight) lawful)
-            (goal_passes pred h (alias_registered (items_of d.meaning) r0.kept.settings r0.ambient d.store d.store u t pred no e
+        passes = passes_then (over_passes r0 grown (spends (weight c.store lone + weight c.store t) first_weight) lawful)
+            (goal_passes pred h (alias_registered (items_of d.meaning) r0.kept.settings r0.ambient d.store d.store u t pred no_sides e
             (inr left) u_context now_in) 0) (omega arith);
         verdict = record {
-          outcome = subst (λ st. Outcome (items_of c.meaning) r0.kept.environment (at r0.ambient) c.store st r0.goals (asked ∷ [])
-              root t) (sym h.store) (bound_left (items_of c.meaning) r0.kept.environment x r0.ambient c.store d.store r0.goals
+          outcome = subst (λ st. Outcome (items_of c.meaning) r0.kept.environment (at r0.ambient) c.store st r0.goals (the_goal ∷ [])
+              lone t) (sym h.store) (bound_left (items_of c.meaning) r0.kept.environment x r0.ambient c.store d.store r0.goals
               target m t (term_context c.store t t_in) stands bound_to_it pred
               (subst (λ z. alias_at r0.ambient z t ≡ Some pred) is e));
-          answer = subst (MayAnswer solver_manner p r0.ambient root) (sym answer) (may_itself solver_manner p r0.ambient root);
+          answer = subst (MayAnswer solver_manner p r0.ambient lone) (sym answer) (may_itself solver_manner p r0.ambient lone);
           known = subst (λ z. IsTrue (known z)) (sym answer) refl;
-          agrees = λ o. agree_root r0.kept.settings (items_of c.meaning) r0.ambient type_var target root t refl root_sort;
+          agrees = λ o. agree_root r0.kept.settings (items_of c.meaning) r0.ambient type_var target lone t refl root_sort;
         };
         exact = λ o same pair. absurd (not_first pair.right);
         full = λ ha hb. full_could instantiates;
@@ -495,20 +494,20 @@ module _ {Key Id Name : Type 0} (r0 : State Key Id Name) (L K : Type 0) (lawful 
       }
 
       pub right_asks : alias_at r0.ambient t u ≡ Some pred → tree a ≡ t →
-          Stepped solver_manner F r p t root tree (Ok (Done a))
+          Stepped solver_manner F ra p t lone tree (Ok (Done a))
       unfolding over_passes passes_then goal_passes
       right_asks e answer = record {
-        passes = passes_then (over_passes r0 grown (spends (weight c.store t + weight c.store root) second_weight) lawful)
-            (goal_passes pred h (alias_registered (items_of d.meaning) r0.kept.settings r0.ambient d.store d.store t u pred no e
+        passes = passes_then (over_passes r0 grown (spends (weight c.store t + weight c.store lone) second_weight) lawful)
+            (goal_passes pred h (alias_registered (items_of d.meaning) r0.kept.settings r0.ambient d.store d.store t u pred no_sides e
             (inl left) now_in u_context) 0) (omega arith);
         verdict = record {
-          outcome = subst (λ st. Outcome (items_of c.meaning) r0.kept.environment (at r0.ambient) c.store st r0.goals (asked ∷ [])
-              t root) (sym h.store) (bound_right (items_of c.meaning) r0.kept.environment x r0.ambient c.store d.store r0.goals
+          outcome = subst (λ st. Outcome (items_of c.meaning) r0.kept.environment (at r0.ambient) c.store st r0.goals (the_goal ∷ [])
+              t lone) (sym h.store) (bound_right (items_of c.meaning) r0.kept.environment x r0.ambient c.store d.store r0.goals
               target m t (term_context c.store t t_in) stands bound_to_it pred
               (subst (λ z. alias_at r0.ambient t z ≡ Some pred) is e));
           answer = subst (MayAnswer solver_manner p r0.ambient t) (sym answer) (may_itself solver_manner p r0.ambient t);
           known = subst (λ z. IsTrue (known z)) (sym answer) t_known;
-          agrees = λ o. agree_root_back r0.kept.settings (items_of c.meaning) r0.ambient type_var target t root refl root_sort;
+          agrees = λ o. agree_root_back r0.kept.settings (items_of c.meaning) r0.ambient type_var target t lone refl root_sort;
         };
         exact = λ o same pair. absurd (not_first pair.left);
         full = λ ha hb. full_could instantiates;
@@ -517,30 +516,30 @@ module _ {Key Id Name : Type 0} (r0 : State Key Id Name) (L K : Type 0) (lawful 
       }
 
     -- Or it was not, since a growth was refused.
-    module _ {e : E} (h : RegistersGoal {A = A} q p pred (Err e)) {X : Type 0} (F : Tree → Type 0) (tree : X → Tree) where
-      none_built : (k : Kit) → IsBuiltOf k t → BindsBuiltOf k c.store → Builds k c.store p.store []
-      none_built k i binds = subst (λ st. Builds k c.store st []) (sym h.store) (builds_instantiated bound k binds i)
+    module _ {A E : Type 0} {e : E} (h : RegistersGoal {A = A} qa p pred (Err e)) {X : Type 0} (F : Tree → Type 0) (tree : X → Tree) where
+      unasked_built : (k : Kit) → IsBuiltOf k t → BindsBuiltOf k c.store → Builds k c.store p.store []
+      unasked_built k i binds = subst (λ st. Builds k c.store st []) (sym h.store) (builds_instantiated is_bound k binds i)
 
-      pub left_unasked : Stepped solver_manner F r p root t tree (Err Memory)
+      pub left_unasked : Stepped solver_manner F ra p lone t tree (Err Memory)
       unfolding over_passes passes_then no_goal_passes
       left_unasked = record {
-        passes = passes_then (over_passes r0 grown (spends (weight c.store root + weight c.store t) first_weight) lawful)
+        passes = passes_then (over_passes r0 grown (spends (weight c.store lone + weight c.store t) first_weight) lawful)
             (no_goal_passes pred h 0) (omega arith);
         verdict = tt;
         exact = λ o same pair. absurd (not_first pair.right);
         full = λ ha hb. full_could instantiates;
-        built = λ k ha hb binds. none_built k hb binds;
+        built = λ k ha hb binds. unasked_built k hb binds;
       }
 
-      pub right_unasked : Stepped solver_manner F r p t root tree (Err Memory)
+      pub right_unasked : Stepped solver_manner F ra p t lone tree (Err Memory)
       unfolding over_passes passes_then no_goal_passes
       right_unasked = record {
-        passes = passes_then (over_passes r0 grown (spends (weight c.store t + weight c.store root) second_weight) lawful)
+        passes = passes_then (over_passes r0 grown (spends (weight c.store t + weight c.store lone) second_weight) lawful)
             (no_goal_passes pred h 0) (omega arith);
         verdict = tt;
         exact = λ o same pair. absurd (not_first pair.left);
         full = λ ha hb. full_could instantiates;
-        built = λ k ha hb binds. none_built k ha binds;
+        built = λ k ha hb binds. unasked_built k ha binds;
       }
 
   -- Nothing was bound.

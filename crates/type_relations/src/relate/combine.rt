@@ -25,7 +25,7 @@ mod meeting;
 
 use crate::relate::args::{arg_at, args_count};
 use crate::relate::combine::meeting::{are_no_const_vars, meet_consts, meet_tys};
-use crate::relate::leaving::{Leaving, Standing, leaves_const, leaving, standing};
+use crate::relate::leaving::{Leaving, Standing, leaves_const, left_to, ty_standing};
 use crate::relate::solver_relating::{GoalOf, recording};
 use crate::relate::{HasState, Step, StructurallyRelateAliases};
 use relation_contexts::infer_ctxt::InferCtxtLike;
@@ -355,8 +355,8 @@ pub fn super_combine_tys<Infcx: InferCtxtLike, R: PredicateEmittingRelation<Infc
     ensures stepped { StepsUnlessVars (R.state relation.old) (R.state relation.new) a.now b.now result }
     ensures combines { TysCombine (R.state relation.old) (R.state relation.new) a.now b.now result }
 {
-    let left = standing(relation.infcx(), a);
-    let right = standing(relation.infcx(), b);
+    let left = ty_standing(relation.infcx(), a);
+    let right = ty_standing(relation.infcx(), b);
     if let Standing::Error = left {
         taint::<Infcx, R>(relation);
         return Ok(Step::Done(*a));
@@ -365,7 +365,7 @@ pub fn super_combine_tys<Infcx: InferCtxtLike, R: PredicateEmittingRelation<Infc
         taint::<Infcx, R>(relation);
         return Ok(Step::Done(*b));
     }
-    match leaving::<Infcx, R>(relation, left, right) {
+    match left_to::<Infcx, R>(relation, left, right) {
         Leaving::ToGoal => {
             relation.register_alias_relate_predicate(a, b)?;
             Ok(Step::Done(*a))

@@ -50,7 +50,7 @@ fn standing_by<X, D, N>(kind: &TyKind<X, D, N>) -> Standing
 }
 
 // What a type of a context is to relating.
-pub(crate) fn standing<Infcx: InferCtxtLike>(infcx: &Infcx, ty: &Ty<Infcx::Interner>) -> Standing
+pub(crate) fn ty_standing<Infcx: InferCtxtLike>(infcx: &Infcx, ty: &Ty<Infcx::Interner>) -> Standing
     requires { KnowsTy (Infcx.state infcx.now) ty.now }
     ensures { StandsAs result (((Infcx.state infcx.now).meaning).ty ty.now) }
 {
@@ -106,7 +106,7 @@ fn leaves_opaque<Infcx: InferCtxtLike, R: PredicateEmittingRelation<Infcx>>(rela
 }
 
 // What comes of two types that are so.
-pub(crate) fn leaving<Infcx: InferCtxtLike, R: PredicateEmittingRelation<Infcx>>(
+pub(crate) fn left_to<Infcx: InferCtxtLike, R: PredicateEmittingRelation<Infcx>>(
     relation: &R,
     left: Standing,
     right: Standing,

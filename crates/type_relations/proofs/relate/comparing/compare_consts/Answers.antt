@@ -5,7 +5,7 @@ use Rattle.std.proofs.lemmas.Bool.{false≢true}
 use Rattle.relation_terms.specs.Trees.{node, count}
 use Rattle.relation_terms.specs.declared.terms.const_kind.ConstKind.TheVariants.{Param, Placeholder, Value, Expr, Unevaluated}
 use Rattle.relation_contexts.specs.Errors.{values, expressions, over_arguments, const_parameters, operations, one_const_leaf}
-use Rattle.type_relations.proofs.Comparing.{unlike_const, param_const, value_const, expr_const, item_const}
+use Rattle.type_relations.proofs.Comparing.{ruled_const, unlike_const, param_const, value_const, expr_const, item_const}
 use Rattle.relation_contexts.proofs.Lists.{list_count}
 use Rattle.type_relations.proofs.relate.comparing.compare_consts.Goals as goal
 
@@ -102,3 +102,9 @@ returns-else-not-is_one_item-clause-alike g c =
     over_arguments (c.const_kind.ensures ∙ ap (const_tree m) c.in-Unevaluated.is)
     ((c.const_kind-right.ensures ∙ ap (const_tree m) c.in-Unevaluated-right.is)
     ∙ ap (λ i. node (unevaluated i) (m.args (c.in-Unevaluated-right.other).args)) (sym one.0)) one.1
+
+pub returns-in-Infer-clause-errors : goal.returns-in-Infer-clause-errors
+returns-in-Infer-clause-errors g c =
+    let m = g.I.Interner.meaning c.args.cx.now in
+    absurd (ruled_const m c.const_kind.result (m.const_ c.args.a.now) c.const_kind.ensures c.requires.a_formed
+    c.requires.a_covered c.requires.no_error.0 c.in-Infer.is)

@@ -8,4 +8,4 @@ returns-clause-registers g c =
     let r = g.R.HasState.state c.args.r.now in
     let a = (r.meaning).existential_predicates c.args.a.now in
     left_none g.R.TypeRelation.manner r (g.R.HasState.state c.objects.new.r) (node object a)
-    (node object ((r.meaning).existential_predicates c.args.b.now)) r.ambient c.objects.result (node_is_none object a)
+    (node object ((r.meaning).existential_predicates c.args.b.now)) r.ambient c.objects.result (node_is_none object a (λ e. cc))

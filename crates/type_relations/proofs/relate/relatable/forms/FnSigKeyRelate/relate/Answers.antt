@@ -12,4 +12,4 @@ returns-clause-registers g c =
     left_none g.R.TypeRelation.manner r (g.R.HasState.state c.signatures.new.r) (signature_tree r.meaning s)
     (signature_tree r.meaning c.args.b.now) r.ambient c.signatures.result
     (node_is_none (signature (s.header).c_variadic (s.header).safety (s.header).abi)
-    (cons (node inputs (front tys)) (cons (last tys) nil)))
+    (cons (node inputs (front tys)) (cons (last tys) nil)) (λ e. cc))
