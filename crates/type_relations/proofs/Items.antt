@@ -1,5 +1,5 @@
 -- Trait references, predicates of traits and alias terms that are related by their arguments, or refused.
-use Rattle.std.proofs.Common.{◌≡◌, ◌≢◌, refl, sym, ap, ◌∙◌, subst, arith, IsTrue, true, Ok, Err}
+use Rattle.std.proofs.Common.{◌≡◌, ◌≢◌, refl, sym, ap, ap₂, ◌∙◌, subst, arith, IsTrue, true, Ok, Err}
 use Rattle.std.proofs.lemmas.Bool.{and_from}
 use Rattle.term_enums.specs.declared.PredicatePolarity.{PredicatePolarity}
 use Rattle.term_enums.specs.declared.Variance.{Variance}
@@ -8,7 +8,14 @@ use Rattle.relation_terms.specs.Heads.{AliasKind, alias, AliasTermKind, type_ali
 use Rattle.relation_terms.specs.Heads.{Head, trait_ref, trait_clause, value_type}
 use Rattle.relation_terms.specs.Trees.{Tree, node, nil, cons, Assign, apply, known, count, IsList}
 use Rattle.relation_terms.specs.Erasure.{erase}
-use Rattle.relation_terms.specs.Meaning.{Meaning}
+use Rattle.relation_terms.specs.Meaning.{Meaning, alias_kind, alias_id}
+use Rattle.relation_terms.specs.Predicates.{alias_term_kind, alias_term_id, alias_term_tree}
+use Rattle.relation_terms.specs.Aliases.{as_term_kind}
+use Rattle.relation_terms.specs.declared.terms.alias.AliasTy.{AliasTy}
+use Rattle.relation_terms.specs.declared.terms.alias.AliasTyKind.{AliasTyKind}
+use Rattle.relation_terms.specs.declared.terms.alias.AliasTyKind.TheVariants.{Projection, Inherent, Opaque, Free}
+use Rattle.relation_terms.specs.declared.predicate.alias_term.AliasTerm.{AliasTerm}
+use Rattle.relation_folds.specs.Aliases.{alias_ty_tree}
 use Rattle.relation_folds.specs.declared.error.TypeError.{TypeError}
 use Rattle.relation_folds.specs.declared.error.TypeError.TheVariants.{PolarityMismatch}
 use Rattle.relation_folds.specs.declared.error.RelateFault.{RelateFault}
@@ -45,6 +52,20 @@ opaque_kinds (type_alias opaque_alias) (type_alias opaque_alias) e = refl
 opaque_kinds (type_alias opaque_alias) l e = first_of (refl, absurd (cc))
 opaque_kinds k (type_alias opaque_alias) e = first_of (refl, absurd (cc))
 opaque_kinds k l e = refl
+
+-- An alias type is that alias term of its kind.
+as_terms : {Id : Type 0} (k : AliasTyKind Id) → (alias_term_kind (as_term_kind k) ≡ type_alias (alias_kind k)) ×
+    (alias_term_id (as_term_kind k) ≡ alias_id k)
+as_terms (Projection d) = (refl, refl)
+as_terms (Inherent d) = (refl, refl)
+as_terms (Opaque d) = (refl, refl)
+as_terms (Free d) = (refl, refl)
+
+pub type_as_term : {Key Id Name : Type 0} (m : Meaning Key Id Name) (a : AliasTy Key Id) (t : AliasTerm Key Id) →
+    t.kind ≡ as_term_kind a.kind → t.args ≡ a.args → alias_term_tree m t ≡ alias_ty_tree m a
+type_as_term m a t k g =
+    ap₂ (λ x y. node (alias_term (alias_term_kind x) (m.id (alias_term_id x))) (m.args y)) k g
+    ∙ ap₂ (λ x y. node (alias_term x (m.id y)) (m.args a.args)) (as_terms a.kind).0 (as_terms a.kind).1
 
 -- What two forms that are not alike say of each other.
 no_value_type : (h : Head) → IsItemHead h → h ≢ value_type

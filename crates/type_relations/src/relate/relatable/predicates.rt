@@ -1,12 +1,13 @@
-//! Relating trait references, predicates of traits, and alias terms.
-ghost use Rattle.std.specs.Prelude.{◌≡◌, ◌≢◌, IsTrue, OnOk, IfErr, None};
+//! Relating trait references, predicates of traits, and aliases.
+ghost use Rattle.std.specs.Prelude.{◌≡◌, ◌≢◌, IsTrue, IfOk, OnOk, IfErr, None};
 ghost use Rattle.std.proofs.Common.{refl};
 ghost use Rattle.term_enums.specs.declared.Variance.TheVariants.{Bivariant};
 ghost use Rattle.relation_terms.specs.Trees.{known};
 ghost use Rattle.relation_terms.specs.Predicates.{alias_term_tree, trait_ref_tree};
 ghost use Rattle.type_relations.specs.Comparing.{AliasTermsDiffer, AreOfOneAliasTerm, AreOfOneTraitRef};
 ghost use Rattle.type_relations.specs.Comparing.{TraitRefsDiffer};
-ghost use Rattle.type_relations.specs.EqualItems.{trait_ref_same, trait_clause_same, alias_term_same};
+ghost use Rattle.type_relations.specs.EqualItems.{trait_ref_same, trait_clause_same, alias_term_same, kinds_declared};
+ghost use Rattle.type_relations.specs.EqualItems.{alias_ty_same, ty_kinds_declared};
 ghost use Rattle.type_relations.specs.Terms.{AskedTerms, RelatedTerms};
 
 use crate::relate::args::{ArgVariances, relate_args};
@@ -14,7 +15,7 @@ use crate::relate::comparing::{compare_alias_terms, compare_trait_refs};
 use crate::relate::{Relate, TypeRelation};
 use relation_folds::error::{ExpectedFound, RelateFault, RelateResult, TypeError, TypeErrorOf};
 use relation_terms::predicate::{AliasTerm, TraitPredicate, TraitRef};
-use relation_terms::terms::Interner;
+use relation_terms::terms::{AliasTy, Interner};
 
 // The same, in a relation's words.
 fn compare_trait_refs_of<I: Interner, R: TypeRelation<I>>(
@@ -71,7 +72,8 @@ fn alias_terms<I: Interner, R: TypeRelation<I>>(
     requires lawful { (R.state r.old).lawful }
     requires decides { (R.state r.old).ambient ≢ Bivariant }
     requires asked { AskedTerms R.manner None alias_term_tree (R.state r.old) a.now b.now }
-    ensures { RelatedTerms R.manner None alias_term_tree (R.state r.old) (R.state r.new) a.now b.now result }
+    ensures related { RelatedTerms R.manner None alias_term_tree (R.state r.old) (R.state r.new) a.now b.now result }
+    ensures kind { IfOk result (λ t. t.kind ≡ (a.now).kind) }
 {
     compare_alias_terms_of::<I, R>(r, a, b)?;
     let args = relate_args(r, &ArgVariances::AliasTerm(a.kind), &a.args, &b.args)?;
@@ -113,7 +115,32 @@ impl<I: Interner> Relate<I> for AliasTerm<I::Key, I::Id> {
 
     ghost fits_on = { λ m n e x y h k f. tt };
 
-    ghost same = { λ cx. alias_term_same (I.meaning cx) I.Key.eq I.Id.eq _ (I.same_id cx) (I.same_args cx) };
+    ghost same = { λ cx. alias_term_same (I.meaning cx) I.Key.eq I.Id.eq _ _ (kinds_declared _ _ _) (λ x y. refl)
+        (I.same_id cx) (I.same_args cx) };
+}
+
+impl<I: Interner> Relate<I> for AliasTy<I::Key, I::Id> {
+    ghost over = { None };
+
+    ghost fits = { λ m a b. Unit {0} };
+
+    /// They are related as the alias terms that they are, and refused as these.
+    fn relate<R: TypeRelation<I>>(r: &mut R, a: &Self, b: &Self) -> RelateResult<I, Self> {
+        let left = AliasTerm::from(*a);
+        let right = AliasTerm::from(*b);
+        let answer = alias_terms(r, &left, &right)?;
+        Ok(AliasTy {
+            kind: a.kind,
+            args: answer.args,
+        })
+    }
+
+    ghost over_list = { tt };
+
+    ghost fits_on = { λ m n e x y h k f. tt };
+
+    ghost same = { λ cx. alias_ty_same (I.meaning cx) I.Key.eq I.Id.eq _ _ (ty_kinds_declared _ _ _) (λ x y. refl)
+        (I.same_id cx) (I.same_args cx) };
 }
 
 impl<I: Interner> Relate<I> for TraitPredicate<I::Key, I::Id> {

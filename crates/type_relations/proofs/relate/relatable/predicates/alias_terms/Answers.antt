@@ -10,8 +10,8 @@ use Rattle.type_relations.proofs.Arguments.{are_list}
 use Rattle.type_relations.proofs.Items.{items_differ, asked_over}
 use Rattle.type_relations.proofs.relate.relatable.predicates.alias_terms.Goals as goal
 
-pub returns-in_err-compare_alias_terms_of : goal.returns-in_err-compare_alias_terms_of
-returns-in_err-compare_alias_terms_of g c =
+pub returns-in_err-compare_alias_terms_of-clause-related : goal.returns-in_err-compare_alias_terms_of-clause-related
+returns-in_err-compare_alias_terms_of-clause-related g c =
     let r = g.R.HasState.state c.args.r.now in
     let M = g.R.TypeRelation.manner in
     let m = r.meaning in
@@ -41,8 +41,8 @@ relate_args-requires-clause-asked g c =
 pub relate_args-requires-clause-as_many : goal.relate_args-requires-clause-as_many
 relate_args-requires-clause-as_many g c = ((c.in_ok-compare_alias_terms_of.ensures).alike).1
 
-pub returns-in_err-args : goal.returns-in_err-args
-returns-in_err-args g c =
+pub returns-in_err-args-clause-related : goal.returns-in_err-args-clause-related
+returns-in_err-args-clause-related g c =
     let r = g.R.HasState.state c.args.r.now in
     let q = g.R.HasState.state c.relate_args.new.r in
     let M = g.R.TypeRelation.manner in
@@ -57,8 +57,8 @@ returns-in_err-args g c =
     (refused_again M r.ambient a b (λ k. node (alias_term (alias_term_kind c.args.a.now.kind) ((q.meaning).id (alias_term_id c.args.a.now.kind))) ((q.meaning).args k))
     (alias_term_tree q.meaning) n.field-0.0 (n.ensures h ((c.in_ok-compare_alias_terms_of.ensures).alike).0))
 
-pub returns : goal.returns
-returns g c =
+pub returns-clause-related : goal.returns-clause-related
+returns-clause-related g c =
     let r = g.R.HasState.state c.args.r.now in
     let q = g.R.HasState.state c.relate_args.new.r in
     let M = g.R.TypeRelation.manner in
