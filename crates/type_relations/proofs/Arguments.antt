@@ -1,10 +1,10 @@
 -- Forms that are related by their parts, one after another.
 use Rattle.std.proofs.Common.{◌≡◌, ◌≢◌, ℕ, ◌<◌, refl, sym, ap, ◌∙◌, ◌↔◌, subst, subst₂, inr, arith, IsTrue, Ok, Err}
 use Rattle.term_enums.specs.declared.Variance.{Variance}
-use Rattle.relation_terms.specs.Heads.{Sort, AliasKind, projection_alias, AliasTermKind, Head, adt, fn_def, alias, alias_term}
+use Rattle.relation_terms.specs.Heads.{Sort, AliasTermKind, Head, adt, fn_def, alias, alias_term}
 use Rattle.relation_terms.specs.Heads.{arguments, trait_ref}
 use Rattle.relation_terms.specs.Trees.{Tree, leaf, node, bind, nil, cons, Assign, apply, known, count, nth, IsList, AreTerms}
-use Rattle.relation_terms.specs.Meaning.{Meaning, Extends, alias_kind, alias_id}
+use Rattle.relation_terms.specs.Meaning.{Meaning, Extends}
 use Rattle.relation_terms.specs.Predicates.{alias_term_kind, alias_term_id}
 use Rattle.relation_terms.specs.declared.terms.keys.TyKey.{TyKey}
 use Rattle.relation_terms.specs.declared.terms.keys.ArgsKey.{ArgsKey}
@@ -12,20 +12,20 @@ use Rattle.relation_folds.specs.declared.error.TypeError.{TypeError}
 use Rattle.relation_folds.specs.declared.error.RelateFault.{RelateFault}
 use Rattle.relation_folds.specs.declared.error.RelateFault.TheVariants.{Memory, Budget, Unrelated}
 use Rattle.type_relations.specs.declared.relate.args.ArgVariances.{ArgVariances}
-use Rattle.type_relations.specs.declared.relate.args.ArgVariances.TheVariants.{Invariant, Adt, FnDef, AliasTy, AliasTerm, Trait}
+use Rattle.type_relations.specs.declared.relate.args.ArgVariances.TheVariants.{Invariant, Adt, FnDef, AliasTerm, Trait}
 use Rattle.relation_contexts.specs.Relation.{Items, at, forms, part_at, plain, plain_kind, IsRelatedHead, IsAlias}
 use Rattle.relation_contexts.specs.Stores.{Store}
 use Rattle.relation_contexts.specs.Settings.{Settings}
 use Rattle.relation_contexts.specs.FirstOrder.{IsFirstOrderHead, Unifies}
-use Rattle.relation_contexts.specs.Errors.{ErrorOf, ErrorByForms, ErrorAs, Meeting, by_forms, IsHandedOn, of_parts}
-use Rattle.relation_contexts.specs.Errors.{of_alias_parts, of_alias_term_parts, AreOfOneForm}
+use Rattle.relation_contexts.specs.Errors.{ErrorOf, by_forms, IsHandedOn, of_parts}
+use Rattle.relation_contexts.specs.Errors.{of_alias_term_parts, AreOfOneForm}
 use Rattle.relation_contexts.specs.Errors.{over_parts, over_aliases, one_leaf, parameters}
 use Rattle.relation_contexts.proofs.Covered.{normal_not_left}
-use Rattle.type_relations.specs.Arguments.{args_head, args_meeting, AreOverItem, adts, functions}
+use Rattle.type_relations.specs.Arguments.{args_head, AreOverItem, adts, functions}
 use Rattle.relation_folds.specs.Faults.{KnowsError}
 use Rattle.relation_contexts.specs.OneUniverse.{BindsNoMore}
 use Rattle.term_enums.specs.declared.Variance.TheVariants.{Invariant as AtInvariance}
-use Rattle.relation_contexts.specs.Lawful.{State, Manners, MayAnswer, Passes, Refuses, RefusesAs, Related, RelatedAs}
+use Rattle.relation_contexts.specs.Lawful.{State, Manners, MayAnswer, Passes, Refuses, Related}
 use Rattle.relation_contexts.specs.Lawful.{ExactlyRelated, items_in}
 use Rattle.type_relations.proofs.PartSizes.{weight_parts_most}
 use Rattle.relation_contexts.proofs.Registered.{registered_in}
@@ -60,11 +60,6 @@ plain_alone h k p e =
     let whole : plain k ≡ h = sym e ∙ plain_itself h p in
     sym whole ∙ plain_itself k (plain_back k (subst IsPlain (sym whole) p))
 
-alias_alone : (k : Head) (d : ℕ) → alias projection_alias d ≡ plain k → (l : AliasKind) × (k ≡ alias l d)
-alias_alone (alias l e) d p = (l, (let q : d ≡ e = cc in ap (alias l) (sym q)))
-alias_alone (alias_term l e) d p = absurd (cc)
-alias_alone k d p = absurd (cc)
-
 alias_term_alone : (k : Head) (a : AliasTermKind) (d : ℕ) → alias_term a d ≡ plain k →
     (l : AliasTermKind) × (k ≡ alias_term l d) × (a ≡ plain_kind l)
 alias_term_alone (alias_term l e) a d p =
@@ -78,7 +73,6 @@ module _ {Key Id Name : Type 0} (m : Meaning Key Id Name) where
   args_related_head Invariant = tt
   args_related_head (Adt d) = tt
   args_related_head (FnDef d) = tt
-  args_related_head (AliasTy k) = tt
   args_related_head (AliasTerm k) = tt
   args_related_head (Trait d) = tt
 
@@ -86,7 +80,6 @@ module _ {Key Id Name : Type 0} (m : Meaning Key Id Name) where
   args_looked_at Invariant = tt
   args_looked_at (Adt d) = tt
   args_looked_at (FnDef d) = tt
-  args_looked_at (AliasTy k) = tt
   args_looked_at (AliasTerm k) = tt
   args_looked_at (Trait d) = tt
 
@@ -96,7 +89,6 @@ module _ {Key Id Name : Type 0} (m : Meaning Key Id Name) where
   args_first_order Invariant k e f = plain_alone arguments k tt e
   args_first_order (Adt d) k e f = plain_alone (adt (m.id d.0)) k tt e
   args_first_order (FnDef d) k e f = plain_alone (fn_def (m.id d.0)) k tt e
-  args_first_order (AliasTy a) k e f = absurd f
   args_first_order (AliasTerm a) k e f = absurd f
   args_first_order (Trait d) k e f = plain_alone (trait_ref (m.id d.0)) k tt e
 
@@ -113,15 +105,11 @@ module _ {Key Id Name : Type 0} (m : Meaning Key Id Name) where
 
     pub args_complain : (d : ArgVariances Id) (k : Head) → plain (args_head m d) ≡ plain k →
         ErrorOf p set c st (part_at c (args_head m d) i v) e (nth i ts) (nth i us) →
-        ErrorAs p (args_meeting d) set c st v e (node (args_head m d) ts) (node k us)
+        ErrorOf p set c st v e (node (args_head m d) ts) (node k us)
     args_complain Invariant k q u = of_one arguments k tt q (λ xs o. o) tt u
     args_complain (Adt d) k q u = of_one (adt (m.id d.0)) k tt q (λ xs o. o) tt u
     args_complain (FnDef d) k q u = of_one (fn_def (m.id d.0)) k tt q (λ xs o. o) tt u
     args_complain (Trait d) k q u = of_one (trait_ref (m.id d.0)) k tt q (λ xs o. o) tt u
-    args_complain (AliasTy a) k q u =
-        let (b, is) = alias_alone k (m.id (alias_id a)) q in
-        subst (λ z. ErrorByForms p set c st v e (node (args_head m (AliasTy a)) ts) (node z us)) (sym is)
-        (of_alias_parts i refl refl n l u)
     args_complain (AliasTerm a) k q u =
         let h = alias_term (alias_term_kind a) (m.id (alias_term_id a)) in
         let (b, is, same) = alias_term_alone k (plain_kind (alias_term_kind a)) (m.id (alias_term_id a)) q in
@@ -130,7 +118,7 @@ module _ {Key Id Name : Type 0} (m : Meaning Key Id Name) where
         (by_forms (normal_not_left set (node h ts) (node j us) (λ o. o) (λ o. o))
         (of_alias_term_parts i refl refl same n l u))
 
-module _ {Key Id Name : Type 0} {r q : State Key Id Name} {w : Meeting} (M : Manners) (v : Variance) (h k : Head)
+module _ {Key Id Name : Type 0} {r q : State Key Id Name} (M : Manners) (v : Variance) (h k : Head)
     (ts us : Tree) (i : ℕ) (f : Fronted M r q h v i ts us) (are : AreParts r.store ts us) (looked : IsLookedAt h) where
   apart : h ≢ value_type
   apart e = subst IsLookedAt e looked
@@ -153,7 +141,7 @@ module _ {Key Id Name : Type 0} {r q : State Key Id Name} {w : Meeting} (M : Man
   -- All parts of two forms were related, and so are the forms.
   pub form_related : {X : Type 0} (tree : X → Tree) (x : X) → plain h ≡ plain k → (IsFirstOrderHead h → h ≡ k) →
       IsRelatedHead h → i ≡ count ts → count ts ≡ count us → tree x ≡ node h ts → IsTrue (known (node h ts)) →
-      RelatedAs w M r q (at v) (node h ts) (node k us) tree (Ok x)
+      Related M r q v (node h ts) (node k us) tree (Ok x)
   unfolding passes_within
   form_related tree x alike first is e n answer sure = record {
     passes = passes_within (omega (arith, weight_parts_most r.store (node h ts), weight_parts_most r.store (node k us)))
@@ -185,7 +173,7 @@ module _ {Key Id Name : Type 0} {r q : State Key Id Name} {w : Meeting} (M : Man
 
   -- Memory ran out after some of the parts.
   pub form_stopped : {X : Type 0} (tree : X → Tree) →
-      RelatedAs {X = X} w M r q (at v) (node h ts) (node k us) tree (Err Memory)
+      Related {X = X} M r q v (node h ts) (node k us) tree (Err Memory)
   unfolding passes_within
   form_stopped tree = stopped M v (node h ts) (node k us) tree
       (passes_within (omega (arith, weight_parts_most r.store (node h ts), weight_parts_most r.store (node k us))) f.passes)
@@ -193,8 +181,8 @@ module _ {Key Id Name : Type 0} {r q : State Key Id Name} {w : Meeting} (M : Man
 
   -- After some of the parts it is seen that the forms are never one.
   pub form_unlike : {X : Type 0} (tree : X → Tree) (e : TypeError Key Id Name) → h ≢ k →
-      ErrorAs q.meaning w q.kept.settings (items_in q) q.store v e (node h ts) (node k us) → KnowsError q.meaning e →
-      RelatedAs {X = X} w M r q (at v) (node h ts) (node k us) tree (Err (Unrelated e))
+      ErrorOf q.meaning q.kept.settings (items_in q) q.store v e (node h ts) (node k us) → KnowsError q.meaning e →
+      Related {X = X} M r q v (node h ts) (node k us) tree (Err (Unrelated e))
   unfolding passes_within
   form_unlike tree e differ says sure = record {
     passes = passes_within (omega (arith, weight_parts_most r.store (node h ts), weight_parts_most r.store (node k us)))
@@ -209,9 +197,9 @@ module _ {Key Id Name : Type 0} {r q : State Key Id Name} {w : Meeting} (M : Man
   module _ (x y : Tree) (lx : i < count ts) (ly : i < count us) (ex : x ≡ nth i ts) (ey : y ≡ nth i us)
       (complains : (p : State Key Id Name) (g : TypeError Key Id Name) →
       ErrorOf p.meaning p.kept.settings (items_in p) p.store (part_at (items_in p) h i v) g (nth i ts) (nth i us) →
-      ErrorAs p.meaning w p.kept.settings (items_in p) p.store v g (node h ts) (node k us)) where
+      ErrorOf p.meaning p.kept.settings (items_in p) p.store v g (node h ts) (node k us)) where
     refuses : {n : ℕ} {p : State Key Id Name} (l : Passes n q p) (e : RelateFault Key Id Name) →
-        Refuses q p (part_at (items_in r) h i v) x y e → RefusesAs w r p (at v) (node h ts) (node k us) e
+        Refuses q p (part_at (items_in r) h i v) x y e → Refuses r p v (node h ts) (node k us) e
     refuses {p = p} l (Unrelated g) o = (
       (λ w s sat z. fronted_never h v i ts us x y f lx ly ex ey are o.0 w s sat (one_list s z)),
       complains p g
@@ -233,7 +221,7 @@ module _ {Key Id Name : Type 0} {r q : State Key Id Name} {w : Meeting} (M : Man
 
     pub form_refused : {A B : Type 0} {p : State Key Id Name} (tree : A → Tree) (answer : B → Tree)
         (e : RelateFault Key Id Name) → Related M q p (part_at (items_in r) h i v) x y tree (Err e) →
-        RelatedAs w M r p (at v) (node h ts) (node k us) answer (Err e)
+        Related M r p v (node h ts) (node k us) answer (Err e)
     unfolding passes_within fronted_passes passes_then
     form_refused {A} {B} {p} tree answer e g = record {
       passes = passes_within (omega (arith, weight_parts_most r.store (node h ts), weight_parts_most r.store (node k us)))
@@ -250,7 +238,6 @@ pub args_heads : {Key Id Name : Type 0} {m n : Meaning Key Id Name} → Extends 
 args_heads e Invariant = refl
 args_heads e (Adt d) = ap adt (e.id d.0)
 args_heads e (FnDef d) = ap fn_def (e.id d.0)
-args_heads e (AliasTy k) = ap (alias (alias_kind k)) (e.id (alias_id k))
 args_heads e (AliasTerm k) = ap (alias_term (alias_term_kind k)) (e.id (alias_term_id k))
 args_heads e (Trait d) = ap trait_ref (e.id d.0)
 

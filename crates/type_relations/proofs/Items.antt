@@ -22,12 +22,12 @@ use Rattle.relation_folds.specs.declared.error.RelateFault.{RelateFault}
 use Rattle.relation_folds.specs.declared.error.RelateFault.TheVariants.{Unrelated}
 use Rattle.relation_folds.specs.Faults.{KnowsError}
 use Rattle.relation_contexts.specs.Covered.{IsCoveredHead}
-use Rattle.relation_contexts.specs.Errors.{ErrorAs, Meeting, as_pair, by_forms, of_part_forms, of_trait_refs, ItemError, IsItemHead}
+use Rattle.relation_contexts.specs.Errors.{as_pair, by_forms, of_part_forms, of_trait_refs, ItemError, IsItemHead}
 use Rattle.relation_contexts.specs.Errors.{unlike_alias_types, unlike_alias_terms, unlike_trait_refs, unlike_lists}
 use Rattle.relation_contexts.specs.Errors.{unlike_polarities, item_error}
 use Rattle.relation_contexts.specs.FirstOrder.{Unifies}
-use Rattle.relation_contexts.specs.Lawful.{State, Manners, TakesParts, MayAnswer, Asked, Related, RelatedAs, items_in}
-use Rattle.relation_contexts.specs.Relation.{at, plain, plain_kind, part_at, Rel, forms, next_part, no_parts, IsAlias}
+use Rattle.relation_contexts.specs.Lawful.{State, Manners, TakesParts, MayAnswer, Asked, Related, items_in}
+use Rattle.relation_contexts.specs.Relation.{plain, plain_kind, part_at, Rel, forms, next_part, no_parts, IsAlias}
 use Rattle.relation_contexts.specs.Stores.{IsTermIn, InContext}
 use Rattle.relation_contexts.proofs.Answering.{covariantly}
 use Rattle.relation_contexts.proofs.Covered.{normal_not_left}
@@ -43,14 +43,14 @@ use Rattle.type_relations.proofs.Unifying.{one_head, unified_counts}
 -- Whether it is that of an opaque type is all that is looked at of an alias term's kind.
 pub plain_kinds : (k l : AliasTermKind) → is_opaque_kind k ≡ is_opaque_kind l → plain_kind k ≡ plain_kind l
 plain_kinds (type_alias opaque_alias) (type_alias opaque_alias) e = refl
-plain_kinds (type_alias opaque_alias) l e = first_of (refl, absurd (cc))
-plain_kinds k (type_alias opaque_alias) e = first_of (refl, absurd (cc))
+plain_kinds (type_alias opaque_alias) l e = absurd (cc)
+plain_kinds k (type_alias opaque_alias) e = absurd (cc)
 plain_kinds k l e = refl
 
 pub opaque_kinds : (k l : AliasTermKind) → plain_kind k ≡ plain_kind l → is_opaque_kind k ≡ is_opaque_kind l
 opaque_kinds (type_alias opaque_alias) (type_alias opaque_alias) e = refl
-opaque_kinds (type_alias opaque_alias) l e = first_of (refl, absurd (cc))
-opaque_kinds k (type_alias opaque_alias) e = first_of (refl, absurd (cc))
+opaque_kinds (type_alias opaque_alias) l e = absurd (cc)
+opaque_kinds k (type_alias opaque_alias) e = absurd (cc)
 opaque_kinds k l e = refl
 
 -- An alias type is that alias term of its kind.
@@ -112,7 +112,8 @@ pub items_differ : {Key Id Name X : Type 0} (M : Manners) (r : State Key Id Name
     ((xs : Tree) → IsAlias (node k xs) → ⊥) → IsList ts → IsList us → ItemError r.meaning (node h ts) (node k us) e →
     Related M r r v (node h ts) (node k us) tree (Err (Unrelated e))
 items_differ M r v tree h k ts us e d n o l j is =
-    let apart = λ s z. items_not_unified r.meaning s h k ts us e l j is z in
+    let apart : (s : Assign) → Unifies s (node h ts) (node k us) → ⊥ =
+    λ s z. items_not_unified r.meaning s h k ts us e l j is z in
     refused_here M r v tree {w = as_pair} (node h ts) (node k us) e (λ w s sat z. apart s (ap erase z))
     (by_forms (normal_not_left r.kept.settings (node h ts) (node k us) (n ts) (o us)) (of_part_forms d (item_error is)))
     (item_error_known r.meaning (node h ts) (node k us) e is) (λ pair s sol z. apart s z)
@@ -131,9 +132,9 @@ asked_over M r v h k ts us asked = record {
 }
 
 -- The same with another answer, that may be given.
-answered_with : {Key Id Name X Y : Type 0} {w : Meeting} {r q : State Key Id Name} (M : Manners) (v : Variance)
-    (a b : Tree) (tree : X → Tree) (t : X) → RelatedAs w M r q (at v) a b tree (Ok t) → (answer : Y → Tree) (z : Y) →
-    MayAnswer M q v a (answer z) → IsTrue (known (answer z)) → RelatedAs w M r q (at v) a b answer (Ok z)
+answered_with : {Key Id Name X Y : Type 0} {r q : State Key Id Name} (M : Manners) (v : Variance)
+    (a b : Tree) (tree : X → Tree) (t : X) → Related M r q v a b tree (Ok t) → (answer : Y → Tree) (z : Y) →
+    MayAnswer M q v a (answer z) → IsTrue (known (answer z)) → Related M r q v a b answer (Ok z)
 answered_with M v a b tree t f answer z may sure = record {
   passes = f.passes;
   verdict = record {
@@ -148,31 +149,28 @@ answered_with M v a b tree t f answer z may sure = record {
 }
 
 -- A predicate of a trait, by its trait reference.
+abbrev clause : PredicatePolarity → Tree → Tree
+clause p t = node (trait_clause p) (cons t nil)
+
 module _ {Key Id Name : Type 0} (M : Manners) (v : Variance) (p q : PredicatePolarity) (t u : Tree) where
-  abbrev left : Tree
-  left = node (trait_clause p) (cons t nil)
-
-  abbrev right : Tree
-  right = node (trait_clause q) (cons u nil)
-
   module _ (r : State Key Id Name) where
     begun : Fronted M r r (trait_clause p) v 0 (cons t nil) (cons u nil)
     begun = fronted_none M r (trait_clause p) v (cons t nil) (cons u nil)
 
-    pub are_parts : Asked M r v left right → AreParts r.store (cons t nil) (cons u nil)
+    pub are_parts : Asked M r v (clause p t) (clause q u) → AreParts r.store (cons t nil) (cons u nil)
     are_parts k = record {
       left_list = tt;
       right_list = tt;
-      left_in = term_context r.store (cons t nil) (in_parts r.store left k.left_in);
-      right_in = term_context r.store (cons u nil) (in_parts r.store right k.right_in);
+      left_in = term_context r.store (cons t nil) (in_parts r.store (clause p t) k.left_in);
+      right_in = term_context r.store (cons u nil) (in_parts r.store (clause q u) k.right_in);
     }
 
-    pub part_asked : TakesParts M → v ≡ r.ambient → IsTrue (known t) → IsTrue (known u) → Asked M r v left right →
+    pub part_asked : TakesParts M → v ≡ r.ambient → IsTrue (known t) → IsTrue (known u) → Asked M r v (clause p t) (clause q u) →
         Asked M r v t u
     part_asked takes e kt ku k =
         let here : v ≡ part_at (items_in r) (trait_clause p) 0 r.ambient =
         e ∙ sym (covariantly r.ambient) in
-        next_asked M takes r r left right 0 t u kt ku (subst (λ z. Asked M r z left right) e k)
+        next_asked M takes r r (clause p t) (clause q u) 0 t u kt ku (subst (λ z. Asked M r z (clause p t) (clause q u)) e k)
         (subst (λ z. Fronted M r r (trait_clause p) z 0 (cons t nil) (cons u nil)) e begun) (omega arith) (omega arith)
         refl refl v here here
 
@@ -180,10 +178,10 @@ module _ {Key Id Name : Type 0} (M : Manners) (v : Variance) (p q : PredicatePol
         (answer : B → Tree) where
       -- Two trait references were refused, and so are the predicates, whatever their polarities.
       pub clause_refused : (e : RelateFault Key Id Name) → Related M r s v t u tree (Err e) →
-          Related M r s v left right answer (Err e)
-      clause_refused e g = form_refused M v {w = as_pair} (trait_clause p) (trait_clause q) (cons t nil) (cons u nil) 0
+          Related M r s v (clause p t) (clause q u) answer (Err e)
+      clause_refused e g = form_refused M v (trait_clause p) (trait_clause q) (cons t nil) (cons u nil) 0
           begun are tt t u (omega arith) (omega arith) refl refl
-          (λ z f o. by_forms (normal_not_left z.kept.settings left right (λ x. x) (λ x. x)) (of_trait_refs refl refl o))
+          (λ z f o. by_forms (normal_not_left z.kept.settings (clause p t) (clause q u) (λ x. x) (λ x. x)) (of_trait_refs refl refl o))
           tree answer e (subst (λ w. Related M r s w t u tree (Err e)) (sym (covariantly v)) g)
 
       module _ (x : A) (g : Related M r s v t u tree (Ok x)) where
@@ -192,22 +190,22 @@ module _ {Key Id Name : Type 0} (M : Manners) (v : Variance) (p q : PredicatePol
             refl tree x are (subst (λ w. Related M r s w t u tree (Ok x)) (sym (covariantly v)) g)
 
         -- They were related, but the polarities differ.
-        pub clause_unlike : v ≢ Bivariant → p ≢ q → Related M r s v left right answer
+        pub clause_unlike : v ≢ Bivariant → p ≢ q → Related M r s v (clause p t) (clause q u) answer
             (Err (Unrelated (PolarityMismatch (record { expected = p; found = q }))))
-        clause_unlike d differ = form_unlike M v {w = as_pair} (trait_clause p) (trait_clause q) (cons t nil)
+        clause_unlike d differ = form_unlike M v (trait_clause p) (trait_clause q) (cons t nil)
             (cons u nil) 1 gone are tt answer (PolarityMismatch (record { expected = p; found = q }))
             (λ e. differ (cc))
-            (by_forms (normal_not_left s.kept.settings left right (λ x. x) (λ x. x))
+            (by_forms (normal_not_left s.kept.settings (clause p t) (clause q u) (λ x. x) (λ x. x))
             (of_part_forms d (item_error (unlike_polarities refl refl differ)))) tt
 
         -- They were related, and the polarities are one.
         pub clause_related : (z : B) → p ≡ q → answer z ≡ node (trait_clause p) (cons (tree x) nil) →
-            IsTrue (known left) → Related M r s v left right answer (Ok z)
+            IsTrue (known (clause p t)) → Related M r s v (clause p t) (clause q u) answer (Ok z)
         clause_related z same is sure =
-            let done : Related M r s v left right (λ (y : Tree). y) (Ok left) =
-            form_related M v {w = as_pair} (trait_clause p) (trait_clause q) (cons t nil) (cons u nil) 1 gone are tt
-            (λ (y : Tree). y) left (ap trait_clause same) (λ f. ap trait_clause same) tt refl refl refl sure in
-            answered_with M v left right (λ (y : Tree). y) left done answer z
+            let done : Related M r s v (clause p t) (clause q u) (λ (y : Tree). y) (Ok (clause p t)) =
+            form_related M v (trait_clause p) (trait_clause q) (cons t nil) (cons u nil) 1 gone are tt
+            (λ (y : Tree). y) (clause p t) (ap trait_clause same) (λ f. ap trait_clause same) tt refl refl refl sure in
+            answered_with M v (clause p t) (clause q u) (λ (y : Tree). y) (clause p t) done answer z
             (subst (MayAnswer M s v left) (sym is) (record { related = λ w a sat all. forms tt refl (next_part
             (subst (λ y. Rel (items_in s) w s.kept.environment (at y) (apply a t) (apply a (tree x))) (sym (covariantly v))
             (((g.verdict).answer).related w a sat all)) no_parts) }))

@@ -309,7 +309,7 @@ module _ {Key Id Name : Type 0} (m : Meaning Key Id Name) where
       n (terms_unified s k l a b o q f g z)
   part_error_not_unified s k l a b e o q f g (signature_error h) z = signatures_apart s k l a b e f g h z
   part_error_not_unified s k l a b e o q f g (existential_error h) z = existentials_apart s k l a b e o q f g h z
-  part_error_not_unified s k l a b e o q f g (item_error h) z = not_item m a b e o h
+  part_error_not_unified s k l a b e o q f g (item_error h) z = not_item a b e o h
   part_error_not_unified s k l a b e o q f g (object_error x y p r h) z = object_error_apart s k l x y e
       (subst (IsTerm k) (sym p) f) (subst (IsTerm l) (sym r) g) h (subst₂ (Unifies s) (sym p) (sym r) z)
 

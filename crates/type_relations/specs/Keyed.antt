@@ -18,7 +18,7 @@ use Rattle.term_enums.specs.Variances.{xform}
 use Rattle.relation_folds.specs.declared.error.RelateFault.{RelateFault}
 use Rattle.relation_contexts.specs.declared.relate.Step.{Step}
 use Rattle.type_relations.specs.declared.relate.args.ArgVariances.{ArgVariances}
-use Rattle.type_relations.specs.Arguments.{args_head, args_meeting, AreOverItem}
+use Rattle.type_relations.specs.Arguments.{args_head, AreOverItem}
 use Rattle.relation_contexts.specs.Constraints.{constraint_at, asked_constraints}
 use Rattle.relation_contexts.specs.Lawful.{State, Manners, Asked, Related, RelatedAs, RelatedForms, Shown, Stepped, Noted, items_in}
 use Rattle.relation_contexts.specs.Making.{Made, over, const_over}
@@ -157,8 +157,8 @@ module _ {Key Id Name : Type 0} where
   abbrev pub RelatedOver : Manners → State Key Id Name → State Key Id Name → ArgVariances Id → ArgsKey Key →
       ArgsKey Key → Result (ArgsKey Key) (RelateFault Key Id Name) → Type 0
   RelatedOver M r q d a b result = (k : Head) → plain (args_head r.meaning d) ≡ plain k →
-      RelatedAs (args_meeting d) M r q (at r.ambient) (node (args_head r.meaning d) ((r.meaning).args a))
-      (node k ((r.meaning).args b)) (λ x. node (args_head q.meaning d) ((q.meaning).args x)) result
+      Related M r q r.ambient (node (args_head r.meaning d) ((r.meaning).args a)) (node k ((r.meaning).args b))
+      (λ x. node (args_head q.meaning d) ((q.meaning).args x)) result
 
   -- A step was taken of two types, or of two constants.
   abbrev pub SteppedTys : Manners → State Key Id Name → State Key Id Name → TyKey Key → TyKey Key →

@@ -9,19 +9,16 @@ ghost use Rattle.relation_contexts.specs.Lawful.{WithMeaning, OnlyMemory};
 ghost use Rattle.type_relations.specs.Keyed.{AreAsMany, AreOver, AskedLists, AskedTys, RelatedLists, RelatedOver};
 ghost use Rattle.type_relations.specs.Makers.{TakesLists, GrowsByCall, MakesOverList};
 ghost use Rattle.type_relations.specs.Keyed.{RelatedTys, over_item, part_in};
-ghost use Rattle.type_relations.specs.Arguments.{args_head, args_meeting, head_by, AreOverItem};
-ghost use Rattle.relation_contexts.specs.Errors.{as_pair};
+ghost use Rattle.type_relations.specs.Arguments.{args_head, head_by, AreOverItem};
 ghost use Rattle.relation_contexts.specs.Parts.{head_of};
 
 use crate::relate::TypeRelation;
 use crate::relate::reading::{declared_at, note_declared};
 use crate::relate::structural::relate_with_variance;
-use relation_contexts::variances::alias_argument_variance;
 use relation_folds::error::RelateResult;
 use relation_terms::predicate::AliasTermKind;
 use relation_terms::terms::{
-    AliasTyKind, DefId, GenericArg, GenericArgs, Interner, ItemOf, OutOfMemory, TraitId, Ty, TyKind,
-    Variance,
+    DefId, GenericArg, GenericArgs, Interner, ItemOf, OutOfMemory, TraitId, Ty, TyKind, Variance,
 };
 use std::alloc::AllocError;
 
@@ -33,9 +30,7 @@ pub(crate) enum ArgVariances<D> {
     Adt(DefId<D>),
     // The same of a function.
     FnDef(DefId<D>),
-    // Those of an alias type of this kind.
-    AliasTy(AliasTyKind<D>),
-    // Those of an alias term of this kind: an opaque type's are declared.
+    // Those of an alias of this kind: an opaque type's are declared.
     AliasTerm(AliasTermKind<D>),
     // Invariance, of a reference to this trait.
     Trait(TraitId<D>),
@@ -102,7 +97,6 @@ fn variance_of<I: Interner, R: TypeRelation<I>>(
         ArgVariances::Invariant => Variance::Invariant,
         ArgVariances::Adt(def_id) => declared_at(r, def_id, i),
         ArgVariances::FnDef(def_id) => declared_at(r, def_id, i),
-        ArgVariances::AliasTy(kind) => alias_argument_variance(r.cx(), kind, i),
         ArgVariances::AliasTerm(kind) => match kind {
             AliasTermKind::OpaqueTy { def_id } => declared_at(r, &DefId(def_id.0), i),
             _ => Variance::Invariant,
@@ -230,10 +224,9 @@ fn item_variances<I: Interner, R: TypeRelation<I>>(
     def_id: &ItemOf<I>,
 ) -> ArgVariances<I::Id>
     requires { IsTrue (known ((R.state r.now).meaning.ty ty.now)) }
-    ensures form { let m = (R.state r.now).meaning in let h = args_head m result in
+    ensures { let m = (R.state r.now).meaning in let h = args_head m result in
         (b ts us : _) → AreOverItem (m.id (def_id.now).0) (m.ty ty.now) b ts us →
         (m.ty ty.now ≡ node h ts) × (b ≡ node h us) }
-    ensures pair { args_meeting result ≡ as_pair }
 {
     let kind = r.cx().ty_kind(ty);
     let def_id = DefId(def_id.0);

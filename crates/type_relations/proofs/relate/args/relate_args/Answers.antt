@@ -5,9 +5,9 @@ use Rattle.relation_terms.specs.Trees.{Tree, node, known, count, nth, list_tree}
 use Rattle.term_enums.specs.Variances.{xform}
 use Rattle.relation_terms.specs.Meaning.{arg_tree}
 use Rattle.relation_terms.specs.Interning.{Sorted}
-use Rattle.relation_contexts.specs.Relation.{at, part_at}
-use Rattle.type_relations.specs.Arguments.{args_head, args_meeting}
-use Rattle.relation_contexts.specs.Lawful.{MayAnswer, Related, RelatedAs, items_in}
+use Rattle.relation_contexts.specs.Relation.{part_at}
+use Rattle.type_relations.specs.Arguments.{args_head}
+use Rattle.relation_contexts.specs.Lawful.{MayAnswer, Related, items_in}
 use Rattle.relation_contexts.proofs.Standing.{term_context}
 use Rattle.relation_contexts.proofs.Parts.{in_parts}
 use Rattle.relation_terms.proofs.Stays.{stays_list, stays_arg}
@@ -104,7 +104,7 @@ returns-in_err-answer g c j alike =
     ∙ ap (λ z. part_at (items_in r) h i z) ((inv.fronted).passes).ambient in
     let f = c.in_err-answer.field-0.0 in
     let gone = subst (λ v. Related M q p v x y (arg_tree p.meaning) (Err f)) ew c.in_err-answer.ensures.related in
-    subst (λ z. RelatedAs (args_meeting d) M r p (at r.ambient) (node h ts) (node j us)
+    subst (λ z. Related M r p r.ambient (node h ts) (node j us)
     (λ k. node (args_head p.meaning d) ((p.meaning).args k)) z)
     (sym (as_err c.from_residual.result f c.from_residual.ensures.0 c.from_residual.ensures.1))
     (form_refused M r.ambient h j ts us i inv.fronted inv.are_parts (args_looked_at r.meaning d) x y lx ly ex ey
@@ -143,7 +143,7 @@ returns-in_err-push g c j alike =
     let gone = subst (λ v. Related M q p v x y (arg_tree p.meaning) (Ok n.answer)) ew (n.ensures).related in
     let next = fronted_next h r.ambient i ts us x y inv.fronted lx ly ex ey (arg_tree p.meaning) n.answer inv.are_parts
     gone in
-    subst (λ z. RelatedAs (args_meeting d) M r p (at r.ambient) (node h ts) (node j us)
+    subst (λ z. Related M r p r.ambient (node h ts) (node j us)
     (λ k. node (args_head p.meaning d) ((p.meaning).args k)) z)
     (sym (as_err c.from_residual-in_err-push.result Memory c.from_residual-in_err-push.ensures.0
     c.from_residual-in_err-push.ensures.1))
@@ -225,7 +225,7 @@ returns g c j alike =
     let value : MayAnswer M q r.ambient (node h ts) (node h was) =
     may_form M q h r.ambient ts was (args_related_head r.meaning c.args.variances.now)
     (answers_end M q h r.ambient i ts was (inv.are_parts).left_list all inv.answers) in
-    let done : RelatedAs (args_meeting d) M r q (at r.ambient) (node h ts) (node j us) (λ (t : Tree). t) (Ok (node h ts)) =
+    let done : Related M r q r.ambient (node h ts) (node j us) (λ (t : Tree). t) (Ok (node h ts)) =
     form_related M r.ambient h j ts us i inv.fronted inv.are_parts (args_looked_at r.meaning d) (λ (t : Tree). t)
     (node h ts) alike (args_first_order r.meaning d j alike) (args_related_head r.meaning d) all c.requires.as_many refl
     k.left_known in

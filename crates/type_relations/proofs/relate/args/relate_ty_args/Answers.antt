@@ -4,8 +4,7 @@ use Rattle.relation_terms.specs.Trees.{Tree, node, known}
 use Rattle.relation_terms.proofs.Stays.{extends_on}
 use Rattle.relation_contexts.specs.Parts.{head_of}
 use Rattle.type_relations.specs.Arguments.{args_head}
-use Rattle.relation_contexts.specs.Lawful.{Asked, Related, RelatedAs, Shown, MayAnswer}
-use Rattle.relation_contexts.specs.Relation.{at}
+use Rattle.relation_contexts.specs.Lawful.{Asked, Related, Shown, MayAnswer}
 use Rattle.relation_contexts.proofs.Building.{built_as}
 use Rattle.relation_contexts.proofs.Passing.{as_err, asked_later, refused_again, noted_related, noted_refused, made_or_not, shown_now}
 use Rattle.type_relations.proofs.Arguments.{args_heads, over_later}
@@ -16,7 +15,7 @@ pub relate_args-requires-clause-asked : goal.relate_args-requires-clause-asked
 relate_args-requires-clause-asked g c =
     let r = g.R.HasState.state c.args.r.now in
     let m = r.meaning in
-    let is = c.item_variances-variances.ensures.form (m.ty c.args.b_ty.now) (m.args c.args.a_args.now)
+    let is = c.item_variances-variances.ensures (m.ty c.args.b_ty.now) (m.args c.args.a_args.now)
     (m.args c.args.b_args.now) c.requires.over in
     subst₂ (Asked g.R.TypeRelation.manner r r.ambient) is.0 is.1 c.requires.asked
 
@@ -27,12 +26,12 @@ returns-in_err-args g c =
     let M = g.R.TypeRelation.manner in
     let m = r.meaning in
     let v = c.item_variances-variances.result in
-    let is = c.item_variances-variances.ensures.form (m.ty c.args.b_ty.now) (m.args c.args.a_args.now)
+    let is = c.item_variances-variances.ensures (m.ty c.args.b_ty.now) (m.args c.args.a_args.now)
     (m.args c.args.b_args.now) c.requires.over in
     let h = args_head m v in
     let f = c.in_err-args.field-0.0 in
     let gone = subst₂ (λ a b. Related M r q r.ambient a b (λ k. node (args_head (q.meaning) v) ((q.meaning).args k)) (Err f))
-    (sym is.0) (sym is.1) (subst (λ y. RelatedAs y M r q (at r.ambient) (node (args_head m v) (m.args c.args.a_args.now)) (node (args_head m v) (m.args c.args.b_args.now)) (λ k. node (args_head (q.meaning) v) ((q.meaning).args k)) (Err f)) c.item_variances-variances.ensures.pair (c.in_err-args.ensures (args_head m v) refl)) in
+    (sym is.0) (sym is.1) (c.in_err-args.ensures (args_head (g.R.HasState.state c.args.r.now).meaning c.item_variances-variances.result) refl) in
     subst (Related M r q r.ambient (m.ty c.args.a_ty.now) (m.ty c.args.b_ty.now) (q.meaning).ty)
     (sym (as_err c.from_residual.result f c.from_residual.ensures.0 c.from_residual.ensures.1))
     (refused_again M r.ambient (m.ty c.args.a_ty.now) (m.ty c.args.b_ty.now)
@@ -67,10 +66,10 @@ note_declared-requires-clause-related g c =
     let a = m.ty c.args.a_ty.now in
     let b = m.ty c.args.b_ty.now in
     let k = c.requires.asked in
-    let is = c.item_variances-variances.ensures.form b (m.args c.args.a_args.now) (m.args c.args.b_args.now) c.requires.over in
+    let is = c.item_variances-variances.ensures b (m.args c.args.a_args.now) (m.args c.args.b_args.now) c.requires.over in
     let args = c.in_ok-args.args in
     let done = subst₂ (λ a b. Related M r q r.ambient a b (λ k. node (args_head (q.meaning) v) ((q.meaning).args k))
-    (Ok args)) (sym is.0) (sym is.1) (subst (λ y. RelatedAs y M r q (at r.ambient) (node (args_head m v) (m.args c.args.a_args.now)) (node (args_head m v) (m.args c.args.b_args.now)) (λ k. node (args_head (q.meaning) v) ((q.meaning).args k)) (Ok args)) c.item_variances-variances.ensures.pair (c.in_ok-args.ensures (args_head m v) refl)) in
+    (Ok args)) (sym is.0) (sym is.1) (c.in_ok-args.ensures (args_head (g.R.HasState.state c.args.r.now).meaning c.item_variances-variances.result) refl) in
     let passes = done.passes in
     subst₂ (λ t u. Shown M q q.ambient t u)
     (sym ((passes.extends).ty c.args.a_ty.now k.left_known)) (sym ((passes.extends).ty c.args.b_ty.now k.right_known))
@@ -85,11 +84,11 @@ returns-in_err-note_declared g c =
     let M = g.R.TypeRelation.manner in
     let m = r.meaning in
     let v = c.item_variances-variances.result in
-    let is = c.item_variances-variances.ensures.form (m.ty c.args.b_ty.now) (m.args c.args.a_args.now)
+    let is = c.item_variances-variances.ensures (m.ty c.args.b_ty.now) (m.args c.args.a_args.now)
     (m.args c.args.b_args.now) c.requires.over in
     let args = c.in_ok-args.args in
     let done = subst₂ (λ a b. Related M r q r.ambient a b (λ k. node (args_head (q.meaning) v) ((q.meaning).args k))
-    (Ok args)) (sym is.0) (sym is.1) (subst (λ y. RelatedAs y M r q (at r.ambient) (node (args_head m v) (m.args c.args.a_args.now)) (node (args_head m v) (m.args c.args.b_args.now)) (λ k. node (args_head (q.meaning) v) ((q.meaning).args k)) (Ok args)) c.item_variances-variances.ensures.pair (c.in_ok-args.ensures (args_head m v) refl)) in
+    (Ok args)) (sym is.0) (sym is.1) (c.in_ok-args.ensures (args_head (g.R.HasState.state c.args.r.now).meaning c.item_variances-variances.result) refl) in
     let n = c.in_err-note_declared in
     let res = c.from_residual-in_err-note_declared in
     subst (Related M r p r.ambient (m.ty c.args.a_ty.now) (m.ty c.args.b_ty.now) (p.meaning).ty)
@@ -130,10 +129,10 @@ returns g c =
     let a = m.ty c.args.a_ty.now in
     let b = m.ty c.args.b_ty.now in
     let k = c.requires.asked in
-    let is = c.item_variances-variances.ensures.form b (m.args c.args.a_args.now) (m.args c.args.b_args.now) c.requires.over in
+    let is = c.item_variances-variances.ensures b (m.args c.args.a_args.now) (m.args c.args.b_args.now) c.requires.over in
     let args = c.in_ok-args.args in
     let done = subst₂ (λ a b. Related M r q r.ambient a b (λ k. node (args_head (q.meaning) v) ((q.meaning).args k))
-    (Ok args)) (sym is.0) (sym is.1) (subst (λ y. RelatedAs y M r q (at r.ambient) (node (args_head m v) (m.args c.args.a_args.now)) (node (args_head m v) (m.args c.args.b_args.now)) (λ k. node (args_head (q.meaning) v) ((q.meaning).args k)) (Ok args)) c.item_variances-variances.ensures.pair (c.in_ok-args.ensures (args_head m v) refl)) in
+    (Ok args)) (sym is.0) (sym is.1) (c.in_ok-args.ensures (args_head (g.R.HasState.state c.args.r.now).meaning c.item_variances-variances.result) refl) in
     let n = c.in_ok-note_declared in
     let e = ((n.ensures).passes).extends in
     let answer : ArgsKey g.row.I-Key.Denot → Tree = λ k. node (args_head (p.meaning) v) ((p.meaning).args k) in
@@ -158,3 +157,24 @@ returns g c =
       subst (MayAnswer M p r.ambient a) (sym (means ∙ ap (λ h. node h ((p.meaning).args args)) head)) (noted.verdict).answer,
       sure,
     )) made.sure made.means)
+
+pub note_declared-requires-clause-lawful : goal.note_declared-requires-clause-lawful
+note_declared-requires-clause-lawful g c =
+    let done = c.in_ok-args.ensures (args_head (g.R.HasState.state c.args.r.now).meaning c.item_variances-variances.result) refl in
+    (done.passes).lawful c.requires.lawful
+
+pub note_declared-requires-clause-decides : goal.note_declared-requires-clause-decides
+note_declared-requires-clause-decides g c =
+    let done = c.in_ok-args.ensures (args_head (g.R.HasState.state c.args.r.now).meaning c.item_variances-variances.result) refl in
+    λ e. c.requires.decides (sym (done.passes).ambient ∙ e)
+
+pub make_over-requires-clause-lawful : goal.make_over-requires-clause-lawful
+make_over-requires-clause-lawful g c =
+    let done = c.in_ok-args.ensures (args_head (g.R.HasState.state c.args.r.now).meaning c.item_variances-variances.result) refl in
+    ((c.in_ok-note_declared.ensures).passes).lawful ((done.passes).lawful c.requires.lawful)
+
+pub make_over-requires-clause-args_known : goal.make_over-requires-clause-args_known
+make_over-requires-clause-args_known g c =
+    let done = c.in_ok-args.ensures (args_head (g.R.HasState.state c.args.r.now).meaning c.item_variances-variances.result) refl in
+    let same = (((c.in_ok-note_declared.ensures).passes).extends).args c.in_ok-args.args (done.verdict).known in
+    subst (λ z. IsTrue (known z)) (sym same) (done.verdict).known

@@ -34,11 +34,12 @@ returns-then-is_opaque-clause-errors g c =
     let k = alias_term_kind a.kind in
     let l = alias_term_kind b.kind in
     subst (λ z. ItemError m (alias_term_tree m a) (alias_term_tree m b) (ProjectionMismatched z))
-    (sym (ap₂ (λ x y. record { expected = x; found = y }) (c.new-2.ensures.expected_kept ∙ c.def_id-left.ensures)
-    (c.new-2.ensures.found_kept ∙ c.def_id-right.ensures)))
+    (sym (ap₂ (λ x y. record { expected = x; found = y }) (c.new-then-is_opaque.ensures.expected_kept ∙ c.def_id-left.ensures)
+    (c.new-then-is_opaque.ensures.found_kept ∙ c.def_id-right.ensures)))
     (unlike_alias_terms (alias_term_id a.kind) (alias_term_id b.kind) refl refl
     (λ e. (let kinds : plain_kind k ≡ plain_kind l = cc in
-    c.if-is_opaque.true (c.is_opaque.ensures ∙ opaque_kinds k l kinds ∙ sym c.is_opaque-2.ensures))))
+    let one = c.is_opaque.ensures ∙ opaque_kinds k l kinds ∙ sym c.is_opaque-2.ensures in
+    let t = c.if-is_opaque.true in search rules)))
 
 pub returns-then-args-clause-errors : goal.returns-then-args-clause-errors
 returns-then-args-clause-errors g c =
@@ -50,8 +51,9 @@ returns-then-args-clause-errors g c =
     let same = g.met.I.Interner.same_id c.args.cx.now (left.result).0 (right.result).0 in
     let items : m.id (left.result).0 ≡ m.id (right.result).0 =
     same.0 (let t = c.if-ne.false in let h = c.ne.ensures in search rules) in
+    let one : c.is_opaque.result ≡ c.is_opaque-2.result = (let t = c.if-is_opaque.false in search rules) in
     let kinds = plain_kinds (alias_term_kind a.kind) (alias_term_kind b.kind)
-    (sym c.is_opaque.ensures ∙ c.if-is_opaque.false ∙ c.is_opaque-2.ensures) in
+    (sym c.is_opaque.ensures ∙ one ∙ c.is_opaque-2.ensures) in
     unlike_lists tt (ap₂ (λ x y. alias_term x y) kinds (sym (ap m.id left.ensures) ∙ items ∙ ap m.id right.ensures))
     refl refl (λ e. c.if-args.true (sym (ap count c.args-2.ensures ∙ list_count (arg_tree m) c.args-2.result.now) ∙ e
     ∙ (ap count c.args-3.ensures ∙ list_count (arg_tree m) c.args-3.result.now)))
@@ -66,8 +68,9 @@ returns-clause-alike g c =
     let same = g.met.I.Interner.same_id c.args.cx.now (left.result).0 (right.result).0 in
     let items : m.id (left.result).0 ≡ m.id (right.result).0 =
     same.0 (let t = c.if-ne.false in let h = c.ne.ensures in search rules) in
+    let one : c.is_opaque.result ≡ c.is_opaque-2.result = (let t = c.if-is_opaque.false in search rules) in
     let kinds = plain_kinds (alias_term_kind a.kind) (alias_term_kind b.kind)
-    (sym c.is_opaque.ensures ∙ c.if-is_opaque.false ∙ c.is_opaque-2.ensures) in (
+    (sym c.is_opaque.ensures ∙ one ∙ c.is_opaque-2.ensures) in (
       ap₂ (λ x y. alias_term x y) kinds (sym (ap m.id left.ensures) ∙ items ∙ ap m.id right.ensures),
       (ap count c.args-2.ensures ∙ list_count (arg_tree m) c.args-2.result.now) ∙ c.if-args.false
           ∙ sym (ap count c.args-3.ensures ∙ list_count (arg_tree m) c.args-3.result.now),
