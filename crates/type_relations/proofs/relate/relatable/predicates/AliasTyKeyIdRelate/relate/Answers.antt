@@ -1,4 +1,5 @@
 use Rattle.std.proofs.Common.{refl, sym, ◌∙◌, subst, subst₂, Ok, Err}
+use Rattle.relation_terms.specs.declared.terms.alias.AliasTy.{AliasTy}
 use Rattle.relation_terms.specs.Predicates.{alias_term_tree}
 use Rattle.relation_folds.specs.Aliases.{alias_ty_tree}
 use Rattle.relation_contexts.specs.Lawful.{Asked, Related}
@@ -39,7 +40,7 @@ returns-clause-related g c =
     let left = type_as_term r.meaning c.args.a.now c.from-left.result c.from-left.ensures.0 c.from-left.ensures.1 in
     let right = type_as_term r.meaning c.args.b.now c.from-right.result c.from-right.ensures.0 c.from-right.ensures.1 in
     let n = c.in_ok-answer in
-    let z = record { kind = c.args.a.now.kind; args = n.answer.args } in
+    let z : AliasTy g.row.I-Key.Denot g.row.I-Id.Denot = record { kind = c.args.a.now.kind; args = n.answer.args } in
     retold M r.ambient a b (alias_term_tree q.meaning) n.answer (alias_ty_tree q.meaning) z
     (sym (type_as_term q.meaning z n.answer (n.ensures.kind ∙ c.from-left.ensures.0) refl))
     (subst₂ (λ x y. Related M r q r.ambient x y (alias_term_tree q.meaning) (Ok n.answer)) left right n.ensures.related)
