@@ -206,7 +206,9 @@ module _ {Key Id Name : Type 0} (M : Manners) (v : Variance) (p q : PredicatePol
             form_related M v (trait_clause p) (trait_clause q) (cons t nil) (cons u nil) 1 gone are tt
             (λ (y : Tree). y) (clause p t) (ap trait_clause same) (λ f. ap trait_clause same) tt refl refl refl sure in
             answered_with M v (clause p t) (clause q u) (λ (y : Tree). y) (clause p t) done answer z
-            (subst (MayAnswer M s v (clause p t)) (sym is) (record { related = λ w a sat all. forms tt refl (next_part
-            (subst (λ y. Rel (items_in s) w s.kept.environment (at y) (apply a t) (apply a (tree x))) (sym (covariantly v))
-            (((g.verdict).answer).related w a sat all)) no_parts) }))
+            (subst (MayAnswer M s v (clause p t)) (sym is) (record {
+              related = λ w a sat all. forms tt refl (next_part
+                  (subst (λ y. Rel (items_in s) w s.kept.environment (at y) (apply a t) (apply a (tree x))) (sym (covariantly v))
+                  (((g.verdict).answer).related w a sat all)) no_parts);
+            }))
             (subst (λ y. IsTrue (known y)) (sym is) (and_from (known (tree x)) true (g.verdict).known refl))
