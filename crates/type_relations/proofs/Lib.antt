@@ -1,6 +1,7 @@
 pub mod Constants
 pub mod OpenedTerms
 pub mod Arguments
+pub mod Items
 pub mod Relatable
 pub mod Fronts
 pub mod Structural
