@@ -81,10 +81,10 @@ module _ {Key Id Name : Type 0} {r : State Key Id Name} {c : Context Key Id Name
       (ap (λ m. m.ty b) h.meaning) asked.right_known
 
   -- An alias and another type are left to a goal, which was registered, or was not.
-  module _ (q : State Key Id Name) (clean : HaveNoError ta tb) {A E : Type 0} where
-    pub to_goal : {x : A} → LeavesAs r.kept.settings ta tb ToGoal → RegistersAlias {F = E} r q a b (Ok x) →
+  module _ (q : State Key Id Name) (clean : HaveNoError ta tb) (A E : Type 0) where
+    pub to_goal : (x : A) → LeavesAs r.kept.settings ta tb ToGoal → RegistersAlias {A = A} {F = E} r q a b (Ok x) →
         SteppedTys solver_manner r q a b (Ok (Done a)) × TysCombine r q a b (Ok (Done a))
-    to_goal {x = x} l h = registered (alias_is_asked r.ambient ta tb decides)
+    to_goal x l h = registered (alias_is_asked r.ambient ta tb decides)
       where
         registered : (p : Tree) × (alias_at r.ambient ta tb ≡ Some p) →
             SteppedTys solver_manner r q a b (Ok (Done a)) × TysCombine r q a b (Ok (Done a))
@@ -93,10 +93,10 @@ module _ {Key Id Name : Type 0} {r : State Key Id Name} {c : Context Key Id Name
           left_to_goal p.0 clean l.0 l.1 p.1 (record { store = g.store; goals = g.goals }) refl,
         )
 
-    pub not_to_goal : {e : E} (res : Result (Step (TyKey Key)) (RelateFault Key Id Name)) →
-        LeavesAs r.kept.settings ta tb ToGoal → RegistersAlias {A = A} r q a b (Err e) → res ≡ Err Memory →
+    pub not_to_goal : (e : E) (res : Result (Step (TyKey Key)) (RelateFault Key Id Name)) →
+        LeavesAs r.kept.settings ta tb ToGoal → RegistersAlias {A = A} {F = E} r q a b (Err e) → res ≡ Err Memory →
         SteppedTys solver_manner r q a b res × TysCombine r q a b res
-    not_to_goal {e = e} res l h is = registered (alias_is_asked r.ambient ta tb decides)
+    not_to_goal e res l h is = registered (alias_is_asked r.ambient ta tb decides)
       where
         registered : (p : Tree) × (alias_at r.ambient ta tb ≡ Some p) →
             SteppedTys solver_manner r q a b res × TysCombine r q a b res
@@ -106,18 +106,18 @@ module _ {Key Id Name : Type 0} {r : State Key Id Name} {c : Context Key Id Name
         )
 
     -- An opaque type is left open.
-    pub to_open : {x : A} → LeavesAs r.kept.settings ta tb Open → RegistersGoal {F = E} r q ambiguous_predicate (Ok x) →
+    pub to_open : (x : A) → LeavesAs r.kept.settings ta tb Open → RegistersGoal {A = A} {F = E} r q ambiguous_predicate (Ok x) →
         SteppedTys solver_manner r q a b (Ok (Done a)) × TysCombine r q a b (Ok (Done a))
-    to_open l g = (
+    to_open x l g = (
       tys_left_open ambiguous_predicate g a b asked (sorted_there a asked.left_known) (sorted_there b asked.right_known) l.0
           l.1 refl,
       left_open clean l.0 l.1 (record { store = g.store; goals = g.goals }) refl,
     )
 
-    pub not_to_open : {e : E} (res : Result (Step (TyKey Key)) (RelateFault Key Id Name)) →
-        LeavesAs r.kept.settings ta tb Open → RegistersGoal {A = A} r q ambiguous_predicate (Err e) → res ≡ Err Memory →
+    pub not_to_open : (e : E) (res : Result (Step (TyKey Key)) (RelateFault Key Id Name)) →
+        LeavesAs r.kept.settings ta tb Open → RegistersGoal {A = A} {F = E} r q ambiguous_predicate (Err e) → res ≡ Err Memory →
         SteppedTys solver_manner r q a b res × TysCombine r q a b res
-    not_to_open res l g is = (
+    not_to_open e res l g is = (
       subst (SteppedTys solver_manner r q a b) (sym is) (goal_refused IsFormed ta tb (q.meaning).ty ambiguous_predicate g),
       not_registered clean (inr l) (record { store = g.store; goals = g.goals }) is,
     )

@@ -42,7 +42,8 @@ returns-then-is_left_const-clause-stepped g c =
     let b = c.args.b.now in
     let cx = g.Infcx.InferCtxtLike.interner y in
     let of = g.met.Infcx.InferCtxtLike.reads y in
-    let sorts = λ k h. const_sorted of k ((g.met.Infcx.Interner.Interner.sorted cx).const_ k) h in
+    let sorts : (t : _) → IsTrue (known ((s.meaning).const_ t)) → IsTerm const_sort ((s.meaning).const_ t) =
+    λ t h. const_sorted of t ((g.met.Infcx.Interner.Interner.sorted cx).const_ t) h in
     let k = c.requires.asked in
     let left = c.is_left_const.ensures.left c.if-is_left_const.true in
     let there : (t : _) → IsTrue (known ((r.meaning).const_ t)) → IsTerm const_sort ((r.meaning).const_ t) =
@@ -91,7 +92,8 @@ returns-clause-stepped g c =
     (g.Infcx.InferCtxtLike.state c.infcx_mut.result.now).store d.store l a b res) c.structurally_relate_aliases-aliases.ensures
     c.meet_consts.ensures.combines) in
     let covered = g.met.Infcx.InferCtxtLike.covered z grows.lawful in
-    let sorts = λ k h. const_sorted of k ((g.met.Infcx.Interner.Interner.sorted cx).const_ k) h in
+    let sorts : (t : _) → IsTrue (known ((s.meaning).const_ t)) → IsTerm const_sort ((s.meaning).const_ t) =
+    λ t h. const_sorted of t ((g.met.Infcx.Interner.Interner.sorted cx).const_ t) h in
     let a_shallow = subst₂ (λ st m. IsShallowConst st (m.const_ a)) o.store o.meaning c.requires.a_shallow in
     let b_shallow = subst₂ (λ st m. IsShallowConst st (m.const_ b)) o.store o.meaning c.requires.b_shallow in
     let not_left = c.is_left_const.ensures.not c.if-is_left_const.false in
@@ -131,7 +133,8 @@ returns-clause-combines g c =
     (g.Infcx.InferCtxtLike.state c.infcx_mut.result.now).store d.store l a b res) c.structurally_relate_aliases-aliases.ensures
     c.meet_consts.ensures.combines) in
     let covered = g.met.Infcx.InferCtxtLike.covered z grows.lawful in
-    let sorts = λ k h. const_sorted of k ((g.met.Infcx.Interner.Interner.sorted cx).const_ k) h in
+    let sorts : (t : _) → IsTrue (known ((s.meaning).const_ t)) → IsTerm const_sort ((s.meaning).const_ t) =
+    λ t h. const_sorted of t ((g.met.Infcx.Interner.Interner.sorted cx).const_ t) h in
     let a_shallow = subst₂ (λ st m. IsShallowConst st (m.const_ a)) o.store o.meaning c.requires.a_shallow in
     let b_shallow = subst₂ (λ st m. IsShallowConst st (m.const_ b)) o.store o.meaning c.requires.b_shallow in
     let not_left = c.is_left_const.ensures.not c.if-is_left_const.false in

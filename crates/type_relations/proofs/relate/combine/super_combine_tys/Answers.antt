@@ -1,4 +1,7 @@
-use Rattle.std.proofs.Common.{refl, sym, subst, subst₂}
+use Rattle.std.proofs.Common.{IsTrue, refl, sym, subst, subst₂}
+use Rattle.relation_terms.specs.declared.terms.interner.OutOfMemory.{OutOfMemory}
+use Rattle.relation_terms.specs.Heads.{type_sort}
+use Rattle.relation_terms.specs.Trees.{IsTerm, known}
 use Rattle.relation_folds.specs.declared.error.RelateFault.TheVariants.{Memory}
 use Rattle.relation_contexts.specs.ContextCalls.{Stands}
 use Rattle.relation_contexts.specs.Resolving.{IsShallow}
@@ -26,7 +29,8 @@ returns-in-Error-clause-stepped g c = λ n m.
     let lawful = o.lawful c.requires.lawful in
     let sound = g.met.Infcx.InferCtxtLike.sound y lawful in
     let k = c.requires.asked in
-    let sorts = λ t h. ty_sorted of t ((g.met.Infcx.Interner.Interner.sorted cx).ty t) h in
+    let sorts : (t : _) → IsTrue (known ((s.meaning).ty t)) → IsTerm type_sort ((s.meaning).ty t) =
+    λ t h. ty_sorted of t ((g.met.Infcx.Interner.Interner.sorted cx).ty t) h in
     let sl = stands_there o a b a c.ty_standing-left.result (subst (λ z. StandsAs c.ty_standing-left.result
     (((g.Infcx.InferCtxtLike.state z).meaning).ty a)) c.infcx.ensures c.ty_standing-left.ensures) in
     error_left o c.requires.decides sound a b k sorts (g.R.HasState.state c.taint.new.relation) c.taint.ensures.alone
@@ -59,7 +63,8 @@ returns-in-Error-right g c =
     let lawful = o.lawful c.requires.lawful in
     let sound = g.met.Infcx.InferCtxtLike.sound y lawful in
     let k = c.requires.asked in
-    let sorts = λ t h. ty_sorted of t ((g.met.Infcx.Interner.Interner.sorted cx).ty t) h in
+    let sorts : (t : _) → IsTrue (known ((s.meaning).ty t)) → IsTerm type_sort ((s.meaning).ty t) =
+    λ t h. ty_sorted of t ((g.met.Infcx.Interner.Interner.sorted cx).ty t) h in
     let sl = stands_there o a b a c.ty_standing-left.result (subst (λ z. StandsAs c.ty_standing-left.result
     (((g.Infcx.InferCtxtLike.state z).meaning).ty a)) c.infcx.ensures c.ty_standing-left.ensures) in
     let sr = stands_there o a b b c.ty_standing-right.result (subst (λ z. StandsAs c.ty_standing-right.result
@@ -87,7 +92,8 @@ returns-in_err-register_alias_relate_predicate-in-ToGoal g c =
     let lawful = o.lawful c.requires.lawful in
     let sound = g.met.Infcx.InferCtxtLike.sound y lawful in
     let k = c.requires.asked in
-    let sorts = λ t h. ty_sorted of t ((g.met.Infcx.Interner.Interner.sorted cx).ty t) h in
+    let sorts : (t : _) → IsTrue (known ((s.meaning).ty t)) → IsTerm type_sort ((s.meaning).ty t) =
+    λ t h. ty_sorted of t ((g.met.Infcx.Interner.Interner.sorted cx).ty t) h in
     let sl = stands_there o a b a c.ty_standing-left.result (subst (λ z. StandsAs c.ty_standing-left.result
     (((g.Infcx.InferCtxtLike.state z).meaning).ty a)) c.infcx.ensures c.ty_standing-left.ensures) in
     let sr = stands_there o a b b c.ty_standing-right.result (subst (λ z. StandsAs c.ty_standing-right.result
@@ -98,7 +104,8 @@ returns-in_err-register_alias_relate_predicate-in-ToGoal g c =
     let left = subst (LeavesAs r.kept.settings ((r.meaning).ty a) ((r.meaning).ty b)) c.in-ToGoal.is leaves in
     let from = c.from_residual in
     let z = not_to_goal o c.requires.decides sound a b k sorts (g.R.HasState.state c.register_alias_relate_predicate.new.self)
-    (left_clean, right_clean) from.result left c.in_err-register_alias_relate_predicate-in-ToGoal.ensures
+    (left_clean, right_clean) (Unit {0}) OutOfMemory c.in_err-register_alias_relate_predicate-in-ToGoal.field-0.0 from.result left
+    c.in_err-register_alias_relate_predicate-in-ToGoal.ensures
     (as_err from.result Memory from.ensures.0 from.ensures.1) in
     record { stepped = λ n m. z.0; combines = z.1 }
 
@@ -116,7 +123,8 @@ returns-in_err-register_ambiguous-in-Open g c =
     let lawful = o.lawful c.requires.lawful in
     let sound = g.met.Infcx.InferCtxtLike.sound y lawful in
     let k = c.requires.asked in
-    let sorts = λ t h. ty_sorted of t ((g.met.Infcx.Interner.Interner.sorted cx).ty t) h in
+    let sorts : (t : _) → IsTrue (known ((s.meaning).ty t)) → IsTerm type_sort ((s.meaning).ty t) =
+    λ t h. ty_sorted of t ((g.met.Infcx.Interner.Interner.sorted cx).ty t) h in
     let sl = stands_there o a b a c.ty_standing-left.result (subst (λ z. StandsAs c.ty_standing-left.result
     (((g.Infcx.InferCtxtLike.state z).meaning).ty a)) c.infcx.ensures c.ty_standing-left.ensures) in
     let sr = stands_there o a b b c.ty_standing-right.result (subst (λ z. StandsAs c.ty_standing-right.result
@@ -127,7 +135,8 @@ returns-in_err-register_ambiguous-in-Open g c =
     let left = subst (LeavesAs r.kept.settings ((r.meaning).ty a) ((r.meaning).ty b)) c.in-Open.is leaves in
     let from = c.from_residual-in_err-register_ambiguous-in-Open in
     let z = not_to_open o c.requires.decides sound a b k sorts (g.R.HasState.state c.register_ambiguous.new.relation)
-    (left_clean, right_clean) from.result left c.in_err-register_ambiguous-in-Open.ensures
+    (left_clean, right_clean) (Unit {0}) OutOfMemory c.in_err-register_ambiguous-in-Open.field-0.0 from.result left
+    c.in_err-register_ambiguous-in-Open.ensures
     (as_err from.result Memory from.ensures.0 from.ensures.1) in
     record { stepped = λ n m. z.0; combines = z.1 }
 
@@ -160,7 +169,8 @@ returns-in_ok-register_alias_relate_predicate-in-ToGoal g c =
     let lawful = o.lawful c.requires.lawful in
     let sound = g.met.Infcx.InferCtxtLike.sound y lawful in
     let k = c.requires.asked in
-    let sorts = λ t h. ty_sorted of t ((g.met.Infcx.Interner.Interner.sorted cx).ty t) h in
+    let sorts : (t : _) → IsTrue (known ((s.meaning).ty t)) → IsTerm type_sort ((s.meaning).ty t) =
+    λ t h. ty_sorted of t ((g.met.Infcx.Interner.Interner.sorted cx).ty t) h in
     let sl = stands_there o a b a c.ty_standing-left.result (subst (λ z. StandsAs c.ty_standing-left.result
     (((g.Infcx.InferCtxtLike.state z).meaning).ty a)) c.infcx.ensures c.ty_standing-left.ensures) in
     let sr = stands_there o a b b c.ty_standing-right.result (subst (λ z. StandsAs c.ty_standing-right.result
@@ -170,7 +180,8 @@ returns-in_ok-register_alias_relate_predicate-in-ToGoal g c =
     let leaves = c.left_to.ensures ((r.meaning).ty a) ((r.meaning).ty b) sl sr in
     let left = subst (LeavesAs r.kept.settings ((r.meaning).ty a) ((r.meaning).ty b)) c.in-ToGoal.is leaves in
     let z = to_goal o c.requires.decides sound a b k sorts (g.R.HasState.state c.register_alias_relate_predicate.new.self)
-    (left_clean, right_clean) left c.in_ok-register_alias_relate_predicate-in-ToGoal.ensures in
+    (left_clean, right_clean) (Unit {0}) OutOfMemory c.in_ok-register_alias_relate_predicate-in-ToGoal.field-0 left
+    c.in_ok-register_alias_relate_predicate-in-ToGoal.ensures in
     record { stepped = λ n m. z.0; combines = z.1 }
 
 pub returns-in_ok-register_ambiguous-in-Open : goal.returns-in_ok-register_ambiguous-in-Open
@@ -187,7 +198,8 @@ returns-in_ok-register_ambiguous-in-Open g c =
     let lawful = o.lawful c.requires.lawful in
     let sound = g.met.Infcx.InferCtxtLike.sound y lawful in
     let k = c.requires.asked in
-    let sorts = λ t h. ty_sorted of t ((g.met.Infcx.Interner.Interner.sorted cx).ty t) h in
+    let sorts : (t : _) → IsTrue (known ((s.meaning).ty t)) → IsTerm type_sort ((s.meaning).ty t) =
+    λ t h. ty_sorted of t ((g.met.Infcx.Interner.Interner.sorted cx).ty t) h in
     let sl = stands_there o a b a c.ty_standing-left.result (subst (λ z. StandsAs c.ty_standing-left.result
     (((g.Infcx.InferCtxtLike.state z).meaning).ty a)) c.infcx.ensures c.ty_standing-left.ensures) in
     let sr = stands_there o a b b c.ty_standing-right.result (subst (λ z. StandsAs c.ty_standing-right.result
@@ -197,7 +209,8 @@ returns-in_ok-register_ambiguous-in-Open g c =
     let leaves = c.left_to.ensures ((r.meaning).ty a) ((r.meaning).ty b) sl sr in
     let left = subst (LeavesAs r.kept.settings ((r.meaning).ty a) ((r.meaning).ty b)) c.in-Open.is leaves in
     let z = to_open o c.requires.decides sound a b k sorts (g.R.HasState.state c.register_ambiguous.new.relation)
-    (left_clean, right_clean) left c.in_ok-register_ambiguous-in-Open.ensures in
+    (left_clean, right_clean) (Unit {0}) OutOfMemory c.in_ok-register_ambiguous-in-Open.field-0 left
+    c.in_ok-register_ambiguous-in-Open.ensures in
     record { stepped = λ n m. z.0; combines = z.1 }
 
 pub returns-in-ToNone : goal.returns-in-ToNone
@@ -214,7 +227,8 @@ returns-in-ToNone g c =
     let lawful = o.lawful c.requires.lawful in
     let sound = g.met.Infcx.InferCtxtLike.sound y lawful in
     let k = c.requires.asked in
-    let sorts = λ t h. ty_sorted of t ((g.met.Infcx.Interner.Interner.sorted cx).ty t) h in
+    let sorts : (t : _) → IsTrue (known ((s.meaning).ty t)) → IsTerm type_sort ((s.meaning).ty t) =
+    λ t h. ty_sorted of t ((g.met.Infcx.Interner.Interner.sorted cx).ty t) h in
     let sl = stands_there o a b a c.ty_standing-left.result (subst (λ z. StandsAs c.ty_standing-left.result
     (((g.Infcx.InferCtxtLike.state z).meaning).ty a)) c.infcx.ensures c.ty_standing-left.ensures) in
     let sr = stands_there o a b b c.ty_standing-right.result (subst (λ z. StandsAs c.ty_standing-right.result

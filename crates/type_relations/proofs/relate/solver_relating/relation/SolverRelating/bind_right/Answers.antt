@@ -58,8 +58,8 @@ returns-in_err-bound-clause-combines g c =
     let f = c.in_err-bound.field-0.0 in
     let n = c.args.y.0 in
     right_not_bound n f c.requires.b_is c.requires.a_is
-    (subst (λ z. BindsTyVar (solving_through r.structurally_relate_aliases r.infcx.ghost_name r.goals.items s r.ambient_variance r.param_env)
-    (solving_through r.structurally_relate_aliases r.infcx.ghost_name r.goals.items d r.ambient_variance r.param_env) z n c.args.a.now
+    (subst (λ v. BindsTyVar (solving_through r.structurally_relate_aliases r.infcx.ghost_name r.goals.items s r.ambient_variance r.param_env)
+    (solving_through r.structurally_relate_aliases r.infcx.ghost_name r.goals.items d r.ambient_variance r.param_env) v n c.args.a.now
     (Err f)) c.xform-variance.ensures (record {
       instantiated = h.instantiates;
       goals = goals_stay h.grows.extends r.goals.items c.requires.goals_known;
@@ -75,7 +75,7 @@ returns-in_err-register_alias_relate_predicate-clause-stepped g c =
     let of = g.met.Infcx.InferCtxtLike.reads r.infcx.now in
     let sound = g.met.Infcx.InferCtxtLike.sound r.infcx.now c.requires.lawful in
     let k = c.requires.asked in
-    let env = (c.requires.env_known, c.requires.goals_known) in
+    let env : KnowsGoals s.meaning r.param_env r.goals.items = (c.requires.env_known, c.requires.goals_known) in
     let d = g.Infcx.InferCtxtLike.state c.instantiate_ty_var_raw.new.self in
     let h = c.instantiate_ty_var_raw.ensures in
     let held = held_grows r.structurally_relate_aliases r.infcx.ghost_name s d h.grows in
@@ -115,20 +115,14 @@ pub returns-in_err-register_alias_relate_predicate-clause-combines :
 returns-in_err-register_alias_relate_predicate-clause-combines g c =
     let r = c.args.self.now in
     let s = g.Infcx.InferCtxtLike.state r.infcx.now in
-    let cx = g.Infcx.InferCtxtLike.interner r.infcx.now in
-    let of = g.met.Infcx.InferCtxtLike.reads r.infcx.now in
-    let sound = g.met.Infcx.InferCtxtLike.sound r.infcx.now c.requires.lawful in
     let k = c.requires.asked in
-    let env = (c.requires.env_known, c.requires.goals_known) in
+    let env : KnowsGoals s.meaning r.param_env r.goals.items = (c.requires.env_known, c.requires.goals_known) in
     let d = g.Infcx.InferCtxtLike.state c.instantiate_ty_var_raw.new.self in
     let h = c.instantiate_ty_var_raw.ensures in
     let held = held_grows r.structurally_relate_aliases r.infcx.ghost_name s d h.grows in
     let n = c.args.y.0 in
     let t = (s.meaning).ty c.args.a.now in
     let was = solving_through r.structurally_relate_aliases r.infcx.ghost_name r.goals.items s r.ambient_variance r.param_env in
-    let L = s.lawful × KnowsGoals s.meaning r.param_env r.goals.items in
-    let K = d.lawful × KnowsGoals d.meaning r.param_env r.goals.items in
-    let still = still_lawful held r.goals.items r.param_env h.grows.extends env h.grows.lawful in
     let z = c.in_ok-bound.bound in
     let i = c.in_ok-bound.ensures.instantiates in
     let m = c.in-Some.field-0.0 in
@@ -163,7 +157,7 @@ returns-in-Some-clause-stepped g c =
     let of = g.met.Infcx.InferCtxtLike.reads r.infcx.now in
     let sound = g.met.Infcx.InferCtxtLike.sound r.infcx.now c.requires.lawful in
     let k = c.requires.asked in
-    let env = (c.requires.env_known, c.requires.goals_known) in
+    let env : KnowsGoals s.meaning r.param_env r.goals.items = (c.requires.env_known, c.requires.goals_known) in
     let d = g.Infcx.InferCtxtLike.state c.instantiate_ty_var_raw.new.self in
     let h = c.instantiate_ty_var_raw.ensures in
     let held = held_grows r.structurally_relate_aliases r.infcx.ghost_name s d h.grows in
@@ -201,20 +195,14 @@ pub returns-in-Some-clause-combines : goal.returns-in-Some-clause-combines
 returns-in-Some-clause-combines g c =
     let r = c.args.self.now in
     let s = g.Infcx.InferCtxtLike.state r.infcx.now in
-    let cx = g.Infcx.InferCtxtLike.interner r.infcx.now in
-    let of = g.met.Infcx.InferCtxtLike.reads r.infcx.now in
-    let sound = g.met.Infcx.InferCtxtLike.sound r.infcx.now c.requires.lawful in
     let k = c.requires.asked in
-    let env = (c.requires.env_known, c.requires.goals_known) in
+    let env : KnowsGoals s.meaning r.param_env r.goals.items = (c.requires.env_known, c.requires.goals_known) in
     let d = g.Infcx.InferCtxtLike.state c.instantiate_ty_var_raw.new.self in
     let h = c.instantiate_ty_var_raw.ensures in
     let held = held_grows r.structurally_relate_aliases r.infcx.ghost_name s d h.grows in
     let n = c.args.y.0 in
     let t = (s.meaning).ty c.args.a.now in
     let was = solving_through r.structurally_relate_aliases r.infcx.ghost_name r.goals.items s r.ambient_variance r.param_env in
-    let L = s.lawful × KnowsGoals s.meaning r.param_env r.goals.items in
-    let K = d.lawful × KnowsGoals d.meaning r.param_env r.goals.items in
-    let still = still_lawful held r.goals.items r.param_env h.grows.extends env h.grows.lawful in
     let z = c.in_ok-bound.bound in
     let i = c.in_ok-bound.ensures.instantiates in
     let m = c.in-Some.field-0.0 in
@@ -284,8 +272,8 @@ returns-clause-combines g c =
     let n = c.args.y.0 in
     let z = c.in_ok-bound.bound in
     right_bound n z c.requires.b_is c.requires.a_is
-    (subst (λ z. BindsTyVar (solving_through r.structurally_relate_aliases r.infcx.ghost_name r.goals.items s r.ambient_variance r.param_env)
-    (solving_through r.structurally_relate_aliases r.infcx.ghost_name r.goals.items d r.ambient_variance r.param_env) z n c.args.a.now
+    (subst (λ v. BindsTyVar (solving_through r.structurally_relate_aliases r.infcx.ghost_name r.goals.items s r.ambient_variance r.param_env)
+    (solving_through r.structurally_relate_aliases r.infcx.ghost_name r.goals.items d r.ambient_variance r.param_env) v n c.args.a.now
     (Ok z)) c.xform-variance.ensures (record {
       instantiated = h.instantiates;
       goals = goals_stay h.grows.extends r.goals.items c.requires.goals_known;
