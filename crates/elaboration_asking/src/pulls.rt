@@ -251,8 +251,8 @@ pub fn supertraits_of<I: Interner>(
     requires { IsTrue (known (bound_tree (I.meaning cx.old) of)) }
     ensures grown { Extends (I.meaning cx.old) (I.meaning cx.new) }
     ensures sure { IfOk result (λ all. All (KnowsPulled (I.meaning cx.new)) all.items) }
-    ensures answers { let m = I.meaning cx.old in let n = I.meaning cx.new in
-        IfOk result (λ all. AnswersSupertraits m n of limit all.items) }
+    ensures answers { IfOk result (λ all.
+        AnswersSupertraits (I.meaning cx.old) (I.meaning cx.new) of limit all.items) }
 {
     let clause = clause_of_trait_ref(cx, of)?;
     let mut clauses = Vec::new(cx.alloc());

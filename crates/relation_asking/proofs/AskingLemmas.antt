@@ -29,7 +29,7 @@ use Rattle.text_terms.specs.Built.{AreKnown, AreBuilt}
 use Rattle.text_reading.specs.declared.naming.program.Put.{Put}
 use Rattle.relation_asking.specs.Meets.{AllKnown}
 use Rattle.relation_asking.specs.Puts.{AreMade, ArePuts}
-use Rattle.relation_asking.proofs.MeetLemmas.{and_both}
+use Rattle.text_terms.proofs.BuildingLemmas.{both_true}
 use Rattle.relation_needs.specs.Needs.{Allows, Reaches, largest, both_needs, need_at, needs_with, needs_of}
 use Rattle.relation_asking.specs.Asking.{IsAsked, IsRelatable, IsReady, AreReady, Has, IsAskable, KnowsRelated}
 use Rattle.relation_needs.proofs.CoverLemmas.{all_covered, all_bound}
@@ -157,7 +157,7 @@ module _ {Key Id Name : Type 0} (m : Meaning Key Id Name) (keys : List (Option (
   keys_known (n ∷ ns) (x ∷ xs) e =
       let one : slice_get keys n ≡ Some (Some x) = cc in
       let more : map (slice_get keys) ns ≡ map (λ y. Some (Some y)) xs = cc in
-      and_both (known (arg_tree m x)) (known (list_tree (arg_tree m) xs)) (r n x one).0 (keys_known ns xs more)
+      both_true (known (arg_tree m x)) (known (list_tree (arg_tree m) xs)) (r n x one).0 (keys_known ns xs more)
 
   -- What a list of such terms needs is enough for it, and relating takes the list where it takes each of them.
   list_allowed : (ns : List ℕ) (xs : List (GenericArgKind Key)) (n : Needs) →

@@ -1,5 +1,5 @@
 -- A visit of a visitor that keeps what it is asked about, as one of trees.
-use Rattle.std.proofs.Common.{◌≡◌, ℕ, Bool, true, false, ◌&&◌, IsTrue, List, [], ◌∷◌, ◌++◌, map, refl, sym, ap, ◌∙◌, subst, subst₂}
+use Rattle.std.proofs.Common.{◌≡◌, ℕ, Bool, true, false, IsTrue, List, [], ◌∷◌, ◌++◌, map, refl, sym, ap, ◌∙◌, subst, subst₂}
 use Rattle.std.proofs.lemmas.Bool.{and_parts}
 use Rattle.std.proofs.lemmas.List.{map-append}
 use Rattle.relation_terms.specs.Trees.{Tree, leaf, node, bind, nil, cons, known, list_tree}
@@ -8,6 +8,7 @@ use Rattle.relation_terms.specs.declared.terms.generic_arg.GenericArgKind.{Gener
 use Rattle.relation_asking.specs.declared.visiting.Collects.{Collects}
 use Rattle.relation_asking.specs.Args.{same_arg}
 use Rattle.relation_asking.specs.Meets.{answer_at, Meets, AllKnown, Asks}
+use Rattle.text_terms.proofs.BuildingLemmas.{both_true}
 use Rattle.relation_asking.proofs.PutLemmas.{Compares, answer_means}
 use Rattle.relation_folds.specs.declared.visit.Visit.{Visit}
 use Rattle.relation_terms.specs.Parts.{parts_of}
@@ -44,17 +45,13 @@ module _ {V W : Type 0} (f : V → W) (A : V → ℕ → Tree → V → Visit �
       let more = walks_as d w x ts r n one.0 in
       (more.0, λ k. let q = more.1 k in let s = one.1 q.0 in (s.0, next_part s.1 q.1))
 
-pub and_both : (a b : Bool) → IsTrue a → IsTrue b → IsTrue (a && b)
-and_both true b h k = k
-and_both false b h k = absurd (cc)
-
 -- All are known where one more is.
 known_more : {A : Type 0} (f : A → Tree) (xs : List A) (x : A) → IsTrue (known (f x)) → IsTrue (known (list_tree f xs)) →
     IsTrue (known (list_tree f (xs ++ x ∷ [])))
-known_more f [] x k h = and_both (known (f x)) true k refl
+known_more f [] x k h = both_true (known (f x)) true k refl
 known_more f (y ∷ ys) x k h =
     let p = and_parts (known (f y)) (known (list_tree f ys)) h in
-    and_both (known (f y)) (known (list_tree f (ys ++ x ∷ []))) p.0 (known_more f ys x k p.1)
+    both_true (known (f y)) (known (list_tree f (ys ++ x ∷ []))) p.0 (known_more f ys x k p.1)
 
 -- What a visitor keeps that was asked about a term.
 module _ {Key Id Name : Type 0} (m : Meaning Key Id Name) (eq : Key → Key → Bool) (c : Compares m eq)

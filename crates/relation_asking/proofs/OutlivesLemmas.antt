@@ -1,5 +1,5 @@
 -- What the components of a known type name is known.
-use Rattle.std.proofs.Common.{◌≡◌, Bool, true, false, cond, IsTrue, List, [], ◌∷◌, ◌++◌, ◌<◌, ◌≤◌, ◌+◌, ℕ, zero, suc, get_or, length, arith}
+use Rattle.std.proofs.Common.{◌≡◌, Bool, true, false, cond, IsTrue, List, [], ◌∷◌, ◌<◌, ◌≤◌, ◌+◌, ℕ, zero, suc, get_or, length, arith}
 use Rattle.std.proofs.Common.{refl, ap, ◌∙◌}
 use Rattle.std.proofs.Common.{inl, inr, sym, subst, Vec, Global}
 use Rattle.std.proofs.lemmas.Bool.{and_parts}
@@ -11,13 +11,10 @@ use Rattle.relation_tools.specs.Outliving.{SomeIs, EachIs, StandsFor, EachStands
 use Rattle.relation_terms.specs.Heads.{alias}
 use Rattle.relation_tools.specs.declared.outlives.Component.{Component, Region, Param, Placeholder, UnresolvedInferenceVariable, Alias, EscapingAlias, EscapingAlias', Row_of-Component, end_of-Component, more_of-Component, items-the_row-Component, items_hidden-the_row-Component-0}
 use Rattle.relation_asking.specs.Outlives.{KnowsComponent, KnowsInside, KnowsComponents}
+use Rattle.relation_tools.proofs.Outliving.{each_both}
 
 abbrev Known : Tree → Type 0
 Known t = IsTrue (known t)
-
-each_both : {A : Type 0} (P : A → Type 0) (xs ys : List A) → EachIs P xs → EachIs P ys → EachIs P (xs ++ ys)
-each_both P [] ys e o = o
-each_both P (x ∷ xs) ys e o = (e.0, each_both P xs ys e.1 o)
 
 each_either : (b : Bool) (xs ys : List Tree) → EachIs Known xs → EachIs Known ys → EachIs Known (cond b xs ys)
 each_either true xs ys e o = e

@@ -3,8 +3,8 @@ use Rattle.std.proofs.Common.{◌≡◌, ◌++◌, Bool, true, false, IsTrue, co
 use Rattle.std.specs.List.{AllZip}
 use Rattle.std.proofs.lemmas.Bool.{and_parts}
 use Rattle.relation_folds.specs.declared.visit.Visit.TheVariants.{Enter, Skip, Stop}
-use Rattle.relation_terms.specs.Heads.{Sort, type_sort, region_sort, const_sort, Admits, leaf_sort, head_sort}
-use Rattle.relation_terms.specs.Trees.{Tree, leaf, node, known, list_tree, IsTerm}
+use Rattle.relation_terms.specs.Heads.{type_sort, region_sort, const_sort}
+use Rattle.relation_terms.specs.Trees.{Tree, known, list_tree, IsTerm}
 use Rattle.relation_terms.specs.Meaning.{Meaning, arg_tree}
 use Rattle.relation_terms.specs.Interning.{AreEqualAsTrees, IsOfSort}
 use Rattle.relation_terms.specs.declared.terms.generic_arg.GenericArgKind.{GenericArgKind}
@@ -14,7 +14,9 @@ use Rattle.relation_asking.specs.Args.{same_arg, alike}
 use Rattle.relation_terms.specs.Equality.{same_tree}
 use Rattle.relation_asking.specs.Meets.{is_in, answer_at}
 use Rattle.relation_asking.specs.Puts.{first_put, ArePuts, tree_put, tree_of}
+use Rattle.relation_tools.proofs.Positioning.{bool_iff}
 use Rattle.relation_terms.proofs.Equality.{same_is, is_same}
+use Rattle.relation_terms.proofs.Once.{apart, region_no_type, region_no_const, type_no_const}
 
 -- Lists that are related place by place stay so with one more of each.
 pub zip_push : {A B : Type 0} (R : A → B → Type 0) (xs : List A) (ys : List B) (x : A) (y : B) → AllZip R xs ys → R x y →
@@ -24,35 +26,11 @@ zip_push R (u ∷ us) (v ∷ vs) x y h r = (h.0, zip_push R us vs x y h.1 r)
 zip_push R [] (v ∷ vs) x y h r = absurd h
 zip_push R (u ∷ us) [] x y h r = absurd h
 
--- No tree is a term of two sorts that admit no common one.
-apart : (s u : Sort) → ((x : Sort) → Admits s x → Admits u x → ⊥) → (t : Tree) → IsTerm s t → IsTerm u t → ⊥
-apart s u f (leaf l) p q = f (leaf_sort l) p q
-apart s u f (node h ts) p q = f (head_sort h) p.0 q.0
-apart s u f t p q = absurd p
-
-region_no_type : (x : Sort) → Admits region_sort x → Admits type_sort x → ⊥
-region_no_type region_sort p q = q
-region_no_type x p q = p
-
-region_no_const : (x : Sort) → Admits region_sort x → Admits const_sort x → ⊥
-region_no_const region_sort p q = q
-region_no_const x p q = p
-
-type_no_const : (x : Sort) → Admits type_sort x → Admits const_sort x → ⊥
-type_no_const type_sort p q = q
-type_no_const x p q = p
-
-agree : (x y : Bool) → (IsTrue x → IsTrue y) → (IsTrue y → IsTrue x) → x ≡ y
-agree true true f g = refl
-agree false false f g = refl
-agree true false f g = absurd (let h : false ≡ true = f refl in cc)
-agree false true f g = absurd (let h : false ≡ true = g refl in cc)
-
 unlike : (t u : Tree) → (t ≡ u → ⊥) → false ≡ same_tree t u
-unlike t u n = agree false (same_tree t u) (λ h. absurd (cc)) (λ h. absurd (n (same_is t u h)))
+unlike t u n = bool_iff false (same_tree t u) (λ h. absurd (cc)) (λ h. absurd (n (same_is t u h)))
 
 one_like : (x : Bool) (t u : Tree) → (IsTrue x → t ≡ u) → (t ≡ u → IsTrue x) → x ≡ same_tree t u
-one_like x t u f g = agree x (same_tree t u) (λ h. is_same t u (f h)) (λ h. g (same_is t u h))
+one_like x t u f g = bool_iff x (same_tree t u) (λ h. is_same t u (f h)) (λ h. g (same_is t u h))
 
 -- Keys are compared as their trees are, and each means a term of its sort.
 pub record Compares {Key Id Name : Type 0} (m : Meaning Key Id Name) (eq : Key → Key → Bool) : Type 0 where

@@ -1,5 +1,5 @@
 -- What a walk yields from here on, whatever is called on it, is what the places of its tree say.
-use Rattle.std.proofs.Common.{◌≡◌, ◌≤◌, ℕ, suc, Bool, true, false, cond, ◌&&◌, IsTrue, refl, sym, ap, ◌∙◌, subst, arith}
+use Rattle.std.proofs.Common.{◌≡◌, ◌≤◌, ℕ, suc, Bool, true, false, cond, IsTrue, refl, sym, ap, ◌∙◌, subst, arith}
 use Rattle.std.proofs.Common.{List, [], ◌∷◌, ◌++◌, map, length, Option, Some, None, Ok, append-nil}
 use Rattle.std.proofs.Common.{◌<◌, ◌||◌, ◌==◌, ◌+◌, drop, get_or}
 use Rattle.std.proofs.Math.Seq.{drop-cons}
@@ -15,6 +15,7 @@ use Rattle.relation_tools.specs.Walking.{Walk, Pull, first_unseen}
 use Rattle.relation_tools.specs.Positions.{yields, Call, pull, skip, Tells, has_ended, Runs, ByPlaces}
 use Rattle.relation_asking.specs.Meets.{AllKnown}
 use Rattle.relation_asking.specs.Skips.{stands_in}
+use Rattle.text_terms.proofs.BuildingLemmas.{both_true}
 
 pub cond_same : {A : Type 0} (b : Bool) (a : A) → cond b a a ≡ a
 cond_same true a = refl
@@ -140,13 +141,9 @@ ended_still m n eq w u v z x p i a q =
     nothing_unseen (λ o. list_any (eq o) v.visited) (v.inside ++ v.after) (x, z.after)
     (nil_both v.inside v.after (i f) (a ∙ g)) q.4
 
-and_both : (a b : Bool) → IsTrue a → IsTrue b → IsTrue (a && b)
-and_both true b h k = k
-and_both false b h k = absurd (cc)
-
 pub known_one_more : {Key Id Name : Type 0} (m : Meaning Key Id Name) (xs : List (GenericArgKind Key))
     (x : GenericArgKind Key) → IsTrue (known (arg_tree m x)) → AllKnown m xs → AllKnown m (xs ++ x ∷ [])
-known_one_more m [] x k h = and_both (known (arg_tree m x)) true k refl
+known_one_more m [] x k h = both_true (known (arg_tree m x)) true k refl
 known_one_more m (y ∷ ys) x k h =
     let p = and_parts (known (arg_tree m y)) (known (list_tree (arg_tree m) ys)) h in
-    and_both (known (arg_tree m y)) (known (list_tree (arg_tree m) (ys ++ x ∷ []))) p.0 (known_one_more m ys x k p.1)
+    both_true (known (arg_tree m y)) (known (list_tree (arg_tree m) (ys ++ x ∷ []))) p.0 (known_one_more m ys x k p.1)

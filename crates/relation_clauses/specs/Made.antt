@@ -3,13 +3,14 @@ use Rattle.std.specs.Prelude.{◌≡◌, ℕ, List, Option, Some, IsTrue, IfSome
 use Rattle.std.specs.Global.{Vec}
 use Rattle.relation_terms.specs.Trees.{Tree, known, node, nil, cons}
 use Rattle.relation_terms.specs.Heads.{alias_term}
-use Rattle.relation_terms.specs.Meaning.{Meaning}
+use Rattle.relation_terms.specs.Meaning.{Meaning, bound_kinds, under}
 use Rattle.relation_terms.specs.Predicates.{trait_ref_tree, clause_kind_tree, alias_term_kind, alias_term_id}
 use Rattle.relation_terms.specs.Owned.{bound_tree}
 use Rattle.relation_terms.specs.declared.predicate.alias_term.AliasTermKind.{AliasTermKind}
 use Rattle.relation_terms.specs.declared.predicate.kinds.ClauseKind.{ClauseKind}
 use Rattle.relation_terms.specs.declared.predicate.trait_ref.TraitRef.{TraitRef}
 use Rattle.relation_terms.specs.declared.terms.binder.Binder.{Binder}
+use Rattle.relation_terms.specs.declared.terms.binder.BoundVariableKind.{BoundVariableKind}
 use Rattle.relation_terms.specs.declared.terms.generic_arg.GenericArgKind.{GenericArgKind}
 use Rattle.relation_terms.specs.declared.terms.keys.ClauseKey.{ClauseKey}
 use Rattle.text_reading.specs.declared.reading.tree.Claim.{Claim}
@@ -40,6 +41,12 @@ SaysPlainly {Key} {Name} Id names keys s result = (m : Meaning Key Id Name) (ite
 -- What is made, if anything is: a known clause of that tree.
 abbrev pub MakesOne : {Key Id Name : Type 0} → Meaning Key Id Name → Tree → Option (ClauseKey Key) → Type 0
 MakesOne n tree result = IfSome result (λ k. IsTrue (known (n.clause k)) × (n.clause k ≡ tree))
+
+-- Of a form that is a clause of that form under a binder of these variables, between two meanings.
+abbrev pub MakesUnder : {Key Id Name : Type 0} → Meaning Key Id Name → Meaning Key Id Name →
+    List (BoundVariableKind Name) → ClauseKind Key Id Name → Option (ClauseKey Key) → Type 0
+MakesUnder m n variables value result =
+    MakesOne n (under (Some (bound_kinds m variables)) (clause_kind_tree m value)) result
 
 -- From an interner to one that has grown, over ids of items and the numbers of parts, and keys of terms.
 module _ {C Key Id Name : Type 0} (meaning : C → Meaning Key Id Name) (old new : C) where

@@ -7,8 +7,7 @@ use Rattle.term_enums.specs.declared.Variance.{Variance}
 use Rattle.term_enums.specs.declared.Variance.TheVariants.{Bivariant}
 use Rattle.relation_terms.specs.Heads.{region_sort, BoundKind, bound_sort, VarKind, var_sort, head_sort, atom_sort}
 use Rattle.relation_terms.specs.Heads.{Head, adt}
-use Rattle.relation_terms.specs.Heads.{alias, opaque_alias, alias_term, Leaf, leaf_sort, Atom, type_param, const_param, variable}
-use Rattle.relation_terms.specs.Heads.{bound, placeholder, atom, unknown, int_var, float_var}
+use Rattle.relation_terms.specs.Heads.{alias, opaque_alias, alias_term, Leaf, leaf_sort, Atom, type_param, const_param, variable, bound, placeholder, atom, unknown, int_var, float_var}
 use Rattle.relation_terms.specs.Trees.{Tree, leaf, node, bind, nil, cons, tree_at, put, inst, count, nth}
 use Rattle.relation_contexts.specs.Relation.{Items, at, parts, part_at, plain, plain_atom, sort_of, IsAlias}
 use Rattle.relation_contexts.specs.Stores.{Store, entry_term, MayStandFor, IsSound}
@@ -22,6 +21,7 @@ use Rattle.relation_contexts.specs.Errors.{by_class, by_binding}
 use Rattle.relation_contexts.specs.Agreeing.{IsFlexible, AreFlexible, IsLeftAside, Agree}
 use Rattle.relation_contexts.proofs.Related.{no_region_head}
 use Rattle.relation_contexts.proofs.Standing.{stands_term, term_sort_of}
+use Rattle.relation_contexts.proofs.StoreCalls.{number_stands}
 
 pub agree_anything : (set : Settings) (c : Items) (v : Variance) (a b : Tree) → v ≡ Bivariant → Agree set c (at v) a b
 agree_anything set c v (node h xs) (node k ys) p = inl (inl p)
@@ -161,11 +161,6 @@ pub agree_root_back : (set : Settings) (c : Items) (v : Variance) (k : VarKind) 
     sort_of a ≡ var_sort k → Agree set c (at v) a b
 agree_root_back set c v k n a b e s =
     agree_flexible set c v a b (inr (subst IsFlexible (sym e) tt), s ∙ sym (ap sort_of e))
-
-number_stands : (k : VarKind) (t : Tree) → IsNumberFor k t → MayStandFor k t
-number_stands int_var (leaf (atom x)) h = h
-number_stands float_var (leaf (atom x)) h = h
-number_stands k t h = absurd h
 
 pub number_sort : (k : VarKind) (t : Tree) → IsNumberFor k t → sort_of t ≡ var_sort k
 number_sort k t h = stands_sort k t (number_stands k t h)

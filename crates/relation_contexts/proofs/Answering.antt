@@ -15,8 +15,8 @@ use Rattle.relation_contexts.specs.Stores.{Satisfies}
 use Rattle.relation_contexts.specs.Lawful.{Kept, State, Manners, MayAnswer, Passes, declared_by, items_in}
 use Rattle.relation_contexts.proofs.Growing.{All_front}
 use Rattle.relation_contexts.proofs.Composing.{places, below_or}
-use Rattle.relation_contexts.proofs.Values.{apply-nth, apply-count, apply-list}
-use Rattle.relation_contexts.proofs.OneParts.{related_head}
+use Rattle.relation_contexts.proofs.Values.{apply-nth, apply-list}
+use Rattle.relation_contexts.proofs.OneParts.{related_head, count_applied}
 use Rattle.relation_contexts.proofs.Lists.{snoc}
 
 -- Seen from a variance, covariance is the variance itself.
@@ -150,12 +150,12 @@ module _ {Key Id Name : Type 0} (M : Manners) where
   answers_end q h v i ts us l e a = record {
     related = λ w s sat all. places (items_in q) w q.kept.environment h v 0 (apply s ts) (apply s us) (apply-list s ts l)
         (apply-list s us a.is_list)
-        (apply-count s ts l ∙ sym e ∙ sym a.counted ∙ sym (apply-count s us a.is_list))
+        (count_applied s ts l ∙ sym e ∙ sym a.counted ∙ sym (count_applied s us a.is_list))
         (λ j z. subst₂ (Rel (items_in q) w q.kept.environment (at (part_at (items_in q) h (0 + j) v)))
         (apply-nth s j ts l) (apply-nth s j us a.is_list)
         (subst (λ o. Rel (items_in q) w q.kept.environment (at (part_at (items_in q) h o v)) (apply s (nth j ts))
         (apply s (nth j us))) (omega arith)
-        (a.related j (subst (λ o. j < o) (apply-count s ts l ∙ sym e) z) w s sat all)));
+        (a.related j (subst (λ o. j < o) (count_applied s ts l ∙ sym e) z) w s sat all)));
   }
 
   -- A form over what may be answered for its parts may be answered for it.

@@ -11,7 +11,8 @@ use Rattle.relation_contexts.specs.Goals.{Goal, Asked, asks_subtype, asks_alias,
 use Rattle.relation_contexts.specs.Steps.{IsLater, AgreeOn, Extends}
 use Rattle.relation_contexts.specs.Outcomes.{AreOne, Outcome, Front}
 use Rattle.relation_contexts.specs.StepLaws.{RelatesLater, RelatesUnderMore, PartsCompose, NoPartsRelate, FormsRelate, StepsCompose, FrontBegins, FrontGoesOn, FrontEnds}
-use Rattle.relation_contexts.proofs.Values.{same_value, apply-nth, apply-count, apply-list}
+use Rattle.relation_contexts.proofs.OneParts.{count_applied}
+use Rattle.relation_contexts.proofs.Values.{same_value, apply-nth, apply-list}
 use Rattle.relation_contexts.proofs.Standing.{later_context}
 use Rattle.relation_contexts.proofs.Growing.{All_front, All_back}
 use Rattle.relation_contexts.proofs.Going.{later_itself, later_through}
@@ -99,7 +100,7 @@ no_parts_relate c e h i v st earlier = record {
   keeps = λ w s sat q. (s, (λ k n m. refl), (sat, All-nil (MakesOneTree s)));
 }
 
-node_parts : {h k : Head} {xs ys : Tree} → node h xs ≡ node k ys → xs ≡ ys
+pub node_parts : {h k : Head} {xs ys : Tree} → node h xs ≡ node k ys → xs ≡ ys
 node_parts e = cc
 
 pub forms_relate : FormsRelate
@@ -177,7 +178,7 @@ pub front_ends : FrontEnds
 front_ends c e h v before after earlier added xs ys lx ly n f = record {
   later = f.later;
   goals_in = f.goals_in;
-  relates = λ w s sat all. places c w e h v 0 (apply s xs) (apply s ys) (apply-list s xs lx) (apply-list s ys ly) (apply-count s xs lx ∙ n ∙ sym (apply-count s ys ly))
-      (λ j l. subst₂ (Rel c w e (at (part_at c h (0 + j) v))) (apply-nth s j xs lx) (apply-nth s j ys ly) (subst (λ z. Rel c w e (at (part_at c h z v)) (apply s (nth j xs)) (apply s (nth j ys))) (omega arith) (f.relates w s sat all j (subst (λ z. j < z) (apply-count s xs lx) l))));
+  relates = λ w s sat all. places c w e h v 0 (apply s xs) (apply s ys) (apply-list s xs lx) (apply-list s ys ly) (count_applied s xs lx ∙ n ∙ sym (count_applied s ys ly))
+      (λ j l. subst₂ (Rel c w e (at (part_at c h (0 + j) v))) (apply-nth s j xs lx) (apply-nth s j ys ly) (subst (λ z. Rel c w e (at (part_at c h z v)) (apply s (nth j xs)) (apply s (nth j ys))) (omega arith) (f.relates w s sat all j (subst (λ z. j < z) (count_applied s xs lx) l))));
   keeps = f.keeps;
 }

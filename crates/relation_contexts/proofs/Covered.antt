@@ -24,7 +24,7 @@ covered_nth (node h ts) i l c = absurd (omega (arith, l))
 covered_nth (bind ks t) i l c = absurd (omega (arith, l))
 covered_nth nil i l c = absurd (omega (arith, l))
 
-covered_parts : (t : Tree) → IsCovered t → IsCovered (parts_of t)
+pub covered_parts : (t : Tree) → IsCovered t → IsCovered (parts_of t)
 covered_parts (node h ts) c = c.1
 covered_parts t c = tt
 

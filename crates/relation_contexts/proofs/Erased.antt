@@ -10,6 +10,7 @@ use Rattle.relation_contexts.specs.Relation.{Items, Interpretation, parts, Rel, 
 use Rattle.relation_contexts.specs.FirstOrder.{IsFirstOrder, IsFirstOrderHead, IsFirstOrderAtom, IsClosedLeaf}
 use Rattle.relation_contexts.specs.ErasureLaws.{ErasureAssigns, FormsUnifyByParts, TypesOfValuesUnify, ListsUnifyByItems, UnlikeFormsDoNotUnify, IsTypeOrConst, ErasedOccursCheck, InvariantTermsAreAlike}
 use Rattle.relation_contexts.proofs.Related.{no_region_head}
+use Rattle.relation_contexts.proofs.Composing.{node_parts}
 
 keeps_parts : (h : Head) (ts : Tree) → h ≢ value_type → kept_parts h ts ≡ ts
 keeps_parts value_type ts n = absurd (n refl)
@@ -21,11 +22,8 @@ unlike_forms_do_not_unify s h k ts us n e = n cc
 pub lists_unify_by_items : ListsUnifyByItems
 lists_unify_by_items s t u ts us = (λ e. (cc, cc), λ p. ap₂ cons p.0 p.1)
 
-parts_path : {h k : Head} {ts us : Tree} → node h ts ≡ node k us → ts ≡ us
-parts_path e = cc
-
 pub forms_unify_by_parts : FormsUnifyByParts
-forms_unify_by_parts s h ts us n = (λ e. sym (keeps_parts h (erase (apply s ts)) n) ∙ parts_path e ∙ keeps_parts h (erase (apply s us)) n, λ e. ap (λ z. node h (kept_parts h z)) e)
+forms_unify_by_parts s h ts us n = (λ e. sym (keeps_parts h (erase (apply s ts)) n) ∙ node_parts e ∙ keeps_parts h (erase (apply s us)) n, λ e. ap (λ z. node h (kept_parts h z)) e)
 
 pub types_of_values_unify : TypesOfValuesUnify
 types_of_values_unify s ts us = refl

@@ -12,7 +12,7 @@ use Rattle.relation_contexts.specs.Outcomes.{Exact, ExactFront}
 use Rattle.relation_contexts.specs.StepLaws.{ExactsCompose, ExactStepsCompose, InstantiatingIsExactStep, ExactFrontGoesOn, ExactFrontEnds, ExactKeepsUnifiers}
 use Rattle.relation_contexts.proofs.Trees.{Leaves_map}
 use Rattle.relation_contexts.proofs.Only.{which}
-use Rattle.relation_contexts.proofs.Values.{apply-nth}
+use Rattle.relation_contexts.proofs.Values.{apply-nth, apply-list}
 use Rattle.relation_contexts.proofs.Standing.{namable_mono, term_context}
 use Rattle.relation_contexts.proofs.Written.{OtherTerm, term_stays, term_led, now_bound, others, unlike, made_after, made_before}
 use Rattle.relation_contexts.proofs.Going.{later_through}
@@ -79,16 +79,11 @@ erased_nth i (leaf x) l = absurd l
 erased_nth i (node h ts) l = absurd l
 erased_nth i (bind ks t) l = absurd l
 
-value_list : (s : Assign) (t : Tree) → IsList t → IsList (apply s t)
-value_list s nil l = tt
-value_list s (cons t ts) l = value_list s ts l
-value_list s t l = absurd l
-
 unified_parts : (s : Assign) (i : ℕ) (xs ys : Tree) → IsList xs → IsList ys → Unifies s xs ys → Unifies s (nth i xs) (nth i ys)
 unified_parts s i xs ys l m q = part xs l ∙ ap (nth i) q ∙ sym (part ys m)
   where
     part : (t : Tree) → IsList t → erase (apply s (nth i t)) ≡ nth i (erase (apply s t))
-    part t k = ap erase (apply-nth s i t k) ∙ erased_nth i (apply s t) (value_list s t k)
+    part t k = ap erase (apply-nth s i t k) ∙ erased_nth i (apply s t) (apply-list s t k)
 
 pub exact_front_goes_on : ExactFrontGoesOn
 exact_front_goes_on i before middle after xs ys lx ly inx iny f = (then, λ n s sol q. let one = f.keeps s sol q in n one.0 one.2 (unified_parts one.0 i xs ys lx ly (unifies_still before s one.0 xs ys one.1 inx iny q)))

@@ -54,7 +54,7 @@ le_refl_at n = omega arith
 one_le : (n : ℕ) → 1 ≤ suc n
 one_le n = omega arith
 
-le_square : (n : ℕ) → n ≤ n * n
+pub le_square : (n : ℕ) → n ≤ n * n
 le_square zero = omega arith
 le_square (suc n) = let h : suc n * 1 ≤ suc n * suc n = mul-le-mul (le_refl_at (suc n)) (one_le n) in omega arith
 
@@ -108,7 +108,7 @@ goes_then {n} {m} {r} {q} {p} g f h = record {
       subst (λ z. weight p t ≤ z) (grown-add g.spent f.spent k) last;
 }
 
-weight_cons : (st : Store) (t u : Tree) → weight st (cons t u) ≡ weight st t + weight st u + 1
+pub weight_cons : (st : Store) (t u : Tree) → weight st (cons t u) ≡ weight st t + weight st u + 1
 unfolding weight
 weight_cons st t u = omega arith
 

@@ -1,26 +1,9 @@
 -- The trees of lists, part by part.
 use Rattle.std.proofs.Common.{◌≡◌, ℕ, zero, suc, ◌<◌, IsTrue, Bool, true, false, ◌&&◌, refl, ap, inl, inr, subst, arith, List, [], ◌∷◌, ◌++◌, length, get_or}
 use Rattle.std.proofs.lemmas.Bool.{and_parts}
-use Rattle.relation_terms.specs.Heads.{type_var, region_sort, Head, Admits, head_sort, array, variable}
+use Rattle.relation_terms.specs.Heads.{type_var, region_sort, variable}
 use Rattle.relation_terms.specs.Trees.{Tree, leaf, node, bind, nil, cons, list_tree, known, size, count, nth, Occurs, IsList, IsTerm, Assign, apply}
-
-pub list_count : {K : Type 0} (f : K → Tree) (xs : List K) → count (list_tree f xs) ≡ length xs
-list_count f [] = refl
-list_count f (x ∷ xs) = ap suc (list_count f xs)
-
-pub list_is : {K : Type 0} (f : K → Tree) (xs : List K) → IsList (list_tree f xs)
-list_is f [] = tt
-list_is f (x ∷ xs) = list_is f xs
-
-pub list_nth : {K : Type 0} (f : K → Tree) (xs : List K) (i : ℕ) (d : K) → i < length xs → nth i (list_tree f xs) ≡ f (get_or xs i d)
-list_nth f [] i d h = absurd (omega arith)
-list_nth f (x ∷ xs) zero d h = refl
-list_nth f (x ∷ xs) (suc i) d h = list_nth f xs i d (omega arith)
-
-pub part_known : {K : Type 0} (f : K → Tree) (xs : List K) (i : ℕ) (d : K) → i < length xs → IsTrue (known (list_tree f xs)) → IsTrue (known (f (get_or xs i d)))
-part_known f [] i d h k = absurd (omega arith)
-part_known f (x ∷ xs) zero d h k = (and_parts (known (f x)) (known (list_tree f xs)) k).0
-part_known f (x ∷ xs) (suc i) d h k = part_known f xs i d (omega arith) (and_parts (known (f x)) (known (list_tree f xs)) k).1
+use Rattle.relation_terms.proofs.Members.{no_region}
 
 pub part_size : {K : Type 0} (f : K → Tree) (xs : List K) (i : ℕ) (d : K) → i < length xs → size (f (get_or xs i d)) < size (list_tree f xs)
 part_size f [] i d h = absurd (omega arith)
@@ -38,16 +21,12 @@ none_occurs f (x ∷ xs) n h (inl o) = h 0 x (omega arith) o
 none_occurs f (x ∷ xs) n h (inr o) = none_occurs f xs n (λ i d p. h (suc i) d (omega arith)) o
 
 -- A type variable does not stand in a region.
-pub no_region_head : (h : Head) → Admits region_sort (head_sort h) → ⊥
-no_region_head array a = a
-no_region_head h a = a
-
 pub no_variable : (n : ℕ) (r : Tree) → IsTerm region_sort r → Occurs type_var n r → ⊥
 no_variable n (leaf l) h o = at_variable (subst (IsTerm region_sort) o h)
   where
     at_variable : IsTerm region_sort (leaf (variable type_var n)) → ⊥
     at_variable p = p
-no_variable n (node g ts) h o = no_region_head g h.0
+no_variable n (node g ts) h o = no_region g h.0
 no_variable n (bind ks t) h o = h
 no_variable n nil h o = h
 no_variable n (cons t u) h o = h

@@ -3,7 +3,7 @@ use Rattle.std.proofs.Common.{◌≡◌, ◌≢◌, ℕ, ◌*◌, ◌≤◌, ref
 use Rattle.term_enums.specs.declared.Variance.{Variance}
 use Rattle.term_enums.specs.declared.Variance.TheVariants.{Bivariant}
 use Rattle.relation_terms.specs.declared.terms.keys.TyKey.{TyKey}
-use Rattle.relation_terms.specs.Heads.{BoundKind, bound_kind, region_kind, type_kind, const_kind, Sort, type_sort, atom_sort, bound_sort, head_sort, Admits}
+use Rattle.relation_terms.specs.Heads.{BoundKind, bound_kind, region_kind, type_kind, const_kind, type_sort, atom_sort, bound_sort, head_sort}
 use Rattle.relation_terms.specs.Heads.{VarKind, type_var, int_var, float_var, const_var, region_var, variable, bound}
 use Rattle.relation_terms.specs.Heads.{placeholder, atom, unknown, Atom, early_region, type_param, const_param, int_type}
 use Rattle.relation_terms.specs.Heads.{uint_type, float_type}
@@ -23,10 +23,11 @@ use Rattle.relation_contexts.specs.Settings.{Settings}
 use Rattle.relation_contexts.specs.Errors.{by_forms, ErrorOf, IsLeftToGoal, HaveNoError, AreAlike, AreBindable, IsVariableFor, of_forms, sorts}
 use Rattle.relation_contexts.specs.Parts.{IsFormed}
 use Rattle.relation_contexts.specs.Covered.{IsCovered}
+use Rattle.relation_terms.proofs.Members.{type_only}
 use Rattle.relation_contexts.proofs.Full.{full_by, written_plain}
 use Rattle.relation_contexts.proofs.Standing.{itself_stands}
 use Rattle.relation_contexts.proofs.Written.{is_later, equal, weight_after, kinds_stand, others}
-use Rattle.relation_contexts.proofs.StoreCalls.{numbers_are_exact, resolved_stands}
+use Rattle.relation_contexts.proofs.StoreCalls.{numbers_are_exact, resolved_stands, number_value}
 use Rattle.relation_contexts.proofs.Roots.{written_first_order}
 use Rattle.relation_contexts.specs.OneUniverse.{KeepsUniverse}
 use Rattle.relation_contexts.proofs.OneUniverse.{written_keeps}
@@ -50,11 +51,6 @@ number_atom : (k : VarKind) (t : Tree) → IsNumberFor k t → IsAtomFor k t
 number_atom int_var (leaf (atom x)) h = (x, refl, h)
 number_atom float_var (leaf (atom x)) h = (x, refl, h)
 number_atom k t h = absurd h
-
-pub number_itself : (s : Assign) (k : VarKind) (t : Tree) → IsNumberFor k t → apply s t ≡ t
-number_itself s int_var (leaf (atom x)) h = refl
-number_itself s float_var (leaf (atom x)) h = refl
-number_itself s k t h = absurd h
 
 integer_erased : (x : Atom) → IsIntegerAtom x → erase_atom x ≡ x
 integer_erased (int_type w) h = refl
@@ -125,7 +121,7 @@ module _ (before after : Store) (k : VarKind) (n : ℕ) (t : Tree) (q : Instanti
   number_equal w s sat = equal before after k n (bound_to t) t q.writes refl w s sat
 
   pub number_keep : (w : Interpretation) (s : Assign) → Satisfies w before s → s k n ≡ apply s t → Satisfies w after s
-  number_keep w s sat e = ((numbers_are_exact before after k n t q).0 w s).1 (sat, e ∙ number_itself s k t q.fits)
+  number_keep w s sat e = ((numbers_are_exact before after k n t q).0 w s).1 (sat, e ∙ number_value s k t q.fits)
 
   -- Types and constants stay in their universe.
   pub number_universe : KeepsUniverse before after
@@ -176,7 +172,7 @@ float_before (type_param i n) h = h
 float_before (const_param i n) h = h
 float_before x h = h
 
-made_of_leaf : (st : Store) (k : VarKind) (n : ℕ) → InContext st (leaf (variable k n)) → IsMade st k n
+pub made_of_leaf : (st : Store) (k : VarKind) (n : ℕ) → InContext st (leaf (variable k n)) → IsMade st k n
 unfolding InContext
 made_of_leaf st k n h = h
 
@@ -379,18 +375,14 @@ no_type_variable st g nil f o n e = f
 no_type_variable st g (cons t ts) f o n e = f
 
 -- A covered type that is no variable and no bound one is of a form.
-type_admitted : (s : Sort) → Admits type_sort s → s ≡ type_sort
-type_admitted type_sort a = refl
-type_admitted s a = absurd a
-
 pub covered_formed : (t : Tree) → IsTerm type_sort t → IsCovered t → StaysWithin 0 t →
     ((k : VarKind) (n : ℕ) → t ≢ leaf (variable k n)) → IsFormed t
 covered_formed (leaf (variable k n)) s c w o = absurd (o k n refl)
 covered_formed (leaf (bound k d i)) s c w o = absurd (omega (arith, w))
-covered_formed (leaf (placeholder k u n)) s c w o = type_admitted (bound_sort k) s
-covered_formed (leaf (atom x)) s c w o = type_admitted (atom_sort x) s
+covered_formed (leaf (placeholder k u n)) s c w o = type_only (bound_sort k) s
+covered_formed (leaf (atom x)) s c w o = type_only (atom_sort x) s
 covered_formed (leaf unknown) s c w o = absurd c
-covered_formed (node h ts) s c w o = type_admitted (head_sort h) s.0
+covered_formed (node h ts) s c w o = type_only (head_sort h) s.0
 covered_formed (bind ks t) s c w o = absurd s
 covered_formed nil s c w o = absurd s
 covered_formed (cons t ts) s c w o = absurd s

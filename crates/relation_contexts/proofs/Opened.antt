@@ -17,6 +17,7 @@ use Rattle.relation_contexts.specs.Steps.{ArePlaceholders}
 use Rattle.relation_contexts.specs.Stores.{Store}
 use Rattle.relation_contexts.specs.Bound.{IsBoundAs, AreBoundAs}
 use Rattle.relation_contexts.specs.Binders.{variable_kind, MakesEach, makes_none, makes_next}
+use Rattle.relation_folds.proofs.Folding.{put_none}
 use Rattle.relation_contexts.proofs.MakingEach.{variable_sort}
 
 -- A tree that may stand for a variable of a kind: it is of its sort, and no binder around it changes it.
@@ -61,11 +62,6 @@ asked : (k : Kind) → asks (kind_sort k) ≡ true
 asked type_kind = refl
 asked region_kind = refl
 asked const_kind = refl
-
--- Where nothing is put the tree stands.
-put_none : (b : Bool) (t : Tree) → put_or b None t ≡ t
-put_none true t = refl
-put_none false t = refl
 
 opened_bound : (ks : List BoundKind) (ts : List Tree) → AllStandFor ks ts → (d : ℕ) (k : Kind) (n e i : ℕ) →
     IsBoundAs ks d (bound (bound_kind k n) e i) →

@@ -205,10 +205,10 @@ opening_steps c e v before middle after earlier ks ls a b a' b' ina inb = (secon
       keeps = λ w s sat q. turned w s (extends_opened before middle after ls ks b a b' a' inb ina f g w s sat (sym q.0) (sym q.1));
     }
 
-binder_kinds : {ks ls : List BoundKind} {a b : Tree} → bind ks a ≡ bind ls b → ks ≡ ls
+pub binder_kinds : {ks ls : List BoundKind} {a b : Tree} → bind ks a ≡ bind ls b → ks ≡ ls
 binder_kinds e = cc
 
-binder_bodies : {ks ls : List BoundKind} {a b : Tree} → bind ks a ≡ bind ls b → a ≡ b
+pub binder_bodies : {ks ls : List BoundKind} {a b : Tree} → bind ks a ≡ bind ls b → a ≡ b
 binder_bodies e = cc
 
 pub one_round_relates : OneRoundRelates

@@ -1,16 +1,17 @@
 -- The parts of types and constants: of the context, and smaller.
 use Rattle.std.proofs.Common.{◌≡◌, ℕ, zero, suc, ◌<◌, refl, sym, ap, ◌∙◌, subst, arith, inl, inr}
 use Rattle.std.proofs.Common.{IsTrue, List, length, get_or}
-use Rattle.relation_terms.specs.Heads.{VarKind, Head, Leaf}
+use Rattle.relation_terms.specs.Heads.{VarKind, Head}
 use Rattle.relation_terms.specs.Heads.{unevaluated, expression}
 use Rattle.relation_terms.specs.Heads.{value, value_branch}
-use Rattle.relation_terms.specs.Trees.{Tree, leaf, node, bind, nil, cons, Assign, apply, Leaves, Occurs, size, count}
+use Rattle.relation_terms.specs.Trees.{Tree, leaf, node, bind, nil, cons, Assign, apply, Occurs, size, count}
 use Rattle.relation_terms.specs.Trees.{nth}
 use Rattle.relation_terms.specs.Trees.{known, list_tree, IsList}
 use Rattle.relation_contexts.specs.Relation.{StaysWithin}
 use Rattle.relation_contexts.specs.Stores.{Store, IsNamable, IsMadeLeaf, IsTermIn, InContext}
 use Rattle.relation_contexts.specs.Parts.{parts_of, const_parts_of}
-use Rattle.relation_contexts.proofs.Lists.{list_count, list_is, list_nth, part_known}
+use Rattle.relation_contexts.proofs.OneUniverse.{leaves_nth}
+use Rattle.relation_terms.proofs.Members.{list_count, list_is, list_nth, item_known}
 
 -- A list of parts, as the slice that an interner reads.
 module _ {K : Type 0} (f : K → Tree) (xs : List K) (u : Tree) (i : u ≡ list_tree f xs) where
@@ -26,7 +27,7 @@ module _ {K : Type 0} (f : K → Tree) (xs : List K) (u : Tree) (i : u ≡ list_
   pub slice_sure : (w : Tree) → w ≡ u → IsTrue (known w) → (n : ℕ) (d x : K) → n < count w → x ≡ get_or xs n d →
       IsTrue (known (f x))
   slice_sure w e k n d x h q = subst (λ z. IsTrue (known (f z))) (sym q)
-      (part_known f xs n d (slice_below w e n h) (subst (λ t. IsTrue (known t)) (e ∙ i) k))
+      (item_known f xs n d (slice_below w e n h) (subst (λ t. IsTrue (known t)) (e ∙ i) k))
 
   pub slice_nth : (w : Tree) → w ≡ u → (n : ℕ) (d x : K) → n < count w → x ≡ get_or xs n d → f x ≡ nth n w
   slice_nth w e n d x h q = ap f q ∙ sym (list_nth f xs n d (slice_below w e n h)) ∙ ap (nth n) (sym (e ∙ i))
@@ -76,14 +77,6 @@ in_over st c (of_none e) p = subst (IsTermIn st) (sym e) (in_nil st)
 
 pub in_const_parts : (st : Store) (c : Tree) → IsTermIn st c → IsTermIn st (const_parts_of c)
 in_const_parts st c p = in_over st c (over_parts c) p
-
-leaves_nth : (P : Leaf → Type 0) (ts : Tree) (i : ℕ) → i < count ts → Leaves P ts → Leaves P (nth i ts)
-leaves_nth P (cons t ts) zero h p = p.0
-leaves_nth P (cons t ts) (suc i) h p = leaves_nth P ts i (omega arith) p.1
-leaves_nth P (leaf l) i h p = absurd (omega arith)
-leaves_nth P (node a l) i h p = absurd (omega arith)
-leaves_nth P (bind ks l) i h p = absurd (omega arith)
-leaves_nth P nil i h p = absurd (omega arith)
 
 within_nth : (ts : Tree) (i : ℕ) → i < count ts → StaysWithin 0 ts → StaysWithin 0 (nth i ts)
 within_nth (cons t ts) zero h p = p.0

@@ -44,7 +44,7 @@ binding_is_exact before after k n t q = (
     l = is_later before after k n (bound_to t) t q.writes refl (λ j i. le_of_eq (q.same_universes j i))
 
 -- A number type stands for itself whatever is assigned.
-number_value : (s : Assign) (k : VarKind) (t : Tree) → IsNumberFor k t → apply s t ≡ t
+pub number_value : (s : Assign) (k : VarKind) (t : Tree) → IsNumberFor k t → apply s t ≡ t
 number_value s int_var (leaf (atom x)) h = refl
 number_value s float_var (leaf (atom x)) h = refl
 number_value s k t h = absurd h
@@ -76,7 +76,7 @@ number_atom int_var (leaf (atom x)) h = (x, refl, integer_value x h)
 number_atom float_var (leaf (atom x)) h = (x, refl, float_value x h)
 number_atom k t h = absurd h
 
-number_stands : (k : VarKind) (t : Tree) → IsNumberFor k t → MayStandFor k t
+pub number_stands : (k : VarKind) (t : Tree) → IsNumberFor k t → MayStandFor k t
 number_stands int_var (leaf (atom x)) h = h
 number_stands float_var (leaf (atom x)) h = h
 number_stands k t h = absurd h

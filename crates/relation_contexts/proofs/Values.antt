@@ -1,7 +1,7 @@
 -- The values of terms under the assignments of a store.
-use Rattle.std.proofs.Common.{◌≡◌, ◌≢◌, ℕ, zero, suc, ◌<◌, refl, sym, ap, ap₂, arith, inl, inr, subst, List, [], ◌∷◌, map}
+use Rattle.std.proofs.Common.{◌≡◌, ◌≢◌, ℕ, zero, suc, ◌<◌, refl, sym, ap₂, arith, inl, inr, subst, List, [], ◌∷◌, map}
 use Rattle.relation_terms.specs.Heads.{region_kind, type_kind, const_kind, BoundKind, bound_kind, bound_sort, VarKind, var_sort, Leaf, bool_type, static_region, const_param, atom, variable, bound, placeholder, unknown}
-use Rattle.relation_terms.specs.Trees.{Tree, leaf, node, bind, nil, cons, Assign, assigned, apply, Leaves, Occurs, IsTerm, IsList, count, nth}
+use Rattle.relation_terms.specs.Trees.{Tree, leaf, node, bind, nil, cons, Assign, assigned, apply, Leaves, Occurs, IsTerm, IsList, nth}
 use Rattle.relation_contexts.specs.Relation.{StaysWithin, IsValue, FitKinds, Avoids, AvoidsAll, Fresh}
 use Rattle.relation_contexts.specs.Stores.{Store, universe_of, IsMade, IsNamable, IsAssignment, IsInScope, IsMadeLeaf, InContext}
 use Rattle.relation_contexts.specs.Steps.{AgreeOn, AllNamable, AreNewVariables, ArePlaceholders}
@@ -179,11 +179,6 @@ apply-nth s (suc i) nil h = refl
 apply-nth s i (leaf l) h = absurd h
 apply-nth s i (node a t) h = absurd h
 apply-nth s i (bind ks t) h = absurd h
-
-pub apply-count : (s : Assign) (t : Tree) → IsList t → count (apply s t) ≡ count t
-apply-count s nil h = refl
-apply-count s (cons t ts) h = ap suc (apply-count s ts h)
-apply-count s t h = absurd h
 
 pub apply-list : (s : Assign) (t : Tree) → IsList t → IsList (apply s t)
 apply-list s nil h = tt

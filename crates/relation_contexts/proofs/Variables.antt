@@ -1,6 +1,6 @@
 -- Which variable a form is, and which a type or a constant is by its form.
 use Rattle.std.proofs.Common.{◌≡◌, ℕ, Option, Some, None, IfSome, IfNone, refl, sym, ap, ◌∙◌, arith}
-use Rattle.relation_terms.specs.Heads.{Sort, const_sort, Admits, bound_sort, atom_sort, head_sort, Head, VarKind}
+use Rattle.relation_terms.specs.Heads.{const_sort, bound_sort, atom_sort, head_sort, Head, VarKind}
 use Rattle.relation_terms.specs.Heads.{type_var, const_var, expression, value, unevaluated}
 use Rattle.relation_terms.specs.Heads.{variable, bound, placeholder, atom, unknown}
 use Rattle.relation_terms.specs.Trees.{Tree, leaf, node, bind, nil, cons, IsTerm}
@@ -18,12 +18,9 @@ use Rattle.relation_terms.specs.declared.terms.numbers.ConstVid.{ConstVid}
 use Rattle.relation_contexts.specs.Relation.{StaysWithin}
 use Rattle.relation_contexts.specs.Covered.{IsCovered, IsCoveredHead}
 use Rattle.relation_contexts.specs.Parts.{IsFormedConst}
+use Rattle.relation_terms.proofs.Members.{const_only}
 
 -- A covered constant that is no variable and no bound one is of a form.
-const_admitted : (s : Sort) → Admits const_sort s → s ≡ const_sort
-const_admitted const_sort a = refl
-const_admitted s a = absurd a
-
 form_of_const : (h : Head) (ts : Tree) → head_sort h ≡ const_sort → IsCoveredHead h → IsFormedConst (node h ts)
 form_of_const (expression k) ts e c = tt
 form_of_const value ts e c = tt
@@ -34,10 +31,10 @@ pub covered_formed_const : (t : Tree) → IsTerm const_sort t → IsCovered t �
     ((k : VarKind) (n : ℕ) → t ≡ leaf (variable k n) → ⊥) → IsFormedConst t
 covered_formed_const (leaf (variable k n)) s c w o = absurd (o k n refl)
 covered_formed_const (leaf (bound k d i)) s c w o = absurd (omega (arith, w))
-covered_formed_const (leaf (placeholder k u n)) s c w o = const_admitted (bound_sort k) s
-covered_formed_const (leaf (atom x)) s c w o = const_admitted (atom_sort x) s
+covered_formed_const (leaf (placeholder k u n)) s c w o = const_only (bound_sort k) s
+covered_formed_const (leaf (atom x)) s c w o = const_only (atom_sort x) s
 covered_formed_const (leaf unknown) s c w o = absurd c
-covered_formed_const (node h ts) s c w o = form_of_const h ts (const_admitted (head_sort h) s.0) c.0
+covered_formed_const (node h ts) s c w o = form_of_const h ts (const_only (head_sort h) s.0) c.0
 covered_formed_const (bind ks t) s c w o = absurd s
 covered_formed_const nil s c w o = absurd s
 covered_formed_const (cons t ts) s c w o = absurd s

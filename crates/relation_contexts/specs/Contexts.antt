@@ -1,5 +1,5 @@
 -- What contracts see of a context, which terms are its own, and what relating in it registers and spends.
-use Rattle.std.specs.Prelude.{◌≡◌, ◌+◌, ℕ, List, IsTrue, IfOk, Result, [], All}
+use Rattle.std.specs.Prelude.{◌≡◌, ◌+◌, ◌≤◌, ℕ, List, IsTrue, IfOk, Result, [], All, length}
 use Rattle.std.specs.Global.{Vec}
 use Rattle.std.specs.Result.{IsOkAnd}
 use Rattle.relation_terms.specs.declared.predicate.regions.OutlivesPredicate.{OutlivesPredicate}
@@ -10,6 +10,7 @@ use Rattle.relation_terms.specs.declared.terms.keys.ConstKey.{ConstKey}
 use Rattle.relation_terms.specs.declared.terms.keys.RegionKey.{RegionKey}
 use Rattle.relation_terms.specs.declared.terms.keys.PredicateKey.{PredicateKey}
 use Rattle.relation_terms.specs.declared.terms.keys.ParamEnvKey.{ParamEnvKey}
+use Rattle.relation_terms.specs.Heads.{type_var}
 use Rattle.relation_terms.specs.Trees.{known}
 use Rattle.relation_terms.specs.Meaning.{Meaning}
 use Rattle.relation_folds.specs.declared.error.RelateFault.{RelateFault}
@@ -59,6 +60,10 @@ module _ {Key Id Name : Type 0} where
   -- A region of the context.
   abbrev pub HasRegion : Context Key Id Name → RegionKey Key → Type 0
   HasRegion c r = IsRegionIn c.store ((c.meaning).region r)
+
+  -- A type variable that is not made is marked as related to no other.
+  abbrev pub MarksNoUnmade : Context Key Id Name → Type 0
+  MarksNoUnmade c = (n : ℕ) → length ((c.store).entries type_var) ≤ n → c.sub_root n ≡ n
 
 -- Between a context before the call and after it.
 module _ {Key Id Name : Type 0} (c d : Context Key Id Name) where

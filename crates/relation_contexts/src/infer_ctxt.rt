@@ -1,5 +1,5 @@
 //! Inference contexts, by what each of their calls does.
-ghost use Rattle.std.specs.Prelude.{◌≡◌, ◌≢◌, ◌≤◌, ◌↔◌, ℕ, IsTrue, length};
+ghost use Rattle.std.specs.Prelude.{◌≡◌, ◌≢◌, ◌↔◌, IsTrue};
 ghost use Rattle.std.specs.Borrow.{sem, Lends};
 ghost use Rattle.term_enums.specs.declared.Variance.TheVariants.{Bivariant};
 ghost use Rattle.relation_terms.specs.declared.terms.ty_kind.IntVarValue.TheVariants.{Unknown};
@@ -8,6 +8,7 @@ ghost use Rattle.relation_terms.specs.Heads.{type_var, int_var, float_var, const
 ghost use Rattle.relation_terms.specs.Trees.{leaf, known};
 ghost use Rattle.relation_contexts.specs.Stores.{IsSound, IsMade, IsTermIn};
 ghost use Rattle.relation_contexts.specs.Contexts.{Context, KnowsTy, KnowsConst, HasTy, HasConst, HasRegion};
+ghost use Rattle.relation_contexts.specs.Contexts.{MarksNoUnmade};
 ghost use Rattle.relation_contexts.specs.Covered.{IsCovered};
 ghost use Rattle.relation_contexts.specs.Settings.{in_coherence};
 ghost use Rattle.relation_contexts.specs.Steps.{Taints};
@@ -471,6 +472,5 @@ pub trait InferCtxtLike {
     ghost covered: { (c : Self) → (state c).lawful → HasCoveredBindings (state c).store };
 
     // A type variable that is not made is marked as related to no other, so that neither is one that was just made.
-    ghost unmarked: { (c : Self) → (state c).lawful → (n : ℕ) →
-        length (((state c).store).entries type_var) ≤ n → (state c).sub_root n ≡ n };
+    ghost unmarked: { (c : Self) → (state c).lawful → MarksNoUnmade (state c) };
 }

@@ -25,6 +25,11 @@ module _ {Key Id Name I S : Type 0} (meaning : I → Meaning Key Id Name) (inter
   PassesOver s (c ∷ cs) t = (u : S) × steps s (Some (Ok c)) u ×
       (reference_of ((meaning (interner u)).clause c) ≡ None) × PassesOver u cs t
 
+  -- The interner knows each clause that comes.
+  abbrev pub KnowsWhatComes : Type 0
+  KnowsWhatComes = (s t : S) (c : ClauseKey Key) → steps s (Some (Ok c)) t →
+      IsTrue (known ((meaning (interner t)).clause c))
+
   -- A clause of a trait, as its trait reference; or the end, or a fault.
   abbrev pub Stops : S → Option (Result (Binder Key (TraitRef Key Id)) ElabFault) → S → Type 0
   Stops s None t = steps s None t

@@ -7,7 +7,7 @@ ghost use Rattle.relation_terms.specs.Meaning.{Extends};
 ghost use Rattle.relation_terms.specs.Owned.{bound_tree};
 ghost use Rattle.relation_terms.specs.declared.terms.keys.ClauseKey.{ClauseKey};
 ghost use Rattle.relation_elaboration.specs.declared.faults.ElabFault.TheVariants.{Limit};
-ghost use Rattle.relation_elaboration.specs.Finding.{BeginsInItself, TraitsByClosure};
+ghost use Rattle.relation_elaboration.specs.Finding.{BeginsInItself, KnowsWhatComes, TraitsByClosure};
 
 use crate::elaborator::{Elaborator, elaborate};
 use crate::faults::ElabFault;
@@ -32,8 +32,7 @@ pub trait ClauseSource<I: Interner>: Iterator<Item = Result<Clause<I>, ElabFault
 
     ghost falls: { (s t : Self) (c : ClauseKey I.Key) → Self.next_gives s (Some (Ok c)) t → left t < left s };
 
-    ghost knows: { (s t : Self) (c : ClauseKey I.Key) → Self.next_gives s (Some (Ok c)) t →
-        IsTrue (known ((I.meaning (interner t)).clause c)) };
+    ghost knows: { KnowsWhatComes I.meaning interner Self.next_gives };
 }
 
 impl<'a, I: Interner> ClauseSource<I> for Elaborator<'a, I, ClauseKey<I::Key>> {

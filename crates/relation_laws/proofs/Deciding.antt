@@ -18,6 +18,7 @@ use Rattle.relation_laws.specs.declared.decided.SmallParts.{SmallParts, End, Nex
 use Rattle.relation_laws.specs.Decided.{Leads, plain_leaf, pair_of, outlives_by, leaf_of, head_of, sort_meant, all_declare, small_parts}
 use Rattle.relation_laws.proofs.RegionTerms.{plain_related}
 use Rattle.relation_contexts.proofs.Related.{rigid_rule, neither, neither_of, no_region_head, forms_inverted}
+use Rattle.relation_contexts.proofs.Erased.{leaf_path}
 
 pub iff_through : {A B C : Type 0} → A ↔ B → B ↔ C → A ↔ C
 iff_through p q = (λ a. q.0 (p.0 a), λ c. p.1 (q.1 c))
@@ -158,9 +159,6 @@ pub leaves_iff : (a b : SmallLeaf) (l m : Leaf) → leaf_of a ≡ l → leaf_of 
 leaves_iff a b l m p q = (λ h. sym p ∙ ap leaf_of h ∙ q, λ h. leaf_of_once a b (p ∙ h ∙ sym q))
 
 -- Terms without parts.
-leaf_path : {l m : Leaf} → leaf l ≡ leaf m → l ≡ m
-leaf_path e = cc
-
 abbrev LeafCases : Interpretation → Variance → Leaf → Leaf → Type 0
 LeafCases w v x y = (plain_leaf x ≡ plain_leaf y) ⊎ (((leaf_sort x ≡ leaf_sort y) × (IsError (leaf x) ⊎ IsError (leaf y))) ⊎ (((leaf_sort x ≡ region_sort) × (leaf_sort y ≡ region_sort)) × RegionRule w v (leaf x) (leaf y)))
 

@@ -18,7 +18,7 @@ use Rattle.relation_contexts.proofs.Standing.{term_through}
 use Rattle.relation_contexts.proofs.MakingEach.{variable_sort}
 use Rattle.relation_laws.specs.OpenedInstances.{OpenedIsInstance}
 
-no_variable : (l : Leaf) → IsValueLeaf l → IsNoVariable l
+pub no_variable : (l : Leaf) → IsValueLeaf l → IsNoVariable l
 no_variable (variable k n) h = h
 no_variable (bound k d i) h = tt
 no_variable (placeholder k u n) h = tt

@@ -1,16 +1,18 @@
 -- Terms with binders of regions alone, where all regions outlive each other.
-use Rattle.std.proofs.Common.{◌≡◌, ◌⊎◌, ℕ, zero, suc, refl, sym, ap, ap₂, ◌∙◌, inl, inr, subst, subst₂, List, [], ◌∷◌, map, Option, Some, None, nat_eq, cond, Bool, true, false, ◌+◌, ◌<◌, ◌≤◌, arith}
+use Rattle.std.proofs.Common.{◌≡◌, ◌⊎◌, ℕ, zero, suc, refl, sym, ap, ap₂, ◌∙◌, inl, inr, subst, subst₂, List, [], ◌∷◌, map, Option, Some, None, nat_eq, cond, Bool, true, false, ◌+◌, ◌≤◌, arith}
 use Rattle.term_enums.specs.declared.Variance.{Variance}
 use Rattle.term_enums.specs.declared.Variance.TheVariants.{Covariant, Contravariant, Invariant, Bivariant}
-use Rattle.relation_terms.specs.Heads.{Sort, Kind, region_kind, type_kind, const_kind, kind_sort, BoundKind, bound_kind, bound_sort, region_var, region_sort, Part, term_of, binder_of, Shape, one, row, head_parts, leaf_sort, Leaf, Atom, atom_sort, type_param, const_param, static_region, early_region, atom, variable, bound, placeholder, unknown, Head, slice, value_type, alias, alias_term, unevaluated, host_effect, subtype, region_outlives, type_outlives, projection, const_has_type, well_formed, const_evaluatable, coerce, normalizes_to, alias_relate, environment}
+use Rattle.relation_terms.specs.Heads.{Sort, region_kind, type_kind, const_kind, BoundKind, bound_kind, bound_sort, region_var, region_sort, Part, term_of, binder_of, Shape, one, row, head_parts, leaf_sort, Leaf, Atom, atom_sort, type_param, const_param, static_region, early_region, atom, variable, bound, placeholder, unknown, Head, slice, value_type, alias, alias_term, unevaluated, host_effect, subtype, region_outlives, type_outlives, projection, const_has_type, well_formed, const_evaluatable, coerce, normalizes_to, alias_relate, environment}
 use Rattle.relation_terms.specs.Trees.{Tree, leaf, node, bind, nil, cons, Leaves, inst, put, tree_at, size, IsList, IsTerm, Fits}
-use Rattle.relation_terms.specs.Erasure.{erase, erase_leaf, erase_atom, erase_kinded, kept_parts}
+use Rattle.relation_terms.specs.Erasure.{erase, erase_leaf, erase_atom, kept_parts}
 use Rattle.relation_contexts.specs.Relation.{Items, Interpretation, parts, second_opened, first_opened, Rel, at, same, anything, error_left, error_right, regions, alias_types, equal_consts, atoms, forms, no_parts, next_part, covariant_binders, contravariant_binders, invariant_binders, open_second, open_first, part_at, plain, plain_atom, sort_of, IsError, IsErrorAtom, IsAlias, IsAliasHead, IsRelatedHead, AliasRule, IsValueLeaf, FitKinds, Fresh, RegionRule, all_outlive}
 use Rattle.relation_contexts.specs.FirstOrder.{IsFirstOrderAtom}
 use Rattle.relation_contexts.specs.Stores.{IsNamable}
 use Rattle.relation_laws.specs.RegionTerms.{IsRegionTermHead, IsRegionTermLeaf, BindsRegions, IsRegionTerm, RelatedTermsAgree, RelatedIffAgree}
 use Rattle.relation_contexts.specs.Agreeing.{IsFlexible, AreFlexible, Agree}
 use Rattle.relation_contexts.specs.Errors.{outer_leaf, AreAlike}
+use Rattle.type_relations.proofs.Unifying.{kind_erased, atom_erased, kind_kept, erased_plain}
+use Rattle.type_relations.proofs.PartSizes.{one_size}
 use Rattle.relation_contexts.proofs.Agreeing.{agree_anything, agree_same}
 use Rattle.relation_laws.specs.Decided.{plain_leaf}
 use Rattle.relation_contexts.proofs.Erased.{erase_region, erase_plain, no_error_atom}
@@ -306,40 +308,20 @@ region_or : (k : Sort) → (k ≡ region_sort) ⊎ (k ≡ region_sort → ⊥)
 region_or region_sort = inl refl
 region_or k = inr (λ p. cc)
 
-kinded_sort : (k : Kind) (l : Leaf) → leaf_sort l ≡ kind_sort k → leaf_sort (erase_kinded k l) ≡ kind_sort k
-kinded_sort region_kind l p = refl
-kinded_sort k l p = p
-
-erase_atom_sort : (x : Atom) → atom_sort (erase_atom x) ≡ atom_sort x
-erase_atom_sort (early_region i n) = refl
-erase_atom_sort (type_param i n) = refl
-erase_atom_sort (const_param i n) = refl
-erase_atom_sort x = refl
-
 erase_sort : (l : Leaf) → leaf_sort (erase_leaf l) ≡ leaf_sort l
 erase_sort (variable region_var n) = refl
 erase_sort (variable k n) = refl
-erase_sort (bound (bound_kind k m) d i) = kinded_sort k _ refl
-erase_sort (placeholder (bound_kind k m) u n) = kinded_sort k _ refl
-erase_sort (atom x) = erase_atom_sort x
+erase_sort (bound (bound_kind k m) d i) = kind_erased k _ refl
+erase_sort (placeholder (bound_kind k m) u n) = kind_erased k _ refl
+erase_sort (atom x) = atom_erased x
 erase_sort unknown = refl
-
-kinded_plain : (k : Kind) (l : Leaf) → (kind_sort k ≡ region_sort → ⊥) → erase_kinded k l ≡ l
-kinded_plain region_kind l n = absurd (n refl)
-kinded_plain k l n = refl
-
-atom_plain : (x : Atom) → (atom_sort x ≡ region_sort → ⊥) → erase_atom x ≡ plain_atom x
-atom_plain (early_region i m) n = absurd (n refl)
-atom_plain (type_param i m) n = refl
-atom_plain (const_param i m) n = refl
-atom_plain x n = refl
 
 leaf_plain : (l : Leaf) → (leaf_sort l ≡ region_sort → ⊥) → erase_leaf l ≡ plain_leaf l
 leaf_plain (variable region_var m) n = absurd (n refl)
 leaf_plain (variable k m) n = refl
-leaf_plain (bound (bound_kind k m) d i) n = kinded_plain k _ n
-leaf_plain (placeholder (bound_kind k m) u i) n = kinded_plain k _ n
-leaf_plain (atom x) n = ap atom (atom_plain x n)
+leaf_plain (bound (bound_kind k m) d i) n = kind_kept k _ n
+leaf_plain (placeholder (bound_kind k m) u i) n = kind_kept k _ n
+leaf_plain (atom x) n = ap atom (erased_plain x n)
 leaf_plain unknown n = refl
 
 pub plain_related : (c : Items) (w : Interpretation) (e : Tree) (v : Variance) (l m : Leaf) → plain_leaf l ≡ plain_leaf m → Rel c w e (at v) (leaf l) (leaf m)
@@ -398,13 +380,6 @@ module _ (c : Items) (w : Interpretation) (e : Tree) (v : Variance) (ks ls : Lis
       go Invariant p = invariant_binders p second first
       go Bivariant p = anything p
 
-size_pos : (t : Tree) → 0 < size t
-size_pos (leaf l) = omega arith
-size_pos (node h t) = omega arith
-size_pos (bind ks t) = omega arith
-size_pos nil = omega arith
-size_pos (cons t u) = omega arith
-
 mixed : {c : Items} {w : Interpretation} {e : Tree} {v : Variance} {a b : Tree} {X : Type 0} → (v ≡ Bivariant) ⊎ X → (X → ⊥) → Rel c w e (at v) a b
 mixed (inl p) n = anything p
 mixed (inr x) n = absurd (n x)
@@ -418,7 +393,7 @@ erased_error x e = e
 
 erased_open_atom : (x : Atom) → IsFirstOrderAtom x → IsErrorAtom (erase_atom x) ⊎ (atom_sort (erase_atom x) ≡ region_sort) → atom_sort x ≡ region_sort
 erased_open_atom x r (inl e) = absurd (no_error_atom x (erased_error x e) r)
-erased_open_atom x r (inr s) = sym (erase_atom_sort x) ∙ s
+erased_open_atom x r (inr s) = sym (atom_erased x) ∙ s
 
 erased_open : (l : Leaf) → IsRegionTermLeaf l → IsFlexible (leaf (erase_leaf l)) → leaf_sort l ≡ region_sort
 erased_open (variable k n) r o = absurd r
@@ -481,7 +456,7 @@ forms_back c w e h k v xs ys q p p' rec r = parts_back c w e h v xs ys p (subst 
 
 mutual
   back : (n : ℕ) (c : Items) (w : Interpretation) (e : Tree) (v : Variance) (a b : Tree) → size a ≤ n → w.outlives ≡ None → IsNode a → IsNode b → IsShaped a → IsShaped b → IsRegionTerm a → IsRegionTerm b → Agree c (at v) (erase a) (erase b) → Rel c w e (at v) a b
-  back zero c w e v a b le all ta tb sa sb ra rb g = let p = size_pos a in absurd (omega arith)
+  back zero c w e v a b le all ta tb sa sb ra rb g = let p = one_size a in absurd (omega arith)
   back (suc n) c w e v (leaf l) (leaf m) le all ta tb sa sb ra rb (inl p) = anything p
   back (suc n) c w e v (leaf l) (leaf m) le all ta tb sa sb ra rb (inr (inl o)) = let z = open_regions l m ra rb o in regions z.0 z.1 (all_rule w v (leaf l) (leaf m) all)
   back (suc n) c w e v (leaf l) (leaf m) le all ta tb sa sb ra rb (inr (inr p)) = leaves_related c w e v l m all (alike_erased l m p)
@@ -503,7 +478,7 @@ mutual
   back (suc n) c w e v (bind ks a) (node k ys) le all ta tb sa sb ra rb g = mixed g (apart_forms (erase (bind ks a)) (erase (node k ys)) (λ o. o) (λ o. o) (λ q. cc))
 
   back_parts : (n : ℕ) (c : Items) (w : Interpretation) (e : Tree) (h : Head) (i : ℕ) (v : Variance) (xs ys : Tree) → size xs ≤ n → w.outlives ≡ None → IsList xs → IsList ys → IsShaped xs → IsShaped ys → IsRegionTerm xs → IsRegionTerm ys → Agree c (parts h i v) (erase xs) (erase ys) → Rel c w e (parts h i v) xs ys
-  back_parts zero c w e h i v xs ys le all la lb sa sb ra rb g = let p = size_pos xs in absurd (omega arith)
+  back_parts zero c w e h i v xs ys le all la lb sa sb ra rb g = let p = one_size xs in absurd (omega arith)
   back_parts (suc n) c w e h i v nil nil le all la lb sa sb ra rb g = no_parts
   back_parts (suc n) c w e h i v (cons a xs) (cons b ys) le all la lb sa sb ra rb g = next_part (back n c w e (part_at c h i v) a b (omega arith) all sa.0 sb.0 sa.1 sb.1 ra.0 rb.0 g.0) (back_parts n c w e h (suc i) v xs ys (omega arith) all la lb sa.2 sb.2 ra.1 rb.1 g.1)
   back_parts (suc n) c w e h i v nil (cons b ys) le all la lb sa sb ra rb g = absurd cc

@@ -2,13 +2,14 @@
 use Rattle.std.proofs.Common.{◌≡◌, ℕ, false, refl, ap}
 use Rattle.relation_terms.specs.Heads.{VarKind, type_var, int_var, float_var, const_var, region_var, Atom, type_error}
 use Rattle.relation_terms.specs.Heads.{const_error, fresh_type, fresh_int, fresh_float, fresh_const, int_type, uint_type}
-use Rattle.relation_terms.specs.Heads.{float_type, Head, alias, unevaluated, expression, Leaf, variable, bound}
+use Rattle.relation_terms.specs.Heads.{float_type, Head, alias, unevaluated, expression, variable, bound}
 use Rattle.relation_terms.specs.Heads.{placeholder, atom, unknown}
 use Rattle.relation_terms.specs.Trees.{Tree, leaf, node, bind, nil, cons, Assign, apply, Leaves}
 use Rattle.relation_terms.specs.Erasure.{erase}
 use Rattle.relation_folds.specs.Clashes.{flexible}
 use Rattle.relation_tools.specs.Instances.{Instance, put, kept_leaf, kept_node, kept_nil, kept_cons}
 use Rattle.relation_tools.specs.Instances.{IsNoVariable}
+use Rattle.relation_laws.proofs.OpenedInstances.{no_variable}
 use Rattle.relation_tools.proofs.Rejecting.{clashes_are_apart}
 use Rattle.relation_contexts.specs.Relation.{IsValueLeaf}
 use Rattle.relation_contexts.specs.Stores.{Store, MayStandFor, IsIntegerTerm, IsFloatTerm, IsAssignment, IsMadeLeaf}
@@ -17,12 +18,8 @@ use Rattle.relation_contexts.specs.FirstOrder.{IsFirstOrder, IsFirstOrderHead, I
 use Rattle.relation_laws.specs.RejectionLaws.{ClashesDoNotUnify, ClashesAreNotRelated}
 use Rattle.relation_contexts.proofs.StoreCalls.{bindings_are_met}
 
-value_no_variable : (l : Leaf) → IsValueLeaf l → IsNoVariable l
-value_no_variable (variable k n) h = h
-value_no_variable l h = tt
-
 values_no_variables : (t : Tree) → Leaves IsValueLeaf t → Leaves IsNoVariable t
-values_no_variables (leaf l) h = value_no_variable l h
+values_no_variables (leaf l) h = no_variable l h
 values_no_variables (node g ts) h = values_no_variables ts h
 values_no_variables (bind ks t) h = values_no_variables t h
 values_no_variables nil h = tt

@@ -5,13 +5,14 @@ use Rattle.term_enums.specs.declared.Variance.TheVariants.{Covariant, Contravari
 use Rattle.term_enums.specs.declared.Mutability.TheVariants.{Not, Mut}
 use Rattle.term_enums.specs.declared.Safety.TheVariants.{Safe}
 use Rattle.term_enums.specs.declared.ExternAbi.TheVariants.{Rust}
-use Rattle.relation_terms.specs.Heads.{Sort, Admits, leaf_sort, head_sort, region_sort, type_param, const_param, uint_type, bool_type, host_effect, subtype, region_outlives, type_outlives, projection, const_has_type, well_formed, const_evaluatable, coerce, normalizes_to, alias_relate, environment, trait_clause, Head, adt, ref, tuple, fn_ptr, signature, inputs, value, value_type, BoundKind}
+use Rattle.relation_terms.specs.Heads.{leaf_sort, head_sort, region_sort, type_param, const_param, uint_type, bool_type, host_effect, subtype, region_outlives, type_outlives, projection, const_has_type, well_formed, const_evaluatable, coerce, normalizes_to, alias_relate, environment, trait_clause, Head, adt, ref, tuple, fn_ptr, signature, inputs, value, value_type, BoundKind}
 use Rattle.relation_terms.specs.Trees.{Tree, leaf, node, bind, nil, cons, inst, IsList, IsTerm}
 use Rattle.term_enums.specs.declared.UintTy.TheVariants.{U8}
 use Rattle.term_enums.specs.declared.PredicatePolarity.{PredicatePolarity}
 use Rattle.term_enums.specs.Variances.{xform}
 use Rattle.relation_contexts.specs.Relation.{Items, Interpretation, parts, second_opened, first_opened, Rel, at, same, anything, regions, atoms, forms, no_parts, next_part, covariant_binders, open_second, open_first, Outlives, itself, sort_of, RegionRule, IsRelatedHead, plain_atom, error_left, error_right, alias_types, equal_consts, contravariant_binders, invariant_binders, Avoids}
 use Rattle.type_relations.specs.SmallTerms.{u8, bool, static, named, ref_to, value_of, fn_of, a_region, bound_region, region_placeholder, IsReflexive, AnythingAtBivariance, ErrorsAreRelated, ParametersByIndex, ValuesByTheirTrees, ReferencesByRegions, MutablePointeesAreFixed, InputsTurnRound, BivariantArguments, UnlikeHeadsAreUnrelated, UnlikeAtomsAreUnrelated, AtomsAreNoForms, FormsByParts, IsPredicateSort, PredicatesWithThemselvesAlone, AnyIsStatic, StaticIsNotAny, PlaceholderIsNotAny, OneRegionIsNotTwo, AnyIsNotInvariantlyStatic}
+use Rattle.relation_terms.proofs.Members.{region_only}
 use Rattle.relation_contexts.proofs.Related.{region_of, heads_inverted, forms_inverted, others_inverted, atoms_inverted, covariant_opened, invariant_opened, no_form_left, no_form_right}
 
 pub is_reflexive : IsReflexive
@@ -206,13 +207,9 @@ pub placeholder_is_not_any : PlaceholderIsNotAny
 placeholder_is_not_any c w e u n r = let o = opened refl refl (covariant_opened (λ p. cc) (binders_of r)) in (o.0, o.1, (λ q. o.2 (sym q)), o.3)
 
 -- A term where a region is asked for is one.
-admitted_region : (s : Sort) → Admits region_sort s → s ≡ region_sort
-admitted_region region_sort h = refl
-admitted_region s h = absurd h
-
 pub term_region : (t : Tree) → IsTerm region_sort t → sort_of t ≡ region_sort
-term_region (leaf l) h = admitted_region (leaf_sort l) h
-term_region (node h ts) i = admitted_region (head_sort h) i.0
+term_region (leaf l) h = region_only (leaf_sort l) h
+term_region (node h ts) i = region_only (head_sort h) i.0
 term_region t h = absurd h
 
 two_inputs : {c : Items} {w : Interpretation} {e a b x y : Tree} → sort_of a ≡ region_sort → sort_of b ≡ region_sort → sort_of x ≡ region_sort → sort_of y ≡ region_sort →

@@ -1,5 +1,5 @@
 -- What was shown of a term stays shown in a later context.
-use Rattle.std.proofs.Common.{◌≡◌, IsTrue, Option, Some, None, ap, sym, subst}
+use Rattle.std.proofs.Common.{◌≡◌, IsTrue, Option, ap, sym, subst}
 use Rattle.relation_terms.specs.Heads.{Head}
 use Rattle.relation_terms.specs.Trees.{Tree, known}
 use Rattle.relation_terms.specs.Meaning.{Meaning, Extends as Grows}
@@ -7,20 +7,16 @@ use Rattle.relation_contexts.specs.Stores.{IsTermIn}
 use Rattle.relation_contexts.specs.Covered.{IsCovered}
 use Rattle.relation_contexts.specs.Contexts.{Context}
 use Rattle.type_relations.specs.Arguments.{related_tree}
+use Rattle.type_relations.proofs.Relatable.{tree_known}
 use Rattle.relation_contexts.proofs.Standing.{later_term}
 use Rattle.relation_laws.specs.SolutionLaws.{TermStays}
-
--- The form over a known list is over a known list.
-parts_known : (over : Option Head) (t : Tree) → IsTrue (known (related_tree over t)) → IsTrue (known t)
-parts_known None t k = k
-parts_known (Some h) t k = k
 
 pub term_stays : {S Key Id Name A : Type 0} (state : S → Context Key Id Name) (over : Option Head)
     (tree : Meaning Key Id Name → A → Tree) → ((m n : Meaning Key Id Name) → Grows m n → (x : A) →
     IsTrue (known (tree m x)) → tree n x ≡ tree m x) → TermStays state over tree
 term_stays state over tree stays old new grown later x k =
     let e = ap (related_tree over) (stays (state old).meaning (state new).meaning grown x
-    (parts_known over (tree (state old).meaning x) k)) in (
+    (tree_known over (tree (state old).meaning x) k)) in (
       e,
       subst (λ t. IsTrue (known t)) (sym e) k,
       λ c. subst IsCovered (sym e) c,

@@ -16,6 +16,7 @@ use Rattle.relation_contexts.specs.Stores.{Store, IsTermIn, InContext, IsMadeLea
 use Rattle.relation_needs.specs.declared.binding.Uses.{Uses}
 use Rattle.relation_needs.specs.declared.needs.Needs.{Needs}
 use Rattle.relation_needs.specs.Binding.{Tells, AreTold}
+use Rattle.relation_contexts.proofs.Trees.{Leaves_map}
 use Rattle.relation_needs.proofs.BindingLemmas.{next_is}
 use Rattle.text_reading.specs.declared.reading.tree.ItemSort.{ItemSort}
 use Rattle.text_reading.specs.declared.reading.tree.ItemSort.TheVariants as sort
@@ -91,24 +92,17 @@ enough_told (Some u) n (placeholder k w i) h = h
 enough_told (Some u) n (atom x) h = h
 enough_told (Some u) n unknown h = tt
 
-each_leaf : (P Q : Leaf → Type 0) → ((l : Leaf) → P l → Q l) → (t : Tree) → Leaves P t → Leaves Q t
-each_leaf P Q f (leaf l) h = f l h
-each_leaf P Q f (node g ts) h = each_leaf P Q f ts h
-each_leaf P Q f (bind ks t) h = each_leaf P Q f t h
-each_leaf P Q f nil h = tt
-each_leaf P Q f (cons t ts) h = (each_leaf P Q f t h.0, each_leaf P Q f ts h.1)
-
 allows_left : (a b : Needs) (t : Tree) → Allows a t → Allows (both_needs a b) t
-allows_left a b t h = each_leaf (IsEnough a) (IsEnough (both_needs a b)) (enough_left a b) t h
+allows_left a b t h = Leaves_map (IsEnough a) (IsEnough (both_needs a b)) (enough_left a b) t h
 
 pub allows_right : (a b : Needs) (t : Tree) → Allows b t → Allows (both_needs a b) t
-allows_right a b t h = each_leaf (IsEnough b) (IsEnough (both_needs a b)) (enough_right a b) t h
+allows_right a b t h = Leaves_map (IsEnough b) (IsEnough (both_needs a b)) (enough_right a b) t h
 
 allows_without : (n : Needs) (t : Tree) → Allows n t → Allows (without_rules n) t
-allows_without n t h = each_leaf (IsEnough n) (IsEnough (without_rules n)) (enough_without n) t h
+allows_without n t h = Leaves_map (IsEnough n) (IsEnough (without_rules n)) (enough_without n) t h
 
 allows_told : (o : Option Uses) (n : Needs) (t : Tree) → Allows n t → Allows (told o n) t
-allows_told o n t h = each_leaf (IsEnough n) (IsEnough (told o n)) (enough_told o n) t h
+allows_told o n t h = Leaves_map (IsEnough n) (IsEnough (told o n)) (enough_told o n) t h
 
 -- Of lists.
 pub allows_still : (ns : List Needs) (n : Needs) (ks : List ℕ) (t : Tree) → Allows n t → Allows (needs_with ns n ks) t

@@ -10,6 +10,7 @@ use Rattle.relation_terms.specs.Trees.{Tree, leaf, known, list_tree}
 use Rattle.relation_terms.specs.Meaning.{Meaning, Extends, arg_tree, under}
 use Rattle.relation_terms.specs.declared.terms.generic_arg.GenericArgKind.{GenericArgKind}
 use Rattle.relation_terms.proofs.Stays.{stays_arg}
+use Rattle.relation_terms.proofs.Members.{known_with_last}
 use Rattle.relation_folds.specs.Shifts.{opened, knows_all}
 use Rattle.relation_folds.specs.Visits.{bound_var_escapes}
 use Rattle.relation_contexts.specs.Relation.{AvoidsAll}
@@ -23,7 +24,6 @@ use Rattle.relation_contexts.specs.Binders.{kinds_in, variable_kind, MakesEach, 
 use Rattle.relation_contexts.specs.Binders.{EntersAs, InstantiatesAs, EntersBinder, InstantiatesWithInfer}
 use Rattle.relation_contexts.proofs.Opened.{opened_inst, placeholders_stand, variables_stand, none_escapes, some_escapes}
 use Rattle.relation_reference.specs.Opened.{placeholders_from, MakesOne}
-use Rattle.relation_reference.proofs.Grows.{both}
 
 -- One more place of a list.
 taken : {A : Type 0} (xs : List A) (i : ℕ) (x : A) → slice_get xs i ≡ Some x → take (suc i) xs ≡ take i xs ++ x ∷ []
@@ -65,14 +65,6 @@ placeholders_are : (u n : ℕ) (ks : List BoundKind) → ArePlaceholders u ks (p
 placeholders_are u n [] = tt
 placeholders_are u n (k ∷ ks) = ((n, refl), avoids_later k u n (suc n) ks (omega arith), placeholders_are u (suc n) ks)
 
--- One more argument, in an interner that has grown.
-known_more : {A : Type 0} (f : A → Tree) (xs : List A) (y : A) → IsTrue (known (list_tree f xs)) →
-    IsTrue (known (f y)) → IsTrue (known (list_tree f (xs ++ y ∷ [])))
-known_more f [] y h k = both (known (f y)) true k refl
-known_more f (x ∷ xs) y h k =
-    let o = and_parts (known (f x)) (known (list_tree f xs)) h in
-    both (known (f x)) (known (list_tree f (xs ++ y ∷ []))) o.0 (known_more f xs y o.1 k)
-
 module _ {Key Id Name : Type 0} {m n : Meaning Key Id Name} (e : Extends m n) where
   pub args_stay : (xs : List (GenericArgKind Key)) → IsTrue (known (list_tree (arg_tree m) xs)) →
       map (arg_tree n) xs ≡ map (arg_tree m) xs
@@ -89,7 +81,7 @@ module _ {Key Id Name : Type 0} {m n : Meaning Key Id Name} (e : Extends m n) wh
 
     pub args_known : IsTrue (known (arg_tree n y)) → IsTrue (known (list_tree (arg_tree n) ys))
     args_known k = subst (λ zs. IsTrue (known (list_tree (arg_tree n) zs))) (sym more)
-        (known_more (arg_tree n) xs y (knows_all e xs sure) k)
+        (known_with_last (arg_tree n) xs y (knows_all e xs sure) k)
 
 -- A new variable is of the kind that what it stands for asks for.
 pub made_one : {before after : Store} (k q : VarKind) (x : Tree) (n : ℕ) → k ≡ q → x ≡ leaf (variable q n) →

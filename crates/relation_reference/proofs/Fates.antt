@@ -16,6 +16,7 @@ use Rattle.relation_reference.specs.declared.context.memory.TermVid.{TermVid}
 use Rattle.relation_reference.specs.declared.context.memory.TermVid.TheVariants.{Ty as TyTerm, Const as ConstTerm}
 use Rattle.relation_reference.specs.Remembering.{vid_kind, vid_number}
 use Rattle.relation_reference.specs.Generalises.{new_kind, IsFate}
+use Rattle.relation_contexts.proofs.Generalising.{some_path}
 
 -- All that is left stays.
 pub left_stays : (st : Store) (k : VarKind) (n u : ℕ) (v : Variance) (t : Tree) → IsCovered t → (tree_sort t ≡ region_sort → ⊥) →
@@ -70,9 +71,6 @@ new_kind_of p (TyTerm v) e = absurd (cc)
 new_kind_of p (ConstTerm v) e = absurd (cc)
 
 -- A variable that was made is of the kind that was asked for.
-some_path : {i j : VarKind} → Some i ≡ Some j → i ≡ j
-some_path e = cc
-
 pub made_as : (was now : Store) (u : ℕ) (x : Tree) (o : Option VarKind) (k : VarKind) (n : ℕ) → o ≡ Some k → MakesVariable was now k n u → x ≡ leaf (variable k n) →
     (j : VarKind) → o ≡ Some j → (m : ℕ) × MakesVariable was now j m u × (x ≡ leaf (variable j m))
 made_as was now u x o k n e g q j f = let p : k ≡ j = some_path (sym e ∙ f) in

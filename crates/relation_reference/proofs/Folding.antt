@@ -1,5 +1,5 @@
 -- Resolving by a fold: what is put for each variable is what it comes to.
-use Rattle.std.proofs.Common.{◌≡◌, ℕ, suc, Bool, true, false, refl, sym, ap, ap₂, ◌∙◌, subst, ◌≤◌, arith, Some, None, List, length, get_or}
+use Rattle.std.proofs.Common.{◌≡◌, ℕ, suc, refl, sym, ap, ap₂, ◌∙◌, subst, ◌≤◌, arith, Some, None, List, length, get_or}
 use Rattle.std.proofs.lemmas.List.{get_or_past}
 use Rattle.relation_terms.specs.Heads.{VarKind, type_var, int_var, float_var, const_var, region_var, variable, bound, placeholder, atom, unknown, leaf_sort, head_sort}
 use Rattle.relation_terms.specs.Trees.{Tree, leaf, node, bind, nil, cons, Assign, apply}
@@ -18,8 +18,9 @@ use Rattle.relation_terms.specs.declared.terms.numbers.TyVid.{TyVid}
 use Rattle.relation_terms.specs.declared.terms.numbers.IntVid.{IntVid}
 use Rattle.relation_terms.specs.declared.terms.numbers.FloatVid.{FloatVid}
 use Rattle.relation_terms.specs.declared.terms.numbers.ConstVid.{ConstVid}
-use Rattle.relation_folds.specs.Folds.{asks, put_or, folded}
+use Rattle.relation_folds.specs.Folds.{asks, folded}
 use Rattle.relation_contexts.specs.Stores.{Store, IsMade, InContext, entry_of, entry_term, unbound}
+use Rattle.relation_folds.proofs.Folding.{put_none}
 use Rattle.relation_contexts.proofs.Resolved.{resolved_free}
 use Rattle.relation_reference.specs.declared.context.inner.InferCtxtInner.{InferCtxtInner}
 use Rattle.relation_reference.specs.declared.context.inner.Variable.{Variable}
@@ -29,11 +30,6 @@ use Rattle.relation_reference.specs.Remembering.{resolved_by}
 use Rattle.relation_reference.specs.Resolvers.{variable_value, StaysLawful}
 use Rattle.relation_reference.proofs.Grows.{store_grows, lawful_grows}
 use Rattle.relation_reference.proofs.Making.{entries_long}
-
--- Where nothing is put, the parts alone are folded.
-put_none : (b : Bool) (t : Tree) → put_or b None t ≡ t
-put_none true t = refl
-put_none false t = refl
 
 -- So the fold makes of a tree what the tree comes to.
 pub fold_resolves : (s : Assign) (d : ℕ) (t : Tree) → folded (λ e u. variable_value s u) d t ≡ apply s t
@@ -66,7 +62,7 @@ pub unbound_itself : (st : Store) (k : VarKind) (n : ℕ) (t : Tree) → t ≡ l
     entry_of st k n ≡ unbound → resolved_by st t ≡ t
 unbound_itself st k n t e o = ap (resolved_by st) e ∙ resolved_free st k n (ap (entry_term k) o) ∙ sym e
 
-context_made : (st : Store) (k : VarKind) (n : ℕ) → IsMade st k n → InContext st (leaf (variable k n))
+pub context_made : (st : Store) (k : VarKind) (n : ℕ) → IsMade st k n → InContext st (leaf (variable k n))
 unfolding InContext
 context_made st k n h = h
 

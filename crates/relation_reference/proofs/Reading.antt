@@ -36,7 +36,9 @@ use Rattle.relation_reference.specs.Tables.{store_of, MayBeBoundTo, IsRooted, Is
 use Rattle.relation_contexts.specs.Resolving.{IsRoot, IsShallow, root, stays_bound, formed, IsShallowTy, ty_root, no_ty_variable, IsShallowConst, const_root, no_variable}
 use Rattle.relation_reference.proofs.Grows.{entry_at, bound_known}
 use Rattle.relation_reference.proofs.Covering.{may_covered}
+use Rattle.relation_reference.proofs.Folding.{context_made}
 use Rattle.relation_contexts.proofs.Variables.{kind_variable, kind_no_const, const_no_variable}
+use Rattle.relation_contexts.proofs.Numbers.{made_of_leaf}
 
 -- The other is a variable of the context.
 pub leads_made : (st : Store) → IsSound st → (k : VarKind) (n p : ℕ) → entry_of st k n ≡ same_as p → IsMade st k p
@@ -167,23 +169,15 @@ module _ {Key Id Name : Type 0} (m : Meaning Key Id Name) (k : ConstKind Key Id 
   const_no_vid h v q = const_no_variable m k (vid_kind v) (vid_number v) h (sym e ∙ q)
 
 -- A variable of the context; and what a term of it is read as is of it.
-made_of_context : (st : Store) (k : VarKind) (n : ℕ) → InContext st (leaf (variable k n)) → IsMade st k n
-unfolding InContext
-made_of_context st k n h = h
-
-context_of_made : (st : Store) (k : VarKind) (n : ℕ) → IsMade st k n → InContext st (leaf (variable k n))
-unfolding InContext
-context_of_made st k n h = h
-
 pub context_read : (st : Store) → IsSound st → (t u : Tree) → IsReadAs st t u → InContext st t → InContext st u
 context_read st g t u (itself e) h = subst (InContext st) e h
 context_read st g t u (by_class k n m e c r) h = context_read st g (leaf (variable k m)) u r
-    (context_of_made st k m (class_made st g k n m c (made_of_context st k n (subst (InContext st) e h))))
+    (context_made st k m (class_made st g k n m c (made_of_leaf st k n (subst (InContext st) e h))))
 context_read st g t u (by_binding {u = x} k n e b r) h = context_read st g x u r
     (term_context st x (g.bindings k n x (ap (entry_term k) b)).is_in)
 
 pub made_in_context : (st : Store) (k : VarKind) (t : Tree) (n : ℕ) → t ≡ leaf (variable k n) → InContext st t → IsMade st k n
-made_in_context st k t n e h = made_of_context st k n (subst (InContext st) e h)
+made_in_context st k t n e h = made_of_leaf st k n (subst (InContext st) e h)
 
 -- A term that is a variable is read as what is read for the variable.
 pub read_for : (st : Store) (t u v : Tree) → t ≡ v → IsReadAs st v u → IsReadAs st t u

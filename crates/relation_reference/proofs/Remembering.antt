@@ -8,8 +8,7 @@ use Rattle.relation_terms.specs.Trees.{known, apply}
 use Rattle.relation_terms.specs.Meaning.{Meaning, Extends}
 use Rattle.relation_terms.specs.Parts.{part_tree, part_sort, part_key}
 use Rattle.relation_terms.specs.declared.terms.part_kind.Part.{Part}
-use Rattle.relation_terms.specs.declared.terms.part_kind.Part.TheVariants.{Region, Ty, Const, ValTree, Pat, ValueType}
-use Rattle.relation_terms.specs.declared.terms.part_kind.Part.TheVariants.{Object}
+use Rattle.relation_folds.proofs.Remembering.{one_sort}
 use Rattle.relation_terms.proofs.Stays.{knows_as}
 use Rattle.relation_terms.proofs.Parts.{stays_part}
 use Rattle.relation_contexts.specs.Stores.{Store, resolved}
@@ -33,18 +32,6 @@ keyed (Some k) r q e =
     let h : record { sort = r; key = k } ≡ q = cc in
     (ap (λ x. Some x.key) h, ap (λ x. x.sort) h)
 keyed None r q e = absurd (cc)
-
--- Parts of one rank that have keys are of one sort.
-one_sort : {Key Id : Type 0} (p q : Part Key Id) (x y : Key) → part_key p ≡ Some x → part_key q ≡ Some y →
-    part_rank p ≡ part_rank q → part_sort p ≡ part_sort q
-one_sort (Region r) (Region s) x y a b e = refl
-one_sort (Ty t) (Ty u) x y a b e = refl
-one_sort (Const c) (Const d) x y a b e = refl
-one_sort (ValTree v) (ValTree w) x y a b e = refl
-one_sort (Pat o) (Pat p) x y a b e = refl
-one_sort (ValueType t) (ValueType u) x y a b e = refl
-one_sort (Object o) (Object p) x y a b e = refl
-one_sort p q x y a b e = absurd (cc)
 
 -- Known parts of equal keys are one tree, of one sort.
 module _ {Key Id Name : Type 0} (m : Meaning Key Id Name) (eq : Key → Key → Bool)

@@ -1,15 +1,17 @@
 -- What a relation of terms without variables records, and how it stands.
-use Rattle.std.specs.Prelude.{true, false, List, [], map}
+use Rattle.std.specs.Prelude.{true, false, List, [], map, All}
 use Rattle.term_enums.specs.declared.Variance.{Variance}
 use Rattle.relation_terms.specs.declared.predicate.regions.RegionConstraint.{RegionConstraint}
+use Rattle.relation_terms.specs.declared.terms.keys.TyKey.{TyKey}
 use Rattle.relation_terms.specs.Heads.{environment, Leaf, variable, bound}
 use Rattle.relation_terms.specs.Trees.{leaf, node, nil, Assign}
 use Rattle.relation_terms.specs.Meaning.{Meaning}
-use Rattle.relation_contexts.specs.Stores.{Store, IsSound}
+use Rattle.relation_contexts.specs.Relation.{Interpretation, Rel, at}
+use Rattle.relation_contexts.specs.Stores.{Store, IsSound, ConstraintHolds}
 use Rattle.relation_contexts.specs.Constraints.{constraint_of}
 use Rattle.relation_contexts.specs.declared.infer_ctxt.TypingMode.TheVariants.{PostAnalysis}
 use Rattle.relation_contexts.specs.declared.relate.StructurallyRelateAliases.TheVariants.{Yes}
-use Rattle.relation_contexts.specs.Lawful.{State, Kept, Manners}
+use Rattle.relation_contexts.specs.Lawful.{State, Kept, Manners, Asked, items_of}
 use Rattle.relation_contexts.specs.Settings.{Settings}
 
 -- Aliases are related by their items and arguments, arguments of items at declared variances at invariance too, and no
@@ -76,3 +78,14 @@ plain_manner k = record {
 -- Each variable stands for itself.
 abbrev pub as_is : Assign
 as_is k n = leaf (variable k n)
+
+module _ {I Key Id Name : Type 0} (meaning : I → Meaning Key Id Name) (cx : I) (v : Variance) (a b : TyKey Key) where
+  -- Two types of an interner are such as a relation at a variance takes that has recorded nothing.
+  abbrev pub AskedPlainly : Type 0
+  AskedPlainly = Asked plain_manner (plain_state (meaning cx) v []) v ((meaning cx).ty a) ((meaning cx).ty b)
+
+  -- They are related at it wherever these constraints hold, by what keys mean to the interner as it is then.
+  abbrev pub RelatedUnder : I → List (RegionConstraint Key) → Type 0
+  RelatedUnder after cs = (w : Interpretation) →
+      All (ConstraintHolds w as_is) (map (constraint_of (meaning after)) cs) →
+      Rel (items_of (meaning cx)) w (node environment nil) (at v) ((meaning cx).ty a) ((meaning cx).ty b)

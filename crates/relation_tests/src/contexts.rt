@@ -6,6 +6,7 @@ ghost use Rattle.relation_terms.specs.Trees.{leaf, node, cons, nil};
 ghost use Rattle.relation_terms.specs.Meaning.{region_tree};
 ghost use Rattle.relation_contexts.specs.Contexts.{KnowsTy};
 ghost use Rattle.relation_contexts.specs.ContextCalls.{IsUnresolved, Grows};
+ghost use Rattle.relation_reference.specs.Tables.{IsLawful};
 
 use reference_interner::RefInterner;
 use relation_contexts::infer_ctxt::{InferCtxtLike, TypingMode};
@@ -159,10 +160,41 @@ fn make_slice<C: InferCtxtLike>(
     ctx.cx_mut().mk_ty(TyKind::Slice(*element))
 }
 
+// Whether the first integer variable is its own root.
+fn first_int_is_root<I: Interner>(ctx: &RefCtxt<I>) -> bool
+    requires { IsLawful (I.meaning ctx.now.interner) ctx.now.inner }
+{
+    if ctx.inner.ints.is_empty() {
+        return false;
+    }
+    ctx.root_int_var(IntVid(0)) == IntVid(0)
+}
+
+// The same of the first float variable.
+fn first_float_is_root<I: Interner>(ctx: &RefCtxt<I>) -> bool
+    requires { IsLawful (I.meaning ctx.now.interner) ctx.now.inner }
+{
+    if ctx.inner.floats.is_empty() {
+        return false;
+    }
+    ctx.root_float_var(FloatVid(0)) == FloatVid(0)
+}
+
+// Whether the first type variable is bound to a type, and the second to none.
+fn first_alone_is_bound<I: Interner>(ctx: &RefCtxt<I>) -> bool
+    requires { IsLawful (I.meaning ctx.now.interner) ctx.now.inner }
+{
+    if ctx.inner.types.len() < 2 {
+        return false;
+    }
+    ctx.binding(TyVid(0)).is_some() && ctx.binding(TyVid(1)).is_none()
+}
+
 // Binds the first of two new type variables to the slice of the other, in which a further one takes its place.
 fn binds_slice<C: InferCtxtLike>(ctx: &mut C) -> RelateResult<C::Interner, ()>
     requires lawful { (C.state ctx.old).lawful }
     requires none { ((C.state ctx.old).store).entries type_var ≡ [] }
+    ensures { (C.state ctx.new).lawful }
 {
     let _ = ctx.next_ty_infer()?;
     let element = ctx.next_ty_infer()?;
@@ -172,24 +204,25 @@ fn binds_slice<C: InferCtxtLike>(ctx: &mut C) -> RelateResult<C::Interner, ()>
     Ok(())
 }
 
-// Whether a new integer variable is read as itself, and a float variable is.
+// Whether a new integer variable is read as itself and its own root, and a float variable is.
 fn has_number_variables<I: Interner + Drop>(cx: I) -> Result<bool, OutOfMemory> {
     let mut ctx = RefCtxt::new(cx, TypingMode::Coherence, true, 0)?;
     let int = ctx.next_int_var()?;
-    let same = reads_int(&ctx) == int;
+    let same = reads_int(&ctx) == int && first_int_is_root(&ctx);
     let mut ctx = RefCtxt::new(ctx.interner, TypingMode::Coherence, true, 0)?;
     let float = ctx.next_float_var()?;
-    Ok(same && reads_float(&ctx) == float)
+    Ok(same && reads_float(&ctx) == float && first_float_is_root(&ctx))
 }
 
 // Whether the variable that takes the place of the second type variable is marked as related to it, and to no other, for
-// one of the budget.
+// one of the budget; and the first one alone is bound.
 fn marks_the_new_one<I: Interner + Drop>(cx: I) -> RelateResult<I, bool> {
     let mut ctx = RefCtxt::new(cx, TypingMode::Coherence, true, 0)?;
     ctx.set_budget(2);
     binds_slice(&mut ctx)?;
     Ok(
-        ctx.budget_left() == 1
+        first_alone_is_bound(&ctx)
+            && ctx.budget_left() == 1
             && ctx.inner.types.len() == 3
             && ctx.inner.sub_roots.get(0).copied() == Some(0)
             && ctx.inner.sub_roots.get(2).copied() == Some(1),

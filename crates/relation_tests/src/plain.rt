@@ -1,15 +1,11 @@
 //! A relation of terms without variables: it takes types and constants apart, and records what regions are asked for.
 //!
 //! It has no inference context, and so shows that what is asked of a relation can be met without one.
-ghost use Rattle.std.specs.Prelude.{◌≡◌, ◌≢◌, [], All, IfOk, map};
+ghost use Rattle.std.specs.Prelude.{◌≡◌, ◌≢◌, [], IfOk};
 ghost use Rattle.term_enums.specs.declared.Variance.TheVariants.{Bivariant};
-ghost use Rattle.relation_terms.specs.Heads.{environment};
-ghost use Rattle.relation_terms.specs.Trees.{node, nil};
-ghost use Rattle.relation_contexts.specs.Relation.{Interpretation, Rel, at};
-ghost use Rattle.relation_contexts.specs.Stores.{ConstraintHolds, IsSound};
-ghost use Rattle.relation_contexts.specs.Lawful.{Asked, items_of};
-ghost use Rattle.relation_contexts.specs.Constraints.{constraint_at, constraint_of};
-ghost use Rattle.relation_tests.specs.Plain.{as_is, plain_store, plain_state, plain_manner};
+ghost use Rattle.relation_contexts.specs.Stores.{IsSound};
+ghost use Rattle.relation_contexts.specs.Constraints.{constraint_at};
+ghost use Rattle.relation_tests.specs.Plain.{plain_store, plain_state, plain_manner, AskedPlainly, RelatedUnder};
 
 use relation_contexts::infer_ctxt::BinderOf;
 use relation_folds::error::RelateResult;
@@ -55,12 +51,9 @@ pub fn constraints_of<I: Interner + Drop>(
     b: &Ty<I>,
 ) -> RelateResult<I, PlainRelation<I>>
     requires decides { ambient ≢ Bivariant }
-    requires asked { Asked plain_manner (plain_state (I.meaning interner) ambient []) ambient
-        ((I.meaning interner).ty a.now) ((I.meaning interner).ty b.now) }
-    ensures { IfOk result (λ r. (w : Interpretation) →
-        All (ConstraintHolds w as_is) (map (constraint_of (I.meaning r.interner)) r.constraints.items) →
-        Rel (items_of (I.meaning interner)) w (node environment nil) (at ambient)
-        ((I.meaning interner).ty a.now) ((I.meaning interner).ty b.now)) }
+    requires asked { AskedPlainly I.meaning interner ambient a.now b.now }
+    ensures { IfOk result (λ r.
+        RelatedUnder I.meaning interner ambient a.now b.now r.interner r.constraints.items) }
 {
     let mut r = PlainRelation::new(interner, ambient);
     tys(&mut r, a, b)?;

@@ -220,8 +220,7 @@ pub(super) fn make_lists<I: Interner>(
 ) -> Result<Lists<I::Key>, OutOfMemory>
     ensures left { IfOk result (λ t. IsConcrete ((I.meaning cx.new).args t.left)) }
     ensures right { IfOk result (λ t. IsConcrete ((I.meaning cx.new).args t.right)) }
-    ensures as_many { IfOk result (λ t. count ((I.meaning cx.new).args t.left) ≡
-        count ((I.meaning cx.new).args t.right)) }
+    ensures as_many { let m = I.meaning cx.new in IfOk result (λ t. count (m.args t.left) ≡ count (m.args t.right)) }
 {
     let two = make_two(cx, name)?;
     let left = make_args(cx, &two.left)?;

@@ -28,7 +28,7 @@ each_map : {A : Type 0} (P Q : A → Type 0) → ((x : A) → P x → Q x) → (
 each_map P Q f [] e = tt
 each_map P Q f (x ∷ xs) e = (f x e.0, each_map P Q f xs e.1)
 
-each_both : {A : Type 0} (P : A → Type 0) (xs ys : List A) → EachIs P xs → EachIs P ys → EachIs P (xs ++ ys)
+pub each_both : {A : Type 0} (P : A → Type 0) (xs ys : List A) → EachIs P xs → EachIs P ys → EachIs P (xs ++ ys)
 each_both P [] ys e o = o
 each_both P (x ∷ xs) ys e o = (e.0, each_both P xs ys e.1 o)
 

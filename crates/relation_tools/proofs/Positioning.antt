@@ -223,7 +223,7 @@ or_swap true false = refl
 or_swap false true = refl
 or_swap false false = refl
 
-bool_iff : (a b : Bool) → (IsTrue a → IsTrue b) → (IsTrue b → IsTrue a) → a ≡ b
+pub bool_iff : (a b : Bool) → (IsTrue a → IsTrue b) → (IsTrue b → IsTrue a) → a ≡ b
 bool_iff true b f k = sym (f refl)
 bool_iff false true f k = k refl
 bool_iff false false f k = refl

@@ -1,5 +1,5 @@
 -- Keys of terms, and the trees that they mean.
-use Rattle.std.proofs.Common.{◌≡◌, ◌≢◌, cond, IsSome, ℕ, zero, ◌+◌, ◌<◌, ◌&&◌, Bool, true, IsTrue, IfSome, List, [], ◌∷◌, ◌++◌, Option, Some, None, unwrap_or, ◌⊎◌, inl, inr, length, map, get_or, take, suc, refl, sym, ◌∙◌, ap, ap₂, subst, arith, length-append, slice_get}
+use Rattle.std.proofs.Common.{◌≡◌, ◌≢◌, cond, IsSome, ℕ, ◌+◌, ◌<◌, ◌&&◌, Bool, true, IsTrue, IfSome, List, [], ◌∷◌, ◌++◌, Option, Some, None, inl, inr, length, map, get_or, take, refl, sym, ◌∙◌, ap, ap₂, subst, arith, length-append, slice_get}
 use Rattle.std.proofs.lemmas.List.{get_or_append_left, take_more, length-take-le}
 use Rattle.std.proofs.lemmas.Option.{slice_get_within, slice_get-map}
 use Rattle.std.specs.Option.{option_map}
@@ -8,6 +8,7 @@ use Rattle.std.proofs.Math.Path.{fun_ext}
 use Rattle.relation_terms.specs.Trees.{Tree, leaf, node, nil, cons, known, list_tree, front, last}
 use Rattle.relation_terms.specs.Heads.{Leaf, unknown, Head, BoundKind, bound_kind, type_kind, region_kind, const_kind}
 use Rattle.term_enums.specs.declared.FnHeader.{FnHeader}
+use Rattle.text_reading.proofs.TreeLemmas.{get_more}
 use Rattle.relation_terms.proofs.Binders.{last_known}
 use Rattle.std.proofs.lemmas.Bool.{and_parts}
 use Rattle.relation_terms.specs.Meaning.{Meaning, Extends, arg_tree, term_tree as term_tree_of, object_predicate_tree, bound_kind_of, bound_kinds}
@@ -32,14 +33,6 @@ use Rattle.text_reading.specs.declared.naming.program.Term.{Term}
 use Rattle.text_terms.specs.Terms.{at, leaf_of, head_of, item_tree, term_tree, trees_from, trees_of}
 use Rattle.text_terms.specs.Terms.{with_variable, variable_of, variables_of, fn_ptr_tree}
 use Rattle.text_terms.specs.Built.{EachKnown, EachBuilt, AreBuilt, AreInnerBuilt, inner_tree, term_arg, Makes, MakesFrom, MakesOf, MakesTree, MakesInner}
-
--- what stands in a list with one more at its end
-get_more : {X : Type 0} (xs : List X) (x y : X) (k : ℕ) → slice_get (xs ++ x ∷ []) k ≡ Some y → (slice_get xs k ≡ Some y) ⊎ ((k ≡ length xs) × (x ≡ y))
-get_more [] x y zero h = inr (refl, ap (λ o. unwrap_or o x) h)
-get_more [] x y (suc k) h = absurd cc
-get_more (z ∷ zs) x y zero h = inl h
-get_more (z ∷ zs) x y (suc k) h =
-    elim (get_more zs x y k h) [ inl e ↦ inl e | inr p ↦ inr (ap suc p.0, p.1) ]
 
 pub both_true : (a b : Bool) → IsTrue a → IsTrue b → IsTrue (a && b)
 both_true a b h k = ap₂ (λ x y. x && y) h k

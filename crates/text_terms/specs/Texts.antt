@@ -1,5 +1,6 @@
 -- How the small enums are written.
-use Rattle.std.specs.Prelude.{ℕ, List, ◌++◌, codes, Option, Some, None}
+use Rattle.std.specs.Prelude.{ℕ, Bool, List, ◌++◌, codes, Option, Some, None}
+use Rattle.std.specs.HashMap.{get}
 use Rattle.term_enums.specs.declared.IntTy.{IntTy}
 use Rattle.term_enums.specs.declared.IntTy.TheVariants as int
 use Rattle.term_enums.specs.declared.UintTy.{UintTy}
@@ -16,13 +17,19 @@ use Rattle.term_enums.specs.declared.ExternAbi.{ExternAbi}
 use Rattle.term_enums.specs.declared.ExternAbi.TheVariants as abi
 use Rattle.text_reading.specs.declared.reading.signs.Sign.TheVariants as sign
 use Rattle.text_reading.specs.Signs.{spelling, pointer_sign}
+use Rattle.relation_terms.specs.declared.terms.ids.DefId.{DefId}
 use Rattle.text_terms.specs.declared.printing.names.ItemText.{ItemText}
+use Rattle.text_terms.specs.declared.printing.names.Texts.{Texts}
 use Rattle.text_terms.specs.declared.printing.names.TraitText.{TraitText}
 
 -- the text of an item, of which that is handed in
 abbrev pub item_text : Option ItemText → List ℕ
 item_text None = codes "_"
 item_text (Some t) = t.text.now
+
+-- the text of an item, by the texts that are handed in
+abbrev pub text_at : {D N : Type 0} → (D → D → Bool) → Texts D N → DefId D → List ℕ
+text_at eq texts item = item_text (get eq texts.items item.0)
 
 -- the trait that an item is an associated one of, of which that is handed in
 abbrev pub trait_text : Option ItemText → Option TraitText

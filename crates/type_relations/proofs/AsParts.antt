@@ -1,7 +1,7 @@
 -- The parts that are related of types and constants, among those of terms of any sort: they are generic arguments.
 use Rattle.std.proofs.Common.{◌≡◌, ℕ, zero, suc, ◌<◌, refl, sym, subst, subst₂, arith, IsTrue, Option, Some, None}
 use Rattle.std.proofs.Common.{List, [], ◌∷◌, map}
-use Rattle.relation_terms.specs.Heads.{Sort, region_sort, type_sort, const_sort, value_sort, argument_sort, Admits, head_sort}
+use Rattle.relation_terms.specs.Heads.{Sort, type_sort, const_sort, value_sort, argument_sort, Admits, head_sort}
 use Rattle.relation_terms.specs.Heads.{Part, term_of, binder_of, Shape, one, row, head_parts}
 use Rattle.relation_terms.specs.Heads.{Head, adt, fn_def, closure, coroutine_closure, coroutine, coroutine_witness}
 use Rattle.relation_terms.specs.Heads.{alias, array, slice, pattern_type, tuple, raw_ptr, ref, unevaluated}
@@ -21,26 +21,13 @@ use Rattle.relation_terms.specs.declared.terms.const_kind.ConstKind.TheVariants.
 use Rattle.relation_terms.specs.declared.terms.const_kind.ConstKind.TheVariants.{Value}
 use Rattle.relation_terms.specs.declared.terms.const_kind.InferConst.TheVariants.{Var, Fresh}
 use Rattle.relation_terms.specs.Interning.{Sorted}
-use Rattle.relation_terms.proofs.Sorted.{widen}
+use Rattle.relation_terms.proofs.Sorted.{widen, region_admitted, type_admitted, const_admitted}
 use Rattle.relation_terms.proofs.Members.{fit_args, mapped, region_term, type_term, const_term}
 use Rattle.relation_terms.proofs.Parts.{sort_known, arg_part}
 use Rattle.relation_contexts.specs.Parts.{parts_of, branches_of, const_parts_of, IsByParts}
 use Rattle.relation_contexts.specs.Making.{arg_sort, Fit, over, const_over}
 use Rattle.type_relations.proofs.Comparing.{value_shape}
 use Rattle.type_relations.proofs.Making.{value_of}
-
--- A region, a type or a constant is an argument.
-region_admitted : (x : Sort) → Admits region_sort x → Admits argument_sort x
-region_admitted region_sort h = tt
-region_admitted x h = absurd h
-
-type_admitted : (x : Sort) → Admits type_sort x → Admits argument_sort x
-type_admitted type_sort h = tt
-type_admitted x h = absurd h
-
-const_admitted : (x : Sort) → Admits const_sort x → Admits argument_sort x
-const_admitted const_sort h = tt
-const_admitted x h = absurd h
 
 -- Parts that are arguments, as a form asks for them.
 abbrev IsArgument : Part → Type 0

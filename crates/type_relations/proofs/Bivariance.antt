@@ -1,7 +1,9 @@
 -- Bivariant arguments that are left open.
 use Rattle.std.proofs.Common.{◌≡◌, ◌⊎◌, ◌↔◌, ℕ, suc, ◌<◌, refl, sym, ap, ap₂, ◌∙◌, arith, inl, inr, subst, subst₂, Bool, false, List, IsTrue, Result, Ok, Err}
 use Rattle.std.proofs.lemmas.Bool.{false≢true}
+use Rattle.relation_terms.specs.declared.terms.ids.DefId.{DefId}
 use Rattle.relation_terms.specs.declared.terms.keys.ArgsKey.{ArgsKey}
+use Rattle.relation_terms.specs.declared.terms.keys.TyKey.{TyKey}
 use Rattle.relation_terms.specs.Meaning.{Meaning, Extends}
 use Rattle.term_enums.specs.declared.Variance.TheVariants.{Bivariant}
 use Rattle.relation_terms.specs.Flags.{has_non_region_infer}
@@ -9,12 +11,13 @@ use Rattle.relation_terms.specs.Heads.{region_sort, type_var, int_var, float_var
 use Rattle.relation_terms.specs.Trees.{Tree, leaf, node, bind, nil, cons, known, IsTerm, count}
 use Rattle.relation_contexts.specs.Relation.{Items}
 use Rattle.type_relations.specs.Arguments.{AreOverItem, adts, functions}
-use Rattle.type_relations.specs.Bivariance.{is_left_open, IsOpenAt, HasOpenArgument, TellsOpen, TellsEitherOpen, RegistersWellFormed}
-use Rattle.relation_contexts.specs.Lawful.{declared_by, items_of}
+use Rattle.type_relations.specs.Bivariance.{is_left_open, IsOpenAt, HasOpenArgument, TellsOpen, TellsEitherOpen, RegistersWellFormed, AsksWellFormed, AsksOfOver}
+use Rattle.type_relations.specs.Keyed.{AreOver}
+use Rattle.relation_contexts.specs.Lawful.{State, declared_by, items_of, items_in}
 use Rattle.relation_contexts.specs.Goals.{Goal, HasBivariantPart}
 use Rattle.relation_contexts.specs.Stores.{Store, entry_term, IsSound, IsTermIn}
 use Rattle.relation_contexts.proofs.Composing.{below_or}
-use Rattle.relation_contexts.proofs.Lists.{no_region_head}
+use Rattle.relation_terms.proofs.Members.{no_region}
 use Rattle.relation_contexts.proofs.Parts.{in_parts}
 use Rattle.relation_contexts.proofs.Resolved.{resolved_free}
 
@@ -33,7 +36,7 @@ region_closed st g (leaf l) h = at_leaf l h
     at_leaf (placeholder k u n) h = refl
     at_leaf (atom x) h = refl
     at_leaf unknown h = refl
-region_closed st g (node f ts) h = absurd (no_region_head f h.0)
+region_closed st g (node f ts) h = absurd (no_region f h.0)
 region_closed st g (bind ks t) h = absurd h
 region_closed st g nil h = absurd h
 region_closed st g (cons t u) h = absurd h
@@ -109,3 +112,25 @@ tells_still {m = m} {n = n} e d xs k was now same result h =
     subst (λ st. TellsOpen (items_of m) st (m.id d) (m.args xs) result) same
     (subst₂ (λ i ts. TellsOpen (items_of m) now i ts result) (e.id d) (e.args xs k)
     (subst (λ c. TellsOpen c now (n.id d) (n.args xs) result) (items_stay e) h))
+
+-- Two types are over one item, and over one list each.
+over_once : (d e : ℕ) (a b ts us xs ys : Tree) → AreOverItem d a b ts us → AreOverItem e a b xs ys →
+    (d ≡ e) × (ts ≡ xs) × (us ≡ ys)
+over_once d e a b ts us xs ys (adts p q) (adts x y) = ((cc), (cc), (cc))
+over_once d e a b ts us xs ys (adts p q) (functions x y) = cc
+over_once d e a b ts us xs ys (functions p q) (adts x y) = cc
+over_once d e a b ts us xs ys (functions p q) (functions x y) = ((cc), (cc), (cc))
+
+-- What is registered of two types over an item and lists is registered of them over whichever.
+pub asks_of_over : {Key Id Name S A F : Type 0} (state : S → State Key Id Name) (before after : S) (d : DefId Id)
+    (a b : TyKey Key) (ts us : ArgsKey Key) (result : Result A F) → AreOver (state before) d a b ts us →
+    AsksWellFormed state before after d a b ts us result → AsksOfOver (state before) (state after) a b result
+asks_of_over state before after d a b ts us (Err f) over asks = tt
+asks_of_over state before after d a b ts us (Ok x) over asks = λ e xs ys h. (
+    let r = state before in
+    let m = r.meaning in
+    let one = over_once (m.id d.0) e (m.ty a) (m.ty b) (m.args ts) (m.args us) xs ys over h in
+    subst (λ i. RegistersWellFormed (items_in r) r.store r.kept.environment i (m.ty a) (m.ty b) xs ys r.goals
+    (state after).goals) one.0
+    (subst₂ (λ t u. RegistersWellFormed (items_in r) r.store r.kept.environment (m.id d.0) (m.ty a) (m.ty b) t u r.goals
+    (state after).goals) one.1 one.2 asks))

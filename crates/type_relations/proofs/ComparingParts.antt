@@ -34,7 +34,7 @@ use Rattle.relation_contexts.specs.Errors.{unlike_abi, AreAlikeExistentials, Are
 use Rattle.relation_contexts.specs.Errors.{ObjectError, unlike_numbers, unlike_members, PartError}
 use Rattle.relation_contexts.specs.Errors.{ExistentialError, unlike_traits, unlike_auto_traits, unlike_projections}
 use Rattle.relation_contexts.specs.Parts.{IsComparedPart, parts_of}
-use Rattle.relation_contexts.proofs.Lists.{list_nth, list_count, part_known}
+use Rattle.relation_terms.proofs.Members.{list_count, list_nth, item_known}
 use Rattle.type_relations.proofs.PartErrors.{members_as, counts_alike, counts_differ}
 
 -- Two truth values by a test of them.
@@ -122,8 +122,8 @@ module _ {Key Id Name : Type 0} (m : Meaning Key Id Name) where
       let f = object_predicate_tree m in
       let left : f x ≡ nth i ts = ap f ix ∙ sym (list_nth f xs i x lx) ∙ ap (nth i) (sym p) in
       let right : f y ≡ nth i us = ap f iy ∙ sym (list_nth f ys i y ly) ∙ ap (nth i) (sym q) in
-      let sure = part_known f xs i x lx (subst (λ t. IsTrue (known t)) p k) in
-      let other = part_known f ys i y ly (subst (λ t. IsTrue (known t)) q l) in
+      let sure = item_known f xs i x lx (subst (λ t. IsTrue (known t)) p k) in
+      let other = item_known f ys i y ly (subst (λ t. IsTrue (known t)) q l) in
       members_as (m.bound_vars x.bound_vars) (m.bound_vars y.bound_vars) (existential_tree m x.value)
       (existential_tree m y.value) (nth i ts) (nth i us) left right
       (subst (λ t. IsTrue (known t)) (sym (ap f ix) ∙ left) sure)

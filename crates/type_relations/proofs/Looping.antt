@@ -1,8 +1,8 @@
 -- The next parts of two forms: what is asked of them, and that they are smaller.
-use Rattle.std.proofs.Common.{◌≡◌, ℕ, zero, suc, ◌+◌, ◌*◌, ◌<◌, refl, sym, ap, ◌∙◌, subst, subst₂, arith, IsTrue, List, Option, Result, Ok, Err}
+use Rattle.std.proofs.Common.{◌≡◌, ℕ, suc, ◌+◌, ◌*◌, ◌<◌, refl, sym, ap, ◌∙◌, subst, subst₂, arith, IsTrue, List, Option, Result, Ok, Err}
 use Rattle.term_enums.specs.declared.Variance.{Variance}
 use Rattle.relation_terms.specs.Heads.{Head, Leaf, unevaluated, expression, value, value_branch}
-use Rattle.relation_terms.specs.Trees.{Tree, leaf, node, bind, nil, cons, Leaves, known, count, nth}
+use Rattle.relation_terms.specs.Trees.{Tree, node, nil, cons, Leaves, known, count, nth}
 use Rattle.relation_terms.specs.declared.terms.keys.ConstKey.{ConstKey}
 use Rattle.relation_terms.specs.declared.terms.generic_arg.GenericArgKind.{GenericArgKind}
 use Rattle.relation_folds.specs.declared.error.RelateFault.{RelateFault}
@@ -20,20 +20,9 @@ use Rattle.relation_contexts.proofs.Parts.{in_part, in_const_part}
 use Rattle.relation_contexts.proofs.Covered.{covered_part, covered_const_part, by_parts_normal}
 use Rattle.type_relations.proofs.PartSizes.{weight_parts, weight_const_parts}
 use Rattle.relation_contexts.proofs.Passing.{manner_then}
+use Rattle.relation_contexts.proofs.OneUniverse.{leaves_nth}
+use Rattle.relation_contexts.proofs.Trees.{Leaves_map}
 use Rattle.type_relations.proofs.Fronts.{Fronted, part_small}
-
--- The members of a list have its leaves.
-leaves_nth : (P : Leaf → Type 0) (ts : Tree) (i : ℕ) → i < count ts → Leaves P ts → Leaves P (nth i ts)
-leaves_nth P (cons t ts) zero l h = h.0
-leaves_nth P (cons t ts) (suc i) l h = leaves_nth P ts i (omega (arith, l)) h.1
-leaves_nth P t i l h = absurd (omega (arith, l))
-
-leaves_map : (P Q : Leaf → Type 0) → ((l : Leaf) → P l → Q l) → (t : Tree) → Leaves P t → Leaves Q t
-leaves_map P Q f (leaf l) h = f l h
-leaves_map P Q f (node g ts) h = leaves_map P Q f ts h
-leaves_map P Q f (bind ks t) h = leaves_map P Q f t h
-leaves_map P Q f nil h = tt
-leaves_map P Q f (cons t ts) h = (leaves_map P Q f t h.0, leaves_map P Q f ts h.1)
 
 module _ (M : Manner) (is : (c : Items) (h : Head) (i : ℕ) (v : Variance) (l : Leaf) → M.takes v l →
     M.takes (part_at c h i v) l) (c : Items) (v : Variance) where
@@ -41,7 +30,7 @@ module _ (M : Manner) (is : (c : Items) (h : Head) (i : ℕ) (v : Variance) (l :
   takes_part : (h : Head) (ts : Tree) (i : ℕ) → i < count ts → Leaves (M.takes v) ts →
       Leaves (M.takes (part_at c h i v)) (nth i ts)
   takes_part h ts i l k =
-      leaves_map (M.takes v) (M.takes (part_at c h i v)) (λ x. is c h i v x) (nth i ts)
+      Leaves_map (M.takes v) (M.takes (part_at c h i v)) (λ x. is c h i v x) (nth i ts)
       (leaves_nth (M.takes v) ts i l k)
 
   parts_taken : (P : Leaf → Type 0) (t : Tree) → Leaves P t → Leaves P (parts_of t)

@@ -6,7 +6,7 @@ use Rattle.relation_contexts.specs.Stores.{Store, weight, resolved}
 use Rattle.relation_contexts.specs.Parts.{parts_of, const_parts_of, branches_of}
 use Rattle.relation_contexts.proofs.Parts.{parts_size, const_parts_size}
 
-one_size : (t : Tree) → 0 < size t
+pub one_size : (t : Tree) → 0 < size t
 one_size (leaf l) = omega (arith)
 one_size (node h ts) = omega (arith)
 one_size (bind ks t) = omega (arith)

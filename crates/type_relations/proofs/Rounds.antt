@@ -29,19 +29,13 @@ use Rattle.relation_contexts.specs.Parts.{IsBinderPart}
 use Rattle.type_relations.specs.Rounds.{OneRound, StepsToBodies, RoundSteps, one_round, first_round, second_round}
 use Rattle.type_relations.specs.Rounds.{RoundLeads, Opened}
 use Rattle.relation_contexts.proofs.Standing.{term_context}
-use Rattle.relation_contexts.proofs.Going.{grown-mono, le_grown, depth-strict, depth_later}
+use Rattle.relation_contexts.proofs.Going.{grown-mono, le_grown, depth-strict, depth_later, le_square, weight_cons}
 use Rattle.relation_contexts.proofs.Full.{first_order_plain, full_never}
 use Rattle.relation_contexts.proofs.Building.{built_led, built_then}
 use Rattle.relation_contexts.proofs.Answering.{may_itself, same_items, same_settings}
 use Rattle.relation_contexts.proofs.Composing.{steps_compose, values_still}
-use Rattle.relation_contexts.proofs.Opening.{two_rounds_relate}
+use Rattle.relation_contexts.proofs.Opening.{two_rounds_relate, binder_kinds, binder_bodies}
 use Rattle.relation_contexts.proofs.Passing.{passes_then, manner_then, stopped, asked_later, outcome_seen}
-
-binder_kinds : {ks ls : List BoundKind} {a b : Tree} → bind ks a ≡ bind ls b → ks ≡ ls
-binder_kinds e = cc
-
-binder_bodies : {ks ls : List BoundKind} {a b : Tree} → bind ks a ≡ bind ls b → a ≡ b
-binder_bodies e = cc
 
 -- Two binders.
 abbrev AreBinders : Tree → Tree → Type 0
@@ -101,14 +95,10 @@ square_next n = grind arith
 square_sum : (m d : ℕ) → (m + d) * (m + d) ≡ m * m + (m * d + m * d) + d * d
 square_sum m d = grind arith
 
-square : (n : ℕ) → n ≤ n * n
-square zero = omega arith
-square (suc n) = let e = square_next n in omega (arith, e)
-
 square_apart : (m d : ℕ) → m * m + d ≤ (m + d) * (m + d)
 square_apart m d =
     let e = square_sum m d in
-    let s = square d in
+    let s = le_square d in
     omega (arith, e, s)
 
 grown_apart : (j m d : ℕ) → grown j m + d ≤ grown j (m + d)
@@ -126,10 +116,6 @@ grown_next j n l =
     let up : grown j (n * n + 3) ≤ grown j (suc n * suc n) =
     grown-mono j (n * n + 3) (suc n * suc n) (omega (arith, e, l)) in
     omega (arith, i, up)
-
-weight_cons : (st : Store) (t u : Tree) → weight st (cons t u) ≡ weight st t + weight st u + 1
-unfolding weight
-weight_cons st t u = omega arith
 
 weight_bind : (st : Store) (ks : List BoundKind) (t : Tree) → weight st (bind ks t) ≡ weight st t + 2
 unfolding weight

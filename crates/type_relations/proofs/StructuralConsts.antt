@@ -40,7 +40,8 @@ use Rattle.relation_contexts.proofs.Agreeing.{agree_same, agree_flexible}
 use Rattle.relation_contexts.specs.Agreeing.{IsFlexible}
 use Rattle.relation_contexts.proofs.AgreeingForms.{const_agrees}
 use Rattle.relation_contexts.proofs.Full.{full_itself, const_parts_plain}
-use Rattle.type_relations.proofs.Unifying.{first_order_const_parts, first_order_no_error, const_looked_at, consts_unify, answered_as, refused_as, exact_itself}
+use Rattle.type_relations.proofs.Unifying.{first_order_const_parts, first_order_no_error, const_looked_at, consts_unify, answered_as, refused_as}
+use Rattle.relation_contexts.proofs.Roots.{exact_itself}
 use Rattle.type_relations.proofs.Unifying.{forms_not_unified, const_forms_not_unified, erased_sort}
 use Rattle.type_relations.proofs.Structural.{same_const_fault, consts_never}
 use Rattle.relation_contexts.proofs.OneParts.{const_parts_equal, sort_is}

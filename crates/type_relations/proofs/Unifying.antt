@@ -24,7 +24,6 @@ use Rattle.relation_contexts.specs.Outcomes.{Exact, NoUnifier}
 use Rattle.relation_contexts.specs.Parts.{IsFormed, IsFormedConst, parts_of, const_parts_of, head_of, const_head_of, branches_of}
 use Rattle.relation_contexts.proofs.Erased.{forms_unify_by_parts}
 use Rattle.type_relations.proofs.Fronts.{IsLookedAt}
-use Rattle.relation_contexts.proofs.Going.{later_itself}
 use Rattle.relation_folds.specs.declared.error.RelateFault.{RelateFault}
 use Rattle.relation_folds.specs.declared.error.RelateFault.TheVariants.{Memory, Budget, Unrelated}
 use Rattle.relation_contexts.specs.Lawful.{ExactResult}
@@ -89,13 +88,13 @@ plain_leaf (atom x) = atom (plain_atom x)
 plain_leaf l = l
 
 -- What is no region is erased to what relating compares of it.
-erased_plain : (x : Atom) → (atom_sort x ≡ region_sort → ⊥) → erase_atom x ≡ plain_atom x
+pub erased_plain : (x : Atom) → (atom_sort x ≡ region_sort → ⊥) → erase_atom x ≡ plain_atom x
 erased_plain (early_region i n) o = absurd (o refl)
 erased_plain (type_param i n) o = refl
 erased_plain (const_param i n) o = refl
 erased_plain x o = refl
 
-kind_kept : (k : Kind) (l : Leaf) → (kind_sort k ≡ region_sort → ⊥) → erase_kinded k l ≡ l
+pub kind_kept : (k : Kind) (l : Leaf) → (kind_sort k ≡ region_sort → ⊥) → erase_kinded k l ≡ l
 kind_kept region_kind l o = absurd (o refl)
 kind_kept k l o = refl
 
@@ -251,11 +250,11 @@ alike_consts_unified s (node value ts) (node h us) f g p q e = absurd g
 alike_consts_unified s (node h ts) b f g p q e = absurd f
 
 -- Erasure keeps sorts.
-kind_erased : (k : Kind) (l : Leaf) → leaf_sort l ≡ kind_sort k → leaf_sort (erase_kinded k l) ≡ kind_sort k
+pub kind_erased : (k : Kind) (l : Leaf) → leaf_sort l ≡ kind_sort k → leaf_sort (erase_kinded k l) ≡ kind_sort k
 kind_erased region_kind l e = refl
 kind_erased k l e = e
 
-atom_erased : (x : Atom) → atom_sort (erase_atom x) ≡ atom_sort x
+pub atom_erased : (x : Atom) → atom_sort (erase_atom x) ≡ atom_sort x
 atom_erased (early_region i n) = refl
 atom_erased (type_param i n) = refl
 atom_erased (const_param i n) = refl
@@ -398,10 +397,3 @@ module _ (before after : Store) (a b xs ys : Tree) (same : (s : Assign) → Unif
   pub refused_as : {Key Id Name : Type 0} (A B : Type 0) (e : RelateFault Key Id Name) →
       ExactResult {X = A} before after xs ys (Err e) → ExactResult {X = B} before after a b (Err e)
   refused_as A B e z = refused_by before after a b xs ys (λ s. (same s).0) left right A B e z
-
-pub exact_itself : (st : Store) (a b : Tree) → a ≡ b → Exact st st a b
-exact_itself st a b e = record {
-  later = later_itself st;
-  shrinks = λ s sol. (sol, ap (λ z. erase (apply s z)) e);
-  keeps = λ s sol one. (s, (λ k n m. refl), sol);
-}

@@ -7,6 +7,7 @@ use Rattle.relation_terms.specs.declared.terms.ids.DefId.{DefId}
 use Rattle.relation_terms.specs.declared.terms.keys.TyKey.{TyKey}
 use Rattle.relation_terms.specs.declared.terms.keys.ArgsKey.{ArgsKey}
 use Rattle.relation_contexts.specs.Lawful.{State, items_in}
+use Rattle.type_relations.specs.Arguments.{AreOverItem}
 use Rattle.relation_contexts.specs.Relation.{Items}
 use Rattle.relation_contexts.specs.Stores.{Store, resolved}
 use Rattle.relation_contexts.specs.Goals.{Goal, goal_of, well_formed_predicate}
@@ -46,3 +47,10 @@ abbrev pub AsksWellFormed : {Key Id Name S A F : Type 0} → (S → State Key Id
 AsksWellFormed state before after d a b xs ys result = let r = state before in let m = r.meaning in IfOk result
     (λ _. RegistersWellFormed (items_in r) r.store r.kept.environment (m.id d.0) (m.ty a) (m.ty b) (m.args xs) (m.args ys)
     r.goals (state after).goals)
+
+-- Of two types over an item, whichever it is and whatever the lists, just that was registered, unless a fault was told.
+abbrev pub AsksOfOver : {Key Id Name A F : Type 0} → State Key Id Name → State Key Id Name → TyKey Key → TyKey Key →
+    Result A F → Type 0
+AsksOfOver r q a b result = let m = r.meaning in IfOk result (λ _. (d : ℕ) (ts us : Tree) →
+    AreOverItem d (m.ty a) (m.ty b) ts us →
+    RegistersWellFormed (items_in r) r.store r.kept.environment d (m.ty a) (m.ty b) ts us r.goals q.goals)

@@ -11,6 +11,7 @@ use Rattle.relation_terms.specs.Trees.{Tree, known}
 use Rattle.relation_contexts.specs.Contexts.{Context}
 use Rattle.relation_contexts.specs.Constraints.{constraint_at, constraint_of}
 use Rattle.relation_contexts.specs.AliasGoals.{alias_at}
+use Rattle.relation_contexts.specs.Kits.{StaysBuilt}
 use Rattle.relation_contexts.specs.Goals.{Goal, goal_of, subtype_predicate, well_formed_predicate}
 use Rattle.relation_contexts.specs.Goals.{alias_relate_predicate, ambiguous_predicate}
 use Rattle.relation_contexts.specs.Lawful.{State}
@@ -85,6 +86,10 @@ module _ {Key Id Name : Type 0} (c d : Context Key Id Name) where
   -- What two regions that are related at a variance are asked for was recorded.
   abbrev pub AddsAsked : Variance → RegionKey Key → RegionKey Key → Type 0
   AddsAsked v a b = IfSome (constraint_at v a b) (λ q. AddsConstraint c.store d.store (constraint_of c.meaning q))
+
+  -- What is bound after is built as two regions are and what was bound before.
+  abbrev pub RegionsStayBuilt : RegionKey Key → RegionKey Key → Type 0
+  RegionsStayBuilt a b = StaysBuilt c.store d.store [] ((c.meaning).region a) ((c.meaning).region b)
 
   -- The predicate that a type is a subtype of another was made, or that a type is well formed; or none was.
   abbrev pub MakesSubtype : {E : Type 0} → Bool → TyKey Key → TyKey Key → Result (PredicateKey Key) E → Type 0

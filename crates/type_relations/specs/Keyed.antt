@@ -222,7 +222,8 @@ module _ {Key Id Name : Type 0} where
   MakesPartOver m n t parts result =
       Made m n (part_tree n) (over (part_tree m t) (list_tree (part_tree m) parts)) result
 
-  -- Where the relation promises it, of two regions just what their variance asks for was recorded.
-  abbrev pub RecordsAsked : Manners → State Key Id Name → State Key Id Name → RegionKey Key → RegionKey Key → Type 0
-  RecordsAsked M r q a b = (M r.kept.settings).records_asked →
-      (q.store).constraints ≡ (r.store).constraints ++ asked_constraints r.meaning (constraint_at r.ambient a b)
+  -- Where the relation promises it, of two regions just what their variance asks for was recorded; or a fault was told.
+  abbrev pub RecordsAsked : Manners → State Key Id Name → State Key Id Name → RegionKey Key → RegionKey Key →
+      Result (RegionKey Key) (RelateFault Key Id Name) → Type 0
+  RecordsAsked M r q a b result = IfOk result (λ _. (M r.kept.settings).records_asked →
+      (q.store).constraints ≡ (r.store).constraints ++ asked_constraints r.meaning (constraint_at r.ambient a b))

@@ -1,6 +1,8 @@
 -- What the solver's relation asks and promises: what relating two values does, at the state in which it stands.
 use Rattle.std.specs.Prelude.{◌≡◌, ℕ, Option, Result}
 use Rattle.relation_terms.specs.declared.terms.binder.Binder.{Binder}
+use Rattle.relation_terms.specs.declared.terms.ids.DefId.{DefId}
+use Rattle.relation_terms.specs.declared.terms.keys.ArgsKey.{ArgsKey}
 use Rattle.relation_terms.specs.declared.terms.keys.ConstKey.{ConstKey}
 use Rattle.relation_terms.specs.declared.terms.keys.RegionKey.{RegionKey}
 use Rattle.relation_terms.specs.declared.terms.keys.TyKey.{TyKey}
@@ -13,7 +15,8 @@ use Rattle.relation_contexts.specs.Contexts.{Context}
 use Rattle.relation_contexts.specs.Lawful.{State}
 use Rattle.type_relations.specs.declared.relate.solver_relating.relation.SolverRelating.{SolverRelating}
 use Rattle.type_relations.specs.Combining.{IsNoTyVar, ConstsCombine}
-use Rattle.type_relations.specs.Keyed.{RelatedRegions, SteppedConsts, SteppedTys, TysStepAlone}
+use Rattle.type_relations.specs.Keyed.{RelatedRegions, SteppedConsts, SteppedTys, TysStepAlone, AreOver, NotedTys}
+use Rattle.type_relations.specs.Bivariance.{AsksOfOver}
 use Rattle.type_relations.specs.Rounds.{OpenedBinders}
 use Rattle.type_relations.specs.Solving.{solving_in, solving_through, solver_manner}
 use Rattle.type_relations.specs.Stepping.{CombinesShallowTys, CombinesTyVars, StepsBinders, StepsRegions, StepsTys}
@@ -114,6 +117,23 @@ module _ {Infcx Interner Key Id Name Span : Type 0} (state : Infcx → Context K
         Result (Option (T × T)) (RelateFault Key Id Name) → Type 0
     SolverStepsBinders r q round a b result =
         StepsBinders (solver_through r) (solver_through q) tree round a b result
+
+  -- Two types are of one form over an item and these lists of arguments, where it stands.
+  abbrev pub SolverIsOver : SolverRelating Infcx Interner Key Id Name Span → DefId Id → TyKey Key → TyKey Key →
+      ArgsKey Key → ArgsKey Key → Type 0
+  SolverIsOver r d a b xs ys = AreOver (solver_through r) d a b xs ys
+
+  -- Something was noted of them.
+  abbrev pub SolverNotedTys : {X : Type 0} → SolverRelating Infcx Interner Key Id Name Span →
+      SolverRelating Infcx Interner Key Id Name Span → TyKey Key → TyKey Key →
+      Result X (RelateFault Key Id Name) → Type 0
+  SolverNotedTys r q a b result = NotedTys (solver_through r) (solver_through q) a b result
+
+  -- Just what is asked of bivariant arguments was registered.
+  abbrev pub SolverAsksWellFormed : {X : Type 0} → SolverRelating Infcx Interner Key Id Name Span →
+      SolverRelating Infcx Interner Key Id Name Span → TyKey Key → TyKey Key →
+      Result X (RelateFault Key Id Name) → Type 0
+  SolverAsksWellFormed r q a b result = AsksOfOver (solver_through r) (solver_through q) a b result
 
   -- No goal was registered.
   abbrev pub KeepsGoals : SolverRelating Infcx Interner Key Id Name Span →

@@ -1,13 +1,19 @@
 -- What relating two values asks and promises at the ambient variance, by what is related of them: of a value that is
 -- `over` no form its tree, of another that form over its tree.
-use Rattle.std.specs.Prelude.{Option, Result}
+use Rattle.std.specs.Prelude.{Option, Result, IsTrue}
 use Rattle.relation_terms.specs.Heads.{Head}
-use Rattle.relation_terms.specs.Trees.{Tree}
-use Rattle.relation_terms.specs.Meaning.{Meaning}
+use Rattle.relation_terms.specs.Trees.{Tree, known}
+use Rattle.relation_terms.specs.Meaning.{Meaning, Extends}
 use Rattle.relation_folds.specs.declared.error.RelateFault.{RelateFault}
 use Rattle.relation_contexts.specs.Lawful.{State, Manners, Asked, Related}
 use Rattle.type_relations.specs.Arguments.{related_tree}
 use Rattle.type_relations.specs.Alone.{RelatesAlone}
+
+-- What is asked of two known values holds on while meanings are added to.
+abbrev pub HoldsOn : {Key Id Name A : Type 0} → (Meaning Key Id Name → A → Tree) → (Meaning Key Id Name → A → A → Type 0) →
+    Type 0
+HoldsOn {Key} {Id} {Name} {A} tree fits = (m n : Meaning Key Id Name) → Extends m n → (x y : A) →
+    IsTrue (known (tree m x)) → IsTrue (known (tree m y)) → fits m x y → fits n x y
 
 module _ {Key Id Name A : Type 0} (M : Manners) (over : Option Head) (tree : Meaning Key Id Name → A → Tree) where
   -- Two that the relation takes.

@@ -1,9 +1,9 @@
 //! The clause of a form under a binder.
-ghost use Rattle.std.specs.Prelude.{◌≡◌, Some, IsTrue};
+ghost use Rattle.std.specs.Prelude.{IsTrue};
 ghost use Rattle.relation_terms.specs.Trees.{known};
-ghost use Rattle.relation_terms.specs.Meaning.{Extends, bound_kinds, under};
+ghost use Rattle.relation_terms.specs.Meaning.{Extends};
 ghost use Rattle.relation_terms.specs.Predicates.{clause_kind_tree};
-ghost use Rattle.relation_clauses.specs.Made.{MakesOne};
+ghost use Rattle.relation_clauses.specs.Made.{MakesUnder};
 
 use crate::building::kinds::KindOf;
 use relation_terms::terms::{Binder, BoundVariable, Clause, Interner};
@@ -16,8 +16,7 @@ pub(super) fn make_clause<I: Interner>(
 ) -> Option<Clause<I>>
     requires { IsTrue (known (clause_kind_tree (I.meaning cx.old) value)) }
     ensures grown { Extends (I.meaning cx.old) (I.meaning cx.new) }
-    ensures made { let m = I.meaning cx.old in
-        MakesOne (I.meaning cx.new) (under (Some (bound_kinds m variables.now)) (clause_kind_tree m value)) result }
+    ensures made { MakesUnder (I.meaning cx.old) (I.meaning cx.new) variables.now value result }
 {
     let Ok(bound_vars) = cx.mk_bound_vars(variables) else {
         return None;

@@ -1,9 +1,9 @@
 //! The terms that calls are made of.
-ghost use Rattle.std.specs.Prelude.{◌≡◌, IsTrue, IfOk, IsSome, Some};
-ghost use Rattle.relation_terms.specs.Heads.{atom, type_param};
-ghost use Rattle.relation_terms.specs.Trees.{known, leaf, cons, nil};
+ghost use Rattle.std.specs.Prelude.{◌≡◌, IsTrue, IfOk};
+ghost use Rattle.relation_terms.specs.Trees.{known};
 ghost use Rattle.relation_terms.specs.Meaning.{Extends, arg_tree};
 ghost use Rattle.relation_terms.specs.Edits.{HasSelf};
+ghost use Rattle.relations.specs.Terms.{param_of, pair_of};
 
 use relation_terms::predicate::{ExistentialTraitRef, TraitRef};
 use relation_terms::terms::{
@@ -19,8 +19,7 @@ pub(super) fn make_param<I: Interner>(
 ) -> Result<Ty<I>, OutOfMemory>
     ensures grown { Extends (I.meaning cx.old) (I.meaning cx.new) }
     ensures sure { IfOk result (λ k. IsTrue (known ((I.meaning cx.new).ty k))) }
-    ensures made { IfOk result (λ k.
-        (I.meaning cx.new).ty k ≡ leaf (atom (type_param index ((I.meaning cx.old).name name)))) }
+    ensures made { IfOk result (λ k. (I.meaning cx.new).ty k ≡ param_of (I.meaning cx.old) index name) }
 {
     cx.mk_ty(TyKind::Param(ParamTy { index, name }))
 }
@@ -47,8 +46,7 @@ pub(super) fn make_pair<I: Interner>(
     requires second { IsTrue (known (arg_tree (I.meaning cx.old) second)) }
     ensures grown { Extends (I.meaning cx.old) (I.meaning cx.new) }
     ensures sure { IfOk result (λ k. IsTrue (known ((I.meaning cx.new).args k))) }
-    ensures made { let m = I.meaning cx.old in IfOk result (λ k.
-        (I.meaning cx.new).args k ≡ cons (arg_tree m first) (cons (arg_tree m second) nil)) }
+    ensures made { IfOk result (λ k. (I.meaning cx.new).args k ≡ pair_of (I.meaning cx.old) first second) }
 {
     let mut args = Vec::new(cx.alloc());
     args.push(first)?;

@@ -1,10 +1,9 @@
 //! How terms print that stand alone.
 ghost use Rattle.std.specs.Prelude.{IsTrue, OnOk};
 ghost use Rattle.std.specs.Fmt.{WritesInCalls};
-ghost use Rattle.std.specs.HashMap.{get};
 ghost use Rattle.relation_terms.specs.Trees.{known};
 ghost use Rattle.relation_terms.specs.Meaning.{arg_tree};
-ghost use Rattle.text_terms.specs.Texts.{item_text};
+ghost use Rattle.text_terms.specs.Texts.{text_at};
 
 use crate::printing::names::{TextsOf, item_text, name_text};
 use crate::printing::{constants, items, leaves, objects, terms};
@@ -103,8 +102,7 @@ pub fn write_item_name<I: Interner, W: Write>(
     item: &ItemOf<I>,
     out: &mut W,
 ) -> fmt::Result
-    ensures { let text = item_text (get I.Id.eq (texts.now).items (item.now).0) in
-        OnOk result (WritesInCalls W.write_str_gives out.old text out.new) }
+    ensures { OnOk result (WritesInCalls W.write_str_gives out.old (text_at I.Id.eq texts.now item.now) out.new) }
 {
     out.write_str(item_text(&texts.items, &item.0))
 }

@@ -1,14 +1,14 @@
 //! What can be related.
-ghost use Rattle.std.specs.Prelude.{◌≡◌, ◌≢◌, IsTrue, Option, Some, None};
+ghost use Rattle.std.specs.Prelude.{◌≡◌, ◌≢◌, Option, Some, None};
 ghost use Rattle.std.proofs.Common.{ap, refl, sym, ◌∙◌};
 ghost use Rattle.term_enums.specs.declared.Variance.TheVariants.{Bivariant};
-ghost use Rattle.relation_terms.specs.Meaning.{Meaning, Extends};
+ghost use Rattle.relation_terms.specs.Meaning.{Meaning};
 ghost use Rattle.relation_terms.specs.Trees.{known, count};
 ghost use Rattle.relation_terms.specs.Heads.{Head, arguments};
 ghost use Rattle.relation_terms.specs.Interning.{AreEqualAsTrees};
 ghost use Rattle.relation_folds.proofs.Arguments.{arg_same};
 ghost use Rattle.type_relations.specs.Arguments.{IsListForm};
-ghost use Rattle.type_relations.specs.Terms.{AskedTerms, RelatedTerms, TermsRegister};
+ghost use Rattle.type_relations.specs.Terms.{AskedTerms, HoldsOn, RelatedTerms, TermsRegister};
 ghost use Rattle.type_relations.specs.EqualTerms.{term_same};
 
 mod binder;
@@ -56,8 +56,7 @@ pub trait Relate<I: Interner>: TypeFoldable<I> + PartialEq + Copy {
     ghost over_list: { IsListForm over };
 
     // What is asked of two that are known holds on while the interner grows.
-    ghost fits_on: { (m n : Meaning I.Key I.Id I.Name) → Extends m n → (x y : Self) →
-        IsTrue (known (Self.tree m x)) → IsTrue (known (Self.tree m y)) → fits m x y → fits n x y };
+    ghost fits_on: { HoldsOn Self.tree fits };
 
     // Two that an interner knows are equal exactly where their trees are.
     ghost same: { (cx : I) → AreEqualAsTrees (Self.tree (I.meaning cx)) (λ x y. Self.eq x y) };

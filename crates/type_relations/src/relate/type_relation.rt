@@ -1,5 +1,5 @@
 //! Relations in steps, none of which relates anything by itself.
-ghost use Rattle.std.specs.Prelude.{◌≡◌, ◌≢◌, ◌<◌, IfSome, IfNone, IfOk};
+ghost use Rattle.std.specs.Prelude.{◌≡◌, ◌≢◌, ◌<◌, IfSome, IfNone};
 ghost use Rattle.std.specs.Borrow.{sem, Lends};
 ghost use Rattle.term_enums.specs.declared.Variance.{Variance};
 ghost use Rattle.term_enums.specs.declared.Variance.TheVariants.{Invariant, Bivariant};
@@ -93,8 +93,7 @@ pub trait TypeRelation<I: Interner>: HasState<I> {
         requires decides { (Self.state self.old).ambient ≢ Bivariant }
         requires asked { AskedRegions manner (Self.state self.old) a.now b.now }
         ensures related { RelatedRegions manner (Self.state self.old) (Self.state self.new) a.now b.now result }
-        ensures recorded { let r = Self.state self.old in
-            IfOk result (λ _. RecordsAsked manner r (Self.state self.new) a.now b.now) };
+        ensures recorded { RecordsAsked manner (Self.state self.old) (Self.state self.new) a.now b.now result };
 
     /// The bodies of two binders that are to be related in a round, 0 or 1, the left one's first; or none.
     ///

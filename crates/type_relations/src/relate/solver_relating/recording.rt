@@ -1,18 +1,17 @@
 //! What relating records of regions, and the goals that it registers.
-ghost use Rattle.std.specs.Prelude.{◌≡◌, ◌≢◌, [], IsTrue, IfOk, OnErr, OnOk};
+ghost use Rattle.std.specs.Prelude.{◌≡◌, ◌≢◌, IsTrue, IfOk, OnErr, OnOk};
 ghost use Rattle.relation_terms.specs.Trees.{known};
 ghost use Rattle.relation_terms.specs.Meaning.{Extends, term_tree};
 ghost use Rattle.term_enums.specs.declared.Variance.TheVariants.{Bivariant};
 ghost use Rattle.relation_contexts.specs.Stores.{all_bound};
 ghost use Rattle.relation_contexts.specs.Steps.{StaysFull};
-ghost use Rattle.relation_contexts.specs.Kits.{StaysBuilt};
 ghost use Rattle.relation_contexts.specs.Measures.{Goes};
 ghost use Rattle.relation_contexts.specs.Contexts.{KnowsTy, HasRegion};
 ghost use Rattle.relation_contexts.specs.ContextCalls.{Stands, Grows};
 ghost use Rattle.relation_contexts.specs.Goals.{subtype_predicate, well_formed_predicate, alias_relate_predicate};
 ghost use Rattle.relation_contexts.specs.Goals.{ambiguous_predicate};
 ghost use Rattle.type_relations.specs.Emitting.{AddsAsked, MakesSubtype, MakesWellFormed, MakesAliasRelate};
-ghost use Rattle.type_relations.specs.Emitting.{MakesAliasAt, MakesAmbiguous};
+ghost use Rattle.type_relations.specs.Emitting.{MakesAliasAt, MakesAmbiguous, RegionsStayBuilt};
 
 use relation_contexts::infer_ctxt::{InferCtxtLike, VisibleForLeakCheck};
 use relation_terms::predicate::{ClauseKind, PredicateKind, SubtypePredicate};
@@ -39,8 +38,7 @@ pub(crate) fn relate_regions<Infcx: InferCtxtLike>(
     ensures goes { Goes 0 (Infcx.state infcx.old).store (Infcx.state infcx.new).store }
     ensures bound { all_bound (Infcx.state infcx.new).store ≡ all_bound (Infcx.state infcx.old).store }
     ensures full { StaysFull (Infcx.state infcx.old).store (Infcx.state infcx.new).store }
-    ensures built { let m = (Infcx.state infcx.old).meaning in
-        StaysBuilt (Infcx.state infcx.old).store (Infcx.state infcx.new).store [] (m.region a.now) (m.region b.now) }
+    ensures built { RegionsStayBuilt (Infcx.state infcx.old) (Infcx.state infcx.new) a.now b.now }
 {
     match variance {
         Variance::Covariant => infcx.sub_regions(b, a, VisibleForLeakCheck::Yes, span),

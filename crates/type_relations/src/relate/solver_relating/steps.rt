@@ -8,12 +8,12 @@ ghost use Rattle.relation_contexts.specs.ContextCalls.{IsUnresolved};
 ghost use Rattle.relation_contexts.specs.Goals.{KnowsGoal};
 ghost use Rattle.relation_contexts.specs.Lawful.{RelatesByDeclared};
 ghost use Rattle.relation_contexts.specs.Resolving.{IsShallow};
-ghost use Rattle.type_relations.specs.Bivariance.{AsksWellFormed};
-ghost use Rattle.type_relations.specs.Keyed.{AreOver, AskedConsts, AskedRegions, AskedTys, NotedTys};
+ghost use Rattle.type_relations.specs.Keyed.{AskedConsts, AskedRegions, AskedTys};
 ghost use Rattle.type_relations.specs.Rounds.{AskedBinders};
 ghost use Rattle.type_relations.specs.Solving.{solver_manner};
 ghost use Rattle.type_relations.specs.SolverTerms.{KeepsGoals, SolverCombinesShallow, SolverCombinesVars};
-ghost use Rattle.type_relations.specs.SolverTerms.{SolverOpened, SolverRelatedRegions};
+ghost use Rattle.type_relations.specs.SolverTerms.{SolverOpened, SolverRelatedRegions, SolverAsksWellFormed};
+ghost use Rattle.type_relations.specs.SolverTerms.{SolverIsOver, SolverNotedTys};
 ghost use Rattle.type_relations.specs.SolverTerms.{SolverStepped, SolverSteps, SolverStepsBinders, SolverStepsConsts};
 ghost use Rattle.type_relations.specs.SolverTerms.{SolverStepsRegions, SolverStepsAlone, SolverStepsTys};
 ghost use Rattle.type_relations.specs.SolverTerms.{solver_through};
@@ -336,12 +336,9 @@ impl<'a, Infcx: InferCtxtLike> SolverRelating<'a, Infcx> {
         requires lawful { (solver_through Infcx.state self.old).lawful }
         requires asked { AskedTys solver_manner (solver_through Infcx.state self.old) a_ty.now b_ty.now }
         requires by_declared { RelatesByDeclared (solver_through Infcx.state self.old) }
-        requires over { let r = solver_through Infcx.state self.old in
-            AreOver r def_id.now a_ty.now b_ty.now a_args.now b_args.now }
-        ensures noted { let r = solver_through Infcx.state self.old in
-            NotedTys r (solver_through Infcx.state self.new) a_ty.now b_ty.now result }
-        ensures registers { AsksWellFormed (solver_through Infcx.state) self.old self.new
-            def_id.now a_ty.now b_ty.now a_args.now b_args.now result }
+        requires over { SolverIsOver Infcx.state self.old def_id.now a_ty.now b_ty.now a_args.now b_args.now }
+        ensures noted { SolverNotedTys Infcx.state self.old self.new a_ty.now b_ty.now result }
+        ensures registers { SolverAsksWellFormed Infcx.state self.old self.new a_ty.now b_ty.now result }
     {
         combine_ty_args::<Infcx, SolverRelating<'a, Infcx>>(
             self, a_ty, b_ty, def_id, a_args, b_args,

@@ -6,7 +6,7 @@ use Rattle.relation_terms.specs.Trees.{node, count}
 use Rattle.relation_terms.specs.declared.terms.const_kind.ConstKind.TheVariants.{Param, Placeholder, Value, Expr, Unevaluated}
 use Rattle.relation_contexts.specs.Errors.{values, expressions, over_arguments, const_parameters, operations, one_const_leaf}
 use Rattle.type_relations.proofs.Comparing.{ruled_const, unlike_const, param_const, value_const, expr_const, item_const}
-use Rattle.relation_contexts.proofs.Lists.{list_count}
+use Rattle.relation_terms.proofs.Members.{list_count}
 use Rattle.type_relations.proofs.relate.comparing.compare_consts.Goals as goal
 
 pub returns-in_default : goal.returns-in_default

@@ -4,7 +4,7 @@ use Rattle.relation_terms.specs.Trees.{count}
 use Rattle.relation_terms.specs.Meaning.{pattern_tree}
 use Rattle.relation_contexts.specs.Relation.{sort_of}
 use Rattle.relation_contexts.specs.Errors.{over_parts, one_leaf, unlike_patterns}
-use Rattle.relation_contexts.proofs.Lists.{list_count}
+use Rattle.relation_terms.proofs.Members.{list_count}
 use Rattle.type_relations.proofs.Patterns.{unlike_many}
 use Rattle.type_relations.proofs.relate.comparing.compare_pats.Goals as goal
 

@@ -2,7 +2,7 @@ use Rattle.std.proofs.Common.{rules, ◌≡◌, sym, ap, ◌∙◌}
 use Rattle.std.proofs.lemmas.Bool.{eqb-true, eq-eqb}
 use Rattle.relation_terms.specs.Meaning.{arg_tree}
 use Rattle.relation_terms.specs.Trees.{count}
-use Rattle.relation_contexts.proofs.Lists.{list_count}
+use Rattle.relation_terms.proofs.Members.{list_count}
 use Rattle.type_relations.proofs.relate.comparing.is_one_item.Goals as goal
 
 pub returns : goal.returns

@@ -4,7 +4,7 @@ use Rattle.relation_terms.specs.Meaning.{valtree_tree}
 use Rattle.relation_terms.specs.Trees.{count}
 use Rattle.relation_contexts.specs.Errors.{as_many_branches}
 use Rattle.type_relations.proofs.Comparing.{branches_counted}
-use Rattle.relation_contexts.proofs.Lists.{list_count}
+use Rattle.relation_terms.proofs.Members.{list_count}
 use Rattle.type_relations.proofs.relate.comparing.is_one_value.Goals as goal
 
 pub returns-clause-one : goal.returns-clause-one

@@ -2,7 +2,7 @@ use Rattle.std.proofs.Common.{rules, ◌≡◌, ◌<◌, ◌+◌, suc, ◌∙◌
 use Rattle.relation_terms.specs.Trees.{known, count, nth}
 use Rattle.relation_terms.specs.Meaning.{arg_tree}
 use Rattle.relation_contexts.specs.Parts.{parts_of}
-use Rattle.relation_contexts.proofs.Lists.{part_known}
+use Rattle.relation_terms.proofs.Members.{item_known}
 use Rattle.type_relations.proofs.Making.{AreFirst, first_next, all_first, fit_counts}
 use Rattle.type_relations.proofs.relate.making.are_its_parts.Goals as goal
 
@@ -26,7 +26,7 @@ is_part-requires-clause-arg_known g c =
     let below : i < length xs = omega (arith, test) in
     let x = c.index-args-i.result in
     subst (λ y. IsTrue (known (arg_tree m y))) (sym c.index-args-i.is)
-    (part_known (arg_tree m) xs i x below c.requires.args_known)
+    (item_known (arg_tree m) xs i x below c.requires.args_known)
 
 pub loop-i-preserved : goal.loop-i-preserved
 loop-i-preserved g c =

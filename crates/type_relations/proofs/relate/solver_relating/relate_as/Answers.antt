@@ -9,7 +9,7 @@ use Rattle.relation_contexts.specs.Lawful.{Related, ExactResult, items_of}
 use Rattle.type_relations.specs.Solving.{solving_in, solver_manner, solver_settings}
 use Rattle.relation_contexts.proofs.Going.{later_itself}
 use Rattle.relation_contexts.proofs.Full.{makes_to_instantiate}
-use Rattle.type_relations.proofs.Unifying.{exact_itself}
+use Rattle.relation_contexts.proofs.Roots.{exact_itself}
 use Rattle.relation_contexts.proofs.Passing.{as_err}
 use Rattle.type_relations.proofs.Exactly.{unrelated_apart}
 use Rattle.type_relations.proofs.Spending.{spends_no_more, spent_as}

@@ -1,0 +1,15 @@
+-- Terms that calls are made of.
+use Rattle.std.specs.Prelude.{ℕ}
+use Rattle.relation_terms.specs.declared.terms.generic_arg.GenericArgKind.{GenericArgKind}
+use Rattle.relation_terms.specs.Heads.{atom, type_param}
+use Rattle.relation_terms.specs.Trees.{Tree, leaf, cons, nil}
+use Rattle.relation_terms.specs.Meaning.{Meaning, arg_tree}
+
+module _ {Key Id Name : Type 0} (m : Meaning Key Id Name) where
+  -- A parameter of that name, at that place, which stands for a type.
+  abbrev pub param_of : ℕ → Name → Tree
+  param_of index name = leaf (atom (type_param index (m.name name)))
+
+  -- The list of two arguments.
+  abbrev pub pair_of : GenericArgKind Key → GenericArgKind Key → Tree
+  pair_of first second = cons (arg_tree m first) (cons (arg_tree m second) nil)
