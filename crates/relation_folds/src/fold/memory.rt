@@ -62,6 +62,10 @@ pub fn recall<I: Interner, F: TypeFolder<I>>(
 {
     let _ = cx;
     let _ = folder;
+    // (an empty map would hash the place too)
+    if memory.is_empty() {
+        return None;
+    }
     let place = place_of(part, depth)?;
     memory.get(&place).copied()
 }

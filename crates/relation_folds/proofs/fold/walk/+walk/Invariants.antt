@@ -7,10 +7,7 @@ use Rattle.relation_folds.proofs.Remembering.{place_eq}
 use Rattle.relation_folds.proofs.fold.walk.+walk.Given as goal
 
 abbrev pub decreases-fold_met : goal.decreases-fold_met
-decreases-fold_met g l = 4 * size (part_tree (g.I.Interner.meaning l.cx.now) l.part.now) + 3
-
-abbrev pub decreases-fold_new : goal.decreases-fold_new
-decreases-fold_new g l = 4 * size (part_tree (g.I.Interner.meaning l.cx.now) l.part.now) + 2
+decreases-fold_met g l = 4 * size (part_tree (g.I.Interner.meaning l.cx.now) l.part.now) + 2
 
 abbrev pub decreases-fold_inside : goal.decreases-fold_inside
 decreases-fold_inside g l = 4 * size (part_tree (g.I.Interner.meaning l.cx.now) l.part.now) + 1
