@@ -1,8 +1,8 @@
 -- A fold that moves variables changes nothing where none escapes, or where they are moved by nothing: such a term can
 -- stand for itself.
-use Rattle.std.proofs.Common.{◌≡◌, refl, sym, ◌∙◌, ap, ap₂, arith}
+use Rattle.std.proofs.Common.{◌≡◌, refl, sym, ◌∙◌, ap, ap₂, arith, subst}
 use Rattle.std.specs.Prelude.{ℕ, zero, suc, ◌+◌, Bool, true, false, not, ◌&&◌, ◌||◌, cond, nat_lt, nat_eq, Option, Some, None}
-use Rattle.std.proofs.lemmas.Bool.{or_parts}
+use Rattle.std.proofs.lemmas.Bool.{or_parts, eqb-true}
 use Rattle.relation_terms.specs.Heads.{Leaf, variable, bound, placeholder, atom, unknown, leaf_sort, head_sort, Head}
 use Rattle.relation_terms.specs.Trees.{Tree, leaf, node, bind, nil, cons}
 use Rattle.relation_terms.specs.Flags.{outer_exclusive_binder, leaf_binder}
@@ -74,8 +74,13 @@ by_nothing d (cons t ts) = ap₂ cons (by_nothing d t) (by_nothing d ts)
 
 -- So what a move doesn't change stays as it is.
 stays : (by d : ℕ) (t : Tree) → changes by d (outer_exclusive_binder t) ≡ false → folded (moves by) d t ≡ t
-stays zero d t h = by_nothing d t
-stays (suc n) d t h = none_moved (suc n) d t (escapes_beyond d t ∙ h)
+stays by d t h = decided (nat_eq by 0) refl
+  where
+    decided : (b : Bool) → nat_eq by 0 ≡ b → folded (moves by) d t ≡ t
+    decided true e = subst (λ n. folded (moves n) d t ≡ t) (sym (eqb-true by 0 e)) (by_nothing d t)
+    decided false e =
+        none_moved by d t (escapes_beyond d t
+        ∙ (sym (ap (λ b. not b && nat_lt d (outer_exclusive_binder t)) e) ∙ h))
 
 kept_leaf : (a b : Bool) (o : Option Tree) (t : Tree) → (b ≡ false → put_or a o t ≡ t) →
     put_or a (cond b o (Some t)) t ≡ put_or a o t
@@ -99,12 +104,3 @@ kept_alike by d (node g ts) =
 kept_alike by d (bind ks t) = ap (bind ks) (kept_alike by (suc d) t)
 kept_alike by d nil = refl
 kept_alike by d (cons t ts) = ap₂ cons (kept_alike by d t) (kept_alike by d ts)
-
--- What is put, by whether the move changes the tree.
-pub put_moved : (by d : ℕ) (t : Tree) (b : Bool) → b ≡ changes by d (outer_exclusive_binder t) → b ≡ true →
-    moves_or_keeps by d t ≡ moves by d t
-put_moved by d t b e h = ap (λ c. cond c (moves by d t) (Some t)) (sym e ∙ h)
-
-pub put_kept : (by d : ℕ) (t : Tree) (b : Bool) → b ≡ changes by d (outer_exclusive_binder t) → b ≡ false →
-    moves_or_keeps by d t ≡ Some t
-put_kept by d t b e h = ap (λ c. cond c (moves by d t) (Some t)) (sym e ∙ h)

@@ -59,12 +59,14 @@ struct Shifter {
 }
 
 impl<I: Interner> TypeFolder<I> for Shifter {
-    ghost use Rattle.std.specs.Prelude.{refl};
-    ghost use Rattle.relation_folds.proofs.Unmoved.{moves_or_keeps};
+    ghost use Rattle.std.specs.Prelude.{refl, ◌&&◌, Some, cond, not, nat_eq, nat_lt};
+    ghost use Rattle.relation_terms.specs.Flags.{outer_exclusive_binder};
+    ghost use Rattle.relation_folds.specs.Shifts.{moves};
 
     ghost ready = { λ m f. Unit {0} };
 
-    ghost replaces = { λ m f. moves_or_keeps f.amount };
+    ghost replaces = { λ m f d t. let is_moved = not (nat_eq f.amount 0) && nat_lt d (outer_exclusive_binder t) in
+        cond is_moved (moves f.amount d t) (Some t) };
 
     fn fold_ty(&mut self, cx: &mut I, ty: &Ty<I>, depth: u128) -> Result<Fold<Ty<I>>, OutOfMemory> {
         if !changes(&cx.ty_flags(ty), depth, self.amount) {

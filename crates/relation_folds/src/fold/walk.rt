@@ -1,7 +1,7 @@
 //! The walk of a folder through a term: one loop over the parts of all forms, so that no folder folds by itself.
 //!
-//! What was made of a part by going into it is kept for the length of a call, so the walk goes into each different part
-//! once.
+//! What was made of a part is kept for the length of a call, but for the first 32, so the walk takes as many steps as
+//! there are different parts, and at most 32 more.
 //!
 //! The part of a binder stands one binder deeper, and all others as deep as the term that they are parts of.
 ghost use Rattle.std.specs.Prelude.{◌≡◌, IsTrue, IfOk, option_map};
@@ -61,8 +61,7 @@ pub fn depth_inside<X: Copy, D: Copy>(part: &Part<X, D>, depth: u128) -> Result<
     }
 }
 
-// What the folder makes of a part that stands under `depth` binders: what it made before, where it has met it there, or
-// what it puts for it, or else the part with its own parts folded. That one is kept; what is put is put again.
+// What the folder makes of a part that stands under `depth` binders: what it made before, where it has met it there.
 #[cycle(walk)]
 fn fold_met<I: Interner, F: TypeFolder<I>>(
     cx: &mut I,
@@ -74,10 +73,10 @@ fn fold_met<I: Interner, F: TypeFolder<I>>(
     requires known { IsTrue (known (part_tree (I.meaning cx.old) part.now)) }
     requires ready { F.ready (I.meaning cx.old) folder.old }
     requires remembers { Remembers (I.meaning cx.old) (F.replaces (I.meaning cx.old) folder.old)
-        ⟦<Place<I::Key> as PartialEq>⟧.eq memory.old }
+        ⟦<Place<I::Key> as PartialEq>⟧.eq (memory.old).made }
     ensures steps { Steps F.ready F.replaces (I.meaning cx.old) folder.old (I.meaning cx.new) folder.new }
     ensures remembers { Remembers (I.meaning cx.new) (F.replaces (I.meaning cx.new) folder.new)
-        ⟦<Place<I::Key> as PartialEq>⟧.eq memory.new }
+        ⟦<Place<I::Key> as PartialEq>⟧.eq (memory.new).made }
     ensures sure { IfOk result (λ k. IsTrue (known (part_tree (I.meaning cx.new) k))) }
     ensures made { FoldsPart F.replaces (I.meaning cx.old) folder.old (I.meaning cx.new) depth part.now result }
     ensures sort { IfOk result (λ k. part_sort k ≡ part_sort part.now) }
@@ -85,13 +84,34 @@ fn fold_met<I: Interner, F: TypeFolder<I>>(
     if let Some(made) = recall(cx, folder, memory, part, depth) {
         return Ok(made);
     }
+    let made = fold_new(cx, part, depth, folder, memory)?;
+    keep(cx, folder, memory, part, depth, made)?;
+    Ok(made)
+}
+
+// The same of a part that it meets for the first time: what it puts for it, or else the part with its own parts folded.
+#[cycle(walk)]
+fn fold_new<I: Interner, F: TypeFolder<I>>(
+    cx: &mut I,
+    part: &PartOf<I>,
+    depth: u128,
+    folder: &mut F,
+    memory: &mut Memory<I::Key, I::Id>,
+) -> Result<PartOf<I>, OutOfMemory>
+    requires known { IsTrue (known (part_tree (I.meaning cx.old) part.now)) }
+    requires ready { F.ready (I.meaning cx.old) folder.old }
+    requires remembers { Remembers (I.meaning cx.old) (F.replaces (I.meaning cx.old) folder.old)
+        ⟦<Place<I::Key> as PartialEq>⟧.eq (memory.old).made }
+    ensures steps { Steps F.ready F.replaces (I.meaning cx.old) folder.old (I.meaning cx.new) folder.new }
+    ensures remembers { Remembers (I.meaning cx.new) (F.replaces (I.meaning cx.new) folder.new)
+        ⟦<Place<I::Key> as PartialEq>⟧.eq (memory.new).made }
+    ensures sure { IfOk result (λ k. IsTrue (known (part_tree (I.meaning cx.new) k))) }
+    ensures made { FoldsPart F.replaces (I.meaning cx.old) folder.old (I.meaning cx.new) depth part.now result }
+    ensures sort { IfOk result (λ k. part_sort k ≡ part_sort part.now) }
+{
     match put_for(cx, part, depth, folder)? {
         Fold::Replace(by) => Ok(by),
-        Fold::Descend => {
-            let made = fold_inside(cx, part, depth, folder, memory)?;
-            keep(cx, folder, memory, part, depth, made)?;
-            Ok(made)
-        }
+        Fold::Descend => fold_inside(cx, part, depth, folder, memory),
     }
 }
 
@@ -107,10 +127,10 @@ fn fold_inside<I: Interner, F: TypeFolder<I>>(
     requires known { IsTrue (known (part_tree (I.meaning cx.old) part.now)) }
     requires ready { F.ready (I.meaning cx.old) folder.old }
     requires remembers { Remembers (I.meaning cx.old) (F.replaces (I.meaning cx.old) folder.old)
-        ⟦<Place<I::Key> as PartialEq>⟧.eq memory.old }
+        ⟦<Place<I::Key> as PartialEq>⟧.eq (memory.old).made }
     ensures steps { Steps F.ready F.replaces (I.meaning cx.old) folder.old (I.meaning cx.new) folder.new }
     ensures remembers { Remembers (I.meaning cx.new) (F.replaces (I.meaning cx.new) folder.new)
-        ⟦<Place<I::Key> as PartialEq>⟧.eq memory.new }
+        ⟦<Place<I::Key> as PartialEq>⟧.eq (memory.new).made }
     ensures sure { IfOk result (λ k. IsTrue (known (part_tree (I.meaning cx.new) k))) }
     ensures made { FoldsPartsOf F.replaces (I.meaning cx.old) folder.old (I.meaning cx.new) depth part.now result }
     ensures sort { IfOk result (λ k. part_sort k ≡ part_sort part.now) }
@@ -134,10 +154,10 @@ fn fold_members<I: Interner, F: TypeFolder<I>>(
     requires known { IsTrue (known (parts_tree (I.meaning cx.old) parts.now)) }
     requires ready { F.ready (I.meaning cx.old) folder.old }
     requires remembers { Remembers (I.meaning cx.old) (F.replaces (I.meaning cx.old) folder.old)
-        ⟦<Place<I::Key> as PartialEq>⟧.eq memory.old }
+        ⟦<Place<I::Key> as PartialEq>⟧.eq (memory.old).made }
     ensures steps { Steps F.ready F.replaces (I.meaning cx.old) folder.old (I.meaning cx.new) folder.new }
     ensures remembers { Remembers (I.meaning cx.new) (F.replaces (I.meaning cx.new) folder.new)
-        ⟦<Place<I::Key> as PartialEq>⟧.eq memory.new }
+        ⟦<Place<I::Key> as PartialEq>⟧.eq (memory.new).made }
     ensures sure { IfOk result (λ r. IsTrue (known (members_tree (part_tree (I.meaning cx.new))
         (parts_tree (I.meaning cx.old) parts.now) (option_map (λ list. list.items) r)))) }
     ensures made { IfOk result (λ r. members_tree (part_tree (I.meaning cx.new))
@@ -157,8 +177,7 @@ fn fold_members<I: Interner, F: TypeFolder<I>>(
     if same { Ok(None) } else { Ok(Some(made)) }
 }
 
-// What the folder makes of a part that stands under `depth` binders: what it puts for it, or else the part with its own
-// parts folded.
+// What the folder makes of a part that stands under `depth` binders.
 pub fn fold_part<I: Interner, F: TypeFolder<I>>(
     cx: &mut I,
     part: &PartOf<I>,
@@ -172,10 +191,7 @@ pub fn fold_part<I: Interner, F: TypeFolder<I>>(
     ensures made { FoldsPart F.replaces (I.meaning cx.old) folder.old (I.meaning cx.new) depth part.now result }
     ensures sort { IfOk result (λ k. part_sort k ≡ part_sort part.now) }
 {
-    match put_for(cx, part, depth, folder)? {
-        Fold::Replace(by) => Ok(by),
-        Fold::Descend => fold_inside(cx, part, depth, folder, &mut nothing(cx)),
-    }
+    fold_new(cx, part, depth, folder, &mut nothing(cx))
 }
 
 // The part with its own parts folded, whatever the folder puts for it.

@@ -28,8 +28,38 @@ fold_met-returns-in-Some g t' c =
       sort = made.sort;
     }
 
-pub fold_met-returns-in-Replace : goal.fold_met-returns-in-Replace
-fold_met-returns-in-Replace g t' c =
+pub fold_met-fold_new-requires : goal.fold_met-fold_new-requires
+fold_met-fold_new-requires g t' c κs within =
+    let m = g.I.Interner.meaning c.args.cx.now in
+    let x = c.args.part.now in
+    let d = c.decreases in
+    let small : 4 * size (part_tree m x) + 2 < 4 * size (part_tree m x) + 3 = omega arith in
+    let k = c.requires.known in
+    let r = c.requires.ready in
+    let o = c.requires.remembers in
+    search rules
+
+pub fold_met-keep-requires : goal.fold_met-keep-requires
+fold_met-keep-requires g t' c =
+    let m = g.I.Interner.meaning c.args.cx.now in
+    let n = g.I.Interner.meaning c.fold_new.new.cx in
+    let x = c.args.part.now in
+    let p = g.F.TypeFolder.replaces m c.args.folder.now in
+    let q = g.F.TypeFolder.replaces n c.fold_new.new.folder in
+    let r = c.in_ok-made.ensures in
+    let e : part_tree n x ≡ part_tree m x = stays_part r.steps.grown x c.requires.known in
+    record {
+      made = record {
+        there = knows_as (part_tree m x) (part_tree n x) e c.requires.known;
+        sure = r.sure;
+        made = r.made ∙ sym (folded_later p q r.steps.kept c.args.depth (part_tree m x) (part_tree n x) e);
+        sort = r.sort;
+      };
+      remembers = r.remembers;
+    }
+
+pub fold_new-returns-in-Replace : goal.fold_new-returns-in-Replace
+fold_new-returns-in-Replace g t' c =
     let m = g.I.Interner.meaning c.args.cx.now in
     let x = c.args.part.now in
     let n = g.I.Interner.meaning c.put_for.new.cx in
@@ -38,18 +68,18 @@ fold_met-returns-in-Replace g t' c =
     let made = subst (Folds p c.args.depth (part_tree m x) (part_tree n) (part_sort x)) c.in-Replace.is r.made in
     record {
       steps = r.steps;
-      remembers = remembers_on r.steps (place_eq g.I.Key.PartialEq.eq) c.args.memory.now c.requires.remembers;
+      remembers = remembers_on r.steps (place_eq g.I.Key.PartialEq.eq) (c.args.memory.now).made c.requires.remembers;
       sure = subst (KnownAnswer (part_tree n)) c.in-Replace.is r.sure;
       made = made.0;
       sort = made.1;
     }
 
-pub fold_met-returns-in_err-by-clause-remembers : goal.fold_met-returns-in_err-by-clause-remembers
-fold_met-returns-in_err-by-clause-remembers g t' c =
-    remembers_on c.in_err-by.ensures.steps (place_eq g.I.Key.PartialEq.eq) c.args.memory.now c.requires.remembers
+pub fold_new-returns-in_err-by-clause-remembers : goal.fold_new-returns-in_err-by-clause-remembers
+fold_new-returns-in_err-by-clause-remembers g t' c =
+    remembers_on c.in_err-by.ensures.steps (place_eq g.I.Key.PartialEq.eq) (c.args.memory.now).made c.requires.remembers
 
-pub fold_met-fold_inside-requires : goal.fold_met-fold_inside-requires
-fold_met-fold_inside-requires g t' c κs within =
+pub fold_new-fold_inside-requires : goal.fold_new-fold_inside-requires
+fold_new-fold_inside-requires g t' c κs within =
     let m = g.I.Interner.meaning c.args.cx.now in
     let x = c.args.part.now in
     let n = g.I.Interner.meaning c.put_for.new.cx in
@@ -60,34 +90,30 @@ fold_met-fold_inside-requires g t' c κs within =
     let is : size (part_tree n x) ≡ size (part_tree m x) = ap size e in
     let small : 4 * size (part_tree n x) + 1 < 4 * size (part_tree m x) + 2 = omega (arith, is) in
     let r = s.ready in
-    let o = remembers_on s (place_eq g.I.Key.PartialEq.eq) c.args.memory.now c.requires.remembers in
+    let o = remembers_on s (place_eq g.I.Key.PartialEq.eq) (c.args.memory.now).made c.requires.remembers in
     search rules
 
-pub fold_met-keep-requires : goal.fold_met-keep-requires
-fold_met-keep-requires g t' c =
+pub fold_new-returns-in-Descend : goal.fold_new-returns-in-Descend
+fold_new-returns-in-Descend g t' c =
     let m = g.I.Interner.meaning c.args.cx.now in
     let x = c.args.part.now in
     let n = g.I.Interner.meaning c.put_for.new.cx in
-    let o = g.I.Interner.meaning c.fold_inside.new.cx in
     let p = g.F.TypeFolder.replaces m c.args.folder.now in
     let q = g.F.TypeFolder.replaces n c.put_for.new.folder in
     let i = c.args.depth in
     let r = c.in_ok-by.ensures in
-    let u = c.in_ok-made.ensures in
-    let e : part_tree n x ≡ part_tree m x = stays_part r.steps.grown x c.requires.known in
-    let all = steps_on r.steps u.steps in
-    let f : part_tree o x ≡ part_tree m x = stays_part all.grown x c.requires.known in
+    let o = c.fold_inside.ensures in
+    let e = stays_part r.steps.grown x c.requires.known in
+    let left : folded p i (part_tree m x) ≡ folded_parts p i (part_tree m x) =
+    subst (Folds p i (part_tree m x) (part_tree n) (part_sort x)) c.in-Descend.is r.made in
+    let parts : folded_parts q i (part_tree n x) ≡ folded_parts p i (part_tree m x) =
+    parts_later p q r.steps.kept i (part_tree m x) (part_tree n x) e in
     record {
-      made = record {
-        there = knows_as (part_tree m x) (part_tree o x) f c.requires.known;
-        sure = u.sure;
-        made = u.made ∙ parts_later p q r.steps.kept i (part_tree m x) (part_tree n x) e
-            ∙ sym (subst (Folds p i (part_tree m x) (part_tree n) (part_sort x)) c.in-Descend.is r.made)
-            ∙ sym (folded_later p (g.F.TypeFolder.replaces o c.fold_inside.new.folder) all.kept i (part_tree m x)
-            (part_tree o x) f);
-        sort = u.sort;
-      };
-      remembers = u.remembers;
+      steps = steps_on r.steps o.steps;
+      remembers = o.remembers;
+      sure = o.sure;
+      made = if_ok c.fold_inside.result (λ y h. h ∙ (parts ∙ sym left)) o.made;
+      sort = o.sort;
     }
 
 pub fold_inside-fold_members-requires : goal.fold_inside-fold_members-requires
@@ -143,7 +169,7 @@ fold_inside-returns-in-Some g t' c =
       steps = steps_grown g.met.F.TypeFolder.ready_on g.met.F.TypeFolder.replaces_on r.steps o.grown;
       remembers = remembers_on (steps_grown g.met.F.TypeFolder.ready_on g.met.F.TypeFolder.replaces_on
           (steps_none n c.fold_members.new.folder r.steps.ready) o.grown) (place_eq g.I.Key.PartialEq.eq)
-          c.fold_members.new.memory r.remembers;
+          (c.fold_members.new.memory).made r.remembers;
       sure = o.sure;
       made = if_ok c.with_parts.result (λ y h. h ∙ whole_made p c.args.depth c.in_ok-inside.inside (part_tree m x)
           (part_tree n x) us deep e q)
@@ -216,7 +242,7 @@ fold_members-fold_met-requires g t' c κs within =
     let d = c.decreases in
     let less = member_small ts i below in
     let is : size (part_tree n x) ≡ size (nth i ts) = ap size (c.member-old.ensures.means ∙ ap (nth i) e) in
-    let small : 4 * size (part_tree n x) + 2 < 4 * size ts = omega (arith, less, is) in
+    let small : 4 * size (part_tree n x) + 3 < 4 * size ts = omega (arith, less, is) in
     let o = c.loop-i.invariant.remembers in
     let k = c.member-old.ensures.sure in
     let r = s.ready in

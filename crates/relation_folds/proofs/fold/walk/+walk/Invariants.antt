@@ -7,7 +7,10 @@ use Rattle.relation_folds.proofs.Remembering.{place_eq}
 use Rattle.relation_folds.proofs.fold.walk.+walk.Given as goal
 
 abbrev pub decreases-fold_met : goal.decreases-fold_met
-decreases-fold_met g l = 4 * size (part_tree (g.I.Interner.meaning l.cx.now) l.part.now) + 2
+decreases-fold_met g l = 4 * size (part_tree (g.I.Interner.meaning l.cx.now) l.part.now) + 3
+
+abbrev pub decreases-fold_new : goal.decreases-fold_new
+decreases-fold_new g l = 4 * size (part_tree (g.I.Interner.meaning l.cx.now) l.part.now) + 2
 
 abbrev pub decreases-fold_inside : goal.decreases-fold_inside
 decreases-fold_inside g l = 4 * size (part_tree (g.I.Interner.meaning l.cx.now) l.part.now) + 1
@@ -23,7 +26,7 @@ invariant-fold_members-loop-i g l =
       steps : Steps g.F.TypeFolder.ready g.F.TypeFolder.replaces (g.I.Interner.meaning l.fn.cx) l.fn.folder
           (g.I.Interner.meaning l.cx) l.folder;
       remembers : Remembers (g.I.Interner.meaning l.cx) (g.F.TypeFolder.replaces (g.I.Interner.meaning l.cx) l.folder)
-          (place_eq g.I.Key.PartialEq.eq) l.memory;
+          (place_eq g.I.Key.PartialEq.eq) l.memory.made;
       built : Built p l.depth (part_tree (g.I.Interner.meaning l.cx)) l.i ts l.made.items;
       left : IsTrue l.same → folded p l.depth (firsts l.i ts) ≡ firsts l.i ts;
     }
