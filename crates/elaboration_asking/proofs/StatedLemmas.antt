@@ -1,6 +1,6 @@
 -- What a program's traits state, as it is built, and what is known while an interner grows.
-use Rattle.std.proofs.Common.{◌≡◌, ◌<◌, ◌↔◌, ℕ, IsTrue, Bool, false, nat_lt, List, [], ◌∷◌, ◌++◌, map, length}
-use Rattle.std.proofs.Common.{Option, Some, None, sym, ◌∙◌, subst, arith, get_or}
+use Rattle.std.proofs.Common.{◌≡◌, ◌↔◌, ℕ, IsTrue, Bool, false, nat_lt, List, [], ◌∷◌, ◌++◌, map}
+use Rattle.std.proofs.Common.{Option, Some, None, sym, ◌∙◌, subst, arith}
 use Rattle.std.proofs.lemmas.Bool.{ltb-false}
 use Rattle.std.specs.List.{All}
 use Rattle.std.proofs.lemmas.List.{map-append}
@@ -21,7 +21,6 @@ use Rattle.relation_terms.proofs.Predicates.{stays_trait_ref}
 use Rattle.relation_terms.proofs.Stays.{knows_as, stays_arg}
 use Rattle.relation_folds.specs.Visits.{bound_var_escapes}
 use Rattle.relation_folds.proofs.Searching.{escapes_beyond}
-use Rattle.relation_tools.proofs.Assuming.{all_at}
 use Rattle.reference_interner.specs.Adding.{SameTerms}
 use Rattle.text_terms.specs.Built.{AreKnown}
 
@@ -62,7 +61,7 @@ module _ {Key Id Name : Type 0} {m n : Meaning Key Id Name} (e : Extends m n) wh
 
 -- So it is where terms mean the same.
 module _ {Key Id Name : Type 0} {m n : Meaning Key Id Name} (s : SameTerms m n) where
-  same_arg : (key : GenericArgKind Key) → arg_tree n key ≡ arg_tree m key
+  pub same_arg : (key : GenericArgKind Key) → arg_tree n key ≡ arg_tree m key
   same_arg (Lifetime r) = s.region r
   same_arg (Ty t) = s.ty t
   same_arg (Const c) = s.const_ c
@@ -82,8 +81,3 @@ pub stated_more : {Key Id Name S : Type 0} (n : Meaning Key Id Name) (ks : List 
 stated_more n ks k s h a =
     subst (All (IsStated n)) (sym (map-append (λ p. p.0) ks ((k, s) ∷ [])))
     (All-push (IsStated n) (map (λ p. p.0) ks) k a h)
-
--- A clause of a list of known ones is known.
-pub known_at : {Key Id Name : Type 0} (m : Meaning Key Id Name) (ks : List (ClauseKey Key)) (i : ℕ) (k : ClauseKey Key) →
-    All (λ k. IsTrue (known (m.clause k))) ks → i < length ks → k ≡ get_or ks i k → IsTrue (known (m.clause k))
-known_at m ks i k a l e = all_at (λ k. IsTrue (known (m.clause k))) ks i k a l e

@@ -1,1 +1,1 @@
-mod ClauseLemmas
+pub mod ClauseLemmas

@@ -1,5 +1,5 @@
 -- What is put for a trait's parameters, and for the variables of a clause's own binder.
-use Rattle.std.proofs.Common.{◌≡◌, ap, ap₂, refl, ◌∙◌, sym}
+use Rattle.std.proofs.Common.{◌≡◌, ap, ap₂, refl, ◌∙◌, sym, arith}
 use Rattle.std.specs.Prelude.{ℕ, zero, suc, List, [], ◌∷◌, ◌++◌, Option, Some, None}
 use Rattle.std.specs.Prelude.{option_map, IsSome, slice_get, length}
 use Rattle.std.proofs.lemmas.Bool.{false≢true}
@@ -36,6 +36,11 @@ pub kinds_length : {Key Id Name : Type 0} (m : Meaning Key Id Name) (xs : List (
     length (bound_kinds m xs) ≡ length xs
 kinds_length m [] = refl
 kinds_length m (x ∷ xs) = ap suc (kinds_length m xs)
+
+-- A list of no variables is empty.
+pub no_list : (ks : List BoundKind) → length ks ≡ 0 → [] ≡ ks
+no_list [] e = refl
+no_list (k ∷ ks) e = absurd (omega (arith, e))
 
 -- Lists that are there are one.
 pub same_list : (ks ls : List BoundKind) → Some ks ≡ Some ls → ks ≡ ls

@@ -39,6 +39,11 @@ pub fn instantiate_supertrait<I: Interner>(
         args: trait_ref.value.args,
     };
     let value = form.value.fold_with(cx, &mut instantiator)?;
+    // Where nothing is bound around the trait reference, the clause's own list is the joined one.
+    if outer == 0 {
+        let bound_vars = form.bound_vars;
+        return cx.mk_clause(Binder { value, bound_vars });
+    }
     let vars = joined_vars(cx, &trait_ref.bound_vars, &form.bound_vars)?;
     let bound_vars = cx.mk_bound_vars(&vars)?;
     cx.mk_clause(Binder { value, bound_vars })

@@ -7,6 +7,7 @@ pub mod Searching
 pub mod Folding
 pub mod Members
 pub mod Shifting
+mod Unmoved
 pub mod Arguments
 pub mod Entering
 pub mod Fielding

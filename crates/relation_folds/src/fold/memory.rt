@@ -8,8 +8,10 @@ ghost use Rattle.relation_terms.specs.Parts.{part_tree};
 ghost use Rattle.relation_folds.specs.Folds.{IsMade, Recalls, place_of as the_place};
 
 use crate::fold::TypeFolder;
+use delayed_map::CACHE_CUTOFF;
 use relation_terms::terms::{Interner, OutOfMemory, Part, PartOf};
 use std::collections::HashMap;
+use std::hash::Hash;
 
 /// A part at a depth: of which sort it is, its key, and how many binders stand around it.
 #[derive(Clone, Copy, PartialEq, Eq, Hash)]
@@ -19,8 +21,13 @@ pub struct Place<X> {
     pub depth: u128,
 }
 
-/// What a fold has made of the parts that it has met.
-pub type Memory<X, D> = HashMap<Place<X>, Part<X, D>>;
+/// What a fold has made of the parts that it has met, but for those that were the first: a small fold ends before it
+/// would hash.
+#[derive(Drop)]
+pub struct Memory<X: Eq + Hash, D> {
+    pub made: HashMap<Place<X>, Part<X, D>>,
+    pub let_go: u32,
+}
 
 /// A part at a depth, where it has a key.
 pub fn place_of<X: Copy, D: Copy>(part: &Part<X, D>, depth: u128) -> Option<Place<X>>
@@ -43,9 +50,12 @@ pub fn place_of<X: Copy, D: Copy>(part: &Part<X, D>, depth: u128) -> Option<Plac
 
 /// Nothing is remembered where a fold begins.
 pub fn nothing<I: Interner>(cx: &I) -> Memory<I::Key, I::Id>
-    ensures { IsEmpty result }
+    ensures { IsEmpty result.made }
 {
-    HashMap::new(cx.alloc())
+    Memory {
+        made: HashMap::new(cx.alloc()),
+        let_go: 0,
+    }
 }
 
 /// What was made of the part at this depth, if it was met there before.
@@ -57,16 +67,19 @@ pub fn recall<I: Interner, F: TypeFolder<I>>(
     depth: u128,
 ) -> Option<PartOf<I>>
     requires known { IsTrue (known (part_tree (I.meaning cx.now) part.now)) }
-    requires remembers { Recalls F.replaces (I.meaning cx.now) folder.now ⟦<Place<I::Key> as PartialEq>⟧.eq memory.now }
+    requires remembers { Recalls F.replaces (I.meaning cx.now) folder.now ⟦<Place<I::Key> as PartialEq>⟧.eq (memory.now).made }
     ensures { IfSome result (IsMade (I.meaning cx.now) (F.replaces (I.meaning cx.now) folder.now) part.now depth) }
 {
     let _ = cx;
     let _ = folder;
+    if memory.made.is_empty() {
+        return None;
+    }
     let place = place_of(part, depth)?;
-    memory.get(&place).copied()
+    memory.made.get(&place).copied()
 }
 
-/// Keeps what was made of the part at this depth.
+/// Keeps what was made of the part at this depth, if enough were let go.
 pub fn keep<I: Interner, F: TypeFolder<I>>(
     cx: &I,
     folder: &F,
@@ -76,13 +89,17 @@ pub fn keep<I: Interner, F: TypeFolder<I>>(
     made: PartOf<I>,
 ) -> Result<(), OutOfMemory>
     requires made { IsMade (I.meaning cx.now) (F.replaces (I.meaning cx.now) folder.now) part.now depth made }
-    requires remembers { Recalls F.replaces (I.meaning cx.now) folder.now ⟦<Place<I::Key> as PartialEq>⟧.eq memory.old }
-    ensures { Recalls F.replaces (I.meaning cx.now) folder.now ⟦<Place<I::Key> as PartialEq>⟧.eq memory.new }
+    requires remembers { Recalls F.replaces (I.meaning cx.now) folder.now ⟦<Place<I::Key> as PartialEq>⟧.eq (memory.old).made }
+    ensures { Recalls F.replaces (I.meaning cx.now) folder.now ⟦<Place<I::Key> as PartialEq>⟧.eq (memory.new).made }
 {
     let _ = cx;
     let _ = folder;
+    if memory.let_go < CACHE_CUTOFF {
+        memory.let_go += 1;
+        return Ok(());
+    }
     if let Some(place) = place_of(part, depth) {
-        memory.insert(place, made)?;
+        memory.made.insert(place, made)?;
     }
     Ok(())
 }

@@ -1,5 +1,6 @@
 //! Terms moved under further binders: what binders outside bind stays bound by them.
-ghost use Rattle.std.specs.Prelude.{◌≡◌, ◌+◌, ⊤, IsTrue, IfOk, Some, None, cond, nat_lt, option_map};
+ghost use Rattle.std.specs.Prelude.{◌≡◌, ◌+◌, ◌&&◌, ⊤, IsTrue, IfOk, Some, None, cond, not, nat_eq, nat_lt};
+ghost use Rattle.std.specs.Prelude.{option_map};
 ghost use Rattle.relation_terms.specs.Trees.{known};
 ghost use Rattle.relation_terms.specs.Meaning.{Extends};
 ghost use Rattle.relation_folds.specs.Shifts.{ShiftsBy};
@@ -7,6 +8,7 @@ ghost use Rattle.relation_folds.specs.Shifts.{ShiftsBy};
 use crate::fold::{Fold, TypeFoldable, TypeFolder};
 use relation_terms::terms::{
     Const, ConstKind, DebruijnIndex, Interner, OutOfMemory, Region, RegionKind, Ty, TyKind,
+    TypeFlags, region_flags,
 };
 
 /// The term as it stands under `amount` more binders: a variable that a binder outside the term binds is bound by the
@@ -43,21 +45,33 @@ fn moved(index: &DebruijnIndex, depth: u128, by: u128) -> Result<Option<Debruijn
     }
 }
 
-// Moves what escapes.
+// Whether a move changes a term of these flags under so many binders.
+fn changes(flags: &TypeFlags, depth: u128, by: u128) -> bool
+    ensures { result ≡ not (nat_eq by 0) && nat_lt depth (flags.now).outer_exclusive_binder }
+{
+    by != 0 && depth < flags.outer_exclusive_binder
+}
+
+// Moves what escapes, and keeps each term from which nothing does, without going into it.
 #[derive(Clone, Copy)]
 struct Shifter {
     amount: u128,
 }
 
 impl<I: Interner> TypeFolder<I> for Shifter {
-    ghost use Rattle.std.specs.Prelude.{refl};
+    ghost use Rattle.std.specs.Prelude.{refl, ◌&&◌, Some, cond, not, nat_eq, nat_lt};
+    ghost use Rattle.relation_terms.specs.Flags.{outer_exclusive_binder};
     ghost use Rattle.relation_folds.specs.Shifts.{moves};
 
     ghost ready = { λ m f. Unit {0} };
 
-    ghost replaces = { λ m f. moves f.amount };
+    ghost replaces = { λ m f d t. let is_moved = not (nat_eq f.amount 0) && nat_lt d (outer_exclusive_binder t) in
+        cond is_moved (moves f.amount d t) (Some t) };
 
     fn fold_ty(&mut self, cx: &mut I, ty: &Ty<I>, depth: u128) -> Result<Fold<Ty<I>>, OutOfMemory> {
+        if !changes(&cx.ty_flags(ty), depth, self.amount) {
+            return Ok(Fold::Replace(*ty));
+        }
         match cx.ty_kind(ty) {
             TyKind::Bound(index, bound) => match moved(&index, depth, self.amount)? {
                 Some(index) => Ok(Fold::Replace(cx.mk_ty(TyKind::Bound(index, bound))?)),
@@ -73,6 +87,9 @@ impl<I: Interner> TypeFolder<I> for Shifter {
         region: &Region<I>,
         depth: u128,
     ) -> Result<Fold<Region<I>>, OutOfMemory> {
+        if !changes(&region_flags(cx, region), depth, self.amount) {
+            return Ok(Fold::Replace(*region));
+        }
         match cx.region_kind(region) {
             RegionKind::ReBound(index, bound) => match moved(&index, depth, self.amount)? {
                 Some(index) => Ok(Fold::Replace(cx.mk_region(RegionKind::ReBound(index, bound))?)),
@@ -88,6 +105,9 @@ impl<I: Interner> TypeFolder<I> for Shifter {
         constant: &Const<I>,
         depth: u128,
     ) -> Result<Fold<Const<I>>, OutOfMemory> {
+        if !changes(&cx.const_flags(constant), depth, self.amount) {
+            return Ok(Fold::Replace(*constant));
+        }
         match cx.const_kind(constant) {
             ConstKind::Bound(index, bound) => match moved(&index, depth, self.amount)? {
                 Some(index) => Ok(Fold::Replace(cx.mk_const(ConstKind::Bound(index, bound))?)),

@@ -1,7 +1,7 @@
 //! The walk of a folder through a term: one loop over the parts of all forms, so that no folder folds by itself.
 //!
-//! What was made of a part is kept for the length of a call, so the walk takes as many steps as there are different
-//! parts.
+//! What was made of a part is kept for the length of a call, but for the first 32, so the walk takes as many steps as
+//! there are different parts, and at most 32 more.
 //!
 //! The part of a binder stands one binder deeper, and all others as deep as the term that they are parts of.
 ghost use Rattle.std.specs.Prelude.{◌≡◌, IsTrue, IfOk, option_map};
@@ -73,10 +73,10 @@ fn fold_met<I: Interner, F: TypeFolder<I>>(
     requires known { IsTrue (known (part_tree (I.meaning cx.old) part.now)) }
     requires ready { F.ready (I.meaning cx.old) folder.old }
     requires remembers { Remembers (I.meaning cx.old) (F.replaces (I.meaning cx.old) folder.old)
-        ⟦<Place<I::Key> as PartialEq>⟧.eq memory.old }
+        ⟦<Place<I::Key> as PartialEq>⟧.eq (memory.old).made }
     ensures steps { Steps F.ready F.replaces (I.meaning cx.old) folder.old (I.meaning cx.new) folder.new }
     ensures remembers { Remembers (I.meaning cx.new) (F.replaces (I.meaning cx.new) folder.new)
-        ⟦<Place<I::Key> as PartialEq>⟧.eq memory.new }
+        ⟦<Place<I::Key> as PartialEq>⟧.eq (memory.new).made }
     ensures sure { IfOk result (λ k. IsTrue (known (part_tree (I.meaning cx.new) k))) }
     ensures made { FoldsPart F.replaces (I.meaning cx.old) folder.old (I.meaning cx.new) depth part.now result }
     ensures sort { IfOk result (λ k. part_sort k ≡ part_sort part.now) }
@@ -101,10 +101,10 @@ fn fold_new<I: Interner, F: TypeFolder<I>>(
     requires known { IsTrue (known (part_tree (I.meaning cx.old) part.now)) }
     requires ready { F.ready (I.meaning cx.old) folder.old }
     requires remembers { Remembers (I.meaning cx.old) (F.replaces (I.meaning cx.old) folder.old)
-        ⟦<Place<I::Key> as PartialEq>⟧.eq memory.old }
+        ⟦<Place<I::Key> as PartialEq>⟧.eq (memory.old).made }
     ensures steps { Steps F.ready F.replaces (I.meaning cx.old) folder.old (I.meaning cx.new) folder.new }
     ensures remembers { Remembers (I.meaning cx.new) (F.replaces (I.meaning cx.new) folder.new)
-        ⟦<Place<I::Key> as PartialEq>⟧.eq memory.new }
+        ⟦<Place<I::Key> as PartialEq>⟧.eq (memory.new).made }
     ensures sure { IfOk result (λ k. IsTrue (known (part_tree (I.meaning cx.new) k))) }
     ensures made { FoldsPart F.replaces (I.meaning cx.old) folder.old (I.meaning cx.new) depth part.now result }
     ensures sort { IfOk result (λ k. part_sort k ≡ part_sort part.now) }
@@ -127,10 +127,10 @@ fn fold_inside<I: Interner, F: TypeFolder<I>>(
     requires known { IsTrue (known (part_tree (I.meaning cx.old) part.now)) }
     requires ready { F.ready (I.meaning cx.old) folder.old }
     requires remembers { Remembers (I.meaning cx.old) (F.replaces (I.meaning cx.old) folder.old)
-        ⟦<Place<I::Key> as PartialEq>⟧.eq memory.old }
+        ⟦<Place<I::Key> as PartialEq>⟧.eq (memory.old).made }
     ensures steps { Steps F.ready F.replaces (I.meaning cx.old) folder.old (I.meaning cx.new) folder.new }
     ensures remembers { Remembers (I.meaning cx.new) (F.replaces (I.meaning cx.new) folder.new)
-        ⟦<Place<I::Key> as PartialEq>⟧.eq memory.new }
+        ⟦<Place<I::Key> as PartialEq>⟧.eq (memory.new).made }
     ensures sure { IfOk result (λ k. IsTrue (known (part_tree (I.meaning cx.new) k))) }
     ensures made { FoldsPartsOf F.replaces (I.meaning cx.old) folder.old (I.meaning cx.new) depth part.now result }
     ensures sort { IfOk result (λ k. part_sort k ≡ part_sort part.now) }
@@ -154,10 +154,10 @@ fn fold_members<I: Interner, F: TypeFolder<I>>(
     requires known { IsTrue (known (parts_tree (I.meaning cx.old) parts.now)) }
     requires ready { F.ready (I.meaning cx.old) folder.old }
     requires remembers { Remembers (I.meaning cx.old) (F.replaces (I.meaning cx.old) folder.old)
-        ⟦<Place<I::Key> as PartialEq>⟧.eq memory.old }
+        ⟦<Place<I::Key> as PartialEq>⟧.eq (memory.old).made }
     ensures steps { Steps F.ready F.replaces (I.meaning cx.old) folder.old (I.meaning cx.new) folder.new }
     ensures remembers { Remembers (I.meaning cx.new) (F.replaces (I.meaning cx.new) folder.new)
-        ⟦<Place<I::Key> as PartialEq>⟧.eq memory.new }
+        ⟦<Place<I::Key> as PartialEq>⟧.eq (memory.new).made }
     ensures sure { IfOk result (λ r. IsTrue (known (members_tree (part_tree (I.meaning cx.new))
         (parts_tree (I.meaning cx.old) parts.now) (option_map (λ list. list.items) r)))) }
     ensures made { IfOk result (λ r. members_tree (part_tree (I.meaning cx.new))

@@ -68,7 +68,7 @@ fold_new-returns-in-Replace g t' c =
     let made = subst (Folds p c.args.depth (part_tree m x) (part_tree n) (part_sort x)) c.in-Replace.is r.made in
     record {
       steps = r.steps;
-      remembers = remembers_on r.steps (place_eq g.I.Key.PartialEq.eq) c.args.memory.now c.requires.remembers;
+      remembers = remembers_on r.steps (place_eq g.I.Key.PartialEq.eq) (c.args.memory.now).made c.requires.remembers;
       sure = subst (KnownAnswer (part_tree n)) c.in-Replace.is r.sure;
       made = made.0;
       sort = made.1;
@@ -76,7 +76,7 @@ fold_new-returns-in-Replace g t' c =
 
 pub fold_new-returns-in_err-by-clause-remembers : goal.fold_new-returns-in_err-by-clause-remembers
 fold_new-returns-in_err-by-clause-remembers g t' c =
-    remembers_on c.in_err-by.ensures.steps (place_eq g.I.Key.PartialEq.eq) c.args.memory.now c.requires.remembers
+    remembers_on c.in_err-by.ensures.steps (place_eq g.I.Key.PartialEq.eq) (c.args.memory.now).made c.requires.remembers
 
 pub fold_new-fold_inside-requires : goal.fold_new-fold_inside-requires
 fold_new-fold_inside-requires g t' c κs within =
@@ -90,7 +90,7 @@ fold_new-fold_inside-requires g t' c κs within =
     let is : size (part_tree n x) ≡ size (part_tree m x) = ap size e in
     let small : 4 * size (part_tree n x) + 1 < 4 * size (part_tree m x) + 2 = omega (arith, is) in
     let r = s.ready in
-    let o = remembers_on s (place_eq g.I.Key.PartialEq.eq) c.args.memory.now c.requires.remembers in
+    let o = remembers_on s (place_eq g.I.Key.PartialEq.eq) (c.args.memory.now).made c.requires.remembers in
     search rules
 
 pub fold_new-returns-in-Descend : goal.fold_new-returns-in-Descend
@@ -169,7 +169,7 @@ fold_inside-returns-in-Some g t' c =
       steps = steps_grown g.met.F.TypeFolder.ready_on g.met.F.TypeFolder.replaces_on r.steps o.grown;
       remembers = remembers_on (steps_grown g.met.F.TypeFolder.ready_on g.met.F.TypeFolder.replaces_on
           (steps_none n c.fold_members.new.folder r.steps.ready) o.grown) (place_eq g.I.Key.PartialEq.eq)
-          c.fold_members.new.memory r.remembers;
+          (c.fold_members.new.memory).made r.remembers;
       sure = o.sure;
       made = if_ok c.with_parts.result (λ y h. h ∙ whole_made p c.args.depth c.in_ok-inside.inside (part_tree m x)
           (part_tree n x) us deep e q)

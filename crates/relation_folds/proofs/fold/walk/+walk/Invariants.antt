@@ -26,7 +26,7 @@ invariant-fold_members-loop-i g l =
       steps : Steps g.F.TypeFolder.ready g.F.TypeFolder.replaces (g.I.Interner.meaning l.fn.cx) l.fn.folder
           (g.I.Interner.meaning l.cx) l.folder;
       remembers : Remembers (g.I.Interner.meaning l.cx) (g.F.TypeFolder.replaces (g.I.Interner.meaning l.cx) l.folder)
-          (place_eq g.I.Key.PartialEq.eq) l.memory;
+          (place_eq g.I.Key.PartialEq.eq) l.memory.made;
       built : Built p l.depth (part_tree (g.I.Interner.meaning l.cx)) l.i ts l.made.items;
       left : IsTrue l.same → folded p l.depth (firsts l.i ts) ≡ firsts l.i ts;
     }
