@@ -13,7 +13,7 @@ linked f (Some (leaf (variable k n))) = suc (f k n)
 linked f o = 0
 
 -- How many variables are followed from one, in so many rounds.
-unfoldable links : ℕ → Store → VarKind → ℕ → ℕ
+unfoldable pub links : ℕ → Store → VarKind → ℕ → ℕ
 links zero st k n = 0
 links (suc f) st k n = linked (links f st) (bound_term st k n)
 

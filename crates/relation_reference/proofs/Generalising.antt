@@ -218,9 +218,9 @@ type_sort_of nil e = absurd (cc)
 type_sort_of (cons t ts) e = absurd (cc)
 
 -- Where memory ran out nothing is said of what is kept.
-pub none_kept : {A F P : Type 0} (r : Result A F) → IsErr r → OnOk r P
-none_kept (Ok x) e = absurd (cc)
-none_kept (Err f) e = tt
+pub none_kept : {A F : Type 0} (P : Type 0) (r : Result A F) → IsErr r → OnOk r P
+none_kept P (Ok x) e = absurd (cc)
+none_kept P (Err f) e = tt
 
 -- Errors pass through.
 module _ {I Key Id Name Span S : Type 0} (meaning : I → Meaning Key Id Name) (eq : MetKey Key → MetKey Key → Bool)
