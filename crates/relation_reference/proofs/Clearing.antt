@@ -1,5 +1,5 @@
 -- Terms in which no obstacle stands, and aliases that are left to goals.
-use Rattle.std.proofs.Common.{◌≡◌, ◌≢◌, ℕ, zero, suc, ◌<◌, ◌≤◌, Some, refl, sym, ap, ◌∙◌, arith, subst, IsTrue, Bool, true, false, cond, List, []}
+use Rattle.std.proofs.Common.{◌≡◌, ◌≢◌, ℕ, zero, suc, ◌<◌, ◌≤◌, Some, refl, sym, ap, ◌∙◌, arith, subst, IsTrue, Bool, true, false, cond}
 use Rattle.std.proofs.lemmas.Bool.{false≢true}
 use Rattle.std.specs.HashSet.{HashSet, IsEmpty}
 use Rattle.std.specs.List.{list_any}
@@ -18,7 +18,7 @@ use Rattle.relation_terms.specs.Parts.{tree_sort, parts_of}
 use Rattle.relation_terms.proofs.Stays.{knows_as}
 use Rattle.relation_contexts.specs.declared.relate.StructurallyRelateAliases.{StructurallyRelateAliases}
 use Rattle.relation_contexts.specs.declared.relate.StructurallyRelateAliases.TheVariants.{Yes, No}
-use Rattle.relation_contexts.specs.Stores.{Store, universe_of}
+use Rattle.relation_contexts.specs.Stores.{Store}
 use Rattle.relation_contexts.specs.Generalising.{Stays, gives_way_to, Side, inside, outside, cycle, beyond, IsNoObstacle, IsSeen, StopsAt, at_itself, at_placeholder}
 use Rattle.relation_contexts.proofs.Lists.{firsts, firsts_all}
 use Rattle.relation_reference.specs.Generalises.{IsClearFor, HasObstacle, TellsClear, IsLeftAlias, IsSeenTree, MayGoInto, AliasGivesWay, TellsGivesWay, WasClear, AreClear, IsClearInside, parts_side}

@@ -9,7 +9,7 @@ use Rattle.relation_terms.specs.declared.terms.keys.TyKey.{TyKey}
 use Rattle.relation_terms.specs.declared.terms.part_kind.Part.{Part}
 use Rattle.relation_terms.specs.declared.terms.part_kind.Part.TheVariants.{Region, Ty, Const}
 use Rattle.relation_terms.specs.Heads.{region_sort, BoundKind, bound_sort, VarKind, type_var, const_var, region_var}
-use Rattle.relation_terms.specs.Heads.{AliasKind, alias, Head, Leaf, variable, placeholder}
+use Rattle.relation_terms.specs.Heads.{AliasKind, alias, Leaf, variable, placeholder}
 use Rattle.relation_terms.specs.Trees.{Tree, leaf, node, Leaves, known}
 use Rattle.relation_terms.specs.Meaning.{Meaning, Extends}
 use Rattle.relation_terms.specs.Parts.{part_tree, part_sort}

@@ -207,8 +207,8 @@ generalise_new-returns-in_err-next_alias_var-in-ByParts g t' c =
           from.ensures.0 from.ensures.1;
     }
 
-pub generalise_new-returns-in_ok-next_alias_var-in-ByParts : goal.generalise_new-returns-in_ok-next_alias_var-in-ByParts
-generalise_new-returns-in_ok-next_alias_var-in-ByParts g t' c =
+pub generalise_new-returns-then-branch : goal.generalise_new-returns-then-branch
+generalise_new-returns-then-branch g t' c =
     let meaning = g.I.Interner.meaning in
     let m = meaning c.args.self.now.interner in
     let eq = met_eq g.I.Key.PartialEq.eq in
@@ -575,6 +575,10 @@ generalise_new-next_for-requires-clause-lawful g t' c =
 pub generalise_new-next_for-requires-clause-below : goal.generalise_new-next_for-requires-clause-below
 generalise_new-next_for-requires-clause-below g t' c =
     c.requires.below
+
+pub generalise_new-returns-else-branch : goal.generalise_new-returns-else-branch
+generalise_new-returns-else-branch g t' c =
+    c.generalise_parts.ensures
 
 pub generalise_part-recall-requires-clause-known : goal.generalise_part-recall-requires-clause-known
 generalise_part-recall-requires-clause-known g t' c =
