@@ -3,6 +3,8 @@ use Rattle.std.proofs.Common.{◌≡◌, ◌⊎◌, ℕ, suc, ◌+◌, ◌*◌, 
 use Rattle.std.proofs.Math.Nat.{mul-suc, suc-mul}
 use Rattle.relation_terms.specs.Heads.{VarKind, type_var, const_var, region_var, region_kind, bound_kind, Leaf, variable, placeholder, atom, static_region, early_region}
 use Rattle.relation_terms.specs.Trees.{Tree, leaf}
+use Rattle.relation_contexts.specs.declared.relate.StructurallyRelateAliases.{StructurallyRelateAliases}
+use Rattle.relation_contexts.specs.declared.relate.StructurallyRelateAliases.TheVariants.{No}
 use Rattle.relation_contexts.specs.Relation.{IsAlias}
 use Rattle.relation_contexts.specs.Stores.{Store, Entry, unbound, same_as, bound_to, entry_of, entry_term, bound_term}
 use Rattle.relation_contexts.specs.Steps.{LeadsTo, here, next}
@@ -91,13 +93,13 @@ gives_type (atom static_region) e = absurd cc
 gives_type (atom (early_region i x)) e = absurd cc
 gives_type l e = absurd cc
 
-becomes_variable : {al : _} {c : _} {start : Store} {k : VarKind} {n : ℕ} {turn : Turn} {r q : Stage} {t x : Tree} → Generalised al c start k n turn r t q x → r.met ≡ [] → (m : ℕ) → x ≡ leaf (variable type_var m) → IsAlias t ⊎ ((i : ℕ) × (t ≡ leaf (variable type_var i)))
+becomes_variable : {al : StructurallyRelateAliases} {c : _} {start : Store} {k : VarKind} {n : ℕ} {turn : Turn} {r q : Stage} {t x : Tree} → Generalised al c start k n turn r t q x → r.met ≡ [] → (m : ℕ) → x ≡ leaf (variable type_var m) → ((al ≡ No) × IsAlias t) ⊎ ((i : ℕ) × (t ≡ leaf (variable type_var i)))
 becomes_variable (met_before s d) e m p = absurd (let l = d.1 in let z = ap length e in omega (arith, l, z))
 becomes_variable (met_first s f g d h) e m p = becomes_variable g e m p
 becomes_variable (no_type s g) e m p = becomes_variable g e m p
 becomes_variable (stays {l = l} o s) e m p = inr (m, p)
 becomes_variable (gives_way {l = l} {j = j} o s g b d) e m p = let a : j ≡ type_var = cc in let z = gives_type l (g ∙ ap Some a) in inr z
-becomes_variable (alias_gives_way p s b d) e m q = inl tt
+becomes_variable (alias_gives_way p s b d) e m q = inl (p, tt)
 becomes_variable (by_parts z g) e m p = absurd cc
 becomes_variable (in_binder g) e m p = absurd cc
 becomes_variable no_parts e m p = absurd cc

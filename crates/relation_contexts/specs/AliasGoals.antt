@@ -8,7 +8,7 @@ use Rattle.relation_terms.specs.Trees.{Tree, leaf, node, bind, nil, cons, IsTerm
 use Rattle.relation_contexts.specs.Relation.{Items, at, IsError}
 use Rattle.relation_contexts.specs.Stores.{Store, bound_to, entry_of, InContext}
 use Rattle.relation_contexts.specs.Goals.{Goal, goal_of, alias_relate_predicate, ambiguous_predicate}
-use Rattle.relation_contexts.specs.Steps.{ChangesNothing, Instantiates, IsGeneralised}
+use Rattle.relation_contexts.specs.Steps.{Taints, Instantiates, IsGeneralised}
 use Rattle.relation_contexts.specs.Outcomes.{Outcome}
 
 -- What is asked of two types, one an alias, that are related at a variance: at covariance that the first is a subtype
@@ -18,12 +18,6 @@ alias_at Covariant a b = Some (alias_relate_predicate Subtype a b)
 alias_at Contravariant a b = Some (alias_relate_predicate Subtype b a)
 alias_at Invariant a b = Some (alias_relate_predicate Equate a b)
 alias_at Bivariant a b = None
-
--- An error was met: that is recorded, and nothing else is.
-pub record Taints (before after : Store) : Type 0 where
-  pub nothing_else : ChangesNothing before after
-  pub same_universe : after.universe ≡ before.universe
-  pub tainted : IsTrue after.tainted
 
 -- Registering the alias goal of two types relates them, and loses no equal pair.
 abbrev pub AliasGoalsRelate : Type 0

@@ -139,7 +139,8 @@ module _ {Key Id Name : Type 0} (c d : Context Key Id Name) where
   -- A universe was made, above that of each variable and the one that was current, and is the current one; or nothing
   -- was recorded.
   abbrev pub EntersNext : {F : Type 0} → Result UniverseIndex F → Type 0
-  EntersNext (Ok u) = ChangesNothing c.store d.store × ((d.store).universe ≡ u.0) × ((c.store).universe < u.0) ×
+  EntersNext (Ok u) = ChangesNothing c.store d.store × ((d.store).tainted ≡ (c.store).tainted) ×
+      ((d.store).universe ≡ u.0) × ((c.store).universe < u.0) ×
       ((k : VarKind) (n : ℕ) → universe_of c.store k n < u.0)
   EntersNext (Err f) = d.store ≡ c.store
 

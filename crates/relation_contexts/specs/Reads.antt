@@ -1,6 +1,7 @@
 -- What types are read as, and that each is read as one.
 use Rattle.std.specs.Prelude.{◌≡◌, ◌⊎◌, ℕ, suc, ◌+◌, ◌≤◌, Bool, []}
 use Rattle.relation_contexts.specs.declared.relate.StructurallyRelateAliases.{StructurallyRelateAliases}
+use Rattle.relation_contexts.specs.declared.relate.StructurallyRelateAliases.TheVariants.{No}
 use Rattle.term_enums.specs.declared.Variance.{Variance}
 use Rattle.relation_terms.specs.Heads.{VarKind, type_var, Head, variable}
 use Rattle.relation_terms.specs.Trees.{Tree, leaf}
@@ -17,12 +18,12 @@ use Rattle.relation_contexts.specs.AliasGoals.{Lacks, BindsWithout}
 abbrev pub ReadsOnce : Type 0
 ReadsOnce = (st : Store) (t x y : Tree) → IsReadAs st t x → IsReadAs st t y → IsShallow st x → IsShallow st y → x ≡ y
 
--- What becomes a type variable is an alias or a type variable.
+-- What becomes a type variable is an alias, where aliases are left to goals, or a type variable.
 abbrev pub VariablesComeOfAliases : Type 0
 VariablesComeOfAliases = (g : StructurallyRelateAliases) (c : Items) (start : Store) (k : VarKind) (n m : ℕ) (e : Side)
     (v : Variance) (r q : Stage) (t : Tree) → r.met ≡ [] →
     Generalised g c start k n (any_part e v) r t q (leaf (variable type_var m)) →
-    IsAlias t ⊎ ((i : ℕ) × (t ≡ leaf (variable type_var i)))
+    ((g ≡ No) × IsAlias t) ⊎ ((i : ℕ) × (t ≡ leaf (variable type_var i)))
 
 -- A variable of size 1 and its source: after the binding the bound term and the source weigh no more than the square.
 abbrev pub NoLarger : Type 0

@@ -16,8 +16,8 @@ pub fn declared_variance<I: Interner>(cx: &I, def_id: &ItemOf<I>, i: usize) -> V
     }
 }
 
-// The item that an alias type is of.
-fn alias_item<D: Copy>(kind: &AliasTyKind<D>) -> DefId<D>
+/// The item that an alias type is of.
+pub fn alias_item<D: Copy>(kind: &AliasTyKind<D>) -> DefId<D>
     ensures { result.0 ≡ alias_id kind.now }
 {
     match kind {
