@@ -1,13 +1,13 @@
 -- What types are read as, and that each is read as one.
-use Rattle.std.specs.Prelude.{◌≡◌, ◌⊎◌, ℕ, suc, ◌+◌, ◌≤◌, Bool, None, []}
+use Rattle.std.specs.Prelude.{◌≡◌, ◌⊎◌, ℕ, suc, ◌+◌, ◌≤◌, Bool, []}
 use Rattle.relation_contexts.specs.declared.relate.StructurallyRelateAliases.{StructurallyRelateAliases}
 use Rattle.relation_contexts.specs.declared.relate.StructurallyRelateAliases.TheVariants.{No}
 use Rattle.term_enums.specs.declared.Variance.{Variance}
 use Rattle.relation_terms.specs.Heads.{VarKind, type_var, Head, variable}
 use Rattle.relation_terms.specs.Trees.{Tree, leaf}
 use Rattle.relation_contexts.specs.Relation.{Items, IsAlias}
-use Rattle.relation_contexts.specs.Stores.{Store, bound_to, entry_of, bound_term}
-use Rattle.relation_contexts.specs.Steps.{OneClass, Instantiates}
+use Rattle.relation_contexts.specs.Stores.{Store}
+use Rattle.relation_contexts.specs.Steps.{Instantiates}
 use Rattle.relation_contexts.specs.Measures.{grown}
 use Rattle.relation_contexts.specs.Generalising.{Stage, Side, any_part, Generalised}
 use Rattle.relation_contexts.specs.Errors.{IsReadAs}

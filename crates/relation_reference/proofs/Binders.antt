@@ -138,13 +138,14 @@ module _ {Key Id Name : Type 0} (c d : Context Key Id Name) where
 
   pub entered_as : (o : Option (List BoundKind)) (t x : Tree) (ps : List Tree) → IsTrue (known (under o t)) →
       BindsByList (under o t) → bound_var_escapes t ≡ true → ChangesNothing c.store d.store →
-      (c.store).universe < (d.store).universe → ps ≡ placeholders_from (d.store).universe 0 (kinds_in o) →
+      (d.store).tainted ≡ (c.store).tainted → (c.store).universe < (d.store).universe → ps ≡ placeholders_from (d.store).universe 0 (kinds_in o) →
       x ≡ opened ps t → EntersAs c d (under o t) x
-  entered_as (Some ks) t x ps k b h changes above p e =
+  entered_as (Some ks) t x ps k b h changes taint above p e =
       let are : ArePlaceholders (d.store).universe ks ps =
       subst (ArePlaceholders (d.store).universe ks) (sym p) (placeholders_are (d.store).universe 0 ks) in
       record {
         changes_nothing = changes;
+        same_taint = taint;
         opens = inr (
           some_escapes 0 t h,
           record {
@@ -155,7 +156,7 @@ module _ {Key Id Name : Type 0} (c d : Context Key Id Name) where
           },
         );
       }
-  entered_as None t x ps k b h changes above p e = absurd (false≢true k)
+  entered_as None t x ps k b h changes taint above p e = absurd (false≢true k)
 
   pub instantiated_as : (o : Option (List BoundKind)) (t x : Tree) (xs : List Tree) → IsTrue (known (under o t)) →
       BindsByList (under o t) → MakesEach (c.store).universe c.store (kinds_in o) xs d.store → x ≡ opened xs t →

@@ -2,7 +2,7 @@
 use Rattle.std.proofs.Common.{◌≡◌, ◌≢◌, ◌<◌, ◌≤◌, ℕ, zero, suc, refl, sym, ap, ◌∙◌, arith, subst, Option, None, Some}
 use Rattle.relation_terms.specs.Heads.{VarKind, variable, bound, placeholder, atom, unknown}
 use Rattle.relation_terms.specs.Trees.{Tree, leaf, node, bind, nil, cons, Leaves, apply}
-use Rattle.relation_contexts.specs.Stores.{Store, IsSound, IsFree, unbound, same_as, bound_to, entry_of, entry_term, bound_term, resolve, resolved, rounds_for, all_taken}
+use Rattle.relation_contexts.specs.Stores.{Store, IsSound, IsFree, unbound, entry_of, entry_term, bound_term, resolve, resolved, rounds_for, all_taken}
 use Rattle.relation_contexts.specs.Steps.{LeadsTo, here, next}
 use Rattle.relation_contexts.proofs.Resolved.{resolve_start, resolve_bound, HasTerm, is_free, is_bound, has_term}
 use Rattle.relation_reference.specs.Answers.{Found, found_root, found_term}
@@ -13,7 +13,7 @@ linked f (Some (leaf (variable k n))) = suc (f k n)
 linked f o = 0
 
 -- How many variables are followed from one, in so many rounds.
-unfoldable links : ℕ → Store → VarKind → ℕ → ℕ
+unfoldable pub links : ℕ → Store → VarKind → ℕ → ℕ
 links zero st k n = 0
 links (suc f) st k n = linked (links f st) (bound_term st k n)
 

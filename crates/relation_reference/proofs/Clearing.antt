@@ -1,5 +1,5 @@
 -- Terms in which no obstacle stands, and aliases that are left to goals.
-use Rattle.std.proofs.Common.{◌≡◌, ◌≢◌, ℕ, zero, suc, ◌<◌, ◌≤◌, Some, refl, sym, ap, ◌∙◌, arith, subst, IsTrue, Bool, true, false, cond, List, []}
+use Rattle.std.proofs.Common.{◌≡◌, ◌≢◌, ℕ, zero, suc, ◌<◌, ◌≤◌, Some, refl, sym, ap, ◌∙◌, arith, subst, IsTrue, Bool, true, false, cond}
 use Rattle.std.proofs.lemmas.Bool.{false≢true}
 use Rattle.std.specs.HashSet.{HashSet, IsEmpty}
 use Rattle.std.specs.List.{list_any}
@@ -18,15 +18,19 @@ use Rattle.relation_terms.specs.Parts.{tree_sort, parts_of}
 use Rattle.relation_terms.proofs.Stays.{knows_as}
 use Rattle.relation_contexts.specs.declared.relate.StructurallyRelateAliases.{StructurallyRelateAliases}
 use Rattle.relation_contexts.specs.declared.relate.StructurallyRelateAliases.TheVariants.{Yes, No}
-use Rattle.relation_contexts.specs.Stores.{Store, universe_of}
+use Rattle.relation_contexts.specs.Stores.{Store}
 use Rattle.relation_contexts.specs.Generalising.{Stays, gives_way_to, Side, inside, outside, cycle, beyond, IsNoObstacle, IsSeen, StopsAt, at_itself, at_placeholder}
 use Rattle.relation_contexts.proofs.Lists.{firsts, firsts_all}
-use Rattle.relation_reference.specs.Generalises.{IsClearFor, HasObstacle, IsLeftAlias, IsSeenTree, MayGoInto, WasClear, AreClear, IsClearInside, parts_side}
+use Rattle.relation_reference.specs.Generalises.{IsClearFor, HasObstacle, TellsClear, IsLeftAlias, IsSeenTree, MayGoInto, AliasGivesWay, TellsGivesWay, WasClear, AreClear, IsClearInside, parts_side}
 use Rattle.relation_reference.proofs.Generalising.{clear_all, clear_gives, stops_whole}
 
 -- Types are looked for by their keys.
 abbrev pub ty_eq : {Key : Type 0} → (Key → Key → Bool) → TyKey Key → TyKey Key → Bool
 ty_eq eq x y = eq x.0 y.0
+
+more : (b o : Bool) (P : Type 0) → (IsTrue b → P) → (o ≡ true → P) → cond b true o ≡ true → P
+more true o P f g e = f refl
+more false o P f g e = g e
 
 module _ {Key Id Name : Type 0} where
   -- A set without elements has no type that isn't clear.
@@ -45,10 +49,6 @@ module _ {Key Id Name : Type 0} where
       }
 
   -- One more was found clear.
-  more : (b o : Bool) (P : Type 0) → (IsTrue b → P) → (o ≡ true → P) → cond b true o ≡ true → P
-  more true o P f g e = f refl
-  more false o P f g e = g e
-
   pub clear_more : {S : Type 0} (eq : TyKey Key → TyKey Key → Bool) (m : Meaning Key Id Name) (k : VarKind) (n u : ℕ) (old new : HashSet (TyKey Key) S) (t : TyKey Key) → IsTrue (known (m.ty t)) → IsClearFor k n u (m.ty t) →
       ((q : TyKey Key) → list_any (eq q) new.keys ≡ cond (eq t q) true (list_any (eq q) old.keys)) → AreClear eq m k n u old → AreClear eq m k n u new
   clear_more eq m k n u old new t there clear updates a q h =
@@ -61,6 +61,15 @@ module _ {Key Id Name : Type 0} where
   found_clear eq m same k n u found a q there b e h =
       let w = a q (sym e ∙ h) in
       subst (IsClearFor k n u) ((same w.key q w.there there).0 w.same) w.clear
+
+-- What is told of a term.
+pub told_clear : (k : VarKind) (n u : ℕ) (t : Tree) (b : Bool) → TellsClear k n u t b → b ≡ true → IsClearFor k n u t
+told_clear k n u t true h e = h
+told_clear k n u t false h e = absurd (false≢true e)
+
+pub told_stops : (k : VarKind) (n u : ℕ) (t : Tree) (b : Bool) → TellsClear k n u t b → b ≡ false → HasObstacle k n u t
+told_stops k n u t false h e = h
+told_stops k n u t true h e = absurd (false≢true (sym e))
 
 -- The form of a type that is no alias.
 infer_seen_tree : (i : InferTy) → IsSeenTree No (infer_tree i)
@@ -198,3 +207,11 @@ whole_clear k n u j (node h ts) s is e f a = λ st q. subst (Leaves (IsNoObstacl
 whole_clear k n u j (bind ks t) s is e f a = λ st q. (subst (λ y. Leaves (IsNoObstacle st k n) (firsts y (cons t nil))) e (a st q)).0
 whole_clear k n u j nil s is e f a = absurd (s refl)
 whole_clear k n u j (cons t ts) s is e f a = absurd (s refl)
+
+-- What is told of an alias, which is a type.
+pub told_gives_way : (g : StructurallyRelateAliases) (k : VarKind) (n u : ℕ) (e : Side) (t : Tree) (b : Bool) → TellsGivesWay g k n u e t b → b ≡ true → AliasGivesWay g k n u e t
+told_gives_way g k n u e t true h q = h
+told_gives_way g k n u e t false h q = absurd (false≢true q)
+
+pub alias_sort : (g : StructurallyRelateAliases) (t : Tree) → IsLeftAlias g t → tree_sort t ≡ type_sort
+alias_sort g t l = ap tree_sort l.is

@@ -24,7 +24,7 @@ use Rattle.relation_contexts.specs.Bound.{AreBoundAs}
 use Rattle.relation_contexts.specs.Covered.{IsCovered}
 use Rattle.relation_contexts.specs.Stores.{Store, universe_of, IsMade, IsMadeLeaf, InContext, IsSound}
 use Rattle.relation_contexts.specs.Steps.{MakesVariable}
-use Rattle.relation_contexts.specs.Generalising.{Stays, gives_way_to, Side, outside, inside, side_in, Met, Stage, Turn, any_part, new_part, variance_of_part, Generalised, met_before, met_first, no_type, stays, gives_way, alias_gives_way, by_parts, in_binder, no_parts, next_part, MakesUnbound, makes_none, makes_one, Obstacle, cycle, beyond, IsNoObstacle, IsSeen, IsClear, GoesInto, StopsAt, at_itself, at_placeholder, in_parts, in_body, in_first, in_others}
+use Rattle.relation_contexts.specs.Generalising.{Stays, gives_way_to, Side, outside, inside, side_in, Met, Stage, Turn, any_part, new_part, variance_of_part, Generalised, met_before, met_first, no_type, stays, gives_way, alias_gives_way, by_parts, in_binder, no_parts, next_part, MakesUnbound, makes_none, makes_one, Obstacle, cycle, beyond, IsNoObstacle, IsSeen, IsClear, StopsAt, at_itself, at_placeholder, in_parts, in_body, in_first, in_others}
 use Rattle.relation_contexts.proofs.Trees.{Leaves_map}
 use Rattle.relation_contexts.proofs.NewVariables.{Adds, adds, makes_then}
 use Rattle.relation_contexts.proofs.Generalising.{gives_no_number}
@@ -35,7 +35,7 @@ use Rattle.relation_reference.specs.declared.context.generalising.MetKey.{MetKey
 use Rattle.relation_reference.specs.declared.context.generalising.Fate.TheVariants.{ByParts}
 use Rattle.relation_reference.specs.declared.context.variables.RefCtxt.{RefCtxt}
 use Rattle.relation_reference.specs.Tables.{store_of}
-use Rattle.relation_reference.specs.Generalises.{side_of, side_at, parts_side, met_at, HasObstacle, IsClearInside, MayGoInto, AliasGivesWay, IsFate, IsSure, Keeps, HasCome, Becomes, StopsAlways, BecomesAlways, GeneralisesTo, Generalises, IsGeneralisedFor}
+use Rattle.relation_reference.specs.Generalises.{side_of, parts_side, met_at, IsClearInside, MayGoInto, AliasGivesWay, IsFate, IsSure, Keeps, HasCome, Becomes, StopsAlways, BecomesAlways, GeneralisesTo, Generalises, IsGeneralisedFor}
 use Rattle.relation_reference.proofs.Resolving.{context_part}
 use Rattle.relation_reference.proofs.Recalling.{sure_grows, keeps_none, keeps_grows}
 
@@ -218,9 +218,9 @@ type_sort_of nil e = absurd (cc)
 type_sort_of (cons t ts) e = absurd (cc)
 
 -- Where memory ran out nothing is said of what is kept.
-pub none_kept : {A F P : Type 0} (r : Result A F) → IsErr r → OnOk r P
-none_kept (Ok x) e = absurd (cc)
-none_kept (Err f) e = tt
+pub none_kept : {A F : Type 0} (P : Type 0) (r : Result A F) → IsErr r → OnOk r P
+none_kept P (Ok x) e = absurd (cc)
+none_kept P (Err f) e = tt
 
 -- Errors pass through.
 module _ {I Key Id Name Span S : Type 0} (meaning : I → Meaning Key Id Name) (eq : MetKey Key → MetKey Key → Bool)

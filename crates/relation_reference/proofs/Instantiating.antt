@@ -4,7 +4,7 @@ use Rattle.std.proofs.lemmas.List.{get_or-map}
 use Rattle.std.specs.Result.{IsErr, IsErrAnd}
 use Rattle.term_enums.specs.declared.Variance.{Variance}
 use Rattle.relation_terms.specs.declared.terms.part_kind.Part.{Part}
-use Rattle.relation_terms.specs.Heads.{region_kind, type_sort, const_sort, bound_kind, VarKind, type_var, int_var, float_var, const_var, region_var, static_region, early_region, Leaf, variable, bound, placeholder, atom, unknown}
+use Rattle.relation_terms.specs.Heads.{region_kind, const_sort, bound_kind, VarKind, type_var, int_var, float_var, const_var, region_var, static_region, early_region, Leaf, variable, bound, placeholder, atom, unknown}
 use Rattle.relation_terms.specs.Trees.{Tree, leaf, node, bind, nil, cons, apply, IsTerm}
 use Rattle.relation_terms.specs.Meaning.{Meaning, Extends}
 use Rattle.relation_terms.specs.Parts.{part_tree}

@@ -1,5 +1,5 @@
 -- Reading the tables.
-use Rattle.std.proofs.Common.{◌≡◌, ◌≢◌, ℕ, ◌<◌, IsTrue, refl, sym, ap, ◌∙◌, subst, List, length, get_or}
+use Rattle.std.proofs.Common.{◌≡◌, ℕ, ◌<◌, IsTrue, refl, sym, ap, ◌∙◌, subst, List, length, get_or}
 use Rattle.std.proofs.lemmas.List.{get_or-map, length-map}
 use Rattle.std.proofs.Math.ListN.{get_or-map as at_map}
 use Rattle.relation_terms.specs.Heads.{VarKind, type_var, const_var, variable}
@@ -29,7 +29,7 @@ use Rattle.relation_reference.specs.declared.context.inner.VariableValue.TheVari
 use Rattle.relation_reference.specs.declared.context.inner.InferCtxtInner.{InferCtxtInner}
 use Rattle.relation_reference.specs.declared.context.memory.TermVid.{TermVid}
 use Rattle.relation_reference.specs.declared.context.memory.TermVid.TheVariants.{Ty as TyTerm, Const as ConstTerm}
-use Rattle.relation_reference.specs.Answers.{Found, found_root, found_term, IsWritten}
+use Rattle.relation_reference.specs.Answers.{Found, found_root, found_term}
 use Rattle.relation_reference.specs.Remembering.{vid_kind, vid_number}
 use Rattle.relation_reference.specs.Variables.{value_at, root_by, root_at, term_by, term_at, entry_of_value, entries_of, trees_of, keys_of}
 use Rattle.relation_reference.specs.Tables.{store_of, MayBeBoundTo, IsRooted, IsLawful}
@@ -119,18 +119,10 @@ pub found_const_shallow : {Key Id Name : Type 0} (m : Meaning Key Id Name) (x : 
 found_const_shallow m x l n u (found_root r d e q) = const_root r q (ap (entry_term const_var) e)
 found_const_shallow m x l n u (found_term r d e) = no_variable (λ k i q. subst IsFormedConst q (l.formed const_var r u e).0)
 
--- A type variable of which nothing is recorded has no term, and one of which something is no other.
+-- A type variable of which nothing is recorded has no term.
 module _ {K : Type 0} (tree : K → Tree) (vs : List (Variable K)) (st : Store) (is : st.entries type_var ≡ entries_of tree vs) (n : ℕ) (t : Tree) (e : t ≡ leaf (variable type_var n)) where
   pub unknown_shallow : value_at vs n ≡ Unknown → IsShallowTy st t
   unknown_shallow v = ty_root n e (ap (entry_term type_var) (entry_is tree vs st type_var is n ∙ ap (entry_of_value tree) v))
-
-  written_by : (v : VariableValue K) → value_at vs n ≡ v → v ≢ Unknown → entry_of st type_var n ≢ unbound
-  written_by Unknown q o h = o refl
-  written_by (SameAs r) q o h = let z = entry_is tree vs st type_var is n ∙ ap (entry_of_value tree) q in cc (z, h)
-  written_by (Known x) q o h = let z = entry_is tree vs st type_var is n ∙ ap (entry_of_value tree) q in cc (z, h)
-
-  pub known_written : IsMade st type_var n → value_at vs n ≢ Unknown → IsWritten st n t
-  known_written made o = record { is = e; made = made; written = written_by (value_at vs n) refl o }
 
 -- A type that is no integer or float variable, nor a type variable that has a term, stays as it is.
 infer_shallow : (st : Store) (i : InferTy) → IsShallowTy st (infer_tree i) → ((v : IntVid) → i ≡ IntVar v → ⊥) → ((v : FloatVid) → i ≡ FloatVar v → ⊥) → IsShallow st (infer_tree i)
@@ -169,6 +161,10 @@ module _ {Key Id Name : Type 0} (m : Meaning Key Id Name) (k : ConstKind Key Id 
   const_no_vid h v q = const_no_variable m k (vid_kind v) (vid_number v) h (sym e ∙ q)
 
 -- A variable of the context; and what a term of it is read as is of it.
+pub context_of_made : (st : Store) (k : VarKind) (n : ℕ) → IsMade st k n → InContext st (leaf (variable k n))
+unfolding InContext
+context_of_made st k n h = h
+
 pub context_read : (st : Store) → IsSound st → (t u : Tree) → IsReadAs st t u → InContext st t → InContext st u
 context_read st g t u (itself e) h = subst (InContext st) e h
 context_read st g t u (by_class k n m e c r) h = context_read st g (leaf (variable k m)) u r

@@ -45,7 +45,7 @@ module _ {I Key Id Name Span : Type 0} (meaning : I → Meaning Key Id Name) (p 
       let above : (p.inner.universe).0 < u.0 = omega (arith, next) in
       subst (λ i. EntersNext (context_in meaning p) (context_of (meaning i) q.inner) {F = F} (Ok u)) (sym same)
       (subst (λ z. EntersNext (context_in meaning p) (context_of (meaning p.interner) z) {F = F} (Ok u)) (sym is)
-      (universe_alone (meaning p.interner) p.inner u above, refl, above, λ k n. let low = (before.sound).below_current k n in omega (arith, low, above)))
+      (universe_alone (meaning p.interner) p.inner u above, refl, refl, above, λ k n. let low = (before.sound).below_current k n in omega (arith, low, above)))
   universe_entered (Err f) is next refused =
       subst (λ i. store_of (meaning i) q.inner ≡ store_of (meaning p.interner) p.inner) (sym same) (ap (store_of (meaning p.interner)) refused)
 

@@ -9,7 +9,7 @@ use Rattle.relation_terms.specs.declared.terms.keys.TyKey.{TyKey}
 use Rattle.relation_terms.specs.declared.terms.part_kind.Part.{Part}
 use Rattle.relation_terms.specs.declared.terms.part_kind.Part.TheVariants.{Region, Ty, Const}
 use Rattle.relation_terms.specs.Heads.{region_sort, BoundKind, bound_sort, VarKind, type_var, const_var, region_var}
-use Rattle.relation_terms.specs.Heads.{AliasKind, alias, Head, Leaf, variable, placeholder}
+use Rattle.relation_terms.specs.Heads.{AliasKind, alias, Leaf, variable, placeholder}
 use Rattle.relation_terms.specs.Trees.{Tree, leaf, node, Leaves, known}
 use Rattle.relation_terms.specs.Meaning.{Meaning, Extends}
 use Rattle.relation_terms.specs.Parts.{part_tree, part_sort}
@@ -208,12 +208,12 @@ module _ {Key Id Name S : Type 0} (eq : MetKey Key → MetKey Key → Bool) (m n
 
 -- Where a term was generalised, type variables stay marked as they were since any earlier context of which the term is:
 -- each that was made is marked as related to one that there was, or to none.
-abbrev pub MarksFrom : {I Key Id Name Span : Type 0} → (I → Meaning Key Id Name) → RefCtxt I Key Id Name Span →
-    RefCtxt I Key Id Name Span → Tree → Type 0
-MarksFrom meaning before after t = (start : RefCtxt _ _ _ _ _) →
-    ((n : ℕ) → IsMade (store_in meaning start) type_var n → IsMade (store_in meaning before) type_var n) →
-    MarksNew (context_in meaning start) (context_in meaning before) → InContext (store_in meaning start) t →
-    MarksNew (context_in meaning start) (context_in meaning after)
+module _ {I Key Id Name Span : Type 0} (meaning : I → Meaning Key Id Name) where
+  abbrev pub MarksFrom : RefCtxt I Key Id Name Span → RefCtxt I Key Id Name Span → Tree → Type 0
+  MarksFrom before after t = (start : RefCtxt I Key Id Name Span) →
+      ((n : ℕ) → IsMade (store_in meaning start) type_var n → IsMade (store_in meaning before) type_var n) →
+      MarksNew (context_in meaning start) (context_in meaning before) → InContext (store_in meaning start) t →
+      MarksNew (context_in meaning start) (context_in meaning after)
 
 -- A part was generalised in a context, for variable `i` of kind `k` in universe `u`; unbound variables may have been
 -- made, also where that failed, and those of types were marked as related to ones that there were, or to none.

@@ -1,4 +1,4 @@
-use Rattle.std.proofs.Common.{◌≡◌, ◌∙◌, ◌<◌, IsTrue, sym, ap, subst, rules}
+use Rattle.std.proofs.Common.{◌∙◌, ◌<◌, IsTrue, sym, ap, subst, rules}
 use Rattle.relation_terms.specs.Trees.{known, count}
 use Rattle.relation_terms.specs.Parts.{part_tree, parts_of}
 use Rattle.relation_contexts.specs.Generalising.{variance_of_part}

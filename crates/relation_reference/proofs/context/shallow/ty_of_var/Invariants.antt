@@ -18,6 +18,6 @@ invariant-loop-next g l =
     record {
       sure : IsTrue (known (m.ty l.found));
       is_in : InContext (store_of m l.inner) (m.ty l.found);
-      reads : VarReadsAsTy m l.inner type_var l.var.0 l.found;
+      reads : VarReadsAsTy m l.inner type_var l.fn.var.0 l.found;
       covered : IsCovered (m.ty l.found);
     }

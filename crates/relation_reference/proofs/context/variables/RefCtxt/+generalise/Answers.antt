@@ -21,7 +21,7 @@ use Rattle.relation_reference.proofs.Recalling.{met_eq, sure_grows}
 use Rattle.relation_reference.proofs.Resolving.{not_type, some_sort, over_itself, context_part}
 use Rattle.relation_reference.proofs.Grows.{store_grows, lawful_grows}
 use Rattle.relation_reference.specs.Generalises.{side_of, new_kind, BecomesAlways}
-use Rattle.relation_reference.proofs.Clearing.{ty_eq, clear_grows}
+use Rattle.relation_reference.proofs.Clearing.{ty_eq, clear_grows, told_gives_way, alias_sort}
 use Rattle.relation_reference.specs.RefCtxt.{store_in}
 use Rattle.relation_reference.proofs.Marking.{gives_type, marks_grow}
 use Rattle.relation_reference.proofs.Outside.{part_smaller}
@@ -69,7 +69,7 @@ generalise_new-returns-in_err-next_for-in-GivesWay g t' c =
       universe = ap (λ st. st.universe) f.refused;
       makes = subst (MakesUnbound u was) (sym f.refused) makes_none;
       rest = f.rest;
-      clear = none_kept c.from_residual.result c.from_residual.ensures.0;
+      clear = none_kept _ c.from_residual.result c.from_residual.ensures.0;
       answers = memory_answers meaning eq c.args.self.now c.next_for.new.self al k i u c.args.target.now.cyclic c.args.met.now c.args.met.now p (new_part sd v) c.from_residual.result
           c.from_residual.ensures.0 c.from_residual.ensures.1;
     }
@@ -150,6 +150,93 @@ generalise_new-returns-in-Beyond g t' c =
       rest = λ s made marks inner. marks;
       clear = tt;
       answers = stops_beyond meaning eq c.args.self.now c.args.self.now al k i u c.args.target.now.cyclic c.args.met.now c.args.met.now p (new_part sd v) f.0 f.1 f.2 f.3 f.4 f.5;
+    }
+
+pub generalise_new-returns-in_err-alias_gives_way-in-ByParts : goal.generalise_new-returns-in_err-alias_gives_way-in-ByParts
+generalise_new-returns-in_err-alias_gives_way-in-ByParts g t' c =
+    let meaning = g.I.Interner.meaning in
+    let m = meaning c.args.self.now.interner in
+    let eq = met_eq g.I.Key.PartialEq.eq in
+    let k = vid_kind c.args.target.now.vid in
+    let i = vid_number c.args.target.now.vid in
+    let u = c.args.target.now.universe.0 in
+    let al = c.args.target.now.aliases in
+    let sd = side_of c.args.inside in
+    let eqt = ty_eq g.I.Key.PartialEq.eq in
+    let was = store_of m c.args.self.now.inner in
+    let p = c.args.term.now in
+    let t = part_tree m p in
+    let v = c.args.variance in
+    let from = c.from_residual-in_err-alias_gives_way-in-ByParts in
+    record {
+      lawful = c.requires.lawful;
+      grown = stays_same m;
+      universe = refl;
+      makes = makes_none;
+      rest = λ s made marks inner. marks;
+      clear = none_kept _ from.result from.ensures.0;
+      answers = memory_answers meaning eq c.args.self.now c.args.self.now al k i u c.args.target.now.cyclic c.args.met.now c.args.met.now p (new_part sd v) from.result
+          from.ensures.0 from.ensures.1;
+    }
+
+pub generalise_new-returns-in_err-next_alias_var-in-ByParts : goal.generalise_new-returns-in_err-next_alias_var-in-ByParts
+generalise_new-returns-in_err-next_alias_var-in-ByParts g t' c =
+    let meaning = g.I.Interner.meaning in
+    let m = meaning c.args.self.now.interner in
+    let eq = met_eq g.I.Key.PartialEq.eq in
+    let k = vid_kind c.args.target.now.vid in
+    let i = vid_number c.args.target.now.vid in
+    let u = c.args.target.now.universe.0 in
+    let al = c.args.target.now.aliases in
+    let sd = side_of c.args.inside in
+    let eqt = ty_eq g.I.Key.PartialEq.eq in
+    let was = store_of m c.args.self.now.inner in
+    let p = c.args.term.now in
+    let t = part_tree m p in
+    let v = c.args.variance in
+    let from = c.from_residual-in_err-next_alias_var-in-ByParts in
+    let f = c.in_err-next_alias_var-in-ByParts.ensures in
+    record {
+      lawful = f.lawful;
+      grown = f.grown;
+      universe = ap (λ st. st.universe) f.refused;
+      makes = subst (MakesUnbound u was) (sym f.refused) makes_none;
+      rest = f.rest t;
+      clear = none_kept _ from.result from.ensures.0;
+      answers = memory_answers meaning eq c.args.self.now c.next_alias_var.new.self al k i u c.args.target.now.cyclic c.args.met.now c.args.met.now p (new_part sd v) from.result
+          from.ensures.0 from.ensures.1;
+    }
+
+pub generalise_new-returns-then-branch : goal.generalise_new-returns-then-branch
+generalise_new-returns-then-branch g t' c =
+    let meaning = g.I.Interner.meaning in
+    let m = meaning c.args.self.now.interner in
+    let eq = met_eq g.I.Key.PartialEq.eq in
+    let k = vid_kind c.args.target.now.vid in
+    let i = vid_number c.args.target.now.vid in
+    let u = c.args.target.now.universe.0 in
+    let al = c.args.target.now.aliases in
+    let sd = side_of c.args.inside in
+    let eqt = ty_eq g.I.Key.PartialEq.eq in
+    let was = store_of m c.args.self.now.inner in
+    let p = c.args.term.now in
+    let t = part_tree m p in
+    let v = c.args.variance in
+    let r = c.in_ok-next_alias_var-in-ByParts.ensures in
+    let h = c.in_ok-alias_gives_way-in-ByParts in
+    let w = r.makes in
+    let gives = told_gives_way al k i u sd t h.field-0 h.ensures.tells (search rules) in
+    let sorted : Sorted m = g.met.I.Interner.sorted c.args.self.now.interner in
+    let sort = alias_sort al t gives.of_alias in
+    record {
+      lawful = r.lawful;
+      grown = r.grown;
+      universe = (w.1).same_universe;
+      makes = makes_one makes_none (λ o. o) w.1;
+      rest = r.rest t;
+      clear = clear_grows r.grown eqt k i u c.alias_gives_way.new.clear h.ensures.clear;
+      answers = alias_answers meaning eq c.args.self.now c.next_alias_var.new.self al k i u c.args.target.now.cyclic c.args.met.now c.args.met.now p sd v c.in_ok-next_alias_var-in-ByParts.field-0 w.0 c.requires.sure
+          r.grown gives w.1 w.2 r.sure (r.sort ∙ sym sort ∙ sort_known m sorted p c.requires.term_known);
     }
 
 pub generalise_new-returns-in_ok-next_for-in-GivesWay : goal.generalise_new-returns-in_ok-next_for-in-GivesWay
@@ -489,8 +576,8 @@ pub generalise_new-next_for-requires-clause-below : goal.generalise_new-next_for
 generalise_new-next_for-requires-clause-below g t' c =
     c.requires.below
 
-pub generalise_new-returns-in-ByParts : goal.generalise_new-returns-in-ByParts
-generalise_new-returns-in-ByParts g t' c =
+pub generalise_new-returns-else-branch : goal.generalise_new-returns-else-branch
+generalise_new-returns-else-branch g t' c =
     c.generalise_parts.ensures
 
 pub generalise_part-recall-requires-clause-known : goal.generalise_part-recall-requires-clause-known
@@ -553,7 +640,7 @@ generalise_part-returns-in_err-became g t' c =
       universe = h.universe;
       makes = h.makes;
       rest = h.rest;
-      clear = none_kept c.from_residual.result c.from_residual.ensures.0;
+      clear = none_kept _ c.from_residual.result c.from_residual.ensures.0;
       answers = fails_any meaning eq c.args.self.now c.generalise_new-2.new.self al k i u c.args.target.now.cyclic c.args.met.now c.generalise_new-2.new.met p sd v (Err f)
           c.from_residual.result f refl (as_err c.from_residual.result f c.from_residual.ensures.0 c.from_residual.ensures.1) h.answers;
     }
@@ -646,7 +733,7 @@ generalise_part-returns-in_err-keep g t' c =
       universe = h.universe;
       makes = h.makes;
       rest = h.rest;
-      clear = none_kept c.from_residual-in_err-keep.result c.from_residual-in_err-keep.ensures.0;
+      clear = none_kept _ c.from_residual-in_err-keep.result c.from_residual-in_err-keep.ensures.0;
       answers = memory_answers meaning eq c.args.self.now c.generalise_new-2.new.self al k i u c.args.target.now.cyclic c.args.met.now c.keep.new.met p (any_part sd v) c.from_residual-in_err-keep.result
           c.from_residual-in_err-keep.ensures.0 c.from_residual-in_err-keep.ensures.1;
     }
@@ -726,7 +813,7 @@ generalise_parts-returns-in_err-became g t' c =
           (λ a b. (adds c.requires.lawful.sound c.requires.below inv.makes).later.grows type_var a (made a b))
           (inv.rest s made marks inner) (subst (InContext (store_in meaning s)) (sym at)
           (context_part (store_in meaning s) t j c.parts_count-i-end.ensures.is_list inner));
-      clear = none_kept c.from_residual.result c.from_residual.ensures.0;
+      clear = none_kept _ c.from_residual.result c.from_residual.ensures.0;
       answers = fails_on eq m n o was now then al k i u c.args.target.now.cyclic (any_part (side_of c.parts_inside-within.result) c.variance_of-at.result) (new_part sd v) c.args.met.now c.loop-i.met
           c.generalise_part.new.met (part_tree n z) t p z f h.answers
           (λ e2. went_stops eq m n o was now then al k i u sd v c.args.met.now c.loop-i.met c.generalise_part.new.met t c.requires.goes
@@ -783,7 +870,7 @@ generalise_parts-returns-in_err-push g t' c =
           (λ a b. (adds c.requires.lawful.sound c.requires.below inv.makes).later.grows type_var a (made a b))
           (inv.rest s made marks inner) (subst (InContext (store_in meaning s)) (sym at)
           (context_part (store_in meaning s) t j c.parts_count-i-end.ensures.is_list inner));
-      clear = none_kept c.from_residual-in_err-push.result c.from_residual-in_err-push.ensures.0;
+      clear = none_kept _ c.from_residual-in_err-push.result c.from_residual-in_err-push.ensures.0;
       answers = memory_answers meaning eq c.args.self.now c.generalise_part.new.self al k i u c.args.target.now.cyclic c.args.met.now c.generalise_part.new.met p (new_part sd v) c.from_residual-in_err-push.result
           c.from_residual-in_err-push.ensures.0 c.from_residual-in_err-push.ensures.1;
     }
@@ -1001,7 +1088,7 @@ generalise_parts-returns-in_err-with_parts g t' c =
       makes = subst (MakesUnbound u was) (sym (store_grows h.grown c.loop-i.self.inner inv.lawful)) inv.makes;
       rest = λ s made marks inner. marks_grow meaning s c.loop-i.self (record { interner = c.with_parts.new.cx; inner = c.loop-i.self.inner }) refl
           (store_grows h.grown c.loop-i.self.inner inv.lawful) (inv.rest s made marks inner);
-      clear = none_kept c.from_residual-in_err-with_parts.result c.from_residual-in_err-with_parts.ensures.0;
+      clear = none_kept _ c.from_residual-in_err-with_parts.result c.from_residual-in_err-with_parts.ensures.0;
       answers = memory_answers meaning eq c.args.self.now (record { interner = c.with_parts.new.cx; inner = c.loop-i.self.inner }) al k i u c.args.target.now.cyclic c.args.met.now c.loop-i.met p (new_part sd v) c.from_residual-in_err-with_parts.result
           c.from_residual-in_err-with_parts.ensures.0 c.from_residual-in_err-with_parts.ensures.1;
     }

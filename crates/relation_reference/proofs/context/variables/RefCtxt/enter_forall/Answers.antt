@@ -123,7 +123,7 @@ returns-clause-enters g c =
     let is : g.T.HasTree.tree o c.in_ok-entered.entered ≡ opened ps t =
     put.made ∙ ap₂ opened (ap (map (arg_tree n)) c.deref.ensures.value) same in
     entered_as (context_in g.I.Interner.meaning p) (context_in g.I.Interner.meaning q) list t
-    (g.T.HasTree.tree o c.in_ok-entered.entered) ps c.requires.value_known c.requires.value_binds some changes above
+    (g.T.HasTree.tree o c.in_ok-entered.entered) ps c.requires.value_known c.requires.value_binds some changes refl above
     made.made is
 
 pub returns-clause-rest : goal.returns-clause-rest
