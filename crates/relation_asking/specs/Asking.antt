@@ -40,15 +40,13 @@ use Rattle.relation_needs.specs.Needs.{Allows, Reaches, largest, need_at}
 use Rattle.elaboration_asking.specs.Pulls.{KnowsPulled}
 use Rattle.relation_asking.specs.Outlives.{KnowsComponents}
 
--- What relating takes: a term of forms that have rules, in which each binder binds by its list, and nothing that one
--- outside it binds stands.
+-- What relating takes: a term in which each binder binds by its list, and nothing that one outside it binds stands.
 pub record IsRelatable (t : Tree) : Type 0 where
   pub covered : IsCovered t
   pub stays : StaysWithin 0 t
 
 -- That is said of a term.
 pub record IsAsked (n : Needs) : Type 0 where
-  pub rules : IsTrue n.has_rules
   pub closed : IsTrue n.closed
   pub lists : IsTrue n.by_lists
 
@@ -127,8 +125,6 @@ pub record Has {Key : Type 0} (x : InferCtxtInner Key) (n : Needs) : Type 0 wher
 
 -- Two types may be asked about at a variance, in a context of that universe.
 pub record IsAskable (u : ℕ) (v : Variance) (a b : Needs) : Type 0 where
-  pub left_rules : IsTrue a.has_rules
-  pub right_rules : IsTrue b.has_rules
   pub left_closed : IsTrue a.closed
   pub right_closed : IsTrue b.closed
   pub left_lists : IsTrue a.by_lists

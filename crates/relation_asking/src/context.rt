@@ -23,8 +23,6 @@ use type_relations::relate::solver_relating::{RelateExt, RelateGoals};
 /// Why a question is not asked.
 #[derive(Clone, Copy)]
 pub enum NotAsked {
-    /// No rules relate terms of one of the forms.
-    Rules,
     /// Aliases are not yet related by their arguments.
     Structurally,
     /// A binder outside the terms binds what stands in them.
@@ -252,9 +250,6 @@ pub(super) fn refusal<I: Interner>(
 ) -> Option<NotAsked>
     ensures { IfNone result (IsAskable ctx.now.inner.universe.0 variance lhs rhs) }
 {
-    if !lhs.has_rules || !rhs.has_rules {
-        return Some(NotAsked::Rules);
-    }
     if !lhs.closed || !rhs.closed {
         return Some(NotAsked::Escapes);
     }
@@ -307,7 +302,6 @@ pub(super) fn relate<C: InferCtxtLike, T: Relate<C::Interner>>(
 pub(super) fn write_not_asked<W: Write>(why: NotAsked, out: &mut W) -> fmt::Result {
     out.write_str("not asked: ")?;
     match why {
-        NotAsked::Rules => out.write_str("a form in these types has no rules yet"),
         NotAsked::Structurally => out.write_str("aliases have no rules yet"),
         NotAsked::Escapes => out.write_str(
             "a binder outside these types binds what stands in them",
