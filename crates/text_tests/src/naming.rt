@@ -106,7 +106,8 @@ fn setups_shown(alloc: Global, text: &str) -> Result<String, fmt::Error> {
 
 #[test]
 fn setups_are_said(rt: HostRuntime) -> Result<(), Fail> {
-    let text = "u8 == u8; solver old; u8 === u8; mode coherence; rigid u8; mode borrowck; solver next; key u8;
+    let text =
+        "u8 == u8; solver old; u8 === u8; mode coherence; rigid u8; mode borrowck; solver next; key u8;
         mode post_borrowck; solver next; rigid u8; mode post_analysis; then rigid u8; mode analysis; rigid u8;";
     let all = setups_shown(rt.alloc(), text)?;
     assert_eq!(rt;
