@@ -87,10 +87,9 @@ module _ {Key : Type 0} (x : InferCtxtInner Key) (a b : Needs) (h : Has x (both_
 -- What is said of both of two terms is said of each, and what is of lists is of all before.
 pub asked_both : (a b : Needs) → IsAsked (both_needs a b) → IsAsked a × IsAsked b
 asked_both a b h =
-    let r = and_parts a.has_rules b.has_rules h.rules in
     let c = and_parts a.closed b.closed h.closed in
     let l = and_parts a.by_lists b.by_lists h.lists in
-    (record { rules = r.0; closed = c.0; lists = l.0 }, record { rules = r.1; closed = c.1; lists = l.1 })
+    (record { closed = c.0; lists = l.0 }, record { closed = c.1; lists = l.1 })
 
 asked_before : (ns : List Needs) (n : Needs) (ks : List ℕ) → IsAsked (needs_with ns n ks) → IsAsked n
 asked_before ns n [] h = h
@@ -98,10 +97,10 @@ asked_before ns n (k ∷ ks) h = (asked_both n (need_at ns k) (asked_before ns (
 
 -- It is said of two types that may be asked about.
 pub asked_left : (u : ℕ) (v : Variance) (a b : Needs) → IsAskable u v a b → IsAsked a
-asked_left u v a b h = record { rules = h.left_rules; closed = h.left_closed; lists = h.left_lists }
+asked_left u v a b h = record { closed = h.left_closed; lists = h.left_lists }
 
 pub asked_right : (u : ℕ) (v : Variance) (a b : Needs) → IsAskable u v a b → IsAsked b
-asked_right u v a b h = record { rules = h.right_rules; closed = h.right_closed; lists = h.right_lists }
+asked_right u v a b h = record { closed = h.right_closed; lists = h.right_lists }
 
 -- Such a context's terms.
 pub ready_in : {Key Id Name : Type 0} (m : Meaning Key Id Name) (x : InferCtxtInner Key) (n : Needs) → Has x n →
@@ -131,7 +130,7 @@ all_ready m items names parts xs keys us needs sure made said same = subst (AreR
       (
         all_enough items names parts us xs said k,
         λ asked. let b = all_bound items names parts us xs said k in record {
-          covered = all_covered items names parts us xs said k (subst (λ z. IsTrue (known z)) is known_there) asked.rules
+          covered = all_covered items names parts us xs said k (subst (λ z. IsTrue (known z)) is known_there)
               (b.1 asked.lists);
           stays = b.0 asked.closed;
         },

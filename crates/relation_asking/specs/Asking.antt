@@ -7,6 +7,7 @@ use Rattle.term_enums.specs.declared.Variance.{Variance}
 use Rattle.term_enums.specs.declared.Variance.TheVariants.{Bivariant}
 use Rattle.relation_terms.specs.declared.terms.generic_arg.GenericArgKind.{GenericArgKind}
 use Rattle.relation_terms.specs.declared.terms.goal.Goal.{Goal}
+use Rattle.relation_terms.specs.declared.terms.keys.LocalDefIdsKey.{LocalDefIdsKey}
 use Rattle.relation_terms.specs.declared.terms.keys.PredicateKey.{PredicateKey}
 use Rattle.relation_terms.specs.Trees.{Tree, known}
 use Rattle.relation_terms.specs.Meaning.{Meaning, arg_tree}
@@ -18,8 +19,13 @@ use Rattle.relation_reference.specs.Variables.{value_at, universes_of}
 use Rattle.relation_folds.specs.declared.error.RelateFault.{RelateFault}
 use Rattle.relation_folds.specs.Faults.{KnowsFault}
 use Rattle.relation_contexts.specs.Covered.{IsCovered}
+use Rattle.relation_contexts.specs.declared.infer_ctxt.TypingMode.{TypingMode}
+use Rattle.relation_contexts.specs.declared.infer_ctxt.TypingMode.TheVariants as typing
 use Rattle.relation_contexts.specs.Relation.{StaysWithin}
 use Rattle.relation_contexts.specs.Goals.{KnowsGoal}
+use Rattle.text_reading.specs.declared.naming.program.Mode.{Mode}
+use Rattle.text_reading.specs.declared.naming.program.Mode.TheVariants as mode
+use Rattle.text_reading.specs.declared.naming.program.Setup.{Setup}
 use Rattle.text_reading.specs.declared.naming.program.Variables.{Variables}
 use Rattle.relation_asking.specs.declared.context.VariableKind.{VariableKind}
 use Rattle.relation_asking.specs.declared.context.VariableKind.TheVariants.{Ty, Int, Float, Const, Region}
@@ -34,15 +40,13 @@ use Rattle.relation_needs.specs.Needs.{Allows, Reaches, largest, need_at}
 use Rattle.elaboration_asking.specs.Pulls.{KnowsPulled}
 use Rattle.relation_asking.specs.Outlives.{KnowsComponents}
 
--- What relating takes: a term of forms that have rules, in which each binder binds by its list, and nothing that one
--- outside it binds stands.
+-- What relating takes: a term in which each binder binds by its list, and nothing that one outside it binds stands.
 pub record IsRelatable (t : Tree) : Type 0 where
   pub covered : IsCovered t
   pub stays : StaysWithin 0 t
 
 -- That is said of a term.
 pub record IsAsked (n : Needs) : Type 0 where
-  pub rules : IsTrue n.has_rules
   pub closed : IsTrue n.closed
   pub lists : IsTrue n.by_lists
 
@@ -59,6 +63,19 @@ AreReady {Key = Key} m keys needs = (k : ℕ) (key : GenericArgKind Key) → sli
 -- The same of what questions are put over.
 abbrev pub AllReady : {I Key Id Name Span : Type 0} → Meaning Key Id Name → Ready I Key Id Name Span → Type 0
 AllReady m terms = AreReady m terms.built.now terms.needs.now
+
+-- The typing mode of that name, in which no opaque types are defined.
+abbrev pub typing_mode : {Key : Type 0} → Mode → LocalDefIdsKey Key → TypingMode Key
+typing_mode mode.Coherence ids = typing.Coherence
+typing_mode mode.Analysis ids = typing.Analysis ids
+typing_mode mode.Borrowck ids = typing.Borrowck ids
+typing_mode mode.PostBorrowckAnalysis ids = typing.PostBorrowckAnalysis ids
+typing_mode mode.PostAnalysis ids = typing.PostAnalysis
+
+-- A context is made for the solver and in the typing mode that a question asks for.
+pub record IsSetUp {Key : Type 0} (x : InferCtxtInner Key) (ids : LocalDefIdsKey Key) (s : Setup) : Type 0 where
+  pub solver : x.next_solver ≡ s.next_solver
+  pub mode : x.mode ≡ typing_mode s.mode ids
 
 -- The kind of variables that contracts speak of by this name.
 abbrev pub var_kind : VariableKind → VarKind
@@ -108,8 +125,6 @@ pub record Has {Key : Type 0} (x : InferCtxtInner Key) (n : Needs) : Type 0 wher
 
 -- Two types may be asked about at a variance, in a context of that universe.
 pub record IsAskable (u : ℕ) (v : Variance) (a b : Needs) : Type 0 where
-  pub left_rules : IsTrue a.has_rules
-  pub right_rules : IsTrue b.has_rules
   pub left_closed : IsTrue a.closed
   pub right_closed : IsTrue b.closed
   pub left_lists : IsTrue a.by_lists

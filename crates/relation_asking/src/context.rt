@@ -8,22 +8,23 @@ ghost use Rattle.type_relations.specs.Relating.{KnowsTerm, TakesTerm, HasTerm, A
 ghost use Rattle.relation_reference.specs.Tables.{IsLawful};
 ghost use Rattle.relation_needs.specs.Needs.{Reaches};
 ghost use Rattle.std.specs.List.{All};
-ghost use Rattle.relation_asking.specs.Asking.{Has, HasStated, IsAskable, MakesIn, var_kind, variables_in};
+ghost use Rattle.relation_asking.specs.Asking.{Has, HasStated, IsAskable, IsSetUp, MakesIn};
+ghost use Rattle.relation_asking.specs.Asking.{typing_mode, var_kind, variables_in};
 
-use relation_contexts::infer_ctxt::InferCtxtLike;
+use relation_contexts::infer_ctxt::{InferCtxtLike, TypingMode};
 use relation_needs::needs::Needs;
 use relation_reference::context::RefCtxt;
-use relation_terms::terms::{Interner, OutOfMemory, ParamEnv, Span, Variance};
+use relation_terms::terms::{Interner, LocalDefIds, OutOfMemory, ParamEnv, Span, Variance};
 use std::fmt::{self, Write};
-use text_reading::naming::Variables;
+use text_reading::naming::{Mode, Setup, Variables};
 use type_relations::relate::Relate;
 use type_relations::relate::solver_relating::{RelateExt, RelateGoals};
 
 /// Why a question is not asked.
 #[derive(Clone, Copy)]
 pub enum NotAsked {
-    /// No rules relate terms of one of the forms.
-    Rules,
+    /// Aliases are not yet related by their arguments.
+    Structurally,
     /// A binder outside the terms binds what stands in them.
     Escapes,
     /// A binder in the terms does not bind by its list.
@@ -36,13 +37,39 @@ pub enum NotAsked {
     Lengths,
 }
 
+// The typing mode of that name, in which no opaque types are defined.
+fn typing_mode<I: Interner>(mode: Mode, no_ids: LocalDefIds<I>) -> TypingMode<I::Key>
+    ensures { result ≡ typing_mode mode no_ids }
+{
+    match mode {
+        Mode::Coherence => TypingMode::Coherence,
+        Mode::Analysis => TypingMode::Analysis {
+            defining_opaque_types_and_generators: no_ids,
+        },
+        Mode::Borrowck => TypingMode::Borrowck {
+            defining_opaque_types: no_ids,
+        },
+        Mode::PostBorrowckAnalysis => TypingMode::PostBorrowckAnalysis {
+            defined_opaque_types: no_ids,
+        },
+        Mode::PostAnalysis => TypingMode::PostAnalysis,
+    }
+}
+
 // A new context over the interner of another one.
-pub(super) fn renewed<I: Interner>(ctx: RefCtxt<I>, budget: usize) -> RefCtxt<I>
+pub(super) fn renewed<I: Interner>(
+    ctx: RefCtxt<I>,
+    no_ids: LocalDefIds<I>,
+    setup: Setup,
+    budget: usize,
+) -> RefCtxt<I>
     requires { IsLawful (I.meaning ctx.interner) ctx.inner }
     ensures interner { result.interner ≡ ctx.interner }
     ensures lawful { IsLawful (I.meaning ctx.interner) result.inner }
+    ensures sets_up { IsSetUp result.inner no_ids setup }
 {
-    ctx.renewed(budget)
+    let mode = typing_mode::<I>(setup.mode, no_ids);
+    ctx.renewed(mode, setup.next_solver, budget)
 }
 
 // A kind of variables.
@@ -223,9 +250,6 @@ pub(super) fn refusal<I: Interner>(
 ) -> Option<NotAsked>
     ensures { IfNone result (IsAskable ctx.now.inner.universe.0 variance lhs rhs) }
 {
-    if !lhs.has_rules || !rhs.has_rules {
-        return Some(NotAsked::Rules);
-    }
     if !lhs.closed || !rhs.closed {
         return Some(NotAsked::Escapes);
     }
@@ -278,7 +302,7 @@ pub(super) fn relate<C: InferCtxtLike, T: Relate<C::Interner>>(
 pub(super) fn write_not_asked<W: Write>(why: NotAsked, out: &mut W) -> fmt::Result {
     out.write_str("not asked: ")?;
     match why {
-        NotAsked::Rules => out.write_str("a form in these types has no rules yet"),
+        NotAsked::Structurally => out.write_str("aliases have no rules yet"),
         NotAsked::Escapes => out.write_str(
             "a binder outside these types binds what stands in them",
         ),

@@ -71,7 +71,7 @@ fn ask_ready<I: SizedKeys + Drop, W: Write>(
     let mut any = false;
     for question in &program.questions {
         separate(any, between, out)?;
-        let asked = context_for(ctx, question);
+        let asked = context_for(ctx, terms, question);
         let (left, outcome) = ask_often(asked, terms, question);
         ctx = left;
         write_whole(&ctx, texts, question, &outcome, &mut text, out)?;
@@ -118,6 +118,9 @@ pub fn ask_over<I: SizedKeys + Drop, W: Write>(
 ) -> fmt::Result {
     let mut interner = interner;
     let alloc = interner.alloc();
+    let Ok(no_ids) = interner.no_local_def_ids() else {
+        return refuse_all(program, between, out);
+    };
     let Ok(built) = build(&mut interner, ids, names, program) else {
         return refuse_all(program, between, out);
     };
@@ -136,6 +139,7 @@ pub fn ask_over<I: SizedKeys + Drop, W: Write>(
         clauses: &program.clauses,
         ids,
         names,
+        no_ids,
         variables: &program.variables,
     };
     ask_ready(interner, texts, program, &terms, between, out)

@@ -17,7 +17,7 @@ ghost use Rattle.relation_asking.specs.Asking.{AreBoundKnown, KnowsRelated};
 use relation_folds::error::{ExpectedFound, RelateFault, TypeError, TypeErrorOf};
 use relation_reference::context::{RefCtxt, Variable, VariableValue};
 use relation_terms::predicate::{ClauseKind, PredicateKind, RegionConstraint};
-use relation_terms::terms::{Const, DefId, Interner, TermKind, Ty};
+use relation_terms::terms::{AliasRelationDirection, Const, DefId, Interner, TermKind, Ty};
 use std::fmt::{self, Write};
 use text_terms::printing::{
     TextsOf, write_arg, write_const, write_item_name, write_object_predicates, write_region,
@@ -265,6 +265,14 @@ fn predicate_name<X, D, N>(predicate: &PredicateKind<X, D, N>) -> &'static str {
     }
 }
 
+// The name of how an alias is to be related.
+fn direction_name(direction: AliasRelationDirection) -> &'static str {
+    match direction {
+        AliasRelationDirection::Equate => "Equate",
+        AliasRelationDirection::Subtype => "Subtype",
+    }
+}
+
 // Writes a type or a constant.
 fn write_term<I: Interner, W: Write>(
     cx: &I,
@@ -297,6 +305,13 @@ fn write_goal_terms<I: Interner, W: Write>(
             out.write_str(", ")?;
             write_ty(cx, texts, &pair.b, out)?;
             write!(out, ", {})", pair.a_is_expected)
+        }
+        PredicateKind::AliasRelate(a, b, direction) => {
+            out.write_str("(")?;
+            write_term(cx, texts, a, out)?;
+            out.write_str(", ")?;
+            write_term(cx, texts, b, out)?;
+            write!(out, ", {})", direction_name(*direction))
         }
         PredicateKind::Clause(ClauseKind::WellFormed(term)) => {
             out.write_str("(")?;
@@ -416,8 +431,16 @@ fn write_bound<I: Interner, W: Write>(
     if any { out.write_str("]") } else { Ok(()) }
 }
 
+// Writes that a context has met an error, if it has.
+fn write_tainted<I: Interner, W: Write>(ctx: &RefCtxt<I>, out: &mut W) -> fmt::Result {
+    if ctx.tainted() {
+        return out.write_str("; tainted");
+    }
+    Ok(())
+}
+
 /// Writes what a relation answered, the goals that it leaves, and then what its context has recorded: the constraints
-/// on regions, in the order in which they were recorded, and the roots that are bound to a term.
+/// on regions, in the order in which they were recorded, the roots that are bound to a term, and that an error was met.
 ///
 /// # Errors
 /// `fmt::Error` where `out` refused to take some of the text. What it took before stands.
@@ -443,5 +466,6 @@ pub fn write_answer<I: Interner, W: Write>(
         }
     }
     write_constraints(ctx, texts, out)?;
-    write_bound(ctx, texts, out)
+    write_bound(ctx, texts, out)?;
+    write_tainted(ctx, out)
 }

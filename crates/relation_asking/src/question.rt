@@ -1,11 +1,11 @@
 //! A question that is asked, and its answer.
-ghost use Rattle.std.specs.Prelude.{◌≡◌, IsTrue, IfSome, IfOk};
+ghost use Rattle.std.specs.Prelude.{◌≡◌, IsTrue, IsFalse, IfSome, IfOk};
 ghost use Rattle.relation_terms.specs.Trees.{known};
 ghost use Rattle.relation_terms.specs.Meaning.{Meaning, Extends, arg_tree};
 ghost use Rattle.relation_reference.specs.Tables.{IsLawful};
 ghost use Rattle.relation_asking.specs.Puts.{ArePuts};
 ghost use Rattle.relation_asking.specs.Meets.{AllKnown};
-ghost use Rattle.relation_asking.specs.Asking.{AllReady, IsReady, KnowsAnswer, KnowsRelated};
+ghost use Rattle.relation_asking.specs.Asking.{AllReady, IsReady, IsSetUp, KnowsAnswer, KnowsRelated};
 
 use crate::BUDGET;
 use crate::answer_text::AnswerText;
@@ -26,11 +26,12 @@ use relation_folds::visit::{has_escaping_bound_vars, has_non_region_infer, is_kn
 use relation_needs::needs::{Needs, both, need_at};
 use relation_reference::context::RefCtxt;
 use relation_terms::predicate::OutlivesPredicate;
-use relation_terms::terms::{GenericArg, GenericArgKind, Interner, Keys, Ty, Variance};
+use relation_terms::terms::{GenericArg, GenericArgKind, Interner, Keys, LocalDefIds, Ty};
 use relation_tools::outlives::Component;
 use std::alloc::Global;
 use std::fmt::{self, Write};
 use text_reading::naming::{Clause, Parts, Put, Question, QuestionKind, Variables};
+use text_reading::reading::Relation;
 use text_terms::building::{key_at, keys_at, ty_at};
 use text_terms::printing::{TextsOf, write_arg};
 use type_relations::relate::solver_relating::RelateGoals;
@@ -49,6 +50,8 @@ pub(super) struct Ready<'a, I: Interner> {
     pub clauses: &'a [Clause],
     pub ids: &'a [I::Id],
     pub names: &'a [I::Name],
+    // The list without ids, which typing modes name.
+    pub no_ids: LocalDefIds<I>,
     // What is said of variables.
     pub variables: &'a [Variables],
 }
@@ -93,16 +96,22 @@ pub(super) fn budget_of(question: &Question) -> usize {
 }
 
 // The context in which a question is asked: the one that the question before left, or a new one.
-pub(super) fn context_for<I: Interner>(ctx: RefCtxt<I>, question: &Question) -> RefCtxt<I>
+pub(super) fn context_for<I: Interner>(
+    ctx: RefCtxt<I>,
+    terms: &Ready<I>,
+    question: &Question,
+) -> RefCtxt<I>
     requires { IsLawful (I.meaning ctx.interner) ctx.inner }
     ensures interner { result.interner ≡ ctx.interner }
     ensures lawful { IsLawful (I.meaning result.interner) result.inner }
     ensures goes_on { IsTrue question.now.then → result ≡ ctx }
+    ensures sets_up { IsFalse question.now.then →
+        IsSetUp result.inner terms.now.no_ids question.now.setup }
 {
     if question.then {
         return ctx;
     }
-    renewed(ctx, budget_of(question))
+    renewed(ctx, terms.no_ids, question.setup, budget_of(question))
 }
 
 // The type of that number, and what it needs.
@@ -113,12 +122,12 @@ pub(super) fn type_of<I: Interner>(terms: &Ready<I>, number: usize) -> Option<(T
     Some((ty, need_at(terms.needs, number)))
 }
 
-// Relates two types in a context.
+// Asks in a context whether two types are related.
 fn ask_related<I: Interner>(
     ctx: &mut RefCtxt<I>,
     terms: &Ready<I>,
     lhs: usize,
-    variance: Variance,
+    relation: Relation,
     rhs: usize,
 ) -> Result<RelateGoals<I>, Unasked>
     requires lawful { IsLawful (I.meaning ctx.old.interner) ctx.old.inner }
@@ -127,6 +136,9 @@ fn ask_related<I: Interner>(
     ensures grown { Extends (I.meaning ctx.old.interner) (I.meaning ctx.new.interner) }
     ensures known { IfOk result (KnowsRelated (I.meaning ctx.new.interner)) }
 {
+    let Relation::At(variance) = relation else {
+        return Err(Unasked::NotAsked(NotAsked::Structurally));
+    };
     let Some((lhs, lhs_needs)) = type_of(terms, lhs) else {
         return Err(Unasked::Memory);
     };
@@ -281,8 +293,8 @@ fn ask<I: SizedKeys>(ctx: &mut RefCtxt<I>, terms: &Ready<I>, question: &Question
         IfOk result (KnowsAnswer m (KnowsRelated m)) }
 {
     match question.kind {
-        QuestionKind::Relate { lhs, variance, rhs } => {
-            let related = ask_related(ctx, terms, lhs, variance, rhs)?;
+        QuestionKind::Relate { lhs, relation, rhs } => {
+            let related = ask_related(ctx, terms, lhs, relation, rhs)?;
             Ok(Answer::Related(related))
         }
         QuestionKind::Visit { term, skip, stop } => {
@@ -406,7 +418,7 @@ pub(super) fn ask_often<I: SizedKeys>(
     let mut ctx = ctx;
     let mut outcome = ask_in(&mut ctx, terms, question);
     for _ in 1..question.repeat {
-        ctx = renewed(ctx, budget_of(question));
+        ctx = renewed(ctx, terms.no_ids, question.setup, budget_of(question));
         outcome = ask_in(&mut ctx, terms, question);
     }
     (ctx, outcome)

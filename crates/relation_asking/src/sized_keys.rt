@@ -1,20 +1,20 @@
 //! Interners whose keys have a known size, over which all questions can be asked.
 ghost use Rattle.std.specs.Prelude.{IsTrue, IfOk};
 ghost use Rattle.relation_terms.specs.Trees.{known};
-ghost use Rattle.relation_terms.specs.Meaning.{arg_tree};
+ghost use Rattle.relation_terms.specs.Meaning.{Extends, arg_tree};
 ghost use Rattle.relation_asking.specs.Meets.{AllKnown};
 ghost use Rattle.relation_asking.specs.Outlives.{KnowsComponents, AreComponents, HasComponents};
 ghost use Rattle.relation_asking.specs.Skips.{AreYielded};
 
 use crate::walking::walk_on;
 use reference_interner::RefInterner;
-use relation_terms::terms::{GenericArg, Interner, OutOfMemory, Ty};
+use relation_terms::terms::{GenericArg, Interner, LocalDefIds, OutOfMemory, Ty};
 use relation_tools::outlives::{ComponentOf, push_outlives_components};
 use relation_tools::walk::TypeWalker;
 use smallvec::SmallVec;
 
 /// An interner whose terms can be walked, and of whose types it can be asked what has to outlive a region. Both keep
-/// some keys in place, and not every interner says that so many fit in memory.
+/// some keys in place, and not every interner says that so many fit in memory. It has the list that typing modes name.
 pub trait SizedKeys: Interner {
     /// What a walk over an argument yields, in order, if what is under the last yielded argument is skipped after the
     /// pulls of these numbers, 0 before the first. A number may stand more than once, and may be behind the end.
@@ -39,6 +39,13 @@ pub trait SizedKeys: Interner {
         ensures sure { IfOk result (λ cs. KnowsComponents (Self.meaning self.now) cs.items) }
         ensures some { IfOk result (λ cs. AreComponents (Self.meaning self.now) ty.now cs.items) }
         ensures all { IfOk result (λ cs. HasComponents (Self.meaning self.now) ty.now cs.items) };
+
+    /// The list without ids of items.
+    ///
+    /// # Errors
+    /// `OutOfMemory` where a growth was refused.
+    fn no_local_def_ids(&mut self) -> Result<LocalDefIds<Self>, OutOfMemory>
+        ensures grown { Extends (Self.meaning self.old) (Self.meaning self.new) };
 }
 
 impl SizedKeys for RefInterner {
@@ -56,5 +63,9 @@ impl SizedKeys for RefInterner {
         let mut found = SmallVec::new(self.alloc());
         push_outlives_components(self, ty, &mut found)?;
         Ok(found.into_vec()?)
+    }
+
+    fn no_local_def_ids(&mut self) -> Result<LocalDefIds<Self>, OutOfMemory> {
+        self.no_local_def_ids()
     }
 }

@@ -1,4 +1,4 @@
--- The terms of a text whose forms have rules, and whose binders bind by their lists.
+-- The terms of a text whose binders bind by their lists.
 use Rattle.std.proofs.Common.{ℕ, sym, ◌∙◌, subst, IsTrue, Bool, true, false, cond, ◌&&◌, List, [], ◌∷◌}
 use Rattle.std.proofs.Common.{Option, Some, None}
 use Rattle.std.specs.Prelude.{slice_get, slice_range, vec_len}
@@ -20,63 +20,52 @@ use Rattle.text_terms.specs.Terms.{fn_ptr_tree, unsafe_binder_tree, object_tree,
 use Rattle.relation_needs.specs.declared.binding.Uses.{Uses}
 use Rattle.relation_needs.specs.declared.needs.Needs.{Needs}
 use Rattle.relation_needs.specs.Binding.{Tells, AreTold}
-use Rattle.relation_needs.specs.Needs.{both_needs, no_needs, item_need, told, need_at, needs_with}
-use Rattle.relation_needs.specs.Needs.{parts_need, term_need, needs_of}
+use Rattle.relation_needs.specs.Needs.{no_needs, told, term_need, needs_of}
 use Rattle.relation_needs.proofs.BindingLemmas.{used_none}
 use Rattle.relation_needs.proofs.NeedLemmas.{HoldsOfEach, all_hold}
 
--- A known tree is covered in which binders bind by their lists, where it is said that its forms have rules.
+-- A tree is covered where it is known and its binders bind by their lists.
+abbrev pub WouldBeCovered : Tree → Type 0
+WouldBeCovered t = IsTrue (known t) → BindByLists t → IsCovered t
+
+-- The same of each term, whatever it needs.
 abbrev pub IsCoveredBy : Needs → Tree → Type 0
-IsCoveredBy n t = IsTrue (known t) → IsTrue n.has_rules → BindByLists t → IsCovered t
+IsCoveredBy n t = WouldBeCovered t
+
+abbrev EachCovered : List Tree → Type 0
+EachCovered ts = (k : ℕ) → WouldBeCovered (at ts k)
 
 -- Nothing escapes from a tree, and its binders bind by their lists, where that is said of it.
 abbrev pub IsBoundBy : Needs → Tree → Type 0
 IsBoundBy n t = (IsTrue n.closed → StaysWithin 0 t) × (IsTrue n.by_lists → BindByLists t)
 
--- Where a list has rules, all before it has.
-pub rules_before : (ns : List Needs) (n : Needs) (ks : List ℕ) → IsTrue (needs_with ns n ks).has_rules → IsTrue n.has_rules
-rules_before ns n [] r = r
-rules_before ns n (k ∷ ks) r =
-    (and_parts n.has_rules (need_at ns k).has_rules (rules_before ns (both_needs n (need_at ns k)) ks r)).0
-
-list_covered : (ts : List Tree) (ns : List Needs) → HoldsOfEach IsCoveredBy ts ns → (n : Needs) (ks : List ℕ) →
-    IsCoveredBy (needs_with ns n ks) (list_tree (at ts) ks)
-list_covered ts ns h n [] k r b = tt
-list_covered ts ns h n (i ∷ ks) k r b =
+list_covered : (ts : List Tree) → EachCovered ts → (ks : List ℕ) → WouldBeCovered (list_tree (at ts) ks)
+list_covered ts h [] k b = tt
+list_covered ts h (i ∷ ks) k b =
     let p = and_parts (known (at ts i)) (known (list_tree (at ts) ks)) k in
-    let both = rules_before ns (both_needs n (need_at ns i)) ks r in (
-      h i p.0 (and_parts n.has_rules (need_at ns i).has_rules both).1 b.0,
-      list_covered ts ns h (both_needs n (need_at ns i)) ks p.1 r b.1,
-    )
+    (h i p.0 b.0, list_covered ts h ks p.1 b.1)
 
-two_covered : (ts : List Tree) (ns : List Needs) → HoldsOfEach IsCoveredBy ts ns → (i j : ℕ) →
-    IsCoveredBy (both_needs (need_at ns i) (need_at ns j)) (cons (at ts i) (cons (at ts j) nil))
-two_covered ts ns h i j k r b =
+two_covered : (ts : List Tree) → EachCovered ts → (i j : ℕ) → WouldBeCovered (cons (at ts i) (cons (at ts j) nil))
+two_covered ts h i j k b =
     let p = and_parts (known (at ts i)) (known (at ts j) && true) k in
-    let q = and_parts (need_at ns i).has_rules (need_at ns j).has_rules r in
-    (h i p.0 q.0 b.0, (h j (and_parts (known (at ts j)) true p.1).0 q.1 b.1.0, tt))
+    (h i p.0 b.0, (h j (and_parts (known (at ts j)) true p.1).0 b.1.0, tt))
 
 -- The inputs of a list, and its output.
 none_covered : (b : Bool) → IsTrue (known (cond b nil (leaf unknown))) → IsCovered (cond b nil (leaf unknown))
 none_covered true k = tt
 none_covered false k = absurd (false≢true k)
 
-front_covered : (ts : List Tree) (ns : List Needs) → HoldsOfEach IsCoveredBy ts ns → (n : Needs) (ks : List ℕ) →
-    IsCoveredBy (needs_with ns n ks) (front (list_tree (at ts) ks))
-front_covered ts ns h n [] k r b = absurd (false≢true k)
-front_covered ts ns h n (i ∷ []) k r b = none_covered (known (at ts i)) k
-front_covered ts ns h n (i ∷ j ∷ ks) k r b =
+front_covered : (ts : List Tree) → EachCovered ts → (ks : List ℕ) → WouldBeCovered (front (list_tree (at ts) ks))
+front_covered ts h [] k b = absurd (false≢true k)
+front_covered ts h (i ∷ []) k b = none_covered (known (at ts i)) k
+front_covered ts h (i ∷ j ∷ ks) k b =
     let p = and_parts (known (at ts i)) (known (front (list_tree (at ts) (j ∷ ks)))) k in
-    let both = rules_before ns (both_needs n (need_at ns i)) (j ∷ ks) r in (
-      h i p.0 (and_parts n.has_rules (need_at ns i).has_rules both).1 b.0,
-      front_covered ts ns h (both_needs n (need_at ns i)) (j ∷ ks) p.1 r b.1,
-    )
+    (h i p.0 b.0, front_covered ts h (j ∷ ks) p.1 b.1)
 
-last_covered : (ts : List Tree) (ns : List Needs) → HoldsOfEach IsCoveredBy ts ns → (n : Needs) (ks : List ℕ) →
-    IsCoveredBy (needs_with ns n ks) (last (list_tree (at ts) ks))
-last_covered ts ns h n [] k r b = absurd (false≢true k)
-last_covered ts ns h n (i ∷ []) k r b = h i k (and_parts n.has_rules (need_at ns i).has_rules r).1 b
-last_covered ts ns h n (i ∷ j ∷ ks) k r b = last_covered ts ns h (both_needs n (need_at ns i)) (j ∷ ks) k r b
+last_covered : (ts : List Tree) → EachCovered ts → (ks : List ℕ) → WouldBeCovered (last (list_tree (at ts) ks))
+last_covered ts h [] k b = absurd (false≢true k)
+last_covered ts h (i ∷ []) k b = h i k b
+last_covered ts h (i ∷ j ∷ ks) k b = last_covered ts h (j ∷ ks) k b
 
 -- A body under its binder.
 under_covered : (o : Option (List BoundKind)) (t : Tree) → (IsTrue (known t) → BindByLists t → IsCovered t) →
@@ -90,10 +79,6 @@ head_covered : (f : ℕ → Head) → ((d : ℕ) → IsCoveredHead (f d)) → (o
     IsTrue (known (head_of f o t)) → BindByLists (head_of f o t) → IsCovered (head_of f o t)
 head_covered f h None t c k b = absurd (false≢true k)
 head_covered f h (Some d) t c k b = (h d, c k b)
-
--- A tree is covered where it is known and its binders bind by their lists.
-abbrev WouldBeCovered : Tree → Type 0
-WouldBeCovered t = IsTrue (known t) → BindByLists t → IsCovered t
 
 -- What has other terms within it, over those as they are.
 fn_ptr_covered : (h : FnHeader) (o : Option (List BoundKind)) (ts : Tree) → WouldBeCovered (front ts) →
@@ -132,106 +117,95 @@ leaf_covered : (f : ℕ → Leaf) → ((x : ℕ) → IsCoveredLeaf (f x)) → (o
 leaf_covered f h None k = absurd (false≢true k)
 leaf_covered f h (Some x) k = h x
 
-item_covered : (n : Needs) (s : ItemSort) (o : Option ℕ) (ts : Tree) →
-    (IsTrue (known ts) → IsTrue n.has_rules → BindByLists ts → IsCovered ts) →
-    IsTrue (known (item_tree s o ts)) → IsTrue (item_need s n).has_rules → BindByLists (item_tree s o ts) →
-    IsCovered (item_tree s o ts)
-item_covered n s None ts h k r b = absurd (false≢true k)
-item_covered n sort.Struct (Some d) ts h k r b = (tt, h k r b)
-item_covered n sort.Fn (Some d) ts h k r b = (tt, h k r b)
-item_covered n sort.Closure (Some d) ts h k r b = (tt, h k r b)
-item_covered n sort.Coroutine (Some d) ts h k r b = (tt, h k r b)
-item_covered n sort.CoroutineClosure (Some d) ts h k r b = (tt, h k r b)
-item_covered n sort.CoroutineWitness (Some d) ts h k r b = (tt, h k r b)
-item_covered n sort.Foreign (Some d) ts h k r b = tt
-item_covered n sort.Trait (Some d) ts h k r b = absurd (false≢true k)
-item_covered n sort.AutoTrait (Some d) ts h k r b = absurd (false≢true k)
-item_covered n sort.AssocTy (Some d) ts h k r b = absurd (false≢true r)
-item_covered n sort.AssocConst (Some d) ts h k r b = absurd (false≢true r)
-item_covered n sort.FreeTy (Some d) ts h k r b = absurd (false≢true r)
-item_covered n sort.FreeConst (Some d) ts h k r b = absurd (false≢true r)
-item_covered n sort.Opaque (Some d) ts h k r b = absurd (false≢true r)
-item_covered n sort.InherentTy (Some d) ts h k r b = absurd (false≢true r)
-item_covered n sort.InherentConst (Some d) ts h k r b = absurd (false≢true r)
+item_covered : (s : ItemSort) (o : Option ℕ) (ts : Tree) → WouldBeCovered ts → WouldBeCovered (item_tree s o ts)
+item_covered s None ts h k b = absurd (false≢true k)
+item_covered sort.Struct (Some d) ts h k b = (tt, h k b)
+item_covered sort.Fn (Some d) ts h k b = (tt, h k b)
+item_covered sort.Closure (Some d) ts h k b = (tt, h k b)
+item_covered sort.Coroutine (Some d) ts h k b = (tt, h k b)
+item_covered sort.CoroutineClosure (Some d) ts h k b = (tt, h k b)
+item_covered sort.CoroutineWitness (Some d) ts h k b = (tt, h k b)
+item_covered sort.Foreign (Some d) ts h k b = tt
+item_covered sort.Trait (Some d) ts h k b = absurd (false≢true k)
+item_covered sort.AutoTrait (Some d) ts h k b = absurd (false≢true k)
+item_covered sort.AssocTy (Some d) ts h k b = (tt, h k b)
+item_covered sort.AssocConst (Some d) ts h k b = (tt, h k b)
+item_covered sort.FreeTy (Some d) ts h k b = (tt, h k b)
+item_covered sort.FreeConst (Some d) ts h k b = (tt, h k b)
+item_covered sort.Opaque (Some d) ts h k b = (tt, h k b)
+item_covered sort.InherentTy (Some d) ts h k b = (tt, h k b)
+item_covered sort.InherentConst (Some d) ts h k b = (tt, h k b)
 
 module _ (items names parts : List ℕ) where
-  term_covered : (ts : List Tree) (ns : List Needs) → HoldsOfEach IsCoveredBy ts ns → (x : Term) →
-      IsCoveredBy (term_need parts ns x) (term_tree items names parts ts x)
-  term_covered ts ns h term.Bool k r l = tt
-  term_covered ts ns h term.Char k r l = tt
-  term_covered ts ns h term.Str k r l = tt
-  term_covered ts ns h term.Never k r l = tt
-  term_covered ts ns h (term.Int w) k r l = tt
-  term_covered ts ns h (term.Uint w) k r l = tt
-  term_covered ts ns h (term.Float w) k r l = tt
-  term_covered ts ns h (term.Item s d p) k r l =
-      item_covered (parts_need parts ns p) s (slice_get items d) _ (list_covered ts ns h no_needs _) k r l
-  term_covered ts ns h (term.Slice t) k r l = (tt, (h t (and_parts (known (at ts t)) true k).0 r l.0, tt))
-  term_covered ts ns h (term.Array t c) k r l = (tt, two_covered ts ns h t c k r l)
-  term_covered ts ns h (term.Tuple p) k r l = (tt, list_covered ts ns h no_needs _ k r l)
-  term_covered ts ns h (term.RawPtr t u) k r l = (tt, (h t (and_parts (known (at ts t)) true k).0 r l.0, tt))
-  term_covered ts ns h (term.Ref a t u) k r l = (tt, two_covered ts ns h a t k r l)
-  term_covered ts ns h (term.TyParam i n) k r l = leaf_covered _ (λ x. tt) (slice_get names n) k
-  term_covered ts ns h (term.TyPlaceholder u v n) k r l = leaf_covered _ (λ x. tt) (slice_get names n) k
-  term_covered ts ns h (term.TyVar n) k r l = tt
-  term_covered ts ns h (term.IntVar n) k r l = tt
-  term_covered ts ns h (term.FloatVar n) k r l = tt
-  term_covered ts ns h term.TyError k r l = absurd (false≢true r)
-  term_covered ts ns h (term.Pat t c) k r l = (tt, two_covered ts ns h t c k r l)
-  term_covered ts ns h term.Static k r l = tt
-  term_covered ts ns h (term.RegionParam i n) k r l = leaf_covered _ (λ x. tt) (slice_get names n) k
-  term_covered ts ns h (term.RegionVar n) k r l = tt
-  term_covered ts ns h (term.RegionPlaceholder u v n) k r l = leaf_covered _ (λ x. tt) (slice_get names n) k
-  term_covered ts ns h (term.ConstParam i n) k r l = leaf_covered _ (λ x. tt) (slice_get names n) k
-  term_covered ts ns h (term.ConstPlaceholder u v n) k r l = leaf_covered _ (λ x. tt) (slice_get names n) k
-  term_covered ts ns h (term.ConstVar n) k r l = tt
-  term_covered ts ns h term.ConstError k r l = absurd (false≢true r)
-  term_covered ts ns h (term.Number t b n) k r l =
-      value_covered (at ts t) (leaf (atom (value_leaf b n))) (λ j c. h t j r c) (λ j c. tt) k l
-  term_covered ts ns h (term.Branch t q) k r l =
-      let b = and_parts (need_at ns t).has_rules (parts_need parts ns q).has_rules r in
-      value_covered (at ts t) (node value_branch (parts_tree parts ts q)) (λ j c. h t j b.0 c)
-      (λ j c. (tt, list_covered ts ns h no_needs (slice_range parts q.first q.behind) j b.1 c)) k l
-  term_covered ts ns h (term.Expr e q) k r l = (tt, list_covered ts ns h no_needs _ k r l)
-  term_covered ts ns h (term.Range a b) k r l = (tt, two_covered ts ns h a b k r l)
-  term_covered ts ns h (term.Or q) k r l = (tt, list_covered ts ns h no_needs _ k r l)
-  term_covered ts ns h term.NotNull k r l = tt
-  term_covered ts ns h (term.TyBound d v n) k r l = leaf_covered _ (λ x. tt) (slice_get names n) k
-  term_covered ts ns h (term.RegionBound d v n) k r l = leaf_covered _ (λ x. tt) (slice_get names n) k
-  term_covered ts ns h (term.ConstBound d v n) k r l = leaf_covered _ (λ x. tt) (slice_get names n) k
-  term_covered ts ns h (term.FnPtr g v q) k r l =
+  term_covered : (ts : List Tree) → EachCovered ts → (x : Term) → WouldBeCovered (term_tree items names parts ts x)
+  term_covered ts h term.Bool k l = tt
+  term_covered ts h term.Char k l = tt
+  term_covered ts h term.Str k l = tt
+  term_covered ts h term.Never k l = tt
+  term_covered ts h (term.Int w) k l = tt
+  term_covered ts h (term.Uint w) k l = tt
+  term_covered ts h (term.Float w) k l = tt
+  term_covered ts h (term.Item s d p) k l = item_covered s (slice_get items d) _ (list_covered ts h _) k l
+  term_covered ts h (term.Slice t) k l = (tt, (h t (and_parts (known (at ts t)) true k).0 l.0, tt))
+  term_covered ts h (term.Array t c) k l = (tt, two_covered ts h t c k l)
+  term_covered ts h (term.Tuple p) k l = (tt, list_covered ts h _ k l)
+  term_covered ts h (term.RawPtr t u) k l = (tt, (h t (and_parts (known (at ts t)) true k).0 l.0, tt))
+  term_covered ts h (term.Ref a t u) k l = (tt, two_covered ts h a t k l)
+  term_covered ts h (term.TyParam i n) k l = leaf_covered _ (λ x. tt) (slice_get names n) k
+  term_covered ts h (term.TyPlaceholder u v n) k l = leaf_covered _ (λ x. tt) (slice_get names n) k
+  term_covered ts h (term.TyVar n) k l = tt
+  term_covered ts h (term.IntVar n) k l = tt
+  term_covered ts h (term.FloatVar n) k l = tt
+  term_covered ts h term.TyError k l = tt
+  term_covered ts h (term.Pat t c) k l = (tt, two_covered ts h t c k l)
+  term_covered ts h term.Static k l = tt
+  term_covered ts h (term.RegionParam i n) k l = leaf_covered _ (λ x. tt) (slice_get names n) k
+  term_covered ts h (term.RegionVar n) k l = tt
+  term_covered ts h (term.RegionPlaceholder u v n) k l = leaf_covered _ (λ x. tt) (slice_get names n) k
+  term_covered ts h (term.ConstParam i n) k l = leaf_covered _ (λ x. tt) (slice_get names n) k
+  term_covered ts h (term.ConstPlaceholder u v n) k l = leaf_covered _ (λ x. tt) (slice_get names n) k
+  term_covered ts h (term.ConstVar n) k l = tt
+  term_covered ts h term.ConstError k l = tt
+  term_covered ts h (term.Number t b n) k l =
+      value_covered (at ts t) (leaf (atom (value_leaf b n))) (h t) (λ j c. tt) k l
+  term_covered ts h (term.Branch t q) k l =
+      value_covered (at ts t) (node value_branch (parts_tree parts ts q)) (h t)
+      (λ j c. (tt, list_covered ts h (slice_range parts q.first q.behind) j c)) k l
+  term_covered ts h (term.Expr e q) k l = (tt, list_covered ts h _ k l)
+  term_covered ts h (term.Range a b) k l = (tt, two_covered ts h a b k l)
+  term_covered ts h (term.Or q) k l = (tt, list_covered ts h _ k l)
+  term_covered ts h term.NotNull k l = tt
+  term_covered ts h (term.TyBound d v n) k l = leaf_covered _ (λ x. tt) (slice_get names n) k
+  term_covered ts h (term.RegionBound d v n) k l = leaf_covered _ (λ x. tt) (slice_get names n) k
+  term_covered ts h (term.ConstBound d v n) k l = leaf_covered _ (λ x. tt) (slice_get names n) k
+  term_covered ts h (term.FnPtr g v q) k l =
       fn_ptr_covered g (variables_of (parts_tree parts ts v)) (parts_tree parts ts q)
-      (λ j c. front_covered ts ns h no_needs (slice_range parts q.first q.behind) j r c)
-      (λ j c. last_covered ts ns h no_needs (slice_range parts q.first q.behind) j r c) k l
-  term_covered ts ns h (term.UnsafeBinder v t) k r l =
-      unsafe_binder_covered (variables_of (parts_tree parts ts v)) (at ts t) (λ j c. h t j r c) k l
-  term_covered ts ns h (term.Object q t) k r l =
-      let b = and_parts (parts_need parts ns q).has_rules (need_at ns t).has_rules r in
-      object_covered (parts_tree parts ts q) (at ts t) (λ j c. list_covered ts ns h no_needs _ j b.0 c)
-      (λ j c. h t j b.1 c) k l
-  term_covered ts ns h (term.Implements v d q) k r l =
+      (front_covered ts h (slice_range parts q.first q.behind))
+      (last_covered ts h (slice_range parts q.first q.behind)) k l
+  term_covered ts h (term.UnsafeBinder v t) k l =
+      unsafe_binder_covered (variables_of (parts_tree parts ts v)) (at ts t) (h t) k l
+  term_covered ts h (term.Object q t) k l =
+      object_covered (parts_tree parts ts q) (at ts t) (list_covered ts h _) (h t) k l
+  term_covered ts h (term.Implements v d q) k l =
       under_covered (variables_of (parts_tree parts ts v)) _
-      (head_covered existential_trait (λ i. tt) (slice_get items d) _ (λ j b. list_covered ts ns h no_needs _ j r b)) k l
-  term_covered ts ns h (term.Projects v d q t) k r l =
-      let c = and_parts (need_at ns t).has_rules (parts_need parts ns q).has_rules r in
+      (head_covered existential_trait (λ i. tt) (slice_get items d) _ (list_covered ts h _)) k l
+  term_covered ts h (term.Projects v d q t) k l =
       under_covered (variables_of (parts_tree parts ts v)) _
       (head_covered existential_projection (λ i. tt) (slice_get items d) (cons (at ts t) (parts_tree parts ts q))
-      (projected_covered (at ts t) (parts_tree parts ts q) (λ j b. h t j c.0 b)
-      (λ j b. list_covered ts ns h no_needs _ j c.1 b))) k l
-  term_covered ts ns h (term.IsAuto v d) k r l =
+      (projected_covered (at ts t) (parts_tree parts ts q) (h t) (list_covered ts h _))) k l
+  term_covered ts h (term.IsAuto v d) k l =
       under_covered (variables_of (parts_tree parts ts v)) _
       (λ j b. leaf_covered _ (λ x. tt) (slice_get items d) j) k l
 
   missing_covered : IsCoveredBy no_needs (leaf unknown)
-  missing_covered k r l = absurd (false≢true k)
+  missing_covered k l = absurd (false≢true k)
 
   told_covered : (ts : List Tree) (ns : List Needs) → HoldsOfEach IsCoveredBy ts ns → (x : Term) (o : Option Uses) →
       Tells o (term_tree items names parts ts x) →
       IsCoveredBy (told o (term_need parts ns x)) (term_tree items names parts ts x)
-  told_covered ts ns h x None said = term_covered ts ns h x
-  told_covered ts ns h x (Some u) said = term_covered ts ns h x
+  told_covered ts ns h x o said = term_covered ts h x
 
-  -- All known terms of a program are covered whose forms have rules, and whose binders bind by their lists.
+  -- All known terms of a program are covered whose binders bind by their lists.
   pub all_covered : (us : List Uses) (xs : List Term) → AreTold (trees_of items names parts xs) us →
       HoldsOfEach IsCoveredBy (trees_of items names parts xs) (needs_of parts us xs)
   all_covered us xs h = all_hold items names parts IsCoveredBy missing_covered told_covered us xs h

@@ -24,8 +24,8 @@ use Rattle.text_reading.specs.declared.naming.program.Term.{Term}
 use Rattle.text_reading.specs.declared.naming.program.Term.TheVariants as term
 use Rattle.text_terms.specs.Terms.{at, parts_tree, leaf_of, item_tree, term_tree, trees_from, trees_of}
 use Rattle.text_terms.specs.Terms.{variables_of, fn_ptr_tree, head_of, object_tree}
-use Rattle.relation_needs.specs.Needs.{larger, both_needs, no_needs, universe_need, without_rules, told, need_at, needs_with}
-use Rattle.relation_needs.specs.Needs.{item_need, parts_need, term_need, needs_from, needs_of, Reaches, largest, IsEnough, Allows, AreEnough}
+use Rattle.relation_needs.specs.Needs.{larger, both_needs, no_needs, universe_need, told, need_at, needs_with}
+use Rattle.relation_needs.specs.Needs.{parts_need, term_need, needs_from, needs_of, Reaches, largest, IsEnough, Allows, AreEnough}
 
 some_is_there : {x : ℕ} → Some x ≡ None → ⊥
 some_is_there e = cc
@@ -69,17 +69,6 @@ enough_right a b (placeholder k u i) h = max_right a.universe b.universe u h
 enough_right a b (atom x) h = h
 enough_right a b unknown h = tt
 
-enough_without : (n : Needs) (l : Leaf) → IsEnough n l → IsEnough (without_rules n) l
-enough_without n (variable type_var i) h = h
-enough_without n (variable int_var i) h = h
-enough_without n (variable float_var i) h = h
-enough_without n (variable const_var i) h = h
-enough_without n (variable region_var i) h = h
-enough_without n (bound k d i) h = tt
-enough_without n (placeholder k u i) h = h
-enough_without n (atom x) h = h
-enough_without n unknown h = tt
-
 enough_told : (o : Option Uses) (n : Needs) (l : Leaf) → IsEnough n l → IsEnough (told o n) l
 enough_told None n l h = h
 enough_told (Some u) n (variable type_var i) h = h
@@ -97,9 +86,6 @@ allows_left a b t h = Leaves_map (IsEnough a) (IsEnough (both_needs a b)) (enoug
 
 pub allows_right : (a b : Needs) (t : Tree) → Allows b t → Allows (both_needs a b) t
 allows_right a b t h = Leaves_map (IsEnough b) (IsEnough (both_needs a b)) (enough_right a b) t h
-
-allows_without : (n : Needs) (t : Tree) → Allows n t → Allows (without_rules n) t
-allows_without n t h = Leaves_map (IsEnough n) (IsEnough (without_rules n)) (enough_without n) t h
 
 allows_told : (o : Option Uses) (n : Needs) (t : Tree) → Allows n t → Allows (told o n) t
 allows_told o n t h = Leaves_map (IsEnough n) (IsEnough (told o n)) (enough_told o n) t h
@@ -123,7 +109,7 @@ leaf_enough n f h None = tt
 leaf_enough n f h (Some x) = h x
 
 item_enough : (n : Needs) (s : ItemSort) (o : Option ℕ) (ts : Tree) → Allows n ts →
-    Allows (item_need s n) (item_tree s o ts)
+    Allows n (item_tree s o ts)
 item_enough n s None ts h = tt
 item_enough n sort.Struct (Some d) ts h = h
 item_enough n sort.Fn (Some d) ts h = h
@@ -134,13 +120,13 @@ item_enough n sort.CoroutineWitness (Some d) ts h = h
 item_enough n sort.Foreign (Some d) ts h = tt
 item_enough n sort.Trait (Some d) ts h = tt
 item_enough n sort.AutoTrait (Some d) ts h = tt
-item_enough n sort.AssocTy (Some d) ts h = allows_without n ts h
-item_enough n sort.AssocConst (Some d) ts h = allows_without n ts h
-item_enough n sort.FreeTy (Some d) ts h = allows_without n ts h
-item_enough n sort.FreeConst (Some d) ts h = allows_without n ts h
-item_enough n sort.Opaque (Some d) ts h = allows_without n ts h
-item_enough n sort.InherentTy (Some d) ts h = allows_without n ts h
-item_enough n sort.InherentConst (Some d) ts h = allows_without n ts h
+item_enough n sort.AssocTy (Some d) ts h = h
+item_enough n sort.AssocConst (Some d) ts h = h
+item_enough n sort.FreeTy (Some d) ts h = h
+item_enough n sort.FreeConst (Some d) ts h = h
+item_enough n sort.Opaque (Some d) ts h = h
+item_enough n sort.InherentTy (Some d) ts h = h
+item_enough n sort.InherentConst (Some d) ts h = h
 
 -- Of what a trait object implements, and of a trait object.
 head_enough : (n : Needs) (f : ℕ → Head) (o : Option ℕ) (ts : Tree) → Allows n ts → Allows n (head_of f o ts)

@@ -1,5 +1,5 @@
 -- What a context has to have for a term to be its own.
-use Rattle.std.specs.Prelude.{ℕ, ◌≤◌, max, Bool, true, false, cond, ◌&&◌, List, [], ◌∷◌, ◌++◌, Option, Some, None}
+use Rattle.std.specs.Prelude.{ℕ, ◌≤◌, max, true, List, [], ◌∷◌, ◌++◌, Option, Some, None}
 use Rattle.std.specs.Prelude.{slice_get, slice_range, length, ◌==◌, vec_len}
 use Rattle.relation_terms.specs.Heads.{VarKind, Leaf, variable, bound, placeholder, atom, unknown, type_var, int_var, float_var}
 use Rattle.relation_terms.specs.Heads.{const_var, region_var}
@@ -7,8 +7,6 @@ use Rattle.relation_terms.specs.Trees.{Tree, Leaves}
 use Rattle.relation_contexts.specs.Relation.{IsValueAtom}
 use Rattle.relation_needs.specs.declared.binding.Uses.{Uses}
 use Rattle.relation_needs.specs.declared.needs.Needs.{Needs}
-use Rattle.text_reading.specs.declared.reading.tree.ItemSort.{ItemSort}
-use Rattle.text_reading.specs.declared.reading.tree.ItemSort.TheVariants as sort
 use Rattle.text_reading.specs.declared.naming.program.Parts.{Parts}
 use Rattle.text_reading.specs.declared.naming.program.Term.{Term}
 use Rattle.text_reading.specs.declared.naming.program.Term.TheVariants as term
@@ -29,7 +27,6 @@ no_needs = record {
   consts = None;
   regions = None;
   universe = 0;
-  has_rules = true;
   closed = true;
   by_lists = true;
 }
@@ -47,7 +44,6 @@ both_needs a b = record {
   consts = larger a.consts b.consts;
   regions = larger a.regions b.regions;
   universe = max a.universe b.universe;
-  has_rules = a.has_rules && b.has_rules;
   closed = a.closed && b.closed;
   by_lists = a.by_lists && b.by_lists;
 }
@@ -56,25 +52,6 @@ both_needs a b = record {
 abbrev pub told : Option Uses → Needs → Needs
 told None n = n
 told (Some u) n = record n { closed = (vec_len u.outer == 0); by_lists = u.by_lists }
-
--- The same is needed, and a form has no rules.
-abbrev pub without_rules : Needs → Needs
-without_rules n = record n { has_rules = false }
-
--- An item over arguments stands for a type or a constant that has to be found first; what such an item needs, and
--- another, over arguments that need so much.
-abbrev pub is_alias : ItemSort → Bool
-is_alias sort.AssocTy = true
-is_alias sort.AssocConst = true
-is_alias sort.FreeTy = true
-is_alias sort.FreeConst = true
-is_alias sort.Opaque = true
-is_alias sort.InherentTy = true
-is_alias sort.InherentConst = true
-is_alias s = false
-
-abbrev pub item_need : ItemSort → Needs → Needs
-item_need s n = cond (is_alias s) (without_rules n) n
 
 -- What a term of that number needs.
 abbrev pub need_in : Option Needs → Needs
@@ -110,11 +87,9 @@ module _ (parts : List ℕ) where
   term_need ns (term.Array t c) = both_needs (need_at ns t) (need_at ns c)
   term_need ns (term.Ref r t m) = both_needs (need_at ns r) (need_at ns t)
   term_need ns (term.Branch t p) = both_needs (need_at ns t) (parts_need parts ns p)
-  term_need ns (term.Item s d p) = item_need s (parts_need parts ns p)
+  term_need ns (term.Item s d p) = parts_need parts ns p
   term_need ns (term.Tuple p) = parts_need parts ns p
   term_need ns (term.Expr k p) = parts_need parts ns p
-  term_need ns term.TyError = without_rules no_needs
-  term_need ns term.ConstError = without_rules no_needs
   term_need ns (term.Pat t p) = both_needs (need_at ns t) (need_at ns p)
   term_need ns (term.Range s e) = both_needs (need_at ns s) (need_at ns e)
   term_need ns (term.Or p) = parts_need parts ns p

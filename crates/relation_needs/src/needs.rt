@@ -1,17 +1,15 @@
 //! What a context has to have for a term to be asked about in it.
 ghost use Rattle.std.specs.Prelude.{◌≡◌, IfOk, max, slice_get};
-ghost use Rattle.relation_needs.specs.Needs.{larger, both_needs, universe_need, without_rules};
-ghost use Rattle.relation_needs.specs.Needs.{is_alias, item_need, told};
+ghost use Rattle.relation_needs.specs.Needs.{larger, both_needs, universe_need, told};
 ghost use Rattle.relation_needs.specs.Needs.{need_at, parts_need, term_need, needs_of};
 
 use crate::binding::Uses;
 use std::alloc::{AllocError, Global};
 use text_reading::naming::{Parts, Program, Term};
-use text_reading::reading::ItemSort;
 
 /// What a term needs of a context: variables up to these numbers, the largest that it names, if it names any; and a
-/// universe that names its placeholders. To be related, it needs to be of forms that have rules, without what binders
-/// outside it bind, and its binders have to bind by their lists.
+/// universe that names its placeholders. To be related, it needs to be without what binders outside it bind, and its
+/// binders have to bind by their lists.
 #[derive(Clone, Copy)]
 pub struct Needs {
     pub types: Option<usize>,
@@ -20,7 +18,6 @@ pub struct Needs {
     pub consts: Option<usize>,
     pub regions: Option<usize>,
     pub universe: usize,
-    pub has_rules: bool,
     pub closed: bool,
     pub by_lists: bool,
 }
@@ -33,7 +30,6 @@ const NONE: Needs = Needs {
     consts: None,
     regions: None,
     universe: 0,
-    has_rules: true,
     closed: true,
     by_lists: true,
 };
@@ -69,7 +65,6 @@ pub fn both(a: Needs, b: Needs) -> Needs
         consts: larger(a.consts, b.consts),
         regions: larger(a.regions, b.regions),
         universe: greater(a.universe, b.universe),
-        has_rules: a.has_rules && b.has_rules,
         closed: a.closed && b.closed,
         by_lists: a.by_lists && b.by_lists,
     }
@@ -113,43 +108,6 @@ fn universe_need(universe: usize) -> Needs
     Needs { universe, ..NONE }
 }
 
-// What a term of a form without rules needs, over parts that need so much.
-fn without_rules(parts: Needs) -> Needs
-    ensures { result ≡ without_rules parts }
-{
-    Needs {
-        has_rules: false,
-        ..parts
-    }
-}
-
-// Whether an item over arguments stands for a type or a constant that has to be found first.
-fn is_alias(sort: ItemSort) -> bool
-    ensures { result ≡ is_alias sort }
-{
-    match sort {
-        ItemSort::AssocTy => true,
-        ItemSort::AssocConst => true,
-        ItemSort::FreeTy => true,
-        ItemSort::FreeConst => true,
-        ItemSort::Opaque => true,
-        ItemSort::InherentTy => true,
-        ItemSort::InherentConst => true,
-        _ => false,
-    }
-}
-
-// What an item needs, over arguments that need so much.
-fn item_need(sort: ItemSort, args: Needs) -> Needs
-    ensures { result ≡ item_need sort args }
-{
-    if is_alias(sort) {
-        without_rules(args)
-    } else {
-        args
-    }
-}
-
 // What a term needs, by what the terms before it need.
 fn term_need(numbers: &[usize], before: &[Needs], term: Term) -> Needs
     ensures { result ≡ term_need numbers.now before.now term }
@@ -184,13 +142,12 @@ fn term_need(numbers: &[usize], before: &[Needs], term: Term) -> Needs
         Term::Array(element, length) => both(need_at(before, element), need_at(before, length)),
         Term::Ref(region, pointee, _) => both(need_at(before, region), need_at(before, pointee)),
         Term::Branch(ty, parts) => both(need_at(before, ty), parts_need(numbers, before, parts)),
-        Term::Item(sort, _, parts) => item_need(sort, parts_need(numbers, before, parts)),
+        Term::Item(_, _, parts) => parts_need(numbers, before, parts),
         Term::Tuple(parts) => parts_need(numbers, before, parts),
         Term::Expr(_, parts) => parts_need(numbers, before, parts),
         Term::Pat(base, pat) => both(need_at(before, base), need_at(before, pat)),
         Term::Range(start, end) => both(need_at(before, start), need_at(before, end)),
         Term::Or(parts) => parts_need(numbers, before, parts),
-        Term::TyError | Term::ConstError => without_rules(NONE),
         Term::TyBound(..) | Term::RegionBound(..) | Term::ConstBound(..) => NONE,
         Term::IsAuto(..) => NONE,
         Term::FnPtr(_, _, types) => parts_need(numbers, before, types),

@@ -161,10 +161,6 @@ module _ {Key Id Name : Type 0} (m : Meaning Key Id Name) (k : ConstKind Key Id 
   const_no_vid h v q = const_no_variable m k (vid_kind v) (vid_number v) h (sym e ∙ q)
 
 -- A variable of the context; and what a term of it is read as is of it.
-pub context_of_made : (st : Store) (k : VarKind) (n : ℕ) → IsMade st k n → InContext st (leaf (variable k n))
-unfolding InContext
-context_of_made st k n h = h
-
 pub context_read : (st : Store) → IsSound st → (t u : Tree) → IsReadAs st t u → InContext st t → InContext st u
 context_read st g t u (itself e) h = subst (InContext st) e h
 context_read st g t u (by_class k n m e c r) h = context_read st g (leaf (variable k m)) u r

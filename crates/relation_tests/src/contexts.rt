@@ -47,8 +47,8 @@ fn is_tainted_by_errors<I: Interner + Drop>(cx: I) -> Result<bool, OutOfMemory> 
     let before = ctx.tainted();
     meets_an_error(&mut ctx);
     let after = ctx.tainted();
-    let new = ctx.renewed(1);
-    Ok(!before && after && !new.tainted() && !new.typing_mode_raw().is_coherence())
+    let new = ctx.renewed(TypingMode::Coherence, true, 1);
+    Ok(!before && after && !new.tainted() && new.typing_mode_raw().is_coherence())
 }
 
 // Whether a context is in the first universe, and in the next one once that was made.

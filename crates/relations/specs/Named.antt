@@ -7,7 +7,7 @@ IsLowRow name =
     (name ≡ codes "r01") ⊎ ((name ≡ codes "r02") ⊎ ((name ≡ codes "r03") ⊎ ((name ≡ codes "r04") ⊎ (
     (name ≡ codes "r05") ⊎ ((name ≡ codes "r06") ⊎ ((name ≡ codes "r07") ⊎ ((name ≡ codes "r08") ⊎ (
     (name ≡ codes "r09") ⊎ ((name ≡ codes "r10") ⊎ ((name ≡ codes "r11") ⊎ ((name ≡ codes "r12") ⊎ (
-    (name ≡ codes "r14") ⊎ ((name ≡ codes "r15") ⊎ (name ≡ codes "r16"))))))))))))))
+    (name ≡ codes "r13") ⊎ ((name ≡ codes "r14") ⊎ ((name ≡ codes "r15") ⊎ (name ≡ codes "r16")))))))))))))))
 
 -- A row from r17 on, but below r32, has that name.
 abbrev pub IsMiddleRow : List ℕ → Type 0
@@ -20,10 +20,11 @@ IsMiddleRow name =
 -- A row from r32 on, but below r54, has that name.
 abbrev pub IsUpperRow : List ℕ → Type 0
 IsUpperRow name =
-    (name ≡ codes "r32") ⊎ ((name ≡ codes "r34") ⊎ ((name ≡ codes "r35") ⊎ ((name ≡ codes "r36") ⊎ (
-    (name ≡ codes "r37") ⊎ ((name ≡ codes "r42") ⊎ ((name ≡ codes "r43") ⊎ ((name ≡ codes "r44") ⊎ (
-    (name ≡ codes "r45") ⊎ ((name ≡ codes "r46") ⊎ ((name ≡ codes "r49") ⊎ ((name ≡ codes "r50") ⊎ (
-    (name ≡ codes "r51") ⊎ (name ≡ codes "r53")))))))))))))
+    (name ≡ codes "r32") ⊎ ((name ≡ codes "r33") ⊎ ((name ≡ codes "r34") ⊎ ((name ≡ codes "r35") ⊎ (
+    (name ≡ codes "r36") ⊎ ((name ≡ codes "r37") ⊎ ((name ≡ codes "r38") ⊎ ((name ≡ codes "r39") ⊎ (
+    (name ≡ codes "r40") ⊎ ((name ≡ codes "r41") ⊎ ((name ≡ codes "r42") ⊎ ((name ≡ codes "r43") ⊎ (
+    (name ≡ codes "r44") ⊎ ((name ≡ codes "r45") ⊎ ((name ≡ codes "r46") ⊎ ((name ≡ codes "r49") ⊎ (
+    (name ≡ codes "r50") ⊎ ((name ≡ codes "r51") ⊎ (name ≡ codes "r53"))))))))))))))))))
 
 -- A row from r54 on has that name.
 abbrev pub IsHighRow : List ℕ → Type 0

@@ -9,7 +9,7 @@ mod making;
 mod writing;
 
 use crate::doubling::count_terms_and_nodes;
-use crate::rows::RowFault;
+use crate::running::RowFault;
 use delaying::write_found;
 use growing::write_yielded;
 use reference_interner::{

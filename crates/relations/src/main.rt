@@ -6,6 +6,7 @@ mod calls;
 mod doubling;
 mod row_names;
 mod rows;
+mod running;
 
 use std::process::ExitCode;
 use std::{env, io};
@@ -20,7 +21,7 @@ fn main(rt: HostRuntime) -> io::Result<ExitCode> {
     let mut out = rt.stdout();
     let mut err = rt.stderr();
     let status = match words_of(&rt) {
-        Ok(words) => rows::run(rt.alloc(), words.as_slice(), &mut out, &mut err),
+        Ok(words) => running::run(rt.alloc(), words.as_slice(), &mut out, &mut err),
         Err(error) => beginning::tell_unbegun(&error, &mut err),
     };
     Ok(ExitCode::from(status))

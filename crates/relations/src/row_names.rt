@@ -18,6 +18,7 @@ fn is_low_row(name: &str) -> bool
         || name == "r10"
         || name == "r11"
         || name == "r12"
+        || name == "r13"
         || name == "r14"
         || name == "r15"
         || name == "r16"
@@ -48,10 +49,15 @@ fn is_upper_row(name: &str) -> bool
     ensures { IsTrue result ↔ IsUpperRow name.now }
 {
     name == "r32"
+        || name == "r33"
         || name == "r34"
         || name == "r35"
         || name == "r36"
         || name == "r37"
+        || name == "r38"
+        || name == "r39"
+        || name == "r40"
+        || name == "r41"
         || name == "r42"
         || name == "r43"
         || name == "r44"

@@ -1,15 +1,4 @@
-//! The rows, their stored answers, and the program's runs.
-ghost use Rattle.std.specs.Prelude.{◌≡◌, ◌<◌, ◌≤◌, IfSome, length, slice_get, string_bytes};
-ghost use Rattle.relations.specs.Named.{IsRow};
-
-use crate::calls::call;
-use crate::row_names::is_row;
-use relation_asking::ask_all;
-use std::alloc::Global;
-use std::io;
-use text_reading::naming::{NameError, look_up};
-use text_reading::reading::{ReadError, read};
-use text_reading::telling::{Lines, tell_unnamed, tell_unread};
+//! The rows, and their stored answers.
 
 /// A row: its name, the questions that it asks, as text, and the answers that they are to have. What no question can
 /// ask, one without questions answers by calls.
@@ -20,19 +9,8 @@ pub struct Row {
     pub stored: &'static str,
 }
 
-/// Why a row's questions have no answers.
-#[derive(Clone, Copy, PartialEq, Eq, Debug)]
-pub enum RowFault {
-    /// A growth was refused.
-    Memory,
-    /// The text can't be read.
-    Unread(ReadError),
-    /// Names of the text can't be looked up.
-    Unnamed(NameError),
-}
-
 /// The rows, in the order of their numbers.
-pub const ROWS: [Row; 57] = [
+pub const ROWS: [Row; 63] = [
     Row {
         name: "r01",
         questions: "may unify[rigid, rigid] bool, char at 0; may unify[rigid, rigid] bool, char at 1;",
@@ -94,6 +72,11 @@ pub const ROWS: [Row; 57] = [
         name: "r12",
         questions: "struct Vec<+T>; Vec<?0> <: ?1;",
         stored: "ok; goals=[Subtype(?0, ?2, true)]; bound=[?1=Vec<?2>]",
+    },
+    Row {
+        name: "r13",
+        questions: "trait Tr; type Tr::A; param T; <T as Tr>::A == u8; <T as Tr>::A === u8;",
+        stored: "ok; goals=[AliasRelate(<T as Tr>::A, u8, Equate)] | err Sorts(<T as Tr>::A, u8)",
     },
     Row {
         name: "r14",
@@ -203,6 +186,11 @@ pub const ROWS: [Row; 57] = [
         stored: "negative | [const] | ! | unevaluated constant",
     },
     Row {
+        name: "r33",
+        questions: "{error} == u8;",
+        stored: "ok; tainted",
+    },
+    Row {
         name: "r34",
         questions: "param 'a, 'b, 'c, 'd;
             &'a mut &'b u8 <: &'c mut &'d u8;
@@ -224,6 +212,34 @@ pub const ROWS: [Row; 57] = [
         name: "r37",
         questions: "[u8; ?c0] == [?0; 2];",
         stored: "ok; bound=[?0=u8, ?c0=2]",
+    },
+    Row {
+        name: "r38",
+        questions: "trait Tr; type Tr::A; param T;
+            <T as Tr>::A <: u8; <T as Tr>::A :> u8; ?i0 == <T as Tr>::A; ?i0 === <T as Tr>::A;",
+        stored: "ok; goals=[AliasRelate(<T as Tr>::A, u8, Subtype)] | \
+            ok; goals=[AliasRelate(u8, <T as Tr>::A, Subtype)] | \
+            ok; goals=[AliasRelate(?i0, <T as Tr>::A, Equate)] | err Sorts(?i0, <T as Tr>::A)",
+    },
+    Row {
+        name: "r39",
+        questions: "struct Vec<+T>; trait Tr; type Tr::A;
+            ?0 == <?0 as Tr>::A; ?0 === <?0 as Tr>::A;
+            Vec<(?0, <?1 as Tr>::A)> == Vec<(u8, Vec<?1>)>;",
+        stored: "ok; goals=[AliasRelate(?1, <?0 as Tr>::A, Equate)]; bound=[?0=?1] | \
+            err CyclicTy(<?0 as Tr>::A) | \
+            ok; goals=[AliasRelate(<?1 as Tr>::A, Vec<?1>, Equate)]; bound=[?0=u8]",
+    },
+    Row {
+        name: "r40",
+        questions: "opaque Op; solver old; mode coherence; Op == u8; mode analysis; Op == u8;
+            solver next; Op == u8;",
+        stored: "ok; goals=[Ambiguous] | err Sorts(Op, u8) | ok; goals=[AliasRelate(Op, u8, Equate)]",
+    },
+    Row {
+        name: "r41",
+        questions: "const K; [u8; K] <: [u8; 2]; [u8; K] === [u8; 2];",
+        stored: "ok; goals=[AliasRelate(K, 2, Equate)] | err ArraySize(K, 2)",
     },
     Row {
         name: "r42",
@@ -365,135 +381,3 @@ pub const ROWS: [Row; 57] = [
         stored: "true | false | false | ok; bound=[?c0=1]",
     },
 ];
-
-/// The answers to questions, with ` | ` between two.
-///
-/// # Errors
-/// `Memory` where the text of the answers can't grow. `Unread` and `Unnamed` where the questions are no text of the
-/// language, or say that a growth was refused.
-pub fn asked(alloc: Global, questions: &str) -> Result<String, RowFault> {
-    let tree = read(alloc, questions.as_bytes()).map_err(RowFault::Unread)?;
-    let program = look_up(alloc, questions, &tree).map_err(RowFault::Unnamed)?;
-    let mut text = String::new(alloc);
-    match ask_all(alloc, &program, " | ", &mut text) {
-        Ok(()) => Ok(text),
-        Err(_) => Err(RowFault::Memory),
-    }
-}
-
-/// The answers to a row's questions, or of its calls.
-///
-/// # Errors
-/// As `asked` has them, and `Memory` where a call was refused a growth.
-pub fn answers(alloc: Global, row: &Row) -> Result<String, RowFault> {
-    if row.questions.is_empty() {
-        return call(alloc, row.name);
-    }
-    asked(alloc, row.questions)
-}
-
-// Says why a row has no answers: that a growth was refused among the answers, and what is wrong with its text to `err`.
-fn print_fault<O: io::Write, E: io::Write>(
-    row: &Row,
-    fault: &RowFault,
-    out: &mut O,
-    err: &mut E,
-) -> io::Result<()> {
-    let name = row.name;
-    let mut err = Lines { out: err };
-    match fault {
-        RowFault::Memory
-        | RowFault::Unread(ReadError::Memory)
-        | RowFault::Unnamed(NameError::Memory) => writeln!(out, "{name}: memory")?,
-        RowFault::Unread(error) => {
-            let _ = tell_unread(name, row.questions.as_bytes(), error, &mut err);
-        }
-        RowFault::Unnamed(error) => {
-            let _ = tell_unnamed(name, row.questions, error, &mut err);
-        }
-    }
-    Ok(())
-}
-
-/// Prints a row, and says whether its answers are the stored ones. Where its text is wrong, nothing is printed, and
-/// `err` is told so, with the row's name and the place.
-///
-/// # Errors
-/// What `out` answers where it can't be written.
-pub fn print<O: io::Write, E: io::Write>(
-    alloc: Global,
-    row: &Row,
-    out: &mut O,
-    err: &mut E,
-) -> io::Result<bool> {
-    match answers(alloc, row) {
-        Ok(text) => {
-            let name = row.name;
-            writeln!(out, "{name}: {text}")?;
-            Ok(text.as_str() == row.stored)
-        }
-        Err(fault) => {
-            print_fault(row, &fault, out, err)?;
-            Ok(false)
-        }
-    }
-}
-
-// Prints the row of a name, or all. The status is 1 if an answer is not the stored one, a row's text is wrong, or a
-// write failed: then `err` is told why, and no more is written.
-fn print_rows<O: io::Write, E: io::Write>(
-    alloc: Global,
-    name: Option<&str>,
-    out: &mut O,
-    err: &mut E,
-) -> u8
-    ensures { result ≤ 1 }
-{
-    let mut status = 0;
-    for row in &ROWS {
-        let asked = match name {
-            None => true,
-            Some(name) => row.name == name,
-        };
-        if !asked {
-            continue;
-        }
-        match print(alloc, row, out, err) {
-            Ok(true) => {}
-            Ok(false) => status = 1,
-            Err(error) => {
-                let _ = writeln!(err, "standard output: {error}");
-                return 1;
-            }
-        }
-    }
-    status
-}
-
-/// Runs one row or all, and answers the status: 2 where the words name no row, 1 where an answer is not the stored
-/// one, a row's text is wrong, or a write failed.
-pub fn run<O: io::Write, E: io::Write>(
-    alloc: Global,
-    words: &[String],
-    out: &mut O,
-    err: &mut E,
-) -> u8
-    ensures usage { 1 < length words.now → result ≡ 2 }
-    ensures all { length words.now ≡ 0 → result ≤ 1 }
-    ensures row { length words.now ≤ 1 →
-        IfSome (slice_get words.now 0) (λ w. IsRow (string_bytes w) → result ≤ 1) }
-    ensures no_row { IfSome (slice_get words.now 0) (λ w. (IsRow (string_bytes w) → ⊥) → result ≡ 2) }
-{
-    if words.len() > 1 {
-        let _ = writeln!(err, "usage: relations [name]");
-        return 2;
-    }
-    let Some(name) = words.first() else {
-        return print_rows(alloc, None, out, err);
-    };
-    if !is_row(name.as_str()) {
-        let _ = writeln!(err, "unknown row: {name}");
-        return 2;
-    }
-    print_rows(alloc, Some(name.as_str()), out, err)
-}

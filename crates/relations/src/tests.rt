@@ -1,5 +1,6 @@
 //! What a run prints and answers, and what several calls on one context leave.
-use crate::rows::{ROWS, Row, answers, print, run};
+use crate::rows::{ROWS, Row};
+use crate::running::{answers, print, run};
 use reference_interner::{NodeKey, RefInterner};
 use relation_folds::error::{OutOfMemory, RelateFault, RelateFaultOf, TypeError, TypeErrorOf};
 use relation_terms::terms::TyKey;
@@ -19,6 +20,7 @@ r09: err Sorts(u8, bool); bound=[?0=u8]
 r10: ok; regions=['!1.0: 'static]
 r11: ok; regions=['?0 == '!1.0, '?1 == '!1.0, '!2.0 == '?2, '!2.1 == '?2]
 r12: ok; goals=[Subtype(?0, ?2, true)]; bound=[?1=Vec<?2>]
+r13: ok; goals=[AliasRelate(<T as Tr>::A, u8, Equate)] | err Sorts(<T as Tr>::A, u8)
 r14: T: Ord | T: PartialOrd | T: PartialEq | T: Eq | end
 r15: U: Foo<u8> | U: Foo<Vec<u8>> | U: Foo<Vec<Vec<u8>>> | U: Foo<Vec<Vec<Vec<u8>>>> | \
     limit | limit
@@ -38,10 +40,20 @@ r28: true
 r30: ok; bound=[?i0=u16] | err Sorts(?i0, bool)
 r31: Ord | PartialOrd | PartialEq | Eq | end | A | B | end
 r32: negative | [const] | ! | unevaluated constant
+r33: ok; tainted
 r34: ok; regions=['a: 'c, 'b == 'd] | err Mutability
 r35: ok; regions=['b: 'a] | ok; regions=['a: 'b]
 r36: ok; bound=[?0=u8, ?i0=u16]; left=0
 r37: ok; bound=[?0=u8, ?c0=2]
+r38: ok; goals=[AliasRelate(<T as Tr>::A, u8, Subtype)] | \
+    ok; goals=[AliasRelate(u8, <T as Tr>::A, Subtype)] | \
+    ok; goals=[AliasRelate(?i0, <T as Tr>::A, Equate)] | \
+    err Sorts(?i0, <T as Tr>::A)
+r39: ok; goals=[AliasRelate(?1, <?0 as Tr>::A, Equate)]; bound=[?0=?1] | \
+    err CyclicTy(<?0 as Tr>::A) | \
+    ok; goals=[AliasRelate(<?1 as Tr>::A, Vec<?1>, Equate)]; bound=[?0=u8]
+r40: ok; goals=[Ambiguous] | err Sorts(Op, u8) | ok; goals=[AliasRelate(Op, u8, Equate)]
+r41: ok; goals=[AliasRelate(K, 2, Equate)] | err ArraySize(K, 2)
 r42: ok; regions=['static: '?0] | ok; regions=['!1.0: 'static]
 r43: err ArgumentSorts(u8, bool, 1) | err ArgCount
 r44: ok; regions=['a: 'b] | err Traits(Tr, Us)

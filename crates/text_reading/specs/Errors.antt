@@ -33,7 +33,7 @@ expected_text expected.Parameter = codes "a parameter"
 expected_text expected.Bound = codes "a variable of a binder"
 expected_text expected.BoundConst = codes "a constant of a binder"
 expected_text expected.Const = codes "a placeholder or `{error}`"
-expected_text expected.Relation = codes "`<:`, `:>` or `==`"
+expected_text expected.Relation = codes "`<:`, `:>`, `==` or `===`"
 expected_text (expected.Sign s) = codes "`" ++ (spelling s ++ codes "`")
 expected_text (expected.CommaOr s) = codes "`,` or `" ++ (spelling s ++ codes "`")
 expected_text (expected.Either s t) = codes "`" ++ (spelling s ++ (codes "` or `" ++ (spelling t ++ codes "`")))

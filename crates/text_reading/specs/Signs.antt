@@ -1,6 +1,5 @@
 -- What signs say, and how they are written.
 use Rattle.std.specs.Prelude.{◌≡◌, ◌↔◌, ◌⊎◌, ℕ, List, [], ◌∷◌, codes, suc}
-use Rattle.term_enums.specs.declared.Variance.{Variance}
 use Rattle.term_enums.specs.declared.Variance.TheVariants.{Covariant, Invariant, Contravariant, Bivariant}
 use Rattle.term_enums.specs.declared.Mutability.{Mutability}
 use Rattle.term_enums.specs.declared.Mutability.TheVariants as mutability
@@ -14,6 +13,10 @@ use Rattle.text_reading.specs.declared.reading.signs.Sign.{Sign}
 use Rattle.text_reading.specs.declared.reading.signs.Sign.TheVariants as sign
 use Rattle.text_reading.specs.declared.reading.tree.ItemSort.{ItemSort}
 use Rattle.text_reading.specs.declared.reading.tree.ItemSort.TheVariants as sort
+use Rattle.text_reading.specs.declared.reading.tree.Relation.{Relation}
+use Rattle.text_reading.specs.declared.reading.tree.Relation.TheVariants as relation
+use Rattle.text_reading.specs.declared.reading.tree.Setting.{Setting}
+use Rattle.text_reading.specs.declared.reading.tree.Setting.TheVariants as setting
 use Rattle.text_reading.specs.declared.reading.tree.SideParams.{SideParams}
 use Rattle.text_reading.specs.declared.reading.tree.SideParams.TheVariants as sides
 use Rattle.text_reading.specs.declared.reading.tree.StatedKind.{StatedKind}
@@ -32,6 +35,7 @@ abbrev pub spelling : Sign → List ℕ
 spelling sign.Subtype = codes "<:"
 spelling sign.Supertype = codes ":>"
 spelling sign.Equal = codes "=="
+spelling sign.StructurallyEqual = codes "==="
 spelling sign.Less = codes "<"
 spelling sign.Greater = codes ">"
 spelling sign.LeftParen = codes "("
@@ -86,6 +90,7 @@ spelling sign.Key = codes "key"
 spelling sign.Let = codes "let"
 spelling sign.Limit = codes "limit"
 spelling sign.May = codes "may"
+spelling sign.Mode = codes "mode"
 spelling sign.Mut = codes "mut"
 spelling sign.Null = codes "null"
 spelling sign.Opaque = codes "opaque"
@@ -96,6 +101,7 @@ spelling sign.Rigid = codes "rigid"
 spelling sign.SelfType = codes "self"
 spelling sign.Sized = codes "sized"
 spelling sign.Skip = codes "skip"
+spelling sign.Solver = codes "solver"
 spelling sign.Stop = codes "stop"
 spelling sign.Struct = codes "struct"
 spelling sign.Super = codes "super"
@@ -111,12 +117,19 @@ spelling sign.Walk = codes "walk"
 spelling sign.With = codes "with"
 spelling sign.Witness = codes "witness"
 
--- how a question at a variance is written; none is asked at Bivariant
-abbrev pub relation_sign : Variance → Sign
-relation_sign Covariant = sign.Subtype
-relation_sign Contravariant = sign.Supertype
-relation_sign Invariant = sign.Equal
-relation_sign Bivariant = sign.Equal
+-- how it is written that two terms are related; nothing is related at Bivariant
+abbrev pub relation_sign : Relation → Sign
+relation_sign (relation.At Covariant) = sign.Subtype
+relation_sign (relation.At Contravariant) = sign.Supertype
+relation_sign (relation.At Invariant) = sign.Equal
+relation_sign (relation.At Bivariant) = sign.Equal
+relation_sign relation.Structurally = sign.StructurallyEqual
+
+-- what begins a statement of how contexts are made
+abbrev pub setting_sign : Setting → Sign
+setting_sign setting.Budget = sign.Budget
+setting_sign setting.Solver = sign.Solver
+setting_sign setting.Mode = sign.Mode
 
 -- what stands behind the `*` of a raw pointer
 abbrev pub pointer_sign : Mutability → Sign

@@ -18,7 +18,7 @@ mod walks;
 
 pub use error::{Missing, NameError, Wrong, write_name_error};
 pub use program::{
-    Clause, Declared, Item, ParamSort, Parts, Program, Put, Question, QuestionKind, Says, Sort,
-    Stated, Term, Variables,
+    Clause, Declared, Item, Mode, ParamSort, Parts, Program, Put, Question, QuestionKind, Says,
+    Setup, Sort, Stated, Term, Variables,
 };
 pub use statements::{LAST_UNIVERSE, MOST_VARIABLES, look_up};

@@ -23,5 +23,8 @@ pub use error::{Expected, ReadError, write_error};
 pub use place::{Place, place_of};
 pub use signs::Sign;
 pub use statements::read;
-pub use tree::{Claim, Form, ItemSort, KeyParams, Node, NodeKind, SideParams, StatedKind, Tree};
+pub use tree::{
+    Claim, Form, ItemSort, KeyParams, Node, NodeKind, Relation, Setting, SideParams, StatedKind,
+    Tree,
+};
 pub use words::{Leaf, Word, WordKind};

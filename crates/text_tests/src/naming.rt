@@ -88,6 +88,36 @@ fn variables_are_counted(rt: HostRuntime) -> Result<(), Fail> {
     Ok(())
 }
 
+// For which solver and in which mode each question of a text is asked.
+fn setups_shown(alloc: Global, text: &str) -> Result<String, fmt::Error> {
+    let mut out = String::new(alloc);
+    let Ok(tree) = read(alloc, text.as_bytes()) else {
+        return Err(fmt::Error);
+    };
+    let Ok(program) = look_up(alloc, text, &tree) else {
+        return Err(fmt::Error);
+    };
+    for question in &program.questions {
+        let setup = question.setup;
+        write!(out, "{} {:?}; ", setup.next_solver, setup.mode)?;
+    }
+    Ok(out)
+}
+
+#[test]
+fn setups_are_said(rt: HostRuntime) -> Result<(), Fail> {
+    let text =
+        "u8 == u8; solver old; u8 === u8; mode coherence; rigid u8; mode borrowck; solver next; key u8;
+        mode post_borrowck; solver next; rigid u8; mode post_analysis; then rigid u8; mode analysis; rigid u8;";
+    let all = setups_shown(rt.alloc(), text)?;
+    assert_eq!(rt;
+        all.as_str(),
+        "true Analysis; false Analysis; false Coherence; true Borrowck; true PostBorrowckAnalysis; \
+         true PostAnalysis; true Analysis; "
+    );
+    Ok(())
+}
+
 // Texts with wrong names, and what is told of each.
 const WRONG_NAMES: &str = "\
     X == u8; => 1:1: `X` is no type yet; `param X;` declares one\n\
@@ -114,6 +144,8 @@ const WRONG_NAMES: &str = "\
     repeat 0 u8 == u8; => 1:8: expected a number above 0, found `0`\n\
     then u8 == u8; => 1:1: expected a question before this, found none\n\
     budget 1u8; => 1:8: expected a number alone, found `1u8`\n\
+    solver older; => 1:8: expected `old` or `next`, found `older`\n\
+    mode Analysis; => 1:6: expected a typing mode, found `Analysis`\n\
     !1.x == u8; => 1:1: expected a place by its number, found `!1.x`\n\
     let t = t; => 1:9: `t` is no type yet; `param t;` declares one\n\
     param T = 4294967295, U; => 1:23: the number is too large\n\

@@ -2,7 +2,7 @@
 use std::alloc::Global;
 use std::fmt::{self, Write};
 use std::test::Fail;
-use text_reading::reading::{Form, NodeKind, Tree, place_of, read, write_error};
+use text_reading::reading::{Form, NodeKind, Setting, Tree, place_of, read, write_error};
 
 // Writes a node: a leaf as its text, a form with its parts.
 fn write_node(
@@ -47,7 +47,9 @@ fn form_name(form: Form) -> &'static str {
         Form::Parameters => "parameters",
         Form::Parameter => "parameter",
         Form::ConstParameter => "const-parameter",
-        Form::Budget => "budget",
+        Form::Sets(Setting::Budget) => "budget",
+        Form::Sets(Setting::Solver) => "solver",
+        Form::Sets(Setting::Mode) => "mode",
         Form::Variables => "variables",
         Form::Let => "let",
         Form::States(_) => "states",
@@ -144,6 +146,10 @@ fn texts_are_read(rt: HostRuntime) -> Result<(), Fail> {
             "file(then(question(tuple() tuple(!1T !1.0))) repeat(3 question('?0 applied(K))))",
         ),
         (
+            "solver old; T === U; mode coherence; budget 2; then T === u8;",
+            "file(solver(old) question(T U) mode(coherence) budget(2) then(question(T u8)))",
+        ),
+        (
             "visit T skip A, B stop C; visit 'a; fold T with A = B, C = D; then rigid T;",
             "file(visit(T terms(A B) terms(C)) visit('a terms() terms()) fold(T put(A B) put(C D)) then(rigid(T)))",
         ),
@@ -220,13 +226,16 @@ fn texts_are_read(rt: HostRuntime) -> Result<(), Fail> {
 // Wrong texts, and what is told of each.
 const WRONG_TEXTS: &str = "\
     struct => 1:7: expected a name, found the end\n\
-    T => 1:2: expected `<:`, `:>` or `==`, found the end\n\
+    T => 1:2: expected `<:`, `:>`, `==` or `===`, found the end\n\
     T == [T, T]; => 1:8: expected `]`, found `,`\n\
     T == (T; T); => 1:8: expected `,` or `)`, found `;`\n\
     T == 340282366920938463463374607431768211456; => 1:6: the number is too large\n\
     &T == u8; => 1:2: expected a region, found `T`\n\
     *T == T => 1:2: expected `const` or `mut`, found `T`\n\
     budget x; => 1:8: expected a number, found `x`\n\
+    solver 2; => 1:8: expected a name, found `2`\n\
+    mode then; => 1:6: expected a name, found `then`\n\
+    T == = T; => 1:6: expected a term, found `=`\n\
     variables ?i0; => 1:11: expected a variable, found `?i0`\n\
     variables in 1; => 1:11: expected a variable, found `in`\n\
     variables ?0 in; => 1:16: expected a number, found `;`\n\

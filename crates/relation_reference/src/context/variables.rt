@@ -80,26 +80,19 @@ impl<I: Interner + Drop> RefCtxt<I> {
 }
 
 impl<I: Interner> RefCtxt<I> {
-    /// A context over the same interner, in the same mode and for the same solver, as `new` makes one. It takes no
-    /// memory.
-    pub fn renewed(self, budget: usize) -> RefCtxt<I>
+    /// A context over the same interner, as `new` makes one. It takes no memory.
+    pub fn renewed(self, mode: TypingMode<I::Key>, next_solver: bool, budget: usize) -> RefCtxt<I>
         requires { IsLawful (I.meaning self.interner) self.inner }
         ensures interner { result.interner ≡ self.interner }
         ensures lawful { IsLawful (I.meaning self.interner) result.inner }
         ensures new { IsNew result.inner }
         ensures first_universe { result.inner.universe.0 ≡ 0 }
         ensures budget { result.inner.budget ≡ budget }
-        ensures next_solver { result.inner.next_solver ≡ self.inner.next_solver }
-        ensures mode { result.inner.mode ≡ self.inner.mode }
+        ensures next_solver { result.inner.next_solver ≡ next_solver }
+        ensures mode { result.inner.mode ≡ mode }
     {
         let RefCtxt { interner, inner } = self;
-        let inner = empty_tables(
-            interner.alloc(),
-            inner.mode,
-            inner.next_solver,
-            budget,
-            inner.numbers,
-        );
+        let inner = empty_tables(interner.alloc(), mode, next_solver, budget, inner.numbers);
         RefCtxt { interner, inner }
     }
 

@@ -1,5 +1,5 @@
 //! What a map finds that lets its first insertions go.
-use crate::rows::RowFault;
+use crate::running::RowFault;
 use delayed_map::DelayedMap;
 use std::alloc::Global;
 use std::fmt::{self, Write};

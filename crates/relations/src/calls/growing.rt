@@ -1,6 +1,6 @@
 //! How far an elaboration goes that only its limit ends: what it yields is counted, and not printed.
 
-use crate::rows::{RowFault, asked};
+use crate::running::{RowFault, asked};
 use std::alloc::Global;
 use std::fmt::Write;
 

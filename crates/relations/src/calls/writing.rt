@@ -7,7 +7,7 @@ ghost use Rattle.relation_terms.specs.Predicates.{item_parent};
 use crate::calls::making::{
     make_object, make_params, make_plain, make_region, make_type_and_region,
 };
-use crate::rows::RowFault;
+use crate::running::RowFault;
 use relation_terms::predicate::{
     AliasTerm, AliasTermKind, OutlivesPredicate, RegionConstraint, RegionEqPredicate, TraitRef,
 };

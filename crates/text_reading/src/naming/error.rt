@@ -66,6 +66,10 @@ pub enum Wrong {
     NoProjection,
     /// No predicate has the name.
     NoPredicate,
+    /// No trait solver has the name.
+    NoSolver,
+    /// No typing mode has the name.
+    NoMode,
     /// A question is asked no time at all.
     NoTime,
     /// No question stands before it.
@@ -236,6 +240,8 @@ fn write_wrong<W: Write>(found: &str, why: Wrong, out: &mut W) -> fmt::Result
         Wrong::NoBound => write_expected("that a trait is implemented", found, out),
         Wrong::NoProjection => write_expected("a trait's type or constant", found, out),
         Wrong::NoPredicate => write_expected("a predicate", found, out),
+        Wrong::NoSolver => write_expected("`old` or `next`", found, out),
+        Wrong::NoMode => write_expected("a typing mode", found, out),
         Wrong::NoTime => write_expected("a number above 0", found, out),
         Wrong::Sort { expected, found } => {
             let (expected, found) = (sort_name(expected), sort_name(found));

@@ -3,7 +3,7 @@
 use crate::naming::binders::scopes_of;
 use crate::naming::error::{NameError, Wrong, error_at};
 use crate::naming::plain::PLAIN;
-use crate::naming::program::{Program, Sort, Term};
+use crate::naming::program::{Mode, Program, Setup, Sort, Term};
 use crate::reading::{Node, Tree};
 use std::alloc::{AllocError, Global};
 use std::collections::HashMap;
@@ -45,6 +45,8 @@ pub(super) struct Namer<'a> {
     pub bound: HashMap<(usize, &'a str), usize>,
     // The index of the next parameter, while there is one.
     pub next_index: Option<u32>,
+    // How the contexts of the questions behind this are made.
+    pub setup: Setup,
     pub budget: Option<usize>,
     // The trait whose statement this is, by its number: in it the trait's own parameters have names.
     pub stating: Option<usize>,
@@ -65,6 +67,10 @@ impl<'a> Namer<'a> {
             scopes: scopes_of(alloc, tree)?,
             bound: HashMap::new(alloc),
             next_index: Some(0),
+            setup: Setup {
+                next_solver: true,
+                mode: Mode::Analysis,
+            },
             budget: None,
             stating: None,
             program: Program {

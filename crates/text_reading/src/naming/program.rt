@@ -1,7 +1,7 @@
 //! What a text says: its items, its terms and its questions.
 ghost use Rattle.std.specs.Prelude.{◌≡◌};
 
-use crate::reading::{Claim, ItemSort, KeyParams, SideParams, StatedKind};
+use crate::reading::{Claim, ItemSort, KeyParams, Relation, SideParams, StatedKind};
 use std::alloc::AllocError;
 use term_enums::{FloatTy, FnHeader, IntTy, Mutability, UintTy, Variance};
 
@@ -182,10 +182,10 @@ pub struct Put<T> {
 /// What is asked about terms, by their numbers.
 #[derive(Clone, Copy)]
 pub enum QuestionKind {
-    /// Whether a type is related with another at a variance.
+    /// Whether a type is related with another.
     Relate {
         lhs: usize,
-        variance: Variance,
+        relation: Relation,
         rhs: usize,
     },
     /// Which terms a visitor of a term is asked about that skips some terms, and stops at others.
@@ -259,6 +259,23 @@ pub enum QuestionKind {
     SupertraitIds(usize),
 }
 
+/// In which typing mode a context is. No opaque types are defined in it.
+#[derive(Clone, Copy, PartialEq, Eq, Debug)]
+pub enum Mode {
+    Coherence,
+    Analysis,
+    Borrowck,
+    PostBorrowckAnalysis,
+    PostAnalysis,
+}
+
+/// For which trait solver a context is made, the next one or the old one, and in which typing mode.
+#[derive(Clone, Copy, PartialEq, Eq, Debug)]
+pub struct Setup {
+    pub next_solver: bool,
+    pub mode: Mode,
+}
+
 /// A question, and how it is asked.
 #[derive(Clone, Copy)]
 pub struct Question {
@@ -267,6 +284,8 @@ pub struct Question {
     pub then: bool,
     /// How many times it is asked.
     pub repeat: usize,
+    /// How a new context of it is made.
+    pub setup: Setup,
     /// How many instantiations its context may make, if that was said.
     pub budget: Option<usize>,
     /// How many statements of the program say which variables its context has, beside those that it names.

@@ -3,8 +3,7 @@
 use crate::naming::error::{NameError, Wrong, error_at};
 use crate::naming::namer::Namer;
 use crate::naming::program::{Parts, Put, Question, QuestionKind, Sort};
-use crate::reading::{Form, Node, NodeKind};
-use term_enums::Variance;
+use crate::reading::{Form, Node, NodeKind, Relation};
 
 impl<'a> Namer<'a> {
     // Adds a question.
@@ -14,6 +13,7 @@ impl<'a> Namer<'a> {
             kind,
             then: false,
             repeat: 1,
+            setup: self.setup,
             budget: self.budget,
             variables,
         })?;
@@ -24,7 +24,7 @@ impl<'a> Namer<'a> {
     fn ask_related(
         &mut self,
         node: &Node,
-        variance: Variance,
+        relation: Relation,
         lhs: usize,
         rhs: usize,
     ) -> Result<(), NameError> {
@@ -32,7 +32,7 @@ impl<'a> Namer<'a> {
         let rhs = self.term(node, rhs, Some(Sort::Type))?;
         self.ask(QuestionKind::Relate {
             lhs: lhs.number,
-            variance,
+            relation,
             rhs: rhs.number,
         })
     }
@@ -138,7 +138,7 @@ impl<'a> Namer<'a> {
     // A question, or a part of one.
     pub fn question(&mut self, node: &Node, form: Form, parts: &[usize]) -> Result<(), NameError> {
         match (form, parts) {
-            (Form::Question(variance), [lhs, rhs]) => self.ask_related(node, variance, *lhs, *rhs),
+            (Form::Question(relation), [lhs, rhs]) => self.ask_related(node, relation, *lhs, *rhs),
             (Form::Visit, [term, skip, stop]) => self.ask_visit(node, *term, *skip, *stop),
             (Form::Walk, _) => self.ask_walk(node, parts),
             (Form::Assumptions, _) => self.ask_assumptions(node, parts),

@@ -2,8 +2,8 @@
 
 use crate::naming::error::{NameError, Wrong, error_at};
 use crate::naming::namer::{Meaning, Namer};
-use crate::naming::program::{Declared, Item, ParamSort, Program, Sort, Term, Variables};
-use crate::reading::{Form, ItemSort, Leaf, Node, NodeKind, Tree};
+use crate::naming::program::{Declared, Item, Mode, ParamSort, Program, Sort, Term, Variables};
+use crate::reading::{Form, ItemSort, Leaf, Node, NodeKind, Setting, Tree};
 use std::alloc::Global;
 use std::collections::HashSet;
 
@@ -219,6 +219,39 @@ impl<'a> Namer<'a> {
         Ok(())
     }
 
+    // Whether that is the name of the next solver, or else of the old one.
+    fn is_next_solver(&self, whole: &Node, name: usize) -> Result<bool, NameError> {
+        let name = self.node(whole, name)?;
+        match self.text_of(&name)? {
+            "old" => Ok(false),
+            "next" => Ok(true),
+            _ => Err(error_at(&name, Wrong::NoSolver)),
+        }
+    }
+
+    // The typing mode of that name.
+    fn mode(&self, whole: &Node, name: usize) -> Result<Mode, NameError> {
+        let name = self.node(whole, name)?;
+        match self.text_of(&name)? {
+            "coherence" => Ok(Mode::Coherence),
+            "analysis" => Ok(Mode::Analysis),
+            "borrowck" => Ok(Mode::Borrowck),
+            "post_borrowck" => Ok(Mode::PostBorrowckAnalysis),
+            "post_analysis" => Ok(Mode::PostAnalysis),
+            _ => Err(error_at(&name, Wrong::NoMode)),
+        }
+    }
+
+    // How contexts are made from here on.
+    fn set(&mut self, node: &Node, setting: Setting, leaf: usize) -> Result<(), NameError> {
+        match setting {
+            Setting::Budget => self.budget = Some(self.count(node, leaf)?),
+            Setting::Solver => self.setup.next_solver = self.is_next_solver(node, leaf)?,
+            Setting::Mode => self.setup.mode = self.mode(node, leaf)?,
+        }
+        Ok(())
+    }
+
     // A statement, or a part of one.
     fn statement(&mut self, node: &Node, form: Form, parts: &[usize]) -> Result<(), NameError> {
         match (form, parts) {
@@ -228,10 +261,7 @@ impl<'a> Namer<'a> {
             (Form::Item(sort), _) => self.declare_item(node, sort, parts),
             (Form::Parameter, _) => self.declare_parameter(node, false, parts),
             (Form::ConstParameter, _) => self.declare_parameter(node, true, parts),
-            (Form::Budget, [number]) => {
-                self.budget = Some(self.count(node, *number)?);
-                Ok(())
-            }
+            (Form::Sets(setting), [leaf]) => self.set(node, setting, *leaf),
             (Form::Variables, _) => self.declare_variables(node, parts),
             (Form::Let, [name, term]) => {
                 let made = self.term(node, *term, None)?;

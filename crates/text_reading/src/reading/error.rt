@@ -107,7 +107,7 @@ fn write_expected<W: Write>(expected: Expected, out: &mut W) -> fmt::Result
         Expected::Bound => out.write_str("a variable of a binder"),
         Expected::BoundConst => out.write_str("a constant of a binder"),
         Expected::Const => out.write_str("a placeholder or `{error}`"),
-        Expected::Relation => out.write_str("`<:`, `:>` or `==`"),
+        Expected::Relation => out.write_str("`<:`, `:>`, `==` or `===`"),
         Expected::Sign(sign) => write!(out, "`{}`", sign.spelling()),
         Expected::CommaOr(sign) => write!(out, "`,` or `{}`", sign.spelling()),
         Expected::Either(one, other) => {

@@ -12,26 +12,29 @@ use crate::reading::quick::{read_key, read_lists, read_may_unify};
 use crate::reading::reader::Reader;
 use crate::reading::signs::Sign;
 use crate::reading::terms::{LEVELS, read_term};
-use crate::reading::tree::Form;
+use crate::reading::tree::{Form, Relation};
 use crate::reading::walks::read_walk;
 use term_enums::Variance;
 
-// The variance at which two terms are related.
-fn read_relation(reader: &mut Reader) -> Result<Variance, ReadError>
-    ensures relation { IfOk result (λ v. StandsAt reader.old.words.items reader.old.at (relation_sign v)) }
+// How two terms are related.
+fn read_relation(reader: &mut Reader) -> Result<Relation, ReadError>
+    ensures relation { IfOk result (λ r. StandsAt reader.old.words.items reader.old.at (relation_sign r)) }
     ensures words { reader.new.words ≡ reader.old.words }
     ensures tree { reader.new.tree ≡ reader.old.tree }
     ensures later { reader.old.at ≤ reader.new.at }
     ensures wrong { IfErr result (LiesIn reader.old.tree.text_len) }
 {
     if reader.accept(Sign::Subtype) {
-        return Ok(Variance::Covariant);
+        return Ok(Relation::At(Variance::Covariant));
     }
     if reader.accept(Sign::Supertype) {
-        return Ok(Variance::Contravariant);
+        return Ok(Relation::At(Variance::Contravariant));
     }
     if reader.accept(Sign::Equal) {
-        return Ok(Variance::Invariant);
+        return Ok(Relation::At(Variance::Invariant));
+    }
+    if reader.accept(Sign::StructurallyEqual) {
+        return Ok(Relation::Structurally);
     }
     Err(reader.unexpected(Expected::Relation))
 }
@@ -44,9 +47,9 @@ fn read_pair(reader: &mut Reader) -> Result<usize, ReadError>
 {
     let start = reader.place();
     let lhs = read_term(reader, LEVELS)?;
-    let variance = read_relation(reader)?;
+    let relation = read_relation(reader)?;
     let rhs = read_term(reader, LEVELS)?;
-    reader.make(Form::Question(variance), start, &[lhs, rhs])
+    reader.make(Form::Question(relation), start, &[lhs, rhs])
 }
 
 // Reads the terms behind a sign, and answers the node over them. There are none where the sign does not stand there.

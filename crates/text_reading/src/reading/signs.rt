@@ -8,6 +8,7 @@ pub enum Sign {
     Subtype,
     Supertype,
     Equal,
+    StructurallyEqual,
     Less,
     Greater,
     LeftParen,
@@ -62,6 +63,7 @@ pub enum Sign {
     Let,
     Limit,
     May,
+    Mode,
     Mut,
     Null,
     Opaque,
@@ -72,6 +74,7 @@ pub enum Sign {
     SelfType,
     Sized,
     Skip,
+    Solver,
     Stop,
     Struct,
     Super,
@@ -97,6 +100,7 @@ impl Sign {
             Sign::Subtype => "<:",
             Sign::Supertype => ":>",
             Sign::Equal => "==",
+            Sign::StructurallyEqual => "===",
             Sign::Less => "<",
             Sign::Greater => ">",
             Sign::LeftParen => "(",
@@ -151,6 +155,7 @@ impl Sign {
             Sign::Let => "let",
             Sign::Limit => "limit",
             Sign::May => "may",
+            Sign::Mode => "mode",
             Sign::Mut => "mut",
             Sign::Null => "null",
             Sign::Opaque => "opaque",
@@ -161,6 +166,7 @@ impl Sign {
             Sign::SelfType => "self",
             Sign::Sized => "sized",
             Sign::Skip => "skip",
+            Sign::Solver => "solver",
             Sign::Stop => "stop",
             Sign::Struct => "struct",
             Sign::Super => "super",
@@ -180,7 +186,7 @@ impl Sign {
 }
 
 // The words of the language, each of which is written as a name would be.
-const RESERVED: [Sign; 54] = [
+const RESERVED: [Sign; 56] = [
     Sign::After,
     Sign::Args,
     Sign::As,
@@ -211,6 +217,7 @@ const RESERVED: [Sign; 54] = [
     Sign::Let,
     Sign::Limit,
     Sign::May,
+    Sign::Mode,
     Sign::Mut,
     Sign::Null,
     Sign::Opaque,
@@ -221,6 +228,7 @@ const RESERVED: [Sign; 54] = [
     Sign::SelfType,
     Sign::Sized,
     Sign::Skip,
+    Sign::Solver,
     Sign::Stop,
     Sign::Struct,
     Sign::Super,
@@ -267,6 +275,7 @@ pub(super) fn mark_of_three(first: u8, second: u8, third: u8) -> Option<Sign>
 {
     match (first, second, third) {
         (b'.', b'.', b'=') => Some(Sign::UpTo),
+        (b'=', b'=', b'=') => Some(Sign::StructurallyEqual),
         _ => None,
     }
 }

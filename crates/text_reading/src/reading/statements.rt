@@ -4,7 +4,7 @@ ghost use Rattle.std.specs.Prelude.{length, suc};
 ghost use Rattle.text_reading.specs.Errors.{LiesIn};
 ghost use Rattle.text_reading.specs.Words.{StandsAt};
 ghost use Rattle.text_reading.specs.Trees.{EachBelow};
-ghost use Rattle.text_reading.specs.Signs.{sort_signs, StandFrom, HasNoAliasSign, HasNoTraitSign};
+ghost use Rattle.text_reading.specs.Signs.{sort_signs, setting_sign, StandFrom, HasNoAliasSign, HasNoTraitSign};
 ghost use Rattle.text_reading.specs.Reads.{GoesOn, AddsRoots, CollectsMore, Makes, IsReadFrom};
 ghost use Rattle.text_reading.specs.declared.reading.error.ReadError.TheVariants.{TooLong};
 
@@ -16,7 +16,7 @@ use crate::reading::reader::Reader;
 use crate::reading::signs::Sign;
 use crate::reading::split::words;
 use crate::reading::terms::{LEVELS, read_term};
-use crate::reading::tree::{Form, ItemSort, Tree};
+use crate::reading::tree::{Form, ItemSort, Setting, Tree};
 use std::alloc::Global;
 use term_enums::Variance;
 
@@ -279,6 +279,43 @@ fn read_variables(reader: &mut Reader, start: usize) -> Result<usize, ReadError>
     reader.make(Form::Variables, start, &parts)
 }
 
+// Goes over what begins a statement of how contexts are made, if that is next.
+fn accept_setting(reader: &mut Reader) -> Option<Setting>
+    ensures setting { IfSome result (λ s. StandsAt reader.old.words.items reader.old.at (setting_sign s)) }
+    ensures words { reader.new.words ≡ reader.old.words }
+    ensures tree { reader.new.tree ≡ reader.old.tree }
+    ensures later { reader.old.at ≤ reader.new.at }
+{
+    if reader.accept(Sign::Budget) {
+        return Some(Setting::Budget);
+    }
+    if reader.accept(Sign::Solver) {
+        return Some(Setting::Solver);
+    }
+    if reader.accept(Sign::Mode) {
+        return Some(Setting::Mode);
+    }
+    None
+}
+
+// Reads how contexts are made from here on, if that is next.
+fn read_setting(reader: &mut Reader, start: usize) -> Result<Option<usize>, ReadError>
+    requires { start ≤ reader.old.tree.text_len }
+    ensures goes { GoesOn reader.old reader.new }
+    ensures node { IfOk result (λ o. IfSome o (Makes reader.old reader.new)) }
+    ensures stays { IfOk result (λ o. IfNone o (reader.new.tree ≡ reader.old.tree)) }
+    ensures wrong { IfErr result (LiesIn reader.old.tree.text_len) }
+{
+    let Some(setting) = accept_setting(reader) else {
+        return Ok(None);
+    };
+    let leaf = reader.take(match setting {
+        Setting::Budget => Expected::Number,
+        Setting::Solver | Setting::Mode => Expected::Name,
+    })?;
+    Ok(Some(reader.make(Form::Sets(setting), start, &[leaf])?))
+}
+
 // Reads a name for a term, behind `let`.
 fn read_let(reader: &mut Reader, start: usize) -> Result<usize, ReadError>
     requires { start ≤ reader.old.tree.text_len }
@@ -311,9 +348,8 @@ fn read_statement(reader: &mut Reader) -> Result<usize, ReadError>
     if reader.accept(Sign::Param) {
         return read_parameters(reader, start);
     }
-    if reader.accept(Sign::Budget) {
-        let number = reader.take(Expected::Number)?;
-        return reader.make(Form::Budget, start, &[number]);
+    if let Some(setting) = read_setting(reader, start)? {
+        return Ok(setting);
     }
     if reader.accept(Sign::Variables) {
         return read_variables(reader, start);

@@ -33,6 +33,26 @@ pub enum ItemSort {
     InherentConst,
 }
 
+/// What is said of the contexts that are made.
+#[derive(Clone, Copy, PartialEq, Eq, Debug)]
+pub enum Setting {
+    /// How many instantiations each may make.
+    Budget,
+    /// For which trait solver they are made.
+    Solver,
+    /// In which typing mode they are.
+    Mode,
+}
+
+/// How two terms are asked to be related.
+#[derive(Clone, Copy, PartialEq, Eq, Debug)]
+pub enum Relation {
+    /// At a variance: an alias is left to a goal.
+    At(Variance),
+    /// At invariance, and an alias by its arguments.
+    Structurally,
+}
+
 /// How a quick test takes the parameters on the left and those on the right: as types of their own (rigid), or as
 /// standing for any.
 #[derive(Clone, Copy, PartialEq, Eq, Debug)]
@@ -82,8 +102,8 @@ pub enum Form {
     Parameter,
     /// A constant that is a parameter: its name, and its index if that is given.
     ConstParameter,
-    /// How many instantiations a context may make: a number.
-    Budget,
+    /// How contexts are made from here on: a number or a name.
+    Sets(Setting),
     /// Variables that are made, and their universe if that is given: a number.
     Variables,
     /// A name for a term: the name and the term.
@@ -112,8 +132,8 @@ pub enum Form {
     Limit,
     /// How many predicates are asked for: a number.
     Pulls,
-    /// Whether two terms are related at a variance.
-    Question(Variance),
+    /// Whether two terms are related.
+    Question(Relation),
     /// Which terms a visitor meets: the visited term, the `Terms` at which it skips, and those at which it stops.
     Visit,
     /// What a walk of a term yields: the walked term, and after how many pulls what is under the last is skipped.

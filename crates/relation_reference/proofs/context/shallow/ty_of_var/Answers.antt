@@ -3,7 +3,8 @@ use Rattle.relation_terms.specs.Trees.{leaf}
 use Rattle.relation_contexts.proofs.ReadAs.{read_then}
 use Rattle.relation_reference.specs.Tables.{store_of}
 use Rattle.relation_reference.proofs.Chains.{found_falls}
-use Rattle.relation_reference.proofs.Reading.{context_read, context_of_made, read_for}
+use Rattle.relation_reference.proofs.Folding.{context_made}
+use Rattle.relation_reference.proofs.Reading.{context_read, read_for}
 use Rattle.relation_reference.proofs.Writing.{table_made}
 use Rattle.relation_reference.proofs.context.shallow.ty_of_var.Goals as goal
 
@@ -16,7 +17,7 @@ loop-next-init g c =
     record {
       sure = h.sure;
       is_in = context_read st c.requires.lawful.sound (leaf (variable type_var c.args.var.0)) (m.ty c.found_ty-found.result)
-          h.reads (context_of_made st type_var c.args.var.0 (table_made m.ty x.types.items c.args.var.0 c.requires.made));
+          h.reads (context_made st type_var c.args.var.0 (table_made m.ty x.types.items c.args.var.0 c.requires.made));
       reads = h.reads;
       covered = h.covered;
     }

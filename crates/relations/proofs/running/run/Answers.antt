@@ -1,7 +1,7 @@
 use Rattle.std.proofs.Common.{◌≡◌, subst, sym, rules}
 use Rattle.std.specs.Prelude.{IfSome, Some, slice_get, string_bytes}
 use Rattle.relations.specs.Named.{IsRow}
-use Rattle.relations.proofs.rows.run.Goals as goal
+use Rattle.relations.proofs.running.run.Goals as goal
 
 -- A name that was found to be a row's is one.
 pub returns-clause-no_row : goal.returns-clause-no_row
