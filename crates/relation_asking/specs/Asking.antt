@@ -4,7 +4,7 @@ use Rattle.std.specs.Prelude.{Ok, Err}
 use Rattle.std.specs.Global.{Vec}
 use Rattle.std.specs.List.{All}
 use Rattle.term_enums.specs.declared.Variance.{Variance}
-use Rattle.term_enums.specs.declared.Variance.TheVariants.{Bivariant}
+use Rattle.term_enums.specs.declared.Variance.TheVariants.{Bivariant, Invariant}
 use Rattle.relation_terms.specs.declared.terms.generic_arg.GenericArgKind.{GenericArgKind}
 use Rattle.relation_terms.specs.declared.terms.goal.Goal.{Goal}
 use Rattle.relation_terms.specs.declared.terms.keys.LocalDefIdsKey.{LocalDefIdsKey}
@@ -19,10 +19,14 @@ use Rattle.relation_reference.specs.Variables.{value_at, universes_of}
 use Rattle.relation_folds.specs.declared.error.RelateFault.{RelateFault}
 use Rattle.relation_folds.specs.Faults.{KnowsFault}
 use Rattle.relation_contexts.specs.Covered.{IsCovered}
+use Rattle.relation_contexts.specs.declared.relate.StructurallyRelateAliases.{StructurallyRelateAliases}
+use Rattle.relation_contexts.specs.declared.relate.StructurallyRelateAliases.TheVariants.{No, Yes}
 use Rattle.relation_contexts.specs.declared.infer_ctxt.TypingMode.{TypingMode}
 use Rattle.relation_contexts.specs.declared.infer_ctxt.TypingMode.TheVariants as typing
 use Rattle.relation_contexts.specs.Relation.{StaysWithin}
 use Rattle.relation_contexts.specs.Goals.{KnowsGoal}
+use Rattle.text_reading.specs.declared.reading.tree.Relation.{Relation}
+use Rattle.text_reading.specs.declared.reading.tree.Relation.TheVariants as relation
 use Rattle.text_reading.specs.declared.naming.program.Mode.{Mode}
 use Rattle.text_reading.specs.declared.naming.program.Mode.TheVariants as mode
 use Rattle.text_reading.specs.declared.naming.program.Setup.{Setup}
@@ -76,6 +80,15 @@ typing_mode mode.PostAnalysis ids = typing.PostAnalysis
 pub record IsSetUp {Key : Type 0} (x : InferCtxtInner Key) (ids : LocalDefIdsKey Key) (s : Setup) : Type 0 where
   pub solver : x.next_solver ≡ s.next_solver
   pub mode : x.mode ≡ typing_mode s.mode ids
+
+-- At which variance two terms are related that are asked to be related so, and whether aliases are by their arguments.
+abbrev pub variance_of : Relation → Variance
+variance_of (relation.At v) = v
+variance_of relation.Structurally = Invariant
+
+abbrev pub aliases_of : Relation → StructurallyRelateAliases
+aliases_of (relation.At v) = No
+aliases_of relation.Structurally = Yes
 
 -- The kind of variables that contracts speak of by this name.
 abbrev pub var_kind : VariableKind → VarKind

@@ -3,13 +3,14 @@ ghost use Rattle.std.specs.Prelude.{◌≡◌, ◌≢◌, ℕ, suc, ◌<◌, ◌
 ghost use Rattle.relation_terms.specs.Heads.{VarKind};
 ghost use Rattle.relation_terms.specs.Meaning.{Extends};
 ghost use Rattle.relation_folds.specs.Faults.{KnowsFault};
-ghost use Rattle.relation_contexts.specs.Contexts.{KnowsEnv, RegistersGoals};
+ghost use Rattle.relation_contexts.specs.Contexts.{KnowsEnv};
 ghost use Rattle.type_relations.specs.Relating.{KnowsTerm, TakesTerm, HasTerm, AnswersTerms, KeepsEqual, TellsApart};
+ghost use Rattle.type_relations.specs.Relating.{AnswersOnly};
 ghost use Rattle.relation_reference.specs.Tables.{IsLawful};
 ghost use Rattle.relation_needs.specs.Needs.{Reaches};
 ghost use Rattle.std.specs.List.{All};
 ghost use Rattle.relation_asking.specs.Asking.{Has, HasStated, IsAskable, IsSetUp, MakesIn};
-ghost use Rattle.relation_asking.specs.Asking.{typing_mode, var_kind, variables_in};
+ghost use Rattle.relation_asking.specs.Asking.{aliases_of, typing_mode, var_kind, variables_in, variance_of};
 
 use relation_contexts::infer_ctxt::{InferCtxtLike, TypingMode};
 use relation_needs::needs::Needs;
@@ -17,14 +18,13 @@ use relation_reference::context::RefCtxt;
 use relation_terms::terms::{Interner, LocalDefIds, OutOfMemory, ParamEnv, Span, Variance};
 use std::fmt::{self, Write};
 use text_reading::naming::{Mode, Setup, Variables};
+use text_reading::reading::Relation;
 use type_relations::relate::Relate;
 use type_relations::relate::solver_relating::{RelateExt, RelateGoals};
 
 /// Why a question is not asked.
 #[derive(Clone, Copy)]
 pub enum NotAsked {
-    /// Aliases are not yet related by their arguments.
-    Structurally,
     /// A binder outside the terms binds what stands in them.
     Escapes,
     /// A binder in the terms does not bind by its list.
@@ -241,14 +241,14 @@ pub(super) fn have_variables<I: Interner>(
     reach(ctx, VariableKind::Region, needs.regions)
 }
 
-// Why two types are not related at a variance in a context, if they are not.
+// Why two types are not related so in a context, if they are not.
 pub(super) fn refusal<I: Interner>(
     ctx: &RefCtxt<I>,
-    variance: Variance,
+    relation: Relation,
     lhs: Needs,
     rhs: Needs,
 ) -> Option<NotAsked>
-    ensures { IfNone result (IsAskable ctx.now.inner.universe.0 variance lhs rhs) }
+    ensures { IfNone result (IsAskable ctx.now.inner.universe.0 (variance_of relation) lhs rhs) }
 {
     if !lhs.closed || !rhs.closed {
         return Some(NotAsked::Escapes);
@@ -260,25 +260,25 @@ pub(super) fn refusal<I: Interner>(
     if universe < lhs.universe || universe < rhs.universe {
         return Some(NotAsked::Universe(universe));
     }
-    match variance {
-        Variance::Covariant | Variance::Contravariant | Variance::Invariant => None,
-        Variance::Bivariant => Some(NotAsked::Variance),
+    match relation {
+        Relation::At(Variance::Bivariant) => Some(NotAsked::Variance),
+        Relation::At(_) | Relation::Structurally => None,
     }
 }
 
-/// Relates two types, or two lists of arguments, at a variance in any context that can. What is answered is what the
+/// Relates two types, or two lists of arguments, as is asked in any context that can. What is answered is what the
 /// context promises: after `Ok` what is recorded and the goals relate the two, and no equal pair is lost; `Unrelated`
 /// says that nothing made them one.
 pub(super) fn relate<C: InferCtxtLike, T: Relate<C::Interner>>(
     ctx: &mut C,
     param_env: ParamEnv<C::Interner>,
     lhs: T,
-    variance: Variance,
+    relation: Relation,
     rhs: T,
     span: Span<C::Interner>,
 ) -> RelateGoals<C::Interner>
     requires lawful { (C.state ctx.old).lawful }
-    requires decides { variance ≢ Variance.Bivariant }
+    requires decides { variance_of relation ≢ Variance.Bivariant }
     requires env_known { KnowsEnv (C.state ctx.old) param_env }
     requires fits { T.fits (C.state ctx.old).meaning lhs rhs }
     requires lhs_known { KnowsTerm (C.state ctx.old) T.over T.tree lhs }
@@ -287,22 +287,25 @@ pub(super) fn relate<C: InferCtxtLike, T: Relate<C::Interner>>(
     requires rhs_taken { TakesTerm (C.state ctx.old) T.over T.tree rhs }
     requires lhs_in { HasTerm (C.state ctx.old) T.over T.tree lhs }
     requires rhs_in { HasTerm (C.state ctx.old) T.over T.tree rhs }
-    ensures answers { AnswersTerms C.state ctx.old ctx.new T.over T.tree param_env variance lhs rhs result }
+    ensures answers { let v = variance_of relation in
+        AnswersTerms C.state ctx.old ctx.new T.over T.tree param_env v lhs rhs result }
     ensures keeps { KeepsEqual C.state ctx.old ctx.new T.over T.tree lhs rhs result }
     ensures apart { TellsApart C.state ctx.old ctx.new T.over T.tree lhs rhs result }
-    ensures goals { RegistersGoals (C.state ctx.old) (C.state ctx.new) param_env variance result }
+    ensures goals { AnswersOnly C.state ctx.old ctx.new (aliases_of relation) param_env (variance_of relation) result }
     ensures lawful { (C.state ctx.new).lawful }
     ensures grown { Extends (C.state ctx.old).meaning (C.state ctx.new).meaning }
     ensures why_known { IfErr result (λ e. KnowsFault (C.state ctx.new).meaning e) }
 {
-    ctx.relate(param_env, lhs, variance, rhs, span)
+    match relation {
+        Relation::At(variance) => ctx.relate(param_env, lhs, variance, rhs, span),
+        Relation::Structurally => ctx.eq_structurally_relating_aliases(param_env, lhs, rhs, span),
+    }
 }
 
 /// Writes why a question is not asked.
 pub(super) fn write_not_asked<W: Write>(why: NotAsked, out: &mut W) -> fmt::Result {
     out.write_str("not asked: ")?;
     match why {
-        NotAsked::Structurally => out.write_str("aliases have no rules yet"),
         NotAsked::Escapes => out.write_str(
             "a binder outside these types binds what stands in them",
         ),

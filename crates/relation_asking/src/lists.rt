@@ -12,6 +12,7 @@ use relation_reference::context::RefCtxt;
 use relation_terms::terms::parts::member_count;
 use relation_terms::terms::{GenericArgs, Interner, Parts as PartsOfTerm, Variance};
 use text_reading::naming::Parts;
+use text_reading::reading::Relation;
 use text_terms::building::keys_at;
 use type_relations::relate::solver_relating::RelateGoals;
 
@@ -63,7 +64,8 @@ fn relate_ready<I: Interner>(
 {
     let (lhs, lhs_needs) = lhs;
     let (rhs, rhs_needs) = rhs;
-    if let Some(why) = refusal(ctx, Variance::Invariant, lhs_needs, rhs_needs) {
+    let relation = Relation::At(Variance::Invariant);
+    if let Some(why) = refusal(ctx, relation, lhs_needs, rhs_needs) {
         return Err(Unasked::NotAsked(why));
     }
     if !are_as_many(&ctx.interner, &lhs, &rhs) {
@@ -76,7 +78,7 @@ fn relate_ready<I: Interner>(
         return Err(Unasked::Memory);
     };
     let span = ctx.interner.dummy_span();
-    Ok(relate(ctx, param_env, lhs, Variance::Invariant, rhs, span))
+    Ok(relate(ctx, param_env, lhs, relation, rhs, span))
 }
 
 // Relates two lists of arguments in a context.

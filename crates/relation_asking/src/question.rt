@@ -136,16 +136,13 @@ fn ask_related<I: Interner>(
     ensures grown { Extends (I.meaning ctx.old.interner) (I.meaning ctx.new.interner) }
     ensures known { IfOk result (KnowsRelated (I.meaning ctx.new.interner)) }
 {
-    let Relation::At(variance) = relation else {
-        return Err(Unasked::NotAsked(NotAsked::Structurally));
-    };
     let Some((lhs, lhs_needs)) = type_of(terms, lhs) else {
         return Err(Unasked::Memory);
     };
     let Some((rhs, rhs_needs)) = type_of(terms, rhs) else {
         return Err(Unasked::Memory);
     };
-    if let Some(why) = refusal(ctx, variance, lhs_needs, rhs_needs) {
+    if let Some(why) = refusal(ctx, relation, lhs_needs, rhs_needs) {
         return Err(Unasked::NotAsked(why));
     }
     let Ok(()) = have_variables(ctx, both(lhs_needs, rhs_needs)) else {
@@ -155,7 +152,7 @@ fn ask_related<I: Interner>(
         return Err(Unasked::Memory);
     };
     let span = ctx.interner.dummy_span();
-    Ok(relate(ctx, param_env, lhs, variance, rhs, span))
+    Ok(relate(ctx, param_env, lhs, relation, rhs, span))
 }
 
 // The term of that number.
