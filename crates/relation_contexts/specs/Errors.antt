@@ -182,9 +182,8 @@ pub data AreAlikeMembers (t u : Tree) : Type 0 where
   under_binders : {ks ls : List BoundKind} {a b : Tree} → t ≡ bind ks a → u ≡ bind ls b → AreAlikeExistentials a b →
       AreAlikeMembers t u
 
--- A form over the arguments of an item that is an alias or a trait.
+-- An alias term, or a reference to a trait: over the arguments of an item.
 abbrev pub IsItemHead : Head → Type 0
-IsItemHead (alias k d) = Unit {0}
 IsItemHead (alias_term k d) = Unit {0}
 IsItemHead (trait_ref d) = Unit {0}
 IsItemHead h = ⊥
@@ -376,12 +375,9 @@ module _ {Key Id Name : Type 0} (m : Meaning Key Id Name) where
     unlike_existentials : sort_of a ≡ existential_sort → sort_of b ≡ existential_sort →
         (AreAlikeExistentials a b → ⊥) → ExistentialError a b Mismatch
 
-  -- Two aliases, or two trait references, are of unlike items or have unlike numbers of arguments, or two predicates of
-  -- traits are of unlike polarities, and the error that says so. Of an alias term it is looked at whether it is opaque too.
+  -- Two alias terms, or two trait references, are of unlike items or have unlike numbers of arguments, or two predicates
+  -- of traits are of unlike polarities, and the error that says so. Of alias terms it is looked at too which are opaque.
   pub data ItemError (a b : Tree) : TypeError Key Id Name → Type 0 where
-    unlike_alias_types : {k l : AliasKind} {ts us : Tree} (c d : Id) → a ≡ node (alias k (m.id c)) ts →
-        b ≡ node (alias l (m.id d)) us → m.id c ≢ m.id d →
-        ItemError a b (ProjectionMismatched (record { expected = c; found = d }))
     unlike_alias_terms : {k l : AliasTermKind} {ts us : Tree} (c d : Id) → a ≡ node (alias_term k (m.id c)) ts →
         b ≡ node (alias_term l (m.id d)) us → plain (alias_term k (m.id c)) ≢ plain (alias_term l (m.id d)) →
         ItemError a b (ProjectionMismatched (record { expected = c; found = d }))

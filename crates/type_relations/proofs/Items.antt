@@ -4,7 +4,7 @@ use Rattle.std.proofs.lemmas.Bool.{and_from}
 use Rattle.term_enums.specs.declared.PredicatePolarity.{PredicatePolarity}
 use Rattle.term_enums.specs.declared.Variance.{Variance}
 use Rattle.term_enums.specs.declared.Variance.TheVariants.{Bivariant}
-use Rattle.relation_terms.specs.Heads.{AliasKind, alias, AliasTermKind, type_alias, opaque_alias, alias_term}
+use Rattle.relation_terms.specs.Heads.{AliasTermKind, type_alias, opaque_alias, alias_term}
 use Rattle.relation_terms.specs.Heads.{Head, trait_ref, trait_clause, value_type}
 use Rattle.relation_terms.specs.Trees.{Tree, node, nil, cons, Assign, apply, known, count, IsList}
 use Rattle.relation_terms.specs.Erasure.{erase}
@@ -23,7 +23,7 @@ use Rattle.relation_folds.specs.declared.error.RelateFault.TheVariants.{Unrelate
 use Rattle.relation_folds.specs.Faults.{KnowsError}
 use Rattle.relation_contexts.specs.Covered.{IsCoveredHead}
 use Rattle.relation_contexts.specs.Errors.{as_pair, by_forms, of_part_forms, of_trait_refs, ItemError, IsItemHead}
-use Rattle.relation_contexts.specs.Errors.{unlike_alias_types, unlike_alias_terms, unlike_trait_refs, unlike_lists}
+use Rattle.relation_contexts.specs.Errors.{unlike_alias_terms, unlike_trait_refs, unlike_lists}
 use Rattle.relation_contexts.specs.Errors.{unlike_polarities, item_error}
 use Rattle.relation_contexts.specs.FirstOrder.{Unifies}
 use Rattle.relation_contexts.specs.Lawful.{State, Manners, TakesParts, MayAnswer, Asked, Related, items_in}
@@ -69,7 +69,6 @@ type_as_term m a t k g =
 
 -- What two forms that are not alike say of each other.
 no_value_type : (h : Head) → IsItemHead h → h ≢ value_type
-no_value_type (alias k d) i e = absurd (cc)
 no_value_type (alias_term k d) i e = absurd (cc)
 no_value_type (trait_ref d) i e = absurd (cc)
 no_value_type h i e = i
@@ -78,9 +77,6 @@ module _ {Key Id Name : Type 0} (m : Meaning Key Id Name) where
   -- They are never one, even up to erasure.
   pub items_not_unified : (s : Assign) (h k : Head) (ts us : Tree) (e : TypeError Key Id Name) → IsList ts → IsList us →
       ItemError m (node h ts) (node k us) e → Unifies s (node h ts) (node k us) → ⊥
-  items_not_unified s h k ts us e l j (unlike_alias_types {k = a} {l = b} {ts = xs} {us = ys} c d p q differ) z =
-      differ (let o = one_head s h k ts us z in
-      let i : alias a (m.id c) ≡ alias b (m.id d) = (let x = p in let y = q in cc) in cc)
   items_not_unified s h k ts us e l j (unlike_alias_terms {k = a} {l = b} c d p q differ) z =
       let o = one_head s h k ts us z in
       let i : alias_term a (m.id c) ≡ alias_term b (m.id d) = (let x = p in let y = q in cc) in
@@ -100,7 +96,6 @@ module _ {Key Id Name : Type 0} (m : Meaning Key Id Name) where
       let i : trait_clause a ≡ trait_clause b = (let x = p in let y = q in cc) in cc)
 
   item_error_known : (a b : Tree) (e : TypeError Key Id Name) → ItemError m a b e → KnowsError m e
-  item_error_known a b e (unlike_alias_types c d p q n) = tt
   item_error_known a b e (unlike_alias_terms c d p q n) = tt
   item_error_known a b e (unlike_trait_refs c d p q n) = tt
   item_error_known a b e (unlike_lists is alike p q n) = tt
