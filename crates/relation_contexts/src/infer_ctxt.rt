@@ -208,8 +208,8 @@ pub trait InferCtxtLike {
         ensures reads { let c = state self.now in Reads c (leaf (variable region_var vid.0)) (c.meaning.region result) }
         ensures itself { ((state self.now).meaning).region result ≡ leaf (variable region_var vid.0) };
 
-    /// The type itself, or for a variable what its class is bound to, or else its root. Of another variable that is read
-    /// in turn. It takes no memory.
+    /// The type itself, or for a variable what its class is bound to, or else its root. Of another variable that is
+    /// read in turn. It takes no memory.
     fn shallow_resolve(&self, ty: &Ty<Self::Interner>) -> Ty<Self::Interner>
         requires lawful { (state self.now).lawful }
         requires ty_known { KnowsTy (state self.now) ty.now }
@@ -358,14 +358,15 @@ pub trait InferCtxtLike {
         ensures marks { KeepsMarks (state self.old) (state self.new) };
 
     /// Binds an unresolved type variable, at a variance, to what a type comes to, generalised for what the variable can
-    /// name, for one of the budget, and answers the bound type. The type is no type variable, and has rules. Where aliases
-    /// aren't related structurally, an alias in which the variable stands, or what it can't name, gives way to a new type
-    /// variable.
+    /// name, for one of the budget, and answers the bound type. The type is no type variable, and has rules. Where
+    /// aliases aren't related structurally, an alias in which the variable stands, or what it can't name, gives way to a
+    /// new type variable.
     ///
     /// # Errors
     /// `Budget` where no instantiation is left; `CyclicTy` where the variable stands in what the type comes to,
-    /// `Mismatch` where a placeholder does that the variable can't name, outside of aliases that give way; `Memory` where
-    /// a growth was refused. Then nothing was bound, though variables may have been made on the way, but for `Budget`.
+    /// `Mismatch` where a placeholder does that the variable can't name, outside of aliases that give way; `Memory`
+    /// where a growth was refused. Then nothing was bound, though variables may have been made on the way, but for
+    /// `Budget`.
     ///
     /// A type variable that is made on the way is marked as related to the one that it takes the place of, and one that
     /// takes an alias's to none.

@@ -241,8 +241,8 @@ abbrev pub IsGeneralisedFor : {Key Id Name : Type 0} → Meaning Key Id Name →
     Result (Part Key Id) (RelateFault Key Id Name) → Type 0
 IsGeneralisedFor m n before after g k i v cyclic p (Ok x) = IsTrue (known (part_tree n x)) ×
     (part_sort x ≡ part_sort p) × ((last : Stage) × (last.store ≡ after) ×
-    Generalised g (items_of m) before k i (any_part outside v) (record { store = before; met = [] }) (part_tree m p) last
-    (part_tree n x))
+    Generalised g (items_of m) before k i (any_part outside v) (record { store = before; met = [] }) (part_tree m p)
+    last (part_tree n x))
 IsGeneralisedFor m n before after g k i v cyclic p (Err (Unrelated e)) = (o : Obstacle) ×
     StopsAt g before k i o (part_tree m p) × GivenError cyclic e o
 IsGeneralisedFor m n before after g k i v cyclic p (Err Budget) = ⊥

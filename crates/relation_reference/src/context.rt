@@ -19,6 +19,7 @@ mod sub_unified;
 mod table;
 mod universes;
 mod variables;
+mod varying;
 
 pub use inner::{InferCtxtInner, Variable, VariableValue};
 pub use variables::RefCtxt;

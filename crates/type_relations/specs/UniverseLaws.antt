@@ -31,7 +31,7 @@ ReadingKeepsUniverse = (st : Store) (a b x y : Tree) → IsSound st → IsReadAs
 -- So does what a variable is bound to at invariance, where all is first-order; and only variables of regions are made.
 abbrev pub GeneralisingKeepsUniverse : Type 0
 GeneralisingKeepsUniverse = (g : StructurallyRelateAliases) (c : Items) (before after : Store) (k : VarKind) (n u : ℕ)
-    (source term : Tree) → IsTypeOrConst k → InstantiatesBy g c before after Invariant k n source term → NumbersNameNothing before →
-    IsSound before → IsTermIn before source → MayStandFor k source → IsFirstOrder source →
+    (source term : Tree) → IsTypeOrConst k → InstantiatesBy g c before after Invariant k n source term →
+    NumbersNameNothing before → IsSound before → IsTermIn before source → MayStandFor k source → IsFirstOrder source →
     IsFirstOrderStore before → HasOneUniverse u before → Leaves (NamesTypesTo u) source →
     StaysOf u before after × Leaves (NamesTypesTo u) term

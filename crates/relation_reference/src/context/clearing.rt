@@ -1,5 +1,5 @@
-//! Whether a term may stand in what a variable is bound to: whether neither the variable stands in it, nor a placeholder
-//! that the variable can't name. It is asked of aliases, before they are gone into.
+//! Whether a term may stand in what a variable is bound to: whether neither the variable stands in it, nor a
+//! placeholder that the variable can't name. It is asked of aliases, before they are gone into.
 ghost use Rattle.std.specs.Prelude.{◌≡◌, IsTrue, IsFalse, IfOk, OnOk};
 ghost use Rattle.relation_terms.specs.Trees.{known, leaf};
 ghost use Rattle.relation_terms.specs.Parts.{part_tree};
@@ -8,8 +8,8 @@ ghost use Rattle.relation_contexts.specs.Stores.{InContext};
 ghost use Rattle.relation_reference.specs.Tables.{IsLawful};
 ghost use Rattle.relation_reference.specs.RefCtxt.{store_in, part_term};
 ghost use Rattle.relation_reference.specs.Remembering.{vid_kind, vid_number};
-ghost use Rattle.relation_reference.specs.Generalises.{side_of, parts_side, AreClear, IsClearFor, TellsClear, HasObstacle};
-ghost use Rattle.relation_reference.specs.Generalises.{IsLeftAlias, IsSeenTree, TellsGivesWay};
+ghost use Rattle.relation_reference.specs.Generalises.{side_of, parts_side, AreClear, IsClearFor, TellsClear};
+ghost use Rattle.relation_reference.specs.Generalises.{HasObstacle, IsLeftAlias, IsSeenTree, TellsGivesWay};
 
 use crate::context::RefCtxt;
 use crate::context::generalising::{Fate, TargetOf};

@@ -1,19 +1,17 @@
 //! Generalising what a variable is bound to: new variables take the places of what the variable can't name, of what may
-//! still vary, and of aliases in which an obstacle stands. A type that was met before, at the same variance and on the same
-//! side of aliases, is not gone through again.
+//! still vary, and of aliases in which an obstacle stands. A type that was met before, at the same variance and on the
+//! same side of aliases, is not gone through again.
 ghost use Rattle.std.specs.Prelude.{◌≡◌, ◌≢◌, ◌≤◌, ◌<◌, ℕ, IsTrue, IsFalse, IfOk, IfSome, IfNone, OnOk, OnErr};
 ghost use Rattle.std.specs.Prelude.{List, ◌∷◌, Contains, Some, length};
 ghost use Rattle.relation_terms.specs.Heads.{VarKind, variable, placeholder, BoundKind, bound_sort, region_sort};
-ghost use Rattle.relation_terms.specs.Heads.{type_sort, const_sort, type_var, region_var};
-ghost use Rattle.relation_terms.specs.Trees.{Tree, leaf, known, count, IsTerm};
+ghost use Rattle.relation_terms.specs.Heads.{type_sort, type_var, region_var};
+ghost use Rattle.relation_terms.specs.Trees.{Tree, leaf, known};
 ghost use Rattle.relation_terms.specs.Meaning.{Extends};
-ghost use Rattle.relation_terms.specs.Parts.{part_tree, part_sort, parts_of};
-ghost use Rattle.term_enums.specs.Variances.{xform};
-ghost use Rattle.relation_contexts.specs.Lawful.{items_of};
+ghost use Rattle.relation_terms.specs.Parts.{part_tree, part_sort};
 ghost use Rattle.relation_contexts.specs.Covered.{IsCovered};
 ghost use Rattle.relation_contexts.specs.Stores.{InContext, IsMade, universe_of};
 ghost use Rattle.relation_contexts.specs.Steps.{MakesVariable};
-ghost use Rattle.relation_contexts.specs.Generalising.{Met, any_part, new_part, variance_of_part, MakesUnbound};
+ghost use Rattle.relation_contexts.specs.Generalising.{Met, any_part, new_part, MakesUnbound};
 ghost use Rattle.relation_reference.specs.Tables.{IsLawful};
 ghost use Rattle.relation_contexts.specs.ContextCalls.{MarksNew};
 ghost use Rattle.relation_reference.specs.RefCtxt.{store_in, context_in, part_term};
@@ -27,18 +25,18 @@ use crate::context::RefCtxt;
 use crate::context::clearing::{ClearTypes, parts_inside};
 use crate::context::memory::TermVid;
 use crate::context::resolving::{is_same_vid, variable_of};
+use crate::context::varying::variance_of;
 use relation_contexts::relate::StructurallyRelateAliases;
-use relation_contexts::variances::{alias_argument_variance, declared_variance, pointee};
 use relation_folds::error::{RelateFault, RelateFaultOf, TypeError};
 use relation_terms::terms::parts::{is_same, part, parts_count, the_ty, with_parts};
 use relation_terms::terms::{
-    Const, ConstKind, DefId, Interner, Keys, OutOfMemory, Part, PartOf, Region, RegionKind,
-    RegionVid, Ty, TyKey, TyKind, TyVid, UniverseIndex, Variance,
+    ConstKind, Interner, Keys, OutOfMemory, Part, PartOf, Region, RegionKind, RegionVid, Ty, TyKey,
+    TyKind, TyVid, UniverseIndex, Variance,
 };
 use std::collections::{HashMap, HashSet};
 
-/// A type as it is looked for: whether it stands inside an alias that is left to a goal, the variance at which it stands,
-/// and its key.
+/// A type as it is looked for: whether it stands inside an alias that is left to a goal, the variance at which it
+/// stands, and its key.
 #[derive(Clone, Copy, PartialEq, Eq, Hash)]
 pub struct MetKey<X> {
     pub inside: bool,
@@ -49,8 +47,8 @@ pub struct MetKey<X> {
 /// What types that were met became.
 pub type MetTypes<X> = HashMap<MetKey<X>, TyKey<X>>;
 
-// A variable that is bound, its universe, how aliases are related, and the error where it stands in what it is to be bound
-// to.
+// A variable that is bound, its universe, how aliases are related, and the error where it stands in what it is to be
+// bound to.
 #[derive(Drop)]
 pub(crate) struct Target<X, D, N> {
     pub vid: TermVid,
@@ -147,69 +145,6 @@ fn keep<I: Interner>(
     };
     met.insert(key, became)?;
     Ok(())
-}
-
-// How the part of a type at a place varies with the type.
-fn mode_in_ty<I: Interner>(cx: &I, ty: &Ty<I>, i: usize) -> Variance
-    requires ty_known { IsTrue (known ((I.meaning cx.now).ty ty.now)) }
-    requires ty_covered { IsCovered ((I.meaning cx.now).ty ty.now) }
-    requires in_bounds { i < count (parts_of ((I.meaning cx.now).ty ty.now)) }
-    ensures { let t = (I.meaning cx.now).ty ty.now in
-        (v : Variance) → variance_of_part (items_of (I.meaning cx.now)) t i v ≡ xform v result }
-{
-    match &cx.ty_kind(ty) {
-        TyKind::Adt(def, _) => declared_variance(cx, &DefId(def.0), i),
-        TyKind::FnDef(def, _) => declared_variance(cx, &DefId(def.0), i),
-        TyKind::Alias(alias) => alias_argument_variance(cx, &alias.kind, i),
-        TyKind::Closure(..)
-        | TyKind::CoroutineClosure(..)
-        | TyKind::Coroutine(..)
-        | TyKind::CoroutineWitness(..) => Variance::Invariant,
-        TyKind::RawPtr(_, mutability) => pointee(*mutability),
-        TyKind::Ref(_, _, mutability) if i > 0 => pointee(*mutability),
-        _ => Variance::Covariant,
-    }
-}
-
-// How the parts of a constant vary with the constant.
-fn mode_in_const<I: Interner>(cx: &I, constant: &Const<I>) -> Variance
-    requires { IsTrue (known ((I.meaning cx.now).const_ constant.now)) }
-    ensures { let t = (I.meaning cx.now).const_ constant.now in
-        (i : ℕ) (v : Variance) → IsTerm const_sort t → i < count (parts_of t) →
-        variance_of_part (items_of (I.meaning cx.now)) t i v ≡ xform v result }
-{
-    match cx.const_kind(constant) {
-        ConstKind::Expr(..) | ConstKind::Unevaluated(_) => Variance::Invariant,
-        ConstKind::Value(..)
-        | ConstKind::Param(_)
-        | ConstKind::Infer(_)
-        | ConstKind::Bound(..)
-        | ConstKind::Placeholder(_)
-        | ConstKind::Error(_) => Variance::Covariant,
-    }
-}
-
-// The variance of the part of a term at a place, the term being at a variance. The type of a value is never related.
-fn variance_of<I: Interner>(cx: &I, term: &PartOf<I>, i: usize, variance: Variance) -> Variance
-    requires term_known { IsTrue (known (part_tree (I.meaning cx.now) term.now)) }
-    requires term_covered { IsCovered (part_tree (I.meaning cx.now) term.now) }
-    requires in_bounds { i < count (parts_of (part_tree (I.meaning cx.now) term.now)) }
-    ensures { let m = I.meaning cx.now in result ≡ variance_of_part (items_of m) (part_tree m term.now) i variance }
-{
-    match term {
-        Part::Ty(ty) => variance.xform(mode_in_ty(cx, ty, i)),
-        Part::Const(constant) => variance.xform(mode_in_const(cx, constant)),
-        Part::ValueType(_) => Variance::Bivariant,
-        Part::Signature(_) if i == 0 => variance.xform(Variance::Contravariant),
-        Part::Existential(_) => variance.xform(Variance::Invariant),
-        Part::Region(_)
-        | Part::ValTree(_)
-        | Part::Pat(_)
-        | Part::Binder(..)
-        | Part::Signature(_)
-        | Part::Inputs(_)
-        | Part::Object(_) => variance,
-    }
 }
 
 // The universe of a type or a constant that is a placeholder.
@@ -376,8 +311,8 @@ impl<I: Interner> RefCtxt<I> {
         Ok(Part::Ty(self.next_ty_var_in(universe)?))
     }
 
-    // The term as a target is bound to it, on a side of aliases at a variance. A type that was met before becomes what it
-    // became then.
+    // The term as a target is bound to it, on a side of aliases at a variance. A type that was met before becomes what
+    // it became then.
     #[cycle(generalise)]
     fn generalise_part(
         &mut self,

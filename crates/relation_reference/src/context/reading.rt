@@ -79,8 +79,8 @@ impl<I: Interner> RefCtxt<I> {
         }
     }
 
-    /// The type that a type variable's class is bound to, or else the root of its class. Of another type variable that is
-    /// read in turn.
+    /// The type that a type variable's class is bound to, or else the root of its class. Of another type variable that
+    /// is read in turn.
     pub fn opportunistic_resolve_ty_var(&self, var: TyVid) -> Ty<I>
         requires lawful { IsLawful (I.meaning self.now.interner) self.now.inner }
         requires made { var.0 < length self.now.inner.types.items }
