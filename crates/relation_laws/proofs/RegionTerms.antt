@@ -9,9 +9,11 @@ use Rattle.relation_contexts.specs.Relation.{Items, Interpretation, parts, secon
 use Rattle.relation_contexts.specs.FirstOrder.{IsFirstOrderAtom}
 use Rattle.relation_contexts.specs.Stores.{IsNamable}
 use Rattle.relation_laws.specs.RegionTerms.{IsRegionTermHead, IsRegionTermLeaf, BindsRegions, IsRegionTerm, RelatedTermsAgree, RelatedIffAgree}
-use Rattle.relation_contexts.specs.Agreeing.{IsFlexible, AreFlexible, Agree}
-use Rattle.relation_contexts.specs.Errors.{outer_leaf, AreAlike}
+use Rattle.relation_contexts.specs.Agreeing.{IsFlexible, AreFlexible, IsLeftAside, Agree}
+use Rattle.relation_contexts.specs.Settings.{Settings}
+use Rattle.relation_contexts.specs.Errors.{outer_leaf, AreAlike, IsLeftToGoal}
 use Rattle.type_relations.proofs.Unifying.{kind_erased, atom_erased, kind_kept, erased_plain}
+use Rattle.type_relations.proofs.Leaving.{opaque_is_alias, beside_is_opaque}
 use Rattle.type_relations.proofs.PartSizes.{one_size}
 use Rattle.relation_contexts.proofs.Agreeing.{agree_anything, agree_same}
 use Rattle.relation_laws.specs.Decided.{plain_leaf}
@@ -169,12 +171,12 @@ term_plain (alias k d) f = absurd f
 term_plain (alias_term k d) f = absurd f
 term_plain h f = refl
 
-kept_agree : (c : Items) (h : Head) (v : Variance) (xs ys : Tree) → Agree c (parts h 0 v) xs ys → Agree c (parts h 0 v) (kept_parts h xs) (kept_parts h ys)
-kept_agree c value_type v xs ys r = refl
-kept_agree c h v xs ys r = r
+kept_agree : (set : Settings) (c : Items) (h : Head) (v : Variance) (xs ys : Tree) → Agree set c (parts h 0 v) xs ys → Agree set c (parts h 0 v) (kept_parts h xs) (kept_parts h ys)
+kept_agree set c value_type v xs ys r = refl
+kept_agree set c h v xs ys r = r
 
-forms_agree : (c : Items) (h k : Head) (v : Variance) (xs ys : Tree) → plain h ≡ plain k → h ≡ k → Agree c (parts h 0 v) xs ys → Agree c (at v) (node h (kept_parts h xs)) (node k (kept_parts k ys))
-forms_agree c h k v xs ys p q r = inr (p, subst (λ z. Agree c (parts h 0 v) (kept_parts h xs) (kept_parts z ys)) q (kept_agree c h v xs ys r))
+forms_agree : (set : Settings) (c : Items) (h k : Head) (v : Variance) (xs ys : Tree) → plain h ≡ plain k → h ≡ k → Agree set c (parts h 0 v) xs ys → Agree set c (at v) (node h (kept_parts h xs)) (node k (kept_parts k ys))
+forms_agree set c h k v xs ys p q r = inr (p, subst (λ z. Agree set c (parts h 0 v) (kept_parts h xs) (kept_parts z ys)) q (kept_agree set c h v xs ys r))
 
 rule_alias : (w : Interpretation) (e : Tree) (v : Variance) (a b : Tree) → AliasRule w e v a b → (v ≡ Bivariant) ⊎ (IsAlias a ⊎ IsAlias b)
 rule_alias w e Covariant a b r = inr r.1
@@ -183,41 +185,41 @@ rule_alias w e Contravariant a b (r, inr i) = inr (inl i)
 rule_alias w e Invariant a b r = inr r.1
 rule_alias w e Bivariant a b r = inl refl
 
-aliases_agree : (c : Items) (v : Variance) (a b : Tree) → IsRegionTerm a → IsRegionTerm b → (v ≡ Bivariant) ⊎ (IsAlias a ⊎ IsAlias b) → Agree c (at v) (erase a) (erase b)
-aliases_agree c v a b f g (inl p) = agree_anything c v _ _ p
-aliases_agree c v a b f g (inr i) = no_alias a b f g i
+aliases_agree : (set : Settings) (c : Items) (v : Variance) (a b : Tree) → IsRegionTerm a → IsRegionTerm b → (v ≡ Bivariant) ⊎ (IsAlias a ⊎ IsAlias b) → Agree set c (at v) (erase a) (erase b)
+aliases_agree set c v a b f g (inl p) = agree_anything set c v _ _ p
+aliases_agree set c v a b f g (inr i) = no_alias a b f g i
 
 mutual
-  agree : {c : Items} {w : Interpretation} {e : Tree} {v : Variance} {a b : Tree} → Rel c w e (at v) a b → IsRegionTerm a → IsRegionTerm b → Agree c (at v) (erase a) (erase b)
-  agree {c = c} {v = v} (same p) f g = agree_same c v _ _ (ap erase p)
-  agree {c = c} {v = v} (anything p) f g = agree_anything c v _ _ p
+  agree : {set : Settings} {c : Items} {w : Interpretation} {e : Tree} {v : Variance} {a b : Tree} → Rel c w e (at v) a b → IsRegionTerm a → IsRegionTerm b → Agree set c (at v) (erase a) (erase b)
+  agree {set = set} {c = c} {v = v} (same p) f g = agree_same set c v _ _ (ap erase p)
+  agree {set = set} {c = c} {v = v} (anything p) f g = agree_anything set c v _ _ p
   agree {a = a} (error_left h _) f g = absurd (no_error a h f)
   agree {b = b} (error_right h _) f g = absurd (no_error b h g)
-  agree {c = c} {v = v} {a = a} {b = b} (regions p q _) f g = agree_same c v _ _ (erase_region a p ∙ sym (erase_region b q))
-  agree {c = c} {w = w} {e = e} {v = v} {a = a} {b = b} (alias_types _ _ r) f g = aliases_agree c v a b f g (rule_alias w e v a b r)
+  agree {set = set} {c = c} {v = v} {a = a} {b = b} (regions p q _) f g = agree_same set c v _ _ (erase_region a p ∙ sym (erase_region b q))
+  agree {set = set} {c = c} {w = w} {e = e} {v = v} {a = a} {b = b} (alias_types _ _ r) f g = aliases_agree set c v a b f g (rule_alias w e v a b r)
   agree {a = a} {b = b} (equal_consts _ _ r) f g = no_alias a b f g r.1
-  agree {c = c} {v = v} (atoms {x = x} {y = y} p) f g = agree_same c v _ _ (ap (λ z. leaf (atom z)) (sym (erase_plain x) ∙ ap erase_atom p ∙ erase_plain y))
-  agree {c = c} {v = v} (forms {h = h} {k = k} {xs = xs} {ys = ys} i p r) f g = forms_agree c h k v (erase xs) (erase ys) p (sym (term_plain h f.0) ∙ p ∙ term_plain k g.0) (agree_parts r f.1 g.1)
+  agree {set = set} {c = c} {v = v} (atoms {x = x} {y = y} p) f g = agree_same set c v _ _ (ap (λ z. leaf (atom z)) (sym (erase_plain x) ∙ ap erase_atom p ∙ erase_plain y))
+  agree {set = set} {c = c} {v = v} (forms {h = h} {k = k} {xs = xs} {ys = ys} i p r) f g = forms_agree set c h k v (erase xs) (erase ys) p (sym (term_plain h f.0) ∙ p ∙ term_plain k g.0) (agree_parts r f.1 g.1)
   agree (covariant_binders _ r) f g = inr (agree_second r f.0 g.0 f.1 g.1)
   agree (contravariant_binders _ r) f g = inr (agree_first r f.0 g.0 f.1 g.1)
   agree (invariant_binders _ r _) f g = inr (agree_second r f.0 g.0 f.1 g.1)
 
-  agree_parts : {c : Items} {w : Interpretation} {e : Tree} {h : Head} {i : ℕ} {v : Variance} {xs ys : Tree} → Rel c w e (parts h i v) xs ys → IsRegionTerm xs → IsRegionTerm ys → Agree c (parts h i v) (erase xs) (erase ys)
+  agree_parts : {set : Settings} {c : Items} {w : Interpretation} {e : Tree} {h : Head} {i : ℕ} {v : Variance} {xs ys : Tree} → Rel c w e (parts h i v) xs ys → IsRegionTerm xs → IsRegionTerm ys → Agree set c (parts h i v) (erase xs) (erase ys)
   agree_parts no_parts f g = refl
   agree_parts (next_part r rs) f g = (agree r f.0 g.0, agree_parts rs f.1 g.1)
 
-  agree_second : {c : Items} {w : Interpretation} {e : Tree} {ks ls : List BoundKind} {v : Variance} {a b : Tree} → Rel c w e (second_opened ks ls v) a b → BindsRegions ks → BindsRegions ls → IsRegionTerm a → IsRegionTerm b → Agree c (at v) (erase a) (erase b)
-  agree_second {c = c} {ks = ks} {ls = ls} {v = v} {a = a} {b = b} (open_second ts ps fit fresh r) h k f g =
-      subst₂ (Agree c (at v)) (erase-inst ts 0 a (values_are_regions ks ts h fit) f) (erase-inst ps 0 b (placeholders_are_regions ls ps a b k fresh) g)
+  agree_second : {set : Settings} {c : Items} {w : Interpretation} {e : Tree} {ks ls : List BoundKind} {v : Variance} {a b : Tree} → Rel c w e (second_opened ks ls v) a b → BindsRegions ks → BindsRegions ls → IsRegionTerm a → IsRegionTerm b → Agree set c (at v) (erase a) (erase b)
+  agree_second {set = set} {c = c} {ks = ks} {ls = ls} {v = v} {a = a} {b = b} (open_second ts ps fit fresh r) h k f g =
+      subst₂ (Agree set c (at v)) (erase-inst ts 0 a (values_are_regions ks ts h fit) f) (erase-inst ps 0 b (placeholders_are_regions ls ps a b k fresh) g)
       (agree r (inst_region ts 0 a (values_are_regions ks ts h fit) f) (inst_region ps 0 b (placeholders_are_regions ls ps a b k fresh) g))
 
-  agree_first : {c : Items} {w : Interpretation} {e : Tree} {ks ls : List BoundKind} {v : Variance} {a b : Tree} → Rel c w e (first_opened ks ls v) a b → BindsRegions ks → BindsRegions ls → IsRegionTerm a → IsRegionTerm b → Agree c (at v) (erase a) (erase b)
-  agree_first {c = c} {ks = ks} {ls = ls} {v = v} {a = a} {b = b} (open_first ps ts fresh fit r) h k f g =
-      subst₂ (Agree c (at v)) (erase-inst ps 0 a (placeholders_are_regions ks ps a b h fresh) f) (erase-inst ts 0 b (values_are_regions ls ts k fit) g)
+  agree_first : {set : Settings} {c : Items} {w : Interpretation} {e : Tree} {ks ls : List BoundKind} {v : Variance} {a b : Tree} → Rel c w e (first_opened ks ls v) a b → BindsRegions ks → BindsRegions ls → IsRegionTerm a → IsRegionTerm b → Agree set c (at v) (erase a) (erase b)
+  agree_first {set = set} {c = c} {ks = ks} {ls = ls} {v = v} {a = a} {b = b} (open_first ps ts fresh fit r) h k f g =
+      subst₂ (Agree set c (at v)) (erase-inst ps 0 a (placeholders_are_regions ks ps a b h fresh) f) (erase-inst ts 0 b (values_are_regions ls ts k fit) g)
       (agree r (inst_region ps 0 a (placeholders_are_regions ks ps a b h fresh) f) (inst_region ts 0 b (values_are_regions ls ts k fit) g))
 
 pub related_terms_agree : RelatedTermsAgree
-related_terms_agree c w e v a b f g r = agree r f g
+related_terms_agree set c w e v a b f g r = agree {set = set} r f g
 
 -- The largest universe of a placeholder in a tree.
 top_leaf : Leaf → ℕ
@@ -380,9 +382,31 @@ module _ (c : Items) (w : Interpretation) (e : Tree) (v : Variance) (ks ls : Lis
       go Invariant p = invariant_binders p second first
       go Bivariant p = anything p
 
-mixed : {c : Items} {w : Interpretation} {e : Tree} {v : Variance} {a b : Tree} {X : Type 0} → (v ≡ Bivariant) ⊎ X → (X → ⊥) → Rel c w e (at v) a b
-mixed (inl p) n = anything p
-mixed (inr x) n = absurd (n x)
+-- Such terms have no alias, and are left to no goal.
+erased_no_alias : (a : Tree) → IsRegionTerm a → IsAlias (erase a) → ⊥
+erased_no_alias (leaf l) f i = i
+erased_no_alias (node h ts) f i = no_alias_head h i f.0
+erased_no_alias (bind ks t) f i = i
+erased_no_alias nil f i = i
+erased_no_alias (cons t ts) f i = i
+
+erased_not_left : (k : Settings) (a b : Tree) → IsRegionTerm a → IsRegionTerm b → IsLeftToGoal k (erase a) (erase b) → ⊥
+erased_not_left k a b f g (inl (l, inl o)) = erased_no_alias a f o
+erased_not_left k a b f g (inl (l, inr o)) = erased_no_alias b g o
+erased_not_left k a b f g (inr (l, inl o)) =
+    erased_no_alias a f (opaque_is_alias (erase a) (beside_is_opaque (erase a) (erase b) o))
+erased_not_left k a b f g (inr (l, inr o)) =
+    erased_no_alias b g (opaque_is_alias (erase b) (beside_is_opaque (erase b) (erase a) o))
+
+set_aside : {c : Items} {w : Interpretation} {e : Tree} {v : Variance} (k : Settings) (a b : Tree) → IsRegionTerm a →
+    IsRegionTerm b → IsLeftAside k v (erase a) (erase b) → Rel c w e (at v) a b
+set_aside k a b f g (inl p) = anything p
+set_aside k a b f g (inr l) = absurd (erased_not_left k a b f g l.0)
+
+mixed : {c : Items} {w : Interpretation} {e : Tree} {v : Variance} (k : Settings) (a b : Tree) → IsRegionTerm a →
+    IsRegionTerm b → {X : Type 0} → IsLeftAside k v (erase a) (erase b) ⊎ X → (X → ⊥) → Rel c w e (at v) a b
+mixed k a b f g (inl p) n = set_aside k a b f g p
+mixed k a b f g (inr x) n = absurd (n x)
 
 -- What is open of an erased term without variables is a region.
 erased_error : (x : Atom) → IsErrorAtom (erase_atom x) → IsErrorAtom x
@@ -447,46 +471,46 @@ one_type c w e v (cons t nil) (cons u nil) p q = next_part (anything refl) no_pa
 one_type c w e v (cons t nil) ys p q = absurd q
 one_type c w e v xs ys p q = absurd p
 
-parts_back : (c : Items) (w : Interpretation) (e : Tree) (h : Head) (v : Variance) (xs ys : Tree) → HasOneType h xs → HasOneType h ys → (Agree c (parts h 0 v) (erase xs) (erase ys) → Rel c w e (parts h 0 v) xs ys) → Agree c (parts h 0 v) (kept_parts h (erase xs)) (kept_parts h (erase ys)) → Rel c w e (parts h 0 v) xs ys
-parts_back c w e value_type v xs ys p q rec r = one_type c w e v xs ys p q
-parts_back c w e h v xs ys p q rec r = rec r
+parts_back : (set : Settings) (c : Items) (w : Interpretation) (e : Tree) (h : Head) (v : Variance) (xs ys : Tree) → HasOneType h xs → HasOneType h ys → (Agree set c (parts h 0 v) (erase xs) (erase ys) → Rel c w e (parts h 0 v) xs ys) → Agree set c (parts h 0 v) (kept_parts h (erase xs)) (kept_parts h (erase ys)) → Rel c w e (parts h 0 v) xs ys
+parts_back set c w e value_type v xs ys p q rec r = one_type c w e v xs ys p q
+parts_back set c w e h v xs ys p q rec r = rec r
 
-forms_back : (c : Items) (w : Interpretation) (e : Tree) (h k : Head) (v : Variance) (xs ys : Tree) → k ≡ h → HasOneType h xs → HasOneType k ys → (Agree c (parts h 0 v) (erase xs) (erase ys) → Rel c w e (parts h 0 v) xs ys) → Agree c (parts h 0 v) (kept_parts h (erase xs)) (kept_parts k (erase ys)) → Rel c w e (parts h 0 v) xs ys
-forms_back c w e h k v xs ys q p p' rec r = parts_back c w e h v xs ys p (subst (λ z. HasOneType z ys) q p') rec (subst (λ z. Agree c (parts h 0 v) (kept_parts h (erase xs)) (kept_parts z (erase ys))) q r)
+forms_back : (set : Settings) (c : Items) (w : Interpretation) (e : Tree) (h k : Head) (v : Variance) (xs ys : Tree) → k ≡ h → HasOneType h xs → HasOneType k ys → (Agree set c (parts h 0 v) (erase xs) (erase ys) → Rel c w e (parts h 0 v) xs ys) → Agree set c (parts h 0 v) (kept_parts h (erase xs)) (kept_parts k (erase ys)) → Rel c w e (parts h 0 v) xs ys
+forms_back set c w e h k v xs ys q p p' rec r = parts_back set c w e h v xs ys p (subst (λ z. HasOneType z ys) q p') rec (subst (λ z. Agree set c (parts h 0 v) (kept_parts h (erase xs)) (kept_parts z (erase ys))) q r)
 
 mutual
-  back : (n : ℕ) (c : Items) (w : Interpretation) (e : Tree) (v : Variance) (a b : Tree) → size a ≤ n → w.outlives ≡ None → IsNode a → IsNode b → IsShaped a → IsShaped b → IsRegionTerm a → IsRegionTerm b → Agree c (at v) (erase a) (erase b) → Rel c w e (at v) a b
-  back zero c w e v a b le all ta tb sa sb ra rb g = let p = one_size a in absurd (omega arith)
-  back (suc n) c w e v (leaf l) (leaf m) le all ta tb sa sb ra rb (inl p) = anything p
-  back (suc n) c w e v (leaf l) (leaf m) le all ta tb sa sb ra rb (inr (inl o)) = let z = open_regions l m ra rb o in regions z.0 z.1 (all_rule w v (leaf l) (leaf m) all)
-  back (suc n) c w e v (leaf l) (leaf m) le all ta tb sa sb ra rb (inr (inr p)) = leaves_related c w e v l m all (alike_erased l m p)
-  back (suc n) c w e v (node h xs) (node k ys) le all ta tb sa sb ra rb (inl p) = anything p
-  back (suc n) c w e v (node h xs) (node k ys) le all ta tb sa sb ra rb (inr r) = forms (related_head h ra.0) r.0 (forms_back c w e h k v xs ys (sym (term_plain k rb.0) ∙ sym r.0 ∙ term_plain h ra.0) sa.1 sb.1 (λ g. back_parts n c w e h 0 v xs ys (omega arith) all sa.0 sb.0 sa.2 sb.2 ra.1 rb.1 g) r.1)
-  back (suc n) c w e v (bind ks a) (bind ls b) le all ta tb sa sb ra rb (inl p) = anything p
-  back (suc n) c w e v (bind ks a) (bind ls b) le all ta tb sa sb ra rb (inr r) = binders_related c w e v ks ls a b ra.0 rb.0 ra.1 rb.1
-      (λ ts us p q. back n c w e v (inst ts 0 a) (inst us 0 b) (let s = size-inst ts 0 a p ra.1 in omega arith) all (inst_term ts 0 a p ra.1 sa.0) (inst_term us 0 b q rb.1 sb.0) (inst_shaped ts 0 a p ra.1 sa.1) (inst_shaped us 0 b q rb.1 sb.1) (inst_region ts 0 a p ra.1) (inst_region us 0 b q rb.1)
-      (subst₂ (Agree c (at v)) (sym (erase-inst ts 0 a p ra.1)) (sym (erase-inst us 0 b q rb.1)) r))
-  back (suc n) c w e v nil b le all ta tb sa sb ra rb g = absurd ta
-  back (suc n) c w e v (cons a xs) b le all ta tb sa sb ra rb g = absurd ta
-  back (suc n) c w e v a nil le all ta tb sa sb ra rb g = absurd tb
-  back (suc n) c w e v a (cons b ys) le all ta tb sa sb ra rb g = absurd tb
-  back (suc n) c w e v (leaf l) (node k ys) le all ta tb sa sb ra rb g = mixed g (apart_leaf l (erase (node k ys)) ra (no_region_head k) (λ o. o) (λ q. cc))
-  back (suc n) c w e v (leaf l) (bind ls b) le all ta tb sa sb ra rb g = mixed g (apart_leaf l (erase (bind ls b)) ra (λ q. cc) (λ o. o) (λ q. cc))
-  back (suc n) c w e v (node h xs) (leaf m) le all ta tb sa sb ra rb g = mixed g (apart_leaf_back m (erase (node h xs)) rb (no_region_head h) (λ o. o) (λ q. cc))
-  back (suc n) c w e v (node h xs) (bind ls b) le all ta tb sa sb ra rb g = mixed g (apart_forms (erase (node h xs)) (erase (bind ls b)) (λ o. o) (λ o. o) (λ q. cc))
-  back (suc n) c w e v (bind ks a) (leaf m) le all ta tb sa sb ra rb g = mixed g (apart_leaf_back m (erase (bind ks a)) rb (λ q. cc) (λ o. o) (λ q. cc))
-  back (suc n) c w e v (bind ks a) (node k ys) le all ta tb sa sb ra rb g = mixed g (apart_forms (erase (bind ks a)) (erase (node k ys)) (λ o. o) (λ o. o) (λ q. cc))
+  back : (set : Settings) (n : ℕ) (c : Items) (w : Interpretation) (e : Tree) (v : Variance) (a b : Tree) → size a ≤ n → w.outlives ≡ None → IsNode a → IsNode b → IsShaped a → IsShaped b → IsRegionTerm a → IsRegionTerm b → Agree set c (at v) (erase a) (erase b) → Rel c w e (at v) a b
+  back set zero c w e v a b le all ta tb sa sb ra rb g = let p = one_size a in absurd (omega arith)
+  back set (suc n) c w e v (leaf l) (leaf m) le all ta tb sa sb ra rb (inl p) = set_aside set (leaf l) (leaf m) ra rb p
+  back set (suc n) c w e v (leaf l) (leaf m) le all ta tb sa sb ra rb (inr (inl o)) = let z = open_regions l m ra rb o in regions z.0 z.1 (all_rule w v (leaf l) (leaf m) all)
+  back set (suc n) c w e v (leaf l) (leaf m) le all ta tb sa sb ra rb (inr (inr p)) = leaves_related c w e v l m all (alike_erased l m p)
+  back set (suc n) c w e v (node h xs) (node k ys) le all ta tb sa sb ra rb (inl p) = set_aside set (node h xs) (node k ys) ra rb p
+  back set (suc n) c w e v (node h xs) (node k ys) le all ta tb sa sb ra rb (inr r) = forms (related_head h ra.0) r.0 (forms_back set c w e h k v xs ys (sym (term_plain k rb.0) ∙ sym r.0 ∙ term_plain h ra.0) sa.1 sb.1 (λ g. back_parts set n c w e h 0 v xs ys (omega arith) all sa.0 sb.0 sa.2 sb.2 ra.1 rb.1 g) r.1)
+  back set (suc n) c w e v (bind ks a) (bind ls b) le all ta tb sa sb ra rb (inl p) = anything p
+  back set (suc n) c w e v (bind ks a) (bind ls b) le all ta tb sa sb ra rb (inr r) = binders_related c w e v ks ls a b ra.0 rb.0 ra.1 rb.1
+      (λ ts us p q. back set n c w e v (inst ts 0 a) (inst us 0 b) (let s = size-inst ts 0 a p ra.1 in omega arith) all (inst_term ts 0 a p ra.1 sa.0) (inst_term us 0 b q rb.1 sb.0) (inst_shaped ts 0 a p ra.1 sa.1) (inst_shaped us 0 b q rb.1 sb.1) (inst_region ts 0 a p ra.1) (inst_region us 0 b q rb.1)
+      (subst₂ (Agree set c (at v)) (sym (erase-inst ts 0 a p ra.1)) (sym (erase-inst us 0 b q rb.1)) r))
+  back set (suc n) c w e v nil b le all ta tb sa sb ra rb g = absurd ta
+  back set (suc n) c w e v (cons a xs) b le all ta tb sa sb ra rb g = absurd ta
+  back set (suc n) c w e v a nil le all ta tb sa sb ra rb g = absurd tb
+  back set (suc n) c w e v a (cons b ys) le all ta tb sa sb ra rb g = absurd tb
+  back set (suc n) c w e v (leaf l) (node k ys) le all ta tb sa sb ra rb g = mixed set (leaf l) (node k ys) ra rb g (apart_leaf l (erase (node k ys)) ra (no_region_head k) (λ o. o) (λ q. cc))
+  back set (suc n) c w e v (leaf l) (bind ls b) le all ta tb sa sb ra rb g = mixed set (leaf l) (bind ls b) ra rb g (apart_leaf l (erase (bind ls b)) ra (λ q. cc) (λ o. o) (λ q. cc))
+  back set (suc n) c w e v (node h xs) (leaf m) le all ta tb sa sb ra rb g = mixed set (node h xs) (leaf m) ra rb g (apart_leaf_back m (erase (node h xs)) rb (no_region_head h) (λ o. o) (λ q. cc))
+  back set (suc n) c w e v (node h xs) (bind ls b) le all ta tb sa sb ra rb g = mixed set (node h xs) (bind ls b) ra rb g (apart_forms (erase (node h xs)) (erase (bind ls b)) (λ o. o) (λ o. o) (λ q. cc))
+  back set (suc n) c w e v (bind ks a) (leaf m) le all ta tb sa sb ra rb g = mixed set (bind ks a) (leaf m) ra rb g (apart_leaf_back m (erase (bind ks a)) rb (λ q. cc) (λ o. o) (λ q. cc))
+  back set (suc n) c w e v (bind ks a) (node k ys) le all ta tb sa sb ra rb g = mixed set (bind ks a) (node k ys) ra rb g (apart_forms (erase (bind ks a)) (erase (node k ys)) (λ o. o) (λ o. o) (λ q. cc))
 
-  back_parts : (n : ℕ) (c : Items) (w : Interpretation) (e : Tree) (h : Head) (i : ℕ) (v : Variance) (xs ys : Tree) → size xs ≤ n → w.outlives ≡ None → IsList xs → IsList ys → IsShaped xs → IsShaped ys → IsRegionTerm xs → IsRegionTerm ys → Agree c (parts h i v) (erase xs) (erase ys) → Rel c w e (parts h i v) xs ys
-  back_parts zero c w e h i v xs ys le all la lb sa sb ra rb g = let p = one_size xs in absurd (omega arith)
-  back_parts (suc n) c w e h i v nil nil le all la lb sa sb ra rb g = no_parts
-  back_parts (suc n) c w e h i v (cons a xs) (cons b ys) le all la lb sa sb ra rb g = next_part (back n c w e (part_at c h i v) a b (omega arith) all sa.0 sb.0 sa.1 sb.1 ra.0 rb.0 g.0) (back_parts n c w e h (suc i) v xs ys (omega arith) all la lb sa.2 sb.2 ra.1 rb.1 g.1)
-  back_parts (suc n) c w e h i v nil (cons b ys) le all la lb sa sb ra rb g = absurd cc
-  back_parts (suc n) c w e h i v (cons a xs) nil le all la lb sa sb ra rb g = absurd cc
-  back_parts (suc n) c w e h i v nil ys le all la lb sa sb ra rb g = absurd lb
-  back_parts (suc n) c w e h i v (cons a xs) ys le all la lb sa sb ra rb g = absurd lb
-  back_parts (suc n) c w e h i v xs ys le all la lb sa sb ra rb g = absurd la
+  back_parts : (set : Settings) (n : ℕ) (c : Items) (w : Interpretation) (e : Tree) (h : Head) (i : ℕ) (v : Variance) (xs ys : Tree) → size xs ≤ n → w.outlives ≡ None → IsList xs → IsList ys → IsShaped xs → IsShaped ys → IsRegionTerm xs → IsRegionTerm ys → Agree set c (parts h i v) (erase xs) (erase ys) → Rel c w e (parts h i v) xs ys
+  back_parts set zero c w e h i v xs ys le all la lb sa sb ra rb g = let p = one_size xs in absurd (omega arith)
+  back_parts set (suc n) c w e h i v nil nil le all la lb sa sb ra rb g = no_parts
+  back_parts set (suc n) c w e h i v (cons a xs) (cons b ys) le all la lb sa sb ra rb g = next_part (back set n c w e (part_at c h i v) a b (omega arith) all sa.0 sb.0 sa.1 sb.1 ra.0 rb.0 g.0) (back_parts set n c w e h (suc i) v xs ys (omega arith) all la lb sa.2 sb.2 ra.1 rb.1 g.1)
+  back_parts set (suc n) c w e h i v nil (cons b ys) le all la lb sa sb ra rb g = absurd cc
+  back_parts set (suc n) c w e h i v (cons a xs) nil le all la lb sa sb ra rb g = absurd cc
+  back_parts set (suc n) c w e h i v nil ys le all la lb sa sb ra rb g = absurd lb
+  back_parts set (suc n) c w e h i v (cons a xs) ys le all la lb sa sb ra rb g = absurd lb
+  back_parts set (suc n) c w e h i v xs ys le all la lb sa sb ra rb g = absurd la
 
 pub related_iff_agree : RelatedIffAgree
-related_iff_agree c w e v s a b all ta tb ra rb = let x = shaped (one (term_of s)) a ta in let y = shaped (one (term_of s)) b tb in
-    (λ r. agree r ra rb, back (size a) c w e v a b (omega arith) all x.0 y.0 x.1 y.1 ra rb)
+related_iff_agree set c w e v s a b all ta tb ra rb = let x = shaped (one (term_of s)) a ta in let y = shaped (one (term_of s)) b tb in
+    (λ r. agree {set = set} r ra rb, back set (size a) c w e v a b (omega arith) all x.0 y.0 x.1 y.1 ra rb)

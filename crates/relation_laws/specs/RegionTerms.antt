@@ -9,6 +9,7 @@ use Rattle.relation_terms.specs.Erasure.{erase}
 use Rattle.relation_contexts.specs.Relation.{Items, Interpretation, at, Rel}
 use Rattle.relation_contexts.specs.FirstOrder.{IsFirstOrderAtom, IsFirstOrderHead}
 use Rattle.relation_contexts.specs.Agreeing.{Agree}
+use Rattle.relation_contexts.specs.Settings.{Settings}
 
 abbrev pub IsRegionTermHead : Head → Type 0
 IsRegionTermHead fn_ptr = Unit {0}
@@ -34,13 +35,13 @@ IsRegionTerm (bind ks t) = BindsRegions ks × IsRegionTerm t
 IsRegionTerm nil = Unit {0}
 IsRegionTerm (cons t ts) = IsRegionTerm t × IsRegionTerm ts
 
--- Such terms that are in the relation have erasures that agree.
+-- Such terms that are in the relation have erasures that agree, however a relation is set up.
 abbrev pub RelatedTermsAgree : Type 0
-RelatedTermsAgree = (c : Items) (w : Interpretation) (e : Tree) (v : Variance) (a b : Tree) → IsRegionTerm a →
-    IsRegionTerm b → Rel c w e (at v) a b → Agree c (at v) (erase a) (erase b)
+RelatedTermsAgree = (k : Settings) (c : Items) (w : Interpretation) (e : Tree) (v : Variance) (a b : Tree) →
+    IsRegionTerm a → IsRegionTerm b → Rel c w e (at v) a b → Agree k c (at v) (erase a) (erase b)
 
 -- Where all regions outlive each other, they are in the relation just where their erasures agree.
 abbrev pub RelatedIffAgree : Type 0
-RelatedIffAgree = (c : Items) (w : Interpretation) (e : Tree) (v : Variance) (s : Sort) (a b : Tree) →
+RelatedIffAgree = (k : Settings) (c : Items) (w : Interpretation) (e : Tree) (v : Variance) (s : Sort) (a b : Tree) →
     w.outlives ≡ None → IsTerm s a → IsTerm s b → IsRegionTerm a → IsRegionTerm b →
-    Rel c w e (at v) a b ↔ Agree c (at v) (erase a) (erase b)
+    Rel c w e (at v) a b ↔ Agree k c (at v) (erase a) (erase b)
