@@ -60,7 +60,7 @@ module _ {Key Id Name : Type 0} (m : Meaning Key Id Name) (v : Variance) (cs : L
         };
         errors = λ n set i st e later s o.
             bodies_error n set i st v e ks ls t u t u (unused_stand_ins ks t w.0) (unused_stand_ins ls u w.1) o;
-        agrees = λ i o. bodies_agree i v ks ls t u t u (unused_stand_ins ks t w.0) (unused_stand_ins ls u w.1)
+        agrees = λ set i o. bodies_agree set i v ks ls t u t u (unused_stand_ins ks t w.0) (unused_stand_ins ls u w.1)
             k.left_taken.1.0 k.right_taken.1.0 o;
         built = bodies_built (plain_store m cs) ks ls t u t u (unused_stand_ins ks t w.0) (unused_stand_ins ls u w.1);
         same_budget = refl;

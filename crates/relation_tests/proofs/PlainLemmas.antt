@@ -1,6 +1,6 @@
 -- A relation of terms without variables.
 use Rattle.std.proofs.Common.{◌≡◌, ◌≢◌, ℕ, ◌≤◌, refl, sym, ◌∙◌, subst, subst₂, arith, List, [], ◌∷◌, ◌++◌, All, IsTrue, map}
-use Rattle.std.proofs.Common.{Option, Some, IfSome, Result, Ok, Err}
+use Rattle.std.proofs.Common.{Option, Some, IfSome, Result, Ok, Err, inl, inr}
 use Rattle.std.proofs.lemmas.List.{map-append}
 use Rattle.std.proofs.lemmas.List.Elements.{All-nil}
 use Rattle.term_enums.specs.declared.Variance.{Variance}
@@ -16,6 +16,7 @@ use Rattle.relation_folds.specs.declared.error.RelateFault.{RelateFault}
 use Rattle.relation_folds.specs.declared.error.RelateFault.TheVariants.{Memory}
 use Rattle.relation_contexts.specs.Relation.{Interpretation, Rel, RegionRule, regions, sort_of, at}
 use Rattle.relation_contexts.specs.Stores.{IsTermIn, IsRegionIn, ConstraintIn, ConstraintHolds, Satisfies}
+use Rattle.relation_contexts.specs.Errors.{IsLeftToGoal}
 use Rattle.relation_contexts.specs.Goals.{GoalInContext, Holds, MakesOneTree}
 use Rattle.relation_contexts.specs.Steps.{AddsConstraint}
 use Rattle.relation_contexts.specs.Outcomes.{Outcome, Exact}
@@ -23,7 +24,7 @@ use Rattle.relation_contexts.specs.Measures.{Goes}
 use Rattle.relation_contexts.specs.Parts.{IsFormed}
 use Rattle.relation_contexts.specs.Lawful.{items_of, Passes, Related, items_in}
 use Rattle.relation_contexts.specs.Constraints.{constraint_at, constraint_of}
-use Rattle.relation_tests.specs.Plain.{as_is, plain_store, plain_state, plain_manner}
+use Rattle.relation_tests.specs.Plain.{as_is, plain_settings, plain_store, plain_state, plain_manner}
 use Rattle.relation_contexts.proofs.Full.{full_itself, full_by}
 use Rattle.relation_contexts.proofs.Building.{builds_none, built_itself}
 use Rattle.relation_contexts.proofs.Trees.{all_leaves, apply_own, own_other}
@@ -44,6 +45,11 @@ use Rattle.relation_contexts.specs.Stores.{Store, IsSound, ConstraintIn, outlive
 use Rattle.relation_terms.specs.declared.predicate.regions.RegionConstraint.TheVariants.{Outlives, Eq}
 use Rattle.std.proofs.Common.{ap, ap₂, ◌∷◌}
 use Rattle.std.proofs.lemmas.List.Elements.{All-head, All-tail}
+
+-- Nothing is left to a goal.
+pub none_left : (a b : Tree) → IsLeftToGoal plain_settings a b → ⊥
+none_left a b (inl (l, o)) = let e = l.1 in cc
+none_left a b (inr (l, o)) = let e = l.0 in cc
 
 module _ {Key Id Name : Type 0} (m : Meaning Key Id Name) where
   -- Without variables, and with no bound variable that escapes, a type has a form.
@@ -181,7 +187,7 @@ module _ {Key Id Name : Type 0} (m : Meaning Key Id Name) where
         outcome = outcome;
         answer = may_itself plain_manner (plain_state m v (cs ++ c ∷ [])) v (m.region a);
         known = k;
-        agrees = λ z. agree_regions (items_of m) v (m.region a) (m.region b)
+        agrees = λ z. agree_regions plain_settings (items_of m) v (m.region a) (m.region b)
             (term_sort_of region_var (m.region a) left.0) (term_sort_of region_var (m.region b) right.0);
       };
       exact = λ q is pair. (
@@ -191,7 +197,7 @@ module _ {Key Id Name : Type 0} (m : Meaning Key Id Name) where
             (standing_keeps (plain_store m cs) (plain_store m (cs ++ c ∷ [])) (λ k. refl) (λ k. refl)),
       );
       full = λ ha hb. full_by (goes v cs c of_store 0) (λ k. refl) (λ all. all);
-      built = λ k ha hb all. builds_none k (plain_store m cs) (plain_store m (cs ++ c ∷ [])) all refl;
+      built = λ k ha hb all. builds_none k (plain_store m cs) (plain_store m (cs ++ c ∷ [])) all refl refl;
     }
 
     pub regions_related : (ds : List (RegionConstraint Key)) (x : RegionKey Key) → ds ≡ cs ++ c ∷ [] → x ≡ a →

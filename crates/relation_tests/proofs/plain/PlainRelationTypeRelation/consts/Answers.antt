@@ -4,7 +4,7 @@ use Rattle.relation_tests.specs.Plain.{plain_store, plain_state, plain_manner}
 use Rattle.type_relations.proofs.Comparing.{formed_const}
 use Rattle.relation_contexts.proofs.Passing.{parts_left}
 use Rattle.relation_contexts.proofs.Standing.{term_within}
-use Rattle.relation_tests.proofs.PlainLemmas.{no_const_variable}
+use Rattle.relation_tests.proofs.PlainLemmas.{no_const_variable, none_left}
 use Rattle.relation_tests.proofs.plain.PlainRelationTypeRelation.consts.Goals as goal
 
 pub returns : goal.returns
@@ -20,3 +20,4 @@ returns g c =
     (formed_const m c.const_kind-b.result c.args.b.now c.const_kind-b.ensures k.right_taken.1
     (term_within (plain_store m cs) (m.const_ c.args.b.now) k.right_in)
     (no_const_variable m cs (m.const_ c.args.b.now) k.right_in))
+    (none_left (m.const_ c.args.a.now) (m.const_ c.args.b.now))

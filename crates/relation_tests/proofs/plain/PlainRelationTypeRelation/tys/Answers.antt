@@ -2,7 +2,7 @@ use Rattle.std.proofs.Common.{refl}
 use Rattle.relation_contexts.specs.Parts.{IsFormed}
 use Rattle.relation_tests.specs.Plain.{plain_state, plain_manner}
 use Rattle.relation_contexts.proofs.Passing.{parts_left}
-use Rattle.relation_tests.proofs.PlainLemmas.{formed}
+use Rattle.relation_tests.proofs.PlainLemmas.{formed, none_left}
 use Rattle.relation_tests.proofs.plain.PlainRelationTypeRelation.tys.Goals as goal
 
 pub returns-clause-stepped : goal.returns-clause-stepped
@@ -15,6 +15,7 @@ returns-clause-stepped g c =
     c.args.a.now c.args.b.now refl refl k
     (formed m cs (m.ty c.args.a.now) (is c.args.a.now k.left_known) k.left_in)
     (formed m cs (m.ty c.args.b.now) (is c.args.b.now k.right_known) k.right_in)
+    (none_left (m.ty c.args.a.now) (m.ty c.args.b.now))
 
 -- It promises nothing of variables.
 pub returns-clause-registers : goal.returns-clause-registers
