@@ -10,15 +10,20 @@ use Rattle.relation_contexts.specs.Stores.{IsSound, resolve, rounds_for, all_tak
 use Rattle.relation_contexts.specs.Relation.{StaysWithin}
 use Rattle.relation_contexts.specs.Bound.{AreBoundAs}
 use Rattle.relation_contexts.specs.Covered.{IsCovered}
-use Rattle.relation_contexts.proofs.Covered.{covered_nth, covered_parts}
+use Rattle.relation_contexts.proofs.Covered.{covered_nth}
 use Rattle.relation_contexts.proofs.StoreCalls.{resolve_within}
 use Rattle.relation_contexts.proofs.Resolved.{resolve_free, resolve_bound, HasTerm, is_free, is_bound, has_term}
 use Rattle.relation_reference.specs.declared.context.inner.InferCtxtInner.{InferCtxtInner}
 use Rattle.relation_reference.specs.Tables.{store_of, MayBeBoundTo, IsLawful}
 
 -- A part of a covered term is covered.
+parts_covered : (t : Tree) → IsCovered t → IsCovered (parts_of t)
+parts_covered (node h ts) c = c.1
+parts_covered (bind ks t) c = (c.1, tt)
+parts_covered t c = tt
+
 pub part_covered : (t : Tree) (i : ℕ) → i < count (parts_of t) → IsCovered t → IsCovered (nth i (parts_of t))
-part_covered t i l c = covered_nth (parts_of t) i l (covered_parts t c)
+part_covered t i l c = covered_nth (parts_of t) i l (parts_covered t c)
 
 -- A binder further out than `d` steps binds nothing in what stays within them, and so binds by any list there.
 within_bound : (ks : List BoundKind) (d e : ℕ) (t : Tree) → StaysWithin d t → d ≤ e → AreBoundAs ks e t
