@@ -40,17 +40,18 @@ kinds_by ids (FreeConst d) (FreeConst e) = ids d.0 e.0
 kinds_by ids (InherentConst d) (InherentConst e) = ids d.0 e.0
 kinds_by ids a b = false
 
--- It is the one that is declared.
-pub kinds_declared : (row : _) (ids : _) (dict : _) (k l : _) → (kind_impl.ghosts row ids dict).eq k l ≡ kinds_by ids.eq k l
-kinds_declared row ids dict (ProjectionTy d) (ProjectionTy e) = refl
-kinds_declared row ids dict (InherentTy d) (InherentTy e) = refl
-kinds_declared row ids dict (OpaqueTy d) (OpaqueTy e) = refl
-kinds_declared row ids dict (FreeTy d) (FreeTy e) = refl
-kinds_declared row ids dict (UnevaluatedConst d) (UnevaluatedConst e) = refl
-kinds_declared row ids dict (ProjectionConst d) (ProjectionConst e) = refl
-kinds_declared row ids dict (FreeConst d) (FreeConst e) = refl
-kinds_declared row ids dict (InherentConst d) (InherentConst e) = refl
-kinds_declared row ids dict _ _ = refl
+-- It is the one that is declared, whatever is looked up.
+pub kinds_declared : (row : _) (ids : _) (k l : _) →
+    (kind_impl.ghosts row ids polarity_impl.dict).eq k l ≡ kinds_by ids.eq k l
+kinds_declared row ids (ProjectionTy d) (ProjectionTy e) = refl
+kinds_declared row ids (InherentTy d) (InherentTy e) = refl
+kinds_declared row ids (OpaqueTy d) (OpaqueTy e) = refl
+kinds_declared row ids (FreeTy d) (FreeTy e) = refl
+kinds_declared row ids (UnevaluatedConst d) (UnevaluatedConst e) = refl
+kinds_declared row ids (ProjectionConst d) (ProjectionConst e) = refl
+kinds_declared row ids (FreeConst d) (FreeConst e) = refl
+kinds_declared row ids (InherentConst d) (InherentConst e) = refl
+kinds_declared row ids _ _ = refl
 
 -- They are of one kind, and of ids that are equal.
 kinds_same : {Id : Type 0} (ids : Id → Id → Bool) (a b : AliasTermKind Id) → IsTrue (kinds_by ids a b) →
@@ -85,13 +86,13 @@ ty_kinds_by ids (Opaque d) (Opaque e) = ids d.0 e.0
 ty_kinds_by ids (Free d) (Free e) = ids d.0 e.0
 ty_kinds_by ids a b = false
 
-pub ty_kinds_declared : (row : _) (ids : _) (dict : _) (k l : _) →
-    (ty_kind_impl.ghosts row ids dict).eq k l ≡ ty_kinds_by ids.eq k l
-ty_kinds_declared row ids dict (Projection d) (Projection e) = refl
-ty_kinds_declared row ids dict (Inherent d) (Inherent e) = refl
-ty_kinds_declared row ids dict (Opaque d) (Opaque e) = refl
-ty_kinds_declared row ids dict (Free d) (Free e) = refl
-ty_kinds_declared row ids dict _ _ = refl
+pub ty_kinds_declared : (row : _) (ids : _) (k l : _) →
+    (ty_kind_impl.ghosts row ids polarity_impl.dict).eq k l ≡ ty_kinds_by ids.eq k l
+ty_kinds_declared row ids (Projection d) (Projection e) = refl
+ty_kinds_declared row ids (Inherent d) (Inherent e) = refl
+ty_kinds_declared row ids (Opaque d) (Opaque e) = refl
+ty_kinds_declared row ids (Free d) (Free e) = refl
+ty_kinds_declared row ids _ _ = refl
 
 ty_kinds_same : {Id : Type 0} (ids : Id → Id → Bool) (a b : AliasTyKind Id) → IsTrue (ty_kinds_by ids a b) →
     (alias_kind a ≡ alias_kind b) × IsTrue (ids (alias_id a) (alias_id b))

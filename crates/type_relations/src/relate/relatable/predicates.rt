@@ -115,7 +115,7 @@ impl<I: Interner> Relate<I> for AliasTerm<I::Key, I::Id> {
 
     ghost fits_on = { λ m n e x y h k f. tt };
 
-    ghost same = { λ cx. alias_term_same (I.meaning cx) I.Key.eq I.Id.eq _ _ (kinds_declared _ _ _) (λ x y. refl)
+    ghost same = { λ cx. alias_term_same (I.meaning cx) I.Key.eq I.Id.eq _ _ (kinds_declared I.Id.row _) (λ x y. refl)
         (I.same_id cx) (I.same_args cx) };
 }
 
@@ -139,7 +139,7 @@ impl<I: Interner> Relate<I> for AliasTy<I::Key, I::Id> {
 
     ghost fits_on = { λ m n e x y h k f. tt };
 
-    ghost same = { λ cx. alias_ty_same (I.meaning cx) I.Key.eq I.Id.eq _ _ (ty_kinds_declared _ _ _) (λ x y. refl)
+    ghost same = { λ cx. alias_ty_same (I.meaning cx) I.Key.eq I.Id.eq _ _ (ty_kinds_declared I.Id.row _) (λ x y. refl)
         (I.same_id cx) (I.same_args cx) };
 }
 
