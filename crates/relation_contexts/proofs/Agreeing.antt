@@ -7,44 +7,59 @@ use Rattle.term_enums.specs.declared.Variance.{Variance}
 use Rattle.term_enums.specs.declared.Variance.TheVariants.{Bivariant}
 use Rattle.relation_terms.specs.Heads.{region_sort, BoundKind, bound_sort, VarKind, var_sort, head_sort, atom_sort}
 use Rattle.relation_terms.specs.Heads.{Head, adt}
-use Rattle.relation_terms.specs.Heads.{alias, alias_term, Leaf, leaf_sort, Atom, type_param, const_param, variable}
+use Rattle.relation_terms.specs.Heads.{alias, opaque_alias, alias_term, Leaf, leaf_sort, Atom, type_param, const_param, variable}
 use Rattle.relation_terms.specs.Heads.{bound, placeholder, atom, unknown, int_var, float_var}
 use Rattle.relation_terms.specs.Trees.{Tree, leaf, node, bind, nil, cons, tree_at, put, inst, count, nth}
-use Rattle.relation_contexts.specs.Relation.{Items, at, parts, part_at, plain, plain_atom, sort_of}
+use Rattle.relation_contexts.specs.Relation.{Items, at, parts, part_at, plain, plain_atom, sort_of, IsAlias}
 use Rattle.relation_contexts.specs.Stores.{Store, entry_term, MayStandFor, IsSound}
 use Rattle.relation_contexts.specs.Steps.{IsNumberFor}
 use Rattle.relation_contexts.specs.Bound.{IsBoundAs, AreBoundAs}
+use Rattle.relation_contexts.specs.Settings.{Settings}
 use Rattle.relation_contexts.specs.Errors.{outer_leaf, outer_head, outermost, AreAlike, IsStandIn, StandFor}
+use Rattle.relation_contexts.specs.Errors.{IsOpaque, IsOpaqueBeside, IsLeftToGoal}
 use Rattle.relation_contexts.specs.Errors.{IsReadAs, itself}
 use Rattle.relation_contexts.specs.Errors.{by_class, by_binding}
-use Rattle.relation_contexts.specs.Agreeing.{IsFlexible, AreFlexible, Agree}
+use Rattle.relation_contexts.specs.Agreeing.{IsFlexible, AreFlexible, IsLeftAside, Agree}
 use Rattle.relation_contexts.proofs.Related.{no_region_head}
 use Rattle.relation_contexts.proofs.Standing.{stands_term, term_sort_of}
 
-pub agree_anything : (c : Items) (v : Variance) (a b : Tree) → v ≡ Bivariant → Agree c (at v) a b
-agree_anything c v (node h xs) (node k ys) p = inl p
-agree_anything c v (bind ks a) (bind ls b) p = inl p
-agree_anything c v a b p = inl p
+pub agree_anything : (set : Settings) (c : Items) (v : Variance) (a b : Tree) → v ≡ Bivariant → Agree set c (at v) a b
+agree_anything set c v (node h xs) (node k ys) p = inl (inl p)
+agree_anything set c v (bind ks a) (bind ls b) p = inl p
+agree_anything set c v a b p = inl (inl p)
 
-pub agree_flexible : (c : Items) (v : Variance) (a b : Tree) → AreFlexible a b → Agree c (at v) a b
-agree_flexible c v (node h xs) (node k ys) (inl o, s) = absurd o
-agree_flexible c v (node h xs) (node k ys) (inr o, s) = absurd o
-agree_flexible c v (bind ks a) (bind ls b) (inl o, s) = absurd o
-agree_flexible c v (bind ks a) (bind ls b) (inr o, s) = absurd o
-agree_flexible c v a b o = inr (inl o)
+-- Two of one sort that are left to a goal agree.
+no_bound_goal : (set : Settings) (ks ls : List BoundKind) (a b : Tree) → IsLeftToGoal set (bind ks a) (bind ls b) → ⊥
+no_bound_goal set ks ls a b (inl (l, inl o)) = o
+no_bound_goal set ks ls a b (inl (l, inr o)) = o
+no_bound_goal set ks ls a b (inr (l, inl o)) = o
+no_bound_goal set ks ls a b (inr (l, inr o)) = o
+
+pub agree_left : (set : Settings) (c : Items) (v : Variance) (a b : Tree) → IsLeftToGoal set a b →
+    sort_of a ≡ sort_of b → Agree set c (at v) a b
+agree_left set c v (node h xs) (node k ys) l s = inl (inr (l, s))
+agree_left set c v (bind ks a) (bind ls b) l s = absurd (no_bound_goal set ks ls a b l)
+agree_left set c v a b l s = inl (inr (l, s))
+
+pub agree_flexible : (set : Settings) (c : Items) (v : Variance) (a b : Tree) → AreFlexible a b → Agree set c (at v) a b
+agree_flexible set c v (node h xs) (node k ys) (inl o, s) = absurd o
+agree_flexible set c v (node h xs) (node k ys) (inr o, s) = absurd o
+agree_flexible set c v (bind ks a) (bind ls b) (inl o, s) = absurd o
+agree_flexible set c v (bind ks a) (bind ls b) (inr o, s) = absurd o
+agree_flexible set c v a b o = inr (inl o)
 
 mutual
-  pub agree_itself : (c : Items) (v : Variance) (a : Tree) → Agree c (at v) a a
-  agree_itself c v (node h xs) = inr (refl, parts_themselves c h 0 v xs)
-  agree_itself c v (bind ks a) = inr (agree_itself c v a)
-  agree_itself c v a = inr (inr refl)
+  pub agree_itself : (set : Settings) (c : Items) (v : Variance) (a : Tree) → Agree set c (at v) a a
+  agree_itself set c v (node h xs) = inr (refl, parts_themselves set c h 0 v xs)
+  agree_itself set c v (bind ks a) = inr (agree_itself set c v a)
+  agree_itself set c v a = inr (inr refl)
 
-  pub parts_themselves : (c : Items) (h : Head) (i : ℕ) (v : Variance) (xs : Tree) → Agree c (parts h i v) xs xs
-  parts_themselves c h i v (cons x xs) = (agree_itself c (part_at c h i v) x, parts_themselves c h (suc i) v xs)
-  parts_themselves c h i v xs = refl
+  pub parts_themselves : (set : Settings) (c : Items) (h : Head) (i : ℕ) (v : Variance) (xs : Tree) → Agree set c (parts h i v) xs xs
+  parts_themselves set c h i v (cons x xs) = (agree_itself set c (part_at c h i v) x, parts_themselves set c h (suc i) v xs)
+  parts_themselves set c h i v xs = refl
 
-pub agree_same : (c : Items) (v : Variance) (a b : Tree) → a ≡ b → Agree c (at v) a b
-agree_same c v a b p = subst (λ z. Agree c (at v) a z) p (agree_itself c v a)
+pub agree_same : (set : Settings) (c : Items) (v : Variance) (a b : Tree) → a ≡ b → Agree set c (at v) a b
+agree_same set c v a b p = subst (λ z. Agree set c (at v) a z) p (agree_itself set c v a)
 
 -- What agrees is of one sort.
 plain_sort : (h : Head) → head_sort (plain h) ≡ head_sort h
@@ -78,25 +93,30 @@ outer_sort (cons t ts) = refl
 alike_sorts : (a b : Tree) → AreAlike a b → sort_of a ≡ sort_of b
 alike_sorts a b e = sym (outer_sort a) ∙ ap sort_of e ∙ outer_sort b
 
-sorts_by : (v : Variance) (a b : Tree) → (v ≡ Bivariant) ⊎ (AreFlexible a b ⊎ AreAlike a b) →
+aside_sorts : (set : Settings) (v : Variance) (a b : Tree) → IsLeftAside set v a b →
     (v ≡ Bivariant) ⊎ (sort_of a ≡ sort_of b)
-sorts_by v a b (inl p) = inl p
-sorts_by v a b (inr (inl o)) = inr o.1
-sorts_by v a b (inr (inr e)) = inr (alike_sorts a b e)
+aside_sorts set v a b (inl p) = inl p
+aside_sorts set v a b (inr (l, s)) = inr s
 
-pub agree_sorts : (c : Items) (v : Variance) (a b : Tree) → Agree c (at v) a b →
+sorts_by : (set : Settings) (v : Variance) (a b : Tree) → IsLeftAside set v a b ⊎ (AreFlexible a b ⊎ AreAlike a b) →
     (v ≡ Bivariant) ⊎ (sort_of a ≡ sort_of b)
-agree_sorts c v (node h xs) (node k ys) (inl p) = inl p
-agree_sorts c v (node h xs) (node k ys) (inr r) = inr (sym (plain_sort h) ∙ ap head_sort r.0 ∙ plain_sort k)
-agree_sorts c v (bind ks a) (bind ls b) (inl p) = inl p
-agree_sorts c v (bind ks a) (bind ls b) (inr r) = inr refl
-agree_sorts c v a b g = sorts_by v a b g
+sorts_by set v a b (inl p) = aside_sorts set v a b p
+sorts_by set v a b (inr (inl o)) = inr o.1
+sorts_by set v a b (inr (inr e)) = inr (alike_sorts a b e)
+
+pub agree_sorts : (set : Settings) (c : Items) (v : Variance) (a b : Tree) → Agree set c (at v) a b →
+    (v ≡ Bivariant) ⊎ (sort_of a ≡ sort_of b)
+agree_sorts set c v (node h xs) (node k ys) (inl p) = aside_sorts set v (node h xs) (node k ys) p
+agree_sorts set c v (node h xs) (node k ys) (inr r) = inr (sym (plain_sort h) ∙ ap head_sort r.0 ∙ plain_sort k)
+agree_sorts set c v (bind ks a) (bind ls b) (inl p) = inl p
+agree_sorts set c v (bind ks a) (bind ls b) (inr r) = inr refl
+agree_sorts set c v a b g = sorts_by set v a b g
 
 -- Where one of two is flexible they agree if both are of one sort.
-pub agree_if_sorts : (c : Items) (v : Variance) (a b : Tree) → (v ≡ Bivariant) ⊎ (sort_of a ≡ sort_of b) →
-    IsFlexible a ⊎ IsFlexible b → Agree c (at v) a b
-agree_if_sorts c v a b (inl p) o = agree_anything c v a b p
-agree_if_sorts c v a b (inr s) o = agree_flexible c v a b (o, s)
+pub agree_if_sorts : (set : Settings) (c : Items) (v : Variance) (a b : Tree) → (v ≡ Bivariant) ⊎ (sort_of a ≡ sort_of b) →
+    IsFlexible a ⊎ IsFlexible b → Agree set c (at v) a b
+agree_if_sorts set c v a b (inl p) o = agree_anything set c v a b p
+agree_if_sorts set c v a b (inr s) o = agree_flexible set c v a b (o, s)
 
 -- Regions do, and parameters of one index.
 pub region_flexible : (a : Tree) → sort_of a ≡ region_sort → IsFlexible a
@@ -110,37 +130,37 @@ region_flexible (bind ks t) p = absurd cc
 region_flexible nil p = absurd cc
 region_flexible (cons t ts) p = absurd cc
 
-pub agree_regions : (c : Items) (v : Variance) (a b : Tree) → sort_of a ≡ region_sort → sort_of b ≡ region_sort →
-    Agree c (at v) a b
-agree_regions c v a b p q = agree_flexible c v a b (inl (region_flexible a p), p ∙ sym q)
+pub agree_regions : (set : Settings) (c : Items) (v : Variance) (a b : Tree) → sort_of a ≡ region_sort → sort_of b ≡ region_sort →
+    Agree set c (at v) a b
+agree_regions set c v a b p q = agree_flexible set c v a b (inl (region_flexible a p), p ∙ sym q)
 
-pub agree_atoms : (c : Items) (v : Variance) (x y : Atom) → plain_atom x ≡ plain_atom y →
-    Agree c (at v) (leaf (atom x)) (leaf (atom y))
-agree_atoms c v x y p = inr (inr (ap (λ z. leaf (atom z)) p))
+pub agree_atoms : (set : Settings) (c : Items) (v : Variance) (x y : Atom) → plain_atom x ≡ plain_atom y →
+    Agree set c (at v) (leaf (atom x)) (leaf (atom y))
+agree_atoms set c v x y p = inr (inr (ap (λ z. leaf (atom z)) p))
 
 -- So do the parts of two forms, if as many at each place.
-pub agree_parts : (c : Items) (h : Head) (i : ℕ) (v : Variance) (xs ys : Tree) → count xs ≡ count ys →
-    ((j : ℕ) → j < count xs → Agree c (at (part_at c h (i + j) v)) (nth j xs) (nth j ys)) → Agree c (parts h i v) xs ys
-agree_parts c h i v (cons a xs) (cons b ys) e f = (
-  subst (λ j. Agree c (at (part_at c h j v)) a b) (omega arith) (f zero (omega arith)),
-  agree_parts c h (suc i) v xs ys (omega (arith, e)) (λ j l.
-      subst (λ k. Agree c (at (part_at c h k v)) (nth j xs) (nth j ys)) (omega arith) (f (suc j) (omega (arith, l)))),
+pub agree_parts : (set : Settings) (c : Items) (h : Head) (i : ℕ) (v : Variance) (xs ys : Tree) → count xs ≡ count ys →
+    ((j : ℕ) → j < count xs → Agree set c (at (part_at c h (i + j) v)) (nth j xs) (nth j ys)) → Agree set c (parts h i v) xs ys
+agree_parts set c h i v (cons a xs) (cons b ys) e f = (
+  subst (λ j. Agree set c (at (part_at c h j v)) a b) (omega arith) (f zero (omega arith)),
+  agree_parts set c h (suc i) v xs ys (omega (arith, e)) (λ j l.
+      subst (λ k. Agree set c (at (part_at c h k v)) (nth j xs) (nth j ys)) (omega arith) (f (suc j) (omega (arith, l)))),
 )
-agree_parts c h i v xs ys e f = e
+agree_parts set c h i v xs ys e f = e
 
 -- A variable agrees with what may stand for it, and with what that agrees with.
 pub stands_sort : (k : VarKind) (t : Tree) → MayStandFor k t → sort_of t ≡ var_sort k
 stands_sort k t h = term_sort_of k t (stands_term k t h)
 
-pub agree_root : (c : Items) (v : Variance) (k : VarKind) (n : ℕ) (a b : Tree) → a ≡ leaf (variable k n) →
-    sort_of b ≡ var_sort k → Agree c (at v) a b
-agree_root c v k n a b e s =
-    agree_flexible c v a b (inl (subst IsFlexible (sym e) tt), ap sort_of e ∙ sym s)
+pub agree_root : (set : Settings) (c : Items) (v : Variance) (k : VarKind) (n : ℕ) (a b : Tree) → a ≡ leaf (variable k n) →
+    sort_of b ≡ var_sort k → Agree set c (at v) a b
+agree_root set c v k n a b e s =
+    agree_flexible set c v a b (inl (subst IsFlexible (sym e) tt), ap sort_of e ∙ sym s)
 
-pub agree_root_back : (c : Items) (v : Variance) (k : VarKind) (n : ℕ) (a b : Tree) → b ≡ leaf (variable k n) →
-    sort_of a ≡ var_sort k → Agree c (at v) a b
-agree_root_back c v k n a b e s =
-    agree_flexible c v a b (inr (subst IsFlexible (sym e) tt), s ∙ sym (ap sort_of e))
+pub agree_root_back : (set : Settings) (c : Items) (v : Variance) (k : VarKind) (n : ℕ) (a b : Tree) → b ≡ leaf (variable k n) →
+    sort_of a ≡ var_sort k → Agree set c (at v) a b
+agree_root_back set c v k n a b e s =
+    agree_flexible set c v a b (inr (subst IsFlexible (sym e) tt), s ∙ sym (ap sort_of e))
 
 number_stands : (k : VarKind) (t : Tree) → IsNumberFor k t → MayStandFor k t
 number_stands int_var (leaf (atom x)) h = h
@@ -161,18 +181,18 @@ read_flexible st t u (itself e) = inl e
 read_flexible st t u (by_class k n m e c r) = inr (subst IsFlexible (sym e) tt)
 read_flexible st t u (by_binding k n e b r) = inr (subst IsFlexible (sym e) tt)
 
-pub agree_read : (c : Items) (st : Store) → IsSound st → (v : Variance) (a b u w : Tree) → IsReadAs st a u →
-    IsReadAs st b w → Agree c (at v) u w → Agree c (at v) a b
-agree_read c st g v a b u w p q h = go (read_flexible st a u p) (read_flexible st b w q)
+pub agree_read : (set : Settings) (c : Items) (st : Store) → IsSound st → (v : Variance) (a b u w : Tree) → IsReadAs st a u →
+    IsReadAs st b w → Agree set c (at v) u w → Agree set c (at v) a b
+agree_read set c st g v a b u w p q h = go (read_flexible st a u p) (read_flexible st b w q)
   where
     sorts : (v ≡ Bivariant) ⊎ (sort_of u ≡ sort_of w) → (v ≡ Bivariant) ⊎ (sort_of a ≡ sort_of b)
     sorts (inl e) = inl e
     sorts (inr s) = inr (sym (read_sort st g a u p) ∙ s ∙ read_sort st g b w q)
 
-    go : (a ≡ u) ⊎ IsFlexible a → (b ≡ w) ⊎ IsFlexible b → Agree c (at v) a b
-    go (inl x) (inl y) = subst₂ (Agree c (at v)) (sym x) (sym y) h
-    go (inr o) y = agree_if_sorts c v a b (sorts (agree_sorts c v u w h)) (inl o)
-    go (inl x) (inr o) = agree_if_sorts c v a b (sorts (agree_sorts c v u w h)) (inr o)
+    go : (a ≡ u) ⊎ IsFlexible a → (b ≡ w) ⊎ IsFlexible b → Agree set c (at v) a b
+    go (inl x) (inl y) = subst₂ (Agree set c (at v)) (sym x) (sym y) h
+    go (inr o) y = agree_if_sorts set c v a b (sorts (agree_sorts set c v u w h)) (inl o)
+    go (inl x) (inr o) = agree_if_sorts set c v a b (sorts (agree_sorts set c v u w h)) (inr o)
 
 -- What is put for a bound variable is a leaf of its sort.
 stand_in_leaf : (k : BoundKind) (t : Tree) → IsStandIn k t → (m : Leaf) × (t ≡ leaf m) × (leaf_sort m ≡ bound_sort k)
@@ -193,6 +213,10 @@ found_leaf (k ∷ ks) [] h i q e z = absurd h
 found_leaf (k ∷ ks) (x ∷ xs) h zero q e z =
     let p : k ≡ q = cc in stand_in_leaf q x (subst (λ j. IsStandIn j x) p h.0)
 found_leaf (k ∷ ks) (x ∷ xs) h (suc i) q e z = found_leaf ks xs h.1 i q e z
+
+is_opaque : (t u : Tree) → IsOpaqueBeside t u → IsOpaque t
+is_opaque t (leaf (variable k n)) o = absurd o
+is_opaque t u o = o
 
 -- Stand-ins for what a binder binds.
 module _ (ks : List BoundKind) (xs : List Tree) (h : StandFor ks xs) where
@@ -226,6 +250,34 @@ module _ (ks : List BoundKind) (xs : List Tree) (h : StandFor ks xs) where
   inst_count d nil b = refl
   inst_count d (cons t u) b = ap suc (inst_count d u b.1)
 
+  -- An alias, or an opaque type beside no variable, was one before the binder was opened.
+  alias_before : (d : ℕ) (t : Tree) → AreBoundAs ks d t → IsAlias (inst xs d t) → IsAlias t
+  alias_before d (leaf l) b o = absurd (subst IsAlias (put_leaf d l b).1 o)
+  alias_before d (node a t) b o = o
+  alias_before d (bind ls t) b o = o
+  alias_before d nil b o = o
+  alias_before d (cons t u) b o = o
+
+  opaque_before : (d : ℕ) (t : Tree) → AreBoundAs ks d t → IsOpaque (inst xs d t) → IsOpaque t
+  opaque_before d (leaf l) b o = absurd (subst IsOpaque (put_leaf d l b).1 o)
+  opaque_before d (node (alias opaque_alias a) t) b o = o
+  opaque_before d (node a t) b o = o
+  opaque_before d (bind ls t) b o = o
+  opaque_before d nil b o = o
+  opaque_before d (cons t u) b o = o
+
+  beside_before : (ys : List Tree) (d : ℕ) (t u : Tree) → AreBoundAs ks d t →
+      IsOpaqueBeside (inst xs d t) (inst ys d u) → IsOpaqueBeside t u
+  beside_before ys d t (leaf (variable k n)) b o = absurd o
+  beside_before ys d t (leaf (bound k e i)) b o = opaque_before d t b (is_opaque (inst xs d t) (inst ys d (leaf (bound k e i))) o)
+  beside_before ys d t (leaf (placeholder k u n)) b o = opaque_before d t b o
+  beside_before ys d t (leaf (atom x)) b o = opaque_before d t b o
+  beside_before ys d t (leaf unknown) b o = opaque_before d t b o
+  beside_before ys d t (node a u) b o = opaque_before d t b o
+  beside_before ys d t (bind ls u) b o = opaque_before d t b o
+  beside_before ys d t nil b o = opaque_before d t b o
+  beside_before ys d t (cons u us) b o = opaque_before d t b o
+
 -- What is flexible once a binder was opened was so before.
 inst_flexible : (xs : List Tree) (d : ℕ) (t : Tree) → IsFlexible (inst xs d t) → IsFlexible t
 inst_flexible xs d (leaf (variable k n)) o = tt
@@ -255,53 +307,69 @@ both_flexible a b A B f g (inl x) = inl (f x)
 both_flexible a b A B f g (inr y) = inr (g y)
 
 -- So for terms one of which is no form, or no binder.
-pub opened_leaves : (v : Variance) (xs ys : List Tree) (d : ℕ) (t u : Tree) → sort_of (inst xs d t) ≡ sort_of t →
-    sort_of (inst ys d u) ≡ sort_of u → (v ≡ Bivariant) ⊎ (AreFlexible (inst xs d t) (inst ys d u) ⊎
-    AreAlike (inst xs d t) (inst ys d u)) → (v ≡ Bivariant) ⊎ (AreFlexible t u ⊎ AreAlike t u)
-opened_leaves v xs ys d t u p q (inl e) = inl e
-opened_leaves v xs ys d t u p q (inr (inl o)) = inr (inl (
+pub opened_leaves : (set : Settings) (v : Variance) (xs ys : List Tree) (d : ℕ) (t u : Tree) →
+    sort_of (inst xs d t) ≡ sort_of t → sort_of (inst ys d u) ≡ sort_of u →
+    (IsLeftAside set v (inst xs d t) (inst ys d u) → IsLeftAside set v t u) →
+    IsLeftAside set v (inst xs d t) (inst ys d u) ⊎ (AreFlexible (inst xs d t) (inst ys d u) ⊎
+    AreAlike (inst xs d t) (inst ys d u)) → IsLeftAside set v t u ⊎ (AreFlexible t u ⊎ AreAlike t u)
+opened_leaves set v xs ys d t u p q f (inl e) = inl (f e)
+opened_leaves set v xs ys d t u p q f (inr (inl o)) = inr (inl (
   both_flexible t u (IsFlexible (inst xs d t)) (IsFlexible (inst ys d u)) (inst_flexible xs d t)
       (inst_flexible ys d u) o.0,
   sym p ∙ o.1 ∙ q,
 ))
-opened_leaves v xs ys d t u p q (inr (inr e)) = go (inst_outer xs d t) (inst_outer ys d u)
+opened_leaves set v xs ys d t u p q f (inr (inr e)) = go (inst_outer xs d t) (inst_outer ys d u)
   where
     sorts : sort_of t ≡ sort_of u
     sorts = sym p ∙ alike_sorts (inst xs d t) (inst ys d u) e ∙ q
 
     go : IsFlexible t ⊎ (outermost (inst xs d t) ≡ outermost t) →
-        IsFlexible u ⊎ (outermost (inst ys d u) ≡ outermost u) → (v ≡ Bivariant) ⊎ (AreFlexible t u ⊎ AreAlike t u)
+        IsFlexible u ⊎ (outermost (inst ys d u) ≡ outermost u) →
+        IsLeftAside set v t u ⊎ (AreFlexible t u ⊎ AreAlike t u)
     go (inl o) k = inr (inl (inl o, sorts))
     go (inr x) (inl o) = inr (inl (inr o, sorts))
     go (inr x) (inr y) = inr (inr (sym x ∙ e ∙ y))
 
-agree_count : (c : Items) (h : Head) (i : ℕ) (v : Variance) (xs ys : Tree) → Agree c (parts h i v) xs ys →
+agree_count : (set : Settings) (c : Items) (h : Head) (i : ℕ) (v : Variance) (xs ys : Tree) → Agree set c (parts h i v) xs ys →
     count xs ≡ count ys
-agree_count c h i v (cons a xs) (cons b ys) g = ap suc (agree_count c h (suc i) v xs ys g.1)
-agree_count c h i v xs ys g = g
+agree_count set c h i v (cons a xs) (cons b ys) g = ap suc (agree_count set c h (suc i) v xs ys g.1)
+agree_count set c h i v xs ys g = g
 
 -- Bodies that agree once they are opened agreed before.
-module _ (c : Items) (ks ls : List BoundKind) (xs ys : List Tree) (h : StandFor ks xs) (k : StandFor ls ys) where
+module _ (set : Settings) (c : Items) (ks ls : List BoundKind) (xs ys : List Tree) (h : StandFor ks xs) (k : StandFor ls ys) where
   -- Where one is what a binder binds, by the sorts alone.
   by_sorts : (v : Variance) (d : ℕ) (t u : Tree) → AreBoundAs ks d t → AreBoundAs ls d u → IsFlexible t ⊎ IsFlexible u →
-      Agree c (at v) (inst xs d t) (inst ys d u) → Agree c (at v) t u
-  by_sorts v d t u p q o g = agree_if_sorts c v t u (sorts (agree_sorts c v (inst xs d t) (inst ys d u) g)) o
+      Agree set c (at v) (inst xs d t) (inst ys d u) → Agree set c (at v) t u
+  by_sorts v d t u p q o g = agree_if_sorts set c v t u (sorts (agree_sorts set c v (inst xs d t) (inst ys d u) g)) o
     where
       sorts : (v ≡ Bivariant) ⊎ (sort_of (inst xs d t) ≡ sort_of (inst ys d u)) →
           (v ≡ Bivariant) ⊎ (sort_of t ≡ sort_of u)
       sorts (inl e) = inl e
       sorts (inr s) = inr (sym (inst_sort ks xs h d t p) ∙ s ∙ inst_sort ls ys k d u q)
 
+  aside_before : (v : Variance) (d : ℕ) (t u : Tree) → AreBoundAs ks d t → AreBoundAs ls d u →
+      IsLeftAside set v (inst xs d t) (inst ys d u) → IsLeftAside set v t u
+  aside_before v d t u p q (inl e) = inl e
+  aside_before v d t u p q (inr (l, s)) =
+      inr (go l, sym (inst_sort ks xs h d t p) ∙ s ∙ inst_sort ls ys k d u q)
+    where
+      go : IsLeftToGoal set (inst xs d t) (inst ys d u) → IsLeftToGoal set t u
+      go (inl (w, inl o)) = inl (w, inl (alias_before ks xs h d t p o))
+      go (inl (w, inr o)) = inl (w, inr (alias_before ls ys k d u q o))
+      go (inr (w, inl o)) = inr (w, inl (beside_before ks xs h ys d t u p o))
+      go (inr (w, inr o)) = inr (w, inr (beside_before ls ys k xs d u t q o))
+
   as_leaves : (v : Variance) (d : ℕ) (t u : Tree) → AreBoundAs ks d t → AreBoundAs ls d u →
-      (v ≡ Bivariant) ⊎ (AreFlexible (inst xs d t) (inst ys d u) ⊎ AreAlike (inst xs d t) (inst ys d u)) →
-      (v ≡ Bivariant) ⊎ (AreFlexible t u ⊎ AreAlike t u)
-  as_leaves v d t u p q g =
-      opened_leaves v xs ys d t u (inst_sort ks xs h d t p) (inst_sort ls ys k d u q) g
+      IsLeftAside set v (inst xs d t) (inst ys d u) ⊎
+      (AreFlexible (inst xs d t) (inst ys d u) ⊎ AreAlike (inst xs d t) (inst ys d u)) →
+      IsLeftAside set v t u ⊎ (AreFlexible t u ⊎ AreAlike t u)
+  as_leaves v d t u p q g = opened_leaves set v xs ys d t u (inst_sort ks xs h d t p) (inst_sort ls ys k d u q)
+      (aside_before v d t u p q) g
 
   mutual
     pub agree_opened : (v : Variance) (d : ℕ) (t u : Tree) → AreBoundAs ks d t → AreBoundAs ls d u →
-        Agree c (at v) (inst xs d t) (inst ys d u) → Agree c (at v) t u
-    agree_opened v d (node a ts) (node b us) p q (inl e) = inl e
+        Agree set c (at v) (inst xs d t) (inst ys d u) → Agree set c (at v) t u
+    agree_opened v d (node a ts) (node b us) p q (inl e) = inl (aside_before v d (node a ts) (node b us) p q e)
     agree_opened v d (node a ts) (node b us) p q (inr r) = inr (r.0, parts_opened a 0 v d ts us p q r.1)
     agree_opened v d (bind is t) (bind js u) p q (inl e) = inl e
     agree_opened v d (bind is t) (bind js u) p q (inr r) = inr (agree_opened v (suc d) t u p q r)
@@ -334,8 +402,8 @@ module _ (c : Items) (ks ls : List BoundKind) (xs ys : List Tree) (h : StandFor 
     agree_opened v d (bind is t) (cons u us) p q g = as_leaves v d (bind is t) (cons u us) p q g
 
     parts_opened : (a : Head) (i : ℕ) (v : Variance) (d : ℕ) (ts us : Tree) → AreBoundAs ks d ts → AreBoundAs ls d us →
-        Agree c (parts a i v) (inst xs d ts) (inst ys d us) → Agree c (parts a i v) ts us
+        Agree set c (parts a i v) (inst xs d ts) (inst ys d us) → Agree set c (parts a i v) ts us
     parts_opened a i v d (cons t ts) (cons u us) p q g =
         (agree_opened (part_at c a i v) d t u p.0 q.0 g.0, parts_opened a (suc i) v d ts us p.1 q.1 g.1)
     parts_opened a i v d ts us p q g = sym (inst_count ks xs h d ts p)
-        ∙ agree_count c a i v (inst xs d ts) (inst ys d us) g ∙ inst_count ls ys k d us q
+        ∙ agree_count set c a i v (inst xs d ts) (inst ys d us) g ∙ inst_count ls ys k d us q

@@ -1,24 +1,26 @@
 -- Binding a variable to what a term comes to, generalised for it: the assignments that are left, and that the store stays
 -- sound.
-use Rattle.std.proofs.Common.{◌≡◌, ◌≢◌, ◌⊎◌, ℕ, suc, ◌≤◌, refl, sym, ap, ap₂, ◌∙◌, arith, inl, inr, subst, subst₂, [], Some, length, le_of_eq}
+use Rattle.std.proofs.Common.{◌≡◌, ◌≢◌, ◌⊎◌, ℕ, suc, ◌≤◌, refl, sym, ap, ap₂, ◌∙◌, arith, inl, inr, subst, subst₂, ◌<◌, [], Contains, Some, length, le_of_eq}
 use native.Mathlib.Decide.{dec_le}
 use Rattle.term_enums.specs.declared.Variance.{Variance}
 use Rattle.term_enums.specs.declared.Variance.TheVariants.{Invariant}
-use Rattle.relation_terms.specs.Heads.{region_sort, type_sort, const_sort, term_of, one, region_kind, bound_kind, VarKind, type_var, int_var, float_var, const_var, region_var, static_region, early_region, value_type, Head, Leaf, variable, bound, placeholder, atom, unknown}
+use Rattle.relation_terms.specs.Heads.{region_sort, type_sort, const_sort, term_of, one, region_kind, bound_kind, VarKind, type_var, int_var, float_var, const_var, region_var, static_region, early_region, value_type, Head, Leaf, variable, bound, placeholder, atom, unknown, type_kind, const_kind, BoundKind, bound_sort, alias, var_sort}
 use Rattle.relation_terms.specs.Trees.{Tree, leaf, node, bind, nil, cons, Assign, assigned, apply, Leaves, Occurs, IsTerm, IsList, size}
 use Rattle.relation_terms.specs.Erasure.{erase}
 use Rattle.relation_contexts.specs.Relation.{Items, Interpretation, IsValueLeaf, StaysWithin, sort_of}
 use Rattle.relation_contexts.specs.Stores.{Store, entry_term, bound_to, bound_term, universe_of, IsMade, IsFree, IsMadeLeaf, InContext, IsInScope, IsNamable, IsAssignment, MayStandFor, IsTermIn, IsSound, Satisfies, resolved, weight}
-use Rattle.relation_contexts.specs.FirstOrder.{IsFirstOrder, IsFirstOrderStore, IsClosedLeaf, IsTypeClosed, Unifies, IsErasedSolution}
+use Rattle.relation_contexts.specs.FirstOrder.{IsFirstOrder, IsFirstOrderHead, IsFirstOrderStore, IsClosedLeaf, IsTypeClosed, Unifies, IsErasedSolution}
 use Rattle.relation_contexts.specs.StoreLaws.{GeneralisingInstantiates}
-use Rattle.relation_contexts.specs.Steps.{IsLater, AgreeOn, AgreeErased, Extends, ExtendsErased, IsGeneralised, kept, replaced, in_form, in_binder, in_list, IsNamedBy, Instantiates}
+use Rattle.relation_contexts.specs.Steps.{IsLater, AgreeOn, AgreeErased, Extends, ExtendsErased, IsGeneralised, kept, replaced, in_form, in_binder, in_list, IsNamedBy, Instantiates, IsNoAlias, LacksAliases}
 use Rattle.relation_contexts.specs.ErasureLaws.{IsTypeOrConst}
-use Rattle.relation_contexts.specs.Measures.{Goes}
-use Rattle.relation_contexts.specs.Generalising.{gives_way_to, any_part, variance_for, InstantiatesBy, NumbersNameNothing}
-use Rattle.relation_contexts.proofs.Trees.{Leaves_map, Leaves_map₂, Leaves-replace, apply-apply, apply_alike}
+use Rattle.relation_contexts.specs.Measures.{Goes, grown}
+use Rattle.relation_contexts.specs.declared.relate.StructurallyRelateAliases.{StructurallyRelateAliases}
+use Rattle.relation_contexts.specs.Generalising.{Stage, Stays, gives_way_to, Side, outside, Turn, any_part, variance_for, Generalised, met_before, met_first, no_type, stays, gives_way, alias_gives_way, by_parts, in_binder as in_bound, no_parts, next_part, InstantiatesBy, NumbersNameNothing, IsNoObstacle, Obstacle, StopsAt, at_itself, at_placeholder, in_parts, in_body, in_first, in_others}
+use Rattle.relation_contexts.proofs.GeneralisingOnce.{stops_no_clear, met_as}
+use Rattle.relation_contexts.proofs.Trees.{Leaves_map, Leaves_map₂, apply-apply}
 use Rattle.relation_contexts.proofs.Only.{which, absent as absent_stays}
 use Rattle.relation_contexts.proofs.Values.{in_context}
-use Rattle.relation_contexts.proofs.Resolved.{resolved_value, resolved_free, over_free, settled_term}
+use Rattle.relation_contexts.proofs.Resolved.{resolved_value, resolved_free, over_free, settled_term, cycles_do_not_unify}
 use Rattle.relation_contexts.proofs.Standing.{later_term, namable_mono, scope_namable, term_in, term_within, term_context}
 use Rattle.relation_contexts.proofs.Written.{made_after, others_bound, now_bound, resolved_later}
 use Rattle.relation_contexts.proofs.Equating.{bound_sound, bound_later, bound_keeps, bound_goes}
@@ -27,8 +29,10 @@ use Rattle.relation_contexts.proofs.Going.{later_through, goes_then, goes_within
 use Rattle.relation_contexts.proofs.StoreCalls.{resolved_in, resolved_unifies}
 use Rattle.relation_contexts.proofs.Instantiating.{stands_resolved, resolved_first_order}
 use Rattle.relation_contexts.proofs.NewVariables.{Adds, adds, adds_goes, IsValueFor, satisfies_after, assigns_after, erased_after, erased_agrees}
-use Rattle.relation_contexts.proofs.Leafwise.{StandsIn, each_stands, one_of_all, replaced_leaves, absent_of_leaves, KeepsSort, within_back, fits_back, size_back, tamed, tamed_fits, tamed_values, tamed_named, tamed_within, tamed_erased, erased_named}
-use Rattle.relation_contexts.proofs.Generalising.{gives_sort, LeadsBack, IsBoundLeaf, IsSourceLeaf, Came, came_from_start}
+use Rattle.relation_contexts.proofs.Erased.{leaf_path}
+use Rattle.relation_contexts.proofs.GeneralisingOnce.{first_or_later}
+use Rattle.relation_contexts.proofs.Leafwise.{IsOne, StandsIn, each_stands, one_of_all, replaced_leaves, absent_of_leaves, KeepsSort, within_back, fits_back, size_back, tamed, tamed_fits, tamed_values, tamed_named, tamed_within, tamed_erased, erased_named}
+use Rattle.relation_contexts.proofs.Generalising.{gives_sort, LeadsBack, IsBoundLeaf, IsSourceLeaf, ReplacedLeaf, Replaced, replaced_leaf, replaced_alias, Came, came_from_start}
 
 -- A value of a leaf that gives way is one for the new variable.
 given_value : (st : Store) (s : Assign) → IsAssignment st s → (l : Leaf) (j : VarKind) → gives_way_to l ≡ Some j → IsMadeLeaf st l → MayStandFor j (assigned s l) × Leaves IsValueLeaf (assigned s l) × StaysWithin 0 (assigned s l)
@@ -76,12 +80,100 @@ tamed_stands u l float_var t e h = absurd (no_float l e)
     no_float (atom (early_region a x)) e = cc
     no_float l e = cc
 
+-- A term without aliases that was generalised has no obstacle, nor have the types that were met.
+stays_clear : (st : Store) (k : VarKind) (n : ℕ) (v : Variance) (l : Leaf) → l ≢ variable k n → Stays st (universe_of st k n) v l → IsNoObstacle st k n l
+stays_clear st k n v (variable j m) o s = o
+stays_clear st k n v (bound q d i) o s = tt
+stays_clear st k n v (placeholder (bound_kind region_kind x) w i) o s = tt
+stays_clear st k n v (placeholder (bound_kind type_kind x) w i) o s = s
+stays_clear st k n v (placeholder (bound_kind const_kind x) w i) o s = s
+stays_clear st k n v (atom x) o s = tt
+stays_clear st k n v unknown o s = tt
+
+gives_clear : (st : Store) (k : VarKind) (n : ℕ) (l : Leaf) (j : VarKind) → l ≢ variable k n → gives_way_to l ≡ Some j → IsNoObstacle st k n l
+gives_clear st k n (variable i m) j o e = o
+gives_clear st k n (bound q d i) j o e = tt
+gives_clear st k n (placeholder (bound_kind region_kind x) w i) j o e = tt
+gives_clear st k n (placeholder (bound_kind type_kind x) w i) j o e = absurd cc
+gives_clear st k n (placeholder (bound_kind const_kind x) w i) j o e = absurd cc
+gives_clear st k n (atom x) j o e = tt
+gives_clear st k n unknown j o e = tt
+
+abbrev MetClear : Store → VarKind → ℕ → Stage → Type 0
+MetClear st k n r = (s : Side) (v : Variance) (t x : Tree) → Contains r.met (record { side = s; variance = v; type = t; term = x }) → LacksAliases t → Leaves (IsNoObstacle st k n) t
+
+clear_lacking : {al : StructurallyRelateAliases} {c : Items} {start : Store} {k : VarKind} {n : ℕ} {turn : Turn} {r q : Stage} {t x : Tree} → Generalised al c start k n turn r t q x → MetClear start k n r →
+    (LacksAliases t → Leaves (IsNoObstacle start k n) t) × MetClear start k n q
+clear_lacking (met_before {e = e} {v = v} {t = t} {x = x} s d) m = (m e v t x d, m)
+clear_lacking {start = start} {k = k} {n = n} (met_first {e = e} {v = v} {r = r} {q = q} {p = p} {t = t} {x = x} s new f i d) m = let z = clear_lacking f m in (z.0, λ a w u y h l. go z a w u y l (first_or_later _ _ q.met (subst (λ es. Contains es (met_as a w u y)) d h)))
+  where
+    go : (LacksAliases t → Leaves (IsNoObstacle start k n) t) × MetClear start k n q → (a : Side) (w : Variance) (u y : Tree) → LacksAliases u → (met_as e v t x ≡ met_as a w u y) ⊎ Contains q.met (met_as a w u y) → Leaves (IsNoObstacle start k n) u
+    go z a w u y l (inl b) = let i : t ≡ u = ap (λ g. g.type) b in subst (Leaves (IsNoObstacle start k n)) i (z.0 (subst LacksAliases (sym i) l))
+    go z a w u y l (inr b) = z.1 a w u y b l
+clear_lacking (no_type s f) m = clear_lacking f m
+clear_lacking {start = start} {k = k} {n = n} (stays {v = v} {l = l} o s) m = (λ h. stays_clear start k n v l o s, m)
+clear_lacking {start = start} {k = k} {n = n} (gives_way {l = l} {j = j} o s e f d) m = (λ h. gives_clear start k n l j o e, λ a w u y h. m a w u y (subst (λ es. Contains es (met_as a w u y)) d h))
+clear_lacking (alias_gives_way p s f d) m = (λ h. absurd h.0, λ a w u y h. m a w u y (subst (λ es. Contains es (met_as a w u y)) d h))
+clear_lacking (by_parts z f) m = let y = clear_lacking f m in (λ h. y.0 h.1, y.1)
+clear_lacking (in_bound f) m = clear_lacking f m
+clear_lacking no_parts m = (λ h. tt, m)
+clear_lacking (next_part f s) m = let y = clear_lacking f m in let z = clear_lacking s y.1 in (λ h. (y.0 h.0, z.0 h.1), z.1)
+
+-- What is bound is not the variable itself.
+not_itself : {al : StructurallyRelateAliases} {c : Items} {start : Store} {k : VarKind} {n : ℕ} {turn : Turn} {r q : Stage} {t x : Tree} → Generalised al c start k n turn r t q x → ((s : Side) (v : Variance) (u y : Tree) → Contains r.met (record { side = s; variance = v; type = u; term = y }) → ⊥) → t ≢ leaf (variable k n)
+not_itself (met_before {e = e} {v = v} {t = t} {x = x} s d) new p = new e v t x d
+not_itself (met_first s n f e d) new p = not_itself f new p
+not_itself (no_type s f) new p = not_itself f new p
+not_itself (stays o s) new p = o (leaf_path p)
+not_itself (gives_way o s e f d) new p = o (leaf_path p)
+not_itself (alias_gives_way z s f d) new p = cc
+not_itself (by_parts z f) new p = cc
+not_itself (in_bound f) new p = cc
+not_itself no_parts new p = cc
+not_itself (next_part f s) new p = cc
+
+-- An obstacle is a leaf of a term.
+record ObstacleLeaf (st : Store) (k : VarKind) (n : ℕ) (t : Tree) : Type 0 where
+  leaf_of : Leaf
+  stands : StandsIn leaf_of t
+  is : (leaf_of ≡ variable k n) ⊎ ((q : BoundKind) × (w : ℕ) × (i : ℕ) × (leaf_of ≡ placeholder q w i) × (bound_sort q ≢ region_sort) × (universe_of st k n < w))
+
+obstacle_leaf : {al : StructurallyRelateAliases} {st : Store} {k : VarKind} {n : ℕ} {o : Obstacle} {t : Tree} → StopsAt al st k n o t → ObstacleLeaf st k n t
+unfolding StandsIn
+obstacle_leaf (at_itself {l = l} p q) = record { leaf_of = l; stands = refl; is = inl q }
+obstacle_leaf (at_placeholder {q = q} {w = w} {i = i} p o l) = record { leaf_of = placeholder q w i; stands = refl; is = inr (q, w, i, refl, o, l) }
+obstacle_leaf (in_parts p f) = let z = obstacle_leaf f in record { leaf_of = z.leaf_of; stands = z.stands; is = z.is }
+obstacle_leaf (in_body f) = let z = obstacle_leaf f in record { leaf_of = z.leaf_of; stands = z.stands; is = z.is }
+obstacle_leaf (in_first f) = let z = obstacle_leaf f in record { leaf_of = z.leaf_of; stands = inl z.stands; is = z.is }
+obstacle_leaf (in_others c f) = let z = obstacle_leaf f in record { leaf_of = z.leaf_of; stands = inr z.stands; is = z.is }
+
+stands_occurs : (k : VarKind) (n : ℕ) (t : Tree) → StandsIn (variable k n) t → Occurs k n t
+unfolding StandsIn
+stands_occurs k n (leaf l) s = ap leaf s
+stands_occurs k n (node h t) s = stands_occurs k n t s
+stands_occurs k n (bind ks t) s = stands_occurs k n t s
+stands_occurs k n nil s = s
+stands_occurs k n (cons t u) (inl s) = inl (stands_occurs k n t s)
+stands_occurs k n (cons t u) (inr s) = inr (stands_occurs k n u s)
+
+-- First-order terms have no alias.
+no_alias_head : (h : Head) → IsFirstOrderHead h → IsNoAlias h
+no_alias_head (alias a d) f = absurd f
+no_alias_head h f = tt
+
+pub first_order_lacks : (t : Tree) → IsFirstOrder t → LacksAliases t
+first_order_lacks (leaf l) f = tt
+first_order_lacks (node h ts) f = (no_alias_head h f.0, first_order_lacks ts f.3)
+first_order_lacks (bind ks t) f = absurd f
+first_order_lacks nil f = tt
+first_order_lacks (cons t ts) f = (first_order_lacks t f.0, first_order_lacks ts f.1)
+
 -- One of two trees.
 either_of : {A : Type 0} → Dec A → Tree → Tree → Tree
 either_of (yes h) x y = x
 either_of (no o) x y = y
 
-module _ (c : Items) (before after : Store) (v : Variance) (k : VarKind) (n : ℕ) (source term : Tree) (kind : IsTypeOrConst k) (f : InstantiatesBy c before after v k n source term)
+module _ (al : StructurallyRelateAliases) (c : Items) (before after : Store) (v : Variance) (k : VarKind) (n : ℕ) (source term : Tree) (kind : IsTypeOrConst k) (f : InstantiatesBy al c before after v k n source term)
     (numbers : NumbersNameNothing before) (g : IsSound before) (is_in : IsTermIn before source) (stands : MayStandFor k source) where
   abbrev full : Tree
   full = apply (resolved before) source
@@ -106,8 +198,8 @@ module _ (c : Items) (before after : Store) (v : Variance) (k : VarKind) (n : �
   source_leaves = Leaves_map₂ _ Q (IsSourceLeaf Q before) (λ l h q. record { made = h.0; free = h.1; holds = q }) full
       (Leaves_map₂ (IsMadeLeaf before) (IsFree before) (λ l. IsMadeLeaf before l × IsFree before l) (λ l m h. (m, h)) full full_made (settled_term before g source)) (each_stands full)
 
-  here : Came Q before k n (λ j m. leaf (variable j m)) (record { store = before; met = [] }) f.last (any_part (variance_for k v)) full term
-  here = came_from_start c before g numbers k n f.made Q (variance_for k v) f.last full term f.generalised source_leaves
+  here : Came Q before k n (λ j m. leaf (variable j m)) (record { store = before; met = [] }) f.last (any_part outside (variance_for k v)) full term
+  here = came_from_start al c before g numbers k n f.made Q outside (variance_for k v) f.last full term f.generalised source_leaves
 
   abbrev back : Assign
   back = here.further
@@ -137,13 +229,18 @@ module _ (c : Items) (before after : Store) (v : Variance) (k : VarKind) (n : �
   bound_in = term_in middle term (in_context middle u term scope) (within_back back 0 term (subst (StaysWithin 0) (sym value) (term_within before full full_in)))
       (Leaves_map (IsInScope middle u) (IsNamable middle.universe) (λ l h. namable_mono u middle.universe (let low = g.below_current k n in let e = a.universe in omega (arith, low, e)) l (scope_namable middle u l h)) term scope)
 
+  -- What a new variable took the place of is one term of its sort.
+  replaced_sort : (j : VarKind) (m : ℕ) → Replaced Q before k n j (back j m) → IsOne (back j m) × (sort_of (back j m) ≡ var_sort j)
+  replaced_sort j m (replaced_leaf r) = (subst IsOne (sym r.is) tt, ap sort_of r.is ∙ gives_sort r.was j r.gives)
+  replaced_sort j m (replaced_alias r) = (subst IsOne (sym r.is) tt, ap sort_of r.is ∙ sym (ap var_sort r.kind))
+
   -- The way back keeps sorts.
   sorted : (l : Leaf) → IsInScope middle u l → KeepsSort back l
   sorted (variable j m) h = go (dec_le (suc m) (length (before.entries j)))
     where
       go : Dec (suc m ≤ length (before.entries j)) → KeepsSort back (variable j m)
-      go (yes p) = (variable j m, leads.old j m p, refl)
-      go (no o) = let r = leads.new j m h.0 o in (r.was, r.is, gives_sort r.was j r.gives)
+      go (yes p) = (subst IsOne (sym (leads.old j m p)) tt, ap sort_of (leads.old j m p))
+      go (no o) = replaced_sort j m (leads.new j m h.0 o)
   sorted (bound q d i) h = tt
   sorted (placeholder q w i) h = tt
   sorted (atom x) h = tt
@@ -175,7 +272,7 @@ module _ (c : Items) (before after : Store) (v : Variance) (k : VarKind) (n : �
     where
       go : Dec (suc m ≤ length (before.entries j)) → IsGeneralised before after (back j m) (leaf (variable j m))
       go (yes p) = kept (leads.old j m p)
-      go (no o) = let r = leads.new j m h.0 o in replaced j m refl o (made_after middle after k n (bound_to term) term (f.binds).writes refl j m h.0) (ap sort_of r.is ∙ gives_sort r.was j r.gives)
+      go (no o) = replaced j m refl o (made_after middle after k n (bound_to term) term (f.binds).writes refl j m h.0) (replaced_sort j m (leads.new j m h.0 o)).1
   generalises (leaf (bound q d i)) h = kept refl
   generalises (leaf (placeholder q w i)) h = kept refl
   generalises (leaf (atom x)) h = kept refl
@@ -199,8 +296,23 @@ module _ (c : Items) (before after : Store) (v : Variance) (k : VarKind) (n : �
     names : Leaves (λ l. Leaves (IsNamable u) (assigned s l)) full
     names = replaced_leaves (IsNamable u) (assigned s) full (subst (Leaves (IsNamable u)) target_value (sat.assigns k n f.made).3)
 
+    -- No obstacle stands in the source: else it would have another value than the variable.
+    no_obstacle : (t : Tree) → ObstacleLeaf before k n t → Leaves Q t → ⊥
+    no_obstacle t z h = go z.is
+      where
+        there : StandsIn z.leaf_of full
+        there = one_of_all Q z.leaf_of t h z.stands
+
+        go : (z.leaf_of ≡ variable k n) ⊎ ((q : BoundKind) × (w : ℕ) × (i : ℕ) × (z.leaf_of ≡ placeholder q w i) × (bound_sort q ≢ region_sort) × (u < w)) → ⊥
+        go (inl p) = cycles_do_not_unify before k n source (stands_occurs k n full (subst (λ l. StandsIn l full) p there)) (not_itself f.generalised (λ s v t x c. omega (arith, c.1))) s sat.bindings e
+        go (inr (q, w, i, p, o, l)) = let d : IsNamable u (placeholder q w i) = subst (λ y. Leaves (IsNamable u) (assigned s y)) p (one_of_all (λ y. Leaves (IsNamable u) (assigned s y)) z.leaf_of full names there) in omega (arith, l, d)
+
+    leaf_of_all : (j : VarKind) (y : Tree) → Replaced Q before k n j y → ReplacedLeaf Q k n j y
+    leaf_of_all j y (replaced_leaf r) = r
+    leaf_of_all j y (replaced_alias r) = absurd (no_obstacle r.parts (obstacle_leaf r.stops) r.hold)
+
     new_value : (j : VarKind) (m : ℕ) → IsMade middle j m → (IsMade before j m → ⊥) → IsValueFor j u (extended j m)
-    new_value j m p o = let r = leads.new j m p o in
+    new_value j m p o = let r = leaf_of_all j (back j m) (leads.new j m p o) in
         let b = given_value before s sat.assigns r.was j r.gives (one_of_all (IsMadeLeaf before) r.was full full_made r.holds) in
         subst (λ t. IsValueFor j u (apply s t)) (sym r.is) (b.0, b.1, b.2, one_of_all (λ l. Leaves (IsNamable u) (assigned s l)) r.was full names r.holds)
 
@@ -216,7 +328,14 @@ module _ (c : Items) (before after : Store) (v : Variance) (k : VarKind) (n : �
     )
 
   -- Up to erasure it takes that without what the universe can't name.
-  module _ (s : Assign) (sol : IsErasedSolution before s) (e : Unifies s (leaf (variable k n)) source) where
+  module _ (lacks : LacksAliases full) (s : Assign) (sol : IsErasedSolution before s) (e : Unifies s (leaf (variable k n)) source) where
+    clear : Leaves (IsNoObstacle before k n) full
+    clear = (clear_lacking f.generalised (λ a w t x d. absurd (omega (arith, d.1)))).0 lacks
+
+    leaf_alone : (j : VarKind) (y : Tree) → Replaced Q before k n j y → ReplacedLeaf Q k n j y
+    leaf_alone j y (replaced_leaf r) = r
+    leaf_alone j y (replaced_alias r) = absurd (stops_no_clear r.stops (Leaves_map Q (IsNoObstacle before k n) (λ l h. one_of_all (IsNoObstacle before k n) l full clear h) r.parts r.hold))
+
     reduced : Assign
     reduced j m = either_of {A = IsMade before j m} (dec_le (suc m) (length (before.entries j))) (s j m) (tamed u (apply s (back j m)))
 
@@ -243,7 +362,7 @@ module _ (c : Items) (before after : Store) (v : Variance) (k : VarKind) (n : �
     still_erased j m p = ap erase (still j m p)
 
     new_reduced : (j : VarKind) (m : ℕ) → IsMade middle j m → (IsMade before j m → ⊥) → IsValueFor j u (reduced j m)
-    new_reduced j m p o = let r = leads.new j m p o in
+    new_reduced j m p o = let r = leaf_alone j (back j m) (leads.new j m p o) in
         let b = given_value before s sol.0 r.was j r.gives (one_of_all (IsMadeLeaf before) r.was full full_made r.holds) in
         subst (IsValueFor j u) (sym (reduced_new j m o ∙ ap (λ t. tamed u (apply s t)) r.is))
         (tamed_stands u r.was j (assigned s r.was) r.gives b.0, tamed_values u (assigned s r.was) b.1, tamed_within u 0 (assigned s r.was) b.2, tamed_named u (assigned s r.was) b.1)
@@ -281,8 +400,8 @@ module _ (c : Items) (before after : Store) (v : Variance) (k : VarKind) (n : �
     keeps_erased = erased_through before middle s reduced (IsErasedSolution after) a.later still_erased
         ((entry_is_exact middle after k n (bound_to term) term (f.binds).writes refl later_still (f.binds).same_universes).keeps reduced solves unified)
 
-  alone : v ≡ Invariant → Leaves (IsNamedBy before u) full → erase term ≡ erase full
-  alone p h = (here.became).alike (go k kind) h
+  alone : v ≡ Invariant → LacksAliases full → Leaves (IsNamedBy before u) full → erase term ≡ erase full
+  alone p l h = (here.became).alike (go k kind) l h
     where
       go : (j : VarKind) → IsTypeOrConst j → variance_for j v ≡ Invariant
       go type_var i = p
@@ -306,67 +425,64 @@ module _ (c : Items) (before after : Store) (v : Variance) (k : VarKind) (n : �
     stays_sound = λ h. sound;
     keeps = keeps;
     keeps_erased = keeps_erased;
-    regions_alone = λ p x y h. alone p h;
+    regions_alone = λ p x y h. alone p (first_order_lacks full (resolved_first_order before g y source x)) h;
   }
 
   -- It costs one of the budget, and sizes are at most squared.
-  same_size : weight middle term ≡ weight before source
+  no_larger : weight middle term ≤ weight before source
   unfolding weight
-  same_size = ap size own ∙ sym (size_back back term keeps_sorts) ∙ ap size value
+  no_larger = let a = ap size own in let b = size_back back term keeps_sorts in let d = ap size value in omega (arith, a, b, d)
 
   pub generalised_goes : Goes (weight before source) before after
   generalised_goes = let first : Goes (weight before source) before middle = goes_within (omega arith) (adds_goes a) in goes_then first
-      (bound_goes middle after k n term f.binds a.sound not_region term_stands bound_in absent in_scope kind (weight before source) (le_of_eq same_size)) (le_grown first.spent (weight before source))
+      (bound_goes middle after k n term f.binds a.sound not_region term_stands bound_in absent in_scope kind (weight before source) no_larger) (le_grown first.spent (weight before source))
 
-  -- The variable does not stand in the source, and so nothing grows by the binding.
-  leaf_other : (l : Leaf) → IsInScope middle u l → l ≢ variable k n → Leaves (λ y. y ≢ variable k n) (assigned back l)
-  leaf_other (variable j m) h o = go (dec_le (suc m) (length (before.entries j)))
-    where
-      go : Dec (suc m ≤ length (before.entries j)) → Leaves (λ y. y ≢ variable k n) (back j m)
-      go (yes p) = subst (Leaves (λ y. y ≢ variable k n)) (sym (leads.old j m p)) o
-      go (no q) = let r = leads.new j m h.0 q in subst (Leaves (λ y. y ≢ variable k n)) (sym r.is) r.other
-  leaf_other (bound q d i) h o = o
-  leaf_other (placeholder q w i) h o = o
-  leaf_other (atom x) h o = o
-  leaf_other unknown h o = o
-
-  full_other : Occurs k n full → ⊥
-  full_other = absent_of_leaves k n full (subst (Leaves (λ y. y ≢ variable k n)) value (Leaves-replace (λ y. y ≢ variable k n) (assigned back) term
-      (Leaves_map (IsBoundLeaf before k n middle) _ (λ l h. leaf_other l h.in_scope h.other) term (here.became).leaves)))
-
+  -- Where the variable does not stand in a term, nothing grows by the binding.
   weight_by_binding : (t : Tree) → (Occurs k n (apply (resolved middle) t) → ⊥) → weight after t ≡ weight middle t
   unfolding weight
   weight_by_binding t o = ap size (resolved_later middle after k n (bound_to term) term (f.binds).writes refl a.sound absent t
       ∙ absent_stays k n (apply (resolved middle) term) (apply (resolved middle) t) o)
 
-  source_same : apply (resolved middle) source ≡ full
-  source_same = sym (apply_alike (resolved before) (resolved middle) source a.resolves)
+  pub generalised_weights : (weight after term ≤ weight before source) × (weight after source ≤ grown 1 (weight before source))
+  generalised_weights = (let a = weight_by_binding term absent in let b = no_larger in omega (arith, a, b), weight_one)
+    where
+      one_spent : (generalised_goes).spent ≡ 1
+      one_spent = let g = generalised_goes in let e = g.counts in let d = sym a.budget ∙ (f.binds).one_spent in omega (arith, e, d)
 
-  pub generalised_weights : (weight after term ≡ weight before source) × (weight after source ≡ weight before source)
-  generalised_weights = (weight_by_binding term absent ∙ same_size, weight_by_binding source (λ o. full_other (subst (Occurs k n) source_same o)) ∙ sym (a.weights source))
+      weight_one : weight after source ≤ grown 1 (weight before source)
+      weight_one = subst (λ z. weight after source ≤ grown z (weight before source)) one_spent (generalised_goes.grows (weight before source) source (omega arith) (omega arith))
 
   -- A first-order term becomes one.
-  closed_back : (t : Tree) → Leaves (IsInScope middle u) t → Leaves IsClosedLeaf (apply back t) → Leaves IsClosedLeaf t
-  closed_back (leaf (variable j m)) h d = go (dec_le (suc m) (length (before.entries j)))
+  closed_back : (t : Tree) → Leaves (IsInScope middle u) t → LacksAliases (apply back t) → Leaves IsClosedLeaf (apply back t) → Leaves IsClosedLeaf t
+  closed_back (leaf (variable j m)) h z d = go (dec_le (suc m) (length (before.entries j)))
     where
       go : Dec (suc m ≤ length (before.entries j)) → IsClosedLeaf (variable j m)
       go (yes p) = subst (Leaves IsClosedLeaf) (leads.old j m p) d
-      go (no o) = let r = leads.new j m h.0 o in given_closed r.was j m r.gives (subst (Leaves IsClosedLeaf) r.is d)
-  closed_back (leaf (bound q e i)) h d = d
-  closed_back (leaf (placeholder q w i)) h d = d
-  closed_back (leaf (atom x)) h d = d
-  closed_back (leaf unknown) h d = d
-  closed_back (node b t) h d = closed_back t h d
-  closed_back (bind ks t) h d = closed_back t h d
-  closed_back nil h d = tt
-  closed_back (cons t x) h d = (closed_back t h.0 d.0, closed_back x h.1 d.1)
+      go (no o) = by (leads.new j m h.0 o)
+        where
+          by : Replaced Q before k n j (back j m) → IsClosedLeaf (variable j m)
+          by (replaced_leaf r) = given_closed r.was j m r.gives (subst (Leaves IsClosedLeaf) r.is d)
+          by (replaced_alias r) = absurd (subst LacksAliases r.is z).0
+  closed_back (leaf (bound q e i)) h z d = d
+  closed_back (leaf (placeholder q w i)) h z d = d
+  closed_back (leaf (atom x)) h z d = d
+  closed_back (leaf unknown) h z d = d
+  closed_back (node b t) h z d = closed_back t h z.1 d
+  closed_back (bind ks t) h z d = closed_back t h z d
+  closed_back nil h z d = tt
+  closed_back (cons t x) h z d = (closed_back t h.0 z.0 d.0, closed_back x h.1 z.1 d.1)
 
-  type_closed : (b : Head) (t : Tree) → Leaves (IsInScope middle u) t → IsTypeClosed b (apply back t) → IsTypeClosed b t
-  type_closed value_type t h d = closed_back t h d
-  type_closed b t h d = tt
+  type_closed : (b : Head) (t : Tree) → Leaves (IsInScope middle u) t → LacksAliases (apply back t) → IsTypeClosed b (apply back t) → IsTypeClosed b t
+  type_closed value_type t h z d = closed_back t h z d
+  type_closed b t h z d = tt
+
+  one_no_items : (y : Tree) → IsOne y → IsList y → ⊥
+  one_no_items (leaf l) o h = h
+  one_no_items (node b t) o h = h
+  one_no_items t o h = o
 
   list_back : (t : Tree) → Leaves (KeepsSort back) t → IsList (apply back t) → IsList t
-  list_back (leaf (variable j m)) h d = absurd (subst IsList (h.1) d)
+  list_back (leaf (variable j m)) h d = absurd (one_no_items (back j m) h.0 d)
   list_back (leaf (bound q e i)) h d = d
   list_back (leaf (placeholder q w i)) h d = d
   list_back (leaf (atom x)) h d = d
@@ -382,7 +498,7 @@ module _ (c : Items) (before after : Store) (v : Variance) (k : VarKind) (n : �
   first_order_back (leaf (placeholder q w i)) h d = d
   first_order_back (leaf (atom x)) h d = d
   first_order_back (leaf unknown) h d = d
-  first_order_back (node b t) h d = (d.0, list_back t (Leaves_map (IsInScope middle u) (KeepsSort back) sorted t h) d.1, type_closed b t h d.2, first_order_back t h d.3)
+  first_order_back (node b t) h d = (d.0, list_back t (Leaves_map (IsInScope middle u) (KeepsSort back) sorted t h) d.1, type_closed b t h (first_order_lacks (apply back t) d.3) d.2, first_order_back t h d.3)
   first_order_back (bind ks t) h d = absurd d
   first_order_back nil h d = tt
   first_order_back (cons t x) h d = (first_order_back t h.0 d.0, first_order_back x h.1 d.1)
@@ -401,4 +517,4 @@ module _ (c : Items) (before after : Store) (v : Variance) (k : VarKind) (n : �
           go (inr o) = h j m t (a.terms j m ∙ sym (ap (entry_term j) (others_bound middle after k n term (f.binds).writes j m o)) ∙ e)
 
 pub generalising_instantiates : GeneralisingInstantiates
-generalising_instantiates c before after v k n source term kind f numbers g is_in stands = (generalised_instantiates c before after v k n source term kind f numbers g is_in stands, generalised_goes c before after v k n source term kind f numbers g is_in stands)
+generalising_instantiates al c before after v k n source term kind f numbers g is_in stands = (generalised_instantiates al c before after v k n source term kind f numbers g is_in stands, generalised_goes al c before after v k n source term kind f numbers g is_in stands)

@@ -14,9 +14,9 @@ use Rattle.relation_contexts.specs.Errors.{IsReadAs, itself, by_class, by_bindin
 use Rattle.relation_contexts.specs.Generalising.{MakesUnbound, makes_none, makes_one}
 use Rattle.relation_contexts.specs.Parts.{parts_of, branches_of, const_parts_of}
 use Rattle.relation_contexts.specs.Steps.{HasNoBinder, BindsNoBinder, WritesEntry, StandsBeside, as_it_was, led_on}
-use Rattle.relation_contexts.specs.Steps.{Equates, InstantiatesNumber, Instantiates, ChangesNothing}
+use Rattle.relation_contexts.specs.Steps.{Equates, InstantiatesNumber, Instantiates, ChangesNothing, Taints}
 use Rattle.relation_contexts.specs.Steps.{IsGeneralised, kept, replaced, in_form, in_binder, in_list}
-use Rattle.relation_contexts.specs.Kits.{Kit, IsBuiltOf, BindsBuiltOf, IsGoalOf, Builds, StaysBuilt, BuiltFrom}
+use Rattle.relation_contexts.specs.Kits.{Kit, IsBuiltOf, BindsBuiltOf, IsGoalOf, HasNoError, Builds, StaysBuilt, BuiltFrom}
 use Rattle.relation_contexts.proofs.Only.{which}
 use Rattle.relation_contexts.proofs.Growing.{same_entries}
 
@@ -202,19 +202,36 @@ binds_written k {before} {after} {v} {n} {x} w built all j m t e = go (which j v
 
 -- Nothing was bound and registered, and no universe made.
 pub builds_none : (k : Kit) (before after : Store) → BindsBuiltOf k after → after.universe ≡ before.universe →
-    Builds k before after []
-builds_none k before after all same = record { binds = all; asks = All-nil (IsGoalOf k); universe = λ o. same }
+    after.tainted ≡ before.tainted → Builds k before after []
+builds_none k before after all same taint = record {
+  binds = all;
+  asks = All-nil (IsGoalOf k);
+  universe = λ o. same;
+  taint = λ n h. sym taint ∙ h;
+}
 
 -- Nothing was bound, and a universe may have been made, where the kit has binders.
-pub builds_opened : (k : Kit) (before after : Store) → IsTrue k.binders → BindsBuiltOf k after → Builds k before after []
-builds_opened k before after has all = record {
+pub builds_opened : (k : Kit) (before after : Store) → IsTrue k.binders → BindsBuiltOf k after →
+    after.tainted ≡ before.tainted → Builds k before after []
+builds_opened k before after has all taint = record {
   binds = all;
   asks = All-nil (IsGoalOf k);
   universe = λ o. absurd (false≢true (sym o ∙ has));
+  taint = λ n h. sym taint ∙ h;
+}
+
+-- An error was met, and nothing else done.
+pub builds_tainted : (k : Kit) {before after : Store} → Taints before after → (HasNoError k → ⊥) →
+    BindsBuiltOf k before → Builds k before after []
+builds_tainted k {before} {after} t has all = record {
+  binds = binds_still k before after (λ j n. ap (λ es. get_or es n unbound) ((t.nothing_else).same_entries j)) all;
+  asks = All-nil (IsGoalOf k);
+  universe = λ o. t.same_universe;
+  taint = λ n h. absurd (has n);
 }
 
 pub built_itself : (st : Store) (a b : Tree) → StaysBuilt st st [] a b
-built_itself st a b = λ k ha hb all. builds_none k st st all refl
+built_itself st a b = λ k ha hb all. builds_none k st st all refl refl
 
 pub built_same : {before after : Store} (a b : Tree) → after ≡ before → StaysBuilt before after [] a b
 built_same {before} a b e = subst (λ st. StaysBuilt before st [] a b) (sym e) (built_itself before a b)
@@ -222,7 +239,7 @@ built_same {before} a b e = subst (λ st. StaysBuilt before st [] a b) (sym e) (
 -- A goal was registered, and nothing else was done.
 pub builds_asking : (k : Kit) (st : Store) (goals : List Goal) → All (IsGoalOf k) goals → BindsBuiltOf k st →
     Builds k st st goals
-builds_asking k st goals asks all = record { binds = all; asks = asks; universe = λ o. refl }
+builds_asking k st goals asks all = record { binds = all; asks = asks; universe = λ o. refl; taint = λ n h. h }
 
 -- So where no binder stands in two terms and what was bound, no universe was made.
 pub no_universe_made : {before after : Store} (gs : List Goal) (a b : Tree) → StaysBuilt before after gs a b →
@@ -238,13 +255,15 @@ builds_noting k {r} {q} gs hs same f asks = subst (λ st. Builds k r st (gs ++ h
   binds = f.binds;
   asks = All-append (IsGoalOf k) gs hs f.asks asks;
   universe = f.universe;
+  taint = f.taint;
 })
 
 -- Where goals are let go the rest stands.
 pub built_refused : {before after : Store} (gs : List Goal) (a b : Tree) → StaysBuilt before after gs a b →
     StaysBuilt before after [] a b
 built_refused gs a b f = λ k ha hb all.
-    let z = f k ha hb all in record { binds = z.binds; asks = All-nil (IsGoalOf k); universe = z.universe }
+    let z = f k ha hb all in
+    record { binds = z.binds; asks = All-nil (IsGoalOf k); universe = z.universe; taint = z.taint }
 
 -- One part of the work after another.
 pub builds_then : (k : Kit) {r q p : Store} (gs hs : List Goal) → Builds k r q gs → Builds k q p hs →
@@ -253,6 +272,7 @@ builds_then k gs hs f g = record {
   binds = g.binds;
   asks = All-append (IsGoalOf k) gs hs f.asks g.asks;
   universe = λ o. g.universe o ∙ f.universe o;
+  taint = λ n h. f.taint n (g.taint n h);
 }
 
 -- Of two pairs the second was led to by the first.
@@ -269,10 +289,10 @@ built_then gs hs a b f g = built_led gs hs a b a b f (λ k ha hb all. (ha, hb)) 
 
 -- One constraint was recorded.
 pub built_constraint : (before after : Store) (a b : Tree) → ((j : VarKind) → after.entries j ≡ before.entries j) →
-    after.universe ≡ before.universe → StaysBuilt before after [] a b
-built_constraint before after a b same universe = λ k ha hb all.
+    after.universe ≡ before.universe → after.tainted ≡ before.tainted → StaysBuilt before after [] a b
+built_constraint before after a b same universe taint = λ k ha hb all.
     builds_none k before after
-    (binds_still k before after (λ j n. ap (λ es. get_or es n unbound) (same j)) all) universe
+    (binds_still k before after (λ j n. ap (λ es. get_or es n unbound) (same j)) all) universe taint
 
 -- Variables were made, of which nothing is recorded.
 unbound_entries : {u : ℕ} {before after : Store} → MakesUnbound u before after → (j : VarKind) (n : ℕ) →
@@ -285,17 +305,23 @@ unbound_universe : {u : ℕ} {before after : Store} → MakesUnbound u before af
 unbound_universe makes_none = refl
 unbound_universe (makes_one f o q) = q.same_universe ∙ unbound_universe f
 
+unbound_taint : {u : ℕ} {before after : Store} → MakesUnbound u before after → after.tainted ≡ before.tainted
+unbound_taint makes_none = refl
+unbound_taint (makes_one f o q) = q.same_taint ∙ unbound_taint f
+
 pub built_unbound : {u : ℕ} {before after : Store} (a b : Tree) → MakesUnbound u before after →
     StaysBuilt before after [] a b
 built_unbound {before = before} {after = after} a b f = λ k ha hb all.
     builds_none k before after (binds_still k before after (unbound_entries f) all) (unbound_universe f)
+    (unbound_taint f)
 
 -- Binders were opened.
 pub built_opened : {middle : Store} {u : ℕ} (before after : Store) (a b : Tree) → ChangesNothing before middle →
-    MakesUnbound u middle after → ((k : Kit) → IsBuiltOf k a → IsTrue k.binders) → StaysBuilt before after [] a b
-built_opened {middle} before after a b h f has = λ k ha hb all.
+    middle.tainted ≡ before.tainted → MakesUnbound u middle after → ((k : Kit) → IsBuiltOf k a → IsTrue k.binders) →
+    StaysBuilt before after [] a b
+built_opened {middle} before after a b h taint f has = λ k ha hb all.
     builds_opened k before after (has k ha) (binds_still k before after
-    (λ j n. unbound_entries f j n ∙ ap (λ es. get_or es n unbound) (h.same_entries j)) all)
+    (λ j n. unbound_entries f j n ∙ ap (λ es. get_or es n unbound) (h.same_entries j)) all) (unbound_taint f ∙ taint)
 
 -- A variable was bound to what a term comes to, generalised.
 module _ {x : Variance} {before after : Store} {v : VarKind} {n : ℕ} {source term : Tree}
@@ -304,7 +330,7 @@ module _ {x : Variance} {before after : Store} {v : VarKind} {n : ℕ} {source t
   term_built k all h = generalised_built k f.generalised (resolved_built k before all source h)
 
   pub builds_instantiated : (k : Kit) → BindsBuiltOf k before → IsBuiltOf k source → Builds k before after []
-  builds_instantiated k all h = builds_none k before after binds f.same_universe
+  builds_instantiated k all h = builds_none k before after binds f.same_universe f.same_taint
     where
       binds : BindsBuiltOf k after
       binds j m t e = go (which j v m n)
@@ -322,12 +348,13 @@ pub built_equated : {before after : Store} {v : VarKind} {child root : ℕ} (a b
     Equates before after v child root → StaysBuilt before after [] a b
 built_equated {before} {after} a b q = λ k ha hb all.
     builds_none k before after (binds_written k q.links (λ t e. absurd cc) all) (q.links).same_universe
+    (q.links).same_taint
 
 -- A number variable was bound to a type of its kind.
 pub builds_number : (k : Kit) {before after : Store} {v : VarKind} {n : ℕ} (t : Tree) →
     InstantiatesNumber before after v n t → IsBuiltOf k t → BindsBuiltOf k before → Builds k before after []
 builds_number k {before} {after} t q h all =
-    builds_none k before after (binds_written k q.writes same all) (q.writes).same_universe
+    builds_none k before after (binds_written k q.writes same all) (q.writes).same_universe (q.writes).same_taint
   where
     same : (u : Tree) → bound_to t ≡ bound_to u → IsBuiltOf k u
     same u e = let i : t ≡ u = cc in subst (IsBuiltOf k) i h

@@ -8,11 +8,11 @@ use Rattle.relation_folds.specs.declared.error.TypeError.{TypeError}
 use Rattle.relation_contexts.specs.Stores.{Store}
 use Rattle.relation_terms.specs.Trees.{Tree, leaf, node, bind, nil, cons, count, nth}
 use Rattle.relation_contexts.specs.Covered.{IsCovered}
-use Rattle.relation_contexts.specs.Relation.{Items, IsError}
+use Rattle.relation_contexts.specs.Relation.{Items, IsError, IsAlias}
 use Rattle.relation_contexts.specs.Settings.{Settings}
 use Rattle.relation_contexts.specs.Errors.{Meeting, as_pair, as_forms, ErrorByForms, ErrorAs, by_forms}
-use Rattle.relation_contexts.specs.Errors.{AreOfOneForm, over_parts, one_leaf, parameters}
-use Rattle.relation_contexts.specs.Errors.{IsUnnormalized, IsOpaque, IsOpaqueBeside, IsLeftToGoal}
+use Rattle.relation_contexts.specs.Errors.{AreOfOneForm, over_parts, over_aliases, one_leaf, parameters}
+use Rattle.relation_contexts.specs.Errors.{IsOpaque, IsOpaqueBeside, IsLeftToGoal}
 use Rattle.relation_contexts.specs.Parts.{IsByParts, parts_of, branches_of, const_parts_of}
 
 -- The parts of what is covered are.
@@ -45,39 +45,32 @@ pub covered_const_part : (t : Tree) (i : ℕ) → i < count (const_parts_of t) �
     IsCovered (nth i (const_parts_of t))
 covered_const_part t i l c = covered_nth (const_parts_of t) i l (covered_const_parts t c)
 
--- It is no error.
-pub covered_no_error : (t : Tree) → IsCovered t → IsError t → ⊥
-covered_no_error (leaf (atom type_error)) c e = c
-covered_no_error (leaf (atom const_error)) c e = c
-covered_no_error (leaf (atom x)) c e = e
-covered_no_error t c e = e
-
 -- What is neither an alias nor an unevaluated constant is left to no goal.
-opaque_unnormalized : (t : Tree) → IsOpaque t → IsUnnormalized t
-opaque_unnormalized (node (alias opaque_alias d) ts) h = tt
-opaque_unnormalized t h = absurd h
+opaque_alias_type : (t : Tree) → IsOpaque t → IsAlias t
+opaque_alias_type (node (alias opaque_alias d) ts) h = tt
+opaque_alias_type t h = absurd h
 
-beside_unnormalized : (t u : Tree) → IsOpaqueBeside t u → IsUnnormalized t
-beside_unnormalized t (leaf (variable k n)) h = absurd h
-beside_unnormalized t u h = opaque_unnormalized t h
+beside_alias : (t u : Tree) → IsOpaqueBeside t u → IsAlias t
+beside_alias t (leaf (variable k n)) h = absurd h
+beside_alias t u h = opaque_alias_type t h
 
-head_normal : (h : Head) (ts us : Tree) → IsUnnormalized (node h ts) → IsUnnormalized (node h us)
+head_normal : (h : Head) (ts us : Tree) → IsAlias (node h ts) → IsAlias (node h us)
 head_normal (alias k d) ts us u = tt
 head_normal (unevaluated d) ts us u = tt
 head_normal h ts us u = absurd u
 
-pub normal_not_left : (k : Settings) (a b : Tree) → (IsUnnormalized a → ⊥) → (IsUnnormalized b → ⊥) →
+pub normal_not_left : (k : Settings) (a b : Tree) → (IsAlias a → ⊥) → (IsAlias b → ⊥) →
     IsLeftToGoal k a b → ⊥
 normal_not_left k a b f g (inl h) = either h.1
   where
-    either : IsUnnormalized a ⊎ IsUnnormalized b → ⊥
+    either : IsAlias a ⊎ IsAlias b → ⊥
     either (inl o) = f o
     either (inr o) = g o
 normal_not_left k a b f g (inr h) = either h.1
   where
     either : IsOpaqueBeside a b ⊎ IsOpaqueBeside b a → ⊥
-    either (inl o) = f (beside_unnormalized a b o)
-    either (inr o) = g (beside_unnormalized b a o)
+    either (inl o) = f (beside_alias a b o)
+    either (inr o) = g (beside_alias b a o)
 
 -- So what is said of two as forms is said of them as they are brought together.
 pub said_as : {Key Id Name : Type 0} {m : Meaning Key Id Name} {k : Settings} {c : Items} {st : Store} {v : Variance}
@@ -87,27 +80,19 @@ said_as as_pair n h = by_forms n h
 said_as as_forms n h = h
 
 -- Nor is what is related as parts of terms.
-pub by_parts_normal : (t : Tree) → IsByParts t → IsUnnormalized t → ⊥
+pub by_parts_normal : (t : Tree) → IsByParts t → IsAlias t → ⊥
 by_parts_normal (node (alias k d) ts) p u = p
 by_parts_normal (node (unevaluated d) ts) p u = p
 by_parts_normal t p u = u
 
-pub one_form_normal : (a b : Tree) → AreOfOneForm a b → (IsUnnormalized a → ⊥) → IsUnnormalized b → ⊥
-one_form_normal a b (over_parts {h} {ts} {us} d e n) f u = f (subst IsUnnormalized (sym d) (head_normal h us ts (subst IsUnnormalized e u)))
-one_form_normal a b (one_leaf d e) f u = subst IsUnnormalized e u
-one_form_normal a b (parameters d e n) f u = subst IsUnnormalized e u
+pub one_form_normal : (a b : Tree) → AreOfOneForm a b → (IsAlias a → ⊥) → IsAlias b → ⊥
+one_form_normal a b (over_parts {h} {ts} {us} d e n) f u = f (subst IsAlias (sym d) (head_normal h us ts (subst IsAlias e u)))
+one_form_normal a b (over_aliases d e n) f u = f (subst IsAlias (sym d) tt)
+one_form_normal a b (one_leaf d e) f u = subst IsAlias e u
+one_form_normal a b (parameters d e n) f u = subst IsAlias e u
 
 pub parts_not_left : (k : Settings) (a b : Tree) → IsByParts a → IsByParts b → IsLeftToGoal k a b → ⊥
 parts_not_left k a b p q = normal_not_left k a b (by_parts_normal a p) (by_parts_normal b q)
 
 pub form_not_left : (k : Settings) (a b : Tree) → IsByParts a → AreOfOneForm a b → IsLeftToGoal k a b → ⊥
 form_not_left k a b p o = normal_not_left k a b (by_parts_normal a p) (one_form_normal a b o (by_parts_normal a p))
-
--- Nor is what relating has rules for.
-pub covered_normal : (t : Tree) → IsCovered t → IsUnnormalized t → ⊥
-covered_normal (node (alias k d) ts) c u = c.0
-covered_normal (node (unevaluated d) ts) c u = c.0
-covered_normal t c u = u
-
-pub covered_not_left : (k : Settings) (a b : Tree) → IsCovered a → IsCovered b → IsLeftToGoal k a b → ⊥
-covered_not_left k a b c d = normal_not_left k a b (covered_normal a c) (covered_normal b d)

@@ -123,9 +123,9 @@ exact_front_ends before after xs ys lx ly n f = record {
 
 -- Instantiating is an exact step.
 pub instantiating_is_exact_step : InstantiatingIsExactStep
-instantiating_is_exact_step u before after k n source term inc ins f = (
-  record { later = f.later; shrinks = λ s sol q. (earlier s sol, value s sol ∙ q); keeps = λ s sol q. go s q (f.keeps_erased s sol q) },
-  record { later = f.later; shrinks = λ s sol q. (earlier s sol, q ∙ sym (value s sol)); keeps = λ s sol q. turned s (go s (sym q) (f.keeps_erased s sol (sym q))) },
+instantiating_is_exact_step u before after k n source term inc ins lacks f = (
+  record { later = f.later; shrinks = λ s sol q. (earlier s sol, value s sol ∙ q); keeps = λ s sol q. go s q (f.keeps_erased lacks s sol q) },
+  record { later = f.later; shrinks = λ s sol q. (earlier s sol, q ∙ sym (value s sol)); keeps = λ s sol q. turned s (go s (sym q) (f.keeps_erased lacks s sol (sym q))) },
 )
   where
     value : (s : Assign) → IsErasedSolution after s → Unifies s (leaf (variable k n)) term

@@ -4,13 +4,15 @@ use Rattle.std.proofs.Common.{◌≡◌, ◌≢◌, ◌⊎◌, ℕ, suc, ◌≤�
 use Rattle.std.proofs.lemmas.List.Elements.{All-nil, All-cons}
 use Rattle.term_enums.specs.declared.Variance.{Variance}
 use Rattle.term_enums.specs.declared.Variance.TheVariants.{Invariant}
-use Rattle.relation_terms.specs.Heads.{leaf_sort, region_kind, type_kind, const_kind, bound_kind, VarKind, type_var, int_var, float_var, const_var, region_var, var_sort, static_region, early_region, Head, Leaf, variable, bound, placeholder, atom, unknown}
+use Rattle.relation_terms.specs.Heads.{leaf_sort, region_kind, type_kind, const_kind, bound_kind, VarKind, type_var, int_var, float_var, const_var, region_var, var_sort, static_region, early_region, Head, Leaf, variable, bound, placeholder, atom, unknown, AliasKind, alias}
 use Rattle.relation_terms.specs.Trees.{Tree, leaf, node, bind, cons, Assign, apply, Leaves}
 use Rattle.relation_terms.specs.Erasure.{erase}
 use Rattle.relation_contexts.specs.Relation.{Items, part_at}
 use Rattle.relation_contexts.specs.Stores.{Store, entry_term, universe_of, IsMade, IsFree, IsMadeLeaf, IsInScope, IsSound}
-use Rattle.relation_contexts.specs.Steps.{MakesVariable, IsNumberKind, AgreeOn, IsNamedBy}
-use Rattle.relation_contexts.specs.Generalising.{Stays, gives_way_to, Stage, Turn, any_part, new_part, parts_from, Generalised, met_before, met_first, no_type, stays, gives_way, by_parts, in_binder, no_parts, next_part, MakesUnbound, makes_none, makes_one, NumbersNameNothing}
+use Rattle.relation_contexts.specs.Steps.{MakesVariable, IsNumberKind, AgreeOn, IsNamedBy, LacksAliases}
+use Rattle.relation_contexts.specs.declared.relate.StructurallyRelateAliases.{StructurallyRelateAliases}
+use Rattle.relation_contexts.specs.declared.relate.StructurallyRelateAliases.TheVariants.{Yes}
+use Rattle.relation_contexts.specs.Generalising.{Stays, gives_way_to, Stage, Side, outside, side_in, Turn, any_part, new_part, parts_from, Generalised, met_before, met_first, no_type, stays, gives_way, alias_gives_way, by_parts, in_binder, no_parts, next_part, Obstacle, StopsAt, MakesUnbound, makes_none, makes_one, NumbersNameNothing}
 use Rattle.relation_contexts.proofs.Trees.{Leaves_map}
 use Rattle.relation_contexts.proofs.Values.{same_value, in_context}
 use Rattle.relation_contexts.proofs.Erased.{PartsErased, parts_done, parts_next, parts_form}
@@ -46,17 +48,32 @@ gives_no_number (atom (early_region i x)) j e h = no_number_sort j (Some region_
 gives_no_number l j e h = absurd cc
 
 -- The leaf that a new variable took the place of.
-pub record Replaced (Q : Leaf → Type 0) (k : VarKind) (n : ℕ) (j : VarKind) (y : Tree) : Type 0 where
+pub record ReplacedLeaf (Q : Leaf → Type 0) (k : VarKind) (n : ℕ) (j : VarKind) (y : Tree) : Type 0 where
   pub was : Leaf
   pub other : was ≢ variable k n
   pub is : y ≡ leaf was
   pub gives : gives_way_to was ≡ Some j
   pub holds : Q was
 
+-- Or the alias, in which an obstacle stands.
+pub record ReplacedAlias (Q : Leaf → Type 0) (start : Store) (k : VarKind) (n : ℕ) (j : VarKind) (y : Tree) : Type 0 where
+  pub kind : j ≡ type_var
+  pub alias_kind : AliasKind
+  pub id : ℕ
+  pub parts : Tree
+  pub is : y ≡ node (alias alias_kind id) parts
+  pub obstacle : Obstacle
+  pub stops : StopsAt Yes start k n obstacle parts
+  pub hold : Leaves Q parts
+
+pub data Replaced (Q : Leaf → Type 0) (start : Store) (k : VarKind) (n : ℕ) (j : VarKind) (y : Tree) : Type 0 where
+  replaced_leaf : ReplacedLeaf Q k n j y → Replaced Q start k n j y
+  replaced_alias : ReplacedAlias Q start k n j y → Replaced Q start k n j y
+
 -- A way back from the new variables to these leaves.
 pub record LeadsBack (Q : Leaf → Type 0) (start : Store) (k : VarKind) (n : ℕ) (back : Assign) (st : Store) : Type 0 where
   pub old : (j : VarKind) (m : ℕ) → IsMade start j m → back j m ≡ leaf (variable j m)
-  pub new : (j : VarKind) (m : ℕ) → IsMade st j m → (IsMade start j m → ⊥) → Replaced Q k n j (back j m)
+  pub new : (j : VarKind) (m : ℕ) → IsMade st j m → (IsMade start j m → ⊥) → Replaced Q start k n j (back j m)
 
 -- What may stand in a term that the variable is bound to.
 pub record IsBoundLeaf (start : Store) (k : VarKind) (n : ℕ) (st : Store) (l : Leaf) : Type 0 where
@@ -64,11 +81,11 @@ pub record IsBoundLeaf (start : Store) (k : VarKind) (n : ℕ) (st : Store) (l :
   pub free : IsFree st l
   pub other : l ≢ variable k n
 
--- At invariance, where all but regions can be named, the erasure stays.
+-- At invariance, where no alias stands in a term, and all but regions can be named, the erasure stays.
 abbrev pub Alike : Store → VarKind → ℕ → Turn → Tree → Tree → Type 0
-Alike st k n (any_part v) t x = v ≡ Invariant → Leaves (IsNamedBy st (universe_of st k n)) t → erase x ≡ erase t
-Alike st k n (new_part v) t x = v ≡ Invariant → Leaves (IsNamedBy st (universe_of st k n)) t → erase x ≡ erase t
-Alike st k n (parts_from h i v) t x = v ≡ Invariant → Leaves (IsNamedBy st (universe_of st k n)) t → PartsErased h x t
+Alike st k n (any_part e v) t x = v ≡ Invariant → LacksAliases t → Leaves (IsNamedBy st (universe_of st k n)) t → erase x ≡ erase t
+Alike st k n (new_part e v) t x = v ≡ Invariant → LacksAliases t → Leaves (IsNamedBy st (universe_of st k n)) t → erase x ≡ erase t
+Alike st k n (parts_from e h i v) t x = v ≡ Invariant → LacksAliases t → Leaves (IsNamedBy st (universe_of st k n)) t → PartsErased h x t
 
 -- What a term became.
 pub record Became (start : Store) (k : VarKind) (n : ℕ) (back : Assign) (st : Store) (turn : Turn) (t x : Tree) : Type 0 where
@@ -86,7 +103,7 @@ pub record IsSourceLeaf (Q : Leaf → Type 0) (start : Store) (l : Leaf) : Type 
 pub record Reached (Q : Leaf → Type 0) (start : Store) (k : VarKind) (n : ℕ) (back : Assign) (r : Stage) : Type 0 where
   pub leads : LeadsBack Q start k n back r.store
   pub makes : MakesUnbound (universe_of start k n) start r.store
-  pub met : All (λ e. Became start k n back r.store (any_part e.variance) e.type e.term) r.met
+  pub met : All (λ e. Became start k n back r.store (any_part e.side e.variance) e.type e.term) r.met
 
 -- From one such stage to another.
 pub record Came (Q : Leaf → Type 0) (start : Store) (k : VarKind) (n : ℕ) (back : Assign) (r q : Stage) (turn : Turn) (t x : Tree) : Type 0 where
@@ -96,7 +113,7 @@ pub record Came (Q : Leaf → Type 0) (start : Store) (k : VarKind) (n : ℕ) (b
   pub reached : Reached Q start k n further q
   pub became : Became start k n further q.store turn t x
 
-module _ (c : Items) (start : Store) (g : IsSound start) (numbers : NumbersNameNothing start) (k : VarKind) (n : ℕ) (target : IsMade start k n) (Q : Leaf → Type 0) where
+module _ (al : StructurallyRelateAliases) (c : Items) (start : Store) (g : IsSound start) (numbers : NumbersNameNothing start) (k : VarKind) (n : ℕ) (target : IsMade start k n) (Q : Leaf → Type 0) where
   abbrev reach : ℕ
   reach = universe_of start k n
 
@@ -159,8 +176,8 @@ module _ (c : Items) (start : Store) (g : IsSound start) (numbers : NumbersNameN
   kept_free st a (atom x) f = tt
   kept_free st a unknown f = tt
 
-  kept_leaf : (v : Variance) (back : Assign) (r : Stage) (l : Leaf) → Reached Q start k n back r → IsSourceLeaf Q start l → l ≢ variable k n → Stays start reach v l → Came Q start k n back r r (new_part v) (leaf l) (leaf l)
-  kept_leaf v back r l at h other s = let a = from_start r.store at.makes in record {
+  kept_leaf : (sd : Side) (v : Variance) (back : Assign) (r : Stage) (l : Leaf) → Reached Q start k n back r → IsSourceLeaf Q start l → l ≢ variable k n → Stays start reach v l → Came Q start k n back r r (new_part sd v) (leaf l) (leaf l)
+  kept_leaf sd v back r l at h other s = let a = from_start r.store at.makes in record {
     further = back;
     agrees = λ j m i. refl;
     makes = makes_none;
@@ -168,7 +185,7 @@ module _ (c : Items) (start : Store) (g : IsSound start) (numbers : NumbersNameN
     became = record {
       value = kept_value back r.store at.leads l h.made;
       leaves = record { in_scope = kept_scope v r.store a l h.made s; free = kept_free r.store a l h.free; other = other };
-      alike = λ e i. refl;
+      alike = λ e z i. refl;
     };
   }
 
@@ -187,22 +204,24 @@ module _ (c : Items) (start : Store) (g : IsSound start) (numbers : NumbersNameN
   changed_alike v (atom (early_region i x)) j m o e p h = region_alike (atom (early_region i x)) j m (some_path e) (refl {a = leaf (atom static_region)})
   changed_alike v l j m o e p h = absurd cc
 
-  module _ (v : Variance) (back : Assign) (r q : Stage) (l : Leaf) (j : VarKind) (m : ℕ) (at : Reached Q start k n back r) (holds : Q l) (other : l ≢ variable k n)
-      (not_stays : Stays start reach v l → ⊥) (gives : gives_way_to l ≡ Some j) (makes : MakesVariable r.store q.store j m reach) (same_met : q.met ≡ r.met) where
+  -- A new variable took the place of a tree.
+  module _ (sd : Side) (v : Variance) (back : Assign) (r q : Stage) (y : Tree) (j : VarKind) (m : ℕ) (at : Reached Q start k n back r) (what : Replaced Q start k n j y)
+      (no_number : IsNumberKind j → ⊥) (makes : MakesVariable r.store q.store j m reach) (same_met : q.met ≡ r.met)
+      (alike : v ≡ Invariant → LacksAliases y → Leaves (IsNamedBy start reach) y → erase (leaf (variable j m)) ≡ erase y) where
     abbrev further : Assign
-    further = changed j m (leaf l) back
+    further = changed j m y back
 
     to_here : Adds reach start r.store
     to_here = from_start r.store at.makes
 
     one : MakesUnbound reach r.store q.store
-    one = makes_one makes_none (gives_no_number l j gives) makes
+    one = makes_one makes_none no_number makes
 
     not_made : (i : VarKind) (p : ℕ) → IsMade r.store i p → i ≡ j → p ≡ m → ⊥
     not_made i p h a b = let z : IsMade r.store j m = subst₂ (IsMade r.store) a b h in let e = makes.number in omega (arith, z, e)
 
     agrees : AgreeOn r.store back further
-    agrees i p h = sym (changed_other j m (leaf l) back i p (not_made i p h))
+    agrees i p h = sym (changed_other j m y back i p (not_made i p h))
 
     leads : LeadsBack Q start k n further q.store
     leads = record {
@@ -210,9 +229,9 @@ module _ (c : Items) (start : Store) (g : IsSound start) (numbers : NumbersNameN
       new = λ i p h o. go i p o (old_or_new r.store q.store j m reach makes i p h);
     }
       where
-        go : (i : VarKind) (p : ℕ) → (IsMade start i p → ⊥) → IsMade r.store i p ⊎ ((i ≡ j) × (p ≡ m)) → Replaced Q k n i (further i p)
-        go i p o (inl h) = subst (Replaced Q k n i) (agrees i p h) ((at.leads).new i p h o)
-        go i p o (inr (a, b)) = subst₂ (λ x y. Replaced Q k n x (further x y)) (sym a) (sym b) (record { was = l; other = other; is = changed_same j m (leaf l) back; gives = gives; holds = holds })
+        go : (i : VarKind) (p : ℕ) → (IsMade start i p → ⊥) → IsMade r.store i p ⊎ ((i ≡ j) × (p ≡ m)) → Replaced Q start k n i (further i p)
+        go i p o (inl h) = subst (Replaced Q start k n i) (agrees i p h) ((at.leads).new i p h o)
+        go i p o (inr (a, b)) = subst₂ (λ x z. Replaced Q start k n x (further x z)) (sym a) (sym b) (subst (Replaced Q start k n j) (sym (changed_same j m y back)) what)
 
     new_leaf : IsBoundLeaf start k n q.store (variable j m)
     new_leaf = record {
@@ -221,7 +240,7 @@ module _ (c : Items) (start : Store) (g : IsSound start) (numbers : NumbersNameN
       other = λ e. let a : k ≡ j = cc in let b : n ≡ m = cc in not_made k n ((to_here.later).grows k n target) a b;
     }
 
-    new_leaf_came : Came Q start k n back r q (new_part v) (leaf l) (leaf (variable j m))
+    new_leaf_came : Came Q start k n back r q (new_part sd v) y (leaf (variable j m))
     new_leaf_came = record {
       further = further;
       agrees = agrees;
@@ -229,38 +248,38 @@ module _ (c : Items) (start : Store) (g : IsSound start) (numbers : NumbersNameN
       reached = record {
         leads = leads;
         makes = makes_then at.makes one;
-        met = subst (All (λ e. Became start k n further q.store (any_part e.variance) e.type e.term)) (sym same_met)
-            (λ i d h. became_later r.store q.store (between r.store q.store at.makes one) back further agrees (any_part _) _ _ (at.met i d h));
+        met = subst (All (λ e. Became start k n further q.store (any_part e.side e.variance) e.type e.term)) (sym same_met)
+            (λ i d h. became_later r.store q.store (between r.store q.store at.makes one) back further agrees (any_part _ _) _ _ (at.met i d h));
       };
-      became = record { value = changed_same j m (leaf l) back; leaves = new_leaf; alike = λ e h. changed_alike v l j m not_stays gives e h };
+      became = record { value = changed_same j m y back; leaves = new_leaf; alike = alike };
     }
 
   -- A type that was met.
-  met_came : (v : Variance) (back : Assign) (r : Stage) (t x : Tree) → Reached Q start k n back r → Became start k n back r.store (any_part v) t x → Came Q start k n back r r (any_part v) t x
-  met_came v back r t x at b = record { further = back; agrees = λ j m i. refl; makes = makes_none; reached = at; became = b }
+  met_came : (sd : Side) (v : Variance) (back : Assign) (r : Stage) (t x : Tree) → Reached Q start k n back r → Became start k n back r.store (any_part sd v) t x → Came Q start k n back r r (any_part sd v) t x
+  met_came sd v back r t x at b = record { further = back; agrees = λ j m i. refl; makes = makes_none; reached = at; became = b }
 
   -- One that is met from then on.
-  first_came : (v : Variance) (back : Assign) (r q p : Stage) (t x : Tree) → p.store ≡ q.store → p.met ≡ record { variance = v; type = t; term = x } ∷ q.met → Came Q start k n back r q (new_part v) t x → Came Q start k n back r p (any_part v) t x
-  first_came v back r q p t x e d f = let b = f.became in let a = f.reached in record {
+  first_came : (sd : Side) (v : Variance) (back : Assign) (r q p : Stage) (t x : Tree) → p.store ≡ q.store → p.met ≡ record { side = sd; variance = v; type = t; term = x } ∷ q.met → Came Q start k n back r q (new_part sd v) t x → Came Q start k n back r p (any_part sd v) t x
+  first_came sd v back r q p t x e d f = let b = f.became in let a = f.reached in record {
     further = f.further;
     agrees = f.agrees;
     makes = subst (MakesUnbound reach r.store) (sym e) f.makes;
     reached = record {
       leads = subst (LeadsBack Q start k n f.further) (sym e) a.leads;
       makes = subst (MakesUnbound reach start) (sym e) a.makes;
-      met = subst₂ (λ st es. All (λ e. Became start k n f.further st (any_part e.variance) e.type e.term) es) (sym e) (sym d)
-          (All-cons (λ e. Became start k n f.further q.store (any_part e.variance) e.type e.term) (record { variance = v; type = t; term = x }) q.met
+      met = subst₂ (λ st es. All (λ e. Became start k n f.further st (any_part e.side e.variance) e.type e.term) es) (sym e) (sym d)
+          (All-cons (λ e. Became start k n f.further q.store (any_part e.side e.variance) e.type e.term) (record { side = sd; variance = v; type = t; term = x }) q.met
           (record { value = b.value; leaves = b.leaves; alike = b.alike }) a.met);
     };
-    became = subst (λ st. Became start k n f.further st (any_part v) t x) (sym e) (record { value = b.value; leaves = b.leaves; alike = b.alike });
+    became = subst (λ st. Became start k n f.further st (any_part sd v) t x) (sym e) (record { value = b.value; leaves = b.leaves; alike = b.alike });
   }
 
   -- One part, and then the others.
-  next_came : (h : Head) (i : ℕ) (v : Variance) (back : Assign) (r q p : Stage) (t x ts xs : Tree) → Reached Q start k n back r →
-      (f : Came Q start k n back r q (any_part (part_at c h i v)) t x) → Came Q start k n f.further q p (parts_from h (suc i) v) ts xs → Came Q start k n back r p (parts_from h i v) (cons t ts) (cons x xs)
-  next_came h i v back r q p t x ts xs at f s = let b = s.became in
+  next_came : (sd : Side) (h : Head) (i : ℕ) (v : Variance) (back : Assign) (r q p : Stage) (t x ts xs : Tree) → Reached Q start k n back r →
+      (f : Came Q start k n back r q (any_part sd (part_at c h i v)) t x) → Came Q start k n f.further q p (parts_from sd h (suc i) v) ts xs → Came Q start k n back r p (parts_from sd h i v) (cons t ts) (cons x xs)
+  next_came sd h i v back r q p t x ts xs at f s = let b = s.became in
       let a = between r.store q.store at.makes f.makes in
-      let d = became_later q.store p.store (between q.store p.store (f.reached).makes s.makes) f.further s.further s.agrees (any_part (part_at c h i v)) t x f.became in record {
+      let d = became_later q.store p.store (between q.store p.store (f.reached).makes s.makes) f.further s.further s.agrees (any_part sd (part_at c h i v)) t x f.became in record {
         further = s.further;
         agrees = λ j m z. f.agrees j m z ∙ s.agrees j m ((a.later).grows j m z);
         makes = makes_then f.makes s.makes;
@@ -268,30 +287,30 @@ module _ (c : Items) (start : Store) (g : IsSound start) (numbers : NumbersNameN
         became = record {
           value = ap₂ cons d.value b.value;
           leaves = (d.leaves, b.leaves);
-          alike = λ e z. parts_next c h i v x t xs ts e (λ y. d.alike y z.0) (b.alike e z.1);
+          alike = λ e w z. parts_next c h i v x t xs ts e (λ y. d.alike y w.0 z.0) (b.alike e w.1 z.1);
         };
       }
 
-  form_came : (h : Head) (v : Variance) (back : Assign) (r q : Stage) (ts xs : Tree) → Came Q start k n back r q (parts_from h 0 v) ts xs → Came Q start k n back r q (new_part v) (node h ts) (node h xs)
-  form_came h v back r q ts xs f = let b = f.became in record {
+  form_came : (sd sd' : Side) (h : Head) (v : Variance) (back : Assign) (r q : Stage) (ts xs : Tree) → Came Q start k n back r q (parts_from sd' h 0 v) ts xs → Came Q start k n back r q (new_part sd v) (node h ts) (node h xs)
+  form_came sd sd' h v back r q ts xs f = let b = f.became in record {
     further = f.further;
     agrees = f.agrees;
     makes = f.makes;
     reached = f.reached;
-    became = record { value = ap (node h) b.value; leaves = b.leaves; alike = λ e z. parts_form h xs ts (b.alike e z) };
+    became = record { value = ap (node h) b.value; leaves = b.leaves; alike = λ e w z. parts_form h xs ts (b.alike e w.1 z) };
   }
 
-  body_came : (ks : _) (v : Variance) (back : Assign) (r q : Stage) (t x : Tree) → Came Q start k n back r q (any_part v) t x → Came Q start k n back r q (new_part v) (bind ks t) (bind ks x)
-  body_came ks v back r q t x f = let b = f.became in record {
+  body_came : (sd : Side) (ks : _) (v : Variance) (back : Assign) (r q : Stage) (t x : Tree) → Came Q start k n back r q (any_part sd v) t x → Came Q start k n back r q (new_part sd v) (bind ks t) (bind ks x)
+  body_came sd ks v back r q t x f = let b = f.became in record {
     further = f.further;
     agrees = f.agrees;
     makes = f.makes;
     reached = f.reached;
-    became = record { value = ap (bind ks) b.value; leaves = b.leaves; alike = λ e z. ap (bind []) (b.alike e z) };
+    became = record { value = ap (bind ks) b.value; leaves = b.leaves; alike = λ e w z. ap (bind []) (b.alike e w z) };
   }
 
-  other_came : (v : Variance) (back : Assign) (r q : Stage) (t x : Tree) → Came Q start k n back r q (new_part v) t x → Came Q start k n back r q (any_part v) t x
-  other_came v back r q t x f = let b = f.became in record {
+  other_came : (sd : Side) (v : Variance) (back : Assign) (r q : Stage) (t x : Tree) → Came Q start k n back r q (new_part sd v) t x → Came Q start k n back r q (any_part sd v) t x
+  other_came sd v back r q t x f = let b = f.became in record {
     further = f.further;
     agrees = f.agrees;
     makes = f.makes;
@@ -299,21 +318,24 @@ module _ (c : Items) (start : Store) (g : IsSound start) (numbers : NumbersNameN
     became = record { value = b.value; leaves = b.leaves; alike = b.alike };
   }
 
-  pub came : {turn : Turn} {r q : Stage} {t x : Tree} → Generalised c start k n turn r t q x → (back : Assign) → Reached Q start k n back r → Leaves (IsSourceLeaf Q start) t → Came Q start k n back r q turn t x
-  came (met_before {v = v} {r = r} {t = t} {x = x} s d) back at h = met_came v back r t x at (subst (λ e. Became start k n back r.store (any_part e.variance) e.type e.term) d.2 (at.met d.0 _ d.1))
-  came (met_first {v = v} {r = r} {q = q} {p = p} {t = t} {x = x} s new f e d) back at h = first_came v back r q p t x e d (came f back at h)
-  came (no_type {v = v} {r = r} {q = q} {t = t} {x = x} s f) back at h = other_came v back r q t x (came f back at h)
-  came (stays {v = v} {r = r} {l = l} o s) back at h = kept_leaf v back r l at h o s
-  came (gives_way {v = v} {r = r} {q = q} {l = l} {j = j} {m = m} o s e f d) back at h = new_leaf_came v back r q l j m at h.holds o s e f d
-  came (by_parts {v = v} {r = r} {q = q} {h = a} {ts = ts} {xs = xs} z f) back at h = form_came a v back r q ts xs (came f back at h)
-  came (in_binder {v = v} {r = r} {q = q} {ks = ks} {t = t} {x = x} f) back at h = body_came ks v back r q t x (came f back at h)
-  came (no_parts {h = a} {i = i} {v = v} {r = r}) back at h = record { further = back; agrees = λ j m i. refl; makes = makes_none; reached = at; became = record { value = refl; leaves = tt; alike = λ e z. parts_done a } }
-  came (next_part {h = a} {i = i} {v = v} {r = r} {q = q} {p = p} {t = t} {x = x} {ts = ts} {xs = xs} f s) back at h =
-      let first = came f back at h.0 in next_came a i v back r q p t x ts xs at first (came s first.further first.reached h.1)
+  pub came : {turn : Turn} {r q : Stage} {t x : Tree} → Generalised al c start k n turn r t q x → (back : Assign) → Reached Q start k n back r → Leaves (IsSourceLeaf Q start) t → Came Q start k n back r q turn t x
+  came (met_before {e = sd} {v = v} {r = r} {t = t} {x = x} s d) back at h = met_came sd v back r t x at (subst (λ e. Became start k n back r.store (any_part e.side e.variance) e.type e.term) d.2 (at.met d.0 _ d.1))
+  came (met_first {e = sd} {v = v} {r = r} {q = q} {p = p} {t = t} {x = x} s new f e d) back at h = first_came sd v back r q p t x e d (came f back at h)
+  came (no_type {e = sd} {v = v} {r = r} {q = q} {t = t} {x = x} s f) back at h = other_came sd v back r q t x (came f back at h)
+  came (stays {e = sd} {v = v} {r = r} {l = l} o s) back at h = kept_leaf sd v back r l at h o s
+  came (gives_way {e = sd} {v = v} {r = r} {q = q} {l = l} {j = j} {m = m} o s e f d) back at h = new_leaf_came sd v back r q (leaf l) j m at
+      (replaced_leaf (record { was = l; other = o; is = refl; gives = e; holds = h.holds })) (gives_no_number l j e) f d (λ p w i. changed_alike v l j m s e p i)
+  came (alias_gives_way {v = v} {r = r} {q = q} {a = a} {d = d} {m = m} {ts = ts} {o = o} left s f e) back at h = new_leaf_came outside v back r q (node (alias a d) ts) type_var m at
+      (replaced_alias (record { kind = refl; alias_kind = a; id = d; parts = ts; is = refl; obstacle = o; stops = s; hold = Leaves_map (IsSourceLeaf Q start) Q (λ l i. i.holds) ts h })) (λ i. i) f e (λ p w i. absurd w.0)
+  came (by_parts {e = sd} {v = v} {r = r} {q = q} {h = a} {ts = ts} {xs = xs} z f) back at h = form_came sd (side_in al sd a) a v back r q ts xs (came f back at h)
+  came (in_binder {e = sd} {v = v} {r = r} {q = q} {ks = ks} {t = t} {x = x} f) back at h = body_came sd ks v back r q t x (came f back at h)
+  came (no_parts {h = a} {i = i} {v = v} {r = r}) back at h = record { further = back; agrees = λ j m i. refl; makes = makes_none; reached = at; became = record { value = refl; leaves = tt; alike = λ e w z. parts_done a } }
+  came (next_part {e = sd} {h = a} {i = i} {v = v} {r = r} {q = q} {p = p} {t = t} {x = x} {ts = ts} {xs = xs} f s) back at h =
+      let first = came f back at h.0 in next_came sd a i v back r q p t x ts xs at first (came s first.further first.reached h.1)
 
   -- From the beginning.
-  pub came_from_start : (v : Variance) (q : Stage) (t x : Tree) → Generalised c start k n (any_part v) (record { store = start; met = [] }) t q x → Leaves (IsSourceLeaf Q start) t → Came Q start k n (λ j m. leaf (variable j m)) (record { store = start; met = [] }) q (any_part v) t x
-  came_from_start v q t x f h = came f (λ j m. leaf (variable j m)) (record {
+  pub came_from_start : (sd : Side) (v : Variance) (q : Stage) (t x : Tree) → Generalised al c start k n (any_part sd v) (record { store = start; met = [] }) t q x → Leaves (IsSourceLeaf Q start) t → Came Q start k n (λ j m. leaf (variable j m)) (record { store = start; met = [] }) q (any_part sd v) t x
+  came_from_start sd v q t x f h = came f (λ j m. leaf (variable j m)) (record {
     leads = record { old = λ j m i. refl; new = λ j m i o. absurd (o i) };
     makes = makes_none;
     met = All-nil _;

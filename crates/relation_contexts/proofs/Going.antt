@@ -15,6 +15,7 @@ later_itself st = record {
   constraints_stand = ([], sym (append-nil st.constraints));
   universes_fall = λ k n h. omega arith;
   universe_stands = omega arith;
+  taint_stands = λ h. h;
   shrinks = λ w s h. h;
 }
 
@@ -28,6 +29,7 @@ later_through {r} {q} {p} a b = record {
   );
   universes_fall = λ k n h. le_trans (b.universes_fall k n (a.grows k n h)) (a.universes_fall k n h);
   universe_stands = le_trans a.universe_stands b.universe_stands;
+  taint_stands = λ h. b.taint_stands (a.taint_stands h);
   shrinks = λ w s h. a.shrinks w s (b.shrinks w s h);
 }
 

@@ -159,6 +159,7 @@ module _ (before after : Store) (k : VarKind) (n u : ℕ) (b : MakesVariable bef
       constraints_stand = ([], b.same_constraints ∙ sym (append-nil before.constraints));
       universes_fall = λ j m h. let e = universes_stand j m h in omega arith;
       universe_stands = omega (arith, b.same_universe);
+      taint_stands = λ h. b.same_taint ∙ h;
       shrinks = λ w s h. record {
         assigns = λ j m p. let q = h.assigns j m (made_later j m p) in (q.0, q.1, q.2, subst (λ v. Leaves (IsNamable v) (s j m)) (universes_stand j m p) q.3);
         bindings = λ j m t e. h.bindings j m t (sym (same_terms j m) ∙ e);
@@ -232,6 +233,7 @@ module _ (before after : Store) (q : Constraint) (b : AddsConstraint before afte
     constraints_stand = (q ∷ [], b.one_more);
     universes_fall = λ j m h. let e = same_universe_of j m in omega arith;
     universe_stands = omega (arith, b.same_universe);
+    taint_stands = λ h. b.same_taint ∙ h;
     shrinks = λ w s h. record {
       assigns = λ j m p. let a = h.assigns j m (constraint_made j m p) in (a.0, a.1, a.2, subst (λ v. Leaves (IsNamable v) (s j m)) (sym (same_universe_of j m)) a.3);
       bindings = λ j m t e. h.bindings j m t (sym (same_terms' j m) ∙ e);

@@ -115,7 +115,7 @@ module _ (before after : Store) (v : Variance) (k : VarKind) (n : ℕ) (source :
     generalised = kept refl;
     stays_sound = λ h. bound_sound before after k n term q g r stands term_in now_absent now_in_scope;
     keeps = λ w s sat e. (s, (λ j i m. refl), bound_keeps before after k n term q g r stands term_in now_absent now_in_scope w s sat (e ∙ resolved_value before s sat.bindings source));
-    keeps_erased = λ s sol e. (entry_is_exact before after k n (bound_to term) term q.writes refl later q.same_universes).keeps s sol (e ∙ sym (resolved_unifies before g s sol.1 source));
+    keeps_erased = λ lacks s sol e. (entry_is_exact before after k n (bound_to term) term q.writes refl later q.same_universes).keeps s sol (e ∙ sym (resolved_unifies before g s sol.1 source));
     regions_alone = λ p f h i. refl;
   }
 

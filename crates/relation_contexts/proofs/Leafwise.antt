@@ -4,13 +4,13 @@ use native.Mathlib.Decide.{dec_le}
 use Rattle.relation_terms.specs.Heads.{Sort, leaf_sort, head_parts, Admits, term_of, binder_of, Shape, one, row, Kind, region_kind, type_kind, const_kind, BoundKind, bound_kind, VarKind, region_var, var_sort, Atom, bool_type, static_region, const_param, value_type, Leaf, variable, bound, placeholder, atom, unknown}
 use Rattle.relation_terms.specs.Trees.{Tree, leaf, node, bind, nil, cons, Assign, replace, apply, Leaves, Occurs, Fits, IsTerm, size}
 use Rattle.relation_terms.specs.Erasure.{erase}
-use Rattle.relation_contexts.specs.Relation.{IsValueLeaf, StaysWithin}
+use Rattle.relation_contexts.specs.Relation.{IsValueLeaf, StaysWithin, sort_of}
 use Rattle.relation_contexts.specs.Stores.{IsNamable}
 use Rattle.relation_contexts.proofs.Trees.{Leaves_map, Leaves-replace}
 use Rattle.relation_contexts.proofs.Erased.{leaf_path}
 
 -- A leaf of a tree.
-pub StandsIn : Leaf → Tree → Type 0
+unfoldable pub StandsIn : Leaf → Tree → Type 0
 StandsIn l (leaf m) = m ≡ l
 StandsIn l (node h t) = StandsIn l t
 StandsIn l (bind ks t) = StandsIn l t
@@ -50,10 +50,39 @@ absent_of_leaves k n nil h o = o
 absent_of_leaves k n (cons t u) h (inl o) = absent_of_leaves k n t h.0 o
 absent_of_leaves k n (cons t u) h (inr o) = absent_of_leaves k n u h.1 o
 
--- A variable for which a leaf of its sort is put.
+-- A leaf or a form.
+abbrev pub IsOne : Tree → Type 0
+IsOne (leaf l) = Unit {0}
+IsOne (node h ts) = Unit {0}
+IsOne t = ⊥
+
+-- A variable for which a leaf or a form of its sort is put.
 abbrev pub KeepsSort : Assign → Leaf → Type 0
-KeepsSort back (variable j m) = (l : Leaf) × (back j m ≡ leaf l) × (leaf_sort l ≡ var_sort j)
+KeepsSort back (variable j m) = IsOne (back j m) × (sort_of (back j m) ≡ var_sort j)
 KeepsSort back l = Unit {0}
+
+one_admits : (a : Sort) (y : Tree) → IsOne y → IsTerm a y → Admits a (sort_of y)
+one_admits a (leaf l) o h = h
+one_admits a (node g ts) o h = h.0
+one_admits a (bind ks t) o h = absurd o
+one_admits a nil o h = absurd o
+one_admits a (cons t u) o h = absurd o
+
+one_no_binder : (a : Sort) (y : Tree) → IsOne y → Fits (one (binder_of a)) y → ⊥
+one_no_binder a (leaf l) o h = h
+one_no_binder a (node g ts) o h = h
+one_no_binder a (bind ks t) o h = o
+one_no_binder a nil o h = o
+one_no_binder a (cons t u) o h = o
+
+one_no_list : (ps : _) (r : _) (y : Tree) → IsOne y → Fits (row ps r) y → ⊥
+one_no_list [] r (leaf l) o h = h
+one_no_list [] r (node g ts) o h = h
+one_no_list (p ∷ ps) r (leaf l) o h = h
+one_no_list (p ∷ ps) r (node g ts) o h = h
+one_no_list ps r (bind ks t) o h = o
+one_no_list ps r nil o h = o
+one_no_list ps r (cons t u) o h = o
 
 -- What is so of a tree with such leaves put for its variables is so of the tree.
 pub within_back : (back : Assign) (d : ℕ) (t : Tree) → StaysWithin d (apply back t) → StaysWithin d t
@@ -68,7 +97,7 @@ within_back back d nil h = tt
 within_back back d (cons t u) h = (within_back back d t h.0, within_back back d u h.1)
 
 variable_back : (back : Assign) (a : Sort) (k : VarKind) (n : ℕ) → KeepsSort back (variable k n) → IsTerm a (back k n) → Admits a (var_sort k)
-variable_back back a k n s h = subst (Admits a) s.2 (subst (IsTerm a) s.1 h)
+variable_back back a k n s h = subst (Admits a) s.1 (one_admits a (back k n) s.0 h)
 
 pub fits_back : (back : Assign) (x : Shape) (t : Tree) → Leaves (KeepsSort back) t → Fits x (apply back t) → Fits x t
 fits_back back (one (term_of a)) (leaf (variable k n)) s h = variable_back back a k n s h
@@ -81,29 +110,24 @@ fits_back back (one (binder_of a)) (bind ks t) s h = fits_back back (one (term_o
 fits_back back (row [] r) nil s h = tt
 fits_back back (row [] (Some p)) (cons t ts) s h = (fits_back back (one p) t s.0 h.0, fits_back back (row [] (Some p)) ts s.1 h.1)
 fits_back back (row (p ∷ ps) r) (cons t ts) s h = (fits_back back (one p) t s.0 h.0, fits_back back (row ps r) ts s.1 h.1)
-fits_back back (one (binder_of a)) (leaf (variable k n)) s h = absurd (no_binder a (back k n) s h)
-  where
-    no_binder : (a : Sort) (y : Tree) → KeepsSort back (variable k n) → Fits (one (binder_of a)) (back k n) → ⊥
-    no_binder a y s h = subst (Fits (one (binder_of a))) s.1 h
-fits_back back (row ps r) (leaf (variable k n)) s h = absurd (no_list ps r s h)
-  where
-    no_list : (ps : _) (r : _) → KeepsSort back (variable k n) → Fits (row ps r) (back k n) → ⊥
-    no_list [] r s h = subst (Fits (row [] r)) s.1 h
-    no_list (p ∷ ps) r s h = subst (Fits (row (p ∷ ps) r)) s.1 h
+fits_back back (one (binder_of a)) (leaf (variable k n)) s h = absurd (one_no_binder a (back k n) s.0 h)
+fits_back back (row ps r) (leaf (variable k n)) s h = absurd (one_no_list ps r (back k n) s.0 h)
 fits_back back x t s h = absurd h
 
-leaf_size : (back : Assign) (k : VarKind) (n : ℕ) → KeepsSort back (variable k n) → size (back k n) ≡ 1
-leaf_size back k n s = ap size s.1
+one_size : (y : Tree) → IsOne y → 1 ≤ size y
+one_size (leaf l) o = omega arith
+one_size (node g t) o = omega arith
+one_size t o = absurd o
 
-pub size_back : (back : Assign) (t : Tree) → Leaves (KeepsSort back) t → size (apply back t) ≡ size t
-size_back back (leaf (variable k n)) s = leaf_size back k n s
-size_back back (leaf (bound k d i)) s = refl
-size_back back (leaf (placeholder k u n)) s = refl
-size_back back (leaf (atom y)) s = refl
-size_back back (leaf unknown) s = refl
-size_back back (node g t) s = ap suc (size_back back t s)
-size_back back (bind ks t) s = ap (λ z. suc (suc z)) (size_back back t s)
-size_back back nil s = refl
+pub size_back : (back : Assign) (t : Tree) → Leaves (KeepsSort back) t → size t ≤ size (apply back t)
+size_back back (leaf (variable k n)) s = one_size (back k n) s.0
+size_back back (leaf (bound k d i)) s = omega arith
+size_back back (leaf (placeholder k u n)) s = omega arith
+size_back back (leaf (atom y)) s = omega arith
+size_back back (leaf unknown) s = omega arith
+size_back back (node g t) s = let a = size_back back t s in omega (arith, a)
+size_back back (bind ks t) s = let a = size_back back t s in omega (arith, a)
+size_back back nil s = omega arith
 size_back back (cons t u) s = let a = size_back back t s.0 in let b = size_back back u s.1 in omega (arith, a, b)
 
 -- A sort-keeping change of leaves.

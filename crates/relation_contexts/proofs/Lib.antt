@@ -42,3 +42,5 @@ pub mod Roots
 pub mod Numbers
 pub mod Variables
 pub mod Shrinking
+pub mod AliasOutcomes
+pub mod AliasSteps

@@ -20,10 +20,9 @@ use Rattle.relation_contexts.specs.Steps.{InstantiatesNumber, IsNumberFor, HasNo
 use Rattle.relation_contexts.specs.Measures.{Goes}
 use Rattle.relation_contexts.specs.Outcomes.{Exact, NoEqualTerms, NoUnifier}
 use Rattle.relation_contexts.specs.Settings.{Settings}
-use Rattle.relation_contexts.specs.Errors.{IsUnnormalized, by_forms, ErrorOf, HaveNoError, AreAlike, AreBindable, IsVariableFor, of_forms, sorts}
+use Rattle.relation_contexts.specs.Errors.{by_forms, ErrorOf, IsLeftToGoal, HaveNoError, AreAlike, AreBindable, IsVariableFor, of_forms, sorts}
 use Rattle.relation_contexts.specs.Parts.{IsFormed}
 use Rattle.relation_contexts.specs.Covered.{IsCovered}
-use Rattle.relation_contexts.proofs.Covered.{covered_no_error, covered_normal, normal_not_left}
 use Rattle.relation_contexts.proofs.Full.{full_by, written_plain}
 use Rattle.relation_contexts.proofs.Standing.{itself_stands}
 use Rattle.relation_contexts.proofs.Written.{is_later, equal, weight_after, kinds_stand, others}
@@ -294,10 +293,9 @@ module _ (st : Store) (k : VarKind) (i : IsNumber k) (n : ℕ) (made : IsMade st
   -- The error that comes of them.
   module _ {Key Id Name : Type 0} (m : Meaning Key Id Name) (j : Settings) (w : Items) (x y : TyKey Key) (v : Variance)
       (decides : v ≢ Bivariant) where
-    pub number_error : m.ty x ≡ leaf (variable k n) → m.ty y ≡ t →
-        ErrorOf m j w st v (Sorts (record { expected = x; found = y })) (m.ty x) (m.ty y)
-    number_error p q = by_forms (normal_not_left j (m.ty x) (m.ty y) (λ o. subst IsUnnormalized p o)
-        (λ o. covered_normal t c (subst IsUnnormalized q o)))
+    pub number_error : (IsLeftToGoal j (m.ty x) (m.ty y) → ⊥) → (IsError t → ⊥) → m.ty x ≡ leaf (variable k n) →
+        m.ty y ≡ t → ErrorOf m j w st v (Sorts (record { expected = x; found = y })) (m.ty x) (m.ty y)
+    number_error left clean p q = by_forms left
         (of_forms x y decides refl refl bindable (sorts no_error (λ a. not_alike (subst₂ AreAlike p q a))))
       where
         bindable : AreBindable (m.ty x) (m.ty y) → ⊥
@@ -307,13 +305,12 @@ module _ (st : Store) (k : VarKind) (i : IsNumber k) (n : ℕ) (made : IsMade st
         no_error : HaveNoError (m.ty x) (m.ty y)
         no_error = (
           λ z. subst IsError p z,
-          λ z. covered_no_error t c (subst IsError q z),
+          λ z. clean (subst IsError q z),
         )
 
-    pub number_error_back : m.ty x ≡ t → m.ty y ≡ leaf (variable k n) →
-        ErrorOf m j w st v (Sorts (record { expected = x; found = y })) (m.ty x) (m.ty y)
-    number_error_back p q = by_forms (normal_not_left j (m.ty x) (m.ty y)
-        (λ o. covered_normal t c (subst IsUnnormalized p o)) (λ o. subst IsUnnormalized q o))
+    pub number_error_back : (IsLeftToGoal j (m.ty x) (m.ty y) → ⊥) → (IsError t → ⊥) → m.ty x ≡ t →
+        m.ty y ≡ leaf (variable k n) → ErrorOf m j w st v (Sorts (record { expected = x; found = y })) (m.ty x) (m.ty y)
+    number_error_back left clean p q = by_forms left
         (of_forms x y decides refl refl bindable (sorts no_error (λ a. not_alike (sym (subst₂ AreAlike p q a)))))
       where
         bindable : AreBindable (m.ty x) (m.ty y) → ⊥
@@ -322,7 +319,7 @@ module _ (st : Store) (k : VarKind) (i : IsNumber k) (n : ℕ) (made : IsMade st
 
         no_error : HaveNoError (m.ty x) (m.ty y)
         no_error = (
-          λ z. covered_no_error t c (subst IsError p z),
+          λ z. clean (subst IsError p z),
           λ z. subst IsError q z,
         )
 

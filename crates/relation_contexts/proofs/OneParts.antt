@@ -1,13 +1,13 @@
 -- Terms that are one have the same parts, and as many.
 use Rattle.std.proofs.Common.{◌≡◌, ℕ, zero, suc, ◌<◌, refl, sym, ap, ◌∙◌, arith}
-use Rattle.relation_terms.specs.Heads.{Sort, Admits, type_sort, Head, head_sort, expression, value, value_type, value_branch, host_effect, subtype}
+use Rattle.relation_terms.specs.Heads.{Sort, Admits, type_sort, Head, head_sort, alias, unevaluated, expression, value, value_type, value_branch, host_effect, subtype}
 use Rattle.relation_terms.specs.Heads.{region_outlives, type_outlives, projection, const_has_type, well_formed, const_evaluatable, coerce, normalizes_to}
 use Rattle.relation_terms.specs.Heads.{alias_relate, environment}
 use Rattle.relation_terms.specs.Trees.{Tree, leaf, node, bind, nil, cons, Assign, apply, IsList, IsTerm, count, nth}
 use Rattle.relation_contexts.specs.Relation.{IsRelatedHead, sort_of}
 use Rattle.relation_contexts.specs.Stores.{Store}
 use Rattle.relation_contexts.specs.Outcomes.{NoEqualTerms}
-use Rattle.relation_contexts.specs.Errors.{AreOfOneForm, over_parts, one_leaf, parameters, AreOfOneConst, AreOfOneValue, values, expressions, const_parameters, one_value, as_many_branches, one_const_leaf}
+use Rattle.relation_contexts.specs.Errors.{AreOfOneForm, over_parts, over_aliases, one_leaf, parameters, AreOfOneConst, AreOfOneValue, values, expressions, over_arguments, const_parameters, one_value, as_many_branches, one_const_leaf}
 use Rattle.relation_contexts.specs.Parts.{parts_of, const_parts_of, branches_of}
 
 -- Lists.
@@ -57,6 +57,10 @@ parts_equal a b (over_parts {h} {ts} {us} d e n) s q =
     let z : apply s (node h ts) ≡ apply s (node h us) = sym (ap (apply s) d) ∙ q ∙ ap (apply s) e in
     let w : apply s ts ≡ apply s us = cc in
     ap (λ t. apply s (parts_of t)) d ∙ w ∙ sym (ap (λ t. apply s (parts_of t)) e)
+parts_equal a b (over_aliases {k} {l} {d = i} {ts} {us} d e n) s q =
+    let z : apply s (node (alias k i) ts) ≡ apply s (node (alias l i) us) = sym (ap (apply s) d) ∙ q ∙ ap (apply s) e in
+    let w : apply s ts ≡ apply s us = cc in
+    ap (λ t. apply s (parts_of t)) d ∙ w ∙ sym (ap (λ t. apply s (parts_of t)) e)
 parts_equal a b (one_leaf d e) s q = ap (λ t. apply s (parts_of t)) d ∙ sym (ap (λ t. apply s (parts_of t)) e)
 parts_equal a b (parameters d e p) s q = ap (λ t. apply s (parts_of t)) d ∙ sym (ap (λ t. apply s (parts_of t)) e)
 
@@ -76,12 +80,17 @@ const_parts_equal a b (expressions {k} {ts} {us} d e n) s q =
     let z : apply s (node (expression k) ts) ≡ apply s (node (expression k) us) = sym (ap (apply s) d) ∙ q ∙ ap (apply s) e in
     let y : apply s ts ≡ apply s us = cc in
     ap (λ t. apply s (const_parts_of t)) d ∙ y ∙ sym (ap (λ t. apply s (const_parts_of t)) e)
+const_parts_equal a b (over_arguments {d = i} {ts} {us} d e n) s q =
+    let z : apply s (node (unevaluated i) ts) ≡ apply s (node (unevaluated i) us) = sym (ap (apply s) d) ∙ q ∙ ap (apply s) e in
+    let y : apply s ts ≡ apply s us = cc in
+    ap (λ t. apply s (const_parts_of t)) d ∙ y ∙ sym (ap (λ t. apply s (const_parts_of t)) e)
 const_parts_equal a b (one_const_leaf d e) s q = ap (λ t. apply s (const_parts_of t)) (d ∙ sym e)
 const_parts_equal a b (const_parameters d e p) s q = ap (λ t. apply s (const_parts_of t)) d ∙ sym (ap (λ t. apply s (const_parts_of t)) e)
 
 -- They have as many.
 pub parts_counted : (a b : Tree) → AreOfOneForm a b → count (parts_of a) ≡ count (parts_of b)
 parts_counted a b (over_parts d e n) = ap (λ t. count (parts_of t)) d ∙ n ∙ sym (ap (λ t. count (parts_of t)) e)
+parts_counted a b (over_aliases d e n) = ap (λ t. count (parts_of t)) d ∙ n ∙ sym (ap (λ t. count (parts_of t)) e)
 parts_counted a b (one_leaf d e) = ap (λ t. count (parts_of t)) d ∙ sym (ap (λ t. count (parts_of t)) e)
 parts_counted a b (parameters d e p) = ap (λ t. count (parts_of t)) d ∙ sym (ap (λ t. count (parts_of t)) e)
 
@@ -90,6 +99,7 @@ const_parts_counted a b (values d e (one_value o)) = ap (λ t. count (const_part
 const_parts_counted a b (values d e (as_many_branches p q n)) =
     ap (λ t. count (const_parts_of t)) d ∙ ap (λ t. count (branches_of t)) p ∙ n ∙ sym (ap (λ t. count (branches_of t)) q) ∙ sym (ap (λ t. count (const_parts_of t)) e)
 const_parts_counted a b (expressions d e n) = ap (λ t. count (const_parts_of t)) d ∙ n ∙ sym (ap (λ t. count (const_parts_of t)) e)
+const_parts_counted a b (over_arguments d e n) = ap (λ t. count (const_parts_of t)) d ∙ n ∙ sym (ap (λ t. count (const_parts_of t)) e)
 const_parts_counted a b (one_const_leaf d e) = ap (λ t. count (const_parts_of t)) (d ∙ sym e)
 const_parts_counted a b (const_parameters d e p) = ap (λ t. count (const_parts_of t)) d ∙ sym (ap (λ t. count (const_parts_of t)) e)
 

@@ -85,6 +85,7 @@ module _ (before after : Store) (h : ChangesNothing before after) where
     constraints_stand = ([], h.same_constraints ∙ sym (append-nil before.constraints));
     universes_fall = λ k n m. let e = same_universe_of k n in omega arith;
     universe_stands = h.universe_stands;
+    taint_stands = h.taint_stands;
     shrinks = satisfied_then;
   }
 

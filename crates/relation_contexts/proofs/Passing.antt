@@ -40,7 +40,6 @@ use Rattle.relation_contexts.proofs.Composing.{steps_compose, first_goals}
 use Rattle.relation_contexts.proofs.Growing.{All_front}
 use Rattle.relation_contexts.proofs.Standing.{later_term}
 use Rattle.relation_contexts.proofs.Agreeing.{agree_anything}
-use Rattle.relation_contexts.proofs.Covered.{covered_not_left}
 use Rattle.relation_contexts.proofs.Answering.{same_environment, same_settings, same_items, may_itself, may_later, if_ok_both}
 use Rattle.relation_contexts.specs.OneUniverse.{KeepsUniverse, KeepsUniverseOf, LeadsInUniverse, BindsNoMore}
 use Rattle.relation_contexts.proofs.OneUniverse.{keeps_itself, keeps_binds, kept_then, binds_as_many, leads_itself, led_keeps, led_binds, led_fewer}
@@ -155,9 +154,10 @@ module _ {Key Id Name : Type 0} where
 
   -- So the pair that it was asked about agrees if the one that is left does.
   pub led_agrees : {n : ℕ} {r q : State Key Id Name} (g : Passes n r q) (a b x y : Tree) (v : Variance) →
-      Leads r q g.added a b v x y → Agree (items_in q) (at v) x y → Agree (items_in r) (at r.ambient) a b
-  led_agrees {r = r} g a b x y v l h =
-      l.agrees (items_in r) (subst (λ c. Agree c (at v) x y) (same_items g) h)
+      Leads r q g.added a b v x y → Agree q.kept.settings (items_in q) (at v) x y →
+      Agree r.kept.settings (items_in r) (at r.ambient) a b
+  led_agrees {r = r} g a b x y v l h = l.agrees r.kept.settings (items_in r)
+      (subst₂ (λ k c. Agree k c (at v) x y) (same_settings g.kept) (same_items g) h)
 
   pub led_refuses : {n m : ℕ} {r q p : State Key Id Name} (g : Passes n r q) (f : Passes m q p) → IsSound p.store →
       (a b x y : Tree) (v : Variance) → Leads r q g.added a b v x y → (e : RelateFault Key Id Name) →
@@ -462,7 +462,7 @@ module _ {Key Id Name : Type 0} where
             (subst₂ (λ m gs. All (Holds (items_of m) w s) gs) back.meaning back.goals all));
       };
       known = h.known;
-      agrees = λ k. subst (λ m. Agree (items_of m) (at v) a b) there.meaning
+      agrees = λ k. subst₂ (λ j m. Agree j (items_of m) (at v) a b) (same_settings there.kept) there.meaning
           (h.agrees (subst (λ j. (M j).relates_agreeing) (sym (same_settings there.kept)) k));
     }
 
@@ -498,7 +498,7 @@ module _ {Key Id Name : Type 0} where
       };
       answer = subst (MayAnswer M r v a) (sym same) (may_itself M r v a);
       known = subst (λ u. IsTrue (known u)) (sym same) k;
-      agrees = λ j. agree_anything (items_in r) v a b e;
+      agrees = λ j. agree_anything r.kept.settings (items_in r) v a b e;
     };
     exact = λ k is pair. absurd (invariant_is_not (sym is ∙ e));
     full = λ ha hb. full_itself r.store;
@@ -665,7 +665,7 @@ module _ {Key Id Name : Type 0} where
         let o = f.exact (same_manner M (λ z. z.is_exact) f.passes k) is
         (record { left = pair.left; right = pair.right; bindings = bindings }) in
         ((o.1).shrinks s sol).1;
-    agrees = λ k. subst (λ c. Agree c (at v) a b) (sym (same_items f.passes))
+    agrees = λ k. subst₂ (λ j c. Agree j c (at v) a b) (sym (same_settings (f.passes).kept)) (sym (same_items f.passes))
         ((f.verdict).agrees (same_manner M (λ z. z.relates_agreeing) f.passes k));
   }
 
@@ -684,7 +684,8 @@ module _ {Key Id Name : Type 0} where
         (record { left = pair.left; right = pair.right; bindings = bindings }) in
         let one = ((f.exact promised (invariantly v is) read.0).1).shrinks s sol in
         ((read.1).shrinks s one.0 one.1).1;
-    agrees = λ z. (led.read_leads).agrees (items_in p) (subst (λ c. Agree c (at (xform r.ambient v)) x y)
+    agrees = λ z. (led.read_leads).agrees p.kept.settings (items_in p)
+        (subst₂ (λ j c. Agree j c (at (xform r.ambient v)) x y) (sym (same_settings (f.passes).kept))
         (sym (same_items f.passes)) ((f.verdict).agrees (same_manner M (λ z. z.relates_agreeing) f.passes z)));
   }
 
@@ -704,7 +705,7 @@ module _ {Key Id Name K : Type 0} (M : Manners) (F : Tree → Type 0) (r : State
           keeps = λ w s sat one. (s, (λ j i h. refl), (sat, All-nil (MakesOneTree s), one));
         };
         errors = λ m j c st e l g h. h;
-        agrees = λ c h. h;
+        agrees = λ j c h. h;
       };
       asked = k;
       left_form = f;
@@ -729,9 +730,8 @@ module _ {Key Id Name K : Type 0} (M : Manners) (F : Tree → Type 0) (r : State
   }
 
   pub parts_left : (a b x y : K) → x ≡ a → y ≡ b → Asked M r r.ambient (tree a) (tree b) → F (tree a) → F (tree b) →
-      Stepped M F r r (tree a) (tree b) tree (Ok (Parts x y))
-  parts_left a b x y e d k f g =
-      let left = covered_not_left r.kept.settings (tree a) (tree b) k.left_taken.1 k.right_taken.1 in
+      (IsLeftToGoal r.kept.settings (tree a) (tree b) → ⊥) → Stepped M F r r (tree a) (tree b) tree (Ok (Parts x y))
+  parts_left a b x y e d k f g left =
       subst₂ (λ x y. Stepped M F r r (tree a) (tree b) tree (Ok (Parts x y))) (sym e) (sym d) (itself_left a b k f g left)
 
 -- A result that is a fault.

@@ -375,6 +375,7 @@ module _ (before after : Store) (k : VarKind) (n : ℕ) (x : Entry) (t : Tree) (
       constraints_stand = ([], w.same_constraints ∙ sym (append-nil before.constraints));
       universes_fall = λ j i m. smaller j i;
       universe_stands = omega (arith, w.same_universe);
+      taint_stands = λ h. w.same_taint ∙ h;
       shrinks = shrinks;
     }
 

@@ -83,4 +83,4 @@ module _ {Key Id Name : Type 0} (c d : Context Key Id Name) where
   OpensBoth tree t u (Ok p) = IsTrue (known (tree d.meaning p.0)) × IsTrue (known (tree d.meaning p.1)) ×
       OpensFrom t u (tree d.meaning p.0) (tree d.meaning p.1)
   OpensBoth tree t u (Err f) = (middle : Store) × ChangesNothing c.store middle ×
-      MakesUnbound middle.universe middle d.store
+      (middle.tainted ≡ (c.store).tainted) × MakesUnbound middle.universe middle d.store

@@ -9,6 +9,7 @@ use Rattle.relation_terms.specs.declared.terms.numbers.UniverseIndex.{UniverseIn
 use Rattle.relation_terms.specs.declared.terms.keys.ConstKey.{ConstKey}
 use Rattle.term_enums.specs.declared.Variance.TheVariants.{Invariant}
 use Rattle.relation_terms.specs.declared.terms.numbers.TyVid.{TyVid}
+use Rattle.relation_contexts.specs.declared.relate.StructurallyRelateAliases.{StructurallyRelateAliases}
 use Rattle.relation_terms.specs.declared.terms.numbers.ConstVid.{ConstVid}
 use Rattle.relation_terms.specs.Heads.{VarKind, type_var, const_var, variable}
 use Rattle.relation_terms.specs.Trees.{Tree, leaf, known, apply}
@@ -100,12 +101,13 @@ module _ {Key Id Name : Type 0} (c d : Context Key Id Name) where
     pub setup : KeepsSetup
     pub outliving : KeepsOutliving
 
-  -- All of it stands, but that each type variable that was made is marked as related to one that there was.
+  -- All of it stands, but that each type variable that was made is marked as related to one that there was, or to none
+  -- but itself, as one that took the place of an alias.
   pub record MarksNew : Type 0 where
     pub setup : KeepsSetup
     pub outliving : KeepsOutliving
     pub marks : (n : ℕ) → IsMade c.store type_var n → d.sub_root n ≡ c.sub_root n
-    pub related : (n : ℕ) → IsMade d.store type_var n → IsMade c.store type_var (d.sub_root n)
+    pub related : (n : ℕ) → IsMade d.store type_var n → IsMade c.store type_var (d.sub_root n) ⊎ (d.sub_root n ≡ n)
 
   -- What keys mean stands, how the context was made does, and so do the types that are to outlive regions; and the
   -- invariant holds.
@@ -137,7 +139,8 @@ module _ {Key Id Name : Type 0} (c d : Context Key Id Name) where
   -- A universe was made, above that of each variable and the one that was current, and is the current one; or nothing
   -- was recorded.
   abbrev pub EntersNext : {F : Type 0} → Result UniverseIndex F → Type 0
-  EntersNext (Ok u) = ChangesNothing c.store d.store × ((d.store).universe ≡ u.0) × ((c.store).universe < u.0) ×
+  EntersNext (Ok u) = ChangesNothing c.store d.store × ((d.store).tainted ≡ (c.store).tainted) ×
+      ((d.store).universe ≡ u.0) × ((c.store).universe < u.0) ×
       ((k : VarKind) (n : ℕ) → universe_of c.store k n < u.0)
   EntersNext (Err f) = d.store ≡ c.store
 
@@ -168,15 +171,15 @@ module _ {Key Id Name : Type 0} (c d : Context Key Id Name) where
   -- What binding a variable, at a variance, to what a term comes to answers: the term that it was bound to by the
   -- rules, for one of the budget; or nothing was bound, since an obstacle stands in what the term comes to, or nothing
   -- is left of the budget, or a growth was refused. Variables that were made on the way stay unbound.
-  abbrev pub Instantiated : {K : Type 0} → Variance → VarKind → ℕ → Tree → (Meaning Key Id Name → K → Tree) →
-      (K → TypeError Key Id Name) → Result K (RelateFault Key Id Name) → Type 0
-  Instantiated v k n source tree cyclic (Ok t) = IsTrue (known (tree d.meaning t)) ×
-      InstantiatesBy (items_of c.meaning) c.store d.store v k n source (tree d.meaning t)
-  Instantiated v k n source tree cyclic (Err (Unrelated e)) = KnowsError d.meaning e ×
-      ((o : Obstacle) × RefusesBy c.store d.store k n source o ×
+  abbrev pub Instantiated : {K : Type 0} → StructurallyRelateAliases → Variance → VarKind → ℕ → Tree →
+      (Meaning Key Id Name → K → Tree) → (K → TypeError Key Id Name) → Result K (RelateFault Key Id Name) → Type 0
+  Instantiated g v k n source tree cyclic (Ok t) = IsTrue (known (tree d.meaning t)) ×
+      InstantiatesBy g (items_of c.meaning) c.store d.store v k n source (tree d.meaning t)
+  Instantiated g v k n source tree cyclic (Err (Unrelated e)) = KnowsError d.meaning e ×
+      ((o : Obstacle) × RefusesBy g c.store d.store k n source o ×
       ObstacleError (tree d.meaning) cyclic (apply (resolved c.store) source) e o)
-  Instantiated v k n source tree cyclic (Err Budget) = ((c.store).budget ≡ 0) × (d.store ≡ c.store)
-  Instantiated v k n source tree cyclic (Err Memory) = ((c.store).budget ≢ 0) ×
+  Instantiated g v k n source tree cyclic (Err Budget) = ((c.store).budget ≡ 0) × (d.store ≡ c.store)
+  Instantiated g v k n source tree cyclic (Err Memory) = ((c.store).budget ≢ 0) ×
       MakesUnbound (universe_of c.store k n) c.store d.store
 
 -- Of a context only what its interner knows was added to.
@@ -194,12 +197,12 @@ OnlyLearns {I = I} meaning state with_interner ctxt = (cx : I) → Extends (stat
     (state ctxt).lawful → Knows (state ctxt) (meaning cx) (state (with_interner ctxt cx))
 
 -- What binding a type variable to what a type comes to answers, and a constant variable to what a constant does.
-abbrev pub BindsTy : {Key Id Name S : Type 0} → (S → Context Key Id Name) → S → S → Variance → TyVid →
-    TyKey Key → Result (TyKey Key) (RelateFault Key Id Name) → Type 0
-BindsTy state before after v vid t result = Instantiated (state before) (state after) v type_var vid.0
+abbrev pub BindsTy : {Key Id Name S : Type 0} → StructurallyRelateAliases → (S → Context Key Id Name) → S → S →
+    Variance → TyVid → TyKey Key → Result (TyKey Key) (RelateFault Key Id Name) → Type 0
+BindsTy g state before after v vid t result = Instantiated (state before) (state after) g v type_var vid.0
     (((state before).meaning).ty t) (λ m. m.ty) CyclicTy result
 
-abbrev pub BindsConst : {Key Id Name S : Type 0} → (S → Context Key Id Name) → S → S → ConstVid →
-    ConstKey Key → Result (ConstKey Key) (RelateFault Key Id Name) → Type 0
-BindsConst state before after vid t result = Instantiated (state before) (state after) Invariant const_var vid.0
+abbrev pub BindsConst : {Key Id Name S : Type 0} → StructurallyRelateAliases → (S → Context Key Id Name) → S → S →
+    ConstVid → ConstKey Key → Result (ConstKey Key) (RelateFault Key Id Name) → Type 0
+BindsConst g state before after vid t result = Instantiated (state before) (state after) g Invariant const_var vid.0
     (((state before).meaning).const_ t) (λ m. m.const_) CyclicConst result

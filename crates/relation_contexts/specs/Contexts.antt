@@ -1,10 +1,9 @@
 -- What contracts see of a context, which terms are its own, and what relating in it registers and spends.
-use Rattle.std.specs.Prelude.{◌≡◌, ◌+◌, ℕ, false, List, IsTrue, IfOk, Result, [], All}
+use Rattle.std.specs.Prelude.{◌≡◌, ◌+◌, ℕ, List, IsTrue, IfOk, Result, [], All}
 use Rattle.std.specs.Global.{Vec}
 use Rattle.std.specs.Result.{IsOkAnd}
 use Rattle.relation_terms.specs.declared.predicate.regions.OutlivesPredicate.{OutlivesPredicate}
 use Rattle.term_enums.specs.declared.Variance.{Variance}
-use Rattle.term_enums.specs.declared.Variance.TheVariants.{Invariant}
 use Rattle.relation_terms.specs.declared.terms.goal.Goal.{Goal}
 use Rattle.relation_terms.specs.declared.terms.keys.TyKey.{TyKey}
 use Rattle.relation_terms.specs.declared.terms.keys.ConstKey.{ConstKey}
@@ -18,7 +17,7 @@ use Rattle.relation_contexts.specs.Stores.{Store, IsTermIn, IsRegionIn, all_boun
 use Rattle.relation_contexts.specs.Goals.{goals_of, KnowsGoal, Registered}
 use Rattle.relation_contexts.specs.Covered.{IsCovered}
 use Rattle.relation_contexts.specs.Lawful.{items_of}
-use Rattle.relation_contexts.specs.Settings.{Setup}
+use Rattle.relation_contexts.specs.Settings.{Settings, Setup}
 
 -- A context as it stands: what the keys of its interner mean, what it has recorded of variables and regions, and its
 -- own invariant; how it was made, the types that are to outlive regions in the order in which that was registered, and
@@ -63,14 +62,13 @@ module _ {Key Id Name : Type 0} where
 
 -- Between a context before the call and after it.
 module _ {Key Id Name : Type 0} (c d : Context Key Id Name) where
-  -- Each goal is known, and registered in the environment: that of two type variables, each unbound before or made on
-  -- the way, the one is a subtype of the other; or that a type with a bivariant part is well formed. At invariance there
-  -- is none.
-  abbrev pub RegistersGoals : ParamEnvKey Key → Variance →
+  -- Each goal is known, and registered in the environment, as relating is set up: that of two type variables, each
+  -- unbound before or made on the way, the one is a subtype of the other; that a type with a bivariant part is well
+  -- formed; that an alias and another term are one or in order; or that too much was met.
+  abbrev pub RegistersGoals : Settings → ParamEnvKey Key → Variance →
       Result (Vec (Goal Key (PredicateKey Key))) (RelateFault Key Id Name) → Type 0
-  RegistersGoals e v result = IfOk result (λ goals. All (KnowsGoal d.meaning) goals.items × All (Registered
-      (items_of c.meaning) false v ((c.meaning).param_env e) c.store d.store) (goals_of d.meaning goals.items) ×
-      (v ≡ Invariant → goals.items ≡ []))
+  RegistersGoals k e v result = IfOk result (λ goals. All (KnowsGoal d.meaning) goals.items × All (Registered
+      (items_of c.meaning) k v ((c.meaning).param_env e) c.store d.store) (goals_of d.meaning goals.items))
 
   -- No goal is answered, and nothing is recorded.
   abbrev pub DoesNothing : Result (Vec (Goal Key (PredicateKey Key))) (RelateFault Key Id Name) → Type 0

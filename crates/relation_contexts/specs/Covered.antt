@@ -1,4 +1,4 @@
--- The terms that relating has rules for so far.
+-- The terms that relating has rules for.
 use Rattle.relation_terms.specs.Heads.{Atom, bool_type, char_type, str_type, never_type, type_error, int_type}
 use Rattle.relation_terms.specs.Heads.{uint_type, float_type, foreign, fresh_type, fresh_int, fresh_float, type_param}
 use Rattle.relation_terms.specs.Heads.{static_region, early_region, const_error, fresh_const, const_param, value_leaf}
@@ -14,13 +14,13 @@ use Rattle.relation_terms.specs.Heads.{environment, Leaf, variable, bound, place
 use Rattle.relation_terms.specs.Trees.{Tree, leaf, node, bind, nil, cons}
 use Rattle.relation_contexts.specs.Bound.{AreBoundAs}
 
--- Types, regions, constants, value trees, patterns and auto traits: no error, and nothing that stands for a variable.
+-- Types, regions, constants, errors, value trees, patterns and auto traits: nothing that stands for a variable.
 abbrev pub IsCoveredAtom : Atom → Type 0
 IsCoveredAtom bool_type = Unit {0}
 IsCoveredAtom char_type = Unit {0}
 IsCoveredAtom str_type = Unit {0}
 IsCoveredAtom never_type = Unit {0}
-IsCoveredAtom type_error = ⊥
+IsCoveredAtom type_error = Unit {0}
 IsCoveredAtom (int_type w) = Unit {0}
 IsCoveredAtom (uint_type w) = Unit {0}
 IsCoveredAtom (float_type w) = Unit {0}
@@ -31,7 +31,7 @@ IsCoveredAtom (fresh_float n) = ⊥
 IsCoveredAtom (type_param i n) = Unit {0}
 IsCoveredAtom static_region = Unit {0}
 IsCoveredAtom (early_region i n) = Unit {0}
-IsCoveredAtom const_error = ⊥
+IsCoveredAtom const_error = Unit {0}
 IsCoveredAtom (fresh_const n) = ⊥
 IsCoveredAtom (const_param i n) = Unit {0}
 IsCoveredAtom (value_leaf b n) = Unit {0}
@@ -48,8 +48,7 @@ IsCoveredLeaf (placeholder k u n) = Unit {0}
 IsCoveredLeaf (atom x) = IsCoveredAtom x
 IsCoveredLeaf unknown = ⊥
 
--- Types, constants, value trees, patterns, signatures and predicates of trait objects over parts, and lists of arguments:
--- no alias, and no unevaluated constant.
+-- Types, constants, value trees, patterns, signatures and predicates of trait objects over parts, and lists of arguments.
 abbrev pub IsCoveredHead : Head → Type 0
 IsCoveredHead (adt d) = Unit {0}
 IsCoveredHead (fn_def d) = Unit {0}
@@ -66,10 +65,10 @@ IsCoveredHead dynamic = Unit {0}
 IsCoveredHead fn_ptr = Unit {0}
 IsCoveredHead (raw_ptr m) = Unit {0}
 IsCoveredHead (ref m) = Unit {0}
-IsCoveredHead (alias k d) = ⊥
+IsCoveredHead (alias k d) = Unit {0}
 IsCoveredHead (signature v s a) = Unit {0}
 IsCoveredHead inputs = Unit {0}
-IsCoveredHead (unevaluated d) = ⊥
+IsCoveredHead (unevaluated d) = Unit {0}
 IsCoveredHead (expression k) = Unit {0}
 IsCoveredHead value = Unit {0}
 IsCoveredHead value_type = Unit {0}

@@ -30,7 +30,9 @@ use Rattle.relation_folds.specs.declared.error.TypeError.TheVariants.{Sorts, Cyc
 use Rattle.relation_folds.specs.declared.error.TypeError.TheVariants.{ArgumentSorts, ArgumentMutability, ProjectionMismatched}
 use Rattle.relation_folds.specs.declared.error.TypeError.TheVariants.{VariadicMismatch, SafetyMismatch, AbiMismatch, ArgCount}
 use Rattle.relation_folds.specs.declared.error.TypeError.TheVariants.{Traits, ExistentialMismatch}
-use Rattle.relation_contexts.specs.Relation.{Items, plain_atom, sort_of, part_at, IsError}
+use Rattle.relation_contexts.specs.declared.relate.StructurallyRelateAliases.{StructurallyRelateAliases}
+use Rattle.relation_contexts.specs.Generalising.{IsSeen}
+use Rattle.relation_contexts.specs.Relation.{Items, plain_atom, sort_of, part_at, IsError, IsAlias}
 use Rattle.relation_contexts.specs.Stores.{Store, bound_to, entry_of, resolved, universe_of, MayStandFor}
 use Rattle.relation_contexts.specs.Steps.{OneClass}
 use Rattle.relation_contexts.specs.Settings.{Settings, LeavesAliases, LeavesOpaque}
@@ -106,10 +108,12 @@ AreAlikeLeaves x y = outer_leaf x ≡ outer_leaf y
 abbrev pub AreAlike : Tree → Tree → Type 0
 AreAlike t u = outermost t ≡ outermost u
 
--- Two types, or two patterns, of one outermost form with as many parts; or one form without parts; or two parameters of
--- one index.
+-- Two types, or two patterns, of one outermost form with as many parts, the kind of an alias aside; or one form without
+-- parts; or two parameters of one index.
 pub data AreOfOneForm (a b : Tree) : Type 0 where
   over_parts : {h : Head} {ts us : Tree} → a ≡ node h ts → b ≡ node h us → count ts ≡ count us → AreOfOneForm a b
+  over_aliases : {k l : AliasKind} {d : ℕ} {ts us : Tree} → a ≡ node (alias k d) ts → b ≡ node (alias l d) us →
+      count ts ≡ count us → AreOfOneForm a b
   one_leaf : {l : Leaf} → a ≡ leaf l → b ≡ leaf l → AreOfOneForm a b
   parameters : {x y : Atom} → a ≡ leaf (atom x) → b ≡ leaf (atom y) → plain_atom x ≡ plain_atom y → AreOfOneForm a b
 
@@ -126,15 +130,18 @@ pub data AreOfOneConst (a b : Tree) : Type 0 where
       b ≡ node value (cons (node value_type (cons u nil)) (cons w nil)) → AreOfOneValue v w → AreOfOneConst a b
   expressions : {k : ℕ} {ts us : Tree} → a ≡ node (expression k) ts → b ≡ node (expression k) us →
       count ts ≡ count us → AreOfOneConst a b
+  over_arguments : {d : ℕ} {ts us : Tree} → a ≡ node (unevaluated d) ts → b ≡ node (unevaluated d) us →
+      count ts ≡ count us → AreOfOneConst a b
   one_const_leaf : {l : Leaf} → a ≡ leaf l → b ≡ leaf l → AreOfOneConst a b
   const_parameters : {x y : Atom} → a ≡ leaf (atom x) → b ≡ leaf (atom y) → plain_atom x ≡ plain_atom y →
       AreOfOneConst a b
 
--- Two constants are of one outermost form; of expressions the operations and the number of arguments may differ.
+-- Two constants are of one outermost form, and two unevaluated ones have as many arguments; of expressions the
+-- operations and the number of arguments may differ.
 pub data AreAlikeConsts (t u : Tree) : Type 0 where
   alike_leaves : {x y : Leaf} → t ≡ leaf x → u ≡ leaf y → AreAlikeLeaves x y → AreAlikeConsts t u
   of_one_item : {d : ℕ} {ts us : Tree} → t ≡ node (unevaluated d) ts → u ≡ node (unevaluated d) us →
-      AreAlikeConsts t u
+      count ts ≡ count us → AreAlikeConsts t u
   both_expressions : {k l : ℕ} {ts us : Tree} → t ≡ node (expression k) ts → u ≡ node (expression l) us →
       AreAlikeConsts t u
   both_values : {x y v w : Tree} → t ≡ node value (cons x (cons v nil)) → u ≡ node value (cons y (cons w nil)) →
@@ -252,19 +259,18 @@ IsHandedOn e normalizes_to i t u = Unit {0}
 IsHandedOn e (alias_relate d) i t u = Unit {0}
 IsHandedOn e environment i t u = Unit {0}
 
--- The leaf stands in the term, outside the aliases in it.
-abbrev pub StandsOutside : Leaf → Tree → Type 0
-StandsOutside l (leaf k) = leaf k ≡ leaf l
-StandsOutside l (node (alias k d) ts) = ⊥
-StandsOutside l (node h ts) = StandsOutside l ts
-StandsOutside l (bind ks t) = StandsOutside l t
-StandsOutside l nil = ⊥
-StandsOutside l (cons t ts) = StandsOutside l t ⊎ StandsOutside l ts
+-- The leaf stands in the term, outside the aliases in it where these are left to goals.
+abbrev pub StandsSeen : StructurallyRelateAliases → Leaf → Tree → Type 0
+StandsSeen g l (leaf k) = leaf k ≡ leaf l
+StandsSeen g l (node h ts) = IsSeen g h × StandsSeen g l ts
+StandsSeen g l (bind ks t) = StandsSeen g l t
+StandsSeen g l nil = ⊥
+StandsSeen g l (cons t ts) = StandsSeen g l t ⊎ StandsSeen g l ts
 
--- The variable stands in the term outside the aliases in it, and the term is not the variable itself. In an alias it
--- makes no cycle, as a variable takes the alias's place where the term is bound.
-abbrev pub IsCycle : VarKind → ℕ → Tree → Type 0
-IsCycle k n t = StandsOutside (variable k n) t × (t ≢ leaf (variable k n))
+-- The variable stands in the term, which is not the variable itself. In an alias that is left to a goal it makes no
+-- cycle, as a variable takes the alias's place where the term is bound.
+abbrev pub IsCycle : StructurallyRelateAliases → VarKind → ℕ → Tree → Type 0
+IsCycle g k n t = StandsSeen g (variable k n) t × (t ≢ leaf (variable k n))
 
 -- The first of two terms is a variable that may be bound to the second: of a kind for which that may stand.
 abbrev pub IsVariableFor : Tree → Tree → Type 0
@@ -295,12 +301,6 @@ pub data IsReadAs (st : Store) : Tree → Tree → Type 0 where
   by_binding : {t u v : Tree} (k : VarKind) (n : ℕ) → t ≡ leaf (variable k n) → entry_of st k n ≡ bound_to u →
       IsReadAs st u v → IsReadAs st t v
 
--- An alias type, or a constant that isn't evaluated.
-abbrev pub IsUnnormalized : Tree → Type 0
-IsUnnormalized (node (alias k d) ts) = Unit {0}
-IsUnnormalized (node (unevaluated d) ts) = Unit {0}
-IsUnnormalized t = ⊥
-
 -- An opaque type.
 abbrev pub IsOpaque : Tree → Type 0
 IsOpaque (node (alias opaque_alias d) ts) = Unit {0}
@@ -314,7 +314,7 @@ IsOpaqueBeside t u = IsOpaque t
 -- A pair is left to a goal, as a relation is set up: one of the two is an alias, and aliases are; or an opaque type beside
 -- no variable, and opaque types are.
 abbrev pub IsLeftToGoal : Settings → Tree → Tree → Type 0
-IsLeftToGoal k a b = (LeavesAliases k × (IsUnnormalized a ⊎ IsUnnormalized b)) ⊎
+IsLeftToGoal k a b = (LeavesAliases k × (IsAlias a ⊎ IsAlias b)) ⊎
     (LeavesOpaque k × (IsOpaqueBeside a b ⊎ IsOpaqueBeside b a))
 
 -- How two terms are brought together: as a pair that is met, which may be left to a goal, or a variable bound by it; or
@@ -335,6 +335,9 @@ module _ {Key Id Name : Type 0} (m : Meaning Key Id Name) where
         (count ts ≡ zero) ⊎ (count us ≡ zero) → FormError x y (Sorts (record { expected = x; found = y }))
     as_many : {h : Head} {ts us : Tree} → m.ty x ≡ node h ts → m.ty y ≡ node h us → h ≢ tuple →
         count ts ≢ count us → FormError x y (Sorts (record { expected = x; found = y }))
+    alias_arguments : {k l : AliasKind} {d : ℕ} {ts us : Tree} → m.ty x ≡ node (alias k d) ts →
+        m.ty y ≡ node (alias l d) us → count ts ≢ count us →
+        FormError x y (Sorts (record { expected = x; found = y }))
     unlike_aliases : {k l : AliasKind} {ts us : Tree} (c d : Id) → m.ty x ≡ node (alias k (m.id c)) ts →
         m.ty y ≡ node (alias l (m.id d)) us → m.id c ≢ m.id d →
         FormError x y (ProjectionMismatched (record { expected = c; found = d }))
@@ -383,16 +386,18 @@ module _ {Key Id Name : Type 0} (m : Meaning Key Id Name) where
         node object (m.existential_predicates y) ≡ b → ObjectError x y e → PartError a b e
 
   -- A variable can't be bound to a term, and the error that says why: it stands in what the term comes to; or there
-  -- stands a placeholder of a type or a constant that is of a universe beyond the variable's.
-  pub data BindingError (st : Store) (a b : Tree) (e : TypeError Key Id Name) : Type 0 where
+  -- stands a placeholder of a type or a constant that is of a universe beyond the variable's. What stands in aliases
+  -- counts where these are related by their parts.
+  pub data BindingError (g : StructurallyRelateAliases) (st : Store) (a b : Tree) (e : TypeError Key Id Name) :
+      Type 0 where
     cyclic_ty : (n : ℕ) (k : TyKey Key) → a ≡ leaf (variable type_var n) → m.ty k ≡ apply (resolved st) b →
-        IsCycle type_var n (m.ty k) → e ≡ CyclicTy k → BindingError st a b e
+        IsCycle g type_var n (m.ty k) → e ≡ CyclicTy k → BindingError g st a b e
     cyclic_const : (n : ℕ) (k : ConstKey Key) → a ≡ leaf (variable const_var n) →
-        m.const_ k ≡ apply (resolved st) b → IsCycle const_var n (m.const_ k) → e ≡ CyclicConst k →
-        BindingError st a b e
+        m.const_ k ≡ apply (resolved st) b → IsCycle g const_var n (m.const_ k) → e ≡ CyclicConst k →
+        BindingError g st a b e
     beyond : (k : VarKind) (n : ℕ) (q : BoundKind) (u i : ℕ) → a ≡ leaf (variable k n) →
-        StandsOutside (placeholder q u i) (apply (resolved st) b) → bound_sort q ≢ region_sort →
-        universe_of st k n < u → e ≡ Mismatch → BindingError st a b e
+        StandsSeen g (placeholder q u i) (apply (resolved st) b) → bound_sort q ≢ region_sort →
+        universe_of st k n < u → e ≡ Mismatch → BindingError g st a b e
 
   mutual
     -- The error comes of a pair that is met when two terms are related at a variance that is not bivariance: of what they
@@ -405,10 +410,10 @@ module _ {Key Id Name : Type 0} (m : Meaning Key Id Name) where
       of_bodies : {v : Variance} {e : _} {ks ls : List BoundKind} {a b t u : Tree} (xs ys : List Tree) →
           a ≡ bind ks t → b ≡ bind ls u → StandFor ks xs → StandFor ls ys →
           ErrorOf k c st v e (inst xs 0 t) (inst ys 0 u) → ErrorOf k c st v e a b
-      of_binding : {v : Variance} {e : _} {a b : Tree} → v ≢ Bivariant → BindingError st a b e →
-          ErrorOf k c st v e a b
-      of_binding_back : {v : Variance} {e : _} {a b : Tree} → v ≢ Bivariant → BindingError st b a e →
-          ErrorOf k c st v e a b
+      of_binding : {v : Variance} {e : _} {a b : Tree} → v ≢ Bivariant →
+          BindingError k.structurally_relate_aliases st a b e → ErrorOf k c st v e a b
+      of_binding_back : {v : Variance} {e : _} {a b : Tree} → v ≢ Bivariant →
+          BindingError k.structurally_relate_aliases st b a e → ErrorOf k c st v e a b
       of_kinds : {v : Variance} {a b : Tree} → v ≢ Bivariant → sort_of a ≢ sort_of b → ErrorOf k c st v Mismatch a b
       by_forms : {v : Variance} {e : _} {a b : Tree} → (IsLeftToGoal k a b → ⊥) → ErrorByForms k c st v e a b →
           ErrorOf k c st v e a b
@@ -427,6 +432,9 @@ module _ {Key Id Name : Type 0} (m : Meaning Key Id Name) where
       of_parts : {v : Variance} {e : _} {h : Head} {a b ts us : Tree} (i : ℕ) → a ≡ node h ts → b ≡ node h us →
           count ts ≡ count us → i < count ts → IsHandedOn e h i (nth i ts) (nth i us) →
           ErrorOf k c st (part_at c h i v) e (nth i ts) (nth i us) → ErrorByForms k c st v e a b
+      of_alias_parts : {v : Variance} {e : _} {h l : AliasKind} {d : ℕ} {a b ts us : Tree} (i : ℕ) →
+          a ≡ node (alias h d) ts → b ≡ node (alias l d) us → count ts ≡ count us → i < count ts →
+          ErrorOf k c st (part_at c (alias h d) i v) e (nth i ts) (nth i us) → ErrorByForms k c st v e a b
       of_length : {v : Variance} {p : ExpectedFound (ConstKey Key)} {a b ts us : Tree} (x y : ConstKey Key) (i : ℕ) →
           a ≡ node array ts → b ≡ node array us → count ts ≡ count us → i < count ts → nth i ts ≡ m.const_ x →
           nth i us ≡ m.const_ y → ErrorOf k c st (part_at c array i v) (ConstMismatch p) (nth i ts) (nth i us) →

@@ -9,7 +9,9 @@ use Rattle.term_enums.specs.declared.Variance.{Variance}
 use Rattle.term_enums.specs.declared.Variance.TheVariants.{Covariant, Contravariant, Bivariant}
 use Rattle.relation_terms.specs.Heads.{type_var, ambiguous, subtype, well_formed, alias_relate, variable, atom}
 use Rattle.relation_terms.specs.Trees.{Tree, leaf, node, bind, nil, cons, Assign, apply, known}
-use Rattle.relation_contexts.specs.Relation.{Items, Interpretation, IsEqualPair, IsOrderedPair, Rel, at, mode}
+use Rattle.relation_contexts.specs.declared.relate.StructurallyRelateAliases.TheVariants.{No}
+use Rattle.relation_contexts.specs.Relation.{Items, Interpretation, IsAlias, IsEqualPair, IsOrderedPair, Rel, at, mode}
+use Rattle.relation_contexts.specs.Settings.{Settings, LeavesOpaque}
 use Rattle.relation_contexts.specs.Stores.{Store, unbound, entry_of, IsMade, Satisfies, InContext}
 
 -- A registered goal: a predicate, whole, in the environment in which it is to hold.
@@ -96,21 +98,27 @@ IsDirected v = ⊥
 abbrev pub ByDeclared : Bool → Variance → Type 0
 ByDeclared always v = IsDirected v ⊎ IsTrue always
 
--- What relating at a variance registers between two stores: at covariance and contravariance, that of two such variables
--- the one is a subtype of the other; where items' arguments are related at declared variances, that a type of the
--- context with a bivariant part is well formed.
-pub data IsRegistered (c : Items) (always : Bool) (v : Variance) (before after : Store) (p : Tree) : Type 0 where
+-- What relating at a variance registers between two stores, as a relation is set up: at covariance and contravariance,
+-- that of two such variables the one is a subtype of the other; where items' arguments are related at declared variances,
+-- that a type of the context with a bivariant part is well formed; where aliases aren't related by their items, that two
+-- terms of the context, one an alias, are one, or at covariance and contravariance in order; and where opaque types are
+-- left open, that too much was met.
+pub data IsRegistered (c : Items) (k : Settings) (v : Variance) (before after : Store) (p : Tree) : Type 0 where
   of_variables : (x : Bool) (n m : ℕ) → IsDirected v →
       p ≡ subtype_predicate x (leaf (variable type_var n)) (leaf (variable type_var m)) → IsOpen before after n →
-      IsOpen before after m → IsRegistered c always v before after p
-  of_type : (t : Tree) → ByDeclared always v → p ≡ well_formed_predicate t → InContext after t →
-      HasBivariantPart c t → IsRegistered c always v before after p
+      IsOpen before after m → IsRegistered c k v before after p
+  of_type : (t : Tree) → ByDeclared k.declared_at_invariance v → p ≡ well_formed_predicate t → InContext after t →
+      HasBivariantPart c t → IsRegistered c k v before after p
+  of_alias : (d : AliasRelationDirection) (a b : Tree) → k.structurally_relate_aliases ≡ No →
+      p ≡ alias_relate_predicate d a b → IsAlias a ⊎ IsAlias b → (d ≡ Equate) ⊎ IsDirected v → InContext after a →
+      InContext after b → IsRegistered c k v before after p
+  of_too_much : LeavesOpaque k → p ≡ ambiguous_predicate → IsRegistered c k v before after p
 
 -- A goal that relating at a variance registers between two stores, in an environment.
-pub record Registered (c : Items) (always : Bool) (v : Variance) (e : Tree) (before after : Store) (g : Goal)
+pub record Registered (c : Items) (k : Settings) (v : Variance) (e : Tree) (before after : Store) (g : Goal)
     : Type 0 where
   pub environment : g.environment ≡ e
-  pub asks : IsRegistered c always v before after g.predicate
+  pub asks : IsRegistered c k v before after g.predicate
 
 -- Both sides of a subtype or alias goal are one tree.
 abbrev pub HasOneTree : Assign → Asked → Type 0
@@ -123,11 +131,11 @@ HasOneTree s asks_nothing = Unit {0}
 abbrev pub MakesOneTree : Assign → Goal → Type 0
 MakesOneTree s g = HasOneTree s (asked g.predicate)
 
--- Neither a subtype nor an alias goal.
+-- Neither a subtype nor an alias goal, nor one that is never so.
 abbrev pub AsksNoPair : Asked → Type 0
 AsksNoPair (asks_subtype a b) = ⊥
 AsksNoPair (asks_alias d a b) = ⊥
-AsksNoPair asks_too_much = Unit {0}
+AsksNoPair asks_too_much = ⊥
 AsksNoPair asks_nothing = Unit {0}
 
 -- A goal that asks nothing of two terms.

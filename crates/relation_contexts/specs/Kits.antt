@@ -5,11 +5,12 @@
 --   IsBuiltOf k t          a term is built of a kit
 --   BindsBuiltOf k st      so is each term that a variable is bound to
 --   IsGoalOf k g           so are the terms that a goal speaks of
+--   HasNoError k           it has no error
 --   Builds k st st' gs     so is what was bound and registered from one record to another
 --   StaysBuilt st st' gs a b    so it is by each kit of which two terms and the bindings before were built
 --   BuiltFrom st a b x y   by each such kit two other terms are built of it too
 use Rattle.std.specs.Prelude.{◌≡◌, ℕ, Bool, false, List, All, IsTrue}
-use Rattle.relation_terms.specs.Heads.{VarKind, Head, Atom, atom}
+use Rattle.relation_terms.specs.Heads.{VarKind, Head, alias, opaque_alias, Atom, type_error, const_error, ambiguous, atom}
 use Rattle.relation_terms.specs.Trees.{Tree, leaf, node, bind, nil, cons}
 use Rattle.relation_contexts.specs.Stores.{Store, bound_to, entry_of}
 use Rattle.relation_contexts.specs.Goals.{Goal}
@@ -33,21 +34,32 @@ IsBuiltOf k (cons t ts) = IsBuiltOf k t × IsBuiltOf k ts
 abbrev pub BindsBuiltOf : Kit → Store → Type 0
 BindsBuiltOf k st = (j : VarKind) (n : ℕ) (t : Tree) → entry_of st j n ≡ bound_to t → IsBuiltOf k t
 
--- What a predicate speaks of: the parts of its form.
-abbrev pub spoken_of : Tree → Tree
-spoken_of (bind ks (node h ts)) = ts
-spoken_of p = p
+-- It has opaque types.
+abbrev pub HasOpaque : Kit → Type 0
+HasOpaque k = (d : ℕ) × IsTrue (k.heads (alias opaque_alias d))
+
+-- It has no error.
+abbrev pub HasNoError : Kit → Type 0
+HasNoError k = (k.atoms type_error ≡ false) × (k.atoms const_error ≡ false)
+
+-- What a predicate speaks of, the parts of its form, is built of it; where too much was met to tell, that was an opaque
+-- type.
+abbrev pub IsPredicateOf : Kit → Tree → Type 0
+IsPredicateOf k (bind ks (node h ts)) = IsBuiltOf k ts
+IsPredicateOf k (bind ks (leaf (atom ambiguous))) = HasOpaque k
+IsPredicateOf k p = IsBuiltOf k p
 
 -- All that a goal speaks of, beside its environment, is built of it.
 abbrev pub IsGoalOf : Kit → Goal → Type 0
-IsGoalOf k g = IsBuiltOf k (spoken_of g.predicate)
+IsGoalOf k g = IsPredicateOf k g.predicate
 
--- What is bound after, and what was registered, is built of a kit; and the current universe is the old one, unless the
--- kit has binders.
+-- What is bound after, and what was registered, is built of a kit; the current universe is the old one, unless the kit
+-- has binders; and it is tainted only if it was, unless the kit has an error.
 pub record Builds (k : Kit) (before after : Store) (added : List Goal) : Type 0 where
   pub binds : BindsBuiltOf k after
   pub asks : All (IsGoalOf k) added
   pub universe : k.binders ≡ false → after.universe ≡ before.universe
+  pub taint : HasNoError k → IsTrue after.tainted → IsTrue before.tainted
 
 -- Of whatever two terms and all that was bound are built, so is what is bound after and what was registered.
 abbrev pub StaysBuilt : Store → Store → List Goal → Tree → Tree → Type 0

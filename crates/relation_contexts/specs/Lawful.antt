@@ -87,7 +87,7 @@ pub record Manner : Type 1 where
   pub takes : Variance → Leaf → Type 0
   pub is_exact : Type 0
   pub records_asked : Type 0
-  pub registers_subtype : Type 0
+  pub registers_alone : Type 0
   pub relates_agreeing : Type 0
 
 -- The same by how a relation is set up.
@@ -133,8 +133,7 @@ module _ {Key Id Name : Type 0} where
 
   -- A goal that a relation registers, between where it stands and a later store.
   abbrev pub RegisteredIn : State Key Id Name → Store → Goal → Type 0
-  RegisteredIn r now = Registered (items_in r) r.kept.settings.declared_at_invariance r.ambient
-      r.kept.environment r.store now
+  RegisteredIn r now = Registered (items_in r) r.kept.settings r.ambient r.kept.environment r.store now
 
   -- Where it stands, a relation relates items' arguments at the variances that the items declare.
   abbrev pub RelatesByDeclared : State Key Id Name → Type 0
@@ -198,7 +197,7 @@ module _ {Key Id Name : Type 0} where
     pub outcome : Outcome (items_in r) r.kept.environment way r.store q.store r.goals added a b
     pub answer : MayAnswerBy M q way a t
     pub known : IsTrue (known t)
-    pub agrees : (M r.kept.settings).relates_agreeing → AgreeBy (items_in r) way a b
+    pub agrees : (M r.kept.settings).relates_agreeing → AgreeBy r.kept.settings (items_in r) way a b
 
   -- The same of two terms at a variance.
   abbrev pub Answers : Manners → State Key Id Name → State Key Id Name → List Goal → Variance → Tree → Tree → Tree →
@@ -273,7 +272,7 @@ module _ {Key Id Name : Type 0} where
     pub steps : StepsTo (items_in r) r.kept.environment r.store q.store r.goals added way a b way' x y
     pub errors : (m : Meaning Key Id Name) (k : Settings) (c : Items) (st : Store) (e : TypeError Key Id Name) →
         IsLater q.store st → IsSound st → ErrorOf m k c st (seen_at way') e x y → ErrorOf m k c st (seen_at way) e a b
-    pub agrees : (c : Items) → AgreeBy c way' x y → AgreeBy c way a b
+    pub agrees : (k : Settings) (c : Items) → AgreeBy k c way' x y → AgreeBy k c way a b
 
   -- The same of terms: of the first two at the ambient variance.
   abbrev pub Leads : State Key Id Name → State Key Id Name → List Goal → Tree → Tree → Variance → Tree → Tree → Type 0
@@ -354,7 +353,7 @@ module _ {Key Id Name : Type 0} where
     pub relates : Relates (items_in r) r.store r.goals r.kept.environment v a b
     pub unifies : (M r.kept.settings).is_exact → v ≡ Invariant → IsFirstOrderPair r.store a b → (s : Assign) →
         IsErasedSolution r.store s → Unifies s a b
-    pub agrees : (M r.kept.settings).relates_agreeing → Agree (items_in r) (at v) a b
+    pub agrees : (M r.kept.settings).relates_agreeing → Agree r.kept.settings (items_in r) (at v) a b
 
   -- A fault is want of memory.
   abbrev pub OnlyMemory : {X : Type 0} → Result X (RelateFault Key Id Name) → Type 0

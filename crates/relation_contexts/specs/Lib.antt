@@ -27,3 +27,5 @@ pub mod NumberValues
 pub mod ContextCalls
 pub mod Binders
 pub mod OpeningLaws
+pub mod AliasGoals
+pub mod Reads

@@ -17,10 +17,11 @@ IsFormed (leaf (placeholder k u n)) = leaf_sort (placeholder k u n) ≡ type_sor
 IsFormed (node h ts) = head_sort h ≡ type_sort
 IsFormed t = ⊥
 
--- A constant with an outermost form: a parameter, a placeholder, a value, an expression.
+-- A constant with an outermost form: a parameter, a placeholder, an error, a value, an item's or an expression's.
 abbrev pub IsFormedConst : Tree → Type 0
 IsFormedConst (leaf (atom x)) = atom_sort x ≡ const_sort
 IsFormedConst (leaf (placeholder k u n)) = leaf_sort (placeholder k u n) ≡ const_sort
+IsFormedConst (node (unevaluated d) ts) = Unit {0}
 IsFormedConst (node (expression k) ts) = Unit {0}
 IsFormedConst (node value ts) = Unit {0}
 IsFormedConst t = ⊥

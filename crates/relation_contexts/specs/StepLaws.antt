@@ -11,7 +11,7 @@ use Rattle.relation_contexts.specs.Relation.{plain, IsRelatedHead, IsValueLeaf, 
 use Rattle.relation_contexts.specs.Stores.{Store, IsMade, IsNamable, IsAssignment, IsInScope, InContext, OnlyShrinks}
 use Rattle.relation_contexts.specs.Stores.{MeetsBindings, bound_term, resolved}
 use Rattle.relation_contexts.specs.Goals.{Goal, Holds, Relates}
-use Rattle.relation_contexts.specs.Steps.{EntersForall, InstantiatesBinder, Instantiates}
+use Rattle.relation_contexts.specs.Steps.{EntersForall, InstantiatesBinder, Instantiates, LacksAliases}
 use Rattle.relation_contexts.specs.Outcomes.{Outcome, StepsTo, NeverOne, Exact, ExactStep, NoUnifier, Front, ExactFront}
 use Rattle.relation_contexts.specs.Headline.{KeepsUnifiers}
 
@@ -152,7 +152,8 @@ ExactStepsCompose = (before middle after : Store) (a b x y : Tree) → ExactStep
 abbrev pub InstantiatingIsExactStep : Type 0
 InstantiatingIsExactStep = (u : Variance) (before after : Store) (k : VarKind) (n : ℕ) (source term : Tree) →
     ((j : VarKind) (i : ℕ) (t : Tree) → bound_term before j i ≡ Some t → IsMade before j i) →
-    InContext before source → Instantiates before after u k n source term →
+    InContext before source → LacksAliases (apply (resolved before) source) →
+    Instantiates before after u k n source term →
     ExactStep before after (leaf (variable k n)) source term source ×
     ExactStep before after source (leaf (variable k n)) source term
 

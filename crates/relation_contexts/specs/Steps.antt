@@ -2,7 +2,7 @@
 use Rattle.std.specs.Prelude.{◌≡◌, ◌⊎◌, ℕ, suc, ◌<◌, ◌≤◌, min, List, [], ◌∷◌, ◌++◌, map, length, IsTrue}
 use Rattle.term_enums.specs.declared.Variance.{Variance}
 use Rattle.term_enums.specs.declared.Variance.TheVariants.{Invariant}
-use Rattle.relation_terms.specs.Heads.{BoundKind, bound_sort, VarKind, int_var, float_var, var_sort, Head, Leaf}
+use Rattle.relation_terms.specs.Heads.{BoundKind, bound_sort, VarKind, int_var, float_var, var_sort, Head, Leaf, alias}
 use Rattle.relation_terms.specs.Heads.{variable, placeholder, atom}
 use Rattle.relation_terms.specs.Trees.{Tree, leaf, node, bind, nil, cons, Assign, apply, inst, Leaves}
 use Rattle.relation_terms.specs.Erasure.{erase}
@@ -30,13 +30,14 @@ EntryStands after k (bound_to t) y = y ≡ bound_to t
 
 -- A later state: entries stand, but that an unbound variable may have got one, and that one variable of a class may
 -- stand for another; constraints stand, and others may stand behind them; no variable's universe rises, and the current
--- one does not fall; and only satisfying assignments were lost.
+-- one does not fall; a taint stays; and only satisfying assignments were lost.
 pub record IsLater (before after : Store) : Type 0 where
   pub grows : (k : VarKind) (n : ℕ) → IsMade before k n → IsMade after k n
   pub entries_stand : (k : VarKind) (n : ℕ) → EntryStands after k (entry_of before k n) (entry_of after k n)
   pub constraints_stand : (more : List Constraint) × (after.constraints ≡ before.constraints ++ more)
   pub universes_fall : (k : VarKind) (n : ℕ) → IsMade before k n → universe_of after k n ≤ universe_of before k n
   pub universe_stands : before.universe ≤ after.universe
+  pub taint_stands : IsTrue before.tainted → IsTrue after.tainted
   pub shrinks : OnlyShrinks before after
 
 -- A kind of number variables.
@@ -149,13 +150,14 @@ pub record AddsConstraint (before after : Store) (q : Constraint) : Type 0 where
   pub same_taint : after.tainted ≡ before.tainted
   pub same_budget : after.budget ≡ before.budget
 
--- The entries, the variables' universes, the constraints and the budget stand: what a new universe, a mark that two
--- variables are related, a type that is to outlive a region, or the taint changes is seen by no assignment.
+-- The entries, the variables' universes, the constraints and the budget stand, and a taint does: what a new universe, a
+-- mark that two variables are related, a type that is to outlive a region, or a taint changes is seen by no assignment.
 pub record ChangesNothing (before after : Store) : Type 0 where
   pub same_entries : (k : VarKind) → after.entries k ≡ before.entries k
   pub same_universes : (k : VarKind) → after.universes k ≡ before.universes k
   pub same_constraints : after.constraints ≡ before.constraints
   pub universe_stands : before.universe ≤ after.universe
+  pub taint_stands : IsTrue before.tainted → IsTrue after.tainted
   pub same_budget : after.budget ≡ before.budget
 
 -- That an error was met was recorded, and nothing else was.
@@ -260,8 +262,21 @@ pub record LeavesBody (before after : Store) (body opened : Tree) : Type 0 where
 -- A binder was opened with placeholders, or left where its body uses none.
 pub record EntersForall (before after : Store) (ks : List BoundKind) (body opened : Tree) : Type 0 where
   pub changes_nothing : ChangesNothing before after
+  pub same_taint : after.tainted ≡ before.tainted
   pub opens : LeavesBody before after body opened ⊎ ((StaysWithin 0 body → ⊥) ×
       EntersUniverse before after ks body opened)
+
+-- No alias type stands in a tree.
+abbrev pub IsNoAlias : Head → Type 0
+IsNoAlias (alias k d) = ⊥
+IsNoAlias h = Unit {0}
+
+abbrev pub LacksAliases : Tree → Type 0
+LacksAliases (leaf l) = Unit {0}
+LacksAliases (node h ts) = IsNoAlias h × LacksAliases ts
+LacksAliases (bind ks t) = LacksAliases t
+LacksAliases nil = Unit {0}
+LacksAliases (cons t ts) = LacksAliases t × LacksAliases ts
 
 -- A tree with some places replaced by new variables of their sort.
 pub data IsGeneralised (before after : Store) : Tree → Tree → Type 0 where
@@ -301,8 +316,8 @@ pub record Instantiates (before after : Store) (v : Variance) (k : VarKind) (n :
   pub stays_sound : IsSound before → IsSound after
   pub keeps : (w : Interpretation) (s : Assign) → Satisfies w before s → s k n ≡ apply s source →
       Extends before s (λ s'. Satisfies w after s')
-  pub keeps_erased : (s : Assign) → IsErasedSolution before s → Unifies s (leaf (variable k n)) source →
-      ExtendsErased before s (IsErasedSolution after)
+  pub keeps_erased : LacksAliases (apply (resolved before) source) → (s : Assign) → IsErasedSolution before s →
+      Unifies s (leaf (variable k n)) source → ExtendsErased before s (IsErasedSolution after)
   pub regions_alone : v ≡ Invariant → IsFirstOrder source → IsFirstOrderStore before →
       Leaves (IsNamedBy before (universe_of before k n)) (apply (resolved before) source) →
       erase term ≡ erase (apply (resolved before) source)

@@ -10,8 +10,9 @@ use Rattle.relation_contexts.specs.Stores.{Satisfies, ConstraintHolds, Constrain
 use Rattle.relation_contexts.specs.Steps.{Equates, BindsTo, Instantiates, RefusesToInstantiate, MakesVariable}
 use Rattle.relation_contexts.specs.Steps.{AddsConstraint, ChangesNothing, InstantiatesNumber, Resolves, Extends, Makes}
 use Rattle.relation_contexts.specs.Measures.{Goes}
-use Rattle.relation_contexts.specs.Generalising.{Stage, any_part, Generalised, InstantiatesBy, NumbersNameNothing}
-use Rattle.relation_contexts.specs.Generalising.{Obstacle, RefusesBy}
+use Rattle.relation_contexts.specs.declared.relate.StructurallyRelateAliases.{StructurallyRelateAliases}
+use Rattle.relation_contexts.specs.Generalising.{Stage, outside, any_part, Generalised, InstantiatesBy}
+use Rattle.relation_contexts.specs.Generalising.{NumbersNameNothing, Obstacle, RefusesBy}
 use Rattle.relation_contexts.specs.Outcomes.{Exact}
 use Rattle.relation_contexts.specs.ErasureLaws.{IsTypeOrConst}
 
@@ -55,24 +56,25 @@ CyclesRefuse = (st : Store) (v : Variance) (k : VarKind) (n : ℕ) (source : Tre
 
 -- What a term is generalised to is one term.
 abbrev pub GeneralisingIsOne : Type 0
-GeneralisingIsOne = (c : Items) (start : Store) (k : VarKind) (n : ℕ) (v : Variance) (r q : Stage)
-    (t x y : Tree) →
-    Generalised c start k n (any_part v) (record { store = start; met = [] }) t r x →
-    Generalised c start k n (any_part v) (record { store = start; met = [] }) t q y → x ≡ y
+GeneralisingIsOne = (g : StructurallyRelateAliases) (c : Items) (start : Store) (k : VarKind) (n : ℕ) (v : Variance)
+    (r q : Stage) (t x y : Tree) →
+    Generalised g c start k n (any_part outside v) (record { store = start; met = [] }) t r x →
+    Generalised g c start k n (any_part outside v) (record { store = start; met = [] }) t q y → x ≡ y
 
 -- Binding a variable of a type or a constant to what a term comes to, generalised for it, instantiates it; new
 -- variables on the way cost nothing, and the binding squares sizes at most.
 abbrev pub GeneralisingInstantiates : Type 0
-GeneralisingInstantiates = (c : Items) (before after : Store) (v : Variance) (k : VarKind) (n : ℕ)
-    (source term : Tree) → IsTypeOrConst k → InstantiatesBy c before after v k n source term →
+GeneralisingInstantiates = (g : StructurallyRelateAliases) (c : Items) (before after : Store) (v : Variance)
+    (k : VarKind) (n : ℕ) (source term : Tree) → IsTypeOrConst k → InstantiatesBy g c before after v k n source term →
     NumbersNameNothing before → IsSound before → IsTermIn before source → MayStandFor k source →
     Instantiates before after v k n source term × Goes (weight before source) before after
 
 -- Where an obstacle stands in what a term comes to, and that is not the variable itself, new variables alone refuse to
 -- instantiate the variable.
 abbrev pub GeneralisingRefuses : Type 0
-GeneralisingRefuses = (before after : Store) (v : Variance) (k : VarKind) (n : ℕ) (source : Tree) (o : Obstacle) →
-    IsTypeOrConst k → RefusesBy before after k n source o → IsSound before →
+GeneralisingRefuses = (g : StructurallyRelateAliases) (before after : Store) (v : Variance) (k : VarKind) (n : ℕ)
+    (source : Tree) (o : Obstacle) →
+    IsTypeOrConst k → RefusesBy g before after k n source o → IsSound before →
     apply (resolved before) source ≢ leaf (variable k n) → RefusesToInstantiate before after v k n source ×
     Goes 0 before after
 

@@ -171,7 +171,8 @@ pub trait InferCtxtLike {
         requires made { IsMade (state self.now).store const_var var.0 }
         ensures { IsRootOf (state self.now) const_var var.0 result.0 };
 
-    /// The type that a type variable's class is bound to, or else its root.
+    /// The type that a type variable's class is bound to, or else its root. Of another type variable that is read in
+    /// turn.
     fn opportunistic_resolve_ty_var(&self, vid: TyVid) -> Ty<Self::Interner>
         requires lawful { (state self.now).lawful }
         requires made { IsMade (state self.now).store type_var vid.0 }
@@ -206,7 +207,8 @@ pub trait InferCtxtLike {
         ensures reads { let c = state self.now in Reads c (leaf (variable region_var vid.0)) (c.meaning.region result) }
         ensures itself { ((state self.now).meaning).region result ≡ leaf (variable region_var vid.0) };
 
-    /// The type itself, or for a variable what its class is bound to, or else its root. It takes no memory.
+    /// The type itself, or for a variable what its class is bound to, or else its root. Of another variable that is read
+    /// in turn. It takes no memory.
     fn shallow_resolve(&self, ty: &Ty<Self::Interner>) -> Ty<Self::Interner>
         requires lawful { (state self.now).lawful }
         requires ty_known { KnowsTy (state self.now) ty.now }
@@ -355,14 +357,17 @@ pub trait InferCtxtLike {
         ensures marks { KeepsMarks (state self.old) (state self.new) };
 
     /// Binds an unresolved type variable, at a variance, to what a type comes to, generalised for what the variable can
-    /// name, for one of the budget, and answers the bound type. The type is no type variable, and has rules.
+    /// name, for one of the budget, and answers the bound type. The type is no type variable, and has rules. Where aliases
+    /// aren't related structurally, an alias in which the variable stands, or what it can't name, gives way to a new type
+    /// variable.
     ///
     /// # Errors
     /// `Budget` where no instantiation is left; `CyclicTy` where the variable stands in what the type comes to,
-    /// `Mismatch` where a placeholder does that the variable can't name; `Memory` where a growth was refused. Then
-    /// nothing was bound, though variables may have been made on the way, but for `Budget`.
+    /// `Mismatch` where a placeholder does that the variable can't name, outside of aliases that give way; `Memory` where
+    /// a growth was refused. Then nothing was bound, though variables may have been made on the way, but for `Budget`.
     ///
-    /// A type variable that is made on the way is marked as related to the one that it takes the place of.
+    /// A type variable that is made on the way is marked as related to the one that it takes the place of, and one that
+    /// takes an alias's to none.
     fn instantiate_ty_var_raw(
         &mut self,
         structurally_relate_aliases: StructurallyRelateAliases,
@@ -378,7 +383,8 @@ pub trait InferCtxtLike {
         requires source_covered { IsCovered (((state self.old).meaning).ty source_ty.now) }
         requires source_no_variable { IsNotVariable type_var (((state self.old).meaning).ty source_ty.now) }
         ensures grows { Grows (state self.old) (state self.new) }
-        ensures instantiates { BindsTy state self.old self.new instantiation_variance target_vid source_ty.now result }
+        ensures instantiates { let g = structurally_relate_aliases in let v = instantiation_variance in
+            BindsTy g state self.old self.new v target_vid source_ty.now result }
         ensures rest { MarksNew (state self.old) (state self.new) };
 
     /// The same of a constant variable and a constant that is no variable, at `Invariant`, with `CyclicConst`.
@@ -395,7 +401,8 @@ pub trait InferCtxtLike {
         requires source_covered { IsCovered (((state self.old).meaning).const_ source_ct.now) }
         requires source_no_variable { IsNotVariable const_var (((state self.old).meaning).const_ source_ct.now) }
         ensures grows { Grows (state self.old) (state self.new) }
-        ensures instantiates { BindsConst state self.old self.new target_vid source_ct.now result }
+        ensures instantiates { let g = structurally_relate_aliases in
+            BindsConst g state self.old self.new target_vid source_ct.now result }
         ensures rest { MarksNew (state self.old) (state self.new) };
 
     /// Records that `sup` outlives `sub`. After `OutOfMemory` nothing was recorded.

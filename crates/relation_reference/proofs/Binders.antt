@@ -121,6 +121,7 @@ same_changes st = record {
   same_universes = λ k. refl;
   same_constraints = refl;
   universe_stands = omega arith;
+  taint_stands = λ h. h;
   same_budget = refl;
 }
 
@@ -138,6 +139,7 @@ module _ {Key Id Name : Type 0} (c d : Context Key Id Name) where
       bound_var_escapes t ≡ false → x ≡ t → d.store ≡ c.store → EntersAs c d (under o t) x
   left_as (Some ks) t x k h e s = record {
     changes_nothing = subst (ChangesNothing c.store) (sym s) (same_changes c.store);
+    same_taint = ap (λ st. st.tainted) s;
     opens = inl (record { unused = none_escapes 0 t h; body_is = e; same_universe = ap (λ st. st.universe) s });
   }
   left_as None t x k h e s = absurd (false≢true k)

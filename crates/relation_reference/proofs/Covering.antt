@@ -99,7 +99,7 @@ module _ (st : Store) (g : IsSound st)
 
 -- What may be bound is covered.
 pub may_covered : (k : VarKind) (t : Tree) → MayBeBoundTo k t → IsCovered t
-may_covered type_var t h = h.1
+may_covered type_var t h = h
 may_covered int_var t h = h.1
 may_covered float_var t h = h.1
 may_covered const_var t h = h.1

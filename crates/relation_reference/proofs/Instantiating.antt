@@ -18,12 +18,12 @@ use Rattle.relation_contexts.specs.Covered.{IsCovered}
 use Rattle.relation_contexts.specs.ErasureLaws.{IsTypeOrConst}
 use Rattle.relation_contexts.specs.Stores.{Store, unbound, bound_to, entry_of, universe_of, IsMade, MayStandFor, InContext, IsTermIn, resolved}
 use Rattle.relation_contexts.specs.Steps.{BindsTo}
-use Rattle.relation_contexts.specs.Generalising.{gives_way_to, Stage, Turn, any_part, new_part, Generalised, met_before, met_first, no_type, stays, gives_way, by_parts, in_binder, variance_for, InstantiatesBy, MakesUnbound, makes_none, Obstacle, cycle, beyond, StopsAt}
+use Rattle.relation_contexts.specs.declared.relate.StructurallyRelateAliases.{StructurallyRelateAliases}
+use Rattle.relation_contexts.specs.Generalising.{gives_way_to, Side, outside, Stage, Turn, any_part, new_part, Generalised, met_before, met_first, no_type, stays, gives_way, alias_gives_way, by_parts, in_binder, variance_for, InstantiatesBy, MakesUnbound, makes_none, Obstacle, cycle, beyond, StopsAt}
 use Rattle.relation_contexts.specs.ContextCalls.{Instantiated, ObstacleError}
 use Rattle.relation_contexts.proofs.NewVariables.{Adds, adds}
 use Rattle.relation_contexts.proofs.Standing.{term_context, term_within}
 use Rattle.relation_contexts.proofs.StoreCalls.{resolved_in}
-use Rattle.relation_contexts.proofs.Numbers.{no_type_variable}
 use Rattle.relation_contexts.proofs.Variables.{covered_formed_const}
 use Rattle.relation_contexts.proofs.BindingGeneralised.{generalising_instantiates}
 use Rattle.relation_reference.specs.declared.context.inner.InferCtxtInner.{InferCtxtInner}
@@ -37,29 +37,30 @@ use Rattle.relation_reference.proofs.Generalising.{items_grow, generalised_cover
 use Rattle.relation_reference.proofs.Grows.{store_grows, lawful_grows}
 use Rattle.relation_reference.proofs.Writing.{bind_binds, bind_lawful}
 
--- Only a variable of a type or a constant becomes one.
-gives_own : (l : Leaf) (j : VarKind) → IsTypeOrConst j → gives_way_to l ≡ Some j → (m : ℕ) × (l ≡ variable j m)
-gives_own (variable type_var m) j o g = (m, ap (λ z. variable z m) (let e : type_var ≡ j = cc in e))
-gives_own (variable const_var m) j o g = (m, ap (λ z. variable z m) (let e : const_var ≡ j = cc in e))
-gives_own (variable region_var m) j o g = absurd (let e : region_var ≡ j = cc in subst IsTypeOrConst (sym e) o)
-gives_own (placeholder (bound_kind region_kind x) w m) j o g = absurd (let e : region_var ≡ j = cc in subst IsTypeOrConst (sym e) o)
-gives_own (atom static_region) j o g = absurd (let e : region_var ≡ j = cc in subst IsTypeOrConst (sym e) o)
-gives_own (atom (early_region b x)) j o g = absurd (let e : region_var ≡ j = cc in subst IsTypeOrConst (sym e) o)
-gives_own l j o g = absurd (cc)
+-- Only a variable of a constant becomes one.
+gives_const : (l : Leaf) → gives_way_to l ≡ Some const_var → (m : ℕ) × (l ≡ variable const_var m)
+gives_const (variable const_var m) g = (m, refl)
+gives_const (variable type_var m) g = absurd (cc)
+gives_const (variable region_var m) g = absurd (cc)
+gives_const (placeholder (bound_kind region_kind x) w m) g = absurd (cc)
+gives_const (atom static_region) g = absurd (cc)
+gives_const (atom (early_region b x)) g = absurd (cc)
+gives_const l g = absurd (cc)
 
-new_no_variable : {c : Items} {start : Store} {k : VarKind} {n : ℕ} {v : Variance} {r q : Stage} {t x : Tree} (j : VarKind) → IsTypeOrConst j → Generalised c start k n (new_part v) r t q x → ((m : ℕ) → t ≢ leaf (variable j m)) → (m : ℕ) → x ≢ leaf (variable j m)
-new_no_variable j kind (stays o s) f m h = f m h
-new_no_variable j kind (gives_way {l = l} {j = i} {m = d} o s e g b) f m h =
-    let same : i ≡ j = cc in
-    let own = gives_own l i (subst IsTypeOrConst (sym same) kind) e in
-    f own.0 (ap leaf own.1 ∙ ap (λ z. leaf (variable z own.0)) same)
-new_no_variable j kind (by_parts p g) f m h = cc
-new_no_variable j kind (in_binder g) f m h = cc
+new_no_const : {al : StructurallyRelateAliases} {c : Items} {start : Store} {k : VarKind} {n : ℕ} {e : Side} {v : Variance} {r q : Stage} {t x : Tree} → Generalised al c start k n (new_part e v) r t q x → ((m : ℕ) → t ≢ leaf (variable const_var m)) → (m : ℕ) → x ≢ leaf (variable const_var m)
+new_no_const (stays o s) f m h = f m h
+new_no_const (gives_way {l = l} {j = i} {m = d} o s e g b) f m h =
+    let same : i ≡ const_var = cc in
+    let own = gives_const l (e ∙ ap Some same) in
+    f own.0 (ap leaf own.1)
+new_no_const (alias_gives_way p o g b) f m h = cc
+new_no_const (by_parts p g) f m h = cc
+new_no_const (in_binder g) f m h = cc
 
-generalised_no_variable : {c : Items} {start : Store} {k : VarKind} {n : ℕ} {v : Variance} {r q : Stage} {t x : Tree} (j : VarKind) → IsTypeOrConst j → Generalised c start k n (any_part v) r t q x → r.met ≡ [] → ((m : ℕ) → t ≢ leaf (variable j m)) → (m : ℕ) → x ≢ leaf (variable j m)
-generalised_no_variable j kind (met_before {r = r} s h) e f = absurd (none_met r.met _ e h)
-generalised_no_variable j kind (met_first s o g a b) e f = new_no_variable j kind g f
-generalised_no_variable j kind (no_type s g) e f = new_no_variable j kind g f
+generalised_no_const : {al : StructurallyRelateAliases} {c : Items} {start : Store} {k : VarKind} {n : ℕ} {e : Side} {v : Variance} {r q : Stage} {t x : Tree} → Generalised al c start k n (any_part e v) r t q x → r.met ≡ [] → ((m : ℕ) → t ≢ leaf (variable const_var m)) → (m : ℕ) → x ≢ leaf (variable const_var m)
+generalised_no_const (met_before {r = r} s h) e f = absurd (none_met r.met _ e h)
+generalised_no_const (met_first s o g a b) e f = new_no_const g f
+generalised_no_const (no_type s g) e f = new_no_const g f
 
 -- The universe that a table has of a variable.
 pub universe_read : {K : Type 0} (vs : List (Variable K)) (i : ℕ) (d : Variable K) → i < length vs → d ≡ get_or vs i d → universe_at vs i ≡ (d.universe).0
@@ -90,15 +91,15 @@ no_variable_at_all t f o float_var n e = subst (IsTerm const_sort) e f
 no_variable_at_all t f o region_var n e = subst (IsTerm const_sort) e f
 
 -- What was generalised by equal items, from an equal start, for an equal term.
-generalised_moved : {k : VarKind} {i : ℕ} {turn : Turn} {last : Stage} {x : Tree} (c d : Items) (st now : Store) (t u : Tree) → d ≡ c → now ≡ st → u ≡ t →
-    Generalised d now k i turn (record { store = now; met = [] }) u last x → Generalised c st k i turn (record { store = st; met = [] }) t last x
-generalised_moved {k} {i} {turn} {last} {x} c d st now t u a b e g =
-    subst (λ z. Generalised z st k i turn (record { store = st; met = [] }) t last x) a
-    (subst (λ z. Generalised d z k i turn (record { store = z; met = [] }) t last x) b
-    (subst (λ z. Generalised d now k i turn (record { store = now; met = [] }) z last x) e g))
+generalised_moved : {al : StructurallyRelateAliases} {k : VarKind} {i : ℕ} {turn : Turn} {last : Stage} {x : Tree} (c d : Items) (st now : Store) (t u : Tree) → d ≡ c → now ≡ st → u ≡ t →
+    Generalised al d now k i turn (record { store = now; met = [] }) u last x → Generalised al c st k i turn (record { store = st; met = [] }) t last x
+generalised_moved {al} {k} {i} {turn} {last} {x} c d st now t u a b e g =
+    subst (λ z. Generalised al z st k i turn (record { store = st; met = [] }) t last x) a
+    (subst (λ z. Generalised al d z k i turn (record { store = z; met = [] }) t last x) b
+    (subst (λ z. Generalised al d now k i turn (record { store = now; met = [] }) z last x) e g))
 
-stops_moved : {k : VarKind} {i : ℕ} {o : Obstacle} (st now : Store) (t u : Tree) → now ≡ st → u ≡ t → StopsAt now k i o u → StopsAt st k i o t
-stops_moved {k} {i} {o} st now t u a e s = subst (λ z. StopsAt z k i o t) a (subst (StopsAt now k i o) e s)
+stops_moved : {al : StructurallyRelateAliases} {k : VarKind} {i : ℕ} {o : Obstacle} (st now : Store) (t u : Tree) → now ≡ st → u ≡ t → StopsAt al now k i o u → StopsAt al st k i o t
+stops_moved {al} {k} {i} {o} st now t u a e s = subst (λ z. StopsAt al z k i o t) a (subst (StopsAt al now k i o) e s)
 
 -- The tables `x` are those before, `w` those after the term was resolved, in an interner that had grown.
 module _ {Key Id Name : Type 0} {m n : Meaning Key Id Name} (grown : Extends m n) (x w : InferCtxtInner Key) (resolving : w ≡ x) (l : IsLawful m x) where
@@ -117,8 +118,8 @@ module _ {Key Id Name : Type 0} {m n : Meaning Key Id Name} (grown : Extends m n
     source_covered h = subst IsCovered (sym comes) (comes_covered m x l t h)
 
   -- Memory ran out on the way.
-  module _ {K : Type 0} (tree : Meaning Key Id Name → K → Tree) (cyclic : K → TypeError Key Id Name) (k : VarKind) (i : ℕ) (v : Variance) (t : Tree) (left : x.budget ≢ 0) where
-    pub out_of_memory : (r : Result K (RelateFault Key Id Name)) → IsErr r → IsErrAnd r (λ f. f ≡ Memory) → Instantiated (context_of m x) (context_of n w) v k i t tree cyclic r
+  module _ {K : Type 0} (tree : Meaning Key Id Name → K → Tree) (cyclic : K → TypeError Key Id Name) (al : StructurallyRelateAliases) (k : VarKind) (i : ℕ) (v : Variance) (t : Tree) (left : x.budget ≢ 0) where
+    pub out_of_memory : (r : Result K (RelateFault Key Id Name)) → IsErr r → IsErrAnd r (λ f. f ≡ Memory) → Instantiated (context_of m x) (context_of n w) al v k i t tree cyclic r
     out_of_memory (Ok y) a b = absurd (cc)
     out_of_memory (Err Memory) a b = (left, subst (MakesUnbound (universe_of (store_of m x) k i) (store_of m x)) (sym still) makes_none)
     out_of_memory (Err Budget) a b = absurd (cc)
@@ -126,7 +127,7 @@ module _ {Key Id Name : Type 0} {m n : Meaning Key Id Name} (grown : Extends m n
 
 -- The same with `z`, the tables after the term was generalised for a variable of universe `u`.
 module _ {Key Id Name : Type 0} {m n : Meaning Key Id Name} (o : Meaning Key Id Name) (grown : Extends m n) (x w z : InferCtxtInner Key) (resolving : w ≡ x) (l : IsLawful m x)
-    (k : VarKind) (i u : ℕ) (universe : universe_of (store_of n w) k i ≡ u) (makes : MakesUnbound u (store_of n w) (store_of o z)) where
+    (al : StructurallyRelateAliases) (k : VarKind) (i u : ℕ) (universe : universe_of (store_of n w) k i ≡ u) (makes : MakesUnbound u (store_of n w) (store_of o z)) where
   made_since : MakesUnbound (universe_of (store_of m x) k i) (store_of m x) (store_of o z)
   made_since = subst (λ s. MakesUnbound (universe_of s k i) s (store_of o z)) (still grown x w resolving l) (subst (λ y. MakesUnbound y (store_of n w) (store_of o z)) (sym universe) makes)
 
@@ -153,11 +154,11 @@ module _ {Key Id Name : Type 0} {m n : Meaning Key Id Name} (o : Meaning Key Id 
     its_error e cycle q = (key, stays_key ∙ comes, q)
     its_error e beyond q = q
 
-    pub stopped : (f : RelateFault Key Id Name) → IsGeneralisedFor n o (store_of n w) (store_of o z) k i a (cyclic key) p (Err f) →
-        (s : Result K (RelateFault Key Id Name)) → s ≡ Err f → Instantiated (context_of m x) (context_of o z) v k i t tree cyclic s
-    stopped f h s e = subst (Instantiated (context_of m x) (context_of o z) v k i t tree cyclic) (sym e) (go f h)
+    pub stopped : (f : RelateFault Key Id Name) → IsGeneralisedFor n o (store_of n w) (store_of o z) al k i a (cyclic key) p (Err f) →
+        (s : Result K (RelateFault Key Id Name)) → s ≡ Err f → Instantiated (context_of m x) (context_of o z) al v k i t tree cyclic s
+    stopped f h s e = subst (Instantiated (context_of m x) (context_of o z) al v k i t tree cyclic) (sym e) (go f h)
       where
-        go : (f : RelateFault Key Id Name) → IsGeneralisedFor n o (store_of n w) (store_of o z) k i a (cyclic key) p (Err f) → Instantiated (context_of m x) (context_of o z) v k i t tree cyclic (Err f)
+        go : (f : RelateFault Key Id Name) → IsGeneralisedFor n o (store_of n w) (store_of o z) al k i a (cyclic key) p (Err f) → Instantiated (context_of m x) (context_of o z) al v k i t tree cyclic (Err f)
         go Memory h = (left, made_since)
         go Budget h = absurd h
         go (Unrelated e) h = (known_error e h.0 h.2, (h.0, record { made = made; was_unbound = free; may_spend = left; makes = made_since; stops = stops_moved (store_of m x) (store_of n w) (apply (resolved (store_of m x)) t) (part_tree n p) (still grown x w resolving l) (is ∙ comes) h.1 }, its_error e h.0 h.2))
@@ -166,26 +167,26 @@ module _ {Key Id Name : Type 0} {m n : Meaning Key Id Name} (o : Meaning Key Id 
   module _ (y : InferCtxtInner Key) (term full : Tree) (kind : IsTypeOrConst k) (v : Variance) (t : Tree) (made : IsMade (store_of m x) k i) (free : entry_of (store_of m x) k i ≡ unbound) (z_lawful : IsLawful o z)
       (beside : Beside o z y k) (keys : keys_in o y k ≡ keys_in o z k) (entries : (store_of o y).entries k ≡ set ((store_of o z).entries k) i (bound_to term))
       (universes : (store_of o y).universes k ≡ (store_of o z).universes k) (budget : z.budget ≡ suc y.budget) (comes : full ≡ apply (resolved (store_of m x)) t)
-      (g : (last : Stage) × (last.store ≡ store_of o z) × Generalised (items_of n) (store_of n w) k i (any_part (variance_for k v)) (record { store = store_of n w; met = [] }) full last term)
+      (g : (last : Stage) × (last.store ≡ store_of o z) × Generalised al (items_of n) (store_of n w) k i (any_part outside (variance_for k v)) (record { store = store_of n w; met = [] }) full last term)
       (t_in : IsTermIn (store_of m x) t) (stands : MayStandFor k t) where
-    pub generalised_here : Generalised (items_of m) (store_of m x) k i (any_part (variance_for k v)) (record { store = (store_of m x); met = [] }) (apply (resolved (store_of m x)) t) (g.0) term
+    pub generalised_here : Generalised al (items_of m) (store_of m x) k i (any_part outside (variance_for k v)) (record { store = (store_of m x); met = [] }) (apply (resolved (store_of m x)) t) (g.0) term
     generalised_here = generalised_moved (items_of m) (items_of n) (store_of m x) (store_of n w) (apply (resolved (store_of m x)) t) full (items_grow grown) (still grown x w resolving l) comes g.2
 
-    pub by_rules : InstantiatesBy (items_of m) (store_of m x) (store_of o y) v k i t term
+    pub by_rules : InstantiatesBy al (items_of m) (store_of m x) (store_of o y) v k i t term
     by_rules = record { made = made; last = g.0; generalised = generalised_here; binds = subst (λ s. BindsTo s (store_of o y) k i term) (sym g.1) (bind_binds o z y k beside keys z_lawful i term entries universes (made_still made) (free_still free) budget) }
 
     pub bound_lawful : MayBeBoundTo k term → IsLawful o y
     bound_lawful may = bind_lawful o z y k beside keys z_lawful i term entries universes (made_still made) (free_still free) may
-        ((generalising_instantiates (items_of m) (store_of m x) (store_of o y) v k i t term kind by_rules l.numbers_name_nothing l.sound t_in stands).0.stays_sound l.sound)
+        ((generalising_instantiates al (items_of m) (store_of m x) (store_of o y) v k i t term kind by_rules l.numbers_name_nothing l.sound t_in stands).0.stays_sound l.sound)
 
 -- What variables are bound to may be bound.
-module _ {Key Id Name : Type 0} {c : Items} {k : VarKind} {n : ℕ} {v : Variance} {last : Stage} {term : Tree} (m : Meaning Key Id Name) (x : InferCtxtInner Key) (l : IsLawful m x) (t : Tree)
-    (g : Generalised c (store_of m x) k n (any_part v) (record { store = store_of m x; met = [] }) (apply (resolved (store_of m x)) t) last term) (covered : IsCovered t) where
+module _ {Key Id Name : Type 0} {al : StructurallyRelateAliases} {c : Items} {k : VarKind} {n : ℕ} {v : Variance} {last : Stage} {term : Tree} (m : Meaning Key Id Name) (x : InferCtxtInner Key) (l : IsLawful m x) (t : Tree)
+    (g : Generalised al c (store_of m x) k n (any_part outside v) (record { store = store_of m x; met = [] }) (apply (resolved (store_of m x)) t) last term) (covered : IsCovered t) where
   bound_covered : IsCovered term
   bound_covered = generalised_covered g (comes_covered m x l t covered)
 
-  pub type_may : IsTerm type_sort t → ((i : ℕ) → t ≢ leaf (variable type_var i)) → MayBeBoundTo type_var term
-  type_may f o = (generalised_no_variable type_var tt g refl (no_type_variable (store_of m x) l.sound t f o), bound_covered)
+  pub type_may : MayBeBoundTo type_var term
+  type_may = bound_covered
 
   -- Nothing escapes from what it is bound to.
   bound_within : IsTermIn (store_of m x) t → StaysWithin 0 term
@@ -193,4 +194,4 @@ module _ {Key Id Name : Type 0} {c : Items} {k : VarKind} {n : ℕ} {v : Varianc
       (term_within (store_of m x) (apply (resolved (store_of m x)) t) (resolved_in (store_of m x) l.sound t h))
 
   pub const_may : IsTerm const_sort t → ((i : ℕ) → t ≢ leaf (variable const_var i)) → IsTermIn (store_of m x) t → IsTerm const_sort term → MayBeBoundTo const_var term
-  const_may f o t_in h = (covered_formed_const term h bound_covered (bound_within t_in) (no_variable_at_all term h (generalised_no_variable const_var tt g refl (no_const_variable (store_of m x) t f o))), bound_covered)
+  const_may f o t_in h = (covered_formed_const term h bound_covered (bound_within t_in) (no_variable_at_all term h (generalised_no_const g refl (no_const_variable (store_of m x) t f o))), bound_covered)

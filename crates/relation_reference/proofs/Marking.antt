@@ -1,5 +1,5 @@
 -- Which type variables are marked as related after new ones were made.
-use Rattle.std.proofs.Common.{◌≡◌, inl, inr, ℕ, suc, ◌<◌, ◌≤◌, refl, sym, ap, ◌∙◌, arith, subst, length, length-append, List, ◌∷◌, [], set, le_refl, Some}
+use Rattle.std.proofs.Common.{◌≡◌, ◌⊎◌, inl, inr, le_of_eq, ℕ, suc, ◌<◌, ◌≤◌, refl, sym, ap, ◌∙◌, arith, subst, length, length-append, List, ◌∷◌, [], set, le_refl, Some}
 use Rattle.std.proofs.lemmas.List.{length-set, length-map}
 use native.Mathlib.Decide.{ℕ_discrete}
 use Rattle.std.specs.Global.{Vec}
@@ -113,28 +113,99 @@ module _ {I Key Id Name Span : Type 0} (meaning : I → Meaning Key Id Name) whe
         let low : root_in p.inner.sub_roots.items n ≤ n = l.sub_rooted.rooted.below n in
         let done : root_in q.inner.sub_roots.items n < length ((store_in meaning p).entries type_var) =
         omega (arith, within, same, low, long) in
-        done;
+        inl done;
   }
 
   pub marks_none : (p : RefCtxt I Key Id Name Span) → IsLawful (meaning p.interner) p.inner →
       MarksNew (context_in meaning p) (context_in meaning p)
   marks_none p l = marks_kept p p l refl (record { setup = refl; outliving = refl; marks = λ n. refl })
 
-  -- One after another.
-  pub marks_then : (p q r : RefCtxt I Key Id Name Span) → IsLawful (meaning r.interner) r.inner →
-      ((n : ℕ) → IsMade (store_in meaning p) type_var n → IsMade (store_in meaning q) type_var n) →
-      MarksNew (context_in meaning p) (context_in meaning q) → MarksNew (context_in meaning q) (context_in meaning r) →
-      MarksNew (context_in meaning p) (context_in meaning r)
-  marks_then p q r l grew a b = record {
-    setup = b.setup ∙ a.setup;
-    outliving = b.outliving ∙ a.outliving;
-    marks = λ n h. b.marks n (grew n h) ∙ a.marks n h;
+  -- Since an earlier context no type variable was made.
+  pub marks_still : (s p q : RefCtxt I Key Id Name Span) →
+      length ((store_in meaning q).entries type_var) ≡ length ((store_in meaning p).entries type_var) →
+      MarksNew (context_in meaning p) (context_in meaning q) →
+      ((n : ℕ) → IsMade (store_in meaning s) type_var n → IsMade (store_in meaning p) type_var n) →
+      MarksNew (context_in meaning s) (context_in meaning p) → MarksNew (context_in meaning s) (context_in meaning q)
+  marks_still s p q long r grew a = record {
+    setup = r.setup ∙ a.setup;
+    outliving = r.outliving ∙ a.outliving;
+    marks = λ n h. r.marks n (grew n h) ∙ a.marks n h;
     related = λ n h.
-        let root = root_in r.inner.sub_roots.items n in
-        let there = b.related n h in
-        subst (λ i. IsMade (store_in meaning p) type_var i)
-        (sym (b.marks root there) ∙ l.sub_rooted.rooted.own n) (a.related root there);
+        let within : n < length ((store_in meaning q).entries type_var) = h in
+        let there : n < length ((store_in meaning p).entries type_var) = omega (arith, within, long) in
+        moved n there (a.related n there);
   }
+    where
+      moved : (n : ℕ) → IsMade (store_in meaning p) type_var n →
+          IsMade (store_in meaning s) type_var (root_in p.inner.sub_roots.items n) ⊎ (root_in p.inner.sub_roots.items n ≡ n) →
+          IsMade (store_in meaning s) type_var (root_in q.inner.sub_roots.items n) ⊎ (root_in q.inner.sub_roots.items n ≡ n)
+      moved n k (inl h) = inl (subst (IsMade (store_in meaning s) type_var) (sym (r.marks n k)) h)
+      moved n k (inr e) = inr (r.marks n k ∙ e)
+
+  -- One was, with a mark that is one of that context, or none but itself.
+  module _ (s p q : RefCtxt I Key Id Name Span) (number u : ℕ)
+      (makes : MakesVariable (store_in meaning p) (store_in meaning q) type_var number u)
+      (setup : setup_in q.inner ≡ setup_in p.inner) (outliving : q.inner.ty_outlives.items ≡ p.inner.ty_outlives.items)
+      (stands : (n : ℕ) → IsMade (store_in meaning p) type_var n →
+      root_in q.inner.sub_roots.items n ≡ root_in p.inner.sub_roots.items n)
+      (grew : (n : ℕ) → IsMade (store_in meaning s) type_var n → IsMade (store_in meaning p) type_var n)
+      (a : MarksNew (context_in meaning s) (context_in meaning p))
+      (new : IsMade (store_in meaning s) type_var (root_in q.inner.sub_roots.items number) ⊎
+      (root_in q.inner.sub_roots.items number ≡ number)) where
+    pub marks_one : MarksNew (context_in meaning s) (context_in meaning q)
+    marks_one = record {
+      setup = setup ∙ a.setup;
+      outliving = outliving ∙ a.outliving;
+      marks = λ n h. stands n (grew n h) ∙ a.marks n h;
+      related = λ n h. go n h (ℕ_discrete n number);
+    }
+      where
+        before : (n : ℕ) → IsMade (store_in meaning p) type_var n →
+            IsMade (store_in meaning s) type_var (root_in p.inner.sub_roots.items n) ⊎ (root_in p.inner.sub_roots.items n ≡ n) →
+            IsMade (store_in meaning s) type_var (root_in q.inner.sub_roots.items n) ⊎ (root_in q.inner.sub_roots.items n ≡ n)
+        before n h (inl g) = inl (subst (IsMade (store_in meaning s) type_var) (sym (stands n h)) g)
+        before n h (inr e) = inr (stands n h ∙ e)
+
+        old : (n : ℕ) → IsMade (store_in meaning q) type_var n → (n ≡ number → ⊥) → IsMade (store_in meaning p) type_var n
+        old n h o =
+            let within : n < length ((store_in meaning q).entries type_var) = h in
+            let more = ap length makes.entries_grow in
+            let long = length-append ((store_in meaning p).entries type_var) (unbound ∷ []) in
+            let last = makes.number in
+            let done : n < length ((store_in meaning p).entries type_var) = omega (arith, within, more, long, last, o) in done
+
+        go : (n : ℕ) → IsMade (store_in meaning q) type_var n → Dec (n ≡ number) →
+            IsMade (store_in meaning s) type_var (root_in q.inner.sub_roots.items n) ⊎ (root_in q.inner.sub_roots.items n ≡ n)
+        go n h (yes e) = subst (λ i. IsMade (store_in meaning s) type_var (root_in q.inner.sub_roots.items i) ⊎
+            (root_in q.inner.sub_roots.items i ≡ i)) (sym e) new
+        go n h (no o) = before n (old n h o) (a.related n (old n h o))
+
+  -- It is marked as related to one of that context.
+  pub marks_joined : (s p q : RefCtxt I Key Id Name Span) (number u of : ℕ) →
+      MakesVariable (store_in meaning p) (store_in meaning q) type_var number u →
+      MarksNew (context_in meaning p) (context_in meaning q) →
+      root_in q.inner.sub_roots.items number ≡ root_in p.inner.sub_roots.items of →
+      ((n : ℕ) → IsMade (store_in meaning s) type_var n → IsMade (store_in meaning p) type_var n) →
+      MarksNew (context_in meaning s) (context_in meaning p) → IsMade (store_in meaning s) type_var of →
+      MarksNew (context_in meaning s) (context_in meaning q)
+  marks_joined s p q number u of makes b root grew a made =
+      marks_one s p q number u makes b.setup b.outliving b.marks grew a
+      (inl (subst (IsMade (store_in meaning s) type_var) (sym root) (there (a.related of (grew of made)))))
+    where
+      there : IsMade (store_in meaning s) type_var (root_in p.inner.sub_roots.items of) ⊎ (root_in p.inner.sub_roots.items of ≡ of) →
+          IsMade (store_in meaning s) type_var (root_in p.inner.sub_roots.items of)
+      there (inl h) = h
+      there (inr e) = subst (IsMade (store_in meaning s) type_var) (sym e) made
+
+  -- Or to none.
+  pub marks_alone : (s p q : RefCtxt I Key Id Name Span) → IsLawful (meaning p.interner) p.inner → (number u : ℕ) →
+      MakesVariable (store_in meaning p) (store_in meaning q) type_var number u →
+      KeepsRest (context_in meaning p) (context_in meaning q) →
+      ((n : ℕ) → IsMade (store_in meaning s) type_var n → IsMade (store_in meaning p) type_var n) →
+      MarksNew (context_in meaning s) (context_in meaning p) → MarksNew (context_in meaning s) (context_in meaning q)
+  marks_alone s p q l number u makes r grew a =
+      marks_one s p q number u makes r.setup r.outliving (λ n h. r.marks n) grew a
+      (inr (r.marks number ∙ l.sub_rooted.fresh number (le_of_eq (sym makes.number))))
 
   -- The interner grew after that.
   pub marks_grow : (p q r : RefCtxt I Key Id Name Span) → r.inner ≡ q.inner →
@@ -144,7 +215,7 @@ module _ {I Key Id Name Span : Type 0} (meaning : I → Meaning Key Id Name) whe
     setup = ap setup_in same ∙ a.setup;
     outliving = ap (λ x. x.ty_outlives.items) same ∙ a.outliving;
     marks = λ n h. ap (λ x. root_in x.sub_roots.items n) same ∙ a.marks n h;
-    related = λ n h. subst (λ i. IsMade (store_in meaning p) type_var i)
+    related = λ n h. subst (λ i. IsMade (store_in meaning p) type_var i ⊎ (i ≡ n))
         (sym (ap (λ x. root_in x.sub_roots.items n) same))
         (a.related n (subst (λ st. IsMade st type_var n) record_same h));
   }
@@ -174,11 +245,11 @@ module _ {I Key Id Name Span : Type 0} (meaning : I → Meaning Key Id Name) whe
       outliving = rest.outliving;
       marks = mark_stands (root_in p.inner.sub_roots.items) (root_in q.inner.sub_roots.items) (root_in rs.items)
           l.sub_rooted.rooted.below count of own made rest.marks joins;
-      related = λ n h. mark_related (root_in p.inner.sub_roots.items) (root_in q.inner.sub_roots.items)
+      related = λ n h. inl (mark_related (root_in p.inner.sub_roots.items) (root_in q.inner.sub_roots.items)
           (root_in rs.items) l.sub_rooted.rooted.below count of own made rest.marks joins n
           (let grew = ap length makes.entries_grow in
           let long = length-append ((store_in meaning p).entries type_var) (unbound ∷ []) in
-          omega (arith, h, grew, long));
+          omega (arith, h, grew, long)));
     }
 
   -- Of what was resolved before, and bound after.
@@ -198,6 +269,7 @@ module _ {I Key Id Name Span : Type 0} (meaning : I → Meaning Key Id Name) whe
       outliving = outliving ∙ a.outliving ∙ ap (λ x. x.ty_outlives.items) same;
       marks = λ n h. ap (λ rs. root_in rs n) roots ∙ a.marks n (subst (λ st. IsMade st type_var n) (sym here) h)
           ∙ ap (λ x. root_in x.sub_roots.items n) same;
-      related = λ n h. subst (λ i. IsMade (store_in meaning p) type_var i) (sym (ap (λ rs. root_in rs n) roots))
-          (subst (λ st. IsMade st type_var (root_in z.inner.sub_roots.items n)) here (a.related n (back n h)));
+      related = λ n h. subst (λ i. IsMade (store_in meaning p) type_var i ⊎ (i ≡ n)) (sym (ap (λ rs. root_in rs n) roots))
+          (subst (λ st. IsMade st type_var (root_in z.inner.sub_roots.items n) ⊎ (root_in z.inner.sub_roots.items n ≡ n)) here
+          (a.related n (back n h)));
     }

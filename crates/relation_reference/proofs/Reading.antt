@@ -1,5 +1,5 @@
 -- Reading the tables.
-use Rattle.std.proofs.Common.{◌≡◌, ℕ, ◌<◌, IsTrue, refl, sym, ap, ◌∙◌, subst, List, length, get_or}
+use Rattle.std.proofs.Common.{◌≡◌, ◌≢◌, ℕ, ◌<◌, IsTrue, refl, sym, ap, ◌∙◌, subst, List, length, get_or}
 use Rattle.std.proofs.lemmas.List.{get_or-map, length-map}
 use Rattle.std.proofs.Math.ListN.{get_or-map as at_map}
 use Rattle.relation_terms.specs.Heads.{VarKind, type_var, const_var, variable}
@@ -29,6 +29,7 @@ use Rattle.relation_reference.specs.declared.context.inner.VariableValue.TheVari
 use Rattle.relation_reference.specs.declared.context.inner.InferCtxtInner.{InferCtxtInner}
 use Rattle.relation_reference.specs.declared.context.memory.TermVid.{TermVid}
 use Rattle.relation_reference.specs.declared.context.memory.TermVid.TheVariants.{Ty as TyTerm, Const as ConstTerm}
+use Rattle.relation_reference.specs.Answers.{Found, found_root, found_term, IsWritten}
 use Rattle.relation_reference.specs.Remembering.{vid_kind, vid_number}
 use Rattle.relation_reference.specs.Variables.{value_at, root_by, root_at, term_by, term_at, entry_of_value, entries_of, trees_of, keys_of}
 use Rattle.relation_reference.specs.Tables.{store_of, MayBeBoundTo, IsRooted, IsLawful}
@@ -40,11 +41,6 @@ use Rattle.relation_contexts.proofs.Variables.{kind_variable, kind_no_const, con
 -- The other is a variable of the context.
 pub leads_made : (st : Store) → IsSound st → (k : VarKind) (n p : ℕ) → entry_of st k n ≡ same_as p → IsMade st k p
 leads_made st g k n p e = made_of_term st k p (g.bindings k n (leaf (variable k p)) (ap (entry_term k) e)).is_in
-
--- What is found for a variable: its root, where that has no term, or the term that the root is bound to.
-pub data Found (st : Store) (k : VarKind) (n : ℕ) (u : Tree) : Type 0 where
-  found_root : (r : ℕ) → LeadsTo st k n r → entry_of st k r ≡ unbound → u ≡ leaf (variable k r) → Found st k n u
-  found_term : (r : ℕ) → LeadsTo st k n r → entry_of st k r ≡ bound_to u → Found st k n u
 
 pub keys_reach : {K : Type 0} (vs : List (Variable K)) (n : ℕ) → n < length vs → n < length (keys_of vs)
 keys_reach vs n h = subst (λ z. n < z) (sym (length-map vs (λ v. v.key))) h
@@ -117,13 +113,22 @@ module _ {Key Id Name : Type 0} (m : Meaning Key Id Name) (x : InferCtxtInner Ke
   found_shallow f (found_root r d e q) = root k r q (ap (entry_term k) e)
   found_shallow f (found_term r d e) = formed (f (l.formed k r u e))
 
-pub found_ty_shallow : {Key Id Name : Type 0} (m : Meaning Key Id Name) (x : InferCtxtInner Key) → IsLawful m x → (n : ℕ) (u : Tree) → Found (store_of m x) type_var n u → IsShallowTy (store_of m x) u
-found_ty_shallow m x l n u (found_root r d e q) = ty_root r q (ap (entry_term type_var) e)
-found_ty_shallow m x l n u (found_term r d e) = no_ty_variable (l.formed type_var r u e).0
-
 pub found_const_shallow : {Key Id Name : Type 0} (m : Meaning Key Id Name) (x : InferCtxtInner Key) → IsLawful m x → (n : ℕ) (u : Tree) → Found (store_of m x) const_var n u → IsShallowConst (store_of m x) u
 found_const_shallow m x l n u (found_root r d e q) = const_root r q (ap (entry_term const_var) e)
 found_const_shallow m x l n u (found_term r d e) = no_variable (λ k i q. subst IsFormedConst q (l.formed const_var r u e).0)
+
+-- A type variable of which nothing is recorded has no term, and one of which something is no other.
+module _ {K : Type 0} (tree : K → Tree) (vs : List (Variable K)) (st : Store) (is : st.entries type_var ≡ entries_of tree vs) (n : ℕ) (t : Tree) (e : t ≡ leaf (variable type_var n)) where
+  pub unknown_shallow : value_at vs n ≡ Unknown → IsShallowTy st t
+  unknown_shallow v = ty_root n e (ap (entry_term type_var) (entry_is tree vs st type_var is n ∙ ap (entry_of_value tree) v))
+
+  written_by : (v : VariableValue K) → value_at vs n ≡ v → v ≢ Unknown → entry_of st type_var n ≢ unbound
+  written_by Unknown q o h = o refl
+  written_by (SameAs r) q o h = let z = entry_is tree vs st type_var is n ∙ ap (entry_of_value tree) q in cc (z, h)
+  written_by (Known x) q o h = let z = entry_is tree vs st type_var is n ∙ ap (entry_of_value tree) q in cc (z, h)
+
+  pub known_written : IsMade st type_var n → value_at vs n ≢ Unknown → IsWritten st n t
+  known_written made o = record { is = e; made = made; written = written_by (value_at vs n) refl o }
 
 -- A type that is no integer or float variable, nor a type variable that has a term, stays as it is.
 infer_shallow : (st : Store) (i : InferTy) → IsShallowTy st (infer_tree i) → ((v : IntVid) → i ≡ IntVar v → ⊥) → ((v : FloatVid) → i ≡ FloatVar v → ⊥) → IsShallow st (infer_tree i)

@@ -16,6 +16,7 @@ module _ {Key Id Name : Type 0} (m : Meaning Key Id Name) (x : InferCtxtInner Ke
     same_universes = λ k. refl;
     same_constraints = refl;
     universe_stands = le_refl (x.universe).0;
+    taint_stands = λ h. refl;
     same_budget = refl;
   }
 

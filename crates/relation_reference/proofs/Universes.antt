@@ -21,6 +21,7 @@ module _ {Key Id Name : Type 0} (m : Meaning Key Id Name) (x : InferCtxtInner Ke
     same_universes = λ k. refl;
     same_constraints = refl;
     universe_stands = omega (arith, above);
+    taint_stands = λ h. h;
     same_budget = refl;
   }
 

@@ -1,12 +1,12 @@
 -- What calls over a context show.
-use Rattle.std.specs.Prelude.{◌≡◌, ℕ}
+use Rattle.std.specs.Prelude.{◌≡◌, ◌≢◌, ℕ}
 use Rattle.relation_terms.specs.declared.terms.keys.TyKey.{TyKey}
 use Rattle.relation_terms.specs.declared.terms.keys.ConstKey.{ConstKey}
 use Rattle.relation_terms.specs.Heads.{VarKind, type_var, const_var, variable}
 use Rattle.relation_terms.specs.Trees.{Tree, leaf}
 use Rattle.relation_terms.specs.Meaning.{Meaning}
 use Rattle.relation_contexts.specs.Errors.{IsReadAs}
-use Rattle.relation_contexts.specs.Stores.{Store, unbound, bound_to, entry_of}
+use Rattle.relation_contexts.specs.Stores.{Store, unbound, bound_to, entry_of, IsMade}
 use Rattle.relation_contexts.specs.Steps.{LeadsTo, Resolves}
 use Rattle.relation_reference.specs.declared.context.variables.RefCtxt.{RefCtxt}
 use Rattle.relation_reference.specs.declared.context.inner.InferCtxtInner.{InferCtxtInner}
@@ -20,6 +20,17 @@ HasBinding st k n t = (r : ℕ) × LeadsTo st k n r × (entry_of st k r ≡ boun
 abbrev pub HasNoBinding : Store → VarKind → ℕ → Type 0
 HasNoBinding st k n = (r : ℕ) × LeadsTo st k n r × (entry_of st k r ≡ unbound)
 
+-- What is found for a variable: its root, where that has no term, or the term that the root is bound to.
+pub data Found (st : Store) (k : VarKind) (n : ℕ) (u : Tree) : Type 0 where
+  found_root : (r : ℕ) → LeadsTo st k n r → entry_of st k r ≡ unbound → u ≡ leaf (variable k r) → Found st k n u
+  found_term : (r : ℕ) → LeadsTo st k n r → entry_of st k r ≡ bound_to u → Found st k n u
+
+-- A type is a type variable of which something is recorded.
+pub record IsWritten (st : Store) (n : ℕ) (t : Tree) : Type 0 where
+  pub is : t ≡ leaf (variable type_var n)
+  pub made : IsMade st type_var n
+  pub written : entry_of st type_var n ≢ unbound
+
 -- A type variable's class is bound to a type.
 abbrev pub IsBoundToTy : {I Key Id Name Span : Type 0} → (I → Meaning Key Id Name) → RefCtxt I Key Id Name Span → ℕ →
     TyKey Key → Type 0
@@ -32,6 +43,10 @@ module _ {Key Id Name : Type 0} (m : Meaning Key Id Name) (x : InferCtxtInner Ke
 
   abbrev pub VarReadsAsConst : ℕ → ConstKey Key → Type 0
   VarReadsAsConst n t = IsReadAs (store_of m x) (leaf (variable const_var n)) (m.const_ t)
+
+  -- What is found for a type variable is a type.
+  abbrev pub FindsTy : ℕ → TyKey Key → Type 0
+  FindsTy n t = Found (store_of m x) type_var n (m.ty t)
 
   -- A type is read as another by what the tables record. The same of constants.
   abbrev pub TyReadsAs : TyKey Key → TyKey Key → Type 0

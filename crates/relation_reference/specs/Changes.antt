@@ -11,6 +11,7 @@ use Rattle.relation_terms.specs.Trees.{Tree, leaf}
 use Rattle.relation_terms.specs.Meaning.{Meaning}
 use Rattle.relation_folds.specs.declared.error.TypeError.TheVariants.{CyclicTy, CyclicConst}
 use Rattle.relation_folds.specs.declared.error.RelateFault.{RelateFault}
+use Rattle.relation_contexts.specs.declared.relate.StructurallyRelateAliases.{StructurallyRelateAliases}
 use Rattle.relation_contexts.specs.Binders.{binder_tree, EntersAs, EntersBinder, InstantiatesAs, InstantiatesWithInfer}
 use Rattle.relation_contexts.specs.ContextCalls.{Instantiated}
 use Rattle.relation_contexts.specs.Generalising.{MakesUnbound}
@@ -102,10 +103,12 @@ module _ {I Key Id Name Span : Type 0} (meaning : I → Meaning Key Id Name)
       (binder_tree tree (context_in meaning before).meaning b) result
 
   -- What binding a type variable, at a variance, to a type answers. The same of a constant variable and a constant.
-  abbrev pub InstantiatedTy : Variance → ℕ → TyKey Key → Result (TyKey Key) (RelateFault Key Id Name) → Type 0
-  InstantiatedTy v n t result = Instantiated (context_in meaning before) (context_in meaning after) v type_var n
+  abbrev pub InstantiatedTy : StructurallyRelateAliases → Variance → ℕ → TyKey Key →
+      Result (TyKey Key) (RelateFault Key Id Name) → Type 0
+  InstantiatedTy g v n t result = Instantiated (context_in meaning before) (context_in meaning after) g v type_var n
       (ty_term meaning before t) (λ m. m.ty) CyclicTy result
 
-  abbrev pub InstantiatedConst : ℕ → ConstKey Key → Result (ConstKey Key) (RelateFault Key Id Name) → Type 0
-  InstantiatedConst n t result = Instantiated (context_in meaning before) (context_in meaning after) Invariant const_var
-      n (const_term meaning before t) (λ m. m.const_) CyclicConst result
+  abbrev pub InstantiatedConst : StructurallyRelateAliases → ℕ → ConstKey Key →
+      Result (ConstKey Key) (RelateFault Key Id Name) → Type 0
+  InstantiatedConst g n t result = Instantiated (context_in meaning before) (context_in meaning after) g Invariant
+      const_var n (const_term meaning before t) (λ m. m.const_) CyclicConst result

@@ -1,5 +1,5 @@
 -- What the tables of a context mean: the store that they record, and the invariant of a context.
-use Rattle.std.specs.Prelude.{◌≡◌, ◌≢◌, ℕ, ◌<◌, ◌≤◌, List, map, length, get_or}
+use Rattle.std.specs.Prelude.{◌≡◌, ℕ, ◌<◌, ◌≤◌, List, map, length, get_or}
 use Rattle.relation_terms.specs.Heads.{VarKind, type_var, int_var, float_var, const_var, region_var, variable}
 use Rattle.relation_terms.specs.Trees.{Tree, leaf, nil}
 use Rattle.relation_terms.specs.Meaning.{Meaning}
@@ -24,10 +24,10 @@ by_kind t i f c r float_var = f
 by_kind t i f c r const_var = c
 by_kind t i f c r region_var = r
 
--- What a variable of a kind may be bound to, of forms that relating has rules for: a type variable to what is no type
--- variable, so that also to one of integers or floats; any other to a term that is no variable.
+-- What a variable of a kind may be bound to, of forms that relating has rules for: a type variable to any type, so that
+-- also to another variable; any other to a term that is no variable.
 abbrev pub MayBeBoundTo : VarKind → Tree → Type 0
-MayBeBoundTo type_var t = ((n : ℕ) → t ≢ leaf (variable type_var n)) × IsCovered t
+MayBeBoundTo type_var t = IsCovered t
 MayBeBoundTo const_var t = IsFormedConst t × IsCovered t
 MayBeBoundTo k t = IsFormed t × IsCovered t
 
@@ -69,7 +69,7 @@ module _ {Key Id Name : Type 0} (m : Meaning Key Id Name) where
     pub fresh : (n : ℕ) → length ((store_of x).entries type_var) ≤ n → root_in x.sub_roots.items n ≡ n
 
   -- The invariant of a context: its store is sound; each entry of another variable names a root; what variables are
-  -- bound to is no variable, and may be related; variables of numbers stand in the first universe; the key beside each
+  -- bound to may be bound, and may be related; variables of numbers stand in the first universe; the key beside each
   -- variable is the variable's; and the keys of integer and float types are theirs.
   pub record IsLawful (x : InferCtxtInner Key) : Type 0 where
     pub sound : IsSound (store_of x)
@@ -82,7 +82,7 @@ module _ {Key Id Name : Type 0} (m : Meaning Key Id Name) where
 
   -- So all that is bound is of forms that relating has rules for.
   pub covered_bindings : (x : InferCtxtInner Key) → IsLawful x → HasCoveredBindings (store_of x)
-  covered_bindings x l type_var n t e = (l.formed type_var n t e).1
+  covered_bindings x l type_var n t e = l.formed type_var n t e
   covered_bindings x l int_var n t e = (l.formed int_var n t e).1
   covered_bindings x l float_var n t e = (l.formed float_var n t e).1
   covered_bindings x l const_var n t e = (l.formed const_var n t e).1

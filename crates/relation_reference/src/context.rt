@@ -1,6 +1,7 @@
 //! An inference context over plain tables.
 
 mod binders;
+mod clearing;
 mod equating;
 mod folding;
 mod generalising;

@@ -69,7 +69,7 @@ plain_manner k = record {
   takes = λ v l. IsUnbound l;
   is_exact = Unit {0};
   records_asked = Unit {0};
-  registers_subtype = ⊥;
+  registers_alone = ⊥;
   relates_agreeing = Unit {0};
 }
 

@@ -11,9 +11,9 @@ use Rattle.relation_folds.specs.declared.error.RelateFault.{RelateFault}
 use Rattle.relation_folds.specs.declared.error.RelateFault.TheVariants.{Memory, Budget, Unrelated}
 use Rattle.type_relations.specs.declared.relate.args.ArgVariances.{ArgVariances}
 use Rattle.type_relations.specs.declared.relate.args.ArgVariances.TheVariants.{Invariant, Adt, FnDef}
-use Rattle.relation_contexts.specs.Relation.{forms, part_at, IsRelatedHead}
-use Rattle.relation_contexts.specs.Errors.{ErrorOf, by_forms, IsUnnormalized, IsHandedOn, of_parts, AreOfOneForm}
-use Rattle.relation_contexts.specs.Errors.{over_parts, one_leaf, parameters}
+use Rattle.relation_contexts.specs.Relation.{forms, part_at, IsRelatedHead, IsAlias}
+use Rattle.relation_contexts.specs.Errors.{ErrorOf, by_forms, IsHandedOn, of_parts, AreOfOneForm}
+use Rattle.relation_contexts.specs.Errors.{over_parts, over_aliases, one_leaf, parameters}
 use Rattle.relation_contexts.proofs.Covered.{normal_not_left}
 use Rattle.type_relations.specs.Arguments.{args_head, AreOverItem, adts, functions}
 use Rattle.relation_contexts.specs.Lawful.{State, Manners, MayAnswer, Passes, Refuses, Related, ExactlyRelated, items_in}
@@ -100,7 +100,7 @@ module _ {Key Id Name : Type 0} {r q : State Key Id Name} (M : Manners) (v : Var
   -- Two parts of two forms were refused, and so are the forms.
   module _ (x y : Tree) (lx : i < count ts) (ly : i < count us) (ex : x ≡ nth i ts) (ey : y ≡ nth i us)
       (handed : (g : TypeError Key Id Name) → IsHandedOn g h i x y)
-      (normal : (ts : Tree) → IsUnnormalized (node h ts) → ⊥) where
+      (normal : (ts : Tree) → IsAlias (node h ts) → ⊥) where
     refuses : {k : ℕ} {p : State Key Id Name} (l : Passes k q p) (e : RelateFault Key Id Name) →
         Refuses q p (part_at (items_in r) h i v) x y e → Refuses r p v (node h ts) (node h us) e
     refuses {p = p} l (Unrelated g) o = (
@@ -155,6 +155,7 @@ pub over_one_adt : (d e : ℕ) (a b ts us : Tree) → a ≡ node (adt d) ts → 
     AreOverItem d a b ts us
 over_one_adt d e a b ts us x y (over_parts p q n) =
     let k : e ≡ d = cc in adts x (y ∙ ap (λ z. node (adt z) us) k)
+over_one_adt d e a b ts us x y (over_aliases p q n) = cc
 over_one_adt d e a b ts us x y (one_leaf p q) = cc
 over_one_adt d e a b ts us x y (parameters p q i) = cc
 
@@ -162,12 +163,13 @@ pub over_one_function : (d e : ℕ) (a b ts us : Tree) → a ≡ node (fn_def d)
     AreOfOneForm a b → AreOverItem d a b ts us
 over_one_function d e a b ts us x y (over_parts p q n) =
     let k : e ≡ d = cc in functions x (y ∙ ap (λ z. node (fn_def z) us) k)
+over_one_function d e a b ts us x y (over_aliases p q n) = cc
 over_one_function d e a b ts us x y (one_leaf p q) = cc
 over_one_function d e a b ts us x y (parameters p q i) = cc
 
 -- Types over items, and lists of arguments, are no aliases.
 pub args_normal : {Key Id Name : Type 0} (m : Meaning Key Id Name) (d : ArgVariances Id) (ts : Tree) →
-    IsUnnormalized (node (args_head m d) ts) → ⊥
+    IsAlias (node (args_head m d) ts) → ⊥
 args_normal m Invariant ts u = u
 args_normal m (Adt d) ts u = u
 args_normal m (FnDef d) ts u = u

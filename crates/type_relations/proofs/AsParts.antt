@@ -4,10 +4,9 @@ use Rattle.std.proofs.Common.{List, [], ◌∷◌, map}
 use Rattle.relation_terms.specs.Heads.{Sort, region_sort, type_sort, const_sort, value_sort, argument_sort, Admits, head_sort}
 use Rattle.relation_terms.specs.Heads.{Part, term_of, binder_of, Shape, one, row, head_parts}
 use Rattle.relation_terms.specs.Heads.{Head, adt, fn_def, closure, coroutine_closure, coroutine, coroutine_witness}
-use Rattle.relation_terms.specs.Heads.{array, slice, pattern_type, tuple, raw_ptr, ref, arguments, unevaluated}
-use Rattle.relation_terms.specs.Heads.{expression, value, range_pattern, or_pattern, unsafe_binder, dynamic, fn_ptr}
-use Rattle.relation_terms.specs.Heads.{signature, inputs, object, existential_trait, existential_projection}
-use Rattle.relation_terms.specs.Heads.{value_type, value_branch}
+use Rattle.relation_terms.specs.Heads.{alias, array, slice, pattern_type, tuple, raw_ptr, ref, unevaluated}
+use Rattle.relation_terms.specs.Heads.{expression, value, unsafe_binder, dynamic, fn_ptr}
+use Rattle.relation_terms.specs.Heads.{value_branch}
 use Rattle.relation_terms.specs.Trees.{Tree, leaf, node, bind, nil, cons, known, list_tree, count, nth, Fits, IsTerm, AreTerms}
 use Rattle.relation_terms.specs.Meaning.{Meaning, arg_tree, const_tree}
 use Rattle.relation_terms.specs.Parts.{AreArgs, part_tree, part_sort, part_of_arg, tree_sort}
@@ -25,7 +24,6 @@ use Rattle.relation_terms.specs.Interning.{Sorted}
 use Rattle.relation_terms.proofs.Sorted.{widen}
 use Rattle.relation_terms.proofs.Members.{fit_args, mapped, region_term, type_term, const_term}
 use Rattle.relation_terms.proofs.Parts.{sort_known, arg_part}
-use Rattle.relation_contexts.specs.Covered.{IsCovered, IsCoveredHead}
 use Rattle.relation_contexts.specs.Parts.{parts_of, branches_of, const_parts_of, IsByParts}
 use Rattle.relation_contexts.specs.Making.{arg_sort, Fit, over, const_over}
 use Rattle.type_relations.proofs.Comparing.{value_shape}
@@ -73,42 +71,30 @@ shape_arguments : (x : Shape) (ts : Tree) → HasArguments x → Fits x ts → A
 shape_arguments (one p) ts a f = absurd a
 shape_arguments (row ps r) ts a f = row_arguments ps r ts a f
 
--- The types that relating has rules for are over arguments, but for those that are related by their parts.
-covered_arguments : (h : Head) (ts : Tree) → IsCoveredHead h → (IsByParts (node h ts) → ⊥) →
-    Admits type_sort (head_sort h) → HasArguments (head_parts h)
-covered_arguments (adt d) ts c n a = λ x h. h
-covered_arguments (fn_def d) ts c n a = λ x h. h
-covered_arguments (closure d) ts c n a = λ x h. h
-covered_arguments (coroutine_closure d) ts c n a = λ x h. h
-covered_arguments (coroutine d) ts c n a = λ x h. h
-covered_arguments (coroutine_witness d) ts c n a = λ x h. h
-covered_arguments array ts c n a = (type_admitted, (const_admitted, tt))
-covered_arguments slice ts c n a = (type_admitted, tt)
-covered_arguments pattern_type ts c n a = absurd (n tt)
-covered_arguments tuple ts c n a = type_admitted
-covered_arguments unsafe_binder ts c n a = absurd (n tt)
-covered_arguments dynamic ts c n a = absurd (n tt)
-covered_arguments fn_ptr ts c n a = absurd (n tt)
-covered_arguments (raw_ptr u) ts c n a = (type_admitted, tt)
-covered_arguments (ref u) ts c n a = (region_admitted, (type_admitted, tt))
-covered_arguments (signature x s k) ts c n a = absurd a
-covered_arguments inputs ts c n a = absurd a
-covered_arguments arguments ts c n a = absurd a
-covered_arguments object ts c n a = absurd a
-covered_arguments (existential_trait d) ts c n a = absurd a
-covered_arguments (existential_projection d) ts c n a = absurd a
-covered_arguments (expression k) ts c n a = absurd a
-covered_arguments value ts c n a = absurd a
-covered_arguments value_type ts c n a = absurd a
-covered_arguments value_branch ts c n a = absurd a
-covered_arguments range_pattern ts c n a = absurd a
-covered_arguments or_pattern ts c n a = absurd a
-covered_arguments h ts c n a = absurd c
+-- Types are over arguments, but for those that are related by their parts.
+type_head_arguments : (h : Head) (ts : Tree) → (IsByParts (node h ts) → ⊥) → Admits type_sort (head_sort h) →
+    HasArguments (head_parts h)
+type_head_arguments (adt d) ts n a = λ x h. h
+type_head_arguments (fn_def d) ts n a = λ x h. h
+type_head_arguments (closure d) ts n a = λ x h. h
+type_head_arguments (coroutine_closure d) ts n a = λ x h. h
+type_head_arguments (coroutine d) ts n a = λ x h. h
+type_head_arguments (coroutine_witness d) ts n a = λ x h. h
+type_head_arguments (alias k d) ts n a = λ x h. h
+type_head_arguments array ts n a = (type_admitted, (const_admitted, tt))
+type_head_arguments slice ts n a = (type_admitted, tt)
+type_head_arguments pattern_type ts n a = absurd (n tt)
+type_head_arguments tuple ts n a = type_admitted
+type_head_arguments unsafe_binder ts n a = absurd (n tt)
+type_head_arguments dynamic ts n a = absurd (n tt)
+type_head_arguments fn_ptr ts n a = absurd (n tt)
+type_head_arguments (raw_ptr u) ts n a = (type_admitted, tt)
+type_head_arguments (ref u) ts n a = (region_admitted, (type_admitted, tt))
+type_head_arguments h ts n a = absurd a
 
-ty_arguments : (t : Tree) → IsTerm type_sort t → IsCovered t → (IsByParts t → ⊥) →
-    AreTerms argument_sort (parts_of t)
-ty_arguments (node h ts) f c n = shape_arguments (head_parts h) ts (covered_arguments h ts c.0 n f.0) f.1
-ty_arguments t f c n = tt
+ty_arguments : (t : Tree) → IsTerm type_sort t → (IsByParts t → ⊥) → AreTerms argument_sort (parts_of t)
+ty_arguments (node h ts) f n = shape_arguments (head_parts h) ts (type_head_arguments h ts n f.0) f.1
+ty_arguments t f n = tt
 
 branch_arguments : (v : Tree) → IsTerm value_sort v → AreTerms argument_sort (branches_of v)
 branch_arguments (node value_branch ts) f = row_arguments [] (Some (term_of const_sort)) ts const_admitted f.1
@@ -127,9 +113,9 @@ term_nth s (cons t ts) zero l f = f.0
 term_nth s (cons t ts) (suc i) l f = term_nth s ts i (omega (arith, l)) f.1
 term_nth s t i l f = absurd (omega (arith, l))
 
-pub ty_argument : (t : Tree) (i : ℕ) → i < count (parts_of t) → IsTerm type_sort t → IsCovered t →
-    (IsByParts t → ⊥) → IsTerm argument_sort (nth i (parts_of t))
-ty_argument t i l f c n = term_nth argument_sort (parts_of t) i l (ty_arguments t f c n)
+pub ty_argument : (t : Tree) (i : ℕ) → i < count (parts_of t) → IsTerm type_sort t → (IsByParts t → ⊥) →
+    IsTerm argument_sort (nth i (parts_of t))
+ty_argument t i l f n = term_nth argument_sort (parts_of t) i l (ty_arguments t f n)
 
 pub const_argument : (c : Tree) (i : ℕ) → i < count (const_parts_of c) → IsTerm const_sort c →
     IsTerm argument_sort (nth i (const_parts_of c))

@@ -10,6 +10,7 @@ use Rattle.relation_contexts.specs.FirstOrder.{IsFirstOrder, IsFirstOrderStore, 
 use Rattle.relation_contexts.specs.StoreLaws.{GeneralisingRefuses}
 use Rattle.relation_contexts.specs.Steps.{RefusesToInstantiate}
 use Rattle.relation_contexts.specs.ErasureLaws.{IsTypeOrConst}
+use Rattle.relation_contexts.specs.declared.relate.StructurallyRelateAliases.{StructurallyRelateAliases}
 use Rattle.relation_contexts.specs.Generalising.{Obstacle, cycle, beyond, StopsAt, at_itself, at_placeholder, in_parts, in_body, in_first, in_others, RefusesBy}
 use Rattle.relation_contexts.proofs.Resolved.{resolved_value, cycles_do_not_unify}
 use Rattle.relation_contexts.proofs.StoreCalls.{resolved_unifies}
@@ -19,7 +20,7 @@ use Rattle.relation_contexts.proofs.NewVariables.{Adds, adds, adds_goes}
 use Rattle.relation_contexts.proofs.Leafwise.{erased_named}
 
 -- An obstacle in a term.
-stops_occurs : {before : Store} {k : VarKind} {n : ℕ} {o : Obstacle} {t : Tree} → o ≡ cycle → StopsAt before k n o t → Occurs k n t
+pub stops_occurs : {al : StructurallyRelateAliases} {before : Store} {k : VarKind} {n : ℕ} {o : Obstacle} {t : Tree} → o ≡ cycle → StopsAt al before k n o t → Occurs k n t
 stops_occurs e (at_itself p q) = ap leaf q
 stops_occurs e (at_placeholder p q l) = absurd cc
 stops_occurs e (in_parts p h) = stops_occurs e h
@@ -28,7 +29,7 @@ stops_occurs e (in_first h) = inl (stops_occurs e h)
 stops_occurs e (in_others l h) = inr (stops_occurs e h)
 
 -- No value of such a term is named by the variable's universe.
-stops_unnamed : {before : Store} {k : VarKind} {n : ℕ} {o : Obstacle} {t : Tree} → o ≡ beyond → StopsAt before k n o t → (s : Assign) → Leaves (IsNamable (universe_of before k n)) (apply s t) → ⊥
+pub stops_unnamed : {al : StructurallyRelateAliases} {before : Store} {k : VarKind} {n : ℕ} {o : Obstacle} {t : Tree} → o ≡ beyond → StopsAt al before k n o t → (s : Assign) → Leaves (IsNamable (universe_of before k n)) (apply s t) → ⊥
 stops_unnamed e (at_itself p q) s h = absurd cc
 stops_unnamed e (at_placeholder p q l) s h = omega (arith, l, h)
 stops_unnamed e (in_parts p f) s h = stops_unnamed e f s h
@@ -42,7 +43,7 @@ kind_beyond (bound_kind region_kind x) w i u o l h = o refl
 kind_beyond (bound_kind type_kind x) w i u o l h = omega (arith, l, h)
 kind_beyond (bound_kind const_kind x) w i u o l h = omega (arith, l, h)
 
-closed_stops : {before : Store} {k : VarKind} {n : ℕ} {o : Obstacle} {t : Tree} → o ≡ beyond → StopsAt before k n o t → Leaves IsClosedLeaf t → ⊥
+closed_stops : {al : StructurallyRelateAliases} {before : Store} {k : VarKind} {n : ℕ} {o : Obstacle} {t : Tree} → o ≡ beyond → StopsAt al before k n o t → Leaves IsClosedLeaf t → ⊥
 closed_stops e (at_itself p q) h = absurd cc
 closed_stops e (at_placeholder p q l) h = q h
 closed_stops e (in_parts p f) h = closed_stops e f h
@@ -50,7 +51,7 @@ closed_stops e (in_body f) h = closed_stops e f h
 closed_stops e (in_first f) h = closed_stops e f h.0
 closed_stops e (in_others l f) h = closed_stops e f h.1
 
-erased_unnamed : {before : Store} {k : VarKind} {n : ℕ} {o : Obstacle} {t : Tree} → o ≡ beyond → StopsAt before k n o t → IsFirstOrder t → (s : Assign) → Leaves (IsNamable (universe_of before k n)) (erase (apply s t)) → ⊥
+erased_unnamed : {al : StructurallyRelateAliases} {before : Store} {k : VarKind} {n : ℕ} {o : Obstacle} {t : Tree} → o ≡ beyond → StopsAt al before k n o t → IsFirstOrder t → (s : Assign) → Leaves (IsNamable (universe_of before k n)) (erase (apply s t)) → ⊥
 erased_unnamed e (at_itself p q) d s h = absurd cc
 erased_unnamed {before = before} {k = k} {n = n} e (at_placeholder {q = q} {w = w} {i = i} p o l) d s h = kind_beyond q w i (universe_of before k n) o l h
 erased_unnamed e (in_parts {h = value_type} p f) d s h = closed_stops e f d.2
@@ -59,7 +60,7 @@ erased_unnamed e (in_body f) d s h = absurd d
 erased_unnamed e (in_first f) d s h = erased_unnamed e f d.0 s h.0
 erased_unnamed e (in_others l f) d s h = erased_unnamed e f d.1 s h.1
 
-module _ (before after : Store) (v : Variance) (k : VarKind) (n : ℕ) (source : Tree) (o : Obstacle) (kind : IsTypeOrConst k) (f : RefusesBy before after k n source o) (g : IsSound before)
+module _ (al : StructurallyRelateAliases) (before after : Store) (v : Variance) (k : VarKind) (n : ℕ) (source : Tree) (o : Obstacle) (kind : IsTypeOrConst k) (f : RefusesBy al before after k n source o) (g : IsSound before)
     (other : apply (resolved before) source ≢ leaf (variable k n)) where
   abbrev whole : Tree
   whole = apply (resolved before) source
@@ -102,4 +103,4 @@ module _ (before after : Store) (v : Variance) (k : VarKind) (n : ℕ) (source :
   }
 
 pub generalising_refuses : GeneralisingRefuses
-generalising_refuses before after v k n source o kind f g other = (refused before after v k n source o kind f g other, adds_goes (same before after v k n source o kind f g other))
+generalising_refuses al before after v k n source o kind f g other = (refused al before after v k n source o kind f g other, adds_goes (same al before after v k n source o kind f g other))

@@ -12,7 +12,7 @@ use Rattle.relation_terms.specs.Heads.{Sort, region_sort, type_sort, const_sort,
 use Rattle.relation_terms.specs.Trees.{Tree, node, cons, nth}
 use Rattle.relation_terms.specs.Meaning.{Meaning}
 use Rattle.relation_terms.specs.Parts.{part_tree, part_sort, part_of_arg, tree_sort, AreArgs}
-use Rattle.relation_contexts.specs.Errors.{AreOfOneForm, over_parts, one_leaf, parameters}
+use Rattle.relation_contexts.specs.Errors.{AreOfOneForm, over_parts, over_aliases, one_leaf, parameters}
 use Rattle.relation_contexts.specs.Lawful.{State, Manners, Takes, Turned, Asked}
 use Rattle.relation_contexts.specs.Making.{arg_sort}
 use Rattle.relation_contexts.specs.Parts.{parts_of, IsRelatedPart, IsComparedPart, IsArgPart, IsBinderPart, ArePaired}
@@ -135,6 +135,7 @@ inputs_next a b i f h = tt
 -- The same seen from the other side.
 pub alike_back : (a b : Tree) → AreOfOneForm a b → AreOfOneForm b a
 alike_back a b (over_parts d e n) = over_parts e d (sym n)
+alike_back a b (over_aliases d e n) = over_aliases e d (sym n)
 alike_back a b (one_leaf d e) = one_leaf e d
 alike_back a b (parameters d e p) = parameters e d (sym p)
 

@@ -11,15 +11,15 @@ use Rattle.relation_folds.specs.declared.error.RelateFault.{RelateFault}
 use Rattle.relation_folds.specs.declared.error.RelateFault.TheVariants.{Unrelated}
 use Rattle.relation_contexts.specs.declared.relate.Step.{Step}
 use Rattle.relation_contexts.specs.declared.relate.Step.TheVariants.{Done, Parts}
-use Rattle.type_relations.specs.Combining.{CombinesTys, equated, left_bound, right_bound, left_unlike, right_unlike, ty_variable, by_parts, IsNoTyVar, seen}
-use Rattle.type_relations.specs.Combining.{CombinesConsts, one_constant, resolved_first, ReadsShallow, CombinesShallow, roots_equated, left_root_bound, left_root_refused, right_root_bound, right_root_refused, formed_by_parts}
+use Rattle.type_relations.specs.Combining.{MeetsTys, equated, left_bound, right_bound, left_unlike, right_unlike, ty_variable, by_parts, IsNoTyVar, seen}
+use Rattle.type_relations.specs.Combining.{ReadsShallow, MeetsConsts, roots_equated, left_root_bound, left_root_refused, right_root_bound, right_root_refused, formed_by_parts}
 use Rattle.relation_contexts.specs.Contexts.{Context}
 use Rattle.relation_contexts.specs.ContextCalls.{HasCoveredBindings}
 use Rattle.type_relations.specs.Emitting.{IsOver, WithContext}
 use Rattle.type_relations.specs.Keyed.{AskedTys, AskedConsts, SteppedTys, SteppedConsts}
 use Rattle.type_relations.specs.NumberVars.{number_kind}
 use Rattle.type_relations.specs.declared.relate.number_vars.NumberVid.{NumberVid}
-use Rattle.relation_contexts.specs.Errors.{itself}
+use Rattle.relation_contexts.specs.Errors.{itself, HaveNoError, IsLeftToGoal}
 use Rattle.relation_contexts.specs.Generalising.{NumbersNameNothing}
 use Rattle.relation_contexts.specs.Lawful.{State, Asked, Stepped}
 use Rattle.relation_contexts.specs.Parts.{IsFormed, IsFormedConst}
@@ -50,7 +50,7 @@ of_numbers k h = absurd h
 module _ {Key Id Name : Type 0} where
   -- Of two types what is recorded afterwards is later.
   pub combined_later : (m : Meaning Key Id Name) (was now : Store) (a b : TyKey Key)
-      (result : Result (Step (TyKey Key)) (RelateFault Key Id Name)) → IsSound was → CombinesTys m was now a b result →
+      (result : Result (Step (TyKey Key)) (RelateFault Key Id Name)) → IsSound was → MeetsTys m was now a b result →
       IsLater was now
   combined_later m was now a b result sound (equated k i j o p q joins is) =
       (roots_goes was now k (number_no_region k (of_numbers k o)) i j sound joins.same joins.equates 0).later
@@ -66,46 +66,49 @@ module _ {Key Id Name : Type 0} where
     -- Of two types of which none is a type variable a step was taken.
     pub combined_tys : n ≡ m → (a b : TyKey Key) (result : Result (Step (TyKey Key)) (RelateFault Key Id Name)) →
         Asked solver_manner (standing r m was L) r.ambient (m.ty a) (m.ty b) → IsTerm type_sort (m.ty a) →
-        IsTerm type_sort (m.ty b) → IsNoTyVar (m.ty a) → IsNoTyVar (m.ty b) → CombinesTys m was now a b result →
+        IsTerm type_sort (m.ty b) → IsNoTyVar (m.ty a) → IsNoTyVar (m.ty b) → HaveNoError (m.ty a) (m.ty b) →
+        (IsLeftToGoal r.kept.settings (m.ty a) (m.ty b) → ⊥) → MeetsTys m was now a b result →
         Stepped solver_manner IsFormed (standing r m was L) (standing r n now K) (m.ty a) (m.ty b) n.ty result
-    combined_tys same a b result asked s t o p (equated k i j number x y joins is) =
+    combined_tys same a b result asked s t o p clean left (equated k i j number x y joins is) =
         subst (Stepped solver_manner IsFormed (standing r m was L) (standing r n now K) (m.ty a) (m.ty b) n.ty) (sym is)
         (roots_step r IsFormed m n was now L K k (number_no_region k (of_numbers k number)) i j (m.ty a) (m.ty b) n.ty a same
         sound l joins.same joins.equates x y (ap (λ z. z.ty a) same))
-    combined_tys same a b result asked s t o p (left_bound k i x binds is) =
+    combined_tys same a b result asked s t o p clean left (left_bound k i x binds is) =
         subst (Stepped solver_manner IsFormed (standing r m was L) (standing r n now K) (m.ty a) (m.ty b) n.ty) (sym is)
         (number_step r IsFormed m n was now L K k i (m.ty a) (m.ty b) n.ty b same sound l binds x (ap (λ z. z.ty b) same)
         asked.right_known)
-    combined_tys same a b result asked s t o p (right_bound k i x binds is) =
+    combined_tys same a b result asked s t o p clean left (right_bound k i x binds is) =
         subst (Stepped solver_manner IsFormed (standing r m was L) (standing r n now K) (m.ty a) (m.ty b) n.ty) (sym is)
         (number_step_back r IsFormed m n was now L K k i (m.ty a) (m.ty b) n.ty a same sound l binds x
         (ap (λ z. z.ty a) same) asked.left_known)
-    combined_tys same a b result asked s t o p (left_unlike u stays is) =
+    combined_tys same a b result asked s t o p clean left (left_unlike u stays is) =
         subst (Stepped solver_manner IsFormed (standing r m was L) (standing r n now K) (m.ty a) (m.ty b) n.ty) (sym is)
         (left_apart r IsFormed m n was now L K decides a b n.ty (Unrelated (Sorts (record { expected = a; found = b })))
         same stays l refl u.kind (of_numbers u.kind u.of_numbers) u.number
-        (variable_made was u.kind u.number (m.ty a) u.is asked.left_in) asked.left_known asked.right_known u.is t
-        asked.right_taken.1 p (term_context was (m.ty b) asked.right_in) u.unlike)
-    combined_tys same a b result asked s t o p (right_unlike u stays is) =
+        (variable_made was u.kind u.number (m.ty a) u.is asked.left_in) asked.left_known asked.right_known left u.is t
+        asked.right_taken.1 p (term_context was (m.ty b) asked.right_in) u.unlike clean.1)
+    combined_tys same a b result asked s t o p clean left (right_unlike u stays is) =
         subst (Stepped solver_manner IsFormed (standing r m was L) (standing r n now K) (m.ty a) (m.ty b) n.ty) (sym is)
         (right_apart r IsFormed m n was now L K decides a b n.ty (Unrelated (Sorts (record { expected = a; found = b })))
         same stays l refl u.kind (of_numbers u.kind u.of_numbers) u.number
-        (variable_made was u.kind u.number (m.ty b) u.is asked.right_in) asked.left_known asked.right_known u.is s
-        asked.left_taken.1 o (term_context was (m.ty a) asked.left_in) u.unlike)
-    combined_tys same a b result asked s t o p (ty_variable (inl u) stays is) = absurd (o u.0 u.1)
-    combined_tys same a b result asked s t o p (ty_variable (inr u) stays is) = absurd (p u.0 u.1)
-    combined_tys same a b result asked s t o p (by_parts x y stays is) =
+        (variable_made was u.kind u.number (m.ty b) u.is asked.right_in) asked.left_known asked.right_known left u.is s
+        asked.left_taken.1 o (term_context was (m.ty a) asked.left_in) u.unlike clean.0)
+    combined_tys same a b result asked s t o p clean left (ty_variable (inl u) stays is) = absurd (o u.0 u.1)
+    combined_tys same a b result asked s t o p clean left (ty_variable (inr u) stays is) = absurd (p u.0 u.1)
+    combined_tys same a b result asked s t o p clean left (by_parts x y stays is) =
         subst (Stepped solver_manner IsFormed (standing r m was L) (standing r n now K) (m.ty a) (m.ty b) n.ty) (sym is)
         (subst₂ (λ z st. Stepped solver_manner IsFormed (standing r m was L) (standing r z st K) (m.ty a) (m.ty b) z.ty
         (Ok (Parts a b))) (sym same) (sym stays)
         (parts_step r m was L K l IsFormed (m.ty a) (m.ty b) m.ty a b sound (itself refl) (itself refl) asked
         (type_formed (m.ty a) s asked.left_taken.1 (term_within was (m.ty a) asked.left_in) x.0 x.1.0 x.1.1)
-        (type_formed (m.ty b) t asked.right_taken.1 (term_within was (m.ty b) asked.right_in) y.0 y.1.0 y.1.1)))
+        (type_formed (m.ty b) t asked.right_taken.1 (term_within was (m.ty b) asked.right_in) y.0 y.1.0 y.1.1) left))
 
     module _ (grown : Extends m n) (numbers : NumbersNameNothing was) (all : HasCoveredBindings now) (a b : ConstKey Key)
         (asked : Asked solver_manner (standing r m was L) r.ambient (m.const_ a) (m.const_ b))
         (s : IsTerm const_sort (m.const_ a)) (t : IsTerm const_sort (m.const_ b))
-        (a_shallow : IsShallowConst was (m.const_ a)) (b_shallow : IsShallowConst was (m.const_ b)) where
+        (a_shallow : IsShallowConst was (m.const_ a)) (b_shallow : IsShallowConst was (m.const_ b))
+        (left : IsFormedConst (m.const_ a) → IsFormedConst (m.const_ b) →
+        IsLeftToGoal r.kept.settings (m.const_ a) (m.const_ b) → ⊥) where
       abbrev Steps : Tree → Tree → Result (Step (ConstKey Key)) (RelateFault Key Id Name) → Type 0
       Steps x y result =
           Stepped solver_manner IsFormedConst (standing r m was L) (standing r n now K) x y n.const_ result
@@ -132,7 +135,8 @@ module _ {Key Id Name : Type 0} where
 
       -- Of two constants a step was taken.
       pub combined_shallow : (result : Result (Step (ConstKey Key)) (RelateFault Key Id Name)) →
-          CombinesShallow m n was now a b result → Steps (m.const_ a) (m.const_ b) result
+          MeetsConsts m n was now r.kept.settings.structurally_relate_aliases a b result →
+          Steps (m.const_ a) (m.const_ b) result
       combined_shallow result (roots_equated i j x y joins same is) = subst (Steps (m.const_ a) (m.const_ b)) (sym is)
           (roots_step r IsFormedConst m n was now L K const_var (no_region const_var tt) i j (m.const_ a) (m.const_ b)
           n.const_ a same sound l joins.same joins.equates x y a_stays)
@@ -145,7 +149,7 @@ module _ {Key Id Name : Type 0} where
           subst₂ (λ z. Steps z (m.const_ b)) (sym p) (sym is)
           (left_refused r L K l IsFormedConst (seen m was) (seen n now) grown decides sound const_var tt i (m.const_ b)
           (a_free i p) (b_none o i) (λ m. m.const_) CyclicConst Invariant n.const_
-          (λ k z h x. const_cycle_error n was now i (m.const_ b) sound k z h (b_none o i) x) f binds)
+          (λ k z h x. const_cycle_error n r.kept.settings.structurally_relate_aliases was now i (m.const_ b) sound k z h (b_none o i) x) f binds)
       combined_shallow result (right_root_bound i x p f binds is) =
           subst₂ (λ z. Steps (m.const_ a) z) (sym p) (sym is)
           (const_right_step r L K l const_var tt (seen m was) (seen n now) grown sound numbers all i (m.const_ a) (n.const_ x)
@@ -155,49 +159,37 @@ module _ {Key Id Name : Type 0} where
           subst₂ (λ z. Steps (m.const_ a) z) (sym p) (sym is)
           (right_refused r L K l IsFormedConst (seen m was) (seen n now) grown decides sound const_var tt i (m.const_ a)
           (b_free i p) (a_none o i) (λ m. m.const_) CyclicConst Invariant n.const_
-          (λ k z h x. const_cycle_error n was now i (m.const_ a) sound k z h (a_none o i) x) f binds)
+          (λ k z h x. const_cycle_error n r.kept.settings.structurally_relate_aliases was now i (m.const_ a) sound k z h (a_none o i) x) f binds)
       combined_shallow result (formed_by_parts f h same stays is) = subst (Steps (m.const_ a) (m.const_ b)) (sym is)
           (subst₂ (λ z st. Stepped solver_manner IsFormedConst (standing r m was L) (standing r z st K) (m.const_ a)
           (m.const_ b) z.const_ (Ok (Parts a b))) (sym same) (sym stays)
           (parts_step r m was L K l IsFormedConst (m.const_ a) (m.const_ b) m.const_ a b sound (itself refl) (itself refl)
-          asked f h))
+          asked f h (left f h)))
 
-    module _ (grown : Extends m n) (numbers : NumbersNameNothing was) (covered : HasCoveredBindings was)
-        (all : HasCoveredBindings now) (a b : ConstKey Key)
-        (asked : Asked solver_manner (standing r m was L) r.ambient (m.const_ a) (m.const_ b))
-        (sorted : (k : ConstKey Key) → IsTrue (known (m.const_ k)) → IsTerm const_sort (m.const_ k)) where
-      read_asked : (x y : ConstKey Key) → ReadsShallow m n was now a x → ReadsShallow m n was now b y →
-          Asked solver_manner (standing r m was L) r.ambient (m.const_ x) (m.const_ y)
-      read_asked x y f h = record {
-        left_known = (f.reads).sure;
-        right_known = (h.reads).sure;
-        left_in = ((f.reads).resolves).is_in asked.left_in;
-        right_in = ((h.reads).resolves).is_in asked.right_in;
-        left_taken = all_taken r.ambient (m.const_ x)
-            (read_covered was covered (m.const_ a) (m.const_ x) (f.reads).reads asked.left_taken.1);
-        right_taken = all_taken r.ambient (m.const_ y)
-            (read_covered was covered (m.const_ b) (m.const_ y) (h.reads).reads asked.right_taken.1);
-      }
+  -- What two constants are read as is asked as they are.
+  pub read_asked : (r : State Key Id Name) → HasCoveredBindings r.store → (a b x y : ConstKey Key) →
+      AskedConsts solver_manner r a b → ReadsShallow r.meaning r.store a x → ReadsShallow r.meaning r.store b y →
+      AskedConsts solver_manner r x y
+  read_asked r covered a b x y asked f h = record {
+    left_known = (f.reads).sure;
+    right_known = (h.reads).sure;
+    left_in = ((f.reads).resolves).is_in asked.left_in;
+    right_in = ((h.reads).resolves).is_in asked.right_in;
+    left_taken = all_taken r.ambient ((r.meaning).const_ x)
+        (read_covered r.store covered ((r.meaning).const_ a) ((r.meaning).const_ x) (f.reads).reads asked.left_taken.1);
+    right_taken = all_taken r.ambient ((r.meaning).const_ y)
+        (read_covered r.store covered ((r.meaning).const_ b) ((r.meaning).const_ y) (h.reads).reads asked.right_taken.1);
+  }
 
-      -- Of two constants, resolved or not, a step was taken.
-      pub combined_consts : (result : Result (Step (ConstKey Key)) (RelateFault Key Id Name)) →
-          CombinesConsts m n was now a b result → Stepped solver_manner IsFormedConst (standing r m was L)
-          (standing r n now K) (m.const_ a) (m.const_ b) n.const_ result
-      combined_consts result (one_constant e same stays is) =
-          subst (Stepped solver_manner IsFormedConst (standing r m was L) (standing r n now K) (m.const_ a) (m.const_ b)
-          n.const_) (sym is) (subst₂ (λ z st. Stepped solver_manner IsFormedConst (standing r m was L) (standing r z st K)
-          (m.const_ a) (m.const_ b) z.const_ (Ok (Done a))) (sym same) (sym stays)
-          (one_step r IsFormedConst m m was was L K (m.const_ a) (m.const_ b) m.const_ a refl (goes_nowhere _ was) l
-          (λ w s sat. ap (apply s) e) (λ w s sat h. sat)
-          (λ h. (h, exact_itself was (m.const_ a) (m.const_ b) e)) (keeps_itself was) (full_itself was)
-          (built_itself was (m.const_ a) (m.const_ b)) (inl refl)
-          asked.left_known (λ c. agree_same c r.ambient (m.const_ a) (m.const_ b) e)))
-      combined_consts result (resolved_first x y differ f h combines) =
-          let k = read_asked x y f h in
-          read_step (standing r m was L) (standing r n now K) sound (m.const_ a) (m.const_ b) (m.const_ x) (m.const_ y)
-          (f.reads).reads (h.reads).reads IsFormedConst n.const_ result
-          (combined_shallow grown numbers all x y k (sorted x k.left_known) (sorted y k.right_known) f.shallow h.shallow
-          result combines)
+  -- Of one and the same constant it is the answer.
+  pub one_const_step : (r : State Key Id Name) (a b : ConstKey Key) → IsTrue (known ((r.meaning).const_ a)) →
+      (r.meaning).const_ a ≡ (r.meaning).const_ b → SteppedConsts solver_manner r r a b (Ok (Done a))
+  one_const_step r a b sure e = one_step r IsFormedConst r.meaning r.meaning r.store r.store r.lawful r.lawful
+      ((r.meaning).const_ a) ((r.meaning).const_ b) (r.meaning).const_ a refl (goes_nowhere _ r.store) (λ l. l)
+      (λ w s sat. ap (apply s) e) (λ w s sat h. sat)
+      (λ h. (h, exact_itself r.store ((r.meaning).const_ a) ((r.meaning).const_ b) e)) (keeps_itself r.store)
+      (full_itself r.store) (built_itself r.store ((r.meaning).const_ a) ((r.meaning).const_ b)) (inl refl) sure
+      (λ set c. agree_same set c r.ambient ((r.meaning).const_ a) ((r.meaning).const_ b) e)
 
 is_number_kind_of : (k : VarKind) → IsNumber k → IsNumberKind k
 is_number_kind_of int_var h = tt
@@ -207,50 +199,54 @@ is_number_kind_of k h = absurd h
 pub is_number_kind : (v : NumberVid) → IsNumberKind (number_kind v)
 is_number_kind v = is_number_kind_of (number_kind v) (is_number v)
 
--- What is recorded after the step is later.
-pub consts_later : {Key Id Name : Type 0} (r : State Key Id Name) (c d : Context Key Id Name) (o : IsOver r c) →
-    r.ambient ≢ Bivariant → IsSound c.store → Extends c.meaning d.meaning → NumbersNameNothing c.store →
-    HasCoveredBindings c.store → HasCoveredBindings d.store → (a b : ConstKey Key)
-    (result : Result (Step (ConstKey Key)) (RelateFault Key Id Name)) → AskedConsts solver_manner r a b →
-    ((k : ConstKey Key) → IsTrue (known ((c.meaning).const_ k)) → IsTerm const_sort ((c.meaning).const_ k)) →
-    CombinesConsts c.meaning d.meaning c.store d.store a b result → IsLater c.store d.store
-consts_later r c d o decides sound grown numbers covered all a b result asked f combines =
-    (((combined_consts r decides c.meaning d.meaning c.store d.store r.lawful r.lawful (λ l. l) sound grown numbers covered all
-    a b (over_it o (λ z. AskedConsts solver_manner z a b) asked) f result combines).passes).goes).later
-
 -- The same over a relation that has recorded what a context has, where the context after it took its place.
+module _ {Key Id Name : Type 0} (r : State Key Id Name) (c d : Context Key Id Name) (o : IsOver r c)
+    (decides : r.ambient ≢ Bivariant) (sound : IsSound c.store) where
+  -- What is recorded after the step is later.
+  module _ (grown : Extends c.meaning d.meaning) (numbers : NumbersNameNothing c.store) (all : HasCoveredBindings d.store)
+      (a b : ConstKey Key) (result : Result (Step (ConstKey Key)) (RelateFault Key Id Name))
+      (asked : AskedConsts solver_manner r a b)
+      (f : (k : ConstKey Key) → IsTrue (known ((c.meaning).const_ k)) → IsTerm const_sort ((c.meaning).const_ k))
+      (a_shallow : IsShallowConst c.store ((c.meaning).const_ a)) (b_shallow : IsShallowConst c.store ((c.meaning).const_ b))
+      (left : IsFormedConst ((c.meaning).const_ a) → IsFormedConst ((c.meaning).const_ b) →
+      IsLeftToGoal r.kept.settings ((c.meaning).const_ a) ((c.meaning).const_ b) → ⊥)
+      (meets : MeetsConsts c.meaning d.meaning c.store d.store r.kept.settings.structurally_relate_aliases a b result) where
+    asked_there : AskedConsts solver_manner (standing r c.meaning c.store r.lawful) a b
+    asked_there = over_it o (λ z. AskedConsts solver_manner z a b) asked
+
+    pub consts_later : IsLater c.store d.store
+    consts_later = (((combined_shallow r decides c.meaning d.meaning c.store d.store r.lawful r.lawful (λ l. l) sound grown
+        numbers all a b asked_there (f a asked_there.left_known) (f b asked_there.right_known) a_shallow b_shallow left result
+        meets).passes).goes).later
+
+    pub consts_stepped : (q : State Key Id Name) → WithContext r d q → SteppedConsts solver_manner r q a b result
+    consts_stepped q w = carried o w (λ z u. SteppedConsts solver_manner z u a b result)
+        (combined_shallow r decides c.meaning d.meaning c.store d.store r.lawful q.lawful w.lawful sound grown numbers all a b
+        asked_there (f a asked_there.left_known) (f b asked_there.right_known) a_shallow b_shallow left result meets)
+
+  pub types_stepped : (q : State Key Id Name) → WithContext r d q → d.meaning ≡ c.meaning → (a b : TyKey Key)
+      (result : Result (Step (TyKey Key)) (RelateFault Key Id Name)) → AskedTys solver_manner r a b →
+      (IsTrue (known ((c.meaning).ty a)) → IsTerm type_sort ((c.meaning).ty a)) →
+      (IsTrue (known ((c.meaning).ty b)) → IsTerm type_sort ((c.meaning).ty b)) → IsNoTyVar ((r.meaning).ty a) →
+      IsNoTyVar ((r.meaning).ty b) → HaveNoError ((r.meaning).ty a) ((r.meaning).ty b) →
+      (IsLeftToGoal r.kept.settings ((r.meaning).ty a) ((r.meaning).ty b) → ⊥) →
+      MeetsTys c.meaning c.store d.store a b result → SteppedTys solver_manner r q a b result
+  types_stepped q w same a b result asked f h x y clean left meets =
+      let k = over_it o (λ z. AskedTys solver_manner z a b) asked in
+      carried o w (λ z u. SteppedTys solver_manner z u a b result)
+      (combined_tys r decides c.meaning d.meaning c.store d.store r.lawful q.lawful w.lawful sound same a b result k
+      (f k.left_known) (h k.right_known) (subst (λ m. IsNoTyVar (m.ty a)) o.meaning x)
+      (subst (λ m. IsNoTyVar (m.ty b)) o.meaning y) (subst (λ m. HaveNoError (m.ty a) (m.ty b)) o.meaning clean)
+      (subst (λ m. IsLeftToGoal r.kept.settings (m.ty a) (m.ty b) → ⊥) o.meaning left) meets)
+
 module _ {Key Id Name : Type 0} (r q : State Key Id Name) (c d : Context Key Id Name) (o : IsOver r c)
     (w : WithContext r d q) where
-  module _ (decides : r.ambient ≢ Bivariant) (sound : IsSound c.store) where
-    pub types_stepped : d.meaning ≡ c.meaning → (a b : TyKey Key)
-        (result : Result (Step (TyKey Key)) (RelateFault Key Id Name)) → AskedTys solver_manner r a b →
-        (IsTrue (known ((c.meaning).ty a)) → IsTerm type_sort ((c.meaning).ty a)) →
-        (IsTrue (known ((c.meaning).ty b)) → IsTerm type_sort ((c.meaning).ty b)) → IsNoTyVar ((r.meaning).ty a) →
-        IsNoTyVar ((r.meaning).ty b) → CombinesTys c.meaning c.store d.store a b result →
-        SteppedTys solver_manner r q a b result
-    types_stepped same a b result asked f h x y combines =
-        let k = over_it o (λ z. AskedTys solver_manner z a b) asked in
-        carried o w (λ z u. SteppedTys solver_manner z u a b result)
-        (combined_tys r decides c.meaning d.meaning c.store d.store r.lawful q.lawful w.lawful sound same a b result k
-        (f k.left_known) (h k.right_known) (subst (λ m. IsNoTyVar (m.ty a)) o.meaning x)
-        (subst (λ m. IsNoTyVar (m.ty b)) o.meaning y) combines)
+  pub types_met : (a b : TyKey Key) (result : Result (Step (TyKey Key)) (RelateFault Key Id Name)) →
+      MeetsTys c.meaning c.store d.store a b result → MeetsTys r.meaning r.store q.store a b result
+  types_met a b result h = carried o w (λ z u. MeetsTys z.meaning z.store u.store a b result) h
 
-    pub consts_stepped : Extends c.meaning d.meaning → NumbersNameNothing c.store → HasCoveredBindings c.store →
-        HasCoveredBindings d.store → (a b : ConstKey Key) (result : Result (Step (ConstKey Key)) (RelateFault Key Id Name)) →
-        AskedConsts solver_manner r a b →
-        ((k : ConstKey Key) → IsTrue (known ((c.meaning).const_ k)) → IsTerm const_sort ((c.meaning).const_ k)) →
-        CombinesConsts c.meaning d.meaning c.store d.store a b result → SteppedConsts solver_manner r q a b result
-    consts_stepped grown numbers was_covered all a b result asked f combines =
-        carried o w (λ z u. SteppedConsts solver_manner z u a b result)
-        (combined_consts r decides c.meaning d.meaning c.store d.store r.lawful q.lawful w.lawful sound grown numbers
-        was_covered all a b (over_it o (λ z. AskedConsts solver_manner z a b) asked) f result combines)
-
-  pub types_combined : (a b : TyKey Key) (result : Result (Step (TyKey Key)) (RelateFault Key Id Name)) →
-      CombinesTys c.meaning c.store d.store a b result → CombinesTys r.meaning r.store q.store a b result
-  types_combined a b result h = carried o w (λ z u. CombinesTys z.meaning z.store u.store a b result) h
-
-  pub consts_combined : (a b : ConstKey Key) (result : Result (Step (ConstKey Key)) (RelateFault Key Id Name)) →
-      CombinesConsts c.meaning d.meaning c.store d.store a b result →
-      CombinesConsts r.meaning q.meaning r.store q.store a b result
-  consts_combined a b result h =
-      carried o w (λ z u. CombinesConsts z.meaning u.meaning z.store u.store a b result) h
+  pub consts_met : (a b : ConstKey Key) (result : Result (Step (ConstKey Key)) (RelateFault Key Id Name)) →
+      MeetsConsts c.meaning d.meaning c.store d.store r.kept.settings.structurally_relate_aliases a b result →
+      MeetsConsts r.meaning q.meaning r.store q.store r.kept.settings.structurally_relate_aliases a b result
+  consts_met a b result h = carried o w
+      (λ z u. MeetsConsts z.meaning u.meaning z.store u.store r.kept.settings.structurally_relate_aliases a b result) h

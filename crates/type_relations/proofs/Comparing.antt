@@ -3,7 +3,7 @@ use Rattle.std.proofs.Common.{◌≡◌, ◌≢◌, ◌⊎◌, ℕ, zero, suc, �
 use Rattle.std.specs.Result.{IsErr, IsErrAnd}
 use Rattle.std.proofs.lemmas.Bool.{false≢true}
 use Rattle.relation_terms.specs.Heads.{Head, Sort, Part, Shape, one, row, head_parts, Admits, type_sort, const_sort, value_sort, VarKind, var_sort, type_var, int_var, float_var, const_var, region_var}
-use Rattle.relation_terms.specs.Heads.{array, tuple, unevaluated, expression, value, value_branch, Atom, type_param, const_param}
+use Rattle.relation_terms.specs.Heads.{alias, array, tuple, unevaluated, expression, value, value_branch, Atom, type_param, const_param}
 use Rattle.relation_terms.specs.Heads.{Leaf, atom, variable, bound, placeholder, unknown}
 use Rattle.relation_terms.specs.Trees.{Tree, leaf, node, bind, nil, cons, Assign, apply, IsTerm, Fits, IsList, count, known}
 use Rattle.relation_terms.specs.Meaning.{Meaning, kind_tree, const_tree, infer_tree}
@@ -36,14 +36,15 @@ use Rattle.relation_contexts.specs.Covered.{IsCovered}
 use Rattle.relation_contexts.specs.Stores.{Store}
 use Rattle.relation_contexts.specs.Errors.{AreAlike, AreAlikeLeaves, AreAlikeConsts, AreOfOneValue, one_value, as_many_branches, IsVariableFor, AreBindable, HaveNoError, outer_head}
 use Rattle.relation_contexts.specs.Errors.{alike_leaves, of_one_item, both_expressions, both_values, unlike_aliases}
-use Rattle.relation_contexts.specs.Errors.{FormError, mutability, pointer_mutability, tuple_size, empty_tuple, as_many, sorts}
+use Rattle.relation_contexts.specs.Errors.{FormError, mutability, pointer_mutability, tuple_size, empty_tuple, as_many, alias_arguments, sorts}
 use Rattle.relation_contexts.specs.Errors.{ConstFormError, const_mismatch, operations}
 use Rattle.relation_contexts.specs.Outcomes.{NoEqualTerms}
 use Rattle.relation_contexts.specs.Parts.{IsFormed, IsFormedConst}
 use Rattle.relation_contexts.specs.Parts.{parts_of, const_parts_of, branches_of}
 use Rattle.type_relations.specs.Forms.{tree_outline}
+use Rattle.type_relations.specs.Comparing.{AreOfOneItem}
+use Rattle.relation_terms.specs.declared.terms.alias.UnevaluatedConst.{UnevaluatedConst}
 use Rattle.type_relations.specs.declared.relate.forms.Form.TheVariants.{Leaf as LeafForm}
-use Rattle.relation_contexts.proofs.Covered.{covered_no_error}
 use Rattle.relation_contexts.proofs.OneParts.{lists_apart, count_applied}
 
 formed_no_variable : (t u : Tree) → IsFormed t → IsVariableFor t u → ⊥
@@ -199,21 +200,21 @@ alone x t p a = absurd (cc)
 -- Constants of one outermost form, by their forms.
 abbrev pub ConstsAlike : Tree → Tree → Type 0
 ConstsAlike (leaf x) (leaf y) = AreAlikeLeaves x y
-ConstsAlike (node (unevaluated d) ts) (node (unevaluated e) us) = d ≡ e
+ConstsAlike (node (unevaluated d) ts) (node (unevaluated e) us) = (d ≡ e) × (count ts ≡ count us)
 ConstsAlike (node (expression k) ts) (node (expression l) us) = Unit {0}
 ConstsAlike (node value (cons t (cons v nil))) (node value (cons u (cons w nil))) = AreOfOneValue v w
 ConstsAlike t u = ⊥
 
 by_forms : (t u : Tree) → AreAlikeConsts t u → ConstsAlike t u
 by_forms t u (alike_leaves d e a) = subst₂ ConstsAlike (sym d) (sym e) a
-by_forms t u (of_one_item d e) = subst₂ ConstsAlike (sym d) (sym e) refl
+by_forms t u (of_one_item d e n) = subst₂ ConstsAlike (sym d) (sym e) (refl, n)
 by_forms t u (both_expressions d e) = subst₂ ConstsAlike (sym d) (sym e) tt
 by_forms t u (both_values d e o) = subst₂ ConstsAlike (sym d) (sym e) o
 
 pub of_forms_alike : (t u : Tree) → ConstsAlike t u → AreAlikeConsts t u
 of_forms_alike (leaf x) (leaf y) a = alike_leaves refl refl a
 of_forms_alike (node (unevaluated d) ts) (node (unevaluated e) us) a =
-    of_one_item refl (ap (λ z. node (unevaluated z) us) (sym a))
+    of_one_item refl (ap (λ z. node (unevaluated z) us) (sym a.0)) a.1
 of_forms_alike (node (expression k) ts) (node (expression l) us) a = both_expressions refl refl
 of_forms_alike (node value (cons t (cons v nil))) (node value (cons u (cons w nil))) a = both_values refl refl a
 of_forms_alike t u a = absurd a
@@ -238,12 +239,9 @@ module _ {Key Id Name : Type 0} (m : Meaning Key Id Name) where
   pub unlike_as : (x y : TyKey Key) (t u : Tree) (e : TypeError Key Id Name) → m.ty x ≡ t → m.ty y ≡ u → HaveNoError t u → (AreAlike t u → ⊥) → e ≡ Sorts (record { expected = x; found = y }) → FormError m x y e
   unlike_as x y t u e p q n o is = subst (FormError m x y) (sym is) (sorts (subst₂ HaveNoError (sym p) (sym q) n) (λ a. o (subst (λ z. AreAlike z u) p (subst (AreAlike (m.ty x)) q a))))
 
-  module _ (l : TyKind Key Id Name) (x y : TyKey Key) (e : TypeError Key Id Name) (q : m.ty y ≡ kind_tree m l) (is : e ≡ Sorts (record { expected = x; found = y })) (o : IsCovered (m.ty y)) where
-    no_error : IsError (kind_tree m l) → ⊥
-    no_error = covered_no_error (kind_tree m l) (subst IsCovered q o)
-
-    pub unlike_param : (k : ParamTy Name) → m.ty x ≡ kind_tree m (TyParam k) → ((z : ParamTy Name) → l ≡ TyParam z → k.index ≡ z.index → ⊥) → FormError m x y e
-    unlike_param k p o = unlike_as x y (leaf (atom (type_param k.index (m.name k.name)))) (kind_tree m l) e p q ((λ z. z), no_error) (λ a. alike_param k.index (m.name k.name) l a o) is
+  pub unlike_param : (l : TyKind Key Id Name) (x y : TyKey Key) (e : TypeError Key Id Name) → m.ty y ≡ kind_tree m l → e ≡ Sorts (record { expected = x; found = y }) → HaveNoError (m.ty x) (m.ty y) →
+      (k : ParamTy Name) → m.ty x ≡ kind_tree m (TyParam k) → ((z : ParamTy Name) → l ≡ TyParam z → k.index ≡ z.index → ⊥) → FormError m x y e
+  unlike_param l x y e q is n k p o = unlike_as x y (kind_tree m (TyParam k)) (kind_tree m l) e p q (subst₂ HaveNoError p q n) (λ a. alike_param k.index (m.name k.name) l a o) is
 
   -- What is alike to a type without parts that is no parameter is that type.
   alone_kind : (k : TyKind Key Id Name) (t : Tree) → (tree_outline (kind_tree m k)).form ≡ LeafForm →
@@ -274,10 +272,10 @@ module _ {Key Id Name : Type 0} (m : Meaning Key Id Name) where
   alone_kind k t e n a = alone _ t tt a
 
   pub unlike_leaf : (k : TyKind Key Id Name) (x y : TyKey Key) (e : TypeError Key Id Name) → m.ty x ≡ kind_tree m k →
-      IsCovered (m.ty x) → IsCovered (m.ty y) → (tree_outline (m.ty x)).form ≡ LeafForm → m.ty x ≢ m.ty y →
+      HaveNoError (m.ty x) (m.ty y) → (tree_outline (m.ty x)).form ≡ LeafForm → m.ty x ≢ m.ty y →
       ((p : ParamTy Name) → k ≡ TyParam p → ⊥) → e ≡ Sorts (record { expected = x; found = y }) → FormError m x y e
-  unlike_leaf k x y e p c d f differ n is =
-      unlike_as x y (m.ty x) (m.ty y) e refl refl (covered_no_error (m.ty x) c, covered_no_error (m.ty y) d)
+  unlike_leaf k x y e p none f differ n is =
+      unlike_as x y (m.ty x) (m.ty y) e refl refl none
       (λ a. differ (p ∙ alone_kind k (m.ty y) (ap (λ t. (tree_outline t).form) (sym p) ∙ f) n
       (subst (λ t. AreAlike t (m.ty y)) p a))) is
 
@@ -330,6 +328,7 @@ module _ {Key Id Name : Type 0} (m : Meaning Key Id Name) where
   form_apart st x y e f g s t (tuple_size {ts} {us} p q i j differ) = lists_apart st tuple tuple ts us (m.ty x) (m.ty y) p q (list_of tuple type_sort ts (m.ty x) p s) (list_of tuple type_sort us (m.ty y) q t) differ
   form_apart st x y e f g s t (empty_tuple {ts} {us} p q differ o) = lists_apart st tuple tuple ts us (m.ty x) (m.ty y) p q (list_of tuple type_sort ts (m.ty x) p s) (list_of tuple type_sort us (m.ty y) q t) differ
   form_apart st x y e f g s t (as_many {h} {ts} {us} p q o differ) = lists_apart st h h ts us (m.ty x) (m.ty y) p q (list_of h type_sort ts (m.ty x) p s) (list_of h type_sort us (m.ty y) q t) differ
+  form_apart st x y e f g s t (alias_arguments {k = i} {l = j} {d} {ts} {us} p q differ) = lists_apart st (alias i d) (alias j d) ts us (m.ty x) (m.ty y) p q (list_of (alias i d) type_sort ts (m.ty x) p s) (list_of (alias j d) type_sort us (m.ty y) q t) differ
   form_apart st x y e f g s t (unlike_aliases {ts} {us} i j p q differ) = λ w a sat z. differ (let h = sym (ap (apply a) p) ∙ z ∙ ap (apply a) q in cc)
   form_apart st x y e f g s t (sorts n o) = λ w a sat z. o (alike_applied a (m.ty x) (m.ty y) f g z)
 
@@ -339,6 +338,7 @@ module _ {Key Id Name : Type 0} (m : Meaning Key Id Name) where
   known_error x y e a b (tuple_size p q i j o) = tt
   known_error x y e a b (empty_tuple p q o i) = (a, b)
   known_error x y e a b (as_many p q o i) = (a, b)
+  known_error x y e a b (alias_arguments p q o) = (a, b)
   known_error x y e a b (unlike_aliases c d p q o) = tt
   known_error x y e a b (sorts n o) = (a, b)
 
@@ -360,9 +360,9 @@ module _ {Key Id Name : Type 0} (m : Meaning Key Id Name) where
       go (ConstInfer (Fresh n)) c w o = absurd c
       go (ConstBound d b) c w o = absurd (omega (arith, w))
       go (ConstPlaceholder p) c w o = refl
-      go (Unevaluated u) c w o = absurd c.0
+      go (Unevaluated u) c w o = tt
       go (Value t v) c w o = tt
-      go (ConstError z) c w o = absurd c
+      go (ConstError z) c w o = refl
       go (Expr x a) c w o = tt
 
   -- The error of two constants that are of unlike forms.
@@ -377,6 +377,8 @@ module _ {Key Id Name : Type 0} (m : Meaning Key Id Name) where
   IsUnlikeConst (Value t v) l = Unit {0}
   IsUnlikeConst (Expr x a) (Expr y b) = ⊥
   IsUnlikeConst (Expr x a) l = Unit {0}
+  IsUnlikeConst (Unevaluated a) (Unevaluated b) = AreOfOneItem m a b → ⊥
+  IsUnlikeConst (Unevaluated a) l = Unit {0}
   IsUnlikeConst k l = ⊥
 
   unlike_const_trees : (k l : ConstKind Key Id Name) → IsUnlikeConst k l → ConstsAlike (const_tree m k) (const_tree m l) → ⊥
@@ -396,10 +398,14 @@ module _ {Key Id Name : Type 0} (m : Meaning Key Id Name) where
   unlike_const_trees (Expr x b) (ConstInfer (Var n)) o a = absurd a
   unlike_const_trees (Expr x b) (ConstInfer (Fresh n)) o a = absurd a
   unlike_const_trees (Expr x b) l o a = first_of (cc, search a)
+  unlike_const_trees (Unevaluated b) (Unevaluated d) o a = o a
+  unlike_const_trees (Unevaluated b) (ConstInfer (Var n)) o a = absurd a
+  unlike_const_trees (Unevaluated b) (ConstInfer (Fresh n)) o a = absurd a
+  unlike_const_trees (Unevaluated b) l o a = first_of (cc, search a)
   unlike_const_trees k l o a = absurd o
 
-  pub unlike_const : (k l : ConstKind Key Id Name) (x y : ConstKey Key) (e : TypeError Key Id Name) → m.const_ x ≡ const_tree m k → m.const_ y ≡ const_tree m l → IsCovered (m.const_ x) → IsCovered (m.const_ y) → IsUnlikeConst k l → e ≡ ConstMismatch (record { expected = x; found = y }) → ConstFormError m x y e
-  unlike_const k l x y e p q c d o is = unlike_consts_as x y (const_tree m k) (const_tree m l) e p q (covered_no_error (const_tree m k) (subst IsCovered p c), covered_no_error (const_tree m l) (subst IsCovered q d)) (unlike_const_trees k l o) is
+  pub unlike_const : (k l : ConstKind Key Id Name) (x y : ConstKey Key) (e : TypeError Key Id Name) → m.const_ x ≡ const_tree m k → m.const_ y ≡ const_tree m l → HaveNoError (m.const_ x) (m.const_ y) → IsUnlikeConst k l → e ≡ ConstMismatch (record { expected = x; found = y }) → ConstFormError m x y e
+  unlike_const k l x y e p q none o is = unlike_consts_as x y (const_tree m k) (const_tree m l) e p q (subst₂ HaveNoError p q none) (unlike_const_trees k l o) is
 
   pub param_const : (p : ParamConst Name) (l : ConstKind Key Id Name) → ((q : ParamConst Name) → l ≡ ConstParam q → p.index ≡ q.index → ⊥) → IsUnlikeConst (ConstParam p) l
   param_const p (ConstParam q) o = o q refl
@@ -413,6 +419,10 @@ module _ {Key Id Name : Type 0} (m : Meaning Key Id Name) where
   expr_const k a (Expr j b) o = o j b refl
   expr_const k a l o = tt
 
+  pub item_const : (a : UnevaluatedConst Key Id) (l : ConstKind Key Id Name) → ((b : UnevaluatedConst Key Id) → l ≡ Unevaluated b → AreOfOneItem m a b → ⊥) → IsUnlikeConst (Unevaluated a) l
+  item_const a (Unevaluated b) o = o b refl
+  item_const a l o = tt
+
   alike_consts_applied : (s : Assign) (a b : Tree) → IsFormedConst a → IsFormedConst b → IsTerm const_sort a → IsTerm const_sort b → apply s a ≡ apply s b → ConstsAlike a b
   alike_consts_applied s (leaf (atom x)) (leaf (atom y)) f g p q e = (let z : x ≡ y = cc in ap (λ z. atom (plain_atom z)) z)
   alike_consts_applied s (leaf (placeholder k u n)) (leaf (placeholder l v i)) f g p q e = cc
@@ -423,6 +433,15 @@ module _ {Key Id Name : Type 0} (m : Meaning Key Id Name) where
   alike_consts_applied s (node h ts) (leaf (atom y)) f g p q e = absurd (cc)
   alike_consts_applied s (node h ts) (leaf (placeholder l v i)) f g p q e = absurd (cc)
   alike_consts_applied s (node (expression k) ts) (node (expression l) us) f g p q e = tt
+  alike_consts_applied s (node (unevaluated d) ts) (node (unevaluated i) us) f g p q e =
+      let z : apply s ts ≡ apply s us = cc in (
+        (cc),
+        sym (count_applied s ts (parts_list (unevaluated d) ts p.1)) ∙ ap count z ∙ count_applied s us (parts_list (unevaluated i) us q.1),
+      )
+  alike_consts_applied s (node (unevaluated d) ts) (node (expression l) us) f g p q e = absurd (cc)
+  alike_consts_applied s (node (unevaluated d) ts) (node value us) f g p q e = absurd (cc)
+  alike_consts_applied s (node (expression k) ts) (node (unevaluated i) us) f g p q e = absurd (cc)
+  alike_consts_applied s (node value ts) (node (unevaluated i) us) f g p q e = absurd (cc)
   alike_consts_applied s (node (expression k) ts) (node value us) f g p q e = absurd (cc)
   alike_consts_applied s (node value ts) (node (expression l) us) f g p q e = absurd (cc)
   alike_consts_applied s (node value ts) (node value us) f g p q e =
@@ -443,6 +462,7 @@ module _ {Key Id Name : Type 0} (m : Meaning Key Id Name) where
   alike_consts_applied s a (bind ks t) f g p q e = absurd g
   alike_consts_applied s a nil f g p q e = absurd g
   alike_consts_applied s a (cons t u) f g p q e = absurd g
+  alike_consts_applied s (node (unevaluated d) ts) (node h us) f g p q e = absurd g
   alike_consts_applied s (node (expression k) ts) (node h us) f g p q e = absurd g
   alike_consts_applied s (node value ts) (node h us) f g p q e = absurd g
   alike_consts_applied s (node h ts) b f g p q e = absurd f

@@ -6,28 +6,28 @@ use Rattle.term_enums.specs.declared.Mutability.TheVariants.{Not}
 use Rattle.relation_terms.specs.declared.terms.keys.TyKey.{TyKey}
 use Rattle.relation_terms.specs.Heads.{Head, adt, fn_def, closure, coroutine_closure, coroutine, coroutine_witness}
 use Rattle.relation_terms.specs.Heads.{array, slice, pattern_type, tuple, unsafe_binder, dynamic, fn_ptr, raw_ptr, ref}
-use Rattle.relation_terms.specs.Heads.{alias, region_sort, type_sort, const_sort, pattern_sort, Part, term_of, row}
+use Rattle.relation_terms.specs.Heads.{AliasKind, alias, region_sort, type_sort, const_sort, pattern_sort, Part, term_of, row}
 use Rattle.relation_terms.specs.Heads.{head_parts}
 use Rattle.relation_terms.specs.Trees.{Tree, leaf, node, bind, nil, cons, count, Fits, IsTerm}
 use Rattle.relation_terms.specs.Meaning.{Meaning}
 use Rattle.relation_folds.specs.Outlines.{named}
 use Rattle.relation_folds.specs.declared.error.TypeError.{TypeError}
-use Rattle.relation_folds.specs.declared.error.TypeError.TheVariants.{TupleSize, Sorts}
+use Rattle.relation_folds.specs.declared.error.TypeError.TheVariants.{TupleSize, Sorts, ProjectionMismatched}
 use Rattle.relation_folds.specs.declared.error.TypeError.TheVariants.{Mutability as MutabilityError}
 use Rattle.type_relations.specs.declared.relate.forms.Outline.{Outline}
 use Rattle.type_relations.specs.declared.relate.forms.Form.{Form}
 use Rattle.type_relations.specs.declared.relate.forms.Form.TheVariants.{Leaf, Adt, FnDef, Closure, CoroutineClosure}
 use Rattle.type_relations.specs.declared.relate.forms.Form.TheVariants.{Coroutine, CoroutineWitness, Array, Slice}
 use Rattle.type_relations.specs.declared.relate.forms.Form.TheVariants.{Pat, RawPtr, Ref, Tuple, FnPtr, UnsafeBinder, Dynamic}
-use Rattle.relation_contexts.specs.Covered.{IsCovered, IsCoveredHead}
+use Rattle.type_relations.specs.declared.relate.forms.Form.TheVariants.{Alias}
 use Rattle.relation_contexts.specs.Parts.{parts_of, head_of}
 use Rattle.type_relations.specs.Forms.{named_outline, head_outline, tree_outline, IsFixed}
-use Rattle.relation_contexts.specs.Errors.{outer_head, outermost, AreAlike, AreOfOneForm, over_parts, one_leaf}
-use Rattle.relation_contexts.specs.Errors.{FormError, mutability, pointer_mutability, as_many}
-use Rattle.relation_contexts.proofs.Covered.{covered_no_error}
+use Rattle.relation_contexts.specs.Errors.{outer_head, outermost, AreAlike, AreOfOneForm, over_parts, over_aliases, one_leaf}
+use Rattle.relation_contexts.specs.Errors.{FormError, mutability, pointer_mutability, as_many, alias_arguments, unlike_aliases}
+use Rattle.relation_contexts.specs.Errors.{HaveNoError}
 use Rattle.type_relations.proofs.Comparing.{unlike_as, lengths_error}
 
--- The form that an outline is of, where relating has rules for it.
+-- The form that an outline is of, but for an alias's, whose kind it leaves out.
 abbrev from : Form → Option ℕ → Mutability → Head
 from Adt (Some d) u = adt d
 from FnDef (Some d) u = fn_def d
@@ -48,7 +48,7 @@ from f n u = tuple
 abbrev head_from : Outline ℕ → Head
 head_from o = from o.form o.item o.mutability
 
-rebuilt : (h : Head) → IsCoveredHead h → ((head_outline h).form ≡ Leaf → ⊥) → h ≡ head_from (head_outline h)
+rebuilt : (h : Head) → ((head_outline h).form ≡ Alias → ⊥) → ((head_outline h).form ≡ Leaf → ⊥) → h ≡ head_from (head_outline h)
 rebuilt (adt d) c n = refl
 rebuilt (fn_def d) c n = refl
 rebuilt (closure d) c n = refl
@@ -64,7 +64,7 @@ rebuilt (ref u) c n = refl
 rebuilt unsafe_binder c n = refl
 rebuilt dynamic c n = refl
 rebuilt fn_ptr c n = refl
-rebuilt (alias k d) c n = absurd c
+rebuilt (alias k d) c n = absurd (c refl)
 rebuilt h c n = absurd (n refl)
 
 -- Mutability is a pointer's and a reference's alone.
@@ -82,44 +82,48 @@ outer_form : (h : Head) → (head_outline (outer_head h)).form ≡ (head_outline
 outer_form array = refl
 outer_form h = refl
 
-outer_item : (h : Head) → (head_outline (outer_head h)).item ≡ (head_outline h).item
-outer_item array = refl
-outer_item h = refl
+outer_item : (h : Head) → ((head_outline h).form ≡ Alias → ⊥) → (head_outline (outer_head h)).item ≡ (head_outline h).item
+outer_item (alias k d) n = absurd (n refl)
+outer_item h n = refl
 
 outermost_form : (t : Tree) → (tree_outline (outermost t)).form ≡ (tree_outline t).form
 outermost_form (node h ts) = outer_form h
 outermost_form t = refl
 
-outermost_item : (t : Tree) → (tree_outline (outermost t)).item ≡ (tree_outline t).item
-outermost_item (node h ts) = outer_item h
-outermost_item t = refl
+outermost_item : (t : Tree) → ((tree_outline t).form ≡ Alias → ⊥) → (tree_outline (outermost t)).item ≡ (tree_outline t).item
+outermost_item (node h ts) n = outer_item h n
+outermost_item t n = refl
 
 alike_form : (t u : Tree) → AreAlike t u → (tree_outline t).form ≡ (tree_outline u).form
 alike_form t u a = sym (outermost_form t) ∙ ap (λ z. (tree_outline z).form) a ∙ outermost_form u
 
-alike_item : (t u : Tree) → AreAlike t u → (tree_outline t).item ≡ (tree_outline u).item
-alike_item t u a = sym (outermost_item t) ∙ ap (λ z. (tree_outline z).item) a ∙ outermost_item u
+alike_item : (t u : Tree) → ((tree_outline t).form ≡ Alias → ⊥) → ((tree_outline u).form ≡ Alias → ⊥) → AreAlike t u →
+    (tree_outline t).item ≡ (tree_outline u).item
+alike_item t u n o a = sym (outermost_item t n) ∙ ap (λ z. (tree_outline z).item) a ∙ outermost_item u o
 
 -- A type that is not without parts.
 over_node : (t : Tree) → ((tree_outline t).form ≡ Leaf → ⊥) → t ≡ node (head_of t) (parts_of t)
 over_node (node h ts) n = refl
 over_node t n = absurd (n refl)
 
-covered_head : (t : Tree) → ((tree_outline t).form ≡ Leaf → ⊥) → IsCovered t → IsCoveredHead (head_of t)
-covered_head (node h ts) n c = c.0
-covered_head t n c = absurd (n refl)
-
 outline_head : (t : Tree) → ((tree_outline t).form ≡ Leaf → ⊥) → tree_outline t ≡ head_outline (head_of t)
 outline_head (node h ts) n = refl
 outline_head t n = absurd (n refl)
 
+-- An alias type.
+alias_shape : (t : Tree) → (tree_outline t).form ≡ Alias →
+    (k : AliasKind) × (d : ℕ) × (t ≡ node (alias k d) (parts_of t)) × ((tree_outline t).item ≡ Some d)
+alias_shape (node (alias k d) ts) e = (k, d, refl, refl)
+alias_shape (node h ts) e = absurd (cc)
+alias_shape t e = absurd (cc)
+
 -- A type is of one form with itself.
-pub itself_alike : (t u : Tree) → IsTerm type_sort t → IsCovered t → t ≡ u → AreOfOneForm t u
-itself_alike (leaf l) u f c e = one_leaf refl (sym e)
-itself_alike (node h ts) u f c e = over_parts refl (sym e) refl
-itself_alike (bind ks t) u f c e = absurd f
-itself_alike nil u f c e = absurd f
-itself_alike (cons t ts) u f c e = absurd f
+pub itself_alike : (t u : Tree) → IsTerm type_sort t → t ≡ u → AreOfOneForm t u
+itself_alike (leaf l) u f e = one_leaf refl (sym e)
+itself_alike (node h ts) u f e = over_parts refl (sym e) refl
+itself_alike (bind ks t) u f e = absurd f
+itself_alike nil u f e = absurd f
+itself_alike (cons t ts) u f e = absurd f
 
 -- How many parts all types of such a form have.
 abbrev fixed_count : Form → ℕ
@@ -156,23 +160,51 @@ is_tuple : (f : Form) → (f ≡ Tuple) ⊎ (f ≢ Tuple)
 is_tuple Tuple = inl refl
 is_tuple f = inr (λ e. absurd (cc))
 
+is_alias : (f : Form) → (f ≡ Alias) ⊎ (f ≢ Alias)
+is_alias Alias = inl refl
+is_alias f = inr (λ e. absurd (cc))
+
+-- The item that an outline names.
+item_named : {D : Type 0} (number : D → ℕ) (o : Option D) (d : ℕ) → named number o ≡ Some d →
+    (x : D) × (o ≡ Some x) × (number x ≡ d)
+item_named number (Some x) d e = (x, refl, (cc))
+item_named number None d e = absurd (cc)
+
 module _ {Key Id Name : Type 0} (m : Meaning Key Id Name) (x y : TyKey Key) (o p : Outline Id)
     (left : named_outline m.id o ≡ tree_outline (m.ty x)) (right : named_outline m.id p ≡ tree_outline (m.ty y))
-    (c : IsCovered (m.ty x)) (d : IsCovered (m.ty y)) where
+    (none : HaveNoError (m.ty x) (m.ty y)) where
   unlike_types : (AreAlike (m.ty x) (m.ty y) → ⊥) → (e : TypeError Key Id Name) →
       e ≡ Sorts (record { expected = x; found = y }) → FormError m x y e
-  unlike_types n e is = unlike_as m x y (m.ty x) (m.ty y) e refl refl
-      (covered_no_error (m.ty x) c, covered_no_error (m.ty y) d) n is
+  unlike_types n e is = unlike_as m x y (m.ty x) (m.ty y) e refl refl none n is
 
   pub unlike_forms : (o.form ≡ p.form → ⊥) → (e : TypeError Key Id Name) →
       e ≡ Sorts (record { expected = x; found = y }) → FormError m x y e
   unlike_forms n e is = unlike_types
       (λ a. n (ap (λ z. z.form) left ∙ alike_form (m.ty x) (m.ty y) a ∙ sym (ap (λ z. z.form) right))) e is
 
-  pub unlike_items : (named m.id o.item ≡ named m.id p.item → ⊥) → (e : TypeError Key Id Name) →
-      e ≡ Sorts (record { expected = x; found = y }) → FormError m x y e
-  unlike_items n e is = unlike_types
-      (λ a. n (ap (λ z. z.item) left ∙ alike_item (m.ty x) (m.ty y) a ∙ sym (ap (λ z. z.item) right))) e is
+  pub unlike_items : o.form ≡ p.form → (named m.id o.item ≡ named m.id p.item → ⊥) → (e : TypeError Key Id Name) →
+      ((i j : Id) → o.form ≡ Alias → o.item ≡ Some i → p.item ≡ Some j →
+      e ≡ ProjectionMismatched (record { expected = i; found = j })) →
+      (o.form ≢ Alias → e ≡ Sorts (record { expected = x; found = y })) → FormError m x y e
+  unlike_items form n e aliases others = go (is_alias o.form)
+    where
+      -- Two aliases, which have an item each.
+      apart : o.form ≡ Alias → FormError m x y e
+      apart is =
+          let (k, c, t, ct) = alias_shape (m.ty x) (sym (ap (λ z. z.form) left) ∙ is) in
+          let (l, d, u, du) = alias_shape (m.ty y) (sym (ap (λ z. z.form) right) ∙ sym form ∙ is) in
+          let (i, oi, ic) = item_named m.id o.item c (ap (λ z. z.item) left ∙ ct) in
+          let (j, pj, jd) = item_named m.id p.item d (ap (λ z. z.item) right ∙ du) in
+          subst (FormError m x y) (sym (aliases i j is oi pj)) (unlike_aliases i j
+          (t ∙ ap (λ z. node (alias k z) (parts_of (m.ty x))) (sym ic))
+          (u ∙ ap (λ z. node (alias l z) (parts_of (m.ty y))) (sym jd))
+          (λ z. n (ap (named m.id) oi ∙ ap Some z ∙ sym (ap (named m.id) pj))))
+
+      go : (o.form ≡ Alias) ⊎ (o.form ≢ Alias) → FormError m x y e
+      go (inl is) = apart is
+      go (inr no) = unlike_types (λ a. n (ap (λ z. z.item) left
+          ∙ alike_item (m.ty x) (m.ty y) (λ z. no (ap (λ z. z.form) left ∙ z))
+          (λ z. no (form ∙ ap (λ z. z.form) right ∙ z)) a ∙ sym (ap (λ z. z.item) right))) e (others no)
 
   module _ (parted : o.form ≡ Leaf → ⊥) (form : o.form ≡ p.form) where
     some_left : (tree_outline (m.ty x)).form ≡ Leaf → ⊥
@@ -187,12 +219,12 @@ module _ {Key Id Name : Type 0} (m : Meaning Key Id Name) (x y : TyKey Key) (o p
     right_head : named_outline m.id p ≡ head_outline (head_of (m.ty y))
     right_head = right ∙ outline_head (m.ty y) some_right
 
-    left_from : head_of (m.ty x) ≡ from o.form (named m.id o.item) o.mutability
-    left_from = rebuilt (head_of (m.ty x)) (covered_head (m.ty x) some_left c)
+    left_from : o.form ≢ Alias → head_of (m.ty x) ≡ from o.form (named m.id o.item) o.mutability
+    left_from no = rebuilt (head_of (m.ty x)) (λ e. no (ap (λ z. z.form) left_head ∙ e))
         (λ e. some_left (ap (λ z. z.form) (outline_head (m.ty x) some_left) ∙ e)) ∙ ap head_from (sym left_head)
 
-    right_from : head_of (m.ty y) ≡ from p.form (named m.id p.item) p.mutability
-    right_from = rebuilt (head_of (m.ty y)) (covered_head (m.ty y) some_right d)
+    right_from : o.form ≢ Alias → head_of (m.ty y) ≡ from p.form (named m.id p.item) p.mutability
+    right_from no = rebuilt (head_of (m.ty y)) (λ e. no (form ∙ ap (λ z. z.form) right_head ∙ e))
         (λ e. some_right (ap (λ z. z.form) (outline_head (m.ty y) some_right) ∙ e)) ∙ ap head_from (sym right_head)
 
     left_own : o.mutability ≡ own_mutability o.form o.mutability
@@ -207,48 +239,74 @@ module _ {Key Id Name : Type 0} (m : Meaning Key Id Name) (x y : TyKey Key) (o p
     pub unlike_mutability : (o.mutability ≡ p.mutability → ⊥) → FormError m x y MutabilityError
     unlike_mutability n = go o.form refl
       where
-        is_left : (f : Form) → o.form ≡ f → m.ty x ≡ node (from f (named m.id o.item) o.mutability) (parts_of (m.ty x))
-        is_left f e = over_node (m.ty x) some_left ∙ ap (λ h. node h (parts_of (m.ty x)))
-            (left_from ∙ ap (λ z. from z (named m.id o.item) o.mutability) e)
+        is_left : (f : Form) → f ≢ Alias → o.form ≡ f →
+            m.ty x ≡ node (from f (named m.id o.item) o.mutability) (parts_of (m.ty x))
+        is_left f no e = over_node (m.ty x) some_left ∙ ap (λ h. node h (parts_of (m.ty x)))
+            (left_from (λ z. no (sym e ∙ z)) ∙ ap (λ z. from z (named m.id o.item) o.mutability) e)
 
-        is_right : (f : Form) → o.form ≡ f → m.ty y ≡ node (from f (named m.id p.item) p.mutability) (parts_of (m.ty y))
-        is_right f e = over_node (m.ty y) some_right ∙ ap (λ h. node h (parts_of (m.ty y)))
-            (right_from ∙ ap (λ z. from z (named m.id p.item) p.mutability) (sym form ∙ e))
+        is_right : (f : Form) → f ≢ Alias → o.form ≡ f →
+            m.ty y ≡ node (from f (named m.id p.item) p.mutability) (parts_of (m.ty y))
+        is_right f no e = over_node (m.ty y) some_right ∙ ap (λ h. node h (parts_of (m.ty y)))
+            (right_from (λ z. no (sym e ∙ z)) ∙ ap (λ z. from z (named m.id p.item) p.mutability) (sym form ∙ e))
 
         both : (f : Form) → o.form ≡ f → own_mutability f o.mutability ≡ own_mutability f p.mutability → ⊥
         both f e q = n (left_own ∙ ap (λ z. own_mutability z o.mutability) e ∙ q
             ∙ sym (ap (λ z. own_mutability z p.mutability) (sym form ∙ e)) ∙ sym right_own)
 
         go : (f : Form) → o.form ≡ f → FormError m x y MutabilityError
-        go RawPtr e = pointer_mutability (is_left RawPtr e) (is_right RawPtr e) n
-        go Ref e = mutability (is_left Ref e) (is_right Ref e) n
+        go RawPtr e =
+            let no : RawPtr ≢ Alias = (λ z. absurd (cc)) in
+            pointer_mutability (is_left RawPtr no e) (is_right RawPtr no e) n
+        go Ref e =
+            let no : Ref ≢ Alias = (λ z. absurd (cc)) in mutability (is_left Ref no e) (is_right Ref no e) n
         go f e = absurd (both f e refl)
 
     module _ (item : named m.id o.item ≡ named m.id p.item) (same : o.mutability ≡ p.mutability) where
-      one_head : head_of (m.ty x) ≡ head_of (m.ty y)
-      one_head = left_from ∙ ap (λ z. from z (named m.id o.item) o.mutability) form
-          ∙ ap (λ z. from p.form z o.mutability) item ∙ ap (from p.form (named m.id p.item)) same ∙ sym right_from
+      one_head : o.form ≢ Alias → head_of (m.ty x) ≡ head_of (m.ty y)
+      one_head no = left_from no ∙ ap (λ z. from z (named m.id o.item) o.mutability) form
+          ∙ ap (λ z. from p.form z o.mutability) item ∙ ap (from p.form (named m.id p.item)) same ∙ sym (right_from no)
 
-      over_right : m.ty y ≡ node (head_of (m.ty x)) (parts_of (m.ty y))
-      over_right = over_node (m.ty y) some_right ∙ ap (λ h. node h (parts_of (m.ty y))) (sym one_head)
+      over_right : o.form ≢ Alias → m.ty y ≡ node (head_of (m.ty x)) (parts_of (m.ty y))
+      over_right no = over_node (m.ty y) some_right ∙ ap (λ h. node h (parts_of (m.ty y))) (sym (one_head no))
+
+      -- Two aliases of one item.
+      one_item : o.form ≡ Alias → (k : AliasKind) × (l : AliasKind) × (d : ℕ) ×
+          (m.ty x ≡ node (alias k d) (parts_of (m.ty x))) × (m.ty y ≡ node (alias l d) (parts_of (m.ty y)))
+      one_item is =
+          let (k, c, t, ct) = alias_shape (m.ty x) (sym (ap (λ z. z.form) left) ∙ is) in
+          let (l, d, u, du) = alias_shape (m.ty y) (sym (ap (λ z. z.form) right) ∙ sym form ∙ is) in
+          let named_one : Some c ≡ Some d =
+          sym ct ∙ sym (ap (λ z. z.item) left) ∙ item ∙ ap (λ z. z.item) right ∙ du in
+          let e : c ≡ d = cc in (k, l, d, t ∙ ap (λ z. node (alias k z) (parts_of (m.ty x))) e, u)
 
       pub forms_alike : count (parts_of (m.ty x)) ≡ count (parts_of (m.ty y)) → AreOfOneForm (m.ty x) (m.ty y)
-      forms_alike n = over_parts (over_node (m.ty x) some_left) over_right n
+      forms_alike n = go (is_alias o.form)
+        where
+          go : (o.form ≡ Alias) ⊎ (o.form ≢ Alias) → AreOfOneForm (m.ty x) (m.ty y)
+          go (inl is) = let (k, l, d, t, u) = one_item is in over_aliases t u n
+          go (inr no) = over_parts (over_node (m.ty x) some_left) (over_right no) n
 
       pub unlike_counts : (i j : ℕ) → i ≡ count (parts_of (m.ty x)) → j ≡ count (parts_of (m.ty y)) → i ≢ j →
           (e : TypeError Key Id Name) →
           (o.form ≡ Tuple → 0 < i → 0 < j → e ≡ TupleSize (record { expected = i; found = j })) →
           ((i ≡ 0) ⊎ (j ≡ 0) → e ≡ Sorts (record { expected = x; found = y })) →
           (o.form ≢ Tuple → e ≡ Sorts (record { expected = x; found = y })) → FormError m x y e
-      unlike_counts i j ci cj differ e sizes empty others = go (is_tuple o.form)
+      unlike_counts i j ci cj differ e sizes empty others = go (is_tuple o.form) (is_alias o.form)
         where
-          go : (o.form ≡ Tuple) ⊎ (o.form ≢ Tuple) → FormError m x y e
-          go (inl t) =
-              let h : head_of (m.ty x) ≡ tuple = left_from ∙ ap (λ z. from z (named m.id o.item) o.mutability) t in
+          unequal : count (parts_of (m.ty x)) ≢ count (parts_of (m.ty y))
+          unequal q = differ (ci ∙ q ∙ sym cj)
+
+          go : (o.form ≡ Tuple) ⊎ (o.form ≢ Tuple) → (o.form ≡ Alias) ⊎ (o.form ≢ Alias) → FormError m x y e
+          go (inl t) (inl is) = absurd (let z : Tuple ≡ Alias = sym t ∙ is in cc)
+          go (inl t) (inr no) =
+              let h : head_of (m.ty x) ≡ tuple =
+              left_from no ∙ ap (λ z. from z (named m.id o.item) o.mutability) t in
               lengths_error m i j (parts_of (m.ty x)) (parts_of (m.ty y)) x y e
               (over_node (m.ty x) some_left ∙ ap (λ z. node z (parts_of (m.ty x))) h)
-              (over_right ∙ ap (λ z. node z (parts_of (m.ty y))) h) ci cj differ (sizes t) empty
-          go (inr n) = subst (FormError m x y) (sym (others n))
-              (as_many (over_node (m.ty x) some_left) over_right
-              (λ h. n (ap (λ z. z.form) left_head ∙ ap (λ z. (head_outline z).form) h))
-              (λ q. differ (ci ∙ q ∙ sym cj)))
+              (over_right no ∙ ap (λ z. node z (parts_of (m.ty y))) h) ci cj differ (sizes t) empty
+          go (inr n) (inl is) =
+              let (k, l, d, t, u) = one_item is in
+              subst (FormError m x y) (sym (others n)) (alias_arguments t u unequal)
+          go (inr n) (inr no) = subst (FormError m x y) (sym (others n))
+              (as_many (over_node (m.ty x) some_left) (over_right no)
+              (λ h. n (ap (λ z. z.form) left_head ∙ ap (λ z. (head_outline z).form) h)) unequal)

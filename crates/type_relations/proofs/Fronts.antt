@@ -29,7 +29,7 @@ use Rattle.relation_contexts.proofs.Passing.{passes_nowhere, passes_then, manner
 use Rattle.relation_contexts.proofs.Parts.{nth_size}
 use Rattle.relation_contexts.proofs.Agreeing.{agree_parts}
 use Rattle.relation_contexts.proofs.AgreeingForms.{next_agrees}
-use Rattle.relation_contexts.proofs.Answering.{same_items}
+use Rattle.relation_contexts.proofs.Answering.{same_items, same_settings}
 
 -- Forms whose parts are looked at, which are at invariance where the form is.
 abbrev pub IsLookedAt : Head → Type 0
@@ -68,7 +68,7 @@ pub record Fronted {Key Id Name : Type 0} (M : Manners) (r q : State Key Id Name
   pub full : StaysFullFor r.store q.store xs ys
   pub built : StaysBuilt r.store q.store passes.added xs ys
   pub agrees : (M r.kept.settings).relates_agreeing → (j : ℕ) → j < i →
-      Agree (items_in r) (at (part_at (items_in r) h j v)) (nth j xs) (nth j ys)
+      Agree r.kept.settings (items_in r) (at (part_at (items_in r) h j v)) (nth j xs) (nth j ys)
 
 -- What is asked of two lists of parts.
 pub record AreParts (st : Store) (xs ys : Tree) : Type 0 where
@@ -165,10 +165,10 @@ module _ {Key Id Name : Type 0} where
           );
       full = fronted_full g.full;
       built = fronted_built (g.passes).added g.built;
-      agrees = λ k. next_agrees (items_in r) h v i xs ys (f.agrees k)
-          (subst₂ (Agree (items_in r) (at (part_at (items_in r) h i v))) ex ey
-          (subst (λ c. Agree c (at (part_at (items_in r) h i v)) x y) (same_items f.passes)
-          ((g.verdict).agrees (manner_then M (λ m. m.relates_agreeing) f.passes k))));
+      agrees = λ k. next_agrees r.kept.settings (items_in r) h v i xs ys (f.agrees k)
+          (subst₂ (Agree r.kept.settings (items_in r) (at (part_at (items_in r) h i v))) ex ey
+          (subst₂ (λ j c. Agree j c (at (part_at (items_in r) h i v)) x y) (same_settings (f.passes).kept)
+          (same_items f.passes) ((g.verdict).agrees (manner_then M (λ m. m.relates_agreeing) f.passes k))));
     }
 
     -- A fault of two parts is one of the lists: they are not unified where the parts are not.
@@ -206,10 +206,10 @@ module _ {Key Id Name : Type 0} where
   -- All parts were related, and agree.
   pub fronted_agree : {M : Manners} {r q : State Key Id Name} (h : Head) (v : Variance) (n : ℕ) (xs ys : Tree) →
       n ≡ count xs → n ≡ count ys → Fronted M r q h v n xs ys → (M r.kept.settings).relates_agreeing →
-      Agree (items_in r) (parts h 0 v) xs ys
+      Agree r.kept.settings (items_in r) (parts h 0 v) xs ys
   fronted_agree {r = r} h v n xs ys e d f k =
-      agree_parts (items_in r) h 0 v xs ys (sym e ∙ d) (λ j l. subst
-      (λ i. Agree (items_in r) (at (part_at (items_in r) h i v)) (nth j xs) (nth j ys)) (omega arith)
+      agree_parts r.kept.settings (items_in r) h 0 v xs ys (sym e ∙ d) (λ j l. subst
+      (λ i. Agree r.kept.settings (items_in r) (at (part_at (items_in r) h i v)) (nth j xs) (nth j ys)) (omega arith)
       (f.agrees k j (omega (arith, e, l))))
 
   -- All parts were related exactly.

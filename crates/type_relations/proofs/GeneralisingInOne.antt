@@ -2,20 +2,21 @@
 use Rattle.std.proofs.Common.{◌≡◌, ◌⊎◌, ℕ, ◌<◌, refl, sym, ap, ◌∙◌, inl, inr, subst, Some, length}
 use Rattle.term_enums.specs.declared.Variance.{Variance}
 use Rattle.term_enums.specs.declared.Variance.TheVariants.{Invariant}
-use Rattle.relation_terms.specs.Heads.{VarKind, type_var, const_var, region_var, region_kind, bound_kind, static_region, early_region, value_type, Head, Leaf, variable, placeholder, atom}
-use Rattle.relation_terms.specs.Trees.{Tree, Leaves, apply}
+use Rattle.relation_terms.specs.Heads.{VarKind, type_var, const_var, region_var, region_kind, bound_kind, static_region, early_region, value_type, alias, Head, Leaf, variable, placeholder, atom}
+use Rattle.relation_terms.specs.Trees.{Tree, node, Leaves, apply}
+use Rattle.relation_contexts.specs.declared.relate.StructurallyRelateAliases.{StructurallyRelateAliases}
 use Rattle.relation_contexts.specs.Relation.{Items}
 use Rattle.relation_contexts.specs.Stores.{Store, IsMadeLeaf, InContext, universe_of, IsMade, IsTermIn, IsSound, MayStandFor, resolved}
 use Rattle.relation_contexts.specs.FirstOrder.{IsFirstOrder, IsFirstOrderStore, IsClosedLeaf, IsTypeClosed}
 use Rattle.relation_contexts.specs.ErasureLaws.{IsTypeOrConst}
-use Rattle.relation_contexts.specs.Steps.{IsNamedBy, MakesVariable, Instantiates}
+use Rattle.relation_contexts.specs.Steps.{IsNamedBy, LacksAliases, MakesVariable, Instantiates}
 use Rattle.relation_contexts.specs.OneUniverse.{NamesTypesTo, HasOneUniverse, StaysOf}
 use Rattle.type_relations.specs.UniverseLaws.{GeneralisingKeepsUniverse}
-use Rattle.relation_contexts.specs.Generalising.{Stays, gives_way_to, Stage, Turn, any_part, new_part, parts_from, Generalised, met_before, met_first, no_type, stays, gives_way, by_parts, in_binder, no_parts, next_part, variance_for, InstantiatesBy, NumbersNameNothing}
+use Rattle.relation_contexts.specs.Generalising.{Stays, gives_way_to, Stage, Turn, any_part, new_part, parts_from, Generalised, met_before, met_first, no_type, stays, gives_way, alias_gives_way, by_parts, in_binder, no_parts, next_part, variance_for, InstantiatesBy, NumbersNameNothing}
 use Rattle.relation_contexts.proofs.Generalising.{some_path}
 use Rattle.type_relations.proofs.Fronts.{IsLookedAt, part_invariant}
 use Rattle.relation_contexts.proofs.Instantiating.{resolved_first_order}
-use Rattle.relation_contexts.proofs.BindingGeneralised.{generalised_instantiates}
+use Rattle.relation_contexts.proofs.BindingGeneralised.{generalised_instantiates, first_order_lacks}
 use Rattle.relation_contexts.proofs.OneUniverse.{roots_fall, bound_names, all_named}
 use Rattle.relation_contexts.proofs.Standing.{term_context}
 
@@ -49,36 +50,38 @@ region_makes before after j m u f e i kind = ap length (f.other_entries i (λ p.
 
 -- Where a turn is at invariance, of parts that are looked at.
 abbrev IsFixed : Turn → Type 0
-IsFixed (any_part v) = v ≡ Invariant
-IsFixed (new_part v) = v ≡ Invariant
-IsFixed (parts_from h i v) = (v ≡ Invariant) × IsLookedAt h
+IsFixed (any_part d v) = v ≡ Invariant
+IsFixed (new_part d v) = v ≡ Invariant
+IsFixed (parts_from d h i v) = (v ≡ Invariant) × IsLookedAt h
 
 is_value_type : (h : Head) → (h ≡ value_type) ⊎ IsLookedAt h
 is_value_type value_type = inl refl
 is_value_type h = inr tt
 
-module _ (c : Items) (start : Store) (k : VarKind) (n : ℕ) where
-  closed_makes : {turn : Turn} {r q : Stage} {t x : Tree} → Generalised c start k n turn r t q x → Leaves IsClosedLeaf t → MakesNoTypes r.store q.store
-  closed_makes (met_before s d) h = λ j i. refl
-  closed_makes (met_first s new f e d) h = λ j i. ap (λ st. length (st.entries j)) e ∙ closed_makes f h j i
-  closed_makes (no_type s f) h = closed_makes f h
-  closed_makes (stays o s) h = λ j i. refl
-  closed_makes (gives_way {r = r} {q = q} {l = l} {j = j} {m = m} o s e f d) h = region_makes r.store q.store j m (universe_of start k n) f (closed_gives l j e h)
-  closed_makes (by_parts z f) h = closed_makes f h
-  closed_makes (in_binder f) h = closed_makes f h
-  closed_makes no_parts h = λ j i. refl
-  closed_makes (next_part f s) h = λ j i. closed_makes s h.1 j i ∙ closed_makes f h.0 j i
+module _ (al : StructurallyRelateAliases) (c : Items) (start : Store) (k : VarKind) (n : ℕ) where
+  closed_makes : {turn : Turn} {r q : Stage} {t x : Tree} → Generalised al c start k n turn r t q x → LacksAliases t → Leaves IsClosedLeaf t → MakesNoTypes r.store q.store
+  closed_makes (met_before s d) z h = λ j i. refl
+  closed_makes (met_first s new f e d) z h = λ j i. ap (λ st. length (st.entries j)) e ∙ closed_makes f z h j i
+  closed_makes (no_type s f) z h = closed_makes f z h
+  closed_makes (stays o s) z h = λ j i. refl
+  closed_makes (gives_way {r = r} {q = q} {l = l} {j = j} {m = m} o s e f d) z h = region_makes r.store q.store j m (universe_of start k n) f (closed_gives l j e h)
+  closed_makes (alias_gives_way e o f d) z h = absurd z.0
+  closed_makes (by_parts p f) z h = closed_makes f z.1 h
+  closed_makes (in_binder f) z h = closed_makes f z h
+  closed_makes no_parts z h = λ j i. refl
+  closed_makes (next_part f s) z h = λ j i. closed_makes s z.1 h.1 j i ∙ closed_makes f z.0 h.0 j i
 
-  named_makes : {turn : Turn} {r q : Stage} {t x : Tree} → Generalised c start k n turn r t q x → IsFixed turn → Leaves (IsNamedBy start (universe_of start k n)) t → IsFirstOrder t → MakesNoTypes r.store q.store
+  named_makes : {turn : Turn} {r q : Stage} {t x : Tree} → Generalised al c start k n turn r t q x → IsFixed turn → Leaves (IsNamedBy start (universe_of start k n)) t → IsFirstOrder t → MakesNoTypes r.store q.store
   named_makes (met_before s d) i h o = λ j z. refl
   named_makes (met_first s new f e d) i h o = λ j z. ap (λ st. length (st.entries j)) e ∙ named_makes f i h o j z
   named_makes (no_type s f) i h o = named_makes f i h o
   named_makes (stays p s) i h o = λ j z. refl
   named_makes (gives_way {v = v} {r = r} {q = q} {l = l} {j = j} {m = m} p s e f d) i h o = region_makes r.store q.store j m (universe_of start k n) f (named_gives start (universe_of start k n) v l j s e i h)
+  named_makes (alias_gives_way {a = a} {d = d} {ts = ts} e z f b) i h o = absurd (first_order_lacks (node (alias a d) ts) o).0
   named_makes (by_parts {r = r} {q = q} {h = a} {ts = ts} z f) i h o = go (is_value_type a) (λ l. named_makes f (i, l) h o.3)
     where
       go : (a ≡ value_type) ⊎ IsLookedAt a → (IsLookedAt a → MakesNoTypes r.store q.store) → MakesNoTypes r.store q.store
-      go (inl e) m = closed_makes f (subst (λ b. IsTypeClosed b ts) e o.2)
+      go (inl e) m = closed_makes f (first_order_lacks ts o.3) (subst (λ b. IsTypeClosed b ts) e o.2)
       go (inr l) m = m l
   named_makes (in_binder f) i h o = absurd o
   named_makes no_parts i h o = λ j z. refl
@@ -91,10 +94,10 @@ fixed_for type_var v i e = e
 fixed_for const_var v i e = refl
 fixed_for k v i e = absurd i
 
-module _ (c : Items) (before after : Store) (v : Variance) (k : VarKind) (n : ℕ) (source term : Tree) (kind : IsTypeOrConst k) (f : InstantiatesBy c before after v k n source term)
+module _ (al : StructurallyRelateAliases) (c : Items) (before after : Store) (v : Variance) (k : VarKind) (n : ℕ) (source term : Tree) (kind : IsTypeOrConst k) (f : InstantiatesBy al c before after v k n source term)
     (numbers : NumbersNameNothing before) (g : IsSound before) (is_in : IsTermIn before source) (stands : MayStandFor k source) where
   steps : Instantiates before after v k n source term
-  steps = generalised_instantiates c before after v k n source term kind f numbers g is_in stands
+  steps = generalised_instantiates al c before after v k n source term kind f numbers g is_in stands
 
   source_made : Leaves (IsMadeLeaf before) source
   unfolding InContext
@@ -111,7 +114,7 @@ module _ (c : Items) (before after : Store) (v : Variance) (k : VarKind) (n : �
 
       no_types : MakesNoTypes before after
       no_types j i = ((f.binds).writes).as_many j
-          ∙ named_makes c before k n f.generalised (fixed_for k v kind e) named (resolved_first_order before g simple source d) j i
+          ∙ named_makes al c before k n f.generalised (fixed_for k v kind e) named (resolved_first_order before g simple source d) j i
 
       still : HasOneUniverse u after
       still j m i made =
@@ -119,5 +122,5 @@ module _ (c : Items) (before after : Store) (v : Variance) (k : VarKind) (n : �
           steps.same_universes j m was ∙ h j m i was
 
 pub generalising_keeps_universe : GeneralisingKeepsUniverse
-generalising_keeps_universe c before after k n u source term kind f numbers g is_in stands d simple h names =
-    instantiates_in_one c before after Invariant k n source term kind f numbers g is_in stands refl d simple u h names
+generalising_keeps_universe al c before after k n u source term kind f numbers g is_in stands d simple h names =
+    instantiates_in_one al c before after Invariant k n source term kind f numbers g is_in stands refl d simple u h names

@@ -39,7 +39,7 @@ use Rattle.relation_contexts.specs.Stores.{Store, IsAssignment, InContext}
 use Rattle.relation_contexts.specs.Settings.{Settings}
 use Rattle.relation_contexts.specs.Errors.{ErrorOf, ErrorByForms, of_parts, of_inputs, of_outputs, IsHandedOn, IsPlaced, NamesNoPlace}
 use Rattle.relation_contexts.specs.Errors.{sorts_at, argument_sorts_at, mutability_at, argument_mutability_at, AreOfOneForm}
-use Rattle.relation_contexts.specs.Errors.{over_parts, one_leaf, parameters}
+use Rattle.relation_contexts.specs.Errors.{over_parts, over_aliases, one_leaf, parameters}
 use Rattle.relation_contexts.specs.Parts.{parts_of, head_of, IsByParts}
 use Rattle.relation_contexts.proofs.Standing.{stands_term}
 use Rattle.type_relations.proofs.Patterns.{no_argument, var_argument, bound_argument}
@@ -380,6 +380,7 @@ module _ {Key Id Name : Type 0} (m : Meaning Key Id Name) (set : Settings) (c : 
           AreOfOneForm a b → ErrorByForms m set c st v e a b
       hand_on e n z (over_parts {h} {ts} {us} d w q) = of_parts i d w q (subst (λ z. i < count (parts_of z)) d lx)
           (n h ts us d) (at_parts e h ts us d w z)
+      hand_on e n z (over_aliases d w q) = absurd (subst IsByParts d o)
       hand_on e n z (one_leaf d w) = absurd (none d)
       hand_on e n z (parameters d w q) = absurd (none d)
 
@@ -389,6 +390,7 @@ module _ {Key Id Name : Type 0} (m : Meaning Key Id Name) (set : Settings) (c : 
           (subst (IsTerm k) p f) (subst (IsTerm l) w g) p w q (subst (λ z. i < count (parts_of z)) p lx)
           (subst₂ (λ t u. HaveAsManyInputs t u i) p w many) (subst (λ t. named_place t i ≡ Some j) p n) is
           (at_parts e h ts us p w z)
+      place j e d n is z (over_aliases p w q) = absurd (subst IsByParts p o)
       place j e d n is z (one_leaf p w) = absurd (none p)
       place j e d n is z (parameters p w q) = absurd (none p)
 

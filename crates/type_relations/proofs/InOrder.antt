@@ -17,7 +17,7 @@ use Rattle.relation_contexts.specs.Stores.{Satisfies}
 use Rattle.relation_contexts.specs.Goals.{Holds}
 use Rattle.relation_contexts.specs.Headline.{IsFirstOrderPair}
 use Rattle.relation_contexts.specs.OneUniverse.{NamesTypesTo, BindsNoMore}
-use Rattle.relation_contexts.specs.Errors.{ErrorOf, Meeting, of_part_forms, AreOfOneForm, over_parts, one_leaf, parameters}
+use Rattle.relation_contexts.specs.Errors.{ErrorOf, Meeting, of_part_forms, AreOfOneForm, over_parts, over_aliases, one_leaf, parameters}
 use Rattle.relation_contexts.specs.Errors.{PartError}
 use Rattle.relation_contexts.specs.Parts.{parts_of, head_of, IsByParts}
 use Rattle.type_relations.specs.Handing.{named_place, IsFaultOfPart}
@@ -80,6 +80,7 @@ module _ {Key Id Name : Type 0} {r q : State Key Id Name} (M : Manners) (v : Var
       (subst (λ z. Rel (items_in r) w r.kept.environment (parts h 0 v) (apply s (parts_of a)) (apply s (parts_of z))) e
       (subst (λ z. Rel (items_in r) w r.kept.environment (parts (head_of z) 0 v) (apply s (parts_of a)) (apply s (parts_of b))) d
       (whole.relates w s sat all)))))
+  terms_relate (over_aliases d e n) f are ea eb w s sat all = absurd (subst IsByParts d form)
   terms_relate (one_leaf d e) f are ea eb w s sat all = same (ap (apply s) (d ∙ sym e))
   terms_relate (parameters d e p) f are ea eb w s sat all =
       subst₂ (λ x y. Rel (items_in r) w r.kept.environment (at v) (apply s x) (apply s y)) (sym d) (sym e) (atoms p)
@@ -100,7 +101,7 @@ module _ {Key Id Name : Type 0} {r q : State Key Id Name} (M : Manners) (v : Var
       };
       answer = subst (MayAnswer M q v a) (sym answer) (may_itself M q v a);
       known = subst (λ u. IsTrue (known u)) (sym answer) k;
-      agrees = λ k. form_agrees (items_in r) v a b o
+      agrees = λ k. form_agrees r.kept.settings (items_in r) v a b o
           (fronted_agree (head_of a) v i (parts_of a) (parts_of b) ea eb f k);
     };
     exact = λ exact is pair.

@@ -42,10 +42,13 @@ pub mod GeneralisingInOne
 pub mod Spending
 pub mod SolvingVariables
 pub mod SolvingGoals
-pub mod Subtyping
+pub mod Alone
 pub mod Relating
 pub mod Bivariance
 pub mod Combining
 pub mod Noting
 pub mod Emitting
 pub mod EmittingBoth
+pub mod GoalPasses
+pub mod Leaving
+pub mod LeavingSteps

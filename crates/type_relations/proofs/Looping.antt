@@ -6,18 +6,18 @@ use Rattle.relation_terms.specs.Trees.{Tree, leaf, node, bind, nil, cons, Leaves
 use Rattle.relation_terms.specs.declared.terms.keys.ConstKey.{ConstKey}
 use Rattle.relation_terms.specs.declared.terms.generic_arg.GenericArgKind.{GenericArgKind}
 use Rattle.relation_folds.specs.declared.error.RelateFault.{RelateFault}
-use Rattle.relation_contexts.specs.Relation.{Items, part_at}
+use Rattle.relation_contexts.specs.Relation.{Items, part_at, IsAlias}
 use Rattle.relation_contexts.specs.Stores.{IsTermIn, weight}
 use Rattle.relation_contexts.specs.Measures.{depth}
 use Rattle.relation_contexts.specs.Goals.{Goal}
-use Rattle.relation_contexts.specs.Errors.{AreOfOneForm, over_parts, one_leaf, parameters, AreOfOneConst, values, expressions, const_parameters, one_const_leaf}
-use Rattle.relation_contexts.specs.Parts.{parts_of, const_parts_of, branches_of, head_of, const_head_of}
+use Rattle.relation_contexts.specs.Errors.{AreOfOneForm, over_parts, over_aliases, one_leaf, parameters, AreOfOneConst, values, expressions, over_arguments, const_parameters, one_const_leaf}
+use Rattle.relation_contexts.specs.Parts.{parts_of, const_parts_of, branches_of, head_of, const_head_of, IsByParts}
 use Rattle.type_relations.specs.Handing.{IsFaultOfTy, IsFaultOfConst, IsFaultOfPart, IsResultOfTy, IsResultOfConst, IsResultOfPart}
 use Rattle.relation_contexts.specs.Lawful.{State, Manner, Manners, TakesParts, Takes, Asked, LeadsToParts, LeadsAgain, items_in}
 use Rattle.relation_contexts.proofs.Going.{depth-mono, depth-strict, depth-spent, depth_later}
 use Rattle.relation_contexts.proofs.Standing.{later_term}
 use Rattle.relation_contexts.proofs.Parts.{in_part, in_const_part}
-use Rattle.relation_contexts.proofs.Covered.{covered_part, covered_const_part}
+use Rattle.relation_contexts.proofs.Covered.{covered_part, covered_const_part, by_parts_normal}
 use Rattle.type_relations.proofs.PartSizes.{weight_parts, weight_const_parts}
 use Rattle.relation_contexts.proofs.Passing.{manner_then}
 use Rattle.type_relations.proofs.Fronts.{Fronted, part_small}
@@ -196,14 +196,28 @@ module _ {A Key Id Name : Type 0} where
   kept_part place (Ok v) u h = ap Ok (sym h)
   kept_part place (Err f) u h = absurd h
 
--- Terms of one form have one form over their parts.
-pub heads_alike : (a b : Tree) → AreOfOneForm a b → head_of a ≡ head_of b
-heads_alike a b (over_parts d e n) = ap head_of d ∙ sym (ap head_of e)
-heads_alike a b (one_leaf d e) = ap head_of d ∙ sym (ap head_of e)
-heads_alike a b (parameters d e p) = ap head_of d ∙ sym (ap head_of e)
+-- Terms of one form that are no aliases have one form over their parts.
+heads_alike : (a b : Tree) → (IsAlias a → ⊥) → AreOfOneForm a b → head_of a ≡ head_of b
+heads_alike a b f (over_parts d e n) = ap head_of d ∙ sym (ap head_of e)
+heads_alike a b f (over_aliases d e n) = absurd (f (subst IsAlias (sym d) tt))
+heads_alike a b f (one_leaf d e) = ap head_of d ∙ sym (ap head_of e)
+heads_alike a b f (parameters d e p) = ap head_of d ∙ sym (ap head_of e)
+
+pub heads_one : (a b : Tree) → IsByParts a → AreOfOneForm a b → head_of a ≡ head_of b
+heads_one a b o = heads_alike a b (by_parts_normal a o)
+
+-- Terms of one form have parts at one variance: that doesn't look at the kind of an alias.
+pub parts_alike : (c : Items) (a b : Tree) (i : ℕ) (v : Variance) → AreOfOneForm a b →
+    part_at c (head_of a) i v ≡ part_at c (head_of b) i v
+parts_alike c a b i v (over_parts d e n) = ap (λ h. part_at c h i v) (ap head_of d ∙ sym (ap head_of e))
+parts_alike c a b i v (over_aliases d e n) =
+    ap (λ t. part_at c (head_of t) i v) d ∙ sym (ap (λ t. part_at c (head_of t) i v) e)
+parts_alike c a b i v (one_leaf d e) = ap (λ h. part_at c h i v) (ap head_of d ∙ sym (ap head_of e))
+parts_alike c a b i v (parameters d e p) = ap (λ h. part_at c h i v) (ap head_of d ∙ sym (ap head_of e))
 
 pub const_heads_alike : (a b : Tree) → AreOfOneConst a b → const_head_of a ≡ const_head_of b
 const_heads_alike a b (values d e o) = ap const_head_of d ∙ sym (ap const_head_of e)
 const_heads_alike a b (expressions d e n) = ap const_head_of d ∙ sym (ap const_head_of e)
+const_heads_alike a b (over_arguments d e n) = ap const_head_of d ∙ sym (ap const_head_of e)
 const_heads_alike a b (one_const_leaf d e) = ap const_head_of (d ∙ sym e)
 const_heads_alike a b (const_parameters d e p) = ap const_head_of d ∙ sym (ap const_head_of e)

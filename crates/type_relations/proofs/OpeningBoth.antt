@@ -57,7 +57,7 @@ module _ (before after : Store) (h : ChangesNothing before after) where
   changes_bound = ap₂ (λ es ds. tally counts_bound es + tally counts_bound ds) (h.same_entries type_var)
       (h.same_entries const_var)
 
-  changes_goes : Goes 0 before after
+  pub changes_goes : Goes 0 before after
   changes_goes = record {
     later = changes_later before after h;
     made = λ k n. ap length (h.same_entries k);
@@ -158,11 +158,11 @@ bodies_built st ks ls t u x y p q = λ k ha hb all.
     (body_built k ks p.trees t x p.stand p.put ha.1, body_built k ls q.trees u y q.stand q.put hb.1)
 
 -- Two binders agree if the opened bodies do.
-pub bodies_agree : (c : Items) (v : Variance) (ks ls : List BoundKind) (t u x y : Tree) → StandIns ks t x →
-    StandIns ls u y → AreBoundAs ks 0 t → AreBoundAs ls 0 u → Agree c (at v) x y →
-    Agree c (at v) (bind ks t) (bind ls u)
-bodies_agree c v ks ls t u x y p q f h g =
-    inr (agree_opened c ks ls p.trees q.trees p.stand q.stand v 0 t u f h (subst₂ (Agree c (at v)) p.put q.put g))
+pub bodies_agree : (set : Settings) (c : Items) (v : Variance) (ks ls : List BoundKind) (t u x y : Tree) → StandIns ks t x →
+    StandIns ls u y → AreBoundAs ks 0 t → AreBoundAs ls 0 u → Agree set c (at v) x y →
+    Agree set c (at v) (bind ks t) (bind ls u)
+bodies_agree set c v ks ls t u x y p q f h g = inr (agree_opened set c ks ls p.trees q.trees p.stand q.stand v 0 t u f h
+    (subst₂ (Agree set c (at v)) p.put q.put g))
 
 -- What is shown of both bodies together, of which the first was entered and the second instantiated.
 pub record BothOpened (before after : Store) (ks ls : List BoundKind) (t u x y : Tree) : Type 0 where
@@ -214,7 +214,8 @@ module _ (before middle after : Store) (g : IsSound before) (ks ls : List BoundK
   pub both_opened : BothOpened before after ks ls t u x y
   both_opened = record {
     goes = opened_goes before middle after enters.changes_nothing g (each_unbound makes.makes);
-    built = λ a b has. built_opened before after a b enters.changes_nothing (each_unbound makes.makes) has;
+    built = λ a b has. built_opened before after a b enters.changes_nothing enters.same_taint
+        (each_unbound makes.makes) has;
     same_budget = added.budget ∙ enters.changes_nothing.same_budget;
     entered_in = let e = added.universe in
         later_term middle after (added.later).grows (omega (arith, e)) x entered_there.0;

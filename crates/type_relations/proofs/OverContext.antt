@@ -20,9 +20,8 @@ use Rattle.relation_folds.specs.Faults.{KnowsError}
 use Rattle.relation_contexts.specs.declared.relate.Step.TheVariants.{Done, Parts}
 use Rattle.relation_contexts.specs.declared.relate.StructurallyRelateAliases.TheVariants.{No}
 use Rattle.relation_contexts.specs.Settings.{Settings}
-use Rattle.relation_contexts.specs.Relation.{Items, Interpretation, Rel, at, sort_of, same as same_rel}
+use Rattle.relation_contexts.specs.Relation.{Items, Interpretation, Rel, at, sort_of, IsError, same as same_rel}
 use Rattle.relation_contexts.specs.Agreeing.{Agree}
-use Rattle.relation_contexts.proofs.Covered.{covered_not_left}
 use Rattle.relation_contexts.proofs.Agreeing.{agree_read, agree_root, agree_root_back, number_sort}
 use Rattle.relation_contexts.specs.Stores.{Store, IsSound, Satisfies, IsMade, InContext, MayStandFor, weight}
 use Rattle.relation_contexts.specs.Goals.{Goal, GoalInContext, MakesOneTree}
@@ -31,7 +30,7 @@ use Rattle.relation_contexts.specs.Kits.{StaysBuilt}
 use Rattle.relation_contexts.proofs.Building.{built_itself, builds_number, read_from}
 use Rattle.relation_contexts.specs.Outcomes.{Exact, NoEqualTerms, NoUnifier}
 use Rattle.relation_contexts.specs.Measures.{Goes}
-use Rattle.relation_contexts.specs.Errors.{ErrorOf, of_entries, IsReadAs, itself, by_class, by_binding}
+use Rattle.relation_contexts.specs.Errors.{ErrorOf, IsLeftToGoal, of_entries, IsReadAs, itself, by_class, by_binding}
 use Rattle.relation_contexts.specs.FirstOrder.{IsFirstOrderStore}
 use Rattle.relation_contexts.specs.Covered.{IsCovered}
 use Rattle.relation_contexts.specs.Lawful.{RegisteredIn, Passes, Asked, Takes, Related, Stepped, items_of, Kept, Pair, State}
@@ -106,7 +105,8 @@ module _ {Key Id Name : Type 0} (r : State Key Id Name) where
       Satisfies w now s) →
       (IsFirstOrderStore was → IsFirstOrderStore now × Exact was now a b) → KeepsUniverse was now → StaysFull was now →
       StaysBuilt was now [] a b →
-      (tree t ≡ a) ⊎ (tree t ≡ b) → IsTrue (known (tree t)) → ((c : Items) → Agree c (at r.ambient) a b) →
+      (tree t ≡ a) ⊎ (tree t ≡ b) → IsTrue (known (tree t)) →
+      ((set : Settings) (c : Items) → Agree set c (at r.ambient) a b) →
       Stepped solver_manner F (standing r m was L) (standing r n now K) a b tree (Ok (Done t))
   unfolding over_passes
   one_step {X} F m n was now L K a b tree t same goes l equal keep exactly universe full built answer sure agreeing =
@@ -136,7 +136,7 @@ module _ {Key Id Name : Type 0} (r : State Key Id Name) where
           };
           answer = record { related = λ w s sat all. same_rel (answers answer w s sat) };
           known = sure;
-          agrees = λ k. agreeing (items_of m);
+          agrees = λ k. agreeing r.kept.settings (items_of m);
         };
         exact = λ k is pair. let z = exactly pair.bindings in (z.0, z.1, keeps_pair was now a b universe);
         full = λ ha hb. full;
@@ -176,7 +176,7 @@ module _ {Key Id Name : Type 0} (r : State Key Id Name) where
       (roots_universe was now k o i l sound still equates) (roots_full was now k o i l sound still equates)
       (roots_built was now k o i l sound still equates a b)
       (inl answer) (subst (λ z. IsTrue (known z)) (sym (answer ∙ p)) refl)
-      (λ c. agree_root c r.ambient k i a b p (ap sort_of q))
+      (λ set c. agree_root set c r.ambient k i a b p (ap sort_of q))
 
   -- A root of a number variable was bound to the other side, a type of its kind.
   pub number_step : {X : Type 0} (F : Tree → Type 0) (m n : Meaning Key Id Name) (was now : Store) (L K : Type 0) (k : VarKind) (i : ℕ) (a b : Tree) (tree : X → Tree) (t : X) → n ≡ m →
@@ -192,7 +192,7 @@ module _ {Key Id Name : Type 0} (r : State Key Id Name) where
       (number_universe was now k i b h sound) (number_full was now k i b h sound)
       (λ j ha hb all. builds_number j b h hb all)
       (inr answer) (subst (λ z. IsTrue (known z)) (sym answer) sure)
-      (λ c. agree_root c r.ambient k i a b p (number_sort k b h.fits))
+      (λ set c. agree_root set c r.ambient k i a b p (number_sort k b h.fits))
 
   pub number_step_back : {X : Type 0} (F : Tree → Type 0) (m n : Meaning Key Id Name) (was now : Store) (L K : Type 0) (k : VarKind) (i : ℕ) (a b : Tree) (tree : X → Tree) (t : X) → n ≡ m →
       IsSound was → (L → K) →
@@ -211,38 +211,41 @@ module _ {Key Id Name : Type 0} (r : State Key Id Name) where
       (number_universe was now k i a h sound) (number_full was now k i a h sound)
       (λ j ha hb all. builds_number j a h ha all)
       (inl answer) (subst (λ z. IsTrue (known z)) (sym answer) sure)
-      (λ c. agree_root_back c r.ambient k i a b p (number_sort k a h.fits))
+      (λ set c. agree_root_back set c r.ambient k i a b p (number_sort k a h.fits))
 
   -- Or the other side is a type that may not stand for it.
   module _ {X : Type 0} (F : Tree → Type 0) (m n : Meaning Key Id Name) (was now : Store) (L K : Type 0)
       (decides : r.ambient ≢ Bivariant) (p q : TyKey Key) (tree : X → Tree)
       (f : RelateFault Key Id Name) (same : n ≡ m) (stays : now ≡ was) (l : L → K)
       (is : f ≡ Unrelated (Sorts (record { expected = p; found = q }))) (k : VarKind) (number : IsNumber k) (i : ℕ)
-      (made : IsMade was k i) (p_known : IsTrue (known (m.ty p))) (q_known : IsTrue (known (m.ty q))) where
+      (made : IsMade was k i) (p_known : IsTrue (known (m.ty p))) (q_known : IsTrue (known (m.ty q)))
+      (left : IsLeftToGoal r.kept.settings (m.ty p) (m.ty q) → ⊥) where
     pub left_apart : m.ty p ≡ leaf (variable k i) → IsTerm type_sort (m.ty q) → IsCovered (m.ty q) →
         ((l : ℕ) → m.ty q ≢ leaf (variable type_var l)) → InContext was (m.ty q) →
-        (MayStandFor k (m.ty q) → ⊥) →
+        (MayStandFor k (m.ty q) → ⊥) → (IsError (m.ty q) → ⊥) →
         Stepped solver_manner F (standing r m was L) (standing r n now K) (m.ty p) (m.ty q) tree (Err f)
-    left_apart h s c o g d = unrelated_step F m n was now L K (m.ty p) (m.ty q) tree f
+    left_apart h s c o g d clean = unrelated_step F m n was now L K (m.ty p) (m.ty q) tree f
         (Sorts (record { expected = p; found = q })) same stays l is
         (subst (λ z. NoEqualTerms was z (m.ty q)) (sym h)
         (number_apart was k number i made (m.ty q) s c o g d))
         (subst (λ z. NoUnifier was z (m.ty q)) (sym h)
         (number_no_unifier was k number i made (m.ty q) s c o g d))
-        (number_error was k number i made (m.ty q) s c o g d m r.kept.settings (items_of m) p q r.ambient decides h refl)
+        (number_error was k number i made (m.ty q) s c o g d m r.kept.settings (items_of m) p q r.ambient decides left clean h
+        refl)
         (p_known, q_known)
 
     pub right_apart : m.ty q ≡ leaf (variable k i) → IsTerm type_sort (m.ty p) → IsCovered (m.ty p) →
         ((l : ℕ) → m.ty p ≢ leaf (variable type_var l)) → InContext was (m.ty p) →
-        (MayStandFor k (m.ty p) → ⊥) →
+        (MayStandFor k (m.ty p) → ⊥) → (IsError (m.ty p) → ⊥) →
         Stepped solver_manner F (standing r m was L) (standing r n now K) (m.ty p) (m.ty q) tree (Err f)
-    right_apart h s c o g d = unrelated_step F m n was now L K (m.ty p) (m.ty q) tree f
+    right_apart h s c o g d clean = unrelated_step F m n was now L K (m.ty p) (m.ty q) tree f
         (Sorts (record { expected = p; found = q })) same stays l is
         (λ w s' sat one. number_apart was k number i made (m.ty p) s c o g d w s' sat
         (sym (ap (apply s') h) ∙ sym one))
         (λ s' sol one. number_no_unifier was k number i made (m.ty p) s c o g d s' sol
         (ap (λ z. erase (apply s' z)) (sym h) ∙ sym one))
-        (number_error_back was k number i made (m.ty p) s c o g d m r.kept.settings (items_of m) p q r.ambient decides refl h)
+        (number_error_back was k number i made (m.ty p) s c o g d m r.kept.settings (items_of m) p q r.ambient decides left
+        clean refl h)
         (p_known, q_known)
 
   -- What is shown of two types as they are read is shown of the types.
@@ -250,9 +253,10 @@ module _ {Key Id Name : Type 0} (r : State Key Id Name) where
       {X : Type 0} (F : Tree → Type 0) (a b : Tree) (tree : X → Tree) (t u : X) → IsSound was →
       IsReadAs was a (tree t) → IsReadAs was b (tree u) →
       Asked solver_manner (standing r m was L) r.ambient (tree t) (tree u) → F (tree t) → F (tree u) →
+      (IsLeftToGoal r.kept.settings (tree t) (tree u) → ⊥) →
       Stepped solver_manner F (standing r m was L) (standing r m was K) a b tree (Ok (Parts t u))
   unfolding over_passes
-  parts_step m was L K l F a b tree t u g p q k f h = record {
+  parts_step m was L K l F a b tree t u g p q k f h left = record {
     passes = over_passes (stays_same m) (goes_nowhere _ was) l;
     verdict = record {
       leads = record {
@@ -276,7 +280,7 @@ module _ {Key Id Name : Type 0} (r : State Key Id Name) where
         };
         errors = λ n j c st f l g o. of_entries (read_later was st l a (tree t) p)
             (read_later was st l b (tree u) q) o;
-        agrees = λ c z. agree_read c was g r.ambient a b (tree t) (tree u) p q z;
+        agrees = λ set c z. agree_read set c was g r.ambient a b (tree t) (tree u) p q z;
       };
       asked = record {
         left_known = k.left_known;
@@ -288,7 +292,7 @@ module _ {Key Id Name : Type 0} (r : State Key Id Name) where
       };
       left_form = f;
       right_form = h;
-      not_left = covered_not_left r.kept.settings (tree t) (tree u) k.left_taken.1 k.right_taken.1;
+      not_left = left;
       answers = λ z w s sat all o. subst (λ i. Rel (items_of m) w r.kept.environment (at r.ambient) i (apply s z))
           (sym (read_value was s sat.bindings a (tree t) p)) o;
       built = read_from was a b (tree t) (tree u) p q;

@@ -26,7 +26,7 @@ use Rattle.relation_contexts.specs.Relation.{at, sort_of}
 use Rattle.relation_contexts.specs.Stores.{Store}
 use Rattle.relation_contexts.specs.FirstOrder.{Unifies}
 use Rattle.relation_contexts.specs.Outcomes.{NeverOne, NoUnifier}
-use Rattle.relation_contexts.specs.Errors.{AreOfOneForm, over_parts, one_leaf, parameters, AreAlikeExistentials, both_traits}
+use Rattle.relation_contexts.specs.Errors.{AreOfOneForm, over_parts, over_aliases, one_leaf, parameters, AreAlikeExistentials, both_traits}
 use Rattle.relation_contexts.specs.Errors.{both_projections, both_auto_traits, AreAlikeMembers, under_binders}
 use Rattle.relation_contexts.specs.Errors.{unlike_patterns, SignatureError, unlike_variadic, unlike_safety, unlike_abi}
 use Rattle.relation_contexts.specs.Errors.{unlike_counts, ExistentialError, unlike_traits, unlike_auto_traits}
@@ -66,6 +66,7 @@ pub terms_unify : (a b : Tree) → IsByParts a → AreOfOneForm a b → (s : Ass
 terms_unify a b o (over_parts {h} {ts} {us} d e n) s = subst₂
     (λ x y. Unifies s x y ↔ Unifies s (parts_of x) (parts_of y)) (sym d) (sym e)
     (forms_unify_by_parts s h ts us (no_value_type h ts (subst IsByParts d o)))
+terms_unify a b o (over_aliases d e n) s = absurd (subst IsByParts d o)
 terms_unify a b o (one_leaf {l} d e) s = subst₂ (λ x y. Unifies s x y ↔ Unifies s (parts_of x) (parts_of y))
     (sym d) (sym e) ((λ z. refl), (λ z. refl))
 terms_unify a b o (parameters {x} {y} d e p) s =

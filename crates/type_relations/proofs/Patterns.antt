@@ -35,7 +35,7 @@ use Rattle.relation_terms.specs.Interning.{Sorted}
 use Rattle.relation_terms.proofs.Sorted.{signature_sorted, existential_sorted}
 use Rattle.relation_contexts.specs.Relation.{Items, mode, part_at, plain_atom, IsRelatedHead}
 use Rattle.relation_contexts.specs.FirstOrder.{IsFirstOrder}
-use Rattle.relation_contexts.specs.Errors.{AreOfOneForm, over_parts, one_leaf, parameters}
+use Rattle.relation_contexts.specs.Errors.{AreOfOneForm, over_parts, over_aliases, one_leaf, parameters}
 use Rattle.relation_contexts.specs.Parts.{parts_of, head_of, IsByParts, IsComparedPart}
 use Rattle.relation_contexts.specs.Making.{over}
 
@@ -144,6 +144,7 @@ atom_alike x y e o = absurd o
 pub term_alike : (a b : Tree) → AreOfOneForm a b → IsByParts a → IsByParts b
 term_alike a b (over_parts {h} {ts} {us} d e n) o =
     subst IsByParts (sym e) (head_alike h ts us (subst IsByParts d o))
+term_alike a b (over_aliases d e n) o = absurd (subst IsByParts d o)
 term_alike a b (one_leaf d e) o = subst IsByParts (d ∙ sym e) o
 term_alike a b (parameters {x} {y} d e p) o =
     subst IsByParts (sym e) (atom_alike x y p (subst IsByParts d o))
@@ -253,6 +254,10 @@ form_is k (cons t ts) o f = absurd f
 pub unlike_many : (a b ts us : Tree) (h : Head) → a ≡ node h ts → b ≡ node h us → (count ts ≡ count us → ⊥) →
     AreOfOneForm a b → ⊥
 unlike_many a b ts us h p q differ (over_parts {h = k} {ts = xs} {us = ys} d e n) =
+    let left : ts ≡ xs = (let z = sym p ∙ d in cc) in
+    let right : us ≡ ys = (let z = sym q ∙ e in cc) in
+    differ (ap count left ∙ n ∙ sym (ap count right))
+unlike_many a b ts us h p q differ (over_aliases {ts = xs} {us = ys} d e n) =
     let left : ts ≡ xs = (let z = sym p ∙ d in cc) in
     let right : us ≡ ys = (let z = sym q ∙ e in cc) in
     differ (ap count left ∙ n ∙ sym (ap count right))

@@ -4,9 +4,9 @@ use Rattle.relation_terms.specs.declared.terms.binder.Binder.{Binder}
 use Rattle.relation_terms.specs.declared.predicate.existential.ExistentialPredicate.{ExistentialPredicate}
 use Rattle.relation_terms.specs.declared.predicate.existential.ExistentialPredicate.TheVariants.{Trait, AutoTrait}
 use Rattle.relation_terms.specs.declared.predicate.existential.ExistentialPredicate.TheVariants.{Projection}
-use Rattle.relation_terms.specs.Heads.{Head, BoundKind, existential_trait, existential_projection}
-use Rattle.relation_terms.specs.Trees.{Tree, cons, known}
-use Rattle.relation_terms.specs.Meaning.{Meaning, Extends, existential_tree, term_tree, under}
+use Rattle.relation_terms.specs.Heads.{Head, BoundKind, type_sort}
+use Rattle.relation_terms.specs.Trees.{Tree, known}
+use Rattle.relation_terms.specs.Meaning.{Meaning, Extends, existential_tree, under}
 use Rattle.relation_terms.specs.Interning.{AreEqualAsTrees, AreEqualAsKinds}
 use Rattle.relation_terms.proofs.Binders.{under_stays}
 use Rattle.relation_folds.specs.declared.error.RelateFault.{RelateFault}
@@ -14,23 +14,21 @@ use Rattle.type_relations.specs.Arguments.{related_tree}
 use Rattle.relation_contexts.specs.Binders.{binder_tree}
 use Rattle.type_relations.specs.EqualForms.{binder_same}
 use Rattle.relation_contexts.specs.Lawful.{State, Manners, Asked, Related}
-use Rattle.type_relations.specs.Subtyping.{IsTyVar}
+use Rattle.relation_contexts.specs.Relation.{sort_of}
 use Rattle.relation_contexts.proofs.Passing.{asked_later}
 use Rattle.type_relations.proofs.Relatable.{equal_one}
 use Rattle.type_relations.proofs.Rounds.{HalfDone}
-use Rattle.type_relations.proofs.Subtyping.{node_is_none}
 
--- No predicate of a trait object is a type variable, and no binder.
+-- No predicate of a trait object is a type, and no binder.
 pub existential_is_none : {Key Id Name : Type 0} (m : Meaning Key Id Name) (p : ExistentialPredicate Key Id) →
-    IsTyVar (existential_tree m p) → ⊥
-existential_is_none m (Trait t) v = node_is_none (existential_trait (m.id (t.def_id).0)) (m.args t.args) v
-existential_is_none m (Projection p) v =
-    node_is_none (existential_projection (m.id (p.def_id).0)) (cons (term_tree m p.term) (m.args p.args)) v
-existential_is_none m (AutoTrait d) v = let e = v.1 in cc
+    sort_of (existential_tree m p) ≡ type_sort → ⊥
+existential_is_none m (Trait t) e = cc
+existential_is_none m (Projection p) e = cc
+existential_is_none m (AutoTrait d) e = cc
 
-pub binder_is_none : (vars : Option (List BoundKind)) (t : Tree) → IsTyVar (under vars t) → ⊥
-binder_is_none (Some ks) t v = let e = v.1 in cc
-binder_is_none None t v = let e = v.1 in cc
+pub binder_is_none : (vars : Option (List BoundKind)) (t : Tree) → sort_of (under vars t) ≡ type_sort → ⊥
+binder_is_none (Some ks) t e = cc
+binder_is_none None t e = cc
 
 module _ {Key Id Name T : Type 0} (tree : Meaning Key Id Name → T → Tree) where
   -- A known binder keeps its tree while the interner grows, where its body does.

@@ -1,13 +1,12 @@
--- Relating two type variables in a context: the one goal, or a refused growth.
+-- Relating two types of which one goal is asked, in a context: that goal, or a refused growth.
 use Rattle.std.proofs.Common.{◌≡◌, sym, subst, List, [], Option, Result, Err}
-use Rattle.std.proofs.lemmas.Option.{IfSome_then}
 use Rattle.std.specs.Global.{Vec}
 use Rattle.term_enums.specs.declared.Variance.{Variance}
 use Rattle.relation_terms.specs.declared.terms.goal.Goal.{Goal}
 use Rattle.relation_terms.specs.declared.terms.keys.PredicateKey.{PredicateKey}
 use Rattle.relation_terms.specs.declared.terms.keys.ParamEnvKey.{ParamEnvKey}
-use Rattle.relation_terms.specs.Heads.{Head, type_var, variable}
-use Rattle.relation_terms.specs.Trees.{Tree, leaf}
+use Rattle.relation_terms.specs.Heads.{Head}
+use Rattle.relation_terms.specs.Trees.{Tree}
 use Rattle.relation_terms.specs.Meaning.{Meaning}
 use Rattle.relation_folds.specs.declared.error.RelateFault.{RelateFault}
 use Rattle.relation_folds.specs.declared.error.RelateFault.TheVariants.{Memory, Budget, Unrelated}
@@ -16,8 +15,8 @@ use Rattle.relation_contexts.specs.Contexts.{Context}
 use Rattle.relation_contexts.specs.Goals.{Goal as GoalOf}
 use Rattle.relation_contexts.specs.Kits.{StaysBuilt}
 use Rattle.relation_contexts.proofs.Building.{built_refused}
-use Rattle.type_relations.specs.Relating.{term_in, AnswersAlone, AnswersSubtype, BuildsNoMore}
-use Rattle.type_relations.specs.Subtyping.{subtype_at, RegistersAlone, RegistersSubtype}
+use Rattle.type_relations.specs.Relating.{term_in, AnswersAlone, AnswersAsked, BuildsNoMore}
+use Rattle.type_relations.specs.Alone.{RegistersAlone, RelatesAlone}
 use Rattle.type_relations.specs.Solving.{solving_in, solver_manner}
 
 -- What else might have been answered is of no matter.
@@ -34,12 +33,11 @@ module _ {S Key Id Name A : Type 0} (aliases : StructurallyRelateAliases) (X : T
 
   pub refused_alone_in : (f : RelateFault Key Id Name)
       (res : Result (Vec (Goal Key (PredicateKey Key))) (RelateFault Key Id Name)) → res ≡ Err f →
-      RegistersSubtype {X = X} solver_manner (solving_in aliases [] (state old) v e) (solving_in aliases hs (state new) v e) v
+      RelatesAlone {X = X} solver_manner (solving_in aliases [] (state old) v e) (solving_in aliases hs (state new) v e) v
       (term_in (state old) over tree a) (term_in (state old) over tree b) (Err f) →
-      AnswersSubtype state old new over tree e v a b res
-  refused_alone_in f res is h = subst (AnswersSubtype state old new over tree e v a b) (sym is)
-      (λ differ x y i j. IfSome_then (subtype_at v (leaf (variable type_var x)) (leaf (variable type_var y)))
-      (h tt differ x y i j) (λ p z. refused p f z))
+      AnswersAsked state old new over tree aliases e v a b res
+  refused_alone_in f res is h = subst (AnswersAsked state old new over tree aliases e v a b) (sym is)
+      (λ differ s t x y p i j asks. refused p f (h tt differ s t x y p i j asks))
 
 -- What was bound is built of no more, where goals that were registered are not answered.
 pub refused_built : {S Key Id Name A : Type 0} (state : S → Context Key Id Name) (old new : S) (over : Option Head)

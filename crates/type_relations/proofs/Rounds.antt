@@ -32,7 +32,7 @@ use Rattle.relation_contexts.proofs.Standing.{term_context}
 use Rattle.relation_contexts.proofs.Going.{grown-mono, le_grown, depth-strict, depth_later}
 use Rattle.relation_contexts.proofs.Full.{first_order_plain, full_never}
 use Rattle.relation_contexts.proofs.Building.{built_led, built_then}
-use Rattle.relation_contexts.proofs.Answering.{may_itself, same_items}
+use Rattle.relation_contexts.proofs.Answering.{may_itself, same_items, same_settings}
 use Rattle.relation_contexts.proofs.Composing.{steps_compose, values_still}
 use Rattle.relation_contexts.proofs.Opening.{two_rounds_relate}
 use Rattle.relation_contexts.proofs.Passing.{passes_then, manner_then, stopped, asked_later, outcome_seen}
@@ -209,7 +209,7 @@ pub record HalfDone {Key Id Name : Type 0} (M : Manners) (r p : State Key Id Nam
   pub room : weight p.store a + weight p.store b ≤
       grown (passes.goes).spent (weight r.store a + weight r.store b)
   pub built : StaysBuilt r.store p.store passes.added a b
-  pub agrees : (M r.kept.settings).relates_agreeing → Agree (items_in r) (at r.ambient) a b
+  pub agrees : (M r.kept.settings).relates_agreeing → Agree r.kept.settings (items_in r) (at r.ambient) a b
 
 module _ {Key Id Name : Type 0} where
   -- Opening was refused in round 0.
@@ -278,7 +278,8 @@ module _ {Key Id Name : Type 0} where
     begun = begun l.steps;
     room = room (passes_then g f.passes (round_small M 0 a b x y g l)) (binders l.steps);
     built = built_led g.added (f.passes).added a b x y built l.built f.built;
-    agrees = λ k. l.agrees (items_in r) (subst (λ c. Agree c (at r.ambient) x y) (same_items g)
+    agrees = λ k. l.agrees r.kept.settings (items_in r) (subst₂ (λ z c. Agree z c (at r.ambient) x y)
+        (same_settings g.kept) (same_items g)
         ((f.verdict).agrees (manner_then M (λ z. z.relates_agreeing) g k)));
   }
     where

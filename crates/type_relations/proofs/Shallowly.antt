@@ -104,7 +104,7 @@ module _ {Key Id Name : Type 0} (r q : State Key Id Name) (g : IsSound r.store) 
     };
     errors = λ m j c st e l g z. of_entries (read_later r.store st (later_through (h.steps).later l) a u p)
         (read_later r.store st (later_through (h.steps).later l) b w o) (h.errors m j c st e l g z);
-    agrees = λ c z. agree_read c r.store g r.ambient a b u w p o (h.agrees c z);
+    agrees = λ set c z. agree_read set c r.store g r.ambient a b u w p o (h.agrees set c z);
   }
 
   read_built : (x y : Tree) → BuiltFrom r.store u w x y → BuiltFrom r.store a b x y
@@ -128,7 +128,7 @@ module _ {Key Id Name : Type 0} (r q : State Key Id Name) (g : IsSound r.store) 
               (sym (value_a i s (shrinks i s sat))) ((h.answer).related i s sat all);
         };
         known = h.known;
-        agrees = λ k. agree_read (items_in r) r.store g r.ambient a b u w p o (h.agrees k);
+        agrees = λ k. agree_read r.kept.settings (items_in r) r.store g r.ambient a b u w p o (h.agrees k);
       }
       read_verdict (Ok (Parts x y)) h = record {
         leads = read_leads passes.added r.ambient (tree x) (tree y) h.leads;

@@ -33,9 +33,9 @@ use Rattle.relation_contexts.specs.Relation.{Interpretation, RegionRule, regions
 use Rattle.relation_contexts.specs.Stores.{Store, Constraint, IsRegionIn, IsSound}
 use Rattle.relation_contexts.specs.Stores.{ConstraintHolds, all_bound}
 use Rattle.relation_contexts.specs.Goals.{goals_of, KnowsGoal, Registered, GoalInContext, Holds, MakesOneTree}
-use Rattle.relation_contexts.specs.Headline.{AnswersGoals, KeepsEqualTerms}
+use Rattle.relation_contexts.specs.Headline.{AnswersGoals, KeepsEqualTerms, IsFirstOrderPair}
 use Rattle.relation_contexts.specs.Steps.{AddsConstraint, Equates, StaysFull}
-use Rattle.relation_contexts.specs.Kits.{StaysBuilt}
+use Rattle.relation_contexts.specs.Kits.{StaysBuilt, IsGoalOf}
 use Rattle.relation_contexts.proofs.Building.{built_itself, built_same, built_constraint}
 use Rattle.relation_contexts.specs.Outcomes.{Outcome}
 use Rattle.relation_contexts.specs.Measures.{Goes}
@@ -56,7 +56,7 @@ use Rattle.relation_contexts.proofs.OneUniverse.{keeps_pair, binds_itself, binds
 use Rattle.type_relations.specs.Solving.{KnowsGoals, Held, held_by, kept_in, solving, solving_through, solver_manner}
 use Rattle.type_relations.specs.Solving.{solver_settings}
 use Rattle.relation_contexts.specs.Errors.{ErrorOf}
-use Rattle.relation_contexts.proofs.Registered.{goals_stay, goals_known, none_at_invariance}
+use Rattle.relation_contexts.proofs.Registered.{goals_stay, goals_known, none_at_invariance, all_but_aliases, first_order_built, first_order_bindings}
 use Rattle.type_relations.proofs.Exactly.{region_value, regions_exactly}
 use Rattle.relation_contexts.proofs.Growing.{constraint_is_later, constraint_bound, constraint_weight}
 use Rattle.relation_contexts.specs.Contexts.{Context}
@@ -141,7 +141,7 @@ constrained_full c d q (Err f) h = full_same h
 
 pub constrained_built : {Key Id Name A F : Type 0} (c d : Context Key Id Name) (q : Constraint) (r : Result A F)
     (a b : Tree) → Constrains c d q r → StaysBuilt c.store d.store [] a b
-constrained_built c d q (Ok x) a b h = built_constraint c.store d.store a b h.same_entries h.same_universe
+constrained_built c d q (Ok x) a b h = built_constraint c.store d.store a b h.same_entries h.same_universe h.same_taint
 constrained_built c d q (Err f) a b h = built_same a b h
 
 pub constrained_bound : {Key Id Name A F : Type 0} (c d : Context Key Id Name) (q : Constraint) (r : Result A F) →
@@ -250,7 +250,8 @@ module _ {Key Id Name : Type 0} {j j' : Held Key} (held : j' ≡ j) (gs : List (
             outcome = outcome;
             answer = may_itself solver_manner (solving j' gs m now K v e) v (m.region a);
             known = sure;
-            agrees = λ k. agree_regions (items_of m) v (m.region a) (m.region b)
+            agrees = λ k. agree_regions (solver_settings j.structurally_relate_aliases j.setup) (items_of m) v
+                (m.region a) (m.region b)
                 (term_sort_of region_var (m.region a) left.0) (term_sort_of region_var (m.region b) right.0);
           };
           exact = λ k is pair.
@@ -262,7 +263,8 @@ module _ {Key Id Name : Type 0} {j j' : Held Key} (held : j' ≡ j) (gs : List (
                     (standing_keeps was now added.same_entries added.same_universes),
               );
           full = λ ha hb. constraint_full was now (constraint_of m c) added;
-          built = built_constraint was now (m.region a) (m.region b) added.same_entries added.same_universe;
+          built = built_constraint was now (m.region a) (m.region b) added.same_entries added.same_universe
+              added.same_taint;
         }
 
   -- The same by what the variance asks for.
@@ -483,22 +485,33 @@ module _ {Key Id Name X : Type 0} {j j' : Held Key} (m n : Meaning Key Id Name) 
 
   pub relates_agreeing : (t : X) →
       Related solver_manner (solving j [] m was L v e) (solving j' hs n now K v e) v a b tree (Ok t) →
-      Agree (items_of m) (at v) a b
+      Agree (solver_settings j.structurally_relate_aliases j.setup) (items_of m) (at v) a b
   relates_agreeing t h = (h.verdict).agrees tt
+
+  goals_registered : (result : Result X (RelateFault Key Id Name)) →
+      Related solver_manner (solving j [] m was L v e) (solving j' hs n now K v e) v a b tree result →
+      All (Registered (items_of m) (solver_settings j.structurally_relate_aliases j.setup) v (m.param_env e) was now)
+      (goals_of n hs)
+  goals_registered result h = subst (All (Registered (items_of m)
+      (solver_settings j.structurally_relate_aliases j.setup) v (m.param_env e) was now)) (sym (h.passes).lengthens)
+      (h.passes).goals_in
 
   pub registers_goals : (result : Result X (RelateFault Key Id Name)) → L → KnowsGoals m e [] →
       Related solver_manner (solving j [] m was L v e) (solving j' hs n now K v e) v a b tree result →
-      All (KnowsGoal n) hs × All (Registered (items_of m) false v (m.param_env e) was now) (goals_of n hs) ×
-      (v ≡ Invariant → hs ≡ [])
-  registers_goals result l env h = (
-    ((h.passes).lawful (l, env)).1.1,
-    registered,
-    λ is. no_goals hs (none_at_invariance (goals_of n hs) v is registered),
-  )
+      All (KnowsGoal n) hs × All (Registered (items_of m) (solver_settings j.structurally_relate_aliases j.setup) v
+      (m.param_env e) was now) (goals_of n hs)
+  registers_goals result l env h = (((h.passes).lawful (l, env)).1.1, goals_registered result h)
+
+  -- At invariance none is of first-order terms in a first-order record: no alias stands there, and no opaque type.
+  pub no_goals_exactly : (result : Result X (RelateFault Key Id Name)) → v ≡ Invariant → IsFirstOrderPair was a b →
+      Related solver_manner (solving j [] m was L v e) (solving j' hs n now K v e) v a b tree result → hs ≡ []
+  no_goals_exactly result is pair h = no_goals hs (none_at_invariance (goals_of n hs) v is refl asks
+      (goals_registered result h))
     where
-      registered : All (Registered (items_of m) false v (m.param_env e) was now) (goals_of n hs)
-      registered = subst (All (Registered (items_of m) false v (m.param_env e) was now)) (sym (h.passes).lengthens)
-          (h.passes).goals_in
+      asks : All (IsGoalOf all_but_aliases) (goals_of n hs)
+      asks = subst (All (IsGoalOf all_but_aliases)) (sym (h.passes).lengthens)
+          (h.built all_but_aliases (first_order_built a pair.left) (first_order_built b pair.right)
+          (first_order_bindings was pair.bindings)).asks
 
       no_goals : (gs : List (KeyedGoal Key (PredicateKey Key))) → goals_of n gs ≡ [] → gs ≡ []
       no_goals [] q = refl

@@ -105,6 +105,7 @@ same_changes st = record {
   same_universes = λ k. refl;
   same_constraints = refl;
   universe_stands = omega arith;
+  taint_stands = λ h. h;
   same_budget = refl;
 }
 
@@ -134,7 +135,7 @@ module _ {Key Id Name : Type 0} where
       (r : Result (K × K) F) → IsErr r → d.store ≡ c.store → OpensBoth c d tree t u r
   refused_first c d tree t u (Ok x) h same = absurd (false≢true h)
   refused_first c d tree t u (Err f) h same =
-      (c.store, same_changes c.store, subst (MakesUnbound (c.store).universe c.store) (sym same) makes_none)
+      (c.store, same_changes c.store, refl, subst (MakesUnbound (c.store).universe c.store) (sym same) makes_none)
 
 -- The relation of a context before opening and after it.
 module _ {Key Id Name : Type 0} (aliases : StructurallyRelateAliases) (j : ℕ)
@@ -159,13 +160,14 @@ module _ {Key Id Name : Type 0} (aliases : StructurallyRelateAliases) (j : ℕ)
 
   -- A growth was refused.
   pub opening_refused : {T : Type 0} → KnowsGoals c.meaning e gs → IsSound c.store → Grows c d → (middle : Store) →
-      ChangesNothing c.store middle → MakesUnbound middle.universe middle d.store → (round : ℕ) (a b : Tree)
+      ChangesNothing c.store middle → middle.tainted ≡ (c.store).tainted → MakesUnbound middle.universe middle d.store →
+      (round : ℕ) (a b : Tree)
       (tree : T → Tree) (result : Result (Option (T × T)) (RelateFault Key Id Name)) → result ≡ Err Memory →
       ((k : Kit) → IsBuiltOf k a → IsTrue k.binders) → Opened solver_manner before after round a b tree result
-  opening_refused env sound grows middle changes makes round a b tree result is has =
+  opening_refused env sound grows middle changes taint makes round a b tree result is has =
       subst (Opened solver_manner before after round a b tree) (sym is)
       (opened env grows (opened_goes c.store middle d.store changes sound makes) round a b tree (Err Memory) tt
-      (built_opened c.store d.store a b changes makes has))
+      (built_opened c.store d.store a b changes taint makes has))
 
   -- Bodies that were opened.
   module _ (round : ℕ) (ks ls : List BoundKind) (t u x y : Tree)
@@ -185,8 +187,8 @@ module _ {Key Id Name : Type 0} (aliases : StructurallyRelateAliases) (j : ℕ)
       };
       errors = λ m set i st f later sound o.
           bodies_error m set i st v f ks ls t u x y both.instantiated_for both.entered_for o;
-      agrees = λ i o.
-          bodies_agree i v ks ls t u x y both.instantiated_for both.entered_for binds binds_too o;
+      agrees = λ set i o.
+          bodies_agree set i v ks ls t u x y both.instantiated_for both.entered_for binds binds_too o;
       built = bodies_built c.store ks ls t u x y both.instantiated_for both.entered_for;
       same_budget = both.same_budget;
       smaller = let h = both.smaller in omega (arith, h);
@@ -215,8 +217,8 @@ module _ {Key Id Name : Type 0} (aliases : StructurallyRelateAliases) (j : ℕ)
       };
       errors = λ m set i st f later sound o.
           bodies_error m set i st v f ks ls t u x y both.entered_for both.instantiated_for o;
-      agrees = λ i o.
-          bodies_agree i v ks ls t u x y both.entered_for both.instantiated_for binds binds_too o;
+      agrees = λ set i o.
+          bodies_agree set i v ks ls t u x y both.entered_for both.instantiated_for binds binds_too o;
       built = bodies_built c.store ks ls t u x y both.entered_for both.instantiated_for;
       same_budget = both.same_budget;
       smaller = both.smaller;
@@ -300,7 +302,7 @@ module _ {Key Id Name T : Type 0} (aliases : StructurallyRelateAliases) (j : ℕ
         };
         errors = λ m set i st f later sound o.
             bodies_error m set i st v f ks ls t u t u (unused_stand_ins ks t w.0) (unused_stand_ins ls u w.1) o;
-        agrees = λ i o. bodies_agree i v ks ls t u t u (unused_stand_ins ks t w.0) (unused_stand_ins ls u w.1)
+        agrees = λ set i o. bodies_agree set i v ks ls t u t u (unused_stand_ins ks t w.0) (unused_stand_ins ls u w.1)
             k.left_taken.1.0 k.right_taken.1.0 o;
         built = bodies_built c.store ks ls t u t u (unused_stand_ins ks t w.0) (unused_stand_ins ls u w.1);
         same_budget = refl;

@@ -1,5 +1,5 @@
 -- Registering that of two type variables the one is a subtype of the other, as a step.
-use Rattle.std.proofs.Common.{◌≡◌, ℕ, refl, sym, ap, ap₂, ◌∙◌, subst, subst₂, Bool, false, List, [], ◌∷◌, ◌++◌, All, IsTrue, Ok}
+use Rattle.std.proofs.Common.{◌≡◌, ℕ, refl, sym, ap, ap₂, ◌∙◌, subst, subst₂, Bool, false, List, [], ◌∷◌, ◌++◌, All, IsTrue, Ok, Err}
 use Rattle.std.proofs.lemmas.List.Elements.{All-nil, All-cons, All-head, All-append}
 use Rattle.std.proofs.lemmas.List.{map-append}
 use Rattle.term_enums.specs.declared.Variance.{Variance}
@@ -17,7 +17,9 @@ use Rattle.relation_contexts.proofs.Agreeing.{agree_root}
 use Rattle.relation_contexts.specs.Stores.{Store}
 use Rattle.relation_contexts.specs.Goals.{Goal, goal_of, goals_of, KnowsGoal, subtype_predicate, IsOpen, IsDirected, IsRegistered, of_variables, Holds, MakesOneTree}
 use Rattle.relation_contexts.specs.Lawful.{Stepped, Passes, MayAnswer, RegisteredIn, items_of}
-use Rattle.type_relations.specs.Solving.{KnowsGoals, Held, kept_in, solving, solver_manner}
+use Rattle.relation_contexts.specs.Settings.{Settings}
+use Rattle.type_relations.specs.Emitting.{RegistersGoal}
+use Rattle.type_relations.specs.Solving.{KnowsGoals, Held, kept_in, solver_settings, solving, solver_manner}
 use Rattle.relation_contexts.proofs.Answering.{may_itself}
 use Rattle.relation_contexts.proofs.Going.{goes_nowhere, later_itself}
 use Rattle.relation_contexts.proofs.Full.{full_itself}
@@ -31,7 +33,7 @@ use Rattle.relation_contexts.proofs.Registered.{registered_in, goals_stay, goals
 module _ {Key Id Name : Type 0} {j j' : Held Key} (held : j' ≡ j) (gs hs : List (KeyedGoal Key (PredicateKey Key)))
     (m n : Meaning Key Id Name) (st : Store) (L K : Type 0) (v : Variance) (e : ParamEnvKey Key) (grown : Extends m n) (env : KnowsGoals m e gs) (l : K)
     (p : PredicateKey Key) (t : Tree) (pushed : hs ≡ gs ++ record { param_env = e; predicate = p } ∷ [])
-    (means : n.predicate p ≡ t) (sure : IsTrue (known t)) (asks : IsRegistered (items_of m) false v st st t) where
+    (means : n.predicate p ≡ t) (sure : IsTrue (known t)) (asks : IsRegistered (items_of m) (solver_settings j.structurally_relate_aliases j.setup) v st st t) where
   lengthens : goals_of n hs ≡ goals_of m gs ++ goal_of (m.param_env e) t ∷ []
   lengthens = ap (goals_of n) pushed ∙ map-append (λ g. goal_of (n.param_env g.param_env) (n.predicate g.predicate)) gs
       (record { param_env = e; predicate = p } ∷ [])
@@ -63,6 +65,46 @@ module _ {Key Id Name : Type 0} {j j' : Held Key} (held : j' ≡ j) (gs hs : Lis
     lawful = λ h. (l, (env_known, all_known));
   }
 
+-- The same as what a relation that registers goals answers; or a growth was refused.
+module _ {Key Id Name : Type 0} {j j' : Held Key} (held : j' ≡ j) (gs hs : List (KeyedGoal Key (PredicateKey Key)))
+    (m n : Meaning Key Id Name) (st now : Store) (L K : Type 0) (v : Variance) (e : ParamEnvKey Key) (grown : Extends m n)
+    (l : K) (stays : now ≡ st) where
+  pub goal_pushed : {A F : Type 0} (x : A) (p : PredicateKey Key) (t : Tree) → KnowsGoals m e gs →
+      hs ≡ gs ++ record { param_env = e; predicate = p } ∷ [] → n.predicate p ≡ t → IsTrue (known t) →
+      RegistersGoal {F = F} (solving j gs m st L v e) (solving j' hs n now K v e) t (Ok x)
+  goal_pushed x p t env pushed means sure = record {
+    extends = grown;
+    store = stays;
+    goals = ap (goals_of n) pushed
+        ∙ map-append (λ g. goal_of (n.param_env g.param_env) (n.predicate g.predicate)) gs
+        (record { param_env = e; predicate = p } ∷ [])
+        ∙ ap₂ (λ z g. z ++ g ∷ []) (goals_stay grown gs env.1) (ap₂ goal_of (grown.param_env e env.0) means);
+    kept = ap₂ kept_in held (grown.param_env e env.0);
+    ambient = refl;
+    remembered = refl;
+    lawful = λ h. (l, (subst (λ z. IsTrue (known z)) (sym (grown.param_env e env.0)) env.0, known_then));
+  }
+    where
+      known_then : All (KnowsGoal n) hs
+      known_then = subst (All (KnowsGoal n)) (sym pushed)
+          (All-append (KnowsGoal n) gs (record { param_env = e; predicate = p } ∷ []) (goals_known grown gs env.1)
+          (All-cons (KnowsGoal n) (record { param_env = e; predicate = p }) []
+          (subst (λ z. IsTrue (known z)) (sym (grown.param_env e env.0)) env.0, subst (λ z. IsTrue (known z)) (sym means) sure)
+          (All-nil (KnowsGoal n))))
+
+  pub goal_not_pushed : {A F : Type 0} (f : F) (t : Tree) → KnowsGoals m e gs → hs ≡ gs →
+      RegistersGoal {A = A} (solving j gs m st L v e) (solving j' hs n now K v e) t (Err f)
+  goal_not_pushed f t env same = record {
+    extends = grown;
+    store = stays;
+    goals = ap (goals_of n) same ∙ goals_stay grown gs env.1;
+    kept = ap₂ kept_in held (grown.param_env e env.0);
+    ambient = refl;
+    remembered = refl;
+    lawful = λ h. (l, (subst (λ z. IsTrue (known z)) (sym (grown.param_env e env.0)) env.0,
+        subst (All (KnowsGoal n)) (sym same) (goals_known grown gs env.1)));
+  }
+
 -- That of two type variables the one is a subtype of the other was registered.
 module _ {Key Id Name : Type 0} {j j' : Held Key} (held : j' ≡ j) (gs hs : List (KeyedGoal Key (PredicateKey Key)))
     (m n : Meaning Key Id Name) (st : Store) (L K : Type 0) (v : Variance) (e : ParamEnvKey Key) (grown : Extends m n) (env : KnowsGoals m e gs) (l : K)
@@ -73,7 +115,10 @@ module _ {Key Id Name : Type 0} {j j' : Held Key} (held : j' ≡ j) (gs hs : Lis
   abbrev asked : Goal
   asked = goal_of (m.param_env e) (subtype_predicate x (leaf (variable type_var i)) (leaf (variable type_var k)))
 
-  in_order : IsRegistered (items_of m) false v st st
+  abbrev settings : Settings
+  settings = solver_settings j.structurally_relate_aliases j.setup
+
+  in_order : IsRegistered (items_of m) settings v st st
       (subtype_predicate x (leaf (variable type_var i)) (leaf (variable type_var k)))
   in_order = of_variables x i k directed refl i_open k_open
 
@@ -85,7 +130,7 @@ module _ {Key Id Name : Type 0} {j j' : Held Key} (held : j' ≡ j) (gs hs : Lis
       Rel c w d (at v) (apply s a) (apply s b)) →
       ((s : Assign) → apply s a ≡ apply s b →
       apply s (leaf (variable type_var i)) ≡ apply s (leaf (variable type_var k))) →
-      ((c : Items) → Agree c (at v) a b) →
+      ((set : Settings) (c : Items) → Agree set c (at v) a b) →
       Stepped solver_manner F (solving j gs m st L v e) (solving j' hs n st K v e) a b tree (Ok (Done t))
   unfolding passes
   registered_step F a b tree t answer sure relates equal agreeing = record {
@@ -106,7 +151,7 @@ module _ {Key Id Name : Type 0} {j j' : Held Key} (held : j' ≡ j) (gs hs : Lis
       answer = subst (MayAnswer solver_manner (solving j' hs n st K v e) v a) (sym answer)
           (may_itself solver_manner (solving j' hs n st K v e) v a);
       known = subst (λ z. IsTrue (known z)) (sym answer) sure;
-      agrees = λ z. agreeing (items_of m);
+      agrees = λ z. agreeing settings (items_of m);
     };
     exact = λ z is pair. absurd (subst IsDirected is directed);
     full = λ ha hb. full_itself st;
@@ -131,7 +176,7 @@ module _ {Key Id Name : Type 0} {j j' : Held Key} (held : j' ≡ j) (gs hs : Lis
       (λ c w d s r. subst (λ z. Rel c w d (at z) (apply s a) (apply s b)) (sym is)
       (subst₂ (λ f g. Rel c w d (at Covariant) (apply s f) (apply s g)) (sym a_is) (sym b_is) r))
       (λ s q. sym (ap (apply s) a_is) ∙ q ∙ ap (apply s) b_is)
-      (λ c. agree_root c v type_var i a b a_is (ap sort_of b_is)))
+      (λ set c. agree_root set c v type_var i a b a_is (ap sort_of b_is)))
 
   -- At contravariance that the second is one of the first.
   pub contravariant_step : {X : Type 0} (F : Tree → Type 0) (tree : X → Tree) (t : X) → v ≡ Contravariant →
@@ -144,4 +189,4 @@ module _ {Key Id Name : Type 0} {j j' : Held Key} (held : j' ≡ j) (gs hs : Lis
       (λ c w d s r. subst (λ z. Rel c w d (at z) (apply s a) (apply s b)) (sym is)
       (subst₂ (λ f g. Rel c w d (at Contravariant) (apply s f) (apply s g)) (sym a_is) (sym b_is) (turned r)))
       (λ s q. sym (ap (apply s) b_is) ∙ sym q ∙ ap (apply s) a_is)
-      (λ c. agree_root c v type_var i a b a_is (ap sort_of b_is)))
+      (λ set c. agree_root set c v type_var i a b a_is (ap sort_of b_is)))

@@ -1,25 +1,33 @@
 -- Binding a variable, as a step of a relation over a context, and being refused.
-use Rattle.std.proofs.Common.{◌≡◌, ◌≢◌, ◌⊎◌, ℕ, ◌+◌, ◌*◌, ◌<◌, ◌≤◌, refl, sym, ap, ap₂, ◌∙◌, arith, inl, inr, subst, subst₂, [], IsTrue}
+use Rattle.std.proofs.Common.{◌≡◌, ◌≢◌, ◌⊎◌, ℕ, suc, ◌+◌, ◌<◌, ◌≤◌, refl, sym, ap, ap₂, ◌∙◌, arith, inl, inr, subst, subst₂, [], ◌∷◌, IsTrue, Some}
 use Rattle.std.proofs.Common.{Ok, Err}
+use Rattle.std.proofs.lemmas.List.Elements.{All-nil, All-cons}
 use Rattle.term_enums.specs.declared.Variance.{Variance}
 use Rattle.term_enums.specs.declared.Variance.TheVariants.{Covariant, Contravariant, Invariant, Bivariant}
 use Rattle.term_enums.specs.Variances.{xform}
-use Rattle.relation_terms.specs.Heads.{const_sort, VarKind, type_var, const_var, atom, variable, bound, placeholder, unknown}
+use Rattle.relation_terms.specs.Heads.{type_sort, const_sort, alias, unevaluated, VarKind, type_var, const_var, atom, variable, bound, placeholder, unknown}
 use Rattle.relation_terms.specs.Trees.{Tree, leaf, node, bind, nil, cons, Assign, apply, known, IsTerm, Leaves}
 use Rattle.relation_terms.specs.Meaning.{Meaning, Extends}
 use Rattle.relation_folds.specs.declared.error.TypeError.{TypeError}
 use Rattle.relation_folds.specs.declared.error.RelateFault.{RelateFault}
 use Rattle.relation_folds.specs.declared.error.RelateFault.TheVariants.{Memory, Budget, Unrelated}
-use Rattle.relation_contexts.specs.declared.relate.Step.TheVariants.{Again}
-use Rattle.relation_contexts.specs.Relation.{Items, Interpretation, Rel, at, same as same_rel}
+use Rattle.relation_contexts.specs.declared.relate.Step.TheVariants.{Done, Again}
+use Rattle.relation_contexts.specs.AliasGoals.{alias_at}
+use Rattle.relation_contexts.specs.Goals.{Goal, goal_of}
+use Rattle.relation_contexts.specs.Relation.{Items, Interpretation, Rel, at, sort_of, IsAlias, same as same_rel}
 use Rattle.relation_contexts.specs.Stores.{Store, unbound, entry_of, entry_term, IsMade, IsTermIn, IsSound, Satisfies}
-use Rattle.relation_contexts.specs.Stores.{MayStandFor, universe_of, all_bound, resolved, weight}
+use Rattle.relation_contexts.specs.Stores.{InContext, MayStandFor, universe_of, all_bound, resolved, weight}
 use Rattle.relation_contexts.specs.Headline.{IsFirstOrderPair}
 use Rattle.relation_contexts.specs.Steps.{Instantiates, RefusesToInstantiate, InstantiatesNone, StaysFull}
-use Rattle.relation_contexts.specs.Kits.{StaysBuilt}
-use Rattle.relation_contexts.proofs.Building.{term_built, builds_instantiated, built_same, built_unbound}
-use Rattle.relation_contexts.specs.Outcomes.{StepsTo, CarriesOver, ExactStep}
-use Rattle.relation_contexts.specs.Measures.{Goes}
+use Rattle.relation_contexts.specs.Kits.{Kit, IsBuiltOf, BindsBuiltOf, IsPredicateOf, IsGoalOf, Builds, StaysBuilt}
+use Rattle.relation_contexts.proofs.AliasOutcomes.{bound_left, bound_right}
+use Rattle.relation_contexts.proofs.Building.{term_built, builds_instantiated, builds_noting, built_same, built_unbound}
+use Rattle.relation_contexts.proofs.Passing.{passes_then}
+use Rattle.relation_contexts.proofs.Registered.{alias_registered, alias_built}
+use Rattle.relation_contexts.specs.Outcomes.{Outcome, StepsTo, CarriesOver, ExactStep}
+use Rattle.relation_contexts.specs.Measures.{Goes, grown as squared}
+use Rattle.relation_contexts.specs.declared.relate.StructurallyRelateAliases.{StructurallyRelateAliases}
+use Rattle.relation_contexts.specs.declared.relate.StructurallyRelateAliases.TheVariants.{No}
 use Rattle.relation_contexts.specs.Settings.{Settings}
 use Rattle.relation_contexts.specs.Errors.{ErrorOf, BindingError, of_binding, of_binding_back, of_entries, IsReadAs, itself, by_binding}
 use Rattle.relation_contexts.specs.ErasureLaws.{IsTypeOrConst}
@@ -29,23 +37,26 @@ use Rattle.relation_contexts.specs.Generalising.{Obstacle, cycle, beyond, Instan
 use Rattle.relation_contexts.specs.Generalising.{NumbersNameNothing}
 use Rattle.relation_contexts.specs.Covered.{IsCovered}
 use Rattle.relation_contexts.specs.Resolving.{IsShallow, root as shallow_root, stays_bound, formed, IsShallowConst, const_root, no_variable}
-use Rattle.relation_contexts.specs.Lawful.{Passes, Asked, Stepped, Leads, LeadsAgain, items_of, State}
+use Rattle.relation_contexts.specs.Lawful.{Passes, Asked, MayAnswer, Stepped, Leads, LeadsAgain, items_of, State}
 use Rattle.relation_contexts.specs.Contexts.{Context}
 use Rattle.relation_contexts.specs.ContextCalls.{Instantiated, ObstacleError, HasCoveredBindings}
 use Rattle.type_relations.specs.Solving.{solver_manner}
-use Rattle.relation_contexts.proofs.Answering.{covariantly}
+use Rattle.type_relations.specs.Emitting.{RegistersGoal}
+use Rattle.type_relations.proofs.GoalPasses.{goal_passes, no_goal_passes}
+use Rattle.relation_contexts.proofs.Answering.{covariantly, may_itself}
 use Rattle.type_relations.proofs.Constants.{fixed, constants_at_each_variance}
 use Rattle.type_relations.proofs.ConstErrors.{const_error_alike}
 use Rattle.type_relations.proofs.Turning.{turned}
-use Rattle.relation_contexts.proofs.Going.{goes_nowhere, goes_within}
+use Rattle.relation_contexts.proofs.Going.{goes_nowhere, goes_within, grown-mono}
 use Rattle.relation_contexts.proofs.ReadAs.{read_later}
 use Rattle.relation_contexts.proofs.Resolved.{resolved_free, resolved_weight}
-use Rattle.relation_contexts.proofs.Standing.{later_term, term_context, term_of_made}
+use Rattle.relation_contexts.proofs.Standing.{later_term, later_context, term_context, term_of_made, term_sort_of}
 use Rattle.relation_contexts.proofs.Agreeing.{stands_sort, agree_root, agree_root_back}
 use Rattle.relation_contexts.proofs.Opening.{instantiating_steps}
 use Rattle.relation_contexts.proofs.Exactness.{instantiating_is_exact_step}
-use Rattle.type_relations.proofs.Binding.{square_above}
-use Rattle.relation_contexts.proofs.BindingGeneralised.{generalised_instantiates, generalised_goes, generalised_weights, generalised_first_order}
+use Rattle.relation_contexts.proofs.AliasSteps.{no_larger}
+use Rattle.relation_contexts.proofs.Instantiating.{resolved_first_order}
+use Rattle.relation_contexts.proofs.BindingGeneralised.{generalised_instantiates, generalised_goes, generalised_weights, generalised_first_order, first_order_lacks}
 use Rattle.type_relations.proofs.BindingRefused.{generalising_refuses, refused}
 use Rattle.type_relations.proofs.GeneralisingErrors.{beyond_error}
 use Rattle.relation_contexts.proofs.NewVariables.{adds, adds_goes}
@@ -54,6 +65,12 @@ use Rattle.type_relations.proofs.OverContext.{standing, over_passes, all_taken}
 use Rattle.relation_contexts.specs.OneUniverse.{NamesTypesTo, HasOneUniverse, all_roots, StaysOf, LeadsInUniverse, BindsFewer}
 use Rattle.relation_contexts.proofs.OneUniverse.{binds_none, bound_fewer}
 use Rattle.type_relations.proofs.GeneralisingInOne.{instantiates_in_one}
+
+-- An alias is not first-order.
+pub alias_not_first : (t : Tree) → IsAlias t → IsFirstOrder t → ⊥
+alias_not_first (node (alias k d) ts) o f = f.0
+alias_not_first (node (unevaluated d) ts) o f = f.0
+alias_not_first t o f = o
 
 -- What a term comes to is a variable only where the term is one.
 variable_alone : (s : Assign) (t : Tree) (k : VarKind) (n : ℕ) → ((j : VarKind) (m : ℕ) → t ≡ leaf (variable j m) → ⊥) →
@@ -125,12 +142,15 @@ const_lifts_back st v d x y k f = record {
 }
 
 module _ {Key Id Name : Type 0} (r0 : State Key Id Name) (L K : Type 0) (lawful : L → K) where
+  abbrev al : StructurallyRelateAliases
+  al = r0.kept.settings.structurally_relate_aliases
+
   -- A variable was bound to what a term comes to.
   module _ (k : VarKind) (counted : IsTypeOrConst k) (c d : Context Key Id Name) (grown : Extends c.meaning d.meaning)
       (before : IsSound c.store) (numbers : NumbersNameNothing c.store) (all : HasCoveredBindings d.store) (target : ℕ) (t u : Tree)
       (covered : IsCovered t) (t_in : IsTermIn c.store t) (t_known : IsTrue (known t)) (stands : MayStandFor k t)
       (x : Variance) (seen : r0.ambient ≡ Invariant → x ≡ Invariant) (u_known : IsTrue (known u))
-      (f : InstantiatesBy (items_of c.meaning) c.store d.store x k target t u) where
+      (f : InstantiatesBy al (items_of c.meaning) c.store d.store x k target t u) where
     abbrev v : Variance
     v = r0.ambient
 
@@ -144,24 +164,25 @@ module _ {Key Id Name : Type 0} (r0 : State Key Id Name) (L K : Type 0) (lawful 
     root = leaf (variable k target)
 
     steps : Instantiates was now x k target t u
-    steps = generalised_instantiates (items_of c.meaning) was now x k target t u counted f numbers before t_in stands
+    steps = generalised_instantiates al (items_of c.meaning) was now x k target t u counted f numbers before t_in stands
 
     goes : (N : ℕ) → weight was t ≤ N → Goes N was now
     goes N small =
-        goes_within small (generalised_goes (items_of c.meaning) was now x k target t u counted f numbers before t_in stands)
+        goes_within small (generalised_goes al (items_of c.meaning) was now x k target t u counted f numbers before t_in stands)
 
     could : InstantiatesNone was → ⊥
     could = instantiates_one was k target counted steps.made steps.was_unbound
         (λ e. let o = steps.one_spent in omega (arith, e, o))
 
     -- The pair that is left is no larger than the square of a pair that is larger than the term.
-    squares : (N : ℕ) → weight was t + 1 ≤ N → weight now u + weight now t ≤ N * N
+    squares : (N : ℕ) → weight was t + 1 ≤ N → weight now u + weight now t ≤ squared 1 N
     squares N h =
-        let w = generalised_weights (items_of c.meaning) was now x k target t u counted f numbers before t_in stands in
-        square_above (weight was t) N (weight now u + weight now t) (ap₂ ◌+◌ w.0 w.1) h
+        let w = generalised_weights al (items_of c.meaning) was now x k target t u counted f numbers before t_in stands in
+        let i = no_larger (weight now u) (weight now t) (weight was t) w.0 w.1 in
+        let j = grown-mono 1 (suc (weight was t)) N (omega (arith, h)) in omega (arith, i, j)
 
     first_order : IsFirstOrder t → IsFirstOrderStore was → IsFirstOrder u × IsFirstOrderStore now
-    first_order = generalised_first_order (items_of c.meaning) was now x k target t u counted f numbers before t_in stands
+    first_order = generalised_first_order al (items_of c.meaning) was now x k target t u counted f numbers before t_in stands
 
     u_in : IsTermIn now u
     u_in = steps.term_in
@@ -222,7 +243,7 @@ module _ {Key Id Name : Type 0} (r0 : State Key Id Name) (L K : Type 0) (lawful 
         keeps = (both.0).keeps;
       };
       errors = λ i j c st f h g o. of_entries (read_later now st h root u root_reads) (itself refl) (l.errors i j c st f g o);
-      agrees = λ c z. agree_root c v k target root t refl (stands_sort k t stands);
+      agrees = λ set c z. agree_root set c v k target root t refl (stands_sort k t stands);
     }
 
     right_leads : (w : Variance) → Lifts Key Id Name now w v t u → Leads r q [] t root w t u
@@ -235,12 +256,13 @@ module _ {Key Id Name : Type 0} (r0 : State Key Id Name) (L K : Type 0) (lawful 
         keeps = (both.1).keeps;
       };
       errors = λ i j c st f h g o. of_entries (itself refl) (read_later now st h root u root_reads) (l.errors i j c st f g o);
-      agrees = λ c z. agree_root_back c v k target t root refl (stands_sort k t stands);
+      agrees = λ set c z. agree_root_back set c v k target t root refl (stands_sort k t stands);
     }
 
-    exactly : ExactStep was now root t u t × ExactStep was now t root t u
-    exactly = instantiating_is_exact_step x was now k target t u (λ j i z e. (before.bindings j i z e).made)
-        (term_context was t t_in) steps
+    exactly : IsFirstOrder t → IsFirstOrderStore was → ExactStep was now root t u t × ExactStep was now t root t u
+    exactly h simple = instantiating_is_exact_step x was now k target t u (λ j i z e. (before.bindings j i z e).made)
+        (term_context was t t_in)
+        (first_order_lacks (apply (resolved was) t) (resolved_first_order was before simple t h)) steps
 
     pair_left : IsFirstOrderStore was → IsFirstOrder t → IsFirstOrderPair now u t
     pair_left f h = let stays = first_order h f in record { left = stays.0; right = h; bindings = stays.1 }
@@ -249,7 +271,7 @@ module _ {Key Id Name : Type 0} (r0 : State Key Id Name) (L K : Type 0) (lawful 
     in_one : v ≡ Invariant → IsFirstOrder t → IsFirstOrderStore was → (w : ℕ) → HasOneUniverse w was →
         Leaves (NamesTypesTo w) t → StaysOf w was now × Leaves (NamesTypesTo w) u
     in_one same h simple =
-        instantiates_in_one (items_of c.meaning) was now x k target t u counted f numbers before t_in stands (seen same) h simple
+        instantiates_in_one al (items_of c.meaning) was now x k target t u counted f numbers before t_in stands (seen same) h simple
 
     left_universe : v ≡ Invariant → IsFirstOrder t → IsFirstOrderStore was → LeadsInUniverse was now root t u t
     left_universe same h simple w p = let z = in_one same h simple w p.variables p.right in
@@ -269,7 +291,7 @@ module _ {Key Id Name : Type 0} (r0 : State Key Id Name) (L K : Type 0) (lawful 
     left_again b w an seen l sure answers = record {
       leads = subst (λ z. Leads r q [] root t z u t) (sym seen) (left_leads w l);
       read_leads = subst (λ z. Leads r q [] root t z u t) (sym seen) (left_leads w l);
-      read_exactly = λ o same pair. (pair_left pair.bindings pair.right, exactly.0);
+      read_exactly = λ o same pair. (pair_left pair.bindings pair.right, (exactly pair.right pair.bindings).0);
       read_asked = asked_now v root t refl t_known root_in (later t t_in) tt covered;
       asked = asked_now (xform v b) u t u_known t_known u_in (later t t_in) u_covered covered;
       answers = subst (λ z. Answers z u t root an) (sym seen) answers;
@@ -287,7 +309,7 @@ module _ {Key Id Name : Type 0} (r0 : State Key Id Name) (L K : Type 0) (lawful 
       leads = subst (λ z. Leads r q [] t root z t u) (sym seen) (right_leads w l);
       read_leads = subst (λ z. Leads r q [] t root z t u) (sym seen) (right_leads w l);
       read_exactly = λ o same pair. let f = pair_left pair.bindings pair.left in
-          (record { left = f.right; right = f.left; bindings = f.bindings }, exactly.1);
+          (record { left = f.right; right = f.left; bindings = f.bindings }, (exactly pair.left pair.bindings).1);
       read_asked = asked_now v t root t_known refl (later t t_in) root_in covered tt;
       asked = asked_now (xform v b) t u t_known u_known (later t t_in) u_in covered u_covered;
       answers = subst (λ z. Answers z t u t an) (sym seen) answers;
@@ -331,7 +353,7 @@ module _ {Key Id Name : Type 0} (r0 : State Key Id Name) (L K : Type 0) (lawful 
         exact = λ o same pair. subst₂ (λ f g. IsFirstOrderPair now f g × ExactStep was now root t f g ×
             LeadsInUniverse was now root t f g) (sym ei) (sym el) (
               pair_left pair.bindings pair.right,
-              exactly.0,
+              (exactly pair.right pair.bindings).0,
               left_universe same pair.right pair.bindings,
             );
         full = λ ha hb. full_could could;
@@ -351,7 +373,7 @@ module _ {Key Id Name : Type 0} (r0 : State Key Id Name) (L K : Type 0) (lawful 
         exact = λ o same pair. subst₂ (λ f g. IsFirstOrderPair now f g × ExactStep was now t root f g ×
             LeadsInUniverse was now t root f g) (sym ei) (sym el) (
               back (pair_left pair.bindings pair.left),
-              exactly.1,
+              (exactly pair.left pair.bindings).1,
               right_universe same pair.left pair.bindings,
             );
         full = λ ha hb. full_could could;
@@ -392,52 +414,180 @@ module _ {Key Id Name : Type 0} (r0 : State Key Id Name) (L K : Type 0) (lawful 
         const_right_step =
             right_by Invariant Invariant (fixed v decides) (const_lifts_back now v decides t u t_sorted u_value)
 
+  -- A type variable was bound to another one in the place of an alias.
+  module _ (c d : Context Key Id Name) (grown : Extends c.meaning d.meaning) (before : IsSound c.store)
+      (numbers : NumbersNameNothing c.store) (all : HasCoveredBindings d.store) (target m : ℕ) (t u : Tree)
+      (covered : IsCovered t) (t_in : IsTermIn c.store t) (t_known : IsTrue (known t)) (stands : IsTerm type_sort t)
+      (x : Variance) (seen : r0.ambient ≡ Invariant → x ≡ Invariant) (u_known : IsTrue (known u))
+      (f : InstantiatesBy al (items_of c.meaning) c.store d.store x type_var target t u)
+      (is : u ≡ leaf (variable type_var m)) (no_sides : al ≡ No) (left : IsAlias t) (p : State Key Id Name) (pred : Tree) where
+    abbrev ra : State Key Id Name
+    ra = standing r0 c.meaning c.store L
+
+    abbrev qa : State Key Id Name
+    qa = standing r0 d.meaning d.store K
+
+    abbrev lone : Tree
+    lone = leaf (variable type_var target)
+
+    abbrev the_goal : Goal
+    the_goal = goal_of r0.kept.environment pred
+
+    is_bound : Instantiates c.store d.store x type_var target t u
+    is_bound = steps type_var tt c d grown before numbers all target t u covered t_in t_known stands x seen u_known f
+
+    bound_to_it : Instantiates c.store d.store x type_var target t (leaf (variable type_var m))
+    bound_to_it = subst (Instantiates c.store d.store x type_var target t) is is_bound
+
+    spends : (N : ℕ) → weight c.store t ≤ N → Goes N c.store d.store
+    spends N small =
+        goes type_var tt c d grown before numbers all target t u covered t_in t_known stands x seen u_known f N small
+
+    instantiates : InstantiatesNone c.store → ⊥
+    instantiates = could type_var tt c d grown before numbers all target t u covered t_in t_known stands x seen u_known f
+
+    first_weight : weight c.store t ≤ weight c.store lone + weight c.store t
+    first_weight = omega arith
+
+    second_weight : weight c.store t ≤ weight c.store t + weight c.store lone
+    second_weight = omega arith
+
+    now_in : InContext d.store t
+    now_in = later_context c.store d.store (is_bound.later).grows t (term_context c.store t t_in)
+
+    u_context : InContext d.store u
+    u_context = term_context d.store u is_bound.term_in
+
+    root_sort : sort_of t ≡ type_sort
+    root_sort = term_sort_of type_var t stands
+
+    not_first : IsFirstOrder t → ⊥
+    not_first = alias_not_first t left
+
+    built_then : (k : Kit) → IsBuiltOf k t → BindsBuiltOf k c.store → IsPredicateOf k pred → p.store ≡ d.store →
+        Builds k c.store p.store (the_goal ∷ [])
+    built_then k h binds asks same = builds_noting k [] (the_goal ∷ []) same (builds_instantiated is_bound k binds h)
+        (All-cons (IsGoalOf k) the_goal [] asks (All-nil (IsGoalOf k)))
+
+    module _ {A E : Type 0} {z : A} (h : RegistersGoal {F = E} qa p pred (Ok z)) {X : Type 0} (F : Tree → Type 0) (tree : X → Tree) (a : X) where
+      -- What is asked of that one and the alias was registered.
+      pub left_asks : alias_at r0.ambient u t ≡ Some pred → tree a ≡ lone →
+          Stepped solver_manner F ra p lone t tree (Ok (Done a))
+      unfolding over_passes passes_then goal_passes
+      left_asks e answer = record {
+        passes = passes_then (over_passes r0 grown (spends (weight c.store lone + weight c.store t) first_weight) lawful)
+            (goal_passes pred h (alias_registered (items_of d.meaning) r0.kept.settings r0.ambient d.store d.store u t pred no_sides e
+            (inr left) u_context now_in) 0) (omega arith);
+        verdict = record {
+          outcome = subst (λ st. Outcome (items_of c.meaning) r0.kept.environment (at r0.ambient) c.store st r0.goals (the_goal ∷ [])
+              lone t) (sym h.store) (bound_left (items_of c.meaning) r0.kept.environment x r0.ambient c.store d.store r0.goals
+              target m t (term_context c.store t t_in) stands bound_to_it pred
+              (subst (λ z. alias_at r0.ambient z t ≡ Some pred) is e));
+          answer = subst (MayAnswer solver_manner p r0.ambient lone) (sym answer) (may_itself solver_manner p r0.ambient lone);
+          known = subst (λ z. IsTrue (known z)) (sym answer) refl;
+          agrees = λ o. agree_root r0.kept.settings (items_of c.meaning) r0.ambient type_var target lone t refl root_sort;
+        };
+        exact = λ o same pair. absurd (not_first pair.right);
+        full = λ ha hb. full_could instantiates;
+        built = λ k ha hb binds. built_then k hb binds
+            (alias_built k r0.ambient u t pred e (subst (IsBuiltOf k) (sym is) tt) hb) h.store;
+      }
+
+      pub right_asks : alias_at r0.ambient t u ≡ Some pred → tree a ≡ t →
+          Stepped solver_manner F ra p t lone tree (Ok (Done a))
+      unfolding over_passes passes_then goal_passes
+      right_asks e answer = record {
+        passes = passes_then (over_passes r0 grown (spends (weight c.store t + weight c.store lone) second_weight) lawful)
+            (goal_passes pred h (alias_registered (items_of d.meaning) r0.kept.settings r0.ambient d.store d.store t u pred no_sides e
+            (inl left) now_in u_context) 0) (omega arith);
+        verdict = record {
+          outcome = subst (λ st. Outcome (items_of c.meaning) r0.kept.environment (at r0.ambient) c.store st r0.goals (the_goal ∷ [])
+              t lone) (sym h.store) (bound_right (items_of c.meaning) r0.kept.environment x r0.ambient c.store d.store r0.goals
+              target m t (term_context c.store t t_in) stands bound_to_it pred
+              (subst (λ z. alias_at r0.ambient t z ≡ Some pred) is e));
+          answer = subst (MayAnswer solver_manner p r0.ambient t) (sym answer) (may_itself solver_manner p r0.ambient t);
+          known = subst (λ z. IsTrue (known z)) (sym answer) t_known;
+          agrees = λ o. agree_root_back r0.kept.settings (items_of c.meaning) r0.ambient type_var target t lone refl root_sort;
+        };
+        exact = λ o same pair. absurd (not_first pair.left);
+        full = λ ha hb. full_could instantiates;
+        built = λ k ha hb binds. built_then k ha binds
+            (alias_built k r0.ambient t u pred e ha (subst (IsBuiltOf k) (sym is) tt)) h.store;
+      }
+
+    -- Or it was not, since a growth was refused.
+    module _ {A E : Type 0} {e : E} (h : RegistersGoal {A = A} qa p pred (Err e)) {X : Type 0} (F : Tree → Type 0) (tree : X → Tree) where
+      unasked_built : (k : Kit) → IsBuiltOf k t → BindsBuiltOf k c.store → Builds k c.store p.store []
+      unasked_built k i binds = subst (λ st. Builds k c.store st []) (sym h.store) (builds_instantiated is_bound k binds i)
+
+      pub left_unasked : Stepped solver_manner F ra p lone t tree (Err Memory)
+      unfolding over_passes passes_then no_goal_passes
+      left_unasked = record {
+        passes = passes_then (over_passes r0 grown (spends (weight c.store lone + weight c.store t) first_weight) lawful)
+            (no_goal_passes pred h 0) (omega arith);
+        verdict = tt;
+        exact = λ o same pair. absurd (not_first pair.right);
+        full = λ ha hb. full_could instantiates;
+        built = λ k ha hb binds. unasked_built k hb binds;
+      }
+
+      pub right_unasked : Stepped solver_manner F ra p t lone tree (Err Memory)
+      unfolding over_passes passes_then no_goal_passes
+      right_unasked = record {
+        passes = passes_then (over_passes r0 grown (spends (weight c.store t + weight c.store lone) second_weight) lawful)
+            (no_goal_passes pred h 0) (omega arith);
+        verdict = tt;
+        exact = λ o same pair. absurd (not_first pair.left);
+        full = λ ha hb. full_could instantiates;
+        built = λ k ha hb binds. unasked_built k ha binds;
+      }
+
   -- Nothing was bound.
   module _ {X : Type 0} (F : Tree → Type 0) (c d : Context Key Id Name) (grown : Extends c.meaning d.meaning)
       (decides : r0.ambient ≢ Bivariant) (before : IsSound c.store) (k : VarKind) (counted : IsTypeOrConst k) (target : ℕ) (t : Tree)
       (unresolved : IsMade c.store k target × (entry_of c.store k target ≡ unbound))
       (other : apply (resolved c.store) t ≢ leaf (variable k target)) (means : Meaning Key Id Name → X → Tree)
       (cyclic : X → TypeError Key Id Name) (x : Variance) (tree : X → Tree)
-      (cycles : (o : Obstacle) → RefusesBy c.store d.store k target t o → o ≡ cycle → (y : X) →
+      (cycles : (o : Obstacle) → RefusesBy al c.store d.store k target t o → o ≡ cycle → (y : X) →
       means d.meaning y ≡ apply (resolved c.store) t →
-      BindingError d.meaning d.store (leaf (variable k target)) t (cyclic y)) where
-    refusing : (N : ℕ) (f : RelateFault Key Id Name) → Instantiated c d x k target t means cyclic (Err f) → Goes N c.store d.store
+      BindingError d.meaning al d.store (leaf (variable k target)) t (cyclic y)) where
+    refusing : (N : ℕ) (f : RelateFault Key Id Name) → Instantiated c d al x k target t means cyclic (Err f) → Goes N c.store d.store
     refusing N (Unrelated g) h = goes_within (omega arith)
-        (generalising_refuses c.store d.store x k target t h.1.0 counted h.1.1 before other).1
+        (generalising_refuses al c.store d.store x k target t h.1.0 counted h.1.1 before other).1
     refusing N Budget h = subst (Goes N c.store) (sym h.1) (goes_nowhere N c.store)
     refusing N Memory h = goes_within (omega arith)
         (adds_goes (adds before (before.below_current k target) h.1))
 
-    unfoldable passes : (N : ℕ) (f : RelateFault Key Id Name) → Instantiated c d x k target t means cyclic (Err f) →
+    unfoldable passes : (N : ℕ) (f : RelateFault Key Id Name) → Instantiated c d al x k target t means cyclic (Err f) →
         Passes N (standing r0 c.meaning c.store L) (standing r0 d.meaning d.store K)
     passes N f h = over_passes r0 grown (refusing N f h) lawful
 
-    full : (f : RelateFault Key Id Name) → Instantiated c d x k target t means cyclic (Err f) → StaysFull c.store d.store
+    full : (f : RelateFault Key Id Name) → Instantiated c d al x k target t means cyclic (Err f) → StaysFull c.store d.store
     full (Unrelated g) h = full_could (instantiates_one c.store k target counted unresolved.0 unresolved.1 (h.1.1).may_spend)
     full Budget h = full_same h.1
     full Memory h = full_could (instantiates_one c.store k target counted unresolved.0 unresolved.1 h.0)
 
-    none_built : (a b : Tree) (f : RelateFault Key Id Name) → Instantiated c d x k target t means cyclic (Err f) →
+    none_built : (a b : Tree) (f : RelateFault Key Id Name) → Instantiated c d al x k target t means cyclic (Err f) →
         StaysBuilt c.store d.store [] a b
     none_built a b (Unrelated g) h = built_unbound a b (h.1.1).makes
     none_built a b Budget h = built_same a b h.1
     none_built a b Memory h = built_unbound a b h.1
 
     -- The error is that of the obstacle.
-    binding_error : (g : TypeError Key Id Name) (o : Obstacle) → RefusesBy c.store d.store k target t o →
+    binding_error : (g : TypeError Key Id Name) (o : Obstacle) → RefusesBy al c.store d.store k target t o →
         ObstacleError (means d.meaning) cyclic (apply (resolved c.store) t) g o →
-        BindingError d.meaning d.store (leaf (variable k target)) t g
+        BindingError d.meaning al d.store (leaf (variable k target)) t g
     binding_error g o f h = go o refl h
       where
         go : (p : Obstacle) → o ≡ p → ObstacleError (means d.meaning) cyclic (apply (resolved c.store) t) g p →
-            BindingError d.meaning d.store (leaf (variable k target)) t g
-        go cycle i h = subst (BindingError d.meaning d.store (leaf (variable k target)) t) (sym h.2) (cycles o f i h.0 h.1)
-        go beyond i h = subst (BindingError d.meaning d.store (leaf (variable k target)) t) (sym h)
-            (beyond_error d.meaning c.store d.store target t before k o f i)
+            BindingError d.meaning al d.store (leaf (variable k target)) t g
+        go cycle i h = subst (BindingError d.meaning al d.store (leaf (variable k target)) t) (sym h.2) (cycles o f i h.0 h.1)
+        go beyond i h = subst (BindingError d.meaning al d.store (leaf (variable k target)) t) (sym h)
+            (beyond_error d.meaning al c.store d.store target t before k o f i)
 
-    refuses : (g : TypeError Key Id Name) → Instantiated c d x k target t means cyclic (Err (Unrelated g)) →
+    refuses : (g : TypeError Key Id Name) → Instantiated c d al x k target t means cyclic (Err (Unrelated g)) →
         RefusesToInstantiate c.store d.store Invariant k target t
-    refuses g h = refused c.store d.store Invariant k target t h.1.0 counted h.1.1 before other
+    refuses g h = refused al c.store d.store Invariant k target t h.1.0 counted h.1.1 before other
 
     -- No further variable is bound.
     none_bound : MakesUnbound (universe_of c.store k target) c.store d.store → all_bound d.store ≡ all_bound c.store
@@ -447,7 +597,7 @@ module _ {Key Id Name : Type 0} (r0 : State Key Id Name) (L K : Type 0) (lawful 
     fewer a b h w p = subst (λ st. all_bound st < all_roots c.store) (sym h)
         (bound_fewer c.store k target counted unresolved.0 unresolved.1)
 
-    pub left_refused : (f : RelateFault Key Id Name) → Instantiated c d x k target t means cyclic (Err f) →
+    pub left_refused : (f : RelateFault Key Id Name) → Instantiated c d al x k target t means cyclic (Err f) →
         Stepped solver_manner F (standing r0 c.meaning c.store L) (standing r0 d.meaning d.store K)
         (leaf (variable k target)) t tree (Err f)
     unfolding passes over_passes
@@ -476,7 +626,7 @@ module _ {Key Id Name : Type 0} (r0 : State Key Id Name) (L K : Type 0) (lawful 
       built = none_built (leaf (variable k target)) t Memory h;
     }
 
-    pub right_refused : (f : RelateFault Key Id Name) → Instantiated c d x k target t means cyclic (Err f) →
+    pub right_refused : (f : RelateFault Key Id Name) → Instantiated c d al x k target t means cyclic (Err f) →
         Stepped solver_manner F (standing r0 c.meaning c.store L) (standing r0 d.meaning d.store K)
         t (leaf (variable k target)) tree (Err f)
     unfolding passes over_passes

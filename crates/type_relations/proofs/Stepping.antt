@@ -24,10 +24,10 @@ use Rattle.relation_contexts.specs.Goals.{goal_of, goals_of}
 use Rattle.relation_contexts.specs.Lawful.{State}
 use Rattle.relation_contexts.specs.Stores.{Constraint}
 use Rattle.relation_contexts.proofs.Registered.{goals_stay}
-use Rattle.type_relations.specs.Combining.{seen}
+use Rattle.type_relations.specs.Combining.{RegistersOne, RegistersNone, seen}
 use Rattle.type_relations.specs.Emitting.{AddsAsked}
 use Rattle.type_relations.specs.Solving.{KnowsGoals, solving_through}
-use Rattle.type_relations.specs.Stepping.{LeavesAll, RegistersOne, CombinesTyVars, goal_refused, StepsRegions}
+use Rattle.type_relations.specs.Stepping.{LeavesAll, CombinesTyVars, goal_refused, StepsRegions}
 use Rattle.type_relations.specs.Stepping.{left_outlives, right_outlives, both_outlive}
 
 pub covariant_directed : {v : Variance} → v ≡ Covariant → v ≢ Invariant
@@ -81,7 +81,10 @@ module _ {Key Id Name : Type 0} (aliases : StructurallyRelateAliases) (j : ℕ)
     pub refused_goal : (a b : TyKey Key) (res : Result (Step (TyKey Key)) (RelateFault Key Id Name)) → v ≢ Invariant →
         hs ≡ gs → res ≡ Err Memory → CombinesTyVars before after a b res
     refused_goal a b res directed same is =
-        goal_refused directed stays (ap (goals_of d.meaning) same ∙ goals_stay grown gs env.1) is
+        goal_refused directed (record {
+          store = stays;
+          goals = ap (goals_of d.meaning) same ∙ goals_stay grown gs env.1;
+        }) is
 
   -- Regions were related by what was recorded of them.
   pub regions_step : (a b : RegionKey Key) → v ≢ Bivariant → AddsAsked c d v a b → StepsRegions before after a b (Ok a)

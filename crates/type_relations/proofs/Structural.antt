@@ -1,7 +1,7 @@
 -- Types and constants that are related by their outermost forms and their parts.
 use Rattle.std.proofs.Common.{◌≡◌, ℕ, ◌<◌, refl, sym, ap, ◌∙◌, subst, subst₂, arith, ◌++◌, All, IsTrue, Ok, Err}
 use Rattle.term_enums.specs.declared.Variance.{Variance}
-use Rattle.relation_terms.specs.Heads.{Head, type_sort, const_sort, region_sort, Sort, Admits, head_sort, array, signature, inputs, value, value_type, value_branch}
+use Rattle.relation_terms.specs.Heads.{Head, type_sort, const_sort, region_sort, Sort, Admits, head_sort, AliasKind, alias, array, signature, inputs, value, value_type, value_branch}
 use Rattle.relation_terms.specs.Trees.{Tree, node, known, IsTerm, count, nth, apply, Assign}
 use Rattle.relation_terms.specs.Meaning.{Meaning, Extends, arg_tree}
 use Rattle.relation_terms.specs.declared.terms.keys.ConstKey.{ConstKey}
@@ -19,8 +19,8 @@ use Rattle.relation_contexts.specs.Stores.{Store, Satisfies}
 use Rattle.relation_contexts.specs.Goals.{Holds}
 use Rattle.relation_contexts.specs.Outcomes.{NeverOne}
 use Rattle.relation_contexts.specs.Settings.{Settings}
-use Rattle.relation_contexts.specs.Errors.{ErrorOf, ErrorByForms, as_forms, IsHandedOn, of_parts, of_length}
-use Rattle.relation_contexts.specs.Errors.{AreOfOneForm, over_parts, one_leaf, parameters}
+use Rattle.relation_contexts.specs.Errors.{ErrorOf, ErrorByForms, as_forms, IsHandedOn, of_parts, of_alias_parts, of_length}
+use Rattle.relation_contexts.specs.Errors.{AreOfOneForm, over_parts, over_aliases, one_leaf, parameters}
 use Rattle.relation_contexts.specs.Errors.{AreOfOneConst}
 use Rattle.relation_contexts.specs.Parts.{IsFormed, parts_of, const_parts_of, head_of, const_head_of}
 use Rattle.type_relations.specs.Handing.{IsPassedOn, IsNoLength, IsFaultOfTy, passed, sized, IsFaultOfConst, passed_const, whole}
@@ -33,7 +33,7 @@ use Rattle.relation_contexts.proofs.Building.{built_parts}
 use Rattle.type_relations.proofs.Fronts.{fronted_agree}
 use Rattle.relation_contexts.proofs.AgreeingForms.{form_agrees}
 use Rattle.relation_contexts.proofs.Full.{parts_plain}
-use Rattle.type_relations.proofs.Unifying.{first_order_parts, formed_looked_at, types_unify, answered_as, refused_as}
+use Rattle.type_relations.proofs.Unifying.{first_order_parts, first_order_normal, formed_looked_at, types_unify, answered_as, refused_as}
 use Rattle.relation_contexts.specs.Headline.{IsFirstOrderPair}
 use Rattle.relation_contexts.specs.OneUniverse.{NamesTypesTo}
 use Rattle.relation_contexts.proofs.OneUniverse.{leaves_parts, keeps_binds, binds_as}
@@ -83,6 +83,13 @@ module _ {Key Id Name : Type 0} (n p : Meaning Key Id Name) (e : Extends n p) (s
         (subst (λ h. ErrorOf p set j st (part_at j h i v) (ConstMismatch f) (nth i ts) (nth i us)) is
         (subst₂ (ErrorOf p set j st (part_at j h i v) (ConstMismatch f)) z w t))
 
+    -- The same of two aliases, whatever their kinds.
+    alias_error : (st : Store) (f : TypeError Key Id Name) (k l : AliasKind) (d : ℕ) (ts us : Tree) →
+        a ≡ node (alias k d) ts → b ≡ node (alias l d) us → count ts ≡ count us → i < count ts → x ≡ nth i ts →
+        y ≡ nth i us → ErrorOf p set j st (part_at j (alias k d) i v) f x y → ErrorByForms p set j st v f a b
+    alias_error st f k l d ts us s' t m lt z w u =
+        of_alias_parts i s' t m lt (subst₂ (ErrorOf p set j st (part_at j (alias k d) i v) f) z w u)
+
     pub ty_complains : (st : Store) (f : TypeError Key Id Name) (g : RelateFault Key Id Name) → IsFormed a →
         AreOfOneForm a b → i < count (parts_of a) → x ≡ nth i (parts_of a) → y ≡ nth i (parts_of b) →
         IsFaultOfTy a X Y (Unrelated f) g → ErrorOf p set j st (part_at j (head_of a) i v) f x y →
@@ -91,6 +98,15 @@ module _ {Key Id Name : Type 0} (n p : Meaning Key Id Name) (e : Extends n p) (s
         absurd (let c : count (parts_of a) ≡ 0 = ap (λ z. count (parts_of z)) s' in omega (arith, c, l))
     ty_complains st f g t (parameters s' k m) l z w o h =
         absurd (let c : count (parts_of a) ≡ 0 = ap (λ z. count (parts_of z)) s' in omega (arith, c, l))
+    ty_complains st f g t (over_aliases {k = kd} {l = ld} {d} {ts} {us} s' k m) l z w (passed is o) h = (
+      f,
+      is,
+      alias_error st f kd ld d ts us s' k m (subst (λ z. i < count (parts_of z)) s' l)
+          (z ∙ ap (λ z. nth i (parts_of z)) s') (w ∙ ap (λ z. nth i (parts_of z)) k)
+          (subst (λ z. ErrorOf p set j st (part_at j (head_of z) i v) f x y) s' h),
+    )
+    ty_complains st f g t (over_aliases s' k m) l z w (sized c d o j' k' l' is eq) h =
+        absurd (let e = sym s' ∙ j' in cc)
     ty_complains st f g t (over_parts {h = hd} {ts} {us} s' k m) l z w (passed is o) h = (
       f,
       is,
@@ -174,7 +190,8 @@ module _ {Key Id Name : Type 0} {r q : State Key Id Name} (M : Manners) (v : Var
         ExactlyRelated {X = A} (M q.kept.settings) q.store p.store (part_at (items_in r) (head_of a) i v) (arg_tree q.meaning X)
         (arg_tree q.meaning Y) (Err e) → ExactlyRelated {X = B} (M r.kept.settings) r.store p.store v a b (Err e)
     whole_type A B p e is_formed' g exact is pair =
-        refused_as r.store p.store a b (parts_of a) (parts_of b) (types_unify a b is_formed is_formed' o)
+        refused_as r.store p.store a b (parts_of a) (parts_of b)
+        (types_unify a b is_formed is_formed' (first_order_normal a pair.left) o)
         (λ u. leaves_parts (NamesTypesTo u) a) (λ u. leaves_parts (NamesTypesTo u) b) A B e
         (fronted_fault (head_of a) v i (parts_of a) (parts_of b) (arg_tree q.meaning X) (arg_tree q.meaning Y) f lx ly ex
         ey A A p e are exact is (formed_looked_at a is_formed) (parts_pair r.store a b pair)
@@ -237,6 +254,14 @@ module _ {Key Id Name : Type 0} {r q : State Key Id Name} (M : Manners) (v : Var
       (subst (λ z. Rel (items_in r) w r.kept.environment (parts h 0 v) (apply s (parts_of a)) (apply s (parts_of z))) e
       (subst (λ z. Rel (items_in r) w r.kept.environment (parts (head_of z) 0 v) (apply s (parts_of a)) (apply s (parts_of b))) d
       (whole.relates w s sat all)))))
+  types_relate is_formed (over_aliases {k} {l} {d = j} {ts} {us} d e n) f are ea eb w s sat all =
+      let whole = fronted_all (head_of a) v i (parts_of a) (parts_of b) are ea eb f in
+      subst₂ (λ x y. Rel (items_in r) w r.kept.environment (at v) (apply s x) (apply s y)) (sym d) (sym e)
+      (forms tt refl
+      (subst (λ z. Rel (items_in r) w r.kept.environment (parts (alias k j) 0 v) (apply s (parts_of z)) (apply s us)) d
+      (subst (λ z. Rel (items_in r) w r.kept.environment (parts (alias k j) 0 v) (apply s (parts_of a)) (apply s (parts_of z))) e
+      (subst (λ z. Rel (items_in r) w r.kept.environment (parts (head_of z) 0 v) (apply s (parts_of a)) (apply s (parts_of b))) d
+      (whole.relates w s sat all)))))
   types_relate is_formed (one_leaf d e) f are ea eb w s sat all = same (ap (apply s) (d ∙ sym e))
   types_relate is_formed (parameters d e p) f are ea eb w s sat all =
       subst₂ (λ x y. Rel (items_in r) w r.kept.environment (at v) (apply s x) (apply s y)) (sym d) (sym e) (atoms p)
@@ -257,11 +282,12 @@ module _ {Key Id Name : Type 0} {r q : State Key Id Name} (M : Manners) (v : Var
       };
       answer = subst (MayAnswer M q v a) (sym answer) (may_itself M q v a);
       known = subst (λ u. IsTrue (known u)) (sym answer) k;
-      agrees = λ k. form_agrees (items_in r) v a b o
+      agrees = λ k. form_agrees r.kept.settings (items_in r) v a b o
           (fronted_agree (head_of a) v i (parts_of a) (parts_of b) ea eb f k);
     };
     exact = λ exact is pair.
-        answered_as r.store q.store a b (parts_of a) (parts_of b) (types_unify a b is_formed is_formed' o)
+        answered_as r.store q.store a b (parts_of a) (parts_of b)
+        (types_unify a b is_formed is_formed' (first_order_normal a pair.left) o)
         (λ u. leaves_parts (NamesTypesTo u) a) (λ u. leaves_parts (NamesTypesTo u) b)
         (fronted_exactly (head_of a) v i (parts_of a) (parts_of b) are ea eb f exact is
         (formed_looked_at a is_formed) (parts_pair r.store a b pair));

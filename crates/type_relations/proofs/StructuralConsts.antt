@@ -1,10 +1,10 @@
 -- Constants that are related by their outermost forms and their parts, and terms whose outermost forms differ.
-use Rattle.std.proofs.Common.{◌≡◌, ◌≢◌, ℕ, ◌+◌, ◌<◌, refl, sym, ap, ◌∙◌, subst, subst₂, arith, ◌++◌, All, IsTrue, Ok, Err}
+use Rattle.std.proofs.Common.{◌≡◌, ◌≢◌, ◌⊎◌, ℕ, ◌+◌, ◌<◌, refl, sym, ap, ◌∙◌, subst, subst₂, inl, inr, arith, ◌++◌, All, IsTrue, Ok, Err}
 use Rattle.std.proofs.lemmas.List.Elements.{All-nil}
 use Rattle.term_enums.specs.declared.Variance.{Variance}
 use Rattle.term_enums.specs.declared.Variance.TheVariants.{Bivariant}
-use Rattle.relation_terms.specs.Heads.{type_sort, const_sort, region_sort, Sort, expression, value, value_type, value_branch}
-use Rattle.relation_terms.specs.Trees.{Tree, node, nil, cons, known, IsTerm, count, nth, apply, Assign}
+use Rattle.relation_terms.specs.Heads.{type_sort, const_sort, region_sort, Sort, unevaluated, expression, value, value_type, value_branch, atom}
+use Rattle.relation_terms.specs.Trees.{Tree, leaf, node, nil, cons, known, IsTerm, count, nth, apply, Assign}
 use Rattle.relation_terms.specs.Meaning.{Meaning, arg_tree}
 use Rattle.relation_terms.specs.declared.terms.keys.TyKey.{TyKey}
 use Rattle.relation_terms.specs.declared.terms.keys.ConstKey.{ConstKey}
@@ -16,7 +16,7 @@ use Rattle.relation_folds.specs.declared.error.TypeError.TheVariants.{ConstMisma
 use Rattle.relation_folds.specs.declared.error.RelateFault.{RelateFault}
 use Rattle.relation_folds.specs.declared.error.RelateFault.TheVariants.{Memory, Budget, Unrelated}
 use Rattle.relation_folds.specs.Faults.{KnowsError, KnowsFault}
-use Rattle.relation_contexts.specs.Relation.{Items, Interpretation, at, parts, part_at, Rel, same, atoms, forms, anything, no_parts, next_part, sort_of}
+use Rattle.relation_contexts.specs.Relation.{Items, Interpretation, at, parts, part_at, Rel, same, atoms, forms, anything, error_left, error_right, no_parts, next_part, sort_of, IsError}
 use Rattle.relation_contexts.specs.Stores.{Store, Satisfies, IsTermIn, weight}
 use Rattle.relation_contexts.specs.Goals.{Holds, GoalInContext}
 use Rattle.relation_contexts.specs.Outcomes.{NeverOne, NoUnifier}
@@ -26,7 +26,7 @@ use Rattle.relation_contexts.proofs.OneUniverse.{keeps_itself, keeps_pair, binds
 use Rattle.relation_contexts.specs.Settings.{Settings}
 use Rattle.relation_contexts.specs.Errors.{ErrorOf, ErrorByForms, ErrorAs, Meeting, as_pair, as_forms, of_parts}
 use Rattle.relation_contexts.specs.Errors.{of_branches, of_kinds, of_forms, of_const_forms, FormError, ConstFormError}
-use Rattle.relation_contexts.specs.Errors.{AreOfOneConst, AreOfOneValue, values, expressions, const_parameters, one_value, as_many_branches, one_const_leaf}
+use Rattle.relation_contexts.specs.Errors.{AreOfOneConst, AreOfOneValue, values, expressions, const_parameters, one_value, as_many_branches, over_arguments, one_const_leaf}
 use Rattle.relation_contexts.specs.Parts.{IsFormed, IsFormedConst, const_parts_of, branches_of, const_head_of}
 use Rattle.type_relations.specs.Handing.{IsPassedOnConst, IsFaultOfConst, passed_const, whole}
 use Rattle.relation_contexts.specs.Lawful.{State, Manners, MayAnswer, Passes, Refuses, RefusesAs, Related}
@@ -36,10 +36,11 @@ use Rattle.relation_contexts.proofs.Passing.{passes_within, passes_then, passes_
 use Rattle.type_relations.proofs.Fronts.{Fronted, AreParts, fronted_never, fronted_all, fronted_passes, fronted_fault, fronted_exactly, fronted_full, fronted_built}
 use Rattle.relation_contexts.proofs.Building.{built_itself, built_const_parts}
 use Rattle.type_relations.proofs.Fronts.{fronted_agree}
-use Rattle.relation_contexts.proofs.Agreeing.{agree_same}
+use Rattle.relation_contexts.proofs.Agreeing.{agree_same, agree_flexible}
+use Rattle.relation_contexts.specs.Agreeing.{IsFlexible}
 use Rattle.relation_contexts.proofs.AgreeingForms.{const_agrees}
 use Rattle.relation_contexts.proofs.Full.{full_itself, const_parts_plain}
-use Rattle.type_relations.proofs.Unifying.{first_order_const_parts, const_looked_at, consts_unify, answered_as, refused_as, exact_itself}
+use Rattle.type_relations.proofs.Unifying.{first_order_const_parts, first_order_no_error, const_looked_at, consts_unify, answered_as, refused_as, exact_itself}
 use Rattle.type_relations.proofs.Unifying.{forms_not_unified, const_forms_not_unified, erased_sort}
 use Rattle.type_relations.proofs.Structural.{same_const_fault, consts_never}
 use Rattle.relation_contexts.proofs.OneParts.{const_parts_equal, sort_is}
@@ -85,6 +86,15 @@ module _ {Key Id Name : Type 0} (p : Meaning Key Id Name) (set : Settings) (js :
         (z ∙ ap (λ z. nth i (const_parts_of z)) j) (w ∙ ap (λ z. nth i (const_parts_of z)) k)
         (subst (λ z. ErrorOf p set js st (part_at js (const_head_of z) i at_v) f x y) j h),
   )
+  const_complains st f g (over_arguments {d = item} {ts} {us} j k n) l z w (passed_const is o) h = (
+    f,
+    is,
+    of_parts i j k n (subst (λ z. i < count (const_parts_of z)) j l) tt
+        (subst₂ (ErrorOf p set js st (part_at js (unevaluated item) i at_v) f) (z ∙ ap (λ z. nth i (const_parts_of z)) j) (w ∙ ap (λ z. nth i (const_parts_of z)) k)
+        (subst (λ z. ErrorOf p set js st (part_at js (const_head_of z) i at_v) f x y) j h)),
+  )
+  const_complains st f g (over_arguments j k n) l z w (whole {ts = vs} e o is eq) h =
+      absurd (let y' = sym j ∙ o in cc)
   const_complains st f g (expressions {k = op} {ts} {us} j k n) l z w (passed_const is o) h = (
     f,
     is,
@@ -242,6 +252,14 @@ module _ {Key Id Name : Type 0} {r q : State Key Id Name} (M : Manners) (v : Var
       (ap const_parts_of d) (ap const_parts_of e)
       (subst (λ z. Rel (items_in r) w r.kept.environment (parts (const_head_of z) 0 v) (apply s (const_parts_of a))
       (apply s (const_parts_of b))) d (all_parts.relates w s sat all))))
+  consts_relate (over_arguments {d = j} {ts} {us} d e n) f are ea eb w s sat all =
+      let all_parts = fronted_all (const_head_of a) v i (const_parts_of a) (const_parts_of b) are ea eb f in
+      subst₂ (λ j l. Rel (items_in r) w r.kept.environment (at v) (apply s j) (apply s l)) (sym d) (sym e)
+      (forms tt refl
+      (subst₂ (λ x y. Rel (items_in r) w r.kept.environment (parts (unevaluated j) 0 v) (apply s x) (apply s y))
+      (ap const_parts_of d) (ap const_parts_of e)
+      (subst (λ z. Rel (items_in r) w r.kept.environment (parts (const_head_of z) 0 v) (apply s (const_parts_of a))
+      (apply s (const_parts_of b))) d (all_parts.relates w s sat all))))
   consts_relate (one_const_leaf d e) f are ea eb w s sat all = same (ap (apply s) (d ∙ sym e))
   consts_relate (const_parameters d e p) f are ea eb w s sat all =
       subst₂ (λ j l. Rel (items_in r) w r.kept.environment (at v) (apply s j) (apply s l)) (sym d) (sym e) (atoms p)
@@ -262,7 +280,7 @@ module _ {Key Id Name : Type 0} {r q : State Key Id Name} (M : Manners) (v : Var
       };
       answer = subst (MayAnswer M q v a) (sym answer) (may_itself M q v a);
       known = subst (λ u. IsTrue (known u)) (sym answer) k;
-      agrees = λ k. const_agrees (items_in r) v a b o
+      agrees = λ k. const_agrees r.kept.settings (items_in r) v a b o
           (fronted_agree (const_head_of a) v i (const_parts_of a) (const_parts_of b) ea eb f k);
     };
     exact = λ exact is pair.
@@ -273,6 +291,22 @@ module _ {Key Id Name : Type 0} {r q : State Key Id Name} (M : Manners) (v : Var
     full = λ ha hb. f.full (const_parts_plain a ha) (const_parts_plain b hb);
     built = λ k ha hb. f.built k (built_const_parts k a ha) (built_const_parts k b hb);
   }
+
+-- Terms of one of the three sorts of arguments are of one sort.
+one_top : (k x y : Sort) → AtTop k k → AtTop k x → AtTop k y → x ≡ y
+one_top region_sort x y t e d = e ∙ sym d
+one_top type_sort x y t e d = e ∙ sym d
+one_top const_sort x y t e d = e ∙ sym d
+one_top k x y t e d = absurd t
+
+-- No assignment changes an error, which agrees with all of its sort.
+error_stays : (s : Assign) (t : Tree) → IsError t → IsError (apply s t)
+error_stays s (leaf (atom x)) h = h
+error_stays s t h = absurd h
+
+error_flexible : (t : Tree) → IsError t → IsFlexible t
+error_flexible (leaf (atom x)) h = inl h
+error_flexible t h = absurd h
 
 module _ {Key Id Name : Type 0} {X : Type 0} (M : Manners) (r : State Key Id Name) (v : Variance) (tree : X → Tree) where
   -- One term is related with itself.
@@ -290,13 +324,67 @@ module _ {Key Id Name : Type 0} {X : Type 0} (M : Manners) (r : State Key Id Nam
       };
       answer = subst (MayAnswer M r v a) (sym answer) (may_itself M r v a);
       known = subst (λ u. IsTrue (known u)) (sym answer) k;
-      agrees = λ k. agree_same (items_in r) v a b e;
+      agrees = λ k. agree_same r.kept.settings (items_in r) v a b e;
     };
     exact = λ exact is pair.
         (pair.bindings, exact_itself r.store a b e, keeps_pair r.store r.store a b (keeps_itself r.store));
     full = λ ha hb. full_itself r.store;
     built = built_itself r.store a b;
   }
+
+  -- An error with a term of its sort: nothing happens, and the error is the answer.
+  module _ (k : Sort) (a b : Tree) (x : X) (top : AtTop k k) (ia : IsTermIn r.store a) (ib : IsTermIn r.store b)
+      (ta : IsTerm k a) (tb : IsTerm k b) where
+    one_sort : sort_of a ≡ sort_of b
+    one_sort = one_top k (sort_of a) (sort_of b) top (at_top k (sort_of a) top (sort_is k a ta))
+        (at_top k (sort_of b) top (sort_is k b tb))
+
+    one_value_sort : (w : Interpretation) (s : Assign) → Satisfies w r.store s →
+        sort_of (apply s a) ≡ sort_of (apply s b)
+    unfolding IsTermIn
+    one_value_sort w s sat = one_top k (sort_of (apply s a)) (sort_of (apply s b)) top
+        (value_top r.store s k a top sat.assigns ia.0 ta) (value_top r.store s k b top sat.assigns ib.0 tb)
+
+    -- The error, and what it is related with.
+    with_error : (IsError a ⊎ IsError b) → (u : Tree) → tree x ≡ u → IsTrue (known u) → MayAnswer M r v a u →
+        ((w : Interpretation) (s : Assign) → Satisfies w r.store s →
+        Rel (items_in r) w r.kept.environment (at v) (apply s a) (apply s b)) →
+        RelatedForms M r r v a b tree (Ok x)
+    unfolding passes_nowhere
+    with_error is u answer known_u may related = record {
+      passes = passes_nowhere (weight r.store a + weight r.store b) r;
+      verdict = record {
+        outcome = record {
+          later = ((passes_nowhere 0 r).goes).later;
+          goals_in = All-nil (GoalInContext r.store);
+          relates = λ w s sat all. related w s sat;
+          keeps = λ w s sat one. (s, (λ k n h. refl), (sat, λ k d h. absurd (omega (arith, h))));
+        };
+        answer = subst (MayAnswer M r v a) (sym answer) may;
+        known = subst (λ t. IsTrue (known t)) (sym answer) known_u;
+        agrees = λ k. agree_flexible r.kept.settings (items_in r) v a b (either is, one_sort);
+      };
+      exact = λ exact is' pair. absurd (not_first is pair);
+      full = λ ha hb. full_itself r.store;
+      built = built_itself r.store a b;
+    }
+      where
+        either : IsError a ⊎ IsError b → IsFlexible a ⊎ IsFlexible b
+        either (inl e) = inl (error_flexible a e)
+        either (inr e) = inr (error_flexible b e)
+
+        not_first : IsError a ⊎ IsError b → IsFirstOrderPair r.store a b → ⊥
+        not_first (inl e) pair = first_order_no_error a pair.left e
+        not_first (inr e) pair = first_order_no_error b pair.right e
+
+    pub left_error : tree x ≡ a → IsTrue (known a) → IsError a → RelatedForms M r r v a b tree (Ok x)
+    left_error answer known_a e = with_error (inl e) a answer known_a (may_itself M r v a)
+        (λ w s sat. error_left (error_stays s a e) (one_value_sort w s sat))
+
+    pub right_error : tree x ≡ b → IsTrue (known b) → IsError b → RelatedForms M r r v a b tree (Ok x)
+    right_error answer known_b e = with_error (inr e) b answer known_b
+        (record { related = λ w s sat all. error_right (error_stays s b e) (one_value_sort w s sat) })
+        (λ w s sat. error_right (error_stays s b e) (one_value_sort w s sat))
 
   -- Two terms are refused at once.
   pub refused_here : {w : Meeting} (a b : Tree) (e : TypeError Key Id Name) → NeverOne (at v) r.store a b →

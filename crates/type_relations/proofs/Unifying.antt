@@ -2,11 +2,11 @@
 use Rattle.std.proofs.Common.{◌≡◌, ◌≢◌, ◌↔◌, ℕ, suc, refl, sym, ap, ◌∙◌, subst, subst₂, Err}
 use Rattle.relation_terms.specs.Heads.{type_sort, const_sort, value_sort, head_sort, atom_sort, leaf_sort, Atom, Head, Kind}
 use Rattle.relation_terms.specs.Heads.{bound_kind, region_kind, variable, bound, placeholder, atom, unknown, kind_sort}
-use Rattle.relation_terms.specs.Heads.{region_sort, early_region, type_param, const_param, ref, raw_ptr}
+use Rattle.relation_terms.specs.Heads.{type_error, const_error, region_sort, early_region, type_param, const_param, ref, raw_ptr}
 use Rattle.relation_terms.specs.Meaning.{Meaning}
 use Rattle.relation_terms.specs.declared.terms.keys.TyKey.{TyKey}
 use Rattle.relation_folds.specs.declared.error.TypeError.{TypeError}
-use Rattle.relation_contexts.specs.Errors.{AreAlikeLeaves, FormError, mutability, pointer_mutability, tuple_size, empty_tuple, as_many, sorts}
+use Rattle.relation_contexts.specs.Errors.{AreAlikeLeaves, FormError, mutability, pointer_mutability, tuple_size, empty_tuple, as_many, alias_arguments, sorts}
 use Rattle.type_relations.proofs.Comparing.{list_of, parts_list, value_shape, no_value_variable, ConstsAlike, of_forms_alike}
 use Rattle.relation_contexts.specs.Errors.{ConstFormError, const_mismatch, operations}
 use Rattle.relation_terms.specs.declared.terms.keys.ConstKey.{ConstKey}
@@ -14,10 +14,10 @@ use Rattle.relation_terms.specs.Heads.{Admits, region_var}
 use Rattle.relation_terms.specs.Heads.{unevaluated, expression, value, value_type, value_branch, Leaf, tuple, alias}
 use Rattle.relation_terms.specs.Trees.{Tree, leaf, node, bind, nil, cons, Assign, apply, count, IsList, IsTerm, Leaves}
 use Rattle.relation_terms.specs.Erasure.{erase, erase_atom, erase_kinded}
-use Rattle.relation_contexts.specs.Relation.{plain_atom, sort_of}
+use Rattle.relation_contexts.specs.Relation.{plain_atom, sort_of, IsAlias, IsError}
 use Rattle.relation_contexts.specs.FirstOrder.{IsFirstOrder, IsFirstOrderStore, Unifies}
-use Rattle.relation_contexts.specs.Errors.{AreAlike, outer_head, unlike_aliases, AreOfOneForm, over_parts, one_leaf, parameters}
-use Rattle.relation_contexts.specs.Errors.{AreOfOneConst, values, expressions, const_parameters, one_const_leaf}
+use Rattle.relation_contexts.specs.Errors.{AreAlike, outer_head, unlike_aliases, AreOfOneForm, over_parts, over_aliases, one_leaf, parameters}
+use Rattle.relation_contexts.specs.Errors.{AreOfOneConst, values, expressions, over_arguments, const_parameters, one_const_leaf}
 use Rattle.relation_contexts.specs.Errors.{AreOfOneValue, one_value, as_many_branches}
 use Rattle.relation_contexts.specs.Stores.{Store}
 use Rattle.relation_contexts.specs.Outcomes.{Exact, NoUnifier}
@@ -48,6 +48,18 @@ first_order_const_parts (node (unevaluated d) ts) f = f.3
 first_order_const_parts (node (expression k) ts) f = f.3
 first_order_const_parts (node value (cons t (cons v nil))) f = first_order_branches v f.3.1.0
 first_order_const_parts c f = tt
+
+-- They are neither aliases nor errors.
+pub first_order_normal : (t : Tree) → IsFirstOrder t → IsAlias t → ⊥
+first_order_normal (node (alias k d) ts) f a = f.0
+first_order_normal (node (unevaluated d) ts) f a = f.0
+first_order_normal t f a = a
+
+pub first_order_no_error : (t : Tree) → IsFirstOrder t → IsError t → ⊥
+first_order_no_error (leaf (atom type_error)) f e = f
+first_order_no_error (leaf (atom const_error)) f e = f
+first_order_no_error (leaf (atom x)) f e = e
+first_order_no_error t f e = e
 
 -- The forms that are related by their parts are looked at.
 looked_at : (h : Head) → head_sort h ≡ type_sort → IsLookedAt h
@@ -200,6 +212,22 @@ alike_consts_unified s (leaf x) (leaf y) f g p q e = unified_leaves s x y (forme
 alike_consts_unified s (leaf x) (node h us) f g p q e = absurd (no_form s x h us (formed_const_leaf x f) e)
 alike_consts_unified s (node h ts) (leaf y) f g p q e = absurd (no_form s y h ts (formed_const_leaf y g) (sym e))
 alike_consts_unified s (node (expression k) ts) (node (expression l) us) f g p q e = tt
+alike_consts_unified s (node (unevaluated d) ts) (node (unevaluated i) us) f g p q e =
+    let z : unevaluated d ≡ unevaluated i = one_head s (unevaluated d) (unevaluated i) ts us e in
+    let same : d ≡ i = cc in
+    let right : node (unevaluated i) us ≡ node (unevaluated d) us = ap (λ z. node z us) (sym z) in (
+      same,
+      unified_counts s (unevaluated d) ts us (node (unevaluated d) ts) (node (unevaluated i) us) (λ q. absurd (cc)) refl
+          right (parts_list (unevaluated d) ts p.1) (parts_list (unevaluated i) us q.1) e,
+    )
+alike_consts_unified s (node (unevaluated d) ts) (node (expression l) us) f g p q e =
+    absurd (let z = one_head s (unevaluated d) (expression l) ts us e in cc)
+alike_consts_unified s (node (unevaluated d) ts) (node value us) f g p q e =
+    absurd (let z = one_head s (unevaluated d) value ts us e in cc)
+alike_consts_unified s (node (expression k) ts) (node (unevaluated d) us) f g p q e =
+    absurd (let z = one_head s (expression k) (unevaluated d) ts us e in cc)
+alike_consts_unified s (node value ts) (node (unevaluated d) us) f g p q e =
+    absurd (let z = one_head s value (unevaluated d) ts us e in cc)
 alike_consts_unified s (node (expression k) ts) (node value us) f g p q e =
     absurd (let z = one_head s (expression k) value ts us e in cc)
 alike_consts_unified s (node value ts) (node (expression l) us) f g p q e =
@@ -217,6 +245,7 @@ alike_consts_unified s (cons t u) b f g p q e = absurd f
 alike_consts_unified s a (bind ks t) f g p q e = absurd g
 alike_consts_unified s a nil f g p q e = absurd g
 alike_consts_unified s a (cons t u) f g p q e = absurd g
+alike_consts_unified s (node (unevaluated d) ts) (node h us) f g p q e = absurd g
 alike_consts_unified s (node (expression k) ts) (node h us) f g p q e = absurd g
 alike_consts_unified s (node value ts) (node h us) f g p q e = absurd g
 alike_consts_unified s (node h ts) b f g p q e = absurd f
@@ -262,6 +291,11 @@ module _ {Key Id Name : Type 0} (m : Meaning Key Id Name) where
   forms_not_unified s x y e f g k l (as_many {h} {ts} {us} p q o differ) z =
       differ (unified_counts s h ts us (m.ty x) (m.ty y) (no_value_type h (subst IsFormed p f)) p q
       (list_of h type_sort ts (m.ty x) p k) (list_of h type_sort us (m.ty y) q l) z)
+  forms_not_unified s x y e f g k l (alias_arguments {k = i} {l = j} {d} {ts} {us} p q differ) z =
+      differ (let h = one_head s (alias i d) (alias j d) ts us (subst₂ (Unifies s) p q z) in
+      unified_counts s (alias i d) ts us (m.ty x) (m.ty y) (λ h. absurd (cc)) p
+      (q ∙ ap (λ z. node z us) (sym h)) (list_of (alias i d) type_sort ts (m.ty x) p k)
+      (list_of (alias j d) type_sort us (m.ty y) q l) z)
   forms_not_unified s x y e f g k l (unlike_aliases {k = i} {l = j} {ts} {us} c d p q differ) z =
       differ (let h = one_head s (alias i (m.id c)) (alias j (m.id d)) ts us (subst₂ (Unifies s) p q z) in cc)
   forms_not_unified s x y e f g k l (sorts n o) z = o (alike_unified s (m.ty x) (m.ty y) f g z)
@@ -276,19 +310,20 @@ module _ {Key Id Name : Type 0} (m : Meaning Key Id Name) where
   const_forms_not_unified s x y e f g k l h (operations {k = op} {ts = ts} p q d) z =
       absurd (let n : IsFirstOrder (node (expression op) ts) = subst IsFirstOrder p h in n.0)
 
--- Two types of one form are unified just where their parts are.
+-- Two types of one form that are no aliases are unified just where their parts are.
 pub erased_parameters : (x y : Atom) → (atom_sort x ≡ region_sort → ⊥) → (atom_sort y ≡ region_sort → ⊥) →
     plain_atom x ≡ plain_atom y → erase_atom x ≡ erase_atom y
 erased_parameters x y o l e = erased_plain x o ∙ e ∙ sym (erased_plain y l)
 
-pub types_unify : (a b : Tree) → IsFormed a → IsFormed b → AreOfOneForm a b → (s : Assign) → Unifies s a b ↔
-    Unifies s (parts_of a) (parts_of b)
-types_unify a b f g (over_parts {h} {ts} {us} d e n) s = subst₂
+pub types_unify : (a b : Tree) → IsFormed a → IsFormed b → (IsAlias a → ⊥) → AreOfOneForm a b → (s : Assign) →
+    Unifies s a b ↔ Unifies s (parts_of a) (parts_of b)
+types_unify a b f g o (over_aliases d e n) s = absurd (o (subst IsAlias (sym d) tt))
+types_unify a b f g o (over_parts {h} {ts} {us} d e n) s = subst₂
     (λ x y. Unifies s x y ↔ Unifies s (parts_of x) (parts_of y)) (sym d) (sym e)
     (forms_unify_by_parts s h ts us (no_value_type h (subst IsFormed d f)))
-types_unify a b f g (one_leaf {l} d e) s = subst₂ (λ x y. Unifies s x y ↔ Unifies s (parts_of x) (parts_of y))
+types_unify a b f g o (one_leaf {l} d e) s = subst₂ (λ x y. Unifies s x y ↔ Unifies s (parts_of x) (parts_of y))
     (sym d) (sym e) ((λ z. refl), (λ z. refl))
-types_unify a b f g (parameters {x} {y} d e p) s =
+types_unify a b f g o (parameters {x} {y} d e p) s =
     let i = formed_leaf (atom x) (subst IsFormed d f) in
     let j = formed_leaf (atom y) (subst IsFormed e g) in
     subst₂ (λ x y. Unifies s x y ↔ Unifies s (parts_of x) (parts_of y)) (sym d) (sym e)
@@ -319,6 +354,9 @@ consts_unify a b f g (values {t} {u} {v} {w} d e o) s =
 consts_unify a b f g (expressions {k} {ts} {us} d e n) s = subst₂
     (λ x y. Unifies s x y ↔ Unifies s (const_parts_of x) (const_parts_of y)) (sym d) (sym e)
     (forms_unify_by_parts s (expression k) ts us (λ q. absurd (cc)))
+consts_unify a b f g (over_arguments {d = i} {ts} {us} d e n) s = subst₂
+    (λ x y. Unifies s x y ↔ Unifies s (const_parts_of x) (const_parts_of y)) (sym d) (sym e)
+    (forms_unify_by_parts s (unevaluated i) ts us (λ q. absurd (cc)))
 consts_unify a b f g (one_const_leaf d e) s =
     ((λ z. ap (λ x. erase (apply s (const_parts_of x))) (d ∙ sym e)), λ z. ap (λ x. erase (apply s x)) (d ∙ sym e))
 consts_unify a b f g (const_parameters {x} {y} d e p) s =

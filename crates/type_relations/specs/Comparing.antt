@@ -1,12 +1,13 @@
 -- What comparing two terms says, by their keys.
-use Rattle.std.specs.Prelude.{ℕ}
+use Rattle.std.specs.Prelude.{◌≡◌, ℕ}
+use Rattle.relation_terms.specs.declared.terms.alias.UnevaluatedConst.{UnevaluatedConst}
 use Rattle.relation_terms.specs.declared.predicate.existential.ExistentialPredicate.{ExistentialPredicate}
 use Rattle.relation_terms.specs.declared.terms.fn_sig.FnSig.{FnSig}
 use Rattle.relation_terms.specs.declared.terms.keys.ConstKey.{ConstKey}
 use Rattle.relation_terms.specs.declared.terms.keys.ExistentialPredicatesKey.{ExistentialPredicatesKey}
 use Rattle.relation_terms.specs.declared.terms.part_kind.Part.{Part}
 use Rattle.relation_terms.specs.Heads.{object}
-use Rattle.relation_terms.specs.Trees.{Tree, node, nth}
+use Rattle.relation_terms.specs.Trees.{Tree, node, count, nth}
 use Rattle.relation_terms.specs.Meaning.{Meaning, existential_tree, signature_tree}
 use Rattle.relation_terms.specs.Parts.{part_tree}
 use Rattle.relation_folds.specs.declared.error.TypeError.{TypeError}
@@ -17,6 +18,10 @@ module _ {Key Id Name : Type 0} where
   -- Two that have trees are of one form, with as many parts.
   abbrev pub AreOfOneFormBy : {A : Type 0} → (Meaning Key Id Name → A → Tree) → Meaning Key Id Name → A → A → Type 0
   AreOfOneFormBy tree m a b = AreOfOneForm (tree m a) (tree m b)
+
+  -- Two unevaluated constants are of one item, with as many arguments.
+  abbrev pub AreOfOneItem : Meaning Key Id Name → UnevaluatedConst Key Id → UnevaluatedConst Key Id → Type 0
+  AreOfOneItem m a b = (m.id (a.def).0 ≡ m.id (b.def).0) × (count (m.args a.args) ≡ count (m.args b.args))
 
   -- The predicates of a trait object, as a list, and as the form over them.
   abbrev pub object_members : Meaning Key Id Name → ExistentialPredicatesKey Key → Tree

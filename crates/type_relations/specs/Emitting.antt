@@ -1,14 +1,18 @@
 -- What contracts see of a relation that registers goals, over a context.
-use Rattle.std.specs.Prelude.{◌≡◌, Bool, List, ◌++◌, map, IsTrue, IfSome, IfOk, Result, Ok, Err}
+use Rattle.std.specs.Prelude.{◌≡◌, Bool, List, [], ◌∷◌, ◌++◌, Some, map, IsTrue, IfSome, IfOk, Result, Ok, Err}
 use Rattle.term_enums.specs.declared.Variance.{Variance}
 use Rattle.relation_terms.specs.declared.terms.keys.PredicateKey.{PredicateKey}
 use Rattle.relation_terms.specs.declared.terms.keys.RegionKey.{RegionKey}
 use Rattle.relation_terms.specs.declared.terms.keys.TyKey.{TyKey}
-use Rattle.relation_terms.specs.Meaning.{Meaning}
-use Rattle.relation_terms.specs.Trees.{known}
+use Rattle.term_enums.specs.declared.AliasRelationDirection.{AliasRelationDirection}
+use Rattle.relation_terms.specs.declared.terms.generic_arg.TermKind.{TermKind}
+use Rattle.relation_terms.specs.Meaning.{Meaning, Extends, term_tree}
+use Rattle.relation_terms.specs.Trees.{Tree, known}
 use Rattle.relation_contexts.specs.Contexts.{Context}
 use Rattle.relation_contexts.specs.Constraints.{constraint_at, constraint_of}
+use Rattle.relation_contexts.specs.AliasGoals.{alias_at}
 use Rattle.relation_contexts.specs.Goals.{Goal, goal_of, subtype_predicate, well_formed_predicate}
+use Rattle.relation_contexts.specs.Goals.{alias_relate_predicate, ambiguous_predicate}
 use Rattle.relation_contexts.specs.Lawful.{State}
 use Rattle.relation_contexts.specs.Settings.{in_coherence}
 use Rattle.relation_contexts.specs.Steps.{AddsConstraint}
@@ -59,6 +63,23 @@ module _ {Key Id Name : Type 0} where
     pub remembered : q.remembered ≡ r.remembered
     pub lawful : r.lawful → q.lawful
 
+  -- A predicate was registered in the relation's environment, behind the goals that there were; or it was not, where a
+  -- growth was refused. Nothing was recorded, but keys may have been made.
+  pub record RegistersGoal {A F : Type 0} (r q : State Key Id Name) (predicate : Tree) (result : Result A F) : Type 0 where
+    pub extends : Extends r.meaning q.meaning
+    pub store : q.store ≡ r.store
+    pub goals : q.goals ≡ with_goals r.goals (goal_of r.kept.environment predicate ∷ []) result
+    pub kept : q.kept ≡ r.kept
+    pub ambient : q.ambient ≡ r.ambient
+    pub remembered : q.remembered ≡ r.remembered
+    pub lawful : r.lawful → q.lawful
+
+  -- So was what is asked of two types, one an alias, at the ambient variance.
+  abbrev pub RegistersAlias : {A F : Type 0} → State Key Id Name → State Key Id Name → TyKey Key → TyKey Key →
+      Result A F → Type 0
+  RegistersAlias r q a b result =
+      IfSome (alias_at r.ambient ((r.meaning).ty a) ((r.meaning).ty b)) (λ p. RegistersGoal r q p result)
+
 -- Between what a context is before a call and after it.
 module _ {Key Id Name : Type 0} (c d : Context Key Id Name) where
   -- What two regions that are related at a variance are asked for was recorded.
@@ -69,6 +90,20 @@ module _ {Key Id Name : Type 0} (c d : Context Key Id Name) where
   abbrev pub MakesSubtype : {E : Type 0} → Bool → TyKey Key → TyKey Key → Result (PredicateKey Key) E → Type 0
   MakesSubtype a_is_expected a b result = IfOk result (λ p.
       (d.meaning).predicate p ≡ subtype_predicate a_is_expected ((c.meaning).ty a) ((c.meaning).ty b))
+
+  -- That of two terms, one an alias, both are one or in order, was made; what is asked of two types at a variance; or that
+  -- too much was met; or none was.
+  abbrev pub MakesAliasRelate : {E : Type 0} → TermKind Key → TermKind Key → AliasRelationDirection →
+      Result (PredicateKey Key) E → Type 0
+  MakesAliasRelate a b direction result = IfOk result (λ p. (d.meaning).predicate p ≡
+      alias_relate_predicate direction (term_tree c.meaning a) (term_tree c.meaning b))
+
+  abbrev pub MakesAliasAt : {E : Type 0} → Variance → TyKey Key → TyKey Key → Result (PredicateKey Key) E → Type 0
+  MakesAliasAt v a b result = IfOk result (λ p.
+      alias_at v ((c.meaning).ty a) ((c.meaning).ty b) ≡ Some ((d.meaning).predicate p))
+
+  abbrev pub MakesAmbiguous : {E : Type 0} → Result (PredicateKey Key) E → Type 0
+  MakesAmbiguous result = IfOk result (λ p. (d.meaning).predicate p ≡ ambiguous_predicate)
 
   abbrev pub MakesWellFormed : {E : Type 0} → TyKey Key → Result (PredicateKey Key) E → Type 0
   MakesWellFormed t result =

@@ -1,5 +1,5 @@
 -- What is compared of types besides their parts.
-use Rattle.std.specs.Prelude.{ℕ, Some, None}
+use Rattle.std.specs.Prelude.{◌≡◌, ℕ, Some, None}
 use Rattle.term_enums.specs.declared.Mutability.{Mutability}
 use Rattle.term_enums.specs.declared.Mutability.TheVariants.{Not}
 use Rattle.relation_terms.specs.Heads.{Head, adt, fn_def, closure, coroutine_closure, coroutine, coroutine_witness}
@@ -7,6 +7,8 @@ use Rattle.relation_terms.specs.Heads.{array, slice, pattern_type, tuple, unsafe
 use Rattle.relation_terms.specs.Heads.{alias}
 use Rattle.relation_terms.specs.Trees.{Tree, node}
 use Rattle.relation_folds.specs.Outlines.{named}
+use Rattle.relation_folds.specs.declared.error.TypeError.{TypeError}
+use Rattle.relation_folds.specs.declared.error.TypeError.TheVariants.{ProjectionMismatched}
 use Rattle.type_relations.specs.declared.relate.forms.Outline.{Outline}
 use Rattle.type_relations.specs.declared.relate.forms.Form.{Form}
 use Rattle.type_relations.specs.declared.relate.forms.Form.TheVariants.{Leaf, Adt, FnDef, Closure, CoroutineClosure}
@@ -45,13 +47,18 @@ head_outline dynamic = plain Dynamic
 head_outline fn_ptr = plain FnPtr
 head_outline (raw_ptr u) = of_pointer RawPtr u
 head_outline (ref u) = of_pointer Ref u
-head_outline (alias k d) = plain Alias
+head_outline (alias k d) = of_item Alias d
 head_outline h = plain Leaf
 
 -- The outline of a type.
 abbrev pub tree_outline : Tree → Outline ℕ
 tree_outline (node h ts) = head_outline h
 tree_outline t = plain Leaf
+
+-- The error of two aliases of unlike items names both.
+abbrev pub NamesItems : {Key Id Name : Type 0} → Outline Id → Outline Id → TypeError Key Id Name → Type 0
+NamesItems {Key} {Id} o p e = (i j : Id) → o.form ≡ Alias → o.item ≡ Some i → p.item ≡ Some j →
+    e ≡ ProjectionMismatched (record { expected = i; found = j })
 
 -- A form of which all types have as many parts.
 abbrev pub IsFixed : Form → Type 0

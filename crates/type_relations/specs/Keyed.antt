@@ -22,8 +22,8 @@ use Rattle.relation_contexts.specs.Constraints.{constraint_at, asked_constraints
 use Rattle.relation_contexts.specs.Lawful.{State, Manners, Asked, Related, RelatedForms, Shown, Stepped, Noted, items_in}
 use Rattle.relation_contexts.specs.Making.{Made, over, const_over}
 use Rattle.relation_contexts.specs.Parts.{IsFormed, IsFormedConst, head_of, const_head_of}
-use Rattle.relation_contexts.specs.Relation.{part_at}
-use Rattle.type_relations.specs.Subtyping.{RegistersSubtype, StepRegistersSubtype}
+use Rattle.relation_contexts.specs.Relation.{part_at, alias_variance}
+use Rattle.type_relations.specs.Alone.{RelatesAlone, StepsAlone}
 
 module _ {Key Id Name : Type 0} where
   -- The variances that an item declares of its parameters.
@@ -41,6 +41,10 @@ module _ {Key Id Name : Type 0} where
   -- The variance that an item declares of its parameter at a place.
   abbrev pub declared_in : State Key Id Name → DefId Id → ℕ → Variance
   declared_in r d i = (items_in r).declared ((r.meaning).id d.0) i
+
+  -- The variance of an alias type's argument at a place.
+  abbrev pub alias_in : State Key Id Name → DefId Id → ℕ → Variance
+  alias_in r d i = alias_variance ((items_in r).of_alias ((r.meaning).id d.0)) i
 
   -- The ambient variance is one at which something is asked.
   abbrev pub Decides : State Key Id Name → Type 0
@@ -164,20 +168,20 @@ module _ {Key Id Name : Type 0} where
 
   -- Two types that are unresolved type variables were related, or a step of them taken, by registering one goal alone,
   -- where the relation promises it. The same of two arguments.
-  abbrev pub TysRegisterSubtype : Manners → State Key Id Name → State Key Id Name → TyKey Key → TyKey Key →
+  abbrev pub TysRelateAlone : Manners → State Key Id Name → State Key Id Name → TyKey Key → TyKey Key →
       Result (TyKey Key) (RelateFault Key Id Name) → Type 0
-  TysRegisterSubtype M r q a b result =
-      RegistersSubtype M r q r.ambient ((r.meaning).ty a) ((r.meaning).ty b) result
+  TysRelateAlone M r q a b result =
+      RelatesAlone M r q r.ambient ((r.meaning).ty a) ((r.meaning).ty b) result
 
-  abbrev pub ArgsRegisterSubtype : Manners → State Key Id Name → State Key Id Name → GenericArgKind Key →
+  abbrev pub ArgsRelateAlone : Manners → State Key Id Name → State Key Id Name → GenericArgKind Key →
       GenericArgKind Key → Result (GenericArgKind Key) (RelateFault Key Id Name) → Type 0
-  ArgsRegisterSubtype M r q a b result =
-      RegistersSubtype M r q r.ambient (arg_tree r.meaning a) (arg_tree r.meaning b) result
+  ArgsRelateAlone M r q a b result =
+      RelatesAlone M r q r.ambient (arg_tree r.meaning a) (arg_tree r.meaning b) result
 
-  abbrev pub TysStepToSubtype : Manners → State Key Id Name → State Key Id Name → TyKey Key → TyKey Key →
+  abbrev pub TysStepAlone : Manners → State Key Id Name → State Key Id Name → TyKey Key → TyKey Key →
       Result (Step (TyKey Key)) (RelateFault Key Id Name) → Type 0
-  TysStepToSubtype M r q a b result =
-      StepRegistersSubtype M r q (q.meaning).ty ((r.meaning).ty a) ((r.meaning).ty b) result
+  TysStepAlone M r q a b result =
+      StepsAlone M r q (q.meaning).ty ((r.meaning).ty a) ((r.meaning).ty b) result
 
   -- Two types were related: all is known of them that is known of such.
   abbrev pub ShownTys : Manners → State Key Id Name → TyKey Key → TyKey Key → Type 0

@@ -3,7 +3,7 @@ pub mod SmallTerms
 pub mod DiagInfo
 pub mod Handing
 pub mod UniverseLaws
-pub mod Subtyping
+pub mod Alone
 pub mod Arguments
 pub mod Terms
 pub mod Keyed
@@ -16,6 +16,7 @@ pub mod NumberVars
 pub mod Solving
 pub mod Bivariance
 pub mod Emitting
+pub mod Leaving
 pub mod Combining
 pub mod Stepping
 pub mod SolverTerms

@@ -27,10 +27,10 @@ use Rattle.relation_contexts.specs.Agreeing.{Agree}
 use Rattle.relation_contexts.specs.Covered.{IsCovered}
 use Rattle.relation_contexts.specs.Lawful.{items_of}
 use Rattle.type_relations.specs.Arguments.{related_tree}
-use Rattle.relation_contexts.specs.Contexts.{Context, DoesNothing}
-use Rattle.relation_contexts.specs.declared.relate.StructurallyRelateAliases.TheVariants.{No}
+use Rattle.relation_contexts.specs.Contexts.{Context, DoesNothing, RegistersGoals}
+use Rattle.relation_contexts.specs.declared.relate.StructurallyRelateAliases.{StructurallyRelateAliases}
 use Rattle.type_relations.specs.Solving.{solver_settings}
-use Rattle.type_relations.specs.Subtyping.{OfSubtype}
+use Rattle.type_relations.specs.Alone.{OfAlone}
 
 -- What is related of a value in a context.
 abbrev pub term_in : {Key Id Name A : Type 0} → Context Key Id Name → Option Head → (Meaning Key Id Name → A → Tree) →
@@ -61,6 +61,12 @@ module _ {S Key Id Name : Type 0} (state : S → Context Key Id Name) (old new :
   -- No goal is answered, and nothing is recorded.
   abbrev pub Idle : Result (Vec (Goal Key (PredicateKey Key))) (RelateFault Key Id Name) → Type 0
   Idle result = DoesNothing (state old) (state new) result
+
+  -- The goals that are answered are known, and only such as relating registers, as it is set up.
+  abbrev pub AnswersOnly : StructurallyRelateAliases → ParamEnvKey Key → Variance →
+      Result (Vec (Goal Key (PredicateKey Key))) (RelateFault Key Id Name) → Type 0
+  AnswersOnly g e v result =
+      RegistersGoals (state old) (state new) (solver_settings g (state old).setup) e v result
 
 -- The same of two values.
 module _ {S Key Id Name A : Type 0} (state : S → Context Key Id Name) (old new : S) (over : Option Head)
@@ -101,21 +107,26 @@ module _ {S Key Id Name A : Type 0} (state : S → Context Key Id Name) (old new
       StaysBuilt (state old).store (state new).store (answered_goals result) (term a) (term b)
 
   -- Which error comes, where they are not related.
-  abbrev pub AnswersError : {X : Type 0} → Variance → A → A → Result X (RelateFault Key Id Name) → Type 0
-  AnswersError v a b result = IfUnrelated result (λ e. ErrorOf (state new).meaning
-      (solver_settings No (state new).setup) (items_of (state new).meaning) (state new).store v e (term a) (term b))
+  abbrev pub AnswersError : {X : Type 0} → StructurallyRelateAliases → Variance → A → A →
+      Result X (RelateFault Key Id Name) → Type 0
+  AnswersError g v a b result = IfUnrelated result (λ e. ErrorOf (state new).meaning
+      (solver_settings g (state new).setup) (items_of (state new).meaning) (state new).store v e (term a) (term b))
 
   -- What clashes is refused: the two agree, where they are related.
-  abbrev pub RelatesAgreeing : {X : Type 0} → Variance → A → A → Result X (RelateFault Key Id Name) → Type 0
-  RelatesAgreeing v a b result = IfOk result (λ goals. Agree (items_of (state old).meaning) (at v) (term a) (term b))
+  abbrev pub RelatesAgreeing : {X : Type 0} → StructurallyRelateAliases → Variance → A → A →
+      Result X (RelateFault Key Id Name) → Type 0
+  RelatesAgreeing g v a b result = IfOk result (λ goals. Agree (solver_settings g (state old).setup)
+      (items_of (state old).meaning) (at v) (term a) (term b))
 
   -- Exact, of first-order terms in a first-order record at invariance: just the solutions that unify them stay, up to
-  -- erasure, the record stays first-order, and in one universe what was in one, with no more variables.
-  abbrev pub AnswersExactly : {X : Type 0} → Variance → A → A → Result X (RelateFault Key Id Name) → Type 0
+  -- erasure, the record stays first-order, and in one universe what was in one, with no more variables; and no goal is
+  -- answered.
+  abbrev pub AnswersExactly : Variance → A → A → Result (Vec (Goal Key (PredicateKey Key))) (RelateFault Key Id Name) →
+      Type 0
   AnswersExactly v a b result = IfOk result (λ goals. v ≡ Invariant →
       IsFirstOrderPair (state old).store (term a) (term b) →
       Exact (state old).store (state new).store (term a) (term b) × IsFirstOrderStore (state new).store ×
-      KeepsUniverseOf (state old).store (state new).store (term a) (term b))
+      KeepsUniverseOf (state old).store (state new).store (term a) (term b) × (goals.items ≡ []))
 
   -- A type error of such terms says that nothing unified them, up to erasure.
   abbrev pub ProvesApart : {X : Type 0} → Variance → A → A → Result X (RelateFault Key Id Name) → Type 0
@@ -140,8 +151,9 @@ module _ {S Key Id Name A : Type 0} (state : S → Context Key Id Name) (old new
   AnswersAlone e p (Err Memory) = (state new).store ≡ (state old).store
   AnswersAlone e p (Err f) = ⊥
 
-  -- Two different types that are unresolved type variables are related by just the goal that is asked of them at
-  -- covariance or contravariance.
-  abbrev pub AnswersSubtype : ParamEnvKey Key → Variance → A → A →
+  -- Two different types of which one goal is asked are related by just that: two unresolved type variables at covariance or
+  -- contravariance, and an alias with another type where aliases are left to goals.
+  abbrev pub AnswersAsked : StructurallyRelateAliases → ParamEnvKey Key → Variance → A → A →
       Result (Vec (Goal Key (PredicateKey Key))) (RelateFault Key Id Name) → Type 0
-  AnswersSubtype e v a b result = OfSubtype (state old).store v (term a) (term b) (λ t p. AnswersAlone e p result)
+  AnswersAsked g e v a b result = OfAlone (solver_settings g (state old).setup) (state old).store v (term a) (term b)
+      (λ t p. AnswersAlone e p result)

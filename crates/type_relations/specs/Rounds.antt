@@ -55,7 +55,7 @@ module _ {Key Id Name : Type 0} where
     pub asked : Asked M q r.ambient x y
     pub errors : (m : Meaning Key Id Name) (k : Settings) (c : Items) (st : Store) (e : TypeError Key Id Name) →
         IsLater q.store st → IsSound st → ErrorOf m k c st r.ambient e x y → ErrorOf m k c st r.ambient e a b
-    pub agrees : (c : Items) → Agree c (at r.ambient) x y → Agree c (at r.ambient) a b
+    pub agrees : (k : Settings) (c : Items) → Agree k c (at r.ambient) x y → Agree k c (at r.ambient) a b
     pub built : BuiltFrom r.store a b x y
     pub same_budget : (q.store).budget ≡ (r.store).budget
     pub smaller : weight q.store x + weight q.store y < weight r.store a + weight r.store b

@@ -1,5 +1,5 @@
 -- What the solver's relation asks and promises: what relating two values does, at the state in which it stands.
-use Rattle.std.specs.Prelude.{◌≡◌, ℕ, Option, IfSome, Result}
+use Rattle.std.specs.Prelude.{◌≡◌, ℕ, Option, Result}
 use Rattle.relation_terms.specs.declared.terms.binder.Binder.{Binder}
 use Rattle.relation_terms.specs.declared.terms.keys.ConstKey.{ConstKey}
 use Rattle.relation_terms.specs.declared.terms.keys.RegionKey.{RegionKey}
@@ -13,11 +13,10 @@ use Rattle.relation_contexts.specs.Contexts.{Context}
 use Rattle.relation_contexts.specs.Lawful.{State}
 use Rattle.type_relations.specs.declared.relate.solver_relating.relation.SolverRelating.{SolverRelating}
 use Rattle.type_relations.specs.Combining.{IsNoTyVar, ConstsCombine}
-use Rattle.type_relations.specs.Keyed.{RelatedRegions, SteppedConsts, SteppedTys, TysStepToSubtype}
+use Rattle.type_relations.specs.Keyed.{RelatedRegions, SteppedConsts, SteppedTys, TysStepAlone}
 use Rattle.type_relations.specs.Rounds.{OpenedBinders}
 use Rattle.type_relations.specs.Solving.{solving_in, solving_through, solver_manner}
 use Rattle.type_relations.specs.Stepping.{CombinesShallowTys, CombinesTyVars, StepsBinders, StepsRegions, StepsTys}
-use Rattle.type_relations.specs.Subtyping.{StepRegistersAlone, subtype_at}
 use Rattle.type_relations.specs.Terms.{AskedTerms, RelatedTerms, TermsRegister}
 
 -- Of two types that are no type variables a step was taken.
@@ -57,15 +56,6 @@ module _ {Infcx Interner Key Id Name Span : Type 0} (state : Infcx → Context K
       Result (Step (TyKey Key)) (RelateFault Key Id Name) → Type 0
   SolverSteps r q a b result = SteppedTys solver_manner (solver_through r) (solver_through q) a b result
 
-  -- It was a step by registering just the goal that is asked of two type variables, where one is.
-  abbrev pub SolverStepRegisters : SolverRelating Infcx Interner Key Id Name Span →
-      SolverRelating Infcx Interner Key Id Name Span → TyKey Key → TyKey Key →
-      Result (Step (TyKey Key)) (RelateFault Key Id Name) → Type 0
-  SolverStepRegisters r q a b result =
-      let m = (state r.infcx.now).meaning in let n = (state q.infcx.now).meaning in
-      IfSome (subtype_at r.ambient_variance (m.ty a) (m.ty b)) (λ p.
-      StepRegistersAlone (solver_through r) (solver_through q) n.ty (m.ty a) p result)
-
   -- It was that step of two types, case by case; of two that were resolved shallowly; and of two type variables.
   abbrev pub SolverStepsTys : SolverRelating Infcx Interner Key Id Name Span →
       SolverRelating Infcx Interner Key Id Name Span → TyKey Key → TyKey Key →
@@ -82,12 +72,12 @@ module _ {Infcx Interner Key Id Name Span : Type 0} (state : Infcx → Context K
       Result (Step (TyKey Key)) (RelateFault Key Id Name) → Type 0
   SolverCombinesVars r q a b result = CombinesTyVars (solver_through r) (solver_through q) a b result
 
-  -- Of two types that are unresolved type variables it was a step by registering one goal alone.
-  abbrev pub SolverStepsToSubtype : SolverRelating Infcx Interner Key Id Name Span →
+  -- Of two types of which one goal is asked it was a step by registering that alone.
+  abbrev pub SolverStepsAlone : SolverRelating Infcx Interner Key Id Name Span →
       SolverRelating Infcx Interner Key Id Name Span → TyKey Key → TyKey Key →
       Result (Step (TyKey Key)) (RelateFault Key Id Name) → Type 0
-  SolverStepsToSubtype r q a b result =
-      TysStepToSubtype solver_manner (solver_through r) (solver_through q) a b result
+  SolverStepsAlone r q a b result =
+      TysStepAlone solver_manner (solver_through r) (solver_through q) a b result
 
   -- A step was taken of two constants, and which, case by case.
   abbrev pub SolverStepped : SolverRelating Infcx Interner Key Id Name Span →

@@ -83,7 +83,7 @@ solver_manner k = record {
   takes = λ v l. Unit {0};
   is_exact = Unit {0};
   records_asked = Unit {0};
-  registers_subtype = Unit {0};
+  registers_alone = Unit {0};
   relates_agreeing = Unit {0};
 }
 

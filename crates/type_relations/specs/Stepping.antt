@@ -14,14 +14,15 @@ use Rattle.relation_folds.specs.declared.error.TypeError.TheVariants.{CyclicTy}
 use Rattle.relation_folds.specs.declared.error.RelateFault.{RelateFault}
 use Rattle.relation_folds.specs.declared.error.RelateFault.TheVariants.{Memory}
 use Rattle.relation_contexts.specs.declared.relate.Step.{Step}
-use Rattle.relation_contexts.specs.declared.relate.Step.TheVariants.{Done, Parts, Again}
+use Rattle.relation_contexts.specs.declared.relate.Step.TheVariants.{Done, Again}
 use Rattle.relation_contexts.specs.ContextCalls.{Instantiated, Reads}
 use Rattle.relation_contexts.specs.Goals.{goal_of, subtype_predicate}
 use Rattle.relation_contexts.specs.Lawful.{State}
 use Rattle.relation_contexts.specs.Resolving.{IsShallow}
 use Rattle.relation_contexts.specs.Steps.{AddsConstraint}
 use Rattle.relation_contexts.specs.Stores.{outlives_constraint, equal_constraint}
-use Rattle.type_relations.specs.Combining.{Joins, IsNoTyVar, TysCombine, seen}
+use Rattle.relation_contexts.specs.AliasGoals.{alias_at}
+use Rattle.type_relations.specs.Combining.{Joins, IsTyVar, IsNoTyVar, RegistersOne, RegistersNone, TysCombine, seen}
 use Rattle.type_relations.specs.Rounds.{Opens, one_uses_bound}
 use Rattle.type_relations.specs.Variables.{one_has_variable}
 
@@ -32,11 +33,6 @@ module _ {Key Id Name : Type 0} (r q : State Key Id Name) where
     pub store : q.store ≡ r.store
     pub goals : q.goals ≡ r.goals
 
-  -- A goal was registered in the relation's environment, behind those that there were. Nothing was recorded.
-  pub record RegistersOne (predicate : Tree) : Type 0 where
-    pub store : q.store ≡ r.store
-    pub goals : q.goals ≡ r.goals ++ goal_of r.kept.environment predicate ∷ []
-
   -- What comes of two type variables of which nothing is recorded. At invariance they are made one. At covariance a
   -- goal asks that the left one is a subtype of the right one, and at contravariance that the right one is one of the
   -- left one, which is the expected one of both; or a growth was refused, and no goal was registered.
@@ -46,56 +42,84 @@ module _ {Key Id Name : Type 0} (r q : State Key Id Name) where
         (r.meaning).ty b ≡ leaf (variable type_var j) → Joins r.store q.store type_var i j → q.meaning ≡ r.meaning →
         q.goals ≡ r.goals → result ≡ Ok (Done a) → CombinesTyVars a b result
     left_subtype : r.ambient ≡ Covariant →
-        RegistersOne (subtype_predicate true ((r.meaning).ty a) ((r.meaning).ty b)) → result ≡ Ok (Done a) →
+        RegistersOne r q (subtype_predicate true ((r.meaning).ty a) ((r.meaning).ty b)) → result ≡ Ok (Done a) →
         CombinesTyVars a b result
     right_subtype : r.ambient ≡ Contravariant →
-        RegistersOne (subtype_predicate false ((r.meaning).ty b) ((r.meaning).ty a)) → result ≡ Ok (Done a) →
+        RegistersOne r q (subtype_predicate false ((r.meaning).ty b) ((r.meaning).ty a)) → result ≡ Ok (Done a) →
         CombinesTyVars a b result
-    goal_refused : r.ambient ≢ Invariant → q.store ≡ r.store → q.goals ≡ r.goals → result ≡ Err Memory →
-        CombinesTyVars a b result
+    goal_refused : r.ambient ≢ Invariant → RegistersNone r q → result ≡ Err Memory → CombinesTyVars a b result
 
-  -- What binding a type variable, at a variance, to what a type comes to answers. No goal is registered.
+  -- What binding a type variable, at a variance, to what a type comes to answers.
+  abbrev pub BindsTo : Variance → ℕ → TyKey Key → Result (TyKey Key) (RelateFault Key Id Name) → Type 0
+  BindsTo v i t answer = Instantiated (seen r.meaning r.store) (seen q.meaning q.store)
+      r.kept.settings.structurally_relate_aliases v type_var i ((r.meaning).ty t) (λ m. m.ty) CyclicTy answer
+
+  -- The same, and no goal is registered.
   pub record BindsTyVar (v : Variance) (i : ℕ) (t : TyKey Key) (answer : Result (TyKey Key) (RelateFault Key Id Name)) :
       Type 0 where
-    pub instantiated : Instantiated (seen r.meaning r.store) (seen q.meaning q.store) v type_var i ((r.meaning).ty t)
-        (λ m. m.ty) CyclicTy answer
+    pub instantiated : BindsTo v i t answer
+    pub goals : q.goals ≡ r.goals
+
+  -- It was bound to a type variable, in the place of an alias, and what is asked of that one and the alias is registered;
+  -- or it is not, since a growth was refused.
+  pub record BindsAsking (v : Variance) (i : ℕ) (t x : TyKey Key) (predicate : Tree) : Type 0 where
+    pub instantiated : BindsTo v i t (Ok x)
+    pub is_variable : IsTyVar ((q.meaning).ty x)
+    pub goals : q.goals ≡ r.goals ++ goal_of r.kept.environment predicate ∷ []
+
+  pub record BindsUnasked (v : Variance) (i : ℕ) (t x : TyKey Key) : Type 0 where
+    pub instantiated : BindsTo v i t (Ok x)
+    pub is_variable : IsTyVar ((q.meaning).ty x)
     pub goals : q.goals ≡ r.goals
 
   -- What comes of two types that were resolved shallowly. Of two type variables what is said above. A type variable on
   -- the left is bound at the ambient variance to what the right type comes to, and the bound type is to be related with
   -- the right one, at covariance seen from the ambient variance; one on the right is bound at the variance seen from
-  -- the other side, and the left type is to be related with the bound one. The left type is the answer. Or nothing is
-  -- bound, and the fault is that of binding. Of all others no goal is registered, and it is said of them what combining
-  -- says.
+  -- the other side, and the left type is to be related with the bound one. Where it was bound to a type variable, in the
+  -- place of an alias, a goal asks in the place of that what their variance does of that one and the alias, on the same
+  -- sides. The left type is the answer. Or nothing is bound, and the fault is that of binding. Of all others it is said
+  -- what combining says.
   pub data CombinesShallowTys (a b : TyKey Key) (result : Result (Step (TyKey Key)) (RelateFault Key Id Name)) :
       Type 0 where
     two_variables : (i j : ℕ) → (r.meaning).ty a ≡ leaf (variable type_var i) →
         (r.meaning).ty b ≡ leaf (variable type_var j) → CombinesTyVars a b result → CombinesShallowTys a b result
     left_bound : (i : ℕ) (x : TyKey Key) → (r.meaning).ty a ≡ leaf (variable type_var i) →
-        IsNoTyVar ((r.meaning).ty b) → BindsTyVar r.ambient i b (Ok x) → result ≡ Ok (Again a b x b Covariant a) →
+        IsNoTyVar ((r.meaning).ty b) → BindsTyVar r.ambient i b (Ok x) → IsNoTyVar ((q.meaning).ty x) →
+        result ≡ Ok (Again a b x b Covariant a) → CombinesShallowTys a b result
+    left_asked : (i : ℕ) (x : TyKey Key) (p : Tree) → (r.meaning).ty a ≡ leaf (variable type_var i) →
+        IsNoTyVar ((r.meaning).ty b) → alias_at r.ambient ((q.meaning).ty x) ((r.meaning).ty b) ≡ Some p →
+        BindsAsking r.ambient i b x p → result ≡ Ok (Done a) → CombinesShallowTys a b result
+    left_unasked : (i : ℕ) (x : TyKey Key) → (r.meaning).ty a ≡ leaf (variable type_var i) →
+        IsNoTyVar ((r.meaning).ty b) → BindsUnasked r.ambient i b x → result ≡ Err Memory →
         CombinesShallowTys a b result
     left_refused : (i : ℕ) (f : RelateFault Key Id Name) → (r.meaning).ty a ≡ leaf (variable type_var i) →
         IsNoTyVar ((r.meaning).ty b) → BindsTyVar r.ambient i b (Err f) → result ≡ Err f → CombinesShallowTys a b result
     right_bound : (i : ℕ) (x : TyKey Key) → (r.meaning).ty b ≡ leaf (variable type_var i) →
         IsNoTyVar ((r.meaning).ty a) → BindsTyVar (xform r.ambient Contravariant) i a (Ok x) →
-        result ≡ Ok (Again a b a x Covariant a) → CombinesShallowTys a b result
+        IsNoTyVar ((q.meaning).ty x) → result ≡ Ok (Again a b a x Covariant a) → CombinesShallowTys a b result
+    right_asked : (i : ℕ) (x : TyKey Key) (p : Tree) → (r.meaning).ty b ≡ leaf (variable type_var i) →
+        IsNoTyVar ((r.meaning).ty a) → alias_at r.ambient ((r.meaning).ty a) ((q.meaning).ty x) ≡ Some p →
+        BindsAsking (xform r.ambient Contravariant) i a x p → result ≡ Ok (Done a) → CombinesShallowTys a b result
+    right_unasked : (i : ℕ) (x : TyKey Key) → (r.meaning).ty b ≡ leaf (variable type_var i) →
+        IsNoTyVar ((r.meaning).ty a) → BindsUnasked (xform r.ambient Contravariant) i a x → result ≡ Err Memory →
+        CombinesShallowTys a b result
     right_refused : (i : ℕ) (f : RelateFault Key Id Name) → (r.meaning).ty b ≡ leaf (variable type_var i) →
         IsNoTyVar ((r.meaning).ty a) → BindsTyVar (xform r.ambient Contravariant) i a (Err f) → result ≡ Err f →
         CombinesShallowTys a b result
     no_ty_variables : IsNoTyVar ((r.meaning).ty a) → IsNoTyVar ((r.meaning).ty b) → TysCombine r q a b result →
-        q.goals ≡ r.goals → CombinesShallowTys a b result
+        CombinesShallowTys a b result
 
   -- A type is read as one that was resolved shallowly.
   pub record ReadsTy (a x : TyKey Key) : Type 0 where
     pub reads : Reads (seen r.meaning r.store) ((r.meaning).ty a) ((r.meaning).ty x)
     pub shallow : IsShallow r.store ((r.meaning).ty x)
 
-  -- What comes of two types: of one and the same it is the answer; two in which no variable stands, but of regions, are
-  -- left to be related by their parts; of all others what comes of both, resolved shallowly.
+  -- What comes of two types: of one and the same it is the answer; of two in which no variable stands, but of regions,
+  -- what combining says; of all others what comes of both, resolved shallowly.
   pub data StepsTys (a b : TyKey Key) (result : Result (Step (TyKey Key)) (RelateFault Key Id Name)) : Type 0 where
     one_type : (r.meaning).ty a ≡ (r.meaning).ty b → LeavesAll → result ≡ Ok (Done a) → StepsTys a b result
-    without_variables : (r.meaning).ty a ≢ (r.meaning).ty b → one_has_variable r.meaning a b ≡ false → LeavesAll →
-        result ≡ Ok (Parts a b) → StepsTys a b result
+    without_variables : (r.meaning).ty a ≢ (r.meaning).ty b → one_has_variable r.meaning a b ≡ false →
+        TysCombine r q a b result → StepsTys a b result
     resolved_first : (x y : TyKey Key) → (r.meaning).ty a ≢ (r.meaning).ty b → IsTrue (one_has_variable r.meaning a b) →
         ReadsTy a x → ReadsTy b y → CombinesShallowTys x y result → StepsTys a b result
 

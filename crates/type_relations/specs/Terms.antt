@@ -7,7 +7,7 @@ use Rattle.relation_terms.specs.Meaning.{Meaning}
 use Rattle.relation_folds.specs.declared.error.RelateFault.{RelateFault}
 use Rattle.relation_contexts.specs.Lawful.{State, Manners, Asked, Related}
 use Rattle.type_relations.specs.Arguments.{related_tree}
-use Rattle.type_relations.specs.Subtyping.{RegistersSubtype}
+use Rattle.type_relations.specs.Alone.{RelatesAlone}
 
 module _ {Key Id Name A : Type 0} (M : Manners) (over : Option Head) (tree : Meaning Key Id Name → A → Tree) where
   -- Two that the relation takes.
@@ -21,5 +21,5 @@ module _ {Key Id Name A : Type 0} (M : Manners) (over : Option Head) (tree : Mea
 
   -- Two type variables were related by registering that the one is a subtype of the other, where that is promised.
   abbrev pub TermsRegister : State Key Id Name → State Key Id Name → A → A → Result A (RelateFault Key Id Name) → Type 0
-  TermsRegister r q a b result = RegistersSubtype M r q r.ambient (related_tree over (tree r.meaning a))
+  TermsRegister r q a b result = RelatesAlone M r q r.ambient (related_tree over (tree r.meaning a))
       (related_tree over (tree r.meaning b)) result

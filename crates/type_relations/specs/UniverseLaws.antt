@@ -3,6 +3,7 @@ use Rattle.std.specs.Prelude.{◌≡◌, ◌≢◌, ℕ, ◌+◌}
 use Rattle.term_enums.specs.declared.Variance.TheVariants.{Invariant}
 use Rattle.relation_terms.specs.Heads.{VarKind, region_var}
 use Rattle.relation_terms.specs.Trees.{Tree, Leaves}
+use Rattle.relation_contexts.specs.declared.relate.StructurallyRelateAliases.{StructurallyRelateAliases}
 use Rattle.relation_contexts.specs.Relation.{Items}
 use Rattle.relation_contexts.specs.Stores.{Store, MayStandFor, IsTermIn, IsSound, all_bound}
 use Rattle.relation_contexts.specs.FirstOrder.{IsFirstOrder, IsFirstOrderStore}
@@ -29,8 +30,8 @@ ReadingKeepsUniverse = (st : Store) (a b x y : Tree) → IsSound st → IsReadAs
 
 -- So does what a variable is bound to at invariance, where all is first-order; and only variables of regions are made.
 abbrev pub GeneralisingKeepsUniverse : Type 0
-GeneralisingKeepsUniverse = (c : Items) (before after : Store) (k : VarKind) (n u : ℕ) (source term : Tree) →
-    IsTypeOrConst k → InstantiatesBy c before after Invariant k n source term → NumbersNameNothing before →
+GeneralisingKeepsUniverse = (g : StructurallyRelateAliases) (c : Items) (before after : Store) (k : VarKind) (n u : ℕ)
+    (source term : Tree) → IsTypeOrConst k → InstantiatesBy g c before after Invariant k n source term → NumbersNameNothing before →
     IsSound before → IsTermIn before source → MayStandFor k source → IsFirstOrder source →
     IsFirstOrderStore before → HasOneUniverse u before → Leaves (NamesTypesTo u) source →
     StaysOf u before after × Leaves (NamesTypesTo u) term

@@ -7,6 +7,7 @@ pub mod combine;
 pub mod comparing;
 mod forms;
 pub mod handing;
+mod leaving;
 mod making;
 mod number_vars;
 mod opening;

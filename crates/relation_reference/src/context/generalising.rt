@@ -1,9 +1,10 @@
-//! Generalising what a variable is bound to: new variables take the places of what the variable can't name, and of what
-//! may still vary. A type that was met before, at the same variance, is not gone through again.
+//! Generalising what a variable is bound to: new variables take the places of what the variable can't name, of what may
+//! still vary, and of aliases in which an obstacle stands. A type that was met before, at the same variance and on the same
+//! side of aliases, is not gone through again.
 ghost use Rattle.std.specs.Prelude.{◌≡◌, ◌≢◌, ◌≤◌, ◌<◌, ℕ, IsTrue, IsFalse, IfOk, IfSome, IfNone, OnOk, OnErr};
 ghost use Rattle.std.specs.Prelude.{List, ◌∷◌, Contains, Some, length};
 ghost use Rattle.relation_terms.specs.Heads.{VarKind, variable, placeholder, BoundKind, bound_sort, region_sort};
-ghost use Rattle.relation_terms.specs.Heads.{const_sort, type_var, region_var};
+ghost use Rattle.relation_terms.specs.Heads.{type_sort, const_sort, type_var, region_var};
 ghost use Rattle.relation_terms.specs.Trees.{Tree, leaf, known, count, IsTerm};
 ghost use Rattle.relation_terms.specs.Meaning.{Extends};
 ghost use Rattle.relation_terms.specs.Parts.{part_tree, part_sort, parts_of};
@@ -17,26 +18,30 @@ ghost use Rattle.relation_reference.specs.Tables.{IsLawful};
 ghost use Rattle.relation_contexts.specs.ContextCalls.{MarksNew};
 ghost use Rattle.relation_reference.specs.RefCtxt.{store_in, context_in, part_term};
 ghost use Rattle.relation_reference.specs.Remembering.{vid_kind, vid_number, vid_universe};
-ghost use Rattle.relation_reference.specs.Generalises.{new_kind, met_at, IsFate, IsSure, Keeps, Generalises};
-ghost use Rattle.relation_reference.specs.Generalises.{GeneralisesFor};
+ghost use Rattle.relation_reference.specs.Generalises.{side_of, new_kind, met_at, IsFate, IsSure, Keeps, Generalises};
+ghost use Rattle.relation_reference.specs.Generalises.{AreClear, MayGoInto, MarksFrom, GeneralisesFor};
 ghost use Rattle.relation_reference.specs.declared.context.generalising.Fate.TheVariants.{ByParts, GivesWay};
 ghost use Rattle.term_enums.specs.declared.Variance.TheVariants.{Invariant};
 
 use crate::context::RefCtxt;
+use crate::context::clearing::{ClearTypes, parts_inside};
 use crate::context::memory::TermVid;
 use crate::context::resolving::{is_same_vid, variable_of};
-use relation_contexts::variances::{declared_variance, pointee};
+use relation_contexts::relate::StructurallyRelateAliases;
+use relation_contexts::variances::{alias_argument_variance, declared_variance, pointee};
 use relation_folds::error::{RelateFault, RelateFaultOf, TypeError};
 use relation_terms::terms::parts::{is_same, part, parts_count, the_ty, with_parts};
 use relation_terms::terms::{
     Const, ConstKind, DefId, Interner, Keys, OutOfMemory, Part, PartOf, Region, RegionKind,
     RegionVid, Ty, TyKey, TyKind, TyVid, UniverseIndex, Variance,
 };
-use std::collections::HashMap;
+use std::collections::{HashMap, HashSet};
 
-/// A type as it is looked for: the variance at which it stands, and its key.
+/// A type as it is looked for: whether it stands inside an alias that is left to a goal, the variance at which it stands,
+/// and its key.
 #[derive(Clone, Copy, PartialEq, Eq, Hash)]
 pub struct MetKey<X> {
+    pub inside: bool,
     pub variance: Variance,
     pub ty: TyKey<X>,
 }
@@ -44,11 +49,13 @@ pub struct MetKey<X> {
 /// What types that were met became.
 pub type MetTypes<X> = HashMap<MetKey<X>, TyKey<X>>;
 
-// A variable that is bound, its universe, and the error where it stands in what it is to be bound to.
+// A variable that is bound, its universe, how aliases are related, and the error where it stands in what it is to be bound
+// to.
 #[derive(Drop)]
 pub(crate) struct Target<X, D, N> {
     pub vid: TermVid,
     pub universe: UniverseIndex,
+    pub aliases: StructurallyRelateAliases,
     pub cyclic: TypeError<X, D, N>,
 }
 
@@ -86,10 +93,11 @@ fn stays_if(stays: bool) -> Fate
     if stays { Fate::ByParts } else { Fate::GivesWay }
 }
 
-// What the type became at the variance, if it was met before.
+// What the type became at the variance on the side, if it was met before.
 fn recall<I: Interner>(
     cx: &I,
     ty: &Ty<I>,
+    inside: bool,
     variance: Variance,
     met: &MetTypes<I::Key>,
 ) -> Option<Ty<I>>
@@ -98,19 +106,25 @@ fn recall<I: Interner>(
     ensures sure { IfSome result (λ x. IsTrue (known ((I.meaning cx.now).ty x))) }
     ensures met { IfSome result (λ x. (es : List Met) →
         Keeps ⟦<MetKey<I::Key> as PartialEq>⟧.eq (I.meaning cx.now) met.now es →
-        Contains es (met_at variance ((I.meaning cx.now).ty ty.now) ((I.meaning cx.now).ty x))) }
+        Contains es (met_at (side_of inside) variance ((I.meaning cx.now).ty ty.now) ((I.meaning cx.now).ty x))) }
     ensures not_met { IfNone result ((es : List Met) →
         Keeps ⟦<MetKey<I::Key> as PartialEq>⟧.eq (I.meaning cx.now) met.now es →
-        (x : Tree) → Contains es (met_at variance ((I.meaning cx.now).ty ty.now) x) → ⊥) }
+        (x : Tree) → Contains es (met_at (side_of inside) variance ((I.meaning cx.now).ty ty.now) x) → ⊥) }
 {
     let _ = cx;
-    met.get(&MetKey { variance, ty: *ty }).copied()
+    let key = MetKey {
+        inside,
+        variance,
+        ty: *ty,
+    };
+    met.get(&key).copied()
 }
 
-// Keeps what the type became at the variance.
+// Keeps what the type became at the variance on the side.
 fn keep<I: Interner>(
     cx: &I,
     ty: &Ty<I>,
+    inside: bool,
     variance: Variance,
     became: Ty<I>,
     met: &mut MetTypes<I::Key>,
@@ -121,12 +135,17 @@ fn keep<I: Interner>(
     ensures sure { OnOk result (IsSure ⟦<MetKey<I::Key> as PartialEq>⟧.eq (I.meaning cx.now) met.new) }
     ensures keeps { OnOk result ((es : List Met) →
         Keeps ⟦<MetKey<I::Key> as PartialEq>⟧.eq (I.meaning cx.now) met.old es →
-        ((x : Tree) → Contains es (met_at variance ((I.meaning cx.now).ty ty.now) x) → ⊥) →
+        ((x : Tree) → Contains es (met_at (side_of inside) variance ((I.meaning cx.now).ty ty.now) x) → ⊥) →
         Keeps ⟦<MetKey<I::Key> as PartialEq>⟧.eq (I.meaning cx.now) met.new
-        (met_at variance ((I.meaning cx.now).ty ty.now) ((I.meaning cx.now).ty became) ∷ es)) }
+        (met_at (side_of inside) variance ((I.meaning cx.now).ty ty.now) ((I.meaning cx.now).ty became) ∷ es)) }
 {
     let _ = cx;
-    met.insert(MetKey { variance, ty: *ty }, became)?;
+    let key = MetKey {
+        inside,
+        variance,
+        ty: *ty,
+    };
+    met.insert(key, became)?;
     Ok(())
 }
 
@@ -141,6 +160,7 @@ fn mode_in_ty<I: Interner>(cx: &I, ty: &Ty<I>, i: usize) -> Variance
     match &cx.ty_kind(ty) {
         TyKind::Adt(def, _) => declared_variance(cx, &DefId(def.0), i),
         TyKind::FnDef(def, _) => declared_variance(cx, &DefId(def.0), i),
+        TyKind::Alias(alias) => alias_argument_variance(cx, &alias.kind, i),
         TyKind::Closure(..)
         | TyKind::CoroutineClosure(..)
         | TyKind::Coroutine(..)
@@ -279,7 +299,7 @@ impl<I: Interner> RefCtxt<I> {
     }
 
     // What becomes of a term for a target, at a variance.
-    fn fate_of(&self, term: &PartOf<I>, variance: Variance, target: &TargetOf<I>) -> Fate
+    pub(crate) fn fate_of(&self, term: &PartOf<I>, variance: Variance, target: &TargetOf<I>) -> Fate
         requires lawful { IsLawful (I.meaning self.now.interner) self.now.inner }
         requires term_known { IsTrue (known (part_tree (I.meaning self.now.interner) term.now)) }
         requires term_in { InContext (store_in I.meaning self.now) (part_term I.meaning self.now term.now) }
@@ -325,7 +345,7 @@ impl<I: Interner> RefCtxt<I> {
         ensures makes { IfOk result (λ x. (j : VarKind) → new_kind term.now ≡ Some j → (n : ℕ) ×
             MakesVariable (store_in I.meaning self.old) (store_in I.meaning self.new) j n universe.0 ×
             (part_tree (I.meaning self.new.interner) x ≡ leaf (variable j n))) }
-        ensures rest { MarksNew (context_in I.meaning self.old) (context_in I.meaning self.new) }
+        ensures rest { MarksFrom I.meaning self.old self.new (part_term I.meaning self.old term.now) }
         ensures refused { OnErr result (store_in I.meaning self.new ≡ store_in I.meaning self.old) }
     {
         match term {
@@ -339,14 +359,34 @@ impl<I: Interner> RefCtxt<I> {
         }
     }
 
-    // The term as a target is bound to it at a variance. A type that was met before becomes what it became then.
+    // A new type variable in the place of an alias, in a universe. It is marked as related to none.
+    fn next_alias_var(&mut self, universe: UniverseIndex) -> Result<PartOf<I>, OutOfMemory>
+        requires lawful { IsLawful (I.meaning self.old.interner) self.old.inner }
+        requires below { universe.0 ≤ self.old.inner.universe.0 }
+        ensures lawful { IsLawful (I.meaning self.new.interner) self.new.inner }
+        ensures grown { Extends (I.meaning self.old.interner) (I.meaning self.new.interner) }
+        ensures sure { IfOk result (λ x. IsTrue (known (part_tree (I.meaning self.new.interner) x))) }
+        ensures sort { IfOk result (λ x. part_sort x ≡ type_sort) }
+        ensures makes { IfOk result (λ x. (n : ℕ) ×
+            MakesVariable (store_in I.meaning self.old) (store_in I.meaning self.new) type_var n universe.0 ×
+            (part_tree (I.meaning self.new.interner) x ≡ leaf (variable type_var n))) }
+        ensures rest { (t : Tree) → MarksFrom I.meaning self.old self.new t }
+        ensures refused { OnErr result (store_in I.meaning self.new ≡ store_in I.meaning self.old) }
+    {
+        Ok(Part::Ty(self.next_ty_var_in(universe)?))
+    }
+
+    // The term as a target is bound to it, on a side of aliases at a variance. A type that was met before becomes what it
+    // became then.
     #[cycle(generalise)]
     fn generalise_part(
         &mut self,
         term: &PartOf<I>,
+        inside: bool,
         variance: Variance,
         target: &TargetOf<I>,
         met: &mut MetTypes<I::Key>,
+        clear: &mut ClearTypes<I::Key>,
     ) -> Result<PartOf<I>, RelateFaultOf<I>>
         requires lawful { IsLawful (I.meaning self.old.interner) self.old.inner }
         requires below { target.now.universe.0 ≤ self.old.inner.universe.0 }
@@ -354,18 +394,21 @@ impl<I: Interner> RefCtxt<I> {
         requires term_in { InContext (store_in I.meaning self.old) (part_term I.meaning self.old term.now) }
         requires term_covered { IsCovered (part_tree (I.meaning self.old.interner) term.now) }
         requires sure { IsSure ⟦<MetKey<I::Key> as PartialEq>⟧.eq (I.meaning self.old.interner) met.old }
-        ensures { Generalises I.meaning ⟦<MetKey<I::Key> as PartialEq>⟧.eq self.old self.new
-            (vid_kind target.now.vid) (vid_number target.now.vid) target.now.universe.0 target.now.cyclic
-            (any_part variance) met.old met.new term.now result }
+        requires clear { AreClear ⟦<TyKey<I::Key> as PartialEq>⟧.eq (I.meaning self.old.interner)
+            (vid_kind target.now.vid) (vid_number target.now.vid) target.now.universe.0 clear.old }
+        ensures { Generalises I.meaning ⟦<MetKey<I::Key> as PartialEq>⟧.eq ⟦<TyKey<I::Key> as PartialEq>⟧.eq
+            self.old self.new target.now.aliases (vid_kind target.now.vid) (vid_number target.now.vid)
+            target.now.universe.0 target.now.cyclic (any_part (side_of inside) variance) met.old met.new clear.new
+            term.now result }
     {
         let Part::Ty(ty) = term else {
-            return self.generalise_new(term, variance, target, met);
+            return self.generalise_new(term, inside, variance, target, met, clear);
         };
-        if let Some(became) = recall(&self.interner, ty, variance, met) {
+        if let Some(became) = recall(&self.interner, ty, inside, variance, met) {
             return Ok(Part::Ty(became));
         }
-        let became = self.generalise_new(term, variance, target, met)?;
-        keep(&self.interner, ty, variance, the_ty(&became), met)?;
+        let became = self.generalise_new(term, inside, variance, target, met, clear)?;
+        keep(&self.interner, ty, inside, variance, the_ty(&became), met)?;
         Ok(became)
     }
 
@@ -374,9 +417,11 @@ impl<I: Interner> RefCtxt<I> {
     fn generalise_new(
         &mut self,
         term: &PartOf<I>,
+        inside: bool,
         variance: Variance,
         target: &TargetOf<I>,
         met: &mut MetTypes<I::Key>,
+        clear: &mut ClearTypes<I::Key>,
     ) -> Result<PartOf<I>, RelateFaultOf<I>>
         requires lawful { IsLawful (I.meaning self.old.interner) self.old.inner }
         requires below { target.now.universe.0 ≤ self.old.inner.universe.0 }
@@ -384,15 +429,23 @@ impl<I: Interner> RefCtxt<I> {
         requires term_in { InContext (store_in I.meaning self.old) (part_term I.meaning self.old term.now) }
         requires term_covered { IsCovered (part_tree (I.meaning self.old.interner) term.now) }
         requires sure { IsSure ⟦<MetKey<I::Key> as PartialEq>⟧.eq (I.meaning self.old.interner) met.old }
-        ensures { Generalises I.meaning ⟦<MetKey<I::Key> as PartialEq>⟧.eq self.old self.new
-            (vid_kind target.now.vid) (vid_number target.now.vid) target.now.universe.0 target.now.cyclic
-            (new_part variance) met.old met.new term.now result }
+        requires clear { AreClear ⟦<TyKey<I::Key> as PartialEq>⟧.eq (I.meaning self.old.interner)
+            (vid_kind target.now.vid) (vid_number target.now.vid) target.now.universe.0 clear.old }
+        ensures { Generalises I.meaning ⟦<MetKey<I::Key> as PartialEq>⟧.eq ⟦<TyKey<I::Key> as PartialEq>⟧.eq
+            self.old self.new target.now.aliases (vid_kind target.now.vid) (vid_number target.now.vid)
+            target.now.universe.0 target.now.cyclic (new_part (side_of inside) variance) met.old met.new clear.new
+            term.now result }
     {
         match self.fate_of(term, variance, target) {
             Fate::Cycle => Err(RelateFault::Unrelated(target.cyclic)),
             Fate::Beyond => Err(RelateFault::Unrelated(TypeError::Mismatch)),
             Fate::GivesWay => Ok(self.next_for(term, target.universe)?),
-            Fate::ByParts => self.generalise_parts(term, variance, target, met),
+            Fate::ByParts => {
+                if self.alias_gives_way(term, inside, target, clear)? {
+                    return Ok(self.next_alias_var(target.universe)?);
+                }
+                self.generalise_parts(term, inside, variance, target, met, clear)
+            }
         }
     }
 
@@ -401,9 +454,11 @@ impl<I: Interner> RefCtxt<I> {
     fn generalise_parts(
         &mut self,
         term: &PartOf<I>,
+        inside: bool,
         variance: Variance,
         target: &TargetOf<I>,
         met: &mut MetTypes<I::Key>,
+        clear: &mut ClearTypes<I::Key>,
     ) -> Result<PartOf<I>, RelateFaultOf<I>>
         requires lawful { IsLawful (I.meaning self.old.interner) self.old.inner }
         requires below { target.now.universe.0 ≤ self.old.inner.universe.0 }
@@ -411,19 +466,25 @@ impl<I: Interner> RefCtxt<I> {
         requires term_in { InContext (store_in I.meaning self.old) (part_term I.meaning self.old term.now) }
         requires term_covered { IsCovered (part_tree (I.meaning self.old.interner) term.now) }
         requires sure { IsSure ⟦<MetKey<I::Key> as PartialEq>⟧.eq (I.meaning self.old.interner) met.old }
+        requires clear { AreClear ⟦<TyKey<I::Key> as PartialEq>⟧.eq (I.meaning self.old.interner)
+            (vid_kind target.now.vid) (vid_number target.now.vid) target.now.universe.0 clear.old }
         requires stays { IsFate (store_in I.meaning self.old) (vid_kind target.now.vid) (vid_number target.now.vid)
             target.now.universe.0 variance (part_tree (I.meaning self.old.interner) term.now)
             (new_kind term.now) ByParts }
-        ensures { Generalises I.meaning ⟦<MetKey<I::Key> as PartialEq>⟧.eq self.old self.new
-            (vid_kind target.now.vid) (vid_number target.now.vid) target.now.universe.0 target.now.cyclic
-            (new_part variance) met.old met.new term.now result }
+        requires goes { MayGoInto target.now.aliases (vid_kind target.now.vid) (vid_number target.now.vid)
+            target.now.universe.0 (side_of inside) (part_tree (I.meaning self.old.interner) term.now) }
+        ensures { Generalises I.meaning ⟦<MetKey<I::Key> as PartialEq>⟧.eq ⟦<TyKey<I::Key> as PartialEq>⟧.eq
+            self.old self.new target.now.aliases (vid_kind target.now.vid) (vid_number target.now.vid)
+            target.now.universe.0 target.now.cyclic (new_part (side_of inside) variance) met.old met.new clear.new
+            term.now result }
     {
+        let within = parts_inside(&self.interner, term, inside, target.aliases);
         let mut parts = Vec::new(self.interner.alloc());
         let mut same = true;
         for i in 0..parts_count(&self.interner, term) {
             let next = part(&self.interner, term, i);
             let at = variance_of(&self.interner, term, i, variance);
-            let became = self.generalise_part(&next, at, target, met)?;
+            let became = self.generalise_part(&next, within, at, target, met, clear)?;
             same &= is_same(&self.interner, &became, &next);
             parts.push(became)?;
         }
@@ -452,6 +513,7 @@ impl<I: Interner> RefCtxt<I> {
         ensures generalised { GeneralisesFor I.meaning self.old self.new target.now variance source.now result }
     {
         let mut met = HashMap::new(self.interner.alloc());
-        self.generalise_part(source, variance, target, &mut met)
+        let mut clear = HashSet::new(self.interner.alloc());
+        self.generalise_part(source, false, variance, target, &mut met, &mut clear)
     }
 }

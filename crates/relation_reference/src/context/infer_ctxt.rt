@@ -192,21 +192,22 @@ impl<I: Interner> InferCtxtLike for RefCtxt<I> {
 
     fn instantiate_ty_var_raw(
         &mut self,
-        _structurally_relate_aliases: StructurallyRelateAliases,
+        structurally_relate_aliases: StructurallyRelateAliases,
         target_vid: TyVid,
         instantiation_variance: Variance,
         source_ty: &Ty<I>,
     ) -> RelateResult<I, Ty<I>> {
-        self.instantiate_ty_var_raw(target_vid, instantiation_variance, source_ty)
+        let aliases = structurally_relate_aliases;
+        self.instantiate_ty_var_raw(aliases, target_vid, instantiation_variance, source_ty)
     }
 
     fn instantiate_const_var_raw(
         &mut self,
-        _structurally_relate_aliases: StructurallyRelateAliases,
+        structurally_relate_aliases: StructurallyRelateAliases,
         target_vid: ConstVid,
         source_ct: &Const<I>,
     ) -> RelateResult<I, Const<I>> {
-        self.instantiate_const_var_raw(target_vid, source_ct)
+        self.instantiate_const_var_raw(structurally_relate_aliases, target_vid, source_ct)
     }
 
     fn sub_regions(

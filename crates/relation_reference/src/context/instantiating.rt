@@ -13,22 +13,26 @@ use crate::context::RefCtxt;
 use crate::context::generalising::Target;
 use crate::context::memory::TermVid;
 use crate::context::table::bind;
+use relation_contexts::relate::StructurallyRelateAliases;
 use relation_folds::error::{RelateFault, RelateFaultOf, TypeError};
 use relation_terms::terms::parts::{the_const, the_ty};
 use relation_terms::terms::{Const, ConstVid, Interner, Part, Ty, TyVid, Variance};
 
 impl<I: Interner> RefCtxt<I> {
     /// Binds the root of a type variable, at a variance, to what a type comes to, generalised for what the root can
-    /// name, for one of the budget, and answers that. The type is no type variable.
+    /// name, for one of the budget, and answers that. The type is no type variable. Where aliases aren't related
+    /// structurally, an alias in which the root stands, or what it can't name, gives way to a new type variable.
     ///
     /// # Errors
     /// `Budget` where no instantiation is left; `CyclicTy` where the root stands in what the type comes to, `Mismatch`
-    /// where a placeholder does that the root can't name; `Memory` where a growth was refused. Then nothing is bound,
-    /// though variables may have been made on the way, but for `Budget`.
+    /// where a placeholder does that the root can't name, outside of aliases that give way; `Memory` where a growth was
+    /// refused. Then nothing is bound, though variables may have been made on the way, but for `Budget`.
     ///
-    /// A type variable that is made on the way is marked as related to the one that it takes the place of.
+    /// A type variable that is made on the way is marked as related to the one that it takes the place of, and one that
+    /// takes an alias's to none.
     pub fn instantiate_ty_var_raw(
         &mut self,
+        structurally_relate_aliases: StructurallyRelateAliases,
         target: TyVid,
         variance: Variance,
         source: &Ty<I>,
@@ -41,7 +45,8 @@ impl<I: Interner> RefCtxt<I> {
         requires source_no_variable { (n : ℕ) → ty_term I.meaning self.old source.now ≢ leaf (variable type_var n) }
         requires source_covered { IsCovered ((I.meaning self.old.interner).ty source.now) }
         ensures grows { Grows (context_in I.meaning self.old) (context_in I.meaning self.new) }
-        ensures instantiates { InstantiatedTy I.meaning self.old self.new variance target.0 source.now result }
+        ensures instantiates { let g = structurally_relate_aliases in
+            InstantiatedTy I.meaning self.old self.new g variance target.0 source.now result }
         ensures rest { MarksNew (context_in I.meaning self.old) (context_in I.meaning self.new) }
     {
         if self.inner.budget == 0 {
@@ -51,6 +56,7 @@ impl<I: Interner> RefCtxt<I> {
         let goal = Target {
             vid: TermVid::Ty(target),
             universe: self.inner.types[target.0].universe,
+            aliases: structurally_relate_aliases,
             cyclic: TypeError::CyclicTy(resolved),
         };
         let part = self.generalise(&Part::Ty(resolved), variance, &goal)?;
@@ -63,6 +69,7 @@ impl<I: Interner> RefCtxt<I> {
     /// The same of a constant variable and a constant that is no variable, at `Invariant`, with `CyclicConst`.
     pub fn instantiate_const_var_raw(
         &mut self,
+        structurally_relate_aliases: StructurallyRelateAliases,
         target: ConstVid,
         source: &Const<I>,
     ) -> Result<Const<I>, RelateFaultOf<I>>
@@ -74,7 +81,8 @@ impl<I: Interner> RefCtxt<I> {
         requires source_no_variable { (n : ℕ) → const_term I.meaning self.old source.now ≢ leaf (variable const_var n) }
         requires source_covered { IsCovered ((I.meaning self.old.interner).const_ source.now) }
         ensures grows { Grows (context_in I.meaning self.old) (context_in I.meaning self.new) }
-        ensures instantiates { InstantiatedConst I.meaning self.old self.new target.0 source.now result }
+        ensures instantiates { let g = structurally_relate_aliases in
+            InstantiatedConst I.meaning self.old self.new g target.0 source.now result }
         ensures rest { MarksNew (context_in I.meaning self.old) (context_in I.meaning self.new) }
     {
         if self.inner.budget == 0 {
@@ -84,6 +92,7 @@ impl<I: Interner> RefCtxt<I> {
         let goal = Target {
             vid: TermVid::Const(target),
             universe: self.inner.consts[target.0].universe,
+            aliases: structurally_relate_aliases,
             cyclic: TypeError::CyclicConst(resolved),
         };
         let part = self.generalise(&Part::Const(resolved), Variance::Invariant, &goal)?;

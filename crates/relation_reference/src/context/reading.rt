@@ -79,7 +79,8 @@ impl<I: Interner> RefCtxt<I> {
         }
     }
 
-    /// The type that a type variable's class is bound to, or else the root of its class.
+    /// The type that a type variable's class is bound to, or else the root of its class. Of another type variable that is
+    /// read in turn.
     pub fn opportunistic_resolve_ty_var(&self, var: TyVid) -> Ty<I>
         requires lawful { IsLawful (I.meaning self.now.interner) self.now.inner }
         requires made { var.0 < length self.now.inner.types.items }
@@ -128,7 +129,7 @@ impl<I: Interner> RefCtxt<I> {
     }
 
     /// The type itself, or for a variable the type that its class is bound to, or else the root of its class. A type
-    /// variable that is bound to an integer or float variable is read as that one is.
+    /// variable that is bound to another variable is read as that one is.
     pub fn shallow_resolve(&self, ty: &Ty<I>) -> Ty<I>
         requires lawful { IsLawful (I.meaning self.now.interner) self.now.inner }
         requires ty_known { IsTrue (known ((I.meaning self.now.interner).ty ty.now)) }

@@ -1,5 +1,5 @@
 //! Reading what variables have come to, by a context's tables.
-ghost use Rattle.std.specs.Prelude.{◌<◌, IsTrue, length};
+ghost use Rattle.std.specs.Prelude.{◌<◌, IsTrue, IfSome, IfNone, length};
 ghost use Rattle.relation_terms.specs.Heads.{type_var, int_var, float_var};
 ghost use Rattle.relation_terms.specs.Trees.{known};
 ghost use Rattle.relation_contexts.specs.Covered.{IsCovered};
@@ -7,14 +7,46 @@ ghost use Rattle.relation_contexts.specs.Stores.{InContext};
 ghost use Rattle.relation_contexts.specs.Resolving.{IsShallow, IsShallowTy, IsShallowConst};
 ghost use Rattle.relation_reference.specs.Tables.{store_of, IsLawful};
 ghost use Rattle.relation_reference.specs.Answers.{VarReadsAsTy, VarReadsAsConst, TyReadsAs, ConstReadsAs, TyResolves};
-ghost use Rattle.relation_reference.specs.Answers.{ConstResolves};
+ghost use Rattle.relation_reference.specs.Answers.{ConstResolves, FindsTy, IsWritten};
 
-use crate::context::InferCtxtInner;
-use crate::context::table::term_of;
+use crate::context::table::{probe, term_of};
+use crate::context::{InferCtxtInner, VariableValue};
 use relation_contexts::variable_forms::{const_vid, float_vid, int_vid, ty_vid};
 use relation_terms::terms::{Const, ConstVid, FloatVid, IntVid, Interner, Ty, TyVid};
 
-// The type that a type variable's class is bound to, or else the root of its class.
+// What is recorded of a type variable: the type that its class is bound to, or else the root of its class.
+fn found_ty<I: Interner>(cx: &I, inner: &InferCtxtInner<I::Key>, var: TyVid) -> Ty<I>
+    requires lawful { IsLawful (I.meaning cx.now) inner.now }
+    requires made { var.0 < length inner.now.types.items }
+    ensures sure { IsTrue (known ((I.meaning cx.now).ty result)) }
+    ensures found { FindsTy (I.meaning cx.now) inner.now var.0 result }
+    ensures reads { VarReadsAsTy (I.meaning cx.now) inner.now type_var var.0 result }
+    ensures covered { IsCovered ((I.meaning cx.now).ty result) }
+{
+    let _ = cx;
+    term_of(&inner.types, var.0)
+}
+
+// The type variable that a type is, where something is recorded of it.
+fn written_var<I: Interner>(cx: &I, inner: &InferCtxtInner<I::Key>, ty: &Ty<I>) -> Option<TyVid>
+    requires lawful { IsLawful (I.meaning cx.now) inner.now }
+    requires ty_known { IsTrue (known ((I.meaning cx.now).ty ty.now)) }
+    requires ty_in { InContext (store_of (I.meaning cx.now) inner.now) ((I.meaning cx.now).ty ty.now) }
+    ensures is { let m = I.meaning cx.now in
+        IfSome result (λ v. IsWritten (store_of (I.meaning cx.now) inner.now) v.0 (m.ty ty.now)) }
+    ensures is_none { let m = I.meaning cx.now in
+        IfNone result (IsShallowTy (store_of (I.meaning cx.now) inner.now) (m.ty ty.now)) }
+{
+    let var = ty_vid(&cx.ty_kind(ty))?;
+    match probe(&inner.types, var.0) {
+        VariableValue::Unknown => None,
+        VariableValue::SameAs(_) => Some(var),
+        VariableValue::Known(_) => Some(var),
+    }
+}
+
+// The type that a type variable's class is bound to, or else the root of its class. Of another type variable that is
+// read in turn.
 pub(crate) fn ty_of_var<I: Interner>(cx: &I, inner: &InferCtxtInner<I::Key>, var: TyVid) -> Ty<I>
     requires lawful { IsLawful (I.meaning cx.now) inner.now }
     requires made { var.0 < length inner.now.types.items }
@@ -23,8 +55,11 @@ pub(crate) fn ty_of_var<I: Interner>(cx: &I, inner: &InferCtxtInner<I::Key>, var
     ensures shallow { IsShallowTy (store_of (I.meaning cx.now) inner.now) ((I.meaning cx.now).ty result) }
     ensures covered { IsCovered ((I.meaning cx.now).ty result) }
 {
-    let _ = cx;
-    term_of(&inner.types, var.0)
+    let mut found = found_ty(cx, inner, var);
+    while let Some(next) = written_var(cx, inner, &found) {
+        found = found_ty(cx, inner, next);
+    }
+    found
 }
 
 // The type that an integer variable's class is bound to, or else the root of its class.
@@ -78,7 +113,7 @@ pub(crate) fn const_of_var<I: Interner>(
     term_of(&inner.consts, var.0)
 }
 
-// The type itself, or for a type variable what it is found to be.
+// The type itself, or for a type variable what is read of it.
 pub(crate) fn shallow_ty<I: Interner>(cx: &I, inner: &InferCtxtInner<I::Key>, ty: &Ty<I>) -> Ty<I>
     requires lawful { IsLawful (I.meaning cx.now) inner.now }
     requires ty_known { IsTrue (known ((I.meaning cx.now).ty ty.now)) }
@@ -120,7 +155,7 @@ pub(crate) fn shallow_number<I: Interner>(
 }
 
 // The type itself, or for a variable the type that its class is bound to, or else the root of its class. A type
-// variable that is bound to an integer or float variable is read as that one is.
+// variable that is bound to another variable is read as that one is.
 pub(crate) fn shallow_resolve<I: Interner>(
     cx: &I,
     inner: &InferCtxtInner<I::Key>,

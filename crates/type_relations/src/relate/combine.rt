@@ -5,15 +5,18 @@ ghost use Rattle.relation_terms.specs.Trees.{known, count, nth};
 ghost use Rattle.relation_terms.specs.Meaning.{arg_tree};
 ghost use Rattle.term_enums.specs.declared.Variance.TheVariants.{Bivariant};
 ghost use Rattle.type_relations.specs.Bivariance.{is_left_open, TellsOpen, TellsEitherOpen, AsksWellFormed};
-ghost use Rattle.type_relations.specs.Combining.{TysCombine, ConstsCombine};
+ghost use Rattle.term_enums.specs.declared.AliasRelationDirection.TheVariants.{Equate};
+ghost use Rattle.type_relations.specs.Combining.{TysCombine, ConstsCombine, CombinesShallow, TaintsAlone, KeepsKept};
 ghost use Rattle.relation_contexts.specs.ContextCalls.{Grows};
-ghost use Rattle.type_relations.specs.Emitting.{AddsGoals, IsOver, KnowsPredicate, goals_in};
+ghost use Rattle.type_relations.specs.Emitting.{AddsGoals, IsOver, KnowsPredicate, RegistersAlias, RegistersGoal};
+ghost use Rattle.type_relations.specs.Emitting.{goals_in};
 ghost use Rattle.type_relations.specs.Following.{FollowsContext};
 ghost use Rattle.relation_contexts.specs.Contexts.{KnowsTy};
-ghost use Rattle.relation_contexts.specs.Goals.{KnowsGoal, goals_of, well_formed_predicate};
+ghost use Rattle.relation_contexts.specs.Goals.{KnowsGoal, goals_of, well_formed_predicate, ambiguous_predicate};
+ghost use Rattle.relation_contexts.specs.Goals.{alias_relate_predicate};
 ghost use Rattle.type_relations.specs.Keyed.{AreOver, AskedTys, AskedConsts, SteppedConsts, NotedTys};
 ghost use Rattle.relation_contexts.specs.Lawful.{State, RelatesByDeclared, items_of};
-ghost use Rattle.relation_contexts.specs.Resolving.{IsShallow};
+ghost use Rattle.relation_contexts.specs.Resolving.{IsShallow, IsShallowConst};
 ghost use Rattle.type_relations.specs.SolverTerms.{StepsUnlessVars};
 ghost use Rattle.type_relations.specs.Solving.{solver_manner};
 ghost use Rattle.relation_contexts.specs.Stores.{IsTermIn};
@@ -21,15 +24,16 @@ ghost use Rattle.relation_contexts.specs.Stores.{IsTermIn};
 mod meeting;
 
 use crate::relate::args::{arg_at, args_count};
-use crate::relate::combine::meeting::{meet_consts, meet_tys};
+use crate::relate::combine::meeting::{are_no_const_vars, meet_consts, meet_tys};
+use crate::relate::leaving::{Leaving, Standing, leaves_const, left_to, ty_standing};
 use crate::relate::solver_relating::{GoalOf, recording};
 use crate::relate::{HasState, Step, StructurallyRelateAliases};
 use relation_contexts::infer_ctxt::InferCtxtLike;
 use relation_contexts::variances::declared_variance;
 use relation_folds::error::RelateResult;
 use relation_terms::terms::{
-    Const, GenericArg, GenericArgKind, GenericArgs, Interner, ItemOf, OutOfMemory, ParamEnv,
-    Predicate, Span, Ty, Variance,
+    AliasRelationDirection, Const, ErrorGuaranteed, GenericArg, GenericArgKind, GenericArgs,
+    Interner, ItemOf, OutOfMemory, ParamEnv, Predicate, Span, TermKind, Ty, Variance,
 };
 
 /// A relation of the terms of a context, which registers goals.
@@ -66,6 +70,20 @@ pub trait PredicateEmittingRelation<Infcx: InferCtxtLike>: HasState<Infcx::Inter
     /// Whether aliases are related by their items and arguments, or by a goal.
     fn structurally_relate_aliases(&self) -> StructurallyRelateAliases
         ensures { result ≡ (Self.state self.now).kept.settings.structurally_relate_aliases };
+
+    /// Registers what is asked of two types, one an alias, at the ambient variance, in the relation's environment: at
+    /// `Covariant` that the first is a subtype of the second, at `Contravariant` that the second is one of the first, at
+    /// `Invariant` that both are equal. Nothing is recorded; after `OutOfMemory` nothing was registered.
+    fn register_alias_relate_predicate(
+        &mut self,
+        a: &Ty<Infcx::Interner>,
+        b: &Ty<Infcx::Interner>,
+    ) -> Result<(), OutOfMemory>
+        requires lawful { (Self.state self.old).lawful }
+        requires decides { (Self.state self.old).ambient ≢ Bivariant }
+        requires a_known { IsTrue (known ((Self.state self.old).meaning.ty a.now)) }
+        requires b_known { IsTrue (known ((Self.state self.old).meaning.ty b.now)) }
+        ensures { RegistersAlias (Self.state self.old) (Self.state self.new) a.now b.now result };
 
     /// Registers goals, behind those that there were. After `OutOfMemory` none was registered.
     fn register_goals(&mut self, goals: &[GoalOf<Infcx::Interner>]) -> Result<(), OutOfMemory>
@@ -250,15 +268,80 @@ pub fn combine_ty_args<Infcx: InferCtxtLike, R: PredicateEmittingRelation<Infcx>
     Ok(())
 }
 
-/// What comes of two types that were resolved shallowly, before their parts are related. Two number variables of one
-/// kind are made one, and the left one is the answer; one is bound to a type of its kind, which is the answer; two
-/// types of which none is a variable are left to be related by their parts.
+// Registers a predicate, behind the goals that there are.
+fn register_one<Infcx: InferCtxtLike, R: PredicateEmittingRelation<Infcx>>(
+    relation: &mut R,
+    predicate: Predicate<Infcx::Interner>,
+) -> Result<(), OutOfMemory>
+    requires lawful { (R.state relation.old).lawful }
+    requires known { KnowsPredicate (R.state relation.old).meaning predicate }
+    ensures { let r = R.state relation.old in
+        AddsGoals r (R.state relation.new) (goals_in r (predicate ∷ [])) result }
+{
+    let mut predicates = Vec::new(relation.infcx().cx().alloc());
+    predicates.push(predicate)?;
+    relation.register_predicates(predicates.as_slice())
+}
+
+// Registers that too much was met to tell.
+fn register_ambiguous<Infcx: InferCtxtLike, R: PredicateEmittingRelation<Infcx>>(
+    relation: &mut R,
+) -> Result<(), OutOfMemory>
+    requires lawful { (R.state relation.old).lawful }
+    ensures { RegistersGoal (R.state relation.old) (R.state relation.new) ambiguous_predicate result }
+{
+    relation.context_grows();
+    let predicate = recording::ambiguous_predicate(relation.infcx_mut())?;
+    register_one(relation, predicate)
+}
+
+// Registers that two constants, one unevaluated, are one.
+fn register_const_alias<Infcx: InferCtxtLike, R: PredicateEmittingRelation<Infcx>>(
+    relation: &mut R,
+    a: &Const<Infcx::Interner>,
+    b: &Const<Infcx::Interner>,
+) -> Result<(), OutOfMemory>
+    requires lawful { (R.state relation.old).lawful }
+    requires a_known { IsTrue (known ((R.state relation.old).meaning.const_ a.now)) }
+    requires b_known { IsTrue (known ((R.state relation.old).meaning.const_ b.now)) }
+    ensures { let m = (R.state relation.old).meaning in RegistersGoal (R.state relation.old) (R.state relation.new)
+        (alias_relate_predicate Equate (m.const_ a.now) (m.const_ b.now)) result }
+{
+    relation.context_grows();
+    let infcx = relation.infcx_mut();
+    let (x, y) = (TermKind::Const(*a), TermKind::Const(*b));
+    let predicate = recording::alias_relate_predicate(infcx, x, y, AliasRelationDirection::Equate)?;
+    register_one(relation, predicate)
+}
+
+// Records that an error was met.
+fn taint<Infcx: InferCtxtLike, R: PredicateEmittingRelation<Infcx>>(relation: &mut R)
+    requires { (R.state relation.old).lawful }
+    ensures alone { TaintsAlone (R.state relation.old) (R.state relation.new) }
+    ensures kept { KeepsKept (R.state relation.old) (R.state relation.new) }
+{
+    relation.context_grows();
+    relation.infcx_mut().set_tainted_by_errors(ErrorGuaranteed);
+}
+
+/// What comes of two types that were resolved shallowly, before their parts are related, in this order:
+///
+/// | of the two types | comes |
+/// |---|---|
+/// | one is an error | the taint; the error is the answer, the left one first |
+/// | one is an alias, with the next solver, aliases not related structurally | the goal that their variance asks of both; the left one |
+/// | one is an opaque type, and the other no variable, with the old solver in coherence | the goal `Ambiguous`; the left one |
+/// | two number variables of one kind | they are made one; the left one |
+/// | a number variable and a type of its kind | it is bound to that, which is the answer |
+/// | a variable and another type | `Sorts` of both |
+/// | no variable | they are left to be related by their parts |
 ///
 /// Both types are the relation's. Neither is a type variable, for `stepped`: a relation has its own say on these,
 /// before it calls this.
 ///
 /// # Errors
-/// `Sorts` of a number variable and a type that it can't be, and of a type variable. Nothing was recorded then.
+/// `Sorts` of a number variable and a type that it can't be, and of a type variable; `Memory` where a growth was
+/// refused. Nothing was recorded or registered then.
 pub fn super_combine_tys<Infcx: InferCtxtLike, R: PredicateEmittingRelation<Infcx>>(
     relation: &mut R,
     a: &Ty<Infcx::Interner>,
@@ -271,23 +354,49 @@ pub fn super_combine_tys<Infcx: InferCtxtLike, R: PredicateEmittingRelation<Infc
     requires b_shallow { let r = R.state relation.old in IsShallow r.store (r.meaning.ty b.now) }
     ensures stepped { StepsUnlessVars (R.state relation.old) (R.state relation.new) a.now b.now result }
     ensures combines { TysCombine (R.state relation.old) (R.state relation.new) a.now b.now result }
-    ensures registers_nothing { (R.state relation.new).goals ≡ (R.state relation.old).goals }
 {
-    relation.context_grows();
-    meet_tys(relation.infcx_mut(), a, b)
+    let left = ty_standing(relation.infcx(), a);
+    let right = ty_standing(relation.infcx(), b);
+    if let Standing::Error = left {
+        taint::<Infcx, R>(relation);
+        return Ok(Step::Done(*a));
+    }
+    if let Standing::Error = right {
+        taint::<Infcx, R>(relation);
+        return Ok(Step::Done(*b));
+    }
+    match left_to::<Infcx, R>(relation, left, right) {
+        Leaving::ToGoal => {
+            relation.register_alias_relate_predicate(a, b)?;
+            Ok(Step::Done(*a))
+        }
+        Leaving::Open => {
+            register_ambiguous::<Infcx, R>(relation)?;
+            Ok(Step::Done(*a))
+        }
+        Leaving::ToNone => {
+            relation.context_grows();
+            meet_tys(relation.infcx_mut(), a, b)
+        }
+    }
 }
 
 /// What comes of two constants, before their parts are related. Of one and the same it is the answer. Else both are
-/// resolved shallowly: two variables are made one, and the left one is the answer; a variable is bound to what the
-/// other side comes to, and the bound constant is to be related with that side, which is the answer, at `Invariant`;
-/// two constants of which none is a variable are left to be related by their parts.
+/// resolved shallowly, and then, in this order:
+///
+/// | of the two constants | comes |
+/// |---|---|
+/// | two variables | they are made one; the left one |
+/// | a variable and another constant | it is bound to what that comes to, and the bound constant is to be related with the other side, which is the answer, at `Invariant` |
+/// | one is unevaluated, with the next solver, aliases not related structurally | a goal that both are one, at every variance; the right one |
+/// | no variable | they are left to be related by their parts |
 ///
 /// Both constants are the relation's.
 ///
 /// # Errors
 /// `CyclicConst` where the variable stands in what the other side comes to, `Mismatch` where a placeholder does that
 /// the variable can't name, `Budget` where no instantiation is left, `Memory` where a growth was refused. Nothing was
-/// bound then.
+/// bound or registered then.
 pub fn super_combine_consts<Infcx: InferCtxtLike, R: PredicateEmittingRelation<Infcx>>(
     relation: &mut R,
     a: &Const<Infcx::Interner>,
@@ -298,8 +407,35 @@ pub fn super_combine_consts<Infcx: InferCtxtLike, R: PredicateEmittingRelation<I
     requires asked { AskedConsts solver_manner (R.state relation.old) a.now b.now }
     ensures stepped { SteppedConsts solver_manner (R.state relation.old) (R.state relation.new) a.now b.now result }
     ensures combines { ConstsCombine (R.state relation.old) (R.state relation.new) a.now b.now result }
-    ensures registers_nothing { (R.state relation.new).goals ≡ (R.state relation.old).goals }
 {
+    if a == b {
+        return Ok(Step::Done(*a));
+    }
+    let left = relation.infcx().shallow_resolve_const(a);
+    let right = relation.infcx().shallow_resolve_const(b);
+    combine_shallow(relation, &left, &right)
+}
+
+// What comes of two constants that were resolved shallowly.
+fn combine_shallow<Infcx: InferCtxtLike, R: PredicateEmittingRelation<Infcx>>(
+    relation: &mut R,
+    a: &Const<Infcx::Interner>,
+    b: &Const<Infcx::Interner>,
+) -> RelateResult<Infcx::Interner, Step<Const<Infcx::Interner>>>
+    requires lawful { (R.state relation.old).lawful }
+    requires decides { (R.state relation.old).ambient ≢ Bivariant }
+    requires asked { AskedConsts solver_manner (R.state relation.old) a.now b.now }
+    requires a_shallow { let r = R.state relation.old in IsShallowConst r.store (r.meaning.const_ a.now) }
+    requires b_shallow { let r = R.state relation.old in IsShallowConst r.store (r.meaning.const_ b.now) }
+    ensures stepped { SteppedConsts solver_manner (R.state relation.old) (R.state relation.new) a.now b.now result }
+    ensures combines { CombinesShallow (R.state relation.old) (R.state relation.new) a.now b.now result }
+{
+    if are_no_const_vars(relation.infcx(), a, b) {
+        if leaves_const::<Infcx, R>(relation, a, b) {
+            register_const_alias::<Infcx, R>(relation, a, b)?;
+            return Ok(Step::Done(*b));
+        }
+    }
     relation.context_grows();
     let aliases = relation.structurally_relate_aliases();
     meet_consts(relation.infcx_mut(), aliases, a, b)

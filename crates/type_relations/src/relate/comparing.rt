@@ -1,39 +1,43 @@
 //! Comparing the outermost forms of two terms.
-ghost use Rattle.std.specs.Prelude.{◌≡◌, ◌≢◌, ◌⊎◌, ◌<◌, IsTrue, IsFalse, OnOk, IfErr};
+ghost use Rattle.std.specs.Prelude.{◌≡◌, ◌≢◌, ◌⊎◌, ◌↔◌, ◌<◌, IsTrue, IsFalse, OnOk, IfErr};
 ghost use Rattle.relation_terms.specs.Trees.{known};
 ghost use Rattle.relation_contexts.specs.Errors.{FormError, ConstFormError, PatternError, AreOfOneForm, AreOfOneConst};
-ghost use Rattle.relation_contexts.specs.Errors.{AreOfOneValue};
+ghost use Rattle.relation_contexts.specs.Errors.{AreOfOneValue, HaveNoError};
 ghost use Rattle.relation_folds.specs.declared.error.TypeError.TheVariants.{Sorts, TupleSize, ConstMismatch};
-ghost use Rattle.type_relations.specs.Forms.{tree_outline};
-ghost use Rattle.type_relations.specs.declared.relate.forms.Form.TheVariants.{Leaf, Tuple};
+ghost use Rattle.type_relations.specs.Forms.{tree_outline, NamesItems};
+ghost use Rattle.type_relations.specs.Comparing.{AreOfOneItem};
+ghost use Rattle.type_relations.specs.declared.relate.forms.Form.TheVariants.{Leaf, Tuple, Alias};
 ghost use Rattle.relation_contexts.specs.Parts.{IsFormedConst};
-ghost use Rattle.relation_contexts.specs.Covered.{IsCovered};
 
 mod bodies;
 
-use crate::relate::forms::{Form, has_fixed_parts, is_same_form, is_same_item, outline_of};
+use crate::relate::forms::{
+    Form, Outline, has_fixed_parts, is_same_form, is_same_item, outline_of,
+};
 use crate::relate::parts::parts_count_in;
 pub use bodies::{
     compare_existentials, compare_members, compare_objects, compare_parts, compare_signatures,
 };
 use relation_folds::error::{ExpectedFound, TypeError, TypeErrorOf};
 use relation_terms::terms::{
-    Const, ConstKind, Interner, Pat, PatternKind, Ty, TyKind, ValTree, ValTreeKind,
+    Const, ConstKind, Interner, Pat, PatternKind, Ty, TyKind, UnevaluatedConst, ValTree,
+    ValTreeKind,
 };
 
 /// Answers `Ok` where two types are of one outermost form, with as many parts, which are not compared. Parameters are
-/// of one form where they have one index; types that have no parts, all others, where they are one type.
+/// of one form where they have one index; aliases where they are of one item, whatever kind they call it; types that
+/// have no parts, all others, where they are one type.
 ///
-/// The interner has to know both types, which are of forms that relating has rules for; it is only read.
+/// The interner has to know both types, which are no errors; it is only read.
 ///
 /// Answers `Mutability` for two references or two raw pointers of unlike mutability, `TupleSize` for two tuples of
-/// unlike lengths of which none is 0, and `Sorts` for all other types that differ. An error names the left one first.
+/// unlike lengths of which none is 0, `ProjectionMismatched` for two aliases of unlike items, and `Sorts` for all other
+/// types that differ. An error names the left one first.
 /// Upstream these cases stand in `structurally_relate_tys`, which relates the parts too.
 pub fn compare_tys<I: Interner>(cx: &I, a: &Ty<I>, b: &Ty<I>) -> Result<(), TypeErrorOf<I>>
     requires a_known { IsTrue (known ((I.meaning cx.now).ty a.now)) }
     requires b_known { IsTrue (known ((I.meaning cx.now).ty b.now)) }
-    requires a_covered { IsCovered ((I.meaning cx.now).ty a.now) }
-    requires b_covered { IsCovered ((I.meaning cx.now).ty b.now) }
+    requires no_error { HaveNoError ((I.meaning cx.now).ty a.now) ((I.meaning cx.now).ty b.now) }
     ensures alike { OnOk result (AreOfOneForm ((I.meaning cx.now).ty a.now) ((I.meaning cx.now).ty b.now)) }
     ensures errors { IfErr result (FormError (I.meaning cx.now) a.now b.now) }
 {
@@ -51,7 +55,7 @@ pub fn compare_tys<I: Interner>(cx: &I, a: &Ty<I>, b: &Ty<I>) -> Result<(), Type
         return Err(unlike::<I>(a, b));
     }
     if !is_same_item(cx, &left.item, &right.item) {
-        return Err(unlike::<I>(a, b));
+        return Err(unlike_items::<I>(a, b, &left, &right));
     }
     if left.mutability != right.mutability {
         return Err(TypeError::Mutability);
@@ -71,8 +75,7 @@ pub fn compare_tys<I: Interner>(cx: &I, a: &Ty<I>, b: &Ty<I>) -> Result<(), Type
 fn compare_leaves<I: Interner>(cx: &I, a: &Ty<I>, b: &Ty<I>) -> Result<(), TypeErrorOf<I>>
     requires a_known { IsTrue (known ((I.meaning cx.now).ty a.now)) }
     requires b_known { IsTrue (known ((I.meaning cx.now).ty b.now)) }
-    requires a_covered { IsCovered ((I.meaning cx.now).ty a.now) }
-    requires b_covered { IsCovered ((I.meaning cx.now).ty b.now) }
+    requires no_error { HaveNoError ((I.meaning cx.now).ty a.now) ((I.meaning cx.now).ty b.now) }
     requires leaf { (tree_outline ((I.meaning cx.now).ty a.now)).form ≡ Leaf }
     requires differ { (I.meaning cx.now).ty a.now ≢ (I.meaning cx.now).ty b.now }
     ensures alike { OnOk result (AreOfOneForm ((I.meaning cx.now).ty a.now) ((I.meaning cx.now).ty b.now)) }
@@ -93,11 +96,10 @@ fn compare_leaves<I: Interner>(cx: &I, a: &Ty<I>, b: &Ty<I>) -> Result<(), TypeE
 }
 
 /// Answers `Ok` where two constants are of one outermost form, with as many parts, which are not compared. Parameters
-/// are of one form where they have one index, values where their value trees are one or have as many branches. The
-/// types of values are not looked at.
+/// are of one form where they have one index, values where their value trees are one or have as many branches, and
+/// unevaluated constants where they are of one item. The types of values are not looked at.
 ///
-/// The interner has to know both constants, which are no variables and are of forms that relating has rules for; it is
-/// only read.
+/// The interner has to know both constants, which are neither variables nor errors; it is only read.
 ///
 /// Answers `Mismatch` for two expressions of unlike operations or with unlike numbers of arguments, and
 /// `ConstMismatch`, which names the left one first, for all other constants that differ. Upstream these cases stand in
@@ -105,10 +107,9 @@ fn compare_leaves<I: Interner>(cx: &I, a: &Ty<I>, b: &Ty<I>) -> Result<(), TypeE
 pub fn compare_consts<I: Interner>(cx: &I, a: &Const<I>, b: &Const<I>) -> Result<(), TypeErrorOf<I>>
     requires a_known { IsTrue (known ((I.meaning cx.now).const_ a.now)) }
     requires b_known { IsTrue (known ((I.meaning cx.now).const_ b.now)) }
-    requires a_covered { IsCovered ((I.meaning cx.now).const_ a.now) }
-    requires b_covered { IsCovered ((I.meaning cx.now).const_ b.now) }
     requires a_formed { IsFormedConst ((I.meaning cx.now).const_ a.now) }
     requires b_formed { IsFormedConst ((I.meaning cx.now).const_ b.now) }
+    requires no_error { HaveNoError ((I.meaning cx.now).const_ a.now) ((I.meaning cx.now).const_ b.now) }
     ensures alike { OnOk result (AreOfOneConst ((I.meaning cx.now).const_ a.now) ((I.meaning cx.now).const_ b.now)) }
     ensures errors { IfErr result (ConstFormError (I.meaning cx.now) a.now b.now) }
 {
@@ -129,10 +130,9 @@ pub fn compare_consts<I: Interner>(cx: &I, a: &Const<I>, b: &Const<I>) -> Result
             }
             Ok(())
         }
-        ConstKind::Infer(_)
-        | ConstKind::Bound(..)
-        | ConstKind::Unevaluated(_)
-        | ConstKind::Error(_) => Err(unlike_consts::<I>(a, b)),
+        ConstKind::Infer(_) | ConstKind::Bound(..) | ConstKind::Error(_) => {
+            Err(unlike_consts::<I>(a, b))
+        }
         ConstKind::Value(_, value) => {
             let ConstKind::Value(_, other) = right else {
                 return Err(unlike_consts::<I>(a, b));
@@ -154,7 +154,32 @@ pub fn compare_consts<I: Interner>(cx: &I, a: &Const<I>, b: &Const<I>) -> Result
             }
             Ok(())
         }
+        ConstKind::Unevaluated(unevaluated) => {
+            let ConstKind::Unevaluated(other) = right else {
+                return Err(unlike_consts::<I>(a, b));
+            };
+            if !is_one_item(cx, &unevaluated, &other) {
+                return Err(unlike_consts::<I>(a, b));
+            }
+            Ok(())
+        }
     }
+}
+
+// Whether two unevaluated constants are of one item, with as many arguments.
+fn is_one_item<I: Interner>(
+    cx: &I,
+    a: &UnevaluatedConst<I::Key, I::Id>,
+    b: &UnevaluatedConst<I::Key, I::Id>,
+) -> bool
+    requires a_known { IsTrue (known ((I.meaning cx.now).args (a.now).args)) }
+    requires b_known { IsTrue (known ((I.meaning cx.now).args (b.now).args)) }
+    ensures { IsTrue result ↔ AreOfOneItem (I.meaning cx.now) a.now b.now }
+{
+    if a.def.0 != b.def.0 {
+        return false;
+    }
+    cx.args(&a.args).len() == cx.args(&b.args).len()
 }
 
 // Whether two value trees are one, or have as many branches.
@@ -218,6 +243,28 @@ fn unlike<I: Interner>(a: &Ty<I>, b: &Ty<I>) -> TypeErrorOf<I>
     ensures { result ≡ Sorts (record { expected = a.now; found = b.now }) }
 {
     TypeError::Sorts(ExpectedFound::new(*a, *b))
+}
+
+// Two types of one form over unlike items: aliases by their items.
+fn unlike_items<I: Interner>(
+    a: &Ty<I>,
+    b: &Ty<I>,
+    left: &Outline<I::Id>,
+    right: &Outline<I::Id>,
+) -> TypeErrorOf<I>
+    ensures aliases { NamesItems left.now right.now result }
+    ensures others { (left.now).form ≢ Alias → result ≡ Sorts (record { expected = a.now; found = b.now }) }
+{
+    if !is_same_form(left.form, Form::Alias) {
+        return unlike::<I>(a, b);
+    }
+    let Some(x) = left.item else {
+        return unlike::<I>(a, b);
+    };
+    let Some(y) = right.item else {
+        return unlike::<I>(a, b);
+    };
+    TypeError::ProjectionMismatched(ExpectedFound::new(x, y))
 }
 
 // Two types of one form with unlike numbers of parts: two tuples, of which neither is empty, by their lengths.

@@ -1,10 +1,14 @@
 //! The outermost forms of types, as comparing tells them apart.
 ghost use Rattle.std.specs.Prelude.{◌≡◌, ◌↔◌, IsTrue};
-ghost use Rattle.relation_terms.specs.Meaning.{kind_tree};
+ghost use Rattle.relation_terms.specs.Trees.{known};
+ghost use Rattle.relation_terms.specs.Meaning.{alias_id, kind_tree};
+ghost use Rattle.relation_contexts.specs.Relation.{IsError};
 ghost use Rattle.relation_folds.specs.Outlines.{named};
 ghost use Rattle.type_relations.specs.Forms.{plain, of_item, of_pointer, named_outline, tree_outline, IsFixed};
 
-use relation_terms::terms::{Interner, Mutability, TyForm, TyKind};
+use relation_terms::terms::{
+    AliasTyKind, Const, ConstKind, Interner, Mutability, Ty, TyForm, TyKind,
+};
 
 // Which form a type over parts has. Each is the form of `TyKind` of that name.
 #[derive(Clone, Copy, PartialEq, Eq)]
@@ -65,6 +69,18 @@ fn item_outline<D: Copy>(form: Form, item: &D) -> Outline<D>
     }
 }
 
+// The item that an alias type is of.
+pub(crate) fn aliased_item<D: Copy>(kind: &AliasTyKind<D>) -> D
+    ensures { result ≡ alias_id kind.now }
+{
+    match kind {
+        AliasTyKind::Projection { def_id } => def_id.0,
+        AliasTyKind::Inherent { def_id } => def_id.0,
+        AliasTyKind::Opaque { def_id } => def_id.0,
+        AliasTyKind::Free { def_id } => def_id.0,
+    }
+}
+
 // What is compared of a type besides its parts.
 pub(crate) fn outline_of<I: Interner>(cx: &I, kind: &TyForm<I>) -> Outline<I::Id>
     ensures { named_outline (I.meaning cx.now).id result ≡ tree_outline (kind_tree (I.meaning cx.now) kind.now) }
@@ -77,6 +93,7 @@ pub(crate) fn outline_of<I: Interner>(cx: &I, kind: &TyForm<I>) -> Outline<I::Id
         TyKind::CoroutineClosure(def, _) => item_outline(Form::CoroutineClosure, &def.0),
         TyKind::Coroutine(def, _) => item_outline(Form::Coroutine, &def.0),
         TyKind::CoroutineWitness(def, _) => item_outline(Form::CoroutineWitness, &def.0),
+        TyKind::Alias(alias) => item_outline(Form::Alias, &aliased_item(&alias.kind)),
         TyKind::RawPtr(_, mutability) => pointer_outline(Form::RawPtr, *mutability),
         TyKind::Ref(_, _, mutability) => pointer_outline(Form::Ref, *mutability),
         TyKind::Array(..) => plain_outline(Form::Array),
@@ -86,7 +103,6 @@ pub(crate) fn outline_of<I: Interner>(cx: &I, kind: &TyForm<I>) -> Outline<I::Id
         TyKind::FnPtr(..) => plain_outline(Form::FnPtr),
         TyKind::UnsafeBinder(_) => plain_outline(Form::UnsafeBinder),
         TyKind::Dynamic(..) => plain_outline(Form::Dynamic),
-        TyKind::Alias(_) => plain_outline(Form::Alias),
         TyKind::Bool
         | TyKind::Char
         | TyKind::Int(_)
@@ -107,6 +123,28 @@ pub(crate) fn is_same_form(form: Form, other: Form) -> bool
     ensures { IsTrue result ↔ (form ≡ other) }
 {
     form == other
+}
+
+// Whether a type stands for an error.
+pub(crate) fn is_error<I: Interner>(cx: &I, ty: &Ty<I>) -> bool
+    requires { IsTrue (known ((I.meaning cx.now).ty ty.now)) }
+    ensures { IsTrue result ↔ IsError ((I.meaning cx.now).ty ty.now) }
+{
+    match cx.ty_kind(ty) {
+        TyKind::Error(_) => true,
+        _ => false,
+    }
+}
+
+// The same of a constant.
+pub(crate) fn is_error_const<I: Interner>(cx: &I, constant: &Const<I>) -> bool
+    requires { IsTrue (known ((I.meaning cx.now).const_ constant.now)) }
+    ensures { IsTrue result ↔ IsError ((I.meaning cx.now).const_ constant.now) }
+{
+    match cx.const_kind(constant) {
+        ConstKind::Error(_) => true,
+        _ => false,
+    }
 }
 
 // Whether all types of a form have as many parts.

@@ -5,7 +5,6 @@ ghost use Rattle.relation_terms.specs.Meaning.{arg_tree};
 ghost use Rattle.relation_terms.specs.Parts.{part_tree, part_of_arg, part_sort};
 ghost use Rattle.relation_terms.specs.Parts.{Fit as PartsFit};
 ghost use Rattle.relation_contexts.specs.Parts.{parts_of, const_parts_of, IsByParts};
-ghost use Rattle.relation_contexts.specs.Covered.{IsCovered};
 ghost use Rattle.relation_contexts.specs.Lawful.{WithMeaning, OnlyMemory};
 ghost use Rattle.relation_contexts.specs.Making.{Fit};
 ghost use Rattle.type_relations.specs.Keyed.{MakesTyOver, MakesConstOver, MakesPartOver};
@@ -140,7 +139,6 @@ pub(crate) fn make_ty<I: Interner, R: TypeRelation<I>>(
 ) -> RelateResult<I, Ty<I>>
     requires lawful { (R.state r.old).lawful }
     requires ty_known { IsTrue (known ((R.state r.old).meaning.ty ty.now)) }
-    requires ty_covered { IsCovered ((R.state r.old).meaning.ty ty.now) }
     requires parts_known { IsTrue (known (list_tree (arg_tree (R.state r.old).meaning) parts.now)) }
     requires fits { Fit parts.now (parts_of ((R.state r.old).meaning.ty ty.now)) }
     ensures grown { WithMeaning (R.state r.old) (R.state r.new).meaning (R.state r.new) }

@@ -8,7 +8,6 @@ ghost use Rattle.relation_terms.specs.declared.terms.part_kind.Part.TheVariants.
 ghost use Rattle.relation_terms.specs.Parts.{parts_of as list_of_parts};
 ghost use Rattle.relation_contexts.specs.Parts.{parts_of, const_parts_of, IsByParts, IsArgPart, IsBinderPart};
 ghost use Rattle.type_relations.specs.declared.relate.parts.PartKind.TheVariants.{Argument, Binder};
-ghost use Rattle.relation_contexts.specs.Covered.{IsCovered};
 
 use relation_terms::terms::parts::{member, member_count, the_arg, ty_parts};
 use relation_terms::terms::{
@@ -100,7 +99,6 @@ pub(crate) fn is_by_parts<I: Interner>(cx: &I, ty: &Ty<I>) -> bool
 // The part of a type at a place. Places count from 0, in the order in which parts are related.
 pub(crate) fn part<I: Interner>(cx: &I, ty: &Ty<I>, i: usize) -> GenericArg<I>
     requires ty_known { IsTrue (known ((I.meaning cx.now).ty ty.now)) }
-    requires ty_covered { IsCovered ((I.meaning cx.now).ty ty.now) }
     requires over_args { IsByParts ((I.meaning cx.now).ty ty.now) → ⊥ }
     requires in_bounds { i < count (parts_of ((I.meaning cx.now).ty ty.now)) }
     ensures sure { IsTrue (known (arg_tree (I.meaning cx.now) result)) }

@@ -5,16 +5,17 @@ ghost use Rattle.term_enums.specs.declared.Variance.TheVariants.{Bivariant};
 ghost use Rattle.term_enums.specs.Variances.{xform};
 ghost use Rattle.relation_terms.specs.Meaning.{arg_tree};
 ghost use Rattle.relation_terms.specs.Parts.{part_tree, part_sort};
-ghost use Rattle.relation_contexts.specs.Relation.{part_at};
-ghost use Rattle.relation_contexts.specs.Errors.{FormError, ConstFormError, AreOfOneForm, AreOfOneConst};
+ghost use Rattle.relation_contexts.specs.Relation.{part_at, IsError};
+ghost use Rattle.relation_contexts.specs.Errors.{FormError, ConstFormError, AreOfOneForm, AreOfOneConst, HaveNoError};
 ghost use Rattle.relation_contexts.specs.Parts.{IsFormedConst, IsByParts, IsComparedPart, parts_of, const_parts_of};
 ghost use Rattle.relation_contexts.specs.Parts.{head_of};
-ghost use Rattle.relation_contexts.specs.Covered.{IsCovered};
 ghost use Rattle.type_relations.specs.Keyed.{AskedTys, ShownTys, NotedTys, AreOver, part_in, const_part_in, declared_in};
+ghost use Rattle.type_relations.specs.Keyed.{alias_in};
 ghost use Rattle.type_relations.specs.Comparing.{AreOfOneFormBy, PartsDiffer, nth_part, nth_const_part};
 ghost use Rattle.type_relations.specs.Handing.{IsResultOfTy, IsResultOfConst, named_place};
 
 use crate::relate::comparing::{compare_consts, compare_members, compare_parts, compare_tys};
+use crate::relate::forms::{aliased_item, is_error, is_error_const};
 use crate::relate::parts::{
     const_part, const_parts_count, is_by_parts, part, parts_count, term_part, term_parts_count,
 };
@@ -26,6 +27,21 @@ use relation_terms::terms::{
     Variance,
 };
 
+// Whether a type, or a constant, stands for an error.
+pub(crate) fn is_error_of<I: Interner, R: TypeRelation<I>>(r: &R, ty: &Ty<I>) -> bool
+    requires { IsTrue (known ((R.state r.now).meaning.ty ty.now)) }
+    ensures { IsTrue result ↔ IsError ((R.state r.now).meaning.ty ty.now) }
+{
+    is_error(r.cx(), ty)
+}
+
+pub(crate) fn is_error_const_of<I: Interner, R: TypeRelation<I>>(r: &R, constant: &Const<I>) -> bool
+    requires { IsTrue (known ((R.state r.now).meaning.const_ constant.now)) }
+    ensures { IsTrue result ↔ IsError ((R.state r.now).meaning.const_ constant.now) }
+{
+    is_error_const(r.cx(), constant)
+}
+
 pub(crate) fn compare_tys_of<I: Interner, R: TypeRelation<I>>(
     r: &R,
     a: &Ty<I>,
@@ -33,8 +49,7 @@ pub(crate) fn compare_tys_of<I: Interner, R: TypeRelation<I>>(
 ) -> Result<(), TypeErrorOf<I>>
     requires a_known { IsTrue (known ((R.state r.now).meaning.ty a.now)) }
     requires b_known { IsTrue (known ((R.state r.now).meaning.ty b.now)) }
-    requires a_covered { IsCovered ((R.state r.now).meaning.ty a.now) }
-    requires b_covered { IsCovered ((R.state r.now).meaning.ty b.now) }
+    requires no_error { HaveNoError ((R.state r.now).meaning.ty a.now) ((R.state r.now).meaning.ty b.now) }
     ensures alike { OnOk result (AreOfOneForm ((R.state r.now).meaning.ty a.now) ((R.state r.now).meaning.ty b.now)) }
     ensures errors { IfErr result (FormError (R.state r.now).meaning a.now b.now) }
 {
@@ -48,10 +63,9 @@ pub(crate) fn compare_consts_of<I: Interner, R: TypeRelation<I>>(
 ) -> Result<(), TypeErrorOf<I>>
     requires a_known { IsTrue (known ((R.state r.now).meaning.const_ a.now)) }
     requires b_known { IsTrue (known ((R.state r.now).meaning.const_ b.now)) }
-    requires a_covered { IsCovered ((R.state r.now).meaning.const_ a.now) }
-    requires b_covered { IsCovered ((R.state r.now).meaning.const_ b.now) }
     requires a_formed { IsFormedConst ((R.state r.now).meaning.const_ a.now) }
     requires b_formed { IsFormedConst ((R.state r.now).meaning.const_ b.now) }
+    requires no_error { HaveNoError ((R.state r.now).meaning.const_ a.now) ((R.state r.now).meaning.const_ b.now) }
     ensures alike { let m = (R.state r.now).meaning in OnOk result (AreOfOneConst (m.const_ a.now) (m.const_ b.now)) }
     ensures errors { IfErr result (ConstFormError (R.state r.now).meaning a.now b.now) }
 {
@@ -106,7 +120,6 @@ pub(crate) fn parts_count_of<I: Interner, R: TypeRelation<I>>(r: &R, ty: &Ty<I>)
 
 pub(crate) fn part_of<I: Interner, R: TypeRelation<I>>(r: &R, ty: &Ty<I>, i: usize) -> GenericArg<I>
     requires ty_known { IsTrue (known ((R.state r.now).meaning.ty ty.now)) }
-    requires ty_covered { IsCovered ((R.state r.now).meaning.ty ty.now) }
     requires over_args { IsByParts ((R.state r.now).meaning.ty ty.now) → ⊥ }
     requires in_bounds { i < count (parts_of ((R.state r.now).meaning.ty ty.now)) }
     ensures sure { IsTrue (known (arg_tree (R.state r.now).meaning result)) }
@@ -178,16 +191,29 @@ pub(crate) fn declared_at<I: Interner, R: TypeRelation<I>>(
     }
 }
 
+// The variance at which an alias type's argument is related.
+fn alias_at<I: Interner, R: TypeRelation<I>>(r: &R, def_id: &ItemOf<I>, i: usize) -> Variance
+    ensures { result ≡ alias_in (R.state r.now) def_id.now i }
+{
+    let Some(variances) = r.cx().opt_alias_variances(def_id) else {
+        return Variance::Invariant;
+    };
+    match variances.get(i) {
+        Some(variance) => *variance,
+        None => Variance::Invariant,
+    }
+}
+
 // The variance at which the part of a type at a place is related, seen from the type's own.
 pub(crate) fn variance_at<I: Interner, R: TypeRelation<I>>(r: &R, ty: &Ty<I>, i: usize) -> Variance
     requires ty_known { IsTrue (known ((R.state r.now).meaning.ty ty.now)) }
-    requires ty_covered { IsCovered ((R.state r.now).meaning.ty ty.now) }
     ensures { let q = R.state r.now in xform q.ambient result ≡ part_in q (head_of (q.meaning.ty ty.now)) i }
 {
     let kind = r.cx().ty_kind(ty);
     match &kind {
         TyKind::Adt(def, _) => declared_at(r, &DefId(def.0), i),
         TyKind::FnDef(def, _) => declared_at(r, &DefId(def.0), i),
+        TyKind::Alias(alias) => alias_at(r, &DefId(aliased_item(&alias.kind)), i),
         TyKind::Closure(..)
         | TyKind::CoroutineClosure(..)
         | TyKind::Coroutine(..)

@@ -2,15 +2,16 @@
 ghost use Rattle.std.specs.Prelude.{◌≡◌, ◌≢◌, IfErr, []};
 ghost use Rattle.relation_terms.specs.Meaning.{Extends};
 ghost use Rattle.relation_folds.specs.Faults.{KnowsFault, IfSpent};
-ghost use Rattle.relation_contexts.specs.declared.relate.StructurallyRelateAliases.TheVariants.{No};
+ghost use Rattle.term_enums.specs.declared.Variance.TheVariants.{Invariant};
+ghost use Rattle.relation_contexts.specs.declared.relate.StructurallyRelateAliases.TheVariants.{No, Yes};
 ghost use Rattle.relation_contexts.specs.Stores.{IsSound};
 ghost use Rattle.relation_contexts.specs.Steps.{IsLater};
-ghost use Rattle.relation_contexts.specs.Contexts.{KnowsEnv, SpendsByBinding, RegistersGoals};
+ghost use Rattle.relation_contexts.specs.Contexts.{KnowsEnv, SpendsByBinding};
 ghost use Rattle.relation_contexts.specs.ContextCalls.{KeepsBeside};
 ghost use Rattle.type_relations.specs.Relating.{KnowsTerm, TakesTerm, HasTerm, AreOne, AnswersTerms};
 ghost use Rattle.type_relations.specs.Relating.{KeepsEqual, TellsApart, AnswersError, AnswersExactly, ProvesApart};
 ghost use Rattle.type_relations.specs.Relating.{RelatesAgreeing};
-ghost use Rattle.type_relations.specs.Relating.{AnswersSubtype, SpendsNoMore, MakesToRelate, BuildsNoMore, Idle};
+ghost use Rattle.type_relations.specs.Relating.{AnswersAsked, AnswersOnly, SpendsNoMore, MakesToRelate, BuildsNoMore, Idle};
 ghost use Rattle.type_relations.specs.Terms.{AskedTerms, RelatedTerms, TermsRegister};
 ghost use Rattle.type_relations.specs.Solving.{solving_in, solver_manner};
 
@@ -99,12 +100,12 @@ pub trait RelateExt: InferCtxtLike {
         ensures answers { AnswersTerms Self.state self.old self.new T.over T.tree param_env variance lhs rhs result }
         ensures keeps { KeepsEqual Self.state self.old self.new T.over T.tree lhs rhs result }
         ensures apart { TellsApart Self.state self.old self.new T.over T.tree lhs rhs result }
-        ensures errors { AnswersError Self.state self.old self.new T.over T.tree variance lhs rhs result }
-        ensures agrees { RelatesAgreeing Self.state self.old self.new T.over T.tree variance lhs rhs result }
+        ensures errors { AnswersError Self.state self.old self.new T.over T.tree No variance lhs rhs result }
+        ensures agrees { RelatesAgreeing Self.state self.old self.new T.over T.tree No variance lhs rhs result }
         ensures spent { IfSpent result ((Self.state self.new).store.budget ≡ 0) }
         ensures same { AreOne (Self.state self.old) T.over T.tree lhs rhs → Idle Self.state self.old self.new result }
-        ensures subtype { AnswersSubtype Self.state self.old self.new T.over T.tree param_env variance lhs rhs result }
-        ensures goals { RegistersGoals (Self.state self.old) (Self.state self.new) param_env variance result }
+        ensures alone { AnswersAsked Self.state self.old self.new T.over T.tree No param_env variance lhs rhs result }
+        ensures goals { AnswersOnly Self.state self.old self.new No param_env variance result }
         ensures exact { AnswersExactly Self.state self.old self.new T.over T.tree variance lhs rhs result }
         ensures no_unifier { ProvesApart Self.state self.old self.new T.over T.tree variance lhs rhs result }
         ensures later { IsLater (Self.state self.old).store (Self.state self.new).store }
@@ -113,6 +114,47 @@ pub trait RelateExt: InferCtxtLike {
         ensures sound { IsSound (Self.state self.new).store }
         ensures budget { SpendsByBinding (Self.state self.old) (Self.state self.new) }
         ensures enough { SpendsNoMore Self.state self.old self.new T.over T.tree variance lhs rhs result }
+        ensures lawful { (Self.state self.new).lawful }
+        ensures rest { KeepsBeside (Self.state self.old) (Self.state self.new) }
+        ensures grown { Extends (Self.state self.old).meaning (Self.state self.new).meaning }
+        ensures why_known { IfErr result (λ e. KnowsFault (Self.state self.new).meaning e) };
+
+    /// Relates two at `Invariant`, aliases by their items and arguments: what `relate` relates, but that no alias is
+    /// left to a goal, and none gives way to a variable where a variable is bound to what it stands in. All that
+    /// `relate` promises at `Invariant` of two that aren't left to a goal it promises of all. Its goals are at most that
+    /// too much was met, with the old solver in coherence.
+    fn eq_structurally_relating_aliases<T: Relate<Self::Interner>>(
+        &mut self,
+        param_env: ParamEnv<Self::Interner>,
+        lhs: T,
+        rhs: T,
+        span: Span<Self::Interner>,
+    ) -> RelateGoals<Self::Interner>
+        requires lawful { (Self.state self.old).lawful }
+        requires env_known { KnowsEnv (Self.state self.old) param_env }
+        requires fits { T.fits (Self.state self.old).meaning lhs rhs }
+        requires lhs_known { KnowsTerm (Self.state self.old) T.over T.tree lhs }
+        requires rhs_known { KnowsTerm (Self.state self.old) T.over T.tree rhs }
+        requires lhs_taken { TakesTerm (Self.state self.old) T.over T.tree lhs }
+        requires rhs_taken { TakesTerm (Self.state self.old) T.over T.tree rhs }
+        requires lhs_in { HasTerm (Self.state self.old) T.over T.tree lhs }
+        requires rhs_in { HasTerm (Self.state self.old) T.over T.tree rhs }
+        ensures answers { AnswersTerms Self.state self.old self.new T.over T.tree param_env Invariant lhs rhs result }
+        ensures keeps { KeepsEqual Self.state self.old self.new T.over T.tree lhs rhs result }
+        ensures apart { TellsApart Self.state self.old self.new T.over T.tree lhs rhs result }
+        ensures errors { AnswersError Self.state self.old self.new T.over T.tree Yes Invariant lhs rhs result }
+        ensures agrees { RelatesAgreeing Self.state self.old self.new T.over T.tree Yes Invariant lhs rhs result }
+        ensures spent { IfSpent result ((Self.state self.new).store.budget ≡ 0) }
+        ensures same { AreOne (Self.state self.old) T.over T.tree lhs rhs → Idle Self.state self.old self.new result }
+        ensures goals { AnswersOnly Self.state self.old self.new Yes param_env Invariant result }
+        ensures exact { AnswersExactly Self.state self.old self.new T.over T.tree Invariant lhs rhs result }
+        ensures no_unifier { ProvesApart Self.state self.old self.new T.over T.tree Invariant lhs rhs result }
+        ensures later { IsLater (Self.state self.old).store (Self.state self.new).store }
+        ensures made { MakesToRelate Self.state self.old self.new T.over T.tree lhs rhs }
+        ensures built { BuildsNoMore Self.state self.old self.new T.over T.tree lhs rhs result }
+        ensures sound { IsSound (Self.state self.new).store }
+        ensures budget { SpendsByBinding (Self.state self.old) (Self.state self.new) }
+        ensures enough { SpendsNoMore Self.state self.old self.new T.over T.tree Invariant lhs rhs result }
         ensures lawful { (Self.state self.new).lawful }
         ensures rest { KeepsBeside (Self.state self.old) (Self.state self.new) }
         ensures grown { Extends (Self.state self.old).meaning (Self.state self.new).meaning }
@@ -141,12 +183,12 @@ impl<Infcx: InferCtxtLike> RelateExt for Infcx {
         ensures answers { AnswersTerms Infcx.state self.old self.new T.over T.tree param_env variance lhs rhs result }
         ensures keeps { KeepsEqual Infcx.state self.old self.new T.over T.tree lhs rhs result }
         ensures apart { TellsApart Infcx.state self.old self.new T.over T.tree lhs rhs result }
-        ensures errors { AnswersError Infcx.state self.old self.new T.over T.tree variance lhs rhs result }
-        ensures agrees { RelatesAgreeing Infcx.state self.old self.new T.over T.tree variance lhs rhs result }
+        ensures errors { AnswersError Infcx.state self.old self.new T.over T.tree No variance lhs rhs result }
+        ensures agrees { RelatesAgreeing Infcx.state self.old self.new T.over T.tree No variance lhs rhs result }
         ensures spent { IfSpent result ((Infcx.state self.new).store.budget ≡ 0) }
         ensures same { AreOne (Infcx.state self.old) T.over T.tree lhs rhs → Idle Infcx.state self.old self.new result }
-        ensures subtype { AnswersSubtype Infcx.state self.old self.new T.over T.tree param_env variance lhs rhs result }
-        ensures goals { RegistersGoals (Infcx.state self.old) (Infcx.state self.new) param_env variance result }
+        ensures alone { AnswersAsked Infcx.state self.old self.new T.over T.tree No param_env variance lhs rhs result }
+        ensures goals { AnswersOnly Infcx.state self.old self.new No param_env variance result }
         ensures exact { AnswersExactly Infcx.state self.old self.new T.over T.tree variance lhs rhs result }
         ensures no_unifier { ProvesApart Infcx.state self.old self.new T.over T.tree variance lhs rhs result }
         ensures later { IsLater (Infcx.state self.old).store (Infcx.state self.new).store }
@@ -160,19 +202,122 @@ impl<Infcx: InferCtxtLike> RelateExt for Infcx {
         ensures grown { Extends (Infcx.state self.old).meaning (Infcx.state self.new).meaning }
         ensures why_known { IfErr result (λ e. KnowsFault (Infcx.state self.new).meaning e) }
     {
-        if lhs == rhs {
-            return Ok(Vec::new(self.cx().alloc()));
-        }
-        let (related, goals) = relate_in(self, param_env, &lhs, variance, &rhs, span);
-        related?;
-        Ok(goals)
+        relate_as(
+            self,
+            StructurallyRelateAliases::No,
+            param_env,
+            lhs,
+            variance,
+            rhs,
+            span,
+        )
     }
+
+    fn eq_structurally_relating_aliases<T: Relate<Infcx::Interner>>(
+        &mut self,
+        param_env: ParamEnv<Infcx::Interner>,
+        lhs: T,
+        rhs: T,
+        span: Span<Infcx::Interner>,
+    ) -> RelateGoals<Infcx::Interner>
+        requires lawful { (Infcx.state self.old).lawful }
+        requires env_known { KnowsEnv (Infcx.state self.old) param_env }
+        requires fits { T.fits (Infcx.state self.old).meaning lhs rhs }
+        requires lhs_known { KnowsTerm (Infcx.state self.old) T.over T.tree lhs }
+        requires rhs_known { KnowsTerm (Infcx.state self.old) T.over T.tree rhs }
+        requires lhs_taken { TakesTerm (Infcx.state self.old) T.over T.tree lhs }
+        requires rhs_taken { TakesTerm (Infcx.state self.old) T.over T.tree rhs }
+        requires lhs_in { HasTerm (Infcx.state self.old) T.over T.tree lhs }
+        requires rhs_in { HasTerm (Infcx.state self.old) T.over T.tree rhs }
+        ensures answers { AnswersTerms Infcx.state self.old self.new T.over T.tree param_env Invariant lhs rhs result }
+        ensures keeps { KeepsEqual Infcx.state self.old self.new T.over T.tree lhs rhs result }
+        ensures apart { TellsApart Infcx.state self.old self.new T.over T.tree lhs rhs result }
+        ensures errors { AnswersError Infcx.state self.old self.new T.over T.tree Yes Invariant lhs rhs result }
+        ensures agrees { RelatesAgreeing Infcx.state self.old self.new T.over T.tree Yes Invariant lhs rhs result }
+        ensures spent { IfSpent result ((Infcx.state self.new).store.budget ≡ 0) }
+        ensures same { AreOne (Infcx.state self.old) T.over T.tree lhs rhs → Idle Infcx.state self.old self.new result }
+        ensures goals { AnswersOnly Infcx.state self.old self.new Yes param_env Invariant result }
+        ensures exact { AnswersExactly Infcx.state self.old self.new T.over T.tree Invariant lhs rhs result }
+        ensures no_unifier { ProvesApart Infcx.state self.old self.new T.over T.tree Invariant lhs rhs result }
+        ensures later { IsLater (Infcx.state self.old).store (Infcx.state self.new).store }
+        ensures made { MakesToRelate Infcx.state self.old self.new T.over T.tree lhs rhs }
+        ensures built { BuildsNoMore Infcx.state self.old self.new T.over T.tree lhs rhs result }
+        ensures sound { IsSound (Infcx.state self.new).store }
+        ensures budget { SpendsByBinding (Infcx.state self.old) (Infcx.state self.new) }
+        ensures enough { SpendsNoMore Infcx.state self.old self.new T.over T.tree Invariant lhs rhs result }
+        ensures lawful { (Infcx.state self.new).lawful }
+        ensures rest { KeepsBeside (Infcx.state self.old) (Infcx.state self.new) }
+        ensures grown { Extends (Infcx.state self.old).meaning (Infcx.state self.new).meaning }
+        ensures why_known { IfErr result (λ e. KnowsFault (Infcx.state self.new).meaning e) }
+    {
+        relate_as(
+            self,
+            StructurallyRelateAliases::Yes,
+            param_env,
+            lhs,
+            Variance::Invariant,
+            rhs,
+            span,
+        )
+    }
+}
+
+// Relates two in a context at a variance, aliases as it says, and answers the goals.
+fn relate_as<Infcx: InferCtxtLike, T: Relate<Infcx::Interner>>(
+    infcx: &mut Infcx,
+    aliases: StructurallyRelateAliases,
+    param_env: ParamEnv<Infcx::Interner>,
+    lhs: T,
+    variance: Variance,
+    rhs: T,
+    span: Span<Infcx::Interner>,
+) -> RelateGoals<Infcx::Interner>
+    requires lawful { (Infcx.state infcx.old).lawful }
+    requires decides { variance ≢ Variance.Bivariant }
+    requires env_known { KnowsEnv (Infcx.state infcx.old) param_env }
+    requires fits { T.fits (Infcx.state infcx.old).meaning lhs rhs }
+    requires lhs_known { KnowsTerm (Infcx.state infcx.old) T.over T.tree lhs }
+    requires rhs_known { KnowsTerm (Infcx.state infcx.old) T.over T.tree rhs }
+    requires lhs_taken { TakesTerm (Infcx.state infcx.old) T.over T.tree lhs }
+    requires rhs_taken { TakesTerm (Infcx.state infcx.old) T.over T.tree rhs }
+    requires lhs_in { HasTerm (Infcx.state infcx.old) T.over T.tree lhs }
+    requires rhs_in { HasTerm (Infcx.state infcx.old) T.over T.tree rhs }
+    ensures answers { AnswersTerms Infcx.state infcx.old infcx.new T.over T.tree param_env variance lhs rhs result }
+    ensures keeps { KeepsEqual Infcx.state infcx.old infcx.new T.over T.tree lhs rhs result }
+    ensures apart { TellsApart Infcx.state infcx.old infcx.new T.over T.tree lhs rhs result }
+    ensures errors { AnswersError Infcx.state infcx.old infcx.new T.over T.tree aliases variance lhs rhs result }
+    ensures agrees { RelatesAgreeing Infcx.state infcx.old infcx.new T.over T.tree aliases variance lhs rhs result }
+    ensures spent { IfSpent result ((Infcx.state infcx.new).store.budget ≡ 0) }
+    ensures same { AreOne (Infcx.state infcx.old) T.over T.tree lhs rhs → Idle Infcx.state infcx.old infcx.new result }
+    ensures alone {
+        AnswersAsked Infcx.state infcx.old infcx.new T.over T.tree aliases param_env variance lhs rhs result }
+    ensures goals { AnswersOnly Infcx.state infcx.old infcx.new aliases param_env variance result }
+    ensures exact { AnswersExactly Infcx.state infcx.old infcx.new T.over T.tree variance lhs rhs result }
+    ensures no_unifier { ProvesApart Infcx.state infcx.old infcx.new T.over T.tree variance lhs rhs result }
+    ensures later { IsLater (Infcx.state infcx.old).store (Infcx.state infcx.new).store }
+    ensures made { MakesToRelate Infcx.state infcx.old infcx.new T.over T.tree lhs rhs }
+    ensures built { BuildsNoMore Infcx.state infcx.old infcx.new T.over T.tree lhs rhs result }
+    ensures sound { IsSound (Infcx.state infcx.new).store }
+    ensures budget { SpendsByBinding (Infcx.state infcx.old) (Infcx.state infcx.new) }
+    ensures enough { SpendsNoMore Infcx.state infcx.old infcx.new T.over T.tree variance lhs rhs result }
+    ensures lawful { (Infcx.state infcx.new).lawful }
+    ensures rest { KeepsBeside (Infcx.state infcx.old) (Infcx.state infcx.new) }
+    ensures grown { Extends (Infcx.state infcx.old).meaning (Infcx.state infcx.new).meaning }
+    ensures why_known { IfErr result (λ e. KnowsFault (Infcx.state infcx.new).meaning e) }
+{
+    if lhs == rhs {
+        return Ok(Vec::new(infcx.cx().alloc()));
+    }
+    let (related, goals) = relate_in(infcx, aliases, param_env, &lhs, variance, &rhs, span);
+    related?;
+    Ok(goals)
 }
 
 // Relates two in a context at a variance, in an environment, and answers what comes of it and the goals that were
 // registered.
 fn relate_in<Infcx: InferCtxtLike, T: Relate<Infcx::Interner>>(
     infcx: &mut Infcx,
+    aliases: StructurallyRelateAliases,
     param_env: ParamEnv<Infcx::Interner>,
     a: &T,
     variance: Variance,
@@ -186,19 +331,19 @@ fn relate_in<Infcx: InferCtxtLike, T: Relate<Infcx::Interner>>(
     requires env_known { KnowsEnv (Infcx.state infcx.old) param_env }
     requires decides { variance ≢ Variance.Bivariant }
     requires fits { T.fits (Infcx.state infcx.old).meaning a.now b.now }
-    requires asked { let before = solving_in No [] (Infcx.state infcx.old) variance param_env in
+    requires asked { let before = solving_in aliases [] (Infcx.state infcx.old) variance param_env in
         AskedTerms solver_manner T.over T.tree before a.now b.now }
-    ensures related { let before = solving_in No [] (Infcx.state infcx.old) variance param_env in
-        let after = solving_in No result.1.items (Infcx.state infcx.new) variance param_env in
+    ensures related { let before = solving_in aliases [] (Infcx.state infcx.old) variance param_env in
+        let after = solving_in aliases result.1.items (Infcx.state infcx.new) variance param_env in
         RelatedTerms solver_manner T.over T.tree before after a.now b.now result.0 }
-    ensures registers { let before = solving_in No [] (Infcx.state infcx.old) variance param_env in
-        let after = solving_in No result.1.items (Infcx.state infcx.new) variance param_env in
+    ensures registers { let before = solving_in aliases [] (Infcx.state infcx.old) variance param_env in
+        let after = solving_in aliases result.1.items (Infcx.state infcx.new) variance param_env in
         TermsRegister solver_manner T.over T.tree before after a.now b.now result.0 }
 {
     let goals = Vec::new(infcx.cx().alloc());
     let mut relation = SolverRelating {
         infcx,
-        structurally_relate_aliases: StructurallyRelateAliases::No,
+        structurally_relate_aliases: aliases,
         ambient_variance: variance,
         param_env,
         span,

@@ -13,7 +13,7 @@ ghost use Rattle.type_relations.specs.Keyed.{AskedArgs, AskedArgsAt, AskedConsts
 ghost use Rattle.type_relations.specs.Keyed.{AskedPartsAt, RelatedArgs, RelatedArgsAt, RelatedConsts, RelatedPats};
 ghost use Rattle.type_relations.specs.Keyed.{RelatedConstForms, RelatedParts, RelatedPartForms, RelatedPartsAt};
 ghost use Rattle.type_relations.specs.Keyed.{RelatedTys, RelatedTyForms};
-ghost use Rattle.type_relations.specs.Keyed.{ArgsRegisterSubtype, TysRegisterSubtype};
+ghost use Rattle.type_relations.specs.Keyed.{ArgsRelateAlone, TysRelateAlone};
 ghost use Rattle.relation_contexts.specs.Making.{arg_sort};
 ghost use Rattle.type_relations.specs.Arguments.{IsSkipped};
 ghost use Rattle.type_relations.specs.Comparing.{AreOfOneFormBy, object_members};
@@ -26,9 +26,9 @@ use crate::relate::opening::{is_same_of, open_bodies};
 use crate::relate::parts::{PartKind, kind_of_part, the_object};
 use crate::relate::reading::{
     compare_consts_of, compare_members_of, compare_parts_of, compare_tys_of, const_part_of,
-    const_parts_count_of, const_variance_at, in_const, in_ty, is_by_parts_of, named_place_of,
-    note_args, part_of, parts_count_of, term_part_of, term_parts_count_of, term_variance_at,
-    variance_at,
+    const_parts_count_of, const_variance_at, in_const, in_ty, is_by_parts_of, is_error_const_of,
+    is_error_of, named_place_of, note_args, part_of, parts_count_of, term_part_of,
+    term_parts_count_of, term_variance_at, variance_at,
 };
 use crate::relate::{Step, TypeRelation};
 use relation_folds::error::{RelateFault, RelateResult, TypeError};
@@ -60,7 +60,7 @@ pub fn tys<I: Interner, R: TypeRelation<I>>(
     requires decides { (R.state r.old).ambient ≢ Bivariant }
     requires asked { AskedTys R.manner (R.state r.old) a.now b.now }
     ensures related { RelatedTys R.manner (R.state r.old) (R.state r.new) a.now b.now result }
-    ensures registers { TysRegisterSubtype R.manner (R.state r.old) (R.state r.new) a.now b.now result }
+    ensures registers { TysRelateAlone R.manner (R.state r.old) (R.state r.new) a.now b.now result }
 {
     match r.tys(a, b)? {
         Step::Done(answer) => Ok(answer),
@@ -129,7 +129,7 @@ pub fn relate<I: Interner, R: TypeRelation<I>>(
     requires decides { (R.state r.old).ambient ≢ Bivariant }
     requires asked { AskedArgs R.manner (R.state r.old) a.now b.now }
     ensures related { RelatedArgs R.manner (R.state r.old) (R.state r.new) a.now b.now result }
-    ensures registers { ArgsRegisterSubtype R.manner (R.state r.old) (R.state r.new) a.now b.now result }
+    ensures registers { ArgsRelateAlone R.manner (R.state r.old) (R.state r.new) a.now b.now result }
     ensures kind { IfOk result (λ k. arg_sort k ≡ arg_sort a.now) }
 {
     match a {
@@ -184,6 +184,8 @@ pub fn relate_with_variance<I: Interner, R: TypeRelation<I>>(
 }
 
 /// Relates two types by their outermost forms and their parts, and answers the form over what the parts answered.
+/// Where one is an error that is the answer, the left one's first, and nothing is recorded. Aliases are related by
+/// their items and arguments, and the answer is of the left one's kind.
 ///
 /// Neither is a variable, a condition beside those of `tys`. Two forms that differ are refused as `compare_tys` says,
 /// parts in order, each at the variance of its place; a `ConstMismatch` of two lengths is the `ArraySize` of both. All
@@ -201,6 +203,12 @@ pub fn structurally_relate_tys<I: Interner, R: TypeRelation<I>>(
     requires b_formed { IsFormed ((R.state r.old).meaning.ty b.now) }
     ensures { RelatedTyForms R.manner (R.state r.old) (R.state r.new) a.now b.now result }
 {
+    if is_error_of::<I, R>(r, a) {
+        return Ok(*a);
+    }
+    if is_error_of::<I, R>(r, b) {
+        return Ok(*b);
+    }
     compare_tys_of::<I, R>(r, a, b)?;
     if is_by_parts_of::<I, R>(r, a) {
         return Ok(the_ty(&relate_in_order(r, &Part::Ty(*a), &Part::Ty(*b))?));
@@ -220,7 +228,8 @@ pub fn structurally_relate_tys<I: Interner, R: TypeRelation<I>>(
 }
 
 /// Relates two constants by their outermost forms and their parts, and answers the form over what the parts answered.
-/// The types of values are not looked at: the left one is in the answer.
+/// Where one is an error that is the answer, the left one's first, and nothing is recorded. Unevaluated constants are
+/// related by their items and arguments. The types of values are not looked at: the left one is in the answer.
 ///
 /// Neither is a variable, a condition beside those of `tys`. Two forms that differ are refused as `compare_consts`
 /// says; a type error of two branches is the `ConstMismatch` of the whole values. All other errors of the parts are
@@ -238,6 +247,12 @@ pub fn structurally_relate_consts<I: Interner, R: TypeRelation<I>>(
     requires b_formed { IsFormedConst ((R.state r.old).meaning.const_ b.now) }
     ensures { RelatedConstForms R.manner (R.state r.old) (R.state r.new) a.now b.now result }
 {
+    if is_error_const_of::<I, R>(r, a) {
+        return Ok(*a);
+    }
+    if is_error_const_of::<I, R>(r, b) {
+        return Ok(*b);
+    }
     compare_consts_of::<I, R>(r, a, b)?;
     let n = const_parts_count_of::<I, R>(r, a);
     let mut answers = Vec::new(r.cx().alloc());

@@ -9,7 +9,7 @@ ghost use Rattle.relation_contexts.specs.Lawful.{RelatesByDeclared};
 ghost use Rattle.type_relations.specs.Following.{FollowsInterner};
 ghost use Rattle.type_relations.specs.Rounds.{AskedBinders, OpenedBinders};
 ghost use Rattle.type_relations.specs.Keyed.{AskedConsts, AskedRegions, AskedTys, RelatedRegions, ShownTys, NotedTys};
-ghost use Rattle.type_relations.specs.Keyed.{SteppedConsts, SteppedTys, TysStepToSubtype, AreOver, RecordsAsked};
+ghost use Rattle.type_relations.specs.Keyed.{SteppedConsts, SteppedTys, TysStepAlone, AreOver, RecordsAsked};
 ghost use Rattle.type_relations.specs.Keyed.{variances_in, Decides};
 
 use crate::relate::Step;
@@ -31,8 +31,8 @@ pub trait HasState<I: Interner> {
 /// these itself, so one recursion serves all relations, and what it does follows from what the steps do.
 ///
 /// The steps ask for terms that the relation's interner knows, that are the relation's own and that it takes at the
-/// ambient variance, which is not `Bivariant`. No relation takes terms of forms that have no rule yet: aliases,
-/// unevaluated constants and errors; nor what a binder does not bind as its list says.
+/// ambient variance, which is not `Bivariant`. No relation takes what a binder does not bind as its list says, nor what
+/// stands for a variable.
 pub trait TypeRelation<I: Interner>: HasState<I> {
     // The interner of its terms.
     ghost interner: { Self → I };
@@ -78,7 +78,7 @@ pub trait TypeRelation<I: Interner>: HasState<I> {
         requires decides { (Self.state self.old).ambient ≢ Bivariant }
         requires asked { AskedTys manner (Self.state self.old) a.now b.now }
         ensures stepped { SteppedTys manner (Self.state self.old) (Self.state self.new) a.now b.now result }
-        ensures registers { TysStepToSubtype manner (Self.state self.old) (Self.state self.new) a.now b.now result };
+        ensures registers { TysStepAlone manner (Self.state self.old) (Self.state self.new) a.now b.now result };
 
     /// What comes of two constants.
     fn consts(&mut self, a: &Const<I>, b: &Const<I>) -> RelateResult<I, Step<Const<I>>>

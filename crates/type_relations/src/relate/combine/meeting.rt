@@ -1,6 +1,6 @@
 //! Two types, or two constants, of a context that meet, before their parts are related.
 ghost use Rattle.std.specs.Prelude.{◌⊎◌, IsTrue, IsFalse};
-ghost use Rattle.type_relations.specs.Combining.{TysMeet, ShallowMeet, ConstsMeet, IsTyVar, IsNoTyVar};
+ghost use Rattle.type_relations.specs.Combining.{TysMeet, ConstsMeet, IsTyVar, IsNoTyVar, AreFormedConsts};
 ghost use Rattle.relation_contexts.specs.Contexts.{KnowsTy, KnowsConst, HasTy, HasConst, TakesConst};
 ghost use Rattle.relation_contexts.specs.ContextCalls.{Grows, Stands};
 ghost use Rattle.relation_contexts.specs.Resolving.{IsShallow, IsShallowConst};
@@ -83,9 +83,33 @@ pub(crate) fn meet_tys<Infcx: InferCtxtLike>(
     }
 }
 
+// Whether neither of two constants is a variable.
+pub(crate) fn are_no_const_vars<Infcx: InferCtxtLike>(
+    infcx: &Infcx,
+    a: &Const<Infcx::Interner>,
+    b: &Const<Infcx::Interner>,
+) -> bool
+    requires a_known { KnowsConst (Infcx.state infcx.now) a.now }
+    requires b_known { KnowsConst (Infcx.state infcx.now) b.now }
+    requires a_in { HasConst (Infcx.state infcx.now) a.now }
+    requires b_in { HasConst (Infcx.state infcx.now) b.now }
+    requires a_taken { TakesConst (Infcx.state infcx.now) a.now }
+    requires b_taken { TakesConst (Infcx.state infcx.now) b.now }
+    ensures none { IsTrue result → AreFormedConsts (Infcx.state infcx.now).meaning a.now b.now }
+    ensures one { IsFalse result → AreFormedConsts (Infcx.state infcx.now).meaning a.now b.now → ⊥ }
+{
+    if let Some(_) = const_var(infcx, a) {
+        return false;
+    }
+    if let Some(_) = const_var(infcx, b) {
+        return false;
+    }
+    true
+}
+
 // What comes of two constants that were resolved shallowly: a variable is made one with another, or bound to a
 // constant, which is then to be related with that; all others are left to be related by their parts.
-fn meet_shallow<Infcx: InferCtxtLike>(
+pub(crate) fn meet_consts<Infcx: InferCtxtLike>(
     infcx: &mut Infcx,
     aliases: StructurallyRelateAliases,
     a: &Const<Infcx::Interner>,
@@ -101,7 +125,7 @@ fn meet_shallow<Infcx: InferCtxtLike>(
     requires a_shallow { let c = Infcx.state infcx.old in IsShallowConst c.store ((c.meaning).const_ a.now) }
     requires b_shallow { let c = Infcx.state infcx.old in IsShallowConst c.store ((c.meaning).const_ b.now) }
     ensures grows { Grows (Infcx.state infcx.old) (Infcx.state infcx.new) }
-    ensures combines { ShallowMeet (Infcx.state infcx.old) (Infcx.state infcx.new) a.now b.now result }
+    ensures combines { ConstsMeet (Infcx.state infcx.old) (Infcx.state infcx.new) aliases a.now b.now result }
 {
     match const_var(&*infcx, a) {
         Some(x) => match const_var(&*infcx, b) {
@@ -136,30 +160,4 @@ fn meet_shallow<Infcx: InferCtxtLike>(
             None => Ok(Step::Parts { a: *a, b: *b }),
         },
     }
-}
-
-// What comes of two constants: of one and the same it is the answer; of all others what comes of both, resolved
-// shallowly.
-pub(crate) fn meet_consts<Infcx: InferCtxtLike>(
-    infcx: &mut Infcx,
-    aliases: StructurallyRelateAliases,
-    a: &Const<Infcx::Interner>,
-    b: &Const<Infcx::Interner>,
-) -> RelateResult<Infcx::Interner, Step<Const<Infcx::Interner>>>
-    requires lawful { (Infcx.state infcx.old).lawful }
-    requires a_known { KnowsConst (Infcx.state infcx.old) a.now }
-    requires b_known { KnowsConst (Infcx.state infcx.old) b.now }
-    requires a_in { HasConst (Infcx.state infcx.old) a.now }
-    requires b_in { HasConst (Infcx.state infcx.old) b.now }
-    requires a_taken { TakesConst (Infcx.state infcx.old) a.now }
-    requires b_taken { TakesConst (Infcx.state infcx.old) b.now }
-    ensures grows { Grows (Infcx.state infcx.old) (Infcx.state infcx.new) }
-    ensures combines { ConstsMeet (Infcx.state infcx.old) (Infcx.state infcx.new) a.now b.now result }
-{
-    if a == b {
-        return Ok(Step::Done(*a));
-    }
-    let left = infcx.shallow_resolve_const(a);
-    let right = infcx.shallow_resolve_const(b);
-    meet_shallow(infcx, aliases, &left, &right)
 }

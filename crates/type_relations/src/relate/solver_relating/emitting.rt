@@ -3,10 +3,11 @@ ghost use Rattle.std.specs.Prelude.{◌≡◌, map, IfOk};
 
 use crate::relate::StructurallyRelateAliases;
 use crate::relate::combine::PredicateEmittingRelation;
+use crate::relate::solver_relating::recording::alias_asked;
 use crate::relate::solver_relating::{GoalOf, SolverRelating};
 use relation_contexts::infer_ctxt::InferCtxtLike;
 use relation_terms::terms::{
-    Goal, Interner, OutOfMemory, ParamEnv, ParamEnvKey, Predicate, PredicateKey, Span,
+    Goal, Interner, OutOfMemory, ParamEnv, ParamEnvKey, Predicate, PredicateKey, Span, Ty,
 };
 use std::alloc::Global;
 
@@ -56,6 +57,19 @@ impl<'a, Infcx: InferCtxtLike> PredicateEmittingRelation<Infcx> for SolverRelati
 
     fn structurally_relate_aliases(&self) -> StructurallyRelateAliases {
         self.structurally_relate_aliases
+    }
+
+    fn register_alias_relate_predicate(
+        &mut self,
+        a: &Ty<Infcx::Interner>,
+        b: &Ty<Infcx::Interner>,
+    ) -> Result<(), OutOfMemory> {
+        let predicate = alias_asked(&mut *self.infcx, self.ambient_variance, a, b)?;
+        self.goals.push(Goal {
+            param_env: self.param_env,
+            predicate,
+        })?;
+        Ok(())
     }
 
     fn register_goals(&mut self, goals: &[GoalOf<Infcx::Interner>]) -> Result<(), OutOfMemory> {

@@ -1,7 +1,7 @@
 //! What relating records of regions, and the goals that it registers.
 ghost use Rattle.std.specs.Prelude.{◌≡◌, ◌≢◌, [], IsTrue, IfOk, OnErr, OnOk};
 ghost use Rattle.relation_terms.specs.Trees.{known};
-ghost use Rattle.relation_terms.specs.Meaning.{Extends};
+ghost use Rattle.relation_terms.specs.Meaning.{Extends, term_tree};
 ghost use Rattle.term_enums.specs.declared.Variance.TheVariants.{Bivariant};
 ghost use Rattle.relation_contexts.specs.Stores.{all_bound};
 ghost use Rattle.relation_contexts.specs.Steps.{StaysFull};
@@ -9,13 +9,16 @@ ghost use Rattle.relation_contexts.specs.Kits.{StaysBuilt};
 ghost use Rattle.relation_contexts.specs.Measures.{Goes};
 ghost use Rattle.relation_contexts.specs.Contexts.{KnowsTy, HasRegion};
 ghost use Rattle.relation_contexts.specs.ContextCalls.{Stands, Grows};
-ghost use Rattle.relation_contexts.specs.Goals.{subtype_predicate, well_formed_predicate};
-ghost use Rattle.type_relations.specs.Emitting.{AddsAsked, MakesSubtype, MakesWellFormed};
+ghost use Rattle.relation_contexts.specs.Goals.{subtype_predicate, well_formed_predicate, alias_relate_predicate};
+ghost use Rattle.relation_contexts.specs.Goals.{ambiguous_predicate};
+ghost use Rattle.type_relations.specs.Emitting.{AddsAsked, MakesSubtype, MakesWellFormed, MakesAliasRelate};
+ghost use Rattle.type_relations.specs.Emitting.{MakesAliasAt, MakesAmbiguous};
 
 use relation_contexts::infer_ctxt::{InferCtxtLike, VisibleForLeakCheck};
 use relation_terms::predicate::{ClauseKind, PredicateKind, SubtypePredicate};
 use relation_terms::terms::{
-    Binder, BoundVariable, Interner, OutOfMemory, Predicate, Region, Span, TermKind, Ty, Variance,
+    AliasRelationDirection, Binder, BoundVariable, Interner, OutOfMemory, Predicate, Region, Span,
+    Term, TermKind, Ty, Variance,
 };
 
 // Records what two regions that are related at a variance are asked for.
@@ -114,4 +117,95 @@ pub(crate) fn well_formed_predicate<Infcx: InferCtxtLike>(
 {
     infcx.interner_grows();
     mk_well_formed(infcx.cx_mut(), ty)
+}
+
+// The predicate, under a binder of no variables, that two terms, one an alias, are one or in order.
+fn mk_alias_relate<I: Interner>(
+    cx: &mut I,
+    a: Term<I>,
+    b: Term<I>,
+    direction: AliasRelationDirection,
+) -> Result<Predicate<I>, OutOfMemory>
+    requires a_known { IsTrue (known (term_tree (I.meaning cx.old) a)) }
+    requires b_known { IsTrue (known (term_tree (I.meaning cx.old) b)) }
+    ensures grown { Extends (I.meaning cx.old) (I.meaning cx.new) }
+    ensures made { let m = I.meaning cx.old in IfOk result (λ p.
+        (I.meaning cx.new).predicate p ≡ alias_relate_predicate direction (term_tree m a) (term_tree m b)) }
+{
+    let none: Vec<BoundVariable<I>> = Vec::new(cx.alloc());
+    let bound_vars = cx.mk_bound_vars(&none)?;
+    let value = PredicateKind::AliasRelate(a, b, direction);
+    cx.mk_predicate(Binder { value, bound_vars })
+}
+
+// The same over a context's interner. Nothing is recorded.
+pub(crate) fn alias_relate_predicate<Infcx: InferCtxtLike>(
+    infcx: &mut Infcx,
+    a: Term<Infcx::Interner>,
+    b: Term<Infcx::Interner>,
+    direction: AliasRelationDirection,
+) -> Result<Predicate<Infcx::Interner>, OutOfMemory>
+    requires lawful { (Infcx.state infcx.old).lawful }
+    requires a_known { IsTrue (known (term_tree (Infcx.state infcx.old).meaning a)) }
+    requires b_known { IsTrue (known (term_tree (Infcx.state infcx.old).meaning b)) }
+    ensures grows { Grows (Infcx.state infcx.old) (Infcx.state infcx.new) }
+    ensures same_store { (Infcx.state infcx.new).store ≡ (Infcx.state infcx.old).store }
+    ensures made { MakesAliasRelate (Infcx.state infcx.old) (Infcx.state infcx.new) a b direction result }
+{
+    infcx.interner_grows();
+    mk_alias_relate(infcx.cx_mut(), a, b, direction)
+}
+
+// What is asked of two types, one an alias, at a variance. Nothing is recorded.
+pub(crate) fn alias_asked<Infcx: InferCtxtLike>(
+    infcx: &mut Infcx,
+    variance: Variance,
+    a: &Ty<Infcx::Interner>,
+    b: &Ty<Infcx::Interner>,
+) -> Result<Predicate<Infcx::Interner>, OutOfMemory>
+    requires lawful { (Infcx.state infcx.old).lawful }
+    requires decides { variance ≢ Bivariant }
+    requires a_known { KnowsTy (Infcx.state infcx.old) a.now }
+    requires b_known { KnowsTy (Infcx.state infcx.old) b.now }
+    ensures grows { Grows (Infcx.state infcx.old) (Infcx.state infcx.new) }
+    ensures same_store { (Infcx.state infcx.new).store ≡ (Infcx.state infcx.old).store }
+    ensures made { MakesAliasAt (Infcx.state infcx.old) (Infcx.state infcx.new) variance a.now b.now result }
+{
+    let (x, y) = (TermKind::Ty(*a), TermKind::Ty(*b));
+    match variance {
+        Variance::Covariant => {
+            alias_relate_predicate(infcx, x, y, AliasRelationDirection::Subtype)
+        }
+        Variance::Contravariant => {
+            alias_relate_predicate(infcx, y, x, AliasRelationDirection::Subtype)
+        }
+        Variance::Invariant => alias_relate_predicate(infcx, x, y, AliasRelationDirection::Equate),
+        Variance::Bivariant => unreachable!(),
+    }
+}
+
+// The predicate, under a binder of no variables, that too much was met to tell.
+fn mk_ambiguous<I: Interner>(cx: &mut I) -> Result<Predicate<I>, OutOfMemory>
+    ensures grown { Extends (I.meaning cx.old) (I.meaning cx.new) }
+    ensures made { IfOk result (λ p. (I.meaning cx.new).predicate p ≡ ambiguous_predicate) }
+{
+    let none: Vec<BoundVariable<I>> = Vec::new(cx.alloc());
+    let bound_vars = cx.mk_bound_vars(&none)?;
+    cx.mk_predicate(Binder {
+        value: PredicateKind::Ambiguous,
+        bound_vars,
+    })
+}
+
+// The same over a context's interner. Nothing is recorded.
+pub(crate) fn ambiguous_predicate<Infcx: InferCtxtLike>(
+    infcx: &mut Infcx,
+) -> Result<Predicate<Infcx::Interner>, OutOfMemory>
+    requires { (Infcx.state infcx.old).lawful }
+    ensures grows { Grows (Infcx.state infcx.old) (Infcx.state infcx.new) }
+    ensures same_store { (Infcx.state infcx.new).store ≡ (Infcx.state infcx.old).store }
+    ensures made { MakesAmbiguous (Infcx.state infcx.old) (Infcx.state infcx.new) result }
+{
+    infcx.interner_grows();
+    mk_ambiguous(infcx.cx_mut())
 }

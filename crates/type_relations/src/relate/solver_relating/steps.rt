@@ -13,14 +13,16 @@ ghost use Rattle.type_relations.specs.Keyed.{AreOver, AskedConsts, AskedRegions,
 ghost use Rattle.type_relations.specs.Rounds.{AskedBinders};
 ghost use Rattle.type_relations.specs.Solving.{solver_manner};
 ghost use Rattle.type_relations.specs.SolverTerms.{KeepsGoals, SolverCombinesShallow, SolverCombinesVars};
-ghost use Rattle.type_relations.specs.SolverTerms.{SolverOpened, SolverRelatedRegions, SolverStepRegisters};
+ghost use Rattle.type_relations.specs.SolverTerms.{SolverOpened, SolverRelatedRegions};
 ghost use Rattle.type_relations.specs.SolverTerms.{SolverStepped, SolverSteps, SolverStepsBinders, SolverStepsConsts};
-ghost use Rattle.type_relations.specs.SolverTerms.{SolverStepsRegions, SolverStepsToSubtype, SolverStepsTys};
+ghost use Rattle.type_relations.specs.SolverTerms.{SolverStepsRegions, SolverStepsAlone, SolverStepsTys};
 ghost use Rattle.type_relations.specs.SolverTerms.{solver_through};
-ghost use Rattle.type_relations.specs.Subtyping.{IsTyVar};
+ghost use Rattle.type_relations.specs.Combining.{IsNoTyVar};
 
 use crate::relate::Step;
-use crate::relate::combine::{combine_ty_args, super_combine_consts, super_combine_tys};
+use crate::relate::combine::{
+    PredicateEmittingRelation, combine_ty_args, super_combine_consts, super_combine_tys,
+};
 use crate::relate::solver_relating::SolverRelating;
 use crate::relate::solver_relating::opening::{
     enter_and_instantiate, enters_first, enters_second, one_uses,
@@ -36,16 +38,16 @@ use relation_terms::terms::{
 };
 
 impl<'a, Infcx: InferCtxtLike> SolverRelating<'a, Infcx> {
-    /// What comes of two types, before their parts are related. Of one and the same it is the answer; two in neither of
-    /// which a variable stands, but of regions, are left to be related by their parts. All others are resolved
-    /// shallowly first:
+    /// What comes of two types, before their parts are related. Of one and the same it is the answer. Two in one of which
+    /// a variable stands, but of regions, are resolved shallowly first, and then:
     ///
     /// - Two type variables are made one at `Invariant`. At `Covariant` a goal is registered that the left one is a
     ///   subtype of the right one, and at `Contravariant` that the right one is a subtype of the left one, which is the
     ///   expected one of both. The left one is the answer.
     /// - A type variable on the left is bound at the ambient variance, and the bound type is to be related with the
     ///   right one. A type variable on the right is bound at the variance seen from there, and the left type is to be
-    ///   related with the bound one. The left one is the answer.
+    ///   related with the bound one. The left one is the answer. Where it was bound to a type variable in the place of an
+    ///   alias, the goal of that one and the alias is registered in the place of relating them.
     /// - What comes of all others is said by `super_combine_tys`.
     ///
     /// It is the step `tys`. Both types are the relation's. Upstream `tys` relates what is left too.
@@ -53,7 +55,8 @@ impl<'a, Infcx: InferCtxtLike> SolverRelating<'a, Infcx> {
     /// # Errors
     /// `CyclicTy` where the variable stands in what the other side comes to, `Mismatch` where a placeholder does that
     /// the variable can't name, `Budget` where no instantiation is left, `Sorts` of a number variable and a type that
-    /// it can't be, `Memory` where a growth was refused. Nothing was bound or registered then.
+    /// it can't be. Nothing was bound or registered then. `Memory` where a growth was refused; a variable may be bound
+    /// then to one in the place of an alias, and nothing was registered.
     pub fn step_tys(
         &mut self,
         a: &Ty<Infcx::Interner>,
@@ -64,13 +67,13 @@ impl<'a, Infcx: InferCtxtLike> SolverRelating<'a, Infcx> {
         requires asked { AskedTys solver_manner (solver_through Infcx.state self.old) a.now b.now }
         ensures stepped { SolverSteps Infcx.state self.old self.new a.now b.now result }
         ensures steps { SolverStepsTys Infcx.state self.old self.new a.now b.now result }
-        ensures registers { SolverStepsToSubtype Infcx.state self.old self.new a.now b.now result }
+        ensures alone { SolverStepsAlone Infcx.state self.old self.new a.now b.now result }
     {
         if a == b {
             return Ok(Step::Done(*a));
         }
         if have_no_variable(&*self.infcx, a, b) {
-            return Ok(Step::Parts { a: *a, b: *b });
+            return super_combine_tys::<Infcx, SolverRelating<'a, Infcx>>(self, a, b);
         }
         let left = self.infcx.shallow_resolve(a);
         let right = self.infcx.shallow_resolve(b);
@@ -93,44 +96,90 @@ impl<'a, Infcx: InferCtxtLike> SolverRelating<'a, Infcx> {
         requires b_shallow { let r = Infcx.state self.old.infcx.now in IsShallow r.store ((r.meaning).ty b.now) }
         ensures stepped { SolverSteps Infcx.state self.old self.new a.now b.now result }
         ensures combines { SolverCombinesShallow Infcx.state self.old self.new a.now b.now result }
-        ensures registers { let m = (Infcx.state self.old.infcx.now).meaning in
-            IsTyVar (m.ty a.now) → IsTyVar (m.ty b.now) →
-            SolverStepRegisters Infcx.state self.old self.new a.now b.now result }
     {
         match ty_var(&*self.infcx, a) {
             Some(x) => match ty_var(&*self.infcx, b) {
                 Some(y) => self.combine_ty_vars(a, x, b, y),
-                None => {
-                    let variance = self.ambient_variance;
-                    let aliases = self.structurally_relate_aliases;
-                    let bound = self.infcx.instantiate_ty_var_raw(aliases, x, variance, b)?;
-                    Ok(Step::Again {
-                        a: *a,
-                        b: *b,
-                        x: bound,
-                        y: *b,
-                        variance: Variance::Covariant,
-                        answer: *a,
-                    })
-                }
+                None => self.bind_left(a, x, b),
             },
             None => match ty_var(&*self.infcx, b) {
-                Some(y) => {
-                    let variance = self.ambient_variance.xform(Variance::Contravariant);
-                    let aliases = self.structurally_relate_aliases;
-                    let bound = self.infcx.instantiate_ty_var_raw(aliases, y, variance, a)?;
-                    Ok(Step::Again {
-                        a: *a,
-                        b: *b,
-                        x: *a,
-                        y: bound,
-                        variance: Variance::Covariant,
-                        answer: *a,
-                    })
-                }
+                Some(y) => self.bind_right(a, b, y),
                 None => super_combine_tys::<Infcx, SolverRelating<'a, Infcx>>(self, a, b),
             },
         }
+    }
+
+    // What comes of a type variable, of which nothing is recorded, and a type: it is bound to that, which is then related
+    // with it; or asked about, where a variable took an alias's place.
+    fn bind_left(
+        &mut self,
+        a: &Ty<Infcx::Interner>,
+        x: TyVid,
+        b: &Ty<Infcx::Interner>,
+    ) -> RelateResult<Infcx::Interner, Step<Ty<Infcx::Interner>>>
+        requires lawful { (Infcx.state self.old.infcx.now).lawful }
+        requires env_known { KnowsEnv (Infcx.state self.old.infcx.now) self.old.param_env }
+        requires goals_known { All (KnowsGoal (Infcx.state self.old.infcx.now).meaning) self.old.goals.items }
+        requires decides { self.old.ambient_variance ≢ Bivariant }
+        requires asked { AskedTys solver_manner (solver_through Infcx.state self.old) a.now b.now }
+        requires a_is { ((Infcx.state self.old.infcx.now).meaning).ty a.now ≡ leaf (variable type_var x.0) }
+        requires a_unresolved { IsUnresolved (Infcx.state self.old.infcx.now) type_var x.0 }
+        requires b_is { IsNoTyVar (((Infcx.state self.old.infcx.now).meaning).ty b.now) }
+        requires b_shallow { let r = Infcx.state self.old.infcx.now in IsShallow r.store ((r.meaning).ty b.now) }
+        ensures stepped { SolverSteps Infcx.state self.old self.new a.now b.now result }
+        ensures combines { SolverCombinesShallow Infcx.state self.old self.new a.now b.now result }
+    {
+        let variance = self.ambient_variance;
+        let aliases = self.structurally_relate_aliases;
+        let bound = self.infcx.instantiate_ty_var_raw(aliases, x, variance, b)?;
+        if let Some(_) = ty_var(&*self.infcx, &bound) {
+            self.register_alias_relate_predicate(&bound, b)?;
+            return Ok(Step::Done(*a));
+        }
+        Ok(Step::Again {
+            a: *a,
+            b: *b,
+            x: bound,
+            y: *b,
+            variance: Variance::Covariant,
+            answer: *a,
+        })
+    }
+
+    // The same of a type and a type variable.
+    fn bind_right(
+        &mut self,
+        a: &Ty<Infcx::Interner>,
+        b: &Ty<Infcx::Interner>,
+        y: TyVid,
+    ) -> RelateResult<Infcx::Interner, Step<Ty<Infcx::Interner>>>
+        requires lawful { (Infcx.state self.old.infcx.now).lawful }
+        requires env_known { KnowsEnv (Infcx.state self.old.infcx.now) self.old.param_env }
+        requires goals_known { All (KnowsGoal (Infcx.state self.old.infcx.now).meaning) self.old.goals.items }
+        requires decides { self.old.ambient_variance ≢ Bivariant }
+        requires asked { AskedTys solver_manner (solver_through Infcx.state self.old) a.now b.now }
+        requires b_is { ((Infcx.state self.old.infcx.now).meaning).ty b.now ≡ leaf (variable type_var y.0) }
+        requires b_unresolved { IsUnresolved (Infcx.state self.old.infcx.now) type_var y.0 }
+        requires a_is { IsNoTyVar (((Infcx.state self.old.infcx.now).meaning).ty a.now) }
+        requires a_shallow { let r = Infcx.state self.old.infcx.now in IsShallow r.store ((r.meaning).ty a.now) }
+        ensures stepped { SolverSteps Infcx.state self.old self.new a.now b.now result }
+        ensures combines { SolverCombinesShallow Infcx.state self.old self.new a.now b.now result }
+    {
+        let variance = self.ambient_variance.xform(Variance::Contravariant);
+        let aliases = self.structurally_relate_aliases;
+        let bound = self.infcx.instantiate_ty_var_raw(aliases, y, variance, a)?;
+        if let Some(_) = ty_var(&*self.infcx, &bound) {
+            self.register_alias_relate_predicate(a, &bound)?;
+            return Ok(Step::Done(*a));
+        }
+        Ok(Step::Again {
+            a: *a,
+            b: *b,
+            x: *a,
+            y: bound,
+            variance: Variance::Covariant,
+            answer: *a,
+        })
     }
 
     // What comes of two type variables, of which nothing is recorded: at invariance they are made one, else it is
@@ -154,7 +203,6 @@ impl<'a, Infcx: InferCtxtLike> SolverRelating<'a, Infcx> {
         requires b_unresolved { IsUnresolved (Infcx.state self.old.infcx.now) type_var y.0 }
         ensures stepped { SolverSteps Infcx.state self.old self.new a.now b.now result }
         ensures combines { SolverCombinesVars Infcx.state self.old self.new a.now b.now result }
-        ensures registers { SolverStepRegisters Infcx.state self.old self.new a.now b.now result }
     {
         let param_env = self.param_env;
         match self.ambient_variance {
@@ -182,13 +230,12 @@ impl<'a, Infcx: InferCtxtLike> SolverRelating<'a, Infcx> {
         }
     }
 
-    /// What comes of two constants, before their parts are related, as `super_combine_consts` says it. No goal is
-    /// registered.
+    /// What comes of two constants, before their parts are related, as `super_combine_consts` says it.
     ///
     /// It is the step `consts`. Both constants are the relation's.
     ///
     /// # Errors
-    /// Those of `super_combine_consts`. Nothing was bound then.
+    /// Those of `super_combine_consts`. Nothing was bound or registered then.
     pub fn step_consts(
         &mut self,
         a: &Const<Infcx::Interner>,
@@ -199,7 +246,6 @@ impl<'a, Infcx: InferCtxtLike> SolverRelating<'a, Infcx> {
         requires asked { AskedConsts solver_manner (solver_through Infcx.state self.old) a.now b.now }
         ensures stepped { SolverStepped Infcx.state self.old self.new a.now b.now result }
         ensures steps { SolverStepsConsts Infcx.state self.old self.new a.now b.now result }
-        ensures registers_nothing { KeepsGoals Infcx.state self.old self.new }
     {
         super_combine_consts::<Infcx, SolverRelating<'a, Infcx>>(self, a, b)
     }

@@ -8,7 +8,7 @@ returns g c =
     let eq = g.I.Key.PartialEq.eq in
     let laws = g.met.I.Key.Eq.laws in
     let same = g.met.I.Interner.same_ty c.args.cx.now in
-    let q : MetKey _ = record { variance = c.args.variance; ty = c.args.ty.now } in
+    let q : MetKey _ = record { inside = c.args.inside; variance = c.args.variance; ty = c.args.ty.now } in
     let updates = c.in_ok-insert.ensures.updates.0 in
     record {
       sure = sure_more m (met_eq eq) (met_self eq laws) (met_congr eq laws) (met_alike m eq same) (met_equal m eq same) c.args.met.now q c.requires.ty_known c.insert.new.self c.args.became c.requires.became_known updates c.requires.sure;

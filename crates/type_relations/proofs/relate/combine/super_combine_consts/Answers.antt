@@ -53,7 +53,9 @@ returns-clause-stepped g c =
     let numbers = g.met.Infcx.InferCtxtLike.numbers y lawful in
     let grows = subst (λ z. Grows (g.Infcx.InferCtxtLike.state z) d) c.infcx_mut.ensures.value c.meet_consts.ensures.grows in
     let combines = subst (λ z. CombinesConsts (g.Infcx.InferCtxtLike.state z).meaning d.meaning
-    (g.Infcx.InferCtxtLike.state z).store d.store a b res) c.infcx_mut.ensures.value c.meet_consts.ensures.combines in
+    (g.Infcx.InferCtxtLike.state z).store d.store r.kept.settings.structurally_relate_aliases a b res) c.infcx_mut.ensures.value
+    (subst (λ al. CombinesConsts (g.Infcx.InferCtxtLike.state c.infcx_mut.result.now).meaning d.meaning
+    (g.Infcx.InferCtxtLike.state c.infcx_mut.result.now).store d.store al a b res) c.structurally_relate_aliases.ensures c.meet_consts.ensures.combines) in
     let covered = g.met.Infcx.InferCtxtLike.covered y lawful in
     let all = g.met.Infcx.InferCtxtLike.covered z grows.lawful in
     let w = c.context_grows.ensures z grows (consts_later r s d o c.requires.decides sound grows.extends numbers covered
@@ -81,7 +83,9 @@ returns-clause-combines g c =
     let numbers = g.met.Infcx.InferCtxtLike.numbers y lawful in
     let grows = subst (λ z. Grows (g.Infcx.InferCtxtLike.state z) d) c.infcx_mut.ensures.value c.meet_consts.ensures.grows in
     let combines = subst (λ z. CombinesConsts (g.Infcx.InferCtxtLike.state z).meaning d.meaning
-    (g.Infcx.InferCtxtLike.state z).store d.store a b res) c.infcx_mut.ensures.value c.meet_consts.ensures.combines in
+    (g.Infcx.InferCtxtLike.state z).store d.store r.kept.settings.structurally_relate_aliases a b res) c.infcx_mut.ensures.value
+    (subst (λ al. CombinesConsts (g.Infcx.InferCtxtLike.state c.infcx_mut.result.now).meaning d.meaning
+    (g.Infcx.InferCtxtLike.state c.infcx_mut.result.now).store d.store al a b res) c.structurally_relate_aliases.ensures c.meet_consts.ensures.combines) in
     let covered = g.met.Infcx.InferCtxtLike.covered y lawful in
     let all = g.met.Infcx.InferCtxtLike.covered z grows.lawful in
     let w = c.context_grows.ensures z grows (consts_later r s d o c.requires.decides sound grows.extends numbers covered
@@ -108,7 +112,9 @@ returns-clause-registers_nothing g c =
     let numbers = g.met.Infcx.InferCtxtLike.numbers y lawful in
     let grows = subst (λ z. Grows (g.Infcx.InferCtxtLike.state z) d) c.infcx_mut.ensures.value c.meet_consts.ensures.grows in
     let combines = subst (λ z. CombinesConsts (g.Infcx.InferCtxtLike.state z).meaning d.meaning
-    (g.Infcx.InferCtxtLike.state z).store d.store a b res) c.infcx_mut.ensures.value c.meet_consts.ensures.combines in
+    (g.Infcx.InferCtxtLike.state z).store d.store r.kept.settings.structurally_relate_aliases a b res) c.infcx_mut.ensures.value
+    (subst (λ al. CombinesConsts (g.Infcx.InferCtxtLike.state c.infcx_mut.result.now).meaning d.meaning
+    (g.Infcx.InferCtxtLike.state c.infcx_mut.result.now).store d.store al a b res) c.structurally_relate_aliases.ensures c.meet_consts.ensures.combines) in
     let covered = g.met.Infcx.InferCtxtLike.covered y lawful in
     let all = g.met.Infcx.InferCtxtLike.covered z grows.lawful in
     let w = c.context_grows.ensures z grows (consts_later r s d o c.requires.decides sound grows.extends numbers covered

@@ -1,32 +1,33 @@
 use Rattle.std.proofs.Common.{rules, sym, ap, ◌∙◌, ◌≢◌, ◌≡◌, refl, inl, inr}
-use Rattle.relation_terms.specs.Heads.{const_param, expression}
+use Rattle.relation_terms.specs.Heads.{const_param, expression, unevaluated}
 use Rattle.relation_terms.specs.Meaning.{const_tree, arg_tree}
+use Rattle.std.proofs.lemmas.Bool.{false≢true}
 use Rattle.relation_terms.specs.Trees.{node, count}
-use Rattle.relation_terms.specs.declared.terms.const_kind.ConstKind.TheVariants.{Param, Placeholder, Value, Expr}
-use Rattle.relation_contexts.specs.Errors.{values, expressions, const_parameters, operations, one_const_leaf}
-use Rattle.type_relations.proofs.Comparing.{unlike_const, param_const, value_const, expr_const}
+use Rattle.relation_terms.specs.declared.terms.const_kind.ConstKind.TheVariants.{Param, Placeholder, Value, Expr, Unevaluated}
+use Rattle.relation_contexts.specs.Errors.{values, expressions, over_arguments, const_parameters, operations, one_const_leaf}
+use Rattle.type_relations.proofs.Comparing.{unlike_const, param_const, value_const, expr_const, item_const}
 use Rattle.relation_contexts.proofs.Lists.{list_count}
 use Rattle.type_relations.proofs.relate.comparing.compare_consts.Goals as goal
 
 pub returns-in_default : goal.returns-in_default
 returns-in_default g c =
     let m = g.I.Interner.meaning c.args.cx.now in
-    record { alike = tt; errors = unlike_const m (Param c.in-Param.parameter) c.const_kind-right.result c.args.a.now c.args.b.now c.unlike_consts.result (c.const_kind.ensures ∙ ap (const_tree m) c.in-Param.is) c.const_kind-right.ensures c.requires.a_covered c.requires.b_covered (param_const m c.in-Param.parameter c.const_kind-right.result (λ q e i. c.in_default.not-Param q e)) c.unlike_consts.ensures }
+    record { alike = tt; errors = unlike_const m (Param c.in-Param.parameter) c.const_kind-right.result c.args.a.now c.args.b.now c.unlike_consts.result (c.const_kind.ensures ∙ ap (const_tree m) c.in-Param.is) c.const_kind-right.ensures c.requires.no_error (param_const m c.in-Param.parameter c.const_kind-right.result (λ q e i. c.in_default.not-Param q e)) c.unlike_consts.ensures }
 
 pub returns-in_default-right : goal.returns-in_default-right
 returns-in_default-right g c =
     let m = g.I.Interner.meaning c.args.cx.now in
-    record { alike = tt; errors = unlike_const m (Value c.in-Value.field-0 c.in-Value.value) c.const_kind-right.result c.args.a.now c.args.b.now c.unlike_consts-in_default-right.result (c.const_kind.ensures ∙ ap (const_tree m) c.in-Value.is) c.const_kind-right.ensures c.requires.a_covered c.requires.b_covered (value_const m c.in-Value.field-0 c.in-Value.value c.const_kind-right.result (λ u w e i. c.in_default-right.not-Value u w e)) c.unlike_consts-in_default-right.ensures }
+    record { alike = tt; errors = unlike_const m (Value c.in-Value.field-0 c.in-Value.value) c.const_kind-right.result c.args.a.now c.args.b.now c.unlike_consts-in_default-right.result (c.const_kind.ensures ∙ ap (const_tree m) c.in-Value.is) c.const_kind-right.ensures c.requires.no_error (value_const m c.in-Value.field-0 c.in-Value.value c.const_kind-right.result (λ u w e i. c.in_default-right.not-Value u w e)) c.unlike_consts-in_default-right.ensures }
 
 pub returns-in_default-right-2 : goal.returns-in_default-right-2
 returns-in_default-right-2 g c =
     let m = g.I.Interner.meaning c.args.cx.now in
-    record { alike = tt; errors = unlike_const m (Expr c.in-Expr.kind c.in-Expr.args) c.const_kind-right.result c.args.a.now c.args.b.now c.unlike_consts-in_default-right-2.result (c.const_kind.ensures ∙ ap (const_tree m) c.in-Expr.is) c.const_kind-right.ensures c.requires.a_covered c.requires.b_covered (expr_const m c.in-Expr.kind c.in-Expr.args c.const_kind-right.result c.in_default-right-2.not-Expr) c.unlike_consts-in_default-right-2.ensures }
+    record { alike = tt; errors = unlike_const m (Expr c.in-Expr.kind c.in-Expr.args) c.const_kind-right.result c.args.a.now c.args.b.now c.unlike_consts-in_default-right-2.result (c.const_kind.ensures ∙ ap (const_tree m) c.in-Expr.is) c.const_kind-right.ensures c.requires.no_error (expr_const m c.in-Expr.kind c.in-Expr.args c.const_kind-right.result c.in_default-right-2.not-Expr) c.unlike_consts-in_default-right-2.ensures }
 
 pub returns-then-parameter-other-clause-errors : goal.returns-then-parameter-other-clause-errors
 returns-then-parameter-other-clause-errors g c =
     let m = g.I.Interner.meaning c.args.cx.now in
-    unlike_const m (Param c.in-Param.parameter) (Param c.in-Param-right.other) c.args.a.now c.args.b.now c.unlike_consts-then-parameter-other.result (c.const_kind.ensures ∙ ap (const_tree m) c.in-Param.is) (c.const_kind-right.ensures ∙ ap (const_tree m) c.in-Param-right.is) c.requires.a_covered c.requires.b_covered c.if-parameter-other.true c.unlike_consts-then-parameter-other.ensures
+    unlike_const m (Param c.in-Param.parameter) (Param c.in-Param-right.other) c.args.a.now c.args.b.now c.unlike_consts-then-parameter-other.result (c.const_kind.ensures ∙ ap (const_tree m) c.in-Param.is) (c.const_kind-right.ensures ∙ ap (const_tree m) c.in-Param-right.is) c.requires.no_error c.if-parameter-other.true c.unlike_consts-then-parameter-other.ensures
 
 pub returns-else-parameter-other-clause-alike : goal.returns-else-parameter-other-clause-alike
 returns-else-parameter-other-clause-alike g c =
@@ -38,7 +39,7 @@ returns-then-ne-clause-errors g c =
     let m = g.I.Interner.meaning c.args.cx.now in
     let same = g.met.I.Interner.same_const c.args.cx.now c.args.a.now c.args.b.now c.requires.a_known c.requires.b_known in
     let differ : m.const_ c.args.a.now ≢ m.const_ c.args.b.now = (λ e. (let d = same.1 e in let t = c.if-ne.true in let h = c.ne.ensures in let k = c.if-ne.ensures in search rules)) in
-    unlike_const m (Placeholder c.in-Placeholder.field-0) c.const_kind-right.result c.args.a.now c.args.b.now c.unlike_consts-then-ne.result (c.const_kind.ensures ∙ ap (const_tree m) c.in-Placeholder.is) c.const_kind-right.ensures c.requires.a_covered c.requires.b_covered (λ e. differ ((c.const_kind.ensures ∙ ap (const_tree m) c.in-Placeholder.is) ∙ e ∙ sym c.const_kind-right.ensures)) c.unlike_consts-then-ne.ensures
+    unlike_const m (Placeholder c.in-Placeholder.field-0) c.const_kind-right.result c.args.a.now c.args.b.now c.unlike_consts-then-ne.result (c.const_kind.ensures ∙ ap (const_tree m) c.in-Placeholder.is) c.const_kind-right.ensures c.requires.no_error (λ e. differ ((c.const_kind.ensures ∙ ap (const_tree m) c.in-Placeholder.is) ∙ e ∙ sym c.const_kind-right.ensures)) c.unlike_consts-then-ne.ensures
 
 pub returns-else-ne-clause-alike : goal.returns-else-ne-clause-alike
 returns-else-ne-clause-alike g c =
@@ -51,7 +52,7 @@ returns-else-ne-clause-alike g c =
 pub returns-then-not-is_one_value-clause-errors : goal.returns-then-not-is_one_value-clause-errors
 returns-then-not-is_one_value-clause-errors g c =
     let m = g.I.Interner.meaning c.args.cx.now in
-    unlike_const m (Value c.in-Value.field-0 c.in-Value.value) (Value c.in-Value-right.field-0 c.in-Value-right.other) c.args.a.now c.args.b.now c.unlike_consts-then-not-is_one_value.result (c.const_kind.ensures ∙ ap (const_tree m) c.in-Value.is) (c.const_kind-right.ensures ∙ ap (const_tree m) c.in-Value-right.is) c.requires.a_covered c.requires.b_covered (c.if-not-is_one_value.ensures.unlike refl) c.unlike_consts-then-not-is_one_value.ensures
+    unlike_const m (Value c.in-Value.field-0 c.in-Value.value) (Value c.in-Value-right.field-0 c.in-Value-right.other) c.args.a.now c.args.b.now c.unlike_consts-then-not-is_one_value.result (c.const_kind.ensures ∙ ap (const_tree m) c.in-Value.is) (c.const_kind-right.ensures ∙ ap (const_tree m) c.in-Value-right.is) c.requires.no_error (c.if-not-is_one_value.ensures.unlike refl) c.unlike_consts-then-not-is_one_value.ensures
 
 pub returns-else-not-is_one_value-clause-alike : goal.returns-else-not-is_one_value-clause-alike
 returns-else-not-is_one_value-clause-alike g c =
@@ -74,3 +75,30 @@ returns-else-args-clause-alike g c =
     let m = g.I.Interner.meaning c.args.cx.now in
     let one : c.in-Expr.kind ≡ c.in-Expr-right.other_kind = (let t = c.if-ne-2.false in let h = c.ne-in-Expr.ensures in let k = c.if-ne-2.ensures in search rules) in
     expressions (c.const_kind.ensures ∙ ap (const_tree m) c.in-Expr.is) ((c.const_kind-right.ensures ∙ ap (const_tree m) c.in-Expr-right.is) ∙ ap (λ k. node (expression k.0) (m.args c.in-Expr-right.other)) (sym one)) ((ap count c.args-in-Expr.ensures ∙ list_count (arg_tree m) c.args-in-Expr.result.now) ∙ c.if-args.false ∙ sym (ap count c.args-in-Expr-2.ensures ∙ list_count (arg_tree m) c.args-in-Expr-2.result.now))
+
+pub returns-in_default-right-3 : goal.returns-in_default-right-3
+returns-in_default-right-3 g c =
+    let m = g.I.Interner.meaning c.args.cx.now in
+    record {
+      alike = tt;
+      errors = unlike_const m (Unevaluated c.in-Unevaluated.unevaluated) c.const_kind-right.result c.args.a.now c.args.b.now
+          c.unlike_consts-in_default-right-3.result (c.const_kind.ensures ∙ ap (const_tree m) c.in-Unevaluated.is)
+          c.const_kind-right.ensures c.requires.no_error (item_const m c.in-Unevaluated.unevaluated c.const_kind-right.result
+          (λ u e o. c.in_default-right-3.not-Unevaluated u e)) c.unlike_consts-in_default-right-3.ensures;
+    }
+
+pub returns-then-not-is_one_item-clause-errors : goal.returns-then-not-is_one_item-clause-errors
+returns-then-not-is_one_item-clause-errors g c =
+    let m = g.I.Interner.meaning c.args.cx.now in
+    unlike_const m (Unevaluated c.in-Unevaluated.unevaluated) (Unevaluated c.in-Unevaluated-right.other) c.args.a.now
+    c.args.b.now c.unlike_consts-then-not-is_one_item.result (c.const_kind.ensures ∙ ap (const_tree m) c.in-Unevaluated.is)
+    (c.const_kind-right.ensures ∙ ap (const_tree m) c.in-Unevaluated-right.is) c.requires.no_error
+    (λ o. false≢true (c.if-not-is_one_item.ensures.1 o)) c.unlike_consts-then-not-is_one_item.ensures
+
+pub returns-else-not-is_one_item-clause-alike : goal.returns-else-not-is_one_item-clause-alike
+returns-else-not-is_one_item-clause-alike g c =
+    let m = g.I.Interner.meaning c.args.cx.now in
+    let one = c.if-not-is_one_item.ensures.0 refl in
+    over_arguments (c.const_kind.ensures ∙ ap (const_tree m) c.in-Unevaluated.is)
+    ((c.const_kind-right.ensures ∙ ap (const_tree m) c.in-Unevaluated-right.is)
+    ∙ ap (λ i. node (unevaluated i) (m.args (c.in-Unevaluated-right.other).args)) (sym one.0)) one.1

@@ -11,7 +11,7 @@ returns-then-eq-clause-alike g c =
     let m = g.I.Interner.meaning c.args.cx.now in
     let x = c.args.a.now in
     let y = c.args.b.now in
-    itself_alike (m.ty x) (m.ty y) ((g.met.I.Interner.sorted c.args.cx.now).ty x c.requires.a_known) c.requires.a_covered
+    itself_alike (m.ty x) (m.ty y) ((g.met.I.Interner.sorted c.args.cx.now).ty x c.requires.a_known)
     ((g.met.I.Interner.same_ty c.args.cx.now x y c.requires.a_known c.requires.b_known).0 (sym c.if-eq.ensures))
 
 pub compare_leaves-requires-clause-leaf : goal.compare_leaves-requires-clause-leaf
@@ -41,7 +41,7 @@ returns-then-not-is_same_form-clause-errors g c =
     c.outline_of-left.ensures ∙ ap tree_outline (sym c.ty_kind-a_kind.ensures) in
     let right : named_outline m.id p ≡ tree_outline (m.ty y) =
     c.outline_of-right.ensures ∙ ap tree_outline (sym c.ty_kind-b_kind.ensures) in
-    unlike_forms m x y o p left right c.requires.a_covered c.requires.b_covered
+    unlike_forms m x y o p left right c.requires.no_error
     (λ e. (let t = c.if-not-is_same_form.true in let one = c.is_same_form-2.ensures.1 e in search rules))
     c.unlike.result c.unlike.ensures
 
@@ -56,9 +56,10 @@ returns-then-not-is_same_item-clause-errors g c =
     c.outline_of-left.ensures ∙ ap tree_outline (sym c.ty_kind-a_kind.ensures) in
     let right : named_outline m.id p ≡ tree_outline (m.ty y) =
     c.outline_of-right.ensures ∙ ap tree_outline (sym c.ty_kind-b_kind.ensures) in
-    unlike_items m x y o p left right c.requires.a_covered c.requires.b_covered
+    let form : o.form ≡ p.form = c.is_same_form-2.ensures.0 (let t = c.if-not-is_same_form.false in search rules) in
+    unlike_items m x y o p left right c.requires.no_error form
     (λ e. (let t = c.if-not-is_same_item.true in let one = c.is_same_item.ensures.1 e in search rules))
-    c.unlike-then-not-is_same_item.result c.unlike-then-not-is_same_item.ensures
+    c.unlike_items.result c.unlike_items.ensures.aliases c.unlike_items.ensures.others
 
 pub returns-then-ne-clause-errors : goal.returns-then-ne-clause-errors
 returns-then-ne-clause-errors g c =
@@ -74,7 +75,7 @@ returns-then-ne-clause-errors g c =
     let parted : o.form ≡ Leaf → ⊥ = (λ e. (let t = c.if-is_same_form.false in
     let one = c.is_same_form.ensures.1 e in search rules)) in
     let form : o.form ≡ p.form = c.is_same_form-2.ensures.0 (let t = c.if-not-is_same_form.false in search rules) in
-    unlike_mutability m x y o p left right c.requires.a_covered c.requires.b_covered parted form
+    unlike_mutability m x y o p left right c.requires.no_error parted form
     (λ e. (let t = c.if-ne.true in let h = c.ne.ensures in let k = c.if-ne.ensures in search rules))
 
 pub returns-then-n-m-clause-errors : goal.returns-then-n-m-clause-errors
@@ -94,7 +95,7 @@ returns-then-n-m-clause-errors g c =
     let item = c.is_same_item.ensures.0 (let t = c.if-not-is_same_item.false in search rules) in
     let same : o.mutability ≡ p.mutability =
     (let t = c.if-ne.false in let h = c.ne.ensures in let k = c.if-ne.ensures in search rules) in
-    unlike_counts m x y o p left right c.requires.a_covered c.requires.b_covered parted form item same
+    unlike_counts m x y o p left right c.requires.no_error parted form item same
     c.parts_count_in-n.result c.parts_count_in-m.result c.parts_count_in-n.ensures.counts c.parts_count_in-m.ensures.counts
     c.if-n-m.true c.unlike_counts.result c.unlike_counts.ensures.sizes c.unlike_counts.ensures.empty
     c.unlike_counts.ensures.others
@@ -116,7 +117,7 @@ returns-then-has_fixed_parts-clause-alike g c =
     let item = c.is_same_item.ensures.0 (let t = c.if-not-is_same_item.false in search rules) in
     let same : o.mutability ≡ p.mutability =
     (let t = c.if-ne.false in let h = c.ne.ensures in let k = c.if-ne.ensures in search rules) in
-    forms_alike m x y o p left right c.requires.a_covered c.requires.b_covered parted form item same
+    forms_alike m x y o p left right c.requires.no_error parted form item same
     (fixed_counts (m.ty x) (m.ty y) o.form ((g.met.I.Interner.sorted c.args.cx.now).ty x c.requires.a_known)
     ((g.met.I.Interner.sorted c.args.cx.now).ty y c.requires.b_known) (sym (ap (λ z. z.form) left))
     (sym (ap (λ z. z.form) right) ∙ sym form) (c.has_fixed_parts.ensures c.if-has_fixed_parts.true))
@@ -138,5 +139,5 @@ returns-clause-alike g c =
     let item = c.is_same_item.ensures.0 (let t = c.if-not-is_same_item.false in search rules) in
     let same : o.mutability ≡ p.mutability =
     (let t = c.if-ne.false in let h = c.ne.ensures in let k = c.if-ne.ensures in search rules) in
-    forms_alike m x y o p left right c.requires.a_covered c.requires.b_covered parted form item same
+    forms_alike m x y o p left right c.requires.no_error parted form item same
     (sym c.parts_count_in-n.ensures.counts ∙ c.if-n-m.false ∙ c.parts_count_in-m.ensures.counts)

@@ -22,7 +22,7 @@ the_arg-requires g c =
     let at : part_tree m c.member.result ≡ nth c.args.i (parts_of t) =
     c.member.ensures.means ∙ ap (nth c.args.i) c.parts_in.ensures.means in
     is_arg m sorted c.member.result c.member.ensures.sure (subst (IsTerm argument_sort) (sym at)
-    (ty_argument t c.args.i c.requires.in_bounds is c.requires.ty_covered c.requires.over_args))
+    (ty_argument t c.args.i c.requires.in_bounds is c.requires.over_args))
 
 pub returns : goal.returns
 returns g c =

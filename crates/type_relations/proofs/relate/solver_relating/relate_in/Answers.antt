@@ -1,9 +1,8 @@
-use Rattle.relation_contexts.specs.declared.relate.StructurallyRelateAliases.TheVariants.{No}
 use Rattle.std.proofs.Common.{sym, ◌∙◌, subst, subst₂, []}
 use Rattle.relation_contexts.specs.Lawful.{Related}
 use Rattle.type_relations.specs.Relating.{term_in}
 use Rattle.type_relations.specs.Solving.{solving_in, solver_manner}
-use Rattle.type_relations.specs.Subtyping.{RegistersSubtype}
+use Rattle.type_relations.specs.Alone.{RelatesAlone}
 use Rattle.type_relations.proofs.relate.solver_relating.relate_in.Goals as goal
 
 -- The reference that is given back is the one that was lent, so the context is what is behind it. No goal was there.
@@ -20,10 +19,10 @@ returns-clause-related g c =
     let a = term_in s over tree c.args.a.now in
     let b = term_in s over tree c.args.b.now in
     let q = g.Infcx.InferCtxtLike.state c.relate-related.new.self.infcx.now in
-    let related = subst (λ gs. Related solver_manner (solving_in No gs s v e)
-    (solving_in No c.relate-related.new.self.goals.items q v e) v a b (term_in q over tree) c.relate-related.result)
+    let related = subst (λ gs. Related solver_manner (solving_in c.args.aliases gs s v e)
+    (solving_in c.args.aliases c.relate-related.new.self.goals.items q v e) v a b (term_in q over tree) c.relate-related.result)
     c.new-goals.ensures.items c.relate-related.ensures.related in
-    subst₂ (λ z gs. Related solver_manner (solving_in No [] s v e) (solving_in No gs (g.Infcx.InferCtxtLike.state z) v e) v a b
+    subst₂ (λ z gs. Related solver_manner (solving_in c.args.aliases [] s v e) (solving_in c.args.aliases gs (g.Infcx.InferCtxtLike.state z) v e) v a b
     (term_in (g.Infcx.InferCtxtLike.state z) over tree) c.relate-related.result) (sym back)
     (sym c.take_goals-goals.ensures.goals) related
 
@@ -40,9 +39,9 @@ returns-clause-registers g c =
     let a = term_in s over tree c.args.a.now in
     let b = term_in s over tree c.args.b.now in
     let q = g.Infcx.InferCtxtLike.state c.relate-related.new.self.infcx.now in
-    let registers = subst (λ gs. RegistersSubtype solver_manner (solving_in No gs s v e)
-    (solving_in No c.relate-related.new.self.goals.items q v e) v a b c.relate-related.result)
+    let registers = subst (λ gs. RelatesAlone solver_manner (solving_in c.args.aliases gs s v e)
+    (solving_in c.args.aliases c.relate-related.new.self.goals.items q v e) v a b c.relate-related.result)
     c.new-goals.ensures.items c.relate-related.ensures.registers in
-    subst₂ (λ z gs. RegistersSubtype solver_manner (solving_in No [] s v e)
-    (solving_in No gs (g.Infcx.InferCtxtLike.state z) v e) v a b c.relate-related.result) (sym back)
+    subst₂ (λ z gs. RelatesAlone solver_manner (solving_in c.args.aliases [] s v e)
+    (solving_in c.args.aliases gs (g.Infcx.InferCtxtLike.state z) v e) v a b c.relate-related.result) (sym back)
     (sym c.take_goals-goals.ensures.goals) registers

@@ -2,7 +2,7 @@ use Rattle.std.proofs.Common.{ap₂, suc, ◌+◌, ◌*◌, IfOk, rules, ◌≡�
 use Rattle.std.proofs.lemmas.Bool.{false≢true}
 use Rattle.term_enums.specs.declared.Variance.TheVariants.{Bivariant}
 use Rattle.relation_terms.specs.declared.terms.generic_arg.GenericArgKind.TheVariants.{Lifetime, Ty, Const}
-use Rattle.relation_terms.specs.Heads.{type_sort}
+use Rattle.relation_terms.specs.Heads.{type_sort, const_sort}
 use Rattle.relation_terms.specs.Trees.{nil, known, count, nth, list_tree}
 use Rattle.term_enums.specs.Variances.{xform}
 use Rattle.relation_terms.specs.Meaning.{arg_tree}
@@ -14,7 +14,6 @@ use Rattle.relation_folds.specs.declared.error.TypeError.TheVariants.{Mismatch}
 use Rattle.relation_folds.specs.declared.error.RelateFault.TheVariants.{Unrelated, Memory}
 use Rattle.relation_contexts.specs.Relation.{part_at}
 use Rattle.relation_contexts.specs.Errors.{AreOfOneForm, PartError}
-use Rattle.relation_contexts.specs.Covered.{IsCovered}
 use Rattle.relation_contexts.specs.Parts.{IsFormed, IsFormedConst, IsByParts, IsRelatedPart, IsComparedPart, IsArgPart}
 use Rattle.relation_contexts.specs.Parts.{IsBinderPart, ArePaired, parts_of, const_parts_of, head_of}
 use Rattle.relation_contexts.specs.Parts.{const_head_of}
@@ -51,13 +50,13 @@ use Rattle.relation_contexts.proofs.Passing.{form_made, forms_met, step_refused}
 use Rattle.relation_contexts.proofs.Covered.{form_not_left}
 use Rattle.type_relations.proofs.Fronts.{Fronted, fronted_none, fronted_next}
 use Rattle.type_relations.proofs.Structural.{types_related, types_stopped, ty_refused}
-use Rattle.type_relations.proofs.StructuralConsts.{consts_related, consts_stopped, const_refused, itself_related, types_differ, consts_differ, kinds_differ}
+use Rattle.type_relations.proofs.StructuralConsts.{consts_related, consts_stopped, const_refused, itself_related, left_error, right_error, types_differ, consts_differ, kinds_differ}
 use Rattle.type_relations.proofs.Looping.{next_asked, next_under, next_const_asked, next_const_under, parts_under, again_under}
-use Rattle.type_relations.proofs.Looping.{failed_ty, failed_const, kept_ty, kept_const, heads_alike, const_heads_alike}
+use Rattle.type_relations.proofs.Looping.{failed_ty, failed_const, kept_ty, kept_const, parts_alike, heads_one, const_heads_alike}
 use Rattle.type_relations.proofs.Looping.{failed_part, kept_part}
-use Rattle.type_relations.specs.Subtyping.{RegistersSubtype, StepRegistersSubtype}
-use Rattle.type_relations.proofs.Subtyping.{left_none, right_none, lifetime_none, const_none, no_ty_none, refused_told}
-use Rattle.type_relations.proofs.Subtyping.{done_registers, refused_registers, parts_register, again_registers}
+use Rattle.type_relations.specs.Alone.{RelatesAlone, StepsAlone}
+use Rattle.type_relations.proofs.Alone.{left_none, right_none, lifetime_none, const_none, no_ty_none, refused_told}
+use Rattle.type_relations.proofs.Alone.{done_registers, refused_registers, parts_register, again_registers}
 use Rattle.std.proofs.Common.{Some, None}
 use Rattle.relation_terms.proofs.Stays.{extends_on}
 use Rattle.type_relations.specs.Rounds.{Opened}
@@ -498,7 +497,7 @@ tys-returns-in-Done-clause-registers g t c =
     let b = (r.meaning).ty c.args.b.now in
     let q = g.R.HasState.state c.tys.new.self in
     done_registers M r q a b (q.meaning).ty c.in-Done.answer
-    (subst (λ z. StepRegistersSubtype M r q (q.meaning).ty a b (Ok z)) c.in-Done.is c.in_ok-answer.ensures.registers)
+    (subst (λ z. StepsAlone M r q (q.meaning).ty a b (Ok z)) c.in-Done.is c.in_ok-answer.ensures.registers)
 
 pub tys-returns-in_err-answer-clause-registers : goal.tys-returns-in_err-answer-clause-registers
 tys-returns-in_err-answer-clause-registers g t c =
@@ -520,7 +519,7 @@ tys-returns-in_err-answer-in-Parts-clause-registers g t c =
     let s = g.R.HasState.state c.structurally_relate_tys.new.r in
     parts_register M r q a b s (q.meaning).ty c.in-Parts.a c.in-Parts.b
     c.from_residual-in_err-answer-in-Parts.result
-    (subst (λ z. StepRegistersSubtype M r q (q.meaning).ty a b (Ok z)) c.in-Parts.is c.in_ok-answer.ensures.registers)
+    (subst (λ z. StepsAlone M r q (q.meaning).ty a b (Ok z)) c.in-Parts.is c.in_ok-answer.ensures.registers)
 
 pub tys-returns-in_err-tys_done-in-Parts-clause-registers : goal.tys-returns-in_err-tys_done-in-Parts-clause-registers
 tys-returns-in_err-tys_done-in-Parts-clause-registers g t c =
@@ -532,7 +531,7 @@ tys-returns-in_err-tys_done-in-Parts-clause-registers g t c =
     let s = g.R.HasState.state c.tys_done.new.self in
     parts_register M r q a b s (q.meaning).ty c.in-Parts.a c.in-Parts.b
     c.from_residual-in_err-tys_done-in-Parts.result
-    (subst (λ z. StepRegistersSubtype M r q (q.meaning).ty a b (Ok z)) c.in-Parts.is c.in_ok-answer.ensures.registers)
+    (subst (λ z. StepsAlone M r q (q.meaning).ty a b (Ok z)) c.in-Parts.is c.in_ok-answer.ensures.registers)
 
 pub tys-returns-in_ok-tys_done-in-Parts-clause-registers : goal.tys-returns-in_ok-tys_done-in-Parts-clause-registers
 tys-returns-in_ok-tys_done-in-Parts-clause-registers g t c =
@@ -544,7 +543,7 @@ tys-returns-in_ok-tys_done-in-Parts-clause-registers g t c =
     let s = g.R.HasState.state c.tys_done.new.self in
     parts_register M r q a b s (q.meaning).ty c.in-Parts.a c.in-Parts.b
     (Ok c.in_ok-answer-in-Parts.answer)
-    (subst (λ z. StepRegistersSubtype M r q (q.meaning).ty a b (Ok z)) c.in-Parts.is c.in_ok-answer.ensures.registers)
+    (subst (λ z. StepsAlone M r q (q.meaning).ty a b (Ok z)) c.in-Parts.is c.in_ok-answer.ensures.registers)
 
 pub tys-returns-in_err-relate_with_variance-in-Again-clause-registers : goal.tys-returns-in_err-relate_with_variance-in-Again-clause-registers
 tys-returns-in_err-relate_with_variance-in-Again-clause-registers g t c =
@@ -557,7 +556,7 @@ tys-returns-in_err-relate_with_variance-in-Again-clause-registers g t c =
     again_registers M r q a b s (q.meaning).ty c.in-Again.a c.in-Again.b c.in-Again.x c.in-Again.y
     c.in-Again.answer c.in-Again.variance
     c.from_residual-in_err-relate_with_variance-in-Again.result
-    (subst (λ z. StepRegistersSubtype M r q (q.meaning).ty a b (Ok z)) c.in-Again.is c.in_ok-answer.ensures.registers)
+    (subst (λ z. StepsAlone M r q (q.meaning).ty a b (Ok z)) c.in-Again.is c.in_ok-answer.ensures.registers)
 
 pub tys-returns-in_err-tys_done-in-Again-clause-registers : goal.tys-returns-in_err-tys_done-in-Again-clause-registers
 tys-returns-in_err-tys_done-in-Again-clause-registers g t c =
@@ -570,7 +569,7 @@ tys-returns-in_err-tys_done-in-Again-clause-registers g t c =
     again_registers M r q a b s (q.meaning).ty c.in-Again.a c.in-Again.b c.in-Again.x c.in-Again.y
     c.in-Again.answer c.in-Again.variance
     c.from_residual-in_err-tys_done-in-Again.result
-    (subst (λ z. StepRegistersSubtype M r q (q.meaning).ty a b (Ok z)) c.in-Again.is c.in_ok-answer.ensures.registers)
+    (subst (λ z. StepsAlone M r q (q.meaning).ty a b (Ok z)) c.in-Again.is c.in_ok-answer.ensures.registers)
 
 pub tys-returns-in_ok-tys_done-in-Again-clause-registers : goal.tys-returns-in_ok-tys_done-in-Again-clause-registers
 tys-returns-in_ok-tys_done-in-Again-clause-registers g t c =
@@ -583,7 +582,7 @@ tys-returns-in_ok-tys_done-in-Again-clause-registers g t c =
     again_registers M r q a b s (q.meaning).ty c.in-Again.a c.in-Again.b c.in-Again.x c.in-Again.y
     c.in-Again.answer c.in-Again.variance
     (Ok c.in-Again.answer)
-    (subst (λ z. StepRegistersSubtype M r q (q.meaning).ty a b (Ok z)) c.in-Again.is c.in_ok-answer.ensures.registers)
+    (subst (λ z. StepsAlone M r q (q.meaning).ty a b (Ok z)) c.in-Again.is c.in_ok-answer.ensures.registers)
 
 pub relate-returns-in_default : goal.relate-returns-in_default
 relate-returns-in_default g t c =
@@ -678,7 +677,7 @@ relate-returns-in_ok-tys-in-Ty g t c =
           (sym c.in-Ty.is) (sym c.in-Ty-b.is)
           (retold M r.ambient ((r.meaning).ty c.in-Ty.a) ((r.meaning).ty c.in-Ty-b.b) (q.meaning).ty n.field-0
           (arg_tree q.meaning) (Ty n.field-0) refl n.ensures.related);
-      registers = subst₂ (λ t u. RegistersSubtype M r q r.ambient (arg_tree r.meaning t) (arg_tree r.meaning u)
+      registers = subst₂ (λ t u. RelatesAlone M r q r.ambient (arg_tree r.meaning t) (arg_tree r.meaning u)
           (Ok (Ty n.field-0))) (sym c.in-Ty.is) (sym c.in-Ty-b.is) n.ensures.registers;
       kind = ap arg_sort (sym c.in-Ty.is);
     }
@@ -690,7 +689,7 @@ relate-returns-in_err-tys-in-Ty-clause-registers g t c =
     let q = g.R.HasState.state c.tys.new.r in
     let n = c.in_err-tys-in-Ty in
     let res = c.from_residual-in_err-tys-in-Ty.result in
-    subst₂ (λ t u. RegistersSubtype M r q r.ambient (arg_tree r.meaning t) (arg_tree r.meaning u) res)
+    subst₂ (λ t u. RelatesAlone M r q r.ambient (arg_tree r.meaning t) (arg_tree r.meaning u) res)
     (sym c.in-Ty.is) (sym c.in-Ty-b.is)
     (refused_told ⊥ _ M r q r.ambient ((r.meaning).ty c.in-Ty.a) ((r.meaning).ty c.in-Ty-b.b) n.field-0.0 res
     (as_err res n.field-0.0 c.from_residual-in_err-tys-in-Ty.ensures.0 c.from_residual-in_err-tys-in-Ty.ensures.1)
@@ -768,11 +767,37 @@ relate_with_variance-returns g t c =
       kind = (c.relate-answer.ensures).kind;
     }
 
-pub structurally_relate_consts-compare_consts_of-requires-clause-a_covered : goal.structurally_relate_consts-compare_consts_of-requires-clause-a_covered
-structurally_relate_consts-compare_consts_of-requires-clause-a_covered g t c = ((c.requires.asked).left_taken).1
+pub structurally_relate_consts-returns-then-is_error_const_of : goal.structurally_relate_consts-returns-then-is_error_const_of
+structurally_relate_consts-returns-then-is_error_const_of g t c =
+    let r = g.R.HasState.state c.args.r.now in
+    let a = (r.meaning).const_ c.args.a.now in
+    let b = (r.meaning).const_ c.args.b.now in
+    let cx = g.R.TypeRelation.interner c.args.r.now in
+    let sorted : Sorted r.meaning =
+    subst (λ m. Sorted m) (sym (g.met.R.TypeRelation.reads c.args.r.now)) (g.met.I.Interner.sorted cx) in
+    let k = c.requires.asked in
+    left_error g.R.TypeRelation.manner r r.ambient (r.meaning).const_ const_sort a b c.args.a.now refl k.left_in k.right_in
+    (sorted.const_ c.args.a.now k.left_known) (sorted.const_ c.args.b.now k.right_known) refl k.left_known
+    (c.is_error_const_of.ensures.0 c.if-is_error_const_of.true)
 
-pub structurally_relate_consts-compare_consts_of-requires-clause-b_covered : goal.structurally_relate_consts-compare_consts_of-requires-clause-b_covered
-structurally_relate_consts-compare_consts_of-requires-clause-b_covered g t c = ((c.requires.asked).right_taken).1
+pub structurally_relate_consts-returns-then-is_error_const_of-2 : goal.structurally_relate_consts-returns-then-is_error_const_of-2
+structurally_relate_consts-returns-then-is_error_const_of-2 g t c =
+    let r = g.R.HasState.state c.args.r.now in
+    let a = (r.meaning).const_ c.args.a.now in
+    let b = (r.meaning).const_ c.args.b.now in
+    let cx = g.R.TypeRelation.interner c.args.r.now in
+    let sorted : Sorted r.meaning =
+    subst (λ m. Sorted m) (sym (g.met.R.TypeRelation.reads c.args.r.now)) (g.met.I.Interner.sorted cx) in
+    let k = c.requires.asked in
+    right_error g.R.TypeRelation.manner r r.ambient (r.meaning).const_ const_sort a b c.args.b.now refl k.left_in k.right_in
+    (sorted.const_ c.args.a.now k.left_known) (sorted.const_ c.args.b.now k.right_known) refl k.right_known
+    (c.is_error_const_of-2.ensures.0 c.if-is_error_const_of-2.true)
+
+pub structurally_relate_consts-compare_consts_of-requires-clause-no_error : goal.structurally_relate_consts-compare_consts_of-requires-clause-no_error
+structurally_relate_consts-compare_consts_of-requires-clause-no_error g t c = (
+  (λ h. false≢true (sym c.if-is_error_const_of.false ∙ c.is_error_const_of.ensures.1 h)),
+  λ h. false≢true (sym c.if-is_error_const_of-2.false ∙ c.is_error_const_of-2.ensures.1 h),
+)
 
 pub structurally_relate_consts-returns-in_err-compare_consts_of : goal.structurally_relate_consts-returns-in_err-compare_consts_of
 structurally_relate_consts-returns-in_err-compare_consts_of g t c =
@@ -1087,11 +1112,37 @@ structurally_relate_consts-returns g t c =
     (ap₂ const_over same_a (ap (list_tree (arg_tree q.meaning)) c.as_slice.ensures.value)) (made.made).sure
     (made.made).means
 
-pub structurally_relate_tys-compare_tys_of-requires-clause-a_covered : goal.structurally_relate_tys-compare_tys_of-requires-clause-a_covered
-structurally_relate_tys-compare_tys_of-requires-clause-a_covered g t c = ((c.requires.asked).left_taken).1
+pub structurally_relate_tys-returns-then-is_error_of : goal.structurally_relate_tys-returns-then-is_error_of
+structurally_relate_tys-returns-then-is_error_of g t c =
+    let r = g.R.HasState.state c.args.r.now in
+    let a = (r.meaning).ty c.args.a.now in
+    let b = (r.meaning).ty c.args.b.now in
+    let cx = g.R.TypeRelation.interner c.args.r.now in
+    let sorted : Sorted r.meaning =
+    subst (λ m. Sorted m) (sym (g.met.R.TypeRelation.reads c.args.r.now)) (g.met.I.Interner.sorted cx) in
+    let k = c.requires.asked in
+    left_error g.R.TypeRelation.manner r r.ambient (r.meaning).ty type_sort a b c.args.a.now refl k.left_in k.right_in
+    (sorted.ty c.args.a.now k.left_known) (sorted.ty c.args.b.now k.right_known) refl k.left_known
+    (c.is_error_of.ensures.0 c.if-is_error_of.true)
 
-pub structurally_relate_tys-compare_tys_of-requires-clause-b_covered : goal.structurally_relate_tys-compare_tys_of-requires-clause-b_covered
-structurally_relate_tys-compare_tys_of-requires-clause-b_covered g t c = ((c.requires.asked).right_taken).1
+pub structurally_relate_tys-returns-then-is_error_of-2 : goal.structurally_relate_tys-returns-then-is_error_of-2
+structurally_relate_tys-returns-then-is_error_of-2 g t c =
+    let r = g.R.HasState.state c.args.r.now in
+    let a = (r.meaning).ty c.args.a.now in
+    let b = (r.meaning).ty c.args.b.now in
+    let cx = g.R.TypeRelation.interner c.args.r.now in
+    let sorted : Sorted r.meaning =
+    subst (λ m. Sorted m) (sym (g.met.R.TypeRelation.reads c.args.r.now)) (g.met.I.Interner.sorted cx) in
+    let k = c.requires.asked in
+    right_error g.R.TypeRelation.manner r r.ambient (r.meaning).ty type_sort a b c.args.b.now refl k.left_in k.right_in
+    (sorted.ty c.args.a.now k.left_known) (sorted.ty c.args.b.now k.right_known) refl k.right_known
+    (c.is_error_of-2.ensures.0 c.if-is_error_of-2.true)
+
+pub structurally_relate_tys-compare_tys_of-requires-clause-no_error : goal.structurally_relate_tys-compare_tys_of-requires-clause-no_error
+structurally_relate_tys-compare_tys_of-requires-clause-no_error g t c = (
+  (λ h. false≢true (sym c.if-is_error_of.false ∙ c.is_error_of.ensures.1 h)),
+  λ h. false≢true (sym c.if-is_error_of-2.false ∙ c.is_error_of-2.ensures.1 h),
+)
 
 pub structurally_relate_tys-returns-in_err-compare_tys_of : goal.structurally_relate_tys-returns-in_err-compare_tys_of
 structurally_relate_tys-returns-in_err-compare_tys_of g t c =
@@ -1137,30 +1188,6 @@ structurally_relate_tys-loop-i-init g t c =
       fits = subst (λ z. Fit z nil) (sym c.new-answers.ensures.items) tt;
     }
 
-pub structurally_relate_tys-part_of-x-requires-clause-ty_covered : goal.structurally_relate_tys-part_of-x-requires-clause-ty_covered
-structurally_relate_tys-part_of-x-requires-clause-ty_covered g t c =
-    let r = g.R.HasState.state c.args.r.now in
-    let q = g.R.HasState.state c.loop-i.r in
-    let k = c.requires.asked in
-    let same = (((c.loop-i.invariant.fronted).passes).extends).ty c.args.a.now k.left_known in
-    subst IsCovered (sym same) (k.left_taken).1
-
-pub structurally_relate_tys-part_of-y-requires-clause-ty_covered : goal.structurally_relate_tys-part_of-y-requires-clause-ty_covered
-structurally_relate_tys-part_of-y-requires-clause-ty_covered g t c =
-    let r = g.R.HasState.state c.args.r.now in
-    let q = g.R.HasState.state c.loop-i.r in
-    let k = c.requires.asked in
-    let same = (((c.loop-i.invariant.fronted).passes).extends).ty c.args.b.now k.right_known in
-    subst IsCovered (sym same) (k.right_taken).1
-
-pub structurally_relate_tys-variance_at-variance-requires-clause-ty_covered : goal.structurally_relate_tys-variance_at-variance-requires-clause-ty_covered
-structurally_relate_tys-variance_at-variance-requires-clause-ty_covered g t c =
-    let r = g.R.HasState.state c.args.r.now in
-    let q = g.R.HasState.state c.loop-i.r in
-    let k = c.requires.asked in
-    let same = (((c.loop-i.invariant.fronted).passes).extends).ty c.args.a.now k.left_known in
-    subst IsCovered (sym same) (k.left_taken).1
-
 pub structurally_relate_tys-relate_with_variance-related-requires : goal.structurally_relate_tys-relate_with_variance-related-requires
 structurally_relate_tys-relate_with_variance-related-requires g t c κs within =
     let r = g.R.HasState.state c.args.r.now in
@@ -1192,8 +1219,7 @@ structurally_relate_tys-relate_with_variance-related-requires g t c κs within =
     c.variance_at-variance.ensures ∙ ap (λ z. part_at (items_in q) (head_of z) i q.ambient) same_a ∙
     ap (λ z. part_at z (head_of a) i q.ambient) (same_items (inv.fronted).passes) ∙
     ap (λ z. part_at (items_in r) (head_of a) i z) ((inv.fronted).passes).ambient in
-    let eu : w ≡ part_at (items_in r) (head_of b) i r.ambient =
-    ew ∙ ap (λ h. part_at (items_in r) h i r.ambient) (heads_alike a b alike) in
+    let eu : w ≡ part_at (items_in r) (head_of b) i r.ambient = ew ∙ parts_alike (items_in r) a b i r.ambient alike in
     let lawful = inv.lawful in
     let asked = next_asked M takes r q a b i x y kx ky k inv.fronted lx ly ex ey w ew eu in
     let under = next_under M takes r q a b i x y kx ky k inv.fronted lx ly ex ey in
@@ -1501,21 +1527,6 @@ structurally_relate_tys-make_ty-requires-clause-ty_known g t c =
     let listed : list_tree (arg_tree u.meaning) items ≡ was =
     stays_list (arg_tree q.meaning) (arg_tree u.meaning) items (stays_arg e) (inv.answers).sure in
     subst (λ z. IsTrue (known z)) (sym stays) k.left_known
-
-pub structurally_relate_tys-make_ty-requires-clause-ty_covered : goal.structurally_relate_tys-make_ty-requires-clause-ty_covered
-structurally_relate_tys-make_ty-requires-clause-ty_covered g t c =
-    let r = g.R.HasState.state c.args.r.now in
-    let a = (r.meaning).ty c.args.a.now in
-    let q = g.R.HasState.state c.loop-i.r in
-    let inv = c.loop-i.invariant in
-    let k = c.requires.asked in
-    let extends = ((inv.fronted).passes).extends in
-    let same_a : (q.meaning).ty c.args.a.now ≡ a = extends.ty c.args.a.now k.left_known in
-    let u = g.R.HasState.state c.note_args.new.r in
-    let e = (((c.in_ok-note_args.ensures).passes).extends) in
-    let stays : (u.meaning).ty c.args.a.now ≡ a =
-    e.ty c.args.a.now (subst (λ z. IsTrue (known z)) (sym same_a) k.left_known) ∙ same_a in
-    subst IsCovered (sym stays) (k.left_taken).1
 
 pub structurally_relate_tys-make_ty-requires-clause-parts_known : goal.structurally_relate_tys-make_ty-requires-clause-parts_known
 structurally_relate_tys-make_ty-requires-clause-parts_known g t c =
@@ -1974,12 +1985,12 @@ relate_in_order-relate_parts_with_variance-related-requires g t c κs within =
     ap (λ z. part_at z (head_of a) i q.ambient) (same_items (inv.fronted).passes) ∙
     ap (λ z. part_at (items_in r) (head_of a) i z) ((inv.fronted).passes).ambient in
     let eu : w ≡ part_at (items_in r) (head_of b) i r.ambient =
-    ew ∙ ap (λ h. part_at (items_in r) h i r.ambient) (heads_alike a b alike) in
+    ew ∙ parts_alike (items_in r) a b i r.ambient alike in
     let is_x = ap tree_sort (sym ex) ∙ sort_known q.meaning sorted X kx in
     let is_y = ap tree_sort (sym ey) ∙ sort_known q.meaning sorted Y ky in
     let kind : IsRelatedPart X = related_part (part_sort c.args.a.now) (part_sort c.args.b.now) a b i ta tb form lx X is_x in
     let paired : ArePaired X Y = paired_part (part_sort c.args.a.now) (part_sort c.args.b.now) a b i ta tb form lx X is_x
-    Y alike (heads_alike a b alike) ly is_y in
+    Y alike (heads_one a b form alike) ly is_y in
     let lawful = inv.lawful in
     let decides : w ≢ Bivariant = λ e. term_decides (items_in r) a i r.ambient form c.requires.decides (sym ew ∙ e) in
     let asked = next_asked M takes r q a b i x y kx ky k inv.fronted lx ly ex ey w ew eu in

@@ -20,11 +20,13 @@ use Rattle.relation_reference.specs.Remembering.{vid_kind, vid_number}
 use Rattle.relation_reference.proofs.Recalling.{met_eq, sure_grows}
 use Rattle.relation_reference.proofs.Resolving.{not_type, some_sort, over_itself, context_part}
 use Rattle.relation_reference.proofs.Grows.{store_grows, lawful_grows}
-use Rattle.relation_reference.specs.Generalises.{new_kind, BecomesAlways}
-use Rattle.relation_reference.proofs.Marking.{gives_type, marks_none, marks_then, marks_grow}
+use Rattle.relation_reference.specs.Generalises.{side_of, new_kind, BecomesAlways}
+use Rattle.relation_reference.proofs.Clearing.{ty_eq, clear_grows}
+use Rattle.relation_reference.specs.RefCtxt.{store_in}
+use Rattle.relation_reference.proofs.Marking.{gives_type, marks_grow}
 use Rattle.relation_reference.proofs.Outside.{part_smaller}
 use Rattle.relation_reference.proofs.Covering.{part_covered}
-use Rattle.relation_reference.proofs.Generalising.{memory_answers, stops_cycle, stops_beyond, gives_answers, generalises_no_type, not_type_sort, went_none, went_next, went_stops, went_whole, made_context, recalled_answers, met_answers, fails_any, fails_on, fit_push, becomes_grows}
+use Rattle.relation_reference.proofs.Generalising.{memory_answers, stops_cycle, stops_beyond, gives_answers, generalises_no_type, not_type_sort, went_none, went_next, went_stops, went_whole, made_context, recalled_answers, met_answers, fails_any, fails_on, fit_push, becomes_grows, alias_answers, none_kept}
 use Rattle.relation_reference.proofs.context.variables.RefCtxt.+generalise.Goals as goal
 
 pub generalise_new-next_for-requires-clause-has : goal.generalise_new-next_for-requires-clause-has
@@ -53,6 +55,9 @@ generalise_new-returns-in_err-next_for-in-GivesWay g t' c =
     let k = vid_kind c.args.target.now.vid in
     let i = vid_number c.args.target.now.vid in
     let u = c.args.target.now.universe.0 in
+    let al = c.args.target.now.aliases in
+    let sd = side_of c.args.inside in
+    let eqt = ty_eq g.I.Key.PartialEq.eq in
     let was = store_of m c.args.self.now.inner in
     let p = c.args.term.now in
     let t = part_tree m p in
@@ -64,7 +69,8 @@ generalise_new-returns-in_err-next_for-in-GivesWay g t' c =
       universe = ap (λ st. st.universe) f.refused;
       makes = subst (MakesUnbound u was) (sym f.refused) makes_none;
       rest = f.rest;
-      answers = memory_answers meaning eq c.args.self.now c.next_for.new.self k i u c.args.target.now.cyclic c.args.met.now c.args.met.now p (new_part v) c.from_residual.result
+      clear = none_kept c.from_residual.result c.from_residual.ensures.0;
+      answers = memory_answers meaning eq c.args.self.now c.next_for.new.self al k i u c.args.target.now.cyclic c.args.met.now c.args.met.now p (new_part sd v) c.from_residual.result
           c.from_residual.ensures.0 c.from_residual.ensures.1;
     }
 
@@ -76,6 +82,9 @@ generalise_new-generalise_parts-requires g t' c κs within =
     let k = vid_kind c.args.target.now.vid in
     let i = vid_number c.args.target.now.vid in
     let u = c.args.target.now.universe.0 in
+    let al = c.args.target.now.aliases in
+    let sd = side_of c.args.inside in
+    let eqt = ty_eq g.I.Key.PartialEq.eq in
     let was = store_of m c.args.self.now.inner in
     let p = c.args.term.now in
     let t = part_tree m p in
@@ -88,6 +97,7 @@ generalise_new-generalise_parts-requires g t' c κs within =
     let is_in = c.requires.term_in in
     let covered = c.requires.term_covered in
     let sure = c.requires.sure in
+    let found = c.requires.clear in
     let stays = c.in-ByParts.ensures in
     search rules
 
@@ -99,6 +109,9 @@ generalise_new-returns-in-Cycle g t' c =
     let k = vid_kind c.args.target.now.vid in
     let i = vid_number c.args.target.now.vid in
     let u = c.args.target.now.universe.0 in
+    let al = c.args.target.now.aliases in
+    let sd = side_of c.args.inside in
+    let eqt = ty_eq g.I.Key.PartialEq.eq in
     let was = store_of m c.args.self.now.inner in
     let p = c.args.term.now in
     let t = part_tree m p in
@@ -108,8 +121,9 @@ generalise_new-returns-in-Cycle g t' c =
       grown = stays_same m;
       universe = refl;
       makes = makes_none;
-      rest = marks_none meaning c.args.self.now c.requires.lawful;
-      answers = stops_cycle meaning eq c.args.self.now c.args.self.now k i u c.args.target.now.cyclic c.args.met.now c.args.met.now p (new_part v) c.in-Cycle.ensures;
+      rest = λ s made marks inner. marks;
+      clear = tt;
+      answers = stops_cycle meaning eq c.args.self.now c.args.self.now al k i u c.args.target.now.cyclic c.args.met.now c.args.met.now p (new_part sd v) c.in-Cycle.ensures;
     }
 
 pub generalise_new-returns-in-Beyond : goal.generalise_new-returns-in-Beyond
@@ -120,6 +134,9 @@ generalise_new-returns-in-Beyond g t' c =
     let k = vid_kind c.args.target.now.vid in
     let i = vid_number c.args.target.now.vid in
     let u = c.args.target.now.universe.0 in
+    let al = c.args.target.now.aliases in
+    let sd = side_of c.args.inside in
+    let eqt = ty_eq g.I.Key.PartialEq.eq in
     let was = store_of m c.args.self.now.inner in
     let p = c.args.term.now in
     let t = part_tree m p in
@@ -130,8 +147,9 @@ generalise_new-returns-in-Beyond g t' c =
       grown = stays_same m;
       universe = refl;
       makes = makes_none;
-      rest = marks_none meaning c.args.self.now c.requires.lawful;
-      answers = stops_beyond meaning eq c.args.self.now c.args.self.now k i u c.args.target.now.cyclic c.args.met.now c.args.met.now p (new_part v) f.0 f.1 f.2 f.3 f.4 f.5;
+      rest = λ s made marks inner. marks;
+      clear = tt;
+      answers = stops_beyond meaning eq c.args.self.now c.args.self.now al k i u c.args.target.now.cyclic c.args.met.now c.args.met.now p (new_part sd v) f.0 f.1 f.2 f.3 f.4 f.5;
     }
 
 pub generalise_new-returns-in_ok-next_for-in-GivesWay : goal.generalise_new-returns-in_ok-next_for-in-GivesWay
@@ -142,6 +160,9 @@ generalise_new-returns-in_ok-next_for-in-GivesWay g t' c =
     let k = vid_kind c.args.target.now.vid in
     let i = vid_number c.args.target.now.vid in
     let u = c.args.target.now.universe.0 in
+    let al = c.args.target.now.aliases in
+    let sd = side_of c.args.inside in
+    let eqt = ty_eq g.I.Key.PartialEq.eq in
     let was = store_of m c.args.self.now.inner in
     let p = c.args.term.now in
     let t = part_tree m p in
@@ -155,7 +176,8 @@ generalise_new-returns-in_ok-next_for-in-GivesWay g t' c =
       universe = (w.1).same_universe;
       makes = makes_one makes_none (gives_no_number f.0 f.1 f.5) w.1;
       rest = r.rest;
-      answers = gives_answers meaning eq c.args.self.now c.next_for.new.self k i u c.args.target.now.cyclic c.args.met.now c.args.met.now p v f.0 f.1 c.in_ok-next_for-in-GivesWay.field-0 w.0 c.requires.sure
+      clear = clear_grows r.grown eqt k i u c.args.clear.now c.requires.clear;
+      answers = gives_answers meaning eq c.args.self.now c.next_for.new.self al k i u c.args.target.now.cyclic c.args.met.now c.args.met.now p sd v f.0 f.1 c.in_ok-next_for-in-GivesWay.field-0 w.0 c.requires.sure
           r.grown f.2 f.3 f.4 f.5 w.1 w.2 r.sure r.sort;
     }
 
@@ -167,6 +189,9 @@ generalise_part-generalise_new-requires g t' c κs within =
     let k = vid_kind c.args.target.now.vid in
     let i = vid_number c.args.target.now.vid in
     let u = c.args.target.now.universe.0 in
+    let al = c.args.target.now.aliases in
+    let sd = side_of c.args.inside in
+    let eqt = ty_eq g.I.Key.PartialEq.eq in
     let was = store_of m c.args.self.now.inner in
     let p = c.args.term.now in
     let t = part_tree m p in
@@ -179,6 +204,7 @@ generalise_part-generalise_new-requires g t' c κs within =
     let is_in = c.requires.term_in in
     let covered = c.requires.term_covered in
     let sure = c.requires.sure in
+    let found = c.requires.clear in
     search rules
 
 pub generalise_part-generalise_new-requires-2 : goal.generalise_part-generalise_new-requires-2
@@ -189,6 +215,9 @@ generalise_part-generalise_new-requires-2 g t' c κs within =
     let k = vid_kind c.args.target.now.vid in
     let i = vid_number c.args.target.now.vid in
     let u = c.args.target.now.universe.0 in
+    let al = c.args.target.now.aliases in
+    let sd = side_of c.args.inside in
+    let eqt = ty_eq g.I.Key.PartialEq.eq in
     let was = store_of m c.args.self.now.inner in
     let p = c.args.term.now in
     let t = part_tree m p in
@@ -201,6 +230,7 @@ generalise_part-generalise_new-requires-2 g t' c κs within =
     let is_in = c.requires.term_in in
     let covered = c.requires.term_covered in
     let sure = c.requires.sure in
+    let found = c.requires.clear in
     search rules
 
 pub generalise_part-returns-in_default : goal.generalise_part-returns-in_default
@@ -211,12 +241,15 @@ generalise_part-returns-in_default g t' c =
     let k = vid_kind c.args.target.now.vid in
     let i = vid_number c.args.target.now.vid in
     let u = c.args.target.now.universe.0 in
+    let al = c.args.target.now.aliases in
+    let sd = side_of c.args.inside in
+    let eqt = ty_eq g.I.Key.PartialEq.eq in
     let was = store_of m c.args.self.now.inner in
     let p = c.args.term.now in
     let t = part_tree m p in
     let v = c.args.variance in
     let sorted : Sorted m = g.met.I.Interner.sorted c.args.self.now.interner in
-    generalises_no_type meaning eq c.args.self.now c.generalise_new.new.self k i u c.args.target.now.cyclic c.args.met.now c.generalise_new.new.met p v
+    generalises_no_type meaning eq c.args.self.now c.generalise_new.new.self al k i u c.args.target.now.cyclic c.args.met.now c.generalise_new.new.met p eqt c.generalise_new.new.clear sd v
     (not_type_sort t (λ e. not_type p c.in_default.not-Ty (sym (sort_known m sorted p c.requires.term_known) ∙ e)))
     c.generalise_new.result c.generalise_new.ensures
 
@@ -228,6 +261,9 @@ generalise_parts-loop-i-init g t' c =
     let k = vid_kind c.args.target.now.vid in
     let i = vid_number c.args.target.now.vid in
     let u = c.args.target.now.universe.0 in
+    let al = c.args.target.now.aliases in
+    let sd = side_of c.args.inside in
+    let eqt = ty_eq g.I.Key.PartialEq.eq in
     let was = store_of m c.args.self.now.inner in
     let p = c.args.term.now in
     let t = part_tree m p in
@@ -238,11 +274,12 @@ generalise_parts-loop-i-init g t' c =
       grown = stays_same m;
       universe = refl;
       makes = makes_none;
-      rest = marks_none meaning c.args.self.now c.requires.lawful;
+      rest = λ s made marks inner. marks;
       all = c.requires.sure;
+      found = c.requires.clear;
       sure = subst (λ xs. IsTrue (known (list_tree (part_tree m) xs))) (sym empty) refl;
       fit = subst (λ xs. Fit xs (firsts 0 (parts_of t))) (sym empty) tt;
-      went = went_none eq m was k i u v c.args.met.now t (list_tree (part_tree m) c.new-parts.result.items)
+      went = went_none eq m was al k i u sd v c.args.met.now t (list_tree (part_tree m) c.new-parts.result.items)
           (ap (list_tree (part_tree m)) empty);
       unchanged = λ h. ap (list_tree (part_tree m)) empty;
     }
@@ -255,6 +292,9 @@ generalise_parts-part-next-requires-clause-term_known g t' c =
     let k = vid_kind c.args.target.now.vid in
     let i = vid_number c.args.target.now.vid in
     let u = c.args.target.now.universe.0 in
+    let al = c.args.target.now.aliases in
+    let sd = side_of c.args.inside in
+    let eqt = ty_eq g.I.Key.PartialEq.eq in
     let was = store_of m c.args.self.now.inner in
     let p = c.args.term.now in
     let t = part_tree m p in
@@ -275,6 +315,9 @@ generalise_parts-part-next-requires-clause-in_bounds g t' c =
     let k = vid_kind c.args.target.now.vid in
     let i = vid_number c.args.target.now.vid in
     let u = c.args.target.now.universe.0 in
+    let al = c.args.target.now.aliases in
+    let sd = side_of c.args.inside in
+    let eqt = ty_eq g.I.Key.PartialEq.eq in
     let was = store_of m c.args.self.now.inner in
     let p = c.args.term.now in
     let t = part_tree m p in
@@ -298,6 +341,9 @@ generalise_parts-variance_of-at-requires-clause-term_known g t' c =
     let k = vid_kind c.args.target.now.vid in
     let i = vid_number c.args.target.now.vid in
     let u = c.args.target.now.universe.0 in
+    let al = c.args.target.now.aliases in
+    let sd = side_of c.args.inside in
+    let eqt = ty_eq g.I.Key.PartialEq.eq in
     let was = store_of m c.args.self.now.inner in
     let p = c.args.term.now in
     let t = part_tree m p in
@@ -318,6 +364,9 @@ generalise_parts-variance_of-at-requires-clause-term_covered g t' c =
     let k = vid_kind c.args.target.now.vid in
     let i = vid_number c.args.target.now.vid in
     let u = c.args.target.now.universe.0 in
+    let al = c.args.target.now.aliases in
+    let sd = side_of c.args.inside in
+    let eqt = ty_eq g.I.Key.PartialEq.eq in
     let was = store_of m c.args.self.now.inner in
     let p = c.args.term.now in
     let t = part_tree m p in
@@ -338,6 +387,9 @@ generalise_parts-variance_of-at-requires-clause-in_bounds g t' c =
     let k = vid_kind c.args.target.now.vid in
     let i = vid_number c.args.target.now.vid in
     let u = c.args.target.now.universe.0 in
+    let al = c.args.target.now.aliases in
+    let sd = side_of c.args.inside in
+    let eqt = ty_eq g.I.Key.PartialEq.eq in
     let was = store_of m c.args.self.now.inner in
     let p = c.args.term.now in
     let t = part_tree m p in
@@ -361,6 +413,9 @@ generalise_parts-generalise_part-requires g t' c κs within =
     let k = vid_kind c.args.target.now.vid in
     let i = vid_number c.args.target.now.vid in
     let u = c.args.target.now.universe.0 in
+    let al = c.args.target.now.aliases in
+    let sd = side_of c.args.inside in
+    let eqt = ty_eq g.I.Key.PartialEq.eq in
     let was = store_of m c.args.self.now.inner in
     let p = c.args.term.now in
     let t = part_tree m p in
@@ -387,6 +442,7 @@ generalise_parts-generalise_part-requires g t' c κs within =
     (subst (InContext was) (sym at) (context_part was t j c.parts_count-i-end.ensures.is_list c.requires.term_in)) in
     let covered = subst IsCovered (sym at) (part_covered t j below c.requires.term_covered) in
     let sure = inv.all in
+    let found = inv.found in
     search rules
 
 pub generalise_new-fate_of-requires-clause-lawful : goal.generalise_new-fate_of-requires-clause-lawful
@@ -404,6 +460,26 @@ generalise_new-fate_of-requires-clause-term_in g t' c =
 pub generalise_new-fate_of-requires-clause-term_covered : goal.generalise_new-fate_of-requires-clause-term_covered
 generalise_new-fate_of-requires-clause-term_covered g t' c =
     c.requires.term_covered
+
+pub generalise_new-alias_gives_way-requires-clause-lawful : goal.generalise_new-alias_gives_way-requires-clause-lawful
+generalise_new-alias_gives_way-requires-clause-lawful g t' c =
+    c.requires.lawful
+
+pub generalise_new-alias_gives_way-requires-clause-term_known : goal.generalise_new-alias_gives_way-requires-clause-term_known
+generalise_new-alias_gives_way-requires-clause-term_known g t' c =
+    c.requires.term_known
+
+pub generalise_new-alias_gives_way-requires-clause-term_in : goal.generalise_new-alias_gives_way-requires-clause-term_in
+generalise_new-alias_gives_way-requires-clause-term_in g t' c =
+    c.requires.term_in
+
+pub generalise_new-alias_gives_way-requires-clause-term_covered : goal.generalise_new-alias_gives_way-requires-clause-term_covered
+generalise_new-alias_gives_way-requires-clause-term_covered g t' c =
+    c.requires.term_covered
+
+pub generalise_new-alias_gives_way-requires-clause-clear : goal.generalise_new-alias_gives_way-requires-clause-clear
+generalise_new-alias_gives_way-requires-clause-clear g t' c =
+    c.requires.clear
 
 pub generalise_new-next_for-requires-clause-lawful : goal.generalise_new-next_for-requires-clause-lawful
 generalise_new-next_for-requires-clause-lawful g t' c =
@@ -434,6 +510,9 @@ generalise_part-returns-in-Some g t' c =
     let k = vid_kind c.args.target.now.vid in
     let i = vid_number c.args.target.now.vid in
     let u = c.args.target.now.universe.0 in
+    let al = c.args.target.now.aliases in
+    let sd = side_of c.args.inside in
+    let eqt = ty_eq g.I.Key.PartialEq.eq in
     let was = store_of m c.args.self.now.inner in
     let p = c.args.term.now in
     let t = part_tree m p in
@@ -445,8 +524,9 @@ generalise_part-returns-in-Some g t' c =
       grown = stays_same m;
       universe = refl;
       makes = makes_none;
-      rest = marks_none meaning c.args.self.now c.requires.lawful;
-      answers = recalled_answers meaning eq c.args.self.now c.args.self.now k i u c.args.target.now.cyclic c.args.met.now c.args.met.now p v (Ty c.in-Some.became) c.in-Ty.ty c.in-Some.became
+      rest = λ s made marks inner. marks;
+      clear = c.requires.clear;
+      answers = recalled_answers meaning eq c.args.self.now c.args.self.now al k i u c.args.target.now.cyclic c.args.met.now c.args.met.now p sd v (Ty c.in-Some.became) c.in-Ty.ty c.in-Some.became
           c.in-Ty.is refl sort c.in-Some.ensures.sure c.requires.sure c.in-Some.ensures.met;
     }
 
@@ -458,6 +538,9 @@ generalise_part-returns-in_err-became g t' c =
     let k = vid_kind c.args.target.now.vid in
     let i = vid_number c.args.target.now.vid in
     let u = c.args.target.now.universe.0 in
+    let al = c.args.target.now.aliases in
+    let sd = side_of c.args.inside in
+    let eqt = ty_eq g.I.Key.PartialEq.eq in
     let was = store_of m c.args.self.now.inner in
     let p = c.args.term.now in
     let t = part_tree m p in
@@ -470,7 +553,8 @@ generalise_part-returns-in_err-became g t' c =
       universe = h.universe;
       makes = h.makes;
       rest = h.rest;
-      answers = fails_any meaning eq c.args.self.now c.generalise_new-2.new.self k i u c.args.target.now.cyclic c.args.met.now c.generalise_new-2.new.met p (new_part v) (any_part v) (Err f)
+      clear = none_kept c.from_residual.result c.from_residual.ensures.0;
+      answers = fails_any meaning eq c.args.self.now c.generalise_new-2.new.self al k i u c.args.target.now.cyclic c.args.met.now c.generalise_new-2.new.met p sd v (Err f)
           c.from_residual.result f refl (as_err c.from_residual.result f c.from_residual.ensures.0 c.from_residual.ensures.1) h.answers;
     }
 
@@ -486,6 +570,9 @@ generalise_part-keep-requires-clause-ty_known g t' c =
     let k = vid_kind c.args.target.now.vid in
     let i = vid_number c.args.target.now.vid in
     let u = c.args.target.now.universe.0 in
+    let al = c.args.target.now.aliases in
+    let sd = side_of c.args.inside in
+    let eqt = ty_eq g.I.Key.PartialEq.eq in
     let was = store_of m c.args.self.now.inner in
     let p = c.args.term.now in
     let t = part_tree m p in
@@ -503,6 +590,9 @@ generalise_part-keep-requires-clause-became_known g t' c =
     let k = vid_kind c.args.target.now.vid in
     let i = vid_number c.args.target.now.vid in
     let u = c.args.target.now.universe.0 in
+    let al = c.args.target.now.aliases in
+    let sd = side_of c.args.inside in
+    let eqt = ty_eq g.I.Key.PartialEq.eq in
     let was = store_of m c.args.self.now.inner in
     let p = c.args.term.now in
     let t = part_tree m p in
@@ -520,6 +610,9 @@ generalise_part-keep-requires-clause-sure g t' c =
     let k = vid_kind c.args.target.now.vid in
     let i = vid_number c.args.target.now.vid in
     let u = c.args.target.now.universe.0 in
+    let al = c.args.target.now.aliases in
+    let sd = side_of c.args.inside in
+    let eqt = ty_eq g.I.Key.PartialEq.eq in
     let was = store_of m c.args.self.now.inner in
     let p = c.args.term.now in
     let t = part_tree m p in
@@ -537,6 +630,9 @@ generalise_part-returns-in_err-keep g t' c =
     let k = vid_kind c.args.target.now.vid in
     let i = vid_number c.args.target.now.vid in
     let u = c.args.target.now.universe.0 in
+    let al = c.args.target.now.aliases in
+    let sd = side_of c.args.inside in
+    let eqt = ty_eq g.I.Key.PartialEq.eq in
     let was = store_of m c.args.self.now.inner in
     let p = c.args.term.now in
     let t = part_tree m p in
@@ -550,7 +646,8 @@ generalise_part-returns-in_err-keep g t' c =
       universe = h.universe;
       makes = h.makes;
       rest = h.rest;
-      answers = memory_answers meaning eq c.args.self.now c.generalise_new-2.new.self k i u c.args.target.now.cyclic c.args.met.now c.keep.new.met p (any_part v) c.from_residual-in_err-keep.result
+      clear = none_kept c.from_residual-in_err-keep.result c.from_residual-in_err-keep.ensures.0;
+      answers = memory_answers meaning eq c.args.self.now c.generalise_new-2.new.self al k i u c.args.target.now.cyclic c.args.met.now c.keep.new.met p (any_part sd v) c.from_residual-in_err-keep.result
           c.from_residual-in_err-keep.ensures.0 c.from_residual-in_err-keep.ensures.1;
     }
 
@@ -562,6 +659,9 @@ generalise_part-returns g t' c =
     let k = vid_kind c.args.target.now.vid in
     let i = vid_number c.args.target.now.vid in
     let u = c.args.target.now.universe.0 in
+    let al = c.args.target.now.aliases in
+    let sd = side_of c.args.inside in
+    let eqt = ty_eq g.I.Key.PartialEq.eq in
     let was = store_of m c.args.self.now.inner in
     let p = c.args.term.now in
     let t = part_tree m p in
@@ -577,7 +677,8 @@ generalise_part-returns g t' c =
       universe = h.universe;
       makes = h.makes;
       rest = h.rest;
-      answers = met_answers meaning eq c.args.self.now c.generalise_new-2.new.self k i u c.args.target.now.cyclic c.args.met.now c.generalise_new-2.new.met p v c.keep.new.met c.in_ok-became.became
+      clear = h.clear;
+      answers = met_answers meaning eq c.args.self.now c.generalise_new-2.new.self al k i u c.args.target.now.cyclic c.args.met.now c.generalise_new-2.new.met p c.args.inside v c.keep.new.met c.in_ok-became.became
           c.in-Ty.ty c.the_ty.result c.in-Ty.is (sym c.the_ty.ensures) sort (h.grown.ty c.in-Ty.ty there) c.in_ok-keep.ensures.sure
           c.in_ok-keep.ensures.keeps c.in_default-recall.ensures.not_met h.answers;
     }
@@ -594,6 +695,9 @@ generalise_parts-returns-in_err-became g t' c =
     let k = vid_kind c.args.target.now.vid in
     let i = vid_number c.args.target.now.vid in
     let u = c.args.target.now.universe.0 in
+    let al = c.args.target.now.aliases in
+    let sd = side_of c.args.inside in
+    let eqt = ty_eq g.I.Key.PartialEq.eq in
     let was = store_of m c.args.self.now.inner in
     let p = c.args.term.now in
     let t = part_tree m p in
@@ -618,12 +722,16 @@ generalise_parts-returns-in_err-became g t' c =
       grown = extends_on inv.grown h.grown;
       universe = h.universe ∙ inv.universe;
       makes = makes_then inv.makes h.makes;
-      rest = marks_then meaning c.args.self.now c.loop-i.self c.generalise_part.new.self h.lawful
-          ((adds c.requires.lawful.sound c.requires.below inv.makes).later.grows type_var) inv.rest h.rest;
-      answers = fails_on eq m n o was now then k i u c.args.target.now.cyclic (any_part c.variance_of-at.result) (new_part v) c.args.met.now c.loop-i.met
+      rest = λ s made marks inner. h.rest s
+          (λ a b. (adds c.requires.lawful.sound c.requires.below inv.makes).later.grows type_var a (made a b))
+          (inv.rest s made marks inner) (subst (InContext (store_in meaning s)) (sym at)
+          (context_part (store_in meaning s) t j c.parts_count-i-end.ensures.is_list inner));
+      clear = none_kept c.from_residual.result c.from_residual.ensures.0;
+      answers = fails_on eq m n o was now then al k i u c.args.target.now.cyclic (any_part (side_of c.parts_inside-within.result) c.variance_of-at.result) (new_part sd v) c.args.met.now c.loop-i.met
           c.generalise_part.new.met (part_tree n z) t p z f h.answers
-          (λ e2. went_stops eq m n o was now then k i u v c.args.met.now c.loop-i.met c.generalise_part.new.met t
-          c.parts_count-i-end.ensures.is_list j below us inv.went inv.grown (part_tree n z) at c.variance_of-at.result c.requires.term_covered)
+          (λ e2. went_stops eq m n o was now then al k i u sd v c.args.met.now c.loop-i.met c.generalise_part.new.met t c.requires.goes
+          c.parts_count-i-end.ensures.is_list j below us inv.went inv.grown (part_tree n z) at
+          (side_of c.parts_inside-within.result) c.parts_inside-within.ensures c.variance_of-at.result)
           c.from_residual.result (as_err c.from_residual.result f c.from_residual.ensures.0 c.from_residual.ensures.1);
     }
 
@@ -651,6 +759,9 @@ generalise_parts-returns-in_err-push g t' c =
     let k = vid_kind c.args.target.now.vid in
     let i = vid_number c.args.target.now.vid in
     let u = c.args.target.now.universe.0 in
+    let al = c.args.target.now.aliases in
+    let sd = side_of c.args.inside in
+    let eqt = ty_eq g.I.Key.PartialEq.eq in
     let was = store_of m c.args.self.now.inner in
     let p = c.args.term.now in
     let t = part_tree m p in
@@ -661,15 +772,19 @@ generalise_parts-returns-in_err-push g t' c =
     let e : part_tree n p ≡ t = stays_part inv.grown p c.requires.term_known in
     let j = c.loop-i.i in
     let us = list_tree (part_tree n) c.loop-i.parts.items in
+    let at : part_tree n c.part-next.result ≡ nth j (parts_of t) = c.part-next.ensures.means ∙ ap (λ w. nth j (parts_of w)) e in
     let h = c.in_ok-became.ensures in
     record {
       lawful = h.lawful;
       grown = extends_on inv.grown h.grown;
       universe = h.universe ∙ inv.universe;
       makes = makes_then inv.makes h.makes;
-      rest = marks_then meaning c.args.self.now c.loop-i.self c.generalise_part.new.self h.lawful
-          ((adds c.requires.lawful.sound c.requires.below inv.makes).later.grows type_var) inv.rest h.rest;
-      answers = memory_answers meaning eq c.args.self.now c.generalise_part.new.self k i u c.args.target.now.cyclic c.args.met.now c.generalise_part.new.met p (new_part v) c.from_residual-in_err-push.result
+      rest = λ s made marks inner. h.rest s
+          (λ a b. (adds c.requires.lawful.sound c.requires.below inv.makes).later.grows type_var a (made a b))
+          (inv.rest s made marks inner) (subst (InContext (store_in meaning s)) (sym at)
+          (context_part (store_in meaning s) t j c.parts_count-i-end.ensures.is_list inner));
+      clear = none_kept c.from_residual-in_err-push.result c.from_residual-in_err-push.ensures.0;
+      answers = memory_answers meaning eq c.args.self.now c.generalise_part.new.self al k i u c.args.target.now.cyclic c.args.met.now c.generalise_part.new.met p (new_part sd v) c.from_residual-in_err-push.result
           c.from_residual-in_err-push.ensures.0 c.from_residual-in_err-push.ensures.1;
     }
 
@@ -681,6 +796,9 @@ generalise_parts-loop-i-preserved g t' c =
     let k = vid_kind c.args.target.now.vid in
     let i = vid_number c.args.target.now.vid in
     let u = c.args.target.now.universe.0 in
+    let al = c.args.target.now.aliases in
+    let sd = side_of c.args.inside in
+    let eqt = ty_eq g.I.Key.PartialEq.eq in
     let was = store_of m c.args.self.now.inner in
     let p = c.args.term.now in
     let t = part_tree m p in
@@ -714,14 +832,18 @@ generalise_parts-loop-i-preserved g t' c =
       grown = extends_on inv.grown h.grown;
       universe = h.universe ∙ inv.universe;
       makes = makes_then inv.makes h.makes;
-      rest = marks_then meaning c.args.self.now c.loop-i.self c.generalise_part.new.self h.lawful
-          ((adds c.requires.lawful.sound c.requires.below inv.makes).later.grows type_var) inv.rest h.rest;
+      rest = λ s made marks inner. h.rest s
+          (λ a b. (adds c.requires.lawful.sound c.requires.below inv.makes).later.grows type_var a (made a b))
+          (inv.rest s made marks inner) (subst (InContext (store_in meaning s)) (sym at)
+          (context_part (store_in meaning s) t j c.parts_count-i-end.ensures.is_list inner));
       all = a.2;
+      found = h.clear;
       sure = subst (λ ys. IsTrue (known (list_tree (part_tree o) ys))) (sym items)
           (push_known (part_tree o) xs w (knows_as us (list_tree (part_tree o) xs) stay inv.sure) a.0);
       fit = subst₂ (λ ys d. Fit ys (firsts d (parts_of t))) (sym items) (sym next) (fit_push w j (parts_of t) xs below inv.fit sort);
-      went = went_next eq m n o was now then k i u v c.args.met.now c.loop-i.met c.generalise_part.new.met t
-          c.parts_count-i-end.ensures.is_list j below us inv.went inv.grown (part_tree n z) at c.variance_of-at.result
+      went = went_next eq m n o was now then al k i u sd v c.args.met.now c.loop-i.met c.generalise_part.new.met t c.requires.goes
+          c.parts_count-i-end.ensures.is_list j below us inv.went inv.grown (part_tree n z) at
+          (side_of c.parts_inside-within.result) c.parts_inside-within.ensures c.variance_of-at.result
           (c.variance_of-at.ensures ∙ ap (λ y. variance_of_part (items_of n) y j v) e) (part_tree o w) a.3 (j + 1)
           (list_tree (part_tree o) c.push.new.self.items) next pushed;
       unchanged = λ q.
@@ -738,6 +860,9 @@ generalise_parts-returns-then-same g t' c =
     let k = vid_kind c.args.target.now.vid in
     let i = vid_number c.args.target.now.vid in
     let u = c.args.target.now.universe.0 in
+    let al = c.args.target.now.aliases in
+    let sd = side_of c.args.inside in
+    let eqt = ty_eq g.I.Key.PartialEq.eq in
     let was = store_of m c.args.self.now.inner in
     let p = c.args.term.now in
     let t = part_tree m p in
@@ -754,7 +879,7 @@ generalise_parts-returns-then-same g t' c =
     let all : j ≡ count (parts_of t) = omega (arith, counted, test, end) in
     let sorted : Sorted m = g.met.I.Interner.sorted c.args.self.now.interner in
     let whole : firsts j (parts_of t) ≡ parts_of t = ap (λ d. firsts d (parts_of t)) all ∙ firsts_all (parts_of t) c.parts_count-i-end.ensures.is_list in
-    let became = went_whole eq m n was now k i u v c.args.met.now c.loop-i.met (new_kind p) t j us c.requires.term_covered (λ s. some_sort p (sym (sort_known m sorted p c.requires.term_known) ∙ s))
+    let became = went_whole eq m n was now al k i u sd v c.args.met.now c.loop-i.met (new_kind p) t j us c.requires.goes (λ s. some_sort p (sym (sort_known m sorted p c.requires.term_known) ∙ s))
     c.parts_count-i-end.ensures.is_list all c.requires.stays inv.went in
     record {
       lawful = inv.lawful;
@@ -762,11 +887,12 @@ generalise_parts-returns-then-same g t' c =
       universe = inv.universe;
       makes = inv.makes;
       rest = inv.rest;
+      clear = inv.found;
       answers = (
         knows_as t (part_tree n p) e c.requires.term_known,
         refl,
         inv.all,
-        subst (BecomesAlways eq m n was now k i u (new_part v) c.args.met.now c.loop-i.met t)
+        subst (BecomesAlways eq m n was now al k i u (new_part sd v) c.args.met.now c.loop-i.met t)
             (ap (over t) (inv.unchanged c.if-same.true ∙ whole) ∙ over_itself t ∙ sym e) became,
       );
     }
@@ -779,6 +905,9 @@ generalise_parts-with_parts-requires-clause-term_known g t' c =
     let k = vid_kind c.args.target.now.vid in
     let i = vid_number c.args.target.now.vid in
     let u = c.args.target.now.universe.0 in
+    let al = c.args.target.now.aliases in
+    let sd = side_of c.args.inside in
+    let eqt = ty_eq g.I.Key.PartialEq.eq in
     let was = store_of m c.args.self.now.inner in
     let p = c.args.term.now in
     let t = part_tree m p in
@@ -799,6 +928,9 @@ generalise_parts-with_parts-requires-clause-parts_known g t' c =
     let k = vid_kind c.args.target.now.vid in
     let i = vid_number c.args.target.now.vid in
     let u = c.args.target.now.universe.0 in
+    let al = c.args.target.now.aliases in
+    let sd = side_of c.args.inside in
+    let eqt = ty_eq g.I.Key.PartialEq.eq in
     let was = store_of m c.args.self.now.inner in
     let p = c.args.term.now in
     let t = part_tree m p in
@@ -819,6 +951,9 @@ generalise_parts-with_parts-requires-clause-fits g t' c =
     let k = vid_kind c.args.target.now.vid in
     let i = vid_number c.args.target.now.vid in
     let u = c.args.target.now.universe.0 in
+    let al = c.args.target.now.aliases in
+    let sd = side_of c.args.inside in
+    let eqt = ty_eq g.I.Key.PartialEq.eq in
     let was = store_of m c.args.self.now.inner in
     let p = c.args.term.now in
     let t = part_tree m p in
@@ -845,6 +980,9 @@ generalise_parts-returns-in_err-with_parts g t' c =
     let k = vid_kind c.args.target.now.vid in
     let i = vid_number c.args.target.now.vid in
     let u = c.args.target.now.universe.0 in
+    let al = c.args.target.now.aliases in
+    let sd = side_of c.args.inside in
+    let eqt = ty_eq g.I.Key.PartialEq.eq in
     let was = store_of m c.args.self.now.inner in
     let p = c.args.term.now in
     let t = part_tree m p in
@@ -861,9 +999,10 @@ generalise_parts-returns-in_err-with_parts g t' c =
       grown = extends_on inv.grown h.grown;
       universe = inv.universe;
       makes = subst (MakesUnbound u was) (sym (store_grows h.grown c.loop-i.self.inner inv.lawful)) inv.makes;
-      rest = marks_grow meaning c.args.self.now c.loop-i.self (record { interner = c.with_parts.new.cx; inner = c.loop-i.self.inner }) refl
-          (store_grows h.grown c.loop-i.self.inner inv.lawful) inv.rest;
-      answers = memory_answers meaning eq c.args.self.now (record { interner = c.with_parts.new.cx; inner = c.loop-i.self.inner }) k i u c.args.target.now.cyclic c.args.met.now c.loop-i.met p (new_part v) c.from_residual-in_err-with_parts.result
+      rest = λ s made marks inner. marks_grow meaning s c.loop-i.self (record { interner = c.with_parts.new.cx; inner = c.loop-i.self.inner }) refl
+          (store_grows h.grown c.loop-i.self.inner inv.lawful) (inv.rest s made marks inner);
+      clear = none_kept c.from_residual-in_err-with_parts.result c.from_residual-in_err-with_parts.ensures.0;
+      answers = memory_answers meaning eq c.args.self.now (record { interner = c.with_parts.new.cx; inner = c.loop-i.self.inner }) al k i u c.args.target.now.cyclic c.args.met.now c.loop-i.met p (new_part sd v) c.from_residual-in_err-with_parts.result
           c.from_residual-in_err-with_parts.ensures.0 c.from_residual-in_err-with_parts.ensures.1;
     }
 
@@ -875,6 +1014,9 @@ generalise_parts-returns g t' c =
     let k = vid_kind c.args.target.now.vid in
     let i = vid_number c.args.target.now.vid in
     let u = c.args.target.now.universe.0 in
+    let al = c.args.target.now.aliases in
+    let sd = side_of c.args.inside in
+    let eqt = ty_eq g.I.Key.PartialEq.eq in
     let was = store_of m c.args.self.now.inner in
     let p = c.args.term.now in
     let t = part_tree m p in
@@ -891,7 +1033,7 @@ generalise_parts-returns g t' c =
     let all : j ≡ count (parts_of t) = omega (arith, counted, test, end) in
     let sorted : Sorted m = g.met.I.Interner.sorted c.args.self.now.interner in
     let whole : firsts j (parts_of t) ≡ parts_of t = ap (λ d. firsts d (parts_of t)) all ∙ firsts_all (parts_of t) c.parts_count-i-end.ensures.is_list in
-    let became = went_whole eq m n was now k i u v c.args.met.now c.loop-i.met (new_kind p) t j us c.requires.term_covered (λ s. some_sort p (sym (sort_known m sorted p c.requires.term_known) ∙ s))
+    let became = went_whole eq m n was now al k i u sd v c.args.met.now c.loop-i.met (new_kind p) t j us c.requires.goes (λ s. some_sort p (sym (sort_known m sorted p c.requires.term_known) ∙ s))
     c.parts_count-i-end.ensures.is_list all c.requires.stays inv.went in
     let h = c.in_ok-with_parts.ensures in
     let o = meaning c.with_parts.new.cx in
@@ -902,13 +1044,14 @@ generalise_parts-returns g t' c =
       grown = extends_on inv.grown h.grown;
       universe = inv.universe;
       makes = subst (MakesUnbound u was) (sym kept) inv.makes;
-      rest = marks_grow meaning c.args.self.now c.loop-i.self (record { interner = c.with_parts.new.cx; inner = c.loop-i.self.inner }) refl
-          (store_grows h.grown c.loop-i.self.inner inv.lawful) inv.rest;
+      rest = λ s made marks inner. marks_grow meaning s c.loop-i.self (record { interner = c.with_parts.new.cx; inner = c.loop-i.self.inner }) refl
+          (store_grows h.grown c.loop-i.self.inner inv.lawful) (inv.rest s made marks inner);
+      clear = clear_grows h.grown eqt k i u c.loop-i.clear inv.found;
       answers = (
         h.sure,
         h.sort,
         sure_grows h.grown eq c.loop-i.met inv.all,
-        becomes_grows eq h.grown was now (store_of o c.loop-i.self.inner) k i u (new_part v) c.args.met.now c.loop-i.met t (over t us)
+        becomes_grows eq h.grown was now (store_of o c.loop-i.self.inner) al k i u (new_part sd v) c.args.met.now c.loop-i.met t (over t us)
             (part_tree o x) inv.all kept
             (h.made ∙ ap₂ over e (ap (list_tree (part_tree n)) c.as_slice.ensures.value)) became,
       );

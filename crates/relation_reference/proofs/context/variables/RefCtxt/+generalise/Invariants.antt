@@ -4,11 +4,10 @@ use Rattle.relation_terms.specs.Meaning.{Extends}
 use Rattle.relation_terms.specs.Parts.{part_tree, parts_of, Fit}
 use Rattle.relation_contexts.specs.Generalising.{MakesUnbound}
 use Rattle.relation_contexts.proofs.Lists.{firsts}
-use Rattle.relation_contexts.specs.ContextCalls.{MarksNew}
-use Rattle.relation_reference.specs.RefCtxt.{context_in}
 use Rattle.relation_reference.specs.Tables.{store_of, IsLawful}
 use Rattle.relation_reference.specs.Remembering.{vid_kind, vid_number}
-use Rattle.relation_reference.specs.Generalises.{IsSure}
+use Rattle.relation_reference.specs.Generalises.{side_of, IsSure, AreClear, MarksFrom}
+use Rattle.relation_reference.proofs.Clearing.{ty_eq}
 use Rattle.relation_reference.proofs.Recalling.{met_eq}
 use Rattle.relation_reference.proofs.Generalising.{WentAlways}
 use Rattle.relation_reference.proofs.context.variables.RefCtxt.+generalise.Given as goal
@@ -35,11 +34,14 @@ invariant-generalise_parts-loop-i g l =
       grown : Extends m n;
       universe : l.self.inner.universe.0 ≡ l.fn.self.inner.universe.0;
       makes : MakesUnbound l.target.universe.0 was now;
-      rest : MarksNew (context_in g.I.Interner.meaning l.fn.self) (context_in g.I.Interner.meaning l.self);
+      rest : MarksFrom g.I.Interner.meaning l.fn.self l.self (part_tree m l.term);
       all : IsSure (met_eq g.I.Key.PartialEq.eq) n l.met;
+      found : AreClear (ty_eq g.I.Key.PartialEq.eq) n (vid_kind l.target.vid) (vid_number l.target.vid)
+          l.target.universe.0 l.clear;
       sure : IsTrue (known us);
       fit : Fit l.parts.items (firsts l.i ts);
-      went : WentAlways (met_eq g.I.Key.PartialEq.eq) m n was now (vid_kind l.target.vid) (vid_number l.target.vid)
-          l.target.universe.0 l.variance l.fn.met l.met (part_tree m l.term) l.i us;
+      went : WentAlways (met_eq g.I.Key.PartialEq.eq) m n was now l.target.aliases (vid_kind l.target.vid)
+          (vid_number l.target.vid) l.target.universe.0 (side_of l.inside) l.variance l.fn.met l.met
+          (part_tree m l.term) l.i us;
       unchanged : IsTrue l.same → us ≡ firsts l.i ts;
     }

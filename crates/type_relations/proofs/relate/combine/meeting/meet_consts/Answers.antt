@@ -1,66 +1,103 @@
-use Rattle.std.proofs.Common.{◌≡◌, refl, sym, ◌∙◌, subst, IsTrue}
-use Rattle.std.proofs.lemmas.Bool.{false≢true}
-use Rattle.relation_terms.specs.Trees.{known}
-use Rattle.type_relations.specs.Combining.{one_constant, resolved_first}
-use Rattle.type_relations.proofs.OverContext.{grows_itself, read_covered}
-use Rattle.type_relations.proofs.Solving.{one_const}
+use Rattle.std.proofs.Common.{refl, subst}
+use Rattle.relation_terms.specs.Heads.{const_var}
+use Rattle.type_relations.specs.Combining.{roots_equated, left_root_bound, left_root_refused, right_root_bound, right_root_refused, formed_by_parts}
+use Rattle.relation_contexts.specs.Parts.{IsFormedConst}
+use Rattle.type_relations.proofs.OverContext.{stands_grows}
+use Rattle.relation_contexts.proofs.Passing.{as_err}
+use Rattle.relation_contexts.proofs.Standing.{term_within}
+use Rattle.type_relations.proofs.Shallowly.{shallow_free_const, variable_made}
 use Rattle.type_relations.proofs.relate.combine.meeting.meet_consts.Goals as goal
 
-pub returns-then-eq-clause-grows : goal.returns-then-eq-clause-grows
-returns-then-eq-clause-grows g c =
+pub equate_const_vids_raw-requires-clause-a_unresolved : goal.equate_const_vids_raw-requires-clause-a_unresolved
+equate_const_vids_raw-requires-clause-a_unresolved g c =
     let s = g.Infcx.InferCtxtLike.state c.args.infcx.now in
-    grows_itself s c.requires.lawful
+    let t = (s.meaning).const_ c.args.a.now in (
+      variable_made s.store const_var c.in-Some.x.0 t c.in-Some.ensures.is c.requires.a_in,
+      shallow_free_const s.store c.in-Some.x.0 t c.in-Some.ensures.is c.requires.a_shallow,
+    )
 
-pub returns-then-eq-clause-combines : goal.returns-then-eq-clause-combines
-returns-then-eq-clause-combines g c =
-    let x = c.args.infcx.now in
-    let cx = g.Infcx.InferCtxtLike.interner x in
-    let of = g.met.Infcx.InferCtxtLike.reads x in
-    let same = one_const of c.args.a.now c.args.b.now (λ h i.
-    (g.met.Infcx.Interner.Interner.same_const cx c.args.a.now c.args.b.now h i).0 (sym c.if-eq.ensures)) c.requires.a_known
-    c.requires.b_known in
-    one_constant same refl refl refl
+pub equate_const_vids_raw-requires-clause-b_unresolved : goal.equate_const_vids_raw-requires-clause-b_unresolved
+equate_const_vids_raw-requires-clause-b_unresolved g c =
+    let s = g.Infcx.InferCtxtLike.state c.args.infcx.now in
+    let t = (s.meaning).const_ c.args.b.now in (
+      variable_made s.store const_var c.in-Some-const_var.y.0 t c.in-Some-const_var.ensures.is c.requires.b_in,
+      shallow_free_const s.store c.in-Some-const_var.y.0 t c.in-Some-const_var.ensures.is c.requires.b_shallow,
+    )
 
-pub meet_shallow-requires-clause-a_in : goal.meet_shallow-requires-clause-a_in
-meet_shallow-requires-clause-a_in g c = (c.shallow_resolve_const-left.ensures.reads.resolves).is_in c.requires.a_in
+pub instantiate_const_var_raw-requires-clause-target_unresolved :
+    goal.instantiate_const_var_raw-requires-clause-target_unresolved
+instantiate_const_var_raw-requires-clause-target_unresolved g c =
+    let s = g.Infcx.InferCtxtLike.state c.args.infcx.now in
+    let t = (s.meaning).const_ c.args.a.now in (
+      variable_made s.store const_var c.in-Some.x.0 t c.in-Some.ensures.is c.requires.a_in,
+      shallow_free_const s.store c.in-Some.x.0 t c.in-Some.ensures.is c.requires.a_shallow,
+    )
 
-pub meet_shallow-requires-clause-b_in : goal.meet_shallow-requires-clause-b_in
-meet_shallow-requires-clause-b_in g c = (c.shallow_resolve_const-right.ensures.reads.resolves).is_in c.requires.b_in
+pub instantiate_const_var_raw-requires-in-Some-const_var-2-clause-target_unresolved :
+    goal.instantiate_const_var_raw-requires-in-Some-const_var-2-clause-target_unresolved
+instantiate_const_var_raw-requires-in-Some-const_var-2-clause-target_unresolved g c =
+    let s = g.Infcx.InferCtxtLike.state c.args.infcx.now in
+    let t = (s.meaning).const_ c.args.b.now in (
+      variable_made s.store const_var c.in-Some-const_var-2.y.0 t c.in-Some-const_var-2.ensures.is c.requires.b_in,
+      shallow_free_const s.store c.in-Some-const_var-2.y.0 t c.in-Some-const_var-2.ensures.is c.requires.b_shallow,
+    )
 
-pub meet_shallow-requires-clause-a_taken : goal.meet_shallow-requires-clause-a_taken
-meet_shallow-requires-clause-a_taken g c =
-    let x = c.args.infcx.now in
-    let s = g.Infcx.InferCtxtLike.state x in
-    let all = g.met.Infcx.InferCtxtLike.covered x c.requires.lawful in
-    read_covered s.store all ((s.meaning).const_ c.args.a.now) ((s.meaning).const_ c.shallow_resolve_const-left.result)
-    c.shallow_resolve_const-left.ensures.reads.reads c.requires.a_taken
+pub instantiate_const_var_raw-requires-clause-source_no_variable :
+    goal.instantiate_const_var_raw-requires-clause-source_no_variable
+instantiate_const_var_raw-requires-clause-source_no_variable g c = λ n e.
+    subst IsFormedConst e (c.in-None-const_var.ensures.formed c.requires.b_taken
+    (term_within (g.Infcx.InferCtxtLike.state c.args.infcx.now).store _ c.requires.b_in))
 
-pub meet_shallow-requires-clause-b_taken : goal.meet_shallow-requires-clause-b_taken
-meet_shallow-requires-clause-b_taken g c =
-    let x = c.args.infcx.now in
-    let s = g.Infcx.InferCtxtLike.state x in
-    let all = g.met.Infcx.InferCtxtLike.covered x c.requires.lawful in
-    read_covered s.store all ((s.meaning).const_ c.args.b.now) ((s.meaning).const_ c.shallow_resolve_const-right.result)
-    c.shallow_resolve_const-right.ensures.reads.reads c.requires.b_taken
+pub instantiate_const_var_raw-requires-in-Some-const_var-2-clause-source_no_variable :
+    goal.instantiate_const_var_raw-requires-in-Some-const_var-2-clause-source_no_variable
+instantiate_const_var_raw-requires-in-Some-const_var-2-clause-source_no_variable g c = λ n e.
+    subst IsFormedConst e (c.in-None.ensures.formed c.requires.a_taken
+    (term_within (g.Infcx.InferCtxtLike.state c.args.infcx.now).store _ c.requires.a_in))
 
-pub returns-clause-combines : goal.returns-clause-combines
-returns-clause-combines g c =
-    let x = c.args.infcx.now in
-    let cx = g.Infcx.InferCtxtLike.interner x in
-    let of = g.met.Infcx.InferCtxtLike.reads x in
-    let a = c.args.a.now in
-    let b = c.args.b.now in
-    let l = c.shallow_resolve_const-left.ensures in
-    let r = c.shallow_resolve_const-right.ensures in
-    resolved_first c.shallow_resolve_const-left.result c.shallow_resolve_const-right.result
-    (λ e. false≢true (c.if-eq.ensures ∙ (g.met.Infcx.Interner.Interner.same_const cx a b
-    (subst (λ z. IsTrue (known (z.const_ a))) of c.requires.a_known)
-    (subst (λ z. IsTrue (known (z.const_ b))) of c.requires.b_known)).1 (subst (λ z. z.const_ a ≡ z.const_ b) of e)))
-    (record {
-      reads = record { sure = l.reads.sure; reads = l.reads.reads; resolves = l.reads.resolves };
-      shallow = l.shallow;
-    })
-    (record {
-      reads = record { sure = r.reads.sure; reads = r.reads.reads; resolves = r.reads.resolves };
-      shallow = r.shallow;
-    }) c.meet_shallow.ensures.combines
+pub returns-in-Some-const_var-clause-grows : goal.returns-in-Some-const_var-clause-grows
+returns-in-Some-const_var-clause-grows g c =
+    stands_grows (g.Infcx.InferCtxtLike.state c.args.infcx.now)
+    (g.Infcx.InferCtxtLike.state c.equate_const_vids_raw.new.self) c.equate_const_vids_raw.ensures.equates.stands
+
+pub returns-in-Some-const_var-clause-combines : goal.returns-in-Some-const_var-clause-combines
+returns-in-Some-const_var-clause-combines g c =
+    let done = c.equate_const_vids_raw.ensures.equates in
+    roots_equated c.in-Some.x.0 c.in-Some-const_var.y.0 c.in-Some.ensures.is c.in-Some-const_var.ensures.is
+    (record { same = done.same; equates = done.equates }) done.stands.meaning refl
+
+pub returns-in_err-value-in-None-const_var-clause-combines : goal.returns-in_err-value-in-None-const_var-clause-combines
+returns-in_err-value-in-None-const_var-clause-combines g c =
+    let f = c.in_err-value-in-None-const_var.field-0.0 in
+    left_root_refused c.in-Some.x.0 f c.in-Some.ensures.is (c.in-None-const_var.ensures.formed c.requires.b_taken
+    (term_within (g.Infcx.InferCtxtLike.state c.args.infcx.now).store _ c.requires.b_in))
+    c.in_err-value-in-None-const_var.ensures.instantiates
+    (as_err c.from_residual.result f c.from_residual.ensures.0 c.from_residual.ensures.1)
+
+pub returns-in_err-value-in-Some-const_var-2-clause-combines :
+    goal.returns-in_err-value-in-Some-const_var-2-clause-combines
+returns-in_err-value-in-Some-const_var-2-clause-combines g c =
+    let f = c.in_err-value-in-Some-const_var-2.field-0.0 in
+    let from = c.from_residual-in_err-value-in-Some-const_var-2 in
+    right_root_refused c.in-Some-const_var-2.y.0 f c.in-Some-const_var-2.ensures.is
+    (c.in-None.ensures.formed c.requires.a_taken
+    (term_within (g.Infcx.InferCtxtLike.state c.args.infcx.now).store _ c.requires.a_in)) c.in_err-value-in-Some-const_var-2.ensures.instantiates
+    (as_err from.result f from.ensures.0 from.ensures.1)
+
+pub returns-in_ok-value-in-None-const_var-clause-combines : goal.returns-in_ok-value-in-None-const_var-clause-combines
+returns-in_ok-value-in-None-const_var-clause-combines g c =
+    left_root_bound c.in-Some.x.0 c.in_ok-value-in-None-const_var.value c.in-Some.ensures.is
+    (c.in-None-const_var.ensures.formed c.requires.b_taken
+    (term_within (g.Infcx.InferCtxtLike.state c.args.infcx.now).store _ c.requires.b_in)) c.in_ok-value-in-None-const_var.ensures.instantiates refl
+
+pub returns-in_ok-value-in-Some-const_var-2-clause-combines :
+    goal.returns-in_ok-value-in-Some-const_var-2-clause-combines
+returns-in_ok-value-in-Some-const_var-2-clause-combines g c =
+    right_root_bound c.in-Some-const_var-2.y.0 c.in_ok-value-in-Some-const_var-2.value c.in-Some-const_var-2.ensures.is
+    (c.in-None.ensures.formed c.requires.a_taken
+    (term_within (g.Infcx.InferCtxtLike.state c.args.infcx.now).store _ c.requires.a_in)) c.in_ok-value-in-Some-const_var-2.ensures.instantiates refl
+
+pub returns-in-None-const_var-2-clause-combines : goal.returns-in-None-const_var-2-clause-combines
+returns-in-None-const_var-2-clause-combines g c = formed_by_parts (c.in-None.ensures.formed c.requires.a_taken
+    (term_within (g.Infcx.InferCtxtLike.state c.args.infcx.now).store _ c.requires.a_in))
+    (c.in-None-const_var-2.ensures.formed c.requires.b_taken
+    (term_within (g.Infcx.InferCtxtLike.state c.args.infcx.now).store _ c.requires.b_in)) refl refl refl

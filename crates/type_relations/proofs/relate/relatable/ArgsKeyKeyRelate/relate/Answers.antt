@@ -1,6 +1,6 @@
 use Rattle.relation_terms.specs.Heads.{arguments}
 use Rattle.relation_terms.specs.Trees.{node}
-use Rattle.type_relations.proofs.Subtyping.{left_none, node_is_none}
+use Rattle.type_relations.proofs.Alone.{left_none, node_is_none}
 use Rattle.type_relations.proofs.relate.relatable.ArgsKeyKeyRelate.relate.Goals as goal
 
 pub returns-clause-registers : goal.returns-clause-registers
@@ -8,4 +8,4 @@ returns-clause-registers g c =
     let r = g.R.HasState.state c.args.r.now in
     let a = (r.meaning).args c.args.a.now in
     left_none g.R.TypeRelation.manner r (g.R.HasState.state c.relate_args_invariantly.new.r) (node arguments a)
-    (node arguments ((r.meaning).args c.args.b.now)) r.ambient c.relate_args_invariantly.result (node_is_none arguments a)
+    (node arguments ((r.meaning).args c.args.b.now)) r.ambient c.relate_args_invariantly.result (node_is_none arguments a (λ e. cc))

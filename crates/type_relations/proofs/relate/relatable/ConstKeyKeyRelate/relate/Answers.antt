@@ -1,5 +1,5 @@
 use Rattle.type_relations.proofs.Solving.{const_sorted}
-use Rattle.type_relations.proofs.Subtyping.{left_none, const_is_none}
+use Rattle.type_relations.proofs.Alone.{left_none, const_is_none}
 use Rattle.type_relations.proofs.relate.relatable.ConstKeyKeyRelate.relate.Goals as goal
 
 pub returns-clause-registers : goal.returns-clause-registers

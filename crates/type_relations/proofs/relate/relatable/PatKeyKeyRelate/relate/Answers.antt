@@ -1,5 +1,5 @@
 use Rattle.type_relations.proofs.Solving.{pat_sorted}
-use Rattle.type_relations.proofs.Subtyping.{left_none, pattern_is_none}
+use Rattle.type_relations.proofs.Alone.{left_none, pattern_is_none}
 use Rattle.type_relations.proofs.relate.relatable.PatKeyKeyRelate.relate.Goals as goal
 
 pub returns-clause-registers : goal.returns-clause-registers

@@ -1,5 +1,5 @@
 use Rattle.type_relations.proofs.Solving.{region_sorted}
-use Rattle.type_relations.proofs.Subtyping.{left_none, region_is_none}
+use Rattle.type_relations.proofs.Alone.{left_none, region_is_none}
 use Rattle.type_relations.proofs.relate.relatable.RegionKeyKeyRelate.relate.Goals as goal
 
 pub returns-clause-registers : goal.returns-clause-registers

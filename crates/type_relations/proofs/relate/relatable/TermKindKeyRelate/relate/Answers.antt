@@ -1,4 +1,4 @@
-use Rattle.std.proofs.Common.{IsTrue, refl, sym, subst, subst₂, Ok, Err}
+use Rattle.std.proofs.Common.{◌≡◌, IsTrue, refl, sym, subst, subst₂, Ok, Err}
 use Rattle.relation_terms.specs.Meaning.{term_tree}
 use Rattle.relation_terms.specs.Trees.{known}
 use Rattle.relation_terms.specs.declared.terms.generic_arg.GenericArgKind.TheVariants.{Ty as TyArg, Const as ConstArg}
@@ -7,9 +7,11 @@ use Rattle.relation_terms.specs.Interning.{Sorted}
 use Rattle.relation_folds.specs.declared.error.TypeError.TheVariants.{Mismatch}
 use Rattle.relation_folds.specs.declared.error.RelateFault.TheVariants.{Unrelated}
 use Rattle.relation_contexts.specs.Lawful.{Asked, Related}
-use Rattle.type_relations.specs.Subtyping.{IsTyVar, RegistersSubtype}
+use Rattle.relation_contexts.specs.Relation.{sort_of}
+use Rattle.relation_terms.specs.Heads.{type_sort}
+use Rattle.type_relations.specs.Alone.{RelatesAlone}
 use Rattle.relation_contexts.proofs.Passing.{retold, refused_again, as_err}
-use Rattle.type_relations.proofs.Subtyping.{left_none, right_none, const_none, refused_told}
+use Rattle.type_relations.proofs.Alone.{left_none, right_none, const_none, refused_told}
 use Rattle.type_relations.proofs.StructuralConsts.{kinds_differ}
 use Rattle.type_relations.proofs.Relatable.{else_const, else_ty}
 use Rattle.type_relations.proofs.relate.relatable.TermKindKeyRelate.relate.Goals as goal
@@ -75,7 +77,7 @@ returns-in_default-clause-registers g c =
     let sorted : Sorted r.meaning = subst (λ m. Sorted m) (sym e) (g.met.I.Interner.sorted cx) in
     let z = else_const c.args.b.now c.in_default.not-Ty in
     right_none M r r (term_tree r.meaning c.args.a.now) (term_tree r.meaning c.args.b.now) {X = ⊥} r.ambient
-    (Err (Unrelated Mismatch)) (subst (λ x. IsTyVar (term_tree r.meaning x) → ⊥) (sym z.1)
+    (Err (Unrelated Mismatch)) (subst (λ x. sort_of (term_tree r.meaning x) ≡ type_sort → ⊥) (sym z.1)
     (const_none sorted (ConstArg z.0) (subst (λ x. IsTrue (known (term_tree r.meaning x))) z.1
     (c.requires.asked).right_known) z.0 refl))
 
@@ -87,7 +89,7 @@ returns-in_default-b-clause-registers g c =
     let cx = g.R.TypeRelation.interner c.args.r.now in
     let sorted : Sorted r.meaning = subst (λ m. Sorted m) (sym e) (g.met.I.Interner.sorted cx) in
     left_none M r r (term_tree r.meaning c.args.a.now) (term_tree r.meaning c.args.b.now) {X = ⊥} r.ambient
-    (Err (Unrelated Mismatch)) (subst (λ x. IsTyVar (term_tree r.meaning x) → ⊥) (sym c.in-Const.is)
+    (Err (Unrelated Mismatch)) (subst (λ x. sort_of (term_tree r.meaning x) ≡ type_sort → ⊥) (sym c.in-Const.is)
     (const_none sorted (ConstArg c.in-Const.a) (subst (λ x. IsTrue (known (term_tree r.meaning x))) c.in-Const.is
     (c.requires.asked).left_known) c.in-Const.a refl))
 
@@ -100,7 +102,7 @@ returns-in_ok-consts-in-Const-clause-registers g c =
     let cx = g.R.TypeRelation.interner c.args.r.now in
     let sorted : Sorted r.meaning = subst (λ m. Sorted m) (sym e) (g.met.I.Interner.sorted cx) in
     left_none M r q (term_tree r.meaning c.args.a.now) (term_tree r.meaning c.args.b.now) r.ambient
-    (Ok (Const c.in_ok-consts-in-Const.field-0)) (subst (λ x. IsTyVar (term_tree r.meaning x) → ⊥) (sym c.in-Const.is)
+    (Ok (Const c.in_ok-consts-in-Const.field-0)) (subst (λ x. sort_of (term_tree r.meaning x) ≡ type_sort → ⊥) (sym c.in-Const.is)
     (const_none sorted (ConstArg c.in-Const.a) (subst (λ x. IsTrue (known (term_tree r.meaning x))) c.in-Const.is
     (c.requires.asked).left_known) c.in-Const.a refl))
 
@@ -113,7 +115,7 @@ returns-in_err-consts-in-Const-clause-registers g c =
     let cx = g.R.TypeRelation.interner c.args.r.now in
     let sorted : Sorted r.meaning = subst (λ m. Sorted m) (sym e) (g.met.I.Interner.sorted cx) in
     left_none M r q (term_tree r.meaning c.args.a.now) (term_tree r.meaning c.args.b.now) r.ambient
-    c.from_residual-in_err-consts-in-Const.result (subst (λ x. IsTyVar (term_tree r.meaning x) → ⊥) (sym c.in-Const.is)
+    c.from_residual-in_err-consts-in-Const.result (subst (λ x. sort_of (term_tree r.meaning x) ≡ type_sort → ⊥) (sym c.in-Const.is)
     (const_none sorted (ConstArg c.in-Const.a) (subst (λ x. IsTrue (known (term_tree r.meaning x))) c.in-Const.is
     (c.requires.asked).left_known) c.in-Const.a refl))
 
@@ -123,7 +125,7 @@ returns-in_ok-tys-in-Ty-clause-registers g c =
     let M = g.R.TypeRelation.manner in
     let q = g.R.HasState.state c.tys.new.r in
     let n = c.in_ok-tys-in-Ty in
-    subst₂ (λ t u. RegistersSubtype M r q r.ambient (term_tree r.meaning t) (term_tree r.meaning u)
+    subst₂ (λ t u. RelatesAlone M r q r.ambient (term_tree r.meaning t) (term_tree r.meaning u)
     (Ok (Ty n.field-0))) (sym c.in-Ty.is) (sym c.in-Ty-b.is) n.ensures.registers
 
 pub returns-in_err-tys-in-Ty-clause-registers : goal.returns-in_err-tys-in-Ty-clause-registers
@@ -133,7 +135,7 @@ returns-in_err-tys-in-Ty-clause-registers g c =
     let q = g.R.HasState.state c.tys.new.r in
     let n = c.in_err-tys-in-Ty in
     let res = c.from_residual.result in
-    subst₂ (λ t u. RegistersSubtype M r q r.ambient (term_tree r.meaning t) (term_tree r.meaning u) res)
+    subst₂ (λ t u. RelatesAlone M r q r.ambient (term_tree r.meaning t) (term_tree r.meaning u) res)
     (sym c.in-Ty.is) (sym c.in-Ty-b.is)
     (refused_told ⊥ _ M r q r.ambient ((r.meaning).ty c.in-Ty.a) ((r.meaning).ty c.in-Ty-b.b) n.field-0.0 res
     (as_err res n.field-0.0 c.from_residual.ensures.0 c.from_residual.ensures.1) n.ensures.registers)

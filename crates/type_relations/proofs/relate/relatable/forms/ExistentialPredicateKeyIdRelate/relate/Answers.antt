@@ -1,5 +1,5 @@
 use Rattle.relation_terms.specs.Meaning.{existential_tree}
-use Rattle.type_relations.proofs.Subtyping.{left_none}
+use Rattle.type_relations.proofs.Alone.{left_none}
 use Rattle.type_relations.proofs.RelatableForms.{existential_is_none}
 use Rattle.type_relations.proofs.relate.relatable.forms.ExistentialPredicateKeyIdRelate.relate.Goals as goal
 

@@ -1,7 +1,7 @@
 use Rattle.relation_terms.specs.Heads.{signature, inputs}
 use Rattle.relation_terms.specs.Trees.{node, nil, cons, front, last}
 use Rattle.relation_terms.specs.Meaning.{signature_tree}
-use Rattle.type_relations.proofs.Subtyping.{left_none, node_is_none}
+use Rattle.type_relations.proofs.Alone.{left_none, node_is_none}
 use Rattle.type_relations.proofs.relate.relatable.forms.FnSigKeyRelate.relate.Goals as goal
 
 pub returns-clause-registers : goal.returns-clause-registers
@@ -12,4 +12,4 @@ returns-clause-registers g c =
     left_none g.R.TypeRelation.manner r (g.R.HasState.state c.signatures.new.r) (signature_tree r.meaning s)
     (signature_tree r.meaning c.args.b.now) r.ambient c.signatures.result
     (node_is_none (signature (s.header).c_variadic (s.header).safety (s.header).abi)
-    (cons (node inputs (front tys)) (cons (last tys) nil)))
+    (cons (node inputs (front tys)) (cons (last tys) nil)) (λ e. cc))

@@ -10,8 +10,8 @@ use Rattle.type_relations.proofs.Binding.{no_region}
 use Rattle.relation_contexts.proofs.Passing.{as_err}
 use Rattle.type_relations.proofs.Solving.{held_grows, held_stands, roots_step, memory_step}
 use Rattle.type_relations.proofs.SolvingGoals.{covariant_step, contravariant_step}
-use Rattle.type_relations.specs.Subtyping.{subtype_at, StepRegistersAlone}
-use Rattle.type_relations.proofs.Subtyping.{refused_alone, pushed_alone}
+use Rattle.type_relations.specs.Alone.{subtype_at, StepRegistersAlone}
+use Rattle.type_relations.proofs.Alone.{refused_alone, pushed_alone}
 use Rattle.type_relations.specs.Stepping.{made_one, left_subtype, right_subtype}
 use Rattle.type_relations.proofs.Stepping.{covariant_directed, contravariant_directed, registered_one, refused_goal}
 use Rattle.type_relations.proofs.relate.solver_relating.relation.SolverRelating.combine_ty_vars.Goals as goal

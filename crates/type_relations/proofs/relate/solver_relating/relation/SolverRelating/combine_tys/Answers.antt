@@ -85,7 +85,7 @@ returns-in_err-bound-in-None-ty_var-clause-stepped g c =
     (s.lawful × KnowsGoals s.meaning r.param_env r.goals.items) (d.lawful × KnowsGoals d.meaning r.param_env r.goals.items)
     (still_lawful (held_grows r.structurally_relate_aliases r.infcx.ghost_name s d h.grows) r.goals.items r.param_env h.grows.extends
     (c.requires.env_known, c.requires.goals_known) h.grows.lawful) IsFormed s d h.grows.extends c.requires.decides sound type_var tt n t unresolved other (λ m. m.ty) CyclicTy r.ambient_variance
-    (d.meaning).ty (λ o z i x. cycle_error d.meaning s.store d.store n t sound o z i other x) f h.instantiates)))
+    (d.meaning).ty (λ o z i x. cycle_error d.meaning r.structurally_relate_aliases s.store d.store n t sound o z i other x) f h.instantiates)))
 
 pub returns-in_err-bound-in-Some-ty_var-2-clause-stepped : goal.returns-in_err-bound-in-Some-ty_var-2-clause-stepped
 returns-in_err-bound-in-Some-ty_var-2-clause-stepped g c =
@@ -118,7 +118,7 @@ returns-in_err-bound-in-Some-ty_var-2-clause-stepped g c =
     (s.lawful × KnowsGoals s.meaning r.param_env r.goals.items) (d.lawful × KnowsGoals d.meaning r.param_env r.goals.items)
     (still_lawful (held_grows r.structurally_relate_aliases r.infcx.ghost_name s d h.grows) r.goals.items r.param_env h.grows.extends
     (c.requires.env_known, c.requires.goals_known) h.grows.lawful) IsFormed s d h.grows.extends c.requires.decides sound type_var tt n t unresolved other (λ m. m.ty) CyclicTy c.xform-variance.result
-    (d.meaning).ty (λ o z i x. cycle_error d.meaning s.store d.store n t sound o z i other x) f h.instantiates)))
+    (d.meaning).ty (λ o z i x. cycle_error d.meaning r.structurally_relate_aliases s.store d.store n t sound o z i other x) f h.instantiates)))
 
 pub returns-in_ok-bound-in-None-ty_var-clause-stepped : goal.returns-in_ok-bound-in-None-ty_var-clause-stepped
 returns-in_ok-bound-in-None-ty_var-clause-stepped g c =

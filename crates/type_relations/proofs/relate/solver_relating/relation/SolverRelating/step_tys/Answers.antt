@@ -10,7 +10,7 @@ use Rattle.type_relations.proofs.Shallowly.{read_step}
 use Rattle.type_relations.proofs.OverContext.{all_taken, parts_step, read_covered}
 use Rattle.type_relations.proofs.Solving.{held_kept, answered_step, one_ty}
 use Rattle.relation_contexts.specs.declared.relate.Step.TheVariants.{Done, Parts}
-use Rattle.type_relations.proofs.Subtyping.{step_of_one, step_left_none, read_registers}
+use Rattle.type_relations.proofs.Alone.{step_of_one, step_left_none, read_registers}
 use Rattle.type_relations.specs.Stepping.{one_type, without_variables, resolved_first}
 use Rattle.type_relations.proofs.Stepping.{leaves_itself}
 use Rattle.type_relations.proofs.relate.solver_relating.relation.SolverRelating.step_tys.Goals as goal

@@ -1,9 +1,9 @@
 use Rattle.std.proofs.Common.{refl}
 use Rattle.relation_terms.specs.Heads.{type_var}
 use Rattle.relation_reference.specs.Tables.{store_of}
-use Rattle.relation_reference.proofs.Reading.{root_made, found, found_known, found_read, found_covered, found_ty_shallow}
+use Rattle.relation_reference.proofs.Reading.{root_made, found, found_known, found_read, found_covered}
 use Rattle.relation_reference.proofs.Writing.{table_made, table_of_entries}
-use Rattle.relation_reference.proofs.context.shallow.ty_of_var.Goals as goal
+use Rattle.relation_reference.proofs.context.shallow.found_ty.Goals as goal
 
 pub term_of-requires-clause-root_made : goal.term_of-requires-clause-root_made
 term_of-requires-clause-root_made g c =
@@ -26,6 +26,6 @@ returns g c =
     record {
       sure = found_known m x l type_var v u f;
       reads = found_read m x l type_var v u f;
-      shallow = found_ty_shallow m x l v u f;
+      found = f;
       covered = found_covered m x l type_var v u f;
     }

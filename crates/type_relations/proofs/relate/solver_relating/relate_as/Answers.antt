@@ -1,4 +1,3 @@
-use Rattle.relation_contexts.specs.declared.relate.StructurallyRelateAliases.TheVariants.{No}
 use Rattle.std.proofs.Common.{◌<◌, refl, sym, ap, ◌∙◌, arith, subst, [], All}
 use Rattle.std.proofs.lemmas.Bool.{false≢true}
 use Rattle.std.proofs.lemmas.List.Elements.{All-nil}
@@ -7,7 +6,7 @@ use Rattle.relation_contexts.specs.Relation.{same}
 use Rattle.relation_contexts.specs.Goals.{goals_of, KnowsGoal, MakesOneTree}
 use Rattle.relation_contexts.specs.OneUniverse.{all_unbound}
 use Rattle.relation_contexts.specs.Lawful.{Related, ExactResult, items_of}
-use Rattle.type_relations.specs.Solving.{solving_in, solver_manner}
+use Rattle.type_relations.specs.Solving.{solving_in, solver_manner, solver_settings}
 use Rattle.relation_contexts.proofs.Going.{later_itself}
 use Rattle.relation_contexts.proofs.Full.{makes_to_instantiate}
 use Rattle.type_relations.proofs.Unifying.{exact_itself}
@@ -15,30 +14,30 @@ use Rattle.relation_contexts.proofs.Passing.{as_err}
 use Rattle.type_relations.proofs.Exactly.{unrelated_apart}
 use Rattle.type_relations.proofs.Spending.{spends_no_more, spent_as}
 use Rattle.type_relations.specs.Relating.{term_in}
-use Rattle.type_relations.specs.Subtyping.{RegistersSubtype}
+use Rattle.type_relations.specs.Alone.{RelatesAlone}
 use Rattle.type_relations.proofs.Relatable.{equal_one, one_equal}
 use Rattle.type_relations.proofs.Relating.{refused_alone_in, refused_built}
 use Rattle.relation_contexts.specs.Kits.{StaysBuilt}
 use Rattle.relation_contexts.proofs.Building.{built_itself}
 use Rattle.type_relations.proofs.OverContext.{all_taken}
-use Rattle.type_relations.proofs.Solving.{keeps_beside, answers_goals, keeps_equal, relates_agreeing, registers_goals}
+use Rattle.type_relations.proofs.Solving.{keeps_beside, answers_goals, keeps_equal, relates_agreeing, registers_goals, no_goals_exactly}
 use Rattle.relation_contexts.proofs.Agreeing.{agree_same}
-use Rattle.type_relations.proofs.relate.solver_relating.AnyRelateExt.relate.Goals as goal
+use Rattle.type_relations.proofs.relate.solver_relating.relate_as.Goals as goal
 
 pub returns-then-eq-clause-answers : goal.returns-then-eq-clause-answers
 returns-then-eq-clause-answers g c =
-    let one = equal_one (g.met.Infcx.InferCtxtLike.reads c.args.self.now) g.T.Relate.over g.T.HasTree.tree
-    g.T.PartialEq.eq (g.met.T.Relate.same (g.Infcx.InferCtxtLike.interner c.args.self.now)) c.args.lhs c.args.rhs
+    let one = equal_one (g.met.Infcx.InferCtxtLike.reads c.args.infcx.now) g.T.Relate.over g.T.HasTree.tree
+    g.T.PartialEq.eq (g.met.T.Relate.same (g.Infcx.InferCtxtLike.interner c.args.infcx.now)) c.args.lhs c.args.rhs
     c.requires.lhs_known c.requires.rhs_known (sym c.if-eq.ensures) in
     (λ w s sat all. same (ap (apply s) one), λ w s sat. sat)
 
 pub returns-then-eq-clause-exact : goal.returns-then-eq-clause-exact
 returns-then-eq-clause-exact g c = λ is pair.
-    let s = g.Infcx.InferCtxtLike.state c.args.self.now in
-    let one = equal_one (g.met.Infcx.InferCtxtLike.reads c.args.self.now) g.T.Relate.over g.T.HasTree.tree
-    g.T.PartialEq.eq (g.met.T.Relate.same (g.Infcx.InferCtxtLike.interner c.args.self.now)) c.args.lhs c.args.rhs
+    let s = g.Infcx.InferCtxtLike.state c.args.infcx.now in
+    let one = equal_one (g.met.Infcx.InferCtxtLike.reads c.args.infcx.now) g.T.Relate.over g.T.HasTree.tree
+    g.T.PartialEq.eq (g.met.T.Relate.same (g.Infcx.InferCtxtLike.interner c.args.infcx.now)) c.args.lhs c.args.rhs
     c.requires.lhs_known c.requires.rhs_known (sym c.if-eq.ensures) in
-    (exact_itself s.store (term_in s g.T.Relate.over g.T.HasTree.tree c.args.lhs) (term_in s g.T.Relate.over g.T.HasTree.tree c.args.rhs) one, pair.bindings, λ u p. (p.variables, omega arith))
+    (exact_itself s.store (term_in s g.T.Relate.over g.T.HasTree.tree c.args.lhs) (term_in s g.T.Relate.over g.T.HasTree.tree c.args.rhs) one, pair.bindings, (λ u p. (p.variables, omega arith)), c.new.ensures.items)
 
 pub returns-then-eq-clause-keeps : goal.returns-then-eq-clause-keeps
 returns-then-eq-clause-keeps g c = λ w s sat one. (
@@ -46,13 +45,13 @@ returns-then-eq-clause-keeps g c = λ w s sat one. (
   λ k n h. refl,
   (
     sat,
-    subst (λ gs. All (MakesOneTree s) (goals_of (g.Infcx.InferCtxtLike.state c.args.self.now).meaning gs))
+    subst (λ gs. All (MakesOneTree s) (goals_of (g.Infcx.InferCtxtLike.state c.args.infcx.now).meaning gs))
         (sym c.new.ensures.items) (All-nil (MakesOneTree s)),
   ),
 )
 
 pub returns-then-eq-clause-later : goal.returns-then-eq-clause-later
-returns-then-eq-clause-later g c = later_itself (g.Infcx.InferCtxtLike.state c.args.self.now).store
+returns-then-eq-clause-later g c = later_itself (g.Infcx.InferCtxtLike.state c.args.infcx.now).store
 
 pub returns-then-eq-clause-made : goal.returns-then-eq-clause-made
 returns-then-eq-clause-made g c = record {
@@ -63,21 +62,21 @@ returns-then-eq-clause-made g c = record {
 
 pub returns-in_err-related-clause-made : goal.returns-in_err-related-clause-made
 returns-in_err-related-clause-made g c =
-    let s = g.Infcx.InferCtxtLike.state c.args.self.now in
+    let s = g.Infcx.InferCtxtLike.state c.args.infcx.now in
     let related = c.relate_in-related.ensures.related in
     makes_to_instantiate (related.passes).added (term_in s g.T.Relate.over g.T.HasTree.tree c.args.lhs)
     (term_in s g.T.Relate.over g.T.HasTree.tree c.args.rhs) (related.passes).goes related.full related.built
 
 pub returns-clause-made : goal.returns-clause-made
 returns-clause-made g c =
-    let s = g.Infcx.InferCtxtLike.state c.args.self.now in
+    let s = g.Infcx.InferCtxtLike.state c.args.infcx.now in
     let related = c.relate_in-related.ensures.related in
     makes_to_instantiate (related.passes).added (term_in s g.T.Relate.over g.T.HasTree.tree c.args.lhs)
     (term_in s g.T.Relate.over g.T.HasTree.tree c.args.rhs) (related.passes).goes related.full related.built
 
 pub relate_in-related-requires-clause-asked : goal.relate_in-related-requires-clause-asked
 relate_in-related-requires-clause-asked g c =
-    let s = g.Infcx.InferCtxtLike.state c.args.self.now in
+    let s = g.Infcx.InferCtxtLike.state c.args.infcx.now in
     let k = c.requires in
     record {
       left_known = k.lhs_known;
@@ -90,66 +89,66 @@ relate_in-related-requires-clause-asked g c =
 
 pub returns-in_err-related-clause-same : goal.returns-in_err-related-clause-same
 returns-in_err-related-clause-same g c =
-    λ e. absurd (false≢true (c.if-eq.ensures ∙ one_equal (g.met.Infcx.InferCtxtLike.reads c.args.self.now)
+    λ e. absurd (false≢true (c.if-eq.ensures ∙ one_equal (g.met.Infcx.InferCtxtLike.reads c.args.infcx.now)
     g.T.Relate.over g.T.HasTree.tree g.T.PartialEq.eq
-    (g.met.T.Relate.same (g.Infcx.InferCtxtLike.interner c.args.self.now)) c.args.lhs c.args.rhs c.requires.lhs_known
+    (g.met.T.Relate.same (g.Infcx.InferCtxtLike.interner c.args.infcx.now)) c.args.lhs c.args.rhs c.requires.lhs_known
     c.requires.rhs_known e))
 
 pub returns-clause-same : goal.returns-clause-same
 returns-clause-same g c =
-    λ e. absurd (false≢true (c.if-eq.ensures ∙ one_equal (g.met.Infcx.InferCtxtLike.reads c.args.self.now)
+    λ e. absurd (false≢true (c.if-eq.ensures ∙ one_equal (g.met.Infcx.InferCtxtLike.reads c.args.infcx.now)
     g.T.Relate.over g.T.HasTree.tree g.T.PartialEq.eq
-    (g.met.T.Relate.same (g.Infcx.InferCtxtLike.interner c.args.self.now)) c.args.lhs c.args.rhs c.requires.lhs_known
+    (g.met.T.Relate.same (g.Infcx.InferCtxtLike.interner c.args.infcx.now)) c.args.lhs c.args.rhs c.requires.lhs_known
     c.requires.rhs_known e))
 
 pub returns-clause-answers : goal.returns-clause-answers
 returns-clause-answers g c =
-    let s = g.Infcx.InferCtxtLike.state c.args.self.now in
+    let s = g.Infcx.InferCtxtLike.state c.args.infcx.now in
     let d = g.Infcx.InferCtxtLike.state c.relate_in-related.new.infcx in
     let a = term_in s g.T.Relate.over g.T.HasTree.tree c.args.lhs in
     let b = term_in s g.T.Relate.over g.T.HasTree.tree c.args.rhs in
     let hs = c.relate_in-related.result.1.items in
     answers_goals s.meaning d.meaning s.store d.store s.lawful d.lawful c.args.variance c.args.param_env a b
     (term_in d g.T.Relate.over g.T.HasTree.tree) hs c.in_ok-related.field-0 (subst (λ z. Related solver_manner
-    (solving_in No [] s c.args.variance c.args.param_env) (solving_in No hs d c.args.variance c.args.param_env)
+    (solving_in c.args.aliases [] s c.args.variance c.args.param_env) (solving_in c.args.aliases hs d c.args.variance c.args.param_env)
     c.args.variance a b (term_in d g.T.Relate.over g.T.HasTree.tree) z) c.in_ok-related.was c.relate_in-related.ensures.related)
 
 pub returns-then-eq-clause-agrees : goal.returns-then-eq-clause-agrees
 returns-then-eq-clause-agrees g c =
-    let s = g.Infcx.InferCtxtLike.state c.args.self.now in
-    agree_same (items_of s.meaning) c.args.variance (term_in s g.T.Relate.over g.T.HasTree.tree c.args.lhs)
+    let s = g.Infcx.InferCtxtLike.state c.args.infcx.now in
+    agree_same (solver_settings c.args.aliases s.setup) (items_of s.meaning) c.args.variance (term_in s g.T.Relate.over g.T.HasTree.tree c.args.lhs)
     (term_in s g.T.Relate.over g.T.HasTree.tree c.args.rhs)
-    (equal_one (g.met.Infcx.InferCtxtLike.reads c.args.self.now) g.T.Relate.over g.T.HasTree.tree
-    g.T.PartialEq.eq (g.met.T.Relate.same (g.Infcx.InferCtxtLike.interner c.args.self.now)) c.args.lhs c.args.rhs
+    (equal_one (g.met.Infcx.InferCtxtLike.reads c.args.infcx.now) g.T.Relate.over g.T.HasTree.tree
+    g.T.PartialEq.eq (g.met.T.Relate.same (g.Infcx.InferCtxtLike.interner c.args.infcx.now)) c.args.lhs c.args.rhs
     c.requires.lhs_known c.requires.rhs_known (sym c.if-eq.ensures))
 
 pub returns-clause-agrees : goal.returns-clause-agrees
 returns-clause-agrees g c =
-    let s = g.Infcx.InferCtxtLike.state c.args.self.now in
+    let s = g.Infcx.InferCtxtLike.state c.args.infcx.now in
     let d = g.Infcx.InferCtxtLike.state c.relate_in-related.new.infcx in
     let a = term_in s g.T.Relate.over g.T.HasTree.tree c.args.lhs in
     let b = term_in s g.T.Relate.over g.T.HasTree.tree c.args.rhs in
     let hs = c.relate_in-related.result.1.items in
     relates_agreeing s.meaning d.meaning s.store d.store s.lawful d.lawful c.args.variance c.args.param_env a b
     (term_in d g.T.Relate.over g.T.HasTree.tree) hs c.in_ok-related.field-0 (subst (λ z. Related solver_manner
-    (solving_in No [] s c.args.variance c.args.param_env) (solving_in No hs d c.args.variance c.args.param_env)
+    (solving_in c.args.aliases [] s c.args.variance c.args.param_env) (solving_in c.args.aliases hs d c.args.variance c.args.param_env)
     c.args.variance a b (term_in d g.T.Relate.over g.T.HasTree.tree) z) c.in_ok-related.was c.relate_in-related.ensures.related)
 
 pub returns-clause-keeps : goal.returns-clause-keeps
 returns-clause-keeps g c =
-    let s = g.Infcx.InferCtxtLike.state c.args.self.now in
+    let s = g.Infcx.InferCtxtLike.state c.args.infcx.now in
     let d = g.Infcx.InferCtxtLike.state c.relate_in-related.new.infcx in
     let a = term_in s g.T.Relate.over g.T.HasTree.tree c.args.lhs in
     let b = term_in s g.T.Relate.over g.T.HasTree.tree c.args.rhs in
     let hs = c.relate_in-related.result.1.items in
     keeps_equal s.meaning d.meaning s.store d.store s.lawful d.lawful c.args.variance c.args.param_env a b
     (term_in d g.T.Relate.over g.T.HasTree.tree) hs c.in_ok-related.field-0 (subst (λ z. Related solver_manner
-    (solving_in No [] s c.args.variance c.args.param_env) (solving_in No hs d c.args.variance c.args.param_env)
+    (solving_in c.args.aliases [] s c.args.variance c.args.param_env) (solving_in c.args.aliases hs d c.args.variance c.args.param_env)
     c.args.variance a b (term_in d g.T.Relate.over g.T.HasTree.tree) z) c.in_ok-related.was c.relate_in-related.ensures.related)
 
 pub returns-clause-goals : goal.returns-clause-goals
 returns-clause-goals g c =
-    let s = g.Infcx.InferCtxtLike.state c.args.self.now in
+    let s = g.Infcx.InferCtxtLike.state c.args.infcx.now in
     let d = g.Infcx.InferCtxtLike.state c.relate_in-related.new.infcx in
     registers_goals s.meaning d.meaning s.store d.store s.lawful d.lawful c.args.variance c.args.param_env
     (term_in s g.T.Relate.over g.T.HasTree.tree c.args.lhs) (term_in s g.T.Relate.over g.T.HasTree.tree c.args.rhs) (term_in d g.T.Relate.over g.T.HasTree.tree) c.relate_in-related.result.1.items
@@ -158,14 +157,19 @@ returns-clause-goals g c =
 
 pub returns-clause-exact : goal.returns-clause-exact
 returns-clause-exact g c = λ is pair.
-    let s = g.Infcx.InferCtxtLike.state c.args.self.now in
+    let s = g.Infcx.InferCtxtLike.state c.args.infcx.now in
     let d = g.Infcx.InferCtxtLike.state c.relate_in-related.new.infcx in
     let o = subst (ExactResult s.store d.store (term_in s g.T.Relate.over g.T.HasTree.tree c.args.lhs) (term_in s g.T.Relate.over g.T.HasTree.tree c.args.rhs))
-    c.in_ok-related.was ((c.relate_in-related.ensures.related).exact tt is pair) in (o.1, o.0, o.2)
+    c.in_ok-related.was ((c.relate_in-related.ensures.related).exact tt is pair) in
+    let none = no_goals_exactly s.meaning d.meaning s.store d.store s.lawful d.lawful c.args.variance c.args.param_env
+    (term_in s g.T.Relate.over g.T.HasTree.tree c.args.lhs) (term_in s g.T.Relate.over g.T.HasTree.tree c.args.rhs)
+    (term_in d g.T.Relate.over g.T.HasTree.tree) c.relate_in-related.result.1.items c.relate_in-related.result.0 is pair
+    c.relate_in-related.ensures.related in
+    (o.1, o.0, o.2, none)
 
 pub returns-in_err-related-clause-no_unifier : goal.returns-in_err-related-clause-no_unifier
 returns-in_err-related-clause-no_unifier g c =
-    let s = g.Infcx.InferCtxtLike.state c.args.self.now in
+    let s = g.Infcx.InferCtxtLike.state c.args.infcx.now in
     let d = g.Infcx.InferCtxtLike.state c.relate_in-related.new.infcx in
     let a = term_in s g.T.Relate.over g.T.HasTree.tree c.args.lhs in
     let b = term_in s g.T.Relate.over g.T.HasTree.tree c.args.rhs in
@@ -177,42 +181,42 @@ returns-in_err-related-clause-no_unifier g c =
 
 pub returns-clause-sound : goal.returns-clause-sound
 returns-clause-sound g c =
-    let s = g.Infcx.InferCtxtLike.state c.args.self.now in
+    let s = g.Infcx.InferCtxtLike.state c.args.infcx.now in
     g.met.Infcx.InferCtxtLike.sound c.relate_in-related.new.infcx
     (((c.relate_in-related.ensures.related).passes).lawful
     (c.requires.lawful, (c.requires.env_known, All-nil (KnowsGoal s.meaning)))).0
 
 pub returns-in_err-related-clause-sound : goal.returns-in_err-related-clause-sound
 returns-in_err-related-clause-sound g c =
-    let s = g.Infcx.InferCtxtLike.state c.args.self.now in
+    let s = g.Infcx.InferCtxtLike.state c.args.infcx.now in
     g.met.Infcx.InferCtxtLike.sound c.relate_in-related.new.infcx
     (((c.relate_in-related.ensures.related).passes).lawful
     (c.requires.lawful, (c.requires.env_known, All-nil (KnowsGoal s.meaning)))).0
 
-pub returns-then-eq-clause-subtype : goal.returns-then-eq-clause-subtype
-returns-then-eq-clause-subtype g c =
-    let one = equal_one (g.met.Infcx.InferCtxtLike.reads c.args.self.now) g.T.Relate.over g.T.HasTree.tree
-    g.T.PartialEq.eq (g.met.T.Relate.same (g.Infcx.InferCtxtLike.interner c.args.self.now)) c.args.lhs c.args.rhs
+pub returns-then-eq-clause-alone : goal.returns-then-eq-clause-alone
+returns-then-eq-clause-alone g c =
+    let one = equal_one (g.met.Infcx.InferCtxtLike.reads c.args.infcx.now) g.T.Relate.over g.T.HasTree.tree
+    g.T.PartialEq.eq (g.met.T.Relate.same (g.Infcx.InferCtxtLike.interner c.args.infcx.now)) c.args.lhs c.args.rhs
     c.requires.lhs_known c.requires.rhs_known (sym c.if-eq.ensures) in
-    λ differ x y f h. absurd (differ one)
+    λ differ s t x y p i j asks. absurd (differ one)
 
-pub returns-in_err-related-clause-subtype : goal.returns-in_err-related-clause-subtype
-returns-in_err-related-clause-subtype g c =
-    let s = g.Infcx.InferCtxtLike.state c.args.self.now in
+pub returns-in_err-related-clause-alone : goal.returns-in_err-related-clause-alone
+returns-in_err-related-clause-alone g c =
+    let s = g.Infcx.InferCtxtLike.state c.args.infcx.now in
     let f = c.in_err-related.field-0.0 in
-    refused_alone_in No ⊥ g.Infcx.InferCtxtLike.state c.args.self.now c.relate_in-related.new.infcx g.T.Relate.over
+    refused_alone_in c.args.aliases ⊥ g.Infcx.InferCtxtLike.state c.args.infcx.now c.relate_in-related.new.infcx g.T.Relate.over
     g.T.HasTree.tree c.args.param_env c.args.variance c.args.lhs c.args.rhs c.relate_in-related.result.1.items
     f c.from_residual.result (as_err c.from_residual.result f c.from_residual.ensures.0 c.from_residual.ensures.1)
-    (subst (RegistersSubtype solver_manner (solving_in No [] s c.args.variance c.args.param_env)
-    (solving_in No c.relate_in-related.result.1.items (g.Infcx.InferCtxtLike.state c.relate_in-related.new.infcx)
+    (subst (RelatesAlone solver_manner (solving_in c.args.aliases [] s c.args.variance c.args.param_env)
+    (solving_in c.args.aliases c.relate_in-related.result.1.items (g.Infcx.InferCtxtLike.state c.relate_in-related.new.infcx)
     c.args.variance c.args.param_env) c.args.variance (term_in s g.T.Relate.over g.T.HasTree.tree c.args.lhs)
     (term_in s g.T.Relate.over g.T.HasTree.tree c.args.rhs)) c.in_err-related.was c.relate_in-related.ensures.registers)
 
-pub returns-clause-subtype : goal.returns-clause-subtype
-returns-clause-subtype g c =
-    let s = g.Infcx.InferCtxtLike.state c.args.self.now in
-    subst (RegistersSubtype solver_manner (solving_in No [] s c.args.variance c.args.param_env)
-    (solving_in No c.relate_in-related.result.1.items (g.Infcx.InferCtxtLike.state c.relate_in-related.new.infcx)
+pub returns-clause-alone : goal.returns-clause-alone
+returns-clause-alone g c =
+    let s = g.Infcx.InferCtxtLike.state c.args.infcx.now in
+    subst (RelatesAlone solver_manner (solving_in c.args.aliases [] s c.args.variance c.args.param_env)
+    (solving_in c.args.aliases c.relate_in-related.result.1.items (g.Infcx.InferCtxtLike.state c.relate_in-related.new.infcx)
     c.args.variance c.args.param_env) c.args.variance (term_in s g.T.Relate.over g.T.HasTree.tree c.args.lhs)
     (term_in s g.T.Relate.over g.T.HasTree.tree c.args.rhs)) c.in_ok-related.was c.relate_in-related.ensures.registers tt
 
@@ -221,7 +225,7 @@ returns-then-eq-clause-enough g c = λ is pair u one. (omega arith, tt)
 
 pub returns-clause-enough : goal.returns-clause-enough
 returns-clause-enough g c = λ is pair u one.
-    let s = g.Infcx.InferCtxtLike.state c.args.self.now in
+    let s = g.Infcx.InferCtxtLike.state c.args.infcx.now in
     let d = g.Infcx.InferCtxtLike.state c.relate_in-related.new.infcx in (
       (spends_no_more solver_manner c.args.variance (term_in s g.T.Relate.over g.T.HasTree.tree c.args.lhs)
           (term_in s g.T.Relate.over g.T.HasTree.tree c.args.rhs) (term_in d g.T.Relate.over g.T.HasTree.tree) tt is pair
@@ -231,7 +235,7 @@ returns-clause-enough g c = λ is pair u one.
 
 pub returns-in_err-related-clause-enough : goal.returns-in_err-related-clause-enough
 returns-in_err-related-clause-enough g c = λ is pair u one.
-    let s = g.Infcx.InferCtxtLike.state c.args.self.now in
+    let s = g.Infcx.InferCtxtLike.state c.args.infcx.now in
     let d = g.Infcx.InferCtxtLike.state c.relate_in-related.new.infcx in
     let f = c.in_err-related.field-0.0 in
     let z = spends_no_more solver_manner c.args.variance (term_in s g.T.Relate.over g.T.HasTree.tree c.args.lhs)
@@ -247,17 +251,17 @@ returns-then-eq-clause-rest g c = record { setup = refl; outliving = refl }
 
 pub returns-in_err-related-clause-rest : goal.returns-in_err-related-clause-rest
 returns-in_err-related-clause-rest g c =
-    keeps_beside No (g.Infcx.InferCtxtLike.state c.args.self.now)
+    keeps_beside c.args.aliases (g.Infcx.InferCtxtLike.state c.args.infcx.now)
     (g.Infcx.InferCtxtLike.state c.relate_in-related.new.infcx) _ _ ((c.relate_in-related.ensures.related).passes).kept
 
 pub returns-clause-rest : goal.returns-clause-rest
 returns-clause-rest g c =
-    keeps_beside No (g.Infcx.InferCtxtLike.state c.args.self.now)
+    keeps_beside c.args.aliases (g.Infcx.InferCtxtLike.state c.args.infcx.now)
     (g.Infcx.InferCtxtLike.state c.relate_in-related.new.infcx) _ _ ((c.relate_in-related.ensures.related).passes).kept
 
 pub returns-then-eq-clause-built : goal.returns-then-eq-clause-built
 returns-then-eq-clause-built g c =
-    let s = g.Infcx.InferCtxtLike.state c.args.self.now in
+    let s = g.Infcx.InferCtxtLike.state c.args.infcx.now in
     let a = term_in s g.T.Relate.over g.T.HasTree.tree c.args.lhs in
     let b = term_in s g.T.Relate.over g.T.HasTree.tree c.args.rhs in
     subst (λ gs. StaysBuilt s.store s.store (goals_of s.meaning gs) a b) (sym c.new.ensures.items) (built_itself s.store a b)
@@ -266,14 +270,14 @@ pub returns-in_err-related-clause-built : goal.returns-in_err-related-clause-bui
 returns-in_err-related-clause-built g c =
     let f = c.in_err-related.field-0.0 in
     let related = c.relate_in-related.ensures.related in
-    refused_built g.Infcx.InferCtxtLike.state c.args.self.now c.relate_in-related.new.infcx g.T.Relate.over g.T.HasTree.tree
+    refused_built g.Infcx.InferCtxtLike.state c.args.infcx.now c.relate_in-related.new.infcx g.T.Relate.over g.T.HasTree.tree
     c.args.lhs c.args.rhs f c.from_residual.result
     (as_err c.from_residual.result f c.from_residual.ensures.0 c.from_residual.ensures.1) (related.passes).added
     related.built
 
 pub returns-clause-built : goal.returns-clause-built
 returns-clause-built g c =
-    let s = g.Infcx.InferCtxtLike.state c.args.self.now in
+    let s = g.Infcx.InferCtxtLike.state c.args.infcx.now in
     let d = g.Infcx.InferCtxtLike.state c.relate_in-related.new.infcx in
     let a = term_in s g.T.Relate.over g.T.HasTree.tree c.args.lhs in
     let b = term_in s g.T.Relate.over g.T.HasTree.tree c.args.rhs in

@@ -1,0 +1,226 @@
+-- What is registered alone of two types that are left to one goal.
+use Rattle.std.proofs.Common.{◌≡◌, ◌≢◌, ◌⊎◌, inl, inr, ℕ, refl, sym, ap, ◌∙◌, subst, subst₂, List, [], ◌∷◌, ◌++◌, Option, Some, None}
+use Rattle.std.proofs.Common.{Result, Ok, Err, IsTrue, false}
+use Rattle.std.proofs.lemmas.Bool.{false≢true}
+use Rattle.term_enums.specs.declared.Variance.{Variance}
+use Rattle.term_enums.specs.declared.Variance.TheVariants.{Covariant, Contravariant, Invariant, Bivariant}
+use Rattle.relation_terms.specs.declared.terms.generic_arg.GenericArgKind.{GenericArgKind}
+use Rattle.relation_terms.specs.declared.terms.generic_arg.GenericArgKind.TheVariants.{Lifetime, Ty, Const}
+use Rattle.relation_terms.specs.declared.terms.keys.TyKey.{TyKey}
+use Rattle.relation_terms.specs.declared.terms.keys.ConstKey.{ConstKey}
+use Rattle.relation_terms.specs.declared.terms.keys.RegionKey.{RegionKey}
+use Rattle.relation_terms.specs.Heads.{Head, Sort, Admits, type_var, variable, region_sort, type_sort, const_sort, pattern_sort, head_sort}
+use Rattle.relation_terms.specs.Trees.{Tree, leaf, node, IsTerm, known}
+use Rattle.relation_terms.specs.Meaning.{Meaning, Extends, arg_tree}
+use Rattle.relation_terms.specs.Interning.{Sorted}
+use Rattle.relation_folds.specs.declared.error.RelateFault.{RelateFault}
+use Rattle.relation_folds.specs.declared.error.RelateFault.TheVariants.{Memory, Budget, Unrelated}
+use Rattle.relation_contexts.specs.declared.relate.Step.{Step}
+use Rattle.relation_contexts.specs.declared.relate.Step.TheVariants.{Done, Parts, Again}
+use Rattle.relation_contexts.specs.AliasGoals.{alias_at}
+use Rattle.relation_contexts.specs.Errors.{itself, HaveNoError}
+use Rattle.relation_contexts.specs.Lawful.{State, Manners}
+use Rattle.relation_contexts.specs.Parts.{IsFormed}
+use Rattle.relation_contexts.specs.Relation.{IsAlias, sort_of}
+use Rattle.relation_contexts.specs.Resolving.{formed}
+use Rattle.relation_contexts.specs.Settings.{LeavesAliases}
+use Rattle.relation_contexts.proofs.AliasSteps.{reads_once}
+use Rattle.relation_contexts.proofs.OneParts.{sort_is}
+use Rattle.type_relations.specs.Alone.{AsksAlone, of_variables, of_alias, ReadsAtOnce, RegistersAlone, StepRegistersAlone}
+use Rattle.type_relations.specs.Alone.{RelatesAlone, StepsAlone, subtype_at}
+use Rattle.type_relations.specs.Combining.{IsTyVar, IsNoTyVar, RegistersOne, RegistersNone, TysCombine}
+use Rattle.type_relations.specs.Combining.{left_error, right_error, left_to_goal, left_open, not_registered, not_left}
+use Rattle.type_relations.specs.Stepping.{CombinesTyVars, made_one, left_subtype, right_subtype, goal_refused}
+use Rattle.type_relations.specs.Stepping.{CombinesShallowTys, two_variables, left_bound, left_asked, left_unasked, left_refused}
+use Rattle.type_relations.specs.Stepping.{right_bound, right_asked, right_unasked, right_refused, no_ty_variables}
+use Rattle.type_relations.specs.Stepping.{StepsTys, one_type, without_variables, resolved_first}
+use Rattle.type_relations.specs.Variables.{one_has_variable}
+
+-- What a step that registers one goal, or none, says of that goal.
+module _ {Key Id Name : Type 0} (r q : State Key Id Name) where
+  one_alone : (a : TyKey Key) (t p : Tree) → (q.meaning).ty a ≡ t → RegistersOne r q p →
+      StepRegistersAlone r q (q.meaning).ty t p (Ok (Done a))
+  one_alone a t p e h = (e, (h.store, h.goals))
+
+  none_alone : (t p : Tree) → RegistersNone r q → StepRegistersAlone r q (q.meaning).ty t p (Err Memory)
+  none_alone t p h = (h.store, h.goals)
+
+  module _ (a b : TyKey Key) (res : Result (Step (TyKey Key)) (RelateFault Key Id Name)) (extends : Extends r.meaning q.meaning)
+      (a_known : IsTrue (known ((r.meaning).ty a))) where
+    abbrev Alone : Tree → Type 0
+    Alone p = StepRegistersAlone r q (q.meaning).ty ((r.meaning).ty a) p res
+
+    done : (p : Tree) → RegistersOne r q p → res ≡ Ok (Done a) → Alone p
+    done p h is = subst (StepRegistersAlone r q (q.meaning).ty ((r.meaning).ty a) p) (sym is)
+        (one_alone a ((r.meaning).ty a) p (extends.ty a a_known) h)
+
+    stopped : (p : Tree) → RegistersNone r q → res ≡ Err Memory → Alone p
+    stopped p h is = subst (StepRegistersAlone r q (q.meaning).ty ((r.meaning).ty a) p) (sym is)
+        (none_alone ((r.meaning).ty a) p h)
+
+    same_goal : (x p : Tree) → Some x ≡ Some p → RegistersOne r q x → RegistersOne r q p
+    same_goal x p e h = subst (RegistersOne r q) (some_is e) h
+      where
+        some_is : {x y : Tree} → Some x ≡ Some y → x ≡ y
+        some_is e = cc
+
+    -- Of two type variables.
+    variables_alone : (p : Tree) → subtype_at r.ambient ((r.meaning).ty a) ((r.meaning).ty b) ≡ Some p →
+        CombinesTyVars r q a b res → Alone p
+    variables_alone p e (made_one i j is x y joins m g o) =
+        absurd (none (subst (λ v. subtype_at v ((r.meaning).ty a) ((r.meaning).ty b) ≡ Some p) is e))
+      where
+        none : None ≡ Some p → ⊥
+        none e = cc
+    variables_alone p e (left_subtype is h o) =
+        done p (same_goal _ p (subst (λ v. subtype_at v ((r.meaning).ty a) ((r.meaning).ty b) ≡ Some p) is e) h) o
+    variables_alone p e (right_subtype is h o) =
+        done p (same_goal _ p (subst (λ v. subtype_at v ((r.meaning).ty a) ((r.meaning).ty b) ≡ Some p) is e) h) o
+    variables_alone p e (goal_refused directed h o) = stopped p h o
+
+    -- Of an alias and another type.
+    alias_alone : (p : Tree) → LeavesAliases r.kept.settings → IsAlias ((r.meaning).ty a) ⊎ IsAlias ((r.meaning).ty b) →
+        HaveNoError ((r.meaning).ty a) ((r.meaning).ty b) → alias_at r.ambient ((r.meaning).ty a) ((r.meaning).ty b) ≡ Some p →
+        TysCombine r q a b res → Alone p
+    alias_alone p l o clean e (left_error h t is) = absurd (clean.0 h)
+    alias_alone p l o clean e (right_error n h t is) = absurd (clean.1 h)
+    alias_alone p l o clean e (left_to_goal z c k i d h is) = done p (same_goal _ p (sym d ∙ e) h) is
+    alias_alone p l o clean e (left_open c k i h is) = absurd (false≢true (sym k.0 ∙ l.0))
+    alias_alone p l o clean e (not_registered c k h is) = stopped p h is
+    alias_alone p l o clean e (not_left c n g h) = absurd (n (inl (l, o)))
+
+    -- Of two that were resolved shallowly.
+    shallow_alone : (p : Tree) → AsksAlone r.kept.settings r.ambient ((r.meaning).ty a) ((r.meaning).ty b) p →
+        CombinesShallowTys r q a b res → Alone p
+    shallow_alone p (of_variables x y e) (two_variables i j f g h) = variables_alone p e h
+    shallow_alone p (of_variables x y e) (left_bound i z f n h o is) = absurd (n y.0 y.1)
+    shallow_alone p (of_variables x y e) (left_asked i z w f n d h is) = absurd (n y.0 y.1)
+    shallow_alone p (of_variables x y e) (left_unasked i z f n h is) = absurd (n y.0 y.1)
+    shallow_alone p (of_variables x y e) (left_refused i z f n h is) = absurd (n y.0 y.1)
+    shallow_alone p (of_variables x y e) (right_bound i z f n h o is) = absurd (n x.0 x.1)
+    shallow_alone p (of_variables x y e) (right_asked i z w f n d h is) = absurd (n x.0 x.1)
+    shallow_alone p (of_variables x y e) (right_unasked i z f n h is) = absurd (n x.0 x.1)
+    shallow_alone p (of_variables x y e) (right_refused i z f n h is) = absurd (n x.0 x.1)
+    shallow_alone p (of_variables x y e) (no_ty_variables n o h) = absurd (n x.0 x.1)
+    shallow_alone p (of_alias l o clean n m e) (two_variables i j f g h) = absurd (n i f)
+    shallow_alone p (of_alias l o clean n m e) (left_bound i z f g h u is) = absurd (n i f)
+    shallow_alone p (of_alias l o clean n m e) (left_asked i z w f g d h is) = absurd (n i f)
+    shallow_alone p (of_alias l o clean n m e) (left_unasked i z f g h is) = absurd (n i f)
+    shallow_alone p (of_alias l o clean n m e) (left_refused i z f g h is) = absurd (n i f)
+    shallow_alone p (of_alias l o clean n m e) (right_bound i z f g h u is) = absurd (m i f)
+    shallow_alone p (of_alias l o clean n m e) (right_asked i z w f g d h is) = absurd (m i f)
+    shallow_alone p (of_alias l o clean n m e) (right_unasked i z f g h is) = absurd (m i f)
+    shallow_alone p (of_alias l o clean n m e) (right_refused i z f g h is) = absurd (m i f)
+    shallow_alone p (of_alias l o clean n m e) (no_ty_variables f g h) = alias_alone p l o clean e h
+
+  -- A step of two types registers alone what is asked of them.
+  pub steps_alone : (M : Manners) (a b : TyKey Key) (res : Result (Step (TyKey Key)) (RelateFault Key Id Name)) →
+      Extends r.meaning q.meaning → IsTrue (known ((r.meaning).ty a)) →
+      (one_has_variable r.meaning a b ≡ false → IsFormed ((r.meaning).ty a) × IsFormed ((r.meaning).ty b)) →
+      StepsTys r q a b res → StepsAlone M r q (q.meaning).ty ((r.meaning).ty a) ((r.meaning).ty b) res
+  steps_alone M a b res extends k forms (one_type e l is) promised differ s t x y p f g asks = absurd (differ e)
+  steps_alone M a b res extends k forms (without_variables n e h) promised differ s t x y p f g asks =
+      let z = forms e in
+      let left = reads_once r.store ((r.meaning).ty a) x ((r.meaning).ty a) f.reads (itself refl) f.shallow (formed z.0) in
+      let right = reads_once r.store ((r.meaning).ty b) y ((r.meaning).ty b) g.reads (itself refl) g.shallow (formed z.1) in
+      subst (λ w. StepRegistersAlone r q (q.meaning).ty w p res) (sym left)
+      (formed_alone (subst₂ (λ u w. AsksAlone r.kept.settings r.ambient u w p) left right asks) h)
+    where
+      formed_alone : AsksAlone r.kept.settings r.ambient ((r.meaning).ty a) ((r.meaning).ty b) p → TysCombine r q a b res →
+          StepRegistersAlone r q (q.meaning).ty ((r.meaning).ty a) p res
+      formed_alone (of_variables u w d) h = absurd (subst IsFormed u.1 (forms e).0)
+      formed_alone (of_alias l o clean u w d) h = alias_alone a b res extends k p l o clean d h
+  steps_alone M a b res extends k forms (resolved_first l t' n e f' g' h) promised differ s t x y p f g asks =
+      let left = reads_once r.store ((r.meaning).ty a) x ((r.meaning).ty l) f.reads (f'.reads).reads f.shallow f'.shallow in
+      let right = reads_once r.store ((r.meaning).ty b) y ((r.meaning).ty t') g.reads (g'.reads).reads g.shallow g'.shallow in
+      subst (λ w. StepRegistersAlone r q (q.meaning).ty w p res) (sym left)
+      (shallow_alone l t' res extends (f'.reads).sure p
+      (subst₂ (λ u w. AsksAlone r.kept.settings r.ambient u w p) left right asks) h)
+
+module _ {Key Id Name : Type 0} (M : Manners) (r q : State Key Id Name) (a b : Tree) where
+  -- A term that is no type.
+  pub left_none : {X : Type 0} (v : Variance) (res : Result X (RelateFault Key Id Name)) → (sort_of a ≡ type_sort → ⊥) →
+      RelatesAlone M r q v a b res
+  left_none v res o = λ promised differ s. absurd (o s)
+
+  pub right_none : {X : Type 0} (v : Variance) (res : Result X (RelateFault Key Id Name)) → (sort_of b ≡ type_sort → ⊥) →
+      RelatesAlone M r q v a b res
+  right_none v res o = λ promised differ s t. absurd (o t)
+
+  -- One term.
+  pub step_of_one : {K : Type 0} (tree : K → Tree) (res : Result (Step K) (RelateFault Key Id Name)) → a ≡ b →
+      StepsAlone M r q tree a b res
+  step_of_one tree res e = λ promised differ. absurd (differ e)
+
+  -- What a step registers at once is what relating registers.
+  pub refused : (K X : Type 0) (p : Tree) (f : RelateFault Key Id Name) → RegistersAlone {X = K} r q p (Err f) →
+      RegistersAlone {X = X} r q p (Err f)
+  refused K X p Memory h = h
+  refused K X p Budget h = h
+  refused K X p (Unrelated e) h = h
+
+  pub done_registers : {K : Type 0} (tree : K → Tree) (x : K) → StepsAlone M r q tree a b (Ok (Done x)) →
+      RelatesAlone M r q r.ambient a b (Ok x)
+  done_registers tree x h = λ promised differ s t y z p f g asks. (h promised differ s t y z p f g asks).1
+
+  pub refused_registers : {K X : Type 0} (tree : K → Tree) (e : RelateFault Key Id Name)
+      (res : Result X (RelateFault Key Id Name)) → res ≡ Err e → StepsAlone {K = K} M r q tree a b (Err e) →
+      RelatesAlone M r q r.ambient a b res
+  refused_registers {K} {X} tree e res is h = subst (RelatesAlone {X = X} M r q r.ambient a b) (sym is)
+      (λ promised differ s t y z p f g asks. refused K X p e (h promised differ s t y z p f g asks))
+
+  -- No other step is taken of two such.
+  pub parts_register : {K X : Type 0} (s : State Key Id Name) (tree : K → Tree) (x y : K)
+      (res : Result X (RelateFault Key Id Name)) → StepsAlone M r q tree a b (Ok (Parts x y)) →
+      RelatesAlone M r s r.ambient a b res
+  parts_register s tree x y res h = λ promised differ u w k l p f g asks. absurd (h promised differ u w k l p f g asks)
+
+  pub again_registers : {K X : Type 0} (s : State Key Id Name) (tree : K → Tree) (k l x y u : K) (v : Variance)
+      (res : Result X (RelateFault Key Id Name)) → StepsAlone M r q tree a b (Ok (Again k l x y v u)) →
+      RelatesAlone M r s r.ambient a b res
+  again_registers s tree k l x y u v res h = λ promised differ i j m n p f g asks. absurd (h promised differ i j m n p f g asks)
+
+-- A fault says the same of whatever else might have been answered.
+pub refused_told : {Key Id Name : Type 0} (X Y : Type 0) (M : Manners) (r q : State Key Id Name) (v : Variance)
+    (a b : Tree) (e : RelateFault Key Id Name) (res : Result Y (RelateFault Key Id Name)) → res ≡ Err e →
+    RelatesAlone {X = X} M r q v a b (Err e) → RelatesAlone M r q v a b res
+refused_told X Y M r q v a b e res is h = subst (RelatesAlone {X = Y} M r q v a b) (sym is)
+    (λ promised differ s t y z p f g asks. refused M r q a b X Y p e (h promised differ s t y z p f g asks))
+
+-- Arguments that are no types.
+region_no_type : (t : Tree) → Admits region_sort (sort_of t) → sort_of t ≡ type_sort → ⊥
+region_no_type t h e = subst (Admits region_sort) e h
+
+const_no_type : (t : Tree) → Admits const_sort (sort_of t) → sort_of t ≡ type_sort → ⊥
+const_no_type t h e = subst (Admits const_sort) e h
+
+module _ {Key Id Name : Type 0} {m : Meaning Key Id Name} (sorted : Sorted m) (a : GenericArgKind Key)
+    (h : IsTrue (known (arg_tree m a))) where
+  pub lifetime_none : (k : RegionKey Key) → a ≡ Lifetime k → sort_of (arg_tree m a) ≡ type_sort → ⊥
+  lifetime_none k e s = region_no_type (m.region k)
+      (sort_is region_sort (m.region k) (sorted.region k (subst (λ x. IsTrue (known (arg_tree m x))) e h)))
+      (subst (λ x. sort_of (arg_tree m x) ≡ type_sort) e s)
+
+  pub const_none : (k : ConstKey Key) → a ≡ Const k → sort_of (arg_tree m a) ≡ type_sort → ⊥
+  const_none k e s = const_no_type (m.const_ k)
+      (sort_is const_sort (m.const_ k) (sorted.const_ k (subst (λ x. IsTrue (known (arg_tree m x))) e h)))
+      (subst (λ x. sort_of (arg_tree m x) ≡ type_sort) e s)
+
+pub no_ty_none : {Key Id Name : Type 0} {m : Meaning Key Id Name} (sorted : Sorted m) (a : GenericArgKind Key) →
+    ((k : TyKey Key) → a ≡ Ty k → ⊥) → IsTrue (known (arg_tree m a)) → sort_of (arg_tree m a) ≡ type_sort → ⊥
+no_ty_none sorted (Lifetime k) o h s = lifetime_none sorted (Lifetime k) h k refl s
+no_ty_none sorted (Ty k) o h s = o k refl
+no_ty_none sorted (Const k) o h s = const_none sorted (Const k) h k refl s
+
+-- Nor are regions, constants, patterns, and forms of other sorts.
+pub region_is_none : (t : Tree) → IsTerm region_sort t → sort_of t ≡ type_sort → ⊥
+region_is_none t h s = region_no_type t (sort_is region_sort t h) s
+
+pub const_is_none : (t : Tree) → IsTerm const_sort t → sort_of t ≡ type_sort → ⊥
+const_is_none t h s = const_no_type t (sort_is const_sort t h) s
+
+pub pattern_is_none : (t : Tree) → IsTerm pattern_sort t → sort_of t ≡ type_sort → ⊥
+pattern_is_none t h s = subst (Admits pattern_sort) s (sort_is pattern_sort t h)
+
+pub node_is_none : (h : Head) (ts : Tree) → (head_sort h ≡ type_sort → ⊥) → sort_of (node h ts) ≡ type_sort → ⊥
+node_is_none h ts o s = o s

@@ -1,0 +1,74 @@
+-- What relating registers of two types that are left to one goal: two type variables of which nothing is recorded, and an
+-- alias with another type.
+use Rattle.std.specs.Prelude.{◌≡◌, ◌≢◌, ◌⊎◌, true, false, [], ◌∷◌, ◌++◌, Option, Some, None, Result, Ok, Err}
+use Rattle.term_enums.specs.declared.Variance.{Variance}
+use Rattle.term_enums.specs.declared.Variance.TheVariants.{Covariant, Contravariant}
+use Rattle.relation_terms.specs.Heads.{type_sort}
+use Rattle.relation_terms.specs.Trees.{Tree}
+use Rattle.relation_folds.specs.declared.error.RelateFault.{RelateFault}
+use Rattle.relation_folds.specs.declared.error.RelateFault.TheVariants.{Memory}
+use Rattle.relation_contexts.specs.declared.relate.Step.{Step}
+use Rattle.relation_contexts.specs.declared.relate.Step.TheVariants.{Done}
+use Rattle.relation_contexts.specs.AliasGoals.{alias_at}
+use Rattle.relation_contexts.specs.Errors.{IsReadAs, HaveNoError}
+use Rattle.relation_contexts.specs.Goals.{goal_of, subtype_predicate}
+use Rattle.relation_contexts.specs.Lawful.{State, Manners}
+use Rattle.relation_contexts.specs.Relation.{IsAlias, sort_of}
+use Rattle.relation_contexts.specs.Resolving.{IsShallow}
+use Rattle.relation_contexts.specs.Settings.{Settings, LeavesAliases}
+use Rattle.relation_contexts.specs.Stores.{Store}
+use Rattle.type_relations.specs.Combining.{IsTyVar, IsNoTyVar}
+
+-- What is asked of two type variables that are related at a variance: at covariance that the first is a subtype of the
+-- second, and the first is the expected one; at contravariance that the second is one of the first, which is expected.
+abbrev pub subtype_at : Variance → Tree → Tree → Option Tree
+subtype_at Covariant a b = Some (subtype_predicate true a b)
+subtype_at Contravariant a b = Some (subtype_predicate false b a)
+subtype_at v a b = None
+
+-- What is asked of two types, as they are read at once, and nothing but that: of two type variables that the one is a
+-- subtype of the other; and where aliases are left to goals, of an alias and another type, neither of them an error or a
+-- type variable, that both are one or in order.
+pub data AsksAlone (k : Settings) (v : Variance) (x y p : Tree) : Type 0 where
+  of_variables : IsTyVar x → IsTyVar y → subtype_at v x y ≡ Some p → AsksAlone k v x y p
+  of_alias : LeavesAliases k → IsAlias x ⊎ IsAlias y → HaveNoError x y → IsNoTyVar x → IsNoTyVar y →
+      alias_at v x y ≡ Some p → AsksAlone k v x y p
+
+-- By what is recorded a term is read at once as another.
+pub record ReadsAtOnce (st : Store) (t x : Tree) : Type 0 where
+  pub reads : IsReadAs st t x
+  pub shallow : IsShallow st x
+
+-- What is said of two different types of which one goal is asked: of what the left one is read as, and of the predicate.
+abbrev pub OfAlone : Settings → Store → Variance → Tree → Tree → (Tree → Tree → Type 0) → Type 0
+OfAlone k st v a b P = a ≢ b → sort_of a ≡ type_sort → sort_of b ≡ type_sort → (x y p : Tree) → ReadsAtOnce st a x →
+    ReadsAtOnce st b y → AsksAlone k v x y p → P x p
+
+module _ {Key Id Name : Type 0} where
+  -- The predicate was registered and nothing else, and nothing was recorded. Or a growth was refused, and then nothing
+  -- was registered either.
+  abbrev pub RegistersAlone : {X : Type 0} → State Key Id Name → State Key Id Name → Tree →
+      Result X (RelateFault Key Id Name) → Type 0
+  RegistersAlone r q p (Ok x) = (q.store ≡ r.store) × (q.goals ≡ r.goals ++ goal_of r.kept.environment p ∷ [])
+  RegistersAlone r q p (Err Memory) = (q.store ≡ r.store) × (q.goals ≡ r.goals)
+  RegistersAlone r q p (Err f) = ⊥
+
+  -- The same by a step at once, with this term as its answer.
+  abbrev pub StepRegistersAlone : {K : Type 0} → State Key Id Name → State Key Id Name → (K → Tree) → Tree → Tree →
+      Result (Step K) (RelateFault Key Id Name) → Type 0
+  StepRegistersAlone r q tree t p (Ok (Done x)) = (tree x ≡ t) × RegistersAlone r q p (Ok x)
+  StepRegistersAlone {K} r q tree t p (Err f) = RegistersAlone {X = K} r q p (Err f)
+  StepRegistersAlone r q tree t p (Ok x) = ⊥
+
+  -- Where the relation promises it, two different types of which one goal is asked were related by registering that
+  -- alone.
+  abbrev pub RelatesAlone : {X : Type 0} → Manners → State Key Id Name → State Key Id Name → Variance → Tree →
+      Tree → Result X (RelateFault Key Id Name) → Type 0
+  RelatesAlone M r q v a b result = (M r.kept.settings).registers_alone →
+      OfAlone r.kept.settings r.store v a b (λ t p. RegistersAlone r q p result)
+
+  -- The same of a step.
+  abbrev pub StepsAlone : {K : Type 0} → Manners → State Key Id Name → State Key Id Name → (K → Tree) →
+      Tree → Tree → Result (Step K) (RelateFault Key Id Name) → Type 0
+  StepsAlone M r q tree a b result = (M r.kept.settings).registers_alone →
+      OfAlone r.kept.settings r.store r.ambient a b (λ t p. StepRegistersAlone r q tree t p result)
