@@ -48,7 +48,8 @@ IsCoveredLeaf (placeholder k u n) = Unit {0}
 IsCoveredLeaf (atom x) = IsCoveredAtom x
 IsCoveredLeaf unknown = ⊥
 
--- Types, constants, value trees, patterns, signatures and predicates of trait objects over parts, and lists of arguments.
+-- Types, constants, value trees, patterns, signatures and predicates of trait objects over parts, and lists of arguments;
+-- aliases by themselves, trait references, and that these are met.
 abbrev pub IsCoveredHead : Head → Type 0
 IsCoveredHead (adt d) = Unit {0}
 IsCoveredHead (fn_def d) = Unit {0}
@@ -79,11 +80,11 @@ IsCoveredHead arguments = Unit {0}
 IsCoveredHead object = Unit {0}
 IsCoveredHead (existential_trait d) = Unit {0}
 IsCoveredHead (existential_projection d) = Unit {0}
-IsCoveredHead (trait_ref d) = ⊥
-IsCoveredHead (trait_clause p) = ⊥
+IsCoveredHead (trait_ref d) = Unit {0}
+IsCoveredHead (trait_clause p) = Unit {0}
 IsCoveredHead (host_effect c) = ⊥
 IsCoveredHead (subtype x) = ⊥
-IsCoveredHead (alias_term k d) = ⊥
+IsCoveredHead (alias_term k d) = Unit {0}
 IsCoveredHead region_outlives = ⊥
 IsCoveredHead type_outlives = ⊥
 IsCoveredHead projection = ⊥

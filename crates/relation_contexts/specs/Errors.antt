@@ -5,13 +5,14 @@ use Rattle.term_enums.specs.declared.Variance.TheVariants.{Bivariant}
 use Rattle.term_enums.specs.declared.Mutability.TheVariants.{Not}
 use Rattle.term_enums.specs.declared.Safety.{Safety}
 use Rattle.term_enums.specs.declared.ExternAbi.{ExternAbi}
+use Rattle.term_enums.specs.declared.PredicatePolarity.{PredicatePolarity}
 use Rattle.relation_terms.specs.declared.terms.keys.TyKey.{TyKey}
 use Rattle.relation_terms.specs.declared.terms.keys.ConstKey.{ConstKey}
 use Rattle.relation_terms.specs.declared.terms.keys.ExistentialPredicatesKey.{ExistentialPredicatesKey}
 use Rattle.relation_terms.specs.declared.terms.ids.TraitId.{TraitId}
 use Rattle.relation_terms.specs.Heads.{const_sort, region_sort, pattern_sort, existential_sort, VarKind, type_var, const_var}
 use Rattle.relation_terms.specs.Heads.{var_sort, head_sort, BoundKind, bound_sort, existential_auto}
-use Rattle.relation_terms.specs.Heads.{Atom, Head, array, tuple, raw_ptr, ref, AliasKind, projection_alias, opaque_alias}
+use Rattle.relation_terms.specs.Heads.{Atom, Head, array, tuple, raw_ptr, ref, AliasKind, projection_alias, opaque_alias, AliasTermKind}
 use Rattle.relation_terms.specs.Heads.{alias}
 use Rattle.relation_terms.specs.Heads.{adt, fn_def, closure, coroutine_closure, coroutine, coroutine_witness, slice}
 use Rattle.relation_terms.specs.Heads.{pattern_type, unsafe_binder, dynamic, fn_ptr, signature, inputs, unevaluated}
@@ -29,10 +30,10 @@ use Rattle.relation_folds.specs.declared.error.TypeError.TheVariants.{Mismatch, 
 use Rattle.relation_folds.specs.declared.error.TypeError.TheVariants.{Sorts, CyclicTy, CyclicConst, ConstMismatch}
 use Rattle.relation_folds.specs.declared.error.TypeError.TheVariants.{ArgumentSorts, ArgumentMutability, ProjectionMismatched}
 use Rattle.relation_folds.specs.declared.error.TypeError.TheVariants.{VariadicMismatch, SafetyMismatch, AbiMismatch, ArgCount}
-use Rattle.relation_folds.specs.declared.error.TypeError.TheVariants.{Traits, ExistentialMismatch}
+use Rattle.relation_folds.specs.declared.error.TypeError.TheVariants.{Traits, PolarityMismatch, ExistentialMismatch}
 use Rattle.relation_contexts.specs.declared.relate.StructurallyRelateAliases.{StructurallyRelateAliases}
 use Rattle.relation_contexts.specs.Generalising.{IsSeen}
-use Rattle.relation_contexts.specs.Relation.{Items, plain_atom, sort_of, part_at, IsError, IsAlias}
+use Rattle.relation_contexts.specs.Relation.{Items, plain, plain_kind, plain_atom, sort_of, part_at, IsError, IsAlias}
 use Rattle.relation_contexts.specs.Stores.{Store, bound_to, entry_of, resolved, universe_of, MayStandFor}
 use Rattle.relation_contexts.specs.Steps.{OneClass}
 use Rattle.relation_contexts.specs.Settings.{Settings, LeavesAliases, LeavesOpaque}
@@ -180,6 +181,13 @@ pub data AreAlikeExistentials (a b : Tree) : Type 0 where
 pub data AreAlikeMembers (t u : Tree) : Type 0 where
   under_binders : {ks ls : List BoundKind} {a b : Tree} → t ≡ bind ks a → u ≡ bind ls b → AreAlikeExistentials a b →
       AreAlikeMembers t u
+
+-- A form over the arguments of an item that is an alias or a trait.
+abbrev pub IsItemHead : Head → Type 0
+IsItemHead (alias k d) = Unit {0}
+IsItemHead (alias_term k d) = Unit {0}
+IsItemHead (trait_ref d) = Unit {0}
+IsItemHead h = ⊥
 
 -- What stands for a variable of a binder where that is opened: a variable of its sort, or a placeholder for it.
 abbrev pub IsStandIn : BoundKind → Tree → Type 0
@@ -368,6 +376,23 @@ module _ {Key Id Name : Type 0} (m : Meaning Key Id Name) where
     unlike_existentials : sort_of a ≡ existential_sort → sort_of b ≡ existential_sort →
         (AreAlikeExistentials a b → ⊥) → ExistentialError a b Mismatch
 
+  -- Two aliases, or two trait references, are of unlike items or have unlike numbers of arguments, or two predicates of
+  -- traits are of unlike polarities, and the error that says so. Of an alias term it is looked at whether it is opaque too.
+  pub data ItemError (a b : Tree) : TypeError Key Id Name → Type 0 where
+    unlike_alias_types : {k l : AliasKind} {ts us : Tree} (c d : Id) → a ≡ node (alias k (m.id c)) ts →
+        b ≡ node (alias l (m.id d)) us → m.id c ≢ m.id d →
+        ItemError a b (ProjectionMismatched (record { expected = c; found = d }))
+    unlike_alias_terms : {k l : AliasTermKind} {ts us : Tree} (c d : Id) → a ≡ node (alias_term k (m.id c)) ts →
+        b ≡ node (alias_term l (m.id d)) us → plain (alias_term k (m.id c)) ≢ plain (alias_term l (m.id d)) →
+        ItemError a b (ProjectionMismatched (record { expected = c; found = d }))
+    unlike_trait_refs : {ts us : Tree} (c d : TraitId Id) → a ≡ node (trait_ref (m.id c.0)) ts →
+        b ≡ node (trait_ref (m.id d.0)) us → m.id c.0 ≢ m.id d.0 →
+        ItemError a b (Traits (record { expected = c; found = d }))
+    unlike_lists : {h k : Head} {ts us : Tree} → IsItemHead h → plain h ≡ plain k → a ≡ node h ts → b ≡ node k us →
+        count ts ≢ count us → ItemError a b Mismatch
+    unlike_polarities : {p q : PredicatePolarity} {ts us : Tree} → a ≡ node (trait_clause p) ts →
+        b ≡ node (trait_clause q) us → p ≢ q → ItemError a b (PolarityMismatch (record { expected = p; found = q }))
+
   -- Two trait objects have unlike numbers of predicates, or at one place such of different forms.
   pub data ObjectError (x y : ExistentialPredicatesKey Key) : TypeError Key Id Name → Type 0 where
     unlike_numbers : count (m.existential_predicates x) ≢ count (m.existential_predicates y) →
@@ -376,12 +401,13 @@ module _ {Key Id Name : Type 0} (m : Meaning Key Id Name) where
         (AreAlikeMembers (nth i (m.existential_predicates x)) (nth i (m.existential_predicates y)) → ⊥) →
         ObjectError x y (ExistentialMismatch (record { expected = x; found = y }))
 
-  -- Two patterns, signatures, lists of inputs, predicates of trait objects or lists of these are not of one form, and the
-  -- error that says so.
+  -- Two patterns, signatures, lists of inputs, predicates of trait objects or lists of these, aliases, trait references or
+  -- predicates of traits are not of one form, and the error that says so.
   pub data PartError (a b : Tree) (e : TypeError Key Id Name) : Type 0 where
     pattern_error : PatternError a b e → PartError a b e
     signature_error : SignatureError a b e → PartError a b e
     existential_error : ExistentialError a b e → PartError a b e
+    item_error : ItemError a b e → PartError a b e
     object_error : (x y : ExistentialPredicatesKey Key) → node object (m.existential_predicates x) ≡ a →
         node object (m.existential_predicates y) ≡ b → ObjectError x y e → PartError a b e
 
@@ -435,6 +461,13 @@ module _ {Key Id Name : Type 0} (m : Meaning Key Id Name) where
       of_alias_parts : {v : Variance} {e : _} {h l : AliasKind} {d : ℕ} {a b ts us : Tree} (i : ℕ) →
           a ≡ node (alias h d) ts → b ≡ node (alias l d) us → count ts ≡ count us → i < count ts →
           ErrorOf k c st (part_at c (alias h d) i v) e (nth i ts) (nth i us) → ErrorByForms k c st v e a b
+      of_alias_term_parts : {v : Variance} {e : _} {h l : AliasTermKind} {d : ℕ} {a b ts us : Tree} (i : ℕ) →
+          a ≡ node (alias_term h d) ts → b ≡ node (alias_term l d) us → plain_kind h ≡ plain_kind l →
+          count ts ≡ count us → i < count ts → ErrorOf k c st (part_at c (alias_term h d) i v) e (nth i ts) (nth i us) →
+          ErrorByForms k c st v e a b
+      of_trait_refs : {v : Variance} {e : _} {p q : PredicatePolarity} {a b t u : Tree} →
+          a ≡ node (trait_clause p) (cons t nil) → b ≡ node (trait_clause q) (cons u nil) →
+          ErrorOf k c st (part_at c (trait_clause p) 0 v) e t u → ErrorByForms k c st v e a b
       of_length : {v : Variance} {p : ExpectedFound (ConstKey Key)} {a b ts us : Tree} (x y : ConstKey Key) (i : ℕ) →
           a ≡ node array ts → b ≡ node array us → count ts ≡ count us → i < count ts → nth i ts ≡ m.const_ x →
           nth i us ≡ m.const_ y → ErrorOf k c st (part_at c array i v) (ConstMismatch p) (nth i ts) (nth i us) →

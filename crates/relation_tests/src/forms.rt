@@ -18,7 +18,7 @@ use relation_terms::terms::{
 use std::test::Fail;
 
 // The two regions are one.
-fn equal<X>(a: RegionKey<X>, b: RegionKey<X>) -> RegionConstraint<X> {
+pub(super) fn equal<X>(a: RegionKey<X>, b: RegionKey<X>) -> RegionConstraint<X> {
     RegionConstraint::Eq(RegionEqPredicate(a, b))
 }
 

@@ -7,6 +7,8 @@ mod contexts;
 #[cfg(test)]
 mod forms;
 #[cfg(test)]
+mod items;
+#[cfg(test)]
 mod over_items;
 #[cfg(test)]
 mod plain;

@@ -104,7 +104,7 @@ pub(super) fn make_two<I: Interner>(cx: &mut I, name: &I::Name) -> Result<Two<I:
 }
 
 // The relation without variables, after it has related two.
-fn related<I: Interner + Drop, T: Relate<I> + Drop>(
+pub(super) fn related<I: Interner + Drop, T: Relate<I> + Drop>(
     cx: I,
     variance: Variance,
     a: &T,

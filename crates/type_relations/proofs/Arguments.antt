@@ -1,115 +1,211 @@
 -- Forms that are related by their parts, one after another.
-use Rattle.std.proofs.Common.{◌≡◌, ◌≢◌, ℕ, ◌<◌, refl, sym, ap, ◌∙◌, subst, subst₂, inr, arith, IsTrue, Ok, Err}
+use Rattle.std.proofs.Common.{◌≡◌, ◌≢◌, ℕ, ◌<◌, refl, sym, ap, ◌∙◌, ◌↔◌, subst, subst₂, inr, arith, IsTrue, Ok, Err}
 use Rattle.term_enums.specs.declared.Variance.{Variance}
-use Rattle.relation_terms.specs.Heads.{Sort, Head, adt, fn_def}
-use Rattle.relation_terms.specs.Trees.{Tree, leaf, node, bind, nil, cons, known, count, nth, IsList, AreTerms}
+use Rattle.relation_terms.specs.Heads.{Sort, AliasTermKind, Head, adt, fn_def, alias, alias_term}
+use Rattle.relation_terms.specs.Heads.{arguments, trait_ref}
+use Rattle.relation_terms.specs.Trees.{Tree, leaf, node, bind, nil, cons, Assign, apply, known, count, nth, IsList, AreTerms}
 use Rattle.relation_terms.specs.Meaning.{Meaning, Extends}
+use Rattle.relation_terms.specs.Predicates.{alias_term_kind, alias_term_id}
 use Rattle.relation_terms.specs.declared.terms.keys.TyKey.{TyKey}
 use Rattle.relation_terms.specs.declared.terms.keys.ArgsKey.{ArgsKey}
 use Rattle.relation_folds.specs.declared.error.TypeError.{TypeError}
 use Rattle.relation_folds.specs.declared.error.RelateFault.{RelateFault}
 use Rattle.relation_folds.specs.declared.error.RelateFault.TheVariants.{Memory, Budget, Unrelated}
 use Rattle.type_relations.specs.declared.relate.args.ArgVariances.{ArgVariances}
-use Rattle.type_relations.specs.declared.relate.args.ArgVariances.TheVariants.{Invariant, Adt, FnDef}
-use Rattle.relation_contexts.specs.Relation.{forms, part_at, IsRelatedHead, IsAlias}
-use Rattle.relation_contexts.specs.Errors.{ErrorOf, by_forms, IsHandedOn, of_parts, AreOfOneForm}
+use Rattle.type_relations.specs.declared.relate.args.ArgVariances.TheVariants.{Invariant, Adt, FnDef, AliasTerm, Trait}
+use Rattle.relation_contexts.specs.Relation.{Items, at, forms, part_at, plain, plain_kind, IsRelatedHead, IsAlias}
+use Rattle.relation_contexts.specs.Stores.{Store}
+use Rattle.relation_contexts.specs.Settings.{Settings}
+use Rattle.relation_contexts.specs.FirstOrder.{IsFirstOrderHead, Unifies}
+use Rattle.relation_contexts.specs.Errors.{ErrorOf, by_forms, IsHandedOn, of_parts}
+use Rattle.relation_contexts.specs.Errors.{of_alias_term_parts, AreOfOneForm}
 use Rattle.relation_contexts.specs.Errors.{over_parts, over_aliases, one_leaf, parameters}
 use Rattle.relation_contexts.proofs.Covered.{normal_not_left}
 use Rattle.type_relations.specs.Arguments.{args_head, AreOverItem, adts, functions}
-use Rattle.relation_contexts.specs.Lawful.{State, Manners, MayAnswer, Passes, Refuses, Related, ExactlyRelated, items_in}
-use Rattle.relation_contexts.proofs.OneParts.{parts_equal}
+use Rattle.relation_folds.specs.Faults.{KnowsError}
+use Rattle.relation_contexts.specs.OneUniverse.{BindsNoMore}
+use Rattle.term_enums.specs.declared.Variance.TheVariants.{Invariant as AtInvariance}
+use Rattle.relation_contexts.specs.Lawful.{State, Manners, MayAnswer, Passes, Refuses, Related}
+use Rattle.relation_contexts.specs.Lawful.{ExactlyRelated, items_in}
 use Rattle.type_relations.proofs.PartSizes.{weight_parts_most}
 use Rattle.relation_contexts.proofs.Registered.{registered_in}
 use Rattle.relation_contexts.proofs.Passing.{passes_within, passes_then, manner_then, stopped}
 use Rattle.type_relations.proofs.Fronts.{Fronted, AreParts, IsLookedAt, fronted_all, fronted_never, fronted_passes, fronted_fault, fronted_exactly}
 use Rattle.type_relations.proofs.Fronts.{fronted_full, fronted_built, fronted_agree}
-use Rattle.type_relations.proofs.Structural.{types_never}
 use Rattle.relation_contexts.proofs.Answering.{same_items, may_itself}
 use Rattle.relation_contexts.proofs.OneUniverse.{keeps_binds, binds_as}
-use Rattle.type_relations.proofs.Unifying.{first_order_parts, answered_as, refused_as}
+use Rattle.type_relations.proofs.Unifying.{first_order_parts, one_head, answered_as, refused_by}
 use Rattle.relation_contexts.proofs.Erased.{forms_unify_by_parts}
 use Rattle.relation_contexts.specs.Headline.{IsFirstOrderPair}
 use Rattle.relation_terms.specs.Heads.{value_type}
 
+-- Forms but for those that relating looks at without a kind.
+abbrev IsPlain : Head → Type 0
+IsPlain (alias k d) = ⊥
+IsPlain (alias_term k d) = ⊥
+IsPlain h = Unit {0}
+
+plain_itself : (h : Head) → IsPlain h → plain h ≡ h
+plain_itself (alias k d) p = absurd p
+plain_itself (alias_term k d) p = absurd p
+plain_itself h p = refl
+
+plain_back : (h : Head) → IsPlain (plain h) → IsPlain h
+plain_back (alias k d) p = p
+plain_back (alias_term k d) p = p
+plain_back h p = tt
+
+plain_alone : (h k : Head) → IsPlain h → plain h ≡ plain k → h ≡ k
+plain_alone h k p e =
+    let whole : plain k ≡ h = sym e ∙ plain_itself h p in
+    sym whole ∙ plain_itself k (plain_back k (subst IsPlain (sym whole) p))
+
+alias_term_alone : (k : Head) (a : AliasTermKind) (d : ℕ) → alias_term a d ≡ plain k →
+    (l : AliasTermKind) × (k ≡ alias_term l d) × (a ≡ plain_kind l)
+alias_term_alone (alias_term l e) a d p =
+    (l, (let q : d ≡ e = cc in ap (alias_term l) (sym q)), (cc))
+alias_term_alone (alias l e) a d p = absurd (cc)
+alias_term_alone k a d p = absurd (cc)
+
 -- Arguments are related part by part, and their errors are those of their parts.
-pub args_related_head : {Key Id Name : Type 0} (m : Meaning Key Id Name) (d : ArgVariances Id) →
-    IsRelatedHead (args_head m d)
-args_related_head m Invariant = tt
-args_related_head m (Adt d) = tt
-args_related_head m (FnDef d) = tt
+module _ {Key Id Name : Type 0} (m : Meaning Key Id Name) where
+  pub args_related_head : (d : ArgVariances Id) → IsRelatedHead (args_head m d)
+  args_related_head Invariant = tt
+  args_related_head (Adt d) = tt
+  args_related_head (FnDef d) = tt
+  args_related_head (AliasTerm k) = tt
+  args_related_head (Trait d) = tt
 
-pub args_looked_at : {Key Id Name : Type 0} (m : Meaning Key Id Name) (d : ArgVariances Id) → IsLookedAt (args_head m d)
-args_looked_at m Invariant = tt
-args_looked_at m (Adt d) = tt
-args_looked_at m (FnDef d) = tt
+  pub args_looked_at : (d : ArgVariances Id) → IsLookedAt (args_head m d)
+  args_looked_at Invariant = tt
+  args_looked_at (Adt d) = tt
+  args_looked_at (FnDef d) = tt
+  args_looked_at (AliasTerm k) = tt
+  args_looked_at (Trait d) = tt
 
-pub args_handed_on : {Key Id Name : Type 0} (m : Meaning Key Id Name) (d : ArgVariances Id) (e : TypeError Key Id Name)
-    (i : ℕ) (t u : Tree) → IsHandedOn e (args_head m d) i t u
-args_handed_on m Invariant e i t u = tt
-args_handed_on m (Adt d) e i t u = tt
-args_handed_on m (FnDef d) e i t u = tt
+  -- Two first-order ones are over one form.
+  pub args_first_order : (d : ArgVariances Id) (k : Head) → plain (args_head m d) ≡ plain k →
+      IsFirstOrderHead (args_head m d) → args_head m d ≡ k
+  args_first_order Invariant k e f = plain_alone arguments k tt e
+  args_first_order (Adt d) k e f = plain_alone (adt (m.id d.0)) k tt e
+  args_first_order (FnDef d) k e f = plain_alone (fn_def (m.id d.0)) k tt e
+  args_first_order (AliasTerm a) k e f = absurd f
+  args_first_order (Trait d) k e f = plain_alone (trait_ref (m.id d.0)) k tt e
 
-module _ {Key Id Name : Type 0} {r q : State Key Id Name} (M : Manners) (v : Variance) (h : Head) (ts us : Tree) (i : ℕ)
-    (f : Fronted M r q h v i ts us) (are : AreParts r.store ts us) (n : count ts ≡ count us) (looked : IsLookedAt h) where
+  -- An error of two arguments is one of the forms.
+  module _ {A : Type 0} (p : Meaning Key Id A) (set : Settings) (c : Items) (st : Store) (v : Variance)
+      (e : TypeError Key Id A) (ts us : Tree) (i : ℕ) (n : count ts ≡ count us) (l : i < count ts) where
+    of_one : (h k : Head) → IsPlain h → plain h ≡ plain k → ((xs : Tree) → IsAlias (node h xs) → ⊥) →
+        IsHandedOn e h i (nth i ts) (nth i us) → ErrorOf p set c st (part_at c h i v) e (nth i ts) (nth i us) →
+        ErrorOf p set c st v e (node h ts) (node k us)
+    of_one h k o q normal handed u =
+        subst (λ z. ErrorOf p set c st v e (node h ts) (node z us)) (plain_alone h k o q)
+        (by_forms (normal_not_left set (node h ts) (node h us) (normal ts) (normal us))
+        (of_parts i refl refl n l handed u))
+
+    pub args_complain : (d : ArgVariances Id) (k : Head) → plain (args_head m d) ≡ plain k →
+        ErrorOf p set c st (part_at c (args_head m d) i v) e (nth i ts) (nth i us) →
+        ErrorOf p set c st v e (node (args_head m d) ts) (node k us)
+    args_complain Invariant k q u = of_one arguments k tt q (λ xs o. o) tt u
+    args_complain (Adt d) k q u = of_one (adt (m.id d.0)) k tt q (λ xs o. o) tt u
+    args_complain (FnDef d) k q u = of_one (fn_def (m.id d.0)) k tt q (λ xs o. o) tt u
+    args_complain (Trait d) k q u = of_one (trait_ref (m.id d.0)) k tt q (λ xs o. o) tt u
+    args_complain (AliasTerm a) k q u =
+        let h = alias_term (alias_term_kind a) (m.id (alias_term_id a)) in
+        let (b, is, same) = alias_term_alone k (plain_kind (alias_term_kind a)) (m.id (alias_term_id a)) q in
+        let j = alias_term b (m.id (alias_term_id a)) in
+        subst (λ z. ErrorOf p set c st v e (node h ts) (node z us)) (sym is)
+        (by_forms (normal_not_left set (node h ts) (node j us) (λ o. o) (λ o. o))
+        (of_alias_term_parts i refl refl same n l u))
+
+module _ {Key Id Name : Type 0} {r q : State Key Id Name} (M : Manners) (v : Variance) (h k : Head)
+    (ts us : Tree) (i : ℕ) (f : Fronted M r q h v i ts us) (are : AreParts r.store ts us) (looked : IsLookedAt h) where
   apart : h ≢ value_type
   apart e = subst IsLookedAt e looked
 
-  list_pair : IsFirstOrderPair r.store (node h ts) (node h us) → IsFirstOrderPair r.store ts us
+  list_pair : IsFirstOrderPair r.store (node h ts) (node k us) → IsFirstOrderPair r.store ts us
   list_pair pair = record {
     left = first_order_parts (node h ts) pair.left;
-    right = first_order_parts (node h us) pair.right;
+    right = first_order_parts (node k us) pair.right;
     bindings = pair.bindings;
   }
 
-  one_form : AreOfOneForm (node h ts) (node h us)
-  one_form = over_parts refl refl n
+  -- What makes the forms one makes their parts one, and so too up to erasure.
+  one_list : (s : Assign) → apply s (node h ts) ≡ apply s (node k us) → apply s ts ≡ apply s us
+  one_list s e = cc
+
+  unified : (s : Assign) → Unifies s (node h ts) (node k us) → Unifies s ts us
+  unified s e = (forms_unify_by_parts s h ts us apart).0
+      (subst (λ z. Unifies s (node h ts) (node z us)) (sym (one_head s h k ts us e)) e)
 
   -- All parts of two forms were related, and so are the forms.
-  pub form_related : {X : Type 0} (tree : X → Tree) (x : X) → IsRelatedHead h → i ≡ count ts → tree x ≡ node h ts →
-      IsTrue (known (node h ts)) → Related M r q v (node h ts) (node h us) tree (Ok x)
+  pub form_related : {X : Type 0} (tree : X → Tree) (x : X) → plain h ≡ plain k → (IsFirstOrderHead h → h ≡ k) →
+      IsRelatedHead h → i ≡ count ts → count ts ≡ count us → tree x ≡ node h ts → IsTrue (known (node h ts)) →
+      Related M r q v (node h ts) (node k us) tree (Ok x)
   unfolding passes_within
-  form_related tree x is e answer k = record {
-    passes = passes_within (omega (arith, weight_parts_most r.store (node h ts), weight_parts_most r.store (node h us)))
+  form_related tree x alike first is e n answer sure = record {
+    passes = passes_within (omega (arith, weight_parts_most r.store (node h ts), weight_parts_most r.store (node k us)))
         f.passes;
     verdict = record {
       outcome = record {
         later = ((f.passes).goes).later;
         goals_in = registered_in (f.passes).added (f.passes).goals_in;
-        relates = λ w s sat all. forms is refl ((fronted_all h v i ts us are e (e ∙ n) f).relates w s sat all);
-        keeps = λ w s sat z. (f.front).keeps w s sat (parts_equal (node h ts) (node h us) one_form s z);
+        relates = λ w s sat all. forms is alike ((fronted_all h v i ts us are e (e ∙ n) f).relates w s sat all);
+        keeps = λ w s sat z. (f.front).keeps w s sat (one_list s z);
       };
       answer = subst (MayAnswer M q v (node h ts)) (sym answer) (may_itself M q v (node h ts));
-      known = subst (λ u. IsTrue (known u)) (sym answer) k;
-      agrees = λ k. inr (refl, fronted_agree h v i ts us e (e ∙ n) f k);
+      known = subst (λ u. IsTrue (known u)) (sym answer) sure;
+      agrees = λ k. inr (alike, fronted_agree h v i ts us e (e ∙ n) f k);
     };
     exact = λ exact is' pair.
-        answered_as r.store q.store (node h ts) (node h us) ts us (λ s. forms_unify_by_parts s h ts us apart) (λ u z. z)
-        (λ u z. z) (fronted_exactly h v i ts us are e (e ∙ n) f exact is' looked (list_pair pair));
+        answered_as r.store q.store (node h ts) (node k us) ts us
+        (λ s. subst (λ z. Unifies s (node h ts) (node z us) ↔ Unifies s ts us) (first (pair.left).0)
+        (forms_unify_by_parts s h ts us apart)) (λ u z. z) (λ u z. z)
+        (fronted_exactly h v i ts us are e (e ∙ n) f exact is' looked (list_pair pair));
     full = f.full;
     built = λ j ha hb. f.built j ha.1 hb.1;
   }
 
+  front_binds : (M r.kept.settings).is_exact → v ≡ AtInvariance → IsFirstOrderPair r.store (node h ts) (node k us) →
+      BindsNoMore r.store q.store (node h ts) (node k us)
+  front_binds exact is pair = binds_as r.store q.store (node h ts) (node k us) ts us (λ u z. z) (λ u z. z)
+      (keeps_binds r.store q.store ts us (f.exact exact is looked (list_pair pair)).2)
+
   -- Memory ran out after some of the parts.
-  pub form_stopped : {X : Type 0} (tree : X → Tree) → Related {X = X} M r q v (node h ts) (node h us) tree (Err Memory)
+  pub form_stopped : {X : Type 0} (tree : X → Tree) →
+      Related {X = X} M r q v (node h ts) (node k us) tree (Err Memory)
   unfolding passes_within
-  form_stopped tree = stopped M v (node h ts) (node h us) tree
-      (passes_within (omega (arith, weight_parts_most r.store (node h ts), weight_parts_most r.store (node h us))) f.passes)
-      (λ exact is pair. binds_as r.store q.store (node h ts) (node h us) ts us (λ u z. z) (λ u z. z)
-      (keeps_binds r.store q.store ts us (f.exact exact is looked (list_pair pair)).2)) f.full (λ j ha hb. f.built j ha.1 hb.1)
+  form_stopped tree = stopped M v (node h ts) (node k us) tree
+      (passes_within (omega (arith, weight_parts_most r.store (node h ts), weight_parts_most r.store (node k us))) f.passes)
+      front_binds f.full (λ j ha hb. f.built j ha.1 hb.1)
+
+  -- After some of the parts it is seen that the forms are never one.
+  pub form_unlike : {X : Type 0} (tree : X → Tree) (e : TypeError Key Id Name) → h ≢ k →
+      ErrorOf q.meaning q.kept.settings (items_in q) q.store v e (node h ts) (node k us) → KnowsError q.meaning e →
+      Related {X = X} M r q v (node h ts) (node k us) tree (Err (Unrelated e))
+  unfolding passes_within
+  form_unlike tree e differ says sure = record {
+    passes = passes_within (omega (arith, weight_parts_most r.store (node h ts), weight_parts_most r.store (node k us)))
+        f.passes;
+    verdict = ((λ w s sat z. differ (cc)), says, sure);
+    exact = λ exact is pair. ((λ s sol z. differ (one_head s h k ts us z)), front_binds exact is pair);
+    full = f.full;
+    built = λ j ha hb. f.built j ha.1 hb.1;
+  }
 
   -- Two parts of two forms were refused, and so are the forms.
   module _ (x y : Tree) (lx : i < count ts) (ly : i < count us) (ex : x ≡ nth i ts) (ey : y ≡ nth i us)
-      (handed : (g : TypeError Key Id Name) → IsHandedOn g h i x y)
-      (normal : (ts : Tree) → IsAlias (node h ts) → ⊥) where
-    refuses : {k : ℕ} {p : State Key Id Name} (l : Passes k q p) (e : RelateFault Key Id Name) →
-        Refuses q p (part_at (items_in r) h i v) x y e → Refuses r p v (node h ts) (node h us) e
+      (complains : (p : State Key Id Name) (g : TypeError Key Id Name) →
+      ErrorOf p.meaning p.kept.settings (items_in p) p.store (part_at (items_in p) h i v) g (nth i ts) (nth i us) →
+      ErrorOf p.meaning p.kept.settings (items_in p) p.store v g (node h ts) (node k us)) where
+    refuses : {n : ℕ} {p : State Key Id Name} (l : Passes n q p) (e : RelateFault Key Id Name) →
+        Refuses q p (part_at (items_in r) h i v) x y e → Refuses r p v (node h ts) (node k us) e
     refuses {p = p} l (Unrelated g) o = (
-      types_never r.store v (node h ts) (node h us) one_form (fronted_never h v i ts us x y f lx ly ex ey are o.0),
-      by_forms (normal_not_left p.kept.settings (node h ts) (node h us) (normal ts) (normal us)) (of_parts i refl refl n lx
-          (subst₂ (IsHandedOn g h i) ex ey (handed g))
+      (λ w s sat z. fronted_never h v i ts us x y f lx ly ex ey are o.0 w s sat (one_list s z)),
+      complains p g
           (subst₂ (ErrorOf p.meaning p.kept.settings (items_in p) p.store (part_at (items_in p) h i v) g) ex ey
           (subst (λ c. ErrorOf p.meaning p.kept.settings (items_in p) p.store (part_at c h i v) g x y)
-          (sym (same_items l ∙ same_items f.passes)) o.1))),
+          (sym (same_items l ∙ same_items f.passes)) o.1)),
       o.2,
     )
     refuses l Budget o = o
@@ -117,18 +213,18 @@ module _ {Key Id Name : Type 0} {r q : State Key Id Name} (M : Manners) (v : Var
 
     exactly : (A B : Type 0) (p : State Key Id Name) (e : RelateFault Key Id Name) →
         ExactlyRelated {X = A} (M q.kept.settings) q.store p.store (part_at (items_in r) h i v) x y (Err e) →
-        ExactlyRelated {X = B} (M r.kept.settings) r.store p.store v (node h ts) (node h us) (Err e)
+        ExactlyRelated {X = B} (M r.kept.settings) r.store p.store v (node h ts) (node k us) (Err e)
     exactly A B p e g exact is pair =
-        refused_as r.store p.store (node h ts) (node h us) ts us (λ s. forms_unify_by_parts s h ts us apart) (λ u z. z)
-        (λ u z. z) A B e (fronted_fault h v i ts us x y f lx ly ex ey A A p e are exact is looked
+        refused_by r.store p.store (node h ts) (node k us) ts us unified (λ u z. z) (λ u z. z) A B e
+        (fronted_fault h v i ts us x y f lx ly ex ey A A p e are exact is looked
         (list_pair pair) (λ z. g (manner_then M (λ m. m.is_exact) f.passes z)))
 
     pub form_refused : {A B : Type 0} {p : State Key Id Name} (tree : A → Tree) (answer : B → Tree)
         (e : RelateFault Key Id Name) → Related M q p (part_at (items_in r) h i v) x y tree (Err e) →
-        Related M r p v (node h ts) (node h us) answer (Err e)
+        Related M r p v (node h ts) (node k us) answer (Err e)
     unfolding passes_within fronted_passes passes_then
     form_refused {A} {B} {p} tree answer e g = record {
-      passes = passes_within (omega (arith, weight_parts_most r.store (node h ts), weight_parts_most r.store (node h us)))
+      passes = passes_within (omega (arith, weight_parts_most r.store (node h ts), weight_parts_most r.store (node k us)))
           (fronted_passes h v i ts us x y f lx ly ex ey g.passes);
       verdict = refuses g.passes e g.verdict;
       exact = exactly A B p e g.exact;
@@ -142,6 +238,8 @@ pub args_heads : {Key Id Name : Type 0} {m n : Meaning Key Id Name} → Extends 
 args_heads e Invariant = refl
 args_heads e (Adt d) = ap adt (e.id d.0)
 args_heads e (FnDef d) = ap fn_def (e.id d.0)
+args_heads e (AliasTerm k) = ap (alias_term (alias_term_kind k)) (e.id (alias_term_id k))
+args_heads e (Trait d) = ap trait_ref (e.id d.0)
 
 pub are_list : (k : Sort) (ts : Tree) → AreTerms k ts → IsList ts
 are_list k nil h = tt
@@ -166,13 +264,6 @@ over_one_function d e a b ts us x y (over_parts p q n) =
 over_one_function d e a b ts us x y (over_aliases p q n) = cc
 over_one_function d e a b ts us x y (one_leaf p q) = cc
 over_one_function d e a b ts us x y (parameters p q i) = cc
-
--- Types over items, and lists of arguments, are no aliases.
-pub args_normal : {Key Id Name : Type 0} (m : Meaning Key Id Name) (d : ArgVariances Id) (ts : Tree) →
-    IsAlias (node (args_head m d) ts) → ⊥
-args_normal m Invariant ts u = u
-args_normal m (Adt d) ts u = u
-args_normal m (FnDef d) ts u = u
 
 -- The lists that two known types are over are known.
 pub over_knows : (d : ℕ) (a b ts us : Tree) → AreOverItem d a b ts us → IsTrue (known a) → IsTrue (known b) →

@@ -14,7 +14,7 @@ use Rattle.relation_contexts.specs.declared.relate.Step.TheVariants.{Done, Parts
 use Rattle.type_relations.specs.Combining.{MeetsTys, equated, left_bound, right_bound, left_unlike, right_unlike, ty_variable, by_parts, IsNoTyVar, seen}
 use Rattle.type_relations.specs.Combining.{ReadsShallow, MeetsConsts, roots_equated, left_root_bound, left_root_refused, right_root_bound, right_root_refused, formed_by_parts}
 use Rattle.relation_contexts.specs.Contexts.{Context}
-use Rattle.relation_contexts.specs.ContextCalls.{HasCoveredBindings}
+use Rattle.relation_contexts.specs.ContextCalls.{HasCoveredBindings, Reads}
 use Rattle.type_relations.specs.Emitting.{IsOver, WithContext}
 use Rattle.type_relations.specs.Keyed.{AskedTys, AskedConsts, SteppedTys, SteppedConsts}
 use Rattle.type_relations.specs.NumberVars.{number_kind}
@@ -180,6 +180,15 @@ module _ {Key Id Name : Type 0} where
     right_taken = all_taken r.ambient ((r.meaning).const_ y)
         (read_covered r.store covered ((r.meaning).const_ b) ((r.meaning).const_ y) (h.reads).reads asked.right_taken.1);
   }
+
+  -- What a constant is read as in the context, it is in the relation.
+  pub read_there : {r : State Key Id Name} {c : Context Key Id Name} → IsOver r c → (a x : ConstKey Key) →
+      Reads c ((c.meaning).const_ a) ((c.meaning).const_ x) → IsShallowConst c.store ((c.meaning).const_ x) →
+      ReadsShallow r.meaning r.store a x
+  read_there o a x f h = subst₂ (λ m st. ReadsShallow m st a x) (sym o.meaning) (sym o.store) (record {
+    reads = record { sure = f.sure; reads = f.reads; resolves = f.resolves };
+    shallow = h;
+  })
 
   -- Of one and the same constant it is the answer.
   pub one_const_step : (r : State Key Id Name) (a b : ConstKey Key) → IsTrue (known ((r.meaning).const_ a)) →

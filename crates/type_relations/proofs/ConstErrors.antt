@@ -12,6 +12,7 @@ use Rattle.relation_contexts.specs.Settings.{Settings}
 use Rattle.relation_contexts.specs.Errors.{IsHandedOn, IsReadAs, itself, by_class, by_binding}
 use Rattle.relation_contexts.specs.Errors.{ErrorOf, of_entries, of_bodies, of_binding, of_binding_back, of_kinds, by_forms}
 use Rattle.relation_contexts.specs.Errors.{ErrorByForms, of_forms, of_const_forms, of_part_forms, of_parts, of_alias_parts, of_length}
+use Rattle.relation_contexts.specs.Errors.{of_alias_term_parts, of_trait_refs}
 use Rattle.relation_contexts.specs.Errors.{of_inputs, of_outputs, of_branches}
 use Rattle.type_relations.proofs.Constants.{still, fixed}
 
@@ -65,6 +66,8 @@ module _ {Key Id Name : Type 0} (m : Meaning Key Id Name) (k : Settings) (c : It
         of_parts i p q z b handed (subst (λ z. ErrorOf m k c st z e (nth i ts) (nth i us))
         (part_same e c l i (nth i ts) (nth i us) v v' (subst (IsTerm const_sort) p h).0 n n' handed) o)
     const_forms_alike n n' h (of_alias_parts i p q z b o) = absurd (subst (IsTerm const_sort) p h).0
+    const_forms_alike n n' h (of_alias_term_parts i p q k z b o) = absurd (subst (IsTerm const_sort) p h).0
+    const_forms_alike n n' h (of_trait_refs p q o) = absurd (subst (IsTerm const_sort) p h).0
     const_forms_alike n n' h (of_length x y i p q l b d f o) = absurd (subst (IsTerm const_sort) p h).0
     const_forms_alike n n' h (of_inputs i p q l b o f) = absurd (subst (IsTerm const_sort) p h).0
     const_forms_alike n n' h (of_outputs p q l o f) = absurd (subst (IsTerm const_sort) p h).0

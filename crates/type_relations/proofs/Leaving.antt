@@ -1,7 +1,7 @@
 -- Types as they stand to relating, and pairs that are left to goals.
 use Rattle.std.proofs.Common.{◌≡◌, ◌≢◌, ◌⊎◌, ℕ, refl, sym, ap, ◌∙◌, inl, inr, subst, IsTrue, true, false}
 use Rattle.std.proofs.lemmas.Bool.{false≢true}
-use Rattle.relation_terms.specs.Heads.{Head, alias, opaque_alias, unevaluated, variable}
+use Rattle.relation_terms.specs.Heads.{Head, type_var, int_var, float_var, alias, opaque_alias, unevaluated, variable}
 use Rattle.relation_terms.specs.Trees.{Tree, leaf, node}
 use Rattle.relation_terms.specs.Meaning.{Meaning, kind_tree, infer_tree, const_tree, infer_const_tree, alias_kind}
 use Rattle.relation_terms.specs.declared.terms.alias.AliasTy.{AliasTy}
@@ -17,6 +17,7 @@ use Rattle.relation_terms.specs.declared.terms.ty_kind.InferTy.TheVariants.{TyVa
 use Rattle.relation_terms.specs.declared.terms.ty_kind.TyKind.{TyKind}
 use Rattle.relation_terms.specs.declared.terms.ty_kind.TyKind.TheVariants.{Error as ErrorKind, Infer, Alias as AliasForm}
 use Rattle.relation_contexts.specs.Errors.{HaveNoError, IsOpaque, IsOpaqueBeside, IsLeftToGoal}
+use Rattle.relation_contexts.specs.Parts.{IsFormedConst}
 use Rattle.relation_contexts.specs.Relation.{IsError, IsAlias}
 use Rattle.relation_contexts.specs.Settings.{Settings, LeavesAliases, LeavesOpaque}
 use Rattle.type_relations.specs.Leaving.{IsVariable, StandsAs, LeavesAs}
@@ -55,6 +56,16 @@ module _ {Key Id Name : Type 0} (m : Meaning Key Id Name) where
   fresh_kind (FreshIntTy n) f g h = ((λ o. o), no_variable_tree (kind_tree m (Infer (FreshIntTy n))) (λ j n e. cc), (λ o. o))
   fresh_kind (FreshFloatTy n) f g h =
       ((λ o. o), no_variable_tree (kind_tree m (Infer (FreshFloatTy n))) (λ j n e. cc), (λ o. o))
+
+  -- A variable.
+  pub ty_variable : (k : TyKind Key Id Name) (i : InferTy) (x : _) → k ≡ Infer i → i ≡ TyVar x → IsVariable (kind_tree m k)
+  ty_variable k i x e f = subst (λ z. IsVariable (kind_tree m z)) (sym (e ∙ ap Infer f)) (type_var, _, refl)
+
+  pub int_variable : (k : TyKind Key Id Name) (i : InferTy) (x : _) → k ≡ Infer i → i ≡ IntVar x → IsVariable (kind_tree m k)
+  int_variable k i x e f = subst (λ z. IsVariable (kind_tree m z)) (sym (e ∙ ap Infer f)) (int_var, _, refl)
+
+  pub float_variable : (k : TyKind Key Id Name) (i : InferTy) (x : _) → k ≡ Infer i → i ≡ FloatVar x → IsVariable (kind_tree m k)
+  float_variable k i x e f = subst (λ z. IsVariable (kind_tree m z)) (sym (e ∙ ap Infer f)) (float_var, _, refl)
 
   -- An alias, and of which kind.
   opaque_kind : (k : AliasTyKind Id) (d : ℕ) (ts : Tree) → ((x : _) → k ≡ OpaqueKind x → ⊥) →
@@ -131,3 +142,17 @@ no_goal_open k a b l f g (inr (_, inr o)) = g o
 pub no_goal_ever : (k : Settings) (a b : Tree) → (LeavesAliases k → ⊥) → (LeavesOpaque k → ⊥) → LeavesAs k a b ToNone
 no_goal_ever k a b l f (inl (o, _)) = l o
 no_goal_ever k a b l f (inr (o, _)) = f o
+
+-- A constant with an outermost form is no opaque type.
+pub formed_no_opaque : (t u : Tree) → IsFormedConst t → IsOpaqueBeside t u → ⊥
+formed_no_opaque t u f o = no_opaque t f (beside_is_opaque t u o)
+  where
+    no_opaque : (t : Tree) → IsFormedConst t → IsOpaque t → ⊥
+    no_opaque (node (alias opaque_alias d) ts) f o = f
+    no_opaque t f o = o
+
+pub const_not_left : (k : Settings) (a b : Tree) → IsFormedConst a → IsFormedConst b →
+    (LeavesAliases k × (IsAlias a ⊎ IsAlias b) → ⊥) → IsLeftToGoal k a b → ⊥
+const_not_left k a b f g n (inl o) = n o
+const_not_left k a b f g n (inr (l, inl o)) = formed_no_opaque a b f o
+const_not_left k a b f g n (inr (l, inr o)) = formed_no_opaque b a g o

@@ -1,36 +1,48 @@
 -- A pair that is left to a goal, or in which an error stands, as a step of a relation.
-use Rattle.std.proofs.Common.{◌≡◌, ◌⊎◌, ℕ, ◌+◌, refl, sym, ap, ◌∙◌, inl, inr, subst, arith, List, [], ◌∷◌, ◌++◌, All, IsTrue, false, length, get_or, Ok, Err}
+use Rattle.std.proofs.Common.{◌≡◌, ◌⊎◌, ℕ, Some, ◌+◌, refl, sym, ap, ◌∙◌, inl, inr, subst, arith, List, [], ◌∷◌, ◌++◌, All, IsTrue, false, length, get_or, Ok, Err}
 use Rattle.std.proofs.lemmas.Bool.{false≢true}
 use Rattle.std.proofs.lemmas.List.{append-nil}
 use Rattle.std.proofs.lemmas.List.Elements.{All-nil, All-cons}
-use Rattle.relation_terms.specs.Heads.{type_sort, Atom, type_error, const_error, atom}
-use Rattle.relation_terms.specs.Trees.{Tree, leaf, known, IsTerm}
+use Rattle.term_enums.specs.declared.AliasRelationDirection.TheVariants.{Equate}
+use Rattle.relation_terms.specs.declared.terms.keys.TyKey.{TyKey}
+use Rattle.relation_terms.specs.declared.terms.keys.ConstKey.{ConstKey}
+use Rattle.relation_terms.specs.Heads.{type_sort, const_sort, type_var, const_var, alias, opaque_alias, Atom, type_error, const_error, atom}
+use Rattle.relation_terms.specs.Trees.{Tree, leaf, node, known, IsTerm}
 use Rattle.relation_terms.specs.Meaning.{Extends}
 use Rattle.relation_terms.proofs.Stays.{stays_same}
 use Rattle.relation_folds.specs.declared.error.RelateFault.TheVariants.{Memory}
 use Rattle.relation_contexts.specs.declared.relate.Step.TheVariants.{Done}
 use Rattle.relation_contexts.specs.Agreeing.{IsFlexible, Agree}
 use Rattle.relation_contexts.specs.FirstOrder.{IsFirstOrder}
-use Rattle.relation_contexts.specs.Goals.{Goal, goal_of, IsRegistered}
+use Rattle.relation_contexts.specs.AliasGoals.{alias_at}
+use Rattle.relation_contexts.specs.Errors.{IsOpaque, IsOpaqueBeside}
+use Rattle.relation_contexts.specs.Goals.{goal_of, IsRegistered, of_alias, of_too_much, alias_relate_predicate, ambiguous_predicate}
 use Rattle.relation_contexts.specs.Headline.{IsFirstOrderPair}
-use Rattle.relation_contexts.specs.Kits.{Kit, IsBuiltOf, IsPredicateOf, IsGoalOf, HasNoError, Builds}
+use Rattle.relation_contexts.specs.Kits.{Kit, IsBuiltOf, IsPredicateOf, IsGoalOf, HasOpaque, HasNoError, Builds}
 use Rattle.relation_contexts.specs.Lawful.{State, Passes, Stepped, MayAnswer, RegisteredIn, items_in}
 use Rattle.relation_contexts.specs.Outcomes.{Outcome}
-use Rattle.relation_contexts.specs.Relation.{at, sort_of, IsError}
+use Rattle.relation_contexts.specs.Parts.{IsFormed, IsFormedConst}
+use Rattle.relation_contexts.specs.Relation.{at, sort_of, IsError, IsAlias}
+use Rattle.relation_contexts.specs.Settings.{LeavesAliases, LeavesOpaque}
 use Rattle.relation_contexts.specs.OneUniverse.{BindsNoMore}
 use Rattle.relation_contexts.specs.Steps.{BindsNoBinder}
-use Rattle.relation_contexts.specs.Stores.{IsSound, InContext, unbound, weight}
-use Rattle.relation_contexts.proofs.Agreeing.{agree_flexible}
-use Rattle.relation_contexts.proofs.AliasOutcomes.{errors_relate}
+use Rattle.relation_contexts.specs.Stores.{Store, IsSound, InContext, unbound, weight}
+use Rattle.relation_contexts.proofs.Agreeing.{agree_flexible, agree_left}
+use Rattle.relation_contexts.proofs.AliasOutcomes.{errors_relate, alias_goals_relate, alias_goals_relate_consts, ambiguous_relates}
 use Rattle.relation_contexts.proofs.Answering.{may_itself}
 use Rattle.relation_contexts.proofs.Building.{builds_asking, built_same, builds_tainted}
 use Rattle.relation_contexts.proofs.Full.{full_same, full_by}
 use Rattle.relation_contexts.proofs.Going.{goes_within}
 use Rattle.relation_contexts.proofs.OneUniverse.{binds_itself}
 use Rattle.relation_contexts.proofs.Passing.{relates_by}
+use Rattle.relation_contexts.proofs.Registered.{alias_registered, alias_built}
+use Rattle.relation_contexts.proofs.Standing.{term_context, term_sort_of}
 use Rattle.type_relations.specs.Combining.{TaintsAlone, KeepsKept}
 use Rattle.type_relations.specs.Emitting.{RegistersGoal}
+use Rattle.type_relations.specs.Keyed.{AskedTys, AskedConsts, SteppedTys, SteppedConsts}
 use Rattle.type_relations.specs.Solving.{solver_manner}
+use Rattle.type_relations.proofs.Leaving.{opaque_is_alias, beside_is_opaque}
+use Rattle.type_relations.proofs.SolvingVariables.{alias_not_first}
 use Rattle.type_relations.proofs.GoalPasses.{goal_passes, no_goal_passes}
 use Rattle.type_relations.proofs.OpeningBoth.{changes_goes}
 
@@ -155,3 +167,111 @@ module _ {Key Id Name K : Type 0} (F : Tree → Type 0) {r q : State Key Id Name
           (subst (MayAnswer solver_manner q r.ambient a) (sym e)
           (record { related = relates_by r.ambient a b (taint_passes 0) outcome }))
           (subst (λ z. IsTrue (known z)) (sym e) sure)
+
+-- An opaque type is of a kit with such, and no first-order term.
+opaque_in_kit : (k : Kit) (t : Tree) → IsOpaque t → IsBuiltOf k t → HasOpaque k
+opaque_in_kit k (node (alias opaque_alias d) ts) o h = (d, h.0)
+opaque_in_kit k t o h = absurd o
+
+-- Two that are left to a goal are no first-order terms.
+pub one_not_first : {st : Store} (a b : Tree) → IsAlias a ⊎ IsAlias b → IsFirstOrderPair st a b → ⊥
+one_not_first a b (inl o) pair = alias_not_first a o pair.left
+one_not_first a b (inr o) pair = alias_not_first b o pair.right
+
+one_opaque : (a b : Tree) → IsOpaqueBeside a b ⊎ IsOpaqueBeside b a → IsOpaque a ⊎ IsOpaque b
+one_opaque a b (inl o) = inl (beside_is_opaque a b o)
+one_opaque a b (inr o) = inr (beside_is_opaque b a o)
+
+-- Two types, or two constants, of which one goal was registered, as they are left to it.
+module _ {Key Id Name A E : Type 0} {r q : State Key Id Name} {x : A} (p : Tree) (h : RegistersGoal {F = E} r q p (Ok x)) where
+  module _ (a b : TyKey Key) (asked : AskedTys solver_manner r a b) (sa : IsTerm type_sort ((r.meaning).ty a))
+      (sb : IsTerm type_sort ((r.meaning).ty b)) where
+    abbrev ta : Tree
+    ta = (r.meaning).ty a
+
+    abbrev tb : Tree
+    tb = (r.meaning).ty b
+
+    a_stays : (q.meaning).ty a ≡ ta
+    a_stays = (h.extends).ty a asked.left_known
+
+    one_sort : sort_of ta ≡ sort_of tb
+    one_sort = term_sort_of type_var ta sa ∙ sym (term_sort_of type_var tb sb)
+
+    answers_left : MayAnswer solver_manner q r.ambient ta ((q.meaning).ty a)
+    answers_left = subst (MayAnswer solver_manner q r.ambient ta) (sym a_stays) (may_itself solver_manner q r.ambient ta)
+
+    left_sure : IsTrue (known ((q.meaning).ty a))
+    left_sure = subst (λ z. IsTrue (known z)) (sym a_stays) asked.left_known
+
+    -- What the variance asks of an alias and another type.
+    pub tys_to_goal : LeavesAliases r.kept.settings → IsAlias ta ⊎ IsAlias tb → alias_at r.ambient ta tb ≡ Some p →
+        SteppedTys solver_manner r q a b (Ok (Done a))
+    tys_to_goal l o e = goal_step IsFormed ta tb (q.meaning).ty p h
+        (alias_registered (items_in r) r.kept.settings r.ambient r.store r.store ta tb p l.1 e o a_context b_context)
+        (alias_goals_relate (items_in r) r.kept.environment r.ambient r.store r.goals ta tb p a_context b_context sa sb e)
+        a answers_left left_sure (agree_left r.kept.settings (items_in r) r.ambient ta tb (inl (l, o)) one_sort)
+        (one_not_first ta tb o) (λ k ha hb. alias_built k r.ambient ta tb p e ha hb)
+      where
+        a_context : InContext r.store ta
+        a_context = term_context r.store ta asked.left_in
+
+        b_context : InContext r.store tb
+        b_context = term_context r.store tb asked.right_in
+
+    -- That too much was met.
+    pub tys_left_open : LeavesOpaque r.kept.settings → IsOpaqueBeside ta tb ⊎ IsOpaqueBeside tb ta → p ≡ ambiguous_predicate →
+        SteppedTys solver_manner r q a b (Ok (Done a))
+    tys_left_open l o e = goal_step IsFormed ta tb (q.meaning).ty p h (of_too_much l e)
+        (subst (λ z. Outcome (items_in r) r.kept.environment (at r.ambient) r.store r.store r.goals
+        (goal_of r.kept.environment z ∷ []) ta tb) (sym e)
+        (ambiguous_relates (items_in r) r.kept.environment r.ambient r.store r.goals ta tb)) a answers_left left_sure
+        (agree_left r.kept.settings (items_in r) r.ambient ta tb (inr (l, o)) one_sort)
+        (one_not_first ta tb (one_alias (one_opaque ta tb o)))
+        (λ k ha hb. subst (IsPredicateOf k) (sym e) (kit k ha hb (one_opaque ta tb o)))
+      where
+        one_alias : IsOpaque ta ⊎ IsOpaque tb → IsAlias ta ⊎ IsAlias tb
+        one_alias (inl d) = inl (opaque_is_alias ta d)
+        one_alias (inr d) = inr (opaque_is_alias tb d)
+
+        kit : (k : Kit) → IsBuiltOf k ta → IsBuiltOf k tb → IsOpaque ta ⊎ IsOpaque tb → HasOpaque k
+        kit k ha hb (inl d) = opaque_in_kit k ta d ha
+        kit k ha hb (inr d) = opaque_in_kit k tb d hb
+
+  -- That an unevaluated constant and another one are one: the right one is the answer.
+  pub consts_to_goal : (a b : ConstKey Key) → AskedConsts solver_manner r a b → IsTerm const_sort ((r.meaning).const_ a) →
+      IsTerm const_sort ((r.meaning).const_ b) → LeavesAliases r.kept.settings →
+      IsAlias ((r.meaning).const_ a) ⊎ IsAlias ((r.meaning).const_ b) →
+      p ≡ alias_relate_predicate Equate ((r.meaning).const_ a) ((r.meaning).const_ b) →
+      SteppedConsts solver_manner r q a b (Ok (Done b))
+  unfolding goal_passes
+  consts_to_goal a b asked sa sb l o e = goal_step IsFormedConst ta tb (q.meaning).const_ p h asks relates b
+      (subst (MayAnswer solver_manner q r.ambient ta) (sym b_stays) (record {
+        related = relates_by r.ambient ta tb (goal_passes p h asks 0) (subst (λ st. Outcome (items_in r) r.kept.environment
+            (at r.ambient) r.store st r.goals (goal_of r.kept.environment p ∷ []) ta tb) (sym h.store) relates);
+      })) (subst (λ z. IsTrue (known z)) (sym b_stays) asked.right_known)
+      (agree_left r.kept.settings (items_in r) r.ambient ta tb (inl (l, o)) one_sort) (one_not_first ta tb o)
+      (λ k ha hb. subst (IsPredicateOf k) (sym e) (ha, (hb, tt)))
+    where
+      ta : Tree
+      ta = (r.meaning).const_ a
+
+      tb : Tree
+      tb = (r.meaning).const_ b
+
+      b_stays : (q.meaning).const_ b ≡ tb
+      b_stays = (h.extends).const_ b asked.right_known
+
+      one_sort : sort_of ta ≡ sort_of tb
+      one_sort = term_sort_of const_var ta sa ∙ sym (term_sort_of const_var tb sb)
+
+      asks : IsRegistered (items_in r) r.kept.settings r.ambient r.store r.store p
+      asks = of_alias Equate ta tb l.1 e o (inl refl) (term_context r.store ta asked.left_in)
+          (term_context r.store tb asked.right_in)
+
+      relates : Outcome (items_in r) r.kept.environment (at r.ambient) r.store r.store r.goals
+          (goal_of r.kept.environment p ∷ []) ta tb
+      relates = subst (λ z. Outcome (items_in r) r.kept.environment (at r.ambient) r.store r.store r.goals
+          (goal_of r.kept.environment z ∷ []) ta tb) (sym e) (alias_goals_relate_consts (items_in r) r.kept.environment
+          r.ambient r.store r.goals ta tb (term_context r.store ta asked.left_in) (term_context r.store tb asked.right_in)
+          sa sb)

@@ -1,6 +1,7 @@
 pub mod Constants
 pub mod OpenedTerms
 pub mod Arguments
+pub mod Items
 pub mod Relatable
 pub mod Fronts
 pub mod Structural
@@ -52,3 +53,6 @@ pub mod EmittingBoth
 pub mod GoalPasses
 pub mod Leaving
 pub mod LeavingSteps
+mod BindingAsked
+mod CombiningTys
+mod Registering

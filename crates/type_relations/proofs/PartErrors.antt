@@ -8,6 +8,7 @@ use Rattle.relation_terms.specs.declared.terms.keys.ExistentialPredicatesKey.{Ex
 use Rattle.relation_terms.specs.Heads.{Sort, existential_sort, head_sort, atom_sort}
 use Rattle.relation_terms.specs.Heads.{Head, pattern_type, range_pattern, or_pattern, fn_ptr, unsafe_binder, dynamic, object}
 use Rattle.relation_terms.specs.Heads.{signature, inputs, existential_trait, existential_projection, value_type, region_sort}
+use Rattle.relation_terms.specs.Heads.{alias, alias_term, trait_ref}
 use Rattle.relation_terms.specs.Heads.{BoundKind, Atom, not_null_pattern, existential_auto, Leaf, atom}
 use Rattle.relation_terms.specs.Trees.{Tree, leaf, node, bind, nil, cons, Assign, apply, known, IsTerm, IsBinder}
 use Rattle.relation_terms.specs.Trees.{count, nth}
@@ -32,7 +33,9 @@ use Rattle.relation_contexts.specs.Errors.{unlike_patterns, SignatureError, unli
 use Rattle.relation_contexts.specs.Errors.{unlike_counts, ExistentialError, unlike_traits, unlike_auto_traits}
 use Rattle.relation_contexts.specs.Errors.{unlike_projections, unlike_arguments, unlike_existentials, ObjectError}
 use Rattle.relation_contexts.specs.Errors.{unlike_numbers, unlike_members, PartError, pattern_error, signature_error}
-use Rattle.relation_contexts.specs.Errors.{existential_error, object_error}
+use Rattle.relation_contexts.specs.Errors.{existential_error, item_error, object_error, ItemError, IsItemHead}
+use Rattle.relation_contexts.specs.Errors.{unlike_alias_types, unlike_alias_terms, unlike_trait_refs, unlike_lists}
+use Rattle.relation_contexts.specs.Errors.{unlike_polarities}
 use Rattle.relation_contexts.specs.Parts.{parts_of, head_of, IsByParts}
 use Rattle.type_relations.proofs.Comparing.{parts_list, list_of}
 use Rattle.relation_contexts.proofs.Erased.{forms_unify_by_parts}
@@ -285,6 +288,20 @@ module _ {Key Id Name : Type 0} (m : Meaning Key Id Name) where
   object_error_apart s k l x y e f g (unlike_members i lx ly n) z =
       n ((objects_apart s k l (m.existential_predicates x) (m.existential_predicates y) f g z).1 i lx ly)
 
+  -- What is related by its parts is neither over the arguments of an item nor a predicate of a trait.
+  item_not_by_parts : (h : Head) (ts : Tree) → IsItemHead h → IsByParts (node h ts) → ⊥
+  item_not_by_parts (alias k d) ts i o = o
+  item_not_by_parts (alias_term k d) ts i o = o
+  item_not_by_parts (trait_ref d) ts i o = o
+  item_not_by_parts h ts i o = i
+
+  not_item : (a b : Tree) (e : TypeError Key Id Name) → IsByParts a → ItemError m a b e → ⊥
+  not_item a b e o (unlike_alias_types c d p q n) = subst IsByParts p o
+  not_item a b e o (unlike_alias_terms c d p q n) = subst IsByParts p o
+  not_item a b e o (unlike_trait_refs c d p q n) = subst IsByParts p o
+  not_item a b e o (unlike_lists {h} {ts} is alike p q n) = item_not_by_parts h ts is (subst IsByParts p o)
+  not_item a b e o (unlike_polarities p q n) = subst IsByParts p o
+
   -- Two that are not of one form are not unified, and so never one.
   pub part_error_not_unified : (s : Assign) (k l : Sort) (a b : Tree) (e : TypeError Key Id Name) → IsByParts a →
       IsByParts b → IsTerm k a → IsTerm l b → PartError m a b e → Unifies s a b → ⊥
@@ -292,6 +309,7 @@ module _ {Key Id Name : Type 0} (m : Meaning Key Id Name) where
       n (terms_unified s k l a b o q f g z)
   part_error_not_unified s k l a b e o q f g (signature_error h) z = signatures_apart s k l a b e f g h z
   part_error_not_unified s k l a b e o q f g (existential_error h) z = existentials_apart s k l a b e o q f g h z
+  part_error_not_unified s k l a b e o q f g (item_error h) z = not_item a b e o h
   part_error_not_unified s k l a b e o q f g (object_error x y p r h) z = object_error_apart s k l x y e
       (subst (IsTerm k) (sym p) f) (subst (IsTerm l) (sym r) g) h (subst₂ (Unifies s) (sym p) (sym r) z)
 
@@ -327,5 +345,10 @@ module _ {Key Id Name : Type 0} (m : Meaning Key Id Name) where
   part_error_known a b e x y (existential_error (unlike_projections c d p r n)) = tt
   part_error_known a b e x y (existential_error (unlike_arguments i p r n)) = tt
   part_error_known a b e x y (existential_error (unlike_existentials i j n)) = tt
+  part_error_known a b e x y (item_error (unlike_alias_types c d p q n)) = tt
+  part_error_known a b e x y (item_error (unlike_alias_terms c d p q n)) = tt
+  part_error_known a b e x y (item_error (unlike_trait_refs c d p q n)) = tt
+  part_error_known a b e x y (item_error (unlike_lists is alike p q n)) = tt
+  part_error_known a b e x y (item_error (unlike_polarities p q n)) = tt
   part_error_known a b e x y (object_error c d p r h) =
       object_error_known c d e (list_known a c p x) (list_known b d r y) h

@@ -311,6 +311,20 @@ module _ {Key Id Name : Type 0} {j j' : Held Key} (held : j' ≡ j) (gs : List (
     lawful = K × KnowsGoals n e gs;
   })) (sym (goals_stay grown gs env.1)) (sym (ap₂ kept_in held (grown.param_env e env.0))) h
 
+  -- And the other way round.
+  pub from_solving : {m n : Meaning Key Id Name} (was now : Store) (L K : Type 0) (v : Variance) (e : ParamEnvKey Key) →
+      Extends m n → KnowsGoals m e gs → (P : State Key Id Name → Type 0) → P (solving j' gs n now K v e) →
+      P (standing (solving j gs m was L v e) n now (K × KnowsGoals n e gs))
+  from_solving {n = n} was now L K v e grown env P h = subst₂ (λ goals kept. P (record {
+    meaning = n;
+    store = now;
+    goals = goals;
+    kept = kept;
+    ambient = v;
+    remembered = [];
+    lawful = K × KnowsGoals n e gs;
+  })) (goals_stay grown gs env.1) (ap₂ kept_in held (grown.param_env e env.0)) h
+
   -- Two roots of a kind were made one.
   pub roots_step : {X : Type 0} (F : Tree → Type 0) (m n : Meaning Key Id Name) (was now : Store) (L K : Type 0) (v : Variance)
       (e : ParamEnvKey Key) (k : VarKind) → k ≢ region_var → (i l : ℕ) (a b : Tree) (tree : X → Tree) (t : X) → n ≡ m →

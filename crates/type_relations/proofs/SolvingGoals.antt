@@ -1,5 +1,7 @@
 -- Registering that of two type variables the one is a subtype of the other, as a step.
-use Rattle.std.proofs.Common.{◌≡◌, ℕ, refl, sym, ap, ap₂, ◌∙◌, subst, subst₂, Bool, false, List, [], ◌∷◌, ◌++◌, All, IsTrue, Ok, Err}
+use Rattle.std.proofs.Common.{◌≡◌, ℕ, refl, sym, ap, ap₂, ◌∙◌, subst, subst₂, Bool, false, List, [], ◌∷◌, ◌++◌, All, IsTrue, Result, Ok, Err}
+use Rattle.std.proofs.lemmas.Bool.{false≢true}
+use Rattle.std.specs.Result.{IsErr}
 use Rattle.std.proofs.lemmas.List.Elements.{All-nil, All-cons, All-head, All-append}
 use Rattle.std.proofs.lemmas.List.{map-append}
 use Rattle.term_enums.specs.declared.Variance.{Variance}
@@ -104,6 +106,11 @@ module _ {Key Id Name : Type 0} {j j' : Held Key} (held : j' ≡ j) (gs hs : Lis
     lawful = λ h. (l, (subst (λ z. IsTrue (known z)) (sym (grown.param_env e env.0)) env.0,
         subst (All (KnowsGoal n)) (sym same) (goals_known grown gs env.1)));
   }
+
+  pub goal_not_made : {A F : Type 0} (t : Tree) (res : Result A F) → IsErr res → KnowsGoals m e gs → hs ≡ gs →
+      RegistersGoal (solving j gs m st L v e) (solving j' hs n now K v e) t res
+  goal_not_made t (Ok x) h env same = absurd (false≢true h)
+  goal_not_made t (Err f) h env same = goal_not_pushed f t env same
 
 -- That of two type variables the one is a subtype of the other was registered.
 module _ {Key Id Name : Type 0} {j j' : Held Key} (held : j' ≡ j) (gs hs : List (KeyedGoal Key (PredicateKey Key)))

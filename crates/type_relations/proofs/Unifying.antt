@@ -374,9 +374,17 @@ exact_as before after a b xs ys same f = record {
   keeps = λ s sol one. f.keeps s sol ((same s).0 one);
 }
 
-pub apart_as : (before : Store) (a b xs ys : Tree) → ((s : Assign) → Unifies s a b ↔ Unifies s xs ys) →
-    NoUnifier before xs ys → NoUnifier before a b
-apart_as before a b xs ys same n s sol one = n s sol ((same s).0 one)
+-- Where unifying terms unifies their parts, and the parts stand in one universe where the whole does, what a fault says of
+-- the parts it says of the terms.
+pub refused_by : {Key Id Name : Type 0} (before after : Store) (a b xs ys : Tree) →
+    ((s : Assign) → Unifies s a b → Unifies s xs ys) →
+    ((u : ℕ) → Leaves (NamesTypesTo u) a → Leaves (NamesTypesTo u) xs) →
+    ((u : ℕ) → Leaves (NamesTypesTo u) b → Leaves (NamesTypesTo u) ys) → (A B : Type 0) (e : RelateFault Key Id Name) →
+    ExactResult {X = A} before after xs ys (Err e) → ExactResult {X = B} before after a b (Err e)
+refused_by before after a b xs ys inside left right A B (Unrelated e) z =
+    ((λ s sol one. z.0 s sol (inside s one)), binds_as before after a b xs ys left right z.1)
+refused_by before after a b xs ys inside left right A B Budget z = fewer_as before after a b xs ys left right z
+refused_by before after a b xs ys inside left right A B Memory z = binds_as before after a b xs ys left right z
 
 -- So is what a result says, where the parts stand in one universe where the whole does.
 module _ (before after : Store) (a b xs ys : Tree) (same : (s : Assign) → Unifies s a b ↔ Unifies s xs ys)
@@ -389,10 +397,7 @@ module _ (before after : Store) (a b xs ys : Tree) (same : (s : Assign) → Unif
 
   pub refused_as : {Key Id Name : Type 0} (A B : Type 0) (e : RelateFault Key Id Name) →
       ExactResult {X = A} before after xs ys (Err e) → ExactResult {X = B} before after a b (Err e)
-  refused_as A B (Unrelated e) z =
-      (apart_as before a b xs ys same z.0, binds_as before after a b xs ys left right z.1)
-  refused_as A B Budget z = fewer_as before after a b xs ys left right z
-  refused_as A B Memory z = binds_as before after a b xs ys left right z
+  refused_as A B e z = refused_by before after a b xs ys (λ s. (same s).0) left right A B e z
 
 pub exact_itself : (st : Store) (a b : Tree) → a ≡ b → Exact st st a b
 exact_itself st a b e = record {

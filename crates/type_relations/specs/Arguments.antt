@@ -3,11 +3,13 @@ use Rattle.std.specs.Prelude.{◌≡◌, ℕ, Option, Some, None, Result}
 use Rattle.std.specs.Result.{IsOkAnd}
 use Rattle.term_enums.specs.declared.Variance.{Variance}
 use Rattle.term_enums.specs.declared.Variance.TheVariants.{Bivariant}
-use Rattle.relation_terms.specs.Heads.{Head, adt, fn_def, arguments, object}
+use Rattle.relation_terms.specs.Heads.{Head, adt, fn_def, alias_term, trait_ref, arguments, object}
 use Rattle.relation_terms.specs.Trees.{Tree, node}
 use Rattle.relation_terms.specs.Meaning.{Meaning}
+use Rattle.relation_terms.specs.Predicates.{alias_term_kind, alias_term_id}
 use Rattle.type_relations.specs.declared.relate.args.ArgVariances.{ArgVariances}
 use Rattle.type_relations.specs.declared.relate.args.ArgVariances.TheVariants.{Invariant, Adt, FnDef}
+use Rattle.type_relations.specs.declared.relate.args.ArgVariances.TheVariants.{AliasTerm, Trait}
 
 -- What is related of a tree: the tree itself, or the form over a list.
 abbrev pub related_tree : Option Head → Tree → Tree
@@ -30,6 +32,8 @@ abbrev pub args_head : {Key Id Name : Type 0} → Meaning Key Id Name → ArgVar
 args_head m Invariant = arguments
 args_head m (Adt d) = adt (m.id d.0)
 args_head m (FnDef d) = fn_def (m.id d.0)
+args_head m (AliasTerm k) = alias_term (alias_term_kind k) (m.id (alias_term_id k))
+args_head m (Trait d) = trait_ref (m.id d.0)
 
 -- The same, to be told what the interner knows.
 abbrev pub head_by : {Key Id Name : Type 0} → ArgVariances Id → Meaning Key Id Name → Head

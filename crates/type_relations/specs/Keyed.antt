@@ -17,12 +17,13 @@ use Rattle.relation_terms.specs.Parts.{part_tree}
 use Rattle.term_enums.specs.Variances.{xform}
 use Rattle.relation_folds.specs.declared.error.RelateFault.{RelateFault}
 use Rattle.relation_contexts.specs.declared.relate.Step.{Step}
-use Rattle.type_relations.specs.Arguments.{AreOverItem}
+use Rattle.type_relations.specs.declared.relate.args.ArgVariances.{ArgVariances}
+use Rattle.type_relations.specs.Arguments.{args_head, AreOverItem}
 use Rattle.relation_contexts.specs.Constraints.{constraint_at, asked_constraints}
-use Rattle.relation_contexts.specs.Lawful.{State, Manners, Asked, Related, RelatedForms, Shown, Stepped, Noted, items_in}
+use Rattle.relation_contexts.specs.Lawful.{State, Manners, Asked, Related, RelatedAs, RelatedForms, Shown, Stepped, Noted, items_in}
 use Rattle.relation_contexts.specs.Making.{Made, over, const_over}
 use Rattle.relation_contexts.specs.Parts.{IsFormed, IsFormedConst, head_of, const_head_of}
-use Rattle.relation_contexts.specs.Relation.{part_at}
+use Rattle.relation_contexts.specs.Relation.{at, plain, part_at}
 use Rattle.type_relations.specs.Alone.{RelatesAlone, StepsAlone}
 
 module _ {Key Id Name : Type 0} where
@@ -150,6 +151,14 @@ module _ {Key Id Name : Type 0} where
       ArgsKey Key → ArgsKey Key → Result (ArgsKey Key) (RelateFault Key Id Name) → Type 0
   RelatedLists M r q h a b result = Related M r q r.ambient (node (h r.meaning) ((r.meaning).args a))
       (node (h r.meaning) ((r.meaning).args b)) (λ k. node (h q.meaning) ((q.meaning).args k)) result
+
+  -- The same of two lists whose arguments stand at these variances, as the forms over them: the second over whichever form
+  -- relating takes for the first's.
+  abbrev pub RelatedOver : Manners → State Key Id Name → State Key Id Name → ArgVariances Id → ArgsKey Key →
+      ArgsKey Key → Result (ArgsKey Key) (RelateFault Key Id Name) → Type 0
+  RelatedOver M r q d a b result = (k : Head) → plain (args_head r.meaning d) ≡ plain k →
+      Related M r q r.ambient (node (args_head r.meaning d) ((r.meaning).args a)) (node k ((r.meaning).args b))
+      (λ x. node (args_head q.meaning d) ((q.meaning).args x)) result
 
   -- A step was taken of two types, or of two constants.
   abbrev pub SteppedTys : Manners → State Key Id Name → State Key Id Name → TyKey Key → TyKey Key →

@@ -10,6 +10,7 @@ pub mod Keyed
 pub mod Relating
 pub mod EqualTerms
 pub mod EqualForms
+pub mod EqualItems
 pub mod Bodies
 pub mod Rounds
 pub mod NumberVars

@@ -6,7 +6,7 @@ ghost use Rattle.relation_terms.specs.Trees.{known, node, count, nth, IsList, li
 ghost use Rattle.relation_terms.specs.Meaning.{Extends, arg_tree};
 ghost use Rattle.term_enums.specs.Variances.{xform};
 ghost use Rattle.relation_contexts.specs.Lawful.{WithMeaning, OnlyMemory};
-ghost use Rattle.type_relations.specs.Keyed.{AreAsMany, AreOver, AskedLists, AskedTys, RelatedLists};
+ghost use Rattle.type_relations.specs.Keyed.{AreAsMany, AreOver, AskedLists, AskedTys, RelatedLists, RelatedOver};
 ghost use Rattle.type_relations.specs.Makers.{TakesLists, GrowsByCall, MakesOverList};
 ghost use Rattle.type_relations.specs.Keyed.{RelatedTys, over_item, part_in};
 ghost use Rattle.type_relations.specs.Arguments.{args_head, head_by, AreOverItem};
@@ -16,12 +16,13 @@ use crate::relate::TypeRelation;
 use crate::relate::reading::{declared_at, note_declared};
 use crate::relate::structural::relate_with_variance;
 use relation_folds::error::RelateResult;
+use relation_terms::predicate::AliasTermKind;
 use relation_terms::terms::{
-    DefId, GenericArg, GenericArgs, Interner, ItemOf, OutOfMemory, Ty, TyKind, Variance,
+    DefId, GenericArg, GenericArgs, Interner, ItemOf, OutOfMemory, TraitId, Ty, TyKind, Variance,
 };
+use std::alloc::AllocError;
 
 // The variances at which arguments are related.
-#[derive(Clone, Copy)]
 pub(crate) enum ArgVariances<D> {
     // Invariance, of all of them.
     Invariant,
@@ -29,7 +30,23 @@ pub(crate) enum ArgVariances<D> {
     Adt(DefId<D>),
     // The same of a function.
     FnDef(DefId<D>),
+    // Those of an alias of this kind: an opaque type's are declared.
+    AliasTerm(AliasTermKind<D>),
+    // Invariance, of a reference to this trait.
+    Trait(TraitId<D>),
 }
+
+impl<D: Copy> Clone for ArgVariances<D> {
+    ghost is_clone = { λ source copy. copy ≡ source };
+
+    ghost is_infallible = { λ _. Unit {0} };
+
+    fn clone(&self) -> Result<Self, AllocError> {
+        Ok(*self)
+    }
+}
+
+impl<D: Copy> Copy for ArgVariances<D> {}
 
 // The number of arguments of a list.
 pub(crate) fn args_count<I: Interner>(cx: &I, args: &GenericArgs<I>) -> usize
@@ -80,6 +97,11 @@ fn variance_of<I: Interner, R: TypeRelation<I>>(
         ArgVariances::Invariant => Variance::Invariant,
         ArgVariances::Adt(def_id) => declared_at(r, def_id, i),
         ArgVariances::FnDef(def_id) => declared_at(r, def_id, i),
+        ArgVariances::AliasTerm(kind) => match kind {
+            AliasTermKind::OpaqueTy { def_id } => declared_at(r, &DefId(def_id.0), i),
+            _ => Variance::Invariant,
+        },
+        ArgVariances::Trait(_) => Variance::Invariant,
     }
 }
 
@@ -103,7 +125,7 @@ fn make_args<I: Interner, R: TypeRelation<I>>(
 }
 
 // Relates the arguments of two lists pair by pair.
-fn relate_args<I: Interner, R: TypeRelation<I>>(
+pub(crate) fn relate_args<I: Interner, R: TypeRelation<I>>(
     r: &mut R,
     variances: &ArgVariances<I::Id>,
     a: &GenericArgs<I>,
@@ -113,7 +135,7 @@ fn relate_args<I: Interner, R: TypeRelation<I>>(
     requires decides { (R.state r.old).ambient ≢ Bivariant }
     requires asked { AskedLists R.manner (R.state r.old) (head_by variances.now) a.now b.now }
     requires as_many { AreAsMany (R.state r.old) a.now b.now }
-    ensures { RelatedLists R.manner (R.state r.old) (R.state r.new) (head_by variances.now) a.now b.now result }
+    ensures { RelatedOver R.manner (R.state r.old) (R.state r.new) variances.now a.now b.now result }
 {
     let n = args_count_of::<I, R>(r, a);
     let mut answers = Vec::new(r.cx().alloc());

@@ -1,5 +1,5 @@
 //! Relations that register goals, and what they register of types over one item, whose arguments were related.
-ghost use Rattle.std.specs.Prelude.{◌≡◌, ◌≢◌, ◌<◌, [], ◌∷◌, All, IsTrue, IfOk, map};
+ghost use Rattle.std.specs.Prelude.{◌≡◌, ◌≢◌, ◌<◌, [], ◌∷◌, All, IsTrue, IsFalse, IfOk, map};
 ghost use Rattle.std.specs.Borrow.{sem, Lends};
 ghost use Rattle.relation_terms.specs.Trees.{known, count, nth};
 ghost use Rattle.relation_terms.specs.Meaning.{arg_tree};
@@ -7,10 +7,12 @@ ghost use Rattle.term_enums.specs.declared.Variance.TheVariants.{Bivariant};
 ghost use Rattle.type_relations.specs.Bivariance.{is_left_open, TellsOpen, TellsEitherOpen, AsksWellFormed};
 ghost use Rattle.term_enums.specs.declared.AliasRelationDirection.TheVariants.{Equate};
 ghost use Rattle.type_relations.specs.Combining.{TysCombine, ConstsCombine, CombinesShallow, TaintsAlone, KeepsKept};
+ghost use Rattle.type_relations.specs.Combining.{AreFormedConsts};
 ghost use Rattle.relation_contexts.specs.ContextCalls.{Grows};
 ghost use Rattle.type_relations.specs.Emitting.{AddsGoals, IsOver, KnowsPredicate, RegistersAlias, RegistersGoal};
 ghost use Rattle.type_relations.specs.Emitting.{goals_in};
 ghost use Rattle.type_relations.specs.Following.{FollowsContext};
+ghost use Rattle.type_relations.specs.Leaving.{LeavesConst};
 ghost use Rattle.relation_contexts.specs.Contexts.{KnowsTy};
 ghost use Rattle.relation_contexts.specs.Goals.{KnowsGoal, goals_of, well_formed_predicate, ambiguous_predicate};
 ghost use Rattle.relation_contexts.specs.Goals.{alias_relate_predicate};
@@ -416,6 +418,25 @@ pub fn super_combine_consts<Infcx: InferCtxtLike, R: PredicateEmittingRelation<I
     combine_shallow(relation, &left, &right)
 }
 
+// Whether two constants with outermost forms are left to a goal.
+fn is_left_const<Infcx: InferCtxtLike, R: PredicateEmittingRelation<Infcx>>(
+    relation: &R,
+    a: &Const<Infcx::Interner>,
+    b: &Const<Infcx::Interner>,
+) -> bool
+    requires lawful { (R.state relation.now).lawful }
+    requires asked { AskedConsts solver_manner (R.state relation.now) a.now b.now }
+    ensures formed { IsTrue result → AreFormedConsts (R.state relation.now).meaning a.now b.now }
+    ensures left { IsTrue result → LeavesConst (R.state relation.now) a.now b.now }
+    ensures not { IsFalse result → AreFormedConsts (R.state relation.now).meaning a.now b.now →
+        LeavesConst (R.state relation.now) a.now b.now → ⊥ }
+{
+    if !are_no_const_vars(relation.infcx(), a, b) {
+        return false;
+    }
+    leaves_const::<Infcx, R>(relation, a, b)
+}
+
 // What comes of two constants that were resolved shallowly.
 fn combine_shallow<Infcx: InferCtxtLike, R: PredicateEmittingRelation<Infcx>>(
     relation: &mut R,
@@ -430,11 +451,9 @@ fn combine_shallow<Infcx: InferCtxtLike, R: PredicateEmittingRelation<Infcx>>(
     ensures stepped { SteppedConsts solver_manner (R.state relation.old) (R.state relation.new) a.now b.now result }
     ensures combines { CombinesShallow (R.state relation.old) (R.state relation.new) a.now b.now result }
 {
-    if are_no_const_vars(relation.infcx(), a, b) {
-        if leaves_const::<Infcx, R>(relation, a, b) {
-            register_const_alias::<Infcx, R>(relation, a, b)?;
-            return Ok(Step::Done(*b));
-        }
+    if is_left_const::<Infcx, R>(relation, a, b) {
+        register_const_alias::<Infcx, R>(relation, a, b)?;
+        return Ok(Step::Done(*b));
     }
     relation.context_grows();
     let aliases = relation.structurally_relate_aliases();

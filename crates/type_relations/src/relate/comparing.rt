@@ -11,6 +11,7 @@ ghost use Rattle.relation_contexts.specs.Parts.{IsFormedConst};
 ghost use Rattle.relation_contexts.specs.Covered.{IsCovered};
 
 mod bodies;
+mod items;
 
 use crate::relate::forms::{
     Form, Outline, has_fixed_parts, is_same_form, is_same_item, outline_of,
@@ -19,6 +20,7 @@ use crate::relate::parts::parts_count_in;
 pub use bodies::{
     compare_existentials, compare_members, compare_objects, compare_parts, compare_signatures,
 };
+pub use items::{compare_alias_terms, compare_trait_refs};
 use relation_folds::error::{ExpectedFound, TypeError, TypeErrorOf};
 use relation_terms::terms::{
     Const, ConstKind, Interner, Pat, PatternKind, Ty, TyKind, UnevaluatedConst, ValTree,

@@ -38,7 +38,9 @@ fn standing_by<X, D, N>(kind: &TyKind<X, D, N>) -> Standing
     match kind {
         TyKind::Error(_) => Standing::Error,
         TyKind::Infer(vid) => match vid {
-            InferTy::TyVar(_) | InferTy::IntVar(_) | InferTy::FloatVar(_) => Standing::Variable,
+            InferTy::TyVar(_) => Standing::Variable,
+            InferTy::IntVar(_) => Standing::Variable,
+            InferTy::FloatVar(_) => Standing::Variable,
             _ => Standing::Other,
         },
         TyKind::Alias(alias) => match &alias.kind {

@@ -13,6 +13,7 @@ ghost use Rattle.type_relations.specs.EqualTerms.{term_same};
 
 mod binder;
 mod forms;
+mod predicates;
 
 use crate::relate::TypeRelation;
 use crate::relate::args::relate_args_invariantly;
@@ -24,7 +25,8 @@ use relation_terms::terms::{
 };
 
 /// What can be related: types, regions, constants, patterns, generic arguments and terms, and lists of arguments;
-/// signatures, predicates of trait objects and lists of these; and binders over what can be related.
+/// signatures, predicates of trait objects and lists of these; trait references, predicates of traits and alias terms;
+/// and binders over what can be related.
 ///
 /// What is related of it is its tree, or of a list a form over its tree, which the ghost member `over` names.
 pub trait Relate<I: Interner>: TypeFoldable<I> + PartialEq + Copy {

@@ -16,7 +16,8 @@ use Rattle.relation_contexts.proofs.Lists.{snoc, list_push}
 use Rattle.relation_contexts.proofs.Passing.{as_err, made_or_not}
 use Rattle.type_relations.proofs.Fronts.{Fronted, fronted_none, fronted_next}
 use Rattle.type_relations.proofs.Looping.{next_asked}
-use Rattle.type_relations.proofs.Arguments.{form_related, form_refused, form_stopped, args_related_head, args_looked_at, args_handed_on, args_normal, args_heads, are_list}
+use Rattle.type_relations.proofs.Arguments.{form_related, form_refused, form_stopped, args_related_head, args_looked_at}
+use Rattle.type_relations.proofs.Arguments.{args_first_order, args_complain, args_heads, are_list}
 use Rattle.relation_contexts.proofs.Answering.{same_items, AreAnswers, answers_none, answers_next, answers_end, may_form, if_ok_both}
 use Rattle.type_relations.proofs.relate.args.relate_args.Goals as goal
 
@@ -74,7 +75,8 @@ relate_with_variance-requires-clause-asked g c =
     c.arg_of-y.ensures.sure k inv.fronted lx ly ex ey w ew ew
 
 pub returns-in_err-answer : goal.returns-in_err-answer
-returns-in_err-answer g c =
+returns-in_err-answer g c j alike =
+    let d = c.args.variances.now in
     let r = g.R.HasState.state c.args.r.now in
     let M = g.R.TypeRelation.manner in
     let q = g.R.HasState.state c.loop-i.r in
@@ -102,17 +104,16 @@ returns-in_err-answer g c =
     ∙ ap (λ z. part_at (items_in r) h i z) ((inv.fronted).passes).ambient in
     let f = c.in_err-answer.field-0.0 in
     let gone = subst (λ v. Related M q p v x y (arg_tree p.meaning) (Err f)) ew c.in_err-answer.ensures.related in
-    subst (λ z. Related M r p r.ambient (node h ts) (node h us)
-    (λ k. node (args_head p.meaning c.args.variances.now) ((p.meaning).args k)) z)
+    subst (λ z. Related M r p r.ambient (node h ts) (node j us)
+    (λ k. node (args_head p.meaning d) ((p.meaning).args k)) z)
     (sym (as_err c.from_residual.result f c.from_residual.ensures.0 c.from_residual.ensures.1))
-    (form_refused M r.ambient h ts us i inv.fronted inv.are_parts as_many
-    (args_looked_at r.meaning c.args.variances.now) x y lx ly ex ey
-    (λ e. args_handed_on r.meaning c.args.variances.now e i x y)
-    (λ ts. args_normal r.meaning c.args.variances.now ts) (arg_tree p.meaning)
-    (λ k. node (args_head p.meaning c.args.variances.now) ((p.meaning).args k)) f gone)
+    (form_refused M r.ambient h j ts us i inv.fronted inv.are_parts (args_looked_at r.meaning d) x y lx ly ex ey
+    (λ s e. args_complain r.meaning s.meaning s.kept.settings (items_in s) s.store r.ambient e ts us i as_many lx d j
+    alike) (arg_tree p.meaning) (λ k. node (args_head p.meaning d) ((p.meaning).args k)) f gone)
 
 pub returns-in_err-push : goal.returns-in_err-push
-returns-in_err-push g c =
+returns-in_err-push g c j alike =
+    let d = c.args.variances.now in
     let r = g.R.HasState.state c.args.r.now in
     let M = g.R.TypeRelation.manner in
     let q = g.R.HasState.state c.loop-i.r in
@@ -142,13 +143,12 @@ returns-in_err-push g c =
     let gone = subst (λ v. Related M q p v x y (arg_tree p.meaning) (Ok n.answer)) ew (n.ensures).related in
     let next = fronted_next h r.ambient i ts us x y inv.fronted lx ly ex ey (arg_tree p.meaning) n.answer inv.are_parts
     gone in
-    subst (λ z. Related M r p r.ambient (node h ts) (node h us)
-    (λ k. node (args_head p.meaning c.args.variances.now) ((p.meaning).args k)) z)
+    subst (λ z. Related M r p r.ambient (node h ts) (node j us)
+    (λ k. node (args_head p.meaning d) ((p.meaning).args k)) z)
     (sym (as_err c.from_residual-in_err-push.result Memory c.from_residual-in_err-push.ensures.0
     c.from_residual-in_err-push.ensures.1))
-    (form_stopped M r.ambient h ts us (suc i) next inv.are_parts as_many
-    (args_looked_at r.meaning c.args.variances.now)
-    (λ k. node (args_head p.meaning c.args.variances.now) ((p.meaning).args k)))
+    (form_stopped M r.ambient h j ts us (suc i) next inv.are_parts (args_looked_at r.meaning d)
+    (λ k. node (args_head p.meaning d) ((p.meaning).args k)))
 
 pub loop-i-preserved : goal.loop-i-preserved
 loop-i-preserved g c =
@@ -201,7 +201,8 @@ loop-i-preserved g c =
     }
 
 pub returns : goal.returns
-returns g c =
+returns g c j alike =
+    let d = c.args.variances.now in
     let r = g.R.HasState.state c.args.r.now in
     let M = g.R.TypeRelation.manner in
     let q = g.R.HasState.state c.loop-i.r in
@@ -224,10 +225,11 @@ returns g c =
     let value : MayAnswer M q r.ambient (node h ts) (node h was) =
     may_form M q h r.ambient ts was (args_related_head r.meaning c.args.variances.now)
     (answers_end M q h r.ambient i ts was (inv.are_parts).left_list all inv.answers) in
-    let done = form_related M r.ambient h ts us i inv.fronted inv.are_parts c.requires.as_many
-    (args_looked_at r.meaning c.args.variances.now) (λ (t : Tree). t) (node h ts)
-    (args_related_head r.meaning c.args.variances.now) all refl k.left_known in
-    made_or_not M r.ambient (node h ts) (node h us) made.extends made.grown tree (λ (t : Tree). t) (node h ts) done
+    let done : Related M r q r.ambient (node h ts) (node j us) (λ (t : Tree). t) (Ok (node h ts)) =
+    form_related M r.ambient h j ts us i inv.fronted inv.are_parts (args_looked_at r.meaning d) (λ (t : Tree). t)
+    (node h ts) alike (args_first_order r.meaning d j alike) (args_related_head r.meaning d) all c.requires.as_many refl
+    k.left_known in
+    made_or_not M r.ambient (node h ts) (node j us) made.extends made.grown tree (λ (t : Tree). t) (node h ts) done
     c.make_args.result made.fault
     (if_ok_both (λ z. IsTrue (known ((p.meaning).args z)))
     (λ z. (p.meaning).args z ≡ list_tree (arg_tree q.meaning) c.as_slice.result.now)

@@ -31,7 +31,7 @@ returns-in_err-args g c =
     let h = args_head m v in
     let f = c.in_err-args.field-0.0 in
     let gone = subst₂ (λ a b. Related M r q r.ambient a b (λ k. node (args_head (q.meaning) v) ((q.meaning).args k)) (Err f))
-    (sym is.0) (sym is.1) c.in_err-args.ensures in
+    (sym is.0) (sym is.1) (c.in_err-args.ensures (args_head (g.R.HasState.state c.args.r.now).meaning c.item_variances-variances.result) refl) in
     subst (Related M r q r.ambient (m.ty c.args.a_ty.now) (m.ty c.args.b_ty.now) (q.meaning).ty)
     (sym (as_err c.from_residual.result f c.from_residual.ensures.0 c.from_residual.ensures.1))
     (refused_again M r.ambient (m.ty c.args.a_ty.now) (m.ty c.args.b_ty.now)
@@ -43,7 +43,7 @@ note_declared-requires-clause-asked g c =
     let q = g.R.HasState.state c.relate_args.new.r in
     let M = g.R.TypeRelation.manner in
     let m = r.meaning in
-    let passes = (c.in_ok-args.ensures).passes in
+    let passes = (c.in_ok-args.ensures (args_head (g.R.HasState.state c.args.r.now).meaning c.item_variances-variances.result) refl).passes in
     let k = c.requires.asked in
     subst₂ (λ t u. Asked M q q.ambient t u) (sym ((passes.extends).ty c.args.a_ty.now k.left_known))
     (sym ((passes.extends).ty c.args.b_ty.now k.right_known))
@@ -53,7 +53,7 @@ note_declared-requires-clause-asked g c =
 pub note_declared-requires-clause-over : goal.note_declared-requires-clause-over
 note_declared-requires-clause-over g c =
     let k = c.requires.asked in
-    over_later (((c.in_ok-args.ensures).passes).extends) c.args.def_id.now.0 c.args.a_ty.now c.args.b_ty.now
+    over_later (((c.in_ok-args.ensures (args_head (g.R.HasState.state c.args.r.now).meaning c.item_variances-variances.result) refl).passes).extends) c.args.def_id.now.0 c.args.a_ty.now c.args.b_ty.now
     c.args.a_args.now c.args.b_args.now k.left_known k.right_known c.requires.over
 
 pub note_declared-requires-clause-related : goal.note_declared-requires-clause-related
@@ -69,7 +69,7 @@ note_declared-requires-clause-related g c =
     let is = c.item_variances-variances.ensures b (m.args c.args.a_args.now) (m.args c.args.b_args.now) c.requires.over in
     let args = c.in_ok-args.args in
     let done = subst₂ (λ a b. Related M r q r.ambient a b (λ k. node (args_head (q.meaning) v) ((q.meaning).args k))
-    (Ok args)) (sym is.0) (sym is.1) c.in_ok-args.ensures in
+    (Ok args)) (sym is.0) (sym is.1) (c.in_ok-args.ensures (args_head (g.R.HasState.state c.args.r.now).meaning c.item_variances-variances.result) refl) in
     let passes = done.passes in
     subst₂ (λ t u. Shown M q q.ambient t u)
     (sym ((passes.extends).ty c.args.a_ty.now k.left_known)) (sym ((passes.extends).ty c.args.b_ty.now k.right_known))
@@ -88,7 +88,7 @@ returns-in_err-note_declared g c =
     (m.args c.args.b_args.now) c.requires.over in
     let args = c.in_ok-args.args in
     let done = subst₂ (λ a b. Related M r q r.ambient a b (λ k. node (args_head (q.meaning) v) ((q.meaning).args k))
-    (Ok args)) (sym is.0) (sym is.1) c.in_ok-args.ensures in
+    (Ok args)) (sym is.0) (sym is.1) (c.in_ok-args.ensures (args_head (g.R.HasState.state c.args.r.now).meaning c.item_variances-variances.result) refl) in
     let n = c.in_err-note_declared in
     let res = c.from_residual-in_err-note_declared in
     subst (Related M r p r.ambient (m.ty c.args.a_ty.now) (m.ty c.args.b_ty.now) (p.meaning).ty)
@@ -103,7 +103,7 @@ returns-in_err-note_declared g c =
 
 pub make_over-requires-clause-callable : goal.make_over-requires-clause-callable
 make_over-requires-clause-callable g c cx list e known =
-    let on = extends_on (extends_on ((c.in_ok-args.ensures).passes).extends ((c.in_ok-note_declared.ensures).passes).extends) e in
+    let on = extends_on (extends_on ((c.in_ok-args.ensures (args_head (g.R.HasState.state c.args.r.now).meaning c.item_variances-variances.result) refl).passes).extends ((c.in_ok-note_declared.ensures).passes).extends) e in
     c.requires.callable cx list on known
 
 pub make_over-requires-clause-makes : goal.make_over-requires-clause-makes
@@ -112,7 +112,7 @@ make_over-requires-clause-makes g c cx list res left e post =
     let p = g.R.HasState.state c.note_declared.new.r in
     let n = g.I.Interner.meaning left.now in
     let us = (g.I.Interner.meaning cx.now).args list in
-    let through = extends_on ((c.in_ok-args.ensures).passes).extends ((c.in_ok-note_declared.ensures).passes).extends in
+    let through = extends_on ((c.in_ok-args.ensures (args_head (g.R.HasState.state c.args.r.now).meaning c.item_variances-variances.result) refl).passes).extends ((c.in_ok-note_declared.ensures).passes).extends in
     let same : (p.meaning).ty c.args.a_ty.now ≡ (r.meaning).ty c.args.a_ty.now = through.ty c.args.a_ty.now (c.requires.asked).left_known in
     subst (λ t. IfOk res (λ k. IsTrue (known (n.ty k)) × (n.ty k ≡ node (head_of t) us))) (sym same)
     (c.requires.makes cx list res left (extends_on through e) post)
@@ -132,7 +132,7 @@ returns g c =
     let is = c.item_variances-variances.ensures b (m.args c.args.a_args.now) (m.args c.args.b_args.now) c.requires.over in
     let args = c.in_ok-args.args in
     let done = subst₂ (λ a b. Related M r q r.ambient a b (λ k. node (args_head (q.meaning) v) ((q.meaning).args k))
-    (Ok args)) (sym is.0) (sym is.1) c.in_ok-args.ensures in
+    (Ok args)) (sym is.0) (sym is.1) (c.in_ok-args.ensures (args_head (g.R.HasState.state c.args.r.now).meaning c.item_variances-variances.result) refl) in
     let n = c.in_ok-note_declared in
     let e = ((n.ensures).passes).extends in
     let answer : ArgsKey g.row.I-Key.Denot → Tree = λ k. node (args_head (p.meaning) v) ((p.meaning).args k) in
@@ -157,3 +157,24 @@ returns g c =
       subst (MayAnswer M p r.ambient a) (sym (means ∙ ap (λ h. node h ((p.meaning).args args)) head)) (noted.verdict).answer,
       sure,
     )) made.sure made.means)
+
+pub note_declared-requires-clause-lawful : goal.note_declared-requires-clause-lawful
+note_declared-requires-clause-lawful g c =
+    let done = c.in_ok-args.ensures (args_head (g.R.HasState.state c.args.r.now).meaning c.item_variances-variances.result) refl in
+    (done.passes).lawful c.requires.lawful
+
+pub note_declared-requires-clause-decides : goal.note_declared-requires-clause-decides
+note_declared-requires-clause-decides g c =
+    let done = c.in_ok-args.ensures (args_head (g.R.HasState.state c.args.r.now).meaning c.item_variances-variances.result) refl in
+    λ e. c.requires.decides (sym (done.passes).ambient ∙ e)
+
+pub make_over-requires-clause-lawful : goal.make_over-requires-clause-lawful
+make_over-requires-clause-lawful g c =
+    let done = c.in_ok-args.ensures (args_head (g.R.HasState.state c.args.r.now).meaning c.item_variances-variances.result) refl in
+    ((c.in_ok-note_declared.ensures).passes).lawful ((done.passes).lawful c.requires.lawful)
+
+pub make_over-requires-clause-args_known : goal.make_over-requires-clause-args_known
+make_over-requires-clause-args_known g c =
+    let done = c.in_ok-args.ensures (args_head (g.R.HasState.state c.args.r.now).meaning c.item_variances-variances.result) refl in
+    let same = (((c.in_ok-note_declared.ensures).passes).extends).args c.in_ok-args.args (done.verdict).known in
+    subst (λ z. IsTrue (known z)) (sym same) (done.verdict).known

@@ -1,28 +1,41 @@
-use Rattle.std.proofs.Common.{rules, ◌≡◌, ◌≢◌, ◌<◌, [], ◌∷◌, All, IsTrue, IfOk, map, ℕ, ◌+◌, ◌-◌, ◌*◌, ◌≤◌, length, ◌/◌, ◌%◌, Bool, true, false, nat_eq, nat_lt, List, ◌++◌, slice_index_or, slice_set, bit_and, bit_or, Fits, w8, w32, w64, Bor, MutBor}
-use Rattle.std.specs.Borrow.{sem, Lends}
-use Rattle.relation_terms.specs.Trees.{known, count, nth}
-use Rattle.relation_terms.specs.Meaning.{arg_tree}
-use Rattle.term_enums.specs.declared.Variance.TheVariants.{Bivariant}
-use Rattle.type_relations.specs.Bivariance.{is_left_open, TellsOpen, TellsEitherOpen, AsksWellFormed}
-use Rattle.term_enums.specs.declared.AliasRelationDirection.TheVariants.{Equate}
-use Rattle.type_relations.specs.Combining.{TysCombine, ConstsCombine, CombinesShallow, TaintsAlone, KeepsKept}
-use Rattle.relation_contexts.specs.ContextCalls.{Grows}
-use Rattle.type_relations.specs.Emitting.{AddsGoals, IsOver, KnowsPredicate, RegistersAlias, RegistersGoal, goals_in}
-use Rattle.type_relations.specs.Following.{FollowsContext}
-use Rattle.relation_contexts.specs.Contexts.{KnowsTy}
-use Rattle.relation_contexts.specs.Goals.{KnowsGoal, goals_of, well_formed_predicate, ambiguous_predicate, alias_relate_predicate}
-use Rattle.type_relations.specs.Keyed.{AreOver, AskedTys, AskedConsts, SteppedConsts, NotedTys}
-use Rattle.relation_contexts.specs.Lawful.{State, RelatesByDeclared, items_of}
-use Rattle.relation_contexts.specs.Resolving.{IsShallow, IsShallowConst}
-use Rattle.type_relations.specs.SolverTerms.{StepsUnlessVars}
-use Rattle.type_relations.specs.Solving.{solver_manner}
-use Rattle.relation_contexts.specs.Stores.{IsTermIn}
+use Rattle.std.proofs.Common.{subst}
+use Rattle.relation_contexts.specs.ContextCalls.{Stands}
+use Rattle.relation_contexts.specs.Steps.{Taints}
+use Rattle.type_relations.proofs.OpeningBoth.{changes_goes}
+use Rattle.type_relations.proofs.OverContext.{stands_grows}
+use Rattle.type_relations.proofs.Registering.{tainted_alone, all_kept}
 use Rattle.type_relations.proofs.relate.combine.taint.Goals as goal
 
--- src/relate/combine.rt:318:1
 pub returns-clause-alone : goal.returns-clause-alone
-returns-clause-alone g c = ?
+returns-clause-alone g c =
+    let x = c.args.relation.now in
+    let r = g.R.HasState.state x in
+    let o = g.met.R.PredicateEmittingRelation.over x in
+    let y = g.R.PredicateEmittingRelation.context x in
+    let s = g.Infcx.InferCtxtLike.state y in
+    let z = c.set_tainted_by_errors.new.self in
+    let d = g.Infcx.InferCtxtLike.state z in
+    let stands = subst (λ z. Stands (g.Infcx.InferCtxtLike.state z) d) c.infcx_mut.ensures.value
+    c.set_tainted_by_errors.ensures.stands in
+    let taints = subst (λ z. Taints (g.Infcx.InferCtxtLike.state z).store d.store) c.infcx_mut.ensures.value
+    c.set_tainted_by_errors.ensures.taints in
+    let w = c.context_grows.ensures z (stands_grows s d stands) (changes_goes s.store d.store taints.nothing_else).later
+    c.requires in
+    tainted_alone o w stands taints
 
--- src/relate/combine.rt:318:1
 pub returns-clause-kept : goal.returns-clause-kept
-returns-clause-kept g c = ?
+returns-clause-kept g c =
+    let x = c.args.relation.now in
+    let r = g.R.HasState.state x in
+    let o = g.met.R.PredicateEmittingRelation.over x in
+    let y = g.R.PredicateEmittingRelation.context x in
+    let s = g.Infcx.InferCtxtLike.state y in
+    let z = c.set_tainted_by_errors.new.self in
+    let d = g.Infcx.InferCtxtLike.state z in
+    let stands = subst (λ z. Stands (g.Infcx.InferCtxtLike.state z) d) c.infcx_mut.ensures.value
+    c.set_tainted_by_errors.ensures.stands in
+    let taints = subst (λ z. Taints (g.Infcx.InferCtxtLike.state z).store d.store) c.infcx_mut.ensures.value
+    c.set_tainted_by_errors.ensures.taints in
+    let w = c.context_grows.ensures z (stands_grows s d stands) (changes_goes s.store d.store taints.nothing_else).later
+    c.requires in
+    all_kept o w

@@ -1,7 +1,6 @@
-use Rattle.std.proofs.Common.{refl, sym, ap, subst, IfSome, true, false, Ok}
+use Rattle.std.proofs.Common.{refl, sym, ap, subst, true, false}
 use Rattle.relation_terms.specs.Heads.{type_var}
 use Rattle.relation_folds.specs.declared.error.RelateFault.TheVariants.{Memory}
-use Rattle.relation_contexts.specs.declared.relate.Step.TheVariants.{Done}
 use Rattle.relation_contexts.specs.Goals.{subtype_predicate, goals_of}
 use Rattle.relation_contexts.specs.Parts.{IsFormed}
 use Rattle.relation_contexts.specs.Lawful.{Stepped}
@@ -10,8 +9,6 @@ use Rattle.type_relations.proofs.Binding.{no_region}
 use Rattle.relation_contexts.proofs.Passing.{as_err}
 use Rattle.type_relations.proofs.Solving.{held_grows, held_stands, roots_step, memory_step}
 use Rattle.type_relations.proofs.SolvingGoals.{covariant_step, contravariant_step}
-use Rattle.type_relations.specs.Alone.{subtype_at, StepRegistersAlone}
-use Rattle.type_relations.proofs.Alone.{refused_alone, pushed_alone}
 use Rattle.type_relations.specs.Stepping.{made_one, left_subtype, right_subtype}
 use Rattle.type_relations.proofs.Stepping.{covariant_directed, contravariant_directed, registered_one, refused_goal}
 use Rattle.type_relations.proofs.relate.solver_relating.relation.SolverRelating.combine_ty_vars.Goals as goal
@@ -110,119 +107,6 @@ returns-in-Invariant-clause-stepped g c =
     ((s.meaning).ty c.args.b.now) (d.meaning).ty c.args.a.now done.stands.meaning
     (c.requires.env_known, c.requires.goals_known) sound done.stands.lawful done.same done.equates c.requires.a_is
     c.requires.b_is (ap (λ z. z.ty c.args.a.now) done.stands.meaning)
-
-pub returns-in_err-predicate-in-Covariant-clause-registers : goal.returns-in_err-predicate-in-Covariant-clause-registers
-returns-in_err-predicate-in-Covariant-clause-registers g c =
-    let r = c.args.self.now in
-    let s = g.Infcx.InferCtxtLike.state r.infcx.now in
-    let d = g.Infcx.InferCtxtLike.state c.subtype_predicate.new.infcx in
-    let a = (s.meaning).ty c.args.a.now in
-    let b = (s.meaning).ty c.args.b.now in
-    let h = c.in_err-predicate-in-Covariant.ensures in
-    subst (λ z. IfSome (subtype_at z a b) (λ p. StepRegistersAlone
-    (solving_through r.structurally_relate_aliases r.infcx.ghost_name r.goals.items s r.ambient_variance r.param_env)
-    (solving_through r.structurally_relate_aliases r.infcx.ghost_name r.goals.items d r.ambient_variance r.param_env) (d.meaning).ty a p
-    c.from_residual.result)) (sym c.in-Covariant.is)
-    (refused_alone (held_grows r.structurally_relate_aliases r.infcx.ghost_name s d h.grows) r.goals.items r.goals.items s.meaning d.meaning s.store d.store s.lawful d.lawful
-    r.ambient_variance r.param_env h.grows.extends (c.requires.env_known, c.requires.goals_known) h.same_store (subtype_predicate true a b)
-    (d.meaning).ty a c.from_residual.result refl (as_err c.from_residual.result Memory c.from_residual.ensures.0
-    c.from_residual.ensures.1))
-
-pub returns-in_err-push-in-Covariant-clause-registers : goal.returns-in_err-push-in-Covariant-clause-registers
-returns-in_err-push-in-Covariant-clause-registers g c =
-    let r = c.args.self.now in
-    let s = g.Infcx.InferCtxtLike.state r.infcx.now in
-    let d = g.Infcx.InferCtxtLike.state c.subtype_predicate.new.infcx in
-    let a = (s.meaning).ty c.args.a.now in
-    let b = (s.meaning).ty c.args.b.now in
-    let h = c.in_ok-predicate-in-Covariant.ensures in
-    subst (λ z. IfSome (subtype_at z a b) (λ p. StepRegistersAlone
-    (solving_through r.structurally_relate_aliases r.infcx.ghost_name r.goals.items s r.ambient_variance r.param_env)
-    (solving_through r.structurally_relate_aliases r.infcx.ghost_name c.push.new.self.items d r.ambient_variance r.param_env) (d.meaning).ty a p
-    c.from_residual-in_err-push-in-Covariant.result)) (sym c.in-Covariant.is)
-    (refused_alone (held_grows r.structurally_relate_aliases r.infcx.ghost_name s d h.grows) r.goals.items c.push.new.self.items s.meaning d.meaning s.store d.store s.lawful d.lawful
-    r.ambient_variance r.param_env h.grows.extends (c.requires.env_known, c.requires.goals_known) h.same_store (subtype_predicate true a b)
-    (d.meaning).ty a c.from_residual-in_err-push-in-Covariant.result c.in_err-push-in-Covariant.ensures.items (as_err c.from_residual-in_err-push-in-Covariant.result Memory c.from_residual-in_err-push-in-Covariant.ensures.0
-    c.from_residual-in_err-push-in-Covariant.ensures.1))
-
-pub returns-in_ok-push-in-Covariant-clause-registers : goal.returns-in_ok-push-in-Covariant-clause-registers
-returns-in_ok-push-in-Covariant-clause-registers g c =
-    let r = c.args.self.now in
-    let s = g.Infcx.InferCtxtLike.state r.infcx.now in
-    let d = g.Infcx.InferCtxtLike.state c.subtype_predicate.new.infcx in
-    let a = (s.meaning).ty c.args.a.now in
-    let b = (s.meaning).ty c.args.b.now in
-    let h = c.in_ok-predicate-in-Covariant.ensures in
-    subst (λ z. IfSome (subtype_at z a b) (λ p. StepRegistersAlone
-    (solving_through r.structurally_relate_aliases r.infcx.ghost_name r.goals.items s r.ambient_variance r.param_env)
-    (solving_through r.structurally_relate_aliases r.infcx.ghost_name c.push.new.self.items d r.ambient_variance r.param_env) (d.meaning).ty a p
-    (Ok (Done c.args.a.now)))) (sym c.in-Covariant.is)
-    (pushed_alone (held_grows r.structurally_relate_aliases r.infcx.ghost_name s d h.grows) r.goals.items c.push.new.self.items s.meaning d.meaning s.store d.store s.lawful d.lawful
-    r.ambient_variance r.param_env h.grows.extends (c.requires.env_known, c.requires.goals_known) h.same_store c.in_ok-predicate-in-Covariant.predicate
-    (subtype_predicate true a b) (d.meaning).ty c.args.a.now a c.in_ok-push-in-Covariant.ensures.items h.made
-    (h.grows.extends.ty c.args.a.now c.requires.a_known))
-
-pub returns-in_err-predicate-in-Contravariant-clause-registers : goal.returns-in_err-predicate-in-Contravariant-clause-registers
-returns-in_err-predicate-in-Contravariant-clause-registers g c =
-    let r = c.args.self.now in
-    let s = g.Infcx.InferCtxtLike.state r.infcx.now in
-    let d = g.Infcx.InferCtxtLike.state c.subtype_predicate-in-Contravariant.new.infcx in
-    let a = (s.meaning).ty c.args.a.now in
-    let b = (s.meaning).ty c.args.b.now in
-    let h = c.in_err-predicate-in-Contravariant.ensures in
-    subst (λ z. IfSome (subtype_at z a b) (λ p. StepRegistersAlone
-    (solving_through r.structurally_relate_aliases r.infcx.ghost_name r.goals.items s r.ambient_variance r.param_env)
-    (solving_through r.structurally_relate_aliases r.infcx.ghost_name r.goals.items d r.ambient_variance r.param_env) (d.meaning).ty a p
-    c.from_residual-in_err-predicate-in-Contravariant.result)) (sym c.in-Contravariant.is)
-    (refused_alone (held_grows r.structurally_relate_aliases r.infcx.ghost_name s d h.grows) r.goals.items r.goals.items s.meaning d.meaning s.store d.store s.lawful d.lawful
-    r.ambient_variance r.param_env h.grows.extends (c.requires.env_known, c.requires.goals_known) h.same_store (subtype_predicate false b a)
-    (d.meaning).ty a c.from_residual-in_err-predicate-in-Contravariant.result refl (as_err c.from_residual-in_err-predicate-in-Contravariant.result Memory c.from_residual-in_err-predicate-in-Contravariant.ensures.0
-    c.from_residual-in_err-predicate-in-Contravariant.ensures.1))
-
-pub returns-in_err-push-in-Contravariant-clause-registers : goal.returns-in_err-push-in-Contravariant-clause-registers
-returns-in_err-push-in-Contravariant-clause-registers g c =
-    let r = c.args.self.now in
-    let s = g.Infcx.InferCtxtLike.state r.infcx.now in
-    let d = g.Infcx.InferCtxtLike.state c.subtype_predicate-in-Contravariant.new.infcx in
-    let a = (s.meaning).ty c.args.a.now in
-    let b = (s.meaning).ty c.args.b.now in
-    let h = c.in_ok-predicate-in-Contravariant.ensures in
-    subst (λ z. IfSome (subtype_at z a b) (λ p. StepRegistersAlone
-    (solving_through r.structurally_relate_aliases r.infcx.ghost_name r.goals.items s r.ambient_variance r.param_env)
-    (solving_through r.structurally_relate_aliases r.infcx.ghost_name c.push-in-Contravariant.new.self.items d r.ambient_variance r.param_env) (d.meaning).ty a p
-    c.from_residual-in_err-push-in-Contravariant.result)) (sym c.in-Contravariant.is)
-    (refused_alone (held_grows r.structurally_relate_aliases r.infcx.ghost_name s d h.grows) r.goals.items c.push-in-Contravariant.new.self.items s.meaning d.meaning s.store d.store s.lawful d.lawful
-    r.ambient_variance r.param_env h.grows.extends (c.requires.env_known, c.requires.goals_known) h.same_store (subtype_predicate false b a)
-    (d.meaning).ty a c.from_residual-in_err-push-in-Contravariant.result c.in_err-push-in-Contravariant.ensures.items (as_err c.from_residual-in_err-push-in-Contravariant.result Memory c.from_residual-in_err-push-in-Contravariant.ensures.0
-    c.from_residual-in_err-push-in-Contravariant.ensures.1))
-
-pub returns-in_ok-push-in-Contravariant-clause-registers : goal.returns-in_ok-push-in-Contravariant-clause-registers
-returns-in_ok-push-in-Contravariant-clause-registers g c =
-    let r = c.args.self.now in
-    let s = g.Infcx.InferCtxtLike.state r.infcx.now in
-    let d = g.Infcx.InferCtxtLike.state c.subtype_predicate-in-Contravariant.new.infcx in
-    let a = (s.meaning).ty c.args.a.now in
-    let b = (s.meaning).ty c.args.b.now in
-    let h = c.in_ok-predicate-in-Contravariant.ensures in
-    subst (λ z. IfSome (subtype_at z a b) (λ p. StepRegistersAlone
-    (solving_through r.structurally_relate_aliases r.infcx.ghost_name r.goals.items s r.ambient_variance r.param_env)
-    (solving_through r.structurally_relate_aliases r.infcx.ghost_name c.push-in-Contravariant.new.self.items d r.ambient_variance r.param_env) (d.meaning).ty a p
-    (Ok (Done c.args.a.now)))) (sym c.in-Contravariant.is)
-    (pushed_alone (held_grows r.structurally_relate_aliases r.infcx.ghost_name s d h.grows) r.goals.items c.push-in-Contravariant.new.self.items s.meaning d.meaning s.store d.store s.lawful d.lawful
-    r.ambient_variance r.param_env h.grows.extends (c.requires.env_known, c.requires.goals_known) h.same_store c.in_ok-predicate-in-Contravariant.predicate
-    (subtype_predicate false b a) (d.meaning).ty c.args.a.now a c.in_ok-push-in-Contravariant.ensures.items h.made
-    (h.grows.extends.ty c.args.a.now c.requires.a_known))
-
-pub returns-in-Invariant-clause-registers : goal.returns-in-Invariant-clause-registers
-returns-in-Invariant-clause-registers g c =
-    let r = c.args.self.now in
-    let s = g.Infcx.InferCtxtLike.state r.infcx.now in
-    let d = g.Infcx.InferCtxtLike.state c.equate_ty_vids_raw.new.self in
-    let a = (s.meaning).ty c.args.a.now in
-    subst (λ z. IfSome (subtype_at z a ((s.meaning).ty c.args.b.now)) (λ p. StepRegistersAlone
-    (solving_through r.structurally_relate_aliases r.infcx.ghost_name r.goals.items s r.ambient_variance r.param_env)
-    (solving_through r.structurally_relate_aliases r.infcx.ghost_name r.goals.items d r.ambient_variance r.param_env) (d.meaning).ty a p
-    (Ok (Done c.args.a.now)))) (sym c.in-Invariant.is) tt
 
 pub returns-in_err-predicate-in-Covariant-clause-combines : goal.returns-in_err-predicate-in-Covariant-clause-combines
 returns-in_err-predicate-in-Covariant-clause-combines g c =

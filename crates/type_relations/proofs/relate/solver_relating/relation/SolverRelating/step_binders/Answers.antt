@@ -76,7 +76,7 @@ returns-in_err-y-clause-opened g c =
     let done = c.in_err-y.ensures in
     let h = done.opens in
     opening_refused r.structurally_relate_aliases r.infcx.ghost_name r.goals.items s d r.ambient_variance r.param_env c.requires.lawful.1
-    (g.met.Infcx.InferCtxtLike.sound r.infcx.now c.requires.lawful.0) done.grows h.0 h.1 h.2 c.args.round
+    (g.met.Infcx.InferCtxtLike.sound r.infcx.now c.requires.lawful.0) done.grows h.0 h.1 h.2 h.3 c.args.round
     (binder_tree g.T.HasTree.tree s.meaning c.args.a.now) (binder_tree g.T.HasTree.tree s.meaning c.args.b.now)
     (g.T.HasTree.tree d.meaning) c.from_residual.result
     (as_err c.from_residual.result Memory c.from_residual.ensures.0 c.from_residual.ensures.1)
@@ -109,7 +109,7 @@ returns-in_err-x-clause-opened g c =
     let h = done.opens in
     let from = c.from_residual-in_err-x in
     opening_refused r.structurally_relate_aliases r.infcx.ghost_name r.goals.items s d r.ambient_variance r.param_env c.requires.lawful.1
-    (g.met.Infcx.InferCtxtLike.sound r.infcx.now c.requires.lawful.0) done.grows h.0 h.1 h.2 c.args.round
+    (g.met.Infcx.InferCtxtLike.sound r.infcx.now c.requires.lawful.0) done.grows h.0 h.1 h.2 h.3 c.args.round
     (binder_tree g.T.HasTree.tree s.meaning c.args.a.now) (binder_tree g.T.HasTree.tree s.meaning c.args.b.now)
     (g.T.HasTree.tree d.meaning) from.result (as_err from.result Memory from.ensures.0 from.ensures.1)
     (under_built ((s.meaning).bound_vars c.args.a.now.bound_vars)

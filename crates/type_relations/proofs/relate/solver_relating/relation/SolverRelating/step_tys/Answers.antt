@@ -1,16 +1,16 @@
 use Rattle.std.proofs.Common.{◌≡◌, refl, sym, ◌∙◌, subst, Ok, IsTrue}
 use Rattle.std.proofs.lemmas.Bool.{false≢true}
 use Rattle.relation_terms.specs.Trees.{known}
-use Rattle.relation_contexts.specs.Errors.{itself}
 use Rattle.relation_contexts.specs.Parts.{IsFormed}
+use Rattle.relation_contexts.specs.Resolving.{formed}
 use Rattle.type_relations.specs.Solving.{solving_through, solver_manner}
 use Rattle.type_relations.proofs.StructuralConsts.{itself_related}
 use Rattle.relation_contexts.proofs.Standing.{term_within}
 use Rattle.type_relations.proofs.Shallowly.{read_step}
-use Rattle.type_relations.proofs.OverContext.{all_taken, parts_step, read_covered}
+use Rattle.type_relations.proofs.OverContext.{all_taken, read_covered}
 use Rattle.type_relations.proofs.Solving.{held_kept, answered_step, one_ty}
-use Rattle.relation_contexts.specs.declared.relate.Step.TheVariants.{Done, Parts}
-use Rattle.type_relations.proofs.Alone.{step_of_one, step_left_none, read_registers}
+use Rattle.relation_contexts.specs.declared.relate.Step.TheVariants.{Done}
+use Rattle.type_relations.proofs.Alone.{step_of_one, steps_alone}
 use Rattle.type_relations.specs.Stepping.{one_type, without_variables, resolved_first}
 use Rattle.type_relations.proofs.Stepping.{leaves_itself}
 use Rattle.type_relations.proofs.relate.solver_relating.relation.SolverRelating.step_tys.Goals as goal
@@ -71,15 +71,62 @@ returns-then-have_no_variable-clause-stepped g c =
     let s = g.Infcx.InferCtxtLike.state r.infcx.now in
     let k = c.requires.asked in
     let none = c.have_no_variable.ensures in
-    let z = solving_through r.structurally_relate_aliases r.infcx.ghost_name r.goals.items s r.ambient_variance r.param_env in
-    parts_step z s.meaning s.store z.lawful z.lawful (λ l. l) IsFormed
-    ((s.meaning).ty c.args.a.now) ((s.meaning).ty c.args.b.now) (s.meaning).ty c.args.a.now c.args.b.now
-    (g.met.Infcx.InferCtxtLike.sound r.infcx.now c.requires.lawful.0) (itself refl) (itself refl) k
-    (none.a_formed c.if-have_no_variable.true k.left_taken.1 (term_within s.store _ k.left_in))
-    (none.b_formed c.if-have_no_variable.true k.right_taken.1 (term_within s.store _ k.right_in))
+    let a_formed = none.a_formed c.if-have_no_variable.true k.left_taken.1 (term_within s.store _ k.left_in) in
+    let b_formed = none.b_formed c.if-have_no_variable.true k.right_taken.1 (term_within s.store _ k.right_in) in
+    c.super_combine_tys.ensures.stepped (λ n e. subst IsFormed e a_formed) (λ n e. subst IsFormed e b_formed)
 
-pub returns-then-eq-clause-registers : goal.returns-then-eq-clause-registers
-returns-then-eq-clause-registers g c =
+pub super_combine_tys-requires-clause-a_shallow : goal.super_combine_tys-requires-clause-a_shallow
+super_combine_tys-requires-clause-a_shallow g c =
+    let st = (g.Infcx.InferCtxtLike.state c.args.self.now.infcx.now).store in
+    let k = c.requires.asked in
+    formed (c.have_no_variable.ensures.a_formed c.if-have_no_variable.true k.left_taken.1 (term_within st _ k.left_in))
+
+pub super_combine_tys-requires-clause-b_shallow : goal.super_combine_tys-requires-clause-b_shallow
+super_combine_tys-requires-clause-b_shallow g c =
+    let st = (g.Infcx.InferCtxtLike.state c.args.self.now.infcx.now).store in
+    let k = c.requires.asked in
+    formed (c.have_no_variable.ensures.b_formed c.if-have_no_variable.true k.right_taken.1 (term_within st _ k.right_in))
+
+pub returns-then-have_no_variable-clause-steps : goal.returns-then-have_no_variable-clause-steps
+returns-then-have_no_variable-clause-steps g c =
+    let r = c.args.self.now in
+    let s = g.Infcx.InferCtxtLike.state r.infcx.now in
+    let cx = g.Infcx.InferCtxtLike.interner r.infcx.now in
+    let of = g.met.Infcx.InferCtxtLike.reads r.infcx.now in
+    let k = c.requires.asked in
+    let a = c.args.a.now in
+    let b = c.args.b.now in
+    let none = c.have_no_variable.ensures in
+    (without_variables (λ e. false≢true (c.if-eq.ensures ∙ (g.met.Infcx.Interner.Interner.same_ty cx a b
+    (subst (λ z. IsTrue (known (z.ty a))) of k.left_known)
+    (subst (λ z. IsTrue (known (z.ty b))) of k.right_known)).1 (subst (λ z. z.ty a ≡ z.ty b) of e)))
+    (none.none c.if-have_no_variable.true) c.super_combine_tys.ensures.combines)
+
+pub returns-then-have_no_variable-clause-alone : goal.returns-then-have_no_variable-clause-alone
+returns-then-have_no_variable-clause-alone g c =
+    let r = c.args.self.now in
+    let s = g.Infcx.InferCtxtLike.state r.infcx.now in
+    let cx = g.Infcx.InferCtxtLike.interner r.infcx.now in
+    let of = g.met.Infcx.InferCtxtLike.reads r.infcx.now in
+    let k = c.requires.asked in
+    let a = c.args.a.now in
+    let b = c.args.b.now in
+    let none = c.have_no_variable.ensures in
+    let a_formed = none.a_formed c.if-have_no_variable.true k.left_taken.1 (term_within s.store _ k.left_in) in
+    let b_formed = none.b_formed c.if-have_no_variable.true k.right_taken.1 (term_within s.store _ k.right_in) in
+    let q = c.super_combine_tys.new.relation in
+    let d = g.Infcx.InferCtxtLike.state q.infcx.now in
+    steps_alone (solving_through r.structurally_relate_aliases r.infcx.ghost_name r.goals.items s r.ambient_variance r.param_env)
+    (solving_through q.structurally_relate_aliases q.infcx.ghost_name q.goals.items d q.ambient_variance q.param_env)
+    solver_manner a b c.super_combine_tys.result
+    (c.super_combine_tys.ensures.stepped (λ n e. subst IsFormed e a_formed) (λ n e. subst IsFormed e b_formed)).passes.extends
+    k.left_known (λ e. (a_formed, b_formed)) (without_variables (λ e. false≢true (c.if-eq.ensures ∙ (g.met.Infcx.Interner.Interner.same_ty cx a b
+    (subst (λ z. IsTrue (known (z.ty a))) of k.left_known)
+    (subst (λ z. IsTrue (known (z.ty b))) of k.right_known)).1 (subst (λ z. z.ty a ≡ z.ty b) of e)))
+    (none.none c.if-have_no_variable.true) c.super_combine_tys.ensures.combines)
+
+pub returns-then-eq-clause-alone : goal.returns-then-eq-clause-alone
+returns-then-eq-clause-alone g c =
     let r = c.args.self.now in
     let s = g.Infcx.InferCtxtLike.state r.infcx.now in
     let cx = g.Infcx.InferCtxtLike.interner r.infcx.now in
@@ -92,29 +139,36 @@ returns-then-eq-clause-registers g c =
     (solving_through r.structurally_relate_aliases r.infcx.ghost_name r.goals.items s r.ambient_variance r.param_env) ((s.meaning).ty c.args.a.now)
     ((s.meaning).ty c.args.b.now) (s.meaning).ty (Ok (Done c.args.a.now)) same
 
-pub returns-then-have_no_variable-clause-registers : goal.returns-then-have_no_variable-clause-registers
-returns-then-have_no_variable-clause-registers g c =
+pub returns-clause-alone : goal.returns-clause-alone
+returns-clause-alone g c =
     let r = c.args.self.now in
     let s = g.Infcx.InferCtxtLike.state r.infcx.now in
-    let none = c.have_no_variable.ensures in
-    step_left_none solver_manner (solving_through r.structurally_relate_aliases r.infcx.ghost_name r.goals.items s r.ambient_variance r.param_env)
-    (solving_through r.structurally_relate_aliases r.infcx.ghost_name r.goals.items s r.ambient_variance r.param_env) ((s.meaning).ty c.args.a.now)
-    ((s.meaning).ty c.args.b.now) (s.meaning).ty (Ok (Parts c.args.a.now c.args.b.now)) (λ h. subst IsFormed h.1
-    (none.a_formed c.if-have_no_variable.true c.requires.asked.left_taken.1
-    (term_within s.store _ c.requires.asked.left_in)))
-
-pub returns-clause-registers : goal.returns-clause-registers
-returns-clause-registers g c =
-    let r = c.args.self.now in
-    let s = g.Infcx.InferCtxtLike.state r.infcx.now in
+    let cx = g.Infcx.InferCtxtLike.interner r.infcx.now in
+    let of = g.met.Infcx.InferCtxtLike.reads r.infcx.now in
+    let k = c.requires.asked in
+    let a = c.args.a.now in
+    let b = c.args.b.now in
+    let left = c.shallow_resolve-left.ensures in
+    let right = c.shallow_resolve-right.ensures in
     let q = c.combine_tys.new.self in
     let d = g.Infcx.InferCtxtLike.state q.infcx.now in
-    read_registers solver_manner (solving_through r.structurally_relate_aliases r.infcx.ghost_name r.goals.items s r.ambient_variance r.param_env)
-    (solving_through q.structurally_relate_aliases q.infcx.ghost_name q.goals.items d q.ambient_variance q.param_env) ((s.meaning).ty c.args.a.now)
-    ((s.meaning).ty c.args.b.now) (d.meaning).ty c.combine_tys.result ((s.meaning).ty c.shallow_resolve-left.result)
-    ((s.meaning).ty c.shallow_resolve-right.result) c.shallow_resolve-left.ensures.reads.reads
-    c.shallow_resolve-right.ensures.reads.reads c.shallow_resolve-left.ensures.shallow
-    c.shallow_resolve-right.ensures.shallow c.combine_tys.ensures.registers
+    let one = c.have_no_variable.ensures.one c.if-have_no_variable.false in
+    steps_alone (solving_through r.structurally_relate_aliases r.infcx.ghost_name r.goals.items s r.ambient_variance r.param_env)
+    (solving_through q.structurally_relate_aliases q.infcx.ghost_name q.goals.items d q.ambient_variance q.param_env)
+    solver_manner a b c.combine_tys.result c.combine_tys.ensures.stepped.passes.extends k.left_known
+    (λ e. absurd (false≢true (sym e ∙ one))) (resolved_first c.shallow_resolve-left.result c.shallow_resolve-right.result
+    (λ e. false≢true (c.if-eq.ensures ∙ (g.met.Infcx.Interner.Interner.same_ty cx a b
+    (subst (λ z. IsTrue (known (z.ty a))) of k.left_known)
+    (subst (λ z. IsTrue (known (z.ty b))) of k.right_known)).1 (subst (λ z. z.ty a ≡ z.ty b) of e)))
+    (c.have_no_variable.ensures.one c.if-have_no_variable.false)
+    (record {
+      reads = record { sure = left.reads.sure; reads = left.reads.reads; resolves = left.reads.resolves };
+      shallow = left.shallow;
+    })
+    (record {
+      reads = record { sure = right.reads.sure; reads = right.reads.reads; resolves = right.reads.resolves };
+      shallow = right.shallow;
+    }) c.combine_tys.ensures.combines)
 
 pub returns-then-eq-clause-steps : goal.returns-then-eq-clause-steps
 returns-then-eq-clause-steps g c =
@@ -127,20 +181,6 @@ returns-then-eq-clause-steps g c =
     let b = c.args.b.now in
     one_type (one_ty of a b (λ h i. (g.met.Infcx.Interner.Interner.same_ty cx a b h i).0 (sym c.if-eq.ensures))
     k.left_known k.right_known) (leaves_itself (solving_through r.structurally_relate_aliases r.infcx.ghost_name r.goals.items s r.ambient_variance r.param_env)) refl
-
-pub returns-then-have_no_variable-clause-steps : goal.returns-then-have_no_variable-clause-steps
-returns-then-have_no_variable-clause-steps g c =
-    let r = c.args.self.now in
-    let s = g.Infcx.InferCtxtLike.state r.infcx.now in
-    let cx = g.Infcx.InferCtxtLike.interner r.infcx.now in
-    let of = g.met.Infcx.InferCtxtLike.reads r.infcx.now in
-    let k = c.requires.asked in
-    let a = c.args.a.now in
-    let b = c.args.b.now in
-    without_variables (λ e. false≢true (c.if-eq.ensures ∙ (g.met.Infcx.Interner.Interner.same_ty cx a b
-    (subst (λ z. IsTrue (known (z.ty a))) of k.left_known)
-    (subst (λ z. IsTrue (known (z.ty b))) of k.right_known)).1 (subst (λ z. z.ty a ≡ z.ty b) of e)))
-    (c.have_no_variable.ensures.none c.if-have_no_variable.true) (leaves_itself (solving_through r.structurally_relate_aliases r.infcx.ghost_name r.goals.items s r.ambient_variance r.param_env)) refl
 
 pub returns-clause-steps : goal.returns-clause-steps
 returns-clause-steps g c =
