@@ -1,14 +1,14 @@
 -- Terms that relating has rules for: their parts, and what they are not.
 use Rattle.std.proofs.Common.{◌⊎◌, ℕ, zero, suc, ◌<◌, sym, subst, arith, inl, inr}
-use Rattle.relation_terms.specs.Heads.{unevaluated, expression, value, value_branch, type_error, const_error}
-use Rattle.relation_terms.specs.Heads.{Head, alias, opaque_alias, variable, atom}
+use Rattle.relation_terms.specs.Heads.{unevaluated, expression, value, value_branch}
+use Rattle.relation_terms.specs.Heads.{Head, alias, opaque_alias, variable}
 use Rattle.term_enums.specs.declared.Variance.{Variance}
 use Rattle.relation_terms.specs.Meaning.{Meaning}
 use Rattle.relation_folds.specs.declared.error.TypeError.{TypeError}
 use Rattle.relation_contexts.specs.Stores.{Store}
 use Rattle.relation_terms.specs.Trees.{Tree, leaf, node, bind, nil, cons, count, nth}
 use Rattle.relation_contexts.specs.Covered.{IsCovered}
-use Rattle.relation_contexts.specs.Relation.{Items, IsError, IsAlias}
+use Rattle.relation_contexts.specs.Relation.{Items, IsAlias}
 use Rattle.relation_contexts.specs.Settings.{Settings}
 use Rattle.relation_contexts.specs.Errors.{Meeting, as_pair, as_forms, ErrorByForms, ErrorAs, by_forms}
 use Rattle.relation_contexts.specs.Errors.{AreOfOneForm, over_parts, over_aliases, one_leaf, parameters}

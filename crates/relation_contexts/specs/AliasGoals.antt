@@ -1,5 +1,5 @@
 -- The goals that relating an alias registers, and what they and errors come to.
-use Rattle.std.specs.Prelude.{◌≡◌, ◌⊎◌, ℕ, List, [], ◌∷◌, Bool, IsTrue, IsFalse, Option, Some, None}
+use Rattle.std.specs.Prelude.{◌≡◌, ◌⊎◌, ℕ, List, [], ◌∷◌, Bool, IsFalse, Option, Some, None}
 use Rattle.term_enums.specs.declared.Variance.{Variance}
 use Rattle.term_enums.specs.declared.Variance.TheVariants.{Covariant, Contravariant, Invariant, Bivariant}
 use Rattle.term_enums.specs.declared.AliasRelationDirection.TheVariants.{Equate, Subtype}
