@@ -190,36 +190,36 @@ aliases_agree set c v a b f g (inl p) = agree_anything set c v _ _ p
 aliases_agree set c v a b f g (inr i) = no_alias a b f g i
 
 mutual
-  agree : {set : Settings} {c : Items} {w : Interpretation} {e : Tree} {v : Variance} {a b : Tree} → Rel c w e (at v) a b → IsRegionTerm a → IsRegionTerm b → Agree set c (at v) (erase a) (erase b)
-  agree {set = set} {c = c} {v = v} (same p) f g = agree_same set c v _ _ (ap erase p)
-  agree {set = set} {c = c} {v = v} (anything p) f g = agree_anything set c v _ _ p
-  agree {a = a} (error_left h _) f g = absurd (no_error a h f)
-  agree {b = b} (error_right h _) f g = absurd (no_error b h g)
-  agree {set = set} {c = c} {v = v} {a = a} {b = b} (regions p q _) f g = agree_same set c v _ _ (erase_region a p ∙ sym (erase_region b q))
-  agree {set = set} {c = c} {w = w} {e = e} {v = v} {a = a} {b = b} (alias_types _ _ r) f g = aliases_agree set c v a b f g (rule_alias w e v a b r)
-  agree {a = a} {b = b} (equal_consts _ _ r) f g = no_alias a b f g r.1
-  agree {set = set} {c = c} {v = v} (atoms {x = x} {y = y} p) f g = agree_same set c v _ _ (ap (λ z. leaf (atom z)) (sym (erase_plain x) ∙ ap erase_atom p ∙ erase_plain y))
-  agree {set = set} {c = c} {v = v} (forms {h = h} {k = k} {xs = xs} {ys = ys} i p r) f g = forms_agree set c h k v (erase xs) (erase ys) p (sym (term_plain h f.0) ∙ p ∙ term_plain k g.0) (agree_parts r f.1 g.1)
-  agree (covariant_binders _ r) f g = inr (agree_second r f.0 g.0 f.1 g.1)
-  agree (contravariant_binders _ r) f g = inr (agree_first r f.0 g.0 f.1 g.1)
-  agree (invariant_binders _ r _) f g = inr (agree_second r f.0 g.0 f.1 g.1)
+  agree : (set : Settings) {c : Items} {w : Interpretation} {e : Tree} {v : Variance} {a b : Tree} → Rel c w e (at v) a b → IsRegionTerm a → IsRegionTerm b → Agree set c (at v) (erase a) (erase b)
+  agree set {c = c} {v = v} (same p) f g = agree_same set c v _ _ (ap erase p)
+  agree set {c = c} {v = v} (anything p) f g = agree_anything set c v _ _ p
+  agree set {a = a} (error_left h _) f g = absurd (no_error a h f)
+  agree set {b = b} (error_right h _) f g = absurd (no_error b h g)
+  agree set {c = c} {v = v} {a = a} {b = b} (regions p q _) f g = agree_same set c v _ _ (erase_region a p ∙ sym (erase_region b q))
+  agree set {c = c} {w = w} {e = e} {v = v} {a = a} {b = b} (alias_types _ _ r) f g = aliases_agree set c v a b f g (rule_alias w e v a b r)
+  agree set {a = a} {b = b} (equal_consts _ _ r) f g = no_alias a b f g r.1
+  agree set {c = c} {v = v} (atoms {x = x} {y = y} p) f g = agree_same set c v _ _ (ap (λ z. leaf (atom z)) (sym (erase_plain x) ∙ ap erase_atom p ∙ erase_plain y))
+  agree set {c = c} {v = v} (forms {h = h} {k = k} {xs = xs} {ys = ys} i p r) f g = forms_agree set c h k v (erase xs) (erase ys) p (sym (term_plain h f.0) ∙ p ∙ term_plain k g.0) (agree_parts set r f.1 g.1)
+  agree set (covariant_binders _ r) f g = inr (agree_second set r f.0 g.0 f.1 g.1)
+  agree set (contravariant_binders _ r) f g = inr (agree_first set r f.0 g.0 f.1 g.1)
+  agree set (invariant_binders _ r _) f g = inr (agree_second set r f.0 g.0 f.1 g.1)
 
-  agree_parts : {set : Settings} {c : Items} {w : Interpretation} {e : Tree} {h : Head} {i : ℕ} {v : Variance} {xs ys : Tree} → Rel c w e (parts h i v) xs ys → IsRegionTerm xs → IsRegionTerm ys → Agree set c (parts h i v) (erase xs) (erase ys)
-  agree_parts no_parts f g = refl
-  agree_parts (next_part r rs) f g = (agree r f.0 g.0, agree_parts rs f.1 g.1)
+  agree_parts : (set : Settings) {c : Items} {w : Interpretation} {e : Tree} {h : Head} {i : ℕ} {v : Variance} {xs ys : Tree} → Rel c w e (parts h i v) xs ys → IsRegionTerm xs → IsRegionTerm ys → Agree set c (parts h i v) (erase xs) (erase ys)
+  agree_parts set no_parts f g = refl
+  agree_parts set (next_part r rs) f g = (agree set r f.0 g.0, agree_parts set rs f.1 g.1)
 
-  agree_second : {set : Settings} {c : Items} {w : Interpretation} {e : Tree} {ks ls : List BoundKind} {v : Variance} {a b : Tree} → Rel c w e (second_opened ks ls v) a b → BindsRegions ks → BindsRegions ls → IsRegionTerm a → IsRegionTerm b → Agree set c (at v) (erase a) (erase b)
-  agree_second {set = set} {c = c} {ks = ks} {ls = ls} {v = v} {a = a} {b = b} (open_second ts ps fit fresh r) h k f g =
+  agree_second : (set : Settings) {c : Items} {w : Interpretation} {e : Tree} {ks ls : List BoundKind} {v : Variance} {a b : Tree} → Rel c w e (second_opened ks ls v) a b → BindsRegions ks → BindsRegions ls → IsRegionTerm a → IsRegionTerm b → Agree set c (at v) (erase a) (erase b)
+  agree_second set {c = c} {ks = ks} {ls = ls} {v = v} {a = a} {b = b} (open_second ts ps fit fresh r) h k f g =
       subst₂ (Agree set c (at v)) (erase-inst ts 0 a (values_are_regions ks ts h fit) f) (erase-inst ps 0 b (placeholders_are_regions ls ps a b k fresh) g)
-      (agree r (inst_region ts 0 a (values_are_regions ks ts h fit) f) (inst_region ps 0 b (placeholders_are_regions ls ps a b k fresh) g))
+      (agree set r (inst_region ts 0 a (values_are_regions ks ts h fit) f) (inst_region ps 0 b (placeholders_are_regions ls ps a b k fresh) g))
 
-  agree_first : {set : Settings} {c : Items} {w : Interpretation} {e : Tree} {ks ls : List BoundKind} {v : Variance} {a b : Tree} → Rel c w e (first_opened ks ls v) a b → BindsRegions ks → BindsRegions ls → IsRegionTerm a → IsRegionTerm b → Agree set c (at v) (erase a) (erase b)
-  agree_first {set = set} {c = c} {ks = ks} {ls = ls} {v = v} {a = a} {b = b} (open_first ps ts fresh fit r) h k f g =
+  agree_first : (set : Settings) {c : Items} {w : Interpretation} {e : Tree} {ks ls : List BoundKind} {v : Variance} {a b : Tree} → Rel c w e (first_opened ks ls v) a b → BindsRegions ks → BindsRegions ls → IsRegionTerm a → IsRegionTerm b → Agree set c (at v) (erase a) (erase b)
+  agree_first set {c = c} {ks = ks} {ls = ls} {v = v} {a = a} {b = b} (open_first ps ts fresh fit r) h k f g =
       subst₂ (Agree set c (at v)) (erase-inst ps 0 a (placeholders_are_regions ks ps a b h fresh) f) (erase-inst ts 0 b (values_are_regions ls ts k fit) g)
-      (agree r (inst_region ps 0 a (placeholders_are_regions ks ps a b h fresh) f) (inst_region ts 0 b (values_are_regions ls ts k fit) g))
+      (agree set r (inst_region ps 0 a (placeholders_are_regions ks ps a b h fresh) f) (inst_region ts 0 b (values_are_regions ls ts k fit) g))
 
 pub related_terms_agree : RelatedTermsAgree
-related_terms_agree set c w e v a b f g r = agree {set = set} r f g
+related_terms_agree set c w e v a b f g r = agree set r f g
 
 -- The largest universe of a placeholder in a tree.
 top_leaf : Leaf → ℕ
@@ -513,4 +513,4 @@ mutual
 
 pub related_iff_agree : RelatedIffAgree
 related_iff_agree set c w e v s a b all ta tb ra rb = let x = shaped (one (term_of s)) a ta in let y = shaped (one (term_of s)) b tb in
-    (λ r. agree {set = set} r ra rb, back set (size a) c w e v a b (omega arith) all x.0 y.0 x.1 y.1 ra rb)
+    (λ r. agree set r ra rb, back set (size a) c w e v a b (omega arith) all x.0 y.0 x.1 y.1 ra rb)
