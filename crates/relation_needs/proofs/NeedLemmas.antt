@@ -243,7 +243,8 @@ module _ (items names parts : List ℕ) where
   term_enough ts ns e (term.Int w) = tt
   term_enough ts ns e (term.Uint w) = tt
   term_enough ts ns e (term.Float w) = tt
-  term_enough ts ns e (term.Item s d p) = item_enough _ s (slice_get items d) _ (list_enough ts ns e no_needs _)
+  term_enough ts ns e (term.Item s d p) =
+      item_enough (parts_need parts ns p) s (slice_get items d) _ (list_enough ts ns e no_needs _)
   term_enough ts ns e (term.Slice t) = (e t, tt)
   term_enough ts ns e (term.Array t c) = two_enough (need_at ns t) (need_at ns c) (at ts t) (at ts c) (e t) (e c)
   term_enough ts ns e (term.Tuple p) = list_enough ts ns e no_needs _

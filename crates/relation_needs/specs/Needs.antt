@@ -1,5 +1,5 @@
 -- What a context has to have for a term to be its own.
-use Rattle.std.specs.Prelude.{ℕ, ◌≤◌, max, true, List, [], ◌∷◌, ◌++◌, Option, Some, None}
+use Rattle.std.specs.Prelude.{ℕ, ◌≤◌, max, true, ◌&&◌, List, [], ◌∷◌, ◌++◌, Option, Some, None}
 use Rattle.std.specs.Prelude.{slice_get, slice_range, length, ◌==◌, vec_len}
 use Rattle.relation_terms.specs.Heads.{VarKind, Leaf, variable, bound, placeholder, atom, unknown, type_var, int_var, float_var}
 use Rattle.relation_terms.specs.Heads.{const_var, region_var}

@@ -148,6 +148,7 @@ fn term_need(numbers: &[usize], before: &[Needs], term: Term) -> Needs
         Term::Pat(base, pat) => both(need_at(before, base), need_at(before, pat)),
         Term::Range(start, end) => both(need_at(before, start), need_at(before, end)),
         Term::Or(parts) => parts_need(numbers, before, parts),
+        Term::TyError | Term::ConstError => NONE,
         Term::TyBound(..) | Term::RegionBound(..) | Term::ConstBound(..) => NONE,
         Term::IsAuto(..) => NONE,
         Term::FnPtr(_, _, types) => parts_need(numbers, before, types),
