@@ -34,29 +34,37 @@ pub type RelateGoals<I> = RelateResult<I, Vec<GoalOf<I>>>;
 pub trait RelateExt: InferCtxtLike {
     /// Relates two types, or two others that can be related, at a variance, and answers the goals under which they are
     /// related: regions, constants, patterns, signatures, predicates of trait objects and lists of these, generic
-    /// arguments, terms of projections, lists of arguments, pair by pair and each invariantly, or binders over what is
-    /// no list.
+    /// arguments, terms of projections, lists of arguments, pair by pair and each invariantly, trait references,
+    /// predicates of traits, aliases and alias terms, or binders over what is no list.
     ///
     /// Both and the environment are the interner's, and the variables in them are the context's. They are related at
     /// each variance but `Bivariant`; two lists have as many arguments, and each binder binds what stands in its body
-    /// as what its list says it is. Not related yet are terms in which an alias stands, an unevaluated constant or an
-    /// error; a stand-in stands in none.
+    /// as what its list says it is. A stand-in stands in none.
+    ///
+    /// With the next solver, what an alias or an unevaluated constant comes to is left to it: a goal asks that it and
+    /// the other term are one, or of types at `Covariant` and `Contravariant` in order. A variable that would be bound
+    /// to what has an alias in which it stands itself, or a placeholder that it can't name, is bound to that with a new
+    /// variable in the alias's place, and a goal asks of that one and the alias. With the old solver aliases are
+    /// related by their items and arguments, but in coherence an opaque type beside any other but a variable answers
+    /// the goal `Ambiguous`. An error is related with each term of its sort, and taints the context.
     ///
     /// After `Ok`, each assignment that satisfies what is recorded and makes the goals true relates the two; and each
     /// that satisfied what was recorded and made them one extends to such a one. Each goal asks, in the environment,
     /// that of two type variables the one is a subtype of the other: such as met at `Covariant` or `Contravariant`,
     /// each unbound before or made on the way; or that a type is well formed, one with a bivariant part: of types over
-    /// one item that met there, where a variable, but of regions, was left in a bivariant argument of either. At
-    /// `Invariant` there is no goal. Equal ones record nothing, and ask for no goal. Of first-order terms in a
-    /// first-order record at `Invariant` just those solutions up to erasure stay that unify them: what is recorded is
-    /// then a most general unifier.
+    /// one item that met there, where a variable, but of regions, was left in a bivariant argument of either; or what
+    /// is said above of aliases. Equal ones record nothing, and ask for no goal. Of first-order terms in a first-order
+    /// record at `Invariant` just those solutions up to erasure stay that unify them, and no goal is asked: what is
+    /// recorded is then a most general unifier.
     ///
-    /// What clashes is refused at each variance: after `Ok` the two are of one form throughout, down to variables,
-    /// which agree with each term of their sort; so do regions with regions, and under binders what these bind.
+    /// What clashes is refused at each variance: after `Ok` the two are of one form throughout, down to pairs that are
+    /// left to goals, and variables and errors, which agree with each term of their sort; so do regions with regions,
+    /// and under binders what these bind.
     ///
     /// Two different types that are unresolved type variables answer just one goal, and nothing is recorded: at
     /// `Covariant` that the first is a subtype of the second, at `Contravariant` that the second is one of the first.
-    /// Both stand there by their roots, and the first is the expected one.
+    /// Both stand there by their roots, and the first is the expected one. So does an alias with another type, where
+    /// aliases are left to goals, and neither is an error or a type variable, at each variance: that goal alone.
     ///
     /// Answers `Unrelated` only where no assignment that satisfied what was recorded makes the two one: with the error
     /// of the two, or of two parts that stand at one place, the left side's first; or of a variable that can't be bound
