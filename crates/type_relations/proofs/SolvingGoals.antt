@@ -103,8 +103,13 @@ module _ {Key Id Name : Type 0} {j j' : Held Key} (held : j' ≡ j) (gs hs : Lis
     kept = ap₂ kept_in held (grown.param_env e env.0);
     ambient = refl;
     remembered = refl;
-    lawful = λ h. (l, (subst (λ z. IsTrue (known z)) (sym (grown.param_env e env.0)) env.0,
-        subst (All (KnowsGoal n)) (sym same) (goals_known grown gs env.1)));
+    lawful = λ h. (
+      l,
+      (
+        subst (λ z. IsTrue (known z)) (sym (grown.param_env e env.0)) env.0,
+        subst (All (KnowsGoal n)) (sym same) (goals_known grown gs env.1),
+      ),
+    );
   }
 
   pub goal_not_made : {A F : Type 0} (t : Tree) (res : Result A F) → IsErr res → KnowsGoals m e gs → hs ≡ gs →

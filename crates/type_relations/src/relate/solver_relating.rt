@@ -297,8 +297,7 @@ fn relate_as<Infcx: InferCtxtLike, T: Relate<Infcx::Interner>>(
     ensures agrees { RelatesAgreeing Infcx.state infcx.old infcx.new T.over T.tree aliases variance lhs rhs result }
     ensures spent { IfSpent result ((Infcx.state infcx.new).store.budget ≡ 0) }
     ensures same { AreOne (Infcx.state infcx.old) T.over T.tree lhs rhs → Idle Infcx.state infcx.old infcx.new result }
-    ensures alone {
-        AnswersAsked Infcx.state infcx.old infcx.new T.over T.tree aliases param_env variance lhs rhs result }
+    ensures alone { AnswersAsked Infcx.state infcx.old infcx.new T.over T.tree aliases param_env variance lhs rhs result }
     ensures goals { AnswersOnly Infcx.state infcx.old infcx.new aliases param_env variance result }
     ensures exact { AnswersExactly Infcx.state infcx.old infcx.new T.over T.tree variance lhs rhs result }
     ensures no_unifier { ProvesApart Infcx.state infcx.old infcx.new T.over T.tree variance lhs rhs result }

@@ -52,7 +52,7 @@ register_one-requires-clause-known g c =
     ≡ alias_relate_predicate Equate (m.const_ c.args.a.now) (m.const_ c.args.b.now)) (sym o.meaning)
     (subst (λ z. let m = (g.Infcx.InferCtxtLike.state z).meaning in (d.meaning).predicate c.in_ok-predicate.predicate
     ≡ alias_relate_predicate Equate (m.const_ c.args.a.now) (m.const_ c.args.b.now)) c.infcx_mut-infcx.ensures.value
-    c.in_ok-predicate.ensures.made)) 
+    c.in_ok-predicate.ensures.made))
     (alias_relate_known Equate ((r.meaning).const_ c.args.a.now) ((r.meaning).const_ c.args.b.now) c.requires.a_known
     c.requires.b_known)
 
