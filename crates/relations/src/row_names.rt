@@ -1,6 +1,6 @@
 //! Which names rows have.
 ghost use Rattle.std.specs.Prelude.{◌↔◌, IsTrue};
-ghost use Rattle.relations.specs.Named.{IsHighRow, IsLowRow, IsMiddleRow, IsRow, IsUpperRow};
+ghost use Rattle.relations.specs.Named.{IsHighRow, IsLowRow, IsMiddleRow, IsRow, IsTopRow, IsUpperRow};
 
 // Whether a row below r17 has that name.
 fn is_low_row(name: &str) -> bool
@@ -44,7 +44,7 @@ fn is_middle_row(name: &str) -> bool
         || name == "r31"
 }
 
-// Whether a row from r32 on, but below r54, has that name.
+// Whether a row from r32 on, but below r42, has that name.
 fn is_upper_row(name: &str) -> bool
     ensures { IsTrue result ↔ IsUpperRow name.now }
 {
@@ -58,7 +58,13 @@ fn is_upper_row(name: &str) -> bool
         || name == "r39"
         || name == "r40"
         || name == "r41"
-        || name == "r42"
+}
+
+// Whether a row from r42 on, but below r54, has that name.
+fn is_high_row(name: &str) -> bool
+    ensures { IsTrue result ↔ IsHighRow name.now }
+{
+    name == "r42"
         || name == "r43"
         || name == "r44"
         || name == "r45"
@@ -70,8 +76,8 @@ fn is_upper_row(name: &str) -> bool
 }
 
 // Whether a row from r54 on has that name.
-fn is_high_row(name: &str) -> bool
-    ensures { IsTrue result ↔ IsHighRow name.now }
+fn is_top_row(name: &str) -> bool
+    ensures { IsTrue result ↔ IsTopRow name.now }
 {
     name == "r54"
         || name == "r55"
@@ -93,5 +99,9 @@ fn is_high_row(name: &str) -> bool
 pub fn is_row(name: &str) -> bool
     ensures { IsTrue result ↔ IsRow name.now }
 {
-    is_low_row(name) || is_middle_row(name) || is_upper_row(name) || is_high_row(name)
+    is_low_row(name)
+        || is_middle_row(name)
+        || is_upper_row(name)
+        || is_high_row(name)
+        || is_top_row(name)
 }
