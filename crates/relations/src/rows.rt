@@ -9,8 +9,8 @@ pub struct Row {
     pub stored: &'static str,
 }
 
-/// The rows, in the order of their numbers.
-pub const ROWS: [Row; 63] = [
+/// The rows to r34, in the order of their numbers. A function that names all rows at once is too much for one proof.
+pub const EARLY_ROWS: [Row; 33] = [
     Row {
         name: "r01",
         questions: "may unify[rigid, rigid] bool, char at 0; may unify[rigid, rigid] bool, char at 1;",
@@ -197,6 +197,10 @@ pub const ROWS: [Row; 63] = [
             *const u8 <: *mut u8;",
         stored: "ok; regions=['a: 'c, 'b == 'd] | err Mutability",
     },
+];
+
+/// The rows from r35 on.
+pub const LATE_ROWS: [Row; 30] = [
     Row {
         name: "r35",
         questions: "struct K<-T>; param 'a, 'b;

@@ -4,7 +4,7 @@ ghost use Rattle.relations.specs.Named.{IsRow};
 
 use crate::calls::call;
 use crate::row_names::is_row;
-use crate::rows::{ROWS, Row};
+use crate::rows::{EARLY_ROWS, LATE_ROWS, Row};
 use relation_asking::ask_all;
 use std::alloc::Global;
 use std::io;
@@ -96,6 +96,59 @@ pub fn print<O: io::Write, E: io::Write>(
     }
 }
 
+// Prints the rows of a name, or all of these, and says whether all answers are the stored ones.
+fn print_those<O: io::Write, E: io::Write>(
+    alloc: Global,
+    rows: &[Row],
+    name: Option<&str>,
+    out: &mut O,
+    err: &mut E,
+) -> io::Result<bool> {
+    let mut stored = true;
+    for row in rows {
+        let asked = match name {
+            None => true,
+            Some(name) => row.name == name,
+        };
+        if asked && !print(alloc, row, out, err)? {
+            stored = false;
+        }
+    }
+    Ok(stored)
+}
+
+// Of the early rows.
+fn print_early<O: io::Write, E: io::Write>(
+    alloc: Global,
+    name: Option<&str>,
+    out: &mut O,
+    err: &mut E,
+) -> io::Result<bool> {
+    print_those(alloc, &EARLY_ROWS, name, out, err)
+}
+
+// Of the late rows.
+fn print_late<O: io::Write, E: io::Write>(
+    alloc: Global,
+    name: Option<&str>,
+    out: &mut O,
+    err: &mut E,
+) -> io::Result<bool> {
+    print_those(alloc, &LATE_ROWS, name, out, err)
+}
+
+// Of all rows.
+fn print_all<O: io::Write, E: io::Write>(
+    alloc: Global,
+    name: Option<&str>,
+    out: &mut O,
+    err: &mut E,
+) -> io::Result<bool> {
+    let early = print_early(alloc, name, out, err)?;
+    let late = print_late(alloc, name, out, err)?;
+    Ok(early && late)
+}
+
 // Prints the row of a name, or all. The status is 1 if an answer is not the stored one, a row's text is wrong, or a
 // write failed: then `err` is told why, and no more is written.
 fn print_rows<O: io::Write, E: io::Write>(
@@ -106,25 +159,14 @@ fn print_rows<O: io::Write, E: io::Write>(
 ) -> u8
     ensures { result ≤ 1 }
 {
-    let mut status = 0;
-    for row in &ROWS {
-        let asked = match name {
-            None => true,
-            Some(name) => row.name == name,
-        };
-        if !asked {
-            continue;
-        }
-        match print(alloc, row, out, err) {
-            Ok(true) => {}
-            Ok(false) => status = 1,
-            Err(error) => {
-                let _ = writeln!(err, "standard output: {error}");
-                return 1;
-            }
+    match print_all(alloc, name, out, err) {
+        Ok(true) => 0,
+        Ok(false) => 1,
+        Err(error) => {
+            let _ = writeln!(err, "standard output: {error}");
+            1
         }
     }
-    status
 }
 
 /// Runs one row or all, and answers the status: 2 where the words name no row, 1 where an answer is not the stored

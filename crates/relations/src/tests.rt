@@ -1,5 +1,5 @@
 //! What a run prints and answers, and what several calls on one context leave.
-use crate::rows::{ROWS, Row};
+use crate::rows::{EARLY_ROWS, LATE_ROWS, Row};
 use crate::running::{answers, print, run};
 use reference_interner::{NodeKey, RefInterner};
 use relation_folds::error::{OutOfMemory, RelateFault, RelateFaultOf, TypeError, TypeErrorOf};
@@ -182,14 +182,24 @@ fn a_failed_write_is_status_1(rt: HostRuntime) -> Result<(), Fail> {
     Ok(())
 }
 
-#[test]
-fn each_row_is_answered_as_stored(rt: HostRuntime) -> Result<(), Fail> {
-    for row in &ROWS {
+// Asks rows.
+fn answer_all(rt: HostRuntime, rows: &[Row]) -> Result<(), Fail> {
+    for row in rows {
         let answered = answers(rt.alloc(), row);
         assert!(rt; answered.is_ok(), "{}: {:?}", row.name, answered.err());
         assert_eq!(rt; answered?.as_str(), row.stored, "{}", row.name);
     }
     Ok(())
+}
+
+#[test]
+fn early_rows_are_answered_as_stored(rt: HostRuntime) -> Result<(), Fail> {
+    answer_all(rt, &EARLY_ROWS)
+}
+
+#[test]
+fn late_rows_are_answered_as_stored(rt: HostRuntime) -> Result<(), Fail> {
+    answer_all(rt, &LATE_ROWS)
 }
 
 // Questions, and their answers.
