@@ -8,7 +8,8 @@ use Rattle.relation_terms.specs.Erasure.{erase, erase_leaf, erase_atom, kept_par
 use Rattle.relation_contexts.specs.Relation.{Items, Interpretation, parts, second_opened, first_opened, Rel, at, same, anything, error_left, error_right, regions, alias_types, equal_consts, atoms, forms, no_parts, next_part, covariant_binders, contravariant_binders, invariant_binders, open_second, open_first, part_at, plain, plain_atom, sort_of, IsError, IsErrorAtom, IsAlias, IsAliasHead, IsRelatedHead, AliasRule, IsValueLeaf, FitKinds, Fresh, RegionRule, all_outlive}
 use Rattle.relation_contexts.specs.FirstOrder.{IsFirstOrderAtom}
 use Rattle.relation_contexts.specs.Stores.{IsNamable}
-use Rattle.relation_laws.specs.RegionTerms.{IsRegionTermHead, IsRegionTermLeaf, BindsRegions, IsRegionTerm, RelatedTermsAgree, RelatedIffAgree}
+use Rattle.relation_contexts.specs.Asking.{BindsRegions}
+use Rattle.relation_laws.specs.RegionTerms.{IsRegionTermHead, IsRegionTermLeaf, IsRegionTerm, RelatedTermsAgree, RelatedIffAgree}
 use Rattle.relation_contexts.specs.Agreeing.{IsFlexible, AreFlexible, IsLeftAside, Agree}
 use Rattle.relation_contexts.specs.Settings.{Settings}
 use Rattle.relation_contexts.specs.Errors.{outer_leaf, AreAlike, IsLeftToGoal}
