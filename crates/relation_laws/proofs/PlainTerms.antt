@@ -49,7 +49,7 @@ suits_rest : (k : Settings) (t ts : Tree) → Suits k (cons t ts) → Suits k ts
 suits_rest k t ts (inl a) = inl a.1
 suits_rest k t ts (inr b) = inr (b.0.1, b.1)
 
-suits_body : (k : Settings) (ks : List BoundKind) (t : Tree) → Suits k (bind ks t) → HasNoAlias t
+pub suits_body : (k : Settings) (ks : List BoundKind) (t : Tree) → Suits k (bind ks t) → HasNoAlias t
 suits_body k ks t (inl a) = a
 suits_body k ks t (inr b) = absurd b.0
 
