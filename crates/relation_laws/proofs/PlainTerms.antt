@@ -135,7 +135,7 @@ atom_kept (type_param i m) n = refl
 atom_kept (const_param i m) n = refl
 atom_kept x n = refl
 
-outer_kept : (l : Leaf) → leaf_sort l ≢ region_sort → outer_leaf (erase_leaf l) ≡ outer_leaf l
+pub outer_kept : (l : Leaf) → leaf_sort l ≢ region_sort → outer_leaf (erase_leaf l) ≡ outer_leaf l
 outer_kept (variable region_var m) n = absurd (n refl)
 outer_kept (variable k m) n = refl
 outer_kept (bound (bound_kind k m) d i) n = ap outer_leaf (kind_kept k _ n)

@@ -20,6 +20,7 @@ use Rattle.relation_contexts.proofs.Agreeing.{agree_anything, agree_same}
 use Rattle.relation_laws.specs.Decided.{plain_leaf}
 use Rattle.relation_contexts.proofs.Erased.{erase_region, erase_plain, no_error_atom}
 use Rattle.relation_contexts.proofs.Related.{no_region_head}
+use Rattle.relation_laws.proofs.PlainTerms.{erased_error}
 use Rattle.relation_laws.proofs.SmallTerms.{term_region}
 use Rattle.relation_contexts.proofs.Values.{fresh_later, some_placeholders, some_are_placeholders}
 
@@ -40,19 +41,19 @@ related_head environment f = absurd f
 related_head h f = tt
 
 -- A term, and no list.
-abbrev IsNode : Tree → Type 0
+abbrev pub IsNode : Tree → Type 0
 IsNode nil = ⊥
 IsNode (cons t ts) = ⊥
 IsNode t = Unit {0}
 
 -- The type of a value is one.
-abbrev HasOneType : Head → Tree → Type 0
+abbrev pub HasOneType : Head → Tree → Type 0
 HasOneType value_type (cons t nil) = Unit {0}
 HasOneType value_type ts = ⊥
 HasOneType h ts = Unit {0}
 
 -- The parts of a form are a list of terms, and a binder's body is a term.
-abbrev IsShaped : Tree → Type 0
+abbrev pub IsShaped : Tree → Type 0
 IsShaped (leaf l) = Unit {0}
 IsShaped (node h ts) = IsList ts × HasOneType h ts × IsShaped ts
 IsShaped (bind ks t) = IsNode t × IsShaped t
@@ -73,11 +74,11 @@ head_row slice = (_, _, refl)
 head_row h = (_, _, refl)
 
 -- What a tree of a shape is.
-abbrev Shaped : Shape → Tree → Type 0
+abbrev pub Shaped : Shape → Tree → Type 0
 Shaped (one p) t = IsNode t × IsShaped t
 Shaped (row ps o) t = IsList t × IsShaped t
 
-shaped : (x : Shape) (t : Tree) → Fits x t → Shaped x t
+pub shaped : (x : Shape) (t : Tree) → Fits x t → Shaped x t
 shaped (one (term_of s)) (leaf l) f = (tt, tt)
 shaped (one (term_of s)) (node h ts) f = let q = head_row h in let z = subst (λ x. Shaped x ts) q.2 (shaped (head_parts h) ts f.1) in (tt, (z.0, fits_one_type h ts f.1, z.1))
 shaped (one (binder_of s)) (bind ks t) f = (tt, shaped (one (term_of s)) t f)
@@ -301,13 +302,13 @@ inst_shaped ts d (bind ks t) h r s = (inst_term ts (suc d) t h r.1 s.0, inst_sha
 inst_shaped ts d nil h r s = tt
 inst_shaped ts d (cons t u) h r s = (inst_term ts d t h r.0 s.0, inst_shaped ts d t h r.0 s.1, inst_shaped ts d u h r.1 s.2)
 
-all_rule : (w : Interpretation) (v : Variance) (a b : Tree) → w.outlives ≡ None → RegionRule w v a b
+pub all_rule : (w : Interpretation) (v : Variance) (a b : Tree) → w.outlives ≡ None → RegionRule w v a b
 all_rule w Covariant a b p = all_outlive p
 all_rule w Contravariant a b p = all_outlive p
 all_rule w Invariant a b p = (all_outlive p, all_outlive p)
 all_rule w Bivariant a b p = tt
 
-region_or : (k : Sort) → (k ≡ region_sort) ⊎ (k ≡ region_sort → ⊥)
+pub region_or : (k : Sort) → (k ≡ region_sort) ⊎ (k ≡ region_sort → ⊥)
 region_or region_sort = inl refl
 region_or k = inr (λ p. cc)
 
@@ -410,12 +411,6 @@ mixed k a b f g (inl p) n = set_aside k a b f g p
 mixed k a b f g (inr x) n = absurd (n x)
 
 -- What is open of an erased term without variables is a region.
-erased_error : (x : Atom) → IsErrorAtom (erase_atom x) → IsErrorAtom x
-erased_error (early_region i n) e = e
-erased_error (type_param i n) e = e
-erased_error (const_param i n) e = e
-erased_error x e = e
-
 erased_open_atom : (x : Atom) → IsFirstOrderAtom x → IsErrorAtom (erase_atom x) ⊎ (atom_sort (erase_atom x) ≡ region_sort) → atom_sort x ≡ region_sort
 erased_open_atom x r (inl e) = absurd (no_error_atom x (erased_error x e) r)
 erased_open_atom x r (inr s) = sym (atom_erased x) ∙ s
