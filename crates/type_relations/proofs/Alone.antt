@@ -27,7 +27,8 @@ use Rattle.relation_contexts.specs.Settings.{LeavesAliases}
 use Rattle.relation_contexts.proofs.AliasSteps.{reads_once}
 use Rattle.relation_contexts.proofs.OneParts.{sort_is}
 use Rattle.type_relations.specs.Alone.{AsksAlone, of_variables, of_alias, ReadsAtOnce, RegistersAlone, StepRegistersAlone}
-use Rattle.type_relations.specs.Alone.{RelatesAlone, StepsAlone, subtype_at}
+use Rattle.type_relations.specs.Alone.{RelatesAlone, StepsAlone}
+use Rattle.type_relations.specs.Emitting.{subtype_at}
 use Rattle.type_relations.specs.Combining.{IsTyVar, IsNoTyVar, RegistersOne, RegistersNone, TysCombine}
 use Rattle.type_relations.specs.Combining.{left_error, right_error, left_to_goal, left_open, not_registered, not_left}
 use Rattle.type_relations.specs.Stepping.{CombinesTyVars, made_one, left_subtype, right_subtype, goal_refused}

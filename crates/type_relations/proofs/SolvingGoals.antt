@@ -1,11 +1,12 @@
 -- Registering that of two type variables the one is a subtype of the other, as a step.
-use Rattle.std.proofs.Common.{◌≡◌, ℕ, refl, sym, ap, ap₂, ◌∙◌, subst, subst₂, Bool, false, List, [], ◌∷◌, ◌++◌, All, IsTrue, Result, Ok, Err}
+use Rattle.std.proofs.Common.{◌≡◌, ℕ, refl, sym, ap, ap₂, ◌∙◌, subst, subst₂, Bool, true, false, Some, List, [], ◌∷◌, ◌++◌, All, IsTrue, Result, Ok, Err}
 use Rattle.std.proofs.lemmas.Bool.{false≢true}
+use Rattle.std.proofs.lemmas.Option.{same_Some}
 use Rattle.std.specs.Result.{IsErr}
 use Rattle.std.proofs.lemmas.List.Elements.{All-nil, All-cons, All-head, All-append}
 use Rattle.std.proofs.lemmas.List.{map-append}
 use Rattle.term_enums.specs.declared.Variance.{Variance}
-use Rattle.term_enums.specs.declared.Variance.TheVariants.{Covariant, Contravariant}
+use Rattle.term_enums.specs.declared.Variance.TheVariants.{Covariant, Contravariant, Invariant, Bivariant}
 use Rattle.relation_terms.specs.declared.terms.goal.Goal.{Goal as KeyedGoal}
 use Rattle.relation_terms.specs.declared.terms.keys.ParamEnvKey.{ParamEnvKey}
 use Rattle.relation_terms.specs.declared.terms.keys.PredicateKey.{PredicateKey}
@@ -20,7 +21,7 @@ use Rattle.relation_contexts.specs.Stores.{Store}
 use Rattle.relation_contexts.specs.Goals.{Goal, goal_of, goals_of, KnowsGoal, subtype_predicate, IsOpen, IsDirected, IsRegistered, of_variables, Holds, MakesOneTree}
 use Rattle.relation_contexts.specs.Lawful.{Stepped, Passes, MayAnswer, RegisteredIn, items_of}
 use Rattle.relation_contexts.specs.Settings.{Settings}
-use Rattle.type_relations.specs.Emitting.{RegistersGoal}
+use Rattle.type_relations.specs.Emitting.{RegistersGoal, subtype_at}
 use Rattle.type_relations.specs.Solving.{KnowsGoals, Held, kept_in, solver_settings, solving, solver_manner}
 use Rattle.relation_contexts.proofs.Answering.{may_itself}
 use Rattle.relation_contexts.proofs.Going.{goes_nowhere, later_itself}
@@ -202,3 +203,23 @@ module _ {Key Id Name : Type 0} {j j' : Held Key} (held : j' ≡ j) (gs hs : Lis
       (subst₂ (λ f g. Rel c w d (at Contravariant) (apply s f) (apply s g)) (sym a_is) (sym b_is) (turned r)))
       (λ s q. sym (ap (apply s) b_is) ∙ sym q ∙ ap (apply s) a_is)
       (λ set c. agree_root set c v type_var i a b a_is (ap sort_of b_is)))
+
+-- At either variance by what is asked of the two.
+module _ {Key Id Name : Type 0} {j j' : Held Key} (held : j' ≡ j) (gs hs : List (KeyedGoal Key (PredicateKey Key)))
+    (m n : Meaning Key Id Name) (st now : Store) (L K : Type 0) (v : Variance) (e : ParamEnvKey Key) (grown : Extends m n) (env : KnowsGoals m e gs) (l : K)
+    (stays : now ≡ st) (p : PredicateKey Key) (pushed : hs ≡ gs ++ record { param_env = e; predicate = p } ∷ [])
+    (i k : ℕ) (a b : Tree) (a_is : a ≡ leaf (variable type_var i)) (b_is : b ≡ leaf (variable type_var k))
+    (i_open : IsOpen st st i) (k_open : IsOpen st st k) where
+  pub directed_step : {X : Type 0} (F : Tree → Type 0) (tree : X → Tree) (t : X) → IsDirected v →
+      subtype_at v a b ≡ Some (n.predicate p) → tree t ≡ a → IsTrue (known a) →
+      Stepped solver_manner F (solving j gs m st L v e) (solving j' hs n now K v e) a b tree (Ok (Done t))
+  directed_step F tree t directed asks answer sure = go v refl directed asks
+    where
+      go : (w : Variance) → v ≡ w → IsDirected w → subtype_at w a b ≡ Some (n.predicate p) →
+          Stepped solver_manner F (solving j gs m st L v e) (solving j' hs n now K v e) a b tree (Ok (Done t))
+      go Covariant is d s = covariant_step held gs hs m n st now L K v e grown env l stays p true pushed i k a b a_is b_is
+          i_open k_open F tree t is (sym (same_Some (subtype_predicate true a b) (n.predicate p) s)) answer sure
+      go Contravariant is d s = contravariant_step held gs hs m n st now L K v e grown env l stays p false pushed i k a b
+          a_is b_is i_open k_open F tree t is (sym (same_Some (subtype_predicate false b a) (n.predicate p) s)) answer sure
+      go Invariant is d s = absurd d
+      go Bivariant is d s = absurd d

@@ -1,7 +1,8 @@
 -- The cases of each step of the relation of a context.
-use Rattle.std.proofs.Common.{◌≡◌, ◌≢◌, ℕ, refl, sym, ap, ap₂, ◌∙◌, List, [], ◌∷◌, ◌++◌}
+use Rattle.std.proofs.Common.{◌≡◌, ◌≢◌, true, false, ℕ, refl, sym, ap, ap₂, ◌∙◌, List, [], ◌∷◌, ◌++◌}
 use Rattle.std.proofs.Common.{Option, Some, None, Result, Ok, Err, OnErr}
 use Rattle.std.proofs.lemmas.List.{map-append}
+use Rattle.std.proofs.lemmas.Option.{same_Some}
 use Rattle.term_enums.specs.declared.Variance.{Variance}
 use Rattle.term_enums.specs.declared.Variance.TheVariants.{Covariant, Contravariant, Invariant}
 use Rattle.term_enums.specs.declared.Variance.TheVariants.{Bivariant}
@@ -16,25 +17,29 @@ use Rattle.relation_terms.specs.Meaning.{Extends, under}
 use Rattle.relation_folds.specs.declared.error.RelateFault.{RelateFault}
 use Rattle.relation_folds.specs.declared.error.RelateFault.TheVariants.{Memory}
 use Rattle.relation_contexts.specs.declared.relate.Step.{Step}
+use Rattle.relation_contexts.specs.declared.relate.Step.TheVariants.{Done}
 use Rattle.relation_contexts.specs.declared.relate.StructurallyRelateAliases.{StructurallyRelateAliases}
 use Rattle.relation_contexts.specs.Binders.{OpensFrom}
 use Rattle.relation_contexts.specs.Contexts.{Context}
 use Rattle.relation_contexts.specs.ContextCalls.{Constrains}
-use Rattle.relation_contexts.specs.Goals.{goal_of, goals_of}
+use Rattle.relation_contexts.specs.Goals.{goal_of, goals_of, subtype_predicate, IsDirected}
 use Rattle.relation_contexts.specs.Lawful.{State}
 use Rattle.relation_contexts.specs.Stores.{Constraint}
 use Rattle.relation_contexts.proofs.Registered.{goals_stay}
 use Rattle.type_relations.specs.Combining.{RegistersOne, RegistersNone, seen}
-use Rattle.type_relations.specs.Emitting.{AddsAsked}
+use Rattle.type_relations.specs.Emitting.{AddsAsked, subtype_at}
 use Rattle.type_relations.specs.Solving.{KnowsGoals, solving_through}
-use Rattle.type_relations.specs.Stepping.{LeavesAll, CombinesTyVars, goal_refused, StepsRegions}
+use Rattle.type_relations.specs.Stepping.{LeavesAll, CombinesTyVars, goal_refused, left_subtype, right_subtype, StepsRegions}
 use Rattle.type_relations.specs.Stepping.{left_outlives, right_outlives, both_outlive}
 
-pub covariant_directed : {v : Variance} → v ≡ Covariant → v ≢ Invariant
-covariant_directed e h = let z : Covariant ≡ Invariant = sym e ∙ h in cc
-
-pub contravariant_directed : {v : Variance} → v ≡ Contravariant → v ≢ Invariant
-contravariant_directed e h = let z : Contravariant ≡ Invariant = sym e ∙ h in cc
+pub directed_decides : {v : Variance} → v ≢ Invariant → v ≢ Bivariant → IsDirected v
+directed_decides {v} h g = go v refl
+  where
+    go : (w : Variance) → v ≡ w → IsDirected w
+    go Covariant is = tt
+    go Contravariant is = tt
+    go Invariant is = absurd (h is)
+    go Bivariant is = absurd (g is)
 
 -- Where a growth was refused nothing was recorded of regions.
 pub constrained_refused : {Key Id Name A F : Type 0} (c d : Context Key Id Name) (q : Constraint) (r : Result A F) →
@@ -85,6 +90,23 @@ module _ {Key Id Name : Type 0} (aliases : StructurallyRelateAliases) (j : ℕ)
           store = stays;
           goals = ap (goals_of d.meaning) same ∙ goals_stay grown gs env.1;
         }) is
+
+    -- What is asked of two type variables was.
+    pub subtype_registered : (p : PredicateKey Key) (a b : TyKey Key) (res : Result (Step (TyKey Key)) (RelateFault Key Id Name)) →
+        IsDirected v → hs ≡ gs ++ record { param_env = e; predicate = p } ∷ [] →
+        subtype_at v ((c.meaning).ty a) ((c.meaning).ty b) ≡ Some ((d.meaning).predicate p) → res ≡ Ok (Done a) →
+        CombinesTyVars before after a b res
+    subtype_registered p a b res directed pushed asks is = go v refl directed asks
+      where
+        go : (w : Variance) → v ≡ w → IsDirected w →
+            subtype_at w ((c.meaning).ty a) ((c.meaning).ty b) ≡ Some ((d.meaning).predicate p) →
+            CombinesTyVars before after a b res
+        go Covariant w_is k s = left_subtype w_is (registered_one p
+            (subtype_predicate true ((c.meaning).ty a) ((c.meaning).ty b)) pushed (sym (same_Some _ _ s))) is
+        go Contravariant w_is k s = right_subtype w_is (registered_one p
+            (subtype_predicate false ((c.meaning).ty b) ((c.meaning).ty a)) pushed (sym (same_Some _ _ s))) is
+        go Invariant w_is k s = absurd k
+        go Bivariant w_is k s = absurd k
 
   -- Regions were related by what was recorded of them.
   pub regions_step : (a b : RegionKey Key) → v ≢ Bivariant → AddsAsked c d v a b → StepsRegions before after a b (Ok a)

@@ -1,99 +1,92 @@
-use Rattle.std.proofs.Common.{refl, sym, ap, subst, true, false}
+use Rattle.std.proofs.Common.{refl, sym, ap, subst}
 use Rattle.relation_terms.specs.Heads.{type_var}
 use Rattle.relation_folds.specs.declared.error.RelateFault.TheVariants.{Memory}
-use Rattle.relation_contexts.specs.Goals.{subtype_predicate, goals_of}
+use Rattle.relation_contexts.specs.Goals.{goals_of}
 use Rattle.relation_contexts.specs.Parts.{IsFormed}
 use Rattle.relation_contexts.specs.Lawful.{Stepped}
 use Rattle.type_relations.specs.Solving.{solving_through, solver_manner}
 use Rattle.type_relations.proofs.Binding.{no_region}
 use Rattle.relation_contexts.proofs.Passing.{as_err}
 use Rattle.type_relations.proofs.Solving.{held_grows, held_stands, roots_step, memory_step}
-use Rattle.type_relations.proofs.SolvingGoals.{covariant_step, contravariant_step}
-use Rattle.type_relations.specs.Stepping.{made_one, left_subtype, right_subtype}
-use Rattle.type_relations.proofs.Stepping.{covariant_directed, contravariant_directed, registered_one, refused_goal}
+use Rattle.type_relations.proofs.SolvingGoals.{directed_step}
+use Rattle.type_relations.specs.Stepping.{made_one}
+use Rattle.type_relations.proofs.Stepping.{directed_decides, subtype_registered, refused_goal}
 use Rattle.type_relations.proofs.relate.solver_relating.relation.SolverRelating.combine_ty_vars.Goals as goal
 
-pub returns-in_err-predicate-in-Covariant-clause-stepped : goal.returns-in_err-predicate-in-Covariant-clause-stepped
-returns-in_err-predicate-in-Covariant-clause-stepped g c =
+pub returns-in_err-predicate-clause-stepped : goal.returns-in_err-predicate-clause-stepped
+returns-in_err-predicate-clause-stepped g c =
     let r = c.args.self.now in
     let s = g.Infcx.InferCtxtLike.state r.infcx.now in
-    let d = g.Infcx.InferCtxtLike.state c.subtype_predicate.new.infcx in
-    let h = c.in_err-predicate-in-Covariant.ensures in
+    let d = g.Infcx.InferCtxtLike.state c.subtype_asked.new.infcx in
+    let h = c.in_err-predicate.ensures in
     memory_step (held_grows r.structurally_relate_aliases r.infcx.ghost_name s d h.grows) r.goals.items IsFormed s.meaning d.meaning s.store d.store s.lawful d.lawful
     r.ambient_variance r.param_env ((s.meaning).ty c.args.a.now) ((s.meaning).ty c.args.b.now) (d.meaning).ty
     c.from_residual.result h.grows.extends (c.requires.env_known, c.requires.goals_known) h.same_store h.grows.lawful
     (as_err c.from_residual.result Memory c.from_residual.ensures.0 c.from_residual.ensures.1)
 
-pub returns-in_err-push-in-Covariant-clause-stepped : goal.returns-in_err-push-in-Covariant-clause-stepped
-returns-in_err-push-in-Covariant-clause-stepped g c =
+pub returns-in_err-push-clause-stepped : goal.returns-in_err-push-clause-stepped
+returns-in_err-push-clause-stepped g c =
     let r = c.args.self.now in
     let s = g.Infcx.InferCtxtLike.state r.infcx.now in
-    let d = g.Infcx.InferCtxtLike.state c.subtype_predicate.new.infcx in
-    let h = c.in_ok-predicate-in-Covariant.ensures in
-    let res = c.from_residual-in_err-push-in-Covariant.result in
+    let d = g.Infcx.InferCtxtLike.state c.subtype_asked.new.infcx in
+    let h = c.in_ok-predicate.ensures in
+    let res = c.from_residual-in_err-push.result in
     subst (λ hs. Stepped solver_manner IsFormed
     (solving_through r.structurally_relate_aliases r.infcx.ghost_name r.goals.items s r.ambient_variance r.param_env)
     (solving_through r.structurally_relate_aliases r.infcx.ghost_name hs d r.ambient_variance r.param_env)
     ((s.meaning).ty c.args.a.now) ((s.meaning).ty c.args.b.now) (d.meaning).ty res)
-    (sym c.in_err-push-in-Covariant.ensures.items)
+    (sym c.in_err-push.ensures.items)
     (memory_step (held_grows r.structurally_relate_aliases r.infcx.ghost_name s d h.grows) r.goals.items IsFormed s.meaning d.meaning s.store d.store s.lawful d.lawful
     r.ambient_variance r.param_env ((s.meaning).ty c.args.a.now) ((s.meaning).ty c.args.b.now) (d.meaning).ty
     res h.grows.extends (c.requires.env_known, c.requires.goals_known) h.same_store h.grows.lawful
-    (as_err res Memory c.from_residual-in_err-push-in-Covariant.ensures.0 c.from_residual-in_err-push-in-Covariant.ensures.1))
+    (as_err res Memory c.from_residual-in_err-push.ensures.0 c.from_residual-in_err-push.ensures.1))
 
-pub returns-in_ok-push-in-Covariant-clause-stepped : goal.returns-in_ok-push-in-Covariant-clause-stepped
-returns-in_ok-push-in-Covariant-clause-stepped g c =
+pub returns-clause-stepped : goal.returns-clause-stepped
+returns-clause-stepped g c =
     let r = c.args.self.now in
     let s = g.Infcx.InferCtxtLike.state r.infcx.now in
-    let d = g.Infcx.InferCtxtLike.state c.subtype_predicate.new.infcx in
-    let h = c.in_ok-predicate-in-Covariant.ensures in
-    covariant_step (held_grows r.structurally_relate_aliases r.infcx.ghost_name s d h.grows) r.goals.items c.push.new.self.items s.meaning d.meaning s.store d.store s.lawful
+    let d = g.Infcx.InferCtxtLike.state c.subtype_asked.new.infcx in
+    let h = c.in_ok-predicate.ensures in
+    directed_step (held_grows r.structurally_relate_aliases r.infcx.ghost_name s d h.grows) r.goals.items c.push.new.self.items s.meaning d.meaning s.store d.store s.lawful
     d.lawful r.ambient_variance r.param_env h.grows.extends (c.requires.env_known, c.requires.goals_known) h.grows.lawful h.same_store
-    c.in_ok-predicate-in-Covariant.predicate _ c.in_ok-push-in-Covariant.ensures.items c.args.x.0 c.args.y.0
+    c.in_ok-predicate.predicate c.in_ok-push.ensures.items c.args.x.0 c.args.y.0
     ((s.meaning).ty c.args.a.now) ((s.meaning).ty c.args.b.now) c.requires.a_is c.requires.b_is
-    c.requires.a_unresolved c.requires.b_unresolved IsFormed (d.meaning).ty c.args.a.now c.in-Covariant.is h.made
+    c.requires.a_unresolved c.requires.b_unresolved IsFormed (d.meaning).ty c.args.a.now
+    (directed_decides ? c.requires.decides) h.made
     (h.grows.extends.ty c.args.a.now c.requires.a_known) c.requires.a_known
 
-pub returns-in_err-predicate-in-Contravariant-clause-stepped : goal.returns-in_err-predicate-in-Contravariant-clause-stepped
-returns-in_err-predicate-in-Contravariant-clause-stepped g c =
+pub returns-in_err-predicate-clause-combines : goal.returns-in_err-predicate-clause-combines
+returns-in_err-predicate-clause-combines g c =
     let r = c.args.self.now in
     let s = g.Infcx.InferCtxtLike.state r.infcx.now in
-    let d = g.Infcx.InferCtxtLike.state c.subtype_predicate-in-Contravariant.new.infcx in
-    let h = c.in_err-predicate-in-Contravariant.ensures in
-    memory_step (held_grows r.structurally_relate_aliases r.infcx.ghost_name s d h.grows) r.goals.items IsFormed s.meaning d.meaning s.store d.store s.lawful d.lawful
-    r.ambient_variance r.param_env ((s.meaning).ty c.args.a.now) ((s.meaning).ty c.args.b.now) (d.meaning).ty
-    c.from_residual-in_err-predicate-in-Contravariant.result h.grows.extends (c.requires.env_known, c.requires.goals_known) h.same_store h.grows.lawful
-    (as_err c.from_residual-in_err-predicate-in-Contravariant.result Memory c.from_residual-in_err-predicate-in-Contravariant.ensures.0 c.from_residual-in_err-predicate-in-Contravariant.ensures.1)
+    let d = g.Infcx.InferCtxtLike.state c.subtype_asked.new.infcx in
+    let h = c.in_err-predicate.ensures in
+    refused_goal r.structurally_relate_aliases r.infcx.ghost_name r.goals.items r.goals.items s d
+    r.ambient_variance r.param_env h.grows.extends (c.requires.env_known, c.requires.goals_known) h.same_store
+    c.args.a.now c.args.b.now c.from_residual.result ? refl
+    (as_err c.from_residual.result Memory c.from_residual.ensures.0 c.from_residual.ensures.1)
 
-pub returns-in_err-push-in-Contravariant-clause-stepped : goal.returns-in_err-push-in-Contravariant-clause-stepped
-returns-in_err-push-in-Contravariant-clause-stepped g c =
+pub returns-in_err-push-clause-combines : goal.returns-in_err-push-clause-combines
+returns-in_err-push-clause-combines g c =
     let r = c.args.self.now in
     let s = g.Infcx.InferCtxtLike.state r.infcx.now in
-    let d = g.Infcx.InferCtxtLike.state c.subtype_predicate-in-Contravariant.new.infcx in
-    let h = c.in_ok-predicate-in-Contravariant.ensures in
-    let res = c.from_residual-in_err-push-in-Contravariant.result in
-    subst (λ hs. Stepped solver_manner IsFormed
-    (solving_through r.structurally_relate_aliases r.infcx.ghost_name r.goals.items s r.ambient_variance r.param_env)
-    (solving_through r.structurally_relate_aliases r.infcx.ghost_name hs d r.ambient_variance r.param_env)
-    ((s.meaning).ty c.args.a.now) ((s.meaning).ty c.args.b.now) (d.meaning).ty res)
-    (sym c.in_err-push-in-Contravariant.ensures.items)
-    (memory_step (held_grows r.structurally_relate_aliases r.infcx.ghost_name s d h.grows) r.goals.items IsFormed s.meaning d.meaning s.store d.store s.lawful d.lawful
-    r.ambient_variance r.param_env ((s.meaning).ty c.args.a.now) ((s.meaning).ty c.args.b.now) (d.meaning).ty
-    res h.grows.extends (c.requires.env_known, c.requires.goals_known) h.same_store h.grows.lawful
-    (as_err res Memory c.from_residual-in_err-push-in-Contravariant.ensures.0 c.from_residual-in_err-push-in-Contravariant.ensures.1))
+    let d = g.Infcx.InferCtxtLike.state c.subtype_asked.new.infcx in
+    let h = c.in_ok-predicate.ensures in
+    refused_goal r.structurally_relate_aliases r.infcx.ghost_name r.goals.items c.push.new.self.items s d
+    r.ambient_variance r.param_env h.grows.extends (c.requires.env_known, c.requires.goals_known) h.same_store
+    c.args.a.now c.args.b.now c.from_residual-in_err-push.result ? c.in_err-push.ensures.items
+    (as_err c.from_residual-in_err-push.result Memory c.from_residual-in_err-push.ensures.0 c.from_residual-in_err-push.ensures.1)
 
-pub returns-in_ok-push-in-Contravariant-clause-stepped : goal.returns-in_ok-push-in-Contravariant-clause-stepped
-returns-in_ok-push-in-Contravariant-clause-stepped g c =
+pub returns-clause-combines : goal.returns-clause-combines
+returns-clause-combines g c =
     let r = c.args.self.now in
     let s = g.Infcx.InferCtxtLike.state r.infcx.now in
-    let d = g.Infcx.InferCtxtLike.state c.subtype_predicate-in-Contravariant.new.infcx in
-    let h = c.in_ok-predicate-in-Contravariant.ensures in
-    contravariant_step (held_grows r.structurally_relate_aliases r.infcx.ghost_name s d h.grows) r.goals.items c.push-in-Contravariant.new.self.items s.meaning d.meaning s.store d.store s.lawful
-    d.lawful r.ambient_variance r.param_env h.grows.extends (c.requires.env_known, c.requires.goals_known) h.grows.lawful h.same_store
-    c.in_ok-predicate-in-Contravariant.predicate _ c.in_ok-push-in-Contravariant.ensures.items c.args.x.0 c.args.y.0
-    ((s.meaning).ty c.args.a.now) ((s.meaning).ty c.args.b.now) c.requires.a_is c.requires.b_is
-    c.requires.a_unresolved c.requires.b_unresolved IsFormed (d.meaning).ty c.args.a.now c.in-Contravariant.is h.made
-    (h.grows.extends.ty c.args.a.now c.requires.a_known) c.requires.a_known
+    let d = g.Infcx.InferCtxtLike.state c.subtype_asked.new.infcx in
+    let h = c.in_ok-predicate.ensures in
+    subtype_registered r.structurally_relate_aliases r.infcx.ghost_name r.goals.items c.push.new.self.items s d
+    r.ambient_variance r.param_env h.grows.extends (c.requires.env_known, c.requires.goals_known) h.same_store
+    c.in_ok-predicate.predicate c.args.a.now c.args.b.now _ (directed_decides ? c.requires.decides)
+    c.in_ok-push.ensures.items h.made refl
 
 pub returns-in-Invariant-clause-stepped : goal.returns-in-Invariant-clause-stepped
 returns-in-Invariant-clause-stepped g c =
@@ -107,76 +100,6 @@ returns-in-Invariant-clause-stepped g c =
     ((s.meaning).ty c.args.b.now) (d.meaning).ty c.args.a.now done.stands.meaning
     (c.requires.env_known, c.requires.goals_known) sound done.stands.lawful done.same done.equates c.requires.a_is
     c.requires.b_is (ap (λ z. z.ty c.args.a.now) done.stands.meaning)
-
-pub returns-in_err-predicate-in-Covariant-clause-combines : goal.returns-in_err-predicate-in-Covariant-clause-combines
-returns-in_err-predicate-in-Covariant-clause-combines g c =
-    let r = c.args.self.now in
-    let s = g.Infcx.InferCtxtLike.state r.infcx.now in
-    let d = g.Infcx.InferCtxtLike.state c.subtype_predicate.new.infcx in
-    let h = c.in_err-predicate-in-Covariant.ensures in
-    refused_goal r.structurally_relate_aliases r.infcx.ghost_name r.goals.items r.goals.items s d
-    r.ambient_variance r.param_env h.grows.extends (c.requires.env_known, c.requires.goals_known) h.same_store
-    c.args.a.now c.args.b.now c.from_residual.result (covariant_directed c.in-Covariant.is) refl
-    (as_err c.from_residual.result Memory c.from_residual.ensures.0 c.from_residual.ensures.1)
-
-pub returns-in_err-push-in-Covariant-clause-combines : goal.returns-in_err-push-in-Covariant-clause-combines
-returns-in_err-push-in-Covariant-clause-combines g c =
-    let r = c.args.self.now in
-    let s = g.Infcx.InferCtxtLike.state r.infcx.now in
-    let d = g.Infcx.InferCtxtLike.state c.subtype_predicate.new.infcx in
-    let h = c.in_ok-predicate-in-Covariant.ensures in
-    refused_goal r.structurally_relate_aliases r.infcx.ghost_name r.goals.items c.push.new.self.items s d
-    r.ambient_variance r.param_env h.grows.extends (c.requires.env_known, c.requires.goals_known) h.same_store
-    c.args.a.now c.args.b.now c.from_residual-in_err-push-in-Covariant.result (covariant_directed c.in-Covariant.is) c.in_err-push-in-Covariant.ensures.items
-    (as_err c.from_residual-in_err-push-in-Covariant.result Memory c.from_residual-in_err-push-in-Covariant.ensures.0 c.from_residual-in_err-push-in-Covariant.ensures.1)
-
-pub returns-in_ok-push-in-Covariant-clause-combines : goal.returns-in_ok-push-in-Covariant-clause-combines
-returns-in_ok-push-in-Covariant-clause-combines g c =
-    let r = c.args.self.now in
-    let s = g.Infcx.InferCtxtLike.state r.infcx.now in
-    let d = g.Infcx.InferCtxtLike.state c.subtype_predicate.new.infcx in
-    let h = c.in_ok-predicate-in-Covariant.ensures in
-    left_subtype c.in-Covariant.is
-    (registered_one r.structurally_relate_aliases r.infcx.ghost_name r.goals.items c.push.new.self.items s d
-    r.ambient_variance r.param_env h.grows.extends (c.requires.env_known, c.requires.goals_known) h.same_store
-    c.in_ok-predicate-in-Covariant.predicate
-    (subtype_predicate true ((s.meaning).ty c.args.a.now) ((s.meaning).ty c.args.b.now))
-    c.in_ok-push-in-Covariant.ensures.items h.made) refl
-
-pub returns-in_err-predicate-in-Contravariant-clause-combines : goal.returns-in_err-predicate-in-Contravariant-clause-combines
-returns-in_err-predicate-in-Contravariant-clause-combines g c =
-    let r = c.args.self.now in
-    let s = g.Infcx.InferCtxtLike.state r.infcx.now in
-    let d = g.Infcx.InferCtxtLike.state c.subtype_predicate-in-Contravariant.new.infcx in
-    let h = c.in_err-predicate-in-Contravariant.ensures in
-    refused_goal r.structurally_relate_aliases r.infcx.ghost_name r.goals.items r.goals.items s d
-    r.ambient_variance r.param_env h.grows.extends (c.requires.env_known, c.requires.goals_known) h.same_store
-    c.args.a.now c.args.b.now c.from_residual-in_err-predicate-in-Contravariant.result (contravariant_directed c.in-Contravariant.is) refl
-    (as_err c.from_residual-in_err-predicate-in-Contravariant.result Memory c.from_residual-in_err-predicate-in-Contravariant.ensures.0 c.from_residual-in_err-predicate-in-Contravariant.ensures.1)
-
-pub returns-in_err-push-in-Contravariant-clause-combines : goal.returns-in_err-push-in-Contravariant-clause-combines
-returns-in_err-push-in-Contravariant-clause-combines g c =
-    let r = c.args.self.now in
-    let s = g.Infcx.InferCtxtLike.state r.infcx.now in
-    let d = g.Infcx.InferCtxtLike.state c.subtype_predicate-in-Contravariant.new.infcx in
-    let h = c.in_ok-predicate-in-Contravariant.ensures in
-    refused_goal r.structurally_relate_aliases r.infcx.ghost_name r.goals.items c.push-in-Contravariant.new.self.items s d
-    r.ambient_variance r.param_env h.grows.extends (c.requires.env_known, c.requires.goals_known) h.same_store
-    c.args.a.now c.args.b.now c.from_residual-in_err-push-in-Contravariant.result (contravariant_directed c.in-Contravariant.is) c.in_err-push-in-Contravariant.ensures.items
-    (as_err c.from_residual-in_err-push-in-Contravariant.result Memory c.from_residual-in_err-push-in-Contravariant.ensures.0 c.from_residual-in_err-push-in-Contravariant.ensures.1)
-
-pub returns-in_ok-push-in-Contravariant-clause-combines : goal.returns-in_ok-push-in-Contravariant-clause-combines
-returns-in_ok-push-in-Contravariant-clause-combines g c =
-    let r = c.args.self.now in
-    let s = g.Infcx.InferCtxtLike.state r.infcx.now in
-    let d = g.Infcx.InferCtxtLike.state c.subtype_predicate-in-Contravariant.new.infcx in
-    let h = c.in_ok-predicate-in-Contravariant.ensures in
-    right_subtype c.in-Contravariant.is
-    (registered_one r.structurally_relate_aliases r.infcx.ghost_name r.goals.items c.push-in-Contravariant.new.self.items s d
-    r.ambient_variance r.param_env h.grows.extends (c.requires.env_known, c.requires.goals_known) h.same_store
-    c.in_ok-predicate-in-Contravariant.predicate
-    (subtype_predicate false ((s.meaning).ty c.args.b.now) ((s.meaning).ty c.args.a.now))
-    c.in_ok-push-in-Contravariant.ensures.items h.made) refl
 
 pub returns-in-Invariant-clause-combines : goal.returns-in-Invariant-clause-combines
 returns-in-Invariant-clause-combines g c =
