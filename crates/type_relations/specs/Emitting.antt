@@ -89,6 +89,12 @@ module _ {Key Id Name : Type 0} where
   RegistersAlias r q a b result =
       IfSome (alias_at r.ambient ((r.meaning).ty a) ((r.meaning).ty b)) (λ p. RegistersGoal r q p result)
 
+  -- So was what is asked of two type variables at the ambient variance.
+  abbrev pub RegistersSubtype : {A F : Type 0} → State Key Id Name → State Key Id Name → TyKey Key → TyKey Key →
+      Result A F → Type 0
+  RegistersSubtype r q a b result =
+      IfSome (subtype_at r.ambient ((r.meaning).ty a) ((r.meaning).ty b)) (λ p. RegistersGoal r q p result)
+
 -- Between what a context is before a call and after it.
 module _ {Key Id Name : Type 0} (c d : Context Key Id Name) where
   -- What two regions that are related at a variance are asked for was recorded.

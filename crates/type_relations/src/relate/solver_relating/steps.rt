@@ -27,14 +27,14 @@ use crate::relate::solver_relating::SolverRelating;
 use crate::relate::solver_relating::opening::{
     enter_and_instantiate, enters_first, enters_second, one_uses,
 };
-use crate::relate::solver_relating::recording::{relate_regions, subtype_asked};
+use crate::relate::solver_relating::recording::relate_regions;
 use crate::relate::variables::{have_no_variable, ty_var};
 use relation_contexts::infer_ctxt::{BinderOf, InferCtxtLike};
 use relation_folds::error::RelateResult;
 use relation_folds::fold::TypeFoldable;
 use relation_folds::visit::TypeVisitable;
 use relation_terms::terms::{
-    Const, GenericArgs, Goal, Interner, ItemOf, Region, Ty, TyVid, Variance,
+    Const, GenericArgs, Interner, ItemOf, Region, Ty, TyVid, Variance,
 };
 
 impl<'a, Infcx: InferCtxtLike> SolverRelating<'a, Infcx> {
@@ -206,13 +206,9 @@ impl<'a, Infcx: InferCtxtLike> SolverRelating<'a, Infcx> {
     {
         if let Variance::Invariant = self.ambient_variance {
             self.infcx.equate_ty_vids_raw(x, y);
-            return Ok(Step::Done(*a));
+        } else {
+            self.register_subtype_predicate(a, b)?;
         }
-        let predicate = subtype_asked(&mut *self.infcx, self.ambient_variance, a, b)?;
-        self.goals.push(Goal {
-            param_env: self.param_env,
-            predicate,
-        })?;
         Ok(Step::Done(*a))
     }
 
