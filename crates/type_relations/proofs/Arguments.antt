@@ -20,7 +20,7 @@ use Rattle.relation_contexts.specs.FirstOrder.{IsFirstOrderHead, Unifies}
 use Rattle.relation_contexts.specs.Errors.{ErrorOf, by_forms, IsHandedOn, of_parts}
 use Rattle.relation_contexts.specs.Errors.{of_alias_term_parts, AreOfOneForm}
 use Rattle.relation_contexts.specs.Errors.{over_parts, over_aliases, one_leaf, parameters}
-use Rattle.relation_contexts.proofs.Covered.{normal_not_left}
+use Rattle.relation_contexts.proofs.Leaving.{normal_not_left}
 use Rattle.type_relations.specs.Arguments.{args_head, AreOverItem, adts, functions}
 use Rattle.relation_folds.specs.Faults.{KnowsError}
 use Rattle.relation_contexts.specs.OneUniverse.{BindsNoMore}

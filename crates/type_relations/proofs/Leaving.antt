@@ -20,6 +20,7 @@ use Rattle.relation_contexts.specs.Errors.{HaveNoError, IsOpaque, IsOpaqueBeside
 use Rattle.relation_contexts.specs.Parts.{IsFormedConst}
 use Rattle.relation_contexts.specs.Relation.{IsError, IsAlias}
 use Rattle.relation_contexts.specs.Settings.{Settings, LeavesAliases, LeavesOpaque}
+use Rattle.relation_contexts.proofs.Leaving.{opaque_is_alias, beside_is_opaque}
 use Rattle.type_relations.specs.Leaving.{IsVariable, StandsAs, LeavesAs}
 use Rattle.type_relations.specs.declared.relate.leaving.Standing.{Standing}
 use Rattle.type_relations.specs.declared.relate.leaving.Standing.TheVariants.{Error, Variable, Opaque, Alias, Other}
@@ -96,15 +97,7 @@ module _ {Key Id Name : Type 0} (m : Meaning Key Id Name) where
   const_no_opaque (ConstInfer (Fresh n)) o = o
   const_no_opaque k o = o
 
--- Opaque types are aliases.
-pub opaque_is_alias : (t : Tree) → IsOpaque t → IsAlias t
-opaque_is_alias (node (alias opaque_alias d) ts) o = tt
-opaque_is_alias t o = absurd o
-
-pub beside_is_opaque : (t u : Tree) → IsOpaqueBeside t u → IsOpaque t
-beside_is_opaque t (leaf (variable k n)) o = absurd o
-beside_is_opaque t u o = o
-
+-- An opaque type beside another type.
 pub opaque_beside : (t u : Tree) → IsOpaque t → (IsVariable u → ⊥) → IsOpaqueBeside t u
 opaque_beside t (leaf (variable k n)) o f = absurd (f (k, n, refl))
 opaque_beside t u o f = o

@@ -42,7 +42,7 @@ use Rattle.type_relations.specs.Combining.{TaintsAlone, KeepsKept}
 use Rattle.type_relations.specs.Emitting.{RegistersGoal}
 use Rattle.type_relations.specs.Keyed.{AskedTys, AskedConsts, SteppedTys, SteppedConsts}
 use Rattle.type_relations.specs.Solving.{solver_manner}
-use Rattle.type_relations.proofs.Leaving.{opaque_is_alias, beside_is_opaque}
+use Rattle.relation_contexts.proofs.Leaving.{opaque_is_alias, beside_is_opaque}
 use Rattle.type_relations.proofs.SolvingVariables.{alias_not_first}
 use Rattle.type_relations.proofs.GoalPasses.{goal_passes, no_goal_passes}
 use Rattle.type_relations.proofs.OpeningBoth.{changes_goes}
