@@ -7,7 +7,7 @@ use Rattle.term_enums.specs.declared.Variance.{Variance}
 use Rattle.term_enums.specs.declared.Variance.TheVariants.{Bivariant}
 use Rattle.relation_terms.specs.Heads.{region_sort, BoundKind, bound_sort, VarKind, var_sort, head_sort, atom_sort}
 use Rattle.relation_terms.specs.Heads.{Head, adt}
-use Rattle.relation_terms.specs.Heads.{alias, opaque_alias, alias_term, Leaf, leaf_sort, Atom, type_param, const_param, variable, bound, placeholder, atom, unknown, int_var, float_var}
+use Rattle.relation_terms.specs.Heads.{alias, opaque_alias, alias_term, Leaf, leaf_sort, Atom, type_param, const_param, variable, bound, placeholder, atom, unknown}
 use Rattle.relation_terms.specs.Trees.{Tree, leaf, node, bind, nil, cons, tree_at, put, inst, count, nth}
 use Rattle.relation_contexts.specs.Relation.{Items, at, parts, part_at, plain, plain_atom, sort_of, IsAlias}
 use Rattle.relation_contexts.specs.Stores.{Store, entry_term, MayStandFor, IsSound}

@@ -13,7 +13,7 @@ use Rattle.relation_folds.specs.declared.error.RelateFault.{RelateFault}
 use Rattle.relation_folds.specs.declared.error.RelateFault.TheVariants.{Memory, Budget, Unrelated}
 use Rattle.type_relations.specs.declared.relate.args.ArgVariances.{ArgVariances}
 use Rattle.type_relations.specs.declared.relate.args.ArgVariances.TheVariants.{Invariant, Adt, FnDef, AliasTerm, Trait}
-use Rattle.relation_contexts.specs.Relation.{Items, at, forms, part_at, plain, plain_kind, IsRelatedHead, IsAlias}
+use Rattle.relation_contexts.specs.Relation.{Items, forms, part_at, plain, plain_kind, IsRelatedHead, IsAlias}
 use Rattle.relation_contexts.specs.Stores.{Store}
 use Rattle.relation_contexts.specs.Settings.{Settings}
 use Rattle.relation_contexts.specs.FirstOrder.{IsFirstOrderHead, Unifies}

@@ -37,7 +37,7 @@ use Rattle.relation_contexts.proofs.Full.{full_itself}
 use Rattle.relation_contexts.proofs.Building.{built_itself}
 use Rattle.type_relations.proofs.OverContext.{carried, over_it, standing, all_taken, read_by_lists, one_step, roots_step, number_step, number_step_back, left_apart, right_apart, parts_step}
 use Rattle.relation_contexts.proofs.Roots.{roots_goes, exact_itself}
-use Rattle.type_relations.proofs.Shallowly.{read_step, shallow_free_const, variable_made}
+use Rattle.type_relations.proofs.Shallowly.{shallow_free_const, variable_made}
 use Rattle.type_relations.proofs.SolvingVariables.{const_left_step, const_right_step, left_refused, right_refused, const_comes_to_none}
 use Rattle.relation_contexts.proofs.Standing.{term_context, term_within}
 use Rattle.relation_contexts.proofs.Agreeing.{agree_same}

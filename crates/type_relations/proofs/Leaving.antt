@@ -1,22 +1,21 @@
 -- Types as they stand to relating, and pairs that are left to goals.
-use Rattle.std.proofs.Common.{◌≡◌, ◌≢◌, ◌⊎◌, ℕ, refl, sym, ap, ◌∙◌, inl, inr, subst, IsTrue, true, false}
+use Rattle.std.proofs.Common.{◌≡◌, ◌≢◌, ◌⊎◌, ℕ, refl, sym, ap, ◌∙◌, inl, inr, subst, true, false}
 use Rattle.std.proofs.lemmas.Bool.{false≢true}
-use Rattle.relation_terms.specs.Heads.{Head, type_var, int_var, float_var, alias, opaque_alias, unevaluated, variable}
+use Rattle.relation_terms.specs.Heads.{type_var, int_var, float_var, alias, opaque_alias, variable}
 use Rattle.relation_terms.specs.Trees.{Tree, leaf, node}
-use Rattle.relation_terms.specs.Meaning.{Meaning, kind_tree, infer_tree, const_tree, infer_const_tree, alias_kind}
+use Rattle.relation_terms.specs.Meaning.{Meaning, kind_tree, const_tree, alias_kind}
 use Rattle.relation_terms.specs.declared.terms.alias.AliasTy.{AliasTy}
 use Rattle.relation_terms.specs.declared.terms.alias.AliasTyKind.{AliasTyKind}
 use Rattle.relation_terms.specs.declared.terms.alias.AliasTyKind.TheVariants.{Opaque as OpaqueKind}
 use Rattle.relation_terms.specs.declared.terms.alias.ErrorGuaranteed.{ErrorGuaranteed}
 use Rattle.relation_terms.specs.declared.terms.const_kind.ConstKind.{ConstKind}
 use Rattle.relation_terms.specs.declared.terms.const_kind.ConstKind.TheVariants.{Infer as ConstInfer, Unevaluated}
-use Rattle.relation_terms.specs.declared.terms.const_kind.InferConst.{InferConst}
 use Rattle.relation_terms.specs.declared.terms.const_kind.InferConst.TheVariants.{Var, Fresh}
 use Rattle.relation_terms.specs.declared.terms.ty_kind.InferTy.{InferTy}
 use Rattle.relation_terms.specs.declared.terms.ty_kind.InferTy.TheVariants.{TyVar, IntVar, FloatVar, FreshTy, FreshIntTy, FreshFloatTy}
 use Rattle.relation_terms.specs.declared.terms.ty_kind.TyKind.{TyKind}
 use Rattle.relation_terms.specs.declared.terms.ty_kind.TyKind.TheVariants.{Error as ErrorKind, Infer, Alias as AliasForm}
-use Rattle.relation_contexts.specs.Errors.{HaveNoError, IsOpaque, IsOpaqueBeside, IsLeftToGoal}
+use Rattle.relation_contexts.specs.Errors.{IsOpaque, IsOpaqueBeside, IsLeftToGoal}
 use Rattle.relation_contexts.specs.Parts.{IsFormedConst}
 use Rattle.relation_contexts.specs.Relation.{IsError, IsAlias}
 use Rattle.relation_contexts.specs.Settings.{Settings, LeavesAliases, LeavesOpaque}

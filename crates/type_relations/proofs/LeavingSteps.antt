@@ -1,5 +1,5 @@
 -- A pair that is left to a goal, or in which an error stands, as a step of a relation.
-use Rattle.std.proofs.Common.{◌≡◌, ◌⊎◌, ℕ, Some, ◌+◌, refl, sym, ap, ◌∙◌, inl, inr, subst, arith, List, [], ◌∷◌, ◌++◌, All, IsTrue, false, length, get_or, Ok, Err}
+use Rattle.std.proofs.Common.{◌≡◌, ◌⊎◌, ℕ, Some, ◌+◌, refl, sym, ap, ◌∙◌, inl, inr, subst, arith, [], ◌∷◌, IsTrue, false, length, get_or, Ok, Err}
 use Rattle.std.proofs.lemmas.Bool.{false≢true}
 use Rattle.std.proofs.lemmas.List.{append-nil}
 use Rattle.std.proofs.lemmas.List.Elements.{All-nil, All-cons}
@@ -7,7 +7,7 @@ use Rattle.term_enums.specs.declared.AliasRelationDirection.TheVariants.{Equate}
 use Rattle.term_enums.specs.declared.Variance.TheVariants.{Invariant}
 use Rattle.relation_terms.specs.declared.terms.keys.TyKey.{TyKey}
 use Rattle.relation_terms.specs.declared.terms.keys.ConstKey.{ConstKey}
-use Rattle.relation_terms.specs.Heads.{type_sort, const_sort, type_var, const_var, alias, opaque_alias, Atom, type_error, const_error, atom}
+use Rattle.relation_terms.specs.Heads.{type_sort, const_sort, type_var, const_var, alias, opaque_alias, type_error, const_error, atom}
 use Rattle.relation_terms.specs.Trees.{Tree, leaf, node, known, IsTerm}
 use Rattle.relation_terms.specs.Meaning.{Extends}
 use Rattle.relation_terms.proofs.Stays.{stays_same}

@@ -1,6 +1,6 @@
 -- Registering that of two type variables the one is a subtype of the other, as a step; and a goal as the relation of a
 -- context registers it.
-use Rattle.std.proofs.Common.{◌≡◌, ℕ, refl, sym, ap, ap₂, ◌∙◌, subst, true, false, Some, List, [], ◌∷◌, All, IsTrue, Result, Ok, Err}
+use Rattle.std.proofs.Common.{◌≡◌, ℕ, refl, sym, ap, ap₂, subst, true, false, Some, List, [], ◌∷◌, All, IsTrue, Result, Ok}
 use Rattle.std.specs.Result.{IsErr}
 use Rattle.std.proofs.lemmas.Bool.{and_from}
 use Rattle.std.proofs.lemmas.List.Elements.{All-nil, All-cons, All-head}
@@ -17,7 +17,7 @@ use Rattle.relation_contexts.specs.declared.relate.StructurallyRelateAliases.{St
 use Rattle.relation_contexts.specs.ContextCalls.{Grows}
 use Rattle.relation_contexts.specs.Contexts.{Context}
 use Rattle.relation_contexts.specs.Goals.{Goal, goal_of, goals_of, KnowsGoal, subtype_predicate, IsOpen, IsDirected, IsRegistered, of_variables, Holds, MakesOneTree}
-use Rattle.relation_contexts.specs.Kits.{Kit, IsBuiltOf, IsPredicateOf}
+use Rattle.relation_contexts.specs.Kits.{IsPredicateOf}
 use Rattle.relation_contexts.specs.Lawful.{State, Stepped, MayAnswer, items_in}
 use Rattle.relation_contexts.specs.Outcomes.{Outcome}
 use Rattle.relation_contexts.specs.Parts.{IsFormed}

@@ -1,8 +1,7 @@
 -- What relating registers of two types that are left to one goal: two type variables of which nothing is recorded, and an
 -- alias with another type.
-use Rattle.std.specs.Prelude.{◌≡◌, ◌≢◌, ◌⊎◌, true, false, [], ◌∷◌, ◌++◌, Option, Some, None, Result, Ok, Err}
+use Rattle.std.specs.Prelude.{◌≡◌, ◌≢◌, ◌⊎◌, [], ◌∷◌, ◌++◌, Some, Result, Ok, Err}
 use Rattle.term_enums.specs.declared.Variance.{Variance}
-use Rattle.term_enums.specs.declared.Variance.TheVariants.{Covariant, Contravariant}
 use Rattle.relation_terms.specs.Heads.{type_sort}
 use Rattle.relation_terms.specs.Trees.{Tree}
 use Rattle.relation_folds.specs.declared.error.RelateFault.{RelateFault}

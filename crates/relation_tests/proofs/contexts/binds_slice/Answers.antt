@@ -1,4 +1,4 @@
-use Rattle.std.proofs.Common.{◌≡◌, sym, ap, ◌∙◌, subst}
+use Rattle.std.proofs.Common.{sym, ap, ◌∙◌, subst}
 use Rattle.relation_terms.specs.Heads.{slice}
 use Rattle.relation_terms.specs.Trees.{node, cons, nil}
 use Rattle.relation_contexts.specs.Bound.{BindByLists}

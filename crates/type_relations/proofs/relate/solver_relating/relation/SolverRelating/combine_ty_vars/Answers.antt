@@ -1,13 +1,12 @@
-use Rattle.std.proofs.Common.{◌≡◌, refl, sym, ap, subst, Some, IfSome, Ok, Err}
+use Rattle.std.proofs.Common.{refl, sym, ap, subst, IfSome, Ok, Err}
 use Rattle.relation_terms.specs.declared.terms.interner.OutOfMemory.{OutOfMemory}
 use Rattle.relation_terms.specs.Heads.{type_var}
-use Rattle.relation_terms.specs.Trees.{Tree}
 use Rattle.relation_folds.specs.declared.error.RelateFault.TheVariants.{Memory}
 use Rattle.relation_contexts.specs.Goals.{goals_of}
 use Rattle.relation_contexts.specs.Parts.{IsFormed}
 use Rattle.relation_contexts.specs.Lawful.{Stepped}
 use Rattle.relation_contexts.proofs.Passing.{as_err}
-use Rattle.type_relations.specs.Emitting.{RegistersGoal, subtype_at}
+use Rattle.type_relations.specs.Emitting.{RegistersGoal}
 use Rattle.type_relations.specs.Solving.{solving_through, solver_manner}
 use Rattle.type_relations.specs.Stepping.{made_one}
 use Rattle.type_relations.proofs.Binding.{no_region}
