@@ -17,6 +17,7 @@ use Rattle.type_relations.specs.declared.relate.solver_relating.relation.SolverR
 use Rattle.type_relations.specs.Combining.{IsNoTyVar, ConstsCombine}
 use Rattle.type_relations.specs.Keyed.{RelatedRegions, SteppedConsts, SteppedTys, TysStepAlone, AreOver, NotedTys}
 use Rattle.type_relations.specs.Bivariance.{AsksOfOver}
+use Rattle.type_relations.specs.Emitting.{RegistersSubtype}
 use Rattle.type_relations.specs.Rounds.{OpenedBinders}
 use Rattle.type_relations.specs.Solving.{solving_in, solving_through, solver_manner}
 use Rattle.type_relations.specs.Stepping.{CombinesShallowTys, CombinesTyVars, StepsBinders, StepsRegions, StepsTys}
@@ -52,6 +53,11 @@ module _ {Infcx Interner Key Id Name Span : Type 0} (state : Infcx → Context K
   KeepsEnvironment r q =
       let m = (state r.infcx.now).meaning in let n = (state q.infcx.now).meaning in
       n.param_env q.param_env ≡ m.param_env r.param_env
+
+  -- What is asked of two type variables at the ambient variance was registered, or was not.
+  abbrev pub SolverRegistersSubtype : {A F : Type 0} → SolverRelating Infcx Interner Key Id Name Span →
+      SolverRelating Infcx Interner Key Id Name Span → TyKey Key → TyKey Key → Result A F → Type 0
+  SolverRegistersSubtype r q a b result = RegistersSubtype (solver_through r) (solver_through q) a b result
 
   -- A step was taken of two types.
   abbrev pub SolverSteps : SolverRelating Infcx Interner Key Id Name Span →
