@@ -45,3 +45,5 @@ pub mod Variables
 pub mod Shrinking
 pub mod AliasOutcomes
 pub mod AliasSteps
+pub mod Asking
+pub mod Recording

@@ -1,33 +1,27 @@
 -- Plain terms without variables are related where they agree, all regions outliving each other and what is asked of
--- aliases being so; and where they are related their erasures agree.
-use Rattle.std.proofs.Common.{◌≡◌, ◌≢◌, ◌⊎◌, ℕ, zero, suc, ◌<◌, refl, sym, ap, ◌∙◌, inl, inr, subst, subst₂, arith, None, Some, Bool, true, false, IsTrue}
-use Rattle.std.proofs.lemmas.Bool.{false≢true}
+-- aliases being so; where they are related their erasures agree, and no error comes.
+use Rattle.std.proofs.Common.{◌≡◌, ◌≢◌, ◌⊎◌, ℕ, suc, refl, sym, ap, ◌∙◌, inl, inr, subst₂, None}
 use Rattle.term_enums.specs.declared.Variance.{Variance}
 use Rattle.term_enums.specs.declared.Variance.TheVariants.{Covariant, Contravariant, Invariant, Bivariant}
-use Rattle.term_enums.specs.declared.AliasRelationDirection.TheVariants.{Equate, Subtype}
-use Rattle.relation_terms.specs.Heads.{region_sort, type_sort, const_sort, region_kind, type_kind, const_kind, bound_kind, early_region, type_param, const_param, region_var, head_sort, leaf_sort, Atom, atom_sort, Head, fn_ptr, unsafe_binder, alias, alias_term, unevaluated, value_type, Leaf, variable, bound, placeholder, atom, unknown, one, term_of, host_effect, subtype, region_outlives, type_outlives, projection, const_has_type, well_formed, const_evaluatable, coerce, normalizes_to, alias_relate, environment}
-use Rattle.relation_terms.specs.Trees.{Tree, leaf, node, bind, nil, cons, count, nth, Leaves, Assign, apply, IsList}
+use Rattle.relation_terms.specs.Heads.{Sort, region_sort, region_kind, type_kind, const_kind, bound_kind, region_var, leaf_sort, Atom, atom_sort, early_region, type_param, const_param, Head, fn_ptr, unsafe_binder, alias, alias_term, unevaluated, value_type, Leaf, variable, bound, placeholder, atom, unknown, one, term_of}
+use Rattle.relation_terms.specs.Trees.{Tree, leaf, node, bind, nil, cons, count, Leaves}
 use Rattle.relation_terms.specs.Erasure.{erase, erase_leaf, erase_atom, kept_parts}
-use Rattle.relation_terms.specs.Equality.{same_tree}
-use Rattle.relation_terms.proofs.Equality.{same_is, is_same}
-use Rattle.relation_contexts.specs.Relation.{Items, Interpretation, Rel, at, parts, same, anything, error_left, error_right, regions, alias_types, equal_consts, atoms, forms, no_parts, next_part, covariant_binders, contravariant_binders, invariant_binders, part_at, plain, plain_atom, sort_of, IsError, IsErrorAtom, IsAlias, IsAliasHead, IsRelatedHead, AliasRule, IsEqualPair, IsOrderedPair, IsValue, IsValueLeaf}
-use Rattle.relation_contexts.specs.FirstOrder.{IsFirstOrderAtom}
+use Rattle.relation_contexts.specs.Relation.{Items, Interpretation, Rel, at, parts, same, anything, error_left, error_right, regions, alias_types, equal_consts, atoms, forms, no_parts, next_part, covariant_binders, contravariant_binders, invariant_binders, part_at, plain, sort_of, IsError, IsErrorAtom, IsAlias, IsAliasHead, AliasRule, IsValue, IsValueLeaf}
 use Rattle.relation_contexts.specs.Settings.{Settings, LeavesAliases}
 use Rattle.relation_contexts.specs.Steps.{HasNoBinder}
-use Rattle.relation_contexts.specs.Goals.{goal_of, alias_relate_predicate, Holds}
-use Rattle.relation_contexts.specs.AliasGoals.{alias_at}
-use Rattle.relation_contexts.specs.Errors.{outer_leaf, AreAlike, IsLeftToGoal}
+use Rattle.relation_contexts.specs.Errors.{outer_leaf, AreAlike}
 use Rattle.relation_contexts.specs.Agreeing.{IsFlexible, AreFlexible, IsLeftAside, Agree}
-use Rattle.relation_contexts.specs.Asking.{a_goal, HaveAlias, Asks, of_aliases, of_unevaluated, of_parts, IsPlainLeaf, IsPlainHead, IsPlainTerm, HasNoAlias, ArePlain, without_aliases, without_binders}
+use Rattle.relation_contexts.specs.Asking.{HaveAlias, IsPlainHead, IsPlainTerm, HasNoAlias, ArePlain, without_aliases, without_binders}
 use Rattle.relation_contexts.proofs.Agreeing.{agree_anything, agree_same, agree_left, agree_sorts, region_flexible}
 use Rattle.relation_contexts.proofs.Asking.{no_alias_term}
 use Rattle.relation_contexts.proofs.Erased.{leaf_path, erase_region, erase_plain, no_error_atom}
-use Rattle.relation_contexts.proofs.Related.{no_region_head}
-use Rattle.relation_contexts.proofs.Trees.{apply_ground}
 use Rattle.type_relations.proofs.Unifying.{erased_sort}
+use Rattle.relation_laws.specs.CompletenessLaws.{AskedHolds, ErrorsDisagree, ErrorsAreUnrelated}
 use Rattle.relation_laws.specs.RegionTerms.{IsRegionTermHead, IsRegionTerm}
-use Rattle.relation_laws.proofs.PlainTerms.{no_left, outer_kept}
-use Rattle.relation_laws.proofs.RegionTerms.{IsNode, IsShaped, shaped, all_rule, region_or, related_terms_agree, related_iff_agree}
+use Rattle.relation_laws.proofs.AskedGoals.{agreeing_related}
+use Rattle.relation_laws.proofs.Disagreeing.{disagree}
+use Rattle.relation_laws.proofs.PlainTerms.{no_left, outer_kept, left_good, right_good}
+use Rattle.relation_laws.proofs.RegionTerms.{shaped, region_or, related_terms_agree, related_iff_agree}
 
 -- A plain term without variables and aliases is first-order but for binders of regions.
 region_head : (h : Head) → IsPlainHead h → (IsAliasHead h → ⊥) → IsRegionTermHead h
@@ -221,67 +215,22 @@ module _ (set : Settings) (c : Items) where
         (erased_agree (part_at c h i v) a b f.0 g.0 r.0, erased_parts h (suc i) v xs ys f.1 g.1 r.1)
     erased_parts h i v xs ys f g r = erased_count xs ∙ r ∙ sym (erased_count ys)
 
-  -- An equal pair, or an ordered one, of what is asked.
-  module _ (w : Interpretation) (e : Tree) where
-    -- What is asked of two aliases that relating meets is so.
-    abbrev pub AskedHolds : Variance → Tree → Tree → Type 0
-    AskedHolds v a b = (p : Tree) → Asks c (a_goal p) v a b → (s : Assign) → Holds c w s (goal_of e p)
+  -- Those that agree are related, where all regions outlive each other and what is asked of aliases is so.
+  pub agreeing_are_related : (w : Interpretation) (e : Tree) (v : Variance) (s : Sort) (a b : Tree) →
+      w.outlives ≡ None → IsValue s a → IsValue s b → ArePlain set a b → AskedHolds c w e v a b →
+      Agree set c (at v) a b → Rel c w e (at v) a b
+  agreeing_are_related w e v s a b all x y (without_aliases p q f g) asked r = (related_iff_agree set c w e v s a b all
+      x.0 y.0 (plain_region_term a p f x.1) (plain_region_term b q g y.1)).1 (erased_agree v a b f g r)
+  agreeing_are_related w e v s a b all x y (without_binders p q f g l) asked r =
+      let t = shaped (one (term_of s)) a x.0 in
+      let u = shaped (one (term_of s)) b y.0 in
+      agreeing_related c w e set all v a b t.0 u.0 (t.1, p, f, x.1) (u.1, q, g, y.1) asked r
 
-    themselves : Assign
-    themselves k n = leaf (variable k n)
+-- An error excludes that.
+pub errors_disagree : (Key Id Name : Type 0) → ErrorsDisagree Key Id Name
+errors_disagree Key Id Name m sorted k c st sound v x a b p r z =
+    disagree m sorted k c st sound.regions_unbound r (left_good k a b p) (right_good k a b p) z
 
-    -- An alias and a type, or a constant, are related by their goal.
-    alias_or : (a b : Tree) → HaveAlias a b → sort_of a ≡ sort_of b → (sort_of a ≡ type_sort) ⊎ (sort_of a ≡ const_sort)
-    alias_or (node (alias k d) ts) b (inl i) s = inl refl
-    alias_or (node (unevaluated d) ts) b (inl i) s = inr refl
-    alias_or (node h ts) b (inl i) s = absurd i
-    alias_or (leaf l) b (inl i) s = absurd i
-    alias_or (bind ks t) b (inl i) s = absurd i
-    alias_or nil b (inl i) s = absurd i
-    alias_or (cons t ts) b (inl i) s = absurd i
-    alias_or a (node (alias k d) ts) (inr i) s = inl s
-    alias_or a (node (unevaluated d) ts) (inr i) s = inr s
-    alias_or a (node h ts) (inr i) s = absurd i
-    alias_or a (leaf l) (inr i) s = absurd i
-    alias_or a (bind ks t) (inr i) s = absurd i
-    alias_or a nil (inr i) s = absurd i
-    alias_or a (cons t ts) (inr i) s = absurd i
-
-    module _ (a b : Tree) (x : Leaves IsValueLeaf a) (y : Leaves IsValueLeaf b) where
-      ordered : (a' b' : Tree) → IsOrderedPair w e (apply themselves a') (apply themselves b') → Leaves IsValueLeaf a' →
-          Leaves IsValueLeaf b' → IsOrderedPair w e a' b'
-      ordered a' b' r f g = subst₂ (IsOrderedPair w e) (apply_ground themselves a' f) (apply_ground themselves b' g) r
-
-      types_by_goal : (v : Variance) → HaveAlias a b → a ≢ b → sort_of a ≡ type_sort → sort_of b ≡ type_sort →
-          AskedHolds v a b → Rel c w e (at v) a b
-      types_by_goal Covariant i n s t f = alias_types s t
-          (ordered a b (f (alias_relate_predicate Subtype a b) (of_aliases _ refl i n s refl) themselves) x y)
-      types_by_goal Contravariant i n s t f = alias_types s t
-          (ordered b a (f (alias_relate_predicate Subtype b a) (of_aliases _ refl i n s refl) themselves) y x)
-      types_by_goal Invariant i n s t f = alias_types s t
-          (subst₂ (IsEqualPair w e) (apply_ground themselves a x) (apply_ground themselves b y)
-          (f (alias_relate_predicate Equate a b) (of_aliases _ refl i n s refl) themselves))
-      types_by_goal Bivariant i n s t f = anything refl
-
-      consts_by_goal : (v : Variance) → v ≢ Bivariant → HaveAlias a b → a ≢ b → sort_of a ≡ const_sort →
-          sort_of b ≡ const_sort → AskedHolds v a b → Rel c w e (at v) a b
-      consts_by_goal v d i n s t f = equal_consts s t
-          (subst₂ (IsEqualPair w e) (apply_ground themselves a x) (apply_ground themselves b y)
-          (f (alias_relate_predicate Equate a b) (of_unevaluated refl i n s d) themselves))
-
-      decides_or : (v : Variance) → (v ≡ Bivariant) ⊎ (v ≢ Bivariant)
-      decides_or Bivariant = inl refl
-      decides_or v = inr (λ p. cc)
-
-      by_goal : (v : Variance) → HaveAlias a b → sort_of a ≡ sort_of b → AskedHolds v a b → Rel c w e (at v) a b
-      by_goal v i s f = go (same_tree a b) refl
-        where
-          unlike : a ≢ b → (sort_of a ≡ type_sort) ⊎ (sort_of a ≡ const_sort) → (v ≡ Bivariant) ⊎ (v ≢ Bivariant) →
-              Rel c w e (at v) a b
-          unlike n o (inl p) = anything p
-          unlike n (inl t) (inr d) = types_by_goal v i n t (sym s ∙ t) f
-          unlike n (inr t) (inr d) = consts_by_goal v d i n t (sym s ∙ t) f
-
-          go : (q : Bool) → same_tree a b ≡ q → Rel c w e (at v) a b
-          go true p = same (same_is a b p)
-          go false p = unlike (λ q. false≢true (sym p ∙ is_same a b q)) (alias_or a b i s) (decides_or v)
+pub errors_are_unrelated : (Key Id Name : Type 0) → ErrorsAreUnrelated Key Id Name
+errors_are_unrelated Key Id Name m sorted k c st sound v x a b p f g r w e z =
+    errors_disagree Key Id Name m sorted k c st sound v x a b p r (related_agree k c w e v a b p f g z)

@@ -18,7 +18,7 @@ use Rattle.relation_contexts.proofs.Agreeing.{agree_sorts}
 use Rattle.relation_contexts.proofs.Answering.{covariantly}
 use Rattle.relation_contexts.proofs.Asking.{no_alias_term}
 use Rattle.relation_contexts.proofs.Erased.{leaf_path, erase_region, no_error_atom}
-use Rattle.type_relations.proofs.Leaving.{opaque_is_alias, beside_is_opaque}
+use Rattle.relation_contexts.proofs.Leaving.{opaque_is_alias, beside_is_opaque}
 use Rattle.type_relations.proofs.Unifying.{kind_kept, atom_erased, erased_sort}
 
 -- A plain term without aliases, or without binders where aliases are left to goals.

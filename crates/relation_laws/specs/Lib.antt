@@ -3,3 +3,5 @@ pub mod RejectionLaws
 pub mod Decided
 pub mod SolutionLaws
 pub mod OpenedInstances
+pub mod AskingLaws
+pub mod CompletenessLaws
