@@ -156,16 +156,12 @@ module _ (c : Items) (w : Interpretation) (e : Tree) where
     is_alias_head (unevaluated d) = inl tt
     is_alias_head h = inr (λ i. i)
 
-    neither : {h k : Head} {ts us : Tree} → (IsAliasHead h → ⊥) → (IsAliasHead k → ⊥) →
-        HaveAlias (node h ts) (node k us) → ⊥
-    neither n o (inl i) = n i
-    neither n o (inr i) = o i
-
     -- What is asked of two forms is asked of their parts.
     asked_of_parts : (v : Variance) (h k : Head) (ts us : Tree) → (HaveAlias (node h ts) (node k us) → ⊥) →
         IsRelatedHead h → plain h ≡ plain k → AskedHolds c w e v (node h ts) (node k us) → (j : ℕ) → j < count ts →
-        j < count us → AskedHolds c w e (part_at c h j v) (nth j ts) (nth j us)
-    asked_of_parts v h k ts us n r p f j l m q asks = f q (of_parts j refl refl n r p l m asks)
+        j < count us → AskedHolds c w e (part_at c h (0 + j) v) (nth j ts) (nth j us)
+    asked_of_parts v h k ts us n r p f j l m q asks = f q (of_parts j refl refl n r p l m
+        (subst (λ i. Asks c (a_goal q) (part_at c h i v) (nth j ts) (nth j us)) (omega arith) asks))
 
     suited_parts : (h : Head) (ts : Tree) → Suited (node h ts) → Suited ts
     suited_parts h ts x = (x.0.2, x.1.1, x.2, x.3)
@@ -175,6 +171,28 @@ module _ (c : Items) (w : Interpretation) (e : Tree) where
 
     suited_rest : (t ts : Tree) → Suited (cons t ts) → Suited ts
     suited_rest t ts x = (x.0.2, x.1.1, x.2.1, x.3.1)
+
+    -- Two forms are related by their parts, or by their goal where one is an alias.
+    forms_or_goal : (v : Variance) (h k : Head) (ts us : Tree) → Suited (node h ts) → Suited (node k us) →
+        AskedHolds c w e v (node h ts) (node k us) → (plain h ≡ plain k) × Agree set c (parts h 0 v) ts us →
+        ((HaveAlias (node h ts) (node k us) → ⊥) → Rel c w e (parts h 0 v) ts us) →
+        Rel c w e (at v) (node h ts) (node k us)
+    forms_or_goal v h k ts us x y f r by_parts = go (is_alias_head h) (is_alias_head k)
+      where
+        by_sorts : HaveAlias (node h ts) (node k us) → (v ≡ Bivariant) ⊎ (sort_of (node h ts) ≡ sort_of (node k us)) →
+            Rel c w e (at v) (node h ts) (node k us)
+        by_sorts o (inl p) = anything p
+        by_sorts o (inr s) = by_goal (node h ts) (node k us) x.3 y.3 v o s f
+
+        neither : (IsAliasHead h → ⊥) → (IsAliasHead k → ⊥) → HaveAlias (node h ts) (node k us) → ⊥
+        neither n o (inl i) = n i
+        neither n o (inr i) = o i
+
+        go : IsAliasHead h ⊎ (IsAliasHead h → ⊥) → IsAliasHead k ⊎ (IsAliasHead k → ⊥) →
+            Rel c w e (at v) (node h ts) (node k us)
+        go (inl o) q = by_sorts (inl o) (agree_sorts set c v (node h ts) (node k us) (inr r))
+        go (inr n) (inl o) = by_sorts (inr o) (agree_sorts set c v (node h ts) (node k us) (inr r))
+        go (inr n) (inr o) = forms (related_head h x.1.0) r.0 (by_parts (neither n o))
 
     mutual
       pub agreeing_related : (v : Variance) (a b : Tree) → IsNode a → IsNode b → Suited a → Suited b →
@@ -186,20 +204,9 @@ module _ (c : Items) (w : Interpretation) (e : Tree) where
       agreeing_related v (node h ts) (leaf m) i j x y f (inl p) = aside v (node h ts) (leaf m) x y f p
       agreeing_related v (node h ts) (leaf m) i j x y f (inr r) = form_is_no_leaf h ts m y.1 r
       agreeing_related v (node h ts) (node k us) i j x y f (inl p) = aside v (node h ts) (node k us) x y f p
-      agreeing_related v (node h ts) (node k us) i j x y f (inr r) = go (is_alias_head h) (is_alias_head k)
-        where
-          by_sorts : HaveAlias (node h ts) (node k us) → (v ≡ Bivariant) ⊎ (sort_of (node h ts) ≡ sort_of (node k us)) →
-              Rel c w e (at v) (node h ts) (node k us)
-          by_sorts o (inl p) = anything p
-          by_sorts o (inr s) = by_goal (node h ts) (node k us) x.3 y.3 v o s f
-
-          go : IsAliasHead h ⊎ (IsAliasHead h → ⊥) → IsAliasHead k ⊎ (IsAliasHead k → ⊥) →
-              Rel c w e (at v) (node h ts) (node k us)
-          go (inl o) q = by_sorts (inl o) (agree_sorts set c v (node h ts) (node k us) (inr r))
-          go (inr n) (inl o) = by_sorts (inr o) (agree_sorts set c v (node h ts) (node k us) (inr r))
-          go (inr n) (inr o) = forms (related_head h x.1.0) r.0 (parts_related h v 0 ts us x.0.0 y.0.0
-              (suited_parts h ts x) (suited_parts k us y)
-              (asked_of_parts v h k ts us (neither n o) (related_head h x.1.0) r.0 f) r.1)
+      agreeing_related v (node h ts) (node k us) i j x y f (inr r) = forms_or_goal v h k ts us x y f r
+          (λ n. parts_related h v 0 ts us x.0.0 y.0.0 (suited_parts h ts x) (suited_parts k us y)
+          (asked_of_parts v h k ts us n (related_head h x.1.0) r.0 f) r.1)
       agreeing_related v (bind ks a) b i j x y f r = absurd x.2
       agreeing_related v a (bind ls b) i j x y f r = absurd y.2
       agreeing_related v nil b i j x y f r = absurd i
