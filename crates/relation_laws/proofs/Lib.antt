@@ -1,11 +1,5 @@
 pub mod SmallTerms
 pub mod Assigning
-pub mod PlainTerms
-pub mod PlainForms
-pub mod Disagreeing
-pub mod RegionTerms
-pub mod AskedGoals
-pub mod Completing
 pub mod Deciding
 pub mod Rejected
 pub mod FreeValues

@@ -31,7 +31,7 @@ ghost use Rattle.type_relations.specs.UniverseLaws.{GeneralisingKeepsUniverse};
 ghost use Rattle.relation_laws.specs.RejectionLaws.{ClashesDoNotUnify, ClashesAreNotRelated};
 ghost use Rattle.relation_laws.specs.SolutionLaws.{FreeValues, MadeIsUnconstrainedErased, TermStays};
 ghost use Rattle.relation_laws.specs.OpenedInstances.{OpenedIsInstance};
-ghost use Rattle.relation_laws.specs.RegionTerms.{RelatedTermsAgree, RelatedIffAgree};
+ghost use Rattle.type_relations.specs.RegionTerms.{RelatedTermsAgree, RelatedIffAgree};
 
 use relation_contexts::infer_ctxt::InferCtxtLike;
 use type_relations::relate::Relate;

@@ -19,7 +19,8 @@ use Rattle.relation_contexts.proofs.Answering.{covariantly}
 use Rattle.relation_contexts.proofs.Asking.{no_alias_term}
 use Rattle.relation_contexts.proofs.Erased.{leaf_path, erase_region, no_error_atom}
 use Rattle.relation_contexts.proofs.Leaving.{opaque_is_alias, beside_is_opaque}
-use Rattle.type_relations.proofs.Unifying.{kind_kept, atom_erased, erased_sort}
+use Rattle.type_relations.proofs.RegionTerms.{erased_error, leaf_outer, outer_erased}
+use Rattle.type_relations.proofs.Unifying.{atom_erased, erased_sort}
 
 -- A plain term without aliases, or without binders where aliases are left to goals.
 abbrev pub Suits : Settings → Tree → Type 0
@@ -113,12 +114,6 @@ kept_all value_type ts n = absurd (n refl)
 kept_all h ts n = refl
 
 -- Leaves of other sorts than regions agree with none but those that are alike.
-pub erased_error : (x : Atom) → IsErrorAtom (erase_atom x) → IsErrorAtom x
-erased_error (early_region i n) e = e
-erased_error (type_param i n) e = e
-erased_error (const_param i n) e = e
-erased_error x e = e
-
 not_flexible : (l : Leaf) → IsPlainLeaf l → leaf_sort l ≢ region_sort → IsFlexible (leaf (erase_leaf l)) → ⊥
 not_flexible (variable k n) f o h = o f
 not_flexible (bound k d i) f o h = o f
@@ -129,19 +124,8 @@ not_flexible (atom x) f o (inl e) = no_error_atom x (erased_error x e) f
 not_flexible (atom x) f o (inr s) = o (sym (atom_erased x) ∙ s)
 not_flexible unknown f o h = f
 
-atom_kept : (x : Atom) → atom_sort x ≢ region_sort → plain_atom (erase_atom x) ≡ plain_atom x
-atom_kept (early_region i m) n = absurd (n refl)
-atom_kept (type_param i m) n = refl
-atom_kept (const_param i m) n = refl
-atom_kept x n = refl
-
 pub outer_kept : (l : Leaf) → leaf_sort l ≢ region_sort → outer_leaf (erase_leaf l) ≡ outer_leaf l
-outer_kept (variable region_var m) n = absurd (n refl)
-outer_kept (variable k m) n = refl
-outer_kept (bound (bound_kind k m) d i) n = ap outer_leaf (kind_kept k _ n)
-outer_kept (placeholder (bound_kind k m) u i) n = ap outer_leaf (kind_kept k _ n)
-outer_kept (atom x) n = ap atom (atom_kept x n)
-outer_kept unknown n = refl
+outer_kept l n = outer_erased l ∙ leaf_outer l n
 
 pub sort_no_region : (s t : Sort) → s ≡ t → t ≢ region_sort → s ≢ region_sort
 sort_no_region s t e n f = n (sym e ∙ f)

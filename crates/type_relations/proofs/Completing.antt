@@ -1,27 +1,42 @@
 -- Plain terms without variables are related where they agree, all regions outliving each other and what is asked of
 -- aliases being so; where they are related their erasures agree, and no error comes.
-use Rattle.std.proofs.Common.{◌≡◌, ◌≢◌, ◌⊎◌, ℕ, suc, refl, sym, ap, ◌∙◌, inl, inr, subst₂, None}
+use Rattle.std.proofs.Common.{◌≡◌, ◌≢◌, ◌⊎◌, ℕ, suc, refl, sym, ap, ap₂, ◌∙◌, inl, inr, subst, subst₂, Option, None, Result, Ok, Err}
+use Rattle.std.specs.Global.{Vec}
 use Rattle.term_enums.specs.declared.Variance.{Variance}
 use Rattle.term_enums.specs.declared.Variance.TheVariants.{Covariant, Contravariant, Invariant, Bivariant}
+use Rattle.relation_terms.specs.declared.terms.goal.Goal.{Goal}
+use Rattle.relation_terms.specs.declared.terms.keys.PredicateKey.{PredicateKey}
+use Rattle.relation_terms.specs.declared.terms.keys.ParamEnvKey.{ParamEnvKey}
+use Rattle.relation_terms.specs.Meaning.{Meaning, Extends}
+use Rattle.relation_terms.specs.Interning.{Sorted}
+use Rattle.relation_folds.specs.declared.error.TypeError.{TypeError}
+use Rattle.relation_folds.specs.declared.error.RelateFault.{RelateFault}
+use Rattle.relation_folds.specs.declared.error.RelateFault.TheVariants.{Memory, Budget, Unrelated}
+use Rattle.relation_contexts.specs.declared.relate.StructurallyRelateAliases.{StructurallyRelateAliases}
+use Rattle.relation_contexts.specs.Contexts.{Context}
+use Rattle.relation_contexts.specs.Lawful.{items_of, declared_by}
+use Rattle.relation_contexts.specs.Stores.{Store, IsSound}
 use Rattle.relation_terms.specs.Heads.{Sort, region_sort, region_kind, type_kind, const_kind, bound_kind, region_var, leaf_sort, Atom, atom_sort, early_region, type_param, const_param, Head, fn_ptr, unsafe_binder, alias, alias_term, unevaluated, value_type, Leaf, variable, bound, placeholder, atom, unknown, one, term_of}
 use Rattle.relation_terms.specs.Trees.{Tree, leaf, node, bind, nil, cons, count, Leaves}
 use Rattle.relation_terms.specs.Erasure.{erase, erase_leaf, erase_atom, kept_parts}
 use Rattle.relation_contexts.specs.Relation.{Items, Interpretation, Rel, at, parts, same, anything, error_left, error_right, regions, alias_types, equal_consts, atoms, forms, no_parts, next_part, covariant_binders, contravariant_binders, invariant_binders, part_at, plain, sort_of, IsError, IsErrorAtom, IsAlias, IsAliasHead, AliasRule, IsValue, IsValueLeaf}
 use Rattle.relation_contexts.specs.Settings.{Settings, LeavesAliases}
 use Rattle.relation_contexts.specs.Steps.{HasNoBinder}
-use Rattle.relation_contexts.specs.Errors.{outer_leaf, AreAlike}
+use Rattle.relation_contexts.specs.Errors.{outer_leaf, AreAlike, ErrorOf}
 use Rattle.relation_contexts.specs.Agreeing.{IsFlexible, AreFlexible, IsLeftAside, Agree}
 use Rattle.relation_contexts.specs.Asking.{HaveAlias, IsPlainHead, IsPlainTerm, HasNoAlias, ArePlain, without_aliases, without_binders}
 use Rattle.relation_contexts.proofs.Agreeing.{agree_anything, agree_same, agree_left, agree_sorts, region_flexible}
 use Rattle.relation_contexts.proofs.Asking.{no_alias_term}
 use Rattle.relation_contexts.proofs.Erased.{leaf_path, erase_region, erase_plain, no_error_atom}
 use Rattle.type_relations.proofs.Unifying.{erased_sort}
-use Rattle.relation_laws.specs.CompletenessLaws.{AskedHolds, ErrorsDisagree, ErrorsAreUnrelated}
-use Rattle.relation_laws.specs.RegionTerms.{IsRegionTermHead, IsRegionTerm}
-use Rattle.relation_laws.proofs.AskedGoals.{agreeing_related}
-use Rattle.relation_laws.proofs.Disagreeing.{disagree}
-use Rattle.relation_laws.proofs.PlainTerms.{no_left, outer_kept, left_good, right_good}
-use Rattle.relation_laws.proofs.RegionTerms.{shaped, region_or, related_terms_agree, related_iff_agree}
+use Rattle.type_relations.specs.Completing.{AreRelatedAsAsked, AreNeverRelated, ErrorsDisagree, ErrorsAreUnrelated, AgreeingAreRelated, Completes}
+use Rattle.type_relations.specs.Relating.{term_in, RelatesAgreeing, AnswersError}
+use Rattle.type_relations.specs.Solving.{solver_settings}
+use Rattle.type_relations.specs.RegionTerms.{IsRegionTermHead, IsRegionTerm}
+use Rattle.type_relations.proofs.AskedGoals.{agreeing_related}
+use Rattle.type_relations.proofs.Disagreeing.{disagree}
+use Rattle.type_relations.proofs.PlainTerms.{no_left, outer_kept, left_good, right_good}
+use Rattle.type_relations.proofs.RegionTerms.{shaped, region_or, rule_alias, related_terms_agree, related_iff_agree}
 
 -- A plain term without variables and aliases is first-order but for binders of regions.
 region_head : (h : Head) → IsPlainHead h → (IsAliasHead h → ⊥) → IsRegionTermHead h
@@ -79,14 +94,6 @@ module _ (set : Settings) (c : Items) where
   no_error : (a : Tree) → IsError a → IsPlainTerm a → ⊥
   no_error (leaf (atom x)) h f = no_error_atom x h f
   no_error a h f = h
-
-  rule_alias : (w : Interpretation) (e : Tree) (v : Variance) (a b : Tree) → AliasRule w e v a b →
-      (v ≡ Bivariant) ⊎ HaveAlias a b
-  rule_alias w e Covariant a b r = inr r.1
-  rule_alias w e Contravariant a b (r, inl i) = inr (inr i)
-  rule_alias w e Contravariant a b (r, inr i) = inr (inl i)
-  rule_alias w e Invariant a b r = inr r.1
-  rule_alias w e Bivariant a b r = inl refl
 
   alias_kept : (a : Tree) → IsAlias a → IsAlias (erase a)
   alias_kept (node h ts) i = i
@@ -216,15 +223,17 @@ module _ (set : Settings) (c : Items) where
     erased_parts h i v xs ys f g r = erased_count xs ∙ r ∙ sym (erased_count ys)
 
   -- Those that agree are related, where all regions outlive each other and what is asked of aliases is so.
-  pub agreeing_are_related : (w : Interpretation) (e : Tree) (v : Variance) (s : Sort) (a b : Tree) →
-      w.outlives ≡ None → IsValue s a → IsValue s b → ArePlain set a b → AskedHolds c w e v a b →
-      Agree set c (at v) a b → Rel c w e (at v) a b
-  agreeing_are_related w e v s a b all x y (without_aliases p q f g) asked r = (related_iff_agree set c w e v s a b all
+  related_as_asked : (e : Tree) (v : Variance) (s : Sort) (a b : Tree) → IsValue s a → IsValue s b → ArePlain set a b →
+      Agree set c (at v) a b → AreRelatedAsAsked c e v a b
+  related_as_asked e v s a b x y (without_aliases p q f g) r w all asked = (related_iff_agree set c w e v s a b all
       x.0 y.0 (plain_region_term a p f x.1) (plain_region_term b q g y.1)).1 (erased_agree v a b f g r)
-  agreeing_are_related w e v s a b all x y (without_binders p q f g l) asked r =
+  related_as_asked e v s a b x y (without_binders p q f g l) r w all asked =
       let t = shaped (one (term_of s)) a x.0 in
       let u = shaped (one (term_of s)) b y.0 in
       agreeing_related c w e set all v a b t.0 u.0 (t.1, p, f, x.1) (u.1, q, g, y.1) asked r
+
+pub agreeing_are_related : AgreeingAreRelated
+agreeing_are_related k c e v s a b x y p r = related_as_asked k c e v s a b x y p r
 
 -- An error excludes that.
 pub errors_disagree : (Key Id Name : Type 0) → ErrorsDisagree Key Id Name
@@ -232,5 +241,30 @@ errors_disagree Key Id Name m sorted k c st sound v x a b p r z =
     disagree m sorted k c st sound.regions_unbound r (left_good k a b p) (right_good k a b p) z
 
 pub errors_are_unrelated : (Key Id Name : Type 0) → ErrorsAreUnrelated Key Id Name
-errors_are_unrelated Key Id Name m sorted k c st sound v x a b p f g r w e z =
+errors_are_unrelated Key Id Name m sorted k c st sound v x a b p f g r e w z =
     errors_disagree Key Id Name m sorted k c st sound v x a b p r (related_agree k c w e v a b p f g z)
+
+-- So a call completes that answers only what agrees, and only such errors.
+module _ {S Key Id Name A X : Type 0} (state : S → Context Key Id Name) (old new : S) (over : Option Head)
+    (tree : Meaning Key Id Name → A → Tree) (sorted : Sorted (state new).meaning) (sound : IsSound (state new).store)
+    (grown : Extends (state old).meaning (state new).meaning) (setup : (state new).setup ≡ (state old).setup) where
+  unrelated_before : (g : StructurallyRelateAliases) (e : Tree) (v : Variance) (a b : Tree) (x : TypeError Key Id Name) →
+      ArePlain (solver_settings g (state old).setup) a b → Leaves IsValueLeaf a → Leaves IsValueLeaf b →
+      ErrorOf (state new).meaning (solver_settings g (state new).setup) (items_of (state new).meaning) (state new).store v
+      x a b → AreNeverRelated (items_of (state old).meaning) e v a b
+  unrelated_before g e v a b x p f f' r = subst (λ c. AreNeverRelated c e v a b) (ap₂ declared_by grown.variances
+      grown.alias_variances) (errors_are_unrelated Key Id Name (state new).meaning sorted
+      (solver_settings g (state new).setup) (items_of (state new).meaning) (state new).store sound v x a b
+      (subst (λ s. ArePlain (solver_settings g s) a b) (sym setup) p) f f' r e)
+
+  pub completes : (g : StructurallyRelateAliases) (e : ParamEnvKey Key) (v : Variance) (a b : A)
+      (result : Result (Vec (Goal Key (PredicateKey Key))) (RelateFault Key Id Name)) →
+      RelatesAgreeing state old new over tree g v a b result → AnswersError state old new over tree g v a b result →
+      Completes state old new over tree g e v a b result
+  completes g e v a b (Ok goals) agrees errors s x y p = agreeing_are_related (solver_settings g (state old).setup)
+      (items_of (state old).meaning) (((state old).meaning).param_env e) v s (term_in (state old) over tree a)
+      (term_in (state old) over tree b) x y p agrees
+  completes g e v a b (Err (Unrelated z)) agrees errors s x y p = unrelated_before g
+      (((state old).meaning).param_env e) v (term_in (state old) over tree a) (term_in (state old) over tree b) z p x.1 y.1
+      errors
+  completes g e v a b (Err f) agrees errors s x y p = tt

@@ -21,8 +21,8 @@ use Rattle.relation_contexts.proofs.Erased.{leaf_path, no_error_atom}
 use Rattle.relation_contexts.proofs.Leaving.{opaque_is_alias, beside_is_opaque}
 use Rattle.relation_contexts.proofs.Related.{no_region_head}
 use Rattle.relation_contexts.proofs.Trees.{apply_ground}
-use Rattle.relation_laws.specs.CompletenessLaws.{AskedHolds}
-use Rattle.relation_laws.proofs.RegionTerms.{IsNode, IsShaped, all_rule}
+use Rattle.type_relations.specs.Completing.{AskedHolds}
+use Rattle.type_relations.proofs.RegionTerms.{IsNode, IsShaped, all_rule, outer_related}
 
 module _ (c : Items) (w : Interpretation) (e : Tree) where
   themselves : Assign
@@ -122,22 +122,13 @@ module _ (c : Items) (w : Interpretation) (e : Tree) where
     flexible_region (atom x) f (inr s) = s
     flexible_region unknown f o = absurd f
 
-    outer_related : (v : Variance) (l m : Leaf) → outer_leaf l ≡ outer_leaf m → Rel c w e (at v) (leaf l) (leaf m)
-    outer_related v (atom x) (atom y) p = atoms (atom_path p)
-      where
-        atom_path : {y z : _} → atom y ≡ atom z → y ≡ z
-        atom_path p = cc
-    outer_related v (atom x) m p = same (absurd cc)
-    outer_related v l (atom y) p = same (absurd cc)
-    outer_related v l m p = same (ap leaf p)
-
     leaf_related : (v : Variance) (l m : Leaf) → IsPlainLeaf l → IsPlainLeaf m →
         AreFlexible (leaf l) (leaf m) ⊎ AreAlike (leaf l) (leaf m) → Rel c w e (at v) (leaf l) (leaf m)
     leaf_related v l m f g (inl (inl o, s)) =
         let p = flexible_region l f o in regions p (sym s ∙ p) (all_rule w v (leaf l) (leaf m) all)
     leaf_related v l m f g (inl (inr o, s)) =
         let p = flexible_region m g o in regions (s ∙ p) p (all_rule w v (leaf l) (leaf m) all)
-    leaf_related v l m f g (inr p) = outer_related v l m (leaf_path p)
+    leaf_related v l m f g (inr p) = outer_related c w e v l m (leaf_path p)
 
     leaf_is_no_form : {X : Type 0} (l : Leaf) (k : Head) (us : Tree) → IsPlainLeaf l →
         AreFlexible (leaf l) (node k us) ⊎ AreAlike (leaf l) (node k us) → X

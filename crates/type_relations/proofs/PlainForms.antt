@@ -18,7 +18,7 @@ use Rattle.relation_contexts.specs.Asking.{IsPlainLeaf, IsPlainHead, BindsRegion
 use Rattle.relation_contexts.proofs.Answering.{covariantly}
 use Rattle.relation_contexts.proofs.Erased.{erase_region}
 use Rattle.relation_contexts.proofs.Related.{no_region_head}
-use Rattle.relation_laws.proofs.PlainTerms.{Good, good_parts, good_first, good_rest, no_left, Met, FormsAgree, forms_agree, agree_counts, leaves_alike, leaf_form, form_leaf, Alike, admitted_const, admitted_value, const_no_region, value_no_region, sort_no_region, no_alias_head}
+use Rattle.type_relations.proofs.PlainTerms.{Good, good_parts, good_first, good_rest, no_left, Met, FormsAgree, forms_agree, agree_counts, leaves_alike, leaf_form, form_leaf, Alike, admitted_const, admitted_value, const_no_region, value_no_region, sort_no_region, no_alias_head}
 
 -- Value trees that agree are one, or have as many branches.
 value_atom : (x y : Atom) → atom_sort x ≡ value_sort → plain_atom x ≡ plain_atom y → atom_sort y ≡ value_sort → x ≡ y

@@ -21,8 +21,8 @@ use Rattle.relation_contexts.specs.Agreeing.{Agree}
 use Rattle.relation_contexts.specs.Asking.{HasNoAlias}
 use Rattle.relation_contexts.proofs.Answering.{covariantly}
 use Rattle.relation_contexts.proofs.Asking.{part_bivariant}
-use Rattle.relation_laws.proofs.PlainTerms.{Suits, Good, good_parts, good_first, good_rest, good_nth, suits_body, no_left, alias_left, admitted_type, Alike, Met, met_as, FormsAgree, forms_agree, no_alias_head, agree_counts, agree_at, same_sort, leaves_alike, types_alike}
-use Rattle.relation_laws.proofs.PlainForms.{no_pattern, stand_regions, inst_plain, inst_no_alias, erase-inst, RegionsUnbound, read_good, no_placeholder, plain_known, consts_alike, existentials_alike}
+use Rattle.type_relations.proofs.PlainTerms.{Suits, Good, good_parts, good_first, good_rest, good_nth, suits_body, no_left, alias_left, admitted_type, Alike, Met, met_as, FormsAgree, forms_agree, no_alias_head, agree_counts, agree_at, same_sort, leaves_alike, types_alike}
+use Rattle.type_relations.proofs.PlainForms.{no_pattern, stand_regions, inst_plain, inst_no_alias, erase-inst, RegionsUnbound, read_good, no_placeholder, plain_known, consts_alike, existentials_alike}
 
 type_is_no_value_type : (h : Head) → head_sort h ≡ type_sort → h ≡ value_type → ⊥
 type_is_no_value_type h e d = let z : head_sort value_type ≡ type_sort = sym (ap head_sort d) ∙ e in cc
