@@ -45,20 +45,20 @@ HaveAlias a b = IsAlias a ⊎ IsAlias b
 -- What relating two terms at a variance asks for: of two regions their constraint; of two of which one is an alias, unless
 -- they are one, its goal; of two others of one form what their parts ask for, each pair at the variance of its place.
 -- Nothing is asked at bivariance. Of binders it is said what stands outside of them.
-pub data Asks (c : Items) (z : Wanted) : Variance → Tree → Tree → Type 0 where
+pub data AsksFor (c : Items) (z : Wanted) : Variance → Tree → Tree → Type 0 where
   of_regions : {v : Variance} {a b : Tree} (q : Constraint) → z ≡ a_constraint q → sort_of a ≡ region_sort →
-      sort_of b ≡ region_sort → region_at v a b ≡ Some q → Asks c z v a b
+      sort_of b ≡ region_sort → region_at v a b ≡ Some q → AsksFor c z v a b
   of_aliases : {v : Variance} {a b : Tree} (p : Tree) → z ≡ a_goal p → HaveAlias a b → a ≢ b → sort_of a ≡ type_sort →
-      alias_at v a b ≡ Some p → Asks c z v a b
+      alias_at v a b ≡ Some p → AsksFor c z v a b
   of_unevaluated : {v : Variance} {a b : Tree} → z ≡ a_goal (alias_relate_predicate Equate a b) → HaveAlias a b →
-      a ≢ b → sort_of a ≡ const_sort → v ≢ Bivariant → Asks c z v a b
+      a ≢ b → sort_of a ≡ const_sort → v ≢ Bivariant → AsksFor c z v a b
   of_parts : {v : Variance} {h k : Head} {a b ts us : Tree} (i : ℕ) → a ≡ node h ts → b ≡ node k us →
       (HaveAlias a b → ⊥) → IsRelatedHead h → plain h ≡ plain k → i < count ts → i < count us →
-      Asks c z (part_at c h i v) (nth i ts) (nth i us) → Asks c z v a b
+      AsksFor c z (part_at c h i v) (nth i ts) (nth i us) → AsksFor c z v a b
 
 -- What the parts of two forms ask for.
 abbrev pub PartsAsk : Items → Head → Variance → Tree → Tree → Wanted → Type 0
-PartsAsk c h v ts us z = (i : ℕ) × (i < count ts) × (i < count us) × Asks c z (part_at c h i v) (nth i ts) (nth i us)
+PartsAsk c h v ts us z = (i : ℕ) × (i < count ts) × (i < count us) × AsksFor c z (part_at c h i v) (nth i ts) (nth i us)
 
 -- Of inference variables and of what binders bind regions alone; and no error.
 abbrev pub IsPlainLeaf : Leaf → Type 0

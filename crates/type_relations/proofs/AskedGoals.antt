@@ -15,7 +15,7 @@ use Rattle.relation_contexts.specs.Steps.{HasNoBinder}
 use Rattle.relation_contexts.specs.Goals.{alias_relate_predicate}
 use Rattle.relation_contexts.specs.Errors.{outer_leaf, AreAlike, IsLeftToGoal}
 use Rattle.relation_contexts.specs.Agreeing.{IsFlexible, AreFlexible, IsLeftAside, Agree}
-use Rattle.relation_contexts.specs.Asking.{a_goal, HaveAlias, Asks, of_aliases, of_unevaluated, of_parts, IsPlainLeaf, IsPlainHead, IsPlainTerm}
+use Rattle.relation_contexts.specs.Asking.{a_goal, HaveAlias, AsksFor, of_aliases, of_unevaluated, of_parts, IsPlainLeaf, IsPlainHead, IsPlainTerm}
 use Rattle.relation_contexts.proofs.Agreeing.{agree_sorts}
 use Rattle.relation_contexts.proofs.Erased.{leaf_path, no_error_atom}
 use Rattle.relation_contexts.proofs.Leaving.{opaque_is_alias, beside_is_opaque}
@@ -152,7 +152,7 @@ module _ (c : Items) (w : Interpretation) (e : Tree) where
         IsRelatedHead h → plain h ≡ plain k → AskedHolds c w e v (node h ts) (node k us) → (j : ℕ) → j < count ts →
         j < count us → AskedHolds c w e (part_at c h (0 + j) v) (nth j ts) (nth j us)
     asked_of_parts v h k ts us n r p f j l m q asks = f q (of_parts j refl refl n r p l m
-        (subst (λ i. Asks c (a_goal q) (part_at c h i v) (nth j ts) (nth j us)) (omega arith) asks))
+        (subst (λ i. AsksFor c (a_goal q) (part_at c h i v) (nth j ts) (nth j us)) (omega arith) asks))
 
     suited_parts : (h : Head) (ts : Tree) → Suited (node h ts) → Suited ts
     suited_parts h ts x = (x.0.2, x.1.1, x.2, x.3)

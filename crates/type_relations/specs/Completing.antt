@@ -23,13 +23,13 @@ use Rattle.relation_contexts.specs.Errors.{ErrorOf}
 use Rattle.relation_contexts.specs.Agreeing.{Agree}
 use Rattle.relation_contexts.specs.Lawful.{items_of}
 use Rattle.relation_contexts.specs.Contexts.{Context}
-use Rattle.relation_contexts.specs.Asking.{a_goal, Asks, ArePlain}
+use Rattle.relation_contexts.specs.Asking.{a_goal, AsksFor, ArePlain}
 use Rattle.type_relations.specs.Solving.{solver_settings}
 use Rattle.type_relations.specs.Relating.{term_in}
 
 -- What relating two terms asks of aliases is so under an interpretation.
 abbrev pub AskedHolds : Items → Interpretation → Tree → Variance → Tree → Tree → Type 0
-AskedHolds c w e v a b = (p : Tree) → Asks c (a_goal p) v a b → (s : Assign) → Holds c w s (goal_of e p)
+AskedHolds c w e v a b = (p : Tree) → AsksFor c (a_goal p) v a b → (s : Assign) → Holds c w s (goal_of e p)
 
 -- Two terms are related wherever all regions outlive each other and what is asked of aliases is so.
 abbrev pub AreRelatedAsAsked : Items → Tree → Variance → Tree → Tree → Type 0
