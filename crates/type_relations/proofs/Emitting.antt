@@ -31,6 +31,14 @@ module _ {Key Id Name : Type 0} (m : Meaning Key Id Name) where
     lawful = λ l. (l.0, (l.1.0, subst (All (KnowsGoal m)) (sym pushed) (All-append (KnowsGoal m) gs xs l.1.1 sure)));
   }
 
+  -- One was, of a known predicate.
+  pub goal_added : {A F : Type 0} (j : Held Key) (gs hs : List (KeyedGoal Key (PredicateKey Key))) (st : Store) (L : Type 0)
+      (v : Variance) (e : ParamEnvKey Key) (p : PredicateKey Key) → hs ≡ gs ++ record { param_env = e; predicate = p } ∷ [] →
+      IsTrue (known (m.param_env e)) → KnowsPredicate m p → (x : A) →
+      AddsGoals {F = F} (solving j gs m st L v e) (solving j hs m st L v e) (goal_of (m.param_env e) (m.predicate p) ∷ []) (Ok x)
+  goal_added j gs hs st L v e p pushed env sure x = goals_added j gs hs (record { param_env = e; predicate = p } ∷ []) st L v e
+      pushed (All-cons (KnowsGoal m) (record { param_env = e; predicate = p }) [] (env, sure) (All-nil (KnowsGoal m))) x
+
   -- None was, since a growth was refused.
   pub none_added : {A F : Type 0} (j : Held Key) (gs hs : List (KeyedGoal Key (PredicateKey Key))) (st : Store) (L : Type 0)
       (v : Variance) (e : ParamEnvKey Key) → hs ≡ gs → (added : List Goal) (res : Result A F) → IsErr res →

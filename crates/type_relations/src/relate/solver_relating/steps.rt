@@ -204,9 +204,9 @@ impl<'a, Infcx: InferCtxtLike> SolverRelating<'a, Infcx> {
     {
         if let Variance::Invariant = self.ambient_variance {
             self.infcx.equate_ty_vids_raw(x, y);
-        } else {
-            self.register_subtype_predicate(a, b)?;
+            return Ok(Step::Done(*a));
         }
+        self.register_subtype_predicate(a, b)?;
         Ok(Step::Done(*a))
     }
 

@@ -1,9 +1,7 @@
 use Rattle.std.proofs.Common.{[], ◌∷◌}
-use Rattle.std.proofs.lemmas.List.Elements.{All-nil, All-cons}
-use Rattle.relation_contexts.specs.Goals.{KnowsGoal}
 use Rattle.type_relations.specs.Emitting.{goals_in}
 use Rattle.type_relations.specs.Solving.{held_by, solving_through}
-use Rattle.type_relations.proofs.Emitting.{goals_added, none_added}
+use Rattle.type_relations.proofs.Emitting.{goal_added, none_added}
 use Rattle.type_relations.proofs.relate.solver_relating.relation.SolverRelating.register.Goals as goal
 
 pub returns-in_err-push : goal.returns-in_err-push
@@ -19,7 +17,6 @@ pub returns : goal.returns
 returns g c =
     let r = c.args.self.now in
     let s = g.Infcx.InferCtxtLike.state r.infcx.now in
-    let added = record { param_env = r.param_env; predicate = c.args.predicate } in
-    goals_added s.meaning (held_by r.structurally_relate_aliases r.infcx.ghost_name s) r.goals.items c.push.new.self.items
-    (added ∷ []) s.store s.lawful r.ambient_variance r.param_env c.in_ok-push.ensures.items
-    (All-cons (KnowsGoal s.meaning) added [] (c.requires.lawful.1.0, c.requires.known) (All-nil (KnowsGoal s.meaning))) (tt {0})
+    goal_added s.meaning (held_by r.structurally_relate_aliases r.infcx.ghost_name s) r.goals.items c.push.new.self.items
+    s.store s.lawful r.ambient_variance r.param_env c.args.predicate c.in_ok-push.ensures.items c.requires.lawful.1.0
+    c.requires.known (tt {0})
