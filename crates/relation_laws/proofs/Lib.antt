@@ -5,3 +5,4 @@ pub mod Rejected
 pub mod FreeValues
 pub mod StaysShown
 pub mod OpenedInstances
+pub mod Interpreting

@@ -1,16 +1,17 @@
 -- Laws of what is asked for, and of what is recorded of it.
-use Rattle.std.specs.Prelude.{◌≡◌, ◌⊎◌, ◌↔◌, ℕ, suc, List, [], ◌∷◌, ◌++◌, Some, All, Contains}
+use Rattle.std.specs.Prelude.{◌≡◌, ◌⊎◌, ◌↔◌, ℕ, suc, List, [], ◌∷◌, ◌++◌, Some, None, All, Contains}
 use Rattle.term_enums.specs.declared.Variance.{Variance}
 use Rattle.term_enums.specs.declared.Variance.TheVariants.{Bivariant}
 use Rattle.relation_terms.specs.Heads.{Head, region_sort}
-use Rattle.relation_terms.specs.Trees.{Tree, node, count, nth}
-use Rattle.relation_contexts.specs.Relation.{Items, part_at, plain, IsRelatedHead, sort_of}
+use Rattle.relation_terms.specs.Trees.{Tree, node, count, nth, Leaves}
+use Rattle.relation_contexts.specs.Relation.{Items, Interpretation, part_at, plain, IsRelatedHead, IsValueLeaf, sort_of}
 use Rattle.relation_contexts.specs.Stores.{Constraint}
 use Rattle.relation_contexts.specs.Steps.{HasNoBinder}
 use Rattle.relation_contexts.specs.Lawful.{Pair}
-use Rattle.relation_contexts.specs.Asking.{Wanted, a_constraint, a_goal, IsOfItself, IsTrivial, region_at, HaveAlias, AsksFor}
-use Rattle.relation_contexts.specs.Asking.{PartsAsk, HasNoAlias}
+use Rattle.relation_contexts.specs.Asking.{Wanted, a_constraint, a_goal, IsOfItself, IsTrivial, region_at, HaveAlias}
+use Rattle.relation_contexts.specs.Asking.{AsksFor, PartsAsk, HasNoAlias}
 use Rattle.relation_contexts.specs.Recording.{Record, RecordsJustAsked, FrontRecords}
+use Rattle.type_relations.specs.Completing.{AskedHolds}
 
 -- Nothing is asked for at bivariance.
 abbrev pub NothingAtBivariance : Type 0
@@ -35,6 +36,12 @@ abbrev pub FormsAskByParts : Type 0
 FormsAskByParts = (c : Items) (z : Wanted) (v : Variance) (h k : Head) (ts us : Tree) →
     (HaveAlias (node h ts) (node k us) → ⊥) → IsRelatedHead h → plain h ≡ plain k →
     (AsksFor c z v (node h ts) (node k us) ↔ PartsAsk c h v ts us z)
+
+-- For any two terms without variables there is an interpretation in which all regions outlive each other and what is
+-- asked of aliases is so.
+abbrev pub SomeInterpretation : Type 0
+SomeInterpretation = (c : Items) (e : Tree) (v : Variance) (a b : Tree) → Leaves IsValueLeaf a → Leaves IsValueLeaf b →
+    (w : Interpretation) × (w.outlives ≡ None) × AskedHolds c w e v a b
 
 -- One more part was related, and recorded what it asks for.
 abbrev pub FrontRecordsOn : Type 0

@@ -33,7 +33,7 @@ ghost use Rattle.relation_laws.specs.SolutionLaws.{FreeValues, MadeIsUnconstrain
 ghost use Rattle.relation_laws.specs.OpenedInstances.{OpenedIsInstance};
 ghost use Rattle.relation_laws.specs.AskingLaws.{NothingAtBivariance, ItselfIsTrivial, NoGoalWithoutAlias};
 ghost use Rattle.relation_laws.specs.AskingLaws.{RegionsAskOne, FormsAskByParts, FrontRecordsOn, PartsRecord};
-ghost use Rattle.relation_laws.specs.AskingLaws.{RememberedRecords, NotedRecords, JustAsked};
+ghost use Rattle.relation_laws.specs.AskingLaws.{RememberedRecords, NotedRecords, JustAsked, SomeInterpretation};
 ghost use Rattle.type_relations.specs.RegionTerms.{RelatedTermsAgree, RelatedIffAgree};
 ghost use Rattle.type_relations.specs.Completing.{ErrorsDisagree, ErrorsAreUnrelated, AgreeingAreRelated};
 
@@ -197,6 +197,7 @@ pub fn asking()
     ensures no_goal { NoGoalWithoutAlias }
     ensures regions { RegionsAskOne }
     ensures forms { FormsAskByParts }
+    ensures some { SomeInterpretation }
 {}
 
 /// What is recorded of what is asked for: part by part, and where pairs are remembered.

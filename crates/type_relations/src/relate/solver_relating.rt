@@ -62,6 +62,10 @@ pub trait RelateExt: InferCtxtLike {
     /// left to goals, and variables and errors, which agree with each term of their sort; so do regions with regions,
     /// and under binders what these bind.
     ///
+    /// Of terms without variables that are first-order but for binders of regions, or that have aliases, left to goals, and
+    /// no binder, `Ok` comes only of such that are related where all regions outlive each other and what is asked of
+    /// aliases is so, and `Unrelated` only of such that are related nowhere.
+    ///
     /// Two different types that are unresolved type variables answer just one goal, and nothing is recorded: at
     /// `Covariant` that the first is a subtype of the second, at `Contravariant` that the second is one of the first.
     /// Both stand there by their roots, and the first is the expected one. So does an alias with another type, where
