@@ -245,7 +245,7 @@ errors_are_unrelated Key Id Name m sorted k c st sound v x a b p f g r e w z =
     errors_disagree Key Id Name m sorted k c st sound v x a b p r (related_agree k c w e v a b p f g z)
 
 -- So a call completes that answers only what agrees, and only such errors.
-module _ {S Key Id Name A X : Type 0} (state : S → Context Key Id Name) (old new : S) (over : Option Head)
+module _ {S Key Id Name A : Type 0} (state : S → Context Key Id Name) (old new : S) (over : Option Head)
     (tree : Meaning Key Id Name → A → Tree) (sorted : Sorted (state new).meaning) (sound : IsSound (state new).store)
     (grown : Extends (state old).meaning (state new).meaning) (setup : (state new).setup ≡ (state old).setup) where
   unrelated_before : (g : StructurallyRelateAliases) (e : Tree) (v : Variance) (a b : Tree) (x : TypeError Key Id Name) →
