@@ -6,6 +6,7 @@ ghost use Rattle.relation_asking.specs.Asking.{AllReady};
 mod answer_text;
 mod comparing;
 mod context;
+mod counting;
 mod elaborating;
 mod folding;
 mod interner;
@@ -14,6 +15,7 @@ mod outlives;
 pub mod printing;
 mod question;
 mod quick;
+mod roots;
 pub mod sized_keys;
 mod visiting;
 mod walking;
@@ -102,8 +104,9 @@ fn refuse_all<W: Write>(program: &Program, between: &str, out: &mut W) -> fmt::R
 }
 
 /// Asks all questions of a program in turn, over an interner and the ids and names that its items and names have there,
-/// and writes the answers, with the given text between two. Where a growth is refused before an answer is whole, or it
-/// is longer than 16 MiB, `memory` stands in its place. A question with `then` goes on in the context that was left.
+/// and writes the answers, with the given text between two. Where a growth is refused before an answer is whole, `memory`
+/// stands in its place. An answer longer than 1 MiB is cut off there, with `..` behind it. A question with `then` goes on
+/// in the context that was left.
 ///
 /// # Errors
 /// What the writer answers where an answer can't be written.

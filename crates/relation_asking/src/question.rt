@@ -8,16 +8,18 @@ ghost use Rattle.relation_asking.specs.Meets.{AllKnown};
 ghost use Rattle.relation_asking.specs.Asking.{AllReady, IsReady, IsSetUp, KnowsAnswer, KnowsRelated};
 
 use crate::BUDGET;
-use crate::answer_text::AnswerText;
+use crate::answer_text::{AnswerText, CUT_OFF};
 use crate::context::{
     NotAsked, have_all_stated, have_variables, refusal, relate, renewed, write_not_asked,
 };
+use crate::counting::write_counted;
 use crate::elaborating::{ask_elaborated, ask_supertrait_ids, ask_supertraits};
 use crate::folding::{fold, puts_at};
 use crate::lists::ask_args_related;
 use crate::outlives::{ask_assumptions, ask_components, write_assumptions, write_components};
 use crate::printing::write_answer;
 use crate::quick::{KeyOf, ask_args_may_unify, ask_key, ask_may_unify, write_key};
+use crate::roots::{ask_binding, ask_one};
 use crate::sized_keys::SizedKeys;
 use crate::visiting::{Met, visit, write_met};
 use crate::walking::{numbers_at, write_walked};
@@ -76,6 +78,7 @@ pub(super) enum Answer<R, K, X, D, N> {
     Is(bool),
     Key(K),
     Pulls(Vec<Pulled<X, D>>),
+    Binding(Option<GenericArgKind<X>>),
 }
 
 // What is answered to a question over an interner.
@@ -374,6 +377,14 @@ fn ask<I: SizedKeys>(ctx: &mut RefCtxt<I>, terms: &Ready<I>, question: &Question
             let all = ask_supertrait_ids(&ctx.interner, terms, item)?;
             Ok(Answer::Pulls(all))
         }
+        QuestionKind::One(first, second) => {
+            let one = ask_one(ctx, first, second)?;
+            Ok(Answer::Is(one))
+        }
+        QuestionKind::Binding(variable) => {
+            let bound = ask_binding(ctx, variable)?;
+            Ok(Answer::Binding(bound))
+        }
     }
 }
 
@@ -421,7 +432,45 @@ pub(super) fn ask_often<I: SizedKeys>(
     (ctx, outcome)
 }
 
-// Writes an answer, and how many instantiations are left where it was said how many a relation may make.
+// Writes what a relation answered, or how much it leaves where that is counted, and how many instantiations are left
+// where it was said how many a relation may make.
+fn write_related<I: Interner, W: Write>(
+    ctx: &RefCtxt<I>,
+    texts: &TextsOf<I>,
+    question: &Question,
+    related: &RelateGoals<I>,
+    out: &mut W,
+) -> fmt::Result
+    requires lawful { IsLawful (I.meaning ctx.now.interner) ctx.now.inner }
+    requires known { KnowsRelated (I.meaning ctx.now.interner) related.now }
+{
+    match (question.counts, related) {
+        (Some(counted), Ok(goals)) => write_counted(ctx, counted, goals, out)?,
+        _ => write_answer(ctx, texts, related, out)?,
+    }
+    if question.budget.is_some() {
+        let left = ctx.budget_left();
+        write!(out, "; left={left}")?;
+    }
+    Ok(())
+}
+
+// Writes what a variable is bound to, or that it is to nothing.
+fn write_binding<I: Interner, W: Write>(
+    cx: &I,
+    texts: &TextsOf<I>,
+    bound: &Option<GenericArg<I>>,
+    out: &mut W,
+) -> fmt::Result
+    requires { IfSome bound.now (λ a. IsTrue (known (arg_tree (I.meaning cx.now) a))) }
+{
+    match bound {
+        Some(term) => write_arg(cx, texts, term, out),
+        None => out.write_str("none"),
+    }
+}
+
+// Writes an answer.
 fn write_given<I: Interner, W: Write>(
     ctx: &RefCtxt<I>,
     texts: &TextsOf<I>,
@@ -434,14 +483,7 @@ fn write_given<I: Interner, W: Write>(
         KnowsAnswer m (KnowsRelated m) answer.now }
 {
     match answer {
-        Answer::Related(related) => {
-            write_answer(ctx, texts, related, out)?;
-            if question.budget.is_some() {
-                let left = ctx.budget_left();
-                write!(out, "; left={left}")?;
-            }
-            Ok(())
-        }
+        Answer::Related(related) => write_related(ctx, texts, question, related, out),
         Answer::Met(met) => write_met(&ctx.interner, texts, met, out),
         Answer::Walked(yielded) => write_walked(&ctx.interner, texts, yielded, out),
         Answer::Components(found) => write_components(&ctx.interner, texts, found, out),
@@ -450,6 +492,7 @@ fn write_given<I: Interner, W: Write>(
         Answer::Is(holds) => write!(out, "{holds}"),
         Answer::Key(key) => write_key::<I, W>(texts, key, out),
         Answer::Pulls(all) => write_pulls(&ctx.interner, texts, all, out),
+        Answer::Binding(bound) => write_binding(&ctx.interner, texts, bound, out),
     }
 }
 
@@ -472,7 +515,8 @@ fn write_outcome<I: Interner, W: Write>(
     }
 }
 
-// Writes what came of a question, as a text that is made first: where that can't be made, `memory` stands in its place.
+// Writes what came of a question, as a text that is made first: where that is too long, what is told of it is cut off,
+// and where it can't be made, `memory` stands in its place.
 pub(super) fn write_whole<I: Interner, W: Write>(
     ctx: &RefCtxt<I>,
     texts: &TextsOf<I>,
@@ -485,9 +529,13 @@ pub(super) fn write_whole<I: Interner, W: Write>(
     requires known { let m = I.meaning ctx.now.interner in
         IfOk outcome.now (KnowsAnswer m (KnowsRelated m)) }
 {
-    text.text.clear();
+    text.clear();
     match write_outcome(ctx, texts, question, outcome, text) {
         Ok(()) => out.write_str(text.text.as_str()),
+        Err(_) if text.cut => {
+            out.write_str(text.text.as_str())?;
+            out.write_str(CUT_OFF)
+        }
         Err(_) => out.write_str("memory"),
     }
 }
