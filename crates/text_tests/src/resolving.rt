@@ -1,4 +1,4 @@
-//! Resolving and the occurs check go through each part once, however often it stands in a term.
+//! Questions about a term go through each part once, however often it stands there, and their answers are cut off.
 use relation_asking::ask_all;
 use std::alloc::Global;
 use std::fmt::{self, Write};
@@ -49,7 +49,10 @@ fn answer_of(alloc: Global, question: &str) -> Result<String, fmt::Error> {
     Ok(answer)
 }
 
-// Each answer is longer than an answer may be. That it comes at all shows that the terms were gone through at once: a
+// How many bytes are told of an answer that is cut off, with the mark behind them.
+const TOLD: usize = 1_048_578;
+
+// Each answer is longer than what is told of one. That it comes at all shows that the terms were gone through at once: a
 // tower has 2^60 leaves.
 #[test]
 fn towers_are_gone_through_at_once(rt: HostRuntime) -> Result<(), Fail> {
@@ -57,9 +60,30 @@ fn towers_are_gone_through_at_once(rt: HostRuntime) -> Result<(), Fail> {
         "?1 == t60;",
         "(?0, ?1) == (u8, (?0, t60));",
         "?0 == (t60, ?0);",
+        "u8 == t60;",
+        "count goals u8 <: t60;",
+        "args [?0] == [t60];",
+        "walk t60;",
+        "visit t60;",
+        "fold t60 with ?2 = u8;",
+        "param 'a; assumptions t60: 'a;",
+        "trait Tr; elaborate t60: Tr;",
+        "trait Tr; supertraits t60: Tr;",
     ] {
         let answer = answer_of(rt.alloc(), question)?;
-        assert_eq!(rt; answer.as_str(), "memory", "{question}");
+        assert_eq!(rt; answer.len(), TOLD);
+        assert!(rt; answer.as_str().ends_with(".."));
     }
+    Ok(())
+}
+
+// Of what is told of a tower nothing is cut off where it is short, and a question behind one that was goes on.
+#[test]
+fn short_answers_are_whole(rt: HostRuntime) -> Result<(), Fail> {
+    let answer = answer_of(
+        rt.alloc(),
+        "escapes t60; infers t60; rigid t60; ?0 == ?1; then one ?0, ?1;",
+    )?;
+    assert_eq!(rt; answer.as_str(), "false\ntrue\ntrue\nok\ntrue");
     Ok(())
 }
