@@ -7,6 +7,7 @@ mod answer_text;
 mod comparing;
 mod context;
 mod counting;
+mod depth;
 mod elaborating;
 mod folding;
 mod interner;
@@ -21,9 +22,10 @@ mod visiting;
 mod walking;
 
 use answer_text::AnswerText;
+use depth::{Counts, Depths};
 use elaboration_asking::stating::state_all;
 use interner::{Tables, make_interner, make_tables};
-use question::{Ready, ask_often, context_for, write_whole};
+use question::{Ready, ask_unless, context_for, write_whole};
 use relation_contexts::infer_ctxt::TypingMode;
 use relation_needs::binding::uses_of;
 pub use relation_needs::needs;
@@ -68,13 +70,22 @@ fn ask_ready<I: SizedKeys + Drop, W: Write>(
     let Ok(room) = AnswerText::new(alloc) else {
         return refuse_all(program, between, out);
     };
+    let Ok(begun) = Depths::new(alloc, program) else {
+        return refuse_all(program, between, out);
+    };
+    let mut depths = begun;
     let mut text = room;
     let mut ctx = made;
     let mut any = false;
     for question in &program.questions {
         separate(any, between, out)?;
         let asked = context_for(ctx, terms, question);
-        let (left, outcome) = ask_often(asked, terms, question);
+        let counts = Counts {
+            types: asked.inner.types.len(),
+            consts: asked.inner.consts.len(),
+        };
+        let why_not = depths.refusal(program, terms.needs, question, counts);
+        let (left, outcome) = ask_unless(asked, terms, question, why_not);
         ctx = left;
         write_whole(&ctx, texts, question, &outcome, &mut text, out)?;
         any = true;

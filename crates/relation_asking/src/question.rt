@@ -411,7 +411,7 @@ fn ask_in<I: SizedKeys>(ctx: &mut RefCtxt<I>, terms: &Ready<I>, question: &Quest
 }
 
 // Asks a question as often as it says, each time but the first in a new context, and answers the last one.
-pub(super) fn ask_often<I: SizedKeys>(
+fn ask_often<I: SizedKeys>(
     ctx: RefCtxt<I>,
     terms: &Ready<I>,
     question: &Question,
@@ -430,6 +430,27 @@ pub(super) fn ask_often<I: SizedKeys>(
         outcome = ask_in(&mut ctx, terms, question);
     }
     (ctx, outcome)
+}
+
+// Asks a question as often as it says, unless it is said why not.
+#[tactic(auto, using(relation_terms::proofs::Stays::stays_same))]
+pub(super) fn ask_unless<I: SizedKeys>(
+    ctx: RefCtxt<I>,
+    terms: &Ready<I>,
+    question: &Question,
+    why_not: Option<Unasked>,
+) -> (RefCtxt<I>, Outcome<I>)
+    requires lawful { IsLawful (I.meaning ctx.interner) ctx.inner }
+    requires ready { AllReady (I.meaning ctx.interner) terms.now }
+    ensures lawful { IsLawful (I.meaning result.0.interner) result.0.inner }
+    ensures grown { Extends (I.meaning ctx.interner) (I.meaning result.0.interner) }
+    ensures known { let m = I.meaning result.0.interner in
+        IfOk result.1 (KnowsAnswer m (KnowsRelated m)) }
+{
+    match why_not {
+        Some(why) => (ctx, Err(why)),
+        None => ask_often(ctx, terms, question),
+    }
 }
 
 // Writes what a relation answered, or how much it leaves where that is counted, and how many instantiations are left

@@ -87,3 +87,53 @@ fn short_answers_are_whole(rt: HostRuntime) -> Result<(), Fail> {
     assert_eq!(rt; answer.as_str(), "false\ntrue\ntrue\nok\ntrue");
     Ok(())
 }
+
+// Binds each variable from one on, so many, to a slice of the next one.
+fn write_chain(first: usize, count: usize, out: &mut String) -> fmt::Result {
+    let behind = first.saturating_add(count);
+    out.write_str("count goals (")?;
+    for number in first..behind {
+        write!(out, "?{number}, ")?;
+    }
+    out.write_str(") == (")?;
+    for number in first..behind {
+        let next = number.saturating_add(1);
+        write!(out, "[?{next}], ")?;
+    }
+    out.write_str(");")
+}
+
+// The answers to a text.
+fn answers(alloc: Global, text: &str) -> Result<String, fmt::Error> {
+    let Ok(tree) = read(alloc, text.as_bytes()) else {
+        return Err(fmt::Error);
+    };
+    let Ok(program) = look_up(alloc, text, &tree) else {
+        return Err(fmt::Error);
+    };
+    let mut out = String::new(alloc);
+    ask_all(alloc, &program, "\n", &mut out)?;
+    Ok(out)
+}
+
+const TOO_DEEP: &str = "not asked: what variables come to may be too deep for the stack";
+
+// A question whose terms may form too long a chain is not asked, nor one that would make a chain of those before too long;
+// the questions behind it are.
+#[test]
+fn long_chains_are_not_asked(rt: HostRuntime) -> Result<(), Fail> {
+    let mut text = String::from_str(rt.alloc(), "budget 10000;")?;
+    write_chain(0, 1000, &mut text)?;
+    text.push_str("then binding ?0; then count goals ?1000 == u8; then")?;
+    write_chain(1001, 40, &mut text)?;
+    write_chain(0, 1100, &mut text)?;
+    text.push_str("then binding ?0;")?;
+    let all = answers(rt.alloc(), text.as_str())?;
+    let mut wanted = String::from_str(rt.alloc(), "0; left=9000\n[?1]\n0; left=8999\n")?;
+    wanted.push_str(TOO_DEEP)?;
+    wanted.push_str("\n")?;
+    wanted.push_str(TOO_DEEP)?;
+    wanted.push_str("\nnone")?;
+    assert_eq!(rt; all.as_str(), wanted.as_str());
+    Ok(())
+}
