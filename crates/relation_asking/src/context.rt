@@ -35,7 +35,7 @@ pub enum NotAsked {
     Variance,
     /// Lists of arguments are related that have as many.
     Lengths,
-    /// Variables may come to stand in a chain of terms that is too deep for the stack.
+    /// What the question comes to may be too deep for the stack.
     Depth,
 }
 
@@ -324,6 +324,6 @@ pub(super) fn write_not_asked<W: Write>(why: NotAsked, out: &mut W) -> fmt::Resu
         }
         NotAsked::Variance => out.write_str("nothing is related at this variance"),
         NotAsked::Lengths => out.write_str("one list has more arguments than the other"),
-        NotAsked::Depth => out.write_str("what variables come to may be too deep for the stack"),
+        NotAsked::Depth => out.write_str("what it comes to may be too deep for the stack"),
     }
 }

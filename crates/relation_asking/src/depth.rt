@@ -1,14 +1,16 @@
-//! How deep what a question comes to may be. Relating goes down a term level by level, on the program's stack: a term of a
-//! text has few levels, but variables may be bound to terms in which others stand, in a chain.
+//! How deep what a question comes to may be. Relating goes down a term level by level, on the program's stack, and so
+//! do elaborating and printing. A term of a text has few levels, but variables may be bound to terms in which others
+//! stand, in a chain, and a trait may state itself of a larger type.
 
 use crate::context::NotAsked;
 use crate::question::Unasked;
+use elaboration_asking::pulls::LIMIT;
 use relation_needs::needs::{Needs, need_at};
 use std::alloc::{AllocError, Global};
-use text_reading::naming::{Parts, Program, Question, QuestionKind, Term};
+use text_reading::naming::{Parts, Program, Question, QuestionKind, Says, Term};
 
-// How many terms with variables a chain may lead through. The stack holds more than twice as many levels beside those of
-// one term of a text (`docs/DECISIONS.md`).
+// How many terms with variables a chain may lead through, and by how many levels elaborating may make terms deeper. The
+// stack holds twice as many levels beside those of one term of a text (`docs/DECISIONS.md`).
 const MOST: usize = 1_024;
 
 // Whether variables may come to stand in a term that is this: it is one, or what a binder binds, which is read as one.
@@ -57,6 +59,84 @@ fn push_parts(numbers: &[usize], term: &Term, found: &mut Vec<usize>) -> Result<
         _ => {}
     }
     Ok(())
+}
+
+// Whether a parameter is put in its place where what a trait states is used.
+fn is_parameter(term: &Term) -> bool {
+    matches!(term, Term::TyParam(..) | Term::ConstParam(..))
+}
+
+// The number at a place of a list, or 0.
+fn level_at(levels: &[usize], number: usize) -> usize {
+    levels.get(number).copied().unwrap_or(0)
+}
+
+// How deep parameters stand in each term of a program, itself counted: 0 where none does.
+fn parameter_levels(alloc: Global, program: &Program) -> Result<Vec<usize>, AllocError> {
+    let mut levels = Vec::with_capacity(alloc, program.terms.len())?;
+    let mut parts = Vec::new(alloc);
+    for term in &program.terms {
+        parts.clear();
+        push_parts(&program.parts, term, &mut parts)?;
+        let mut level = if is_parameter(term) { 1 } else { 0 };
+        for part in &parts {
+            let below = level_at(&levels, *part);
+            if below > 0 {
+                level = below.saturating_add(1).max(level);
+            }
+        }
+        levels.push(level)?;
+    }
+    Ok(levels)
+}
+
+// Adds the numbers of the terms of a predicate.
+fn push_said(numbers: &[usize], says: &Says, found: &mut Vec<usize>) -> Result<(), AllocError> {
+    match says {
+        Says::Claims(_, _, args) => push_range(numbers, *args, found)?,
+        Says::TypeOutlives(ty, _) => found.push(*ty)?,
+        Says::ComesTo(_, _, args, term) => {
+            found.push(*term)?;
+            push_range(numbers, *args, found)?;
+        }
+        Says::WellFormed(term) => found.push(*term)?,
+        Says::ConstEvaluatable(constant) => found.push(*constant)?,
+        Says::ConstArgHasType(constant, ty) => found.extend_from_slice(&[*constant, *ty])?,
+        Says::RegionOutlives(..) | Says::UnstableFeature(_) => {}
+    }
+    Ok(())
+}
+
+// By how many levels the terms of what a trait states are deeper at most than those that it is stated of.
+fn growth_of(alloc: Global, program: &Program) -> Result<usize, AllocError> {
+    let levels = parameter_levels(alloc, program)?;
+    let mut terms = Vec::new(alloc);
+    for stated in &program.stated {
+        let range = stated.clauses;
+        for clause in program
+            .clauses
+            .get(range.first..range.behind)
+            .unwrap_or(&[])
+        {
+            push_said(&program.parts, &clause.says, &mut terms)?;
+        }
+    }
+    let mut growth = 0;
+    for number in &terms {
+        growth = level_at(&levels, *number).saturating_sub(1).max(growth);
+    }
+    Ok(growth)
+}
+
+// How often an elaboration goes on from a predicate at most.
+fn steps_of(kind: &QuestionKind) -> usize {
+    match kind {
+        QuestionKind::Elaborate { limit, pulls, .. } => {
+            limit.unwrap_or(LIMIT).min(pulls.unwrap_or(usize::MAX))
+        }
+        QuestionKind::Supertraits { limit, .. } => limit.unwrap_or(LIMIT),
+        _ => 0,
+    }
 }
 
 // Whether a number is marked in a list.
@@ -177,6 +257,7 @@ fn said_for(program: &Program, question: &Question) -> Counts {
 pub(super) struct Depths {
     alloc: Global,
     open: Vec<bool>,
+    growth: usize,
     search: Search,
     // How many terms a chain of bindings may lead through.
     chained: usize,
@@ -191,6 +272,7 @@ impl Depths {
     /// `AllocError` where a growth was refused.
     pub(super) fn new(alloc: Global, program: &Program) -> Result<Depths, AllocError> {
         let open = open_terms(alloc, program)?;
+        let growth = growth_of(alloc, program)?;
         let mut marks = Vec::with_capacity(alloc, open.len())?;
         for _ in &open {
             marks.push(0)?;
@@ -198,6 +280,7 @@ impl Depths {
         Ok(Depths {
             alloc,
             open,
+            growth,
             search: Search {
                 marks,
                 search: 0,
@@ -241,8 +324,8 @@ impl Depths {
         Ok(count)
     }
 
-    // How many terms a chain may lead through once a question was asked. What was instantiated is a copy: where a variable
-    // is named that was made with one, the copy and what it is a copy of may stand in one chain.
+    // How many terms a chain may lead through once a question was asked. What was instantiated is a copy: where a
+    // variable is named that was made with one, the copy and what it is a copy of may stand in one chain.
     fn chained(
         &mut self,
         program: &Program,
@@ -278,6 +361,9 @@ impl Depths {
         question: &Question,
         made: Counts,
     ) -> Option<Unasked> {
+        if steps_of(&question.kind).saturating_mul(self.growth) > MOST {
+            return Some(Unasked::NotAsked(NotAsked::Depth));
+        }
         let mut roots = Vec::new(self.alloc);
         let Ok(()) = push_related(&program.parts, &question.kind, &mut roots) else {
             return Some(Unasked::Memory);

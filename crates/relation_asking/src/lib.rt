@@ -20,12 +20,13 @@ mod roots;
 pub mod sized_keys;
 mod visiting;
 mod walking;
+mod writing;
 
 use answer_text::AnswerText;
 use depth::{Counts, Depths};
 use elaboration_asking::stating::state_all;
 use interner::{Tables, make_interner, make_tables};
-use question::{Ready, ask_unless, context_for, write_whole};
+use question::{Ready, ask_unless, context_for};
 use relation_contexts::infer_ctxt::TypingMode;
 use relation_needs::binding::uses_of;
 pub use relation_needs::needs;
@@ -37,6 +38,7 @@ use std::fmt::{self, Write};
 use text_reading::naming::Program;
 use text_terms::building::build;
 use text_terms::printing::TextsOf;
+use writing::write_whole;
 
 // What is answered where a trait states a predicate in which a variable stands that its binder does not bind.
 const NOT_OWN: &str = "not asked: what a trait states is to bind its variables itself";
@@ -114,10 +116,10 @@ fn refuse_all<W: Write>(program: &Program, between: &str, out: &mut W) -> fmt::R
     answer_all(program, "memory", between, out)
 }
 
-/// Asks all questions of a program in turn, over an interner and the ids and names that its items and names have there,
-/// and writes the answers, with the given text between two. Where a growth is refused before an answer is whole, `memory`
-/// stands in its place. An answer longer than 1 MiB is cut off there, with `..` behind it. A question with `then` goes on
-/// in the context that was left.
+/// Asks all questions of a program in turn, over an interner and the ids and names that its items and names have
+/// there, and writes the answers, with the given text between two. Where a growth is refused before an answer is whole,
+/// `memory` stands in its place. An answer longer than 1 MiB is cut off there, with `..` behind it. A question with
+/// `then` goes on in the context that was left.
 ///
 /// # Errors
 /// What the writer answers where an answer can't be written.

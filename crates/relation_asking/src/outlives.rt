@@ -216,8 +216,8 @@ fn assumption_texts<I: Interner>(
     Ok((lines, None))
 }
 
-// Writes assumptions, in the order of their texts. Where they are longer than an answer, those that were found first are
-// written, up to the one at which it is cut off.
+// Writes assumptions, in the order of their texts. Where they are longer than an answer, those that were found first
+// are written, up to the one at which it is cut off.
 pub(super) fn write_assumptions<I: Interner, W: Write>(
     cx: &I,
     texts: &TextsOf<I>,

@@ -13,8 +13,8 @@ use std::fmt::{self, Write};
 use std::ops::ControlFlow;
 use text_terms::printing::{TextsOf, write_arg};
 
-// How many terms a visitor is asked about at most. Each is written with three bytes or more, so that an answer with so many
-// is cut off before the last.
+// How many terms a visitor is asked about at most. Each is written with three bytes or more, so that an answer with so
+// many is cut off before the last.
 const MOST: usize = 349_526;
 
 /// The terms that a visitor was asked about, in order, and whether it stopped.
@@ -105,8 +105,8 @@ fn walk<I: Interner>(cx: &I, term: &GenericArg<I>, visitor: &mut Collects<I::Key
     }
 }
 
-// What a visitor of a term is asked about that skips some terms and stops at others, and behind as many as are told. There is no answer where a growth
-// was refused.
+// What a visitor of a term is asked about that skips some terms and stops at others, and behind as many as are told.
+// There is no answer where a growth was refused.
 pub(super) fn visit<I: Interner>(
     cx: &I,
     term: &GenericArg<I>,

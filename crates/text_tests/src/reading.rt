@@ -203,9 +203,9 @@ fn texts_are_read(rt: HostRuntime) -> Result<(), Fail> {
             "file(may-unify(T slice(U) 3) args-may-unify(terms(T 'a) terms()) key(T) key(U))",
         ),
         (
-            "count goals T :> U; then count regions [T] === U; one ?0, '?1; then binding ?i2; binding ?c3; one ?f4, ?f4;",
+            "count goals T :> U; then count regions [T] === U; one ?0, '?1; then binding ?i2; one ?f4, ?c3;",
             "file(count-goals(question(T U)) then(count-regions(question(slice(T) U))) one(?0 '?1) \
-             then(binding(?i2)) binding(?c3) one(?f4 ?f4))",
+             then(binding(?i2)) one(?f4 ?c3))",
         ),
         (
             "args [T, 2,] == ['a]; may unify[rigid, rigid] T, T;",

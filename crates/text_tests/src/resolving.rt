@@ -52,8 +52,8 @@ fn answer_of(alloc: Global, question: &str) -> Result<String, fmt::Error> {
 // How many bytes are told of an answer that is cut off, with the mark behind them.
 const TOLD: usize = 1_048_578;
 
-// Each answer is longer than what is told of one. That it comes at all shows that the terms were gone through at once: a
-// tower has 2^60 leaves.
+// Each answer is longer than what is told of one. That it comes at all shows that the terms were gone through at once:
+// a tower has 2^60 leaves.
 #[test]
 fn towers_are_gone_through_at_once(rt: HostRuntime) -> Result<(), Fail> {
     for question in [
@@ -116,10 +116,10 @@ fn answers(alloc: Global, text: &str) -> Result<String, fmt::Error> {
     Ok(out)
 }
 
-const TOO_DEEP: &str = "not asked: what variables come to may be too deep for the stack";
+const TOO_DEEP: &str = "not asked: what it comes to may be too deep for the stack";
 
-// A question whose terms may form too long a chain is not asked, nor one that would make a chain of those before too long;
-// the questions behind it are.
+// A question whose terms may form too long a chain is not asked, nor one that would make a chain of those before too
+// long; the questions behind it are.
 #[test]
 fn long_chains_are_not_asked(rt: HostRuntime) -> Result<(), Fail> {
     let mut text = String::from_str(rt.alloc(), "budget 10000;")?;
