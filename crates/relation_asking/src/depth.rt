@@ -1,6 +1,4 @@
-//! How deep what a question comes to may be. Relating goes down a term level by level, on the program's stack, and so
-//! do elaborating and printing. A term of a text has few levels, but variables may be bound to terms in which others
-//! stand, in a chain, and a trait may state itself of a larger type.
+//! How deep what a question comes to may be, so that the stack holds it.
 
 use crate::context::NotAsked;
 use crate::question::Unasked;
@@ -9,8 +7,10 @@ use relation_needs::needs::{Needs, need_at};
 use std::alloc::{AllocError, Global};
 use text_reading::naming::{Parts, Program, Question, QuestionKind, Says, Term};
 
-// How many terms with variables a chain may lead through, and by how many levels elaborating may make terms deeper. The
-// stack holds twice as many levels beside those of one term of a text (`docs/DECISIONS.md`).
+// How many terms with variables a chain may lead through, and by how many levels elaborating may make terms deeper.
+// Relating, elaborating and printing go down a term level by level, on the program's stack. A term of a text has few
+// levels, but variables may be bound to terms in which others stand, and a trait may state itself of a larger type. The
+// stack holds twice as many levels beside those of a text's term (docs/DECISIONS.md).
 const MOST: usize = 1_024;
 
 // Whether variables may come to stand in a term that is this: it is one, or what a binder binds, which is read as one.

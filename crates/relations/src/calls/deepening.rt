@@ -1,4 +1,4 @@
-//! What is answered of two types as deep as a text's terms may be, and a little less.
+//! What is answered of two types under 1,000 slices, which no row writes out.
 
 use crate::running::{RowFault, asked};
 use std::alloc::Global;
