@@ -32,7 +32,7 @@ use Rattle.relation_asking.specs.Puts.{AreMade, ArePuts}
 use Rattle.text_terms.proofs.BuildingLemmas.{both_true}
 use Rattle.relation_needs.specs.Needs.{Allows, Reaches, largest, both_needs, need_at, needs_with, needs_of}
 use Rattle.relation_asking.specs.Asking.{IsAsked, IsRelatable, IsReady, AreReady, Has, IsAskable, KnowsRelated}
-use Rattle.relation_needs.proofs.CoverLemmas.{all_covered, all_bound}
+use Rattle.relation_needs.proofs.BoundLemmas.{all_bound}
 use Rattle.relation_needs.proofs.NeedLemmas.{reaches_left, reaches_right, allowed_in, all_enough}
 use Rattle.relation_needs.proofs.NeedLemmas.{allows_right, allows_still}
 
@@ -54,7 +54,7 @@ one_ready t u needs e h = subst (IsReady needs) (sym e) h
 
 -- A list of arguments, as the form over them.
 pub as_arguments : (needs : Needs) (t : Tree) → IsReady needs t → IsReady needs (node arguments t)
-as_arguments needs t h = (h.0, (h.1.0, λ asked. let r = h.1.1 asked in record { covered = (tt, r.covered); stays = r.stays }))
+as_arguments needs t h = (h.0, (h.1.0, λ asked. let r = h.1.1 asked in record { by_lists = r.by_lists; stays = r.stays }))
 
 -- What has what is needed for both has it for each.
 reaches_in_left : (a b : Needs) (k : VarKind) (i : ℕ) → Reaches (largest a k) i → Reaches (largest (both_needs a b) k) i
@@ -130,8 +130,7 @@ all_ready m items names parts xs keys us needs sure made said same = subst (AreR
       (
         all_enough items names parts us xs said k,
         λ asked. let b = all_bound items names parts us xs said k in record {
-          covered = all_covered items names parts us xs said k (subst (λ z. IsTrue (known z)) is known_there)
-              (b.1 asked.lists);
+          by_lists = b.1 asked.lists;
           stays = b.0 asked.closed;
         },
       ),
@@ -174,7 +173,7 @@ module _ {Key Id Name : Type 0} (m : Meaning Key Id Name) (keys : List (Option (
   list_relatable : (ns : List ℕ) (xs : List (GenericArgKind Key)) (n : Needs) →
       map (slice_get keys) ns ≡ map (λ x. Some (Some x)) xs → IsAsked (needs_with needs n ns) →
       IsRelatable (list_tree (arg_tree m) xs)
-  list_relatable ns [] n e asked = record { covered = tt; stays = tt }
+  list_relatable ns [] n e asked = record { by_lists = tt; stays = tt }
   list_relatable [] (x ∷ xs) n e asked = absurd (cc)
   list_relatable (k ∷ ns) (x ∷ xs) n e asked =
       let one : slice_get keys k ≡ Some (Some x) = cc in
@@ -182,7 +181,7 @@ module _ {Key Id Name : Type 0} (m : Meaning Key Id Name) (keys : List (Option (
       let own = need_at needs k in
       let here = (r k x one).1.1 (asked_both n own (asked_before needs (both_needs n own) ns asked)).1 in
       let rest = list_relatable ns xs (both_needs n own) more asked in
-      record { covered = (here.covered, rest.covered); stays = (here.stays, rest.stays) }
+      record { by_lists = (here.by_lists, rest.by_lists); stays = (here.stays, rest.stays) }
 
   pub list_ready : (ns : List ℕ) (xs : List (GenericArgKind Key)) (n : Needs) →
       map (slice_get keys) ns ≡ map (λ x. Some (Some x)) xs → IsReady (needs_with needs n ns) (list_tree (arg_tree m) xs)

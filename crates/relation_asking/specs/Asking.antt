@@ -18,7 +18,7 @@ use Rattle.relation_reference.specs.declared.context.inner.VariableValue.TheVari
 use Rattle.relation_reference.specs.Variables.{value_at, universes_of}
 use Rattle.relation_folds.specs.declared.error.RelateFault.{RelateFault}
 use Rattle.relation_folds.specs.Faults.{KnowsFault}
-use Rattle.relation_contexts.specs.Covered.{IsCovered}
+use Rattle.relation_contexts.specs.Bound.{BindByLists}
 use Rattle.relation_contexts.specs.declared.relate.StructurallyRelateAliases.{StructurallyRelateAliases}
 use Rattle.relation_contexts.specs.declared.relate.StructurallyRelateAliases.TheVariants.{No, Yes}
 use Rattle.relation_contexts.specs.declared.infer_ctxt.TypingMode.{TypingMode}
@@ -47,7 +47,7 @@ use Rattle.relation_asking.specs.Outlives.{KnowsComponents}
 
 -- What relating takes: a term in which each binder binds by its list, and nothing that one outside it binds stands.
 pub record IsRelatable (t : Tree) : Type 0 where
-  pub covered : IsCovered t
+  pub by_lists : BindByLists t
   pub stays : StaysWithin 0 t
 
 -- That is said of a term.

@@ -187,7 +187,7 @@ pub fn write_error<I: Interner, W: Write>(
 {
     out.write_str(error_name(error))?;
     match error {
-        TypeError::PolarityMismatch(pair) => write!(out, "({:?}, {:?})", pair.expected, pair.found),
+        TypeError::PolarityMismatch(pair) => write!(out, "({}, {})", pair.expected, pair.found),
         TypeError::SafetyMismatch(pair) => write!(out, "({:?}, {:?})", pair.expected, pair.found),
         TypeError::AbiMismatch(pair) => write!(out, "({:?}, {:?})", pair.expected, pair.found),
         TypeError::VariadicMismatch(pair) => write!(out, "({}, {})", pair.expected, pair.found),

@@ -7,7 +7,7 @@ use Rattle.term_enums.specs.declared.Variance.{Variance}
 use Rattle.term_enums.specs.declared.Variance.TheVariants.{Bivariant}
 use Rattle.relation_terms.specs.Heads.{region_sort, BoundKind, bound_sort, VarKind, var_sort, head_sort, atom_sort}
 use Rattle.relation_terms.specs.Heads.{Head, adt}
-use Rattle.relation_terms.specs.Heads.{alias, opaque_alias, alias_term, Leaf, leaf_sort, Atom, type_param, const_param, variable, bound, placeholder, atom, unknown, int_var, float_var}
+use Rattle.relation_terms.specs.Heads.{alias, opaque_alias, alias_term, Leaf, leaf_sort, Atom, type_param, const_param, variable, bound, placeholder, atom, unknown}
 use Rattle.relation_terms.specs.Trees.{Tree, leaf, node, bind, nil, cons, tree_at, put, inst, count, nth}
 use Rattle.relation_contexts.specs.Relation.{Items, at, parts, part_at, plain, plain_atom, sort_of, IsAlias}
 use Rattle.relation_contexts.specs.Stores.{Store, entry_term, MayStandFor, IsSound}
@@ -19,6 +19,7 @@ use Rattle.relation_contexts.specs.Errors.{IsOpaque, IsOpaqueBeside, IsLeftToGoa
 use Rattle.relation_contexts.specs.Errors.{IsReadAs, itself}
 use Rattle.relation_contexts.specs.Errors.{by_class, by_binding}
 use Rattle.relation_contexts.specs.Agreeing.{IsFlexible, AreFlexible, IsLeftAside, Agree}
+use Rattle.relation_contexts.proofs.Leaving.{beside_is_opaque}
 use Rattle.relation_contexts.proofs.Related.{no_region_head}
 use Rattle.relation_contexts.proofs.Standing.{stands_term, term_sort_of}
 use Rattle.relation_contexts.proofs.StoreCalls.{number_stands}
@@ -209,10 +210,6 @@ found_leaf (k ∷ ks) (x ∷ xs) h zero q e z =
     let p : k ≡ q = cc in stand_in_leaf q x (subst (λ j. IsStandIn j x) p h.0)
 found_leaf (k ∷ ks) (x ∷ xs) h (suc i) q e z = found_leaf ks xs h.1 i q e z
 
-is_opaque : (t u : Tree) → IsOpaqueBeside t u → IsOpaque t
-is_opaque t (leaf (variable k n)) o = absurd o
-is_opaque t u o = o
-
 -- Stand-ins for what a binder binds.
 module _ (ks : List BoundKind) (xs : List Tree) (h : StandFor ks xs) where
   put_leaf : (d : ℕ) (l : Leaf) → IsBoundAs ks d l → (m : Leaf) × (put xs d l ≡ leaf m) × (leaf_sort m ≡ leaf_sort l)
@@ -264,7 +261,7 @@ module _ (ks : List BoundKind) (xs : List Tree) (h : StandFor ks xs) where
   beside_before : (ys : List Tree) (d : ℕ) (t u : Tree) → AreBoundAs ks d t →
       IsOpaqueBeside (inst xs d t) (inst ys d u) → IsOpaqueBeside t u
   beside_before ys d t (leaf (variable k n)) b o = absurd o
-  beside_before ys d t (leaf (bound k e i)) b o = opaque_before d t b (is_opaque (inst xs d t) (inst ys d (leaf (bound k e i))) o)
+  beside_before ys d t (leaf (bound k e i)) b o = opaque_before d t b (beside_is_opaque (inst xs d t) (inst ys d (leaf (bound k e i))) o)
   beside_before ys d t (leaf (placeholder k u n)) b o = opaque_before d t b o
   beside_before ys d t (leaf (atom x)) b o = opaque_before d t b o
   beside_before ys d t (leaf unknown) b o = opaque_before d t b o

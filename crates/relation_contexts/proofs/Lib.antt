@@ -1,5 +1,6 @@
 pub mod Trees
-pub mod Covered
+pub mod Bound
+pub mod Leaving
 pub mod Related
 pub mod Values
 pub mod Only

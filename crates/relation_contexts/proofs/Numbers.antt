@@ -22,7 +22,6 @@ use Rattle.relation_contexts.specs.Outcomes.{Exact, NoEqualTerms, NoUnifier}
 use Rattle.relation_contexts.specs.Settings.{Settings}
 use Rattle.relation_contexts.specs.Errors.{by_forms, ErrorOf, IsLeftToGoal, HaveNoError, AreAlike, AreBindable, IsVariableFor, of_forms, sorts}
 use Rattle.relation_contexts.specs.Parts.{IsFormed}
-use Rattle.relation_contexts.specs.Covered.{IsCovered}
 use Rattle.relation_terms.proofs.Members.{type_only}
 use Rattle.relation_contexts.proofs.Full.{full_by, written_plain}
 use Rattle.relation_contexts.proofs.Standing.{itself_stands}
@@ -217,19 +216,19 @@ module _ (st : Store) (s : Assign) (a : IsAssignment st s) (x : Atom) where
   no_bound (bound_kind const_kind m) d i f e = f
 
   -- A type that has it.
-  value_type : (k : VarKind) → IsNumber k → (t : Tree) → IsTerm type_sort t → IsCovered t →
+  value_type : (k : VarKind) → IsNumber k → (t : Tree) → IsTerm type_sort t →
       ((n : ℕ) → t ≢ leaf (variable type_var n)) → InContext st t → IsNumberFor k (leaf (atom x)) →
       erase (apply s t) ≡ leaf (atom x) → MayStandFor k t
-  value_type k i (leaf (variable j m)) f c o h v e = value_leaf k i j m f o h v e
-  value_type k i (leaf (bound q d j)) f c o h v e = absurd (no_bound q d j f e)
-  value_type k i (leaf (placeholder q u n)) f c o h v e = absurd (no_placeholder q u n f e)
-  value_type k i (leaf (atom y)) f c o h v e =
+  value_type k i (leaf (variable j m)) f o h v e = value_leaf k i j m f o h v e
+  value_type k i (leaf (bound q d j)) f o h v e = absurd (no_bound q d j f e)
+  value_type k i (leaf (placeholder q u n)) f o h v e = absurd (no_placeholder q u n f e)
+  value_type k i (leaf (atom y)) f o h v e =
       value_atom k y (let r : x ≡ erase_atom y = cc in subst (λ z. IsNumberFor k (leaf (atom z))) r v)
-  value_type k i (leaf unknown) f c o h v e = absurd c
-  value_type k i (node b ts) f c o h v e = absurd (cc)
-  value_type k i (bind ks t) f c o h v e = absurd f
-  value_type k i nil f c o h v e = absurd f
-  value_type k i (cons t ts) f c o h v e = absurd f
+  value_type k i (leaf unknown) f o h v e = absurd f
+  value_type k i (node b ts) f o h v e = absurd (cc)
+  value_type k i (bind ks t) f o h v e = absurd f
+  value_type k i nil f o h v e = absurd f
+  value_type k i (cons t ts) f o h v e = absurd f
 
 -- A variable is of one form with itself alone.
 variable_alone : (k : VarKind) (n : ℕ) (t : Tree) → AreAlike (leaf (variable k n)) t → leaf (variable k n) ≡ t
@@ -270,11 +269,11 @@ variable_for k i n (cons t ts) f o differs v = v
 
 -- A number variable and a type that may not stand for it, and is no type variable.
 module _ (st : Store) (k : VarKind) (i : IsNumber k) (n : ℕ) (made : IsMade st k n) (t : Tree) (f : IsTerm type_sort t)
-    (c : IsCovered t) (o : (m : ℕ) → t ≢ leaf (variable type_var m)) (h : InContext st t) (differs : MayStandFor k t → ⊥) where
+    (o : (m : ℕ) → t ≢ leaf (variable type_var m)) (h : InContext st t) (differs : MayStandFor k t → ⊥) where
   never_alike : (s : Assign) → IsAssignment st s → erase (s k n) ≡ erase (apply s t) → ⊥
   never_alike s a e =
       let z = value_of st s a k i n made in
-      differs (value_type st s a z.0 k i t f c o h z.2 (sym e ∙ ap erase z.1 ∙ number_erased k z.0 z.2))
+      differs (value_type st s a z.0 k i t f o h z.2 (sym e ∙ ap erase z.1 ∙ number_erased k z.0 z.2))
 
   -- No assignment makes them one.
   pub number_apart : NoEqualTerms st (leaf (variable k n)) t
@@ -374,15 +373,15 @@ no_type_variable st g (bind ks t) f o n e = f
 no_type_variable st g nil f o n e = f
 no_type_variable st g (cons t ts) f o n e = f
 
--- A covered type that is no variable and no bound one is of a form.
-pub covered_formed : (t : Tree) → IsTerm type_sort t → IsCovered t → StaysWithin 0 t →
+-- A type that is no variable and no bound one is of a form.
+pub type_is_formed : (t : Tree) → IsTerm type_sort t → StaysWithin 0 t →
     ((k : VarKind) (n : ℕ) → t ≢ leaf (variable k n)) → IsFormed t
-covered_formed (leaf (variable k n)) s c w o = absurd (o k n refl)
-covered_formed (leaf (bound k d i)) s c w o = absurd (omega (arith, w))
-covered_formed (leaf (placeholder k u n)) s c w o = type_only (bound_sort k) s
-covered_formed (leaf (atom x)) s c w o = type_only (atom_sort x) s
-covered_formed (leaf unknown) s c w o = absurd c
-covered_formed (node h ts) s c w o = type_only (head_sort h) s.0
-covered_formed (bind ks t) s c w o = absurd s
-covered_formed nil s c w o = absurd s
-covered_formed (cons t ts) s c w o = absurd s
+type_is_formed (leaf (variable k n)) s w o = absurd (o k n refl)
+type_is_formed (leaf (bound k d i)) s w o = absurd (omega (arith, w))
+type_is_formed (leaf (placeholder k u n)) s w o = type_only (bound_sort k) s
+type_is_formed (leaf (atom x)) s w o = type_only (atom_sort x) s
+type_is_formed (leaf unknown) s w o = absurd s
+type_is_formed (node h ts) s w o = type_only (head_sort h) s.0
+type_is_formed (bind ks t) s w o = absurd s
+type_is_formed nil s w o = absurd s
+type_is_formed (cons t ts) s w o = absurd s

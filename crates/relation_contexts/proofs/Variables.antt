@@ -16,28 +16,27 @@ use Rattle.relation_terms.specs.declared.terms.const_kind.InferConst.TheVariants
 use Rattle.relation_terms.specs.declared.terms.numbers.TyVid.{TyVid}
 use Rattle.relation_terms.specs.declared.terms.numbers.ConstVid.{ConstVid}
 use Rattle.relation_contexts.specs.Relation.{StaysWithin}
-use Rattle.relation_contexts.specs.Covered.{IsCovered, IsCoveredHead}
 use Rattle.relation_contexts.specs.Parts.{IsFormedConst}
 use Rattle.relation_terms.proofs.Members.{const_only}
 
--- A covered constant that is no variable and no bound one is of a form.
-form_of_const : (h : Head) (ts : Tree) → head_sort h ≡ const_sort → IsCoveredHead h → IsFormedConst (node h ts)
-form_of_const (expression k) ts e c = tt
-form_of_const value ts e c = tt
-form_of_const (unevaluated d) ts e c = tt
-form_of_const h ts e c = absurd (cc)
+-- A constant that is no variable and no bound one is of a form.
+form_of_const : (h : Head) (ts : Tree) → head_sort h ≡ const_sort → IsFormedConst (node h ts)
+form_of_const (expression k) ts e = tt
+form_of_const value ts e = tt
+form_of_const (unevaluated d) ts e = tt
+form_of_const h ts e = absurd (cc)
 
-pub covered_formed_const : (t : Tree) → IsTerm const_sort t → IsCovered t → StaysWithin 0 t →
+pub const_is_formed : (t : Tree) → IsTerm const_sort t → StaysWithin 0 t →
     ((k : VarKind) (n : ℕ) → t ≡ leaf (variable k n) → ⊥) → IsFormedConst t
-covered_formed_const (leaf (variable k n)) s c w o = absurd (o k n refl)
-covered_formed_const (leaf (bound k d i)) s c w o = absurd (omega (arith, w))
-covered_formed_const (leaf (placeholder k u n)) s c w o = const_only (bound_sort k) s
-covered_formed_const (leaf (atom x)) s c w o = const_only (atom_sort x) s
-covered_formed_const (leaf unknown) s c w o = absurd c
-covered_formed_const (node h ts) s c w o = form_of_const h ts (const_only (head_sort h) s.0) c.0
-covered_formed_const (bind ks t) s c w o = absurd s
-covered_formed_const nil s c w o = absurd s
-covered_formed_const (cons t ts) s c w o = absurd s
+const_is_formed (leaf (variable k n)) s w o = absurd (o k n refl)
+const_is_formed (leaf (bound k d i)) s w o = absurd (omega (arith, w))
+const_is_formed (leaf (placeholder k u n)) s w o = const_only (bound_sort k) s
+const_is_formed (leaf (atom x)) s w o = const_only (atom_sort x) s
+const_is_formed (leaf unknown) s w o = absurd s
+const_is_formed (node h ts) s w o = form_of_const h ts (const_only (head_sort h) s.0)
+const_is_formed (bind ks t) s w o = absurd s
+const_is_formed nil s w o = absurd s
+const_is_formed (cons t ts) s w o = absurd s
 
 -- A type variable is the form of none but a type variable, and a type is no variable of a constant.
 infer_variable : (i : InferTy) (n : ℕ) → ((v : TyVid) → i ≡ TyVar v → ⊥) → infer_tree i ≡ leaf (variable type_var n) → ⊥
@@ -95,6 +94,6 @@ module _ {Key Id Name : Type 0} (m : Meaning Key Id Name) (k : ConstKind Key Id 
   some_const_variable None h = h
 
   pub no_const_variable : IsTerm const_sort t → (o : Option ConstVid) → IfNone o ((v : ConstVid) → k ≡ ConstInfer (Var v) → ⊥) →
-      IfNone o (IsCovered t → StaysWithin 0 t → IsFormedConst t)
+      IfNone o (StaysWithin 0 t → IsFormedConst t)
   no_const_variable s (Some v) h = h
-  no_const_variable s None h = λ c w. covered_formed_const t s c w (λ j n q. const_no_variable m k j n h (sym e ∙ q))
+  no_const_variable s None h = λ w. const_is_formed t s w (λ j n q. const_no_variable m k j n h (sym e ∙ q))

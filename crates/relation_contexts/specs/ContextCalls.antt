@@ -20,7 +20,7 @@ use Rattle.relation_folds.specs.declared.error.RelateFault.{RelateFault}
 use Rattle.relation_folds.specs.declared.error.RelateFault.TheVariants.{Memory, Budget, Unrelated}
 use Rattle.relation_folds.specs.Faults.{KnowsError}
 use Rattle.relation_contexts.specs.Contexts.{Context}
-use Rattle.relation_contexts.specs.Covered.{IsCovered}
+use Rattle.relation_contexts.specs.Bound.{BindByLists}
 use Rattle.relation_contexts.specs.Errors.{IsReadAs}
 use Rattle.relation_contexts.specs.Generalising.{Obstacle, cycle, beyond, InstantiatesBy, RefusesBy, MakesUnbound}
 use Rattle.relation_contexts.specs.Lawful.{items_of}
@@ -30,9 +30,9 @@ use Rattle.relation_contexts.specs.Steps.{ChangesNothing}
 use Rattle.relation_contexts.specs.Stores.{Store, Constraint, IsMade, unbound, bound_to, entry_of, universe_of, resolved}
 use Rattle.relation_contexts.specs.Stores.{equal_constraint, outlives_constraint}
 
--- What variables are bound to is of forms that relating has rules for.
-abbrev pub HasCoveredBindings : Store → Type 0
-HasCoveredBindings st = (k : VarKind) (n : ℕ) (t : Tree) → entry_of st k n ≡ bound_to t → IsCovered t
+-- In what variables are bound to, binders bind by their lists.
+abbrev pub BindingsBindByLists : Store → Type 0
+BindingsBindByLists st = (k : VarKind) (n : ℕ) (t : Tree) → entry_of st k n ≡ bound_to t → BindByLists t
 
 -- A term is no variable of a kind.
 abbrev pub IsNotVariable : VarKind → Tree → Type 0

@@ -30,7 +30,7 @@ use Rattle.relation_contexts.specs.FirstOrder.{IsFirstOrderStore, Unifies, IsEra
 use Rattle.relation_contexts.specs.Errors.{ErrorOf, ErrorAs, Meeting, as_pair, as_forms, IsLeftToGoal}
 use Rattle.relation_contexts.specs.Agreeing.{Agree, AgreeBy}
 use Rattle.relation_contexts.specs.Measures.{Goes, grown}
-use Rattle.relation_contexts.specs.Covered.{IsCovered}
+use Rattle.relation_contexts.specs.Bound.{BindByLists}
 
 -- The variances of a list, by their places; past its end, invariance.
 abbrev pub listed : List Variance → ℕ → Variance
@@ -94,9 +94,9 @@ pub record Manner : Type 1 where
 abbrev pub Manners : Type 1
 Manners = Settings → Manner
 
--- A term is taken at a variance: of forms that have rules, and its leaves may stand there.
+-- A term is taken at a variance: its leaves may stand there, and its binders bind by their lists.
 abbrev pub Takes : Manner → Variance → Tree → Type 0
-Takes M v t = Leaves (M.takes v) t × IsCovered t
+Takes M v t = Leaves (M.takes v) t × BindByLists t
 
 -- What may stand in a form may stand in its parts, at their variances.
 abbrev pub TakesParts : Manners → Type 0

@@ -13,7 +13,6 @@ pub mod StepLaws
 pub mod ErasureLaws
 pub mod StoreLaws
 pub mod Bound
-pub mod Covered
 pub mod Measures
 pub mod Settings
 pub mod Parts

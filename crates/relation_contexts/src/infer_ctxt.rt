@@ -9,7 +9,7 @@ ghost use Rattle.relation_terms.specs.Trees.{leaf, known};
 ghost use Rattle.relation_contexts.specs.Stores.{IsSound, IsMade, IsTermIn};
 ghost use Rattle.relation_contexts.specs.Contexts.{Context, KnowsTy, KnowsConst, HasTy, HasConst, HasRegion};
 ghost use Rattle.relation_contexts.specs.Contexts.{MarksNoUnmade};
-ghost use Rattle.relation_contexts.specs.Covered.{IsCovered};
+ghost use Rattle.relation_contexts.specs.Bound.{BindByLists, BindsByList};
 ghost use Rattle.relation_contexts.specs.Settings.{in_coherence};
 ghost use Rattle.relation_contexts.specs.Steps.{Taints};
 ghost use Rattle.relation_contexts.specs.Generalising.{NumbersNameNothing};
@@ -19,9 +19,9 @@ ghost use Rattle.relation_contexts.specs.ContextCalls.{IsUnresolved, IsRootOf, R
 ghost use Rattle.relation_contexts.specs.ContextCalls.{OnlyLearns, EntersNext, EquatesTwo, BindsNumber};
 ghost use Rattle.relation_contexts.specs.ContextCalls.{ConstrainsOutlives};
 ghost use Rattle.relation_contexts.specs.ContextCalls.{ConstrainsEqual, IsNotVariable, BindsTy, BindsConst};
-ghost use Rattle.relation_contexts.specs.ContextCalls.{HasUniverse, ComesTo, JoinsRoots, Registers, HasCoveredBindings};
+ghost use Rattle.relation_contexts.specs.ContextCalls.{HasUniverse, ComesTo, JoinsRoots, Registers};
+ghost use Rattle.relation_contexts.specs.ContextCalls.{BindingsBindByLists};
 ghost use Rattle.relation_contexts.specs.ContextCalls.{KeepsSetup, KeepsMarks, MarksNew};
-ghost use Rattle.relation_contexts.specs.Bound.{BindsByList};
 ghost use Rattle.relation_contexts.specs.Binders.{binder_tree, EntersBinderOf, InstantiatesBinderOf};
 
 use crate::relate::StructurallyRelateAliases;
@@ -358,9 +358,9 @@ pub trait InferCtxtLike {
         ensures marks { KeepsMarks (state self.old) (state self.new) };
 
     /// Binds an unresolved type variable, at a variance, to what a type comes to, generalised for what the variable can
-    /// name, for one of the budget, and answers the bound type. The type is no type variable, and has rules. Where
-    /// aliases aren't related structurally, an alias in which the variable stands, or what it can't name, gives way to a
-    /// new type variable.
+    /// name, for one of the budget, and answers the bound type. The type is no type variable, and its binders bind by
+    /// their lists. Where aliases aren't related structurally, an alias in which the variable stands, or what it can't
+    /// name, gives way to a new type variable.
     ///
     /// # Errors
     /// `Budget` where no instantiation is left; `CyclicTy` where the variable stands in what the type comes to,
@@ -382,7 +382,7 @@ pub trait InferCtxtLike {
         requires target_unresolved { IsUnresolved (state self.old) type_var target_vid.0 }
         requires source_known { KnowsTy (state self.old) source_ty.now }
         requires source_in { HasTy (state self.old) source_ty.now }
-        requires source_covered { IsCovered (((state self.old).meaning).ty source_ty.now) }
+        requires source_by_lists { BindByLists (((state self.old).meaning).ty source_ty.now) }
         requires source_no_variable { IsNotVariable type_var (((state self.old).meaning).ty source_ty.now) }
         ensures grows { Grows (state self.old) (state self.new) }
         ensures instantiates { let g = structurally_relate_aliases in let v = instantiation_variance in
@@ -400,7 +400,7 @@ pub trait InferCtxtLike {
         requires target_unresolved { IsUnresolved (state self.old) const_var target_vid.0 }
         requires source_known { KnowsConst (state self.old) source_ct.now }
         requires source_in { HasConst (state self.old) source_ct.now }
-        requires source_covered { IsCovered (((state self.old).meaning).const_ source_ct.now) }
+        requires source_by_lists { BindByLists (((state self.old).meaning).const_ source_ct.now) }
         requires source_no_variable { IsNotVariable const_var (((state self.old).meaning).const_ source_ct.now) }
         ensures grows { Grows (state self.old) (state self.new) }
         ensures instantiates { let g = structurally_relate_aliases in
@@ -469,8 +469,8 @@ pub trait InferCtxtLike {
     // Its variables of numbers name nothing.
     ghost numbers: { (c : Self) → (state c).lawful → NumbersNameNothing (state c).store };
 
-    // What its variables are bound to is of forms that relating has rules for.
-    ghost covered: { (c : Self) → (state c).lawful → HasCoveredBindings (state c).store };
+    // In what its variables are bound to, binders bind by their lists.
+    ghost bound_by_lists: { (c : Self) → (state c).lawful → BindingsBindByLists (state c).store };
 
     // A type variable that is not made is marked as related to no other, so that neither is one that was just made.
     ghost unmarked: { (c : Self) → (state c).lawful → MarksNoUnmade (state c) };

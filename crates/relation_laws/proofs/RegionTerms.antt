@@ -13,7 +13,7 @@ use Rattle.relation_contexts.specs.Agreeing.{IsFlexible, AreFlexible, IsLeftAsid
 use Rattle.relation_contexts.specs.Settings.{Settings}
 use Rattle.relation_contexts.specs.Errors.{outer_leaf, AreAlike, IsLeftToGoal}
 use Rattle.type_relations.proofs.Unifying.{kind_erased, atom_erased, kind_kept, erased_plain}
-use Rattle.type_relations.proofs.Leaving.{opaque_is_alias, beside_is_opaque}
+use Rattle.relation_contexts.proofs.Leaving.{opaque_is_alias, beside_is_opaque}
 use Rattle.type_relations.proofs.PartSizes.{one_size}
 use Rattle.relation_contexts.proofs.Agreeing.{agree_anything, agree_same}
 use Rattle.relation_laws.specs.Decided.{plain_leaf}

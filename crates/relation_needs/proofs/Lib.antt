@@ -1,4 +1,4 @@
 pub mod BindingLemmas
 pub mod UseLemmas
-pub mod CoverLemmas
+pub mod BoundLemmas
 pub mod NeedLemmas

@@ -1,16 +1,16 @@
 -- What becomes of leaves.
-use Rattle.std.proofs.Common.{◌≡◌, ◌≢◌, ℕ, ◌≤◌, refl, sym, ap, ◌∙◌, subst, Option, Some}
+use Rattle.std.proofs.Common.{◌≡◌, ◌≢◌, ℕ, ◌≤◌, refl, sym, ap, ◌∙◌, subst, Option, Some, IsTrue}
+use Rattle.std.proofs.lemmas.Bool.{false≢true}
 use Rattle.term_enums.specs.declared.Variance.{Variance}
 use Rattle.relation_terms.specs.declared.terms.part_kind.Part.{Part}
 use Rattle.relation_terms.specs.declared.terms.part_kind.Part.TheVariants.{Region, Ty, Const, ValTree, Pat, ValueType, Binder, Signature, Inputs, Existential, Object}
 use Rattle.relation_terms.specs.declared.terms.keys.RegionKey.{RegionKey}
 use Rattle.relation_terms.specs.Heads.{region_kind, type_kind, const_kind, region_sort, BoundKind, bound_kind, bound_sort, VarKind, type_var, int_var, float_var, const_var, region_var, static_region, early_region, Leaf, leaf_sort, var_sort, variable, bound, placeholder, atom, unknown}
-use Rattle.relation_terms.specs.Trees.{Tree, leaf}
+use Rattle.relation_terms.specs.Trees.{Tree, leaf, known}
 use Rattle.relation_terms.specs.Parts.{part_sort, tree_sort}
 use Rattle.relation_contexts.specs.Stores.{Store}
 use Rattle.relation_contexts.specs.Generalising.{Stays}
 use Rattle.relation_contexts.specs.Steps.{MakesVariable}
-use Rattle.relation_contexts.specs.Covered.{IsCovered}
 use Rattle.relation_reference.specs.declared.context.generalising.Fate.TheVariants.{ByParts}
 use Rattle.relation_reference.specs.declared.context.memory.TermVid.{TermVid}
 use Rattle.relation_reference.specs.declared.context.memory.TermVid.TheVariants.{Ty as TyTerm, Const as ConstTerm}
@@ -19,13 +19,13 @@ use Rattle.relation_reference.specs.Generalises.{new_kind, IsFate}
 use Rattle.relation_contexts.proofs.Generalising.{some_path}
 
 -- All that is left stays.
-pub left_stays : (st : Store) (k : VarKind) (n u : ℕ) (v : Variance) (t : Tree) → IsCovered t → (tree_sort t ≡ region_sort → ⊥) →
+pub left_stays : (st : Store) (k : VarKind) (n u : ℕ) (v : Variance) (t : Tree) → IsTrue (known t) → (tree_sort t ≡ region_sort → ⊥) →
     ((j : TermVid) → t ≡ leaf (variable (vid_kind j) (vid_number j)) → ⊥) →
     ((q : BoundKind) (w i : ℕ) → t ≡ leaf (placeholder q w i) → bound_sort q ≢ region_sort → w ≤ u) →
     ((i : ℕ) → k ≡ int_var → ⊥) → ((i : ℕ) → k ≡ float_var → ⊥) → (o : Option VarKind) → IsFate st k n u v t o ByParts
-left_stays st k n u v t c s no_var no_place no_int no_float o = λ l e. go l (subst IsCovered e c) (λ q. s (ap tree_sort e ∙ q)) (λ j q. no_var j (e ∙ q)) (λ q w i p d. no_place q w i (e ∙ p) d)
+left_stays st k n u v t c s no_var no_place no_int no_float o = λ l e. go l (subst (λ u. IsTrue (known u)) e c) (λ q. s (ap tree_sort e ∙ q)) (λ j q. no_var j (e ∙ q)) (λ q w i p d. no_place q w i (e ∙ p) d)
   where
-    go : (l : Leaf) → IsCovered (leaf l) → (leaf_sort l ≡ region_sort → ⊥) → ((j : TermVid) → leaf l ≡ leaf (variable (vid_kind j) (vid_number j)) → ⊥) →
+    go : (l : Leaf) → IsTrue (known (leaf l)) → (leaf_sort l ≡ region_sort → ⊥) → ((j : TermVid) → leaf l ≡ leaf (variable (vid_kind j) (vid_number j)) → ⊥) →
         ((q : BoundKind) (w i : ℕ) → leaf l ≡ leaf (placeholder q w i) → bound_sort q ≢ region_sort → w ≤ u) → (l ≢ variable k n) × Stays st u v l
     go (variable type_var m) c r a b = absurd (a (TyTerm (record { 0 = m })) refl)
     go (variable int_var m) c r a b = (λ q. no_int 0 (let z : k ≡ int_var = cc in z), tt)
@@ -39,7 +39,7 @@ left_stays st k n u v t c s no_var no_place no_int no_float o = λ l e. go l (su
     go (atom static_region) c r a b = absurd (r refl)
     go (atom (early_region i x)) c r a b = absurd (r refl)
     go (atom x) c r a b = (λ q. absurd (cc), tt)
-    go unknown c r a b = absurd c
+    go unknown c r a b = absurd (false≢true c)
 
 -- A part that is no region.
 pub not_region : {Key Id : Type 0} (p : Part Key Id) → ((r : RegionKey Key) → p ≡ Region r → ⊥) → part_sort p ≡ region_sort → ⊥

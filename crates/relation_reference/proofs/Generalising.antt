@@ -20,8 +20,7 @@ use Rattle.relation_contexts.specs.declared.relate.StructurallyRelateAliases.{St
 use Rattle.relation_contexts.specs.declared.relate.StructurallyRelateAliases.TheVariants.{Yes, No}
 use Rattle.relation_contexts.specs.Relation.{Items, sort_of, StaysWithin}
 use Rattle.relation_contexts.specs.Lawful.{declared_by, items_of}
-use Rattle.relation_contexts.specs.Bound.{AreBoundAs}
-use Rattle.relation_contexts.specs.Covered.{IsCovered}
+use Rattle.relation_contexts.specs.Bound.{AreBoundAs, BindByLists}
 use Rattle.relation_contexts.specs.Stores.{Store, universe_of, IsMade, IsMadeLeaf, InContext, IsSound}
 use Rattle.relation_contexts.specs.Steps.{MakesVariable}
 use Rattle.relation_contexts.specs.Generalising.{Stays, gives_way_to, Side, outside, inside, side_in, Met, Stage, Turn, any_part, new_part, variance_of_part, Generalised, met_before, met_first, no_type, stays, gives_way, alias_gives_way, by_parts, in_binder, no_parts, next_part, MakesUnbound, makes_none, makes_one, Obstacle, cycle, beyond, IsNoObstacle, IsSeen, IsClear, StopsAt, at_itself, at_placeholder, in_parts, in_body, in_first, in_others}
@@ -548,46 +547,43 @@ generalised_first {Key = Key} {Id = Id} {Name = Name} eq m n was now g k i u v c
     go (Err Budget) h = h
     go (Err Memory) h = tt
 
--- What a covered term became is covered, where the types that were met became such.
-gives_covered : (l : Leaf) (j : VarKind) (d : ℕ) → IsCovered (leaf (variable j d))
-gives_covered l j d = tt
-
 -- From a term to what it became: what binders outside bind stands in that by places of their lists too, and no more
 -- escapes from it.
 record KeepsBound (t x : Tree) : Type 0 where
   bound : (ks : List BoundKind) (d : ℕ) → AreBoundAs ks d t → AreBoundAs ks d x
   within : (d : ℕ) → StaysWithin d t → StaysWithin d x
 
-abbrev IsCoveredMet : Met → Type 0
-IsCoveredMet e = IsCovered e.term × KeepsBound e.type e.term
+-- In what a term became, binders bind by their lists, if they do in the term and in what types that were met became.
+abbrev MetByLists : Met → Type 0
+MetByLists e = BindByLists e.term × KeepsBound e.type e.term
 
-stays_covered : {g : StructurallyRelateAliases} {c : Items} {start : Store} {k : VarKind} {n : ℕ} {turn : Turn} {r q : Stage} {t x : Tree} → Generalised g c start k n turn r t q x → IsCovered t → All IsCoveredMet r.met → IsCovered x × KeepsBound t x × All IsCoveredMet q.met
-stays_covered (met_before {e = sd} {v = v} {r = r} {t = t} {x = x} s h) cov all = let e = All-contains IsCoveredMet r.met (met_at sd v t x) all h in (e.0, e.1, all)
-stays_covered (met_first {e = sd} {v = v} {q = q} {t = t} {x = x} s o g a b) cov all = let h = stays_covered g cov all in
-    (h.0, h.1, subst (All IsCoveredMet) (sym b) (All-cons IsCoveredMet (met_at sd v t x) q.met (h.0, h.1) h.2))
-stays_covered (no_type s g) cov all = stays_covered g cov all
-stays_covered (stays o s) cov all = (cov, record { bound = λ ks d b. b; within = λ d b. b }, all)
-stays_covered (gives_way {l = l} {j = j} {m = m} o s e f b) cov all = (gives_covered l j m, record { bound = λ ks d h. tt; within = λ d h. tt }, subst (All IsCoveredMet) (sym b) all)
-stays_covered (alias_gives_way {m = m} e o f b) cov all = (tt, record { bound = λ ks d h. tt; within = λ d h. tt }, subst (All IsCoveredMet) (sym b) all)
-stays_covered (by_parts h g) cov all = let i = stays_covered g cov.1 all in
-    ((cov.0, i.0), record { bound = λ ks d b. i.1.bound ks d b; within = λ d b. i.1.within d b }, i.2)
-stays_covered (in_binder {ks = ks} g) cov all = let i = stays_covered g cov.1 all in
-    ((i.1.bound ks 0 cov.0, i.0), record { bound = λ ls d b. i.1.bound ls (suc d) b; within = λ d b. i.1.within (suc d) b }, i.2)
-stays_covered no_parts cov all = (tt, record { bound = λ ks d b. tt; within = λ d b. tt }, all)
-stays_covered (next_part g f) cov all = let a = stays_covered g cov.0 all in let b = stays_covered f cov.1 a.2 in (
+stays_by_lists : {g : StructurallyRelateAliases} {c : Items} {start : Store} {k : VarKind} {n : ℕ} {turn : Turn} {r q : Stage} {t x : Tree} → Generalised g c start k n turn r t q x → BindByLists t → All MetByLists r.met → BindByLists x × KeepsBound t x × All MetByLists q.met
+stays_by_lists (met_before {e = sd} {v = v} {r = r} {t = t} {x = x} s h) lists all = let e = All-contains MetByLists r.met (met_at sd v t x) all h in (e.0, e.1, all)
+stays_by_lists (met_first {e = sd} {v = v} {q = q} {t = t} {x = x} s o g a b) lists all = let h = stays_by_lists g lists all in
+    (h.0, h.1, subst (All MetByLists) (sym b) (All-cons MetByLists (met_at sd v t x) q.met (h.0, h.1) h.2))
+stays_by_lists (no_type s g) lists all = stays_by_lists g lists all
+stays_by_lists (stays o s) lists all = (lists, record { bound = λ ks d b. b; within = λ d b. b }, all)
+stays_by_lists (gives_way o s e f b) lists all = (tt, record { bound = λ ks d h. tt; within = λ d h. tt }, subst (All MetByLists) (sym b) all)
+stays_by_lists (alias_gives_way e o f b) lists all = (tt, record { bound = λ ks d h. tt; within = λ d h. tt }, subst (All MetByLists) (sym b) all)
+stays_by_lists (by_parts h g) lists all = let i = stays_by_lists g lists all in
+    (i.0, record { bound = λ ks d b. i.1.bound ks d b; within = λ d b. i.1.within d b }, i.2)
+stays_by_lists (in_binder {ks = ks} g) lists all = let i = stays_by_lists g lists.1 all in
+    ((i.1.bound ks 0 lists.0, i.0), record { bound = λ ls d b. i.1.bound ls (suc d) b; within = λ d b. i.1.within (suc d) b }, i.2)
+stays_by_lists no_parts lists all = (tt, record { bound = λ ks d b. tt; within = λ d b. tt }, all)
+stays_by_lists (next_part g f) lists all = let a = stays_by_lists g lists.0 all in let b = stays_by_lists f lists.1 a.2 in (
   (a.0, b.0),
   record { bound = λ ks d h. (a.1.bound ks d h.0, b.1.bound ks d h.1); within = λ d h. (a.1.within d h.0, b.1.within d h.1) },
   b.2,
 )
 
 module _ {al : StructurallyRelateAliases} {c : Items} {start st : Store} {k : VarKind} {n : ℕ} {turn : Turn} {q : Stage} {t x : Tree}
-    (g : Generalised al c start k n turn (record { store = st; met = [] }) t q x) (cov : IsCovered t) where
-  pub generalised_covered : IsCovered x
-  generalised_covered = (stays_covered g cov (All-nil _)).0
+    (g : Generalised al c start k n turn (record { store = st; met = [] }) t q x) (lists : BindByLists t) where
+  pub generalised_by_lists : BindByLists x
+  generalised_by_lists = (stays_by_lists g lists (All-nil _)).0
 
   -- Nothing escapes from it, if nothing did.
   pub generalised_within : StaysWithin 0 t → StaysWithin 0 x
-  generalised_within h = (stays_covered g cov (All-nil _)).1.within 0 h
+  generalised_within h = (stays_by_lists g lists (All-nil _)).1.within 0 h
 
 -- Nothing was met at the start.
 pub none_met : (es : List Met) (d : Met) → es ≡ [] → Contains es d → ⊥

@@ -14,7 +14,7 @@ use Rattle.relation_folds.specs.declared.error.RelateFault.TheVariants.{Memory, 
 use Rattle.relation_folds.specs.Faults.{KnowsError}
 use Rattle.relation_contexts.specs.Relation.{Items, StaysWithin}
 use Rattle.relation_contexts.specs.Lawful.{items_of}
-use Rattle.relation_contexts.specs.Covered.{IsCovered}
+use Rattle.relation_contexts.specs.Bound.{BindByLists}
 use Rattle.relation_contexts.specs.ErasureLaws.{IsTypeOrConst}
 use Rattle.relation_contexts.specs.Stores.{Store, unbound, bound_to, entry_of, universe_of, IsMade, MayStandFor, InContext, IsTermIn, resolved}
 use Rattle.relation_contexts.specs.Steps.{BindsTo}
@@ -24,7 +24,7 @@ use Rattle.relation_contexts.specs.ContextCalls.{Instantiated, ObstacleError}
 use Rattle.relation_contexts.proofs.NewVariables.{Adds, adds}
 use Rattle.relation_contexts.proofs.Standing.{term_context, term_within}
 use Rattle.relation_contexts.proofs.StoreCalls.{resolved_in}
-use Rattle.relation_contexts.proofs.Variables.{covered_formed_const}
+use Rattle.relation_contexts.proofs.Variables.{const_is_formed}
 use Rattle.relation_contexts.proofs.BindingGeneralised.{generalising_instantiates}
 use Rattle.relation_reference.specs.declared.context.inner.InferCtxtInner.{InferCtxtInner}
 use Rattle.relation_reference.specs.declared.context.inner.Variable.{Variable}
@@ -32,8 +32,8 @@ use Rattle.relation_reference.specs.Variables.{universe_at}
 use Rattle.relation_reference.specs.Tables.{store_of, context_of, keys_in, MayBeBoundTo, IsLawful}
 use Rattle.relation_reference.specs.Generalises.{GivenError, IsGeneralisedFor}
 use Rattle.relation_reference.proofs.Beside.{Beside}
-use Rattle.relation_reference.proofs.Covering.{comes_covered}
-use Rattle.relation_reference.proofs.Generalising.{items_grow, generalised_covered, generalised_within, none_met}
+use Rattle.relation_reference.proofs.Bound.{comes_by_lists}
+use Rattle.relation_reference.proofs.Generalising.{items_grow, generalised_by_lists, generalised_within, none_met}
 use Rattle.relation_reference.proofs.Grows.{store_grows, lawful_grows}
 use Rattle.relation_reference.proofs.Writing.{bind_binds, bind_lawful}
 
@@ -109,13 +109,10 @@ module _ {Key Id Name : Type 0} {m n : Meaning Key Id Name} (grown : Extends m n
   pub resolved_lawful : IsLawful n w
   resolved_lawful = subst (IsLawful n) (sym resolving) (lawful_grows grown x l)
 
-  -- What the term was resolved to is of the context, and covered.
+  -- What the term was resolved to is of the context.
   module _ (t u : Tree) (comes : u ≡ apply (resolved (store_of m x)) t) where
     pub source_context : IsTermIn (store_of m x) t → InContext (store_of n w) u
     source_context h = subst₂ InContext (sym still) (sym comes) (term_context (store_of m x) (apply (resolved (store_of m x)) t) (resolved_in (store_of m x) l.sound t h))
-
-    pub source_covered : IsCovered t → IsCovered u
-    source_covered h = subst IsCovered (sym comes) (comes_covered m x l t h)
 
   -- Memory ran out on the way.
   module _ {K : Type 0} (tree : Meaning Key Id Name → K → Tree) (cyclic : K → TypeError Key Id Name) (al : StructurallyRelateAliases) (k : VarKind) (i : ℕ) (v : Variance) (t : Tree) (left : x.budget ≢ 0) where
@@ -181,17 +178,17 @@ module _ {Key Id Name : Type 0} {m n : Meaning Key Id Name} (o : Meaning Key Id 
 
 -- What variables are bound to may be bound.
 module _ {Key Id Name : Type 0} {al : StructurallyRelateAliases} {c : Items} {k : VarKind} {n : ℕ} {v : Variance} {last : Stage} {term : Tree} (m : Meaning Key Id Name) (x : InferCtxtInner Key) (l : IsLawful m x) (t : Tree)
-    (g : Generalised al c (store_of m x) k n (any_part outside v) (record { store = store_of m x; met = [] }) (apply (resolved (store_of m x)) t) last term) (covered : IsCovered t) where
-  bound_covered : IsCovered term
-  bound_covered = generalised_covered g (comes_covered m x l t covered)
+    (g : Generalised al c (store_of m x) k n (any_part outside v) (record { store = store_of m x; met = [] }) (apply (resolved (store_of m x)) t) last term) (lists : BindByLists t) where
+  bound_by_lists : BindByLists term
+  bound_by_lists = generalised_by_lists g (comes_by_lists m x l t lists)
 
   pub type_may : MayBeBoundTo type_var term
-  type_may = bound_covered
+  type_may = bound_by_lists
 
   -- Nothing escapes from what it is bound to.
   bound_within : IsTermIn (store_of m x) t → StaysWithin 0 term
-  bound_within h = generalised_within g (comes_covered m x l t covered)
+  bound_within h = generalised_within g (comes_by_lists m x l t lists)
       (term_within (store_of m x) (apply (resolved (store_of m x)) t) (resolved_in (store_of m x) l.sound t h))
 
   pub const_may : IsTerm const_sort t → ((i : ℕ) → t ≢ leaf (variable const_var i)) → IsTermIn (store_of m x) t → IsTerm const_sort term → MayBeBoundTo const_var term
-  const_may f o t_in h = (covered_formed_const term h bound_covered (bound_within t_in) (no_variable_at_all term h (generalised_no_const g refl (no_const_variable (store_of m x) t f o))), bound_covered)
+  const_may f o t_in h = (const_is_formed term h (bound_within t_in) (no_variable_at_all term h (generalised_no_const g refl (no_const_variable (store_of m x) t f o))), bound_by_lists)

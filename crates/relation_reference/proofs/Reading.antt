@@ -19,7 +19,7 @@ use Rattle.relation_terms.specs.declared.terms.numbers.ConstVid.{ConstVid}
 use Rattle.relation_contexts.specs.Stores.{Store, unbound, same_as, bound_to, entry_of, entry_term, IsMade, IsSound, InContext}
 use Rattle.relation_contexts.specs.Steps.{LeadsTo, here, next}
 use Rattle.relation_contexts.specs.Errors.{IsReadAs, itself, by_class, by_binding}
-use Rattle.relation_contexts.specs.Covered.{IsCovered}
+use Rattle.relation_contexts.specs.Bound.{BindByLists}
 use Rattle.relation_contexts.specs.Parts.{IsFormed, IsFormedConst}
 use Rattle.relation_contexts.proofs.Standing.{made_of_term, term_context}
 use Rattle.relation_contexts.proofs.Classes.{class_made}
@@ -32,10 +32,9 @@ use Rattle.relation_reference.specs.declared.context.memory.TermVid.TheVariants.
 use Rattle.relation_reference.specs.Answers.{Found, found_root, found_term}
 use Rattle.relation_reference.specs.Remembering.{vid_kind, vid_number}
 use Rattle.relation_reference.specs.Variables.{value_at, root_by, root_at, term_by, term_at, entry_of_value, entries_of, trees_of, keys_of}
-use Rattle.relation_reference.specs.Tables.{store_of, MayBeBoundTo, IsRooted, IsLawful}
+use Rattle.relation_reference.specs.Tables.{store_of, MayBeBoundTo, may_by_lists, IsRooted, IsLawful}
 use Rattle.relation_contexts.specs.Resolving.{IsRoot, IsShallow, root, stays_bound, formed, IsShallowTy, ty_root, no_ty_variable, IsShallowConst, const_root, no_variable}
 use Rattle.relation_reference.proofs.Grows.{entry_at, bound_known}
-use Rattle.relation_reference.proofs.Covering.{may_covered}
 use Rattle.relation_reference.proofs.Folding.{context_made}
 use Rattle.relation_contexts.proofs.Variables.{kind_variable, kind_no_const, const_no_variable}
 use Rattle.relation_contexts.proofs.Numbers.{made_of_leaf}
@@ -107,9 +106,9 @@ module _ {Key Id Name : Type 0} (m : Meaning Key Id Name) (x : InferCtxtInner Ke
   found_read (found_root r d e q) = by_class k n r refl (r, d, here refl) (itself (sym q))
   found_read (found_term r d e) = by_class k n r refl (r, d, here refl) (by_binding k r refl e (itself refl))
 
-  pub found_covered : Found its_store k n u → IsCovered u
-  found_covered (found_root r d e q) = subst IsCovered (sym q) tt
-  found_covered (found_term r d e) = may_covered k u (l.formed k r u e)
+  pub found_by_lists : Found its_store k n u → BindByLists u
+  found_by_lists (found_root r d e q) = subst BindByLists (sym q) tt
+  found_by_lists (found_term r d e) = may_by_lists k u (l.formed k r u e)
 
   pub found_shallow : (MayBeBoundTo k u → IsFormed u) → Found its_store k n u → IsShallow its_store u
   found_shallow f (found_root r d e q) = root k r q (ap (entry_term k) e)

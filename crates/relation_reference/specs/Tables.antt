@@ -7,10 +7,10 @@ use Rattle.relation_contexts.specs.Stores.{Store, entry_of, same_as, bound_to, I
 use Rattle.relation_contexts.specs.Generalising.{NumbersNameNothing}
 use Rattle.relation_contexts.specs.Constraints.{constraint_of}
 use Rattle.relation_contexts.specs.Parts.{IsFormed, IsFormedConst}
-use Rattle.relation_contexts.specs.Covered.{IsCovered}
+use Rattle.relation_contexts.specs.Bound.{BindByLists}
 use Rattle.relation_contexts.specs.Contexts.{Context}
 use Rattle.relation_contexts.specs.Settings.{Setup}
-use Rattle.relation_contexts.specs.ContextCalls.{HasCoveredBindings}
+use Rattle.relation_contexts.specs.ContextCalls.{BindingsBindByLists}
 use Rattle.relation_reference.specs.declared.context.inner.InferCtxtInner.{InferCtxtInner}
 use Rattle.relation_reference.specs.Variables.{entries_of, universes_of, trees_of}
 use Rattle.relation_reference.specs.Numbers.{number_trees}
@@ -24,12 +24,20 @@ by_kind t i f c r float_var = f
 by_kind t i f c r const_var = c
 by_kind t i f c r region_var = r
 
--- What a variable of a kind may be bound to, of forms that relating has rules for: a type variable to any type, so that
--- also to another variable; any other to a term that is no variable.
+-- What a variable of a kind may be bound to, each binder in which binds by its list: a type variable to any type, so
+-- that also to another variable; any other to a term that is no variable.
 abbrev pub MayBeBoundTo : VarKind → Tree → Type 0
-MayBeBoundTo type_var t = IsCovered t
-MayBeBoundTo const_var t = IsFormedConst t × IsCovered t
-MayBeBoundTo k t = IsFormed t × IsCovered t
+MayBeBoundTo type_var t = BindByLists t
+MayBeBoundTo const_var t = IsFormedConst t × BindByLists t
+MayBeBoundTo k t = IsFormed t × BindByLists t
+
+-- So in what is bound, binders bind by their lists.
+pub may_by_lists : (k : VarKind) (t : Tree) → MayBeBoundTo k t → BindByLists t
+may_by_lists type_var t h = h
+may_by_lists int_var t h = h.1
+may_by_lists float_var t h = h.1
+may_by_lists const_var t h = h.1
+may_by_lists region_var t h = h.1
 
 -- No entry leads to one that leads on: each names a root.
 abbrev pub IsRooted : Store → Type 0
@@ -80,13 +88,8 @@ module _ {Key Id Name : Type 0} (m : Meaning Key Id Name) where
     pub numbers : map m.ty x.numbers.items ≡ number_trees
     pub sub_rooted : HasSubRoots x
 
-  -- So all that is bound is of forms that relating has rules for.
-  pub covered_bindings : (x : InferCtxtInner Key) → IsLawful x → HasCoveredBindings (store_of x)
-  covered_bindings x l type_var n t e = l.formed type_var n t e
-  covered_bindings x l int_var n t e = (l.formed int_var n t e).1
-  covered_bindings x l float_var n t e = (l.formed float_var n t e).1
-  covered_bindings x l const_var n t e = (l.formed const_var n t e).1
-  covered_bindings x l region_var n t e = (l.formed region_var n t e).1
+  pub bindings_by_lists : (x : InferCtxtInner Key) → IsLawful x → BindingsBindByLists (store_of x)
+  bindings_by_lists x l k n t e = may_by_lists k t (l.formed k n t e)
 
   -- A context of these tables, as contracts see it.
   abbrev pub context_of : InferCtxtInner Key → Context Key Id Name

@@ -1,5 +1,5 @@
 -- Binders under which nothing is bound, as the relation of terms without variables relates them: by their bodies.
-use Rattle.std.proofs.Common.{◌≡◌, ◌≢◌, ℕ, suc, refl, sym, subst₂, inr, List, [], Option, Some, None, Result, Ok}
+use Rattle.std.proofs.Common.{◌≡◌, ◌≢◌, ℕ, suc, refl, sym, subst₂, inr, List, [], Option, Some, None, Ok}
 use Rattle.std.proofs.lemmas.Bool.{false≢true}
 use Rattle.term_enums.specs.declared.Variance.{Variance}
 use Rattle.term_enums.specs.declared.Variance.TheVariants.{Bivariant}
@@ -10,7 +10,7 @@ use Rattle.relation_terms.specs.Meaning.{Meaning, under}
 use Rattle.relation_contexts.specs.Relation.{StaysWithin}
 use Rattle.relation_contexts.specs.Stores.{Store, IsSound, IsTermIn, InContext}
 use Rattle.relation_contexts.specs.Lawful.{Asked, items_of}
-use Rattle.type_relations.specs.Rounds.{OneRound, one_round, RoundLeads, Opened}
+use Rattle.type_relations.specs.Rounds.{one_round, RoundLeads, Opened}
 use Rattle.relation_contexts.proofs.Building.{built_itself}
 use Rattle.relation_contexts.proofs.Opening.{unused_step}
 use Rattle.type_relations.proofs.OpeningBoth.{body_scope, unused_stand_ins, bodies_error, bodies_built, bodies_agree, bodies_smaller}

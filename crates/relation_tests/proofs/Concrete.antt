@@ -12,22 +12,12 @@ use Rattle.relation_terms.specs.Trees.{Tree, leaf, node, bind, nil, cons, known,
 use Rattle.relation_terms.specs.Meaning.{Meaning, Extends, signature_tree, under}
 use Rattle.relation_terms.proofs.Stays.{stays_signature}
 use Rattle.relation_contexts.specs.Relation.{IsValueAtom, StaysWithin}
-use Rattle.relation_contexts.specs.Bound.{AreBoundAs}
+use Rattle.relation_contexts.specs.Bound.{AreBoundAs, BindByLists}
 use Rattle.relation_contexts.specs.Stores.{Store, IsTermIn, InContext, IsMadeLeaf, IsNamable}
-use Rattle.relation_contexts.specs.Covered.{IsCovered, IsCoveredAtom}
-use Rattle.relation_terms.specs.Heads.{fresh_type, fresh_int, fresh_float, fresh_const}
 use Rattle.relation_contexts.specs.Lawful.{Asked}
 use Rattle.relation_tests.specs.Plain.{IsUnbound, plain_store, plain_state, plain_manner}
 use Rattle.relation_tests.specs.Concrete.{IsConcrete}
 use Rattle.relation_reference.proofs.Grows.{known_of_term}
-
--- A covered atom is no stand-in.
-value_atom : (x : Atom) → IsCoveredAtom x → IsValueAtom x
-value_atom (fresh_type n) h = absurd h
-value_atom (fresh_int n) h = absurd h
-value_atom (fresh_float n) h = absurd h
-value_atom (fresh_const n) h = absurd h
-value_atom x h = tt
 
 -- What is not there is bound as any list says.
 concrete_bound : (ks : List BoundKind) (d : ℕ) (t : Tree) → IsConcrete t → AreBoundAs ks d t
@@ -36,21 +26,17 @@ concrete_bound ks d (leaf (bound k e i)) h = absurd h
 concrete_bound ks d (leaf (placeholder k u n)) h = absurd h
 concrete_bound ks d (leaf (atom x)) h = tt
 concrete_bound ks d (leaf unknown) h = absurd h
-concrete_bound ks d (node a ts) h = concrete_bound ks d ts h.1
+concrete_bound ks d (node a ts) h = concrete_bound ks d ts h
 concrete_bound ks d (bind ls t) h = concrete_bound ks (suc d) t h
 concrete_bound ks d nil h = tt
 concrete_bound ks d (cons t ts) h = (concrete_bound ks d t h.0, concrete_bound ks d ts h.1)
 
-pub concrete_covered : (t : Tree) → IsConcrete t → IsCovered t
-concrete_covered (leaf (variable k n)) h = absurd h
-concrete_covered (leaf (bound k d i)) h = absurd h
-concrete_covered (leaf (placeholder k u n)) h = absurd h
-concrete_covered (leaf (atom x)) h = h
-concrete_covered (leaf unknown) h = absurd h
-concrete_covered (node a ts) h = (h.0, concrete_covered ts h.1)
-concrete_covered (bind ks t) h = (concrete_bound ks 0 t h, concrete_covered t h)
-concrete_covered nil h = tt
-concrete_covered (cons t ts) h = (concrete_covered t h.0, concrete_covered ts h.1)
+concrete_lists : (t : Tree) → IsConcrete t → BindByLists t
+concrete_lists (leaf l) h = tt
+concrete_lists (node a ts) h = concrete_lists ts h
+concrete_lists (bind ks t) h = (concrete_bound ks 0 t h, concrete_lists t h)
+concrete_lists nil h = tt
+concrete_lists (cons t ts) h = (concrete_lists t h.0, concrete_lists ts h.1)
 
 -- What holds of each atom holds of each leaf.
 concrete_leaves : (P : Leaf → Type 0) → ((x : Atom) → IsValueAtom x → P (atom x)) → (t : Tree) → IsConcrete t →
@@ -58,9 +44,9 @@ concrete_leaves : (P : Leaf → Type 0) → ((x : Atom) → IsValueAtom x → P 
 concrete_leaves P f (leaf (variable k n)) h = absurd h
 concrete_leaves P f (leaf (bound k d i)) h = absurd h
 concrete_leaves P f (leaf (placeholder k u n)) h = absurd h
-concrete_leaves P f (leaf (atom x)) h = f x (value_atom x h)
+concrete_leaves P f (leaf (atom x)) h = f x h
 concrete_leaves P f (leaf unknown) h = absurd h
-concrete_leaves P f (node a ts) h = concrete_leaves P f ts h.1
+concrete_leaves P f (node a ts) h = concrete_leaves P f ts h
 concrete_leaves P f (bind ks t) h = concrete_leaves P f t h
 concrete_leaves P f nil h = tt
 concrete_leaves P f (cons t ts) h = (concrete_leaves P f t h.0, concrete_leaves P f ts h.1)
@@ -71,7 +57,7 @@ concrete_within d (leaf (bound k e i)) h = absurd h
 concrete_within d (leaf (placeholder k u n)) h = absurd h
 concrete_within d (leaf (atom x)) h = tt
 concrete_within d (leaf unknown) h = absurd h
-concrete_within d (node a ts) h = concrete_within d ts h.1
+concrete_within d (node a ts) h = concrete_within d ts h
 concrete_within d (bind ks t) h = concrete_within (suc d) t h
 concrete_within d nil h = tt
 concrete_within d (cons t ts) h = (concrete_within d t h.0, concrete_within d ts h.1)
@@ -102,8 +88,8 @@ concrete_asked m v a b h k = record {
   right_known = concrete_known b k;
   left_in = concrete_in (plain_store m []) a h;
   right_in = concrete_in (plain_store m []) b k;
-  left_taken = (concrete_leaves IsUnbound (λ x h. tt) a h, concrete_covered a h);
-  right_taken = (concrete_leaves IsUnbound (λ x h. tt) b k, concrete_covered b k);
+  left_taken = (concrete_leaves IsUnbound (λ x h. tt) a h, concrete_lists a h);
+  right_taken = (concrete_leaves IsUnbound (λ x h. tt) b k, concrete_lists b k);
 }
 
 -- What an equal tree was, this one is.

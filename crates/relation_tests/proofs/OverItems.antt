@@ -1,5 +1,5 @@
 -- Types over one item of the reference interner.
-use Rattle.std.proofs.Common.{◌≡◌, ℕ, IsTrue, Result, Ok, Err, IfOk, sym, ap, ◌∙◌}
+use Rattle.std.proofs.Common.{◌≡◌, IsTrue, Result, Ok, Err, IfOk, sym, ap, ◌∙◌}
 use Rattle.relation_terms.specs.declared.terms.keys.TyKey.{TyKey}
 use Rattle.relation_terms.specs.declared.terms.interner.OutOfMemory.{OutOfMemory}
 use Rattle.relation_terms.specs.Heads.{adt}

@@ -29,7 +29,7 @@ abbrev pub IsHighRow : List ℕ → Type 0
 IsHighRow name =
     (name ≡ codes "r42") ⊎ ((name ≡ codes "r43") ⊎ ((name ≡ codes "r44") ⊎ ((name ≡ codes "r45") ⊎ (
     (name ≡ codes "r46") ⊎ ((name ≡ codes "r49") ⊎ ((name ≡ codes "r50") ⊎ ((name ≡ codes "r51") ⊎ (
-    name ≡ codes "r53"))))))))
+    (name ≡ codes "r52") ⊎ (name ≡ codes "r53")))))))))
 
 -- A row from r54 on has that name.
 abbrev pub IsTopRow : List ℕ → Type 0

@@ -7,6 +7,7 @@ mod deepening;
 mod delaying;
 mod growing;
 mod making;
+mod relating;
 mod writing;
 
 use crate::doubling::count_terms_and_nodes;
@@ -17,6 +18,7 @@ use growing::write_yielded;
 use reference_interner::{
     DefKind, GenericParam, GenericParamKind, ItemId, ItemKind, RefInterner, SymbolId,
 };
+use relating::{write_polarities, write_traits};
 use relation_terms::predicate::AliasTermKind;
 use relation_terms::terms::{
     BoundConstness, FreeConstAliasId, ImplPolarity, OutOfMemory, PredicatePolarity, TraitId,
@@ -28,7 +30,7 @@ use std::fmt::{self, Write};
 use text_terms::printing::{ItemText, Texts};
 use writing::{write_constraints, write_object, write_projection, write_rebased};
 
-// The names of parameters, and two traits.
+// The names of parameters, and four traits.
 const OF: SymbolId = SymbolId(0);
 
 const OWN: SymbolId = SymbolId(1);
@@ -40,6 +42,10 @@ const SHORTER: SymbolId = SymbolId(3);
 const STREAMING_ITERATOR: ItemId = ItemId(0);
 
 const PARTIAL_EQ: ItemId = ItemId(1);
+
+const TR: ItemId = ItemId(2);
+
+const US: ItemId = ItemId(3);
 
 // What refuses memory to a call refuses it to its row.
 impl From<OutOfMemory> for RowFault {
@@ -63,6 +69,8 @@ fn make_texts(alloc: Global) -> Result<Texts<'static, ItemId, SymbolId>, OutOfMe
     let mut items = HashMap::new(alloc);
     let _ = items.insert(STREAMING_ITERATOR, ItemText::new("StreamingIterator"))?;
     let _ = items.insert(PARTIAL_EQ, ItemText::new("PartialEq"))?;
+    let _ = items.insert(TR, ItemText::new("Tr"))?;
+    let _ = items.insert(US, ItemText::new("Us"))?;
     Ok(Texts { names, items })
 }
 
@@ -118,6 +126,19 @@ fn write_regions<W: Write>(alloc: Global, out: &mut W) -> Result<(), RowFault> {
     write_constraints(&mut cx, &texts, (LONGER, SHORTER), out)
 }
 
+// Writes why predicates of a trait that differ in their polarity aren't related, and why references of two traits are not.
+fn write_refused<W: Write>(alloc: Global, out: &mut W) -> Result<(), RowFault> {
+    let texts = make_texts(alloc)?;
+    write_polarities(RefInterner::new(alloc), &texts, TraitId(TR), out)?;
+    out.write_str(" | ")?;
+    write_traits(
+        RefInterner::new(alloc),
+        &texts,
+        (TraitId(TR), TraitId(US)),
+        out,
+    )
+}
+
 // Writes how many terms are walked of a type that is doubled 60 times, and how many nodes are added for it again.
 fn write_counts<W: Write>(alloc: Global, out: &mut W) -> Result<(), RowFault> {
     let (terms, nodes) = count_terms_and_nodes(alloc, 60)?;
@@ -137,6 +158,7 @@ pub fn call(alloc: Global, name: &str) -> Result<String, RowFault> {
         "r49" => write_aliases(alloc, &mut text)?,
         "r50" => write_objects(alloc, &mut text)?,
         "r51" => write_regions(alloc, &mut text)?,
+        "r52" => write_refused(alloc, &mut text)?,
         "r64" => write_deep(alloc, &mut text)?,
         "r65" => write_yielded(alloc, &mut text)?,
         _ => write_counts(alloc, &mut text)?,

@@ -72,6 +72,7 @@ fn is_high_row(name: &str) -> bool
         || name == "r49"
         || name == "r50"
         || name == "r51"
+        || name == "r52"
         || name == "r53"
 }
 

@@ -200,7 +200,7 @@ pub const EARLY_ROWS: [Row; 33] = [
 ];
 
 /// The rows from r35 on.
-pub const LATE_ROWS: [Row; 32] = [
+pub const LATE_ROWS: [Row; 33] = [
     Row {
         name: "r35",
         questions: "struct K<-T>; param 'a, 'b;
@@ -285,6 +285,11 @@ pub const LATE_ROWS: [Row; 32] = [
         name: "r51",
         questions: "",
         stored: "'a: 'b | 'b: 'a | end | true | false",
+    },
+    Row {
+        name: "r52",
+        questions: "",
+        stored: "err PolarityMismatch(positive, negative) | err Traits(Tr, Us)",
     },
     Row {
         name: "r53",

@@ -62,6 +62,7 @@ r46: ok; regions=['?0 == 'static, '!1.0 == 'static]
 r49: [u8, bool, P] | T: StreamingIterator | ['a]
 r50: PartialEq<u32> | bool: PartialEq<u32>
 r51: 'a: 'b | 'b: 'a | end | true | false
+r52: err PolarityMismatch(positive, negative) | err Traits(Tr, Us)
 r53: dyn Tr<bool, A = u8> + 'a | bool | u8 | 'a | end
 r54: 'a, T, 'b | 'b | none | escaping[T]
 r55: 'a: 'b | (&'a T, u8): 'b | T: 'b

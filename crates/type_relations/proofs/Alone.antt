@@ -1,16 +1,15 @@
 -- What is registered alone of two types that are left to one goal.
-use Rattle.std.proofs.Common.{◌≡◌, ◌≢◌, ◌⊎◌, inl, inr, ℕ, refl, sym, ap, ◌∙◌, subst, subst₂, List, [], ◌∷◌, ◌++◌, Option, Some, None}
+use Rattle.std.proofs.Common.{◌≡◌, ◌≢◌, ◌⊎◌, inl, refl, sym, ◌∙◌, subst, subst₂, [], Some, None}
 use Rattle.std.proofs.Common.{Result, Ok, Err, IsTrue, false}
 use Rattle.std.proofs.lemmas.Bool.{false≢true}
 use Rattle.term_enums.specs.declared.Variance.{Variance}
-use Rattle.term_enums.specs.declared.Variance.TheVariants.{Covariant, Contravariant, Invariant, Bivariant}
 use Rattle.relation_terms.specs.declared.terms.generic_arg.GenericArgKind.{GenericArgKind}
 use Rattle.relation_terms.specs.declared.terms.generic_arg.GenericArgKind.TheVariants.{Lifetime, Ty, Const}
 use Rattle.relation_terms.specs.declared.terms.keys.TyKey.{TyKey}
 use Rattle.relation_terms.specs.declared.terms.keys.ConstKey.{ConstKey}
 use Rattle.relation_terms.specs.declared.terms.keys.RegionKey.{RegionKey}
-use Rattle.relation_terms.specs.Heads.{Head, Sort, Admits, type_var, variable, region_sort, type_sort, const_sort, pattern_sort, head_sort}
-use Rattle.relation_terms.specs.Trees.{Tree, leaf, node, IsTerm, known}
+use Rattle.relation_terms.specs.Heads.{Head, Admits, region_sort, type_sort, const_sort, pattern_sort, head_sort}
+use Rattle.relation_terms.specs.Trees.{Tree, node, IsTerm, known}
 use Rattle.relation_terms.specs.Meaning.{Meaning, Extends, arg_tree}
 use Rattle.relation_terms.specs.Interning.{Sorted}
 use Rattle.relation_folds.specs.declared.error.RelateFault.{RelateFault}
@@ -26,9 +25,10 @@ use Rattle.relation_contexts.specs.Resolving.{formed}
 use Rattle.relation_contexts.specs.Settings.{LeavesAliases}
 use Rattle.relation_contexts.proofs.AliasSteps.{reads_once}
 use Rattle.relation_contexts.proofs.OneParts.{sort_is}
-use Rattle.type_relations.specs.Alone.{AsksAlone, of_variables, of_alias, ReadsAtOnce, RegistersAlone, StepRegistersAlone}
-use Rattle.type_relations.specs.Alone.{RelatesAlone, StepsAlone, subtype_at}
-use Rattle.type_relations.specs.Combining.{IsTyVar, IsNoTyVar, RegistersOne, RegistersNone, TysCombine}
+use Rattle.type_relations.specs.Alone.{AsksAlone, of_variables, of_alias, RegistersAlone, StepRegistersAlone}
+use Rattle.type_relations.specs.Alone.{RelatesAlone, StepsAlone}
+use Rattle.type_relations.specs.Emitting.{subtype_at}
+use Rattle.type_relations.specs.Combining.{RegistersOne, RegistersNone, TysCombine}
 use Rattle.type_relations.specs.Combining.{left_error, right_error, left_to_goal, left_open, not_registered, not_left}
 use Rattle.type_relations.specs.Stepping.{CombinesTyVars, made_one, left_subtype, right_subtype, goal_refused}
 use Rattle.type_relations.specs.Stepping.{CombinesShallowTys, two_variables, left_bound, left_asked, left_unasked, left_refused}

@@ -13,14 +13,14 @@ use Rattle.relation_folds.specs.declared.error.RelateFault.{RelateFault}
 use Rattle.relation_folds.specs.declared.error.RelateFault.TheVariants.{Memory, Budget, Unrelated}
 use Rattle.type_relations.specs.declared.relate.args.ArgVariances.{ArgVariances}
 use Rattle.type_relations.specs.declared.relate.args.ArgVariances.TheVariants.{Invariant, Adt, FnDef, AliasTerm, Trait}
-use Rattle.relation_contexts.specs.Relation.{Items, at, forms, part_at, plain, plain_kind, IsRelatedHead, IsAlias}
+use Rattle.relation_contexts.specs.Relation.{Items, forms, part_at, plain, plain_kind, IsRelatedHead, IsAlias}
 use Rattle.relation_contexts.specs.Stores.{Store}
 use Rattle.relation_contexts.specs.Settings.{Settings}
 use Rattle.relation_contexts.specs.FirstOrder.{IsFirstOrderHead, Unifies}
 use Rattle.relation_contexts.specs.Errors.{ErrorOf, by_forms, IsHandedOn, of_parts}
 use Rattle.relation_contexts.specs.Errors.{of_alias_term_parts, AreOfOneForm}
 use Rattle.relation_contexts.specs.Errors.{over_parts, over_aliases, one_leaf, parameters}
-use Rattle.relation_contexts.proofs.Covered.{normal_not_left}
+use Rattle.relation_contexts.proofs.Leaving.{normal_not_left}
 use Rattle.type_relations.specs.Arguments.{args_head, AreOverItem, adts, functions}
 use Rattle.relation_folds.specs.Faults.{KnowsError}
 use Rattle.relation_contexts.specs.OneUniverse.{BindsNoMore}

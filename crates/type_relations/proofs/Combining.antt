@@ -14,7 +14,7 @@ use Rattle.relation_contexts.specs.declared.relate.Step.TheVariants.{Done, Parts
 use Rattle.type_relations.specs.Combining.{MeetsTys, equated, left_bound, right_bound, left_unlike, right_unlike, ty_variable, by_parts, IsNoTyVar, seen}
 use Rattle.type_relations.specs.Combining.{ReadsShallow, MeetsConsts, roots_equated, left_root_bound, left_root_refused, right_root_bound, right_root_refused, formed_by_parts}
 use Rattle.relation_contexts.specs.Contexts.{Context}
-use Rattle.relation_contexts.specs.ContextCalls.{HasCoveredBindings, Reads}
+use Rattle.relation_contexts.specs.ContextCalls.{BindingsBindByLists, Reads}
 use Rattle.type_relations.specs.Emitting.{IsOver, WithContext}
 use Rattle.type_relations.specs.Keyed.{AskedTys, AskedConsts, SteppedTys, SteppedConsts}
 use Rattle.type_relations.specs.NumberVars.{number_kind}
@@ -35,9 +35,9 @@ use Rattle.relation_contexts.proofs.Numbers.{IsNumber, number_no_region, number_
 use Rattle.relation_contexts.proofs.OneUniverse.{keeps_itself}
 use Rattle.relation_contexts.proofs.Full.{full_itself}
 use Rattle.relation_contexts.proofs.Building.{built_itself}
-use Rattle.type_relations.proofs.OverContext.{carried, over_it, standing, all_taken, read_covered, one_step, roots_step, number_step, number_step_back, left_apart, right_apart, parts_step}
+use Rattle.type_relations.proofs.OverContext.{carried, over_it, standing, all_taken, read_by_lists, one_step, roots_step, number_step, number_step_back, left_apart, right_apart, parts_step}
 use Rattle.relation_contexts.proofs.Roots.{roots_goes, exact_itself}
-use Rattle.type_relations.proofs.Shallowly.{read_step, shallow_free_const, variable_made}
+use Rattle.type_relations.proofs.Shallowly.{shallow_free_const, variable_made}
 use Rattle.type_relations.proofs.SolvingVariables.{const_left_step, const_right_step, left_refused, right_refused, const_comes_to_none}
 use Rattle.relation_contexts.proofs.Standing.{term_context, term_within}
 use Rattle.relation_contexts.proofs.Agreeing.{agree_same}
@@ -86,13 +86,13 @@ module _ {Key Id Name : Type 0} where
         (left_apart r IsFormed m n was now L K decides a b n.ty (Unrelated (Sorts (record { expected = a; found = b })))
         same stays l refl u.kind (of_numbers u.kind u.of_numbers) u.number
         (variable_made was u.kind u.number (m.ty a) u.is asked.left_in) asked.left_known asked.right_known left u.is t
-        asked.right_taken.1 p (term_context was (m.ty b) asked.right_in) u.unlike clean.1)
+        p (term_context was (m.ty b) asked.right_in) u.unlike clean.1)
     combined_tys same a b result asked s t o p clean left (right_unlike u stays is) =
         subst (Stepped solver_manner IsFormed (standing r m was L) (standing r n now K) (m.ty a) (m.ty b) n.ty) (sym is)
         (right_apart r IsFormed m n was now L K decides a b n.ty (Unrelated (Sorts (record { expected = a; found = b })))
         same stays l refl u.kind (of_numbers u.kind u.of_numbers) u.number
         (variable_made was u.kind u.number (m.ty b) u.is asked.right_in) asked.left_known asked.right_known left u.is s
-        asked.left_taken.1 o (term_context was (m.ty a) asked.left_in) u.unlike clean.0)
+        o (term_context was (m.ty a) asked.left_in) u.unlike clean.0)
     combined_tys same a b result asked s t o p clean left (ty_variable (inl u) stays is) = absurd (o u.0 u.1)
     combined_tys same a b result asked s t o p clean left (ty_variable (inr u) stays is) = absurd (p u.0 u.1)
     combined_tys same a b result asked s t o p clean left (by_parts x y stays is) =
@@ -100,10 +100,10 @@ module _ {Key Id Name : Type 0} where
         (subst₂ (λ z st. Stepped solver_manner IsFormed (standing r m was L) (standing r z st K) (m.ty a) (m.ty b) z.ty
         (Ok (Parts a b))) (sym same) (sym stays)
         (parts_step r m was L K l IsFormed (m.ty a) (m.ty b) m.ty a b sound (itself refl) (itself refl) asked
-        (type_formed (m.ty a) s asked.left_taken.1 (term_within was (m.ty a) asked.left_in) x.0 x.1.0 x.1.1)
-        (type_formed (m.ty b) t asked.right_taken.1 (term_within was (m.ty b) asked.right_in) y.0 y.1.0 y.1.1) left))
+        (type_formed (m.ty a) s (term_within was (m.ty a) asked.left_in) x.0 x.1.0 x.1.1)
+        (type_formed (m.ty b) t (term_within was (m.ty b) asked.right_in) y.0 y.1.0 y.1.1) left))
 
-    module _ (grown : Extends m n) (numbers : NumbersNameNothing was) (all : HasCoveredBindings now) (a b : ConstKey Key)
+    module _ (grown : Extends m n) (numbers : NumbersNameNothing was) (all : BindingsBindByLists now) (a b : ConstKey Key)
         (asked : Asked solver_manner (standing r m was L) r.ambient (m.const_ a) (m.const_ b))
         (s : IsTerm const_sort (m.const_ a)) (t : IsTerm const_sort (m.const_ b))
         (a_shallow : IsShallowConst was (m.const_ a)) (b_shallow : IsShallowConst was (m.const_ b))
@@ -167,18 +167,18 @@ module _ {Key Id Name : Type 0} where
           asked f h (left f h)))
 
   -- What two constants are read as is asked as they are.
-  pub read_asked : (r : State Key Id Name) → HasCoveredBindings r.store → (a b x y : ConstKey Key) →
+  pub read_asked : (r : State Key Id Name) → BindingsBindByLists r.store → (a b x y : ConstKey Key) →
       AskedConsts solver_manner r a b → ReadsShallow r.meaning r.store a x → ReadsShallow r.meaning r.store b y →
       AskedConsts solver_manner r x y
-  read_asked r covered a b x y asked f h = record {
+  read_asked r by_lists a b x y asked f h = record {
     left_known = (f.reads).sure;
     right_known = (h.reads).sure;
     left_in = ((f.reads).resolves).is_in asked.left_in;
     right_in = ((h.reads).resolves).is_in asked.right_in;
     left_taken = all_taken r.ambient ((r.meaning).const_ x)
-        (read_covered r.store covered ((r.meaning).const_ a) ((r.meaning).const_ x) (f.reads).reads asked.left_taken.1);
+        (read_by_lists r.store by_lists ((r.meaning).const_ a) ((r.meaning).const_ x) (f.reads).reads asked.left_taken.1);
     right_taken = all_taken r.ambient ((r.meaning).const_ y)
-        (read_covered r.store covered ((r.meaning).const_ b) ((r.meaning).const_ y) (h.reads).reads asked.right_taken.1);
+        (read_by_lists r.store by_lists ((r.meaning).const_ b) ((r.meaning).const_ y) (h.reads).reads asked.right_taken.1);
   }
 
   -- What a constant is read as in the context, it is in the relation.
@@ -212,7 +212,7 @@ is_number_kind v = is_number_kind_of (number_kind v) (is_number v)
 module _ {Key Id Name : Type 0} (r : State Key Id Name) (c d : Context Key Id Name) (o : IsOver r c)
     (decides : r.ambient ≢ Bivariant) (sound : IsSound c.store) where
   -- What is recorded after the step is later.
-  module _ (grown : Extends c.meaning d.meaning) (numbers : NumbersNameNothing c.store) (all : HasCoveredBindings d.store)
+  module _ (grown : Extends c.meaning d.meaning) (numbers : NumbersNameNothing c.store) (all : BindingsBindByLists d.store)
       (a b : ConstKey Key) (result : Result (Step (ConstKey Key)) (RelateFault Key Id Name))
       (asked : AskedConsts solver_manner r a b)
       (f : (k : ConstKey Key) → IsTrue (known ((c.meaning).const_ k)) → IsTerm const_sort ((c.meaning).const_ k))

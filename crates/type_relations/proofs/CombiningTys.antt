@@ -18,7 +18,7 @@ use Rattle.relation_contexts.specs.Parts.{IsFormed}
 use Rattle.relation_contexts.specs.Relation.{IsError, sort_of}
 use Rattle.relation_contexts.specs.Stores.{IsSound}
 use Rattle.relation_contexts.proofs.Standing.{term_context, term_sort_of}
-use Rattle.type_relations.specs.Combining.{TaintsAlone, KeepsKept, TysCombine, left_error, right_error, left_to_goal, left_open, not_registered}
+use Rattle.type_relations.specs.Combining.{TaintsAlone, KeepsKept, TysCombine, left_to_goal, left_open, not_registered}
 use Rattle.type_relations.specs.Emitting.{IsOver, RegistersGoal, RegistersAlias}
 use Rattle.type_relations.specs.Keyed.{AskedTys, SteppedTys}
 use Rattle.type_relations.specs.Leaving.{LeavesAs, StandsAs}

@@ -3,7 +3,7 @@ use Rattle.std.proofs.Common.{◌≡◌, ◌≢◌, ◌⊎◌, ℕ, zero, suc, �
 use Rattle.std.specs.Result.{IsErr, IsErrAnd}
 use Rattle.std.proofs.lemmas.Bool.{false≢true}
 use Rattle.relation_terms.specs.Heads.{Head, Sort, Part, Shape, one, row, head_parts, Admits, type_sort, const_sort, value_sort, VarKind, var_sort, type_var, int_var, float_var, const_var, region_var}
-use Rattle.relation_terms.specs.Heads.{alias, array, tuple, unevaluated, expression, value, value_branch, Atom, type_param, const_param}
+use Rattle.relation_terms.specs.Heads.{alias, array, tuple, unevaluated, expression, value, value_branch, Atom, type_param, const_param, fresh_const}
 use Rattle.relation_terms.specs.Heads.{Leaf, atom, variable, bound, placeholder, unknown}
 use Rattle.relation_terms.specs.Trees.{Tree, leaf, node, bind, nil, cons, Assign, apply, IsTerm, Fits, IsList, count, known}
 use Rattle.relation_terms.specs.Meaning.{Meaning, kind_tree, const_tree, infer_tree}
@@ -22,6 +22,7 @@ use Rattle.relation_terms.specs.declared.terms.const_kind.InferConst.TheVariants
 use Rattle.relation_terms.specs.declared.terms.const_kind.ParamConst.{ParamConst}
 use Rattle.relation_terms.specs.declared.terms.const_kind.InferConst.{InferConst}
 use Rattle.relation_terms.specs.declared.terms.placeholder.BoundConst.{BoundConst}
+use Rattle.relation_terms.specs.declared.terms.placeholder.Placeholder.{Placeholder}
 use Rattle.relation_terms.specs.declared.terms.numbers.DebruijnIndex.{DebruijnIndex}
 use Rattle.relation_terms.specs.declared.terms.alias.ErrorGuaranteed.{ErrorGuaranteed}
 use Rattle.relation_terms.specs.declared.terms.const_kind.ExprKind.{ExprKind}
@@ -36,12 +37,11 @@ use Rattle.relation_folds.specs.declared.error.RelateFault.{RelateFault}
 use Rattle.relation_folds.specs.declared.error.RelateFault.TheVariants.{Unrelated}
 use Rattle.relation_folds.specs.Faults.{KnowsError, KnowsFault}
 use Rattle.relation_contexts.specs.Relation.{plain_atom, IsError, StaysWithin}
-use Rattle.relation_contexts.specs.Covered.{IsCovered}
 use Rattle.relation_contexts.specs.Stores.{Store}
 use Rattle.relation_contexts.specs.Errors.{AreAlike, AreAlikeLeaves, AreAlikeConsts, AreOfOneValue, one_value, as_many_branches, IsVariableFor, AreBindable, HaveNoError, outer_head}
 use Rattle.relation_contexts.specs.Errors.{alike_leaves, of_one_item, both_expressions, both_values, unlike_aliases}
 use Rattle.relation_contexts.specs.Errors.{FormError, mutability, pointer_mutability, tuple_size, empty_tuple, as_many, alias_arguments, sorts}
-use Rattle.relation_contexts.specs.Errors.{ConstFormError, const_mismatch, operations}
+use Rattle.relation_contexts.specs.Errors.{ConstFormError, const_mismatch, operations, AreOfOneConst, one_const_leaf}
 use Rattle.relation_contexts.specs.Outcomes.{NoEqualTerms}
 use Rattle.relation_contexts.specs.Parts.{IsFormed, IsFormedConst}
 use Rattle.relation_contexts.specs.Parts.{parts_of, const_parts_of, branches_of}
@@ -215,6 +215,11 @@ by_forms t u (of_one_item d e n) = subst₂ ConstsAlike (sym d) (sym e) (refl, n
 by_forms t u (both_expressions d e) = subst₂ ConstsAlike (sym d) (sym e) tt
 by_forms t u (both_values d e o) = subst₂ ConstsAlike (sym d) (sym e) o
 
+-- A leaf that is no parameter is of one form with itself alone.
+const_alone : (x : Leaf) (t : Tree) → IsPlainLeaf x → ConstsAlike (leaf x) t → leaf x ≡ t
+const_alone x (leaf y) p a = ap leaf (leaves_alone x y p a)
+const_alone x t p a = absurd a
+
 pub of_forms_alike : (t u : Tree) → ConstsAlike t u → AreAlikeConsts t u
 of_forms_alike (leaf x) (leaf y) a = alike_leaves refl refl a
 of_forms_alike (node (unevaluated d) ts) (node (unevaluated e) us) a =
@@ -352,22 +357,21 @@ module _ {Key Id Name : Type 0} (m : Meaning Key Id Name) where
   form_known x y e a b h (Err z) q = subst (KnowsFault m) (sym q.1) (known_error x y e a b h)
 
   -- Constants.
-  pub formed_const : (k : ConstKind Key Id Name) (x : ConstKey Key) → m.const_ x ≡ const_tree m k → IsCovered (m.const_ x) →
+  pub formed_const : (k : ConstKind Key Id Name) (x : ConstKey Key) → m.const_ x ≡ const_tree m k →
       StaysWithin 0 (m.const_ x) → ((n : ℕ) → m.const_ x ≡ leaf (variable const_var n) → ⊥) → IsFormedConst (m.const_ x)
-  formed_const k x e c w o = subst IsFormedConst (sym e)
-      (go k (subst IsCovered e c) (subst (StaysWithin 0) e w) (λ n q. o n (e ∙ q)))
+  formed_const k x e w o = subst IsFormedConst (sym e) (go k (subst (StaysWithin 0) e w) (λ n q. o n (e ∙ q)))
     where
-      go : (k : ConstKind Key Id Name) → IsCovered (const_tree m k) → StaysWithin 0 (const_tree m k) →
+      go : (k : ConstKind Key Id Name) → StaysWithin 0 (const_tree m k) →
           ((n : ℕ) → const_tree m k ≡ leaf (variable const_var n) → ⊥) → IsFormedConst (const_tree m k)
-      go (ConstParam p) c w o = refl
-      go (ConstInfer (Var v)) c w o = absurd (o v.0 refl)
-      go (ConstInfer (Fresh n)) c w o = absurd c
-      go (ConstBound d b) c w o = absurd (omega (arith, w))
-      go (ConstPlaceholder p) c w o = refl
-      go (Unevaluated u) c w o = tt
-      go (Value t v) c w o = tt
-      go (ConstError z) c w o = refl
-      go (Expr x a) c w o = tt
+      go (ConstParam p) w o = refl
+      go (ConstInfer (Var v)) w o = absurd (o v.0 refl)
+      go (ConstInfer (Fresh n)) w o = refl
+      go (ConstBound d b) w o = absurd (omega (arith, w))
+      go (ConstPlaceholder p) w o = refl
+      go (Unevaluated u) w o = tt
+      go (Value t v) w o = tt
+      go (ConstError z) w o = refl
+      go (Expr x a) w o = tt
 
   -- The error of two constants that are of unlike forms.
   unlike_consts_as : (x y : ConstKey Key) (t u : Tree) (e : TypeError Key Id Name) → m.const_ x ≡ t → m.const_ y ≡ u → HaveNoError t u → (ConstsAlike t u → ⊥) → e ≡ ConstMismatch (record { expected = x; found = y }) → ConstFormError m x y e
@@ -377,6 +381,7 @@ module _ {Key Id Name : Type 0} (m : Meaning Key Id Name) where
   IsUnlikeConst (ConstParam p) (ConstParam q) = p.index ≢ q.index
   IsUnlikeConst (ConstParam p) l = Unit {0}
   IsUnlikeConst (ConstPlaceholder p) l = const_tree m (ConstPlaceholder p) ≢ const_tree m l
+  IsUnlikeConst (ConstInfer i) l = const_tree m (ConstInfer i) ≢ const_tree m l
   IsUnlikeConst (Value t v) (Value u w) = AreOfOneValue (m.valtree v) (m.valtree w) → ⊥
   IsUnlikeConst (Value t v) l = Unit {0}
   IsUnlikeConst (Expr x a) (Expr y b) = ⊥
@@ -394,6 +399,8 @@ module _ {Key Id Name : Type 0} (m : Meaning Key Id Name) where
   unlike_const_trees (ConstPlaceholder p) (ConstInfer (Var v)) o a = cc
   unlike_const_trees (ConstPlaceholder p) (ConstInfer (Fresh n)) o a = cc
   unlike_const_trees (ConstPlaceholder p) l o a = first_of (cc, search a)
+  unlike_const_trees (ConstInfer (Var v)) l o a = o (const_alone (variable const_var v.0) (const_tree m l) tt a)
+  unlike_const_trees (ConstInfer (Fresh n)) l o a = o (const_alone (atom (fresh_const n)) (const_tree m l) tt a)
   unlike_const_trees (Value t v) (Value u w) o a = o a
   unlike_const_trees (Value t v) (ConstInfer (Var n)) o a = absurd a
   unlike_const_trees (Value t v) (ConstInfer (Fresh n)) o a = absurd a
@@ -411,25 +418,38 @@ module _ {Key Id Name : Type 0} (m : Meaning Key Id Name) where
   pub unlike_const : (k l : ConstKind Key Id Name) (x y : ConstKey Key) (e : TypeError Key Id Name) → m.const_ x ≡ const_tree m k → m.const_ y ≡ const_tree m l → HaveNoError (m.const_ x) (m.const_ y) → IsUnlikeConst k l → e ≡ ConstMismatch (record { expected = x; found = y }) → ConstFormError m x y e
   unlike_const k l x y e p q none o is = unlike_consts_as x y (const_tree m k) (const_tree m l) e p q (subst₂ HaveNoError p q none) (unlike_const_trees k l o) is
 
-  -- Variables, stand-ins, what a binder binds, and errors.
-  abbrev IsUnruled : ConstKind Key Id Name → Type 0
-  IsUnruled k = ((i : InferConst) × (k ≡ ConstInfer i)) ⊎
-      ((d : DebruijnIndex) × (b : BoundConst Name) × (k ≡ ConstBound d b)) ⊎ ((z : ErrorGuaranteed) × (k ≡ ConstError z))
+  -- Placeholders, variables and what stands for one: constants that are compared as leaves.
+  abbrev IsLeafConst : ConstKind Key Id Name → Type 0
+  IsLeafConst k = ((p : Placeholder (BoundConst Name)) × (k ≡ ConstPlaceholder p)) ⊎ ((i : InferConst) × (k ≡ ConstInfer i))
 
-  -- No constant that is asked about is of these.
-  pub ruled_const : (k : ConstKind Key Id Name) (t : Tree) → t ≡ const_tree m k → IsFormedConst t → IsCovered t →
-      (IsError t → ⊥) → IsUnruled k → ⊥
-  ruled_const k t is f c n u = go k (subst IsFormedConst is f) (subst IsCovered is c) (λ e. n (subst IsError (sym is) e)) u
+  pub leaf_const : (k l : ConstKind Key Id Name) → IsLeafConst k → const_tree m k ≢ const_tree m l → IsUnlikeConst k l
+  leaf_const (ConstPlaceholder p) l h n = n
+  leaf_const (ConstInfer i) l h n = n
+  leaf_const k l (inl (p, e)) n = absurd (cc)
+  leaf_const k l (inr (i, e)) n = absurd (cc)
+
+  pub one_leaf_const : (k : ConstKind Key Id Name) (a b : Tree) → IsLeafConst k → a ≡ const_tree m k → a ≡ b → AreOfOneConst a b
+  one_leaf_const (ConstPlaceholder p) a b h e q = one_const_leaf e (sym q ∙ e)
+  one_leaf_const (ConstInfer (Var v)) a b h e q = one_const_leaf e (sym q ∙ e)
+  one_leaf_const (ConstInfer (Fresh n)) a b h e q = one_const_leaf e (sym q ∙ e)
+  one_leaf_const k a b (inl (p, e)) d q = absurd (cc)
+  one_leaf_const k a b (inr (i, e)) d q = absurd (cc)
+
+  -- What a binder binds, and errors.
+  abbrev IsUnruled : ConstKind Key Id Name → Type 0
+  IsUnruled k = ((d : DebruijnIndex) × (b : BoundConst Name) × (k ≡ ConstBound d b)) ⊎
+      ((z : ErrorGuaranteed) × (k ≡ ConstError z))
+
+  -- No constant that is compared is of these.
+  pub ruled_const : (k : ConstKind Key Id Name) (t : Tree) → t ≡ const_tree m k → IsFormedConst t → (IsError t → ⊥) →
+      IsUnruled k → ⊥
+  ruled_const k t is f n u = go k (subst IsFormedConst is f) (λ e. n (subst IsError (sym is) e)) u
     where
-      go : (k : ConstKind Key Id Name) → IsFormedConst (const_tree m k) → IsCovered (const_tree m k) →
-          (IsError (const_tree m k) → ⊥) → IsUnruled k → ⊥
-      go (ConstInfer (Var v)) f c n u = absurd f
-      go (ConstInfer (Fresh x)) f c n u = absurd c
-      go (ConstBound d b) f c n u = absurd f
-      go (ConstError z) f c n u = n tt
-      go k f c n (inl (i, e)) = absurd (cc)
-      go k f c n (inr (inl (d, b, e))) = absurd (cc)
-      go k f c n (inr (inr (z, e))) = absurd (cc)
+      go : (k : ConstKind Key Id Name) → IsFormedConst (const_tree m k) → (IsError (const_tree m k) → ⊥) → IsUnruled k → ⊥
+      go (ConstBound d b) f n u = absurd f
+      go (ConstError z) f n u = n tt
+      go k f n (inl (d, b, e)) = absurd (cc)
+      go k f n (inr (z, e)) = absurd (cc)
 
   pub param_const : (p : ParamConst Name) (l : ConstKind Key Id Name) → ((q : ParamConst Name) → l ≡ ConstParam q → p.index ≡ q.index → ⊥) → IsUnlikeConst (ConstParam p) l
   param_const p (ConstParam q) o = o q refl

@@ -1,9 +1,9 @@
 -- One goal was registered by a relation, or was not, as a part of the work.
-use Rattle.std.proofs.Common.{◌≡◌, ℕ, refl, sym, ◌∙◌, subst, [], ◌∷◌, All, Ok, Err}
+use Rattle.std.proofs.Common.{ℕ, refl, sym, ◌∙◌, subst, [], ◌∷◌, All, Ok, Err}
 use Rattle.std.proofs.lemmas.List.{append-nil}
 use Rattle.std.proofs.lemmas.List.Elements.{All-nil, All-cons}
 use Rattle.relation_terms.specs.Trees.{Tree}
-use Rattle.relation_contexts.specs.Goals.{Goal, goal_of, IsRegistered}
+use Rattle.relation_contexts.specs.Goals.{goal_of, IsRegistered}
 use Rattle.relation_contexts.specs.Lawful.{State, Passes, RegisteredIn, items_in}
 use Rattle.relation_contexts.specs.Measures.{Goes}
 use Rattle.relation_contexts.proofs.Going.{goes_nowhere}

@@ -24,7 +24,7 @@ use Rattle.type_relations.specs.Handing.{named_place, IsFaultOfPart}
 use Rattle.relation_contexts.specs.Making.{over}
 use Rattle.relation_contexts.specs.Lawful.{State, Manners, MayAnswer, Passes, Refuses, RefusesAs, Related, RelatedAs}
 use Rattle.relation_contexts.specs.Lawful.{items_in}
-use Rattle.relation_contexts.proofs.Covered.{said_as, parts_not_left, form_not_left}
+use Rattle.relation_contexts.proofs.Leaving.{said_as, parts_not_left, form_not_left}
 use Rattle.relation_contexts.specs.Lawful.{ExactResult, ExactlyRelated}
 use Rattle.relation_contexts.proofs.Registered.{registered_in}
 use Rattle.relation_contexts.proofs.Passing.{passes_within, passes_then, manner_then, stopped}

@@ -21,7 +21,6 @@ use Rattle.relation_folds.specs.declared.error.TypeError.TheVariants.{PolarityMi
 use Rattle.relation_folds.specs.declared.error.RelateFault.{RelateFault}
 use Rattle.relation_folds.specs.declared.error.RelateFault.TheVariants.{Unrelated}
 use Rattle.relation_folds.specs.Faults.{KnowsError}
-use Rattle.relation_contexts.specs.Covered.{IsCoveredHead}
 use Rattle.relation_contexts.specs.Errors.{as_pair, by_forms, of_part_forms, of_trait_refs, ItemError, IsItemHead}
 use Rattle.relation_contexts.specs.Errors.{unlike_alias_terms, unlike_trait_refs, unlike_lists}
 use Rattle.relation_contexts.specs.Errors.{unlike_polarities, item_error}
@@ -30,7 +29,7 @@ use Rattle.relation_contexts.specs.Lawful.{State, Manners, TakesParts, MayAnswer
 use Rattle.relation_contexts.specs.Relation.{at, plain, plain_kind, part_at, Rel, forms, next_part, no_parts, IsAlias}
 use Rattle.relation_contexts.specs.Stores.{IsTermIn, InContext}
 use Rattle.relation_contexts.proofs.Answering.{covariantly}
-use Rattle.relation_contexts.proofs.Covered.{normal_not_left}
+use Rattle.relation_contexts.proofs.Leaving.{normal_not_left}
 use Rattle.relation_contexts.proofs.Parts.{in_parts}
 use Rattle.relation_contexts.proofs.Standing.{term_context}
 use Rattle.type_relations.specs.Comparing.{is_opaque_kind}
@@ -123,7 +122,7 @@ asked_over M r v h k ts us asked = record {
   left_in = asked.left_in;
   right_in = asked.right_in;
   left_taken = asked.left_taken;
-  right_taken = (asked.right_taken.0, (asked.left_taken.1.0, asked.right_taken.1.1));
+  right_taken = asked.right_taken;
 }
 
 -- The same with another answer, that may be given.

@@ -1,25 +1,25 @@
 -- Types as they stand to relating, and pairs that are left to goals.
-use Rattle.std.proofs.Common.{◌≡◌, ◌≢◌, ◌⊎◌, ℕ, refl, sym, ap, ◌∙◌, inl, inr, subst, IsTrue, true, false}
+use Rattle.std.proofs.Common.{◌≡◌, ◌≢◌, ◌⊎◌, ℕ, refl, sym, ap, ◌∙◌, inl, inr, subst, true, false}
 use Rattle.std.proofs.lemmas.Bool.{false≢true}
-use Rattle.relation_terms.specs.Heads.{Head, type_var, int_var, float_var, alias, opaque_alias, unevaluated, variable}
+use Rattle.relation_terms.specs.Heads.{type_var, int_var, float_var, alias, opaque_alias, variable}
 use Rattle.relation_terms.specs.Trees.{Tree, leaf, node}
-use Rattle.relation_terms.specs.Meaning.{Meaning, kind_tree, infer_tree, const_tree, infer_const_tree, alias_kind}
+use Rattle.relation_terms.specs.Meaning.{Meaning, kind_tree, const_tree, alias_kind}
 use Rattle.relation_terms.specs.declared.terms.alias.AliasTy.{AliasTy}
 use Rattle.relation_terms.specs.declared.terms.alias.AliasTyKind.{AliasTyKind}
 use Rattle.relation_terms.specs.declared.terms.alias.AliasTyKind.TheVariants.{Opaque as OpaqueKind}
 use Rattle.relation_terms.specs.declared.terms.alias.ErrorGuaranteed.{ErrorGuaranteed}
 use Rattle.relation_terms.specs.declared.terms.const_kind.ConstKind.{ConstKind}
 use Rattle.relation_terms.specs.declared.terms.const_kind.ConstKind.TheVariants.{Infer as ConstInfer, Unevaluated}
-use Rattle.relation_terms.specs.declared.terms.const_kind.InferConst.{InferConst}
 use Rattle.relation_terms.specs.declared.terms.const_kind.InferConst.TheVariants.{Var, Fresh}
 use Rattle.relation_terms.specs.declared.terms.ty_kind.InferTy.{InferTy}
 use Rattle.relation_terms.specs.declared.terms.ty_kind.InferTy.TheVariants.{TyVar, IntVar, FloatVar, FreshTy, FreshIntTy, FreshFloatTy}
 use Rattle.relation_terms.specs.declared.terms.ty_kind.TyKind.{TyKind}
 use Rattle.relation_terms.specs.declared.terms.ty_kind.TyKind.TheVariants.{Error as ErrorKind, Infer, Alias as AliasForm}
-use Rattle.relation_contexts.specs.Errors.{HaveNoError, IsOpaque, IsOpaqueBeside, IsLeftToGoal}
+use Rattle.relation_contexts.specs.Errors.{IsOpaque, IsOpaqueBeside, IsLeftToGoal}
 use Rattle.relation_contexts.specs.Parts.{IsFormedConst}
 use Rattle.relation_contexts.specs.Relation.{IsError, IsAlias}
 use Rattle.relation_contexts.specs.Settings.{Settings, LeavesAliases, LeavesOpaque}
+use Rattle.relation_contexts.proofs.Leaving.{opaque_is_alias, beside_is_opaque}
 use Rattle.type_relations.specs.Leaving.{IsVariable, StandsAs, LeavesAs}
 use Rattle.type_relations.specs.declared.relate.leaving.Standing.{Standing}
 use Rattle.type_relations.specs.declared.relate.leaving.Standing.TheVariants.{Error, Variable, Opaque, Alias, Other}
@@ -96,15 +96,7 @@ module _ {Key Id Name : Type 0} (m : Meaning Key Id Name) where
   const_no_opaque (ConstInfer (Fresh n)) o = o
   const_no_opaque k o = o
 
--- Opaque types are aliases.
-pub opaque_is_alias : (t : Tree) → IsOpaque t → IsAlias t
-opaque_is_alias (node (alias opaque_alias d) ts) o = tt
-opaque_is_alias t o = absurd o
-
-pub beside_is_opaque : (t u : Tree) → IsOpaqueBeside t u → IsOpaque t
-beside_is_opaque t (leaf (variable k n)) o = absurd o
-beside_is_opaque t u o = o
-
+-- An opaque type beside another type.
 pub opaque_beside : (t u : Tree) → IsOpaque t → (IsVariable u → ⊥) → IsOpaqueBeside t u
 opaque_beside t (leaf (variable k n)) o f = absurd (f (k, n, refl))
 opaque_beside t u o f = o

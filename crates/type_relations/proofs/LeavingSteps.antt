@@ -1,12 +1,13 @@
 -- A pair that is left to a goal, or in which an error stands, as a step of a relation.
-use Rattle.std.proofs.Common.{◌≡◌, ◌⊎◌, ℕ, Some, ◌+◌, refl, sym, ap, ◌∙◌, inl, inr, subst, arith, List, [], ◌∷◌, ◌++◌, All, IsTrue, false, length, get_or, Ok, Err}
+use Rattle.std.proofs.Common.{◌≡◌, ◌⊎◌, ℕ, Some, ◌+◌, refl, sym, ap, ◌∙◌, inl, inr, subst, arith, [], ◌∷◌, IsTrue, false, length, get_or, Ok, Err}
 use Rattle.std.proofs.lemmas.Bool.{false≢true}
 use Rattle.std.proofs.lemmas.List.{append-nil}
 use Rattle.std.proofs.lemmas.List.Elements.{All-nil, All-cons}
 use Rattle.term_enums.specs.declared.AliasRelationDirection.TheVariants.{Equate}
+use Rattle.term_enums.specs.declared.Variance.TheVariants.{Invariant}
 use Rattle.relation_terms.specs.declared.terms.keys.TyKey.{TyKey}
 use Rattle.relation_terms.specs.declared.terms.keys.ConstKey.{ConstKey}
-use Rattle.relation_terms.specs.Heads.{type_sort, const_sort, type_var, const_var, alias, opaque_alias, Atom, type_error, const_error, atom}
+use Rattle.relation_terms.specs.Heads.{type_sort, const_sort, type_var, const_var, alias, opaque_alias, type_error, const_error, atom}
 use Rattle.relation_terms.specs.Trees.{Tree, leaf, node, known, IsTerm}
 use Rattle.relation_terms.specs.Meaning.{Extends}
 use Rattle.relation_terms.proofs.Stays.{stays_same}
@@ -41,7 +42,7 @@ use Rattle.type_relations.specs.Combining.{TaintsAlone, KeepsKept}
 use Rattle.type_relations.specs.Emitting.{RegistersGoal}
 use Rattle.type_relations.specs.Keyed.{AskedTys, AskedConsts, SteppedTys, SteppedConsts}
 use Rattle.type_relations.specs.Solving.{solver_manner}
-use Rattle.type_relations.proofs.Leaving.{opaque_is_alias, beside_is_opaque}
+use Rattle.relation_contexts.proofs.Leaving.{opaque_is_alias, beside_is_opaque}
 use Rattle.type_relations.proofs.SolvingVariables.{alias_not_first}
 use Rattle.type_relations.proofs.GoalPasses.{goal_passes, no_goal_passes}
 use Rattle.type_relations.proofs.OpeningBoth.{changes_goes}
@@ -70,7 +71,7 @@ module _ {Key Id Name K : Type 0} (F : Tree → Type 0) {r q : State Key Id Name
     -- It relates the two, and the answer is one that it does.
     pub goal_step : Outcome (items_in r) r.kept.environment (at r.ambient) r.store r.store r.goals (goal_of r.kept.environment p ∷ []) a b →
         (t : K) → MayAnswer solver_manner q r.ambient a (tree t) → IsTrue (known (tree t)) →
-        Agree r.kept.settings (items_in r) (at r.ambient) a b → (IsFirstOrderPair r.store a b → ⊥) →
+        Agree r.kept.settings (items_in r) (at r.ambient) a b → (r.ambient ≡ Invariant → IsFirstOrderPair r.store a b → ⊥) →
         ((k : Kit) → IsBuiltOf k a → IsBuiltOf k b → IsPredicateOf k p) →
         Stepped solver_manner F r q a b tree (Ok (Done t))
     unfolding goal_passes
@@ -83,7 +84,7 @@ module _ {Key Id Name K : Type 0} (F : Tree → Type 0) {r q : State Key Id Name
         known = sure;
         agrees = λ z. agreeing;
       };
-      exact = λ z is pair. absurd (not_first pair);
+      exact = λ z is pair. absurd (not_first is pair);
       full = λ ha hb. full_same h.store;
       built = λ k ha hb all. subst (λ st. Builds k r.store st (goal_of r.kept.environment p ∷ [])) (sym h.store)
           (builds_asking k r.store (goal_of r.kept.environment p ∷ [])
@@ -211,7 +212,7 @@ module _ {Key Id Name A E : Type 0} {r q : State Key Id Name} {x : A} (p : Tree)
         (alias_registered (items_in r) r.kept.settings r.ambient r.store r.store ta tb p l.1 e o a_context b_context)
         (alias_goals_relate (items_in r) r.kept.environment r.ambient r.store r.goals ta tb p a_context b_context sa sb e)
         a answers_left left_sure (agree_left r.kept.settings (items_in r) r.ambient ta tb (inl (l, o)) one_sort)
-        (one_not_first ta tb o) (λ k ha hb. alias_built k r.ambient ta tb p e ha hb)
+        (λ z. one_not_first ta tb o) (λ k ha hb. alias_built k r.ambient ta tb p e ha hb)
       where
         a_context : InContext r.store ta
         a_context = term_context r.store ta asked.left_in
@@ -227,7 +228,7 @@ module _ {Key Id Name A E : Type 0} {r q : State Key Id Name} {x : A} (p : Tree)
         (goal_of r.kept.environment z ∷ []) ta tb) (sym e)
         (ambiguous_relates (items_in r) r.kept.environment r.ambient r.store r.goals ta tb)) a answers_left left_sure
         (agree_left r.kept.settings (items_in r) r.ambient ta tb (inr (l, o)) one_sort)
-        (one_not_first ta tb (one_alias (one_opaque ta tb o)))
+        (λ z. one_not_first ta tb (one_alias (one_opaque ta tb o)))
         (λ k ha hb. subst (IsPredicateOf k) (sym e) (kit k ha hb (one_opaque ta tb o)))
       where
         one_alias : IsOpaque ta ⊎ IsOpaque tb → IsAlias ta ⊎ IsAlias tb
@@ -250,7 +251,7 @@ module _ {Key Id Name A E : Type 0} {r q : State Key Id Name} {x : A} (p : Tree)
         related = relates_by r.ambient ta tb (goal_passes p h asks 0) (subst (λ st. Outcome (items_in r) r.kept.environment
             (at r.ambient) r.store st r.goals (goal_of r.kept.environment p ∷ []) ta tb) (sym h.store) relates);
       })) (subst (λ z. IsTrue (known z)) (sym b_stays) asked.right_known)
-      (agree_left r.kept.settings (items_in r) r.ambient ta tb (inl (l, o)) one_sort) (one_not_first ta tb o)
+      (agree_left r.kept.settings (items_in r) r.ambient ta tb (inl (l, o)) one_sort) (λ z. one_not_first ta tb o)
       (λ k ha hb. subst (IsPredicateOf k) (sym e) (ha, (hb, tt)))
     where
       ta : Tree

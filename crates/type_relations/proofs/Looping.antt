@@ -17,7 +17,8 @@ use Rattle.relation_contexts.specs.Lawful.{State, Manner, Manners, TakesParts, T
 use Rattle.relation_contexts.proofs.Going.{depth-mono, depth-strict, depth-spent, depth_later}
 use Rattle.relation_contexts.proofs.Standing.{later_term}
 use Rattle.relation_contexts.proofs.Parts.{in_part, in_const_part}
-use Rattle.relation_contexts.proofs.Covered.{covered_part, covered_const_part, by_parts_normal}
+use Rattle.relation_contexts.proofs.Bound.{part_by_lists, const_part_by_lists}
+use Rattle.relation_contexts.proofs.Leaving.{by_parts_normal}
 use Rattle.type_relations.proofs.PartSizes.{weight_parts, weight_const_parts}
 use Rattle.relation_contexts.proofs.Passing.{manner_then}
 use Rattle.relation_contexts.proofs.OneUniverse.{leaves_nth}
@@ -50,13 +51,13 @@ module _ (M : Manner) (is : (c : Items) (h : Head) (i : ℕ) (v : Variance) (l :
   takes_ty_part : (t : Tree) (i : ℕ) → i < count (parts_of t) → Takes M v t →
       Takes M (part_at c (head_of t) i v) (nth i (parts_of t))
   takes_ty_part t i l k =
-      (takes_part (head_of t) (parts_of t) i l (parts_taken (M.takes v) t k.0), covered_part t i l k.1)
+      (takes_part (head_of t) (parts_of t) i l (parts_taken (M.takes v) t k.0), part_by_lists t i l k.1)
 
   takes_const_part : (t : Tree) (i : ℕ) → i < count (const_parts_of t) → Takes M v t →
       Takes M (part_at c (const_head_of t) i v) (nth i (const_parts_of t))
   takes_const_part t i l k = (
     takes_part (const_head_of t) (const_parts_of t) i l (const_parts_taken (M.takes v) t k.0),
-    covered_const_part t i l k.1,
+    const_part_by_lists t i l k.1,
   )
 
 some_part : (i n : ℕ) → i < n → 0 < n

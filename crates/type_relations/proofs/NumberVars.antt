@@ -22,20 +22,19 @@ use Rattle.term_enums.specs.declared.FloatTy.{FloatTy}
 use Rattle.relation_contexts.specs.Relation.{StaysWithin}
 use Rattle.relation_contexts.specs.Steps.{IsNumberFor}
 use Rattle.relation_contexts.specs.Relation.{StaysWithin}
-use Rattle.relation_contexts.specs.Covered.{IsCovered}
 use Rattle.relation_contexts.specs.Parts.{IsFormed}
-use Rattle.relation_contexts.proofs.Numbers.{IsNumber, covered_formed}
+use Rattle.relation_contexts.proofs.Numbers.{IsNumber, type_is_formed}
 use Rattle.relation_contexts.specs.NumberValues.{int_value_tree, float_value_tree}
 use Rattle.type_relations.specs.declared.relate.number_vars.NumberVid.{NumberVid}
 use Rattle.type_relations.specs.declared.relate.number_vars.NumberVid.TheVariants as vid
 use Rattle.type_relations.specs.NumberVars.{number_kind, infer_of, number_tree, IsNoNumberVar}
 use Rattle.type_relations.specs.NumberVars.{IsIntValue, IsFloatValue}
 
--- A covered type that is no type, integer or float variable is of a form.
-pub type_formed : (t : Tree) → IsTerm type_sort t → IsCovered t → StaysWithin 0 t →
+-- A type that is no type, integer or float variable is of a form.
+pub type_formed : (t : Tree) → IsTerm type_sort t → StaysWithin 0 t →
     ((n : ℕ) → t ≢ leaf (variable type_var n)) → ((n : ℕ) → t ≢ leaf (variable int_var n)) →
     ((n : ℕ) → t ≢ leaf (variable float_var n)) → IsFormed t
-type_formed t s c w a i f = covered_formed t s c w apart
+type_formed t s w a i f = type_is_formed t s w apart
   where
     apart : (k : VarKind) (n : ℕ) → t ≢ leaf (variable k n)
     apart type_var n e = a n e
@@ -48,10 +47,10 @@ not_true : (b : Bool) → IsTrue (not b) → b ≡ false
 not_true false h = refl
 not_true true h = absurd (false≢true h)
 
--- So is a covered type in which no variable but of regions stands.
+-- So is a type in which no variable but of regions stands.
 pub free_formed : (t : Tree) (f : TypeFlags) → f ≡ flags_of t → IsTrue (not f.has_non_region_infer) →
-    IsTerm type_sort t → IsCovered t → StaysWithin 0 t → IsFormed t
-free_formed t f e without s c w = type_formed t s c w (λ n. apart (variable type_var n) refl) (λ n. apart (variable int_var n) refl)
+    IsTerm type_sort t → StaysWithin 0 t → IsFormed t
+free_formed t f e without s w = type_formed t s w (λ n. apart (variable type_var n) refl) (λ n. apart (variable int_var n) refl)
     (λ n. apart (variable float_var n) refl)
   where
     free : has_non_region_infer t ≡ false

@@ -10,10 +10,9 @@ use Rattle.relation_contexts.specs.Relation.{StaysWithin}
 use Rattle.relation_contexts.specs.Stores.{Store, unbound, entry_term, counts_term, bound_term, IsMade, IsMadeLeaf}
 use Rattle.relation_contexts.specs.Stores.{InContext, IsNamable, IsTermIn, IsSound, resolved, weight}
 use Rattle.relation_contexts.specs.Steps.{AreNewVariables, ArePlaceholders, LeavesBody}
-use Rattle.relation_contexts.specs.Steps.{EntersUniverse, EntersForall}
+use Rattle.relation_contexts.specs.Steps.{EntersUniverse}
 use Rattle.relation_contexts.specs.Bound.{AreBoundAs, BindByLists}
-use Rattle.relation_contexts.specs.Covered.{IsCovered}
-use Rattle.relation_contexts.specs.Binders.{MakesEach, makes_none, makes_next, InstantiatesEach}
+use Rattle.relation_contexts.specs.Binders.{MakesEach, makes_none, makes_next}
 use Rattle.relation_contexts.specs.OpeningLaws.{EnteredBodyIsIn, InstantiatedBodyIsIn, EnteredBodyBinds}
 use Rattle.relation_contexts.specs.OpeningLaws.{InstantiatedBodyBinds}
 use Rattle.relation_contexts.proofs.Trees.{apply-inst, apply_alike, StaysWithin-mono}
@@ -213,11 +212,10 @@ instantiated_body_is_in before after ks body opened f g h b =
     none : (k : VarKind) (n : ℕ) → (IsMade before k n → ⊥) → bound_term before k n ≡ None
     none k n o = ap (entry_term k) (get_or_past (before.entries k) n unbound (omega (arith, o)))
 
--- A tree without bound variables, and so one that has no binder either, of forms that have rules.
+-- A tree without bound variables, and so one that has no binder either.
 record HasNoBound (t : Tree) : Type 0 where
   bound_as : (ks : List BoundKind) (d : ℕ) → AreBoundAs ks d t
   by_lists : BindByLists t
-  covered : IsCovered t
 
 inst_bound : (ts : List Tree) → EachTree HasNoBound ts → (ks : List BoundKind) (d e : ℕ) (t : Tree) → AreBoundAs ks d t →
     AreBoundAs ks d (inst ts e t)
@@ -236,20 +234,12 @@ inst_lists ts h e (bind ls t) f = (inst_bound ts h ls 0 (suc e) t f.0, inst_list
 inst_lists ts h e nil f = tt
 inst_lists ts h e (cons t u) f = (inst_lists ts h e t f.0, inst_lists ts h e u f.1)
 
-inst_covered : (ts : List Tree) → EachTree HasNoBound ts → (e : ℕ) (t : Tree) → IsCovered t → IsCovered (inst ts e t)
-inst_covered ts h e (leaf l) f =
-    put_leaf IsCovered ts (each_map HasNoBound IsCovered (λ t s. s.covered) ts h) e l f
-inst_covered ts h e (node a t) f = (f.0, inst_covered ts h e t f.1)
-inst_covered ts h e (bind ls t) f = (inst_bound ts h ls 0 (suc e) t f.0, inst_covered ts h (suc e) t f.1)
-inst_covered ts h e nil f = tt
-inst_covered ts h e (cons t u) f = (inst_covered ts h e t f.0, inst_covered ts h e u f.1)
-
 placeholders_unbound : (u : ℕ) (ks : List BoundKind) (ps : List Tree) → ArePlaceholders u ks ps → EachTree HasNoBound ps
 placeholders_unbound u [] [] h = tt
 placeholders_unbound u [] (p ∷ ps) h = absurd h
 placeholders_unbound u (k ∷ ks) [] h = absurd h
 placeholders_unbound u (k ∷ ks) (p ∷ ps) h =
-    (subst HasNoBound (sym h.0.1) (record { bound_as = λ ls d. tt; by_lists = tt; covered = tt }), placeholders_unbound u ks ps h.2)
+    (subst HasNoBound (sym h.0.1) (record { bound_as = λ ls d. tt; by_lists = tt }), placeholders_unbound u ks ps h.2)
 
 unbound_more : (t : Tree) (ts : List Tree) → EachTree HasNoBound ts → HasNoBound t → EachTree HasNoBound (ts ++ t ∷ [])
 unbound_more t [] h s = (s, tt)
@@ -259,7 +249,7 @@ variables_unbound : {u : ℕ} {before after : Store} {ks : List BoundKind} {xs :
     MakesEach u before ks xs after → EachTree HasNoBound xs
 variables_unbound (makes_none p q) = subst (EachTree HasNoBound) (sym q) tt
 variables_unbound (makes_next {xs = xs} {n = n} k f q p e) = subst (EachTree HasNoBound) (sym e)
-    (unbound_more _ xs (variables_unbound f) (record { bound_as = λ ls d. tt; by_lists = tt; covered = tt }))
+    (unbound_more _ xs (variables_unbound f) (record { bound_as = λ ls d. tt; by_lists = tt }))
 
 pub entered_body_binds : EnteredBodyBinds
 entered_body_binds before after ks body opened f b = go f.opens
@@ -275,21 +265,3 @@ entered_body_binds before after ks body opened f b = go f.opens
 pub instantiated_body_binds : InstantiatedBodyBinds
 instantiated_body_binds before after ks body opened f b =
     subst BindByLists (sym f.body_is) (inst_lists f.variables (variables_unbound f.makes) 0 body b)
-
--- A body of forms that have rules stays of such forms.
-pub entered_body_covered : (before after : Store) (ks : List BoundKind) (body opened : Tree) →
-    EntersForall before after ks body opened → IsCovered body → IsCovered opened
-entered_body_covered before after ks body opened f b = go f.opens
-  where
-    go : LeavesBody before after body opened ⊎ ((StaysWithin 0 body → ⊥) × EntersUniverse before after ks body opened) →
-        IsCovered opened
-    go (inl p) = subst IsCovered (sym p.body_is) b
-    go (inr p) =
-        let e = p.1 in
-        subst IsCovered (sym e.body_is) (inst_covered e.placeholders
-        (placeholders_unbound after.universe ks e.placeholders e.are_placeholders) 0 body b)
-
-pub instantiated_body_covered : (before after : Store) (ks : List BoundKind) (body opened : Tree) →
-    InstantiatesEach before after ks body opened → IsCovered body → IsCovered opened
-instantiated_body_covered before after ks body opened f b =
-    subst IsCovered (sym f.body_is) (inst_covered f.variables (variables_unbound f.makes) 0 body b)

@@ -21,10 +21,9 @@ use Rattle.relation_contexts.proofs.Building.{body_built, built_opened}
 use Rattle.relation_contexts.specs.Measures.{Goes}
 use Rattle.relation_contexts.specs.Settings.{Settings}
 use Rattle.relation_contexts.specs.Errors.{IsStandIn, StandFor, ErrorOf, of_bodies}
-use Rattle.relation_contexts.specs.Bound.{AreBoundAs}
+use Rattle.relation_contexts.specs.Bound.{AreBoundAs, BindByLists}
 use Rattle.relation_contexts.specs.Agreeing.{Agree}
 use Rattle.relation_contexts.proofs.Agreeing.{agree_opened}
-use Rattle.relation_contexts.specs.Covered.{IsCovered}
 use Rattle.relation_contexts.specs.Generalising.{MakesUnbound}
 use Rattle.relation_contexts.specs.Binders.{variable_kind, MakesEach, makes_none, makes_next, InstantiatesEach}
 use Rattle.relation_contexts.proofs.Trees.{Leaves_map₂, inst_within, apply_alike}
@@ -35,8 +34,8 @@ use Rattle.relation_contexts.proofs.Resolved.{resolved_same}
 use Rattle.relation_contexts.proofs.StoreCalls.{nothing_is_seen}
 use Rattle.relation_contexts.proofs.NewVariables.{Adds, adds, adds_goes}
 use Rattle.relation_contexts.proofs.MakingEach.{variable_sort, each_unbound, instantiating_each_opens}
-use Rattle.type_relations.proofs.OpenedTerms.{entered_body_is_in, instantiated_body_is_in, entered_body_covered}
-use Rattle.type_relations.proofs.OpenedTerms.{instantiated_body_covered}
+use Rattle.type_relations.proofs.OpenedTerms.{entered_body_is_in, instantiated_body_is_in, entered_body_binds}
+use Rattle.type_relations.proofs.OpenedTerms.{instantiated_body_binds}
 use Rattle.relation_contexts.proofs.Opening.{changes_later, opening_steps}
 use Rattle.relation_contexts.proofs.Going.{goes_then}
 
@@ -171,8 +170,8 @@ pub record BothOpened (before after : Store) (ks ls : List BoundKind) (t u x y :
   pub same_budget : after.budget ≡ before.budget
   pub entered_in : IsTermIn after x
   pub instantiated_in : IsTermIn after y
-  pub entered_covered : IsCovered x
-  pub instantiated_covered : IsCovered y
+  pub entered_by_lists : BindByLists x
+  pub instantiated_by_lists : BindByLists y
   pub entered_for : StandIns ks t x
   pub instantiated_for : StandIns ls u y
   pub smaller : weight after x + weight after y < weight before (bind ks t) + weight before (bind ls u)
@@ -193,7 +192,7 @@ bodies_smaller st ks ls t u = let i = binder_weight st ks t in let j = binder_we
 module _ (before middle after : Store) (g : IsSound before) (ks ls : List BoundKind) (t u x y : Tree)
     (enters : EntersForall before middle ks t x) (makes : InstantiatesEach middle after ls u y)
     (in_t : IsTermIn before (bind ks t)) (in_u : IsTermIn before (bind ls u))
-    (covered_t : IsCovered (bind ks t)) (covered_u : IsCovered (bind ls u)) where
+    (t_by_lists : BindByLists (bind ks t)) (u_by_lists : BindByLists (bind ls u)) where
   sound : IsSound middle
   sound = changes_sound before middle enters.changes_nothing g
 
@@ -201,12 +200,12 @@ module _ (before middle after : Store) (g : IsSound before) (ks ls : List BoundK
   added = opened_adds before middle after enters.changes_nothing g (each_unbound makes.makes)
 
   entered_there : IsTermIn middle x × (weight middle x ≡ weight before t)
-  entered_there = entered_body_is_in before middle ks t x enters g in_t covered_t.0
+  entered_there = entered_body_is_in before middle ks t x enters g in_t t_by_lists.0
 
   instantiated_there : IsTermIn after y × (weight after y ≡ weight middle u)
   instantiated_there = instantiated_body_is_in middle after ls u y makes sound
       (later_term before middle (changes_made before middle enters.changes_nothing)
-      enters.changes_nothing.universe_stands (bind ls u) in_u) covered_u.0
+      enters.changes_nothing.universe_stands (bind ls u) in_u) u_by_lists.0
 
   opens : InstantiatesBinder middle after ls u y
   opens = instantiating_each_opens middle after ls u y makes sound
@@ -220,8 +219,8 @@ module _ (before middle after : Store) (g : IsSound before) (ks ls : List BoundK
     entered_in = let e = added.universe in
         later_term middle after (added.later).grows (omega (arith, e)) x entered_there.0;
     instantiated_in = instantiated_there.0;
-    entered_covered = entered_body_covered before middle ks t x enters covered_t.1;
-    instantiated_covered = instantiated_body_covered middle after ls u y makes covered_u.1;
+    entered_by_lists = entered_body_binds before middle ks t x enters t_by_lists.1;
+    instantiated_by_lists = instantiated_body_binds middle after ls u y makes u_by_lists.1;
     entered_for = entered_stand_ins before middle ks t x enters;
     instantiated_for = instantiated_stand_ins middle after ls u y makes;
     smaller =

@@ -32,11 +32,11 @@ use Rattle.relation_contexts.specs.Outcomes.{Exact, NoEqualTerms, NoUnifier}
 use Rattle.relation_contexts.specs.Measures.{Goes}
 use Rattle.relation_contexts.specs.Errors.{ErrorOf, IsLeftToGoal, of_entries, IsReadAs, itself, by_class, by_binding}
 use Rattle.relation_contexts.specs.FirstOrder.{IsFirstOrderStore}
-use Rattle.relation_contexts.specs.Covered.{IsCovered}
+use Rattle.relation_contexts.specs.Bound.{BindByLists}
 use Rattle.relation_contexts.specs.Lawful.{RegisteredIn, Passes, Asked, Takes, Related, Stepped, items_of, Kept, Pair, State}
 use Rattle.type_relations.specs.Emitting.{IsOver, WithContext}
 use Rattle.relation_contexts.specs.Contexts.{Context}
-use Rattle.relation_contexts.specs.ContextCalls.{Grows, Stands, HasCoveredBindings}
+use Rattle.relation_contexts.specs.ContextCalls.{Grows, Stands, BindingsBindByLists}
 use Rattle.type_relations.specs.Solving.{solver_manner}
 use Rattle.relation_contexts.proofs.Trees.{all_leaves}
 use Rattle.relation_contexts.proofs.Going.{later_itself, goes_nowhere}
@@ -63,7 +63,7 @@ standing r m st L = record {
   lawful = L;
 }
 
--- What is covered is taken at each variance, however the relation is set up.
+-- What binds by its lists is taken at each variance, however the relation is set up.
 abbrev pub any_settings : Settings
 any_settings = record {
   structurally_relate_aliases = No;
@@ -72,14 +72,14 @@ any_settings = record {
   declared_at_invariance = false;
 }
 
-pub all_taken : (v : Variance) (t : Tree) → IsCovered t → Takes (solver_manner any_settings) v t
+pub all_taken : (v : Variance) (t : Tree) → BindByLists t → Takes (solver_manner any_settings) v t
 all_taken v t c = (all_leaves _ (λ l. tt) t, c)
 
--- What is read of what is covered is covered, where all that is bound is.
-pub read_covered : (st : Store) → HasCoveredBindings st → (a u : Tree) → IsReadAs st a u → IsCovered a → IsCovered u
-read_covered st all a u (itself e) h = subst IsCovered e h
-read_covered st all a u (by_class k n m e c r) h = read_covered st all (leaf (variable k m)) u r tt
-read_covered st all a u (by_binding {u = x} k n e b r) h = read_covered st all x u r (all k n x b)
+-- What is read of what binds by its lists does so too, where all that is bound does.
+pub read_by_lists : (st : Store) → BindingsBindByLists st → (a u : Tree) → IsReadAs st a u → BindByLists a → BindByLists u
+read_by_lists st all a u (itself e) h = subst BindByLists e h
+read_by_lists st all a u (by_class k n m e c r) h = read_by_lists st all (leaf (variable k m)) u r tt
+read_by_lists st all a u (by_binding {u = x} k n e b r) h = read_by_lists st all x u r (all k n x b)
 
 module _ {Key Id Name : Type 0} (r : State Key Id Name) where
   -- Work that recorded something, and registered no goal.
@@ -220,31 +220,31 @@ module _ {Key Id Name : Type 0} (r : State Key Id Name) where
       (is : f ≡ Unrelated (Sorts (record { expected = p; found = q }))) (k : VarKind) (number : IsNumber k) (i : ℕ)
       (made : IsMade was k i) (p_known : IsTrue (known (m.ty p))) (q_known : IsTrue (known (m.ty q)))
       (left : IsLeftToGoal r.kept.settings (m.ty p) (m.ty q) → ⊥) where
-    pub left_apart : m.ty p ≡ leaf (variable k i) → IsTerm type_sort (m.ty q) → IsCovered (m.ty q) →
+    pub left_apart : m.ty p ≡ leaf (variable k i) → IsTerm type_sort (m.ty q) →
         ((l : ℕ) → m.ty q ≢ leaf (variable type_var l)) → InContext was (m.ty q) →
         (MayStandFor k (m.ty q) → ⊥) → (IsError (m.ty q) → ⊥) →
         Stepped solver_manner F (standing r m was L) (standing r n now K) (m.ty p) (m.ty q) tree (Err f)
-    left_apart h s c o g d clean = unrelated_step F m n was now L K (m.ty p) (m.ty q) tree f
+    left_apart h s o g d clean = unrelated_step F m n was now L K (m.ty p) (m.ty q) tree f
         (Sorts (record { expected = p; found = q })) same stays l is
         (subst (λ z. NoEqualTerms was z (m.ty q)) (sym h)
-        (number_apart was k number i made (m.ty q) s c o g d))
+        (number_apart was k number i made (m.ty q) s o g d))
         (subst (λ z. NoUnifier was z (m.ty q)) (sym h)
-        (number_no_unifier was k number i made (m.ty q) s c o g d))
-        (number_error was k number i made (m.ty q) s c o g d m r.kept.settings (items_of m) p q r.ambient decides left clean h
+        (number_no_unifier was k number i made (m.ty q) s o g d))
+        (number_error was k number i made (m.ty q) s o g d m r.kept.settings (items_of m) p q r.ambient decides left clean h
         refl)
         (p_known, q_known)
 
-    pub right_apart : m.ty q ≡ leaf (variable k i) → IsTerm type_sort (m.ty p) → IsCovered (m.ty p) →
+    pub right_apart : m.ty q ≡ leaf (variable k i) → IsTerm type_sort (m.ty p) →
         ((l : ℕ) → m.ty p ≢ leaf (variable type_var l)) → InContext was (m.ty p) →
         (MayStandFor k (m.ty p) → ⊥) → (IsError (m.ty p) → ⊥) →
         Stepped solver_manner F (standing r m was L) (standing r n now K) (m.ty p) (m.ty q) tree (Err f)
-    right_apart h s c o g d clean = unrelated_step F m n was now L K (m.ty p) (m.ty q) tree f
+    right_apart h s o g d clean = unrelated_step F m n was now L K (m.ty p) (m.ty q) tree f
         (Sorts (record { expected = p; found = q })) same stays l is
-        (λ w s' sat one. number_apart was k number i made (m.ty p) s c o g d w s' sat
+        (λ w s' sat one. number_apart was k number i made (m.ty p) s o g d w s' sat
         (sym (ap (apply s') h) ∙ sym one))
-        (λ s' sol one. number_no_unifier was k number i made (m.ty p) s c o g d s' sol
+        (λ s' sol one. number_no_unifier was k number i made (m.ty p) s o g d s' sol
         (ap (λ z. erase (apply s' z)) (sym h) ∙ sym one))
-        (number_error_back was k number i made (m.ty p) s c o g d m r.kept.settings (items_of m) p q r.ambient decides left
+        (number_error_back was k number i made (m.ty p) s o g d m r.kept.settings (items_of m) p q r.ambient decides left
         clean refl h)
         (p_known, q_known)
 

@@ -1,7 +1,7 @@
 -- Relating in a context, step by step.
 use Rattle.std.proofs.Common.{◌≡◌, ◌≢◌, ℕ, ◌≤◌, refl, sym, ap, ap₂, ◌∙◌, arith, subst, subst₂, [], All}
 use Rattle.std.proofs.Common.{IsTrue, Some, IfSome, ◌++◌, max, min, length}
-use Rattle.std.proofs.Common.{Result, Ok, Err, List, ◌∷◌, false}
+use Rattle.std.proofs.Common.{Result, Ok, Err, List, ◌∷◌}
 use Rattle.std.proofs.lemmas.List.Elements.{All-nil}
 use Rattle.std.proofs.lemmas.List.{append-nil}
 use Rattle.term_enums.specs.declared.Variance.{Variance}

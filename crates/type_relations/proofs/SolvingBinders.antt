@@ -22,8 +22,7 @@ use Rattle.relation_contexts.specs.Stores.{Store, InContext, IsTermIn, IsSound}
 use Rattle.relation_contexts.specs.Steps.{ChangesNothing, EntersForall}
 use Rattle.relation_contexts.specs.Measures.{Goes}
 use Rattle.relation_contexts.specs.Generalising.{MakesUnbound, makes_none}
-use Rattle.relation_contexts.specs.Covered.{IsCovered}
-use Rattle.relation_contexts.specs.Bound.{BindsByList, AreBoundAs}
+use Rattle.relation_contexts.specs.Bound.{AreBoundAs}
 use Rattle.relation_contexts.specs.Lawful.{State, Asked, items_of}
 use Rattle.relation_contexts.specs.Goals.{goals_of}
 use Rattle.relation_contexts.specs.Contexts.{Context}
@@ -57,11 +56,6 @@ none_uses : (t u : Tree) → (bound_var_escapes t || bound_var_escapes u) ≡ fa
 none_uses t u h =
     let o = or_parts (bound_var_escapes t) (bound_var_escapes u) h in
     (none_escapes 0 t o.0, none_escapes 0 u o.1)
-
--- What is covered binds by its list.
-pub covered_binds : (t : Tree) → IsCovered t → BindsByList t
-covered_binds (bind ks t) c = c.0
-covered_binds t c = tt
 
 -- Two rounds relate two binders only at invariance, where a body uses what its binder binds.
 two_rounds : (v : Variance) (t u : Tree) → v ≡ Invariant → (StaysWithin 0 t × StaysWithin 0 u → ⊥) →
@@ -182,8 +176,8 @@ module _ {Key Id Name : Type 0} (aliases : StructurallyRelateAliases) (j : ℕ)
         right_known = right;
         left_in = both.instantiated_in;
         right_in = both.entered_in;
-        left_taken = all_taken v x both.instantiated_covered;
-        right_taken = all_taken v y both.entered_covered;
+        left_taken = all_taken v x both.instantiated_by_lists;
+        right_taken = all_taken v y both.entered_by_lists;
       };
       errors = λ m set i st f later sound o.
           bodies_error m set i st v f ks ls t u x y both.instantiated_for both.entered_for o;
@@ -212,8 +206,8 @@ module _ {Key Id Name : Type 0} (aliases : StructurallyRelateAliases) (j : ℕ)
         right_known = right;
         left_in = both.entered_in;
         right_in = both.instantiated_in;
-        left_taken = all_taken v x both.entered_covered;
-        right_taken = all_taken v y both.instantiated_covered;
+        left_taken = all_taken v x both.entered_by_lists;
+        right_taken = all_taken v y both.instantiated_by_lists;
       };
       errors = λ m set i st f later sound o.
           bodies_error m set i st v f ks ls t u x y both.entered_for both.instantiated_for o;

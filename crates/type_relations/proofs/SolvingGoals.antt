@@ -1,204 +1,130 @@
--- Registering that of two type variables the one is a subtype of the other, as a step.
-use Rattle.std.proofs.Common.{◌≡◌, ℕ, refl, sym, ap, ap₂, ◌∙◌, subst, subst₂, Bool, false, List, [], ◌∷◌, ◌++◌, All, IsTrue, Result, Ok, Err}
-use Rattle.std.proofs.lemmas.Bool.{false≢true}
+-- Registering that of two type variables the one is a subtype of the other, as a step; and a goal as the relation of a
+-- context registers it.
+use Rattle.std.proofs.Common.{◌≡◌, ℕ, refl, sym, ap, ap₂, subst, true, false, Some, List, [], ◌∷◌, All, IsTrue, Result, Ok}
 use Rattle.std.specs.Result.{IsErr}
-use Rattle.std.proofs.lemmas.List.Elements.{All-nil, All-cons, All-head, All-append}
-use Rattle.std.proofs.lemmas.List.{map-append}
+use Rattle.std.proofs.lemmas.Bool.{and_from}
+use Rattle.std.proofs.lemmas.List.Elements.{All-nil, All-cons, All-head}
+use Rattle.std.proofs.lemmas.Option.{same_Some}
 use Rattle.term_enums.specs.declared.Variance.{Variance}
-use Rattle.term_enums.specs.declared.Variance.TheVariants.{Covariant, Contravariant}
+use Rattle.term_enums.specs.declared.Variance.TheVariants.{Covariant, Contravariant, Invariant, Bivariant}
 use Rattle.relation_terms.specs.declared.terms.goal.Goal.{Goal as KeyedGoal}
 use Rattle.relation_terms.specs.declared.terms.keys.ParamEnvKey.{ParamEnvKey}
 use Rattle.relation_terms.specs.declared.terms.keys.PredicateKey.{PredicateKey}
 use Rattle.relation_terms.specs.Heads.{type_var, variable}
-use Rattle.relation_terms.specs.Trees.{Tree, leaf, Assign, apply, known}
-use Rattle.relation_terms.specs.Meaning.{Meaning, Extends}
+use Rattle.relation_terms.specs.Trees.{Tree, leaf, cons, nil, Assign, apply, known}
 use Rattle.relation_contexts.specs.declared.relate.Step.TheVariants.{Done}
-use Rattle.relation_contexts.specs.Relation.{Items, Interpretation, Rel, at, sort_of}
-use Rattle.relation_contexts.specs.Agreeing.{Agree}
+use Rattle.relation_contexts.specs.declared.relate.StructurallyRelateAliases.{StructurallyRelateAliases}
+use Rattle.relation_contexts.specs.ContextCalls.{Grows}
+use Rattle.relation_contexts.specs.Contexts.{Context}
+use Rattle.relation_contexts.specs.Goals.{Goal, goal_of, subtype_predicate, IsOpen, IsDirected, IsRegistered, of_variables, Holds, MakesOneTree}
+use Rattle.relation_contexts.specs.Kits.{IsPredicateOf}
+use Rattle.relation_contexts.specs.Lawful.{State, Stepped, MayAnswer, items_in}
+use Rattle.relation_contexts.specs.Outcomes.{Outcome}
+use Rattle.relation_contexts.specs.Parts.{IsFormed}
+use Rattle.relation_contexts.specs.Relation.{Interpretation, Rel, at, sort_of}
 use Rattle.relation_contexts.proofs.Agreeing.{agree_root}
-use Rattle.relation_contexts.specs.Stores.{Store}
-use Rattle.relation_contexts.specs.Goals.{Goal, goal_of, goals_of, KnowsGoal, subtype_predicate, IsOpen, IsDirected, IsRegistered, of_variables, Holds, MakesOneTree}
-use Rattle.relation_contexts.specs.Lawful.{Stepped, Passes, MayAnswer, RegisteredIn, items_of}
-use Rattle.relation_contexts.specs.Settings.{Settings}
-use Rattle.type_relations.specs.Emitting.{RegistersGoal}
-use Rattle.type_relations.specs.Solving.{KnowsGoals, Held, kept_in, solver_settings, solving, solver_manner}
 use Rattle.relation_contexts.proofs.Answering.{may_itself}
-use Rattle.relation_contexts.proofs.Going.{goes_nowhere, later_itself}
-use Rattle.relation_contexts.proofs.Full.{full_itself}
-use Rattle.relation_contexts.specs.Kits.{IsGoalOf}
-use Rattle.relation_contexts.proofs.Building.{builds_asking}
+use Rattle.relation_contexts.proofs.Going.{later_itself}
 use Rattle.relation_contexts.proofs.Growing.{All_back}
+use Rattle.relation_contexts.proofs.Registered.{registered_in}
+use Rattle.type_relations.specs.Emitting.{IsOver, AddsGoals, RegistersGoal, goals_in, subtype_at}
+use Rattle.type_relations.specs.Solving.{KnowsGoals, solving_through, solver_manner}
+use Rattle.type_relations.proofs.GoalPasses.{goal_in}
+use Rattle.type_relations.proofs.LeavingSteps.{goal_step}
+use Rattle.type_relations.proofs.Registering.{none_registered, one_registered}
+use Rattle.type_relations.proofs.Solving.{solver_with}
 use Rattle.type_relations.proofs.Turning.{turned}
-use Rattle.relation_contexts.proofs.Registered.{registered_in, goals_stay, goals_known}
 
--- One more goal was registered.
-module _ {Key Id Name : Type 0} {j j' : Held Key} (held : j' ≡ j) (gs hs : List (KeyedGoal Key (PredicateKey Key)))
-    (m n : Meaning Key Id Name) (st : Store) (L K : Type 0) (v : Variance) (e : ParamEnvKey Key) (grown : Extends m n) (env : KnowsGoals m e gs) (l : K)
-    (p : PredicateKey Key) (t : Tree) (pushed : hs ≡ gs ++ record { param_env = e; predicate = p } ∷ [])
-    (means : n.predicate p ≡ t) (sure : IsTrue (known t)) (asks : IsRegistered (items_of m) (solver_settings j.structurally_relate_aliases j.setup) v st st t) where
-  lengthens : goals_of n hs ≡ goals_of m gs ++ goal_of (m.param_env e) t ∷ []
-  lengthens = ap (goals_of n) pushed ∙ map-append (λ g. goal_of (n.param_env g.param_env) (n.predicate g.predicate)) gs
-      (record { param_env = e; predicate = p } ∷ [])
-      ∙ ap₂ (λ z g. z ++ g ∷ []) (goals_stay grown gs env.1) (ap₂ goal_of (grown.param_env e env.0) means)
+-- What holds of that a tree is a subtype of another, at covariance, and of that the other is one of it, at
+-- contravariance, holds of what is asked of both.
+pub subtype_asked : (P : Variance → Tree → Type 0) (a b : Tree) → P Covariant (subtype_predicate true a b) →
+    P Contravariant (subtype_predicate false b a) → (v : Variance) (p : Tree) → subtype_at v a b ≡ Some p → P v p
+subtype_asked P a b f g Covariant p e = subst (P Covariant) (same_Some (subtype_predicate true a b) p e) f
+subtype_asked P a b f g Contravariant p e = subst (P Contravariant) (same_Some (subtype_predicate false b a) p e) g
+subtype_asked P a b f g Invariant p e = absurd cc
+subtype_asked P a b f g Bivariant p e = absurd cc
 
-  is_registered : All (RegisteredIn (solving j gs m st L v e) st) (goal_of (m.param_env e) t ∷ [])
-  is_registered = All-cons (RegisteredIn (solving j gs m st L v e) st) (goal_of (m.param_env e) t) []
-      (record { environment = refl; asks = asks })
-      (All-nil (RegisteredIn (solving j gs m st L v e) st))
+pub subtype_known : (v : Variance) (a b p : Tree) → subtype_at v a b ≡ Some p → IsTrue (known a) → IsTrue (known b) →
+    IsTrue (known p)
+subtype_known v a b p e h k = subtype_asked (λ v p. IsTrue (known p)) a b
+    (and_from (known a) (known (cons b nil)) h (and_from (known b) true k refl))
+    (and_from (known b) (known (cons a nil)) k (and_from (known a) true h refl)) v p e
 
-  env_known : IsTrue (known (n.param_env e))
-  env_known = subst (λ z. IsTrue (known z)) (sym (grown.param_env e env.0)) env.0
+pub directed_asks : (v : Variance) (a b : Tree) → IsDirected v → (p : Tree) × (subtype_at v a b ≡ Some p)
+directed_asks Covariant a b d = (subtype_predicate true a b, refl)
+directed_asks Contravariant a b d = (subtype_predicate false b a, refl)
+directed_asks Invariant a b d = absurd d
+directed_asks Bivariant a b d = absurd d
 
-  all_known : All (KnowsGoal n) hs
-  all_known = subst (All (KnowsGoal n)) (sym pushed) (All-append (KnowsGoal n) gs (record { param_env = e; predicate = p } ∷ [])
-      (goals_known grown gs env.1) (All-cons (KnowsGoal n) (record { param_env = e; predicate = p }) []
-      (env_known, subst (λ z. IsTrue (known z)) (sym means) sure) (All-nil (KnowsGoal n))))
+pub subtype_directed : (v : Variance) (a b p : Tree) → subtype_at v a b ≡ Some p → IsDirected v
+subtype_directed v a b p e = subtype_asked (λ v p. IsDirected v) a b tt tt v p e
 
-  unfoldable passes : (N : ℕ) → Passes N (solving j gs m st L v e) (solving j' hs n st K v e)
-  passes N = record {
-    extends = grown;
-    goes = goes_nowhere N st;
-    added = goal_of (m.param_env e) t ∷ [];
-    lengthens = lengthens;
-    goals_in = is_registered;
-    kept = ap₂ kept_in held (grown.param_env e env.0);
-    ambient = refl;
-    remembered = refl;
-    lawful = λ h. (l, (env_known, all_known));
-  }
+module _ {Key Id Name A E : Type 0} {r q : State Key Id Name} {x : A} (i k : ℕ) (a b p : Tree)
+    (a_is : a ≡ leaf (variable type_var i)) (b_is : b ≡ leaf (variable type_var k)) (i_open : IsOpen r.store r.store i)
+    (k_open : IsOpen r.store r.store k) (asks : subtype_at r.ambient a b ≡ Some p)
+    (h : RegistersGoal {F = E} r q p (Ok x)) where
+  in_order : IsRegistered (items_in r) r.kept.settings r.ambient r.store r.store p
+  in_order = subtype_asked (λ v p. IsRegistered (items_in r) r.kept.settings v r.store r.store p) a b
+      (of_variables true i k tt (ap₂ (subtype_predicate true) a_is b_is) i_open k_open)
+      (of_variables false k i tt (ap₂ (subtype_predicate false) b_is a_is) k_open i_open) r.ambient p asks
 
--- The same as what a relation that registers goals answers; or a growth was refused.
-module _ {Key Id Name : Type 0} {j j' : Held Key} (held : j' ≡ j) (gs hs : List (KeyedGoal Key (PredicateKey Key)))
-    (m n : Meaning Key Id Name) (st now : Store) (L K : Type 0) (v : Variance) (e : ParamEnvKey Key) (grown : Extends m n)
-    (l : K) (stays : now ≡ st) where
-  pub goal_pushed : {A F : Type 0} (x : A) (p : PredicateKey Key) (t : Tree) → KnowsGoals m e gs →
-      hs ≡ gs ++ record { param_env = e; predicate = p } ∷ [] → n.predicate p ≡ t → IsTrue (known t) →
-      RegistersGoal {F = F} (solving j gs m st L v e) (solving j' hs n now K v e) t (Ok x)
-  goal_pushed x p t env pushed means sure = record {
-    extends = grown;
-    store = stays;
-    goals = ap (goals_of n) pushed
-        ∙ map-append (λ g. goal_of (n.param_env g.param_env) (n.predicate g.predicate)) gs
-        (record { param_env = e; predicate = p } ∷ [])
-        ∙ ap₂ (λ z g. z ++ g ∷ []) (goals_stay grown gs env.1) (ap₂ goal_of (grown.param_env e env.0) means);
-    kept = ap₂ kept_in held (grown.param_env e env.0);
-    ambient = refl;
-    remembered = refl;
-    lawful = λ h. (l, (subst (λ z. IsTrue (known z)) (sym (grown.param_env e env.0)) env.0, known_then));
-  }
-    where
-      known_then : All (KnowsGoal n) hs
-      known_then = subst (All (KnowsGoal n)) (sym pushed)
-          (All-append (KnowsGoal n) gs (record { param_env = e; predicate = p } ∷ []) (goals_known grown gs env.1)
-          (All-cons (KnowsGoal n) (record { param_env = e; predicate = p }) []
-          (subst (λ z. IsTrue (known z)) (sym (grown.param_env e env.0)) env.0, subst (λ z. IsTrue (known z)) (sym means) sure)
-          (All-nil (KnowsGoal n))))
+  abbrev goal : Goal
+  goal = goal_of r.kept.environment p
 
-  pub goal_not_pushed : {A F : Type 0} (f : F) (t : Tree) → KnowsGoals m e gs → hs ≡ gs →
-      RegistersGoal {A = A} (solving j gs m st L v e) (solving j' hs n now K v e) t (Err f)
-  goal_not_pushed f t env same = record {
-    extends = grown;
-    store = stays;
-    goals = ap (goals_of n) same ∙ goals_stay grown gs env.1;
-    kept = ap₂ kept_in held (grown.param_env e env.0);
-    ambient = refl;
-    remembered = refl;
-    lawful = λ h. (
-      l,
-      (
-        subst (λ z. IsTrue (known z)) (sym (grown.param_env e env.0)) env.0,
-        subst (All (KnowsGoal n)) (sym same) (goals_known grown gs env.1),
-      ),
+  holds : (w : Interpretation) (s : Assign) → Holds (items_in r) w s goal →
+      Rel (items_in r) w r.kept.environment (at r.ambient) (apply s a) (apply s b)
+  holds w s = subtype_asked (λ v p. Holds (items_in r) w s (goal_of r.kept.environment p) →
+      Rel (items_in r) w r.kept.environment (at v) (apply s a) (apply s b)) a b (λ o. o) (λ o. turned o) r.ambient p asks
+
+  equal : (s : Assign) → apply s a ≡ apply s b → MakesOneTree s goal
+  equal s one = subtype_asked (λ v p. MakesOneTree s (goal_of r.kept.environment p)) a b one (sym one) r.ambient p asks
+
+  outcome : Outcome (items_in r) r.kept.environment (at r.ambient) r.store r.store r.goals (goal ∷ []) a b
+  outcome = record {
+    later = later_itself r.store;
+    goals_in = registered_in (goal ∷ []) (goal_in p h in_order);
+    relates = λ w s sat all. holds w s
+        (All-head (Holds (items_in r) w s) goal [] (All_back (Holds (items_in r) w s) r.goals (goal ∷ []) all));
+    keeps = λ w s sat one. (
+      s,
+      (λ l n o. refl),
+      (sat, All-cons (MakesOneTree s) goal [] (equal s one) (All-nil (MakesOneTree s))),
     );
   }
 
-  pub goal_not_made : {A F : Type 0} (t : Tree) (res : Result A F) → IsErr res → KnowsGoals m e gs → hs ≡ gs →
-      RegistersGoal (solving j gs m st L v e) (solving j' hs n now K v e) t res
-  goal_not_made t (Ok x) h env same = absurd (false≢true h)
-  goal_not_made t (Err f) h env same = goal_not_pushed f t env same
+  -- The goal relates the two at the variance, and where they are one, its sides are.
+  pub subtype_step : {K : Type 0} (tree : K → Tree) (t : K) → tree t ≡ a → IsTrue (known a) →
+      Stepped solver_manner IsFormed r q a b tree (Ok (Done t))
+  subtype_step tree t answer sure = goal_step IsFormed a b tree p h in_order outcome t
+      (subst (MayAnswer solver_manner q r.ambient a) (sym answer) (may_itself solver_manner q r.ambient a))
+      (subst (λ z. IsTrue (known z)) (sym answer) sure)
+      (agree_root r.kept.settings (items_in r) r.ambient type_var i a b a_is (ap sort_of b_is))
+      (λ is pair. absurd (subst IsDirected is (subtype_directed r.ambient a b p asks)))
+      (λ kit ha hb. subtype_asked (λ v p. IsPredicateOf kit p) a b (ha, (hb, tt)) (hb, (ha, tt)) r.ambient p asks)
 
--- That of two type variables the one is a subtype of the other was registered.
-module _ {Key Id Name : Type 0} {j j' : Held Key} (held : j' ≡ j) (gs hs : List (KeyedGoal Key (PredicateKey Key)))
-    (m n : Meaning Key Id Name) (st : Store) (L K : Type 0) (v : Variance) (e : ParamEnvKey Key) (grown : Extends m n) (env : KnowsGoals m e gs) (l : K)
-    (p : PredicateKey Key) (x : Bool) (i k : ℕ)
-    (pushed : hs ≡ gs ++ record { param_env = e; predicate = p } ∷ [])
-    (means : n.predicate p ≡ subtype_predicate x (leaf (variable type_var i)) (leaf (variable type_var k)))
-    (i_open : IsOpen st st i) (k_open : IsOpen st st k) (directed : IsDirected v) where
-  abbrev asked : Goal
-  asked = goal_of (m.param_env e) (subtype_predicate x (leaf (variable type_var i)) (leaf (variable type_var k)))
-
-  abbrev settings : Settings
-  settings = solver_settings j.structurally_relate_aliases j.setup
-
-  in_order : IsRegistered (items_of m) settings v st st
-      (subtype_predicate x (leaf (variable type_var i)) (leaf (variable type_var k)))
-  in_order = of_variables x i k directed refl i_open k_open
-
-  -- The goal relates two terms at the variance, and where they are one, its sides are.
-  pub registered_step : {X : Type 0} (F : Tree → Type 0) (a b : Tree) (tree : X → Tree) (t : X) → tree t ≡ a →
-      IsTrue (known a) →
-      ((c : Items) (w : Interpretation) (d : Tree) (s : Assign) →
-      Rel c w d (at Covariant) (apply s (leaf (variable type_var i))) (apply s (leaf (variable type_var k))) →
-      Rel c w d (at v) (apply s a) (apply s b)) →
-      ((s : Assign) → apply s a ≡ apply s b →
-      apply s (leaf (variable type_var i)) ≡ apply s (leaf (variable type_var k))) →
-      ((set : Settings) (c : Items) → Agree set c (at v) a b) →
-      Stepped solver_manner F (solving j gs m st L v e) (solving j' hs n st K v e) a b tree (Ok (Done t))
-  unfolding passes
-  registered_step F a b tree t answer sure relates equal agreeing = record {
-    passes = passes held gs hs m n st L K v e grown env l p asked.predicate pushed means refl in_order _;
-    verdict = record {
-      outcome = record {
-        later = later_itself st;
-        goals_in = registered_in (asked ∷ [])
-            (is_registered held gs hs m n st L K v e grown env l p asked.predicate pushed means refl in_order);
-        relates = λ w s sat all. relates (items_of m) w (m.param_env e) s
-            (All-head (Holds (items_of m) w s) asked [] (All_back (Holds (items_of m) w s) (goals_of m gs) (asked ∷ []) all));
-        keeps = λ w s sat one. (
-          s,
-          (λ k n h. refl),
-          (sat, All-cons (MakesOneTree s) asked [] (equal s one) (All-nil (MakesOneTree s))),
-        );
-      };
-      answer = subst (MayAnswer solver_manner (solving j' hs n st K v e) v a) (sym answer)
-          (may_itself solver_manner (solving j' hs n st K v e) v a);
-      known = subst (λ z. IsTrue (known z)) (sym answer) sure;
-      agrees = λ z. agreeing settings (items_of m);
-    };
-    exact = λ z is pair. absurd (subst IsDirected is directed);
-    full = λ ha hb. full_itself st;
-    built = λ k ha hb all. builds_asking k st (asked ∷ [])
-        (All-cons (IsGoalOf k) asked [] (tt, (tt, tt)) (All-nil (IsGoalOf k))) all;
+-- The relation of a context registers a predicate that it has made; or it could not make it.
+module _ {Key Id Name : Type 0} (aliases : StructurallyRelateAliases) (j : ℕ)
+    (gs : List (KeyedGoal Key (PredicateKey Key))) (c d : Context Key Id Name) (grows : Grows c d)
+    (stays : d.store ≡ c.store) (v : Variance) (e : ParamEnvKey Key) (env : KnowsGoals c.meaning e gs) where
+  over_itself : IsOver (solving_through aliases j gs c v e) c
+  over_itself = record {
+    meaning = refl;
+    store = refl;
+    solver = refl;
+    coherence = refl;
+    mode = refl;
+    outliving = refl;
+    lawful = λ l. l.0;
   }
 
-module _ {Key Id Name : Type 0} {j j' : Held Key} (held : j' ≡ j) (gs hs : List (KeyedGoal Key (PredicateKey Key)))
-    (m n : Meaning Key Id Name) (st now : Store) (L K : Type 0) (v : Variance) (e : ParamEnvKey Key) (grown : Extends m n) (env : KnowsGoals m e gs) (l : K)
-    (stays : now ≡ st) (p : PredicateKey Key) (x : Bool)
-    (pushed : hs ≡ gs ++ record { param_env = e; predicate = p } ∷ []) (i k : ℕ) (a b : Tree)
-    (a_is : a ≡ leaf (variable type_var i)) (b_is : b ≡ leaf (variable type_var k)) (i_open : IsOpen st st i)
-    (k_open : IsOpen st st k) where
-  -- At covariance that the first is a subtype of the second.
-  pub covariant_step : {X : Type 0} (F : Tree → Type 0) (tree : X → Tree) (t : X) → v ≡ Covariant →
-      n.predicate p ≡ subtype_predicate x a b → tree t ≡ a → IsTrue (known a) →
-      Stepped solver_manner F (solving j gs m st L v e) (solving j' hs n now K v e) a b tree (Ok (Done t))
-  covariant_step F tree t is means answer sure =
-      subst (λ z. Stepped solver_manner F (solving j gs m st L v e) (solving j' hs n z K v e) a b tree (Ok (Done t)))
-      (sym stays) (registered_step held gs hs m n st L K v e grown env l p x i k pushed
-      (means ∙ ap₂ (subtype_predicate x) a_is b_is) i_open k_open (subst IsDirected (sym is) tt) F a b tree t answer sure
-      (λ c w d s r. subst (λ z. Rel c w d (at z) (apply s a) (apply s b)) (sym is)
-      (subst₂ (λ f g. Rel c w d (at Covariant) (apply s f) (apply s g)) (sym a_is) (sym b_is) r))
-      (λ s q. sym (ap (apply s) a_is) ∙ q ∙ ap (apply s) b_is)
-      (λ set c. agree_root set c v type_var i a b a_is (ap sort_of b_is)))
+  pub goal_not_made : {A F : Type 0} (t : Tree) (res : Result A F) → IsErr res →
+      RegistersGoal (solving_through aliases j gs c v e) (solving_through aliases j gs d v e) t res
+  goal_not_made t res h =
+      none_registered over_itself (solver_with aliases j gs c d grows v e env) grows.extends stays t res h
 
-  -- At contravariance that the second is one of the first.
-  pub contravariant_step : {X : Type 0} (F : Tree → Type 0) (tree : X → Tree) (t : X) → v ≡ Contravariant →
-      n.predicate p ≡ subtype_predicate x b a → tree t ≡ a → IsTrue (known a) →
-      Stepped solver_manner F (solving j gs m st L v e) (solving j' hs n now K v e) a b tree (Ok (Done t))
-  contravariant_step F tree t is means answer sure =
-      subst (λ z. Stepped solver_manner F (solving j gs m st L v e) (solving j' hs n z K v e) a b tree (Ok (Done t)))
-      (sym stays) (registered_step held gs hs m n st L K v e grown env l p x k i pushed
-      (means ∙ ap₂ (subtype_predicate x) b_is a_is) k_open i_open (subst IsDirected (sym is) tt) F a b tree t answer sure
-      (λ c w d s r. subst (λ z. Rel c w d (at z) (apply s a) (apply s b)) (sym is)
-      (subst₂ (λ f g. Rel c w d (at Contravariant) (apply s f) (apply s g)) (sym a_is) (sym b_is) (turned r)))
-      (λ s q. sym (ap (apply s) b_is) ∙ sym q ∙ ap (apply s) a_is)
-      (λ set c. agree_root set c v type_var i a b a_is (ap sort_of b_is)))
+  pub goal_made : {A F : Type 0} {q : State Key Id Name} (p : PredicateKey Key) (t : Tree) →
+      (d.meaning).predicate p ≡ t → (res : Result A F) →
+      AddsGoals (solving_through aliases j gs d v e) q (goals_in (solving_through aliases j gs d v e) (p ∷ [])) res →
+      RegistersGoal (solving_through aliases j gs c v e) q t res
+  goal_made p t means res h =
+      one_registered over_itself (solver_with aliases j gs c d grows v e env) grows.extends stays p t means res h

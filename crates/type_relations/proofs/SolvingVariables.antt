@@ -1,5 +1,5 @@
 -- Binding a variable, as a step of a relation over a context, and being refused.
-use Rattle.std.proofs.Common.{◌≡◌, ◌≢◌, ◌⊎◌, ℕ, suc, ◌+◌, ◌<◌, ◌≤◌, refl, sym, ap, ap₂, ◌∙◌, arith, inl, inr, subst, subst₂, [], ◌∷◌, IsTrue, Some}
+use Rattle.std.proofs.Common.{◌≡◌, ◌≢◌, ◌⊎◌, ℕ, suc, ◌+◌, ◌<◌, ◌≤◌, refl, sym, ap, ◌∙◌, arith, inl, inr, subst, subst₂, [], ◌∷◌, IsTrue, Some}
 use Rattle.std.proofs.Common.{Ok, Err}
 use Rattle.std.proofs.lemmas.List.Elements.{All-nil, All-cons}
 use Rattle.term_enums.specs.declared.Variance.{Variance}
@@ -35,11 +35,11 @@ use Rattle.relation_contexts.specs.Parts.{IsFormed}
 use Rattle.relation_contexts.specs.FirstOrder.{IsFirstOrder, IsFirstOrderStore}
 use Rattle.relation_contexts.specs.Generalising.{Obstacle, cycle, beyond, InstantiatesBy, RefusesBy, MakesUnbound}
 use Rattle.relation_contexts.specs.Generalising.{NumbersNameNothing}
-use Rattle.relation_contexts.specs.Covered.{IsCovered}
+use Rattle.relation_contexts.specs.Bound.{BindByLists}
 use Rattle.relation_contexts.specs.Resolving.{IsShallow, root as shallow_root, stays_bound, formed, IsShallowConst, const_root, no_variable}
 use Rattle.relation_contexts.specs.Lawful.{Passes, Asked, MayAnswer, Stepped, Leads, LeadsAgain, items_of, State}
 use Rattle.relation_contexts.specs.Contexts.{Context}
-use Rattle.relation_contexts.specs.ContextCalls.{Instantiated, ObstacleError, HasCoveredBindings}
+use Rattle.relation_contexts.specs.ContextCalls.{Instantiated, ObstacleError, BindingsBindByLists}
 use Rattle.type_relations.specs.Solving.{solver_manner}
 use Rattle.type_relations.specs.Emitting.{RegistersGoal}
 use Rattle.type_relations.proofs.GoalPasses.{goal_passes, no_goal_passes}
@@ -147,8 +147,8 @@ module _ {Key Id Name : Type 0} (r0 : State Key Id Name) (L K : Type 0) (lawful 
 
   -- A variable was bound to what a term comes to.
   module _ (k : VarKind) (counted : IsTypeOrConst k) (c d : Context Key Id Name) (grown : Extends c.meaning d.meaning)
-      (before : IsSound c.store) (numbers : NumbersNameNothing c.store) (all : HasCoveredBindings d.store) (target : ℕ) (t u : Tree)
-      (covered : IsCovered t) (t_in : IsTermIn c.store t) (t_known : IsTrue (known t)) (stands : MayStandFor k t)
+      (before : IsSound c.store) (numbers : NumbersNameNothing c.store) (all : BindingsBindByLists d.store) (target : ℕ) (t u : Tree)
+      (by_lists : BindByLists t) (t_in : IsTermIn c.store t) (t_known : IsTrue (known t)) (stands : MayStandFor k t)
       (x : Variance) (seen : r0.ambient ≡ Invariant → x ≡ Invariant) (u_known : IsTrue (known u))
       (f : InstantiatesBy al (items_of c.meaning) c.store d.store x k target t u) where
     abbrev v : Variance
@@ -187,8 +187,8 @@ module _ {Key Id Name : Type 0} (r0 : State Key Id Name) (L K : Type 0) (lawful 
     u_in : IsTermIn now u
     u_in = steps.term_in
 
-    u_covered : IsCovered u
-    u_covered = all k target u steps.now_bound
+    u_by_lists : BindByLists u
+    u_by_lists = all k target u steps.now_bound
 
     later : (z : Tree) → IsTermIn was z → IsTermIn now z
     later z h = later_term was now (steps.later).grows (steps.later).universe_stands z h
@@ -212,7 +212,7 @@ module _ {Key Id Name : Type 0} (r0 : State Key Id Name) (L K : Type 0) (lawful 
     q = standing r0 d.meaning now K
 
     asked_now : (w : Variance) (a b : Tree) → IsTrue (known a) → IsTrue (known b) → IsTermIn now a → IsTermIn now b →
-        IsCovered a → IsCovered b → Asked solver_manner q w a b
+        BindByLists a → BindByLists b → Asked solver_manner q w a b
     asked_now w a b k l h i c d = record {
       left_known = k;
       right_known = l;
@@ -292,8 +292,8 @@ module _ {Key Id Name : Type 0} (r0 : State Key Id Name) (L K : Type 0) (lawful 
       leads = subst (λ z. Leads r q [] root t z u t) (sym seen) (left_leads w l);
       read_leads = subst (λ z. Leads r q [] root t z u t) (sym seen) (left_leads w l);
       read_exactly = λ o same pair. (pair_left pair.bindings pair.right, (exactly pair.right pair.bindings).0);
-      read_asked = asked_now v root t refl t_known root_in (later t t_in) tt covered;
-      asked = asked_now (xform v b) u t u_known t_known u_in (later t t_in) u_covered covered;
+      read_asked = asked_now v root t refl t_known root_in (later t t_in) tt by_lists;
+      asked = asked_now (xform v b) u t u_known t_known u_in (later t t_in) u_by_lists by_lists;
       answers = subst (λ z. Answers z u t root an) (sym seen) answers;
       answer_known = sure;
       falls = steps.one_spent;
@@ -310,8 +310,8 @@ module _ {Key Id Name : Type 0} (r0 : State Key Id Name) (L K : Type 0) (lawful 
       read_leads = subst (λ z. Leads r q [] t root z t u) (sym seen) (right_leads w l);
       read_exactly = λ o same pair. let f = pair_left pair.bindings pair.left in
           (record { left = f.right; right = f.left; bindings = f.bindings }, (exactly pair.left pair.bindings).1);
-      read_asked = asked_now v t root t_known refl (later t t_in) root_in covered tt;
-      asked = asked_now (xform v b) t u t_known u_known (later t t_in) u_in covered u_covered;
+      read_asked = asked_now v t root t_known refl (later t t_in) root_in by_lists tt;
+      asked = asked_now (xform v b) t u t_known u_known (later t t_in) u_in by_lists u_by_lists;
       answers = subst (λ z. Answers z t u t an) (sym seen) answers;
       answer_known = sure;
       falls = steps.one_spent;
@@ -416,8 +416,8 @@ module _ {Key Id Name : Type 0} (r0 : State Key Id Name) (L K : Type 0) (lawful 
 
   -- A type variable was bound to another one in the place of an alias.
   module _ (c d : Context Key Id Name) (grown : Extends c.meaning d.meaning) (before : IsSound c.store)
-      (numbers : NumbersNameNothing c.store) (all : HasCoveredBindings d.store) (target m : ℕ) (t u : Tree)
-      (covered : IsCovered t) (t_in : IsTermIn c.store t) (t_known : IsTrue (known t)) (stands : IsTerm type_sort t)
+      (numbers : NumbersNameNothing c.store) (all : BindingsBindByLists d.store) (target m : ℕ) (t u : Tree)
+      (by_lists : BindByLists t) (t_in : IsTermIn c.store t) (t_known : IsTrue (known t)) (stands : IsTerm type_sort t)
       (x : Variance) (seen : r0.ambient ≡ Invariant → x ≡ Invariant) (u_known : IsTrue (known u))
       (f : InstantiatesBy al (items_of c.meaning) c.store d.store x type_var target t u)
       (is : u ≡ leaf (variable type_var m)) (no_sides : al ≡ No) (left : IsAlias t) (p : State Key Id Name) (pred : Tree) where
@@ -434,17 +434,17 @@ module _ {Key Id Name : Type 0} (r0 : State Key Id Name) (L K : Type 0) (lawful 
     the_goal = goal_of r0.kept.environment pred
 
     is_bound : Instantiates c.store d.store x type_var target t u
-    is_bound = steps type_var tt c d grown before numbers all target t u covered t_in t_known stands x seen u_known f
+    is_bound = steps type_var tt c d grown before numbers all target t u by_lists t_in t_known stands x seen u_known f
 
     bound_to_it : Instantiates c.store d.store x type_var target t (leaf (variable type_var m))
     bound_to_it = subst (Instantiates c.store d.store x type_var target t) is is_bound
 
     spends : (N : ℕ) → weight c.store t ≤ N → Goes N c.store d.store
     spends N small =
-        goes type_var tt c d grown before numbers all target t u covered t_in t_known stands x seen u_known f N small
+        goes type_var tt c d grown before numbers all target t u by_lists t_in t_known stands x seen u_known f N small
 
     instantiates : InstantiatesNone c.store → ⊥
-    instantiates = could type_var tt c d grown before numbers all target t u covered t_in t_known stands x seen u_known f
+    instantiates = could type_var tt c d grown before numbers all target t u by_lists t_in t_known stands x seen u_known f
 
     first_weight : weight c.store t ≤ weight c.store lone + weight c.store t
     first_weight = omega arith

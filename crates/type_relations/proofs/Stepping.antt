@@ -1,7 +1,7 @@
 -- The cases of each step of the relation of a context.
-use Rattle.std.proofs.Common.{◌≡◌, ◌≢◌, ℕ, refl, sym, ap, ap₂, ◌∙◌, List, [], ◌∷◌, ◌++◌}
+use Rattle.std.proofs.Common.{◌≡◌, ◌≢◌, ℕ, refl, sym, ap, ◌∙◌, subst, List, [], ◌∷◌, ◌++◌}
 use Rattle.std.proofs.Common.{Option, Some, None, Result, Ok, Err, OnErr}
-use Rattle.std.proofs.lemmas.List.{map-append}
+use Rattle.std.proofs.lemmas.Option.{same_Some}
 use Rattle.term_enums.specs.declared.Variance.{Variance}
 use Rattle.term_enums.specs.declared.Variance.TheVariants.{Covariant, Contravariant, Invariant}
 use Rattle.term_enums.specs.declared.Variance.TheVariants.{Bivariant}
@@ -12,29 +12,32 @@ use Rattle.relation_terms.specs.declared.terms.keys.ParamEnvKey.{ParamEnvKey}
 use Rattle.relation_terms.specs.declared.terms.keys.PredicateKey.{PredicateKey}
 use Rattle.relation_terms.specs.Heads.{BoundKind}
 use Rattle.relation_terms.specs.Trees.{Tree}
-use Rattle.relation_terms.specs.Meaning.{Extends, under}
+use Rattle.relation_terms.specs.Meaning.{under}
 use Rattle.relation_folds.specs.declared.error.RelateFault.{RelateFault}
 use Rattle.relation_folds.specs.declared.error.RelateFault.TheVariants.{Memory}
 use Rattle.relation_contexts.specs.declared.relate.Step.{Step}
+use Rattle.relation_contexts.specs.declared.relate.Step.TheVariants.{Done}
 use Rattle.relation_contexts.specs.declared.relate.StructurallyRelateAliases.{StructurallyRelateAliases}
 use Rattle.relation_contexts.specs.Binders.{OpensFrom}
 use Rattle.relation_contexts.specs.Contexts.{Context}
 use Rattle.relation_contexts.specs.ContextCalls.{Constrains}
-use Rattle.relation_contexts.specs.Goals.{goal_of, goals_of}
+use Rattle.relation_contexts.specs.Goals.{goal_of, IsDirected}
 use Rattle.relation_contexts.specs.Lawful.{State}
 use Rattle.relation_contexts.specs.Stores.{Constraint}
-use Rattle.relation_contexts.proofs.Registered.{goals_stay}
-use Rattle.type_relations.specs.Combining.{RegistersOne, RegistersNone, seen}
-use Rattle.type_relations.specs.Emitting.{AddsAsked}
-use Rattle.type_relations.specs.Solving.{KnowsGoals, solving_through}
-use Rattle.type_relations.specs.Stepping.{LeavesAll, CombinesTyVars, goal_refused, StepsRegions}
+use Rattle.type_relations.specs.Combining.{RegistersOne, seen}
+use Rattle.type_relations.specs.Emitting.{AddsAsked, RegistersGoal, subtype_at}
+use Rattle.type_relations.specs.Solving.{solving_through}
+use Rattle.type_relations.specs.Stepping.{LeavesAll, CombinesTyVars, goal_refused, left_subtype, right_subtype, StepsRegions}
 use Rattle.type_relations.specs.Stepping.{left_outlives, right_outlives, both_outlive}
 
-pub covariant_directed : {v : Variance} → v ≡ Covariant → v ≢ Invariant
-covariant_directed e h = let z : Covariant ≡ Invariant = sym e ∙ h in cc
-
-pub contravariant_directed : {v : Variance} → v ≡ Contravariant → v ≢ Invariant
-contravariant_directed e h = let z : Contravariant ≡ Invariant = sym e ∙ h in cc
+pub directed_decides : {v : Variance} → v ≢ Invariant → v ≢ Bivariant → IsDirected v
+directed_decides {v} h g = go v refl
+  where
+    go : (w : Variance) → v ≡ w → IsDirected w
+    go Covariant is = tt
+    go Contravariant is = tt
+    go Invariant is = absurd (h is)
+    go Bivariant is = absurd (g is)
 
 -- Where a growth was refused nothing was recorded of regions.
 pub constrained_refused : {Key Id Name A F : Type 0} (c d : Context Key Id Name) (q : Constraint) (r : Result A F) →
@@ -55,6 +58,30 @@ module _ {Key Id Name : Type 0} where
   opens_seen c d (Some ks) None t u x y h = absurd h
   opens_seen c d None p t u x y h = absurd h
 
+-- What is asked of two type variables was registered, or a growth was refused.
+module _ {Key Id Name A E : Type 0} {r q : State Key Id Name} (a b : TyKey Key) (p : Tree) where
+  pub subtype_combines : {x : A} → subtype_at r.ambient ((r.meaning).ty a) ((r.meaning).ty b) ≡ Some p →
+      RegistersGoal {F = E} r q p (Ok x) → CombinesTyVars r q a b (Ok (Done a))
+  subtype_combines asks h = go r.ambient refl asks
+    where
+      registered : (t : Tree) → t ≡ p → RegistersOne r q t
+      registered t is = record {
+        store = h.store;
+        goals = h.goals ∙ ap (λ z. r.goals ++ goal_of r.kept.environment z ∷ []) (sym is);
+      }
+
+      go : (w : Variance) → r.ambient ≡ w → subtype_at w ((r.meaning).ty a) ((r.meaning).ty b) ≡ Some p →
+          CombinesTyVars r q a b (Ok (Done a))
+      go Covariant is e = left_subtype is (registered _ (same_Some _ p e)) refl
+      go Contravariant is e = right_subtype is (registered _ (same_Some _ p e)) refl
+      go Invariant is e = absurd cc
+      go Bivariant is e = absurd cc
+
+  pub subtype_refused : {e : E} → IsDirected r.ambient → RegistersGoal {A = A} r q p (Err e) →
+      (res : Result (Step (TyKey Key)) (RelateFault Key Id Name)) → res ≡ Err Memory → CombinesTyVars r q a b res
+  subtype_refused directed h res is = goal_refused (λ e. subst IsDirected e directed)
+      (record { store = h.store; goals = h.goals }) is
+
 -- Between what the relation of a context is before a step and after it.
 module _ {Key Id Name : Type 0} (aliases : StructurallyRelateAliases) (j : ℕ)
     (gs hs : List (KeyedGoal Key (PredicateKey Key))) (c d : Context Key Id Name) (v : Variance)
@@ -64,27 +91,6 @@ module _ {Key Id Name : Type 0} (aliases : StructurallyRelateAliases) (j : ℕ)
 
   abbrev after : State Key Id Name
   after = solving_through aliases j hs d v e
-
-  module _ (grown : Extends c.meaning d.meaning) (env : KnowsGoals c.meaning e gs) (stays : d.store ≡ c.store) where
-    -- One goal was registered.
-    pub registered_one : (p : PredicateKey Key) (t : Tree) → hs ≡ gs ++ record { param_env = e; predicate = p } ∷ [] →
-        (d.meaning).predicate p ≡ t → RegistersOne before after t
-    registered_one p t pushed means = record {
-      store = stays;
-      goals = ap (goals_of d.meaning) pushed
-          ∙ map-append (λ g. goal_of ((d.meaning).param_env g.param_env) ((d.meaning).predicate g.predicate)) gs
-          (record { param_env = e; predicate = p } ∷ [])
-          ∙ ap₂ (λ z g. z ++ g ∷ []) (goals_stay grown gs env.1) (ap₂ goal_of (grown.param_env e env.0) means);
-    }
-
-    -- None was, since a growth was refused.
-    pub refused_goal : (a b : TyKey Key) (res : Result (Step (TyKey Key)) (RelateFault Key Id Name)) → v ≢ Invariant →
-        hs ≡ gs → res ≡ Err Memory → CombinesTyVars before after a b res
-    refused_goal a b res directed same is =
-        goal_refused directed (record {
-          store = stays;
-          goals = ap (goals_of d.meaning) same ∙ goals_stay grown gs env.1;
-        }) is
 
   -- Regions were related by what was recorded of them.
   pub regions_step : (a b : RegionKey Key) → v ≢ Bivariant → AddsAsked c d v a b → StepsRegions before after a b (Ok a)

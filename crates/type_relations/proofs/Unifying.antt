@@ -20,7 +20,7 @@ use Rattle.relation_contexts.specs.Errors.{AreAlike, outer_head, unlike_aliases,
 use Rattle.relation_contexts.specs.Errors.{AreOfOneConst, values, expressions, over_arguments, const_parameters, one_const_leaf}
 use Rattle.relation_contexts.specs.Errors.{AreOfOneValue, one_value, as_many_branches}
 use Rattle.relation_contexts.specs.Stores.{Store}
-use Rattle.relation_contexts.specs.Outcomes.{Exact, NoUnifier}
+use Rattle.relation_contexts.specs.Outcomes.{Exact}
 use Rattle.relation_contexts.specs.Parts.{IsFormed, IsFormedConst, parts_of, const_parts_of, head_of, const_head_of, branches_of}
 use Rattle.relation_contexts.proofs.Erased.{forms_unify_by_parts}
 use Rattle.type_relations.proofs.Fronts.{IsLookedAt}

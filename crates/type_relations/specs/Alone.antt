@@ -1,8 +1,7 @@
 -- What relating registers of two types that are left to one goal: two type variables of which nothing is recorded, and an
 -- alias with another type.
-use Rattle.std.specs.Prelude.{◌≡◌, ◌≢◌, ◌⊎◌, true, false, [], ◌∷◌, ◌++◌, Option, Some, None, Result, Ok, Err}
+use Rattle.std.specs.Prelude.{◌≡◌, ◌≢◌, ◌⊎◌, [], ◌∷◌, ◌++◌, Some, Result, Ok, Err}
 use Rattle.term_enums.specs.declared.Variance.{Variance}
-use Rattle.term_enums.specs.declared.Variance.TheVariants.{Covariant, Contravariant}
 use Rattle.relation_terms.specs.Heads.{type_sort}
 use Rattle.relation_terms.specs.Trees.{Tree}
 use Rattle.relation_folds.specs.declared.error.RelateFault.{RelateFault}
@@ -11,20 +10,14 @@ use Rattle.relation_contexts.specs.declared.relate.Step.{Step}
 use Rattle.relation_contexts.specs.declared.relate.Step.TheVariants.{Done}
 use Rattle.relation_contexts.specs.AliasGoals.{alias_at}
 use Rattle.relation_contexts.specs.Errors.{IsReadAs, HaveNoError}
-use Rattle.relation_contexts.specs.Goals.{goal_of, subtype_predicate}
+use Rattle.relation_contexts.specs.Goals.{goal_of}
 use Rattle.relation_contexts.specs.Lawful.{State, Manners}
 use Rattle.relation_contexts.specs.Relation.{IsAlias, sort_of}
 use Rattle.relation_contexts.specs.Resolving.{IsShallow}
 use Rattle.relation_contexts.specs.Settings.{Settings, LeavesAliases}
 use Rattle.relation_contexts.specs.Stores.{Store}
 use Rattle.type_relations.specs.Combining.{IsTyVar, IsNoTyVar}
-
--- What is asked of two type variables that are related at a variance: at covariance that the first is a subtype of the
--- second, and the first is the expected one; at contravariance that the second is one of the first, which is expected.
-abbrev pub subtype_at : Variance → Tree → Tree → Option Tree
-subtype_at Covariant a b = Some (subtype_predicate true a b)
-subtype_at Contravariant a b = Some (subtype_predicate false b a)
-subtype_at v a b = None
+use Rattle.type_relations.specs.Emitting.{subtype_at}
 
 -- What is asked of two types, as they are read at once, and nothing but that: of two type variables that the one is a
 -- subtype of the other; and where aliases are left to goals, of an alias and another type, neither of them an error or a

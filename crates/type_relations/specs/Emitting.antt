@@ -1,6 +1,7 @@
 -- What contracts see of a relation that registers goals, over a context.
-use Rattle.std.specs.Prelude.{◌≡◌, Bool, List, [], ◌∷◌, ◌++◌, Some, map, IsTrue, IfSome, IfOk, Result, Ok, Err}
+use Rattle.std.specs.Prelude.{◌≡◌, Bool, true, false, List, [], ◌∷◌, ◌++◌, Option, Some, None, map, IsTrue, IfSome, IfOk, Result, Ok, Err}
 use Rattle.term_enums.specs.declared.Variance.{Variance}
+use Rattle.term_enums.specs.declared.Variance.TheVariants.{Covariant, Contravariant}
 use Rattle.relation_terms.specs.declared.terms.keys.PredicateKey.{PredicateKey}
 use Rattle.relation_terms.specs.declared.terms.keys.RegionKey.{RegionKey}
 use Rattle.relation_terms.specs.declared.terms.keys.TyKey.{TyKey}
@@ -22,6 +23,13 @@ use Rattle.relation_contexts.specs.Steps.{AddsConstraint}
 abbrev pub with_goals : {A F : Type 0} → List Goal → List Goal → Result A F → List Goal
 with_goals before goals (Ok x) = before ++ goals
 with_goals before goals (Err f) = before
+
+-- What is asked of two type variables that are related at a variance: at covariance that the first is a subtype of the
+-- second, and the first is the expected one; at contravariance that the second is one of the first, which is expected.
+abbrev pub subtype_at : Variance → Tree → Tree → Option Tree
+subtype_at Covariant a b = Some (subtype_predicate true a b)
+subtype_at Contravariant a b = Some (subtype_predicate false b a)
+subtype_at v a b = None
 
 module _ {Key Id Name : Type 0} where
   -- An interner knows a predicate.
@@ -81,6 +89,12 @@ module _ {Key Id Name : Type 0} where
   RegistersAlias r q a b result =
       IfSome (alias_at r.ambient ((r.meaning).ty a) ((r.meaning).ty b)) (λ p. RegistersGoal r q p result)
 
+  -- So was what is asked of two type variables at the ambient variance.
+  abbrev pub RegistersSubtype : {A F : Type 0} → State Key Id Name → State Key Id Name → TyKey Key → TyKey Key →
+      Result A F → Type 0
+  RegistersSubtype r q a b result =
+      IfSome (subtype_at r.ambient ((r.meaning).ty a) ((r.meaning).ty b)) (λ p. RegistersGoal r q p result)
+
 -- Between what a context is before a call and after it.
 module _ {Key Id Name : Type 0} (c d : Context Key Id Name) where
   -- What two regions that are related at a variance are asked for was recorded.
@@ -95,6 +109,11 @@ module _ {Key Id Name : Type 0} (c d : Context Key Id Name) where
   abbrev pub MakesSubtype : {E : Type 0} → Bool → TyKey Key → TyKey Key → Result (PredicateKey Key) E → Type 0
   MakesSubtype a_is_expected a b result = IfOk result (λ p.
       (d.meaning).predicate p ≡ subtype_predicate a_is_expected ((c.meaning).ty a) ((c.meaning).ty b))
+
+  -- What is asked of two type variables at a variance was made, or was not.
+  abbrev pub MakesSubtypeAt : {E : Type 0} → Variance → TyKey Key → TyKey Key → Result (PredicateKey Key) E → Type 0
+  MakesSubtypeAt v a b result = IfOk result (λ p.
+      subtype_at v ((c.meaning).ty a) ((c.meaning).ty b) ≡ Some ((d.meaning).predicate p))
 
   -- That of two terms, one an alias, both are one or in order, was made; what is asked of two types at a variance; or that
   -- too much was met; or none was.

@@ -1,5 +1,5 @@
 -- Trait references, predicates of traits and alias terms are equal exactly where their trees are.
-use Rattle.std.proofs.Common.{◌≡◌, ◌&&◌, Bool, true, false, IsTrue, refl, sym, ap, ap₂, ◌∙◌}
+use Rattle.std.proofs.Common.{◌≡◌, ◌&&◌, Bool, true, false, IsTrue, refl, sym, ap₂, ◌∙◌}
 use Rattle.std.proofs.lemmas.Bool.{and_parts, false≢true}
 use Rattle.std.specs.Cmp.Derive.{both_true}
 use Rattle.term_enums.specs.declared.PredicatePolarity.{PredicatePolarity}

@@ -20,10 +20,10 @@ use Rattle.relation_contexts.specs.declared.relate.Step.{Step}
 use Rattle.type_relations.specs.declared.relate.args.ArgVariances.{ArgVariances}
 use Rattle.type_relations.specs.Arguments.{args_head, AreOverItem}
 use Rattle.relation_contexts.specs.Constraints.{constraint_at, asked_constraints}
-use Rattle.relation_contexts.specs.Lawful.{State, Manners, Asked, Related, RelatedAs, RelatedForms, Shown, Stepped, Noted, items_in}
+use Rattle.relation_contexts.specs.Lawful.{State, Manners, Asked, Related, RelatedForms, Shown, Stepped, Noted, items_in}
 use Rattle.relation_contexts.specs.Making.{Made, over, const_over}
 use Rattle.relation_contexts.specs.Parts.{IsFormed, IsFormedConst, head_of, const_head_of}
-use Rattle.relation_contexts.specs.Relation.{at, plain, part_at}
+use Rattle.relation_contexts.specs.Relation.{plain, part_at}
 use Rattle.type_relations.specs.Alone.{RelatesAlone, StepsAlone}
 
 module _ {Key Id Name : Type 0} where

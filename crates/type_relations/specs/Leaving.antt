@@ -1,9 +1,9 @@
 -- What a type is to relating before its parts are looked at, and which pairs are left to goals.
-use Rattle.std.specs.Prelude.{◌≡◌, ◌≢◌, ◌⊎◌, ℕ}
+use Rattle.std.specs.Prelude.{◌≡◌, ◌⊎◌, ℕ}
 use Rattle.relation_terms.specs.declared.terms.keys.ConstKey.{ConstKey}
 use Rattle.relation_terms.specs.Heads.{VarKind, variable}
 use Rattle.relation_terms.specs.Trees.{Tree, leaf}
-use Rattle.relation_contexts.specs.Errors.{HaveNoError, IsOpaque, IsOpaqueBeside, IsLeftToGoal}
+use Rattle.relation_contexts.specs.Errors.{IsOpaque, IsOpaqueBeside, IsLeftToGoal}
 use Rattle.relation_contexts.specs.Lawful.{State}
 use Rattle.relation_contexts.specs.Relation.{IsError, IsAlias}
 use Rattle.relation_contexts.specs.Settings.{Settings, LeavesAliases, LeavesOpaque}

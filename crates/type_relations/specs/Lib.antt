@@ -39,7 +39,6 @@ pub use Rattle.relation_contexts.specs.StepLaws
 pub use Rattle.relation_contexts.specs.ErasureLaws
 pub use Rattle.relation_contexts.specs.StoreLaws
 pub use Rattle.relation_contexts.specs.Bound
-pub use Rattle.relation_contexts.specs.Covered
 pub use Rattle.relation_contexts.specs.Measures
 pub use Rattle.relation_contexts.specs.Parts
 pub use Rattle.relation_contexts.specs.OneUniverse

@@ -24,7 +24,7 @@ use Rattle.relation_contexts.specs.OneUniverse.{IsPairOf, KeepsUniverseOf, all_u
 use Rattle.relation_contexts.specs.Relation.{at}
 use Rattle.relation_contexts.specs.Errors.{ErrorOf}
 use Rattle.relation_contexts.specs.Agreeing.{Agree}
-use Rattle.relation_contexts.specs.Covered.{IsCovered}
+use Rattle.relation_contexts.specs.Bound.{BindByLists}
 use Rattle.relation_contexts.specs.Lawful.{items_of}
 use Rattle.type_relations.specs.Arguments.{related_tree}
 use Rattle.relation_contexts.specs.Contexts.{Context, DoesNothing, RegistersGoals}
@@ -44,9 +44,9 @@ module _ {Key Id Name A : Type 0} (c : Context Key Id Name) (over : Option Head)
     abbrev pub KnowsTerm : A → Type 0
     KnowsTerm x = IsTrue (known (term_in c over tree x))
 
-    -- It may be related: it is of forms that have rules.
+    -- It may be related: its binders bind by their lists.
     abbrev pub TakesTerm : A → Type 0
-    TakesTerm x = IsCovered (term_in c over tree x)
+    TakesTerm x = BindByLists (term_in c over tree x)
 
     -- The variables in it are the context's, and nothing in it is of a later universe or escapes a binder.
     abbrev pub HasTerm : A → Type 0

@@ -3,7 +3,6 @@
 ghost use Rattle.std.specs.Prelude.{◌≡◌, IsTrue, IsFalse, IfOk, OnOk};
 ghost use Rattle.relation_terms.specs.Trees.{known, leaf};
 ghost use Rattle.relation_terms.specs.Parts.{part_tree};
-ghost use Rattle.relation_contexts.specs.Covered.{IsCovered};
 ghost use Rattle.relation_contexts.specs.Stores.{InContext};
 ghost use Rattle.relation_reference.specs.Tables.{IsLawful};
 ghost use Rattle.relation_reference.specs.RefCtxt.{store_in, part_term};
@@ -94,7 +93,6 @@ impl<I: Interner> RefCtxt<I> {
         requires lawful { IsLawful (I.meaning self.now.interner) self.now.inner }
         requires term_known { IsTrue (known (part_tree (I.meaning self.now.interner) term.now)) }
         requires term_in { InContext (store_in I.meaning self.now) (part_term I.meaning self.now term.now) }
-        requires term_covered { IsCovered (part_tree (I.meaning self.now.interner) term.now) }
         ensures is { IsTrue result → HasObstacle (vid_kind target.now.vid) (vid_number target.now.vid)
             target.now.universe.0 (part_tree (I.meaning self.now.interner) term.now) }
         ensures is_not { IsFalse result → (l : _) → part_tree (I.meaning self.now.interner) term.now ≡ leaf l →
@@ -119,7 +117,6 @@ impl<I: Interner> RefCtxt<I> {
         requires lawful { IsLawful (I.meaning self.now.interner) self.now.inner }
         requires term_known { IsTrue (known (part_tree (I.meaning self.now.interner) term.now)) }
         requires term_in { InContext (store_in I.meaning self.now) (part_term I.meaning self.now term.now) }
-        requires term_covered { IsCovered (part_tree (I.meaning self.now.interner) term.now) }
         requires clear { AreClear ⟦<TyKey<I::Key> as PartialEq>⟧.eq (I.meaning self.now.interner)
             (vid_kind target.now.vid) (vid_number target.now.vid) target.now.universe.0 clear.old }
         ensures tells { IfOk result (TellsClear (vid_kind target.now.vid) (vid_number target.now.vid)
@@ -151,7 +148,6 @@ impl<I: Interner> RefCtxt<I> {
         requires lawful { IsLawful (I.meaning self.now.interner) self.now.inner }
         requires term_known { IsTrue (known (part_tree (I.meaning self.now.interner) term.now)) }
         requires term_in { InContext (store_in I.meaning self.now) (part_term I.meaning self.now term.now) }
-        requires term_covered { IsCovered (part_tree (I.meaning self.now.interner) term.now) }
         requires clear { AreClear ⟦<TyKey<I::Key> as PartialEq>⟧.eq (I.meaning self.now.interner)
             (vid_kind target.now.vid) (vid_number target.now.vid) target.now.universe.0 clear.old }
         ensures tells { IfOk result (TellsClear (vid_kind target.now.vid) (vid_number target.now.vid)
@@ -183,7 +179,6 @@ impl<I: Interner> RefCtxt<I> {
         requires lawful { IsLawful (I.meaning self.now.interner) self.now.inner }
         requires term_known { IsTrue (known (part_tree (I.meaning self.now.interner) term.now)) }
         requires term_in { InContext (store_in I.meaning self.now) (part_term I.meaning self.now term.now) }
-        requires term_covered { IsCovered (part_tree (I.meaning self.now.interner) term.now) }
         requires clear { AreClear ⟦<TyKey<I::Key> as PartialEq>⟧.eq (I.meaning self.now.interner)
             (vid_kind target.now.vid) (vid_number target.now.vid) target.now.universe.0 clear.old }
         ensures tells { IfOk result (TellsGivesWay target.now.aliases (vid_kind target.now.vid)

@@ -8,7 +8,6 @@ ghost use Rattle.relation_terms.specs.Heads.{type_sort, type_var, region_var};
 ghost use Rattle.relation_terms.specs.Trees.{Tree, leaf, known};
 ghost use Rattle.relation_terms.specs.Meaning.{Extends};
 ghost use Rattle.relation_terms.specs.Parts.{part_tree, part_sort};
-ghost use Rattle.relation_contexts.specs.Covered.{IsCovered};
 ghost use Rattle.relation_contexts.specs.Stores.{InContext, IsMade, universe_of};
 ghost use Rattle.relation_contexts.specs.Steps.{MakesVariable};
 ghost use Rattle.relation_contexts.specs.Generalising.{Met, any_part, new_part, MakesUnbound};
@@ -238,7 +237,6 @@ impl<I: Interner> RefCtxt<I> {
         requires lawful { IsLawful (I.meaning self.now.interner) self.now.inner }
         requires term_known { IsTrue (known (part_tree (I.meaning self.now.interner) term.now)) }
         requires term_in { InContext (store_in I.meaning self.now) (part_term I.meaning self.now term.now) }
-        requires term_covered { IsCovered (part_tree (I.meaning self.now.interner) term.now) }
         ensures { IsFate (store_in I.meaning self.now) (vid_kind target.now.vid) (vid_number target.now.vid)
             target.now.universe.0 variance (part_tree (I.meaning self.now.interner) term.now)
             (new_kind term.now) result }
@@ -327,7 +325,6 @@ impl<I: Interner> RefCtxt<I> {
         requires below { target.now.universe.0 ≤ self.old.inner.universe.0 }
         requires term_known { IsTrue (known (part_tree (I.meaning self.old.interner) term.now)) }
         requires term_in { InContext (store_in I.meaning self.old) (part_term I.meaning self.old term.now) }
-        requires term_covered { IsCovered (part_tree (I.meaning self.old.interner) term.now) }
         requires sure { IsSure ⟦<MetKey<I::Key> as PartialEq>⟧.eq (I.meaning self.old.interner) met.old }
         requires clear { AreClear ⟦<TyKey<I::Key> as PartialEq>⟧.eq (I.meaning self.old.interner)
             (vid_kind target.now.vid) (vid_number target.now.vid) target.now.universe.0 clear.old }
@@ -362,7 +359,6 @@ impl<I: Interner> RefCtxt<I> {
         requires below { target.now.universe.0 ≤ self.old.inner.universe.0 }
         requires term_known { IsTrue (known (part_tree (I.meaning self.old.interner) term.now)) }
         requires term_in { InContext (store_in I.meaning self.old) (part_term I.meaning self.old term.now) }
-        requires term_covered { IsCovered (part_tree (I.meaning self.old.interner) term.now) }
         requires sure { IsSure ⟦<MetKey<I::Key> as PartialEq>⟧.eq (I.meaning self.old.interner) met.old }
         requires clear { AreClear ⟦<TyKey<I::Key> as PartialEq>⟧.eq (I.meaning self.old.interner)
             (vid_kind target.now.vid) (vid_number target.now.vid) target.now.universe.0 clear.old }
@@ -399,7 +395,6 @@ impl<I: Interner> RefCtxt<I> {
         requires below { target.now.universe.0 ≤ self.old.inner.universe.0 }
         requires term_known { IsTrue (known (part_tree (I.meaning self.old.interner) term.now)) }
         requires term_in { InContext (store_in I.meaning self.old) (part_term I.meaning self.old term.now) }
-        requires term_covered { IsCovered (part_tree (I.meaning self.old.interner) term.now) }
         requires sure { IsSure ⟦<MetKey<I::Key> as PartialEq>⟧.eq (I.meaning self.old.interner) met.old }
         requires clear { AreClear ⟦<TyKey<I::Key> as PartialEq>⟧.eq (I.meaning self.old.interner)
             (vid_kind target.now.vid) (vid_number target.now.vid) target.now.universe.0 clear.old }
@@ -440,7 +435,6 @@ impl<I: Interner> RefCtxt<I> {
         requires universe { vid_universe (store_in I.meaning self.old) target.now.vid ≡ target.now.universe.0 }
         requires source_known { IsTrue (known (part_tree (I.meaning self.old.interner) source.now)) }
         requires source_in { InContext (store_in I.meaning self.old) (part_term I.meaning self.old source.now) }
-        requires source_covered { IsCovered (part_tree (I.meaning self.old.interner) source.now) }
         ensures lawful { IsLawful (I.meaning self.new.interner) self.new.inner }
         ensures grown { Extends (I.meaning self.old.interner) (I.meaning self.new.interner) }
         ensures makes { MakesUnbound target.now.universe.0 (store_in I.meaning self.old) (store_in I.meaning self.new) }

@@ -23,7 +23,7 @@ impl<I: Interner> InferCtxtLike for RefCtxt<I> {
     type Interner = I;
 
     ghost use Rattle.std.specs.Prelude.{refl};
-    ghost use Rattle.relation_reference.specs.Tables.{covered_bindings};
+    ghost use Rattle.relation_reference.specs.Tables.{bindings_by_lists};
 
     ghost state = { λ c. context_in I.meaning c };
 
@@ -249,7 +249,7 @@ impl<I: Interner> InferCtxtLike for RefCtxt<I> {
 
     ghost numbers = { λ c l. l.numbers_name_nothing };
 
-    ghost covered = { λ c l. covered_bindings (I.meaning c.interner) c.inner l };
+    ghost bound_by_lists = { λ c l. bindings_by_lists (I.meaning c.interner) c.inner l };
 
     ghost unmarked = { λ c l. l.sub_rooted.fresh };
 }

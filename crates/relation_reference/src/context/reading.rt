@@ -2,7 +2,7 @@
 ghost use Rattle.std.specs.Prelude.{◌<◌, IsTrue, IfSome, IfNone, length};
 ghost use Rattle.relation_terms.specs.Heads.{type_var, int_var, float_var, const_var};
 ghost use Rattle.relation_terms.specs.Trees.{known};
-ghost use Rattle.relation_contexts.specs.Covered.{IsCovered};
+ghost use Rattle.relation_contexts.specs.Bound.{BindByLists};
 ghost use Rattle.relation_contexts.specs.Stores.{InContext};
 ghost use Rattle.relation_contexts.specs.Steps.{LeadsTo};
 ghost use Rattle.relation_contexts.specs.Resolving.{IsRoot, IsShallow, IsShallowTy, IsShallowConst};
@@ -87,7 +87,7 @@ impl<I: Interner> RefCtxt<I> {
         ensures sure { IsTrue (known ((I.meaning self.now.interner).ty result)) }
         ensures reads { VarReadsAsTy (I.meaning self.now.interner) self.now.inner type_var var.0 result }
         ensures shallow { IsShallowTy (store_in I.meaning self.now) ((I.meaning self.now.interner).ty result) }
-        ensures covered { IsCovered ((I.meaning self.now.interner).ty result) }
+        ensures by_lists { BindByLists ((I.meaning self.now.interner).ty result) }
     {
         ty_of_var(&self.interner, &self.inner, var)
     }
@@ -99,7 +99,7 @@ impl<I: Interner> RefCtxt<I> {
         ensures sure { IsTrue (known ((I.meaning self.now.interner).ty result)) }
         ensures reads { VarReadsAsTy (I.meaning self.now.interner) self.now.inner int_var var.0 result }
         ensures shallow { IsShallow (store_in I.meaning self.now) ((I.meaning self.now.interner).ty result) }
-        ensures covered { IsCovered ((I.meaning self.now.interner).ty result) }
+        ensures by_lists { BindByLists ((I.meaning self.now.interner).ty result) }
     {
         ty_of_int_var(&self.interner, &self.inner, var)
     }
@@ -111,7 +111,7 @@ impl<I: Interner> RefCtxt<I> {
         ensures sure { IsTrue (known ((I.meaning self.now.interner).ty result)) }
         ensures reads { VarReadsAsTy (I.meaning self.now.interner) self.now.inner float_var var.0 result }
         ensures shallow { IsShallow (store_in I.meaning self.now) ((I.meaning self.now.interner).ty result) }
-        ensures covered { IsCovered ((I.meaning self.now.interner).ty result) }
+        ensures by_lists { BindByLists ((I.meaning self.now.interner).ty result) }
     {
         ty_of_float_var(&self.interner, &self.inner, var)
     }
@@ -123,7 +123,7 @@ impl<I: Interner> RefCtxt<I> {
         ensures sure { IsTrue (known ((I.meaning self.now.interner).const_ result)) }
         ensures reads { VarReadsAsConst (I.meaning self.now.interner) self.now.inner var.0 result }
         ensures shallow { IsShallowConst (store_in I.meaning self.now) ((I.meaning self.now.interner).const_ result) }
-        ensures covered { IsCovered ((I.meaning self.now.interner).const_ result) }
+        ensures by_lists { BindByLists ((I.meaning self.now.interner).const_ result) }
     {
         const_of_var(&self.interner, &self.inner, var)
     }
@@ -138,7 +138,8 @@ impl<I: Interner> RefCtxt<I> {
         ensures reads { TyReadsAs (I.meaning self.now.interner) self.now.inner ty.now result }
         ensures resolves { TyResolves (I.meaning self.now.interner) self.now.inner ty.now result }
         ensures shallow { IsShallow (store_in I.meaning self.now) ((I.meaning self.now.interner).ty result) }
-        ensures covered { let m = I.meaning self.now.interner in IsCovered (m.ty ty.now) → IsCovered (m.ty result) }
+        ensures by_lists { let m = I.meaning self.now.interner in
+            BindByLists (m.ty ty.now) → BindByLists (m.ty result) }
     {
         shallow_resolve(&self.interner, &self.inner, ty)
     }
@@ -152,7 +153,8 @@ impl<I: Interner> RefCtxt<I> {
         ensures reads { ConstReadsAs (I.meaning self.now.interner) self.now.inner constant.now result }
         ensures resolves { ConstResolves (I.meaning self.now.interner) self.now.inner constant.now result }
         ensures shallow { IsShallowConst (store_in I.meaning self.now) ((I.meaning self.now.interner).const_ result) }
-        ensures covered { let t = const_term I.meaning self.now in IsCovered (t constant.now) → IsCovered (t result) }
+        ensures by_lists { let t = const_term I.meaning self.now in
+            BindByLists (t constant.now) → BindByLists (t result) }
     {
         shallow_resolve_const(&self.interner, &self.inner, constant)
     }

@@ -2,7 +2,7 @@
 ghost use Rattle.std.specs.Prelude.{◌<◌, IsTrue, IfSome, IfNone, length};
 ghost use Rattle.relation_terms.specs.Heads.{type_var, int_var, float_var};
 ghost use Rattle.relation_terms.specs.Trees.{known};
-ghost use Rattle.relation_contexts.specs.Covered.{IsCovered};
+ghost use Rattle.relation_contexts.specs.Bound.{BindByLists};
 ghost use Rattle.relation_contexts.specs.Stores.{InContext};
 ghost use Rattle.relation_contexts.specs.Resolving.{IsShallow, IsShallowTy, IsShallowConst};
 ghost use Rattle.relation_reference.specs.Tables.{store_of, IsLawful};
@@ -21,7 +21,7 @@ fn found_ty<I: Interner>(cx: &I, inner: &InferCtxtInner<I::Key>, var: TyVid) -> 
     ensures sure { IsTrue (known ((I.meaning cx.now).ty result)) }
     ensures found { FindsTy (I.meaning cx.now) inner.now var.0 result }
     ensures reads { VarReadsAsTy (I.meaning cx.now) inner.now type_var var.0 result }
-    ensures covered { IsCovered ((I.meaning cx.now).ty result) }
+    ensures by_lists { BindByLists ((I.meaning cx.now).ty result) }
 {
     let _ = cx;
     term_of(&inner.types, var.0)
@@ -53,7 +53,7 @@ pub(crate) fn ty_of_var<I: Interner>(cx: &I, inner: &InferCtxtInner<I::Key>, var
     ensures sure { IsTrue (known ((I.meaning cx.now).ty result)) }
     ensures reads { VarReadsAsTy (I.meaning cx.now) inner.now type_var var.0 result }
     ensures shallow { IsShallowTy (store_of (I.meaning cx.now) inner.now) ((I.meaning cx.now).ty result) }
-    ensures covered { IsCovered ((I.meaning cx.now).ty result) }
+    ensures by_lists { BindByLists ((I.meaning cx.now).ty result) }
 {
     let mut found = found_ty(cx, inner, var);
     while let Some(next) = written_var(cx, inner, &found) {
@@ -73,7 +73,7 @@ pub(crate) fn ty_of_int_var<I: Interner>(
     ensures sure { IsTrue (known ((I.meaning cx.now).ty result)) }
     ensures reads { VarReadsAsTy (I.meaning cx.now) inner.now int_var var.0 result }
     ensures shallow { IsShallow (store_of (I.meaning cx.now) inner.now) ((I.meaning cx.now).ty result) }
-    ensures covered { IsCovered ((I.meaning cx.now).ty result) }
+    ensures by_lists { BindByLists ((I.meaning cx.now).ty result) }
 {
     let _ = cx;
     term_of(&inner.ints, var.0)
@@ -90,7 +90,7 @@ pub(crate) fn ty_of_float_var<I: Interner>(
     ensures sure { IsTrue (known ((I.meaning cx.now).ty result)) }
     ensures reads { VarReadsAsTy (I.meaning cx.now) inner.now float_var var.0 result }
     ensures shallow { IsShallow (store_of (I.meaning cx.now) inner.now) ((I.meaning cx.now).ty result) }
-    ensures covered { IsCovered ((I.meaning cx.now).ty result) }
+    ensures by_lists { BindByLists ((I.meaning cx.now).ty result) }
 {
     let _ = cx;
     term_of(&inner.floats, var.0)
@@ -107,7 +107,7 @@ pub(crate) fn const_of_var<I: Interner>(
     ensures sure { IsTrue (known ((I.meaning cx.now).const_ result)) }
     ensures reads { VarReadsAsConst (I.meaning cx.now) inner.now var.0 result }
     ensures shallow { IsShallowConst (store_of (I.meaning cx.now) inner.now) ((I.meaning cx.now).const_ result) }
-    ensures covered { IsCovered ((I.meaning cx.now).const_ result) }
+    ensures by_lists { BindByLists ((I.meaning cx.now).const_ result) }
 {
     let _ = cx;
     term_of(&inner.consts, var.0)
@@ -121,7 +121,7 @@ pub(crate) fn shallow_ty<I: Interner>(cx: &I, inner: &InferCtxtInner<I::Key>, ty
     ensures sure { IsTrue (known ((I.meaning cx.now).ty result)) }
     ensures reads { TyReadsAs (I.meaning cx.now) inner.now ty.now result }
     ensures shallow { IsShallowTy (store_of (I.meaning cx.now) inner.now) ((I.meaning cx.now).ty result) }
-    ensures covered { let m = I.meaning cx.now in IsCovered (m.ty ty.now) → IsCovered (m.ty result) }
+    ensures by_lists { let m = I.meaning cx.now in BindByLists (m.ty ty.now) → BindByLists (m.ty result) }
 {
     let Some(var) = ty_vid(&cx.ty_kind(ty)) else {
         return *ty;
@@ -142,7 +142,7 @@ pub(crate) fn shallow_number<I: Interner>(
     ensures sure { IsTrue (known ((I.meaning cx.now).ty result)) }
     ensures reads { TyReadsAs (I.meaning cx.now) inner.now ty.now result }
     ensures shallow { IsShallow (store_of (I.meaning cx.now) inner.now) ((I.meaning cx.now).ty result) }
-    ensures covered { let m = I.meaning cx.now in IsCovered (m.ty ty.now) → IsCovered (m.ty result) }
+    ensures by_lists { let m = I.meaning cx.now in BindByLists (m.ty ty.now) → BindByLists (m.ty result) }
 {
     let kind = cx.ty_kind(ty);
     if let Some(number) = int_vid(&kind) {
@@ -168,7 +168,7 @@ pub(crate) fn shallow_resolve<I: Interner>(
     ensures reads { TyReadsAs (I.meaning cx.now) inner.now ty.now result }
     ensures resolves { TyResolves (I.meaning cx.now) inner.now ty.now result }
     ensures shallow { IsShallow (store_of (I.meaning cx.now) inner.now) ((I.meaning cx.now).ty result) }
-    ensures covered { let m = I.meaning cx.now in IsCovered (m.ty ty.now) → IsCovered (m.ty result) }
+    ensures by_lists { let m = I.meaning cx.now in BindByLists (m.ty ty.now) → BindByLists (m.ty result) }
 {
     let found = shallow_ty(cx, inner, ty);
     shallow_number(cx, inner, &found)
@@ -187,7 +187,7 @@ pub(crate) fn shallow_resolve_const<I: Interner>(
     ensures reads { ConstReadsAs (I.meaning cx.now) inner.now constant.now result }
     ensures resolves { ConstResolves (I.meaning cx.now) inner.now constant.now result }
     ensures shallow { IsShallowConst (store_of (I.meaning cx.now) inner.now) ((I.meaning cx.now).const_ result) }
-    ensures covered { let m = I.meaning cx.now in IsCovered (m.const_ constant.now) → IsCovered (m.const_ result) }
+    ensures by_lists { let m = I.meaning cx.now in BindByLists (m.const_ constant.now) → BindByLists (m.const_ result) }
 {
     let Some(var) = const_vid(&cx.const_kind(constant)) else {
         return *constant;

@@ -5,7 +5,6 @@ ghost use Rattle.relation_terms.specs.Heads.{const_sort};
 ghost use Rattle.relation_terms.specs.Trees.{known, count, IsTerm};
 ghost use Rattle.relation_terms.specs.Parts.{part_tree, parts_of};
 ghost use Rattle.relation_contexts.specs.Lawful.{items_of};
-ghost use Rattle.relation_contexts.specs.Covered.{IsCovered};
 ghost use Rattle.relation_contexts.specs.Generalising.{variance_of_part};
 
 use relation_contexts::variances::{alias_argument_variance, declared_variance, pointee};
@@ -16,7 +15,6 @@ use relation_terms::terms::{
 // How the part of a type at a place varies with the type.
 fn mode_in_ty<I: Interner>(cx: &I, ty: &Ty<I>, i: usize) -> Variance
     requires ty_known { IsTrue (known ((I.meaning cx.now).ty ty.now)) }
-    requires ty_covered { IsCovered ((I.meaning cx.now).ty ty.now) }
     requires in_bounds { i < count (parts_of ((I.meaning cx.now).ty ty.now)) }
     ensures { let t = (I.meaning cx.now).ty ty.now in
         (v : Variance) → variance_of_part (items_of (I.meaning cx.now)) t i v ≡ xform v result }
@@ -61,7 +59,6 @@ pub(crate) fn variance_of<I: Interner>(
     variance: Variance,
 ) -> Variance
     requires term_known { IsTrue (known (part_tree (I.meaning cx.now) term.now)) }
-    requires term_covered { IsCovered (part_tree (I.meaning cx.now) term.now) }
     requires in_bounds { i < count (parts_of (part_tree (I.meaning cx.now) term.now)) }
     ensures { let m = I.meaning cx.now in result ≡ variance_of_part (items_of m) (part_tree m term.now) i variance }
 {

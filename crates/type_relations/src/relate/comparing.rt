@@ -8,7 +8,6 @@ ghost use Rattle.type_relations.specs.Forms.{tree_outline, NamesItems};
 ghost use Rattle.type_relations.specs.Comparing.{AreOfOneItem};
 ghost use Rattle.type_relations.specs.declared.relate.forms.Form.TheVariants.{Leaf, Tuple, Alias};
 ghost use Rattle.relation_contexts.specs.Parts.{IsFormedConst};
-ghost use Rattle.relation_contexts.specs.Covered.{IsCovered};
 
 mod bodies;
 mod items;
@@ -100,10 +99,10 @@ fn compare_leaves<I: Interner>(cx: &I, a: &Ty<I>, b: &Ty<I>) -> Result<(), TypeE
 
 /// Answers `Ok` where two constants are of one outermost form, with as many parts, which are not compared. Parameters
 /// are of one form where they have one index, values where their value trees are one or have as many branches, and
-/// unevaluated constants where they are of one item. The types of values are not looked at.
+/// unevaluated constants where they are of one item; placeholders, and what stands for a variable, where they are one.
+/// The types of values are not looked at.
 ///
-/// The interner has to know both constants, which are neither variables nor errors, and of forms that relating has rules
-/// for; it is only read.
+/// The interner has to know both constants, which are neither variables nor errors; it is only read.
 ///
 /// Answers `Mismatch` for two expressions of unlike operations or with unlike numbers of arguments, and
 /// `ConstMismatch`, which names the left one first, for all other constants that differ. Upstream these cases stand in
@@ -111,8 +110,6 @@ fn compare_leaves<I: Interner>(cx: &I, a: &Ty<I>, b: &Ty<I>) -> Result<(), TypeE
 pub fn compare_consts<I: Interner>(cx: &I, a: &Const<I>, b: &Const<I>) -> Result<(), TypeErrorOf<I>>
     requires a_known { IsTrue (known ((I.meaning cx.now).const_ a.now)) }
     requires b_known { IsTrue (known ((I.meaning cx.now).const_ b.now)) }
-    requires a_covered { IsCovered ((I.meaning cx.now).const_ a.now) }
-    requires b_covered { IsCovered ((I.meaning cx.now).const_ b.now) }
     requires a_formed { IsFormedConst ((I.meaning cx.now).const_ a.now) }
     requires b_formed { IsFormedConst ((I.meaning cx.now).const_ b.now) }
     requires no_error { HaveNoError ((I.meaning cx.now).const_ a.now) ((I.meaning cx.now).const_ b.now) }
@@ -130,15 +127,13 @@ pub fn compare_consts<I: Interner>(cx: &I, a: &Const<I>, b: &Const<I>) -> Result
             }
             Ok(())
         }
-        ConstKind::Placeholder(_) => {
+        ConstKind::Placeholder(_) | ConstKind::Infer(_) => {
             if a != b {
                 return Err(unlike_consts::<I>(a, b));
             }
             Ok(())
         }
-        ConstKind::Infer(_) | ConstKind::Bound(..) | ConstKind::Error(_) => {
-            Err(unlike_consts::<I>(a, b))
-        }
+        ConstKind::Bound(..) | ConstKind::Error(_) => Err(unlike_consts::<I>(a, b)),
         ConstKind::Value(_, value) => {
             let ConstKind::Value(_, other) = right else {
                 return Err(unlike_consts::<I>(a, b));

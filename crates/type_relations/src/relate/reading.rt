@@ -7,7 +7,6 @@ ghost use Rattle.relation_terms.specs.Meaning.{arg_tree};
 ghost use Rattle.relation_terms.specs.Parts.{part_tree, part_sort};
 ghost use Rattle.relation_contexts.specs.Relation.{part_at, IsError};
 ghost use Rattle.relation_contexts.specs.Errors.{FormError, ConstFormError, AreOfOneForm, AreOfOneConst, HaveNoError};
-ghost use Rattle.relation_contexts.specs.Covered.{IsCovered};
 ghost use Rattle.relation_contexts.specs.Parts.{IsFormedConst, IsByParts, IsComparedPart, parts_of, const_parts_of};
 ghost use Rattle.relation_contexts.specs.Parts.{head_of};
 ghost use Rattle.type_relations.specs.Keyed.{AskedTys, ShownTys, NotedTys, AreOver, part_in, const_part_in, declared_in};
@@ -63,8 +62,6 @@ pub(crate) fn compare_consts_of<I: Interner, R: TypeRelation<I>>(
 ) -> Result<(), TypeErrorOf<I>>
     requires a_known { IsTrue (known ((R.state r.now).meaning.const_ a.now)) }
     requires b_known { IsTrue (known ((R.state r.now).meaning.const_ b.now)) }
-    requires a_covered { IsCovered ((R.state r.now).meaning.const_ a.now) }
-    requires b_covered { IsCovered ((R.state r.now).meaning.const_ b.now) }
     requires a_formed { IsFormedConst ((R.state r.now).meaning.const_ a.now) }
     requires b_formed { IsFormedConst ((R.state r.now).meaning.const_ b.now) }
     requires no_error { HaveNoError ((R.state r.now).meaning.const_ a.now) ((R.state r.now).meaning.const_ b.now) }

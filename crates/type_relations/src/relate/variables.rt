@@ -4,7 +4,6 @@ ghost use Rattle.relation_terms.specs.Flags.{has_non_region_infer};
 ghost use Rattle.relation_terms.specs.Trees.{known};
 ghost use Rattle.relation_contexts.specs.Contexts.{KnowsTy, KnowsConst};
 ghost use Rattle.relation_contexts.specs.Relation.{StaysWithin};
-ghost use Rattle.relation_contexts.specs.Covered.{IsCovered};
 ghost use Rattle.relation_contexts.specs.Parts.{IsFormed, IsFormedConst};
 ghost use Rattle.type_relations.specs.Variables.{MeansTyVar, MeansConstVar, one_has_variable};
 
@@ -29,7 +28,7 @@ pub(crate) fn const_var<Infcx: InferCtxtLike>(
     requires { KnowsConst (Infcx.state infcx.now) constant.now }
     ensures is { IfSome result (λ v. MeansConstVar (Infcx.state infcx.now) constant.now v.0) }
     ensures formed { let t = ((Infcx.state infcx.now).meaning).const_ constant.now in
-        IfNone result (IsCovered t → StaysWithin 0 t → IsFormedConst t) }
+        IfNone result (StaysWithin 0 t → IsFormedConst t) }
 {
     const_vid(&infcx.cx().const_kind(constant))
 }
@@ -39,7 +38,7 @@ fn has_no_variable<I: Interner>(cx: &I, ty: &Ty<I>) -> bool
     requires { IsTrue (known ((I.meaning cx.now).ty ty.now)) }
     ensures tells { result ≡ not (has_non_region_infer ((I.meaning cx.now).ty ty.now)) }
     ensures formed { let t = (I.meaning cx.now).ty ty.now in
-        IsTrue result → IsCovered t → StaysWithin 0 t → IsFormed t }
+        IsTrue result → StaysWithin 0 t → IsFormed t }
 {
     !cx.ty_flags(ty).has_non_region_infer
 }
@@ -55,9 +54,9 @@ pub(crate) fn have_no_variable<Infcx: InferCtxtLike>(
     ensures none { IsTrue result → one_has_variable (Infcx.state infcx.now).meaning a.now b.now ≡ false }
     ensures one { IsFalse result → IsTrue (one_has_variable (Infcx.state infcx.now).meaning a.now b.now) }
     ensures a_formed { let t = ((Infcx.state infcx.now).meaning).ty a.now in
-        IsTrue result → IsCovered t → StaysWithin 0 t → IsFormed t }
+        IsTrue result → StaysWithin 0 t → IsFormed t }
     ensures b_formed { let t = ((Infcx.state infcx.now).meaning).ty b.now in
-        IsTrue result → IsCovered t → StaysWithin 0 t → IsFormed t }
+        IsTrue result → StaysWithin 0 t → IsFormed t }
 {
     let cx = infcx.cx();
     if !has_no_variable(cx, a) {

@@ -44,7 +44,7 @@ relate-requires-clause-lhs_taken g c =
     let a = c.args.lhs.1 in
     let h = c.requires.lhs_ready in
     let ready = as_arguments a (n.args t) (one_ready (m.args t) (n.args t) a (e.args t h.0) h) in
-    ((ready.1).1 (asked_left _ _ _ _ c.in_default.ensures)).covered
+    ((ready.1).1 (asked_left _ _ _ _ c.in_default.ensures)).by_lists
 
 pub relate-requires-clause-lhs_in : goal.relate-requires-clause-lhs_in
 relate-requires-clause-lhs_in g c =
@@ -80,7 +80,7 @@ relate-requires-clause-rhs_taken g c =
     let a = c.args.rhs.1 in
     let h = c.requires.rhs_ready in
     let ready = as_arguments a (n.args t) (one_ready (m.args t) (n.args t) a (e.args t h.0) h) in
-    ((ready.1).1 (asked_right _ _ _ _ c.in_default.ensures)).covered
+    ((ready.1).1 (asked_right _ _ _ _ c.in_default.ensures)).by_lists
 
 pub relate-requires-clause-rhs_in : goal.relate-requires-clause-rhs_in
 relate-requires-clause-rhs_in g c =

@@ -21,7 +21,7 @@ relate-requires-clause-lhs_taken g c =
     let r : IsReady a (m.ty t) = c.in-Some.ensures m c.requires.ready in
     let ready = one_ready (m.ty t) (n.ty t) a (e.ty t r.0) r in
     let may = c.in_default-refusal.ensures in
-    ((ready.1).1 (asked_left _ _ _ _ may)).covered
+    ((ready.1).1 (asked_left _ _ _ _ may)).by_lists
 
 pub relate-requires-clause-rhs_taken : goal.relate-requires-clause-rhs_taken
 relate-requires-clause-rhs_taken g c =
@@ -33,7 +33,7 @@ relate-requires-clause-rhs_taken g c =
     let r : IsReady b (m.ty t) = c.in-Some-type_of.ensures m c.requires.ready in
     let ready = one_ready (m.ty t) (n.ty t) b (e.ty t r.0) r in
     let may = c.in_default-refusal.ensures in
-    ((ready.1).1 (asked_right _ _ _ _ may)).covered
+    ((ready.1).1 (asked_right _ _ _ _ may)).by_lists
 
 pub relate-requires-clause-lhs_in : goal.relate-requires-clause-lhs_in
 relate-requires-clause-lhs_in g c =

@@ -5,4 +5,4 @@ pub returns-clause-concrete : goal.returns-clause-concrete
 returns-clause-concrete g c =
     let m = g.I.Interner.meaning c.args.cx.now in
     let parts = returns_concrete _ (m.ty c.args.output.now) c.in_ok-inputs_and_output.ensures.is c.requires in
-    (tt, ((tt, parts.0), (parts.1, tt)))
+    (parts.0, (parts.1, tt))

@@ -7,4 +7,4 @@ make_object-requires-2 g c =
 
 pub asks-requires-clause-lhs : goal.asks-requires-clause-lhs
 asks-requires-clause-lhs g c =
-    (tt, predicates_concrete c.in_ok-right.ensures.grown c.in_ok-left.left c.in_ok-left.ensures.concrete)
+    predicates_concrete c.in_ok-right.ensures.grown c.in_ok-left.left c.in_ok-left.ensures.concrete

@@ -9,6 +9,6 @@ pub related-answer-requires-clause-asked : goal.related-answer-requires-clause-a
 related-answer-requires-clause-asked g c =
     let m = g.I.Interner.meaning c.make_lists.new.cx in
     let reference = node (trait_ref (m.id c.args.id)) (m.args c.in_ok-lists.lists.left) in
-    let sure : IsConcrete reference = (tt, c.in_ok-lists.ensures.left) in
+    let sure : IsConcrete reference = c.in_ok-lists.ensures.left in
     concrete_asked m _ (node (trait_clause Positive) (cons reference nil))
-    (node (trait_clause Negative) (cons reference nil)) (tt, (sure, tt)) (tt, (sure, tt))
+    (node (trait_clause Negative) (cons reference nil)) (sure, tt) (sure, tt)

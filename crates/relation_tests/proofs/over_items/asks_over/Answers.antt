@@ -9,7 +9,7 @@ related_over-requires-clause-asked c =
     let m = meaning_in c.args.cx in
     let over = c.args.over.now in
     let all = concrete_as (node (adt (m.id c.args.item)) (m.args over.args)) (m.ty over.ty) c.requires.is
-    (tt, c.requires.concrete) in
+    c.requires.concrete in
     concrete_asked m c.args.variance (m.ty over.ty) (m.ty over.ty) all all
 
 pub related_over-requires-clause-args_known : goal.related_over-requires-clause-args_known

@@ -8,4 +8,4 @@ related_args-requires-clause-asked g c =
     let m = g.I.Interner.meaning c.args.cx in
     let h = adt (m.id c.args.def_id.now.0) in
     concrete_asked m c.args.variance (node h (m.args c.args.a.now)) (node h (m.args c.args.b.now))
-    (tt, c.requires.lhs) (tt, c.requires.rhs)
+    c.requires.lhs c.requires.rhs

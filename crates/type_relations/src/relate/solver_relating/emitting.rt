@@ -1,9 +1,13 @@
 //! The relation of a context registers goals.
 ghost use Rattle.std.specs.Prelude.{◌≡◌, map, IfOk};
+ghost use Rattle.relation_contexts.specs.Contexts.{KnowsTy};
+ghost use Rattle.relation_contexts.specs.Goals.{IsDirected};
+ghost use Rattle.type_relations.specs.Emitting.{KnowsPredicate};
+ghost use Rattle.type_relations.specs.SolverTerms.{SolverAddsGoal, SolverRegistersSubtype, solver_through};
 
 use crate::relate::StructurallyRelateAliases;
 use crate::relate::combine::PredicateEmittingRelation;
-use crate::relate::solver_relating::recording::alias_asked;
+use crate::relate::solver_relating::recording::{alias_asked, subtype_asked};
 use crate::relate::solver_relating::{GoalOf, SolverRelating};
 use relation_contexts::infer_ctxt::InferCtxtLike;
 use relation_terms::terms::{
@@ -28,6 +32,37 @@ fn goals_of<X: Copy>(
         })?;
     }
     Ok(goals)
+}
+
+impl<'a, Infcx: InferCtxtLike> SolverRelating<'a, Infcx> {
+    // Registers a predicate in the relation's environment, behind the goals that there are.
+    fn register(&mut self, predicate: Predicate<Infcx::Interner>) -> Result<(), OutOfMemory>
+        requires lawful { (solver_through Infcx.state self.old).lawful }
+        requires known { KnowsPredicate (Infcx.state self.old.infcx.now).meaning predicate }
+        ensures { SolverAddsGoal Infcx.state self.old self.new predicate result }
+    {
+        self.goals.push(Goal {
+            param_env: self.param_env,
+            predicate,
+        })?;
+        Ok(())
+    }
+
+    // Registers what is asked of two type variables at the ambient variance: that the one is a subtype of the other.
+    pub(super) fn register_subtype_predicate(
+        &mut self,
+        a: &Ty<Infcx::Interner>,
+        b: &Ty<Infcx::Interner>,
+    ) -> Result<(), OutOfMemory>
+        requires lawful { (solver_through Infcx.state self.old).lawful }
+        requires directed { IsDirected self.old.ambient_variance }
+        requires a_known { KnowsTy (Infcx.state self.old.infcx.now) a.now }
+        requires b_known { KnowsTy (Infcx.state self.old.infcx.now) b.now }
+        ensures { SolverRegistersSubtype Infcx.state self.old self.new a.now b.now result }
+    {
+        let predicate = subtype_asked(&mut *self.infcx, self.ambient_variance, a, b)?;
+        self.register(predicate)
+    }
 }
 
 impl<'a, Infcx: InferCtxtLike> PredicateEmittingRelation<Infcx> for SolverRelating<'a, Infcx> {
@@ -65,11 +100,7 @@ impl<'a, Infcx: InferCtxtLike> PredicateEmittingRelation<Infcx> for SolverRelati
         b: &Ty<Infcx::Interner>,
     ) -> Result<(), OutOfMemory> {
         let predicate = alias_asked(&mut *self.infcx, self.ambient_variance, a, b)?;
-        self.goals.push(Goal {
-            param_env: self.param_env,
-            predicate,
-        })?;
-        Ok(())
+        self.register(predicate)
     }
 
     fn register_goals(&mut self, goals: &[GoalOf<Infcx::Interner>]) -> Result<(), OutOfMemory> {

@@ -9,9 +9,9 @@ ghost use Rattle.relation_contexts.specs.Measures.{Goes};
 ghost use Rattle.relation_contexts.specs.Contexts.{KnowsTy, HasRegion};
 ghost use Rattle.relation_contexts.specs.ContextCalls.{Stands, Grows};
 ghost use Rattle.relation_contexts.specs.Goals.{subtype_predicate, well_formed_predicate, alias_relate_predicate};
-ghost use Rattle.relation_contexts.specs.Goals.{ambiguous_predicate};
+ghost use Rattle.relation_contexts.specs.Goals.{ambiguous_predicate, IsDirected};
 ghost use Rattle.type_relations.specs.Emitting.{AddsAsked, MakesSubtype, MakesWellFormed, MakesAliasRelate};
-ghost use Rattle.type_relations.specs.Emitting.{MakesAliasAt, MakesAmbiguous, RegionsStayBuilt};
+ghost use Rattle.type_relations.specs.Emitting.{MakesAliasAt, MakesAmbiguous, MakesSubtypeAt, RegionsStayBuilt};
 
 use relation_contexts::infer_ctxt::{InferCtxtLike, VisibleForLeakCheck};
 use relation_terms::predicate::{ClauseKind, PredicateKind, SubtypePredicate};
@@ -72,7 +72,7 @@ fn mk_subtype<I: Interner>(
 }
 
 // The same over a context's interner. Nothing is recorded.
-pub(crate) fn subtype_predicate<Infcx: InferCtxtLike>(
+fn subtype_predicate<Infcx: InferCtxtLike>(
     infcx: &mut Infcx,
     a_is_expected: bool,
     a: &Ty<Infcx::Interner>,
@@ -87,6 +87,29 @@ pub(crate) fn subtype_predicate<Infcx: InferCtxtLike>(
 {
     infcx.interner_grows();
     mk_subtype(infcx.cx_mut(), a_is_expected, a, b)
+}
+
+// What is asked of two type variables at a variance that is directed. Nothing is recorded.
+pub(crate) fn subtype_asked<Infcx: InferCtxtLike>(
+    infcx: &mut Infcx,
+    variance: Variance,
+    a: &Ty<Infcx::Interner>,
+    b: &Ty<Infcx::Interner>,
+) -> Result<Predicate<Infcx::Interner>, OutOfMemory>
+    requires lawful { (Infcx.state infcx.old).lawful }
+    requires directed { IsDirected variance }
+    requires a_known { KnowsTy (Infcx.state infcx.old) a.now }
+    requires b_known { KnowsTy (Infcx.state infcx.old) b.now }
+    ensures grows { Grows (Infcx.state infcx.old) (Infcx.state infcx.new) }
+    ensures same_store { (Infcx.state infcx.new).store ≡ (Infcx.state infcx.old).store }
+    ensures made { MakesSubtypeAt (Infcx.state infcx.old) (Infcx.state infcx.new) variance a.now b.now result }
+{
+    match variance {
+        Variance::Covariant => subtype_predicate(infcx, true, a, b),
+        Variance::Contravariant => subtype_predicate(infcx, false, b, a),
+        Variance::Invariant => unreachable!(),
+        Variance::Bivariant => unreachable!(),
+    }
 }
 
 // The predicate, under a binder of no variables, that a type is well formed.

@@ -27,15 +27,13 @@ use crate::relate::solver_relating::SolverRelating;
 use crate::relate::solver_relating::opening::{
     enter_and_instantiate, enters_first, enters_second, one_uses,
 };
-use crate::relate::solver_relating::recording::{relate_regions, subtype_predicate};
+use crate::relate::solver_relating::recording::relate_regions;
 use crate::relate::variables::{have_no_variable, ty_var};
 use relation_contexts::infer_ctxt::{BinderOf, InferCtxtLike};
 use relation_folds::error::RelateResult;
 use relation_folds::fold::TypeFoldable;
 use relation_folds::visit::TypeVisitable;
-use relation_terms::terms::{
-    Const, GenericArgs, Goal, Interner, ItemOf, Region, Ty, TyVid, Variance,
-};
+use relation_terms::terms::{Const, GenericArgs, Interner, ItemOf, Region, Ty, TyVid, Variance};
 
 impl<'a, Infcx: InferCtxtLike> SolverRelating<'a, Infcx> {
     /// What comes of two types, before their parts are related. Of one and the same it is the answer. Two in one of which
@@ -204,30 +202,12 @@ impl<'a, Infcx: InferCtxtLike> SolverRelating<'a, Infcx> {
         ensures stepped { SolverSteps Infcx.state self.old self.new a.now b.now result }
         ensures combines { SolverCombinesVars Infcx.state self.old self.new a.now b.now result }
     {
-        let param_env = self.param_env;
-        match self.ambient_variance {
-            Variance::Covariant => {
-                let predicate = subtype_predicate(&mut *self.infcx, true, a, b)?;
-                self.goals.push(Goal {
-                    param_env,
-                    predicate,
-                })?;
-                Ok(Step::Done(*a))
-            }
-            Variance::Contravariant => {
-                let predicate = subtype_predicate(&mut *self.infcx, false, b, a)?;
-                self.goals.push(Goal {
-                    param_env,
-                    predicate,
-                })?;
-                Ok(Step::Done(*a))
-            }
-            Variance::Invariant => {
-                self.infcx.equate_ty_vids_raw(x, y);
-                Ok(Step::Done(*a))
-            }
-            Variance::Bivariant => unreachable!(),
+        if let Variance::Invariant = self.ambient_variance {
+            self.infcx.equate_ty_vids_raw(x, y);
+            return Ok(Step::Done(*a));
         }
+        self.register_subtype_predicate(a, b)?;
+        Ok(Step::Done(*a))
     }
 
     /// What comes of two constants, before their parts are related, as `super_combine_consts` says it.

@@ -1,7 +1,7 @@
 use Rattle.std.proofs.Common.{refl}
 use Rattle.relation_terms.specs.Heads.{const_var}
 use Rattle.relation_reference.specs.Tables.{store_of}
-use Rattle.relation_reference.proofs.Reading.{root_made, found, found_known, found_read, found_covered, found_const_shallow}
+use Rattle.relation_reference.proofs.Reading.{root_made, found, found_known, found_read, found_by_lists, found_const_shallow}
 use Rattle.relation_reference.proofs.Writing.{table_made, table_of_entries}
 use Rattle.relation_reference.proofs.context.shallow.const_of_var.Goals as goal
 
@@ -27,5 +27,5 @@ returns g c =
       sure = found_known m x l const_var v u f;
       reads = found_read m x l const_var v u f;
       shallow = found_const_shallow m x l v u f;
-      covered = found_covered m x l const_var v u f;
+      by_lists = found_by_lists m x l const_var v u f;
     }

@@ -41,5 +41,5 @@ returns g c =
       reads = itself refl;
       shallow = number_shallow m c.ty_kind-kind.result (m.ty c.args.ty.now) c.ty_kind-kind.ensures (store_of m c.args.inner.now)
           c.requires.ty_shallow c.in_default.ensures.is_none c.in_default-float_vid.ensures.is_none;
-      covered = λ d. d;
+      by_lists = λ d. d;
     }

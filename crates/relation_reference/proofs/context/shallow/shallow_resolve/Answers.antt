@@ -22,5 +22,5 @@ returns g c =
       reads = reads;
       resolves = read_resolves st c.requires.lawful.sound t (m.ty c.shallow_number.result) reads;
       shallow = f.shallow;
-      covered = λ d. f.covered (e.covered d);
+      by_lists = λ d. f.by_lists (e.by_lists d);
     }

@@ -25,7 +25,7 @@ returns-in_default g c =
       reads = itself refl;
       resolves = read_resolves st c.requires.lawful.sound t t (itself refl);
       shallow = const_shallow m c.const_kind.result t c.const_kind.ensures st c.in_default.ensures.is_none;
-      covered = λ d. d;
+      by_lists = λ d. d;
     }
 
 pub returns : goal.returns
@@ -41,5 +41,5 @@ returns g c =
       reads = reads;
       resolves = read_resolves st c.requires.lawful.sound t u reads;
       shallow = e.shallow;
-      covered = λ d. e.covered;
+      by_lists = λ d. e.by_lists;
     }

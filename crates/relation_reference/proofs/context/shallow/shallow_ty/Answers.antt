@@ -22,7 +22,7 @@ returns-in_default g c =
       reads = itself refl;
       shallow = type_shallow m c.ty_kind.result (m.ty c.args.ty.now) c.ty_kind.ensures (store_of m c.args.inner.now)
           c.in_default.ensures.is_none;
-      covered = λ d. d;
+      by_lists = λ d. d;
     }
 
 pub returns : goal.returns
@@ -34,5 +34,5 @@ returns g c =
       reads = read_for (store_of m c.args.inner.now) (m.ty c.args.ty.now) (m.ty c.ty_of_var.result) _
           (c.ty_kind.ensures ∙ ap (kind_tree m) c.in-Some.ensures.is) e.reads;
       shallow = e.shallow;
-      covered = λ d. e.covered;
+      by_lists = λ d. e.by_lists;
     }

@@ -1,7 +1,7 @@
 use Rattle.std.proofs.Common.{refl}
 use Rattle.relation_terms.specs.Heads.{int_var}
 use Rattle.relation_reference.specs.Tables.{store_of}
-use Rattle.relation_reference.proofs.Reading.{root_made, found, found_known, found_read, found_covered, found_shallow}
+use Rattle.relation_reference.proofs.Reading.{root_made, found, found_known, found_read, found_by_lists, found_shallow}
 use Rattle.relation_reference.proofs.Writing.{table_made, table_of_entries}
 use Rattle.relation_reference.proofs.context.shallow.ty_of_int_var.Goals as goal
 
@@ -27,5 +27,5 @@ returns g c =
       sure = found_known m x l int_var v u f;
       reads = found_read m x l int_var v u f;
       shallow = found_shallow m x l int_var v u (λ h. h.0) f;
-      covered = found_covered m x l int_var v u f;
+      by_lists = found_by_lists m x l int_var v u f;
     }

@@ -19,7 +19,7 @@ loop-next-init g c =
       is_in = context_read st c.requires.lawful.sound (leaf (variable type_var c.args.var.0)) (m.ty c.found_ty-found.result)
           h.reads (context_made st type_var c.args.var.0 (table_made m.ty x.types.items c.args.var.0 c.requires.made));
       reads = h.reads;
-      covered = h.covered;
+      by_lists = h.by_lists;
     }
 
 pub loop-next-smaller : goal.loop-next-smaller
@@ -43,5 +43,5 @@ loop-next-preserved g c =
       sure = h.sure;
       is_in = context_read st c.requires.lawful.sound t u on inv.is_in;
       reads = read_then st (leaf (variable type_var c.args.var.0)) t u inv.reads on;
-      covered = h.covered;
+      by_lists = h.by_lists;
     }

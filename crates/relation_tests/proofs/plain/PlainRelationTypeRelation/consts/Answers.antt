@@ -14,10 +14,10 @@ returns g c =
     let k = c.requires.asked in
     parts_left plain_manner IsFormedConst (plain_state m c.args.self.now.ambient cs) m.const_
     c.args.a.now c.args.b.now c.args.a.now c.args.b.now refl refl k
-    (formed_const m c.const_kind-a.result c.args.a.now c.const_kind-a.ensures k.left_taken.1
+    (formed_const m c.const_kind-a.result c.args.a.now c.const_kind-a.ensures
     (term_within (plain_store m cs) (m.const_ c.args.a.now) k.left_in)
     (no_const_variable m cs (m.const_ c.args.a.now) k.left_in))
-    (formed_const m c.const_kind-b.result c.args.b.now c.const_kind-b.ensures k.right_taken.1
+    (formed_const m c.const_kind-b.result c.args.b.now c.const_kind-b.ensures
     (term_within (plain_store m cs) (m.const_ c.args.b.now) k.right_in)
     (no_const_variable m cs (m.const_ c.args.b.now) k.right_in))
     (none_left (m.const_ c.args.a.now) (m.const_ c.args.b.now))

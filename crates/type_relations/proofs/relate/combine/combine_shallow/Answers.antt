@@ -91,7 +91,7 @@ returns-clause-stepped g c =
     (subst (λ l. MeetsConsts (g.Infcx.InferCtxtLike.state c.infcx_mut.result.now).meaning d.meaning
     (g.Infcx.InferCtxtLike.state c.infcx_mut.result.now).store d.store l a b res) c.structurally_relate_aliases-aliases.ensures
     c.meet_consts.ensures.combines) in
-    let covered = g.met.Infcx.InferCtxtLike.covered z grows.lawful in
+    let by_lists = g.met.Infcx.InferCtxtLike.bound_by_lists z grows.lawful in
     let sorts : (t : _) → IsTrue (known ((s.meaning).const_ t)) → IsTerm const_sort ((s.meaning).const_ t) =
     λ t h. const_sorted of t ((g.met.Infcx.Interner.Interner.sorted cx).const_ t) h in
     let a_shallow = subst₂ (λ st m. IsShallowConst st (m.const_ a)) o.store o.meaning c.requires.a_shallow in
@@ -102,9 +102,9 @@ returns-clause-stepped g c =
     λ f h. const_not_left r.kept.settings ((r.meaning).const_ a) ((r.meaning).const_ b) f h (not_left (f, h)) in
     let left_there = subst (λ m. IsFormedConst (m.const_ a) → IsFormedConst (m.const_ b) →
     IsLeftToGoal r.kept.settings (m.const_ a) (m.const_ b) → ⊥) o.meaning left in
-    let w = c.context_grows.ensures z grows (consts_later r s d o c.requires.decides sound grows.extends numbers covered
+    let w = c.context_grows.ensures z grows (consts_later r s d o c.requires.decides sound grows.extends numbers by_lists
     a b res c.requires.asked sorts a_shallow b_shallow left_there meets) c.requires.lawful in
-    consts_stepped r s d o c.requires.decides sound grows.extends numbers covered a b res c.requires.asked sorts a_shallow
+    consts_stepped r s d o c.requires.decides sound grows.extends numbers by_lists a b res c.requires.asked sorts a_shallow
     b_shallow left_there meets q w
 
 pub returns-clause-combines : goal.returns-clause-combines
@@ -132,7 +132,7 @@ returns-clause-combines g c =
     (subst (λ l. MeetsConsts (g.Infcx.InferCtxtLike.state c.infcx_mut.result.now).meaning d.meaning
     (g.Infcx.InferCtxtLike.state c.infcx_mut.result.now).store d.store l a b res) c.structurally_relate_aliases-aliases.ensures
     c.meet_consts.ensures.combines) in
-    let covered = g.met.Infcx.InferCtxtLike.covered z grows.lawful in
+    let by_lists = g.met.Infcx.InferCtxtLike.bound_by_lists z grows.lawful in
     let sorts : (t : _) → IsTrue (known ((s.meaning).const_ t)) → IsTerm const_sort ((s.meaning).const_ t) =
     λ t h. const_sorted of t ((g.met.Infcx.Interner.Interner.sorted cx).const_ t) h in
     let a_shallow = subst₂ (λ st m. IsShallowConst st (m.const_ a)) o.store o.meaning c.requires.a_shallow in
@@ -143,6 +143,6 @@ returns-clause-combines g c =
     λ f h. const_not_left r.kept.settings ((r.meaning).const_ a) ((r.meaning).const_ b) f h (not_left (f, h)) in
     let left_there = subst (λ m. IsFormedConst (m.const_ a) → IsFormedConst (m.const_ b) →
     IsLeftToGoal r.kept.settings (m.const_ a) (m.const_ b) → ⊥) o.meaning left in
-    let w = c.context_grows.ensures z grows (consts_later r s d o c.requires.decides sound grows.extends numbers covered
+    let w = c.context_grows.ensures z grows (consts_later r s d o c.requires.decides sound grows.extends numbers by_lists
     a b res c.requires.asked sorts a_shallow b_shallow left_there meets) c.requires.lawful in
     not_left_consts left w.goals (consts_met r q s d o w a b res meets)

@@ -3,9 +3,9 @@ use Rattle.relation_terms.specs.Heads.{const_param, expression, unevaluated}
 use Rattle.relation_terms.specs.Meaning.{const_tree, arg_tree}
 use Rattle.std.proofs.lemmas.Bool.{false≢true}
 use Rattle.relation_terms.specs.Trees.{node, count}
-use Rattle.relation_terms.specs.declared.terms.const_kind.ConstKind.TheVariants.{Param, Placeholder, Value, Expr, Unevaluated}
-use Rattle.relation_contexts.specs.Errors.{values, expressions, over_arguments, const_parameters, operations, one_const_leaf}
-use Rattle.type_relations.proofs.Comparing.{ruled_const, unlike_const, param_const, value_const, expr_const, item_const}
+use Rattle.relation_terms.specs.declared.terms.const_kind.ConstKind.TheVariants.{Param, Value, Expr, Unevaluated}
+use Rattle.relation_contexts.specs.Errors.{values, expressions, over_arguments, const_parameters, operations}
+use Rattle.type_relations.proofs.Comparing.{ruled_const, leaf_const, one_leaf_const, unlike_const, param_const, value_const, expr_const, item_const}
 use Rattle.relation_terms.proofs.Members.{list_count}
 use Rattle.type_relations.proofs.relate.comparing.compare_consts.Goals as goal
 
@@ -39,15 +39,17 @@ returns-then-ne-clause-errors g c =
     let m = g.I.Interner.meaning c.args.cx.now in
     let same = g.met.I.Interner.same_const c.args.cx.now c.args.a.now c.args.b.now c.requires.a_known c.requires.b_known in
     let differ : m.const_ c.args.a.now ≢ m.const_ c.args.b.now = (λ e. (let d = same.1 e in let t = c.if-ne.true in let h = c.ne.ensures in let k = c.if-ne.ensures in search rules)) in
-    unlike_const m (Placeholder c.in-Placeholder.field-0) c.const_kind-right.result c.args.a.now c.args.b.now c.unlike_consts-then-ne.result (c.const_kind.ensures ∙ ap (const_tree m) c.in-Placeholder.is) c.const_kind-right.ensures c.requires.no_error (λ e. differ ((c.const_kind.ensures ∙ ap (const_tree m) c.in-Placeholder.is) ∙ e ∙ sym c.const_kind-right.ensures)) c.unlike_consts-then-ne.ensures
+    unlike_const m c.const_kind.result c.const_kind-right.result c.args.a.now c.args.b.now c.unlike_consts-then-ne.result
+    c.const_kind.ensures c.const_kind-right.ensures c.requires.no_error (leaf_const m c.const_kind.result
+    c.const_kind-right.result c.in-Placeholder.is (λ e. differ (c.const_kind.ensures ∙ e ∙ sym c.const_kind-right.ensures)))
+    c.unlike_consts-then-ne.ensures
 
 pub returns-else-ne-clause-alike : goal.returns-else-ne-clause-alike
 returns-else-ne-clause-alike g c =
     let m = g.I.Interner.meaning c.args.cx.now in
     let same = g.met.I.Interner.same_const c.args.cx.now c.args.a.now c.args.b.now c.requires.a_known c.requires.b_known in
-    let one : m.const_ c.args.a.now ≡ m.const_ c.args.b.now = same.0 (let t = c.if-ne.false in let h = c.ne.ensures in let k = c.if-ne.ensures in search rules) in
-    let left = c.const_kind.ensures ∙ ap (const_tree m) c.in-Placeholder.is in
-    one_const_leaf left (sym one ∙ left)
+    one_leaf_const m c.const_kind.result (m.const_ c.args.a.now) (m.const_ c.args.b.now) c.in-Placeholder.is
+    c.const_kind.ensures (same.0 (let t = c.if-ne.false in let h = c.ne.ensures in let k = c.if-ne.ensures in search rules))
 
 pub returns-then-not-is_one_value-clause-errors : goal.returns-then-not-is_one_value-clause-errors
 returns-then-not-is_one_value-clause-errors g c =
@@ -103,8 +105,8 @@ returns-else-not-is_one_item-clause-alike g c =
     ((c.const_kind-right.ensures ∙ ap (const_tree m) c.in-Unevaluated-right.is)
     ∙ ap (λ i. node (unevaluated i) (m.args (c.in-Unevaluated-right.other).args)) (sym one.0)) one.1
 
-pub returns-in-Infer-clause-errors : goal.returns-in-Infer-clause-errors
-returns-in-Infer-clause-errors g c =
+pub returns-in-Bound-clause-errors : goal.returns-in-Bound-clause-errors
+returns-in-Bound-clause-errors g c =
     let m = g.I.Interner.meaning c.args.cx.now in
     absurd (ruled_const m c.const_kind.result (m.const_ c.args.a.now) c.const_kind.ensures c.requires.a_formed
-    c.requires.a_covered c.requires.no_error.0 c.in-Infer.is)
+    c.requires.no_error.0 c.in-Bound.is)

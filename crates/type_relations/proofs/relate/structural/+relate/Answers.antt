@@ -47,7 +47,7 @@ use Rattle.relation_contexts.proofs.Passing.{turned, unlooked, step_done, retold
 use Rattle.relation_contexts.proofs.Registered.{directed_from}
 use Rattle.relation_contexts.specs.Goals.{IsDirected}
 use Rattle.relation_contexts.proofs.Passing.{form_made, forms_met, step_refused}
-use Rattle.relation_contexts.proofs.Covered.{form_not_left}
+use Rattle.relation_contexts.proofs.Leaving.{form_not_left}
 use Rattle.type_relations.proofs.Fronts.{Fronted, fronted_none, fronted_next}
 use Rattle.type_relations.proofs.Structural.{types_related, types_stopped, ty_refused}
 use Rattle.type_relations.proofs.StructuralConsts.{consts_related, consts_stopped, const_refused, itself_related, left_error, right_error, types_differ, consts_differ, kinds_differ}

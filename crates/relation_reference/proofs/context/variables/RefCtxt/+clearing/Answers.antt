@@ -3,12 +3,10 @@ use Rattle.relation_terms.specs.Trees.{size, count, nth}
 use Rattle.relation_terms.specs.Parts.{part_tree, parts_of}
 use Rattle.relation_terms.specs.Interning.{Sorted}
 use Rattle.relation_terms.proofs.Parts.{sort_known}
-use Rattle.relation_contexts.specs.Covered.{IsCovered}
 use Rattle.relation_contexts.specs.Stores.{InContext}
 use Rattle.relation_reference.specs.Tables.{store_of}
 use Rattle.relation_reference.specs.Remembering.{vid_kind, vid_number}
 use Rattle.relation_reference.proofs.Clearing.{told_clear, told_stops, parts_clear_next, part_stops, whole_clear}
-use Rattle.relation_reference.proofs.Covering.{part_covered}
 use Rattle.relation_reference.proofs.Outside.{part_smaller}
 use Rattle.relation_reference.proofs.Resolving.{context_part, some_sort}
 use Rattle.relation_reference.proofs.context.variables.RefCtxt.+clearing.Goals as goal
@@ -32,7 +30,6 @@ are_parts_clear-is_clear-requires g t' c κs within =
     let there = c.part-next.ensures.sure in
     let is_in : InContext st (part_tree m z) =
     subst (InContext st) (sym at) (context_part st t j c.parts_count-i-end.ensures.is_list c.requires.term_in) in
-    let covered = subst IsCovered (sym at) (part_covered t j below c.requires.term_covered) in
     let found = c.loop-i.invariant.found in
     search rules
 

@@ -7,7 +7,6 @@ use Rattle.relation_terms.proofs.Stays.{knows_as, extends_on, stays_same, stays_
 use Rattle.relation_terms.specs.Interning.{Sorted}
 use Rattle.relation_terms.proofs.Parts.{sort_known, stays_part}
 use Rattle.relation_terms.specs.declared.terms.part_kind.Part.TheVariants.{Ty}
-use Rattle.relation_contexts.specs.Covered.{IsCovered}
 use Rattle.relation_contexts.specs.Lawful.{items_of}
 use Rattle.relation_contexts.proofs.Passing.{as_err}
 use Rattle.relation_contexts.specs.Stores.{InContext}
@@ -25,7 +24,6 @@ use Rattle.relation_reference.proofs.Clearing.{ty_eq, clear_grows, told_gives_wa
 use Rattle.relation_reference.specs.RefCtxt.{store_in}
 use Rattle.relation_reference.proofs.Marking.{gives_type, marks_grow}
 use Rattle.relation_reference.proofs.Outside.{part_smaller}
-use Rattle.relation_reference.proofs.Covering.{part_covered}
 use Rattle.relation_reference.proofs.Generalising.{memory_answers, stops_cycle, stops_beyond, gives_answers, generalises_no_type, not_type_sort, went_none, went_next, went_stops, went_whole, made_context, recalled_answers, met_answers, fails_any, fails_on, fit_push, becomes_grows, alias_answers, none_kept}
 use Rattle.relation_reference.proofs.context.variables.RefCtxt.+generalise.Goals as goal
 
@@ -95,7 +93,6 @@ generalise_new-generalise_parts-requires g t' c κs within =
     let low = c.requires.below in
     let there = c.requires.term_known in
     let is_in = c.requires.term_in in
-    let covered = c.requires.term_covered in
     let sure = c.requires.sure in
     let found = c.requires.clear in
     let stays = c.in-ByParts.ensures in
@@ -289,7 +286,6 @@ generalise_part-generalise_new-requires g t' c κs within =
     let low = c.requires.below in
     let there = c.requires.term_known in
     let is_in = c.requires.term_in in
-    let covered = c.requires.term_covered in
     let sure = c.requires.sure in
     let found = c.requires.clear in
     search rules
@@ -315,7 +311,6 @@ generalise_part-generalise_new-requires-2 g t' c κs within =
     let low = c.requires.below in
     let there = c.requires.term_known in
     let is_in = c.requires.term_in in
-    let covered = c.requires.term_covered in
     let sure = c.requires.sure in
     let found = c.requires.clear in
     search rules
@@ -443,29 +438,6 @@ generalise_parts-variance_of-at-requires-clause-term_known g t' c =
     let us = list_tree (part_tree n) c.loop-i.parts.items in
     knows_as t (part_tree n p) e c.requires.term_known
 
-pub generalise_parts-variance_of-at-requires-clause-term_covered : goal.generalise_parts-variance_of-at-requires-clause-term_covered
-generalise_parts-variance_of-at-requires-clause-term_covered g t' c =
-    let meaning = g.I.Interner.meaning in
-    let m = meaning c.args.self.now.interner in
-    let eq = met_eq g.I.Key.PartialEq.eq in
-    let k = vid_kind c.args.target.now.vid in
-    let i = vid_number c.args.target.now.vid in
-    let u = c.args.target.now.universe.0 in
-    let al = c.args.target.now.aliases in
-    let sd = side_of c.args.inside in
-    let eqt = ty_eq g.I.Key.PartialEq.eq in
-    let was = store_of m c.args.self.now.inner in
-    let p = c.args.term.now in
-    let t = part_tree m p in
-    let v = c.args.variance in
-    let n = meaning c.loop-i.self.interner in
-    let now = store_of n c.loop-i.self.inner in
-    let inv = c.loop-i.invariant in
-    let e : part_tree n p ≡ t = stays_part inv.grown p c.requires.term_known in
-    let j = c.loop-i.i in
-    let us = list_tree (part_tree n) c.loop-i.parts.items in
-    subst IsCovered (sym e) c.requires.term_covered
-
 pub generalise_parts-variance_of-at-requires-clause-in_bounds : goal.generalise_parts-variance_of-at-requires-clause-in_bounds
 generalise_parts-variance_of-at-requires-clause-in_bounds g t' c =
     let meaning = g.I.Interner.meaning in
@@ -527,7 +499,6 @@ generalise_parts-generalise_part-requires g t' c κs within =
     let there = c.part-next.ensures.sure in
     let is_in : InContext now (part_tree n z) = made_context u was now c.requires.lawful.sound c.requires.below inv.makes (part_tree n z)
     (subst (InContext was) (sym at) (context_part was t j c.parts_count-i-end.ensures.is_list c.requires.term_in)) in
-    let covered = subst IsCovered (sym at) (part_covered t j below c.requires.term_covered) in
     let sure = inv.all in
     let found = inv.found in
     search rules
@@ -544,10 +515,6 @@ pub generalise_new-fate_of-requires-clause-term_in : goal.generalise_new-fate_of
 generalise_new-fate_of-requires-clause-term_in g t' c =
     c.requires.term_in
 
-pub generalise_new-fate_of-requires-clause-term_covered : goal.generalise_new-fate_of-requires-clause-term_covered
-generalise_new-fate_of-requires-clause-term_covered g t' c =
-    c.requires.term_covered
-
 pub generalise_new-alias_gives_way-requires-clause-lawful : goal.generalise_new-alias_gives_way-requires-clause-lawful
 generalise_new-alias_gives_way-requires-clause-lawful g t' c =
     c.requires.lawful
@@ -559,10 +526,6 @@ generalise_new-alias_gives_way-requires-clause-term_known g t' c =
 pub generalise_new-alias_gives_way-requires-clause-term_in : goal.generalise_new-alias_gives_way-requires-clause-term_in
 generalise_new-alias_gives_way-requires-clause-term_in g t' c =
     c.requires.term_in
-
-pub generalise_new-alias_gives_way-requires-clause-term_covered : goal.generalise_new-alias_gives_way-requires-clause-term_covered
-generalise_new-alias_gives_way-requires-clause-term_covered g t' c =
-    c.requires.term_covered
 
 pub generalise_new-alias_gives_way-requires-clause-clear : goal.generalise_new-alias_gives_way-requires-clause-clear
 generalise_new-alias_gives_way-requires-clause-clear g t' c =

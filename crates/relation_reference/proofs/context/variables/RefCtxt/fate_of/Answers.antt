@@ -41,7 +41,7 @@ returns-in_default-placeholder_universe g c =
     let m = g.I.Interner.meaning c.args.self.now.interner in
     let sorted : Sorted m = g.met.I.Interner.sorted c.args.self.now.interner in
     left_stays (store_of m c.args.self.now.inner) (vid_kind c.args.target.now.vid) (vid_number c.args.target.now.vid)
-    c.args.target.now.universe.0 c.args.variance (part_tree m c.args.term.now) c.requires.term_covered
+    c.args.target.now.universe.0 c.args.variance (part_tree m c.args.term.now) c.requires.term_known
     (λ e. not_region c.args.term.now c.in_default.not-Region (sym (sort_known m sorted c.args.term.now c.requires.term_known) ∙ e))
     c.in_default-variable_of.ensures.is_none
     (λ q w i e o. absurd (o (c.in_default-placeholder_universe.ensures.is_none q w i e)))

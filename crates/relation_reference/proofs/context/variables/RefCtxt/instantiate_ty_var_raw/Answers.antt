@@ -15,7 +15,7 @@ use Rattle.relation_reference.specs.Tables.{setup_in, store_of}
 use Rattle.relation_reference.proofs.Comes.{same_record}
 use Rattle.relation_reference.proofs.Marking.{set_back, marks_none, marks_grow, marks_bound}
 use Rattle.relation_reference.proofs.Beside.{types_beside}
-use Rattle.relation_reference.proofs.Instantiating.{resolved_lawful, universe_read, out_of_memory, source_context, source_covered, left_still, made_still, stopped, generalised_here, by_rules, bound_lawful, type_may}
+use Rattle.relation_reference.proofs.Instantiating.{resolved_lawful, universe_read, out_of_memory, source_context, left_still, made_still, stopped, generalised_here, by_rules, bound_lawful, type_may}
 use Rattle.relation_reference.proofs.Writing.{bound_entries, table_made, table_of_entries}
 use Rattle.relation_reference.proofs.context.variables.RefCtxt.instantiate_ty_var_raw.Goals as goal
 
@@ -65,14 +65,6 @@ generalise-requires-clause-source_in g c =
     let n = g.I.Interner.meaning c.resolve_ty.new.self.interner in
     source_context r.grown c.args.self.now.inner c.resolve_ty.new.self.inner r.inner c.requires.lawful (m.ty c.args.source.now) (n.ty c.in_ok-resolved.resolved)
     c.in_ok-resolved.ensures.resolves c.requires.source_in
-
-pub generalise-requires-clause-source_covered : goal.generalise-requires-clause-source_covered
-generalise-requires-clause-source_covered g c =
-    let r = c.resolve_ty.ensures in
-    let m = g.I.Interner.meaning c.args.self.now.interner in
-    let n = g.I.Interner.meaning c.resolve_ty.new.self.interner in
-    source_covered r.grown c.args.self.now.inner c.resolve_ty.new.self.inner r.inner c.requires.lawful (m.ty c.args.source.now) (n.ty c.in_ok-resolved.resolved)
-    c.in_ok-resolved.ensures.resolves c.requires.source_covered
 
 pub returns-in_err-part-clause-rest : goal.returns-in_err-part-clause-rest
 returns-in_err-part-clause-rest g c =
@@ -177,7 +169,7 @@ returns g c =
     let comes = c.in_ok-resolved.ensures.resolves in
     let gen : (last : Stage) × (last.store ≡ store_of o z) × Generalised c.args.structurally_relate_aliases (items_of n) (store_of n w) type_var i (any_part outside c.args.variance) (record { store = store_of n w; met = [] }) full last (o.ty b) = (e.generalised.2.0, e.generalised.2.1, subst (λ a. Generalised c.args.structurally_relate_aliases (items_of n) (store_of n w) type_var i (any_part outside c.args.variance) (record { store = store_of n w; met = [] }) full e.generalised.2.0 a) is e.generalised.2.2) in
     let here = generalised_here o r.grown x w z r.inner l c.args.structurally_relate_aliases type_var i u universe e.makes y (o.ty b) full tt c.args.variance t made c.requires.target_unbound e.lawful beside keys entries c.bind.ensures.universes left comes gen c.requires.source_in sorted in
-    let may = type_may m x l t here c.requires.source_covered in
+    let may = type_may m x l t here c.requires.source_by_lists in
     let rest = marks_bound g.I.Interner.meaning c.args.self.now c.resolve_ty.new.self c.generalise.new.self
     (record { interner = c.generalise.new.self.interner; inner = y }) r.grown r.inner l refl refl refl
     (set_back _ _ i (bound_to (o.ty b)) entries) e.rest in

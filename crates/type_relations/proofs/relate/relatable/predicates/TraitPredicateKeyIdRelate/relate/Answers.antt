@@ -1,4 +1,4 @@
-use Rattle.std.proofs.Common.{rules, ◌≢◌, refl, sym, ap, ap₂, ◌∙◌, subst, Ok, Err}
+use Rattle.std.proofs.Common.{rules, ◌≢◌, refl, sym, ap₂, subst, Err}
 use Rattle.std.proofs.lemmas.Bool.{and_parts}
 use Rattle.std.proofs.Common.{true}
 use Rattle.relation_terms.specs.declared.predicate.kinds.ClauseKind.TheVariants.{Trait}

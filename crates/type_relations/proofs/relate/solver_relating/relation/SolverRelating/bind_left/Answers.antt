@@ -104,7 +104,7 @@ returns-in_err-register_alias_relate_predicate-clause-stepped g c =
     let is = as_err from.result Memory from.ensures.0 from.ensures.1 in
     subst₂ (λ l res. Stepped solver_manner IsFormed was p l t (e.meaning).ty res) (sym c.requires.a_is) (sym is)
     (left_unasked_step was L K still s d h.grows.extends sound (g.met.Infcx.InferCtxtLike.numbers r.infcx.now c.requires.lawful)
-    (g.met.Infcx.InferCtxtLike.covered c.instantiate_ty_var_raw.new.self h.grows.lawful) n m t u k.right_taken.1 k.right_in
+    (g.met.Infcx.InferCtxtLike.bound_by_lists c.instantiate_ty_var_raw.new.self h.grows.lawful) n m t u k.right_taken.1 k.right_in
     k.right_known (ty_sorted of c.args.b.now ((g.met.Infcx.Interner.Interner.sorted cx).ty c.args.b.now) k.right_known)
     r.ambient_variance (λ e. e) i.0 i.1 u_is came.0 came.1 p asked.0 made IsFormed (e.meaning).ty)
 
@@ -183,7 +183,7 @@ returns-in-Some-clause-stepped g c =
     h.grows.extends env (λ y. RegistersGoal {A = Unit {0}} {F = OutOfMemory} y p asked.0 (Ok tt)) there in
     subst (λ l. Stepped solver_manner IsFormed was p l t (e.meaning).ty (Ok (Done c.args.a.now)))
     (sym c.requires.a_is) (left_asks was L K still s d h.grows.extends sound (g.met.Infcx.InferCtxtLike.numbers r.infcx.now c.requires.lawful)
-    (g.met.Infcx.InferCtxtLike.covered c.instantiate_ty_var_raw.new.self h.grows.lawful) n m t u k.right_taken.1 k.right_in
+    (g.met.Infcx.InferCtxtLike.bound_by_lists c.instantiate_ty_var_raw.new.self h.grows.lawful) n m t u k.right_taken.1 k.right_in
     k.right_known (ty_sorted of c.args.b.now ((g.met.Infcx.Interner.Interner.sorted cx).ty c.args.b.now) k.right_known)
     r.ambient_variance (λ e. e) i.0 i.1 u_is came.0 came.1 p asked.0 made IsFormed (e.meaning).ty c.args.a.now asked.1
     (made.extends.ty c.args.a.now (subst (λ y. IsTrue (known y)) (sym (h.grows.extends.ty c.args.a.now k.left_known)) k.left_known) ∙ h.grows.extends.ty c.args.a.now k.left_known ∙ c.requires.a_is))
@@ -254,7 +254,7 @@ returns-clause-stepped g c =
     (still_lawful (held_grows r.structurally_relate_aliases r.infcx.ghost_name s d h.grows) r.goals.items r.param_env grown
     (c.requires.env_known, c.requires.goals_known) h.grows.lawful) type_var tt s d grown sound
     (g.met.Infcx.InferCtxtLike.numbers r.infcx.now c.requires.lawful)
-    (g.met.Infcx.InferCtxtLike.covered q h.grows.lawful) n t ((d.meaning).ty z) k.right_taken.1 k.right_in
+    (g.met.Infcx.InferCtxtLike.bound_by_lists q h.grows.lawful) n t ((d.meaning).ty z) k.right_taken.1 k.right_in
     k.right_known (ty_sorted of c.args.b.now ((g.met.Infcx.Interner.Interner.sorted cx).ty c.args.b.now) k.right_known)
     r.ambient_variance (λ e. e) h.instantiates.0 h.instantiates.1 IsFormed c.args.a.now c.args.b.now z
     c.args.b.now c.args.a.now (d.meaning).ty root_stays t_stays refl t_stays (inl root_stays)))

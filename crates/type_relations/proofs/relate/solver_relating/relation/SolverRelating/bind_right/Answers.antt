@@ -106,7 +106,7 @@ returns-in_err-register_alias_relate_predicate-clause-stepped g c =
     let is = as_err from.result Memory from.ensures.0 from.ensures.1 in
     subst₂ (λ l res. Stepped solver_manner IsFormed was p t l (e.meaning).ty res) (sym c.requires.b_is) (sym is)
     (right_unasked_step was L K still s d h.grows.extends sound (g.met.Infcx.InferCtxtLike.numbers r.infcx.now c.requires.lawful)
-    (g.met.Infcx.InferCtxtLike.covered c.instantiate_ty_var_raw.new.self h.grows.lawful) n m t u k.left_taken.1 k.left_in
+    (g.met.Infcx.InferCtxtLike.bound_by_lists c.instantiate_ty_var_raw.new.self h.grows.lawful) n m t u k.left_taken.1 k.left_in
     k.left_known (ty_sorted of c.args.a.now ((g.met.Infcx.Interner.Interner.sorted cx).ty c.args.a.now) k.left_known)
     c.xform-variance.result (λ e. c.xform-variance.ensures ∙ invariantly Contravariant e) i.0 i.1 u_is came.0 came.1 p asked.0 made IsFormed (e.meaning).ty)
 
@@ -186,7 +186,7 @@ returns-in-Some-clause-stepped g c =
     h.grows.extends env (λ y. RegistersGoal {A = Unit {0}} {F = OutOfMemory} y p asked.0 (Ok tt)) there in
     subst (λ l. Stepped solver_manner IsFormed was p t l (e.meaning).ty (Ok (Done c.args.a.now)))
     (sym c.requires.b_is) (right_asks was L K still s d h.grows.extends sound (g.met.Infcx.InferCtxtLike.numbers r.infcx.now c.requires.lawful)
-    (g.met.Infcx.InferCtxtLike.covered c.instantiate_ty_var_raw.new.self h.grows.lawful) n m t u k.left_taken.1 k.left_in
+    (g.met.Infcx.InferCtxtLike.bound_by_lists c.instantiate_ty_var_raw.new.self h.grows.lawful) n m t u k.left_taken.1 k.left_in
     k.left_known (ty_sorted of c.args.a.now ((g.met.Infcx.Interner.Interner.sorted cx).ty c.args.a.now) k.left_known)
     c.xform-variance.result (λ e. c.xform-variance.ensures ∙ invariantly Contravariant e) i.0 i.1 u_is came.0 came.1 p asked.0 made IsFormed (e.meaning).ty c.args.a.now asked.1
     (made.extends.ty c.args.a.now (subst (λ y. IsTrue (known y)) (sym (h.grows.extends.ty c.args.a.now k.left_known)) k.left_known) ∙ h.grows.extends.ty c.args.a.now k.left_known))
@@ -258,7 +258,7 @@ returns-clause-stepped g c =
     (still_lawful (held_grows r.structurally_relate_aliases r.infcx.ghost_name s d h.grows) r.goals.items r.param_env grown
     (c.requires.env_known, c.requires.goals_known) h.grows.lawful) type_var tt s d grown sound
     (g.met.Infcx.InferCtxtLike.numbers r.infcx.now c.requires.lawful)
-    (g.met.Infcx.InferCtxtLike.covered q h.grows.lawful) n t ((d.meaning).ty z) k.left_taken.1 k.left_in
+    (g.met.Infcx.InferCtxtLike.bound_by_lists q h.grows.lawful) n t ((d.meaning).ty z) k.left_taken.1 k.left_in
     k.left_known (ty_sorted of c.args.a.now ((g.met.Infcx.Interner.Interner.sorted cx).ty c.args.a.now) k.left_known)
     c.xform-variance.result (λ e. c.xform-variance.ensures ∙ invariantly Contravariant e) h.instantiates.0 h.instantiates.1 IsFormed c.args.a.now c.args.b.now
     c.args.a.now z c.args.a.now (d.meaning).ty t_stays root_stays t_stays refl (inr t_stays)))
@@ -280,8 +280,8 @@ returns-clause-combines g c =
     }))
     c.in_default.ensures.is_none refl
 
-pub instantiate_ty_var_raw-requires-clause-source_covered : goal.instantiate_ty_var_raw-requires-clause-source_covered
-instantiate_ty_var_raw-requires-clause-source_covered g c = c.requires.asked.left_taken.1
+pub instantiate_ty_var_raw-requires-clause-source_by_lists : goal.instantiate_ty_var_raw-requires-clause-source_by_lists
+instantiate_ty_var_raw-requires-clause-source_by_lists g c = c.requires.asked.left_taken.1
 
 pub instantiate_ty_var_raw-requires-clause-decides : goal.instantiate_ty_var_raw-requires-clause-decides
 instantiate_ty_var_raw-requires-clause-decides g c =

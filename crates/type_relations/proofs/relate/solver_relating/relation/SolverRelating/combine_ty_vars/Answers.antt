@@ -1,99 +1,91 @@
-use Rattle.std.proofs.Common.{refl, sym, ap, subst, true, false}
+use Rattle.std.proofs.Common.{refl, sym, ap, subst, IfSome, Ok, Err}
+use Rattle.relation_terms.specs.declared.terms.interner.OutOfMemory.{OutOfMemory}
 use Rattle.relation_terms.specs.Heads.{type_var}
 use Rattle.relation_folds.specs.declared.error.RelateFault.TheVariants.{Memory}
-use Rattle.relation_contexts.specs.Goals.{subtype_predicate, goals_of}
+use Rattle.relation_contexts.specs.Goals.{goals_of}
 use Rattle.relation_contexts.specs.Parts.{IsFormed}
 use Rattle.relation_contexts.specs.Lawful.{Stepped}
-use Rattle.type_relations.specs.Solving.{solving_through, solver_manner}
-use Rattle.type_relations.proofs.Binding.{no_region}
 use Rattle.relation_contexts.proofs.Passing.{as_err}
-use Rattle.type_relations.proofs.Solving.{held_grows, held_stands, roots_step, memory_step}
-use Rattle.type_relations.proofs.SolvingGoals.{covariant_step, contravariant_step}
-use Rattle.type_relations.specs.Stepping.{made_one, left_subtype, right_subtype}
-use Rattle.type_relations.proofs.Stepping.{covariant_directed, contravariant_directed, registered_one, refused_goal}
+use Rattle.type_relations.specs.Emitting.{RegistersGoal}
+use Rattle.type_relations.specs.Solving.{solving_through, solver_manner}
+use Rattle.type_relations.specs.Stepping.{made_one}
+use Rattle.type_relations.proofs.Binding.{no_region}
+use Rattle.type_relations.proofs.LeavingSteps.{goal_refused}
+use Rattle.type_relations.proofs.Solving.{held_stands, roots_step}
+use Rattle.type_relations.proofs.SolvingGoals.{directed_asks, subtype_step}
+use Rattle.type_relations.proofs.Stepping.{directed_decides, subtype_combines, subtype_refused}
 use Rattle.type_relations.proofs.relate.solver_relating.relation.SolverRelating.combine_ty_vars.Goals as goal
 
-pub returns-in_err-predicate-in-Covariant-clause-stepped : goal.returns-in_err-predicate-in-Covariant-clause-stepped
-returns-in_err-predicate-in-Covariant-clause-stepped g c =
+pub register_subtype_predicate-requires-clause-directed : goal.register_subtype_predicate-requires-clause-directed
+register_subtype_predicate-requires-clause-directed g c = directed_decides c.in_default.not-Invariant c.requires.decides
+
+pub returns-in_err-register_subtype_predicate-clause-stepped : goal.returns-in_err-register_subtype_predicate-clause-stepped
+returns-in_err-register_subtype_predicate-clause-stepped g c =
     let r = c.args.self.now in
+    let q = c.register_subtype_predicate.new.self in
     let s = g.Infcx.InferCtxtLike.state r.infcx.now in
-    let d = g.Infcx.InferCtxtLike.state c.subtype_predicate.new.infcx in
-    let h = c.in_err-predicate-in-Covariant.ensures in
-    memory_step (held_grows r.structurally_relate_aliases r.infcx.ghost_name s d h.grows) r.goals.items IsFormed s.meaning d.meaning s.store d.store s.lawful d.lawful
-    r.ambient_variance r.param_env ((s.meaning).ty c.args.a.now) ((s.meaning).ty c.args.b.now) (d.meaning).ty
-    c.from_residual.result h.grows.extends (c.requires.env_known, c.requires.goals_known) h.same_store h.grows.lawful
+    let d = g.Infcx.InferCtxtLike.state q.infcx.now in
+    let ta = (s.meaning).ty c.args.a.now in
+    let tb = (s.meaning).ty c.args.b.now in
+    let was = solving_through r.structurally_relate_aliases r.infcx.ghost_name r.goals.items s r.ambient_variance r.param_env in
+    let now = solving_through q.structurally_relate_aliases q.infcx.ghost_name q.goals.items d q.ambient_variance q.param_env in
+    let asks = directed_asks r.ambient_variance ta tb (directed_decides c.in_default.not-Invariant c.requires.decides) in
+    let h : RegistersGoal {A = Unit {0}} {F = OutOfMemory} was now asks.0 (Err c.in_err-register_subtype_predicate.field-0.0) =
+    subst (λ o. IfSome o (λ p. RegistersGoal {A = Unit {0}} {F = OutOfMemory} was now p (Err c.in_err-register_subtype_predicate.field-0.0))) asks.1
+    c.in_err-register_subtype_predicate.ensures in
+    subst (Stepped solver_manner IsFormed was now ta tb (d.meaning).ty)
+    (sym (as_err c.from_residual.result Memory c.from_residual.ensures.0 c.from_residual.ensures.1))
+    (goal_refused IsFormed ta tb (d.meaning).ty asks.0 h)
+
+pub returns-clause-stepped : goal.returns-clause-stepped
+returns-clause-stepped g c =
+    let r = c.args.self.now in
+    let q = c.register_subtype_predicate.new.self in
+    let s = g.Infcx.InferCtxtLike.state r.infcx.now in
+    let d = g.Infcx.InferCtxtLike.state q.infcx.now in
+    let ta = (s.meaning).ty c.args.a.now in
+    let tb = (s.meaning).ty c.args.b.now in
+    let was = solving_through r.structurally_relate_aliases r.infcx.ghost_name r.goals.items s r.ambient_variance r.param_env in
+    let now = solving_through q.structurally_relate_aliases q.infcx.ghost_name q.goals.items d q.ambient_variance q.param_env in
+    let asks = directed_asks r.ambient_variance ta tb (directed_decides c.in_default.not-Invariant c.requires.decides) in
+    let h : RegistersGoal {A = Unit {0}} {F = OutOfMemory} was now asks.0 (Ok tt) =
+    subst (λ o. IfSome o (λ p. RegistersGoal {A = Unit {0}} {F = OutOfMemory} was now p (Ok tt))) asks.1
+    c.in_ok-register_subtype_predicate.ensures in
+    subtype_step {r = was} {q = now} c.args.x.0 c.args.y.0 ta tb asks.0 c.requires.a_is c.requires.b_is
+    c.requires.a_unresolved c.requires.b_unresolved asks.1 h (d.meaning).ty c.args.a.now
+    ((h.extends).ty c.args.a.now c.requires.a_known) c.requires.a_known
+
+pub returns-in_err-register_subtype_predicate-clause-combines : goal.returns-in_err-register_subtype_predicate-clause-combines
+returns-in_err-register_subtype_predicate-clause-combines g c =
+    let r = c.args.self.now in
+    let q = c.register_subtype_predicate.new.self in
+    let s = g.Infcx.InferCtxtLike.state r.infcx.now in
+    let d = g.Infcx.InferCtxtLike.state q.infcx.now in
+    let ta = (s.meaning).ty c.args.a.now in
+    let tb = (s.meaning).ty c.args.b.now in
+    let was = solving_through r.structurally_relate_aliases r.infcx.ghost_name r.goals.items s r.ambient_variance r.param_env in
+    let now = solving_through q.structurally_relate_aliases q.infcx.ghost_name q.goals.items d q.ambient_variance q.param_env in
+    let directed = directed_decides c.in_default.not-Invariant c.requires.decides in
+    let asks = directed_asks r.ambient_variance ta tb directed in
+    subtype_refused {r = was} {q = now} c.args.a.now c.args.b.now asks.0 directed
+    (subst (λ o. IfSome o (λ p. RegistersGoal {A = Unit {0}} {F = OutOfMemory} was now p (Err c.in_err-register_subtype_predicate.field-0.0))) asks.1
+    c.in_err-register_subtype_predicate.ensures) c.from_residual.result
     (as_err c.from_residual.result Memory c.from_residual.ensures.0 c.from_residual.ensures.1)
 
-pub returns-in_err-push-in-Covariant-clause-stepped : goal.returns-in_err-push-in-Covariant-clause-stepped
-returns-in_err-push-in-Covariant-clause-stepped g c =
+pub returns-clause-combines : goal.returns-clause-combines
+returns-clause-combines g c =
     let r = c.args.self.now in
+    let q = c.register_subtype_predicate.new.self in
     let s = g.Infcx.InferCtxtLike.state r.infcx.now in
-    let d = g.Infcx.InferCtxtLike.state c.subtype_predicate.new.infcx in
-    let h = c.in_ok-predicate-in-Covariant.ensures in
-    let res = c.from_residual-in_err-push-in-Covariant.result in
-    subst (λ hs. Stepped solver_manner IsFormed
-    (solving_through r.structurally_relate_aliases r.infcx.ghost_name r.goals.items s r.ambient_variance r.param_env)
-    (solving_through r.structurally_relate_aliases r.infcx.ghost_name hs d r.ambient_variance r.param_env)
-    ((s.meaning).ty c.args.a.now) ((s.meaning).ty c.args.b.now) (d.meaning).ty res)
-    (sym c.in_err-push-in-Covariant.ensures.items)
-    (memory_step (held_grows r.structurally_relate_aliases r.infcx.ghost_name s d h.grows) r.goals.items IsFormed s.meaning d.meaning s.store d.store s.lawful d.lawful
-    r.ambient_variance r.param_env ((s.meaning).ty c.args.a.now) ((s.meaning).ty c.args.b.now) (d.meaning).ty
-    res h.grows.extends (c.requires.env_known, c.requires.goals_known) h.same_store h.grows.lawful
-    (as_err res Memory c.from_residual-in_err-push-in-Covariant.ensures.0 c.from_residual-in_err-push-in-Covariant.ensures.1))
-
-pub returns-in_ok-push-in-Covariant-clause-stepped : goal.returns-in_ok-push-in-Covariant-clause-stepped
-returns-in_ok-push-in-Covariant-clause-stepped g c =
-    let r = c.args.self.now in
-    let s = g.Infcx.InferCtxtLike.state r.infcx.now in
-    let d = g.Infcx.InferCtxtLike.state c.subtype_predicate.new.infcx in
-    let h = c.in_ok-predicate-in-Covariant.ensures in
-    covariant_step (held_grows r.structurally_relate_aliases r.infcx.ghost_name s d h.grows) r.goals.items c.push.new.self.items s.meaning d.meaning s.store d.store s.lawful
-    d.lawful r.ambient_variance r.param_env h.grows.extends (c.requires.env_known, c.requires.goals_known) h.grows.lawful h.same_store
-    c.in_ok-predicate-in-Covariant.predicate _ c.in_ok-push-in-Covariant.ensures.items c.args.x.0 c.args.y.0
-    ((s.meaning).ty c.args.a.now) ((s.meaning).ty c.args.b.now) c.requires.a_is c.requires.b_is
-    c.requires.a_unresolved c.requires.b_unresolved IsFormed (d.meaning).ty c.args.a.now c.in-Covariant.is h.made
-    (h.grows.extends.ty c.args.a.now c.requires.a_known) c.requires.a_known
-
-pub returns-in_err-predicate-in-Contravariant-clause-stepped : goal.returns-in_err-predicate-in-Contravariant-clause-stepped
-returns-in_err-predicate-in-Contravariant-clause-stepped g c =
-    let r = c.args.self.now in
-    let s = g.Infcx.InferCtxtLike.state r.infcx.now in
-    let d = g.Infcx.InferCtxtLike.state c.subtype_predicate-in-Contravariant.new.infcx in
-    let h = c.in_err-predicate-in-Contravariant.ensures in
-    memory_step (held_grows r.structurally_relate_aliases r.infcx.ghost_name s d h.grows) r.goals.items IsFormed s.meaning d.meaning s.store d.store s.lawful d.lawful
-    r.ambient_variance r.param_env ((s.meaning).ty c.args.a.now) ((s.meaning).ty c.args.b.now) (d.meaning).ty
-    c.from_residual-in_err-predicate-in-Contravariant.result h.grows.extends (c.requires.env_known, c.requires.goals_known) h.same_store h.grows.lawful
-    (as_err c.from_residual-in_err-predicate-in-Contravariant.result Memory c.from_residual-in_err-predicate-in-Contravariant.ensures.0 c.from_residual-in_err-predicate-in-Contravariant.ensures.1)
-
-pub returns-in_err-push-in-Contravariant-clause-stepped : goal.returns-in_err-push-in-Contravariant-clause-stepped
-returns-in_err-push-in-Contravariant-clause-stepped g c =
-    let r = c.args.self.now in
-    let s = g.Infcx.InferCtxtLike.state r.infcx.now in
-    let d = g.Infcx.InferCtxtLike.state c.subtype_predicate-in-Contravariant.new.infcx in
-    let h = c.in_ok-predicate-in-Contravariant.ensures in
-    let res = c.from_residual-in_err-push-in-Contravariant.result in
-    subst (λ hs. Stepped solver_manner IsFormed
-    (solving_through r.structurally_relate_aliases r.infcx.ghost_name r.goals.items s r.ambient_variance r.param_env)
-    (solving_through r.structurally_relate_aliases r.infcx.ghost_name hs d r.ambient_variance r.param_env)
-    ((s.meaning).ty c.args.a.now) ((s.meaning).ty c.args.b.now) (d.meaning).ty res)
-    (sym c.in_err-push-in-Contravariant.ensures.items)
-    (memory_step (held_grows r.structurally_relate_aliases r.infcx.ghost_name s d h.grows) r.goals.items IsFormed s.meaning d.meaning s.store d.store s.lawful d.lawful
-    r.ambient_variance r.param_env ((s.meaning).ty c.args.a.now) ((s.meaning).ty c.args.b.now) (d.meaning).ty
-    res h.grows.extends (c.requires.env_known, c.requires.goals_known) h.same_store h.grows.lawful
-    (as_err res Memory c.from_residual-in_err-push-in-Contravariant.ensures.0 c.from_residual-in_err-push-in-Contravariant.ensures.1))
-
-pub returns-in_ok-push-in-Contravariant-clause-stepped : goal.returns-in_ok-push-in-Contravariant-clause-stepped
-returns-in_ok-push-in-Contravariant-clause-stepped g c =
-    let r = c.args.self.now in
-    let s = g.Infcx.InferCtxtLike.state r.infcx.now in
-    let d = g.Infcx.InferCtxtLike.state c.subtype_predicate-in-Contravariant.new.infcx in
-    let h = c.in_ok-predicate-in-Contravariant.ensures in
-    contravariant_step (held_grows r.structurally_relate_aliases r.infcx.ghost_name s d h.grows) r.goals.items c.push-in-Contravariant.new.self.items s.meaning d.meaning s.store d.store s.lawful
-    d.lawful r.ambient_variance r.param_env h.grows.extends (c.requires.env_known, c.requires.goals_known) h.grows.lawful h.same_store
-    c.in_ok-predicate-in-Contravariant.predicate _ c.in_ok-push-in-Contravariant.ensures.items c.args.x.0 c.args.y.0
-    ((s.meaning).ty c.args.a.now) ((s.meaning).ty c.args.b.now) c.requires.a_is c.requires.b_is
-    c.requires.a_unresolved c.requires.b_unresolved IsFormed (d.meaning).ty c.args.a.now c.in-Contravariant.is h.made
-    (h.grows.extends.ty c.args.a.now c.requires.a_known) c.requires.a_known
+    let d = g.Infcx.InferCtxtLike.state q.infcx.now in
+    let ta = (s.meaning).ty c.args.a.now in
+    let tb = (s.meaning).ty c.args.b.now in
+    let was = solving_through r.structurally_relate_aliases r.infcx.ghost_name r.goals.items s r.ambient_variance r.param_env in
+    let now = solving_through q.structurally_relate_aliases q.infcx.ghost_name q.goals.items d q.ambient_variance q.param_env in
+    let asks = directed_asks r.ambient_variance ta tb (directed_decides c.in_default.not-Invariant c.requires.decides) in
+    subtype_combines {r = was} {q = now} c.args.a.now c.args.b.now asks.0 asks.1
+    (subst (λ o. IfSome o (λ p. RegistersGoal {A = Unit {0}} {F = OutOfMemory} was now p (Ok tt))) asks.1
+    c.in_ok-register_subtype_predicate.ensures)
 
 pub returns-in-Invariant-clause-stepped : goal.returns-in-Invariant-clause-stepped
 returns-in-Invariant-clause-stepped g c =
@@ -107,76 +99,6 @@ returns-in-Invariant-clause-stepped g c =
     ((s.meaning).ty c.args.b.now) (d.meaning).ty c.args.a.now done.stands.meaning
     (c.requires.env_known, c.requires.goals_known) sound done.stands.lawful done.same done.equates c.requires.a_is
     c.requires.b_is (ap (λ z. z.ty c.args.a.now) done.stands.meaning)
-
-pub returns-in_err-predicate-in-Covariant-clause-combines : goal.returns-in_err-predicate-in-Covariant-clause-combines
-returns-in_err-predicate-in-Covariant-clause-combines g c =
-    let r = c.args.self.now in
-    let s = g.Infcx.InferCtxtLike.state r.infcx.now in
-    let d = g.Infcx.InferCtxtLike.state c.subtype_predicate.new.infcx in
-    let h = c.in_err-predicate-in-Covariant.ensures in
-    refused_goal r.structurally_relate_aliases r.infcx.ghost_name r.goals.items r.goals.items s d
-    r.ambient_variance r.param_env h.grows.extends (c.requires.env_known, c.requires.goals_known) h.same_store
-    c.args.a.now c.args.b.now c.from_residual.result (covariant_directed c.in-Covariant.is) refl
-    (as_err c.from_residual.result Memory c.from_residual.ensures.0 c.from_residual.ensures.1)
-
-pub returns-in_err-push-in-Covariant-clause-combines : goal.returns-in_err-push-in-Covariant-clause-combines
-returns-in_err-push-in-Covariant-clause-combines g c =
-    let r = c.args.self.now in
-    let s = g.Infcx.InferCtxtLike.state r.infcx.now in
-    let d = g.Infcx.InferCtxtLike.state c.subtype_predicate.new.infcx in
-    let h = c.in_ok-predicate-in-Covariant.ensures in
-    refused_goal r.structurally_relate_aliases r.infcx.ghost_name r.goals.items c.push.new.self.items s d
-    r.ambient_variance r.param_env h.grows.extends (c.requires.env_known, c.requires.goals_known) h.same_store
-    c.args.a.now c.args.b.now c.from_residual-in_err-push-in-Covariant.result (covariant_directed c.in-Covariant.is) c.in_err-push-in-Covariant.ensures.items
-    (as_err c.from_residual-in_err-push-in-Covariant.result Memory c.from_residual-in_err-push-in-Covariant.ensures.0 c.from_residual-in_err-push-in-Covariant.ensures.1)
-
-pub returns-in_ok-push-in-Covariant-clause-combines : goal.returns-in_ok-push-in-Covariant-clause-combines
-returns-in_ok-push-in-Covariant-clause-combines g c =
-    let r = c.args.self.now in
-    let s = g.Infcx.InferCtxtLike.state r.infcx.now in
-    let d = g.Infcx.InferCtxtLike.state c.subtype_predicate.new.infcx in
-    let h = c.in_ok-predicate-in-Covariant.ensures in
-    left_subtype c.in-Covariant.is
-    (registered_one r.structurally_relate_aliases r.infcx.ghost_name r.goals.items c.push.new.self.items s d
-    r.ambient_variance r.param_env h.grows.extends (c.requires.env_known, c.requires.goals_known) h.same_store
-    c.in_ok-predicate-in-Covariant.predicate
-    (subtype_predicate true ((s.meaning).ty c.args.a.now) ((s.meaning).ty c.args.b.now))
-    c.in_ok-push-in-Covariant.ensures.items h.made) refl
-
-pub returns-in_err-predicate-in-Contravariant-clause-combines : goal.returns-in_err-predicate-in-Contravariant-clause-combines
-returns-in_err-predicate-in-Contravariant-clause-combines g c =
-    let r = c.args.self.now in
-    let s = g.Infcx.InferCtxtLike.state r.infcx.now in
-    let d = g.Infcx.InferCtxtLike.state c.subtype_predicate-in-Contravariant.new.infcx in
-    let h = c.in_err-predicate-in-Contravariant.ensures in
-    refused_goal r.structurally_relate_aliases r.infcx.ghost_name r.goals.items r.goals.items s d
-    r.ambient_variance r.param_env h.grows.extends (c.requires.env_known, c.requires.goals_known) h.same_store
-    c.args.a.now c.args.b.now c.from_residual-in_err-predicate-in-Contravariant.result (contravariant_directed c.in-Contravariant.is) refl
-    (as_err c.from_residual-in_err-predicate-in-Contravariant.result Memory c.from_residual-in_err-predicate-in-Contravariant.ensures.0 c.from_residual-in_err-predicate-in-Contravariant.ensures.1)
-
-pub returns-in_err-push-in-Contravariant-clause-combines : goal.returns-in_err-push-in-Contravariant-clause-combines
-returns-in_err-push-in-Contravariant-clause-combines g c =
-    let r = c.args.self.now in
-    let s = g.Infcx.InferCtxtLike.state r.infcx.now in
-    let d = g.Infcx.InferCtxtLike.state c.subtype_predicate-in-Contravariant.new.infcx in
-    let h = c.in_ok-predicate-in-Contravariant.ensures in
-    refused_goal r.structurally_relate_aliases r.infcx.ghost_name r.goals.items c.push-in-Contravariant.new.self.items s d
-    r.ambient_variance r.param_env h.grows.extends (c.requires.env_known, c.requires.goals_known) h.same_store
-    c.args.a.now c.args.b.now c.from_residual-in_err-push-in-Contravariant.result (contravariant_directed c.in-Contravariant.is) c.in_err-push-in-Contravariant.ensures.items
-    (as_err c.from_residual-in_err-push-in-Contravariant.result Memory c.from_residual-in_err-push-in-Contravariant.ensures.0 c.from_residual-in_err-push-in-Contravariant.ensures.1)
-
-pub returns-in_ok-push-in-Contravariant-clause-combines : goal.returns-in_ok-push-in-Contravariant-clause-combines
-returns-in_ok-push-in-Contravariant-clause-combines g c =
-    let r = c.args.self.now in
-    let s = g.Infcx.InferCtxtLike.state r.infcx.now in
-    let d = g.Infcx.InferCtxtLike.state c.subtype_predicate-in-Contravariant.new.infcx in
-    let h = c.in_ok-predicate-in-Contravariant.ensures in
-    right_subtype c.in-Contravariant.is
-    (registered_one r.structurally_relate_aliases r.infcx.ghost_name r.goals.items c.push-in-Contravariant.new.self.items s d
-    r.ambient_variance r.param_env h.grows.extends (c.requires.env_known, c.requires.goals_known) h.same_store
-    c.in_ok-predicate-in-Contravariant.predicate
-    (subtype_predicate false ((s.meaning).ty c.args.b.now) ((s.meaning).ty c.args.a.now))
-    c.in_ok-push-in-Contravariant.ensures.items h.made) refl
 
 pub returns-in-Invariant-clause-combines : goal.returns-in-Invariant-clause-combines
 returns-in-Invariant-clause-combines g c =

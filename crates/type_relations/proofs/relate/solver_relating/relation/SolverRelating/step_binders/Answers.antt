@@ -8,7 +8,8 @@ use Rattle.relation_contexts.specs.Binders.{binder_tree}
 use Rattle.relation_contexts.proofs.Passing.{as_err}
 use Rattle.type_relations.specs.Solving.{solving_through}
 use Rattle.type_relations.proofs.Rounds.{under_built}
-use Rattle.type_relations.proofs.SolvingBinders.{covered_binds, opens_neither, opening_refused, opens_second}
+use Rattle.relation_contexts.proofs.Bound.{outermost_binds}
+use Rattle.type_relations.proofs.SolvingBinders.{opens_neither, opening_refused, opens_second}
 use Rattle.type_relations.proofs.SolvingBinders.{opens_first, opens_none, no_more}
 use Rattle.relation_contexts.proofs.Registered.{goals_stay}
 use Rattle.type_relations.specs.Stepping.{as_they_stand, right_entered, right_not_entered, left_entered}
@@ -48,25 +49,25 @@ returns-then-not-one_uses-clause-opened g c =
 pub enter_and_instantiate-requires-clause-entered_binds : goal.enter_and_instantiate-requires-clause-entered_binds
 enter_and_instantiate-requires-clause-entered_binds g c =
     let s = g.Infcx.InferCtxtLike.state c.args.self.now.infcx.now in
-    covered_binds (binder_tree g.T.HasTree.tree s.meaning c.args.b.now) c.requires.asked.right_taken.1
+    outermost_binds (binder_tree g.T.HasTree.tree s.meaning c.args.b.now) c.requires.asked.right_taken.1
 
 pub enter_and_instantiate-requires-clause-instantiated_binds :
     goal.enter_and_instantiate-requires-clause-instantiated_binds
 enter_and_instantiate-requires-clause-instantiated_binds g c =
     let s = g.Infcx.InferCtxtLike.state c.args.self.now.infcx.now in
-    covered_binds (binder_tree g.T.HasTree.tree s.meaning c.args.a.now) c.requires.asked.left_taken.1
+    outermost_binds (binder_tree g.T.HasTree.tree s.meaning c.args.a.now) c.requires.asked.left_taken.1
 
 pub enter_and_instantiate-requires-then-enters_first-clause-entered_binds :
     goal.enter_and_instantiate-requires-then-enters_first-clause-entered_binds
 enter_and_instantiate-requires-then-enters_first-clause-entered_binds g c =
     let s = g.Infcx.InferCtxtLike.state c.args.self.now.infcx.now in
-    covered_binds (binder_tree g.T.HasTree.tree s.meaning c.args.a.now) c.requires.asked.left_taken.1
+    outermost_binds (binder_tree g.T.HasTree.tree s.meaning c.args.a.now) c.requires.asked.left_taken.1
 
 pub enter_and_instantiate-requires-then-enters_first-clause-instantiated_binds :
     goal.enter_and_instantiate-requires-then-enters_first-clause-instantiated_binds
 enter_and_instantiate-requires-then-enters_first-clause-instantiated_binds g c =
     let s = g.Infcx.InferCtxtLike.state c.args.self.now.infcx.now in
-    covered_binds (binder_tree g.T.HasTree.tree s.meaning c.args.b.now) c.requires.asked.right_taken.1
+    outermost_binds (binder_tree g.T.HasTree.tree s.meaning c.args.b.now) c.requires.asked.right_taken.1
 
 pub returns-in_err-y-clause-opened : goal.returns-in_err-y-clause-opened
 returns-in_err-y-clause-opened g c =

@@ -7,7 +7,7 @@ use Rattle.type_relations.specs.Solving.{solving_through, solver_manner}
 use Rattle.type_relations.proofs.StructuralConsts.{itself_related}
 use Rattle.relation_contexts.proofs.Standing.{term_within}
 use Rattle.type_relations.proofs.Shallowly.{read_step}
-use Rattle.type_relations.proofs.OverContext.{all_taken, read_covered}
+use Rattle.type_relations.proofs.OverContext.{all_taken, read_by_lists}
 use Rattle.type_relations.proofs.Solving.{held_kept, answered_step, one_ty}
 use Rattle.relation_contexts.specs.declared.relate.Step.TheVariants.{Done}
 use Rattle.type_relations.proofs.Alone.{step_of_one, steps_alone}
@@ -35,7 +35,7 @@ pub combine_tys-requires-clause-asked : goal.combine_tys-requires-clause-asked
 combine_tys-requires-clause-asked g c =
     let r = c.args.self.now in
     let s = g.Infcx.InferCtxtLike.state r.infcx.now in
-    let all = g.met.Infcx.InferCtxtLike.covered r.infcx.now c.requires.lawful.0 in
+    let all = g.met.Infcx.InferCtxtLike.bound_by_lists r.infcx.now c.requires.lawful.0 in
     let k = c.requires.asked in
     let a = (s.meaning).ty c.args.a.now in
     let b = (s.meaning).ty c.args.b.now in
@@ -48,8 +48,8 @@ combine_tys-requires-clause-asked g c =
       right_known = q.sure;
       left_in = (p.resolves).is_in k.left_in;
       right_in = (q.resolves).is_in k.right_in;
-      left_taken = all_taken r.ambient_variance l (read_covered s.store all a l p.reads k.left_taken.1);
-      right_taken = all_taken r.ambient_variance t (read_covered s.store all b t q.reads k.right_taken.1);
+      left_taken = all_taken r.ambient_variance l (read_by_lists s.store all a l p.reads k.left_taken.1);
+      right_taken = all_taken r.ambient_variance t (read_by_lists s.store all b t q.reads k.right_taken.1);
     }
 
 pub returns-clause-stepped : goal.returns-clause-stepped
@@ -71,21 +71,21 @@ returns-then-have_no_variable-clause-stepped g c =
     let s = g.Infcx.InferCtxtLike.state r.infcx.now in
     let k = c.requires.asked in
     let none = c.have_no_variable.ensures in
-    let a_formed = none.a_formed c.if-have_no_variable.true k.left_taken.1 (term_within s.store _ k.left_in) in
-    let b_formed = none.b_formed c.if-have_no_variable.true k.right_taken.1 (term_within s.store _ k.right_in) in
+    let a_formed = none.a_formed c.if-have_no_variable.true (term_within s.store _ k.left_in) in
+    let b_formed = none.b_formed c.if-have_no_variable.true (term_within s.store _ k.right_in) in
     c.super_combine_tys.ensures.stepped (λ n e. subst IsFormed e a_formed) (λ n e. subst IsFormed e b_formed)
 
 pub super_combine_tys-requires-clause-a_shallow : goal.super_combine_tys-requires-clause-a_shallow
 super_combine_tys-requires-clause-a_shallow g c =
     let st = (g.Infcx.InferCtxtLike.state c.args.self.now.infcx.now).store in
     let k = c.requires.asked in
-    formed (c.have_no_variable.ensures.a_formed c.if-have_no_variable.true k.left_taken.1 (term_within st _ k.left_in))
+    formed (c.have_no_variable.ensures.a_formed c.if-have_no_variable.true (term_within st _ k.left_in))
 
 pub super_combine_tys-requires-clause-b_shallow : goal.super_combine_tys-requires-clause-b_shallow
 super_combine_tys-requires-clause-b_shallow g c =
     let st = (g.Infcx.InferCtxtLike.state c.args.self.now.infcx.now).store in
     let k = c.requires.asked in
-    formed (c.have_no_variable.ensures.b_formed c.if-have_no_variable.true k.right_taken.1 (term_within st _ k.right_in))
+    formed (c.have_no_variable.ensures.b_formed c.if-have_no_variable.true (term_within st _ k.right_in))
 
 pub returns-then-have_no_variable-clause-steps : goal.returns-then-have_no_variable-clause-steps
 returns-then-have_no_variable-clause-steps g c =
@@ -112,8 +112,8 @@ returns-then-have_no_variable-clause-alone g c =
     let a = c.args.a.now in
     let b = c.args.b.now in
     let none = c.have_no_variable.ensures in
-    let a_formed = none.a_formed c.if-have_no_variable.true k.left_taken.1 (term_within s.store _ k.left_in) in
-    let b_formed = none.b_formed c.if-have_no_variable.true k.right_taken.1 (term_within s.store _ k.right_in) in
+    let a_formed = none.a_formed c.if-have_no_variable.true (term_within s.store _ k.left_in) in
+    let b_formed = none.b_formed c.if-have_no_variable.true (term_within s.store _ k.right_in) in
     let q = c.super_combine_tys.new.relation in
     let d = g.Infcx.InferCtxtLike.state q.infcx.now in
     steps_alone (solving_through r.structurally_relate_aliases r.infcx.ghost_name r.goals.items s r.ambient_variance r.param_env)

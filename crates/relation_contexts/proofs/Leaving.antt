@@ -1,59 +1,31 @@
--- Terms that relating has rules for: their parts, and what they are not.
-use Rattle.std.proofs.Common.{◌⊎◌, ℕ, zero, suc, ◌<◌, sym, subst, arith, inl, inr}
-use Rattle.relation_terms.specs.Heads.{unevaluated, expression, value, value_branch}
-use Rattle.relation_terms.specs.Heads.{Head, alias, opaque_alias, variable}
+-- Pairs that are left to no goal.
+use Rattle.std.proofs.Common.{◌⊎◌, sym, subst, inl, inr}
+use Rattle.relation_terms.specs.Heads.{Head, alias, opaque_alias, unevaluated, variable}
 use Rattle.term_enums.specs.declared.Variance.{Variance}
 use Rattle.relation_terms.specs.Meaning.{Meaning}
 use Rattle.relation_folds.specs.declared.error.TypeError.{TypeError}
 use Rattle.relation_contexts.specs.Stores.{Store}
-use Rattle.relation_terms.specs.Trees.{Tree, leaf, node, bind, nil, cons, count, nth}
-use Rattle.relation_contexts.specs.Covered.{IsCovered}
+use Rattle.relation_terms.specs.Trees.{Tree, leaf, node}
 use Rattle.relation_contexts.specs.Relation.{Items, IsAlias}
 use Rattle.relation_contexts.specs.Settings.{Settings}
 use Rattle.relation_contexts.specs.Errors.{Meeting, as_pair, as_forms, ErrorByForms, ErrorAs, by_forms}
 use Rattle.relation_contexts.specs.Errors.{AreOfOneForm, over_parts, over_aliases, one_leaf, parameters}
 use Rattle.relation_contexts.specs.Errors.{IsOpaque, IsOpaqueBeside, IsLeftToGoal}
-use Rattle.relation_contexts.specs.Parts.{IsByParts, parts_of, branches_of, const_parts_of}
+use Rattle.relation_contexts.specs.Parts.{IsByParts}
 
--- The parts of what is covered are.
-pub covered_nth : (ts : Tree) (i : ℕ) → i < count ts → IsCovered ts → IsCovered (nth i ts)
-covered_nth (cons t ts) zero l c = c.0
-covered_nth (cons t ts) (suc i) l c = covered_nth ts i (omega (arith, l)) c.1
-covered_nth (leaf x) i l c = absurd (omega (arith, l))
-covered_nth (node h ts) i l c = absurd (omega (arith, l))
-covered_nth (bind ks t) i l c = absurd (omega (arith, l))
-covered_nth nil i l c = absurd (omega (arith, l))
+-- Opaque types are aliases.
+pub opaque_is_alias : (t : Tree) → IsOpaque t → IsAlias t
+opaque_is_alias (node (alias opaque_alias d) ts) h = tt
+opaque_is_alias t h = absurd h
 
-pub covered_parts : (t : Tree) → IsCovered t → IsCovered (parts_of t)
-covered_parts (node h ts) c = c.1
-covered_parts t c = tt
+pub beside_is_opaque : (t u : Tree) → IsOpaqueBeside t u → IsOpaque t
+beside_is_opaque t (leaf (variable k n)) o = absurd o
+beside_is_opaque t u o = o
 
-covered_branches : (t : Tree) → IsCovered t → IsCovered (branches_of t)
-covered_branches (node value_branch ts) c = c.1
-covered_branches t c = tt
-
-covered_const_parts : (t : Tree) → IsCovered t → IsCovered (const_parts_of t)
-covered_const_parts (node (unevaluated d) ts) c = c.1
-covered_const_parts (node (expression k) ts) c = c.1
-covered_const_parts (node value (cons t (cons v nil))) c = covered_branches v c.1.1.0
-covered_const_parts t c = tt
-
-pub covered_part : (t : Tree) (i : ℕ) → i < count (parts_of t) → IsCovered t → IsCovered (nth i (parts_of t))
-covered_part t i l c = covered_nth (parts_of t) i l (covered_parts t c)
-
-pub covered_const_part : (t : Tree) (i : ℕ) → i < count (const_parts_of t) → IsCovered t →
-    IsCovered (nth i (const_parts_of t))
-covered_const_part t i l c = covered_nth (const_parts_of t) i l (covered_const_parts t c)
+beside_is_alias : (t u : Tree) → IsOpaqueBeside t u → IsAlias t
+beside_is_alias t u h = opaque_is_alias t (beside_is_opaque t u h)
 
 -- What is neither an alias nor an unevaluated constant is left to no goal.
-opaque_alias_type : (t : Tree) → IsOpaque t → IsAlias t
-opaque_alias_type (node (alias opaque_alias d) ts) h = tt
-opaque_alias_type t h = absurd h
-
-beside_alias : (t u : Tree) → IsOpaqueBeside t u → IsAlias t
-beside_alias t (leaf (variable k n)) h = absurd h
-beside_alias t u h = opaque_alias_type t h
-
 head_normal : (h : Head) (ts us : Tree) → IsAlias (node h ts) → IsAlias (node h us)
 head_normal (alias k d) ts us u = tt
 head_normal (unevaluated d) ts us u = tt
@@ -69,8 +41,8 @@ normal_not_left k a b f g (inl h) = either h.1
 normal_not_left k a b f g (inr h) = either h.1
   where
     either : IsOpaqueBeside a b ⊎ IsOpaqueBeside b a → ⊥
-    either (inl o) = f (beside_alias a b o)
-    either (inr o) = g (beside_alias b a o)
+    either (inl o) = f (beside_is_alias a b o)
+    either (inr o) = g (beside_is_alias b a o)
 
 -- So what is said of two as forms is said of them as they are brought together.
 pub said_as : {Key Id Name : Type 0} {m : Meaning Key Id Name} {k : Settings} {c : Items} {st : Store} {v : Variance}
