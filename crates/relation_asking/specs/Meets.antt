@@ -1,5 +1,5 @@
 -- What a visitor is asked about that skips some terms and stops at others.
-use Rattle.std.specs.Prelude.{◌≡◌, ℕ, Bool, true, false, cond, List, [], ◌∷◌, ◌++◌, IsTrue, map}
+use Rattle.std.specs.Prelude.{◌≡◌, ℕ, Bool, true, false, cond, ◌==◌, List, [], ◌∷◌, ◌++◌, IsTrue, map, length}
 use Rattle.std.specs.declared.ops.ControlFlow.TheVariants.{Continue, Break}
 use Rattle.relation_terms.specs.Trees.{Tree, known, list_tree}
 use Rattle.relation_terms.specs.Meaning.{Meaning, arg_tree}
@@ -20,9 +20,13 @@ is_in same (u ∷ us) t = cond (same u t) true (is_in same us t)
 abbrev pub answer_at : {T : Type 0} → (T → T → Bool) → List T → List T → T → Visit
 answer_at same skip stop t = cond (is_in same skip t) Skip (cond (is_in same stop t) Stop Enter)
 
+-- The same of the term of that number, from 1 on: the visit stops at the last that an answer has room for.
+abbrev pub answer_to : {T : Type 0} → (T → T → Bool) → List T → List T → ℕ → T → Visit
+answer_to same skip stop n t = cond (n == 349526) Stop (answer_at same skip stop t)
+
 -- From the trees that the visitor was asked about so far to those that it was asked about then, with its answer.
 abbrev pub Meets : List Tree → List Tree → List Tree → ℕ → Tree → List Tree → Visit → Type 0
-Meets skip stop met d t then a = (then ≡ met ++ t ∷ []) × (a ≡ answer_at same_tree skip stop t)
+Meets skip stop met d t then a = (then ≡ met ++ t ∷ []) × (a ≡ answer_to same_tree skip stop (length then) t)
 
 -- A visit that stopped, or went on to its end.
 abbrev pub flow : Bool → Flow

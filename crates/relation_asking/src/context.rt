@@ -9,7 +9,7 @@ ghost use Rattle.type_relations.specs.Relating.{AnswersOnly};
 ghost use Rattle.relation_reference.specs.Tables.{IsLawful};
 ghost use Rattle.relation_needs.specs.Needs.{Reaches};
 ghost use Rattle.std.specs.List.{All};
-ghost use Rattle.relation_asking.specs.Asking.{Has, HasStated, IsAskable, IsSetUp, MakesIn};
+ghost use Rattle.relation_asking.specs.Asking.{Has, HasNamed, HasStated, IsAskable, IsSetUp, MakesIn};
 ghost use Rattle.relation_asking.specs.Asking.{aliases_of, typing_mode, var_kind, variables_in, variance_of};
 
 use relation_contexts::infer_ctxt::{InferCtxtLike, TypingMode};
@@ -17,7 +17,7 @@ use relation_needs::needs::Needs;
 use relation_reference::context::RefCtxt;
 use relation_terms::terms::{Interner, LocalDefIds, OutOfMemory, ParamEnv, Span, Variance};
 use std::fmt::{self, Write};
-use text_reading::naming::{Mode, Setup, Variables};
+use text_reading::naming::{Mode, Setup, VariableId, VariableKind, Variables};
 use text_reading::reading::Relation;
 use type_relations::relate::Relate;
 use type_relations::relate::solver_relating::{RelateExt, RelateGoals};
@@ -35,6 +35,8 @@ pub enum NotAsked {
     Variance,
     /// Lists of arguments are related that have as many.
     Lengths,
+    /// What the question comes to may be too deep for the stack.
+    Depth,
 }
 
 // The typing mode of that name, in which no opaque types are defined.
@@ -70,16 +72,6 @@ pub(super) fn renewed<I: Interner>(
 {
     let mode = typing_mode::<I>(setup.mode, no_ids);
     ctx.renewed(mode, setup.next_solver, budget)
-}
-
-// A kind of variables.
-#[derive(Clone, Copy)]
-enum VariableKind {
-    Ty,
-    Int,
-    Float,
-    Const,
-    Region,
 }
 
 // How many variables of a kind the context has.
@@ -241,6 +233,20 @@ pub(super) fn have_variables<I: Interner>(
     reach(ctx, VariableKind::Region, needs.regions)
 }
 
+// Makes variables until the context has one that is named.
+pub(super) fn have_variable<I: Interner>(
+    ctx: &mut RefCtxt<I>,
+    variable: VariableId,
+) -> Result<(), OutOfMemory>
+    requires { IsLawful (I.meaning ctx.old.interner) ctx.old.inner }
+    ensures lawful { IsLawful (I.meaning ctx.new.interner) ctx.new.inner }
+    ensures grown { Extends (I.meaning ctx.old.interner) (I.meaning ctx.new.interner) }
+    ensures kept { (k : VarKind) → variables_in ctx.old.inner k ≤ variables_in ctx.new.inner k }
+    ensures has { OnOk result (HasNamed ctx.new.inner variable) }
+{
+    reach(ctx, variable.kind, Some(variable.number))
+}
+
 // Why two types are not related so in a context, if they are not.
 pub(super) fn refusal<I: Interner>(
     ctx: &RefCtxt<I>,
@@ -318,5 +324,6 @@ pub(super) fn write_not_asked<W: Write>(why: NotAsked, out: &mut W) -> fmt::Resu
         }
         NotAsked::Variance => out.write_str("nothing is related at this variance"),
         NotAsked::Lengths => out.write_str("one list has more arguments than the other"),
+        NotAsked::Depth => out.write_str("what it comes to may be too deep for the stack"),
     }
 }

@@ -18,6 +18,17 @@ use relation_terms::predicate::TraitRef;
 use relation_terms::terms::{Binder, Clause, Interner};
 use text_reading::naming::Parts;
 
+// How many predicates are told at most. Each is written with three bytes or more: so many are more than an answer has.
+const MOST: usize = 349_526;
+
+// A number of predicates, or that of all that are told.
+pub(super) fn told(count: Option<usize>) -> Option<usize> {
+    match count {
+        None => None,
+        Some(count) => Some(count.min(MOST)),
+    }
+}
+
 // The clauses of a range of a program's predicates. There are none where a growth was refused.
 fn clauses_of<I: Interner>(cx: &mut I, terms: &Ready<I>, range: Parts) -> Option<Vec<Clause<I>>>
     requires { AllReady (I.meaning cx.old) terms.now }
@@ -89,7 +100,7 @@ pub(super) fn ask_supertraits<I: Interner>(
     let Some(of) = bound_of(&mut ctx.interner, terms, clause) else {
         return Err(Unasked::Memory);
     };
-    match supertraits_of(&mut ctx.interner, of, limit.unwrap_or(LIMIT)) {
+    match supertraits_of(&mut ctx.interner, of, told(limit).unwrap_or(LIMIT)) {
         Ok(all) => Ok(all),
         Err(_) => Err(Unasked::Memory),
     }

@@ -6,6 +6,8 @@ ghost use Rattle.relation_asking.specs.Asking.{AllReady};
 mod answer_text;
 mod comparing;
 mod context;
+mod counting;
+mod depth;
 mod elaborating;
 mod folding;
 mod interner;
@@ -14,14 +16,17 @@ mod outlives;
 pub mod printing;
 mod question;
 mod quick;
+mod roots;
 pub mod sized_keys;
 mod visiting;
 mod walking;
+mod writing;
 
 use answer_text::AnswerText;
+use depth::{Counts, Depths};
 use elaboration_asking::stating::state_all;
 use interner::{Tables, make_interner, make_tables};
-use question::{Ready, ask_often, context_for, write_whole};
+use question::{Ready, ask_unless, context_for};
 use relation_contexts::infer_ctxt::TypingMode;
 use relation_needs::binding::uses_of;
 pub use relation_needs::needs;
@@ -33,6 +38,7 @@ use std::fmt::{self, Write};
 use text_reading::naming::Program;
 use text_terms::building::build;
 use text_terms::printing::TextsOf;
+use writing::write_whole;
 
 // What is answered where a trait states a predicate in which a variable stands that its binder does not bind.
 const NOT_OWN: &str = "not asked: what a trait states is to bind its variables itself";
@@ -66,13 +72,22 @@ fn ask_ready<I: SizedKeys + Drop, W: Write>(
     let Ok(room) = AnswerText::new(alloc) else {
         return refuse_all(program, between, out);
     };
+    let Ok(begun) = Depths::new(alloc, program) else {
+        return refuse_all(program, between, out);
+    };
+    let mut depths = begun;
     let mut text = room;
     let mut ctx = made;
     let mut any = false;
     for question in &program.questions {
         separate(any, between, out)?;
         let asked = context_for(ctx, terms, question);
-        let (left, outcome) = ask_often(asked, terms, question);
+        let counts = Counts {
+            types: asked.inner.types.len(),
+            consts: asked.inner.consts.len(),
+        };
+        let why_not = depths.refusal(program, terms.needs, question, counts);
+        let (left, outcome) = ask_unless(asked, terms, question, why_not);
         ctx = left;
         write_whole(&ctx, texts, question, &outcome, &mut text, out)?;
         any = true;
@@ -101,9 +116,10 @@ fn refuse_all<W: Write>(program: &Program, between: &str, out: &mut W) -> fmt::R
     answer_all(program, "memory", between, out)
 }
 
-/// Asks all questions of a program in turn, over an interner and the ids and names that its items and names have there,
-/// and writes the answers, with the given text between two. Where a growth is refused before an answer is whole, or it
-/// is longer than 16 MiB, `memory` stands in its place. A question with `then` goes on in the context that was left.
+/// Asks all questions of a program in turn, over an interner and the ids and names that its items and names have
+/// there, and writes the answers, with the given text between two. Where a growth is refused before an answer is whole,
+/// `memory` stands in its place. An answer longer than 1 MiB is cut off there, with `..` behind it. A question with
+/// `then` goes on in the context that was left.
 ///
 /// # Errors
 /// What the writer answers where an answer can't be written.

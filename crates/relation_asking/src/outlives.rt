@@ -9,6 +9,7 @@ ghost use Rattle.relation_asking.specs.Meets.{AllKnown};
 ghost use Rattle.relation_asking.specs.Asking.{AllReady};
 ghost use Rattle.relation_asking.specs.Outlives.{KnowsComponent, KnowsComponents};
 
+use crate::answer_text::{AnswerText, CUT_OFF, LONGEST};
 use crate::question::{Ready, Unasked, terms_of, type_of};
 use crate::sized_keys::SizedKeys;
 use relation_reference::context::RefCtxt;
@@ -24,6 +25,9 @@ use text_reading::naming::Parts;
 use text_terms::printing::{
     TextsOf, write_alias, write_arg, write_param, write_placeholder, write_region, write_variable,
 };
+
+// What stands between two assumptions.
+const BETWEEN: &str = " | ";
 
 // The components of a type.
 pub(super) fn ask_components<I: SizedKeys>(
@@ -170,22 +174,50 @@ pub(super) fn ask_assumptions<I: Interner>(
     }
 }
 
-// The text of an assumption: `T: 'a`.
-fn assumption_text<I: Interner>(
+// Writes an assumption: `T: 'a`.
+fn write_assumption<I: Interner, W: Write>(
     cx: &I,
     texts: &TextsOf<I>,
     assumption: &OutlivesAssumption<I>,
-) -> Result<String, fmt::Error>
+    out: &mut W,
+) -> fmt::Result
     requires { IsKnown (I.meaning cx.now) assumption.now }
 {
-    let mut text = String::new(cx.alloc());
-    write_arg(cx, texts, &assumption.0, &mut text)?;
-    text.write_str(": ")?;
-    write_region(cx, texts, &assumption.1, &mut text)?;
-    Ok(text)
+    write_arg(cx, texts, &assumption.0, out)?;
+    out.write_str(": ")?;
+    write_region(cx, texts, &assumption.1, out)
 }
 
-// Writes assumptions, in the order of their texts.
+// The texts of assumptions that are together no longer than an answer, in order, and the front of the first for which
+// there was no room.
+fn assumption_texts<I: Interner>(
+    cx: &I,
+    texts: &TextsOf<I>,
+    assumptions: &[OutlivesAssumption<I>],
+) -> Result<(Vec<String>, Option<String>), fmt::Error>
+    requires { All (IsKnown (I.meaning cx.now)) assumptions.now }
+{
+    let mut lines = Vec::new(cx.alloc());
+    let mut room = LONGEST;
+    for assumption in assumptions {
+        let mut line = AnswerText::with_room(cx.alloc(), room);
+        let written = write_assumption(cx, texts, assumption, &mut line);
+        if line.cut {
+            lines.sort_unstable();
+            return Ok((lines, Some(line.text)));
+        }
+        written?;
+        room = line.room.saturating_sub(BETWEEN.len());
+        if lines.push(line.text).is_err() {
+            return Err(fmt::Error);
+        }
+    }
+    lines.sort_unstable();
+    Ok((lines, None))
+}
+
+// Writes assumptions, in the order of their texts. Where they are longer than an answer, those that were found first
+// are written, up to the one at which it is cut off.
 pub(super) fn write_assumptions<I: Interner, W: Write>(
     cx: &I,
     texts: &TextsOf<I>,
@@ -194,19 +226,19 @@ pub(super) fn write_assumptions<I: Interner, W: Write>(
 ) -> fmt::Result
     requires { All (IsKnown (I.meaning cx.now)) assumptions.now }
 {
-    let mut lines = Vec::new(cx.alloc());
-    for assumption in assumptions {
-        let text = assumption_text(cx, texts, assumption)?;
-        if lines.push(text).is_err() {
-            return Err(fmt::Error);
-        }
-    }
-    lines.sort_unstable();
+    let (lines, front) = assumption_texts(cx, texts, assumptions)?;
     for (place, line) in lines.iter().enumerate() {
         if place > 0 {
-            out.write_str(" | ")?;
+            out.write_str(BETWEEN)?;
         }
         out.write_str(line.as_str())?;
     }
-    Ok(())
+    let Some(front) = front else {
+        return Ok(());
+    };
+    if !lines.is_empty() {
+        out.write_str(BETWEEN)?;
+    }
+    out.write_str(front.as_str())?;
+    out.write_str(CUT_OFF)
 }

@@ -8,20 +8,17 @@ ghost use Rattle.relation_asking.specs.Meets.{AllKnown};
 ghost use Rattle.relation_asking.specs.Asking.{AllReady, IsReady, IsSetUp, KnowsAnswer, KnowsRelated};
 
 use crate::BUDGET;
-use crate::answer_text::AnswerText;
-use crate::context::{
-    NotAsked, have_all_stated, have_variables, refusal, relate, renewed, write_not_asked,
-};
-use crate::elaborating::{ask_elaborated, ask_supertrait_ids, ask_supertraits};
+use crate::context::{NotAsked, have_all_stated, have_variables, refusal, relate, renewed};
+use crate::elaborating::{ask_elaborated, ask_supertrait_ids, ask_supertraits, told};
 use crate::folding::{fold, puts_at};
 use crate::lists::ask_args_related;
-use crate::outlives::{ask_assumptions, ask_components, write_assumptions, write_components};
-use crate::printing::write_answer;
-use crate::quick::{KeyOf, ask_args_may_unify, ask_key, ask_may_unify, write_key};
+use crate::outlives::{ask_assumptions, ask_components};
+use crate::quick::{KeyOf, ask_args_may_unify, ask_key, ask_may_unify};
+use crate::roots::{ask_binding, ask_one};
 use crate::sized_keys::SizedKeys;
-use crate::visiting::{Met, visit, write_met};
-use crate::walking::{numbers_at, write_walked};
-use elaboration_asking::pulls::{Manner, Pulled, write_pulls};
+use crate::visiting::{Met, visit};
+use crate::walking::numbers_at;
+use elaboration_asking::pulls::{Manner, Pulled};
 use relation_folds::visit::{has_escaping_bound_vars, has_non_region_infer, is_known_rigid};
 use relation_needs::needs::{Needs, both, need_at};
 use relation_reference::context::RefCtxt;
@@ -29,11 +26,9 @@ use relation_terms::predicate::OutlivesPredicate;
 use relation_terms::terms::{GenericArg, GenericArgKind, Interner, Keys, LocalDefIds, Ty};
 use relation_tools::outlives::Component;
 use std::alloc::Global;
-use std::fmt::{self, Write};
 use text_reading::naming::{Clause, Parts, Put, Question, QuestionKind, Variables};
 use text_reading::reading::Relation;
 use text_terms::building::{key_at, keys_at, ty_at};
-use text_terms::printing::{TextsOf, write_arg};
 use type_relations::relate::solver_relating::RelateGoals;
 
 // The keys of a program's terms, and what each term needs.
@@ -76,10 +71,11 @@ pub(super) enum Answer<R, K, X, D, N> {
     Is(bool),
     Key(K),
     Pulls(Vec<Pulled<X, D>>),
+    Binding(Option<GenericArgKind<X>>),
 }
 
 // What is answered to a question over an interner.
-type AnswerOf<I> = Answer<
+pub(super) type AnswerOf<I> = Answer<
     RelateGoals<I>,
     KeyOf<I>,
     <I as Keys>::Key,
@@ -360,8 +356,8 @@ fn ask<I: SizedKeys>(ctx: &mut RefCtxt<I>, terms: &Ready<I>, question: &Question
             let manner = Manner {
                 only_self,
                 sized,
-                limit,
-                pulls,
+                limit: told(limit),
+                pulls: told(pulls),
             };
             let all = ask_elaborated(ctx, terms, clauses, &manner)?;
             Ok(Answer::Pulls(all))
@@ -373,6 +369,14 @@ fn ask<I: SizedKeys>(ctx: &mut RefCtxt<I>, terms: &Ready<I>, question: &Question
         QuestionKind::SupertraitIds(item) => {
             let all = ask_supertrait_ids(&ctx.interner, terms, item)?;
             Ok(Answer::Pulls(all))
+        }
+        QuestionKind::One(first, second) => {
+            let one = ask_one(ctx, first, second)?;
+            Ok(Answer::Is(one))
+        }
+        QuestionKind::Binding(variable) => {
+            let bound = ask_binding(ctx, variable)?;
+            Ok(Answer::Binding(bound))
         }
     }
 }
@@ -400,7 +404,7 @@ fn ask_in<I: SizedKeys>(ctx: &mut RefCtxt<I>, terms: &Ready<I>, question: &Quest
 }
 
 // Asks a question as often as it says, each time but the first in a new context, and answers the last one.
-pub(super) fn ask_often<I: SizedKeys>(
+fn ask_often<I: SizedKeys>(
     ctx: RefCtxt<I>,
     terms: &Ready<I>,
     question: &Question,
@@ -421,73 +425,23 @@ pub(super) fn ask_often<I: SizedKeys>(
     (ctx, outcome)
 }
 
-// Writes an answer, and how many instantiations are left where it was said how many a relation may make.
-fn write_given<I: Interner, W: Write>(
-    ctx: &RefCtxt<I>,
-    texts: &TextsOf<I>,
+// Asks a question as often as it says, unless it is said why not.
+#[tactic(auto, using(relation_terms::proofs::Stays::stays_same))]
+pub(super) fn ask_unless<I: SizedKeys>(
+    ctx: RefCtxt<I>,
+    terms: &Ready<I>,
     question: &Question,
-    answer: &AnswerOf<I>,
-    out: &mut W,
-) -> fmt::Result
-    requires lawful { IsLawful (I.meaning ctx.now.interner) ctx.now.inner }
-    requires known { let m = I.meaning ctx.now.interner in
-        KnowsAnswer m (KnowsRelated m) answer.now }
+    why_not: Option<Unasked>,
+) -> (RefCtxt<I>, Outcome<I>)
+    requires lawful { IsLawful (I.meaning ctx.interner) ctx.inner }
+    requires ready { AllReady (I.meaning ctx.interner) terms.now }
+    ensures lawful { IsLawful (I.meaning result.0.interner) result.0.inner }
+    ensures grown { Extends (I.meaning ctx.interner) (I.meaning result.0.interner) }
+    ensures known { let m = I.meaning result.0.interner in
+        IfOk result.1 (KnowsAnswer m (KnowsRelated m)) }
 {
-    match answer {
-        Answer::Related(related) => {
-            write_answer(ctx, texts, related, out)?;
-            if question.budget.is_some() {
-                let left = ctx.budget_left();
-                write!(out, "; left={left}")?;
-            }
-            Ok(())
-        }
-        Answer::Met(met) => write_met(&ctx.interner, texts, met, out),
-        Answer::Walked(yielded) => write_walked(&ctx.interner, texts, yielded, out),
-        Answer::Components(found) => write_components(&ctx.interner, texts, found, out),
-        Answer::Assumed(all) => write_assumptions(&ctx.interner, texts, all, out),
-        Answer::Folded(term) => write_arg(&ctx.interner, texts, term, out),
-        Answer::Is(holds) => write!(out, "{holds}"),
-        Answer::Key(key) => write_key::<I, W>(texts, key, out),
-        Answer::Pulls(all) => write_pulls(&ctx.interner, texts, all, out),
-    }
-}
-
-// Writes what came of a question.
-fn write_outcome<I: Interner, W: Write>(
-    ctx: &RefCtxt<I>,
-    texts: &TextsOf<I>,
-    question: &Question,
-    outcome: &Outcome<I>,
-    out: &mut W,
-) -> fmt::Result
-    requires lawful { IsLawful (I.meaning ctx.now.interner) ctx.now.inner }
-    requires known { let m = I.meaning ctx.now.interner in
-        IfOk outcome.now (KnowsAnswer m (KnowsRelated m)) }
-{
-    match outcome {
-        Err(Unasked::Memory) => out.write_str("memory"),
-        Err(Unasked::NotAsked(why)) => write_not_asked(*why, out),
-        Ok(answer) => write_given(ctx, texts, question, answer, out),
-    }
-}
-
-// Writes what came of a question, as a text that is made first: where that can't be made, `memory` stands in its place.
-pub(super) fn write_whole<I: Interner, W: Write>(
-    ctx: &RefCtxt<I>,
-    texts: &TextsOf<I>,
-    question: &Question,
-    outcome: &Outcome<I>,
-    text: &mut AnswerText,
-    out: &mut W,
-) -> fmt::Result
-    requires lawful { IsLawful (I.meaning ctx.now.interner) ctx.now.inner }
-    requires known { let m = I.meaning ctx.now.interner in
-        IfOk outcome.now (KnowsAnswer m (KnowsRelated m)) }
-{
-    text.text.clear();
-    match write_outcome(ctx, texts, question, outcome, text) {
-        Ok(()) => out.write_str(text.text.as_str()),
-        Err(_) => out.write_str("memory"),
+    match why_not {
+        Some(why) => (ctx, Err(why)),
+        None => ask_often(ctx, terms, question),
     }
 }

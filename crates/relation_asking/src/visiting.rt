@@ -4,7 +4,7 @@ ghost use Rattle.relation_terms.specs.Trees.{known};
 ghost use Rattle.relation_terms.specs.Meaning.{arg_tree};
 ghost use Rattle.relation_folds.specs.Visits.{Walks};
 ghost use Rattle.relation_asking.specs.Args.{same_arg};
-ghost use Rattle.relation_asking.specs.Meets.{is_in, answer_at, AllKnown, Asks, IsMet, flow};
+ghost use Rattle.relation_asking.specs.Meets.{is_in, answer_to, AllKnown, Asks, IsMet, flow};
 
 use crate::comparing::same_arg;
 use relation_folds::visit::{TypeVisitable, TypeVisitor, Visit};
@@ -12,6 +12,10 @@ use relation_terms::terms::{Const, GenericArg, GenericArgKind, Interner, Region,
 use std::fmt::{self, Write};
 use std::ops::ControlFlow;
 use text_terms::printing::{TextsOf, write_arg};
+
+// How many terms a visitor is asked about at most. Each is written with three bytes or more, so that an answer with so
+// many is cut off before the last.
+const MOST: usize = 349_526;
 
 /// The terms that a visitor was asked about, in order, and whether it stopped.
 #[derive(Drop)]
@@ -43,7 +47,7 @@ fn is_in<X: Copy + PartialEq>(terms: &[GenericArgKind<X>], term: GenericArgKind<
 }
 
 impl<'a, X: Copy + PartialEq> Collects<'a, X> {
-    ghost use Rattle.std.specs.Prelude.{◌++◌, ◌∷◌, false};
+    ghost use Rattle.std.specs.Prelude.{◌++◌, ◌∷◌, false, length};
 
     // What is answered at a term.
     fn meet(&mut self, term: GenericArgKind<X>) -> Visit
@@ -52,10 +56,13 @@ impl<'a, X: Copy + PartialEq> Collects<'a, X> {
         ensures kept { self.new.refused ≡ false → self.old.refused ≡ false }
         ensures met { self.new.refused ≡ false → self.new.terms.items ≡ self.old.terms.items ++ term ∷ [] }
         ensures answer { self.new.refused ≡ false → result ≡
-            answer_at (same_arg X.eq) self.old.skip.now self.old.stop.now term }
+            answer_to (same_arg X.eq) self.old.skip.now self.old.stop.now (length self.new.terms.items) term }
     {
         if self.terms.push(term).is_err() {
             self.refused = true;
+            return Visit::Stop;
+        }
+        if self.terms.len() == MOST {
             return Visit::Stop;
         }
         if is_in(self.skip, term) {
@@ -98,8 +105,8 @@ fn walk<I: Interner>(cx: &I, term: &GenericArg<I>, visitor: &mut Collects<I::Key
     }
 }
 
-// What a visitor of a term is asked about that skips some terms and stops at others. There is no answer where a growth
-// was refused.
+// What a visitor of a term is asked about that skips some terms and stops at others, and behind as many as are told.
+// There is no answer where a growth was refused.
 pub(super) fn visit<I: Interner>(
     cx: &I,
     term: &GenericArg<I>,

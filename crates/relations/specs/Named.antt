@@ -36,8 +36,8 @@ abbrev pub IsTopRow : List ℕ → Type 0
 IsTopRow name =
     (name ≡ codes "r54") ⊎ ((name ≡ codes "r55") ⊎ ((name ≡ codes "r56") ⊎ ((name ≡ codes "r57") ⊎ (
     (name ≡ codes "r58") ⊎ ((name ≡ codes "r59") ⊎ ((name ≡ codes "r60") ⊎ ((name ≡ codes "r61") ⊎ (
-    (name ≡ codes "r63") ⊎ ((name ≡ codes "r65") ⊎ ((name ≡ codes "r66") ⊎ ((name ≡ codes "r67") ⊎ (
-    (name ≡ codes "r68") ⊎ (name ≡ codes "r69")))))))))))))
+    (name ≡ codes "r63") ⊎ ((name ≡ codes "r64") ⊎ ((name ≡ codes "r65") ⊎ ((name ≡ codes "r66") ⊎ (
+    (name ≡ codes "r67") ⊎ ((name ≡ codes "r68") ⊎ ((name ≡ codes "r69") ⊎ (name ≡ codes "r70")))))))))))))))
 
 -- A row has that name.
 abbrev pub IsRow : List ℕ → Type 0

@@ -3,6 +3,7 @@ ghost use Rattle.std.specs.Prelude.{IfOk, IsSome};
 ghost use Rattle.relation_terms.specs.Predicates.{item_parent};
 ghost use Rattle.reference_interner.specs.Adding.{meaning_in};
 
+mod deepening;
 mod delaying;
 mod growing;
 mod making;
@@ -11,6 +12,7 @@ mod writing;
 
 use crate::doubling::count_terms_and_nodes;
 use crate::running::RowFault;
+use deepening::write_deep;
 use delaying::write_found;
 use growing::write_yielded;
 use reference_interner::{
@@ -157,6 +159,7 @@ pub fn call(alloc: Global, name: &str) -> Result<String, RowFault> {
         "r50" => write_objects(alloc, &mut text)?,
         "r51" => write_regions(alloc, &mut text)?,
         "r52" => write_refused(alloc, &mut text)?,
+        "r64" => write_deep(alloc, &mut text)?,
         "r65" => write_yielded(alloc, &mut text)?,
         _ => write_counts(alloc, &mut text)?,
     }

@@ -89,11 +89,13 @@ fn is_top_row(name: &str) -> bool
         || name == "r60"
         || name == "r61"
         || name == "r63"
+        || name == "r64"
         || name == "r65"
         || name == "r66"
         || name == "r67"
         || name == "r68"
         || name == "r69"
+        || name == "r70"
 }
 
 /// Whether a row has that name.

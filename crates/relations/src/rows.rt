@@ -200,7 +200,7 @@ pub const EARLY_ROWS: [Row; 33] = [
 ];
 
 /// The rows from r35 on.
-pub const LATE_ROWS: [Row; 31] = [
+pub const LATE_ROWS: [Row; 33] = [
     Row {
         name: "r35",
         questions: "struct K<-T>; param 'a, 'b;
@@ -361,6 +361,11 @@ pub const LATE_ROWS: [Row; 31] = [
             ok; regions=['?0 == '!1.0, '?0 == '?1]; bound=[?0=&'?0 u8] | err Mismatch",
     },
     Row {
+        name: "r64",
+        questions: "",
+        stored: "true | err Sorts(bool, char)",
+    },
+    Row {
         name: "r65",
         questions: "",
         stored: "999 | limit",
@@ -388,5 +393,13 @@ pub const LATE_ROWS: [Row; 31] = [
             may unify[rigid, rigid] C<{1}>, C<{1, 2}>;
             C<{?c0, 2}> == C<{1, 2}>;",
         stored: "true | false | false | ok; bound=[?c0=1]",
+    },
+    Row {
+        name: "r70",
+        questions: "trait Tr; type Tr::A; param T, 'a, 'b, 'c, 'd;
+            (&'a u8, &'b mut u8) <: (&'c u8, &'d mut u8); (&'a u8, &'b mut u8) :> (&'c u8, &'d mut u8);
+            (<T as Tr>::A, &'a u8) <: (u8, &'b u8);",
+        stored: "ok; regions=['a: 'c, 'b: 'd] | ok; regions=['c: 'a, 'd: 'b] | \
+            ok; goals=[AliasRelate(<T as Tr>::A, u8, Subtype)]; regions=['a: 'b]",
     },
 ];

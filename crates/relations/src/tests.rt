@@ -74,11 +74,14 @@ r60: true | false | true | false
 r61: 61 | 0
 r63: ok; regions=['!1.0: '?0]; bound=[?0=&'?0 u8] | \
     ok; regions=['?0 == '!1.0, '?0 == '?1]; bound=[?0=&'?0 u8] | err Mismatch
+r64: true | err Sorts(bool, char)
 r65: 999 | limit
 r66: ok; left=0 | budget; left=0 | budget; left=0 | ok; bound=[?i0=u8]; left=0
 r67: err CyclicTy([?0]); left=1 | budget; left=0
 r68: limit | limit | U: 'a | end
 r69: true | false | false | ok; bound=[?c0=1]
+r70: ok; regions=['a: 'c, 'b: 'd] | ok; regions=['c: 'a, 'd: 'b] | \
+    ok; goals=[AliasRelate(<T as Tr>::A, u8, Subtype)]; regions=['a: 'b]
 ";
 
 // The words of a run, its status, and what it writes.

@@ -29,6 +29,7 @@ expected_text expected.Region = codes "a region"
 expected_text expected.Name = codes "a name"
 expected_text expected.Number = codes "a number"
 expected_text expected.Variable = codes "a variable"
+expected_text expected.AnyVariable = codes "a variable of any kind"
 expected_text expected.Parameter = codes "a parameter"
 expected_text expected.Bound = codes "a variable of a binder"
 expected_text expected.BoundConst = codes "a constant of a binder"
@@ -53,6 +54,6 @@ WritesError took text Memory old new = WritesInCalls took old (codes "memory") n
 WritesError took text TooLong old new = WritesInCalls took old (codes "the text is longer than 1 MiB") new
 WritesError took text (NoWord at) old new = WritesInCalls took old (codes "no word begins here") new
 WritesError took text (TooLarge at) old new = WritesInCalls took old (codes "the number is too large") new
-WritesError took text (TooDeep at) old new = WritesInCalls took old (codes "the term has more than 1000 levels") new
+WritesError took text (TooDeep at) old new = WritesInCalls took old (codes "the term has more than 1024 levels") new
 WritesError took text (Unexpected at end e) old new = (found : List ℕ) × IsFound text at end found
     × WritesInCalls took old (codes "expected " ++ (expected_text e ++ found_text found)) new

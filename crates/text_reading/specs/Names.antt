@@ -105,7 +105,7 @@ wrong_text found wrong.NoSolver = expected_found (codes "`old` or `next`") found
 wrong_text found wrong.NoMode = expected_found (codes "a typing mode") found
 wrong_text found wrong.NoTime = expected_found (codes "a number above 0") found
 wrong_text found wrong.NothingBefore = codes "expected a question before this, found none"
-wrong_text found wrong.TooDeep = codes "the term has more than 1000 levels"
+wrong_text found wrong.TooDeep = codes "the term has more than 1024 levels"
 wrong_text found wrong.NotRead = codes "expected what reading makes, found another tree"
 
 -- why the names of a text were not looked up was written

@@ -17,6 +17,8 @@ use Rattle.text_reading.specs.declared.reading.tree.Relation.{Relation}
 use Rattle.text_reading.specs.declared.reading.tree.Relation.TheVariants as relation
 use Rattle.text_reading.specs.declared.reading.tree.Setting.{Setting}
 use Rattle.text_reading.specs.declared.reading.tree.Setting.TheVariants as setting
+use Rattle.text_reading.specs.declared.reading.tree.Counted.{Counted}
+use Rattle.text_reading.specs.declared.reading.tree.Counted.TheVariants as counted
 use Rattle.text_reading.specs.declared.reading.tree.SideParams.{SideParams}
 use Rattle.text_reading.specs.declared.reading.tree.SideParams.TheVariants as sides
 use Rattle.text_reading.specs.declared.reading.tree.StatedKind.{StatedKind}
@@ -66,11 +68,13 @@ spelling sign.As = codes "as"
 spelling sign.Assumptions = codes "assumptions"
 spelling sign.At = codes "at"
 spelling sign.Auto = codes "auto"
+spelling sign.Binding = codes "binding"
 spelling sign.Budget = codes "budget"
 spelling sign.Closure = codes "closure"
 spelling sign.Components = codes "components"
 spelling sign.Const = codes "const"
 spelling sign.Coroutine = codes "coroutine"
+spelling sign.Count = codes "count"
 spelling sign.Dyn = codes "dyn"
 spelling sign.Elaborate = codes "elaborate"
 spelling sign.Error = codes "error"
@@ -80,6 +84,7 @@ spelling sign.Extern = codes "extern"
 spelling sign.Fn = codes "fn"
 spelling sign.Fold = codes "fold"
 spelling sign.For = codes "for"
+spelling sign.Goals = codes "goals"
 spelling sign.Implied = codes "implied"
 spelling sign.In = codes "in"
 spelling sign.Infer = codes "infer"
@@ -93,9 +98,11 @@ spelling sign.May = codes "may"
 spelling sign.Mode = codes "mode"
 spelling sign.Mut = codes "mut"
 spelling sign.Null = codes "null"
+spelling sign.One = codes "one"
 spelling sign.Opaque = codes "opaque"
 spelling sign.Param = codes "param"
 spelling sign.Pulls = codes "pulls"
+spelling sign.Regions = codes "regions"
 spelling sign.Repeat = codes "repeat"
 spelling sign.Rigid = codes "rigid"
 spelling sign.SelfType = codes "self"
@@ -130,6 +137,11 @@ abbrev pub setting_sign : Setting → Sign
 setting_sign setting.Budget = sign.Budget
 setting_sign setting.Solver = sign.Solver
 setting_sign setting.Mode = sign.Mode
+
+-- what stands behind `count`
+abbrev pub counted_sign : Counted → Sign
+counted_sign counted.Goals = sign.Goals
+counted_sign counted.Regions = sign.Regions
 
 -- what stands behind the `*` of a raw pointer
 abbrev pub pointer_sign : Mutability → Sign

@@ -12,6 +12,7 @@ mod predicates;
 mod program;
 mod questions;
 mod quick;
+mod roots;
 mod statements;
 mod terms;
 mod walks;
@@ -19,6 +20,6 @@ mod walks;
 pub use error::{Missing, NameError, Wrong, write_name_error};
 pub use program::{
     Clause, Declared, Item, Mode, ParamSort, Parts, Program, Put, Question, QuestionKind, Says,
-    Setup, Sort, Stated, Term, Variables,
+    Setup, Sort, Stated, Term, VariableId, VariableKind, Variables,
 };
 pub use statements::{LAST_UNIVERSE, MOST_VARIABLES, look_up};

@@ -24,7 +24,7 @@ pub use place::{Place, place_of};
 pub use signs::Sign;
 pub use statements::read;
 pub use tree::{
-    Claim, Form, ItemSort, KeyParams, Node, NodeKind, Relation, Setting, SideParams, StatedKind,
-    Tree,
+    Claim, Counted, Form, ItemSort, KeyParams, Node, NodeKind, Relation, Setting, SideParams,
+    StatedKind, Tree,
 };
 pub use words::{Leaf, Word, WordKind};

@@ -156,6 +156,9 @@ const WRONG_NAMES: &str = "\
     struct K<T>; visit K<?c0>; => 1:22: expected a type, found a constant\n\
     visit [u8; ?i0]; => 1:12: expected a constant, found a type\n\
     visit ?f10000; => 1:7: expected a variable below 10000, found `?f10000`\n\
+    one ?9999, ?i10000; => 1:12: expected a variable below 10000, found `?i10000`\n\
+    then binding '?10000; => 1:14: expected a variable below 10000, found `'?10000`\n\
+    then one ?0, ?0; => 1:1: expected a question before this, found none\n\
     visit '!1.x; => 1:7: expected a place by its number, found `'!1.x`\n\
     then visit u8; => 1:1: expected a question before this, found none\n\
     visit fn(^0); => 1:10: `^0` is no variable of a binder around it; `for<^0> fn()` binds one\n\
@@ -221,18 +224,18 @@ fn wrong_names_are_told_with_their_lines(rt: HostRuntime) -> Result<(), Fail> {
 fn deep_terms_are_told(rt: HostRuntime) -> Result<(), Fail> {
     let mut text = String::from_str(rt.alloc(), "let t0 = u8;")?;
     let mut below = 0;
-    for level in 1..1000 {
+    for level in 1..1024 {
         write!(text, "let t{level} = (t{below}, t{below});")?;
         below = level;
     }
-    text.push_str("t999 == t999;")?;
+    text.push_str("t1023 == t1023;")?;
     let all = shown(rt.alloc(), text.as_str())?;
     assert_eq!(rt;
         all.as_str(),
-        "items=0 names=0 terms=1019 parts=1998 questions=1"
+        "items=0 names=0 terms=1043 parts=2046 questions=1"
     );
-    text.push_str("\n[t999] == u8;")?;
+    text.push_str("\n[t1023] == u8;")?;
     let all = shown(rt.alloc(), text.as_str())?;
-    assert_eq!(rt; all.as_str(), "2:1: the term has more than 1000 levels");
+    assert_eq!(rt; all.as_str(), "2:1: the term has more than 1024 levels");
     Ok(())
 }

@@ -2,7 +2,7 @@
 use std::alloc::Global;
 use std::fmt::{self, Write};
 use std::test::Fail;
-use text_reading::reading::{Form, NodeKind, Setting, Tree, place_of, read, write_error};
+use text_reading::reading::{Counted, Form, NodeKind, Setting, Tree, place_of, read, write_error};
 
 // Writes a node: a leaf as its text, a form with its parts.
 fn write_node(
@@ -78,6 +78,10 @@ fn form_name(form: Form) -> &'static str {
         Form::ArgsMayUnify(_) => "args-may-unify",
         Form::ArgsEqual => "args-equal",
         Form::Key(_) => "key",
+        Form::Count(Counted::Goals) => "count-goals",
+        Form::Count(Counted::Regions) => "count-regions",
+        Form::One => "one",
+        Form::Binding => "binding",
         Form::Terms => "terms",
         Form::Put => "put",
         Form::Then => "then",
@@ -199,6 +203,11 @@ fn texts_are_read(rt: HostRuntime) -> Result<(), Fail> {
             "file(may-unify(T slice(U) 3) args-may-unify(terms(T 'a) terms()) key(T) key(U))",
         ),
         (
+            "count goals T :> U; then count regions [T] === U; one ?0, '?1; then binding ?i2; one ?f4, ?c3;",
+            "file(count-goals(question(T U)) then(count-regions(question(slice(T) U))) one(?0 '?1) \
+             then(binding(?i2)) one(?f4 ?c3))",
+        ),
+        (
             "args [T, 2,] == ['a]; may unify[rigid, rigid] T, T;",
             "file(args-equal(terms(T 2) terms('a)) may-unify(T T))",
         ),
@@ -267,6 +276,12 @@ const WRONG_TEXTS: &str = "\
     visit unsafe T; => 1:14: expected `fn`, found `T`\n\
     visit extern fn(); => 1:14: expected `\"C\"` or `\"system\"`, found `fn`\n\
     visit extern \"Rust\" fn(); => 1:14: no word begins here\n\
+    count T <: U; => 1:7: expected `goals` or `regions`, found `T`\n\
+    count goals T, U; => 1:14: expected `<:`, `:>`, `==` or `===`, found `,`\n\
+    one ?0; => 1:7: expected `,`, found `;`\n\
+    one ?0, T; => 1:9: expected a variable of any kind, found `T`\n\
+    binding '!1a; => 1:9: expected a variable of any kind, found `'!1a`\n\
+    let one = T; => 1:5: expected a name, found `one`\n\
     may T, U; => 1:5: expected `unify`, found `T`\n\
     args T; => 1:6: expected `[`, found `T`\n\
     args [T]; => 1:9: expected `==`, found `;`\n\
@@ -314,6 +329,6 @@ fn deep_terms_are_refused(rt: HostRuntime) -> Result<(), Fail> {
         text.push_str("[")?;
     }
     let all = shown(rt.alloc(), text.as_str())?;
-    assert_eq!(rt; all.as_str(), "1:1001: the term has more than 1000 levels");
+    assert_eq!(rt; all.as_str(), "1:1025: the term has more than 1024 levels");
     Ok(())
 }

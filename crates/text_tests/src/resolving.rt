@@ -1,4 +1,4 @@
-//! Resolving and the occurs check go through each part once, however often it stands in a term.
+//! Questions about a term go through each part once, however often it stands there, and their answers are cut off.
 use relation_asking::ask_all;
 use std::alloc::Global;
 use std::fmt::{self, Write};
@@ -49,17 +49,91 @@ fn answer_of(alloc: Global, question: &str) -> Result<String, fmt::Error> {
     Ok(answer)
 }
 
-// Each answer is longer than an answer may be. That it comes at all shows that the terms were gone through at once: a
-// tower has 2^60 leaves.
+// How many bytes are told of an answer that is cut off, with the mark behind them.
+const TOLD: usize = 1_048_578;
+
+// Each answer is longer than what is told of one. That it comes at all shows that the terms were gone through at once:
+// a tower has 2^60 leaves.
 #[test]
 fn towers_are_gone_through_at_once(rt: HostRuntime) -> Result<(), Fail> {
     for question in [
         "?1 == t60;",
         "(?0, ?1) == (u8, (?0, t60));",
         "?0 == (t60, ?0);",
+        "u8 == t60;",
+        "count goals u8 <: t60;",
+        "args [?0] == [t60];",
+        "walk t60;",
+        "visit t60;",
+        "fold t60 with ?2 = u8;",
+        "param 'a; assumptions t60: 'a;",
+        "trait Tr; elaborate t60: Tr;",
+        "trait Tr; supertraits t60: Tr;",
     ] {
         let answer = answer_of(rt.alloc(), question)?;
-        assert_eq!(rt; answer.as_str(), "memory", "{question}");
+        assert_eq!(rt; answer.len(), TOLD);
+        assert!(rt; answer.as_str().ends_with(".."));
     }
+    Ok(())
+}
+
+// Of what is told of a tower nothing is cut off where it is short, and a question behind one that was goes on.
+#[test]
+fn short_answers_are_whole(rt: HostRuntime) -> Result<(), Fail> {
+    let answer = answer_of(
+        rt.alloc(),
+        "escapes t60; infers t60; rigid t60; ?0 == ?1; then one ?0, ?1;",
+    )?;
+    assert_eq!(rt; answer.as_str(), "false\ntrue\ntrue\nok\ntrue");
+    Ok(())
+}
+
+// Binds each variable from one on, so many, to a slice of the next one.
+fn write_chain(first: usize, count: usize, out: &mut String) -> fmt::Result {
+    let behind = first.saturating_add(count);
+    out.write_str("count goals (")?;
+    for number in first..behind {
+        write!(out, "?{number}, ")?;
+    }
+    out.write_str(") == (")?;
+    for number in first..behind {
+        let next = number.saturating_add(1);
+        write!(out, "[?{next}], ")?;
+    }
+    out.write_str(");")
+}
+
+// The answers to a text.
+fn answers(alloc: Global, text: &str) -> Result<String, fmt::Error> {
+    let Ok(tree) = read(alloc, text.as_bytes()) else {
+        return Err(fmt::Error);
+    };
+    let Ok(program) = look_up(alloc, text, &tree) else {
+        return Err(fmt::Error);
+    };
+    let mut out = String::new(alloc);
+    ask_all(alloc, &program, "\n", &mut out)?;
+    Ok(out)
+}
+
+const TOO_DEEP: &str = "not asked: what it comes to may be too deep for the stack";
+
+// A question whose terms may form too long a chain is not asked, nor one that would make a chain of those before too
+// long; the questions behind it are.
+#[test]
+fn long_chains_are_not_asked(rt: HostRuntime) -> Result<(), Fail> {
+    let mut text = String::from_str(rt.alloc(), "budget 10000;")?;
+    write_chain(0, 1000, &mut text)?;
+    text.push_str("then binding ?0; then count goals ?1000 == u8; then")?;
+    write_chain(1001, 40, &mut text)?;
+    write_chain(0, 1100, &mut text)?;
+    text.push_str("then binding ?0;")?;
+    let all = answers(rt.alloc(), text.as_str())?;
+    let mut wanted = String::from_str(rt.alloc(), "0; left=9000\n[?1]\n0; left=8999\n")?;
+    wanted.push_str(TOO_DEEP)?;
+    wanted.push_str("\n")?;
+    wanted.push_str(TOO_DEEP)?;
+    wanted.push_str("\nnone")?;
+    assert_eq!(rt; all.as_str(), wanted.as_str());
     Ok(())
 }

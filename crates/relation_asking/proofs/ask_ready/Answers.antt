@@ -9,8 +9,8 @@ loop-question-init g c = record {
   ready = ready_stays c.in-Ok.ensures.grown c.args.terms.now.built.now c.args.terms.now.needs.now c.requires;
 }
 
-pub ask_often-left-requires-clause-ready : goal.ask_often-left-requires-clause-ready
-ask_often-left-requires-clause-ready g c =
+pub ask_unless-left-requires-clause-ready : goal.ask_unless-left-requires-clause-ready
+ask_unless-left-requires-clause-ready g c =
     subst (λ i. AreReady (g.I.Interner.meaning i) c.args.terms.now.built.now c.args.terms.now.needs.now)
     (sym c.context_for-asked.ensures.interner) c.loop-question.invariant.ready
 
@@ -19,6 +19,6 @@ loop-question-preserved g c =
     let was = subst (λ i. AreReady (g.I.Interner.meaning i) c.args.terms.now.built.now c.args.terms.now.needs.now)
     (sym c.context_for-asked.ensures.interner) c.loop-question.invariant.ready in
     record {
-      lawful = c.ask_often-left.ensures.lawful;
-      ready = ready_stays c.ask_often-left.ensures.grown c.args.terms.now.built.now c.args.terms.now.needs.now was;
+      lawful = c.ask_unless-left.ensures.lawful;
+      ready = ready_stays c.ask_unless-left.ensures.grown c.args.terms.now.built.now c.args.terms.now.needs.now was;
     }

@@ -4,8 +4,8 @@ use crate::running::{RowFault, asked};
 use std::alloc::Global;
 use std::fmt::Write;
 
-// A trait that states itself of a larger type.
-const GROWING: &str = "struct Vec<+T>; param U; trait Foo<T>; super Foo: Self: Foo<Vec<T>>;
+// A trait that states itself of a larger type. Slices have the shortest text: with them the answer is not cut off.
+const GROWING: &str = "param U; trait Foo<T>; super Foo: Self: Foo<[T]>;
     elaborate U: Foo<u8> limit 1000;";
 
 /// Writes how many predicates are yielded where there may be 1,000 different ones, and what is answered then.

@@ -262,7 +262,7 @@ fn write_wrong<W: Write>(found: &str, why: Wrong, out: &mut W) -> fmt::Result
             )
         }
         Wrong::NothingBefore => out.write_str("expected a question before this, found none"),
-        Wrong::TooDeep => out.write_str("the term has more than 1000 levels"),
+        Wrong::TooDeep => out.write_str("the term has more than 1024 levels"),
         Wrong::NotRead => out.write_str("expected what reading makes, found another tree"),
     }
 }

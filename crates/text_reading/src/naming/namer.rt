@@ -9,7 +9,7 @@ use std::alloc::{AllocError, Global};
 use std::collections::HashMap;
 
 /// How many levels a term may have, names of `let` followed.
-const LEVELS: usize = 1000;
+const LEVELS: usize = 1024;
 
 /// A term that was made: its number, what it stands for, and how many levels it has.
 #[derive(Clone, Copy)]

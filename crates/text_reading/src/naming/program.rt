@@ -1,7 +1,7 @@
 //! What a text says: its items, its terms and its questions.
 ghost use Rattle.std.specs.Prelude.{◌≡◌};
 
-use crate::reading::{Claim, ItemSort, KeyParams, Relation, SideParams, StatedKind};
+use crate::reading::{Claim, Counted, ItemSort, KeyParams, Relation, SideParams, StatedKind};
 use std::alloc::AllocError;
 use term_enums::{FloatTy, FnHeader, IntTy, Mutability, UintTy, Variance};
 
@@ -179,6 +179,23 @@ pub struct Put<T> {
     pub to: T,
 }
 
+/// A kind of variables.
+#[derive(Clone, Copy, PartialEq, Eq, Debug)]
+pub enum VariableKind {
+    Ty,
+    Int,
+    Float,
+    Const,
+    Region,
+}
+
+/// A variable, by its number among those of its kind.
+#[derive(Clone, Copy, PartialEq, Eq, Debug)]
+pub struct VariableId {
+    pub kind: VariableKind,
+    pub number: usize,
+}
+
 /// What is asked about terms, by their numbers.
 #[derive(Clone, Copy)]
 pub enum QuestionKind {
@@ -257,6 +274,10 @@ pub enum QuestionKind {
     },
     /// The traits that a trait, by its number, leads to.
     SupertraitIds(usize),
+    /// Whether two variables are one.
+    One(VariableId, VariableId),
+    /// What a variable is bound to.
+    Binding(VariableId),
 }
 
 /// In which typing mode a context is. No opaque types are defined in it.
@@ -280,6 +301,8 @@ pub struct Setup {
 #[derive(Clone, Copy)]
 pub struct Question {
     pub kind: QuestionKind,
+    /// What is counted of what a relation leaves, if that is asked and not the answer itself.
+    pub counts: Option<Counted>,
     /// Whether it is asked in the context that the question before left.
     pub then: bool,
     /// How many times it is asked.

@@ -11,6 +11,7 @@ impl<'a> Namer<'a> {
         let variables = self.program.variables.len();
         self.program.questions.push(Question {
             kind,
+            counts: None,
             then: false,
             repeat: 1,
             setup: self.setup,
@@ -148,6 +149,12 @@ impl<'a> Namer<'a> {
             }
             (Form::MayUnify(_) | Form::ArgsMayUnify(_) | Form::ArgsEqual | Form::Key(_), _) =>
                 self.ask_quickly(node, form, parts),
+            (Form::Count(counted), [_]) => {
+                self.ask_count(counted);
+                Ok(())
+            }
+            (Form::One, [first, second]) => self.ask_one(node, *first, *second),
+            (Form::Binding, [variable]) => self.ask_binding(node, *variable),
             (Form::Then, [_]) => self.ask_then(node),
             (Form::Repeat, [times, _]) => self.ask_again(node, *times),
             (Form::Elaborate { only_self, sized }, _) => {

@@ -17,6 +17,8 @@ pub enum Expected {
     Name,
     Number,
     Variable,
+    /// A variable of any kind, not only of those that contexts are said to have.
+    AnyVariable,
     Parameter,
     /// What a binder may bind, and a constant of a binder.
     Bound,
@@ -103,6 +105,7 @@ fn write_expected<W: Write>(expected: Expected, out: &mut W) -> fmt::Result
         Expected::Name => out.write_str("a name"),
         Expected::Number => out.write_str("a number"),
         Expected::Variable => out.write_str("a variable"),
+        Expected::AnyVariable => out.write_str("a variable of any kind"),
         Expected::Parameter => out.write_str("a parameter"),
         Expected::Bound => out.write_str("a variable of a binder"),
         Expected::BoundConst => out.write_str("a constant of a binder"),
@@ -151,7 +154,7 @@ pub fn write_error<W: Write>(text: &str, error: &ReadError, out: &mut W) -> fmt:
         ReadError::TooLong => out.write_str("the text is longer than 1 MiB"),
         ReadError::NoWord { .. } => out.write_str("no word begins here"),
         ReadError::TooLarge { .. } => out.write_str("the number is too large"),
-        ReadError::TooDeep { .. } => out.write_str("the term has more than 1000 levels"),
+        ReadError::TooDeep { .. } => out.write_str("the term has more than 1024 levels"),
         ReadError::Unexpected { at, end, expected } => {
             out.write_str("expected ")?;
             write_expected(*expected, out)?;

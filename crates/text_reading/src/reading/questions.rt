@@ -2,7 +2,7 @@
 ghost use Rattle.std.specs.Prelude.{◌≡◌, ◌<◌, ◌≤◌, IfOk, IfErr, OnOk, length};
 ghost use Rattle.text_reading.specs.Errors.{LiesIn};
 ghost use Rattle.text_reading.specs.Words.{StandsAt};
-ghost use Rattle.text_reading.specs.Signs.{relation_sign};
+ghost use Rattle.text_reading.specs.Signs.{counted_sign, relation_sign};
 ghost use Rattle.text_reading.specs.Reads.{GoesOn, AddsRoots, Makes};
 
 use crate::reading::elaborations::{read_elaborate, read_supertraits};
@@ -12,7 +12,7 @@ use crate::reading::quick::{read_key, read_lists, read_may_unify};
 use crate::reading::reader::Reader;
 use crate::reading::signs::Sign;
 use crate::reading::terms::{LEVELS, read_term};
-use crate::reading::tree::{Form, Relation};
+use crate::reading::tree::{Counted, Form, Relation};
 use crate::reading::walks::read_walk;
 use term_enums::Variance;
 
@@ -50,6 +50,59 @@ fn read_pair(reader: &mut Reader) -> Result<usize, ReadError>
     let relation = read_relation(reader)?;
     let rhs = read_term(reader, LEVELS)?;
     reader.make(Form::Question(relation), start, &[lhs, rhs])
+}
+
+// What is counted of what a relation leaves.
+fn read_counted(reader: &mut Reader) -> Result<Counted, ReadError>
+    ensures counted { IfOk result (λ c. StandsAt reader.old.words.items reader.old.at (counted_sign c)) }
+    ensures words { reader.new.words ≡ reader.old.words }
+    ensures tree { reader.new.tree ≡ reader.old.tree }
+    ensures later { reader.old.at ≤ reader.new.at }
+    ensures wrong { IfErr result (LiesIn reader.old.tree.text_len) }
+{
+    if reader.accept(Sign::Goals) {
+        return Ok(Counted::Goals);
+    }
+    if reader.accept(Sign::Regions) {
+        return Ok(Counted::Regions);
+    }
+    Err(reader.unexpected(Expected::Either(Sign::Goals, Sign::Regions)))
+}
+
+// Reads what is counted, and the relation that leaves it, behind `count`.
+fn read_count(reader: &mut Reader, start: usize) -> Result<usize, ReadError>
+    requires { start ≤ reader.old.tree.text_len }
+    ensures goes { GoesOn reader.old reader.new }
+    ensures node { IfOk result (Makes reader.old reader.new) }
+    ensures wrong { IfErr result (LiesIn reader.old.tree.text_len) }
+{
+    let counted = read_counted(reader)?;
+    let pair = read_pair(reader)?;
+    reader.make(Form::Count(counted), start, &[pair])
+}
+
+// Reads two variables that are one or not, behind `one`.
+fn read_one(reader: &mut Reader, start: usize) -> Result<usize, ReadError>
+    requires { start ≤ reader.old.tree.text_len }
+    ensures goes { GoesOn reader.old reader.new }
+    ensures node { IfOk result (Makes reader.old reader.new) }
+    ensures wrong { IfErr result (LiesIn reader.old.tree.text_len) }
+{
+    let first = reader.take(Expected::AnyVariable)?;
+    reader.expect(Sign::Comma)?;
+    let second = reader.take(Expected::AnyVariable)?;
+    reader.make(Form::One, start, &[first, second])
+}
+
+// Reads the variable of which it is asked what it is bound to, behind `binding`.
+fn read_binding(reader: &mut Reader, start: usize) -> Result<usize, ReadError>
+    requires { start ≤ reader.old.tree.text_len }
+    ensures goes { GoesOn reader.old reader.new }
+    ensures node { IfOk result (Makes reader.old reader.new) }
+    ensures wrong { IfErr result (LiesIn reader.old.tree.text_len) }
+{
+    let variable = reader.take(Expected::AnyVariable)?;
+    reader.make(Form::Binding, start, &[variable])
 }
 
 // Reads the terms behind a sign, and answers the node over them. There are none where the sign does not stand there.
@@ -172,6 +225,15 @@ fn read_asked(reader: &mut Reader) -> Result<usize, ReadError>
     }
     if reader.accept(Sign::Supertraits) {
         return read_supertraits(reader, start);
+    }
+    if reader.accept(Sign::Count) {
+        return read_count(reader, start);
+    }
+    if reader.accept(Sign::One) {
+        return read_one(reader, start);
+    }
+    if reader.accept(Sign::Binding) {
+        return read_binding(reader, start);
     }
     read_pair(reader)
 }

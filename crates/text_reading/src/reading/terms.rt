@@ -14,7 +14,7 @@ use crate::reading::words::{Leaf, WordKind};
 use term_enums::{ExternAbi, FnHeader, Safety};
 
 /// How many levels a term may have.
-pub(super) const LEVELS: usize = 1000;
+pub(super) const LEVELS: usize = 1024;
 
 // Reads a list of terms, and the sign behind it. Answers whether it ended in a comma or was empty.
 #[cycle(terms)]

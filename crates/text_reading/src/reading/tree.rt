@@ -53,6 +53,13 @@ pub enum Relation {
     Structurally,
 }
 
+/// What is counted of what a relation leaves: its goals, or the constraints on regions.
+#[derive(Clone, Copy, PartialEq, Eq, Debug)]
+pub enum Counted {
+    Goals,
+    Regions,
+}
+
 /// How a quick test takes the parameters on the left and those on the right: as types of their own (rigid), or as
 /// standing for any.
 #[derive(Clone, Copy, PartialEq, Eq, Debug)]
@@ -160,6 +167,12 @@ pub enum Form {
     ArgsEqual,
     /// The key of a type.
     Key(KeyParams),
+    /// How many goals or constraints on regions a relation leaves: the relation.
+    Count(Counted),
+    /// Whether two variables are one: both.
+    One,
+    /// What a variable is bound to: the variable.
+    Binding,
     /// A list of terms.
     Terms,
     /// A term, and the one that is put for it.

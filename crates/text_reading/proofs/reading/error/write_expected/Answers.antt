@@ -4,6 +4,9 @@ use Rattle.text_reading.proofs.reading.error.write_expected.Goals as goal
 pub returns-in-Statement : goal.returns-in-Statement
 returns-in-Statement g c = rw c.in-Statement.is (text_written g.W.Write.write_str_gives _ _ _ _ c.write_str.ensures.ok)
 
+pub returns-in-AnyVariable : goal.returns-in-AnyVariable
+returns-in-AnyVariable g c = rw c.in-AnyVariable.is (text_written g.W.Write.write_str_gives _ _ _ _ c.write_str-in-AnyVariable.ensures.ok)
+
 pub returns-in-Parameter : goal.returns-in-Parameter
 returns-in-Parameter g c = rw c.in-Parameter.is (text_written g.W.Write.write_str_gives _ _ _ _ c.write_str-in-Parameter.ensures.ok)
 
