@@ -43,5 +43,6 @@ pub mod Roots
 pub mod Numbers
 pub mod Variables
 pub mod Shrinking
+pub mod Remembering
 pub mod AliasOutcomes
 pub mod AliasSteps
