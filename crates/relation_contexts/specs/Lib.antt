@@ -27,4 +27,5 @@ pub mod ContextCalls
 pub mod Binders
 pub mod OpeningLaws
 pub mod AliasGoals
+pub mod AskedAlone
 pub mod Reads

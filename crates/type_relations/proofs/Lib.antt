@@ -56,3 +56,4 @@ pub mod LeavingSteps
 mod BindingAsked
 mod CombiningTys
 mod Registering
+pub mod Recalling

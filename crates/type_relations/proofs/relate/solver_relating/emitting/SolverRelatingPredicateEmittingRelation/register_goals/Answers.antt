@@ -6,5 +6,5 @@ pub returns : goal.returns
 returns g c =
     let r = c.args.self.now in
     let s = g.Infcx.InferCtxtLike.state r.infcx.now in
-    goals_added s.meaning (held_by r.structurally_relate_aliases r.infcx.ghost_name s) r.goals.items c.extend_from_slice.new.self.items c.args.goals.now s.store
+    goals_added s.meaning (held_by r.structurally_relate_aliases r.infcx.ghost_name r.cache.kept s) r.goals.items c.extend_from_slice.new.self.items c.args.goals.now s.store
     s.lawful r.ambient_variance r.param_env c.in_ok-extend_from_slice.ensures.items c.requires.known (tt {0})

@@ -25,9 +25,9 @@ returns-then-eq-clause-stepped g c =
     let same = one_ty of c.args.a.now c.args.b.now (λ h i.
     (g.met.Infcx.Interner.Interner.same_ty cx c.args.a.now c.args.b.now h i).0 (sym c.if-eq.ensures)) k.left_known
     k.right_known in
-    answered_step (held_kept r.structurally_relate_aliases r.infcx.ghost_name s s refl refl) r.goals.items IsFormed s.meaning s.meaning s.store s.store s.lawful s.lawful r.ambient_variance
+    answered_step (held_kept r.structurally_relate_aliases r.infcx.ghost_name r.cache.kept s s refl refl) r.goals.items IsFormed s.meaning s.meaning s.store s.store s.lawful s.lawful r.ambient_variance
     r.param_env ((s.meaning).ty c.args.a.now) ((s.meaning).ty c.args.b.now) (s.meaning).ty c.args.a.now
-    (itself_related solver_manner (solving_through r.structurally_relate_aliases r.infcx.ghost_name r.goals.items s r.ambient_variance r.param_env)
+    (itself_related solver_manner (solving_through r.structurally_relate_aliases r.infcx.ghost_name r.cache.kept r.goals.items s r.ambient_variance r.param_env)
     r.ambient_variance (s.meaning).ty ((s.meaning).ty c.args.a.now) ((s.meaning).ty c.args.b.now) c.args.a.now same
     refl k.left_known)
 
@@ -58,8 +58,8 @@ returns-clause-stepped g c =
     let s = g.Infcx.InferCtxtLike.state r.infcx.now in
     let q = c.combine_tys.new.self in
     let d = g.Infcx.InferCtxtLike.state q.infcx.now in
-    read_step (solving_through r.structurally_relate_aliases r.infcx.ghost_name r.goals.items s r.ambient_variance r.param_env)
-    (solving_through q.structurally_relate_aliases q.infcx.ghost_name q.goals.items d q.ambient_variance q.param_env)
+    read_step (solving_through r.structurally_relate_aliases r.infcx.ghost_name r.cache.kept r.goals.items s r.ambient_variance r.param_env)
+    (solving_through q.structurally_relate_aliases q.infcx.ghost_name q.cache.kept q.goals.items d q.ambient_variance q.param_env)
     (g.met.Infcx.InferCtxtLike.sound r.infcx.now c.requires.lawful.0) ((s.meaning).ty c.args.a.now)
     ((s.meaning).ty c.args.b.now) ((s.meaning).ty c.shallow_resolve-left.result)
     ((s.meaning).ty c.shallow_resolve-right.result) c.shallow_resolve-left.ensures.reads.reads
@@ -116,8 +116,8 @@ returns-then-have_no_variable-clause-alone g c =
     let b_formed = none.b_formed c.if-have_no_variable.true k.right_taken.1 (term_within s.store _ k.right_in) in
     let q = c.super_combine_tys.new.relation in
     let d = g.Infcx.InferCtxtLike.state q.infcx.now in
-    steps_alone (solving_through r.structurally_relate_aliases r.infcx.ghost_name r.goals.items s r.ambient_variance r.param_env)
-    (solving_through q.structurally_relate_aliases q.infcx.ghost_name q.goals.items d q.ambient_variance q.param_env)
+    steps_alone (solving_through r.structurally_relate_aliases r.infcx.ghost_name r.cache.kept r.goals.items s r.ambient_variance r.param_env)
+    (solving_through q.structurally_relate_aliases q.infcx.ghost_name q.cache.kept q.goals.items d q.ambient_variance q.param_env)
     solver_manner a b c.super_combine_tys.result
     (c.super_combine_tys.ensures.stepped (λ n e. subst IsFormed e a_formed) (λ n e. subst IsFormed e b_formed)).passes.extends
     k.left_known (λ e. (a_formed, b_formed)) (without_variables (λ e. false≢true (c.if-eq.ensures ∙ (g.met.Infcx.Interner.Interner.same_ty cx a b
@@ -135,8 +135,8 @@ returns-then-eq-clause-alone g c =
     let same = one_ty of c.args.a.now c.args.b.now (λ h i.
     (g.met.Infcx.Interner.Interner.same_ty cx c.args.a.now c.args.b.now h i).0 (sym c.if-eq.ensures)) k.left_known
     k.right_known in
-    step_of_one solver_manner (solving_through r.structurally_relate_aliases r.infcx.ghost_name r.goals.items s r.ambient_variance r.param_env)
-    (solving_through r.structurally_relate_aliases r.infcx.ghost_name r.goals.items s r.ambient_variance r.param_env) ((s.meaning).ty c.args.a.now)
+    step_of_one solver_manner (solving_through r.structurally_relate_aliases r.infcx.ghost_name r.cache.kept r.goals.items s r.ambient_variance r.param_env)
+    (solving_through r.structurally_relate_aliases r.infcx.ghost_name r.cache.kept r.goals.items s r.ambient_variance r.param_env) ((s.meaning).ty c.args.a.now)
     ((s.meaning).ty c.args.b.now) (s.meaning).ty (Ok (Done c.args.a.now)) same
 
 pub returns-clause-alone : goal.returns-clause-alone
@@ -153,8 +153,8 @@ returns-clause-alone g c =
     let q = c.combine_tys.new.self in
     let d = g.Infcx.InferCtxtLike.state q.infcx.now in
     let one = c.have_no_variable.ensures.one c.if-have_no_variable.false in
-    steps_alone (solving_through r.structurally_relate_aliases r.infcx.ghost_name r.goals.items s r.ambient_variance r.param_env)
-    (solving_through q.structurally_relate_aliases q.infcx.ghost_name q.goals.items d q.ambient_variance q.param_env)
+    steps_alone (solving_through r.structurally_relate_aliases r.infcx.ghost_name r.cache.kept r.goals.items s r.ambient_variance r.param_env)
+    (solving_through q.structurally_relate_aliases q.infcx.ghost_name q.cache.kept q.goals.items d q.ambient_variance q.param_env)
     solver_manner a b c.combine_tys.result c.combine_tys.ensures.stepped.passes.extends k.left_known
     (λ e. absurd (false≢true (sym e ∙ one))) (resolved_first c.shallow_resolve-left.result c.shallow_resolve-right.result
     (λ e. false≢true (c.if-eq.ensures ∙ (g.met.Infcx.Interner.Interner.same_ty cx a b
@@ -180,7 +180,7 @@ returns-then-eq-clause-steps g c =
     let a = c.args.a.now in
     let b = c.args.b.now in
     one_type (one_ty of a b (λ h i. (g.met.Infcx.Interner.Interner.same_ty cx a b h i).0 (sym c.if-eq.ensures))
-    k.left_known k.right_known) (leaves_itself (solving_through r.structurally_relate_aliases r.infcx.ghost_name r.goals.items s r.ambient_variance r.param_env)) refl
+    k.left_known k.right_known) (leaves_itself (solving_through r.structurally_relate_aliases r.infcx.ghost_name r.cache.kept r.goals.items s r.ambient_variance r.param_env)) refl
 
 pub returns-clause-steps : goal.returns-clause-steps
 returns-clause-steps g c =
