@@ -16,6 +16,7 @@ use growing::write_yielded;
 use reference_interner::{
     DefKind, GenericParam, GenericParamKind, ItemId, ItemKind, RefInterner, SymbolId,
 };
+use relating::{write_polarities, write_traits};
 use relation_terms::predicate::AliasTermKind;
 use relation_terms::terms::{
     BoundConstness, FreeConstAliasId, ImplPolarity, OutOfMemory, PredicatePolarity, TraitId,
@@ -25,7 +26,6 @@ use std::alloc::Global;
 use std::collections::HashMap;
 use std::fmt::{self, Write};
 use text_terms::printing::{ItemText, Texts};
-use relating::{write_polarities, write_traits};
 use writing::{write_constraints, write_object, write_projection, write_rebased};
 
 // The names of parameters, and four traits.
@@ -129,7 +129,12 @@ fn write_refused<W: Write>(alloc: Global, out: &mut W) -> Result<(), RowFault> {
     let texts = make_texts(alloc)?;
     write_polarities(RefInterner::new(alloc), &texts, TraitId(TR), out)?;
     out.write_str(" | ")?;
-    write_traits(RefInterner::new(alloc), &texts, (TraitId(TR), TraitId(US)), out)
+    write_traits(
+        RefInterner::new(alloc),
+        &texts,
+        (TraitId(TR), TraitId(US)),
+        out,
+    )
 }
 
 // Writes how many terms are walked of a type that is doubled 60 times, and how many nodes are added for it again.

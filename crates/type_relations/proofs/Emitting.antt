@@ -1,5 +1,7 @@
 -- Goals that the relation of a context registers by the slice.
-use Rattle.std.proofs.Common.{◌≡◌, refl, sym, ap, ◌∙◌, subst, List, [], ◌∷◌, ◌++◌, All, IsTrue, map, Ok}
+use Rattle.std.proofs.Common.{◌≡◌, refl, sym, ap, ◌∙◌, subst, List, [], ◌∷◌, ◌++◌, All, IsTrue, map, Result, Ok, Err}
+use Rattle.std.specs.Result.{IsErr}
+use Rattle.std.proofs.lemmas.Bool.{false≢true}
 use Rattle.std.proofs.lemmas.List.Elements.{All-nil, All-cons, All-head, All-tail, All-append}
 use Rattle.std.proofs.lemmas.List.{map-append}
 use Rattle.term_enums.specs.declared.Variance.{Variance}
@@ -9,8 +11,8 @@ use Rattle.relation_terms.specs.declared.terms.keys.PredicateKey.{PredicateKey}
 use Rattle.relation_terms.specs.Trees.{known}
 use Rattle.relation_terms.specs.Meaning.{Meaning}
 use Rattle.type_relations.specs.Emitting.{AddsGoals, KnowsPredicate}
-use Rattle.relation_contexts.specs.Goals.{goal_of, goals_of, KnowsGoal}
-use Rattle.type_relations.specs.Solving.{Held, solving}
+use Rattle.relation_contexts.specs.Goals.{Goal, goal_of, goals_of, KnowsGoal}
+use Rattle.type_relations.specs.Solving.{Held, HeldRelated, solving}
 use Rattle.relation_contexts.specs.Stores.{Store}
 use Rattle.relation_terms.proofs.Stays.{stays_same}
 use Rattle.relation_contexts.proofs.Going.{later_itself}
@@ -37,6 +39,32 @@ module _ {Key Id Name : Type 0} (m : Meaning Key Id Name) where
       lengthens : goals_of m hs ≡ goals_of m gs ++ goals_of m xs
       lengthens = ap (goals_of m) pushed
           ∙ map-append (λ g. goal_of (m.param_env g.param_env) (m.predicate g.predicate)) gs xs
+
+  -- One was, of a known predicate.
+  pub goal_added : {A F : Type 0} (j : Held Key) (gs hs : List (KeyedGoal Key (PredicateKey Key))) (st : Store) (L : Type 0)
+      (v : Variance) (e : ParamEnvKey Key) (p : PredicateKey Key) → hs ≡ gs ++ record { param_env = e; predicate = p } ∷ [] →
+      IsTrue (known (m.param_env e)) → KnowsPredicate m p → (x : A) →
+      AddsGoals {F = F} (solving j gs m st L v e) (solving j hs m st L v e) (goal_of (m.param_env e) (m.predicate p) ∷ []) (Ok x)
+  goal_added j gs hs st L v e p pushed env sure x = goals_added j gs hs (record { param_env = e; predicate = p } ∷ []) st L v e
+      pushed (All-cons (KnowsGoal m) (record { param_env = e; predicate = p }) [] (env, sure) (All-nil (KnowsGoal m))) x
+
+  -- None was, since a growth was refused.
+  pub none_added : {A F : Type 0} (j : Held Key) (gs hs : List (KeyedGoal Key (PredicateKey Key))) (st : Store) (L : Type 0)
+      (v : Variance) (e : ParamEnvKey Key) → hs ≡ gs → (added : List Goal) (res : Result A F) → IsErr res →
+      AddsGoals (solving j gs m st L v e) (solving j hs m st L v e) added res
+  none_added j gs hs st L v e same added (Ok x) h = absurd (false≢true h)
+  none_added j gs hs st L v e same added (Err f) h = record {
+    meaning = refl;
+    store = refl;
+    goals = ap (goals_of m) same;
+    kept = refl;
+    ambient = refl;
+    remembered = refl;
+    lawful = λ l. (
+      (l.0.0, subst (λ gs. HeldRelated j m st gs e) (sym same) l.0.1),
+      (l.1.0, subst (All (KnowsGoal m)) (sym same) l.1.1),
+    );
+  }
 
   -- The goals of known predicates in a known environment.
   pub known_goals : (e : ParamEnvKey Key) → IsTrue (known (m.param_env e)) → (ps : List (PredicateKey Key)) →

@@ -17,7 +17,7 @@ use Rattle.relation_contexts.specs.declared.relate.StructurallyRelateAliases.{St
 use Rattle.relation_contexts.specs.AskedAlone.{subtype_at}
 use Rattle.relation_contexts.specs.ContextCalls.{Grows}
 use Rattle.relation_contexts.specs.Contexts.{Context}
-use Rattle.relation_contexts.specs.Goals.{Goal, goal_of, goals_of, KnowsGoal, subtype_predicate, IsOpen, IsDirected, IsRegistered, of_variables, Holds, MakesOneTree}
+use Rattle.relation_contexts.specs.Goals.{Goal, goal_of, subtype_predicate, IsOpen, IsDirected, IsRegistered, of_variables, Holds, MakesOneTree}
 use Rattle.relation_contexts.specs.Kits.{IsPredicateOf}
 use Rattle.relation_contexts.specs.Lawful.{State, Pair, Stepped, MayAnswer, items_in}
 use Rattle.relation_contexts.specs.Outcomes.{Outcome}
@@ -28,7 +28,7 @@ use Rattle.relation_contexts.proofs.Answering.{may_itself}
 use Rattle.relation_contexts.proofs.Going.{later_itself}
 use Rattle.relation_contexts.proofs.Growing.{All_back}
 use Rattle.relation_contexts.proofs.Registered.{registered_in}
-use Rattle.type_relations.specs.Emitting.{IsOver, AddsGoals, RegistersGoal}
+use Rattle.type_relations.specs.Emitting.{IsOver, AddsGoals, RegistersGoal, goals_in}
 use Rattle.type_relations.specs.Solving.{KnowsGoals, solving_through, solver_manner}
 use Rattle.type_relations.proofs.GoalPasses.{goal_in}
 use Rattle.type_relations.proofs.LeavingSteps.{goal_step}
@@ -125,14 +125,7 @@ module _ {Key Id Name : Type 0} (aliases : StructurallyRelateAliases) (j : ℕ) 
 
   pub goal_made : {A F : Type 0} {q : State Key Id Name} (p : PredicateKey Key) (t : Tree) →
       (d.meaning).predicate p ≡ t → (res : Result A F) →
-      AddsGoals (solving_through aliases j ps gs d v e) q (goals_of d.meaning (record { param_env = e; predicate = p } ∷ [])) res →
+      AddsGoals (solving_through aliases j ps gs d v e) q (goals_in (solving_through aliases j ps gs d v e) (p ∷ [])) res →
       RegistersGoal (solving_through aliases j ps gs c v e) q t res
   goal_made p t means res h =
       one_registered over_itself (solver_with aliases j ps gs c d grows (same_later c d stays) v e env) grows.extends stays p t means res h
-
-  pub goal_known : (p : PredicateKey Key) (t : Tree) → (d.meaning).predicate p ≡ t → IsTrue (known t) →
-      All (KnowsGoal d.meaning) (record { param_env = e; predicate = p } ∷ [])
-  goal_known p t means sure = All-cons (KnowsGoal d.meaning) (record { param_env = e; predicate = p }) [] (
-    subst (λ z. IsTrue (known z)) (sym ((grows.extends).param_env e env.0)) env.0,
-    subst (λ z. IsTrue (known z)) (sym means) sure,
-  ) (All-nil (KnowsGoal d.meaning))

@@ -1,9 +1,10 @@
 -- What the solver's relation asks and promises: what relating two values does, at the state in which it stands.
-use Rattle.std.specs.Prelude.{◌≡◌, ℕ, Option, Result}
+use Rattle.std.specs.Prelude.{◌≡◌, ℕ, [], ◌∷◌, Option, Result}
 use Rattle.relation_terms.specs.declared.terms.binder.Binder.{Binder}
 use Rattle.relation_terms.specs.declared.terms.ids.DefId.{DefId}
 use Rattle.relation_terms.specs.declared.terms.keys.ArgsKey.{ArgsKey}
 use Rattle.relation_terms.specs.declared.terms.keys.ConstKey.{ConstKey}
+use Rattle.relation_terms.specs.declared.terms.keys.PredicateKey.{PredicateKey}
 use Rattle.relation_terms.specs.declared.terms.keys.RegionKey.{RegionKey}
 use Rattle.relation_terms.specs.declared.terms.keys.TyKey.{TyKey}
 use Rattle.relation_terms.specs.Heads.{Head}
@@ -18,7 +19,7 @@ use Rattle.relation_contexts.specs.AskedAlone.{IsNoTyVar}
 use Rattle.type_relations.specs.Combining.{ConstsCombine}
 use Rattle.type_relations.specs.Keyed.{RelatedRegions, SteppedConsts, SteppedTys, TysStepAlone, AreOver, NotedTys}
 use Rattle.type_relations.specs.Bivariance.{AsksOfOver}
-use Rattle.type_relations.specs.Emitting.{RegistersSubtype}
+use Rattle.type_relations.specs.Emitting.{AddsGoals, RegistersSubtype, goals_in}
 use Rattle.type_relations.specs.Rounds.{OpenedBinders}
 use Rattle.type_relations.specs.Solving.{solving_through, solver_manner}
 use Rattle.type_relations.specs.Stepping.{CombinesShallowTys, CombinesTyVars, IsRemembered, StepsRead, StepsBinders}
@@ -55,6 +56,12 @@ module _ {Infcx Interner Key Id Name Span : Type 0} (state : Infcx → Context K
   KeepsEnvironment r q =
       let m = (state r.infcx.now).meaning in let n = (state q.infcx.now).meaning in
       n.param_env q.param_env ≡ m.param_env r.param_env
+
+  -- A predicate was registered in its environment, or was not.
+  abbrev pub SolverAddsGoal : {A F : Type 0} → SolverRelating Infcx Interner Key Id Name Span →
+      SolverRelating Infcx Interner Key Id Name Span → PredicateKey Key → Result A F → Type 0
+  SolverAddsGoal r q p result =
+      AddsGoals (solver_through r) (solver_through q) (goals_in (solver_through r) (p ∷ [])) result
 
   -- What is asked of two type variables at the ambient variance was registered, or was not.
   abbrev pub SolverRegistersSubtype : {A F : Type 0} → SolverRelating Infcx Interner Key Id Name Span →

@@ -2,7 +2,8 @@
 ghost use Rattle.std.specs.Prelude.{◌≡◌, map, IfOk};
 ghost use Rattle.relation_contexts.specs.Contexts.{KnowsTy};
 ghost use Rattle.relation_contexts.specs.Goals.{IsDirected};
-ghost use Rattle.type_relations.specs.SolverTerms.{SolverRegistersSubtype, solver_through};
+ghost use Rattle.type_relations.specs.Emitting.{KnowsPredicate};
+ghost use Rattle.type_relations.specs.SolverTerms.{SolverAddsGoal, SolverRegistersSubtype, solver_through};
 
 use crate::relate::StructurallyRelateAliases;
 use crate::relate::combine::PredicateEmittingRelation;
@@ -34,6 +35,19 @@ fn goals_of<X: Copy>(
 }
 
 impl<'a, Infcx: InferCtxtLike> SolverRelating<'a, Infcx> {
+    // Registers a predicate in the relation's environment, behind the goals that there are.
+    fn register(&mut self, predicate: Predicate<Infcx::Interner>) -> Result<(), OutOfMemory>
+        requires lawful { (solver_through Infcx.state self.old).lawful }
+        requires known { KnowsPredicate (Infcx.state self.old.infcx.now).meaning predicate }
+        ensures { SolverAddsGoal Infcx.state self.old self.new predicate result }
+    {
+        self.goals.push(Goal {
+            param_env: self.param_env,
+            predicate,
+        })?;
+        Ok(())
+    }
+
     // Registers what is asked of two type variables at the ambient variance: that the one is a subtype of the other.
     pub(super) fn register_subtype_predicate(
         &mut self,
@@ -47,10 +61,7 @@ impl<'a, Infcx: InferCtxtLike> SolverRelating<'a, Infcx> {
         ensures { SolverRegistersSubtype Infcx.state self.old self.new a.now b.now result }
     {
         let predicate = subtype_asked(&mut *self.infcx, self.ambient_variance, a, b)?;
-        self.register_goals(&[Goal {
-            param_env: self.param_env,
-            predicate,
-        }])
+        self.register(predicate)
     }
 }
 
@@ -89,10 +100,7 @@ impl<'a, Infcx: InferCtxtLike> PredicateEmittingRelation<Infcx> for SolverRelati
         b: &Ty<Infcx::Interner>,
     ) -> Result<(), OutOfMemory> {
         let predicate = alias_asked(&mut *self.infcx, self.ambient_variance, a, b)?;
-        self.register_goals(&[Goal {
-            param_env: self.param_env,
-            predicate,
-        }])
+        self.register(predicate)
     }
 
     fn register_goals(&mut self, goals: &[GoalOf<Infcx::Interner>]) -> Result<(), OutOfMemory> {

@@ -32,9 +32,7 @@ use relation_contexts::infer_ctxt::{BinderOf, InferCtxtLike};
 use relation_folds::error::RelateResult;
 use relation_folds::fold::TypeFoldable;
 use relation_folds::visit::TypeVisitable;
-use relation_terms::terms::{
-    Const, GenericArgs, Interner, ItemOf, Region, Ty, TyVid, Variance,
-};
+use relation_terms::terms::{Const, GenericArgs, Interner, ItemOf, Region, Ty, TyVid, Variance};
 
 impl<'a, Infcx: InferCtxtLike> SolverRelating<'a, Infcx> {
     /// What comes of two types, before their parts are related. Of one and the same it is the answer. Two in one of which
@@ -226,9 +224,9 @@ impl<'a, Infcx: InferCtxtLike> SolverRelating<'a, Infcx> {
     {
         if let Variance::Invariant = self.ambient_variance {
             self.infcx.equate_ty_vids_raw(x, y);
-        } else {
-            self.register_subtype_predicate(a, b)?;
+            return Ok(Step::Done(*a));
         }
+        self.register_subtype_predicate(a, b)?;
         Ok(Step::Done(*a))
     }
 

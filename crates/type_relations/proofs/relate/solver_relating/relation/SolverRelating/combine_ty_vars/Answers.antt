@@ -17,7 +17,7 @@ use Rattle.type_relations.proofs.Stepping.{directed_decides, subtype_combines, s
 use Rattle.type_relations.proofs.relate.solver_relating.relation.SolverRelating.combine_ty_vars.Goals as goal
 
 pub register_subtype_predicate-requires-clause-directed : goal.register_subtype_predicate-requires-clause-directed
-register_subtype_predicate-requires-clause-directed g c = directed_decides ? c.requires.decides
+register_subtype_predicate-requires-clause-directed g c = directed_decides c.in_default.not-Invariant c.requires.decides
 
 pub returns-in_err-register_subtype_predicate-clause-stepped : goal.returns-in_err-register_subtype_predicate-clause-stepped
 returns-in_err-register_subtype_predicate-clause-stepped g c =
@@ -29,7 +29,7 @@ returns-in_err-register_subtype_predicate-clause-stepped g c =
     let tb = (s.meaning).ty c.args.b.now in
     let was = solving_through r.structurally_relate_aliases r.infcx.ghost_name r.cache.kept r.goals.items s r.ambient_variance r.param_env in
     let now = solving_through q.structurally_relate_aliases q.infcx.ghost_name q.cache.kept q.goals.items d q.ambient_variance q.param_env in
-    let asks = directed_asks r.ambient_variance ta tb (directed_decides ? c.requires.decides) in
+    let asks = directed_asks r.ambient_variance ta tb (directed_decides c.in_default.not-Invariant c.requires.decides) in
     let h : RegistersGoal {A = Unit {0}} {F = OutOfMemory} was now asks.0 (Err c.in_err-register_subtype_predicate.field-0.0) =
     subst (λ o. IfSome o (λ p. RegistersGoal {A = Unit {0}} {F = OutOfMemory} was now p (Err c.in_err-register_subtype_predicate.field-0.0))) asks.1
     c.in_err-register_subtype_predicate.ensures in
@@ -47,7 +47,7 @@ returns-clause-stepped g c =
     let tb = (s.meaning).ty c.args.b.now in
     let was = solving_through r.structurally_relate_aliases r.infcx.ghost_name r.cache.kept r.goals.items s r.ambient_variance r.param_env in
     let now = solving_through q.structurally_relate_aliases q.infcx.ghost_name q.cache.kept q.goals.items d q.ambient_variance q.param_env in
-    let asks = directed_asks r.ambient_variance ta tb (directed_decides ? c.requires.decides) in
+    let asks = directed_asks r.ambient_variance ta tb (directed_decides c.in_default.not-Invariant c.requires.decides) in
     let h : RegistersGoal {A = Unit {0}} {F = OutOfMemory} was now asks.0 (Ok tt) =
     subst (λ o. IfSome o (λ p. RegistersGoal {A = Unit {0}} {F = OutOfMemory} was now p (Ok tt))) asks.1
     c.in_ok-register_subtype_predicate.ensures in
@@ -65,7 +65,7 @@ returns-in_err-register_subtype_predicate-clause-combines g c =
     let tb = (s.meaning).ty c.args.b.now in
     let was = solving_through r.structurally_relate_aliases r.infcx.ghost_name r.cache.kept r.goals.items s r.ambient_variance r.param_env in
     let now = solving_through q.structurally_relate_aliases q.infcx.ghost_name q.cache.kept q.goals.items d q.ambient_variance q.param_env in
-    let directed = directed_decides ? c.requires.decides in
+    let directed = directed_decides c.in_default.not-Invariant c.requires.decides in
     let asks = directed_asks r.ambient_variance ta tb directed in
     subtype_refused {r = was} {q = now} c.args.a.now c.args.b.now asks.0 directed
     (subst (λ o. IfSome o (λ p. RegistersGoal {A = Unit {0}} {F = OutOfMemory} was now p (Err c.in_err-register_subtype_predicate.field-0.0))) asks.1
@@ -82,7 +82,7 @@ returns-clause-combines g c =
     let tb = (s.meaning).ty c.args.b.now in
     let was = solving_through r.structurally_relate_aliases r.infcx.ghost_name r.cache.kept r.goals.items s r.ambient_variance r.param_env in
     let now = solving_through q.structurally_relate_aliases q.infcx.ghost_name q.cache.kept q.goals.items d q.ambient_variance q.param_env in
-    let asks = directed_asks r.ambient_variance ta tb (directed_decides ? c.requires.decides) in
+    let asks = directed_asks r.ambient_variance ta tb (directed_decides c.in_default.not-Invariant c.requires.decides) in
     subtype_combines {r = was} {q = now} c.args.a.now c.args.b.now asks.0 asks.1
     (subst (λ o. IfSome o (λ p. RegistersGoal {A = Unit {0}} {F = OutOfMemory} was now p (Ok tt))) asks.1
     c.in_ok-register_subtype_predicate.ensures)
