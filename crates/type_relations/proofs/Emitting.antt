@@ -31,7 +31,7 @@ module _ {Key Id Name : Type 0} (m : Meaning Key Id Name) where
     ambient = refl;
     remembered = refl;
     lawful = λ l. (
-      (l.0.0, held_related refl gs (stays_same m) st st (later_itself st) e l.1 hs (goals_of m xs) lengthens l.0.1),
+      (l.0.0, held_related {j = j} {j' = j} refl gs (stays_same m) st st (later_itself st) e l.1 hs (goals_of m xs) lengthens l.0.1),
       (l.1.0, subst (All (KnowsGoal m)) (sym pushed) (All-append (KnowsGoal m) gs xs l.1.1 sure)),
     );
   }

@@ -57,6 +57,11 @@ found_pair v g h ps found =
     let first = and_parts (ghosts.eq v (a.1).0) (g (a.1).1) both.0 in
     (a.1, (a.0, a.2, a.3), variance_is v (a.1).0 first.0, first.1, both.1)
 
+-- What holds anyway holds after a fault.
+pub on_err : {A F P : Type 0} (res : Result A F) → P → OnErr res P
+on_err (Ok x) h = tt
+on_err (Err f) h = h
+
 -- The relation of a context that has put a pair into its memory, or not.
 pub remembers : {Key Id Name A F : Type 0} (aliases : StructurallyRelateAliases) (j : ℕ) (ps qs : List (Pair Key))
     (gs : List (KeyedGoal Key (PredicateKey Key))) (c : Context Key Id Name) (v : Variance) (e : ParamEnvKey Key)
@@ -153,7 +158,7 @@ module _ {Key Id Name : Type 0} (r q : State Key Id Name) (a b : TyKey Key) wher
   read_told C D f res (not_remembered t h is) = not_remembered t (f (Ok (Done t)) h) is
 
 -- What came of two types came of them in another state that is alike.
-module _ {Key Id Name : Type 0} {r q s : State Key Id Name} (m : s.meaning ≡ q.meaning) (st : s.store ≡ q.store)
+module _ {Key Id Name : Type 0} (r q s : State Key Id Name) (m : s.meaning ≡ q.meaning) (st : s.store ≡ q.store)
     (gs : s.goals ≡ q.goals) where
   one_alike : {p : Tree} → RegistersOne r q p → RegistersOne r s p
   one_alike h = record { store = st ∙ h.store; goals = gs ∙ h.goals }

@@ -316,7 +316,7 @@ module _ {Key Id Name : Type 0} {j j' : Held Key} (held : j' ≡ j) (gs : List (
       Extends m n → KnowsGoals m e gs → K → IsLater was now → (solving j gs m was L v e).lawful →
       (solving j gs n now K v e).lawful
   still_lawful was now v e grown env l later k = (
-    (l, held_still refl gs grown was now later e env k.0.1),
+    (l, held_still {j = j} {j' = j} refl gs grown was now later e env k.0.1),
     (subst (λ t. IsTrue (known t)) (sym (grown.param_env e env.0)) env.0, goals_known grown gs env.1),
   )
 

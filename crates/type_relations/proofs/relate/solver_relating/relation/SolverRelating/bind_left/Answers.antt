@@ -17,7 +17,7 @@ use Rattle.type_relations.specs.Stepping.{left_bound, left_asked, left_unasked, 
 use Rattle.type_relations.proofs.BindingAsked.{came_of_alias, bound_on}
 use Rattle.type_relations.proofs.CombiningTys.{alias_is_asked}
 use Rattle.type_relations.proofs.GeneralisingErrors.{cycle_error}
-use Rattle.type_relations.proofs.Solving.{held_grows, ty_sorted, as_solving, from_solving, still_lawful}
+use Rattle.type_relations.proofs.Solving.{held_grows, ty_sorted, as_solving, from_solving, solver_with, still_lawful}
 use Rattle.type_relations.proofs.SolvingVariables.{bound_later, refused_later, left_step, left_refused, left_asks, left_unasked as left_unasked_step, type_comes_to_none}
 use Rattle.type_relations.proofs.relate.solver_relating.relation.SolverRelating.bind_left.Goals as goal
 
@@ -292,3 +292,22 @@ returns-clause-combines g c =
       goals = goals_stay h.grows.extends r.goals.items c.requires.lawful.1.1;
     })
     c.in_default.ensures.is_none refl
+
+pub register_alias_relate_predicate-requires-clause-lawful : goal.register_alias_relate_predicate-requires-clause-lawful
+register_alias_relate_predicate-requires-clause-lawful g c =
+    let r = c.args.self.now in
+    let s = g.Infcx.InferCtxtLike.state r.infcx.now in
+    let cx = g.Infcx.InferCtxtLike.interner r.infcx.now in
+    let of = g.met.Infcx.InferCtxtLike.reads r.infcx.now in
+    let sound = g.met.Infcx.InferCtxtLike.sound r.infcx.now c.requires.lawful.0.0 in
+    let k = c.requires.asked in
+    let d = g.Infcx.InferCtxtLike.state c.instantiate_ty_var_raw.new.self in
+    let n = c.args.x.0 in
+    let t = (s.meaning).ty c.args.b.now in
+    let z = c.in_ok-bound.bound in
+    let sorted = ty_sorted of c.args.b.now ((g.met.Infcx.Interner.Interner.sorted cx).ty c.args.b.now) k.right_known in
+    let later = bound_later r.structurally_relate_aliases s d sound type_var tt n t r.ambient_variance
+    (g.met.Infcx.InferCtxtLike.numbers r.infcx.now c.requires.lawful.0.0) ((d.meaning).ty z) k.right_in sorted
+    c.in_ok-bound.ensures.instantiates.1 in
+    (solver_with r.structurally_relate_aliases r.infcx.ghost_name r.cache.kept r.goals.items s d c.in_ok-bound.ensures.grows later
+    r.ambient_variance r.param_env c.requires.lawful.1).lawful c.requires.lawful

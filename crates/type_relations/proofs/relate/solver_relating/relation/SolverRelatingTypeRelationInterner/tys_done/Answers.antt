@@ -1,5 +1,6 @@
-use Rattle.std.proofs.Common.{subst, IsTrue, Ok, Err}
-use Rattle.relation_terms.specs.Trees.{known}
+use Rattle.std.proofs.Common.{sym, subst}
+use Rattle.relation_folds.specs.declared.error.RelateFault.TheVariants.{Memory}
+use Rattle.relation_contexts.specs.Lawful.{OnlyMemory}
 use Rattle.relation_contexts.proofs.Passing.{as_err}
 use Rattle.relation_contexts.proofs.Remembering.{noted_remembering}
 use Rattle.type_relations.specs.Solving.{solving_through, solver_manner}
@@ -22,7 +23,8 @@ remember-requires g c =
     a b k c.requires.related c.requires.alone (ty_sorted of a (sorted a) k.left_known) (ty_sorted of b (sorted b) k.right_known)
 
 pub returns-in_err-remember : goal.returns-in_err-remember
-returns-in_err-remember g c = noted_remembering c.in_err-remember.ensures _ _ c.from_residual.result ?
+returns-in_err-remember g c = noted_remembering c.in_err-remember.ensures _ _ c.from_residual.result
+    (subst OnlyMemory (sym (as_err c.from_residual.result Memory c.from_residual.ensures.0 c.from_residual.ensures.1)) tt)
 
 pub returns : goal.returns
 returns g c = noted_remembering c.in_ok-remember.ensures _ _ _ tt
