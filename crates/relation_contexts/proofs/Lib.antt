@@ -43,6 +43,7 @@ pub mod Roots
 pub mod Numbers
 pub mod Variables
 pub mod Shrinking
+pub mod Remembering
 pub mod AliasOutcomes
 pub mod AliasSteps
 pub mod Asking

@@ -29,4 +29,5 @@ pub mod OpeningLaws
 pub mod AliasGoals
 pub mod Asking
 pub mod Recording
+pub mod AskedAlone
 pub mod Reads

@@ -62,3 +62,4 @@ pub mod Completing
 mod BindingAsked
 mod CombiningTys
 mod Registering
+pub mod Recalling

@@ -20,10 +20,12 @@ mod emitting;
 mod opening;
 pub(crate) mod recording;
 mod relation;
+mod remembering;
 mod steps;
 
 use crate::relate::{Relate, StructurallyRelateAliases};
 pub use relation::{GoalOf, SolverRelating};
+use delayed_map::DelayedSet;
 use relation_contexts::infer_ctxt::InferCtxtLike;
 use relation_folds::error::RelateResult;
 use relation_terms::terms::{Interner, ParamEnv, Span, Variance};
@@ -358,6 +360,7 @@ fn relate_in<Infcx: InferCtxtLike, T: Relate<Infcx::Interner>>(
         TermsRegister solver_manner T.over T.tree before after a.now b.now result.0 }
 {
     let goals = Vec::new(infcx.cx().alloc());
+    let cache = DelayedSet::new(infcx.cx().alloc());
     let mut relation = SolverRelating {
         infcx,
         structurally_relate_aliases: aliases,
@@ -365,6 +368,7 @@ fn relate_in<Infcx: InferCtxtLike, T: Relate<Infcx::Interner>>(
         param_env,
         span,
         goals,
+        cache,
     };
     let related = relation.relate(a, b);
     let goals = relation.take_goals();
