@@ -10,9 +10,8 @@ use Rattle.relation_terms.specs.Trees.{Tree, node, cons, count, nth}
 use Rattle.relation_contexts.specs.Relation.{Items, part_at, plain, IsRelatedHead}
 use Rattle.relation_contexts.specs.Stores.{Constraint}
 use Rattle.relation_contexts.specs.Steps.{HasNoBinder}
-use Rattle.relation_contexts.specs.Lawful.{Pair}
 use Rattle.relation_contexts.specs.Asking.{Wanted, a_constraint, a_goal, IsOfItself, HaveAlias, AsksFor}
-use Rattle.relation_contexts.specs.Recording.{Record, StandsAmong, IsRecorded, Covers, Records, MayAdd, RecordsJustAsked, FrontAsks}
+use Rattle.relation_contexts.specs.Recording.{RememberedTerms, Record, StandsAmong, IsRecorded, Covers, Records, MayAdd, RecordsJustAsked, FrontAsks}
 use Rattle.relation_contexts.specs.Recording.{FrontMayAdd, FrontRecords}
 use Rattle.relation_contexts.proofs.Composing.{below_or}
 use Rattle.relation_contexts.proofs.Asking.{forms_ask, parts_are_asked}
@@ -88,12 +87,12 @@ module _ {c : Items} where
       met since h z (inr p) = subst (λ x. IsRecorded x q.goals z) (append_assoc since f.constraints g.constraints) (g.all (since ++ f.constraints) (f.covers since h) z p)
 
   -- A pair that is remembered records nothing again.
-  pub remembered_records : (r : Record) (x : Pair) → Contains r.remembered x → RecordsJustAsked c x.variance x.left x.right r r
+  pub remembered_records : (r : Record) (x : RememberedTerms) → Contains r.remembered x → RecordsJustAsked c x.variance x.left x.right r r
   remembered_records r x h = records_nothing {P = λ z. AsksFor c z x.variance x.left x.right} {Q = MayAdd c x.variance x.left x.right} r
       (λ since k z p. All-contains (λ p. (z : Wanted) → AsksFor c z p.variance p.left p.right → IsRecorded since r.goals z) r.remembered x k h z p)
 
   -- What a pair asks for was recorded, and the pair is remembered from then on, or not.
-  pub noted_records : (r q p : Record) (x : Pair) → RecordsJustAsked c x.variance x.left x.right r q → p.constraints ≡ q.constraints → p.goals ≡ q.goals →
+  pub noted_records : (r q p : Record) (x : RememberedTerms) → RecordsJustAsked c x.variance x.left x.right r q → p.constraints ≡ q.constraints → p.goals ≡ q.goals →
       (p.remembered ≡ q.remembered) ⊎ (p.remembered ≡ q.remembered ++ x ∷ []) → RecordsJustAsked c x.variance x.left x.right r p
   noted_records r q p x f ec eg er = record {
     constraints = f.constraints;
@@ -106,7 +105,7 @@ module _ {c : Items} where
     covers = λ since h. go since h er;
   }
     where
-      one : (P : Pair → Type 0) → P x → All P (x ∷ [])
+      one : (P : RememberedTerms → Type 0) → P x → All P (x ∷ [])
       one P h zero d l = h
       one P h (suc k) d l = absurd (omega (arith, l))
 

@@ -7,14 +7,19 @@ use Rattle.relation_contexts.specs.Relation.{Items, part_at}
 use Rattle.relation_contexts.specs.Stores.{Constraint}
 use Rattle.relation_contexts.specs.Steps.{HasNoBinder}
 use Rattle.relation_contexts.specs.Asking.{Wanted, a_constraint, a_goal, IsTrivial, AsksFor}
-use Rattle.relation_contexts.specs.Lawful.{Pair}
+
+-- Two terms that were related, and the variance at which they were.
+pub record RememberedTerms : Type 0 where
+  pub variance : Variance
+  pub left : Tree
+  pub right : Tree
 
 -- What of a relation's state is looked at here: constraints, the predicates of goals, and the pairs that it remembers as
 -- related.
 pub record Record : Type 0 where
   pub constraints : List Constraint
   pub goals : List Tree
-  pub remembered : List Pair
+  pub remembered : List RememberedTerms
 
 -- What is wanted stands in a list of constraints, or among the goals.
 abbrev pub StandsAmong : List Constraint → List Tree → Wanted → Type 0

@@ -7,10 +7,9 @@ use Rattle.relation_terms.specs.Trees.{Tree, node, count, nth, Leaves}
 use Rattle.relation_contexts.specs.Relation.{Items, Interpretation, part_at, plain, IsRelatedHead, IsValueLeaf, sort_of}
 use Rattle.relation_contexts.specs.Stores.{Constraint}
 use Rattle.relation_contexts.specs.Steps.{HasNoBinder}
-use Rattle.relation_contexts.specs.Lawful.{Pair}
 use Rattle.relation_contexts.specs.Asking.{Wanted, a_constraint, a_goal, IsOfItself, IsTrivial, region_at, HaveAlias}
 use Rattle.relation_contexts.specs.Asking.{AsksFor, PartsAsk, HasNoAlias}
-use Rattle.relation_contexts.specs.Recording.{Record, RecordsJustAsked, FrontRecords}
+use Rattle.relation_contexts.specs.Recording.{RememberedTerms, Record, RecordsJustAsked, FrontRecords}
 use Rattle.type_relations.specs.Completing.{AskedHolds}
 
 -- Nothing is asked for at bivariance.
@@ -57,12 +56,12 @@ PartsRecord = (c : Items) (h k : Head) (v : Variance) (ts us : Tree) (r q : Reco
 
 -- A pair that is remembered records nothing again.
 abbrev pub RememberedRecords : Type 0
-RememberedRecords = (c : Items) (r : Record) (x : Pair) → Contains r.remembered x →
+RememberedRecords = (c : Items) (r : Record) (x : RememberedTerms) → Contains r.remembered x →
     RecordsJustAsked c x.variance x.left x.right r r
 
 -- A pair may be remembered once what it asks for was recorded.
 abbrev pub NotedRecords : Type 0
-NotedRecords = (c : Items) (r q p : Record) (x : Pair) → RecordsJustAsked c x.variance x.left x.right r q →
+NotedRecords = (c : Items) (r q p : Record) (x : RememberedTerms) → RecordsJustAsked c x.variance x.left x.right r q →
     p.constraints ≡ q.constraints → p.goals ≡ q.goals → p.remembered ≡ q.remembered ++ x ∷ [] →
     RecordsJustAsked c x.variance x.left x.right r p
 
