@@ -222,7 +222,7 @@ module _ (st : Store) (s : Assign) (a : IsAssignment st s) (x : Atom) where
   value_type k i (leaf (variable j m)) f o h v e = value_leaf k i j m f o h v e
   value_type k i (leaf (bound q d j)) f o h v e = absurd (no_bound q d j f e)
   value_type k i (leaf (placeholder q u n)) f o h v e = absurd (no_placeholder q u n f e)
-  value_type k i (leaf (atom y)) f c o h v e =
+  value_type k i (leaf (atom y)) f o h v e =
       value_atom k y (let r : x ≡ erase_atom y = cc in subst (λ z. IsNumberFor k (leaf (atom z))) r v)
   value_type k i (leaf unknown) f o h v e = absurd f
   value_type k i (node b ts) f o h v e = absurd (cc)
