@@ -122,7 +122,7 @@ asked_over M r v h k ts us asked = record {
   left_in = asked.left_in;
   right_in = asked.right_in;
   left_taken = asked.left_taken;
-  right_taken = (asked.right_taken.0, (asked.left_taken.1.0, asked.right_taken.1.1));
+  right_taken = asked.right_taken;
 }
 
 -- The same with another answer, that may be given.

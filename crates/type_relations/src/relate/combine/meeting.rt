@@ -93,8 +93,6 @@ pub(crate) fn are_no_const_vars<Infcx: InferCtxtLike>(
     requires b_known { KnowsConst (Infcx.state infcx.now) b.now }
     requires a_in { HasConst (Infcx.state infcx.now) a.now }
     requires b_in { HasConst (Infcx.state infcx.now) b.now }
-    requires a_taken { TakesConst (Infcx.state infcx.now) a.now }
-    requires b_taken { TakesConst (Infcx.state infcx.now) b.now }
     ensures none { IsTrue result → AreFormedConsts (Infcx.state infcx.now).meaning a.now b.now }
     ensures one { IsFalse result → AreFormedConsts (Infcx.state infcx.now).meaning a.now b.now → ⊥ }
 {

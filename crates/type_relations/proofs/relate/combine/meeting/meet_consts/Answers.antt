@@ -45,13 +45,13 @@ instantiate_const_var_raw-requires-in-Some-const_var-2-clause-target_unresolved 
 pub instantiate_const_var_raw-requires-clause-source_no_variable :
     goal.instantiate_const_var_raw-requires-clause-source_no_variable
 instantiate_const_var_raw-requires-clause-source_no_variable g c = λ n e.
-    subst IsFormedConst e (c.in-None-const_var.ensures.formed c.requires.b_taken
+    subst IsFormedConst e (c.in-None-const_var.ensures.formed
     (term_within (g.Infcx.InferCtxtLike.state c.args.infcx.now).store _ c.requires.b_in))
 
 pub instantiate_const_var_raw-requires-in-Some-const_var-2-clause-source_no_variable :
     goal.instantiate_const_var_raw-requires-in-Some-const_var-2-clause-source_no_variable
 instantiate_const_var_raw-requires-in-Some-const_var-2-clause-source_no_variable g c = λ n e.
-    subst IsFormedConst e (c.in-None.ensures.formed c.requires.a_taken
+    subst IsFormedConst e (c.in-None.ensures.formed
     (term_within (g.Infcx.InferCtxtLike.state c.args.infcx.now).store _ c.requires.a_in))
 
 pub returns-in-Some-const_var-clause-grows : goal.returns-in-Some-const_var-clause-grows
@@ -68,7 +68,7 @@ returns-in-Some-const_var-clause-combines g c =
 pub returns-in_err-value-in-None-const_var-clause-combines : goal.returns-in_err-value-in-None-const_var-clause-combines
 returns-in_err-value-in-None-const_var-clause-combines g c =
     let f = c.in_err-value-in-None-const_var.field-0.0 in
-    left_root_refused c.in-Some.x.0 f c.in-Some.ensures.is (c.in-None-const_var.ensures.formed c.requires.b_taken
+    left_root_refused c.in-Some.x.0 f c.in-Some.ensures.is (c.in-None-const_var.ensures.formed
     (term_within (g.Infcx.InferCtxtLike.state c.args.infcx.now).store _ c.requires.b_in))
     c.in_err-value-in-None-const_var.ensures.instantiates
     (as_err c.from_residual.result f c.from_residual.ensures.0 c.from_residual.ensures.1)
@@ -79,25 +79,25 @@ returns-in_err-value-in-Some-const_var-2-clause-combines g c =
     let f = c.in_err-value-in-Some-const_var-2.field-0.0 in
     let from = c.from_residual-in_err-value-in-Some-const_var-2 in
     right_root_refused c.in-Some-const_var-2.y.0 f c.in-Some-const_var-2.ensures.is
-    (c.in-None.ensures.formed c.requires.a_taken
+    (c.in-None.ensures.formed
     (term_within (g.Infcx.InferCtxtLike.state c.args.infcx.now).store _ c.requires.a_in)) c.in_err-value-in-Some-const_var-2.ensures.instantiates
     (as_err from.result f from.ensures.0 from.ensures.1)
 
 pub returns-in_ok-value-in-None-const_var-clause-combines : goal.returns-in_ok-value-in-None-const_var-clause-combines
 returns-in_ok-value-in-None-const_var-clause-combines g c =
     left_root_bound c.in-Some.x.0 c.in_ok-value-in-None-const_var.value c.in-Some.ensures.is
-    (c.in-None-const_var.ensures.formed c.requires.b_taken
+    (c.in-None-const_var.ensures.formed
     (term_within (g.Infcx.InferCtxtLike.state c.args.infcx.now).store _ c.requires.b_in)) c.in_ok-value-in-None-const_var.ensures.instantiates refl
 
 pub returns-in_ok-value-in-Some-const_var-2-clause-combines :
     goal.returns-in_ok-value-in-Some-const_var-2-clause-combines
 returns-in_ok-value-in-Some-const_var-2-clause-combines g c =
     right_root_bound c.in-Some-const_var-2.y.0 c.in_ok-value-in-Some-const_var-2.value c.in-Some-const_var-2.ensures.is
-    (c.in-None.ensures.formed c.requires.a_taken
+    (c.in-None.ensures.formed
     (term_within (g.Infcx.InferCtxtLike.state c.args.infcx.now).store _ c.requires.a_in)) c.in_ok-value-in-Some-const_var-2.ensures.instantiates refl
 
 pub returns-in-None-const_var-2-clause-combines : goal.returns-in-None-const_var-2-clause-combines
-returns-in-None-const_var-2-clause-combines g c = formed_by_parts (c.in-None.ensures.formed c.requires.a_taken
+returns-in-None-const_var-2-clause-combines g c = formed_by_parts (c.in-None.ensures.formed
     (term_within (g.Infcx.InferCtxtLike.state c.args.infcx.now).store _ c.requires.a_in))
-    (c.in-None-const_var-2.ensures.formed c.requires.b_taken
+    (c.in-None-const_var-2.ensures.formed
     (term_within (g.Infcx.InferCtxtLike.state c.args.infcx.now).store _ c.requires.b_in)) refl refl refl

@@ -71,21 +71,21 @@ returns-then-have_no_variable-clause-stepped g c =
     let s = g.Infcx.InferCtxtLike.state r.infcx.now in
     let k = c.requires.asked in
     let none = c.have_no_variable.ensures in
-    let a_formed = none.a_formed c.if-have_no_variable.true k.left_taken.1 (term_within s.store _ k.left_in) in
-    let b_formed = none.b_formed c.if-have_no_variable.true k.right_taken.1 (term_within s.store _ k.right_in) in
+    let a_formed = none.a_formed c.if-have_no_variable.true (term_within s.store _ k.left_in) in
+    let b_formed = none.b_formed c.if-have_no_variable.true (term_within s.store _ k.right_in) in
     c.super_combine_tys.ensures.stepped (λ n e. subst IsFormed e a_formed) (λ n e. subst IsFormed e b_formed)
 
 pub super_combine_tys-requires-clause-a_shallow : goal.super_combine_tys-requires-clause-a_shallow
 super_combine_tys-requires-clause-a_shallow g c =
     let st = (g.Infcx.InferCtxtLike.state c.args.self.now.infcx.now).store in
     let k = c.requires.asked in
-    formed (c.have_no_variable.ensures.a_formed c.if-have_no_variable.true k.left_taken.1 (term_within st _ k.left_in))
+    formed (c.have_no_variable.ensures.a_formed c.if-have_no_variable.true (term_within st _ k.left_in))
 
 pub super_combine_tys-requires-clause-b_shallow : goal.super_combine_tys-requires-clause-b_shallow
 super_combine_tys-requires-clause-b_shallow g c =
     let st = (g.Infcx.InferCtxtLike.state c.args.self.now.infcx.now).store in
     let k = c.requires.asked in
-    formed (c.have_no_variable.ensures.b_formed c.if-have_no_variable.true k.right_taken.1 (term_within st _ k.right_in))
+    formed (c.have_no_variable.ensures.b_formed c.if-have_no_variable.true (term_within st _ k.right_in))
 
 pub returns-then-have_no_variable-clause-steps : goal.returns-then-have_no_variable-clause-steps
 returns-then-have_no_variable-clause-steps g c =
@@ -112,8 +112,8 @@ returns-then-have_no_variable-clause-alone g c =
     let a = c.args.a.now in
     let b = c.args.b.now in
     let none = c.have_no_variable.ensures in
-    let a_formed = none.a_formed c.if-have_no_variable.true k.left_taken.1 (term_within s.store _ k.left_in) in
-    let b_formed = none.b_formed c.if-have_no_variable.true k.right_taken.1 (term_within s.store _ k.right_in) in
+    let a_formed = none.a_formed c.if-have_no_variable.true (term_within s.store _ k.left_in) in
+    let b_formed = none.b_formed c.if-have_no_variable.true (term_within s.store _ k.right_in) in
     let q = c.super_combine_tys.new.relation in
     let d = g.Infcx.InferCtxtLike.state q.infcx.now in
     steps_alone (solving_through r.structurally_relate_aliases r.infcx.ghost_name r.goals.items s r.ambient_variance r.param_env)
