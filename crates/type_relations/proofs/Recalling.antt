@@ -1,5 +1,5 @@
 -- Pairs of types that the relation of a context remembers: what is found, what may be remembered, and what comes of steps.
-use Rattle.std.proofs.Common.{◌≡◌, ◌⊎◌, ℕ, Bool, true, ◌&&◌, refl, sym, ap, ◌∙◌, subst, subst₂, List, ◌++◌, ◌∷◌, [], Contains, IsTrue, rules}
+use Rattle.std.proofs.Common.{◌≡◌, ◌⊎◌, ℕ, Bool, true, ◌&&◌, refl, sym, ◌∙◌, subst, subst₂, List, Contains, IsTrue, rules}
 use Rattle.std.proofs.Common.{Some, Result, Ok, Err, OnErr}
 use Rattle.std.specs.List.{list_any}
 use Rattle.std.proofs.lemmas.Bool.{and_parts}
@@ -14,7 +14,6 @@ use Rattle.relation_terms.specs.declared.terms.keys.PredicateKey.{PredicateKey}
 use Rattle.relation_terms.specs.declared.terms.keys.TyKey.{TyKey}
 use Rattle.relation_terms.specs.Heads.{type_sort, type_var}
 use Rattle.relation_terms.specs.Trees.{Tree, IsTerm, known}
-use Rattle.relation_terms.specs.Meaning.{Extends}
 use Rattle.relation_folds.specs.declared.error.TypeError.TheVariants.{CyclicTy}
 use Rattle.relation_folds.specs.declared.error.RelateFault.{RelateFault}
 use Rattle.relation_contexts.specs.declared.relate.Step.{Step}

@@ -24,8 +24,8 @@ mod remembering;
 mod steps;
 
 use crate::relate::{Relate, StructurallyRelateAliases};
-pub use relation::{GoalOf, SolverRelating};
 use delayed_map::DelayedSet;
+pub use relation::{GoalOf, SolverRelating};
 use relation_contexts::infer_ctxt::InferCtxtLike;
 use relation_folds::error::RelateResult;
 use relation_terms::terms::{Interner, ParamEnv, Span, Variance};

@@ -1,4 +1,4 @@
-use Rattle.std.proofs.Common.{refl, sym, ◌∙◌, subst, Ok, Err}
+use Rattle.std.proofs.Common.{refl, sym, subst, Ok, Err}
 use Rattle.relation_folds.specs.declared.error.RelateFault.TheVariants.{Memory}
 use Rattle.relation_contexts.specs.declared.relate.Step.TheVariants.{Done}
 use Rattle.relation_contexts.specs.Parts.{IsFormed}

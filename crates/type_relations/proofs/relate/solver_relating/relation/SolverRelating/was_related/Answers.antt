@@ -1,5 +1,4 @@
-use Rattle.std.proofs.Common.{sym, ◌∙◌, subst, IsTrue}
-use Rattle.relation_terms.specs.Trees.{known}
+use Rattle.std.proofs.Common.{sym, ◌∙◌}
 use Rattle.type_relations.proofs.Recalling.{found_pair}
 use Rattle.type_relations.proofs.Solving.{one_ty}
 use Rattle.type_relations.proofs.relate.solver_relating.relation.SolverRelating.was_related.Goals as goal
