@@ -42,9 +42,9 @@ region_at Bivariant a b = None
 abbrev pub HaveAlias : Tree → Tree → Type 0
 HaveAlias a b = IsAlias a ⊎ IsAlias b
 
--- What relating two terms at a variance asks for: of two regions their constraint; of two of which one is an alias, unless
--- they are one, its goal; of two others of one form what their parts ask for, each pair at the variance of its place.
--- Nothing is asked at bivariance. Of binders it is said what stands outside of them.
+-- What relating two terms at a variance asks for: of two regions their constraint; of two of which one is an alias,
+-- unless they are one, its goal; of two others of one form what their parts ask for, each pair at the variance of its
+-- place. Nothing is asked at bivariance. Of binders it is said what stands outside of them.
 pub data AsksFor (c : Items) (z : Wanted) : Variance → Tree → Tree → Type 0 where
   of_regions : {v : Variance} {a b : Tree} (q : Constraint) → z ≡ a_constraint q → sort_of a ≡ region_sort →
       sort_of b ≡ region_sort → region_at v a b ≡ Some q → AsksFor c z v a b

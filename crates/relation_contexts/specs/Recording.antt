@@ -14,8 +14,7 @@ pub record RememberedTerms : Type 0 where
   pub left : Tree
   pub right : Tree
 
--- What of a relation's state is looked at here: constraints, the predicates of goals, and the pairs that it remembers as
--- related.
+-- What of a relation's state is looked at here: constraints, the predicates of goals, and the pairs that it remembers.
 pub record Record : Type 0 where
   pub constraints : List Constraint
   pub goals : List Tree
@@ -32,7 +31,8 @@ IsRecorded cs gs z = IsTrivial z ⊎ StandsAmong cs gs z
 
 -- What the remembered pairs ask for stands among these constraints and the goals.
 abbrev pub Covers : Items → List Constraint → Record → Type 0
-Covers c since r = All (λ p. (z : Wanted) → AsksFor c z p.variance p.left p.right → IsRecorded since r.goals z) r.remembered
+Covers c since r =
+    All (λ p. (z : Wanted) → AsksFor c z p.variance p.left p.right → IsRecorded since r.goals z) r.remembered
 
 -- What had to be recorded was, and nothing but what may be: what was added may be; and what had to be stands among what
 -- was added, or among the constraints since a moment from which all that is remembered stands there.
@@ -43,7 +43,8 @@ pub record Records (c : Items) (Must May : Wanted → Type 0) (r q : Record) : T
   pub registered : q.goals ≡ r.goals ++ goals
   pub constraints_may : All (λ k. May (a_constraint k)) constraints
   pub goals_may : All (λ g. May (a_goal g)) goals
-  pub all : (since : List Constraint) → Covers c since r → (z : Wanted) → Must z → IsRecorded (since ++ constraints) q.goals z
+  pub all : (since : List Constraint) → Covers c since r → (z : Wanted) → Must z →
+      IsRecorded (since ++ constraints) q.goals z
   pub covers : (since : List Constraint) → Covers c since r → Covers c (since ++ constraints) q
 
 -- A constraint, and no goal.

@@ -1,5 +1,5 @@
--- Completeness of terms without variables: where relating answers `Ok` such are related, all regions outliving each other
--- and what is asked of aliases being so, and where a type error comes they are not.
+-- Completeness of terms without variables: where relating answers `Ok` such are related, all regions outliving each
+-- other and what is asked of aliases being so, and where a type error comes they are not.
 use Rattle.std.specs.Prelude.{◌≡◌, Option, None, Result, Ok, Err}
 use Rattle.std.specs.Global.{Vec}
 use Rattle.term_enums.specs.declared.Variance.{Variance}
@@ -58,8 +58,8 @@ ErrorsAreUnrelated Key Id Name = (m : Meaning Key Id Name) → Sorted m → (k :
     IsSound st → (v : Variance) (x : TypeError Key Id Name) (a b : Tree) → ArePlain k a b → Leaves IsValueLeaf a →
     Leaves IsValueLeaf b → ErrorOf m k c st v x a b → (e : Tree) → AreNeverRelated c e v a b
 
--- Plain terms without variables that agree are related, where all regions outlive each other and what is asked of aliases
--- is so.
+-- Plain terms without variables that agree are related, where all regions outlive each other and what is asked of
+-- aliases is so.
 abbrev pub AgreeingAreRelated : Type 0
 AgreeingAreRelated = (k : Settings) (c : Items) (e : Tree) (v : Variance) (s : Sort) (a b : Tree) → IsValue s a →
     IsValue s b → ArePlain k a b → Agree k c (at v) a b → AreRelatedAsAsked c e v a b
