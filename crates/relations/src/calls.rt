@@ -8,6 +8,7 @@ mod delaying;
 mod growing;
 mod making;
 mod relating;
+mod towers;
 mod writing;
 
 use crate::doubling::count_terms_and_nodes;
@@ -28,6 +29,7 @@ use std::alloc::Global;
 use std::collections::HashMap;
 use std::fmt::{self, Write};
 use text_terms::printing::{ItemText, Texts};
+use towers::write_goals;
 use writing::{write_constraints, write_object, write_projection, write_rebased};
 
 // The names of parameters, and four traits.
@@ -159,6 +161,7 @@ pub fn call(alloc: Global, name: &str) -> Result<String, RowFault> {
         "r50" => write_objects(alloc, &mut text)?,
         "r51" => write_regions(alloc, &mut text)?,
         "r52" => write_refused(alloc, &mut text)?,
+        "r62" => write_goals(alloc, &mut text)?,
         "r64" => write_deep(alloc, &mut text)?,
         "r65" => write_yielded(alloc, &mut text)?,
         _ => write_counts(alloc, &mut text)?,
