@@ -5,7 +5,7 @@ use Rattle.std.proofs.lemmas.Iterator.Adapters.{fact_from_collect}
 use Rattle.std.proofs.lemmas.Iterator.Consumers.{YieldsList-from_copied}
 use Rattle.std.proofs.lemmas.Map.Made.{hash_set_len-from_list}
 use Rattle.std.proofs.lemmas.Result.{IfOk-at_ok}
-use Rattle.relation_asking.proofs.counting.count_different.Goals as goal
+use Rattle.relation_asking.proofs.counts.count_different.Goals as goal
 
 -- The set has the elements of the list, each once.
 pub returns : goal.returns
