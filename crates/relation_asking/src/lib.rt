@@ -6,7 +6,7 @@ ghost use Rattle.relation_asking.specs.Asking.{AllReady};
 mod answer_text;
 mod comparing;
 mod context;
-mod counting;
+mod counts;
 mod depth;
 mod elaborating;
 mod folding;
