@@ -43,5 +43,8 @@ pub mod Roots
 pub mod Numbers
 pub mod Variables
 pub mod Shrinking
+pub mod Remembering
 pub mod AliasOutcomes
 pub mod AliasSteps
+pub mod Asking
+pub mod Recording

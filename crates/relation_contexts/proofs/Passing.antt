@@ -83,7 +83,6 @@ module _ {Key Id Name : Type 0} where
     goals_in = All-nil (RegisteredIn r r.store);
     kept = refl;
     ambient = refl;
-    remembered = refl;
     lawful = λ l. l;
   }
 
@@ -96,7 +95,6 @@ module _ {Key Id Name : Type 0} where
     goals_in = g.goals_in;
     kept = g.kept;
     ambient = g.ambient;
-    remembered = g.remembered;
     lawful = g.lawful;
   }
 
@@ -111,7 +109,6 @@ module _ {Key Id Name : Type 0} where
         (same_settings g.kept) g.ambient (g.goes).later (f.goes).later g.goals_in f.goals_in;
     kept = f.kept ∙ g.kept;
     ambient = f.ambient ∙ g.ambient;
-    remembered = f.remembered ∙ g.remembered;
     lawful = λ l. f.lawful (g.lawful l);
   }
 
@@ -436,7 +433,6 @@ module _ {Key Id Name : Type 0} where
           (same_environment there.kept) (same_settings there.kept) (λ o. seen (subst IsDirected there.ambient o)) there.store (sym back.store) f.goals_in;
       kept = back.kept ∙ f.kept ∙ there.kept;
       ambient = back.ambient;
-      remembered = back.remembered ∙ f.remembered ∙ there.remembered;
       lawful = λ l. back.lawful (f.lawful (there.lawful l));
     }
 
@@ -527,7 +523,6 @@ module _ {Key Id Name : Type 0} where
     goals_in = subst (λ s. All (RegisteredIn r s) g.added) (sym w.store) g.goals_in;
     kept = w.kept ∙ g.kept;
     ambient = w.ambient ∙ g.ambient;
-    remembered = w.remembered ∙ g.remembered;
     lawful = λ l. w.lawful (g.lawful l);
   }
 

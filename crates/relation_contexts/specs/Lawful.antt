@@ -1,6 +1,6 @@
 -- What contracts see of a relation in steps, and what its steps and the calls over it do.
 use Rattle.std.specs.Prelude.{◌≡◌, ℕ, suc, ◌+◌, ◌≤◌, List, ◌++◌, All, IsTrue, Result, Ok, Err, get_or}
-use Rattle.std.specs.Prelude.{Option, Some, None}
+use Rattle.std.specs.Prelude.{◌⊎◌, Option, Some, None, Contains, OnErr}
 use Rattle.term_enums.specs.declared.Variance.{Variance}
 use Rattle.term_enums.specs.declared.Variance.TheVariants.{Invariant}
 use Rattle.relation_terms.specs.declared.predicate.regions.OutlivesPredicate.{OutlivesPredicate}
@@ -16,10 +16,11 @@ use Rattle.relation_folds.specs.Faults.{KnowsError}
 use Rattle.relation_contexts.specs.declared.infer_ctxt.TypingMode.{TypingMode}
 use Rattle.relation_contexts.specs.declared.relate.Step.{Step}
 use Rattle.relation_contexts.specs.declared.relate.Step.TheVariants.{Done, Parts, Again}
+use Rattle.relation_contexts.specs.AskedAlone.{AsksAlone, AsksNoneAlone}
 use Rattle.relation_contexts.specs.Relation.{Items, part_at, Way, at, parts, second_opened}
 use Rattle.relation_contexts.specs.Relation.{first_opened}
 use Rattle.relation_contexts.specs.Stores.{Store, IsSound, IsTermIn, weight}
-use Rattle.relation_contexts.specs.Goals.{Goal, Registered, ByDeclared, IsQuiet, Relates}
+use Rattle.relation_contexts.specs.Goals.{Goal, goal_of, Registered, ByDeclared, IsQuiet, Relates}
 use Rattle.relation_contexts.specs.Settings.{Settings}
 use Rattle.relation_contexts.specs.Steps.{IsLater, InstantiatesNone, StaysFullFor}
 use Rattle.relation_contexts.specs.Kits.{Kit, IsBuiltOf, IsGoalOf, StaysBuilt, BuiltFrom}
@@ -58,11 +59,9 @@ pub record Kept (Key : Type 0) : Type 0 where
   pub reference : ℕ
   pub outliving : List (OutlivesPredicate Key (TyKey Key))
 
--- A pair that a relation remembers: two terms that it has related, and the variance at which it did.
-pub record Pair : Type 0 where
-  pub variance : Variance
-  pub left : Tree
-  pub right : Tree
+-- A pair that a relation remembers: the variance at which it has related two types, and their keys, the left one's first.
+abbrev pub Pair : Type 0 → Type 0
+Pair Key = Variance × TyKey Key × TyKey Key
 
 -- A relation as it stands: what the keys of its interner mean; what it has recorded; the goals that it has registered;
 -- what no step changes; the variance at which it relates; the pairs that it remembers; and its own invariant.
@@ -72,7 +71,7 @@ pub record State (Key Id Name : Type 0) : Type 1 where
   pub goals : List Goal
   pub kept : Kept Key
   pub ambient : Variance
-  pub remembered : List Pair
+  pub remembered : List (Pair Key)
   pub lawful : Type 0
 
 -- The declared variances of a relation's items.
@@ -102,6 +101,15 @@ Takes M v t = Leaves (M.takes v) t × BindByLists t
 abbrev pub TakesParts : Manners → Type 0
 TakesParts M = (k : Settings) (c : Items) (h : Head) (i : ℕ) (v : Variance) (l : Leaf) → (M k).takes v l →
     (M k).takes (part_at c h i v) l
+
+-- What is known of two terms that were related at a variance: what is recorded and registered relates them; where
+-- exactness is promised, of first-order terms and records at invariance, each solution up to erasure unifies them;
+-- and where that is promised, they agree.
+pub record IsShown (M : Manner) (k : Settings) (c : Items) (st : Store) (goals : List Goal) (e : Tree) (v : Variance)
+    (a b : Tree) : Type 0 where
+  pub relates : Relates c st goals e v a b
+  pub unifies : M.is_exact → v ≡ Invariant → IsFirstOrderPair st a b → (s : Assign) → IsErasedSolution st s → Unifies s a b
+  pub agrees : M.relates_agreeing → Agree k c (at v) a b
 
 -- The variance at which two things are brought together.
 abbrev pub seen_at : Way → Variance
@@ -141,7 +149,7 @@ module _ {Key Id Name : Type 0} where
 
   -- From one state to another with a pair of size `n` related, or a part of the work for it done: keys mean what they
   -- meant, all that was recorded and registered stands, goals are registered in the relation's environment, and what no
-  -- step changes, the variance and what is remembered are as they were.
+  -- step changes and the variance are as they were.
   pub record Passes (n : ℕ) (r q : State Key Id Name) : Type 0 where
     pub extends : ExtendsMeaning r.meaning q.meaning
     pub goes : Goes n r.store q.store
@@ -150,7 +158,6 @@ module _ {Key Id Name : Type 0} where
     pub goals_in : All (RegisteredIn r q.store) added
     pub kept : q.kept ≡ r.kept
     pub ambient : q.ambient ≡ r.ambient
-    pub remembered : q.remembered ≡ r.remembered
     pub lawful : r.lawful → q.lawful
 
   -- Two known terms of the relation's context that it takes at a variance.
@@ -296,8 +303,8 @@ module _ {Key Id Name : Type 0} where
 
   -- A step to another pair that is to be related at a variance, for one of the budget, where something could be
   -- instantiated. What was asked about is read as two terms; where exactness is promised, these lose and gain no
-  -- solution either. When the pair is related, the left term is related with the answer. That pair and what was
-  -- read are built of what the terms and the bindings were built of.
+  -- solution either, and no goal is asked of them alone. When the pair is related, the left term is related with the
+  -- answer. That pair and what was read are built of what the terms and the bindings were built of.
   pub record LeadsAgain (M : Manners) (r q : State Key Id Name) (added : List Goal)
       (a b read_left read_right : Tree) (v : Variance) (x y answer : Tree) : Type 0 where
     pub leads : Leads r q added a b (xform r.ambient v) x y
@@ -305,6 +312,7 @@ module _ {Key Id Name : Type 0} where
     pub read_exactly : (M r.kept.settings).is_exact → r.ambient ≡ Invariant →
         IsFirstOrderPair r.store read_left read_right → IsFirstOrderPair q.store x y ×
         ExactStep r.store q.store read_left read_right x y
+    pub asks_none : AsksNoneAlone r.kept.settings r.ambient read_left read_right
     pub read_asked : Asked M q r.ambient read_left read_right
     pub asked : Asked M q (xform r.ambient v) x y
     pub answers : CarriesOver (items_in q) q.kept.environment q.store q.goals (at (xform r.ambient v)) x y
@@ -346,14 +354,42 @@ module _ {Key Id Name : Type 0} where
     pub full : StaysFullFor r.store q.store a b
     pub built : StaysBuilt r.store q.store passes.added a b
 
-  -- What is known of two terms that were related at a variance: what is recorded and registered relates them; where
-  -- exactness is promised, of first-order terms and records at invariance, each solution up to erasure unifies them;
-  -- and where that is promised, they agree.
-  pub record Shown (M : Manners) (r : State Key Id Name) (v : Variance) (a b : Tree) : Type 0 where
-    pub relates : Relates (items_in r) r.store r.goals r.kept.environment v a b
-    pub unifies : (M r.kept.settings).is_exact → v ≡ Invariant → IsFirstOrderPair r.store a b → (s : Assign) →
-        IsErasedSolution r.store s → Unifies s a b
-    pub agrees : (M r.kept.settings).relates_agreeing → Agree r.kept.settings (items_in r) (at v) a b
+  -- What is known of two terms that were related at a variance, where a relation stands.
+  abbrev pub Shown : Manners → State Key Id Name → Variance → Tree → Tree → Type 0
+  Shown M r v a b = IsShown (M r.kept.settings) r.kept.settings (items_in r) r.store r.goals r.kept.environment v a b
+
+  -- A pair of known types that were related; and where the relation promises it, the goal is registered that is asked of
+  -- two types alone.
+  pub record WasRelated (M : Manner) (k : Settings) (m : Meaning Key Id Name) (st : Store) (goals : List Goal) (e : Tree)
+      (p : Pair Key) : Type 0 where
+    pub left_known : IsTrue (known (m.ty p.1))
+    pub right_known : IsTrue (known (m.ty p.2))
+    pub shown : IsShown M k (items_of m) st goals e p.0 (m.ty p.1) (m.ty p.2)
+    pub registered : M.registers_alone → (g : Tree) → AsksAlone k p.0 (m.ty p.1) (m.ty p.2) g → Contains goals (goal_of e g)
+
+  -- Each of a list of pairs was related.
+  abbrev pub WereRelated : Manner → Settings → Meaning Key Id Name → Store → List Goal → Tree → List (Pair Key) → Type 0
+  WereRelated M k m st goals e ps = (p : Pair Key) → Contains ps p → WasRelated M k m st goals e p
+
+  -- The same of a pair, where a relation stands.
+  abbrev pub HasRelated : Manners → State Key Id Name → Pair Key → Type 0
+  HasRelated M r p = WasRelated (M r.kept.settings) r.kept.settings r.meaning r.store r.goals r.kept.environment p
+
+  -- What a relation remembers was related.
+  abbrev pub RemembersRelated : Manners → State Key Id Name → Type 0
+  RemembersRelated M r =
+      WereRelated (M r.kept.settings) r.kept.settings r.meaning r.store r.goals r.kept.environment r.remembered
+
+  -- At most this pair is remembered besides what was; where a growth was refused, what was. Nothing else was done.
+  pub record Remembers {A F : Type 0} (r q : State Key Id Name) (p : Pair Key) (result : Result A F) : Type 0 where
+    pub meaning : q.meaning ≡ r.meaning
+    pub store : q.store ≡ r.store
+    pub goals : q.goals ≡ r.goals
+    pub kept : q.kept ≡ r.kept
+    pub ambient : q.ambient ≡ r.ambient
+    pub no_more : (x : Pair Key) → Contains q.remembered x → (x ≡ p) ⊎ Contains r.remembered x
+    pub refused : OnErr result (q.remembered ≡ r.remembered)
+    pub lawful : r.lawful → q.lawful
 
   -- A fault is want of memory.
   abbrev pub OnlyMemory : {X : Type 0} → Result X (RelateFault Key Id Name) → Type 0

@@ -27,4 +27,7 @@ pub mod ContextCalls
 pub mod Binders
 pub mod OpeningLaws
 pub mod AliasGoals
+pub mod Asking
+pub mod Recording
+pub mod AskedAlone
 pub mod Reads

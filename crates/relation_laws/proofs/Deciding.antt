@@ -5,7 +5,7 @@ use Rattle.term_enums.specs.declared.Variance.TheVariants.{Invariant, Bivariant}
 use native.Mathlib.Decide.{dec_le}
 use Rattle.term_enums.specs.declared.Mutability.{Mutability}
 use Rattle.term_enums.specs.Variances.{xform}
-use Rattle.relation_terms.specs.Heads.{Sort, region_sort, type_sort, const_sort, value_sort, value_type_sort, pattern_sort, leaf_sort, head_sort, region_kind, type_kind, const_kind, bound_kind, bool_type, char_type, str_type, never_type, type_error, int_type, uint_type, float_type, foreign, type_param, static_region, early_region, const_error, const_param, value_leaf, not_null_pattern, Head, adt, fn_def, closure, coroutine_closure, coroutine, coroutine_witness, array, slice, pattern_type, tuple, raw_ptr, ref, value, value_type, value_branch, expression, range_pattern, or_pattern, Leaf, placeholder, atom}
+use Rattle.relation_terms.specs.Heads.{Sort, region_sort, type_sort, const_sort, value_sort, value_type_sort, pattern_sort, leaf_sort, head_sort, region_kind, type_kind, const_kind, bound_kind, bool_type, char_type, str_type, never_type, type_error, int_type, uint_type, float_type, foreign, type_param, static_region, early_region, const_error, const_param, value_leaf, not_null_pattern, Head, adt, fn_def, closure, coroutine_closure, coroutine, coroutine_witness, array, slice, pattern_type, tuple, raw_ptr, ref, value, value_type, value_branch, expression, range_pattern, or_pattern, Leaf, variable, bound, placeholder, atom, unknown}
 use Rattle.relation_terms.specs.Trees.{Tree, leaf, node, cons, IsList}
 use Rattle.relation_contexts.specs.Relation.{Items, Interpretation, Outlives, all_outlive, given, itself, through, RegionRule, Rel, at, parts, same, anything, error_left, error_right, regions, alias_types, equal_consts, atoms, forms, next_part, reference_variance, IsError, IsAliasHead, IsRelatedHead, plain, part_at}
 use Rattle.relation_laws.specs.declared.decided.SmallLeaf.{SmallLeaf}
@@ -16,7 +16,8 @@ use Rattle.relation_laws.specs.declared.decided.SmallSort.{SmallSort}
 use Rattle.relation_laws.specs.declared.decided.SmallSort.TheVariants as sort
 use Rattle.relation_laws.specs.declared.decided.SmallParts.{SmallParts, End, Next'}
 use Rattle.relation_laws.specs.Decided.{Leads, plain_leaf, pair_of, outlives_by, leaf_of, head_of, sort_meant, all_declare, small_parts}
-use Rattle.relation_laws.proofs.RegionTerms.{plain_related}
+use Rattle.relation_contexts.specs.Errors.{outer_leaf}
+use Rattle.type_relations.proofs.RegionTerms.{outer_related}
 use Rattle.relation_contexts.proofs.Related.{rigid_rule, neither, neither_of, no_region_head, forms_inverted}
 use Rattle.relation_contexts.proofs.Erased.{leaf_path}
 
@@ -158,6 +159,13 @@ sorts_iff a b s t p q = (λ h. sym p ∙ ap sort_meant h ∙ q, λ h. sym (sort_
 pub leaves_iff : (a b : SmallLeaf) (l m : Leaf) → leaf_of a ≡ l → leaf_of b ≡ m → (a ≡ b) ↔ (l ≡ m)
 leaves_iff a b l m p q = (λ h. sym p ∙ ap leaf_of h ∙ q, λ h. leaf_of_once a b (p ∙ h ∙ sym q))
 
+plain_is_outer : (l : Leaf) → plain_leaf l ≡ outer_leaf l
+plain_is_outer (variable k n) = refl
+plain_is_outer (bound k d i) = refl
+plain_is_outer (placeholder k u n) = refl
+plain_is_outer (atom x) = refl
+plain_is_outer unknown = refl
+
 -- Terms without parts.
 abbrev LeafCases : Interpretation → Variance → Leaf → Leaf → Type 0
 LeafCases w v x y = (plain_leaf x ≡ plain_leaf y) ⊎ (((leaf_sort x ≡ leaf_sort y) × (IsError (leaf x) ⊎ IsError (leaf y))) ⊎ (((leaf_sort x ≡ region_sort) × (leaf_sort y ≡ region_sort)) × RegionRule w v (leaf x) (leaf y)))
@@ -180,7 +188,7 @@ leaves_related_iff c w e v x y n = (to, leaf_cases n)
     error p (inr h) = error_right h p
 
     to : LeafCases w v x y → Rel c w e (at v) (leaf x) (leaf y)
-    to (inl p) = plain_related c w e v x y p
+    to (inl p) = outer_related c w e v x y (sym (plain_is_outer x) ∙ p ∙ plain_is_outer y)
     to (inr (inl p)) = error p.0 p.1
     to (inr (inr p)) = regions p.0.0 p.0.1 p.1
 

@@ -1,8 +1,8 @@
 pub mod SmallTerms
 pub mod Assigning
-pub mod RegionTerms
 pub mod Deciding
 pub mod Rejected
 pub mod FreeValues
 pub mod StaysShown
 pub mod OpenedInstances
+pub mod Interpreting

@@ -1,5 +1,5 @@
-pub mod RegionTerms
 pub mod RejectionLaws
 pub mod Decided
 pub mod SolutionLaws
 pub mod OpenedInstances
+pub mod AskingLaws

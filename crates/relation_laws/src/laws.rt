@@ -31,9 +31,14 @@ ghost use Rattle.type_relations.specs.UniverseLaws.{GeneralisingKeepsUniverse};
 ghost use Rattle.relation_laws.specs.RejectionLaws.{ClashesDoNotUnify, ClashesAreNotRelated};
 ghost use Rattle.relation_laws.specs.SolutionLaws.{FreeValues, MadeIsUnconstrainedErased, TermStays};
 ghost use Rattle.relation_laws.specs.OpenedInstances.{OpenedIsInstance};
-ghost use Rattle.relation_laws.specs.RegionTerms.{RelatedTermsAgree, RelatedIffAgree};
+ghost use Rattle.relation_laws.specs.AskingLaws.{NothingAtBivariance, ItselfIsTrivial, NoGoalWithoutAlias};
+ghost use Rattle.relation_laws.specs.AskingLaws.{RegionsAskOne, FormsAskByParts, FrontRecordsOn, PartsRecord};
+ghost use Rattle.relation_laws.specs.AskingLaws.{RememberedRecords, NotedRecords, JustAsked, SomeInterpretation};
+ghost use Rattle.type_relations.specs.RegionTerms.{RelatedTermsAgree, RelatedIffAgree};
+ghost use Rattle.type_relations.specs.Completing.{ErrorsDisagree, ErrorsAreUnrelated, AgreeingAreRelated};
 
 use relation_contexts::infer_ctxt::InferCtxtLike;
+use relation_terms::terms::Interner;
 use type_relations::relate::Relate;
 
 /// What holds of all terms, and of errors, parameters and constants.
@@ -183,4 +188,31 @@ pub fn rejecting()
 pub fn region_terms()
     ensures agree { RelatedTermsAgree }
     ensures just_where { RelatedIffAgree }
+{}
+
+/// What relating two terms asks for.
+pub fn asking()
+    ensures bivariance { NothingAtBivariance }
+    ensures itself { ItselfIsTrivial }
+    ensures no_goal { NoGoalWithoutAlias }
+    ensures regions { RegionsAskOne }
+    ensures forms { FormsAskByParts }
+    ensures some { SomeInterpretation }
+{}
+
+/// What is recorded of what is asked for: part by part, and where pairs are remembered.
+pub fn recording()
+    ensures goes_on { FrontRecordsOn }
+    ensures parts { PartsRecord }
+    ensures remembered { RememberedRecords }
+    ensures noted { NotedRecords }
+    ensures just_asked { JustAsked }
+{}
+
+/// Plain terms: no error comes of such whose erasures agree; and without variables such of which an error comes are
+/// related nowhere, and such that agree are where all regions outlive each other and what is asked of aliases is so.
+pub fn plain_terms<I: Interner>()
+    ensures disagree { ErrorsDisagree I.Key I.Id I.Name }
+    ensures unrelated { ErrorsAreUnrelated I.Key I.Id I.Name }
+    ensures related { AgreeingAreRelated }
 {}

@@ -120,7 +120,6 @@ module _ {Key Id Name : Type 0} (m : Meaning Key Id Name) where
       goals_in = All-nil (RegisteredIn (plain_state m v cs) (plain_store m (cs ++ c ∷ [])));
       kept = refl;
       ambient = refl;
-      remembered = refl;
       lawful = λ l. constraint_sound (plain_store m cs) (plain_store m (cs ++ c ∷ [])) (constraint_of m c) added l
           is_in;
     }

@@ -88,6 +88,7 @@ impl<I: Interner> HasState<I> for PlainRelation<I> {
 
 impl<I: Interner> TypeRelation<I> for PlainRelation<I> {
     ghost use Rattle.std.specs.Prelude.{refl};
+    ghost use Rattle.relation_contexts.proofs.Remembering.{none_related};
 
     ghost interner = { λ r. r.interner };
 
@@ -167,6 +168,8 @@ impl<I: Interner> TypeRelation<I> for PlainRelation<I> {
     ghost reads = { λ r. refl };
 
     ghost sound = { λ r l. l };
+
+    ghost remembers_related = { λ r l. none_related _ _ _ _ _ _ };
 
     ghost takes_parts = { λ k c h i v l t. t };
 }

@@ -1,7 +1,8 @@
 -- What is registered alone of two types that are left to one goal.
-use Rattle.std.proofs.Common.{◌≡◌, ◌≢◌, ◌⊎◌, inl, refl, sym, ◌∙◌, subst, subst₂, [], Some, None}
+use Rattle.std.proofs.Common.{◌≡◌, ◌≢◌, ◌⊎◌, inl, inr, ⊎_elim, arith, refl, sym, ap, ◌∙◌, subst, subst₂, [], ◌∷◌, Contains, Some, None}
 use Rattle.std.proofs.Common.{Result, Ok, Err, IsTrue, false}
 use Rattle.std.proofs.lemmas.Bool.{false≢true}
+use Rattle.std.proofs.lemmas.List.Elements.{Contains-append_right}
 use Rattle.term_enums.specs.declared.Variance.{Variance}
 use Rattle.relation_terms.specs.declared.terms.generic_arg.GenericArgKind.{GenericArgKind}
 use Rattle.relation_terms.specs.declared.terms.generic_arg.GenericArgKind.TheVariants.{Lifetime, Ty, Const}
@@ -17,22 +18,23 @@ use Rattle.relation_folds.specs.declared.error.RelateFault.TheVariants.{Memory, 
 use Rattle.relation_contexts.specs.declared.relate.Step.{Step}
 use Rattle.relation_contexts.specs.declared.relate.Step.TheVariants.{Done, Parts, Again}
 use Rattle.relation_contexts.specs.AliasGoals.{alias_at}
-use Rattle.relation_contexts.specs.Errors.{itself, HaveNoError}
-use Rattle.relation_contexts.specs.Lawful.{State, Manners}
+use Rattle.relation_contexts.specs.Errors.{itself, HaveNoError, IsLeftToGoal}
+use Rattle.relation_contexts.specs.Goals.{Goal, goal_of}
+use Rattle.relation_contexts.specs.Lawful.{State, Manners, RemembersRelated}
 use Rattle.relation_contexts.specs.Parts.{IsFormed}
 use Rattle.relation_contexts.specs.Relation.{IsAlias, sort_of}
 use Rattle.relation_contexts.specs.Resolving.{formed}
-use Rattle.relation_contexts.specs.Settings.{LeavesAliases}
+use Rattle.relation_contexts.specs.Settings.{Settings, LeavesAliases}
 use Rattle.relation_contexts.proofs.AliasSteps.{reads_once}
 use Rattle.relation_contexts.proofs.OneParts.{sort_is}
-use Rattle.type_relations.specs.Alone.{AsksAlone, of_variables, of_alias, RegistersAlone, StepRegistersAlone}
-use Rattle.type_relations.specs.Alone.{RelatesAlone, StepsAlone}
-use Rattle.type_relations.specs.Emitting.{subtype_at}
+use Rattle.relation_contexts.specs.AskedAlone.{AsksAlone, of_variables, of_alias, AsksNoneAlone, subtype_at}
+use Rattle.type_relations.specs.Alone.{RegistersAlone, StepRegistersAlone, RelatesAlone, StepsAlone}
 use Rattle.type_relations.specs.Combining.{RegistersOne, RegistersNone, TysCombine}
 use Rattle.type_relations.specs.Combining.{left_error, right_error, left_to_goal, left_open, not_registered, not_left}
 use Rattle.type_relations.specs.Stepping.{CombinesTyVars, made_one, left_subtype, right_subtype, goal_refused}
 use Rattle.type_relations.specs.Stepping.{CombinesShallowTys, two_variables, left_bound, left_asked, left_unasked, left_refused}
 use Rattle.type_relations.specs.Stepping.{right_bound, right_asked, right_unasked, right_refused, no_ty_variables}
+use Rattle.type_relations.specs.Stepping.{StepsRead, met_again, combined, not_remembered}
 use Rattle.type_relations.specs.Stepping.{StepsTys, one_type, without_variables, resolved_first}
 use Rattle.type_relations.specs.Variables.{one_has_variable}
 
@@ -40,10 +42,10 @@ use Rattle.type_relations.specs.Variables.{one_has_variable}
 module _ {Key Id Name : Type 0} (r q : State Key Id Name) where
   one_alone : (a : TyKey Key) (t p : Tree) → (q.meaning).ty a ≡ t → RegistersOne r q p →
       StepRegistersAlone r q (q.meaning).ty t p (Ok (Done a))
-  one_alone a t p e h = (e, (h.store, h.goals))
+  one_alone a t p e h = (e, (h.store, inl h.goals))
 
   none_alone : (t p : Tree) → RegistersNone r q → StepRegistersAlone r q (q.meaning).ty t p (Err Memory)
-  none_alone t p h = (h.store, h.goals)
+  none_alone t p h = h.store
 
   module _ (a b : TyKey Key) (res : Result (Step (TyKey Key)) (RelateFault Key Id Name)) (extends : Extends r.meaning q.meaning)
       (a_known : IsTrue (known ((r.meaning).ty a))) where
@@ -113,29 +115,68 @@ module _ {Key Id Name : Type 0} (r q : State Key Id Name) where
     shallow_alone p (of_alias l o clean n m e) (right_refused i z f g h is) = absurd (m i f)
     shallow_alone p (of_alias l o clean n m e) (no_ty_variables f g h) = alias_alone p l o clean e h
 
+  -- So the goal is registered that is asked of two that were answered.
+  pub combined_registers : (a b t : TyKey Key) (p : Tree) → Extends r.meaning q.meaning → IsTrue (known ((r.meaning).ty a)) →
+      AsksAlone r.kept.settings r.ambient ((r.meaning).ty a) ((r.meaning).ty b) p →
+      CombinesShallowTys r q a b (Ok (Done t)) → Contains q.goals (goal_of r.kept.environment p)
+  combined_registers a b t p extends k asks h =
+      ⊎_elim (λ e. subst (λ gs. Contains gs the_goal) (sym e) (Contains-append_right r.goals (the_goal ∷ []) the_goal
+      (0, omega arith, refl))) (λ z. subst (λ gs. Contains gs the_goal) (sym z.1) z.0)
+      (shallow_alone a b (Ok (Done t)) extends k p asks h).1.1
+    where
+      the_goal : Goal
+      the_goal = goal_of r.kept.environment p
+
+  -- What a step of a pair as it is read registers: of one that is remembered, what was when it was related.
+  module _ (M : Manners) (promised : (M r.kept.settings).registers_alone) (related : RemembersRelated M r) (x y : TyKey Key)
+      (p : Tree) (asks : AsksAlone r.kept.settings r.ambient ((r.meaning).ty x) ((r.meaning).ty y) p)
+      (Combines : Result (Step (TyKey Key)) (RelateFault Key Id Name) → Type 0)
+      (alone : (res : Result (Step (TyKey Key)) (RelateFault Key Id Name)) → Combines res →
+      StepRegistersAlone r q (q.meaning).ty ((r.meaning).ty x) p res) where
+    read_alone : (res : Result (Step (TyKey Key)) (RelateFault Key Id Name)) → StepsRead r q x y Combines res →
+        StepRegistersAlone r q (q.meaning).ty ((r.meaning).ty x) p res
+    read_alone res (met_again z l is) = subst (StepRegistersAlone r q (q.meaning).ty ((r.meaning).ty x) p) (sym is) (
+      ap (λ m. m.ty x) l.meaning,
+      (
+        l.store,
+        inr (
+          (related z.pair z.is_in).registered promised p
+              (subst (λ v. AsksAlone r.kept.settings v ((r.meaning).ty (z.pair).1) ((r.meaning).ty (z.pair).2) p) (sym z.variance)
+              (subst₂ (λ t u. AsksAlone r.kept.settings r.ambient t u p) (sym z.left) (sym z.right) asks)),
+          l.goals,
+        ),
+      ),
+    )
+    read_alone res (combined h) = alone res h
+    read_alone res (not_remembered t h is) = subst (StepRegistersAlone r q (q.meaning).ty ((r.meaning).ty x) p) (sym is)
+        (alone (Ok (Done t)) h).1.0
+
   -- A step of two types registers alone what is asked of them.
   pub steps_alone : (M : Manners) (a b : TyKey Key) (res : Result (Step (TyKey Key)) (RelateFault Key Id Name)) →
-      Extends r.meaning q.meaning → IsTrue (known ((r.meaning).ty a)) →
+      RemembersRelated M r → Extends r.meaning q.meaning → IsTrue (known ((r.meaning).ty a)) →
       (one_has_variable r.meaning a b ≡ false → IsFormed ((r.meaning).ty a) × IsFormed ((r.meaning).ty b)) →
       StepsTys r q a b res → StepsAlone M r q (q.meaning).ty ((r.meaning).ty a) ((r.meaning).ty b) res
-  steps_alone M a b res extends k forms (one_type e l is) promised differ s t x y p f g asks = absurd (differ e)
-  steps_alone M a b res extends k forms (without_variables n e h) promised differ s t x y p f g asks =
+  steps_alone M a b res related extends k forms (one_type e l is) promised differ s t x y p f g asks = absurd (differ e)
+  steps_alone M a b res related extends k forms (without_variables n e h) promised differ s t x y p f g asks =
       let z = forms e in
       let left = reads_once r.store ((r.meaning).ty a) x ((r.meaning).ty a) f.reads (itself refl) f.shallow (formed z.0) in
       let right = reads_once r.store ((r.meaning).ty b) y ((r.meaning).ty b) g.reads (itself refl) g.shallow (formed z.1) in
+      let asked = subst₂ (λ u w. AsksAlone r.kept.settings r.ambient u w p) left right asks in
       subst (λ w. StepRegistersAlone r q (q.meaning).ty w p res) (sym left)
-      (formed_alone (subst₂ (λ u w. AsksAlone r.kept.settings r.ambient u w p) left right asks) h)
+      (read_alone M promised related a b p asked (TysCombine r q a b) (λ r o. formed_alone r asked o) res h)
     where
-      formed_alone : AsksAlone r.kept.settings r.ambient ((r.meaning).ty a) ((r.meaning).ty b) p → TysCombine r q a b res →
+      formed_alone : (res : Result (Step (TyKey Key)) (RelateFault Key Id Name)) →
+          AsksAlone r.kept.settings r.ambient ((r.meaning).ty a) ((r.meaning).ty b) p → TysCombine r q a b res →
           StepRegistersAlone r q (q.meaning).ty ((r.meaning).ty a) p res
-      formed_alone (of_variables u w d) h = absurd (subst IsFormed u.1 (forms e).0)
-      formed_alone (of_alias l o clean u w d) h = alias_alone a b res extends k p l o clean d h
-  steps_alone M a b res extends k forms (resolved_first l t' n e f' g' h) promised differ s t x y p f g asks =
+      formed_alone res (of_variables u w d) h = absurd (subst IsFormed u.1 (forms e).0)
+      formed_alone res (of_alias l o clean u w d) h = alias_alone a b res extends k p l o clean d h
+  steps_alone M a b res related extends k forms (resolved_first l t' n e f' g' h) promised differ s t x y p f g asks =
       let left = reads_once r.store ((r.meaning).ty a) x ((r.meaning).ty l) f.reads (f'.reads).reads f.shallow f'.shallow in
       let right = reads_once r.store ((r.meaning).ty b) y ((r.meaning).ty t') g.reads (g'.reads).reads g.shallow g'.shallow in
+      let asked = subst₂ (λ u w. AsksAlone r.kept.settings r.ambient u w p) left right asks in
       subst (λ w. StepRegistersAlone r q (q.meaning).ty w p res) (sym left)
-      (shallow_alone l t' res extends (f'.reads).sure p
-      (subst₂ (λ u w. AsksAlone r.kept.settings r.ambient u w p) left right asks) h)
+      (read_alone M promised related l t' p asked (CombinesShallowTys r q l t')
+      (λ r o. shallow_alone l t' r extends (f'.reads).sure p asked o) res h)
 
 module _ {Key Id Name : Type 0} (M : Manners) (r q : State Key Id Name) (a b : Tree) where
   -- A term that is no type.
@@ -179,6 +220,14 @@ module _ {Key Id Name : Type 0} (M : Manners) (r q : State Key Id Name) (a b : T
       (res : Result X (RelateFault Key Id Name)) → StepsAlone M r q tree a b (Ok (Again k l x y v u)) →
       RelatesAlone M r s r.ambient a b res
   again_registers s tree k l x y u v res h = λ promised differ i j m n p f g asks. absurd (h promised differ i j m n p f g asks)
+
+-- No goal is asked alone of two forms that aren't left to one.
+pub formed_ask_none : (k : Settings) (v : Variance) (x y : Tree) → IsFormed x → (IsLeftToGoal k x y → ⊥) → AsksNoneAlone k v x y
+formed_ask_none k v x y f left s t p asks = go asks
+  where
+    go : AsksAlone k v x y p → ⊥
+    go (of_variables u w d) = subst IsFormed u.1 f
+    go (of_alias l o clean u w d) = left (inl (l, o))
 
 -- A fault says the same of whatever else might have been answered.
 pub refused_told : {Key Id Name : Type 0} (X Y : Type 0) (M : Manners) (r q : State Key Id Name) (v : Variance)

@@ -18,7 +18,8 @@ use Rattle.relation_contexts.specs.Resolving.{IsShallow, root as shallow_root, s
 use Rattle.relation_contexts.specs.Stores.{Store, resolved}
 use Rattle.relation_contexts.proofs.AliasSteps.{variables_come_of_aliases}
 use Rattle.relation_contexts.proofs.Resolved.{resolved_free}
-use Rattle.type_relations.specs.Combining.{IsNoTyVar, seen}
+use Rattle.relation_contexts.specs.AskedAlone.{IsNoTyVar}
+use Rattle.type_relations.specs.Combining.{seen}
 use Rattle.type_relations.proofs.SolvingVariables.{type_comes_to_none}
 
 -- What a type comes to is an alias only where the type is one.

@@ -11,7 +11,8 @@ use Rattle.relation_folds.specs.declared.error.RelateFault.{RelateFault}
 use Rattle.relation_folds.specs.declared.error.RelateFault.TheVariants.{Unrelated}
 use Rattle.relation_contexts.specs.declared.relate.Step.{Step}
 use Rattle.relation_contexts.specs.declared.relate.Step.TheVariants.{Done, Parts}
-use Rattle.type_relations.specs.Combining.{MeetsTys, equated, left_bound, right_bound, left_unlike, right_unlike, ty_variable, by_parts, IsNoTyVar, seen}
+use Rattle.type_relations.specs.Combining.{MeetsTys, equated, left_bound, right_bound, left_unlike, right_unlike, ty_variable, by_parts, seen}
+use Rattle.relation_contexts.specs.AskedAlone.{IsNoTyVar}
 use Rattle.type_relations.specs.Combining.{ReadsShallow, MeetsConsts, roots_equated, left_root_bound, left_root_refused, right_root_bound, right_root_refused, formed_by_parts}
 use Rattle.relation_contexts.specs.Contexts.{Context}
 use Rattle.relation_contexts.specs.ContextCalls.{BindingsBindByLists, Reads}

@@ -12,8 +12,11 @@ use Rattle.relation_terms.specs.Trees.{known}
 use Rattle.relation_terms.specs.Meaning.{Meaning}
 use Rattle.type_relations.specs.Emitting.{AddsGoals, KnowsPredicate}
 use Rattle.relation_contexts.specs.Goals.{Goal, goal_of, goals_of, KnowsGoal}
-use Rattle.type_relations.specs.Solving.{Held, solving}
+use Rattle.type_relations.specs.Solving.{Held, HeldRelated, solving}
 use Rattle.relation_contexts.specs.Stores.{Store}
+use Rattle.relation_terms.proofs.Stays.{stays_same}
+use Rattle.relation_contexts.proofs.Going.{later_itself}
+use Rattle.type_relations.proofs.Solving.{held_related}
 
 module _ {Key Id Name : Type 0} (m : Meaning Key Id Name) where
   -- Goals were put behind those that there were.
@@ -23,13 +26,19 @@ module _ {Key Id Name : Type 0} (m : Meaning Key Id Name) where
   goals_added j gs hs xs st L v e pushed sure x = record {
     meaning = refl;
     store = refl;
-    goals = ap (goals_of m) pushed
-        ∙ map-append (λ g. goal_of (m.param_env g.param_env) (m.predicate g.predicate)) gs xs;
+    goals = lengthens;
     kept = refl;
     ambient = refl;
     remembered = refl;
-    lawful = λ l. (l.0, (l.1.0, subst (All (KnowsGoal m)) (sym pushed) (All-append (KnowsGoal m) gs xs l.1.1 sure)));
+    lawful = λ l. (
+      (l.0.0, held_related {j = j} {j' = j} refl gs (stays_same m) st st (later_itself st) e l.1 hs (goals_of m xs) lengthens l.0.1),
+      (l.1.0, subst (All (KnowsGoal m)) (sym pushed) (All-append (KnowsGoal m) gs xs l.1.1 sure)),
+    );
   }
+    where
+      lengthens : goals_of m hs ≡ goals_of m gs ++ goals_of m xs
+      lengthens = ap (goals_of m) pushed
+          ∙ map-append (λ g. goal_of (m.param_env g.param_env) (m.predicate g.predicate)) gs xs
 
   -- One was, of a known predicate.
   pub goal_added : {A F : Type 0} (j : Held Key) (gs hs : List (KeyedGoal Key (PredicateKey Key))) (st : Store) (L : Type 0)
@@ -51,7 +60,10 @@ module _ {Key Id Name : Type 0} (m : Meaning Key Id Name) where
     kept = refl;
     ambient = refl;
     remembered = refl;
-    lawful = λ l. (l.0, (l.1.0, subst (All (KnowsGoal m)) (sym same) l.1.1));
+    lawful = λ l. (
+      (l.0.0, subst (λ gs. HeldRelated j m st gs e) (sym same) l.0.1),
+      (l.1.0, subst (All (KnowsGoal m)) (sym same) l.1.1),
+    );
   }
 
   -- The goals of known predicates in a known environment.

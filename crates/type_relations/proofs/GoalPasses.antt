@@ -25,7 +25,6 @@ module _ {Key Id Name A E : Type 0} {r q : State Key Id Name} (p : Tree) where
       goals_in = subst (λ st. All (RegisteredIn r st) (goal_of r.kept.environment p ∷ [])) (sym h.store) goal_in;
       kept = h.kept;
       ambient = h.ambient;
-      remembered = h.remembered;
       lawful = h.lawful;
     }
 
@@ -38,6 +37,5 @@ module _ {Key Id Name A E : Type 0} {r q : State Key Id Name} (p : Tree) where
     goals_in = All-nil (RegisteredIn r q.store);
     kept = h.kept;
     ambient = h.ambient;
-    remembered = h.remembered;
     lawful = h.lawful;
   }

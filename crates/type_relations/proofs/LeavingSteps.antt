@@ -114,7 +114,6 @@ module _ {Key Id Name K : Type 0} (F : Tree → Type 0) {r q : State Key Id Name
       goals_in = All-nil (RegisteredIn r q.store);
       kept = k.kept;
       ambient = k.ambient;
-      remembered = k.remembered;
       lawful = k.lawful;
     }
 

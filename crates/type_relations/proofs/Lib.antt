@@ -53,6 +53,13 @@ pub mod EmittingBoth
 pub mod GoalPasses
 pub mod Leaving
 pub mod LeavingSteps
+pub mod RegionTerms
+pub mod PlainTerms
+pub mod PlainForms
+pub mod Disagreeing
+pub mod AskedGoals
+pub mod Completing
 mod BindingAsked
 mod CombiningTys
 mod Registering
+pub mod Recalling

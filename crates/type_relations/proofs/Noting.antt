@@ -60,7 +60,6 @@ module _ {Key Id Name : Type 0} where
           goals_in = subst (λ k. All (RegisteredIn r k) added) (sym h.store) registered;
           kept = h.kept;
           ambient = h.ambient;
-          remembered = h.remembered;
           lawful = h.lawful;
         };
         store = h.store;

@@ -93,7 +93,6 @@ module _ {Key Id Name : Type 0} (r : State Key Id Name) where
     goals_in = All-nil (RegisteredIn (standing r m was L) now);
     kept = refl;
     ambient = refl;
-    remembered = refl;
     lawful = l;
   }
 
@@ -321,7 +320,8 @@ module _ {Key Id Name : Type 0} {r : State Key Id Name} {c : Context Key Id Name
 -- Another context took the place of the relation's.
 module _ {Key Id Name : Type 0} {r q : State Key Id Name} {c d : Context Key Id Name} (o : IsOver r c)
     (w : WithContext r d q) where
-  abbrev made : Meaning Key Id Name → Store → List Goal → Kept Key → Variance → List Pair → State Key Id Name
+  abbrev made : Meaning Key Id Name → Store → List Goal → Kept Key → Variance → List (Pair Key) →
+      State Key Id Name
   made m st gs k v ps = record {
     meaning = m;
     store = st;

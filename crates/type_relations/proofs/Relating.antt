@@ -1,5 +1,5 @@
 -- Relating two types of which one goal is asked, in a context: that goal, or a refused growth.
-use Rattle.std.proofs.Common.{◌≡◌, sym, subst, List, [], Option, Result, Err}
+use Rattle.std.proofs.Common.{◌≡◌, ◌<◌, sym, subst, arith, ⊎_elim, List, [], Option, Result, Ok, Err}
 use Rattle.std.specs.Global.{Vec}
 use Rattle.term_enums.specs.declared.Variance.{Variance}
 use Rattle.relation_terms.specs.declared.terms.goal.Goal.{Goal}
@@ -27,7 +27,7 @@ module _ {S Key Id Name A : Type 0} (aliases : StructurallyRelateAliases) (X : T
   refused : (p : Tree) (f : RelateFault Key Id Name) →
       RegistersAlone {X = X} (solving_in aliases [] (state old) v e) (solving_in aliases hs (state new) v e) p (Err f) →
       AnswersAlone state old new over tree e p (Err f)
-  refused p Memory h = h.0
+  refused p Memory h = h
   refused p Budget h = h
   refused p (Unrelated o) h = h
 
@@ -38,6 +38,20 @@ module _ {S Key Id Name A : Type 0} (aliases : StructurallyRelateAliases) (X : T
       AnswersAsked state old new over tree aliases e v a b res
   refused_alone_in f res is h = subst (AnswersAsked state old new over tree aliases e v a b) (sym is)
       (λ differ s t x y p i j asks. refused p f (h tt differ s t x y p i j asks))
+
+-- No goal was there before, so the one that is asked was registered now.
+pub answered_alone_in : {S Key Id Name A X : Type 0} (aliases : StructurallyRelateAliases)
+    (state : S → Context Key Id Name) (old new : S) (over : Option Head) (tree : Meaning Key Id Name → A → Tree)
+    (e : ParamEnvKey Key) (v : Variance) (a b : A) (goals : Vec (Goal Key (PredicateKey Key))) (x : X) →
+    RelatesAlone solver_manner (solving_in aliases [] (state old) v e) (solving_in aliases goals.items (state new) v e) v
+    (term_in (state old) over tree a) (term_in (state old) over tree b) (Ok x) →
+    AnswersAsked state old new over tree aliases e v a b (Ok goals)
+answered_alone_in {X = X} aliases state old new over tree e v a b goals x h =
+    λ differ s t y z p i j asks. just p (h tt differ s t y z p i j asks)
+  where
+    just : (p : Tree) → RegistersAlone {X = X} (solving_in aliases [] (state old) v e)
+        (solving_in aliases goals.items (state new) v e) p (Ok x) → AnswersAlone state old new over tree e p (Ok goals)
+    just p o = (o.0, ⊎_elim (λ q. q) (λ q. let c : (q.0).0 < 0 = (q.0).1 in absurd (omega (arith, c))) o.1)
 
 -- What was bound is built of no more, where goals that were registered are not answered.
 pub refused_built : {S Key Id Name A : Type 0} (state : S → Context Key Id Name) (old new : S) (over : Option Head)

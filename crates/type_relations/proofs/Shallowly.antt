@@ -146,6 +146,7 @@ module _ {Key Id Name : Type 0} (r q : State Key Id Name) (g : IsSound r.store) 
         leads = read_leads passes.added (xform r.ambient v) (tree x) (tree y) h.leads;
         read_leads = h.read_leads;
         read_exactly = h.read_exactly;
+        asks_none = h.asks_none;
         read_asked = h.read_asked;
         asked = h.asked;
         answers = λ i s sat all f. subst (λ z. Rel (items_in q) i q.kept.environment (at r.ambient) z (apply s (tree t)))
@@ -199,7 +200,6 @@ module _ {Key Id Name : Type 0} (r q : State Key Id Name) (g : IsSound r.store) 
       goals_in = (h.passes).goals_in;
       kept = (h.passes).kept;
       ambient = (h.passes).ambient;
-      remembered = (h.passes).remembered;
       lawful = (h.passes).lawful;
     };
     verdict = read_verdict F tree h.passes res h.verdict;

@@ -32,21 +32,23 @@ use Rattle.relation_contexts.specs.declared.relate.Step.TheVariants.{Done}
 use Rattle.relation_contexts.specs.Relation.{Interpretation, RegionRule, regions, at}
 use Rattle.relation_contexts.specs.Stores.{Store, Constraint, IsRegionIn, IsSound}
 use Rattle.relation_contexts.specs.Stores.{ConstraintHolds, all_bound}
-use Rattle.relation_contexts.specs.Goals.{goals_of, KnowsGoal, Registered, GoalInContext, Holds, MakesOneTree}
+use Rattle.relation_contexts.specs.Goals.{Goal, goals_of, KnowsGoal, Registered, GoalInContext, Holds, MakesOneTree}
 use Rattle.relation_contexts.specs.Headline.{AnswersGoals, KeepsEqualTerms, IsFirstOrderPair}
-use Rattle.relation_contexts.specs.Steps.{AddsConstraint, Equates, StaysFull}
+use Rattle.relation_contexts.specs.Steps.{AddsConstraint, Equates, IsLater, StaysFull}
 use Rattle.relation_contexts.specs.Kits.{StaysBuilt, IsGoalOf}
 use Rattle.relation_contexts.proofs.Building.{built_itself, built_same, built_constraint}
 use Rattle.relation_contexts.specs.Outcomes.{Outcome}
 use Rattle.relation_contexts.specs.Measures.{Goes}
 use Rattle.relation_contexts.specs.Parts.{IsFormedConst}
 use Rattle.relation_contexts.specs.Constraints.{constraint_at, constraint_of, asked_constraints}
-use Rattle.relation_contexts.specs.Lawful.{Passes, Related, Stepped, items_of, Kept, State}
+use Rattle.relation_contexts.specs.Lawful.{Passes, Related, Stepped, items_of, Kept, Pair, State, WereRelated}
 use Rattle.relation_contexts.proofs.Standing.{term_sort_of}
 use Rattle.relation_contexts.proofs.Agreeing.{agree_regions}
 use Rattle.relation_contexts.specs.Agreeing.{Agree}
 use Rattle.relation_contexts.specs.Lawful.{Verdict, WithMeaning, RegisteredIn}
-use Rattle.relation_contexts.proofs.Going.{goes_nowhere, goes_within}
+use Rattle.relation_contexts.proofs.Going.{goes_nowhere, goes_within, later_itself}
+use Rattle.relation_contexts.proofs.Remembering.{none_related, were_related_later}
+use Rattle.relation_contexts.proofs.Roots.{roots_goes}
 use Rattle.relation_contexts.proofs.Full.{full_itself, full_same, full_by, constraint_plain}
 use Rattle.relation_contexts.proofs.Growing.{constraint_holds, constraint_keeps}
 use Rattle.type_relations.proofs.Constraints.{asked_relates, asked_met}
@@ -54,7 +56,7 @@ use Rattle.type_relations.proofs.OverContext.{standing, roots_step as roots_equa
 use Rattle.relation_contexts.proofs.Answering.{may_itself, same_environment}
 use Rattle.relation_contexts.proofs.OneUniverse.{keeps_pair, binds_itself, binds_none, standing_keeps}
 use Rattle.type_relations.specs.Solving.{KnowsGoals, Held, held_by, kept_in, solving, solving_through, solver_manner}
-use Rattle.type_relations.specs.Solving.{solver_settings}
+use Rattle.type_relations.specs.Solving.{HeldRelated, settings_by, solver_settings}
 use Rattle.relation_contexts.specs.Errors.{ErrorOf}
 use Rattle.relation_contexts.proofs.Registered.{goals_stay, goals_known, none_at_invariance, all_but_aliases, first_order_built, first_order_bindings}
 use Rattle.type_relations.proofs.Exactly.{region_value, regions_exactly}
@@ -149,20 +151,36 @@ pub constrained_bound : {Key Id Name A F : Type 0} (c d : Context Key Id Name) (
 constrained_bound c d q (Ok x) h = constraint_bound c.store d.store q h
 constrained_bound c d q (Err f) h = ap all_bound h
 
-abbrev pub held_of : {Key : Type 0} → StructurallyRelateAliases → ℕ → Setup Key → List (OutlivesPredicate Key (TyKey Key)) →
-    Held Key
-held_of aliases j s o = record { reference = j; structurally_relate_aliases = aliases; setup = s; outliving = o }
+abbrev pub held_of : {Key : Type 0} → StructurallyRelateAliases → ℕ → List (Pair Key) → Setup Key →
+    List (OutlivesPredicate Key (TyKey Key)) → Held Key
+held_of aliases j ps s o =
+    record { reference = j; structurally_relate_aliases = aliases; setup = s; outliving = o; memory = ps }
 
 -- What is left as it is in a context is so in one that has grown from it.
-module _ {Key Id Name : Type 0} (aliases : StructurallyRelateAliases) (j : ℕ) (c d : Context Key Id Name) where
-  pub held_kept : KeepsSetup c d → KeepsOutliving c d → held_by aliases j d ≡ held_by aliases j c
-  held_kept setup outliving = ap₂ (held_of aliases j) setup outliving
+module _ {Key Id Name : Type 0} (aliases : StructurallyRelateAliases) (j : ℕ) (ps : List (Pair Key))
+    (c d : Context Key Id Name) where
+  pub held_kept : KeepsSetup c d → KeepsOutliving c d → held_by aliases j ps d ≡ held_by aliases j ps c
+  held_kept setup outliving = ap₂ (held_of aliases j ps) setup outliving
 
-  pub held_grows : Grows c d → held_by aliases j d ≡ held_by aliases j c
+  pub held_grows : Grows c d → held_by aliases j ps d ≡ held_by aliases j ps c
   held_grows g = held_kept g.setup g.outliving
 
-  pub held_stands : Stands c d → held_by aliases j d ≡ held_by aliases j c
+  pub held_stands : Stands c d → held_by aliases j ps d ≡ held_by aliases j ps c
   held_stands g = held_kept g.setup g.outliving
+
+-- The pairs that are remembered stay related while keys are made and more is recorded and registered.
+module _ {Key Id Name : Type 0} {j j' : Held Key} (held : j' ≡ j) (gs : List (KeyedGoal Key (PredicateKey Key)))
+    {m n : Meaning Key Id Name} (grown : Extends m n) (was now : Store) (later : IsLater was now) (e : ParamEnvKey Key)
+    (env : KnowsGoals m e gs) where
+  pub held_related : (hs : List (KeyedGoal Key (PredicateKey Key))) (more : List Goal) →
+      goals_of n hs ≡ goals_of m gs ++ more → HeldRelated j m was gs e → HeldRelated j' n now hs e
+  held_related hs more lengthens h = subst (λ i. HeldRelated i n now hs e) (sym held)
+      (subst₂ (λ g t. WereRelated (solver_manner (settings_by j)) (settings_by j) n now g t j.memory) (sym lengthens)
+      (sym (grown.param_env e env.0)) (were_related_later (solver_manner (settings_by j)) (settings_by j) grown was now
+      (goals_of m gs) more (m.param_env e) j.memory later h))
+
+  pub held_still : HeldRelated j m was gs e → HeldRelated j' n now gs e
+  held_still h = held_related gs [] (goals_stay grown gs env.1 ∙ sym (append-nil (goals_of m gs))) h
 
 module _ {Key Id Name : Type 0} {j j' : Held Key} (held : j' ≡ j) (gs : List (KeyedGoal Key (PredicateKey Key))) where
   -- Work that recorded something, and registered no goal.
@@ -177,8 +195,10 @@ module _ {Key Id Name : Type 0} {j j' : Held Key} (held : j' ≡ j) (gs : List (
     goals_in = All-nil (RegisteredIn (solving j gs m was L v e) now);
     kept = ap₂ kept_in held (grown.param_env e env.0);
     ambient = refl;
-    remembered = refl;
-    lawful = λ k. (l, (subst (λ t. IsTrue (known t)) (sym (grown.param_env e env.0)) env.0, goals_known grown gs env.1));
+    lawful = λ k. (
+      (l, held_still held gs grown was now goes.later e env k.0.1),
+      (subst (λ t. IsTrue (known t)) (sym (grown.param_env e env.0)) env.0, goals_known grown gs env.1),
+    );
   }
 
   -- A context that did no more than note that something was done.
@@ -292,38 +312,42 @@ module _ {Key Id Name : Type 0} {j j' : Held Key} (held : j' ≡ j) (gs : List (
       record { passes = h.passes; verdict = h.verdict; exact = h.exact; full = h.full; built = h.built }
 
   -- The relation is lawful after work over its context.
-  pub still_lawful : {m n : Meaning Key Id Name} {L K : Type 0} (e : ParamEnvKey Key) → Extends m n → KnowsGoals m e gs →
-      K → L × KnowsGoals m e gs → K × KnowsGoals n e gs
-  still_lawful e grown env l k =
-      (l, (subst (λ t. IsTrue (known t)) (sym (grown.param_env e env.0)) env.0, goals_known grown gs env.1))
+  pub still_lawful : {m n : Meaning Key Id Name} (was now : Store) {L K : Type 0} (v : Variance) (e : ParamEnvKey Key) →
+      Extends m n → KnowsGoals m e gs → K → IsLater was now → (solving j gs m was L v e).lawful →
+      (solving j gs n now K v e).lawful
+  still_lawful was now v e grown env l later k = (
+    (l, held_still {j = j} {j' = j} refl gs grown was now later e env k.0.1),
+    (subst (λ t. IsTrue (known t)) (sym (grown.param_env e env.0)) env.0, goals_known grown gs env.1),
+  )
 
   -- What was shown of work over its context is shown of the relation after it.
   pub as_solving : {m n : Meaning Key Id Name} (was now : Store) (L K : Type 0) (v : Variance) (e : ParamEnvKey Key) →
       Extends m n → KnowsGoals m e gs → (P : State Key Id Name → Type 0) →
-      P (standing (solving j gs m was L v e) n now (K × KnowsGoals n e gs)) → P (solving j' gs n now K v e)
-  as_solving {n = n} was now L K v e grown env P h = subst₂ (λ goals kept. P (record {
-    meaning = n;
-    store = now;
-    goals = goals;
-    kept = kept;
-    ambient = v;
-    remembered = [];
-    lawful = K × KnowsGoals n e gs;
-  })) (sym (goals_stay grown gs env.1)) (sym (ap₂ kept_in held (grown.param_env e env.0))) h
+      P (standing (solving j gs m was L v e) n now (solving j gs n now K v e).lawful) → P (solving j' gs n now K v e)
+  as_solving {n = n} was now L K v e grown env P h = subst (λ i. P (solving i gs n now K v e)) (sym held)
+      (subst₂ (λ goals t. P (record {
+        meaning = n;
+        store = now;
+        goals = goals;
+        kept = kept_in j t;
+        ambient = v;
+        remembered = j.memory;
+        lawful = (solving j gs n now K v e).lawful;
+      })) (sym (goals_stay grown gs env.1)) (sym (grown.param_env e env.0)) h)
 
   -- And the other way round.
   pub from_solving : {m n : Meaning Key Id Name} (was now : Store) (L K : Type 0) (v : Variance) (e : ParamEnvKey Key) →
       Extends m n → KnowsGoals m e gs → (P : State Key Id Name → Type 0) → P (solving j' gs n now K v e) →
-      P (standing (solving j gs m was L v e) n now (K × KnowsGoals n e gs))
-  from_solving {n = n} was now L K v e grown env P h = subst₂ (λ goals kept. P (record {
+      P (standing (solving j gs m was L v e) n now (solving j gs n now K v e).lawful)
+  from_solving {n = n} was now L K v e grown env P h = subst₂ (λ goals t. P (record {
     meaning = n;
     store = now;
     goals = goals;
-    kept = kept;
+    kept = kept_in j t;
     ambient = v;
-    remembered = [];
-    lawful = K × KnowsGoals n e gs;
-  })) (goals_stay grown gs env.1) (ap₂ kept_in held (grown.param_env e env.0)) h
+    remembered = j.memory;
+    lawful = (solving j gs n now K v e).lawful;
+  })) (goals_stay grown gs env.1) (grown.param_env e env.0) (subst (λ i. P (solving i gs n now K v e)) held h)
 
   -- Two roots of a kind were made one.
   pub roots_step : {X : Type 0} (F : Tree → Type 0) (m n : Meaning Key Id Name) (was now : Store) (L K : Type 0) (v : Variance)
@@ -336,8 +360,10 @@ module _ {Key Id Name : Type 0} {j j' : Held Key} (held : j' ≡ j) (gs : List (
       let grown = subst (Extends m) (sym same) (stays_same m) in
       as_solving was now L K v e grown env
       (λ z. Stepped solver_manner F (solving j gs m was L v e) z a b tree (Ok (Done t)))
-      (roots_equated (solving j gs m was L v e) F m n was now (L × KnowsGoals m e gs) (K × KnowsGoals n e gs) k o i l a b
-      tree t same sound (still_lawful e grown env after) still equates p q answer)
+      (roots_equated (solving j gs m was L v e) F m n was now (solving j gs m was L v e).lawful
+      (solving j gs n now K v e).lawful k o i l a b tree t same sound
+      (still_lawful was now v e grown env after (roots_goes was now k o i l sound still equates 0).later) still equates p q
+      answer)
 
   -- Memory ran out in a step, where the interner may know more.
   pub memory_step : {X : Type 0} (F : Tree → Type 0) (m n : Meaning Key Id Name) (was now : Store) (L K : Type 0)
@@ -356,13 +382,24 @@ module _ {Key Id Name : Type 0} {j j' : Held Key} (held : j' ≡ j) (gs : List (
         built = built_itself was a b;
       })
 
--- The reference that a relation holds need not be named, nor what it leaves as it was.
+-- The reference that a relation holds need not be named, nor what it leaves as it was; and what it remembers may be
+-- forgotten.
 abbrev pub seen_from : {Key : Type 0} → Held Key → Held Key → Held Key
 seen_from j i = record {
   reference = 0;
   structurally_relate_aliases = j.structurally_relate_aliases;
   setup = i.setup;
   outliving = i.outliving;
+  memory = i.memory;
+}
+
+abbrev pub forgotten : {Key : Type 0} → Held Key → Held Key
+forgotten i = record {
+  reference = i.reference;
+  structurally_relate_aliases = i.structurally_relate_aliases;
+  setup = i.setup;
+  outliving = i.outliving;
+  memory = [];
 }
 
 abbrev without_name : {Key : Type 0} → StructurallyRelateAliases → Kept Key → Kept Key
@@ -390,8 +427,9 @@ module _ {Key Id Name X : Type 0} (j i : Held Key) (gs hs : List (KeyedGoal Key 
     goals = goals_of n hs;
     kept = kept_in i t;
     ambient = u;
-    remembered = [];
-    lawful = K × (IsTrue (known t) × All (KnowsGoal n) hs);
+    remembered = i.memory;
+    lawful = (K × WereRelated (solver_manner (settings_by i)) (settings_by i) n now (goals_of n hs) t i.memory) ×
+        (IsTrue (known t) × All (KnowsGoal n) hs);
   }
 
   told_unnamed : Related solver_manner (solving j gs m was L v e) (solving i hs n now K v e) v a b tree result →
@@ -405,8 +443,7 @@ module _ {Key Id Name X : Type 0} (j i : Held Key) (gs hs : List (KeyedGoal Key 
       goals_in = (h.passes).goals_in;
       kept = ap (without_name j.structurally_relate_aliases) (h.passes).kept;
       ambient = (h.passes).ambient;
-      remembered = refl;
-      lawful = (h.passes).lawful;
+      lawful = λ l. let z = (h.passes).lawful l in ((z.0.0, same_aliases z.0.1), z.1);
     };
     verdict = verdict result h.verdict;
     exact = h.exact;
@@ -414,6 +451,10 @@ module _ {Key Id Name X : Type 0} (j i : Held Key) (gs hs : List (KeyedGoal Key 
     built = h.built;
   }
     where
+      same_aliases : HeldRelated i n now hs e → HeldRelated (seen_from j i) n now hs e
+      same_aliases f = subst (λ k. WereRelated (solver_manner k) k n now (goals_of n hs) (n.param_env e) i.memory)
+          (ap (λ k. solver_settings (k.settings).structurally_relate_aliases i.setup) (h.passes).kept) f
+
       verdict : (r : Result X (RelateFault Key Id Name)) →
           Verdict solver_manner (solving j gs m was L v e) (solving i hs n now K v e) ((h.passes).added) v a b tree r →
           Verdict solver_manner (solving (seen_from j j) gs m was L v e) (solving (seen_from j i) hs n now K v e)
@@ -440,21 +481,66 @@ module _ {Key Id Name X : Type 0} (j i : Held Key) (gs hs : List (KeyedGoal Key 
       told_unnamed (subst₂ (λ u t. Related solver_manner (solving j gs m was L v e) (state_at u t) v a b tree result)
       (h.passes).ambient environment h)
 
-module _ {Key Id Name : Type 0} (aliases : StructurallyRelateAliases) (j : ℕ)
+-- Of none that is remembered nothing is to be shown.
+pub none_held : {Key Id Name : Type 0} (aliases : StructurallyRelateAliases) (j : ℕ) (c : Context Key Id Name)
+    (gs : List (KeyedGoal Key (PredicateKey Key))) (e : ParamEnvKey Key) →
+    HeldRelated (held_by aliases j [] c) c.meaning c.store gs e
+none_held aliases j c gs e = none_related (solver_manner (solver_settings aliases c.setup)) (solver_settings aliases c.setup)
+    c.meaning c.store (goals_of c.meaning gs) ((c.meaning).param_env e)
+
+-- What was remembered may be forgotten.
+module _ {Key Id Name X : Type 0} (j i : Held Key) (gs hs : List (KeyedGoal Key (PredicateKey Key)))
+    (m n : Meaning Key Id Name) (was now : Store) (L K : Type 0) (v : Variance) (e : ParamEnvKey Key) (a b : Tree)
+    (tree : X → Tree) (result : Result X (RelateFault Key Id Name)) where
+  pub forgetting : Related solver_manner (solving j gs m was L v e) (solving i hs n now K v e) v a b tree result →
+      Related solver_manner (solving j gs m was L v e) (solving (forgotten i) hs n now K v e) v a b tree result
+  forgetting h = record {
+    passes = record {
+      extends = (h.passes).extends;
+      goes = (h.passes).goes;
+      added = (h.passes).added;
+      lengthens = (h.passes).lengthens;
+      goals_in = (h.passes).goals_in;
+      kept = (h.passes).kept;
+      ambient = (h.passes).ambient;
+      lawful = λ l. let z = (h.passes).lawful l in
+          ((z.0.0, none_related (solver_manner (settings_by i)) (settings_by i) n now (goals_of n hs) (n.param_env e)), z.1);
+    };
+    verdict = verdict result h.verdict;
+    exact = h.exact;
+    full = h.full;
+    built = h.built;
+  }
+    where
+      verdict : (r : Result X (RelateFault Key Id Name)) →
+          Verdict solver_manner (solving j gs m was L v e) (solving i hs n now K v e) ((h.passes).added) v a b tree r →
+          Verdict solver_manner (solving j gs m was L v e) (solving (forgotten i) hs n now K v e) ((h.passes).added) v a b
+          tree r
+      verdict (Ok t) o = record {
+        outcome = o.outcome;
+        answer = record { related = (o.answer).related };
+        known = o.known;
+        agrees = o.agrees;
+      }
+      verdict (Err (Unrelated g)) o = o
+      verdict (Err Budget) o = o
+      verdict (Err Memory) o = tt
+
+module _ {Key Id Name : Type 0} (aliases : StructurallyRelateAliases) (j : ℕ) (ps : List (Pair Key))
     (gs : List (KeyedGoal Key (PredicateKey Key))) where
   -- Another context in the place of the relation's changes nothing but what is recorded, and what keys mean.
-  pub solver_with : (c d : Context Key Id Name) → Grows c d → (v : Variance) (e : ParamEnvKey Key) →
-      KnowsGoals c.meaning e gs →
-      WithContext (solving_through aliases j gs c v e) d (solving_through aliases j gs d v e)
-  solver_with c d h v e env = record {
+  pub solver_with : (c d : Context Key Id Name) → Grows c d → IsLater c.store d.store → (v : Variance)
+      (e : ParamEnvKey Key) → KnowsGoals c.meaning e gs →
+      WithContext (solving_through aliases j ps gs c v e) d (solving_through aliases j ps gs d v e)
+  solver_with c d h later v e env = record {
     meaning = refl;
     store = refl;
     goals = goals_stay h.extends gs env.1;
-    kept = ap₂ kept_in (held_grows aliases j c d h) ((h.extends).param_env e env.0);
+    kept = ap₂ kept_in (held_grows aliases j ps c d h) ((h.extends).param_env e env.0);
     ambient = refl;
     remembered = refl;
     lawful = λ k. (
-      h.lawful,
+      (h.lawful, held_still (held_grows aliases j ps c d h) gs h.extends c.store d.store later e env k.0.1),
       (subst (λ t. IsTrue (known t)) (sym ((h.extends).param_env e env.0)) env.0, goals_known h.extends gs env.1),
     );
   }
@@ -462,19 +548,22 @@ module _ {Key Id Name : Type 0} (aliases : StructurallyRelateAliases) (j : ℕ)
   -- Making terms changes nothing of the relation but what its interner knows.
   pub solver_grows : (c d : Context Key Id Name) (n : Meaning Key Id Name) → Extends c.meaning n → Knows c n d →
       (v : Variance) (e : ParamEnvKey Key) → KnowsGoals c.meaning e gs →
-      WithMeaning (solving_through aliases j gs c v e) n (solving_through aliases j gs d v e)
+      WithMeaning (solving_through aliases j ps gs c v e) n (solving_through aliases j ps gs d v e)
   solver_grows c d n grown h v e env =
       let stays : (d.meaning).param_env e ≡ (c.meaning).param_env e =
       ap (λ z. z.param_env e) h.meaning ∙ grown.param_env e env.0 in
+      let held = held_kept aliases j ps c d h.rest.setup h.rest.outliving in
+      let extends : Extends c.meaning d.meaning = subst (Extends c.meaning) (sym h.meaning) grown in
+      let later : IsLater c.store d.store = subst (IsLater c.store) (sym h.store) (later_itself c.store) in
       record {
         meaning = h.meaning;
         store = h.store;
         goals = ap (λ z. goals_of z gs) h.meaning ∙ goals_stay grown gs env.1;
-        kept = ap₂ kept_in (held_kept aliases j c d h.rest.setup h.rest.outliving) stays;
+        kept = ap₂ kept_in held stays;
         ambient = refl;
         remembered = refl;
         lawful = λ k. (
-          h.lawful,
+          (h.lawful, held_still held gs extends c.store d.store later e env k.0.1),
           (
             subst (λ t. IsTrue (known t)) (sym stays) env.0,
             subst (λ z. All (KnowsGoal z) gs) (sym h.meaning) (goals_known grown gs env.1),
@@ -510,7 +599,8 @@ module _ {Key Id Name X : Type 0} {j j' : Held Key} (m n : Meaning Key Id Name) 
       (solver_settings j.structurally_relate_aliases j.setup) v (m.param_env e) was now)) (sym (h.passes).lengthens)
       (h.passes).goals_in
 
-  pub registers_goals : (result : Result X (RelateFault Key Id Name)) → L → KnowsGoals m e [] →
+  pub registers_goals : (result : Result X (RelateFault Key Id Name)) → L × HeldRelated j m was [] e →
+      KnowsGoals m e [] →
       Related solver_manner (solving j [] m was L v e) (solving j' hs n now K v e) v a b tree result →
       All (KnowsGoal n) hs × All (Registered (items_of m) (solver_settings j.structurally_relate_aliases j.setup) v
       (m.param_env e) was now) (goals_of n hs)
@@ -546,5 +636,5 @@ abbrev setup_of : {Key : Type 0} → Kept Key → Setup Key
 setup_of k = record { is_next_solver = k.settings.next_solver; typing_mode = k.mode }
 
 pub keeps_beside : {Key Id Name : Type 0} (aliases : StructurallyRelateAliases) (c d : Context Key Id Name) (e f : Tree) →
-    kept_in (held_by aliases 0 d) f ≡ kept_in (held_by aliases 0 c) e → KeepsBeside c d
+    kept_in (held_by aliases 0 [] d) f ≡ kept_in (held_by aliases 0 [] c) e → KeepsBeside c d
 keeps_beside aliases c d e f g = record { setup = ap setup_of g; outliving = ap (λ k. k.outliving) g }

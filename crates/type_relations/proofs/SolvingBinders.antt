@@ -23,7 +23,7 @@ use Rattle.relation_contexts.specs.Steps.{ChangesNothing, EntersForall}
 use Rattle.relation_contexts.specs.Measures.{Goes}
 use Rattle.relation_contexts.specs.Generalising.{MakesUnbound, makes_none}
 use Rattle.relation_contexts.specs.Bound.{AreBoundAs}
-use Rattle.relation_contexts.specs.Lawful.{State, Asked, items_of}
+use Rattle.relation_contexts.specs.Lawful.{State, Pair, Asked, items_of}
 use Rattle.relation_contexts.specs.Goals.{goals_of}
 use Rattle.relation_contexts.specs.Contexts.{Context}
 use Rattle.relation_contexts.specs.ContextCalls.{Grows}
@@ -132,14 +132,14 @@ module _ {Key Id Name : Type 0} where
       (c.store, same_changes c.store, refl, subst (MakesUnbound (c.store).universe c.store) (sym same) makes_none)
 
 -- The relation of a context before opening and after it.
-module _ {Key Id Name : Type 0} (aliases : StructurallyRelateAliases) (j : ℕ)
+module _ {Key Id Name : Type 0} (aliases : StructurallyRelateAliases) (j : ℕ) (ps : List (Pair Key))
     (gs : List (KeyedGoal Key (PredicateKey Key))) (c d : Context Key Id Name)
     (v : Variance) (e : ParamEnvKey Key) where
   abbrev before : State Key Id Name
-  before = solving_through aliases j gs c v e
+  before = solving_through aliases j ps gs c v e
 
   abbrev after : State Key Id Name
-  after = solving_through aliases j gs d v e
+  after = solving_through aliases j ps gs d v e
 
   opened : {T : Type 0} → KnowsGoals c.meaning e gs → Grows c d → Goes 0 c.store d.store → (round : ℕ) (a b : Tree)
       (tree : T → Tree) (result : Result (Option (T × T)) (RelateFault Key Id Name)) →
@@ -147,7 +147,7 @@ module _ {Key Id Name : Type 0} (aliases : StructurallyRelateAliases) (j : ℕ)
       Opened solver_manner before after round a b tree result
   unfolding solver_passes
   opened env grows goes round a b tree result h built = record {
-    passes = solver_passes (held_grows aliases j c d grows) gs v e grows.extends env (goes_within (omega arith) goes) grows.lawful;
+    passes = solver_passes (held_grows aliases j ps c d grows) gs v e grows.extends env (goes_within (omega arith) goes) grows.lawful;
     verdict = h;
     built = built;
   }
@@ -262,12 +262,12 @@ module _ {Key Id Name : Type 0} (aliases : StructurallyRelateAliases) (j : ℕ)
     opens_first None p k h at_variance = absurd (false≢true k.left_known)
 
 -- The relation of a context that nothing happens to.
-module _ {Key Id Name T : Type 0} (aliases : StructurallyRelateAliases) (j : ℕ)
+module _ {Key Id Name T : Type 0} (aliases : StructurallyRelateAliases) (j : ℕ) (ps : List (Pair Key))
     (gs : List (KeyedGoal Key (PredicateKey Key))) (c : Context Key Id Name)
     (v : Variance) (e : ParamEnvKey Key) (env : KnowsGoals c.meaning e gs) (grows : Grows c c) (t u : Tree)
     (round : ℕ) (tree : T → Tree) where
   abbrev there : State Key Id Name
-  there = solving_through aliases j gs c v e
+  there = solving_through aliases j ps gs c v e
 
   -- The term under a binder that binds nothing that stands in it.
   unused_in : (ks : List BoundKind) (t : Tree) → IsTermIn c.store (bind ks t) → StaysWithin 0 t → IsTermIn c.store t
@@ -281,7 +281,7 @@ module _ {Key Id Name T : Type 0} (aliases : StructurallyRelateAliases) (j : ℕ
       Opened solver_manner there there round (under o t) (under p u) tree (Ok (Some (x, y)))
   opens_none (Some ks) (Some ls) k decides sound none zero_round x y p q =
       let w = none_uses t u none in
-      opened aliases j gs c c v e env grows (goes_nowhere 0 c.store) round (bind ks t) (bind ls u) tree (Ok (Some (x, y)))
+      opened aliases j ps gs c c v e env grows (goes_nowhere 0 c.store) round (bind ks t) (bind ls u) tree (Ok (Some (x, y)))
       (subst₂ (RoundLeads solver_manner there there [] round (bind ks t) (bind ls u)) (sym p) (sym q) (record {
         steps = one_round zero_round (inr w) (unused_step (items_of c.meaning) ((c.meaning).param_env e) v c.store
             (goals_of c.meaning gs) ks ls t u decides (body_scope c.store sound ks t k.left_in)
@@ -309,7 +309,7 @@ module _ {Key Id Name T : Type 0} (aliases : StructurallyRelateAliases) (j : ℕ
   pub no_more : (o p : Option (List BoundKind)) → Asked solver_manner there v (under o t) (under p u) → round ≡ 1 →
       (v ≢ Invariant) ⊎ ((bound_var_escapes t || bound_var_escapes u) ≡ false) →
       Opened solver_manner there there round (under o t) (under p u) tree (Ok None)
-  no_more (Some ks) (Some ls) k is_last h = opened aliases j gs c c v e env grows (goes_nowhere 0 c.store) round (bind ks t)
+  no_more (Some ks) (Some ls) k is_last h = opened aliases j ps gs c c v e env grows (goes_nowhere 0 c.store) round (bind ks t)
       (bind ls u) tree (Ok None) (is_last, go h, refl, refl) (built_itself c.store (bind ks t) (bind ls u))
     where
       go : (v ≢ Invariant) ⊎ ((bound_var_escapes t || bound_var_escapes u) ≡ false) →

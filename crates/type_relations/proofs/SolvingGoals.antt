@@ -14,11 +14,12 @@ use Rattle.relation_terms.specs.Heads.{type_var, variable}
 use Rattle.relation_terms.specs.Trees.{Tree, leaf, cons, nil, Assign, apply, known}
 use Rattle.relation_contexts.specs.declared.relate.Step.TheVariants.{Done}
 use Rattle.relation_contexts.specs.declared.relate.StructurallyRelateAliases.{StructurallyRelateAliases}
+use Rattle.relation_contexts.specs.AskedAlone.{subtype_at}
 use Rattle.relation_contexts.specs.ContextCalls.{Grows}
 use Rattle.relation_contexts.specs.Contexts.{Context}
 use Rattle.relation_contexts.specs.Goals.{Goal, goal_of, subtype_predicate, IsOpen, IsDirected, IsRegistered, of_variables, Holds, MakesOneTree}
 use Rattle.relation_contexts.specs.Kits.{IsPredicateOf}
-use Rattle.relation_contexts.specs.Lawful.{State, Stepped, MayAnswer, items_in}
+use Rattle.relation_contexts.specs.Lawful.{State, Pair, Stepped, MayAnswer, items_in}
 use Rattle.relation_contexts.specs.Outcomes.{Outcome}
 use Rattle.relation_contexts.specs.Parts.{IsFormed}
 use Rattle.relation_contexts.specs.Relation.{Interpretation, Rel, at, sort_of}
@@ -27,11 +28,11 @@ use Rattle.relation_contexts.proofs.Answering.{may_itself}
 use Rattle.relation_contexts.proofs.Going.{later_itself}
 use Rattle.relation_contexts.proofs.Growing.{All_back}
 use Rattle.relation_contexts.proofs.Registered.{registered_in}
-use Rattle.type_relations.specs.Emitting.{IsOver, AddsGoals, RegistersGoal, goals_in, subtype_at}
+use Rattle.type_relations.specs.Emitting.{IsOver, AddsGoals, RegistersGoal, goals_in}
 use Rattle.type_relations.specs.Solving.{KnowsGoals, solving_through, solver_manner}
 use Rattle.type_relations.proofs.GoalPasses.{goal_in}
 use Rattle.type_relations.proofs.LeavingSteps.{goal_step}
-use Rattle.type_relations.proofs.Registering.{none_registered, one_registered}
+use Rattle.type_relations.proofs.Registering.{none_registered, one_registered, same_later}
 use Rattle.type_relations.proofs.Solving.{solver_with}
 use Rattle.type_relations.proofs.Turning.{turned}
 
@@ -103,10 +104,10 @@ module _ {Key Id Name A E : Type 0} {r q : State Key Id Name} {x : A} (i k : ℕ
       (λ kit ha hb. subtype_asked (λ v p. IsPredicateOf kit p) a b (ha, (hb, tt)) (hb, (ha, tt)) r.ambient p asks)
 
 -- The relation of a context registers a predicate that it has made; or it could not make it.
-module _ {Key Id Name : Type 0} (aliases : StructurallyRelateAliases) (j : ℕ)
+module _ {Key Id Name : Type 0} (aliases : StructurallyRelateAliases) (j : ℕ) (ps : List (Pair Key))
     (gs : List (KeyedGoal Key (PredicateKey Key))) (c d : Context Key Id Name) (grows : Grows c d)
     (stays : d.store ≡ c.store) (v : Variance) (e : ParamEnvKey Key) (env : KnowsGoals c.meaning e gs) where
-  over_itself : IsOver (solving_through aliases j gs c v e) c
+  over_itself : IsOver (solving_through aliases j ps gs c v e) c
   over_itself = record {
     meaning = refl;
     store = refl;
@@ -114,17 +115,17 @@ module _ {Key Id Name : Type 0} (aliases : StructurallyRelateAliases) (j : ℕ)
     coherence = refl;
     mode = refl;
     outliving = refl;
-    lawful = λ l. l.0;
+    lawful = λ l. l.0.0;
   }
 
   pub goal_not_made : {A F : Type 0} (t : Tree) (res : Result A F) → IsErr res →
-      RegistersGoal (solving_through aliases j gs c v e) (solving_through aliases j gs d v e) t res
+      RegistersGoal (solving_through aliases j ps gs c v e) (solving_through aliases j ps gs d v e) t res
   goal_not_made t res h =
-      none_registered over_itself (solver_with aliases j gs c d grows v e env) grows.extends stays t res h
+      none_registered over_itself (solver_with aliases j ps gs c d grows (same_later c d stays) v e env) grows.extends stays t res h
 
   pub goal_made : {A F : Type 0} {q : State Key Id Name} (p : PredicateKey Key) (t : Tree) →
       (d.meaning).predicate p ≡ t → (res : Result A F) →
-      AddsGoals (solving_through aliases j gs d v e) q (goals_in (solving_through aliases j gs d v e) (p ∷ [])) res →
-      RegistersGoal (solving_through aliases j gs c v e) q t res
+      AddsGoals (solving_through aliases j ps gs d v e) q (goals_in (solving_through aliases j ps gs d v e) (p ∷ [])) res →
+      RegistersGoal (solving_through aliases j ps gs c v e) q t res
   goal_made p t means res h =
-      one_registered over_itself (solver_with aliases j gs c d grows v e env) grows.extends stays p t means res h
+      one_registered over_itself (solver_with aliases j ps gs c d grows (same_later c d stays) v e env) grows.extends stays p t means res h

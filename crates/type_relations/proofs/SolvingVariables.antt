@@ -13,12 +13,13 @@ use Rattle.relation_folds.specs.declared.error.RelateFault.{RelateFault}
 use Rattle.relation_folds.specs.declared.error.RelateFault.TheVariants.{Memory, Budget, Unrelated}
 use Rattle.relation_contexts.specs.declared.relate.Step.TheVariants.{Done, Again}
 use Rattle.relation_contexts.specs.AliasGoals.{alias_at}
+use Rattle.relation_contexts.specs.AskedAlone.{AsksAlone, of_variables, of_alias, AsksNoneAlone, IsNoTyVar}
 use Rattle.relation_contexts.specs.Goals.{Goal, goal_of}
 use Rattle.relation_contexts.specs.Relation.{Items, Interpretation, Rel, at, sort_of, IsAlias, same as same_rel}
 use Rattle.relation_contexts.specs.Stores.{Store, unbound, entry_of, entry_term, IsMade, IsTermIn, IsSound, Satisfies}
 use Rattle.relation_contexts.specs.Stores.{InContext, MayStandFor, universe_of, all_bound, resolved, weight}
 use Rattle.relation_contexts.specs.Headline.{IsFirstOrderPair}
-use Rattle.relation_contexts.specs.Steps.{Instantiates, RefusesToInstantiate, InstantiatesNone, StaysFull}
+use Rattle.relation_contexts.specs.Steps.{IsLater, Instantiates, RefusesToInstantiate, InstantiatesNone, StaysFull}
 use Rattle.relation_contexts.specs.Kits.{Kit, IsBuiltOf, BindsBuiltOf, IsPredicateOf, IsGoalOf, Builds, StaysBuilt}
 use Rattle.relation_contexts.proofs.AliasOutcomes.{bound_left, bound_right}
 use Rattle.relation_contexts.proofs.Building.{term_built, builds_instantiated, builds_noting, built_same, built_unbound}
@@ -47,7 +48,7 @@ use Rattle.relation_contexts.proofs.Answering.{covariantly, may_itself}
 use Rattle.type_relations.proofs.Constants.{fixed, constants_at_each_variance}
 use Rattle.type_relations.proofs.ConstErrors.{const_error_alike}
 use Rattle.type_relations.proofs.Turning.{turned}
-use Rattle.relation_contexts.proofs.Going.{goes_nowhere, goes_within, grown-mono}
+use Rattle.relation_contexts.proofs.Going.{goes_nowhere, goes_within, grown-mono, later_itself}
 use Rattle.relation_contexts.proofs.ReadAs.{read_later}
 use Rattle.relation_contexts.proofs.Resolved.{resolved_free, resolved_weight}
 use Rattle.relation_contexts.proofs.Standing.{later_term, later_context, term_context, term_of_made, term_sort_of}
@@ -100,6 +101,40 @@ pub const_comes_to_none : (st : Store) (t : Tree) (n : ℕ) → IsShallowConst s
     ((m : ℕ) → t ≢ leaf (variable const_var m)) → apply (resolved st) t ≢ leaf (variable const_var n)
 const_comes_to_none st t n (const_root m e f) o h = o m e
 const_comes_to_none st t n (no_variable f) o h = variable_alone (resolved st) t const_var n f h
+
+-- No goal is asked alone of a variable of types and a type that is none, nor of one of constants.
+root_asks_none : (k : VarKind) → IsTypeOrConst k → (j : Settings) (v : Variance) (n : ℕ) (t : Tree) →
+    (k ≡ type_var → IsNoTyVar t) → AsksNoneAlone j v (leaf (variable k n)) t × AsksNoneAlone j v t (leaf (variable k n))
+root_asks_none type_var h j v n t other = (λ s u p a. left p a, λ s u p a. right p a)
+  where
+    left : (p : Tree) → AsksAlone j v (leaf (variable type_var n)) t p → ⊥
+    left p (of_variables x y e) = other refl y.0 y.1
+    left p (of_alias l o clean x y e) = x n refl
+
+    right : (p : Tree) → AsksAlone j v t (leaf (variable type_var n)) p → ⊥
+    right p (of_variables x y e) = other refl x.0 x.1
+    right p (of_alias l o clean x y e) = y n refl
+root_asks_none const_var h j v n t other = (λ s u p a. no_type s, λ s u p a. no_type u)
+  where
+    no_type : sort_of (leaf (variable const_var n)) ≡ type_sort → ⊥
+    no_type e = let z : const_sort ≡ type_sort = e in cc
+root_asks_none k h j v n t other = absurd h
+
+-- What is recorded is later when a variable was bound, and when binding was refused.
+module _ {Key Id Name : Type 0} (al : StructurallyRelateAliases) (c d : Context Key Id Name) (before : IsSound c.store)
+    (k : VarKind) (counted : IsTypeOrConst k) (target : ℕ) (t : Tree) (x : Variance) where
+  pub bound_later : NumbersNameNothing c.store → (u : Tree) → IsTermIn c.store t → MayStandFor k t →
+      InstantiatesBy al (items_of c.meaning) c.store d.store x k target t u → IsLater c.store d.store
+  bound_later numbers u t_in stands f =
+      (generalised_instantiates al (items_of c.meaning) c.store d.store x k target t u counted f numbers before t_in stands).later
+
+  pub refused_later : {X : Type 0} (means : Meaning Key Id Name → X → Tree) (cyclic : X → TypeError Key Id Name) →
+      apply (resolved c.store) t ≢ leaf (variable k target) → (f : RelateFault Key Id Name) →
+      Instantiated c d al x k target t means cyclic (Err f) → IsLater c.store d.store
+  refused_later means cyclic other (Unrelated g) h =
+      ((generalising_refuses al c.store d.store x k target t h.1.0 counted h.1.1 before other).1).later
+  refused_later means cyclic other Budget h = subst (IsLater c.store) (sym h.1) (later_itself c.store)
+  refused_later means cyclic other Memory h = (adds_goes (adds before (before.below_current k target) h.1)).later
 
 -- Two terms that are related at one variance are related at another, and so are their errors.
 record Lifts (Key Id Name : Type 0) (st : Store) (w v : Variance) (x y : Tree) : Type 0 where
@@ -287,11 +322,13 @@ module _ {Key Id Name : Type 0} (r0 : State Key Id Name) (L K : Type 0) (lawful 
         CarriesOver (items_of d.meaning) r0.kept.environment now r0.goals (at w) x y (at v) a an
 
     left_again : (b w : Variance) (an : Tree) → xform v b ≡ w → Lifts Key Id Name now w v u t → IsTrue (known an) →
-        Answers w u t root an → LeadsAgain solver_manner r q [] root t root t b u t an
-    left_again b w an seen l sure answers = record {
+        AsksNoneAlone r0.kept.settings v root t → Answers w u t root an →
+        LeadsAgain solver_manner r q [] root t root t b u t an
+    left_again b w an seen l sure none answers = record {
       leads = subst (λ z. Leads r q [] root t z u t) (sym seen) (left_leads w l);
       read_leads = subst (λ z. Leads r q [] root t z u t) (sym seen) (left_leads w l);
       read_exactly = λ o same pair. (pair_left pair.bindings pair.right, (exactly pair.right pair.bindings).0);
+      asks_none = none;
       read_asked = asked_now v root t refl t_known root_in (later t t_in) tt by_lists;
       asked = asked_now (xform v b) u t u_known t_known u_in (later t t_in) u_by_lists by_lists;
       answers = subst (λ z. Answers z u t root an) (sym seen) answers;
@@ -304,12 +341,14 @@ module _ {Key Id Name : Type 0} (r0 : State Key Id Name) (L K : Type 0) (lawful 
     }
 
     right_again : (b w : Variance) (an : Tree) → xform v b ≡ w → Lifts Key Id Name now w v t u → IsTrue (known an) →
-        Answers w t u t an → LeadsAgain solver_manner r q [] t root t root b t u an
-    right_again b w an seen l sure answers = record {
+        AsksNoneAlone r0.kept.settings v t root → Answers w t u t an →
+        LeadsAgain solver_manner r q [] t root t root b t u an
+    right_again b w an seen l sure none answers = record {
       leads = subst (λ z. Leads r q [] t root z t u) (sym seen) (right_leads w l);
       read_leads = subst (λ z. Leads r q [] t root z t u) (sym seen) (right_leads w l);
       read_exactly = λ o same pair. let f = pair_left pair.bindings pair.left in
           (record { left = f.right; right = f.left; bindings = f.bindings }, (exactly pair.left pair.bindings).1);
+      asks_none = none;
       read_asked = asked_now v t root t_known refl (later t t_in) root_in by_lists tt;
       asked = asked_now (xform v b) t u t_known u_known (later t t_in) u_in by_lists u_by_lists;
       answers = subst (λ z. Answers z t u t an) (sym seen) answers;
@@ -340,16 +379,18 @@ module _ {Key Id Name : Type 0} (r0 : State Key Id Name) (L K : Type 0) (lawful 
           (o.relates (items_of d.meaning) i r0.kept.environment s sat f)
       to_term w o (inr h) i s sat holds f = same_rel (ap (apply s) (sym h))
 
-      left_by : (b w : Variance) → xform v b ≡ w → Lifts Key Id Name now w v u t → tree y ≡ root → tree z ≡ t →
+      left_by : (b w : Variance) → xform v b ≡ w → Lifts Key Id Name now w v u t → (k ≡ type_var → IsNoTyVar t) →
+          tree y ≡ root → tree z ≡ t →
           tree i ≡ u → tree l ≡ t → (tree a ≡ root) ⊎ (tree a ≡ t) →
           Stepped solver_manner F r q root t tree (Ok (Again y z i l b a))
       unfolding over_passes
-      left_by b w seen o ey ez ei el ea = record {
+      left_by b w seen o other ey ez ei el ea = record {
         passes = over_passes r0 grown
             (goes (weight was root + weight was t) (let h = left_above in omega (arith, h))) lawful;
         verdict = subst₂ (λ f g. LeadsAgain solver_manner r q [] root t f g b (tree i) (tree l) (tree a)) (sym ey)
             (sym ez) (subst₂ (λ f g. LeadsAgain solver_manner r q [] root t root t b f g (tree a)) (sym ei) (sym el)
-            (left_again b w (tree a) seen o (sure ea) (to_root w o ea)));
+            (left_again b w (tree a) seen o (sure ea) (root_asks_none k counted r0.kept.settings v target t other).0
+            (to_root w o ea)));
         exact = λ o same pair. subst₂ (λ f g. IsFirstOrderPair now f g × ExactStep was now root t f g ×
             LeadsInUniverse was now root t f g) (sym ei) (sym el) (
               pair_left pair.bindings pair.right,
@@ -360,16 +401,18 @@ module _ {Key Id Name : Type 0} (r0 : State Key Id Name) (L K : Type 0) (lawful 
         built = λ j ha hb all. builds_instantiated steps j all hb;
       }
 
-      right_by : (b w : Variance) → xform v b ≡ w → Lifts Key Id Name now w v t u → tree y ≡ t → tree z ≡ root →
+      right_by : (b w : Variance) → xform v b ≡ w → Lifts Key Id Name now w v t u → (k ≡ type_var → IsNoTyVar t) →
+          tree y ≡ t → tree z ≡ root →
           tree i ≡ t → tree l ≡ u → (tree a ≡ root) ⊎ (tree a ≡ t) →
           Stepped solver_manner F r q t root tree (Ok (Again y z i l b a))
       unfolding over_passes
-      right_by b w seen o ey ez ei el ea = record {
+      right_by b w seen o other ey ez ei el ea = record {
         passes = over_passes r0 grown
             (goes (weight was t + weight was root) (let h = right_above in omega (arith, h))) lawful;
         verdict = subst₂ (λ f g. LeadsAgain solver_manner r q [] t root f g b (tree i) (tree l) (tree a)) (sym ey)
             (sym ez) (subst₂ (λ f g. LeadsAgain solver_manner r q [] t root t root b f g (tree a)) (sym ei) (sym el)
-            (right_again b w (tree a) seen o (sure ea) (to_term w o ea)));
+            (right_again b w (tree a) seen o (sure ea) (root_asks_none k counted r0.kept.settings v target t other).1
+            (to_term w o ea)));
         exact = λ o same pair. subst₂ (λ f g. IsFirstOrderPair now f g × ExactStep was now t root f g ×
             LeadsInUniverse was now t root f g) (sym ei) (sym el) (
               back (pair_left pair.bindings pair.left),
@@ -384,12 +427,12 @@ module _ {Key Id Name : Type 0} (r0 : State Key Id Name) (L K : Type 0) (lawful 
           back f = record { left = f.right; right = f.left; bindings = f.bindings }
 
       -- The variable stood on the left, or on the right, and the pair is related again as it was.
-      pub left_step : tree y ≡ root → tree z ≡ t → tree i ≡ u → tree l ≡ t → (tree a ≡ root) ⊎ (tree a ≡ t) →
-          Stepped solver_manner F r q root t tree (Ok (Again y z i l Covariant a))
+      pub left_step : (k ≡ type_var → IsNoTyVar t) → tree y ≡ root → tree z ≡ t → tree i ≡ u → tree l ≡ t →
+          (tree a ≡ root) ⊎ (tree a ≡ t) → Stepped solver_manner F r q root t tree (Ok (Again y z i l Covariant a))
       left_step = left_by Covariant v (covariantly v) (lifts_itself now v u t)
 
-      pub right_step : tree y ≡ t → tree z ≡ root → tree i ≡ t → tree l ≡ u → (tree a ≡ root) ⊎ (tree a ≡ t) →
-          Stepped solver_manner F r q t root tree (Ok (Again y z i l Covariant a))
+      pub right_step : (k ≡ type_var → IsNoTyVar t) → tree y ≡ t → tree z ≡ root → tree i ≡ t → tree l ≡ u →
+          (tree a ≡ root) ⊎ (tree a ≡ t) → Stepped solver_manner F r q t root tree (Ok (Again y z i l Covariant a))
       right_step = right_by Covariant v (covariantly v) (lifts_itself now v t u)
 
       -- The same of a variable of constants, and at invariance.
@@ -405,14 +448,18 @@ module _ {Key Id Name : Type 0} (r0 : State Key Id Name) (L K : Type 0) (lawful 
         t_sorted : IsTerm const_sort t
         t_sorted = subst (λ o. MayStandFor o t) is stands
 
+        no_types : k ≡ type_var → IsNoTyVar t
+        no_types e = let z : const_var ≡ type_var = sym is ∙ e in absurd cc
+
         pub const_left_step : tree y ≡ root → tree z ≡ t → tree i ≡ u → tree l ≡ t → (tree a ≡ root) ⊎ (tree a ≡ t) →
             Stepped solver_manner F r q root t tree (Ok (Again y z i l Invariant a))
         const_left_step = left_by Invariant Invariant (fixed v decides) (const_lifts now v decides u t u_sorted u_value)
+            no_types
 
         pub const_right_step : tree y ≡ t → tree z ≡ root → tree i ≡ t → tree l ≡ u → (tree a ≡ root) ⊎ (tree a ≡ t) →
             Stepped solver_manner F r q t root tree (Ok (Again y z i l Invariant a))
         const_right_step =
-            right_by Invariant Invariant (fixed v decides) (const_lifts_back now v decides t u t_sorted u_value)
+            right_by Invariant Invariant (fixed v decides) (const_lifts_back now v decides t u t_sorted u_value) no_types
 
   -- A type variable was bound to another one in the place of an alias.
   module _ (c d : Context Key Id Name) (grown : Extends c.meaning d.meaning) (before : IsSound c.store)

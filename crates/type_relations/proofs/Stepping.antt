@@ -22,10 +22,11 @@ use Rattle.relation_contexts.specs.Binders.{OpensFrom}
 use Rattle.relation_contexts.specs.Contexts.{Context}
 use Rattle.relation_contexts.specs.ContextCalls.{Constrains}
 use Rattle.relation_contexts.specs.Goals.{goal_of, IsDirected}
-use Rattle.relation_contexts.specs.Lawful.{State}
+use Rattle.relation_contexts.specs.Lawful.{State, Pair}
 use Rattle.relation_contexts.specs.Stores.{Constraint}
 use Rattle.type_relations.specs.Combining.{RegistersOne, seen}
-use Rattle.type_relations.specs.Emitting.{AddsAsked, RegistersGoal, subtype_at}
+use Rattle.relation_contexts.specs.AskedAlone.{subtype_at}
+use Rattle.type_relations.specs.Emitting.{AddsAsked, RegistersGoal}
 use Rattle.type_relations.specs.Solving.{solving_through}
 use Rattle.type_relations.specs.Stepping.{LeavesAll, CombinesTyVars, goal_refused, left_subtype, right_subtype, StepsRegions}
 use Rattle.type_relations.specs.Stepping.{left_outlives, right_outlives, both_outlive}
@@ -83,14 +84,14 @@ module _ {Key Id Name A E : Type 0} {r q : State Key Id Name} (a b : TyKey Key) 
       (record { store = h.store; goals = h.goals }) is
 
 -- Between what the relation of a context is before a step and after it.
-module _ {Key Id Name : Type 0} (aliases : StructurallyRelateAliases) (j : ℕ)
+module _ {Key Id Name : Type 0} (aliases : StructurallyRelateAliases) (j : ℕ) (ps : List (Pair Key))
     (gs hs : List (KeyedGoal Key (PredicateKey Key))) (c d : Context Key Id Name) (v : Variance)
     (e : ParamEnvKey Key) where
   abbrev before : State Key Id Name
-  before = solving_through aliases j gs c v e
+  before = solving_through aliases j ps gs c v e
 
   abbrev after : State Key Id Name
-  after = solving_through aliases j hs d v e
+  after = solving_through aliases j ps hs d v e
 
   -- Regions were related by what was recorded of them.
   pub regions_step : (a b : RegionKey Key) → v ≢ Bivariant → AddsAsked c d v a b → StepsRegions before after a b (Ok a)

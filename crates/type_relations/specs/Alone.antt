@@ -1,6 +1,6 @@
 -- What relating registers of two types that are left to one goal: two type variables of which nothing is recorded, and an
 -- alias with another type.
-use Rattle.std.specs.Prelude.{◌≡◌, ◌≢◌, ◌⊎◌, [], ◌∷◌, ◌++◌, Some, Result, Ok, Err}
+use Rattle.std.specs.Prelude.{◌≡◌, ◌≢◌, ◌⊎◌, [], ◌∷◌, ◌++◌, Contains, Result, Ok, Err}
 use Rattle.term_enums.specs.declared.Variance.{Variance}
 use Rattle.relation_terms.specs.Heads.{type_sort}
 use Rattle.relation_terms.specs.Trees.{Tree}
@@ -8,24 +8,14 @@ use Rattle.relation_folds.specs.declared.error.RelateFault.{RelateFault}
 use Rattle.relation_folds.specs.declared.error.RelateFault.TheVariants.{Memory}
 use Rattle.relation_contexts.specs.declared.relate.Step.{Step}
 use Rattle.relation_contexts.specs.declared.relate.Step.TheVariants.{Done}
-use Rattle.relation_contexts.specs.AliasGoals.{alias_at}
-use Rattle.relation_contexts.specs.Errors.{IsReadAs, HaveNoError}
+use Rattle.relation_contexts.specs.AskedAlone.{AsksAlone}
+use Rattle.relation_contexts.specs.Errors.{IsReadAs}
 use Rattle.relation_contexts.specs.Goals.{goal_of}
 use Rattle.relation_contexts.specs.Lawful.{State, Manners}
-use Rattle.relation_contexts.specs.Relation.{IsAlias, sort_of}
+use Rattle.relation_contexts.specs.Relation.{sort_of}
 use Rattle.relation_contexts.specs.Resolving.{IsShallow}
-use Rattle.relation_contexts.specs.Settings.{Settings, LeavesAliases}
+use Rattle.relation_contexts.specs.Settings.{Settings}
 use Rattle.relation_contexts.specs.Stores.{Store}
-use Rattle.type_relations.specs.Combining.{IsTyVar, IsNoTyVar}
-use Rattle.type_relations.specs.Emitting.{subtype_at}
-
--- What is asked of two types, as they are read at once, and nothing but that: of two type variables that the one is a
--- subtype of the other; and where aliases are left to goals, of an alias and another type, neither of them an error or a
--- type variable, that both are one or in order.
-pub data AsksAlone (k : Settings) (v : Variance) (x y p : Tree) : Type 0 where
-  of_variables : IsTyVar x → IsTyVar y → subtype_at v x y ≡ Some p → AsksAlone k v x y p
-  of_alias : LeavesAliases k → IsAlias x ⊎ IsAlias y → HaveNoError x y → IsNoTyVar x → IsNoTyVar y →
-      alias_at v x y ≡ Some p → AsksAlone k v x y p
 
 -- By what is recorded a term is read at once as another.
 pub record ReadsAtOnce (st : Store) (t x : Tree) : Type 0 where
@@ -38,12 +28,13 @@ OfAlone k st v a b P = a ≢ b → sort_of a ≡ type_sort → sort_of b ≡ typ
     ReadsAtOnce st b y → AsksAlone k v x y p → P x p
 
 module _ {Key Id Name : Type 0} where
-  -- The predicate was registered and nothing else, and nothing was recorded. Or a growth was refused, and then nothing
-  -- was registered either.
+  -- The predicate is registered, now or from before, and nothing else was, and nothing was recorded. Or a growth was
+  -- refused, and nothing was recorded either.
   abbrev pub RegistersAlone : {X : Type 0} → State Key Id Name → State Key Id Name → Tree →
       Result X (RelateFault Key Id Name) → Type 0
-  RegistersAlone r q p (Ok x) = (q.store ≡ r.store) × (q.goals ≡ r.goals ++ goal_of r.kept.environment p ∷ [])
-  RegistersAlone r q p (Err Memory) = (q.store ≡ r.store) × (q.goals ≡ r.goals)
+  RegistersAlone r q p (Ok x) = (q.store ≡ r.store) × ((q.goals ≡ r.goals ++ goal_of r.kept.environment p ∷ []) ⊎
+      (Contains r.goals (goal_of r.kept.environment p) × (q.goals ≡ r.goals)))
+  RegistersAlone r q p (Err Memory) = q.store ≡ r.store
   RegistersAlone r q p (Err f) = ⊥
 
   -- The same by a step at once, with this term as its answer.

@@ -3,7 +3,7 @@ use Rattle.std.specs.Prelude.{◌≡◌, ◌≢◌, ◌⊎◌, ℕ, true, max, m
 use Rattle.term_enums.specs.declared.Variance.TheVariants.{Invariant}
 use Rattle.relation_terms.specs.declared.terms.keys.TyKey.{TyKey}
 use Rattle.relation_terms.specs.declared.terms.keys.ConstKey.{ConstKey}
-use Rattle.relation_terms.specs.Heads.{VarKind, type_var, const_var, variable}
+use Rattle.relation_terms.specs.Heads.{VarKind, const_var, variable}
 use Rattle.relation_terms.specs.Trees.{Tree, leaf}
 use Rattle.relation_terms.specs.Meaning.{Meaning}
 use Rattle.relation_folds.specs.declared.error.TypeError.TheVariants.{Sorts, CyclicConst}
@@ -17,6 +17,7 @@ use Rattle.relation_contexts.specs.declared.relate.StructurallyRelateAliases.{St
 use Rattle.relation_contexts.specs.Contexts.{Context}
 use Rattle.relation_contexts.specs.ContextCalls.{Instantiated, Reads}
 use Rattle.relation_contexts.specs.AliasGoals.{alias_at}
+use Rattle.relation_contexts.specs.AskedAlone.{IsTyVar, IsNoTyVar}
 use Rattle.relation_contexts.specs.Errors.{HaveNoError, IsOpaqueBeside, IsLeftToGoal}
 use Rattle.relation_contexts.specs.Goals.{goal_of, alias_relate_predicate, ambiguous_predicate}
 use Rattle.relation_contexts.specs.Lawful.{State}
@@ -33,13 +34,7 @@ pub record Joins (before after : Store) (k : VarKind) (a b : ℕ) : Type 0 where
   pub same : a ≡ b → after ≡ before
   pub equates : a ≢ b → Equates before after k (max a b) (min a b)
 
--- A type variable; no type variable; no variable of types at all.
-abbrev pub IsTyVar : Tree → Type 0
-IsTyVar t = (n : ℕ) × (t ≡ leaf (variable type_var n))
-
-abbrev pub IsNoTyVar : Tree → Type 0
-IsNoTyVar t = (n : ℕ) → t ≢ leaf (variable type_var n)
-
+-- No variable of types at all.
 abbrev pub IsNoVariable : Tree → Type 0
 IsNoVariable t = IsNoTyVar t × IsNoNumberVar t
 

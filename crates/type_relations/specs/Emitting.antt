@@ -1,7 +1,6 @@
 -- What contracts see of a relation that registers goals, over a context.
-use Rattle.std.specs.Prelude.{◌≡◌, Bool, true, false, List, [], ◌∷◌, ◌++◌, Option, Some, None, map, IsTrue, IfSome, IfOk, Result, Ok, Err}
+use Rattle.std.specs.Prelude.{◌≡◌, Bool, List, [], ◌∷◌, ◌++◌, Some, map, IsTrue, IfSome, IfOk, Result, Ok, Err}
 use Rattle.term_enums.specs.declared.Variance.{Variance}
-use Rattle.term_enums.specs.declared.Variance.TheVariants.{Covariant, Contravariant}
 use Rattle.relation_terms.specs.declared.terms.keys.PredicateKey.{PredicateKey}
 use Rattle.relation_terms.specs.declared.terms.keys.RegionKey.{RegionKey}
 use Rattle.relation_terms.specs.declared.terms.keys.TyKey.{TyKey}
@@ -12,6 +11,7 @@ use Rattle.relation_terms.specs.Trees.{Tree, known}
 use Rattle.relation_contexts.specs.Contexts.{Context}
 use Rattle.relation_contexts.specs.Constraints.{constraint_at, constraint_of}
 use Rattle.relation_contexts.specs.AliasGoals.{alias_at}
+use Rattle.relation_contexts.specs.AskedAlone.{subtype_at}
 use Rattle.relation_contexts.specs.Kits.{StaysBuilt}
 use Rattle.relation_contexts.specs.Goals.{Goal, goal_of, subtype_predicate, well_formed_predicate}
 use Rattle.relation_contexts.specs.Goals.{alias_relate_predicate, ambiguous_predicate}
@@ -23,13 +23,6 @@ use Rattle.relation_contexts.specs.Steps.{AddsConstraint}
 abbrev pub with_goals : {A F : Type 0} → List Goal → List Goal → Result A F → List Goal
 with_goals before goals (Ok x) = before ++ goals
 with_goals before goals (Err f) = before
-
--- What is asked of two type variables that are related at a variance: at covariance that the first is a subtype of the
--- second, and the first is the expected one; at contravariance that the second is one of the first, which is expected.
-abbrev pub subtype_at : Variance → Tree → Tree → Option Tree
-subtype_at Covariant a b = Some (subtype_predicate true a b)
-subtype_at Contravariant a b = Some (subtype_predicate false b a)
-subtype_at v a b = None
 
 module _ {Key Id Name : Type 0} where
   -- An interner knows a predicate.

@@ -19,6 +19,7 @@ use Rattle.relation_folds.specs.declared.error.RelateFault.{RelateFault}
 use Rattle.relation_contexts.specs.declared.relate.Step.{Step}
 use Rattle.type_relations.specs.declared.relate.args.ArgVariances.{ArgVariances}
 use Rattle.type_relations.specs.Arguments.{args_head, AreOverItem}
+use Rattle.relation_contexts.specs.AskedAlone.{AsksNoneAlone}
 use Rattle.relation_contexts.specs.Constraints.{constraint_at, asked_constraints}
 use Rattle.relation_contexts.specs.Lawful.{State, Manners, Asked, Related, RelatedForms, Shown, Stepped, Noted, items_in}
 use Rattle.relation_contexts.specs.Making.{Made, over, const_over}
@@ -191,6 +192,10 @@ module _ {Key Id Name : Type 0} where
   -- Two types were related: all is known of them that is known of such.
   abbrev pub ShownTys : Manners → State Key Id Name → TyKey Key → TyKey Key → Type 0
   ShownTys M r a b = Shown M r r.ambient ((r.meaning).ty a) ((r.meaning).ty b)
+
+  -- No goal is asked of two types alone.
+  abbrev pub TysAskNone : State Key Id Name → TyKey Key → TyKey Key → Type 0
+  TysAskNone r a b = AsksNoneAlone r.kept.settings r.ambient ((r.meaning).ty a) ((r.meaning).ty b)
 
   -- Something was noted of two types.
   abbrev pub NotedTys : {X : Type 0} → State Key Id Name → State Key Id Name → TyKey Key → TyKey Key →

@@ -26,6 +26,8 @@ pub mod PredicateForms
 pub mod Variables
 pub mod Following
 pub mod Makers
+pub mod RegionTerms
+pub mod Completing
 pub use Rattle.relation_contexts.specs.Relation
 pub use Rattle.relation_contexts.specs.Stores
 pub use Rattle.relation_contexts.specs.Goals

@@ -13,15 +13,17 @@ use Rattle.relation_terms.specs.Meaning.{Meaning}
 use Rattle.relation_folds.specs.declared.error.RelateFault.{RelateFault}
 use Rattle.relation_contexts.specs.declared.relate.Step.{Step}
 use Rattle.relation_contexts.specs.Contexts.{Context}
-use Rattle.relation_contexts.specs.Lawful.{State}
+use Rattle.relation_contexts.specs.Lawful.{State, HasRelated, Remembers}
 use Rattle.type_relations.specs.declared.relate.solver_relating.relation.SolverRelating.{SolverRelating}
-use Rattle.type_relations.specs.Combining.{IsNoTyVar, ConstsCombine}
+use Rattle.relation_contexts.specs.AskedAlone.{IsNoTyVar}
+use Rattle.type_relations.specs.Combining.{ConstsCombine}
 use Rattle.type_relations.specs.Keyed.{RelatedRegions, SteppedConsts, SteppedTys, TysStepAlone, AreOver, NotedTys}
 use Rattle.type_relations.specs.Bivariance.{AsksOfOver}
 use Rattle.type_relations.specs.Emitting.{AddsGoals, RegistersSubtype, goals_in}
 use Rattle.type_relations.specs.Rounds.{OpenedBinders}
-use Rattle.type_relations.specs.Solving.{solving_in, solving_through, solver_manner}
-use Rattle.type_relations.specs.Stepping.{CombinesShallowTys, CombinesTyVars, StepsBinders, StepsRegions, StepsTys}
+use Rattle.type_relations.specs.Solving.{solving_through, solver_manner}
+use Rattle.type_relations.specs.Stepping.{CombinesShallowTys, CombinesTyVars, IsRemembered, StepsRead, StepsBinders}
+use Rattle.type_relations.specs.Stepping.{StepsRegions, StepsTys}
 use Rattle.type_relations.specs.Terms.{AskedTerms, RelatedTerms, TermsRegister}
 
 -- Of two types that are no type variables a step was taken.
@@ -34,18 +36,18 @@ StepsUnlessVars r q a b result = IsNoTyVar ((r.meaning).ty a) → IsNoTyVar ((r.
 module _ {Infcx Interner Key Id Name Span : Type 0} (state : Infcx → Context Key Id Name) where
   -- How it stands, through no reference.
   abbrev pub solver_at : SolverRelating Infcx Interner Key Id Name Span → State Key Id Name
-  solver_at r =
-      solving_in r.structurally_relate_aliases r.goals.items (state r.infcx.now) r.ambient_variance r.param_env
+  solver_at r = solving_through r.structurally_relate_aliases 0 r.cache.kept r.goals.items (state r.infcx.now)
+      r.ambient_variance r.param_env
 
   -- How the second stands, where aliases are related as by the first, at its variance and in its environment.
   abbrev pub solver_after : SolverRelating Infcx Interner Key Id Name Span →
       SolverRelating Infcx Interner Key Id Name Span → State Key Id Name
-  solver_after r q =
-      solving_in r.structurally_relate_aliases q.goals.items (state q.infcx.now) r.ambient_variance r.param_env
+  solver_after r q = solving_through r.structurally_relate_aliases 0 q.cache.kept q.goals.items (state q.infcx.now)
+      r.ambient_variance r.param_env
 
   -- How it stands, through its reference.
   abbrev pub solver_through : SolverRelating Infcx Interner Key Id Name Span → State Key Id Name
-  solver_through r = solving_through r.structurally_relate_aliases r.infcx.ghost_name r.goals.items
+  solver_through r = solving_through r.structurally_relate_aliases r.infcx.ghost_name r.cache.kept r.goals.items
       (state r.infcx.now) r.ambient_variance r.param_env
 
   -- The environment of the second means what that of the first did.
@@ -72,11 +74,18 @@ module _ {Infcx Interner Key Id Name Span : Type 0} (state : Infcx → Context K
       Result (Step (TyKey Key)) (RelateFault Key Id Name) → Type 0
   SolverSteps r q a b result = SteppedTys solver_manner (solver_through r) (solver_through q) a b result
 
-  -- It was that step of two types, case by case; of two that were resolved shallowly; and of two type variables.
+  -- It was that step of two types, case by case; of two that were resolved shallowly, with what is remembered and
+  -- without; and of two type variables.
   abbrev pub SolverStepsTys : SolverRelating Infcx Interner Key Id Name Span →
       SolverRelating Infcx Interner Key Id Name Span → TyKey Key → TyKey Key →
       Result (Step (TyKey Key)) (RelateFault Key Id Name) → Type 0
   SolverStepsTys r q a b result = StepsTys (solver_through r) (solver_through q) a b result
+
+  abbrev pub SolverStepsRead : SolverRelating Infcx Interner Key Id Name Span →
+      SolverRelating Infcx Interner Key Id Name Span → TyKey Key → TyKey Key →
+      Result (Step (TyKey Key)) (RelateFault Key Id Name) → Type 0
+  SolverStepsRead r q a b result = StepsRead (solver_through r) (solver_through q) a b
+      (CombinesShallowTys (solver_through r) (solver_through q) a b) result
 
   abbrev pub SolverCombinesShallow : SolverRelating Infcx Interner Key Id Name Span →
       SolverRelating Infcx Interner Key Id Name Span → TyKey Key → TyKey Key →
@@ -94,6 +103,18 @@ module _ {Infcx Interner Key Id Name Span : Type 0} (state : Infcx → Context K
       Result (Step (TyKey Key)) (RelateFault Key Id Name) → Type 0
   SolverStepsAlone r q a b result =
       TysStepAlone solver_manner (solver_through r) (solver_through q) a b result
+
+  -- A pair is remembered, at the ambient variance; it was related there; and it is remembered from then on, or a growth
+  -- was refused.
+  abbrev pub SolverRecalls : SolverRelating Infcx Interner Key Id Name Span → TyKey Key → TyKey Key → Type 0
+  SolverRecalls r a b = IsRemembered (solver_through r) a b
+
+  abbrev pub SolverHasRelated : SolverRelating Infcx Interner Key Id Name Span → TyKey Key → TyKey Key → Type 0
+  SolverHasRelated r a b = HasRelated solver_manner (solver_through r) (r.ambient_variance, a, b)
+
+  abbrev pub SolverRemembers : {A F : Type 0} → SolverRelating Infcx Interner Key Id Name Span →
+      SolverRelating Infcx Interner Key Id Name Span → TyKey Key → TyKey Key → Result A F → Type 0
+  SolverRemembers r q a b result = Remembers (solver_through r) (solver_through q) (r.ambient_variance, a, b) result
 
   -- A step was taken of two constants, and which, case by case.
   abbrev pub SolverStepped : SolverRelating Infcx Interner Key Id Name Span →

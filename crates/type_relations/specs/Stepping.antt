@@ -1,6 +1,6 @@
 -- What each step of the relation of a context does, case by case, between how the relation stands before and after.
 use Rattle.std.specs.Prelude.{◌≡◌, ◌≢◌, ◌⊎◌, ℕ, true, false, IsTrue, [], ◌∷◌, ◌++◌}
-use Rattle.std.specs.Prelude.{Option, Some, None, Result, Ok, Err}
+use Rattle.std.specs.Prelude.{Option, Some, None, Contains, Result, Ok, Err}
 use Rattle.term_enums.specs.declared.Variance.{Variance}
 use Rattle.term_enums.specs.declared.Variance.TheVariants.{Covariant, Contravariant, Invariant}
 use Rattle.term_enums.specs.Variances.{xform}
@@ -17,14 +17,23 @@ use Rattle.relation_contexts.specs.declared.relate.Step.{Step}
 use Rattle.relation_contexts.specs.declared.relate.Step.TheVariants.{Done, Again}
 use Rattle.relation_contexts.specs.ContextCalls.{Instantiated, Reads}
 use Rattle.relation_contexts.specs.Goals.{goal_of, subtype_predicate}
-use Rattle.relation_contexts.specs.Lawful.{State}
+use Rattle.relation_contexts.specs.Lawful.{State, Pair}
 use Rattle.relation_contexts.specs.Resolving.{IsShallow}
 use Rattle.relation_contexts.specs.Steps.{AddsConstraint}
 use Rattle.relation_contexts.specs.Stores.{outlives_constraint, equal_constraint}
 use Rattle.relation_contexts.specs.AliasGoals.{alias_at}
-use Rattle.type_relations.specs.Combining.{Joins, IsTyVar, IsNoTyVar, RegistersOne, RegistersNone, TysCombine, seen}
+use Rattle.relation_contexts.specs.AskedAlone.{IsTyVar, IsNoTyVar}
+use Rattle.type_relations.specs.Combining.{Joins, RegistersOne, RegistersNone, TysCombine, seen}
 use Rattle.type_relations.specs.Rounds.{Opens, one_uses_bound}
 use Rattle.type_relations.specs.Variables.{one_has_variable}
+
+-- A pair is remembered at the ambient variance, by keys that mean the same.
+pub record IsRemembered {Key Id Name : Type 0} (r : State Key Id Name) (a b : TyKey Key) : Type 0 where
+  pub pair : Pair Key
+  pub is_in : Contains r.remembered pair
+  pub variance : pair.0 ≡ r.ambient
+  pub left : (r.meaning).ty pair.1 ≡ (r.meaning).ty a
+  pub right : (r.meaning).ty pair.2 ≡ (r.meaning).ty b
 
 module _ {Key Id Name : Type 0} (r q : State Key Id Name) where
   -- Nothing was done: no key was made, nothing was recorded, and no goal was registered.
@@ -114,14 +123,23 @@ module _ {Key Id Name : Type 0} (r q : State Key Id Name) where
     pub reads : Reads (seen r.meaning r.store) ((r.meaning).ty a) ((r.meaning).ty x)
     pub shallow : IsShallow r.store ((r.meaning).ty x)
 
+  -- What comes of two types as they are read, of which this comes by combining: of a pair that is remembered the left
+  -- one is the answer, and nothing is done; of another that; but where it is an answer, the growth may be refused that
+  -- remembering asks for.
+  pub data StepsRead (a b : TyKey Key) (Combines : Result (Step (TyKey Key)) (RelateFault Key Id Name) → Type 0)
+      (result : Result (Step (TyKey Key)) (RelateFault Key Id Name)) : Type 0 where
+    met_again : IsRemembered r a b → LeavesAll → result ≡ Ok (Done a) → StepsRead a b Combines result
+    combined : Combines result → StepsRead a b Combines result
+    not_remembered : (t : TyKey Key) → Combines (Ok (Done t)) → result ≡ Err Memory → StepsRead a b Combines result
+
   -- What comes of two types: of one and the same it is the answer; of two in which no variable stands, but of regions,
-  -- what combining says; of all others what comes of both, resolved shallowly.
+  -- what comes of both as they are read, by combining; of all others the same of both, resolved shallowly.
   pub data StepsTys (a b : TyKey Key) (result : Result (Step (TyKey Key)) (RelateFault Key Id Name)) : Type 0 where
     one_type : (r.meaning).ty a ≡ (r.meaning).ty b → LeavesAll → result ≡ Ok (Done a) → StepsTys a b result
     without_variables : (r.meaning).ty a ≢ (r.meaning).ty b → one_has_variable r.meaning a b ≡ false →
-        TysCombine r q a b result → StepsTys a b result
+        StepsRead a b (TysCombine r q a b) result → StepsTys a b result
     resolved_first : (x y : TyKey Key) → (r.meaning).ty a ≢ (r.meaning).ty b → IsTrue (one_has_variable r.meaning a b) →
-        ReadsTy a x → ReadsTy b y → CombinesShallowTys x y result → StepsTys a b result
+        ReadsTy a x → ReadsTy b y → StepsRead x y (CombinesShallowTys x y) result → StepsTys a b result
 
   -- What is recorded of two regions: at covariance that the left one outlives the right one, at contravariance that the
   -- right one outlives the left one, at invariance that both outlive each other. The left one is the answer. Or a

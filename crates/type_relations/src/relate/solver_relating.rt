@@ -11,6 +11,7 @@ ghost use Rattle.relation_contexts.specs.ContextCalls.{KeepsBeside};
 ghost use Rattle.type_relations.specs.Relating.{KnowsTerm, TakesTerm, HasTerm, AreOne, AnswersTerms};
 ghost use Rattle.type_relations.specs.Relating.{KeepsEqual, TellsApart, AnswersError, AnswersExactly, ProvesApart};
 ghost use Rattle.type_relations.specs.Relating.{RelatesAgreeing};
+ghost use Rattle.type_relations.specs.Completing.{Completes};
 ghost use Rattle.type_relations.specs.Relating.{AnswersAsked, AnswersOnly, SpendsNoMore, MakesToRelate, BuildsNoMore, Idle};
 ghost use Rattle.type_relations.specs.Terms.{AskedTerms, RelatedTerms, TermsRegister};
 ghost use Rattle.type_relations.specs.Solving.{solving_in, solver_manner};
@@ -19,9 +20,11 @@ mod emitting;
 mod opening;
 pub(crate) mod recording;
 mod relation;
+mod remembering;
 mod steps;
 
 use crate::relate::{Relate, StructurallyRelateAliases};
+use delayed_map::DelayedSet;
 pub use relation::{GoalOf, SolverRelating};
 use relation_contexts::infer_ctxt::InferCtxtLike;
 use relation_folds::error::RelateResult;
@@ -60,6 +63,10 @@ pub trait RelateExt: InferCtxtLike {
     /// What clashes is refused at each variance: after `Ok` the two are of one form throughout, down to pairs that are
     /// left to goals, and variables and errors, which agree with each term of their sort; so do regions with regions,
     /// and under binders what these bind.
+    ///
+    /// Of terms without variables that are first-order but for binders of regions, or that have aliases, left to goals, and
+    /// no binder, `Ok` comes only of such that are related where all regions outlive each other and what is asked of
+    /// aliases is so, and `Unrelated` only of such that are related nowhere.
     ///
     /// Two different types that are unresolved type variables answer just one goal, and nothing is recorded: at
     /// `Covariant` that the first is a subtype of the second, at `Contravariant` that the second is one of the first.
@@ -110,6 +117,7 @@ pub trait RelateExt: InferCtxtLike {
         ensures apart { TellsApart Self.state self.old self.new T.over T.tree lhs rhs result }
         ensures errors { AnswersError Self.state self.old self.new T.over T.tree No variance lhs rhs result }
         ensures agrees { RelatesAgreeing Self.state self.old self.new T.over T.tree No variance lhs rhs result }
+        ensures complete { Completes Self.state self.old self.new T.over T.tree No param_env variance lhs rhs result }
         ensures spent { IfSpent result ((Self.state self.new).store.budget ≡ 0) }
         ensures same { AreOne (Self.state self.old) T.over T.tree lhs rhs → Idle Self.state self.old self.new result }
         ensures alone { AnswersAsked Self.state self.old self.new T.over T.tree No param_env variance lhs rhs result }
@@ -152,6 +160,7 @@ pub trait RelateExt: InferCtxtLike {
         ensures apart { TellsApart Self.state self.old self.new T.over T.tree lhs rhs result }
         ensures errors { AnswersError Self.state self.old self.new T.over T.tree Yes Invariant lhs rhs result }
         ensures agrees { RelatesAgreeing Self.state self.old self.new T.over T.tree Yes Invariant lhs rhs result }
+        ensures complete { Completes Self.state self.old self.new T.over T.tree Yes param_env Invariant lhs rhs result }
         ensures spent { IfSpent result ((Self.state self.new).store.budget ≡ 0) }
         ensures same { AreOne (Self.state self.old) T.over T.tree lhs rhs → Idle Self.state self.old self.new result }
         ensures goals { AnswersOnly Self.state self.old self.new Yes param_env Invariant result }
@@ -193,6 +202,7 @@ impl<Infcx: InferCtxtLike> RelateExt for Infcx {
         ensures apart { TellsApart Infcx.state self.old self.new T.over T.tree lhs rhs result }
         ensures errors { AnswersError Infcx.state self.old self.new T.over T.tree No variance lhs rhs result }
         ensures agrees { RelatesAgreeing Infcx.state self.old self.new T.over T.tree No variance lhs rhs result }
+        ensures complete { Completes Infcx.state self.old self.new T.over T.tree No param_env variance lhs rhs result }
         ensures spent { IfSpent result ((Infcx.state self.new).store.budget ≡ 0) }
         ensures same { AreOne (Infcx.state self.old) T.over T.tree lhs rhs → Idle Infcx.state self.old self.new result }
         ensures alone { AnswersAsked Infcx.state self.old self.new T.over T.tree No param_env variance lhs rhs result }
@@ -242,6 +252,8 @@ impl<Infcx: InferCtxtLike> RelateExt for Infcx {
         ensures apart { TellsApart Infcx.state self.old self.new T.over T.tree lhs rhs result }
         ensures errors { AnswersError Infcx.state self.old self.new T.over T.tree Yes Invariant lhs rhs result }
         ensures agrees { RelatesAgreeing Infcx.state self.old self.new T.over T.tree Yes Invariant lhs rhs result }
+        ensures complete { Completes Infcx.state self.old self.new T.over T.tree Yes param_env Invariant lhs rhs
+            result }
         ensures spent { IfSpent result ((Infcx.state self.new).store.budget ≡ 0) }
         ensures same { AreOne (Infcx.state self.old) T.over T.tree lhs rhs → Idle Infcx.state self.old self.new result }
         ensures goals { AnswersOnly Infcx.state self.old self.new Yes param_env Invariant result }
@@ -348,6 +360,7 @@ fn relate_in<Infcx: InferCtxtLike, T: Relate<Infcx::Interner>>(
         TermsRegister solver_manner T.over T.tree before after a.now b.now result.0 }
 {
     let goals = Vec::new(infcx.cx().alloc());
+    let cache = DelayedSet::new(infcx.cx().alloc());
     let mut relation = SolverRelating {
         infcx,
         structurally_relate_aliases: aliases,
@@ -355,6 +368,7 @@ fn relate_in<Infcx: InferCtxtLike, T: Relate<Infcx::Interner>>(
         param_env,
         span,
         goals,
+        cache,
     };
     let related = relation.relate(a, b);
     let goals = relation.take_goals();

@@ -5,11 +5,11 @@ ghost use Rattle.term_enums.specs.declared.Variance.{Variance};
 ghost use Rattle.term_enums.specs.declared.Variance.TheVariants.{Invariant, Bivariant};
 ghost use Rattle.relation_contexts.specs.Stores.{IsSound};
 ghost use Rattle.relation_contexts.specs.Lawful.{State, Manners, TakesParts, Turned};
-ghost use Rattle.relation_contexts.specs.Lawful.{RelatesByDeclared};
+ghost use Rattle.relation_contexts.specs.Lawful.{RelatesByDeclared, RemembersRelated};
 ghost use Rattle.type_relations.specs.Following.{FollowsInterner};
 ghost use Rattle.type_relations.specs.Rounds.{AskedBinders, OpenedBinders};
-ghost use Rattle.type_relations.specs.Keyed.{AskedConsts, AskedRegions, AskedTys, RelatedRegions, ShownTys, NotedTys};
-ghost use Rattle.type_relations.specs.Keyed.{SteppedConsts, SteppedTys, TysStepAlone, AreOver, RecordsAsked};
+ghost use Rattle.type_relations.specs.Keyed.{AskedConsts, AskedRegions, AskedTys, RelatedRegions, ShownTys, TysAskNone};
+ghost use Rattle.type_relations.specs.Keyed.{SteppedConsts, SteppedTys, TysStepAlone, AreOver, RecordsAsked, NotedTys};
 ghost use Rattle.type_relations.specs.Keyed.{variances_in, Decides};
 
 use crate::relate::Step;
@@ -115,12 +115,13 @@ pub trait TypeRelation<I: Interner>: HasState<I> {
         requires asked { AskedBinders manner T.tree (Self.state self.old) a.now b.now }
         ensures { OpenedBinders manner T.tree (Self.state self.old) (Self.state self.new) round a.now b.now result };
 
-    /// Takes note that two types, as `tys` read them, were related.
+    /// Takes note that two types, as `tys` read them, were related. No goal is asked of them alone.
     fn tys_done(&mut self, a: &Ty<I>, b: &Ty<I>) -> RelateResult<I, ()>
         requires lawful { (Self.state self.old).lawful }
         requires decides { (Self.state self.old).ambient ≢ Bivariant }
         requires asked { AskedTys manner (Self.state self.old) a.now b.now }
         requires related { ShownTys manner (Self.state self.old) a.now b.now }
+        requires alone { TysAskNone (Self.state self.old) a.now b.now }
         ensures { NotedTys (Self.state self.old) (Self.state self.new) a.now b.now result };
 
     /// Takes note that the arguments of two types over one item were related at the variances that it declares, and so
@@ -146,6 +147,9 @@ pub trait TypeRelation<I: Interner>: HasState<I> {
 
     // What a lawful relation has recorded is sound.
     ghost sound: { (r : Self) → (Self.state r).lawful → IsSound (Self.state r).store };
+
+    // What a lawful relation remembers was related.
+    ghost remembers_related: { (r : Self) → (Self.state r).lawful → RemembersRelated manner (Self.state r) };
 
     // What it takes goes through forms.
     ghost takes_parts: { TakesParts manner };

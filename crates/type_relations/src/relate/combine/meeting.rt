@@ -1,6 +1,7 @@
 //! Two types, or two constants, of a context that meet, before their parts are related.
 ghost use Rattle.std.specs.Prelude.{◌⊎◌, IsTrue, IsFalse};
-ghost use Rattle.type_relations.specs.Combining.{TysMeet, ConstsMeet, IsTyVar, IsNoTyVar, AreFormedConsts};
+ghost use Rattle.type_relations.specs.Combining.{TysMeet, ConstsMeet, AreFormedConsts};
+ghost use Rattle.relation_contexts.specs.AskedAlone.{IsTyVar, IsNoTyVar};
 ghost use Rattle.relation_contexts.specs.Contexts.{KnowsTy, KnowsConst, HasTy, HasConst, TakesConst};
 ghost use Rattle.relation_contexts.specs.ContextCalls.{Grows, Stands};
 ghost use Rattle.relation_contexts.specs.Resolving.{IsShallow, IsShallowConst};

@@ -123,6 +123,6 @@ impl<'a, Infcx: InferCtxtLike> PredicateEmittingRelation<Infcx> for SolverRelati
       coherence = refl;
       mode = refl;
       outliving = refl;
-      lawful = λ l. l.0;
+      lawful = λ l. l.0.0;
     } };
 }

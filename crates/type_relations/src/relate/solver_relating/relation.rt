@@ -1,12 +1,11 @@
 //! The relation of a context.
-ghost use Rattle.std.specs.Prelude.{◌≡◌, ◌≢◌, [], All};
+ghost use Rattle.std.specs.Prelude.{◌≡◌, ◌≢◌, []};
 ghost use Rattle.term_enums.specs.declared.Variance.TheVariants.{Bivariant};
-ghost use Rattle.relation_contexts.specs.Contexts.{KnowsEnv};
-ghost use Rattle.relation_contexts.specs.Goals.{KnowsGoal};
 ghost use Rattle.type_relations.specs.SolverTerms.{KeepsEnvironment, SolverAsked, SolverRelated, SolverRegisters};
 ghost use Rattle.type_relations.specs.SolverTerms.{solver_through};
 
 use crate::relate::{HasState, Relate, Step, StructurallyRelateAliases, TypeRelation};
+use delayed_map::DelayedSet;
 use relation_contexts::infer_ctxt::{BinderOf, InferCtxtLike};
 use relation_folds::error::RelateResult;
 use relation_folds::fold::TypeFoldable;
@@ -26,6 +25,9 @@ pub type GoalOf<I> = Goal<<I as Keys>::Key, Predicate<I>>;
 /// made one, an integer or float variable and a type only where that is a type of its kind; of two regions it is
 /// recorded which has to outlive the other. Of two type variables it is registered, but at `Invariant`, that the one is
 /// a subtype of the other; of two types one of whose bivariant arguments is left open, that they are well formed.
+///
+/// Types that were related are remembered, but for the first 32: met again at the same variance, they are related by
+/// what stands, and nothing is done.
 #[derive(Drop)]
 pub struct SolverRelating<'a, Infcx: InferCtxtLike> {
     pub(crate) infcx: &'a mut Infcx,
@@ -34,11 +36,14 @@ pub struct SolverRelating<'a, Infcx: InferCtxtLike> {
     pub(crate) param_env: ParamEnv<Infcx::Interner>,
     pub(crate) span: Span<Infcx::Interner>,
     pub(crate) goals: Vec<GoalOf<Infcx::Interner>>,
+    // Types that were related, as they were read, each pair with the variance at which it was.
+    pub(crate) cache: DelayedSet<(Variance, Ty<Infcx::Interner>, Ty<Infcx::Interner>)>,
 }
 
 impl<'a, Infcx: InferCtxtLike> SolverRelating<'a, Infcx> {
     /// The relation of a context, which relates aliases so. Constraints on regions are recorded with the span, and goals
-    /// are registered in the environment: none yet. It is set up for the context's solver and in its typing mode.
+    /// are registered in the environment: none yet, and nothing is remembered. It is set up for the context's solver and
+    /// in its typing mode.
     pub fn new(
         infcx: &'a mut Infcx,
         structurally_relate_aliases: StructurallyRelateAliases,
@@ -56,6 +61,7 @@ impl<'a, Infcx: InferCtxtLike> SolverRelating<'a, Infcx> {
         ensures remembers_none { (solver_through Infcx.state result).remembered ≡ [] }
     {
         let goals = Vec::new(infcx.cx().alloc());
+        let cache = DelayedSet::new(infcx.cx().alloc());
         SolverRelating {
             infcx,
             structurally_relate_aliases,
@@ -63,6 +69,7 @@ impl<'a, Infcx: InferCtxtLike> SolverRelating<'a, Infcx> {
             param_env,
             span,
             goals,
+            cache,
         }
     }
 
@@ -78,9 +85,7 @@ impl<'a, Infcx: InferCtxtLike> SolverRelating<'a, Infcx> {
         a: &T,
         b: &T,
     ) -> RelateResult<Infcx::Interner, T>
-        requires lawful { (Infcx.state self.old.infcx.now).lawful }
-        requires env_known { KnowsEnv (Infcx.state self.old.infcx.now) self.old.param_env }
-        requires goals_known { All (KnowsGoal (Infcx.state self.old.infcx.now).meaning) self.old.goals.items }
+        requires lawful { (solver_through Infcx.state self.old).lawful }
         requires decides { self.old.ambient_variance ≢ Bivariant }
         requires fits { T.fits (Infcx.state self.old.infcx.now).meaning a.now b.now }
         requires asked { SolverAsked Infcx.state T.over T.tree self.old a.now b.now }
@@ -94,16 +99,18 @@ impl<'a, Infcx: InferCtxtLike> SolverRelating<'a, Infcx> {
         T::relate(self, a, b)
     }
 
-    /// The goals that were registered. None is left.
+    /// The goals that were registered. None is left, and nothing is remembered: what was related rests on these goals.
     pub fn take_goals(&mut self) -> Vec<GoalOf<Infcx::Interner>>
         ensures goals { result.items ≡ self.old.goals.items }
         ensures none_left { self.new.goals.items ≡ [] }
+        ensures none_kept { self.new.cache.kept ≡ [] }
         ensures same_reference { self.new.infcx.ghost_name ≡ self.old.infcx.ghost_name }
         ensures infcx { self.new.infcx.now ≡ self.old.infcx.now }
         ensures aliases { self.new.structurally_relate_aliases ≡ self.old.structurally_relate_aliases }
         ensures variance { self.new.ambient_variance ≡ self.old.ambient_variance }
         ensures environment { self.new.param_env ≡ self.old.param_env }
     {
+        self.cache = DelayedSet::new(self.infcx.cx().alloc());
         let none = Vec::new(self.infcx.cx().alloc());
         replace(&mut self.goals, none)
     }
@@ -120,6 +127,7 @@ impl<'a, Infcx: InferCtxtLike> SolverRelating<'a, Infcx> {
             param_env: _,
             span: _,
             goals: _,
+            cache: _,
         } = self;
         infcx
     }
@@ -128,7 +136,7 @@ impl<'a, Infcx: InferCtxtLike> SolverRelating<'a, Infcx> {
 impl<'a, Infcx: InferCtxtLike> HasState<Infcx::Interner> for SolverRelating<'a, Infcx> {
     ghost use Rattle.type_relations.specs.Solving.{solving_through};
 
-    ghost state = { λ r. solving_through r.structurally_relate_aliases r.infcx.ghost_name r.goals.items
+    ghost state = { λ r. solving_through r.structurally_relate_aliases r.infcx.ghost_name r.cache.kept r.goals.items
         (Infcx.state r.infcx.now) r.ambient_variance r.param_env };
 }
 
@@ -205,9 +213,10 @@ impl<'a, Infcx: InferCtxtLike> TypeRelation<Infcx::Interner> for SolverRelating<
 
     fn tys_done(
         &mut self,
-        _a: &Ty<Infcx::Interner>,
-        _b: &Ty<Infcx::Interner>,
+        a: &Ty<Infcx::Interner>,
+        b: &Ty<Infcx::Interner>,
     ) -> RelateResult<Infcx::Interner, ()> {
+        self.remember(a, b)?;
         Ok(())
     }
 
@@ -224,7 +233,9 @@ impl<'a, Infcx: InferCtxtLike> TypeRelation<Infcx::Interner> for SolverRelating<
 
     ghost reads = { λ r. Infcx.reads r.infcx.now };
 
-    ghost sound = { λ r l. Infcx.sound r.infcx.now l.0 };
+    ghost sound = { λ r l. Infcx.sound r.infcx.now l.0.0 };
+
+    ghost remembers_related = { λ r l. l.0.1 };
 
     ghost takes_parts = { solver_takes };
 }

@@ -1,11 +1,11 @@
 //! What the relation of a context does of two types, constants, regions or binders that meet.
-ghost use Rattle.std.specs.Prelude.{◌≡◌, ◌≢◌, ◌<◌, All};
+ghost use Rattle.std.specs.Prelude.{◌≡◌, ◌≢◌, ◌<◌};
 ghost use Rattle.relation_terms.specs.Heads.{type_var, variable};
 ghost use Rattle.relation_terms.specs.Trees.{leaf};
 ghost use Rattle.term_enums.specs.declared.Variance.TheVariants.{Bivariant};
-ghost use Rattle.relation_contexts.specs.Contexts.{KnowsEnv, KnowsTy};
+ghost use Rattle.relation_contexts.specs.AskedAlone.{IsNoTyVar};
+ghost use Rattle.relation_contexts.specs.Contexts.{KnowsTy};
 ghost use Rattle.relation_contexts.specs.ContextCalls.{IsUnresolved};
-ghost use Rattle.relation_contexts.specs.Goals.{KnowsGoal};
 ghost use Rattle.relation_contexts.specs.Lawful.{RelatesByDeclared};
 ghost use Rattle.relation_contexts.specs.Resolving.{IsShallow};
 ghost use Rattle.type_relations.specs.Keyed.{AskedConsts, AskedRegions, AskedTys};
@@ -15,9 +15,8 @@ ghost use Rattle.type_relations.specs.SolverTerms.{KeepsGoals, SolverCombinesSha
 ghost use Rattle.type_relations.specs.SolverTerms.{SolverOpened, SolverRelatedRegions, SolverAsksWellFormed};
 ghost use Rattle.type_relations.specs.SolverTerms.{SolverIsOver, SolverNotedTys};
 ghost use Rattle.type_relations.specs.SolverTerms.{SolverStepped, SolverSteps, SolverStepsBinders, SolverStepsConsts};
-ghost use Rattle.type_relations.specs.SolverTerms.{SolverStepsRegions, SolverStepsAlone, SolverStepsTys};
+ghost use Rattle.type_relations.specs.SolverTerms.{SolverStepsRead, SolverStepsRegions, SolverStepsAlone, SolverStepsTys};
 ghost use Rattle.type_relations.specs.SolverTerms.{solver_through};
-ghost use Rattle.type_relations.specs.Combining.{IsNoTyVar};
 
 use crate::relate::Step;
 use crate::relate::combine::{
@@ -39,6 +38,8 @@ impl<'a, Infcx: InferCtxtLike> SolverRelating<'a, Infcx> {
     /// What comes of two types, before their parts are related. Of one and the same it is the answer. Two in one of which
     /// a variable stands, but of regions, are resolved shallowly first, and then:
     ///
+    /// - Of a pair that is remembered, at the ambient variance, the left one is the answer, and nothing is done. Another
+    ///   pair is remembered where it has an answer here.
     /// - Two type variables are made one at `Invariant`. At `Covariant` a goal is registered that the left one is a
     ///   subtype of the right one, and at `Contravariant` that the right one is a subtype of the left one, which is the
     ///   expected one of both. The left one is the answer.
@@ -54,7 +55,7 @@ impl<'a, Infcx: InferCtxtLike> SolverRelating<'a, Infcx> {
     /// `CyclicTy` where the variable stands in what the other side comes to, `Mismatch` where a placeholder does that
     /// the variable can't name, `Budget` where no instantiation is left, `Sorts` of a number variable and a type that
     /// it can't be. Nothing was bound or registered then. `Memory` where a growth was refused; a variable may be bound
-    /// then to one in the place of an alias, and nothing was registered.
+    /// then to one in the place of an alias, and nothing registered; or all was done, but the pair is not remembered.
     pub fn step_tys(
         &mut self,
         a: &Ty<Infcx::Interner>,
@@ -71,11 +72,38 @@ impl<'a, Infcx: InferCtxtLike> SolverRelating<'a, Infcx> {
             return Ok(Step::Done(*a));
         }
         if have_no_variable(&*self.infcx, a, b) {
-            return super_combine_tys::<Infcx, SolverRelating<'a, Infcx>>(self, a, b);
+            return self.step_read(a, b);
         }
         let left = self.infcx.shallow_resolve(a);
         let right = self.infcx.shallow_resolve(b);
-        self.combine_tys(&left, &right)
+        self.step_read(&left, &right)
+    }
+
+    // What comes of two types as they are read: of a pair that is remembered the left one, and nothing is done; of
+    // another what combining says. Where that is an answer the pair is remembered.
+    fn step_read(
+        &mut self,
+        a: &Ty<Infcx::Interner>,
+        b: &Ty<Infcx::Interner>,
+    ) -> RelateResult<Infcx::Interner, Step<Ty<Infcx::Interner>>>
+        requires lawful { (solver_through Infcx.state self.old).lawful }
+        requires decides { self.old.ambient_variance ≢ Bivariant }
+        requires asked { AskedTys solver_manner (solver_through Infcx.state self.old) a.now b.now }
+        requires a_shallow { let r = Infcx.state self.old.infcx.now in IsShallow r.store ((r.meaning).ty a.now) }
+        requires b_shallow { let r = Infcx.state self.old.infcx.now in IsShallow r.store ((r.meaning).ty b.now) }
+        ensures stepped { SolverSteps Infcx.state self.old self.new a.now b.now result }
+        ensures steps { SolverStepsRead Infcx.state self.old self.new a.now b.now result }
+    {
+        if self.was_related(a, b) {
+            return Ok(Step::Done(*a));
+        }
+        match self.combine_tys(a, b)? {
+            Step::Done(answer) => {
+                self.remember(a, b)?;
+                Ok(Step::Done(answer))
+            }
+            step => Ok(step),
+        }
     }
 
     // What comes of two types that were resolved shallowly: two type variables as below; a type variable is bound to a
@@ -85,9 +113,7 @@ impl<'a, Infcx: InferCtxtLike> SolverRelating<'a, Infcx> {
         a: &Ty<Infcx::Interner>,
         b: &Ty<Infcx::Interner>,
     ) -> RelateResult<Infcx::Interner, Step<Ty<Infcx::Interner>>>
-        requires lawful { (Infcx.state self.old.infcx.now).lawful }
-        requires env_known { KnowsEnv (Infcx.state self.old.infcx.now) self.old.param_env }
-        requires goals_known { All (KnowsGoal (Infcx.state self.old.infcx.now).meaning) self.old.goals.items }
+        requires lawful { (solver_through Infcx.state self.old).lawful }
         requires decides { self.old.ambient_variance ≢ Bivariant }
         requires asked { AskedTys solver_manner (solver_through Infcx.state self.old) a.now b.now }
         requires a_shallow { let r = Infcx.state self.old.infcx.now in IsShallow r.store ((r.meaning).ty a.now) }
@@ -115,9 +141,7 @@ impl<'a, Infcx: InferCtxtLike> SolverRelating<'a, Infcx> {
         x: TyVid,
         b: &Ty<Infcx::Interner>,
     ) -> RelateResult<Infcx::Interner, Step<Ty<Infcx::Interner>>>
-        requires lawful { (Infcx.state self.old.infcx.now).lawful }
-        requires env_known { KnowsEnv (Infcx.state self.old.infcx.now) self.old.param_env }
-        requires goals_known { All (KnowsGoal (Infcx.state self.old.infcx.now).meaning) self.old.goals.items }
+        requires lawful { (solver_through Infcx.state self.old).lawful }
         requires decides { self.old.ambient_variance ≢ Bivariant }
         requires asked { AskedTys solver_manner (solver_through Infcx.state self.old) a.now b.now }
         requires a_is { ((Infcx.state self.old.infcx.now).meaning).ty a.now ≡ leaf (variable type_var x.0) }
@@ -151,9 +175,7 @@ impl<'a, Infcx: InferCtxtLike> SolverRelating<'a, Infcx> {
         b: &Ty<Infcx::Interner>,
         y: TyVid,
     ) -> RelateResult<Infcx::Interner, Step<Ty<Infcx::Interner>>>
-        requires lawful { (Infcx.state self.old.infcx.now).lawful }
-        requires env_known { KnowsEnv (Infcx.state self.old.infcx.now) self.old.param_env }
-        requires goals_known { All (KnowsGoal (Infcx.state self.old.infcx.now).meaning) self.old.goals.items }
+        requires lawful { (solver_through Infcx.state self.old).lawful }
         requires decides { self.old.ambient_variance ≢ Bivariant }
         requires asked { AskedTys solver_manner (solver_through Infcx.state self.old) a.now b.now }
         requires b_is { ((Infcx.state self.old.infcx.now).meaning).ty b.now ≡ leaf (variable type_var y.0) }
@@ -189,9 +211,7 @@ impl<'a, Infcx: InferCtxtLike> SolverRelating<'a, Infcx> {
         b: &Ty<Infcx::Interner>,
         y: TyVid,
     ) -> RelateResult<Infcx::Interner, Step<Ty<Infcx::Interner>>>
-        requires lawful { (Infcx.state self.old.infcx.now).lawful }
-        requires env_known { KnowsEnv (Infcx.state self.old.infcx.now) self.old.param_env }
-        requires goals_known { All (KnowsGoal (Infcx.state self.old.infcx.now).meaning) self.old.goals.items }
+        requires lawful { (solver_through Infcx.state self.old).lawful }
         requires decides { self.old.ambient_variance ≢ Bivariant }
         requires a_known { KnowsTy (Infcx.state self.old.infcx.now) a.now }
         requires b_known { KnowsTy (Infcx.state self.old.infcx.now) b.now }

@@ -16,11 +16,11 @@ use Rattle.type_relations.proofs.Spending.{spends_no_more, spent_as}
 use Rattle.type_relations.specs.Relating.{term_in}
 use Rattle.type_relations.specs.Alone.{RelatesAlone}
 use Rattle.type_relations.proofs.Relatable.{equal_one, one_equal}
-use Rattle.type_relations.proofs.Relating.{refused_alone_in, refused_built}
+use Rattle.type_relations.proofs.Relating.{answered_alone_in, refused_alone_in, refused_built}
 use Rattle.relation_contexts.specs.Kits.{StaysBuilt}
 use Rattle.relation_contexts.proofs.Building.{built_itself}
 use Rattle.type_relations.proofs.OverContext.{all_taken}
-use Rattle.type_relations.proofs.Solving.{keeps_beside, answers_goals, keeps_equal, relates_agreeing, registers_goals, no_goals_exactly}
+use Rattle.type_relations.proofs.Solving.{keeps_beside, none_held, answers_goals, keeps_equal, relates_agreeing, registers_goals, no_goals_exactly}
 use Rattle.relation_contexts.proofs.Agreeing.{agree_same}
 use Rattle.type_relations.proofs.relate.solver_relating.relate_as.Goals as goal
 
@@ -152,7 +152,7 @@ returns-clause-goals g c =
     let d = g.Infcx.InferCtxtLike.state c.relate_in-related.new.infcx in
     registers_goals s.meaning d.meaning s.store d.store s.lawful d.lawful c.args.variance c.args.param_env
     (term_in s g.T.Relate.over g.T.HasTree.tree c.args.lhs) (term_in s g.T.Relate.over g.T.HasTree.tree c.args.rhs) (term_in d g.T.Relate.over g.T.HasTree.tree) c.relate_in-related.result.1.items
-    c.relate_in-related.result.0 c.requires.lawful (c.requires.env_known, All-nil (KnowsGoal s.meaning))
+    c.relate_in-related.result.0 (c.requires.lawful, none_held c.args.aliases 0 s [] c.args.param_env) (c.requires.env_known, All-nil (KnowsGoal s.meaning))
     c.relate_in-related.ensures.related
 
 pub returns-clause-exact : goal.returns-clause-exact
@@ -184,14 +184,14 @@ returns-clause-sound g c =
     let s = g.Infcx.InferCtxtLike.state c.args.infcx.now in
     g.met.Infcx.InferCtxtLike.sound c.relate_in-related.new.infcx
     (((c.relate_in-related.ensures.related).passes).lawful
-    (c.requires.lawful, (c.requires.env_known, All-nil (KnowsGoal s.meaning)))).0
+    ((c.requires.lawful, none_held c.args.aliases 0 s [] c.args.param_env), (c.requires.env_known, All-nil (KnowsGoal s.meaning)))).0.0
 
 pub returns-in_err-related-clause-sound : goal.returns-in_err-related-clause-sound
 returns-in_err-related-clause-sound g c =
     let s = g.Infcx.InferCtxtLike.state c.args.infcx.now in
     g.met.Infcx.InferCtxtLike.sound c.relate_in-related.new.infcx
     (((c.relate_in-related.ensures.related).passes).lawful
-    (c.requires.lawful, (c.requires.env_known, All-nil (KnowsGoal s.meaning)))).0
+    ((c.requires.lawful, none_held c.args.aliases 0 s [] c.args.param_env), (c.requires.env_known, All-nil (KnowsGoal s.meaning)))).0.0
 
 pub returns-then-eq-clause-alone : goal.returns-then-eq-clause-alone
 returns-then-eq-clause-alone g c =
@@ -215,10 +215,13 @@ returns-in_err-related-clause-alone g c =
 pub returns-clause-alone : goal.returns-clause-alone
 returns-clause-alone g c =
     let s = g.Infcx.InferCtxtLike.state c.args.infcx.now in
-    subst (RelatesAlone solver_manner (solving_in c.args.aliases [] s c.args.variance c.args.param_env)
+    answered_alone_in c.args.aliases g.Infcx.InferCtxtLike.state c.args.infcx.now c.relate_in-related.new.infcx
+    g.T.Relate.over g.T.HasTree.tree c.args.param_env c.args.variance c.args.lhs c.args.rhs c.relate_in-related.result.1
+    c.in_ok-related.field-0
+    (subst (RelatesAlone solver_manner (solving_in c.args.aliases [] s c.args.variance c.args.param_env)
     (solving_in c.args.aliases c.relate_in-related.result.1.items (g.Infcx.InferCtxtLike.state c.relate_in-related.new.infcx)
     c.args.variance c.args.param_env) c.args.variance (term_in s g.T.Relate.over g.T.HasTree.tree c.args.lhs)
-    (term_in s g.T.Relate.over g.T.HasTree.tree c.args.rhs)) c.in_ok-related.was c.relate_in-related.ensures.registers tt
+    (term_in s g.T.Relate.over g.T.HasTree.tree c.args.rhs)) c.in_ok-related.was c.relate_in-related.ensures.registers)
 
 pub returns-then-eq-clause-enough : goal.returns-then-eq-clause-enough
 returns-then-eq-clause-enough g c = λ is pair u one. (omega arith, tt)

@@ -13,7 +13,8 @@ use Rattle.relation_terms.proofs.Stays.{knows_arg}
 use Rattle.relation_folds.specs.declared.error.TypeError.TheVariants.{Mismatch}
 use Rattle.relation_folds.specs.declared.error.RelateFault.TheVariants.{Unrelated, Memory}
 use Rattle.relation_contexts.specs.Relation.{part_at}
-use Rattle.relation_contexts.specs.Errors.{AreOfOneForm, PartError}
+use Rattle.relation_contexts.specs.AskedAlone.{AsksNoneAlone}
+use Rattle.relation_contexts.specs.Errors.{AreOfOneForm, IsLeftToGoal, PartError}
 use Rattle.relation_contexts.specs.Parts.{IsFormed, IsFormedConst, IsByParts, IsRelatedPart, IsComparedPart, IsArgPart}
 use Rattle.relation_contexts.specs.Parts.{IsBinderPart, ArePaired, parts_of, const_parts_of, head_of}
 use Rattle.relation_contexts.specs.Parts.{const_head_of}
@@ -29,7 +30,7 @@ use Rattle.type_relations.proofs.ByParts.{no_inputs_yet, inputs_next, compared_a
 use Rattle.type_relations.proofs.ByParts.{depth_turned}
 use Rattle.type_relations.specs.Handing.{IsResultOfTy, IsResultOfConst, IsResultOfPart, named_place}
 use Rattle.relation_contexts.specs.Making.{arg_sort, Fit, over, const_over}
-use Rattle.relation_contexts.proofs.Answering.{same_items, AreAnswers, answers_none, answers_next, answers_end, may_over, may_const_over, may_later, if_ok_both}
+use Rattle.relation_contexts.proofs.Answering.{same_items, same_settings, AreAnswers, answers_none, answers_next, answers_end, may_over, may_const_over, may_later, if_ok_both}
 use Rattle.type_relations.specs.PredicateForms.{form_of_part}
 use Rattle.type_relations.proofs.PredicateForms.{arg_form, binder_form, made_form}
 use Rattle.type_relations.proofs.Making.{fit_pushed, fit_end, fits_place}
@@ -55,7 +56,7 @@ use Rattle.type_relations.proofs.Looping.{next_asked, next_under, next_const_ask
 use Rattle.type_relations.proofs.Looping.{failed_ty, failed_const, kept_ty, kept_const, parts_alike, heads_one, const_heads_alike}
 use Rattle.type_relations.proofs.Looping.{failed_part, kept_part}
 use Rattle.type_relations.specs.Alone.{RelatesAlone, StepsAlone}
-use Rattle.type_relations.proofs.Alone.{left_none, right_none, lifetime_none, const_none, no_ty_none, refused_told}
+use Rattle.type_relations.proofs.Alone.{formed_ask_none, left_none, right_none, lifetime_none, const_none, no_ty_none, refused_told}
 use Rattle.type_relations.proofs.Alone.{done_registers, refused_registers, parts_register, again_registers}
 use Rattle.std.proofs.Common.{Some, None}
 use Rattle.relation_terms.proofs.Stays.{extends_on}
@@ -321,6 +322,30 @@ tys-tys_done-requires-clause-related g t c =
     (subst (λ v. Shown M p v x y)
     (sym ((inner.passes).ambient ∙ (step.passes).ambient)) (shown_now M r.ambient x y (p.meaning).ty z.answer inner))
 
+pub tys-tys_done-requires-clause-alone : goal.tys-tys_done-requires-clause-alone
+tys-tys_done-requires-clause-alone g t c =
+    let r = g.R.HasState.state c.args.r.now in
+    let M = g.R.TypeRelation.manner in
+    let a = (r.meaning).ty c.args.a.now in
+    let b = (r.meaning).ty c.args.b.now in
+    let q = g.R.HasState.state c.tys.new.self in
+    let step = subst (λ z. Stepped M IsFormed r q a b (q.meaning).ty (Ok z)) c.in-Parts.is c.in_ok-answer.ensures.stepped in
+    let x = (q.meaning).ty c.in-Parts.a in
+    let y = (q.meaning).ty c.in-Parts.b in
+    let p = g.R.HasState.state c.structurally_relate_tys.new.r in
+    let z = c.in_ok-answer-in-Parts in
+    let inner = subst (λ v. RelatedForms M q p v x y (p.meaning).ty (Ok z.answer)) (step.passes).ambient z.ensures in
+    let done : Related M r p r.ambient a b (p.meaning).ty (Ok z.answer) =
+    parts_related M IsFormed (g.met.R.TypeRelation.sound c.structurally_relate_tys.new.r ((inner.passes).lawful ((step.passes).lawful c.requires.lawful)))
+    a b x y (p.meaning).ty (Ok z.answer) step.passes step.verdict step.exact step.full step.built inner in
+    let same_x : (p.meaning).ty c.in-Parts.a ≡ (q.meaning).ty c.in-Parts.a =
+    ((inner.passes).extends).ty c.in-Parts.a ((step.verdict).asked).left_known in
+    let same_y : (p.meaning).ty c.in-Parts.b ≡ (q.meaning).ty c.in-Parts.b =
+    ((inner.passes).extends).ty c.in-Parts.b ((step.verdict).asked).right_known in
+    subst₂ (AsksNoneAlone p.kept.settings p.ambient) (sym same_x) (sym same_y)
+    (formed_ask_none p.kept.settings p.ambient x y (step.verdict).left_form
+    (subst (λ k. IsLeftToGoal k x y → ⊥) (sym (same_settings (inner.passes).kept)) (step.verdict).not_left))
+
 pub tys-returns-in_err-tys_done-in-Parts-clause-related : goal.tys-returns-in_err-tys_done-in-Parts-clause-related
 tys-returns-in_err-tys_done-in-Parts-clause-related g t c =
     let r = g.R.HasState.state c.args.r.now in
@@ -428,6 +453,36 @@ tys-tys_done-requires-in-Again-clause-related g t c =
     subst₂ (λ t u. Shown M p p.ambient t u) (sym same_x) (sym same_y)
     (subst (λ v. Shown M p v k l)
     (sym ((inner.passes).ambient ∙ (step.passes).ambient)) (again_shown M a b k l x y o v step.passes step.verdict step.exact step.built (arg_tree p.meaning) c.in_ok-relate_with_variance-in-Again.field-0 inner))
+
+pub tys-tys_done-requires-in-Again-clause-alone : goal.tys-tys_done-requires-in-Again-clause-alone
+tys-tys_done-requires-in-Again-clause-alone g t c =
+    let r = g.R.HasState.state c.args.r.now in
+    let M = g.R.TypeRelation.manner in
+    let a = (r.meaning).ty c.args.a.now in
+    let b = (r.meaning).ty c.args.b.now in
+    let q = g.R.HasState.state c.tys.new.self in
+    let step = subst (λ z. Stepped M IsFormed r q a b (q.meaning).ty (Ok z)) c.in-Again.is c.in_ok-answer.ensures.stepped in
+    let x = (q.meaning).ty c.in-Again.x in
+    let y = (q.meaning).ty c.in-Again.y in
+    let k = (q.meaning).ty c.in-Again.a in
+    let l = (q.meaning).ty c.in-Again.b in
+    let v = c.in-Again.variance in
+    let o = (q.meaning).ty c.in-Again.answer in
+    let p = g.R.HasState.state c.relate_with_variance.new.r in
+    let inner : Related M q p (xform r.ambient v) x y (arg_tree p.meaning) (Ok c.in_ok-relate_with_variance-in-Again.field-0) =
+    subst (λ z. Related M q p (xform z v) x y (arg_tree p.meaning) (Ok c.in_ok-relate_with_variance-in-Again.field-0)) (step.passes).ambient c.in_ok-relate_with_variance-in-Again.ensures.related in
+    let same_o : (p.meaning).ty c.in-Again.answer ≡ o =
+    ((inner.passes).extends).ty c.in-Again.answer (step.verdict).answer_known in
+    let done : Related M r p r.ambient a b (p.meaning).ty (Ok c.in-Again.answer) =
+    again_related M a b k l x y o v step.passes step.verdict step.exact step.built (arg_tree p.meaning) c.in_ok-relate_with_variance-in-Again.field-0 (p.meaning).ty
+    c.in-Again.answer same_o inner in
+    let same_x : (p.meaning).ty c.in-Again.a ≡ (q.meaning).ty c.in-Again.a =
+    ((inner.passes).extends).ty c.in-Again.a ((step.verdict).read_asked).left_known in
+    let same_y : (p.meaning).ty c.in-Again.b ≡ (q.meaning).ty c.in-Again.b =
+    ((inner.passes).extends).ty c.in-Again.b ((step.verdict).read_asked).right_known in
+    subst₂ (AsksNoneAlone p.kept.settings p.ambient) (sym same_x) (sym same_y)
+    (subst₂ (λ j w. AsksNoneAlone j w k l) (sym (same_settings ((inner.passes).kept ∙ (step.passes).kept)))
+    (sym ((inner.passes).ambient ∙ (step.passes).ambient)) (step.verdict).asks_none)
 
 pub tys-returns-in_err-tys_done-in-Again-clause-related : goal.tys-returns-in_err-tys_done-in-Again-clause-related
 tys-returns-in_err-tys_done-in-Again-clause-related g t c =

@@ -4,5 +4,5 @@ use Rattle.type_relations.proofs.relate.solver_relating.emitting.SolverRelatingP
 pub returns : goal.returns
 returns g c = λ x h later l.
     let r = c.args.self.now in
-    solver_with r.structurally_relate_aliases r.infcx.ghost_name r.goals.items (g.Infcx.InferCtxtLike.state r.infcx.now) (g.Infcx.InferCtxtLike.state x) h
+    solver_with r.structurally_relate_aliases r.infcx.ghost_name r.cache.kept r.goals.items (g.Infcx.InferCtxtLike.state r.infcx.now) (g.Infcx.InferCtxtLike.state x) h later
     r.ambient_variance r.param_env l.1

@@ -20,8 +20,8 @@ returns g c =
     let q = c.register_goals.new.self in
     let s = g.Infcx.InferCtxtLike.state r.infcx.now in
     let d = g.Infcx.InferCtxtLike.state q.infcx.now in
-    subst (λ gs. AddsGoals (solving_through r.structurally_relate_aliases r.infcx.ghost_name r.goals.items s r.ambient_variance r.param_env)
-    (solving_through q.structurally_relate_aliases q.infcx.ghost_name q.goals.items d q.ambient_variance q.param_env) gs c.register_goals.result)
+    subst (λ gs. AddsGoals (solving_through r.structurally_relate_aliases r.infcx.ghost_name r.cache.kept r.goals.items s r.ambient_variance r.param_env)
+    (solving_through q.structurally_relate_aliases q.infcx.ghost_name q.cache.kept q.goals.items d q.ambient_variance q.param_env) gs c.register_goals.result)
     (ap (goals_of s.meaning) (c.as_slice.ensures.value ∙ c.in_ok-goals.ensures)
     ∙ goals_mean s.meaning r.param_env c.args.predicates.now)
     c.register_goals.ensures

@@ -27,8 +27,8 @@ returns-in_err-register_subtype_predicate-clause-stepped g c =
     let d = g.Infcx.InferCtxtLike.state q.infcx.now in
     let ta = (s.meaning).ty c.args.a.now in
     let tb = (s.meaning).ty c.args.b.now in
-    let was = solving_through r.structurally_relate_aliases r.infcx.ghost_name r.goals.items s r.ambient_variance r.param_env in
-    let now = solving_through q.structurally_relate_aliases q.infcx.ghost_name q.goals.items d q.ambient_variance q.param_env in
+    let was = solving_through r.structurally_relate_aliases r.infcx.ghost_name r.cache.kept r.goals.items s r.ambient_variance r.param_env in
+    let now = solving_through q.structurally_relate_aliases q.infcx.ghost_name q.cache.kept q.goals.items d q.ambient_variance q.param_env in
     let asks = directed_asks r.ambient_variance ta tb (directed_decides c.in_default.not-Invariant c.requires.decides) in
     let h : RegistersGoal {A = Unit {0}} {F = OutOfMemory} was now asks.0 (Err c.in_err-register_subtype_predicate.field-0.0) =
     subst (λ o. IfSome o (λ p. RegistersGoal {A = Unit {0}} {F = OutOfMemory} was now p (Err c.in_err-register_subtype_predicate.field-0.0))) asks.1
@@ -45,8 +45,8 @@ returns-clause-stepped g c =
     let d = g.Infcx.InferCtxtLike.state q.infcx.now in
     let ta = (s.meaning).ty c.args.a.now in
     let tb = (s.meaning).ty c.args.b.now in
-    let was = solving_through r.structurally_relate_aliases r.infcx.ghost_name r.goals.items s r.ambient_variance r.param_env in
-    let now = solving_through q.structurally_relate_aliases q.infcx.ghost_name q.goals.items d q.ambient_variance q.param_env in
+    let was = solving_through r.structurally_relate_aliases r.infcx.ghost_name r.cache.kept r.goals.items s r.ambient_variance r.param_env in
+    let now = solving_through q.structurally_relate_aliases q.infcx.ghost_name q.cache.kept q.goals.items d q.ambient_variance q.param_env in
     let asks = directed_asks r.ambient_variance ta tb (directed_decides c.in_default.not-Invariant c.requires.decides) in
     let h : RegistersGoal {A = Unit {0}} {F = OutOfMemory} was now asks.0 (Ok tt) =
     subst (λ o. IfSome o (λ p. RegistersGoal {A = Unit {0}} {F = OutOfMemory} was now p (Ok tt))) asks.1
@@ -63,8 +63,8 @@ returns-in_err-register_subtype_predicate-clause-combines g c =
     let d = g.Infcx.InferCtxtLike.state q.infcx.now in
     let ta = (s.meaning).ty c.args.a.now in
     let tb = (s.meaning).ty c.args.b.now in
-    let was = solving_through r.structurally_relate_aliases r.infcx.ghost_name r.goals.items s r.ambient_variance r.param_env in
-    let now = solving_through q.structurally_relate_aliases q.infcx.ghost_name q.goals.items d q.ambient_variance q.param_env in
+    let was = solving_through r.structurally_relate_aliases r.infcx.ghost_name r.cache.kept r.goals.items s r.ambient_variance r.param_env in
+    let now = solving_through q.structurally_relate_aliases q.infcx.ghost_name q.cache.kept q.goals.items d q.ambient_variance q.param_env in
     let directed = directed_decides c.in_default.not-Invariant c.requires.decides in
     let asks = directed_asks r.ambient_variance ta tb directed in
     subtype_refused {r = was} {q = now} c.args.a.now c.args.b.now asks.0 directed
@@ -80,8 +80,8 @@ returns-clause-combines g c =
     let d = g.Infcx.InferCtxtLike.state q.infcx.now in
     let ta = (s.meaning).ty c.args.a.now in
     let tb = (s.meaning).ty c.args.b.now in
-    let was = solving_through r.structurally_relate_aliases r.infcx.ghost_name r.goals.items s r.ambient_variance r.param_env in
-    let now = solving_through q.structurally_relate_aliases q.infcx.ghost_name q.goals.items d q.ambient_variance q.param_env in
+    let was = solving_through r.structurally_relate_aliases r.infcx.ghost_name r.cache.kept r.goals.items s r.ambient_variance r.param_env in
+    let now = solving_through q.structurally_relate_aliases q.infcx.ghost_name q.cache.kept q.goals.items d q.ambient_variance q.param_env in
     let asks = directed_asks r.ambient_variance ta tb (directed_decides c.in_default.not-Invariant c.requires.decides) in
     subtype_combines {r = was} {q = now} c.args.a.now c.args.b.now asks.0 asks.1
     (subst (λ o. IfSome o (λ p. RegistersGoal {A = Unit {0}} {F = OutOfMemory} was now p (Ok tt))) asks.1
@@ -91,13 +91,13 @@ pub returns-in-Invariant-clause-stepped : goal.returns-in-Invariant-clause-stepp
 returns-in-Invariant-clause-stepped g c =
     let r = c.args.self.now in
     let s = g.Infcx.InferCtxtLike.state r.infcx.now in
-    let sound = g.met.Infcx.InferCtxtLike.sound r.infcx.now c.requires.lawful in
+    let sound = g.met.Infcx.InferCtxtLike.sound r.infcx.now c.requires.lawful.0.0 in
     let d = g.Infcx.InferCtxtLike.state c.equate_ty_vids_raw.new.self in
     let done = c.equate_ty_vids_raw.ensures.equates in
-    roots_step (held_stands r.structurally_relate_aliases r.infcx.ghost_name s d done.stands) r.goals.items IsFormed s.meaning d.meaning s.store d.store s.lawful d.lawful
+    roots_step (held_stands r.structurally_relate_aliases r.infcx.ghost_name r.cache.kept s d done.stands) r.goals.items IsFormed s.meaning d.meaning s.store d.store s.lawful d.lawful
     r.ambient_variance r.param_env type_var (no_region type_var tt) c.args.x.0 c.args.y.0 ((s.meaning).ty c.args.a.now)
     ((s.meaning).ty c.args.b.now) (d.meaning).ty c.args.a.now done.stands.meaning
-    (c.requires.env_known, c.requires.goals_known) sound done.stands.lawful done.same done.equates c.requires.a_is
+    c.requires.lawful.1 sound done.stands.lawful done.same done.equates c.requires.a_is
     c.requires.b_is (ap (λ z. z.ty c.args.a.now) done.stands.meaning)
 
 pub returns-in-Invariant-clause-combines : goal.returns-in-Invariant-clause-combines

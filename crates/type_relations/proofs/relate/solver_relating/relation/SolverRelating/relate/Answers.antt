@@ -13,9 +13,9 @@ returns-clause-related g c =
     let d = g.Infcx.InferCtxtLike.state q.infcx.now in
     let over = g.T.Relate.over in
     let tree = g.T.HasTree.tree in
-    as_before (held_by r.structurally_relate_aliases r.infcx.ghost_name s) (held_by q.structurally_relate_aliases q.infcx.ghost_name d) r.goals.items q.goals.items s.meaning
+    as_before (held_by r.structurally_relate_aliases r.infcx.ghost_name r.cache.kept s) (held_by q.structurally_relate_aliases q.infcx.ghost_name q.cache.kept d) r.goals.items q.goals.items s.meaning
     d.meaning s.store d.store s.lawful d.lawful r.ambient_variance q.ambient_variance r.param_env q.param_env
-    c.requires.env_known
+    c.requires.lawful.1.0
     (term_in s over tree c.args.a.now) (term_in s over tree c.args.b.now) (term_in d over tree) c.relate.result
     c.relate.ensures.related
 

@@ -26,8 +26,8 @@ returns-then-round-gt0-clause-opened g c =
     let b = c.args.b.now in
     let none : (bound_var_escapes (tree a.value) || bound_var_escapes (tree b.value)) ≡ false =
     grind (arith, common_steps) in
-    no_more r.structurally_relate_aliases r.infcx.ghost_name r.goals.items s r.ambient_variance r.param_env c.requires.lawful.1
-    (grows_itself s c.requires.lawful.0) (tree a.value) (tree b.value)
+    no_more r.structurally_relate_aliases r.infcx.ghost_name r.cache.kept r.goals.items s r.ambient_variance r.param_env c.requires.lawful.1
+    (grows_itself s c.requires.lawful.0.0) (tree a.value) (tree b.value)
     c.args.round tree ((s.meaning).bound_vars a.bound_vars) ((s.meaning).bound_vars b.bound_vars) c.requires.asked
     (grind (arith, common_steps)) (inr none)
 
@@ -40,10 +40,10 @@ returns-then-not-one_uses-clause-opened g c =
     let b = c.args.b.now in
     let none : (bound_var_escapes (tree a.value) || bound_var_escapes (tree b.value)) ≡ false =
     grind (arith, common_steps) in
-    opens_none r.structurally_relate_aliases r.infcx.ghost_name r.goals.items s r.ambient_variance r.param_env c.requires.lawful.1
-    (grows_itself s c.requires.lawful.0) (tree a.value) (tree b.value)
+    opens_none r.structurally_relate_aliases r.infcx.ghost_name r.cache.kept r.goals.items s r.ambient_variance r.param_env c.requires.lawful.1
+    (grows_itself s c.requires.lawful.0.0) (tree a.value) (tree b.value)
     c.args.round tree ((s.meaning).bound_vars a.bound_vars) ((s.meaning).bound_vars b.bound_vars) c.requires.asked
-    c.requires.decides (g.met.Infcx.InferCtxtLike.sound r.infcx.now c.requires.lawful.0) none
+    c.requires.decides (g.met.Infcx.InferCtxtLike.sound r.infcx.now c.requires.lawful.0.0) none
     (grind (arith, common_steps)) a.value b.value refl refl
 
 pub enter_and_instantiate-requires-clause-entered_binds : goal.enter_and_instantiate-requires-clause-entered_binds
@@ -76,8 +76,8 @@ returns-in_err-y-clause-opened g c =
     let d = g.Infcx.InferCtxtLike.state c.enter_and_instantiate.new.infcx in
     let done = c.in_err-y.ensures in
     let h = done.opens in
-    opening_refused r.structurally_relate_aliases r.infcx.ghost_name r.goals.items s d r.ambient_variance r.param_env c.requires.lawful.1
-    (g.met.Infcx.InferCtxtLike.sound r.infcx.now c.requires.lawful.0) done.grows h.0 h.1 h.2 h.3 c.args.round
+    opening_refused r.structurally_relate_aliases r.infcx.ghost_name r.cache.kept r.goals.items s d r.ambient_variance r.param_env c.requires.lawful.1
+    (g.met.Infcx.InferCtxtLike.sound r.infcx.now c.requires.lawful.0.0) done.grows h.0 h.1 h.2 h.3 c.args.round
     (binder_tree g.T.HasTree.tree s.meaning c.args.a.now) (binder_tree g.T.HasTree.tree s.meaning c.args.b.now)
     (g.T.HasTree.tree d.meaning) c.from_residual.result
     (as_err c.from_residual.result Memory c.from_residual.ensures.0 c.from_residual.ensures.1)
@@ -96,8 +96,8 @@ returns-then-enters_second-clause-opened g c =
     grind (arith, common_steps) in
     let done = c.in_ok-y.ensures in
     let at = c.enters_second.ensures.0 c.if-enters_second.true in
-    opens_second r.structurally_relate_aliases r.infcx.ghost_name r.goals.items s d r.ambient_variance r.param_env c.requires.lawful.1
-    (g.met.Infcx.InferCtxtLike.sound r.infcx.now c.requires.lawful.0) done.grows c.args.round (tree s.meaning a.value)
+    opens_second r.structurally_relate_aliases r.infcx.ghost_name r.cache.kept r.goals.items s d r.ambient_variance r.param_env c.requires.lawful.1
+    (g.met.Infcx.InferCtxtLike.sound r.infcx.now c.requires.lawful.0.0) done.grows c.args.round (tree s.meaning a.value)
     (tree s.meaning b.value) tree c.in_ok-y.x c.in_ok-y.y some ((s.meaning).bound_vars a.bound_vars)
     ((s.meaning).bound_vars b.bound_vars) c.requires.asked done.opens at.0 at.1
 
@@ -109,8 +109,8 @@ returns-in_err-x-clause-opened g c =
     let done = c.in_err-x.ensures in
     let h = done.opens in
     let from = c.from_residual-in_err-x in
-    opening_refused r.structurally_relate_aliases r.infcx.ghost_name r.goals.items s d r.ambient_variance r.param_env c.requires.lawful.1
-    (g.met.Infcx.InferCtxtLike.sound r.infcx.now c.requires.lawful.0) done.grows h.0 h.1 h.2 h.3 c.args.round
+    opening_refused r.structurally_relate_aliases r.infcx.ghost_name r.cache.kept r.goals.items s d r.ambient_variance r.param_env c.requires.lawful.1
+    (g.met.Infcx.InferCtxtLike.sound r.infcx.now c.requires.lawful.0.0) done.grows h.0 h.1 h.2 h.3 c.args.round
     (binder_tree g.T.HasTree.tree s.meaning c.args.a.now) (binder_tree g.T.HasTree.tree s.meaning c.args.b.now)
     (g.T.HasTree.tree d.meaning) from.result (as_err from.result Memory from.ensures.0 from.ensures.1)
     (under_built ((s.meaning).bound_vars c.args.a.now.bound_vars)
@@ -127,8 +127,8 @@ returns-then-enters_first-clause-opened g c =
     let some : (bound_var_escapes (tree s.meaning a.value) || bound_var_escapes (tree s.meaning b.value)) ≡ true =
     grind (arith, common_steps) in
     let done = c.in_ok-x.ensures in
-    opens_first r.structurally_relate_aliases r.infcx.ghost_name r.goals.items s d r.ambient_variance r.param_env c.requires.lawful.1
-    (g.met.Infcx.InferCtxtLike.sound r.infcx.now c.requires.lawful.0) done.grows c.args.round (tree s.meaning a.value)
+    opens_first r.structurally_relate_aliases r.infcx.ghost_name r.cache.kept r.goals.items s d r.ambient_variance r.param_env c.requires.lawful.1
+    (g.met.Infcx.InferCtxtLike.sound r.infcx.now c.requires.lawful.0.0) done.grows c.args.round (tree s.meaning a.value)
     (tree s.meaning b.value) tree c.in_ok-x.x c.in_ok-x.y some ((s.meaning).bound_vars a.bound_vars)
     ((s.meaning).bound_vars b.bound_vars) c.requires.asked done.opens
     (c.enters_first.ensures.0 c.if-enters_first.true)
@@ -143,8 +143,8 @@ returns-clause-opened g c =
     let last = opens_neither r.ambient_variance c.args.round c.requires.decides c.requires.round
     (λ h. false≢true (sym c.if-enters_second.false ∙ c.enters_second.ensures.1 h))
     (λ h. false≢true (sym c.if-enters_first.false ∙ c.enters_first.ensures.1 h)) in
-    no_more r.structurally_relate_aliases r.infcx.ghost_name r.goals.items s r.ambient_variance r.param_env c.requires.lawful.1
-    (grows_itself s c.requires.lawful.0) (tree a.value) (tree b.value)
+    no_more r.structurally_relate_aliases r.infcx.ghost_name r.cache.kept r.goals.items s r.ambient_variance r.param_env c.requires.lawful.1
+    (grows_itself s c.requires.lawful.0.0) (tree a.value) (tree b.value)
     c.args.round tree ((s.meaning).bound_vars a.bound_vars) ((s.meaning).bound_vars b.bound_vars) c.requires.asked
     last.0 (inl last.1)
 
@@ -157,7 +157,7 @@ returns-then-round-gt0-clause-steps g c =
     let b = c.args.b.now in
     let none : (bound_var_escapes (tree s.meaning a.value) || bound_var_escapes (tree s.meaning b.value)) ≡ false =
     grind (arith, common_steps) in
-    none_left (grind (arith, common_steps)) (inr none) (leaves_itself (solving_through r.structurally_relate_aliases r.infcx.ghost_name r.goals.items s r.ambient_variance r.param_env)) refl
+    none_left (grind (arith, common_steps)) (inr none) (leaves_itself (solving_through r.structurally_relate_aliases r.infcx.ghost_name r.cache.kept r.goals.items s r.ambient_variance r.param_env)) refl
 
 pub returns-then-not-one_uses-clause-steps : goal.returns-then-not-one_uses-clause-steps
 returns-then-not-one_uses-clause-steps g c =
@@ -168,7 +168,7 @@ returns-then-not-one_uses-clause-steps g c =
     let b = c.args.b.now in
     let none : (bound_var_escapes (tree s.meaning a.value) || bound_var_escapes (tree s.meaning b.value)) ≡ false =
     grind (arith, common_steps) in
-    as_they_stand (grind (arith, common_steps)) none (leaves_itself (solving_through r.structurally_relate_aliases r.infcx.ghost_name r.goals.items s r.ambient_variance r.param_env)) refl
+    as_they_stand (grind (arith, common_steps)) none (leaves_itself (solving_through r.structurally_relate_aliases r.infcx.ghost_name r.cache.kept r.goals.items s r.ambient_variance r.param_env)) refl
 
 pub returns-in_err-y-clause-steps : goal.returns-in_err-y-clause-steps
 returns-in_err-y-clause-steps g c =
@@ -241,7 +241,7 @@ returns-clause-steps g c =
     let last = opens_neither r.ambient_variance c.args.round c.requires.decides c.requires.round
     (λ h. false≢true (sym c.if-enters_second.false ∙ c.enters_second.ensures.1 h))
     (λ h. false≢true (sym c.if-enters_first.false ∙ c.enters_first.ensures.1 h)) in
-    none_left last.0 (inl last.1) (leaves_itself (solving_through r.structurally_relate_aliases r.infcx.ghost_name r.goals.items s r.ambient_variance r.param_env)) refl
+    none_left last.0 (inl last.1) (leaves_itself (solving_through r.structurally_relate_aliases r.infcx.ghost_name r.cache.kept r.goals.items s r.ambient_variance r.param_env)) refl
 
 pub returns-in_err-y-clause-registers_nothing : goal.returns-in_err-y-clause-registers_nothing
 returns-in_err-y-clause-registers_nothing g c =

@@ -13,7 +13,7 @@ returns-in_err-relate_regions-clause-related g c =
     let s = g.Infcx.InferCtxtLike.state r.infcx.now in
     let d = g.Infcx.InferCtxtLike.state c.relate_regions.new.infcx in
     let f = c.relate_regions.ensures in
-    memory_refused (held_stands r.structurally_relate_aliases r.infcx.ghost_name s d f.stands) r.goals.items _ s.meaning d.meaning s.store d.store s.lawful d.lawful r.ambient_variance
+    memory_refused (held_stands r.structurally_relate_aliases r.infcx.ghost_name r.cache.kept s d f.stands) r.goals.items _ s.meaning d.meaning s.store d.store s.lawful d.lawful r.ambient_variance
     r.param_env c.requires.lawful.1 f.stands.meaning f.stands.lawful ((s.meaning).region c.args.a.now)
     ((s.meaning).region c.args.b.now) (d.meaning).region c.from_residual.result
     (as_err c.from_residual.result Memory c.from_residual.ensures.0 c.from_residual.ensures.1) f.goes f.bound f.full f.built
@@ -28,7 +28,7 @@ returns-clause-related g c =
     let f = c.relate_regions.ensures in
     let k = c.requires.asked in
     let is = (g.met.Infcx.Interner.Interner.sorted cx).region in
-    regions_recorded (held_stands r.structurally_relate_aliases r.infcx.ghost_name s d f.stands) r.goals.items s.meaning s.store d.store s.lawful d.lawful r.ambient_variance r.param_env
+    regions_recorded (held_stands r.structurally_relate_aliases r.infcx.ghost_name r.cache.kept s d f.stands) r.goals.items s.meaning s.store d.store s.lawful d.lawful r.ambient_variance r.param_env
     c.args.a.now c.args.b.now c.requires.decides
     (region_sorted of c.args.a.now (is c.args.a.now) k.left_known, k.left_in)
     (region_sorted of c.args.b.now (is c.args.b.now) k.right_known, k.right_in) f.goes
@@ -60,7 +60,7 @@ returns-in_err-relate_regions-clause-steps g c = constraint_refused c.in_err-rel
 pub returns-clause-steps : goal.returns-clause-steps
 returns-clause-steps g c =
     let r = c.args.self.now in
-    regions_step r.structurally_relate_aliases r.infcx.ghost_name r.goals.items r.goals.items
+    regions_step r.structurally_relate_aliases r.infcx.ghost_name r.cache.kept r.goals.items r.goals.items
     (g.Infcx.InferCtxtLike.state r.infcx.now) (g.Infcx.InferCtxtLike.state c.relate_regions.new.infcx)
     r.ambient_variance r.param_env c.args.a.now c.args.b.now c.requires.decides c.in_ok-relate_regions.ensures.adds
 

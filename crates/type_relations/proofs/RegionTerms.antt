@@ -8,7 +8,8 @@ use Rattle.relation_terms.specs.Erasure.{erase, erase_leaf, erase_atom, kept_par
 use Rattle.relation_contexts.specs.Relation.{Items, Interpretation, parts, second_opened, first_opened, Rel, at, same, anything, error_left, error_right, regions, alias_types, equal_consts, atoms, forms, no_parts, next_part, covariant_binders, contravariant_binders, invariant_binders, open_second, open_first, part_at, plain, plain_atom, sort_of, IsError, IsErrorAtom, IsAlias, IsAliasHead, IsRelatedHead, AliasRule, IsValueLeaf, FitKinds, Fresh, RegionRule, all_outlive}
 use Rattle.relation_contexts.specs.FirstOrder.{IsFirstOrderAtom}
 use Rattle.relation_contexts.specs.Stores.{IsNamable}
-use Rattle.relation_laws.specs.RegionTerms.{IsRegionTermHead, IsRegionTermLeaf, BindsRegions, IsRegionTerm, RelatedTermsAgree, RelatedIffAgree}
+use Rattle.relation_contexts.specs.Asking.{BindsRegions}
+use Rattle.type_relations.specs.RegionTerms.{IsRegionTermHead, IsRegionTermLeaf, IsRegionTerm, RelatedTermsAgree, RelatedIffAgree}
 use Rattle.relation_contexts.specs.Agreeing.{IsFlexible, AreFlexible, IsLeftAside, Agree}
 use Rattle.relation_contexts.specs.Settings.{Settings}
 use Rattle.relation_contexts.specs.Errors.{outer_leaf, AreAlike, IsLeftToGoal}
@@ -16,10 +17,9 @@ use Rattle.type_relations.proofs.Unifying.{kind_erased, atom_erased, kind_kept, 
 use Rattle.relation_contexts.proofs.Leaving.{opaque_is_alias, beside_is_opaque}
 use Rattle.type_relations.proofs.PartSizes.{one_size}
 use Rattle.relation_contexts.proofs.Agreeing.{agree_anything, agree_same}
-use Rattle.relation_laws.specs.Decided.{plain_leaf}
 use Rattle.relation_contexts.proofs.Erased.{erase_region, erase_plain, no_error_atom}
 use Rattle.relation_contexts.proofs.Related.{no_region_head}
-use Rattle.relation_laws.proofs.SmallTerms.{term_region}
+use Rattle.relation_contexts.proofs.Standing.{term_sort_of}
 use Rattle.relation_contexts.proofs.Values.{fresh_later, some_placeholders, some_are_placeholders}
 
 -- Such a form has a relation.
@@ -39,19 +39,19 @@ related_head environment f = absurd f
 related_head h f = tt
 
 -- A term, and no list.
-abbrev IsNode : Tree → Type 0
+abbrev pub IsNode : Tree → Type 0
 IsNode nil = ⊥
 IsNode (cons t ts) = ⊥
 IsNode t = Unit {0}
 
 -- The type of a value is one.
-abbrev HasOneType : Head → Tree → Type 0
+abbrev pub HasOneType : Head → Tree → Type 0
 HasOneType value_type (cons t nil) = Unit {0}
 HasOneType value_type ts = ⊥
 HasOneType h ts = Unit {0}
 
 -- The parts of a form are a list of terms, and a binder's body is a term.
-abbrev IsShaped : Tree → Type 0
+abbrev pub IsShaped : Tree → Type 0
 IsShaped (leaf l) = Unit {0}
 IsShaped (node h ts) = IsList ts × HasOneType h ts × IsShaped ts
 IsShaped (bind ks t) = IsNode t × IsShaped t
@@ -72,11 +72,11 @@ head_row slice = (_, _, refl)
 head_row h = (_, _, refl)
 
 -- What a tree of a shape is.
-abbrev Shaped : Shape → Tree → Type 0
+abbrev pub Shaped : Shape → Tree → Type 0
 Shaped (one p) t = IsNode t × IsShaped t
 Shaped (row ps o) t = IsList t × IsShaped t
 
-shaped : (x : Shape) (t : Tree) → Fits x t → Shaped x t
+pub shaped : (x : Shape) (t : Tree) → Fits x t → Shaped x t
 shaped (one (term_of s)) (leaf l) f = (tt, tt)
 shaped (one (term_of s)) (node h ts) f = let q = head_row h in let z = subst (λ x. Shaped x ts) q.2 (shaped (head_parts h) ts f.1) in (tt, (z.0, fits_one_type h ts f.1, z.1))
 shaped (one (binder_of s)) (bind ks t) f = (tt, shaped (one (term_of s)) t f)
@@ -108,7 +108,7 @@ values_are_regions : (ks : List BoundKind) (ts : List Tree) → BindsRegions ks 
 values_are_regions [] [] b f = tt
 values_are_regions [] (t ∷ ts) b f = absurd f
 values_are_regions (k ∷ ks) [] b f = absurd f
-values_are_regions (k ∷ ks) (t ∷ ts) b f = let r = term_region t (subst (λ z. IsTerm z t) b.0 f.0.0) in (r, region_term t r f.0.1, values_are_regions ks ts b.1 f.1)
+values_are_regions (k ∷ ks) (t ∷ ts) b f = let r = term_sort_of region_var t (subst (λ z. IsTerm z t) b.0 f.0.0) in (r, region_term t r f.0.1, values_are_regions ks ts b.1 f.1)
 
 placeholders_are_regions : (ks : List BoundKind) (ps : List Tree) (a b : Tree) → BindsRegions ks → Fresh ks ps a b → AreRegions ps
 placeholders_are_regions [] [] a b h f = tt
@@ -178,7 +178,7 @@ kept_agree set c h v xs ys r = r
 forms_agree : (set : Settings) (c : Items) (h k : Head) (v : Variance) (xs ys : Tree) → plain h ≡ plain k → h ≡ k → Agree set c (parts h 0 v) xs ys → Agree set c (at v) (node h (kept_parts h xs)) (node k (kept_parts k ys))
 forms_agree set c h k v xs ys p q r = inr (p, subst (λ z. Agree set c (parts h 0 v) (kept_parts h xs) (kept_parts z ys)) q (kept_agree set c h v xs ys r))
 
-rule_alias : (w : Interpretation) (e : Tree) (v : Variance) (a b : Tree) → AliasRule w e v a b → (v ≡ Bivariant) ⊎ (IsAlias a ⊎ IsAlias b)
+pub rule_alias : (w : Interpretation) (e : Tree) (v : Variance) (a b : Tree) → AliasRule w e v a b → (v ≡ Bivariant) ⊎ (IsAlias a ⊎ IsAlias b)
 rule_alias w e Covariant a b r = inr r.1
 rule_alias w e Contravariant a b (r, inl i) = inr (inr i)
 rule_alias w e Contravariant a b (r, inr i) = inr (inl i)
@@ -300,13 +300,13 @@ inst_shaped ts d (bind ks t) h r s = (inst_term ts (suc d) t h r.1 s.0, inst_sha
 inst_shaped ts d nil h r s = tt
 inst_shaped ts d (cons t u) h r s = (inst_term ts d t h r.0 s.0, inst_shaped ts d t h r.0 s.1, inst_shaped ts d u h r.1 s.2)
 
-all_rule : (w : Interpretation) (v : Variance) (a b : Tree) → w.outlives ≡ None → RegionRule w v a b
+pub all_rule : (w : Interpretation) (v : Variance) (a b : Tree) → w.outlives ≡ None → RegionRule w v a b
 all_rule w Covariant a b p = all_outlive p
 all_rule w Contravariant a b p = all_outlive p
 all_rule w Invariant a b p = (all_outlive p, all_outlive p)
 all_rule w Bivariant a b p = tt
 
-region_or : (k : Sort) → (k ≡ region_sort) ⊎ (k ≡ region_sort → ⊥)
+pub region_or : (k : Sort) → (k ≡ region_sort) ⊎ (k ≡ region_sort → ⊥)
 region_or region_sort = inl refl
 region_or k = inr (λ p. cc)
 
@@ -318,22 +318,22 @@ erase_sort (placeholder (bound_kind k m) u n) = kind_erased k _ refl
 erase_sort (atom x) = atom_erased x
 erase_sort unknown = refl
 
-leaf_plain : (l : Leaf) → (leaf_sort l ≡ region_sort → ⊥) → erase_leaf l ≡ plain_leaf l
-leaf_plain (variable region_var m) n = absurd (n refl)
-leaf_plain (variable k m) n = refl
-leaf_plain (bound (bound_kind k m) d i) n = kind_kept k _ n
-leaf_plain (placeholder (bound_kind k m) u i) n = kind_kept k _ n
-leaf_plain (atom x) n = ap atom (erased_plain x n)
-leaf_plain unknown n = refl
+pub leaf_outer : (l : Leaf) → (leaf_sort l ≡ region_sort → ⊥) → erase_leaf l ≡ outer_leaf l
+leaf_outer (variable region_var m) n = absurd (n refl)
+leaf_outer (variable k m) n = refl
+leaf_outer (bound (bound_kind k m) d i) n = kind_kept k _ n
+leaf_outer (placeholder (bound_kind k m) u i) n = kind_kept k _ n
+leaf_outer (atom x) n = ap atom (erased_plain x n)
+leaf_outer unknown n = refl
 
-pub plain_related : (c : Items) (w : Interpretation) (e : Tree) (v : Variance) (l m : Leaf) → plain_leaf l ≡ plain_leaf m → Rel c w e (at v) (leaf l) (leaf m)
-plain_related c w e v (atom x) (atom y) p = atoms (atom_path p)
+pub outer_related : (c : Items) (w : Interpretation) (e : Tree) (v : Variance) (l m : Leaf) → outer_leaf l ≡ outer_leaf m → Rel c w e (at v) (leaf l) (leaf m)
+outer_related c w e v (atom x) (atom y) p = atoms (atom_path p)
   where
     atom_path : {y z : Atom} → atom y ≡ atom z → y ≡ z
     atom_path e = cc
-plain_related c w e v (atom x) m p = same (absurd cc)
-plain_related c w e v l (atom y) p = same (absurd cc)
-plain_related c w e v l m p = same (ap leaf p)
+outer_related c w e v (atom x) m p = same (absurd cc)
+outer_related c w e v l (atom y) p = same (absurd cc)
+outer_related c w e v l m p = same (ap leaf p)
 
 -- Leaves of one erasure are regions, one leaf, or parameters of one index.
 pub leaves_related : (c : Items) (w : Interpretation) (e : Tree) (v : Variance) (l m : Leaf) → w.outlives ≡ None → erase_leaf l ≡ erase_leaf m → Rel c w e (at v) (leaf l) (leaf m)
@@ -345,7 +345,7 @@ leaves_related c w e v l m all p = go (region_or (leaf_sort l)) (region_or (leaf
     go : (leaf_sort l ≡ region_sort) ⊎ (leaf_sort l ≡ region_sort → ⊥) → (leaf_sort m ≡ region_sort) ⊎ (leaf_sort m ≡ region_sort → ⊥) → Rel c w e (at v) (leaf l) (leaf m)
     go (inl q) r = regions q (sym sorts ∙ q) (all_rule w v (leaf l) (leaf m) all)
     go (inr n) (inl r) = absurd (n (sorts ∙ r))
-    go (inr n) (inr k) = plain_related c w e v l m (sym (leaf_plain l n) ∙ p ∙ leaf_plain m k)
+    go (inr n) (inr k) = outer_related c w e v l m (sym (leaf_outer l n) ∙ p ∙ leaf_outer m k)
 
 some_values : List BoundKind → List Tree
 some_values ks = map (λ k. leaf (atom static_region)) ks
@@ -409,7 +409,7 @@ mixed k a b f g (inl p) n = set_aside k a b f g p
 mixed k a b f g (inr x) n = absurd (n x)
 
 -- What is open of an erased term without variables is a region.
-erased_error : (x : Atom) → IsErrorAtom (erase_atom x) → IsErrorAtom x
+pub erased_error : (x : Atom) → IsErrorAtom (erase_atom x) → IsErrorAtom x
 erased_error (early_region i n) e = e
 erased_error (type_param i n) e = e
 erased_error (const_param i n) e = e
@@ -438,7 +438,7 @@ plain_erased (type_param i n) = refl
 plain_erased (const_param i n) = refl
 plain_erased x = refl
 
-outer_erased : (l : Leaf) → outer_leaf (erase_leaf l) ≡ erase_leaf l
+pub outer_erased : (l : Leaf) → outer_leaf (erase_leaf l) ≡ erase_leaf l
 outer_erased (variable region_var n) = refl
 outer_erased (variable k n) = refl
 outer_erased (bound (bound_kind region_kind m) d i) = refl

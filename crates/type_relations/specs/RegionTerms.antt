@@ -1,14 +1,15 @@
 -- Variable-free terms that are first-order but for binders of regions, and what relates them where all regions
 -- outlive each other.
-use Rattle.std.specs.Prelude.{◌≡◌, ◌↔◌, List, [], ◌∷◌, None}
+use Rattle.std.specs.Prelude.{◌≡◌, ◌↔◌, None}
 use Rattle.term_enums.specs.declared.Variance.{Variance}
-use Rattle.relation_terms.specs.Heads.{Sort, region_sort, BoundKind, bound_sort, Head, fn_ptr, unsafe_binder, Leaf}
+use Rattle.relation_terms.specs.Heads.{Sort, region_sort, bound_sort, Head, fn_ptr, unsafe_binder, Leaf}
 use Rattle.relation_terms.specs.Heads.{variable, bound, placeholder, atom, unknown}
 use Rattle.relation_terms.specs.Trees.{Tree, leaf, node, bind, nil, cons, IsTerm}
 use Rattle.relation_terms.specs.Erasure.{erase}
 use Rattle.relation_contexts.specs.Relation.{Items, Interpretation, at, Rel}
 use Rattle.relation_contexts.specs.FirstOrder.{IsFirstOrderAtom, IsFirstOrderHead}
 use Rattle.relation_contexts.specs.Agreeing.{Agree}
+use Rattle.relation_contexts.specs.Asking.{BindsRegions}
 use Rattle.relation_contexts.specs.Settings.{Settings}
 
 abbrev pub IsRegionTermHead : Head → Type 0
@@ -23,10 +24,6 @@ IsRegionTermLeaf (bound k d i) = bound_sort k ≡ region_sort
 IsRegionTermLeaf (placeholder k u n) = Unit {0}
 IsRegionTermLeaf (atom x) = IsFirstOrderAtom x
 IsRegionTermLeaf unknown = ⊥
-
-abbrev pub BindsRegions : List BoundKind → Type 0
-BindsRegions [] = Unit {0}
-BindsRegions (k ∷ ks) = (bound_sort k ≡ region_sort) × BindsRegions ks
 
 abbrev pub IsRegionTerm : Tree → Type 0
 IsRegionTerm (leaf l) = IsRegionTermLeaf l
