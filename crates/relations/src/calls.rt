@@ -5,6 +5,7 @@ ghost use Rattle.reference_interner.specs.Adding.{meaning_in};
 
 mod deepening;
 mod delaying;
+mod doublings;
 mod growing;
 mod making;
 mod relating;
@@ -14,6 +15,7 @@ use crate::doubling::count_terms_and_nodes;
 use crate::running::RowFault;
 use deepening::write_deep;
 use delaying::write_found;
+use doublings::write_goals;
 use growing::write_yielded;
 use reference_interner::{
     DefKind, GenericParam, GenericParamKind, ItemId, ItemKind, RefInterner, SymbolId,
@@ -159,6 +161,7 @@ pub fn call(alloc: Global, name: &str) -> Result<String, RowFault> {
         "r50" => write_objects(alloc, &mut text)?,
         "r51" => write_regions(alloc, &mut text)?,
         "r52" => write_refused(alloc, &mut text)?,
+        "r62" => write_goals(alloc, &mut text)?,
         "r64" => write_deep(alloc, &mut text)?,
         "r65" => write_yielded(alloc, &mut text)?,
         _ => write_counts(alloc, &mut text)?,

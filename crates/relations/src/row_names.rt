@@ -40,6 +40,7 @@ fn is_middle_row(name: &str) -> bool
         || name == "r26"
         || name == "r27"
         || name == "r28"
+        || name == "r29"
         || name == "r30"
         || name == "r31"
 }
@@ -69,6 +70,8 @@ fn is_high_row(name: &str) -> bool
         || name == "r44"
         || name == "r45"
         || name == "r46"
+        || name == "r47"
+        || name == "r48"
         || name == "r49"
         || name == "r50"
         || name == "r51"
@@ -88,6 +91,7 @@ fn is_top_row(name: &str) -> bool
         || name == "r59"
         || name == "r60"
         || name == "r61"
+        || name == "r62"
         || name == "r63"
         || name == "r64"
         || name == "r65"
@@ -96,6 +100,7 @@ fn is_top_row(name: &str) -> bool
         || name == "r68"
         || name == "r69"
         || name == "r70"
+        || name == "r71"
 }
 
 /// Whether a row has that name.

@@ -10,7 +10,7 @@ pub struct Row {
 }
 
 /// The rows to r34, in the order of their numbers. A function that names all rows at once is too much for one proof.
-pub const EARLY_ROWS: [Row; 33] = [
+pub const EARLY_ROWS: [Row; 34] = [
     Row {
         name: "r01",
         questions: "may unify[rigid, rigid] bool, char at 0; may unify[rigid, rigid] bool, char at 1;",
@@ -167,6 +167,15 @@ pub const EARLY_ROWS: [Row; 33] = [
         stored: "true",
     },
     Row {
+        name: "r29",
+        questions: "struct Vec<+T>; count goals (Vec<?0>, Vec<?0>, Vec<?0>, Vec<?0>, Vec<?0>, Vec<?0>, Vec<?0>,
+            Vec<?0>, Vec<?0>, Vec<?0>, Vec<?0>, Vec<?0>, Vec<?0>, Vec<?0>, Vec<?0>, Vec<?0>, Vec<?0>,
+            Vec<?0>, Vec<?0>, Vec<?0>) <: (Vec<?1>, Vec<?1>, Vec<?1>, Vec<?1>, Vec<?1>, Vec<?1>, Vec<?1>,
+            Vec<?1>, Vec<?1>, Vec<?1>, Vec<?1>, Vec<?1>, Vec<?1>, Vec<?1>, Vec<?1>, Vec<?1>, Vec<?1>,
+            Vec<?1>, Vec<?1>, Vec<?1>);",
+        stored: "17",
+    },
+    Row {
         name: "r30",
         questions: "?i0 == u16; ?i0 == bool;",
         stored: "ok; bound=[?i0=u16] | err Sorts(?i0, bool)",
@@ -200,7 +209,7 @@ pub const EARLY_ROWS: [Row; 33] = [
 ];
 
 /// The rows from r35 on.
-pub const LATE_ROWS: [Row; 33] = [
+pub const LATE_ROWS: [Row; 37] = [
     Row {
         name: "r35",
         questions: "struct K<-T>; param 'a, 'b;
@@ -270,6 +279,24 @@ pub const LATE_ROWS: [Row; 33] = [
         name: "r46",
         questions: "unsafe<'a> &'a u8 == unsafe<> &'static u8;",
         stored: "ok; regions=['?0 == 'static, '!1.0 == 'static]",
+    },
+    Row {
+        name: "r47",
+        questions: "struct Vec<+T>; param 'a; count goals (Vec<?0>, Vec<?0>, Vec<?0>, Vec<?0>, Vec<?0>, Vec<?0>,
+            Vec<?0>, Vec<?0>, Vec<?0>, Vec<?0>, Vec<?0>, Vec<?0>, Vec<?0>, Vec<?0>, Vec<?0>, Vec<?0>,
+            Vec<?0>, Vec<?0>, Vec<?0>, Vec<?0>, &'a mut Vec<?0>) <: (Vec<?1>, Vec<?1>, Vec<?1>, Vec<?1>,
+            Vec<?1>, Vec<?1>, Vec<?1>, Vec<?1>, Vec<?1>, Vec<?1>, Vec<?1>, Vec<?1>, Vec<?1>, Vec<?1>,
+            Vec<?1>, Vec<?1>, Vec<?1>, Vec<?1>, Vec<?1>, Vec<?1>, &'a mut Vec<?1>); then one ?0, ?1;",
+        stored: "17 | true",
+    },
+    Row {
+        name: "r48",
+        questions: "struct Vec<+T>; count goals (Vec<?0>, Vec<?0>, Vec<?0>, Vec<?0>, Vec<?0>, Vec<?0>, Vec<?0>,
+            Vec<?0>, Vec<?0>, Vec<?0>, Vec<?0>, Vec<?0>, Vec<?0>, Vec<?0>, Vec<?0>, Vec<?0>, Vec<?0>,
+            Vec<?0>, Vec<?0>, Vec<?0>, ?0, Vec<?0>) <: (Vec<?1>, Vec<?1>, Vec<?1>, Vec<?1>, Vec<?1>,
+            Vec<?1>, Vec<?1>, Vec<?1>, Vec<?1>, Vec<?1>, Vec<?1>, Vec<?1>, Vec<?1>, Vec<?1>, Vec<?1>,
+            Vec<?1>, Vec<?1>, Vec<?1>, Vec<?1>, Vec<?1>, u32, Vec<?1>); then binding ?1;",
+        stored: "17 | none",
     },
     Row {
         name: "r49",
@@ -354,6 +381,11 @@ pub const LATE_ROWS: [Row; 33] = [
         stored: "61 | 0",
     },
     Row {
+        name: "r62",
+        questions: "",
+        stored: "18",
+    },
+    Row {
         name: "r63",
         questions: "fn(?0) <: for<'a> fn(&'a u8); fn(?0) == for<'a> fn(&'a u8);
             fn(?0) <: for<^0> fn(^0);",
@@ -401,5 +433,16 @@ pub const LATE_ROWS: [Row; 33] = [
             (<T as Tr>::A, &'a u8) <: (u8, &'b u8);",
         stored: "ok; regions=['a: 'c, 'b: 'd] | ok; regions=['c: 'a, 'd: 'b] | \
             ok; goals=[AliasRelate(<T as Tr>::A, u8, Subtype)]; regions=['a: 'b]",
+    },
+    Row {
+        name: "r71",
+        questions: "param 'a, 'b; count regions (&'a u8, &'a u8, &'a u8, &'a u8, &'a u8, &'a u8, &'a u8, &'a u8, &'a
+            u8, &'a u8, &'a u8, &'a u8, &'a u8, &'a u8, &'a u8, &'a u8, &'a u8, &'a u8, &'a u8, &'a u8, &'a
+            u8, &'a u8, &'a u8, &'a u8, &'a u8, &'a u8, &'a u8, &'a u8, &'a u8, &'a u8, &'a u8, &'a u8, &'a
+            u8, &'a u8, &'a u8, &'a u8, &'a u8, &'a u8, &'a u8, &'a u8) <: (&'b u8, &'b u8, &'b u8, &'b u8,
+            &'b u8, &'b u8, &'b u8, &'b u8, &'b u8, &'b u8, &'b u8, &'b u8, &'b u8, &'b u8, &'b u8, &'b u8,
+            &'b u8, &'b u8, &'b u8, &'b u8, &'b u8, &'b u8, &'b u8, &'b u8, &'b u8, &'b u8, &'b u8, &'b u8,
+            &'b u8, &'b u8, &'b u8, &'b u8, &'b u8, &'b u8, &'b u8, &'b u8, &'b u8, &'b u8, &'b u8, &'b u8);",
+        stored: "33 | 1",
     },
 ];

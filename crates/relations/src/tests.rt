@@ -37,6 +37,7 @@ r25: end | limit
 r26: Placeholder | none | Closure(f) | Tuple(0) | Error
 r27: err Mismatch
 r28: true
+r29: 17
 r30: ok; bound=[?i0=u16] | err Sorts(?i0, bool)
 r31: Ord | PartialOrd | PartialEq | Eq | end | A | B | end
 r32: negative | [const] | ! | unevaluated constant
@@ -59,6 +60,8 @@ r43: err ArgumentSorts(u8, bool, 1) | err ArgCount
 r44: ok; regions=['a: 'b] | err Traits(Tr, Us)
 r45: err Mismatch | err ConstMismatch(2, 3)
 r46: ok; regions=['?0 == 'static, '!1.0 == 'static]
+r47: 17 | true
+r48: 17 | none
 r49: [u8, bool, P] | T: StreamingIterator | ['a]
 r50: PartialEq<u32> | bool: PartialEq<u32>
 r51: 'a: 'b | 'b: 'a | end | true | false
@@ -72,6 +75,7 @@ r58: T: Ord | limit | limit | T: A | T: B | end
 r59: false | true | false | true
 r60: true | false | true | false
 r61: 61 | 0
+r62: 18
 r63: ok; regions=['!1.0: '?0]; bound=[?0=&'?0 u8] | \
     ok; regions=['?0 == '!1.0, '?0 == '?1]; bound=[?0=&'?0 u8] | err Mismatch
 r64: true | err Sorts(bool, char)
@@ -82,6 +86,7 @@ r68: limit | limit | U: 'a | end
 r69: true | false | false | ok; bound=[?c0=1]
 r70: ok; regions=['a: 'c, 'b: 'd] | ok; regions=['c: 'a, 'd: 'b] | \
     ok; goals=[AliasRelate(<T as Tr>::A, u8, Subtype)]; regions=['a: 'b]
+r71: 33 | 1
 ";
 
 // The words of a run, its status, and what it writes.
