@@ -15,7 +15,7 @@ IsMiddleRow name =
     (name ≡ codes "r17") ⊎ ((name ≡ codes "r18") ⊎ ((name ≡ codes "r19") ⊎ ((name ≡ codes "r20") ⊎ (
     (name ≡ codes "r21") ⊎ ((name ≡ codes "r22") ⊎ ((name ≡ codes "r23") ⊎ ((name ≡ codes "r24") ⊎ (
     (name ≡ codes "r25") ⊎ ((name ≡ codes "r26") ⊎ ((name ≡ codes "r27") ⊎ ((name ≡ codes "r28") ⊎ (
-    (name ≡ codes "r29") ⊎ ((name ≡ codes "r30") ⊎ ((name ≡ codes "r31")))))))))))))))
+    (name ≡ codes "r29") ⊎ ((name ≡ codes "r30") ⊎ (name ≡ codes "r31"))))))))))))))
 
 -- A row from r32 on, but below r42, has that name.
 abbrev pub IsUpperRow : List ℕ → Type 0
@@ -29,7 +29,7 @@ abbrev pub IsHighRow : List ℕ → Type 0
 IsHighRow name =
     (name ≡ codes "r42") ⊎ ((name ≡ codes "r43") ⊎ ((name ≡ codes "r44") ⊎ ((name ≡ codes "r45") ⊎ (
     (name ≡ codes "r46") ⊎ ((name ≡ codes "r47") ⊎ ((name ≡ codes "r48") ⊎ ((name ≡ codes "r49") ⊎ (
-    (name ≡ codes "r50") ⊎ ((name ≡ codes "r51") ⊎ ((name ≡ codes "r52") ⊎ ((name ≡ codes "r53"))))))))))))
+    (name ≡ codes "r50") ⊎ ((name ≡ codes "r51") ⊎ ((name ≡ codes "r52") ⊎ (name ≡ codes "r53")))))))))))
 
 -- A row from r54 on has that name.
 abbrev pub IsTopRow : List ℕ → Type 0
@@ -38,7 +38,7 @@ IsTopRow name =
     (name ≡ codes "r58") ⊎ ((name ≡ codes "r59") ⊎ ((name ≡ codes "r60") ⊎ ((name ≡ codes "r61") ⊎ (
     (name ≡ codes "r62") ⊎ ((name ≡ codes "r63") ⊎ ((name ≡ codes "r64") ⊎ ((name ≡ codes "r65") ⊎ (
     (name ≡ codes "r66") ⊎ ((name ≡ codes "r67") ⊎ ((name ≡ codes "r68") ⊎ ((name ≡ codes "r69") ⊎ (
-    (name ≡ codes "r70") ⊎ ((name ≡ codes "r71"))))))))))))))))))
+    (name ≡ codes "r70") ⊎ (name ≡ codes "r71")))))))))))))))))
 
 -- A row has that name.
 abbrev pub IsRow : List ℕ → Type 0

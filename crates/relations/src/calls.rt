@@ -5,17 +5,16 @@ ghost use Rattle.reference_interner.specs.Adding.{meaning_in};
 
 mod deepening;
 mod delaying;
-mod doublings;
 mod growing;
 mod making;
 mod relating;
+mod towers;
 mod writing;
 
 use crate::doubling::count_terms_and_nodes;
 use crate::running::RowFault;
 use deepening::write_deep;
 use delaying::write_found;
-use doublings::write_goals;
 use growing::write_yielded;
 use reference_interner::{
     DefKind, GenericParam, GenericParamKind, ItemId, ItemKind, RefInterner, SymbolId,
@@ -30,6 +29,7 @@ use std::alloc::Global;
 use std::collections::HashMap;
 use std::fmt::{self, Write};
 use text_terms::printing::{ItemText, Texts};
+use towers::write_goals;
 use writing::{write_constraints, write_object, write_projection, write_rebased};
 
 // The names of parameters, and four traits.

@@ -168,11 +168,10 @@ pub const EARLY_ROWS: [Row; 34] = [
     },
     Row {
         name: "r29",
-        questions: "struct Vec<+T>; count goals (Vec<?0>, Vec<?0>, Vec<?0>, Vec<?0>, Vec<?0>, Vec<?0>, Vec<?0>,
-            Vec<?0>, Vec<?0>, Vec<?0>, Vec<?0>, Vec<?0>, Vec<?0>, Vec<?0>, Vec<?0>, Vec<?0>, Vec<?0>,
-            Vec<?0>, Vec<?0>, Vec<?0>) <: (Vec<?1>, Vec<?1>, Vec<?1>, Vec<?1>, Vec<?1>, Vec<?1>, Vec<?1>,
-            Vec<?1>, Vec<?1>, Vec<?1>, Vec<?1>, Vec<?1>, Vec<?1>, Vec<?1>, Vec<?1>, Vec<?1>, Vec<?1>,
-            Vec<?1>, Vec<?1>, Vec<?1>);",
+        questions: "struct Vec<+T>; count goals (Vec<?0>, Vec<?0>, Vec<?0>, Vec<?0>, Vec<?0>, Vec<?0>, Vec<?0>, Vec<?0>, Vec<?0>,
+            Vec<?0>, Vec<?0>, Vec<?0>, Vec<?0>, Vec<?0>, Vec<?0>, Vec<?0>, Vec<?0>, Vec<?0>, Vec<?0>, Vec<?0>) <:
+            (Vec<?1>, Vec<?1>, Vec<?1>, Vec<?1>, Vec<?1>, Vec<?1>, Vec<?1>, Vec<?1>, Vec<?1>, Vec<?1>, Vec<?1>, Vec<?1>,
+            Vec<?1>, Vec<?1>, Vec<?1>, Vec<?1>, Vec<?1>, Vec<?1>, Vec<?1>, Vec<?1>);",
         stored: "17",
     },
     Row {
@@ -282,20 +281,20 @@ pub const LATE_ROWS: [Row; 37] = [
     },
     Row {
         name: "r47",
-        questions: "struct Vec<+T>; param 'a; count goals (Vec<?0>, Vec<?0>, Vec<?0>, Vec<?0>, Vec<?0>, Vec<?0>,
-            Vec<?0>, Vec<?0>, Vec<?0>, Vec<?0>, Vec<?0>, Vec<?0>, Vec<?0>, Vec<?0>, Vec<?0>, Vec<?0>,
-            Vec<?0>, Vec<?0>, Vec<?0>, Vec<?0>, &'a mut Vec<?0>) <: (Vec<?1>, Vec<?1>, Vec<?1>, Vec<?1>,
-            Vec<?1>, Vec<?1>, Vec<?1>, Vec<?1>, Vec<?1>, Vec<?1>, Vec<?1>, Vec<?1>, Vec<?1>, Vec<?1>,
-            Vec<?1>, Vec<?1>, Vec<?1>, Vec<?1>, Vec<?1>, Vec<?1>, &'a mut Vec<?1>); then one ?0, ?1;",
+        questions: "struct Vec<+T>; param 'a; count goals (Vec<?0>, Vec<?0>, Vec<?0>, Vec<?0>, Vec<?0>, Vec<?0>, Vec<?0>, Vec<?0>,
+            Vec<?0>, Vec<?0>, Vec<?0>, Vec<?0>, Vec<?0>, Vec<?0>, Vec<?0>, Vec<?0>, Vec<?0>, Vec<?0>, Vec<?0>, Vec<?0>,
+            &'a mut Vec<?0>) <: (Vec<?1>, Vec<?1>, Vec<?1>, Vec<?1>, Vec<?1>, Vec<?1>, Vec<?1>, Vec<?1>, Vec<?1>, Vec<?1>,
+            Vec<?1>, Vec<?1>, Vec<?1>, Vec<?1>, Vec<?1>, Vec<?1>, Vec<?1>, Vec<?1>, Vec<?1>, Vec<?1>, &'a mut Vec<?1>);
+            then one ?0, ?1;",
         stored: "17 | true",
     },
     Row {
         name: "r48",
-        questions: "struct Vec<+T>; count goals (Vec<?0>, Vec<?0>, Vec<?0>, Vec<?0>, Vec<?0>, Vec<?0>, Vec<?0>,
-            Vec<?0>, Vec<?0>, Vec<?0>, Vec<?0>, Vec<?0>, Vec<?0>, Vec<?0>, Vec<?0>, Vec<?0>, Vec<?0>,
-            Vec<?0>, Vec<?0>, Vec<?0>, ?0, Vec<?0>) <: (Vec<?1>, Vec<?1>, Vec<?1>, Vec<?1>, Vec<?1>,
-            Vec<?1>, Vec<?1>, Vec<?1>, Vec<?1>, Vec<?1>, Vec<?1>, Vec<?1>, Vec<?1>, Vec<?1>, Vec<?1>,
-            Vec<?1>, Vec<?1>, Vec<?1>, Vec<?1>, Vec<?1>, u32, Vec<?1>); then binding ?1;",
+        questions: "struct Vec<+T>; count goals (Vec<?0>, Vec<?0>, Vec<?0>, Vec<?0>, Vec<?0>, Vec<?0>, Vec<?0>, Vec<?0>, Vec<?0>,
+            Vec<?0>, Vec<?0>, Vec<?0>, Vec<?0>, Vec<?0>, Vec<?0>, Vec<?0>, Vec<?0>, Vec<?0>, Vec<?0>, Vec<?0>, ?0,
+            Vec<?0>) <: (Vec<?1>, Vec<?1>, Vec<?1>, Vec<?1>, Vec<?1>, Vec<?1>, Vec<?1>, Vec<?1>, Vec<?1>, Vec<?1>,
+            Vec<?1>, Vec<?1>, Vec<?1>, Vec<?1>, Vec<?1>, Vec<?1>, Vec<?1>, Vec<?1>, Vec<?1>, Vec<?1>, u32, Vec<?1>); then
+            binding ?1;",
         stored: "17 | none",
     },
     Row {
@@ -436,13 +435,13 @@ pub const LATE_ROWS: [Row; 37] = [
     },
     Row {
         name: "r71",
-        questions: "param 'a, 'b; count regions (&'a u8, &'a u8, &'a u8, &'a u8, &'a u8, &'a u8, &'a u8, &'a u8, &'a
-            u8, &'a u8, &'a u8, &'a u8, &'a u8, &'a u8, &'a u8, &'a u8, &'a u8, &'a u8, &'a u8, &'a u8, &'a
-            u8, &'a u8, &'a u8, &'a u8, &'a u8, &'a u8, &'a u8, &'a u8, &'a u8, &'a u8, &'a u8, &'a u8, &'a
-            u8, &'a u8, &'a u8, &'a u8, &'a u8, &'a u8, &'a u8, &'a u8) <: (&'b u8, &'b u8, &'b u8, &'b u8,
-            &'b u8, &'b u8, &'b u8, &'b u8, &'b u8, &'b u8, &'b u8, &'b u8, &'b u8, &'b u8, &'b u8, &'b u8,
-            &'b u8, &'b u8, &'b u8, &'b u8, &'b u8, &'b u8, &'b u8, &'b u8, &'b u8, &'b u8, &'b u8, &'b u8,
-            &'b u8, &'b u8, &'b u8, &'b u8, &'b u8, &'b u8, &'b u8, &'b u8, &'b u8, &'b u8, &'b u8, &'b u8);",
+        questions: "param 'a, 'b; count regions (&'a u8, &'a u8, &'a u8, &'a u8, &'a u8, &'a u8, &'a u8, &'a u8, &'a u8, &'a u8,
+            &'a u8, &'a u8, &'a u8, &'a u8, &'a u8, &'a u8, &'a u8, &'a u8, &'a u8, &'a u8, &'a u8, &'a u8, &'a u8, &'a
+            u8, &'a u8, &'a u8, &'a u8, &'a u8, &'a u8, &'a u8, &'a u8, &'a u8, &'a u8, &'a u8, &'a u8, &'a u8, &'a u8,
+            &'a u8, &'a u8, &'a u8) <: (&'b u8, &'b u8, &'b u8, &'b u8, &'b u8, &'b u8, &'b u8, &'b u8, &'b u8, &'b u8,
+            &'b u8, &'b u8, &'b u8, &'b u8, &'b u8, &'b u8, &'b u8, &'b u8, &'b u8, &'b u8, &'b u8, &'b u8, &'b u8, &'b
+            u8, &'b u8, &'b u8, &'b u8, &'b u8, &'b u8, &'b u8, &'b u8, &'b u8, &'b u8, &'b u8, &'b u8, &'b u8, &'b u8,
+            &'b u8, &'b u8, &'b u8);",
         stored: "33 | 1",
     },
 ];
