@@ -124,7 +124,7 @@ fn errors_print_their_parts(rt: HostRuntime) -> Result<(), Fail> {
     assert_eq!(rt;
         text.as_str(),
         "ForceInlineCast;ArgumentMutability(1);VariadicMismatch(true, false);\
-         PolarityMismatch(Positive, Negative);SafetyMismatch(Unsafe, Safe);AbiMismatch(Rust, C);\
+         PolarityMismatch(positive, negative);SafetyMismatch(Unsafe, Safe);AbiMismatch(Rust, C);\
          RegionsDoesNotOutlive('static, '?0);ArgumentSorts(bool, char, 1);"
     );
     Ok(())

@@ -124,7 +124,7 @@ const TOO_DEEP: &str = "not asked: what it comes to may be too deep for the stac
 fn long_chains_are_not_asked(rt: HostRuntime) -> Result<(), Fail> {
     let mut text = String::from_str(rt.alloc(), "budget 10000;")?;
     write_chain(0, 1000, &mut text)?;
-    text.push_str("then binding ?0; then count goals ?1000 == u8; then")?;
+    text.push_str("then binding ?0; then count goals ?1000 == u8; then ")?;
     write_chain(1001, 40, &mut text)?;
     write_chain(0, 1100, &mut text)?;
     text.push_str("then binding ?0;")?;
