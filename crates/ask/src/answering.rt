@@ -2,7 +2,7 @@
 ghost use Rattle.std.specs.Prelude.{◌≡◌, ◌≢◌, ◌≤◌};
 ghost use Rattle.std.specs.IoError.{error_kind};
 
-use relation_asking::ask_all;
+use text_asking::ask_all;
 use std::alloc::Global;
 use std::fmt::{self, Write};
 use std::io::{self, ErrorKind, Read};

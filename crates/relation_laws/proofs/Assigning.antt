@@ -1,8 +1,8 @@
 -- Assigning values.
 use Rattle.relation_terms.specs.Trees.{apply}
-use Rattle.relation_contexts.specs.StepLaws.{AssigningTwice, InstantiatingAssigns}
-use Rattle.relation_contexts.proofs.Trees.{apply_ground, apply-inst}
-use Rattle.relation_contexts.proofs.Values.{occurring_stay}
+use Rattle.relation_semantics.specs.StepLaws.{AssigningTwice, InstantiatingAssigns}
+use Rattle.relation_semantics.proofs.Trees.{apply_ground, apply-inst}
+use Rattle.relation_semantics.proofs.Values.{occurring_stay}
 
 pub assigning_twice : AssigningTwice
 assigning_twice s s' t h = apply_ground s' (apply s t) h

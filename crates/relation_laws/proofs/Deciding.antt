@@ -7,7 +7,7 @@ use Rattle.term_enums.specs.declared.Mutability.{Mutability}
 use Rattle.term_enums.specs.Variances.{xform}
 use Rattle.relation_terms.specs.Heads.{Sort, region_sort, type_sort, const_sort, value_sort, value_type_sort, pattern_sort, leaf_sort, head_sort, region_kind, type_kind, const_kind, bound_kind, bool_type, char_type, str_type, never_type, type_error, int_type, uint_type, float_type, foreign, type_param, static_region, early_region, const_error, const_param, value_leaf, not_null_pattern, Head, adt, fn_def, closure, coroutine_closure, coroutine, coroutine_witness, array, slice, pattern_type, tuple, raw_ptr, ref, value, value_type, value_branch, expression, range_pattern, or_pattern, Leaf, variable, bound, placeholder, atom, unknown}
 use Rattle.relation_terms.specs.Trees.{Tree, leaf, node, cons, IsList}
-use Rattle.relation_contexts.specs.Relation.{Items, Interpretation, Outlives, all_outlive, given, itself, through, RegionRule, Rel, at, parts, same, anything, error_left, error_right, regions, alias_types, equal_consts, atoms, forms, next_part, reference_variance, IsError, IsAliasHead, IsRelatedHead, plain, part_at}
+use Rattle.relation_semantics.specs.Relation.{Items, Interpretation, Outlives, all_outlive, given, itself, through, RegionRule, Rel, at, parts, same, anything, error_left, error_right, regions, alias_types, equal_consts, atoms, forms, next_part, reference_variance, IsError, IsAliasHead, IsRelatedHead, plain, part_at}
 use Rattle.relation_laws.specs.declared.decided.SmallLeaf.{SmallLeaf}
 use Rattle.relation_laws.specs.declared.decided.SmallLeaf.TheVariants as small
 use Rattle.relation_laws.specs.declared.decided.SmallHead.{SmallHead}
@@ -16,10 +16,10 @@ use Rattle.relation_laws.specs.declared.decided.SmallSort.{SmallSort}
 use Rattle.relation_laws.specs.declared.decided.SmallSort.TheVariants as sort
 use Rattle.relation_laws.specs.declared.decided.SmallParts.{SmallParts, End, Next'}
 use Rattle.relation_laws.specs.Decided.{Leads, plain_leaf, pair_of, outlives_by, leaf_of, head_of, sort_meant, all_declare, small_parts}
-use Rattle.relation_contexts.specs.Errors.{outer_leaf}
+use Rattle.relation_semantics.specs.Errors.{outer_leaf}
 use Rattle.type_relations.proofs.RegionTerms.{outer_related}
-use Rattle.relation_contexts.proofs.Related.{rigid_rule, neither, neither_of, no_region_head, forms_inverted}
-use Rattle.relation_contexts.proofs.Erased.{leaf_path}
+use Rattle.relation_semantics.proofs.Related.{rigid_rule, neither, neither_of, no_region_head, forms_inverted}
+use Rattle.relation_semantics.proofs.Erased.{leaf_path}
 
 pub iff_through : {A B C : Type 0} → A ↔ B → B ↔ C → A ↔ C
 iff_through p q = (λ a. q.0 (p.0 a), λ c. p.1 (q.1 c))

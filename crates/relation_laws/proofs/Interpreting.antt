@@ -7,11 +7,11 @@ use Rattle.term_enums.specs.declared.AliasRelationDirection.{AliasRelationDirect
 use Rattle.term_enums.specs.declared.AliasRelationDirection.TheVariants.{Equate, Subtype}
 use Rattle.relation_terms.specs.Heads.{Head}
 use Rattle.relation_terms.specs.Trees.{Tree, leaf, node, bind, nil, cons, count, nth, Leaves, Assign, apply}
-use Rattle.relation_contexts.specs.Relation.{Items, Interpretation, IsAlias, IsValueLeaf}
-use Rattle.relation_contexts.specs.Goals.{goal_of, alias_relate_predicate, Holds}
-use Rattle.relation_contexts.specs.AliasGoals.{alias_at}
-use Rattle.relation_contexts.specs.Asking.{Wanted, a_constraint, a_goal, HaveAlias, AsksFor, of_regions, of_aliases, of_unevaluated, of_parts}
-use Rattle.relation_contexts.proofs.Trees.{apply_ground}
+use Rattle.relation_semantics.specs.Relation.{Items, Interpretation, IsAlias, IsValueLeaf}
+use Rattle.relation_semantics.specs.Goals.{goal_of, alias_relate_predicate, Holds}
+use Rattle.relation_semantics.specs.AliasGoals.{alias_at}
+use Rattle.relation_semantics.specs.Asking.{Wanted, a_constraint, a_goal, HaveAlias, AsksFor, of_regions, of_aliases, of_unevaluated, of_parts}
+use Rattle.relation_semantics.proofs.Trees.{apply_ground}
 use Rattle.type_relations.specs.Completing.{AskedHolds}
 use Rattle.relation_laws.specs.AskingLaws.{SomeInterpretation}
 

@@ -10,12 +10,12 @@ use Rattle.relation_terms.specs.Trees.{Tree, leaf, node, bind, nil, cons, IsTerm
 use Rattle.relation_terms.specs.Trees.{tree_at}
 use Rattle.relation_tools.specs.Instances.{Instance, put, kept_node, kept_bind, kept_nil, kept_cons, IsNoVariable}
 use Rattle.relation_tools.proofs.Themselves.{stands_itself, terms_are_instances}
-use Rattle.relation_contexts.specs.Relation.{IsValue, IsValueLeaf, FitKinds}
-use Rattle.relation_contexts.specs.Binders.{variable_kind}
-use Rattle.relation_contexts.specs.Bound.{IsBoundAs, AreBoundAs}
-use Rattle.relation_contexts.proofs.Trees.{Leaves_map}
-use Rattle.relation_contexts.proofs.Standing.{term_through}
-use Rattle.relation_contexts.proofs.MakingEach.{variable_sort}
+use Rattle.relation_semantics.specs.Relation.{IsValue, IsValueLeaf, FitKinds}
+use Rattle.relation_semantics.specs.Binders.{variable_kind}
+use Rattle.relation_semantics.specs.Bound.{IsBoundAs, AreBoundAs}
+use Rattle.relation_semantics.proofs.Trees.{Leaves_map}
+use Rattle.relation_semantics.proofs.Standing.{term_through}
+use Rattle.relation_semantics.proofs.MakingEach.{variable_sort}
 use Rattle.relation_laws.specs.OpenedInstances.{OpenedIsInstance}
 
 pub no_variable : (l : Leaf) → IsValueLeaf l → IsNoVariable l

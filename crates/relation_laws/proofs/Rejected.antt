@@ -11,12 +11,12 @@ use Rattle.relation_tools.specs.Instances.{Instance, put, kept_leaf, kept_node, 
 use Rattle.relation_tools.specs.Instances.{IsNoVariable}
 use Rattle.relation_laws.proofs.OpenedInstances.{no_variable}
 use Rattle.relation_tools.proofs.Rejecting.{clashes_are_apart}
-use Rattle.relation_contexts.specs.Relation.{IsValueLeaf}
-use Rattle.relation_contexts.specs.Stores.{Store, MayStandFor, IsIntegerTerm, IsFloatTerm, IsAssignment, IsMadeLeaf}
-use Rattle.relation_contexts.specs.Stores.{InContext, IsTermIn}
-use Rattle.relation_contexts.specs.FirstOrder.{IsFirstOrder, IsFirstOrderHead, IsFirstOrderAtom}
+use Rattle.relation_semantics.specs.Relation.{IsValueLeaf}
+use Rattle.relation_semantics.specs.Stores.{Store, MayStandFor, IsIntegerTerm, IsFloatTerm, IsAssignment, IsMadeLeaf}
+use Rattle.relation_semantics.specs.Stores.{InContext, IsTermIn}
+use Rattle.relation_semantics.specs.FirstOrder.{IsFirstOrder, IsFirstOrderHead, IsFirstOrderAtom}
 use Rattle.relation_laws.specs.RejectionLaws.{ClashesDoNotUnify, ClashesAreNotRelated}
-use Rattle.relation_contexts.proofs.StoreCalls.{bindings_are_met}
+use Rattle.relation_semantics.proofs.StoreCalls.{bindings_are_met}
 
 values_no_variables : (t : Tree) → Leaves IsValueLeaf t → Leaves IsNoVariable t
 values_no_variables (leaf l) h = no_variable l h

@@ -3,12 +3,12 @@ use Rattle.std.proofs.Common.{◌≡◌, IsTrue, Option, ap, sym, subst}
 use Rattle.relation_terms.specs.Heads.{Head}
 use Rattle.relation_terms.specs.Trees.{Tree, known}
 use Rattle.relation_terms.specs.Meaning.{Meaning, Extends as Grows}
-use Rattle.relation_contexts.specs.Stores.{IsTermIn}
-use Rattle.relation_contexts.specs.Bound.{BindByLists}
-use Rattle.relation_contexts.specs.Contexts.{Context}
+use Rattle.relation_semantics.specs.Stores.{IsTermIn}
+use Rattle.relation_semantics.specs.Bound.{BindByLists}
+use Rattle.relation_semantics.specs.Contexts.{Context}
 use Rattle.type_relations.specs.Arguments.{related_tree}
 use Rattle.type_relations.proofs.Relatable.{tree_known}
-use Rattle.relation_contexts.proofs.Standing.{later_term}
+use Rattle.relation_semantics.proofs.Standing.{later_term}
 use Rattle.relation_laws.specs.SolutionLaws.{TermStays}
 
 pub term_stays : {S Key Id Name A : Type 0} (state : S → Context Key Id Name) (over : Option Head)

@@ -4,12 +4,12 @@ use Rattle.term_enums.specs.declared.Variance.{Variance}
 use Rattle.term_enums.specs.declared.Variance.TheVariants.{Bivariant}
 use Rattle.relation_terms.specs.Heads.{Head, region_sort}
 use Rattle.relation_terms.specs.Trees.{Tree, node, count, nth, Leaves}
-use Rattle.relation_contexts.specs.Relation.{Items, Interpretation, part_at, plain, IsRelatedHead, IsValueLeaf, sort_of}
-use Rattle.relation_contexts.specs.Stores.{Constraint}
-use Rattle.relation_contexts.specs.Steps.{HasNoBinder}
-use Rattle.relation_contexts.specs.Asking.{Wanted, a_constraint, a_goal, IsOfItself, IsTrivial, region_at, HaveAlias}
-use Rattle.relation_contexts.specs.Asking.{AsksFor, PartsAsk, HasNoAlias}
-use Rattle.relation_contexts.specs.Recording.{RememberedTerms, Record, RecordsJustAsked, FrontRecords}
+use Rattle.relation_semantics.specs.Relation.{Items, Interpretation, part_at, plain, IsRelatedHead, IsValueLeaf, sort_of}
+use Rattle.relation_semantics.specs.Stores.{Constraint}
+use Rattle.relation_semantics.specs.Steps.{HasNoBinder}
+use Rattle.relation_semantics.specs.Asking.{Wanted, a_constraint, a_goal, IsOfItself, IsTrivial, region_at, HaveAlias}
+use Rattle.relation_semantics.specs.Asking.{AsksFor, PartsAsk, HasNoAlias}
+use Rattle.relation_semantics.specs.Recording.{RememberedTerms, Record, RecordsJustAsked, FrontRecords}
 use Rattle.type_relations.specs.Completing.{AskedHolds}
 
 -- Nothing is asked for at bivariance.

@@ -11,7 +11,7 @@ use Rattle.relation_terms.specs.Heads.{coroutine, coroutine_witness, array, slic
 use Rattle.relation_terms.specs.Heads.{value, value_type, value_branch, expression, range_pattern, or_pattern, Leaf}
 use Rattle.relation_terms.specs.Heads.{placeholder, atom}
 use Rattle.relation_terms.specs.Trees.{Tree, leaf, node, nil, cons}
-use Rattle.relation_contexts.specs.Relation.{Items, Interpretation, Rel, at, plain_atom}
+use Rattle.relation_semantics.specs.Relation.{Items, Interpretation, Rel, at, plain_atom}
 use Rattle.relation_laws.specs.declared.decided.SmallLeaf.{SmallLeaf}
 use Rattle.relation_laws.specs.declared.decided.SmallLeaf.TheVariants as small
 use Rattle.relation_laws.specs.declared.decided.SmallHead.{SmallHead}

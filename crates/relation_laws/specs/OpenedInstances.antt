@@ -3,8 +3,8 @@ use Rattle.std.specs.Prelude.{◌≡◌, ℕ, Bool, true, List}
 use Rattle.relation_terms.specs.Heads.{BoundKind, Shape, bound}
 use Rattle.relation_terms.specs.Trees.{Tree, leaf, inst, Fits, Leaves}
 use Rattle.relation_tools.specs.Instances.{Instance, IsNoVariable}
-use Rattle.relation_contexts.specs.Relation.{FitKinds}
-use Rattle.relation_contexts.specs.Bound.{AreBoundAs}
+use Rattle.relation_semantics.specs.Relation.{FitKinds}
+use Rattle.relation_semantics.specs.Bound.{AreBoundAs}
 
 -- A term without inference variables has, as an instance, itself with values of the kinds put for what a binder around
 -- it binds, where bound variables are places.

@@ -3,10 +3,10 @@ use Rattle.std.specs.Prelude.{ℕ, false}
 use Rattle.relation_terms.specs.Trees.{Tree, Assign}
 use Rattle.relation_folds.specs.Clashes.{Clash}
 use Rattle.relation_tools.specs.Instances.{AgreeOnNames}
-use Rattle.relation_contexts.specs.Stores.{Store, IsTermIn, IsAssignment, IsSound}
-use Rattle.relation_contexts.specs.FirstOrder.{IsFirstOrder, Unifies}
-use Rattle.relation_contexts.specs.Outcomes.{Exact}
-use Rattle.relation_contexts.specs.Headline.{IsFirstOrderPair}
+use Rattle.relation_semantics.specs.Stores.{Store, IsTermIn, IsAssignment, IsSound}
+use Rattle.relation_semantics.specs.FirstOrder.{IsFirstOrder, Unifies}
+use Rattle.relation_semantics.specs.Outcomes.{Exact}
+use Rattle.relation_semantics.specs.Headline.{IsFirstOrderPair}
 
 -- No assignment unifies first-order terms that clash, parameters standing for themselves.
 abbrev pub ClashesDoNotUnify : Type 0

@@ -3,12 +3,12 @@ use Rattle.std.specs.Prelude.{◌≡◌, ℕ, Option, None}
 use Rattle.relation_terms.specs.Heads.{VarKind, Head}
 use Rattle.relation_terms.specs.Trees.{Tree, Assign, apply, Leaves}
 use Rattle.relation_terms.specs.Meaning.{Meaning, Extends as Grows}
-use Rattle.relation_contexts.specs.Relation.{IsValueLeaf, StaysWithin}
-use Rattle.relation_contexts.specs.Stores.{Store, IsMade, bound_term, universe_of, MayStandFor, IsNamable, IsAssignment}
-use Rattle.relation_contexts.specs.Stores.{MeetsBindings, IsSound, resolved}
-use Rattle.relation_contexts.specs.Steps.{IsLater, MakesVariable, Extends}
-use Rattle.relation_contexts.specs.FirstOrder.{IsErasedSolution}
-use Rattle.relation_contexts.specs.Contexts.{Context}
+use Rattle.relation_semantics.specs.Relation.{IsValueLeaf, StaysWithin}
+use Rattle.relation_semantics.specs.Stores.{Store, IsMade, bound_term, universe_of, MayStandFor, IsNamable, IsAssignment}
+use Rattle.relation_semantics.specs.Stores.{MeetsBindings, IsSound, resolved}
+use Rattle.relation_semantics.specs.Steps.{IsLater, MakesVariable, Extends}
+use Rattle.relation_semantics.specs.FirstOrder.{IsErasedSolution}
+use Rattle.relation_semantics.specs.Contexts.{Context}
 use Rattle.type_relations.specs.Relating.{term_in, KnowsTerm, TakesTerm, HasTerm}
 
 -- A value for each variable, which names what the variable's universe can.

@@ -3,7 +3,7 @@ ghost use Rattle.std.specs.Prelude.{◌≡◌, ◌≢◌, ◌↔◌, ◌⊎◌, 
 ghost use Rattle.relation_terms.specs.Heads.{leaf_sort, head_sort};
 ghost use Rattle.relation_terms.specs.Trees.{Tree, leaf};
 ghost use Rattle.term_enums.specs.Variances.{xform};
-ghost use Rattle.relation_contexts.specs.Relation.{Items, Interpretation, RegionRule, Rel, at, parts, part_at, IsError};
+ghost use Rattle.relation_semantics.specs.Relation.{Items, Interpretation, RegionRule, Rel, at, parts, part_at, IsError};
 ghost use Rattle.relation_laws.specs.Decided.{leaf_of, head_of, small_parts, all_declare, pair_of};
 ghost use Rattle.relation_laws.specs.Decided.{sort_meant, plain_leaf, Leads, Obeys, Decides};
 

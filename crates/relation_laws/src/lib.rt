@@ -2,4 +2,6 @@
 #![tactic(auto)]
 
 pub mod decided;
+#[cfg(test)]
+mod decided_tests;
 pub mod laws;

@@ -7,10 +7,10 @@ use Rattle.relation_terms.specs.Meaning.{Meaning}
 use Rattle.relation_terms.specs.declared.terms.keys.TyKey.{TyKey}
 use Rattle.relation_terms.specs.declared.terms.keys.ConstKey.{ConstKey}
 use Rattle.relation_terms.specs.declared.terms.keys.RegionKey.{RegionKey}
-use Rattle.relation_contexts.specs.Stores.{IsSound, universe_of}
+use Rattle.relation_semantics.specs.Stores.{IsSound, universe_of}
 use Rattle.relation_reference.specs.declared.context.inner.Variable.{Variable}
 use Rattle.relation_reference.specs.declared.context.inner.InferCtxtInner.{InferCtxtInner}
-use Rattle.relation_contexts.specs.Steps.{IsNumberKind}
+use Rattle.relation_semantics.specs.Steps.{IsNumberKind}
 use Rattle.relation_reference.specs.SubRoots.{root_in, IsRootTable}
 use Rattle.relation_reference.specs.Tables.{store_of, keys_in, IsRooted, IsFilled, IsLawful}
 

@@ -13,16 +13,16 @@ use Rattle.relation_terms.proofs.Stays.{stays_arg}
 use Rattle.relation_terms.proofs.Members.{known_with_last}
 use Rattle.relation_folds.specs.Shifts.{opened, knows_all}
 use Rattle.relation_folds.specs.Visits.{bound_var_escapes}
-use Rattle.relation_contexts.specs.Relation.{AvoidsAll}
-use Rattle.relation_contexts.specs.Steps.{ChangesNothing, ArePlaceholders, MakesVariable}
-use Rattle.relation_contexts.specs.Stores.{Store}
-use Rattle.relation_contexts.specs.Contexts.{Context}
-use Rattle.relation_contexts.specs.ContextCalls.{KeepsRest}
-use Rattle.relation_contexts.specs.Generalising.{MakesUnbound}
-use Rattle.relation_contexts.specs.Bound.{BindsByList}
-use Rattle.relation_contexts.specs.Binders.{kinds_in, variable_kind, MakesEach, makes_none, makes_next}
-use Rattle.relation_contexts.specs.Binders.{EntersAs, InstantiatesAs, EntersBinder, InstantiatesWithInfer}
-use Rattle.relation_contexts.proofs.Opened.{opened_inst, placeholders_stand, variables_stand, none_escapes, some_escapes}
+use Rattle.relation_semantics.specs.Relation.{AvoidsAll}
+use Rattle.relation_semantics.specs.Steps.{ChangesNothing, ArePlaceholders, MakesVariable}
+use Rattle.relation_semantics.specs.Stores.{Store}
+use Rattle.relation_semantics.specs.Contexts.{Context}
+use Rattle.relation_semantics.specs.ContextCalls.{KeepsRest}
+use Rattle.relation_semantics.specs.Generalising.{MakesUnbound}
+use Rattle.relation_semantics.specs.Bound.{BindsByList}
+use Rattle.relation_semantics.specs.Binders.{kinds_in, variable_kind, MakesEach, makes_none, makes_next}
+use Rattle.relation_semantics.specs.Binders.{EntersAs, InstantiatesAs, EntersBinder, InstantiatesWithInfer}
+use Rattle.relation_semantics.proofs.Opened.{opened_inst, placeholders_stand, variables_stand, none_escapes, some_escapes}
 use Rattle.relation_reference.specs.Opened.{placeholders_from, MakesOne}
 
 -- One more place of a list.

@@ -4,13 +4,13 @@ use Rattle.relation_terms.specs.Heads.{BoundKind, VarKind}
 use Rattle.relation_terms.specs.Heads.{variable, bound, placeholder, atom, unknown}
 use Rattle.relation_terms.specs.Trees.{Tree, leaf, node, bind, nil, cons, Assign, apply}
 use Rattle.relation_terms.specs.Meaning.{Meaning}
-use Rattle.relation_contexts.specs.Stores.{Store, Entry, unbound, same_as, bound_to, entry_of, entry_term, bound_term}
-use Rattle.relation_contexts.specs.Stores.{IsSound, resolve, rounds_for, all_taken, resolved}
-use Rattle.relation_contexts.specs.Relation.{StaysWithin}
-use Rattle.relation_contexts.specs.Bound.{AreBoundAs, BindByLists}
-use Rattle.relation_contexts.specs.ContextCalls.{BindingsBindByLists}
-use Rattle.relation_contexts.proofs.StoreCalls.{resolve_within}
-use Rattle.relation_contexts.proofs.Resolved.{resolve_free, resolve_bound, HasTerm, is_free, is_bound, has_term}
+use Rattle.relation_semantics.specs.Stores.{Store, Entry, unbound, same_as, bound_to, entry_of, entry_term, bound_term}
+use Rattle.relation_semantics.specs.Stores.{IsSound, resolve, rounds_for, all_taken, resolved}
+use Rattle.relation_semantics.specs.Relation.{StaysWithin}
+use Rattle.relation_semantics.specs.Bound.{AreBoundAs, BindByLists}
+use Rattle.relation_semantics.specs.ContextCalls.{BindingsBindByLists}
+use Rattle.relation_semantics.proofs.StoreCalls.{resolve_within}
+use Rattle.relation_semantics.proofs.Resolved.{resolve_free, resolve_bound, HasTerm, is_free, is_bound, has_term}
 use Rattle.relation_reference.specs.declared.context.inner.InferCtxtInner.{InferCtxtInner}
 use Rattle.relation_reference.specs.Tables.{store_of, IsLawful, bindings_by_lists}
 

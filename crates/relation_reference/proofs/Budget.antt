@@ -3,10 +3,10 @@ use Rattle.std.proofs.Common.{◌≡◌, ℕ, refl, subst, le_refl}
 use Rattle.relation_terms.specs.Heads.{VarKind, Leaf, variable, bound, placeholder, atom, unknown}
 use Rattle.relation_terms.specs.Trees.{Leaves}
 use Rattle.relation_terms.specs.Meaning.{Meaning}
-use Rattle.relation_contexts.specs.Stores.{Store, IsFree, IsInScope, IsSound, resolved, universe_of}
-use Rattle.relation_contexts.proofs.Trees.{Leaves_map}
-use Rattle.relation_contexts.proofs.Resolved.{resolved_same}
-use Rattle.relation_contexts.proofs.Standing.{later_term, later_constraint}
+use Rattle.relation_semantics.specs.Stores.{Store, IsFree, IsInScope, IsSound, resolved, universe_of}
+use Rattle.relation_semantics.proofs.Trees.{Leaves_map}
+use Rattle.relation_semantics.proofs.Resolved.{resolved_same}
+use Rattle.relation_semantics.proofs.Standing.{later_term, later_constraint}
 use Rattle.relation_reference.specs.declared.context.inner.InferCtxtInner.{InferCtxtInner}
 use Rattle.relation_reference.specs.Tables.{store_of, IsLawful}
 

@@ -3,12 +3,12 @@ use Rattle.std.proofs.Common.{◌≡◌, ℕ, sym, ap, ◌∙◌, subst, max, mi
 use Rattle.relation_terms.specs.Heads.{VarKind, variable}
 use Rattle.relation_terms.specs.Trees.{Tree, leaf, known}
 use Rattle.relation_terms.specs.Meaning.{Meaning}
-use Rattle.relation_contexts.specs.Contexts.{Context}
-use Rattle.relation_contexts.specs.ContextCalls.{Reads, MakesNext, EquatesTwo, BindsNumber, Constrains, Stands, KeepsSetup, KeepsOutliving}
-use Rattle.relation_contexts.specs.Errors.{IsReadAs}
-use Rattle.relation_contexts.specs.Steps.{Equates, InstantiatesNumber, MakesVariable, AddsConstraint}
-use Rattle.relation_contexts.specs.Stores.{Constraint}
-use Rattle.relation_contexts.proofs.ReadAs.{read_resolves}
+use Rattle.relation_semantics.specs.Contexts.{Context}
+use Rattle.relation_semantics.specs.ContextCalls.{Reads, MakesNext, EquatesTwo, BindsNumber, Constrains, Stands, KeepsSetup, KeepsOutliving}
+use Rattle.relation_semantics.specs.Errors.{IsReadAs}
+use Rattle.relation_semantics.specs.Steps.{Equates, InstantiatesNumber, MakesVariable, AddsConstraint}
+use Rattle.relation_semantics.specs.Stores.{Constraint}
+use Rattle.relation_semantics.proofs.ReadAs.{read_resolves}
 use Rattle.relation_reference.specs.declared.context.variables.RefCtxt.{RefCtxt}
 use Rattle.relation_reference.specs.Tables.{store_of, context_of, IsLawful}
 use Rattle.relation_reference.specs.RefCtxt.{store_in, context_in}

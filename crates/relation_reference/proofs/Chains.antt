@@ -2,9 +2,9 @@
 use Rattle.std.proofs.Common.{◌≡◌, ◌≢◌, ◌<◌, ◌≤◌, ℕ, zero, suc, refl, sym, ap, ◌∙◌, arith, subst, Option, None, Some}
 use Rattle.relation_terms.specs.Heads.{VarKind, variable, bound, placeholder, atom, unknown}
 use Rattle.relation_terms.specs.Trees.{Tree, leaf, node, bind, nil, cons, Leaves, apply}
-use Rattle.relation_contexts.specs.Stores.{Store, IsSound, IsFree, unbound, entry_of, entry_term, bound_term, resolve, resolved, rounds_for, all_taken}
-use Rattle.relation_contexts.specs.Steps.{LeadsTo, here, next}
-use Rattle.relation_contexts.proofs.Resolved.{resolve_start, resolve_bound, HasTerm, is_free, is_bound, has_term}
+use Rattle.relation_semantics.specs.Stores.{Store, IsSound, IsFree, unbound, entry_of, entry_term, bound_term, resolve, resolved, rounds_for, all_taken}
+use Rattle.relation_semantics.specs.Steps.{LeadsTo, here, next}
+use Rattle.relation_semantics.proofs.Resolved.{resolve_start, resolve_bound, HasTerm, is_free, is_bound, has_term}
 use Rattle.relation_reference.specs.Answers.{Found, found_root, found_term}
 
 -- One more than what is counted of the variable that is the term, if it is one.

@@ -16,11 +16,11 @@ use Rattle.relation_terms.specs.Interning.{AreEqualAsTrees}
 use Rattle.relation_terms.specs.Meaning.{Meaning, Extends, kind_tree, infer_tree}
 use Rattle.relation_terms.specs.Parts.{tree_sort, parts_of}
 use Rattle.relation_terms.proofs.Stays.{knows_as}
-use Rattle.relation_contexts.specs.declared.relate.StructurallyRelateAliases.{StructurallyRelateAliases}
-use Rattle.relation_contexts.specs.declared.relate.StructurallyRelateAliases.TheVariants.{Yes, No}
-use Rattle.relation_contexts.specs.Stores.{Store}
-use Rattle.relation_contexts.specs.Generalising.{Stays, gives_way_to, Side, inside, outside, cycle, beyond, IsNoObstacle, IsSeen, StopsAt, at_itself, at_placeholder}
-use Rattle.relation_contexts.proofs.Lists.{firsts, firsts_all}
+use Rattle.relation_semantics.specs.declared.relate.StructurallyRelateAliases.{StructurallyRelateAliases}
+use Rattle.relation_semantics.specs.declared.relate.StructurallyRelateAliases.TheVariants.{Yes, No}
+use Rattle.relation_semantics.specs.Stores.{Store}
+use Rattle.relation_semantics.specs.Generalising.{Stays, gives_way_to, Side, inside, outside, cycle, beyond, IsNoObstacle, IsSeen, StopsAt, at_itself, at_placeholder}
+use Rattle.relation_semantics.proofs.Lists.{firsts, firsts_all}
 use Rattle.relation_reference.specs.Generalises.{IsClearFor, HasObstacle, TellsClear, IsLeftAlias, IsSeenTree, MayGoInto, AliasGivesWay, TellsGivesWay, WasClear, AreClear, IsClearInside, parts_side}
 use Rattle.relation_reference.proofs.Generalising.{clear_all, clear_gives, stops_whole}
 

@@ -2,7 +2,7 @@
 use Rattle.std.proofs.Common.{◌≡◌, sym, ap, ◌∙◌, subst, IsTrue, Result, Ok, Err, IfOk}
 use Rattle.relation_terms.specs.Trees.{Tree, known}
 use Rattle.relation_terms.specs.Meaning.{Meaning, Extends}
-use Rattle.relation_contexts.specs.ContextCalls.{Grows, ComesTo, KeepsMarks}
+use Rattle.relation_semantics.specs.ContextCalls.{Grows, ComesTo, KeepsMarks}
 use Rattle.relation_reference.specs.declared.context.variables.RefCtxt.{RefCtxt}
 use Rattle.relation_reference.specs.SubRoots.{root_in}
 use Rattle.relation_reference.specs.Tables.{setup_in, store_of, IsLawful}

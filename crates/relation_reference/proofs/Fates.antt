@@ -8,15 +8,15 @@ use Rattle.relation_terms.specs.declared.terms.keys.RegionKey.{RegionKey}
 use Rattle.relation_terms.specs.Heads.{region_kind, type_kind, const_kind, region_sort, BoundKind, bound_kind, bound_sort, VarKind, type_var, int_var, float_var, const_var, region_var, static_region, early_region, Leaf, leaf_sort, var_sort, variable, bound, placeholder, atom, unknown}
 use Rattle.relation_terms.specs.Trees.{Tree, leaf, known}
 use Rattle.relation_terms.specs.Parts.{part_sort, tree_sort}
-use Rattle.relation_contexts.specs.Stores.{Store}
-use Rattle.relation_contexts.specs.Generalising.{Stays}
-use Rattle.relation_contexts.specs.Steps.{MakesVariable}
+use Rattle.relation_semantics.specs.Stores.{Store}
+use Rattle.relation_semantics.specs.Generalising.{Stays}
+use Rattle.relation_semantics.specs.Steps.{MakesVariable}
 use Rattle.relation_reference.specs.declared.context.generalising.Fate.TheVariants.{ByParts}
 use Rattle.relation_reference.specs.declared.context.memory.TermVid.{TermVid}
 use Rattle.relation_reference.specs.declared.context.memory.TermVid.TheVariants.{Ty as TyTerm, Const as ConstTerm}
 use Rattle.relation_reference.specs.Remembering.{vid_kind, vid_number}
 use Rattle.relation_reference.specs.Generalises.{new_kind, IsFate}
-use Rattle.relation_contexts.proofs.Generalising.{some_path}
+use Rattle.relation_semantics.proofs.Generalising.{some_path}
 
 -- All that is left stays.
 pub left_stays : (st : Store) (k : VarKind) (n u : ℕ) (v : Variance) (t : Tree) → IsTrue (known t) → (tree_sort t ≡ region_sort → ⊥) →

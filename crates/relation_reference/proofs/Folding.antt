@@ -19,9 +19,9 @@ use Rattle.relation_terms.specs.declared.terms.numbers.IntVid.{IntVid}
 use Rattle.relation_terms.specs.declared.terms.numbers.FloatVid.{FloatVid}
 use Rattle.relation_terms.specs.declared.terms.numbers.ConstVid.{ConstVid}
 use Rattle.relation_folds.specs.Folds.{asks, folded}
-use Rattle.relation_contexts.specs.Stores.{Store, IsMade, InContext, entry_of, entry_term, unbound}
+use Rattle.relation_semantics.specs.Stores.{Store, IsMade, InContext, entry_of, entry_term, unbound}
 use Rattle.relation_folds.proofs.Folding.{put_none}
-use Rattle.relation_contexts.proofs.Resolved.{resolved_free}
+use Rattle.relation_semantics.proofs.Resolved.{resolved_free}
 use Rattle.relation_reference.specs.declared.context.inner.InferCtxtInner.{InferCtxtInner}
 use Rattle.relation_reference.specs.declared.context.inner.Variable.{Variable}
 use Rattle.relation_reference.specs.Variables.{entries_of}

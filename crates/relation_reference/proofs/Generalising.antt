@@ -16,20 +16,20 @@ use Rattle.relation_folds.specs.declared.error.TypeError.{TypeError}
 use Rattle.relation_folds.specs.declared.error.TypeError.TheVariants.{Mismatch}
 use Rattle.relation_folds.specs.declared.error.RelateFault.{RelateFault}
 use Rattle.relation_folds.specs.declared.error.RelateFault.TheVariants.{Memory, Budget, Unrelated}
-use Rattle.relation_contexts.specs.declared.relate.StructurallyRelateAliases.{StructurallyRelateAliases}
-use Rattle.relation_contexts.specs.declared.relate.StructurallyRelateAliases.TheVariants.{Yes, No}
-use Rattle.relation_contexts.specs.Relation.{Items, sort_of, StaysWithin}
-use Rattle.relation_contexts.specs.Lawful.{declared_by, items_of}
-use Rattle.relation_contexts.specs.Bound.{AreBoundAs, BindByLists}
-use Rattle.relation_contexts.specs.Stores.{Store, universe_of, IsMade, IsMadeLeaf, InContext, IsSound}
-use Rattle.relation_contexts.specs.Steps.{MakesVariable}
-use Rattle.relation_contexts.specs.Generalising.{Stays, gives_way_to, Side, outside, inside, side_in, Met, Stage, Turn, any_part, new_part, variance_of_part, Generalised, met_before, met_first, no_type, stays, gives_way, alias_gives_way, by_parts, in_binder, no_parts, next_part, MakesUnbound, makes_none, makes_one, Obstacle, cycle, beyond, IsNoObstacle, IsSeen, IsClear, StopsAt, at_itself, at_placeholder, in_parts, in_body, in_first, in_others}
-use Rattle.relation_contexts.proofs.Trees.{Leaves_map}
-use Rattle.relation_contexts.proofs.NewVariables.{Adds, adds, makes_then}
-use Rattle.relation_contexts.proofs.Generalising.{gives_no_number}
-use Rattle.relation_contexts.proofs.GeneralisingOnce.{still_new, stops_no_clear}
-use Rattle.relation_contexts.proofs.GeneralisingParts.{PartsDone, none_done, one_done, form_done, body_done}
-use Rattle.relation_contexts.proofs.Lists.{firsts, firsts_all, snoc}
+use Rattle.relation_semantics.specs.declared.relate.StructurallyRelateAliases.{StructurallyRelateAliases}
+use Rattle.relation_semantics.specs.declared.relate.StructurallyRelateAliases.TheVariants.{Yes, No}
+use Rattle.relation_semantics.specs.Relation.{Items, sort_of, StaysWithin}
+use Rattle.relation_semantics.specs.Lawful.{declared_by, items_of}
+use Rattle.relation_semantics.specs.Bound.{AreBoundAs, BindByLists}
+use Rattle.relation_semantics.specs.Stores.{Store, universe_of, IsMade, IsMadeLeaf, InContext, IsSound}
+use Rattle.relation_semantics.specs.Steps.{MakesVariable}
+use Rattle.relation_semantics.specs.Generalising.{Stays, gives_way_to, Side, outside, inside, side_in, Met, Stage, Turn, any_part, new_part, variance_of_part, Generalised, met_before, met_first, no_type, stays, gives_way, alias_gives_way, by_parts, in_binder, no_parts, next_part, MakesUnbound, makes_none, makes_one, Obstacle, cycle, beyond, IsNoObstacle, IsSeen, IsClear, StopsAt, at_itself, at_placeholder, in_parts, in_body, in_first, in_others}
+use Rattle.relation_semantics.proofs.Trees.{Leaves_map}
+use Rattle.relation_semantics.proofs.NewVariables.{Adds, adds, makes_then}
+use Rattle.relation_semantics.proofs.Generalising.{gives_no_number}
+use Rattle.relation_semantics.proofs.GeneralisingOnce.{still_new, stops_no_clear}
+use Rattle.relation_semantics.proofs.GeneralisingParts.{PartsDone, none_done, one_done, form_done, body_done}
+use Rattle.relation_semantics.proofs.Lists.{firsts, firsts_all, snoc}
 use Rattle.relation_reference.specs.declared.context.generalising.MetKey.{MetKey}
 use Rattle.relation_reference.specs.declared.context.generalising.Fate.TheVariants.{ByParts}
 use Rattle.relation_reference.specs.declared.context.variables.RefCtxt.{RefCtxt}

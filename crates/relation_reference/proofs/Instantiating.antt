@@ -12,20 +12,20 @@ use Rattle.relation_folds.specs.declared.error.TypeError.{TypeError}
 use Rattle.relation_folds.specs.declared.error.RelateFault.{RelateFault}
 use Rattle.relation_folds.specs.declared.error.RelateFault.TheVariants.{Memory, Budget, Unrelated}
 use Rattle.relation_folds.specs.Faults.{KnowsError}
-use Rattle.relation_contexts.specs.Relation.{Items, StaysWithin}
-use Rattle.relation_contexts.specs.Lawful.{items_of}
-use Rattle.relation_contexts.specs.Bound.{BindByLists}
-use Rattle.relation_contexts.specs.ErasureLaws.{IsTypeOrConst}
-use Rattle.relation_contexts.specs.Stores.{Store, unbound, bound_to, entry_of, universe_of, IsMade, MayStandFor, InContext, IsTermIn, resolved}
-use Rattle.relation_contexts.specs.Steps.{BindsTo}
-use Rattle.relation_contexts.specs.declared.relate.StructurallyRelateAliases.{StructurallyRelateAliases}
-use Rattle.relation_contexts.specs.Generalising.{gives_way_to, Side, outside, Stage, Turn, any_part, new_part, Generalised, met_before, met_first, no_type, stays, gives_way, alias_gives_way, by_parts, in_binder, variance_for, InstantiatesBy, MakesUnbound, makes_none, Obstacle, cycle, beyond, StopsAt}
-use Rattle.relation_contexts.specs.ContextCalls.{Instantiated, ObstacleError}
-use Rattle.relation_contexts.proofs.NewVariables.{Adds, adds}
-use Rattle.relation_contexts.proofs.Standing.{term_context, term_within}
-use Rattle.relation_contexts.proofs.StoreCalls.{resolved_in}
-use Rattle.relation_contexts.proofs.Variables.{const_is_formed}
-use Rattle.relation_contexts.proofs.BindingGeneralised.{generalising_instantiates}
+use Rattle.relation_semantics.specs.Relation.{Items, StaysWithin}
+use Rattle.relation_semantics.specs.Lawful.{items_of}
+use Rattle.relation_semantics.specs.Bound.{BindByLists}
+use Rattle.relation_semantics.specs.ErasureLaws.{IsTypeOrConst}
+use Rattle.relation_semantics.specs.Stores.{Store, unbound, bound_to, entry_of, universe_of, IsMade, MayStandFor, InContext, IsTermIn, resolved}
+use Rattle.relation_semantics.specs.Steps.{BindsTo}
+use Rattle.relation_semantics.specs.declared.relate.StructurallyRelateAliases.{StructurallyRelateAliases}
+use Rattle.relation_semantics.specs.Generalising.{gives_way_to, Side, outside, Stage, Turn, any_part, new_part, Generalised, met_before, met_first, no_type, stays, gives_way, alias_gives_way, by_parts, in_binder, variance_for, InstantiatesBy, MakesUnbound, makes_none, Obstacle, cycle, beyond, StopsAt}
+use Rattle.relation_semantics.specs.ContextCalls.{Instantiated, ObstacleError}
+use Rattle.relation_semantics.proofs.NewVariables.{Adds, adds}
+use Rattle.relation_semantics.proofs.Standing.{term_context, term_within}
+use Rattle.relation_semantics.proofs.StoreCalls.{resolved_in}
+use Rattle.relation_semantics.proofs.Variables.{const_is_formed}
+use Rattle.relation_semantics.proofs.BindingGeneralised.{generalising_instantiates}
 use Rattle.relation_reference.specs.declared.context.inner.InferCtxtInner.{InferCtxtInner}
 use Rattle.relation_reference.specs.declared.context.inner.Variable.{Variable}
 use Rattle.relation_reference.specs.Variables.{universe_at}

@@ -9,11 +9,11 @@ use Rattle.relation_terms.specs.Trees.{Tree, leaf, nil}
 use Rattle.relation_terms.specs.Meaning.{Meaning, Extends}
 use Rattle.relation_terms.specs.declared.predicate.regions.RegionConstraint.{RegionConstraint}
 use Rattle.relation_terms.specs.declared.terms.numbers.UniverseIndex.{UniverseIndex}
-use Rattle.relation_contexts.specs.Stores.{Store, unbound, entry_of, IsSound, Constraint, ConstraintIn}
-use Rattle.relation_contexts.specs.Steps.{IsNumberKind, MakesVariable, AddsConstraint, IsLater}
-use Rattle.relation_contexts.specs.Measures.{Goes}
-use Rattle.relation_contexts.proofs.Growing.{same_entries, made_sound, made_is_later, constraint_sound, constraint_is_later, constraint_bound, constraint_weight}
-use Rattle.relation_contexts.proofs.Going.{later_itself, goes_nowhere}
+use Rattle.relation_semantics.specs.Stores.{Store, unbound, entry_of, IsSound, Constraint, ConstraintIn}
+use Rattle.relation_semantics.specs.Steps.{IsNumberKind, MakesVariable, AddsConstraint, IsLater}
+use Rattle.relation_semantics.specs.Measures.{Goes}
+use Rattle.relation_semantics.proofs.Growing.{same_entries, made_sound, made_is_later, constraint_sound, constraint_is_later, constraint_bound, constraint_weight}
+use Rattle.relation_semantics.proofs.Going.{later_itself, goes_nowhere}
 use Rattle.relation_terms.specs.declared.terms.keys.TyKey.{TyKey}
 use Rattle.relation_terms.specs.declared.terms.keys.ConstKey.{ConstKey}
 use Rattle.relation_terms.specs.declared.terms.keys.RegionKey.{RegionKey}
@@ -22,8 +22,8 @@ use Rattle.relation_reference.specs.declared.context.inner.Variable.{Variable}
 use Rattle.relation_reference.specs.declared.context.inner.InferCtxtInner.{InferCtxtInner}
 use Rattle.relation_reference.specs.Variables.{keys_of, values_of, universes_of, entry_of_value, entries_of, trees_of}
 use Rattle.relation_reference.specs.Tables.{by_kind, store_of, keys_in, IsRooted, IsFilled, IsLawful}
-use Rattle.relation_contexts.specs.Generalising.{NumbersNameNothing}
-use Rattle.relation_contexts.specs.Constraints.{constraint_of}
+use Rattle.relation_semantics.specs.Generalising.{NumbersNameNothing}
+use Rattle.relation_semantics.specs.Constraints.{constraint_of}
 use Rattle.relation_reference.proofs.Grows.{store_grows, lawful_grows}
 use Rattle.relation_reference.proofs.SubRoots.{roots_same}
 use Rattle.relation_reference.proofs.Beside.{Beside, types_beside, ints_beside, floats_beside, consts_beside, regions_beside, lawful_beside, keyed_still}

@@ -5,10 +5,10 @@ use native.Mathlib.Decide.{ℕ_discrete}
 use Rattle.std.specs.Global.{Vec}
 use Rattle.relation_terms.specs.Heads.{VarKind, type_var, Leaf, variable, bound, placeholder, atom, unknown, region_kind, type_kind, const_kind, bound_kind, int_var, float_var, const_var, region_var, static_region, early_region}
 use Rattle.relation_terms.specs.Meaning.{Meaning, Extends}
-use Rattle.relation_contexts.specs.ContextCalls.{JoinsRoots, KeepsRest, MarksNew}
-use Rattle.relation_contexts.specs.Stores.{Store, Entry, IsMade, unbound}
-use Rattle.relation_contexts.specs.Steps.{MakesVariable}
-use Rattle.relation_contexts.specs.Generalising.{gives_way_to}
+use Rattle.relation_semantics.specs.ContextCalls.{JoinsRoots, KeepsRest, MarksNew}
+use Rattle.relation_semantics.specs.Stores.{Store, Entry, IsMade, unbound}
+use Rattle.relation_semantics.specs.Steps.{MakesVariable}
+use Rattle.relation_semantics.specs.Generalising.{gives_way_to}
 use Rattle.relation_reference.specs.declared.context.variables.RefCtxt.{RefCtxt}
 use Rattle.relation_reference.specs.declared.context.inner.Variable.{Variable}
 use Rattle.relation_reference.specs.Variables.{keys_of}

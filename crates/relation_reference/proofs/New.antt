@@ -2,9 +2,9 @@
 use Rattle.std.proofs.Common.{◌≡◌, refl, sym, ap, arith, subst, [], length, map, get_or, le_refl}
 use Rattle.relation_terms.specs.Heads.{VarKind, type_var, int_var, float_var, const_var, region_var}
 use Rattle.relation_terms.specs.Meaning.{Meaning}
-use Rattle.relation_contexts.specs.Stores.{unbound}
-use Rattle.relation_contexts.specs.Constraints.{constraint_of}
-use Rattle.relation_contexts.proofs.Empty.{empty_sound}
+use Rattle.relation_semantics.specs.Stores.{unbound}
+use Rattle.relation_semantics.specs.Constraints.{constraint_of}
+use Rattle.relation_semantics.proofs.Empty.{empty_sound}
 use Rattle.relation_reference.specs.declared.context.inner.InferCtxtInner.{InferCtxtInner}
 use Rattle.relation_reference.specs.Variables.{entries_of, universes_of, trees_of}
 use Rattle.relation_reference.specs.Numbers.{number_trees}

@@ -10,14 +10,14 @@ use Rattle.relation_terms.specs.declared.terms.ty_kind.IntVarValue.{IntVarValue}
 use Rattle.relation_terms.specs.declared.terms.ty_kind.IntVarValue.TheVariants.{Unknown, IntType, UintType}
 use Rattle.relation_terms.specs.declared.terms.ty_kind.FloatVarValue.{FloatVarValue}
 use Rattle.relation_terms.specs.declared.terms.ty_kind.FloatVarValue.TheVariants.{Unknown as UnknownFloat, Known}
-use Rattle.relation_contexts.specs.Stores.{unbound, bound_to, entry_of}
-use Rattle.relation_contexts.specs.Steps.{InstantiatesNumber, IsNumberFor}
-use Rattle.relation_contexts.proofs.StoreCalls.{numbers_stay_sound}
+use Rattle.relation_semantics.specs.Stores.{unbound, bound_to, entry_of}
+use Rattle.relation_semantics.specs.Steps.{InstantiatesNumber, IsNumberFor}
+use Rattle.relation_semantics.proofs.StoreCalls.{numbers_stay_sound}
 use Rattle.relation_reference.specs.declared.context.inner.Variable.{Variable}
 use Rattle.relation_reference.specs.declared.context.inner.VariableValue.TheVariants.{Known as Bound}
 use Rattle.relation_reference.specs.declared.context.inner.InferCtxtInner.{InferCtxtInner}
 use Rattle.relation_reference.specs.Variables.{keys_of, values_of, universes_of}
-use Rattle.relation_contexts.specs.NumberValues.{int_value_tree, float_value_tree}
+use Rattle.relation_semantics.specs.NumberValues.{int_value_tree, float_value_tree}
 use Rattle.relation_reference.specs.Numbers.{number_trees}
 use Rattle.relation_reference.specs.Tables.{store_of, MayBeBoundTo, IsLawful}
 use Rattle.relation_reference.proofs.Grows.{each_known, keys_stay}

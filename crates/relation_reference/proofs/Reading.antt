@@ -16,13 +16,13 @@ use Rattle.relation_terms.specs.declared.terms.numbers.TyVid.{TyVid}
 use Rattle.relation_terms.specs.declared.terms.numbers.IntVid.{IntVid}
 use Rattle.relation_terms.specs.declared.terms.numbers.FloatVid.{FloatVid}
 use Rattle.relation_terms.specs.declared.terms.numbers.ConstVid.{ConstVid}
-use Rattle.relation_contexts.specs.Stores.{Store, unbound, same_as, bound_to, entry_of, entry_term, IsMade, IsSound, InContext}
-use Rattle.relation_contexts.specs.Steps.{LeadsTo, here, next}
-use Rattle.relation_contexts.specs.Errors.{IsReadAs, itself, by_class, by_binding}
-use Rattle.relation_contexts.specs.Bound.{BindByLists}
-use Rattle.relation_contexts.specs.Parts.{IsFormed, IsFormedConst}
-use Rattle.relation_contexts.proofs.Standing.{made_of_term, term_context}
-use Rattle.relation_contexts.proofs.Classes.{class_made}
+use Rattle.relation_semantics.specs.Stores.{Store, unbound, same_as, bound_to, entry_of, entry_term, IsMade, IsSound, InContext}
+use Rattle.relation_semantics.specs.Steps.{LeadsTo, here, next}
+use Rattle.relation_semantics.specs.Errors.{IsReadAs, itself, by_class, by_binding}
+use Rattle.relation_semantics.specs.Bound.{BindByLists}
+use Rattle.relation_semantics.specs.Parts.{IsFormed, IsFormedConst}
+use Rattle.relation_semantics.proofs.Standing.{made_of_term, term_context}
+use Rattle.relation_semantics.proofs.Classes.{class_made}
 use Rattle.relation_reference.specs.declared.context.inner.Variable.{Variable}
 use Rattle.relation_reference.specs.declared.context.inner.VariableValue.{VariableValue}
 use Rattle.relation_reference.specs.declared.context.inner.VariableValue.TheVariants.{Unknown, SameAs, Known}
@@ -33,11 +33,11 @@ use Rattle.relation_reference.specs.Answers.{Found, found_root, found_term}
 use Rattle.relation_reference.specs.Remembering.{vid_kind, vid_number}
 use Rattle.relation_reference.specs.Variables.{value_at, root_by, root_at, term_by, term_at, entry_of_value, entries_of, trees_of, keys_of}
 use Rattle.relation_reference.specs.Tables.{store_of, MayBeBoundTo, may_by_lists, IsRooted, IsLawful}
-use Rattle.relation_contexts.specs.Resolving.{IsRoot, IsShallow, root, stays_bound, formed, IsShallowTy, ty_root, no_ty_variable, IsShallowConst, const_root, no_variable}
+use Rattle.relation_semantics.specs.Resolving.{IsRoot, IsShallow, root, stays_bound, formed, IsShallowTy, ty_root, no_ty_variable, IsShallowConst, const_root, no_variable}
 use Rattle.relation_reference.proofs.Grows.{entry_at, bound_known}
 use Rattle.relation_reference.proofs.Folding.{context_made}
-use Rattle.relation_contexts.proofs.Variables.{kind_variable, kind_no_const, const_no_variable}
-use Rattle.relation_contexts.proofs.Numbers.{made_of_leaf}
+use Rattle.relation_semantics.proofs.Variables.{kind_variable, kind_no_const, const_no_variable}
+use Rattle.relation_semantics.proofs.Numbers.{made_of_leaf}
 
 -- The other is a variable of the context.
 pub leads_made : (st : Store) → IsSound st → (k : VarKind) (n p : ℕ) → entry_of st k n ≡ same_as p → IsMade st k p

@@ -6,7 +6,7 @@ use Rattle.std.specs.Cmp.{IsEquivalence}
 use Rattle.std.proofs.lemmas.Bool.{false≢true}
 use Rattle.term_enums.specs.declared.Variance.TheVariants.{Covariant, Contravariant, Invariant, Bivariant}
 use Rattle.term_enums.specs.contracts.VariancePartialEq.TheImpl as variance_impl
-use Rattle.relation_contexts.proofs.Lists.{both_known}
+use Rattle.relation_semantics.proofs.Lists.{both_known}
 use Rattle.std.specs.HashMap.{HashMap, get, IsEmpty}
 use Rattle.std.specs.Map.{lookup}
 use Rattle.term_enums.specs.declared.Variance.{Variance}
@@ -15,7 +15,7 @@ use Rattle.relation_terms.specs.Trees.{Tree, known}
 use Rattle.relation_terms.specs.Interning.{AreEqualAsTrees}
 use Rattle.relation_terms.specs.Meaning.{Meaning, Extends}
 use Rattle.relation_terms.proofs.Stays.{knows_as}
-use Rattle.relation_contexts.specs.Generalising.{Met}
+use Rattle.relation_semantics.specs.Generalising.{Met}
 use Rattle.relation_reference.specs.declared.context.generalising.MetKey.{MetKey}
 use Rattle.relation_reference.specs.Generalises.{side_of, met_at, IsSure, WasMet, IsFound, Keeps}
 

@@ -11,7 +11,7 @@ use Rattle.relation_terms.specs.declared.terms.part_kind.Part.{Part}
 use Rattle.relation_folds.proofs.Remembering.{one_sort}
 use Rattle.relation_terms.proofs.Stays.{knows_as}
 use Rattle.relation_terms.proofs.Parts.{stays_part}
-use Rattle.relation_contexts.specs.Stores.{Store, resolved}
+use Rattle.relation_semantics.specs.Stores.{Store, resolved}
 use Rattle.relation_folds.specs.Folds.{part_rank}
 use Rattle.relation_reference.specs.declared.context.memory.PartKey.{PartKey}
 use Rattle.relation_reference.specs.Remembering.{key_of, ComesTo, IsKept, Remembers}

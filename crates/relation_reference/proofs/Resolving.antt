@@ -13,18 +13,18 @@ use Rattle.relation_terms.specs.declared.terms.part_kind.Part.{Part}
 use Rattle.relation_terms.specs.declared.terms.part_kind.Part.TheVariants.{Region, Ty, Const, ValTree, Pat, ValueType}
 use Rattle.relation_terms.specs.declared.terms.part_kind.Part.TheVariants.{Binder, Signature, Inputs, Existential, Object}
 use Rattle.relation_terms.proofs.Stays.{stays_list, knows_as}
-use Rattle.relation_contexts.specs.Stores.{Store, entry_term, bound_term, IsSound}
-use Rattle.relation_contexts.specs.Stores.{InContext, resolved, weight}
-use Rattle.relation_contexts.proofs.Resolved.{resolved_free}
-use Rattle.relation_contexts.proofs.Parts.{nth_size}
-use Rattle.relation_contexts.proofs.Values.{nth_in}
-use Rattle.relation_contexts.proofs.Lists.{firsts, firsts_all, snoc, list_push, firsts_more, apply_snoc, push_known}
+use Rattle.relation_semantics.specs.Stores.{Store, entry_term, bound_term, IsSound}
+use Rattle.relation_semantics.specs.Stores.{InContext, resolved, weight}
+use Rattle.relation_semantics.proofs.Resolved.{resolved_free}
+use Rattle.relation_semantics.proofs.Parts.{nth_size}
+use Rattle.relation_semantics.proofs.Values.{nth_in}
+use Rattle.relation_semantics.proofs.Lists.{firsts, firsts_all, snoc, list_push, firsts_more, apply_snoc, push_known}
 use Rattle.relation_reference.specs.declared.context.inner.InferCtxtInner.{InferCtxtInner}
 use Rattle.relation_reference.specs.Tables.{store_of, IsLawful}
 use Rattle.relation_reference.specs.declared.context.memory.TermVid.{TermVid}
 use Rattle.relation_reference.specs.declared.context.memory.TermVid.TheVariants.{Ty as TyTerm, Const as ConstTerm}
 use Rattle.relation_reference.specs.Remembering.{vid_kind, vid_number}
-use Rattle.relation_contexts.specs.Resolving.{IsShallow, root, stays_bound, formed, IsShallowConst, const_root, no_variable}
+use Rattle.relation_semantics.specs.Resolving.{IsShallow, root, stays_bound, formed, IsShallowConst, const_root, no_variable}
 use Rattle.relation_reference.proofs.Grows.{store_grows, lawful_grows}
 
 -- A part that is no type is of another sort, and each part is of some.

@@ -9,7 +9,7 @@ use native.Mathlib.Decide.{ℕ_discrete, dec_le}
 use Rattle.std.specs.Global.{Vec}
 use Rattle.relation_terms.specs.Heads.{type_var}
 use Rattle.relation_terms.specs.Meaning.{Meaning}
-use Rattle.relation_contexts.specs.ContextCalls.{JoinsRoots}
+use Rattle.relation_semantics.specs.ContextCalls.{JoinsRoots}
 use Rattle.relation_reference.specs.declared.context.inner.InferCtxtInner.{InferCtxtInner}
 use Rattle.relation_reference.specs.SubRoots.{root_in, led_root, IsRootTable}
 use Rattle.relation_reference.specs.Tables.{store_of, HasSubRoots, IsLawful}

@@ -1,8 +1,8 @@
 -- An error was met in a context: nothing but the taint changes.
 use Rattle.std.proofs.Common.{refl, true, le_refl}
 use Rattle.relation_terms.specs.Meaning.{Meaning}
-use Rattle.relation_contexts.specs.Steps.{ChangesNothing, Taints}
-use Rattle.relation_contexts.proofs.StoreCalls.{nothing_is_seen}
+use Rattle.relation_semantics.specs.Steps.{ChangesNothing, Taints}
+use Rattle.relation_semantics.proofs.StoreCalls.{nothing_is_seen}
 use Rattle.relation_reference.specs.declared.context.inner.InferCtxtInner.{InferCtxtInner}
 use Rattle.relation_reference.specs.Tables.{store_of, IsLawful}
 

@@ -2,9 +2,9 @@
 use Rattle.std.proofs.Common.{◌≡◌, suc, ◌<◌, refl, sym, ap, arith, subst, Result, Ok, Err, IfOk, OnErr}
 use Rattle.relation_terms.specs.Meaning.{Meaning}
 use Rattle.relation_terms.specs.declared.terms.numbers.UniverseIndex.{UniverseIndex}
-use Rattle.relation_contexts.specs.Steps.{ChangesNothing}
-use Rattle.relation_contexts.specs.ContextCalls.{EntersNext, KeepsRest}
-use Rattle.relation_contexts.proofs.StoreCalls.{nothing_is_seen}
+use Rattle.relation_semantics.specs.Steps.{ChangesNothing}
+use Rattle.relation_semantics.specs.ContextCalls.{EntersNext, KeepsRest}
+use Rattle.relation_semantics.proofs.StoreCalls.{nothing_is_seen}
 use Rattle.relation_reference.specs.declared.context.inner.InferCtxtInner.{InferCtxtInner}
 use Rattle.relation_reference.specs.declared.context.variables.RefCtxt.{RefCtxt}
 use Rattle.relation_reference.specs.SubRoots.{root_in}

@@ -6,9 +6,9 @@ use Rattle.relation_terms.specs.Trees.{Tree, leaf, nil}
 use Rattle.relation_terms.specs.Meaning.{Meaning}
 use Rattle.relation_terms.specs.declared.terms.keys.RegionKey.{RegionKey}
 use Rattle.relation_terms.specs.declared.terms.numbers.UniverseIndex.{UniverseIndex}
-use Rattle.relation_contexts.specs.Contexts.{Context}
-use Rattle.relation_contexts.specs.ContextCalls.{IsRootOf, HasUniverse}
-use Rattle.relation_contexts.specs.Stores.{entry_of, IsMade, IsSound}
+use Rattle.relation_semantics.specs.Contexts.{Context}
+use Rattle.relation_semantics.specs.ContextCalls.{IsRootOf, HasUniverse}
+use Rattle.relation_semantics.specs.Stores.{entry_of, IsMade, IsSound}
 use Rattle.relation_reference.specs.declared.context.inner.Variable.{Variable}
 use Rattle.relation_reference.specs.declared.context.inner.VariableValue.{VariableValue}
 use Rattle.relation_reference.specs.declared.context.inner.VariableValue.TheVariants.{Unknown, SameAs, Known}

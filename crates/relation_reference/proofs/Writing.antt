@@ -7,9 +7,9 @@ use native.Mathlib.Decide.{ℕ_discrete}
 use Rattle.relation_terms.specs.Heads.{VarKind, VarKind_discrete, type_var, region_var}
 use Rattle.relation_terms.specs.Trees.{Tree}
 use Rattle.relation_terms.specs.Meaning.{Meaning}
-use Rattle.relation_contexts.specs.Stores.{Store, Entry, unbound, same_as, bound_to, entry_of, universe_of, IsMade, IsSound}
-use Rattle.relation_contexts.specs.Steps.{IsNumberKind, WritesEntry, StandsBeside, as_it_was, led_on, Equates, BindsTo, InstantiatesNumber, IsNumberFor}
-use Rattle.relation_contexts.proofs.Equating.{equated_sound}
+use Rattle.relation_semantics.specs.Stores.{Store, Entry, unbound, same_as, bound_to, entry_of, universe_of, IsMade, IsSound}
+use Rattle.relation_semantics.specs.Steps.{IsNumberKind, WritesEntry, StandsBeside, as_it_was, led_on, Equates, BindsTo, InstantiatesNumber, IsNumberFor}
+use Rattle.relation_semantics.proofs.Equating.{equated_sound}
 use Rattle.relation_reference.specs.declared.context.inner.VariableValue.{VariableValue}
 use Rattle.relation_reference.specs.declared.context.inner.VariableValue.TheVariants.{Unknown, SameAs, Known}
 use Rattle.relation_reference.specs.declared.context.inner.Variable.{Variable}

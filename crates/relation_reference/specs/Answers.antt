@@ -5,9 +5,9 @@ use Rattle.relation_terms.specs.declared.terms.keys.ConstKey.{ConstKey}
 use Rattle.relation_terms.specs.Heads.{VarKind, type_var, const_var, variable}
 use Rattle.relation_terms.specs.Trees.{Tree, leaf}
 use Rattle.relation_terms.specs.Meaning.{Meaning}
-use Rattle.relation_contexts.specs.Errors.{IsReadAs}
-use Rattle.relation_contexts.specs.Stores.{Store, unbound, bound_to, entry_of, IsMade}
-use Rattle.relation_contexts.specs.Steps.{LeadsTo, Resolves}
+use Rattle.relation_semantics.specs.Errors.{IsReadAs}
+use Rattle.relation_semantics.specs.Stores.{Store, unbound, bound_to, entry_of, IsMade}
+use Rattle.relation_semantics.specs.Steps.{LeadsTo, Resolves}
 use Rattle.relation_reference.specs.declared.context.variables.RefCtxt.{RefCtxt}
 use Rattle.relation_reference.specs.declared.context.inner.InferCtxtInner.{InferCtxtInner}
 use Rattle.relation_reference.specs.RefCtxt.{store_in, ty_term}

@@ -11,12 +11,12 @@ use Rattle.relation_terms.specs.Trees.{Tree, leaf}
 use Rattle.relation_terms.specs.Meaning.{Meaning}
 use Rattle.relation_folds.specs.declared.error.TypeError.TheVariants.{CyclicTy, CyclicConst}
 use Rattle.relation_folds.specs.declared.error.RelateFault.{RelateFault}
-use Rattle.relation_contexts.specs.declared.relate.StructurallyRelateAliases.{StructurallyRelateAliases}
-use Rattle.relation_contexts.specs.Binders.{binder_tree, EntersAs, EntersBinder, InstantiatesAs, InstantiatesWithInfer}
-use Rattle.relation_contexts.specs.ContextCalls.{Instantiated}
-use Rattle.relation_contexts.specs.Generalising.{MakesUnbound}
-use Rattle.relation_contexts.specs.Steps.{Equates, InstantiatesNumber, MakesVariable, AddsConstraint}
-use Rattle.relation_contexts.specs.Stores.{Store, equal_constraint, outlives_constraint}
+use Rattle.relation_semantics.specs.declared.relate.StructurallyRelateAliases.{StructurallyRelateAliases}
+use Rattle.relation_semantics.specs.Binders.{binder_tree, EntersAs, EntersBinder, InstantiatesAs, InstantiatesWithInfer}
+use Rattle.relation_semantics.specs.ContextCalls.{Instantiated}
+use Rattle.relation_semantics.specs.Generalising.{MakesUnbound}
+use Rattle.relation_semantics.specs.Steps.{Equates, InstantiatesNumber, MakesVariable, AddsConstraint}
+use Rattle.relation_semantics.specs.Stores.{Store, equal_constraint, outlives_constraint}
 use Rattle.relation_reference.specs.declared.context.variables.RefCtxt.{RefCtxt}
 use Rattle.relation_reference.specs.declared.context.inner.InferCtxtInner.{InferCtxtInner}
 use Rattle.relation_reference.specs.RefCtxt.{store_in, context_in, resolved_in, ty_term, const_term}

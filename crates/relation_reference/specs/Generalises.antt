@@ -17,21 +17,21 @@ use Rattle.relation_folds.specs.declared.error.TypeError.{TypeError}
 use Rattle.relation_folds.specs.declared.error.TypeError.TheVariants.{Mismatch}
 use Rattle.relation_folds.specs.declared.error.RelateFault.{RelateFault}
 use Rattle.relation_folds.specs.declared.error.RelateFault.TheVariants.{Memory, Budget, Unrelated}
-use Rattle.relation_contexts.specs.declared.relate.StructurallyRelateAliases.{StructurallyRelateAliases}
-use Rattle.relation_contexts.specs.declared.relate.StructurallyRelateAliases.TheVariants.{Yes, No}
-use Rattle.relation_contexts.specs.Relation.{Items}
-use Rattle.relation_contexts.specs.Lawful.{items_of}
-use Rattle.relation_contexts.specs.Stores.{Store, universe_of, IsMade, InContext, IsSound}
-use Rattle.relation_contexts.specs.Generalising.{Stays, gives_way_to, Side, outside, inside, side_in, Met, Stage}
-use Rattle.relation_contexts.specs.Generalising.{Turn, any_part, new_part, parts_from, Generalised, MakesUnbound}
-use Rattle.relation_contexts.specs.Generalising.{Obstacle, cycle, beyond, IsNoObstacle, IsSeen, IsClear, StopsAt}
-use Rattle.relation_contexts.specs.Generalising.{GoesInto}
+use Rattle.relation_semantics.specs.declared.relate.StructurallyRelateAliases.{StructurallyRelateAliases}
+use Rattle.relation_semantics.specs.declared.relate.StructurallyRelateAliases.TheVariants.{Yes, No}
+use Rattle.relation_semantics.specs.Relation.{Items}
+use Rattle.relation_semantics.specs.Lawful.{items_of}
+use Rattle.relation_semantics.specs.Stores.{Store, universe_of, IsMade, InContext, IsSound}
+use Rattle.relation_semantics.specs.Generalising.{Stays, gives_way_to, Side, outside, inside, side_in, Met, Stage}
+use Rattle.relation_semantics.specs.Generalising.{Turn, any_part, new_part, parts_from, Generalised, MakesUnbound}
+use Rattle.relation_semantics.specs.Generalising.{Obstacle, cycle, beyond, IsNoObstacle, IsSeen, IsClear, StopsAt}
+use Rattle.relation_semantics.specs.Generalising.{GoesInto}
 use Rattle.relation_reference.specs.declared.context.generalising.MetKey.{MetKey}
 use Rattle.relation_reference.specs.declared.context.generalising.Target.{Target}
 use Rattle.relation_reference.specs.declared.context.generalising.Fate.{Fate}
 use Rattle.relation_reference.specs.declared.context.generalising.Fate.TheVariants.{ByParts, GivesWay, Cycle, Beyond}
 use Rattle.relation_reference.specs.declared.context.variables.RefCtxt.{RefCtxt}
-use Rattle.relation_contexts.specs.ContextCalls.{MarksNew}
+use Rattle.relation_semantics.specs.ContextCalls.{MarksNew}
 use Rattle.relation_reference.specs.RefCtxt.{store_in, context_in}
 use Rattle.relation_reference.specs.Remembering.{vid_kind, vid_number}
 use Rattle.relation_reference.specs.Tables.{store_of, IsLawful}

@@ -4,7 +4,7 @@ use Rattle.relation_terms.specs.Trees.{Tree}
 use Rattle.term_enums.specs.declared.IntTy.TheVariants.{Isize, I8, I16, I32, I64, I128}
 use Rattle.term_enums.specs.declared.UintTy.TheVariants.{Usize, U8, U16, U32, U64, U128}
 use Rattle.term_enums.specs.declared.FloatTy.TheVariants.{F16, F32, F64, F128}
-use Rattle.relation_contexts.specs.NumberValues.{int_tree, uint_tree, float_tree}
+use Rattle.relation_semantics.specs.NumberValues.{int_tree, uint_tree, float_tree}
 
 -- All of them.
 abbrev pub number_trees : List Tree

@@ -4,10 +4,10 @@ use Rattle.relation_terms.specs.Heads.{BoundKind, VarKind, placeholder, variable
 use Rattle.relation_terms.specs.declared.terms.binder.Binder.{Binder}
 use Rattle.relation_terms.specs.Trees.{Tree, leaf}
 use Rattle.relation_terms.specs.Meaning.{Meaning}
-use Rattle.relation_contexts.specs.Binders.{binder_tree}
-use Rattle.relation_contexts.specs.Contexts.{Context}
-use Rattle.relation_contexts.specs.Steps.{MakesVariable}
-use Rattle.relation_contexts.specs.Stores.{Store, IsTermIn}
+use Rattle.relation_semantics.specs.Binders.{binder_tree}
+use Rattle.relation_semantics.specs.Contexts.{Context}
+use Rattle.relation_semantics.specs.Steps.{MakesVariable}
+use Rattle.relation_semantics.specs.Stores.{Store, IsTermIn}
 
 -- Placeholders of a universe for the variables of a list, numbered by their places from `n` on.
 abbrev pub placeholders_from : ℕ → ℕ → List BoundKind → List Tree

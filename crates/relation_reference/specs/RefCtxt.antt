@@ -7,8 +7,8 @@ use Rattle.relation_terms.specs.declared.terms.part_kind.Part.{Part}
 use Rattle.relation_terms.specs.Trees.{Tree, apply}
 use Rattle.relation_terms.specs.Meaning.{Meaning}
 use Rattle.relation_terms.specs.Parts.{part_tree}
-use Rattle.relation_contexts.specs.Stores.{Store, resolved}
-use Rattle.relation_contexts.specs.Contexts.{Context}
+use Rattle.relation_semantics.specs.Stores.{Store, resolved}
+use Rattle.relation_semantics.specs.Contexts.{Context}
 use Rattle.relation_reference.specs.declared.context.variables.RefCtxt.{RefCtxt}
 use Rattle.relation_reference.specs.declared.context.inner.InferCtxtInner.{InferCtxtInner}
 use Rattle.relation_reference.specs.SubRoots.{root_in}

@@ -11,7 +11,7 @@ use Rattle.relation_reference.specs.declared.context.memory.PartKey.{PartKey}
 use Rattle.relation_reference.specs.declared.context.memory.TermVid.{TermVid}
 use Rattle.relation_reference.specs.declared.context.memory.TermVid.TheVariants.{Ty, Const}
 use Rattle.relation_reference.specs.declared.context.inner.InferCtxtInner.{InferCtxtInner}
-use Rattle.relation_contexts.specs.Stores.{Store, universe_of, resolved}
+use Rattle.relation_semantics.specs.Stores.{Store, universe_of, resolved}
 use Rattle.relation_reference.specs.Tables.{store_of}
 
 -- What a term comes to by what is recorded, at every depth.

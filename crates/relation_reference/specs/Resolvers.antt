@@ -5,7 +5,7 @@ use Rattle.relation_terms.specs.Heads.{VarKind, variable}
 use Rattle.relation_terms.specs.Trees.{Tree, leaf, Assign}
 use Rattle.relation_terms.specs.Meaning.{Meaning, Extends}
 use Rattle.relation_terms.proofs.Stays.{extends_on}
-use Rattle.relation_contexts.specs.Stores.{Store, unbound, entry_of, IsMade, resolved}
+use Rattle.relation_semantics.specs.Stores.{Store, unbound, entry_of, IsMade, resolved}
 use Rattle.relation_reference.specs.declared.context.inner.InferCtxtInner.{InferCtxtInner}
 use Rattle.relation_reference.specs.Tables.{store_of, IsLawful}
 

@@ -3,14 +3,14 @@ use Rattle.std.specs.Prelude.{◌≡◌, ℕ, ◌<◌, ◌≤◌, List, map, len
 use Rattle.relation_terms.specs.Heads.{VarKind, type_var, int_var, float_var, const_var, region_var, variable}
 use Rattle.relation_terms.specs.Trees.{Tree, leaf, nil}
 use Rattle.relation_terms.specs.Meaning.{Meaning}
-use Rattle.relation_contexts.specs.Stores.{Store, entry_of, same_as, bound_to, IsSound}
-use Rattle.relation_contexts.specs.Generalising.{NumbersNameNothing}
-use Rattle.relation_contexts.specs.Constraints.{constraint_of}
-use Rattle.relation_contexts.specs.Parts.{IsFormed, IsFormedConst}
-use Rattle.relation_contexts.specs.Bound.{BindByLists}
-use Rattle.relation_contexts.specs.Contexts.{Context}
-use Rattle.relation_contexts.specs.Settings.{Setup}
-use Rattle.relation_contexts.specs.ContextCalls.{BindingsBindByLists}
+use Rattle.relation_semantics.specs.Stores.{Store, entry_of, same_as, bound_to, IsSound}
+use Rattle.relation_semantics.specs.Generalising.{NumbersNameNothing}
+use Rattle.relation_semantics.specs.Constraints.{constraint_of}
+use Rattle.relation_semantics.specs.Parts.{IsFormed, IsFormedConst}
+use Rattle.relation_semantics.specs.Bound.{BindByLists}
+use Rattle.relation_semantics.specs.Contexts.{Context}
+use Rattle.relation_semantics.specs.Settings.{Setup}
+use Rattle.relation_semantics.specs.ContextCalls.{BindingsBindByLists}
 use Rattle.relation_reference.specs.declared.context.inner.InferCtxtInner.{InferCtxtInner}
 use Rattle.relation_reference.specs.Variables.{entries_of, universes_of, trees_of}
 use Rattle.relation_reference.specs.Numbers.{number_trees}

@@ -2,7 +2,7 @@
 use Rattle.std.specs.Prelude.{ℕ, min, List, map, get_or, slice_set, eqb, cond, Option, Some, None}
 use Rattle.relation_terms.specs.Trees.{Tree}
 use Rattle.relation_terms.specs.declared.terms.numbers.UniverseIndex.{UniverseIndex}
-use Rattle.relation_contexts.specs.Stores.{Entry, unbound, same_as, bound_to}
+use Rattle.relation_semantics.specs.Stores.{Entry, unbound, same_as, bound_to}
 use Rattle.relation_reference.specs.declared.context.inner.Variable.{Variable}
 use Rattle.relation_reference.specs.declared.context.inner.VariableValue.{VariableValue}
 use Rattle.relation_reference.specs.declared.context.inner.VariableValue.TheVariants.{Unknown, SameAs, Known}

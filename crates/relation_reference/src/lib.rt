@@ -1,4 +1,5 @@
-//! A reference context: an inference context as plain as it can be, over any interner.
+//! A reference context: an inference context as plain as it can be, over any interner; and the reference interner.
 #![tactic(auto)]
 
 pub mod context;
+pub use reference_interner::RefInterner;

@@ -2,8 +2,8 @@
 use Rattle.std.proofs.Common.{◌≡◌, ℕ, ap, ◌∙◌, sym, subst}
 use Rattle.relation_terms.specs.Heads.{type_var, slice, variable}
 use Rattle.relation_terms.specs.Trees.{Tree, leaf, node, cons, nil}
-use Rattle.relation_contexts.specs.Stores.{Store, IsMade, IsTermIn, InContext}
-use Rattle.relation_contexts.specs.Steps.{MakesVariable}
+use Rattle.relation_semantics.specs.Stores.{Store, IsMade, IsTermIn, InContext}
+use Rattle.relation_semantics.specs.Steps.{MakesVariable}
 use Rattle.relation_reference.proofs.Marking.{made_new}
 
 slice_in : (st : Store) (t : Tree) (n : ℕ) → IsMade st type_var n → t ≡ node slice (cons (leaf (variable type_var n)) nil) →

@@ -11,10 +11,10 @@ use Rattle.relation_terms.specs.Heads.{BoundKind, Leaf, Atom, variable, bound, p
 use Rattle.relation_terms.specs.Trees.{Tree, leaf, node, bind, nil, cons, known, Leaves, front, last}
 use Rattle.relation_terms.specs.Meaning.{Meaning, Extends, signature_tree, under}
 use Rattle.relation_terms.proofs.Stays.{stays_signature}
-use Rattle.relation_contexts.specs.Relation.{IsValueAtom, StaysWithin}
-use Rattle.relation_contexts.specs.Bound.{AreBoundAs, BindByLists}
-use Rattle.relation_contexts.specs.Stores.{Store, IsTermIn, InContext, IsMadeLeaf, IsNamable}
-use Rattle.relation_contexts.specs.Lawful.{Asked}
+use Rattle.relation_semantics.specs.Relation.{IsValueAtom, StaysWithin}
+use Rattle.relation_semantics.specs.Bound.{AreBoundAs, BindByLists}
+use Rattle.relation_semantics.specs.Stores.{Store, IsTermIn, InContext, IsMadeLeaf, IsNamable}
+use Rattle.relation_semantics.specs.Lawful.{Asked}
 use Rattle.relation_tests.specs.Plain.{IsUnbound, plain_store, plain_state, plain_manner}
 use Rattle.relation_tests.specs.Concrete.{IsConcrete}
 use Rattle.relation_reference.proofs.Grows.{known_of_term}

@@ -5,7 +5,7 @@ use Rattle.relation_terms.specs.declared.terms.interner.OutOfMemory.{OutOfMemory
 use Rattle.relation_terms.specs.Heads.{adt}
 use Rattle.relation_terms.specs.Trees.{Tree, node, known}
 use Rattle.relation_terms.specs.Meaning.{Extends}
-use Rattle.relation_contexts.specs.Parts.{head_of}
+use Rattle.relation_semantics.specs.Parts.{head_of}
 use Rattle.reference_interner.specs.declared.RefInterner.{RefInterner}
 use Rattle.reference_interner.specs.declared.keys.NodeKey.{NodeKey}
 use Rattle.reference_interner.specs.declared.keys.ItemId.{ItemId}

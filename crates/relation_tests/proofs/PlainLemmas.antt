@@ -14,34 +14,34 @@ use Rattle.relation_terms.specs.Meaning.{Meaning}
 use Rattle.relation_terms.proofs.Stays.{stays_same}
 use Rattle.relation_folds.specs.declared.error.RelateFault.{RelateFault}
 use Rattle.relation_folds.specs.declared.error.RelateFault.TheVariants.{Memory}
-use Rattle.relation_contexts.specs.Relation.{Interpretation, Rel, RegionRule, regions, sort_of, at}
-use Rattle.relation_contexts.specs.Stores.{IsTermIn, IsRegionIn, ConstraintIn, ConstraintHolds, Satisfies}
-use Rattle.relation_contexts.specs.Errors.{IsLeftToGoal}
-use Rattle.relation_contexts.specs.Goals.{GoalInContext, Holds, MakesOneTree}
-use Rattle.relation_contexts.specs.Steps.{AddsConstraint}
-use Rattle.relation_contexts.specs.Outcomes.{Outcome, Exact}
-use Rattle.relation_contexts.specs.Measures.{Goes}
-use Rattle.relation_contexts.specs.Parts.{IsFormed}
-use Rattle.relation_contexts.specs.Lawful.{items_of, Passes, Related, items_in}
-use Rattle.relation_contexts.specs.Constraints.{constraint_at, constraint_of}
+use Rattle.relation_semantics.specs.Relation.{Interpretation, Rel, RegionRule, regions, sort_of, at}
+use Rattle.relation_semantics.specs.Stores.{IsTermIn, IsRegionIn, ConstraintIn, ConstraintHolds, Satisfies}
+use Rattle.relation_semantics.specs.Errors.{IsLeftToGoal}
+use Rattle.relation_semantics.specs.Goals.{GoalInContext, Holds, MakesOneTree}
+use Rattle.relation_semantics.specs.Steps.{AddsConstraint}
+use Rattle.relation_semantics.specs.Outcomes.{Outcome, Exact}
+use Rattle.relation_semantics.specs.Measures.{Goes}
+use Rattle.relation_semantics.specs.Parts.{IsFormed}
+use Rattle.relation_semantics.specs.Lawful.{items_of, Passes, Related, items_in}
+use Rattle.relation_semantics.specs.Constraints.{constraint_at, constraint_of}
 use Rattle.relation_tests.specs.Plain.{as_is, plain_settings, plain_store, plain_state, plain_manner}
-use Rattle.relation_contexts.proofs.Full.{full_itself, full_by}
-use Rattle.relation_contexts.proofs.Building.{builds_none, built_itself}
-use Rattle.relation_contexts.proofs.Trees.{all_leaves, apply_own, own_other}
+use Rattle.relation_semantics.proofs.Full.{full_itself, full_by}
+use Rattle.relation_semantics.proofs.Building.{builds_none, built_itself}
+use Rattle.relation_semantics.proofs.Trees.{all_leaves, apply_own, own_other}
 use Rattle.type_relations.proofs.Constraints.{asked_in, asked_relates, asked_met}
-use Rattle.relation_contexts.proofs.Standing.{made_of_term, term_within, term_sort_of}
-use Rattle.relation_contexts.proofs.Growing.{constraint_sound, constraint_is_later, constraint_bound, constraint_weight}
-use Rattle.relation_contexts.proofs.Growing.{constraint_holds, constraint_keeps}
-use Rattle.relation_contexts.proofs.Passing.{passes_nowhere}
-use Rattle.relation_contexts.proofs.Answering.{may_itself}
-use Rattle.relation_contexts.proofs.Agreeing.{agree_regions}
-use Rattle.relation_contexts.proofs.Erased.{erase_region}
-use Rattle.relation_contexts.proofs.OneUniverse.{keeps_pair, standing_keeps, binds_itself}
+use Rattle.relation_semantics.proofs.Standing.{made_of_term, term_within, term_sort_of}
+use Rattle.relation_semantics.proofs.Growing.{constraint_sound, constraint_is_later, constraint_bound, constraint_weight}
+use Rattle.relation_semantics.proofs.Growing.{constraint_holds, constraint_keeps}
+use Rattle.relation_semantics.proofs.Passing.{passes_nowhere}
+use Rattle.relation_semantics.proofs.Answering.{may_itself}
+use Rattle.relation_semantics.proofs.Agreeing.{agree_regions}
+use Rattle.relation_semantics.proofs.Erased.{erase_region}
+use Rattle.relation_semantics.proofs.OneUniverse.{keeps_pair, standing_keeps, binds_itself}
 use Rattle.relation_reference.proofs.Grows.{known_of_term}
 use Rattle.relation_terms.proofs.Stays.{stays_arg}
 use Rattle.relation_terms.specs.Meaning.{Extends}
-use Rattle.relation_contexts.specs.Lawful.{WithMeaning, RegisteredIn}
-use Rattle.relation_contexts.specs.Stores.{Store, IsSound, ConstraintIn, outlives_constraint, equal_constraint}
+use Rattle.relation_semantics.specs.Lawful.{WithMeaning, RegisteredIn}
+use Rattle.relation_semantics.specs.Stores.{Store, IsSound, ConstraintIn, outlives_constraint, equal_constraint}
 use Rattle.relation_terms.specs.declared.predicate.regions.RegionConstraint.TheVariants.{Outlives, Eq}
 use Rattle.std.proofs.Common.{ap, ap₂, ◌∷◌}
 use Rattle.std.proofs.lemmas.List.Elements.{All-head, All-tail}

@@ -6,13 +6,13 @@ use Rattle.relation_terms.specs.declared.terms.keys.TyKey.{TyKey}
 use Rattle.relation_terms.specs.Heads.{environment, Leaf, variable, bound}
 use Rattle.relation_terms.specs.Trees.{leaf, node, nil, Assign}
 use Rattle.relation_terms.specs.Meaning.{Meaning}
-use Rattle.relation_contexts.specs.Relation.{Interpretation, Rel, at}
-use Rattle.relation_contexts.specs.Stores.{Store, IsSound, ConstraintHolds}
-use Rattle.relation_contexts.specs.Constraints.{constraint_of}
-use Rattle.relation_contexts.specs.declared.infer_ctxt.TypingMode.TheVariants.{PostAnalysis}
-use Rattle.relation_contexts.specs.declared.relate.StructurallyRelateAliases.TheVariants.{Yes}
-use Rattle.relation_contexts.specs.Lawful.{State, Kept, Manners, Asked, items_of}
-use Rattle.relation_contexts.specs.Settings.{Settings}
+use Rattle.relation_semantics.specs.Relation.{Interpretation, Rel, at}
+use Rattle.relation_semantics.specs.Stores.{Store, IsSound, ConstraintHolds}
+use Rattle.relation_semantics.specs.Constraints.{constraint_of}
+use Rattle.relation_semantics.specs.declared.infer_ctxt.TypingMode.TheVariants.{PostAnalysis}
+use Rattle.relation_semantics.specs.declared.relate.StructurallyRelateAliases.TheVariants.{Yes}
+use Rattle.relation_semantics.specs.Lawful.{State, Kept, Manners, Asked, items_of}
+use Rattle.relation_semantics.specs.Settings.{Settings}
 
 -- Aliases are related by their items and arguments, arguments of items at declared variances at invariance too, and no
 -- goal is left to a solver.

@@ -4,12 +4,12 @@ ghost use Rattle.relation_terms.specs.Heads.{type_var, int_var, float_var, const
 ghost use Rattle.relation_terms.specs.Heads.{atom, char_type, slice};
 ghost use Rattle.relation_terms.specs.Trees.{leaf, node, cons, nil};
 ghost use Rattle.relation_terms.specs.Meaning.{region_tree};
-ghost use Rattle.relation_contexts.specs.Contexts.{KnowsTy};
-ghost use Rattle.relation_contexts.specs.ContextCalls.{IsUnresolved, Grows};
+ghost use Rattle.relation_semantics.specs.Contexts.{KnowsTy};
+ghost use Rattle.relation_semantics.specs.ContextCalls.{IsUnresolved, Grows};
 ghost use Rattle.relation_reference.specs.Tables.{IsLawful};
 
 use reference_interner::RefInterner;
-use relation_contexts::infer_ctxt::{InferCtxtLike, TypingMode};
+use relation_semantics::infer_ctxt::{InferCtxtLike, TypingMode};
 use relation_folds::error::RelateResult;
 use relation_reference::context::RefCtxt;
 use relation_terms::predicate::OutlivesPredicate;

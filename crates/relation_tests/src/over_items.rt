@@ -5,7 +5,7 @@ ghost use Rattle.relation_terms.specs.Trees.{node, known};
 ghost use Rattle.relation_terms.specs.Meaning.{Extends};
 ghost use Rattle.term_enums.specs.declared.Variance.TheVariants.{Bivariant};
 ghost use Rattle.reference_interner.specs.Adding.{meaning_in};
-ghost use Rattle.relation_contexts.specs.Lawful.{Asked};
+ghost use Rattle.relation_semantics.specs.Lawful.{Asked};
 ghost use Rattle.relation_tests.specs.Concrete.{IsConcrete};
 ghost use Rattle.relation_tests.specs.Plain.{plain_state, plain_manner};
 

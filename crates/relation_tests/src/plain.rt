@@ -3,11 +3,11 @@
 //! It has no inference context, and so shows that what is asked of a relation can be met without one.
 ghost use Rattle.std.specs.Prelude.{◌≡◌, ◌≢◌, [], IfOk};
 ghost use Rattle.term_enums.specs.declared.Variance.TheVariants.{Bivariant};
-ghost use Rattle.relation_contexts.specs.Stores.{IsSound};
-ghost use Rattle.relation_contexts.specs.Constraints.{constraint_at};
+ghost use Rattle.relation_semantics.specs.Stores.{IsSound};
+ghost use Rattle.relation_semantics.specs.Constraints.{constraint_at};
 ghost use Rattle.relation_tests.specs.Plain.{plain_store, plain_state, plain_manner, AskedPlainly, RelatedUnder};
 
-use relation_contexts::infer_ctxt::BinderOf;
+use relation_semantics::infer_ctxt::BinderOf;
 use relation_folds::error::RelateResult;
 use relation_folds::fold::TypeFoldable;
 use relation_folds::visit::TypeVisitable;
@@ -88,7 +88,7 @@ impl<I: Interner> HasState<I> for PlainRelation<I> {
 
 impl<I: Interner> TypeRelation<I> for PlainRelation<I> {
     ghost use Rattle.std.specs.Prelude.{refl};
-    ghost use Rattle.relation_contexts.proofs.Remembering.{none_related};
+    ghost use Rattle.relation_semantics.proofs.Remembering.{none_related};
 
     ghost interner = { λ r. r.interner };
 

@@ -1,6 +1,6 @@
 //! A relation that borrows a context gives it back.
 use reference_interner::RefInterner;
-use relation_contexts::infer_ctxt::{InferCtxtLike, TypingMode};
+use relation_semantics::infer_ctxt::{InferCtxtLike, TypingMode};
 use relation_reference::context::RefCtxt;
 use relation_terms::terms::{Interner, OutOfMemory, ParamEnv, Variance};
 use std::test::Fail;

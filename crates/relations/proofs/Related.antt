@@ -8,9 +8,9 @@ use Rattle.relation_terms.specs.Trees.{Tree, node, cons, nil}
 use Rattle.relation_terms.specs.Meaning.{Meaning}
 use Rattle.relation_folds.specs.declared.error.RelateFault.{RelateFault}
 use Rattle.relation_folds.specs.Faults.{KnowsFault}
-use Rattle.relation_contexts.specs.Goals.{KnowsGoal}
-use Rattle.relation_contexts.specs.Stores.{Store, IsTermIn, InContext}
-use Rattle.relation_asking.specs.Asking.{KnowsRelated}
+use Rattle.relation_semantics.specs.Goals.{KnowsGoal}
+use Rattle.relation_semantics.specs.Stores.{Store, IsTermIn, InContext}
+use Rattle.text_asking.specs.Asking.{KnowsRelated}
 use Rattle.relations.specs.Terms.{byte_alone}
 
 module _ (h : Head) (ts : Tree) (is : ts ≡ byte_alone) (st : Store) where

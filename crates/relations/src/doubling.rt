@@ -4,7 +4,7 @@ ghost use Rattle.relation_terms.specs.Trees.{known};
 ghost use Rattle.reference_interner.specs.Adding.{meaning_in};
 
 use reference_interner::RefInterner;
-use relation_asking::sized_keys::SizedKeys;
+use text_asking::sized_keys::SizedKeys;
 use relation_terms::terms::{GenericArgKind, Interner, OutOfMemory, Ty, TyKind, UintTy};
 use std::alloc::Global;
 

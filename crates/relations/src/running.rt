@@ -5,7 +5,7 @@ ghost use Rattle.relations.specs.Named.{IsRow};
 use crate::calls::call;
 use crate::row_names::is_row;
 use crate::rows::{EARLY_ROWS, LATE_ROWS, Row};
-use relation_asking::ask_all;
+use text_asking::ask_all;
 use std::alloc::Global;
 use std::io;
 use text_reading::naming::{NameError, look_up};

@@ -5,7 +5,7 @@ ghost use Rattle.relation_terms.specs.Meaning.{Extends, kind_tree};
 ghost use Rattle.relation_folds.specs.Faults.{KnowsError};
 
 use reference_interner::{ItemId, RefInterner, SymbolId};
-use relation_asking::printing::write_error;
+use text_asking::printing::write_error;
 use relation_folds::error::{ExpectedFound, TypeError, TypeErrorOf};
 use relation_terms::terms::{
     ExternAbi, ForeignId, Interner, ParamTy, PredicatePolarity, RegionKind, RegionVid, Safety,

@@ -1,5 +1,5 @@
 //! Questions about a term go through each part once, however often it stands there, and their answers are cut off.
-use relation_asking::ask_all;
+use text_asking::ask_all;
 use std::alloc::Global;
 use std::fmt::{self, Write};
 use std::test::Fail;

@@ -15,19 +15,19 @@ use Rattle.relation_terms.specs.Meaning.{Meaning, Extends, arg_tree}
 use Rattle.relation_terms.specs.Interning.{Sorted}
 use Rattle.relation_folds.specs.declared.error.RelateFault.{RelateFault}
 use Rattle.relation_folds.specs.declared.error.RelateFault.TheVariants.{Memory, Budget, Unrelated}
-use Rattle.relation_contexts.specs.declared.relate.Step.{Step}
-use Rattle.relation_contexts.specs.declared.relate.Step.TheVariants.{Done, Parts, Again}
-use Rattle.relation_contexts.specs.AliasGoals.{alias_at}
-use Rattle.relation_contexts.specs.Errors.{itself, HaveNoError, IsLeftToGoal}
-use Rattle.relation_contexts.specs.Goals.{Goal, goal_of}
-use Rattle.relation_contexts.specs.Lawful.{State, Manners, RemembersRelated}
-use Rattle.relation_contexts.specs.Parts.{IsFormed}
-use Rattle.relation_contexts.specs.Relation.{IsAlias, sort_of}
-use Rattle.relation_contexts.specs.Resolving.{formed}
-use Rattle.relation_contexts.specs.Settings.{Settings, LeavesAliases}
-use Rattle.relation_contexts.proofs.AliasSteps.{reads_once}
-use Rattle.relation_contexts.proofs.OneParts.{sort_is}
-use Rattle.relation_contexts.specs.AskedAlone.{AsksAlone, of_variables, of_alias, AsksNoneAlone, subtype_at}
+use Rattle.relation_semantics.specs.declared.relate.Step.{Step}
+use Rattle.relation_semantics.specs.declared.relate.Step.TheVariants.{Done, Parts, Again}
+use Rattle.relation_semantics.specs.AliasGoals.{alias_at}
+use Rattle.relation_semantics.specs.Errors.{itself, HaveNoError, IsLeftToGoal}
+use Rattle.relation_semantics.specs.Goals.{Goal, goal_of}
+use Rattle.relation_semantics.specs.Lawful.{State, Manners, RemembersRelated}
+use Rattle.relation_semantics.specs.Parts.{IsFormed}
+use Rattle.relation_semantics.specs.Relation.{IsAlias, sort_of}
+use Rattle.relation_semantics.specs.Resolving.{formed}
+use Rattle.relation_semantics.specs.Settings.{Settings, LeavesAliases}
+use Rattle.relation_semantics.proofs.AliasSteps.{reads_once}
+use Rattle.relation_semantics.proofs.OneParts.{sort_is}
+use Rattle.relation_semantics.specs.AskedAlone.{AsksAlone, of_variables, of_alias, AsksNoneAlone, subtype_at}
 use Rattle.type_relations.specs.Alone.{RegistersAlone, StepRegistersAlone, RelatesAlone, StepsAlone}
 use Rattle.type_relations.specs.Combining.{RegistersOne, RegistersNone, TysCombine}
 use Rattle.type_relations.specs.Combining.{left_error, right_error, left_to_goal, left_open, not_registered, not_left}

@@ -13,30 +13,30 @@ use Rattle.relation_folds.specs.declared.error.RelateFault.{RelateFault}
 use Rattle.relation_folds.specs.declared.error.RelateFault.TheVariants.{Memory, Budget, Unrelated}
 use Rattle.type_relations.specs.declared.relate.args.ArgVariances.{ArgVariances}
 use Rattle.type_relations.specs.declared.relate.args.ArgVariances.TheVariants.{Invariant, Adt, FnDef, AliasTerm, Trait}
-use Rattle.relation_contexts.specs.Relation.{Items, forms, part_at, plain, plain_kind, IsRelatedHead, IsAlias}
-use Rattle.relation_contexts.specs.Stores.{Store}
-use Rattle.relation_contexts.specs.Settings.{Settings}
-use Rattle.relation_contexts.specs.FirstOrder.{IsFirstOrderHead, Unifies}
-use Rattle.relation_contexts.specs.Errors.{ErrorOf, by_forms, IsHandedOn, of_parts}
-use Rattle.relation_contexts.specs.Errors.{of_alias_term_parts, AreOfOneForm}
-use Rattle.relation_contexts.specs.Errors.{over_parts, over_aliases, one_leaf, parameters}
-use Rattle.relation_contexts.proofs.Leaving.{normal_not_left}
+use Rattle.relation_semantics.specs.Relation.{Items, forms, part_at, plain, plain_kind, IsRelatedHead, IsAlias}
+use Rattle.relation_semantics.specs.Stores.{Store}
+use Rattle.relation_semantics.specs.Settings.{Settings}
+use Rattle.relation_semantics.specs.FirstOrder.{IsFirstOrderHead, Unifies}
+use Rattle.relation_semantics.specs.Errors.{ErrorOf, by_forms, IsHandedOn, of_parts}
+use Rattle.relation_semantics.specs.Errors.{of_alias_term_parts, AreOfOneForm}
+use Rattle.relation_semantics.specs.Errors.{over_parts, over_aliases, one_leaf, parameters}
+use Rattle.relation_semantics.proofs.Leaving.{normal_not_left}
 use Rattle.type_relations.specs.Arguments.{args_head, AreOverItem, adts, functions}
 use Rattle.relation_folds.specs.Faults.{KnowsError}
-use Rattle.relation_contexts.specs.OneUniverse.{BindsNoMore}
+use Rattle.relation_semantics.specs.OneUniverse.{BindsNoMore}
 use Rattle.term_enums.specs.declared.Variance.TheVariants.{Invariant as AtInvariance}
-use Rattle.relation_contexts.specs.Lawful.{State, Manners, MayAnswer, Passes, Refuses, Related}
-use Rattle.relation_contexts.specs.Lawful.{ExactlyRelated, items_in}
+use Rattle.relation_semantics.specs.Lawful.{State, Manners, MayAnswer, Passes, Refuses, Related}
+use Rattle.relation_semantics.specs.Lawful.{ExactlyRelated, items_in}
 use Rattle.type_relations.proofs.PartSizes.{weight_parts_most}
-use Rattle.relation_contexts.proofs.Registered.{registered_in}
-use Rattle.relation_contexts.proofs.Passing.{passes_within, passes_then, manner_then, stopped}
+use Rattle.relation_semantics.proofs.Registered.{registered_in}
+use Rattle.relation_semantics.proofs.Passing.{passes_within, passes_then, manner_then, stopped}
 use Rattle.type_relations.proofs.Fronts.{Fronted, AreParts, IsLookedAt, fronted_all, fronted_never, fronted_passes, fronted_fault, fronted_exactly}
 use Rattle.type_relations.proofs.Fronts.{fronted_full, fronted_built, fronted_agree}
-use Rattle.relation_contexts.proofs.Answering.{same_items, may_itself}
-use Rattle.relation_contexts.proofs.OneUniverse.{keeps_binds, binds_as}
+use Rattle.relation_semantics.proofs.Answering.{same_items, may_itself}
+use Rattle.relation_semantics.proofs.OneUniverse.{keeps_binds, binds_as}
 use Rattle.type_relations.proofs.Unifying.{first_order_parts, one_head, answered_as, refused_by}
-use Rattle.relation_contexts.proofs.Erased.{forms_unify_by_parts}
-use Rattle.relation_contexts.specs.Headline.{IsFirstOrderPair}
+use Rattle.relation_semantics.proofs.Erased.{forms_unify_by_parts}
+use Rattle.relation_semantics.specs.Headline.{IsFirstOrderPair}
 use Rattle.relation_terms.specs.Heads.{value_type}
 
 -- Forms but for those that relating looks at without a kind.

@@ -24,8 +24,8 @@ use Rattle.relation_terms.specs.Interning.{Sorted}
 use Rattle.relation_terms.proofs.Sorted.{widen, region_admitted, type_admitted, const_admitted}
 use Rattle.relation_terms.proofs.Members.{fit_args, mapped, region_term, type_term, const_term}
 use Rattle.relation_terms.proofs.Parts.{sort_known, arg_part}
-use Rattle.relation_contexts.specs.Parts.{parts_of, branches_of, const_parts_of, IsByParts}
-use Rattle.relation_contexts.specs.Making.{arg_sort, Fit, over, const_over}
+use Rattle.relation_semantics.specs.Parts.{parts_of, branches_of, const_parts_of, IsByParts}
+use Rattle.relation_semantics.specs.Making.{arg_sort, Fit, over, const_over}
 use Rattle.type_relations.proofs.Comparing.{value_shape}
 use Rattle.type_relations.proofs.Making.{value_of}
 

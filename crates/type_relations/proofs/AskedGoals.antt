@@ -9,18 +9,18 @@ use Rattle.relation_terms.specs.Heads.{region_sort, type_sort, const_sort, regio
 use Rattle.relation_terms.specs.Trees.{Tree, leaf, node, bind, nil, cons, count, nth, Leaves, Assign, apply, IsList}
 use Rattle.relation_terms.specs.Equality.{same_tree}
 use Rattle.relation_terms.proofs.Equality.{same_is, is_same}
-use Rattle.relation_contexts.specs.Relation.{Items, Interpretation, Rel, at, parts, same, anything, regions, alias_types, equal_consts, atoms, forms, no_parts, next_part, part_at, plain, sort_of, IsAlias, IsAliasHead, IsRelatedHead, IsEqualPair, IsOrderedPair, IsValueLeaf}
-use Rattle.relation_contexts.specs.Settings.{Settings, LeavesAliases}
-use Rattle.relation_contexts.specs.Steps.{HasNoBinder}
-use Rattle.relation_contexts.specs.Goals.{alias_relate_predicate}
-use Rattle.relation_contexts.specs.Errors.{outer_leaf, AreAlike, IsLeftToGoal}
-use Rattle.relation_contexts.specs.Agreeing.{IsFlexible, AreFlexible, IsLeftAside, Agree}
-use Rattle.relation_contexts.specs.Asking.{a_goal, HaveAlias, AsksFor, of_aliases, of_unevaluated, of_parts, IsPlainLeaf, IsPlainHead, IsPlainTerm}
-use Rattle.relation_contexts.proofs.Agreeing.{agree_sorts}
-use Rattle.relation_contexts.proofs.Erased.{leaf_path, no_error_atom}
-use Rattle.relation_contexts.proofs.Leaving.{opaque_is_alias, beside_is_opaque}
-use Rattle.relation_contexts.proofs.Related.{no_region_head}
-use Rattle.relation_contexts.proofs.Trees.{apply_ground}
+use Rattle.relation_semantics.specs.Relation.{Items, Interpretation, Rel, at, parts, same, anything, regions, alias_types, equal_consts, atoms, forms, no_parts, next_part, part_at, plain, sort_of, IsAlias, IsAliasHead, IsRelatedHead, IsEqualPair, IsOrderedPair, IsValueLeaf}
+use Rattle.relation_semantics.specs.Settings.{Settings, LeavesAliases}
+use Rattle.relation_semantics.specs.Steps.{HasNoBinder}
+use Rattle.relation_semantics.specs.Goals.{alias_relate_predicate}
+use Rattle.relation_semantics.specs.Errors.{outer_leaf, AreAlike, IsLeftToGoal}
+use Rattle.relation_semantics.specs.Agreeing.{IsFlexible, AreFlexible, IsLeftAside, Agree}
+use Rattle.relation_semantics.specs.Asking.{a_goal, HaveAlias, AsksFor, of_aliases, of_unevaluated, of_parts, IsPlainLeaf, IsPlainHead, IsPlainTerm}
+use Rattle.relation_semantics.proofs.Agreeing.{agree_sorts}
+use Rattle.relation_semantics.proofs.Erased.{leaf_path, no_error_atom}
+use Rattle.relation_semantics.proofs.Leaving.{opaque_is_alias, beside_is_opaque}
+use Rattle.relation_semantics.proofs.Related.{no_region_head}
+use Rattle.relation_semantics.proofs.Trees.{apply_ground}
 use Rattle.type_relations.specs.Completing.{AskedHolds}
 use Rattle.type_relations.proofs.RegionTerms.{IsNode, IsShaped, all_rule, outer_related}
 

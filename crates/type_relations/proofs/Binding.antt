@@ -1,7 +1,7 @@
 -- Of which kinds the variables are that are bound to what a term comes to.
 use Rattle.std.proofs.Common.{◌≢◌}
 use Rattle.relation_terms.specs.Heads.{VarKind, type_var, int_var, float_var, const_var, region_var}
-use Rattle.relation_contexts.specs.ErasureLaws.{IsTypeOrConst}
+use Rattle.relation_semantics.specs.ErasureLaws.{IsTypeOrConst}
 
 pub no_region : (k : VarKind) → IsTypeOrConst k → k ≢ region_var
 no_region type_var i e = cc

@@ -6,19 +6,19 @@ use Rattle.relation_terms.specs.Heads.{type_var, alias, unevaluated, variable, b
 use Rattle.relation_terms.specs.Trees.{Tree, leaf, node, bind, nil, cons, Assign, apply, known}
 use Rattle.relation_terms.specs.Meaning.{Extends}
 use Rattle.relation_folds.specs.declared.error.TypeError.TheVariants.{CyclicTy}
-use Rattle.relation_contexts.specs.declared.relate.StructurallyRelateAliases.{StructurallyRelateAliases}
-use Rattle.relation_contexts.specs.declared.relate.StructurallyRelateAliases.TheVariants.{No}
-use Rattle.relation_contexts.specs.Contexts.{Context}
-use Rattle.relation_contexts.specs.ContextCalls.{Instantiated}
-use Rattle.relation_contexts.specs.Generalising.{InstantiatesBy, Generalised, outside, any_part}
-use Rattle.relation_contexts.specs.Lawful.{State, items_of}
-use Rattle.relation_contexts.specs.Parts.{IsFormed}
-use Rattle.relation_contexts.specs.Relation.{Items, IsAlias}
-use Rattle.relation_contexts.specs.Resolving.{IsShallow, root as shallow_root, stays_bound, formed}
-use Rattle.relation_contexts.specs.Stores.{Store, resolved}
-use Rattle.relation_contexts.proofs.AliasSteps.{variables_come_of_aliases}
-use Rattle.relation_contexts.proofs.Resolved.{resolved_free}
-use Rattle.relation_contexts.specs.AskedAlone.{IsNoTyVar}
+use Rattle.relation_semantics.specs.declared.relate.StructurallyRelateAliases.{StructurallyRelateAliases}
+use Rattle.relation_semantics.specs.declared.relate.StructurallyRelateAliases.TheVariants.{No}
+use Rattle.relation_semantics.specs.Contexts.{Context}
+use Rattle.relation_semantics.specs.ContextCalls.{Instantiated}
+use Rattle.relation_semantics.specs.Generalising.{InstantiatesBy, Generalised, outside, any_part}
+use Rattle.relation_semantics.specs.Lawful.{State, items_of}
+use Rattle.relation_semantics.specs.Parts.{IsFormed}
+use Rattle.relation_semantics.specs.Relation.{Items, IsAlias}
+use Rattle.relation_semantics.specs.Resolving.{IsShallow, root as shallow_root, stays_bound, formed}
+use Rattle.relation_semantics.specs.Stores.{Store, resolved}
+use Rattle.relation_semantics.proofs.AliasSteps.{variables_come_of_aliases}
+use Rattle.relation_semantics.proofs.Resolved.{resolved_free}
+use Rattle.relation_semantics.specs.AskedAlone.{IsNoTyVar}
 use Rattle.type_relations.specs.Combining.{seen}
 use Rattle.type_relations.proofs.SolvingVariables.{type_comes_to_none}
 

@@ -4,20 +4,20 @@ use Rattle.term_enums.specs.declared.Variance.{Variance}
 use Rattle.relation_terms.specs.Heads.{region_sort, region_kind, type_kind, const_kind, BoundKind, bound_kind, bound_sort, VarKind, value_type, variable, placeholder}
 use Rattle.relation_terms.specs.Trees.{Tree, leaf, Assign, apply, Leaves, Occurs}
 use Rattle.relation_terms.specs.Erasure.{erase}
-use Rattle.relation_contexts.specs.Relation.{Interpretation}
-use Rattle.relation_contexts.specs.Stores.{Store, universe_of, IsNamable, IsSound, Satisfies, resolved}
-use Rattle.relation_contexts.specs.FirstOrder.{IsFirstOrder, IsFirstOrderStore, IsClosedLeaf, Unifies, IsErasedSolution}
-use Rattle.relation_contexts.specs.StoreLaws.{GeneralisingRefuses}
-use Rattle.relation_contexts.specs.Steps.{RefusesToInstantiate}
-use Rattle.relation_contexts.specs.ErasureLaws.{IsTypeOrConst}
-use Rattle.relation_contexts.specs.declared.relate.StructurallyRelateAliases.{StructurallyRelateAliases}
-use Rattle.relation_contexts.specs.Generalising.{Obstacle, cycle, beyond, StopsAt, at_itself, at_placeholder, in_parts, in_body, in_first, in_others, RefusesBy}
-use Rattle.relation_contexts.proofs.Resolved.{resolved_value, cycles_do_not_unify}
-use Rattle.relation_contexts.proofs.StoreCalls.{resolved_unifies}
-use Rattle.relation_contexts.proofs.Instantiating.{resolved_first_order}
-use Rattle.relation_contexts.proofs.Erased.{erased_occurs_check}
-use Rattle.relation_contexts.proofs.NewVariables.{Adds, adds, adds_goes}
-use Rattle.relation_contexts.proofs.Leafwise.{erased_named}
+use Rattle.relation_semantics.specs.Relation.{Interpretation}
+use Rattle.relation_semantics.specs.Stores.{Store, universe_of, IsNamable, IsSound, Satisfies, resolved}
+use Rattle.relation_semantics.specs.FirstOrder.{IsFirstOrder, IsFirstOrderStore, IsClosedLeaf, Unifies, IsErasedSolution}
+use Rattle.relation_semantics.specs.StoreLaws.{GeneralisingRefuses}
+use Rattle.relation_semantics.specs.Steps.{RefusesToInstantiate}
+use Rattle.relation_semantics.specs.ErasureLaws.{IsTypeOrConst}
+use Rattle.relation_semantics.specs.declared.relate.StructurallyRelateAliases.{StructurallyRelateAliases}
+use Rattle.relation_semantics.specs.Generalising.{Obstacle, cycle, beyond, StopsAt, at_itself, at_placeholder, in_parts, in_body, in_first, in_others, RefusesBy}
+use Rattle.relation_semantics.proofs.Resolved.{resolved_value, cycles_do_not_unify}
+use Rattle.relation_semantics.proofs.StoreCalls.{resolved_unifies}
+use Rattle.relation_semantics.proofs.Instantiating.{resolved_first_order}
+use Rattle.relation_semantics.proofs.Erased.{erased_occurs_check}
+use Rattle.relation_semantics.proofs.NewVariables.{Adds, adds, adds_goes}
+use Rattle.relation_semantics.proofs.Leafwise.{erased_named}
 
 -- An obstacle in a term.
 pub stops_occurs : {al : StructurallyRelateAliases} {before : Store} {k : VarKind} {n : ℕ} {o : Obstacle} {t : Tree} → o ≡ cycle → StopsAt al before k n o t → Occurs k n t

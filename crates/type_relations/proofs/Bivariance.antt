@@ -9,17 +9,17 @@ use Rattle.term_enums.specs.declared.Variance.TheVariants.{Bivariant}
 use Rattle.relation_terms.specs.Flags.{has_non_region_infer}
 use Rattle.relation_terms.specs.Heads.{region_sort, type_var, int_var, float_var, const_var, region_var, Leaf, variable, bound, placeholder, atom, unknown, adt, fn_def}
 use Rattle.relation_terms.specs.Trees.{Tree, leaf, node, bind, nil, cons, known, IsTerm, count}
-use Rattle.relation_contexts.specs.Relation.{Items}
+use Rattle.relation_semantics.specs.Relation.{Items}
 use Rattle.type_relations.specs.Arguments.{AreOverItem, adts, functions}
 use Rattle.type_relations.specs.Bivariance.{is_left_open, IsOpenAt, HasOpenArgument, TellsOpen, TellsEitherOpen, RegistersWellFormed, AsksWellFormed, AsksOfOver}
 use Rattle.type_relations.specs.Keyed.{AreOver}
-use Rattle.relation_contexts.specs.Lawful.{State, declared_by, items_of, items_in}
-use Rattle.relation_contexts.specs.Goals.{Goal, HasBivariantPart}
-use Rattle.relation_contexts.specs.Stores.{Store, entry_term, IsSound, IsTermIn}
-use Rattle.relation_contexts.proofs.Composing.{below_or}
+use Rattle.relation_semantics.specs.Lawful.{State, declared_by, items_of, items_in}
+use Rattle.relation_semantics.specs.Goals.{Goal, HasBivariantPart}
+use Rattle.relation_semantics.specs.Stores.{Store, entry_term, IsSound, IsTermIn}
+use Rattle.relation_semantics.proofs.Composing.{below_or}
 use Rattle.relation_terms.proofs.Members.{no_region}
-use Rattle.relation_contexts.proofs.Parts.{in_parts}
-use Rattle.relation_contexts.proofs.Resolved.{resolved_free}
+use Rattle.relation_semantics.proofs.Parts.{in_parts}
+use Rattle.relation_semantics.proofs.Resolved.{resolved_free}
 
 -- A region is never left open: region variables are not bound.
 pub region_closed : (st : Store) → IsSound st → (t : Tree) → IsTerm region_sort t → is_left_open st t ≡ false

@@ -13,8 +13,8 @@ use Rattle.relation_terms.specs.declared.terms.fn_sig.FnSig.{FnSig}
 use Rattle.relation_terms.specs.declared.predicate.existential.ExistentialPredicate.{ExistentialPredicate}
 use Rattle.relation_folds.specs.declared.error.RelateFault.{RelateFault}
 use Rattle.relation_folds.specs.declared.error.RelateFault.TheVariants.{Memory}
-use Rattle.relation_contexts.specs.Lawful.{State, Manners}
-use Rattle.relation_contexts.specs.Parts.{IsBinderPart, IsRelatedPart, ArePaired}
+use Rattle.relation_semantics.specs.Lawful.{State, Manners}
+use Rattle.relation_semantics.specs.Parts.{IsBinderPart, IsRelatedPart, ArePaired}
 use Rattle.type_relations.specs.Rounds.{RoundLeads, Opened}
 
 -- A binder, and another of its sort: of one kind of body.

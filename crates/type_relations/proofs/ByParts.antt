@@ -12,14 +12,14 @@ use Rattle.relation_terms.specs.Heads.{Sort, region_sort, type_sort, const_sort,
 use Rattle.relation_terms.specs.Trees.{Tree, node, cons, nth}
 use Rattle.relation_terms.specs.Meaning.{Meaning}
 use Rattle.relation_terms.specs.Parts.{part_tree, part_sort, part_of_arg, tree_sort, AreArgs}
-use Rattle.relation_contexts.specs.Errors.{AreOfOneForm, over_parts, over_aliases, one_leaf, parameters}
-use Rattle.relation_contexts.specs.Lawful.{State, Manners, Takes, Turned, Asked}
-use Rattle.relation_contexts.specs.Making.{arg_sort}
-use Rattle.relation_contexts.specs.Parts.{parts_of, IsRelatedPart, IsComparedPart, IsArgPart, IsBinderPart, ArePaired}
-use Rattle.relation_contexts.specs.Measures.{depth}
-use Rattle.relation_contexts.specs.Stores.{Store, IsTermIn, weight}
-use Rattle.relation_contexts.proofs.OneParts.{parts_counted}
-use Rattle.relation_contexts.proofs.Answering.{same_settings}
+use Rattle.relation_semantics.specs.Errors.{AreOfOneForm, over_parts, over_aliases, one_leaf, parameters}
+use Rattle.relation_semantics.specs.Lawful.{State, Manners, Takes, Turned, Asked}
+use Rattle.relation_semantics.specs.Making.{arg_sort}
+use Rattle.relation_semantics.specs.Parts.{parts_of, IsRelatedPart, IsComparedPart, IsArgPart, IsBinderPart, ArePaired}
+use Rattle.relation_semantics.specs.Measures.{depth}
+use Rattle.relation_semantics.specs.Stores.{Store, IsTermIn, weight}
+use Rattle.relation_semantics.proofs.OneParts.{parts_counted}
+use Rattle.relation_semantics.proofs.Answering.{same_settings}
 use Rattle.type_relations.proofs.Handing.{HaveAsManyInputs}
 use Rattle.type_relations.proofs.Patterns.{IsFormSort}
 

@@ -9,39 +9,39 @@ use Rattle.relation_terms.specs.Meaning.{Meaning, Extends}
 use Rattle.relation_folds.specs.declared.error.TypeError.TheVariants.{Sorts, CyclicConst}
 use Rattle.relation_folds.specs.declared.error.RelateFault.{RelateFault}
 use Rattle.relation_folds.specs.declared.error.RelateFault.TheVariants.{Unrelated}
-use Rattle.relation_contexts.specs.declared.relate.Step.{Step}
-use Rattle.relation_contexts.specs.declared.relate.Step.TheVariants.{Done, Parts}
+use Rattle.relation_semantics.specs.declared.relate.Step.{Step}
+use Rattle.relation_semantics.specs.declared.relate.Step.TheVariants.{Done, Parts}
 use Rattle.type_relations.specs.Combining.{MeetsTys, equated, left_bound, right_bound, left_unlike, right_unlike, ty_variable, by_parts, seen}
-use Rattle.relation_contexts.specs.AskedAlone.{IsNoTyVar}
+use Rattle.relation_semantics.specs.AskedAlone.{IsNoTyVar}
 use Rattle.type_relations.specs.Combining.{ReadsShallow, MeetsConsts, roots_equated, left_root_bound, left_root_refused, right_root_bound, right_root_refused, formed_by_parts}
-use Rattle.relation_contexts.specs.Contexts.{Context}
-use Rattle.relation_contexts.specs.ContextCalls.{BindingsBindByLists, Reads}
+use Rattle.relation_semantics.specs.Contexts.{Context}
+use Rattle.relation_semantics.specs.ContextCalls.{BindingsBindByLists, Reads}
 use Rattle.type_relations.specs.Emitting.{IsOver, WithContext}
 use Rattle.type_relations.specs.Keyed.{AskedTys, AskedConsts, SteppedTys, SteppedConsts}
 use Rattle.type_relations.specs.NumberVars.{number_kind}
 use Rattle.type_relations.specs.declared.relate.number_vars.NumberVid.{NumberVid}
-use Rattle.relation_contexts.specs.Errors.{itself, HaveNoError, IsLeftToGoal}
-use Rattle.relation_contexts.specs.Generalising.{NumbersNameNothing}
-use Rattle.relation_contexts.specs.Lawful.{State, Asked, Stepped}
-use Rattle.relation_contexts.specs.Parts.{IsFormed, IsFormedConst}
-use Rattle.relation_contexts.specs.Resolving.{IsShallowConst}
+use Rattle.relation_semantics.specs.Errors.{itself, HaveNoError, IsLeftToGoal}
+use Rattle.relation_semantics.specs.Generalising.{NumbersNameNothing}
+use Rattle.relation_semantics.specs.Lawful.{State, Asked, Stepped}
+use Rattle.relation_semantics.specs.Parts.{IsFormed, IsFormedConst}
+use Rattle.relation_semantics.specs.Resolving.{IsShallowConst}
 use Rattle.type_relations.specs.Solving.{solver_manner}
-use Rattle.relation_contexts.specs.Steps.{IsLater, IsNumberKind}
-use Rattle.relation_contexts.specs.Stores.{Store, IsSound, IsMade, unbound, entry_of, resolved}
+use Rattle.relation_semantics.specs.Steps.{IsLater, IsNumberKind}
+use Rattle.relation_semantics.specs.Stores.{Store, IsSound, IsMade, unbound, entry_of, resolved}
 use Rattle.type_relations.proofs.Binding.{no_region}
-use Rattle.relation_contexts.proofs.Going.{goes_nowhere, later_itself}
+use Rattle.relation_semantics.proofs.Going.{goes_nowhere, later_itself}
 use Rattle.type_relations.proofs.GeneralisingErrors.{const_cycle_error}
 use Rattle.type_relations.proofs.NumberVars.{is_number, type_formed}
-use Rattle.relation_contexts.proofs.Numbers.{IsNumber, number_no_region, number_goes}
-use Rattle.relation_contexts.proofs.OneUniverse.{keeps_itself}
-use Rattle.relation_contexts.proofs.Full.{full_itself}
-use Rattle.relation_contexts.proofs.Building.{built_itself}
+use Rattle.relation_semantics.proofs.Numbers.{IsNumber, number_no_region, number_goes}
+use Rattle.relation_semantics.proofs.OneUniverse.{keeps_itself}
+use Rattle.relation_semantics.proofs.Full.{full_itself}
+use Rattle.relation_semantics.proofs.Building.{built_itself}
 use Rattle.type_relations.proofs.OverContext.{carried, over_it, standing, all_taken, read_by_lists, one_step, roots_step, number_step, number_step_back, left_apart, right_apart, parts_step}
-use Rattle.relation_contexts.proofs.Roots.{roots_goes, exact_itself}
+use Rattle.relation_semantics.proofs.Roots.{roots_goes, exact_itself}
 use Rattle.type_relations.proofs.Shallowly.{shallow_free_const, variable_made}
 use Rattle.type_relations.proofs.SolvingVariables.{const_left_step, const_right_step, left_refused, right_refused, const_comes_to_none}
-use Rattle.relation_contexts.proofs.Standing.{term_context, term_within}
-use Rattle.relation_contexts.proofs.Agreeing.{agree_same}
+use Rattle.relation_semantics.proofs.Standing.{term_context, term_within}
+use Rattle.relation_semantics.proofs.Agreeing.{agree_same}
 
 of_numbers : (k : VarKind) → IsNumberKind k → IsNumber k
 of_numbers int_var h = tt

@@ -7,17 +7,17 @@ use Rattle.relation_terms.specs.Heads.{type_sort, type_var}
 use Rattle.relation_terms.specs.Trees.{Tree, IsTerm, known}
 use Rattle.relation_folds.specs.declared.error.RelateFault.{RelateFault}
 use Rattle.relation_folds.specs.declared.error.RelateFault.TheVariants.{Memory}
-use Rattle.relation_contexts.specs.declared.relate.Step.{Step}
-use Rattle.relation_contexts.specs.declared.relate.Step.TheVariants.{Done}
-use Rattle.relation_contexts.specs.AliasGoals.{alias_at}
-use Rattle.relation_contexts.specs.Contexts.{Context}
-use Rattle.relation_contexts.specs.Errors.{HaveNoError}
-use Rattle.relation_contexts.specs.Goals.{ambiguous_predicate}
-use Rattle.relation_contexts.specs.Lawful.{State}
-use Rattle.relation_contexts.specs.Parts.{IsFormed}
-use Rattle.relation_contexts.specs.Relation.{IsError, sort_of}
-use Rattle.relation_contexts.specs.Stores.{IsSound}
-use Rattle.relation_contexts.proofs.Standing.{term_context, term_sort_of}
+use Rattle.relation_semantics.specs.declared.relate.Step.{Step}
+use Rattle.relation_semantics.specs.declared.relate.Step.TheVariants.{Done}
+use Rattle.relation_semantics.specs.AliasGoals.{alias_at}
+use Rattle.relation_semantics.specs.Contexts.{Context}
+use Rattle.relation_semantics.specs.Errors.{HaveNoError}
+use Rattle.relation_semantics.specs.Goals.{ambiguous_predicate}
+use Rattle.relation_semantics.specs.Lawful.{State}
+use Rattle.relation_semantics.specs.Parts.{IsFormed}
+use Rattle.relation_semantics.specs.Relation.{IsError, sort_of}
+use Rattle.relation_semantics.specs.Stores.{IsSound}
+use Rattle.relation_semantics.proofs.Standing.{term_context, term_sort_of}
 use Rattle.type_relations.specs.Combining.{TaintsAlone, KeepsKept, TysCombine, left_to_goal, left_open, not_registered}
 use Rattle.type_relations.specs.Emitting.{IsOver, RegistersGoal, RegistersAlias}
 use Rattle.type_relations.specs.Keyed.{AskedTys, SteppedTys}

@@ -36,20 +36,20 @@ use Rattle.relation_folds.specs.declared.error.TypeError.TheVariants.{TupleSize,
 use Rattle.relation_folds.specs.declared.error.RelateFault.{RelateFault}
 use Rattle.relation_folds.specs.declared.error.RelateFault.TheVariants.{Unrelated}
 use Rattle.relation_folds.specs.Faults.{KnowsError, KnowsFault}
-use Rattle.relation_contexts.specs.Relation.{plain_atom, IsError, StaysWithin}
-use Rattle.relation_contexts.specs.Stores.{Store}
-use Rattle.relation_contexts.specs.Errors.{AreAlike, AreAlikeLeaves, AreAlikeConsts, AreOfOneValue, one_value, as_many_branches, IsVariableFor, AreBindable, HaveNoError, outer_head}
-use Rattle.relation_contexts.specs.Errors.{alike_leaves, of_one_item, both_expressions, both_values, unlike_aliases}
-use Rattle.relation_contexts.specs.Errors.{FormError, mutability, pointer_mutability, tuple_size, empty_tuple, as_many, alias_arguments, sorts}
-use Rattle.relation_contexts.specs.Errors.{ConstFormError, const_mismatch, operations, AreOfOneConst, one_const_leaf}
-use Rattle.relation_contexts.specs.Outcomes.{NoEqualTerms}
-use Rattle.relation_contexts.specs.Parts.{IsFormed, IsFormedConst}
-use Rattle.relation_contexts.specs.Parts.{parts_of, const_parts_of, branches_of}
+use Rattle.relation_semantics.specs.Relation.{plain_atom, IsError, StaysWithin}
+use Rattle.relation_semantics.specs.Stores.{Store}
+use Rattle.relation_semantics.specs.Errors.{AreAlike, AreAlikeLeaves, AreAlikeConsts, AreOfOneValue, one_value, as_many_branches, IsVariableFor, AreBindable, HaveNoError, outer_head}
+use Rattle.relation_semantics.specs.Errors.{alike_leaves, of_one_item, both_expressions, both_values, unlike_aliases}
+use Rattle.relation_semantics.specs.Errors.{FormError, mutability, pointer_mutability, tuple_size, empty_tuple, as_many, alias_arguments, sorts}
+use Rattle.relation_semantics.specs.Errors.{ConstFormError, const_mismatch, operations, AreOfOneConst, one_const_leaf}
+use Rattle.relation_semantics.specs.Outcomes.{NoEqualTerms}
+use Rattle.relation_semantics.specs.Parts.{IsFormed, IsFormedConst}
+use Rattle.relation_semantics.specs.Parts.{parts_of, const_parts_of, branches_of}
 use Rattle.type_relations.specs.Forms.{tree_outline}
 use Rattle.type_relations.specs.Comparing.{AreOfOneItem}
 use Rattle.relation_terms.specs.declared.terms.alias.UnevaluatedConst.{UnevaluatedConst}
 use Rattle.type_relations.specs.declared.relate.forms.Form.TheVariants.{Leaf as LeafForm}
-use Rattle.relation_contexts.proofs.OneParts.{lists_apart, count_applied}
+use Rattle.relation_semantics.proofs.OneParts.{lists_apart, count_applied}
 
 formed_no_variable : (t u : Tree) → IsFormed t → IsVariableFor t u → ⊥
 formed_no_variable (leaf (variable k n)) u h e = h

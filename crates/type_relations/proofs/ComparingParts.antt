@@ -29,11 +29,11 @@ use Rattle.relation_folds.specs.declared.error.TypeError.{TypeError}
 use Rattle.relation_folds.specs.declared.error.TypeError.TheVariants.{Mismatch, Traits, ProjectionMismatched}
 use Rattle.relation_folds.specs.declared.error.TypeError.TheVariants.{VariadicMismatch, SafetyMismatch, AbiMismatch}
 use Rattle.relation_folds.specs.declared.error.TypeError.TheVariants.{ExistentialMismatch}
-use Rattle.relation_contexts.specs.Errors.{AreOfOneForm, over_parts, SignatureError, unlike_variadic, unlike_safety}
-use Rattle.relation_contexts.specs.Errors.{unlike_abi, AreAlikeExistentials, AreAlikeMembers}
-use Rattle.relation_contexts.specs.Errors.{ObjectError, unlike_numbers, unlike_members, PartError}
-use Rattle.relation_contexts.specs.Errors.{ExistentialError, unlike_traits, unlike_auto_traits, unlike_projections}
-use Rattle.relation_contexts.specs.Parts.{IsComparedPart, parts_of}
+use Rattle.relation_semantics.specs.Errors.{AreOfOneForm, over_parts, SignatureError, unlike_variadic, unlike_safety}
+use Rattle.relation_semantics.specs.Errors.{unlike_abi, AreAlikeExistentials, AreAlikeMembers}
+use Rattle.relation_semantics.specs.Errors.{ObjectError, unlike_numbers, unlike_members, PartError}
+use Rattle.relation_semantics.specs.Errors.{ExistentialError, unlike_traits, unlike_auto_traits, unlike_projections}
+use Rattle.relation_semantics.specs.Parts.{IsComparedPart, parts_of}
 use Rattle.relation_terms.proofs.Members.{list_count, list_nth, item_known}
 use Rattle.type_relations.proofs.PartErrors.{members_as, counts_alike, counts_differ}
 

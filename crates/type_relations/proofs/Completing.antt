@@ -12,22 +12,22 @@ use Rattle.relation_terms.specs.Interning.{Sorted}
 use Rattle.relation_folds.specs.declared.error.TypeError.{TypeError}
 use Rattle.relation_folds.specs.declared.error.RelateFault.{RelateFault}
 use Rattle.relation_folds.specs.declared.error.RelateFault.TheVariants.{Memory, Budget, Unrelated}
-use Rattle.relation_contexts.specs.declared.relate.StructurallyRelateAliases.{StructurallyRelateAliases}
-use Rattle.relation_contexts.specs.Contexts.{Context}
-use Rattle.relation_contexts.specs.Lawful.{items_of, declared_by}
-use Rattle.relation_contexts.specs.Stores.{Store, IsSound}
+use Rattle.relation_semantics.specs.declared.relate.StructurallyRelateAliases.{StructurallyRelateAliases}
+use Rattle.relation_semantics.specs.Contexts.{Context}
+use Rattle.relation_semantics.specs.Lawful.{items_of, declared_by}
+use Rattle.relation_semantics.specs.Stores.{Store, IsSound}
 use Rattle.relation_terms.specs.Heads.{Sort, region_sort, region_kind, type_kind, const_kind, bound_kind, region_var, leaf_sort, Atom, atom_sort, early_region, type_param, const_param, Head, fn_ptr, unsafe_binder, alias, alias_term, unevaluated, value_type, Leaf, variable, bound, placeholder, atom, unknown, one, term_of}
 use Rattle.relation_terms.specs.Trees.{Tree, leaf, node, bind, nil, cons, count, Leaves}
 use Rattle.relation_terms.specs.Erasure.{erase, erase_leaf, erase_atom, kept_parts}
-use Rattle.relation_contexts.specs.Relation.{Items, Interpretation, Rel, at, parts, same, anything, error_left, error_right, regions, alias_types, equal_consts, atoms, forms, no_parts, next_part, covariant_binders, contravariant_binders, invariant_binders, part_at, plain, sort_of, IsError, IsErrorAtom, IsAlias, IsAliasHead, AliasRule, IsValue, IsValueLeaf}
-use Rattle.relation_contexts.specs.Settings.{Settings, LeavesAliases}
-use Rattle.relation_contexts.specs.Steps.{HasNoBinder}
-use Rattle.relation_contexts.specs.Errors.{outer_leaf, AreAlike, ErrorOf}
-use Rattle.relation_contexts.specs.Agreeing.{IsFlexible, AreFlexible, IsLeftAside, Agree}
-use Rattle.relation_contexts.specs.Asking.{HaveAlias, IsPlainHead, IsPlainTerm, HasNoAlias, ArePlain, without_aliases, without_binders}
-use Rattle.relation_contexts.proofs.Agreeing.{agree_anything, agree_same, agree_left, agree_sorts, region_flexible}
-use Rattle.relation_contexts.proofs.Asking.{no_alias_term}
-use Rattle.relation_contexts.proofs.Erased.{leaf_path, erase_region, erase_plain, no_error_atom}
+use Rattle.relation_semantics.specs.Relation.{Items, Interpretation, Rel, at, parts, same, anything, error_left, error_right, regions, alias_types, equal_consts, atoms, forms, no_parts, next_part, covariant_binders, contravariant_binders, invariant_binders, part_at, plain, sort_of, IsError, IsErrorAtom, IsAlias, IsAliasHead, AliasRule, IsValue, IsValueLeaf}
+use Rattle.relation_semantics.specs.Settings.{Settings, LeavesAliases}
+use Rattle.relation_semantics.specs.Steps.{HasNoBinder}
+use Rattle.relation_semantics.specs.Errors.{outer_leaf, AreAlike, ErrorOf}
+use Rattle.relation_semantics.specs.Agreeing.{IsFlexible, AreFlexible, IsLeftAside, Agree}
+use Rattle.relation_semantics.specs.Asking.{HaveAlias, IsPlainHead, IsPlainTerm, HasNoAlias, ArePlain, without_aliases, without_binders}
+use Rattle.relation_semantics.proofs.Agreeing.{agree_anything, agree_same, agree_left, agree_sorts, region_flexible}
+use Rattle.relation_semantics.proofs.Asking.{no_alias_term}
+use Rattle.relation_semantics.proofs.Erased.{leaf_path, erase_region, erase_plain, no_error_atom}
 use Rattle.type_relations.proofs.Unifying.{erased_sort}
 use Rattle.type_relations.specs.Completing.{AreRelatedAsAsked, AreNeverRelated, ErrorsDisagree, ErrorsAreUnrelated, AgreeingAreRelated, Completes}
 use Rattle.type_relations.specs.Relating.{term_in, RelatesAgreeing, AnswersError}

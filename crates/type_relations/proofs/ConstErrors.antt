@@ -6,14 +6,14 @@ use Rattle.relation_terms.specs.Heads.{Sort, const_sort, Admits, head_sort, VarK
 use Rattle.relation_terms.specs.Trees.{Tree, leaf, node, bind, nil, cons, IsTerm, AreTerms, count, nth}
 use Rattle.relation_terms.specs.Meaning.{Meaning}
 use Rattle.relation_folds.specs.declared.error.TypeError.{TypeError}
-use Rattle.relation_contexts.specs.Relation.{Items, part_at}
-use Rattle.relation_contexts.specs.Stores.{Store, entry_term, MayStandFor, IsSound}
-use Rattle.relation_contexts.specs.Settings.{Settings}
-use Rattle.relation_contexts.specs.Errors.{IsHandedOn, IsReadAs, itself, by_class, by_binding}
-use Rattle.relation_contexts.specs.Errors.{ErrorOf, of_entries, of_bodies, of_binding, of_binding_back, of_kinds, by_forms}
-use Rattle.relation_contexts.specs.Errors.{ErrorByForms, of_forms, of_const_forms, of_part_forms, of_parts, of_alias_parts, of_length}
-use Rattle.relation_contexts.specs.Errors.{of_alias_term_parts, of_trait_refs}
-use Rattle.relation_contexts.specs.Errors.{of_inputs, of_outputs, of_branches}
+use Rattle.relation_semantics.specs.Relation.{Items, part_at}
+use Rattle.relation_semantics.specs.Stores.{Store, entry_term, MayStandFor, IsSound}
+use Rattle.relation_semantics.specs.Settings.{Settings}
+use Rattle.relation_semantics.specs.Errors.{IsHandedOn, IsReadAs, itself, by_class, by_binding}
+use Rattle.relation_semantics.specs.Errors.{ErrorOf, of_entries, of_bodies, of_binding, of_binding_back, of_kinds, by_forms}
+use Rattle.relation_semantics.specs.Errors.{ErrorByForms, of_forms, of_const_forms, of_part_forms, of_parts, of_alias_parts, of_length}
+use Rattle.relation_semantics.specs.Errors.{of_alias_term_parts, of_trait_refs}
+use Rattle.relation_semantics.specs.Errors.{of_inputs, of_outputs, of_branches}
 use Rattle.type_relations.proofs.Constants.{still, fixed}
 
 -- What a constant is read as is one.

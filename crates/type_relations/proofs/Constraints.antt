@@ -6,9 +6,9 @@ use Rattle.term_enums.specs.declared.Variance.TheVariants.{Bivariant}
 use Rattle.relation_terms.specs.declared.terms.keys.RegionKey.{RegionKey}
 use Rattle.relation_terms.specs.Trees.{Assign, apply}
 use Rattle.relation_terms.specs.Meaning.{Meaning}
-use Rattle.relation_contexts.specs.Relation.{Interpretation, RegionRule, itself}
-use Rattle.relation_contexts.specs.Stores.{Store, IsRegionIn, ConstraintIn, ConstraintHolds}
-use Rattle.relation_contexts.specs.Constraints.{constraint_at, constraint_of}
+use Rattle.relation_semantics.specs.Relation.{Interpretation, RegionRule, itself}
+use Rattle.relation_semantics.specs.Stores.{Store, IsRegionIn, ConstraintIn, ConstraintHolds}
+use Rattle.relation_semantics.specs.Constraints.{constraint_at, constraint_of}
 
 module _ {Key Id Name : Type 0} (m : Meaning Key Id Name) where
   -- It is of a store that has the regions.

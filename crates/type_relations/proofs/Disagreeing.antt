@@ -10,17 +10,17 @@ use Rattle.relation_terms.specs.Erasure.{erase}
 use Rattle.relation_terms.specs.Meaning.{Meaning}
 use Rattle.relation_terms.specs.Interning.{Sorted}
 use Rattle.relation_folds.specs.declared.error.TypeError.{TypeError}
-use Rattle.relation_contexts.specs.declared.relate.StructurallyRelateAliases.{StructurallyRelateAliases}
-use Rattle.relation_contexts.specs.Relation.{Items, at, parts, part_at, sort_of, IsAlias, IsAliasHead}
-use Rattle.relation_contexts.specs.Settings.{Settings}
-use Rattle.relation_contexts.specs.Stores.{Store}
-use Rattle.relation_contexts.specs.Errors.{AreAlike, IsHandedOn, IsItemHead, IsLeftToGoal, FormError, mutability, pointer_mutability, tuple_size, empty_tuple, as_many, alias_arguments, unlike_aliases, sorts}
-use Rattle.relation_contexts.specs.Errors.{ConstFormError, const_mismatch, operations, unlike_patterns, SignatureError, unlike_variadic, unlike_safety, unlike_abi, unlike_counts, ExistentialError, unlike_traits, unlike_auto_traits, unlike_projections, unlike_arguments, unlike_existentials, ItemError, unlike_alias_terms, unlike_trait_refs, unlike_lists, unlike_polarities}
-use Rattle.relation_contexts.specs.Errors.{PartError, pattern_error, signature_error, existential_error, item_error, object_error, BindingError, cyclic_ty, cyclic_const, beyond, ErrorOf, of_entries, of_bodies, of_binding, of_binding_back, of_kinds, by_forms, ErrorByForms, of_forms, of_const_forms, of_part_forms, of_parts, of_alias_parts, of_alias_term_parts, of_trait_refs, of_length, of_inputs, of_outputs, of_branches}
-use Rattle.relation_contexts.specs.Agreeing.{Agree}
-use Rattle.relation_contexts.specs.Asking.{HasNoAlias}
-use Rattle.relation_contexts.proofs.Answering.{covariantly}
-use Rattle.relation_contexts.proofs.Asking.{part_bivariant}
+use Rattle.relation_semantics.specs.declared.relate.StructurallyRelateAliases.{StructurallyRelateAliases}
+use Rattle.relation_semantics.specs.Relation.{Items, at, parts, part_at, sort_of, IsAlias, IsAliasHead}
+use Rattle.relation_semantics.specs.Settings.{Settings}
+use Rattle.relation_semantics.specs.Stores.{Store}
+use Rattle.relation_semantics.specs.Errors.{AreAlike, IsHandedOn, IsItemHead, IsLeftToGoal, FormError, mutability, pointer_mutability, tuple_size, empty_tuple, as_many, alias_arguments, unlike_aliases, sorts}
+use Rattle.relation_semantics.specs.Errors.{ConstFormError, const_mismatch, operations, unlike_patterns, SignatureError, unlike_variadic, unlike_safety, unlike_abi, unlike_counts, ExistentialError, unlike_traits, unlike_auto_traits, unlike_projections, unlike_arguments, unlike_existentials, ItemError, unlike_alias_terms, unlike_trait_refs, unlike_lists, unlike_polarities}
+use Rattle.relation_semantics.specs.Errors.{PartError, pattern_error, signature_error, existential_error, item_error, object_error, BindingError, cyclic_ty, cyclic_const, beyond, ErrorOf, of_entries, of_bodies, of_binding, of_binding_back, of_kinds, by_forms, ErrorByForms, of_forms, of_const_forms, of_part_forms, of_parts, of_alias_parts, of_alias_term_parts, of_trait_refs, of_length, of_inputs, of_outputs, of_branches}
+use Rattle.relation_semantics.specs.Agreeing.{Agree}
+use Rattle.relation_semantics.specs.Asking.{HasNoAlias}
+use Rattle.relation_semantics.proofs.Answering.{covariantly}
+use Rattle.relation_semantics.proofs.Asking.{part_bivariant}
 use Rattle.type_relations.proofs.PlainTerms.{Suits, Good, good_parts, good_first, good_rest, good_nth, suits_body, no_left, alias_left, admitted_type, Alike, Met, met_as, FormsAgree, forms_agree, no_alias_head, agree_counts, agree_at, same_sort, leaves_alike, types_alike}
 use Rattle.type_relations.proofs.PlainForms.{no_pattern, stand_regions, inst_plain, inst_no_alias, erase-inst, RegionsUnbound, read_good, no_placeholder, plain_known, consts_alike, existentials_alike}
 

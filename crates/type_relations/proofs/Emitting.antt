@@ -11,11 +11,11 @@ use Rattle.relation_terms.specs.declared.terms.keys.PredicateKey.{PredicateKey}
 use Rattle.relation_terms.specs.Trees.{known}
 use Rattle.relation_terms.specs.Meaning.{Meaning}
 use Rattle.type_relations.specs.Emitting.{AddsGoals, KnowsPredicate}
-use Rattle.relation_contexts.specs.Goals.{Goal, goal_of, goals_of, KnowsGoal}
+use Rattle.relation_semantics.specs.Goals.{Goal, goal_of, goals_of, KnowsGoal}
 use Rattle.type_relations.specs.Solving.{Held, HeldRelated, solving}
-use Rattle.relation_contexts.specs.Stores.{Store}
+use Rattle.relation_semantics.specs.Stores.{Store}
 use Rattle.relation_terms.proofs.Stays.{stays_same}
-use Rattle.relation_contexts.proofs.Going.{later_itself}
+use Rattle.relation_semantics.proofs.Going.{later_itself}
 use Rattle.type_relations.proofs.Solving.{held_related}
 
 module _ {Key Id Name : Type 0} (m : Meaning Key Id Name) where

@@ -6,21 +6,21 @@ use Rattle.term_enums.specs.declared.Variance.TheVariants.{Invariant}
 use Rattle.relation_terms.specs.Heads.{VarKind, type_var, int_var, float_var, const_var, region_var, region_sort, Admits, var_sort}
 use Rattle.relation_terms.specs.Heads.{variable, bound, placeholder, atom, unknown}
 use Rattle.relation_terms.specs.Trees.{Tree, leaf, node, bind, nil, cons, IsTerm, Assign, apply, Leaves}
-use Rattle.relation_contexts.specs.Relation.{sort_of}
+use Rattle.relation_semantics.specs.Relation.{sort_of}
 use Rattle.relation_folds.specs.Faults.{IfUnrelated}
 use Rattle.relation_folds.specs.declared.error.RelateFault.{RelateFault}
 use Rattle.relation_folds.specs.declared.error.RelateFault.TheVariants.{Memory, Budget, Unrelated}
-use Rattle.relation_contexts.specs.Lawful.{ExactResult}
-use Rattle.relation_contexts.specs.Stores.{Store, unbound, entry_of, entry_term, IsNamable, IsRegionIn, IsSound, IsAssignment, IsTermIn}
-use Rattle.relation_contexts.specs.FirstOrder.{IsFirstOrder, IsFirstOrderStore, Unifies, IsErasedSolution}
-use Rattle.relation_contexts.specs.Headline.{IsFirstOrderPair}
-use Rattle.relation_contexts.specs.Errors.{IsReadAs, itself, by_class, by_binding}
-use Rattle.relation_contexts.specs.Steps.{IsLater}
-use Rattle.relation_contexts.specs.Outcomes.{Exact, ExactStep, NoUnifier}
-use Rattle.relation_contexts.proofs.ReadAs.{read_resolves}
-use Rattle.relation_contexts.proofs.Going.{later_itself}
-use Rattle.relation_contexts.proofs.Erased.{erase_region}
-use Rattle.relation_contexts.proofs.Standing.{made_of_term, stands_term, term_sort_of}
+use Rattle.relation_semantics.specs.Lawful.{ExactResult}
+use Rattle.relation_semantics.specs.Stores.{Store, unbound, entry_of, entry_term, IsNamable, IsRegionIn, IsSound, IsAssignment, IsTermIn}
+use Rattle.relation_semantics.specs.FirstOrder.{IsFirstOrder, IsFirstOrderStore, Unifies, IsErasedSolution}
+use Rattle.relation_semantics.specs.Headline.{IsFirstOrderPair}
+use Rattle.relation_semantics.specs.Errors.{IsReadAs, itself, by_class, by_binding}
+use Rattle.relation_semantics.specs.Steps.{IsLater}
+use Rattle.relation_semantics.specs.Outcomes.{Exact, ExactStep, NoUnifier}
+use Rattle.relation_semantics.proofs.ReadAs.{read_resolves}
+use Rattle.relation_semantics.proofs.Going.{later_itself}
+use Rattle.relation_semantics.proofs.Erased.{erase_region}
+use Rattle.relation_semantics.proofs.Standing.{made_of_term, stands_term, term_sort_of}
 
 -- The value of a region of the context is a region.
 region_kind_only : (k : VarKind) → Admits region_sort (var_sort k) → var_sort k ≡ region_sort

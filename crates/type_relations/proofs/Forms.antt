@@ -20,11 +20,11 @@ use Rattle.type_relations.specs.declared.relate.forms.Form.TheVariants.{Leaf, Ad
 use Rattle.type_relations.specs.declared.relate.forms.Form.TheVariants.{Coroutine, CoroutineWitness, Array, Slice}
 use Rattle.type_relations.specs.declared.relate.forms.Form.TheVariants.{Pat, RawPtr, Ref, Tuple, FnPtr, UnsafeBinder, Dynamic}
 use Rattle.type_relations.specs.declared.relate.forms.Form.TheVariants.{Alias}
-use Rattle.relation_contexts.specs.Parts.{parts_of, head_of}
+use Rattle.relation_semantics.specs.Parts.{parts_of, head_of}
 use Rattle.type_relations.specs.Forms.{named_outline, head_outline, tree_outline, IsFixed}
-use Rattle.relation_contexts.specs.Errors.{outer_head, outermost, AreAlike, AreOfOneForm, over_parts, over_aliases, one_leaf}
-use Rattle.relation_contexts.specs.Errors.{FormError, mutability, pointer_mutability, as_many, alias_arguments, unlike_aliases}
-use Rattle.relation_contexts.specs.Errors.{HaveNoError}
+use Rattle.relation_semantics.specs.Errors.{outer_head, outermost, AreAlike, AreOfOneForm, over_parts, over_aliases, one_leaf}
+use Rattle.relation_semantics.specs.Errors.{FormError, mutability, pointer_mutability, as_many, alias_arguments, unlike_aliases}
+use Rattle.relation_semantics.specs.Errors.{HaveNoError}
 use Rattle.type_relations.proofs.Comparing.{unlike_as, lengths_error}
 
 -- The form that an outline is of, but for an alias's, whose kind it leaves out.

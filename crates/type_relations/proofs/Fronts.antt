@@ -2,34 +2,34 @@
 use Rattle.std.proofs.Common.{◌≡◌, ℕ, zero, suc, ◌+◌, ◌≤◌, ◌<◌, refl, sym, ap, ◌∙◌, subst, subst₂, arith, List, [], ◌++◌, Ok, Err}
 use Rattle.term_enums.specs.declared.Variance.TheVariants.{Invariant}
 use Rattle.term_enums.specs.Variances.{xform}
-use Rattle.relation_contexts.specs.FirstOrder.{IsFirstOrder, IsFirstOrderStore}
-use Rattle.relation_contexts.specs.Headline.{IsFirstOrderPair}
-use Rattle.relation_contexts.proofs.Exactness.{exact_front_goes_on, exact_front_ends}
+use Rattle.relation_semantics.specs.FirstOrder.{IsFirstOrder, IsFirstOrderStore}
+use Rattle.relation_semantics.specs.Headline.{IsFirstOrderPair}
+use Rattle.relation_semantics.proofs.Exactness.{exact_front_goes_on, exact_front_ends}
 use Rattle.term_enums.specs.declared.Variance.{Variance}
 use Rattle.relation_terms.specs.Heads.{Head, value_type}
 use Rattle.relation_terms.specs.Trees.{Tree, leaf, node, bind, nil, cons, IsList, count, nth, Leaves}
-use Rattle.relation_contexts.specs.Relation.{Items, at, parts, part_at, mode}
-use Rattle.relation_contexts.specs.Stores.{Store, InContext, weight, resolved}
-use Rattle.relation_contexts.specs.Agreeing.{Agree}
-use Rattle.relation_contexts.specs.Outcomes.{Outcome, Front, NeverOne, Exact, ExactFront, NoUnifier}
-use Rattle.relation_contexts.specs.Measures.{grown}
-use Rattle.relation_contexts.specs.Steps.{HasNoBinder, StaysFullFor}
-use Rattle.relation_contexts.specs.Goals.{Goal}
-use Rattle.relation_contexts.specs.Kits.{IsBuiltOf, StaysBuilt}
+use Rattle.relation_semantics.specs.Relation.{Items, at, parts, part_at, mode}
+use Rattle.relation_semantics.specs.Stores.{Store, InContext, weight, resolved}
+use Rattle.relation_semantics.specs.Agreeing.{Agree}
+use Rattle.relation_semantics.specs.Outcomes.{Outcome, Front, NeverOne, Exact, ExactFront, NoUnifier}
+use Rattle.relation_semantics.specs.Measures.{grown}
+use Rattle.relation_semantics.specs.Steps.{HasNoBinder, StaysFullFor}
+use Rattle.relation_semantics.specs.Goals.{Goal}
+use Rattle.relation_semantics.specs.Kits.{IsBuiltOf, StaysBuilt}
 use Rattle.relation_folds.specs.declared.error.RelateFault.{RelateFault}
 use Rattle.relation_folds.specs.declared.error.RelateFault.TheVariants.{Memory, Budget, Unrelated}
-use Rattle.relation_contexts.specs.OneUniverse.{NamesTypesTo, KeepsUniverseOf, LeadsInUniverse}
-use Rattle.relation_contexts.specs.Lawful.{State, Manners, Passes, Related, ExactResult, items_in}
-use Rattle.relation_contexts.proofs.OneUniverse.{keeps_itself, keeps_pair, leaves_nth, led_keeps, led_binds, led_fewer}
-use Rattle.relation_contexts.proofs.Going.{pair_grown, later_itself}
-use Rattle.relation_contexts.proofs.Full.{full_itself, full_then, nth_plain}
-use Rattle.relation_contexts.proofs.Building.{built_itself, built_led, built_nth}
-use Rattle.relation_contexts.proofs.Composing.{front_begins, front_goes_on, front_ends}
-use Rattle.relation_contexts.proofs.Passing.{passes_nowhere, passes_then, manner_then, outcome_seen}
-use Rattle.relation_contexts.proofs.Parts.{nth_size}
-use Rattle.relation_contexts.proofs.Agreeing.{agree_parts}
-use Rattle.relation_contexts.proofs.AgreeingForms.{next_agrees}
-use Rattle.relation_contexts.proofs.Answering.{same_items, same_settings}
+use Rattle.relation_semantics.specs.OneUniverse.{NamesTypesTo, KeepsUniverseOf, LeadsInUniverse}
+use Rattle.relation_semantics.specs.Lawful.{State, Manners, Passes, Related, ExactResult, items_in}
+use Rattle.relation_semantics.proofs.OneUniverse.{keeps_itself, keeps_pair, leaves_nth, led_keeps, led_binds, led_fewer}
+use Rattle.relation_semantics.proofs.Going.{pair_grown, later_itself}
+use Rattle.relation_semantics.proofs.Full.{full_itself, full_then, nth_plain}
+use Rattle.relation_semantics.proofs.Building.{built_itself, built_led, built_nth}
+use Rattle.relation_semantics.proofs.Composing.{front_begins, front_goes_on, front_ends}
+use Rattle.relation_semantics.proofs.Passing.{passes_nowhere, passes_then, manner_then, outcome_seen}
+use Rattle.relation_semantics.proofs.Parts.{nth_size}
+use Rattle.relation_semantics.proofs.Agreeing.{agree_parts}
+use Rattle.relation_semantics.proofs.AgreeingForms.{next_agrees}
+use Rattle.relation_semantics.proofs.Answering.{same_items, same_settings}
 
 -- Forms whose parts are looked at, which are at invariance where the form is.
 abbrev pub IsLookedAt : Head → Type 0

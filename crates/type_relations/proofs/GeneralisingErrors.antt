@@ -6,13 +6,13 @@ use Rattle.relation_terms.specs.Meaning.{Meaning}
 use Rattle.relation_terms.specs.declared.terms.keys.TyKey.{TyKey}
 use Rattle.relation_terms.specs.declared.terms.keys.ConstKey.{ConstKey}
 use Rattle.relation_folds.specs.declared.error.TypeError.TheVariants.{CyclicTy, CyclicConst, Mismatch}
-use Rattle.relation_contexts.specs.declared.relate.StructurallyRelateAliases.{StructurallyRelateAliases}
-use Rattle.relation_contexts.specs.Stores.{Store, universe_of, IsSound, resolved}
-use Rattle.relation_contexts.specs.Generalising.{Obstacle, cycle, beyond, StopsAt, at_itself, at_placeholder, in_parts, in_body, in_first, in_others, RefusesBy}
-use Rattle.relation_contexts.specs.Errors.{StandsSeen, IsCycle, BindingError, cyclic_ty, cyclic_const}
-use Rattle.relation_contexts.specs.Errors.{beyond as beyond_universe}
-use Rattle.relation_contexts.proofs.Trees.{apply_alike}
-use Rattle.relation_contexts.proofs.NewVariables.{Adds, adds}
+use Rattle.relation_semantics.specs.declared.relate.StructurallyRelateAliases.{StructurallyRelateAliases}
+use Rattle.relation_semantics.specs.Stores.{Store, universe_of, IsSound, resolved}
+use Rattle.relation_semantics.specs.Generalising.{Obstacle, cycle, beyond, StopsAt, at_itself, at_placeholder, in_parts, in_body, in_first, in_others, RefusesBy}
+use Rattle.relation_semantics.specs.Errors.{StandsSeen, IsCycle, BindingError, cyclic_ty, cyclic_const}
+use Rattle.relation_semantics.specs.Errors.{beyond as beyond_universe}
+use Rattle.relation_semantics.proofs.Trees.{apply_alike}
+use Rattle.relation_semantics.proofs.NewVariables.{Adds, adds}
 
 cycle_seen : {al : StructurallyRelateAliases} {st : Store} {k : VarKind} {n : ℕ} {o : Obstacle} {t : Tree} → o ≡ cycle → StopsAt al st k n o t → StandsSeen al (variable k n) t
 cycle_seen e (at_itself p q) = ap leaf q

@@ -4,21 +4,21 @@ use Rattle.term_enums.specs.declared.Variance.{Variance}
 use Rattle.term_enums.specs.declared.Variance.TheVariants.{Invariant}
 use Rattle.relation_terms.specs.Heads.{VarKind, type_var, const_var, region_var, region_kind, bound_kind, static_region, early_region, value_type, alias, Head, Leaf, variable, placeholder, atom}
 use Rattle.relation_terms.specs.Trees.{Tree, node, Leaves, apply}
-use Rattle.relation_contexts.specs.declared.relate.StructurallyRelateAliases.{StructurallyRelateAliases}
-use Rattle.relation_contexts.specs.Relation.{Items}
-use Rattle.relation_contexts.specs.Stores.{Store, IsMadeLeaf, InContext, universe_of, IsMade, IsTermIn, IsSound, MayStandFor, resolved}
-use Rattle.relation_contexts.specs.FirstOrder.{IsFirstOrder, IsFirstOrderStore, IsClosedLeaf, IsTypeClosed}
-use Rattle.relation_contexts.specs.ErasureLaws.{IsTypeOrConst}
-use Rattle.relation_contexts.specs.Steps.{IsNamedBy, LacksAliases, MakesVariable, Instantiates}
-use Rattle.relation_contexts.specs.OneUniverse.{NamesTypesTo, HasOneUniverse, StaysOf}
+use Rattle.relation_semantics.specs.declared.relate.StructurallyRelateAliases.{StructurallyRelateAliases}
+use Rattle.relation_semantics.specs.Relation.{Items}
+use Rattle.relation_semantics.specs.Stores.{Store, IsMadeLeaf, InContext, universe_of, IsMade, IsTermIn, IsSound, MayStandFor, resolved}
+use Rattle.relation_semantics.specs.FirstOrder.{IsFirstOrder, IsFirstOrderStore, IsClosedLeaf, IsTypeClosed}
+use Rattle.relation_semantics.specs.ErasureLaws.{IsTypeOrConst}
+use Rattle.relation_semantics.specs.Steps.{IsNamedBy, LacksAliases, MakesVariable, Instantiates}
+use Rattle.relation_semantics.specs.OneUniverse.{NamesTypesTo, HasOneUniverse, StaysOf}
 use Rattle.type_relations.specs.UniverseLaws.{GeneralisingKeepsUniverse}
-use Rattle.relation_contexts.specs.Generalising.{Stays, gives_way_to, Stage, Turn, any_part, new_part, parts_from, Generalised, met_before, met_first, no_type, stays, gives_way, alias_gives_way, by_parts, in_binder, no_parts, next_part, variance_for, InstantiatesBy, NumbersNameNothing}
-use Rattle.relation_contexts.proofs.Generalising.{some_path}
+use Rattle.relation_semantics.specs.Generalising.{Stays, gives_way_to, Stage, Turn, any_part, new_part, parts_from, Generalised, met_before, met_first, no_type, stays, gives_way, alias_gives_way, by_parts, in_binder, no_parts, next_part, variance_for, InstantiatesBy, NumbersNameNothing}
+use Rattle.relation_semantics.proofs.Generalising.{some_path}
 use Rattle.type_relations.proofs.Fronts.{IsLookedAt, part_invariant}
-use Rattle.relation_contexts.proofs.Instantiating.{resolved_first_order}
-use Rattle.relation_contexts.proofs.BindingGeneralised.{generalised_instantiates, first_order_lacks}
-use Rattle.relation_contexts.proofs.OneUniverse.{roots_fall, bound_names, all_named}
-use Rattle.relation_contexts.proofs.Standing.{term_context}
+use Rattle.relation_semantics.proofs.Instantiating.{resolved_first_order}
+use Rattle.relation_semantics.proofs.BindingGeneralised.{generalised_instantiates, first_order_lacks}
+use Rattle.relation_semantics.proofs.OneUniverse.{roots_fall, bound_names, all_named}
+use Rattle.relation_semantics.proofs.Standing.{term_context}
 
 -- No variable of a type or a constant was made.
 abbrev MakesNoTypes : Store → Store → Type 0

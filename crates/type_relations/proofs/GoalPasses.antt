@@ -3,10 +3,10 @@ use Rattle.std.proofs.Common.{ℕ, refl, sym, ◌∙◌, subst, [], ◌∷◌, A
 use Rattle.std.proofs.lemmas.List.{append-nil}
 use Rattle.std.proofs.lemmas.List.Elements.{All-nil, All-cons}
 use Rattle.relation_terms.specs.Trees.{Tree}
-use Rattle.relation_contexts.specs.Goals.{goal_of, IsRegistered}
-use Rattle.relation_contexts.specs.Lawful.{State, Passes, RegisteredIn, items_in}
-use Rattle.relation_contexts.specs.Measures.{Goes}
-use Rattle.relation_contexts.proofs.Going.{goes_nowhere}
+use Rattle.relation_semantics.specs.Goals.{goal_of, IsRegistered}
+use Rattle.relation_semantics.specs.Lawful.{State, Passes, RegisteredIn, items_in}
+use Rattle.relation_semantics.specs.Measures.{Goes}
+use Rattle.relation_semantics.proofs.Going.{goes_nowhere}
 use Rattle.type_relations.specs.Emitting.{RegistersGoal}
 
 module _ {Key Id Name A E : Type 0} {r q : State Key Id Name} (p : Tree) where

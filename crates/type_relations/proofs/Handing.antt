@@ -34,20 +34,20 @@ use Rattle.relation_folds.specs.declared.error.TypeError.TheVariants.{Mutability
 use Rattle.relation_folds.specs.declared.error.RelateFault.{RelateFault}
 use Rattle.relation_folds.specs.declared.error.RelateFault.TheVariants.{Unrelated}
 use Rattle.relation_folds.specs.Faults.{KnowsFault}
-use Rattle.relation_contexts.specs.Relation.{Items, part_at, sort_of}
-use Rattle.relation_contexts.specs.Stores.{Store, IsAssignment, InContext}
-use Rattle.relation_contexts.specs.Settings.{Settings}
-use Rattle.relation_contexts.specs.Errors.{ErrorOf, ErrorByForms, of_parts, of_inputs, of_outputs, IsHandedOn, IsPlaced, NamesNoPlace}
-use Rattle.relation_contexts.specs.Errors.{sorts_at, argument_sorts_at, mutability_at, argument_mutability_at, AreOfOneForm}
-use Rattle.relation_contexts.specs.Errors.{over_parts, over_aliases, one_leaf, parameters}
-use Rattle.relation_contexts.specs.Parts.{parts_of, head_of, IsByParts}
-use Rattle.relation_contexts.proofs.Standing.{stands_term}
+use Rattle.relation_semantics.specs.Relation.{Items, part_at, sort_of}
+use Rattle.relation_semantics.specs.Stores.{Store, IsAssignment, InContext}
+use Rattle.relation_semantics.specs.Settings.{Settings}
+use Rattle.relation_semantics.specs.Errors.{ErrorOf, ErrorByForms, of_parts, of_inputs, of_outputs, IsHandedOn, IsPlaced, NamesNoPlace}
+use Rattle.relation_semantics.specs.Errors.{sorts_at, argument_sorts_at, mutability_at, argument_mutability_at, AreOfOneForm}
+use Rattle.relation_semantics.specs.Errors.{over_parts, over_aliases, one_leaf, parameters}
+use Rattle.relation_semantics.specs.Parts.{parts_of, head_of, IsByParts}
+use Rattle.relation_semantics.proofs.Standing.{stands_term}
 use Rattle.type_relations.proofs.Patterns.{no_argument, var_argument, bound_argument}
 use Rattle.type_relations.proofs.PartPlaces.{two_shape}
 use Rattle.type_relations.specs.Handing.{IsPassedOn, IsNoLength, IsFaultOfTy, passed, sized, IsFaultOfConst, passed_const, whole}
 use Rattle.type_relations.specs.Handing.{named_place, IsFaultOfPart, IsResultOfPart, IsPlacedOrNot, no_place, no_error, unplaced, placed}
 use Rattle.relation_folds.specs.Faults.{KnowsError}
-use Rattle.relation_contexts.proofs.OneParts.{sort_is}
+use Rattle.relation_semantics.proofs.OneParts.{sort_is}
 
 -- The fault names what is known.
 pub ty_fault_known : {Key Id Name : Type 0} (p : Meaning Key Id Name) (t : Tree) (X Y : GenericArgKind Key) (f g : RelateFault Key Id Name) → IsTrue (known (arg_tree p X)) → IsTrue (known (arg_tree p Y)) → IsFaultOfTy t X Y f g → KnowsFault p f → KnowsFault p g

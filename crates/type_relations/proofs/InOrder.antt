@@ -12,35 +12,35 @@ use Rattle.relation_folds.specs.declared.error.TypeError.{TypeError}
 use Rattle.relation_folds.specs.declared.error.RelateFault.{RelateFault}
 use Rattle.relation_folds.specs.declared.error.RelateFault.TheVariants.{Memory, Budget, Unrelated}
 use Rattle.relation_folds.specs.Faults.{KnowsFault}
-use Rattle.relation_contexts.specs.Relation.{Interpretation, at, parts, part_at, Rel, same, atoms, forms}
-use Rattle.relation_contexts.specs.Stores.{Satisfies}
-use Rattle.relation_contexts.specs.Goals.{Holds}
-use Rattle.relation_contexts.specs.Headline.{IsFirstOrderPair}
-use Rattle.relation_contexts.specs.OneUniverse.{NamesTypesTo, BindsNoMore}
-use Rattle.relation_contexts.specs.Errors.{ErrorOf, Meeting, of_part_forms, AreOfOneForm, over_parts, over_aliases, one_leaf, parameters}
-use Rattle.relation_contexts.specs.Errors.{PartError}
-use Rattle.relation_contexts.specs.Parts.{parts_of, head_of, IsByParts}
+use Rattle.relation_semantics.specs.Relation.{Interpretation, at, parts, part_at, Rel, same, atoms, forms}
+use Rattle.relation_semantics.specs.Stores.{Satisfies}
+use Rattle.relation_semantics.specs.Goals.{Holds}
+use Rattle.relation_semantics.specs.Headline.{IsFirstOrderPair}
+use Rattle.relation_semantics.specs.OneUniverse.{NamesTypesTo, BindsNoMore}
+use Rattle.relation_semantics.specs.Errors.{ErrorOf, Meeting, of_part_forms, AreOfOneForm, over_parts, over_aliases, one_leaf, parameters}
+use Rattle.relation_semantics.specs.Errors.{PartError}
+use Rattle.relation_semantics.specs.Parts.{parts_of, head_of, IsByParts}
 use Rattle.type_relations.specs.Handing.{named_place, IsFaultOfPart}
-use Rattle.relation_contexts.specs.Making.{over}
-use Rattle.relation_contexts.specs.Lawful.{State, Manners, MayAnswer, Passes, Refuses, RefusesAs, Related, RelatedAs}
-use Rattle.relation_contexts.specs.Lawful.{items_in}
-use Rattle.relation_contexts.proofs.Leaving.{said_as, parts_not_left, form_not_left}
-use Rattle.relation_contexts.specs.Lawful.{ExactResult, ExactlyRelated}
-use Rattle.relation_contexts.proofs.Registered.{registered_in}
-use Rattle.relation_contexts.proofs.Passing.{passes_within, passes_then, manner_then, stopped}
+use Rattle.relation_semantics.specs.Making.{over}
+use Rattle.relation_semantics.specs.Lawful.{State, Manners, MayAnswer, Passes, Refuses, RefusesAs, Related, RelatedAs}
+use Rattle.relation_semantics.specs.Lawful.{items_in}
+use Rattle.relation_semantics.proofs.Leaving.{said_as, parts_not_left, form_not_left}
+use Rattle.relation_semantics.specs.Lawful.{ExactResult, ExactlyRelated}
+use Rattle.relation_semantics.proofs.Registered.{registered_in}
+use Rattle.relation_semantics.proofs.Passing.{passes_within, passes_then, manner_then, stopped}
 use Rattle.type_relations.proofs.Fronts.{Fronted, AreParts, fronted_never, fronted_all, fronted_passes, fronted_fault}
 use Rattle.type_relations.proofs.Fronts.{fronted_exactly, fronted_full, fronted_built, fronted_agree}
-use Rattle.relation_contexts.proofs.Building.{built_parts}
-use Rattle.relation_contexts.proofs.AgreeingForms.{form_agrees}
-use Rattle.relation_contexts.proofs.Full.{parts_plain}
+use Rattle.relation_semantics.proofs.Building.{built_parts}
+use Rattle.relation_semantics.proofs.AgreeingForms.{form_agrees}
+use Rattle.relation_semantics.proofs.Full.{parts_plain}
 use Rattle.type_relations.proofs.Structural.{types_never, parts_pair}
 use Rattle.type_relations.proofs.StructuralConsts.{refused_here}
 use Rattle.type_relations.proofs.Unifying.{answered_as, refused_as}
-use Rattle.relation_contexts.proofs.OneUniverse.{leaves_parts, keeps_binds, binds_as}
-use Rattle.relation_contexts.proofs.OneParts.{parts_equal}
+use Rattle.relation_semantics.proofs.OneUniverse.{leaves_parts, keeps_binds, binds_as}
+use Rattle.relation_semantics.proofs.OneParts.{parts_equal}
 use Rattle.type_relations.proofs.PartSizes.{weight_parts_most}
-use Rattle.relation_contexts.proofs.Answering.{same_items, may_itself, AnswersParts, may_form}
-use Rattle.relation_contexts.proofs.Lists.{firsts, snoc, firsts_more, firsts_all}
+use Rattle.relation_semantics.proofs.Answering.{same_items, may_itself, AnswersParts, may_form}
+use Rattle.relation_semantics.proofs.Lists.{firsts, snoc, firsts_more, firsts_all}
 use Rattle.type_relations.proofs.Patterns.{term_related}
 use Rattle.type_relations.proofs.PartErrors.{term_looked_at, terms_unify, part_error_never, part_error_apart}
 use Rattle.type_relations.proofs.PartErrors.{part_error_known}

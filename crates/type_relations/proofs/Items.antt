@@ -21,17 +21,17 @@ use Rattle.relation_folds.specs.declared.error.TypeError.TheVariants.{PolarityMi
 use Rattle.relation_folds.specs.declared.error.RelateFault.{RelateFault}
 use Rattle.relation_folds.specs.declared.error.RelateFault.TheVariants.{Unrelated}
 use Rattle.relation_folds.specs.Faults.{KnowsError}
-use Rattle.relation_contexts.specs.Errors.{as_pair, by_forms, of_part_forms, of_trait_refs, ItemError, IsItemHead}
-use Rattle.relation_contexts.specs.Errors.{unlike_alias_terms, unlike_trait_refs, unlike_lists}
-use Rattle.relation_contexts.specs.Errors.{unlike_polarities, item_error}
-use Rattle.relation_contexts.specs.FirstOrder.{Unifies}
-use Rattle.relation_contexts.specs.Lawful.{State, Manners, TakesParts, MayAnswer, Asked, Related, items_in}
-use Rattle.relation_contexts.specs.Relation.{at, plain, plain_kind, part_at, Rel, forms, next_part, no_parts, IsAlias}
-use Rattle.relation_contexts.specs.Stores.{IsTermIn, InContext}
-use Rattle.relation_contexts.proofs.Answering.{covariantly}
-use Rattle.relation_contexts.proofs.Leaving.{normal_not_left}
-use Rattle.relation_contexts.proofs.Parts.{in_parts}
-use Rattle.relation_contexts.proofs.Standing.{term_context}
+use Rattle.relation_semantics.specs.Errors.{as_pair, by_forms, of_part_forms, of_trait_refs, ItemError, IsItemHead}
+use Rattle.relation_semantics.specs.Errors.{unlike_alias_terms, unlike_trait_refs, unlike_lists}
+use Rattle.relation_semantics.specs.Errors.{unlike_polarities, item_error}
+use Rattle.relation_semantics.specs.FirstOrder.{Unifies}
+use Rattle.relation_semantics.specs.Lawful.{State, Manners, TakesParts, MayAnswer, Asked, Related, items_in}
+use Rattle.relation_semantics.specs.Relation.{at, plain, plain_kind, part_at, Rel, forms, next_part, no_parts, IsAlias}
+use Rattle.relation_semantics.specs.Stores.{IsTermIn, InContext}
+use Rattle.relation_semantics.proofs.Answering.{covariantly}
+use Rattle.relation_semantics.proofs.Leaving.{normal_not_left}
+use Rattle.relation_semantics.proofs.Parts.{in_parts}
+use Rattle.relation_semantics.proofs.Standing.{term_context}
 use Rattle.type_relations.specs.Comparing.{is_opaque_kind}
 use Rattle.type_relations.proofs.Arguments.{form_related, form_refused, form_unlike}
 use Rattle.type_relations.proofs.Fronts.{Fronted, AreParts, fronted_none, fronted_next}

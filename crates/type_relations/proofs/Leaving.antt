@@ -15,11 +15,11 @@ use Rattle.relation_terms.specs.declared.terms.ty_kind.InferTy.{InferTy}
 use Rattle.relation_terms.specs.declared.terms.ty_kind.InferTy.TheVariants.{TyVar, IntVar, FloatVar, FreshTy, FreshIntTy, FreshFloatTy}
 use Rattle.relation_terms.specs.declared.terms.ty_kind.TyKind.{TyKind}
 use Rattle.relation_terms.specs.declared.terms.ty_kind.TyKind.TheVariants.{Error as ErrorKind, Infer, Alias as AliasForm}
-use Rattle.relation_contexts.specs.Errors.{IsOpaque, IsOpaqueBeside, IsLeftToGoal}
-use Rattle.relation_contexts.specs.Parts.{IsFormedConst}
-use Rattle.relation_contexts.specs.Relation.{IsError, IsAlias}
-use Rattle.relation_contexts.specs.Settings.{Settings, LeavesAliases, LeavesOpaque}
-use Rattle.relation_contexts.proofs.Leaving.{opaque_is_alias, beside_is_opaque}
+use Rattle.relation_semantics.specs.Errors.{IsOpaque, IsOpaqueBeside, IsLeftToGoal}
+use Rattle.relation_semantics.specs.Parts.{IsFormedConst}
+use Rattle.relation_semantics.specs.Relation.{IsError, IsAlias}
+use Rattle.relation_semantics.specs.Settings.{Settings, LeavesAliases, LeavesOpaque}
+use Rattle.relation_semantics.proofs.Leaving.{opaque_is_alias, beside_is_opaque}
 use Rattle.type_relations.specs.Leaving.{IsVariable, StandsAs, LeavesAs}
 use Rattle.type_relations.specs.declared.relate.leaving.Standing.{Standing}
 use Rattle.type_relations.specs.declared.relate.leaving.Standing.TheVariants.{Error, Variable, Opaque, Alias, Other}

@@ -12,37 +12,37 @@ use Rattle.relation_terms.specs.Trees.{Tree, leaf, node, known, IsTerm}
 use Rattle.relation_terms.specs.Meaning.{Extends}
 use Rattle.relation_terms.proofs.Stays.{stays_same}
 use Rattle.relation_folds.specs.declared.error.RelateFault.TheVariants.{Memory}
-use Rattle.relation_contexts.specs.declared.relate.Step.TheVariants.{Done}
-use Rattle.relation_contexts.specs.Agreeing.{IsFlexible, Agree}
-use Rattle.relation_contexts.specs.FirstOrder.{IsFirstOrder}
-use Rattle.relation_contexts.specs.AliasGoals.{alias_at}
-use Rattle.relation_contexts.specs.Errors.{IsOpaque, IsOpaqueBeside}
-use Rattle.relation_contexts.specs.Goals.{goal_of, IsRegistered, of_alias, of_too_much, alias_relate_predicate, ambiguous_predicate}
-use Rattle.relation_contexts.specs.Headline.{IsFirstOrderPair}
-use Rattle.relation_contexts.specs.Kits.{Kit, IsBuiltOf, IsPredicateOf, IsGoalOf, HasOpaque, HasNoError, Builds}
-use Rattle.relation_contexts.specs.Lawful.{State, Passes, Stepped, MayAnswer, RegisteredIn, items_in}
-use Rattle.relation_contexts.specs.Outcomes.{Outcome}
-use Rattle.relation_contexts.specs.Parts.{IsFormed, IsFormedConst}
-use Rattle.relation_contexts.specs.Relation.{at, sort_of, IsError, IsAlias}
-use Rattle.relation_contexts.specs.Settings.{LeavesAliases, LeavesOpaque}
-use Rattle.relation_contexts.specs.OneUniverse.{BindsNoMore}
-use Rattle.relation_contexts.specs.Steps.{BindsNoBinder}
-use Rattle.relation_contexts.specs.Stores.{Store, IsSound, InContext, unbound, weight}
-use Rattle.relation_contexts.proofs.Agreeing.{agree_flexible, agree_left}
-use Rattle.relation_contexts.proofs.AliasOutcomes.{errors_relate, alias_goals_relate, alias_goals_relate_consts, ambiguous_relates}
-use Rattle.relation_contexts.proofs.Answering.{may_itself}
-use Rattle.relation_contexts.proofs.Building.{builds_asking, built_same, builds_tainted}
-use Rattle.relation_contexts.proofs.Full.{full_same, full_by}
-use Rattle.relation_contexts.proofs.Going.{goes_within}
-use Rattle.relation_contexts.proofs.OneUniverse.{binds_itself}
-use Rattle.relation_contexts.proofs.Passing.{relates_by}
-use Rattle.relation_contexts.proofs.Registered.{alias_registered, alias_built}
-use Rattle.relation_contexts.proofs.Standing.{term_context, term_sort_of}
+use Rattle.relation_semantics.specs.declared.relate.Step.TheVariants.{Done}
+use Rattle.relation_semantics.specs.Agreeing.{IsFlexible, Agree}
+use Rattle.relation_semantics.specs.FirstOrder.{IsFirstOrder}
+use Rattle.relation_semantics.specs.AliasGoals.{alias_at}
+use Rattle.relation_semantics.specs.Errors.{IsOpaque, IsOpaqueBeside}
+use Rattle.relation_semantics.specs.Goals.{goal_of, IsRegistered, of_alias, of_too_much, alias_relate_predicate, ambiguous_predicate}
+use Rattle.relation_semantics.specs.Headline.{IsFirstOrderPair}
+use Rattle.relation_semantics.specs.Kits.{Kit, IsBuiltOf, IsPredicateOf, IsGoalOf, HasOpaque, HasNoError, Builds}
+use Rattle.relation_semantics.specs.Lawful.{State, Passes, Stepped, MayAnswer, RegisteredIn, items_in}
+use Rattle.relation_semantics.specs.Outcomes.{Outcome}
+use Rattle.relation_semantics.specs.Parts.{IsFormed, IsFormedConst}
+use Rattle.relation_semantics.specs.Relation.{at, sort_of, IsError, IsAlias}
+use Rattle.relation_semantics.specs.Settings.{LeavesAliases, LeavesOpaque}
+use Rattle.relation_semantics.specs.OneUniverse.{BindsNoMore}
+use Rattle.relation_semantics.specs.Steps.{BindsNoBinder}
+use Rattle.relation_semantics.specs.Stores.{Store, IsSound, InContext, unbound, weight}
+use Rattle.relation_semantics.proofs.Agreeing.{agree_flexible, agree_left}
+use Rattle.relation_semantics.proofs.AliasOutcomes.{errors_relate, alias_goals_relate, alias_goals_relate_consts, ambiguous_relates}
+use Rattle.relation_semantics.proofs.Answering.{may_itself}
+use Rattle.relation_semantics.proofs.Building.{builds_asking, built_same, builds_tainted}
+use Rattle.relation_semantics.proofs.Full.{full_same, full_by}
+use Rattle.relation_semantics.proofs.Going.{goes_within}
+use Rattle.relation_semantics.proofs.OneUniverse.{binds_itself}
+use Rattle.relation_semantics.proofs.Passing.{relates_by}
+use Rattle.relation_semantics.proofs.Registered.{alias_registered, alias_built}
+use Rattle.relation_semantics.proofs.Standing.{term_context, term_sort_of}
 use Rattle.type_relations.specs.Combining.{TaintsAlone, KeepsKept}
 use Rattle.type_relations.specs.Emitting.{RegistersGoal}
 use Rattle.type_relations.specs.Keyed.{AskedTys, AskedConsts, SteppedTys, SteppedConsts}
 use Rattle.type_relations.specs.Solving.{solver_manner}
-use Rattle.relation_contexts.proofs.Leaving.{opaque_is_alias, beside_is_opaque}
+use Rattle.relation_semantics.proofs.Leaving.{opaque_is_alias, beside_is_opaque}
 use Rattle.type_relations.proofs.SolvingVariables.{alias_not_first}
 use Rattle.type_relations.proofs.GoalPasses.{goal_passes, no_goal_passes}
 use Rattle.type_relations.proofs.OpeningBoth.{changes_goes}

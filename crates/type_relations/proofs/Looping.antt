@@ -6,23 +6,23 @@ use Rattle.relation_terms.specs.Trees.{Tree, node, nil, cons, Leaves, known, cou
 use Rattle.relation_terms.specs.declared.terms.keys.ConstKey.{ConstKey}
 use Rattle.relation_terms.specs.declared.terms.generic_arg.GenericArgKind.{GenericArgKind}
 use Rattle.relation_folds.specs.declared.error.RelateFault.{RelateFault}
-use Rattle.relation_contexts.specs.Relation.{Items, part_at, IsAlias}
-use Rattle.relation_contexts.specs.Stores.{IsTermIn, weight}
-use Rattle.relation_contexts.specs.Measures.{depth}
-use Rattle.relation_contexts.specs.Goals.{Goal}
-use Rattle.relation_contexts.specs.Errors.{AreOfOneForm, over_parts, over_aliases, one_leaf, parameters, AreOfOneConst, values, expressions, over_arguments, const_parameters, one_const_leaf}
-use Rattle.relation_contexts.specs.Parts.{parts_of, const_parts_of, branches_of, head_of, const_head_of, IsByParts}
+use Rattle.relation_semantics.specs.Relation.{Items, part_at, IsAlias}
+use Rattle.relation_semantics.specs.Stores.{IsTermIn, weight}
+use Rattle.relation_semantics.specs.Measures.{depth}
+use Rattle.relation_semantics.specs.Goals.{Goal}
+use Rattle.relation_semantics.specs.Errors.{AreOfOneForm, over_parts, over_aliases, one_leaf, parameters, AreOfOneConst, values, expressions, over_arguments, const_parameters, one_const_leaf}
+use Rattle.relation_semantics.specs.Parts.{parts_of, const_parts_of, branches_of, head_of, const_head_of, IsByParts}
 use Rattle.type_relations.specs.Handing.{IsFaultOfTy, IsFaultOfConst, IsFaultOfPart, IsResultOfTy, IsResultOfConst, IsResultOfPart}
-use Rattle.relation_contexts.specs.Lawful.{State, Manner, Manners, TakesParts, Takes, Asked, LeadsToParts, LeadsAgain, items_in}
-use Rattle.relation_contexts.proofs.Going.{depth-mono, depth-strict, depth-spent, depth_later}
-use Rattle.relation_contexts.proofs.Standing.{later_term}
-use Rattle.relation_contexts.proofs.Parts.{in_part, in_const_part}
-use Rattle.relation_contexts.proofs.Bound.{part_by_lists, const_part_by_lists}
-use Rattle.relation_contexts.proofs.Leaving.{by_parts_normal}
+use Rattle.relation_semantics.specs.Lawful.{State, Manner, Manners, TakesParts, Takes, Asked, LeadsToParts, LeadsAgain, items_in}
+use Rattle.relation_semantics.proofs.Going.{depth-mono, depth-strict, depth-spent, depth_later}
+use Rattle.relation_semantics.proofs.Standing.{later_term}
+use Rattle.relation_semantics.proofs.Parts.{in_part, in_const_part}
+use Rattle.relation_semantics.proofs.Bound.{part_by_lists, const_part_by_lists}
+use Rattle.relation_semantics.proofs.Leaving.{by_parts_normal}
 use Rattle.type_relations.proofs.PartSizes.{weight_parts, weight_const_parts}
-use Rattle.relation_contexts.proofs.Passing.{manner_then}
-use Rattle.relation_contexts.proofs.OneUniverse.{leaves_nth}
-use Rattle.relation_contexts.proofs.Trees.{Leaves_map}
+use Rattle.relation_semantics.proofs.Passing.{manner_then}
+use Rattle.relation_semantics.proofs.OneUniverse.{leaves_nth}
+use Rattle.relation_semantics.proofs.Trees.{Leaves_map}
 use Rattle.type_relations.proofs.Fronts.{Fronted, part_small}
 
 module _ (M : Manner) (is : (c : Items) (h : Head) (i : ℕ) (v : Variance) (l : Leaf) → M.takes v l →

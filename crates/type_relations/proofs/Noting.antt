@@ -6,17 +6,17 @@ use Rattle.relation_terms.specs.Trees.{Tree}
 use Rattle.relation_terms.specs.Meaning.{Extends}
 use Rattle.relation_folds.specs.declared.error.RelateFault.{RelateFault}
 use Rattle.relation_terms.proofs.Stays.{stays_same}
-use Rattle.relation_contexts.specs.Contexts.{Context}
-use Rattle.relation_contexts.specs.ContextCalls.{Grows}
+use Rattle.relation_semantics.specs.Contexts.{Context}
+use Rattle.relation_semantics.specs.ContextCalls.{Grows}
 use Rattle.type_relations.specs.Emitting.{AddsGoals, IsOver, WithContext, with_goals}
-use Rattle.relation_contexts.specs.Measures.{Goes}
-use Rattle.relation_contexts.specs.Goals.{Goal, IsQuiet}
-use Rattle.relation_contexts.specs.Kits.{Kit, IsBuiltOf, IsGoalOf}
-use Rattle.relation_contexts.specs.Lawful.{State, Noted, OnlyMemory, WithMeaning, RegisteredIn}
-use Rattle.relation_contexts.specs.Steps.{IsLater}
-use Rattle.relation_contexts.specs.Stores.{Store}
-use Rattle.relation_contexts.proofs.Going.{goes_nowhere, later_itself}
-use Rattle.relation_contexts.proofs.Passing.{passes_then, passes_nowhere, passes_grown}
+use Rattle.relation_semantics.specs.Measures.{Goes}
+use Rattle.relation_semantics.specs.Goals.{Goal, IsQuiet}
+use Rattle.relation_semantics.specs.Kits.{Kit, IsBuiltOf, IsGoalOf}
+use Rattle.relation_semantics.specs.Lawful.{State, Noted, OnlyMemory, WithMeaning, RegisteredIn}
+use Rattle.relation_semantics.specs.Steps.{IsLater}
+use Rattle.relation_semantics.specs.Stores.{Store}
+use Rattle.relation_semantics.proofs.Going.{goes_nowhere, later_itself}
+use Rattle.relation_semantics.proofs.Passing.{passes_then, passes_nowhere, passes_grown}
 
 module _ {Key Id Name : Type 0} where
   pub noted_then : {X Y : Type 0} {r q p : State Key Id Name} {a b : Tree} (x : Result X (RelateFault Key Id Name))

@@ -19,12 +19,12 @@ use Rattle.relation_terms.specs.declared.terms.numbers.FloatVid.{FloatVid}
 use Rattle.term_enums.specs.declared.IntTy.{IntTy}
 use Rattle.term_enums.specs.declared.UintTy.{UintTy}
 use Rattle.term_enums.specs.declared.FloatTy.{FloatTy}
-use Rattle.relation_contexts.specs.Relation.{StaysWithin}
-use Rattle.relation_contexts.specs.Steps.{IsNumberFor}
-use Rattle.relation_contexts.specs.Relation.{StaysWithin}
-use Rattle.relation_contexts.specs.Parts.{IsFormed}
-use Rattle.relation_contexts.proofs.Numbers.{IsNumber, type_is_formed}
-use Rattle.relation_contexts.specs.NumberValues.{int_value_tree, float_value_tree}
+use Rattle.relation_semantics.specs.Relation.{StaysWithin}
+use Rattle.relation_semantics.specs.Steps.{IsNumberFor}
+use Rattle.relation_semantics.specs.Relation.{StaysWithin}
+use Rattle.relation_semantics.specs.Parts.{IsFormed}
+use Rattle.relation_semantics.proofs.Numbers.{IsNumber, type_is_formed}
+use Rattle.relation_semantics.specs.NumberValues.{int_value_tree, float_value_tree}
 use Rattle.type_relations.specs.declared.relate.number_vars.NumberVid.{NumberVid}
 use Rattle.type_relations.specs.declared.relate.number_vars.NumberVid.TheVariants as vid
 use Rattle.type_relations.specs.NumberVars.{number_kind, infer_of, number_tree, IsNoNumberVar}

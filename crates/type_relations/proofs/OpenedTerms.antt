@@ -6,24 +6,24 @@ use Rattle.std.proofs.lemmas.List.{get_or_past}
 use Rattle.std.proofs.lemmas.Bool.Decides.{eqb_tells}
 use Rattle.relation_terms.specs.Heads.{BoundKind, VarKind, Leaf, variable, bound, placeholder, atom, unknown}
 use Rattle.relation_terms.specs.Trees.{Tree, leaf, node, bind, nil, cons, apply, put, inst, tree_at, size, Leaves}
-use Rattle.relation_contexts.specs.Relation.{StaysWithin}
-use Rattle.relation_contexts.specs.Stores.{Store, unbound, entry_term, counts_term, bound_term, IsMade, IsMadeLeaf}
-use Rattle.relation_contexts.specs.Stores.{InContext, IsNamable, IsTermIn, IsSound, resolved, weight}
-use Rattle.relation_contexts.specs.Steps.{AreNewVariables, ArePlaceholders, LeavesBody}
-use Rattle.relation_contexts.specs.Steps.{EntersUniverse}
-use Rattle.relation_contexts.specs.Bound.{AreBoundAs, BindByLists}
-use Rattle.relation_contexts.specs.Binders.{MakesEach, makes_none, makes_next}
-use Rattle.relation_contexts.specs.OpeningLaws.{EnteredBodyIsIn, InstantiatedBodyIsIn, EnteredBodyBinds}
-use Rattle.relation_contexts.specs.OpeningLaws.{InstantiatedBodyBinds}
-use Rattle.relation_contexts.proofs.Trees.{apply-inst, apply_alike, StaysWithin-mono}
-use Rattle.relation_contexts.proofs.Standing.{later_term, term_in, term_of_made}
-use Rattle.relation_contexts.proofs.Values.{occurring_stay}
-use Rattle.relation_contexts.proofs.Resolved.{resolved_same, resolved_free}
-use Rattle.relation_contexts.proofs.Tallies.{all_alike}
-use Rattle.relation_contexts.proofs.StoreCalls.{nothing_is_seen, resolved_within}
-use Rattle.relation_contexts.proofs.NewVariables.{adds}
-use Rattle.relation_contexts.proofs.MakingEach.{each_unbound, each_new}
-use Rattle.relation_contexts.proofs.Opened.{AllStandFor, found, placeholders_stand, variables_stand}
+use Rattle.relation_semantics.specs.Relation.{StaysWithin}
+use Rattle.relation_semantics.specs.Stores.{Store, unbound, entry_term, counts_term, bound_term, IsMade, IsMadeLeaf}
+use Rattle.relation_semantics.specs.Stores.{InContext, IsNamable, IsTermIn, IsSound, resolved, weight}
+use Rattle.relation_semantics.specs.Steps.{AreNewVariables, ArePlaceholders, LeavesBody}
+use Rattle.relation_semantics.specs.Steps.{EntersUniverse}
+use Rattle.relation_semantics.specs.Bound.{AreBoundAs, BindByLists}
+use Rattle.relation_semantics.specs.Binders.{MakesEach, makes_none, makes_next}
+use Rattle.relation_semantics.specs.OpeningLaws.{EnteredBodyIsIn, InstantiatedBodyIsIn, EnteredBodyBinds}
+use Rattle.relation_semantics.specs.OpeningLaws.{InstantiatedBodyBinds}
+use Rattle.relation_semantics.proofs.Trees.{apply-inst, apply_alike, StaysWithin-mono}
+use Rattle.relation_semantics.proofs.Standing.{later_term, term_in, term_of_made}
+use Rattle.relation_semantics.proofs.Values.{occurring_stay}
+use Rattle.relation_semantics.proofs.Resolved.{resolved_same, resolved_free}
+use Rattle.relation_semantics.proofs.Tallies.{all_alike}
+use Rattle.relation_semantics.proofs.StoreCalls.{nothing_is_seen, resolved_within}
+use Rattle.relation_semantics.proofs.NewVariables.{adds}
+use Rattle.relation_semantics.proofs.MakingEach.{each_unbound, each_new}
+use Rattle.relation_semantics.proofs.Opened.{AllStandFor, found, placeholders_stand, variables_stand}
 
 -- A list of trees that have a property.
 abbrev EachTree : (Tree → Type 0) → List Tree → Type 0

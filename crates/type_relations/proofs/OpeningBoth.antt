@@ -8,36 +8,36 @@ use Rattle.relation_terms.specs.Heads.{atom, unknown}
 use Rattle.relation_terms.specs.Trees.{Tree, leaf, bind, inst, size, Leaves}
 use Rattle.relation_terms.specs.Meaning.{Meaning}
 use Rattle.relation_folds.specs.declared.error.TypeError.{TypeError}
-use Rattle.relation_contexts.specs.Relation.{Items, StaysWithin, at, second_opened, first_opened}
-use Rattle.relation_contexts.specs.Stores.{Store, unbound, entry_term, counts_term, counts_bound, tally, bound_term}
-use Rattle.relation_contexts.specs.Stores.{all_bound, IsMade, IsMadeLeaf, IsInScope, InContext, IsNamable, IsTermIn}
-use Rattle.relation_contexts.specs.Stores.{IsSound, resolved, weight}
-use Rattle.relation_contexts.specs.Goals.{Goal}
-use Rattle.relation_contexts.specs.Steps.{ChangesNothing, EntersForall, LeavesBody, EntersUniverse, InstantiatesBinder}
-use Rattle.relation_contexts.specs.Steps.{ArePlaceholders}
-use Rattle.relation_contexts.specs.Outcomes.{StepsTo}
-use Rattle.relation_contexts.specs.Kits.{Kit, IsBuiltOf, StaysBuilt, BuiltFrom}
-use Rattle.relation_contexts.proofs.Building.{body_built, built_opened}
-use Rattle.relation_contexts.specs.Measures.{Goes}
-use Rattle.relation_contexts.specs.Settings.{Settings}
-use Rattle.relation_contexts.specs.Errors.{IsStandIn, StandFor, ErrorOf, of_bodies}
-use Rattle.relation_contexts.specs.Bound.{AreBoundAs, BindByLists}
-use Rattle.relation_contexts.specs.Agreeing.{Agree}
-use Rattle.relation_contexts.proofs.Agreeing.{agree_opened}
-use Rattle.relation_contexts.specs.Generalising.{MakesUnbound}
-use Rattle.relation_contexts.specs.Binders.{variable_kind, MakesEach, makes_none, makes_next, InstantiatesEach}
-use Rattle.relation_contexts.proofs.Trees.{Leaves_map₂, inst_within, apply_alike}
-use Rattle.relation_contexts.proofs.Standing.{later_term, term_context, term_namable}
-use Rattle.relation_contexts.proofs.Values.{some_placeholders, some_are_placeholders}
-use Rattle.relation_contexts.proofs.Tallies.{all_alike}
-use Rattle.relation_contexts.proofs.Resolved.{resolved_same}
-use Rattle.relation_contexts.proofs.StoreCalls.{nothing_is_seen}
-use Rattle.relation_contexts.proofs.NewVariables.{Adds, adds, adds_goes}
-use Rattle.relation_contexts.proofs.MakingEach.{variable_sort, each_unbound, instantiating_each_opens}
+use Rattle.relation_semantics.specs.Relation.{Items, StaysWithin, at, second_opened, first_opened}
+use Rattle.relation_semantics.specs.Stores.{Store, unbound, entry_term, counts_term, counts_bound, tally, bound_term}
+use Rattle.relation_semantics.specs.Stores.{all_bound, IsMade, IsMadeLeaf, IsInScope, InContext, IsNamable, IsTermIn}
+use Rattle.relation_semantics.specs.Stores.{IsSound, resolved, weight}
+use Rattle.relation_semantics.specs.Goals.{Goal}
+use Rattle.relation_semantics.specs.Steps.{ChangesNothing, EntersForall, LeavesBody, EntersUniverse, InstantiatesBinder}
+use Rattle.relation_semantics.specs.Steps.{ArePlaceholders}
+use Rattle.relation_semantics.specs.Outcomes.{StepsTo}
+use Rattle.relation_semantics.specs.Kits.{Kit, IsBuiltOf, StaysBuilt, BuiltFrom}
+use Rattle.relation_semantics.proofs.Building.{body_built, built_opened}
+use Rattle.relation_semantics.specs.Measures.{Goes}
+use Rattle.relation_semantics.specs.Settings.{Settings}
+use Rattle.relation_semantics.specs.Errors.{IsStandIn, StandFor, ErrorOf, of_bodies}
+use Rattle.relation_semantics.specs.Bound.{AreBoundAs, BindByLists}
+use Rattle.relation_semantics.specs.Agreeing.{Agree}
+use Rattle.relation_semantics.proofs.Agreeing.{agree_opened}
+use Rattle.relation_semantics.specs.Generalising.{MakesUnbound}
+use Rattle.relation_semantics.specs.Binders.{variable_kind, MakesEach, makes_none, makes_next, InstantiatesEach}
+use Rattle.relation_semantics.proofs.Trees.{Leaves_map₂, inst_within, apply_alike}
+use Rattle.relation_semantics.proofs.Standing.{later_term, term_context, term_namable}
+use Rattle.relation_semantics.proofs.Values.{some_placeholders, some_are_placeholders}
+use Rattle.relation_semantics.proofs.Tallies.{all_alike}
+use Rattle.relation_semantics.proofs.Resolved.{resolved_same}
+use Rattle.relation_semantics.proofs.StoreCalls.{nothing_is_seen}
+use Rattle.relation_semantics.proofs.NewVariables.{Adds, adds, adds_goes}
+use Rattle.relation_semantics.proofs.MakingEach.{variable_sort, each_unbound, instantiating_each_opens}
 use Rattle.type_relations.proofs.OpenedTerms.{entered_body_is_in, instantiated_body_is_in, entered_body_binds}
 use Rattle.type_relations.proofs.OpenedTerms.{instantiated_body_binds}
-use Rattle.relation_contexts.proofs.Opening.{changes_later, opening_steps}
-use Rattle.relation_contexts.proofs.Going.{goes_then}
+use Rattle.relation_semantics.proofs.Opening.{changes_later, opening_steps}
+use Rattle.relation_semantics.proofs.Going.{goes_then}
 
 -- What changes nothing leaves sizes, costs nothing and stays sound.
 module _ (before after : Store) (h : ChangesNothing before after) where

@@ -17,37 +17,37 @@ use Rattle.relation_folds.specs.declared.error.TypeError.TheVariants.{Sorts}
 use Rattle.relation_folds.specs.declared.error.RelateFault.{RelateFault}
 use Rattle.relation_folds.specs.declared.error.RelateFault.TheVariants.{Unrelated}
 use Rattle.relation_folds.specs.Faults.{KnowsError}
-use Rattle.relation_contexts.specs.declared.relate.Step.TheVariants.{Done, Parts}
-use Rattle.relation_contexts.specs.declared.relate.StructurallyRelateAliases.TheVariants.{No}
-use Rattle.relation_contexts.specs.Settings.{Settings}
-use Rattle.relation_contexts.specs.Relation.{Items, Interpretation, Rel, at, sort_of, IsError, same as same_rel}
-use Rattle.relation_contexts.specs.Agreeing.{Agree}
-use Rattle.relation_contexts.proofs.Agreeing.{agree_read, agree_root, agree_root_back, number_sort}
-use Rattle.relation_contexts.specs.Stores.{Store, IsSound, Satisfies, IsMade, InContext, MayStandFor, weight}
-use Rattle.relation_contexts.specs.Goals.{Goal, GoalInContext, MakesOneTree}
-use Rattle.relation_contexts.specs.Steps.{Equates, InstantiatesNumber, StaysFull}
-use Rattle.relation_contexts.specs.Kits.{StaysBuilt}
-use Rattle.relation_contexts.proofs.Building.{built_itself, builds_number, read_from}
-use Rattle.relation_contexts.specs.Outcomes.{Exact, NoEqualTerms, NoUnifier}
-use Rattle.relation_contexts.specs.Measures.{Goes}
-use Rattle.relation_contexts.specs.Errors.{ErrorOf, IsLeftToGoal, of_entries, IsReadAs, itself, by_class, by_binding}
-use Rattle.relation_contexts.specs.FirstOrder.{IsFirstOrderStore}
-use Rattle.relation_contexts.specs.Bound.{BindByLists}
-use Rattle.relation_contexts.specs.Lawful.{RegisteredIn, Passes, Asked, Takes, Related, Stepped, items_of, Kept, Pair, State}
+use Rattle.relation_semantics.specs.declared.relate.Step.TheVariants.{Done, Parts}
+use Rattle.relation_semantics.specs.declared.relate.StructurallyRelateAliases.TheVariants.{No}
+use Rattle.relation_semantics.specs.Settings.{Settings}
+use Rattle.relation_semantics.specs.Relation.{Items, Interpretation, Rel, at, sort_of, IsError, same as same_rel}
+use Rattle.relation_semantics.specs.Agreeing.{Agree}
+use Rattle.relation_semantics.proofs.Agreeing.{agree_read, agree_root, agree_root_back, number_sort}
+use Rattle.relation_semantics.specs.Stores.{Store, IsSound, Satisfies, IsMade, InContext, MayStandFor, weight}
+use Rattle.relation_semantics.specs.Goals.{Goal, GoalInContext, MakesOneTree}
+use Rattle.relation_semantics.specs.Steps.{Equates, InstantiatesNumber, StaysFull}
+use Rattle.relation_semantics.specs.Kits.{StaysBuilt}
+use Rattle.relation_semantics.proofs.Building.{built_itself, builds_number, read_from}
+use Rattle.relation_semantics.specs.Outcomes.{Exact, NoEqualTerms, NoUnifier}
+use Rattle.relation_semantics.specs.Measures.{Goes}
+use Rattle.relation_semantics.specs.Errors.{ErrorOf, IsLeftToGoal, of_entries, IsReadAs, itself, by_class, by_binding}
+use Rattle.relation_semantics.specs.FirstOrder.{IsFirstOrderStore}
+use Rattle.relation_semantics.specs.Bound.{BindByLists}
+use Rattle.relation_semantics.specs.Lawful.{RegisteredIn, Passes, Asked, Takes, Related, Stepped, items_of, Kept, Pair, State}
 use Rattle.type_relations.specs.Emitting.{IsOver, WithContext}
-use Rattle.relation_contexts.specs.Contexts.{Context}
-use Rattle.relation_contexts.specs.ContextCalls.{Grows, Stands, BindingsBindByLists}
+use Rattle.relation_semantics.specs.Contexts.{Context}
+use Rattle.relation_semantics.specs.ContextCalls.{Grows, Stands, BindingsBindByLists}
 use Rattle.type_relations.specs.Solving.{solver_manner}
-use Rattle.relation_contexts.proofs.Trees.{all_leaves}
-use Rattle.relation_contexts.proofs.Going.{later_itself, goes_nowhere}
-use Rattle.relation_contexts.proofs.Full.{full_itself}
-use Rattle.relation_contexts.proofs.ReadAs.{read_value, read_later, read_weight}
-use Rattle.relation_contexts.specs.OneUniverse.{KeepsUniverse}
-use Rattle.relation_contexts.proofs.OneUniverse.{keeps_pair, binds_itself, reading_leads}
-use Rattle.relation_contexts.proofs.Roots.{roots_goes, roots_equal, roots_keep, roots_exactly, roots_universe, roots_full, roots_built, exact_turned}
-use Rattle.relation_contexts.proofs.Numbers.{IsNumber, number_goes, number_equal, number_keep, number_exactly, number_apart}
-use Rattle.relation_contexts.proofs.Numbers.{number_universe, number_full}
-use Rattle.relation_contexts.proofs.Numbers.{number_no_unifier, number_error, number_error_back}
+use Rattle.relation_semantics.proofs.Trees.{all_leaves}
+use Rattle.relation_semantics.proofs.Going.{later_itself, goes_nowhere}
+use Rattle.relation_semantics.proofs.Full.{full_itself}
+use Rattle.relation_semantics.proofs.ReadAs.{read_value, read_later, read_weight}
+use Rattle.relation_semantics.specs.OneUniverse.{KeepsUniverse}
+use Rattle.relation_semantics.proofs.OneUniverse.{keeps_pair, binds_itself, reading_leads}
+use Rattle.relation_semantics.proofs.Roots.{roots_goes, roots_equal, roots_keep, roots_exactly, roots_universe, roots_full, roots_built, exact_turned}
+use Rattle.relation_semantics.proofs.Numbers.{IsNumber, number_goes, number_equal, number_keep, number_exactly, number_apart}
+use Rattle.relation_semantics.proofs.Numbers.{number_universe, number_full}
+use Rattle.relation_semantics.proofs.Numbers.{number_no_unifier, number_error, number_error_back}
 use Rattle.type_relations.proofs.Exactly.{read_pair, reading_exact}
 
 -- A relation over other keys and another record, with another invariant.

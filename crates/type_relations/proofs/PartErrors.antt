@@ -23,26 +23,26 @@ use Rattle.relation_terms.specs.declared.predicate.existential.ExistentialPredic
 use Rattle.relation_folds.specs.declared.error.TypeError.{TypeError}
 use Rattle.relation_folds.specs.declared.error.TypeError.TheVariants.{Mismatch}
 use Rattle.relation_folds.specs.Faults.{KnowsError}
-use Rattle.relation_contexts.specs.Relation.{at, sort_of}
-use Rattle.relation_contexts.specs.Stores.{Store}
-use Rattle.relation_contexts.specs.FirstOrder.{Unifies}
-use Rattle.relation_contexts.specs.Outcomes.{NeverOne, NoUnifier}
-use Rattle.relation_contexts.specs.Errors.{AreOfOneForm, over_parts, over_aliases, one_leaf, parameters, AreAlikeExistentials, both_traits}
-use Rattle.relation_contexts.specs.Errors.{both_projections, both_auto_traits, AreAlikeMembers, under_binders}
-use Rattle.relation_contexts.specs.Errors.{unlike_patterns, SignatureError, unlike_variadic, unlike_safety, unlike_abi}
-use Rattle.relation_contexts.specs.Errors.{unlike_counts, ExistentialError, unlike_traits, unlike_auto_traits}
-use Rattle.relation_contexts.specs.Errors.{unlike_projections, unlike_arguments, unlike_existentials, ObjectError}
-use Rattle.relation_contexts.specs.Errors.{unlike_numbers, unlike_members, PartError, pattern_error, signature_error}
-use Rattle.relation_contexts.specs.Errors.{existential_error, item_error, object_error, ItemError, IsItemHead}
-use Rattle.relation_contexts.specs.Errors.{unlike_alias_terms, unlike_trait_refs, unlike_lists}
-use Rattle.relation_contexts.specs.Errors.{unlike_polarities}
-use Rattle.relation_contexts.specs.Parts.{parts_of, head_of, IsByParts}
+use Rattle.relation_semantics.specs.Relation.{at, sort_of}
+use Rattle.relation_semantics.specs.Stores.{Store}
+use Rattle.relation_semantics.specs.FirstOrder.{Unifies}
+use Rattle.relation_semantics.specs.Outcomes.{NeverOne, NoUnifier}
+use Rattle.relation_semantics.specs.Errors.{AreOfOneForm, over_parts, over_aliases, one_leaf, parameters, AreAlikeExistentials, both_traits}
+use Rattle.relation_semantics.specs.Errors.{both_projections, both_auto_traits, AreAlikeMembers, under_binders}
+use Rattle.relation_semantics.specs.Errors.{unlike_patterns, SignatureError, unlike_variadic, unlike_safety, unlike_abi}
+use Rattle.relation_semantics.specs.Errors.{unlike_counts, ExistentialError, unlike_traits, unlike_auto_traits}
+use Rattle.relation_semantics.specs.Errors.{unlike_projections, unlike_arguments, unlike_existentials, ObjectError}
+use Rattle.relation_semantics.specs.Errors.{unlike_numbers, unlike_members, PartError, pattern_error, signature_error}
+use Rattle.relation_semantics.specs.Errors.{existential_error, item_error, object_error, ItemError, IsItemHead}
+use Rattle.relation_semantics.specs.Errors.{unlike_alias_terms, unlike_trait_refs, unlike_lists}
+use Rattle.relation_semantics.specs.Errors.{unlike_polarities}
+use Rattle.relation_semantics.specs.Parts.{parts_of, head_of, IsByParts}
 use Rattle.type_relations.proofs.Comparing.{parts_list, list_of}
-use Rattle.relation_contexts.proofs.Erased.{forms_unify_by_parts}
+use Rattle.relation_semantics.proofs.Erased.{forms_unify_by_parts}
 use Rattle.type_relations.proofs.Fronts.{IsLookedAt}
 use Rattle.type_relations.proofs.Unifying.{one_head, unified_counts, erased_parameters}
 use Rattle.type_relations.proofs.Patterns.{term_alike, form_is}
-use Rattle.relation_contexts.proofs.OneParts.{sort_is}
+use Rattle.relation_semantics.proofs.OneParts.{sort_is}
 use Rattle.type_relations.proofs.PartPlaces.{binder_nth, only}
 
 -- Their forms are looked at.

@@ -21,10 +21,10 @@ use Rattle.term_enums.specs.declared.Variance.TheVariants.{Covariant, Contravari
 use Rattle.relation_terms.specs.declared.predicate.existential.ExistentialPredicate.{ExistentialPredicate}
 use Rattle.relation_terms.specs.declared.predicate.existential.ExistentialPredicate.TheVariants.{Trait, AutoTrait}
 use Rattle.relation_terms.specs.declared.predicate.existential.ExistentialPredicate.TheVariants.{Projection}
-use Rattle.relation_contexts.specs.Relation.{Items, mode, part_at}
+use Rattle.relation_semantics.specs.Relation.{Items, mode, part_at}
 use Rattle.relation_terms.proofs.Members.{type_term, const_term, pattern_term, region_term}
-use Rattle.relation_contexts.specs.Errors.{AreOfOneForm}
-use Rattle.relation_contexts.specs.Parts.{parts_of, head_of, IsByParts, IsRelatedPart, IsArgPart, ArePaired}
+use Rattle.relation_semantics.specs.Errors.{AreOfOneForm}
+use Rattle.relation_semantics.specs.Parts.{parts_of, head_of, IsByParts, IsRelatedPart, IsArgPart, ArePaired}
 use Rattle.type_relations.proofs.Patterns.{term_alike, term_part_at, IsFormSort}
 
 -- The sort of what a term of a sort is.

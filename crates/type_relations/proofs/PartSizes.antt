@@ -2,9 +2,9 @@
 use Rattle.std.proofs.Common.{◌<◌, ◌≤◌, arith}
 use Rattle.relation_terms.specs.Heads.{unevaluated, expression, value, value_branch}
 use Rattle.relation_terms.specs.Trees.{Tree, leaf, node, bind, nil, cons, Assign, apply, count, size}
-use Rattle.relation_contexts.specs.Stores.{Store, weight, resolved}
-use Rattle.relation_contexts.specs.Parts.{parts_of, const_parts_of, branches_of}
-use Rattle.relation_contexts.proofs.Parts.{parts_size, const_parts_size}
+use Rattle.relation_semantics.specs.Stores.{Store, weight, resolved}
+use Rattle.relation_semantics.specs.Parts.{parts_of, const_parts_of, branches_of}
+use Rattle.relation_semantics.proofs.Parts.{parts_size, const_parts_size}
 
 pub one_size : (t : Tree) → 0 < size t
 one_size (leaf l) = omega (arith)

@@ -33,11 +33,11 @@ use Rattle.relation_terms.specs.Parts.{body_tree, part_tree, part_sort, parts_of
 use Rattle.relation_terms.proofs.Binders.{front_known, front_terms}
 use Rattle.relation_terms.specs.Interning.{Sorted}
 use Rattle.relation_terms.proofs.Sorted.{signature_sorted, existential_sorted}
-use Rattle.relation_contexts.specs.Relation.{Items, mode, part_at, plain_atom, IsRelatedHead}
-use Rattle.relation_contexts.specs.FirstOrder.{IsFirstOrder}
-use Rattle.relation_contexts.specs.Errors.{AreOfOneForm, over_parts, over_aliases, one_leaf, parameters}
-use Rattle.relation_contexts.specs.Parts.{parts_of, head_of, IsByParts, IsComparedPart}
-use Rattle.relation_contexts.specs.Making.{over}
+use Rattle.relation_semantics.specs.Relation.{Items, mode, part_at, plain_atom, IsRelatedHead}
+use Rattle.relation_semantics.specs.FirstOrder.{IsFirstOrder}
+use Rattle.relation_semantics.specs.Errors.{AreOfOneForm, over_parts, over_aliases, one_leaf, parameters}
+use Rattle.relation_semantics.specs.Parts.{parts_of, head_of, IsByParts, IsComparedPart}
+use Rattle.relation_semantics.specs.Making.{over}
 
 -- No such term is a binder: all its parts are looked at.
 pub term_parts_as : (t : Tree) → IsByParts t → list_of_parts t ≡ parts_of t

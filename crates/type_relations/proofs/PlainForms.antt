@@ -7,17 +7,17 @@ use Rattle.relation_terms.specs.Heads.{Sort, region_sort, const_sort, pattern_so
 use Rattle.relation_terms.specs.Heads.{Atom, existential_auto, not_null_pattern, value_leaf, Head, alias, unevaluated, expression, value, value_type, value_branch, range_pattern, or_pattern, existential_trait, existential_projection, Leaf, variable, bound, placeholder, atom, unknown}
 use Rattle.relation_terms.specs.Trees.{Tree, leaf, node, bind, nil, cons, inst, put, tree_at, apply, known, IsTerm, Fits}
 use Rattle.relation_terms.specs.Erasure.{erase, kept_parts}
-use Rattle.relation_contexts.specs.Relation.{Items, at, parts, plain_atom, sort_of, IsAlias, IsAliasHead}
-use Rattle.relation_contexts.specs.FirstOrder.{IsFirstOrderAtom}
-use Rattle.relation_contexts.specs.Settings.{Settings}
-use Rattle.relation_contexts.specs.Stores.{Store, unbound, bound_to, entry_of, resolved, resolve, through, entry_term}
-use Rattle.relation_contexts.specs.Errors.{outer_leaf, AreOfOneValue, one_value, as_many_branches, AreAlikeConsts, alike_leaves, both_values, AreAlikeExistentials, both_traits, both_projections, both_auto_traits, IsStandIn, StandFor, StandsSeen, IsReadAs, itself, by_class, by_binding}
-use Rattle.relation_contexts.specs.declared.relate.StructurallyRelateAliases.{StructurallyRelateAliases}
-use Rattle.relation_contexts.specs.Agreeing.{Agree}
-use Rattle.relation_contexts.specs.Asking.{IsPlainLeaf, IsPlainHead, BindsRegions, IsPlainTerm, HasNoAlias}
-use Rattle.relation_contexts.proofs.Answering.{covariantly}
-use Rattle.relation_contexts.proofs.Erased.{erase_region}
-use Rattle.relation_contexts.proofs.Related.{no_region_head}
+use Rattle.relation_semantics.specs.Relation.{Items, at, parts, plain_atom, sort_of, IsAlias, IsAliasHead}
+use Rattle.relation_semantics.specs.FirstOrder.{IsFirstOrderAtom}
+use Rattle.relation_semantics.specs.Settings.{Settings}
+use Rattle.relation_semantics.specs.Stores.{Store, unbound, bound_to, entry_of, resolved, resolve, through, entry_term}
+use Rattle.relation_semantics.specs.Errors.{outer_leaf, AreOfOneValue, one_value, as_many_branches, AreAlikeConsts, alike_leaves, both_values, AreAlikeExistentials, both_traits, both_projections, both_auto_traits, IsStandIn, StandFor, StandsSeen, IsReadAs, itself, by_class, by_binding}
+use Rattle.relation_semantics.specs.declared.relate.StructurallyRelateAliases.{StructurallyRelateAliases}
+use Rattle.relation_semantics.specs.Agreeing.{Agree}
+use Rattle.relation_semantics.specs.Asking.{IsPlainLeaf, IsPlainHead, BindsRegions, IsPlainTerm, HasNoAlias}
+use Rattle.relation_semantics.proofs.Answering.{covariantly}
+use Rattle.relation_semantics.proofs.Erased.{erase_region}
+use Rattle.relation_semantics.proofs.Related.{no_region_head}
 use Rattle.type_relations.proofs.PlainTerms.{Good, good_parts, good_first, good_rest, no_left, Met, FormsAgree, forms_agree, agree_counts, leaves_alike, leaf_form, form_leaf, Alike, admitted_const, admitted_value, const_no_region, value_no_region, sort_no_region, no_alias_head}
 
 -- Value trees that agree are one, or have as many branches.

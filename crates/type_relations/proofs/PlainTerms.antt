@@ -7,18 +7,18 @@ use Rattle.relation_terms.specs.Heads.{Sort, region_sort, type_sort, const_sort,
 use Rattle.relation_terms.specs.Heads.{Atom, type_param, const_param, early_region, existential_auto, not_null_pattern, value_leaf, Head, alias, alias_term, unevaluated, expression, value, value_type, value_branch, range_pattern, or_pattern, existential_trait, existential_projection, Leaf, variable, bound, placeholder, atom, unknown}
 use Rattle.relation_terms.specs.Trees.{Tree, leaf, node, bind, nil, cons, count, nth, inst, put, tree_at, known, IsTerm, Fits}
 use Rattle.relation_terms.specs.Erasure.{erase, erase_leaf, erase_atom, kept_parts}
-use Rattle.relation_contexts.specs.Relation.{Items, at, parts, part_at, plain, plain_atom, sort_of, IsAlias, IsAliasHead, IsErrorAtom}
-use Rattle.relation_contexts.specs.FirstOrder.{IsFirstOrderAtom}
-use Rattle.relation_contexts.specs.Settings.{Settings, LeavesAliases, LeavesOpaque}
-use Rattle.relation_contexts.specs.Steps.{HasNoBinder}
-use Rattle.relation_contexts.specs.Errors.{outer_leaf, outer_head, AreAlike, AreOfOneValue, one_value, as_many_branches, AreAlikeConsts, alike_leaves, both_values, AreAlikeExistentials, both_traits, both_projections, both_auto_traits, IsStandIn, StandFor, IsLeftToGoal}
-use Rattle.relation_contexts.specs.Agreeing.{IsFlexible, AreFlexible, IsLeftAside, Agree}
-use Rattle.relation_contexts.specs.Asking.{IsPlainLeaf, IsPlainHead, BindsRegions, IsPlainTerm, HasNoAlias, ArePlain, without_aliases, without_binders}
-use Rattle.relation_contexts.proofs.Agreeing.{agree_sorts}
-use Rattle.relation_contexts.proofs.Answering.{covariantly}
-use Rattle.relation_contexts.proofs.Asking.{no_alias_term}
-use Rattle.relation_contexts.proofs.Erased.{leaf_path, erase_region, no_error_atom}
-use Rattle.relation_contexts.proofs.Leaving.{opaque_is_alias, beside_is_opaque}
+use Rattle.relation_semantics.specs.Relation.{Items, at, parts, part_at, plain, plain_atom, sort_of, IsAlias, IsAliasHead, IsErrorAtom}
+use Rattle.relation_semantics.specs.FirstOrder.{IsFirstOrderAtom}
+use Rattle.relation_semantics.specs.Settings.{Settings, LeavesAliases, LeavesOpaque}
+use Rattle.relation_semantics.specs.Steps.{HasNoBinder}
+use Rattle.relation_semantics.specs.Errors.{outer_leaf, outer_head, AreAlike, AreOfOneValue, one_value, as_many_branches, AreAlikeConsts, alike_leaves, both_values, AreAlikeExistentials, both_traits, both_projections, both_auto_traits, IsStandIn, StandFor, IsLeftToGoal}
+use Rattle.relation_semantics.specs.Agreeing.{IsFlexible, AreFlexible, IsLeftAside, Agree}
+use Rattle.relation_semantics.specs.Asking.{IsPlainLeaf, IsPlainHead, BindsRegions, IsPlainTerm, HasNoAlias, ArePlain, without_aliases, without_binders}
+use Rattle.relation_semantics.proofs.Agreeing.{agree_sorts}
+use Rattle.relation_semantics.proofs.Answering.{covariantly}
+use Rattle.relation_semantics.proofs.Asking.{no_alias_term}
+use Rattle.relation_semantics.proofs.Erased.{leaf_path, erase_region, no_error_atom}
+use Rattle.relation_semantics.proofs.Leaving.{opaque_is_alias, beside_is_opaque}
 use Rattle.type_relations.proofs.RegionTerms.{erased_error, leaf_outer, outer_erased}
 use Rattle.type_relations.proofs.Unifying.{atom_erased, erased_sort}
 

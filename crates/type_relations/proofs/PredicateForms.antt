@@ -9,8 +9,8 @@ use Rattle.relation_terms.specs.Heads.{existential_sort}
 use Rattle.relation_terms.specs.Trees.{Tree}
 use Rattle.relation_terms.specs.Meaning.{Meaning}
 use Rattle.relation_terms.specs.Parts.{part_tree, part_sort}
-use Rattle.relation_contexts.specs.Making.{over}
-use Rattle.relation_contexts.specs.Parts.{IsArgPart, IsBinderPart}
+use Rattle.relation_semantics.specs.Making.{over}
+use Rattle.relation_semantics.specs.Parts.{IsArgPart, IsBinderPart}
 use Rattle.type_relations.specs.PredicateForms.{predicate_form, form_of_part}
 
 module _ {Key Id : Type 0} where

@@ -16,21 +16,21 @@ use Rattle.relation_terms.specs.Heads.{type_sort, type_var}
 use Rattle.relation_terms.specs.Trees.{Tree, IsTerm, known}
 use Rattle.relation_folds.specs.declared.error.TypeError.TheVariants.{CyclicTy}
 use Rattle.relation_folds.specs.declared.error.RelateFault.{RelateFault}
-use Rattle.relation_contexts.specs.declared.relate.Step.{Step}
-use Rattle.relation_contexts.specs.declared.relate.Step.TheVariants.{Done}
-use Rattle.relation_contexts.specs.declared.relate.StructurallyRelateAliases.{StructurallyRelateAliases}
-use Rattle.relation_contexts.specs.AliasGoals.{alias_at}
-use Rattle.relation_contexts.specs.AskedAlone.{AsksAlone, IsTyVar, IsNoTyVar}
-use Rattle.relation_contexts.specs.ContextCalls.{Instantiated}
-use Rattle.relation_contexts.specs.Contexts.{Context}
-use Rattle.relation_contexts.specs.Goals.{goal_of}
-use Rattle.relation_contexts.specs.Parts.{IsFormed}
-use Rattle.relation_contexts.specs.Steps.{Taints}
-use Rattle.relation_contexts.specs.Lawful.{State, Pair, Manners, Stepped, Shown, HasRelated, RemembersRelated, Remembers}
-use Rattle.relation_contexts.proofs.Answering.{same_environment, same_settings}
-use Rattle.relation_contexts.proofs.Passing.{shown_now, step_done}
-use Rattle.relation_contexts.proofs.Remembering.{hit_is_step, related_as, were_related_more}
-use Rattle.relation_contexts.proofs.Standing.{term_sort_of}
+use Rattle.relation_semantics.specs.declared.relate.Step.{Step}
+use Rattle.relation_semantics.specs.declared.relate.Step.TheVariants.{Done}
+use Rattle.relation_semantics.specs.declared.relate.StructurallyRelateAliases.{StructurallyRelateAliases}
+use Rattle.relation_semantics.specs.AliasGoals.{alias_at}
+use Rattle.relation_semantics.specs.AskedAlone.{AsksAlone, IsTyVar, IsNoTyVar}
+use Rattle.relation_semantics.specs.ContextCalls.{Instantiated}
+use Rattle.relation_semantics.specs.Contexts.{Context}
+use Rattle.relation_semantics.specs.Goals.{goal_of}
+use Rattle.relation_semantics.specs.Parts.{IsFormed}
+use Rattle.relation_semantics.specs.Steps.{Taints}
+use Rattle.relation_semantics.specs.Lawful.{State, Pair, Manners, Stepped, Shown, HasRelated, RemembersRelated, Remembers}
+use Rattle.relation_semantics.proofs.Answering.{same_environment, same_settings}
+use Rattle.relation_semantics.proofs.Passing.{shown_now, step_done}
+use Rattle.relation_semantics.proofs.Remembering.{hit_is_step, related_as, were_related_more}
+use Rattle.relation_semantics.proofs.Standing.{term_sort_of}
 use Rattle.type_relations.specs.Combining.{Joins, MeetsTys, RegistersOne, RegistersNone, TaintsAlone, TysCombine, seen}
 use Rattle.type_relations.specs.Combining.{left_error, right_error, left_to_goal, left_open, not_registered, not_left}
 use Rattle.type_relations.specs.Keyed.{AskedTys, ShownTys, SteppedTys, TysAskNone}

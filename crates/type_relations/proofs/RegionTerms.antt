@@ -5,22 +5,22 @@ use Rattle.term_enums.specs.declared.Variance.TheVariants.{Covariant, Contravari
 use Rattle.relation_terms.specs.Heads.{Sort, region_kind, type_kind, const_kind, BoundKind, bound_kind, bound_sort, region_var, region_sort, Part, term_of, binder_of, Shape, one, row, head_parts, leaf_sort, Leaf, Atom, atom_sort, type_param, const_param, static_region, early_region, atom, variable, bound, placeholder, unknown, Head, slice, value_type, alias, alias_term, unevaluated, host_effect, subtype, region_outlives, type_outlives, projection, const_has_type, well_formed, const_evaluatable, coerce, normalizes_to, alias_relate, environment}
 use Rattle.relation_terms.specs.Trees.{Tree, leaf, node, bind, nil, cons, Leaves, inst, put, tree_at, size, IsList, IsTerm, Fits}
 use Rattle.relation_terms.specs.Erasure.{erase, erase_leaf, erase_atom, kept_parts}
-use Rattle.relation_contexts.specs.Relation.{Items, Interpretation, parts, second_opened, first_opened, Rel, at, same, anything, error_left, error_right, regions, alias_types, equal_consts, atoms, forms, no_parts, next_part, covariant_binders, contravariant_binders, invariant_binders, open_second, open_first, part_at, plain, plain_atom, sort_of, IsError, IsErrorAtom, IsAlias, IsAliasHead, IsRelatedHead, AliasRule, IsValueLeaf, FitKinds, Fresh, RegionRule, all_outlive}
-use Rattle.relation_contexts.specs.FirstOrder.{IsFirstOrderAtom}
-use Rattle.relation_contexts.specs.Stores.{IsNamable}
-use Rattle.relation_contexts.specs.Asking.{BindsRegions}
+use Rattle.relation_semantics.specs.Relation.{Items, Interpretation, parts, second_opened, first_opened, Rel, at, same, anything, error_left, error_right, regions, alias_types, equal_consts, atoms, forms, no_parts, next_part, covariant_binders, contravariant_binders, invariant_binders, open_second, open_first, part_at, plain, plain_atom, sort_of, IsError, IsErrorAtom, IsAlias, IsAliasHead, IsRelatedHead, AliasRule, IsValueLeaf, FitKinds, Fresh, RegionRule, all_outlive}
+use Rattle.relation_semantics.specs.FirstOrder.{IsFirstOrderAtom}
+use Rattle.relation_semantics.specs.Stores.{IsNamable}
+use Rattle.relation_semantics.specs.Asking.{BindsRegions}
 use Rattle.type_relations.specs.RegionTerms.{IsRegionTermHead, IsRegionTermLeaf, IsRegionTerm, RelatedTermsAgree, RelatedIffAgree}
-use Rattle.relation_contexts.specs.Agreeing.{IsFlexible, AreFlexible, IsLeftAside, Agree}
-use Rattle.relation_contexts.specs.Settings.{Settings}
-use Rattle.relation_contexts.specs.Errors.{outer_leaf, AreAlike, IsLeftToGoal}
+use Rattle.relation_semantics.specs.Agreeing.{IsFlexible, AreFlexible, IsLeftAside, Agree}
+use Rattle.relation_semantics.specs.Settings.{Settings}
+use Rattle.relation_semantics.specs.Errors.{outer_leaf, AreAlike, IsLeftToGoal}
 use Rattle.type_relations.proofs.Unifying.{kind_erased, atom_erased, kind_kept, erased_plain}
-use Rattle.relation_contexts.proofs.Leaving.{opaque_is_alias, beside_is_opaque}
+use Rattle.relation_semantics.proofs.Leaving.{opaque_is_alias, beside_is_opaque}
 use Rattle.type_relations.proofs.PartSizes.{one_size}
-use Rattle.relation_contexts.proofs.Agreeing.{agree_anything, agree_same}
-use Rattle.relation_contexts.proofs.Erased.{erase_region, erase_plain, no_error_atom}
-use Rattle.relation_contexts.proofs.Related.{no_region_head}
-use Rattle.relation_contexts.proofs.Standing.{term_sort_of}
-use Rattle.relation_contexts.proofs.Values.{fresh_later, some_placeholders, some_are_placeholders}
+use Rattle.relation_semantics.proofs.Agreeing.{agree_anything, agree_same}
+use Rattle.relation_semantics.proofs.Erased.{erase_region, erase_plain, no_error_atom}
+use Rattle.relation_semantics.proofs.Related.{no_region_head}
+use Rattle.relation_semantics.proofs.Standing.{term_sort_of}
+use Rattle.relation_semantics.proofs.Values.{fresh_later, some_placeholders, some_are_placeholders}
 
 -- Such a form has a relation.
 related_head : (h : Head) → IsRegionTermHead h → IsRelatedHead h

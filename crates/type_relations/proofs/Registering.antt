@@ -9,13 +9,13 @@ use Rattle.term_enums.specs.declared.Variance.TheVariants.{Covariant, Contravari
 use Rattle.relation_terms.specs.declared.terms.keys.PredicateKey.{PredicateKey}
 use Rattle.relation_terms.specs.Meaning.{Extends}
 use Rattle.relation_terms.specs.Trees.{Tree, cons, nil, known}
-use Rattle.relation_contexts.specs.AliasGoals.{alias_at}
-use Rattle.relation_contexts.specs.ContextCalls.{Stands}
-use Rattle.relation_contexts.specs.Contexts.{Context}
-use Rattle.relation_contexts.specs.Goals.{goal_of, alias_relate_predicate}
-use Rattle.relation_contexts.specs.Lawful.{State}
-use Rattle.relation_contexts.specs.Steps.{IsLater, Taints}
-use Rattle.relation_contexts.proofs.Going.{later_itself}
+use Rattle.relation_semantics.specs.AliasGoals.{alias_at}
+use Rattle.relation_semantics.specs.ContextCalls.{Stands}
+use Rattle.relation_semantics.specs.Contexts.{Context}
+use Rattle.relation_semantics.specs.Goals.{goal_of, alias_relate_predicate}
+use Rattle.relation_semantics.specs.Lawful.{State}
+use Rattle.relation_semantics.specs.Steps.{IsLater, Taints}
+use Rattle.relation_semantics.proofs.Going.{later_itself}
 use Rattle.type_relations.specs.Combining.{TaintsAlone, KeepsKept}
 use Rattle.type_relations.specs.Emitting.{IsOver, WithContext, AddsGoals, KnowsPredicate, RegistersGoal, goals_in, with_goals}
 

@@ -11,11 +11,11 @@ use Rattle.relation_terms.specs.Interning.{AreEqualAsTrees, AreEqualAsKinds}
 use Rattle.relation_terms.proofs.Binders.{under_stays}
 use Rattle.relation_folds.specs.declared.error.RelateFault.{RelateFault}
 use Rattle.type_relations.specs.Arguments.{related_tree}
-use Rattle.relation_contexts.specs.Binders.{binder_tree}
+use Rattle.relation_semantics.specs.Binders.{binder_tree}
 use Rattle.type_relations.specs.EqualForms.{binder_same}
-use Rattle.relation_contexts.specs.Lawful.{State, Manners, Asked, Related}
-use Rattle.relation_contexts.specs.Relation.{sort_of}
-use Rattle.relation_contexts.proofs.Passing.{asked_later}
+use Rattle.relation_semantics.specs.Lawful.{State, Manners, Asked, Related}
+use Rattle.relation_semantics.specs.Relation.{sort_of}
+use Rattle.relation_semantics.proofs.Passing.{asked_later}
 use Rattle.type_relations.proofs.Relatable.{equal_one}
 use Rattle.type_relations.proofs.Rounds.{HalfDone}
 

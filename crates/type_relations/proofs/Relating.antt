@@ -10,11 +10,11 @@ use Rattle.relation_terms.specs.Trees.{Tree}
 use Rattle.relation_terms.specs.Meaning.{Meaning}
 use Rattle.relation_folds.specs.declared.error.RelateFault.{RelateFault}
 use Rattle.relation_folds.specs.declared.error.RelateFault.TheVariants.{Memory, Budget, Unrelated}
-use Rattle.relation_contexts.specs.declared.relate.StructurallyRelateAliases.{StructurallyRelateAliases}
-use Rattle.relation_contexts.specs.Contexts.{Context}
-use Rattle.relation_contexts.specs.Goals.{Goal as GoalOf}
-use Rattle.relation_contexts.specs.Kits.{StaysBuilt}
-use Rattle.relation_contexts.proofs.Building.{built_refused}
+use Rattle.relation_semantics.specs.declared.relate.StructurallyRelateAliases.{StructurallyRelateAliases}
+use Rattle.relation_semantics.specs.Contexts.{Context}
+use Rattle.relation_semantics.specs.Goals.{Goal as GoalOf}
+use Rattle.relation_semantics.specs.Kits.{StaysBuilt}
+use Rattle.relation_semantics.proofs.Building.{built_refused}
 use Rattle.type_relations.specs.Relating.{term_in, AnswersAlone, AnswersAsked, BuildsNoMore}
 use Rattle.type_relations.specs.Alone.{RegistersAlone, RelatesAlone}
 use Rattle.type_relations.specs.Solving.{solving_in, solver_manner}

@@ -15,27 +15,27 @@ use Rattle.relation_terms.specs.Parts.{part_tree, body_tree}
 use Rattle.relation_terms.proofs.Parts.{stays_part}
 use Rattle.relation_folds.specs.declared.error.RelateFault.{RelateFault}
 use Rattle.relation_folds.specs.declared.error.RelateFault.TheVariants.{Memory, Budget, Unrelated}
-use Rattle.relation_contexts.specs.Relation.{Items, at, second_opened, first_opened}
-use Rattle.relation_contexts.specs.Stores.{Store, IsSound, InContext, weight}
-use Rattle.relation_contexts.specs.Goals.{Goal}
-use Rattle.relation_contexts.specs.Outcomes.{Outcome, NeverOne}
-use Rattle.relation_contexts.specs.Measures.{grown, depth, Goes}
-use Rattle.relation_contexts.specs.Steps.{HasNoBinder}
-use Rattle.relation_contexts.specs.Kits.{Kit, IsBuiltOf, StaysBuilt}
-use Rattle.relation_contexts.specs.Errors.{ErrorOf}
-use Rattle.relation_contexts.specs.Agreeing.{Agree}
-use Rattle.relation_contexts.specs.Lawful.{State, Manners, MayAnswer, Passes, Asked, Refuses, Related, items_in}
-use Rattle.relation_contexts.specs.Parts.{IsBinderPart}
+use Rattle.relation_semantics.specs.Relation.{Items, at, second_opened, first_opened}
+use Rattle.relation_semantics.specs.Stores.{Store, IsSound, InContext, weight}
+use Rattle.relation_semantics.specs.Goals.{Goal}
+use Rattle.relation_semantics.specs.Outcomes.{Outcome, NeverOne}
+use Rattle.relation_semantics.specs.Measures.{grown, depth, Goes}
+use Rattle.relation_semantics.specs.Steps.{HasNoBinder}
+use Rattle.relation_semantics.specs.Kits.{Kit, IsBuiltOf, StaysBuilt}
+use Rattle.relation_semantics.specs.Errors.{ErrorOf}
+use Rattle.relation_semantics.specs.Agreeing.{Agree}
+use Rattle.relation_semantics.specs.Lawful.{State, Manners, MayAnswer, Passes, Asked, Refuses, Related, items_in}
+use Rattle.relation_semantics.specs.Parts.{IsBinderPart}
 use Rattle.type_relations.specs.Rounds.{OneRound, StepsToBodies, RoundSteps, one_round, first_round, second_round}
 use Rattle.type_relations.specs.Rounds.{RoundLeads, Opened}
-use Rattle.relation_contexts.proofs.Standing.{term_context}
-use Rattle.relation_contexts.proofs.Going.{grown-mono, le_grown, depth-strict, depth_later, le_square, weight_cons}
-use Rattle.relation_contexts.proofs.Full.{first_order_plain, full_never}
-use Rattle.relation_contexts.proofs.Building.{built_led, built_then}
-use Rattle.relation_contexts.proofs.Answering.{may_itself, same_items, same_settings}
-use Rattle.relation_contexts.proofs.Composing.{steps_compose, values_still}
-use Rattle.relation_contexts.proofs.Opening.{two_rounds_relate, binder_kinds, binder_bodies}
-use Rattle.relation_contexts.proofs.Passing.{passes_then, manner_then, stopped, asked_later, outcome_seen}
+use Rattle.relation_semantics.proofs.Standing.{term_context}
+use Rattle.relation_semantics.proofs.Going.{grown-mono, le_grown, depth-strict, depth_later, le_square, weight_cons}
+use Rattle.relation_semantics.proofs.Full.{first_order_plain, full_never}
+use Rattle.relation_semantics.proofs.Building.{built_led, built_then}
+use Rattle.relation_semantics.proofs.Answering.{may_itself, same_items, same_settings}
+use Rattle.relation_semantics.proofs.Composing.{steps_compose, values_still}
+use Rattle.relation_semantics.proofs.Opening.{two_rounds_relate, binder_kinds, binder_bodies}
+use Rattle.relation_semantics.proofs.Passing.{passes_then, manner_then, stopped, asked_later, outcome_seen}
 
 -- Two binders.
 abbrev AreBinders : Tree → Tree → Type 0

@@ -6,29 +6,29 @@ use Rattle.relation_terms.specs.Trees.{Tree, leaf, Assign, apply}
 use Rattle.term_enums.specs.Variances.{xform}
 use Rattle.relation_folds.specs.declared.error.RelateFault.{RelateFault}
 use Rattle.relation_folds.specs.declared.error.RelateFault.TheVariants.{Memory, Budget, Unrelated}
-use Rattle.relation_contexts.specs.declared.relate.Step.{Step}
-use Rattle.relation_contexts.specs.declared.relate.Step.TheVariants.{Done, Parts, Again}
-use Rattle.relation_contexts.specs.Relation.{Interpretation, Rel, at}
-use Rattle.relation_contexts.specs.Stores.{Store, unbound, same_as, bound_to, entry_of, entry_term, bound_term, IsSound}
-use Rattle.relation_contexts.specs.Stores.{Satisfies, IsMade, IsTermIn, weight}
-use Rattle.relation_contexts.specs.Goals.{Goal}
-use Rattle.relation_contexts.specs.Outcomes.{Outcome}
-use Rattle.relation_contexts.specs.Measures.{grown}
-use Rattle.relation_contexts.specs.Errors.{IsReadAs, of_entries}
-use Rattle.relation_contexts.specs.Parts.{IsFormed}
-use Rattle.relation_contexts.specs.Lawful.{State, Passes, Leads, StepVerdict, ExactVerdict, Stepped, items_in}
-use Rattle.relation_contexts.proofs.ReadAs.{read_value, read_later, read_weight}
-use Rattle.relation_contexts.proofs.Agreeing.{agree_read}
-use Rattle.relation_contexts.proofs.Going.{later_through, goes_within}
-use Rattle.relation_contexts.proofs.Full.{read_plain}
-use Rattle.relation_contexts.specs.Kits.{BuiltFrom}
-use Rattle.relation_contexts.proofs.Building.{built_read}
-use Rattle.relation_contexts.proofs.Standing.{made_of_term}
-use Rattle.relation_contexts.specs.Resolving.{IsShallow, root, stays_bound, formed, IsShallowConst, const_root, no_variable}
+use Rattle.relation_semantics.specs.declared.relate.Step.{Step}
+use Rattle.relation_semantics.specs.declared.relate.Step.TheVariants.{Done, Parts, Again}
+use Rattle.relation_semantics.specs.Relation.{Interpretation, Rel, at}
+use Rattle.relation_semantics.specs.Stores.{Store, unbound, same_as, bound_to, entry_of, entry_term, bound_term, IsSound}
+use Rattle.relation_semantics.specs.Stores.{Satisfies, IsMade, IsTermIn, weight}
+use Rattle.relation_semantics.specs.Goals.{Goal}
+use Rattle.relation_semantics.specs.Outcomes.{Outcome}
+use Rattle.relation_semantics.specs.Measures.{grown}
+use Rattle.relation_semantics.specs.Errors.{IsReadAs, of_entries}
+use Rattle.relation_semantics.specs.Parts.{IsFormed}
+use Rattle.relation_semantics.specs.Lawful.{State, Passes, Leads, StepVerdict, ExactVerdict, Stepped, items_in}
+use Rattle.relation_semantics.proofs.ReadAs.{read_value, read_later, read_weight}
+use Rattle.relation_semantics.proofs.Agreeing.{agree_read}
+use Rattle.relation_semantics.proofs.Going.{later_through, goes_within}
+use Rattle.relation_semantics.proofs.Full.{read_plain}
+use Rattle.relation_semantics.specs.Kits.{BuiltFrom}
+use Rattle.relation_semantics.proofs.Building.{built_read}
+use Rattle.relation_semantics.proofs.Standing.{made_of_term}
+use Rattle.relation_semantics.specs.Resolving.{IsShallow, root, stays_bound, formed, IsShallowConst, const_root, no_variable}
 use Rattle.type_relations.specs.Solving.{solver_manner}
 use Rattle.type_relations.proofs.Exactly.{read_pair, step_read, exact_read, apart_read}
-use Rattle.relation_contexts.specs.OneUniverse.{LeadsInUniverse}
-use Rattle.relation_contexts.proofs.OneUniverse.{reading_leads, led_then, led_keeps, led_binds, led_fewer}
+use Rattle.relation_semantics.specs.OneUniverse.{LeadsInUniverse}
+use Rattle.relation_semantics.proofs.OneUniverse.{reading_leads, led_then, led_keeps, led_binds, led_fewer}
 
 -- What is resolved shallowly to a variable is an unbound one.
 free_entry : (st : Store) (k : VarKind) (n : ℕ) → bound_term st k n ≡ None → entry_of st k n ≡ unbound

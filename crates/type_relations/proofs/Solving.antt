@@ -26,44 +26,44 @@ use Rattle.relation_terms.specs.Meaning.{Meaning, Extends}
 use Rattle.relation_terms.proofs.Stays.{stays_same}
 use Rattle.relation_folds.specs.declared.error.RelateFault.{RelateFault}
 use Rattle.relation_folds.specs.declared.error.RelateFault.TheVariants.{Memory, Budget, Unrelated}
-use Rattle.relation_contexts.specs.declared.relate.Step.{Step}
-use Rattle.relation_contexts.specs.declared.relate.StructurallyRelateAliases.{StructurallyRelateAliases}
-use Rattle.relation_contexts.specs.declared.relate.Step.TheVariants.{Done}
-use Rattle.relation_contexts.specs.Relation.{Interpretation, RegionRule, regions, at}
-use Rattle.relation_contexts.specs.Stores.{Store, Constraint, IsRegionIn, IsSound}
-use Rattle.relation_contexts.specs.Stores.{ConstraintHolds, all_bound}
-use Rattle.relation_contexts.specs.Goals.{Goal, goals_of, KnowsGoal, Registered, GoalInContext, Holds, MakesOneTree}
-use Rattle.relation_contexts.specs.Headline.{AnswersGoals, KeepsEqualTerms, IsFirstOrderPair}
-use Rattle.relation_contexts.specs.Steps.{AddsConstraint, Equates, IsLater, StaysFull}
-use Rattle.relation_contexts.specs.Kits.{StaysBuilt, IsGoalOf}
-use Rattle.relation_contexts.proofs.Building.{built_itself, built_same, built_constraint}
-use Rattle.relation_contexts.specs.Outcomes.{Outcome}
-use Rattle.relation_contexts.specs.Measures.{Goes}
-use Rattle.relation_contexts.specs.Parts.{IsFormedConst}
-use Rattle.relation_contexts.specs.Constraints.{constraint_at, constraint_of, asked_constraints}
-use Rattle.relation_contexts.specs.Lawful.{Passes, Related, Stepped, items_of, Kept, Pair, State, WereRelated}
-use Rattle.relation_contexts.proofs.Standing.{term_sort_of}
-use Rattle.relation_contexts.proofs.Agreeing.{agree_regions}
-use Rattle.relation_contexts.specs.Agreeing.{Agree}
-use Rattle.relation_contexts.specs.Lawful.{Verdict, WithMeaning, RegisteredIn}
-use Rattle.relation_contexts.proofs.Going.{goes_nowhere, goes_within, later_itself}
-use Rattle.relation_contexts.proofs.Remembering.{none_related, were_related_later}
-use Rattle.relation_contexts.proofs.Roots.{roots_goes}
-use Rattle.relation_contexts.proofs.Full.{full_itself, full_same, full_by, constraint_plain}
-use Rattle.relation_contexts.proofs.Growing.{constraint_holds, constraint_keeps}
+use Rattle.relation_semantics.specs.declared.relate.Step.{Step}
+use Rattle.relation_semantics.specs.declared.relate.StructurallyRelateAliases.{StructurallyRelateAliases}
+use Rattle.relation_semantics.specs.declared.relate.Step.TheVariants.{Done}
+use Rattle.relation_semantics.specs.Relation.{Interpretation, RegionRule, regions, at}
+use Rattle.relation_semantics.specs.Stores.{Store, Constraint, IsRegionIn, IsSound}
+use Rattle.relation_semantics.specs.Stores.{ConstraintHolds, all_bound}
+use Rattle.relation_semantics.specs.Goals.{Goal, goals_of, KnowsGoal, Registered, GoalInContext, Holds, MakesOneTree}
+use Rattle.relation_semantics.specs.Headline.{AnswersGoals, KeepsEqualTerms, IsFirstOrderPair}
+use Rattle.relation_semantics.specs.Steps.{AddsConstraint, Equates, IsLater, StaysFull}
+use Rattle.relation_semantics.specs.Kits.{StaysBuilt, IsGoalOf}
+use Rattle.relation_semantics.proofs.Building.{built_itself, built_same, built_constraint}
+use Rattle.relation_semantics.specs.Outcomes.{Outcome}
+use Rattle.relation_semantics.specs.Measures.{Goes}
+use Rattle.relation_semantics.specs.Parts.{IsFormedConst}
+use Rattle.relation_semantics.specs.Constraints.{constraint_at, constraint_of, asked_constraints}
+use Rattle.relation_semantics.specs.Lawful.{Passes, Related, Stepped, items_of, Kept, Pair, State, WereRelated}
+use Rattle.relation_semantics.proofs.Standing.{term_sort_of}
+use Rattle.relation_semantics.proofs.Agreeing.{agree_regions}
+use Rattle.relation_semantics.specs.Agreeing.{Agree}
+use Rattle.relation_semantics.specs.Lawful.{Verdict, WithMeaning, RegisteredIn}
+use Rattle.relation_semantics.proofs.Going.{goes_nowhere, goes_within, later_itself}
+use Rattle.relation_semantics.proofs.Remembering.{none_related, were_related_later}
+use Rattle.relation_semantics.proofs.Roots.{roots_goes}
+use Rattle.relation_semantics.proofs.Full.{full_itself, full_same, full_by, constraint_plain}
+use Rattle.relation_semantics.proofs.Growing.{constraint_holds, constraint_keeps}
 use Rattle.type_relations.proofs.Constraints.{asked_relates, asked_met}
 use Rattle.type_relations.proofs.OverContext.{standing, roots_step as roots_equated}
-use Rattle.relation_contexts.proofs.Answering.{may_itself, same_environment}
-use Rattle.relation_contexts.proofs.OneUniverse.{keeps_pair, binds_itself, binds_none, standing_keeps}
+use Rattle.relation_semantics.proofs.Answering.{may_itself, same_environment}
+use Rattle.relation_semantics.proofs.OneUniverse.{keeps_pair, binds_itself, binds_none, standing_keeps}
 use Rattle.type_relations.specs.Solving.{KnowsGoals, Held, held_by, kept_in, solving, solving_through, solver_manner}
 use Rattle.type_relations.specs.Solving.{HeldRelated, settings_by, solver_settings}
-use Rattle.relation_contexts.specs.Errors.{ErrorOf}
-use Rattle.relation_contexts.proofs.Registered.{goals_stay, goals_known, none_at_invariance, all_but_aliases, first_order_built, first_order_bindings}
+use Rattle.relation_semantics.specs.Errors.{ErrorOf}
+use Rattle.relation_semantics.proofs.Registered.{goals_stay, goals_known, none_at_invariance, all_but_aliases, first_order_built, first_order_bindings}
 use Rattle.type_relations.proofs.Exactly.{region_value, regions_exactly}
-use Rattle.relation_contexts.proofs.Growing.{constraint_is_later, constraint_bound, constraint_weight}
-use Rattle.relation_contexts.specs.Contexts.{Context}
-use Rattle.relation_contexts.specs.Settings.{Setup}
-use Rattle.relation_contexts.specs.ContextCalls.{Stands, Grows, Knows, Constrains, KeepsSetup, KeepsOutliving, KeepsBeside}
+use Rattle.relation_semantics.proofs.Growing.{constraint_is_later, constraint_bound, constraint_weight}
+use Rattle.relation_semantics.specs.Contexts.{Context}
+use Rattle.relation_semantics.specs.Settings.{Setup}
+use Rattle.relation_semantics.specs.ContextCalls.{Stands, Grows, Knows, Constrains, KeepsSetup, KeepsOutliving, KeepsBeside}
 use Rattle.type_relations.specs.Emitting.{WithContext}
 
 -- Seen from the other side too the variance decides something.

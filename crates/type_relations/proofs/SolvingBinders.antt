@@ -16,32 +16,32 @@ use Rattle.relation_terms.proofs.Binders.{under_stays}
 use Rattle.relation_folds.specs.declared.error.RelateFault.{RelateFault}
 use Rattle.relation_folds.specs.declared.error.RelateFault.TheVariants.{Memory}
 use Rattle.relation_folds.specs.Visits.{bound_var_escapes}
-use Rattle.relation_contexts.specs.declared.relate.StructurallyRelateAliases.{StructurallyRelateAliases}
-use Rattle.relation_contexts.specs.Relation.{StaysWithin}
-use Rattle.relation_contexts.specs.Stores.{Store, InContext, IsTermIn, IsSound}
-use Rattle.relation_contexts.specs.Steps.{ChangesNothing, EntersForall}
-use Rattle.relation_contexts.specs.Measures.{Goes}
-use Rattle.relation_contexts.specs.Generalising.{MakesUnbound, makes_none}
-use Rattle.relation_contexts.specs.Bound.{AreBoundAs}
-use Rattle.relation_contexts.specs.Lawful.{State, Pair, Asked, items_of}
-use Rattle.relation_contexts.specs.Goals.{goals_of}
-use Rattle.relation_contexts.specs.Contexts.{Context}
-use Rattle.relation_contexts.specs.ContextCalls.{Grows}
-use Rattle.relation_contexts.specs.Binders.{binder_tree, EntersAs, InstantiatesAs, OpensFrom, OpensBoth}
+use Rattle.relation_semantics.specs.declared.relate.StructurallyRelateAliases.{StructurallyRelateAliases}
+use Rattle.relation_semantics.specs.Relation.{StaysWithin}
+use Rattle.relation_semantics.specs.Stores.{Store, InContext, IsTermIn, IsSound}
+use Rattle.relation_semantics.specs.Steps.{ChangesNothing, EntersForall}
+use Rattle.relation_semantics.specs.Measures.{Goes}
+use Rattle.relation_semantics.specs.Generalising.{MakesUnbound, makes_none}
+use Rattle.relation_semantics.specs.Bound.{AreBoundAs}
+use Rattle.relation_semantics.specs.Lawful.{State, Pair, Asked, items_of}
+use Rattle.relation_semantics.specs.Goals.{goals_of}
+use Rattle.relation_semantics.specs.Contexts.{Context}
+use Rattle.relation_semantics.specs.ContextCalls.{Grows}
+use Rattle.relation_semantics.specs.Binders.{binder_tree, EntersAs, InstantiatesAs, OpensFrom, OpensBoth}
 use Rattle.type_relations.specs.Rounds.{OneRound, RoundSteps, one_round, first_round, second_round, RoundLeads}
 use Rattle.type_relations.specs.Rounds.{RoundVerdict, Opened}
 use Rattle.type_relations.specs.Solving.{KnowsGoals, solving_through, solver_manner}
-use Rattle.relation_contexts.proofs.Standing.{later_term}
-use Rattle.relation_contexts.proofs.Going.{goes_nowhere, goes_within}
-use Rattle.relation_contexts.proofs.Opened.{none_escapes, within_none}
-use Rattle.relation_contexts.proofs.Opening.{covariant_step, contravariant_step, unused_step}
+use Rattle.relation_semantics.proofs.Standing.{later_term}
+use Rattle.relation_semantics.proofs.Going.{goes_nowhere, goes_within}
+use Rattle.relation_semantics.proofs.Opened.{none_escapes, within_none}
+use Rattle.relation_semantics.proofs.Opening.{covariant_step, contravariant_step, unused_step}
 use Rattle.type_relations.proofs.OverContext.{all_taken}
 use Rattle.type_relations.proofs.Solving.{held_grows, solver_passes}
 use Rattle.type_relations.proofs.OpeningBoth.{changes_made, opened_goes, body_scope, unused_stand_ins, bodies_error}
 use Rattle.type_relations.proofs.OpeningBoth.{bodies_agree}
 use Rattle.type_relations.proofs.OpeningBoth.{BothOpened, both_opened, bodies_smaller, bodies_built}
-use Rattle.relation_contexts.specs.Kits.{Kit, IsBuiltOf, StaysBuilt}
-use Rattle.relation_contexts.proofs.Building.{built_itself, built_opened}
+use Rattle.relation_semantics.specs.Kits.{Kit, IsBuiltOf, StaysBuilt}
+use Rattle.relation_semantics.proofs.Building.{built_itself, built_opened}
 
 -- A body in which something is bound outside uses what its binder binds.
 one_uses : (t u : Tree) → (bound_var_escapes t || bound_var_escapes u) ≡ true → StaysWithin 0 t × StaysWithin 0 u → ⊥

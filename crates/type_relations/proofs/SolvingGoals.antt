@@ -12,22 +12,22 @@ use Rattle.relation_terms.specs.declared.terms.keys.ParamEnvKey.{ParamEnvKey}
 use Rattle.relation_terms.specs.declared.terms.keys.PredicateKey.{PredicateKey}
 use Rattle.relation_terms.specs.Heads.{type_var, variable}
 use Rattle.relation_terms.specs.Trees.{Tree, leaf, cons, nil, Assign, apply, known}
-use Rattle.relation_contexts.specs.declared.relate.Step.TheVariants.{Done}
-use Rattle.relation_contexts.specs.declared.relate.StructurallyRelateAliases.{StructurallyRelateAliases}
-use Rattle.relation_contexts.specs.AskedAlone.{subtype_at}
-use Rattle.relation_contexts.specs.ContextCalls.{Grows}
-use Rattle.relation_contexts.specs.Contexts.{Context}
-use Rattle.relation_contexts.specs.Goals.{Goal, goal_of, subtype_predicate, IsOpen, IsDirected, IsRegistered, of_variables, Holds, MakesOneTree}
-use Rattle.relation_contexts.specs.Kits.{IsPredicateOf}
-use Rattle.relation_contexts.specs.Lawful.{State, Pair, Stepped, MayAnswer, items_in}
-use Rattle.relation_contexts.specs.Outcomes.{Outcome}
-use Rattle.relation_contexts.specs.Parts.{IsFormed}
-use Rattle.relation_contexts.specs.Relation.{Interpretation, Rel, at, sort_of}
-use Rattle.relation_contexts.proofs.Agreeing.{agree_root}
-use Rattle.relation_contexts.proofs.Answering.{may_itself}
-use Rattle.relation_contexts.proofs.Going.{later_itself}
-use Rattle.relation_contexts.proofs.Growing.{All_back}
-use Rattle.relation_contexts.proofs.Registered.{registered_in}
+use Rattle.relation_semantics.specs.declared.relate.Step.TheVariants.{Done}
+use Rattle.relation_semantics.specs.declared.relate.StructurallyRelateAliases.{StructurallyRelateAliases}
+use Rattle.relation_semantics.specs.AskedAlone.{subtype_at}
+use Rattle.relation_semantics.specs.ContextCalls.{Grows}
+use Rattle.relation_semantics.specs.Contexts.{Context}
+use Rattle.relation_semantics.specs.Goals.{Goal, goal_of, subtype_predicate, IsOpen, IsDirected, IsRegistered, of_variables, Holds, MakesOneTree}
+use Rattle.relation_semantics.specs.Kits.{IsPredicateOf}
+use Rattle.relation_semantics.specs.Lawful.{State, Pair, Stepped, MayAnswer, items_in}
+use Rattle.relation_semantics.specs.Outcomes.{Outcome}
+use Rattle.relation_semantics.specs.Parts.{IsFormed}
+use Rattle.relation_semantics.specs.Relation.{Interpretation, Rel, at, sort_of}
+use Rattle.relation_semantics.proofs.Agreeing.{agree_root}
+use Rattle.relation_semantics.proofs.Answering.{may_itself}
+use Rattle.relation_semantics.proofs.Going.{later_itself}
+use Rattle.relation_semantics.proofs.Growing.{All_back}
+use Rattle.relation_semantics.proofs.Registered.{registered_in}
 use Rattle.type_relations.specs.Emitting.{IsOver, AddsGoals, RegistersGoal, goals_in}
 use Rattle.type_relations.specs.Solving.{KnowsGoals, solving_through, solver_manner}
 use Rattle.type_relations.proofs.GoalPasses.{goal_in}

@@ -11,60 +11,60 @@ use Rattle.relation_terms.specs.Meaning.{Meaning, Extends}
 use Rattle.relation_folds.specs.declared.error.TypeError.{TypeError}
 use Rattle.relation_folds.specs.declared.error.RelateFault.{RelateFault}
 use Rattle.relation_folds.specs.declared.error.RelateFault.TheVariants.{Memory, Budget, Unrelated}
-use Rattle.relation_contexts.specs.declared.relate.Step.TheVariants.{Done, Again}
-use Rattle.relation_contexts.specs.AliasGoals.{alias_at}
-use Rattle.relation_contexts.specs.AskedAlone.{AsksAlone, of_variables, of_alias, AsksNoneAlone, IsNoTyVar}
-use Rattle.relation_contexts.specs.Goals.{Goal, goal_of}
-use Rattle.relation_contexts.specs.Relation.{Items, Interpretation, Rel, at, sort_of, IsAlias, same as same_rel}
-use Rattle.relation_contexts.specs.Stores.{Store, unbound, entry_of, entry_term, IsMade, IsTermIn, IsSound, Satisfies}
-use Rattle.relation_contexts.specs.Stores.{InContext, MayStandFor, universe_of, all_bound, resolved, weight}
-use Rattle.relation_contexts.specs.Headline.{IsFirstOrderPair}
-use Rattle.relation_contexts.specs.Steps.{IsLater, Instantiates, RefusesToInstantiate, InstantiatesNone, StaysFull}
-use Rattle.relation_contexts.specs.Kits.{Kit, IsBuiltOf, BindsBuiltOf, IsPredicateOf, IsGoalOf, Builds, StaysBuilt}
-use Rattle.relation_contexts.proofs.AliasOutcomes.{bound_left, bound_right}
-use Rattle.relation_contexts.proofs.Building.{term_built, builds_instantiated, builds_noting, built_same, built_unbound}
-use Rattle.relation_contexts.proofs.Passing.{passes_then}
-use Rattle.relation_contexts.proofs.Registered.{alias_registered, alias_built}
-use Rattle.relation_contexts.specs.Outcomes.{Outcome, StepsTo, CarriesOver, ExactStep}
-use Rattle.relation_contexts.specs.Measures.{Goes, grown as squared}
-use Rattle.relation_contexts.specs.declared.relate.StructurallyRelateAliases.{StructurallyRelateAliases}
-use Rattle.relation_contexts.specs.declared.relate.StructurallyRelateAliases.TheVariants.{No}
-use Rattle.relation_contexts.specs.Settings.{Settings}
-use Rattle.relation_contexts.specs.Errors.{ErrorOf, BindingError, of_binding, of_binding_back, of_entries, IsReadAs, itself, by_binding}
-use Rattle.relation_contexts.specs.ErasureLaws.{IsTypeOrConst}
-use Rattle.relation_contexts.specs.Parts.{IsFormed}
-use Rattle.relation_contexts.specs.FirstOrder.{IsFirstOrder, IsFirstOrderStore}
-use Rattle.relation_contexts.specs.Generalising.{Obstacle, cycle, beyond, InstantiatesBy, RefusesBy, MakesUnbound}
-use Rattle.relation_contexts.specs.Generalising.{NumbersNameNothing}
-use Rattle.relation_contexts.specs.Bound.{BindByLists}
-use Rattle.relation_contexts.specs.Resolving.{IsShallow, root as shallow_root, stays_bound, formed, IsShallowConst, const_root, no_variable}
-use Rattle.relation_contexts.specs.Lawful.{Passes, Asked, MayAnswer, Stepped, Leads, LeadsAgain, items_of, State}
-use Rattle.relation_contexts.specs.Contexts.{Context}
-use Rattle.relation_contexts.specs.ContextCalls.{Instantiated, ObstacleError, BindingsBindByLists}
+use Rattle.relation_semantics.specs.declared.relate.Step.TheVariants.{Done, Again}
+use Rattle.relation_semantics.specs.AliasGoals.{alias_at}
+use Rattle.relation_semantics.specs.AskedAlone.{AsksAlone, of_variables, of_alias, AsksNoneAlone, IsNoTyVar}
+use Rattle.relation_semantics.specs.Goals.{Goal, goal_of}
+use Rattle.relation_semantics.specs.Relation.{Items, Interpretation, Rel, at, sort_of, IsAlias, same as same_rel}
+use Rattle.relation_semantics.specs.Stores.{Store, unbound, entry_of, entry_term, IsMade, IsTermIn, IsSound, Satisfies}
+use Rattle.relation_semantics.specs.Stores.{InContext, MayStandFor, universe_of, all_bound, resolved, weight}
+use Rattle.relation_semantics.specs.Headline.{IsFirstOrderPair}
+use Rattle.relation_semantics.specs.Steps.{IsLater, Instantiates, RefusesToInstantiate, InstantiatesNone, StaysFull}
+use Rattle.relation_semantics.specs.Kits.{Kit, IsBuiltOf, BindsBuiltOf, IsPredicateOf, IsGoalOf, Builds, StaysBuilt}
+use Rattle.relation_semantics.proofs.AliasOutcomes.{bound_left, bound_right}
+use Rattle.relation_semantics.proofs.Building.{term_built, builds_instantiated, builds_noting, built_same, built_unbound}
+use Rattle.relation_semantics.proofs.Passing.{passes_then}
+use Rattle.relation_semantics.proofs.Registered.{alias_registered, alias_built}
+use Rattle.relation_semantics.specs.Outcomes.{Outcome, StepsTo, CarriesOver, ExactStep}
+use Rattle.relation_semantics.specs.Measures.{Goes, grown as squared}
+use Rattle.relation_semantics.specs.declared.relate.StructurallyRelateAliases.{StructurallyRelateAliases}
+use Rattle.relation_semantics.specs.declared.relate.StructurallyRelateAliases.TheVariants.{No}
+use Rattle.relation_semantics.specs.Settings.{Settings}
+use Rattle.relation_semantics.specs.Errors.{ErrorOf, BindingError, of_binding, of_binding_back, of_entries, IsReadAs, itself, by_binding}
+use Rattle.relation_semantics.specs.ErasureLaws.{IsTypeOrConst}
+use Rattle.relation_semantics.specs.Parts.{IsFormed}
+use Rattle.relation_semantics.specs.FirstOrder.{IsFirstOrder, IsFirstOrderStore}
+use Rattle.relation_semantics.specs.Generalising.{Obstacle, cycle, beyond, InstantiatesBy, RefusesBy, MakesUnbound}
+use Rattle.relation_semantics.specs.Generalising.{NumbersNameNothing}
+use Rattle.relation_semantics.specs.Bound.{BindByLists}
+use Rattle.relation_semantics.specs.Resolving.{IsShallow, root as shallow_root, stays_bound, formed, IsShallowConst, const_root, no_variable}
+use Rattle.relation_semantics.specs.Lawful.{Passes, Asked, MayAnswer, Stepped, Leads, LeadsAgain, items_of, State}
+use Rattle.relation_semantics.specs.Contexts.{Context}
+use Rattle.relation_semantics.specs.ContextCalls.{Instantiated, ObstacleError, BindingsBindByLists}
 use Rattle.type_relations.specs.Solving.{solver_manner}
 use Rattle.type_relations.specs.Emitting.{RegistersGoal}
 use Rattle.type_relations.proofs.GoalPasses.{goal_passes, no_goal_passes}
-use Rattle.relation_contexts.proofs.Answering.{covariantly, may_itself}
+use Rattle.relation_semantics.proofs.Answering.{covariantly, may_itself}
 use Rattle.type_relations.proofs.Constants.{fixed, constants_at_each_variance}
 use Rattle.type_relations.proofs.ConstErrors.{const_error_alike}
 use Rattle.type_relations.proofs.Turning.{turned}
-use Rattle.relation_contexts.proofs.Going.{goes_nowhere, goes_within, grown-mono, later_itself}
-use Rattle.relation_contexts.proofs.ReadAs.{read_later}
-use Rattle.relation_contexts.proofs.Resolved.{resolved_free, resolved_weight}
-use Rattle.relation_contexts.proofs.Standing.{later_term, later_context, term_context, term_of_made, term_sort_of}
-use Rattle.relation_contexts.proofs.Agreeing.{stands_sort, agree_root, agree_root_back}
-use Rattle.relation_contexts.proofs.Opening.{instantiating_steps}
-use Rattle.relation_contexts.proofs.Exactness.{instantiating_is_exact_step}
-use Rattle.relation_contexts.proofs.AliasSteps.{no_larger}
-use Rattle.relation_contexts.proofs.Instantiating.{resolved_first_order}
-use Rattle.relation_contexts.proofs.BindingGeneralised.{generalised_instantiates, generalised_goes, generalised_weights, generalised_first_order, first_order_lacks}
+use Rattle.relation_semantics.proofs.Going.{goes_nowhere, goes_within, grown-mono, later_itself}
+use Rattle.relation_semantics.proofs.ReadAs.{read_later}
+use Rattle.relation_semantics.proofs.Resolved.{resolved_free, resolved_weight}
+use Rattle.relation_semantics.proofs.Standing.{later_term, later_context, term_context, term_of_made, term_sort_of}
+use Rattle.relation_semantics.proofs.Agreeing.{stands_sort, agree_root, agree_root_back}
+use Rattle.relation_semantics.proofs.Opening.{instantiating_steps}
+use Rattle.relation_semantics.proofs.Exactness.{instantiating_is_exact_step}
+use Rattle.relation_semantics.proofs.AliasSteps.{no_larger}
+use Rattle.relation_semantics.proofs.Instantiating.{resolved_first_order}
+use Rattle.relation_semantics.proofs.BindingGeneralised.{generalised_instantiates, generalised_goes, generalised_weights, generalised_first_order, first_order_lacks}
 use Rattle.type_relations.proofs.BindingRefused.{generalising_refuses, refused}
 use Rattle.type_relations.proofs.GeneralisingErrors.{beyond_error}
-use Rattle.relation_contexts.proofs.NewVariables.{adds, adds_goes}
-use Rattle.relation_contexts.proofs.Full.{full_same, full_could, instantiates_one}
+use Rattle.relation_semantics.proofs.NewVariables.{adds, adds_goes}
+use Rattle.relation_semantics.proofs.Full.{full_same, full_could, instantiates_one}
 use Rattle.type_relations.proofs.OverContext.{standing, over_passes, all_taken}
-use Rattle.relation_contexts.specs.OneUniverse.{NamesTypesTo, HasOneUniverse, all_roots, StaysOf, LeadsInUniverse, BindsFewer}
-use Rattle.relation_contexts.proofs.OneUniverse.{binds_none, bound_fewer}
+use Rattle.relation_semantics.specs.OneUniverse.{NamesTypesTo, HasOneUniverse, all_roots, StaysOf, LeadsInUniverse, BindsFewer}
+use Rattle.relation_semantics.proofs.OneUniverse.{binds_none, bound_fewer}
 use Rattle.type_relations.proofs.GeneralisingInOne.{instantiates_in_one}
 
 -- An alias is not first-order.

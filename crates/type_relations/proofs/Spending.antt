@@ -6,12 +6,12 @@ use Rattle.relation_terms.specs.Trees.{Tree}
 use Rattle.relation_folds.specs.declared.error.RelateFault.{RelateFault}
 use Rattle.relation_folds.specs.declared.error.RelateFault.TheVariants.{Memory, Budget, Unrelated}
 use Rattle.relation_folds.specs.Faults.{IfSpent}
-use Rattle.relation_contexts.specs.Stores.{Store, all_bound}
-use Rattle.relation_contexts.specs.Measures.{Goes}
-use Rattle.relation_contexts.specs.Headline.{IsFirstOrderPair}
-use Rattle.relation_contexts.specs.Lawful.{State, Manners, Related}
-use Rattle.relation_contexts.specs.OneUniverse.{IsPairOf, all_unbound, all_roots}
-use Rattle.relation_contexts.proofs.OneUniverse.{roots_are, bound_below}
+use Rattle.relation_semantics.specs.Stores.{Store, all_bound}
+use Rattle.relation_semantics.specs.Measures.{Goes}
+use Rattle.relation_semantics.specs.Headline.{IsFirstOrderPair}
+use Rattle.relation_semantics.specs.Lawful.{State, Manners, Related}
+use Rattle.relation_semantics.specs.OneUniverse.{IsPairOf, all_unbound, all_roots}
+use Rattle.relation_semantics.proofs.OneUniverse.{roots_are, bound_below}
 
 -- Where no more variables are bound than there were, and where fewer are and nothing is left.
 module _ {n : ℕ} {was now : Store} (goes : Goes n was now) where

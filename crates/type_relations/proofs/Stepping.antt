@@ -15,17 +15,17 @@ use Rattle.relation_terms.specs.Trees.{Tree}
 use Rattle.relation_terms.specs.Meaning.{under}
 use Rattle.relation_folds.specs.declared.error.RelateFault.{RelateFault}
 use Rattle.relation_folds.specs.declared.error.RelateFault.TheVariants.{Memory}
-use Rattle.relation_contexts.specs.declared.relate.Step.{Step}
-use Rattle.relation_contexts.specs.declared.relate.Step.TheVariants.{Done}
-use Rattle.relation_contexts.specs.declared.relate.StructurallyRelateAliases.{StructurallyRelateAliases}
-use Rattle.relation_contexts.specs.Binders.{OpensFrom}
-use Rattle.relation_contexts.specs.Contexts.{Context}
-use Rattle.relation_contexts.specs.ContextCalls.{Constrains}
-use Rattle.relation_contexts.specs.Goals.{goal_of, IsDirected}
-use Rattle.relation_contexts.specs.Lawful.{State, Pair}
-use Rattle.relation_contexts.specs.Stores.{Constraint}
+use Rattle.relation_semantics.specs.declared.relate.Step.{Step}
+use Rattle.relation_semantics.specs.declared.relate.Step.TheVariants.{Done}
+use Rattle.relation_semantics.specs.declared.relate.StructurallyRelateAliases.{StructurallyRelateAliases}
+use Rattle.relation_semantics.specs.Binders.{OpensFrom}
+use Rattle.relation_semantics.specs.Contexts.{Context}
+use Rattle.relation_semantics.specs.ContextCalls.{Constrains}
+use Rattle.relation_semantics.specs.Goals.{goal_of, IsDirected}
+use Rattle.relation_semantics.specs.Lawful.{State, Pair}
+use Rattle.relation_semantics.specs.Stores.{Constraint}
 use Rattle.type_relations.specs.Combining.{RegistersOne, seen}
-use Rattle.relation_contexts.specs.AskedAlone.{subtype_at}
+use Rattle.relation_semantics.specs.AskedAlone.{subtype_at}
 use Rattle.type_relations.specs.Emitting.{AddsAsked, RegistersGoal}
 use Rattle.type_relations.specs.Solving.{solving_through}
 use Rattle.type_relations.specs.Stepping.{LeavesAll, CombinesTyVars, goal_refused, left_subtype, right_subtype, StepsRegions}

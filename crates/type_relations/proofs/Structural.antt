@@ -14,33 +14,33 @@ use Rattle.relation_folds.specs.declared.error.TypeError.TheVariants.{ArraySize,
 use Rattle.relation_folds.specs.declared.error.RelateFault.{RelateFault}
 use Rattle.relation_folds.specs.declared.error.RelateFault.TheVariants.{Memory, Budget, Unrelated}
 use Rattle.relation_folds.specs.Faults.{KnowsFault}
-use Rattle.relation_contexts.specs.Relation.{Items, Interpretation, at, parts, part_at, Rel, same, atoms, forms, sort_of}
-use Rattle.relation_contexts.specs.Stores.{Store, Satisfies}
-use Rattle.relation_contexts.specs.Goals.{Holds}
-use Rattle.relation_contexts.specs.Outcomes.{NeverOne}
-use Rattle.relation_contexts.specs.Settings.{Settings}
-use Rattle.relation_contexts.specs.Errors.{ErrorOf, ErrorByForms, as_forms, IsHandedOn, of_parts, of_alias_parts, of_length}
-use Rattle.relation_contexts.specs.Errors.{AreOfOneForm, over_parts, over_aliases, one_leaf, parameters}
-use Rattle.relation_contexts.specs.Errors.{AreOfOneConst}
-use Rattle.relation_contexts.specs.Parts.{IsFormed, parts_of, const_parts_of, head_of, const_head_of}
+use Rattle.relation_semantics.specs.Relation.{Items, Interpretation, at, parts, part_at, Rel, same, atoms, forms, sort_of}
+use Rattle.relation_semantics.specs.Stores.{Store, Satisfies}
+use Rattle.relation_semantics.specs.Goals.{Holds}
+use Rattle.relation_semantics.specs.Outcomes.{NeverOne}
+use Rattle.relation_semantics.specs.Settings.{Settings}
+use Rattle.relation_semantics.specs.Errors.{ErrorOf, ErrorByForms, as_forms, IsHandedOn, of_parts, of_alias_parts, of_length}
+use Rattle.relation_semantics.specs.Errors.{AreOfOneForm, over_parts, over_aliases, one_leaf, parameters}
+use Rattle.relation_semantics.specs.Errors.{AreOfOneConst}
+use Rattle.relation_semantics.specs.Parts.{IsFormed, parts_of, const_parts_of, head_of, const_head_of}
 use Rattle.type_relations.specs.Handing.{IsPassedOn, IsNoLength, IsFaultOfTy, passed, sized, IsFaultOfConst, passed_const, whole}
-use Rattle.relation_contexts.specs.Lawful.{State, Manners, MayAnswer, Passes, Refuses, RefusesAs, Related}
-use Rattle.relation_contexts.specs.Lawful.{RelatedForms, ExactResult, ExactlyRelated, items_in}
-use Rattle.relation_contexts.proofs.Registered.{registered_in}
-use Rattle.relation_contexts.proofs.Passing.{passes_within, passes_then, manner_then, stopped}
+use Rattle.relation_semantics.specs.Lawful.{State, Manners, MayAnswer, Passes, Refuses, RefusesAs, Related}
+use Rattle.relation_semantics.specs.Lawful.{RelatedForms, ExactResult, ExactlyRelated, items_in}
+use Rattle.relation_semantics.proofs.Registered.{registered_in}
+use Rattle.relation_semantics.proofs.Passing.{passes_within, passes_then, manner_then, stopped}
 use Rattle.type_relations.proofs.Fronts.{Fronted, AreParts, fronted_never, fronted_all, fronted_passes, fronted_fault, fronted_exactly, fronted_full, fronted_built}
-use Rattle.relation_contexts.proofs.Building.{built_parts}
+use Rattle.relation_semantics.proofs.Building.{built_parts}
 use Rattle.type_relations.proofs.Fronts.{fronted_agree}
-use Rattle.relation_contexts.proofs.AgreeingForms.{form_agrees}
-use Rattle.relation_contexts.proofs.Full.{parts_plain}
+use Rattle.relation_semantics.proofs.AgreeingForms.{form_agrees}
+use Rattle.relation_semantics.proofs.Full.{parts_plain}
 use Rattle.type_relations.proofs.Unifying.{first_order_parts, first_order_normal, formed_looked_at, types_unify, answered_as, refused_as}
-use Rattle.relation_contexts.specs.Headline.{IsFirstOrderPair}
-use Rattle.relation_contexts.specs.OneUniverse.{NamesTypesTo}
-use Rattle.relation_contexts.proofs.OneUniverse.{leaves_parts, keeps_binds, binds_as}
-use Rattle.relation_contexts.proofs.OneParts.{related_head, parts_equal, const_parts_equal, sort_is}
+use Rattle.relation_semantics.specs.Headline.{IsFirstOrderPair}
+use Rattle.relation_semantics.specs.OneUniverse.{NamesTypesTo}
+use Rattle.relation_semantics.proofs.OneUniverse.{leaves_parts, keeps_binds, binds_as}
+use Rattle.relation_semantics.proofs.OneParts.{related_head, parts_equal, const_parts_equal, sort_is}
 use Rattle.type_relations.proofs.Handing.{ty_fault_known}
 use Rattle.type_relations.proofs.PartSizes.{weight_parts_most}
-use Rattle.relation_contexts.proofs.Answering.{same_items, may_itself}
+use Rattle.relation_semantics.proofs.Answering.{same_items, may_itself}
 
 -- The error of two parts of two types as the error of the types.
 module _ {Key Id Name : Type 0} (n p : Meaning Key Id Name) (e : Extends n p) (s : Sorted n) (a b : Tree)

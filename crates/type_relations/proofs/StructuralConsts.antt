@@ -16,39 +16,39 @@ use Rattle.relation_folds.specs.declared.error.TypeError.TheVariants.{ConstMisma
 use Rattle.relation_folds.specs.declared.error.RelateFault.{RelateFault}
 use Rattle.relation_folds.specs.declared.error.RelateFault.TheVariants.{Memory, Budget, Unrelated}
 use Rattle.relation_folds.specs.Faults.{KnowsError, KnowsFault}
-use Rattle.relation_contexts.specs.Relation.{Items, Interpretation, at, parts, part_at, Rel, same, atoms, forms, anything, error_left, error_right, no_parts, next_part, sort_of, IsError}
-use Rattle.relation_contexts.specs.Stores.{Store, Satisfies, IsTermIn, weight}
-use Rattle.relation_contexts.specs.Goals.{Holds, GoalInContext}
-use Rattle.relation_contexts.specs.Outcomes.{NeverOne, NoUnifier}
-use Rattle.relation_contexts.specs.Headline.{IsFirstOrderPair}
-use Rattle.relation_contexts.specs.OneUniverse.{NamesTypesTo}
-use Rattle.relation_contexts.proofs.OneUniverse.{keeps_itself, keeps_pair, binds_itself, leaves_const_parts, keeps_binds, binds_as}
-use Rattle.relation_contexts.specs.Settings.{Settings}
-use Rattle.relation_contexts.specs.Errors.{ErrorOf, ErrorByForms, ErrorAs, Meeting, as_pair, as_forms, of_parts}
-use Rattle.relation_contexts.specs.Errors.{of_branches, of_kinds, of_forms, of_const_forms, FormError, ConstFormError}
-use Rattle.relation_contexts.specs.Errors.{AreOfOneConst, AreOfOneValue, values, expressions, const_parameters, one_value, as_many_branches, over_arguments, one_const_leaf}
-use Rattle.relation_contexts.specs.Parts.{IsFormed, IsFormedConst, const_parts_of, branches_of, const_head_of}
+use Rattle.relation_semantics.specs.Relation.{Items, Interpretation, at, parts, part_at, Rel, same, atoms, forms, anything, error_left, error_right, no_parts, next_part, sort_of, IsError}
+use Rattle.relation_semantics.specs.Stores.{Store, Satisfies, IsTermIn, weight}
+use Rattle.relation_semantics.specs.Goals.{Holds, GoalInContext}
+use Rattle.relation_semantics.specs.Outcomes.{NeverOne, NoUnifier}
+use Rattle.relation_semantics.specs.Headline.{IsFirstOrderPair}
+use Rattle.relation_semantics.specs.OneUniverse.{NamesTypesTo}
+use Rattle.relation_semantics.proofs.OneUniverse.{keeps_itself, keeps_pair, binds_itself, leaves_const_parts, keeps_binds, binds_as}
+use Rattle.relation_semantics.specs.Settings.{Settings}
+use Rattle.relation_semantics.specs.Errors.{ErrorOf, ErrorByForms, ErrorAs, Meeting, as_pair, as_forms, of_parts}
+use Rattle.relation_semantics.specs.Errors.{of_branches, of_kinds, of_forms, of_const_forms, FormError, ConstFormError}
+use Rattle.relation_semantics.specs.Errors.{AreOfOneConst, AreOfOneValue, values, expressions, const_parameters, one_value, as_many_branches, over_arguments, one_const_leaf}
+use Rattle.relation_semantics.specs.Parts.{IsFormed, IsFormedConst, const_parts_of, branches_of, const_head_of}
 use Rattle.type_relations.specs.Handing.{IsPassedOnConst, IsFaultOfConst, passed_const, whole}
-use Rattle.relation_contexts.specs.Lawful.{State, Manners, MayAnswer, Passes, Refuses, RefusesAs, Related}
-use Rattle.relation_contexts.specs.Lawful.{RelatedAs, RelatedForms, ExactResult, ExactlyRelated, items_in}
-use Rattle.relation_contexts.proofs.Registered.{registered_in}
-use Rattle.relation_contexts.proofs.Passing.{passes_within, passes_then, passes_nowhere, manner_then, stopped}
+use Rattle.relation_semantics.specs.Lawful.{State, Manners, MayAnswer, Passes, Refuses, RefusesAs, Related}
+use Rattle.relation_semantics.specs.Lawful.{RelatedAs, RelatedForms, ExactResult, ExactlyRelated, items_in}
+use Rattle.relation_semantics.proofs.Registered.{registered_in}
+use Rattle.relation_semantics.proofs.Passing.{passes_within, passes_then, passes_nowhere, manner_then, stopped}
 use Rattle.type_relations.proofs.Fronts.{Fronted, AreParts, fronted_never, fronted_all, fronted_passes, fronted_fault, fronted_exactly, fronted_full, fronted_built}
-use Rattle.relation_contexts.proofs.Building.{built_itself, built_const_parts}
+use Rattle.relation_semantics.proofs.Building.{built_itself, built_const_parts}
 use Rattle.type_relations.proofs.Fronts.{fronted_agree}
-use Rattle.relation_contexts.proofs.Agreeing.{agree_same, agree_flexible}
-use Rattle.relation_contexts.specs.Agreeing.{IsFlexible}
-use Rattle.relation_contexts.proofs.AgreeingForms.{const_agrees}
-use Rattle.relation_contexts.proofs.Full.{full_itself, const_parts_plain}
+use Rattle.relation_semantics.proofs.Agreeing.{agree_same, agree_flexible}
+use Rattle.relation_semantics.specs.Agreeing.{IsFlexible}
+use Rattle.relation_semantics.proofs.AgreeingForms.{const_agrees}
+use Rattle.relation_semantics.proofs.Full.{full_itself, const_parts_plain}
 use Rattle.type_relations.proofs.Unifying.{first_order_const_parts, first_order_no_error, const_looked_at, consts_unify, answered_as, refused_as}
-use Rattle.relation_contexts.proofs.Roots.{exact_itself}
+use Rattle.relation_semantics.proofs.Roots.{exact_itself}
 use Rattle.type_relations.proofs.Unifying.{forms_not_unified, const_forms_not_unified, erased_sort}
 use Rattle.type_relations.proofs.Structural.{same_const_fault, consts_never}
-use Rattle.relation_contexts.proofs.OneParts.{const_parts_equal, sort_is}
+use Rattle.relation_semantics.proofs.OneParts.{const_parts_equal, sort_is}
 use Rattle.type_relations.proofs.Comparing.{form_apart, const_form_apart, known_error, known_const_error, formed_not_bindable, formed_consts_not_bindable}
 use Rattle.type_relations.proofs.Handing.{const_fault_known, AreOfTwoKinds, AtTop, at_top, value_top}
 use Rattle.type_relations.proofs.PartSizes.{weight_const_parts_most}
-use Rattle.relation_contexts.proofs.Answering.{same_items, may_itself, covariantly}
+use Rattle.relation_semantics.proofs.Answering.{same_items, may_itself, covariantly}
 
 -- The error of two parts of two constants as the error of the constants.
 module _ {Key Id Name : Type 0} (p : Meaning Key Id Name) (set : Settings) (js : Items) (at_v : Variance) (c d : ConstKey Key) (i : ℕ)

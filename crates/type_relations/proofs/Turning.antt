@@ -5,7 +5,7 @@ use Rattle.term_enums.specs.declared.Variance.TheVariants.{Covariant, Contravari
 use Rattle.term_enums.specs.Variances.{xform}
 use Rattle.relation_terms.specs.Heads.{BoundKind, AliasTermKind, type_alias, opaque_alias, Head, alias, alias_term, value_type}
 use Rattle.relation_terms.specs.Trees.{Tree}
-use Rattle.relation_contexts.specs.Relation.{Items, Interpretation, Fresh, RegionRule, AliasRule, IsEqualPair, at, parts, second_opened, first_opened, Rel, same, anything, error_left, error_right, regions, alias_types, equal_consts, atoms, forms, no_parts, next_part, covariant_binders, contravariant_binders, invariant_binders, open_second, open_first, mode, alias_term_variance, plain_kind, plain, part_at, IsRelatedHead}
+use Rattle.relation_semantics.specs.Relation.{Items, Interpretation, Fresh, RegionRule, AliasRule, IsEqualPair, at, parts, second_opened, first_opened, Rel, same, anything, error_left, error_right, regions, alias_types, equal_consts, atoms, forms, no_parts, next_part, covariant_binders, contravariant_binders, invariant_binders, open_second, open_first, mode, alias_term_variance, plain_kind, plain, part_at, IsRelatedHead}
 
 abbrev other : Variance → Variance
 other v = xform v Contravariant

@@ -6,29 +6,29 @@ use Rattle.relation_terms.specs.Heads.{type_error, const_error, region_sort, ear
 use Rattle.relation_terms.specs.Meaning.{Meaning}
 use Rattle.relation_terms.specs.declared.terms.keys.TyKey.{TyKey}
 use Rattle.relation_folds.specs.declared.error.TypeError.{TypeError}
-use Rattle.relation_contexts.specs.Errors.{AreAlikeLeaves, FormError, mutability, pointer_mutability, tuple_size, empty_tuple, as_many, alias_arguments, sorts}
+use Rattle.relation_semantics.specs.Errors.{AreAlikeLeaves, FormError, mutability, pointer_mutability, tuple_size, empty_tuple, as_many, alias_arguments, sorts}
 use Rattle.type_relations.proofs.Comparing.{list_of, parts_list, value_shape, no_value_variable, ConstsAlike, of_forms_alike}
-use Rattle.relation_contexts.specs.Errors.{ConstFormError, const_mismatch, operations}
+use Rattle.relation_semantics.specs.Errors.{ConstFormError, const_mismatch, operations}
 use Rattle.relation_terms.specs.declared.terms.keys.ConstKey.{ConstKey}
 use Rattle.relation_terms.specs.Heads.{Admits, region_var}
 use Rattle.relation_terms.specs.Heads.{unevaluated, expression, value, value_type, value_branch, Leaf, tuple, alias}
 use Rattle.relation_terms.specs.Trees.{Tree, leaf, node, bind, nil, cons, Assign, apply, count, IsList, IsTerm, Leaves}
 use Rattle.relation_terms.specs.Erasure.{erase, erase_atom, erase_kinded}
-use Rattle.relation_contexts.specs.Relation.{plain_atom, sort_of, IsAlias, IsError}
-use Rattle.relation_contexts.specs.FirstOrder.{IsFirstOrder, IsFirstOrderStore, Unifies}
-use Rattle.relation_contexts.specs.Errors.{AreAlike, outer_head, unlike_aliases, AreOfOneForm, over_parts, over_aliases, one_leaf, parameters}
-use Rattle.relation_contexts.specs.Errors.{AreOfOneConst, values, expressions, over_arguments, const_parameters, one_const_leaf}
-use Rattle.relation_contexts.specs.Errors.{AreOfOneValue, one_value, as_many_branches}
-use Rattle.relation_contexts.specs.Stores.{Store}
-use Rattle.relation_contexts.specs.Outcomes.{Exact}
-use Rattle.relation_contexts.specs.Parts.{IsFormed, IsFormedConst, parts_of, const_parts_of, head_of, const_head_of, branches_of}
-use Rattle.relation_contexts.proofs.Erased.{forms_unify_by_parts}
+use Rattle.relation_semantics.specs.Relation.{plain_atom, sort_of, IsAlias, IsError}
+use Rattle.relation_semantics.specs.FirstOrder.{IsFirstOrder, IsFirstOrderStore, Unifies}
+use Rattle.relation_semantics.specs.Errors.{AreAlike, outer_head, unlike_aliases, AreOfOneForm, over_parts, over_aliases, one_leaf, parameters}
+use Rattle.relation_semantics.specs.Errors.{AreOfOneConst, values, expressions, over_arguments, const_parameters, one_const_leaf}
+use Rattle.relation_semantics.specs.Errors.{AreOfOneValue, one_value, as_many_branches}
+use Rattle.relation_semantics.specs.Stores.{Store}
+use Rattle.relation_semantics.specs.Outcomes.{Exact}
+use Rattle.relation_semantics.specs.Parts.{IsFormed, IsFormedConst, parts_of, const_parts_of, head_of, const_head_of, branches_of}
+use Rattle.relation_semantics.proofs.Erased.{forms_unify_by_parts}
 use Rattle.type_relations.proofs.Fronts.{IsLookedAt}
 use Rattle.relation_folds.specs.declared.error.RelateFault.{RelateFault}
 use Rattle.relation_folds.specs.declared.error.RelateFault.TheVariants.{Memory, Budget, Unrelated}
-use Rattle.relation_contexts.specs.Lawful.{ExactResult}
-use Rattle.relation_contexts.specs.OneUniverse.{NamesTypesTo, KeepsUniverseOf}
-use Rattle.relation_contexts.proofs.OneUniverse.{keeps_as, binds_as, fewer_as}
+use Rattle.relation_semantics.specs.Lawful.{ExactResult}
+use Rattle.relation_semantics.specs.OneUniverse.{NamesTypesTo, KeepsUniverseOf}
+use Rattle.relation_semantics.proofs.OneUniverse.{keeps_as, binds_as, fewer_as}
 
 -- The parts of first-order terms are first-order.
 pub first_order_parts : (t : Tree) → IsFirstOrder t → IsFirstOrder (parts_of t)

@@ -6,16 +6,16 @@ use Rattle.relation_terms.specs.Heads.{type_sort}
 use Rattle.relation_terms.specs.Trees.{Tree}
 use Rattle.relation_folds.specs.declared.error.RelateFault.{RelateFault}
 use Rattle.relation_folds.specs.declared.error.RelateFault.TheVariants.{Memory}
-use Rattle.relation_contexts.specs.declared.relate.Step.{Step}
-use Rattle.relation_contexts.specs.declared.relate.Step.TheVariants.{Done}
-use Rattle.relation_contexts.specs.AskedAlone.{AsksAlone}
-use Rattle.relation_contexts.specs.Errors.{IsReadAs}
-use Rattle.relation_contexts.specs.Goals.{goal_of}
-use Rattle.relation_contexts.specs.Lawful.{State, Manners}
-use Rattle.relation_contexts.specs.Relation.{sort_of}
-use Rattle.relation_contexts.specs.Resolving.{IsShallow}
-use Rattle.relation_contexts.specs.Settings.{Settings}
-use Rattle.relation_contexts.specs.Stores.{Store}
+use Rattle.relation_semantics.specs.declared.relate.Step.{Step}
+use Rattle.relation_semantics.specs.declared.relate.Step.TheVariants.{Done}
+use Rattle.relation_semantics.specs.AskedAlone.{AsksAlone}
+use Rattle.relation_semantics.specs.Errors.{IsReadAs}
+use Rattle.relation_semantics.specs.Goals.{goal_of}
+use Rattle.relation_semantics.specs.Lawful.{State, Manners}
+use Rattle.relation_semantics.specs.Relation.{sort_of}
+use Rattle.relation_semantics.specs.Resolving.{IsShallow}
+use Rattle.relation_semantics.specs.Settings.{Settings}
+use Rattle.relation_semantics.specs.Stores.{Store}
 
 -- By what is recorded a term is read at once as another.
 pub record ReadsAtOnce (st : Store) (t x : Tree) : Type 0 where

@@ -6,11 +6,11 @@ use Rattle.relation_terms.specs.Trees.{Tree, apply, count, nth}
 use Rattle.relation_terms.specs.declared.terms.ids.DefId.{DefId}
 use Rattle.relation_terms.specs.declared.terms.keys.TyKey.{TyKey}
 use Rattle.relation_terms.specs.declared.terms.keys.ArgsKey.{ArgsKey}
-use Rattle.relation_contexts.specs.Lawful.{State, items_in}
+use Rattle.relation_semantics.specs.Lawful.{State, items_in}
 use Rattle.type_relations.specs.Arguments.{AreOverItem}
-use Rattle.relation_contexts.specs.Relation.{Items}
-use Rattle.relation_contexts.specs.Stores.{Store, resolved}
-use Rattle.relation_contexts.specs.Goals.{Goal, goal_of, well_formed_predicate}
+use Rattle.relation_semantics.specs.Relation.{Items}
+use Rattle.relation_semantics.specs.Stores.{Store, resolved}
+use Rattle.relation_semantics.specs.Goals.{Goal, goal_of, well_formed_predicate}
 
 -- An inference variable of any kind but region stands in what a term comes to.
 abbrev pub is_left_open : Store → Tree → Bool

@@ -10,24 +10,24 @@ use Rattle.relation_folds.specs.declared.error.TypeError.TheVariants.{Sorts, Cyc
 use Rattle.relation_folds.specs.declared.error.RelateFault.{RelateFault}
 use Rattle.term_enums.specs.declared.AliasRelationDirection.TheVariants.{Equate}
 use Rattle.relation_folds.specs.declared.error.RelateFault.TheVariants.{Memory, Unrelated}
-use Rattle.relation_contexts.specs.declared.infer_ctxt.TypingMode.TheVariants.{PostAnalysis}
-use Rattle.relation_contexts.specs.declared.relate.Step.{Step}
-use Rattle.relation_contexts.specs.declared.relate.Step.TheVariants.{Done, Parts, Again}
-use Rattle.relation_contexts.specs.declared.relate.StructurallyRelateAliases.{StructurallyRelateAliases}
-use Rattle.relation_contexts.specs.Contexts.{Context}
-use Rattle.relation_contexts.specs.ContextCalls.{Instantiated, Reads}
-use Rattle.relation_contexts.specs.AliasGoals.{alias_at}
-use Rattle.relation_contexts.specs.AskedAlone.{IsTyVar, IsNoTyVar}
-use Rattle.relation_contexts.specs.Errors.{HaveNoError, IsOpaqueBeside, IsLeftToGoal}
-use Rattle.relation_contexts.specs.Goals.{goal_of, alias_relate_predicate, ambiguous_predicate}
-use Rattle.relation_contexts.specs.Lawful.{State}
-use Rattle.relation_contexts.specs.Relation.{IsError, IsAlias}
-use Rattle.relation_contexts.specs.Settings.{LeavesAliases, LeavesOpaque}
+use Rattle.relation_semantics.specs.declared.infer_ctxt.TypingMode.TheVariants.{PostAnalysis}
+use Rattle.relation_semantics.specs.declared.relate.Step.{Step}
+use Rattle.relation_semantics.specs.declared.relate.Step.TheVariants.{Done, Parts, Again}
+use Rattle.relation_semantics.specs.declared.relate.StructurallyRelateAliases.{StructurallyRelateAliases}
+use Rattle.relation_semantics.specs.Contexts.{Context}
+use Rattle.relation_semantics.specs.ContextCalls.{Instantiated, Reads}
+use Rattle.relation_semantics.specs.AliasGoals.{alias_at}
+use Rattle.relation_semantics.specs.AskedAlone.{IsTyVar, IsNoTyVar}
+use Rattle.relation_semantics.specs.Errors.{HaveNoError, IsOpaqueBeside, IsLeftToGoal}
+use Rattle.relation_semantics.specs.Goals.{goal_of, alias_relate_predicate, ambiguous_predicate}
+use Rattle.relation_semantics.specs.Lawful.{State}
+use Rattle.relation_semantics.specs.Relation.{IsError, IsAlias}
+use Rattle.relation_semantics.specs.Settings.{LeavesAliases, LeavesOpaque}
 use Rattle.type_relations.specs.NumberVars.{IsNoNumberVar}
-use Rattle.relation_contexts.specs.Parts.{IsFormedConst}
-use Rattle.relation_contexts.specs.Resolving.{IsShallowConst}
-use Rattle.relation_contexts.specs.Steps.{IsNumberKind, Equates, InstantiatesNumber, Taints}
-use Rattle.relation_contexts.specs.Stores.{Store, MayStandFor}
+use Rattle.relation_semantics.specs.Parts.{IsFormedConst}
+use Rattle.relation_semantics.specs.Resolving.{IsShallowConst}
+use Rattle.relation_semantics.specs.Steps.{IsNumberKind, Equates, InstantiatesNumber, Taints}
+use Rattle.relation_semantics.specs.Stores.{Store, MayStandFor}
 
 -- Two variables of a kind were made one, the smaller number being the root; one with itself changes nothing.
 pub record Joins (before after : Store) (k : VarKind) (a b : ℕ) : Type 0 where

@@ -14,12 +14,12 @@ use Rattle.relation_terms.specs.Trees.{Tree, node, count, nth}
 use Rattle.relation_terms.specs.Meaning.{Meaning, existential_tree, signature_tree}
 use Rattle.relation_terms.specs.Parts.{part_tree}
 use Rattle.relation_folds.specs.declared.error.TypeError.{TypeError}
-use Rattle.relation_contexts.specs.Errors.{AreOfOneForm, AreAlikeMembers, SignatureError, ExistentialError, PartError}
-use Rattle.relation_contexts.specs.Errors.{ItemError}
-use Rattle.relation_contexts.specs.Relation.{plain}
+use Rattle.relation_semantics.specs.Errors.{AreOfOneForm, AreAlikeMembers, SignatureError, ExistentialError, PartError}
+use Rattle.relation_semantics.specs.Errors.{ItemError}
+use Rattle.relation_semantics.specs.Relation.{plain}
 use Rattle.type_relations.specs.declared.relate.args.ArgVariances.TheVariants.{AliasTerm as OfAliasTerm, Trait as OfTrait}
 use Rattle.type_relations.specs.Arguments.{args_head}
-use Rattle.relation_contexts.specs.Parts.{parts_of, const_parts_of}
+use Rattle.relation_semantics.specs.Parts.{parts_of, const_parts_of}
 
 -- Of an alias term the kind of an opaque type alone is looked at.
 abbrev pub is_opaque_kind : AliasTermKind → Bool

@@ -8,16 +8,16 @@ use Rattle.term_enums.specs.declared.AliasRelationDirection.{AliasRelationDirect
 use Rattle.relation_terms.specs.declared.terms.generic_arg.TermKind.{TermKind}
 use Rattle.relation_terms.specs.Meaning.{Meaning, Extends, term_tree}
 use Rattle.relation_terms.specs.Trees.{Tree, known}
-use Rattle.relation_contexts.specs.Contexts.{Context}
-use Rattle.relation_contexts.specs.Constraints.{constraint_at, constraint_of}
-use Rattle.relation_contexts.specs.AliasGoals.{alias_at}
-use Rattle.relation_contexts.specs.AskedAlone.{subtype_at}
-use Rattle.relation_contexts.specs.Kits.{StaysBuilt}
-use Rattle.relation_contexts.specs.Goals.{Goal, goal_of, subtype_predicate, well_formed_predicate}
-use Rattle.relation_contexts.specs.Goals.{alias_relate_predicate, ambiguous_predicate}
-use Rattle.relation_contexts.specs.Lawful.{State}
-use Rattle.relation_contexts.specs.Settings.{in_coherence}
-use Rattle.relation_contexts.specs.Steps.{AddsConstraint}
+use Rattle.relation_semantics.specs.Contexts.{Context}
+use Rattle.relation_semantics.specs.Constraints.{constraint_at, constraint_of}
+use Rattle.relation_semantics.specs.AliasGoals.{alias_at}
+use Rattle.relation_semantics.specs.AskedAlone.{subtype_at}
+use Rattle.relation_semantics.specs.Kits.{StaysBuilt}
+use Rattle.relation_semantics.specs.Goals.{Goal, goal_of, subtype_predicate, well_formed_predicate}
+use Rattle.relation_semantics.specs.Goals.{alias_relate_predicate, ambiguous_predicate}
+use Rattle.relation_semantics.specs.Lawful.{State}
+use Rattle.relation_semantics.specs.Settings.{in_coherence}
+use Rattle.relation_semantics.specs.Steps.{AddsConstraint}
 
 -- The goals that there are after others were put behind them, or were not, where a growth was refused.
 abbrev pub with_goals : {A F : Type 0} → List Goal → List Goal → Result A F → List Goal

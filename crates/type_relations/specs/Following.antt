@@ -1,9 +1,9 @@
 -- What of a relation follows its interner and its context, and what stands.
 use Rattle.relation_terms.specs.Meaning.{Meaning, Extends}
-use Rattle.relation_contexts.specs.Contexts.{Context}
-use Rattle.relation_contexts.specs.ContextCalls.{Grows}
-use Rattle.relation_contexts.specs.Lawful.{State, WithMeaning}
-use Rattle.relation_contexts.specs.Steps.{IsLater}
+use Rattle.relation_semantics.specs.Contexts.{Context}
+use Rattle.relation_semantics.specs.ContextCalls.{Grows}
+use Rattle.relation_semantics.specs.Lawful.{State, WithMeaning}
+use Rattle.relation_semantics.specs.Steps.{IsLater}
 use Rattle.type_relations.specs.Emitting.{WithContext}
 
 -- Whatever the interner of a lawful relation may come to know by growing, nothing else of the relation changes.

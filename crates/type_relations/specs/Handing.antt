@@ -10,7 +10,7 @@ use Rattle.relation_folds.specs.declared.error.TypeError.{TypeError}
 use Rattle.relation_folds.specs.declared.error.TypeError.TheVariants.{ArraySize, ConstMismatch}
 use Rattle.relation_folds.specs.declared.error.RelateFault.{RelateFault}
 use Rattle.relation_folds.specs.declared.error.RelateFault.TheVariants.{Unrelated}
-use Rattle.relation_contexts.specs.Errors.{IsPlaced, NamesNoPlace}
+use Rattle.relation_semantics.specs.Errors.{IsPlaced, NamesNoPlace}
 
 -- The fault of a part is the fault of the type that it is a part of: all but constants that differ as the lengths of
 -- two arrays.

@@ -16,15 +16,15 @@ use Rattle.relation_terms.specs.Meaning.{Meaning, arg_tree}
 use Rattle.relation_terms.specs.Parts.{part_tree}
 use Rattle.term_enums.specs.Variances.{xform}
 use Rattle.relation_folds.specs.declared.error.RelateFault.{RelateFault}
-use Rattle.relation_contexts.specs.declared.relate.Step.{Step}
+use Rattle.relation_semantics.specs.declared.relate.Step.{Step}
 use Rattle.type_relations.specs.declared.relate.args.ArgVariances.{ArgVariances}
 use Rattle.type_relations.specs.Arguments.{args_head, AreOverItem}
-use Rattle.relation_contexts.specs.AskedAlone.{AsksNoneAlone}
-use Rattle.relation_contexts.specs.Constraints.{constraint_at, asked_constraints}
-use Rattle.relation_contexts.specs.Lawful.{State, Manners, Asked, Related, RelatedForms, Shown, Stepped, Noted, items_in}
-use Rattle.relation_contexts.specs.Making.{Made, over, const_over}
-use Rattle.relation_contexts.specs.Parts.{IsFormed, IsFormedConst, head_of, const_head_of}
-use Rattle.relation_contexts.specs.Relation.{plain, part_at}
+use Rattle.relation_semantics.specs.AskedAlone.{AsksNoneAlone}
+use Rattle.relation_semantics.specs.Constraints.{constraint_at, asked_constraints}
+use Rattle.relation_semantics.specs.Lawful.{State, Manners, Asked, Related, RelatedForms, Shown, Stepped, Noted, items_in}
+use Rattle.relation_semantics.specs.Making.{Made, over, const_over}
+use Rattle.relation_semantics.specs.Parts.{IsFormed, IsFormedConst, head_of, const_head_of}
+use Rattle.relation_semantics.specs.Relation.{plain, part_at}
 use Rattle.type_relations.specs.Alone.{RelatesAlone, StepsAlone}
 
 module _ {Key Id Name : Type 0} where

@@ -3,10 +3,10 @@ use Rattle.std.specs.Prelude.{◌≡◌, ◌⊎◌, ℕ}
 use Rattle.relation_terms.specs.declared.terms.keys.ConstKey.{ConstKey}
 use Rattle.relation_terms.specs.Heads.{VarKind, variable}
 use Rattle.relation_terms.specs.Trees.{Tree, leaf}
-use Rattle.relation_contexts.specs.Errors.{IsOpaque, IsOpaqueBeside, IsLeftToGoal}
-use Rattle.relation_contexts.specs.Lawful.{State}
-use Rattle.relation_contexts.specs.Relation.{IsError, IsAlias}
-use Rattle.relation_contexts.specs.Settings.{Settings, LeavesAliases, LeavesOpaque}
+use Rattle.relation_semantics.specs.Errors.{IsOpaque, IsOpaqueBeside, IsLeftToGoal}
+use Rattle.relation_semantics.specs.Lawful.{State}
+use Rattle.relation_semantics.specs.Relation.{IsError, IsAlias}
+use Rattle.relation_semantics.specs.Settings.{Settings, LeavesAliases, LeavesOpaque}
 use Rattle.type_relations.specs.declared.relate.leaving.Standing.{Standing}
 use Rattle.type_relations.specs.declared.relate.leaving.Standing.TheVariants.{Error, Variable, Opaque, Alias, Other}
 use Rattle.type_relations.specs.declared.relate.leaving.Leaving.{Leaving}

@@ -4,7 +4,7 @@ use Rattle.relation_terms.specs.declared.terms.keys.ArgsKey.{ArgsKey}
 use Rattle.relation_terms.specs.declared.terms.keys.TyKey.{TyKey}
 use Rattle.relation_terms.specs.Trees.{known}
 use Rattle.relation_terms.specs.Meaning.{Meaning, Extends}
-use Rattle.relation_contexts.specs.Lawful.{State}
+use Rattle.relation_semantics.specs.Lawful.{State}
 use Rattle.type_relations.specs.Keyed.{IsMadeOver}
 
 -- It may be made with an interner that has grown, on each list that the interner knows.

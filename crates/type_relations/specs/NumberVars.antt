@@ -11,9 +11,9 @@ use Rattle.relation_terms.specs.declared.terms.ty_kind.IntVarValue.{IntVarValue}
 use Rattle.relation_terms.specs.declared.terms.ty_kind.IntVarValue.TheVariants.{Unknown, IntType, UintType}
 use Rattle.relation_terms.specs.declared.terms.ty_kind.FloatVarValue.{FloatVarValue}
 use Rattle.relation_terms.specs.declared.terms.ty_kind.FloatVarValue.TheVariants.{Unknown as UnknownFloat, Known}
-use Rattle.relation_contexts.specs.Contexts.{Context}
-use Rattle.relation_contexts.specs.ContextCalls.{EquatesTwo, BindsNumber}
-use Rattle.relation_contexts.specs.Steps.{IsNumberFor}
+use Rattle.relation_semantics.specs.Contexts.{Context}
+use Rattle.relation_semantics.specs.ContextCalls.{EquatesTwo, BindsNumber}
+use Rattle.relation_semantics.specs.Steps.{IsNumberFor}
 use Rattle.type_relations.specs.declared.relate.number_vars.NumberVid.{NumberVid}
 use Rattle.type_relations.specs.declared.relate.number_vars.NumberVid.TheVariants as vid
 

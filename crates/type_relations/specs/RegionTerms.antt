@@ -6,11 +6,11 @@ use Rattle.relation_terms.specs.Heads.{Sort, region_sort, bound_sort, Head, fn_p
 use Rattle.relation_terms.specs.Heads.{variable, bound, placeholder, atom, unknown}
 use Rattle.relation_terms.specs.Trees.{Tree, leaf, node, bind, nil, cons, IsTerm}
 use Rattle.relation_terms.specs.Erasure.{erase}
-use Rattle.relation_contexts.specs.Relation.{Items, Interpretation, at, Rel}
-use Rattle.relation_contexts.specs.FirstOrder.{IsFirstOrderAtom, IsFirstOrderHead}
-use Rattle.relation_contexts.specs.Agreeing.{Agree}
-use Rattle.relation_contexts.specs.Asking.{BindsRegions}
-use Rattle.relation_contexts.specs.Settings.{Settings}
+use Rattle.relation_semantics.specs.Relation.{Items, Interpretation, at, Rel}
+use Rattle.relation_semantics.specs.FirstOrder.{IsFirstOrderAtom, IsFirstOrderHead}
+use Rattle.relation_semantics.specs.Agreeing.{Agree}
+use Rattle.relation_semantics.specs.Asking.{BindsRegions}
+use Rattle.relation_semantics.specs.Settings.{Settings}
 
 abbrev pub IsRegionTermHead : Head → Type 0
 IsRegionTermHead fn_ptr = Unit {0}

@@ -13,22 +13,22 @@ use Rattle.relation_terms.specs.Meaning.{Meaning}
 use Rattle.relation_folds.specs.declared.error.RelateFault.{RelateFault}
 use Rattle.relation_folds.specs.declared.error.RelateFault.TheVariants.{Memory}
 use Rattle.relation_folds.specs.Faults.{IfUnrelated, IfSpent}
-use Rattle.relation_contexts.specs.Stores.{IsTermIn}
-use Rattle.relation_contexts.specs.Goals.{Goal as GoalOf, goals_of, goal_of}
-use Rattle.relation_contexts.specs.Steps.{MakesToInstantiate}
-use Rattle.relation_contexts.specs.Kits.{StaysBuilt}
-use Rattle.relation_contexts.specs.FirstOrder.{IsFirstOrderStore}
-use Rattle.relation_contexts.specs.Outcomes.{NoEqualTerms, Exact, NoUnifier}
-use Rattle.relation_contexts.specs.Headline.{AnswersGoals, KeepsEqualTerms, IsFirstOrderPair}
-use Rattle.relation_contexts.specs.OneUniverse.{IsPairOf, KeepsUniverseOf, all_unbound}
-use Rattle.relation_contexts.specs.Relation.{at}
-use Rattle.relation_contexts.specs.Errors.{ErrorOf}
-use Rattle.relation_contexts.specs.Agreeing.{Agree}
-use Rattle.relation_contexts.specs.Bound.{BindByLists}
-use Rattle.relation_contexts.specs.Lawful.{items_of}
+use Rattle.relation_semantics.specs.Stores.{IsTermIn}
+use Rattle.relation_semantics.specs.Goals.{Goal as GoalOf, goals_of, goal_of}
+use Rattle.relation_semantics.specs.Steps.{MakesToInstantiate}
+use Rattle.relation_semantics.specs.Kits.{StaysBuilt}
+use Rattle.relation_semantics.specs.FirstOrder.{IsFirstOrderStore}
+use Rattle.relation_semantics.specs.Outcomes.{NoEqualTerms, Exact, NoUnifier}
+use Rattle.relation_semantics.specs.Headline.{AnswersGoals, KeepsEqualTerms, IsFirstOrderPair}
+use Rattle.relation_semantics.specs.OneUniverse.{IsPairOf, KeepsUniverseOf, all_unbound}
+use Rattle.relation_semantics.specs.Relation.{at}
+use Rattle.relation_semantics.specs.Errors.{ErrorOf}
+use Rattle.relation_semantics.specs.Agreeing.{Agree}
+use Rattle.relation_semantics.specs.Bound.{BindByLists}
+use Rattle.relation_semantics.specs.Lawful.{items_of}
 use Rattle.type_relations.specs.Arguments.{related_tree}
-use Rattle.relation_contexts.specs.Contexts.{Context, DoesNothing, RegistersGoals}
-use Rattle.relation_contexts.specs.declared.relate.StructurallyRelateAliases.{StructurallyRelateAliases}
+use Rattle.relation_semantics.specs.Contexts.{Context, DoesNothing, RegistersGoals}
+use Rattle.relation_semantics.specs.declared.relate.StructurallyRelateAliases.{StructurallyRelateAliases}
 use Rattle.type_relations.specs.Solving.{solver_settings}
 use Rattle.type_relations.specs.Alone.{OfAlone}
 

@@ -11,18 +11,18 @@ use Rattle.relation_terms.specs.Parts.{part_tree}
 use Rattle.relation_folds.specs.declared.error.TypeError.{TypeError}
 use Rattle.relation_folds.specs.declared.error.RelateFault.{RelateFault}
 use Rattle.relation_folds.specs.Visits.{bound_var_escapes}
-use Rattle.relation_contexts.specs.Binders.{binder_tree, OpensBoth}
-use Rattle.relation_contexts.specs.Contexts.{Context}
-use Rattle.relation_contexts.specs.Relation.{Items, Way, at, second_opened, first_opened, StaysWithin}
-use Rattle.relation_contexts.specs.Stores.{Store, IsSound, IsTermIn, weight}
-use Rattle.relation_contexts.specs.Goals.{Goal}
-use Rattle.relation_contexts.specs.Steps.{IsLater}
-use Rattle.relation_contexts.specs.Kits.{StaysBuilt, BuiltFrom}
-use Rattle.relation_contexts.specs.Outcomes.{StepsTo}
-use Rattle.relation_contexts.specs.Settings.{Settings}
-use Rattle.relation_contexts.specs.Errors.{ErrorOf}
-use Rattle.relation_contexts.specs.Agreeing.{Agree}
-use Rattle.relation_contexts.specs.Lawful.{State, Manners, Passes, Asked, OnlyMemory, items_in}
+use Rattle.relation_semantics.specs.Binders.{binder_tree, OpensBoth}
+use Rattle.relation_semantics.specs.Contexts.{Context}
+use Rattle.relation_semantics.specs.Relation.{Items, Way, at, second_opened, first_opened, StaysWithin}
+use Rattle.relation_semantics.specs.Stores.{Store, IsSound, IsTermIn, weight}
+use Rattle.relation_semantics.specs.Goals.{Goal}
+use Rattle.relation_semantics.specs.Steps.{IsLater}
+use Rattle.relation_semantics.specs.Kits.{StaysBuilt, BuiltFrom}
+use Rattle.relation_semantics.specs.Outcomes.{StepsTo}
+use Rattle.relation_semantics.specs.Settings.{Settings}
+use Rattle.relation_semantics.specs.Errors.{ErrorOf}
+use Rattle.relation_semantics.specs.Agreeing.{Agree}
+use Rattle.relation_semantics.specs.Lawful.{State, Manners, Passes, Asked, OnlyMemory, items_in}
 
 -- One round relates two binders at a variance that is not invariance; or where neither body uses what its binder binds.
 abbrev pub OneRound : Variance → Tree → Tree → Type 0

@@ -14,8 +14,8 @@ use Rattle.relation_terms.specs.Heads.{region_kind, BoundKind, bound_kind, Atom,
 use Rattle.relation_terms.specs.Heads.{type_param, const_param, static_region, early_region, Head, adt, tuple, ref}
 use Rattle.relation_terms.specs.Heads.{fn_ptr, signature, inputs, value, value_type, bound, placeholder, atom}
 use Rattle.relation_terms.specs.Trees.{Tree, leaf, node, bind, nil, cons, IsTerm, IsList}
-use Rattle.relation_contexts.specs.Relation.{Items, Interpretation, Rel, at, parts, plain, plain_atom, sort_of, IsError}
-use Rattle.relation_contexts.specs.Relation.{IsErrorAtom, IsAliasHead, IsRelatedHead, Outlives}
+use Rattle.relation_semantics.specs.Relation.{Items, Interpretation, Rel, at, parts, plain, plain_atom, sort_of, IsError}
+use Rattle.relation_semantics.specs.Relation.{IsErrorAtom, IsAliasHead, IsRelatedHead, Outlives}
 
 abbrev pub u8 : Tree
 u8 = leaf (atom (uint_type U8))

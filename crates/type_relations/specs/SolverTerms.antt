@@ -11,11 +11,11 @@ use Rattle.relation_terms.specs.Heads.{Head}
 use Rattle.relation_terms.specs.Trees.{Tree}
 use Rattle.relation_terms.specs.Meaning.{Meaning}
 use Rattle.relation_folds.specs.declared.error.RelateFault.{RelateFault}
-use Rattle.relation_contexts.specs.declared.relate.Step.{Step}
-use Rattle.relation_contexts.specs.Contexts.{Context}
-use Rattle.relation_contexts.specs.Lawful.{State, HasRelated, Remembers}
+use Rattle.relation_semantics.specs.declared.relate.Step.{Step}
+use Rattle.relation_semantics.specs.Contexts.{Context}
+use Rattle.relation_semantics.specs.Lawful.{State, HasRelated, Remembers}
 use Rattle.type_relations.specs.declared.relate.solver_relating.relation.SolverRelating.{SolverRelating}
-use Rattle.relation_contexts.specs.AskedAlone.{IsNoTyVar}
+use Rattle.relation_semantics.specs.AskedAlone.{IsNoTyVar}
 use Rattle.type_relations.specs.Combining.{ConstsCombine}
 use Rattle.type_relations.specs.Keyed.{RelatedRegions, SteppedConsts, SteppedTys, TysStepAlone, AreOver, NotedTys}
 use Rattle.type_relations.specs.Bivariance.{AsksOfOver}

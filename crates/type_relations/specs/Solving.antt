@@ -8,12 +8,12 @@ use Rattle.relation_terms.specs.declared.terms.keys.PredicateKey.{PredicateKey}
 use Rattle.relation_terms.specs.declared.terms.keys.TyKey.{TyKey}
 use Rattle.relation_terms.specs.Trees.{Tree, known}
 use Rattle.relation_terms.specs.Meaning.{Meaning}
-use Rattle.relation_contexts.specs.declared.relate.StructurallyRelateAliases.{StructurallyRelateAliases}
-use Rattle.relation_contexts.specs.Goals.{goals_of, KnowsGoal}
-use Rattle.relation_contexts.specs.Lawful.{State, Pair, Kept, Manners, TakesParts, WereRelated}
-use Rattle.relation_contexts.specs.Settings.{Settings, Setup, in_coherence}
-use Rattle.relation_contexts.specs.Contexts.{Context}
-use Rattle.relation_contexts.specs.Stores.{Store}
+use Rattle.relation_semantics.specs.declared.relate.StructurallyRelateAliases.{StructurallyRelateAliases}
+use Rattle.relation_semantics.specs.Goals.{goals_of, KnowsGoal}
+use Rattle.relation_semantics.specs.Lawful.{State, Pair, Kept, Manners, TakesParts, WereRelated}
+use Rattle.relation_semantics.specs.Settings.{Settings, Setup, in_coherence}
+use Rattle.relation_semantics.specs.Contexts.{Context}
+use Rattle.relation_semantics.specs.Stores.{Store}
 
 -- How relating in a context is set up, by how aliases are related and how the context was made. At invariance all
 -- arguments are related invariantly.

@@ -13,16 +13,16 @@ use Rattle.relation_terms.specs.Meaning.{Meaning}
 use Rattle.relation_folds.specs.declared.error.TypeError.TheVariants.{CyclicTy}
 use Rattle.relation_folds.specs.declared.error.RelateFault.{RelateFault}
 use Rattle.relation_folds.specs.declared.error.RelateFault.TheVariants.{Memory}
-use Rattle.relation_contexts.specs.declared.relate.Step.{Step}
-use Rattle.relation_contexts.specs.declared.relate.Step.TheVariants.{Done, Again}
-use Rattle.relation_contexts.specs.ContextCalls.{Instantiated, Reads}
-use Rattle.relation_contexts.specs.Goals.{goal_of, subtype_predicate}
-use Rattle.relation_contexts.specs.Lawful.{State, Pair}
-use Rattle.relation_contexts.specs.Resolving.{IsShallow}
-use Rattle.relation_contexts.specs.Steps.{AddsConstraint}
-use Rattle.relation_contexts.specs.Stores.{outlives_constraint, equal_constraint}
-use Rattle.relation_contexts.specs.AliasGoals.{alias_at}
-use Rattle.relation_contexts.specs.AskedAlone.{IsTyVar, IsNoTyVar}
+use Rattle.relation_semantics.specs.declared.relate.Step.{Step}
+use Rattle.relation_semantics.specs.declared.relate.Step.TheVariants.{Done, Again}
+use Rattle.relation_semantics.specs.ContextCalls.{Instantiated, Reads}
+use Rattle.relation_semantics.specs.Goals.{goal_of, subtype_predicate}
+use Rattle.relation_semantics.specs.Lawful.{State, Pair}
+use Rattle.relation_semantics.specs.Resolving.{IsShallow}
+use Rattle.relation_semantics.specs.Steps.{AddsConstraint}
+use Rattle.relation_semantics.specs.Stores.{outlives_constraint, equal_constraint}
+use Rattle.relation_semantics.specs.AliasGoals.{alias_at}
+use Rattle.relation_semantics.specs.AskedAlone.{IsTyVar, IsNoTyVar}
 use Rattle.type_relations.specs.Combining.{Joins, RegistersOne, RegistersNone, TysCombine, seen}
 use Rattle.type_relations.specs.Rounds.{Opens, one_uses_bound}
 use Rattle.type_relations.specs.Variables.{one_has_variable}

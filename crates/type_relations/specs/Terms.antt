@@ -5,7 +5,7 @@ use Rattle.relation_terms.specs.Heads.{Head}
 use Rattle.relation_terms.specs.Trees.{Tree, known}
 use Rattle.relation_terms.specs.Meaning.{Meaning, Extends}
 use Rattle.relation_folds.specs.declared.error.RelateFault.{RelateFault}
-use Rattle.relation_contexts.specs.Lawful.{State, Manners, Asked, Related}
+use Rattle.relation_semantics.specs.Lawful.{State, Manners, Asked, Related}
 use Rattle.type_relations.specs.Arguments.{related_tree}
 use Rattle.type_relations.specs.Alone.{RelatesAlone}
 

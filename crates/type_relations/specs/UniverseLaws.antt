@@ -3,16 +3,16 @@ use Rattle.std.specs.Prelude.{◌≡◌, ◌≢◌, ℕ, ◌+◌}
 use Rattle.term_enums.specs.declared.Variance.TheVariants.{Invariant}
 use Rattle.relation_terms.specs.Heads.{VarKind, region_var}
 use Rattle.relation_terms.specs.Trees.{Tree, Leaves}
-use Rattle.relation_contexts.specs.declared.relate.StructurallyRelateAliases.{StructurallyRelateAliases}
-use Rattle.relation_contexts.specs.Relation.{Items}
-use Rattle.relation_contexts.specs.Stores.{Store, MayStandFor, IsTermIn, IsSound, all_bound}
-use Rattle.relation_contexts.specs.FirstOrder.{IsFirstOrder, IsFirstOrderStore}
-use Rattle.relation_contexts.specs.ErasureLaws.{IsTypeOrConst}
-use Rattle.relation_contexts.specs.Steps.{Equates}
-use Rattle.relation_contexts.specs.Errors.{IsReadAs}
-use Rattle.relation_contexts.specs.Generalising.{InstantiatesBy, NumbersNameNothing}
-use Rattle.relation_contexts.specs.OneUniverse.{NamesTypesTo, HasOneUniverse, all_unbound, all_roots, StaysOf, KeepsUniverse}
-use Rattle.relation_contexts.specs.OneUniverse.{LeadsInUniverse}
+use Rattle.relation_semantics.specs.declared.relate.StructurallyRelateAliases.{StructurallyRelateAliases}
+use Rattle.relation_semantics.specs.Relation.{Items}
+use Rattle.relation_semantics.specs.Stores.{Store, MayStandFor, IsTermIn, IsSound, all_bound}
+use Rattle.relation_semantics.specs.FirstOrder.{IsFirstOrder, IsFirstOrderStore}
+use Rattle.relation_semantics.specs.ErasureLaws.{IsTypeOrConst}
+use Rattle.relation_semantics.specs.Steps.{Equates}
+use Rattle.relation_semantics.specs.Errors.{IsReadAs}
+use Rattle.relation_semantics.specs.Generalising.{InstantiatesBy, NumbersNameNothing}
+use Rattle.relation_semantics.specs.OneUniverse.{NamesTypesTo, HasOneUniverse, all_unbound, all_roots, StaysOf, KeepsUniverse}
+use Rattle.relation_semantics.specs.OneUniverse.{LeadsInUniverse}
 
 -- Of each class of type or constant variables the one that is the same as no other is bound or unresolved.
 abbrev pub RootsAreBoundOrNot : Type 0

@@ -6,7 +6,7 @@ use Rattle.relation_terms.specs.Flags.{has_non_region_infer}
 use Rattle.relation_terms.specs.Heads.{type_var, const_var, variable}
 use Rattle.relation_terms.specs.Meaning.{Meaning}
 use Rattle.relation_terms.specs.Trees.{leaf}
-use Rattle.relation_contexts.specs.Contexts.{Context}
+use Rattle.relation_semantics.specs.Contexts.{Context}
 
 module _ {Key Id Name : Type 0} where
   -- Whether a variable, but of regions, stands in one of two types.

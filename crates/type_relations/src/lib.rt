@@ -1,6 +1,6 @@
 //! Relating terms in an inference context.
 #![tactic(auto)]
 
-pub use relation_contexts::infer_ctxt;
+pub use relation_semantics::infer_ctxt;
 
 pub mod relate;

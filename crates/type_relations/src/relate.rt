@@ -21,7 +21,7 @@ pub mod variables;
 
 pub use args::{relate_args_invariantly, relate_args_with_variances, relate_ty_args};
 pub use relatable::Relate;
-pub use relation_contexts::relate::{Step, StructurallyRelateAliases};
+pub use relation_semantics::relate::{Step, StructurallyRelateAliases};
 use relation_terms::terms::{Keys, TyKey};
 pub use type_relation::{HasState, TypeRelation};
 

@@ -3,7 +3,7 @@
 ghost use Rattle.std.specs.Prelude.{◌≡◌, IsTrue, IsFalse, IfOk, OnOk};
 ghost use Rattle.relation_terms.specs.Trees.{known, leaf};
 ghost use Rattle.relation_terms.specs.Parts.{part_tree};
-ghost use Rattle.relation_contexts.specs.Stores.{InContext};
+ghost use Rattle.relation_semantics.specs.Stores.{InContext};
 ghost use Rattle.relation_reference.specs.Tables.{IsLawful};
 ghost use Rattle.relation_reference.specs.RefCtxt.{store_in, part_term};
 ghost use Rattle.relation_reference.specs.Remembering.{vid_kind, vid_number};
@@ -12,7 +12,7 @@ ghost use Rattle.relation_reference.specs.Generalises.{HasObstacle, IsLeftAlias,
 
 use crate::context::RefCtxt;
 use crate::context::generalising::{Fate, TargetOf};
-use relation_contexts::relate::StructurallyRelateAliases;
+use relation_semantics::relate::StructurallyRelateAliases;
 use relation_terms::terms::parts::{part, parts_count};
 use relation_terms::terms::{Interner, OutOfMemory, Part, PartOf, Ty, TyKey, TyKind, Variance};
 use std::collections::HashSet;

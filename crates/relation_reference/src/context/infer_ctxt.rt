@@ -1,16 +1,16 @@
 //! The context by what the trait of contexts asks of it.
 ghost use Rattle.std.specs.Prelude.{IsTrue};
 ghost use Rattle.relation_terms.specs.Trees.{known};
-ghost use Rattle.relation_contexts.specs.ContextCalls.{Grows, KeepsMarks};
-ghost use Rattle.relation_contexts.specs.Bound.{BindsByList};
-ghost use Rattle.relation_contexts.specs.Binders.{binder_tree};
+ghost use Rattle.relation_semantics.specs.ContextCalls.{Grows, KeepsMarks};
+ghost use Rattle.relation_semantics.specs.Bound.{BindsByList};
+ghost use Rattle.relation_semantics.specs.Binders.{binder_tree};
 ghost use Rattle.relation_reference.specs.RefCtxt.{context_in};
 ghost use Rattle.relation_reference.specs.Opened.{IsBinderIn};
 ghost use Rattle.relation_reference.specs.Changes.{EntersValue, InstantiatesValue};
 
 use crate::context::RefCtxt;
-use relation_contexts::infer_ctxt::{BinderOf, InferCtxtLike, TypingMode, VisibleForLeakCheck};
-use relation_contexts::relate::StructurallyRelateAliases;
+use relation_semantics::infer_ctxt::{BinderOf, InferCtxtLike, TypingMode, VisibleForLeakCheck};
+use relation_semantics::relate::StructurallyRelateAliases;
 use relation_folds::error::RelateResult;
 use relation_folds::fold::TypeFoldable;
 use relation_folds::visit::TypeVisitable;

@@ -1,5 +1,5 @@
 //! The tables of a context.
-use relation_contexts::infer_ctxt::TypingMode;
+use relation_semantics::infer_ctxt::TypingMode;
 use relation_terms::predicate::{OutlivesPredicate, RegionConstraint};
 use relation_terms::terms::{ConstKey, RegionKey, TyKey, UniverseIndex};
 

@@ -4,7 +4,7 @@ ghost use Rattle.relation_terms.specs.Trees.{nil};
 ghost use Rattle.relation_terms.specs.Meaning.{Extends, kind_tree};
 ghost use Rattle.relation_terms.specs.declared.terms.ty_kind.IntVarValue.TheVariants.{Unknown};
 ghost use Rattle.relation_terms.specs.declared.terms.ty_kind.FloatVarValue.TheVariants.{Unknown as UnknownFloat};
-ghost use Rattle.relation_contexts.specs.NumberValues.{int_value_tree, float_value_tree};
+ghost use Rattle.relation_semantics.specs.NumberValues.{int_value_tree, float_value_tree};
 ghost use Rattle.relation_reference.specs.Numbers.{number_trees};
 
 use relation_terms::terms::{

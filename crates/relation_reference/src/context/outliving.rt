@@ -1,6 +1,6 @@
 //! The types that are to outlive regions.
 ghost use Rattle.std.specs.Prelude.{◌≡◌};
-ghost use Rattle.relation_contexts.specs.ContextCalls.{Registers, KeepsSetup, KeepsMarks};
+ghost use Rattle.relation_semantics.specs.ContextCalls.{Registers, KeepsSetup, KeepsMarks};
 ghost use Rattle.relation_reference.specs.Tables.{store_of, IsLawful};
 ghost use Rattle.relation_reference.specs.RefCtxt.{store_in, context_in, outliving_in};
 

@@ -2,10 +2,10 @@
 ghost use Rattle.std.specs.Prelude.{◌<◌, IsTrue, IfSome, IfNone, length};
 ghost use Rattle.relation_terms.specs.Heads.{type_var, int_var, float_var, const_var};
 ghost use Rattle.relation_terms.specs.Trees.{known};
-ghost use Rattle.relation_contexts.specs.Bound.{BindByLists};
-ghost use Rattle.relation_contexts.specs.Stores.{InContext};
-ghost use Rattle.relation_contexts.specs.Steps.{LeadsTo};
-ghost use Rattle.relation_contexts.specs.Resolving.{IsRoot, IsShallow, IsShallowTy, IsShallowConst};
+ghost use Rattle.relation_semantics.specs.Bound.{BindByLists};
+ghost use Rattle.relation_semantics.specs.Stores.{InContext};
+ghost use Rattle.relation_semantics.specs.Steps.{LeadsTo};
+ghost use Rattle.relation_semantics.specs.Resolving.{IsRoot, IsShallow, IsShallowTy, IsShallowConst};
 ghost use Rattle.relation_reference.specs.Tables.{IsLawful};
 ghost use Rattle.relation_reference.specs.RefCtxt.{store_in, const_term};
 ghost use Rattle.relation_reference.specs.Answers.{HasNoBinding};

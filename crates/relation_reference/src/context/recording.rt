@@ -3,10 +3,10 @@ ghost use Rattle.std.specs.Prelude.{◌≡◌, ◌≤◌, suc, IsTrue, IfOk, OnE
 ghost use Rattle.relation_terms.specs.Heads.{type_var, int_var, float_var, const_var, region_var};
 ghost use Rattle.relation_terms.specs.Trees.{known};
 ghost use Rattle.relation_terms.specs.Meaning.{Extends};
-ghost use Rattle.relation_contexts.specs.Stores.{IsRegionIn};
-ghost use Rattle.relation_contexts.specs.Steps.{IsLater};
-ghost use Rattle.relation_contexts.specs.Measures.{Goes};
-ghost use Rattle.relation_contexts.specs.ContextCalls.{KeepsRest};
+ghost use Rattle.relation_semantics.specs.Stores.{IsRegionIn};
+ghost use Rattle.relation_semantics.specs.Steps.{IsLater};
+ghost use Rattle.relation_semantics.specs.Measures.{Goes};
+ghost use Rattle.relation_semantics.specs.ContextCalls.{KeepsRest};
 ghost use Rattle.relation_reference.specs.Tables.{IsLawful};
 ghost use Rattle.relation_reference.specs.RefCtxt.{store_in, context_in};
 ghost use Rattle.relation_reference.specs.Changes.{MeansNext, store_after, AddsEqual, AddsOutlives, MakesTyVar};

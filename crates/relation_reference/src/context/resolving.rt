@@ -3,7 +3,7 @@ ghost use Rattle.std.specs.Prelude.{◌≡◌, ◌↔◌, IsTrue, IfOk, IfSome, 
 ghost use Rattle.relation_terms.specs.Trees.{known};
 ghost use Rattle.relation_terms.specs.Meaning.{Extends};
 ghost use Rattle.relation_terms.specs.Parts.{part_tree, part_sort, parts_of, over};
-ghost use Rattle.relation_contexts.specs.Stores.{InContext};
+ghost use Rattle.relation_semantics.specs.Stores.{InContext};
 ghost use Rattle.relation_reference.specs.Tables.{store_of, IsLawful};
 ghost use Rattle.relation_reference.specs.RefCtxt.{store_in, const_term};
 ghost use Rattle.relation_reference.specs.Remembering.{resolved_by, vid_tree, Caches, IsResolvedPart};
@@ -12,7 +12,7 @@ ghost use Rattle.relation_reference.specs.Changes.{IsResolved};
 use crate::context::memory::{PartKey, Resolutions, TermVid, keep, recall};
 use crate::context::shallow::{shallow_resolve, shallow_resolve_const};
 use crate::context::{InferCtxtInner, RefCtxt};
-use relation_contexts::variable_forms::{const_vid, ty_vid};
+use relation_semantics::variable_forms::{const_vid, ty_vid};
 use relation_terms::terms::parts::{is_same, part, parts_count, the_const, the_ty, with_parts};
 use relation_terms::terms::{Const, Interner, OutOfMemory, Part, PartOf, Ty};
 use std::collections::HashMap;

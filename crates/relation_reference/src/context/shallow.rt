@@ -2,16 +2,16 @@
 ghost use Rattle.std.specs.Prelude.{◌<◌, IsTrue, IfSome, IfNone, length};
 ghost use Rattle.relation_terms.specs.Heads.{type_var, int_var, float_var};
 ghost use Rattle.relation_terms.specs.Trees.{known};
-ghost use Rattle.relation_contexts.specs.Bound.{BindByLists};
-ghost use Rattle.relation_contexts.specs.Stores.{InContext};
-ghost use Rattle.relation_contexts.specs.Resolving.{IsShallow, IsShallowTy, IsShallowConst};
+ghost use Rattle.relation_semantics.specs.Bound.{BindByLists};
+ghost use Rattle.relation_semantics.specs.Stores.{InContext};
+ghost use Rattle.relation_semantics.specs.Resolving.{IsShallow, IsShallowTy, IsShallowConst};
 ghost use Rattle.relation_reference.specs.Tables.{store_of, IsLawful};
 ghost use Rattle.relation_reference.specs.Answers.{VarReadsAsTy, VarReadsAsConst, TyReadsAs, ConstReadsAs, TyResolves};
 ghost use Rattle.relation_reference.specs.Answers.{ConstResolves, FindsTy, IsWritten};
 
 use crate::context::table::{probe, term_of};
 use crate::context::{InferCtxtInner, VariableValue};
-use relation_contexts::variable_forms::{const_vid, float_vid, int_vid, ty_vid};
+use relation_semantics::variable_forms::{const_vid, float_vid, int_vid, ty_vid};
 use relation_terms::terms::{Const, ConstVid, FloatVid, IntVid, Interner, Ty, TyVid};
 
 // What is recorded of a type variable: the type that its class is bound to, or else the root of its class.

@@ -3,8 +3,8 @@ ghost use Rattle.std.specs.Prelude.{◌≡◌, ◌≤◌, ◌<◌, IsTrue, IfOk,
 ghost use Rattle.relation_terms.specs.Heads.{type_var};
 ghost use Rattle.relation_terms.specs.Trees.{known};
 ghost use Rattle.relation_terms.specs.Meaning.{Extends};
-ghost use Rattle.relation_contexts.specs.Stores.{IsMade};
-ghost use Rattle.relation_contexts.specs.ContextCalls.{JoinsRoots, KeepsSetup, KeepsOutliving, MarksNew};
+ghost use Rattle.relation_semantics.specs.Stores.{IsMade};
+ghost use Rattle.relation_semantics.specs.ContextCalls.{JoinsRoots, KeepsSetup, KeepsOutliving, MarksNew};
 ghost use Rattle.relation_reference.specs.RefCtxt.{store_in, context_in, sub_root_in};
 ghost use Rattle.relation_reference.specs.SubRoots.{root_in, led_root, IsRootTable};
 ghost use Rattle.relation_reference.specs.Tables.{store_of, IsLawful};

@@ -2,7 +2,7 @@
 ghost use Rattle.std.specs.Prelude.{◌≡◌, ◌<◌, suc, IsTrue, IfOk, length};
 ghost use Rattle.relation_terms.specs.Heads.{type_var, const_var, region_var, variable};
 ghost use Rattle.relation_terms.specs.Trees.{leaf, known};
-ghost use Rattle.relation_contexts.specs.ContextCalls.{HasUniverse};
+ghost use Rattle.relation_semantics.specs.ContextCalls.{HasUniverse};
 ghost use Rattle.relation_reference.specs.Tables.{IsLawful};
 ghost use Rattle.relation_reference.specs.RefCtxt.{context_in};
 

@@ -6,7 +6,7 @@ ghost use Rattle.relation_reference.specs.RefCtxt.{IsNew};
 
 use crate::context::InferCtxtInner;
 use crate::context::numbers::number_keys;
-use relation_contexts::infer_ctxt::TypingMode;
+use relation_semantics::infer_ctxt::TypingMode;
 use relation_terms::predicate::RegionConstraint;
 use relation_terms::terms::{ErrorGuaranteed, Interner, OutOfMemory, TyKey, UniverseIndex};
 use std::alloc::Global;

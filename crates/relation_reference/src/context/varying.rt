@@ -4,10 +4,10 @@ ghost use Rattle.term_enums.specs.Variances.{xform};
 ghost use Rattle.relation_terms.specs.Heads.{const_sort};
 ghost use Rattle.relation_terms.specs.Trees.{known, count, IsTerm};
 ghost use Rattle.relation_terms.specs.Parts.{part_tree, parts_of};
-ghost use Rattle.relation_contexts.specs.Lawful.{items_of};
-ghost use Rattle.relation_contexts.specs.Generalising.{variance_of_part};
+ghost use Rattle.relation_semantics.specs.Lawful.{items_of};
+ghost use Rattle.relation_semantics.specs.Generalising.{variance_of_part};
 
-use relation_contexts::variances::{alias_argument_variance, declared_variance, pointee};
+use relation_semantics::variances::{alias_argument_variance, declared_variance, pointee};
 use relation_terms::terms::{
     Const, ConstKind, DefId, Interner, Part, PartOf, Ty, TyKind, Variance,
 };

@@ -4,9 +4,9 @@ ghost use Rattle.relation_terms.specs.Meaning.{Extends};
 ghost use Rattle.relations.specs.Terms.{byte_alone};
 
 use crate::running::RowFault;
-use relation_asking::BUDGET;
-use relation_asking::printing::write_answer;
-use relation_contexts::infer_ctxt::TypingMode;
+use text_asking::BUDGET;
+use text_asking::printing::write_answer;
+use relation_semantics::infer_ctxt::TypingMode;
 use relation_reference::context::RefCtxt;
 use relation_terms::predicate::{TraitPredicate, TraitRef};
 use relation_terms::terms::{

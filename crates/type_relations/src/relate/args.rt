@@ -5,12 +5,12 @@ ghost use Rattle.relation_terms.specs.Heads.{arguments};
 ghost use Rattle.relation_terms.specs.Trees.{known, node, count, nth, IsList, list_tree};
 ghost use Rattle.relation_terms.specs.Meaning.{Extends, arg_tree};
 ghost use Rattle.term_enums.specs.Variances.{xform};
-ghost use Rattle.relation_contexts.specs.Lawful.{WithMeaning, OnlyMemory};
+ghost use Rattle.relation_semantics.specs.Lawful.{WithMeaning, OnlyMemory};
 ghost use Rattle.type_relations.specs.Keyed.{AreAsMany, AreOver, AskedLists, AskedTys, RelatedLists, RelatedOver};
 ghost use Rattle.type_relations.specs.Makers.{TakesLists, GrowsByCall, MakesOverList};
 ghost use Rattle.type_relations.specs.Keyed.{RelatedTys, over_item, part_in};
 ghost use Rattle.type_relations.specs.Arguments.{args_head, head_by, AreOverItem};
-ghost use Rattle.relation_contexts.specs.Parts.{head_of};
+ghost use Rattle.relation_semantics.specs.Parts.{head_of};
 
 use crate::relate::TypeRelation;
 use crate::relate::reading::{declared_at, note_declared};

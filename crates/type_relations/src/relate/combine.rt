@@ -8,20 +8,20 @@ ghost use Rattle.type_relations.specs.Bivariance.{is_left_open, TellsOpen, Tells
 ghost use Rattle.term_enums.specs.declared.AliasRelationDirection.TheVariants.{Equate};
 ghost use Rattle.type_relations.specs.Combining.{TysCombine, ConstsCombine, CombinesShallow, TaintsAlone, KeepsKept};
 ghost use Rattle.type_relations.specs.Combining.{AreFormedConsts};
-ghost use Rattle.relation_contexts.specs.ContextCalls.{Grows};
+ghost use Rattle.relation_semantics.specs.ContextCalls.{Grows};
 ghost use Rattle.type_relations.specs.Emitting.{AddsGoals, IsOver, KnowsPredicate, RegistersAlias, RegistersGoal};
 ghost use Rattle.type_relations.specs.Emitting.{goals_in};
 ghost use Rattle.type_relations.specs.Following.{FollowsContext};
 ghost use Rattle.type_relations.specs.Leaving.{LeavesConst};
-ghost use Rattle.relation_contexts.specs.Contexts.{KnowsTy};
-ghost use Rattle.relation_contexts.specs.Goals.{KnowsGoal, goals_of, well_formed_predicate, ambiguous_predicate};
-ghost use Rattle.relation_contexts.specs.Goals.{alias_relate_predicate};
+ghost use Rattle.relation_semantics.specs.Contexts.{KnowsTy};
+ghost use Rattle.relation_semantics.specs.Goals.{KnowsGoal, goals_of, well_formed_predicate, ambiguous_predicate};
+ghost use Rattle.relation_semantics.specs.Goals.{alias_relate_predicate};
 ghost use Rattle.type_relations.specs.Keyed.{AreOver, AskedTys, AskedConsts, SteppedConsts, NotedTys};
-ghost use Rattle.relation_contexts.specs.Lawful.{State, RelatesByDeclared, items_of};
-ghost use Rattle.relation_contexts.specs.Resolving.{IsShallow, IsShallowConst};
+ghost use Rattle.relation_semantics.specs.Lawful.{State, RelatesByDeclared, items_of};
+ghost use Rattle.relation_semantics.specs.Resolving.{IsShallow, IsShallowConst};
 ghost use Rattle.type_relations.specs.SolverTerms.{StepsUnlessVars};
 ghost use Rattle.type_relations.specs.Solving.{solver_manner};
-ghost use Rattle.relation_contexts.specs.Stores.{IsTermIn};
+ghost use Rattle.relation_semantics.specs.Stores.{IsTermIn};
 
 mod meeting;
 
@@ -30,8 +30,8 @@ use crate::relate::combine::meeting::{are_no_const_vars, meet_consts, meet_tys};
 use crate::relate::leaving::{Leaving, Standing, leaves_const, left_to, ty_standing};
 use crate::relate::solver_relating::{GoalOf, recording};
 use crate::relate::{HasState, Step, StructurallyRelateAliases};
-use relation_contexts::infer_ctxt::InferCtxtLike;
-use relation_contexts::variances::declared_variance;
+use relation_semantics::infer_ctxt::InferCtxtLike;
+use relation_semantics::variances::declared_variance;
 use relation_folds::error::RelateResult;
 use relation_terms::terms::{
     AliasRelationDirection, Const, ErrorGuaranteed, GenericArg, GenericArgKind, GenericArgs,

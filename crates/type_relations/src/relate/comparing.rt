@@ -1,13 +1,13 @@
 //! Comparing the outermost forms of two terms.
 ghost use Rattle.std.specs.Prelude.{◌≡◌, ◌≢◌, ◌⊎◌, ◌↔◌, ◌<◌, IsTrue, IsFalse, OnOk, IfErr};
 ghost use Rattle.relation_terms.specs.Trees.{known};
-ghost use Rattle.relation_contexts.specs.Errors.{FormError, ConstFormError, PatternError, AreOfOneForm, AreOfOneConst};
-ghost use Rattle.relation_contexts.specs.Errors.{AreOfOneValue, HaveNoError};
+ghost use Rattle.relation_semantics.specs.Errors.{FormError, ConstFormError, PatternError, AreOfOneForm, AreOfOneConst};
+ghost use Rattle.relation_semantics.specs.Errors.{AreOfOneValue, HaveNoError};
 ghost use Rattle.relation_folds.specs.declared.error.TypeError.TheVariants.{Sorts, TupleSize, ConstMismatch};
 ghost use Rattle.type_relations.specs.Forms.{tree_outline, NamesItems};
 ghost use Rattle.type_relations.specs.Comparing.{AreOfOneItem};
 ghost use Rattle.type_relations.specs.declared.relate.forms.Form.TheVariants.{Leaf, Tuple, Alias};
-ghost use Rattle.relation_contexts.specs.Parts.{IsFormedConst};
+ghost use Rattle.relation_semantics.specs.Parts.{IsFormedConst};
 
 mod bodies;
 mod items;

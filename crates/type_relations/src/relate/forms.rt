@@ -2,11 +2,11 @@
 ghost use Rattle.std.specs.Prelude.{◌≡◌, ◌↔◌, IsTrue};
 ghost use Rattle.relation_terms.specs.Trees.{known};
 ghost use Rattle.relation_terms.specs.Meaning.{kind_tree};
-ghost use Rattle.relation_contexts.specs.Relation.{IsError};
+ghost use Rattle.relation_semantics.specs.Relation.{IsError};
 ghost use Rattle.relation_folds.specs.Outlines.{named};
 ghost use Rattle.type_relations.specs.Forms.{plain, of_item, of_pointer, named_outline, tree_outline, IsFixed};
 
-use relation_contexts::variances::alias_item;
+use relation_semantics::variances::alias_item;
 use relation_terms::terms::{Const, ConstKind, Interner, Mutability, Ty, TyForm, TyKind};
 
 // Which form a type over parts has. Each is the form of `TyKind` of that name.

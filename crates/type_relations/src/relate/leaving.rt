@@ -2,15 +2,15 @@
 ghost use Rattle.std.specs.Prelude.{◌≡◌, ◌↔◌, ◌⊎◌, true, IsTrue, IsFalse};
 ghost use Rattle.relation_terms.specs.Meaning.{Meaning, kind_tree};
 ghost use Rattle.relation_terms.specs.Trees.{known};
-ghost use Rattle.relation_contexts.specs.Contexts.{KnowsTy, KnowsConst};
-ghost use Rattle.relation_contexts.specs.Errors.{IsOpaqueBeside};
-ghost use Rattle.relation_contexts.specs.Relation.{IsAlias};
-ghost use Rattle.relation_contexts.specs.Settings.{LeavesAliases, LeavesOpaque};
+ghost use Rattle.relation_semantics.specs.Contexts.{KnowsTy, KnowsConst};
+ghost use Rattle.relation_semantics.specs.Errors.{IsOpaqueBeside};
+ghost use Rattle.relation_semantics.specs.Relation.{IsAlias};
+ghost use Rattle.relation_semantics.specs.Settings.{LeavesAliases, LeavesOpaque};
 ghost use Rattle.type_relations.specs.Leaving.{LeavesAs, LeavesConst, StandsAs};
 
 use crate::relate::StructurallyRelateAliases;
 use crate::relate::combine::PredicateEmittingRelation;
-use relation_contexts::infer_ctxt::{InferCtxtLike, TypingMode};
+use relation_semantics::infer_ctxt::{InferCtxtLike, TypingMode};
 use relation_terms::terms::{AliasTyKind, Const, ConstKind, InferTy, Interner, Ty, TyKind};
 
 // What a type is to relating before its parts are looked at.

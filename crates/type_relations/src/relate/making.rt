@@ -4,9 +4,9 @@ ghost use Rattle.relation_terms.specs.Trees.{known, list_tree};
 ghost use Rattle.relation_terms.specs.Meaning.{arg_tree};
 ghost use Rattle.relation_terms.specs.Parts.{part_tree, part_of_arg, part_sort};
 ghost use Rattle.relation_terms.specs.Parts.{Fit as PartsFit};
-ghost use Rattle.relation_contexts.specs.Parts.{parts_of, const_parts_of, IsByParts};
-ghost use Rattle.relation_contexts.specs.Lawful.{WithMeaning, OnlyMemory};
-ghost use Rattle.relation_contexts.specs.Making.{Fit};
+ghost use Rattle.relation_semantics.specs.Parts.{parts_of, const_parts_of, IsByParts};
+ghost use Rattle.relation_semantics.specs.Lawful.{WithMeaning, OnlyMemory};
+ghost use Rattle.relation_semantics.specs.Making.{Fit};
 ghost use Rattle.type_relations.specs.Keyed.{MakesTyOver, MakesConstOver, MakesPartOver};
 
 use crate::relate::TypeRelation;

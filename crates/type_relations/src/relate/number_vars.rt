@@ -4,12 +4,12 @@ ghost use Rattle.relation_terms.specs.declared.terms.ty_kind.TyKind.TheVariants.
 ghost use Rattle.relation_terms.specs.declared.terms.ty_kind.InferTy.TheVariants.{IntVar, FloatVar};
 ghost use Rattle.relation_folds.specs.declared.error.TypeError.TheVariants.{Sorts};
 ghost use Rattle.relation_folds.specs.declared.error.RelateFault.TheVariants.{Unrelated};
-ghost use Rattle.relation_contexts.specs.Contexts.{KnowsTy};
-ghost use Rattle.relation_contexts.specs.ContextCalls.{IsUnresolved};
+ghost use Rattle.relation_semantics.specs.Contexts.{KnowsTy};
+ghost use Rattle.relation_semantics.specs.ContextCalls.{IsUnresolved};
 ghost use Rattle.type_relations.specs.NumberVars.{number_kind, number_of, number_tree, infer_of, IsNoNumberVar};
 ghost use Rattle.type_relations.specs.NumberVars.{IsIntValue, IsFloatValue, FitsNumber, EquatesNumbers, BindsNumberTo};
 
-use relation_contexts::infer_ctxt::InferCtxtLike;
+use relation_semantics::infer_ctxt::InferCtxtLike;
 use relation_folds::error::{ExpectedFound, RelateFault, RelateFaultOf, TypeError};
 use relation_terms::terms::{
     FloatVarValue, FloatVid, InferTy, IntVarValue, IntVid, Interner, Ty, TyKind,

@@ -4,7 +4,7 @@ ghost use Rattle.relation_terms.specs.Parts.{part_tree, part_sort};
 ghost use Rattle.relation_terms.specs.Trees.{known};
 ghost use Rattle.term_enums.specs.declared.Variance.TheVariants.{Bivariant};
 ghost use Rattle.type_relations.specs.Keyed.{AskedParts};
-ghost use Rattle.relation_contexts.specs.Parts.{IsBinderPart, IsRelatedPart, ArePaired};
+ghost use Rattle.relation_semantics.specs.Parts.{IsBinderPart, IsRelatedPart, ArePaired};
 ghost use Rattle.type_relations.specs.Rounds.{OpenedParts};
 
 use crate::relate::TypeRelation;

@@ -6,7 +6,7 @@ ghost use Rattle.relation_terms.specs.Meaning.{arg_tree, kind_tree};
 ghost use Rattle.relation_terms.specs.Parts.{part_tree, part_sort, parts_tree};
 ghost use Rattle.relation_terms.specs.declared.terms.part_kind.Part.TheVariants.{Object as ObjectPart};
 ghost use Rattle.relation_terms.specs.Parts.{parts_of as list_of_parts};
-ghost use Rattle.relation_contexts.specs.Parts.{parts_of, const_parts_of, IsByParts, IsArgPart, IsBinderPart};
+ghost use Rattle.relation_semantics.specs.Parts.{parts_of, const_parts_of, IsByParts, IsArgPart, IsBinderPart};
 ghost use Rattle.type_relations.specs.declared.relate.parts.PartKind.TheVariants.{Argument, Binder};
 
 use relation_terms::terms::parts::{member, member_count, the_arg, ty_parts};

@@ -5,10 +5,10 @@ ghost use Rattle.term_enums.specs.declared.Variance.TheVariants.{Bivariant};
 ghost use Rattle.term_enums.specs.Variances.{xform};
 ghost use Rattle.relation_terms.specs.Meaning.{arg_tree};
 ghost use Rattle.relation_terms.specs.Parts.{part_tree, part_sort};
-ghost use Rattle.relation_contexts.specs.Relation.{part_at, IsError};
-ghost use Rattle.relation_contexts.specs.Errors.{FormError, ConstFormError, AreOfOneForm, AreOfOneConst, HaveNoError};
-ghost use Rattle.relation_contexts.specs.Parts.{IsFormedConst, IsByParts, IsComparedPart, parts_of, const_parts_of};
-ghost use Rattle.relation_contexts.specs.Parts.{head_of};
+ghost use Rattle.relation_semantics.specs.Relation.{part_at, IsError};
+ghost use Rattle.relation_semantics.specs.Errors.{FormError, ConstFormError, AreOfOneForm, AreOfOneConst, HaveNoError};
+ghost use Rattle.relation_semantics.specs.Parts.{IsFormedConst, IsByParts, IsComparedPart, parts_of, const_parts_of};
+ghost use Rattle.relation_semantics.specs.Parts.{head_of};
 ghost use Rattle.type_relations.specs.Keyed.{AskedTys, ShownTys, NotedTys, AreOver, part_in, const_part_in, declared_in};
 ghost use Rattle.type_relations.specs.Comparing.{AreOfOneFormBy, PartsDiffer, nth_part, nth_const_part};
 ghost use Rattle.type_relations.specs.Handing.{IsResultOfTy, IsResultOfConst, named_place};
@@ -19,7 +19,7 @@ use crate::relate::parts::{
     const_part, const_parts_count, is_by_parts, part, parts_count, term_part, term_parts_count,
 };
 use crate::relate::{TypeRelation, handing};
-use relation_contexts::variances::{alias_argument_variance, pointee};
+use relation_semantics::variances::{alias_argument_variance, pointee};
 use relation_folds::error::{RelateResult, TypeErrorOf};
 use relation_terms::terms::{
     Const, ConstKind, DefId, GenericArg, GenericArgs, Interner, ItemOf, Part, PartOf, Ty, TyKind,

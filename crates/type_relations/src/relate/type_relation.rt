@@ -3,9 +3,9 @@ ghost use Rattle.std.specs.Prelude.{◌≡◌, ◌≢◌, ◌<◌, IfSome, IfNon
 ghost use Rattle.std.specs.Borrow.{sem, Lends};
 ghost use Rattle.term_enums.specs.declared.Variance.{Variance};
 ghost use Rattle.term_enums.specs.declared.Variance.TheVariants.{Invariant, Bivariant};
-ghost use Rattle.relation_contexts.specs.Stores.{IsSound};
-ghost use Rattle.relation_contexts.specs.Lawful.{State, Manners, TakesParts, Turned};
-ghost use Rattle.relation_contexts.specs.Lawful.{RelatesByDeclared, RemembersRelated};
+ghost use Rattle.relation_semantics.specs.Stores.{IsSound};
+ghost use Rattle.relation_semantics.specs.Lawful.{State, Manners, TakesParts, Turned};
+ghost use Rattle.relation_semantics.specs.Lawful.{RelatesByDeclared, RemembersRelated};
 ghost use Rattle.type_relations.specs.Following.{FollowsInterner};
 ghost use Rattle.type_relations.specs.Rounds.{AskedBinders, OpenedBinders};
 ghost use Rattle.type_relations.specs.Keyed.{AskedConsts, AskedRegions, AskedTys, RelatedRegions, ShownTys, TysAskNone};
@@ -13,7 +13,7 @@ ghost use Rattle.type_relations.specs.Keyed.{SteppedConsts, SteppedTys, TysStepA
 ghost use Rattle.type_relations.specs.Keyed.{variances_in, Decides};
 
 use crate::relate::Step;
-use relation_contexts::infer_ctxt::BinderOf;
+use relation_semantics::infer_ctxt::BinderOf;
 use relation_folds::error::RelateResult;
 use relation_folds::fold::TypeFoldable;
 use relation_folds::visit::TypeVisitable;

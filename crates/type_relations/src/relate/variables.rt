@@ -2,13 +2,13 @@
 ghost use Rattle.std.specs.Prelude.{◌≡◌, ℕ, false, not, IsTrue, IsFalse, IfSome, IfNone};
 ghost use Rattle.relation_terms.specs.Flags.{has_non_region_infer};
 ghost use Rattle.relation_terms.specs.Trees.{known};
-ghost use Rattle.relation_contexts.specs.Contexts.{KnowsTy, KnowsConst};
-ghost use Rattle.relation_contexts.specs.Relation.{StaysWithin};
-ghost use Rattle.relation_contexts.specs.Parts.{IsFormed, IsFormedConst};
+ghost use Rattle.relation_semantics.specs.Contexts.{KnowsTy, KnowsConst};
+ghost use Rattle.relation_semantics.specs.Relation.{StaysWithin};
+ghost use Rattle.relation_semantics.specs.Parts.{IsFormed, IsFormedConst};
 ghost use Rattle.type_relations.specs.Variables.{MeansTyVar, MeansConstVar, one_has_variable};
 
-use relation_contexts::infer_ctxt::InferCtxtLike;
-pub use relation_contexts::variable_forms::{const_vid, float_vid, int_vid, ty_vid};
+use relation_semantics::infer_ctxt::InferCtxtLike;
+pub use relation_semantics::variable_forms::{const_vid, float_vid, int_vid, ty_vid};
 use relation_terms::terms::{Const, ConstVid, Interner, Ty, TyVid};
 
 // The type variable that a type is, or none.

@@ -1,5 +1,5 @@
 use Rattle.std.proofs.Common.{◌≡◌, ◌↔◌, ◌∙◌, suc, sym, refl, subst, subst₂, true, arith}
-use Rattle.relation_contexts.specs.Relation.{Rel, at, parts, part_at, anything, no_parts}
+use Rattle.relation_semantics.specs.Relation.{Rel, at, parts, part_at, anything, no_parts}
 use Rattle.relation_laws.specs.Decided.{small_tree, small_parts, all_declare, head_of, leaf_of}
 use Rattle.relation_laws.proofs.Deciding.{iff_through, iff_both, error_left_iff, error_right_iff, forms_iff, parts_iff, place, small_list}
 use Rattle.relation_laws.proofs.decided.+related.Goals as goal

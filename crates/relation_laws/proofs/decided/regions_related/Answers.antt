@@ -1,6 +1,6 @@
 use Rattle.std.proofs.Common.{◌≡◌, ◌↔◌, sym, subst, true}
 use Rattle.relation_terms.specs.Trees.{leaf}
-use Rattle.relation_contexts.specs.Relation.{RegionRule}
+use Rattle.relation_semantics.specs.Relation.{RegionRule}
 use Rattle.relation_laws.specs.Decided.{leaf_of}
 use Rattle.relation_laws.proofs.Deciding.{iff_through, iff_both, iff_either, iff_itself, outlives_iff}
 use Rattle.relation_laws.proofs.decided.regions_related.Goals as goal

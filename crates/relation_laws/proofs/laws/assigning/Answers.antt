@@ -1,7 +1,7 @@
 use Rattle.relation_laws.proofs.Assigning.{assigning_twice, instantiating_assigns}
-use Rattle.relation_contexts.proofs.Trees.{occurs_check}
-use Rattle.relation_contexts.proofs.Resolved.{cycles_do_not_unify}
-use Rattle.relation_contexts.proofs.Values.{value_namable}
+use Rattle.relation_semantics.proofs.Trees.{occurs_check}
+use Rattle.relation_semantics.proofs.Resolved.{cycles_do_not_unify}
+use Rattle.relation_semantics.proofs.Values.{value_namable}
 use Rattle.relation_laws.proofs.laws.assigning.Goals as goal
 
 pub returns : goal.returns

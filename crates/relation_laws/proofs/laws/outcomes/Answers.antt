@@ -1,4 +1,4 @@
-use Rattle.relation_contexts.proofs.Composing.{relates_later, relates_under_more, no_parts_relate, parts_compose, forms_relate, front_begins, front_goes_on, front_ends}
+use Rattle.relation_semantics.proofs.Composing.{relates_later, relates_under_more, no_parts_relate, parts_compose, forms_relate, front_begins, front_goes_on, front_ends}
 use Rattle.relation_laws.proofs.laws.outcomes.Goals as goal
 
 pub returns : goal.returns

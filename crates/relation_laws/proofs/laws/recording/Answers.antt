@@ -1,6 +1,6 @@
 use Rattle.std.proofs.Common.{refl, inr}
 use Rattle.relation_terms.specs.Trees.{count}
-use Rattle.relation_contexts.proofs.Recording.{front_goes_on, front_ends, remembered_records, noted_records, just_asked}
+use Rattle.relation_semantics.proofs.Recording.{front_goes_on, front_ends, remembered_records, noted_records, just_asked}
 use Rattle.relation_laws.proofs.laws.recording.Goals as goal
 
 pub returns : goal.returns

@@ -1,6 +1,6 @@
-use Rattle.relation_contexts.proofs.Composing.{steps_compose}
-use Rattle.relation_contexts.proofs.Opening.{instantiating_steps, opening_steps, one_round_relates, two_rounds_relate, unused_binders_relate}
-use Rattle.relation_contexts.proofs.Exactness.{exact_steps_compose, instantiating_is_exact_step}
+use Rattle.relation_semantics.proofs.Composing.{steps_compose}
+use Rattle.relation_semantics.proofs.Opening.{instantiating_steps, opening_steps, one_round_relates, two_rounds_relate, unused_binders_relate}
+use Rattle.relation_semantics.proofs.Exactness.{exact_steps_compose, instantiating_is_exact_step}
 use Rattle.relation_laws.proofs.laws.steps.Goals as goal
 
 pub returns : goal.returns

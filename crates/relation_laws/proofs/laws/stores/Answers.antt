@@ -1,7 +1,7 @@
-use Rattle.relation_contexts.proofs.StoreCalls.{bindings_are_met, equating_is_exact, equating_stays_sound, binding_is_exact, binding_stays_sound, numbers_are_exact, numbers_stay_sound, made_is_unconstrained, making_stays_sound, making_one_makes, constraining_is_exact, nothing_is_seen, resolved_resolves}
-use Rattle.relation_contexts.proofs.Instantiating.{binding_instantiates, cycles_refuse}
-use Rattle.relation_contexts.proofs.GeneralisingOnce.{generalising_is_one}
-use Rattle.relation_contexts.proofs.BindingGeneralised.{generalising_instantiates}
+use Rattle.relation_semantics.proofs.StoreCalls.{bindings_are_met, equating_is_exact, equating_stays_sound, binding_is_exact, binding_stays_sound, numbers_are_exact, numbers_stay_sound, made_is_unconstrained, making_stays_sound, making_one_makes, constraining_is_exact, nothing_is_seen, resolved_resolves}
+use Rattle.relation_semantics.proofs.Instantiating.{binding_instantiates, cycles_refuse}
+use Rattle.relation_semantics.proofs.GeneralisingOnce.{generalising_is_one}
+use Rattle.relation_semantics.proofs.BindingGeneralised.{generalising_instantiates}
 use Rattle.type_relations.proofs.BindingRefused.{generalising_refuses}
 use Rattle.relation_laws.proofs.FreeValues.{free_values, made_is_unconstrained_erased}
 use Rattle.relation_laws.proofs.laws.stores.Goals as goal

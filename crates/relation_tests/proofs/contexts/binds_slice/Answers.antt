@@ -1,7 +1,7 @@
 use Rattle.std.proofs.Common.{sym, ap, ◌∙◌, subst}
 use Rattle.relation_terms.specs.Heads.{slice}
 use Rattle.relation_terms.specs.Trees.{node, cons, nil}
-use Rattle.relation_contexts.specs.Bound.{BindByLists}
+use Rattle.relation_semantics.specs.Bound.{BindByLists}
 use Rattle.relation_tests.proofs.Atoms.{slice_made}
 use Rattle.relation_tests.proofs.contexts.binds_slice.Goals as goal
 

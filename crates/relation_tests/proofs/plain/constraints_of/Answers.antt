@@ -1,8 +1,8 @@
 use Rattle.std.proofs.Common.{ap, subst₂}
 use Rattle.relation_terms.specs.Heads.{environment}
 use Rattle.relation_terms.specs.Trees.{node, nil}
-use Rattle.relation_contexts.specs.Relation.{Rel, at}
-use Rattle.relation_contexts.specs.Lawful.{items_of}
+use Rattle.relation_semantics.specs.Relation.{Rel, at}
+use Rattle.relation_semantics.specs.Lawful.{items_of}
 use Rattle.relation_tests.proofs.PlainLemmas.{related_under}
 use Rattle.relation_tests.proofs.plain.constraints_of.Goals as goal
 

@@ -1,15 +1,15 @@
 //! Two types, or two constants, of a context that meet, before their parts are related.
 ghost use Rattle.std.specs.Prelude.{◌⊎◌, IsTrue, IsFalse};
 ghost use Rattle.type_relations.specs.Combining.{TysMeet, ConstsMeet, AreFormedConsts};
-ghost use Rattle.relation_contexts.specs.AskedAlone.{IsTyVar, IsNoTyVar};
-ghost use Rattle.relation_contexts.specs.Contexts.{KnowsTy, KnowsConst, HasTy, HasConst, TakesConst};
-ghost use Rattle.relation_contexts.specs.ContextCalls.{Grows, Stands};
-ghost use Rattle.relation_contexts.specs.Resolving.{IsShallow, IsShallowConst};
+ghost use Rattle.relation_semantics.specs.AskedAlone.{IsTyVar, IsNoTyVar};
+ghost use Rattle.relation_semantics.specs.Contexts.{KnowsTy, KnowsConst, HasTy, HasConst, TakesConst};
+ghost use Rattle.relation_semantics.specs.ContextCalls.{Grows, Stands};
+ghost use Rattle.relation_semantics.specs.Resolving.{IsShallow, IsShallowConst};
 
 use crate::relate::number_vars::{bind_number, equate_numbers, number_var, unlike};
 use crate::relate::variables::{const_var, ty_var};
 use crate::relate::{Step, StructurallyRelateAliases};
-use relation_contexts::infer_ctxt::InferCtxtLike;
+use relation_semantics::infer_ctxt::InferCtxtLike;
 use relation_folds::error::RelateResult;
 use relation_terms::terms::{Const, Ty, Variance};
 

@@ -5,9 +5,9 @@ ghost use Rattle.relation_terms.specs.Trees.{known, node, count, front};
 ghost use Rattle.relation_terms.specs.Meaning.{existential_tree, signature_tree};
 ghost use Rattle.relation_folds.specs.declared.error.TypeError.TheVariants.{Mismatch};
 ghost use Rattle.relation_terms.specs.Parts.{part_tree, part_sort};
-ghost use Rattle.relation_contexts.specs.Errors.{AreOfOneForm, AreAlikeExistentials, SignatureError};
-ghost use Rattle.relation_contexts.specs.Errors.{ObjectError};
-ghost use Rattle.relation_contexts.specs.Parts.{IsComparedPart, parts_of};
+ghost use Rattle.relation_semantics.specs.Errors.{AreOfOneForm, AreAlikeExistentials, SignatureError};
+ghost use Rattle.relation_semantics.specs.Errors.{ObjectError};
+ghost use Rattle.relation_semantics.specs.Parts.{IsComparedPart, parts_of};
 ghost use Rattle.type_relations.specs.Comparing.{AreOfOneFormBy, AreAlikeAt, SignaturesDiffer, ExistentialsDiffer};
 ghost use Rattle.type_relations.specs.Comparing.{PartsDiffer, object_form};
 

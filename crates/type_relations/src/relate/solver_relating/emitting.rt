@@ -1,7 +1,7 @@
 //! The relation of a context registers goals.
 ghost use Rattle.std.specs.Prelude.{◌≡◌, map, IfOk};
-ghost use Rattle.relation_contexts.specs.Contexts.{KnowsTy};
-ghost use Rattle.relation_contexts.specs.Goals.{IsDirected};
+ghost use Rattle.relation_semantics.specs.Contexts.{KnowsTy};
+ghost use Rattle.relation_semantics.specs.Goals.{IsDirected};
 ghost use Rattle.type_relations.specs.Emitting.{KnowsPredicate};
 ghost use Rattle.type_relations.specs.SolverTerms.{SolverAddsGoal, SolverRegistersSubtype, solver_through};
 
@@ -9,7 +9,7 @@ use crate::relate::StructurallyRelateAliases;
 use crate::relate::combine::PredicateEmittingRelation;
 use crate::relate::solver_relating::recording::{alias_asked, subtype_asked};
 use crate::relate::solver_relating::{GoalOf, SolverRelating};
-use relation_contexts::infer_ctxt::InferCtxtLike;
+use relation_semantics::infer_ctxt::InferCtxtLike;
 use relation_terms::terms::{
     Goal, Interner, OutOfMemory, ParamEnv, ParamEnvKey, Predicate, PredicateKey, Span, Ty,
 };

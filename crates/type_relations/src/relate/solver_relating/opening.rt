@@ -2,12 +2,12 @@
 ghost use Rattle.std.specs.Prelude.{◌≡◌, ◌⊎◌, ◌↔◌, IsTrue};
 ghost use Rattle.relation_terms.specs.Trees.{known};
 ghost use Rattle.term_enums.specs.declared.Variance.TheVariants.{Covariant, Contravariant, Invariant};
-ghost use Rattle.relation_contexts.specs.Binders.{binder_tree};
-ghost use Rattle.relation_contexts.specs.Bound.{BindsByList};
-ghost use Rattle.relation_contexts.specs.ContextCalls.{Grows};
+ghost use Rattle.relation_semantics.specs.Binders.{binder_tree};
+ghost use Rattle.relation_semantics.specs.Bound.{BindsByList};
+ghost use Rattle.relation_semantics.specs.ContextCalls.{Grows};
 ghost use Rattle.type_relations.specs.Rounds.{HasBinder, Opens, one_uses_bound};
 
-use relation_contexts::infer_ctxt::{BinderOf, InferCtxtLike};
+use relation_semantics::infer_ctxt::{BinderOf, InferCtxtLike};
 use relation_folds::fold::TypeFoldable;
 use relation_folds::visit::{TypeVisitable, has_escaping_bound_vars};
 use relation_terms::terms::{OutOfMemory, Variance};

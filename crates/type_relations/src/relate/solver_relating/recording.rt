@@ -3,17 +3,17 @@ ghost use Rattle.std.specs.Prelude.{◌≡◌, ◌≢◌, IsTrue, IfOk, OnErr, O
 ghost use Rattle.relation_terms.specs.Trees.{known};
 ghost use Rattle.relation_terms.specs.Meaning.{Extends, term_tree};
 ghost use Rattle.term_enums.specs.declared.Variance.TheVariants.{Bivariant};
-ghost use Rattle.relation_contexts.specs.Stores.{all_bound};
-ghost use Rattle.relation_contexts.specs.Steps.{StaysFull};
-ghost use Rattle.relation_contexts.specs.Measures.{Goes};
-ghost use Rattle.relation_contexts.specs.Contexts.{KnowsTy, HasRegion};
-ghost use Rattle.relation_contexts.specs.ContextCalls.{Stands, Grows};
-ghost use Rattle.relation_contexts.specs.Goals.{subtype_predicate, well_formed_predicate, alias_relate_predicate};
-ghost use Rattle.relation_contexts.specs.Goals.{ambiguous_predicate, IsDirected};
+ghost use Rattle.relation_semantics.specs.Stores.{all_bound};
+ghost use Rattle.relation_semantics.specs.Steps.{StaysFull};
+ghost use Rattle.relation_semantics.specs.Measures.{Goes};
+ghost use Rattle.relation_semantics.specs.Contexts.{KnowsTy, HasRegion};
+ghost use Rattle.relation_semantics.specs.ContextCalls.{Stands, Grows};
+ghost use Rattle.relation_semantics.specs.Goals.{subtype_predicate, well_formed_predicate, alias_relate_predicate};
+ghost use Rattle.relation_semantics.specs.Goals.{ambiguous_predicate, IsDirected};
 ghost use Rattle.type_relations.specs.Emitting.{AddsAsked, MakesSubtype, MakesWellFormed, MakesAliasRelate};
 ghost use Rattle.type_relations.specs.Emitting.{MakesAliasAt, MakesAmbiguous, MakesSubtypeAt, RegionsStayBuilt};
 
-use relation_contexts::infer_ctxt::{InferCtxtLike, VisibleForLeakCheck};
+use relation_semantics::infer_ctxt::{InferCtxtLike, VisibleForLeakCheck};
 use relation_terms::predicate::{ClauseKind, PredicateKind, SubtypePredicate};
 use relation_terms::terms::{
     AliasRelationDirection, Binder, BoundVariable, Interner, OutOfMemory, Predicate, Region, Span,

@@ -1,10 +1,10 @@
 //! The relation of a context remembers which types it has related.
 ghost use Rattle.std.specs.Prelude.{IsTrue};
-ghost use Rattle.relation_contexts.specs.Contexts.{KnowsTy};
+ghost use Rattle.relation_semantics.specs.Contexts.{KnowsTy};
 ghost use Rattle.type_relations.specs.SolverTerms.{SolverHasRelated, SolverRecalls, SolverRemembers, solver_through};
 
 use crate::relate::solver_relating::SolverRelating;
-use relation_contexts::infer_ctxt::InferCtxtLike;
+use relation_semantics::infer_ctxt::InferCtxtLike;
 use relation_terms::terms::{OutOfMemory, Ty};
 
 impl<'a, Infcx: InferCtxtLike> SolverRelating<'a, Infcx> {

@@ -7,7 +7,7 @@ use Rattle.relation_terms.proofs.Stays.{knows_as, extends_on, stays_same}
 use Rattle.relation_terms.specs.Interning.{Sorted}
 use Rattle.relation_terms.proofs.Members.{if_ok}
 use Rattle.relation_terms.proofs.Parts.{sort_known, stays_part}
-use Rattle.relation_contexts.specs.Stores.{weight, resolved, InContext}
+use Rattle.relation_semantics.specs.Stores.{weight, resolved, InContext}
 use Rattle.relation_reference.specs.Tables.{store_of, IsLawful}
 use Rattle.relation_reference.specs.Remembering.{ComesTo}
 use Rattle.relation_reference.proofs.Grows.{store_grows}

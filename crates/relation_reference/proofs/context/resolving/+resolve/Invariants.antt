@@ -1,9 +1,9 @@
 use Rattle.std.proofs.Common.{◌≡◌, ◌+◌, ◌*◌, IsTrue}
 use Rattle.relation_terms.specs.Trees.{apply}
-use Rattle.relation_contexts.proofs.Lists.{firsts}
+use Rattle.relation_semantics.proofs.Lists.{firsts}
 use Rattle.relation_terms.specs.Meaning.{Extends}
 use Rattle.relation_terms.specs.Parts.{part_tree, parts_of}
-use Rattle.relation_contexts.specs.Stores.{weight, resolved}
+use Rattle.relation_semantics.specs.Stores.{weight, resolved}
 use Rattle.relation_reference.specs.Tables.{store_of}
 use Rattle.relation_reference.specs.Remembering.{Remembers}
 use Rattle.relation_reference.proofs.Resolving.{Done}

@@ -1,5 +1,5 @@
 use Rattle.std.proofs.Common.{subst, sym, ◌∙◌}
-use Rattle.relation_contexts.specs.Stores.{InContext}
+use Rattle.relation_semantics.specs.Stores.{InContext}
 use Rattle.relation_terms.specs.Parts.{part_tree}
 use Rattle.relation_terms.specs.declared.terms.part_kind.Part.TheVariants.{Const}
 use Rattle.relation_terms.specs.Interning.{Sorted}

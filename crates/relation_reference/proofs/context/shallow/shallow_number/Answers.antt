@@ -1,7 +1,7 @@
 use Rattle.std.proofs.Common.{refl, ap, ◌∙◌}
 use Rattle.relation_terms.specs.Heads.{int_var, float_var}
 use Rattle.relation_terms.specs.Meaning.{kind_tree}
-use Rattle.relation_contexts.specs.Errors.{itself}
+use Rattle.relation_semantics.specs.Errors.{itself}
 use Rattle.relation_reference.specs.Tables.{store_of}
 use Rattle.relation_reference.proofs.Reading.{made_in_context, read_for, number_shallow}
 use Rattle.relation_reference.proofs.Writing.{table_of_entries}

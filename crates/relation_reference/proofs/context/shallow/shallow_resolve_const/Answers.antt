@@ -1,8 +1,8 @@
 use Rattle.std.proofs.Common.{refl, ap, ◌∙◌}
 use Rattle.relation_terms.specs.Heads.{const_var}
 use Rattle.relation_terms.specs.Meaning.{const_tree}
-use Rattle.relation_contexts.specs.Errors.{itself}
-use Rattle.relation_contexts.proofs.ReadAs.{read_resolves}
+use Rattle.relation_semantics.specs.Errors.{itself}
+use Rattle.relation_semantics.proofs.ReadAs.{read_resolves}
 use Rattle.relation_reference.specs.Tables.{store_of}
 use Rattle.relation_reference.proofs.Reading.{made_in_context, read_for, const_shallow}
 use Rattle.relation_reference.proofs.Writing.{table_of_entries}

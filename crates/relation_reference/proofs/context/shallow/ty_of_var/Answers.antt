@@ -1,6 +1,6 @@
 use Rattle.relation_terms.specs.Heads.{type_var, variable}
 use Rattle.relation_terms.specs.Trees.{leaf}
-use Rattle.relation_contexts.proofs.ReadAs.{read_then}
+use Rattle.relation_semantics.proofs.ReadAs.{read_then}
 use Rattle.relation_reference.specs.Tables.{store_of}
 use Rattle.relation_reference.proofs.Chains.{found_falls}
 use Rattle.relation_reference.proofs.Folding.{context_made}

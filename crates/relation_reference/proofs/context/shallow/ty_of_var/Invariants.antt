@@ -1,8 +1,8 @@
 use Rattle.std.proofs.Common.{IsTrue}
 use Rattle.relation_terms.specs.Heads.{type_var}
 use Rattle.relation_terms.specs.Trees.{known}
-use Rattle.relation_contexts.specs.Bound.{BindByLists}
-use Rattle.relation_contexts.specs.Stores.{InContext}
+use Rattle.relation_semantics.specs.Bound.{BindByLists}
+use Rattle.relation_semantics.specs.Stores.{InContext}
 use Rattle.relation_reference.specs.Answers.{VarReadsAsTy}
 use Rattle.relation_reference.specs.Tables.{store_of}
 use Rattle.relation_reference.proofs.Chains.{followed}

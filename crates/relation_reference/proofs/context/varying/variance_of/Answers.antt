@@ -1,8 +1,8 @@
 use Rattle.std.proofs.Common.{◌∙◌, ◌<◌, IsTrue, sym, ap, subst, rules}
 use Rattle.relation_terms.specs.Trees.{known, count}
 use Rattle.relation_terms.specs.Parts.{part_tree, parts_of}
-use Rattle.relation_contexts.specs.Generalising.{variance_of_part}
-use Rattle.relation_contexts.specs.Lawful.{items_of}
+use Rattle.relation_semantics.specs.Generalising.{variance_of_part}
+use Rattle.relation_semantics.specs.Lawful.{items_of}
 use Rattle.relation_reference.proofs.context.varying.variance_of.Goals as goal
 
 pub returns-in-Const : goal.returns-in-Const

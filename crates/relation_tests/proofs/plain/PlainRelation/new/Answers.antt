@@ -1,6 +1,6 @@
 use Rattle.std.proofs.Common.{refl, []}
 use Rattle.relation_tests.specs.Plain.{plain_store}
-use Rattle.relation_contexts.proofs.Empty.{empty_sound}
+use Rattle.relation_semantics.proofs.Empty.{empty_sound}
 use Rattle.relation_tests.proofs.plain.PlainRelation.new.Goals as goal
 
 pub returns-clause-lawful : goal.returns-clause-lawful

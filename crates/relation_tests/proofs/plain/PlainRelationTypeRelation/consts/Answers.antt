@@ -1,9 +1,9 @@
 use Rattle.std.proofs.Common.{refl}
-use Rattle.relation_contexts.specs.Parts.{IsFormedConst}
+use Rattle.relation_semantics.specs.Parts.{IsFormedConst}
 use Rattle.relation_tests.specs.Plain.{plain_store, plain_state, plain_manner}
 use Rattle.type_relations.proofs.Comparing.{formed_const}
-use Rattle.relation_contexts.proofs.Passing.{parts_left}
-use Rattle.relation_contexts.proofs.Standing.{term_within}
+use Rattle.relation_semantics.proofs.Passing.{parts_left}
+use Rattle.relation_semantics.proofs.Standing.{term_within}
 use Rattle.relation_tests.proofs.PlainLemmas.{no_const_variable, none_left}
 use Rattle.relation_tests.proofs.plain.PlainRelationTypeRelation.consts.Goals as goal
 

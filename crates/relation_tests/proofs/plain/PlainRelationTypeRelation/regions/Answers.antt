@@ -1,8 +1,8 @@
 use Rattle.std.proofs.Common.{refl, sym, ap, ◌∙◌, ◌∷◌, [], ◌++◌, map}
 use Rattle.std.proofs.lemmas.List.{map-append}
-use Rattle.relation_contexts.specs.Constraints.{constraint_of, asked_constraints}
+use Rattle.relation_semantics.specs.Constraints.{constraint_of, asked_constraints}
 use Rattle.relation_folds.specs.declared.error.RelateFault.TheVariants.{Memory}
-use Rattle.relation_contexts.proofs.Passing.{as_err}
+use Rattle.relation_semantics.proofs.Passing.{as_err}
 use Rattle.relation_tests.proofs.PlainLemmas.{regions_related, not_recorded}
 use Rattle.relation_tests.proofs.plain.PlainRelationTypeRelation.regions.Goals as goal
 

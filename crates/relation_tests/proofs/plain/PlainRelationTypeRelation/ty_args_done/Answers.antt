@@ -1,5 +1,5 @@
 use Rattle.relation_tests.specs.Plain.{plain_state}
-use Rattle.relation_contexts.proofs.Passing.{noted_nothing}
+use Rattle.relation_semantics.proofs.Passing.{noted_nothing}
 use Rattle.relation_tests.proofs.plain.PlainRelationTypeRelation.ty_args_done.Goals as goal
 
 pub returns : goal.returns

@@ -1,7 +1,7 @@
 use Rattle.std.proofs.Common.{refl}
-use Rattle.relation_contexts.specs.Parts.{IsFormed}
+use Rattle.relation_semantics.specs.Parts.{IsFormed}
 use Rattle.relation_tests.specs.Plain.{plain_state, plain_manner}
-use Rattle.relation_contexts.proofs.Passing.{parts_left}
+use Rattle.relation_semantics.proofs.Passing.{parts_left}
 use Rattle.relation_tests.proofs.PlainLemmas.{formed, none_left}
 use Rattle.relation_tests.proofs.plain.PlainRelationTypeRelation.tys.Goals as goal
 

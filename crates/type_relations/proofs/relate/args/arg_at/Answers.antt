@@ -1,6 +1,6 @@
 use Rattle.std.proofs.Common.{◌<◌, length, refl, arith}
 use Rattle.relation_terms.specs.Meaning.{arg_tree}
-use Rattle.relation_contexts.proofs.Parts.{slice_below, slice_sure, slice_nth}
+use Rattle.relation_semantics.proofs.Parts.{slice_below, slice_sure, slice_nth}
 use Rattle.type_relations.proofs.relate.args.arg_at.Goals as goal
 
 pub bounds-args-i : goal.bounds-args-i

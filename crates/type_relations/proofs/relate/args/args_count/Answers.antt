@@ -1,6 +1,6 @@
 use Rattle.std.proofs.Common.{refl}
 use Rattle.relation_terms.specs.Meaning.{arg_tree}
-use Rattle.relation_contexts.proofs.Parts.{slice_counts, slice_list}
+use Rattle.relation_semantics.proofs.Parts.{slice_counts, slice_list}
 use Rattle.type_relations.proofs.relate.args.args_count.Goals as goal
 
 pub returns : goal.returns

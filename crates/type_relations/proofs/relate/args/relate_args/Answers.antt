@@ -5,20 +5,20 @@ use Rattle.relation_terms.specs.Trees.{Tree, node, known, count, nth, list_tree}
 use Rattle.term_enums.specs.Variances.{xform}
 use Rattle.relation_terms.specs.Meaning.{arg_tree}
 use Rattle.relation_terms.specs.Interning.{Sorted}
-use Rattle.relation_contexts.specs.Relation.{part_at}
+use Rattle.relation_semantics.specs.Relation.{part_at}
 use Rattle.type_relations.specs.Arguments.{args_head}
-use Rattle.relation_contexts.specs.Lawful.{MayAnswer, Related, items_in}
-use Rattle.relation_contexts.proofs.Standing.{term_context}
-use Rattle.relation_contexts.proofs.Parts.{in_parts}
+use Rattle.relation_semantics.specs.Lawful.{MayAnswer, Related, items_in}
+use Rattle.relation_semantics.proofs.Standing.{term_context}
+use Rattle.relation_semantics.proofs.Parts.{in_parts}
 use Rattle.relation_terms.proofs.Stays.{stays_list, stays_arg}
 use Rattle.relation_folds.specs.declared.error.RelateFault.TheVariants.{Memory}
-use Rattle.relation_contexts.proofs.Lists.{snoc, list_push}
-use Rattle.relation_contexts.proofs.Passing.{as_err, made_or_not}
+use Rattle.relation_semantics.proofs.Lists.{snoc, list_push}
+use Rattle.relation_semantics.proofs.Passing.{as_err, made_or_not}
 use Rattle.type_relations.proofs.Fronts.{Fronted, fronted_none, fronted_next}
 use Rattle.type_relations.proofs.Looping.{next_asked}
 use Rattle.type_relations.proofs.Arguments.{form_related, form_refused, form_stopped, args_related_head, args_looked_at}
 use Rattle.type_relations.proofs.Arguments.{args_first_order, args_complain, args_heads, are_list}
-use Rattle.relation_contexts.proofs.Answering.{same_items, AreAnswers, answers_none, answers_next, answers_end, may_form, if_ok_both}
+use Rattle.relation_semantics.proofs.Answering.{same_items, AreAnswers, answers_none, answers_next, answers_end, may_form, if_ok_both}
 use Rattle.type_relations.proofs.relate.args.relate_args.Goals as goal
 
 pub loop-i-init : goal.loop-i-init

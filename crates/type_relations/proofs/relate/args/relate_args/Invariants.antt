@@ -3,7 +3,7 @@ use Rattle.relation_terms.specs.Trees.{count, list_tree}
 use Rattle.type_relations.specs.Arguments.{args_head}
 use Rattle.relation_terms.specs.Meaning.{arg_tree}
 use Rattle.type_relations.proofs.Fronts.{Fronted, AreParts}
-use Rattle.relation_contexts.proofs.Answering.{AreAnswers}
+use Rattle.relation_semantics.proofs.Answering.{AreAnswers}
 use Rattle.type_relations.proofs.relate.args.relate_args.Given as goal
 
 abbrev pub invariant-loop-i : goal.invariant-loop-i

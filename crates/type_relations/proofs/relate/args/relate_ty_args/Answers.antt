@@ -2,13 +2,13 @@ use Rattle.std.proofs.Common.{◌≡◌, refl, sym, ap, ◌∙◌, subst, subst�
 use Rattle.relation_terms.specs.declared.terms.keys.ArgsKey.{ArgsKey}
 use Rattle.relation_terms.specs.Trees.{Tree, node, known}
 use Rattle.relation_terms.proofs.Stays.{extends_on}
-use Rattle.relation_contexts.specs.Parts.{head_of}
+use Rattle.relation_semantics.specs.Parts.{head_of}
 use Rattle.type_relations.specs.Arguments.{args_head}
-use Rattle.relation_contexts.specs.Lawful.{Asked, Related, Shown, MayAnswer}
-use Rattle.relation_contexts.proofs.Building.{built_as}
-use Rattle.relation_contexts.proofs.Passing.{as_err, asked_later, refused_again, noted_related, noted_refused, made_or_not, shown_now}
+use Rattle.relation_semantics.specs.Lawful.{Asked, Related, Shown, MayAnswer}
+use Rattle.relation_semantics.proofs.Building.{built_as}
+use Rattle.relation_semantics.proofs.Passing.{as_err, asked_later, refused_again, noted_related, noted_refused, made_or_not, shown_now}
 use Rattle.type_relations.proofs.Arguments.{args_heads, over_later}
-use Rattle.relation_contexts.proofs.Answering.{if_ok_both}
+use Rattle.relation_semantics.proofs.Answering.{if_ok_both}
 use Rattle.type_relations.proofs.relate.args.relate_ty_args.Goals as goal
 
 pub relate_args-requires-clause-asked : goal.relate_args-requires-clause-asked

@@ -3,13 +3,13 @@ use Rattle.relation_terms.specs.Heads.{const_sort}
 use Rattle.relation_terms.specs.Trees.{IsTerm, known}
 use Rattle.relation_folds.specs.declared.error.RelateFault.TheVariants.{Memory}
 use Rattle.term_enums.specs.declared.AliasRelationDirection.TheVariants.{Equate}
-use Rattle.relation_contexts.specs.ContextCalls.{Grows}
-use Rattle.relation_contexts.specs.Errors.{IsLeftToGoal}
-use Rattle.relation_contexts.specs.Goals.{alias_relate_predicate}
-use Rattle.relation_contexts.specs.Lawful.{Stepped}
-use Rattle.relation_contexts.specs.Parts.{IsFormedConst}
-use Rattle.relation_contexts.specs.Resolving.{IsShallowConst}
-use Rattle.relation_contexts.proofs.Passing.{as_err}
+use Rattle.relation_semantics.specs.ContextCalls.{Grows}
+use Rattle.relation_semantics.specs.Errors.{IsLeftToGoal}
+use Rattle.relation_semantics.specs.Goals.{alias_relate_predicate}
+use Rattle.relation_semantics.specs.Lawful.{Stepped}
+use Rattle.relation_semantics.specs.Parts.{IsFormedConst}
+use Rattle.relation_semantics.specs.Resolving.{IsShallowConst}
+use Rattle.relation_semantics.proofs.Passing.{as_err}
 use Rattle.type_relations.specs.Combining.{MeetsConsts, const_not_left as not_left_consts}
 use Rattle.type_relations.specs.Solving.{solver_manner}
 use Rattle.type_relations.proofs.Combining.{consts_later, consts_stepped, consts_met}

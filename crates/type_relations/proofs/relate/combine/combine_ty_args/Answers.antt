@@ -2,15 +2,15 @@ use Rattle.std.proofs.Common.{◌≡◌, ◌⊎◌, ◌↔◌, ap, ap₂, ◌∙
 use Rattle.std.proofs.lemmas.Bool.{false≢true}
 use Rattle.relation_terms.specs.Trees.{known}
 use Rattle.relation_folds.specs.declared.error.RelateFault.TheVariants.{Memory}
-use Rattle.relation_contexts.specs.ContextCalls.{Grows}
+use Rattle.relation_semantics.specs.ContextCalls.{Grows}
 use Rattle.type_relations.specs.Bivariance.{HasOpenArgument}
-use Rattle.relation_contexts.specs.Goals.{well_formed_predicate}
-use Rattle.relation_contexts.specs.Lawful.{OnlyMemory, items_of}
-use Rattle.relation_contexts.specs.Stores.{IsTermIn}
+use Rattle.relation_semantics.specs.Goals.{well_formed_predicate}
+use Rattle.relation_semantics.specs.Lawful.{OnlyMemory, items_of}
+use Rattle.relation_semantics.specs.Stores.{IsTermIn}
 use Rattle.type_relations.proofs.Bivariance.{over_in, registers_none}
 use Rattle.type_relations.proofs.EmittingBoth.{both_known, both_registered, listed_known, noted_both}
 use Rattle.type_relations.proofs.Noting.{noted_with, noted_then, over_extends, over_with, with_meaning, later_same}
-use Rattle.relation_contexts.proofs.Passing.{as_err}
+use Rattle.relation_semantics.proofs.Passing.{as_err}
 use Rattle.type_relations.proofs.relate.combine.combine_ty_args.Goals as goal
 
 pub have_open_argument-requires-clause-a_in : goal.have_open_argument-requires-clause-a_in

@@ -1,8 +1,8 @@
 use Rattle.std.proofs.Common.{◌≡◌, ◌<◌, arith, sym, ap, ◌∙◌, subst₂}
 use Rattle.relation_terms.specs.Meaning.{arg_tree}
 use Rattle.relation_terms.specs.Trees.{count, nth}
-use Rattle.relation_contexts.specs.Stores.{IsTermIn}
-use Rattle.relation_contexts.proofs.Parts.{in_nth}
+use Rattle.relation_semantics.specs.Stores.{IsTermIn}
+use Rattle.relation_semantics.proofs.Parts.{in_nth}
 use Rattle.type_relations.proofs.relate.combine.has_open_argument.Goals as goal
 
 pub is_left_open-requires-clause-arg_in : goal.is_left_open-requires-clause-arg_in

@@ -1,7 +1,7 @@
 use Rattle.std.proofs.Common.{◌≡◌}
 use Rattle.relation_terms.specs.Trees.{count}
-use Rattle.relation_contexts.specs.ContextCalls.{Grows}
-use Rattle.relation_contexts.specs.Lawful.{items_of}
+use Rattle.relation_semantics.specs.ContextCalls.{Grows}
+use Rattle.relation_semantics.specs.Lawful.{items_of}
 use Rattle.type_relations.proofs.Bivariance.{NoneOpenBefore}
 use Rattle.type_relations.proofs.relate.combine.has_open_argument.Given as goal
 

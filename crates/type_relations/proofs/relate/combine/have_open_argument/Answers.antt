@@ -1,4 +1,4 @@
-use Rattle.relation_contexts.specs.Lawful.{items_of}
+use Rattle.relation_semantics.specs.Lawful.{items_of}
 use Rattle.type_relations.proofs.Bivariance.{tells_either, tells_still}
 use Rattle.type_relations.proofs.relate.combine.have_open_argument.Goals as goal
 

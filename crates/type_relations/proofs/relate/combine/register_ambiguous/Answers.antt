@@ -1,6 +1,6 @@
 use Rattle.std.proofs.Common.{◌≡◌, refl, subst}
-use Rattle.relation_contexts.specs.ContextCalls.{Grows}
-use Rattle.relation_contexts.specs.Goals.{ambiguous_predicate}
+use Rattle.relation_semantics.specs.ContextCalls.{Grows}
+use Rattle.relation_semantics.specs.Goals.{ambiguous_predicate}
 use Rattle.type_relations.proofs.Registering.{same_later, none_registered, predicate_known, one_registered}
 use Rattle.type_relations.proofs.relate.combine.register_ambiguous.Goals as goal
 

@@ -1,7 +1,7 @@
 use Rattle.std.proofs.Common.{◌≡◌, sym, subst}
 use Rattle.term_enums.specs.declared.AliasRelationDirection.TheVariants.{Equate}
-use Rattle.relation_contexts.specs.ContextCalls.{Grows}
-use Rattle.relation_contexts.specs.Goals.{alias_relate_predicate}
+use Rattle.relation_semantics.specs.ContextCalls.{Grows}
+use Rattle.relation_semantics.specs.Goals.{alias_relate_predicate}
 use Rattle.type_relations.proofs.Registering.{alias_relate_known, same_later, none_registered, predicate_known, one_registered}
 use Rattle.type_relations.proofs.relate.combine.register_const_alias.Goals as goal
 

@@ -1,10 +1,10 @@
 use Rattle.std.proofs.Common.{◌≡◌, sym, ◌∙◌, subst, IsTrue}
 use Rattle.std.proofs.lemmas.Bool.{false≢true}
 use Rattle.relation_terms.specs.Trees.{known}
-use Rattle.relation_contexts.specs.ContextCalls.{Reads, BindingsBindByLists}
-use Rattle.relation_contexts.specs.Parts.{IsFormedConst}
-use Rattle.relation_contexts.specs.Resolving.{IsShallowConst}
-use Rattle.relation_contexts.specs.Stores.{IsSound}
+use Rattle.relation_semantics.specs.ContextCalls.{Reads, BindingsBindByLists}
+use Rattle.relation_semantics.specs.Parts.{IsFormedConst}
+use Rattle.relation_semantics.specs.Resolving.{IsShallowConst}
+use Rattle.relation_semantics.specs.Stores.{IsSound}
 use Rattle.type_relations.specs.Combining.{resolved_first}
 use Rattle.type_relations.proofs.Combining.{read_asked, read_there, one_const_step}
 use Rattle.type_relations.proofs.Shallowly.{read_step}

@@ -3,9 +3,9 @@ use Rattle.relation_terms.specs.declared.terms.interner.OutOfMemory.{OutOfMemory
 use Rattle.relation_terms.specs.Heads.{type_sort}
 use Rattle.relation_terms.specs.Trees.{IsTerm, known}
 use Rattle.relation_folds.specs.declared.error.RelateFault.TheVariants.{Memory}
-use Rattle.relation_contexts.specs.ContextCalls.{Stands}
-use Rattle.relation_contexts.specs.Resolving.{IsShallow}
-use Rattle.relation_contexts.proofs.Passing.{as_err}
+use Rattle.relation_semantics.specs.ContextCalls.{Stands}
+use Rattle.relation_semantics.specs.Resolving.{IsShallow}
+use Rattle.relation_semantics.proofs.Passing.{as_err}
 use Rattle.type_relations.specs.Combining.{MeetsTys, left_error, right_error, not_left}
 use Rattle.type_relations.specs.Leaving.{LeavesAs, StandsAs}
 use Rattle.type_relations.proofs.Combining.{combined_later, types_stepped, types_met}

@@ -1,6 +1,6 @@
 use Rattle.std.proofs.Common.{subst}
-use Rattle.relation_contexts.specs.ContextCalls.{Stands}
-use Rattle.relation_contexts.specs.Steps.{Taints}
+use Rattle.relation_semantics.specs.ContextCalls.{Stands}
+use Rattle.relation_semantics.specs.Steps.{Taints}
 use Rattle.type_relations.proofs.OpeningBoth.{changes_goes}
 use Rattle.type_relations.proofs.OverContext.{stands_grows}
 use Rattle.type_relations.proofs.Registering.{tainted_alone, all_kept}

@@ -4,7 +4,7 @@ use Rattle.relation_terms.specs.Meaning.{const_tree, arg_tree}
 use Rattle.std.proofs.lemmas.Bool.{false≢true}
 use Rattle.relation_terms.specs.Trees.{node, count}
 use Rattle.relation_terms.specs.declared.terms.const_kind.ConstKind.TheVariants.{Param, Value, Expr, Unevaluated}
-use Rattle.relation_contexts.specs.Errors.{values, expressions, over_arguments, const_parameters, operations}
+use Rattle.relation_semantics.specs.Errors.{values, expressions, over_arguments, const_parameters, operations}
 use Rattle.type_relations.proofs.Comparing.{ruled_const, leaf_const, one_leaf_const, unlike_const, param_const, value_const, expr_const, item_const}
 use Rattle.relation_terms.proofs.Members.{list_count}
 use Rattle.type_relations.proofs.relate.comparing.compare_consts.Goals as goal

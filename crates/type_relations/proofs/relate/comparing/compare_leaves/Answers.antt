@@ -1,7 +1,7 @@
 use Rattle.std.proofs.Common.{◌≡◌, ◌∙◌, sym, ap}
 use Rattle.relation_terms.specs.Heads.{type_param}
 use Rattle.relation_terms.specs.Meaning.{kind_tree}
-use Rattle.relation_contexts.specs.Errors.{parameters}
+use Rattle.relation_semantics.specs.Errors.{parameters}
 use Rattle.type_relations.proofs.Comparing.{unlike_leaf, unlike_param}
 use Rattle.type_relations.proofs.relate.comparing.compare_leaves.Goals as goal
 

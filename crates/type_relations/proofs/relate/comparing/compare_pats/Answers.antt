@@ -2,8 +2,8 @@ use Rattle.std.proofs.Common.{◌∙◌, refl, sym, ap}
 use Rattle.relation_terms.specs.Heads.{or_pattern}
 use Rattle.relation_terms.specs.Trees.{count}
 use Rattle.relation_terms.specs.Meaning.{pattern_tree}
-use Rattle.relation_contexts.specs.Relation.{sort_of}
-use Rattle.relation_contexts.specs.Errors.{over_parts, one_leaf, unlike_patterns}
+use Rattle.relation_semantics.specs.Relation.{sort_of}
+use Rattle.relation_semantics.specs.Errors.{over_parts, one_leaf, unlike_patterns}
 use Rattle.relation_terms.proofs.Members.{list_count}
 use Rattle.type_relations.proofs.Patterns.{unlike_many}
 use Rattle.type_relations.proofs.relate.comparing.compare_pats.Goals as goal

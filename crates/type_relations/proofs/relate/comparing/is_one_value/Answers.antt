@@ -2,7 +2,7 @@ use Rattle.std.proofs.Common.{sym, ap, ◌∙◌}
 use Rattle.std.proofs.lemmas.Bool.{false≢true, eqb-true, eq-eqb}
 use Rattle.relation_terms.specs.Meaning.{valtree_tree}
 use Rattle.relation_terms.specs.Trees.{count}
-use Rattle.relation_contexts.specs.Errors.{as_many_branches}
+use Rattle.relation_semantics.specs.Errors.{as_many_branches}
 use Rattle.type_relations.proofs.Comparing.{branches_counted}
 use Rattle.relation_terms.proofs.Members.{list_count}
 use Rattle.type_relations.proofs.relate.comparing.is_one_value.Goals as goal

@@ -1,5 +1,5 @@
 use Rattle.std.proofs.Common.{inl, inr, refl}
-use Rattle.relation_contexts.specs.Errors.{sorts_at, argument_sorts_at, mutability_at, argument_mutability_at}
+use Rattle.relation_semantics.specs.Errors.{sorts_at, argument_sorts_at, mutability_at, argument_mutability_at}
 use Rattle.type_relations.proofs.Handing.{names_none}
 use Rattle.type_relations.proofs.relate.handing.at_place.Goals as goal
 

@@ -1,7 +1,7 @@
 use Rattle.std.proofs.Common.{rules, ◌≡◌, ◌<◌, ◌+◌, suc, ◌∙◌, sym, ap, subst, length, get_or, arith, IsTrue}
 use Rattle.relation_terms.specs.Trees.{known, count, nth}
 use Rattle.relation_terms.specs.Meaning.{arg_tree}
-use Rattle.relation_contexts.specs.Parts.{parts_of}
+use Rattle.relation_semantics.specs.Parts.{parts_of}
 use Rattle.relation_terms.proofs.Members.{item_known}
 use Rattle.type_relations.proofs.Making.{AreFirst, first_next, all_first, fit_counts}
 use Rattle.type_relations.proofs.relate.making.are_its_parts.Goals as goal

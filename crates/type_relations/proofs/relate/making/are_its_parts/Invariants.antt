@@ -1,5 +1,5 @@
 use Rattle.relation_terms.specs.Meaning.{arg_tree}
-use Rattle.relation_contexts.specs.Parts.{parts_of}
+use Rattle.relation_semantics.specs.Parts.{parts_of}
 use Rattle.type_relations.proofs.Making.{AreFirst}
 use Rattle.type_relations.proofs.relate.making.are_its_parts.Given as goal
 

@@ -4,8 +4,8 @@ use Rattle.relation_terms.specs.Meaning.{const_tree}
 use Rattle.relation_terms.specs.Parts.{part_tree, part_of_arg, parts_of, over as term_over}
 use Rattle.relation_terms.proofs.Stays.{extends_on}
 use Rattle.relation_terms.proofs.Members.{if_ok}
-use Rattle.relation_contexts.specs.Parts.{const_parts_of}
-use Rattle.relation_contexts.specs.Making.{const_over}
+use Rattle.relation_semantics.specs.Parts.{const_parts_of}
+use Rattle.relation_semantics.specs.Making.{const_over}
 use Rattle.type_relations.proofs.Making.{value_of, value_type_known, value_tree_known, value_known}
 use Rattle.type_relations.proofs.AsParts.{args_as, fits_as, branches_as, value_over, const_parts_as, const_over_as}
 use Rattle.type_relations.proofs.relate.making.const_with_parts.Goals as goal

@@ -2,9 +2,9 @@ use Rattle.std.proofs.Common.{◌≡◌, sym, subst, subst₂, IsTrue}
 use Rattle.relation_terms.specs.Trees.{known, list_tree}
 use Rattle.relation_terms.specs.Meaning.{Extends}
 use Rattle.relation_terms.specs.Parts.{part_tree}
-use Rattle.relation_contexts.specs.Making.{over, Made}
-use Rattle.relation_contexts.specs.Lawful.{WithMeaning}
-use Rattle.relation_contexts.proofs.Passing.{as_err}
+use Rattle.relation_semantics.specs.Making.{over, Made}
+use Rattle.relation_semantics.specs.Lawful.{WithMeaning}
+use Rattle.relation_semantics.proofs.Passing.{as_err}
 use Rattle.type_relations.proofs.relate.making.make_part.Goals as goal
 
 pub returns-in_err-made-clause-made : goal.returns-in_err-made-clause-made

@@ -2,8 +2,8 @@ use Rattle.std.proofs.Common.{◌≡◌, ◌∙◌, sym, ap, subst, map, IsTrue}
 use Rattle.relation_terms.specs.Heads.{type_sort}
 use Rattle.relation_terms.specs.Trees.{known, list_tree}
 use Rattle.relation_terms.specs.Parts.{part_tree, part_of_arg}
-use Rattle.relation_contexts.specs.Parts.{parts_of}
-use Rattle.relation_contexts.specs.Making.{over}
+use Rattle.relation_semantics.specs.Parts.{parts_of}
+use Rattle.relation_semantics.specs.Making.{over}
 use Rattle.relation_terms.proofs.Stays.{stays_same}
 use Rattle.type_relations.proofs.Making.{over_own}
 use Rattle.type_relations.proofs.AsParts.{args_as, fits_as, parts_as, over_as}

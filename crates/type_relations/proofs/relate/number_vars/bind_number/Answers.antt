@@ -1,7 +1,7 @@
 use Rattle.std.proofs.Common.{sym, ap, ◌∙◌, subst, subst₂}
 use Rattle.relation_terms.specs.Heads.{int_var, float_var}
-use Rattle.relation_contexts.specs.Steps.{IsNumberFor}
-use Rattle.relation_contexts.specs.ContextCalls.{IsUnresolved, BindsNumber}
+use Rattle.relation_semantics.specs.Steps.{IsNumberFor}
+use Rattle.relation_semantics.specs.ContextCalls.{IsUnresolved, BindsNumber}
 use Rattle.type_relations.specs.NumberVars.{number_kind, number_of}
 use Rattle.type_relations.proofs.NumberVars.{int_is, float_is, no_int, no_float, int_known, float_known}
 use Rattle.type_relations.proofs.relate.number_vars.bind_number.Goals as goal

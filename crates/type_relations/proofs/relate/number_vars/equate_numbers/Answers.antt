@@ -1,6 +1,6 @@
 use Rattle.std.proofs.Common.{◌≡◌, sym, ap, ◌∙◌, subst, subst₂}
 use Rattle.relation_terms.specs.Heads.{int_var, float_var}
-use Rattle.relation_contexts.specs.ContextCalls.{IsUnresolved, EquatesTwo}
+use Rattle.relation_semantics.specs.ContextCalls.{IsUnresolved, EquatesTwo}
 use Rattle.type_relations.specs.NumberVars.{number_kind, number_of}
 use Rattle.type_relations.proofs.relate.number_vars.equate_numbers.Goals as goal
 

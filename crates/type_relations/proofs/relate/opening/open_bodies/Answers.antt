@@ -4,7 +4,7 @@ use Rattle.relation_terms.specs.Parts.{part_tree}
 use Rattle.relation_terms.specs.declared.terms.part_kind.Part.TheVariants.{Binder, Signature, Ty, Existential}
 use Rattle.type_relations.specs.Rounds.{Opened}
 use Rattle.type_relations.proofs.Bodies.{opened_some, opened_none, opened_not, not_some}
-use Rattle.relation_contexts.proofs.Passing.{as_err}
+use Rattle.relation_semantics.proofs.Passing.{as_err}
 use Rattle.type_relations.proofs.relate.opening.open_bodies.Goals as goal
 
 pub returns-in_default-2-clause-opened : goal.returns-in_default-2-clause-opened

@@ -1,6 +1,6 @@
 use Rattle.std.proofs.Common.{subst}
 use Rattle.std.proofs.lemmas.Bool.{false≢true}
-use Rattle.relation_contexts.specs.Parts.{IsByParts}
+use Rattle.relation_semantics.specs.Parts.{IsByParts}
 use Rattle.type_relations.proofs.Patterns.{kind_not}
 use Rattle.type_relations.proofs.relate.parts.is_by_parts.Goals as goal
 

@@ -5,7 +5,7 @@ use Rattle.relation_terms.specs.Meaning.{arg_tree}
 use Rattle.relation_terms.specs.Parts.{part_tree}
 use Rattle.relation_terms.specs.Interning.{Sorted}
 use Rattle.relation_terms.proofs.Parts.{arg_part}
-use Rattle.relation_contexts.specs.Parts.{parts_of}
+use Rattle.relation_semantics.specs.Parts.{parts_of}
 use Rattle.type_relations.proofs.AsParts.{ty_argument, is_arg}
 use Rattle.type_relations.proofs.relate.parts.part.Goals as goal
 

@@ -1,7 +1,7 @@
 use Rattle.std.proofs.Common.{◌≡◌, ◌∙◌, sym, ap}
 use Rattle.relation_terms.specs.Meaning.{const_tree}
 use Rattle.relation_terms.specs.Parts.{parts_of}
-use Rattle.relation_contexts.specs.Parts.{const_parts_of}
+use Rattle.relation_semantics.specs.Parts.{const_parts_of}
 use Rattle.type_relations.proofs.Making.{value_of, value_tree_known}
 use Rattle.type_relations.proofs.AsParts.{branches_as, const_parts_as}
 use Rattle.type_relations.proofs.relate.parts.related_part.Goals as goal

@@ -1,4 +1,4 @@
-use Rattle.relation_contexts.proofs.Passing.{noted_nothing}
+use Rattle.relation_semantics.proofs.Passing.{noted_nothing}
 use Rattle.type_relations.proofs.relate.reading.note_args.Goals as goal
 
 pub returns-in_default-ty_kind : goal.returns-in_default-ty_kind

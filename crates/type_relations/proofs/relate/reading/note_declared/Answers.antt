@@ -1,4 +1,4 @@
-use Rattle.relation_contexts.proofs.Passing.{noted_nothing}
+use Rattle.relation_semantics.proofs.Passing.{noted_nothing}
 use Rattle.type_relations.proofs.relate.reading.note_declared.Goals as goal
 
 pub returns-then-is_none : goal.returns-then-is_none

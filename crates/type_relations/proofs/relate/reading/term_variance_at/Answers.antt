@@ -5,8 +5,8 @@ use Rattle.relation_terms.specs.Parts.{part_tree}
 use Rattle.term_enums.specs.declared.Variance.TheVariants.{Contravariant, Invariant}
 use Rattle.relation_terms.specs.Interning.{Sorted}
 use Rattle.type_relations.specs.Keyed.{part_in}
-use Rattle.relation_contexts.specs.Lawful.{items_in}
-use Rattle.relation_contexts.specs.Parts.{parts_of, head_of}
+use Rattle.relation_semantics.specs.Lawful.{items_in}
+use Rattle.relation_semantics.specs.Parts.{parts_of, head_of}
 use Rattle.type_relations.proofs.PartPlaces.{signature_place, existential_place, other_place, apart}
 use Rattle.type_relations.proofs.relate.reading.term_variance_at.Goals as goal
 

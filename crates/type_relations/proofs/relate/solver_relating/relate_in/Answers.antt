@@ -1,7 +1,7 @@
 use Rattle.std.proofs.Common.{sym, ◌∙◌, subst, subst₂, []}
 use Rattle.std.proofs.lemmas.List.Elements.{All-nil}
-use Rattle.relation_contexts.specs.Goals.{KnowsGoal}
-use Rattle.relation_contexts.specs.Lawful.{Related}
+use Rattle.relation_semantics.specs.Goals.{KnowsGoal}
+use Rattle.relation_semantics.specs.Lawful.{Related}
 use Rattle.type_relations.specs.Relating.{term_in}
 use Rattle.type_relations.specs.Solving.{held_by, solving_in, solving_through, solver_manner}
 use Rattle.type_relations.specs.Alone.{RelatesAlone}

@@ -12,14 +12,14 @@ use Rattle.relation_terms.specs.Interning.{Sorted}
 use Rattle.relation_terms.proofs.Stays.{knows_arg}
 use Rattle.relation_folds.specs.declared.error.TypeError.TheVariants.{Mismatch}
 use Rattle.relation_folds.specs.declared.error.RelateFault.TheVariants.{Unrelated, Memory}
-use Rattle.relation_contexts.specs.Relation.{part_at}
-use Rattle.relation_contexts.specs.AskedAlone.{AsksNoneAlone}
-use Rattle.relation_contexts.specs.Errors.{AreOfOneForm, IsLeftToGoal, PartError}
-use Rattle.relation_contexts.specs.Parts.{IsFormed, IsFormedConst, IsByParts, IsRelatedPart, IsComparedPart, IsArgPart}
-use Rattle.relation_contexts.specs.Parts.{IsBinderPart, ArePaired, parts_of, const_parts_of, head_of}
-use Rattle.relation_contexts.specs.Parts.{const_head_of}
-use Rattle.relation_contexts.specs.Stores.{weight}
-use Rattle.relation_contexts.specs.Measures.{depth}
+use Rattle.relation_semantics.specs.Relation.{part_at}
+use Rattle.relation_semantics.specs.AskedAlone.{AsksNoneAlone}
+use Rattle.relation_semantics.specs.Errors.{AreOfOneForm, IsLeftToGoal, PartError}
+use Rattle.relation_semantics.specs.Parts.{IsFormed, IsFormedConst, IsByParts, IsRelatedPart, IsComparedPart, IsArgPart}
+use Rattle.relation_semantics.specs.Parts.{IsBinderPart, ArePaired, parts_of, const_parts_of, head_of}
+use Rattle.relation_semantics.specs.Parts.{const_head_of}
+use Rattle.relation_semantics.specs.Stores.{weight}
+use Rattle.relation_semantics.specs.Measures.{depth}
 use Rattle.type_relations.proofs.Patterns.{term_alike, term_decides, part_sorted, compared_is}
 use Rattle.type_relations.proofs.PartPlaces.{related_part, paired_part}
 use Rattle.type_relations.proofs.InOrder.{terms_stopped, terms_answer, terms_unlike, term_refused, terms_differ}
@@ -29,26 +29,26 @@ use Rattle.type_relations.proofs.ByParts.{binder_not_compared, form_compared, pa
 use Rattle.type_relations.proofs.ByParts.{no_inputs_yet, inputs_next, compared_as, alike_back, on_ok, asked_turned}
 use Rattle.type_relations.proofs.ByParts.{depth_turned}
 use Rattle.type_relations.specs.Handing.{IsResultOfTy, IsResultOfConst, IsResultOfPart, named_place}
-use Rattle.relation_contexts.specs.Making.{arg_sort, Fit, over, const_over}
-use Rattle.relation_contexts.proofs.Answering.{same_items, same_settings, AreAnswers, answers_none, answers_next, answers_end, may_over, may_const_over, may_later, if_ok_both}
+use Rattle.relation_semantics.specs.Making.{arg_sort, Fit, over, const_over}
+use Rattle.relation_semantics.proofs.Answering.{same_items, same_settings, AreAnswers, answers_none, answers_next, answers_end, may_over, may_const_over, may_later, if_ok_both}
 use Rattle.type_relations.specs.PredicateForms.{form_of_part}
 use Rattle.type_relations.proofs.PredicateForms.{arg_form, binder_form, made_form}
 use Rattle.type_relations.proofs.Making.{fit_pushed, fit_end, fits_place}
-use Rattle.relation_contexts.proofs.Lists.{firsts, snoc, list_push}
+use Rattle.relation_semantics.proofs.Lists.{firsts, snoc, list_push}
 use Rattle.relation_terms.proofs.Stays.{stays_list, stays_arg}
-use Rattle.relation_contexts.specs.Lawful.{Asked, Related, RelatedForms, Shown, MayAnswer, Stepped, Turned, items_in}
-use Rattle.relation_contexts.proofs.Standing.{term_context}
-use Rattle.relation_contexts.proofs.Parts.{in_parts, in_const_parts}
-use Rattle.relation_contexts.proofs.OneParts.{parts_counted, const_parts_counted}
+use Rattle.relation_semantics.specs.Lawful.{Asked, Related, RelatedForms, Shown, MayAnswer, Stepped, Turned, items_in}
+use Rattle.relation_semantics.proofs.Standing.{term_context}
+use Rattle.relation_semantics.proofs.Parts.{in_parts, in_const_parts}
+use Rattle.relation_semantics.proofs.OneParts.{parts_counted, const_parts_counted}
 use Rattle.type_relations.proofs.Comparing.{parts_of_list, const_parts_list}
 use Rattle.type_relations.proofs.Handing.{AreOfTwoKinds, no_lifetime, no_ty, no_const_arg, HaveAsManyInputs}
-use Rattle.relation_contexts.proofs.Building.{built_again, built_as}
-use Rattle.relation_contexts.proofs.Passing.{asked_later, parts_related, again_related, again_refused, again_shown, noted_related, noted_refused}
-use Rattle.relation_contexts.proofs.Passing.{turned, unlooked, step_done, retold, refused_again, shown_now, as_err}
-use Rattle.relation_contexts.proofs.Registered.{directed_from}
-use Rattle.relation_contexts.specs.Goals.{IsDirected}
-use Rattle.relation_contexts.proofs.Passing.{form_made, forms_met, step_refused}
-use Rattle.relation_contexts.proofs.Leaving.{form_not_left}
+use Rattle.relation_semantics.proofs.Building.{built_again, built_as}
+use Rattle.relation_semantics.proofs.Passing.{asked_later, parts_related, again_related, again_refused, again_shown, noted_related, noted_refused}
+use Rattle.relation_semantics.proofs.Passing.{turned, unlooked, step_done, retold, refused_again, shown_now, as_err}
+use Rattle.relation_semantics.proofs.Registered.{directed_from}
+use Rattle.relation_semantics.specs.Goals.{IsDirected}
+use Rattle.relation_semantics.proofs.Passing.{form_made, forms_met, step_refused}
+use Rattle.relation_semantics.proofs.Leaving.{form_not_left}
 use Rattle.type_relations.proofs.Fronts.{Fronted, fronted_none, fronted_next}
 use Rattle.type_relations.proofs.Structural.{types_related, types_stopped, ty_refused}
 use Rattle.type_relations.proofs.StructuralConsts.{consts_related, consts_stopped, const_refused, itself_related, left_error, right_error, types_differ, consts_differ, kinds_differ}

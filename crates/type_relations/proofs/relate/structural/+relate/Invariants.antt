@@ -2,13 +2,13 @@ use Rattle.std.proofs.Common.{◌≡◌, ◌+◌, ◌*◌}
 use Rattle.relation_terms.specs.Trees.{count, list_tree}
 use Rattle.relation_terms.specs.Meaning.{arg_tree}
 use Rattle.relation_terms.specs.Parts.{part_tree, Fit as PartsFit}
-use Rattle.relation_contexts.specs.Stores.{weight}
-use Rattle.relation_contexts.specs.Measures.{depth}
-use Rattle.relation_contexts.specs.Parts.{parts_of, const_parts_of, head_of, const_head_of}
-use Rattle.relation_contexts.specs.Making.{Fit}
-use Rattle.relation_contexts.proofs.Lists.{firsts}
+use Rattle.relation_semantics.specs.Stores.{weight}
+use Rattle.relation_semantics.specs.Measures.{depth}
+use Rattle.relation_semantics.specs.Parts.{parts_of, const_parts_of, head_of, const_head_of}
+use Rattle.relation_semantics.specs.Making.{Fit}
+use Rattle.relation_semantics.proofs.Lists.{firsts}
 use Rattle.type_relations.proofs.Fronts.{Fronted, AreParts}
-use Rattle.relation_contexts.proofs.Answering.{AreAnswers}
+use Rattle.relation_semantics.proofs.Answering.{AreAnswers}
 use Rattle.type_relations.proofs.Handing.{HaveAsManyInputs}
 use Rattle.type_relations.proofs.relate.structural.+relate.Given as goal
 

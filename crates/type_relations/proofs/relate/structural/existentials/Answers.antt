@@ -3,8 +3,8 @@ use Rattle.relation_terms.specs.Meaning.{existential_tree}
 use Rattle.relation_terms.specs.Parts.{part_tree}
 use Rattle.type_relations.specs.PredicateForms.{predicate_form}
 use Rattle.type_relations.proofs.PredicateForms.{same_form}
-use Rattle.relation_contexts.specs.Lawful.{Related}
-use Rattle.relation_contexts.proofs.Passing.{retold, refused_again, as_err}
+use Rattle.relation_semantics.specs.Lawful.{Related}
+use Rattle.relation_semantics.proofs.Passing.{retold, refused_again, as_err}
 use Rattle.type_relations.proofs.relate.structural.existentials.Goals as goal
 
 pub relate_parts-requires-clause-paired : goal.relate_parts-requires-clause-paired

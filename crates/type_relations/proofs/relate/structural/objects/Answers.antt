@@ -2,8 +2,8 @@ use Rattle.std.proofs.Common.{refl, sym, ap, subst, inr}
 use Rattle.relation_terms.specs.Heads.{object}
 use Rattle.relation_terms.specs.Trees.{node}
 use Rattle.relation_terms.specs.Parts.{part_tree}
-use Rattle.relation_contexts.specs.Lawful.{Related}
-use Rattle.relation_contexts.proofs.Passing.{retold, refused_again, as_err}
+use Rattle.relation_semantics.specs.Lawful.{Related}
+use Rattle.relation_semantics.proofs.Passing.{retold, refused_again, as_err}
 use Rattle.type_relations.proofs.relate.structural.objects.Goals as goal
 
 pub relate_parts-requires-clause-paired : goal.relate_parts-requires-clause-paired

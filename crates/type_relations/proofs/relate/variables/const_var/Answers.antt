@@ -1,9 +1,9 @@
 use Rattle.std.proofs.Common.{◌≡◌, IfSome, IfNone, IsTrue, sym, subst}
 use Rattle.relation_terms.specs.Heads.{const_var, variable}
 use Rattle.relation_terms.specs.Trees.{leaf, known}
-use Rattle.relation_contexts.specs.Relation.{StaysWithin}
-use Rattle.relation_contexts.specs.Parts.{IsFormedConst}
-use Rattle.relation_contexts.proofs.Variables.{some_const_variable, no_const_variable}
+use Rattle.relation_semantics.specs.Relation.{StaysWithin}
+use Rattle.relation_semantics.specs.Parts.{IsFormedConst}
+use Rattle.relation_semantics.proofs.Variables.{some_const_variable, no_const_variable}
 use Rattle.type_relations.proofs.relate.variables.const_var.Goals as goal
 
 pub returns : goal.returns

@@ -1,7 +1,7 @@
 use Rattle.std.proofs.Common.{◌≡◌, ℕ, IfSome, IfNone, subst}
 use Rattle.relation_terms.specs.Heads.{type_var, variable}
 use Rattle.relation_terms.specs.Trees.{leaf}
-use Rattle.relation_contexts.proofs.Variables.{some_variable, no_type_variable}
+use Rattle.relation_semantics.proofs.Variables.{some_variable, no_type_variable}
 use Rattle.type_relations.proofs.relate.variables.ty_var.Goals as goal
 
 pub returns : goal.returns

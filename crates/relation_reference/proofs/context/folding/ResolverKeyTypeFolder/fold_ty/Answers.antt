@@ -2,7 +2,7 @@ use Rattle.std.proofs.Common.{◌∙◌, refl, ap}
 use Rattle.relation_terms.specs.Heads.{type_var, int_var, float_var}
 use Rattle.relation_terms.specs.Meaning.{kind_tree}
 use Rattle.relation_terms.proofs.Stays.{stays_same}
-use Rattle.relation_contexts.specs.Stores.{resolved}
+use Rattle.relation_semantics.specs.Stores.{resolved}
 use Rattle.relation_reference.specs.Tables.{store_of}
 use Rattle.relation_reference.specs.Resolvers.{lawful_stays, values_stay}
 use Rattle.relation_reference.proofs.Folding.{past_table, ty_value}

@@ -1,4 +1,4 @@
-use Rattle.relation_contexts.specs.Binders.{binder_tree}
+use Rattle.relation_semantics.specs.Binders.{binder_tree}
 use Rattle.relation_reference.specs.RefCtxt.{context_in}
 use Rattle.relation_reference.proofs.Binders.{entered_binder}
 use Rattle.relation_reference.proofs.context.infer_ctxt.RefCtxtInferCtxtLike.enter_forall.Goals as goal

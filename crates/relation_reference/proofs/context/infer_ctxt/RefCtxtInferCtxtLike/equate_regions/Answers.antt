@@ -1,4 +1,4 @@
-use Rattle.relation_contexts.specs.Stores.{equal_constraint}
+use Rattle.relation_semantics.specs.Stores.{equal_constraint}
 use Rattle.relation_reference.proofs.Calls.{constrains, stood}
 use Rattle.relation_reference.proofs.context.infer_ctxt.RefCtxtInferCtxtLike.equate_regions.Goals as goal
 

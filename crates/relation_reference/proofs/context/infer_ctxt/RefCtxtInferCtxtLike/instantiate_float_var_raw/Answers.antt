@@ -1,5 +1,5 @@
 use Rattle.relation_terms.specs.Heads.{float_var}
-use Rattle.relation_contexts.specs.NumberValues.{float_value_tree}
+use Rattle.relation_semantics.specs.NumberValues.{float_value_tree}
 use Rattle.relation_reference.proofs.Calls.{number_bound}
 use Rattle.relation_reference.proofs.context.infer_ctxt.RefCtxtInferCtxtLike.instantiate_float_var_raw.Goals as goal
 

@@ -1,5 +1,5 @@
 use Rattle.relation_terms.specs.Heads.{int_var}
-use Rattle.relation_contexts.specs.NumberValues.{int_value_tree}
+use Rattle.relation_semantics.specs.NumberValues.{int_value_tree}
 use Rattle.relation_reference.proofs.Calls.{number_bound}
 use Rattle.relation_reference.proofs.context.infer_ctxt.RefCtxtInferCtxtLike.instantiate_int_var_raw.Goals as goal
 

@@ -1,7 +1,7 @@
 use Rattle.std.proofs.Common.{sym}
 use Rattle.relation_terms.specs.Heads.{region_var, variable}
 use Rattle.relation_terms.specs.Trees.{leaf}
-use Rattle.relation_contexts.specs.Errors.{itself}
+use Rattle.relation_semantics.specs.Errors.{itself}
 use Rattle.relation_reference.proofs.Calls.{read}
 use Rattle.relation_reference.proofs.context.infer_ctxt.RefCtxtInferCtxtLike.opportunistic_resolve_lt_var.Goals as goal
 

@@ -1,5 +1,5 @@
 use Rattle.std.proofs.Common.{ap, sym, subst}
-use Rattle.relation_contexts.specs.Steps.{Taints}
+use Rattle.relation_semantics.specs.Steps.{Taints}
 use Rattle.relation_reference.specs.RefCtxt.{store_in}
 use Rattle.relation_reference.specs.SubRoots.{root_in}
 use Rattle.relation_reference.specs.Tables.{setup_in, store_of}

@@ -1,4 +1,4 @@
-use Rattle.relation_contexts.proofs.Standing.{term_context}
+use Rattle.relation_semantics.proofs.Standing.{term_context}
 use Rattle.relation_reference.specs.Tables.{store_of}
 use Rattle.relation_reference.proofs.context.infer_ctxt.RefCtxtInferCtxtLike.shallow_resolve.Goals as goal
 

@@ -1,4 +1,4 @@
-use Rattle.relation_contexts.specs.Stores.{outlives_constraint}
+use Rattle.relation_semantics.specs.Stores.{outlives_constraint}
 use Rattle.relation_reference.proofs.Calls.{constrains, stood}
 use Rattle.relation_reference.proofs.context.infer_ctxt.RefCtxtInferCtxtLike.sub_regions.Goals as goal
 

@@ -3,7 +3,7 @@ use Rattle.relation_terms.specs.Trees.{size, count, nth}
 use Rattle.relation_terms.specs.Parts.{part_tree, parts_of}
 use Rattle.relation_terms.specs.Interning.{Sorted}
 use Rattle.relation_terms.proofs.Parts.{sort_known}
-use Rattle.relation_contexts.specs.Stores.{InContext}
+use Rattle.relation_semantics.specs.Stores.{InContext}
 use Rattle.relation_reference.specs.Tables.{store_of}
 use Rattle.relation_reference.specs.Remembering.{vid_kind, vid_number}
 use Rattle.relation_reference.proofs.Clearing.{told_clear, told_stops, parts_clear_next, part_stops, whole_clear}

@@ -7,13 +7,13 @@ use Rattle.relation_terms.proofs.Stays.{knows_as, extends_on, stays_same, stays_
 use Rattle.relation_terms.specs.Interning.{Sorted}
 use Rattle.relation_terms.proofs.Parts.{sort_known, stays_part}
 use Rattle.relation_terms.specs.declared.terms.part_kind.Part.TheVariants.{Ty}
-use Rattle.relation_contexts.specs.Lawful.{items_of}
-use Rattle.relation_contexts.proofs.Passing.{as_err}
-use Rattle.relation_contexts.specs.Stores.{InContext}
-use Rattle.relation_contexts.specs.Generalising.{any_part, new_part, variance_of_part, MakesUnbound, makes_none, makes_one}
-use Rattle.relation_contexts.proofs.Generalising.{gives_no_number}
-use Rattle.relation_contexts.proofs.NewVariables.{adds, makes_then}
-use Rattle.relation_contexts.proofs.Lists.{firsts, firsts_more, firsts_all, snoc, list_push, push_known}
+use Rattle.relation_semantics.specs.Lawful.{items_of}
+use Rattle.relation_semantics.proofs.Passing.{as_err}
+use Rattle.relation_semantics.specs.Stores.{InContext}
+use Rattle.relation_semantics.specs.Generalising.{any_part, new_part, variance_of_part, MakesUnbound, makes_none, makes_one}
+use Rattle.relation_semantics.proofs.Generalising.{gives_no_number}
+use Rattle.relation_semantics.proofs.NewVariables.{adds, makes_then}
+use Rattle.relation_semantics.proofs.Lists.{firsts, firsts_more, firsts_all, snoc, list_push, push_known}
 use Rattle.relation_reference.specs.Tables.{store_of}
 use Rattle.relation_reference.specs.Remembering.{vid_kind, vid_number}
 use Rattle.relation_reference.proofs.Recalling.{met_eq, sure_grows}

@@ -2,8 +2,8 @@ use Rattle.std.proofs.Common.{◌≡◌, ◌+◌, ◌*◌, IsTrue}
 use Rattle.relation_terms.specs.Trees.{size, known, list_tree}
 use Rattle.relation_terms.specs.Meaning.{Extends}
 use Rattle.relation_terms.specs.Parts.{part_tree, parts_of, Fit}
-use Rattle.relation_contexts.specs.Generalising.{MakesUnbound}
-use Rattle.relation_contexts.proofs.Lists.{firsts}
+use Rattle.relation_semantics.specs.Generalising.{MakesUnbound}
+use Rattle.relation_semantics.proofs.Lists.{firsts}
 use Rattle.relation_reference.specs.Tables.{store_of, IsLawful}
 use Rattle.relation_reference.specs.Remembering.{vid_kind, vid_number}
 use Rattle.relation_reference.specs.Generalises.{side_of, IsSure, AreClear, MarksFrom}

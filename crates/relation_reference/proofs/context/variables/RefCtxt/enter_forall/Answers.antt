@@ -5,7 +5,7 @@ use Rattle.relation_terms.specs.Meaning.{arg_tree}
 use Rattle.relation_terms.proofs.Stays.{extends_on}
 use Rattle.relation_folds.specs.Shifts.{opened}
 use Rattle.relation_folds.specs.Visits.{bound_var_escapes}
-use Rattle.relation_contexts.specs.Steps.{ChangesNothing}
+use Rattle.relation_semantics.specs.Steps.{ChangesNothing}
 use Rattle.relation_reference.specs.Tables.{store_of}
 use Rattle.relation_reference.specs.RefCtxt.{context_in}
 use Rattle.relation_reference.proofs.Grows.{store_grows, lawful_grows}

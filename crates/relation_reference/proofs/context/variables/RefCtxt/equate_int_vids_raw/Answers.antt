@@ -1,6 +1,6 @@
 use Rattle.std.proofs.Common.{◌≡◌, refl, ap, map, max, min, subst₂, arith}
 use Rattle.relation_terms.specs.Heads.{int_var}
-use Rattle.relation_contexts.specs.Steps.{Equates}
+use Rattle.relation_semantics.specs.Steps.{Equates}
 use Rattle.relation_reference.specs.Tables.{store_of}
 use Rattle.relation_reference.proofs.Beside.{ints_beside}
 use Rattle.relation_reference.proofs.Writing.{linked_entries, link_equates, link_lawful, table_made}

@@ -1,6 +1,6 @@
 use Rattle.std.proofs.Common.{◌≡◌, refl, ap, map, max, min, subst₂, arith}
 use Rattle.relation_terms.specs.Heads.{type_var}
-use Rattle.relation_contexts.specs.Steps.{Equates}
+use Rattle.relation_semantics.specs.Steps.{Equates}
 use Rattle.relation_reference.specs.Tables.{store_of}
 use Rattle.relation_reference.proofs.Beside.{types_beside}
 use Rattle.relation_reference.proofs.SubRoots.{root_there, roots_kept, roots_lawful}

@@ -4,9 +4,9 @@ use Rattle.relation_terms.specs.Meaning.{arg_tree}
 use Rattle.relation_terms.proofs.Members.{if_ok}
 use Rattle.relation_terms.proofs.Stays.{extends_on}
 use Rattle.relation_folds.specs.Shifts.{opened}
-use Rattle.relation_contexts.specs.Generalising.{MakesUnbound}
-use Rattle.relation_contexts.specs.Binders.{kinds_in, MakesEach}
-use Rattle.relation_contexts.proofs.MakingEach.{each_unbound}
+use Rattle.relation_semantics.specs.Generalising.{MakesUnbound}
+use Rattle.relation_semantics.specs.Binders.{kinds_in, MakesEach}
+use Rattle.relation_semantics.proofs.MakingEach.{each_unbound}
 use Rattle.relation_reference.specs.RefCtxt.{store_in, context_in}
 use Rattle.relation_reference.proofs.Grows.{store_grows, lawful_grows}
 use Rattle.relation_reference.proofs.Making.{on_err}

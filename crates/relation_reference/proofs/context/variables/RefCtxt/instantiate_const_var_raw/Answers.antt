@@ -6,10 +6,10 @@ use Rattle.relation_terms.specs.Trees.{known}
 use Rattle.relation_terms.specs.Parts.{part_tree}
 use Rattle.relation_terms.proofs.Stays.{extends_on, knows_as}
 use Rattle.relation_folds.specs.declared.error.TypeError.TheVariants.{CyclicConst}
-use Rattle.relation_contexts.specs.Lawful.{items_of}
-use Rattle.relation_contexts.specs.Generalising.{Stage, outside, any_part, Generalised}
-use Rattle.relation_contexts.proofs.Passing.{as_err}
-use Rattle.relation_contexts.proofs.Standing.{term_context}
+use Rattle.relation_semantics.specs.Lawful.{items_of}
+use Rattle.relation_semantics.specs.Generalising.{Stage, outside, any_part, Generalised}
+use Rattle.relation_semantics.proofs.Passing.{as_err}
+use Rattle.relation_semantics.proofs.Standing.{term_context}
 use Rattle.relation_reference.specs.declared.context.inner.InferCtxtInner.{InferCtxtInner}
 use Rattle.relation_reference.specs.Tables.{setup_in, store_of}
 use Rattle.relation_reference.proofs.Comes.{same_record}

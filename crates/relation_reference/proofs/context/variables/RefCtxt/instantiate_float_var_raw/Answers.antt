@@ -1,5 +1,5 @@
 use Rattle.std.proofs.Common.{refl, arith}
-use Rattle.relation_contexts.specs.NumberValues.{float_value_tree}
+use Rattle.relation_semantics.specs.NumberValues.{float_value_tree}
 use Rattle.relation_reference.proofs.Numbers.{number_in, float_bound, float_bound_lawful}
 use Rattle.relation_reference.proofs.context.variables.RefCtxt.instantiate_float_var_raw.Goals as goal
 

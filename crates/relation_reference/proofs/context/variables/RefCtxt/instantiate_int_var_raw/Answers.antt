@@ -1,5 +1,5 @@
 use Rattle.std.proofs.Common.{refl, arith}
-use Rattle.relation_contexts.specs.NumberValues.{int_value_tree}
+use Rattle.relation_semantics.specs.NumberValues.{int_value_tree}
 use Rattle.relation_reference.proofs.Numbers.{number_in, int_bound, int_bound_lawful}
 use Rattle.relation_reference.proofs.context.variables.RefCtxt.instantiate_int_var_raw.Goals as goal
 

@@ -1,7 +1,7 @@
 use Rattle.std.proofs.Common.{ap, length}
 use Rattle.relation_terms.specs.Heads.{type_var, region_var, const_var}
 use Rattle.relation_terms.specs.Meaning.{bound_kind_of}
-use Rattle.relation_contexts.specs.Binders.{variable_kind}
+use Rattle.relation_semantics.specs.Binders.{variable_kind}
 use Rattle.relation_reference.proofs.Making.{on_err}
 use Rattle.relation_reference.proofs.Binders.{made_one}
 use Rattle.relation_reference.proofs.context.variables.RefCtxt.next_arg_infer.Goals as goal

@@ -4,9 +4,9 @@ use Rattle.std.proofs.lemmas.List.{take_all}
 use Rattle.relation_terms.specs.Trees.{known, list_tree}
 use Rattle.relation_terms.specs.Meaning.{arg_tree, bound_kind_of}
 use Rattle.relation_terms.proofs.Stays.{stays_same, extends_on}
-use Rattle.relation_contexts.specs.Generalising.{MakesUnbound}
-use Rattle.relation_contexts.specs.Binders.{kinds_in, MakesEach}
-use Rattle.relation_contexts.proofs.MakingEach.{each_unbound}
+use Rattle.relation_semantics.specs.Generalising.{MakesUnbound}
+use Rattle.relation_semantics.specs.Binders.{kinds_in, MakesEach}
+use Rattle.relation_semantics.proofs.MakingEach.{each_unbound}
 use Rattle.relation_reference.specs.RefCtxt.{store_in, context_in}
 use Rattle.relation_reference.proofs.Making.{on_err}
 use Rattle.relation_reference.proofs.Binders.{each_none, each_next, args_next, args_known, rest_itself, rest_on}

@@ -1,6 +1,6 @@
 use Rattle.std.proofs.Common.{◌≡◌, ◌<◌, ap, subst, length, arith}
 use Rattle.relation_terms.specs.Heads.{type_var}
-use Rattle.relation_contexts.specs.ContextCalls.{JoinsRoots}
+use Rattle.relation_semantics.specs.ContextCalls.{JoinsRoots}
 use Rattle.relation_reference.specs.SubRoots.{root_in}
 use Rattle.relation_reference.proofs.Making.{on_err}
 use Rattle.relation_reference.proofs.Marking.{marks_kept, made_new, joined_marks, joined_root}

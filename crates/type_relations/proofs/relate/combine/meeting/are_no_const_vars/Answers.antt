@@ -1,4 +1,4 @@
-use Rattle.relation_contexts.proofs.Standing.{term_within}
+use Rattle.relation_semantics.proofs.Standing.{term_within}
 use Rattle.type_relations.proofs.relate.combine.meeting.are_no_const_vars.Goals as goal
 
 pub returns-clause-none : goal.returns-clause-none

@@ -1,10 +1,10 @@
 use Rattle.std.proofs.Common.{refl, subst}
 use Rattle.relation_terms.specs.Heads.{const_var}
 use Rattle.type_relations.specs.Combining.{roots_equated, left_root_bound, left_root_refused, right_root_bound, right_root_refused, formed_by_parts}
-use Rattle.relation_contexts.specs.Parts.{IsFormedConst}
+use Rattle.relation_semantics.specs.Parts.{IsFormedConst}
 use Rattle.type_relations.proofs.OverContext.{stands_grows}
-use Rattle.relation_contexts.proofs.Passing.{as_err}
-use Rattle.relation_contexts.proofs.Standing.{term_within}
+use Rattle.relation_semantics.proofs.Passing.{as_err}
+use Rattle.relation_semantics.proofs.Standing.{term_within}
 use Rattle.type_relations.proofs.Shallowly.{shallow_free_const, variable_made}
 use Rattle.type_relations.proofs.relate.combine.meeting.meet_consts.Goals as goal
 

@@ -1,6 +1,6 @@
 use Rattle.std.proofs.Common.{ap}
 use Rattle.relation_terms.specs.Meaning.{existential_tree}
-use Rattle.relation_contexts.specs.Errors.{both_traits, both_projections, both_auto_traits}
+use Rattle.relation_semantics.specs.Errors.{both_traits, both_projections, both_auto_traits}
 use Rattle.type_relations.proofs.PartErrors.{not_trait, not_projection, not_auto}
 use Rattle.type_relations.proofs.relate.comparing.bodies.are_alike_existentials.Goals as goal
 

@@ -3,7 +3,7 @@ use Rattle.relation_terms.specs.Heads.{existential_auto, atom}
 use Rattle.relation_terms.specs.Trees.{leaf, count}
 use Rattle.relation_terms.specs.Meaning.{existential_tree, arg_tree}
 use Rattle.relation_folds.specs.declared.error.TypeError.TheVariants.{Traits, ProjectionMismatched}
-use Rattle.relation_contexts.specs.Errors.{one_leaf}
+use Rattle.relation_semantics.specs.Errors.{one_leaf}
 use Rattle.relation_terms.proofs.Members.{list_count}
 use Rattle.type_relations.proofs.PartErrors.{not_trait, not_projection, not_auto, unlike_predicates}
 use Rattle.type_relations.proofs.ComparingParts.{traits_differ, traits_alike, traits_unlike, projections_differ}

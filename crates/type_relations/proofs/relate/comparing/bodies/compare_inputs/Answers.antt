@@ -1,7 +1,7 @@
 use Rattle.std.proofs.Common.{refl, length}
 use Rattle.relation_terms.specs.Trees.{front, count}
 use Rattle.relation_terms.proofs.Binders.{front_known}
-use Rattle.relation_contexts.specs.Errors.{over_parts, unlike_counts}
+use Rattle.relation_semantics.specs.Errors.{over_parts, unlike_counts}
 use Rattle.type_relations.proofs.ComparingParts.{inputs_counted, less_one, more_one}
 use Rattle.type_relations.proofs.relate.comparing.bodies.compare_inputs.Goals as goal
 

@@ -2,8 +2,8 @@ use Rattle.std.proofs.Common.{◌<◌, ◌∙◌, refl, sym, ap, ap₂, subst, s
 use Rattle.relation_terms.specs.Trees.{known, count, nth}
 use Rattle.relation_terms.specs.Parts.{part_tree}
 use Rattle.relation_folds.specs.declared.error.TypeError.TheVariants.{ExistentialMismatch}
-use Rattle.relation_contexts.specs.Errors.{object_error, AreAlikeMembers}
-use Rattle.relation_contexts.specs.Parts.{parts_of}
+use Rattle.relation_semantics.specs.Errors.{object_error, AreAlikeMembers}
+use Rattle.relation_semantics.specs.Parts.{parts_of}
 use Rattle.type_relations.proofs.ComparingParts.{no_object, members_at, members_differ, member_below, member_within}
 use Rattle.type_relations.proofs.relate.comparing.bodies.compare_members.Goals as goal
 

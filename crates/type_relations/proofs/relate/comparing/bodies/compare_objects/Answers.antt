@@ -2,7 +2,7 @@ use Rattle.std.proofs.Common.{refl, sym, ap, ap₂, ◌∙◌}
 use Rattle.relation_terms.specs.Trees.{count}
 use Rattle.relation_terms.specs.Meaning.{object_predicate_tree}
 use Rattle.relation_folds.specs.declared.error.TypeError.TheVariants.{ExistentialMismatch}
-use Rattle.relation_contexts.specs.Errors.{over_parts}
+use Rattle.relation_semantics.specs.Errors.{over_parts}
 use Rattle.relation_terms.proofs.Members.{list_count}
 use Rattle.type_relations.proofs.ComparingParts.{numbers_differ}
 use Rattle.type_relations.proofs.relate.comparing.bodies.compare_objects.Goals as goal

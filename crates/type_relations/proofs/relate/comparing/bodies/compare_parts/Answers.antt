@@ -3,8 +3,8 @@ use Rattle.relation_terms.specs.Heads.{inputs, object}
 use Rattle.relation_terms.specs.Trees.{known, node, front}
 use Rattle.relation_terms.specs.Meaning.{signature_tree, existential_tree}
 use Rattle.relation_terms.specs.Parts.{part_tree, part_sort}
-use Rattle.relation_contexts.specs.Errors.{PatternError, SignatureError, ExistentialError, ObjectError}
-use Rattle.relation_contexts.specs.Errors.{pattern_error, signature_error, existential_error, object_error}
+use Rattle.relation_semantics.specs.Errors.{PatternError, SignatureError, ExistentialError, ObjectError}
+use Rattle.relation_semantics.specs.Errors.{pattern_error, signature_error, existential_error, object_error}
 use Rattle.type_relations.proofs.ComparingParts.{compared, not_compared}
 use Rattle.type_relations.proofs.relate.comparing.bodies.compare_parts.Goals as goal
 

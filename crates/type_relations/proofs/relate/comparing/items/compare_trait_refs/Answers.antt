@@ -4,7 +4,7 @@ use Rattle.relation_terms.specs.Trees.{count}
 use Rattle.relation_terms.specs.Meaning.{arg_tree}
 use Rattle.relation_terms.specs.Predicates.{trait_ref_tree}
 use Rattle.relation_folds.specs.declared.error.TypeError.TheVariants.{Traits}
-use Rattle.relation_contexts.specs.Errors.{ItemError, unlike_trait_refs, unlike_lists}
+use Rattle.relation_semantics.specs.Errors.{ItemError, unlike_trait_refs, unlike_lists}
 use Rattle.relation_terms.proofs.Members.{list_count}
 use Rattle.type_relations.proofs.relate.comparing.items.compare_trait_refs.Goals as goal
 

@@ -6,11 +6,11 @@ use Rattle.relation_terms.specs.declared.terms.generic_arg.TermKind.TheVariants.
 use Rattle.relation_terms.specs.Interning.{Sorted}
 use Rattle.relation_folds.specs.declared.error.TypeError.TheVariants.{Mismatch}
 use Rattle.relation_folds.specs.declared.error.RelateFault.TheVariants.{Unrelated}
-use Rattle.relation_contexts.specs.Lawful.{Asked, Related}
-use Rattle.relation_contexts.specs.Relation.{sort_of}
+use Rattle.relation_semantics.specs.Lawful.{Asked, Related}
+use Rattle.relation_semantics.specs.Relation.{sort_of}
 use Rattle.relation_terms.specs.Heads.{type_sort}
 use Rattle.type_relations.specs.Alone.{RelatesAlone}
-use Rattle.relation_contexts.proofs.Passing.{retold, refused_again, as_err}
+use Rattle.relation_semantics.proofs.Passing.{retold, refused_again, as_err}
 use Rattle.type_relations.proofs.Alone.{left_none, right_none, const_none, refused_told}
 use Rattle.type_relations.proofs.StructuralConsts.{kinds_differ}
 use Rattle.type_relations.proofs.Relatable.{else_const, else_ty}

@@ -4,8 +4,8 @@ use Rattle.relation_terms.specs.Trees.{node}
 use Rattle.relation_terms.specs.Interning.{Sorted}
 use Rattle.relation_terms.specs.Predicates.{alias_term_kind, alias_term_id, alias_term_tree}
 use Rattle.relation_folds.specs.declared.error.RelateFault.TheVariants.{Unrelated}
-use Rattle.relation_contexts.specs.Lawful.{Related}
-use Rattle.relation_contexts.proofs.Passing.{as_err, refused_again, retold}
+use Rattle.relation_semantics.specs.Lawful.{Related}
+use Rattle.relation_semantics.proofs.Passing.{as_err, refused_again, retold}
 use Rattle.type_relations.proofs.Arguments.{are_list}
 use Rattle.type_relations.proofs.Items.{items_differ, asked_over}
 use Rattle.type_relations.proofs.relate.relatable.predicates.alias_terms.Goals as goal

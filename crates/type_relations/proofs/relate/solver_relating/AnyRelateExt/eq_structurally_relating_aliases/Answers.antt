@@ -1,7 +1,7 @@
 use Rattle.std.proofs.Common.{sym, subst}
 use Rattle.term_enums.specs.declared.Variance.TheVariants.{Invariant}
 use Rattle.relation_terms.specs.Interning.{Sorted}
-use Rattle.relation_contexts.specs.declared.relate.StructurallyRelateAliases.TheVariants.{Yes}
+use Rattle.relation_semantics.specs.declared.relate.StructurallyRelateAliases.TheVariants.{Yes}
 use Rattle.type_relations.proofs.Completing.{completes}
 use Rattle.type_relations.proofs.relate.solver_relating.AnyRelateExt.eq_structurally_relating_aliases.Goals as goal
 

@@ -1,9 +1,9 @@
 use Rattle.std.proofs.Common.{◌≡◌, sym, subst, subst₂, refl, Some, None, Ok, Err}
 use Rattle.relation_terms.proofs.Stays.{extends_on}
-use Rattle.relation_contexts.specs.Binders.{binder_tree}
-use Rattle.relation_contexts.specs.Lawful.{Related}
+use Rattle.relation_semantics.specs.Binders.{binder_tree}
+use Rattle.relation_semantics.specs.Lawful.{Related}
 use Rattle.type_relations.specs.Rounds.{Opened}
-use Rattle.relation_contexts.proofs.Passing.{as_err}
+use Rattle.relation_semantics.proofs.Passing.{as_err}
 use Rattle.type_relations.proofs.RelatableForms.{equal_binders, stays_binder, still_asked, related_bodies}
 use Rattle.type_relations.proofs.Rounds.{under_known, opening_refused, first_refused, first_done, reopening_refused, nothing_left}
 use Rattle.type_relations.proofs.Rounds.{second_refused, second_related}

@@ -2,8 +2,8 @@ use Rattle.std.proofs.Common.{refl, sym, ◌∙◌, subst, subst₂, Ok, Err}
 use Rattle.relation_terms.specs.declared.terms.alias.AliasTy.{AliasTy}
 use Rattle.relation_terms.specs.Predicates.{alias_term_tree}
 use Rattle.relation_folds.specs.Aliases.{alias_ty_tree}
-use Rattle.relation_contexts.specs.Lawful.{Asked, Related}
-use Rattle.relation_contexts.proofs.Passing.{as_err, refused_again, retold}
+use Rattle.relation_semantics.specs.Lawful.{Asked, Related}
+use Rattle.relation_semantics.proofs.Passing.{as_err, refused_again, retold}
 use Rattle.type_relations.proofs.Items.{type_as_term}
 use Rattle.type_relations.proofs.relate.relatable.predicates.AliasTyKeyIdRelate.relate.Goals as goal
 

@@ -6,8 +6,8 @@ use Rattle.relation_terms.specs.Predicates.{clause_kind_tree, trait_ref_tree}
 use Rattle.relation_terms.specs.Trees.{known}
 use Rattle.relation_folds.specs.declared.error.TypeError.TheVariants.{PolarityMismatch}
 use Rattle.relation_folds.specs.declared.error.RelateFault.TheVariants.{Unrelated}
-use Rattle.relation_contexts.specs.Lawful.{Related}
-use Rattle.relation_contexts.proofs.Passing.{as_err}
+use Rattle.relation_semantics.specs.Lawful.{Related}
+use Rattle.relation_semantics.proofs.Passing.{as_err}
 use Rattle.type_relations.proofs.Items.{are_parts, part_asked, clause_refused, clause_unlike, clause_related}
 use Rattle.type_relations.proofs.relate.relatable.predicates.TraitPredicateKeyIdRelate.relate.Goals as goal
 

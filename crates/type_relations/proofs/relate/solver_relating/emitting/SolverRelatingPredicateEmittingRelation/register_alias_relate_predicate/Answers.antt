@@ -1,6 +1,6 @@
 use Rattle.std.proofs.Common.{refl, sym, subst, IfSome}
 use Rattle.relation_terms.specs.declared.terms.interner.OutOfMemory.{OutOfMemory}
-use Rattle.relation_contexts.specs.AliasGoals.{alias_at}
+use Rattle.relation_semantics.specs.AliasGoals.{alias_at}
 use Rattle.type_relations.specs.Emitting.{RegistersGoal}
 use Rattle.type_relations.specs.Solving.{solving_through}
 use Rattle.type_relations.proofs.Registering.{same_later, if_some, alias_known}

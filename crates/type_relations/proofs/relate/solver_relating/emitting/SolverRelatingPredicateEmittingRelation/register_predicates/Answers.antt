@@ -1,6 +1,6 @@
 use Rattle.std.proofs.Common.{sym, ap, ◌∙◌, subst, All}
 use Rattle.type_relations.specs.Emitting.{AddsGoals}
-use Rattle.relation_contexts.specs.Goals.{KnowsGoal, goals_of}
+use Rattle.relation_semantics.specs.Goals.{KnowsGoal, goals_of}
 use Rattle.type_relations.specs.Solving.{solving_through}
 use Rattle.type_relations.proofs.Emitting.{known_goals, goals_mean}
 use Rattle.type_relations.proofs.relate.solver_relating.emitting.SolverRelatingPredicateEmittingRelation.register_predicates.Goals as goal

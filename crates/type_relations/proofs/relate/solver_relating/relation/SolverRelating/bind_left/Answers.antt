@@ -5,12 +5,12 @@ use Rattle.relation_terms.specs.Heads.{type_var, variable}
 use Rattle.relation_terms.specs.Trees.{leaf, known}
 use Rattle.relation_folds.specs.declared.error.TypeError.TheVariants.{CyclicTy}
 use Rattle.relation_folds.specs.declared.error.RelateFault.TheVariants.{Memory}
-use Rattle.relation_contexts.specs.declared.relate.Step.TheVariants.{Done, Again}
-use Rattle.relation_contexts.specs.AliasGoals.{alias_at}
-use Rattle.relation_contexts.specs.Parts.{IsFormed}
-use Rattle.relation_contexts.specs.Lawful.{Stepped, items_of}
-use Rattle.relation_contexts.proofs.Passing.{as_err}
-use Rattle.relation_contexts.proofs.Registered.{goals_stay}
+use Rattle.relation_semantics.specs.declared.relate.Step.TheVariants.{Done, Again}
+use Rattle.relation_semantics.specs.AliasGoals.{alias_at}
+use Rattle.relation_semantics.specs.Parts.{IsFormed}
+use Rattle.relation_semantics.specs.Lawful.{Stepped, items_of}
+use Rattle.relation_semantics.proofs.Passing.{as_err}
+use Rattle.relation_semantics.proofs.Registered.{goals_stay}
 use Rattle.type_relations.specs.Emitting.{RegistersGoal}
 use Rattle.type_relations.specs.Solving.{held_by, solving, solving_through, solver_manner, KnowsGoals}
 use Rattle.type_relations.specs.Stepping.{left_bound, left_asked, left_unasked, left_refused as left_not_bound}

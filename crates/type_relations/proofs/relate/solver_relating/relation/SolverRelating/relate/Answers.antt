@@ -1,5 +1,5 @@
 use Rattle.std.proofs.Common.{ap}
-use Rattle.relation_contexts.proofs.Answering.{same_environment}
+use Rattle.relation_semantics.proofs.Answering.{same_environment}
 use Rattle.type_relations.specs.Relating.{term_in}
 use Rattle.type_relations.specs.Solving.{held_by}
 use Rattle.type_relations.proofs.Solving.{as_before}

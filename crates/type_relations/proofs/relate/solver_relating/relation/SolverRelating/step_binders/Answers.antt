@@ -4,14 +4,14 @@ use Rattle.std.proofs.lemmas.Grind.{common_steps}
 use Rattle.type_relations.proofs.OverContext.{grows_itself}
 use Rattle.relation_folds.specs.Visits.{bound_var_escapes}
 use Rattle.relation_folds.specs.declared.error.RelateFault.TheVariants.{Memory}
-use Rattle.relation_contexts.specs.Binders.{binder_tree}
-use Rattle.relation_contexts.proofs.Passing.{as_err}
+use Rattle.relation_semantics.specs.Binders.{binder_tree}
+use Rattle.relation_semantics.proofs.Passing.{as_err}
 use Rattle.type_relations.specs.Solving.{solving_through}
 use Rattle.type_relations.proofs.Rounds.{under_built}
-use Rattle.relation_contexts.proofs.Bound.{outermost_binds}
+use Rattle.relation_semantics.proofs.Bound.{outermost_binds}
 use Rattle.type_relations.proofs.SolvingBinders.{opens_neither, opening_refused, opens_second}
 use Rattle.type_relations.proofs.SolvingBinders.{opens_first, opens_none, no_more}
-use Rattle.relation_contexts.proofs.Registered.{goals_stay}
+use Rattle.relation_semantics.proofs.Registered.{goals_stay}
 use Rattle.type_relations.specs.Stepping.{as_they_stand, right_entered, right_not_entered, left_entered}
 use Rattle.type_relations.specs.Stepping.{left_not_entered, none_left}
 use Rattle.type_relations.proofs.Stepping.{leaves_itself, opens_seen}

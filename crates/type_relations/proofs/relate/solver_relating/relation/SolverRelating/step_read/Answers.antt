@@ -1,10 +1,10 @@
 use Rattle.std.proofs.Common.{refl, sym, subst, Ok, Err}
 use Rattle.relation_folds.specs.declared.error.RelateFault.TheVariants.{Memory}
-use Rattle.relation_contexts.specs.declared.relate.Step.TheVariants.{Done}
-use Rattle.relation_contexts.specs.Parts.{IsFormed}
-use Rattle.relation_contexts.specs.Lawful.{Stepped}
-use Rattle.relation_contexts.proofs.Passing.{as_err}
-use Rattle.relation_contexts.proofs.Remembering.{step_remembering, step_not_remembered}
+use Rattle.relation_semantics.specs.declared.relate.Step.TheVariants.{Done}
+use Rattle.relation_semantics.specs.Parts.{IsFormed}
+use Rattle.relation_semantics.specs.Lawful.{Stepped}
+use Rattle.relation_semantics.proofs.Passing.{as_err}
+use Rattle.relation_semantics.proofs.Remembering.{step_remembering, step_not_remembered}
 use Rattle.type_relations.specs.Solving.{solving_through, solver_manner}
 use Rattle.type_relations.specs.Keyed.{SteppedTys}
 use Rattle.type_relations.specs.Stepping.{CombinesShallowTys, met_again, combined, not_remembered}

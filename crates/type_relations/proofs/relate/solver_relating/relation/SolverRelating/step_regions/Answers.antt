@@ -1,8 +1,8 @@
 use Rattle.std.proofs.Common.{refl, ap}
 use Rattle.relation_folds.specs.declared.error.RelateFault.TheVariants.{Memory}
-use Rattle.relation_contexts.proofs.Passing.{as_err}
+use Rattle.relation_semantics.proofs.Passing.{as_err}
 use Rattle.type_relations.proofs.Solving.{held_stands, regions_recorded, memory_refused, region_sorted}
-use Rattle.relation_contexts.specs.Goals.{goals_of}
+use Rattle.relation_semantics.specs.Goals.{goals_of}
 use Rattle.type_relations.specs.Stepping.{constraint_refused}
 use Rattle.type_relations.proofs.Stepping.{regions_step}
 use Rattle.type_relations.proofs.relate.solver_relating.relation.SolverRelating.step_regions.Goals as goal

@@ -1,15 +1,15 @@
 use Rattle.std.proofs.Common.{◌≡◌, refl, sym, ◌∙◌, subst, Ok, IsTrue}
 use Rattle.std.proofs.lemmas.Bool.{false≢true}
 use Rattle.relation_terms.specs.Trees.{known}
-use Rattle.relation_contexts.specs.Parts.{IsFormed}
-use Rattle.relation_contexts.specs.Resolving.{formed}
+use Rattle.relation_semantics.specs.Parts.{IsFormed}
+use Rattle.relation_semantics.specs.Resolving.{formed}
 use Rattle.type_relations.specs.Solving.{solving_through, solver_manner}
 use Rattle.type_relations.proofs.StructuralConsts.{itself_related}
-use Rattle.relation_contexts.proofs.Standing.{term_within}
+use Rattle.relation_semantics.proofs.Standing.{term_within}
 use Rattle.type_relations.proofs.Shallowly.{read_step}
 use Rattle.type_relations.proofs.OverContext.{all_taken, read_by_lists}
 use Rattle.type_relations.proofs.Solving.{held_kept, answered_step, one_ty}
-use Rattle.relation_contexts.specs.declared.relate.Step.TheVariants.{Done}
+use Rattle.relation_semantics.specs.declared.relate.Step.TheVariants.{Done}
 use Rattle.type_relations.proofs.Alone.{step_of_one, steps_alone}
 use Rattle.type_relations.specs.Stepping.{one_type, without_variables, resolved_first}
 use Rattle.type_relations.proofs.Recalling.{read_told, unless_variables}

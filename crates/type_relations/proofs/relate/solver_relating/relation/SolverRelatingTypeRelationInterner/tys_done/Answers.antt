@@ -1,8 +1,8 @@
 use Rattle.std.proofs.Common.{sym, subst}
 use Rattle.relation_folds.specs.declared.error.RelateFault.TheVariants.{Memory}
-use Rattle.relation_contexts.specs.Lawful.{OnlyMemory}
-use Rattle.relation_contexts.proofs.Passing.{as_err}
-use Rattle.relation_contexts.proofs.Remembering.{noted_remembering}
+use Rattle.relation_semantics.specs.Lawful.{OnlyMemory}
+use Rattle.relation_semantics.proofs.Passing.{as_err}
+use Rattle.relation_semantics.proofs.Remembering.{noted_remembering}
 use Rattle.type_relations.specs.Solving.{solving_through, solver_manner}
 use Rattle.type_relations.proofs.Recalling.{noted_pair}
 use Rattle.type_relations.proofs.Solving.{ty_sorted}

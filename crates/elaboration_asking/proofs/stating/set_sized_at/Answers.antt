@@ -1,9 +1,0 @@
-use Rattle.elaboration_asking.proofs.PutLemmas.{keeps_sized}
-use Rattle.elaboration_asking.proofs.SaidLemmas.{same_stay}
-use Rattle.elaboration_asking.proofs.stating.set_sized_at.Goals as goal
-
-pub returns-clause-stays : goal.returns-clause-stays
-returns-clause-stays c = same_stay c.set_sized.ensures.terms
-
-pub returns-clause-keeps : goal.returns-clause-keeps
-returns-clause-keeps c = keeps_sized c.args.cx.now c.set_sized.new.self _ c.set_sized.ensures.recorded

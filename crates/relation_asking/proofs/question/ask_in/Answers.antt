@@ -1,6 +1,0 @@
-use Rattle.relation_asking.proofs.AskingLemmas.{ready_stays}
-use Rattle.relation_asking.proofs.question.ask_in.Goals as goal
-
-pub ask-requires-clause-ready : goal.ask-requires-clause-ready
-ask-requires-clause-ready g c =
-    ready_stays c.have_all_stated.ensures.grown c.args.terms.now.built.now c.args.terms.now.needs.now c.requires.ready

@@ -1,4 +1,0 @@
-use Rattle.relation_asking.proofs.question.term_of.Goals as goal
-
-pub returns-in-Some : goal.returns-in-Some
-returns-in-Some g c = λ m ready. (ready c.args.number c.in-Some.key c.in-Some.ensures).0

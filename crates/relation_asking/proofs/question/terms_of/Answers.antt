@@ -1,6 +1,0 @@
-use Rattle.relation_asking.proofs.AskingLemmas.{keys_known}
-use Rattle.relation_asking.proofs.question.terms_of.Goals as goal
-
-pub returns-in-Some : goal.returns-in-Some
-returns-in-Some g c = λ m ready. keys_known m c.args.terms.now.built.now c.args.terms.now.needs.now ready _
-    c.in-Some.keys.items c.in-Some.ensures

@@ -1,4 +1,0 @@
-use Rattle.relation_asking.proofs.visiting.write_met.Given as goal
-
-abbrev pub invariant-loop-place : goal.invariant-loop-place
-invariant-loop-place g l = Unit {0}

@@ -1,4 +1,0 @@
-use Rattle.relation_asking.proofs.walking.write_walked.Given as goal
-
-abbrev pub invariant-loop-term : goal.invariant-loop-term
-invariant-loop-term g l = Unit {0}

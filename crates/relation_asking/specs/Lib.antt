@@ -1,9 +1,0 @@
-pub mod Outlives
-pub mod Asking
-pub mod Args
-pub mod Meets
-pub mod Puts
-pub mod Skips
-pub mod Roots
-pub use Rattle.relation_needs.specs.Binding
-pub use Rattle.relation_needs.specs.Needs

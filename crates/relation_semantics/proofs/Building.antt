@@ -1,0 +1,360 @@
+-- What terms and bindings are built of, step after step.
+use Rattle.std.proofs.Common.{◌≡◌, ◌⊎◌, ℕ, zero, suc, refl, sym, ap, ap₂, ◌∙◌, inl, inr, subst, Bool, true, false}
+use Rattle.std.proofs.Common.{List, [], ◌∷◌, ◌++◌, All, IsTrue, Option, Some, None, get_or, nat_eq, cond}
+use Rattle.std.proofs.lemmas.Bool.{false≢true}
+use Rattle.std.proofs.lemmas.List.Elements.{All-nil, All-append}
+use Rattle.term_enums.specs.declared.Variance.{Variance}
+use Rattle.relation_terms.specs.Heads.{BoundKind, VarKind, variable, bound, placeholder, atom, unknown}
+use Rattle.relation_terms.specs.Heads.{value, value_branch, unevaluated, expression}
+use Rattle.relation_terms.specs.Trees.{Tree, leaf, node, bind, nil, cons, nth, Assign, apply, tree_at, inst}
+use Rattle.relation_semantics.specs.Stores.{Store, Entry, unbound, same_as, bound_to, entry_of, entry_term, bound_term}
+use Rattle.relation_semantics.specs.Stores.{through, resolve, resolved}
+use Rattle.relation_semantics.specs.Goals.{Goal}
+use Rattle.relation_semantics.specs.Errors.{IsReadAs, itself, by_class, by_binding, IsStandIn, StandFor}
+use Rattle.relation_semantics.specs.Generalising.{MakesUnbound, makes_none, makes_one}
+use Rattle.relation_semantics.specs.Parts.{parts_of, branches_of, const_parts_of}
+use Rattle.relation_semantics.specs.Steps.{HasNoBinder, BindsNoBinder, WritesEntry, StandsBeside, as_it_was, led_on}
+use Rattle.relation_semantics.specs.Steps.{Equates, InstantiatesNumber, Instantiates, ChangesNothing, Taints}
+use Rattle.relation_semantics.specs.Steps.{IsGeneralised, kept, replaced, in_form, in_binder, in_list}
+use Rattle.relation_semantics.specs.Kits.{Kit, IsBuiltOf, BindsBuiltOf, IsGoalOf, HasNoError, Builds, StaysBuilt, BuiltFrom}
+use Rattle.relation_semantics.proofs.Only.{which}
+use Rattle.relation_semantics.proofs.Growing.{same_entries}
+
+-- The kit of all but binders: what is built of it has none.
+pub all_but_binders : Kit
+all_but_binders = record { heads = λ h. true; atoms = λ x. true; binders = false }
+
+pub plain_built : (t : Tree) → HasNoBinder t → IsBuiltOf all_but_binders t
+unfolding all_but_binders
+plain_built (leaf (variable k n)) h = tt
+plain_built (leaf (bound k d i)) h = tt
+plain_built (leaf (placeholder k u n)) h = tt
+plain_built (leaf (atom x)) h = refl
+plain_built (leaf unknown) h = tt
+plain_built (node a t) h = (refl, plain_built t h)
+plain_built (bind ks t) h = absurd h
+plain_built nil h = tt
+plain_built (cons t u) h = (plain_built t h.0, plain_built u h.1)
+
+pub built_plain : (t : Tree) → IsBuiltOf all_but_binders t → HasNoBinder t
+unfolding all_but_binders
+built_plain (leaf l) h = tt
+built_plain (node a t) h = built_plain t h.1
+built_plain (bind ks t) h = absurd (false≢true h.0)
+built_plain nil h = tt
+built_plain (cons t u) h = (built_plain t h.0, built_plain u h.1)
+
+pub plain_binds : (st : Store) → BindsNoBinder st → BindsBuiltOf all_but_binders st
+plain_binds st all k n t e = plain_built t (all k n t e)
+
+-- So where no binder stands in two terms and what is bound, none stands in what they lead to.
+pub no_binder_from : (st : Store) (a b x y : Tree) → BuiltFrom st a b x y → BindsNoBinder st → HasNoBinder a →
+    HasNoBinder b → HasNoBinder x × HasNoBinder y
+no_binder_from st a b x y f all ha hb =
+    let z = f all_but_binders (plain_built a ha) (plain_built b hb) (plain_binds st all) in
+    (built_plain x z.0, built_plain y z.1)
+
+-- Parts are built of what the whole is.
+pub built_nth : (k : Kit) (i : ℕ) (ts : Tree) → IsBuiltOf k ts → IsBuiltOf k (nth i ts)
+built_nth k zero (cons t ts) h = h.0
+built_nth k (suc i) (cons t ts) h = built_nth k i ts h.1
+built_nth k i ts h = tt
+
+pub built_parts : (k : Kit) (t : Tree) → IsBuiltOf k t → IsBuiltOf k (parts_of t)
+built_parts k (node h ts) f = f.1
+built_parts k t f = tt
+
+built_branches : (k : Kit) (t : Tree) → IsBuiltOf k t → IsBuiltOf k (branches_of t)
+built_branches k (node value_branch ts) f = f.1
+built_branches k t f = tt
+
+pub built_const_parts : (k : Kit) (t : Tree) → IsBuiltOf k t → IsBuiltOf k (const_parts_of t)
+built_const_parts k (node (unevaluated d) ts) f = f.1
+built_const_parts k (node (expression j) ts) f = f.1
+built_const_parts k (node value (cons t (cons v nil))) f = built_branches k v f.1.1.0
+built_const_parts k t f = tt
+
+-- What a term is read as is built of what it and the bindings are.
+pub built_read : (k : Kit) (st : Store) → BindsBuiltOf k st → (a u : Tree) → IsReadAs st a u → IsBuiltOf k a →
+    IsBuiltOf k u
+built_read k st all a u (itself e) h = subst (IsBuiltOf k) e h
+built_read k st all a u (by_class j n m e c r) h = built_read k st all (leaf (variable j m)) u r tt
+built_read k st all a u (by_binding {u = x} j n e b r) h = built_read k st all x u r (all j n x b)
+
+pub read_from : (st : Store) (a b x y : Tree) → IsReadAs st a x → IsReadAs st b y → BuiltFrom st a b x y
+read_from st a b x y p q = λ k ha hb all. (built_read k st all a x p ha, built_read k st all b y q hb)
+
+-- So is what is read as another, and what two terms stand for by another name.
+pub built_again : (st : Store) (a b : Tree) {x y t u : Tree} → BuiltFrom st a b x y → t ≡ x → u ≡ y →
+    BuiltFrom st a b t u
+built_again st a b f e d = λ k ha hb all.
+    let z = f k ha hb all in (subst (IsBuiltOf k) (sym e) z.0, subst (IsBuiltOf k) (sym d) z.1)
+
+pub built_as : (st : Store) {a b t u : Tree} → t ≡ a → u ≡ b → BuiltFrom st a b t u
+built_as st {a} {b} e d = built_again st a b (λ k ha hb all. (ha, hb)) e d
+
+-- So is what a term comes to.
+apply_built : (k : Kit) (s : Assign) → ((j : VarKind) (n : ℕ) → IsBuiltOf k (s j n)) → (t : Tree) → IsBuiltOf k t →
+    IsBuiltOf k (apply s t)
+apply_built k s f (leaf (variable j n)) h = f j n
+apply_built k s f (leaf (bound j d i)) h = tt
+apply_built k s f (leaf (placeholder j u n)) h = tt
+apply_built k s f (leaf (atom x)) h = h
+apply_built k s f (leaf unknown) h = tt
+apply_built k s f (node a t) h = (h.0, apply_built k s f t h.1)
+apply_built k s f (bind ks t) h = (h.0, apply_built k s f t h.1)
+apply_built k s f nil h = tt
+apply_built k s f (cons t u) h = (apply_built k s f t h.0, apply_built k s f u h.1)
+
+abbrev IsBuiltIfAny : Kit → Option Tree → Type 0
+IsBuiltIfAny k None = Unit {0}
+IsBuiltIfAny k (Some t) = IsBuiltOf k t
+
+entry_built : (k : Kit) (st : Store) → BindsBuiltOf k st → (j : VarKind) (n : ℕ) → IsBuiltIfAny k (bound_term st j n)
+entry_built k st all j n = go (entry_of st j n) refl
+  where
+    go : (x : Entry) → entry_of st j n ≡ x → IsBuiltIfAny k (entry_term j x)
+    go unbound e = tt
+    go (same_as m) e = tt
+    go (bound_to t) e = all j n t e
+
+through_built : (k : Kit) (s : Assign) → ((j : VarKind) (n : ℕ) → IsBuiltOf k (s j n)) → (j : VarKind) (n : ℕ)
+    (o : Option Tree) → IsBuiltIfAny k o → IsBuiltOf k (through s j n o)
+through_built k s f j n None h = tt
+through_built k s f j n (Some t) h = apply_built k s f t h
+
+resolve_built : (k : Kit) (f : ℕ) (st : Store) → BindsBuiltOf k st → (j : VarKind) (n : ℕ) → IsBuiltOf k (resolve f st j n)
+unfolding resolve
+resolve_built k zero st all j n = tt
+resolve_built k (suc f) st all j n =
+    through_built k (resolve f st) (resolve_built k f st all) j n (bound_term st j n) (entry_built k st all j n)
+
+resolved_built : (k : Kit) (st : Store) → BindsBuiltOf k st → (t : Tree) → IsBuiltOf k t → IsBuiltOf k (apply (resolved st) t)
+unfolding resolved
+resolved_built k st all t h = apply_built k _ (resolve_built k _ st all) t h
+
+-- And what comes of it where places give way to variables.
+generalised_built : (k : Kit) {before after : Store} {t u : Tree} → IsGeneralised before after t u → IsBuiltOf k t →
+    IsBuiltOf k u
+generalised_built k (kept e) h = subst (IsBuiltOf k) e h
+generalised_built k (replaced j n e o m s) h = subst (IsBuiltOf k) (sym e) tt
+generalised_built k (in_form g) h = (h.0, generalised_built k g h.1)
+generalised_built k (in_binder g) h = (h.0, generalised_built k g h.1)
+generalised_built k (in_list g f) h = (generalised_built k g h.0, generalised_built k f h.1)
+
+-- And a body, where stand-ins are put for what its binder binds.
+abbrev AllBuilt : Kit → List Tree → Type 0
+AllBuilt k [] = Unit {0}
+AllBuilt k (t ∷ ts) = IsBuiltOf k t × AllBuilt k ts
+
+stand_ins_built : (k : Kit) (ks : List BoundKind) (ts : List Tree) → StandFor ks ts → AllBuilt k ts
+stand_ins_built k [] [] h = tt
+stand_ins_built k [] (t ∷ ts) h = absurd h
+stand_ins_built k (q ∷ ks) [] h = absurd h
+stand_ins_built k (q ∷ ks) (t ∷ ts) h = (one t h.0, stand_ins_built k ks ts h.1)
+  where
+    one : (t : Tree) → IsStandIn q t → IsBuiltOf k t
+    one (leaf (variable j n)) s = tt
+    one (leaf (placeholder j u n)) s = tt
+    one t s = absurd s
+
+place_built : (k : Kit) (ts : List Tree) → AllBuilt k ts → (i : ℕ) (t : Tree) → IsBuiltOf k t → IsBuiltOf k (tree_at ts i t)
+place_built k [] h i t p = p
+place_built k (x ∷ ts) h zero t p = h.0
+place_built k (x ∷ ts) h (suc i) t p = place_built k ts h.1 i t p
+
+inst_built : (k : Kit) (ts : List Tree) → AllBuilt k ts → (d : ℕ) (t : Tree) → IsBuiltOf k t → IsBuiltOf k (inst ts d t)
+inst_built k ts h d (leaf (variable j n)) p = tt
+inst_built k ts h d (leaf (bound j e i)) p = go (nat_eq e d)
+  where
+    go : (b : Bool) → IsBuiltOf k (cond b (tree_at ts i (leaf (bound j e i))) (leaf (bound j e i)))
+    go true = place_built k ts h i (leaf (bound j e i)) tt
+    go false = tt
+inst_built k ts h d (leaf (placeholder j u n)) p = tt
+inst_built k ts h d (leaf (atom x)) p = p
+inst_built k ts h d (leaf unknown) p = tt
+inst_built k ts h d (node a t) p = (p.0, inst_built k ts h d t p.1)
+inst_built k ts h d (bind ls t) p = (p.0, inst_built k ts h (suc d) t p.1)
+inst_built k ts h d nil p = tt
+inst_built k ts h d (cons t u) p = (inst_built k ts h d t p.0, inst_built k ts h d u p.1)
+
+pub body_built : (k : Kit) (ks : List BoundKind) (ts : List Tree) (t x : Tree) → StandFor ks ts → x ≡ inst ts 0 t →
+    IsBuiltOf k t → IsBuiltOf k x
+body_built k ks ts t x s e h = subst (IsBuiltOf k) (sym e) (inst_built k ts (stand_ins_built k ks ts s) 0 t h)
+
+-- What was bound stands, and nothing else is.
+pub binds_still : (k : Kit) (before after : Store) → ((j : VarKind) (n : ℕ) → entry_of after j n ≡ entry_of before j n) →
+    BindsBuiltOf k before → BindsBuiltOf k after
+binds_still k before after same all j n t e = all j n t (sym (same j n) ∙ e)
+
+-- An unbound variable got an entry that is built so.
+binds_written : (k : Kit) {before after : Store} {v : VarKind} {n : ℕ} {x : Entry} → WritesEntry before after v n x →
+    ((t : Tree) → x ≡ bound_to t → IsBuiltOf k t) → BindsBuiltOf k before → BindsBuiltOf k after
+binds_written k {before} {after} {v} {n} {x} w built all j m t e = go (which j v m n)
+  where
+    beside : StandsBeside before after v n x j m → IsBuiltOf k t
+    beside (as_it_was s) = all j m t (sym s ∙ e)
+    beside (led_on r p q i s) = absurd (cc (s, e))
+
+    go : ((j ≡ v) × (m ≡ n)) ⊎ (j ≡ v → m ≡ n → ⊥) → IsBuiltOf k t
+    go (inl (p, q)) = built t (sym w.written ∙ ap₂ (entry_of after) (sym p) (sym q) ∙ e)
+    go (inr o) = beside (w.others_stand j m o)
+
+-- Nothing was bound and registered, and no universe made.
+pub builds_none : (k : Kit) (before after : Store) → BindsBuiltOf k after → after.universe ≡ before.universe →
+    after.tainted ≡ before.tainted → Builds k before after []
+builds_none k before after all same taint = record {
+  binds = all;
+  asks = All-nil (IsGoalOf k);
+  universe = λ o. same;
+  taint = λ n h. sym taint ∙ h;
+}
+
+-- Nothing was bound, and a universe may have been made, where the kit has binders.
+pub builds_opened : (k : Kit) (before after : Store) → IsTrue k.binders → BindsBuiltOf k after →
+    after.tainted ≡ before.tainted → Builds k before after []
+builds_opened k before after has all taint = record {
+  binds = all;
+  asks = All-nil (IsGoalOf k);
+  universe = λ o. absurd (false≢true (sym o ∙ has));
+  taint = λ n h. sym taint ∙ h;
+}
+
+-- An error was met, and nothing else done.
+pub builds_tainted : (k : Kit) {before after : Store} → Taints before after → (HasNoError k → ⊥) →
+    BindsBuiltOf k before → Builds k before after []
+builds_tainted k {before} {after} t has all = record {
+  binds = binds_still k before after (λ j n. ap (λ es. get_or es n unbound) ((t.nothing_else).same_entries j)) all;
+  asks = All-nil (IsGoalOf k);
+  universe = λ o. t.same_universe;
+  taint = λ n h. absurd (has n);
+}
+
+pub built_itself : (st : Store) (a b : Tree) → StaysBuilt st st [] a b
+built_itself st a b = λ k ha hb all. builds_none k st st all refl refl
+
+pub built_same : {before after : Store} (a b : Tree) → after ≡ before → StaysBuilt before after [] a b
+built_same {before} a b e = subst (λ st. StaysBuilt before st [] a b) (sym e) (built_itself before a b)
+
+-- A goal was registered, and nothing else was done.
+pub builds_asking : (k : Kit) (st : Store) (goals : List Goal) → All (IsGoalOf k) goals → BindsBuiltOf k st →
+    Builds k st st goals
+builds_asking k st goals asks all = record { binds = all; asks = asks; universe = λ o. refl; taint = λ n h. h }
+
+-- So where no binder stands in two terms and what was bound, no universe was made.
+pub no_universe_made : {before after : Store} (gs : List Goal) (a b : Tree) → StaysBuilt before after gs a b →
+    HasNoBinder a → HasNoBinder b → BindsNoBinder before → after.universe ≡ before.universe
+unfolding all_but_binders
+no_universe_made {before} gs a b f ha hb all =
+    (f all_but_binders (plain_built a ha) (plain_built b hb) (plain_binds before all)).universe refl
+
+-- Goals were registered after a part of the work, and nothing else was done.
+pub builds_noting : (k : Kit) {r q p : Store} (gs hs : List Goal) → p ≡ q → Builds k r q gs → All (IsGoalOf k) hs →
+    Builds k r p (gs ++ hs)
+builds_noting k {r} {q} gs hs same f asks = subst (λ st. Builds k r st (gs ++ hs)) (sym same) (record {
+  binds = f.binds;
+  asks = All-append (IsGoalOf k) gs hs f.asks asks;
+  universe = f.universe;
+  taint = f.taint;
+})
+
+-- Where goals are let go the rest stands.
+pub built_refused : {before after : Store} (gs : List Goal) (a b : Tree) → StaysBuilt before after gs a b →
+    StaysBuilt before after [] a b
+built_refused gs a b f = λ k ha hb all.
+    let z = f k ha hb all in
+    record { binds = z.binds; asks = All-nil (IsGoalOf k); universe = z.universe; taint = z.taint }
+
+-- One part of the work after another.
+pub builds_then : (k : Kit) {r q p : Store} (gs hs : List Goal) → Builds k r q gs → Builds k q p hs →
+    Builds k r p (gs ++ hs)
+builds_then k gs hs f g = record {
+  binds = g.binds;
+  asks = All-append (IsGoalOf k) gs hs f.asks g.asks;
+  universe = λ o. g.universe o ∙ f.universe o;
+  taint = λ n h. f.taint n (g.taint n h);
+}
+
+-- Of two pairs the second was led to by the first.
+pub built_led : {r q p : Store} (gs hs : List Goal) (a b x y : Tree) → StaysBuilt r q gs a b → BuiltFrom r a b x y →
+    StaysBuilt q p hs x y → StaysBuilt r p (gs ++ hs) a b
+built_led gs hs a b x y f l g = λ k ha hb all.
+    let z = f k ha hb all in
+    let w = l k ha hb all in
+    builds_then k gs hs z (g k w.0 w.1 z.binds)
+
+pub built_then : {r q p : Store} (gs hs : List Goal) (a b : Tree) → StaysBuilt r q gs a b → StaysBuilt q p hs a b →
+    StaysBuilt r p (gs ++ hs) a b
+built_then gs hs a b f g = built_led gs hs a b a b f (λ k ha hb all. (ha, hb)) g
+
+-- One constraint was recorded.
+pub built_constraint : (before after : Store) (a b : Tree) → ((j : VarKind) → after.entries j ≡ before.entries j) →
+    after.universe ≡ before.universe → after.tainted ≡ before.tainted → StaysBuilt before after [] a b
+built_constraint before after a b same universe taint = λ k ha hb all.
+    builds_none k before after
+    (binds_still k before after (λ j n. ap (λ es. get_or es n unbound) (same j)) all) universe taint
+
+-- Variables were made, of which nothing is recorded.
+unbound_entries : {u : ℕ} {before after : Store} → MakesUnbound u before after → (j : VarKind) (n : ℕ) →
+    entry_of after j n ≡ entry_of before j n
+unbound_entries makes_none j n = refl
+unbound_entries {u} {before} {after} (makes_one {middle = middle} {k = v} {n = i} f o q) j n =
+    same_entries middle after v i u q j n ∙ unbound_entries f j n
+
+unbound_universe : {u : ℕ} {before after : Store} → MakesUnbound u before after → after.universe ≡ before.universe
+unbound_universe makes_none = refl
+unbound_universe (makes_one f o q) = q.same_universe ∙ unbound_universe f
+
+unbound_taint : {u : ℕ} {before after : Store} → MakesUnbound u before after → after.tainted ≡ before.tainted
+unbound_taint makes_none = refl
+unbound_taint (makes_one f o q) = q.same_taint ∙ unbound_taint f
+
+pub built_unbound : {u : ℕ} {before after : Store} (a b : Tree) → MakesUnbound u before after →
+    StaysBuilt before after [] a b
+built_unbound {before = before} {after = after} a b f = λ k ha hb all.
+    builds_none k before after (binds_still k before after (unbound_entries f) all) (unbound_universe f)
+    (unbound_taint f)
+
+-- Binders were opened.
+pub built_opened : {middle : Store} {u : ℕ} (before after : Store) (a b : Tree) → ChangesNothing before middle →
+    middle.tainted ≡ before.tainted → MakesUnbound u middle after → ((k : Kit) → IsBuiltOf k a → IsTrue k.binders) →
+    StaysBuilt before after [] a b
+built_opened {middle} before after a b h taint f has = λ k ha hb all.
+    builds_opened k before after (has k ha) (binds_still k before after
+    (λ j n. unbound_entries f j n ∙ ap (λ es. get_or es n unbound) (h.same_entries j)) all) (unbound_taint f ∙ taint)
+
+-- A variable was bound to what a term comes to, generalised.
+module _ {x : Variance} {before after : Store} {v : VarKind} {n : ℕ} {source term : Tree}
+    (f : Instantiates before after x v n source term) where
+  pub term_built : (k : Kit) → BindsBuiltOf k before → IsBuiltOf k source → IsBuiltOf k term
+  term_built k all h = generalised_built k f.generalised (resolved_built k before all source h)
+
+  pub builds_instantiated : (k : Kit) → BindsBuiltOf k before → IsBuiltOf k source → Builds k before after []
+  builds_instantiated k all h = builds_none k before after binds f.same_universe f.same_taint
+    where
+      binds : BindsBuiltOf k after
+      binds j m t e = go (which j v m n)
+        where
+          go : ((j ≡ v) × (m ≡ n)) ⊎ (j ≡ v → m ≡ n → ⊥) → IsBuiltOf k t
+          go (inl (p, q)) =
+              let d : entry_of after v n ≡ bound_to t = ap₂ (entry_of after) (sym p) (sym q) ∙ e in
+              let i = f.now_bound in
+              let same : term ≡ t = cc (d, i) in
+              subst (IsBuiltOf k) same (term_built k all h)
+          go (inr o) = all j m t (sym (f.others_stand j m o) ∙ e)
+
+-- Two variables were made one.
+pub built_equated : {before after : Store} {v : VarKind} {child root : ℕ} (a b : Tree) →
+    Equates before after v child root → StaysBuilt before after [] a b
+built_equated {before} {after} a b q = λ k ha hb all.
+    builds_none k before after (binds_written k q.links (λ t e. absurd cc) all) (q.links).same_universe
+    (q.links).same_taint
+
+-- A number variable was bound to a type of its kind.
+pub builds_number : (k : Kit) {before after : Store} {v : VarKind} {n : ℕ} (t : Tree) →
+    InstantiatesNumber before after v n t → IsBuiltOf k t → BindsBuiltOf k before → Builds k before after []
+builds_number k {before} {after} t q h all =
+    builds_none k before after (binds_written k q.writes same all) (q.writes).same_universe (q.writes).same_taint
+  where
+    same : (u : Tree) → bound_to t ≡ bound_to u → IsBuiltOf k u
+    same u e = let i : t ≡ u = cc in subst (IsBuiltOf k) i h

@@ -1,0 +1,214 @@
+-- Two terms that were related stay so while more is recorded and registered, and relating them again does nothing. So
+-- what a relation remembers was related.
+use Rattle.std.proofs.Common.{◌≡◌, ◌⊎◌, ℕ, ◌<◌, refl, sym, ap₂, ◌∙◌, arith, subst, subst₂, List, [], ◌++◌, All, Contains, IsTrue}
+use Rattle.std.proofs.Common.{⊎_elim, Result, Ok, Err}
+use Rattle.std.proofs.lemmas.List.{append-nil}
+use Rattle.std.proofs.lemmas.List.Elements.{All-nil, Contains-append_left}
+use Rattle.term_enums.specs.declared.Variance.{Variance}
+use Rattle.relation_terms.specs.Trees.{Tree, known}
+use Rattle.relation_terms.specs.Meaning.{Meaning, Extends}
+use Rattle.relation_folds.specs.declared.error.RelateFault.{RelateFault}
+use Rattle.relation_folds.specs.declared.error.RelateFault.TheVariants.{Memory}
+use Rattle.relation_semantics.specs.declared.relate.Step.TheVariants.{Done}
+use Rattle.relation_semantics.specs.AskedAlone.{AsksAlone}
+use Rattle.relation_semantics.specs.FirstOrder.{IsFirstOrderStore}
+use Rattle.relation_semantics.specs.Relation.{Items, at}
+use Rattle.relation_semantics.specs.Goals.{Goal, goal_of, GoalInContext, Holds, IsQuiet, MakesOneTree, Relates}
+use Rattle.relation_semantics.specs.Agreeing.{Agree}
+use Rattle.relation_semantics.specs.Kits.{IsGoalOf, StaysBuilt}
+use Rattle.relation_semantics.specs.Measures.{Goes}
+use Rattle.relation_semantics.specs.OneUniverse.{BindsNoMore, KeepsUniverseOf}
+use Rattle.relation_semantics.specs.Outcomes.{Exact, Outcome}
+use Rattle.relation_semantics.specs.Settings.{Settings}
+use Rattle.relation_semantics.specs.Steps.{IsLater, StaysFullFor}
+use Rattle.relation_semantics.specs.Stores.{Store}
+use Rattle.relation_semantics.specs.Lawful.{State, Pair, Manner, Manners, Passes, IsShown, Shown, WasRelated, WereRelated, Remembers, Noted, OnlyMemory}
+use Rattle.relation_semantics.specs.Lawful.{Stepped, ExactlyRelated, RegisteredIn, declared_by, items_of, items_in}
+use Rattle.relation_semantics.proofs.Answering.{relates_still, same_items, same_settings, may_itself}
+use Rattle.relation_semantics.proofs.Building.{built_itself}
+use Rattle.relation_semantics.proofs.Full.{full_itself}
+use Rattle.relation_semantics.proofs.Going.{later_itself}
+use Rattle.relation_semantics.proofs.Growing.{All_front}
+use Rattle.relation_semantics.proofs.OneUniverse.{keeps_itself, keeps_pair, keeps_binds}
+use Rattle.relation_semantics.proofs.Passing.{passes_nowhere, same_manner}
+use Rattle.relation_semantics.proofs.Shrinking.{first_order_before, solved_before}
+
+module _ (M : Manner) (k : Settings) where
+  -- Of two terms, while what is recorded and registered grows.
+  shown_later : (c : Items) (before after : Store) (goals more : List Goal) (e : Tree) (v : Variance) (a b : Tree) →
+      IsLater before after → IsShown M k c before goals e v a b → IsShown M k c after (goals ++ more) e v a b
+  shown_later c before after goals more e v a b l h = record {
+    relates = λ w s sat all. h.relates w s (l.shrinks w s sat) (All_front (Holds c w s) goals more all);
+    unifies = λ o is pair s sol. h.unifies o is (record {
+      left = pair.left;
+      right = pair.right;
+      bindings = first_order_before before after l pair.bindings;
+    }) s (solved_before before after l s sol);
+    agrees = h.agrees;
+  }
+
+  module _ {Key Id Name : Type 0} where
+    -- So of pairs, while keys are made.
+    pub were_related_later : {m n : Meaning Key Id Name} → Extends m n → (was now : Store) (goals more : List Goal) (e : Tree)
+        (ps : List (Pair Key)) → IsLater was now → WereRelated M k m was goals e ps →
+        WereRelated M k n now (goals ++ more) e ps
+    were_related_later {m} {n} grown was now goals more e ps l all p c =
+        let h = all p c in
+        let x : n.ty p.1 ≡ m.ty p.1 = grown.ty p.1 h.left_known in
+        let y : n.ty p.2 ≡ m.ty p.2 = grown.ty p.2 h.right_known in
+        let items : items_of n ≡ items_of m = ap₂ declared_by grown.variances grown.alias_variances in
+        record {
+          left_known = subst (λ t. IsTrue (known t)) (sym x) h.left_known;
+          right_known = subst (λ t. IsTrue (known t)) (sym y) h.right_known;
+          shown = subst₂ (λ t u. IsShown M k (items_of n) now (goals ++ more) e p.0 t u) (sym x) (sym y)
+              (subst (λ c. IsShown M k c now (goals ++ more) e p.0 (m.ty p.1) (m.ty p.2)) (sym items)
+              (shown_later (items_of m) was now goals more e p.0 (m.ty p.1) (m.ty p.2) l h.shown));
+          registered = λ o g asks. Contains-append_left goals more (goal_of e g)
+              (h.registered o g (subst₂ (λ t u. AsksAlone k p.0 t u g) x y asks));
+        }
+
+    module _ (m : Meaning Key Id Name) (st : Store) (goals : List Goal) (e : Tree) where
+      -- With one pair more.
+      pub were_related_more : (p : Pair Key) (ps qs : List (Pair Key)) →
+          ((x : Pair Key) → Contains qs x → (x ≡ p) ⊎ Contains ps x) → WasRelated M k m st goals e p →
+          WereRelated M k m st goals e ps → WereRelated M k m st goals e qs
+      were_related_more p ps qs members one all x c =
+          ⊎_elim (λ is. subst (WasRelated M k m st goals e) (sym is) one) (all x) (members x c)
+
+      pub none_related : WereRelated M k m st goals e []
+      none_related p c = let h : c.0 < 0 = c.1 in absurd (omega (arith, h))
+
+      -- By other keys that mean the same.
+      pub related_as : (p q : Pair Key) → p.0 ≡ q.0 → m.ty p.1 ≡ m.ty q.1 → m.ty p.2 ≡ m.ty q.2 →
+          WasRelated M k m st goals e p → WasRelated M k m st goals e q
+      related_as p q i x y h = record {
+        left_known = subst (λ t. IsTrue (known t)) x h.left_known;
+        right_known = subst (λ t. IsTrue (known t)) y h.right_known;
+        shown = subst (λ v. IsShown M k (items_of m) st goals e v (m.ty q.1) (m.ty q.2)) i
+            (subst₂ (λ t u. IsShown M k (items_of m) st goals e p.0 t u) x y h.shown);
+        registered = λ o g asks. h.registered o g (subst (λ v. AsksAlone k v (m.ty p.1) (m.ty p.2) g) (sym i)
+            (subst₂ (λ t u. AsksAlone k q.0 t u g) (sym x) (sym y) asks));
+      }
+
+module _ {Key Id Name : Type 0} (M : Manners) where
+  -- What was shown of two terms is so of what is recorded and registered later.
+  pub shown_stays : {n : ℕ} {r q : State Key Id Name} (v : Variance) (a b : Tree) → Passes n r q → Shown M r v a b →
+      Shown M q v a b
+  shown_stays {r = r} {q = q} v a b g h = record {
+    relates = relates_still v a b g h.relates;
+    unifies = λ k is pair s sol.
+        let later = (g.goes).later in
+        h.unifies (same_manner M (λ z. z.is_exact) g k) is (record {
+          left = pair.left;
+          right = pair.right;
+          bindings = first_order_before r.store q.store later pair.bindings;
+        }) s (solved_before r.store q.store later s sol);
+    agrees = λ k. subst₂ (λ j c. Agree j c (at v) a b) (sym (same_settings g.kept)) (sym (same_items g))
+        (h.agrees (same_manner M (λ z. z.relates_agreeing) g k));
+  }
+
+  module _ (r : State Key Id Name) (v : Variance) (a b : Tree) (h : Shown M r v a b) where
+    -- They are related by what stands, and no equal pair is lost.
+    pub hit_is_outcome : Outcome (items_in r) r.kept.environment (at v) r.store r.store r.goals [] a b
+    hit_is_outcome = record {
+      later = later_itself r.store;
+      goals_in = All-nil (GoalInContext r.store);
+      relates = λ w s sat all. h.relates w s sat (subst (All (Holds (items_in r) w s)) (append-nil r.goals) all);
+      keeps = λ w s sat one. (s, (λ k n m. refl), (sat, All-nil (MakesOneTree s)));
+    }
+
+    -- Where exactness is promised, just the solutions that there are unify them.
+    pub hit_is_exact : {X : Type 0} (t : X) →
+        ExactlyRelated {Key = Key} {Id = Id} {Name = Name} (M r.kept.settings) r.store r.store v a b (Ok t)
+    hit_is_exact t k is pair = (
+      pair.bindings,
+      record {
+        later = later_itself r.store;
+        shrinks = λ s sol. (sol, h.unifies k is pair s sol);
+        keeps = λ s sol one. (s, (λ j n m. refl), sol);
+      },
+      keeps_pair r.store r.store a b (keeps_itself r.store),
+    )
+
+  -- So a step of them answers the left one, and nothing is done.
+  pub hit_is_step : {K : Type 0} (F : Tree → Type 0) (r : State Key Id Name) (tree : K → Tree) (t : K) (b : Tree) →
+      IsTrue (known (tree t)) → Shown M r r.ambient (tree t) b → Stepped M F r r (tree t) b tree (Ok (Done t))
+  unfolding passes_nowhere
+  hit_is_step F r tree t b sure h = record {
+    passes = passes_nowhere _ r;
+    verdict = record {
+      outcome = hit_is_outcome r r.ambient (tree t) b h;
+      answer = may_itself M r r.ambient (tree t);
+      known = sure;
+      agrees = h.agrees;
+    };
+    exact = hit_is_exact r r.ambient (tree t) b h t;
+    full = λ ha hb. full_itself r.store;
+    built = built_itself r.store (tree t) b;
+  }
+
+-- A relation that remembers one pair more.
+relates_remembering : {Key Id Name A E : Type 0} {q s : State Key Id Name} {p : Pair Key} {res : Result A E} →
+    Remembers q s p res → (v : Variance) (a b : Tree) → Relates (items_in q) q.store q.goals q.kept.environment v a b →
+    Relates (items_in s) s.store s.goals s.kept.environment v a b
+relates_remembering {q = q} {s = s} h v a b o =
+    subst₂ (λ m k. Relates (items_of m) s.store s.goals k.environment v a b) (sym h.meaning) (sym h.kept)
+    (subst₂ (λ st gs. Relates (items_in q) st gs q.kept.environment v a b) (sym h.store) (sym h.goals) o)
+
+module _ {Key Id Name A E : Type 0} {r q s : State Key Id Name} {p : Pair Key} {res : Result A E}
+    (h : Remembers q s p res) where
+  unfoldable pub passes_remembering : {n : ℕ} → Passes n r q → Passes n r s
+  passes_remembering {n} g = record {
+    extends = subst (Extends r.meaning) (sym h.meaning) g.extends;
+    goes = subst (Goes n r.store) (sym h.store) g.goes;
+    added = g.added;
+    lengthens = h.goals ∙ g.lengthens;
+    goals_in = subst (λ st. All (RegisteredIn r st) g.added) (sym h.store) g.goals_in;
+    kept = h.kept ∙ g.kept;
+    ambient = h.ambient ∙ g.ambient;
+    lawful = λ l. h.lawful (g.lawful l);
+  }
+
+  module _ {K : Type 0} (M : Manners) (F : Tree → Type 0) (a b : Tree) (tree : K → Tree) (t : K)
+      (step : Stepped M F r q a b tree (Ok (Done t))) where
+    -- What a step answered it answers still.
+    pub step_remembering : Stepped M F r s a b tree (Ok (Done t))
+    unfolding passes_remembering
+    step_remembering = record {
+      passes = passes_remembering step.passes;
+      verdict = record {
+        outcome = subst (λ st. Outcome (items_in r) r.kept.environment (at r.ambient) r.store st r.goals (step.passes).added
+            a b) (sym h.store) (step.verdict).outcome;
+        answer = record { related = relates_remembering h r.ambient a (tree t) ((step.verdict).answer).related };
+        known = (step.verdict).known;
+        agrees = (step.verdict).agrees;
+      };
+      exact = λ k is pair. subst (λ st. IsFirstOrderStore st × Exact r.store st a b × KeepsUniverseOf r.store st a b)
+          (sym h.store) (step.exact k is pair);
+      full = subst (λ st. StaysFullFor r.store st a b) (sym h.store) step.full;
+      built = subst (λ st. StaysBuilt r.store st (step.passes).added a b) (sym h.store) step.built;
+    }
+
+    -- Or a growth was refused after it.
+    pub step_not_remembered : Stepped M F r s a b tree (Err Memory)
+    unfolding passes_remembering
+    step_not_remembered = record {
+      passes = passes_remembering step.passes;
+      verdict = tt;
+      exact = λ k is pair. subst (λ st. BindsNoMore r.store st a b) (sym h.store)
+          (keeps_binds r.store q.store a b (step.exact k is pair).2);
+      full = subst (λ st. StaysFullFor r.store st a b) (sym h.store) step.full;
+      built = subst (λ st. StaysBuilt r.store st (step.passes).added a b) (sym h.store) step.built;
+    }
+
+-- That a pair is remembered is a note of it.
+pub noted_remembering : {Key Id Name A E X : Type 0} {r q : State Key Id Name} {p : Pair Key} {res : Result A E} →
+    Remembers r q p res → (a b : Tree) (x : Result X (RelateFault Key Id Name)) → OnlyMemory x → Noted r q a b x
+unfolding passes_remembering passes_nowhere
+noted_remembering {r = r} h a b x fault = record {
+  passes = passes_remembering h (passes_nowhere 0 r);
+  store = h.store;
+  quiet = All-nil IsQuiet;
+  built = λ k ha hb. All-nil (IsGoalOf k);
+  fault = fault;
+}

@@ -1,0 +1,89 @@
+-- What a relating call has done.
+use Rattle.std.specs.Prelude.{◌≡◌, ℕ, ◌<◌, List, ◌++◌, All}
+use Rattle.term_enums.specs.declared.Variance.{Variance}
+use Rattle.relation_terms.specs.Heads.{Head}
+use Rattle.relation_terms.specs.Trees.{Tree, Assign, apply, nth}
+use Rattle.relation_semantics.specs.Relation.{Items, Interpretation, Way, at, parts, second_opened, first_opened, part_at}
+use Rattle.relation_semantics.specs.Relation.{Rel}
+use Rattle.relation_semantics.specs.Stores.{Store, Satisfies}
+use Rattle.relation_semantics.specs.Goals.{Goal, Holds, GoalInContext, MakesOneTree}
+use Rattle.relation_semantics.specs.FirstOrder.{Unifies, IsErasedSolution}
+use Rattle.relation_semantics.specs.Steps.{IsLater, Extends, ExtendsErased}
+
+-- The two things that are brought together are one under an assignment; of binders, with their lists of variables.
+abbrev pub AreOne : Way → Assign → Tree → Tree → Type 0
+AreOne (at v) s a b = apply s a ≡ apply s b
+AreOne (parts h i v) s a b = apply s a ≡ apply s b
+AreOne (second_opened ks ls v) s a b = (ks ≡ ls) × (apply s a ≡ apply s b)
+AreOne (first_opened ks ls v) s a b = (ks ≡ ls) × (apply s a ≡ apply s b)
+
+-- Two things were brought together: terms, parts of a form, or binders at one round. What satisfies the store after
+-- and makes the whole list of goals true relates them. What satisfied the store before and made them one extends to
+-- the store after and makes both sides of each added goal one tree.
+pub record Outcome (c : Items) (e : Tree) (way : Way) (before after : Store) (earlier added : List Goal)
+    (a b : Tree) : Type 0 where
+  pub later : IsLater before after
+  pub goals_in : All (GoalInContext after) added
+  pub relates : (w : Interpretation) (s : Assign) → Satisfies w after s → All (Holds c w s) (earlier ++ added) →
+      Rel c w e way (apply s a) (apply s b)
+  pub keeps : (w : Interpretation) (s : Assign) → Satisfies w before s → AreOne way s a b →
+      Extends before s (λ s'. Satisfies w after s' × All (MakesOneTree s') added)
+
+-- What relates one pair relates another, under each assignment that satisfies the store and makes the goals true.
+abbrev pub CarriesOver : Items → Tree → Store → List Goal → Way → Tree → Tree → Way → Tree → Tree → Type 0
+CarriesOver c e st goals way' x y way a b = (w : Interpretation) (s : Assign) → Satisfies w st s →
+    All (Holds c w s) goals → Rel c w e way' (apply s x) (apply s y) → Rel c w e way (apply s a) (apply s b)
+
+-- A step was taken from one pair to another that is to be related yet, at its own exit: what relates the pair that is
+-- left relates the first, and what made the first one extends to make the pair that is left one.
+pub record StepsTo (c : Items) (e : Tree) (before after : Store) (earlier added : List Goal) (way : Way)
+    (a b : Tree) (way' : Way) (x y : Tree) : Type 0 where
+  pub later : IsLater before after
+  pub goals_in : All (GoalInContext after) added
+  pub relates : CarriesOver c e after (earlier ++ added) way' x y way a b
+  pub keeps : (w : Interpretation) (s : Assign) → Satisfies w before s → AreOne way s a b →
+      Extends before s (λ s'. Satisfies w after s' × All (MakesOneTree s') added × AreOne way' s' x y)
+
+-- The type-error half: no earlier satisfying assignment makes them one.
+abbrev pub NeverOne : Way → Store → Tree → Tree → Type 0
+NeverOne way before a b = (w : Interpretation) (s : Assign) → Satisfies w before s → AreOne way s a b → ⊥
+
+-- The same of two terms.
+abbrev pub NoEqualTerms : Store → Tree → Tree → Type 0
+NoEqualTerms before a b = (w : Interpretation) (s : Assign) → Satisfies w before s → apply s a ≡ apply s b → ⊥
+
+-- Exact, up to erasure: just the earlier solutions that unify are left.
+pub record Exact (before after : Store) (a b : Tree) : Type 0 where
+  pub later : IsLater before after
+  pub shrinks : (s : Assign) → IsErasedSolution after s → IsErasedSolution before s × Unifies s a b
+  pub keeps : (s : Assign) → IsErasedSolution before s → Unifies s a b →
+      ExtendsErased before s (IsErasedSolution after)
+
+-- The same of a step to a pair that is left.
+pub record ExactStep (before after : Store) (a b x y : Tree) : Type 0 where
+  pub later : IsLater before after
+  pub shrinks : (s : Assign) → IsErasedSolution after s → Unifies s x y → IsErasedSolution before s × Unifies s a b
+  pub keeps : (s : Assign) → IsErasedSolution before s → Unifies s a b →
+      ExtendsErased before s (λ s'. IsErasedSolution after s' × Unifies s' x y)
+
+-- No assignment that met the store before, up to erasure, unifies the terms.
+abbrev pub NoUnifier : Store → Tree → Tree → Type 0
+NoUnifier before a b = (s : Assign) → IsErasedSolution before s → Unifies s a b → ⊥
+
+-- The first `i` parts of two lists of parts of a form at a variance were brought together.
+pub record Front (c : Items) (e : Tree) (h : Head) (v : Variance) (i : ℕ) (before after : Store)
+    (earlier added : List Goal) (xs ys : Tree) : Type 0 where
+  pub later : IsLater before after
+  pub goals_in : All (GoalInContext after) added
+  pub relates : (w : Interpretation) (s : Assign) → Satisfies w after s → All (Holds c w s) (earlier ++ added) →
+      (j : ℕ) → j < i → Rel c w e (at (part_at c h j v)) (apply s (nth j xs)) (apply s (nth j ys))
+  pub keeps : (w : Interpretation) (s : Assign) → Satisfies w before s → apply s xs ≡ apply s ys →
+      Extends before s (λ s'. Satisfies w after s' × All (MakesOneTree s') added)
+
+-- The same of exactness.
+pub record ExactFront (i : ℕ) (before after : Store) (xs ys : Tree) : Type 0 where
+  pub later : IsLater before after
+  pub shrinks : (s : Assign) → IsErasedSolution after s → IsErasedSolution before s
+  pub unifies : (s : Assign) → IsErasedSolution after s → (j : ℕ) → j < i → Unifies s (nth j xs) (nth j ys)
+  pub keeps : (s : Assign) → IsErasedSolution before s → Unifies s xs ys →
+      ExtendsErased before s (IsErasedSolution after)

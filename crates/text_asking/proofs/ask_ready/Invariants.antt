@@ -1,0 +1,12 @@
+use Rattle.relation_reference.specs.Tables.{IsLawful}
+use Rattle.text_asking.specs.Asking.{AreReady}
+use Rattle.text_asking.proofs.ask_ready.Given as goal
+
+-- the terms stay ready
+abbrev pub invariant-loop-question : goal.invariant-loop-question
+invariant-loop-question g l =
+    let m = g.I.Interner.meaning l.ctx.interner in
+    record {
+      lawful : IsLawful m l.ctx.inner;
+      ready : AreReady m l.terms.built.now l.terms.needs.now;
+    }

@@ -1,0 +1,35 @@
+use Rattle.std.proofs.Common.{sym, subst}
+use Rattle.relation_terms.specs.Meaning.{Extends}
+use Rattle.relation_terms.proofs.Stays.{extends_on}
+use Rattle.text_asking.specs.Asking.{AreReady}
+use Rattle.text_asking.proofs.AskingLemmas.{ready_stays}
+use Rattle.text_asking.proofs.question.ask_often.Goals as goal
+
+pub loop-init : goal.loop-init
+loop-init g c =
+    let h = c.ask_in-outcome.ensures in
+    record {
+      lawful = h.lawful;
+      grown = h.grown;
+      ready = ready_stays h.grown c.args.terms.now.built.now c.args.terms.now.needs.now c.requires.ready;
+      known = h.known;
+    }
+
+pub ask_in-outcome-requires-in-loop-clause-ready : goal.ask_in-outcome-requires-in-loop-clause-ready
+ask_in-outcome-requires-in-loop-clause-ready g c =
+    subst (λ i. AreReady (g.I.Interner.meaning i) c.args.terms.now.built.now c.args.terms.now.needs.now)
+    (sym c.renewed-ctx.ensures.interner) c.loop.invariant.ready
+
+pub loop-preserved : goal.loop-preserved
+loop-preserved g c =
+    let h = c.ask_in-outcome-in-loop.ensures in
+    let same = c.renewed-ctx.ensures.interner in
+    let m = g.I.Interner.meaning c.loop.ctx.interner in
+    let n = g.I.Interner.meaning c.ask_in-outcome-in-loop.new.ctx.interner in
+    let grown : Extends m n = subst (λ i. Extends (g.I.Interner.meaning i) n) same h.grown in
+    record {
+      lawful = h.lawful;
+      grown = extends_on c.loop.invariant.grown grown;
+      ready = ready_stays grown c.args.terms.now.built.now c.args.terms.now.needs.now c.loop.invariant.ready;
+      known = h.known;
+    }

@@ -1,0 +1,16 @@
+use Rattle.std.proofs.Common.{IfOk}
+use Rattle.relation_terms.specs.Meaning.{Extends}
+use Rattle.relation_reference.specs.Tables.{IsLawful}
+use Rattle.text_asking.specs.Asking.{AreReady, KnowsAnswer, KnowsRelated}
+use Rattle.text_asking.proofs.question.ask_often.Given as goal
+
+-- the terms stay ready, and what was answered last is known
+abbrev pub invariant-loop : goal.invariant-loop
+invariant-loop g l =
+    let m = g.I.Interner.meaning l.ctx.interner in
+    record {
+      lawful : IsLawful m l.ctx.inner;
+      grown : Extends (g.I.Interner.meaning l.fn.ctx.interner) m;
+      ready : AreReady m l.terms.built.now l.terms.needs.now;
+      known : IfOk l.outcome (KnowsAnswer m (KnowsRelated m));
+    }

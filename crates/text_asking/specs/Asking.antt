@@ -1,0 +1,175 @@
+-- What is ready to be asked about, and a context in which it may be.
+use Rattle.std.specs.Prelude.{◌≡◌, ◌≢◌, ℕ, ◌<◌, ◌≤◌, List, ◌++◌, replicate, Option, Some, IsTrue, length, slice_get, Result}
+use Rattle.std.specs.Prelude.{Ok, Err, IfSome}
+use Rattle.std.specs.Global.{Vec}
+use Rattle.std.specs.List.{All}
+use Rattle.term_enums.specs.declared.Variance.{Variance}
+use Rattle.term_enums.specs.declared.Variance.TheVariants.{Bivariant, Invariant}
+use Rattle.relation_terms.specs.declared.terms.generic_arg.GenericArgKind.{GenericArgKind}
+use Rattle.relation_terms.specs.declared.terms.goal.Goal.{Goal}
+use Rattle.relation_terms.specs.declared.terms.keys.LocalDefIdsKey.{LocalDefIdsKey}
+use Rattle.relation_terms.specs.declared.terms.keys.PredicateKey.{PredicateKey}
+use Rattle.relation_terms.specs.Trees.{Tree, known}
+use Rattle.relation_terms.specs.Meaning.{Meaning, arg_tree}
+use Rattle.relation_terms.specs.Heads.{VarKind, type_var, int_var, float_var, const_var, region_var}
+use Rattle.relation_reference.specs.declared.context.inner.InferCtxtInner.{InferCtxtInner}
+use Rattle.relation_reference.specs.declared.context.inner.Variable.{Variable}
+use Rattle.relation_reference.specs.declared.context.inner.VariableValue.TheVariants.{Known}
+use Rattle.relation_reference.specs.Variables.{value_at, universes_of}
+use Rattle.relation_folds.specs.declared.error.RelateFault.{RelateFault}
+use Rattle.relation_folds.specs.Faults.{KnowsFault}
+use Rattle.relation_semantics.specs.Bound.{BindByLists}
+use Rattle.relation_semantics.specs.declared.relate.StructurallyRelateAliases.{StructurallyRelateAliases}
+use Rattle.relation_semantics.specs.declared.relate.StructurallyRelateAliases.TheVariants.{No, Yes}
+use Rattle.relation_semantics.specs.declared.infer_ctxt.TypingMode.{TypingMode}
+use Rattle.relation_semantics.specs.declared.infer_ctxt.TypingMode.TheVariants as typing
+use Rattle.relation_semantics.specs.Relation.{StaysWithin}
+use Rattle.relation_semantics.specs.Goals.{KnowsGoal}
+use Rattle.text_reading.specs.declared.reading.tree.Relation.{Relation}
+use Rattle.text_reading.specs.declared.reading.tree.Relation.TheVariants as relation
+use Rattle.text_reading.specs.declared.naming.program.Mode.{Mode}
+use Rattle.text_reading.specs.declared.naming.program.Mode.TheVariants as mode
+use Rattle.text_reading.specs.declared.naming.program.Setup.{Setup}
+use Rattle.text_reading.specs.declared.naming.program.Variables.{Variables}
+use Rattle.text_reading.specs.declared.naming.program.VariableKind.{VariableKind}
+use Rattle.text_reading.specs.declared.naming.program.VariableKind.TheVariants.{Ty, Int, Float, Const, Region}
+use Rattle.text_reading.specs.declared.naming.program.VariableId.{VariableId}
+use Rattle.text_needs.specs.declared.needs.Needs.{Needs}
+use Rattle.text_asking.specs.declared.question.Ready.{Ready}
+use Rattle.text_asking.specs.declared.question.Answer.{Answer}
+use Rattle.text_asking.specs.declared.question.Answer.TheVariants.{Related, Met, Walked, Components, Folded, Is}
+use Rattle.text_asking.specs.declared.question.Answer.TheVariants.{Assumed, Key as key, Pulls, Binding}
+use Rattle.relation_tools.specs.Assumptions.{IsKnown}
+use Rattle.text_asking.specs.Meets.{AllKnown}
+use Rattle.text_needs.specs.Needs.{Allows, Reaches, largest, need_at}
+use Rattle.text_elaboration.specs.Pulls.{KnowsPulled}
+use Rattle.text_asking.specs.Outlives.{KnowsComponents}
+
+-- What relating takes: a term in which each binder binds by its list, and nothing that one outside it binds stands.
+pub record IsRelatable (t : Tree) : Type 0 where
+  pub by_lists : BindByLists t
+  pub stays : StaysWithin 0 t
+
+-- That is said of a term.
+pub record IsAsked (n : Needs) : Type 0 where
+  pub closed : IsTrue n.closed
+  pub lists : IsTrue n.by_lists
+
+-- A known term, for which what is needed is enough; which relating takes where that is said of it.
+abbrev pub IsReady : Needs → Tree → Type 0
+IsReady n t = IsTrue (known t) × (Allows n t × (IsAsked n → IsRelatable t))
+
+-- Each key that is there means such a term.
+abbrev pub AreReady : {Key Id Name : Type 0} → Meaning Key Id Name → List (Option (GenericArgKind Key)) → List Needs →
+    Type 0
+AreReady {Key = Key} m keys needs = (k : ℕ) (key : GenericArgKind Key) → slice_get keys k ≡ Some (Some key) →
+    IsReady (need_at needs k) (arg_tree m key)
+
+-- The same of what questions are put over.
+abbrev pub AllReady : {I Key Id Name Span : Type 0} → Meaning Key Id Name → Ready I Key Id Name Span → Type 0
+AllReady m terms = AreReady m terms.built.now terms.needs.now
+
+-- The typing mode of that name, in which no opaque types are defined.
+abbrev pub typing_mode : {Key : Type 0} → Mode → LocalDefIdsKey Key → TypingMode Key
+typing_mode mode.Coherence ids = typing.Coherence
+typing_mode mode.Analysis ids = typing.Analysis ids
+typing_mode mode.Borrowck ids = typing.Borrowck ids
+typing_mode mode.PostBorrowckAnalysis ids = typing.PostBorrowckAnalysis ids
+typing_mode mode.PostAnalysis ids = typing.PostAnalysis
+
+-- A context is made for the solver and in the typing mode that a question asks for.
+pub record IsSetUp {Key : Type 0} (x : InferCtxtInner Key) (ids : LocalDefIdsKey Key) (s : Setup) : Type 0 where
+  pub solver : x.next_solver ≡ s.next_solver
+  pub mode : x.mode ≡ typing_mode s.mode ids
+
+-- At which variance two terms are related that are asked to be related so, and whether aliases are by their arguments.
+abbrev pub variance_of : Relation → Variance
+variance_of (relation.At v) = v
+variance_of relation.Structurally = Invariant
+
+abbrev pub aliases_of : Relation → StructurallyRelateAliases
+aliases_of (relation.At v) = No
+aliases_of relation.Structurally = Yes
+
+-- The kind of variables that contracts speak of by this name.
+abbrev pub var_kind : VariableKind → VarKind
+var_kind Ty = type_var
+var_kind Int = int_var
+var_kind Float = float_var
+var_kind Const = const_var
+var_kind Region = region_var
+
+-- How many variables of a kind a context has.
+abbrev pub variables_in : {Key : Type 0} → InferCtxtInner Key → VarKind → ℕ
+variables_in x type_var = length x.types.items
+variables_in x int_var = length x.ints.items
+variables_in x float_var = length x.floats.items
+variables_in x const_var = length x.consts.items
+variables_in x region_var = length x.regions.items
+
+-- The universes in which a context's variables of a kind stand, by their numbers.
+abbrev pub universes_in : {Key : Type 0} → InferCtxtInner Key → VarKind → List ℕ
+universes_in x type_var = universes_of x.types.items
+universes_in x int_var = universes_of x.ints.items
+universes_in x float_var = universes_of x.floats.items
+universes_in x const_var = universes_of x.consts.items
+universes_in x region_var = universes_of x.regions.items
+
+-- In which universe a variable of a kind is made where the context is in that one: those of numbers name nothing.
+abbrev pub home : VarKind → ℕ → ℕ
+home int_var u = 0
+home float_var u = 0
+home k u = u
+
+-- Variables were made in a universe, behind those that there were.
+abbrev pub MakesIn : {Key : Type 0} → ℕ → InferCtxtInner Key → InferCtxtInner Key → Type 0
+MakesIn u x y = (k : VarKind) → (n : ℕ) × (universes_in y k ≡ universes_in x k ++ replicate n (home k u))
+
+-- A context has the variables of a statement, and is in their universe or in a later one.
+pub record HasStated {Key : Type 0} (x : InferCtxtInner Key) (v : Variables) : Type 0 where
+  pub types : v.types ≤ variables_in x type_var
+  pub consts : v.consts ≤ variables_in x const_var
+  pub regions : v.regions ≤ variables_in x region_var
+  pub universe : v.universe ≤ (x.universe).0
+
+-- A context has a variable that a question names.
+abbrev pub HasNamed : {Key : Type 0} → InferCtxtInner Key → VariableId → Type 0
+HasNamed x v = v.number < variables_in x (var_kind v.kind)
+
+-- A context has what is needed: the variables, and a universe that names the placeholders.
+pub record Has {Key : Type 0} (x : InferCtxtInner Key) (n : Needs) : Type 0 where
+  pub variables : (k : VarKind) (i : ℕ) → Reaches (largest n k) i → i < variables_in x k
+  pub universe : n.universe ≤ (x.universe).0
+
+-- Two types may be asked about at a variance, in a context of that universe.
+pub record IsAskable (u : ℕ) (v : Variance) (a b : Needs) : Type 0 where
+  pub left_closed : IsTrue a.closed
+  pub right_closed : IsTrue b.closed
+  pub left_lists : IsTrue a.by_lists
+  pub right_lists : IsTrue b.by_lists
+  pub left : a.universe ≤ u
+  pub right : b.universe ≤ u
+  pub decides : v ≢ Bivariant
+
+-- What a relation answered is known: its goals, or why it stopped.
+abbrev pub KnowsRelated : {Key Id Name : Type 0} → Meaning Key Id Name →
+    Result (Vec (Goal Key (PredicateKey Key))) (RelateFault Key Id Name) → Type 0
+KnowsRelated m (Ok goals) = All (KnowsGoal m) goals.items
+KnowsRelated m (Err e) = KnowsFault m e
+
+-- What an answer names is known: of a relation, what is asked of its answer.
+abbrev pub KnowsAnswer : {R K Key Id Name : Type 0} → Meaning Key Id Name → (R → Type 0) → Answer R K Key Id Name → Type 0
+KnowsAnswer m Knows (Related r) = Knows r
+KnowsAnswer m Knows (Met x) = AllKnown m x.terms.items
+KnowsAnswer m Knows (Walked xs) = AllKnown m xs.items
+KnowsAnswer m Knows (Components cs) = KnowsComponents m cs.items
+KnowsAnswer m Knows (Assumed all) = All (IsKnown m) all.items
+KnowsAnswer m Knows (Folded a) = IsTrue (known (arg_tree m a))
+KnowsAnswer m Knows (Is b) = Unit {0}
+KnowsAnswer m Knows (key k) = Unit {0}
+KnowsAnswer m Knows (Pulls ps) = All (KnowsPulled m) ps.items
+KnowsAnswer m Knows (Binding b) = IfSome b (λ a. IsTrue (known (arg_tree m a)))
+
+-- What variables are bound to is known.
+abbrev pub AreBoundKnown : {K : Type 0} → (K → Tree) → List (Variable K) → Type 0
+AreBoundKnown {K = K} tree vs = (n : ℕ) (t : K) → value_at vs n ≡ Known t → IsTrue (known (tree t))

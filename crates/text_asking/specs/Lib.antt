@@ -1,0 +1,9 @@
+pub mod Outlives
+pub mod Asking
+pub mod Args
+pub mod Meets
+pub mod Puts
+pub mod Skips
+pub mod Roots
+pub use Rattle.text_needs.specs.Binding
+pub use Rattle.text_needs.specs.Needs

@@ -1,0 +1,329 @@
+//! A question's context, and relating in it.
+ghost use Rattle.std.specs.Prelude.{◌≡◌, ◌≢◌, ℕ, suc, ◌<◌, ◌≤◌, max, IfNone, IfOk, IfErr, OnOk};
+ghost use Rattle.relation_terms.specs.Heads.{VarKind};
+ghost use Rattle.relation_terms.specs.Meaning.{Extends};
+ghost use Rattle.relation_folds.specs.Faults.{KnowsFault};
+ghost use Rattle.relation_semantics.specs.Contexts.{KnowsEnv};
+ghost use Rattle.type_relations.specs.Relating.{KnowsTerm, TakesTerm, HasTerm, AnswersTerms, KeepsEqual, TellsApart};
+ghost use Rattle.type_relations.specs.Relating.{AnswersOnly};
+ghost use Rattle.relation_reference.specs.Tables.{IsLawful};
+ghost use Rattle.text_needs.specs.Needs.{Reaches};
+ghost use Rattle.std.specs.List.{All};
+ghost use Rattle.text_asking.specs.Asking.{Has, HasNamed, HasStated, IsAskable, IsSetUp, MakesIn};
+ghost use Rattle.text_asking.specs.Asking.{aliases_of, typing_mode, var_kind, variables_in, variance_of};
+
+use relation_semantics::infer_ctxt::{InferCtxtLike, TypingMode};
+use text_needs::needs::Needs;
+use relation_reference::context::RefCtxt;
+use relation_terms::terms::{Interner, LocalDefIds, OutOfMemory, ParamEnv, Span, Variance};
+use std::fmt::{self, Write};
+use text_reading::naming::{Mode, Setup, VariableId, VariableKind, Variables};
+use text_reading::reading::Relation;
+use type_relations::relate::Relate;
+use type_relations::relate::solver_relating::{RelateExt, RelateGoals};
+
+/// Why a question is not asked.
+#[derive(Clone, Copy)]
+pub enum NotAsked {
+    /// A binder outside the terms binds what stands in them.
+    Escapes,
+    /// A binder in the terms does not bind by its list.
+    Lists,
+    /// The context's universe, which is this one, does not name a placeholder.
+    Universe(usize),
+    /// Nothing is asked at this variance.
+    Variance,
+    /// Lists of arguments are related that have as many.
+    Lengths,
+    /// What the question comes to may be too deep for the stack.
+    Depth,
+}
+
+// The typing mode of that name, in which no opaque types are defined.
+fn typing_mode<I: Interner>(mode: Mode, no_ids: LocalDefIds<I>) -> TypingMode<I::Key>
+    ensures { result ≡ typing_mode mode no_ids }
+{
+    match mode {
+        Mode::Coherence => TypingMode::Coherence,
+        Mode::Analysis => TypingMode::Analysis {
+            defining_opaque_types_and_generators: no_ids,
+        },
+        Mode::Borrowck => TypingMode::Borrowck {
+            defining_opaque_types: no_ids,
+        },
+        Mode::PostBorrowckAnalysis => TypingMode::PostBorrowckAnalysis {
+            defined_opaque_types: no_ids,
+        },
+        Mode::PostAnalysis => TypingMode::PostAnalysis,
+    }
+}
+
+// A new context over the interner of another one.
+pub(super) fn renewed<I: Interner>(
+    ctx: RefCtxt<I>,
+    no_ids: LocalDefIds<I>,
+    setup: Setup,
+    budget: usize,
+) -> RefCtxt<I>
+    requires { IsLawful (I.meaning ctx.interner) ctx.inner }
+    ensures interner { result.interner ≡ ctx.interner }
+    ensures lawful { IsLawful (I.meaning ctx.interner) result.inner }
+    ensures sets_up { IsSetUp result.inner no_ids setup }
+{
+    let mode = typing_mode::<I>(setup.mode, no_ids);
+    ctx.renewed(mode, setup.next_solver, budget)
+}
+
+// How many variables of a kind the context has.
+fn variables_count<I: Interner>(ctx: &RefCtxt<I>, kind: VariableKind) -> usize
+    ensures { result ≡ variables_in ctx.now.inner (var_kind kind) }
+{
+    match kind {
+        VariableKind::Ty => ctx.inner.types.len(),
+        VariableKind::Int => ctx.inner.ints.len(),
+        VariableKind::Float => ctx.inner.floats.len(),
+        VariableKind::Const => ctx.inner.consts.len(),
+        VariableKind::Region => ctx.inner.regions.len(),
+    }
+}
+
+// Makes one more variable of a kind.
+fn make_variable<I: Interner>(ctx: &mut RefCtxt<I>, kind: VariableKind) -> Result<(), OutOfMemory>
+    requires { IsLawful (I.meaning ctx.old.interner) ctx.old.inner }
+    ensures lawful { IsLawful (I.meaning ctx.new.interner) ctx.new.inner }
+    ensures grown { Extends (I.meaning ctx.old.interner) (I.meaning ctx.new.interner) }
+    ensures kept { (k : VarKind) → variables_in ctx.old.inner k ≤ variables_in ctx.new.inner k }
+    ensures universe { ctx.old.inner.universe.0 ≤ ctx.new.inner.universe.0 }
+    ensures one_more { let k = var_kind kind in
+        OnOk result (variables_in ctx.new.inner k ≡ suc (variables_in ctx.old.inner k)) }
+    ensures stays { OnOk result (ctx.new.inner.universe.0 ≡ ctx.old.inner.universe.0) }
+    ensures makes { OnOk result (MakesIn ctx.old.inner.universe.0 ctx.old.inner ctx.new.inner) }
+{
+    match kind {
+        VariableKind::Ty => {
+            let _ = ctx.next_ty_infer()?;
+        }
+        VariableKind::Int => {
+            let _ = ctx.next_int_var()?;
+        }
+        VariableKind::Float => {
+            let _ = ctx.next_float_var()?;
+        }
+        VariableKind::Const => {
+            let _ = ctx.next_const_infer()?;
+        }
+        VariableKind::Region => {
+            let _ = ctx.next_region_infer()?;
+        }
+    }
+    Ok(())
+}
+
+// Makes variables of a kind until the context has so many.
+fn make_variables<I: Interner>(
+    ctx: &mut RefCtxt<I>,
+    kind: VariableKind,
+    count: usize,
+) -> Result<(), OutOfMemory>
+    requires { IsLawful (I.meaning ctx.old.interner) ctx.old.inner }
+    ensures lawful { IsLawful (I.meaning ctx.new.interner) ctx.new.inner }
+    ensures grown { Extends (I.meaning ctx.old.interner) (I.meaning ctx.new.interner) }
+    ensures kept { (k : VarKind) → variables_in ctx.old.inner k ≤ variables_in ctx.new.inner k }
+    ensures universe { ctx.old.inner.universe.0 ≤ ctx.new.inner.universe.0 }
+    ensures has { OnOk result (count ≤ variables_in ctx.new.inner (var_kind kind)) }
+    ensures stays { OnOk result (ctx.new.inner.universe.0 ≡ ctx.old.inner.universe.0) }
+    ensures makes { OnOk result (MakesIn ctx.old.inner.universe.0 ctx.old.inner ctx.new.inner) }
+{
+    for _ in variables_count(ctx, kind)..count {
+        make_variable(ctx, kind)?;
+    }
+    Ok(())
+}
+
+// Makes variables of a kind until the context has the largest that is named.
+fn reach<I: Interner>(
+    ctx: &mut RefCtxt<I>,
+    kind: VariableKind,
+    largest: Option<usize>,
+) -> Result<(), OutOfMemory>
+    requires { IsLawful (I.meaning ctx.old.interner) ctx.old.inner }
+    ensures lawful { IsLawful (I.meaning ctx.new.interner) ctx.new.inner }
+    ensures grown { Extends (I.meaning ctx.old.interner) (I.meaning ctx.new.interner) }
+    ensures kept { (k : VarKind) → variables_in ctx.old.inner k ≤ variables_in ctx.new.inner k }
+    ensures universe { ctx.old.inner.universe.0 ≤ ctx.new.inner.universe.0 }
+    ensures has { OnOk result ((i : ℕ) → Reaches largest i → i < variables_in ctx.new.inner (var_kind kind)) }
+{
+    let count = count_to(largest)?;
+    make_variables(ctx, kind, count)
+}
+
+// How many variables there are up to that number.
+fn count_to(largest: Option<usize>) -> Result<usize, OutOfMemory>
+    ensures { IfOk result (λ n. (i : ℕ) → Reaches largest i → i < n) }
+{
+    match largest {
+        None => Ok(0),
+        Some(number) => number.checked_add(1).ok_or(OutOfMemory),
+    }
+}
+
+// Makes universes until the context is in one, or in a later one.
+fn enter_universe<I: Interner>(ctx: &mut RefCtxt<I>, universe: usize) -> Result<(), OutOfMemory>
+    requires { IsLawful (I.meaning ctx.old.interner) ctx.old.inner }
+    ensures interner { ctx.new.interner ≡ ctx.old.interner }
+    ensures lawful { IsLawful (I.meaning ctx.new.interner) ctx.new.inner }
+    ensures rest { ctx.new.inner ≡ record ctx.old.inner { universe = ctx.new.inner.universe } }
+    ensures later { ctx.old.inner.universe.0 ≤ ctx.new.inner.universe.0 }
+    ensures enters { OnOk result (ctx.new.inner.universe.0 ≡ max ctx.old.inner.universe.0 universe) }
+{
+    for _ in ctx.inner.universe.0..universe {
+        let _ = ctx.create_next_universe()?;
+    }
+    Ok(())
+}
+
+// Makes the variables of a statement that are not there yet, in its universe, or the context's if that is later.
+fn have_stated<I: Interner>(ctx: &mut RefCtxt<I>, variables: Variables) -> Result<(), OutOfMemory>
+    requires { IsLawful (I.meaning ctx.old.interner) ctx.old.inner }
+    ensures lawful { IsLawful (I.meaning ctx.new.interner) ctx.new.inner }
+    ensures grown { Extends (I.meaning ctx.old.interner) (I.meaning ctx.new.interner) }
+    ensures kept { (k : VarKind) → variables_in ctx.old.inner k ≤ variables_in ctx.new.inner k }
+    ensures universe { ctx.old.inner.universe.0 ≤ ctx.new.inner.universe.0 }
+    ensures has { OnOk result (HasStated ctx.new.inner variables) }
+    ensures makes { let u = max ctx.old.inner.universe.0 variables.universe in
+        OnOk result (MakesIn u ctx.old.inner ctx.new.inner) }
+{
+    enter_universe(ctx, variables.universe)?;
+    make_variables(ctx, VariableKind::Ty, variables.types)?;
+    make_variables(ctx, VariableKind::Const, variables.consts)?;
+    make_variables(ctx, VariableKind::Region, variables.regions)
+}
+
+// Makes the variables of statements that are not there yet, statement by statement.
+pub(super) fn have_all_stated<I: Interner>(
+    ctx: &mut RefCtxt<I>,
+    stated: &[Variables],
+) -> Result<(), OutOfMemory>
+    requires { IsLawful (I.meaning ctx.old.interner) ctx.old.inner }
+    ensures lawful { IsLawful (I.meaning ctx.new.interner) ctx.new.inner }
+    ensures grown { Extends (I.meaning ctx.old.interner) (I.meaning ctx.new.interner) }
+    ensures has { OnOk result (All (HasStated ctx.new.inner) stated.now) }
+{
+    for variables in stated {
+        have_stated(ctx, *variables)?;
+    }
+    Ok(())
+}
+
+// Makes variables until the context has what is needed.
+pub(super) fn have_variables<I: Interner>(
+    ctx: &mut RefCtxt<I>,
+    needs: Needs,
+) -> Result<(), OutOfMemory>
+    requires lawful { IsLawful (I.meaning ctx.old.interner) ctx.old.inner }
+    requires universe { needs.universe ≤ ctx.old.inner.universe.0 }
+    ensures lawful { IsLawful (I.meaning ctx.new.interner) ctx.new.inner }
+    ensures grown { Extends (I.meaning ctx.old.interner) (I.meaning ctx.new.interner) }
+    ensures has { OnOk result (Has ctx.new.inner needs) }
+{
+    reach(ctx, VariableKind::Ty, needs.types)?;
+    reach(ctx, VariableKind::Int, needs.ints)?;
+    reach(ctx, VariableKind::Float, needs.floats)?;
+    reach(ctx, VariableKind::Const, needs.consts)?;
+    reach(ctx, VariableKind::Region, needs.regions)
+}
+
+// Makes variables until the context has one that is named.
+pub(super) fn have_variable<I: Interner>(
+    ctx: &mut RefCtxt<I>,
+    variable: VariableId,
+) -> Result<(), OutOfMemory>
+    requires { IsLawful (I.meaning ctx.old.interner) ctx.old.inner }
+    ensures lawful { IsLawful (I.meaning ctx.new.interner) ctx.new.inner }
+    ensures grown { Extends (I.meaning ctx.old.interner) (I.meaning ctx.new.interner) }
+    ensures kept { (k : VarKind) → variables_in ctx.old.inner k ≤ variables_in ctx.new.inner k }
+    ensures has { OnOk result (HasNamed ctx.new.inner variable) }
+{
+    reach(ctx, variable.kind, Some(variable.number))
+}
+
+// Why two types are not related so in a context, if they are not.
+pub(super) fn refusal<I: Interner>(
+    ctx: &RefCtxt<I>,
+    relation: Relation,
+    lhs: Needs,
+    rhs: Needs,
+) -> Option<NotAsked>
+    ensures { IfNone result (IsAskable ctx.now.inner.universe.0 (variance_of relation) lhs rhs) }
+{
+    if !lhs.closed || !rhs.closed {
+        return Some(NotAsked::Escapes);
+    }
+    if !lhs.by_lists || !rhs.by_lists {
+        return Some(NotAsked::Lists);
+    }
+    let universe = ctx.inner.universe.0;
+    if universe < lhs.universe || universe < rhs.universe {
+        return Some(NotAsked::Universe(universe));
+    }
+    match relation {
+        Relation::At(Variance::Bivariant) => Some(NotAsked::Variance),
+        Relation::At(_) | Relation::Structurally => None,
+    }
+}
+
+/// Relates two types, or two lists of arguments, as is asked in any context that can. What is answered is what the
+/// context promises: after `Ok` what is recorded and the goals relate the two, and no equal pair is lost; `Unrelated`
+/// says that nothing made them one.
+pub(super) fn relate<C: InferCtxtLike, T: Relate<C::Interner>>(
+    ctx: &mut C,
+    param_env: ParamEnv<C::Interner>,
+    lhs: T,
+    relation: Relation,
+    rhs: T,
+    span: Span<C::Interner>,
+) -> RelateGoals<C::Interner>
+    requires lawful { (C.state ctx.old).lawful }
+    requires decides { variance_of relation ≢ Variance.Bivariant }
+    requires env_known { KnowsEnv (C.state ctx.old) param_env }
+    requires fits { T.fits (C.state ctx.old).meaning lhs rhs }
+    requires lhs_known { KnowsTerm (C.state ctx.old) T.over T.tree lhs }
+    requires rhs_known { KnowsTerm (C.state ctx.old) T.over T.tree rhs }
+    requires lhs_taken { TakesTerm (C.state ctx.old) T.over T.tree lhs }
+    requires rhs_taken { TakesTerm (C.state ctx.old) T.over T.tree rhs }
+    requires lhs_in { HasTerm (C.state ctx.old) T.over T.tree lhs }
+    requires rhs_in { HasTerm (C.state ctx.old) T.over T.tree rhs }
+    ensures answers { let v = variance_of relation in
+        AnswersTerms C.state ctx.old ctx.new T.over T.tree param_env v lhs rhs result }
+    ensures keeps { KeepsEqual C.state ctx.old ctx.new T.over T.tree lhs rhs result }
+    ensures apart { TellsApart C.state ctx.old ctx.new T.over T.tree lhs rhs result }
+    ensures goals { AnswersOnly C.state ctx.old ctx.new (aliases_of relation) param_env (variance_of relation) result }
+    ensures lawful { (C.state ctx.new).lawful }
+    ensures grown { Extends (C.state ctx.old).meaning (C.state ctx.new).meaning }
+    ensures why_known { IfErr result (λ e. KnowsFault (C.state ctx.new).meaning e) }
+{
+    match relation {
+        Relation::At(variance) => ctx.relate(param_env, lhs, variance, rhs, span),
+        Relation::Structurally => ctx.eq_structurally_relating_aliases(param_env, lhs, rhs, span),
+    }
+}
+
+/// Writes why a question is not asked.
+pub(super) fn write_not_asked<W: Write>(why: NotAsked, out: &mut W) -> fmt::Result {
+    out.write_str("not asked: ")?;
+    match why {
+        NotAsked::Escapes => out.write_str(
+            "a binder outside these types binds what stands in them",
+        ),
+        NotAsked::Lists => out.write_str("a binder in these types does not bind by its list"),
+        NotAsked::Universe(universe) => {
+            write!(
+                out,
+                "the context's universe, {universe}, does not name the placeholder"
+            )
+        }
+        NotAsked::Variance => out.write_str("nothing is related at this variance"),
+        NotAsked::Lengths => out.write_str("one list has more arguments than the other"),
+        NotAsked::Depth => out.write_str("what it comes to may be too deep for the stack"),
+    }
+}

@@ -1,0 +1,189 @@
+//! Questions are asked in turn, and their answers are written, with a text of the caller's between two.
+#![tactic(auto)]
+
+ghost use Rattle.text_asking.specs.Asking.{AllReady};
+
+mod answer_text;
+mod comparing;
+mod context;
+mod counts;
+mod depth;
+mod elaborating;
+mod folding;
+mod interner;
+mod lists;
+mod outlives;
+pub mod printing;
+mod question;
+mod quick;
+mod roots;
+pub mod sized_keys;
+mod visiting;
+mod walking;
+mod writing;
+
+use answer_text::AnswerText;
+use depth::{Counts, Depths};
+use text_elaboration::stating::state_all;
+use interner::{Tables, make_interner, make_tables};
+use question::{Ready, ask_unless, context_for};
+use relation_semantics::infer_ctxt::TypingMode;
+use text_needs::binding::uses_of;
+pub use text_needs::needs;
+use text_needs::needs::needs_of;
+use relation_reference::context::RefCtxt;
+use sized_keys::SizedKeys;
+use std::alloc::Global;
+use std::fmt::{self, Write};
+use text_reading::naming::Program;
+use text_terms::building::build;
+use text_terms::printing::TextsOf;
+use writing::write_whole;
+
+// What is answered where a trait states a predicate in which a variable stands that its binder does not bind.
+const NOT_OWN: &str = "not asked: what a trait states is to bind its variables itself";
+
+/// How many instantiations a context may make where nothing is said of it.
+pub const BUDGET: usize = 100;
+
+// Writes what stands between two answers, before each but the first.
+fn separate<W: Write>(any: bool, between: &str, out: &mut W) -> fmt::Result {
+    if any {
+        return out.write_str(between);
+    }
+    Ok(())
+}
+
+// Asks all questions over terms that are ready.
+fn ask_ready<I: SizedKeys + Drop, W: Write>(
+    interner: I,
+    texts: &TextsOf<I>,
+    program: &Program,
+    terms: &Ready<I>,
+    between: &str,
+    out: &mut W,
+) -> fmt::Result
+    requires { AllReady (I.meaning interner) terms.now }
+{
+    let alloc = interner.alloc();
+    let Ok(made) = RefCtxt::new(interner, TypingMode::PostAnalysis, true, BUDGET) else {
+        return refuse_all(program, between, out);
+    };
+    let Ok(room) = AnswerText::new(alloc) else {
+        return refuse_all(program, between, out);
+    };
+    let Ok(begun) = Depths::new(alloc, program) else {
+        return refuse_all(program, between, out);
+    };
+    let mut depths = begun;
+    let mut text = room;
+    let mut ctx = made;
+    let mut any = false;
+    for question in &program.questions {
+        separate(any, between, out)?;
+        let asked = context_for(ctx, terms, question);
+        let counts = Counts {
+            types: asked.inner.types.len(),
+            consts: asked.inner.consts.len(),
+        };
+        let why_not = depths.refusal(program, terms.needs, question, counts);
+        let (left, outcome) = ask_unless(asked, terms, question, why_not);
+        ctx = left;
+        write_whole(&ctx, texts, question, &outcome, &mut text, out)?;
+        any = true;
+    }
+    Ok(())
+}
+
+// Answers the same to each question.
+fn answer_all<W: Write>(
+    program: &Program,
+    answer: &str,
+    between: &str,
+    out: &mut W,
+) -> fmt::Result {
+    let mut any = false;
+    for _ in &program.questions {
+        separate(any, between, out)?;
+        out.write_str(answer)?;
+        any = true;
+    }
+    Ok(())
+}
+
+// Answers that a growth was refused, to each question.
+fn refuse_all<W: Write>(program: &Program, between: &str, out: &mut W) -> fmt::Result {
+    answer_all(program, "memory", between, out)
+}
+
+/// Asks all questions of a program in turn, over an interner and the ids and names that its items and names have
+/// there, and writes the answers, with the given text between two. Where a growth is refused before an answer is whole,
+/// `memory` stands in its place. An answer longer than 1 MiB is cut off there, with `..` behind it. A question with
+/// `then` goes on in the context that was left.
+///
+/// # Errors
+/// What the writer answers where an answer can't be written.
+pub fn ask_over<I: SizedKeys + Drop, W: Write>(
+    interner: I,
+    ids: &[I::Id],
+    names: &[I::Name],
+    texts: &TextsOf<I>,
+    program: &Program,
+    between: &str,
+    out: &mut W,
+) -> fmt::Result {
+    let mut interner = interner;
+    let alloc = interner.alloc();
+    let Ok(no_ids) = interner.no_local_def_ids() else {
+        return refuse_all(program, between, out);
+    };
+    let Ok(built) = build(&mut interner, ids, names, program) else {
+        return refuse_all(program, between, out);
+    };
+    let Ok(uses) = uses_of(alloc, program) else {
+        return refuse_all(program, between, out);
+    };
+    let Ok(needs) = needs_of(alloc, program, &uses) else {
+        return refuse_all(program, between, out);
+    };
+    let terms = Ready {
+        built: &built,
+        needs: &needs,
+        parts: &program.parts,
+        puts: &program.puts,
+        skips: &program.skips,
+        clauses: &program.clauses,
+        ids,
+        names,
+        no_ids,
+        variables: &program.variables,
+    };
+    ask_ready(interner, texts, program, &terms, between, out)
+}
+
+/// Asks all questions of a program in turn over the reference interner, and writes the answers, with the given text
+/// between two, as `ask_over` does. Where a trait of the program states what binds a variable outside of itself, that is
+/// the answer to each.
+///
+/// # Errors
+/// What the writer answers where an answer can't be written.
+pub fn ask_all<W: Write>(
+    alloc: Global,
+    program: &Program,
+    between: &str,
+    out: &mut W,
+) -> fmt::Result {
+    let Ok((mut interner, ids)) = make_interner(alloc, program) else {
+        return refuse_all(program, between, out);
+    };
+    let Ok(tables) = make_tables(alloc, program, &ids) else {
+        return refuse_all(program, between, out);
+    };
+    let Tables { names, texts } = tables;
+    match state_all(&mut interner, &ids, &names, program) {
+        Ok(true) => {}
+        Ok(false) => return answer_all(program, NOT_OWN, between, out),
+        Err(_) => return refuse_all(program, between, out),
+    }
+    ask_over(interner, &ids, &names, &texts, program, between, out)
+}
