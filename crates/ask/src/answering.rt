@@ -2,10 +2,10 @@
 ghost use Rattle.std.specs.Prelude.{◌≡◌, ◌≢◌, ◌≤◌};
 ghost use Rattle.std.specs.IoError.{error_kind};
 
-use text_asking::ask_all;
 use std::alloc::Global;
 use std::fmt::{self, Write};
 use std::io::{self, ErrorKind, Read};
+use text_asking::ask_all;
 use text_reading::naming::{Program, look_up};
 use text_reading::reading::read;
 use text_reading::telling::{Lines, tell_unnamed, tell_unread};

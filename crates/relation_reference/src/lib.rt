@@ -2,4 +2,5 @@
 #![tactic(auto)]
 
 pub mod context;
+
 pub use reference_interner::RefInterner;

@@ -9,9 +9,9 @@ ghost use Rattle.relation_semantics.specs.ContextCalls.{IsUnresolved, Grows};
 ghost use Rattle.relation_reference.specs.Tables.{IsLawful};
 
 use reference_interner::RefInterner;
-use relation_semantics::infer_ctxt::{InferCtxtLike, TypingMode};
 use relation_folds::error::RelateResult;
 use relation_reference::context::RefCtxt;
+use relation_semantics::infer_ctxt::{InferCtxtLike, TypingMode};
 use relation_terms::predicate::OutlivesPredicate;
 use relation_terms::terms::{
     ConstVid, ErrorGuaranteed, FloatVid, IntVid, Interner, Keys, OutOfMemory, Region, RegionKind,

@@ -7,10 +7,10 @@ ghost use Rattle.relation_semantics.specs.Stores.{IsSound};
 ghost use Rattle.relation_semantics.specs.Constraints.{constraint_at};
 ghost use Rattle.relation_tests.specs.Plain.{plain_store, plain_state, plain_manner, AskedPlainly, RelatedUnder};
 
-use relation_semantics::infer_ctxt::BinderOf;
 use relation_folds::error::RelateResult;
 use relation_folds::fold::TypeFoldable;
 use relation_folds::visit::TypeVisitable;
+use relation_semantics::infer_ctxt::BinderOf;
 use relation_terms::predicate::{OutlivesPredicate, RegionConstraint, RegionEqPredicate};
 use relation_terms::terms::{
     Const, GenericArgKind, GenericArgs, Interner, ItemOf, Region, RegionKey, Ty, Variance,

@@ -1,7 +1,7 @@
 //! A relation that borrows a context gives it back.
 use reference_interner::RefInterner;
-use relation_semantics::infer_ctxt::{InferCtxtLike, TypingMode};
 use relation_reference::context::RefCtxt;
+use relation_semantics::infer_ctxt::{InferCtxtLike, TypingMode};
 use relation_terms::terms::{Interner, OutOfMemory, ParamEnv, Variance};
 use std::test::Fail;
 use type_relations::relate::StructurallyRelateAliases;

@@ -4,9 +4,9 @@ ghost use Rattle.relation_terms.specs.Trees.{known};
 ghost use Rattle.reference_interner.specs.Adding.{meaning_in};
 
 use reference_interner::RefInterner;
-use text_asking::sized_keys::SizedKeys;
 use relation_terms::terms::{GenericArgKind, Interner, OutOfMemory, Ty, TyKind, UintTy};
 use std::alloc::Global;
+use text_asking::sized_keys::SizedKeys;
 
 // The tuple of a type and itself.
 fn doubled(cx: &mut RefInterner, ty: Ty<RefInterner>) -> Result<Ty<RefInterner>, OutOfMemory>

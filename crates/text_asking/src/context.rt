@@ -12,11 +12,11 @@ ghost use Rattle.std.specs.List.{All};
 ghost use Rattle.text_asking.specs.Asking.{Has, HasNamed, HasStated, IsAskable, IsSetUp, MakesIn};
 ghost use Rattle.text_asking.specs.Asking.{aliases_of, typing_mode, var_kind, variables_in, variance_of};
 
-use relation_semantics::infer_ctxt::{InferCtxtLike, TypingMode};
-use text_needs::needs::Needs;
 use relation_reference::context::RefCtxt;
+use relation_semantics::infer_ctxt::{InferCtxtLike, TypingMode};
 use relation_terms::terms::{Interner, LocalDefIds, OutOfMemory, ParamEnv, Span, Variance};
 use std::fmt::{self, Write};
+use text_needs::needs::Needs;
 use text_reading::naming::{Mode, Setup, VariableId, VariableKind, Variables};
 use text_reading::reading::Relation;
 use type_relations::relate::Relate;

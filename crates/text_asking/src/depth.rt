@@ -2,9 +2,9 @@
 
 use crate::context::NotAsked;
 use crate::question::Unasked;
+use std::alloc::{AllocError, Global};
 use text_elaboration::pulls::LIMIT;
 use text_needs::needs::{Needs, need_at};
-use std::alloc::{AllocError, Global};
 use text_reading::naming::{Parts, Program, Question, QuestionKind, Says, Term};
 
 // How many terms with variables a chain may lead through, and by how many levels elaborating may make terms deeper.

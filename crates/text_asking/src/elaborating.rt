@@ -9,13 +9,13 @@ ghost use Rattle.relation_reference.specs.Tables.{IsLawful};
 ghost use Rattle.text_asking.specs.Asking.{AllReady};
 
 use crate::question::{Ready, Unasked};
-use text_elaboration::pulls::{
-    LIMIT, Manner, PulledOf, elaborated, supertrait_ids_of, supertraits_of,
-};
-use text_clauses::building::{build_bound, build_clauses};
 use relation_reference::context::RefCtxt;
 use relation_terms::predicate::TraitRef;
 use relation_terms::terms::{Binder, Clause, Interner};
+use text_clauses::building::{build_bound, build_clauses};
+use text_elaboration::pulls::{
+    LIMIT, Manner, PulledOf, elaborated, supertrait_ids_of, supertraits_of,
+};
 use text_reading::naming::Parts;
 
 // How many predicates are told at most. Each is written with three bytes or more: so many are more than an answer has.

@@ -7,10 +7,10 @@ ghost use Rattle.text_asking.specs.Asking.{AllReady, IsReady, KnowsRelated};
 
 use crate::context::{NotAsked, have_variables, refusal, relate};
 use crate::question::{Ready, Unasked};
-use text_needs::needs::{Needs, both, parts_need};
 use relation_reference::context::RefCtxt;
 use relation_terms::terms::parts::member_count;
 use relation_terms::terms::{GenericArgs, Interner, Parts as PartsOfTerm, Variance};
+use text_needs::needs::{Needs, both, parts_need};
 use text_reading::naming::Parts;
 use text_reading::reading::Relation;
 use text_terms::building::keys_at;

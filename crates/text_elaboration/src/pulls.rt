@@ -10,7 +10,6 @@ ghost use Rattle.text_elaboration.specs.Pulls.{KnowsPulled, AnswersOne, Answers,
 ghost use Rattle.text_elaboration.specs.Pulls.{FindsOne, FindsUpTo, WentOn, AnswersSupertraits, ReachesOne, AreReached};
 ghost use Rattle.text_elaboration.specs.Pulls.{sign_text};
 
-use text_clauses::printing::{write_bound, write_clause};
 use relation_elaboration::{
     ElabFault, Elaborator, FilterToTraits, SupertraitDefIds, supertrait_def_ids,
 };
@@ -20,6 +19,7 @@ use relation_terms::terms::{
 };
 use std::alloc::Global;
 use std::fmt::{self, Write};
+use text_clauses::printing::{write_bound, write_clause};
 use text_terms::printing::{TextsOf, write_item_name};
 
 /// How many different predicates an elaboration may meet where nothing is said of it.

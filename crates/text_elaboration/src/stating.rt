@@ -13,13 +13,13 @@ ghost use Rattle.text_elaboration.specs.Stating.{TermsStay, MakesBounds, StatesB
 ghost use Rattle.text_elaboration.specs.Stating.{StatesOne, StatesAll};
 
 use reference_interner::{ItemId, NoSpan, NodeKey, RefInterner, SymbolId};
-use text_clauses::building::{build_bound, build_clauses};
 use relation_folds::visit::has_escaping_bound_vars;
 use relation_terms::predicate::{TraitRef, clause_of_trait_ref};
 use relation_terms::terms::{
     Binder, Clause, ClauseKey, GenericArg, Interner, OutOfMemory, TraitId,
 };
 use relation_tools::anonymize::binds_within;
+use text_clauses::building::{build_bound, build_clauses};
 use text_reading::naming::{Clause as Said, Parts, Program, Stated};
 use text_reading::reading::StatedKind;
 use text_terms::building::{build, name_at};

@@ -5,7 +5,6 @@ ghost use Rattle.relation_terms.specs.Meaning.{Extends, kind_tree};
 ghost use Rattle.relation_folds.specs.Faults.{KnowsError};
 
 use reference_interner::{ItemId, RefInterner, SymbolId};
-use text_asking::printing::write_error;
 use relation_folds::error::{ExpectedFound, TypeError, TypeErrorOf};
 use relation_terms::terms::{
     ExternAbi, ForeignId, Interner, ParamTy, PredicatePolarity, RegionKind, RegionVid, Safety,
@@ -15,6 +14,7 @@ use std::alloc::Global;
 use std::collections::HashMap;
 use std::fmt::{self, Write};
 use std::test::Fail;
+use text_asking::printing::write_error;
 use text_terms::printing::{ItemText, Texts, TextsOf, write_ty};
 
 // The first name and the first item have a text, the others have none.

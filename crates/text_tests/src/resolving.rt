@@ -1,8 +1,8 @@
 //! Questions about a term go through each part once, however often it stands there, and their answers are cut off.
-use text_asking::ask_all;
 use std::alloc::Global;
 use std::fmt::{self, Write};
 use std::test::Fail;
+use text_asking::ask_all;
 use text_reading::naming::look_up;
 use text_reading::reading::read;
 

@@ -25,8 +25,8 @@ use crate::context::clearing::{ClearTypes, parts_inside};
 use crate::context::memory::TermVid;
 use crate::context::resolving::{is_same_vid, variable_of};
 use crate::context::varying::variance_of;
-use relation_semantics::relate::StructurallyRelateAliases;
 use relation_folds::error::{RelateFault, RelateFaultOf, TypeError};
+use relation_semantics::relate::StructurallyRelateAliases;
 use relation_terms::terms::parts::{is_same, part, parts_count, the_ty, with_parts};
 use relation_terms::terms::{
     ConstKind, Interner, Keys, OutOfMemory, Part, PartOf, Region, RegionKind, RegionVid, Ty, TyKey,

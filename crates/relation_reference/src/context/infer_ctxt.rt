@@ -9,11 +9,11 @@ ghost use Rattle.relation_reference.specs.Opened.{IsBinderIn};
 ghost use Rattle.relation_reference.specs.Changes.{EntersValue, InstantiatesValue};
 
 use crate::context::RefCtxt;
-use relation_semantics::infer_ctxt::{BinderOf, InferCtxtLike, TypingMode, VisibleForLeakCheck};
-use relation_semantics::relate::StructurallyRelateAliases;
 use relation_folds::error::RelateResult;
 use relation_folds::fold::TypeFoldable;
 use relation_folds::visit::TypeVisitable;
+use relation_semantics::infer_ctxt::{BinderOf, InferCtxtLike, TypingMode, VisibleForLeakCheck};
+use relation_semantics::relate::StructurallyRelateAliases;
 use relation_terms::terms::{
     Const, ConstVid, ErrorGuaranteed, FloatVarValue, FloatVid, IntVarValue, IntVid, Interner,
     OutOfMemory, Region, RegionVid, Span, Ty, TyVid, UniverseIndex, Variance,

@@ -13,8 +13,8 @@ use crate::context::RefCtxt;
 use crate::context::generalising::Target;
 use crate::context::memory::TermVid;
 use crate::context::table::bind;
-use relation_semantics::relate::StructurallyRelateAliases;
 use relation_folds::error::{RelateFault, RelateFaultOf, TypeError};
+use relation_semantics::relate::StructurallyRelateAliases;
 use relation_terms::terms::parts::{the_const, the_ty};
 use relation_terms::terms::{Const, ConstVid, Interner, Part, Ty, TyVid, Variance};
 

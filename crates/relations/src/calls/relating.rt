@@ -4,15 +4,15 @@ ghost use Rattle.relation_terms.specs.Meaning.{Extends};
 ghost use Rattle.relations.specs.Terms.{byte_alone};
 
 use crate::running::RowFault;
-use text_asking::BUDGET;
-use text_asking::printing::write_answer;
-use relation_semantics::infer_ctxt::TypingMode;
 use relation_reference::context::RefCtxt;
+use relation_semantics::infer_ctxt::TypingMode;
 use relation_terms::predicate::{TraitPredicate, TraitRef};
 use relation_terms::terms::{
     GenericArgKind, Interner, OutOfMemory, PredicatePolarity, TraitId, TyKind, UintTy, Variance,
 };
 use std::fmt::Write;
+use text_asking::BUDGET;
+use text_asking::printing::write_answer;
 use text_terms::printing::TextsOf;
 use type_relations::relate::solver_relating::RelateExt;
 

@@ -30,9 +30,9 @@ use crate::relate::combine::meeting::{are_no_const_vars, meet_consts, meet_tys};
 use crate::relate::leaving::{Leaving, Standing, leaves_const, left_to, ty_standing};
 use crate::relate::solver_relating::{GoalOf, recording};
 use crate::relate::{HasState, Step, StructurallyRelateAliases};
+use relation_folds::error::RelateResult;
 use relation_semantics::infer_ctxt::InferCtxtLike;
 use relation_semantics::variances::declared_variance;
-use relation_folds::error::RelateResult;
 use relation_terms::terms::{
     AliasRelationDirection, Const, ErrorGuaranteed, GenericArg, GenericArgKind, GenericArgs,
     Interner, ItemOf, OutOfMemory, ParamEnv, Predicate, Span, TermKind, Ty, Variance,

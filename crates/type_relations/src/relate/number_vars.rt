@@ -9,8 +9,8 @@ ghost use Rattle.relation_semantics.specs.ContextCalls.{IsUnresolved};
 ghost use Rattle.type_relations.specs.NumberVars.{number_kind, number_of, number_tree, infer_of, IsNoNumberVar};
 ghost use Rattle.type_relations.specs.NumberVars.{IsIntValue, IsFloatValue, FitsNumber, EquatesNumbers, BindsNumberTo};
 
-use relation_semantics::infer_ctxt::InferCtxtLike;
 use relation_folds::error::{ExpectedFound, RelateFault, RelateFaultOf, TypeError};
+use relation_semantics::infer_ctxt::InferCtxtLike;
 use relation_terms::terms::{
     FloatVarValue, FloatVid, InferTy, IntVarValue, IntVid, Interner, Ty, TyKind,
 };

@@ -19,8 +19,8 @@ use crate::relate::parts::{
     const_part, const_parts_count, is_by_parts, part, parts_count, term_part, term_parts_count,
 };
 use crate::relate::{TypeRelation, handing};
-use relation_semantics::variances::{alias_argument_variance, pointee};
 use relation_folds::error::{RelateResult, TypeErrorOf};
+use relation_semantics::variances::{alias_argument_variance, pointee};
 use relation_terms::terms::{
     Const, ConstKind, DefId, GenericArg, GenericArgs, Interner, ItemOf, Part, PartOf, Ty, TyKind,
     Variance,

@@ -26,8 +26,8 @@ mod steps;
 use crate::relate::{Relate, StructurallyRelateAliases};
 use delayed_map::DelayedSet;
 pub use relation::{GoalOf, SolverRelating};
-use relation_semantics::infer_ctxt::InferCtxtLike;
 use relation_folds::error::RelateResult;
+use relation_semantics::infer_ctxt::InferCtxtLike;
 use relation_terms::terms::{Interner, ParamEnv, Span, Variance};
 
 /// The goals that relating answers, or why it stopped.

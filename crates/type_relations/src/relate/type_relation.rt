@@ -13,10 +13,10 @@ ghost use Rattle.type_relations.specs.Keyed.{SteppedConsts, SteppedTys, TysStepA
 ghost use Rattle.type_relations.specs.Keyed.{variances_in, Decides};
 
 use crate::relate::Step;
-use relation_semantics::infer_ctxt::BinderOf;
 use relation_folds::error::RelateResult;
 use relation_folds::fold::TypeFoldable;
 use relation_folds::visit::TypeVisitable;
+use relation_semantics::infer_ctxt::BinderOf;
 use relation_terms::terms::{Const, GenericArgs, Interner, ItemOf, Region, Ty, Variance};
 
 /// What stands as a relation does. All that is said of one relation speaks of this state.

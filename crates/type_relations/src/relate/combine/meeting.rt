@@ -9,8 +9,8 @@ ghost use Rattle.relation_semantics.specs.Resolving.{IsShallow, IsShallowConst};
 use crate::relate::number_vars::{bind_number, equate_numbers, number_var, unlike};
 use crate::relate::variables::{const_var, ty_var};
 use crate::relate::{Step, StructurallyRelateAliases};
-use relation_semantics::infer_ctxt::InferCtxtLike;
 use relation_folds::error::RelateResult;
+use relation_semantics::infer_ctxt::InferCtxtLike;
 use relation_terms::terms::{Const, Ty, Variance};
 
 // Whether neither of two types is a type variable.

@@ -7,9 +7,9 @@ ghost use Rattle.relation_semantics.specs.Bound.{BindsByList};
 ghost use Rattle.relation_semantics.specs.ContextCalls.{Grows};
 ghost use Rattle.type_relations.specs.Rounds.{HasBinder, Opens, one_uses_bound};
 
-use relation_semantics::infer_ctxt::{BinderOf, InferCtxtLike};
 use relation_folds::fold::TypeFoldable;
 use relation_folds::visit::{TypeVisitable, has_escaping_bound_vars};
+use relation_semantics::infer_ctxt::{BinderOf, InferCtxtLike};
 use relation_terms::terms::{OutOfMemory, Variance};
 
 // Whether a round has placeholders for what the second of two binders binds, and new variables for the first's.

@@ -6,10 +6,10 @@ ghost use Rattle.type_relations.specs.SolverTerms.{solver_through};
 
 use crate::relate::{HasState, Relate, Step, StructurallyRelateAliases, TypeRelation};
 use delayed_map::DelayedSet;
-use relation_semantics::infer_ctxt::{BinderOf, InferCtxtLike};
 use relation_folds::error::RelateResult;
 use relation_folds::fold::TypeFoldable;
 use relation_folds::visit::TypeVisitable;
+use relation_semantics::infer_ctxt::{BinderOf, InferCtxtLike};
 use relation_terms::terms::{
     Const, GenericArgs, Goal, Interner, ItemOf, Keys, ParamEnv, Predicate, Region, Span, Ty,
     Variance,

@@ -28,10 +28,10 @@ use crate::relate::solver_relating::opening::{
 };
 use crate::relate::solver_relating::recording::relate_regions;
 use crate::relate::variables::{have_no_variable, ty_var};
-use relation_semantics::infer_ctxt::{BinderOf, InferCtxtLike};
 use relation_folds::error::RelateResult;
 use relation_folds::fold::TypeFoldable;
 use relation_folds::visit::TypeVisitable;
+use relation_semantics::infer_ctxt::{BinderOf, InferCtxtLike};
 use relation_terms::terms::{Const, GenericArgs, Interner, ItemOf, Region, Ty, TyVid, Variance};
 
 impl<'a, Infcx: InferCtxtLike> SolverRelating<'a, Infcx> {
