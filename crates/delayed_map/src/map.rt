@@ -5,16 +5,17 @@ ghost use Rattle.std.specs.Map.{lookup};
 ghost use Rattle.delayed_map.specs.Delayed.{TellsNewKey, PutsValue};
 
 use crate::CACHE_CUTOFF;
+use relation_terms::hashing::KeyHasher;
 use relation_terms::terms::OutOfMemory;
 use std::alloc::{Allocator, Global};
 use std::collections::HashMap;
-use std::hash::{BuildHasherDefault, FoldHasher, Hash};
+use std::hash::{BuildHasherDefault, Hash};
 use std::marker::Model;
 
 /// A map that lets its first 32 insertions go, and keeps the later ones.
 #[derive(Drop)]
 pub struct DelayedMap<K: Eq + Hash, V, A: Allocator = Global> {
-    cache: HashMap<K, V, BuildHasherDefault<FoldHasher>, A>,
+    cache: HashMap<K, V, BuildHasherDefault<KeyHasher>, A>,
     count: u32,
 }
 

@@ -4,16 +4,17 @@ ghost use Rattle.std.specs.List.{list_any};
 ghost use Rattle.delayed_map.specs.Delayed.{TellsNew, PutsMember};
 
 use crate::CACHE_CUTOFF;
+use relation_terms::hashing::KeyHasher;
 use relation_terms::terms::OutOfMemory;
 use std::alloc::{Allocator, Global};
 use std::collections::HashSet;
-use std::hash::{BuildHasherDefault, FoldHasher, Hash};
+use std::hash::{BuildHasherDefault, Hash};
 use std::marker::Model;
 
 /// A set that lets its first 32 insertions go, and keeps the later ones.
 #[derive(Drop)]
 pub struct DelayedSet<T: Eq + Hash, A: Allocator = Global> {
-    cache: HashSet<T, BuildHasherDefault<FoldHasher>, A>,
+    cache: HashSet<T, BuildHasherDefault<KeyHasher>, A>,
     count: u32,
 }
 
