@@ -1,4 +1,16 @@
 -- Registered goals, what they ask of an assignment, and when they hold.
+--
+--   Goal                          a predicate in an environment; goal_of e p makes one
+--   goals_of m gs                 what goals over keys mean, by m
+--   KnowsGoal m g                 the interner knows both keys of a goal
+--   asked p                       what a predicate asks of two terms, if anything: an Asked
+--   Holds c w s g                 assignment s makes goal g true under interpretation w; c declares items' variances
+--   Relates c st gs e v a b       what satisfies st and makes the goals gs true relates a and b at v in e
+--   MakesOneTree s g              s makes both sides of a subtype or alias goal one tree
+--   IsQuiet g                     g asks nothing of two terms
+--   GoalInContext st g            each variable of g's predicate is the context's
+--   ByDeclared always v           items' arguments are related at the variances that items declare
+--   Registered c k v e st st' g   g may be registered between two stores where terms are related at v, set up as k
 use Rattle.std.specs.Prelude.{◌≡◌, ◌⊎◌, ℕ, Bool, List, [], All, IsTrue, map}
 use Rattle.relation_terms.specs.Meaning.{Meaning}
 use Rattle.relation_terms.specs.declared.terms.goal.Goal.{Goal as KeyedGoal}

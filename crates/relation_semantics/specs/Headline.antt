@@ -1,4 +1,12 @@
 -- What relating two terms promises, as it stands on `relate`.
+--
+--   AnswersGoals c st st' gs e v a b   what satisfies st' and makes the goals gs true relates a and b at v in e, and
+--                                      satisfied st
+--   KeepsEqualTerms st st' gs a b      what satisfied st and made a and b one tree extends to satisfy st', with both
+--                                      sides of each goal one tree
+--   IsFirstOrderPair st a b            a, b and the bindings of st are first-order
+--   KeepsUnifiers st st' a b           up to erasure, just the solutions of st that unify a and b extend to solutions
+--                                      of st'
 use Rattle.std.specs.Prelude.{◌≡◌, ◌↔◌, List, All}
 use Rattle.term_enums.specs.declared.Variance.{Variance}
 use Rattle.relation_terms.specs.Trees.{Tree, Assign, apply}

@@ -1,4 +1,28 @@
 -- What contracts see of a relation in steps, and what its steps and the calls over it do.
+--
+--   State                                 a relation as it stands
+--   Kept                                  what no step of it changes
+--   items_in r                            the variances that its items declare
+--   Manner, Manners                       what a relation takes and promises; the same by how it is set up
+--   Takes M v t                           it takes t at v
+--   Turned v r q                          from r to q only the ambient variance was changed, to v
+--   WithMeaning r m q                     only the interner's keys were added to
+--   Passes n r q                          a pair of size n was related, or a part of that work done: what there was
+--                                         stands
+--   Asked M r v a b                       two known terms of the context that the relation takes at v
+--   Related M r q v a b tree result       they were related, and what the result says of them, by its term
+--   RelatedBy M r q way a b tree result   so was a pair that is met, by whatever way
+--   Answers M r q gs v a b t              t is answered: a and b are related, by the goals gs besides, and no equal
+--                                         pair is lost
+--   Refuses r q v a b fault               what a fault says of a and b at v
+--   ExactResult st st' a b result         what a result says besides, where exactness is promised
+--   Stepped M F r q a b tree result       a step was taken: to an answer, to two forms that are F, or to another pair
+--   Leads r q gs a b v x y                it led to x and y at v: what relates these relates a and b at the ambient
+--                                         variance
+--   Shown M r v a b                       what is known of two terms that were related
+--   HasRelated M r p                      a pair of types was related
+--   Remembers r q p result                at most that pair is remembered besides what was
+--   Noted r q a b result                  something was noted of two terms, which asks nothing of them
 use Rattle.std.specs.Prelude.{◌≡◌, ℕ, suc, ◌+◌, ◌≤◌, List, ◌++◌, All, IsTrue, Result, Ok, Err, get_or}
 use Rattle.std.specs.Prelude.{◌⊎◌, Option, Some, None, Contains, OnErr}
 use Rattle.term_enums.specs.declared.Variance.{Variance}

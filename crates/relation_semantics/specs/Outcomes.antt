@@ -1,4 +1,17 @@
 -- What a relating call has done.
+--
+--   Outcome c e way st st' gs more a b            a and b were brought together: st' and the goals gs and more relate
+--                                                 them, and no equal pair is lost
+--   StepsTo c e st st' gs more way a b way' x y   a step led from a and b to x and y: what relates these relates those
+--   AreOne way s a b                              s makes both one tree
+--   NeverOne way st a b                           no assignment that satisfies st does
+--   Exact st st' a b                              up to erasure, just the solutions of st that unify a and b are those
+--                                                 of st'
+--   ExactStep st st' a b x y                      the same where x and y are to be unified yet
+--   NoUnifier st a b                              up to erasure, no solution of st unifies a and b
+--   Front c e h v i st st' gs more xs ys          of two lists of parts of a form h at v the first i were brought
+--                                                 together
+--   ExactFront i st st' xs ys                     what exactness says of that
 use Rattle.std.specs.Prelude.{◌≡◌, ℕ, ◌<◌, List, ◌++◌, All}
 use Rattle.term_enums.specs.declared.Variance.{Variance}
 use Rattle.relation_terms.specs.Heads.{Head}

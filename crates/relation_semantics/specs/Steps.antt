@@ -1,4 +1,27 @@
 -- What each call of a lawful context does to what is recorded.
+--
+--   IsLater st st'                        st' comes of st: what was recorded stands, and only satisfying assignments
+--                                         were lost
+--   Extends st s P                        some assignment that agrees with s on the variables of st has the property P
+--   ExtendsErased st s P                  the same up to erasure
+--   AddsConstraint st st' q               one constraint was recorded
+--   Equates st st' k child root           two unbound variables were made one
+--   BindsTo st st' k n t                  an unbound variable was bound to t
+--   InstantiatesNumber st st' k n t       a number variable was bound to a type of its kind
+--   Instantiates st st' v k n a t         an unbound variable was bound, at v, to t: what a comes to, with new
+--                                         variables at some places
+--   RefusesToInstantiate st st' v k n a   or it was not, and no assignment gave it the value of a
+--   MakesVariable st st' k n u            a variable of universe u was made
+--   Makes st st' u ks ts                  one was for each variable of a binder
+--   InstantiatesBinder st st' ks a b      a binder was opened with such
+--   EntersForall st st' ks a b            or with placeholders; or it was left as it is, where its body uses none of
+--                                         its variables
+--   ChangesNothing st st'                 nothing changed that an assignment sees
+--   Taints st st'                         it was recorded that an error was met
+--   Resolves st t u                       u was answered for t, and comes to the same
+--   StaysFullFor st st' a b               where no variable could be made for terms without binders, and a and b are
+--                                         such, none was
+--   MakesToInstantiate st st' a b         which variables and universes may have been made to relate a and b
 use Rattle.std.specs.Prelude.{◌≡◌, ◌⊎◌, ℕ, suc, ◌<◌, ◌≤◌, min, List, [], ◌∷◌, ◌++◌, map, length, IsTrue}
 use Rattle.term_enums.specs.declared.Variance.{Variance}
 use Rattle.term_enums.specs.declared.Variance.TheVariants.{Invariant}
