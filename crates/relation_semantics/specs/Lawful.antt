@@ -31,7 +31,7 @@ use Rattle.relation_terms.specs.declared.predicate.regions.OutlivesPredicate.{Ou
 use Rattle.relation_terms.specs.declared.terms.keys.TyKey.{TyKey}
 use Rattle.relation_terms.specs.Heads.{Head, Leaf}
 use Rattle.relation_terms.specs.Trees.{Tree, Assign, Leaves, known}
-use Rattle.relation_terms.specs.Meaning.{Meaning, Extends as ExtendsMeaning}
+use Rattle.relation_terms.specs.Meaning.{Meaning, Extends}
 use Rattle.term_enums.specs.Variances.{xform}
 use Rattle.relation_folds.specs.declared.error.TypeError.{TypeError}
 use Rattle.relation_folds.specs.declared.error.RelateFault.{RelateFault}
@@ -175,7 +175,7 @@ module _ {Key Id Name : Type 0} where
   -- meant, all that was recorded and registered stands, goals are registered in the relation's environment, and what no
   -- step changes and the variance are as they were.
   pub record Passes (n : ℕ) (r q : State Key Id Name) : Type 0 where
-    pub extends : ExtendsMeaning r.meaning q.meaning
+    pub extends : Extends r.meaning q.meaning
     pub goes : Goes n r.store q.store
     pub added : List Goal
     pub lengthens : q.goals ≡ r.goals ++ added

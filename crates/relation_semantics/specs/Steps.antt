@@ -2,8 +2,8 @@
 --
 --   IsLater st st'                        st' comes of st: what was recorded stands, and only satisfying assignments
 --                                         were lost
---   Extends st s P                        some assignment that agrees with s on the variables of st has the property P
---   ExtendsErased st s P                  the same up to erasure
+--   HasExtension st s P                   some assignment that agrees with s on the variables of st has the property P
+--   HasErasedExtension st s P             the same up to erasure
 --   AddsConstraint st st' q               one constraint was recorded
 --   Equates st st' k child root           two unbound variables were made one
 --   BindsTo st st' k n t                  an unbound variable was bound to t
@@ -218,13 +218,13 @@ abbrev pub AgreeErased : Store → Assign → Assign → Type 0
 AgreeErased st s s' = (k : VarKind) (n : ℕ) → IsMade st k n → erase (s k n) ≡ erase (s' k n)
 
 -- What a property of later assignments says of an earlier one: some extension to the new variables has it.
-abbrev pub Extends : Store → Assign → (Assign → Type 0) → Type 0
-Extends before s P = (s' : Assign) × AgreeOn before s s' × P s'
+abbrev pub HasExtension : Store → Assign → (Assign → Type 0) → Type 0
+HasExtension before s P = (s' : Assign) × AgreeOn before s s' × P s'
 
 -- The same up to erasure. Where two variables of different universes are made equal, the one of the larger universe
 -- may have named regions that the other can't.
-abbrev pub ExtendsErased : Store → Assign → (Assign → Type 0) → Type 0
-ExtendsErased before s P = (s' : Assign) × AgreeErased before s s' × P s'
+abbrev pub HasErasedExtension : Store → Assign → (Assign → Type 0) → Type 0
+HasErasedExtension before s P = (s' : Assign) × AgreeErased before s s' × P s'
 
 -- A list of values all of which a universe can name.
 abbrev pub AllNamable : ℕ → List Tree → Type 0
@@ -252,7 +252,7 @@ pub record Makes (before after : Store) (u : ℕ) (ks : List BoundKind) (variabl
   pub same_universe : after.universe ≡ before.universe
   pub same_budget : after.budget ≡ before.budget
   pub unconstrained : (w : Interpretation) (s : Assign) (values : List Tree) → Satisfies w before s →
-      FitKinds ks values → AllNamable u values → Extends before s (λ s'. Satisfies w after s' ×
+      FitKinds ks values → AllNamable u values → HasExtension before s (λ s'. Satisfies w after s' ×
       (map (apply s') variables ≡ values))
 
 -- Pairwise different placeholders of a universe for the variables of a binder.
@@ -338,9 +338,9 @@ pub record Instantiates (before after : Store) (v : Variance) (k : VarKind) (n :
   pub generalised : IsGeneralised before after (apply (resolved before) source) term
   pub stays_sound : IsSound before → IsSound after
   pub keeps : (w : Interpretation) (s : Assign) → Satisfies w before s → s k n ≡ apply s source →
-      Extends before s (λ s'. Satisfies w after s')
+      HasExtension before s (λ s'. Satisfies w after s')
   pub keeps_erased : LacksAliases (apply (resolved before) source) → (s : Assign) → IsErasedSolution before s →
-      Unifies s (leaf (variable k n)) source → ExtendsErased before s (IsErasedSolution after)
+      Unifies s (leaf (variable k n)) source → HasErasedExtension before s (IsErasedSolution after)
   pub regions_alone : v ≡ Invariant → IsFirstOrder source → IsFirstOrderStore before →
       Leaves (IsNamedBy before (universe_of before k n)) (apply (resolved before) source) →
       erase term ≡ erase (apply (resolved before) source)

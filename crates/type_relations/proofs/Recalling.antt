@@ -38,7 +38,7 @@ use Rattle.type_relations.specs.Solving.{settings_by, held_by, solving_through, 
 use Rattle.type_relations.specs.Stepping.{CombinesTyVars, made_one, left_subtype, right_subtype, goal_refused}
 use Rattle.type_relations.specs.Stepping.{CombinesShallowTys, two_variables, left_bound, left_asked, left_unasked, left_refused}
 use Rattle.type_relations.specs.Stepping.{right_bound, right_asked, right_unasked, right_refused, no_ty_variables}
-use Rattle.type_relations.specs.Stepping.{BindsTo, BindsTyVar, BindsAsking, BindsUnasked, IsRemembered, StepsRead, met_again}
+use Rattle.type_relations.specs.Stepping.{InstantiatesTyVar, BindsTyVar, BindsAsking, BindsUnasked, IsRemembered, StepsRead, met_again}
 use Rattle.type_relations.specs.Stepping.{combined, not_remembered}
 use Rattle.type_relations.proofs.Alone.{combined_registers}
 
@@ -186,7 +186,7 @@ module _ {Key Id Name : Type 0} (r q s : State Key Id Name) (m : s.meaning ≡ q
     variables_alike (goal_refused d h o) = goal_refused d (none_alike h) o
 
   binds_alike : (v : Variance) (i : ℕ) (t : TyKey Key) (answer : Result (TyKey Key) (RelateFault Key Id Name)) →
-      BindsTo r q v i t answer → BindsTo r s v i t answer
+      InstantiatesTyVar r q v i t answer → InstantiatesTyVar r s v i t answer
   binds_alike v i t answer h = subst₂ (λ n z. Instantiated (seen r.meaning r.store) (seen n z)
       r.kept.settings.structurally_relate_aliases v type_var i ((r.meaning).ty t) (λ m. m.ty) CyclicTy answer) (sym m)
       (sym st) h
