@@ -1281,8 +1281,8 @@ structurally_relate_tys-relate_with_variance-related-requires g t c κs within =
     let d = c.decreases in
     search rules
 
-pub structurally_relate_tys-in_ty-requires : goal.structurally_relate_tys-in_ty-requires
-structurally_relate_tys-in_ty-requires g t c =
+pub structurally_relate_tys-in_ty_of-requires : goal.structurally_relate_tys-in_ty_of-requires
+structurally_relate_tys-in_ty_of-requires g t c =
     let k = c.requires.asked in
     let same = (((c.loop-i.invariant.fronted).passes).extends).ty c.args.a.now k.left_known in
     let later = (((c.relate_with_variance-related.ensures).related).passes).extends in
