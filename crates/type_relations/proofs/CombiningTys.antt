@@ -1,5 +1,6 @@
 -- What comes of two types before their parts are related, where one is an error or they are left to a goal.
-use Rattle.std.proofs.Common.{◌≡◌, ◌≢◌, ◌∙◌, IsTrue, refl, sym, ap, subst, inl, inr, Some, IfSome, Result, Ok, Err}
+use Rattle.std.proofs.Common.{◌≡◌, ◌≢◌, ◌∙◌, IsTrue, refl, sym, ap, subst, inl, inr, Some, None, IfSome}
+use Rattle.std.proofs.Common.{Result, Ok, Err}
 use Rattle.term_enums.specs.declared.Variance.{Variance}
 use Rattle.term_enums.specs.declared.Variance.TheVariants.{Covariant, Contravariant, Invariant, Bivariant}
 use Rattle.relation_terms.specs.declared.terms.keys.TyKey.{TyKey}
@@ -20,7 +21,8 @@ use Rattle.relation_semantics.specs.Stores.{IsSound}
 use Rattle.relation_semantics.proofs.Standing.{term_context, term_sort_of}
 use Rattle.type_relations.specs.Combining.{TaintsAlone, KeepsKept, TysCombine, left_to_goal, left_open, not_registered}
 use Rattle.type_relations.specs.Emitting.{IsOver, RegistersGoal, RegistersAlias}
-use Rattle.type_relations.specs.Keyed.{AskedTys, SteppedTys}
+use Rattle.type_relations.specs.Keyed.{SteppedTys}
+use Rattle.type_relations.specs.Terms.{AskedTerms}
 use Rattle.type_relations.specs.Leaving.{LeavesAs, StandsAs}
 use Rattle.type_relations.specs.declared.relate.leaving.Leaving.TheVariants.{ToGoal, Open}
 use Rattle.type_relations.specs.declared.relate.leaving.Standing.{Standing}
@@ -49,7 +51,8 @@ module _ {Key Id Name : Type 0} {r : State Key Id Name} {c : Context Key Id Name
   )
 
 module _ {Key Id Name : Type 0} {r : State Key Id Name} {c : Context Key Id Name} (o : IsOver r c)
-    (decides : r.ambient ≢ Bivariant) (sound : IsSound c.store) (a b : TyKey Key) (asked : AskedTys solver_manner r a b)
+    (decides : r.ambient ≢ Bivariant) (sound : IsSound c.store) (a b : TyKey Key)
+    (asked : AskedTerms solver_manner None (λ m. m.ty) r a b)
     (f : (t : TyKey Key) → IsTrue (known ((c.meaning).ty t)) → IsTerm type_sort ((c.meaning).ty t)) where
   abbrev ta : Tree
   ta = (r.meaning).ty a

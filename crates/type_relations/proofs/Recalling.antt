@@ -1,6 +1,6 @@
 -- Pairs of types that the relation of a context remembers: what is found, what may be remembered, and what comes of steps.
 use Rattle.std.proofs.Common.{◌≡◌, ◌⊎◌, ℕ, Bool, true, ◌&&◌, refl, sym, ◌∙◌, subst, subst₂, List, Contains, IsTrue, rules}
-use Rattle.std.proofs.Common.{Some, Result, Ok, Err, OnErr}
+use Rattle.std.proofs.Common.{Some, None, Result, Ok, Err, OnErr}
 use Rattle.std.specs.List.{list_any}
 use Rattle.std.proofs.lemmas.Bool.{and_parts}
 use Rattle.std.proofs.lemmas.List.Folds.{Any-from_list_any}
@@ -33,7 +33,8 @@ use Rattle.relation_semantics.proofs.Remembering.{hit_is_step, related_as, were_
 use Rattle.relation_semantics.proofs.Standing.{term_sort_of}
 use Rattle.type_relations.specs.Combining.{Joins, MeetsTys, RegistersOne, RegistersNone, TaintsAlone, TysCombine, seen}
 use Rattle.type_relations.specs.Combining.{left_error, right_error, left_to_goal, left_open, not_registered, not_left}
-use Rattle.type_relations.specs.Keyed.{AskedTys, ShownTys, SteppedTys, TysAskNone}
+use Rattle.type_relations.specs.Keyed.{ShownTys, SteppedTys, TysAskNone}
+use Rattle.type_relations.specs.Terms.{AskedTerms}
 use Rattle.type_relations.specs.Solving.{settings_by, held_by, solving_through, solver_manner}
 use Rattle.type_relations.specs.Stepping.{CombinesTyVars, made_one, left_subtype, right_subtype, goal_refused}
 use Rattle.type_relations.specs.Stepping.{CombinesShallowTys, two_variables, left_bound, left_asked, left_unasked, left_refused}
@@ -98,8 +99,8 @@ module _ {Key Id Name : Type 0} (M : Manners) (r : State Key Id Name) (a b : TyK
       hit_is_step M IsFormed r (r.meaning).ty a ((r.meaning).ty b) h.left_known h.shown
 
   -- A pair of known types that were related, of which no goal is asked alone.
-  pub noted_pair : AskedTys M r a b → ShownTys M r a b → TysAskNone r a b → IsTerm type_sort ((r.meaning).ty a) →
-      IsTerm type_sort ((r.meaning).ty b) → HasRelated M r (r.ambient, a, b)
+  pub noted_pair : AskedTerms M None (λ m. m.ty) r a b → ShownTys M r a b → TysAskNone r a b →
+      IsTerm type_sort ((r.meaning).ty a) → IsTerm type_sort ((r.meaning).ty b) → HasRelated M r (r.ambient, a, b)
   noted_pair asked shown none sa sb = record {
     left_known = asked.left_known;
     right_known = asked.right_known;
@@ -110,8 +111,9 @@ module _ {Key Id Name : Type 0} (M : Manners) (r : State Key Id Name) (a b : TyK
 
 module _ {Key Id Name : Type 0} (r q : State Key Id Name) (a b : TyKey Key) where
   -- And one that a step has answered.
-  pub answered_pair : (t : TyKey Key) → AskedTys solver_manner r a b → SteppedTys solver_manner r q a b (Ok (Done t)) →
-      CombinesShallowTys r q a b (Ok (Done t)) → HasRelated solver_manner q (q.ambient, a, b)
+  pub answered_pair : (t : TyKey Key) → AskedTerms solver_manner None (λ m. m.ty) r a b →
+      SteppedTys solver_manner r q a b (Ok (Done t)) → CombinesShallowTys r q a b (Ok (Done t)) →
+      HasRelated solver_manner q (q.ambient, a, b)
   answered_pair t asked step h = record {
     left_known = subst (λ z. IsTrue (known z)) (sym x) asked.left_known;
     right_known = subst (λ z. IsTrue (known z)) (sym y) asked.right_known;
