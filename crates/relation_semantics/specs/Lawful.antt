@@ -21,7 +21,7 @@
 --                                         variance
 --   Shown M r v a b                       what is known of two terms that were related
 --   HasRelated M r p                      a pair of types was related
---   Remembers r q p result                at most that pair is remembered besides what was
+--   RemembersAtMost r q p result          at most that pair is remembered besides what was
 --   Noted r q a b result                  something was noted of two terms, which asks nothing of them
 use Rattle.std.specs.Prelude.{◌≡◌, ℕ, suc, ◌+◌, ◌≤◌, List, ◌++◌, All, IsTrue, Result, Ok, Err, get_or}
 use Rattle.std.specs.Prelude.{◌⊎◌, Option, Some, None, Contains, OnErr}
@@ -405,7 +405,7 @@ module _ {Key Id Name : Type 0} where
       WereRelated (M r.kept.settings) r.kept.settings r.meaning r.store r.goals r.kept.environment r.remembered
 
   -- At most this pair is remembered besides what was; where a growth was refused, what was. Nothing else was done.
-  pub record Remembers {A F : Type 0} (r q : State Key Id Name) (p : Pair Key) (result : Result A F) : Type 0 where
+  pub record RemembersAtMost {A F : Type 0} (r q : State Key Id Name) (p : Pair Key) (result : Result A F) : Type 0 where
     pub meaning : q.meaning ≡ r.meaning
     pub store : q.store ≡ r.store
     pub goals : q.goals ≡ r.goals

@@ -12,7 +12,7 @@
 --                                         variables at some places
 --   RefusesToInstantiate st st' v k n a   or it was not, and no assignment gave it the value of a
 --   MakesVariable st st' k n u            a variable of universe u was made
---   Makes st st' u ks ts                  one was for each variable of a binder
+--   MakesVariables st st' u ks ts         one was for each variable of a binder
 --   InstantiatesBinder st st' ks a b      a binder was opened with such
 --   EntersForall st st' ks a b            or with placeholders; or it was left as it is, where its body uses none of
 --                                         its variables
@@ -242,7 +242,7 @@ AreNewVariables before after u (k ∷ ks) [] = ⊥
 
 -- New variables were made for the variables of a binder, in a universe. Nothing is recorded of them, so they may stand
 -- for whatever the universe can name.
-pub record Makes (before after : Store) (u : ℕ) (ks : List BoundKind) (variables : List Tree) : Type 0 where
+pub record MakesVariables (before after : Store) (u : ℕ) (ks : List BoundKind) (variables : List Tree) : Type 0 where
   pub later : IsLater before after
   pub stays_sound : IsSound before → IsSound after
   pub are_new : AreNewVariables before after u ks variables
@@ -266,7 +266,7 @@ ArePlaceholders u (k ∷ ks) [] = ⊥
 -- A binder was opened with new variables of the current universe.
 pub record InstantiatesBinder (before after : Store) (ks : List BoundKind) (body opened : Tree) : Type 0 where
   pub variables : List Tree
-  pub makes : Makes before after before.universe ks variables
+  pub makes : MakesVariables before after before.universe ks variables
   pub body_is : opened ≡ inst variables 0 body
 
 -- A binder was opened with placeholders of a universe above all earlier ones, which is the current one from then on.

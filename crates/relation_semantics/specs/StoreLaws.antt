@@ -8,7 +8,7 @@ use Rattle.relation_semantics.specs.Relation.{Items, Interpretation, IsValueLeaf
 use Rattle.relation_semantics.specs.Stores.{Store, universe_of, MayStandFor, IsNamable, IsInScope, IsTermIn, IsSound}
 use Rattle.relation_semantics.specs.Stores.{Satisfies, ConstraintHolds, ConstraintIn, Constraint, resolved, weight}
 use Rattle.relation_semantics.specs.Steps.{Equates, BindsTo, Instantiates, RefusesToInstantiate, MakesVariable}
-use Rattle.relation_semantics.specs.Steps.{AddsConstraint, ChangesNothing, InstantiatesNumber, Resolves, HasExtension, Makes}
+use Rattle.relation_semantics.specs.Steps.{AddsConstraint, ChangesNothing, InstantiatesNumber, Resolves, HasExtension, MakesVariables}
 use Rattle.relation_semantics.specs.Measures.{Goes}
 use Rattle.relation_semantics.specs.declared.relate.StructurallyRelateAliases.{StructurallyRelateAliases}
 use Rattle.relation_semantics.specs.Generalising.{Stage, outside, any_part, Generalised, InstantiatesBy}
@@ -118,4 +118,4 @@ ResolvedResolves = (st : Store) (t : Tree) → IsSound st → Resolves st t (app
 abbrev pub MakingOneMakes : Type 0
 MakingOneMakes = (before after : Store) (k : BoundKind) (v : VarKind) (n u : ℕ) → MakesVariable before after v n u →
     u ≤ before.universe → IsSound before → var_sort v ≡ bound_sort k →
-    (v ≡ int_var → ⊥) → (v ≡ float_var → ⊥) → Makes before after u (k ∷ []) (leaf (variable v n) ∷ [])
+    (v ≡ int_var → ⊥) → (v ≡ float_var → ⊥) → MakesVariables before after u (k ∷ []) (leaf (variable v n) ∷ [])

@@ -26,7 +26,7 @@ use Rattle.relation_semantics.specs.Contexts.{Context}
 use Rattle.relation_semantics.specs.Goals.{goal_of}
 use Rattle.relation_semantics.specs.Parts.{IsFormed}
 use Rattle.relation_semantics.specs.Steps.{Taints}
-use Rattle.relation_semantics.specs.Lawful.{State, Pair, Manners, Stepped, Shown, HasRelated, RemembersRelated, Remembers}
+use Rattle.relation_semantics.specs.Lawful.{State, Pair, Manners, Stepped, Shown, HasRelated, RemembersRelated, RemembersAtMost}
 use Rattle.relation_semantics.proofs.Answering.{same_environment, same_settings}
 use Rattle.relation_semantics.proofs.Passing.{shown_now, step_done}
 use Rattle.relation_semantics.proofs.Remembering.{hit_is_step, related_as, were_related_more}
@@ -67,7 +67,7 @@ pub remembers : {Key Id Name A F : Type 0} (aliases : StructurallyRelateAliases)
     (gs : List (KeyedGoal Key (PredicateKey Key))) (c : Context Key Id Name) (v : Variance) (e : ParamEnvKey Key)
     (p : Pair Key) (res : Result A F) → HasRelated solver_manner (solving_through aliases j ps gs c v e) p →
     ((x : Pair Key) → Contains qs x → (x ≡ p) ⊎ Contains ps x) → OnErr res (qs ≡ ps) →
-    Remembers (solving_through aliases j ps gs c v e) (solving_through aliases j qs gs c v e) p res
+    RemembersAtMost (solving_through aliases j ps gs c v e) (solving_through aliases j qs gs c v e) p res
 remembers aliases j ps qs gs c v e p res one members refused = record {
   meaning = refl;
   store = refl;
