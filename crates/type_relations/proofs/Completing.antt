@@ -29,7 +29,7 @@ use Rattle.relation_semantics.proofs.Agreeing.{agree_anything, agree_same, agree
 use Rattle.relation_semantics.proofs.Asking.{no_alias_term}
 use Rattle.relation_semantics.proofs.Erased.{erase_region, erase_plain, no_error_atom, keeps_parts}
 use Rattle.type_relations.proofs.Unifying.{erased_sort}
-use Rattle.type_relations.specs.Completing.{AreRelatedAsAsked, AreNeverRelated, ErrorsDisagree, ErrorsAreUnrelated, AgreeingAreRelated, Completes}
+use Rattle.type_relations.specs.Completing.{AreRelatedAsAsked, AreNeverRelated, ErrorsDisagree, ErrorsAreUnrelated, AgreeingAreRelated, Complete}
 use Rattle.type_relations.specs.Relating.{term_in, RelatesAgreeing, AnswersError}
 use Rattle.type_relations.specs.Solving.{solver_settings}
 use Rattle.type_relations.specs.RegionTerms.{IsRegionTermHead, IsRegionTerm}
@@ -253,7 +253,7 @@ module _ {S Key Id Name A : Type 0} (state : S → Context Key Id Name) (old new
   pub completes : (g : StructurallyRelateAliases) (e : ParamEnvKey Key) (v : Variance) (a b : A)
       (result : Result (Vec (Goal Key (PredicateKey Key))) (RelateFault Key Id Name)) →
       RelatesAgreeing state old new over tree g v a b result → AnswersError state old new over tree g v a b result →
-      Completes state old new over tree g e v a b result
+      Complete state old new over tree g e v a b result
   completes g e v a b (Ok goals) agrees errors s x y p = agreeing_are_related (solver_settings g (state old).setup)
       (items_of (state old).meaning) (((state old).meaning).param_env e) v s (term_in (state old) over tree a)
       (term_in (state old) over tree b) x y p agrees

@@ -26,7 +26,7 @@ use Rattle.relation_semantics.specs.Contexts.{Context}
 use Rattle.relation_semantics.specs.Goals.{goal_of}
 use Rattle.relation_semantics.specs.Parts.{IsFormed}
 use Rattle.relation_semantics.specs.Steps.{Taints}
-use Rattle.relation_semantics.specs.Lawful.{State, Pair, Manners, Stepped, Shown, HasRelated, RemembersRelated, Remembers}
+use Rattle.relation_semantics.specs.Lawful.{State, Pair, Manners, Stepped, Shown, HasRelated, RemembersRelated, RemembersAtMost}
 use Rattle.relation_semantics.proofs.Answering.{same_environment, same_settings}
 use Rattle.relation_semantics.proofs.Passing.{shown_now, step_done}
 use Rattle.relation_semantics.proofs.Remembering.{hit_is_step, related_as, were_related_more}
@@ -39,7 +39,7 @@ use Rattle.type_relations.specs.Solving.{settings_by, held_by, solving_through, 
 use Rattle.type_relations.specs.Stepping.{CombinesTyVars, made_one, left_subtype, right_subtype, goal_refused}
 use Rattle.type_relations.specs.Stepping.{CombinesShallowTys, two_variables, left_bound, left_asked, left_unasked, left_refused}
 use Rattle.type_relations.specs.Stepping.{right_bound, right_asked, right_unasked, right_refused, no_ty_variables}
-use Rattle.type_relations.specs.Stepping.{BindsTo, BindsTyVar, BindsAsking, BindsUnasked, IsRemembered, StepsRead, met_again}
+use Rattle.type_relations.specs.Stepping.{InstantiatesTyVar, BindsTyVar, BindsAsking, BindsUnasked, IsRemembered, StepsRead, met_again}
 use Rattle.type_relations.specs.Stepping.{combined, not_remembered}
 use Rattle.type_relations.proofs.Alone.{combined_registers}
 
@@ -62,7 +62,7 @@ pub remembers : {Key Id Name A F : Type 0} (aliases : StructurallyRelateAliases)
     (gs : List (KeyedGoal Key (PredicateKey Key))) (c : Context Key Id Name) (v : Variance) (e : ParamEnvKey Key)
     (p : Pair Key) (res : Result A F) → HasRelated solver_manner (solving_through aliases j ps gs c v e) p →
     ((x : Pair Key) → Contains qs x → (x ≡ p) ⊎ Contains ps x) → OnErr res (qs ≡ ps) →
-    Remembers (solving_through aliases j ps gs c v e) (solving_through aliases j qs gs c v e) p res
+    RemembersAtMost (solving_through aliases j ps gs c v e) (solving_through aliases j qs gs c v e) p res
 remembers aliases j ps qs gs c v e p res one members refused = record {
   meaning = refl;
   store = refl;
@@ -183,7 +183,7 @@ module _ {Key Id Name : Type 0} (r q s : State Key Id Name) (m : s.meaning ≡ q
     variables_alike (goal_refused d h o) = goal_refused d (none_alike h) o
 
   binds_alike : (v : Variance) (i : ℕ) (t : TyKey Key) (answer : Result (TyKey Key) (RelateFault Key Id Name)) →
-      BindsTo r q v i t answer → BindsTo r s v i t answer
+      InstantiatesTyVar r q v i t answer → InstantiatesTyVar r s v i t answer
   binds_alike v i t answer h = subst₂ (λ n z. Instantiated (seen r.meaning r.store) (seen n z)
       r.kept.settings.structurally_relate_aliases v type_var i ((r.meaning).ty t) (λ m. m.ty) CyclicTy answer) (sym m)
       (sym st) h

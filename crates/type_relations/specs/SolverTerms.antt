@@ -13,7 +13,7 @@ use Rattle.relation_terms.specs.Meaning.{Meaning}
 use Rattle.relation_folds.specs.declared.error.RelateFault.{RelateFault}
 use Rattle.relation_semantics.specs.declared.relate.Step.{Step}
 use Rattle.relation_semantics.specs.Contexts.{Context}
-use Rattle.relation_semantics.specs.Lawful.{State, HasRelated, Remembers}
+use Rattle.relation_semantics.specs.Lawful.{State, HasRelated, RemembersAtMost}
 use Rattle.type_relations.specs.declared.relate.solver_relating.relation.SolverRelating.{SolverRelating}
 use Rattle.relation_semantics.specs.AskedAlone.{IsNoTyVar}
 use Rattle.type_relations.specs.Combining.{ConstsCombine}
@@ -119,7 +119,7 @@ module _ {Infcx Interner Key Id Name Span : Type 0} (state : Infcx → Context K
 
   abbrev pub SolverRemembers : {A F : Type 0} → SolverRelating Infcx Interner Key Id Name Span →
       SolverRelating Infcx Interner Key Id Name Span → TyKey Key → TyKey Key → Result A F → Type 0
-  SolverRemembers r q a b result = Remembers (solver_through r) (solver_through q) (r.ambient_variance, a, b) result
+  SolverRemembers r q a b result = RemembersAtMost (solver_through r) (solver_through q) (r.ambient_variance, a, b) result
 
   -- A step was taken of two constants, and which, case by case.
   abbrev pub SolverStepped : SolverRelating Infcx Interner Key Id Name Span →

@@ -258,7 +258,7 @@ pub(crate) fn term_variance_at<I: Interner, R: TypeRelation<I>>(
 }
 
 // What two types answer where two of their parts have answered that.
-pub(crate) fn in_ty<I: Interner, R: TypeRelation<I>>(
+pub(crate) fn in_ty_of<I: Interner, R: TypeRelation<I>>(
     r: &R,
     ty: &Ty<I>,
     x: &GenericArg<I>,
@@ -272,7 +272,7 @@ pub(crate) fn in_ty<I: Interner, R: TypeRelation<I>>(
 }
 
 // What two constants answer where two of their parts have answered that.
-pub(crate) fn in_const<I: Interner, R: TypeRelation<I>>(
+pub(crate) fn in_const_of<I: Interner, R: TypeRelation<I>>(
     r: &R,
     a: &Const<I>,
     b: &Const<I>,

@@ -22,9 +22,9 @@ use crate::relate::opening::{is_same_of, open_bodies};
 use crate::relate::parts::{PartKind, kind_of_part, the_object};
 use crate::relate::reading::{
     compare_consts_of, compare_members_of, compare_parts_of, compare_tys_of, const_part_of,
-    const_parts_count_of, const_variance_at, in_const, in_ty, is_by_parts_of, is_error_const_of,
-    is_error_of, named_place_of, note_args, part_of, parts_count_of, term_part_of,
-    term_parts_count_of, term_variance_at, variance_at,
+    const_parts_count_of, const_variance_at, in_const_of, in_ty_of, is_by_parts_of,
+    is_error_const_of, is_error_of, named_place_of, note_args, part_of, parts_count_of,
+    term_part_of, term_parts_count_of, term_variance_at, variance_at,
 };
 use crate::relate::{Step, TypeRelation};
 use relation_folds::error::{RelateFault, RelateResult, TypeError};
@@ -216,7 +216,7 @@ pub fn structurally_relate_tys<I: Interner, R: TypeRelation<I>>(
         let y = part_of::<I, R>(r, b, i);
         let variance = variance_at::<I, R>(r, a, i);
         let related = relate_with_variance(r, variance, &x, &y);
-        let answer = in_ty::<I, R>(r, a, &x, &y, related)?;
+        let answer = in_ty_of::<I, R>(r, a, &x, &y, related)?;
         answers.push(answer)?;
     }
     note_args(r, a, b)?;
@@ -257,7 +257,7 @@ pub fn structurally_relate_consts<I: Interner, R: TypeRelation<I>>(
         let y = const_part_of::<I, R>(r, b, i);
         let variance = const_variance_at::<I, R>(r, a);
         let related = relate_with_variance(r, variance, &x, &y);
-        let answer = in_const::<I, R>(r, a, b, related)?;
+        let answer = in_const_of::<I, R>(r, a, b, related)?;
         answers.push(answer)?;
     }
     make_const(r, a, answers.as_slice())
