@@ -1,7 +1,7 @@
 -- A fold that moves variables changes nothing where none escapes, or where they are moved by nothing: such a term can
 -- stand for itself.
 use Rattle.std.proofs.Common.{◌≡◌, refl, sym, ◌∙◌, ap, ap₂, arith, subst}
-use Rattle.std.specs.Prelude.{ℕ, zero, suc, ◌+◌, Bool, true, false, not, ◌&&◌, ◌||◌, cond, nat_lt, nat_eq, Option, Some, None}
+use Rattle.std.specs.Prelude.{ℕ, suc, ◌+◌, Bool, true, false, not, ◌&&◌, cond, nat_lt, nat_eq, Option, Some, None}
 use Rattle.std.proofs.lemmas.Bool.{or_parts, eqb-true, not-false}
 use Rattle.relation_terms.specs.Heads.{Leaf, variable, bound, placeholder, atom, unknown, leaf_sort, head_sort, Head}
 use Rattle.relation_terms.specs.Trees.{Tree, leaf, node, bind, nil, cons}

@@ -1,8 +1,7 @@
 -- The trees of lists, part by part.
-use Rattle.std.proofs.Common.{◌≡◌, ℕ, zero, suc, ◌<◌, IsTrue, Bool, true, false, ◌&&◌, refl, ap, inl, inr, subst, arith, List, [], ◌∷◌, ◌++◌, length, get_or}
-use Rattle.std.proofs.lemmas.Bool.{and_parts}
+use Rattle.std.proofs.Common.{◌≡◌, ℕ, zero, suc, ◌<◌, refl, ap, inl, inr, subst, arith, List, [], ◌∷◌, ◌++◌, length, get_or}
 use Rattle.relation_terms.specs.Heads.{type_var, region_sort, variable}
-use Rattle.relation_terms.specs.Trees.{Tree, leaf, node, bind, nil, cons, list_tree, known, size, count, nth, Occurs, IsList, IsTerm, Assign, apply}
+use Rattle.relation_terms.specs.Trees.{Tree, leaf, node, bind, nil, cons, list_tree, size, count, nth, Occurs, IsTerm, Assign, apply}
 use Rattle.relation_terms.proofs.Members.{no_region}
 pub use Rattle.relation_folds.proofs.Members.{firsts, firsts_all}
 

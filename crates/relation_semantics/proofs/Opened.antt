@@ -1,6 +1,6 @@
 -- What is put for what a binder binds: the fold of terms that opens a binder instantiates the binder's body.
 use Rattle.std.proofs.Common.{◌≡◌, ◌≢◌, ◌⊎◌, ℕ, zero, suc, refl, sym, ap, ap₂, ◌∙◌, subst, subst₂, inl, inr, not}
-use Rattle.std.proofs.Common.{Bool, true, false, List, [], ◌∷◌, ◌++◌}
+use Rattle.std.proofs.Common.{true, false, List, [], ◌∷◌, ◌++◌}
 use Rattle.std.specs.Prelude.{nat_eq, nat_lt, cond, Some, None, slice_get}
 use Rattle.std.proofs.lemmas.Bool.{false≢true, or_parts, or_from, ltb-true, lt-ltb, not-false}
 use Rattle.std.proofs.lemmas.Bool.Decides.{eqb_tells}

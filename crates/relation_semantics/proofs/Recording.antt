@@ -6,7 +6,7 @@ use Rattle.std.proofs.lemmas.List.Elements.{All-nil, All-append, All-contains, A
 use Rattle.std.proofs.lemmas.List.Elements.{Contains-append_left, Contains-append_right}
 use Rattle.term_enums.specs.declared.Variance.{Variance}
 use Rattle.relation_terms.specs.Heads.{Head}
-use Rattle.relation_terms.specs.Trees.{Tree, node, cons, count, nth}
+use Rattle.relation_terms.specs.Trees.{Tree, node, count, nth}
 use Rattle.relation_semantics.specs.Relation.{Items, part_at, plain, IsRelatedHead}
 use Rattle.relation_semantics.specs.Stores.{Constraint}
 use Rattle.relation_semantics.specs.Steps.{HasNoBinder}
