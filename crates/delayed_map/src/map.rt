@@ -40,7 +40,7 @@ impl<K: Eq + Hash + Drop, V: Drop, A: Allocator + Clone> DelayedMap<K, V, A> {
         ensures kept { result.kept ≡ [] }
     {
         DelayedMap {
-            cache: HashMap::new(alloc),
+            cache: HashMap::with_hasher(alloc, BuildHasherDefault::new()),
             count: 0,
         }
     }

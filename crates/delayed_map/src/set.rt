@@ -38,7 +38,7 @@ impl<T: Eq + Hash + Drop, A: Allocator + Clone> DelayedSet<T, A> {
         ensures kept { result.kept ≡ [] }
     {
         DelayedSet {
-            cache: HashSet::new(alloc),
+            cache: HashSet::with_hasher(alloc, BuildHasherDefault::new()),
             count: 0,
         }
     }

@@ -168,10 +168,9 @@ pub const EARLY_ROWS: [Row; 34] = [
     },
     Row {
         name: "r29",
-        questions: "struct Vec<+T>; count goals (Vec<?0>, Vec<?0>, Vec<?0>, Vec<?0>, Vec<?0>, Vec<?0>, Vec<?0>, Vec<?0>, Vec<?0>,
-            Vec<?0>, Vec<?0>, Vec<?0>, Vec<?0>, Vec<?0>, Vec<?0>, Vec<?0>, Vec<?0>, Vec<?0>, Vec<?0>, Vec<?0>) <:
-            (Vec<?1>, Vec<?1>, Vec<?1>, Vec<?1>, Vec<?1>, Vec<?1>, Vec<?1>, Vec<?1>, Vec<?1>, Vec<?1>, Vec<?1>, Vec<?1>,
-            Vec<?1>, Vec<?1>, Vec<?1>, Vec<?1>, Vec<?1>, Vec<?1>, Vec<?1>, Vec<?1>);",
+        questions: "struct Vec<+T>; let a = Vec<?0>; let b = Vec<?1>; count goals
+            (a, a, a, a, a, a, a, a, a, a, a, a, a, a, a, a, a, a, a, a) <:
+            (b, b, b, b, b, b, b, b, b, b, b, b, b, b, b, b, b, b, b, b);",
         stored: "17",
     },
     Row {
@@ -281,20 +280,18 @@ pub const LATE_ROWS: [Row; 37] = [
     },
     Row {
         name: "r47",
-        questions: "struct Vec<+T>; param 'a; count goals (Vec<?0>, Vec<?0>, Vec<?0>, Vec<?0>, Vec<?0>, Vec<?0>, Vec<?0>, Vec<?0>,
-            Vec<?0>, Vec<?0>, Vec<?0>, Vec<?0>, Vec<?0>, Vec<?0>, Vec<?0>, Vec<?0>, Vec<?0>, Vec<?0>, Vec<?0>, Vec<?0>,
-            &'a mut Vec<?0>) <: (Vec<?1>, Vec<?1>, Vec<?1>, Vec<?1>, Vec<?1>, Vec<?1>, Vec<?1>, Vec<?1>, Vec<?1>, Vec<?1>,
-            Vec<?1>, Vec<?1>, Vec<?1>, Vec<?1>, Vec<?1>, Vec<?1>, Vec<?1>, Vec<?1>, Vec<?1>, Vec<?1>, &'a mut Vec<?1>);
+        questions: "struct Vec<+T>; param 'a; let a = Vec<?0>; let b = Vec<?1>; count goals
+            (a, a, a, a, a, a, a, a, a, a, a, a, a, a, a, a, a, a, a, a, &'a mut a) <:
+            (b, b, b, b, b, b, b, b, b, b, b, b, b, b, b, b, b, b, b, b, &'a mut b);
             then one ?0, ?1;",
         stored: "17 | true",
     },
     Row {
         name: "r48",
-        questions: "struct Vec<+T>; count goals (Vec<?0>, Vec<?0>, Vec<?0>, Vec<?0>, Vec<?0>, Vec<?0>, Vec<?0>, Vec<?0>, Vec<?0>,
-            Vec<?0>, Vec<?0>, Vec<?0>, Vec<?0>, Vec<?0>, Vec<?0>, Vec<?0>, Vec<?0>, Vec<?0>, Vec<?0>, Vec<?0>, ?0,
-            Vec<?0>) <: (Vec<?1>, Vec<?1>, Vec<?1>, Vec<?1>, Vec<?1>, Vec<?1>, Vec<?1>, Vec<?1>, Vec<?1>, Vec<?1>,
-            Vec<?1>, Vec<?1>, Vec<?1>, Vec<?1>, Vec<?1>, Vec<?1>, Vec<?1>, Vec<?1>, Vec<?1>, Vec<?1>, u32, Vec<?1>); then
-            binding ?1;",
+        questions: "struct Vec<+T>; let a = Vec<?0>; let b = Vec<?1>; count goals
+            (a, a, a, a, a, a, a, a, a, a, a, a, a, a, a, a, a, a, a, a, ?0, a) <:
+            (b, b, b, b, b, b, b, b, b, b, b, b, b, b, b, b, b, b, b, b, u32, b);
+            then binding ?1;",
         stored: "17 | none",
     },
     Row {
@@ -435,13 +432,11 @@ pub const LATE_ROWS: [Row; 37] = [
     },
     Row {
         name: "r71",
-        questions: "param 'a, 'b; count regions (&'a u8, &'a u8, &'a u8, &'a u8, &'a u8, &'a u8, &'a u8, &'a u8, &'a u8, &'a u8,
-            &'a u8, &'a u8, &'a u8, &'a u8, &'a u8, &'a u8, &'a u8, &'a u8, &'a u8, &'a u8, &'a u8, &'a u8, &'a u8, &'a
-            u8, &'a u8, &'a u8, &'a u8, &'a u8, &'a u8, &'a u8, &'a u8, &'a u8, &'a u8, &'a u8, &'a u8, &'a u8, &'a u8,
-            &'a u8, &'a u8, &'a u8) <: (&'b u8, &'b u8, &'b u8, &'b u8, &'b u8, &'b u8, &'b u8, &'b u8, &'b u8, &'b u8,
-            &'b u8, &'b u8, &'b u8, &'b u8, &'b u8, &'b u8, &'b u8, &'b u8, &'b u8, &'b u8, &'b u8, &'b u8, &'b u8, &'b
-            u8, &'b u8, &'b u8, &'b u8, &'b u8, &'b u8, &'b u8, &'b u8, &'b u8, &'b u8, &'b u8, &'b u8, &'b u8, &'b u8,
-            &'b u8, &'b u8, &'b u8);",
+        questions: "param 'a, 'b; let a = &'a u8; let b = &'b u8; count regions
+            (a, a, a, a, a, a, a, a, a, a, a, a, a, a, a, a, a, a, a, a, a, a, a, a, a, a, a, a, a, a,
+            a, a, a, a, a, a, a, a, a, a) <:
+            (b, b, b, b, b, b, b, b, b, b, b, b, b, b, b, b, b, b, b, b, b, b, b, b, b, b, b, b, b, b,
+            b, b, b, b, b, b, b, b, b, b);",
         stored: "33 | 1",
     },
 ];
