@@ -170,7 +170,7 @@ rest_so : (k : Kit) (q : BoundKind) (ks : List BoundKind) → BindsSo k (q ∷ k
 rest_so k q ks (inl h) = inl h.1
 rest_so k q ks (inr h) = inr h
 
-region_kind_is : (j : VarKind) → var_sort j ≡ region_sort → j ≡ region_var
+pub region_kind_is : (j : VarKind) → var_sort j ≡ region_sort → j ≡ region_var
 region_kind_is type_var e = absurd cc
 region_kind_is int_var e = absurd cc
 region_kind_is float_var e = absurd cc

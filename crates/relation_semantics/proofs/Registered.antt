@@ -153,7 +153,7 @@ by_declared d Bivariant h k = absurd (h refl)
 
 -- Where that is not said, at invariance only those goals are registered that aliases and opaque types call for: so none
 -- where neither stands in the terms and in what is bound.
-abbrev no_aliases : Head → Bool
+abbrev pub no_aliases : Head → Bool
 no_aliases (alias k d) = false
 no_aliases (unevaluated d) = false
 no_aliases h = true
