@@ -5,6 +5,7 @@
 
 mod map;
 mod set;
+pub mod widening;
 
 pub use map::DelayedMap;
 pub use set::DelayedSet;

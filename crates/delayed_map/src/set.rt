@@ -4,6 +4,7 @@ ghost use Rattle.std.specs.List.{list_any};
 ghost use Rattle.delayed_map.specs.Delayed.{TellsNew, PutsMember};
 
 use crate::CACHE_CUTOFF;
+use crate::widening::widen;
 use relation_terms::hashing::KeyHasher;
 use relation_terms::terms::OutOfMemory;
 use std::alloc::{Allocator, Global};
@@ -61,7 +62,9 @@ impl<T: Eq + Hash + Drop, A: Allocator + Clone> DelayedSet<T, A> {
         ensures err { OnErr result (self.new ≡ self.old) }
     {
         if self.count >= CACHE_CUTOFF {
-            Ok(self.cache.insert(value)?)
+            let is_new = self.cache.insert(value)?;
+            widen(&mut self.cache);
+            Ok(is_new)
         } else {
             self.count += 1;
             Ok(true)

@@ -6,7 +6,7 @@ use Rattle.relation_terms.specs.Meaning.{Meaning, Extends as Grows}
 use Rattle.relation_semantics.specs.Relation.{IsValueLeaf, StaysWithin}
 use Rattle.relation_semantics.specs.Stores.{Store, IsMade, bound_term, universe_of, MayStandFor, IsNamable, IsAssignment}
 use Rattle.relation_semantics.specs.Stores.{MeetsBindings, IsSound, resolved}
-use Rattle.relation_semantics.specs.Steps.{IsLater, MakesVariable, Extends}
+use Rattle.relation_semantics.specs.Steps.{IsLater, MakesVariable, HasExtension}
 use Rattle.relation_semantics.specs.FirstOrder.{IsErasedSolution}
 use Rattle.relation_semantics.specs.Contexts.{Context}
 use Rattle.type_relations.specs.Relating.{term_in, KnowsTerm, TakesTerm, HasTerm}
@@ -28,7 +28,7 @@ FreeValues = (st : Store) → IsSound st → (t : Assign) → GivesValues st t �
 abbrev pub MadeIsUnconstrainedErased : Type 0
 MadeIsUnconstrainedErased = (before after : Store) (k : VarKind) (n u : ℕ) → MakesVariable before after k n u →
     IsSound before → (s : Assign) (t : Tree) → IsErasedSolution before s → MayStandFor k t → Leaves IsValueLeaf t →
-    StaysWithin 0 t → Leaves (IsNamable u) t → Extends before s (λ s'. IsErasedSolution after s' × (s' k n ≡ t))
+    StaysWithin 0 t → Leaves (IsNamable u) t → HasExtension before s (λ s'. IsErasedSolution after s' × (s' k n ≡ t))
 
 -- In a later context, which `state` shows, a known value has the tree that it had; it is known still, may be related if
 -- it might be, and is the context's if it was.

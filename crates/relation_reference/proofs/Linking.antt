@@ -1,9 +1,39 @@
 -- What leading a class on makes of a table, list by list.
-use Rattle.std.proofs.Common.{◌≡◌, ℕ, ◌<◌, refl, sym, ap, ap₂, ◌∙◌, List, [], ◌∷◌, length, map, set, min, subst}
-use Rattle.std.proofs.lemmas.List.{length-map}
+use Rattle.std.proofs.Common.{◌≡◌, ℕ, zero, suc, ◌<◌, ◌≤◌, refl, sym, ap, ap₂, ◌∙◌, arith, List, [], ◌∷◌, ◌++◌, length, map, set, min, subst, take, drop, get_or, eqb, cond, true, false}
+use Rattle.std.proofs.lemmas.Bool.{eqb-true}
+use Rattle.std.proofs.lemmas.List.{length-map, get_or-map}
 use Rattle.relation_reference.specs.declared.context.inner.Variable.{Variable}
-use Rattle.relation_reference.specs.declared.context.inner.VariableValue.TheVariants.{SameAs}
-use Rattle.relation_reference.specs.Variables.{keys_of, values_of, universes_of, universe_at, led, led_variable}
+use Rattle.relation_reference.specs.declared.context.inner.VariableValue.{VariableValue}
+use Rattle.relation_reference.specs.declared.context.inner.VariableValue.TheVariants.{Unknown, SameAs, Known}
+use Rattle.relation_reference.specs.Variables.{keys_of, values_of, universes_of, universe_at, root_by, root_at, led, led_variable, LeadsDown}
+
+-- The front of a list that a function leaves as it is.
+front_stays : {A : Type 0} (f : A → A) (n : ℕ) (xs : List A) → ((i : ℕ) (x : A) → i < n → i < length xs → f (get_or xs i x) ≡ get_or xs i x) →
+    map f (take n xs) ++ drop n xs ≡ xs
+front_stays f zero [] h = refl
+front_stays f zero (x ∷ xs) h = refl
+front_stays f (suc n) [] h = refl
+front_stays f (suc n) (x ∷ xs) h = ap₂ ◌∷◌ (h 0 x (omega arith) (omega arith))
+    (front_stays f n xs (λ i y l m. h (suc i) y (omega (arith, l)) (omega (arith, m))))
+
+-- What leads to another than the child is not led on.
+led_past : {K : Type 0} (child root i : ℕ) (v : VariableValue K) → root_by i v ≤ i → i < child → led child root v ≡ v
+led_past child root i Unknown low less = refl
+led_past child root i (SameAs m) low less = go (eqb m child) refl
+  where
+    go : (b : _) → eqb m child ≡ b → SameAs (cond (eqb m child) root m) ≡ SameAs m
+    go true e = absurd (let q = eqb-true m child e in omega (arith, q, low, less))
+    go false e = ap (λ b. SameAs (cond b root m)) e
+led_past child root i (Known t) low less = refl
+
+-- Before the child's place none leads to the child.
+pub none_before : {K : Type 0} (child root : ℕ) (vs : List (Variable K)) → LeadsDown vs →
+    map (led_variable child root) (take child vs) ++ drop child vs ≡ vs
+none_before {K} child root vs down = front_stays (led_variable child root) child vs (λ i v less there. stays i (get_or vs i v) less (get_or-map (λ z. z.value) vs i v Unknown there))
+  where
+    stays : (i : ℕ) (v : Variable K) → i < child → get_or (map (λ z. z.value) vs) i Unknown ≡ v.value → led_variable child root v ≡ v
+    stays i v less e = ap (λ z. record { key = v.key; value = z; universe = v.universe })
+        (led_past child root i v.value (subst (λ z. root_by i z ≤ i) e (down i)) less)
 
 module _ {K : Type 0} (child root : ℕ) where
   pub led_keys : (vs : List (Variable K)) → keys_of (map (led_variable child root) vs) ≡ keys_of vs

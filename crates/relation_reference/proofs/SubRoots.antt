@@ -170,12 +170,15 @@ more_table rs t = record {
 }
 
 -- A class with itself.
-pub joins_itself : (f : ℕ → ℕ) (a b : ℕ) → a ≡ b → JoinsRoots f f a b
-joins_itself f a b e = record { joined = λ n q. joined n q; others = λ n o z. refl }
+pub joins_one : (f : ℕ → ℕ) (a b : ℕ) → f a ≡ f b → JoinsRoots f f a b
+joins_one f a b e = record { joined = λ n q. joined n q; others = λ n o z. refl }
   where
     joined : (n : ℕ) → (f n ≡ f a) ⊎ (f n ≡ f b) → f n ≡ min (f a) (f b)
-    joined n (inl q) = let s = ap f e in omega (arith, q, s)
-    joined n (inr q) = let s = ap f e in omega (arith, q, s)
+    joined n (inl q) = omega (arith, q, e)
+    joined n (inr q) = omega (arith, q, e)
+
+pub joins_itself : (f : ℕ → ℕ) (a b : ℕ) → a ≡ b → JoinsRoots f f a b
+joins_itself f a b e = joins_one f a b (ap f e)
 
 module _ {Key Id Name : Type 0} (m : Meaning Key Id Name) where
   -- A type variable has a root there.

@@ -14,7 +14,7 @@ use Rattle.relation_reference.specs.declared.context.inner.VariableValue.{Variab
 use Rattle.relation_reference.specs.declared.context.inner.VariableValue.TheVariants.{Unknown, SameAs, Known}
 use Rattle.relation_reference.specs.declared.context.inner.Variable.{Variable}
 use Rattle.relation_reference.specs.declared.context.inner.InferCtxtInner.{InferCtxtInner}
-use Rattle.relation_reference.specs.Variables.{values_of, led, entry_of_value, entries_of}
+use Rattle.relation_reference.specs.Variables.{values_of, value_at, root_by, led, entry_of_value, entries_of, LeadsDown}
 use Rattle.relation_reference.specs.Tables.{store_of, keys_in, MayBeBoundTo, IsRooted, IsFilled, IsLawful}
 use Rattle.relation_reference.proofs.Beside.{Beside, lawful_beside, keyed_still}
 
@@ -61,6 +61,16 @@ table_made tree vs n h = let a = length-map (values_of vs) (entry_of_value tree)
 
 pub table_of_entries : {K : Type 0} (tree : K → Tree) (vs : List (Variable K)) (n : ℕ) → n < length (entries_of tree vs) → n < length vs
 table_of_entries tree vs n h = let a = length-map (values_of vs) (entry_of_value tree) in let b = length-map vs (λ v. v.value) in omega (arith, h, a, b)
+
+-- A table leads down where its entries do.
+pub leads_down : {K : Type 0} (tree : K → Tree) (vs : List (Variable K)) →
+    ((n m : ℕ) → get_or (entries_of tree vs) n unbound ≡ same_as m → m < n) → LeadsDown vs
+leads_down tree vs falls n = go (value_at vs n) (get_or-map (entry_of_value tree) (values_of vs) n Unknown)
+  where
+    go : (v : VariableValue _) → get_or (entries_of tree vs) n unbound ≡ entry_of_value tree v → root_by n v ≤ n
+    go Unknown e = omega arith
+    go (SameAs m) e = let less = falls n m e in omega (arith, less)
+    go (Known t) e = omega arith
 
 -- A store of which all but one kind's entries and universes, and the budget, stands.
 pub record OtherKinds (before after : Store) (k : VarKind) : Type 0 where

@@ -1,5 +1,5 @@
 -- One table of variables, as lists: what is recorded of them, and what leading a class on makes of it.
-use Rattle.std.specs.Prelude.{ℕ, min, List, map, get_or, slice_set, eqb, cond, Option, Some, None}
+use Rattle.std.specs.Prelude.{ℕ, ◌≤◌, min, List, map, get_or, slice_set, eqb, cond, Option, Some, None}
 use Rattle.relation_terms.specs.Trees.{Tree}
 use Rattle.relation_terms.specs.declared.terms.numbers.UniverseIndex.{UniverseIndex}
 use Rattle.relation_semantics.specs.Stores.{Entry, unbound, same_as, bound_to}
@@ -33,6 +33,10 @@ module _ {K : Type 0} where
 
   abbrev pub root_at : List (Variable K) → ℕ → ℕ
   root_at vs n = root_by n (value_at vs n)
+
+  -- No variable leads to one of a larger number.
+  abbrev pub LeadsDown : List (Variable K) → Type 0
+  LeadsDown vs = (n : ℕ) → root_at vs n ≤ n
 
   -- The universe of a variable of which nothing is recorded, or none.
   abbrev pub free_universe : ℕ → VariableValue K → Option UniverseIndex

@@ -9,7 +9,7 @@ use Rattle.relation_terms.specs.Trees.{Tree, leaf, node, bind, nil, cons, Assign
 use Rattle.relation_semantics.specs.Relation.{Items, Interpretation, at, Rel, AliasRule, alias_types, equal_consts, error_left, error_right, sort_of, IsError}
 use Rattle.relation_semantics.specs.Stores.{Store, entry_term, InContext, IsAssignment, Satisfies}
 use Rattle.relation_semantics.specs.Goals.{Goal, goal_of, Holds, MakesOneTree, GoalInContext, alias_relate_predicate, ambiguous_predicate}
-use Rattle.relation_semantics.specs.Steps.{Instantiates, kept, replaced, in_form, in_binder, in_list, Extends}
+use Rattle.relation_semantics.specs.Steps.{Instantiates, kept, replaced, in_form, in_binder, in_list, HasExtension}
 use Rattle.relation_semantics.specs.Outcomes.{Outcome}
 use Rattle.relation_semantics.specs.AliasGoals.{alias_at, AliasGoalsRelate, AliasGoalsRelateConsts, AliasGoalsRelateBound, ErrorsRelate, AmbiguousRelates, Lacks, GeneralisingAddsNoForms}
 use Rattle.relation_semantics.proofs.Going.{later_itself}
@@ -97,7 +97,7 @@ module _ (c : Items) (e : Tree) (u v : Variance) (before after : Store) (earlier
   same_var w s sat = sat.bindings type_var n y (ap (entry_term type_var) f.now_bound)
 
   -- Each earlier assignment that made the two one makes the new variable and the alias one.
-  kept_one : (w : Interpretation) (s : Assign) → Satisfies w before s → apply s x ≡ apply s b → Extends before s (λ s'. Satisfies w after s' × (apply s' y ≡ apply s' b))
+  kept_one : (w : Interpretation) (s : Assign) → Satisfies w before s → apply s x ≡ apply s b → HasExtension before s (λ s'. Satisfies w after s' × (apply s' y ≡ apply s' b))
   kept_one w s sat one = let k = f.keeps w s sat one in
       (k.0, k.1, (k.2, sym (same_var w k.0 k.2) ∙ sym (k.1 type_var n f.made) ∙ one ∙ same_value before s k.0 b k.1 ib))
 

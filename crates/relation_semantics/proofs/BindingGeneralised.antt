@@ -11,7 +11,7 @@ use Rattle.relation_semantics.specs.Relation.{Items, Interpretation, IsValueLeaf
 use Rattle.relation_semantics.specs.Stores.{Store, entry_term, bound_to, bound_term, universe_of, IsMade, IsFree, IsMadeLeaf, InContext, IsInScope, IsNamable, IsAssignment, MayStandFor, IsTermIn, IsSound, Satisfies, resolved, weight}
 use Rattle.relation_semantics.specs.FirstOrder.{IsFirstOrder, IsFirstOrderHead, IsFirstOrderStore, IsClosedLeaf, IsTypeClosed, Unifies, IsErasedSolution}
 use Rattle.relation_semantics.specs.StoreLaws.{GeneralisingInstantiates}
-use Rattle.relation_semantics.specs.Steps.{IsLater, AgreeOn, AgreeErased, Extends, ExtendsErased, IsGeneralised, kept, replaced, in_form, in_binder, in_list, IsNamedBy, Instantiates, IsNoAlias, LacksAliases}
+use Rattle.relation_semantics.specs.Steps.{IsLater, AgreeOn, AgreeErased, HasExtension, HasErasedExtension, IsGeneralised, kept, replaced, in_form, in_binder, in_list, IsNamedBy, Instantiates, IsNoAlias, LacksAliases}
 use Rattle.relation_semantics.specs.ErasureLaws.{IsTypeOrConst}
 use Rattle.relation_semantics.specs.Measures.{Goes, grown}
 use Rattle.relation_semantics.specs.declared.relate.StructurallyRelateAliases.{StructurallyRelateAliases}
@@ -319,7 +319,7 @@ module _ (al : StructurallyRelateAliases) (c : Items) (before after : Store) (v 
     bound_value : extended k n ≡ apply extended term
     bound_value = sym (agrees k n f.made) ∙ target_value ∙ ap (apply s) (sym value) ∙ apply-apply s back term
 
-    keeps : Extends before s (λ s'. Satisfies w after s')
+    keeps : HasExtension before s (λ s'. Satisfies w after s')
     keeps = (
       extended,
       agrees,
@@ -396,7 +396,7 @@ module _ (al : StructurallyRelateAliases) (c : Items) (before after : Store) (v 
       erased_after u before middle g a reduced new_reduced (erased_agrees before s reduced g still_erased sol.1),
     )
 
-    keeps_erased : ExtendsErased before s (IsErasedSolution after)
+    keeps_erased : HasErasedExtension before s (IsErasedSolution after)
     keeps_erased = erased_through before middle s reduced (IsErasedSolution after) a.later still_erased
         ((entry_is_exact middle after k n (bound_to term) term (f.binds).writes refl later_still (f.binds).same_universes).keeps reduced solves unified)
 

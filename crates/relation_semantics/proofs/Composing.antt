@@ -7,9 +7,9 @@ use Rattle.relation_terms.specs.Trees.{Tree, leaf, node, bind, nil, cons, Assign
 use Rattle.term_enums.specs.declared.Variance.{Variance}
 use Rattle.relation_semantics.specs.Relation.{Items, Interpretation, parts, at, part_at, Rel, forms, no_parts, next_part}
 use Rattle.relation_semantics.specs.Stores.{Store, Satisfies, InContext}
-use Rattle.relation_semantics.specs.Goals.{Goal, Asked, asks_subtype, asks_alias, asks_too_much, asks_nothing, asked, Holds, GoalInContext, HasOneTree, MakesOneTree}
-use Rattle.relation_semantics.specs.Steps.{IsLater, AgreeOn, Extends}
-use Rattle.relation_semantics.specs.Outcomes.{AreOne, Outcome, Front}
+use Rattle.relation_semantics.specs.Goals.{Goal, Request, asks_subtype, asks_alias, asks_too_much, asks_nothing, asked, Holds, GoalInContext, HasOneTree, MakesOneTree}
+use Rattle.relation_semantics.specs.Steps.{IsLater, AgreeOn, HasExtension}
+use Rattle.relation_semantics.specs.Outcomes.{AreOneUnder, Outcome, Front}
 use Rattle.relation_semantics.specs.StepLaws.{RelatesLater, RelatesUnderMore, PartsCompose, NoPartsRelate, FormsRelate, StepsCompose, FrontBegins, FrontGoesOn, FrontEnds}
 use Rattle.relation_semantics.proofs.OneParts.{count_applied}
 use Rattle.relation_semantics.proofs.Values.{same_value, apply-nth, apply-list}
@@ -24,7 +24,7 @@ pub relates_under_more : RelatesUnderMore
 relates_under_more c before after goals more e v a b shrinks h w s sat all = h w s (shrinks w s sat) (All_front (Holds c w s) goals more all)
 
 -- The sides of what is asked are parts of the predicate.
-abbrev pub AskedIn : Store → Asked → Type 0
+abbrev pub AskedIn : Store → Request → Type 0
 AskedIn st (asks_subtype a b) = InContext st a × InContext st b
 AskedIn st (asks_alias d a b) = InContext st a × InContext st b
 AskedIn st asks_too_much = Unit {0}
@@ -37,7 +37,7 @@ asked_in st (bind [] (node (alias_relate d) (cons a (cons b nil)))) i = (i.0, i.
 asked_in st (bind [] (leaf (atom ambiguous))) i = tt
 asked_in st p i = tt
 
-one_tree_still : (st : Store) (s s' : Assign) → AgreeOn st s s' → (q : Asked) → AskedIn st q → HasOneTree s q → HasOneTree s' q
+one_tree_still : (st : Store) (s s' : Assign) → AgreeOn st s s' → (q : Request) → AskedIn st q → HasOneTree s q → HasOneTree s' q
 one_tree_still st s s' h (asks_subtype a b) i p = sym (same_value st s s' a h i.0) ∙ p ∙ same_value st s s' b h i.1
 one_tree_still st s s' h (asks_alias d a b) i p = sym (same_value st s s' a h i.0) ∙ p ∙ same_value st s s' b h i.1
 one_tree_still st s s' h asks_too_much i p = tt
@@ -64,7 +64,7 @@ all_goals P earlier first others h = All-append P (earlier ++ first) others (fir
 
 -- An extension, and then one from there.
 pub extends_through : (before middle after : Store) (first others : List Goal) (w : Interpretation) (s s' : Assign) → IsLater before middle → All (GoalInContext middle) first →
-    AgreeOn before s s' → All (MakesOneTree s') first → Extends middle s' (λ z. Satisfies w after z × All (MakesOneTree z) others) → Extends before s (λ z. Satisfies w after z × All (MakesOneTree z) (first ++ others))
+    AgreeOn before s s' → All (MakesOneTree s') first → HasExtension middle s' (λ z. Satisfies w after z × All (MakesOneTree z) others) → HasExtension before s (λ z. Satisfies w after z × All (MakesOneTree z) (first ++ others))
 extends_through before middle after first others w s s' l inc p q two =
     (two.0, agree_through l p two.1, (two.2.0, All-append (MakesOneTree two.0) first others (All_map₂ _ _ (MakesOneTree two.0) (still_one_tree middle s' two.0 two.1) first inc q) two.2.1))
 
@@ -89,7 +89,7 @@ parts_compose c e h i v before middle after earlier first others a b xs ys inx i
   keeps = λ w s sat q. go w s (tails_one q) (f.keeps w s sat (heads_one q));
 }
   where
-    go : (w : Interpretation) (s : Assign) → apply s xs ≡ apply s ys → Extends before s (λ z. Satisfies w middle z × All (MakesOneTree z) first) → Extends before s (λ z. Satisfies w after z × All (MakesOneTree z) (first ++ others))
+    go : (w : Interpretation) (s : Assign) → apply s xs ≡ apply s ys → HasExtension before s (λ z. Satisfies w middle z × All (MakesOneTree z) first) → HasExtension before s (λ z. Satisfies w after z × All (MakesOneTree z) (first ++ others))
     go w s q one = extends_through before middle after first others w s one.0 f.later f.goals_in one.1 one.2.1 (g.keeps w one.0 one.2.0 (values_still before s one.0 xs ys one.1 inx iny q))
 
 pub no_parts_relate : NoPartsRelate
@@ -122,7 +122,7 @@ steps_compose c e way way' before middle after earlier first others a b x y f = 
       keeps = λ w s sat q. go w s (f.keeps w s sat q);
     }
       where
-        go : (w : Interpretation) (s : Assign) → Extends before s (λ z. Satisfies w middle z × All (MakesOneTree z) first × AreOne way' z x y) → Extends before s (λ z. Satisfies w after z × All (MakesOneTree z) (first ++ others))
+        go : (w : Interpretation) (s : Assign) → HasExtension before s (λ z. Satisfies w middle z × All (MakesOneTree z) first × AreOneUnder way' z x y) → HasExtension before s (λ z. Satisfies w after z × All (MakesOneTree z) (first ++ others))
         go w s one = extends_through before middle after first others w s one.0 f.later f.goals_in one.1 one.2.1 (g.keeps w one.0 one.2.0 one.2.2)
 
 pub front_begins : FrontBegins
@@ -159,7 +159,7 @@ front_goes_on c e h v i before middle after earlier first others xs ys lx ly inx
         rel w s sat all j (inl l) = f.relates w s (g.later.shrinks w s sat) (first_goals (Holds c w s) earlier first others all) j l
         rel w s sat all j (inr p) = subst (λ z. Rel c w e (at (part_at c h z v)) (apply s (nth z xs)) (apply s (nth z ys))) (sym p) (g.relates w s sat (all_goals (Holds c w s) earlier first others all))
 
-        go : (w : Interpretation) (s : Assign) → apply s xs ≡ apply s ys → Extends before s (λ z. Satisfies w middle z × All (MakesOneTree z) first) → Extends before s (λ z. Satisfies w after z × All (MakesOneTree z) (first ++ others))
+        go : (w : Interpretation) (s : Assign) → apply s xs ≡ apply s ys → HasExtension before s (λ z. Satisfies w middle z × All (MakesOneTree z) first) → HasExtension before s (λ z. Satisfies w after z × All (MakesOneTree z) (first ++ others))
         go w s q one = extends_through before middle after first others w s one.0 f.later f.goals_in one.1 one.2.1 (g.keeps w one.0 one.2.0 (parts_one one.0 i xs ys lx ly (values_still before s one.0 xs ys one.1 inx iny q)))
 
 -- Lists whose parts are related, place by place.

@@ -7,7 +7,7 @@ use Rattle.relation_terms.specs.Erasure.{erase, kept_parts}
 use Rattle.relation_semantics.specs.Relation.{IsValueLeaf, StaysWithin}
 use Rattle.relation_semantics.specs.Stores.{Store, Entry, same_as, entry_term, bound_term, universe_of, IsMade, IsMadeLeaf, InContext, IsNamable, IsAssignment, MayStandFor, IsSound}
 use Rattle.relation_semantics.specs.FirstOrder.{Unifies, MeetsErased, IsErasedSolution}
-use Rattle.relation_semantics.specs.Steps.{IsLater, AgreeErased, ExtendsErased, WritesEntry, Equates}
+use Rattle.relation_semantics.specs.Steps.{IsLater, AgreeErased, HasErasedExtension, WritesEntry, Equates}
 use Rattle.relation_semantics.specs.Outcomes.{Exact, ExactFront}
 use Rattle.relation_semantics.specs.StepLaws.{ExactsCompose, ExactStepsCompose, InstantiatingIsExactStep, ExactFrontGoesOn, ExactFrontEnds, ExactKeepsUnifiers}
 use Rattle.relation_semantics.proofs.Trees.{Leaves_map}
@@ -43,7 +43,7 @@ pub unifies_still : (st : Store) (s s' : Assign) (a b : Tree) → AgreeErased st
 unifies_still st s s' a b h i j p = sym (same_erased st s s' a h i) ∙ p ∙ same_erased st s s' b h j
 
 -- An extension, and then one from there.
-pub erased_through : (before middle : Store) (s s' : Assign) (P : Assign → Type 0) → IsLater before middle → AgreeErased before s s' → ExtendsErased middle s' P → ExtendsErased before s P
+pub erased_through : (before middle : Store) (s s' : Assign) (P : Assign → Type 0) → IsLater before middle → AgreeErased before s s' → HasErasedExtension middle s' P → HasErasedExtension before s P
 erased_through before middle s s' P l h two = (two.0, (λ k n m. h k n m ∙ two.1 k n (l.grows k n m)), two.2)
 
 pub exact_keeps_unifiers : ExactKeepsUnifiers
@@ -56,7 +56,7 @@ exacts_compose before middle after a b xs ys inx iny f g = record {
   keeps = λ s sol q. go s (tails_one q) (f.keeps s sol (heads_one q));
 }
   where
-    go : (s : Assign) → Unifies s xs ys → ExtendsErased before s (IsErasedSolution middle) → ExtendsErased before s (IsErasedSolution after)
+    go : (s : Assign) → Unifies s xs ys → HasErasedExtension before s (IsErasedSolution middle) → HasErasedExtension before s (IsErasedSolution after)
     go s q one = erased_through before middle s one.0 (IsErasedSolution after) f.later one.1 (g.keeps one.0 one.2 (unifies_still before s one.0 xs ys one.1 inx iny q))
 
 pub exact_steps_compose : ExactStepsCompose
@@ -135,10 +135,10 @@ instantiating_is_exact_step u before after k n source term inc ins lacks f = (
       λ j i t e. sol.1 j i t (ap (entry_term j) (f.others_stand j i (unlike j i t e)) ∙ e),
     )
 
-    go : (s : Assign) → Unifies s (leaf (variable k n)) source → ExtendsErased before s (IsErasedSolution after) → ExtendsErased before s (λ z. IsErasedSolution after z × Unifies z term source)
+    go : (s : Assign) → Unifies s (leaf (variable k n)) source → HasErasedExtension before s (IsErasedSolution after) → HasErasedExtension before s (λ z. IsErasedSolution after z × Unifies z term source)
     go s q one = (one.0, one.1, (one.2, sym (value one.0 one.2) ∙ sym (one.1 k n f.made) ∙ q ∙ same_erased before s one.0 source one.1 ins))
 
-    turned : (s : Assign) → ExtendsErased before s (λ z. IsErasedSolution after z × Unifies z term source) → ExtendsErased before s (λ z. IsErasedSolution after z × Unifies z source term)
+    turned : (s : Assign) → HasErasedExtension before s (λ z. IsErasedSolution after z × Unifies z term source) → HasErasedExtension before s (λ z. IsErasedSolution after z × Unifies z source term)
     turned s one = (one.0, one.1, (one.2.0, sym one.2.1))
 
 -- One variable got an entry: what meets the bindings up to erasure.
@@ -245,7 +245,7 @@ module _ (before after : Store) (k : VarKind) (n m : ℕ) (q : Equates before af
   meets : (s s' : Assign) → AgreeErased before s s' → MeetsErased before s → MeetsErased before s'
   meets s s' a h j i t e = let b = g.bindings j i t e in sym (a j i b.made) ∙ h j i t e ∙ same_erased before s s' t a (term_context before t b.is_in)
 
-  solution : (s s' : Assign) → AgreeErased before s s' → IsErasedSolution before s → Unifies s (leaf (variable k n)) to → IsAssignment after s' → ExtendsErased before s (IsErasedSolution after)
+  solution : (s s' : Assign) → AgreeErased before s s' → IsErasedSolution before s → Unifies s (leaf (variable k n)) to → IsAssignment after s' → HasErasedExtension before s (IsErasedSolution after)
   solution s s' a sol u h = (s', a, (h, (erased_binding before after k n (same_as m) to q.links refl s').1 (meets s s' a sol.1, sym (a k n left_made) ∙ u ∙ a k m right_made)))
 
   root_changed : Assign → Assign
@@ -263,7 +263,7 @@ module _ (before after : Store) (k : VarKind) (n m : ℕ) (q : Equates before af
   low : (u : ℕ) → u ≤ lower → (t : Tree) → Leaves (IsNamable u) t → Leaves (IsNamable lower) t
   low u le t h = Leaves_map (IsNamable u) _ (namable_mono u lower le) t h
 
-  extends : (s : Assign) → IsErasedSolution before s → Unifies s (leaf (variable k n)) to → Dec (universe_of before k n ≤ universe_of before k m) → ExtendsErased before s (IsErasedSolution after)
+  extends : (s : Assign) → IsErasedSolution before s → Unifies s (leaf (variable k n)) to → Dec (universe_of before k n ≤ universe_of before k m) → HasErasedExtension before s (IsErasedSolution after)
   unfolding root_changed
   extends s sol u (yes le) = solution s (root_changed s) (agree s u) sol u
       (later (root_changed s) (fits s sol.0 le) (subst (Leaves (IsNamable lower)) (sym (changed_same k m (s k n) s)) (low (universe_of before k n) (omega arith) (s k n) (sol.0 k n left_made).3)))

@@ -7,7 +7,7 @@ use Rattle.relation_terms.specs.Heads.{var_sort, variable}
 use Rattle.relation_terms.specs.Trees.{Tree, leaf, Assign, apply, IsTerm}
 use Rattle.relation_semantics.specs.Relation.{Interpretation, IsValue, FitKinds, AvoidsAll}
 use Rattle.relation_semantics.specs.Stores.{Store, universe_of, IsMade, MayStandFor, Satisfies, IsSound}
-use Rattle.relation_semantics.specs.Steps.{IsNumberKind, MakesVariable, IsLater, AgreeOn, Extends, AllNamable}
+use Rattle.relation_semantics.specs.Steps.{IsNumberKind, MakesVariable, IsLater, AgreeOn, HasExtension, AllNamable}
 use Rattle.relation_semantics.specs.Steps.{AreNewVariables}
 use Rattle.relation_semantics.specs.Generalising.{MakesUnbound, makes_none as none_made, makes_one}
 use Rattle.relation_semantics.specs.Binders.{variable_kind, MakesEach, makes_none, makes_next}
@@ -129,7 +129,7 @@ stands_for (bound_kind const_kind n) t h = h
 abbrev pub Unconstrained : Store → Store → ℕ → List BoundKind → List Tree → Type 0
 Unconstrained before after u ks xs = (w : Interpretation) (s : Assign) (values : List Tree) → Satisfies w before s →
     FitKinds ks values → AllNamable u values →
-    Extends before s (λ s'. Satisfies w after s' × (map (apply s') xs ≡ values))
+    HasExtension before s (λ s'. Satisfies w after s' × (map (apply s') xs ≡ values))
 
 module _ (u : ℕ) (before middle after : Store) (k : BoundKind) (n : ℕ)
     (q : MakesVariable middle after (variable_kind k) n u)

@@ -9,7 +9,7 @@ use Rattle.term_enums.specs.declared.Variance.TheVariants.{Covariant, Contravari
 use Rattle.relation_semantics.specs.Relation.{Items, Interpretation, at, second_opened, first_opened, Rel, covariant_binders, contravariant_binders, invariant_binders, open_second, open_first, FitKinds, Fresh, StaysWithin}
 use Rattle.relation_semantics.specs.Stores.{Store, unbound, entry_term, bound_term, universe_of, IsMade, IsAssignment, IsInScope, IsNamable, MeetsBindings, Satisfies, ConstraintHolds}
 use Rattle.relation_semantics.specs.Goals.{Goal, Holds, GoalInContext, MakesOneTree}
-use Rattle.relation_semantics.specs.Steps.{IsLater, AgreeOn, Extends, AllNamable, ArePlaceholders, ChangesNothing, EntersForall, LeavesBody, EntersUniverse, InstantiatesBinder, Instantiates}
+use Rattle.relation_semantics.specs.Steps.{IsLater, AgreeOn, HasExtension, AllNamable, ArePlaceholders, ChangesNothing, EntersForall, LeavesBody, EntersUniverse, InstantiatesBinder, Instantiates}
 use Rattle.relation_semantics.specs.Outcomes.{StepsTo}
 use Rattle.relation_semantics.specs.StepLaws.{InstantiatingSteps, OpeningSteps, OneRoundRelates, TwoRoundsRelate, UnusedBindersRelate}
 use Rattle.relation_semantics.proofs.Trees.{apply-inst, inst_within, StaysIn}
@@ -164,7 +164,7 @@ module _ (before middle after : Store) (ks ls : List BoundKind) (a b a' b' : Tre
   fresh s h x y i j = fresh_later before.universe entered.universe ls entered.placeholders (apply s x) (apply s y) entered.above entered.are_placeholders (value_namable before s before.universe x h i) (value_namable before s before.universe y h j)
 
   -- Where both bodies have one value, an extension makes the opened ones one.
-  extends_opened : (w : Interpretation) (s : Assign) → Satisfies w before s → ks ≡ ls → apply s a ≡ apply s b → Extends before s (λ z. Satisfies w after z × All (MakesOneTree z) [] × (apply z a' ≡ apply z b'))
+  extends_opened : (w : Interpretation) (s : Assign) → Satisfies w before s → ks ≡ ls → apply s a ≡ apply s b → HasExtension before s (λ z. Satisfies w after z × All (MakesOneTree z) [] × (apply z a' ≡ apply z b'))
   extends_opened w s sat p q = go (makes.makes.unconstrained w s entered.values (satisfies_still before middle enters.changes_nothing w s sat) (subst (λ z. FitKinds z entered.values) (sym p) entered.fit) entered.namable)
     where
       same : (z : Assign) → AgreeOn before s z → Satisfies w before z → map (apply z) makes.variables ≡ entered.values → apply z a' ≡ apply z b'
@@ -173,7 +173,7 @@ module _ (before middle after : Store) (ks ls : List BoundKind) (a b a' b' : Tre
           ∙ ap₂ (λ x y. inst x 0 y) r (sym (same_value before s z a h (in_context before before.universe a ina)) ∙ q ∙ same_value before s z b h (in_context before before.universe b inb))
           ∙ sym (entered.kept z (stay z satz.assigns b inb))
 
-      go : Extends middle s (λ z. Satisfies w after z × (map (apply z) makes.variables ≡ entered.values)) → Extends before s (λ z. Satisfies w after z × All (MakesOneTree z) [] × (apply z a' ≡ apply z b'))
+      go : HasExtension middle s (λ z. Satisfies w after z × (map (apply z) makes.variables ≡ entered.values)) → HasExtension before s (λ z. Satisfies w after z × All (MakesOneTree z) [] × (apply z a' ≡ apply z b'))
       go one = let h : AgreeOn before s one.0 = (λ k n m. one.1 k n (made_still before middle enters.changes_nothing k n m)) in
           (one.0, h, (one.2.0, All-nil (MakesOneTree one.0), same one.0 h (opened_later.shrinks w one.0 one.2.0) one.2.1))
 
@@ -191,7 +191,7 @@ opening_steps c e v before middle after earlier ks ls a b a' b' ina inb = (secon
       keeps = λ w s sat q. extends_opened before middle after ks ls a b a' b' ina inb f g w s sat q.0 q.1;
     }
 
-    turned : (w : Interpretation) (s : Assign) → Extends before s (λ z. Satisfies w after z × All (MakesOneTree z) [] × (apply z b' ≡ apply z a')) → Extends before s (λ z. Satisfies w after z × All (MakesOneTree z) [] × (apply z a' ≡ apply z b'))
+    turned : (w : Interpretation) (s : Assign) → HasExtension before s (λ z. Satisfies w after z × All (MakesOneTree z) [] × (apply z b' ≡ apply z a')) → HasExtension before s (λ z. Satisfies w after z × All (MakesOneTree z) [] × (apply z a' ≡ apply z b'))
     turned w s one = (one.0, one.1, (one.2.0, one.2.1, sym one.2.2))
 
     first : EntersForall before middle ks a a' → InstantiatesBinder middle after ls b b' → StepsTo c e before after earlier [] (first_opened ks ls v) a b (at v) a' b'
@@ -225,7 +225,7 @@ two_rounds_relate c e before middle after earlier first others ks ls a b ina inb
   keeps = λ w s sat q. go w s (binder_kinds q) (binder_bodies q) (f.keeps w s sat (binder_kinds q, binder_bodies q));
 }
   where
-    go : (w : Interpretation) (s : Assign) → ks ≡ ls → apply s a ≡ apply s b → Extends before s (λ z. Satisfies w middle z × All (MakesOneTree z) first) → Extends before s (λ z. Satisfies w after z × All (MakesOneTree z) (first ++ others))
+    go : (w : Interpretation) (s : Assign) → ks ≡ ls → apply s a ≡ apply s b → HasExtension before s (λ z. Satisfies w middle z × All (MakesOneTree z) first) → HasExtension before s (λ z. Satisfies w after z × All (MakesOneTree z) (first ++ others))
     go w s p q one = extends_through before middle after first others w s one.0 f.later f.goals_in one.1 one.2.1 (g.keeps w one.0 one.2.0 (p, values_still before s one.0 a b one.1 ina inb q))
 
 -- Where a body uses no variable of its binder, what is put for them is not seen.

@@ -8,7 +8,7 @@ use Rattle.std.proofs.lemmas.List.Elements.{All-nil, All-append}
 use Rattle.term_enums.specs.declared.Variance.{Variance}
 use Rattle.relation_terms.specs.Trees.{Tree, Assign, apply, known}
 use Rattle.term_enums.specs.declared.Variance.TheVariants.{Bivariant, Invariant}
-use Rattle.relation_terms.specs.Meaning.{Extends as ExtendsMeaning}
+use Rattle.relation_terms.specs.Meaning.{Extends}
 use Rattle.term_enums.specs.Variances.{xform}
 use Rattle.relation_terms.proofs.Stays.{stays_same, extends_on}
 use Rattle.relation_folds.specs.declared.error.RelateFault.{RelateFault}
@@ -19,7 +19,7 @@ use Rattle.relation_folds.specs.Faults.{KnowsError}
 use Rattle.relation_semantics.specs.Errors.{ErrorOf, by_forms, IsLeftToGoal, Meeting, as_forms}
 use Rattle.relation_semantics.specs.Agreeing.{Agree}
 use Rattle.relation_semantics.specs.Stores.{Store, IsSound, Satisfies, all_bound, weight}
-use Rattle.relation_semantics.specs.Goals.{Goal, GoalInContext, IsDirected, Holds, Relates, Asked as Asks, asked, asks_too_much, asks_nothing, IsQuiet, AsksNoPair, HasOneTree, MakesOneTree}
+use Rattle.relation_semantics.specs.Goals.{Goal, GoalInContext, IsDirected, Holds, Relates, Request, asked, asks_too_much, asks_nothing, IsQuiet, AsksNoPair, HasOneTree, MakesOneTree}
 use Rattle.relation_semantics.specs.Outcomes.{Outcome, CarriesOver, NeverOne, Exact, ExactStep}
 use Rattle.relation_semantics.specs.Headline.{IsFirstOrderPair}
 use Rattle.relation_semantics.specs.FirstOrder.{IsFirstOrderStore, IsErasedSolution}
@@ -355,7 +355,7 @@ module _ {Key Id Name : Type 0} where
     one_tree : (s : Assign) (g : Goal) → IsQuiet g → MakesOneTree s g
     one_tree s g quiet = still (asked g.predicate) quiet
       where
-        still : (q : Asks) → AsksNoPair q → HasOneTree s q
+        still : (q : Request) → AsksNoPair q → HasOneTree s q
         still asks_too_much h = tt
         still asks_nothing h = tt
         still q h = absurd h
@@ -426,7 +426,7 @@ module _ {Key Id Name : Type 0} where
       (there : Turned v r t) (back : Turned r.ambient q u) (seen : IsDirected v → IsDirected r.ambient) where
     turned_passes : Passes (weight t.store a + weight t.store b) t q → Passes (weight r.store a + weight r.store b) r u
     turned_passes f = record {
-      extends = subst₂ (λ m n. ExtendsMeaning m n) there.meaning (sym back.meaning) f.extends;
+      extends = subst₂ (λ m n. Extends m n) there.meaning (sym back.meaning) f.extends;
       goes = subst₂ (λ s z. Goes (weight s a + weight s b) s z) there.store (sym back.store) f.goes;
       added = f.added;
       lengthens = back.goals ∙ f.lengthens ∙ ap (λ gs. gs ++ f.added) there.goals;
@@ -515,7 +515,7 @@ module _ {Key Id Name : Type 0} where
   }
 
   -- The interner's keys were added to.
-  unfoldable pub passes_grown : {n : ℕ} {r q p : State Key Id Name} → Passes n r q → ExtendsMeaning q.meaning p.meaning →
+  unfoldable pub passes_grown : {n : ℕ} {r q p : State Key Id Name} → Passes n r q → Extends q.meaning p.meaning →
       WithMeaning q p.meaning p → Passes n r p
   passes_grown {n} {r} {q} {p} g e w = record {
     extends = extends_on g.extends e;
@@ -529,7 +529,7 @@ module _ {Key Id Name : Type 0} where
   }
 
   -- What was an answer stays one.
-  may_with : {q p : State Key Id Name} (M : Manners) (v : Variance) (t u : Tree) → ExtendsMeaning q.meaning p.meaning →
+  may_with : {q p : State Key Id Name} (M : Manners) (v : Variance) (t u : Tree) → Extends q.meaning p.meaning →
       WithMeaning q p.meaning p → MayAnswer M q v t u → MayAnswer M p v t u
   may_with {q} {p} M v t u e w h = record {
     related = λ j s sat all.
@@ -542,7 +542,7 @@ module _ {Key Id Name : Type 0} where
       same = ap₂ declared_by e.variances e.alias_variances
 
   module _ {X Y : Type 0} {x y : Meeting} {r q p : State Key Id Name} (M : Manners) (v : Variance) (a b : Tree)
-      (e : ExtendsMeaning q.meaning p.meaning) (w : WithMeaning q p.meaning p) (answer : Y → Tree) where
+      (e : Extends q.meaning p.meaning) (w : WithMeaning q p.meaning p) (answer : Y → Tree) where
     -- An answer was made anew of the same value.
     pub remade : (tree : X → Tree) (t : X) → RelatedAs x M r q (at v) a b tree (Ok t) → (z : Y) →
         MayAnswer M q v a (answer z) → IsTrue (known (answer z)) → RelatedAs y M r p (at v) a b answer (Ok z)

@@ -22,7 +22,7 @@ use Rattle.relation_semantics.specs.Outcomes.{Exact, Outcome}
 use Rattle.relation_semantics.specs.Settings.{Settings}
 use Rattle.relation_semantics.specs.Steps.{IsLater, StaysFullFor}
 use Rattle.relation_semantics.specs.Stores.{Store}
-use Rattle.relation_semantics.specs.Lawful.{State, Pair, Manner, Manners, Passes, IsShown, Shown, WasRelated, WereRelated, Remembers, Noted, OnlyMemory}
+use Rattle.relation_semantics.specs.Lawful.{State, Pair, Manner, Manners, Passes, IsShown, Shown, WasRelated, WereRelated, RemembersAtMost, Noted, OnlyMemory}
 use Rattle.relation_semantics.specs.Lawful.{Stepped, ExactlyRelated, RegisteredIn, declared_by, items_of, items_in}
 use Rattle.relation_semantics.proofs.Answering.{relates_still, same_items, same_settings, may_itself}
 use Rattle.relation_semantics.proofs.Building.{built_itself}
@@ -149,14 +149,14 @@ module _ {Key Id Name : Type 0} (M : Manners) where
 
 -- A relation that remembers one pair more.
 relates_remembering : {Key Id Name A E : Type 0} {q s : State Key Id Name} {p : Pair Key} {res : Result A E} →
-    Remembers q s p res → (v : Variance) (a b : Tree) → Relates (items_in q) q.store q.goals q.kept.environment v a b →
+    RemembersAtMost q s p res → (v : Variance) (a b : Tree) → Relates (items_in q) q.store q.goals q.kept.environment v a b →
     Relates (items_in s) s.store s.goals s.kept.environment v a b
 relates_remembering {q = q} {s = s} h v a b o =
     subst₂ (λ m k. Relates (items_of m) s.store s.goals k.environment v a b) (sym h.meaning) (sym h.kept)
     (subst₂ (λ st gs. Relates (items_in q) st gs q.kept.environment v a b) (sym h.store) (sym h.goals) o)
 
 module _ {Key Id Name A E : Type 0} {r q s : State Key Id Name} {p : Pair Key} {res : Result A E}
-    (h : Remembers q s p res) where
+    (h : RemembersAtMost q s p res) where
   unfoldable pub passes_remembering : {n : ℕ} → Passes n r q → Passes n r s
   passes_remembering {n} g = record {
     extends = subst (Extends r.meaning) (sym h.meaning) g.extends;
@@ -203,7 +203,7 @@ module _ {Key Id Name A E : Type 0} {r q s : State Key Id Name} {p : Pair Key} {
 
 -- That a pair is remembered is a note of it.
 pub noted_remembering : {Key Id Name A E X : Type 0} {r q : State Key Id Name} {p : Pair Key} {res : Result A E} →
-    Remembers r q p res → (a b : Tree) (x : Result X (RelateFault Key Id Name)) → OnlyMemory x → Noted r q a b x
+    RemembersAtMost r q p res → (a b : Tree) (x : Result X (RelateFault Key Id Name)) → OnlyMemory x → Noted r q a b x
 unfolding passes_remembering passes_nowhere
 noted_remembering {r = r} h a b x fault = record {
   passes = passes_remembering h (passes_nowhere 0 r);

@@ -8,7 +8,7 @@ use Rattle.relation_terms.specs.Erasure.{erase}
 use Rattle.relation_semantics.specs.Relation.{Interpretation, FitKinds, Outlives, IsValueAtom, IsValueLeaf, StaysWithin}
 use Rattle.relation_semantics.specs.Stores.{Store, unbound, bound_to, entry_term, bound_term, universe_of, IsMade, IsMadeLeaf, IsFree, IsInScope, InContext, IsTermIn, IsNamable, IsAssignment, MayStandFor, MeetsBindings, Satisfies, IsSound, Constraint, ConstraintIn, ConstraintHolds, BindingsAreMet, IsIntegerAtom, IsFloatAtom, resolve, resolved, outlives_constraint, equal_constraint, counts_term}
 use Rattle.relation_semantics.specs.FirstOrder.{Unifies, MeetsErased}
-use Rattle.relation_semantics.specs.Steps.{IsLater, AgreeOn, Extends, AllNamable, ChangesNothing, IsNumberFor}
+use Rattle.relation_semantics.specs.Steps.{IsLater, AgreeOn, HasExtension, AllNamable, ChangesNothing, IsNumberFor}
 use Rattle.relation_semantics.specs.StoreLaws.{EquatingStaysSound, EquatingIsExact, BindingStaysSound, BindingIsExact, NumbersStaySound, NumbersAreExact, MakingStaysSound, MadeIsUnconstrained, ConstrainingIsExact, NothingIsSeen, ResolvedResolves, MakingOneMakes}
 use Rattle.relation_semantics.proofs.Trees.{Leaves_map, Leaves-replace, apply-apply}
 use Rattle.relation_semantics.proofs.Values.{same_value, scope_made}
@@ -178,7 +178,7 @@ making_one_makes before after k v n u q low g s i f = record {
     new_universe : universe_of after v n ≡ u
     new_universe = ap (λ us. get_or us n 0) q.universes_grow ∙ ap (λ m. get_or (before.universes v ++ u ∷ []) m 0) (q.number ∙ sym (g.one_universe_each v)) ∙ get_or_past (before.universes v) u
 
-    one : (w : Interpretation) (z : Assign) (values : List Tree) → Satisfies w before z → FitKinds (k ∷ []) values → AllNamable u values → Extends before z (λ y. Satisfies w after y × (map (apply y) (leaf (variable v n) ∷ []) ≡ values))
+    one : (w : Interpretation) (z : Assign) (values : List Tree) → Satisfies w before z → FitKinds (k ∷ []) values → AllNamable u values → HasExtension before z (λ y. Satisfies w after y × (map (apply y) (leaf (variable v n) ∷ []) ≡ values))
     one w z [] sat fit names = absurd fit
     one w z (t ∷ []) sat fit names = let a = made_is_unconstrained before after v n u q g w z t sat (stands_value v t i f (subst (λ x. IsTerm x t) (sym s) fit.0.0)) fit.0.1 fit.0.2 names.0 in
         (a.0, a.1, (a.2.0, ap (λ y. y ∷ []) a.2.1))

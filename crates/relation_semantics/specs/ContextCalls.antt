@@ -22,7 +22,7 @@ use Rattle.relation_folds.specs.Faults.{KnowsError}
 use Rattle.relation_semantics.specs.Contexts.{Context}
 use Rattle.relation_semantics.specs.Bound.{BindByLists}
 use Rattle.relation_semantics.specs.Errors.{IsReadAs}
-use Rattle.relation_semantics.specs.Generalising.{Obstacle, cycle, beyond, InstantiatesBy, RefusesBy, MakesUnbound}
+use Rattle.relation_semantics.specs.Generalising.{Obstacle, cycle, beyond, InstantiatesBy, RefusesByObstacle, MakesUnbound}
 use Rattle.relation_semantics.specs.Lawful.{items_of}
 use Rattle.relation_semantics.specs.Resolving.{IsRoot}
 use Rattle.relation_semantics.specs.Steps.{Equates, InstantiatesNumber, MakesVariable, AddsConstraint, Resolves, LeadsTo}
@@ -176,7 +176,7 @@ module _ {Key Id Name : Type 0} (c d : Context Key Id Name) where
   Instantiated g v k n source tree cyclic (Ok t) = IsTrue (known (tree d.meaning t)) ×
       InstantiatesBy g (items_of c.meaning) c.store d.store v k n source (tree d.meaning t)
   Instantiated g v k n source tree cyclic (Err (Unrelated e)) = KnowsError d.meaning e ×
-      ((o : Obstacle) × RefusesBy g c.store d.store k n source o ×
+      ((o : Obstacle) × RefusesByObstacle g c.store d.store k n source o ×
       ObstacleError (tree d.meaning) cyclic (apply (resolved c.store) source) e o)
   Instantiated g v k n source tree cyclic (Err Budget) = ((c.store).budget ≡ 0) × (d.store ≡ c.store)
   Instantiated g v k n source tree cyclic (Err Memory) = ((c.store).budget ≢ 0) ×

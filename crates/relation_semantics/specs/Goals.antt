@@ -1,4 +1,16 @@
 -- Registered goals, what they ask of an assignment, and when they hold.
+--
+--   Goal                          a predicate in an environment; goal_of e p makes one
+--   goals_of m gs                 what goals over keys mean, by m
+--   KnowsGoal m g                 the interner knows both keys of a goal
+--   asked p                       what a predicate asks of two terms, if anything: a Request
+--   Holds c w s g                 assignment s makes goal g true under interpretation w; c declares items' variances
+--   Relates c st gs e v a b       what satisfies st and makes the goals gs true relates a and b at v in e
+--   MakesOneTree s g              s makes both sides of a subtype or alias goal one tree
+--   IsQuiet g                     g asks nothing of two terms
+--   GoalInContext st g            each variable of g's predicate is the context's
+--   ByDeclared always v           items' arguments are related at the variances that items declare
+--   Registered c k v e st st' g   g may be registered between two stores where terms are related at v, set up as k
 use Rattle.std.specs.Prelude.{◌≡◌, ◌⊎◌, ℕ, Bool, List, [], All, IsTrue, map}
 use Rattle.relation_terms.specs.Meaning.{Meaning}
 use Rattle.relation_terms.specs.declared.terms.goal.Goal.{Goal as KeyedGoal}
@@ -49,21 +61,21 @@ ambiguous_predicate = bind [] (leaf (atom ambiguous))
 
 -- What a predicate asks: that the first of two terms is a subtype of the second; that two terms, one of them an
 -- alias, are one, or the first a subtype of the second; what is never so; or nothing that relating speaks of.
-pub data Asked : Type 0 where
-  asks_subtype : Tree → Tree → Asked
-  asks_alias : AliasRelationDirection → Tree → Tree → Asked
-  asks_too_much : Asked
-  asks_nothing : Asked
+pub data Request : Type 0 where
+  asks_subtype : Tree → Tree → Request
+  asks_alias : AliasRelationDirection → Tree → Tree → Request
+  asks_too_much : Request
+  asks_nothing : Request
 
 -- What a predicate asks.
-abbrev pub asked : Tree → Asked
+abbrev pub asked : Tree → Request
 asked (bind [] (node (subtype x) (cons a (cons b nil)))) = asks_subtype a b
 asked (bind [] (node (alias_relate d) (cons a (cons b nil)))) = asks_alias d a b
 asked (bind [] (leaf (atom ambiguous))) = asks_too_much
 asked p = asks_nothing
 
 -- When what is asked is so, in an environment. That a type is well formed is left open, and so asked of no assignment.
-abbrev pub IsSo : Items → Interpretation → Assign → Tree → Asked → Type 0
+abbrev pub IsSo : Items → Interpretation → Assign → Tree → Request → Type 0
 IsSo c w s e (asks_subtype a b) = Rel c w e (at Covariant) (apply s a) (apply s b)
 IsSo c w s e (asks_alias Subtype a b) = IsOrderedPair w e (apply s a) (apply s b)
 IsSo c w s e (asks_alias Equate a b) = IsEqualPair w e (apply s a) (apply s b)
@@ -121,7 +133,7 @@ pub record Registered (c : Items) (k : Settings) (v : Variance) (e : Tree) (befo
   pub asks : IsRegistered c k v before after g.predicate
 
 -- Both sides of a subtype or alias goal are one tree.
-abbrev pub HasOneTree : Assign → Asked → Type 0
+abbrev pub HasOneTree : Assign → Request → Type 0
 HasOneTree s (asks_subtype a b) = apply s a ≡ apply s b
 HasOneTree s (asks_alias d a b) = apply s a ≡ apply s b
 HasOneTree s asks_too_much = Unit {0}
@@ -132,7 +144,7 @@ abbrev pub MakesOneTree : Assign → Goal → Type 0
 MakesOneTree s g = HasOneTree s (asked g.predicate)
 
 -- Neither a subtype nor an alias goal, nor one that is never so.
-abbrev pub AsksNoPair : Asked → Type 0
+abbrev pub AsksNoPair : Request → Type 0
 AsksNoPair (asks_subtype a b) = ⊥
 AsksNoPair (asks_alias d a b) = ⊥
 AsksNoPair asks_too_much = ⊥

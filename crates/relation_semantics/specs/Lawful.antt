@@ -1,4 +1,28 @@
 -- What contracts see of a relation in steps, and what its steps and the calls over it do.
+--
+--   State                                 a relation as it stands
+--   Kept                                  what no step of it changes
+--   items_in r                            the variances that its items declare
+--   Manner, Manners                       what a relation takes and promises; the same by how it is set up
+--   Takes M v t                           it takes t at v
+--   Turned v r q                          from r to q only the ambient variance was changed, to v
+--   WithMeaning r m q                     only the interner's keys were added to
+--   Passes n r q                          a pair of size n was related, or a part of that work done: what there was
+--                                         stands
+--   Asked M r v a b                       two known terms of the context that the relation takes at v
+--   Related M r q v a b tree result       they were related, and what the result says of them, by its term
+--   RelatedBy M r q way a b tree result   so was a pair that is met, by whatever way
+--   Answers M r q gs v a b t              t is answered: a and b are related, by the goals gs besides, and no equal
+--                                         pair is lost
+--   Refuses r q v a b fault               what a fault says of a and b at v
+--   ExactResult st st' a b result         what a result says besides, where exactness is promised
+--   Stepped M F r q a b tree result       a step was taken: to an answer, to two forms that are F, or to another pair
+--   Leads r q gs a b v x y                it led to x and y at v: what relates these relates a and b at the ambient
+--                                         variance
+--   Shown M r v a b                       what is known of two terms that were related
+--   HasRelated M r p                      a pair of types was related
+--   RemembersAtMost r q p result          at most that pair is remembered besides what was
+--   Noted r q a b result                  something was noted of two terms, which asks nothing of them
 use Rattle.std.specs.Prelude.{◌≡◌, ℕ, suc, ◌+◌, ◌≤◌, List, ◌++◌, All, IsTrue, Result, Ok, Err, get_or}
 use Rattle.std.specs.Prelude.{◌⊎◌, Option, Some, None, Contains, OnErr}
 use Rattle.term_enums.specs.declared.Variance.{Variance}
@@ -7,7 +31,7 @@ use Rattle.relation_terms.specs.declared.predicate.regions.OutlivesPredicate.{Ou
 use Rattle.relation_terms.specs.declared.terms.keys.TyKey.{TyKey}
 use Rattle.relation_terms.specs.Heads.{Head, Leaf}
 use Rattle.relation_terms.specs.Trees.{Tree, Assign, Leaves, known}
-use Rattle.relation_terms.specs.Meaning.{Meaning, Extends as ExtendsMeaning}
+use Rattle.relation_terms.specs.Meaning.{Meaning, Extends}
 use Rattle.term_enums.specs.Variances.{xform}
 use Rattle.relation_folds.specs.declared.error.TypeError.{TypeError}
 use Rattle.relation_folds.specs.declared.error.RelateFault.{RelateFault}
@@ -151,7 +175,7 @@ module _ {Key Id Name : Type 0} where
   -- meant, all that was recorded and registered stands, goals are registered in the relation's environment, and what no
   -- step changes and the variance are as they were.
   pub record Passes (n : ℕ) (r q : State Key Id Name) : Type 0 where
-    pub extends : ExtendsMeaning r.meaning q.meaning
+    pub extends : Extends r.meaning q.meaning
     pub goes : Goes n r.store q.store
     pub added : List Goal
     pub lengthens : q.goals ≡ r.goals ++ added
@@ -382,7 +406,7 @@ module _ {Key Id Name : Type 0} where
       WereRelated (M r.kept.settings) r.kept.settings r.meaning r.store r.goals r.kept.environment r.remembered
 
   -- At most this pair is remembered besides what was; where a growth was refused, what was. Nothing else was done.
-  pub record Remembers {A F : Type 0} (r q : State Key Id Name) (p : Pair Key) (result : Result A F) : Type 0 where
+  pub record RemembersAtMost {A F : Type 0} (r q : State Key Id Name) (p : Pair Key) (result : Result A F) : Type 0 where
     pub meaning : q.meaning ≡ r.meaning
     pub store : q.store ≡ r.store
     pub goals : q.goals ≡ r.goals

@@ -13,10 +13,10 @@ arg_sort (Ty t) = type_sort
 arg_sort (Const c) = const_sort
 
 -- As many arguments as there are parts, each of the kind of the part at its place.
-abbrev pub Fit : {Key : Type 0} → List (GenericArgKind Key) → Tree → Type 0
-Fit [] nil = Unit {0}
-Fit (x ∷ xs) (cons t ts) = IsTerm (arg_sort x) t × Fit xs ts
-Fit xs ts = ⊥
+abbrev pub FitArgs : {Key : Type 0} → List (GenericArgKind Key) → Tree → Type 0
+FitArgs [] nil = Unit {0}
+FitArgs (x ∷ xs) (cons t ts) = IsTerm (arg_sort x) t × FitArgs xs ts
+FitArgs xs ts = ⊥
 
 -- The same form over other parts; what has no parts is itself.
 abbrev pub over : Tree → Tree → Tree

@@ -3,7 +3,7 @@ use Rattle.std.specs.Prelude.{◌≡◌, ℕ, ◌≤◌, List}
 use Rattle.relation_terms.specs.Heads.{BoundKind}
 use Rattle.relation_terms.specs.Trees.{Tree, bind}
 use Rattle.relation_semantics.specs.Stores.{Store, IsTermIn, IsSound, weight}
-use Rattle.relation_semantics.specs.Steps.{Makes, EntersForall, InstantiatesBinder}
+use Rattle.relation_semantics.specs.Steps.{MakesVariables, EntersForall, InstantiatesBinder}
 use Rattle.relation_semantics.specs.Bound.{BindsByList, BindByLists}
 use Rattle.relation_semantics.specs.Binders.{MakesEach, InstantiatesEach}
 
@@ -11,7 +11,7 @@ use Rattle.relation_semantics.specs.Binders.{MakesEach, InstantiatesEach}
 -- in is opened by them.
 abbrev pub MakingEachMakes : Type 0
 MakingEachMakes = (before after : Store) (u : ℕ) (ks : List BoundKind) (xs : List Tree) →
-    MakesEach u before ks xs after → u ≤ before.universe → IsSound before → Makes before after u ks xs
+    MakesEach u before ks xs after → u ≤ before.universe → IsSound before → MakesVariables before after u ks xs
 
 abbrev pub InstantiatingEachOpens : Type 0
 InstantiatingEachOpens = (before after : Store) (ks : List BoundKind) (body opened : Tree) →

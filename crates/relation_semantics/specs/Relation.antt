@@ -1,4 +1,28 @@
 -- When two variable-free trees are related, at a variance, in an environment, under an interpretation.
+--
+--   Rel c w e (at v) a b                    a and b are related at v, in environment e, under interpretation w; c
+--                                           declares items' variances
+--   Rel c w e (parts h i v) xs ys           so are parts of a form h that stands at v, from place i on
+--   Rel c w e (second_opened ks ls v) a b   so are two bodies, by placeholders for the second's variables and values
+--                                           for the first's
+--   Rel c w e (first_opened ks ls v) a b    the same the other way round
+--   Items                                   the variances that items declare of their parameters
+--   mode c h i                              the variance of the part of h at place i, seen from h's own
+--   part_at c h i v                         the variance at which that part is related where h stands at v
+--   plain h                                 a form without what relating does not look at; plain_atom x the same of one
+--                                           without parts
+--   IsRelatedHead h                         a form that is related by its parts, and not with itself alone
+--   sort_of t                               the sort of a tree
+--   IsError t                               a type or constant that stands for an error
+--   IsAlias t                               an alias type or an unevaluated constant
+--   Interpretation                          which regions outlive which, and which terms are equal or in order
+--   Outlives w a b                          region a outlives b
+--   RegionRule w v a b                      what relates two regions at v
+--   AliasRule w e v a b                     what relates two types at v of which one is an alias
+--   StaysWithin d t                         no variable escapes the binders of t and d more
+--   IsValue s t                             a variable-free term of sort s
+--   FitKinds ks ts                          a value for each variable of a binder
+--   Fresh ks ps a b                         a placeholder for each, which stands neither in a nor in b
 use Rattle.std.specs.Prelude.{◌≡◌, ◌≢◌, ◌⊎◌, ℕ, zero, suc, ◌<◌, List, [], ◌∷◌, Option, Some, None, Contains}
 use Rattle.term_enums.specs.declared.Variance.{Variance}
 use Rattle.term_enums.specs.declared.Variance.TheVariants.{Covariant, Contravariant, Invariant}

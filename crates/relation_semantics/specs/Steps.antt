@@ -1,4 +1,27 @@
 -- What each call of a lawful context does to what is recorded.
+--
+--   IsLater st st'                        st' comes of st: what was recorded stands, and only satisfying assignments
+--                                         were lost
+--   HasExtension st s P                   some assignment that agrees with s on the variables of st has the property P
+--   HasErasedExtension st s P             the same up to erasure
+--   AddsConstraint st st' q               one constraint was recorded
+--   Equates st st' k child root           two unbound variables were made one
+--   BindsTo st st' k n t                  an unbound variable was bound to t
+--   InstantiatesNumber st st' k n t       a number variable was bound to a type of its kind
+--   Instantiates st st' v k n a t         an unbound variable was bound, at v, to t: what a comes to, with new
+--                                         variables at some places
+--   RefusesToInstantiate st st' v k n a   or it was not, and no assignment gave it the value of a
+--   MakesVariable st st' k n u            a variable of universe u was made
+--   MakesVariables st st' u ks ts         one was for each variable of a binder
+--   InstantiatesBinder st st' ks a b      a binder was opened with such
+--   EntersForall st st' ks a b            or with placeholders; or it was left as it is, where its body uses none of
+--                                         its variables
+--   ChangesNothing st st'                 nothing changed that an assignment sees
+--   Taints st st'                         it was recorded that an error was met
+--   Resolves st t u                       u was answered for t, and comes to the same
+--   StaysFullFor st st' a b               where no variable could be made for terms without binders, and a and b are
+--                                         such, none was
+--   MakesToInstantiate st st' a b         which variables and universes may have been made to relate a and b
 use Rattle.std.specs.Prelude.{◌≡◌, ◌⊎◌, ℕ, suc, ◌<◌, ◌≤◌, min, List, [], ◌∷◌, ◌++◌, map, length, IsTrue}
 use Rattle.term_enums.specs.declared.Variance.{Variance}
 use Rattle.term_enums.specs.declared.Variance.TheVariants.{Invariant}
@@ -195,13 +218,13 @@ abbrev pub AgreeErased : Store → Assign → Assign → Type 0
 AgreeErased st s s' = (k : VarKind) (n : ℕ) → IsMade st k n → erase (s k n) ≡ erase (s' k n)
 
 -- What a property of later assignments says of an earlier one: some extension to the new variables has it.
-abbrev pub Extends : Store → Assign → (Assign → Type 0) → Type 0
-Extends before s P = (s' : Assign) × AgreeOn before s s' × P s'
+abbrev pub HasExtension : Store → Assign → (Assign → Type 0) → Type 0
+HasExtension before s P = (s' : Assign) × AgreeOn before s s' × P s'
 
 -- The same up to erasure. Where two variables of different universes are made equal, the one of the larger universe
 -- may have named regions that the other can't.
-abbrev pub ExtendsErased : Store → Assign → (Assign → Type 0) → Type 0
-ExtendsErased before s P = (s' : Assign) × AgreeErased before s s' × P s'
+abbrev pub HasErasedExtension : Store → Assign → (Assign → Type 0) → Type 0
+HasErasedExtension before s P = (s' : Assign) × AgreeErased before s s' × P s'
 
 -- A list of values all of which a universe can name.
 abbrev pub AllNamable : ℕ → List Tree → Type 0
@@ -219,7 +242,7 @@ AreNewVariables before after u (k ∷ ks) [] = ⊥
 
 -- New variables were made for the variables of a binder, in a universe. Nothing is recorded of them, so they may stand
 -- for whatever the universe can name.
-pub record Makes (before after : Store) (u : ℕ) (ks : List BoundKind) (variables : List Tree) : Type 0 where
+pub record MakesVariables (before after : Store) (u : ℕ) (ks : List BoundKind) (variables : List Tree) : Type 0 where
   pub later : IsLater before after
   pub stays_sound : IsSound before → IsSound after
   pub are_new : AreNewVariables before after u ks variables
@@ -229,7 +252,7 @@ pub record Makes (before after : Store) (u : ℕ) (ks : List BoundKind) (variabl
   pub same_universe : after.universe ≡ before.universe
   pub same_budget : after.budget ≡ before.budget
   pub unconstrained : (w : Interpretation) (s : Assign) (values : List Tree) → Satisfies w before s →
-      FitKinds ks values → AllNamable u values → Extends before s (λ s'. Satisfies w after s' ×
+      FitKinds ks values → AllNamable u values → HasExtension before s (λ s'. Satisfies w after s' ×
       (map (apply s') variables ≡ values))
 
 -- Pairwise different placeholders of a universe for the variables of a binder.
@@ -243,7 +266,7 @@ ArePlaceholders u (k ∷ ks) [] = ⊥
 -- A binder was opened with new variables of the current universe.
 pub record InstantiatesBinder (before after : Store) (ks : List BoundKind) (body opened : Tree) : Type 0 where
   pub variables : List Tree
-  pub makes : Makes before after before.universe ks variables
+  pub makes : MakesVariables before after before.universe ks variables
   pub body_is : opened ≡ inst variables 0 body
 
 -- A binder was opened with placeholders of a universe above all earlier ones, which is the current one from then on.
@@ -315,9 +338,9 @@ pub record Instantiates (before after : Store) (v : Variance) (k : VarKind) (n :
   pub generalised : IsGeneralised before after (apply (resolved before) source) term
   pub stays_sound : IsSound before → IsSound after
   pub keeps : (w : Interpretation) (s : Assign) → Satisfies w before s → s k n ≡ apply s source →
-      Extends before s (λ s'. Satisfies w after s')
+      HasExtension before s (λ s'. Satisfies w after s')
   pub keeps_erased : LacksAliases (apply (resolved before) source) → (s : Assign) → IsErasedSolution before s →
-      Unifies s (leaf (variable k n)) source → ExtendsErased before s (IsErasedSolution after)
+      Unifies s (leaf (variable k n)) source → HasErasedExtension before s (IsErasedSolution after)
   pub regions_alone : v ≡ Invariant → IsFirstOrder source → IsFirstOrderStore before →
       Leaves (IsNamedBy before (universe_of before k n)) (apply (resolved before) source) →
       erase term ≡ erase (apply (resolved before) source)

@@ -8,11 +8,11 @@ use Rattle.relation_semantics.specs.Relation.{Items, Interpretation, IsValueLeaf
 use Rattle.relation_semantics.specs.Stores.{Store, universe_of, MayStandFor, IsNamable, IsInScope, IsTermIn, IsSound}
 use Rattle.relation_semantics.specs.Stores.{Satisfies, ConstraintHolds, ConstraintIn, Constraint, resolved, weight}
 use Rattle.relation_semantics.specs.Steps.{Equates, BindsTo, Instantiates, RefusesToInstantiate, MakesVariable}
-use Rattle.relation_semantics.specs.Steps.{AddsConstraint, ChangesNothing, InstantiatesNumber, Resolves, Extends, Makes}
+use Rattle.relation_semantics.specs.Steps.{AddsConstraint, ChangesNothing, InstantiatesNumber, Resolves, HasExtension, MakesVariables}
 use Rattle.relation_semantics.specs.Measures.{Goes}
 use Rattle.relation_semantics.specs.declared.relate.StructurallyRelateAliases.{StructurallyRelateAliases}
 use Rattle.relation_semantics.specs.Generalising.{Stage, outside, any_part, Generalised, InstantiatesBy}
-use Rattle.relation_semantics.specs.Generalising.{NumbersNameNothing, Obstacle, RefusesBy}
+use Rattle.relation_semantics.specs.Generalising.{NumbersNameNothing, Obstacle, RefusesByObstacle}
 use Rattle.relation_semantics.specs.Outcomes.{Exact}
 use Rattle.relation_semantics.specs.ErasureLaws.{IsTypeOrConst}
 
@@ -74,7 +74,7 @@ GeneralisingInstantiates = (g : StructurallyRelateAliases) (c : Items) (before a
 abbrev pub GeneralisingRefuses : Type 0
 GeneralisingRefuses = (g : StructurallyRelateAliases) (before after : Store) (v : Variance) (k : VarKind) (n : ℕ)
     (source : Tree) (o : Obstacle) →
-    IsTypeOrConst k → RefusesBy g before after k n source o → IsSound before →
+    IsTypeOrConst k → RefusesByObstacle g before after k n source o → IsSound before →
     apply (resolved before) source ≢ leaf (variable k n) → RefusesToInstantiate before after v k n source ×
     Goes 0 before after
 
@@ -97,7 +97,7 @@ abbrev pub MadeIsUnconstrained : Type 0
 MadeIsUnconstrained = (before after : Store) (k : VarKind) (n u : ℕ) → MakesVariable before after k n u →
     IsSound before → (w : Interpretation) (s : Assign) (t : Tree) → Satisfies w before s →
     MayStandFor k t → Leaves IsValueLeaf t → StaysWithin 0 t → Leaves (IsNamable u) t →
-    Extends before s (λ s'. Satisfies w after s' × (s' k n ≡ t))
+    HasExtension before s (λ s'. Satisfies w after s' × (s' k n ≡ t))
 
 -- A constraint keeps exactly the assignments for which it holds.
 abbrev pub ConstrainingIsExact : Type 0
@@ -118,4 +118,4 @@ ResolvedResolves = (st : Store) (t : Tree) → IsSound st → Resolves st t (app
 abbrev pub MakingOneMakes : Type 0
 MakingOneMakes = (before after : Store) (k : BoundKind) (v : VarKind) (n u : ℕ) → MakesVariable before after v n u →
     u ≤ before.universe → IsSound before → var_sort v ≡ bound_sort k →
-    (v ≡ int_var → ⊥) → (v ≡ float_var → ⊥) → Makes before after u (k ∷ []) (leaf (variable v n) ∷ [])
+    (v ≡ int_var → ⊥) → (v ≡ float_var → ⊥) → MakesVariables before after u (k ∷ []) (leaf (variable v n) ∷ [])

@@ -1,4 +1,24 @@
 -- What a context has recorded, what that asks of an assignment, and the invariant of what is recorded.
+--
+--   Store                   all that is recorded: entries and universes of variables, constraints, taint and budget
+--   entry_of st k n         what is recorded of variable n of kind k: an Entry
+--   bound_term st k n       the term that it has by that
+--   universe_of st k n      its universe
+--   IsMade st k n           it is one of the context's
+--   MayStandFor k t         t may stand for a variable of kind k
+--   IsNamable u l           universe u can name the leaf l
+--   IsAssignment st s       s gives each variable a value of its kind that its universe can name
+--   ConstraintHolds w s q   constraint q holds of the regions that s gives
+--   MeetsBindings st s      each bound variable has the value of its term
+--   Satisfies w st s        all three: s satisfies st under interpretation w
+--   OnlyShrinks st st'      what satisfies st' satisfies st
+--   resolved st             what each variable comes to by its bindings
+--   weight st t             the size of what a term comes to
+--   all_taken st            how many variables have a term; all_bound st, how many type and constant variables are
+--                           bound to one
+--   InContext st t          each variable of t is the context's
+--   IsTermIn st t           and nothing in t escapes its binders or is of a later universe
+--   IsSound st              the invariant: bindings end, and are of their variables' kinds and in their scopes
 use Rattle.std.specs.Prelude.{◌≡◌, ℕ, zero, suc, ◌+◌, ◌<◌, ◌≤◌, Bool, List, [], ◌∷◌, Option, Some, None, All, length}
 use Rattle.std.specs.Prelude.{get_or}
 use Rattle.relation_terms.specs.Heads.{region_sort, type_sort, const_sort, VarKind, type_var, int_var, float_var}

@@ -10,7 +10,7 @@ use Rattle.relation_terms.specs.Heads.{value_branch}
 use Rattle.relation_terms.specs.Trees.{Tree, leaf, node, bind, nil, cons, known, list_tree, count, nth, Fits, IsTerm, AreTerms}
 use Rattle.relation_terms.specs.Meaning.{Meaning, arg_tree, const_tree}
 use Rattle.relation_terms.specs.Parts.{AreArgs, part_tree, part_sort, part_of_arg, tree_sort}
-use Rattle.relation_terms.specs.Parts.{parts_of as list_of_parts, over as term_over, Fit as PartsFit}
+use Rattle.relation_terms.specs.Parts.{parts_of as list_of_parts, over as term_over, Fit}
 use Rattle.relation_terms.specs.declared.terms.part_kind.Part.{Part as TermPart}
 use Rattle.relation_terms.specs.declared.terms.generic_arg.GenericArgKind.{GenericArgKind}
 use Rattle.relation_terms.specs.declared.terms.generic_arg.GenericArgKind.TheVariants.{Lifetime, Ty, Const}
@@ -25,7 +25,7 @@ use Rattle.relation_terms.proofs.Sorted.{widen, region_admitted, type_admitted, 
 use Rattle.relation_terms.proofs.Members.{fit_args, mapped, region_term, type_term, const_term}
 use Rattle.relation_terms.proofs.Parts.{sort_known, arg_part}
 use Rattle.relation_semantics.specs.Parts.{parts_of, branches_of, const_parts_of, IsByParts}
-use Rattle.relation_semantics.specs.Making.{arg_sort, Fit, over, const_over}
+use Rattle.relation_semantics.specs.Making.{arg_sort, FitArgs, over, const_over}
 use Rattle.type_relations.proofs.Comparing.{value_shape}
 use Rattle.type_relations.proofs.Making.{value_of}
 
@@ -166,7 +166,7 @@ module _ {Key : Type 0} (Id : Type 0) where
   fit_sort (Ty k) t f = sym (type_term t f)
   fit_sort (Const c) t f = sym (const_term t f)
 
-  fit_mapped : (xs : List (GenericArgKind Key)) (ts : Tree) → Fit xs ts → PartsFit {Id = Id} (map part_of_arg xs) ts
+  fit_mapped : (xs : List (GenericArgKind Key)) (ts : Tree) → FitArgs xs ts → Fit {Id = Id} (map part_of_arg xs) ts
   fit_mapped [] nil f = tt
   fit_mapped (x ∷ xs) (cons t ts) f = (fit_sort x t f.0, fit_mapped xs ts f.1)
   fit_mapped [] (cons t ts) f = absurd f
@@ -180,5 +180,5 @@ module _ {Key : Type 0} (Id : Type 0) where
 
 -- Arguments that fit the parts that are related fit, as parts, those of the term that these are of.
 pub fits_as : {Key Id : Type 0} (xs : List (GenericArgKind Key)) (ps : List (TermPart Key Id)) (ts us : Tree) →
-    ps ≡ map part_of_arg xs → us ≡ ts → Fit xs ts → PartsFit ps us
-fits_as {Id} xs ps ts us e q f = subst₂ PartsFit (sym e) (sym q) (fit_mapped Id xs ts f)
+    ps ≡ map part_of_arg xs → us ≡ ts → FitArgs xs ts → Fit ps us
+fits_as {Id} xs ps ts us e q f = subst₂ Fit (sym e) (sym q) (fit_mapped Id xs ts f)

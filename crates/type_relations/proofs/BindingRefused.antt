@@ -11,7 +11,7 @@ use Rattle.relation_semantics.specs.StoreLaws.{GeneralisingRefuses}
 use Rattle.relation_semantics.specs.Steps.{RefusesToInstantiate}
 use Rattle.relation_semantics.specs.ErasureLaws.{IsTypeOrConst}
 use Rattle.relation_semantics.specs.declared.relate.StructurallyRelateAliases.{StructurallyRelateAliases}
-use Rattle.relation_semantics.specs.Generalising.{Obstacle, cycle, beyond, StopsAt, at_itself, at_placeholder, in_parts, in_body, in_first, in_others, RefusesBy}
+use Rattle.relation_semantics.specs.Generalising.{Obstacle, cycle, beyond, StopsAt, at_itself, at_placeholder, in_parts, in_body, in_first, in_others, RefusesByObstacle}
 use Rattle.relation_semantics.proofs.Resolved.{resolved_value, cycles_do_not_unify}
 use Rattle.relation_semantics.proofs.StoreCalls.{resolved_unifies}
 use Rattle.relation_semantics.proofs.Instantiating.{resolved_first_order}
@@ -60,7 +60,7 @@ erased_unnamed e (in_body f) d s h = absurd d
 erased_unnamed e (in_first f) d s h = erased_unnamed e f d.0 s h.0
 erased_unnamed e (in_others l f) d s h = erased_unnamed e f d.1 s h.1
 
-module _ (al : StructurallyRelateAliases) (before after : Store) (v : Variance) (k : VarKind) (n : ℕ) (source : Tree) (o : Obstacle) (kind : IsTypeOrConst k) (f : RefusesBy al before after k n source o) (g : IsSound before)
+module _ (al : StructurallyRelateAliases) (before after : Store) (v : Variance) (k : VarKind) (n : ℕ) (source : Tree) (o : Obstacle) (kind : IsTypeOrConst k) (f : RefusesByObstacle al before after k n source o) (g : IsSound before)
     (other : apply (resolved before) source ≢ leaf (variable k n)) where
   abbrev whole : Tree
   whole = apply (resolved before) source

@@ -1,5 +1,5 @@
 -- What comes of two types and two constants before their parts are related, as a step of a relation over a context.
-use Rattle.std.proofs.Common.{◌≡◌, ◌≢◌, ◌∙◌, ℕ, IsTrue, refl, sym, ap, subst, subst₂, inl, inr, Result, Ok}
+use Rattle.std.proofs.Common.{◌≡◌, ◌≢◌, ◌∙◌, ℕ, IsTrue, refl, sym, ap, subst, subst₂, inl, inr, None, Result, Ok}
 use Rattle.term_enums.specs.declared.Variance.TheVariants.{Invariant, Bivariant}
 use Rattle.relation_terms.specs.declared.terms.keys.TyKey.{TyKey}
 use Rattle.relation_terms.specs.declared.terms.keys.ConstKey.{ConstKey}
@@ -17,7 +17,8 @@ use Rattle.type_relations.specs.Combining.{ReadsShallow, MeetsConsts, roots_equa
 use Rattle.relation_semantics.specs.Contexts.{Context}
 use Rattle.relation_semantics.specs.ContextCalls.{BindingsBindByLists, Reads}
 use Rattle.type_relations.specs.Emitting.{IsOver, WithContext}
-use Rattle.type_relations.specs.Keyed.{AskedTys, AskedConsts, SteppedTys, SteppedConsts}
+use Rattle.type_relations.specs.Keyed.{SteppedTys, SteppedConsts}
+use Rattle.type_relations.specs.Terms.{AskedTerms}
 use Rattle.type_relations.specs.NumberVars.{number_kind}
 use Rattle.type_relations.specs.declared.relate.number_vars.NumberVid.{NumberVid}
 use Rattle.relation_semantics.specs.Errors.{itself, HaveNoError, IsLeftToGoal}
@@ -169,8 +170,9 @@ module _ {Key Id Name : Type 0} where
 
   -- What two constants are read as is asked as they are.
   pub read_asked : (r : State Key Id Name) → BindingsBindByLists r.store → (a b x y : ConstKey Key) →
-      AskedConsts solver_manner r a b → ReadsShallow r.meaning r.store a x → ReadsShallow r.meaning r.store b y →
-      AskedConsts solver_manner r x y
+      AskedTerms solver_manner None (λ m. m.const_) r a b → ReadsShallow r.meaning r.store a x →
+      ReadsShallow r.meaning r.store b y →
+      AskedTerms solver_manner None (λ m. m.const_) r x y
   read_asked r by_lists a b x y asked f h = record {
     left_known = (f.reads).sure;
     right_known = (h.reads).sure;
@@ -215,14 +217,14 @@ module _ {Key Id Name : Type 0} (r : State Key Id Name) (c d : Context Key Id Na
   -- What is recorded after the step is later.
   module _ (grown : Extends c.meaning d.meaning) (numbers : NumbersNameNothing c.store) (all : BindingsBindByLists d.store)
       (a b : ConstKey Key) (result : Result (Step (ConstKey Key)) (RelateFault Key Id Name))
-      (asked : AskedConsts solver_manner r a b)
+      (asked : AskedTerms solver_manner None (λ m. m.const_) r a b)
       (f : (k : ConstKey Key) → IsTrue (known ((c.meaning).const_ k)) → IsTerm const_sort ((c.meaning).const_ k))
       (a_shallow : IsShallowConst c.store ((c.meaning).const_ a)) (b_shallow : IsShallowConst c.store ((c.meaning).const_ b))
       (left : IsFormedConst ((c.meaning).const_ a) → IsFormedConst ((c.meaning).const_ b) →
       IsLeftToGoal r.kept.settings ((c.meaning).const_ a) ((c.meaning).const_ b) → ⊥)
       (meets : MeetsConsts c.meaning d.meaning c.store d.store r.kept.settings.structurally_relate_aliases a b result) where
-    asked_there : AskedConsts solver_manner (standing r c.meaning c.store r.lawful) a b
-    asked_there = over_it o (λ z. AskedConsts solver_manner z a b) asked
+    asked_there : AskedTerms solver_manner None (λ m. m.const_) (standing r c.meaning c.store r.lawful) a b
+    asked_there = over_it o (λ z. AskedTerms solver_manner None (λ m. m.const_) z a b) asked
 
     pub consts_later : IsLater c.store d.store
     consts_later = (((combined_shallow r decides c.meaning d.meaning c.store d.store r.lawful r.lawful (λ l. l) sound grown
@@ -235,14 +237,14 @@ module _ {Key Id Name : Type 0} (r : State Key Id Name) (c d : Context Key Id Na
         asked_there (f a asked_there.left_known) (f b asked_there.right_known) a_shallow b_shallow left result meets)
 
   pub types_stepped : (q : State Key Id Name) → WithContext r d q → d.meaning ≡ c.meaning → (a b : TyKey Key)
-      (result : Result (Step (TyKey Key)) (RelateFault Key Id Name)) → AskedTys solver_manner r a b →
+      (result : Result (Step (TyKey Key)) (RelateFault Key Id Name)) → AskedTerms solver_manner None (λ m. m.ty) r a b →
       (IsTrue (known ((c.meaning).ty a)) → IsTerm type_sort ((c.meaning).ty a)) →
       (IsTrue (known ((c.meaning).ty b)) → IsTerm type_sort ((c.meaning).ty b)) → IsNoTyVar ((r.meaning).ty a) →
       IsNoTyVar ((r.meaning).ty b) → HaveNoError ((r.meaning).ty a) ((r.meaning).ty b) →
       (IsLeftToGoal r.kept.settings ((r.meaning).ty a) ((r.meaning).ty b) → ⊥) →
       MeetsTys c.meaning c.store d.store a b result → SteppedTys solver_manner r q a b result
   types_stepped q w same a b result asked f h x y clean left meets =
-      let k = over_it o (λ z. AskedTys solver_manner z a b) asked in
+      let k = over_it o (λ z. AskedTerms solver_manner None (λ m. m.ty) z a b) asked in
       carried o w (λ z u. SteppedTys solver_manner z u a b result)
       (combined_tys r decides c.meaning d.meaning c.store d.store r.lawful q.lawful w.lawful sound same a b result k
       (f k.left_known) (h k.right_known) (subst (λ m. IsNoTyVar (m.ty a)) o.meaning x)

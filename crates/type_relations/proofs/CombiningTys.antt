@@ -1,5 +1,6 @@
 -- What comes of two types before their parts are related, where one is an error or they are left to a goal.
-use Rattle.std.proofs.Common.{◌≡◌, ◌≢◌, ◌∙◌, IsTrue, refl, sym, ap, subst, inl, inr, Some, IfSome, Result, Ok, Err}
+use Rattle.std.proofs.Common.{◌≡◌, ◌≢◌, ◌∙◌, IsTrue, refl, sym, ap, subst, inl, inr, Some, None, IfSome}
+use Rattle.std.proofs.Common.{Result, Ok, Err}
 use Rattle.term_enums.specs.declared.Variance.{Variance}
 use Rattle.term_enums.specs.declared.Variance.TheVariants.{Covariant, Contravariant, Invariant, Bivariant}
 use Rattle.relation_terms.specs.declared.terms.keys.TyKey.{TyKey}
@@ -20,8 +21,9 @@ use Rattle.relation_semantics.specs.Stores.{IsSound}
 use Rattle.relation_semantics.proofs.Standing.{term_context, term_sort_of}
 use Rattle.type_relations.specs.Combining.{TaintsAlone, KeepsKept, TysCombine, left_to_goal, left_open, not_registered}
 use Rattle.type_relations.specs.Emitting.{IsOver, RegistersGoal, RegistersAlias}
-use Rattle.type_relations.specs.Keyed.{AskedTys, SteppedTys}
-use Rattle.type_relations.specs.Leaving.{LeavesAs, StandsAs}
+use Rattle.type_relations.specs.Keyed.{SteppedTys}
+use Rattle.type_relations.specs.Terms.{AskedTerms}
+use Rattle.type_relations.specs.Leaving.{LeftAs, StandsAs}
 use Rattle.type_relations.specs.declared.relate.leaving.Leaving.TheVariants.{ToGoal, Open}
 use Rattle.type_relations.specs.declared.relate.leaving.Standing.{Standing}
 use Rattle.type_relations.specs.declared.relate.leaving.Standing.TheVariants.{Error}
@@ -49,7 +51,8 @@ module _ {Key Id Name : Type 0} {r : State Key Id Name} {c : Context Key Id Name
   )
 
 module _ {Key Id Name : Type 0} {r : State Key Id Name} {c : Context Key Id Name} (o : IsOver r c)
-    (decides : r.ambient ≢ Bivariant) (sound : IsSound c.store) (a b : TyKey Key) (asked : AskedTys solver_manner r a b)
+    (decides : r.ambient ≢ Bivariant) (sound : IsSound c.store) (a b : TyKey Key)
+    (asked : AskedTerms solver_manner None (λ m. m.ty) r a b)
     (f : (t : TyKey Key) → IsTrue (known ((c.meaning).ty t)) → IsTerm type_sort ((c.meaning).ty t)) where
   abbrev ta : Tree
   ta = (r.meaning).ty a
@@ -82,7 +85,7 @@ module _ {Key Id Name : Type 0} {r : State Key Id Name} {c : Context Key Id Name
 
   -- An alias and another type are left to a goal, which was registered, or was not.
   module _ (q : State Key Id Name) (clean : HaveNoError ta tb) (A E : Type 0) where
-    pub to_goal : (x : A) → LeavesAs r.kept.settings ta tb ToGoal → RegistersAlias {A = A} {F = E} r q a b (Ok x) →
+    pub to_goal : (x : A) → LeftAs r.kept.settings ta tb ToGoal → RegistersAlias {A = A} {F = E} r q a b (Ok x) →
         SteppedTys solver_manner r q a b (Ok (Done a)) × TysCombine r q a b (Ok (Done a))
     to_goal x l h = registered (alias_is_asked r.ambient ta tb decides)
       where
@@ -94,7 +97,7 @@ module _ {Key Id Name : Type 0} {r : State Key Id Name} {c : Context Key Id Name
         )
 
     pub not_to_goal : (e : E) (res : Result (Step (TyKey Key)) (RelateFault Key Id Name)) →
-        LeavesAs r.kept.settings ta tb ToGoal → RegistersAlias {A = A} {F = E} r q a b (Err e) → res ≡ Err Memory →
+        LeftAs r.kept.settings ta tb ToGoal → RegistersAlias {A = A} {F = E} r q a b (Err e) → res ≡ Err Memory →
         SteppedTys solver_manner r q a b res × TysCombine r q a b res
     not_to_goal e res l h is = registered (alias_is_asked r.ambient ta tb decides)
       where
@@ -106,7 +109,7 @@ module _ {Key Id Name : Type 0} {r : State Key Id Name} {c : Context Key Id Name
         )
 
     -- An opaque type is left open.
-    pub to_open : (x : A) → LeavesAs r.kept.settings ta tb Open → RegistersGoal {A = A} {F = E} r q ambiguous_predicate (Ok x) →
+    pub to_open : (x : A) → LeftAs r.kept.settings ta tb Open → RegistersGoal {A = A} {F = E} r q ambiguous_predicate (Ok x) →
         SteppedTys solver_manner r q a b (Ok (Done a)) × TysCombine r q a b (Ok (Done a))
     to_open x l g = (
       tys_left_open ambiguous_predicate g a b asked (sorted_there a asked.left_known) (sorted_there b asked.right_known) l.0
@@ -115,7 +118,7 @@ module _ {Key Id Name : Type 0} {r : State Key Id Name} {c : Context Key Id Name
     )
 
     pub not_to_open : (e : E) (res : Result (Step (TyKey Key)) (RelateFault Key Id Name)) →
-        LeavesAs r.kept.settings ta tb Open → RegistersGoal {A = A} {F = E} r q ambiguous_predicate (Err e) → res ≡ Err Memory →
+        LeftAs r.kept.settings ta tb Open → RegistersGoal {A = A} {F = E} r q ambiguous_predicate (Err e) → res ≡ Err Memory →
         SteppedTys solver_manner r q a b res × TysCombine r q a b res
     not_to_open e res l g is = (
       subst (SteppedTys solver_manner r q a b) (sym is) (goal_refused IsFormed ta tb (q.meaning).ty ambiguous_predicate g),

@@ -29,7 +29,7 @@ use Rattle.relation_semantics.proofs.Agreeing.{agree_anything, agree_same, agree
 use Rattle.relation_semantics.proofs.Asking.{no_alias_term}
 use Rattle.relation_semantics.proofs.Erased.{leaf_path, erase_region, erase_plain, no_error_atom}
 use Rattle.type_relations.proofs.Unifying.{erased_sort}
-use Rattle.type_relations.specs.Completing.{AreRelatedAsAsked, AreNeverRelated, ErrorsDisagree, ErrorsAreUnrelated, AgreeingAreRelated, Completes}
+use Rattle.type_relations.specs.Completing.{AreRelatedAsAsked, AreNeverRelated, ErrorsDisagree, ErrorsAreUnrelated, AgreeingAreRelated, Complete}
 use Rattle.type_relations.specs.Relating.{term_in, RelatesAgreeing, AnswersError}
 use Rattle.type_relations.specs.Solving.{solver_settings}
 use Rattle.type_relations.specs.RegionTerms.{IsRegionTermHead, IsRegionTerm}
@@ -263,7 +263,7 @@ module _ {S Key Id Name A : Type 0} (state : S → Context Key Id Name) (old new
       (result : Result (Vec (Goal Key (PredicateKey Key))) (RelateFault Key Id Name)) →
       SpendsForVariables state old new over tree a b result →
       RelatesAgreeing state old new over tree g v a b result → AnswersError state old new over tree g v a b result →
-      Completes state old new over tree g e v a b result
+      Complete state old new over tree g e v a b result
   completes before g e v a b (Ok goals) needs agrees errors s x y p = agreeing_are_related (solver_settings g (state old).setup)
       (items_of (state old).meaning) (((state old).meaning).param_env e) v s (term_in (state old) over tree a)
       (term_in (state old) over tree b) x y p agrees

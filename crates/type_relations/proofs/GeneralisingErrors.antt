@@ -8,7 +8,7 @@ use Rattle.relation_terms.specs.declared.terms.keys.ConstKey.{ConstKey}
 use Rattle.relation_folds.specs.declared.error.TypeError.TheVariants.{CyclicTy, CyclicConst, Mismatch}
 use Rattle.relation_semantics.specs.declared.relate.StructurallyRelateAliases.{StructurallyRelateAliases}
 use Rattle.relation_semantics.specs.Stores.{Store, universe_of, IsSound, resolved}
-use Rattle.relation_semantics.specs.Generalising.{Obstacle, cycle, beyond, StopsAt, at_itself, at_placeholder, in_parts, in_body, in_first, in_others, RefusesBy}
+use Rattle.relation_semantics.specs.Generalising.{Obstacle, cycle, beyond, StopsAt, at_itself, at_placeholder, in_parts, in_body, in_first, in_others, RefusesByObstacle}
 use Rattle.relation_semantics.specs.Errors.{StandsSeen, IsCycle, BindingError, cyclic_ty, cyclic_const}
 use Rattle.relation_semantics.specs.Errors.{beyond as beyond_universe}
 use Rattle.relation_semantics.proofs.Trees.{apply_alike}
@@ -46,7 +46,7 @@ module _ {Key Id Name : Type 0} (m : Meaning Key Id Name) (al : StructurallyRela
   abbrev whole : Tree
   whole = apply (resolved before) source
 
-  module _ (k : VarKind) (o : Obstacle) (f : RefusesBy al before after k n source o) where
+  module _ (k : VarKind) (o : Obstacle) (f : RefusesByObstacle al before after k n source o) where
     same : Adds (universe_of before k n) before after
     same = adds g (g.below_current k n) f.makes
 
@@ -58,10 +58,10 @@ module _ {Key Id Name : Type 0} (m : Meaning Key Id Name) (al : StructurallyRela
         beyond_universe k n b.kind b.universe b.number refl (subst (StandsSeen al (placeholder b.kind b.universe b.number)) (sym comes_same) b.stands) b.no_region
         (let s = same.universes k n f.made in let a = b.above in omega (arith, s, a)) refl
 
-  pub cycle_error : (o : Obstacle) → RefusesBy al before after type_var n source o → o ≡ cycle → whole ≢ leaf (variable type_var n) → (x : TyKey Key) → m.ty x ≡ whole →
+  pub cycle_error : (o : Obstacle) → RefusesByObstacle al before after type_var n source o → o ≡ cycle → whole ≢ leaf (variable type_var n) → (x : TyKey Key) → m.ty x ≡ whole →
       BindingError m al after (leaf (variable type_var n)) source (CyclicTy x)
   cycle_error o f e d x means = cyclic_ty n x refl (means ∙ sym (comes_same type_var o f)) (subst (IsCycle al type_var n) (sym means) (cycle_seen e f.stops, d)) refl
 
-  pub const_cycle_error : (o : Obstacle) → RefusesBy al before after const_var n source o → o ≡ cycle → whole ≢ leaf (variable const_var n) → (x : ConstKey Key) → m.const_ x ≡ whole →
+  pub const_cycle_error : (o : Obstacle) → RefusesByObstacle al before after const_var n source o → o ≡ cycle → whole ≢ leaf (variable const_var n) → (x : ConstKey Key) → m.const_ x ≡ whole →
       BindingError m al after (leaf (variable const_var n)) source (CyclicConst x)
   const_cycle_error o f e d x means = cyclic_const n x refl (means ∙ sym (comes_same const_var o f)) (subst (IsCycle al const_var n) (sym means) (cycle_seen e f.stops, d)) refl

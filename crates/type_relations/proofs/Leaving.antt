@@ -20,7 +20,7 @@ use Rattle.relation_semantics.specs.Parts.{IsFormedConst}
 use Rattle.relation_semantics.specs.Relation.{IsError, IsAlias}
 use Rattle.relation_semantics.specs.Settings.{Settings, LeavesAliases, LeavesOpaque}
 use Rattle.relation_semantics.proofs.Leaving.{opaque_is_alias, beside_is_opaque}
-use Rattle.type_relations.specs.Leaving.{IsVariable, StandsAs, LeavesAs}
+use Rattle.type_relations.specs.Leaving.{IsVariable, StandsAs, LeftAs}
 use Rattle.type_relations.specs.declared.relate.leaving.Standing.{Standing}
 use Rattle.type_relations.specs.declared.relate.leaving.Standing.TheVariants.{Error, Variable, Opaque, Alias, Other}
 use Rattle.type_relations.specs.declared.relate.leaving.Leaving.TheVariants.{ToNone}
@@ -120,18 +120,18 @@ clean Alias t h f e = error_no_alias t e h.0
 clean Other t h f e = h.0 e
 
 -- What comes of two, by how a relation is set up.
-pub no_goal_kept : (k : Settings) (a b : Tree) → LeavesAliases k → (IsAlias a → ⊥) → (IsAlias b → ⊥) → LeavesAs k a b ToNone
+pub no_goal_kept : (k : Settings) (a b : Tree) → LeavesAliases k → (IsAlias a → ⊥) → (IsAlias b → ⊥) → LeftAs k a b ToNone
 no_goal_kept k a b l f g (inl (_, inl o)) = f o
 no_goal_kept k a b l f g (inl (_, inr o)) = g o
 no_goal_kept k a b l f g (inr (o, _)) = false≢true (sym o.0 ∙ l.0)
 
 pub no_goal_open : (k : Settings) (a b : Tree) → (LeavesAliases k → ⊥) → (IsOpaqueBeside a b → ⊥) →
-    (IsOpaqueBeside b a → ⊥) → LeavesAs k a b ToNone
+    (IsOpaqueBeside b a → ⊥) → LeftAs k a b ToNone
 no_goal_open k a b l f g (inl (o, _)) = l o
 no_goal_open k a b l f g (inr (_, inl o)) = f o
 no_goal_open k a b l f g (inr (_, inr o)) = g o
 
-pub no_goal_ever : (k : Settings) (a b : Tree) → (LeavesAliases k → ⊥) → (LeavesOpaque k → ⊥) → LeavesAs k a b ToNone
+pub no_goal_ever : (k : Settings) (a b : Tree) → (LeavesAliases k → ⊥) → (LeavesOpaque k → ⊥) → LeftAs k a b ToNone
 no_goal_ever k a b l f (inl (o, _)) = l o
 no_goal_ever k a b l f (inr (o, _)) = f o
 

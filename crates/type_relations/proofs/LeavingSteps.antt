@@ -1,5 +1,5 @@
 -- A pair that is left to a goal, or in which an error stands, as a step of a relation.
-use Rattle.std.proofs.Common.{◌≡◌, ◌⊎◌, ℕ, Some, ◌+◌, refl, sym, ap, ◌∙◌, inl, inr, subst, arith, [], ◌∷◌, IsTrue, false, length, get_or, Ok, Err}
+use Rattle.std.proofs.Common.{◌≡◌, ◌⊎◌, ℕ, Some, None, ◌+◌, refl, sym, ap, ◌∙◌, inl, inr, subst, arith, [], ◌∷◌, IsTrue, false, length, get_or, Ok, Err}
 use Rattle.std.proofs.lemmas.Bool.{false≢true}
 use Rattle.std.proofs.lemmas.List.{append-nil}
 use Rattle.std.proofs.lemmas.List.Elements.{All-nil, All-cons}
@@ -40,7 +40,8 @@ use Rattle.relation_semantics.proofs.Registered.{alias_registered, alias_built}
 use Rattle.relation_semantics.proofs.Standing.{term_context, term_sort_of}
 use Rattle.type_relations.specs.Combining.{TaintsAlone, KeepsKept}
 use Rattle.type_relations.specs.Emitting.{RegistersGoal}
-use Rattle.type_relations.specs.Keyed.{AskedTys, AskedConsts, SteppedTys, SteppedConsts}
+use Rattle.type_relations.specs.Keyed.{SteppedTys, SteppedConsts}
+use Rattle.type_relations.specs.Terms.{AskedTerms}
 use Rattle.type_relations.specs.Solving.{solver_manner}
 use Rattle.relation_semantics.proofs.Leaving.{opaque_is_alias, beside_is_opaque}
 use Rattle.type_relations.proofs.SolvingVariables.{alias_not_first}
@@ -184,8 +185,8 @@ one_opaque a b (inr o) = inr (beside_is_opaque b a o)
 
 -- Two types, or two constants, of which one goal was registered, as they are left to it.
 module _ {Key Id Name A E : Type 0} {r q : State Key Id Name} {x : A} (p : Tree) (h : RegistersGoal {F = E} r q p (Ok x)) where
-  module _ (a b : TyKey Key) (asked : AskedTys solver_manner r a b) (sa : IsTerm type_sort ((r.meaning).ty a))
-      (sb : IsTerm type_sort ((r.meaning).ty b)) where
+  module _ (a b : TyKey Key) (asked : AskedTerms solver_manner None (λ m. m.ty) r a b)
+      (sa : IsTerm type_sort ((r.meaning).ty a)) (sb : IsTerm type_sort ((r.meaning).ty b)) where
     abbrev ta : Tree
     ta = (r.meaning).ty a
 
@@ -239,9 +240,9 @@ module _ {Key Id Name A E : Type 0} {r q : State Key Id Name} {x : A} (p : Tree)
         kit k ha hb (inr d) = opaque_in_kit k tb d hb
 
   -- That an unevaluated constant and another one are one: the right one is the answer.
-  pub consts_to_goal : (a b : ConstKey Key) → AskedConsts solver_manner r a b → IsTerm const_sort ((r.meaning).const_ a) →
-      IsTerm const_sort ((r.meaning).const_ b) → LeavesAliases r.kept.settings →
-      IsAlias ((r.meaning).const_ a) ⊎ IsAlias ((r.meaning).const_ b) →
+  pub consts_to_goal : (a b : ConstKey Key) → AskedTerms solver_manner None (λ m. m.const_) r a b →
+      IsTerm const_sort ((r.meaning).const_ a) → IsTerm const_sort ((r.meaning).const_ b) →
+      LeavesAliases r.kept.settings → IsAlias ((r.meaning).const_ a) ⊎ IsAlias ((r.meaning).const_ b) →
       p ≡ alias_relate_predicate Equate ((r.meaning).const_ a) ((r.meaning).const_ b) →
       SteppedConsts solver_manner r q a b (Ok (Done b))
   unfolding goal_passes

@@ -8,14 +8,14 @@ use Rattle.relation_terms.specs.Heads.{value, value_type}
 use Rattle.relation_terms.specs.Trees.{Tree, leaf, node, bind, nil, cons, known, list_tree, count, nth, IsList, IsTerm}
 use Rattle.relation_terms.specs.Meaning.{Meaning, arg_tree}
 use Rattle.relation_terms.specs.Interning.{Sorted}
-use Rattle.relation_semantics.specs.Making.{arg_sort, Fit, over}
+use Rattle.relation_semantics.specs.Making.{arg_sort, FitArgs, over}
 use Rattle.relation_semantics.specs.Parts.{parts_of}
 use Rattle.relation_semantics.proofs.Lists.{firsts, snoc, firsts_more, firsts_all}
 
 module _ {Key : Type 0} where
   -- One more argument for one more part.
-  pub fit_next : (xs : List (GenericArgKind Key)) (ts : Tree) (x : GenericArgKind Key) (t : Tree) → Fit xs ts →
-      IsTerm (arg_sort x) t → Fit (xs ++ x ∷ []) (snoc ts t)
+  pub fit_next : (xs : List (GenericArgKind Key)) (ts : Tree) (x : GenericArgKind Key) (t : Tree) → FitArgs xs ts →
+      IsTerm (arg_sort x) t → FitArgs (xs ++ x ∷ []) (snoc ts t)
   fit_next [] nil x t f k = (k, tt)
   fit_next (y ∷ xs) (cons u ts) x t f k = (f.0, fit_next xs ts x t f.1 k)
   fit_next [] (cons u ts) x t f k = absurd f
@@ -28,12 +28,12 @@ module _ {Key : Type 0} where
   fit_next (y ∷ xs) (bind ks u) x t f k = absurd f
 
   pub fit_pushed : (xs : List (GenericArgKind Key)) (x : GenericArgKind Key) (ts : Tree) (i : ℕ) → i < count ts →
-      Fit xs (firsts i ts) → IsTerm (arg_sort x) (nth i ts) → Fit (xs ++ x ∷ []) (firsts (suc i) ts)
-  fit_pushed xs x ts i l f k = subst (Fit (xs ++ x ∷ [])) (sym (firsts_more i ts l)) (fit_next xs (firsts i ts) x (nth i ts) f k)
+      FitArgs xs (firsts i ts) → IsTerm (arg_sort x) (nth i ts) → FitArgs (xs ++ x ∷ []) (firsts (suc i) ts)
+  fit_pushed xs x ts i l f k = subst (FitArgs (xs ++ x ∷ [])) (sym (firsts_more i ts l)) (fit_next xs (firsts i ts) x (nth i ts) f k)
 
-  pub fit_end : (xs : List (GenericArgKind Key)) (ts : Tree) (i : ℕ) → IsList ts → i ≡ count ts → Fit xs (firsts i ts) →
-      Fit xs ts
-  fit_end xs ts i l e f = subst (Fit xs) (ap (λ j. firsts j ts) e ∙ firsts_all ts l) f
+  pub fit_end : (xs : List (GenericArgKind Key)) (ts : Tree) (i : ℕ) → IsList ts → i ≡ count ts → FitArgs xs (firsts i ts) →
+      FitArgs xs ts
+  fit_end xs ts i l e f = subst (FitArgs xs) (ap (λ j. firsts j ts) e ∙ firsts_all ts l) f
 
 -- A known argument is a term of the sort that its kind says.
 pub arg_is : {Key Id Name : Type 0} (m : Meaning Key Id Name) → Sorted m → (x : GenericArgKind Key) →
@@ -56,20 +56,20 @@ module _ {Key : Type 0} (f : GenericArgKind Key → Tree) where
   AreFirst i xs ts = ⊥
 
   pub first_next : (i : ℕ) (xs : List (GenericArgKind Key)) (ts : Tree) (d : GenericArgKind Key) → i < length xs →
-      Fit xs ts → AreFirst i xs ts → f (get_or xs i d) ≡ nth i ts → AreFirst (suc i) xs ts
+      FitArgs xs ts → AreFirst i xs ts → f (get_or xs i d) ≡ nth i ts → AreFirst (suc i) xs ts
   first_next zero (x ∷ xs) (cons t ts) d l k b e = (e, tt)
   first_next (suc i) (x ∷ xs) (cons t ts) d l k b e = (b.0, first_next i xs ts d (omega arith) k.1 b.1 e)
   first_next i [] ts d l k b e = absurd (omega arith)
   first_next i (x ∷ xs) ts d l k b e = absurd k
 
-  pub all_first : (xs : List (GenericArgKind Key)) (ts : Tree) → Fit xs ts → AreFirst (length xs) xs ts →
+  pub all_first : (xs : List (GenericArgKind Key)) (ts : Tree) → FitArgs xs ts → AreFirst (length xs) xs ts →
       list_tree f xs ≡ ts
   all_first [] nil k b = refl
   all_first (x ∷ xs) (cons t ts) k b = ap₂ cons b.0 (all_first xs ts k.1 b.1)
   all_first xs ts k b = absurd k
 
 -- There are as many fitting arguments as parts.
-pub fit_counts : {Key : Type 0} (xs : List (GenericArgKind Key)) (ts : Tree) → Fit xs ts → length xs ≡ count ts
+pub fit_counts : {Key : Type 0} (xs : List (GenericArgKind Key)) (ts : Tree) → FitArgs xs ts → length xs ≡ count ts
 fit_counts [] nil f = refl
 fit_counts (x ∷ xs) (cons t ts) f = ap suc (fit_counts xs ts f.1)
 fit_counts xs ts f = absurd f

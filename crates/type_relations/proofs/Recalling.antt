@@ -1,6 +1,6 @@
 -- Pairs of types that the relation of a context remembers: what is found, what may be remembered, and what comes of steps.
 use Rattle.std.proofs.Common.{◌≡◌, ◌⊎◌, ℕ, Bool, true, ◌&&◌, refl, sym, ◌∙◌, subst, subst₂, List, Contains, IsTrue, rules}
-use Rattle.std.proofs.Common.{Some, Result, Ok, Err, OnErr}
+use Rattle.std.proofs.Common.{Some, None, Result, Ok, Err, OnErr}
 use Rattle.std.specs.List.{list_any}
 use Rattle.std.proofs.lemmas.Bool.{and_parts}
 use Rattle.std.proofs.lemmas.List.Folds.{Any-from_list_any}
@@ -26,19 +26,20 @@ use Rattle.relation_semantics.specs.Contexts.{Context}
 use Rattle.relation_semantics.specs.Goals.{goal_of}
 use Rattle.relation_semantics.specs.Parts.{IsFormed}
 use Rattle.relation_semantics.specs.Steps.{Taints}
-use Rattle.relation_semantics.specs.Lawful.{State, Pair, Manners, Stepped, Shown, HasRelated, RemembersRelated, Remembers}
+use Rattle.relation_semantics.specs.Lawful.{State, Pair, Manners, Stepped, Shown, HasRelated, RemembersRelated, RemembersAtMost}
 use Rattle.relation_semantics.proofs.Answering.{same_environment, same_settings}
 use Rattle.relation_semantics.proofs.Passing.{shown_now, step_done}
 use Rattle.relation_semantics.proofs.Remembering.{hit_is_step, related_as, were_related_more}
 use Rattle.relation_semantics.proofs.Standing.{term_sort_of}
 use Rattle.type_relations.specs.Combining.{Joins, MeetsTys, RegistersOne, RegistersNone, TaintsAlone, TysCombine, seen}
 use Rattle.type_relations.specs.Combining.{left_error, right_error, left_to_goal, left_open, not_registered, not_left}
-use Rattle.type_relations.specs.Keyed.{AskedTys, ShownTys, SteppedTys, TysAskNone}
+use Rattle.type_relations.specs.Keyed.{ShownTys, SteppedTys, TysAskNone}
+use Rattle.type_relations.specs.Terms.{AskedTerms}
 use Rattle.type_relations.specs.Solving.{settings_by, held_by, solving_through, solver_manner}
 use Rattle.type_relations.specs.Stepping.{CombinesTyVars, made_one, left_subtype, right_subtype, goal_refused}
 use Rattle.type_relations.specs.Stepping.{CombinesShallowTys, two_variables, left_bound, left_asked, left_unasked, left_refused}
 use Rattle.type_relations.specs.Stepping.{right_bound, right_asked, right_unasked, right_refused, no_ty_variables}
-use Rattle.type_relations.specs.Stepping.{BindsTo, BindsTyVar, BindsAsking, BindsUnasked, IsRemembered, StepsRead, met_again}
+use Rattle.type_relations.specs.Stepping.{InstantiatesTyVar, BindsTyVar, BindsAsking, BindsUnasked, IsRemembered, StepsRead, met_again}
 use Rattle.type_relations.specs.Stepping.{combined, not_remembered}
 use Rattle.type_relations.proofs.Alone.{combined_registers}
 
@@ -66,7 +67,7 @@ pub remembers : {Key Id Name A F : Type 0} (aliases : StructurallyRelateAliases)
     (gs : List (KeyedGoal Key (PredicateKey Key))) (c : Context Key Id Name) (v : Variance) (e : ParamEnvKey Key)
     (p : Pair Key) (res : Result A F) → HasRelated solver_manner (solving_through aliases j ps gs c v e) p →
     ((x : Pair Key) → Contains qs x → (x ≡ p) ⊎ Contains ps x) → OnErr res (qs ≡ ps) →
-    Remembers (solving_through aliases j ps gs c v e) (solving_through aliases j qs gs c v e) p res
+    RemembersAtMost (solving_through aliases j ps gs c v e) (solving_through aliases j qs gs c v e) p res
 remembers aliases j ps qs gs c v e p res one members refused = record {
   meaning = refl;
   store = refl;
@@ -98,8 +99,8 @@ module _ {Key Id Name : Type 0} (M : Manners) (r : State Key Id Name) (a b : TyK
       hit_is_step M IsFormed r (r.meaning).ty a ((r.meaning).ty b) h.left_known h.shown
 
   -- A pair of known types that were related, of which no goal is asked alone.
-  pub noted_pair : AskedTys M r a b → ShownTys M r a b → TysAskNone r a b → IsTerm type_sort ((r.meaning).ty a) →
-      IsTerm type_sort ((r.meaning).ty b) → HasRelated M r (r.ambient, a, b)
+  pub noted_pair : AskedTerms M None (λ m. m.ty) r a b → ShownTys M r a b → TysAskNone r a b →
+      IsTerm type_sort ((r.meaning).ty a) → IsTerm type_sort ((r.meaning).ty b) → HasRelated M r (r.ambient, a, b)
   noted_pair asked shown none sa sb = record {
     left_known = asked.left_known;
     right_known = asked.right_known;
@@ -110,8 +111,9 @@ module _ {Key Id Name : Type 0} (M : Manners) (r : State Key Id Name) (a b : TyK
 
 module _ {Key Id Name : Type 0} (r q : State Key Id Name) (a b : TyKey Key) where
   -- And one that a step has answered.
-  pub answered_pair : (t : TyKey Key) → AskedTys solver_manner r a b → SteppedTys solver_manner r q a b (Ok (Done t)) →
-      CombinesShallowTys r q a b (Ok (Done t)) → HasRelated solver_manner q (q.ambient, a, b)
+  pub answered_pair : (t : TyKey Key) → AskedTerms solver_manner None (λ m. m.ty) r a b →
+      SteppedTys solver_manner r q a b (Ok (Done t)) → CombinesShallowTys r q a b (Ok (Done t)) →
+      HasRelated solver_manner q (q.ambient, a, b)
   answered_pair t asked step h = record {
     left_known = subst (λ z. IsTrue (known z)) (sym x) asked.left_known;
     right_known = subst (λ z. IsTrue (known z)) (sym y) asked.right_known;
@@ -186,7 +188,7 @@ module _ {Key Id Name : Type 0} (r q s : State Key Id Name) (m : s.meaning ≡ q
     variables_alike (goal_refused d h o) = goal_refused d (none_alike h) o
 
   binds_alike : (v : Variance) (i : ℕ) (t : TyKey Key) (answer : Result (TyKey Key) (RelateFault Key Id Name)) →
-      BindsTo r q v i t answer → BindsTo r s v i t answer
+      InstantiatesTyVar r q v i t answer → InstantiatesTyVar r s v i t answer
   binds_alike v i t answer h = subst₂ (λ n z. Instantiated (seen r.meaning r.store) (seen n z)
       r.kept.settings.structurally_relate_aliases v type_var i ((r.meaning).ty t) (λ m. m.ty) CyclicTy answer) (sym m)
       (sym st) h

@@ -34,7 +34,7 @@ use Rattle.relation_semantics.specs.Errors.{ErrorOf, BindingError, of_binding, o
 use Rattle.relation_semantics.specs.ErasureLaws.{IsTypeOrConst}
 use Rattle.relation_semantics.specs.Parts.{IsFormed}
 use Rattle.relation_semantics.specs.FirstOrder.{IsFirstOrder, IsFirstOrderStore}
-use Rattle.relation_semantics.specs.Generalising.{Obstacle, cycle, beyond, InstantiatesBy, RefusesBy, MakesUnbound}
+use Rattle.relation_semantics.specs.Generalising.{Obstacle, cycle, beyond, InstantiatesBy, RefusesByObstacle, MakesUnbound}
 use Rattle.relation_semantics.specs.Generalising.{NumbersNameNothing}
 use Rattle.relation_semantics.specs.Bound.{BindByLists}
 use Rattle.relation_semantics.specs.Resolving.{IsShallow, root as shallow_root, stays_bound, formed, IsShallowConst, const_root, no_variable}
@@ -598,7 +598,7 @@ module _ {Key Id Name : Type 0} (r0 : State Key Id Name) (L K : Type 0) (lawful 
       (unresolved : IsMade c.store k target × (entry_of c.store k target ≡ unbound))
       (other : apply (resolved c.store) t ≢ leaf (variable k target)) (means : Meaning Key Id Name → X → Tree)
       (cyclic : X → TypeError Key Id Name) (x : Variance) (tree : X → Tree)
-      (cycles : (o : Obstacle) → RefusesBy al c.store d.store k target t o → o ≡ cycle → (y : X) →
+      (cycles : (o : Obstacle) → RefusesByObstacle al c.store d.store k target t o → o ≡ cycle → (y : X) →
       means d.meaning y ≡ apply (resolved c.store) t →
       BindingError d.meaning al d.store (leaf (variable k target)) t (cyclic y)) where
     free : k ≢ region_var
@@ -627,7 +627,7 @@ module _ {Key Id Name : Type 0} (r0 : State Key Id Name) (L K : Type 0) (lawful 
     none_built a b may Memory h = built_unbound a b h.1 may
 
     -- The error is that of the obstacle.
-    binding_error : (g : TypeError Key Id Name) (o : Obstacle) → RefusesBy al c.store d.store k target t o →
+    binding_error : (g : TypeError Key Id Name) (o : Obstacle) → RefusesByObstacle al c.store d.store k target t o →
         ObstacleError (means d.meaning) cyclic (apply (resolved c.store) t) g o →
         BindingError d.meaning al d.store (leaf (variable k target)) t g
     binding_error g o f h = go o refl h

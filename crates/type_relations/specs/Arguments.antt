@@ -35,10 +35,6 @@ args_head m (FnDef d) = fn_def (m.id d.0)
 args_head m (AliasTerm k) = alias_term (alias_term_kind k) (m.id (alias_term_id k))
 args_head m (Trait d) = trait_ref (m.id d.0)
 
--- The same, to be told what the interner knows.
-abbrev pub head_by : {Key Id Name : Type 0} → ArgVariances Id → Meaning Key Id Name → Head
-head_by variances m = args_head m variances
-
 -- Two types are of one form over an item and these arguments, which vary as the item declares.
 pub data AreOverItem (d : ℕ) (a b ts us : Tree) : Type 0 where
   adts : a ≡ node (adt d) ts → b ≡ node (adt d) us → AreOverItem d a b ts us

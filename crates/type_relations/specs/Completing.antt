@@ -73,8 +73,8 @@ module _ {S Key Id Name A : Type 0} (state : S → Context Key Id Name) (old new
 
   -- Of terms without variables: related where the answer is `Ok`, all regions outliving each other and what is asked of
   -- aliases being so; related under no interpretation where it is a type error; and it fails for want of memory alone.
-  abbrev pub Completes : {X : Type 0} → StructurallyRelateAliases → ParamEnvKey Key → Variance → A → A →
+  abbrev pub Complete : {X : Type 0} → StructurallyRelateAliases → ParamEnvKey Key → Variance → A → A →
       Result X (RelateFault Key Id Name) → Type 0
-  Completes g e v a b result = (s : Sort) → IsValue s (term a) → IsValue s (term b) →
+  Complete g e v a b result = (s : Sort) → IsValue s (term a) → IsValue s (term b) →
       ArePlain (solver_settings g (state old).setup) (term a) (term b) → CompletelyAnswered
       (items_of (state old).meaning) (((state old).meaning).param_env e) v (term a) (term b) result

@@ -20,8 +20,8 @@ use Rattle.type_relations.specs.declared.relate.forms.Form.TheVariants.{Alias}
 abbrev pub of_pointer : {D : Type 0} → Form → Mutability → Outline D
 of_pointer form u = record { form = form; item = None; mutability = u }
 
-abbrev pub plain : {D : Type 0} → Form → Outline D
-plain form = of_pointer form Not
+abbrev pub form_alone : {D : Type 0} → Form → Outline D
+form_alone form = of_pointer form Not
 
 abbrev pub of_item : {D : Type 0} → Form → D → Outline D
 of_item form d = record { form = form; item = Some d; mutability = Not }
@@ -38,22 +38,22 @@ head_outline (closure d) = of_item Closure d
 head_outline (coroutine_closure d) = of_item CoroutineClosure d
 head_outline (coroutine d) = of_item Coroutine d
 head_outline (coroutine_witness d) = of_item CoroutineWitness d
-head_outline array = plain Array
-head_outline slice = plain Slice
-head_outline pattern_type = plain Pat
-head_outline tuple = plain Tuple
-head_outline unsafe_binder = plain UnsafeBinder
-head_outline dynamic = plain Dynamic
-head_outline fn_ptr = plain FnPtr
+head_outline array = form_alone Array
+head_outline slice = form_alone Slice
+head_outline pattern_type = form_alone Pat
+head_outline tuple = form_alone Tuple
+head_outline unsafe_binder = form_alone UnsafeBinder
+head_outline dynamic = form_alone Dynamic
+head_outline fn_ptr = form_alone FnPtr
 head_outline (raw_ptr u) = of_pointer RawPtr u
 head_outline (ref u) = of_pointer Ref u
 head_outline (alias k d) = of_item Alias d
-head_outline h = plain Leaf
+head_outline h = form_alone Leaf
 
 -- The outline of a type.
 abbrev pub tree_outline : Tree → Outline ℕ
 tree_outline (node h ts) = head_outline h
-tree_outline t = plain Leaf
+tree_outline t = form_alone Leaf
 
 -- The error of two aliases of unlike items names both.
 abbrev pub NamesItems : {Key Id Name : Type 0} → Outline Id → Outline Id → TypeError Key Id Name → Type 0

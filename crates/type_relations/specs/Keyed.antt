@@ -1,5 +1,6 @@
--- What is asked and promised of the keys of a relation's terms, at its ambient variance where no other is named.
-use Rattle.std.specs.Prelude.{◌≡◌, ◌≢◌, ℕ, List, ◌++◌, IsTrue, Result, IfOk}
+-- What is asked and promised of the keys of types, constants, regions, parts and lists, beside what `Terms` says of all
+-- terms, at a relation's ambient variance where no other is named.
+use Rattle.std.specs.Prelude.{◌≡◌, ◌≢◌, ℕ, List, ◌++◌, None, IsTrue, Result, IfOk}
 use Rattle.term_enums.specs.declared.Variance.{Variance}
 use Rattle.term_enums.specs.declared.Variance.TheVariants.{Bivariant}
 use Rattle.relation_terms.specs.declared.terms.ids.DefId.{DefId}
@@ -7,25 +8,24 @@ use Rattle.relation_terms.specs.declared.terms.keys.TyKey.{TyKey}
 use Rattle.relation_terms.specs.declared.terms.keys.RegionKey.{RegionKey}
 use Rattle.relation_terms.specs.declared.terms.keys.ConstKey.{ConstKey}
 use Rattle.relation_terms.specs.declared.terms.keys.ArgsKey.{ArgsKey}
-use Rattle.relation_terms.specs.declared.terms.keys.PatKey.{PatKey}
 use Rattle.relation_terms.specs.declared.terms.part_kind.Part.{Part}
 use Rattle.relation_terms.specs.declared.terms.generic_arg.GenericArgKind.{GenericArgKind}
 use Rattle.relation_terms.specs.Heads.{Head, adt}
-use Rattle.relation_terms.specs.Trees.{node, known, count, list_tree}
+use Rattle.relation_terms.specs.Trees.{Tree, node, known, count, list_tree}
 use Rattle.relation_terms.specs.Meaning.{Meaning, arg_tree}
 use Rattle.relation_terms.specs.Parts.{part_tree}
-use Rattle.term_enums.specs.Variances.{xform}
 use Rattle.relation_folds.specs.declared.error.RelateFault.{RelateFault}
 use Rattle.relation_semantics.specs.declared.relate.Step.{Step}
 use Rattle.type_relations.specs.declared.relate.args.ArgVariances.{ArgVariances}
 use Rattle.type_relations.specs.Arguments.{args_head, AreOverItem}
 use Rattle.relation_semantics.specs.AskedAlone.{AsksNoneAlone}
 use Rattle.relation_semantics.specs.Constraints.{constraint_at, asked_constraints}
-use Rattle.relation_semantics.specs.Lawful.{State, Manners, Asked, Related, RelatedForms, Shown, Stepped, Noted, items_in}
+use Rattle.relation_semantics.specs.Lawful.{State, Manners, Related, Shown, Stepped, Noted, items_in}
 use Rattle.relation_semantics.specs.Making.{Made, over, const_over}
 use Rattle.relation_semantics.specs.Parts.{IsFormed, IsFormedConst, head_of, const_head_of}
 use Rattle.relation_semantics.specs.Relation.{plain, part_at}
-use Rattle.type_relations.specs.Alone.{RelatesAlone, StepsAlone}
+use Rattle.type_relations.specs.Alone.{StepsAlone}
+use Rattle.type_relations.specs.Terms.{RelatedTerms}
 
 module _ {Key Id Name : Type 0} where
   -- The variances that an item declares of its parameters.
@@ -48,118 +48,29 @@ module _ {Key Id Name : Type 0} where
   abbrev pub Decides : State Key Id Name → Type 0
   Decides r = r.ambient ≢ Bivariant
 
-  -- The form of a type over an item, in what its interner knows.
-  abbrev pub over_item : DefId Id → Meaning Key Id Name → Head
-  over_item d m = adt (m.id d.0)
+  -- The form of a type over an item and a list of arguments; the form over a list whose arguments stand at these
+  -- variances.
+  abbrev pub over_item : DefId Id → Meaning Key Id Name → ArgsKey Key → Tree
+  over_item d m k = node (adt (m.id d.0)) (m.args k)
+
+  abbrev pub over_args : ArgVariances Id → Meaning Key Id Name → ArgsKey Key → Tree
+  over_args vs m k = node (args_head m vs) (m.args k)
 
   -- Two lists have as many arguments.
   abbrev pub AreAsMany : State Key Id Name → ArgsKey Key → ArgsKey Key → Type 0
   AreAsMany r a b = count ((r.meaning).args a) ≡ count ((r.meaning).args b)
 
-  -- Two known types of the relation's context that it takes. The same of constants, regions, arguments and patterns,
-  -- and of parts of terms.
-  abbrev pub AskedTys : Manners → State Key Id Name → TyKey Key → TyKey Key → Type 0
-  AskedTys M r a b = Asked M r r.ambient ((r.meaning).ty a) ((r.meaning).ty b)
-
-  abbrev pub AskedConsts : Manners → State Key Id Name → ConstKey Key → ConstKey Key → Type 0
-  AskedConsts M r a b = Asked M r r.ambient ((r.meaning).const_ a) ((r.meaning).const_ b)
-
-  abbrev pub AskedRegions : Manners → State Key Id Name → RegionKey Key → RegionKey Key → Type 0
-  AskedRegions M r a b = Asked M r r.ambient ((r.meaning).region a) ((r.meaning).region b)
-
-  abbrev pub AskedArgs : Manners → State Key Id Name → GenericArgKind Key → GenericArgKind Key → Type 0
-  AskedArgs M r a b = Asked M r r.ambient (arg_tree r.meaning a) (arg_tree r.meaning b)
-
-  abbrev pub AskedPats : Manners → State Key Id Name → PatKey Key → PatKey Key → Type 0
-  AskedPats M r a b = Asked M r r.ambient ((r.meaning).pat a) ((r.meaning).pat b)
-
-  abbrev pub AskedParts : Manners → State Key Id Name → Part Key Id → Part Key Id → Type 0
-  AskedParts M r a b = Asked M r r.ambient (part_tree r.meaning a) (part_tree r.meaning b)
-
-  -- The same at a variance, seen from the ambient one.
-  abbrev pub AskedArgsAt : Manners → State Key Id Name → Variance → GenericArgKind Key → GenericArgKind Key → Type 0
-  AskedArgsAt M r v a b = Asked M r (xform r.ambient v) (arg_tree r.meaning a) (arg_tree r.meaning b)
-
-  abbrev pub AskedPartsAt : Manners → State Key Id Name → Variance → Part Key Id → Part Key Id → Type 0
-  AskedPartsAt M r v a b = Asked M r (xform r.ambient v) (part_tree r.meaning a) (part_tree r.meaning b)
-
-  -- The same of two lists of arguments, as the form over them.
-  abbrev pub AskedLists : Manners → State Key Id Name → (Meaning Key Id Name → Head) → ArgsKey Key → ArgsKey Key →
-      Type 0
-  AskedLists M r h a b = Asked M r r.ambient (node (h r.meaning) ((r.meaning).args a))
-      (node (h r.meaning) ((r.meaning).args b))
-
-  -- Two types were related, and what came of it. The same of types, constants and parts as forms, by their parts alone;
-  -- of constants, regions, arguments and patterns, and of parts of terms.
-  abbrev pub RelatedTys : Manners → State Key Id Name → State Key Id Name → TyKey Key → TyKey Key →
-      Result (TyKey Key) (RelateFault Key Id Name) → Type 0
-  RelatedTys M r q a b result =
-      Related M r q r.ambient ((r.meaning).ty a) ((r.meaning).ty b) (q.meaning).ty result
-
-  abbrev pub RelatedTyForms : Manners → State Key Id Name → State Key Id Name → TyKey Key → TyKey Key →
-      Result (TyKey Key) (RelateFault Key Id Name) → Type 0
-  RelatedTyForms M r q a b result =
-      RelatedForms M r q r.ambient ((r.meaning).ty a) ((r.meaning).ty b) (q.meaning).ty result
-
-  abbrev pub RelatedConstForms : Manners → State Key Id Name → State Key Id Name → ConstKey Key → ConstKey Key →
-      Result (ConstKey Key) (RelateFault Key Id Name) → Type 0
-  RelatedConstForms M r q a b result =
-      RelatedForms M r q r.ambient ((r.meaning).const_ a) ((r.meaning).const_ b) (q.meaning).const_ result
-
-  abbrev pub RelatedConsts : Manners → State Key Id Name → State Key Id Name → ConstKey Key → ConstKey Key →
-      Result (ConstKey Key) (RelateFault Key Id Name) → Type 0
-  RelatedConsts M r q a b result =
-      Related M r q r.ambient ((r.meaning).const_ a) ((r.meaning).const_ b) (q.meaning).const_ result
-
+  -- Two regions were related, and what came of it.
   abbrev pub RelatedRegions : Manners → State Key Id Name → State Key Id Name → RegionKey Key → RegionKey Key →
       Result (RegionKey Key) (RelateFault Key Id Name) → Type 0
-  RelatedRegions M r q a b result =
-      Related M r q r.ambient ((r.meaning).region a) ((r.meaning).region b) (q.meaning).region result
+  RelatedRegions M r q a b result = RelatedTerms M None (λ m. m.region) r q a b result
 
-  abbrev pub RelatedArgs : Manners → State Key Id Name → State Key Id Name → GenericArgKind Key → GenericArgKind Key →
-      Result (GenericArgKind Key) (RelateFault Key Id Name) → Type 0
-  RelatedArgs M r q a b result =
-      Related M r q r.ambient (arg_tree r.meaning a) (arg_tree r.meaning b) (arg_tree q.meaning) result
-
-  abbrev pub RelatedPats : Manners → State Key Id Name → State Key Id Name → PatKey Key → PatKey Key →
-      Result (PatKey Key) (RelateFault Key Id Name) → Type 0
-  RelatedPats M r q a b result =
-      Related M r q r.ambient ((r.meaning).pat a) ((r.meaning).pat b) (q.meaning).pat result
-
-  abbrev pub RelatedParts : Manners → State Key Id Name → State Key Id Name → Part Key Id → Part Key Id →
-      Result (Part Key Id) (RelateFault Key Id Name) → Type 0
-  RelatedParts M r q a b result =
-      Related M r q r.ambient (part_tree r.meaning a) (part_tree r.meaning b) (part_tree q.meaning) result
-
-  abbrev pub RelatedPartForms : Manners → State Key Id Name → State Key Id Name → Part Key Id → Part Key Id →
-      Result (Part Key Id) (RelateFault Key Id Name) → Type 0
-  RelatedPartForms M r q a b result =
-      RelatedForms M r q r.ambient (part_tree r.meaning a) (part_tree r.meaning b) (part_tree q.meaning) result
-
-  -- The same of arguments, and of parts, at a variance, seen from the ambient one.
-  abbrev pub RelatedArgsAt : Manners → State Key Id Name → State Key Id Name → Variance → GenericArgKind Key →
-      GenericArgKind Key → Result (GenericArgKind Key) (RelateFault Key Id Name) → Type 0
-  RelatedArgsAt M r q v a b result =
-      Related M r q (xform r.ambient v) (arg_tree r.meaning a) (arg_tree r.meaning b) (arg_tree q.meaning) result
-
-  abbrev pub RelatedPartsAt : Manners → State Key Id Name → State Key Id Name → Variance → Part Key Id → Part Key Id →
-      Result (Part Key Id) (RelateFault Key Id Name) → Type 0
-  RelatedPartsAt M r q v a b result =
-      Related M r q (xform r.ambient v) (part_tree r.meaning a) (part_tree r.meaning b) (part_tree q.meaning) result
-
-  -- The same of two lists of arguments, as the form over them.
-  abbrev pub RelatedLists : Manners → State Key Id Name → State Key Id Name → (Meaning Key Id Name → Head) →
-      ArgsKey Key → ArgsKey Key → Result (ArgsKey Key) (RelateFault Key Id Name) → Type 0
-  RelatedLists M r q h a b result = Related M r q r.ambient (node (h r.meaning) ((r.meaning).args a))
-      (node (h r.meaning) ((r.meaning).args b)) (λ k. node (h q.meaning) ((q.meaning).args k)) result
-
-  -- The same of two lists whose arguments stand at these variances, as the forms over them: the second over whichever form
-  -- relating takes for the first's.
+  -- Two lists whose arguments stand at these variances were related, as the forms over them: the second over whichever
+  -- form relating takes for the first's.
   abbrev pub RelatedOver : Manners → State Key Id Name → State Key Id Name → ArgVariances Id → ArgsKey Key →
       ArgsKey Key → Result (ArgsKey Key) (RelateFault Key Id Name) → Type 0
   RelatedOver M r q d a b result = (k : Head) → plain (args_head r.meaning d) ≡ plain k →
-      Related M r q r.ambient (node (args_head r.meaning d) ((r.meaning).args a)) (node k ((r.meaning).args b))
-      (λ x. node (args_head q.meaning d) ((q.meaning).args x)) result
+      Related M r q r.ambient (over_args d r.meaning a) (node k ((r.meaning).args b)) (over_args d q.meaning) result
 
   -- A step was taken of two types, or of two constants.
   abbrev pub SteppedTys : Manners → State Key Id Name → State Key Id Name → TyKey Key → TyKey Key →
@@ -172,18 +83,7 @@ module _ {Key Id Name : Type 0} where
   SteppedConsts M r q a b result =
       Stepped M IsFormedConst r q ((r.meaning).const_ a) ((r.meaning).const_ b) (q.meaning).const_ result
 
-  -- Two types that are unresolved type variables were related, or a step of them taken, by registering one goal alone,
-  -- where the relation promises it. The same of two arguments.
-  abbrev pub TysRelateAlone : Manners → State Key Id Name → State Key Id Name → TyKey Key → TyKey Key →
-      Result (TyKey Key) (RelateFault Key Id Name) → Type 0
-  TysRelateAlone M r q a b result =
-      RelatesAlone M r q r.ambient ((r.meaning).ty a) ((r.meaning).ty b) result
-
-  abbrev pub ArgsRelateAlone : Manners → State Key Id Name → State Key Id Name → GenericArgKind Key →
-      GenericArgKind Key → Result (GenericArgKind Key) (RelateFault Key Id Name) → Type 0
-  ArgsRelateAlone M r q a b result =
-      RelatesAlone M r q r.ambient (arg_tree r.meaning a) (arg_tree r.meaning b) result
-
+  -- A step was taken of two types of which one goal is asked by registering that alone, where the relation promises it.
   abbrev pub TysStepAlone : Manners → State Key Id Name → State Key Id Name → TyKey Key → TyKey Key →
       Result (Step (TyKey Key)) (RelateFault Key Id Name) → Type 0
   TysStepAlone M r q a b result =

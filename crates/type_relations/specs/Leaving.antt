@@ -26,10 +26,10 @@ StandsAs Other t = (IsError t → ⊥) × (IsVariable t → ⊥) × (IsAlias t �
 
 -- What comes of two types neither of which is an error: they are left to a goal, one being an alias; they are left open,
 -- one being an opaque type beside no variable; or neither.
-abbrev pub LeavesAs : Settings → Tree → Tree → Leaving → Type 0
-LeavesAs k a b ToGoal = LeavesAliases k × (IsAlias a ⊎ IsAlias b)
-LeavesAs k a b Open = LeavesOpaque k × (IsOpaqueBeside a b ⊎ IsOpaqueBeside b a)
-LeavesAs k a b ToNone = IsLeftToGoal k a b → ⊥
+abbrev pub LeftAs : Settings → Tree → Tree → Leaving → Type 0
+LeftAs k a b ToGoal = LeavesAliases k × (IsAlias a ⊎ IsAlias b)
+LeftAs k a b Open = LeavesOpaque k × (IsOpaqueBeside a b ⊎ IsOpaqueBeside b a)
+LeftAs k a b ToNone = IsLeftToGoal k a b → ⊥
 
 -- Of two constants one is left to a goal, as an unevaluated one.
 abbrev pub LeavesConst : {Key Id Name : Type 0} → State Key Id Name → ConstKey Key → ConstKey Key → Type 0

@@ -1,5 +1,28 @@
 -- What relating two values in a context asks and promises, by what is related of them: of a value that is `over` no form
 -- its tree, of another that form over its tree.
+--
+-- Below `..` stands for `state old new over tree`: what a context is before a call and after it, and what of two
+-- values is related.
+--
+--   term_in c over tree x                    what is related of x in the context c
+--   KnowsTerm c over tree x                  it is known
+--   TakesTerm c over tree x                  its binders bind by their lists
+--   HasTerm c over tree x                    it is one of the context's terms
+--   AreOne c over tree a b                   that of a and that of b are one
+--   Idle state old new result                no goal is answered, and nothing is recorded
+--   AnswersOnly state old new g e v result   only goals that relating registers are answered
+--   AnswersTerms .. e v a b result           sound: what satisfies the record after and makes the goals true relates a
+--                                            and b at v in e
+--   KeepsEqual .. a b result                 no equal pair is lost
+--   TellsApart .. a b result                 a type error says that no assignment made the two one
+--   AnswersError .. g v a b result           and which error it is, aliases being related as g says
+--   RelatesAgreeing .. g v a b result        where the two are related nothing in them clashes
+--   AnswersExactly .. v a b result           exact at invariance, of first-order terms and records
+--   ProvesApart .. v a b result              and then a type error says that nothing unified the two
+--   SpendsNoMore .. v a b result             and how much of the budget that takes in one universe
+--   MakesToRelate .. a b                     which variables and universes are made
+--   BuildsNoMore .. a b result               of what all is built that is bound and registered
+--   AnswersAsked .. g e v a b result         two types of which one goal is asked are related by just that goal
 use Rattle.std.specs.Prelude.{◌≡◌, ◌+◌, ◌<◌, ◌≤◌, ℕ, List, [], ◌∷◌, Option, IsTrue, IfOk, Result, Ok, Err}
 use Rattle.std.specs.Global.{Vec}
 use Rattle.term_enums.specs.declared.Variance.{Variance}

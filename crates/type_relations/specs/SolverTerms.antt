@@ -1,5 +1,5 @@
 -- What the solver's relation asks and promises: what relating two values does, at the state in which it stands.
-use Rattle.std.specs.Prelude.{◌≡◌, ℕ, [], ◌∷◌, Option, Result}
+use Rattle.std.specs.Prelude.{◌≡◌, ℕ, [], ◌∷◌, Option, None, Result}
 use Rattle.relation_terms.specs.declared.terms.binder.Binder.{Binder}
 use Rattle.relation_terms.specs.declared.terms.ids.DefId.{DefId}
 use Rattle.relation_terms.specs.declared.terms.keys.ArgsKey.{ArgsKey}
@@ -13,7 +13,7 @@ use Rattle.relation_terms.specs.Meaning.{Meaning}
 use Rattle.relation_folds.specs.declared.error.RelateFault.{RelateFault}
 use Rattle.relation_semantics.specs.declared.relate.Step.{Step}
 use Rattle.relation_semantics.specs.Contexts.{Context}
-use Rattle.relation_semantics.specs.Lawful.{State, HasRelated, Remembers}
+use Rattle.relation_semantics.specs.Lawful.{State, HasRelated, RemembersAtMost}
 use Rattle.type_relations.specs.declared.relate.solver_relating.relation.SolverRelating.{SolverRelating}
 use Rattle.relation_semantics.specs.AskedAlone.{IsNoTyVar}
 use Rattle.type_relations.specs.Combining.{ConstsCombine}
@@ -56,6 +56,11 @@ module _ {Infcx Interner Key Id Name Span : Type 0} (state : Infcx → Context K
   KeepsEnvironment r q =
       let m = (state r.infcx.now).meaning in let n = (state q.infcx.now).meaning in
       n.param_env q.param_env ≡ m.param_env r.param_env
+
+  -- Two whose trees these are, which it takes where it stands.
+  abbrev pub SolverTakes : {A : Type 0} → (Meaning Key Id Name → A → Tree) →
+      SolverRelating Infcx Interner Key Id Name Span → A → A → Type 0
+  SolverTakes tree r a b = AskedTerms solver_manner None tree (solver_through r) a b
 
   -- A predicate was registered in its environment, or was not.
   abbrev pub SolverAddsGoal : {A F : Type 0} → SolverRelating Infcx Interner Key Id Name Span →
@@ -114,7 +119,7 @@ module _ {Infcx Interner Key Id Name Span : Type 0} (state : Infcx → Context K
 
   abbrev pub SolverRemembers : {A F : Type 0} → SolverRelating Infcx Interner Key Id Name Span →
       SolverRelating Infcx Interner Key Id Name Span → TyKey Key → TyKey Key → Result A F → Type 0
-  SolverRemembers r q a b result = Remembers (solver_through r) (solver_through q) (r.ambient_variance, a, b) result
+  SolverRemembers r q a b result = RemembersAtMost (solver_through r) (solver_through q) (r.ambient_variance, a, b) result
 
   -- A step was taken of two constants, and which, case by case.
   abbrev pub SolverStepped : SolverRelating Infcx Interner Key Id Name Span →

@@ -59,25 +59,25 @@ module _ {Key Id Name : Type 0} (r q : State Key Id Name) where
     goal_refused : r.ambient ≢ Invariant → RegistersNone r q → result ≡ Err Memory → CombinesTyVars a b result
 
   -- What binding a type variable, at a variance, to what a type comes to answers.
-  abbrev pub BindsTo : Variance → ℕ → TyKey Key → Result (TyKey Key) (RelateFault Key Id Name) → Type 0
-  BindsTo v i t answer = Instantiated (seen r.meaning r.store) (seen q.meaning q.store)
+  abbrev pub InstantiatesTyVar : Variance → ℕ → TyKey Key → Result (TyKey Key) (RelateFault Key Id Name) → Type 0
+  InstantiatesTyVar v i t answer = Instantiated (seen r.meaning r.store) (seen q.meaning q.store)
       r.kept.settings.structurally_relate_aliases v type_var i ((r.meaning).ty t) (λ m. m.ty) CyclicTy answer
 
   -- The same, and no goal is registered.
   pub record BindsTyVar (v : Variance) (i : ℕ) (t : TyKey Key) (answer : Result (TyKey Key) (RelateFault Key Id Name)) :
       Type 0 where
-    pub instantiated : BindsTo v i t answer
+    pub instantiated : InstantiatesTyVar v i t answer
     pub goals : q.goals ≡ r.goals
 
   -- It was bound to a type variable, in the place of an alias, and what is asked of that one and the alias is registered;
   -- or it is not, since a growth was refused.
   pub record BindsAsking (v : Variance) (i : ℕ) (t x : TyKey Key) (predicate : Tree) : Type 0 where
-    pub instantiated : BindsTo v i t (Ok x)
+    pub instantiated : InstantiatesTyVar v i t (Ok x)
     pub is_variable : IsTyVar ((q.meaning).ty x)
     pub goals : q.goals ≡ r.goals ++ goal_of r.kept.environment predicate ∷ []
 
   pub record BindsUnasked (v : Variance) (i : ℕ) (t x : TyKey Key) : Type 0 where
-    pub instantiated : BindsTo v i t (Ok x)
+    pub instantiated : InstantiatesTyVar v i t (Ok x)
     pub is_variable : IsTyVar ((q.meaning).ty x)
     pub goals : q.goals ≡ r.goals
 

@@ -31,7 +31,7 @@ fn lead_all(roots: &mut Vec<usize>, child: usize, root: usize)
     }
 }
 
-// Makes two classes one. The smaller root is that of both.
+// Makes two classes one. The smaller root is that of both; where there is one alone, nothing is to be done.
 pub(crate) fn join_roots(roots: &mut Vec<usize>, a: usize, b: usize)
     requires a_in { a < length roots.old.items }
     requires b_in { b < length roots.old.items }
@@ -44,7 +44,7 @@ pub(crate) fn join_roots(roots: &mut Vec<usize>, a: usize, b: usize)
     let second = roots[b];
     if first < second {
         lead_all(roots, second, first);
-    } else {
+    } else if second < first {
         lead_all(roots, first, second);
     }
 }

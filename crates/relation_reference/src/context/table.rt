@@ -72,11 +72,12 @@ fn led_to<K: Copy>(entry: &Variable<K>, child: usize, root: usize) -> Variable<K
     led
 }
 
-// Leads each variable that led to the child to the root.
+// Leads each variable that led to the child to the root. None of a smaller number than the child's did.
 fn lead_all<K: Copy>(table: &mut Vec<Variable<K>>, child: usize, root: usize)
+    requires { LeadsDown table.old.items }
     ensures { table.new.items ≡ map (led_variable child root) table.old.items }
 {
-    for i in 0..table.len() {
+    for i in child..table.len() {
         let entry = led_to(&table[i], child, root);
         table[i] = entry;
     }
@@ -139,6 +140,7 @@ fn write_universe<K: Copy>(table: &mut Vec<Variable<K>>, v: usize, universe: usi
 pub(crate) fn link<K: Copy>(table: &mut Vec<Variable<K>>, child: usize, root: usize)
     requires made { child < length table.old.items }
     requires smaller { root < child }
+    requires down { LeadsDown table.old.items }
     ensures keys { keys_of table.new.items ≡ keys_of table.old.items }
     ensures values { values_of table.new.items ≡ led_values child root table.old.items }
     ensures universes { universes_of table.new.items ≡ led_universes child root table.old.items }

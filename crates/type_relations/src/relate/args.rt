@@ -1,15 +1,15 @@
 //! Relating the arguments of items.
-ghost use Rattle.std.specs.Prelude.{◌≡◌, ◌≢◌, ◌<◌, IsTrue, IfOk};
+ghost use Rattle.std.specs.Prelude.{◌≡◌, ◌≢◌, ◌<◌, Some, None, IsTrue, IfOk};
 ghost use Rattle.term_enums.specs.declared.Variance.TheVariants.{Bivariant};
 ghost use Rattle.relation_terms.specs.Heads.{arguments};
 ghost use Rattle.relation_terms.specs.Trees.{known, node, count, nth, IsList, list_tree};
 ghost use Rattle.relation_terms.specs.Meaning.{Extends, arg_tree};
 ghost use Rattle.term_enums.specs.Variances.{xform};
 ghost use Rattle.relation_semantics.specs.Lawful.{WithMeaning, OnlyMemory};
-ghost use Rattle.type_relations.specs.Keyed.{AreAsMany, AreOver, AskedLists, AskedTys, RelatedLists, RelatedOver};
+ghost use Rattle.type_relations.specs.Keyed.{AreAsMany, AreOver, RelatedOver, over_item, over_args, part_in};
 ghost use Rattle.type_relations.specs.Makers.{TakesLists, GrowsByCall, MakesOverList};
-ghost use Rattle.type_relations.specs.Keyed.{RelatedTys, over_item, part_in};
-ghost use Rattle.type_relations.specs.Arguments.{args_head, head_by, AreOverItem};
+ghost use Rattle.type_relations.specs.Terms.{AskedTerms, RelatedTerms};
+ghost use Rattle.type_relations.specs.Arguments.{args_head, AreOverItem};
 ghost use Rattle.relation_semantics.specs.Parts.{head_of};
 
 use crate::relate::TypeRelation;
@@ -133,7 +133,7 @@ pub(crate) fn relate_args<I: Interner, R: TypeRelation<I>>(
 ) -> RelateResult<I, GenericArgs<I>>
     requires lawful { (R.state r.old).lawful }
     requires decides { (R.state r.old).ambient ≢ Bivariant }
-    requires asked { AskedLists R.manner (R.state r.old) (head_by variances.now) a.now b.now }
+    requires asked { AskedTerms R.manner None (over_args variances.now) (R.state r.old) a.now b.now }
     requires as_many { AreAsMany (R.state r.old) a.now b.now }
     ensures { RelatedOver R.manner (R.state r.old) (R.state r.new) variances.now a.now b.now result }
 {
@@ -163,9 +163,9 @@ pub fn relate_args_invariantly<I: Interner, R: TypeRelation<I>>(
 ) -> RelateResult<I, GenericArgs<I>>
     requires lawful { (R.state r.old).lawful }
     requires decides { (R.state r.old).ambient ≢ Bivariant }
-    requires asked { AskedLists R.manner (R.state r.old) (λ m. arguments) a.now b.now }
+    requires asked { AskedTerms R.manner (Some arguments) (λ m. m.args) (R.state r.old) a.now b.now }
     requires as_many { AreAsMany (R.state r.old) a.now b.now }
-    ensures { RelatedLists R.manner (R.state r.old) (R.state r.new) (λ m. arguments) a.now b.now result }
+    ensures { RelatedTerms R.manner (Some arguments) (λ m. m.args) (R.state r.old) (R.state r.new) a.now b.now result }
 {
     relate_args(r, &ArgVariances::Invariant, a, b)
 }
@@ -186,9 +186,9 @@ pub fn relate_args_with_variances<I: Interner, R: TypeRelation<I>>(
 ) -> RelateResult<I, GenericArgs<I>>
     requires lawful { (R.state r.old).lawful }
     requires decides { (R.state r.old).ambient ≢ Bivariant }
-    requires asked { AskedLists R.manner (R.state r.old) (over_item def_id.now) a.now b.now }
+    requires asked { AskedTerms R.manner None (over_item def_id.now) (R.state r.old) a.now b.now }
     requires as_many { AreAsMany (R.state r.old) a.now b.now }
-    ensures { RelatedLists R.manner (R.state r.old) (R.state r.new) (over_item def_id.now) a.now b.now result }
+    ensures { RelatedTerms R.manner None (over_item def_id.now) (R.state r.old) (R.state r.new) a.now b.now result }
 {
     relate_args(r, &ArgVariances::Adt(DefId(def_id.0)), a, b)
 }
@@ -261,14 +261,14 @@ pub fn relate_ty_args<
 ) -> RelateResult<I, Ty<I>>
     requires lawful { (R.state r.old).lawful }
     requires decides { (R.state r.old).ambient ≢ Bivariant }
-    requires asked { AskedTys R.manner (R.state r.old) a_ty.now b_ty.now }
+    requires asked { AskedTerms R.manner None (λ m. m.ty) (R.state r.old) a_ty.now b_ty.now }
     requires args_known { IsTrue (known ((R.state r.old).meaning.args a_args.now)) }
     requires over { AreOver (R.state r.old) def_id.now a_ty.now b_ty.now a_args.now b_args.now }
     requires as_many { AreAsMany (R.state r.old) a_args.now b_args.now }
     requires callable { TakesLists (λ x. I.meaning x.now) (R.state r.old) (F.pre mk) }
     requires grows { GrowsByCall (λ x. I.meaning x.now) (λ x. I.meaning x.now) (F.post mk) }
     requires makes { MakesOverList (λ x. I.meaning x.now) (λ x. I.meaning x.now) (R.state r.old) a_ty.now (F.post mk) }
-    ensures { RelatedTys R.manner (R.state r.old) (R.state r.new) a_ty.now b_ty.now result }
+    ensures { RelatedTerms R.manner None (λ m. m.ty) (R.state r.old) (R.state r.new) a_ty.now b_ty.now result }
 {
     let variances = item_variances::<I, R>(r, a_ty, def_id);
     let args = relate_args(r, &variances, a_args, b_args)?;

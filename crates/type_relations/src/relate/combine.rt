@@ -1,5 +1,5 @@
 //! Relations that register goals, and what they register of types over one item, whose arguments were related.
-ghost use Rattle.std.specs.Prelude.{◌≡◌, ◌≢◌, ◌<◌, [], ◌∷◌, All, IsTrue, IsFalse, IfOk, map};
+ghost use Rattle.std.specs.Prelude.{◌≡◌, ◌≢◌, ◌<◌, [], ◌∷◌, All, None, IsTrue, IsFalse, IfOk, map};
 ghost use Rattle.std.specs.Borrow.{sem, Lends};
 ghost use Rattle.relation_terms.specs.Trees.{known, count, nth};
 ghost use Rattle.relation_terms.specs.Meaning.{arg_tree};
@@ -16,11 +16,12 @@ ghost use Rattle.type_relations.specs.Leaving.{LeavesConst};
 ghost use Rattle.relation_semantics.specs.Contexts.{KnowsTy};
 ghost use Rattle.relation_semantics.specs.Goals.{KnowsGoal, goals_of, well_formed_predicate, ambiguous_predicate};
 ghost use Rattle.relation_semantics.specs.Goals.{alias_relate_predicate};
-ghost use Rattle.type_relations.specs.Keyed.{AreOver, AskedTys, AskedConsts, SteppedConsts, NotedTys};
+ghost use Rattle.type_relations.specs.Keyed.{AreOver, SteppedConsts, NotedTys};
 ghost use Rattle.relation_semantics.specs.Lawful.{State, RelatesByDeclared, items_of};
 ghost use Rattle.relation_semantics.specs.Resolving.{IsShallow, IsShallowConst};
 ghost use Rattle.type_relations.specs.SolverTerms.{StepsUnlessVars};
 ghost use Rattle.type_relations.specs.Solving.{solver_manner};
+ghost use Rattle.type_relations.specs.Terms.{AskedTerms};
 ghost use Rattle.relation_semantics.specs.Stores.{IsTermIn};
 
 mod meeting;
@@ -351,7 +352,7 @@ pub fn super_combine_tys<Infcx: InferCtxtLike, R: PredicateEmittingRelation<Infc
 ) -> RelateResult<Infcx::Interner, Step<Ty<Infcx::Interner>>>
     requires lawful { (R.state relation.old).lawful }
     requires decides { (R.state relation.old).ambient ≢ Bivariant }
-    requires asked { AskedTys solver_manner (R.state relation.old) a.now b.now }
+    requires asked { AskedTerms solver_manner None (λ m. m.ty) (R.state relation.old) a.now b.now }
     requires a_shallow { let r = R.state relation.old in IsShallow r.store (r.meaning.ty a.now) }
     requires b_shallow { let r = R.state relation.old in IsShallow r.store (r.meaning.ty b.now) }
     ensures stepped { StepsUnlessVars (R.state relation.old) (R.state relation.new) a.now b.now result }
@@ -406,7 +407,7 @@ pub fn super_combine_consts<Infcx: InferCtxtLike, R: PredicateEmittingRelation<I
 ) -> RelateResult<Infcx::Interner, Step<Const<Infcx::Interner>>>
     requires lawful { (R.state relation.old).lawful }
     requires decides { (R.state relation.old).ambient ≢ Bivariant }
-    requires asked { AskedConsts solver_manner (R.state relation.old) a.now b.now }
+    requires asked { AskedTerms solver_manner None (λ m. m.const_) (R.state relation.old) a.now b.now }
     ensures stepped { SteppedConsts solver_manner (R.state relation.old) (R.state relation.new) a.now b.now result }
     ensures combines { ConstsCombine (R.state relation.old) (R.state relation.new) a.now b.now result }
 {
@@ -425,7 +426,7 @@ fn is_left_const<Infcx: InferCtxtLike, R: PredicateEmittingRelation<Infcx>>(
     b: &Const<Infcx::Interner>,
 ) -> bool
     requires lawful { (R.state relation.now).lawful }
-    requires asked { AskedConsts solver_manner (R.state relation.now) a.now b.now }
+    requires asked { AskedTerms solver_manner None (λ m. m.const_) (R.state relation.now) a.now b.now }
     ensures formed { IsTrue result → AreFormedConsts (R.state relation.now).meaning a.now b.now }
     ensures left { IsTrue result → LeavesConst (R.state relation.now) a.now b.now }
     ensures not { IsFalse result → AreFormedConsts (R.state relation.now).meaning a.now b.now →
@@ -445,7 +446,7 @@ fn combine_shallow<Infcx: InferCtxtLike, R: PredicateEmittingRelation<Infcx>>(
 ) -> RelateResult<Infcx::Interner, Step<Const<Infcx::Interner>>>
     requires lawful { (R.state relation.old).lawful }
     requires decides { (R.state relation.old).ambient ≢ Bivariant }
-    requires asked { AskedConsts solver_manner (R.state relation.old) a.now b.now }
+    requires asked { AskedTerms solver_manner None (λ m. m.const_) (R.state relation.old) a.now b.now }
     requires a_shallow { let r = R.state relation.old in IsShallowConst r.store (r.meaning.const_ a.now) }
     requires b_shallow { let r = R.state relation.old in IsShallowConst r.store (r.meaning.const_ b.now) }
     ensures stepped { SteppedConsts solver_manner (R.state relation.old) (R.state relation.new) a.now b.now result }

@@ -4,7 +4,7 @@ ghost use Rattle.relation_terms.specs.Trees.{known};
 ghost use Rattle.relation_terms.specs.Meaning.{kind_tree};
 ghost use Rattle.relation_semantics.specs.Relation.{IsError};
 ghost use Rattle.relation_folds.specs.Outlines.{named};
-ghost use Rattle.type_relations.specs.Forms.{plain, of_item, of_pointer, named_outline, tree_outline, IsFixed};
+ghost use Rattle.type_relations.specs.Forms.{form_alone, of_item, of_pointer, named_outline, tree_outline, IsFixed};
 
 use relation_semantics::variances::alias_item;
 use relation_terms::terms::{Const, ConstKind, Interner, Mutability, Ty, TyForm, TyKind};
@@ -43,7 +43,7 @@ pub(crate) struct Outline<D> {
 }
 
 fn plain_outline<D>(form: Form) -> Outline<D>
-    ensures { result ≡ plain form }
+    ensures { result ≡ form_alone form }
 {
     pointer_outline(form, Mutability::Not)
 }

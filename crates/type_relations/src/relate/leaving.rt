@@ -6,7 +6,7 @@ ghost use Rattle.relation_semantics.specs.Contexts.{KnowsTy, KnowsConst};
 ghost use Rattle.relation_semantics.specs.Errors.{IsOpaqueBeside};
 ghost use Rattle.relation_semantics.specs.Relation.{IsAlias};
 ghost use Rattle.relation_semantics.specs.Settings.{LeavesAliases, LeavesOpaque};
-ghost use Rattle.type_relations.specs.Leaving.{LeavesAs, LeavesConst, StandsAs};
+ghost use Rattle.type_relations.specs.Leaving.{LeftAs, LeavesConst, StandsAs};
 
 use crate::relate::StructurallyRelateAliases;
 use crate::relate::combine::PredicateEmittingRelation;
@@ -113,7 +113,7 @@ pub(crate) fn left_to<Infcx: InferCtxtLike, R: PredicateEmittingRelation<Infcx>>
     left: Standing,
     right: Standing,
 ) -> Leaving
-    ensures { (t u : _) → StandsAs left t → StandsAs right u → LeavesAs (R.state relation.now).kept.settings t u result }
+    ensures { (t u : _) → StandsAs left t → StandsAs right u → LeftAs (R.state relation.now).kept.settings t u result }
 {
     if leaves_aliases::<Infcx, R>(relation) {
         if is_alias(left) {

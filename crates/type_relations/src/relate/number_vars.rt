@@ -137,7 +137,7 @@ pub(crate) fn bind_number<Infcx: InferCtxtLike>(
 }
 
 // Two types of which one is a number variable that can't be bound to the other.
-pub(crate) fn unlike<I: Interner>(a: &Ty<I>, b: &Ty<I>) -> RelateFaultOf<I>
+pub(crate) fn unlike_numbers<I: Interner>(a: &Ty<I>, b: &Ty<I>) -> RelateFaultOf<I>
     ensures { result ≡ Unrelated (Sorts (record { expected = a.now; found = b.now })) }
 {
     RelateFault::Unrelated(TypeError::Sorts(ExpectedFound::new(*a, *b)))

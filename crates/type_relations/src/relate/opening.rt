@@ -1,11 +1,11 @@
 //! Opening binders that are parts of terms.
-ghost use Rattle.std.specs.Prelude.{◌≡◌, ◌≢◌, ◌<◌, IfOk, IfSome, IsTrue};
+ghost use Rattle.std.specs.Prelude.{◌≡◌, ◌≢◌, ◌<◌, None, IfOk, IfSome, IsTrue};
 ghost use Rattle.relation_terms.specs.Parts.{part_tree, part_sort};
 ghost use Rattle.relation_terms.specs.Trees.{known};
 ghost use Rattle.term_enums.specs.declared.Variance.TheVariants.{Bivariant};
-ghost use Rattle.type_relations.specs.Keyed.{AskedParts};
 ghost use Rattle.relation_semantics.specs.Parts.{IsBinderPart, IsRelatedPart, ArePaired};
 ghost use Rattle.type_relations.specs.Rounds.{OpenedParts};
+ghost use Rattle.type_relations.specs.Terms.{AskedTerms};
 
 use crate::relate::TypeRelation;
 use relation_folds::error::RelateResult;
@@ -39,7 +39,7 @@ pub(crate) fn open_bodies<I: Interner, R: TypeRelation<I>>(
     requires lawful { (R.state r.old).lawful }
     requires decides { (R.state r.old).ambient ≢ Bivariant }
     requires round { round < 2 }
-    requires asked { AskedParts R.manner (R.state r.old) a.now b.now }
+    requires asked { AskedTerms R.manner None part_tree (R.state r.old) a.now b.now }
     requires binder { IsBinderPart a.now }
     requires one_sort { part_sort b.now ≡ part_sort a.now }
     ensures opened { OpenedParts R.manner (R.state r.old) (R.state r.new) round a.now b.now result }

@@ -1,5 +1,5 @@
 //! Reading terms through a relation's interner.
-ghost use Rattle.std.specs.Prelude.{◌≡◌, ◌≢◌, ◌↔◌, ◌<◌, IsTrue, OnOk, IfErr};
+ghost use Rattle.std.specs.Prelude.{◌≡◌, ◌≢◌, ◌↔◌, ◌<◌, None, IsTrue, OnOk, IfErr};
 ghost use Rattle.relation_terms.specs.Trees.{known, count, nth, IsList};
 ghost use Rattle.term_enums.specs.declared.Variance.TheVariants.{Bivariant};
 ghost use Rattle.term_enums.specs.Variances.{xform};
@@ -9,7 +9,8 @@ ghost use Rattle.relation_semantics.specs.Relation.{part_at, IsError};
 ghost use Rattle.relation_semantics.specs.Errors.{FormError, ConstFormError, AreOfOneForm, AreOfOneConst, HaveNoError};
 ghost use Rattle.relation_semantics.specs.Parts.{IsFormedConst, IsByParts, IsComparedPart, parts_of, const_parts_of};
 ghost use Rattle.relation_semantics.specs.Parts.{head_of};
-ghost use Rattle.type_relations.specs.Keyed.{AskedTys, ShownTys, NotedTys, AreOver, part_in, const_part_in, declared_in};
+ghost use Rattle.type_relations.specs.Keyed.{ShownTys, NotedTys, AreOver, part_in, const_part_in, declared_in};
+ghost use Rattle.type_relations.specs.Terms.{AskedTerms};
 ghost use Rattle.type_relations.specs.Comparing.{AreOfOneFormBy, PartsDiffer, nth_part, nth_const_part};
 ghost use Rattle.type_relations.specs.Handing.{IsResultOfTy, IsResultOfConst, named_place};
 
@@ -257,7 +258,7 @@ pub(crate) fn term_variance_at<I: Interner, R: TypeRelation<I>>(
 }
 
 // What two types answer where two of their parts have answered that.
-pub(crate) fn in_ty<I: Interner, R: TypeRelation<I>>(
+pub(crate) fn in_ty_of<I: Interner, R: TypeRelation<I>>(
     r: &R,
     ty: &Ty<I>,
     x: &GenericArg<I>,
@@ -271,7 +272,7 @@ pub(crate) fn in_ty<I: Interner, R: TypeRelation<I>>(
 }
 
 // What two constants answer where two of their parts have answered that.
-pub(crate) fn in_const<I: Interner, R: TypeRelation<I>>(
+pub(crate) fn in_const_of<I: Interner, R: TypeRelation<I>>(
     r: &R,
     a: &Const<I>,
     b: &Const<I>,
@@ -307,7 +308,7 @@ pub(crate) fn note_declared<I: Interner, R: TypeRelation<I>>(
 ) -> RelateResult<I, ()>
     requires lawful { (R.state r.old).lawful }
     requires decides { (R.state r.old).ambient ≢ Bivariant }
-    requires asked { AskedTys R.manner (R.state r.old) a.now b.now }
+    requires asked { AskedTerms R.manner None (λ m. m.ty) (R.state r.old) a.now b.now }
     requires over { AreOver (R.state r.old) def_id.now a.now b.now a_args.now b_args.now }
     requires related { ShownTys R.manner (R.state r.old) a.now b.now }
     ensures { NotedTys (R.state r.old) (R.state r.new) a.now b.now result }
@@ -326,7 +327,7 @@ pub(crate) fn note_args<I: Interner, R: TypeRelation<I>>(
 ) -> RelateResult<I, ()>
     requires lawful { (R.state r.old).lawful }
     requires decides { (R.state r.old).ambient ≢ Bivariant }
-    requires asked { AskedTys R.manner (R.state r.old) a.now b.now }
+    requires asked { AskedTerms R.manner None (λ m. m.ty) (R.state r.old) a.now b.now }
     requires one_form { AreOfOneForm ((R.state r.old).meaning.ty a.now) ((R.state r.old).meaning.ty b.now) }
     requires related { ShownTys R.manner (R.state r.old) a.now b.now }
     ensures { NotedTys (R.state r.old) (R.state r.new) a.now b.now result }

@@ -11,7 +11,7 @@ ghost use Rattle.relation_semantics.specs.ContextCalls.{KeepsBeside};
 ghost use Rattle.type_relations.specs.Relating.{KnowsTerm, TakesTerm, HasTerm, AreOne, AnswersTerms};
 ghost use Rattle.type_relations.specs.Relating.{KeepsEqual, TellsApart, AnswersError, AnswersExactly, ProvesApart};
 ghost use Rattle.type_relations.specs.Relating.{RelatesAgreeing};
-ghost use Rattle.type_relations.specs.Completing.{Completes};
+ghost use Rattle.type_relations.specs.Completing.{Complete};
 ghost use Rattle.type_relations.specs.Closed.{LeavesClosed, AsksNothing, SpendsForVariables};
 ghost use Rattle.type_relations.specs.Relating.{AnswersAsked, AnswersOnly, SpendsNoMore, MakesToRelate, BuildsNoMore, Idle};
 ghost use Rattle.type_relations.specs.Terms.{AskedTerms, RelatedTerms, TermsRegister};
@@ -120,7 +120,7 @@ pub trait RelateExt: InferCtxtLike {
         ensures apart { TellsApart Self.state self.old self.new T.over T.tree lhs rhs result }
         ensures errors { AnswersError Self.state self.old self.new T.over T.tree No variance lhs rhs result }
         ensures agrees { RelatesAgreeing Self.state self.old self.new T.over T.tree No variance lhs rhs result }
-        ensures complete { Completes Self.state self.old self.new T.over T.tree No param_env variance lhs rhs result }
+        ensures complete { Complete Self.state self.old self.new T.over T.tree No param_env variance lhs rhs result }
         ensures spent { IfSpent result ((Self.state self.new).store.budget ≡ 0) }
         ensures same { AreOne (Self.state self.old) T.over T.tree lhs rhs → Idle Self.state self.old self.new result }
         ensures alone { AnswersAsked Self.state self.old self.new T.over T.tree No param_env variance lhs rhs result }
@@ -165,7 +165,7 @@ pub trait RelateExt: InferCtxtLike {
         ensures apart { TellsApart Self.state self.old self.new T.over T.tree lhs rhs result }
         ensures errors { AnswersError Self.state self.old self.new T.over T.tree Yes Invariant lhs rhs result }
         ensures agrees { RelatesAgreeing Self.state self.old self.new T.over T.tree Yes Invariant lhs rhs result }
-        ensures complete { Completes Self.state self.old self.new T.over T.tree Yes param_env Invariant lhs rhs result }
+        ensures complete { Complete Self.state self.old self.new T.over T.tree Yes param_env Invariant lhs rhs result }
         ensures spent { IfSpent result ((Self.state self.new).store.budget ≡ 0) }
         ensures same { AreOne (Self.state self.old) T.over T.tree lhs rhs → Idle Self.state self.old self.new result }
         ensures goals { AnswersOnly Self.state self.old self.new Yes param_env Invariant result }
@@ -209,7 +209,7 @@ impl<Infcx: InferCtxtLike> RelateExt for Infcx {
         ensures apart { TellsApart Infcx.state self.old self.new T.over T.tree lhs rhs result }
         ensures errors { AnswersError Infcx.state self.old self.new T.over T.tree No variance lhs rhs result }
         ensures agrees { RelatesAgreeing Infcx.state self.old self.new T.over T.tree No variance lhs rhs result }
-        ensures complete { Completes Infcx.state self.old self.new T.over T.tree No param_env variance lhs rhs result }
+        ensures complete { Complete Infcx.state self.old self.new T.over T.tree No param_env variance lhs rhs result }
         ensures spent { IfSpent result ((Infcx.state self.new).store.budget ≡ 0) }
         ensures same { AreOne (Infcx.state self.old) T.over T.tree lhs rhs → Idle Infcx.state self.old self.new result }
         ensures alone { AnswersAsked Infcx.state self.old self.new T.over T.tree No param_env variance lhs rhs result }
@@ -261,8 +261,7 @@ impl<Infcx: InferCtxtLike> RelateExt for Infcx {
         ensures apart { TellsApart Infcx.state self.old self.new T.over T.tree lhs rhs result }
         ensures errors { AnswersError Infcx.state self.old self.new T.over T.tree Yes Invariant lhs rhs result }
         ensures agrees { RelatesAgreeing Infcx.state self.old self.new T.over T.tree Yes Invariant lhs rhs result }
-        ensures complete { Completes Infcx.state self.old self.new T.over T.tree Yes param_env Invariant lhs rhs
-            result }
+        ensures complete { Complete Infcx.state self.old self.new T.over T.tree Yes param_env Invariant lhs rhs result }
         ensures spent { IfSpent result ((Infcx.state self.new).store.budget ≡ 0) }
         ensures same { AreOne (Infcx.state self.old) T.over T.tree lhs rhs → Idle Infcx.state self.old self.new result }
         ensures goals { AnswersOnly Infcx.state self.old self.new Yes param_env Invariant result }

@@ -9,16 +9,12 @@ ghost use Rattle.relation_terms.specs.Meaning.{arg_tree, signature_tree, existen
 ghost use Rattle.relation_terms.specs.Parts.{part_tree, part_sort};
 ghost use Rattle.relation_semantics.specs.Parts.{IsFormed, IsFormedConst, IsByParts, IsRelatedPart, IsComparedPart};
 ghost use Rattle.relation_semantics.specs.Parts.{IsBinderPart, ArePaired};
-ghost use Rattle.type_relations.specs.Keyed.{AskedArgs, AskedArgsAt, AskedConsts, AskedPats, AskedParts, AskedTys};
-ghost use Rattle.type_relations.specs.Keyed.{AskedPartsAt, RelatedArgs, RelatedArgsAt, RelatedConsts, RelatedPats};
-ghost use Rattle.type_relations.specs.Keyed.{RelatedConstForms, RelatedParts, RelatedPartForms, RelatedPartsAt};
-ghost use Rattle.type_relations.specs.Keyed.{RelatedTys, RelatedTyForms};
-ghost use Rattle.type_relations.specs.Keyed.{ArgsRelateAlone, TysRelateAlone};
 ghost use Rattle.relation_semantics.specs.Making.{arg_sort};
 ghost use Rattle.type_relations.specs.Arguments.{IsSkipped};
 ghost use Rattle.type_relations.specs.Comparing.{AreOfOneFormBy, object_members};
 ghost use Rattle.type_relations.specs.PredicateForms.{predicate_form, form_of_part};
-ghost use Rattle.type_relations.specs.Terms.{AskedTerms, RelatedTerms};
+ghost use Rattle.type_relations.specs.Terms.{AskedTerms, AskedAt, RelatedTerms, RelatedAt, RelatedTermForms};
+ghost use Rattle.type_relations.specs.Terms.{TermsRegister};
 
 use crate::relate::handing::in_part;
 use crate::relate::making::{make_const, make_part, make_ty};
@@ -26,9 +22,9 @@ use crate::relate::opening::{is_same_of, open_bodies};
 use crate::relate::parts::{PartKind, kind_of_part, the_object};
 use crate::relate::reading::{
     compare_consts_of, compare_members_of, compare_parts_of, compare_tys_of, const_part_of,
-    const_parts_count_of, const_variance_at, in_const, in_ty, is_by_parts_of, is_error_const_of,
-    is_error_of, named_place_of, note_args, part_of, parts_count_of, term_part_of,
-    term_parts_count_of, term_variance_at, variance_at,
+    const_parts_count_of, const_variance_at, in_const_of, in_ty_of, is_by_parts_of,
+    is_error_const_of, is_error_of, named_place_of, note_args, part_of, parts_count_of,
+    term_part_of, term_parts_count_of, term_variance_at, variance_at,
 };
 use crate::relate::{Step, TypeRelation};
 use relation_folds::error::{RelateFault, RelateResult, TypeError};
@@ -58,9 +54,9 @@ pub fn tys<I: Interner, R: TypeRelation<I>>(
 ) -> RelateResult<I, Ty<I>>
     requires lawful { (R.state r.old).lawful }
     requires decides { (R.state r.old).ambient ≢ Bivariant }
-    requires asked { AskedTys R.manner (R.state r.old) a.now b.now }
-    ensures related { RelatedTys R.manner (R.state r.old) (R.state r.new) a.now b.now result }
-    ensures registers { TysRelateAlone R.manner (R.state r.old) (R.state r.new) a.now b.now result }
+    requires asked { AskedTerms R.manner None (λ m. m.ty) (R.state r.old) a.now b.now }
+    ensures related { RelatedTerms R.manner None (λ m. m.ty) (R.state r.old) (R.state r.new) a.now b.now result }
+    ensures registers { TermsRegister R.manner None (λ m. m.ty) (R.state r.old) (R.state r.new) a.now b.now result }
 {
     match r.tys(a, b)? {
         Step::Done(answer) => Ok(answer),
@@ -94,8 +90,8 @@ pub fn consts<I: Interner, R: TypeRelation<I>>(
 ) -> RelateResult<I, Const<I>>
     requires lawful { (R.state r.old).lawful }
     requires decides { (R.state r.old).ambient ≢ Bivariant }
-    requires asked { AskedConsts R.manner (R.state r.old) a.now b.now }
-    ensures { RelatedConsts R.manner (R.state r.old) (R.state r.new) a.now b.now result }
+    requires asked { AskedTerms R.manner None (λ m. m.const_) (R.state r.old) a.now b.now }
+    ensures { RelatedTerms R.manner None (λ m. m.const_) (R.state r.old) (R.state r.new) a.now b.now result }
 {
     match r.consts(a, b)? {
         Step::Done(answer) => Ok(answer),
@@ -127,9 +123,9 @@ pub fn relate<I: Interner, R: TypeRelation<I>>(
 ) -> RelateResult<I, GenericArg<I>>
     requires lawful { (R.state r.old).lawful }
     requires decides { (R.state r.old).ambient ≢ Bivariant }
-    requires asked { AskedArgs R.manner (R.state r.old) a.now b.now }
-    ensures related { RelatedArgs R.manner (R.state r.old) (R.state r.new) a.now b.now result }
-    ensures registers { ArgsRelateAlone R.manner (R.state r.old) (R.state r.new) a.now b.now result }
+    requires asked { AskedTerms R.manner None arg_tree (R.state r.old) a.now b.now }
+    ensures related { RelatedTerms R.manner None arg_tree (R.state r.old) (R.state r.new) a.now b.now result }
+    ensures registers { TermsRegister R.manner None arg_tree (R.state r.old) (R.state r.new) a.now b.now result }
     ensures kind { IfOk result (λ k. arg_sort k ≡ arg_sort a.now) }
 {
     match a {
@@ -167,8 +163,8 @@ pub fn relate_with_variance<I: Interner, R: TypeRelation<I>>(
     b: &GenericArg<I>,
 ) -> RelateResult<I, GenericArg<I>>
     requires lawful { (R.state r.old).lawful }
-    requires asked { AskedArgsAt R.manner (R.state r.old) variance a.now b.now }
-    ensures related { RelatedArgsAt R.manner (R.state r.old) (R.state r.new) variance a.now b.now result }
+    requires asked { AskedAt R.manner None arg_tree (R.state r.old) variance a.now b.now }
+    ensures related { RelatedAt R.manner None arg_tree (R.state r.old) (R.state r.new) variance a.now b.now result }
     ensures skipped { IsSkipped (xform (R.state r.old).ambient variance) r.old r.new a.now result }
     ensures kind { IfOk result (λ k. arg_sort k ≡ arg_sort a.now) }
 {
@@ -198,10 +194,10 @@ pub fn structurally_relate_tys<I: Interner, R: TypeRelation<I>>(
 ) -> RelateResult<I, Ty<I>>
     requires lawful { (R.state r.old).lawful }
     requires decides { (R.state r.old).ambient ≢ Bivariant }
-    requires asked { AskedTys R.manner (R.state r.old) a.now b.now }
+    requires asked { AskedTerms R.manner None (λ m. m.ty) (R.state r.old) a.now b.now }
     requires a_formed { IsFormed ((R.state r.old).meaning.ty a.now) }
     requires b_formed { IsFormed ((R.state r.old).meaning.ty b.now) }
-    ensures { RelatedTyForms R.manner (R.state r.old) (R.state r.new) a.now b.now result }
+    ensures { RelatedTermForms R.manner None (λ m. m.ty) (R.state r.old) (R.state r.new) a.now b.now result }
 {
     if is_error_of::<I, R>(r, a) {
         return Ok(*a);
@@ -220,7 +216,7 @@ pub fn structurally_relate_tys<I: Interner, R: TypeRelation<I>>(
         let y = part_of::<I, R>(r, b, i);
         let variance = variance_at::<I, R>(r, a, i);
         let related = relate_with_variance(r, variance, &x, &y);
-        let answer = in_ty::<I, R>(r, a, &x, &y, related)?;
+        let answer = in_ty_of::<I, R>(r, a, &x, &y, related)?;
         answers.push(answer)?;
     }
     note_args(r, a, b)?;
@@ -242,10 +238,10 @@ pub fn structurally_relate_consts<I: Interner, R: TypeRelation<I>>(
 ) -> RelateResult<I, Const<I>>
     requires lawful { (R.state r.old).lawful }
     requires decides { (R.state r.old).ambient ≢ Bivariant }
-    requires asked { AskedConsts R.manner (R.state r.old) a.now b.now }
+    requires asked { AskedTerms R.manner None (λ m. m.const_) (R.state r.old) a.now b.now }
     requires a_formed { IsFormedConst ((R.state r.old).meaning.const_ a.now) }
     requires b_formed { IsFormedConst ((R.state r.old).meaning.const_ b.now) }
-    ensures { RelatedConstForms R.manner (R.state r.old) (R.state r.new) a.now b.now result }
+    ensures { RelatedTermForms R.manner None (λ m. m.const_) (R.state r.old) (R.state r.new) a.now b.now result }
 {
     if is_error_const_of::<I, R>(r, a) {
         return Ok(*a);
@@ -261,7 +257,7 @@ pub fn structurally_relate_consts<I: Interner, R: TypeRelation<I>>(
         let y = const_part_of::<I, R>(r, b, i);
         let variance = const_variance_at::<I, R>(r, a);
         let related = relate_with_variance(r, variance, &x, &y);
-        let answer = in_const::<I, R>(r, a, b, related)?;
+        let answer = in_const_of::<I, R>(r, a, b, related)?;
         answers.push(answer)?;
     }
     make_const(r, a, answers.as_slice())
@@ -279,8 +275,8 @@ pub fn pats<I: Interner, R: TypeRelation<I>>(
 ) -> RelateResult<I, Pat<I>>
     requires lawful { (R.state r.old).lawful }
     requires decides { (R.state r.old).ambient ≢ Bivariant }
-    requires asked { AskedPats R.manner (R.state r.old) a.now b.now }
-    ensures { RelatedPats R.manner (R.state r.old) (R.state r.new) a.now b.now result }
+    requires asked { AskedTerms R.manner None (λ m. m.pat) (R.state r.old) a.now b.now }
+    ensures { RelatedTerms R.manner None (λ m. m.pat) (R.state r.old) (R.state r.new) a.now b.now result }
 {
     Ok(the_pat(&relate_parts(r, &Part::Pat(*a), &Part::Pat(*b))?))
 }
@@ -353,11 +349,11 @@ fn relate_in_order<I: Interner, R: TypeRelation<I>>(
 ) -> RelateResult<I, PartOf<I>>
     requires lawful { (R.state r.old).lawful }
     requires decides { (R.state r.old).ambient ≢ Bivariant }
-    requires asked { AskedParts R.manner (R.state r.old) a.now b.now }
+    requires asked { AskedTerms R.manner None part_tree (R.state r.old) a.now b.now }
     requires form { IsByParts (part_tree (R.state r.old).meaning a.now) }
     requires one_sort { part_sort b.now ≡ part_sort a.now }
     requires alike { AreOfOneFormBy part_tree (R.state r.old).meaning a.now b.now }
-    ensures related { RelatedPartForms R.manner (R.state r.old) (R.state r.new) a.now b.now result }
+    ensures related { RelatedTermForms R.manner None part_tree (R.state r.old) (R.state r.new) a.now b.now result }
     ensures sort { IfOk result (λ p. part_sort p ≡ part_sort a.now) }
     ensures predicate { IfOk result (λ p. form_of_part p ≡ form_of_part a.now) }
 {
@@ -387,10 +383,10 @@ fn relate_parts_with_variance<I: Interner, R: TypeRelation<I>>(
 ) -> RelateResult<I, PartOf<I>>
     requires lawful { (R.state r.old).lawful }
     requires decides { xform (R.state r.old).ambient variance ≢ Bivariant }
-    requires asked { AskedPartsAt R.manner (R.state r.old) variance a.now b.now }
+    requires asked { AskedAt R.manner None part_tree (R.state r.old) variance a.now b.now }
     requires kind { IsRelatedPart a.now }
     requires paired { ArePaired a.now b.now }
-    ensures related { RelatedPartsAt R.manner (R.state r.old) (R.state r.new) variance a.now b.now result }
+    ensures related { RelatedAt R.manner None part_tree (R.state r.old) (R.state r.new) variance a.now b.now result }
     ensures sort { IfOk result (λ p. part_sort p ≡ part_sort a.now) }
     ensures alike { IsComparedPart a.now → OnOk result (AreOfOneFormBy part_tree (R.state r.old).meaning a.now b.now) }
 {
@@ -411,10 +407,10 @@ fn relate_parts<I: Interner, R: TypeRelation<I>>(
 ) -> RelateResult<I, PartOf<I>>
     requires lawful { (R.state r.old).lawful }
     requires decides { (R.state r.old).ambient ≢ Bivariant }
-    requires asked { AskedParts R.manner (R.state r.old) a.now b.now }
+    requires asked { AskedTerms R.manner None part_tree (R.state r.old) a.now b.now }
     requires kind { IsRelatedPart a.now }
     requires paired { ArePaired a.now b.now }
-    ensures related { RelatedParts R.manner (R.state r.old) (R.state r.new) a.now b.now result }
+    ensures related { RelatedTerms R.manner None part_tree (R.state r.old) (R.state r.new) a.now b.now result }
     ensures sort { IfOk result (λ p. part_sort p ≡ part_sort a.now) }
     ensures predicate { IfOk result (λ p. form_of_part p ≡ form_of_part a.now) }
     ensures alike { IsComparedPart a.now → OnOk result (AreOfOneFormBy part_tree (R.state r.old).meaning a.now b.now) }
@@ -441,10 +437,10 @@ fn binders<I: Interner, R: TypeRelation<I>>(
 ) -> RelateResult<I, PartOf<I>>
     requires lawful { (R.state r.old).lawful }
     requires decides { (R.state r.old).ambient ≢ Bivariant }
-    requires asked { AskedParts R.manner (R.state r.old) a.now b.now }
+    requires asked { AskedTerms R.manner None part_tree (R.state r.old) a.now b.now }
     requires binder { IsBinderPart a.now }
     requires one_sort { part_sort b.now ≡ part_sort a.now }
-    ensures related { RelatedParts R.manner (R.state r.old) (R.state r.new) a.now b.now result }
+    ensures related { RelatedTerms R.manner None part_tree (R.state r.old) (R.state r.new) a.now b.now result }
     ensures sort { IfOk result (λ p. part_sort p ≡ part_sort a.now) }
 {
     if is_same_of::<I, R>(r, a, b) {

@@ -1,5 +1,5 @@
 //! Relations in steps, none of which relates anything by itself.
-ghost use Rattle.std.specs.Prelude.{◌≡◌, ◌≢◌, ◌<◌, IfSome, IfNone};
+ghost use Rattle.std.specs.Prelude.{◌≡◌, ◌≢◌, ◌<◌, None, IfSome, IfNone};
 ghost use Rattle.std.specs.Borrow.{sem, Lends};
 ghost use Rattle.term_enums.specs.declared.Variance.{Variance};
 ghost use Rattle.term_enums.specs.declared.Variance.TheVariants.{Invariant, Bivariant};
@@ -8,9 +8,9 @@ ghost use Rattle.relation_semantics.specs.Lawful.{State, Manners, TakesParts, Tu
 ghost use Rattle.relation_semantics.specs.Lawful.{RelatesByDeclared, RemembersRelated};
 ghost use Rattle.type_relations.specs.Following.{FollowsInterner};
 ghost use Rattle.type_relations.specs.Rounds.{AskedBinders, OpenedBinders};
-ghost use Rattle.type_relations.specs.Keyed.{AskedConsts, AskedRegions, AskedTys, RelatedRegions, ShownTys, TysAskNone};
-ghost use Rattle.type_relations.specs.Keyed.{SteppedConsts, SteppedTys, TysStepAlone, AreOver, RecordsAsked, NotedTys};
-ghost use Rattle.type_relations.specs.Keyed.{variances_in, Decides};
+ghost use Rattle.type_relations.specs.Keyed.{RelatedRegions, ShownTys, TysAskNone, SteppedConsts, SteppedTys};
+ghost use Rattle.type_relations.specs.Keyed.{TysStepAlone, AreOver, RecordsAsked, NotedTys, variances_in, Decides};
+ghost use Rattle.type_relations.specs.Terms.{AskedTerms};
 
 use crate::relate::Step;
 use relation_folds::error::RelateResult;
@@ -76,7 +76,7 @@ pub trait TypeRelation<I: Interner>: HasState<I> {
     fn tys(&mut self, a: &Ty<I>, b: &Ty<I>) -> RelateResult<I, Step<Ty<I>>>
         requires lawful { (Self.state self.old).lawful }
         requires decides { (Self.state self.old).ambient ≢ Bivariant }
-        requires asked { AskedTys manner (Self.state self.old) a.now b.now }
+        requires asked { AskedTerms manner None (λ m. m.ty) (Self.state self.old) a.now b.now }
         ensures stepped { SteppedTys manner (Self.state self.old) (Self.state self.new) a.now b.now result }
         ensures registers { TysStepAlone manner (Self.state self.old) (Self.state self.new) a.now b.now result };
 
@@ -84,14 +84,14 @@ pub trait TypeRelation<I: Interner>: HasState<I> {
     fn consts(&mut self, a: &Const<I>, b: &Const<I>) -> RelateResult<I, Step<Const<I>>>
         requires lawful { (Self.state self.old).lawful }
         requires decides { (Self.state self.old).ambient ≢ Bivariant }
-        requires asked { AskedConsts manner (Self.state self.old) a.now b.now }
+        requires asked { AskedTerms manner None (λ m. m.const_) (Self.state self.old) a.now b.now }
         ensures { SteppedConsts manner (Self.state self.old) (Self.state self.new) a.now b.now result };
 
     /// Relates two regions.
     fn regions(&mut self, a: &Region<I>, b: &Region<I>) -> RelateResult<I, Region<I>>
         requires lawful { (Self.state self.old).lawful }
         requires decides { (Self.state self.old).ambient ≢ Bivariant }
-        requires asked { AskedRegions manner (Self.state self.old) a.now b.now }
+        requires asked { AskedTerms manner None (λ m. m.region) (Self.state self.old) a.now b.now }
         ensures related { RelatedRegions manner (Self.state self.old) (Self.state self.new) a.now b.now result }
         ensures recorded { RecordsAsked manner (Self.state self.old) (Self.state self.new) a.now b.now result };
 
@@ -119,7 +119,7 @@ pub trait TypeRelation<I: Interner>: HasState<I> {
     fn tys_done(&mut self, a: &Ty<I>, b: &Ty<I>) -> RelateResult<I, ()>
         requires lawful { (Self.state self.old).lawful }
         requires decides { (Self.state self.old).ambient ≢ Bivariant }
-        requires asked { AskedTys manner (Self.state self.old) a.now b.now }
+        requires asked { AskedTerms manner None (λ m. m.ty) (Self.state self.old) a.now b.now }
         requires related { ShownTys manner (Self.state self.old) a.now b.now }
         requires alone { TysAskNone (Self.state self.old) a.now b.now }
         ensures { NotedTys (Self.state self.old) (Self.state self.new) a.now b.now result };
@@ -136,7 +136,7 @@ pub trait TypeRelation<I: Interner>: HasState<I> {
     ) -> RelateResult<I, ()>
         requires lawful { (Self.state self.old).lawful }
         requires decides { (Self.state self.old).ambient ≢ Bivariant }
-        requires asked { AskedTys manner (Self.state self.old) a_ty.now b_ty.now }
+        requires asked { AskedTerms manner None (λ m. m.ty) (Self.state self.old) a_ty.now b_ty.now }
         requires by_declared { RelatesByDeclared (Self.state self.old) }
         requires over { AreOver (Self.state self.old) def_id.now a_ty.now b_ty.now a_args.now b_args.now }
         requires related { ShownTys manner (Self.state self.old) a_ty.now b_ty.now }

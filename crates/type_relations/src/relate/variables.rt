@@ -3,9 +3,8 @@ ghost use Rattle.std.specs.Prelude.{◌≡◌, ℕ, false, not, IsTrue, IsFalse,
 ghost use Rattle.relation_terms.specs.Flags.{has_non_region_infer};
 ghost use Rattle.relation_terms.specs.Trees.{known};
 ghost use Rattle.relation_semantics.specs.Contexts.{KnowsTy, KnowsConst};
-ghost use Rattle.relation_semantics.specs.Relation.{StaysWithin};
-ghost use Rattle.relation_semantics.specs.Parts.{IsFormed, IsFormedConst};
-ghost use Rattle.type_relations.specs.Variables.{MeansTyVar, MeansConstVar, one_has_variable};
+ghost use Rattle.type_relations.specs.Variables.{MeansTyVar, MeansConstVar, IsFormedWithin, IsFormedConstWithin};
+ghost use Rattle.type_relations.specs.Variables.{one_has_variable};
 
 use relation_semantics::infer_ctxt::InferCtxtLike;
 pub use relation_semantics::variable_forms::{const_vid, float_vid, int_vid, ty_vid};
@@ -27,8 +26,7 @@ pub(crate) fn const_var<Infcx: InferCtxtLike>(
 ) -> Option<ConstVid>
     requires { KnowsConst (Infcx.state infcx.now) constant.now }
     ensures is { IfSome result (λ v. MeansConstVar (Infcx.state infcx.now) constant.now v.0) }
-    ensures formed { let t = ((Infcx.state infcx.now).meaning).const_ constant.now in
-        IfNone result (StaysWithin 0 t → IsFormedConst t) }
+    ensures formed { IfNone result (IsFormedConstWithin (Infcx.state infcx.now).meaning constant.now) }
 {
     const_vid(&infcx.cx().const_kind(constant))
 }
@@ -37,8 +35,7 @@ pub(crate) fn const_var<Infcx: InferCtxtLike>(
 fn has_no_variable<I: Interner>(cx: &I, ty: &Ty<I>) -> bool
     requires { IsTrue (known ((I.meaning cx.now).ty ty.now)) }
     ensures tells { result ≡ not (has_non_region_infer ((I.meaning cx.now).ty ty.now)) }
-    ensures formed { let t = (I.meaning cx.now).ty ty.now in
-        IsTrue result → StaysWithin 0 t → IsFormed t }
+    ensures formed { IsTrue result → IsFormedWithin (I.meaning cx.now) ty.now }
 {
     !cx.ty_flags(ty).has_non_region_infer
 }
@@ -53,10 +50,8 @@ pub(crate) fn have_no_variable<Infcx: InferCtxtLike>(
     requires b_known { KnowsTy (Infcx.state infcx.now) b.now }
     ensures none { IsTrue result → one_has_variable (Infcx.state infcx.now).meaning a.now b.now ≡ false }
     ensures one { IsFalse result → IsTrue (one_has_variable (Infcx.state infcx.now).meaning a.now b.now) }
-    ensures a_formed { let t = ((Infcx.state infcx.now).meaning).ty a.now in
-        IsTrue result → StaysWithin 0 t → IsFormed t }
-    ensures b_formed { let t = ((Infcx.state infcx.now).meaning).ty b.now in
-        IsTrue result → StaysWithin 0 t → IsFormed t }
+    ensures a_formed { IsTrue result → IsFormedWithin (Infcx.state infcx.now).meaning a.now }
+    ensures b_formed { IsTrue result → IsFormedWithin (Infcx.state infcx.now).meaning b.now }
 {
     let cx = infcx.cx();
     if !has_no_variable(cx, a) {

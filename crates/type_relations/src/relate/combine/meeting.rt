@@ -6,7 +6,7 @@ ghost use Rattle.relation_semantics.specs.Contexts.{KnowsTy, KnowsConst, HasTy, 
 ghost use Rattle.relation_semantics.specs.ContextCalls.{Grows, Stands};
 ghost use Rattle.relation_semantics.specs.Resolving.{IsShallow, IsShallowConst};
 
-use crate::relate::number_vars::{bind_number, equate_numbers, number_var, unlike};
+use crate::relate::number_vars::{bind_number, equate_numbers, number_var, unlike_numbers};
 use crate::relate::variables::{const_var, ty_var};
 use crate::relate::{Step, StructurallyRelateAliases};
 use relation_folds::error::RelateResult;
@@ -56,13 +56,13 @@ pub(crate) fn meet_tys<Infcx: InferCtxtLike>(
         Some(x) => match number_var(&*infcx, b) {
             Some(y) => {
                 if !equate_numbers(infcx, x, y) {
-                    return Err(unlike::<Infcx::Interner>(a, b));
+                    return Err(unlike_numbers::<Infcx::Interner>(a, b));
                 }
                 Ok(Step::Done(*a))
             }
             None => {
                 if !bind_number(infcx, x, b) {
-                    return Err(unlike::<Infcx::Interner>(a, b));
+                    return Err(unlike_numbers::<Infcx::Interner>(a, b));
                 }
                 Ok(Step::Done(*b))
             }
@@ -70,13 +70,13 @@ pub(crate) fn meet_tys<Infcx: InferCtxtLike>(
         None => match number_var(&*infcx, b) {
             Some(y) => {
                 if !bind_number(infcx, y, a) {
-                    return Err(unlike::<Infcx::Interner>(a, b));
+                    return Err(unlike_numbers::<Infcx::Interner>(a, b));
                 }
                 Ok(Step::Done(*a))
             }
             None => {
                 if !are_no_ty_vars(&*infcx, a, b) {
-                    return Err(unlike::<Infcx::Interner>(a, b));
+                    return Err(unlike_numbers::<Infcx::Interner>(a, b));
                 }
                 Ok(Step::Parts { a: *a, b: *b })
             }

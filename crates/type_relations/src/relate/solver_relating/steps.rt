@@ -8,7 +8,6 @@ ghost use Rattle.relation_semantics.specs.Contexts.{KnowsTy};
 ghost use Rattle.relation_semantics.specs.ContextCalls.{IsUnresolved};
 ghost use Rattle.relation_semantics.specs.Lawful.{RelatesByDeclared};
 ghost use Rattle.relation_semantics.specs.Resolving.{IsShallow};
-ghost use Rattle.type_relations.specs.Keyed.{AskedConsts, AskedRegions, AskedTys};
 ghost use Rattle.type_relations.specs.Rounds.{AskedBinders};
 ghost use Rattle.type_relations.specs.Solving.{solver_manner};
 ghost use Rattle.type_relations.specs.SolverTerms.{KeepsGoals, SolverCombinesShallow, SolverCombinesVars};
@@ -16,7 +15,7 @@ ghost use Rattle.type_relations.specs.SolverTerms.{SolverOpened, SolverRelatedRe
 ghost use Rattle.type_relations.specs.SolverTerms.{SolverIsOver, SolverNotedTys};
 ghost use Rattle.type_relations.specs.SolverTerms.{SolverStepped, SolverSteps, SolverStepsBinders, SolverStepsConsts};
 ghost use Rattle.type_relations.specs.SolverTerms.{SolverStepsRead, SolverStepsRegions, SolverStepsAlone, SolverStepsTys};
-ghost use Rattle.type_relations.specs.SolverTerms.{solver_through};
+ghost use Rattle.type_relations.specs.SolverTerms.{SolverTakes, solver_through};
 
 use crate::relate::Step;
 use crate::relate::combine::{
@@ -63,7 +62,7 @@ impl<'a, Infcx: InferCtxtLike> SolverRelating<'a, Infcx> {
     ) -> RelateResult<Infcx::Interner, Step<Ty<Infcx::Interner>>>
         requires lawful { (solver_through Infcx.state self.old).lawful }
         requires decides { self.old.ambient_variance ≢ Bivariant }
-        requires asked { AskedTys solver_manner (solver_through Infcx.state self.old) a.now b.now }
+        requires asked { SolverTakes Infcx.state (λ m. m.ty) self.old a.now b.now }
         ensures stepped { SolverSteps Infcx.state self.old self.new a.now b.now result }
         ensures steps { SolverStepsTys Infcx.state self.old self.new a.now b.now result }
         ensures alone { SolverStepsAlone Infcx.state self.old self.new a.now b.now result }
@@ -88,7 +87,7 @@ impl<'a, Infcx: InferCtxtLike> SolverRelating<'a, Infcx> {
     ) -> RelateResult<Infcx::Interner, Step<Ty<Infcx::Interner>>>
         requires lawful { (solver_through Infcx.state self.old).lawful }
         requires decides { self.old.ambient_variance ≢ Bivariant }
-        requires asked { AskedTys solver_manner (solver_through Infcx.state self.old) a.now b.now }
+        requires asked { SolverTakes Infcx.state (λ m. m.ty) self.old a.now b.now }
         requires a_shallow { let r = Infcx.state self.old.infcx.now in IsShallow r.store ((r.meaning).ty a.now) }
         requires b_shallow { let r = Infcx.state self.old.infcx.now in IsShallow r.store ((r.meaning).ty b.now) }
         ensures stepped { SolverSteps Infcx.state self.old self.new a.now b.now result }
@@ -115,7 +114,7 @@ impl<'a, Infcx: InferCtxtLike> SolverRelating<'a, Infcx> {
     ) -> RelateResult<Infcx::Interner, Step<Ty<Infcx::Interner>>>
         requires lawful { (solver_through Infcx.state self.old).lawful }
         requires decides { self.old.ambient_variance ≢ Bivariant }
-        requires asked { AskedTys solver_manner (solver_through Infcx.state self.old) a.now b.now }
+        requires asked { SolverTakes Infcx.state (λ m. m.ty) self.old a.now b.now }
         requires a_shallow { let r = Infcx.state self.old.infcx.now in IsShallow r.store ((r.meaning).ty a.now) }
         requires b_shallow { let r = Infcx.state self.old.infcx.now in IsShallow r.store ((r.meaning).ty b.now) }
         ensures stepped { SolverSteps Infcx.state self.old self.new a.now b.now result }
@@ -143,7 +142,7 @@ impl<'a, Infcx: InferCtxtLike> SolverRelating<'a, Infcx> {
     ) -> RelateResult<Infcx::Interner, Step<Ty<Infcx::Interner>>>
         requires lawful { (solver_through Infcx.state self.old).lawful }
         requires decides { self.old.ambient_variance ≢ Bivariant }
-        requires asked { AskedTys solver_manner (solver_through Infcx.state self.old) a.now b.now }
+        requires asked { SolverTakes Infcx.state (λ m. m.ty) self.old a.now b.now }
         requires a_is { ((Infcx.state self.old.infcx.now).meaning).ty a.now ≡ leaf (variable type_var x.0) }
         requires a_unresolved { IsUnresolved (Infcx.state self.old.infcx.now) type_var x.0 }
         requires b_is { IsNoTyVar (((Infcx.state self.old.infcx.now).meaning).ty b.now) }
@@ -177,7 +176,7 @@ impl<'a, Infcx: InferCtxtLike> SolverRelating<'a, Infcx> {
     ) -> RelateResult<Infcx::Interner, Step<Ty<Infcx::Interner>>>
         requires lawful { (solver_through Infcx.state self.old).lawful }
         requires decides { self.old.ambient_variance ≢ Bivariant }
-        requires asked { AskedTys solver_manner (solver_through Infcx.state self.old) a.now b.now }
+        requires asked { SolverTakes Infcx.state (λ m. m.ty) self.old a.now b.now }
         requires b_is { ((Infcx.state self.old.infcx.now).meaning).ty b.now ≡ leaf (variable type_var y.0) }
         requires b_unresolved { IsUnresolved (Infcx.state self.old.infcx.now) type_var y.0 }
         requires a_is { IsNoTyVar (((Infcx.state self.old.infcx.now).meaning).ty a.now) }
@@ -243,7 +242,7 @@ impl<'a, Infcx: InferCtxtLike> SolverRelating<'a, Infcx> {
     ) -> RelateResult<Infcx::Interner, Step<Const<Infcx::Interner>>>
         requires lawful { (solver_through Infcx.state self.old).lawful }
         requires decides { self.old.ambient_variance ≢ Bivariant }
-        requires asked { AskedConsts solver_manner (solver_through Infcx.state self.old) a.now b.now }
+        requires asked { SolverTakes Infcx.state (λ m. m.const_) self.old a.now b.now }
         ensures stepped { SolverStepped Infcx.state self.old self.new a.now b.now result }
         ensures steps { SolverStepsConsts Infcx.state self.old self.new a.now b.now result }
     {
@@ -265,7 +264,7 @@ impl<'a, Infcx: InferCtxtLike> SolverRelating<'a, Infcx> {
     ) -> RelateResult<Infcx::Interner, Region<Infcx::Interner>>
         requires lawful { (solver_through Infcx.state self.old).lawful }
         requires decides { self.old.ambient_variance ≢ Bivariant }
-        requires asked { AskedRegions solver_manner (solver_through Infcx.state self.old) a.now b.now }
+        requires asked { SolverTakes Infcx.state (λ m. m.region) self.old a.now b.now }
         ensures related { SolverRelatedRegions Infcx.state self.old self.new a.now b.now result }
         ensures steps { SolverStepsRegions Infcx.state self.old self.new a.now b.now result }
         ensures registers_nothing { KeepsGoals Infcx.state self.old self.new }
@@ -334,7 +333,7 @@ impl<'a, Infcx: InferCtxtLike> SolverRelating<'a, Infcx> {
         b_args: &GenericArgs<Infcx::Interner>,
     ) -> RelateResult<Infcx::Interner, ()>
         requires lawful { (solver_through Infcx.state self.old).lawful }
-        requires asked { AskedTys solver_manner (solver_through Infcx.state self.old) a_ty.now b_ty.now }
+        requires asked { SolverTakes Infcx.state (λ m. m.ty) self.old a_ty.now b_ty.now }
         requires by_declared { RelatesByDeclared (solver_through Infcx.state self.old) }
         requires over { SolverIsOver Infcx.state self.old def_id.now a_ty.now b_ty.now a_args.now b_args.now }
         ensures noted { SolverNotedTys Infcx.state self.old self.new a_ty.now b_ty.now result }

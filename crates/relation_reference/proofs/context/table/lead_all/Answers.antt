@@ -1,7 +1,11 @@
-use Rattle.std.proofs.Common.{◌<◌, ap, ◌∙◌, arith, length, slice_set}
+use Rattle.std.proofs.Common.{◌<◌, sym, ap, ◌∙◌, arith, length, slice_set}
 use Rattle.std.proofs.lemmas.List.Edits.{map_over_more}
 use Rattle.relation_reference.specs.Variables.{led_variable}
+use Rattle.relation_reference.proofs.Linking.{none_before}
 use Rattle.relation_reference.proofs.context.table.lead_all.Goals as goal
+
+pub loop-i-init : goal.loop-i-init
+loop-i-init g c = sym (none_before c.args.child c.args.root c.args.table.now.items c.requires)
 
 pub loop-i-preserved : goal.loop-i-preserved
 loop-i-preserved g c =

@@ -7,7 +7,7 @@ use Rattle.relation_semantics.specs.ContextCalls.{Stands}
 use Rattle.relation_semantics.specs.Resolving.{IsShallow}
 use Rattle.relation_semantics.proofs.Passing.{as_err}
 use Rattle.type_relations.specs.Combining.{MeetsTys, left_error, right_error, not_left}
-use Rattle.type_relations.specs.Leaving.{LeavesAs, StandsAs}
+use Rattle.type_relations.specs.Leaving.{LeftAs, StandsAs}
 use Rattle.type_relations.proofs.Combining.{combined_later, types_stepped, types_met}
 use Rattle.type_relations.proofs.CombiningTys.{stands_there, error_left, error_right, to_goal, not_to_goal, to_open, not_to_open}
 use Rattle.type_relations.proofs.Leaving.{clean}
@@ -101,7 +101,7 @@ returns-in_err-register_alias_relate_predicate-in-ToGoal g c =
     let left_clean = clean c.ty_standing-left.result ((r.meaning).ty a) sl c.in_default.not-Error in
     let right_clean = clean c.ty_standing-right.result ((r.meaning).ty b) sr c.in_default-right.not-Error in
     let leaves = c.left_to.ensures ((r.meaning).ty a) ((r.meaning).ty b) sl sr in
-    let left = subst (LeavesAs r.kept.settings ((r.meaning).ty a) ((r.meaning).ty b)) c.in-ToGoal.is leaves in
+    let left = subst (LeftAs r.kept.settings ((r.meaning).ty a) ((r.meaning).ty b)) c.in-ToGoal.is leaves in
     let from = c.from_residual in
     let z = not_to_goal o c.requires.decides sound a b k sorts (g.R.HasState.state c.register_alias_relate_predicate.new.self)
     (left_clean, right_clean) (Unit {0}) OutOfMemory c.in_err-register_alias_relate_predicate-in-ToGoal.field-0.0 from.result left
@@ -132,7 +132,7 @@ returns-in_err-register_ambiguous-in-Open g c =
     let left_clean = clean c.ty_standing-left.result ((r.meaning).ty a) sl c.in_default.not-Error in
     let right_clean = clean c.ty_standing-right.result ((r.meaning).ty b) sr c.in_default-right.not-Error in
     let leaves = c.left_to.ensures ((r.meaning).ty a) ((r.meaning).ty b) sl sr in
-    let left = subst (LeavesAs r.kept.settings ((r.meaning).ty a) ((r.meaning).ty b)) c.in-Open.is leaves in
+    let left = subst (LeftAs r.kept.settings ((r.meaning).ty a) ((r.meaning).ty b)) c.in-Open.is leaves in
     let from = c.from_residual-in_err-register_ambiguous-in-Open in
     let z = not_to_open o c.requires.decides sound a b k sorts (g.R.HasState.state c.register_ambiguous.new.relation)
     (left_clean, right_clean) (Unit {0}) OutOfMemory c.in_err-register_ambiguous-in-Open.field-0.0 from.result left
@@ -178,7 +178,7 @@ returns-in_ok-register_alias_relate_predicate-in-ToGoal g c =
     let left_clean = clean c.ty_standing-left.result ((r.meaning).ty a) sl c.in_default.not-Error in
     let right_clean = clean c.ty_standing-right.result ((r.meaning).ty b) sr c.in_default-right.not-Error in
     let leaves = c.left_to.ensures ((r.meaning).ty a) ((r.meaning).ty b) sl sr in
-    let left = subst (LeavesAs r.kept.settings ((r.meaning).ty a) ((r.meaning).ty b)) c.in-ToGoal.is leaves in
+    let left = subst (LeftAs r.kept.settings ((r.meaning).ty a) ((r.meaning).ty b)) c.in-ToGoal.is leaves in
     let z = to_goal o c.requires.decides sound a b k sorts (g.R.HasState.state c.register_alias_relate_predicate.new.self)
     (left_clean, right_clean) (Unit {0}) OutOfMemory c.in_ok-register_alias_relate_predicate-in-ToGoal.field-0 left
     c.in_ok-register_alias_relate_predicate-in-ToGoal.ensures in
@@ -207,7 +207,7 @@ returns-in_ok-register_ambiguous-in-Open g c =
     let left_clean = clean c.ty_standing-left.result ((r.meaning).ty a) sl c.in_default.not-Error in
     let right_clean = clean c.ty_standing-right.result ((r.meaning).ty b) sr c.in_default-right.not-Error in
     let leaves = c.left_to.ensures ((r.meaning).ty a) ((r.meaning).ty b) sl sr in
-    let left = subst (LeavesAs r.kept.settings ((r.meaning).ty a) ((r.meaning).ty b)) c.in-Open.is leaves in
+    let left = subst (LeftAs r.kept.settings ((r.meaning).ty a) ((r.meaning).ty b)) c.in-Open.is leaves in
     let z = to_open o c.requires.decides sound a b k sorts (g.R.HasState.state c.register_ambiguous.new.relation)
     (left_clean, right_clean) (Unit {0}) OutOfMemory c.in_ok-register_ambiguous-in-Open.field-0 left
     c.in_ok-register_ambiguous-in-Open.ensures in
@@ -236,7 +236,7 @@ returns-in-ToNone g c =
     let left_clean = clean c.ty_standing-left.result ((r.meaning).ty a) sl c.in_default.not-Error in
     let right_clean = clean c.ty_standing-right.result ((r.meaning).ty b) sr c.in_default-right.not-Error in
     let leaves = c.left_to.ensures ((r.meaning).ty a) ((r.meaning).ty b) sl sr in
-    let left = subst (LeavesAs r.kept.settings ((r.meaning).ty a) ((r.meaning).ty b)) c.in-ToNone.is leaves in
+    let left = subst (LeftAs r.kept.settings ((r.meaning).ty a) ((r.meaning).ty b)) c.in-ToNone.is leaves in
     let z = c.meet_tys.new.infcx in
     let d = g.Infcx.InferCtxtLike.state z in
     let q = g.R.HasState.state (g.R.PredicateEmittingRelation.with_context x z) in

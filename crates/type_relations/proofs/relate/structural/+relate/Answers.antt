@@ -6,7 +6,7 @@ use Rattle.relation_terms.specs.Heads.{type_sort, const_sort}
 use Rattle.relation_terms.specs.Trees.{nil, known, count, nth, list_tree}
 use Rattle.term_enums.specs.Variances.{xform}
 use Rattle.relation_terms.specs.Meaning.{arg_tree}
-use Rattle.relation_terms.specs.Parts.{part_tree, part_sort, tree_sort, Fit as PartsFit}
+use Rattle.relation_terms.specs.Parts.{part_tree, part_sort, tree_sort, Fit}
 use Rattle.relation_terms.proofs.Parts.{sort_known, stays_part, arg_part}
 use Rattle.relation_terms.specs.Interning.{Sorted}
 use Rattle.relation_terms.proofs.Stays.{knows_arg}
@@ -29,7 +29,7 @@ use Rattle.type_relations.proofs.ByParts.{binder_not_compared, form_compared, pa
 use Rattle.type_relations.proofs.ByParts.{no_inputs_yet, inputs_next, compared_as, alike_back, on_ok, asked_turned}
 use Rattle.type_relations.proofs.ByParts.{depth_turned}
 use Rattle.type_relations.specs.Handing.{IsResultOfTy, IsResultOfConst, IsResultOfPart, named_place}
-use Rattle.relation_semantics.specs.Making.{arg_sort, Fit, over, const_over}
+use Rattle.relation_semantics.specs.Making.{arg_sort, FitArgs, over, const_over}
 use Rattle.relation_semantics.proofs.Answering.{same_items, same_settings, AreAnswers, answers_none, answers_next, answers_end, may_over, may_const_over, may_later, if_ok_both}
 use Rattle.type_relations.specs.PredicateForms.{form_of_part}
 use Rattle.type_relations.proofs.PredicateForms.{arg_form, binder_form, made_form}
@@ -896,7 +896,7 @@ structurally_relate_consts-loop-i-init g t c =
       answers = subst (λ z. AreAnswers M r (const_head_of a) r.ambient 0 (const_parts_of a)
           (list_tree (arg_tree r.meaning) z)) (sym c.new-answers.ensures.items)
           (answers_none M r (const_head_of a) r.ambient (const_parts_of a));
-      fits = subst (λ z. Fit z nil) (sym c.new-answers.ensures.items) tt;
+      fits = subst (λ z. FitArgs z nil) (sym c.new-answers.ensures.items) tt;
     }
 
 pub structurally_relate_consts-relate_with_variance-related-requires : goal.structurally_relate_consts-relate_with_variance-related-requires
@@ -1053,7 +1053,7 @@ structurally_relate_consts-loop-i-preserved g t c =
           (arg_tree p.meaning n.answer) gone.passes lx inv.answers ex
           (subst (λ c. MayAnswer M p (part_at c (const_head_of a) i r.ambient) x (arg_tree p.meaning n.answer))
           (sym (same_items (inv.fronted).passes)) (gone.verdict).answer) (gone.verdict).known);
-      fits = subst₂ (λ j z. Fit z (firsts j (const_parts_of a))) next (sym c.in_ok-push.ensures.items)
+      fits = subst₂ (λ j z. FitArgs z (firsts j (const_parts_of a))) next (sym c.in_ok-push.ensures.items)
           (fit_pushed was n.answer (const_parts_of a) i lx inv.fits (fits_place q.meaning sorted X n.answer (const_parts_of a) i kx ex kind));
     }
 
@@ -1132,7 +1132,7 @@ structurally_relate_consts-make_const-requires-clause-fits g t c =
     let right : i ≡ count (const_parts_of b) = omega (arith, test, end, inv.right_count) in
     let items = c.loop-i.answers.items in
     let was = list_tree (arg_tree q.meaning) items in
-    subst₂ (λ xs t. Fit xs (const_parts_of t)) (sym c.as_slice.ensures.value) (sym same_a)
+    subst₂ (λ xs t. FitArgs xs (const_parts_of t)) (sym c.as_slice.ensures.value) (sym same_a)
     (fit_end items (const_parts_of a) i (inv.are_parts).left_list left inv.fits)
 
 pub structurally_relate_consts-returns : goal.structurally_relate_consts-returns
@@ -1240,7 +1240,7 @@ structurally_relate_tys-loop-i-init g t c =
       };
       answers = subst (λ z. AreAnswers M r (head_of a) r.ambient 0 (parts_of a) (list_tree (arg_tree r.meaning) z))
           (sym c.new-answers.ensures.items) (answers_none M r (head_of a) r.ambient (parts_of a));
-      fits = subst (λ z. Fit z nil) (sym c.new-answers.ensures.items) tt;
+      fits = subst (λ z. FitArgs z nil) (sym c.new-answers.ensures.items) tt;
     }
 
 pub structurally_relate_tys-relate_with_variance-related-requires : goal.structurally_relate_tys-relate_with_variance-related-requires
@@ -1281,8 +1281,8 @@ structurally_relate_tys-relate_with_variance-related-requires g t c κs within =
     let d = c.decreases in
     search rules
 
-pub structurally_relate_tys-in_ty-requires : goal.structurally_relate_tys-in_ty-requires
-structurally_relate_tys-in_ty-requires g t c =
+pub structurally_relate_tys-in_ty_of-requires : goal.structurally_relate_tys-in_ty_of-requires
+structurally_relate_tys-in_ty_of-requires g t c =
     let k = c.requires.asked in
     let same = (((c.loop-i.invariant.fronted).passes).extends).ty c.args.a.now k.left_known in
     let later = (((c.relate_with_variance-related.ensures).related).passes).extends in
@@ -1407,7 +1407,7 @@ structurally_relate_tys-loop-i-preserved g t c =
           (arg_tree p.meaning n.answer) gone.passes lx inv.answers ex
           (subst (λ c. MayAnswer M p (part_at c (head_of a) i r.ambient) x (arg_tree p.meaning n.answer))
           (sym (same_items (inv.fronted).passes)) (gone.verdict).answer) (gone.verdict).known);
-      fits = subst₂ (λ j z. Fit z (firsts j (parts_of a))) next (sym c.in_ok-push.ensures.items)
+      fits = subst₂ (λ j z. FitArgs z (firsts j (parts_of a))) next (sym c.in_ok-push.ensures.items)
           (fit_pushed was n.answer (parts_of a) i lx inv.fits (fits_place q.meaning sorted X n.answer (parts_of a) i kx ex kind));
     }
 
@@ -1652,7 +1652,7 @@ structurally_relate_tys-make_ty-requires-clause-fits g t c =
     let was = list_tree (arg_tree q.meaning) items in
     let listed : list_tree (arg_tree u.meaning) items ≡ was =
     stays_list (arg_tree q.meaning) (arg_tree u.meaning) items (stays_arg e) (inv.answers).sure in
-    subst₂ (λ xs t. Fit xs (parts_of t)) (sym c.as_slice.ensures.value) (sym stays)
+    subst₂ (λ xs t. FitArgs xs (parts_of t)) (sym c.as_slice.ensures.value) (sym stays)
     (fit_end items (parts_of a) i (inv.are_parts).left_list left inv.fits)
 
 pub structurally_relate_tys-returns : goal.structurally_relate_tys-returns
@@ -1726,7 +1726,7 @@ relate_in_order-loop-i-init g t c =
       };
       answers = subst (λ z. AreAnswers M r (head_of a) r.ambient 0 (parts_of a) (list_tree (part_tree r.meaning) z))
           (sym c.new-answers.ensures.items) (answers_none M r (head_of a) r.ambient (parts_of a));
-      fits = subst (λ z. PartsFit z nil) (sym c.new-answers.ensures.items) tt;
+      fits = subst (λ z. Fit z nil) (sym c.new-answers.ensures.items) tt;
       inputs = no_inputs_yet a b;
     }
 
@@ -2214,7 +2214,7 @@ relate_in_order-loop-i-preserved g t c =
           (part_tree p.meaning n.answer) gone.passes lx inv.answers ex
           (subst (λ z. MayAnswer M p (part_at z (head_of a) i r.ambient) x (part_tree p.meaning n.answer))
           (sym (same_items (inv.fronted).passes)) (gone.verdict).answer) (gone.verdict).known);
-      fits = subst₂ (λ j z. PartsFit z (firsts j (parts_of a))) more (sym c.in_ok-push.ensures.items)
+      fits = subst₂ (λ j z. Fit z (firsts j (parts_of a))) more (sym c.in_ok-push.ensures.items)
           (part_pushed was n.answer (parts_of a) i lx inv.fits
           (sort ∙ sym (sort_known q.meaning sorted X kx) ∙ ap tree_sort ex));
       inputs = subst (HaveAsManyInputs a b) more (inputs_next a b i (λ e. subst₂ AreOfOneForm ex ey
@@ -2346,7 +2346,7 @@ relate_in_order-make_part-requires-clause-fits g t c =
     let right : i ≡ count (parts_of b) = omega (arith, test, end, inv.right_count) in
     let items = c.loop-i.answers.items in
     let was = list_tree (part_tree q.meaning) items in
-    subst₂ (λ xs z. PartsFit xs (parts_of z)) (sym c.as_slice.ensures.value) (sym same_a)
+    subst₂ (λ xs z. Fit xs (parts_of z)) (sym c.as_slice.ensures.value) (sym same_a)
     (parts_end items (parts_of a) i (inv.are_parts).left_list left inv.fits)
 
 pub relate_in_order-returns : goal.relate_in_order-returns

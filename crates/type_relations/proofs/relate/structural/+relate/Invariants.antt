@@ -1,11 +1,11 @@
 use Rattle.std.proofs.Common.{◌≡◌, ◌+◌, ◌*◌}
 use Rattle.relation_terms.specs.Trees.{count, list_tree}
 use Rattle.relation_terms.specs.Meaning.{arg_tree}
-use Rattle.relation_terms.specs.Parts.{part_tree, Fit as PartsFit}
+use Rattle.relation_terms.specs.Parts.{part_tree, Fit}
 use Rattle.relation_semantics.specs.Stores.{weight}
 use Rattle.relation_semantics.specs.Measures.{depth}
 use Rattle.relation_semantics.specs.Parts.{parts_of, const_parts_of, head_of, const_head_of}
-use Rattle.relation_semantics.specs.Making.{Fit}
+use Rattle.relation_semantics.specs.Making.{FitArgs}
 use Rattle.relation_semantics.proofs.Lists.{firsts}
 use Rattle.type_relations.proofs.Fronts.{Fronted, AreParts}
 use Rattle.relation_semantics.proofs.Answering.{AreAnswers}
@@ -76,7 +76,7 @@ invariant-structurally_relate_tys-loop-i g l =
       are_parts : AreParts r.store (parts_of t) (parts_of u);
       answers : AreAnswers g.R.TypeRelation.manner q (head_of t) r.ambient l.i (parts_of t)
           (list_tree (arg_tree q.meaning) l.answers.items);
-      fits : Fit l.answers.items (firsts l.i (parts_of t));
+      fits : FitArgs l.answers.items (firsts l.i (parts_of t));
     }
 
 abbrev pub invariant-structurally_relate_consts-loop-i : goal.invariant-structurally_relate_consts-loop-i
@@ -93,7 +93,7 @@ invariant-structurally_relate_consts-loop-i g l =
       are_parts : AreParts r.store (const_parts_of t) (const_parts_of u);
       answers : AreAnswers g.R.TypeRelation.manner q (const_head_of t) r.ambient l.i (const_parts_of t)
           (list_tree (arg_tree q.meaning) l.answers.items);
-      fits : Fit l.answers.items (firsts l.i (const_parts_of t));
+      fits : FitArgs l.answers.items (firsts l.i (const_parts_of t));
     }
 
 abbrev pub invariant-relate_in_order-loop-i : goal.invariant-relate_in_order-loop-i
@@ -110,6 +110,6 @@ invariant-relate_in_order-loop-i g l =
       are_parts : AreParts r.store (parts_of t) (parts_of u);
       answers : AreAnswers g.R.TypeRelation.manner q (head_of t) r.ambient l.i (parts_of t)
           (list_tree (part_tree q.meaning) l.answers.items);
-      fits : PartsFit l.answers.items (firsts l.i (parts_of t));
+      fits : Fit l.answers.items (firsts l.i (parts_of t));
       inputs : HaveAsManyInputs t u l.i;
     }

@@ -3,7 +3,7 @@ use Rattle.relation_terms.specs.Heads.{float_var}
 use Rattle.relation_semantics.specs.Steps.{Equates}
 use Rattle.relation_reference.specs.Tables.{store_of}
 use Rattle.relation_reference.proofs.Beside.{floats_beside}
-use Rattle.relation_reference.proofs.Writing.{linked_entries, link_equates, link_lawful, table_made}
+use Rattle.relation_reference.proofs.Writing.{leads_down, link_equates, link_lawful, linked_entries, table_made}
 use Rattle.relation_reference.proofs.context.variables.RefCtxt.equate_float_vids_raw.Goals as goal
 
 pub returns-then-a-b-clause-lawful : goal.returns-then-a-b-clause-lawful
@@ -57,3 +57,13 @@ returns-then-b-a-clause-equates g c = λ o.
     c.requires.lawful c.args.a.0 c.args.b.0 (linked_entries m.ty x.floats.items ts.items c.args.a.0 c.args.b.0 e.values)
     e.universes refl (table_made m.ty x.floats.items c.args.a.0 c.requires.a_made) less c.requires.a_unbound
     c.requires.b_unbound)
+
+pub link-requires-clause-down : goal.link-requires-clause-down
+link-requires-clause-down g c =
+    leads_down (g.I.Interner.meaning c.args.self.now.interner).ty c.args.self.now.inner.floats.items
+    (c.requires.lawful.sound.falls float_var)
+
+pub link-requires-then-b-a-clause-down : goal.link-requires-then-b-a-clause-down
+link-requires-then-b-a-clause-down g c =
+    leads_down (g.I.Interner.meaning c.args.self.now.interner).ty c.args.self.now.inner.floats.items
+    (c.requires.lawful.sound.falls float_var)

@@ -5,7 +5,7 @@ use Rattle.relation_reference.specs.Tables.{store_of}
 use Rattle.relation_reference.proofs.Beside.{types_beside}
 use Rattle.relation_reference.proofs.SubRoots.{root_there, roots_kept, roots_lawful}
 use Rattle.relation_reference.proofs.Marking.{as_many_keys}
-use Rattle.relation_reference.proofs.Writing.{linked_entries, link_equates, link_lawful, table_made}
+use Rattle.relation_reference.proofs.Writing.{leads_down, link_equates, link_lawful, linked_entries, table_made}
 use Rattle.relation_reference.proofs.context.variables.RefCtxt.equate_ty_vids_raw.Goals as goal
 
 pub returns-then-a-b-clause-lawful : goal.returns-then-a-b-clause-lawful
@@ -91,3 +91,13 @@ pub join_roots-requires-then-b-a-clause-b_in : goal.join_roots-requires-then-b-a
 join_roots-requires-then-b-a-clause-b_in g c =
     root_there (g.I.Interner.meaning c.args.self.now.interner) c.args.self.now.inner c.requires.lawful.sub_rooted c.args.b.0
     c.requires.b_made
+
+pub link-requires-clause-down : goal.link-requires-clause-down
+link-requires-clause-down g c =
+    leads_down (g.I.Interner.meaning c.args.self.now.interner).ty c.args.self.now.inner.types.items
+    (c.requires.lawful.sound.falls type_var)
+
+pub link-requires-then-b-a-clause-down : goal.link-requires-then-b-a-clause-down
+link-requires-then-b-a-clause-down g c =
+    leads_down (g.I.Interner.meaning c.args.self.now.interner).ty c.args.self.now.inner.types.items
+    (c.requires.lawful.sound.falls type_var)

@@ -46,7 +46,7 @@ bind_number-requires-in-Some-number_var-2-clause-unresolved g c =
 
 pub returns-then-not-are_no_ty_vars-clause-combines : goal.returns-then-not-are_no_ty_vars-clause-combines
 returns-then-not-are_no_ty_vars-clause-combines g c =
-    ty_variable (c.if-not-are_no_ty_vars.ensures.one refl) refl (ap Err c.unlike-then-not-are_no_ty_vars.ensures)
+    ty_variable (c.if-not-are_no_ty_vars.ensures.one refl) refl (ap Err c.unlike_numbers-then-not-are_no_ty_vars.ensures)
 
 pub returns-else-not-equate_numbers-clause-combines : goal.returns-else-not-equate_numbers-clause-combines
 returns-else-not-equate_numbers-clause-combines g c =
