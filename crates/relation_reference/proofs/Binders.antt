@@ -18,9 +18,8 @@ use Rattle.relation_semantics.specs.Steps.{ChangesNothing, ArePlaceholders, Make
 use Rattle.relation_semantics.specs.Stores.{Store}
 use Rattle.relation_semantics.specs.Contexts.{Context}
 use Rattle.relation_semantics.specs.ContextCalls.{KeepsRest}
-use Rattle.relation_semantics.specs.Generalising.{MakesUnbound}
 use Rattle.relation_semantics.specs.Bound.{BindsByList}
-use Rattle.relation_semantics.specs.Binders.{kinds_in, variable_kind, MakesEach, makes_none, makes_next}
+use Rattle.relation_semantics.specs.Binders.{kinds_in, variable_kind, MakesEach, makes_none, makes_next, MakesFirst, bound_by}
 use Rattle.relation_semantics.specs.Binders.{EntersAs, InstantiatesAs, EntersBinder, InstantiatesWithInfer}
 use Rattle.relation_semantics.proofs.Opened.{opened_inst, placeholders_stand, variables_stand, none_escapes, some_escapes}
 use Rattle.relation_reference.specs.Opened.{placeholders_from, MakesOne}
@@ -161,9 +160,14 @@ module _ {Key Id Name : Type 0} (c d : Context Key Id Name) where
   entered_binder tree t (Ok x) sure enters refused = (sure, enters)
   entered_binder tree t (Err f) sure enters refused = refused
 
+  -- A known binder binds what its list says.
+  pub bound_kinds : (o : Option (List BoundKind)) (t : Tree) → kinds_in o ≡ bound_by (under o t)
+  bound_kinds (Some ks) t = refl
+  bound_kinds None t = refl
+
   pub instantiated_binder : {K F : Type 0} (tree : Meaning Key Id Name → K → Tree) (t : Tree) (r : Result K F) →
       IfOk r (λ x. IsTrue (known (tree d.meaning x))) → IfOk r (λ x. InstantiatesAs c d t (tree d.meaning x)) →
-      OnErr r (MakesUnbound (c.store).universe c.store d.store) → InstantiatesWithInfer c d tree t r
+      OnErr r (MakesFirst (c.store).universe c.store (bound_by t) d.store) → InstantiatesWithInfer c d tree t r
   instantiated_binder tree t (Ok x) sure instantiates refused = (sure, instantiates)
   instantiated_binder tree t (Err f) sure instantiates refused = refused
 

@@ -30,7 +30,7 @@ use Rattle.relation_semantics.specs.Lawful.{ExactlyRelated, items_in}
 use Rattle.type_relations.proofs.PartSizes.{weight_parts_most}
 use Rattle.relation_semantics.proofs.Registered.{registered_in}
 use Rattle.relation_semantics.proofs.Passing.{passes_within, passes_then, manner_then, stopped}
-use Rattle.type_relations.proofs.Fronts.{Fronted, AreParts, IsLookedAt, fronted_all, fronted_never, fronted_passes, fronted_fault, fronted_exactly}
+use Rattle.type_relations.proofs.Fronts.{Fronted, AreParts, IsLookedAt, fronted_all, fronted_never, fronted_passes, fronted_fault, fronted_exactly, fronted_needs}
 use Rattle.type_relations.proofs.Fronts.{fronted_full, fronted_built, fronted_agree}
 use Rattle.relation_semantics.proofs.Answering.{same_items, may_itself}
 use Rattle.relation_semantics.proofs.OneUniverse.{keeps_binds, binds_as}
@@ -208,7 +208,8 @@ module _ {Key Id Name : Type 0} {r q : State Key Id Name} (M : Manners) (v : Var
           (sym (same_items l ∙ same_items f.passes)) o.1)),
       o.2,
     )
-    refuses l Budget o = o
+    refuses l Budget o =
+        (o.0, λ j ha hb. fronted_needs h v i ts us x y f lx ly ex ey o.1 j ha.1 hb.1)
     refuses l Memory o = tt
 
     exactly : (A B : Type 0) (p : State Key Id Name) (e : RelateFault Key Id Name) →

@@ -35,12 +35,14 @@ use Rattle.type_relations.specs.Solving.{solver_settings}
 use Rattle.type_relations.specs.RegionTerms.{IsRegionTermHead, IsRegionTerm}
 use Rattle.type_relations.proofs.AskedGoals.{agreeing_related}
 use Rattle.type_relations.proofs.Disagreeing.{disagree}
-use Rattle.type_relations.proofs.PlainTerms.{outer_kept, left_good, right_good}
+use Rattle.type_relations.proofs.PlainTerms.{no_left, outer_kept, left_good, right_good}
 use Rattle.type_relations.proofs.RegionTerms.{region_or, rule_alias, related_terms_agree, related_iff_agree}
 use Rattle.relation_semantics.proofs.Leaving.{normal_not_left}
 use Rattle.type_relations.proofs.Shapes.{shaped}
 use Rattle.relation_terms.proofs.Paths.{leaf_path}
 use Rattle.relation_terms.proofs.Erasing.{erased_count}
+use Rattle.type_relations.specs.Closed.{SpendsForVariables}
+use Rattle.type_relations.proofs.Closed.{plain_never_needs}
 
 -- A plain term without variables and aliases is first-order but for binders of regions.
 region_head : (h : Head) → IsPlainHead h → (IsAliasHead h → ⊥) → IsRegionTermHead h
@@ -250,14 +252,18 @@ module _ {S Key Id Name A : Type 0} (state : S → Context Key Id Name) (old new
       (solver_settings g (state new).setup) (items_of (state new).meaning) (state new).store sound v x a b
       (subst (λ s. ArePlain (solver_settings g s) a b) (sym setup) p) f f' r e)
 
-  pub completes : (g : StructurallyRelateAliases) (e : ParamEnvKey Key) (v : Variance) (a b : A)
+  pub completes : IsSound (state old).store → (g : StructurallyRelateAliases) (e : ParamEnvKey Key) (v : Variance) (a b : A)
       (result : Result (Vec (Goal Key (PredicateKey Key))) (RelateFault Key Id Name)) →
+      SpendsForVariables state old new over tree a b result →
       RelatesAgreeing state old new over tree g v a b result → AnswersError state old new over tree g v a b result →
       Complete state old new over tree g e v a b result
-  completes g e v a b (Ok goals) agrees errors s x y p = agreeing_are_related (solver_settings g (state old).setup)
+  completes before g e v a b (Ok goals) needs agrees errors s x y p = agreeing_are_related (solver_settings g (state old).setup)
       (items_of (state old).meaning) (((state old).meaning).param_env e) v s (term_in (state old) over tree a)
       (term_in (state old) over tree b) x y p agrees
-  completes g e v a b (Err (Unrelated z)) agrees errors s x y p = unrelated_before g
+  completes before g e v a b (Err (Unrelated z)) needs agrees errors s x y p = unrelated_before g
       (((state old).meaning).param_env e) v (term_in (state old) over tree a) (term_in (state old) over tree b) z p x.1 y.1
       errors
-  completes g e v a b (Err f) agrees errors s x y p = tt
+  completes before g e v a b (Err Budget) needs agrees errors s x y p =
+      plain_never_needs (solver_settings g (state old).setup) (state old).store before (term_in (state old) over tree a)
+      (term_in (state old) over tree b) p needs
+  completes before g e v a b (Err Memory) needs agrees errors s x y p = tt

@@ -28,7 +28,7 @@ use Rattle.relation_semantics.proofs.Leaving.{said_as, parts_not_left, form_not_
 use Rattle.relation_semantics.specs.Lawful.{ExactResult, ExactlyRelated}
 use Rattle.relation_semantics.proofs.Registered.{registered_in}
 use Rattle.relation_semantics.proofs.Passing.{passes_within, passes_then, manner_then, stopped}
-use Rattle.type_relations.proofs.Fronts.{Fronted, AreParts, fronted_never, fronted_all, fronted_passes, fronted_fault}
+use Rattle.type_relations.proofs.Fronts.{Fronted, AreParts, fronted_never, fronted_all, fronted_passes, fronted_fault, fronted_needs}
 use Rattle.type_relations.proofs.Fronts.{fronted_exactly, fronted_full, fronted_built, fronted_agree}
 use Rattle.relation_semantics.proofs.Building.{built_parts}
 use Rattle.relation_semantics.proofs.AgreeingForms.{form_agrees}
@@ -144,7 +144,9 @@ module _ {Key Id Name : Type 0} {r q : State Key Id Name} (M : Manners) (v : Var
     term_refuses w {p = p} g Memory d t h =
         subst (RefusesAs w r p (at v) a b) (sym (same_part_fault (named_place a i) Memory d t (λ e z. cc))) tt
     term_refuses w {p = p} g Budget d t h =
-        subst (RefusesAs w r p (at v) a b) (sym (same_part_fault (named_place a i) Budget d t (λ e z. cc))) h
+        subst (RefusesAs w r p (at v) a b) (sym (same_part_fault (named_place a i) Budget d t (λ e z. cc)))
+        (h.0, λ j ha hb. fronted_needs (head_of a) v i (parts_of a) (parts_of b) x y f lx ly ex ey h.1 j
+        (built_parts j a ha) (built_parts j b hb))
     term_refuses w {p = p} g (Unrelated e) d t h =
         let items : items_in p ≡ items_in r = same_items g ∙ same_items f.passes in
         let z = part_complains p.meaning p.kept.settings (items_in p) p.store v k l a b i ta tb form o lx x y ex ey many e d t

@@ -60,6 +60,7 @@ pub mod PlainForms
 pub mod Disagreeing
 pub mod AskedGoals
 pub mod Completing
+pub mod Closed
 mod BindingAsked
 mod CombiningTys
 mod Registering

@@ -21,7 +21,7 @@ use Rattle.relation_semantics.specs.Goals.{Goal}
 use Rattle.relation_semantics.specs.Outcomes.{Outcome, NeverOne}
 use Rattle.relation_semantics.specs.Measures.{grown, depth, Goes}
 use Rattle.relation_semantics.specs.Steps.{HasNoBinder}
-use Rattle.relation_semantics.specs.Kits.{Kit, IsBuiltOf, StaysBuilt}
+use Rattle.relation_semantics.specs.Kits.{Kit, IsBuiltOf, StaysBuilt, MayBind}
 use Rattle.relation_semantics.specs.Errors.{ErrorOf}
 use Rattle.relation_semantics.specs.Agreeing.{Agree}
 use Rattle.relation_semantics.specs.Lawful.{State, Manners, MayAnswer, Passes, Asked, Refuses, Related, items_in}
@@ -31,12 +31,13 @@ use Rattle.type_relations.specs.Rounds.{RoundLeads, Opened}
 use Rattle.relation_semantics.proofs.Standing.{term_context}
 use Rattle.relation_semantics.proofs.Going.{grown-mono, le_grown, depth-strict, depth_later, le_square, weight_cons}
 use Rattle.relation_semantics.proofs.Full.{first_order_plain, full_never}
-use Rattle.relation_semantics.proofs.Building.{built_led, built_then}
+use Rattle.relation_semantics.proofs.Building.{built_led, built_then, needs_led}
 use Rattle.relation_semantics.proofs.Answering.{may_itself, same_items, same_settings}
 use Rattle.relation_semantics.proofs.Composing.{steps_compose, values_still}
 use Rattle.relation_semantics.proofs.Opening.{two_rounds_relate}
 use Rattle.relation_semantics.proofs.Passing.{passes_then, manner_then, stopped, asked_later, outcome_seen}
 use Rattle.relation_terms.proofs.Paths.{kinds_path, bind_path}
+use Rattle.relation_semantics.specs.Binders.{bound_by}
 
 -- Two binders.
 abbrev AreBinders : Tree → Tree → Type 0
@@ -53,11 +54,11 @@ pub under_known : (vars : Option (List BoundKind)) (t : Tree) → IsTrue (known 
 under_known (Some ks) t k h = h
 under_known None t k h = false≢true k
 
--- What a known binder is built of has binders.
-pub under_built : (vars : Option (List BoundKind)) (t : Tree) → IsTrue (known (under vars t)) → (k : Kit) →
-    IsBuiltOf k (under vars t) → IsTrue k.binders
-under_built (Some ks) t known k h = h.0
-under_built None t known k h = absurd (false≢true known)
+-- What a known binder is built of has binders that bind as it does.
+pub under_binds : (vars : Option (List BoundKind)) (t : Tree) → IsTrue (known (under vars t)) → (k : Kit) →
+    IsBuiltOf k (under vars t) → MayBind k (bound_by (under vars t))
+under_binds (Some ks) t known k h = h.0
+under_binds None t known k h = absurd (false≢true known)
 
 pub has_binder : {Key Id Name : Type 0} (m : Meaning Key Id Name) (p : Part Key Id) → IsBinderPart p →
     IsTrue (known (part_tree m p)) → HasNoBinder (part_tree m p) → ⊥
@@ -230,15 +231,15 @@ module _ {Key Id Name : Type 0} where
   round_never added a b x y (second_round e o i j f) n = absurd (omega (arith, e))
 
   round_refuses : {m : ℕ} {r q p : State Key Id Name} (M : Manners) (added : List Goal) (a b x y : Tree) →
-      RoundLeads M r q added 0 a b x y → Passes m q p → IsSound p.store → (e : RelateFault Key Id Name) →
-      Refuses q p r.ambient x y e → Refuses r p r.ambient a b e
-  round_refuses {r = r} {q = q} {p = p} M added a b x y l f sound (Unrelated e) h = (
+      RoundLeads M r q added 0 a b x y → StaysBuilt r.store q.store added a b → Passes m q p → IsSound p.store →
+      (e : RelateFault Key Id Name) → Refuses q p r.ambient x y e → Refuses r p r.ambient a b e
+  round_refuses {r = r} {q = q} {p = p} M added a b x y l built f sound (Unrelated e) h = (
     round_never added a b x y l.steps h.0,
     l.errors p.meaning p.kept.settings (items_in p) p.store e (f.goes).later sound h.1,
     h.2,
   )
-  round_refuses M added a b x y l f sound Budget h = h
-  round_refuses M added a b x y l f sound Memory h = tt
+  round_refuses M added a b x y l built f sound Budget h = (h.0, needs_led added a b x y built l.built h.1)
+  round_refuses M added a b x y l built f sound Memory h = tt
 
   -- The bodies of round 0 were refused, and so are the binders.
   pub first_refused : {X Y : Type 0} {r q p : State Key Id Name} (M : Manners) (a b x y : Tree) (tree : X → Tree)
@@ -249,7 +250,7 @@ module _ {Key Id Name : Type 0} where
   unfolding passes_then
   first_refused M a b x y tree answer never sound g l built e f = record {
     passes = passes_then g f.passes (round_small M 0 a b x y g l);
-    verdict = round_refuses M g.added a b x y l f.passes sound e f.verdict;
+    verdict = round_refuses M g.added a b x y l built f.passes sound e f.verdict;
     exact = λ k is pair. absurd (never (first_order_plain a pair.left));
     full = full_never a b never;
     built = built_led g.added (f.passes).added a b x y built l.built f.built;
@@ -433,7 +434,11 @@ module _ {Key Id Name : Type 0} where
           (l.errors z.meaning z.kept.settings (items_in z) z.store e (f.goes).later sound c.1),
       c.2,
     )
-    second_refuses f sound Budget c = c
+    second_refuses f sound Budget c = (
+      c.0,
+      needs_led (h.passes).added a b a b h.built (λ k ha hb all. (ha, hb))
+          (needs_led g.added a b x y opened l.built c.1),
+    )
     second_refuses f sound Memory c = tt
 
     second_built : {n : ℕ} {z : State Key Id Name} (f : Passes n q z) → StaysBuilt q.store z.store f.added x y →

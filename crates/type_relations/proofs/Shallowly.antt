@@ -141,7 +141,10 @@ module _ {Key Id Name : Type 0} (r q : State Key Id Name) (g : IsSound r.store) 
             (read_later r.store q.store (passes.goes).later b w o) h.1,
         h.2,
       )
-      read_verdict (Err Budget) h = h
+      read_verdict (Err Budget) h = (
+        h.0,
+        λ k ha hb all. h.1 k (built_read k r.store all a u p ha) (built_read k r.store all b w o hb) all,
+      )
       read_verdict (Err Memory) h = tt
 
       read_exact : (res : Result (Step K) (RelateFault Key Id Name)) → ExactVerdict r q u w tree res →

@@ -28,7 +28,7 @@ use Rattle.relation_semantics.specs.Lawful.{State, Manners, MayAnswer, Passes, R
 use Rattle.relation_semantics.specs.Lawful.{RelatedForms, ExactResult, ExactlyRelated, items_in}
 use Rattle.relation_semantics.proofs.Registered.{registered_in}
 use Rattle.relation_semantics.proofs.Passing.{passes_within, passes_then, manner_then, stopped}
-use Rattle.type_relations.proofs.Fronts.{Fronted, AreParts, fronted_never, fronted_all, fronted_passes, fronted_fault, fronted_exactly, fronted_full, fronted_built}
+use Rattle.type_relations.proofs.Fronts.{Fronted, AreParts, fronted_never, fronted_all, fronted_passes, fronted_fault, fronted_exactly, fronted_full, fronted_built, fronted_needs}
 use Rattle.relation_semantics.proofs.Building.{built_parts}
 use Rattle.type_relations.proofs.Fronts.{fronted_agree}
 use Rattle.relation_semantics.proofs.AgreeingForms.{form_agrees}
@@ -173,7 +173,9 @@ module _ {Key Id Name : Type 0} {r q : State Key Id Name} (M : Manners) (v : Var
     ty_refuses {p = p} g Memory k kx ky t h =
         subst (RefusesAs as_forms r p (at v) a b) (sym (same_fault a X Y Memory k t (λ e z. cc))) tt
     ty_refuses {p = p} g Budget k kx ky t h =
-        subst (RefusesAs as_forms r p (at v) a b) (sym (same_fault a X Y Budget k t (λ e z. cc))) h
+        subst (RefusesAs as_forms r p (at v) a b) (sym (same_fault a X Y Budget k t (λ e z. cc)))
+        (h.0, λ j ha hb. fronted_needs (head_of a) v i (parts_of a) (parts_of b) (arg_tree q.meaning X)
+        (arg_tree q.meaning Y) f lx ly ex ey h.1 j (built_parts j a ha) (built_parts j b hb))
     ty_refuses {p = p} g (Unrelated e) k kx ky t h =
         let same : items_in p ≡ items_in r = same_items g ∙ same_items f.passes in
         let z = ty_complains q.meaning p.meaning g.extends s a b i X Y x_known y_known (arg_tree q.meaning X)
