@@ -35,7 +35,7 @@ use Rattle.type_relations.specs.Solving.{solver_settings}
 use Rattle.type_relations.specs.RegionTerms.{IsRegionTermHead, IsRegionTerm}
 use Rattle.type_relations.proofs.AskedGoals.{agreeing_related}
 use Rattle.type_relations.proofs.Disagreeing.{disagree}
-use Rattle.type_relations.proofs.PlainTerms.{no_left, outer_kept, left_good, right_good}
+use Rattle.type_relations.proofs.PlainTerms.{outer_kept, left_good, right_good}
 use Rattle.type_relations.proofs.RegionTerms.{region_or, rule_alias, related_terms_agree, related_iff_agree}
 use Rattle.relation_semantics.proofs.Leaving.{normal_not_left}
 use Rattle.type_relations.proofs.Shapes.{shaped}
