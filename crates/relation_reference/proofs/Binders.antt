@@ -18,12 +18,12 @@ use Rattle.relation_semantics.specs.Steps.{ChangesNothing, ArePlaceholders, Make
 use Rattle.relation_semantics.specs.Stores.{Store}
 use Rattle.relation_semantics.specs.Contexts.{Context}
 use Rattle.relation_semantics.specs.ContextCalls.{KeepsRest}
-use Rattle.relation_semantics.specs.Generalising.{MakesUnbound}
 use Rattle.relation_semantics.specs.Bound.{BindsByList}
-use Rattle.relation_semantics.specs.Binders.{kinds_in, variable_kind, MakesEach, makes_none, makes_next}
+use Rattle.relation_semantics.specs.Binders.{kinds_in, variable_kind, MakesEach, makes_none, makes_next, MakesFirst, bound_by}
 use Rattle.relation_semantics.specs.Binders.{EntersAs, InstantiatesAs, EntersBinder, InstantiatesWithInfer}
 use Rattle.relation_semantics.proofs.Opened.{opened_inst, placeholders_stand, variables_stand, none_escapes, some_escapes}
 use Rattle.relation_reference.specs.Opened.{placeholders_from, MakesOne}
+use Rattle.relation_semantics.proofs.Opening.{same_changes}
 
 -- One more place of a list.
 taken : {A : Type 0} (xs : List A) (i : ℕ) (x : A) → slice_get xs i ≡ Some x → take (suc i) xs ≡ take i xs ++ x ∷ []
@@ -106,17 +106,6 @@ each_next u before middle after ks i j k xs ys x low f one p at more =
 pub each_none : (u : ℕ) (st : Store) (ks : List BoundKind) (xs : List Tree) → xs ≡ [] → MakesEach u st (take 0 ks) xs st
 each_none u st ks xs e = makes_none refl e
 
--- What is left as it is changes nothing.
-same_changes : (st : Store) → ChangesNothing st st
-same_changes st = record {
-  same_entries = λ k. refl;
-  same_universes = λ k. refl;
-  same_constraints = refl;
-  universe_stands = omega arith;
-  taint_stands = λ h. h;
-  same_budget = refl;
-}
-
 -- A known binder's list is known, and so is its body.
 pub binder_list : (o : Option (List BoundKind)) (t : Tree) → IsTrue (known (under o t)) → IsSome o
 binder_list (Some ks) t k = refl
@@ -171,9 +160,14 @@ module _ {Key Id Name : Type 0} (c d : Context Key Id Name) where
   entered_binder tree t (Ok x) sure enters refused = (sure, enters)
   entered_binder tree t (Err f) sure enters refused = refused
 
+  -- A known binder binds what its list says.
+  pub bound_kinds : (o : Option (List BoundKind)) (t : Tree) → kinds_in o ≡ bound_by (under o t)
+  bound_kinds (Some ks) t = refl
+  bound_kinds None t = refl
+
   pub instantiated_binder : {K F : Type 0} (tree : Meaning Key Id Name → K → Tree) (t : Tree) (r : Result K F) →
       IfOk r (λ x. IsTrue (known (tree d.meaning x))) → IfOk r (λ x. InstantiatesAs c d t (tree d.meaning x)) →
-      OnErr r (MakesUnbound (c.store).universe c.store d.store) → InstantiatesWithInfer c d tree t r
+      OnErr r (MakesFirst (c.store).universe c.store (bound_by t) d.store) → InstantiatesWithInfer c d tree t r
   instantiated_binder tree t (Ok x) sure instantiates refused = (sure, instantiates)
   instantiated_binder tree t (Err f) sure instantiates refused = refused
 

@@ -6,15 +6,16 @@ use Rattle.term_enums.specs.declared.Variance.TheVariants.{Invariant}
 use Rattle.relation_terms.specs.declared.terms.keys.TyKey.{TyKey}
 use Rattle.relation_terms.specs.declared.terms.keys.RegionKey.{RegionKey}
 use Rattle.relation_terms.specs.declared.terms.keys.ConstKey.{ConstKey}
+use Rattle.relation_terms.specs.declared.terms.keys.BoundVarsKey.{BoundVarsKey}
 use Rattle.relation_terms.specs.Heads.{VarKind, type_var, int_var, float_var, const_var, region_var, variable}
 use Rattle.relation_terms.specs.Trees.{Tree, leaf}
 use Rattle.relation_terms.specs.Meaning.{Meaning}
 use Rattle.relation_folds.specs.declared.error.TypeError.TheVariants.{CyclicTy, CyclicConst}
 use Rattle.relation_folds.specs.declared.error.RelateFault.{RelateFault}
 use Rattle.relation_semantics.specs.declared.relate.StructurallyRelateAliases.{StructurallyRelateAliases}
+use Rattle.relation_semantics.specs.Binders.{kinds_in, MakesFirst}
 use Rattle.relation_semantics.specs.Binders.{binder_tree, EntersAs, EntersBinder, InstantiatesAs, InstantiatesWithInfer}
 use Rattle.relation_semantics.specs.ContextCalls.{Instantiated}
-use Rattle.relation_semantics.specs.Generalising.{MakesUnbound}
 use Rattle.relation_semantics.specs.Steps.{Equates, InstantiatesNumber, MakesVariable, AddsConstraint}
 use Rattle.relation_semantics.specs.Stores.{Store, equal_constraint, outlives_constraint}
 use Rattle.relation_reference.specs.declared.context.variables.RefCtxt.{RefCtxt}
@@ -76,9 +77,10 @@ module _ {I Key Id Name Span : Type 0} (meaning : I → Meaning Key Id Name)
   MakesRegionVar u =
       MakesVariable (store_in meaning before) (store_in meaning after) region_var (length before.inner.regions.items) u
 
-  -- Variables of the current universe were made, which stay unbound.
-  abbrev pub MakesUnboundNow : Type 0
-  MakesUnboundNow = MakesUnbound (before.inner.universe).0 (store_in meaning before) (store_in meaning after)
+  -- Variables of the current universe were made for the first places of a list, which stay unbound.
+  abbrev pub MakesFirstNow : BoundVarsKey Key → Type 0
+  MakesFirstNow k = MakesFirst (before.inner.universe).0 (store_in meaning before)
+      (kinds_in ((meaning before.interner).bound_vars k)) (store_in meaning after)
 
   -- What is answered is what a term comes to at every depth.
   abbrev pub IsResolved : {K : Type 0} → (Meaning Key Id Name → K → Tree) → K → K → Type 0

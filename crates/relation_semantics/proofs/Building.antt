@@ -1,12 +1,17 @@
 -- What terms and bindings are built of, step after step.
-use Rattle.std.proofs.Common.{◌≡◌, ◌⊎◌, ℕ, zero, suc, refl, sym, ap, ap₂, ◌∙◌, inl, inr, subst, Bool, true, false}
-use Rattle.std.proofs.Common.{List, [], ◌∷◌, ◌++◌, All, IsTrue, Option, Some, None, get_or, nat_eq, cond}
+use Rattle.std.proofs.Common.{◌≡◌, ◌≢◌, ◌⊎◌, ℕ, zero, suc, refl, sym, ap, ap₂, ◌∙◌, inl, inr, subst, Bool, true, false}
+use Rattle.std.proofs.Common.{List, [], ◌∷◌, ◌++◌, All, IsTrue, Option, Some, None, get_or, nat_eq, cond, take}
 use Rattle.std.proofs.lemmas.Bool.{false≢true}
 use Rattle.std.proofs.lemmas.List.Elements.{All-nil, All-append}
 use Rattle.term_enums.specs.declared.Variance.{Variance}
-use Rattle.relation_terms.specs.Heads.{BoundKind, VarKind, variable, bound, placeholder, atom, unknown}
+use Rattle.relation_terms.specs.Heads.{region_sort, bound_sort, BoundKind, VarKind, type_var, int_var, float_var}
+use Rattle.relation_terms.specs.Heads.{const_var, region_var, var_sort, type_kind, region_kind, const_kind, bound_kind}
+use Rattle.relation_terms.specs.Heads.{variable, bound, placeholder, atom, unknown}
 use Rattle.relation_terms.specs.Heads.{value, value_branch, unevaluated, expression}
 use Rattle.relation_terms.specs.Trees.{Tree, leaf, node, bind, nil, cons, nth, Assign, apply, tree_at, inst}
+use Rattle.relation_semantics.specs.Asking.{BindsRegions}
+use Rattle.relation_semantics.specs.Binders.{variable_kind, MakesEach, MakesFirst, makes_none as each_none}
+use Rattle.relation_semantics.specs.Binders.{makes_next as each_next}
 use Rattle.relation_semantics.specs.Stores.{Store, Entry, unbound, same_as, bound_to, entry_of, entry_term, bound_term}
 use Rattle.relation_semantics.specs.Stores.{through, resolve, resolved}
 use Rattle.relation_semantics.specs.Goals.{Goal}
@@ -14,19 +19,20 @@ use Rattle.relation_semantics.specs.Errors.{IsReadAs, itself, by_class, by_bindi
 use Rattle.relation_semantics.specs.Generalising.{MakesUnbound, makes_none, makes_one}
 use Rattle.relation_semantics.specs.Parts.{parts_of, branches_of, const_parts_of}
 use Rattle.relation_semantics.specs.Steps.{HasNoBinder, BindsNoBinder, WritesEntry, StandsBeside, as_it_was, led_on}
-use Rattle.relation_semantics.specs.Steps.{Equates, InstantiatesNumber, Instantiates, ChangesNothing, Taints}
+use Rattle.relation_semantics.specs.Steps.{Equates, InstantiatesNumber, IsNumberFor, Instantiates, ChangesNothing, Taints}
 use Rattle.relation_semantics.specs.Steps.{IsGeneralised, kept, replaced, in_form, in_binder, in_list}
-use Rattle.relation_semantics.specs.Kits.{Kit, IsBuiltOf, BindsBuiltOf, IsGoalOf, HasNoError, Builds, StaysBuilt, BuiltFrom}
+use Rattle.relation_semantics.specs.Kits.{Kit, MayVary, MayBind, IsBuiltOf, BindsBuiltOf, IsGoalOf, HasNoError}
+use Rattle.relation_semantics.specs.Kits.{WritesNothing, Builds, StaysBuilt, BuiltFrom, NeedsVariable}
 use Rattle.relation_semantics.proofs.Only.{which}
 use Rattle.relation_semantics.proofs.Growing.{same_entries}
 
 -- The kit of all but binders: what is built of it has none.
 pub all_but_binders : Kit
-all_but_binders = record { heads = λ h. true; atoms = λ x. true; binders = false }
+all_but_binders = record { heads = λ h. true; atoms = λ x. true; binders = false; variables = true }
 
 pub plain_built : (t : Tree) → HasNoBinder t → IsBuiltOf all_but_binders t
 unfolding all_but_binders
-plain_built (leaf (variable k n)) h = tt
+plain_built (leaf (variable k n)) h = λ o. refl
 plain_built (leaf (bound k d i)) h = tt
 plain_built (leaf (placeholder k u n)) h = tt
 plain_built (leaf (atom x)) h = refl
@@ -40,12 +46,12 @@ pub built_plain : (t : Tree) → IsBuiltOf all_but_binders t → HasNoBinder t
 unfolding all_but_binders
 built_plain (leaf l) h = tt
 built_plain (node a t) h = built_plain t h.1
-built_plain (bind ks t) h = absurd (false≢true h.0)
+built_plain (bind ks t) h = absurd (false≢true h.0.0)
 built_plain nil h = tt
 built_plain (cons t u) h = (built_plain t h.0, built_plain u h.1)
 
 pub plain_binds : (st : Store) → BindsNoBinder st → BindsBuiltOf all_but_binders st
-plain_binds st all k n t e = plain_built t (all k n t e)
+plain_binds st all k may n t e = plain_built t (all k n t e)
 
 -- So where no binder stands in two terms and what is bound, none stands in what they lead to.
 pub no_binder_from : (st : Store) (a b x y : Tree) → BuiltFrom st a b x y → BindsNoBinder st → HasNoBinder a →
@@ -78,8 +84,10 @@ built_const_parts k t f = tt
 pub built_read : (k : Kit) (st : Store) → BindsBuiltOf k st → (a u : Tree) → IsReadAs st a u → IsBuiltOf k a →
     IsBuiltOf k u
 built_read k st all a u (itself e) h = subst (IsBuiltOf k) e h
-built_read k st all a u (by_class j n m e c r) h = built_read k st all (leaf (variable j m)) u r tt
-built_read k st all a u (by_binding {u = x} j n e b r) h = built_read k st all x u r (all j n x b)
+built_read k st all a u (by_class j n m e c r) h =
+    built_read k st all (leaf (variable j m)) u r (subst (IsBuiltOf k) e h)
+built_read k st all a u (by_binding {u = x} j n e b r) h =
+    built_read k st all x u r (all j (subst (IsBuiltOf k) e h) n x b)
 
 pub read_from : (st : Store) (a b x y : Tree) → IsReadAs st a x → IsReadAs st b y → BuiltFrom st a b x y
 read_from st a b x y p q = λ k ha hb all. (built_read k st all a x p ha, built_read k st all b y q hb)
@@ -94,9 +102,11 @@ pub built_as : (st : Store) {a b t u : Tree} → t ≡ a → u ≡ b → BuiltFr
 built_as st {a} {b} e d = built_again st a b (λ k ha hb all. (ha, hb)) e d
 
 -- So is what a term comes to.
-apply_built : (k : Kit) (s : Assign) → ((j : VarKind) (n : ℕ) → IsBuiltOf k (s j n)) → (t : Tree) → IsBuiltOf k t →
-    IsBuiltOf k (apply s t)
-apply_built k s f (leaf (variable j n)) h = f j n
+abbrev HasBuilt : Kit → Assign → Type 0
+HasBuilt k s = (j : VarKind) → MayVary k j → (n : ℕ) → IsBuiltOf k (s j n)
+
+apply_built : (k : Kit) (s : Assign) → HasBuilt k s → (t : Tree) → IsBuiltOf k t → IsBuiltOf k (apply s t)
+apply_built k s f (leaf (variable j n)) h = f j h n
 apply_built k s f (leaf (bound j d i)) h = tt
 apply_built k s f (leaf (placeholder j u n)) h = tt
 apply_built k s f (leaf (atom x)) h = h
@@ -110,51 +120,76 @@ abbrev IsBuiltIfAny : Kit → Option Tree → Type 0
 IsBuiltIfAny k None = Unit {0}
 IsBuiltIfAny k (Some t) = IsBuiltOf k t
 
-entry_built : (k : Kit) (st : Store) → BindsBuiltOf k st → (j : VarKind) (n : ℕ) → IsBuiltIfAny k (bound_term st j n)
-entry_built k st all j n = go (entry_of st j n) refl
+entry_built : (k : Kit) (st : Store) → BindsBuiltOf k st → (j : VarKind) → MayVary k j → (n : ℕ) →
+    IsBuiltIfAny k (bound_term st j n)
+entry_built k st all j may n = go (entry_of st j n) refl
   where
     go : (x : Entry) → entry_of st j n ≡ x → IsBuiltIfAny k (entry_term j x)
     go unbound e = tt
-    go (same_as m) e = tt
-    go (bound_to t) e = all j n t e
+    go (same_as m) e = may
+    go (bound_to t) e = all j may n t e
 
-through_built : (k : Kit) (s : Assign) → ((j : VarKind) (n : ℕ) → IsBuiltOf k (s j n)) → (j : VarKind) (n : ℕ)
-    (o : Option Tree) → IsBuiltIfAny k o → IsBuiltOf k (through s j n o)
-through_built k s f j n None h = tt
-through_built k s f j n (Some t) h = apply_built k s f t h
+through_built : (k : Kit) (s : Assign) → HasBuilt k s → (j : VarKind) → MayVary k j → (n : ℕ) (o : Option Tree) →
+    IsBuiltIfAny k o → IsBuiltOf k (through s j n o)
+through_built k s f j may n None h = may
+through_built k s f j may n (Some t) h = apply_built k s f t h
 
-resolve_built : (k : Kit) (f : ℕ) (st : Store) → BindsBuiltOf k st → (j : VarKind) (n : ℕ) → IsBuiltOf k (resolve f st j n)
+resolve_built : (k : Kit) (f : ℕ) (st : Store) → BindsBuiltOf k st → HasBuilt k (resolve f st)
 unfolding resolve
-resolve_built k zero st all j n = tt
-resolve_built k (suc f) st all j n =
-    through_built k (resolve f st) (resolve_built k f st all) j n (bound_term st j n) (entry_built k st all j n)
+resolve_built k zero st all j may n = may
+resolve_built k (suc f) st all j may n = through_built k (resolve f st) (resolve_built k f st all) j may n
+    (bound_term st j n) (entry_built k st all j may n)
 
-resolved_built : (k : Kit) (st : Store) → BindsBuiltOf k st → (t : Tree) → IsBuiltOf k t → IsBuiltOf k (apply (resolved st) t)
+pub resolved_built : (k : Kit) (st : Store) → BindsBuiltOf k st → (t : Tree) → IsBuiltOf k t → IsBuiltOf k (apply (resolved st) t)
 unfolding resolved
 resolved_built k st all t h = apply_built k _ (resolve_built k _ st all) t h
 
 -- And what comes of it where places give way to variables.
-generalised_built : (k : Kit) {before after : Store} {t u : Tree} → IsGeneralised before after t u → IsBuiltOf k t →
-    IsBuiltOf k u
-generalised_built k (kept e) h = subst (IsBuiltOf k) e h
-generalised_built k (replaced j n e o m s) h = subst (IsBuiltOf k) (sym e) tt
-generalised_built k (in_form g) h = (h.0, generalised_built k g h.1)
-generalised_built k (in_binder g) h = (h.0, generalised_built k g h.1)
-generalised_built k (in_list g f) h = (generalised_built k g h.0, generalised_built k f h.1)
+generalised_built : (k : Kit) → IsTrue k.variables → {before after : Store} {t u : Tree} →
+    IsGeneralised before after t u → IsBuiltOf k t → IsBuiltOf k u
+generalised_built k may (kept e) h = subst (IsBuiltOf k) e h
+generalised_built k may (replaced j n e o m s) h = subst (IsBuiltOf k) (sym e) (λ i. may)
+generalised_built k may (in_form g) h = (h.0, generalised_built k may g h.1)
+generalised_built k may (in_binder g) h = (h.0, generalised_built k may g h.1)
+generalised_built k may (in_list g f) h = (generalised_built k may g h.0, generalised_built k may f h.1)
 
 -- And a body, where stand-ins are put for what its binder binds.
 abbrev AllBuilt : Kit → List Tree → Type 0
 AllBuilt k [] = Unit {0}
 AllBuilt k (t ∷ ts) = IsBuiltOf k t × AllBuilt k ts
 
-stand_ins_built : (k : Kit) (ks : List BoundKind) (ts : List Tree) → StandFor ks ts → AllBuilt k ts
-stand_ins_built k [] [] h = tt
-stand_ins_built k [] (t ∷ ts) h = absurd h
-stand_ins_built k (q ∷ ks) [] h = absurd h
-stand_ins_built k (q ∷ ks) (t ∷ ts) h = (one t h.0, stand_ins_built k ks ts h.1)
+abbrev BindsSo : Kit → List BoundKind → Type 0
+BindsSo k ks = BindsRegions ks ⊎ IsTrue k.variables
+
+first_so : (k : Kit) (q : BoundKind) (ks : List BoundKind) → BindsSo k (q ∷ ks) →
+    (bound_sort q ≡ region_sort) ⊎ IsTrue k.variables
+first_so k q ks (inl h) = inl h.0
+first_so k q ks (inr h) = inr h
+
+rest_so : (k : Kit) (q : BoundKind) (ks : List BoundKind) → BindsSo k (q ∷ ks) → BindsSo k ks
+rest_so k q ks (inl h) = inl h.1
+rest_so k q ks (inr h) = inr h
+
+pub region_kind_is : (j : VarKind) → var_sort j ≡ region_sort → j ≡ region_var
+region_kind_is type_var e = absurd cc
+region_kind_is int_var e = absurd cc
+region_kind_is float_var e = absurd cc
+region_kind_is const_var e = absurd cc
+region_kind_is region_var e = refl
+
+varies_so : (k : Kit) (q : BoundKind) (j : VarKind) → var_sort j ≡ bound_sort q →
+    (bound_sort q ≡ region_sort) ⊎ IsTrue k.variables → MayVary k j
+varies_so k q j s (inl h) o = absurd (o (region_kind_is j (s ∙ h)))
+varies_so k q j s (inr h) o = h
+
+stand_ins_built : (k : Kit) (ks : List BoundKind) (ts : List Tree) → BindsSo k ks → StandFor ks ts → AllBuilt k ts
+stand_ins_built k [] [] so h = tt
+stand_ins_built k [] (t ∷ ts) so h = absurd h
+stand_ins_built k (q ∷ ks) [] so h = absurd h
+stand_ins_built k (q ∷ ks) (t ∷ ts) so h = (one t h.0, stand_ins_built k ks ts (rest_so k q ks so) h.1)
   where
     one : (t : Tree) → IsStandIn q t → IsBuiltOf k t
-    one (leaf (variable j n)) s = tt
+    one (leaf (variable j n)) s = varies_so k q j s (first_so k q ks so)
     one (leaf (placeholder j u n)) s = tt
     one t s = absurd s
 
@@ -164,7 +199,7 @@ place_built k (x ∷ ts) h zero t p = h.0
 place_built k (x ∷ ts) h (suc i) t p = place_built k ts h.1 i t p
 
 inst_built : (k : Kit) (ts : List Tree) → AllBuilt k ts → (d : ℕ) (t : Tree) → IsBuiltOf k t → IsBuiltOf k (inst ts d t)
-inst_built k ts h d (leaf (variable j n)) p = tt
+inst_built k ts h d (leaf (variable j n)) p = p
 inst_built k ts h d (leaf (bound j e i)) p = go (nat_eq e d)
   where
     go : (b : Bool) → IsBuiltOf k (cond b (tree_at ts i (leaf (bound j e i))) (leaf (bound j e i)))
@@ -179,45 +214,60 @@ inst_built k ts h d nil p = tt
 inst_built k ts h d (cons t u) p = (inst_built k ts h d t p.0, inst_built k ts h d u p.1)
 
 pub body_built : (k : Kit) (ks : List BoundKind) (ts : List Tree) (t x : Tree) → StandFor ks ts → x ≡ inst ts 0 t →
-    IsBuiltOf k t → IsBuiltOf k x
-body_built k ks ts t x s e h = subst (IsBuiltOf k) (sym e) (inst_built k ts (stand_ins_built k ks ts s) 0 t h)
+    IsBuiltOf k (bind ks t) → IsBuiltOf k x
+body_built k ks ts t x s e h =
+    subst (IsBuiltOf k) (sym e) (inst_built k ts (stand_ins_built k ks ts h.0.1 s) 0 t h.1)
 
 -- What was bound stands, and nothing else is.
 pub binds_still : (k : Kit) (before after : Store) → ((j : VarKind) (n : ℕ) → entry_of after j n ≡ entry_of before j n) →
     BindsBuiltOf k before → BindsBuiltOf k after
-binds_still k before after same all j n t e = all j n t (sym (same j n) ∙ e)
+binds_still k before after same all j may n t e = all j may n t (sym (same j n) ∙ e)
 
 -- An unbound variable got an entry that is built so.
 binds_written : (k : Kit) {before after : Store} {v : VarKind} {n : ℕ} {x : Entry} → WritesEntry before after v n x →
     ((t : Tree) → x ≡ bound_to t → IsBuiltOf k t) → BindsBuiltOf k before → BindsBuiltOf k after
-binds_written k {before} {after} {v} {n} {x} w built all j m t e = go (which j v m n)
+binds_written k {before} {after} {v} {n} {x} w built all j may m t e = go (which j v m n)
   where
     beside : StandsBeside before after v n x j m → IsBuiltOf k t
-    beside (as_it_was s) = all j m t (sym s ∙ e)
+    beside (as_it_was s) = all j may m t (sym s ∙ e)
     beside (led_on r p q i s) = absurd (cc (s, e))
 
     go : ((j ≡ v) × (m ≡ n)) ⊎ (j ≡ v → m ≡ n → ⊥) → IsBuiltOf k t
     go (inl (p, q)) = built t (sym w.written ∙ ap₂ (entry_of after) (sym p) (sym q) ∙ e)
     go (inr o) = beside (w.others_stand j m o)
 
+-- Nothing was written, one part of the work after another.
+pub writes_itself : (st : Store) → WritesNothing st st
+writes_itself st = record { entries = λ j o. refl; budget = refl }
+
+pub writes_then : {r q p : Store} → WritesNothing r q → WritesNothing q p → WritesNothing r p
+writes_then f g = record { entries = λ j o. g.entries j o ∙ f.entries j o; budget = g.budget ∙ f.budget }
+
+-- So it is where a kit has variables: nothing is said of that.
+pub has_variables : (k : Kit) (before after : Store) → IsTrue k.variables → k.variables ≡ false →
+    WritesNothing before after
+has_variables k before after has none = absurd (false≢true (sym none ∙ has))
+
 -- Nothing was bound and registered, and no universe made.
 pub builds_none : (k : Kit) (before after : Store) → BindsBuiltOf k after → after.universe ≡ before.universe →
-    after.tainted ≡ before.tainted → Builds k before after []
-builds_none k before after all same taint = record {
+    after.tainted ≡ before.tainted → (k.variables ≡ false → WritesNothing before after) → Builds k before after []
+builds_none k before after all same taint writes = record {
   binds = all;
   asks = All-nil (IsGoalOf k);
   universe = λ o. same;
   taint = λ n h. sym taint ∙ h;
+  writes = writes;
 }
 
 -- Nothing was bound, and a universe may have been made, where the kit has binders.
 pub builds_opened : (k : Kit) (before after : Store) → IsTrue k.binders → BindsBuiltOf k after →
-    after.tainted ≡ before.tainted → Builds k before after []
-builds_opened k before after has all taint = record {
+    after.tainted ≡ before.tainted → (k.variables ≡ false → WritesNothing before after) → Builds k before after []
+builds_opened k before after has all taint writes = record {
   binds = all;
   asks = All-nil (IsGoalOf k);
   universe = λ o. absurd (false≢true (sym o ∙ has));
   taint = λ n h. sym taint ∙ h;
+  writes = writes;
 }
 
 -- An error was met, and nothing else done.
@@ -228,10 +278,11 @@ builds_tainted k {before} {after} t has all = record {
   asks = All-nil (IsGoalOf k);
   universe = λ o. t.same_universe;
   taint = λ n h. absurd (has n);
+  writes = λ o. record { entries = λ j i. (t.nothing_else).same_entries j; budget = (t.nothing_else).same_budget };
 }
 
 pub built_itself : (st : Store) (a b : Tree) → StaysBuilt st st [] a b
-built_itself st a b = λ k ha hb all. builds_none k st st all refl refl
+built_itself st a b = λ k ha hb all. builds_none k st st all refl refl (λ o. writes_itself st)
 
 pub built_same : {before after : Store} (a b : Tree) → after ≡ before → StaysBuilt before after [] a b
 built_same {before} a b e = subst (λ st. StaysBuilt before st [] a b) (sym e) (built_itself before a b)
@@ -239,7 +290,13 @@ built_same {before} a b e = subst (λ st. StaysBuilt before st [] a b) (sym e) (
 -- A goal was registered, and nothing else was done.
 pub builds_asking : (k : Kit) (st : Store) (goals : List Goal) → All (IsGoalOf k) goals → BindsBuiltOf k st →
     Builds k st st goals
-builds_asking k st goals asks all = record { binds = all; asks = asks; universe = λ o. refl; taint = λ n h. h }
+builds_asking k st goals asks all = record {
+  binds = all;
+  asks = asks;
+  universe = λ o. refl;
+  taint = λ n h. h;
+  writes = λ o. writes_itself st;
+}
 
 -- So where no binder stands in two terms and what was bound, no universe was made.
 pub no_universe_made : {before after : Store} (gs : List Goal) (a b : Tree) → StaysBuilt before after gs a b →
@@ -256,6 +313,7 @@ builds_noting k {r} {q} gs hs same f asks = subst (λ st. Builds k r st (gs ++ h
   asks = All-append (IsGoalOf k) gs hs f.asks asks;
   universe = f.universe;
   taint = f.taint;
+  writes = f.writes;
 })
 
 -- Where goals are let go the rest stands.
@@ -263,7 +321,7 @@ pub built_refused : {before after : Store} (gs : List Goal) (a b : Tree) → Sta
     StaysBuilt before after [] a b
 built_refused gs a b f = λ k ha hb all.
     let z = f k ha hb all in
-    record { binds = z.binds; asks = All-nil (IsGoalOf k); universe = z.universe; taint = z.taint }
+    record { binds = z.binds; asks = All-nil (IsGoalOf k); universe = z.universe; taint = z.taint; writes = z.writes }
 
 -- One part of the work after another.
 pub builds_then : (k : Kit) {r q p : Store} (gs hs : List Goal) → Builds k r q gs → Builds k q p hs →
@@ -273,6 +331,7 @@ builds_then k gs hs f g = record {
   asks = All-append (IsGoalOf k) gs hs f.asks g.asks;
   universe = λ o. g.universe o ∙ f.universe o;
   taint = λ n h. f.taint n (g.taint n h);
+  writes = λ o. writes_then (f.writes o) (g.writes o);
 }
 
 -- Of two pairs the second was led to by the first.
@@ -287,12 +346,21 @@ pub built_then : {r q p : Store} (gs hs : List Goal) (a b : Tree) → StaysBuilt
     StaysBuilt r p (gs ++ hs) a b
 built_then gs hs a b f g = built_led gs hs a b a b f (λ k ha hb all. (ha, hb)) g
 
+-- Where the pair that is left needs a variable, so did the first.
+pub needs_led : {r q : Store} (gs : List Goal) (a b x y : Tree) → StaysBuilt r q gs a b → BuiltFrom r a b x y →
+    NeedsVariable q x y → NeedsVariable r a b
+needs_led gs a b x y f l n = λ k ha hb all.
+    let w = l k ha hb all in
+    n k w.0 w.1 (f k ha hb all).binds
+
 -- One constraint was recorded.
 pub built_constraint : (before after : Store) (a b : Tree) → ((j : VarKind) → after.entries j ≡ before.entries j) →
-    after.universe ≡ before.universe → after.tainted ≡ before.tainted → StaysBuilt before after [] a b
-built_constraint before after a b same universe taint = λ k ha hb all.
+    after.universe ≡ before.universe → after.tainted ≡ before.tainted → after.budget ≡ before.budget →
+    StaysBuilt before after [] a b
+built_constraint before after a b same universe taint budget = λ k ha hb all.
     builds_none k before after
     (binds_still k before after (λ j n. ap (λ es. get_or es n unbound) (same j)) all) universe taint
+    (λ o. record { entries = λ j i. same j; budget = budget })
 
 -- Variables were made, of which nothing is recorded.
 unbound_entries : {u : ℕ} {before after : Store} → MakesUnbound u before after → (j : VarKind) (n : ℕ) →
@@ -309,52 +377,106 @@ unbound_taint : {u : ℕ} {before after : Store} → MakesUnbound u before after
 unbound_taint makes_none = refl
 unbound_taint (makes_one f o q) = q.same_taint ∙ unbound_taint f
 
+unbound_budget : {u : ℕ} {before after : Store} → MakesUnbound u before after → after.budget ≡ before.budget
+unbound_budget makes_none = refl
+unbound_budget (makes_one f o q) = q.same_budget ∙ unbound_budget f
+
+-- Such as a variable of the two calls for.
 pub built_unbound : {u : ℕ} {before after : Store} (a b : Tree) → MakesUnbound u before after →
-    StaysBuilt before after [] a b
-built_unbound {before = before} {after = after} a b f = λ k ha hb all.
+    ((k : Kit) → IsBuiltOf k a → IsBuiltOf k b → IsTrue k.variables) → StaysBuilt before after [] a b
+built_unbound {before = before} {after = after} a b f may = λ k ha hb all.
     builds_none k before after (binds_still k before after (unbound_entries f) all) (unbound_universe f)
-    (unbound_taint f)
+    (unbound_taint f) (has_variables k before after (may k ha hb))
+
+-- Such as the variables of a binder call for.
+variable_kind_sort : (k : BoundKind) → variable_kind k ≢ region_var → bound_sort k ≢ region_sort
+variable_kind_sort (bound_kind type_kind n) o e = cc
+variable_kind_sort (bound_kind region_kind n) o e = o refl
+variable_kind_sort (bound_kind const_kind n) o e = cc
+
+regions_before : (ks : List BoundKind) (k : BoundKind) → BindsRegions (ks ++ k ∷ []) →
+    BindsRegions ks × (bound_sort k ≡ region_sort)
+regions_before [] k h = (tt, h.0)
+regions_before (x ∷ ks) k h = let z = regions_before ks k h.1 in ((h.0, z.0), z.1)
+
+first_regions : (n : ℕ) (ks : List BoundKind) → BindsRegions ks → BindsRegions (take n ks)
+first_regions zero ks h = tt
+first_regions (suc n) [] h = tt
+first_regions (suc n) (k ∷ ks) h = (h.0, first_regions n ks h.1)
+
+pub each_writes : {u : ℕ} {before after : Store} {ks : List BoundKind} {xs : List Tree} → MakesEach u before ks xs after →
+    BindsRegions ks → WritesNothing before after
+each_writes {before = before} (each_none p q) h = writes_itself before
+each_writes (each_next {ks = ks} k f q p e) h =
+    let z = regions_before ks k (subst BindsRegions p h) in
+    writes_then (each_writes f z.0) (record {
+      entries = λ j o. q.other_entries j (λ i. region_only k z.1 (λ d. o (i ∙ d)));
+      budget = q.same_budget;
+    })
+  where
+    region_only : (k : BoundKind) → bound_sort k ≡ region_sort → variable_kind k ≢ region_var → ⊥
+    region_only k s o = variable_kind_sort k o s
+
+pub first_writes : {u : ℕ} {before after : Store} (ks : List BoundKind) → MakesFirst u before ks after →
+    BindsRegions ks → WritesNothing before after
+first_writes ks f h = each_writes f.2 (first_regions f.0 ks h)
 
 -- Binders were opened.
-pub built_opened : {middle : Store} {u : ℕ} (before after : Store) (a b : Tree) → ChangesNothing before middle →
-    middle.tainted ≡ before.tainted → MakesUnbound u middle after → ((k : Kit) → IsBuiltOf k a → IsTrue k.binders) →
+pub built_opened : {middle : Store} {u : ℕ} (before after : Store) (ks : List BoundKind) (a b : Tree) →
+    ChangesNothing before middle → middle.tainted ≡ before.tainted → MakesUnbound u middle after →
+    (BindsRegions ks → WritesNothing middle after) → ((k : Kit) → IsBuiltOf k a → IsBuiltOf k b → MayBind k ks) →
     StaysBuilt before after [] a b
-built_opened {middle} before after a b h taint f has = λ k ha hb all.
-    builds_opened k before after (has k ha) (binds_still k before after
+built_opened {middle} before after ks a b h taint f made has = λ k ha hb all.
+    let may = has k ha hb in
+    builds_opened k before after may.0 (binds_still k before after
     (λ j n. unbound_entries f j n ∙ ap (λ es. get_or es n unbound) (h.same_entries j)) all) (unbound_taint f ∙ taint)
+    (λ o. writes_then (record { entries = λ j i. h.same_entries j; budget = h.same_budget }) (opened k o may.1))
+  where
+    opened : (k : Kit) → k.variables ≡ false → BindsSo k ks → WritesNothing middle after
+    opened k o (inl r) = made r
+    opened k o (inr r) = has_variables k middle after r o
 
 -- A variable was bound to what a term comes to, generalised.
 module _ {x : Variance} {before after : Store} {v : VarKind} {n : ℕ} {source term : Tree}
     (f : Instantiates before after x v n source term) where
-  pub term_built : (k : Kit) → BindsBuiltOf k before → IsBuiltOf k source → IsBuiltOf k term
-  term_built k all h = generalised_built k f.generalised (resolved_built k before all source h)
+  pub term_built : (k : Kit) → IsTrue k.variables → BindsBuiltOf k before → IsBuiltOf k source → IsBuiltOf k term
+  term_built k may all h = generalised_built k may f.generalised (resolved_built k before all source h)
 
-  pub builds_instantiated : (k : Kit) → BindsBuiltOf k before → IsBuiltOf k source → Builds k before after []
-  builds_instantiated k all h = builds_none k before after binds f.same_universe f.same_taint
+  pub builds_instantiated : (k : Kit) → IsTrue k.variables → BindsBuiltOf k before → IsBuiltOf k source →
+      Builds k before after []
+  builds_instantiated k may all h = builds_none k before after binds f.same_universe f.same_taint
+      (has_variables k before after may)
     where
       binds : BindsBuiltOf k after
-      binds j m t e = go (which j v m n)
+      binds j vary m t e = go (which j v m n)
         where
           go : ((j ≡ v) × (m ≡ n)) ⊎ (j ≡ v → m ≡ n → ⊥) → IsBuiltOf k t
           go (inl (p, q)) =
               let d : entry_of after v n ≡ bound_to t = ap₂ (entry_of after) (sym p) (sym q) ∙ e in
               let i = f.now_bound in
               let same : term ≡ t = cc (d, i) in
-              subst (IsBuiltOf k) same (term_built k all h)
-          go (inr o) = all j m t (sym (f.others_stand j m o) ∙ e)
+              subst (IsBuiltOf k) same (term_built k may all h)
+          go (inr o) = all j vary m t (sym (f.others_stand j m o) ∙ e)
 
 -- Two variables were made one.
 pub built_equated : {before after : Store} {v : VarKind} {child root : ℕ} (a b : Tree) →
-    Equates before after v child root → StaysBuilt before after [] a b
-built_equated {before} {after} a b q = λ k ha hb all.
+    Equates before after v child root → ((k : Kit) → IsBuiltOf k a → IsTrue k.variables) → StaysBuilt before after [] a b
+built_equated {before} {after} a b q may = λ k ha hb all.
     builds_none k before after (binds_written k q.links (λ t e. absurd cc) all) (q.links).same_universe
-    (q.links).same_taint
+    (q.links).same_taint (has_variables k before after (may k ha))
 
 -- A number variable was bound to a type of its kind.
+number_no_region : (v : VarKind) (t : Tree) → IsNumberFor v t → v ≢ region_var
+number_no_region int_var t h e = cc
+number_no_region float_var t h e = cc
+number_no_region v t h e = h
+
 pub builds_number : (k : Kit) {before after : Store} {v : VarKind} {n : ℕ} (t : Tree) →
-    InstantiatesNumber before after v n t → IsBuiltOf k t → BindsBuiltOf k before → Builds k before after []
-builds_number k {before} {after} t q h all =
+    InstantiatesNumber before after v n t → MayVary k v → IsBuiltOf k t → BindsBuiltOf k before →
+    Builds k before after []
+builds_number k {before} {after} {v} t q may h all =
     builds_none k before after (binds_written k q.writes same all) (q.writes).same_universe (q.writes).same_taint
+    (has_variables k before after (may (λ e. number_no_region v t q.fits e)))
   where
     same : (u : Tree) → bound_to t ≡ bound_to u → IsBuiltOf k u
     same u e = let i : t ≡ u = cc in subst (IsBuiltOf k) i h

@@ -24,7 +24,7 @@ use Rattle.relation_semantics.specs.Outcomes.{Outcome, CarriesOver, NeverOne, Ex
 use Rattle.relation_semantics.specs.Headline.{IsFirstOrderPair}
 use Rattle.relation_semantics.specs.FirstOrder.{IsFirstOrderStore, IsErasedSolution}
 use Rattle.relation_semantics.specs.Steps.{IsLater, StaysFullFor}
-use Rattle.relation_semantics.specs.Kits.{StaysBuilt, BuiltFrom, IsGoalOf}
+use Rattle.relation_semantics.specs.Kits.{StaysBuilt, BuiltFrom, NeedsVariable, IsGoalOf}
 use Rattle.relation_semantics.specs.Measures.{grown, Goes}
 use Rattle.relation_semantics.specs.Lawful.{State, Manner, Manners, Takes, MayAnswer, Passes, Asked, Refuses, Answers, Verdict, Related, Leads}
 use Rattle.relation_semantics.specs.Lawful.{RefusesAs, VerdictAs, RelatedAs, RelatedForms}
@@ -35,7 +35,7 @@ use Rattle.relation_semantics.proofs.Registered.{registered_in, registered_both,
 use Rattle.relation_semantics.proofs.Going.{goes_nowhere, goes_within, goes_then, le_grown, later_itself, later_through}
 use Rattle.relation_semantics.proofs.Shrinking.{first_order_before}
 use Rattle.relation_semantics.proofs.Full.{full_itself, full_same, full_then, full_led, full_could}
-use Rattle.relation_semantics.proofs.Building.{built_itself, built_led, no_binder_from, builds_noting}
+use Rattle.relation_semantics.proofs.Building.{built_itself, built_led, needs_led, no_binder_from, builds_noting}
 use Rattle.relation_semantics.proofs.Composing.{steps_compose, first_goals}
 use Rattle.relation_semantics.proofs.Growing.{All_front}
 use Rattle.relation_semantics.proofs.Standing.{later_term}
@@ -43,6 +43,7 @@ use Rattle.relation_semantics.proofs.Agreeing.{agree_anything}
 use Rattle.relation_semantics.proofs.Answering.{same_environment, same_settings, same_items, may_itself, may_later, if_ok_both}
 use Rattle.relation_semantics.specs.OneUniverse.{KeepsUniverse, KeepsUniverseOf, LeadsInUniverse, BindsNoMore}
 use Rattle.relation_semantics.proofs.OneUniverse.{keeps_itself, keeps_binds, kept_then, binds_as_many, leads_itself, led_keeps, led_binds, led_fewer}
+use Rattle.relation_semantics.proofs.Erased.{xform_invariant}
 
 -- An outcome over other items, in another environment, after other goals, which are the same.
 moved : {c d : Items} {e k : Tree} {gs hs : List Goal} (way : Way) (before after : Store) (added : List Goal)
@@ -53,13 +54,7 @@ moved {c} {d} {e} {k} {gs} {hs} way before after added a b p q s f =
     (subst (λ z. Outcome c z way before after hs added a b) q
     (subst (λ z. Outcome c e way before after z added a b) s f))
 
--- Invariance seen from invariance, which is not bivariance.
-pub invariantly : (v : Variance) {w : Variance} → w ≡ Invariant → xform w v ≡ Invariant
-invariantly v e = ap (λ z. xform z v) e ∙ from_it v
-  where
-    from_it : (v : Variance) → xform Invariant v ≡ Invariant
-    from_it v = refl
-
+-- Invariance is not bivariance.
 invariant_is_not : Invariant ≡ Bivariant → ⊥
 invariant_is_not e = absurd cc
 
@@ -157,16 +152,16 @@ module _ {Key Id Name : Type 0} where
       (subst₂ (λ k c. Agree k c (at v) x y) (same_settings g.kept) (same_items g) h)
 
   pub led_refuses : {n m : ℕ} {r q p : State Key Id Name} (g : Passes n r q) (f : Passes m q p) → IsSound p.store →
-      (a b x y : Tree) (v : Variance) → Leads r q g.added a b v x y → (e : RelateFault Key Id Name) →
-      Refuses q p v x y e → Refuses r p r.ambient a b e
-  led_refuses {r = r} {q = q} {p = p} g f sound a b x y v l (Unrelated e) h = (
+      (a b x y : Tree) (v : Variance) → Leads r q g.added a b v x y → StaysBuilt r.store q.store g.added a b →
+      BuiltFrom r.store a b x y → (e : RelateFault Key Id Name) → Refuses q p v x y e → Refuses r p r.ambient a b e
+  led_refuses {r = r} {q = q} {p = p} g f sound a b x y v l built from (Unrelated e) h = (
     (steps_compose (items_in r) r.kept.environment (at r.ambient) (at v) r.store q.store p.store r.goals g.added f.added
         a b x y l.steps).1 h.0,
     l.errors p.meaning p.kept.settings (items_in p) p.store e (f.goes).later sound h.1,
     h.2,
   )
-  led_refuses g f sound a b x y v l Budget h = h
-  led_refuses g f sound a b x y v l Memory h = tt
+  led_refuses g f sound a b x y v l built from Budget h = (h.0, needs_led g.added a b x y built from h.1)
+  led_refuses g f sound a b x y v l built from Memory h = tt
 
   -- A step led exactly to another pair, and what comes of that.
   abbrev pub LeadsExactly : Manners → State Key Id Name → State Key Id Name → Tree → Tree → Tree → Tree → Type 0
@@ -289,7 +284,7 @@ module _ {Key Id Name : Type 0} where
         known = v.known;
         agrees = λ k. led_agrees g a b x y r.ambient l.leads (v.agrees (manner_then M (λ z. z.relates_agreeing) g k));
       }
-      verdict (Err e) v = led_refuses g f.passes sound a b x y r.ambient l.leads e
+      verdict (Err e) v = led_refuses g f.passes sound a b x y r.ambient l.leads built l.built e
           (met_refuses q p r.ambient x y (subst (λ k. IsLeftToGoal k x y → ⊥) (sym (same_settings (f.passes).kept)) l.not_left) e v)
 
   -- The pair to which a step led was related, and the answer is the one that the step named.
@@ -319,7 +314,7 @@ module _ {Key Id Name : Type 0} where
             ((f.verdict).agrees (manner_then M (λ z. z.relates_agreeing) g k));
       };
       exact = exact_led {X = Y} (M r.kept.settings) r.store q.store p.store a b x y r.ambient (xform r.ambient v)
-          (invariantly v) exactly (Ok z)
+          (xform_invariant _ v) exactly (Ok z)
           (same_manner M (λ m. ExactlyRelated {Key = Key} {Id = Id} {Name = Name} m q.store p.store (xform r.ambient v) x y
           (Ok t)) g f.exact);
       full = λ ha hb. full_could led.may_instantiate;
@@ -331,9 +326,9 @@ module _ {Key Id Name : Type 0} where
     unfolding passes_then
     again_refused {X = X} {Y = Y} {p = p} sound tree answer e f = record {
       passes = passes_then g f.passes small;
-      verdict = led_refuses g f.passes sound a b x y (xform r.ambient v) led.leads e f.verdict;
+      verdict = led_refuses g f.passes sound a b x y (xform r.ambient v) led.leads built led.built e f.verdict;
       exact = exact_led {X = Y} (M r.kept.settings) r.store q.store p.store a b x y r.ambient (xform r.ambient v)
-          (invariantly v) exactly (Err e) (λ k is pair. exact_fault X Y q.store p.store x y e
+          (xform_invariant _ v) exactly (Err e) (λ k is pair. exact_fault X Y q.store p.store x y e
           (f.exact (manner_then M (λ z. z.is_exact) g k) is pair));
       full = λ ha hb. full_could led.may_instantiate;
       built = built_led g.added (f.passes).added a b x y built led.built f.built;
@@ -382,7 +377,8 @@ module _ {Key Id Name : Type 0} where
     noted_built : StaysBuilt r.store p.store ((f.passes).added ++ (h.passes).added) a b
     noted_built k ha hb all =
         let z = from k ha hb all in
-        builds_noting k (f.passes).added (h.passes).added h.store (f.built k ha hb all) (h.built k z.0 z.1)
+        let built = f.built k ha hb all in
+        builds_noting k (f.passes).added (h.passes).added h.store built (h.built k z.0 z.1 built.binds)
 
     pub noted_related : (answer : X → Tree) → answer t ≡ tree t → RelatedAs w M r p (at v) a b answer (Ok t)
     unfolding passes_then both
@@ -443,7 +439,8 @@ module _ {Key Id Name : Type 0} where
           (subst₂ (λ m s. ErrorOf m q.kept.settings (items_of m) s v e a b) (sym back.meaning) (sym back.store) h.1),
       subst (λ m. KnowsError m e) (sym back.meaning) h.2,
     )
-    turned_refuses Budget h = ap (λ s. s.budget) back.store ∙ h
+    turned_refuses Budget h =
+        (ap (λ s. s.budget) back.store ∙ h.0, subst (λ s. NeedsVariable s a b) there.store h.1)
     turned_refuses Memory h = tt
 
     turned_answers : (added : List Goal) (z : Tree) → Answers M t q added v a b z → Answers M r u added v a b z
@@ -508,7 +505,7 @@ module _ {Key Id Name : Type 0} where
     passes = passes_nowhere 0 r;
     store = refl;
     quiet = All-nil IsQuiet;
-    built = λ k ha hb. All-nil (IsGoalOf k);
+    built = λ k ha hb all. All-nil (IsGoalOf k);
     fault = tt;
   }
 
@@ -677,7 +674,7 @@ module _ {Key Id Name : Type 0} where
         let promised = same_manner M (λ z. z.is_exact) f.passes z in
         let read = led.read_exactly (same_manner M (λ z. z.is_exact) g promised) is
         (record { left = pair.left; right = pair.right; bindings = bindings }) in
-        let one = ((f.exact promised (invariantly v is) read.0).1).shrinks s sol in
+        let one = ((f.exact promised (xform_invariant _ v is) read.0).1).shrinks s sol in
         ((read.1).shrinks s one.0 one.1).1;
     agrees = λ z. (led.read_leads).agrees p.kept.settings (items_in p)
         (subst₂ (λ j c. Agree j c (at (xform r.ambient v)) x y) (sym (same_settings (f.passes).kept))

@@ -118,7 +118,7 @@ module _ {Key Id Name : Type 0} where
       seen_from (of_too_much o e) = of_too_much o e
 
 -- What is asked of two types, one an alias, is registered where aliases are left to goals, and speaks of the two.
-alias_is : {x y : Tree} → Some x ≡ Some y → y ≡ x
+pub alias_is : {x y : Tree} → Some x ≡ Some y → y ≡ x
 alias_is e = cc
 
 pub alias_registered : (c : Items) (k : Settings) (v : Variance) (before after : Store) (a b p : Tree) →
@@ -153,13 +153,13 @@ by_declared d Bivariant h k = absurd (h refl)
 
 -- Where that is not said, at invariance only those goals are registered that aliases and opaque types call for: so none
 -- where neither stands in the terms and in what is bound.
-abbrev no_aliases : Head → Bool
+abbrev pub no_aliases : Head → Bool
 no_aliases (alias k d) = false
 no_aliases (unevaluated d) = false
 no_aliases h = true
 
 pub all_but_aliases : Kit
-all_but_aliases = record { heads = no_aliases; atoms = λ x. true; binders = true }
+all_but_aliases = record { heads = no_aliases; atoms = λ x. true; binders = true; variables = true }
 
 pub lacks_alias : (t : Tree) → IsBuiltOf all_but_aliases t → IsAlias t → ⊥
 unfolding all_but_aliases
@@ -175,7 +175,7 @@ first_order_head h o = refl
 
 pub first_order_built : (t : Tree) → IsFirstOrder t → IsBuiltOf all_but_aliases t
 unfolding all_but_aliases
-first_order_built (leaf (variable k n)) h = tt
+first_order_built (leaf (variable k n)) h = λ o. refl
 first_order_built (leaf (bound k d i)) h = tt
 first_order_built (leaf (placeholder k u n)) h = tt
 first_order_built (leaf (atom x)) h = refl
@@ -186,7 +186,7 @@ first_order_built nil h = tt
 first_order_built (cons t u) h = (first_order_built t h.0, first_order_built u h.1)
 
 pub first_order_bindings : (st : Store) → IsFirstOrderStore st → BindsBuiltOf all_but_aliases st
-first_order_bindings st h = λ j n t e. first_order_built t (h j n t (ap (entry_term j) e))
+first_order_bindings st h = λ j may n t e. first_order_built t (h j n t (ap (entry_term j) e))
 
 pub none_at_invariance : {c : Items} {k : Settings} {e : Tree} {before after : Store} (gs : List Goal) (v : Variance) →
     v ≡ Invariant → IsFalse k.declared_at_invariance → All (IsGoalOf all_but_aliases) gs →

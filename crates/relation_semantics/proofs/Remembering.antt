@@ -209,6 +209,6 @@ noted_remembering {r = r} h a b x fault = record {
   passes = passes_remembering h (passes_nowhere 0 r);
   store = h.store;
   quiet = All-nil IsQuiet;
-  built = λ k ha hb. All-nil (IsGoalOf k);
+  built = λ k ha hb all. All-nil (IsGoalOf k);
   fault = fault;
 }

@@ -8,7 +8,7 @@ use Rattle.relation_semantics.specs.Relation.{Interpretation}
 use Rattle.relation_semantics.specs.Stores.{Store, same_as, entry_term, bound_term, IsSound, Satisfies}
 use Rattle.relation_semantics.specs.FirstOrder.{IsFirstOrder, IsFirstOrderStore}
 use Rattle.relation_semantics.specs.Steps.{Equates, StaysFull}
-use Rattle.relation_semantics.specs.Kits.{StaysBuilt}
+use Rattle.relation_semantics.specs.Kits.{IsBuiltOf, StaysBuilt}
 use Rattle.relation_semantics.proofs.Building.{built_same, built_equated}
 use Rattle.relation_semantics.specs.Measures.{Goes}
 use Rattle.relation_semantics.specs.Outcomes.{Exact}
@@ -89,12 +89,12 @@ module _ (before after : Store) (k : VarKind) (no_region : k ≢ region_var) (x 
       go (no o) = equated_full before after k (max x y) (min x y) (q o) g no_region
 
   -- Nothing that is built of anything was bound.
-  pub roots_built : (a b : Tree) → StaysBuilt before after [] a b
-  roots_built a b = go (ℕ_discrete x y)
+  pub roots_built : (a b : Tree) → a ≡ var x → StaysBuilt before after [] a b
+  roots_built a b is = go (ℕ_discrete x y)
     where
       go : Dec (x ≡ y) → StaysBuilt before after [] a b
       go (yes e) = built_same a b (stays e)
-      go (no o) = built_equated a b (q o)
+      go (no o) = built_equated a b (q o) (λ j ha. subst (IsBuiltOf j) is ha no_region)
 
   pub roots_equal : (w : Interpretation) (s : Assign) → Satisfies w after s → s k x ≡ s k y
   roots_equal w s sat = go (ℕ_discrete x y)

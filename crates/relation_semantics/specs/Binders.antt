@@ -1,12 +1,11 @@
 -- Opening binders in a context: placeholders or new variables put for what a binder binds.
-use Rattle.std.specs.Prelude.{◌≡◌, ℕ, List, [], ◌∷◌, ◌++◌, Option, Some, None, IsTrue, Result, Ok, Err}
+use Rattle.std.specs.Prelude.{◌≡◌, ℕ, List, [], ◌∷◌, ◌++◌, take, Option, Some, None, IsTrue, Result, Ok, Err}
 use Rattle.relation_terms.specs.declared.terms.binder.Binder.{Binder}
 use Rattle.relation_terms.specs.Heads.{type_kind, region_kind, const_kind, BoundKind, bound_kind}
 use Rattle.relation_terms.specs.Heads.{VarKind, type_var, const_var, region_var, variable}
 use Rattle.relation_terms.specs.Trees.{Tree, leaf, bind, inst, known}
 use Rattle.relation_terms.specs.Meaning.{Meaning, under}
 use Rattle.relation_semantics.specs.Contexts.{Context}
-use Rattle.relation_semantics.specs.Generalising.{MakesUnbound}
 use Rattle.relation_semantics.specs.Steps.{MakesVariable, ChangesNothing, EntersForall}
 use Rattle.relation_semantics.specs.Stores.{Store}
 
@@ -28,6 +27,15 @@ pub data MakesEach (u : ℕ) (before : Store) : List BoundKind → List Tree →
   makes_next : {middle after : Store} {ks ls : List BoundKind} {xs ys : List Tree} {n : ℕ} (k : BoundKind) →
       MakesEach u before ks xs middle → MakesVariable middle after (variable_kind k) n u → ls ≡ ks ++ k ∷ [] →
       ys ≡ xs ++ leaf (variable (variable_kind k) n) ∷ [] → MakesEach u before ls ys after
+
+-- Such were made for the first places of a list, and for the others none.
+abbrev pub MakesFirst : ℕ → Store → List BoundKind → Store → Type 0
+MakesFirst u before ks after = (n : ℕ) × (xs : List Tree) × MakesEach u before (take n ks) xs after
+
+-- What a binder binds.
+abbrev pub bound_by : Tree → List BoundKind
+bound_by (bind ks t) = ks
+bound_by t = []
 
 -- A body with the variables that were made for its binder put for what that binds.
 pub record InstantiatesEach (before after : Store) (ks : List BoundKind) (body opened : Tree) : Type 0 where
@@ -61,11 +69,11 @@ module _ {Key Id Name : Type 0} (c d : Context Key Id Name) where
   InstantiatesAs (bind ks t) x = InstantiatesEach c.store d.store ks t x
   InstantiatesAs t x = ⊥
 
-  -- A binder's body was answered over new variables; or a growth was refused, and variables that were made on the way
+  -- A binder's body was answered over new variables; or a growth was refused, and the variables that were made on the way
   -- stay unbound.
   abbrev pub InstantiatesWithInfer : {K F : Type 0} → (Meaning Key Id Name → K → Tree) → Tree → Result K F → Type 0
   InstantiatesWithInfer tree t (Ok x) = IsTrue (known (tree d.meaning x)) × InstantiatesAs t (tree d.meaning x)
-  InstantiatesWithInfer tree t (Err f) = MakesUnbound (c.store).universe c.store d.store
+  InstantiatesWithInfer tree t (Err f) = MakesFirst (c.store).universe c.store (bound_by t) d.store
 
   -- The same of a binder over what has a tree.
   abbrev pub InstantiatesBinderOf : {K F : Type 0} → (Meaning Key Id Name → K → Tree) → Binder Key K → Result K F →
@@ -78,9 +86,10 @@ module _ {Key Id Name : Type 0} (c d : Context Key Id Name) where
       InstantiatesEach middle d.store ls u y
   OpensFrom t u x y = ⊥
 
-  -- Both bodies were answered; or a growth was refused: a universe may have been made, and variables that stay unbound.
+  -- Both bodies were answered; or a growth was refused: a universe may have been made, and some of the variables, which
+  -- stay unbound.
   abbrev pub OpensBoth : {K F : Type 0} → (Meaning Key Id Name → K → Tree) → Tree → Tree → Result (K × K) F → Type 0
   OpensBoth tree t u (Ok p) = IsTrue (known (tree d.meaning p.0)) × IsTrue (known (tree d.meaning p.1)) ×
       OpensFrom t u (tree d.meaning p.0) (tree d.meaning p.1)
   OpensBoth tree t u (Err f) = (middle : Store) × ChangesNothing c.store middle ×
-      (middle.tainted ≡ (c.store).tainted) × MakesUnbound middle.universe middle d.store
+      (middle.tainted ≡ (c.store).tainted) × MakesFirst middle.universe middle (bound_by u) d.store

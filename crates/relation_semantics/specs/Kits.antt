@@ -1,38 +1,53 @@
 -- What terms are built of. Relating binds, and asks about, only what is built of what the two terms and the bindings were
 -- built of: it brings in no form, no atom and no binder of its own.
 --
---   Kit                    which forms and atoms may be used, and whether binders
+--   Kit                    which forms and atoms may be used, and whether binders, and variables but of regions
 --   IsBuiltOf k t          a term is built of a kit
 --   BindsBuiltOf k st      so is each term that a variable is bound to
 --   IsGoalOf k g           so are the terms that a goal speaks of
 --   HasNoError k           it has no error
 --   Builds k st st' gs     so is what was bound and registered from one record to another
+--   WritesNothing st st'   nothing was bound and spent, and no variable made but of regions
+--   NeedsVariable st a b   a variable but of a region stands in one of two terms
 --   StaysBuilt st st' gs a b    so it is by each kit of which two terms and the bindings before were built
 --   BuiltFrom st a b x y   by each such kit two other terms are built of it too
-use Rattle.std.specs.Prelude.{◌≡◌, ℕ, Bool, false, List, All, IsTrue}
-use Rattle.relation_terms.specs.Heads.{VarKind, Head, alias, opaque_alias, Atom, type_error, const_error, ambiguous, atom}
+use Rattle.std.specs.Prelude.{◌≡◌, ◌≢◌, ◌⊎◌, ℕ, Bool, false, List, All, IsTrue}
+use Rattle.relation_terms.specs.Heads.{BoundKind, VarKind, region_var, Head, alias, opaque_alias, well_formed, Atom}
+use Rattle.relation_terms.specs.Heads.{type_error, const_error, ambiguous, variable, atom}
 use Rattle.relation_terms.specs.Trees.{Tree, leaf, node, bind, nil, cons}
+use Rattle.relation_semantics.specs.Asking.{BindsRegions}
 use Rattle.relation_semantics.specs.Stores.{Store, bound_to, entry_of}
 use Rattle.relation_semantics.specs.Goals.{Goal}
 
--- What terms may be built of: which forms and atoms may be used, and whether binders. All other leaves may be.
+-- What terms may be built of: which forms and atoms may be used; whether binders; and whether variables but of regions,
+-- and binders that bind other than regions. All other leaves may be.
 pub record Kit : Type 0 where
   pub heads : Head → Bool
   pub atoms : Atom → Bool
   pub binders : Bool
+  pub variables : Bool
+
+-- It has variables of a kind.
+abbrev pub MayVary : Kit → VarKind → Type 0
+MayVary k j = j ≢ region_var → IsTrue k.variables
+
+-- It has binders that bind so.
+abbrev pub MayBind : Kit → List BoundKind → Type 0
+MayBind k ks = IsTrue k.binders × (BindsRegions ks ⊎ IsTrue k.variables)
 
 -- A tree is built of a kit.
 abbrev pub IsBuiltOf : Kit → Tree → Type 0
 IsBuiltOf k (leaf (atom x)) = IsTrue (k.atoms x)
+IsBuiltOf k (leaf (variable j n)) = MayVary k j
 IsBuiltOf k (leaf l) = Unit {0}
 IsBuiltOf k (node h ts) = IsTrue (k.heads h) × IsBuiltOf k ts
-IsBuiltOf k (bind ks t) = IsTrue k.binders × IsBuiltOf k t
+IsBuiltOf k (bind ks t) = MayBind k ks × IsBuiltOf k t
 IsBuiltOf k nil = Unit {0}
 IsBuiltOf k (cons t ts) = IsBuiltOf k t × IsBuiltOf k ts
 
--- Each term that a variable is bound to is built of it.
+-- Each term that a variable of it is bound to is built of it.
 abbrev pub BindsBuiltOf : Kit → Store → Type 0
-BindsBuiltOf k st = (j : VarKind) (n : ℕ) (t : Tree) → entry_of st j n ≡ bound_to t → IsBuiltOf k t
+BindsBuiltOf k st = (j : VarKind) → MayVary k j → (n : ℕ) (t : Tree) → entry_of st j n ≡ bound_to t → IsBuiltOf k t
 
 -- It has opaque types.
 abbrev pub HasOpaque : Kit → Type 0
@@ -43,8 +58,9 @@ abbrev pub HasNoError : Kit → Type 0
 HasNoError k = (k.atoms type_error ≡ false) × (k.atoms const_error ≡ false)
 
 -- What a predicate speaks of, the parts of its form, is built of it; where too much was met to tell, that was an opaque
--- type.
+-- type; and that a type is well formed is asked only where there are variables.
 abbrev pub IsPredicateOf : Kit → Tree → Type 0
+IsPredicateOf k (bind ks (node well_formed ts)) = IsTrue k.variables × IsBuiltOf k ts
 IsPredicateOf k (bind ks (node h ts)) = IsBuiltOf k ts
 IsPredicateOf k (bind ks (leaf (atom ambiguous))) = HasOpaque k
 IsPredicateOf k p = IsBuiltOf k p
@@ -53,13 +69,20 @@ IsPredicateOf k p = IsBuiltOf k p
 abbrev pub IsGoalOf : Kit → Goal → Type 0
 IsGoalOf k g = IsPredicateOf k g.predicate
 
+-- Nothing was bound and spent, and no variable was made but of regions.
+pub record WritesNothing (before after : Store) : Type 0 where
+  pub entries : (j : VarKind) → j ≢ region_var → after.entries j ≡ before.entries j
+  pub budget : after.budget ≡ before.budget
+
 -- What is bound after, and what was registered, is built of a kit; the current universe is the old one, unless the kit
--- has binders; and it is tainted only if it was, unless the kit has an error.
+-- has binders; it is tainted only if it was, unless the kit has an error; and nothing was bound and spent, and no variable
+-- made but of regions, unless the kit has others.
 pub record Builds (k : Kit) (before after : Store) (added : List Goal) : Type 0 where
   pub binds : BindsBuiltOf k after
   pub asks : All (IsGoalOf k) added
   pub universe : k.binders ≡ false → after.universe ≡ before.universe
   pub taint : HasNoError k → IsTrue after.tainted → IsTrue before.tainted
+  pub writes : k.variables ≡ false → WritesNothing before after
 
 -- Of whatever two terms and all that was bound are built, so is what is bound after and what was registered.
 abbrev pub StaysBuilt : Store → Store → List Goal → Tree → Tree → Type 0
@@ -70,3 +93,7 @@ StaysBuilt before after added a b =
 abbrev pub BuiltFrom : Store → Tree → Tree → Tree → Tree → Type 0
 BuiltFrom st a b x y =
     (k : Kit) → IsBuiltOf k a → IsBuiltOf k b → BindsBuiltOf k st → IsBuiltOf k x × IsBuiltOf k y
+
+-- Of whatever two terms and all that is bound are built, that has variables but of regions: one stands in the two.
+abbrev pub NeedsVariable : Store → Tree → Tree → Type 0
+NeedsVariable st a b = (k : Kit) → IsBuiltOf k a → IsBuiltOf k b → BindsBuiltOf k st → IsTrue k.variables

@@ -47,7 +47,7 @@ use Rattle.relation_semantics.specs.Stores.{Store, IsSound, IsTermIn, weight}
 use Rattle.relation_semantics.specs.Goals.{Goal, goal_of, Registered, ByDeclared, IsQuiet, Relates}
 use Rattle.relation_semantics.specs.Settings.{Settings}
 use Rattle.relation_semantics.specs.Steps.{IsLater, InstantiatesNone, StaysFullFor}
-use Rattle.relation_semantics.specs.Kits.{Kit, IsBuiltOf, IsGoalOf, StaysBuilt, BuiltFrom}
+use Rattle.relation_semantics.specs.Kits.{Kit, IsBuiltOf, BindsBuiltOf, IsGoalOf, StaysBuilt, BuiltFrom, NeedsVariable}
 use Rattle.relation_semantics.specs.Outcomes.{Outcome, StepsTo, CarriesOver, NeverOne, Exact, ExactStep, NoUnifier}
 use Rattle.relation_semantics.specs.Headline.{IsFirstOrderPair}
 use Rattle.relation_semantics.specs.OneUniverse.{KeepsUniverseOf, LeadsInUniverse, BindsNoMore, BindsFewer}
@@ -206,12 +206,13 @@ module _ {Key Id Name : Type 0} where
   MayAnswerBy M q (first_opened ks ls v) t u = Unit {0}
 
   -- What a fault says of two terms at a variance: a type error that no assignment makes them one, and which error it
-  -- is, over known terms; a spent budget that nothing is left of it; want of memory nothing.
+  -- is, over known terms; a spent budget that nothing is left of it, and that a variable but of a region stands in one of
+  -- them; want of memory nothing.
   abbrev pub RefusesAs : Meeting → State Key Id Name → State Key Id Name → Way → Tree → Tree → RelateFault Key Id Name →
       Type 0
   RefusesAs x r q way a b (Unrelated e) = NeverOne way r.store a b ×
       ErrorAs q.meaning x q.kept.settings (items_in q) q.store (seen_at way) e a b × KnowsError q.meaning e
-  RefusesAs x r q way a b Budget = (q.store).budget ≡ 0
+  RefusesAs x r q way a b Budget = ((q.store).budget ≡ 0) × NeedsVariable r.store a b
   RefusesAs x r q way a b Memory = Unit {0}
 
   -- The same of a pair that is met, and of two terms at a variance.
@@ -422,11 +423,11 @@ module _ {Key Id Name : Type 0} where
   OnlyMemory (Err f) = ⊥
 
   -- Something was noted of two terms: what is recorded stands; no goal that was added asks anything of two terms, and
-  -- each is built of what they are built of; and a fault is want of memory.
+  -- each is built of what they and the bindings are built of; and a fault is want of memory.
   pub record Noted {X : Type 0} (r q : State Key Id Name) (a b : Tree) (result : Result X (RelateFault Key Id Name)) :
       Type 0 where
     pub passes : Passes 0 r q
     pub store : q.store ≡ r.store
     pub quiet : All IsQuiet passes.added
-    pub built : (k : Kit) → IsBuiltOf k a → IsBuiltOf k b → All (IsGoalOf k) passes.added
+    pub built : (k : Kit) → IsBuiltOf k a → IsBuiltOf k b → BindsBuiltOf k r.store → All (IsGoalOf k) passes.added
     pub fault : OnlyMemory result

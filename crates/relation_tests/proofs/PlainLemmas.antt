@@ -196,7 +196,8 @@ module _ {Key Id Name : Type 0} (m : Meaning Key Id Name) where
             (standing_keeps (plain_store m cs) (plain_store m (cs ++ c ∷ [])) (λ k. refl) (λ k. refl)),
       );
       full = λ ha hb. full_by (goes v cs c of_store 0) (λ k. refl) (λ all. all);
-      built = λ k ha hb all. builds_none k (plain_store m cs) (plain_store m (cs ++ c ∷ [])) all refl refl;
+      built = λ k ha hb all. builds_none k (plain_store m cs) (plain_store m (cs ++ c ∷ [])) all refl refl
+          (λ o. record { entries = λ j i. refl; budget = refl });
     }
 
     pub regions_related : (ds : List (RegionConstraint Key)) (x : RegionKey Key) → ds ≡ cs ++ c ∷ [] → x ≡ a →

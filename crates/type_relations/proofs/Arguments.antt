@@ -30,7 +30,7 @@ use Rattle.relation_semantics.specs.Lawful.{ExactlyRelated, items_in}
 use Rattle.type_relations.proofs.PartSizes.{weight_parts_most}
 use Rattle.relation_semantics.proofs.Registered.{registered_in}
 use Rattle.relation_semantics.proofs.Passing.{passes_within, passes_then, manner_then, stopped}
-use Rattle.type_relations.proofs.Fronts.{Fronted, AreParts, IsLookedAt, fronted_all, fronted_never, fronted_passes, fronted_fault, fronted_exactly}
+use Rattle.type_relations.proofs.Fronts.{Fronted, AreParts, IsLookedAt, fronted_all, fronted_never, fronted_passes, fronted_fault, fronted_exactly, fronted_needs}
 use Rattle.type_relations.proofs.Fronts.{fronted_full, fronted_built, fronted_agree}
 use Rattle.relation_semantics.proofs.Answering.{same_items, may_itself}
 use Rattle.relation_semantics.proofs.OneUniverse.{keeps_binds, binds_as}
@@ -208,7 +208,8 @@ module _ {Key Id Name : Type 0} {r q : State Key Id Name} (M : Manners) (v : Var
           (sym (same_items l ∙ same_items f.passes)) o.1)),
       o.2,
     )
-    refuses l Budget o = o
+    refuses l Budget o =
+        (o.0, λ j ha hb. fronted_needs h v i ts us x y f lx ly ex ey o.1 j ha.1 hb.1)
     refuses l Memory o = tt
 
     exactly : (A B : Type 0) (p : State Key Id Name) (e : RelateFault Key Id Name) →
@@ -240,13 +241,6 @@ args_heads e (Adt d) = ap adt (e.id d.0)
 args_heads e (FnDef d) = ap fn_def (e.id d.0)
 args_heads e (AliasTerm k) = ap (alias_term (alias_term_kind k)) (e.id (alias_term_id k))
 args_heads e (Trait d) = ap trait_ref (e.id d.0)
-
-pub are_list : (k : Sort) (ts : Tree) → AreTerms k ts → IsList ts
-are_list k nil h = tt
-are_list k (cons t ts) h = are_list k ts h.1
-are_list k (leaf l) h = absurd h
-are_list k (node g ts) h = absurd h
-are_list k (bind ks t) h = absurd h
 
 -- Two types of one form, one over an item and the other over an item in the same form: the items are one.
 pub over_one_adt : (d e : ℕ) (a b ts us : Tree) → a ≡ node (adt d) ts → b ≡ node (adt e) us → AreOfOneForm a b →

@@ -1,5 +1,5 @@
 -- Bivariant arguments that are left open.
-use Rattle.std.proofs.Common.{◌≡◌, ◌⊎◌, ◌↔◌, ℕ, suc, ◌<◌, refl, sym, ap, ap₂, ◌∙◌, arith, inl, inr, subst, subst₂, Bool, false, List, IsTrue, Result, Ok, Err}
+use Rattle.std.proofs.Common.{◌≡◌, ◌⊎◌, ◌↔◌, ℕ, suc, ◌<◌, refl, sym, ap, ap₂, ◌∙◌, arith, inl, inr, subst, subst₂, Bool, true, false, ◌||◌, List, IsTrue, Result, Ok, Err}
 use Rattle.std.proofs.lemmas.Bool.{false≢true}
 use Rattle.relation_terms.specs.declared.terms.ids.DefId.{DefId}
 use Rattle.relation_terms.specs.declared.terms.keys.ArgsKey.{ArgsKey}
@@ -8,18 +8,21 @@ use Rattle.relation_terms.specs.Meaning.{Meaning, Extends}
 use Rattle.term_enums.specs.declared.Variance.TheVariants.{Bivariant}
 use Rattle.relation_terms.specs.Flags.{has_non_region_infer}
 use Rattle.relation_terms.specs.Heads.{region_sort, type_var, int_var, float_var, const_var, region_var, Leaf, variable, bound, placeholder, atom, unknown, adt, fn_def}
-use Rattle.relation_terms.specs.Trees.{Tree, leaf, node, bind, nil, cons, known, IsTerm, count}
+use Rattle.relation_terms.specs.Trees.{Tree, leaf, node, bind, nil, cons, nth, apply, known, IsTerm, count}
+use Rattle.relation_semantics.specs.Kits.{Kit, IsBuiltOf, BindsBuiltOf}
 use Rattle.relation_semantics.specs.Relation.{Items}
 use Rattle.type_relations.specs.Arguments.{AreOverItem, adts, functions}
 use Rattle.type_relations.specs.Bivariance.{is_left_open, IsOpenAt, HasOpenArgument, TellsOpen, TellsEitherOpen, RegistersWellFormed, AsksWellFormed, AsksOfOver}
 use Rattle.type_relations.specs.Keyed.{AreOver}
 use Rattle.relation_semantics.specs.Lawful.{State, declared_by, items_of, items_in}
 use Rattle.relation_semantics.specs.Goals.{Goal, HasBivariantPart}
-use Rattle.relation_semantics.specs.Stores.{Store, entry_term, IsSound, IsTermIn}
+use Rattle.relation_semantics.specs.Stores.{Store, entry_term, resolved, IsSound, IsTermIn}
+use Rattle.relation_semantics.proofs.Building.{built_nth, resolved_built}
 use Rattle.relation_semantics.proofs.Composing.{below_or}
 use Rattle.relation_terms.proofs.Members.{no_region}
 use Rattle.relation_semantics.proofs.Parts.{in_parts}
 use Rattle.relation_semantics.proofs.Resolved.{resolved_free}
+use Rattle.relation_semantics.proofs.Answering.{items_stay}
 
 -- A region is never left open: region variables are not bound.
 pub region_closed : (st : Store) → IsSound st → (t : Tree) → IsTerm region_sort t → is_left_open st t ≡ false
@@ -72,6 +75,42 @@ bivariant_parts c st d a b ts us over h = go over
     go (adts p q) = (subst (HasBivariantPart c) (sym p) (place h), subst (HasBivariantPart c) (sym q) (place h))
     go (functions p q) = (subst (HasBivariantPart c) (sym p) (place h), subst (HasBivariantPart c) (sym q) (place h))
 
+-- Where a variable but of a region stands in what a term comes to, what that is built of has such.
+open_varies : (k : Kit) (t : Tree) → IsBuiltOf k t → IsTrue (has_non_region_infer t) → IsTrue k.variables
+open_varies k (leaf (variable region_var n)) h o = absurd (false≢true o)
+open_varies k (leaf (variable type_var n)) h o = h (λ e. cc)
+open_varies k (leaf (variable int_var n)) h o = h (λ e. cc)
+open_varies k (leaf (variable float_var n)) h o = h (λ e. cc)
+open_varies k (leaf (variable const_var n)) h o = h (λ e. cc)
+open_varies k (leaf (bound b d i)) h o = absurd (false≢true o)
+open_varies k (leaf (placeholder b u n)) h o = absurd (false≢true o)
+open_varies k (leaf (atom x)) h o = absurd (false≢true o)
+open_varies k (leaf unknown) h o = absurd (false≢true o)
+open_varies k (node f ts) h o = open_varies k ts h.1 o
+open_varies k (bind ks t) h o = open_varies k t h.1 o
+open_varies k nil h o = absurd (false≢true o)
+open_varies k (cons t u) h o = go (has_non_region_infer t) refl
+  where
+    go : (b : Bool) → has_non_region_infer t ≡ b → IsTrue k.variables
+    go true e = open_varies k t h.0 e
+    go false e = open_varies k u h.1 (sym (ap (λ b. b || has_non_region_infer u) e) ∙ o)
+
+open_argument : (k : Kit) (c : Items) (st : Store) (d : ℕ) (ts : Tree) → BindsBuiltOf k st → IsBuiltOf k ts →
+    HasOpenArgument c st d ts → IsTrue k.variables
+open_argument k c st d ts all h o =
+    open_varies k (apply (resolved st) (nth o.0 ts)) (resolved_built k st all (nth o.0 ts) (built_nth k o.0 ts h)) o.1.2
+
+pub open_in_kit : (k : Kit) (c : Items) (st : Store) (d : ℕ) (a b ts us : Tree) → AreOverItem d a b ts us →
+    HasOpenArgument c st d ts ⊎ HasOpenArgument c st d us → BindsBuiltOf k st → IsBuiltOf k a → IsBuiltOf k b →
+    IsTrue k.variables
+open_in_kit k c st d a b ts us over o all ha hb = go over o
+  where
+    go : AreOverItem d a b ts us → HasOpenArgument c st d ts ⊎ HasOpenArgument c st d us → IsTrue k.variables
+    go (adts p q) (inl o) = open_argument k c st d ts all (subst (IsBuiltOf k) p ha).1 o
+    go (adts p q) (inr o) = open_argument k c st d us all (subst (IsBuiltOf k) q hb).1 o
+    go (functions p q) (inl o) = open_argument k c st d ts all (subst (IsBuiltOf k) p ha).1 o
+    go (functions p q) (inr o) = open_argument k c st d us all (subst (IsBuiltOf k) q hb).1 o
+
 -- The lists that two types of a context are over are its.
 pub over_in : (st : Store) (d : ℕ) (a b ts us : Tree) → AreOverItem d a b ts us → IsTermIn st a → IsTermIn st b →
     IsTermIn st ts × IsTermIn st us
@@ -102,9 +141,6 @@ tells_either c st d ts us b e h (Ok x) f = ((λ y. inr (f.0 y)), go)
 tells_either c st d ts us b e h (Err x) f = tt
 
 -- The same while keys are added to.
-pub items_stay : {Key Id Name : Type 0} {m n : Meaning Key Id Name} → Extends m n → items_of n ≡ items_of m
-items_stay e = ap₂ declared_by e.variances e.alias_variances
-
 pub tells_still : {Key Id Name F : Type 0} {m n : Meaning Key Id Name} (e : Extends m n) (d : Id) (xs : ArgsKey Key) →
     IsTrue (known (m.args xs)) → (was now : Store) → now ≡ was → (result : Result Bool F) →
     TellsOpen (items_of n) now (n.id d) (n.args xs) result → TellsOpen (items_of m) was (m.id d) (m.args xs) result

@@ -10,13 +10,13 @@ use Rattle.type_relations.specs.Arguments.{AreOverItem}
 use Rattle.type_relations.specs.Bivariance.{HasOpenArgument, RegistersWellFormed}
 use Rattle.type_relations.specs.Emitting.{AddsGoals, KnowsPredicate, goals_in, with_goals}
 use Rattle.relation_semantics.specs.Goals.{Goal, ByDeclared, IsQuiet, goal_of, well_formed_predicate, HasBivariantPart, of_type}
-use Rattle.relation_semantics.specs.Kits.{Kit, IsBuiltOf, IsGoalOf}
+use Rattle.relation_semantics.specs.Kits.{Kit, IsBuiltOf, BindsBuiltOf, IsGoalOf}
 use Rattle.relation_semantics.specs.Lawful.{State, Noted, OnlyMemory, WithMeaning, RegisteredIn, RelatesByDeclared, items_in}
 use Rattle.relation_semantics.specs.Stores.{InContext, IsTermIn}
-use Rattle.type_relations.proofs.Bivariance.{bivariant_parts, items_stay}
+use Rattle.type_relations.proofs.Bivariance.{bivariant_parts, open_in_kit}
 use Rattle.type_relations.proofs.Noting.{noted_with, noted_then, noted_added}
 use Rattle.relation_semantics.proofs.Standing.{term_context}
-use Rattle.relation_semantics.proofs.Answering.{same_environment, same_settings}
+use Rattle.relation_semantics.proofs.Answering.{same_environment, same_settings, items_stay}
 
 -- Predicates of known trees are known.
 pub listed_known : {Key Id Name : Type 0} (m : Meaning Key Id Name) (ps : List (PredicateKey Key)) →
@@ -77,10 +77,14 @@ module _ {Key Id Name : Type 0} (r q p : State Key Id Name) (d : ℕ) (a b ts us
       (goal_of p.kept.environment (well_formed_predicate b) ∷ []) tt
       (All-cons IsQuiet (goal_of p.kept.environment (well_formed_predicate b)) [] tt (All-nil IsQuiet))
 
-  both_built : (k : Kit) → IsBuiltOf k a → IsBuiltOf k b → All (IsGoalOf k) (both p.kept.environment)
-  both_built k ha hb = All-cons (IsGoalOf k) (goal_of p.kept.environment (well_formed_predicate a))
-      (goal_of p.kept.environment (well_formed_predicate b) ∷ []) (ha, tt)
-      (All-cons (IsGoalOf k) (goal_of p.kept.environment (well_formed_predicate b)) [] (hb, tt) (All-nil (IsGoalOf k)))
+  both_built : (k : Kit) → IsBuiltOf k a → IsBuiltOf k b → BindsBuiltOf k r.store →
+      All (IsGoalOf k) (both p.kept.environment)
+  both_built k ha hb all =
+      let has = open_in_kit k (items_in r) r.store d a b ts us over h all ha hb in
+      All-cons (IsGoalOf k) (goal_of p.kept.environment (well_formed_predicate a))
+      (goal_of p.kept.environment (well_formed_predicate b) ∷ []) (has, (ha, tt))
+      (All-cons (IsGoalOf k) (goal_of p.kept.environment (well_formed_predicate b)) [] (has, (hb, tt))
+      (All-nil (IsGoalOf k)))
 
   module _ {A F : Type 0} (u : State Key Id Name) (result : Result A F) (adds : AddsGoals p u (goals_in p ps) result) where
     pub noted_both : (x : Result (Unit {0}) (RelateFault Key Id Name)) → OnlyMemory x → Noted r u a b x
@@ -89,7 +93,8 @@ module _ {Key Id Name : Type 0} (r q p : State Key Id Name) (d : ℕ) (a b ts us
         (noted_then (Ok (tt {0})) x (noted_with f v (Ok (tt {0})) tt)
         (noted_added (goals_in p ps) result adds
         (subst (All (RegisteredIn p p.store)) (sym listed) asks)
-        (subst (All IsQuiet) (sym listed) quiet) (λ k ha hb. subst (All (IsGoalOf k)) (sym listed) (both_built k ha hb))
+        (subst (All IsQuiet) (sym listed) quiet) (λ k ha hb all. subst (All (IsGoalOf k)) (sym listed)
+        (both_built k ha hb (subst (BindsBuiltOf k) (v.store ∙ w.store) all)))
         x fault))
 
     pub both_registered : (y : A) → result ≡ Ok y →

@@ -15,7 +15,7 @@ use Rattle.relation_semantics.specs.Outcomes.{Outcome, Front, NeverOne, Exact, E
 use Rattle.relation_semantics.specs.Measures.{grown}
 use Rattle.relation_semantics.specs.Steps.{HasNoBinder, StaysFullFor}
 use Rattle.relation_semantics.specs.Goals.{Goal}
-use Rattle.relation_semantics.specs.Kits.{IsBuiltOf, StaysBuilt}
+use Rattle.relation_semantics.specs.Kits.{IsBuiltOf, StaysBuilt, NeedsVariable, BuiltFrom}
 use Rattle.relation_folds.specs.declared.error.RelateFault.{RelateFault}
 use Rattle.relation_folds.specs.declared.error.RelateFault.TheVariants.{Memory, Budget, Unrelated}
 use Rattle.relation_semantics.specs.OneUniverse.{NamesTypesTo, KeepsUniverseOf, LeadsInUniverse}
@@ -23,7 +23,7 @@ use Rattle.relation_semantics.specs.Lawful.{State, Manners, Passes, Related, Exa
 use Rattle.relation_semantics.proofs.OneUniverse.{keeps_itself, keeps_pair, leaves_nth, led_keeps, led_binds, led_fewer}
 use Rattle.relation_semantics.proofs.Going.{pair_grown, later_itself}
 use Rattle.relation_semantics.proofs.Full.{full_itself, full_then, nth_plain}
-use Rattle.relation_semantics.proofs.Building.{built_itself, built_led, built_nth}
+use Rattle.relation_semantics.proofs.Building.{built_itself, built_led, built_nth, needs_led}
 use Rattle.relation_semantics.proofs.Composing.{front_begins, front_goes_on, front_ends}
 use Rattle.relation_semantics.proofs.Passing.{passes_nowhere, passes_then, manner_then, outcome_seen}
 use Rattle.relation_semantics.proofs.Parts.{nth_size}
@@ -135,14 +135,21 @@ module _ {Key Id Name : Type 0} where
     fronted_full g ha hb = full_then (f.full ha hb)
         (g (subst HasNoBinder (sym ex) (nth_plain i xs ha)) (subst HasNoBinder (sym ey) (nth_plain i ys hb)))
 
+    -- They are built of what the lists are.
+    part_from : BuiltFrom r.store xs ys x y
+    part_from k ha hb all = (
+      subst (IsBuiltOf k) (sym ex) (built_nth k i xs ha),
+      subst (IsBuiltOf k) (sym ey) (built_nth k i ys hb),
+    )
+
     -- Nothing was bound and registered that is not built of what the lists and the bindings were built of.
     pub fronted_built : {p : Store} (gs : List Goal) → StaysBuilt q.store p gs x y →
         StaysBuilt r.store p ((f.passes).added ++ gs) xs ys
-    fronted_built gs g = built_led (f.passes).added gs xs ys x y f.built
-        (λ k ha hb all. (
-          subst (IsBuiltOf k) (sym ex) (built_nth k i xs ha),
-          subst (IsBuiltOf k) (sym ey) (built_nth k i ys hb),
-        )) g
+    fronted_built gs g = built_led (f.passes).added gs xs ys x y f.built part_from g
+
+    -- A variable that stands in the parts stands in the lists.
+    pub fronted_needs : NeedsVariable q.store x y → NeedsVariable r.store xs ys
+    fronted_needs n = needs_led (f.passes).added xs ys x y f.built part_from n
 
     pub fronted_next : {X : Type 0} {p : State Key Id Name} (tree : X → Tree) (t : X) →
         AreParts r.store xs ys → Related M q p (part_at (items_in r) h i v) x y tree (Ok t) →

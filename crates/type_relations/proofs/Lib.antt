@@ -53,12 +53,14 @@ pub mod EmittingBoth
 pub mod GoalPasses
 pub mod Leaving
 pub mod LeavingSteps
+pub mod Shapes
 pub mod RegionTerms
 pub mod PlainTerms
 pub mod PlainForms
 pub mod Disagreeing
 pub mod AskedGoals
 pub mod Completing
+pub mod Closed
 mod BindingAsked
 mod CombiningTys
 mod Registering

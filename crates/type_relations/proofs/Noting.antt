@@ -11,7 +11,7 @@ use Rattle.relation_semantics.specs.ContextCalls.{Grows}
 use Rattle.type_relations.specs.Emitting.{AddsGoals, IsOver, WithContext, with_goals}
 use Rattle.relation_semantics.specs.Measures.{Goes}
 use Rattle.relation_semantics.specs.Goals.{Goal, IsQuiet}
-use Rattle.relation_semantics.specs.Kits.{Kit, IsBuiltOf, IsGoalOf}
+use Rattle.relation_semantics.specs.Kits.{Kit, IsBuiltOf, BindsBuiltOf, IsGoalOf}
 use Rattle.relation_semantics.specs.Lawful.{State, Noted, OnlyMemory, WithMeaning, RegisteredIn}
 use Rattle.relation_semantics.specs.Steps.{IsLater}
 use Rattle.relation_semantics.specs.Stores.{Store}
@@ -26,7 +26,8 @@ module _ {Key Id Name : Type 0} where
     passes = passes_then f.passes g.passes (omega arith);
     store = g.store ∙ f.store;
     quiet = All-append IsQuiet (f.passes).added (g.passes).added f.quiet g.quiet;
-    built = λ k ha hb. All-append (IsGoalOf k) (f.passes).added (g.passes).added (f.built k ha hb) (g.built k ha hb);
+    built = λ k ha hb all. All-append (IsGoalOf k) (f.passes).added (g.passes).added (f.built k ha hb all)
+        (g.built k ha hb (subst (BindsBuiltOf k) (sym f.store) all));
     fault = g.fault;
   }
 
@@ -38,19 +39,20 @@ module _ {Key Id Name : Type 0} where
     passes = passes_grown (passes_nowhere 0 r) e w;
     store = w.store;
     quiet = All-nil IsQuiet;
-    built = λ k ha hb. All-nil (IsGoalOf k);
+    built = λ k ha hb all. All-nil (IsGoalOf k);
     fault = fault;
   }
 
   -- Goals that ask nothing of two terms were added, or were not.
   pub noted_added : {X A F : Type 0} {r q : State Key Id Name} {a b : Tree} (goals : List Goal) (result : Result A F) →
       AddsGoals r q goals result → All (RegisteredIn r r.store) goals → All IsQuiet goals →
-      ((k : Kit) → IsBuiltOf k a → IsBuiltOf k b → All (IsGoalOf k) goals) →
+      ((k : Kit) → IsBuiltOf k a → IsBuiltOf k b → BindsBuiltOf k r.store → All (IsGoalOf k) goals) →
       (x : Result X (RelateFault Key Id Name)) → OnlyMemory x → Noted r q a b x
   noted_added {X = X} {r = r} {q = q} {a = a} {b = b} goals result h asks quiet built x fault = go result h.goals
     where
       noted : (added : List Goal) → q.goals ≡ r.goals ++ added → All (RegisteredIn r r.store) added →
-          All IsQuiet added → ((k : Kit) → IsBuiltOf k a → IsBuiltOf k b → All (IsGoalOf k) added) → Noted r q a b x
+          All IsQuiet added → ((k : Kit) → IsBuiltOf k a → IsBuiltOf k b → BindsBuiltOf k r.store →
+          All (IsGoalOf k) added) → Noted r q a b x
       noted added lengthens registered silent of_kit = record {
         passes = record {
           extends = subst (λ m. Extends r.meaning m) (sym h.meaning) (stays_same r.meaning);
@@ -71,11 +73,7 @@ module _ {Key Id Name : Type 0} where
       go : {A F : Type 0} (res : Result A F) → q.goals ≡ with_goals r.goals goals res → Noted r q a b x
       go (Ok y) e = noted goals e asks quiet built
       go (Err f) e = noted [] (e ∙ sym (append-nil r.goals))
-          (All-nil (RegisteredIn r r.store)) (All-nil IsQuiet) (λ k ha hb. All-nil (IsGoalOf k))
-
--- Where nothing was recorded, what is recorded is later.
-pub later_same : {was now : Store} → now ≡ was → IsLater was now
-later_same {was = was} e = subst (IsLater was) (sym e) (later_itself was)
+          (All-nil (RegisteredIn r r.store)) (All-nil IsQuiet) (λ k ha hb all. All-nil (IsGoalOf k))
 
 -- What a context's interner was added to, a relation over it was.
 module _ {Key Id Name : Type 0} (r q : State Key Id Name) (c d : Context Key Id Name) (o : IsOver r c) (g : Grows c d)

@@ -16,8 +16,8 @@ use Rattle.relation_semantics.specs.Goals.{Goal}
 use Rattle.relation_semantics.specs.Steps.{ChangesNothing, EntersForall, LeavesBody, EntersUniverse, InstantiatesBinder}
 use Rattle.relation_semantics.specs.Steps.{ArePlaceholders}
 use Rattle.relation_semantics.specs.Outcomes.{StepsTo}
-use Rattle.relation_semantics.specs.Kits.{Kit, IsBuiltOf, StaysBuilt, BuiltFrom}
-use Rattle.relation_semantics.proofs.Building.{body_built, built_opened}
+use Rattle.relation_semantics.specs.Kits.{Kit, IsBuiltOf, StaysBuilt, BuiltFrom, MayBind}
+use Rattle.relation_semantics.proofs.Building.{body_built, built_opened, each_writes}
 use Rattle.relation_semantics.specs.Measures.{Goes}
 use Rattle.relation_semantics.specs.Settings.{Settings}
 use Rattle.relation_semantics.specs.Errors.{IsStandIn, StandFor, ErrorOf, of_bodies}
@@ -154,7 +154,7 @@ bodies_error m k c st v e ks ls t u x y p q o =
 pub bodies_built : (st : Store) (ks ls : List BoundKind) (t u x y : Tree) → StandIns ks t x → StandIns ls u y →
     BuiltFrom st (bind ks t) (bind ls u) x y
 bodies_built st ks ls t u x y p q = λ k ha hb all.
-    (body_built k ks p.trees t x p.stand p.put ha.1, body_built k ls q.trees u y q.stand q.put hb.1)
+    (body_built k ks p.trees t x p.stand p.put ha, body_built k ls q.trees u y q.stand q.put hb)
 
 -- Two binders agree if the opened bodies do.
 pub bodies_agree : (set : Settings) (c : Items) (v : Variance) (ks ls : List BoundKind) (t u x y : Tree) → StandIns ks t x →
@@ -166,7 +166,8 @@ bodies_agree set c v ks ls t u x y p q f h g = inr (agree_opened set c ks ls p.t
 -- What is shown of both bodies together, of which the first was entered and the second instantiated.
 pub record BothOpened (before after : Store) (ks ls : List BoundKind) (t u x y : Tree) : Type 0 where
   pub goes : Goes 0 before after
-  pub built : (a b : Tree) → ((k : Kit) → IsBuiltOf k a → IsTrue k.binders) → StaysBuilt before after [] a b
+  pub built : (a b : Tree) → ((k : Kit) → IsBuiltOf k a → IsBuiltOf k b → MayBind k ls) →
+      StaysBuilt before after [] a b
   pub same_budget : after.budget ≡ before.budget
   pub entered_in : IsTermIn after x
   pub instantiated_in : IsTermIn after y
@@ -213,8 +214,8 @@ module _ (before middle after : Store) (g : IsSound before) (ks ls : List BoundK
   pub both_opened : BothOpened before after ks ls t u x y
   both_opened = record {
     goes = opened_goes before middle after enters.changes_nothing g (each_unbound makes.makes);
-    built = λ a b has. built_opened before after a b enters.changes_nothing enters.same_taint
-        (each_unbound makes.makes) has;
+    built = λ a b has. built_opened before after ls a b enters.changes_nothing enters.same_taint
+        (each_unbound makes.makes) (each_writes makes.makes) has;
     same_budget = added.budget ∙ enters.changes_nothing.same_budget;
     entered_in = let e = added.universe in
         later_term middle after (added.later).grows (omega (arith, e)) x entered_there.0;

@@ -26,7 +26,7 @@ use Rattle.relation_semantics.proofs.Agreeing.{agree_read, agree_root, agree_roo
 use Rattle.relation_semantics.specs.Stores.{Store, IsSound, Satisfies, IsMade, InContext, MayStandFor, weight}
 use Rattle.relation_semantics.specs.Goals.{Goal, GoalInContext, MakesOneTree}
 use Rattle.relation_semantics.specs.Steps.{Equates, InstantiatesNumber, StaysFull}
-use Rattle.relation_semantics.specs.Kits.{StaysBuilt}
+use Rattle.relation_semantics.specs.Kits.{StaysBuilt, IsBuiltOf}
 use Rattle.relation_semantics.proofs.Building.{built_itself, builds_number, read_from}
 use Rattle.relation_semantics.specs.Outcomes.{Exact, NoEqualTerms, NoUnifier}
 use Rattle.relation_semantics.specs.Measures.{Goes}
@@ -173,7 +173,7 @@ module _ {Key Id Name : Type 0} (r : State Key Id Name) where
       (λ h. let z = roots_exactly was now k o i l sound still equates h in
       (z.0, subst₂ (Exact was now) (sym p) (sym q) z.1))
       (roots_universe was now k o i l sound still equates) (roots_full was now k o i l sound still equates)
-      (roots_built was now k o i l sound still equates a b)
+      (roots_built was now k o i l sound still equates a b p)
       (inl answer) (subst (λ z. IsTrue (known z)) (sym (answer ∙ p)) refl)
       (λ set c. agree_root set c r.ambient k i a b p (ap sort_of q))
 
@@ -189,7 +189,7 @@ module _ {Key Id Name : Type 0} (r : State Key Id Name) where
       (λ f. let z = number_exactly was now k i b h sound f in
       (z.0, subst (λ c. Exact was now c b) (sym p) z.1))
       (number_universe was now k i b h sound) (number_full was now k i b h sound)
-      (λ j ha hb all. builds_number j b h hb all)
+      (λ j ha hb all. builds_number j b h (subst (IsBuiltOf j) p ha) hb all)
       (inr answer) (subst (λ z. IsTrue (known z)) (sym answer) sure)
       (λ set c. agree_root set c r.ambient k i a b p (number_sort k b h.fits))
 
@@ -208,7 +208,7 @@ module _ {Key Id Name : Type 0} (r : State Key Id Name) where
             (subst (λ c. Exact was now c a) (sym p) z.1),
       ))
       (number_universe was now k i a h sound) (number_full was now k i a h sound)
-      (λ j ha hb all. builds_number j a h ha all)
+      (λ j ha hb all. builds_number j a h (subst (IsBuiltOf j) p hb) ha all)
       (inl answer) (subst (λ z. IsTrue (known z)) (sym answer) sure)
       (λ set c. agree_root_back set c r.ambient k i a b p (number_sort k a h.fits))
 

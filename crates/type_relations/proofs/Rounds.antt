@@ -21,7 +21,7 @@ use Rattle.relation_semantics.specs.Goals.{Goal}
 use Rattle.relation_semantics.specs.Outcomes.{Outcome, NeverOne}
 use Rattle.relation_semantics.specs.Measures.{grown, depth, Goes}
 use Rattle.relation_semantics.specs.Steps.{HasNoBinder}
-use Rattle.relation_semantics.specs.Kits.{Kit, IsBuiltOf, StaysBuilt}
+use Rattle.relation_semantics.specs.Kits.{Kit, IsBuiltOf, StaysBuilt, MayBind}
 use Rattle.relation_semantics.specs.Errors.{ErrorOf}
 use Rattle.relation_semantics.specs.Agreeing.{Agree}
 use Rattle.relation_semantics.specs.Lawful.{State, Manners, MayAnswer, Passes, Asked, Refuses, Related, items_in}
@@ -31,11 +31,13 @@ use Rattle.type_relations.specs.Rounds.{RoundLeads, Opened}
 use Rattle.relation_semantics.proofs.Standing.{term_context}
 use Rattle.relation_semantics.proofs.Going.{grown-mono, le_grown, depth-strict, depth_later, le_square, weight_cons}
 use Rattle.relation_semantics.proofs.Full.{first_order_plain, full_never}
-use Rattle.relation_semantics.proofs.Building.{built_led, built_then}
+use Rattle.relation_semantics.proofs.Building.{built_led, built_then, needs_led}
 use Rattle.relation_semantics.proofs.Answering.{may_itself, same_items, same_settings}
 use Rattle.relation_semantics.proofs.Composing.{steps_compose, values_still}
-use Rattle.relation_semantics.proofs.Opening.{two_rounds_relate, binder_kinds, binder_bodies}
+use Rattle.relation_semantics.proofs.Opening.{two_rounds_relate}
 use Rattle.relation_semantics.proofs.Passing.{passes_then, manner_then, stopped, asked_later, outcome_seen}
+use Rattle.relation_terms.proofs.Paths.{kinds_path, bind_path}
+use Rattle.relation_semantics.specs.Binders.{bound_by}
 
 -- Two binders.
 abbrev AreBinders : Tree → Tree → Type 0
@@ -52,11 +54,11 @@ pub under_known : (vars : Option (List BoundKind)) (t : Tree) → IsTrue (known 
 under_known (Some ks) t k h = h
 under_known None t k h = false≢true k
 
--- What a known binder is built of has binders.
-pub under_built : (vars : Option (List BoundKind)) (t : Tree) → IsTrue (known (under vars t)) → (k : Kit) →
-    IsBuiltOf k (under vars t) → IsTrue k.binders
-under_built (Some ks) t known k h = h.0
-under_built None t known k h = absurd (false≢true known)
+-- What a known binder is built of has binders that bind as it does.
+pub under_binds : (vars : Option (List BoundKind)) (t : Tree) → IsTrue (known (under vars t)) → (k : Kit) →
+    IsBuiltOf k (under vars t) → MayBind k (bound_by (under vars t))
+under_binds (Some ks) t known k h = h.0
+under_binds None t known k h = absurd (false≢true known)
 
 pub has_binder : {Key Id Name : Type 0} (m : Meaning Key Id Name) (p : Part Key Id) → IsBinderPart p →
     IsTrue (known (part_tree m p)) → HasNoBinder (part_tree m p) → ⊥
@@ -79,8 +81,8 @@ two_rounds_variance v ks ls a b t u i j n =
 renamed : (P : List BoundKind → List BoundKind → Tree → Tree → Type 0) {ks ls ks' ls' : List BoundKind}
     {t u t' u' : Tree} → bind ks t ≡ bind ks' t' → bind ls u ≡ bind ls' u' → P ks ls t u → P ks' ls' t' u'
 renamed P {ks} {ls} {ks'} {ls'} {t} {u} {t'} {u'} p q h =
-    subst₂ (λ k l. P k l t' u') (binder_kinds p) (binder_kinds q)
-    (subst₂ (λ x y. P ks ls x y) (binder_bodies p) (binder_bodies q) h)
+    subst₂ (λ k l. P k l t' u') (kinds_path p) (kinds_path q)
+    (subst₂ (λ x y. P ks ls x y) (bind_path p) (bind_path q) h)
 
 -- The body of a binder is over the context's variables.
 body_context : (st : Store) (a : Tree) (ks : List BoundKind) (t : Tree) → a ≡ bind ks t → InContext st a →
@@ -225,19 +227,19 @@ module _ {Key Id Name : Type 0} where
   round_never {r} {q} added a b x y (first_round {ks} {ls} {t} {u} e o i j f) n =
       subst₂ (λ z w. NeverOne (at r.ambient) r.store z w) (sym i) (sym j)
       (λ w s sat one. (steps_compose (items_in r) r.kept.environment (second_opened ks ls r.ambient) (at r.ambient) r.store
-      q.store q.store r.goals added [] t u x y f).1 n w s sat (binder_kinds one, binder_bodies one))
+      q.store q.store r.goals added [] t u x y f).1 n w s sat (kinds_path one, bind_path one))
   round_never added a b x y (second_round e o i j f) n = absurd (omega (arith, e))
 
   round_refuses : {m : ℕ} {r q p : State Key Id Name} (M : Manners) (added : List Goal) (a b x y : Tree) →
-      RoundLeads M r q added 0 a b x y → Passes m q p → IsSound p.store → (e : RelateFault Key Id Name) →
-      Refuses q p r.ambient x y e → Refuses r p r.ambient a b e
-  round_refuses {r = r} {q = q} {p = p} M added a b x y l f sound (Unrelated e) h = (
+      RoundLeads M r q added 0 a b x y → StaysBuilt r.store q.store added a b → Passes m q p → IsSound p.store →
+      (e : RelateFault Key Id Name) → Refuses q p r.ambient x y e → Refuses r p r.ambient a b e
+  round_refuses {r = r} {q = q} {p = p} M added a b x y l built f sound (Unrelated e) h = (
     round_never added a b x y l.steps h.0,
     l.errors p.meaning p.kept.settings (items_in p) p.store e (f.goes).later sound h.1,
     h.2,
   )
-  round_refuses M added a b x y l f sound Budget h = h
-  round_refuses M added a b x y l f sound Memory h = tt
+  round_refuses M added a b x y l built f sound Budget h = (h.0, needs_led added a b x y built l.built h.1)
+  round_refuses M added a b x y l built f sound Memory h = tt
 
   -- The bodies of round 0 were refused, and so are the binders.
   pub first_refused : {X Y : Type 0} {r q p : State Key Id Name} (M : Manners) (a b x y : Tree) (tree : X → Tree)
@@ -248,7 +250,7 @@ module _ {Key Id Name : Type 0} where
   unfolding passes_then
   first_refused M a b x y tree answer never sound g l built e f = record {
     passes = passes_then g f.passes (round_small M 0 a b x y g l);
-    verdict = round_refuses M g.added a b x y l f.passes sound e f.verdict;
+    verdict = round_refuses M g.added a b x y l built f.passes sound e f.verdict;
     exact = λ k is pair. absurd (never (first_order_plain a pair.left));
     full = full_never a b never;
     built = built_led g.added (f.passes).added a b x y built l.built f.built;
@@ -379,11 +381,11 @@ module _ {Key Id Name : Type 0} where
 
         apart : NeverOne (at r.ambient) r.store (bind ks t) (bind ls u)
         apart w s sat one =
-            let z = f.keeps w s sat (binder_kinds one, binder_bodies one) in
+            let z = f.keeps w s sat (kinds_path one, bind_path one) in
             never w z.0 z.2.0 (
-              binder_kinds one,
+              kinds_path one,
               values_still r.store s z.0 t u z.1 (body_context r.store a ks t i' ina)
-                  (body_context r.store b ls u j' inb) (binder_bodies one),
+                  (body_context r.store b ls u j' inb) (bind_path one),
             )
 
     -- What relating its bodies did, after round 0.
@@ -432,7 +434,11 @@ module _ {Key Id Name : Type 0} where
           (l.errors z.meaning z.kept.settings (items_in z) z.store e (f.goes).later sound c.1),
       c.2,
     )
-    second_refuses f sound Budget c = c
+    second_refuses f sound Budget c = (
+      c.0,
+      needs_led (h.passes).added a b a b h.built (λ k ha hb all. (ha, hb))
+          (needs_led g.added a b x y opened l.built c.1),
+    )
     second_refuses f sound Memory c = tt
 
     second_built : {n : ℕ} {z : State Key Id Name} (f : Passes n q z) → StaysBuilt q.store z.store f.added x y →

@@ -143,7 +143,8 @@ constrained_full c d q (Err f) h = full_same h
 
 pub constrained_built : {Key Id Name A F : Type 0} (c d : Context Key Id Name) (q : Constraint) (r : Result A F)
     (a b : Tree) → Constrains c d q r → StaysBuilt c.store d.store [] a b
-constrained_built c d q (Ok x) a b h = built_constraint c.store d.store a b h.same_entries h.same_universe h.same_taint
+constrained_built c d q (Ok x) a b h =
+    built_constraint c.store d.store a b h.same_entries h.same_universe h.same_taint h.same_budget
 constrained_built c d q (Err f) a b h = built_same a b h
 
 pub constrained_bound : {Key Id Name A F : Type 0} (c d : Context Key Id Name) (q : Constraint) (r : Result A F) →

@@ -21,27 +21,27 @@ use Rattle.relation_semantics.specs.Relation.{StaysWithin}
 use Rattle.relation_semantics.specs.Stores.{Store, InContext, IsTermIn, IsSound}
 use Rattle.relation_semantics.specs.Steps.{ChangesNothing, EntersForall}
 use Rattle.relation_semantics.specs.Measures.{Goes}
-use Rattle.relation_semantics.specs.Generalising.{MakesUnbound, makes_none}
 use Rattle.relation_semantics.specs.Bound.{AreBoundAs}
 use Rattle.relation_semantics.specs.Lawful.{State, Pair, Asked, items_of}
 use Rattle.relation_semantics.specs.Goals.{goals_of}
 use Rattle.relation_semantics.specs.Contexts.{Context}
 use Rattle.relation_semantics.specs.ContextCalls.{Grows}
-use Rattle.relation_semantics.specs.Binders.{binder_tree, EntersAs, InstantiatesAs, OpensFrom, OpensBoth}
+use Rattle.relation_semantics.specs.Binders.{binder_tree, EntersAs, InstantiatesAs, OpensFrom, OpensBoth, MakesEach, MakesFirst, makes_none}
 use Rattle.type_relations.specs.Rounds.{OneRound, RoundSteps, one_round, first_round, second_round, RoundLeads}
 use Rattle.type_relations.specs.Rounds.{RoundVerdict, Opened}
 use Rattle.type_relations.specs.Solving.{KnowsGoals, solving_through, solver_manner}
 use Rattle.relation_semantics.proofs.Standing.{later_term}
 use Rattle.relation_semantics.proofs.Going.{goes_nowhere, goes_within}
 use Rattle.relation_semantics.proofs.Opened.{none_escapes, within_none}
-use Rattle.relation_semantics.proofs.Opening.{covariant_step, contravariant_step, unused_step}
+use Rattle.relation_semantics.proofs.Opening.{covariant_step, contravariant_step, unused_step, same_changes}
 use Rattle.type_relations.proofs.OverContext.{all_taken}
 use Rattle.type_relations.proofs.Solving.{held_grows, solver_passes}
 use Rattle.type_relations.proofs.OpeningBoth.{changes_made, opened_goes, body_scope, unused_stand_ins, bodies_error}
 use Rattle.type_relations.proofs.OpeningBoth.{bodies_agree}
 use Rattle.type_relations.proofs.OpeningBoth.{BothOpened, both_opened, bodies_smaller, bodies_built}
-use Rattle.relation_semantics.specs.Kits.{Kit, IsBuiltOf, StaysBuilt}
-use Rattle.relation_semantics.proofs.Building.{built_itself, built_opened}
+use Rattle.relation_semantics.specs.Kits.{Kit, IsBuiltOf, StaysBuilt, MayBind}
+use Rattle.relation_semantics.proofs.Building.{built_itself, built_opened, first_writes}
+use Rattle.relation_semantics.proofs.MakingEach.{each_unbound}
 
 -- A body in which something is bound outside uses what its binder binds.
 one_uses : (t u : Tree) → (bound_var_escapes t || bound_var_escapes u) ≡ true → StaysWithin 0 t × StaysWithin 0 u → ⊥
@@ -93,16 +93,6 @@ pub entered_keeps : (before after : Store) → ChangesNothing before after → (
     IsTermIn after t
 entered_keeps before after h t i = later_term before after (changes_made before after h) h.universe_stands t i
 
-same_changes : (st : Store) → ChangesNothing st st
-same_changes st = record {
-  same_entries = λ k. refl;
-  same_universes = λ k. refl;
-  same_constraints = refl;
-  universe_stands = omega arith;
-  taint_stands = λ h. h;
-  same_budget = refl;
-}
-
 module _ {Key Id Name : Type 0} where
   -- A known binder keeps its tree while the interner grows.
   pub binder_stays : {T : Type 0} (tree : Meaning Key Id Name → T → Tree) (m n : Meaning Key Id Name) → Extends m n →
@@ -129,7 +119,8 @@ module _ {Key Id Name : Type 0} where
       (r : Result (K × K) F) → IsErr r → d.store ≡ c.store → OpensBoth c d tree t u r
   refused_first c d tree t u (Ok x) h same = absurd (false≢true h)
   refused_first c d tree t u (Err f) h same =
-      (c.store, same_changes c.store, refl, subst (MakesUnbound (c.store).universe c.store) (sym same) makes_none)
+      (c.store, same_changes c.store, refl,
+      (0, [], subst (MakesEach (c.store).universe c.store [] []) (sym same) (makes_none refl refl)))
 
 -- The relation of a context before opening and after it.
 module _ {Key Id Name : Type 0} (aliases : StructurallyRelateAliases) (j : ℕ) (ps : List (Pair Key))
@@ -154,14 +145,14 @@ module _ {Key Id Name : Type 0} (aliases : StructurallyRelateAliases) (j : ℕ) 
 
   -- A growth was refused.
   pub opening_refused : {T : Type 0} → KnowsGoals c.meaning e gs → IsSound c.store → Grows c d → (middle : Store) →
-      ChangesNothing c.store middle → middle.tainted ≡ (c.store).tainted → MakesUnbound middle.universe middle d.store →
-      (round : ℕ) (a b : Tree)
+      ChangesNothing c.store middle → middle.tainted ≡ (c.store).tainted → (ks : List BoundKind) →
+      MakesFirst middle.universe middle ks d.store → (round : ℕ) (a b : Tree)
       (tree : T → Tree) (result : Result (Option (T × T)) (RelateFault Key Id Name)) → result ≡ Err Memory →
-      ((k : Kit) → IsBuiltOf k a → IsTrue k.binders) → Opened solver_manner before after round a b tree result
-  opening_refused env sound grows middle changes taint makes round a b tree result is has =
+      ((k : Kit) → IsBuiltOf k a → IsBuiltOf k b → MayBind k ks) → Opened solver_manner before after round a b tree result
+  opening_refused env sound grows middle changes taint ks first round a b tree result is has =
       subst (Opened solver_manner before after round a b tree) (sym is)
-      (opened env grows (opened_goes c.store middle d.store changes sound makes) round a b tree (Err Memory) tt
-      (built_opened c.store d.store a b changes taint makes has))
+      (opened env grows (opened_goes c.store middle d.store changes sound (each_unbound first.2)) round a b tree
+      (Err Memory) tt (built_opened c.store d.store ks a b changes taint (each_unbound first.2) (first_writes ks first) has))
 
   -- Bodies that were opened.
   module _ (round : ℕ) (ks ls : List BoundKind) (t u x y : Tree)
@@ -242,7 +233,7 @@ module _ {Key Id Name : Type 0} (aliases : StructurallyRelateAliases) (j : ℕ) 
         from.2 k.right_in k.left_in k.right_taken.1 k.left_taken.1 in
         opened env grows both.goes round (bind ks t) (bind ls u) (tree d.meaning) (Ok (Some (x, y)))
         (second_leads round ks ls t u (tree d.meaning x) (tree d.meaning y) (one_uses t u some) h.1 h.0
-        k.left_taken.1.0 k.right_taken.1.0 both zero_round at_variance) (both.built (bind ks t) (bind ls u) (λ k h. h.0))
+        k.left_taken.1.0 k.right_taken.1.0 both zero_round at_variance) (both.built (bind ks t) (bind ls u) (λ k h i. h.0))
     opens_second (Some ks) None k h zero_round at_variance = absurd (false≢true k.right_known)
     opens_second None p k h zero_round at_variance = absurd (false≢true k.left_known)
 
@@ -257,7 +248,7 @@ module _ {Key Id Name : Type 0} (aliases : StructurallyRelateAliases) (j : ℕ) 
         from.2 k.left_in k.right_in k.left_taken.1 k.right_taken.1 in
         opened env grows both.goes round (bind ks t) (bind ls u) (tree d.meaning) (Ok (Some (x, y)))
         (first_leads round ks ls t u (tree d.meaning x) (tree d.meaning y) (one_uses t u some) h.0 h.1
-        k.left_taken.1.0 k.right_taken.1.0 both at_variance) (both.built (bind ks t) (bind ls u) (λ k h. h.0))
+        k.left_taken.1.0 k.right_taken.1.0 both at_variance) (both.built (bind ks t) (bind ls u) (λ k h i. i.0))
     opens_first (Some ks) None k h at_variance = absurd (false≢true k.right_known)
     opens_first None p k h at_variance = absurd (false≢true k.left_known)
 

@@ -66,12 +66,8 @@ use Rattle.type_relations.proofs.OverContext.{standing, over_passes, all_taken}
 use Rattle.relation_semantics.specs.OneUniverse.{NamesTypesTo, HasOneUniverse, all_roots, StaysOf, LeadsInUniverse, BindsFewer}
 use Rattle.relation_semantics.proofs.OneUniverse.{binds_none, bound_fewer}
 use Rattle.type_relations.proofs.GeneralisingInOne.{instantiates_in_one}
-
--- An alias is not first-order.
-pub alias_not_first : (t : Tree) → IsAlias t → IsFirstOrder t → ⊥
-alias_not_first (node (alias k d) ts) o f = f.0
-alias_not_first (node (unevaluated d) ts) o f = f.0
-alias_not_first t o f = o
+use Rattle.relation_semantics.proofs.Erased.{alias_not_first}
+use Rattle.type_relations.proofs.Binding.{no_region}
 
 -- What a term comes to is a variable only where the term is one.
 variable_alone : (s : Assign) (t : Tree) (k : VarKind) (n : ℕ) → ((j : VarKind) (m : ℕ) → t ≡ leaf (variable j m) → ⊥) →
@@ -335,7 +331,7 @@ module _ {Key Id Name : Type 0} (r0 : State Key Id Name) (L K : Type 0) (lawful 
       answer_known = sure;
       falls = steps.one_spent;
       may_instantiate = could;
-      built = λ j ha hb all. (term_built steps j all hb, hb);
+      built = λ j ha hb all. (term_built steps j (ha (no_region k counted)) all hb, hb);
       read_built = λ j ha hb all. (ha, hb);
       not_larger = squares (weight was root + weight was t) left_above;
     }
@@ -355,7 +351,7 @@ module _ {Key Id Name : Type 0} (r0 : State Key Id Name) (L K : Type 0) (lawful 
       answer_known = sure;
       falls = steps.one_spent;
       may_instantiate = could;
-      built = λ j ha hb all. (ha, term_built steps j all ha);
+      built = λ j ha hb all. (ha, term_built steps j (hb (no_region k counted)) all ha);
       read_built = λ j ha hb all. (ha, hb);
       not_larger = let i = squares (weight was t + weight was root) right_above in omega (arith, i);
     }
@@ -398,7 +394,7 @@ module _ {Key Id Name : Type 0} (r0 : State Key Id Name) (L K : Type 0) (lawful 
               left_universe same pair.right pair.bindings,
             );
         full = λ ha hb. full_could could;
-        built = λ j ha hb all. builds_instantiated steps j all hb;
+        built = λ j ha hb all. builds_instantiated steps j (ha (no_region k counted)) all hb;
       }
 
       right_by : (b w : Variance) → xform v b ≡ w → Lifts Key Id Name now w v t u → (k ≡ type_var → IsNoTyVar t) →
@@ -420,7 +416,7 @@ module _ {Key Id Name : Type 0} (r0 : State Key Id Name) (L K : Type 0) (lawful 
               right_universe same pair.left pair.bindings,
             );
         full = λ ha hb. full_could could;
-        built = λ j ha hb all. builds_instantiated steps j all ha;
+        built = λ j ha hb all. builds_instantiated steps j (hb (no_region k counted)) all ha;
       }
         where
           back : IsFirstOrderPair now u t → IsFirstOrderPair now t u
@@ -511,9 +507,9 @@ module _ {Key Id Name : Type 0} (r0 : State Key Id Name) (L K : Type 0) (lawful 
     not_first : IsFirstOrder t → ⊥
     not_first = alias_not_first t left
 
-    built_then : (k : Kit) → IsBuiltOf k t → BindsBuiltOf k c.store → IsPredicateOf k pred → p.store ≡ d.store →
-        Builds k c.store p.store (the_goal ∷ [])
-    built_then k h binds asks same = builds_noting k [] (the_goal ∷ []) same (builds_instantiated is_bound k binds h)
+    built_then : (k : Kit) → IsTrue k.variables → IsBuiltOf k t → BindsBuiltOf k c.store → IsPredicateOf k pred →
+        p.store ≡ d.store → Builds k c.store p.store (the_goal ∷ [])
+    built_then k may h binds asks same = builds_noting k [] (the_goal ∷ []) same (builds_instantiated is_bound k may binds h)
         (All-cons (IsGoalOf k) the_goal [] asks (All-nil (IsGoalOf k)))
 
     module _ {A E : Type 0} {z : A} (h : RegistersGoal {F = E} qa p pred (Ok z)) {X : Type 0} (F : Tree → Type 0) (tree : X → Tree) (a : X) where
@@ -536,8 +532,8 @@ module _ {Key Id Name : Type 0} (r0 : State Key Id Name) (L K : Type 0) (lawful 
         };
         exact = λ o same pair. absurd (not_first pair.right);
         full = λ ha hb. full_could instantiates;
-        built = λ k ha hb binds. built_then k hb binds
-            (alias_built k r0.ambient u t pred e (subst (IsBuiltOf k) (sym is) tt) hb) h.store;
+        built = λ k ha hb binds. let may = ha (no_region type_var tt) in built_then k may hb binds
+            (alias_built k r0.ambient u t pred e (subst (IsBuiltOf k) (sym is) (λ o. may)) hb) h.store;
       }
 
       pub right_asks : alias_at r0.ambient t u ≡ Some pred → tree a ≡ t →
@@ -558,14 +554,16 @@ module _ {Key Id Name : Type 0} (r0 : State Key Id Name) (L K : Type 0) (lawful 
         };
         exact = λ o same pair. absurd (not_first pair.left);
         full = λ ha hb. full_could instantiates;
-        built = λ k ha hb binds. built_then k ha binds
-            (alias_built k r0.ambient t u pred e ha (subst (IsBuiltOf k) (sym is) tt)) h.store;
+        built = λ k ha hb binds. let may = hb (no_region type_var tt) in built_then k may ha binds
+            (alias_built k r0.ambient t u pred e ha (subst (IsBuiltOf k) (sym is) (λ o. may))) h.store;
       }
 
     -- Or it was not, since a growth was refused.
     module _ {A E : Type 0} {e : E} (h : RegistersGoal {A = A} qa p pred (Err e)) {X : Type 0} (F : Tree → Type 0) (tree : X → Tree) where
-      unasked_built : (k : Kit) → IsBuiltOf k t → BindsBuiltOf k c.store → Builds k c.store p.store []
-      unasked_built k i binds = subst (λ st. Builds k c.store st []) (sym h.store) (builds_instantiated is_bound k binds i)
+      unasked_built : (k : Kit) → IsTrue k.variables → IsBuiltOf k t → BindsBuiltOf k c.store →
+          Builds k c.store p.store []
+      unasked_built k may i binds =
+          subst (λ st. Builds k c.store st []) (sym h.store) (builds_instantiated is_bound k may binds i)
 
       pub left_unasked : Stepped solver_manner F ra p lone t tree (Err Memory)
       unfolding over_passes passes_then no_goal_passes
@@ -575,7 +573,7 @@ module _ {Key Id Name : Type 0} (r0 : State Key Id Name) (L K : Type 0) (lawful 
         verdict = tt;
         exact = λ o same pair. absurd (not_first pair.right);
         full = λ ha hb. full_could instantiates;
-        built = λ k ha hb binds. unasked_built k hb binds;
+        built = λ k ha hb binds. unasked_built k (ha (no_region type_var tt)) hb binds;
       }
 
       pub right_unasked : Stepped solver_manner F ra p t lone tree (Err Memory)
@@ -586,7 +584,7 @@ module _ {Key Id Name : Type 0} (r0 : State Key Id Name) (L K : Type 0) (lawful 
         verdict = tt;
         exact = λ o same pair. absurd (not_first pair.left);
         full = λ ha hb. full_could instantiates;
-        built = λ k ha hb binds. unasked_built k ha binds;
+        built = λ k ha hb binds. unasked_built k (hb (no_region type_var tt)) ha binds;
       }
 
   -- Nothing was bound.
@@ -598,6 +596,9 @@ module _ {Key Id Name : Type 0} (r0 : State Key Id Name) (L K : Type 0) (lawful 
       (cycles : (o : Obstacle) → RefusesByObstacle al c.store d.store k target t o → o ≡ cycle → (y : X) →
       means d.meaning y ≡ apply (resolved c.store) t →
       BindingError d.meaning al d.store (leaf (variable k target)) t (cyclic y)) where
+    free : k ≢ region_var
+    free = no_region k counted
+
     refusing : (N : ℕ) (f : RelateFault Key Id Name) → Instantiated c d al x k target t means cyclic (Err f) → Goes N c.store d.store
     refusing N (Unrelated g) h = goes_within (omega arith)
         (generalising_refuses al c.store d.store x k target t h.1.0 counted h.1.1 before other).1
@@ -614,11 +615,11 @@ module _ {Key Id Name : Type 0} (r0 : State Key Id Name) (L K : Type 0) (lawful 
     full Budget h = full_same h.1
     full Memory h = full_could (instantiates_one c.store k target counted unresolved.0 unresolved.1 h.0)
 
-    none_built : (a b : Tree) (f : RelateFault Key Id Name) → Instantiated c d al x k target t means cyclic (Err f) →
-        StaysBuilt c.store d.store [] a b
-    none_built a b (Unrelated g) h = built_unbound a b (h.1.1).makes
-    none_built a b Budget h = built_same a b h.1
-    none_built a b Memory h = built_unbound a b h.1
+    none_built : (a b : Tree) → ((j : Kit) → IsBuiltOf j a → IsBuiltOf j b → IsTrue j.variables) → (f : RelateFault Key Id Name) →
+        Instantiated c d al x k target t means cyclic (Err f) → StaysBuilt c.store d.store [] a b
+    none_built a b may (Unrelated g) h = built_unbound a b (h.1.1).makes may
+    none_built a b may Budget h = built_same a b h.1
+    none_built a b may Memory h = built_unbound a b h.1 may
 
     -- The error is that of the obstacle.
     binding_error : (g : TypeError Key Id Name) (o : Obstacle) → RefusesByObstacle al c.store d.store k target t o →
@@ -656,21 +657,21 @@ module _ {Key Id Name : Type 0} (r0 : State Key Id Name) (L K : Type 0) (lawful 
         binds_none c.store d.store (leaf (variable k target)) t (none_bound (h.1.1).makes),
       );
       full = λ ha hb. full (Unrelated g) h;
-      built = none_built (leaf (variable k target)) t (Unrelated g) h;
+      built = none_built (leaf (variable k target)) t (λ j ha hb. ha free) (Unrelated g) h;
     }
     left_refused Budget h = record {
       passes = passes _ Budget h;
-      verdict = ap (λ st. st.budget) h.1 ∙ h.0;
+      verdict = (ap (λ st. st.budget) h.1 ∙ h.0, λ j ha hb all. ha free);
       exact = λ o is pair. fewer (leaf (variable k target)) t h.1;
       full = λ ha hb. full Budget h;
-      built = none_built (leaf (variable k target)) t Budget h;
+      built = none_built (leaf (variable k target)) t (λ j ha hb. ha free) Budget h;
     }
     left_refused Memory h = record {
       passes = passes _ Memory h;
       verdict = tt;
       exact = λ o is pair. binds_none c.store d.store (leaf (variable k target)) t (none_bound h.1);
       full = λ ha hb. full Memory h;
-      built = none_built (leaf (variable k target)) t Memory h;
+      built = none_built (leaf (variable k target)) t (λ j ha hb. ha free) Memory h;
     }
 
     pub right_refused : (f : RelateFault Key Id Name) → Instantiated c d al x k target t means cyclic (Err f) →
@@ -689,19 +690,19 @@ module _ {Key Id Name : Type 0} (r0 : State Key Id Name) (L K : Type 0) (lawful 
         binds_none c.store d.store t (leaf (variable k target)) (none_bound (h.1.1).makes),
       );
       full = λ ha hb. full (Unrelated g) h;
-      built = none_built t (leaf (variable k target)) (Unrelated g) h;
+      built = none_built t (leaf (variable k target)) (λ j ha hb. hb free) (Unrelated g) h;
     }
     right_refused Budget h = record {
       passes = passes _ Budget h;
-      verdict = ap (λ st. st.budget) h.1 ∙ h.0;
+      verdict = (ap (λ st. st.budget) h.1 ∙ h.0, λ j ha hb all. hb free);
       exact = λ o is pair. fewer t (leaf (variable k target)) h.1;
       full = λ ha hb. full Budget h;
-      built = none_built t (leaf (variable k target)) Budget h;
+      built = none_built t (leaf (variable k target)) (λ j ha hb. hb free) Budget h;
     }
     right_refused Memory h = record {
       passes = passes _ Memory h;
       verdict = tt;
       exact = λ o is pair. binds_none c.store d.store t (leaf (variable k target)) (none_bound h.1);
       full = λ ha hb. full Memory h;
-      built = none_built t (leaf (variable k target)) Memory h;
+      built = none_built t (leaf (variable k target)) (λ j ha hb. hb free) Memory h;
     }

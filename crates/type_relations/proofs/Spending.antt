@@ -35,7 +35,7 @@ module _ {Key Id Name X : Type 0} {r q : State Key Id Name} (M : Manners) (v : V
   spends_no_more (Err Budget) h =
       let z : all_bound q.store < all_roots r.store = h.exact exact is pair u one in
       let low : all_bound q.store ≤ all_roots r.store = omega (arith, z) in
-      (within (h.passes).goes low, fewer (h.passes).goes h.verdict z)
+      (within (h.passes).goes low, fewer (h.passes).goes (h.verdict).0 z)
   spends_no_more (Err Memory) h = (within (h.passes).goes (h.exact exact is pair u one), tt)
 
 -- The same fault, of whatever was to be answered.

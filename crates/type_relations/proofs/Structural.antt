@@ -28,12 +28,12 @@ use Rattle.relation_semantics.specs.Lawful.{State, Manners, MayAnswer, Passes, R
 use Rattle.relation_semantics.specs.Lawful.{RelatedForms, ExactResult, ExactlyRelated, items_in}
 use Rattle.relation_semantics.proofs.Registered.{registered_in}
 use Rattle.relation_semantics.proofs.Passing.{passes_within, passes_then, manner_then, stopped}
-use Rattle.type_relations.proofs.Fronts.{Fronted, AreParts, fronted_never, fronted_all, fronted_passes, fronted_fault, fronted_exactly, fronted_full, fronted_built}
+use Rattle.type_relations.proofs.Fronts.{Fronted, AreParts, fronted_never, fronted_all, fronted_passes, fronted_fault, fronted_exactly, fronted_full, fronted_built, fronted_needs}
 use Rattle.relation_semantics.proofs.Building.{built_parts}
 use Rattle.type_relations.proofs.Fronts.{fronted_agree}
 use Rattle.relation_semantics.proofs.AgreeingForms.{form_agrees}
 use Rattle.relation_semantics.proofs.Full.{parts_plain}
-use Rattle.type_relations.proofs.Unifying.{first_order_parts, first_order_normal, formed_looked_at, types_unify, answered_as, refused_as}
+use Rattle.type_relations.proofs.Unifying.{first_order_parts, formed_looked_at, types_unify, answered_as, refused_as}
 use Rattle.relation_semantics.specs.Headline.{IsFirstOrderPair}
 use Rattle.relation_semantics.specs.OneUniverse.{NamesTypesTo}
 use Rattle.relation_semantics.proofs.OneUniverse.{leaves_parts, keeps_binds, binds_as}
@@ -41,6 +41,7 @@ use Rattle.relation_semantics.proofs.OneParts.{related_head, parts_equal, const_
 use Rattle.type_relations.proofs.Handing.{ty_fault_known}
 use Rattle.type_relations.proofs.PartSizes.{weight_parts_most}
 use Rattle.relation_semantics.proofs.Answering.{same_items, may_itself}
+use Rattle.relation_semantics.proofs.Erased.{alias_not_first}
 
 -- The error of two parts of two types as the error of the types.
 module _ {Key Id Name : Type 0} (n p : Meaning Key Id Name) (e : Extends n p) (s : Sorted n) (a b : Tree)
@@ -172,7 +173,9 @@ module _ {Key Id Name : Type 0} {r q : State Key Id Name} (M : Manners) (v : Var
     ty_refuses {p = p} g Memory k kx ky t h =
         subst (RefusesAs as_forms r p (at v) a b) (sym (same_fault a X Y Memory k t (λ e z. cc))) tt
     ty_refuses {p = p} g Budget k kx ky t h =
-        subst (RefusesAs as_forms r p (at v) a b) (sym (same_fault a X Y Budget k t (λ e z. cc))) h
+        subst (RefusesAs as_forms r p (at v) a b) (sym (same_fault a X Y Budget k t (λ e z. cc)))
+        (h.0, λ j ha hb. fronted_needs (head_of a) v i (parts_of a) (parts_of b) (arg_tree q.meaning X)
+        (arg_tree q.meaning Y) f lx ly ex ey h.1 j (built_parts j a ha) (built_parts j b hb))
     ty_refuses {p = p} g (Unrelated e) k kx ky t h =
         let same : items_in p ≡ items_in r = same_items g ∙ same_items f.passes in
         let z = ty_complains q.meaning p.meaning g.extends s a b i X Y x_known y_known (arg_tree q.meaning X)
@@ -191,7 +194,7 @@ module _ {Key Id Name : Type 0} {r q : State Key Id Name} (M : Manners) (v : Var
         (arg_tree q.meaning Y) (Err e) → ExactlyRelated {X = B} (M r.kept.settings) r.store p.store v a b (Err e)
     whole_type A B p e is_formed' g exact is pair =
         refused_as r.store p.store a b (parts_of a) (parts_of b)
-        (types_unify a b is_formed is_formed' (first_order_normal a pair.left) o)
+        (types_unify a b is_formed is_formed' (λ i. alias_not_first a i pair.left) o)
         (λ u. leaves_parts (NamesTypesTo u) a) (λ u. leaves_parts (NamesTypesTo u) b) A B e
         (fronted_fault (head_of a) v i (parts_of a) (parts_of b) (arg_tree q.meaning X) (arg_tree q.meaning Y) f lx ly ex
         ey A A p e are exact is (formed_looked_at a is_formed) (parts_pair r.store a b pair)
@@ -287,7 +290,7 @@ module _ {Key Id Name : Type 0} {r q : State Key Id Name} (M : Manners) (v : Var
     };
     exact = λ exact is pair.
         answered_as r.store q.store a b (parts_of a) (parts_of b)
-        (types_unify a b is_formed is_formed' (first_order_normal a pair.left) o)
+        (types_unify a b is_formed is_formed' (λ i. alias_not_first a i pair.left) o)
         (λ u. leaves_parts (NamesTypesTo u) a) (λ u. leaves_parts (NamesTypesTo u) b)
         (fronted_exactly (head_of a) v i (parts_of a) (parts_of b) are ea eb f exact is
         (formed_looked_at a is_formed) (parts_pair r.store a b pair));

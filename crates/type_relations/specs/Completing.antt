@@ -13,7 +13,7 @@ use Rattle.relation_terms.specs.Meaning.{Meaning}
 use Rattle.relation_terms.specs.Interning.{Sorted}
 use Rattle.relation_folds.specs.declared.error.TypeError.{TypeError}
 use Rattle.relation_folds.specs.declared.error.RelateFault.{RelateFault}
-use Rattle.relation_folds.specs.declared.error.RelateFault.TheVariants.{Unrelated}
+use Rattle.relation_folds.specs.declared.error.RelateFault.TheVariants.{Memory, Budget, Unrelated}
 use Rattle.relation_semantics.specs.declared.relate.StructurallyRelateAliases.{StructurallyRelateAliases}
 use Rattle.relation_semantics.specs.Relation.{Items, Interpretation, Rel, at, IsValue, IsValueLeaf}
 use Rattle.relation_semantics.specs.Settings.{Settings}
@@ -39,12 +39,13 @@ AreRelatedAsAsked c e v a b = (w : Interpretation) → w.outlives ≡ None → A
 abbrev pub AreNeverRelated : Items → Tree → Variance → Tree → Tree → Type 0
 AreNeverRelated c e v a b = (w : Interpretation) → Rel c w e (at v) a b → ⊥
 
--- What an answer says of two terms.
+-- What an answer says of two terms: which they are, and that no instantiation was wanting.
 abbrev pub CompletelyAnswered : {X Key Id Name : Type 0} → Items → Tree → Variance → Tree → Tree →
     Result X (RelateFault Key Id Name) → Type 0
 CompletelyAnswered c e v a b (Ok x) = AreRelatedAsAsked c e v a b
 CompletelyAnswered c e v a b (Err (Unrelated x)) = AreNeverRelated c e v a b
-CompletelyAnswered c e v a b (Err f) = Unit {0}
+CompletelyAnswered c e v a b (Err Budget) = ⊥
+CompletelyAnswered c e v a b (Err Memory) = Unit {0}
 
 -- In a sound store no error comes of plain terms whose erasures agree.
 abbrev pub ErrorsDisagree : (Key Id Name : Type 0) → Type 0
@@ -71,7 +72,7 @@ module _ {S Key Id Name A : Type 0} (state : S → Context Key Id Name) (old new
   term x = term_in (state old) over tree x
 
   -- Of terms without variables: related where the answer is `Ok`, all regions outliving each other and what is asked of
-  -- aliases being so; related under no interpretation where it is a type error.
+  -- aliases being so; related under no interpretation where it is a type error; and it fails for want of memory alone.
   abbrev pub Complete : {X : Type 0} → StructurallyRelateAliases → ParamEnvKey Key → Variance → A → A →
       Result X (RelateFault Key Id Name) → Type 0
   Complete g e v a b result = (s : Sort) → IsValue s (term a) → IsValue s (term b) →

@@ -28,6 +28,7 @@ pub mod Following
 pub mod Makers
 pub mod RegionTerms
 pub mod Completing
+pub mod Closed
 pub use Rattle.relation_semantics.specs.Relation
 pub use Rattle.relation_semantics.specs.Stores
 pub use Rattle.relation_semantics.specs.Goals

@@ -9,7 +9,7 @@ ghost use Rattle.relation_semantics.specs.Binders.{kinds_in, variable_kind, Make
 ghost use Rattle.relation_reference.specs.Tables.{IsLawful};
 ghost use Rattle.relation_reference.specs.RefCtxt.{store_in, context_in};
 ghost use Rattle.relation_reference.specs.Opened.{placeholders_from, MakesOne};
-ghost use Rattle.relation_reference.specs.Changes.{MakesUnboundNow, EntersBody, InstantiatesBody};
+ghost use Rattle.relation_reference.specs.Changes.{MakesFirstNow, EntersBody, InstantiatesBody};
 
 use crate::context::RefCtxt;
 use crate::context::universes::next_universe;
@@ -135,7 +135,7 @@ impl<I: Interner> RefCtxt<I> {
         ensures makes { let ks = kinds_in ((I.meaning self.old.interner).bound_vars bound_vars.now) in
             IfOk result (λ args. MakesEach self.old.inner.universe.0 (store_in I.meaning self.old) ks
             (map (arg_tree (I.meaning self.new.interner)) args.items) (store_in I.meaning self.new)) }
-        ensures refused { OnErr result (MakesUnboundNow I.meaning self.old self.new) }
+        ensures refused { OnErr result (MakesFirstNow I.meaning self.old self.new bound_vars.now) }
         ensures rest { KeepsRest (context_in I.meaning self.old) (context_in I.meaning self.new) }
     {
         let mut args = Vec::new(self.interner.alloc());
@@ -192,7 +192,7 @@ impl<I: Interner> RefCtxt<I> {
         ensures grown { Extends (I.meaning self.old.interner) (I.meaning self.new.interner) }
         ensures sure { IfOk result (λ x. IsTrue (known (T.tree (I.meaning self.new.interner) x))) }
         ensures instantiates { IfOk result (λ x. InstantiatesBody I.meaning self.old self.new T.tree value x) }
-        ensures refused { OnErr result (MakesUnboundNow I.meaning self.old self.new) }
+        ensures refused { OnErr result (MakesFirstNow I.meaning self.old self.new value.bound_vars) }
         ensures rest { KeepsRest (context_in I.meaning self.old) (context_in I.meaning self.new) }
     {
         let args = self.next_args_infer(&value.bound_vars)?;

@@ -12,6 +12,7 @@ ghost use Rattle.type_relations.specs.Relating.{KnowsTerm, TakesTerm, HasTerm, A
 ghost use Rattle.type_relations.specs.Relating.{KeepsEqual, TellsApart, AnswersError, AnswersExactly, ProvesApart};
 ghost use Rattle.type_relations.specs.Relating.{RelatesAgreeing};
 ghost use Rattle.type_relations.specs.Completing.{Complete};
+ghost use Rattle.type_relations.specs.Closed.{LeavesClosed, AsksNothing, SpendsForVariables};
 ghost use Rattle.type_relations.specs.Relating.{AnswersAsked, AnswersOnly, SpendsNoMore, MakesToRelate, BuildsNoMore, Idle};
 ghost use Rattle.type_relations.specs.Terms.{AskedTerms, RelatedTerms, TermsRegister};
 ghost use Rattle.type_relations.specs.Solving.{solving_in, solver_manner};
@@ -66,7 +67,9 @@ pub trait RelateExt: InferCtxtLike {
     ///
     /// Of terms without variables that are first-order but for binders of regions, or that have aliases, left to goals, and
     /// no binder, `Ok` comes only of such that are related where all regions outlive each other and what is asked of
-    /// aliases is so, and `Unrelated` only of such that are related nowhere.
+    /// aliases is so, and `Unrelated` only of such that are related nowhere; `Budget` never comes, also where nothing is
+    /// left of it. Whatever is closed, so that no variable stands in it but of regions, and no binder binds others, binds
+    /// and spends nothing, and makes no variable but of regions; and without aliases no goal is asked.
     ///
     /// Two different types that are unresolved type variables answer just one goal, and nothing is recorded: at
     /// `Covariant` that the first is a subtype of the second, at `Contravariant` that the second is one of the first.
@@ -127,6 +130,8 @@ pub trait RelateExt: InferCtxtLike {
         ensures later { IsLater (Self.state self.old).store (Self.state self.new).store }
         ensures made { MakesToRelate Self.state self.old self.new T.over T.tree lhs rhs }
         ensures built { BuildsNoMore Self.state self.old self.new T.over T.tree lhs rhs result }
+        ensures closed { LeavesClosed Self.state self.old self.new T.over T.tree lhs rhs result }
+        ensures no_goals { AsksNothing Self.state self.old self.new T.over T.tree lhs rhs result }
         ensures sound { IsSound (Self.state self.new).store }
         ensures budget { SpendsByBinding (Self.state self.old) (Self.state self.new) }
         ensures enough { SpendsNoMore Self.state self.old self.new T.over T.tree variance lhs rhs result }
@@ -169,6 +174,8 @@ pub trait RelateExt: InferCtxtLike {
         ensures later { IsLater (Self.state self.old).store (Self.state self.new).store }
         ensures made { MakesToRelate Self.state self.old self.new T.over T.tree lhs rhs }
         ensures built { BuildsNoMore Self.state self.old self.new T.over T.tree lhs rhs result }
+        ensures closed { LeavesClosed Self.state self.old self.new T.over T.tree lhs rhs result }
+        ensures no_goals { AsksNothing Self.state self.old self.new T.over T.tree lhs rhs result }
         ensures sound { IsSound (Self.state self.new).store }
         ensures budget { SpendsByBinding (Self.state self.old) (Self.state self.new) }
         ensures enough { SpendsNoMore Self.state self.old self.new T.over T.tree Invariant lhs rhs result }
@@ -212,6 +219,8 @@ impl<Infcx: InferCtxtLike> RelateExt for Infcx {
         ensures later { IsLater (Infcx.state self.old).store (Infcx.state self.new).store }
         ensures made { MakesToRelate Infcx.state self.old self.new T.over T.tree lhs rhs }
         ensures built { BuildsNoMore Infcx.state self.old self.new T.over T.tree lhs rhs result }
+        ensures closed { LeavesClosed Infcx.state self.old self.new T.over T.tree lhs rhs result }
+        ensures no_goals { AsksNothing Infcx.state self.old self.new T.over T.tree lhs rhs result }
         ensures sound { IsSound (Infcx.state self.new).store }
         ensures budget { SpendsByBinding (Infcx.state self.old) (Infcx.state self.new) }
         ensures enough { SpendsNoMore Infcx.state self.old self.new T.over T.tree variance lhs rhs result }
@@ -261,6 +270,8 @@ impl<Infcx: InferCtxtLike> RelateExt for Infcx {
         ensures later { IsLater (Infcx.state self.old).store (Infcx.state self.new).store }
         ensures made { MakesToRelate Infcx.state self.old self.new T.over T.tree lhs rhs }
         ensures built { BuildsNoMore Infcx.state self.old self.new T.over T.tree lhs rhs result }
+        ensures closed { LeavesClosed Infcx.state self.old self.new T.over T.tree lhs rhs result }
+        ensures no_goals { AsksNothing Infcx.state self.old self.new T.over T.tree lhs rhs result }
         ensures sound { IsSound (Infcx.state self.new).store }
         ensures budget { SpendsByBinding (Infcx.state self.old) (Infcx.state self.new) }
         ensures enough { SpendsNoMore Infcx.state self.old self.new T.over T.tree Invariant lhs rhs result }
@@ -315,6 +326,7 @@ fn relate_as<Infcx: InferCtxtLike, T: Relate<Infcx::Interner>>(
     ensures later { IsLater (Infcx.state infcx.old).store (Infcx.state infcx.new).store }
     ensures made { MakesToRelate Infcx.state infcx.old infcx.new T.over T.tree lhs rhs }
     ensures built { BuildsNoMore Infcx.state infcx.old infcx.new T.over T.tree lhs rhs result }
+    ensures needs { SpendsForVariables Infcx.state infcx.old infcx.new T.over T.tree lhs rhs result }
     ensures sound { IsSound (Infcx.state infcx.new).store }
     ensures budget { SpendsByBinding (Infcx.state infcx.old) (Infcx.state infcx.new) }
     ensures enough { SpendsNoMore Infcx.state infcx.old infcx.new T.over T.tree variance lhs rhs result }

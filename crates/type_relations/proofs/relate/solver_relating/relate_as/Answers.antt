@@ -1,4 +1,4 @@
-use Rattle.std.proofs.Common.{◌<◌, refl, sym, ap, ◌∙◌, arith, subst, [], All}
+use Rattle.std.proofs.Common.{◌<◌, Err, refl, sym, ap, ◌∙◌, arith, subst, [], All}
 use Rattle.std.proofs.lemmas.Bool.{false≢true}
 use Rattle.std.proofs.lemmas.List.Elements.{All-nil}
 use Rattle.relation_terms.specs.Trees.{apply}
@@ -17,12 +17,13 @@ use Rattle.type_relations.specs.Relating.{term_in}
 use Rattle.type_relations.specs.Alone.{RelatesAlone}
 use Rattle.type_relations.proofs.Relatable.{equal_one, one_equal}
 use Rattle.type_relations.proofs.Relating.{answered_alone_in, refused_alone_in, refused_built}
-use Rattle.relation_semantics.specs.Kits.{StaysBuilt}
+use Rattle.relation_semantics.specs.Kits.{StaysBuilt, NeedsVariable}
 use Rattle.relation_semantics.proofs.Building.{built_itself}
 use Rattle.type_relations.proofs.OverContext.{all_taken}
 use Rattle.type_relations.proofs.Solving.{keeps_beside, none_held, answers_goals, keeps_equal, relates_agreeing, registers_goals, no_goals_exactly}
 use Rattle.relation_semantics.proofs.Agreeing.{agree_same}
 use Rattle.type_relations.proofs.relate.solver_relating.relate_as.Goals as goal
+use Rattle.type_relations.proofs.Closed.{needs_as, budget_verdict}
 
 pub returns-then-eq-clause-answers : goal.returns-then-eq-clause-answers
 returns-then-eq-clause-answers g c =
@@ -286,3 +287,28 @@ returns-clause-built g c =
     let b = term_in s g.T.Relate.over g.T.HasTree.tree c.args.rhs in
     let related = c.relate_in-related.ensures.related in
     subst (λ gs. StaysBuilt s.store d.store gs a b) (sym (related.passes).lengthens) related.built
+
+-- A budget that is spent says that nothing is left of it, and that a variable stands in one of the two.
+pub returns-in_err-related-clause-spent : goal.returns-in_err-related-clause-spent
+returns-in_err-related-clause-spent g c =
+    let f = c.in_err-related.field-0.0 in
+    let s = g.Infcx.InferCtxtLike.state c.args.infcx.now in
+    let d = g.Infcx.InferCtxtLike.state c.relate_in-related.new.infcx in
+    let a = term_in s g.T.Relate.over g.T.HasTree.tree c.args.lhs in
+    let b = term_in s g.T.Relate.over g.T.HasTree.tree c.args.rhs in
+    needs_as ((d.store).budget ≡ 0) c.from_residual.result f
+    (as_err c.from_residual.result f c.from_residual.ensures.0 c.from_residual.ensures.1)
+    (λ e. (budget_verdict solver_manner c.args.variance a b (term_in d g.T.Relate.over g.T.HasTree.tree)
+    c.relate_in-related.result.0 (c.in_err-related.was ∙ ap Err e) c.relate_in-related.ensures.related).0)
+
+pub returns-in_err-related-clause-needs : goal.returns-in_err-related-clause-needs
+returns-in_err-related-clause-needs g c =
+    let f = c.in_err-related.field-0.0 in
+    let s = g.Infcx.InferCtxtLike.state c.args.infcx.now in
+    let d = g.Infcx.InferCtxtLike.state c.relate_in-related.new.infcx in
+    let a = term_in s g.T.Relate.over g.T.HasTree.tree c.args.lhs in
+    let b = term_in s g.T.Relate.over g.T.HasTree.tree c.args.rhs in
+    needs_as (NeedsVariable s.store a b) c.from_residual.result f
+    (as_err c.from_residual.result f c.from_residual.ensures.0 c.from_residual.ensures.1)
+    (λ e. (budget_verdict solver_manner c.args.variance a b (term_in d g.T.Relate.over g.T.HasTree.tree)
+    c.relate_in-related.result.0 (c.in_err-related.was ∙ ap Err e) c.relate_in-related.ensures.related).1)

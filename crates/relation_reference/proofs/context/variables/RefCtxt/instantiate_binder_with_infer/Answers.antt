@@ -1,12 +1,11 @@
-use Rattle.std.proofs.Common.{◌≡◌, refl, sym, ap, ap₂, ◌∙◌, subst, map, IsTrue}
+use Rattle.std.proofs.Common.{◌≡◌, refl, sym, ap, ap₂, ◌∙◌, arith, subst, length, map, take, IsTrue}
+use Rattle.std.proofs.lemmas.List.{take_all}
 use Rattle.relation_terms.specs.Trees.{known, list_tree}
 use Rattle.relation_terms.specs.Meaning.{arg_tree}
 use Rattle.relation_terms.proofs.Members.{if_ok}
 use Rattle.relation_terms.proofs.Stays.{extends_on}
 use Rattle.relation_folds.specs.Shifts.{opened}
-use Rattle.relation_semantics.specs.Generalising.{MakesUnbound}
 use Rattle.relation_semantics.specs.Binders.{kinds_in, MakesEach}
-use Rattle.relation_semantics.proofs.MakingEach.{each_unbound}
 use Rattle.relation_reference.specs.RefCtxt.{store_in, context_in}
 use Rattle.relation_reference.proofs.Grows.{store_grows, lawful_grows}
 use Rattle.relation_reference.proofs.Making.{on_err}
@@ -69,9 +68,16 @@ returns-clause-refused g c =
     let p = c.args.self.now in
     let q = c.next_args_infer.new.self in
     let still = store_grows c.instantiate_bound_vars.ensures.grown q.inner c.in_ok-args.ensures.lawful in
-    on_err c.instantiate_bound_vars.result _
-    (subst (MakesUnbound (p.inner.universe).0 (store_in meaning p)) (sym still)
-    (each_unbound c.in_ok-args.ensures.makes))
+    let ks = kinds_in ((meaning p.interner).bound_vars c.args.value.bound_vars) in
+    let xs = map (arg_tree (meaning q.interner)) c.in_ok-args.args.items in
+    let each = MakesEach (p.inner.universe).0 (store_in meaning p) in
+    on_err c.instantiate_bound_vars.result _ (
+      length ks,
+      xs,
+      subst (each (take (length ks) ks) xs) (sym still)
+          (subst (λ zs. each zs xs (store_in meaning q)) (sym (take_all (length ks) ks (omega arith)))
+          c.in_ok-args.ensures.makes),
+    )
 
 pub returns-clause-rest : goal.returns-clause-rest
 returns-clause-rest g c =

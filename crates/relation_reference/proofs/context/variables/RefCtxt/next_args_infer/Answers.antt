@@ -1,12 +1,10 @@
-use Rattle.std.proofs.Common.{◌≡◌, ◌+◌, ◌<◌, ◌≤◌, suc, refl, sym, ap, ◌∙◌, subst, arith, length, map, IsTrue}
+use Rattle.std.proofs.Common.{◌≡◌, ◌+◌, ◌<◌, ◌≤◌, suc, refl, sym, ap, ◌∙◌, subst, arith, length, map, take, IsTrue}
 use Rattle.std.specs.Prelude.{IsSome, Some, slice_get}
 use Rattle.std.proofs.lemmas.List.{take_all}
 use Rattle.relation_terms.specs.Trees.{known, list_tree}
 use Rattle.relation_terms.specs.Meaning.{arg_tree, bound_kind_of}
 use Rattle.relation_terms.proofs.Stays.{stays_same, extends_on}
-use Rattle.relation_semantics.specs.Generalising.{MakesUnbound}
 use Rattle.relation_semantics.specs.Binders.{kinds_in, MakesEach}
-use Rattle.relation_semantics.proofs.MakingEach.{each_unbound}
 use Rattle.relation_reference.specs.RefCtxt.{store_in, context_in}
 use Rattle.relation_reference.proofs.Making.{on_err}
 use Rattle.relation_reference.proofs.Binders.{each_none, each_next, args_next, args_known, rest_itself, rest_on}
@@ -46,9 +44,14 @@ returns-in_err-arg-clause-grown g c = extends_on c.loop-place.invariant.grown c.
 pub returns-in_err-arg-clause-refused : goal.returns-in_err-arg-clause-refused
 returns-in_err-arg-clause-refused g c =
     let p = c.args.self.now in
-    on_err c.from_residual.result _
-    (subst (MakesUnbound (p.inner.universe).0 (store_in g.I.Interner.meaning p)) (sym c.in_err-arg.ensures.refused)
-    (each_unbound c.loop-place.invariant.makes))
+    let n = g.I.Interner.meaning c.loop-place.self.interner in
+    let ks = kinds_in ((g.I.Interner.meaning p.interner).bound_vars c.args.bound_vars.now) in
+    on_err c.from_residual.result _ (
+      c.loop-place.place,
+      map (arg_tree n) c.loop-place.args.items,
+      subst (MakesEach (p.inner.universe).0 (store_in g.I.Interner.meaning p) (take c.loop-place.place ks)
+          (map (arg_tree n) c.loop-place.args.items)) (sym c.in_err-arg.ensures.refused) c.loop-place.invariant.makes,
+    )
 
 pub returns-in_err-arg-clause-rest : goal.returns-in_err-arg-clause-rest
 returns-in_err-arg-clause-rest g c = rest_on c.loop-place.invariant.rest c.in_err-arg.ensures.rest
@@ -69,7 +72,7 @@ returns-in_err-push-clause-refused g c =
     let e : n.bound_vars k ≡ m.bound_vars k = (before.grown).bound_vars k c.requires.known in
     let at : slice_get (kinds_in (m.bound_vars k)) i ≡ Some (bound_kind_of n v) =
     ap (λ z. slice_get (kinds_in z) i) (sym e) ∙ c.variable_at-variable.ensures in
-    on_err c.from_residual-in_err-push.result _ (each_unbound (each_next (p.inner.universe).0 (store_in meaning p)
+    on_err c.from_residual-in_err-push.result _ (suc i, (_, each_next (p.inner.universe).0 (store_in meaning p)
     (store_in meaning c.loop-place.self) (store_in meaning c.next_arg_infer.new.self) (kinds_in (m.bound_vars k)) i
     (suc i)
     (bound_kind_of n v) (map (arg_tree n) c.loop-place.args.items) _ _ refl before.makes c.in_ok-arg.ensures.makes

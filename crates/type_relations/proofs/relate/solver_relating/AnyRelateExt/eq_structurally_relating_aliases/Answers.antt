@@ -2,6 +2,8 @@ use Rattle.std.proofs.Common.{sym, subst}
 use Rattle.term_enums.specs.declared.Variance.TheVariants.{Invariant}
 use Rattle.relation_terms.specs.Interning.{Sorted}
 use Rattle.relation_semantics.specs.declared.relate.StructurallyRelateAliases.TheVariants.{Yes}
+use Rattle.type_relations.specs.Solving.{solver_settings}
+use Rattle.type_relations.proofs.Closed.{leaves_closed, asks_nothing}
 use Rattle.type_relations.proofs.Completing.{completes}
 use Rattle.type_relations.proofs.relate.solver_relating.AnyRelateExt.eq_structurally_relating_aliases.Goals as goal
 
@@ -12,4 +14,20 @@ returns-clause-complete g c =
     let sorted = subst Sorted (sym (g.met.Infcx.InferCtxtLike.reads d))
     (g.met.Infcx.Interner.Interner.sorted (g.Infcx.InferCtxtLike.interner d)) in
     completes g.Infcx.InferCtxtLike.state c.args.self.now d g.T.Relate.over g.T.HasTree.tree sorted k.sound k.grown
-    k.rest.setup Yes c.args.param_env Invariant c.args.lhs c.args.rhs c.relate_as.result k.agrees k.errors
+    k.rest.setup (g.met.Infcx.InferCtxtLike.sound c.args.self.now c.requires.lawful) Yes c.args.param_env Invariant c.args.lhs
+    c.args.rhs c.relate_as.result k.needs k.agrees k.errors
+
+pub returns-clause-closed : goal.returns-clause-closed
+returns-clause-closed g c =
+    let k = c.relate_as.ensures in
+    leaves_closed g.Infcx.InferCtxtLike.state c.args.self.now c.relate_as.new.infcx g.T.Relate.over g.T.HasTree.tree
+    c.args.lhs c.args.rhs (g.met.Infcx.InferCtxtLike.sound c.args.self.now c.requires.lawful) c.relate_as.result k.built
+    k.needs
+
+pub returns-clause-no_goals : goal.returns-clause-no_goals
+returns-clause-no_goals g c =
+    let k = c.relate_as.ensures in
+    let s = g.Infcx.InferCtxtLike.state c.args.self.now in
+    asks_nothing g.Infcx.InferCtxtLike.state c.args.self.now c.relate_as.new.infcx g.T.Relate.over g.T.HasTree.tree
+    c.args.lhs c.args.rhs (solver_settings Yes s.setup) (g.met.Infcx.InferCtxtLike.sound c.args.self.now c.requires.lawful)
+    c.relate_as.result k.built k.goals

@@ -4,10 +4,10 @@ use Rattle.std.proofs.lemmas.Grind.{common_steps}
 use Rattle.type_relations.proofs.OverContext.{grows_itself}
 use Rattle.relation_folds.specs.Visits.{bound_var_escapes}
 use Rattle.relation_folds.specs.declared.error.RelateFault.TheVariants.{Memory}
-use Rattle.relation_semantics.specs.Binders.{binder_tree}
+use Rattle.relation_semantics.specs.Binders.{binder_tree, bound_by}
 use Rattle.relation_semantics.proofs.Passing.{as_err}
 use Rattle.type_relations.specs.Solving.{solving_through}
-use Rattle.type_relations.proofs.Rounds.{under_built}
+use Rattle.type_relations.proofs.Rounds.{under_binds}
 use Rattle.relation_semantics.proofs.Bound.{outermost_binds}
 use Rattle.type_relations.proofs.SolvingBinders.{opens_neither, opening_refused, opens_second}
 use Rattle.type_relations.proofs.SolvingBinders.{opens_first, opens_none, no_more}
@@ -77,12 +77,13 @@ returns-in_err-y-clause-opened g c =
     let done = c.in_err-y.ensures in
     let h = done.opens in
     opening_refused r.structurally_relate_aliases r.infcx.ghost_name r.cache.kept r.goals.items s d r.ambient_variance r.param_env c.requires.lawful.1
-    (g.met.Infcx.InferCtxtLike.sound r.infcx.now c.requires.lawful.0.0) done.grows h.0 h.1 h.2 h.3 c.args.round
+    (g.met.Infcx.InferCtxtLike.sound r.infcx.now c.requires.lawful.0.0) done.grows h.0 h.1 h.2
+    (bound_by (binder_tree g.T.HasTree.tree s.meaning c.args.a.now)) h.3 c.args.round
     (binder_tree g.T.HasTree.tree s.meaning c.args.a.now) (binder_tree g.T.HasTree.tree s.meaning c.args.b.now)
     (g.T.HasTree.tree d.meaning) c.from_residual.result
     (as_err c.from_residual.result Memory c.from_residual.ensures.0 c.from_residual.ensures.1)
-    (under_built ((s.meaning).bound_vars c.args.a.now.bound_vars)
-    (g.T.HasTree.tree s.meaning c.args.a.now.value) c.requires.asked.left_known)
+    (λ k ha hb. under_binds ((s.meaning).bound_vars c.args.a.now.bound_vars)
+    (g.T.HasTree.tree s.meaning c.args.a.now.value) c.requires.asked.left_known k ha)
 
 pub returns-then-enters_second-clause-opened : goal.returns-then-enters_second-clause-opened
 returns-then-enters_second-clause-opened g c =
@@ -110,11 +111,12 @@ returns-in_err-x-clause-opened g c =
     let h = done.opens in
     let from = c.from_residual-in_err-x in
     opening_refused r.structurally_relate_aliases r.infcx.ghost_name r.cache.kept r.goals.items s d r.ambient_variance r.param_env c.requires.lawful.1
-    (g.met.Infcx.InferCtxtLike.sound r.infcx.now c.requires.lawful.0.0) done.grows h.0 h.1 h.2 h.3 c.args.round
+    (g.met.Infcx.InferCtxtLike.sound r.infcx.now c.requires.lawful.0.0) done.grows h.0 h.1 h.2
+    (bound_by (binder_tree g.T.HasTree.tree s.meaning c.args.b.now)) h.3 c.args.round
     (binder_tree g.T.HasTree.tree s.meaning c.args.a.now) (binder_tree g.T.HasTree.tree s.meaning c.args.b.now)
     (g.T.HasTree.tree d.meaning) from.result (as_err from.result Memory from.ensures.0 from.ensures.1)
-    (under_built ((s.meaning).bound_vars c.args.a.now.bound_vars)
-    (g.T.HasTree.tree s.meaning c.args.a.now.value) c.requires.asked.left_known)
+    (λ k ha hb. under_binds ((s.meaning).bound_vars c.args.b.now.bound_vars)
+    (g.T.HasTree.tree s.meaning c.args.b.now.value) c.requires.asked.right_known k hb)
 
 pub returns-then-enters_first-clause-opened : goal.returns-then-enters_first-clause-opened
 returns-then-enters_first-clause-opened g c =
