@@ -1,5 +1,5 @@
 -- What a folder makes of a term, part by part, in an interner that grows meanwhile.
-use Rattle.std.proofs.Common.{ℕ, suc, ◌≡◌, IsTrue, Bool, true, false}
+use Rattle.std.proofs.Common.{ℕ, suc, ◌≡◌, IsTrue, Bool, true, false, OnOk, OnErr}
 use Rattle.std.proofs.Common.{Option, Some, None, Result, Ok, Err, IfOk, refl}
 use Rattle.std.proofs.Common.{ap, ap₂, sym, ◌∙◌}
 use Rattle.relation_terms.specs.Heads.{Sort, no_sort, region_sort, type_sort, const_sort, Admits, leaf_sort, head_sort}
@@ -116,6 +116,15 @@ module _ {Key Id Name F : Type 0} {Ready : Meaning Key Id Name → F → Type 0}
 
   pub steps_none : (m : Meaning Key Id Name) (f : F) → Ready m f → Steps Ready puts m f m f
   steps_none m f r = record { grown = stays_same m; ready = r; kept = λ d x. refl }
+
+-- What holds anyway holds where a call succeeds, and after a fault.
+pub on_ok : {A E : Type 0} (r : Result A E) (P : Type 0) → P → OnOk r P
+on_ok (Ok x) P p = p
+on_ok (Err e) P p = tt
+
+pub on_err : {A E : Type 0} (r : Result A E) (P : Type 0) → P → OnErr r P
+on_err (Ok x) P p = tt
+on_err (Err e) P p = p
 
 -- What is said of a success follows from two things that are said of it otherwise.
 pub if_ok_both : {A E : Type 0} {P Q R : A → Type 0} (r : Result A E) → ((x : A) → P x → Q x → R x) → IfOk r P →

@@ -21,6 +21,18 @@ firsts_all (leaf l) h = absurd h
 firsts_all (node g ts) h = absurd h
 firsts_all (bind ks t) h = absurd h
 
+-- One more part, of the sort of the one at its place.
+pub fit_next : {Key Id : Type 0} (y : Part Key Id) (i : ℕ) (ts : Tree) (xs : List (Part Key Id)) → i < count ts →
+    Fit xs (firsts i ts) → part_sort y ≡ tree_sort (nth i ts) → Fit (xs ++ y ∷ []) (firsts (suc i) ts)
+fit_next y zero (cons t ts) [] h a q = (q, tt)
+fit_next y zero (cons t ts) (x ∷ xs) h a q = absurd a
+fit_next y (suc i) (cons t ts) [] h a q = absurd a
+fit_next y (suc i) (cons t ts) (x ∷ xs) h a q = (a.0, fit_next y i ts xs (omega arith) a.1 q)
+fit_next y i (leaf l) xs h a q = absurd (omega arith)
+fit_next y i (node b l) xs h a q = absurd (omega arith)
+fit_next y i (bind ks l) xs h a q = absurd (omega arith)
+fit_next y i nil xs h a q = absurd (omega arith)
+
 -- The first parts are built.
 pub record Built {Key Id : Type 0} (p : ℕ → Tree → Option Tree) (d : ℕ) (f : Part Key Id → Tree) (i : ℕ) (ts : Tree) (xs : List (Part Key Id))
     : Type 0 where
@@ -52,17 +64,6 @@ module _ {Key Id : Type 0} (p : ℕ → Tree → Option Tree) (d : ℕ) (f g : P
   sure_next xs h k =
       known_with_last g xs y (knows_as (list_tree f xs) (list_tree g xs) (stays_list f g xs stay h) h) k
 
-  fit_next : (i : ℕ) (ts : Tree) (xs : List (Part Key Id)) → i < count ts → Fit xs (firsts i ts) →
-      part_sort y ≡ tree_sort (nth i ts) → Fit (xs ++ y ∷ []) (firsts (suc i) ts)
-  fit_next zero (cons t ts) [] h a q = (q, tt)
-  fit_next zero (cons t ts) (x ∷ xs) h a q = absurd a
-  fit_next (suc i) (cons t ts) [] h a q = absurd a
-  fit_next (suc i) (cons t ts) (x ∷ xs) h a q = (a.0, fit_next i ts xs (omega arith) a.1 q)
-  fit_next i (leaf l) xs h a q = absurd (omega arith)
-  fit_next i (node b l) xs h a q = absurd (omega arith)
-  fit_next i (bind ks l) xs h a q = absurd (omega arith)
-  fit_next i nil xs h a q = absurd (omega arith)
-
   pub built_next : (i j : ℕ) (ts : Tree) (xs ys : List (Part Key Id)) → Built p d f i ts xs → i < count ts → j ≡ suc i →
       g y ≡ folded p d (nth i ts) → IsTrue (known (g y)) → part_sort y ≡ tree_sort (nth i ts) → ys ≡ xs ++ y ∷ [] →
       Built p d g j ts ys
@@ -70,7 +71,7 @@ module _ {Key Id : Type 0} (p : ℕ → Tree → Option Tree) (d : ℕ) (f g : P
       subst (λ zs. Built p d g j ts zs) (sym r) (subst (λ n. Built p d g n ts (xs ++ y ∷ [])) (sym e) (record {
         same = same_next i ts xs h b.fit b.sure b.same q;
         sure = sure_next xs b.sure k;
-        fit = fit_next i ts xs h b.fit s;
+        fit = fit_next y i ts xs h b.fit s;
       }))
 
 -- No member is built yet.

@@ -69,6 +69,14 @@ module _ {Key Id Name F : Type 0} {Ready : Meaning Key Id Name → F → Type 0}
         is = made_on k.part k.depth by k.is;
       }
 
+-- What is found among one more is that one, or was found before.
+pub one_more : {A : Type 0} (b : Bool) (by new : A) (o : Option A) (P : A → Type 0) → (IsTrue b → P new) →
+    ((x : A) → o ≡ Some x → P x) → cond b (Some new) o ≡ Some by → P by
+one_more true by new o P f g e =
+    let same : new ≡ by = cc in
+    subst P same (f refl)
+one_more false by new o P f g e = g by e
+
 module _ {Key Id Name : Type 0} (m : Meaning Key Id Name) (puts : ℕ → Tree → Option Tree) where
   -- What is made of a part is made of each part of its tree and sort.
   pub made_same : (p q : Part Key Id) (d e : ℕ) (by : Part Key Id) → part_tree m p ≡ part_tree m q → part_sort p ≡ part_sort q →
@@ -79,13 +87,6 @@ module _ {Key Id Name : Type 0} (m : Meaning Key Id Name) (puts : ℕ → Tree �
     made = i.made ∙ ap (λ x. folded puts d x) t ∙ ap (λ x. folded puts x (part_tree m q)) h;
     sort = i.sort ∙ s;
   }
-
-  one_more : (b : Bool) (by new : Part Key Id) (o : Option (Part Key Id)) (P : Part Key Id → Type 0) →
-      (IsTrue b → P new) → ((x : Part Key Id) → o ≡ Some x → P x) → cond b (Some new) o ≡ Some by → P by
-  one_more true by new o P f g e =
-      let same : new ≡ by = cc in
-      subst P same (f refl)
-  one_more false by new o P f g e = g by e
 
   pub remembers_more : {S : Type 0} (eq : Place Key → Place Key → Bool) (old new : HashMap (Place Key) (Part Key Id) S)
       (p : Part Key Id) (d : ℕ) (by : Part Key Id) (place : Place Key) → place_of p d ≡ Some place →

@@ -1,8 +1,8 @@
 -- A fold that moves variables changes nothing where none escapes, or where they are moved by nothing: such a term can
 -- stand for itself.
 use Rattle.std.proofs.Common.{◌≡◌, refl, sym, ◌∙◌, ap, ap₂, arith, subst}
-use Rattle.std.specs.Prelude.{ℕ, zero, suc, ◌+◌, Bool, true, false, not, ◌&&◌, ◌||◌, cond, nat_lt, nat_eq, Option, Some, None}
-use Rattle.std.proofs.lemmas.Bool.{or_parts, eqb-true}
+use Rattle.std.specs.Prelude.{ℕ, suc, ◌+◌, Bool, true, false, not, ◌&&◌, cond, nat_lt, nat_eq, Option, Some, None}
+use Rattle.std.proofs.lemmas.Bool.{or_parts, eqb-true, not-false}
 use Rattle.relation_terms.specs.Heads.{Leaf, variable, bound, placeholder, atom, unknown, leaf_sort, head_sort, Head}
 use Rattle.relation_terms.specs.Trees.{Tree, leaf, node, bind, nil, cons}
 use Rattle.relation_terms.specs.Flags.{outer_exclusive_binder, leaf_binder}
@@ -24,15 +24,11 @@ put_same : (a : Bool) (u t : Tree) → u ≡ t → put_or a (Some u) t ≡ t
 put_same true u t e = e
 put_same false u t e = refl
 
-not_false : (b : Bool) → not b ≡ false → b ≡ true
-not_false true e = refl
-not_false false e = sym e
-
 -- A variable that doesn't escape is not moved.
 leaf_stays : (by d : ℕ) (l : Leaf) → is_escaping d l ≡ false → folded (moves by) d (leaf l) ≡ leaf l
 leaf_stays by d (bound k e i) h =
     let a = asks (leaf_sort (bound k e i)) in
-    ap (λ b. put_or a (cond b None (Some (leaf (bound k (e + by) i)))) (leaf (bound k e i))) (not_false (nat_lt e d) h)
+    ap (λ b. put_or a (cond b None (Some (leaf (bound k (e + by) i)))) (leaf (bound k e i))) (not-false (nat_lt e d) h)
     ∙ put_none a (leaf (bound k e i))
 leaf_stays by d (variable k n) h = put_none (asks (leaf_sort (variable k n))) (leaf (variable k n))
 leaf_stays by d (placeholder k u n) h = put_none (asks (leaf_sort (placeholder k u n))) (leaf (placeholder k u n))

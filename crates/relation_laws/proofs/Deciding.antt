@@ -19,7 +19,7 @@ use Rattle.relation_laws.specs.Decided.{Leads, plain_leaf, pair_of, outlives_by,
 use Rattle.relation_semantics.specs.Errors.{outer_leaf}
 use Rattle.type_relations.proofs.RegionTerms.{outer_related}
 use Rattle.relation_semantics.proofs.Related.{rigid_rule, neither, neither_of, no_region_head, forms_inverted}
-use Rattle.relation_semantics.proofs.Erased.{leaf_path}
+use Rattle.relation_terms.proofs.Paths.{leaf_path}
 
 pub iff_through : {A B C : Type 0} → A ↔ B → B ↔ C → A ↔ C
 iff_through p q = (λ a. q.0 (p.0 a), λ c. p.1 (q.1 c))

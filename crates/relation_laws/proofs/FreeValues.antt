@@ -16,6 +16,7 @@ use Rattle.relation_semantics.proofs.Growing.{same_terms, old_or_new, universes_
 use Rattle.relation_semantics.proofs.Exactness.{changed, changed_same, changed_other, changed_case}
 use Rattle.relation_semantics.proofs.StoreCalls.{resolved_stands, resolved_within, get_or_past}
 use Rattle.relation_laws.specs.SolutionLaws.{GivesValues, FreeValues, MadeIsUnconstrainedErased}
+use Rattle.relation_semantics.proofs.StoreCalls.{changed_agrees, changed_assigns}
 
 -- A leaf of a value that a universe can name.
 abbrev IsValueIn : ℕ → Leaf → Type 0
@@ -59,43 +60,17 @@ free_values st g t h = (assigns, meets, free_itself st t)
     meets k n x e = ap (apply t) (resolved_meets st g k n x e) ∙ apply-apply t (resolved st) x
 
 pub made_is_unconstrained_erased : MadeIsUnconstrainedErased
-made_is_unconstrained_erased before after k n u q g s t sol stands ground within names =
-    (z, agree, ((assigns, bindings), changed_same k n t s))
+made_is_unconstrained_erased before after k n u q g s t sol stands ground within names = (
+  z,
+  agree,
+  ((changed_assigns before after k n u q g s t sol.0 stands ground within names, bindings), changed_same k n t s),
+)
   where
     z : Assign
     z = changed k n t s
 
-    not_made : (j : VarKind) (i : ℕ) → IsMade before j i → j ≡ k → i ≡ n → ⊥
-    not_made j i m a b = let c : IsMade before k n = subst₂ (IsMade before) a b m in let d = q.number in omega arith
-
     agree : AgreeOn before s z
-    agree j i m = sym (changed_other k n t s j i (not_made j i m))
-
-    new_universe : universe_of after k n ≡ u
-    new_universe = ap (λ us. get_or us n 0) q.universes_grow
-        ∙ ap (λ m. get_or (before.universes k ++ u ∷ []) m 0) (q.number ∙ sym (g.one_universe_each k))
-        ∙ get_or_past (before.universes k) u
-
-    old : (j : VarKind) (i : ℕ) → IsMade after j i → (j ≡ k → i ≡ n → ⊥) → IsMade before j i
-    old j i m o = go (old_or_new before after k n u q j i m)
-      where
-        go : IsMade before j i ⊎ ((j ≡ k) × (i ≡ n)) → IsMade before j i
-        go (inl p) = p
-        go (inr p) = absurd (o p.0 p.1)
-
-    assigns : IsAssignment after z
-    assigns j i m = changed_case
-        (λ j i y. MayStandFor j y × Leaves IsValueLeaf y × StaysWithin 0 y ×
-        Leaves (IsNamable (universe_of after j i)) y)
-        k n t s
-        (stands, ground, within, subst (λ v. Leaves (IsNamable v) t) (sym new_universe) names) j i
-        (λ o. let a = sol.0 j i (old j i m o) in (
-          a.0,
-          a.1,
-          a.2,
-          subst (λ v. Leaves (IsNamable v) (s j i))
-              (sym (universes_stand before after k n u q g j i (old j i m o))) a.3,
-        ))
+    agree = changed_agrees before after k n u q g s t
 
     bindings : MeetsErased after z
     bindings j i y e =

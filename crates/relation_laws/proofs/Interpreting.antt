@@ -14,6 +14,7 @@ use Rattle.relation_semantics.specs.Asking.{Wanted, a_constraint, a_goal, HaveAl
 use Rattle.relation_semantics.proofs.Trees.{apply_ground}
 use Rattle.type_relations.specs.Completing.{AskedHolds}
 use Rattle.relation_laws.specs.AskingLaws.{SomeInterpretation}
+use Rattle.std.proofs.lemmas.Option.{same_Some}
 
 -- Two terms are met where two others are related: as these, or as two of their parts at one place.
 data Meets (x y : Tree) : Tree → Tree → Type 0 where
@@ -82,17 +83,14 @@ data GoalOfMet (a b p : Tree) : Type 0 where
   goal_of_met : (x y : Tree) (d : AliasRelationDirection) → p ≡ alias_relate_predicate d x y → HaveAlias x y →
       Meets x y a b ⊎ Meets x y b a → GoalOfMet a b p
 
-some_path : {A : Type 0} {x y : A} → Some x ≡ Some y → x ≡ y
-some_path e = cc
-
 other_side : (a b : Tree) → HaveAlias a b → HaveAlias b a
 other_side a b (inl i) = inr i
 other_side a b (inr i) = inl i
 
 alias_goal : (v : Variance) (a b p : Tree) → HaveAlias a b → alias_at v a b ≡ Some p → GoalOfMet a b p
-alias_goal Covariant a b p i r = goal_of_met a b Subtype (sym (some_path r)) i (inl (as_these refl refl))
-alias_goal Contravariant a b p i r = goal_of_met b a Subtype (sym (some_path r)) (other_side a b i) (inr (as_these refl refl))
-alias_goal Invariant a b p i r = goal_of_met a b Equate (sym (some_path r)) i (inl (as_these refl refl))
+alias_goal Covariant a b p i r = goal_of_met a b Subtype (sym (same_Some _ _ r)) i (inl (as_these refl refl))
+alias_goal Contravariant a b p i r = goal_of_met b a Subtype (sym (same_Some _ _ r)) (other_side a b i) (inr (as_these refl refl))
+alias_goal Invariant a b p i r = goal_of_met a b Equate (sym (same_Some _ _ r)) i (inl (as_these refl refl))
 alias_goal Bivariant a b p i r = absurd cc
 
 goal_path : {p q : Tree} → a_goal p ≡ a_goal q → p ≡ q

@@ -23,6 +23,7 @@ use Rattle.relation_semantics.specs.Binders.{kinds_in, variable_kind, MakesEach,
 use Rattle.relation_semantics.specs.Binders.{EntersAs, InstantiatesAs, EntersBinder, InstantiatesWithInfer}
 use Rattle.relation_semantics.proofs.Opened.{opened_inst, placeholders_stand, variables_stand, none_escapes, some_escapes}
 use Rattle.relation_reference.specs.Opened.{placeholders_from, MakesOne}
+use Rattle.relation_semantics.proofs.Opening.{same_changes}
 
 -- One more place of a list.
 taken : {A : Type 0} (xs : List A) (i : ℕ) (x : A) → slice_get xs i ≡ Some x → take (suc i) xs ≡ take i xs ++ x ∷ []
@@ -104,17 +105,6 @@ each_next u before middle after ks i j k xs ys x low f one p at more =
 
 pub each_none : (u : ℕ) (st : Store) (ks : List BoundKind) (xs : List Tree) → xs ≡ [] → MakesEach u st (take 0 ks) xs st
 each_none u st ks xs e = makes_none refl e
-
--- What is left as it is changes nothing.
-same_changes : (st : Store) → ChangesNothing st st
-same_changes st = record {
-  same_entries = λ k. refl;
-  same_universes = λ k. refl;
-  same_constraints = refl;
-  universe_stands = omega arith;
-  taint_stands = λ h. h;
-  same_budget = refl;
-}
 
 -- A known binder's list is known, and so is its body.
 pub binder_list : (o : Option (List BoundKind)) (t : Tree) → IsTrue (known (under o t)) → IsSome o

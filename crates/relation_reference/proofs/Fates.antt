@@ -16,7 +16,7 @@ use Rattle.relation_reference.specs.declared.context.memory.TermVid.{TermVid}
 use Rattle.relation_reference.specs.declared.context.memory.TermVid.TheVariants.{Ty as TyTerm, Const as ConstTerm}
 use Rattle.relation_reference.specs.Remembering.{vid_kind, vid_number}
 use Rattle.relation_reference.specs.Generalises.{new_kind, IsFate}
-use Rattle.relation_semantics.proofs.Generalising.{some_path}
+use Rattle.std.proofs.lemmas.Option.{same_Some}
 
 -- All that is left stays.
 pub left_stays : (st : Store) (k : VarKind) (n u : ℕ) (v : Variance) (t : Tree) → IsTrue (known t) → (tree_sort t ≡ region_sort → ⊥) →
@@ -73,5 +73,5 @@ new_kind_of p (ConstTerm v) e = absurd (cc)
 -- A variable that was made is of the kind that was asked for.
 pub made_as : (was now : Store) (u : ℕ) (x : Tree) (o : Option VarKind) (k : VarKind) (n : ℕ) → o ≡ Some k → MakesVariable was now k n u → x ≡ leaf (variable k n) →
     (j : VarKind) → o ≡ Some j → (m : ℕ) × MakesVariable was now j m u × (x ≡ leaf (variable j m))
-made_as was now u x o k n e g q j f = let p : k ≡ j = some_path (sym e ∙ f) in
+made_as was now u x o k n e g q j f = let p : k ≡ j = same_Some _ _ (sym e ∙ f) in
     (n, subst (λ z. MakesVariable was now z n u) p g, q ∙ ap (λ z. leaf (variable z n)) p)

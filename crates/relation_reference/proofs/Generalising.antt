@@ -27,7 +27,7 @@ use Rattle.relation_semantics.specs.Generalising.{Stays, gives_way_to, Side, out
 use Rattle.relation_semantics.proofs.Trees.{Leaves_map}
 use Rattle.relation_semantics.proofs.NewVariables.{Adds, adds, makes_then}
 use Rattle.relation_semantics.proofs.Generalising.{gives_no_number}
-use Rattle.relation_semantics.proofs.GeneralisingOnce.{still_new, stops_no_clear}
+use Rattle.relation_semantics.proofs.GeneralisingOnce.{still_new, stops_no_clear, alias_unseen}
 use Rattle.relation_semantics.proofs.GeneralisingParts.{PartsDone, none_done, one_done, form_done, body_done}
 use Rattle.relation_semantics.proofs.Lists.{firsts, firsts_all, snoc}
 use Rattle.relation_reference.specs.declared.context.generalising.MetKey.{MetKey}
@@ -37,6 +37,8 @@ use Rattle.relation_reference.specs.Tables.{store_of}
 use Rattle.relation_reference.specs.Generalises.{side_of, parts_side, met_at, IsClearInside, MayGoInto, AliasGivesWay, IsFate, IsSure, Keeps, HasCome, Becomes, StopsAlways, BecomesAlways, GeneralisesTo, Generalises, IsGeneralisedFor}
 use Rattle.relation_reference.proofs.Resolving.{context_part}
 use Rattle.relation_reference.proofs.Recalling.{sure_grows, keeps_none, keeps_grows}
+use Rattle.relation_semantics.proofs.BindingGeneralised.{clear_stays, clear_gives}
+use Rattle.relation_semantics.proofs.Answering.{items_stay}
 
 -- A leaf that is in the context from the start stays by what is recorded at the start.
 module _ (start st : Store) (u : ℕ) (v : Variance) (still : (j : VarKind) (m : ℕ) → IsMade start j m → universe_of st j m ≡ universe_of start j m) where
@@ -71,25 +73,6 @@ module _ (start st : Store) (u : ℕ) (v : Variance) (still : (j : VarKind) (m :
   stays_back (atom (early_region i x)) h s = s
   stays_back (atom x) h s = tt
   stays_back unknown h s = tt
-
--- No obstacle is a leaf that stays, or gives way.
-clear_stays : (st : Store) (k : VarKind) (n : ℕ) (v : Variance) (l : Leaf) → l ≢ variable k n → Stays st (universe_of st k n) v l → IsNoObstacle st k n l
-clear_stays st k n v (variable j m) o s = o
-clear_stays st k n v (bound q d i) o s = tt
-clear_stays st k n v (placeholder (bound_kind region_kind x) w i) o s = tt
-clear_stays st k n v (placeholder (bound_kind type_kind x) w i) o s = s
-clear_stays st k n v (placeholder (bound_kind const_kind x) w i) o s = s
-clear_stays st k n v (atom x) o s = tt
-clear_stays st k n v unknown o s = tt
-
-pub clear_gives : (st : Store) (k : VarKind) (n : ℕ) (l : Leaf) (j : VarKind) → l ≢ variable k n → gives_way_to l ≡ Some j → IsNoObstacle st k n l
-clear_gives st k n (variable i m) j o e = o
-clear_gives st k n (bound q d i) j o e = tt
-clear_gives st k n (placeholder (bound_kind region_kind x) w i) j o e = tt
-clear_gives st k n (placeholder (bound_kind type_kind x) w i) j o e = absurd (cc)
-clear_gives st k n (placeholder (bound_kind const_kind x) w i) j o e = absurd (cc)
-clear_gives st k n (atom x) j o e = tt
-clear_gives st k n unknown j o e = tt
 
 -- Where no obstacle stands, none stands outside of aliases.
 pub clear_all : (g : StructurallyRelateAliases) (st : Store) (k : VarKind) (n : ℕ) (t : Tree) → Leaves (IsNoObstacle st k n) t → IsClear g st k n t
@@ -161,10 +144,6 @@ inside_parts g st k n u e (cons t ts) q goes c = none e
     none outside = tt
     none inside = tt
 
--- Items are what they were, while the interner grows.
-pub items_grow : {Key Id Name : Type 0} {m n : Meaning Key Id Name} → Extends m n → items_of n ≡ items_of m
-items_grow e = ap₂ declared_by e.variances e.alias_variances
-
 module _ {Key Id Name S : Type 0} (eq : MetKey Key → MetKey Key → Bool) (g : StructurallyRelateAliases) (k : VarKind) (i u : ℕ) (c : Items) (start : Store) where
   -- Since the start only new variables were made.
   module _ {m : Meaning Key Id Name} {memory : HashMap (MetKey Key) (TyKey Key) S} {st : Store} {es : List Met} (h : HasCome eq m memory g c start k i u st es) where
@@ -183,7 +162,7 @@ module _ {Key Id Name S : Type 0} (eq : MetKey Key → MetKey Key → Bool) (g :
   -- As the interner grows, and as more variables are made.
   pub come_grows : {m n : Meaning Key Id Name} → Extends m n → (memory : HashMap (MetKey Key) (TyKey Key) S) → IsSure eq m memory → (st : Store) (es : List Met) → HasCome eq m memory g c start k i u st es → HasCome eq n memory g c start k i u st es
   come_grows e memory s st es h = record {
-    items = items_grow e ∙ h.items;
+    items = items_stay e ∙ h.items;
     sound = h.sound;
     universe = h.universe;
     makes = h.makes;
@@ -354,13 +333,10 @@ module _ {I Key Id Name Span S : Type 0} (meaning : I → Meaning Key Id Name) (
           generalised = subst₂ (λ y z. Generalised g c start k i (new_part sd v) (record { store = was; met = es }) y (record { store = now; met = es }) z) (sym l.is) (sym is)
               (subst (λ q. Generalised g c start k i (new_part q v) (record { store = was; met = es }) (node (alias l.kind l.id) l.arguments) (record { store = now; met = es }) (leaf (variable type_var d))) (sym f.alone)
               (alias_gives_way l.left stops.1 (subst (MakesVariable was now type_var d) (sym a.universe) makes) refl));
-          clear = subst (IsClear g start k i) (sym l.is) (λ s. absurd (unseen l.kind l.id l.left s));
+          clear = subst (IsClear g start k i) (sym l.is) (λ s. absurd (alias_unseen l.kind l.id l.left s));
         },
   )
     where
-      unseen : (a : AliasKind) (j : ℕ) → g ≡ No → IsSeen g (alias a j) → ⊥
-      unseen a j e s = subst (λ z. IsSeen z (alias a j)) e s
-
       form_stops : {st : Store} {o : Obstacle} {h : Head} {ts : Tree} → StopsAt Yes st k i o (node h ts) → StopsAt Yes st k i o ts
       form_stops (in_parts p q) = q
 
@@ -497,17 +473,6 @@ made_context u was now g low f t h = Leaves_map (IsMadeLeaf was) (IsMadeLeaf now
     each (placeholder q w e) p = tt
     each (atom x) p = p
     each unknown p = absurd p
-
--- One more part, of the sort of the one at its place.
-pub fit_push : {Key Id : Type 0} (y : Part Key Id) (j : ℕ) (ts : Tree) (xs : List (Part Key Id)) → j < count ts → Fit xs (firsts j ts) → part_sort y ≡ tree_sort (nth j ts) → Fit (xs ++ y ∷ []) (firsts (suc j) ts)
-fit_push y zero (cons t ts) [] h a q = (q, tt)
-fit_push y zero (cons t ts) (x ∷ xs) h a q = absurd a
-fit_push y (suc j) (cons t ts) [] h a q = absurd a
-fit_push y (suc j) (cons t ts) (x ∷ xs) h a q = (a.0, fit_push y j ts xs (omega (arith, h)) a.1 q)
-fit_push y j (leaf l) xs h a q = absurd (omega (arith, h))
-fit_push y j (node b l) xs h a q = absurd (omega (arith, h))
-fit_push y j (bind ks l) xs h a q = absurd (omega (arith, h))
-fit_push y j nil xs h a q = absurd (omega (arith, h))
 
 -- An error of a part is one of the term.
 pub fails_on : {Key Id Name S : Type 0} (eq : MetKey Key → MetKey Key → Bool) (m n o : Meaning Key Id Name) (was now then : Store) (g : StructurallyRelateAliases) (k : VarKind) (i u : ℕ) (cyclic : TypeError Key Id Name) (one other : Turn)

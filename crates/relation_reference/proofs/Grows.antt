@@ -13,7 +13,6 @@ use Rattle.relation_terms.specs.declared.predicate.regions.RegionConstraint.TheV
 use Rattle.relation_semantics.specs.Stores.{Store, Entry, unbound, same_as, bound_to, entry_of, entry_term, Constraint, outlives_constraint, equal_constraint, IsSound, InContext, IsTermIn, ConstraintIn}
 use Rattle.relation_semantics.specs.Constraints.{constraint_of}
 use Rattle.relation_semantics.proofs.Standing.{term_context}
-use Rattle.relation_semantics.proofs.Lists.{both_known}
 use Rattle.relation_reference.specs.declared.context.inner.Variable.{Variable}
 use Rattle.relation_reference.specs.declared.context.inner.VariableValue.{VariableValue}
 use Rattle.relation_reference.specs.declared.context.inner.VariableValue.TheVariants.{Unknown, SameAs, Known}
@@ -22,6 +21,7 @@ use Rattle.relation_reference.specs.Variables.{keys_of, values_of, universes_of,
 use Rattle.relation_reference.specs.Numbers.{number_trees}
 use Rattle.relation_reference.specs.SubRoots.{root_in}
 use Rattle.relation_reference.specs.Tables.{by_kind, store_of, keys_in, IsRooted, IsFilled, IsLawful}
+use Rattle.std.specs.Cmp.Derive.{both_true}
 
 -- A term of a context has no unknown part.
 pub known_of_context : (st : Store) (t : Tree) → InContext st t → IsTrue (known t)
@@ -34,7 +34,7 @@ known_of_context st (leaf unknown) h = absurd h
 known_of_context st (node a ts) h = known_of_context st ts h
 known_of_context st (bind ks t) h = known_of_context st t h
 known_of_context st nil h = refl
-known_of_context st (cons t ts) h = both_known (known t) (known ts) (known_of_context st t h.0) (known_of_context st ts h.1)
+known_of_context st (cons t ts) h = both_true (known_of_context st t h.0) (known_of_context st ts h.1)
 
 pub known_of_term : (st : Store) (t : Tree) → IsTermIn st t → IsTrue (known t)
 known_of_term st t h = known_of_context st t (term_context st t h)

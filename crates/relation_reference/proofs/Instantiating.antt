@@ -33,9 +33,10 @@ use Rattle.relation_reference.specs.Tables.{store_of, context_of, keys_in, MayBe
 use Rattle.relation_reference.specs.Generalises.{GivenError, IsGeneralisedFor}
 use Rattle.relation_reference.proofs.Beside.{Beside}
 use Rattle.relation_reference.proofs.Bound.{comes_by_lists}
-use Rattle.relation_reference.proofs.Generalising.{items_grow, generalised_by_lists, generalised_within, none_met}
+use Rattle.relation_reference.proofs.Generalising.{generalised_by_lists, generalised_within, none_met}
 use Rattle.relation_reference.proofs.Grows.{store_grows, lawful_grows}
 use Rattle.relation_reference.proofs.Writing.{bind_binds, bind_lawful}
+use Rattle.relation_semantics.proofs.Answering.{items_stay}
 
 -- Only a variable of a constant becomes one.
 gives_const : (l : Leaf) → gives_way_to l ≡ Some const_var → (m : ℕ) × (l ≡ variable const_var m)
@@ -167,7 +168,7 @@ module _ {Key Id Name : Type 0} {m n : Meaning Key Id Name} (o : Meaning Key Id 
       (g : (last : Stage) × (last.store ≡ store_of o z) × Generalised al (items_of n) (store_of n w) k i (any_part outside (variance_for k v)) (record { store = store_of n w; met = [] }) full last term)
       (t_in : IsTermIn (store_of m x) t) (stands : MayStandFor k t) where
     pub generalised_here : Generalised al (items_of m) (store_of m x) k i (any_part outside (variance_for k v)) (record { store = (store_of m x); met = [] }) (apply (resolved (store_of m x)) t) (g.0) term
-    generalised_here = generalised_moved (items_of m) (items_of n) (store_of m x) (store_of n w) (apply (resolved (store_of m x)) t) full (items_grow grown) (still grown x w resolving l) comes g.2
+    generalised_here = generalised_moved (items_of m) (items_of n) (store_of m x) (store_of n w) (apply (resolved (store_of m x)) t) full (items_stay grown) (still grown x w resolving l) comes g.2
 
     pub by_rules : InstantiatesBy al (items_of m) (store_of m x) (store_of o y) v k i t term
     by_rules = record { made = made; last = g.0; generalised = generalised_here; binds = subst (λ s. BindsTo s (store_of o y) k i term) (sym g.1) (bind_binds o z y k beside keys z_lawful i term entries universes (made_still made) (free_still free) budget) }

@@ -27,6 +27,8 @@ use Rattle.relation_semantics.specs.Constraints.{constraint_of}
 use Rattle.relation_reference.proofs.Grows.{store_grows, lawful_grows}
 use Rattle.relation_reference.proofs.SubRoots.{roots_same}
 use Rattle.relation_reference.proofs.Beside.{Beside, types_beside, ints_beside, floats_beside, consts_beside, regions_beside, lawful_beside, keyed_still}
+pub use Rattle.relation_folds.proofs.Folding.{on_err}
+pub use Rattle.relation_semantics.proofs.Going.{later_same}
 
 -- Tables with the same lists.
 pub record SameTables {Key : Type 0} (x y : InferCtxtInner Key) : Type 0 where
@@ -90,9 +92,6 @@ module _ {Key Id Name : Type 0} (m : Meaning Key Id Name) (x y : InferCtxtInner 
     numbers = ap (map m.ty) s.numbers ∙ l.numbers;
     sub_rooted = roots_same m x y (ap (λ st. length (st.entries type_var)) same_store) s.sub_roots l.sub_rooted;
   }
-
-pub later_same : (old new : Store) → new ≡ old → IsLater old new
-later_same old new e = subst (λ st. IsLater old st) (sym e) (later_itself old)
 
 -- The entries, the universes and the keys of a table with one more variable.
 pub made_entries : {K : Type 0} (tree : K → Tree) (xs ys : List (Variable K)) (v : Variable K) → ys ≡ xs ++ v ∷ [] → v.value ≡ Unknown → entries_of tree ys ≡ entries_of tree xs ++ unbound ∷ []
@@ -341,11 +340,6 @@ module _ {Key Id Name : Type 0} (m : Meaning Key Id Name) (x : InferCtxtInner Ke
     binds = let e = constraint_bound (store_of m x) (store_of m y) asked constraint_added in omega (arith, e);
     grows = λ k t above below. subst (λ z. z ≤ k) (constraint_weight (store_of m x) (store_of m y) asked constraint_added t) below;
   }
-
--- A clause of a refused growth.
-pub on_err : {X E : Type 0} (r : Result X E) (P : Type 0) → P → OnErr r P
-on_err (Ok v) P p = tt
-on_err (Err v) P p = p
 
 -- The interner may have grown before a growth of the tables was refused.
 module _ {Key Id Name : Type 0} {m n : Meaning Key Id Name} (e : Extends m n) (x y : InferCtxtInner Key) (s : SameTables x y) (l : IsLawful m x) where

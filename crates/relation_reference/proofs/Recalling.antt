@@ -6,7 +6,6 @@ use Rattle.std.specs.Cmp.{IsEquivalence}
 use Rattle.std.proofs.lemmas.Bool.{false≢true}
 use Rattle.term_enums.specs.declared.Variance.TheVariants.{Covariant, Contravariant, Invariant, Bivariant}
 use Rattle.term_enums.specs.contracts.VariancePartialEq.TheImpl as variance_impl
-use Rattle.relation_semantics.proofs.Lists.{both_known}
 use Rattle.std.specs.HashMap.{HashMap, get, IsEmpty}
 use Rattle.std.specs.Map.{lookup}
 use Rattle.term_enums.specs.declared.Variance.{Variance}
@@ -18,6 +17,8 @@ use Rattle.relation_terms.proofs.Stays.{knows_as}
 use Rattle.relation_semantics.specs.Generalising.{Met}
 use Rattle.relation_reference.specs.declared.context.generalising.MetKey.{MetKey}
 use Rattle.relation_reference.specs.Generalises.{side_of, met_at, IsSure, WasMet, IsFound, Keeps}
+use Rattle.relation_terms.proofs.Same.{bool_same, bool_self}
+use Rattle.std.specs.Cmp.Derive.{both_true}
 
 -- What a list with one more in front contains.
 pub contains_cases : {A : Type 0} (y x : A) (ys : List A) → Contains (y ∷ ys) x → (y ≡ x) ⊎ Contains ys x
@@ -77,15 +78,6 @@ met_eq eq x y = beq x.inside y.inside && (variance_eq x.variance y.variance && e
 abbrev late_eq : {Key : Type 0} → (Key → Key → Bool) → MetKey Key → MetKey Key → Bool
 late_eq eq x y = variance_eq x.variance y.variance && eq (x.ty).0 (y.ty).0
 
-inside_same : (a b : Bool) → IsTrue (beq a b) → a ≡ b
-inside_same true true h = refl
-inside_same false false h = refl
-inside_same _ _ h = absurd (false≢true h)
-
-inside_self : (a : Bool) → IsTrue (beq a a)
-inside_self true = refl
-inside_self false = refl
-
 -- Both sides are told apart.
 side_same : (a b : Bool) → side_of a ≡ side_of b → a ≡ b
 side_same true true e = refl
@@ -108,13 +100,13 @@ variance_self Bivariant = refl
 
 module _ {Key : Type 0} (eq : Key → Key → Bool) (laws : IsEquivalence eq) where
   pub met_self : (q : MetKey Key) → met_eq eq q q ≡ true
-  met_self q = both_known _ _ (inside_self q.inside) (both_known _ _ (variance_self q.variance) (laws.refl (q.ty).0))
+  met_self q = both_true (bool_self q.inside) (both_true (variance_self q.variance) (laws.refl (q.ty).0))
 
   pub met_congr : (p q r : MetKey Key) → met_eq eq p q ≡ true → met_eq eq p r ≡ met_eq eq q r
   met_congr p q r h =
       let a = and_parts (beq p.inside q.inside) (late_eq eq p q) h in
       let b = and_parts (variance_eq p.variance q.variance) (eq (p.ty).0 (q.ty).0) a.1 in
-      ap₂ (λ x y. x && y) (ap (λ v. beq v r.inside) (inside_same p.inside q.inside a.0))
+      ap₂ (λ x y. x && y) (ap (λ v. beq v r.inside) (bool_same p.inside q.inside a.0))
       (ap₂ (λ x y. x && y) (ap (λ v. variance_eq v r.variance) (variance_same p.variance q.variance b.0)) (laws.congr (p.ty).0 (q.ty).0 (r.ty).0 b.1))
 
 -- Two keys of one side, one variance and one type.
@@ -129,14 +121,14 @@ module _ {Key Id Name : Type 0} (m : Meaning Key Id Name) (eq : Key → Key → 
       let a = and_parts (beq p.inside q.inside) (late_eq eq p q) h in
       let b = and_parts (variance_eq p.variance q.variance) (eq (p.ty).0 (q.ty).0) a.1 in
       record {
-        inside = inside_same p.inside q.inside a.0;
+        inside = bool_same p.inside q.inside a.0;
         variance = variance_same p.variance q.variance b.0;
         type = (same_ty p.ty q.ty k l).0 b.1;
       }
 
   pub met_equal : (p q : MetKey Key) → IsTrue (known (m.ty p.ty)) → IsTrue (known (m.ty q.ty)) → AreAlikeKeys m p q → met_eq eq p q ≡ true
-  met_equal p q k l a = both_known _ _ (subst (λ w. IsTrue (beq p.inside w)) a.inside (inside_self p.inside))
-      (both_known _ _ (subst (λ w. IsTrue (variance_eq p.variance w)) a.variance (variance_self p.variance)) ((same_ty p.ty q.ty k l).1 a.type))
+  met_equal p q k l a = both_true (subst (λ w. IsTrue (beq p.inside w)) a.inside (bool_self p.inside))
+      (both_true (subst (λ w. IsTrue (variance_eq p.variance w)) a.variance (variance_self p.variance)) ((same_ty p.ty q.ty k l).1 a.type))
 
 -- Keys that are equal find the same.
 lookup_same : {K X : Type 0} (eq : K → K → Bool) → ((p q r : K) → eq p q ≡ true → eq p r ≡ eq q r) → (p q : K) → eq p q ≡ true → (es : List (K × X)) → lookup (eq p) es ≡ lookup (eq q) es

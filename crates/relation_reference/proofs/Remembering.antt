@@ -8,7 +8,7 @@ use Rattle.relation_terms.specs.Trees.{known, apply}
 use Rattle.relation_terms.specs.Meaning.{Meaning, Extends}
 use Rattle.relation_terms.specs.Parts.{part_tree, part_sort, part_key}
 use Rattle.relation_terms.specs.declared.terms.part_kind.Part.{Part}
-use Rattle.relation_folds.proofs.Remembering.{one_sort}
+use Rattle.relation_folds.proofs.Remembering.{one_sort, one_more}
 use Rattle.relation_terms.proofs.Stays.{knows_as}
 use Rattle.relation_terms.proofs.Parts.{stays_part}
 use Rattle.relation_semantics.specs.Stores.{Store, resolved}
@@ -19,11 +19,6 @@ use Rattle.relation_reference.specs.Remembering.{key_of, ComesTo, IsKept, Rememb
 -- Parts are looked for by their sorts and their keys.
 abbrev pub key_eq : {Key : Type 0} → (Key → Key → Bool) → PartKey Key → PartKey Key → Bool
 key_eq eq x y = eqb x.sort y.sort && eq x.key y.key
-
--- What holds anyway holds where a call succeeds.
-pub on_ok : {A E P : Type 0} (r : Result A E) → P → OnOk r P
-on_ok (Ok x) p = p
-on_ok (Err e) p = tt
 
 -- What is looked for a part by: its key and its rank.
 keyed : {Key : Type 0} (o : Option Key) (r : ℕ) (q : PartKey Key) →
@@ -80,13 +75,6 @@ module _ {Key Id Name : Type 0} {m n : Meaning Key Id Name} (st now : Store) (gr
       record { part = k.part; key = k.key; stands = k.stands; same = k.same; is = comes_on k.part by k.is }
 
 module _ {Key Id Name : Type 0} (m : Meaning Key Id Name) (st : Store) where
-  one_more : (b : Bool) (by new : Part Key Id) (o : Option (Part Key Id)) (P : Part Key Id → Type 0) →
-      (IsTrue b → P new) → ((x : Part Key Id) → o ≡ Some x → P x) → cond b (Some new) o ≡ Some by → P by
-  one_more true by new o P f g e =
-      let same : new ≡ by = cc in
-      subst P same (f refl)
-  one_more false by new o P f g e = g by e
-
   pub remembers_more : {S : Type 0} (eq : PartKey Key → PartKey Key → Bool)
       (old new : HashMap (PartKey Key) (Part Key Id) S) (p by : Part Key Id) (key : PartKey Key) →
       key_of p ≡ Some key → ComesTo m st p by →

@@ -16,9 +16,9 @@ use Rattle.relation_terms.proofs.Stays.{stays_list, knows_as}
 use Rattle.relation_semantics.specs.Stores.{Store, entry_term, bound_term, IsSound}
 use Rattle.relation_semantics.specs.Stores.{InContext, resolved, weight}
 use Rattle.relation_semantics.proofs.Resolved.{resolved_free}
-use Rattle.relation_semantics.proofs.Parts.{nth_size}
+use Rattle.relation_semantics.proofs.Parts.{nth_size, over_itself}
 use Rattle.relation_semantics.proofs.Values.{nth_in}
-use Rattle.relation_semantics.proofs.Lists.{firsts, firsts_all, snoc, list_push, firsts_more, apply_snoc, push_known}
+use Rattle.relation_semantics.proofs.Lists.{firsts, firsts_all, snoc, list_push, firsts_more, apply_snoc}
 use Rattle.relation_reference.specs.declared.context.inner.InferCtxtInner.{InferCtxtInner}
 use Rattle.relation_reference.specs.Tables.{store_of, IsLawful}
 use Rattle.relation_reference.specs.declared.context.memory.TermVid.{TermVid}
@@ -26,6 +26,8 @@ use Rattle.relation_reference.specs.declared.context.memory.TermVid.TheVariants.
 use Rattle.relation_reference.specs.Remembering.{vid_kind, vid_number}
 use Rattle.relation_semantics.specs.Resolving.{IsShallow, root, stays_bound, formed, IsShallowConst, const_root, no_variable}
 use Rattle.relation_reference.proofs.Grows.{store_grows, lawful_grows}
+use Rattle.relation_folds.proofs.Members.{fit_next}
+use Rattle.relation_terms.proofs.Members.{known_with_last}
 
 -- A part that is no type is of another sort, and each part is of some.
 module _ {Key Id : Type 0} where
@@ -54,19 +56,6 @@ module _ {Key Id : Type 0} where
   not_const (Inputs t) n e = cc
   not_const (Existential p) n e = cc
   not_const (Object k) n e = cc
-
-  pub some_sort : (p : Part Key Id) → part_sort p ≡ no_sort → ⊥
-  some_sort (Ty t) e = cc
-  some_sort (Region r) e = cc
-  some_sort (Const c) e = cc
-  some_sort (ValTree v) e = cc
-  some_sort (Pat v) e = cc
-  some_sort (ValueType t) e = cc
-  some_sort (Binder vs b) e = cc
-  some_sort (Signature s) e = cc
-  some_sort (Inputs t) e = cc
-  some_sort (Existential p) e = cc
-  some_sort (Object k) e = cc
 
 -- A term comes to its form over what its parts come to, where it is no variable that has a term.
 pub comes_by_parts : (st : Store) (t : Tree) → (tree_sort t ≡ no_sort → ⊥) →
@@ -193,17 +182,6 @@ done_none s f ts xs e = subst (Done s f 0 ts) (sym e) (record { same = refl; sur
 -- One more, in an interner that has grown.
 module _ {Key Id : Type 0} (s : Assign) (f g : Part Key Id → Tree) (stay : (x : Part Key Id) → IsTrue (known (f x)) → g x ≡ f x)
     (y : Part Key Id) where
-  fit_next : (i : ℕ) (ts : Tree) (xs : List (Part Key Id)) → i < count ts → Fit xs (firsts i ts) →
-      part_sort y ≡ tree_sort (nth i ts) → Fit (xs ++ y ∷ []) (firsts (suc i) ts)
-  fit_next zero (cons t ts) [] h a q = (q, tt)
-  fit_next zero (cons t ts) (x ∷ xs) h a q = absurd a
-  fit_next (suc i) (cons t ts) [] h a q = absurd a
-  fit_next (suc i) (cons t ts) (x ∷ xs) h a q = (a.0, fit_next i ts xs (omega arith) a.1 q)
-  fit_next i (leaf l) xs h a q = absurd (omega arith)
-  fit_next i (node b l) xs h a q = absurd (omega arith)
-  fit_next i (bind ks l) xs h a q = absurd (omega arith)
-  fit_next i nil xs h a q = absurd (omega arith)
-
   same_next : (i : ℕ) (ts : Tree) (xs : List (Part Key Id)) → i < count ts → IsTrue (known (list_tree f xs)) →
       list_tree f xs ≡ apply s (firsts i ts) → g y ≡ apply s (nth i ts) →
       list_tree g (xs ++ y ∷ []) ≡ apply s (firsts (suc i) ts)
@@ -216,8 +194,8 @@ module _ {Key Id : Type 0} (s : Assign) (f g : Part Key Id → Tree) (stay : (x 
   done_next i j ts xs ys d h e q k o r =
       subst₂ (λ zs n. Done s g n ts zs) (sym r) (sym e) (record {
         same = same_next i ts xs h d.sure d.same q;
-        sure = push_known g xs y (knows_as (list_tree f xs) (list_tree g xs) (stays_list f g xs stay d.sure) d.sure) k;
-        fit = fit_next i ts xs h d.fit o;
+        sure = known_with_last g xs y (knows_as (list_tree f xs) (list_tree g xs) (stays_list f g xs stay d.sure) d.sure) k;
+        fit = fit_next y i ts xs h d.fit o;
       })
 
 -- All were.
@@ -239,13 +217,6 @@ pub unchanged_all : (s : Assign) (i : ℕ) (ts : Tree) → IsList ts → i ≡ c
     apply s (firsts i ts) ≡ firsts i ts → apply s ts ≡ ts
 unchanged_all s i ts l e h =
     subst (λ z. apply s z ≡ z) (ap (λ n. firsts n ts) e ∙ firsts_all ts l) h
-
-pub over_itself : (t : Tree) → over t (parts_of t) ≡ t
-over_itself (leaf l) = refl
-over_itself (node h ts) = refl
-over_itself (bind ks t) = refl
-over_itself nil = refl
-over_itself (cons t ts) = refl
 
 pub whole_stays : (s : Assign) (t a u : Tree) → a ≡ t → apply s (parts_of t) ≡ parts_of t →
     apply s t ≡ over t (apply s (parts_of t)) → apply s t ≡ apply s u → a ≡ apply s u

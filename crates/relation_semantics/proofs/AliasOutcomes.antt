@@ -17,6 +17,7 @@ use Rattle.relation_semantics.proofs.Growing.{All_back}
 use Rattle.relation_semantics.proofs.Standing.{term_sort_of, later_context, term_context, stands_term}
 use Rattle.relation_semantics.proofs.Values.{same_value}
 use Rattle.relation_semantics.proofs.Opening.{satisfies_still, satisfied_then, changes_later}
+use Rattle.std.proofs.lemmas.Option.{same_Some}
 
 -- The value of a term of a variable's sort is of that sort.
 value_sort : (st : Store) (s : Assign) (k : VarKind) (t : Tree) → IsAssignment st s → InContext st t → IsTerm (var_sort k) t → sort_of (apply s t) ≡ var_sort k
@@ -31,27 +32,24 @@ value_sort st s k (bind ks t) g c h = absurd h
 value_sort st s k nil g c h = absurd h
 value_sort st s k (cons t u) g c h = absurd h
 
-some_is : {x y : Tree} → Some x ≡ Some y → x ≡ y
-some_is e = cc
-
 -- What the alias goal says of an assignment's values.
 goal_rule : (c : Items) (w : Interpretation) (s : Assign) (e : Tree) (v : Variance) (a b p : Tree) → alias_at v a b ≡ Some p → Holds c w s (goal_of e p) → AliasRule w e v (apply s a) (apply s b)
-goal_rule c w s e Covariant a b p q h = subst (λ z. Holds c w s (goal_of e z)) (sym (some_is q)) h
-goal_rule c w s e Contravariant a b p q h = subst (λ z. Holds c w s (goal_of e z)) (sym (some_is q)) h
-goal_rule c w s e Invariant a b p q h = subst (λ z. Holds c w s (goal_of e z)) (sym (some_is q)) h
+goal_rule c w s e Covariant a b p q h = subst (λ z. Holds c w s (goal_of e z)) (sym (same_Some _ _ q)) h
+goal_rule c w s e Contravariant a b p q h = subst (λ z. Holds c w s (goal_of e z)) (sym (same_Some _ _ q)) h
+goal_rule c w s e Invariant a b p q h = subst (λ z. Holds c w s (goal_of e z)) (sym (same_Some _ _ q)) h
 goal_rule c w s e Bivariant a b p q h = absurd cc
 
 goal_one : (s : Assign) (e : Tree) (v : Variance) (a b p : Tree) → alias_at v a b ≡ Some p → apply s a ≡ apply s b → MakesOneTree s (goal_of e p)
-goal_one s e Covariant a b p q h = subst (λ z. MakesOneTree s (goal_of e z)) (some_is q) h
-goal_one s e Contravariant a b p q h = subst (λ z. MakesOneTree s (goal_of e z)) (some_is q) (sym h)
-goal_one s e Invariant a b p q h = subst (λ z. MakesOneTree s (goal_of e z)) (some_is q) h
+goal_one s e Covariant a b p q h = subst (λ z. MakesOneTree s (goal_of e z)) (same_Some _ _ q) h
+goal_one s e Contravariant a b p q h = subst (λ z. MakesOneTree s (goal_of e z)) (same_Some _ _ q) (sym h)
+goal_one s e Invariant a b p q h = subst (λ z. MakesOneTree s (goal_of e z)) (same_Some _ _ q) h
 goal_one s e Bivariant a b p q h = absurd cc
 
 goal_in : (st : Store) (e : Tree) (v : Variance) (a b p : Tree) → alias_at v a b ≡ Some p → InContext st a → InContext st b → GoalInContext st (goal_of e p)
 unfolding InContext
-goal_in st e Covariant a b p q h k = subst (λ z. InContext st z) (some_is q) (h, (k, tt))
-goal_in st e Contravariant a b p q h k = subst (λ z. InContext st z) (some_is q) (k, (h, tt))
-goal_in st e Invariant a b p q h k = subst (λ z. InContext st z) (some_is q) (h, (k, tt))
+goal_in st e Covariant a b p q h k = subst (λ z. InContext st z) (same_Some _ _ q) (h, (k, tt))
+goal_in st e Contravariant a b p q h k = subst (λ z. InContext st z) (same_Some _ _ q) (k, (h, tt))
+goal_in st e Invariant a b p q h k = subst (λ z. InContext st z) (same_Some _ _ q) (h, (k, tt))
 goal_in st e Bivariant a b p q h k = absurd cc
 
 last_of : (P : Goal → Type 0) (earlier : List Goal) (g : Goal) → All P (earlier ++ g ∷ []) → P g
@@ -125,7 +123,7 @@ module _ (c : Items) (e : Tree) (u v : Variance) (before after : Store) (earlier
 pub alias_goals_relate_bound : AliasGoalsRelateBound
 alias_goals_relate_bound c e u v before after earlier n m b p q ib tb f h k = (bound_left c e u v before after earlier n m b ib tb f p h, bound_right c e u v before after earlier n m b ib tb f q k)
 
-error_stays : (s : Assign) (t : Tree) → IsError t → IsError (apply s t)
+pub error_stays : (s : Assign) (t : Tree) → IsError t → IsError (apply s t)
 error_stays s (leaf (atom x)) h = h
 error_stays s t h = absurd h
 

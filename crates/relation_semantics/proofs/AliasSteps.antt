@@ -27,21 +27,21 @@ leads_nowhere : (st : Store) (k : VarKind) (n r : ℕ) → ((p : ℕ) → entry_
 leads_nowhere st k n r o (here e) = e
 leads_nowhere st k n r o (next {p = p} e l) = absurd (o p e)
 
-no_entry : (st : Store) (k : VarKind) (n : ℕ) → bound_term st k n ≡ None → entry_of st k n ≡ unbound
-no_entry st k n e = go (entry_of st k n) refl
+pub free_entry : (st : Store) (k : VarKind) (n : ℕ) → bound_term st k n ≡ None → entry_of st k n ≡ unbound
+free_entry st k n e = go (entry_of st k n) refl
   where
     go : (x : Entry) → entry_of st k n ≡ x → entry_of st k n ≡ unbound
     go unbound q = q
     go (same_as m) q = absurd (let z = ap (entry_term k) q in cc (e, z))
     go (bound_to t) q = absurd (let z = ap (entry_term k) q in cc (e, z))
 
-shallow_variable : (st : Store) (k : VarKind) (n : ℕ) (y : Tree) → y ≡ leaf (variable k n) → IsShallow st y → entry_of st k n ≡ unbound
-shallow_variable st k n y e (root j m d o) = let p : leaf (variable j m) ≡ leaf (variable k n) = sym d ∙ e in let a : j ≡ k = cc in let b : m ≡ n = cc in no_entry st k n (ap₂ (bound_term st) (sym a) (sym b) ∙ o)
-shallow_variable st k n y e (stays_bound q d i p) = absurd (cc (e, p))
-shallow_variable st k n y e (formed h) = absurd (subst IsFormed e h)
+pub shallow_free : (st : Store) (k : VarKind) (n : ℕ) (y : Tree) → y ≡ leaf (variable k n) → IsShallow st y → entry_of st k n ≡ unbound
+shallow_free st k n y e (root j m d o) = let p : leaf (variable j m) ≡ leaf (variable k n) = sym d ∙ e in let a : j ≡ k = cc in let b : m ≡ n = cc in free_entry st k n (ap₂ (bound_term st) (sym a) (sym b) ∙ o)
+shallow_free st k n y e (stays_bound q d i p) = absurd (cc (e, p))
+shallow_free st k n y e (formed h) = absurd (subst IsFormed e h)
 
 root_read : (st : Store) (k : VarKind) (n r : ℕ) (z y : Tree) → LeadsTo st k n r → ((p : ℕ) → entry_of st k r ≡ same_as p → ⊥) → z ≡ leaf (variable k n) → IsReadAs st z y → IsShallow st y → RootRead st k r y
-root_read st k n r z y l o q (itself e) s = let free = shallow_variable st k n y (sym e ∙ q) s in
+root_read st k n r z y l o q (itself e) s = let free = shallow_free st k n y (sym e ∙ q) s in
     let same : n ≡ r = leads_nowhere st k n r (λ p d. cc (free, d)) l in
     unbound_root (ap (entry_of st k) (sym same) ∙ free) (sym e ∙ q ∙ ap (λ i. leaf (variable k i)) same)
 root_read st k n r z y l o q (by_class j i m e c d) s = let p : leaf (variable j i) ≡ leaf (variable k n) = sym e ∙ q in let a : j ≡ k = cc in let b : i ≡ n = cc in
@@ -62,11 +62,11 @@ root_read st k n r z y l o q (by_binding {u = u} j i e b d) s = let p : leaf (va
 
 -- What is read at once is read as nothing else.
 read_shallow : (st : Store) (x y : Tree) → IsShallow st x → IsReadAs st x y → IsShallow st y → x ≡ y
-read_shallow st x y (root k n e o) d s = go (root_read st k n n x y (here refl) (λ p q. let f = no_entry st k n o in cc (f, q)) e d s)
+read_shallow st x y (root k n e o) d s = go (root_read st k n n x y (here refl) (λ p q. let f = free_entry st k n o in cc (f, q)) e d s)
   where
     go : RootRead st k n y → x ≡ y
     go (unbound_root f g) = e ∙ sym g
-    go (bound_root w f g) = absurd (let h = no_entry st k n o in cc (f, h))
+    go (bound_root w f g) = absurd (let h = free_entry st k n o in cc (f, h))
 read_shallow st x y (stays_bound q d i e) (itself p) s = p
 read_shallow st x y (stays_bound q d i e) (by_class k n m p c r) s = absurd (cc (e, p))
 read_shallow st x y (stays_bound q d i e) (by_binding k n p b r) s = absurd (cc (e, p))

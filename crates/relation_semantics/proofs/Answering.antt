@@ -12,12 +12,13 @@ use Rattle.relation_semantics.specs.Goals.{Holds, Relates}
 use Rattle.relation_semantics.specs.Parts.{IsFormed, parts_of, head_of, const_parts_of, const_head_of}
 use Rattle.relation_semantics.specs.Making.{over, const_over}
 use Rattle.relation_semantics.specs.Stores.{Satisfies}
-use Rattle.relation_semantics.specs.Lawful.{Kept, State, Manners, MayAnswer, Passes, declared_by, items_in}
+use Rattle.relation_semantics.specs.Lawful.{Kept, State, Manners, MayAnswer, Passes, declared_by, items_in, items_of}
 use Rattle.relation_semantics.proofs.Growing.{All_front}
 use Rattle.relation_semantics.proofs.Composing.{places, below_or}
 use Rattle.relation_semantics.proofs.Values.{apply-nth, apply-list}
 use Rattle.relation_semantics.proofs.OneParts.{related_head, count_applied}
 use Rattle.relation_semantics.proofs.Lists.{snoc}
+use Rattle.relation_terms.specs.Meaning.{Meaning, Extends}
 
 -- Seen from a variance, covariance is the variance itself.
 pub covariantly : (v : Variance) → xform v Covariant ≡ v
@@ -34,9 +35,12 @@ pub same_settings : {Key : Type 0} {k l : Kept Key} → k ≡ l → k.settings �
 same_settings e = ap (λ k. k.settings) e
 
 module _ {Key Id Name : Type 0} where
-  -- Items declare what they declared.
+  -- Items declare what they declared, while keys are added to.
+  pub items_stay : {m n : Meaning Key Id Name} → Extends m n → items_of n ≡ items_of m
+  items_stay e = ap₂ declared_by e.variances e.alias_variances
+
   pub same_items : {n : ℕ} {r q : State Key Id Name} → Passes n r q → items_in q ≡ items_in r
-  same_items g = ap₂ declared_by (g.extends).variances (g.extends).alias_variances
+  same_items g = items_stay g.extends
 
   -- What is related by what is recorded and registered stays so.
   pub relates_still : {n : ℕ} {r q : State Key Id Name} (v : Variance) (a b : Tree) → Passes n r q →

@@ -11,6 +11,8 @@ use Rattle.relation_semantics.specs.Asking.{Wanted, a_constraint, a_goal, IsOfIt
 use Rattle.relation_semantics.specs.Asking.{of_regions, of_aliases, of_unevaluated, of_parts, PartsAsk, HasNoAlias}
 use Rattle.relation_semantics.proofs.Related.{no_region_head}
 use Rattle.relation_semantics.proofs.Answering.{covariantly}
+use Rattle.std.proofs.lemmas.Option.{same_Some}
+use Rattle.relation_terms.proofs.Paths.{head_path, parts_path}
 
 -- Inside bivariance all is bivariant.
 pub part_bivariant : (c : Items) (h : Head) (i : ℕ) → part_at c h i Bivariant ≡ Bivariant
@@ -29,17 +31,11 @@ nothing_at_bivariance {v = v} {a = a} {b = b} (of_aliases p w l n s r) e = no_al
 nothing_at_bivariance (of_unevaluated w l n s d) e = d e
 nothing_at_bivariance {c = c} (of_parts {h = h} i d g n rh pl m o r) e = nothing_at_bivariance r (ap (part_at c h i) e ∙ part_bivariant c h i)
 
-some_path : {A : Type 0} {x y : A} → Some x ≡ Some y → x ≡ y
-some_path e = cc
-
 regions_of_itself : (v : Variance) (a b : Tree) (q : Constraint) → region_at v a b ≡ Some q → a ≡ b → IsOfItself q
-regions_of_itself Covariant a b q r e = subst IsOfItself (some_path r) e
-regions_of_itself Contravariant a b q r e = subst IsOfItself (some_path r) (sym e)
-regions_of_itself Invariant a b q r e = subst IsOfItself (some_path r) e
+regions_of_itself Covariant a b q r e = subst IsOfItself (same_Some _ _ r) e
+regions_of_itself Contravariant a b q r e = subst IsOfItself (same_Some _ _ r) (sym e)
+regions_of_itself Invariant a b q r e = subst IsOfItself (same_Some _ _ r) e
 regions_of_itself Bivariant a b q r e = absurd cc
-
-parts_path : {h k : Head} {ts us : Tree} → node h ts ≡ node k us → ts ≡ us
-parts_path e = cc
 
 -- Of one term only what need not be recorded is asked for.
 pub itself_is_trivial : {c : Items} {z : Wanted} {v : Variance} {a b : Tree} → AsksFor c z v a b → a ≡ b → IsTrivial z
@@ -71,9 +67,6 @@ no_goal {a = a} {b = b} p (of_aliases o w l n s r) e f g = neither_left a b f g 
 no_goal {a = a} {b = b} p (of_unevaluated w l n s d) e f g = neither_left a b f g l
 no_goal {a = a} {b = b} p (of_parts {ts = ts} {us = us} i d k n rh pl m o r) e f g =
     no_goal p r e (no_alias_nth i ts (no_alias_parts a d f)) (no_alias_nth i us (no_alias_parts b k g))
-
-head_path : {h k : Head} {ts us : Tree} → node h ts ≡ node k us → h ≡ k
-head_path e = cc
 
 -- Two forms that are gone into ask for what their parts do.
 pub forms_ask : {c : Items} {z : Wanted} {v : Variance} {a b : Tree} {h k : Head} {ts us : Tree} → AsksFor c z v a b → a ≡ node h ts → b ≡ node k us → (HaveAlias a b → ⊥) → PartsAsk c h v ts us z
@@ -135,7 +128,7 @@ branches_are_asked {c = c} {z = z} {v = v} {ts = ts} {us = us} t u p =
 
 -- Two regions ask for one constraint alone.
 pub regions_ask_one : {c : Items} {z : Wanted} {v : Variance} {a b : Tree} (k : Constraint) → sort_of a ≡ region_sort → region_at v a b ≡ Some k → AsksFor c z v a b → z ≡ a_constraint k
-regions_ask_one k s r (of_regions q w _ _ t) = w ∙ ap a_constraint (some_path (sym t ∙ r))
+regions_ask_one k s r (of_regions q w _ _ t) = w ∙ ap a_constraint (same_Some _ _ (sym t ∙ r))
 regions_ask_one k s r (of_aliases p w l n t _) = absurd (let y : region_sort ≡ type_sort = sym s ∙ t in cc)
 regions_ask_one k s r (of_unevaluated w l n t _) = absurd (let y : region_sort ≡ const_sort = sym s ∙ t in cc)
 regions_ask_one k s r (of_parts {h = h} i d g n rh pl m o t) = absurd (no_region_head h (sym (ap sort_of d) ∙ s))

@@ -29,10 +29,10 @@ use Rattle.relation_semantics.proofs.Going.{later_through, goes_then, goes_withi
 use Rattle.relation_semantics.proofs.StoreCalls.{resolved_in, resolved_unifies}
 use Rattle.relation_semantics.proofs.Instantiating.{stands_resolved, resolved_first_order}
 use Rattle.relation_semantics.proofs.NewVariables.{Adds, adds, adds_goes, IsValueFor, satisfies_after, assigns_after, erased_after, erased_agrees}
-use Rattle.relation_semantics.proofs.Erased.{leaf_path}
 use Rattle.relation_semantics.proofs.GeneralisingOnce.{first_or_later}
 use Rattle.relation_semantics.proofs.Leafwise.{IsOne, StandsIn, each_stands, one_of_all, replaced_leaves, absent_of_leaves, KeepsSort, within_back, fits_back, size_back, tamed, tamed_fits, tamed_values, tamed_named, tamed_within, tamed_erased, erased_named}
 use Rattle.relation_semantics.proofs.Generalising.{gives_sort, LeadsBack, IsBoundLeaf, IsSourceLeaf, ReplacedLeaf, Replaced, replaced_leaf, replaced_alias, Came, came_from_start}
+use Rattle.relation_terms.proofs.Paths.{leaf_path}
 
 -- A value of a leaf that gives way is one for the new variable.
 given_value : (st : Store) (s : Assign) → IsAssignment st s → (l : Leaf) (j : VarKind) → gives_way_to l ≡ Some j → IsMadeLeaf st l → MayStandFor j (assigned s l) × Leaves IsValueLeaf (assigned s l) × StaysWithin 0 (assigned s l)
@@ -81,23 +81,23 @@ tamed_stands u l float_var t e h = absurd (no_float l e)
     no_float l e = cc
 
 -- A term without aliases that was generalised has no obstacle, nor have the types that were met.
-stays_clear : (st : Store) (k : VarKind) (n : ℕ) (v : Variance) (l : Leaf) → l ≢ variable k n → Stays st (universe_of st k n) v l → IsNoObstacle st k n l
-stays_clear st k n v (variable j m) o s = o
-stays_clear st k n v (bound q d i) o s = tt
-stays_clear st k n v (placeholder (bound_kind region_kind x) w i) o s = tt
-stays_clear st k n v (placeholder (bound_kind type_kind x) w i) o s = s
-stays_clear st k n v (placeholder (bound_kind const_kind x) w i) o s = s
-stays_clear st k n v (atom x) o s = tt
-stays_clear st k n v unknown o s = tt
+pub clear_stays : (st : Store) (k : VarKind) (n : ℕ) (v : Variance) (l : Leaf) → l ≢ variable k n → Stays st (universe_of st k n) v l → IsNoObstacle st k n l
+clear_stays st k n v (variable j m) o s = o
+clear_stays st k n v (bound q d i) o s = tt
+clear_stays st k n v (placeholder (bound_kind region_kind x) w i) o s = tt
+clear_stays st k n v (placeholder (bound_kind type_kind x) w i) o s = s
+clear_stays st k n v (placeholder (bound_kind const_kind x) w i) o s = s
+clear_stays st k n v (atom x) o s = tt
+clear_stays st k n v unknown o s = tt
 
-gives_clear : (st : Store) (k : VarKind) (n : ℕ) (l : Leaf) (j : VarKind) → l ≢ variable k n → gives_way_to l ≡ Some j → IsNoObstacle st k n l
-gives_clear st k n (variable i m) j o e = o
-gives_clear st k n (bound q d i) j o e = tt
-gives_clear st k n (placeholder (bound_kind region_kind x) w i) j o e = tt
-gives_clear st k n (placeholder (bound_kind type_kind x) w i) j o e = absurd cc
-gives_clear st k n (placeholder (bound_kind const_kind x) w i) j o e = absurd cc
-gives_clear st k n (atom x) j o e = tt
-gives_clear st k n unknown j o e = tt
+pub clear_gives : (st : Store) (k : VarKind) (n : ℕ) (l : Leaf) (j : VarKind) → l ≢ variable k n → gives_way_to l ≡ Some j → IsNoObstacle st k n l
+clear_gives st k n (variable i m) j o e = o
+clear_gives st k n (bound q d i) j o e = tt
+clear_gives st k n (placeholder (bound_kind region_kind x) w i) j o e = tt
+clear_gives st k n (placeholder (bound_kind type_kind x) w i) j o e = absurd cc
+clear_gives st k n (placeholder (bound_kind const_kind x) w i) j o e = absurd cc
+clear_gives st k n (atom x) j o e = tt
+clear_gives st k n unknown j o e = tt
 
 abbrev MetClear : Store → VarKind → ℕ → Stage → Type 0
 MetClear st k n r = (s : Side) (v : Variance) (t x : Tree) → Contains r.met (record { side = s; variance = v; type = t; term = x }) → LacksAliases t → Leaves (IsNoObstacle st k n) t
@@ -111,8 +111,8 @@ clear_lacking {start = start} {k = k} {n = n} (met_first {e = e} {v = v} {r = r}
     go z a w u y l (inl b) = let i : t ≡ u = ap (λ g. g.type) b in subst (Leaves (IsNoObstacle start k n)) i (z.0 (subst LacksAliases (sym i) l))
     go z a w u y l (inr b) = z.1 a w u y b l
 clear_lacking (no_type s f) m = clear_lacking f m
-clear_lacking {start = start} {k = k} {n = n} (stays {v = v} {l = l} o s) m = (λ h. stays_clear start k n v l o s, m)
-clear_lacking {start = start} {k = k} {n = n} (gives_way {l = l} {j = j} o s e f d) m = (λ h. gives_clear start k n l j o e, λ a w u y h. m a w u y (subst (λ es. Contains es (met_as a w u y)) d h))
+clear_lacking {start = start} {k = k} {n = n} (stays {v = v} {l = l} o s) m = (λ h. clear_stays start k n v l o s, m)
+clear_lacking {start = start} {k = k} {n = n} (gives_way {l = l} {j = j} o s e f d) m = (λ h. clear_gives start k n l j o e, λ a w u y h. m a w u y (subst (λ es. Contains es (met_as a w u y)) d h))
 clear_lacking (alias_gives_way p s f d) m = (λ h. absurd h.0, λ a w u y h. m a w u y (subst (λ es. Contains es (met_as a w u y)) d h))
 clear_lacking (by_parts z f) m = let y = clear_lacking f m in (λ h. y.0 h.1, y.1)
 clear_lacking (in_bound f) m = clear_lacking f m

@@ -16,6 +16,7 @@ use Rattle.relation_semantics.proofs.Values.{same_value, apply-nth, apply-list}
 use Rattle.relation_semantics.proofs.Standing.{later_context}
 use Rattle.relation_semantics.proofs.Growing.{All_front, All_back}
 use Rattle.relation_semantics.proofs.Going.{later_itself, later_through}
+use Rattle.relation_terms.proofs.Paths.{first_path, rest_path, parts_path}
 
 pub relates_later : RelatesLater
 relates_later c before after goals more e v a b shrinks fewer h w s sat all = h w s (shrinks w s sat) (fewer w s all)
@@ -75,18 +76,12 @@ goals_both middle after first others l p q = All-append (GoalInContext after) fi
 pub values_still : (st : Store) (s s' : Assign) (a b : Tree) → AgreeOn st s s' → InContext st a → InContext st b → apply s a ≡ apply s b → apply s' a ≡ apply s' b
 values_still st s s' a b h i j p = sym (same_value st s s' a h i) ∙ p ∙ same_value st s s' b h j
 
-pub heads_one : {a b xs ys : Tree} → cons a xs ≡ cons b ys → a ≡ b
-heads_one e = cc
-
-pub tails_one : {a b xs ys : Tree} → cons a xs ≡ cons b ys → xs ≡ ys
-tails_one e = cc
-
 pub parts_compose : PartsCompose
 parts_compose c e h i v before middle after earlier first others a b xs ys inx iny f g = record {
   later = later_through f.later g.later;
   goals_in = goals_both middle after first others g.later f.goals_in g.goals_in;
   relates = λ w s sat all. next_part (f.relates w s (g.later.shrinks w s sat) (first_goals (Holds c w s) earlier first others all)) (g.relates w s sat (all_goals (Holds c w s) earlier first others all));
-  keeps = λ w s sat q. go w s (tails_one q) (f.keeps w s sat (heads_one q));
+  keeps = λ w s sat q. go w s (rest_path q) (f.keeps w s sat (first_path q));
 }
   where
     go : (w : Interpretation) (s : Assign) → apply s xs ≡ apply s ys → HasExtension before s (λ z. Satisfies w middle z × All (MakesOneTree z) first) → HasExtension before s (λ z. Satisfies w after z × All (MakesOneTree z) (first ++ others))
@@ -100,15 +95,12 @@ no_parts_relate c e h i v st earlier = record {
   keeps = λ w s sat q. (s, (λ k n m. refl), (sat, All-nil (MakesOneTree s)));
 }
 
-pub node_parts : {h k : Head} {xs ys : Tree} → node h xs ≡ node k ys → xs ≡ ys
-node_parts e = cc
-
 pub forms_relate : FormsRelate
 forms_relate c e h k v before after earlier added xs ys i p f = record {
   later = f.later;
   goals_in = f.goals_in;
   relates = λ w s sat all. forms i p (f.relates w s sat all);
-  keeps = λ w s sat q. f.keeps w s sat (node_parts q);
+  keeps = λ w s sat q. f.keeps w s sat (parts_path q);
 }
 
 pub steps_compose : StepsCompose

@@ -10,9 +10,9 @@ use Rattle.relation_semantics.specs.Relation.{Items, Interpretation, parts, Rel,
 use Rattle.relation_semantics.specs.FirstOrder.{IsFirstOrder, IsFirstOrderHead, IsFirstOrderAtom, IsClosedLeaf}
 use Rattle.relation_semantics.specs.ErasureLaws.{ErasureAssigns, FormsUnifyByParts, TypesOfValuesUnify, ListsUnifyByItems, UnlikeFormsDoNotUnify, IsTypeOrConst, ErasedOccursCheck, InvariantTermsAreAlike}
 use Rattle.relation_semantics.proofs.Related.{no_region_head}
-use Rattle.relation_semantics.proofs.Composing.{node_parts}
+use Rattle.relation_terms.proofs.Paths.{leaf_path, parts_path}
 
-keeps_parts : (h : Head) (ts : Tree) → h ≢ value_type → kept_parts h ts ≡ ts
+pub keeps_parts : (h : Head) (ts : Tree) → h ≢ value_type → kept_parts h ts ≡ ts
 keeps_parts value_type ts n = absurd (n refl)
 keeps_parts h ts n = refl
 
@@ -23,7 +23,7 @@ pub lists_unify_by_items : ListsUnifyByItems
 lists_unify_by_items s t u ts us = (λ e. (cc, cc), λ p. ap₂ cons p.0 p.1)
 
 pub forms_unify_by_parts : FormsUnifyByParts
-forms_unify_by_parts s h ts us n = (λ e. sym (keeps_parts h (erase (apply s ts)) n) ∙ node_parts e ∙ keeps_parts h (erase (apply s us)) n, λ e. ap (λ z. node h (kept_parts h z)) e)
+forms_unify_by_parts s h ts us n = (λ e. sym (keeps_parts h (erase (apply s ts)) n) ∙ parts_path e ∙ keeps_parts h (erase (apply s us)) n, λ e. ap (λ z. node h (kept_parts h z)) e)
 
 pub types_of_values_unify : TypesOfValuesUnify
 types_of_values_unify s ts us = refl
@@ -70,9 +70,6 @@ erasure_assigns s nil r = refl
 erasure_assigns s (cons t ts) r = ap₂ cons (erasure_assigns s t r) (erasure_assigns s ts r)
 
 -- In a closed type no variable of a type or a constant stands.
-pub leaf_path : {l m : Leaf} → leaf l ≡ leaf m → l ≡ m
-leaf_path e = cc
-
 not_closed : (k : VarKind) (n : ℕ) → IsTypeOrConst k → IsClosedLeaf (variable k n) → ⊥
 not_closed type_var n l c = c
 not_closed const_var n l c = c
@@ -109,18 +106,18 @@ no_error_atom type_error h f = f
 no_error_atom const_error h f = f
 no_error_atom x h f = h
 
-no_error : (a : Tree) → IsError a → IsFirstOrder a → ⊥
-no_error (leaf (atom x)) h f = no_error_atom x h f
-no_error a h f = h
+pub error_not_first : (a : Tree) → IsError a → IsFirstOrder a → ⊥
+error_not_first (leaf (atom x)) h f = no_error_atom x h f
+error_not_first a h f = h
 
 no_alias_head : (h : Head) → IsAliasHead h → IsFirstOrderHead h → ⊥
 no_alias_head (alias k d) a f = f
 no_alias_head (unevaluated d) a f = f
 no_alias_head h a f = a
 
-no_alias : (a : Tree) → IsAlias a → IsFirstOrder a → ⊥
-no_alias (node h ts) i f = no_alias_head h i f.0
-no_alias a i f = i
+pub alias_not_first : (a : Tree) → IsAlias a → IsFirstOrder a → ⊥
+alias_not_first (node h ts) i f = no_alias_head h i f.0
+alias_not_first a i f = i
 
 rule_alias : (w : Interpretation) (e : Tree) (v : Variance) (a b : Tree) → v ≡ Invariant → AliasRule w e v a b → IsAlias a ⊎ IsAlias b
 rule_alias w e Invariant a b p r = r.1
@@ -158,15 +155,15 @@ parts_form value_type xs ys r = refl
 parts_form h xs ys r = ap (node h) r
 
 neither : (a b : Tree) → IsAlias a ⊎ IsAlias b → IsFirstOrder a → IsFirstOrder b → erase a ≡ erase b
-neither a b (inl h) f g = absurd (no_alias a h f)
-neither a b (inr h) f g = absurd (no_alias b h g)
+neither a b (inl h) f g = absurd (alias_not_first a h f)
+neither a b (inr h) f g = absurd (alias_not_first b h g)
 
 mutual
   erased : {c : Items} {w : Interpretation} {e : Tree} {v : Variance} {a b : Tree} → v ≡ Invariant → Rel c w e (at v) a b → IsFirstOrder a → IsFirstOrder b → erase a ≡ erase b
   erased q (same p) f g = ap erase p
   erased q (anything p) f g = absurd cc
-  erased {a = a} q (error_left h _) f g = absurd (no_error a h f)
-  erased {b = b} q (error_right h _) f g = absurd (no_error b h g)
+  erased {a = a} q (error_left h _) f g = absurd (error_not_first a h f)
+  erased {b = b} q (error_right h _) f g = absurd (error_not_first b h g)
   erased {a = a} {b = b} q (regions p r _) f g = erase_region a p ∙ sym (erase_region b r)
   erased {w = w} {e = e} {v = v} {a = a} {b = b} q (alias_types _ _ r) f g = neither a b (rule_alias w e v a b q r) f g
   erased {a = a} {b = b} q (equal_consts _ _ r) f g = neither a b r.1 f g

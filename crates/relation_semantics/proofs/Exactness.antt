@@ -16,7 +16,8 @@ use Rattle.relation_semantics.proofs.Values.{apply-nth, apply-list}
 use Rattle.relation_semantics.proofs.Standing.{namable_mono, term_context}
 use Rattle.relation_semantics.proofs.Written.{OtherTerm, term_stays, term_led, now_bound, others, unlike, made_after, made_before}
 use Rattle.relation_semantics.proofs.Going.{later_through}
-use Rattle.relation_semantics.proofs.Composing.{below_or, heads_one, tails_one}
+use Rattle.relation_semantics.proofs.Composing.{below_or}
+use Rattle.relation_terms.proofs.Paths.{first_path, rest_path}
 
 -- Assignments that agree up to erasure give a term of the context one erased value.
 erased_leaf : (st : Store) (s s' : Assign) → AgreeErased st s s' → (l : Leaf) → IsMadeLeaf st l → erase (assigned s l) ≡ erase (assigned s' l)
@@ -53,7 +54,7 @@ pub exacts_compose : ExactsCompose
 exacts_compose before middle after a b xs ys inx iny f g = record {
   later = later_through f.later g.later;
   shrinks = λ s sol. let two = g.shrinks s sol in let one = f.shrinks s two.0 in (one.0, ap₂ cons one.1 two.1);
-  keeps = λ s sol q. go s (tails_one q) (f.keeps s sol (heads_one q));
+  keeps = λ s sol q. go s (rest_path q) (f.keeps s sol (first_path q));
 }
   where
     go : (s : Assign) → Unifies s xs ys → HasErasedExtension before s (IsErasedSolution middle) → HasErasedExtension before s (IsErasedSolution after)

@@ -19,6 +19,7 @@ use Rattle.relation_semantics.proofs.Erased.{PartsErased, parts_done, parts_next
 use Rattle.relation_semantics.proofs.Exactness.{changed, changed_same, changed_other}
 use Rattle.relation_semantics.proofs.Growing.{old_or_new, new_made, new_unbound}
 use Rattle.relation_semantics.proofs.NewVariables.{Adds, adds, makes_then, new_universe}
+use Rattle.std.proofs.lemmas.Option.{same_Some}
 
 -- What gives way is of the new variable's sort, and no number.
 pub gives_sort : (l : Leaf) (j : VarKind) → gives_way_to l ≡ Some j → leaf_sort l ≡ var_sort j
@@ -29,9 +30,6 @@ gives_sort (placeholder (bound_kind region_kind x) w i) j e = let q : region_var
 gives_sort (atom static_region) j e = let q : region_var ≡ j = cc in ap var_sort q
 gives_sort (atom (early_region i x)) j e = let q : region_var ≡ j = cc in ap var_sort q
 gives_sort l j e = absurd cc
-
-pub some_path : {i j : VarKind} → Some i ≡ Some j → i ≡ j
-some_path e = cc
 
 no_number_sort : (j : VarKind) (o : Option VarKind) → o ≡ Some j → (o ≡ Some type_var) ⊎ ((o ≡ Some const_var) ⊎ (o ≡ Some region_var)) → IsNumberKind j → ⊥
 no_number_sort j o e (inl a) h = let q : j ≡ type_var = cc in subst IsNumberKind q h
@@ -198,10 +196,10 @@ module _ (al : StructurallyRelateAliases) (c : Items) (start : Store) (g : IsSou
   changed_alike v (variable type_var i) j m o e p (inr h) = absurd (o (p, h))
   changed_alike v (variable const_var i) j m o e p (inl h) = absurd cc
   changed_alike v (variable const_var i) j m o e p (inr h) = absurd (o h)
-  changed_alike v (variable region_var i) j m o e p h = region_alike (variable region_var i) j m (some_path e) (refl {a = leaf (atom static_region)})
-  changed_alike v (placeholder (bound_kind region_kind x) w i) j m o e p h = region_alike (placeholder (bound_kind region_kind x) w i) j m (some_path e) (refl {a = leaf (atom static_region)})
-  changed_alike v (atom static_region) j m o e p h = region_alike (atom static_region) j m (some_path e) (refl {a = leaf (atom static_region)})
-  changed_alike v (atom (early_region i x)) j m o e p h = region_alike (atom (early_region i x)) j m (some_path e) (refl {a = leaf (atom static_region)})
+  changed_alike v (variable region_var i) j m o e p h = region_alike (variable region_var i) j m (same_Some _ _ e) (refl {a = leaf (atom static_region)})
+  changed_alike v (placeholder (bound_kind region_kind x) w i) j m o e p h = region_alike (placeholder (bound_kind region_kind x) w i) j m (same_Some _ _ e) (refl {a = leaf (atom static_region)})
+  changed_alike v (atom static_region) j m o e p h = region_alike (atom static_region) j m (same_Some _ _ e) (refl {a = leaf (atom static_region)})
+  changed_alike v (atom (early_region i x)) j m o e p h = region_alike (atom (early_region i x)) j m (same_Some _ _ e) (refl {a = leaf (atom static_region)})
   changed_alike v l j m o e p h = absurd cc
 
   -- A new variable took the place of a tree.

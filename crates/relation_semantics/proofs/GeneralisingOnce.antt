@@ -52,7 +52,7 @@ stops_no_clear (in_body f) h = stops_no_clear f h
 stops_no_clear (in_first f) h = stops_no_clear f h.0
 stops_no_clear (in_others c f) h = stops_no_clear f h.1
 
-alias_unseen : {al : StructurallyRelateAliases} (a : AliasKind) (d : ℕ) → al ≡ No → IsSeen al (alias a d) → ⊥
+pub alias_unseen : {al : StructurallyRelateAliases} (a : AliasKind) (d : ℕ) → al ≡ No → IsSeen al (alias a d) → ⊥
 alias_unseen a d e h = subst (λ z. IsSeen z (alias a d)) e h
 
 -- Two runs end alike.

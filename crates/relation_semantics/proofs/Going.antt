@@ -19,6 +19,10 @@ later_itself st = record {
   shrinks = λ w s h. h;
 }
 
+-- Where nothing was recorded, what is recorded is later.
+pub later_same : (old new : Store) → new ≡ old → IsLater old new
+later_same old new e = subst (IsLater old) (sym e) (later_itself old)
+
 pub later_through : {r q p : Store} → IsLater r q → IsLater q p → IsLater r p
 later_through {r} {q} {p} a b = record {
   grows = λ k n h. b.grows k n (a.grows k n h);

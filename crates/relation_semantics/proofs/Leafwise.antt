@@ -7,7 +7,7 @@ use Rattle.relation_terms.specs.Erasure.{erase}
 use Rattle.relation_semantics.specs.Relation.{IsValueLeaf, StaysWithin, sort_of}
 use Rattle.relation_semantics.specs.Stores.{IsNamable}
 use Rattle.relation_semantics.proofs.Trees.{Leaves_map, Leaves-replace}
-use Rattle.relation_semantics.proofs.Erased.{leaf_path}
+use Rattle.relation_terms.proofs.Paths.{leaf_path}
 
 -- A leaf of a tree.
 unfoldable pub StandsIn : Leaf → Tree → Type 0

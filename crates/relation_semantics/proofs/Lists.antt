@@ -1,9 +1,9 @@
 -- The trees of lists, part by part.
-use Rattle.std.proofs.Common.{◌≡◌, ℕ, zero, suc, ◌<◌, IsTrue, Bool, true, false, ◌&&◌, refl, ap, inl, inr, subst, arith, List, [], ◌∷◌, ◌++◌, length, get_or}
-use Rattle.std.proofs.lemmas.Bool.{and_parts}
+use Rattle.std.proofs.Common.{◌≡◌, ℕ, zero, suc, ◌<◌, refl, ap, inl, inr, subst, arith, List, [], ◌∷◌, ◌++◌, length, get_or}
 use Rattle.relation_terms.specs.Heads.{type_var, region_sort, variable}
-use Rattle.relation_terms.specs.Trees.{Tree, leaf, node, bind, nil, cons, list_tree, known, size, count, nth, Occurs, IsList, IsTerm, Assign, apply}
+use Rattle.relation_terms.specs.Trees.{Tree, leaf, node, bind, nil, cons, list_tree, size, count, nth, Occurs, IsTerm, Assign, apply}
 use Rattle.relation_terms.proofs.Members.{no_region}
+pub use Rattle.relation_folds.proofs.Members.{firsts, firsts_all}
 
 pub part_size : {K : Type 0} (f : K → Tree) (xs : List K) (i : ℕ) (d : K) → i < length xs → size (f (get_or xs i d)) < size (list_tree f xs)
 part_size f [] i d h = absurd (omega arith)
@@ -31,12 +31,7 @@ no_variable n (bind ks t) h o = h
 no_variable n nil h o = h
 no_variable n (cons t u) h o = h
 
--- The first trees of a list, and one more behind a list.
-abbrev pub firsts : ℕ → Tree → Tree
-firsts zero t = nil
-firsts (suc i) (cons t ts) = cons t (firsts i ts)
-firsts (suc i) t = nil
-
+-- One more tree behind a list.
 abbrev pub snoc : Tree → Tree → Tree
 snoc (cons t ts) u = cons t (snoc ts u)
 snoc t u = cons u nil
@@ -53,13 +48,6 @@ firsts_more i (node g ts) h = absurd (omega arith)
 firsts_more i (bind ks t) h = absurd (omega arith)
 firsts_more i nil h = absurd (omega arith)
 
-pub firsts_all : (t : Tree) → IsList t → firsts (count t) t ≡ t
-firsts_all nil h = refl
-firsts_all (cons t ts) h = ap (cons t) (firsts_all ts h)
-firsts_all (leaf l) h = absurd h
-firsts_all (node g ts) h = absurd h
-firsts_all (bind ks t) h = absurd h
-
 pub apply_snoc : (s : Assign) (i : ℕ) (t u : Tree) → apply s (snoc (firsts i t) u) ≡ snoc (apply s (firsts i t)) (apply s u)
 apply_snoc s zero t u = refl
 apply_snoc s (suc i) (cons t ts) u = ap (cons (apply s t)) (apply_snoc s i ts u)
@@ -67,11 +55,3 @@ apply_snoc s (suc i) (leaf l) u = refl
 apply_snoc s (suc i) (node g ts) u = refl
 apply_snoc s (suc i) (bind ks t) u = refl
 apply_snoc s (suc i) nil u = refl
-
-pub both_known : (a b : Bool) → IsTrue a → IsTrue b → IsTrue (a && b)
-both_known true b h k = k
-both_known false b h k = h
-
-pub push_known : {K : Type 0} (f : K → Tree) (xs : List K) (x : K) → IsTrue (known (list_tree f xs)) → IsTrue (known (f x)) → IsTrue (known (list_tree f (xs ++ x ∷ [])))
-push_known f [] x h k = both_known (known (f x)) true k refl
-push_known f (y ∷ xs) x h k = let p = and_parts (known (f y)) (known (list_tree f xs)) h in both_known (known (f y)) (known (list_tree f (xs ++ x ∷ []))) p.0 (push_known f xs x p.1 k)

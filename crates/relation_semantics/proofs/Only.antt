@@ -3,6 +3,7 @@ use Rattle.std.proofs.Common.{◌≡◌, ◌⊎◌, ℕ, suc, ◌+◌, ◌*◌, 
 use native.Mathlib.Decide.{ℕ_discrete}
 use Rattle.relation_terms.specs.Heads.{VarKind, VarKind_discrete, Leaf, variable, bound, placeholder, atom, unknown}
 use Rattle.relation_terms.specs.Trees.{Tree, leaf, node, bind, nil, cons, Assign, assigned, apply, Leaves, Occurs, size}
+use Rattle.relation_terms.proofs.Members.{size_positive}
 
 pick : {A : Type 0} {j k : VarKind} {m n : ℕ} → Dec (j ≡ k) → Dec (m ≡ n) → A → A → A
 pick (yes p) (yes q) x y = x
@@ -68,13 +69,6 @@ absent_leaves k n (node h t) o = absent_leaves k n t o
 absent_leaves k n (bind ks t) o = absent_leaves k n t o
 absent_leaves k n nil o = tt
 absent_leaves k n (cons t u) o = (absent_leaves k n t (λ x. o (inl x)), absent_leaves k n u (λ x. o (inr x)))
-
-pub size_positive : (t : Tree) → 1 ≤ size t
-size_positive (leaf l) = omega arith
-size_positive (node h t) = omega arith
-size_positive (bind ks t) = omega arith
-size_positive nil = omega arith
-size_positive (cons t u) = omega arith
 
 grow_node : (a b v : ℕ) → a ≤ b * v → 1 ≤ v → suc a ≤ suc b * v
 grow_node a b v h p = let e : suc b * v ≡ b * v + v = grind arith in omega arith

@@ -1,8 +1,8 @@
 -- What is put for what a binder binds: the fold of terms that opens a binder instantiates the binder's body.
 use Rattle.std.proofs.Common.{◌≡◌, ◌≢◌, ◌⊎◌, ℕ, zero, suc, refl, sym, ap, ap₂, ◌∙◌, subst, subst₂, inl, inr, not}
-use Rattle.std.proofs.Common.{Bool, true, false, List, [], ◌∷◌, ◌++◌}
+use Rattle.std.proofs.Common.{true, false, List, [], ◌∷◌, ◌++◌}
 use Rattle.std.specs.Prelude.{nat_eq, nat_lt, cond, Some, None, slice_get}
-use Rattle.std.proofs.lemmas.Bool.{false≢true, or_parts, or_from, ltb-true, lt-ltb}
+use Rattle.std.proofs.lemmas.Bool.{false≢true, or_parts, or_from, ltb-true, lt-ltb, not-false}
 use Rattle.std.proofs.lemmas.Bool.Decides.{eqb_tells}
 use Rattle.relation_terms.specs.Heads.{Kind, type_kind, region_kind, const_kind, kind_sort, BoundKind, bound_kind}
 use Rattle.relation_terms.specs.Heads.{bound_sort, head_sort, var_sort, atom_sort, variable, bound, placeholder, atom}
@@ -132,12 +132,8 @@ variables_stand (makes_next {ks = ks} {xs = xs} {n = n} k f q p e) =
     subst₂ AllStandFor (sym p) (sym e) (all_more k _ ks xs (variables_stand f) (variable_stands k n))
 
 -- What a visit tells of bound variables: whether a tree stays within its own binders.
-not_false : (b : Bool) → not b ≡ false → b ≡ true
-not_false true e = refl
-not_false false e = sym e
-
 pub none_escapes : (d : ℕ) (t : Tree) → has_leaf is_escaping d t ≡ false → StaysWithin d t
-none_escapes d (leaf (bound k e i)) h = ltb-true e d (not_false (nat_lt e d) h)
+none_escapes d (leaf (bound k e i)) h = ltb-true e d (not-false (nat_lt e d) h)
 none_escapes d (leaf (variable v n)) h = tt
 none_escapes d (leaf (placeholder k u n)) h = tt
 none_escapes d (leaf (atom x)) h = tt

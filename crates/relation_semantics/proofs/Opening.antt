@@ -17,6 +17,7 @@ use Rattle.relation_semantics.proofs.Values.{value_namable, stays_in, stays_appl
 use Rattle.relation_semantics.proofs.Classes.{entry_kept}
 use Rattle.relation_semantics.proofs.Going.{later_itself, later_through}
 use Rattle.relation_semantics.proofs.Composing.{extends_through, goals_both, first_goals, all_goals, values_still}
+use Rattle.relation_terms.proofs.Paths.{kinds_path, bind_path}
 
 -- A variable that was instantiated has its term's value.
 pub instantiated_value : (before after : Store) (u : Variance) (k : VarKind) (n : ℕ) (source term : Tree) → Instantiates before after u k n source term → (s : Assign) → MeetsBindings after s → s k n ≡ apply s term
@@ -43,6 +44,17 @@ instantiating_steps c e v u before after earlier k n source term ins f = (
 
     equal : (w : Interpretation) (s s' : Assign) → s k n ≡ apply s source → AgreeOn before s s' → Satisfies w after s' → apply s' term ≡ apply s' source
     equal w s s' q p sat = sym (value s' sat.bindings) ∙ sym (p k n f.made) ∙ q ∙ same_value before s s' source p ins
+
+-- What is left as it is changes nothing.
+pub same_changes : (st : Store) → ChangesNothing st st
+same_changes st = record {
+  same_entries = λ k. refl;
+  same_universes = λ k. refl;
+  same_constraints = refl;
+  universe_stands = omega arith;
+  taint_stands = λ h. h;
+  same_budget = refl;
+}
 
 -- What changes nothing leaves the same assignments.
 module _ (before after : Store) (h : ChangesNothing before after) where
@@ -205,16 +217,10 @@ opening_steps c e v before middle after earlier ks ls a b a' b' ina inb = (secon
       keeps = λ w s sat q. turned w s (extends_opened before middle after ls ks b a b' a' inb ina f g w s sat (sym q.0) (sym q.1));
     }
 
-pub binder_kinds : {ks ls : List BoundKind} {a b : Tree} → bind ks a ≡ bind ls b → ks ≡ ls
-binder_kinds e = cc
-
-pub binder_bodies : {ks ls : List BoundKind} {a b : Tree} → bind ks a ≡ bind ls b → a ≡ b
-binder_bodies e = cc
-
 pub one_round_relates : OneRoundRelates
 one_round_relates c e before after earlier added ks ls a b = (
-  λ f. record { later = f.later; goals_in = f.goals_in; relates = λ w s sat all. covariant_binders refl (f.relates w s sat all); keeps = λ w s sat q. f.keeps w s sat (binder_kinds q, binder_bodies q) },
-  λ f. record { later = f.later; goals_in = f.goals_in; relates = λ w s sat all. contravariant_binders refl (f.relates w s sat all); keeps = λ w s sat q. f.keeps w s sat (binder_kinds q, binder_bodies q) },
+  λ f. record { later = f.later; goals_in = f.goals_in; relates = λ w s sat all. covariant_binders refl (f.relates w s sat all); keeps = λ w s sat q. f.keeps w s sat (kinds_path q, bind_path q) },
+  λ f. record { later = f.later; goals_in = f.goals_in; relates = λ w s sat all. contravariant_binders refl (f.relates w s sat all); keeps = λ w s sat q. f.keeps w s sat (kinds_path q, bind_path q) },
 )
 
 pub two_rounds_relate : TwoRoundsRelate
@@ -222,7 +228,7 @@ two_rounds_relate c e before middle after earlier first others ks ls a b ina inb
   later = later_through f.later g.later;
   goals_in = goals_both middle after first others g.later f.goals_in g.goals_in;
   relates = λ w s sat all. invariant_binders refl (f.relates w s (g.later.shrinks w s sat) (first_goals (Holds c w s) earlier first others all)) (g.relates w s sat (all_goals (Holds c w s) earlier first others all));
-  keeps = λ w s sat q. go w s (binder_kinds q) (binder_bodies q) (f.keeps w s sat (binder_kinds q, binder_bodies q));
+  keeps = λ w s sat q. go w s (kinds_path q) (bind_path q) (f.keeps w s sat (kinds_path q, bind_path q));
 }
   where
     go : (w : Interpretation) (s : Assign) → ks ≡ ls → apply s a ≡ apply s b → HasExtension before s (λ z. Satisfies w middle z × All (MakesOneTree z) first) → HasExtension before s (λ z. Satisfies w after z × All (MakesOneTree z) (first ++ others))
@@ -252,7 +258,7 @@ unused_binders_relate c e v before after earlier added ks ls a b n ina inb wa wb
   relates = λ w s sat all. let h : IsAssignment before s = (f.later.shrinks w s sat).assigns in
       unused_rule c w e ks ls (apply s a) (apply s b) before.universe (value_namable before s before.universe a h ina) (value_namable before s before.universe b h inb)
       (stays_apply s 0 a (stays_in before s before.universe a h ina) wa) (stays_apply s 0 b (stays_in before s before.universe b h inb) wb) v n (f.relates w s sat all);
-  keeps = λ w s sat q. f.keeps w s sat (binder_bodies q);
+  keeps = λ w s sat q. f.keeps w s sat (bind_path q);
 }
 
 -- Opening two binders of which one round relates both is a step from them to their bodies.
@@ -264,7 +270,7 @@ covariant_step c e v before after earlier added ks ls a b x y is f = record {
   later = f.later;
   goals_in = f.goals_in;
   relates = λ w s sat all r. covariant_binders is (f.relates w s sat all r);
-  keeps = λ w s sat q. f.keeps w s sat (binder_kinds q, binder_bodies q);
+  keeps = λ w s sat q. f.keeps w s sat (kinds_path q, bind_path q);
 }
 
 pub contravariant_step : (c : Items) (e : Tree) (v : Variance) (before after : Store) (earlier added : List Goal)
@@ -275,7 +281,7 @@ contravariant_step c e v before after earlier added ks ls a b x y is f = record 
   later = f.later;
   goals_in = f.goals_in;
   relates = λ w s sat all r. contravariant_binders is (f.relates w s sat all r);
-  keeps = λ w s sat q. f.keeps w s sat (binder_kinds q, binder_bodies q);
+  keeps = λ w s sat q. f.keeps w s sat (kinds_path q, bind_path q);
 }
 
 -- Where neither body uses a variable of its binder nothing is opened.
@@ -290,5 +296,5 @@ unused_step c e v st earlier ks ls a b n ina inb wa wb = record {
       (value_namable st s st.universe a sat.assigns ina) (value_namable st s st.universe b sat.assigns inb)
       (stays_apply s 0 a (stays_in st s st.universe a sat.assigns ina) wa)
       (stays_apply s 0 b (stays_in st s st.universe b sat.assigns inb) wb) v n r;
-  keeps = λ w s sat q. (s, (λ k m h. refl), (sat, All-nil (MakesOneTree s), binder_bodies q));
+  keeps = λ w s sat q. (s, (λ k m h. refl), (sat, All-nil (MakesOneTree s), bind_path q));
 }

@@ -12,6 +12,7 @@ use Rattle.relation_semantics.specs.Stores.{Store, IsNamable, IsMadeLeaf, IsTerm
 use Rattle.relation_semantics.specs.Parts.{parts_of, const_parts_of}
 use Rattle.relation_semantics.proofs.OneUniverse.{leaves_nth}
 use Rattle.relation_terms.proofs.Members.{list_count, list_is, list_nth, item_known}
+use Rattle.relation_semantics.specs.Making.{over}
 
 -- A list of parts, as the slice that an interner reads.
 module _ {K : Type 0} (f : K → Tree) (xs : List K) (u : Tree) (i : u ≡ list_tree f xs) where
@@ -138,3 +139,11 @@ nowhere k n (cons t ts) l h (inr o) = nowhere k n ts l (λ i j p. h (suc i) (ome
 nowhere k n (leaf x) l h o = l
 nowhere k n (node g ts) l h o = l
 nowhere k n (bind ks t) l h o = l
+
+-- A term over its own parts is itself.
+pub over_itself : (t : Tree) → over t (parts_of t) ≡ t
+over_itself (leaf l) = refl
+over_itself (node h ts) = refl
+over_itself (bind ks t) = refl
+over_itself nil = refl
+over_itself (cons t ts) = refl

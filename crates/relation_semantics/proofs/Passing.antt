@@ -43,6 +43,7 @@ use Rattle.relation_semantics.proofs.Agreeing.{agree_anything}
 use Rattle.relation_semantics.proofs.Answering.{same_environment, same_settings, same_items, may_itself, may_later, if_ok_both}
 use Rattle.relation_semantics.specs.OneUniverse.{KeepsUniverse, KeepsUniverseOf, LeadsInUniverse, BindsNoMore}
 use Rattle.relation_semantics.proofs.OneUniverse.{keeps_itself, keeps_binds, kept_then, binds_as_many, leads_itself, led_keeps, led_binds, led_fewer}
+use Rattle.relation_semantics.proofs.Erased.{xform_invariant}
 
 -- An outcome over other items, in another environment, after other goals, which are the same.
 moved : {c d : Items} {e k : Tree} {gs hs : List Goal} (way : Way) (before after : Store) (added : List Goal)
@@ -53,13 +54,7 @@ moved {c} {d} {e} {k} {gs} {hs} way before after added a b p q s f =
     (subst (λ z. Outcome c z way before after hs added a b) q
     (subst (λ z. Outcome c e way before after z added a b) s f))
 
--- Invariance seen from invariance, which is not bivariance.
-pub invariantly : (v : Variance) {w : Variance} → w ≡ Invariant → xform w v ≡ Invariant
-invariantly v e = ap (λ z. xform z v) e ∙ from_it v
-  where
-    from_it : (v : Variance) → xform Invariant v ≡ Invariant
-    from_it v = refl
-
+-- Invariance is not bivariance.
 invariant_is_not : Invariant ≡ Bivariant → ⊥
 invariant_is_not e = absurd cc
 
@@ -319,7 +314,7 @@ module _ {Key Id Name : Type 0} where
             ((f.verdict).agrees (manner_then M (λ z. z.relates_agreeing) g k));
       };
       exact = exact_led {X = Y} (M r.kept.settings) r.store q.store p.store a b x y r.ambient (xform r.ambient v)
-          (invariantly v) exactly (Ok z)
+          (xform_invariant _ v) exactly (Ok z)
           (same_manner M (λ m. ExactlyRelated {Key = Key} {Id = Id} {Name = Name} m q.store p.store (xform r.ambient v) x y
           (Ok t)) g f.exact);
       full = λ ha hb. full_could led.may_instantiate;
@@ -333,7 +328,7 @@ module _ {Key Id Name : Type 0} where
       passes = passes_then g f.passes small;
       verdict = led_refuses g f.passes sound a b x y (xform r.ambient v) led.leads built led.built e f.verdict;
       exact = exact_led {X = Y} (M r.kept.settings) r.store q.store p.store a b x y r.ambient (xform r.ambient v)
-          (invariantly v) exactly (Err e) (λ k is pair. exact_fault X Y q.store p.store x y e
+          (xform_invariant _ v) exactly (Err e) (λ k is pair. exact_fault X Y q.store p.store x y e
           (f.exact (manner_then M (λ z. z.is_exact) g k) is pair));
       full = λ ha hb. full_could led.may_instantiate;
       built = built_led g.added (f.passes).added a b x y built led.built f.built;
@@ -679,7 +674,7 @@ module _ {Key Id Name : Type 0} where
         let promised = same_manner M (λ z. z.is_exact) f.passes z in
         let read = led.read_exactly (same_manner M (λ z. z.is_exact) g promised) is
         (record { left = pair.left; right = pair.right; bindings = bindings }) in
-        let one = ((f.exact promised (invariantly v is) read.0).1).shrinks s sol in
+        let one = ((f.exact promised (xform_invariant _ v is) read.0).1).shrinks s sol in
         ((read.1).shrinks s one.0 one.1).1;
     agrees = λ z. (led.read_leads).agrees p.kept.settings (items_in p)
         (subst₂ (λ j c. Agree j c (at (xform r.ambient v)) x y) (sym (same_settings (f.passes).kept))

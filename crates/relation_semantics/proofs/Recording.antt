@@ -6,7 +6,7 @@ use Rattle.std.proofs.lemmas.List.Elements.{All-nil, All-append, All-contains, A
 use Rattle.std.proofs.lemmas.List.Elements.{Contains-append_left, Contains-append_right}
 use Rattle.term_enums.specs.declared.Variance.{Variance}
 use Rattle.relation_terms.specs.Heads.{Head}
-use Rattle.relation_terms.specs.Trees.{Tree, node, cons, count, nth}
+use Rattle.relation_terms.specs.Trees.{Tree, node, count, nth}
 use Rattle.relation_semantics.specs.Relation.{Items, part_at, plain, IsRelatedHead}
 use Rattle.relation_semantics.specs.Stores.{Constraint}
 use Rattle.relation_semantics.specs.Steps.{HasNoBinder}
@@ -15,6 +15,7 @@ use Rattle.relation_semantics.specs.Recording.{RememberedTerms, Record, StandsAm
 use Rattle.relation_semantics.specs.Recording.{FrontMayAdd, FrontRecords}
 use Rattle.relation_semantics.proofs.Composing.{below_or}
 use Rattle.relation_semantics.proofs.Asking.{forms_ask, parts_are_asked}
+use Rattle.relation_semantics.proofs.Full.{nth_plain}
 
 All-as : {X : Type 0} (P Q : X → Type 0) (xs : List X) → ((x : X) → P x → Q x) → All P xs → All Q xs
 All-as P Q xs f h = λ k d l. f _ (h k d l)
@@ -26,11 +27,6 @@ stands_more cs ds gs hs (a_goal p) h = Contains-append_left gs hs p h
 pub met_more : (cs ds : List Constraint) (gs hs : List Tree) (z : Wanted) → IsRecorded cs gs z → IsRecorded (cs ++ ds) (gs ++ hs) z
 met_more cs ds gs hs z (inl t) = inl t
 met_more cs ds gs hs z (inr s) = inr (stands_more cs ds gs hs z s)
-
-nth_plain : (i : ℕ) (ts : Tree) → HasNoBinder ts → HasNoBinder (nth i ts)
-nth_plain zero (cons t ts) h = h.0
-nth_plain (suc i) (cons t ts) h = nth_plain i ts h.1
-nth_plain i ts h = tt
 
 -- Terms without binders record nothing but what they ask for.
 pub adds_asked : (c : Items) (v : Variance) (a b : Tree) (z : Wanted) → HasNoBinder a → HasNoBinder b → MayAdd c v a b z → AsksFor c z v a b

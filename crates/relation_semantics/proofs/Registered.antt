@@ -118,7 +118,7 @@ module _ {Key Id Name : Type 0} where
       seen_from (of_too_much o e) = of_too_much o e
 
 -- What is asked of two types, one an alias, is registered where aliases are left to goals, and speaks of the two.
-alias_is : {x y : Tree} → Some x ≡ Some y → y ≡ x
+pub alias_is : {x y : Tree} → Some x ≡ Some y → y ≡ x
 alias_is e = cc
 
 pub alias_registered : (c : Items) (k : Settings) (v : Variance) (before after : Store) (a b p : Tree) →

@@ -5,7 +5,7 @@ use Rattle.term_enums.specs.declared.Variance.TheVariants.{Covariant, Contravari
 use Rattle.relation_terms.specs.Heads.{region_sort, type_sort, const_sort, Atom, type_error, const_error, type_param, const_param, atom, Head, head_sort, atom_sort, adt, host_effect, subtype, region_outlives, type_outlives, projection, const_has_type, well_formed, const_evaluatable, coerce, normalizes_to, alias_relate, environment, BoundKind}
 use Rattle.relation_terms.specs.Trees.{Tree, leaf, node, bind, nil, cons, IsList}
 use Rattle.relation_semantics.specs.Relation.{Items, Interpretation, parts, second_opened, first_opened, Rel, at, same, anything, error_left, error_right, regions, alias_types, equal_consts, atoms, forms, no_parts, next_part, covariant_binders, contravariant_binders, invariant_binders, itself, sort_of, plain_atom, IsError, IsErrorAtom, IsAlias, RegionRule, plain, IsAliasHead, IsRelatedHead, AliasRule}
-use Rattle.relation_semantics.proofs.Composing.{node_parts}
+use Rattle.relation_terms.proofs.Paths.{head_path, parts_path}
 
 pub neither : {A : Type 0} → ⊥ ⊎ ⊥ → A
 neither (inl h) = absurd h
@@ -76,11 +76,8 @@ parts_same c w e h i v nil l = no_parts
 parts_same c w e h i v (cons x xs) l = next_part (same refl) (parts_same c w e h (suc i) v xs l)
 parts_same c w e h i v xs l = absurd l
 
-head_path : {h k : Head} {xs ys : Tree} → node h xs ≡ node k ys → h ≡ k
-head_path e = cc
-
 forms_same : (c : Items) (w : Interpretation) (e : Tree) (h k : Head) (v : Variance) (xs ys : Tree) → IsList xs → node h xs ≡ node k ys → (plain h ≡ plain k) × Rel c w e (parts h 0 v) xs ys
-forms_same c w e h k v xs ys l p = (ap plain (head_path p), subst (λ z. Rel c w e (parts h 0 v) xs z) (node_parts p) (parts_same c w e h 0 v xs l))
+forms_same c w e h k v xs ys l p = (ap plain (head_path p), subst (λ z. Rel c w e (parts h 0 v) xs z) (parts_path p) (parts_same c w e h 0 v xs l))
 
 -- Rigid forms in the relation have related parts.
 pub forms_inverted : {c : Items} {w : Interpretation} {e : Tree} {v : Variance} {h k : Head} {xs ys : Tree} → v ≢ Bivariant → (IsAliasHead h → ⊥) → (IsAliasHead k → ⊥) → IsList xs → Rel c w e (at v) (node h xs) (node k ys) → (plain h ≡ plain k) × Rel c w e (parts h 0 v) xs ys

@@ -8,9 +8,7 @@ use Rattle.relation_semantics.specs.Steps.{IsLater, LeadsTo, here, next, OneClas
 use Rattle.relation_semantics.specs.FirstOrder.{Unifies, IsErasedSolution, IsFirstOrder, IsFirstOrderStore}
 use Rattle.relation_semantics.proofs.Trees.{Leaves_map}
 use Rattle.relation_semantics.proofs.Standing.{namable_mono}
-
-some_same : {A : Type 0} {x y : A} → Some x ≡ Some y → x ≡ y
-some_same e = cc
+use Rattle.std.proofs.lemmas.Option.{same_Some}
 
 module _ (before after : Store) (l : IsLater before after) where
   stands : (k : VarKind) (n : ℕ) (x : Entry) → entry_of before k n ≡ x → EntryStands after k x (entry_of after k n)
@@ -30,10 +28,10 @@ module _ (before after : Store) (l : IsLater before after) where
     meets k n t unbound e h = absurd cc
     meets k n t (same_as m) e h =
         let z = stands k n (same_as m) e in
-        subst (Unifies s (leaf (variable k n))) (some_same h)
+        subst (Unifies s (leaf (variable k n))) (same_Some _ _ h)
         (sol.1 k n (leaf (variable k z.0)) (ap (entry_term k) z.1) ∙ sym (class_one k m z.0 z.2))
     meets k n t (bound_to u) e h =
-        subst (Unifies s (leaf (variable k n))) (some_same h) (sol.1 k n u (ap (entry_term k) (stands k n (bound_to u) e)))
+        subst (Unifies s (leaf (variable k n))) (same_Some _ _ h) (sol.1 k n u (ap (entry_term k) (stands k n (bound_to u) e)))
 
     assigns : IsAssignment before s
     assigns k n made = let z = sol.0 k n (l.grows k n made) in
@@ -45,8 +43,8 @@ module _ (before after : Store) (l : IsLater before after) where
   first : (k : VarKind) (n : ℕ) (t : Tree) (x : Entry) → IsFirstOrderStore after → entry_of before k n ≡ x →
       entry_term k x ≡ Some t → IsFirstOrder t
   first k n t unbound f e h = absurd cc
-  first k n t (same_as m) f e h = subst IsFirstOrder (some_same h) tt
-  first k n t (bound_to u) f e h = subst IsFirstOrder (some_same h) (f k n u (ap (entry_term k) (stands k n (bound_to u) e)))
+  first k n t (same_as m) f e h = subst IsFirstOrder (same_Some _ _ h) tt
+  first k n t (bound_to u) f e h = subst IsFirstOrder (same_Some _ _ h) (f k n u (ap (entry_term k) (stands k n (bound_to u) e)))
 
   pub first_order_before : IsFirstOrderStore after → IsFirstOrderStore before
   first_order_before f k n t h = first k n t (entry_of before k n) f refl h

@@ -21,6 +21,7 @@ use Rattle.relation_semantics.proofs.Opening.{satisfies_still, satisfied_then}
 use Rattle.relation_semantics.proofs.Tallies.{all_alike}
 use Rattle.relation_semantics.proofs.Composing.{All_map₂}
 use Rattle.relation_semantics.proofs.Exactness.{erased_alike, entry_is_exact, equating_exact, changed, changed_same, changed_other, changed_case}
+use Rattle.relation_semantics.specs.Steps.{MakesVariable}
 
 pub equating_stays_sound : EquatingStaysSound
 equating_stays_sound before after k child root n q g = equated_sound before after k child root q g n
@@ -111,32 +112,39 @@ pub get_or_past : (us : List ℕ) (u : ℕ) → get_or (us ++ u ∷ []) (length 
 get_or_past [] u = refl
 get_or_past (x ∷ us) u = get_or_past us u
 
+-- A value for a variable that was made: all others keep theirs.
+module _ (before after : Store) (k : VarKind) (n u : ℕ) (q : MakesVariable before after k n u) (g : IsSound before) (s : Assign)
+    (t : Tree) where
+  not_made : (j : VarKind) (i : ℕ) → IsMade before j i → j ≡ k → i ≡ n → ⊥
+  not_made j i m a b = let c : IsMade before k n = subst₂ (IsMade before) a b m in let d = q.number in omega arith
+
+  pub changed_agrees : AgreeOn before s (changed k n t s)
+  changed_agrees j i m = sym (changed_other k n t s j i (not_made j i m))
+
+  new_universe : universe_of after k n ≡ u
+  new_universe = ap (λ us. get_or us n 0) q.universes_grow ∙ ap (λ m. get_or (before.universes k ++ u ∷ []) m 0) (q.number ∙ sym (g.one_universe_each k)) ∙ get_or_past (before.universes k) u
+
+  old : (j : VarKind) (i : ℕ) → IsMade after j i → (j ≡ k → i ≡ n → ⊥) → IsMade before j i
+  old j i m o = go (old_or_new before after k n u q j i m)
+    where
+      go : IsMade before j i ⊎ ((j ≡ k) × (i ≡ n)) → IsMade before j i
+      go (inl p) = p
+      go (inr p) = absurd (o p.0 p.1)
+
+  pub changed_assigns : IsAssignment before s → MayStandFor k t → Leaves IsValueLeaf t → StaysWithin 0 t → Leaves (IsNamable u) t →
+      IsAssignment after (changed k n t s)
+  changed_assigns sat stands ground within names j i m = changed_case (λ j i y. MayStandFor j y × Leaves IsValueLeaf y × StaysWithin 0 y × Leaves (IsNamable (universe_of after j i)) y) k n t s
+      (stands, ground, within, subst (λ v. Leaves (IsNamable v) t) (sym new_universe) names) j i
+      (λ o. let a = sat j i (old j i m o) in (a.0, a.1, a.2, subst (λ v. Leaves (IsNamable v) (s j i)) (sym (universes_stand before after k n u q g j i (old j i m o))) a.3))
+
 pub made_is_unconstrained : MadeIsUnconstrained
-made_is_unconstrained before after k n u q g w s t sat stands ground within names = (z, agree, (record { assigns = assigns; bindings = bindings; regions = regions }, changed_same k n t s))
+made_is_unconstrained before after k n u q g w s t sat stands ground within names = (z, agree, (record { assigns = changed_assigns before after k n u q g s t sat.assigns stands ground within names; bindings = bindings; regions = regions }, changed_same k n t s))
   where
     z : Assign
     z = changed k n t s
 
-    not_made : (j : VarKind) (i : ℕ) → IsMade before j i → j ≡ k → i ≡ n → ⊥
-    not_made j i m a b = let c : IsMade before k n = subst₂ (IsMade before) a b m in let d = q.number in omega arith
-
     agree : AgreeOn before s z
-    agree j i m = sym (changed_other k n t s j i (not_made j i m))
-
-    new_universe : universe_of after k n ≡ u
-    new_universe = ap (λ us. get_or us n 0) q.universes_grow ∙ ap (λ m. get_or (before.universes k ++ u ∷ []) m 0) (q.number ∙ sym (g.one_universe_each k)) ∙ get_or_past (before.universes k) u
-
-    old : (j : VarKind) (i : ℕ) → IsMade after j i → (j ≡ k → i ≡ n → ⊥) → IsMade before j i
-    old j i m o = go (old_or_new before after k n u q j i m)
-      where
-        go : IsMade before j i ⊎ ((j ≡ k) × (i ≡ n)) → IsMade before j i
-        go (inl p) = p
-        go (inr p) = absurd (o p.0 p.1)
-
-    assigns : IsAssignment after z
-    assigns j i m = changed_case (λ j i y. MayStandFor j y × Leaves IsValueLeaf y × StaysWithin 0 y × Leaves (IsNamable (universe_of after j i)) y) k n t s
-        (stands, ground, within, subst (λ v. Leaves (IsNamable v) t) (sym new_universe) names) j i
-        (λ o. let a = sat.assigns j i (old j i m o) in (a.0, a.1, a.2, subst (λ v. Leaves (IsNamable v) (s j i)) (sym (universes_stand before after k n u q g j i (old j i m o))) a.3))
+    agree = changed_agrees before after k n u q g s t
 
     bindings : MeetsBindings after z
     bindings j i y e = let e' = same_terms before after k n u q j i ∙ e in let h = g.bindings j i y e' in

@@ -16,3 +16,5 @@ mod Closures
 pub mod Edits
 mod Params
 pub mod Equality
+pub mod Paths
+pub mod Erasing

@@ -347,10 +347,21 @@ binder_term : (t : Tree) → IsBinder existential_sort t → tree_sort t ≡ bin
 binder_term (bind ks t) h = ap binder_sort (existential_term t h)
 binder_term t h = absurd h
 
-term_admits : (t : Tree) → IsTerm term_sort t → Admits term_sort (tree_sort t)
-term_admits (leaf l) h = h
-term_admits (node g ts) h = h.0
-term_admits t h = absurd h
+-- The sort of what a term of a sort is; what is a list of terms, and each of them.
+pub term_admits : (s : Sort) (t : Tree) → IsTerm s t → Admits s (tree_sort t)
+term_admits s (leaf l) h = h
+term_admits s (node g ts) h = h.0
+term_admits s t h = absurd h
+
+pub terms_list : (s : Sort) (ts : Tree) → AreTerms s ts → IsList ts
+terms_list s nil h = tt
+terms_list s (cons t ts) h = terms_list s ts h.1
+terms_list s t h = absurd h
+
+pub term_nth : (s : Sort) (ts : Tree) (i : ℕ) → i < count ts → AreTerms s ts → IsTerm s (nth i ts)
+term_nth s (cons t ts) zero l h = h.0
+term_nth s (cons t ts) (suc i) l h = term_nth s ts i (omega (arith, l)) h.1
+term_nth s t i l h = absurd (omega (arith, l))
 
 arg_admits : (t : Tree) → IsTerm argument_sort t → Admits argument_sort (tree_sort t)
 arg_admits (leaf l) h = h
@@ -459,12 +470,20 @@ module _ {Key Id : Type 0} where
   fit_term_args [] (bind ks t) f a = absurd f
   fit_term_args [] nil f a = absurd a
   fit_term_args (x ∷ xs) (cons t ts) f a =
-      (term_part x (tree_sort t) f.0 (term_admits t a.0), fit_args xs ts f.1 a.1)
+      (term_part x (tree_sort t) f.0 (term_admits term_sort t a.0), fit_args xs ts f.1 a.1)
   fit_term_args (x ∷ xs) ts f a = absurd f
 
   pub fit_none : (f : Part Key Id → Tree) (xs : List (Part Key Id)) → Fit xs nil → list_tree f xs ≡ nil
   fit_none f [] h = refl
   fit_none f (x ∷ xs) h = absurd h
+
+-- Each tree has a size.
+pub size_positive : (t : Tree) → 1 ≤ size t
+size_positive (leaf l) = omega arith
+size_positive (node h ts) = omega arith
+size_positive (bind ks t) = omega arith
+size_positive nil = omega arith
+size_positive (cons t ts) = omega arith
 
 -- A member is smaller than its list, and the list of a term's parts no larger than the term.
 pub member_small : (ts : Tree) (i : ℕ) → i < count ts → size (nth i ts) < size ts

@@ -452,17 +452,3 @@ deeper e (in_consts i o s k c) h = in_consts i o s k (deeper e c h)
 deeper e (between i c) h = between i (deeper e c h)
 deeper e (here c) h = here (deeper e c h)
 deeper e (further c) h = further (deeper e c h)
-
--- A part that is of no such kind is of another sort.
-module _ {Key Id : Type 0} where
-  pub other_ty : (p : Part Key Id) → ((t : TyKey Key) → p ≡ Ty t → ⊥) → part_sort p ≡ type_sort → ⊥
-  other_ty (Ty t) n e = n t refl
-  other_ty p n e = cc
-
-  pub other_const : (p : Part Key Id) → ((t : ConstKey Key) → p ≡ Const t → ⊥) → part_sort p ≡ const_sort → ⊥
-  other_const (Const t) n e = n t refl
-  other_const p n e = cc
-
-  pub other_valtree : (p : Part Key Id) → ((t : ValTreeKey Key) → p ≡ ValTree t → ⊥) → part_sort p ≡ value_sort → ⊥
-  other_valtree (ValTree t) n e = n t refl
-  other_valtree p n e = cc

@@ -44,9 +44,9 @@ use Rattle.relation_terms.specs.declared.terms.part_kind.Part.TheVariants.{Value
 use Rattle.relation_terms.specs.declared.terms.part_kind.Part.TheVariants.{Existential, Object}
 use Rattle.relation_terms.specs.Interning.{Sorted}
 use Rattle.relation_terms.proofs.Parts.{sort_known}
-use Rattle.relation_tools.proofs.Meeting.{terms_list}
 use Rattle.relation_folds.proofs.Visiting.{has_sort}
 use Rattle.relation_tools.specs.Components.{every, no_member, components, choice_of, is_alias, is_component, is_region_sort}
+use Rattle.relation_terms.proofs.Members.{terms_list}
 
 -- A leaf that is no region and no type is no component.
 leaf_none : (l : Leaf) → is_region_sort (leaf_sort l) ≡ false → is_type_sort (leaf_sort l) ≡ false →

@@ -13,11 +13,12 @@ use Rattle.term_enums.specs.declared.ExternAbi.{ExternAbi}
 use Rattle.relation_terms.specs.Trees.{Tree, leaf, node, bind, nil, cons, IsTerm, count}
 use Rattle.relation_terms.specs.Erasure.{erase, erase_leaf, erase_atom}
 use Rattle.relation_terms.specs.Parts.{tree_sort}
-use Rattle.relation_terms.proofs.Members.{region_only, type_only, const_only}
+use Rattle.relation_terms.proofs.Members.{region_only, type_only, const_only, term_admits}
 use Rattle.relation_folds.specs.Clashes.{flexible, outline, header_of, inputs_count, object_principal, principal}
 use Rattle.relation_folds.specs.Clashes.{counted}
 use Rattle.relation_folds.specs.Forms.{Tuple, FnPtr, Dynamic, Branch}
 use Rattle.relation_tools.specs.Instances.{Instance, put, kept_leaf, kept_node, kept_bind, kept_nil, kept_cons}
+use Rattle.relation_terms.proofs.Erasing.{erased_count, erased_atom}
 
 -- The sorts of places.
 abbrev pub is_place_sort : Sort → Bool
@@ -90,15 +91,8 @@ admitted type_sort u p h = type_only u h
 admitted const_sort u p h = const_only u h
 admitted s u p h = absurd (cc)
 
-term_sort_of : (s : Sort) (x : Tree) → IsTerm s x → Admits s (tree_sort x)
-term_sort_of s (leaf l) h = h
-term_sort_of s (node g ts) h = h.0
-term_sort_of s (bind ks t) h = absurd h
-term_sort_of s nil h = absurd h
-term_sort_of s (cons t ts) h = absurd h
-
 pub put_sort : (a x : Tree) → flexible true a ≡ true → IsTerm (tree_sort a) x → tree_sort x ≡ tree_sort a
-put_sort a x f h = admitted (tree_sort a) (tree_sort x) (place_sort a f) (term_sort_of (tree_sort a) x h)
+put_sort a x f h = admitted (tree_sort a) (tree_sort x) (place_sort a f) (term_admits (tree_sort a) x h)
 
 -- A place, and what is put for it, is no list and no binder: of both the same is said.
 place_alone : {A : Type 0} (f : Tree → A) (z : A) → ((l : Leaf) → f (leaf l) ≡ z) →
@@ -343,13 +337,6 @@ module _ {places : Tree → Bool} (within : (a : Tree) → places a ≡ true →
   object_kept (kept_cons {ts = ts} {us = us} i j) = first_object ts us i
 
 -- What an erasure keeps.
-pub erased_count : (t : Tree) → count (erase t) ≡ count t
-erased_count (leaf l) = refl
-erased_count (node h ts) = refl
-erased_count (bind ks t) = refl
-erased_count nil = refl
-erased_count (cons t ts) = ap suc (erased_count ts)
-
 erased_header : (t : Tree) → header_of (erase t) ≡ header_of t
 erased_header (cons (bind ks (node (signature v s a) us)) vs) = refl
 erased_header t = refl
@@ -388,12 +375,6 @@ erased_placeholder : (k : Kind) (m d i : ℕ) →
 erased_placeholder region_kind m d i = refl
 erased_placeholder type_kind m d i = refl
 erased_placeholder const_kind m d i = refl
-
-erased_atom : (x : Atom) → atom_sort (erase_atom x) ≡ atom_sort x
-erased_atom (early_region i n) = refl
-erased_atom (type_param i n) = refl
-erased_atom (const_param i n) = refl
-erased_atom x = refl
 
 pub erased_sort : (t : Tree) → tree_sort (erase t) ≡ tree_sort t
 erased_sort (leaf (variable k n)) = erased_variable k n

@@ -18,8 +18,10 @@ use Rattle.relation_tools.specs.declared.fast_reject.simplify.SimplifiedType.The
 use Rattle.relation_tools.specs.Instances.{Instance, put, kept_leaf, kept_node, kept_bind, kept_nil, kept_cons}
 use Rattle.relation_tools.specs.Instances.{flexible_but_aliases, IsNoError}
 use Rattle.relation_tools.specs.KeyLaws.{are_instantiated, DifferentKeysAreApart, places_of, UnlikeKeysAreApart}
-use Rattle.relation_tools.proofs.Instancing.{within_all, erased_count, erased_inputs, erased_object, count_kept}
+use Rattle.relation_tools.proofs.Instancing.{within_all, erased_inputs, erased_object, count_kept}
 use Rattle.relation_tools.proofs.Instancing.{inputs_kept, object_kept}
+use Rattle.std.proofs.lemmas.Option.{same_Some}
+use Rattle.relation_terms.proofs.Erasing.{erased_count}
 
 -- The places that may stand for others are among all.
 within_aliases : (p : Bool) (a : Tree) → flexible_but_aliases p a ≡ true → flexible true a ≡ true
@@ -125,12 +127,9 @@ module _ (autos : ℕ → Bool) (solver : Bool) (treat : TreatParams) where
     told kept_nil n k e = absurd (cc)
     told (kept_cons i j) n k e = absurd (cc)
 
-some_path : {k m : SimplifiedType ℕ} → Some k ≡ Some m → k ≡ m
-some_path e = cc
-
 pub different_keys_are_apart : DifferentKeysAreApart
 different_keys_are_apart autos solver treat a b k m p q e f n c =
-    n (some_path (sym (tells c.of_left p k e) ∙ ap (erased_key autos solver treat) c.same ∙ tells c.of_right q m f))
+    n (same_Some _ _ (sym (tells c.of_left p k e) ∙ ap (erased_key autos solver treat) c.same ∙ tells c.of_right q m f))
   where
     tells : {a x : Tree} → Instance (flexible_but_aliases (are_instantiated treat)) a x → Leaves IsNoError a →
         (k : SimplifiedType ℕ) → head_key autos solver treat a ≡ Some k →
@@ -189,5 +188,5 @@ module _ (autos : ℕ → Bool) (solver : Bool) where
 
 pub unlike_keys_are_apart : UnlikeKeysAreApart
 unlike_keys_are_apart autos solver left right a b k m p q e f n c =
-    n (some_path (sym (mode_told autos solver left c.of_left p k e) ∙ ap (erased_key autos solver AsRigid) c.same ∙
+    n (same_Some _ _ (sym (mode_told autos solver left c.of_left p k e) ∙ ap (erased_key autos solver AsRigid) c.same ∙
     mode_told autos solver right c.of_right q m f))

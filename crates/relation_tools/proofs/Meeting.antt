@@ -14,7 +14,8 @@ use Rattle.relation_terms.specs.declared.terms.part_kind.Part.{Part}
 use Rattle.relation_terms.specs.declared.terms.part_kind.Part.TheVariants.{Region, Ty, Const, ValTree, Pat, ValueType}
 use Rattle.relation_terms.specs.declared.terms.part_kind.Part.TheVariants.{Binder, Signature, Inputs, Existential}
 use Rattle.relation_terms.specs.declared.terms.part_kind.Part.TheVariants.{Object}
-use Rattle.relation_terms.proofs.Members.{member_small}
+use Rattle.relation_terms.proofs.Members.{member_small, size_positive}
+pub use Rattle.relation_terms.proofs.Members.{terms_list}
 use Rattle.relation_tools.specs.Components.{every, components}
 use Rattle.relation_tools.specs.Outliving.{HasAll}
 use Rattle.relation_tools.specs.Collecting.{Settled, Meets, Keeps, kept_of, found_size}
@@ -46,21 +47,6 @@ next_place Q i j e f q k l = decided (nat_lt k i) refl
     decided true t = f k (ltb-true k i t)
     decided false t = let o = ltb-false k i t in let is : i ≡ k = omega (arith, o, l, e) in subst Q is q
 
--- A list of terms is a list.
-pub terms_list : (s : Sort) (t : Tree) → AreTerms s t → IsList t
-terms_list s nil h = tt
-terms_list s (cons t ts) h = terms_list s ts h.1
-terms_list s (leaf l) h = absurd h
-terms_list s (node g ts) h = absurd h
-terms_list s (bind ks t) h = absurd h
-
-size_some : (t : Tree) → 1 ≤ size t
-size_some (leaf l) = omega arith
-size_some (node h ts) = omega arith
-size_some (bind ks t) = omega arith
-size_some nil = omega arith
-size_some (cons t ts) = omega arith
-
 abbrev or_else : Tree → Option Tree → Tree
 or_else d None = d
 or_else d (Some t) = t
@@ -74,7 +60,7 @@ module _ {X D N : Type 0} (m : Meaning X D N) where
   -- A type that was found among arguments is smaller than their list.
   pub found_small : (p : ℕ) (ts : Tree) (found : Option (TyKey X)) → option_map m.ty found ≡ type_from_last p ts →
       suc (found_size m found) ≤ size ts
-  found_small p ts None e = size_some ts
+  found_small p ts None e = size_positive ts
   found_small p ts (Some t) e =
       let i = count ts - 1 - p in
       let there = found_inside (nat_lt p (count ts)) (is_type_sort (tree_sort (nth i ts))) (m.ty t) (nth i ts) e in

@@ -17,15 +17,9 @@ use Rattle.relation_tools.specs.Pairs.{Pairs, IsInside, KnownPair, pair_size, Cl
 use Rattle.relation_tools.specs.declared.fast_reject.pairs.Pair.{Pair}
 use Rattle.relation_tools.specs.declared.fast_reject.pairs.Pair.TheVariants.{Apart, Nothing, Types, Arrays, Lists, Args}
 use Rattle.relation_tools.proofs.Clashing.{forms_clash, parts_decide, moved}
+use Rattle.relation_terms.proofs.Members.{size_positive}
 
 module _ {Key Id Name : Type 0} (m : Meaning Key Id Name) where
-  size_some : (a : Tree) → 0 < size a
-  size_some (leaf l) = omega arith
-  size_some (node h ts) = omega arith
-  size_some (bind ks t) = omega arith
-  size_some nil = omega arith
-  size_some (cons t ts) = omega arith
-
   pub pair_known : (a b : Tree) (p : Pair Key) → Pairs m a b p → KnownPair m p
   pair_known a b Apart s = tt
   pair_known a b Nothing s = s.1.0
@@ -35,7 +29,7 @@ module _ {Key Id Name : Type 0} (m : Meaning Key Id Name) where
   pair_known a b (Args xs ys) s = s.1.0
 
   pub pair_small : (a b : Tree) (p : Pair Key) → Pairs m a b p → pair_size m p < size a
-  pair_small a b Apart s = size_some a
+  pair_small a b Apart s = omega (arith, size_positive a)
   pair_small a b Nothing s = s.1.1.0
   pair_small a b (Types t u) s = s.1.1.0
   pair_small a b (Arrays t u n k) s = s.1.1.0

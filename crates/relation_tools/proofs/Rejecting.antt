@@ -17,6 +17,7 @@ use Rattle.relation_tools.specs.Instances.{Instance, put, kept_leaf, kept_node, 
 use Rattle.relation_tools.specs.Instances.{IsNamed, NoCommonInstance}
 use Rattle.relation_tools.proofs.Clashing.{both, number_rigid, number_flexible, rigid_alone}
 use Rattle.relation_tools.proofs.Instancing.{within_all, sort_kept, outline_kept, erased_sort, is_place_sort, place_sort}
+use Rattle.relation_terms.proofs.Paths.{leaf_path, head_path, parts_path, bind_path, first_path, rest_path}
 
 -- A leaf of no region is its erasure but for the name of a parameter.
 abbrev pub named_atom : (ℕ → ℕ) → (ℕ → ℕ) → Atom → Atom
@@ -98,24 +99,6 @@ one_unnamed l m p s z e = one_leaf (λ i. 0) (λ i. 0) l m (unnamed (λ i. 0) (�
 abbrev Tells : (Tree → Bool) → (Tree → Bool) → (Leaf → Type 0) → (Leaf → Type 0) → Type 0
 Tells f g P Q = (l m : Leaf) → f (leaf l) ≡ false → g (leaf m) ≡ false → P l → Q m →
     (leaf_sort l ≡ region_sort → ⊥) → (leaf_sort m ≡ region_sort → ⊥) → erase_leaf l ≡ erase_leaf m → l ≡ m
-
-leaf_path : {l m : Leaf} → leaf l ≡ leaf m → l ≡ m
-leaf_path e = cc
-
-head_path : {h g : Head} {ts us : Tree} → node h ts ≡ node g us → h ≡ g
-head_path e = cc
-
-parts_path : {h g : Head} {ts us : Tree} → node h ts ≡ node g us → ts ≡ us
-parts_path e = cc
-
-bind_path : {ks ls : List BoundKind} {t u : Tree} → bind ks t ≡ bind ls u → t ≡ u
-bind_path e = cc
-
-first_path : {t u ts us : Tree} → cons t ts ≡ cons u us → t ≡ u
-first_path e = cc
-
-rest_path : {t u ts us : Tree} → cons t ts ≡ cons u us → ts ≡ us
-rest_path e = cc
 
 all_kept : (h : Head) (ts : Tree) → (head_sort h ≡ value_type_sort → ⊥) → kept_parts h ts ≡ ts
 all_kept value_type ts n = absurd (n refl)

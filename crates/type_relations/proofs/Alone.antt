@@ -37,6 +37,7 @@ use Rattle.type_relations.specs.Stepping.{right_bound, right_asked, right_unaske
 use Rattle.type_relations.specs.Stepping.{StepsRead, met_again, combined, not_remembered}
 use Rattle.type_relations.specs.Stepping.{StepsTys, one_type, without_variables, resolved_first}
 use Rattle.type_relations.specs.Variables.{one_has_variable}
+use Rattle.std.proofs.lemmas.Option.{same_Some}
 
 -- What a step that registers one goal, or none, says of that goal.
 module _ {Key Id Name : Type 0} (r q : State Key Id Name) where
@@ -61,10 +62,7 @@ module _ {Key Id Name : Type 0} (r q : State Key Id Name) where
         (none_alone ((r.meaning).ty a) p h)
 
     same_goal : (x p : Tree) → Some x ≡ Some p → RegistersOne r q x → RegistersOne r q p
-    same_goal x p e h = subst (RegistersOne r q) (some_is e) h
-      where
-        some_is : {x y : Tree} → Some x ≡ Some y → x ≡ y
-        some_is e = cc
+    same_goal x p e h = subst (RegistersOne r q) (same_Some x p e) h
 
     -- Of two type variables.
     variables_alone : (p : Tree) → subtype_at r.ambient ((r.meaning).ty a) ((r.meaning).ty b) ≡ Some p →

@@ -242,13 +242,6 @@ args_heads e (FnDef d) = ap fn_def (e.id d.0)
 args_heads e (AliasTerm k) = ap (alias_term (alias_term_kind k)) (e.id (alias_term_id k))
 args_heads e (Trait d) = ap trait_ref (e.id d.0)
 
-pub are_list : (k : Sort) (ts : Tree) → AreTerms k ts → IsList ts
-are_list k nil h = tt
-are_list k (cons t ts) h = are_list k ts h.1
-are_list k (leaf l) h = absurd h
-are_list k (node g ts) h = absurd h
-are_list k (bind ks t) h = absurd h
-
 -- Two types of one form, one over an item and the other over an item in the same form: the items are one.
 pub over_one_adt : (d e : ℕ) (a b ts us : Tree) → a ≡ node (adt d) ts → b ≡ node (adt e) us → AreOfOneForm a b →
     AreOverItem d a b ts us

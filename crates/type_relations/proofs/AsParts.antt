@@ -22,7 +22,7 @@ use Rattle.relation_terms.specs.declared.terms.const_kind.ConstKind.TheVariants.
 use Rattle.relation_terms.specs.declared.terms.const_kind.InferConst.TheVariants.{Var, Fresh}
 use Rattle.relation_terms.specs.Interning.{Sorted}
 use Rattle.relation_terms.proofs.Sorted.{widen, region_admitted, type_admitted, const_admitted}
-use Rattle.relation_terms.proofs.Members.{fit_args, mapped, region_term, type_term, const_term}
+use Rattle.relation_terms.proofs.Members.{fit_args, mapped, region_term, type_term, const_term, term_nth}
 use Rattle.relation_terms.proofs.Parts.{sort_known, arg_part}
 use Rattle.relation_semantics.specs.Parts.{parts_of, branches_of, const_parts_of, IsByParts}
 use Rattle.relation_semantics.specs.Making.{arg_sort, FitArgs, over, const_over}
@@ -94,11 +94,6 @@ const_arguments (node value ts) f =
     let (t, v, e, h) = value_shape ts f.1 in
     subst (λ z. AreTerms argument_sort (const_parts_of (node value z))) (sym e) (branch_arguments v h)
 const_arguments c f = tt
-
-term_nth : (s : Sort) (ts : Tree) (i : ℕ) → i < count ts → AreTerms s ts → IsTerm s (nth i ts)
-term_nth s (cons t ts) zero l f = f.0
-term_nth s (cons t ts) (suc i) l f = term_nth s ts i (omega (arith, l)) f.1
-term_nth s t i l f = absurd (omega (arith, l))
 
 pub ty_argument : (t : Tree) (i : ℕ) → i < count (parts_of t) → IsTerm type_sort t → (IsByParts t → ⊥) →
     IsTerm argument_sort (nth i (parts_of t))

@@ -17,12 +17,14 @@ use Rattle.relation_semantics.specs.Errors.{outer_leaf, AreAlike, IsLeftToGoal}
 use Rattle.relation_semantics.specs.Agreeing.{IsFlexible, AreFlexible, IsLeftAside, Agree}
 use Rattle.relation_semantics.specs.Asking.{a_goal, HaveAlias, AsksFor, of_aliases, of_unevaluated, of_parts, IsPlainLeaf, IsPlainHead, IsPlainTerm}
 use Rattle.relation_semantics.proofs.Agreeing.{agree_sorts}
-use Rattle.relation_semantics.proofs.Erased.{leaf_path, no_error_atom}
+use Rattle.relation_semantics.proofs.Erased.{no_error_atom}
 use Rattle.relation_semantics.proofs.Leaving.{opaque_is_alias, beside_is_opaque}
 use Rattle.relation_semantics.proofs.Related.{no_region_head}
 use Rattle.relation_semantics.proofs.Trees.{apply_ground}
 use Rattle.type_relations.specs.Completing.{AskedHolds}
-use Rattle.type_relations.proofs.RegionTerms.{IsNode, IsShaped, all_rule, outer_related}
+use Rattle.type_relations.proofs.RegionTerms.{all_rule, outer_related}
+use Rattle.type_relations.proofs.Shapes.{IsNode, IsShaped}
+use Rattle.relation_terms.proofs.Paths.{leaf_path}
 
 module _ (c : Items) (w : Interpretation) (e : Tree) where
   themselves : Assign

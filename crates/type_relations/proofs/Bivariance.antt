@@ -22,6 +22,7 @@ use Rattle.relation_semantics.proofs.Composing.{below_or}
 use Rattle.relation_terms.proofs.Members.{no_region}
 use Rattle.relation_semantics.proofs.Parts.{in_parts}
 use Rattle.relation_semantics.proofs.Resolved.{resolved_free}
+use Rattle.relation_semantics.proofs.Answering.{items_stay}
 
 -- A region is never left open: region variables are not bound.
 pub region_closed : (st : Store) → IsSound st → (t : Tree) → IsTerm region_sort t → is_left_open st t ≡ false
@@ -137,9 +138,6 @@ tells_either c st d ts us b e h (Ok x) f = ((λ y. inr (f.0 y)), go)
 tells_either c st d ts us b e h (Err x) f = tt
 
 -- The same while keys are added to.
-pub items_stay : {Key Id Name : Type 0} {m n : Meaning Key Id Name} → Extends m n → items_of n ≡ items_of m
-items_stay e = ap₂ declared_by e.variances e.alias_variances
-
 pub tells_still : {Key Id Name F : Type 0} {m n : Meaning Key Id Name} (e : Extends m n) (d : Id) (xs : ArgsKey Key) →
     IsTrue (known (m.args xs)) → (was now : Store) → now ≡ was → (result : Result Bool F) →
     TellsOpen (items_of n) now (n.id d) (n.args xs) result → TellsOpen (items_of m) was (m.id d) (m.args xs) result

@@ -22,6 +22,7 @@ use Rattle.relation_semantics.proofs.OneParts.{parts_counted}
 use Rattle.relation_semantics.proofs.Answering.{same_settings}
 use Rattle.type_relations.proofs.Handing.{HaveAsManyInputs}
 use Rattle.type_relations.proofs.Patterns.{IsFormSort}
+pub use Rattle.relation_folds.proofs.Folding.{on_ok}
 
 -- The sorts of generic arguments.
 abbrev IsArgSort : Sort → Type 0
@@ -138,10 +139,6 @@ alike_back a b (over_parts d e n) = over_parts e d (sym n)
 alike_back a b (over_aliases d e n) = over_aliases e d (sym n)
 alike_back a b (one_leaf d e) = one_leaf e d
 alike_back a b (parameters d e p) = parameters e d (sym p)
-
-pub on_ok : {X E : Type 0} (res : Result X E) (P : Type 0) → P → OnOk res P
-on_ok (Ok x) P p = p
-on_ok (Err e) P p = tt
 
 -- What was asked of two terms is so at another ambient variance.
 pub asked_turned : {Key Id Name : Type 0} {v : Variance} {r t : State Key Id Name} (M : Manners) (w : Variance)

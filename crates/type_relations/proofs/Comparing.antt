@@ -228,6 +228,10 @@ of_forms_alike (node (expression k) ts) (node (expression l) us) a = both_expres
 of_forms_alike (node value (cons t (cons v nil))) (node value (cons u (cons w nil))) a = both_values refl refl a
 of_forms_alike t u a = absurd a
 
+-- Forms of one head are alike.
+pub alike_heads : (h k : Head) (ts us : Tree) → h ≡ k → AreAlike (node h ts) (node k us)
+alike_heads h k ts us e = ap (λ z. node (outer_head z) nil) e
+
 module _ {Key Id Name : Type 0} (m : Meaning Key Id Name) where
   -- A variable is no parameter.
   param_infer : (i n : ℕ) (j : InferTy) → AreAlike (leaf (atom (type_param i n))) (infer_tree j) → ⊥
@@ -305,9 +309,6 @@ module _ {Key Id Name : Type 0} (m : Meaning Key Id Name) where
       go (suc a) (suc b) h k = sized e (sizes (omega (arith, h)) (omega (arith, k))) (omega (arith, h)) (omega (arith, k))
 
   -- Where the forms differ no assignment makes the types one.
-  alike_heads : (h k : Head) (ts us : Tree) → h ≡ k → AreAlike (node h ts) (node k us)
-  alike_heads h k ts us e = ap (λ z. node (outer_head z) nil) e
-
   alike_applied : (s : Assign) (a b : Tree) → IsFormed a → IsFormed b → apply s a ≡ apply s b → AreAlike a b
   alike_applied s (leaf (atom x)) (leaf (atom y)) f g e = (let z : x ≡ y = cc in ap (λ z. leaf (atom (plain_atom z))) z)
   alike_applied s (leaf (atom x)) (leaf (placeholder k u n)) f g e = absurd (cc)

@@ -27,7 +27,7 @@ use Rattle.relation_semantics.specs.Agreeing.{IsFlexible, AreFlexible, IsLeftAsi
 use Rattle.relation_semantics.specs.Asking.{HaveAlias, IsPlainHead, IsPlainTerm, HasNoAlias, ArePlain, without_aliases, without_binders}
 use Rattle.relation_semantics.proofs.Agreeing.{agree_anything, agree_same, agree_left, agree_sorts, region_flexible}
 use Rattle.relation_semantics.proofs.Asking.{no_alias_term}
-use Rattle.relation_semantics.proofs.Erased.{leaf_path, erase_region, erase_plain, no_error_atom}
+use Rattle.relation_semantics.proofs.Erased.{erase_region, erase_plain, no_error_atom, keeps_parts}
 use Rattle.type_relations.proofs.Unifying.{erased_sort}
 use Rattle.type_relations.specs.Completing.{AreRelatedAsAsked, AreNeverRelated, ErrorsDisagree, ErrorsAreUnrelated, AgreeingAreRelated, Complete}
 use Rattle.type_relations.specs.Relating.{term_in, RelatesAgreeing, AnswersError}
@@ -35,8 +35,12 @@ use Rattle.type_relations.specs.Solving.{solver_settings}
 use Rattle.type_relations.specs.RegionTerms.{IsRegionTermHead, IsRegionTerm}
 use Rattle.type_relations.proofs.AskedGoals.{agreeing_related}
 use Rattle.type_relations.proofs.Disagreeing.{disagree}
-use Rattle.type_relations.proofs.PlainTerms.{no_left, outer_kept, left_good, right_good}
-use Rattle.type_relations.proofs.RegionTerms.{shaped, region_or, rule_alias, related_terms_agree, related_iff_agree}
+use Rattle.type_relations.proofs.PlainTerms.{outer_kept, left_good, right_good}
+use Rattle.type_relations.proofs.RegionTerms.{region_or, rule_alias, related_terms_agree, related_iff_agree}
+use Rattle.relation_semantics.proofs.Leaving.{normal_not_left}
+use Rattle.type_relations.proofs.Shapes.{shaped}
+use Rattle.relation_terms.proofs.Paths.{leaf_path}
+use Rattle.relation_terms.proofs.Erasing.{erased_count}
 use Rattle.type_relations.specs.Closed.{SpendsForVariables}
 use Rattle.type_relations.proofs.Closed.{plain_never_needs}
 
@@ -69,17 +73,6 @@ value_type_plain (alias k d) e = absurd cc
 value_type_plain (alias_term k d) e = absurd cc
 value_type_plain h e = e
 
-kept_all : (h : Head) (ts : Tree) → h ≢ value_type → kept_parts h ts ≡ ts
-kept_all value_type ts n = absurd (n refl)
-kept_all h ts n = refl
-
-erased_count : (ts : Tree) → count (erase ts) ≡ count ts
-erased_count (cons t ts) = ap suc (erased_count ts)
-erased_count (leaf l) = refl
-erased_count (node h ts) = refl
-erased_count (bind ks t) = refl
-erased_count nil = refl
-
 module _ (set : Settings) (c : Items) where
   kept_agree : (h k : Head) (v : Variance) (xs ys : Tree) → plain h ≡ plain k → Agree set c (parts h 0 v) xs ys →
       Agree set c (parts h 0 v) (kept_parts h xs) (kept_parts k ys)
@@ -90,7 +83,7 @@ module _ (set : Settings) (c : Items) where
       go (inl e) (inl d) = subst₂ (λ x y. Agree set c (parts h 0 v) (kept_parts x xs) (kept_parts y ys)) (sym e) (sym d) refl
       go (inl e) (inr n) = absurd (n (value_type_plain k (sym p ∙ ap plain e)))
       go (inr n) (inl d) = absurd (n (value_type_plain h (p ∙ ap plain d)))
-      go (inr n) (inr m) = subst₂ (Agree set c (parts h 0 v)) (sym (kept_all h xs n)) (sym (kept_all k ys m)) r
+      go (inr n) (inr m) = subst₂ (Agree set c (parts h 0 v)) (sym (keeps_parts h xs n)) (sym (keeps_parts k ys m)) r
 
   -- Terms with aliases that are in the relation agree up to erasure, where aliases are left to goals.
   no_error : (a : Tree) → IsError a → IsPlainTerm a → ⊥
@@ -173,7 +166,7 @@ module _ (set : Settings) (c : Items) where
   aside_erased : (v : Variance) (a b : Tree) → HasNoAlias a → HasNoAlias b → IsLeftAside set v a b →
       IsLeftAside set v (erase a) (erase b)
   aside_erased v a b f g (inl e) = inl e
-  aside_erased v a b f g (inr l) = absurd (no_left set a b (no_alias_term a f) (no_alias_term b g) l.0)
+  aside_erased v a b f g (inr l) = absurd (normal_not_left set a b (no_alias_term a f) (no_alias_term b g) l.0)
 
   as_leaves : (v : Variance) (a b : Tree) → HasNoAlias a → HasNoAlias b →
       (AreAlike a b → AreFlexible (erase a) (erase b) ⊎ AreAlike (erase a) (erase b)) →

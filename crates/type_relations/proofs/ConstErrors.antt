@@ -15,6 +15,7 @@ use Rattle.relation_semantics.specs.Errors.{ErrorByForms, of_forms, of_const_for
 use Rattle.relation_semantics.specs.Errors.{of_alias_term_parts, of_trait_refs}
 use Rattle.relation_semantics.specs.Errors.{of_inputs, of_outputs, of_branches}
 use Rattle.type_relations.proofs.Constants.{still, fixed}
+use Rattle.relation_terms.proofs.Members.{term_nth}
 
 -- What a constant is read as is one.
 is_const_var : (k : VarKind) (n : ℕ) → IsTerm const_sort (leaf (variable k n)) → k ≡ const_var
@@ -27,14 +28,6 @@ read_const st g a t (by_class k n m e c r) h = read_const st g (leaf (variable k
 read_const st g a t (by_binding {u = x} k n e b r) h =
     read_const st g x t r (subst (λ j. MayStandFor j x) (is_const_var k n (subst (IsTerm const_sort) e h))
     (g.bindings k n x (ap (entry_term k) b)).stands)
-
-nth_term : (s : Sort) (ts : Tree) (i : ℕ) → AreTerms s ts → i < count ts → IsTerm s (nth i ts)
-nth_term s (cons t ts) zero h l = h.0
-nth_term s (cons t ts) (suc i) h l = nth_term s ts i h.1 (omega (arith, l))
-nth_term s nil i h l = absurd (omega (arith, l))
-nth_term s (leaf x) i h l = absurd h
-nth_term s (node k ts) i h l = absurd h
-nth_term s (bind ks t) i h l = absurd h
 
 -- The parts of a constant whose errors are handed on stand at one variance.
 part_same : {Key Id Name : Type 0} (e : TypeError Key Id Name) (c : Items) (h : Head) (i : ℕ) (t u : Tree) (v v' : Variance) →
@@ -73,4 +66,4 @@ module _ {Key Id Name : Type 0} (m : Meaning Key Id Name) (k : Settings) (c : It
     const_forms_alike n n' h (of_outputs p q l o f) = absurd (subst (IsTerm const_sort) p h).0
     const_forms_alike {v = v} {v' = v'} n n' h (of_branches {ts = ts} x y i p q l b o) = of_branches x y i p q l b
         (const_error_alike (still v n) (still v' n')
-        (nth_term const_sort ts i (subst (IsTerm const_sort) p h).1.1.0.1 b) o)
+        (term_nth const_sort ts i b (subst (IsTerm const_sort) p h).1.1.0.1) o)

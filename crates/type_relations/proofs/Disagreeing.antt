@@ -21,8 +21,10 @@ use Rattle.relation_semantics.specs.Agreeing.{Agree}
 use Rattle.relation_semantics.specs.Asking.{HasNoAlias}
 use Rattle.relation_semantics.proofs.Answering.{covariantly}
 use Rattle.relation_semantics.proofs.Asking.{part_bivariant}
-use Rattle.type_relations.proofs.PlainTerms.{Suits, Good, good_parts, good_first, good_rest, good_nth, suits_body, no_left, alias_left, admitted_type, Alike, Met, met_as, FormsAgree, forms_agree, no_alias_head, agree_counts, agree_at, same_sort, leaves_alike, types_alike}
+use Rattle.type_relations.proofs.PlainTerms.{Suits, Good, good_parts, good_first, good_rest, good_nth, suits_body, alias_left, Alike, Met, met_as, FormsAgree, forms_agree, no_alias_head, agree_counts, agree_at, same_sort, leaves_alike, types_alike}
 use Rattle.type_relations.proofs.PlainForms.{no_pattern, stand_regions, inst_plain, inst_no_alias, erase-inst, RegionsUnbound, read_good, no_placeholder, plain_known, consts_alike, existentials_alike}
+use Rattle.relation_terms.proofs.Members.{type_only}
+use Rattle.relation_semantics.proofs.Leaving.{normal_not_left}
 
 type_is_no_value_type : (h : Head) → head_sort h ≡ type_sort → h ≡ value_type → ⊥
 type_is_no_value_type h e d = let z : head_sort value_type ≡ type_sort = sym (ap head_sort d) ∙ e in cc
@@ -70,7 +72,7 @@ module _ {Key Id Name : Type 0} (m : Meaning Key Id Name) (sorted : Sorted m) (s
   form_error x y (tuple_size d k p q o) f r = o (at_counts (at_forms d k f r) (λ e. cc))
   form_error x y (empty_tuple d k o p) f r = o (at_counts (at_forms d k f r) (λ e. cc))
   form_error x y (as_many {h = h} {ts = ts} d k p o) f r = o (at_counts (at_forms d k f r)
-      (type_is_no_value_type h (admitted_type _ (subst (IsTerm type_sort) d (is_type x f.left)).0)))
+      (type_is_no_value_type h (type_only _ (subst (IsTerm type_sort) d (is_type x f.left)).0)))
   form_error x y (alias_arguments d k o) f r = alias_never d tt f
   form_error x y (unlike_aliases i j d k o) f r = alias_never d tt f
   form_error {v = v} x y (sorts p o) f r =
@@ -247,7 +249,7 @@ module _ {Key Id Name : Type 0} (m : Meaning Key Id Name) (sorted : Sorted m) (s
             left = left_part {ts = cons t (cons (node value_branch ts) nil)} 1 p f;
             right = right_part {us = cons u (cons (node value_branch us) nil)} 1 q f;
             decides = f.decides;
-            gone_into = no_left set (node value_branch ts) (node value_branch us) (λ o. o) (λ o. o);
+            gone_into = normal_not_left set (node value_branch ts) (node value_branch us) (λ o. o) (λ o. o);
           } in
           let alike = subst (λ j. Alike set c j (node value_branch ts) (node value_branch us)) (covariantly v)
           (part_alike {h = value} {ts = cons t (cons (node value_branch ts) nil)}

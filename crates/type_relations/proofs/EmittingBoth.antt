@@ -13,10 +13,10 @@ use Rattle.relation_semantics.specs.Goals.{Goal, ByDeclared, IsQuiet, goal_of, w
 use Rattle.relation_semantics.specs.Kits.{Kit, IsBuiltOf, BindsBuiltOf, IsGoalOf}
 use Rattle.relation_semantics.specs.Lawful.{State, Noted, OnlyMemory, WithMeaning, RegisteredIn, RelatesByDeclared, items_in}
 use Rattle.relation_semantics.specs.Stores.{InContext, IsTermIn}
-use Rattle.type_relations.proofs.Bivariance.{bivariant_parts, open_in_kit, items_stay}
+use Rattle.type_relations.proofs.Bivariance.{bivariant_parts, open_in_kit}
 use Rattle.type_relations.proofs.Noting.{noted_with, noted_then, noted_added}
 use Rattle.relation_semantics.proofs.Standing.{term_context}
-use Rattle.relation_semantics.proofs.Answering.{same_environment, same_settings}
+use Rattle.relation_semantics.proofs.Answering.{same_environment, same_settings, items_stay}
 
 -- Predicates of known trees are known.
 pub listed_known : {Key Id Name : Type 0} (m : Meaning Key Id Name) (ps : List (PredicateKey Key)) →

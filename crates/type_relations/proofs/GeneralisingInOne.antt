@@ -13,12 +13,12 @@ use Rattle.relation_semantics.specs.Steps.{IsNamedBy, LacksAliases, MakesVariabl
 use Rattle.relation_semantics.specs.OneUniverse.{NamesTypesTo, HasOneUniverse, StaysOf}
 use Rattle.type_relations.specs.UniverseLaws.{GeneralisingKeepsUniverse}
 use Rattle.relation_semantics.specs.Generalising.{Stays, gives_way_to, Stage, Turn, any_part, new_part, parts_from, Generalised, met_before, met_first, no_type, stays, gives_way, alias_gives_way, by_parts, in_binder, no_parts, next_part, variance_for, InstantiatesBy, NumbersNameNothing}
-use Rattle.relation_semantics.proofs.Generalising.{some_path}
 use Rattle.type_relations.proofs.Fronts.{IsLookedAt, part_invariant}
 use Rattle.relation_semantics.proofs.Instantiating.{resolved_first_order}
 use Rattle.relation_semantics.proofs.BindingGeneralised.{generalised_instantiates, first_order_lacks}
 use Rattle.relation_semantics.proofs.OneUniverse.{roots_fall, bound_names, all_named}
 use Rattle.relation_semantics.proofs.Standing.{term_context}
+use Rattle.std.proofs.lemmas.Option.{same_Some}
 
 -- No variable of a type or a constant was made.
 abbrev MakesNoTypes : Store → Store → Type 0
@@ -28,10 +28,10 @@ MakesNoTypes before after = (j : VarKind) → IsTypeOrConst j → length (after.
 closed_gives : (l : Leaf) (j : VarKind) → gives_way_to l ≡ Some j → IsClosedLeaf l → region_var ≡ j
 closed_gives (variable type_var m) j e h = absurd h
 closed_gives (variable const_var m) j e h = absurd h
-closed_gives (variable region_var m) j e h = some_path e
-closed_gives (placeholder (bound_kind region_kind x) w i) j e h = some_path e
-closed_gives (atom static_region) j e h = some_path e
-closed_gives (atom (early_region i x)) j e h = some_path e
+closed_gives (variable region_var m) j e h = same_Some _ _ e
+closed_gives (placeholder (bound_kind region_kind x) w i) j e h = same_Some _ _ e
+closed_gives (atom static_region) j e h = same_Some _ _ e
+closed_gives (atom (early_region i x)) j e h = same_Some _ _ e
 closed_gives l j e h = absurd cc
 
 named_gives : (st : Store) (u : ℕ) (v : Variance) (l : Leaf) (j : VarKind) → (Stays st u v l → ⊥) → gives_way_to l ≡ Some j → v ≡ Invariant → IsNamedBy st u l → region_var ≡ j
@@ -39,10 +39,10 @@ named_gives st u v (variable type_var i) j o e p (inl h) = absurd cc
 named_gives st u v (variable type_var i) j o e p (inr h) = absurd (o (p, h))
 named_gives st u v (variable const_var i) j o e p (inl h) = absurd cc
 named_gives st u v (variable const_var i) j o e p (inr h) = absurd (o h)
-named_gives st u v (variable region_var i) j o e p h = some_path e
-named_gives st u v (placeholder (bound_kind region_kind x) w i) j o e p h = some_path e
-named_gives st u v (atom static_region) j o e p h = some_path e
-named_gives st u v (atom (early_region i x)) j o e p h = some_path e
+named_gives st u v (variable region_var i) j o e p h = same_Some _ _ e
+named_gives st u v (placeholder (bound_kind region_kind x) w i) j o e p h = same_Some _ _ e
+named_gives st u v (atom static_region) j o e p h = same_Some _ _ e
+named_gives st u v (atom (early_region i x)) j o e p h = same_Some _ _ e
 named_gives st u v l j o e p h = absurd cc
 
 region_makes : (before after : Store) (j : VarKind) (m u : ℕ) → MakesVariable before after j m u → region_var ≡ j → MakesNoTypes before after

@@ -46,6 +46,7 @@ use Rattle.type_relations.proofs.PartErrors.{term_looked_at, terms_unify, part_e
 use Rattle.type_relations.proofs.PartErrors.{part_error_known}
 use Rattle.type_relations.proofs.Handing.{HaveAsManyInputs, part_complains, same_part_fault, part_still_unrelated}
 use Rattle.type_relations.proofs.Handing.{part_fault_known}
+use Rattle.relation_folds.proofs.Members.{fit_next}
 
 module _ {Key Id Name : Type 0} {r q : State Key Id Name} (M : Manners) (v : Variance) (a b : Tree) (i : ℕ)
     (form : IsByParts a) where
@@ -212,23 +213,9 @@ may_over_term M q v t us o a = absurd o
 
 -- One more part that fits its place.
 module _ {Key Id : Type 0} where
-  one_fits : (xs : List (Part Key Id)) (ts : Tree) (x : Part Key Id) (t : Tree) → Fit xs ts →
-      part_sort x ≡ tree_sort t → Fit (xs ++ x ∷ []) (snoc ts t)
-  one_fits [] nil x t f k = (k, tt)
-  one_fits (y ∷ xs) (cons u ts) x t f k = (f.0, one_fits xs ts x t f.1 k)
-  one_fits [] (cons u ts) x t f k = absurd f
-  one_fits [] (leaf l) x t f k = absurd f
-  one_fits [] (node h ts) x t f k = absurd f
-  one_fits [] (bind ks u) x t f k = absurd f
-  one_fits (y ∷ xs) nil x t f k = absurd f
-  one_fits (y ∷ xs) (leaf l) x t f k = absurd f
-  one_fits (y ∷ xs) (node h ts) x t f k = absurd f
-  one_fits (y ∷ xs) (bind ks u) x t f k = absurd f
-
   pub part_pushed : (xs : List (Part Key Id)) (x : Part Key Id) (ts : Tree) (i : ℕ) → i < count ts →
       Fit xs (firsts i ts) → part_sort x ≡ tree_sort (nth i ts) → Fit (xs ++ x ∷ []) (firsts (suc i) ts)
-  part_pushed xs x ts i l f k =
-      subst (Fit (xs ++ x ∷ [])) (sym (firsts_more i ts l)) (one_fits xs (firsts i ts) x (nth i ts) f k)
+  part_pushed xs x ts i l f k = fit_next x i ts xs l f k
 
   pub parts_end : (xs : List (Part Key Id)) (ts : Tree) (i : ℕ) → IsList ts → i ≡ count ts → Fit xs (firsts i ts) →
       Fit xs ts

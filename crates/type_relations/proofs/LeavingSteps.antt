@@ -44,20 +44,10 @@ use Rattle.type_relations.specs.Keyed.{SteppedTys, SteppedConsts}
 use Rattle.type_relations.specs.Terms.{AskedTerms}
 use Rattle.type_relations.specs.Solving.{solver_manner}
 use Rattle.relation_semantics.proofs.Leaving.{opaque_is_alias, beside_is_opaque}
-use Rattle.type_relations.proofs.SolvingVariables.{alias_not_first}
 use Rattle.type_relations.proofs.GoalPasses.{goal_passes, no_goal_passes}
 use Rattle.type_relations.proofs.OpeningBoth.{changes_goes}
-
--- Errors.
-pub error_flexible : (t : Tree) → IsError t → IsFlexible t
-error_flexible (leaf (atom x)) e = inl e
-error_flexible t e = absurd e
-
-pub error_not_first : (t : Tree) → IsError t → IsFirstOrder t → ⊥
-error_not_first (leaf (atom type_error)) e f = f
-error_not_first (leaf (atom const_error)) e f = f
-error_not_first (leaf (atom x)) e f = e
-error_not_first t e f = e
+use Rattle.relation_semantics.proofs.Erased.{alias_not_first, error_not_first}
+use Rattle.type_relations.proofs.StructuralConsts.{error_flexible}
 
 error_in_kit : (k : Kit) (t : Tree) → IsError t → IsBuiltOf k t → HasNoError k → ⊥
 error_in_kit k (leaf (atom type_error)) e h n = false≢true (sym n.0 ∙ h)

@@ -53,6 +53,7 @@ pub mod EmittingBoth
 pub mod GoalPasses
 pub mod Leaving
 pub mod LeavingSteps
+pub mod Shapes
 pub mod RegionTerms
 pub mod PlainTerms
 pub mod PlainForms

@@ -21,7 +21,7 @@ use Rattle.relation_semantics.proofs.Bound.{part_by_lists, const_part_by_lists}
 use Rattle.relation_semantics.proofs.Leaving.{by_parts_normal}
 use Rattle.type_relations.proofs.PartSizes.{weight_parts, weight_const_parts}
 use Rattle.relation_semantics.proofs.Passing.{manner_then}
-use Rattle.relation_semantics.proofs.OneUniverse.{leaves_nth}
+use Rattle.relation_semantics.proofs.OneUniverse.{leaves_nth, leaves_parts, leaves_const_parts}
 use Rattle.relation_semantics.proofs.Trees.{Leaves_map}
 use Rattle.type_relations.proofs.Fronts.{Fronted, part_small}
 
@@ -34,29 +34,15 @@ module _ (M : Manner) (is : (c : Items) (h : Head) (i : ℕ) (v : Variance) (l :
       Leaves_map (M.takes v) (M.takes (part_at c h i v)) (λ x. is c h i v x) (nth i ts)
       (leaves_nth (M.takes v) ts i l k)
 
-  parts_taken : (P : Leaf → Type 0) (t : Tree) → Leaves P t → Leaves P (parts_of t)
-  parts_taken P (node h ts) k = k
-  parts_taken P t k = tt
-
-  branches_taken : (P : Leaf → Type 0) (t : Tree) → Leaves P t → Leaves P (branches_of t)
-  branches_taken P (node value_branch ts) k = k
-  branches_taken P t k = tt
-
-  const_parts_taken : (P : Leaf → Type 0) (t : Tree) → Leaves P t → Leaves P (const_parts_of t)
-  const_parts_taken P (node (unevaluated d) ts) h = h
-  const_parts_taken P (node (expression k) ts) h = h
-  const_parts_taken P (node value (cons t (cons u nil))) h = branches_taken P u h.1.0
-  const_parts_taken P t h = tt
-
   takes_ty_part : (t : Tree) (i : ℕ) → i < count (parts_of t) → Takes M v t →
       Takes M (part_at c (head_of t) i v) (nth i (parts_of t))
   takes_ty_part t i l k =
-      (takes_part (head_of t) (parts_of t) i l (parts_taken (M.takes v) t k.0), part_by_lists t i l k.1)
+      (takes_part (head_of t) (parts_of t) i l (leaves_parts (M.takes v) t k.0), part_by_lists t i l k.1)
 
   takes_const_part : (t : Tree) (i : ℕ) → i < count (const_parts_of t) → Takes M v t →
       Takes M (part_at c (const_head_of t) i v) (nth i (const_parts_of t))
   takes_const_part t i l k = (
-    takes_part (const_head_of t) (const_parts_of t) i l (const_parts_taken (M.takes v) t k.0),
+    takes_part (const_head_of t) (const_parts_of t) i l (leaves_const_parts (M.takes v) t k.0),
     const_part_by_lists t i l k.1,
   )
 

@@ -74,14 +74,6 @@ fit_counts [] nil f = refl
 fit_counts (x ∷ xs) (cons t ts) f = ap suc (fit_counts xs ts f.1)
 fit_counts xs ts f = absurd f
 
--- A type over its own parts is itself.
-pub over_own : (t : Tree) → over t (parts_of t) ≡ t
-over_own (node h ts) = refl
-over_own (leaf l) = refl
-over_own (bind ks t) = refl
-over_own nil = refl
-over_own (cons t ts) = refl
-
 -- A value of a type, taken apart and put together with other branches.
 abbrev pub value_of : Tree → Tree → Tree
 value_of t v = node value (cons (node value_type (cons t nil)) (cons v nil))

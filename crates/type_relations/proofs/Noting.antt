@@ -75,10 +75,6 @@ module _ {Key Id Name : Type 0} where
       go (Err f) e = noted [] (e ∙ sym (append-nil r.goals))
           (All-nil (RegisteredIn r r.store)) (All-nil IsQuiet) (λ k ha hb all. All-nil (IsGoalOf k))
 
--- Where nothing was recorded, what is recorded is later.
-pub later_same : {was now : Store} → now ≡ was → IsLater was now
-later_same {was = was} e = subst (IsLater was) (sym e) (later_itself was)
-
 -- What a context's interner was added to, a relation over it was.
 module _ {Key Id Name : Type 0} (r q : State Key Id Name) (c d : Context Key Id Name) (o : IsOver r c) (g : Grows c d)
     (w : WithMeaning r d.meaning q) where

@@ -22,16 +22,10 @@ use Rattle.relation_terms.specs.declared.predicate.existential.ExistentialPredic
 use Rattle.relation_terms.specs.declared.predicate.existential.ExistentialPredicate.TheVariants.{Trait, AutoTrait}
 use Rattle.relation_terms.specs.declared.predicate.existential.ExistentialPredicate.TheVariants.{Projection}
 use Rattle.relation_semantics.specs.Relation.{Items, mode, part_at}
-use Rattle.relation_terms.proofs.Members.{type_term, const_term, pattern_term, region_term}
+use Rattle.relation_terms.proofs.Members.{type_term, const_term, pattern_term, region_term, term_admits}
 use Rattle.relation_semantics.specs.Errors.{AreOfOneForm}
 use Rattle.relation_semantics.specs.Parts.{parts_of, head_of, IsByParts, IsRelatedPart, IsArgPart, ArePaired}
 use Rattle.type_relations.proofs.Patterns.{term_alike, term_part_at, IsFormSort}
-
--- The sort of what a term of a sort is.
-admitted : (k : Sort) (t : Tree) → IsTerm k t → Admits k (tree_sort t)
-admitted k (leaf l) f = f
-admitted k (node h ts) f = f.0
-admitted k t f = absurd f
 
 pub only : (k j : Sort) → IsFormSort k → Admits k j → j ≡ k
 only pattern_sort pattern_sort o h = refl
@@ -47,7 +41,7 @@ only object_sort j o h = absurd h
 only k j o h = absurd o
 
 form_term : (k : Sort) (t : Tree) → IsFormSort k → IsTerm k t → tree_sort t ≡ k
-form_term k t o f = only k (tree_sort t) o (admitted k t f)
+form_term k t o f = only k (tree_sort t) o (term_admits k t f)
 
 binder_term : (k : Sort) (t : Tree) → ((u : Tree) → IsTerm k u → tree_sort u ≡ k) → IsBinder k t →
     tree_sort t ≡ binder_sort k
@@ -120,9 +114,9 @@ term_is_argument x h = absurd h
 
 term_args_place : (ts : Tree) (i : ℕ) → Fits (row (term_of term_sort ∷ []) (Some (term_of argument_sort))) ts →
     i < count ts → Admits argument_sort (tree_sort (nth i ts))
-term_args_place (cons t ts) zero f l = term_is_argument (tree_sort t) (admitted term_sort t f.0)
+term_args_place (cons t ts) zero f l = term_is_argument (tree_sort t) (term_admits term_sort t f.0)
 term_args_place (cons t ts) (suc i) f l =
-    all_place argument_sort (Admits argument_sort) ts i (admitted argument_sort) f.1 (omega (arith, l))
+    all_place argument_sort (Admits argument_sort) ts i (term_admits argument_sort) f.1 (omega (arith, l))
 term_args_place ts i f l = absurd f
 
 -- Of which sort the part at a place is: of that of the place, or an argument of any sort.
@@ -167,7 +161,7 @@ head_place (signature x s k) ts i o f l =
     (λ t. form_term inputs_sort t tt) type_term f l
 head_place inputs ts i o f l = all_place type_sort (StandsAt type_sort) ts i type_term f l
 head_place (existential_trait d) ts i o f l =
-    all_place argument_sort (Admits argument_sort) ts i (admitted argument_sort) f l
+    all_place argument_sort (Admits argument_sort) ts i (term_admits argument_sort) f l
 head_place (existential_projection d) ts i o f l = term_args_place ts i f l
 head_place h ts i o f l = absurd o
 

@@ -5,30 +5,24 @@ use Rattle.relation_terms.specs.Trees.{Tree, leaf, node, bind, nil, cons, Assign
 use Rattle.relation_semantics.specs.Stores.{Store, weight, resolved}
 use Rattle.relation_semantics.specs.Parts.{parts_of, const_parts_of, branches_of}
 use Rattle.relation_semantics.proofs.Parts.{parts_size, const_parts_size}
-
-pub one_size : (t : Tree) → 0 < size t
-one_size (leaf l) = omega (arith)
-one_size (node h ts) = omega (arith)
-one_size (bind ks t) = omega (arith)
-one_size nil = omega (arith)
-one_size (cons t ts) = omega (arith)
+use Rattle.relation_terms.proofs.Members.{size_positive}
 
 parts_most : (s : Assign) (t : Tree) → size (apply s (parts_of t)) ≤ size (apply s t)
 parts_most s (node h ts) = omega (arith)
-parts_most s (leaf l) = (let e = one_size (apply s (leaf l)) in omega (arith, e))
+parts_most s (leaf l) = (let e = size_positive (apply s (leaf l)) in omega (arith, e))
 parts_most s (bind ks t) = omega (arith)
 parts_most s nil = omega (arith)
 parts_most s (cons t ts) = omega (arith)
 
 branches_most : (s : Assign) (v : Tree) → size (apply s (branches_of v)) ≤ size (apply s v)
 branches_most s (node value_branch ts) = omega (arith)
-branches_most s v = (let e = one_size (apply s v) in omega (arith, e))
+branches_most s v = (let e = size_positive (apply s v) in omega (arith, e))
 
 const_parts_most : (s : Assign) (c : Tree) → size (apply s (const_parts_of c)) ≤ size (apply s c)
 const_parts_most s (node (unevaluated d) ts) = omega (arith)
 const_parts_most s (node (expression k) ts) = omega (arith)
 const_parts_most s (node value (cons t (cons v nil))) = (let e = branches_most s v in omega (arith, e))
-const_parts_most s c = (let e = one_size (apply s c) in omega (arith, e))
+const_parts_most s c = (let e = size_positive (apply s c) in omega (arith, e))
 
 pub weight_parts : (st : Store) (t : Tree) → 0 < count (parts_of t) → weight st (parts_of t) < weight st t
 unfolding weight

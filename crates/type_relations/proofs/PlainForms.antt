@@ -18,7 +18,11 @@ use Rattle.relation_semantics.specs.Asking.{IsPlainLeaf, IsPlainHead, BindsRegio
 use Rattle.relation_semantics.proofs.Answering.{covariantly}
 use Rattle.relation_semantics.proofs.Erased.{erase_region}
 use Rattle.relation_semantics.proofs.Related.{no_region_head}
-use Rattle.type_relations.proofs.PlainTerms.{Good, good_parts, good_first, good_rest, no_left, Met, FormsAgree, forms_agree, agree_counts, leaves_alike, leaf_form, form_leaf, Alike, admitted_const, admitted_value, const_no_region, value_no_region, sort_no_region, no_alias_head}
+use Rattle.type_relations.proofs.PlainTerms.{Good, good_parts, good_first, good_rest, Met, FormsAgree, forms_agree, agree_counts, leaves_alike, leaf_form, form_leaf, Alike, const_no_region, value_no_region, sort_no_region, no_alias_head}
+use Rattle.relation_terms.proofs.Members.{const_only, value_only}
+use Rattle.relation_semantics.proofs.Leaving.{normal_not_left}
+use Rattle.type_relations.proofs.Comparing.{value_shape}
+use Rattle.std.specs.Cmp.Derive.{both_true}
 
 -- Value trees that agree are one, or have as many branches.
 value_atom : (x y : Atom) → atom_sort x ≡ value_sort → plain_atom x ≡ plain_atom y → atom_sort y ≡ value_sort → x ≡ y
@@ -56,7 +60,7 @@ value_no_alias_head (unevaluated d) e i = cc
 value_no_alias_head h e i = i
 
 value_no_alias : (t : Tree) → IsTerm value_sort t → IsAlias t → ⊥
-value_no_alias (node h ts) p i = value_no_alias_head h (admitted_value _ p.0) i
+value_no_alias (node h ts) p i = value_no_alias_head h (value_only _ p.0) i
 value_no_alias t p i = i
 
 -- A constant's form is that of a value.
@@ -65,13 +69,6 @@ const_head value e p n = refl
 const_head (unevaluated d) e p n = absurd (n tt)
 const_head (expression k) e p n = absurd p
 const_head h e p n = absurd cc
-
--- A value is over its type and a value tree.
-fits_value : (ts : Tree) → Fits (head_parts value) ts → (x : Tree) × (y : Tree) × (ts ≡ cons x (cons y nil)) × IsTerm value_sort y
-fits_value (cons x (cons y nil)) p = (x, y, refl, p.1.0)
-fits_value (cons x (cons y t)) p = absurd p.1.1
-fits_value (cons x t) p = absurd p.1
-fits_value t p = absurd p
 
 value_is_no_type : (h : Head) → h ≡ value → h ≡ value_type → ⊥
 value_is_no_type h e d = let z : value ≡ value_type = sym e ∙ d in cc
@@ -232,11 +229,6 @@ no_placeholder g st un q u i (bind ks t) f e o s = cc
 no_placeholder g st un q u i nil f e o s = cc
 no_placeholder g st un q u i (cons t ts) f e o s = cc
 
--- Plain terms are known.
-both_true : (a b : Bool) → IsTrue a → IsTrue b → IsTrue (a && b)
-both_true true b p q = q
-both_true false b p q = p
-
 pub plain_known : (t : Tree) → IsPlainTerm t → IsTrue (known t)
 plain_known (leaf (variable k n)) f = refl
 plain_known (leaf (bound k d i)) f = refl
@@ -246,19 +238,19 @@ plain_known (leaf unknown) f = absurd f
 plain_known (node h ts) f = plain_known ts f.1
 plain_known (bind ks t) f = plain_known t f.1
 plain_known nil f = refl
-plain_known (cons t ts) f = both_true _ _ (plain_known t f.0) (plain_known ts f.1)
+plain_known (cons t ts) f = both_true (plain_known t f.0) (plain_known ts f.1)
 
 module _ (set : Settings) (c : Items) where
   values_alike : (v : Variance) (a b : Tree) → Met set c v a b → IsTerm value_sort a → IsTerm value_sort b → Alike set c v a b → AreOfOneValue a b
-  values_alike v (leaf l) (leaf m) f p q r = one_value (ap leaf (value_leaves l m (admitted_value _ p) (admitted_value _ q) f.left.0
-      (leaves_alike set c v l m f (value_no_region _ (admitted_value _ p)) (value_no_region _ (admitted_value _ q)) r)))
+  values_alike v (leaf l) (leaf m) f p q r = one_value (ap leaf (value_leaves l m (value_only _ p) (value_only _ q) f.left.0
+      (leaves_alike set c v l m f (value_no_region _ (value_only _ p)) (value_no_region _ (value_only _ q)) r)))
   values_alike v (node h ts) (node k us) f p q r =
       let z = forms_agree set c v h k ts us f r in
-      let e = value_head h (admitted_value _ p.0) in
+      let e = value_head h (value_only _ p.0) in
       as_many_branches (ap (λ j. node j ts) e) (ap (λ j. node j us) (sym z.same ∙ e))
-      (agree_counts set c h 0 v ts us (z.inside (branch_is_no_type h (admitted_value _ p.0))))
-  values_alike v (leaf l) (node k us) f p q r = leaf_form set c v l k us f (value_no_region _ (admitted_value _ p)) r
-  values_alike v (node h ts) (leaf m) f p q r = form_leaf set c v h ts m f (value_no_region _ (admitted_value _ q)) r
+      (agree_counts set c h 0 v ts us (z.inside (branch_is_no_type h (value_only _ p.0))))
+  values_alike v (leaf l) (node k us) f p q r = leaf_form set c v l k us f (value_no_region _ (value_only _ p)) r
+  values_alike v (node h ts) (leaf m) f p q r = form_leaf set c v h ts m f (value_no_region _ (value_only _ q)) r
   values_alike v (bind ks t) b f p q r = absurd p
   values_alike v nil b f p q r = absurd p
   values_alike v (cons t ts) b f p q r = absurd p
@@ -276,23 +268,23 @@ module _ (set : Settings) (c : Items) where
         left = good_first set y nil (good_rest set x (cons y nil) left);
         right = good_first set w nil (good_rest set z (cons w nil) right);
         decides = n;
-        gone_into = no_left set y w (value_no_alias y p) (value_no_alias w q);
+        gone_into = normal_not_left set y w (value_no_alias y p) (value_no_alias w q);
       }) p q (subst (λ u. Alike set c u y w) (covariantly v) agreed.1.0))
 
   pub consts_alike : (v : Variance) (a b : Tree) → Met set c v a b → IsTerm const_sort a → IsTerm const_sort b → Alike set c v a b → AreAlikeConsts a b
   consts_alike v (leaf l) (leaf m) f p q r = alike_leaves refl refl
-      (leaves_alike set c v l m f (const_no_region _ (admitted_const _ p)) (const_no_region _ (admitted_const _ q)) r)
+      (leaves_alike set c v l m f (const_no_region _ (const_only _ p)) (const_no_region _ (const_only _ q)) r)
   consts_alike v (node h ts) (node k us) f p q r =
       let z = forms_agree set c v h k ts us f r in
-      let e = const_head h (admitted_const _ p.0) f.left.0.0 (no_alias_head set c f) in
+      let e = const_head h (const_only _ p.0) f.left.0.0 (no_alias_head set c f) in
       let d = sym z.same ∙ e in
-      let x = fits_value ts (subst (λ j. Fits (head_parts j) ts) e p.1) in
-      let y = fits_value us (subst (λ j. Fits (head_parts j) us) d q.1) in
+      let x = value_shape ts (subst (λ j. Fits (head_parts j) ts) e p.1) in
+      let y = value_shape us (subst (λ j. Fits (head_parts j) us) d q.1) in
       subst₂ (λ j i. AreAlikeConsts (node j ts) (node i us)) (sym e) (sym d)
       (value_consts v ts us x.0 x.1 y.0 y.1 x.2 y.2 (good_parts set h ts f.left) (good_parts set k us f.right) x.3 y.3 f.decides
       (subst (λ j. Agree set c (parts j 0 v) (erase ts) (erase us)) e (z.inside (value_is_no_type h e))))
-  consts_alike v (leaf l) (node k us) f p q r = leaf_form set c v l k us f (const_no_region _ (admitted_const _ p)) r
-  consts_alike v (node h ts) (leaf m) f p q r = form_leaf set c v h ts m f (const_no_region _ (admitted_const _ q)) r
+  consts_alike v (leaf l) (node k us) f p q r = leaf_form set c v l k us f (const_no_region _ (const_only _ p)) r
+  consts_alike v (node h ts) (leaf m) f p q r = form_leaf set c v h ts m f (const_no_region _ (const_only _ q)) r
   consts_alike v (bind ks t) b f p q r = absurd p
   consts_alike v nil b f p q r = absurd p
   consts_alike v (cons t ts) b f p q r = absurd p

@@ -17,10 +17,13 @@ use Rattle.relation_semantics.specs.Asking.{IsPlainLeaf, IsPlainHead, BindsRegio
 use Rattle.relation_semantics.proofs.Agreeing.{agree_sorts}
 use Rattle.relation_semantics.proofs.Answering.{covariantly}
 use Rattle.relation_semantics.proofs.Asking.{no_alias_term}
-use Rattle.relation_semantics.proofs.Erased.{leaf_path, erase_region, no_error_atom}
+use Rattle.relation_semantics.proofs.Erased.{erase_region, no_error_atom}
 use Rattle.relation_semantics.proofs.Leaving.{opaque_is_alias, beside_is_opaque}
 use Rattle.type_relations.proofs.RegionTerms.{erased_error, leaf_outer, outer_erased}
-use Rattle.type_relations.proofs.Unifying.{atom_erased, erased_sort}
+use Rattle.type_relations.proofs.Unifying.{erased_sort}
+use Rattle.relation_terms.proofs.Members.{type_only}
+use Rattle.relation_terms.proofs.Paths.{leaf_path}
+use Rattle.relation_terms.proofs.Erasing.{erased_atom}
 
 -- A plain term without aliases, or without binders where aliases are left to goals.
 abbrev pub Suits : Settings → Tree → Type 0
@@ -76,12 +79,6 @@ alias_erased (bind ks t) i = i
 alias_erased nil i = i
 alias_erased (cons t ts) i = i
 
-pub no_left : (k : Settings) (a b : Tree) → (IsAlias a → ⊥) → (IsAlias b → ⊥) → IsLeftToGoal k a b → ⊥
-no_left k a b f g (inl (l, inl o)) = f o
-no_left k a b f g (inl (l, inr o)) = g o
-no_left k a b f g (inr (l, inl o)) = f (opaque_is_alias a (beside_is_opaque a b o))
-no_left k a b f g (inr (l, inr o)) = g (opaque_is_alias b (beside_is_opaque b a o))
-
 no_opaque : (k : Settings) (a : Tree) → LeavesOpaque k → Suits k a → IsAlias a → ⊥
 no_opaque k a l (inl n) i = no_alias_term a n i
 no_opaque k a l (inr b) i = false≢true (sym l.0 ∙ b.1.0)
@@ -121,7 +118,7 @@ not_flexible (placeholder (bound_kind region_kind m) u n) f o h = o refl
 not_flexible (placeholder (bound_kind type_kind m) u n) f o h = o h
 not_flexible (placeholder (bound_kind const_kind m) u n) f o h = o h
 not_flexible (atom x) f o (inl e) = no_error_atom x (erased_error x e) f
-not_flexible (atom x) f o (inr s) = o (sym (atom_erased x) ∙ s)
+not_flexible (atom x) f o (inr s) = o (sym (erased_atom x) ∙ s)
 not_flexible unknown f o h = f
 
 pub outer_kept : (l : Leaf) → leaf_sort l ≢ region_sort → outer_leaf (erase_leaf l) ≡ outer_leaf l
@@ -138,18 +135,6 @@ const_no_region s e = sort_no_region s const_sort e (λ p. cc)
 
 pub value_no_region : (s : Sort) → s ≡ value_sort → s ≢ region_sort
 value_no_region s e = sort_no_region s value_sort e (λ p. cc)
-
-pub admitted_type : (s : Sort) → Admits type_sort s → s ≡ type_sort
-admitted_type type_sort h = refl
-admitted_type s h = absurd h
-
-pub admitted_const : (s : Sort) → Admits const_sort s → s ≡ const_sort
-admitted_const const_sort h = refl
-admitted_const s h = absurd h
-
-pub admitted_value : (s : Sort) → Admits value_sort s → s ≡ value_sort
-admitted_value value_sort h = refl
-admitted_value s h = absurd h
 
 module _ (set : Settings) (c : Items) where
   -- The erasures of two terms agree at a variance.
@@ -247,11 +232,11 @@ module _ (set : Settings) (c : Items) where
   pub types_alike : (v : Variance) (a b : Tree) → Met v a b → IsTerm type_sort a → IsTerm type_sort b → Alike v a b →
       AreAlike a b
   types_alike v (leaf l) (leaf m) f p q r =
-      ap leaf (leaves_alike v l m f (type_no_region _ (admitted_type _ p)) (type_no_region _ (admitted_type _ q)) r)
+      ap leaf (leaves_alike v l m f (type_no_region _ (type_only _ p)) (type_no_region _ (type_only _ q)) r)
   types_alike v (node h ts) (node k us) f p q r =
       ap (λ z. node (outer_head z) nil) (forms_agree v h k ts us f r).same
-  types_alike v (leaf l) (node k us) f p q r = leaf_form v l k us f (type_no_region _ (admitted_type _ p)) r
-  types_alike v (node h ts) (leaf m) f p q r = form_leaf v h ts m f (type_no_region _ (admitted_type _ q)) r
+  types_alike v (leaf l) (node k us) f p q r = leaf_form v l k us f (type_no_region _ (type_only _ p)) r
+  types_alike v (node h ts) (leaf m) f p q r = form_leaf v h ts m f (type_no_region _ (type_only _ q)) r
   types_alike v (bind ks t) b f p q r = absurd p
   types_alike v nil b f p q r = absurd p
   types_alike v (cons t ts) b f p q r = absurd p

@@ -57,11 +57,6 @@ found_pair v g h ps found =
     let first = and_parts (ghosts.eq v (a.1).0) (g (a.1).1) both.0 in
     (a.1, (a.0, a.2, a.3), variance_is v (a.1).0 first.0, first.1, both.1)
 
--- What holds anyway holds after a fault.
-pub on_err : {A F P : Type 0} (res : Result A F) → P → OnErr res P
-on_err (Ok x) h = tt
-on_err (Err f) h = h
-
 -- The relation of a context that has put a pair into its memory, or not.
 pub remembers : {Key Id Name A F : Type 0} (aliases : StructurallyRelateAliases) (j : ℕ) (ps qs : List (Pair Key))
     (gs : List (KeyedGoal Key (PredicateKey Key))) (c : Context Key Id Name) (v : Variance) (e : ParamEnvKey Key)

@@ -13,14 +13,16 @@ use Rattle.type_relations.specs.RegionTerms.{IsRegionTermHead, IsRegionTermLeaf,
 use Rattle.relation_semantics.specs.Agreeing.{IsFlexible, AreFlexible, IsLeftAside, Agree}
 use Rattle.relation_semantics.specs.Settings.{Settings}
 use Rattle.relation_semantics.specs.Errors.{outer_leaf, AreAlike, IsLeftToGoal}
-use Rattle.type_relations.proofs.Unifying.{kind_erased, atom_erased, kind_kept, erased_plain}
+use Rattle.type_relations.proofs.Unifying.{kind_erased, kind_kept, erased_plain}
 use Rattle.relation_semantics.proofs.Leaving.{opaque_is_alias, beside_is_opaque}
-use Rattle.type_relations.proofs.PartSizes.{one_size}
 use Rattle.relation_semantics.proofs.Agreeing.{agree_anything, agree_same}
 use Rattle.relation_semantics.proofs.Erased.{erase_region, erase_plain, no_error_atom}
 use Rattle.relation_semantics.proofs.Related.{no_region_head}
 use Rattle.relation_semantics.proofs.Standing.{term_sort_of}
 use Rattle.relation_semantics.proofs.Values.{fresh_later, some_placeholders, some_are_placeholders}
+use Rattle.relation_terms.proofs.Members.{size_positive}
+use Rattle.type_relations.proofs.Shapes.{IsNode, HasOneType, IsShaped, shaped}
+use Rattle.relation_terms.proofs.Erasing.{erased_atom}
 
 -- Such a form has a relation.
 related_head : (h : Head) → IsRegionTermHead h → IsRelatedHead h
@@ -37,53 +39,6 @@ related_head normalizes_to f = absurd f
 related_head (alias_relate d) f = absurd f
 related_head environment f = absurd f
 related_head h f = tt
-
--- A term, and no list.
-abbrev pub IsNode : Tree → Type 0
-IsNode nil = ⊥
-IsNode (cons t ts) = ⊥
-IsNode t = Unit {0}
-
--- The type of a value is one.
-abbrev pub HasOneType : Head → Tree → Type 0
-HasOneType value_type (cons t nil) = Unit {0}
-HasOneType value_type ts = ⊥
-HasOneType h ts = Unit {0}
-
--- The parts of a form are a list of terms, and a binder's body is a term.
-abbrev pub IsShaped : Tree → Type 0
-IsShaped (leaf l) = Unit {0}
-IsShaped (node h ts) = IsList ts × HasOneType h ts × IsShaped ts
-IsShaped (bind ks t) = IsNode t × IsShaped t
-IsShaped nil = Unit {0}
-IsShaped (cons t ts) = IsNode t × IsShaped t × IsShaped ts
-
-fits_one_type : (h : Head) (ts : Tree) → Fits (head_parts h) ts → HasOneType h ts
-fits_one_type value_type (cons t nil) f = tt
-fits_one_type value_type (cons t (leaf l)) f = f.1
-fits_one_type value_type (cons t (node h ts)) f = f.1
-fits_one_type value_type (cons t (bind ks u)) f = f.1
-fits_one_type value_type (cons t (cons u us)) f = f.1
-fits_one_type value_type ts f = f
-fits_one_type h ts f = tt
-
-head_row : (h : Head) → (ps : List Part) × (o : Option Part) × (head_parts h ≡ row ps o)
-head_row slice = (_, _, refl)
-head_row h = (_, _, refl)
-
--- What a tree of a shape is.
-abbrev pub Shaped : Shape → Tree → Type 0
-Shaped (one p) t = IsNode t × IsShaped t
-Shaped (row ps o) t = IsList t × IsShaped t
-
-pub shaped : (x : Shape) (t : Tree) → Fits x t → Shaped x t
-shaped (one (term_of s)) (leaf l) f = (tt, tt)
-shaped (one (term_of s)) (node h ts) f = let q = head_row h in let z = subst (λ x. Shaped x ts) q.2 (shaped (head_parts h) ts f.1) in (tt, (z.0, fits_one_type h ts f.1, z.1))
-shaped (one (binder_of s)) (bind ks t) f = (tt, shaped (one (term_of s)) t f)
-shaped (row [] o) nil f = (tt, tt)
-shaped (row [] (Some p)) (cons t ts) f = let a = shaped (one p) t f.0 in let b = shaped (row [] (Some p)) ts f.1 in (b.0, (a.0, a.1, b.1))
-shaped (row (p ∷ ps) o) (cons t ts) f = let a = shaped (one p) t f.0 in let b = shaped (row ps o) ts f.1 in (b.0, (a.0, a.1, b.1))
-shaped x t f = absurd f
 
 -- A variable-free region is such a term.
 region_atom : (x : Atom) → atom_sort x ≡ region_sort → IsFirstOrderAtom x
@@ -315,7 +270,7 @@ erase_sort (variable region_var n) = refl
 erase_sort (variable k n) = refl
 erase_sort (bound (bound_kind k m) d i) = kind_erased k _ refl
 erase_sort (placeholder (bound_kind k m) u n) = kind_erased k _ refl
-erase_sort (atom x) = atom_erased x
+erase_sort (atom x) = erased_atom x
 erase_sort unknown = refl
 
 pub leaf_outer : (l : Leaf) → (leaf_sort l ≡ region_sort → ⊥) → erase_leaf l ≡ outer_leaf l
@@ -417,7 +372,7 @@ erased_error x e = e
 
 erased_open_atom : (x : Atom) → IsFirstOrderAtom x → IsErrorAtom (erase_atom x) ⊎ (atom_sort (erase_atom x) ≡ region_sort) → atom_sort x ≡ region_sort
 erased_open_atom x r (inl e) = absurd (no_error_atom x (erased_error x e) r)
-erased_open_atom x r (inr s) = sym (atom_erased x) ∙ s
+erased_open_atom x r (inr s) = sym (erased_atom x) ∙ s
 
 erased_open : (l : Leaf) → IsRegionTermLeaf l → IsFlexible (leaf (erase_leaf l)) → leaf_sort l ≡ region_sort
 erased_open (variable k n) r o = absurd r
@@ -480,7 +435,7 @@ forms_back set c w e h k v xs ys q p p' rec r = parts_back set c w e h v xs ys p
 
 mutual
   back : (set : Settings) (n : ℕ) (c : Items) (w : Interpretation) (e : Tree) (v : Variance) (a b : Tree) → size a ≤ n → w.outlives ≡ None → IsNode a → IsNode b → IsShaped a → IsShaped b → IsRegionTerm a → IsRegionTerm b → Agree set c (at v) (erase a) (erase b) → Rel c w e (at v) a b
-  back set zero c w e v a b le all ta tb sa sb ra rb g = let p = one_size a in absurd (omega arith)
+  back set zero c w e v a b le all ta tb sa sb ra rb g = let p = size_positive a in absurd (omega arith)
   back set (suc n) c w e v (leaf l) (leaf m) le all ta tb sa sb ra rb (inl p) = set_aside set (leaf l) (leaf m) ra rb p
   back set (suc n) c w e v (leaf l) (leaf m) le all ta tb sa sb ra rb (inr (inl o)) = let z = open_regions l m ra rb o in regions z.0 z.1 (all_rule w v (leaf l) (leaf m) all)
   back set (suc n) c w e v (leaf l) (leaf m) le all ta tb sa sb ra rb (inr (inr p)) = leaves_related c w e v l m all (alike_erased l m p)
@@ -502,7 +457,7 @@ mutual
   back set (suc n) c w e v (bind ks a) (node k ys) le all ta tb sa sb ra rb g = mixed set (bind ks a) (node k ys) ra rb g (apart_forms (erase (bind ks a)) (erase (node k ys)) (λ o. o) (λ o. o) (λ q. cc))
 
   back_parts : (set : Settings) (n : ℕ) (c : Items) (w : Interpretation) (e : Tree) (h : Head) (i : ℕ) (v : Variance) (xs ys : Tree) → size xs ≤ n → w.outlives ≡ None → IsList xs → IsList ys → IsShaped xs → IsShaped ys → IsRegionTerm xs → IsRegionTerm ys → Agree set c (parts h i v) (erase xs) (erase ys) → Rel c w e (parts h i v) xs ys
-  back_parts set zero c w e h i v xs ys le all la lb sa sb ra rb g = let p = one_size xs in absurd (omega arith)
+  back_parts set zero c w e h i v xs ys le all la lb sa sb ra rb g = let p = size_positive xs in absurd (omega arith)
   back_parts set (suc n) c w e h i v nil nil le all la lb sa sb ra rb g = no_parts
   back_parts set (suc n) c w e h i v (cons a xs) (cons b ys) le all la lb sa sb ra rb g = next_part (back set n c w e (part_at c h i v) a b (omega arith) all sa.0 sb.0 sa.1 sb.1 ra.0 rb.0 g.0) (back_parts set n c w e h (suc i) v xs ys (omega arith) all la lb sa.2 sb.2 ra.1 rb.1 g.1)
   back_parts set (suc n) c w e h i v nil (cons b ys) le all la lb sa sb ra rb g = absurd cc

@@ -18,6 +18,7 @@ use Rattle.relation_semantics.specs.Steps.{IsLater, Taints}
 use Rattle.relation_semantics.proofs.Going.{later_itself}
 use Rattle.type_relations.specs.Combining.{TaintsAlone, KeepsKept}
 use Rattle.type_relations.specs.Emitting.{IsOver, WithContext, AddsGoals, KnowsPredicate, RegistersGoal, goals_in, with_goals}
+use Rattle.relation_semantics.proofs.Registered.{alias_is}
 
 -- What holds of whatever is there.
 pub if_some : {A : Type 0} (o : Option A) (P : A → Type 0) → ((x : A) → o ≡ Some x → P x) → IfSome o P
@@ -29,14 +30,11 @@ pub alias_relate_known : (e : AliasRelationDirection) (a b : Tree) → IsTrue (k
     IsTrue (known (alias_relate_predicate e a b))
 alias_relate_known e a b h k = and_from (known a) (known (cons b nil)) h (and_from (known b) true k refl)
 
-some_is : {x y : Tree} → Some x ≡ Some y → y ≡ x
-some_is e = cc
-
 pub alias_known : (v : Variance) (a b p : Tree) → alias_at v a b ≡ Some p → IsTrue (known a) → IsTrue (known b) →
     IsTrue (known p)
-alias_known Covariant a b p e h k = subst (λ z. IsTrue (known z)) (sym (some_is e)) (alias_relate_known Subtype a b h k)
-alias_known Contravariant a b p e h k = subst (λ z. IsTrue (known z)) (sym (some_is e)) (alias_relate_known Subtype b a k h)
-alias_known Invariant a b p e h k = subst (λ z. IsTrue (known z)) (sym (some_is e)) (alias_relate_known Equate a b h k)
+alias_known Covariant a b p e h k = subst (λ z. IsTrue (known z)) (sym (alias_is e)) (alias_relate_known Subtype a b h k)
+alias_known Contravariant a b p e h k = subst (λ z. IsTrue (known z)) (sym (alias_is e)) (alias_relate_known Subtype b a k h)
+alias_known Invariant a b p e h k = subst (λ z. IsTrue (known z)) (sym (alias_is e)) (alias_relate_known Equate a b h k)
 alias_known Bivariant a b p e h k = absurd cc
 
 -- Nothing was recorded.

@@ -34,8 +34,9 @@ use Rattle.relation_semantics.proofs.Full.{first_order_plain, full_never}
 use Rattle.relation_semantics.proofs.Building.{built_led, built_then, needs_led}
 use Rattle.relation_semantics.proofs.Answering.{may_itself, same_items, same_settings}
 use Rattle.relation_semantics.proofs.Composing.{steps_compose, values_still}
-use Rattle.relation_semantics.proofs.Opening.{two_rounds_relate, binder_kinds, binder_bodies}
+use Rattle.relation_semantics.proofs.Opening.{two_rounds_relate}
 use Rattle.relation_semantics.proofs.Passing.{passes_then, manner_then, stopped, asked_later, outcome_seen}
+use Rattle.relation_terms.proofs.Paths.{kinds_path, bind_path}
 use Rattle.relation_semantics.specs.Binders.{bound_by}
 
 -- Two binders.
@@ -80,8 +81,8 @@ two_rounds_variance v ks ls a b t u i j n =
 renamed : (P : List BoundKind → List BoundKind → Tree → Tree → Type 0) {ks ls ks' ls' : List BoundKind}
     {t u t' u' : Tree} → bind ks t ≡ bind ks' t' → bind ls u ≡ bind ls' u' → P ks ls t u → P ks' ls' t' u'
 renamed P {ks} {ls} {ks'} {ls'} {t} {u} {t'} {u'} p q h =
-    subst₂ (λ k l. P k l t' u') (binder_kinds p) (binder_kinds q)
-    (subst₂ (λ x y. P ks ls x y) (binder_bodies p) (binder_bodies q) h)
+    subst₂ (λ k l. P k l t' u') (kinds_path p) (kinds_path q)
+    (subst₂ (λ x y. P ks ls x y) (bind_path p) (bind_path q) h)
 
 -- The body of a binder is over the context's variables.
 body_context : (st : Store) (a : Tree) (ks : List BoundKind) (t : Tree) → a ≡ bind ks t → InContext st a →
@@ -226,7 +227,7 @@ module _ {Key Id Name : Type 0} where
   round_never {r} {q} added a b x y (first_round {ks} {ls} {t} {u} e o i j f) n =
       subst₂ (λ z w. NeverOne (at r.ambient) r.store z w) (sym i) (sym j)
       (λ w s sat one. (steps_compose (items_in r) r.kept.environment (second_opened ks ls r.ambient) (at r.ambient) r.store
-      q.store q.store r.goals added [] t u x y f).1 n w s sat (binder_kinds one, binder_bodies one))
+      q.store q.store r.goals added [] t u x y f).1 n w s sat (kinds_path one, bind_path one))
   round_never added a b x y (second_round e o i j f) n = absurd (omega (arith, e))
 
   round_refuses : {m : ℕ} {r q p : State Key Id Name} (M : Manners) (added : List Goal) (a b x y : Tree) →
@@ -380,11 +381,11 @@ module _ {Key Id Name : Type 0} where
 
         apart : NeverOne (at r.ambient) r.store (bind ks t) (bind ls u)
         apart w s sat one =
-            let z = f.keeps w s sat (binder_kinds one, binder_bodies one) in
+            let z = f.keeps w s sat (kinds_path one, bind_path one) in
             never w z.0 z.2.0 (
-              binder_kinds one,
+              kinds_path one,
               values_still r.store s z.0 t u z.1 (body_context r.store a ks t i' ina)
-                  (body_context r.store b ls u j' inb) (binder_bodies one),
+                  (body_context r.store b ls u j' inb) (bind_path one),
             )
 
     -- What relating its bodies did, after round 0.

@@ -29,32 +29,9 @@ use Rattle.type_relations.specs.Solving.{solver_manner}
 use Rattle.type_relations.proofs.Exactly.{read_pair, step_read, exact_read, apart_read}
 use Rattle.relation_semantics.specs.OneUniverse.{LeadsInUniverse}
 use Rattle.relation_semantics.proofs.OneUniverse.{reading_leads, led_then, led_keeps, led_binds, led_fewer}
+use Rattle.relation_semantics.proofs.AliasSteps.{free_entry}
 
 -- What is resolved shallowly to a variable is an unbound one.
-free_entry : (st : Store) (k : VarKind) (n : ℕ) → bound_term st k n ≡ None → entry_of st k n ≡ unbound
-free_entry st k n f = go (entry_of st k n) refl
-  where
-    go : (x : _) → entry_of st k n ≡ x → entry_of st k n ≡ unbound
-    go unbound q = q
-    go (bound_to u) q = absurd (let h = ap (entry_term k) q in cc (h, f))
-    go (same_as m) q = absurd (let h = ap (entry_term k) q in cc (h, f))
-
-pub shallow_free : (st : Store) (k : VarKind) (n : ℕ) (t : Tree) → t ≡ leaf (variable k n) → IsShallow st t →
-    entry_of st k n ≡ unbound
-shallow_free st k n t e (formed f) = absurd (subst IsFormed e f)
-shallow_free st k n t e (stays_bound q d i h) =
-    absurd (let z : leaf (bound q d i) ≡ leaf (variable k n) = sym h ∙ e in cc)
-shallow_free st k n t e (root j m d f) = free_entry st k n (subst₂ (λ i p. bound_term st i p ≡ None) same_kind same_number f)
-  where
-    both : leaf (variable j m) ≡ leaf (variable k n)
-    both = sym d ∙ e
-
-    same_kind : j ≡ k
-    same_kind = let h = both in cc
-
-    same_number : m ≡ n
-    same_number = let h = both in cc
-
 pub shallow_free_const : (st : Store) (n : ℕ) (t : Tree) → t ≡ leaf (variable const_var n) → IsShallowConst st t →
     entry_of st const_var n ≡ unbound
 shallow_free_const st n t e (no_variable o) = absurd (o const_var n e)

@@ -33,7 +33,7 @@ use Rattle.type_relations.specs.Solving.{KnowsGoals, solving_through, solver_man
 use Rattle.relation_semantics.proofs.Standing.{later_term}
 use Rattle.relation_semantics.proofs.Going.{goes_nowhere, goes_within}
 use Rattle.relation_semantics.proofs.Opened.{none_escapes, within_none}
-use Rattle.relation_semantics.proofs.Opening.{covariant_step, contravariant_step, unused_step}
+use Rattle.relation_semantics.proofs.Opening.{covariant_step, contravariant_step, unused_step, same_changes}
 use Rattle.type_relations.proofs.OverContext.{all_taken}
 use Rattle.type_relations.proofs.Solving.{held_grows, solver_passes}
 use Rattle.type_relations.proofs.OpeningBoth.{changes_made, opened_goes, body_scope, unused_stand_ins, bodies_error}
@@ -92,16 +92,6 @@ opens_neither Bivariant n d below s f = absurd (d refl)
 pub entered_keeps : (before after : Store) → ChangesNothing before after → (t : Tree) → IsTermIn before t →
     IsTermIn after t
 entered_keeps before after h t i = later_term before after (changes_made before after h) h.universe_stands t i
-
-same_changes : (st : Store) → ChangesNothing st st
-same_changes st = record {
-  same_entries = λ k. refl;
-  same_universes = λ k. refl;
-  same_constraints = refl;
-  universe_stands = omega arith;
-  taint_stands = λ h. h;
-  same_budget = refl;
-}
 
 module _ {Key Id Name : Type 0} where
   -- A known binder keeps its tree while the interner grows.

@@ -66,13 +66,8 @@ use Rattle.type_relations.proofs.OverContext.{standing, over_passes, all_taken}
 use Rattle.relation_semantics.specs.OneUniverse.{NamesTypesTo, HasOneUniverse, all_roots, StaysOf, LeadsInUniverse, BindsFewer}
 use Rattle.relation_semantics.proofs.OneUniverse.{binds_none, bound_fewer}
 use Rattle.type_relations.proofs.GeneralisingInOne.{instantiates_in_one}
+use Rattle.relation_semantics.proofs.Erased.{alias_not_first}
 use Rattle.type_relations.proofs.Binding.{no_region}
-
--- An alias is not first-order.
-pub alias_not_first : (t : Tree) → IsAlias t → IsFirstOrder t → ⊥
-alias_not_first (node (alias k d) ts) o f = f.0
-alias_not_first (node (unevaluated d) ts) o f = f.0
-alias_not_first t o f = o
 
 -- What a term comes to is a variable only where the term is one.
 variable_alone : (s : Assign) (t : Tree) (k : VarKind) (n : ℕ) → ((j : VarKind) (m : ℕ) → t ≡ leaf (variable j m) → ⊥) →

@@ -33,7 +33,7 @@ use Rattle.relation_semantics.proofs.Building.{built_parts}
 use Rattle.type_relations.proofs.Fronts.{fronted_agree}
 use Rattle.relation_semantics.proofs.AgreeingForms.{form_agrees}
 use Rattle.relation_semantics.proofs.Full.{parts_plain}
-use Rattle.type_relations.proofs.Unifying.{first_order_parts, first_order_normal, formed_looked_at, types_unify, answered_as, refused_as}
+use Rattle.type_relations.proofs.Unifying.{first_order_parts, formed_looked_at, types_unify, answered_as, refused_as}
 use Rattle.relation_semantics.specs.Headline.{IsFirstOrderPair}
 use Rattle.relation_semantics.specs.OneUniverse.{NamesTypesTo}
 use Rattle.relation_semantics.proofs.OneUniverse.{leaves_parts, keeps_binds, binds_as}
@@ -41,6 +41,7 @@ use Rattle.relation_semantics.proofs.OneParts.{related_head, parts_equal, const_
 use Rattle.type_relations.proofs.Handing.{ty_fault_known}
 use Rattle.type_relations.proofs.PartSizes.{weight_parts_most}
 use Rattle.relation_semantics.proofs.Answering.{same_items, may_itself}
+use Rattle.relation_semantics.proofs.Erased.{alias_not_first}
 
 -- The error of two parts of two types as the error of the types.
 module _ {Key Id Name : Type 0} (n p : Meaning Key Id Name) (e : Extends n p) (s : Sorted n) (a b : Tree)
@@ -193,7 +194,7 @@ module _ {Key Id Name : Type 0} {r q : State Key Id Name} (M : Manners) (v : Var
         (arg_tree q.meaning Y) (Err e) → ExactlyRelated {X = B} (M r.kept.settings) r.store p.store v a b (Err e)
     whole_type A B p e is_formed' g exact is pair =
         refused_as r.store p.store a b (parts_of a) (parts_of b)
-        (types_unify a b is_formed is_formed' (first_order_normal a pair.left) o)
+        (types_unify a b is_formed is_formed' (λ i. alias_not_first a i pair.left) o)
         (λ u. leaves_parts (NamesTypesTo u) a) (λ u. leaves_parts (NamesTypesTo u) b) A B e
         (fronted_fault (head_of a) v i (parts_of a) (parts_of b) (arg_tree q.meaning X) (arg_tree q.meaning Y) f lx ly ex
         ey A A p e are exact is (formed_looked_at a is_formed) (parts_pair r.store a b pair)
@@ -289,7 +290,7 @@ module _ {Key Id Name : Type 0} {r q : State Key Id Name} (M : Manners) (v : Var
     };
     exact = λ exact is pair.
         answered_as r.store q.store a b (parts_of a) (parts_of b)
-        (types_unify a b is_formed is_formed' (first_order_normal a pair.left) o)
+        (types_unify a b is_formed is_formed' (λ i. alias_not_first a i pair.left) o)
         (λ u. leaves_parts (NamesTypesTo u) a) (λ u. leaves_parts (NamesTypesTo u) b)
         (fronted_exactly (head_of a) v i (parts_of a) (parts_of b) are ea eb f exact is
         (formed_looked_at a is_formed) (parts_pair r.store a b pair));

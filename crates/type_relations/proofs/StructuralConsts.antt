@@ -40,7 +40,7 @@ use Rattle.relation_semantics.proofs.Agreeing.{agree_same, agree_flexible}
 use Rattle.relation_semantics.specs.Agreeing.{IsFlexible}
 use Rattle.relation_semantics.proofs.AgreeingForms.{const_agrees}
 use Rattle.relation_semantics.proofs.Full.{full_itself, const_parts_plain}
-use Rattle.type_relations.proofs.Unifying.{first_order_const_parts, first_order_no_error, const_looked_at, consts_unify, answered_as, refused_as}
+use Rattle.type_relations.proofs.Unifying.{first_order_const_parts, const_looked_at, consts_unify, answered_as, refused_as}
 use Rattle.relation_semantics.proofs.Roots.{exact_itself}
 use Rattle.type_relations.proofs.Unifying.{forms_not_unified, const_forms_not_unified, erased_sort}
 use Rattle.type_relations.proofs.Structural.{same_const_fault, consts_never}
@@ -49,6 +49,8 @@ use Rattle.type_relations.proofs.Comparing.{form_apart, const_form_apart, known_
 use Rattle.type_relations.proofs.Handing.{const_fault_known, AreOfTwoKinds, AtTop, at_top, value_top}
 use Rattle.type_relations.proofs.PartSizes.{weight_const_parts_most}
 use Rattle.relation_semantics.proofs.Answering.{same_items, may_itself, covariantly}
+use Rattle.relation_semantics.proofs.AliasOutcomes.{error_stays}
+use Rattle.relation_semantics.proofs.Erased.{error_not_first}
 
 -- The error of two parts of two constants as the error of the constants.
 module _ {Key Id Name : Type 0} (p : Meaning Key Id Name) (set : Settings) (js : Items) (at_v : Variance) (c d : ConstKey Key) (i : ℕ)
@@ -302,12 +304,8 @@ one_top type_sort x y t e d = e ∙ sym d
 one_top const_sort x y t e d = e ∙ sym d
 one_top k x y t e d = absurd t
 
--- No assignment changes an error, which agrees with all of its sort.
-error_stays : (s : Assign) (t : Tree) → IsError t → IsError (apply s t)
-error_stays s (leaf (atom x)) h = h
-error_stays s t h = absurd h
-
-error_flexible : (t : Tree) → IsError t → IsFlexible t
+-- An error agrees with all of its sort.
+pub error_flexible : (t : Tree) → IsError t → IsFlexible t
 error_flexible (leaf (atom x)) h = inl h
 error_flexible t h = absurd h
 
@@ -377,8 +375,8 @@ module _ {Key Id Name : Type 0} {X : Type 0} (M : Manners) (r : State Key Id Nam
         either (inr e) = inr (error_flexible b e)
 
         not_first : IsError a ⊎ IsError b → IsFirstOrderPair r.store a b → ⊥
-        not_first (inl e) pair = first_order_no_error a pair.left e
-        not_first (inr e) pair = first_order_no_error b pair.right e
+        not_first (inl e) pair = error_not_first a e pair.left
+        not_first (inr e) pair = error_not_first b e pair.right
 
     pub left_error : tree x ≡ a → IsTrue (known a) → IsError a → RelatedForms M r r v a b tree (Ok x)
     left_error answer known_a e = with_error (inl e) a answer known_a (may_itself M r v a)

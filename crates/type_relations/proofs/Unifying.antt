@@ -7,7 +7,7 @@ use Rattle.relation_terms.specs.Meaning.{Meaning}
 use Rattle.relation_terms.specs.declared.terms.keys.TyKey.{TyKey}
 use Rattle.relation_folds.specs.declared.error.TypeError.{TypeError}
 use Rattle.relation_semantics.specs.Errors.{AreAlikeLeaves, FormError, mutability, pointer_mutability, tuple_size, empty_tuple, as_many, alias_arguments, sorts}
-use Rattle.type_relations.proofs.Comparing.{list_of, parts_list, value_shape, no_value_variable, ConstsAlike, of_forms_alike}
+use Rattle.type_relations.proofs.Comparing.{list_of, parts_list, value_shape, no_value_variable, ConstsAlike, of_forms_alike, alike_heads}
 use Rattle.relation_semantics.specs.Errors.{ConstFormError, const_mismatch, operations}
 use Rattle.relation_terms.specs.declared.terms.keys.ConstKey.{ConstKey}
 use Rattle.relation_terms.specs.Heads.{Admits, region_var}
@@ -29,6 +29,7 @@ use Rattle.relation_folds.specs.declared.error.RelateFault.TheVariants.{Memory, 
 use Rattle.relation_semantics.specs.Lawful.{ExactResult}
 use Rattle.relation_semantics.specs.OneUniverse.{NamesTypesTo, KeepsUniverseOf}
 use Rattle.relation_semantics.proofs.OneUniverse.{keeps_as, binds_as, fewer_as}
+use Rattle.relation_terms.proofs.Erasing.{erased_atom}
 
 -- The parts of first-order terms are first-order.
 pub first_order_parts : (t : Tree) → IsFirstOrder t → IsFirstOrder (parts_of t)
@@ -47,18 +48,6 @@ first_order_const_parts (node (unevaluated d) ts) f = f.3
 first_order_const_parts (node (expression k) ts) f = f.3
 first_order_const_parts (node value (cons t (cons v nil))) f = first_order_branches v f.3.1.0
 first_order_const_parts c f = tt
-
--- They are neither aliases nor errors.
-pub first_order_normal : (t : Tree) → IsFirstOrder t → IsAlias t → ⊥
-first_order_normal (node (alias k d) ts) f a = f.0
-first_order_normal (node (unevaluated d) ts) f a = f.0
-first_order_normal t f a = a
-
-pub first_order_no_error : (t : Tree) → IsFirstOrder t → IsError t → ⊥
-first_order_no_error (leaf (atom type_error)) f e = f
-first_order_no_error (leaf (atom const_error)) f e = f
-first_order_no_error (leaf (atom x)) f e = e
-first_order_no_error t f e = e
 
 -- The forms that are related by their parts are looked at.
 looked_at : (h : Head) → head_sort h ≡ type_sort → IsLookedAt h
@@ -137,10 +126,6 @@ unified_leaves s x y f g e =
 no_form : (s : Assign) (x : Leaf) (h : Head) (ts : Tree) → IsFixed x × (leaf_sort x ≡ region_sort → ⊥) →
     Unifies s (leaf x) (node h ts) → ⊥
 no_form s x h ts f e = let z = sym (leaf_erased s x f.0 f.1) ∙ e in absurd (cc)
-
--- Unified types with forms are alike.
-pub alike_heads : (h k : Head) (ts us : Tree) → h ≡ k → AreAlike (node h ts) (node k us)
-alike_heads h k ts us e = ap (λ z. node (outer_head z) nil) e
 
 pub one_head : (s : Assign) (h k : Head) (ts us : Tree) → Unifies s (node h ts) (node k us) → h ≡ k
 one_head s h k ts us e = cc
@@ -254,18 +239,12 @@ pub kind_erased : (k : Kind) (l : Leaf) → leaf_sort l ≡ kind_sort k → leaf
 kind_erased region_kind l e = refl
 kind_erased k l e = e
 
-pub atom_erased : (x : Atom) → atom_sort (erase_atom x) ≡ atom_sort x
-atom_erased (early_region i n) = refl
-atom_erased (type_param i n) = refl
-atom_erased (const_param i n) = refl
-atom_erased x = refl
-
 pub erased_sort : (t : Tree) → sort_of (erase t) ≡ sort_of t
 erased_sort (leaf (variable region_var n)) = refl
 erased_sort (leaf (variable k n)) = refl
 erased_sort (leaf (bound (bound_kind k m) d i)) = kind_erased k (bound (bound_kind k m) d i) refl
 erased_sort (leaf (placeholder (bound_kind k m) u n)) = kind_erased k (placeholder (bound_kind k m) u n) refl
-erased_sort (leaf (atom x)) = atom_erased x
+erased_sort (leaf (atom x)) = erased_atom x
 erased_sort (leaf unknown) = refl
 erased_sort (node h ts) = refl
 erased_sort (bind ks t) = refl

@@ -11,11 +11,12 @@ use Rattle.relation_semantics.specs.Stores.{weight, resolved, InContext}
 use Rattle.relation_reference.specs.Tables.{store_of, IsLawful}
 use Rattle.relation_reference.specs.Remembering.{ComesTo}
 use Rattle.relation_reference.proofs.Grows.{store_grows}
-use Rattle.relation_reference.proofs.Remembering.{key_eq, came, remembers_on, on_ok}
+use Rattle.relation_reference.proofs.Remembering.{key_eq, came, remembers_on}
 use Rattle.relation_reference.proofs.Resolving.{lawful_now, part_was, part_in, part_falls, part_comes}
 use Rattle.relation_reference.proofs.Resolving.{done_none, done_next, done_all, whole_comes}
 use Rattle.relation_reference.proofs.Resolving.{unchanged_next, unchanged_all, whole_stays, weight_as}
 use Rattle.relation_reference.proofs.context.resolving.+resolve.Goals as goal
+use Rattle.relation_folds.proofs.Folding.{on_ok}
 
 pub resolve_inside-loop-i-init : goal.resolve_inside-loop-i-init
 resolve_inside-loop-i-init g t' c =
@@ -267,6 +268,6 @@ resolve_inside-returns-clause-remembers g t' c =
     let x = c.args.inner.now in
     let inv = c.loop-i.invariant in
     let n = g.I.Interner.meaning c.loop-i.cx in
-    on_ok c.with_parts.result (remembers_on (store_of n x) (store_of (g.I.Interner.meaning c.with_parts.new.cx) x)
+    on_ok c.with_parts.result _ (remembers_on (store_of n x) (store_of (g.I.Interner.meaning c.with_parts.new.cx) x)
     c.with_parts.ensures.grown (store_grows c.with_parts.ensures.grown x (lawful_now inv.grown x x c.requires.lawful refl))
     (key_eq g.I.Key.PartialEq.eq) c.loop-i.memory inv.remembers)

@@ -6,8 +6,9 @@ use Rattle.relation_terms.specs.Interning.{Sorted}
 use Rattle.relation_terms.proofs.Parts.{sort_known}
 use Rattle.relation_reference.specs.Tables.{store_of}
 use Rattle.relation_reference.proofs.Reading.{context_read}
-use Rattle.relation_reference.proofs.Resolving.{other_by_parts, shallow_by_parts, const_by_parts, some_sort}
+use Rattle.relation_reference.proofs.Resolving.{other_by_parts, shallow_by_parts, const_by_parts}
 use Rattle.relation_reference.proofs.context.resolving.shallow_part.Goals as goal
+use Rattle.relation_folds.proofs.Visiting.{has_sort}
 
 pub returns-in_default-clause-by_parts : goal.returns-in_default-clause-by_parts
 returns-in_default-clause-by_parts g c =
@@ -41,6 +42,6 @@ returns-in-Const-clause-by_parts g c =
     let m = g.I.Interner.meaning c.args.cx.now in
     let sorted : Sorted m = g.met.I.Interner.sorted c.args.cx.now in
     const_by_parts (store_of m c.args.inner.now) (m.const_ c.shallow_resolve_const.result)
-    (λ s. some_sort {Id = g.row.I-Id.Denot} (Const c.shallow_resolve_const.result)
+    (λ s. has_sort {Id = g.row.I-Id.Denot} (Const c.shallow_resolve_const.result)
     (sym (sort_known m sorted (Const c.shallow_resolve_const.result) c.shallow_resolve_const.ensures.sure) ∙ s))
     c.shallow_resolve_const.ensures.shallow

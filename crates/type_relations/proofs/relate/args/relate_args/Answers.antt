@@ -17,9 +17,10 @@ use Rattle.relation_semantics.proofs.Passing.{as_err, made_or_not}
 use Rattle.type_relations.proofs.Fronts.{Fronted, fronted_none, fronted_next}
 use Rattle.type_relations.proofs.Looping.{next_asked}
 use Rattle.type_relations.proofs.Arguments.{form_related, form_refused, form_stopped, args_related_head, args_looked_at}
-use Rattle.type_relations.proofs.Arguments.{args_first_order, args_complain, args_heads, are_list}
+use Rattle.type_relations.proofs.Arguments.{args_first_order, args_complain, args_heads}
 use Rattle.relation_semantics.proofs.Answering.{same_items, AreAnswers, answers_none, answers_next, answers_end, may_form, if_ok_both}
 use Rattle.type_relations.proofs.relate.args.relate_args.Goals as goal
+use Rattle.relation_terms.proofs.Members.{terms_list}
 
 pub loop-i-init : goal.loop-i-init
 loop-i-init g c =
@@ -36,8 +37,8 @@ loop-i-init g c =
       fronted = fronted_none g.R.TypeRelation.manner r h r.ambient ts us;
       counts = c.args_count_of-n.ensures.counts;
       are_parts = record {
-        left_list = are_list argument_sort ts (sorted.args c.args.a.now k.left_known);
-        right_list = are_list argument_sort us (sorted.args c.args.b.now k.right_known);
+        left_list = terms_list argument_sort ts (sorted.args c.args.a.now k.left_known);
+        right_list = terms_list argument_sort us (sorted.args c.args.b.now k.right_known);
         left_in = term_context r.store ts (in_parts r.store (node h ts) k.left_in);
         right_in = term_context r.store us (in_parts r.store (node h us) k.right_in);
       };

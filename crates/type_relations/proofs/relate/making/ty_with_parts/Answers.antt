@@ -5,9 +5,9 @@ use Rattle.relation_terms.specs.Parts.{part_tree, part_of_arg}
 use Rattle.relation_semantics.specs.Parts.{parts_of}
 use Rattle.relation_semantics.specs.Making.{over}
 use Rattle.relation_terms.proofs.Stays.{stays_same}
-use Rattle.type_relations.proofs.Making.{over_own}
 use Rattle.type_relations.proofs.AsParts.{args_as, fits_as, parts_as, over_as}
 use Rattle.type_relations.proofs.relate.making.ty_with_parts.Goals as goal
+use Rattle.relation_semantics.proofs.Parts.{over_itself}
 
 pub returns-then-are_its_parts : goal.returns-then-are_its_parts
 returns-then-are_its_parts g c =
@@ -16,7 +16,7 @@ returns-then-are_its_parts g c =
     record {
       extends = stays_same m;
       sure = c.requires.ty_known;
-      means = sym (over_own t) ∙ ap (over t) (sym (c.are_its_parts.ensures c.if-are_its_parts.true));
+      means = sym (over_itself t) ∙ ap (over t) (sym (c.are_its_parts.ensures c.if-are_its_parts.true));
     }
 
 pub with_parts-requires : goal.with_parts-requires

@@ -8,8 +8,9 @@ use Rattle.relation_reference.specs.Tables.{store_of}
 use Rattle.relation_reference.specs.Remembering.{vid_kind, vid_number}
 use Rattle.relation_reference.proofs.Clearing.{told_clear, told_stops, parts_clear_next, part_stops, whole_clear}
 use Rattle.relation_reference.proofs.Outside.{part_smaller}
-use Rattle.relation_reference.proofs.Resolving.{context_part, some_sort}
+use Rattle.relation_reference.proofs.Resolving.{context_part}
 use Rattle.relation_reference.proofs.context.variables.RefCtxt.+clearing.Goals as goal
+use Rattle.relation_folds.proofs.Visiting.{has_sort}
 
 pub are_parts_clear-is_clear-requires : goal.are_parts_clear-is_clear-requires
 are_parts_clear-is_clear-requires g t' c κs within =
@@ -81,5 +82,5 @@ are_parts_clear-returns-clause-tells g t' c =
     let end = c.loop-i.auto.i-end in
     let all : j ≡ count (parts_of t) = omega (arith, counted, test, end) in
     whole_clear (vid_kind c.args.target.now.vid) (vid_number c.args.target.now.vid) c.args.target.now.universe.0 j t
-    (λ s. some_sort p (sym (sort_known m sorted p c.requires.term_known) ∙ s)) c.parts_count-i-end.ensures.is_list all
+    (λ s. has_sort p (sym (sort_known m sorted p c.requires.term_known) ∙ s)) c.parts_count-i-end.ensures.is_list all
     (c.is_obstacle.ensures.is_not c.if-is_obstacle.false) c.loop-i.invariant.firsts_clear

@@ -13,19 +13,23 @@ use Rattle.relation_semantics.specs.Stores.{InContext}
 use Rattle.relation_semantics.specs.Generalising.{any_part, new_part, variance_of_part, MakesUnbound, makes_none, makes_one}
 use Rattle.relation_semantics.proofs.Generalising.{gives_no_number}
 use Rattle.relation_semantics.proofs.NewVariables.{adds, makes_then}
-use Rattle.relation_semantics.proofs.Lists.{firsts, firsts_more, firsts_all, snoc, list_push, push_known}
+use Rattle.relation_semantics.proofs.Lists.{firsts, firsts_more, firsts_all, snoc, list_push}
 use Rattle.relation_reference.specs.Tables.{store_of}
 use Rattle.relation_reference.specs.Remembering.{vid_kind, vid_number}
 use Rattle.relation_reference.proofs.Recalling.{met_eq, sure_grows}
-use Rattle.relation_reference.proofs.Resolving.{not_type, some_sort, over_itself, context_part}
+use Rattle.relation_reference.proofs.Resolving.{not_type, context_part}
 use Rattle.relation_reference.proofs.Grows.{store_grows, lawful_grows}
 use Rattle.relation_reference.specs.Generalises.{side_of, new_kind, BecomesAlways}
 use Rattle.relation_reference.proofs.Clearing.{ty_eq, clear_grows, told_gives_way, alias_sort}
 use Rattle.relation_reference.specs.RefCtxt.{store_in}
 use Rattle.relation_reference.proofs.Marking.{gives_type, marks_grow}
 use Rattle.relation_reference.proofs.Outside.{part_smaller}
-use Rattle.relation_reference.proofs.Generalising.{memory_answers, stops_cycle, stops_beyond, gives_answers, generalises_no_type, not_type_sort, went_none, went_next, went_stops, went_whole, made_context, recalled_answers, met_answers, fails_any, fails_on, fit_push, becomes_grows, alias_answers, none_kept}
+use Rattle.relation_reference.proofs.Generalising.{memory_answers, stops_cycle, stops_beyond, gives_answers, generalises_no_type, not_type_sort, went_none, went_next, went_stops, went_whole, made_context, recalled_answers, met_answers, fails_any, fails_on, becomes_grows, alias_answers, none_kept}
 use Rattle.relation_reference.proofs.context.variables.RefCtxt.+generalise.Goals as goal
+use Rattle.relation_terms.proofs.Members.{known_with_last}
+use Rattle.relation_folds.proofs.Members.{fit_next}
+use Rattle.relation_folds.proofs.Visiting.{has_sort}
+use Rattle.relation_semantics.proofs.Parts.{over_itself}
 
 pub generalise_new-next_for-requires-clause-has : goal.generalise_new-next_for-requires-clause-has
 generalise_new-next_for-requires-clause-has g t' c =
@@ -889,8 +893,8 @@ generalise_parts-loop-i-preserved g t' c =
       all = a.2;
       found = h.clear;
       sure = subst (λ ys. IsTrue (known (list_tree (part_tree o) ys))) (sym items)
-          (push_known (part_tree o) xs w (knows_as us (list_tree (part_tree o) xs) stay inv.sure) a.0);
-      fit = subst₂ (λ ys d. Fit ys (firsts d (parts_of t))) (sym items) (sym next) (fit_push w j (parts_of t) xs below inv.fit sort);
+          (known_with_last (part_tree o) xs w (knows_as us (list_tree (part_tree o) xs) stay inv.sure) a.0);
+      fit = subst₂ (λ ys d. Fit ys (firsts d (parts_of t))) (sym items) (sym next) (fit_next w j (parts_of t) xs below inv.fit sort);
       went = went_next eq m n o was now then al k i u sd v c.args.met.now c.loop-i.met c.generalise_part.new.met t c.requires.goes
           c.parts_count-i-end.ensures.is_list j below us inv.went inv.grown (part_tree n z) at
           (side_of c.parts_inside-within.result) c.parts_inside-within.ensures c.variance_of-at.result
@@ -929,7 +933,7 @@ generalise_parts-returns-then-same g t' c =
     let all : j ≡ count (parts_of t) = omega (arith, counted, test, end) in
     let sorted : Sorted m = g.met.I.Interner.sorted c.args.self.now.interner in
     let whole : firsts j (parts_of t) ≡ parts_of t = ap (λ d. firsts d (parts_of t)) all ∙ firsts_all (parts_of t) c.parts_count-i-end.ensures.is_list in
-    let became = went_whole eq m n was now al k i u sd v c.args.met.now c.loop-i.met (new_kind p) t j us c.requires.goes (λ s. some_sort p (sym (sort_known m sorted p c.requires.term_known) ∙ s))
+    let became = went_whole eq m n was now al k i u sd v c.args.met.now c.loop-i.met (new_kind p) t j us c.requires.goes (λ s. has_sort p (sym (sort_known m sorted p c.requires.term_known) ∙ s))
     c.parts_count-i-end.ensures.is_list all c.requires.stays inv.went in
     record {
       lawful = inv.lawful;
@@ -1083,7 +1087,7 @@ generalise_parts-returns g t' c =
     let all : j ≡ count (parts_of t) = omega (arith, counted, test, end) in
     let sorted : Sorted m = g.met.I.Interner.sorted c.args.self.now.interner in
     let whole : firsts j (parts_of t) ≡ parts_of t = ap (λ d. firsts d (parts_of t)) all ∙ firsts_all (parts_of t) c.parts_count-i-end.ensures.is_list in
-    let became = went_whole eq m n was now al k i u sd v c.args.met.now c.loop-i.met (new_kind p) t j us c.requires.goes (λ s. some_sort p (sym (sort_known m sorted p c.requires.term_known) ∙ s))
+    let became = went_whole eq m n was now al k i u sd v c.args.met.now c.loop-i.met (new_kind p) t j us c.requires.goes (λ s. has_sort p (sym (sort_known m sorted p c.requires.term_known) ∙ s))
     c.parts_count-i-end.ensures.is_list all c.requires.stays inv.went in
     let h = c.in_ok-with_parts.ensures in
     let o = meaning c.with_parts.new.cx in

@@ -4,8 +4,9 @@ use Rattle.relation_terms.specs.Trees.{leaf}
 use Rattle.type_relations.specs.Combining.{equated, left_bound, right_bound, ty_variable}
 use Rattle.type_relations.specs.NumberVars.{number_kind, number_of}
 use Rattle.type_relations.proofs.Combining.{is_number_kind}
-use Rattle.type_relations.proofs.Shallowly.{shallow_free, variable_made}
+use Rattle.type_relations.proofs.Shallowly.{variable_made}
 use Rattle.type_relations.proofs.relate.combine.meeting.meet_tys.Goals as goal
+use Rattle.relation_semantics.proofs.AliasSteps.{shallow_free}
 
 pub equate_numbers-requires-clause-a_unresolved : goal.equate_numbers-requires-clause-a_unresolved
 equate_numbers-requires-clause-a_unresolved g c =

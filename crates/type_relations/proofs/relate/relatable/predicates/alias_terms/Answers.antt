@@ -6,9 +6,9 @@ use Rattle.relation_terms.specs.Predicates.{alias_term_kind, alias_term_id, alia
 use Rattle.relation_folds.specs.declared.error.RelateFault.TheVariants.{Unrelated}
 use Rattle.relation_semantics.specs.Lawful.{Related}
 use Rattle.relation_semantics.proofs.Passing.{as_err, refused_again, retold}
-use Rattle.type_relations.proofs.Arguments.{are_list}
 use Rattle.type_relations.proofs.Items.{items_differ, asked_over}
 use Rattle.type_relations.proofs.relate.relatable.predicates.alias_terms.Goals as goal
+use Rattle.relation_terms.proofs.Members.{terms_list}
 
 pub returns-in_err-compare_alias_terms_of-clause-related : goal.returns-in_err-compare_alias_terms_of-clause-related
 returns-in_err-compare_alias_terms_of-clause-related g c =
@@ -26,8 +26,8 @@ returns-in_err-compare_alias_terms_of-clause-related g c =
     subst (Related M r r r.ambient (alias_term_tree m a) (alias_term_tree m b) (alias_term_tree m)) (sym failed)
     (items_differ M r r.ambient (alias_term_tree m) (alias_term (alias_term_kind a.kind) (m.id (alias_term_id a.kind))) (alias_term (alias_term_kind b.kind) (m.id (alias_term_id b.kind)))
     (m.args a.args) (m.args b.args) n.field-0.0 c.requires.decides (λ xs o. o) (λ xs o. o)
-    (are_list argument_sort (m.args a.args) (sorted.args a.args k.left_known))
-    (are_list argument_sort (m.args b.args) (sorted.args b.args k.right_known)) (n.ensures).errors)
+    (terms_list argument_sort (m.args a.args) (sorted.args a.args k.left_known))
+    (terms_list argument_sort (m.args b.args) (sorted.args b.args k.right_known)) (n.ensures).errors)
 
 pub relate_args-requires-clause-asked : goal.relate_args-requires-clause-asked
 relate_args-requires-clause-asked g c =

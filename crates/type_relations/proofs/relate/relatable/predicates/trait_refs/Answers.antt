@@ -6,9 +6,9 @@ use Rattle.relation_terms.specs.Predicates.{trait_ref_tree}
 use Rattle.relation_folds.specs.declared.error.RelateFault.TheVariants.{Unrelated}
 use Rattle.relation_semantics.specs.Lawful.{Related}
 use Rattle.relation_semantics.proofs.Passing.{as_err, refused_again, retold}
-use Rattle.type_relations.proofs.Arguments.{are_list}
 use Rattle.type_relations.proofs.Items.{items_differ, asked_over}
 use Rattle.type_relations.proofs.relate.relatable.predicates.trait_refs.Goals as goal
+use Rattle.relation_terms.proofs.Members.{terms_list}
 
 pub returns-in_err-compare_trait_refs_of : goal.returns-in_err-compare_trait_refs_of
 returns-in_err-compare_trait_refs_of g c =
@@ -26,8 +26,8 @@ returns-in_err-compare_trait_refs_of g c =
     subst (Related M r r r.ambient (trait_ref_tree m a) (trait_ref_tree m b) (trait_ref_tree m)) (sym failed)
     (items_differ M r r.ambient (trait_ref_tree m) (trait_ref (m.id (a.def_id).0)) (trait_ref (m.id (b.def_id).0))
     (m.args a.args) (m.args b.args) n.field-0.0 c.requires.decides (λ xs o. o) (λ xs o. o)
-    (are_list argument_sort (m.args a.args) (sorted.args a.args k.left_known))
-    (are_list argument_sort (m.args b.args) (sorted.args b.args k.right_known)) (n.ensures).errors)
+    (terms_list argument_sort (m.args a.args) (sorted.args a.args k.left_known))
+    (terms_list argument_sort (m.args b.args) (sorted.args b.args k.right_known)) (n.ensures).errors)
 
 pub relate_args-requires-clause-asked : goal.relate_args-requires-clause-asked
 relate_args-requires-clause-asked g c =

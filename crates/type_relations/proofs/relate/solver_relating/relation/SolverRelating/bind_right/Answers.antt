@@ -9,7 +9,7 @@ use Rattle.relation_semantics.specs.declared.relate.Step.TheVariants.{Done, Agai
 use Rattle.relation_semantics.specs.AliasGoals.{alias_at}
 use Rattle.relation_semantics.specs.Parts.{IsFormed}
 use Rattle.relation_semantics.specs.Lawful.{Stepped, items_of}
-use Rattle.relation_semantics.proofs.Passing.{as_err, invariantly}
+use Rattle.relation_semantics.proofs.Passing.{as_err}
 use Rattle.relation_semantics.proofs.Registered.{goals_stay}
 use Rattle.type_relations.specs.Emitting.{RegistersGoal}
 use Rattle.type_relations.specs.Solving.{held_by, solving, solving_through, solver_manner, KnowsGoals}
@@ -20,6 +20,7 @@ use Rattle.type_relations.proofs.GeneralisingErrors.{cycle_error}
 use Rattle.type_relations.proofs.Solving.{held_grows, decides_back, ty_sorted, as_solving, from_solving, solver_with, still_lawful}
 use Rattle.type_relations.proofs.SolvingVariables.{bound_later, refused_later, right_step, right_refused, right_asks, right_unasked as right_unasked_step, type_comes_to_none}
 use Rattle.type_relations.proofs.relate.solver_relating.relation.SolverRelating.bind_right.Goals as goal
+use Rattle.relation_semantics.proofs.Erased.{xform_invariant}
 
 pub returns-in_err-bound-clause-stepped : goal.returns-in_err-bound-clause-stepped
 returns-in_err-bound-clause-stepped g c =
@@ -117,7 +118,7 @@ returns-in_err-register_alias_relate_predicate-clause-stepped g c =
     (right_unasked_step was L K still s d h.grows.extends sound (g.met.Infcx.InferCtxtLike.numbers r.infcx.now c.requires.lawful.0.0)
     (g.met.Infcx.InferCtxtLike.bound_by_lists c.instantiate_ty_var_raw.new.self h.grows.lawful) n m t u k.left_taken.1 k.left_in
     k.left_known (ty_sorted of c.args.a.now ((g.met.Infcx.Interner.Interner.sorted cx).ty c.args.a.now) k.left_known)
-    c.xform-variance.result (λ e. c.xform-variance.ensures ∙ invariantly Contravariant e) i.0 i.1 u_is came.0 came.1 p asked.0 made IsFormed (e.meaning).ty)
+    c.xform-variance.result (λ e. c.xform-variance.ensures ∙ xform_invariant _ Contravariant e) i.0 i.1 u_is came.0 came.1 p asked.0 made IsFormed (e.meaning).ty)
 
 pub returns-in_err-register_alias_relate_predicate-clause-combines :
     goal.returns-in_err-register_alias_relate_predicate-clause-combines
@@ -201,7 +202,7 @@ returns-in-Some-clause-stepped g c =
     (sym c.requires.b_is) (right_asks was L K still s d h.grows.extends sound (g.met.Infcx.InferCtxtLike.numbers r.infcx.now c.requires.lawful.0.0)
     (g.met.Infcx.InferCtxtLike.bound_by_lists c.instantiate_ty_var_raw.new.self h.grows.lawful) n m t u k.left_taken.1 k.left_in
     k.left_known (ty_sorted of c.args.a.now ((g.met.Infcx.Interner.Interner.sorted cx).ty c.args.a.now) k.left_known)
-    c.xform-variance.result (λ e. c.xform-variance.ensures ∙ invariantly Contravariant e) i.0 i.1 u_is came.0 came.1 p asked.0 made IsFormed (e.meaning).ty c.args.a.now asked.1
+    c.xform-variance.result (λ e. c.xform-variance.ensures ∙ xform_invariant _ Contravariant e) i.0 i.1 u_is came.0 came.1 p asked.0 made IsFormed (e.meaning).ty c.args.a.now asked.1
     (made.extends.ty c.args.a.now (subst (λ y. IsTrue (known y)) (sym (h.grows.extends.ty c.args.a.now k.left_known)) k.left_known) ∙ h.grows.extends.ty c.args.a.now k.left_known))
 
 pub returns-in-Some-clause-combines : goal.returns-in-Some-clause-combines
@@ -279,7 +280,7 @@ returns-clause-stepped g c =
     (g.met.Infcx.InferCtxtLike.numbers r.infcx.now c.requires.lawful.0.0)
     (g.met.Infcx.InferCtxtLike.bound_by_lists q h.grows.lawful) n t ((d.meaning).ty z) k.left_taken.1 k.left_in
     k.left_known (ty_sorted of c.args.a.now ((g.met.Infcx.Interner.Interner.sorted cx).ty c.args.a.now) k.left_known)
-    c.xform-variance.result (λ e. c.xform-variance.ensures ∙ invariantly Contravariant e) h.instantiates.0 h.instantiates.1 IsFormed c.args.a.now c.args.b.now
+    c.xform-variance.result (λ e. c.xform-variance.ensures ∙ xform_invariant _ Contravariant e) h.instantiates.0 h.instantiates.1 IsFormed c.args.a.now c.args.b.now
     c.args.a.now z c.args.a.now (d.meaning).ty (λ e. c.requires.a_is) t_stays root_stays t_stays refl (inr t_stays)))
 
 pub returns-clause-combines : goal.returns-clause-combines

@@ -1,7 +1,8 @@
 use Rattle.relation_terms.specs.Heads.{type_var}
 use Rattle.type_relations.specs.Stepping.{two_variables, no_ty_variables}
-use Rattle.type_relations.proofs.Shallowly.{shallow_free, variable_made}
+use Rattle.type_relations.proofs.Shallowly.{variable_made}
 use Rattle.type_relations.proofs.relate.solver_relating.relation.SolverRelating.combine_tys.Goals as goal
+use Rattle.relation_semantics.proofs.AliasSteps.{shallow_free}
 
 pub combine_ty_vars-requires-clause-a_unresolved : goal.combine_ty_vars-requires-clause-a_unresolved
 combine_ty_vars-requires-clause-a_unresolved g c =

@@ -1,6 +1,7 @@
 use Rattle.std.proofs.Common.{ap}
-use Rattle.type_relations.proofs.Recalling.{on_err, remembers}
+use Rattle.type_relations.proofs.Recalling.{remembers}
 use Rattle.type_relations.proofs.relate.solver_relating.relation.SolverRelating.remember.Goals as goal
+use Rattle.relation_folds.proofs.Folding.{on_err}
 
 pub returns-in_err-insert : goal.returns-in_err-insert
 returns-in_err-insert g c =
@@ -8,7 +9,7 @@ returns-in_err-insert g c =
     remembers r.structurally_relate_aliases r.infcx.ghost_name r.cache.kept c.insert.new.self.kept r.goals.items
     (g.Infcx.InferCtxtLike.state r.infcx.now) r.ambient_variance r.param_env
     (r.ambient_variance, c.args.a.now, c.args.b.now) c.from_residual.result c.requires c.in_err-insert.ensures.members
-    (on_err c.from_residual.result (ap (λ d. d.kept) c.in_err-insert.ensures.err))
+    (on_err c.from_residual.result _ (ap (λ d. d.kept) c.in_err-insert.ensures.err))
 
 pub returns : goal.returns
 returns g c =
