@@ -5,7 +5,7 @@ use Rattle.std.proofs.lemmas.List.{length-map, get_or-map}
 use Rattle.relation_reference.specs.declared.context.inner.Variable.{Variable}
 use Rattle.relation_reference.specs.declared.context.inner.VariableValue.{VariableValue}
 use Rattle.relation_reference.specs.declared.context.inner.VariableValue.TheVariants.{Unknown, SameAs, Known}
-use Rattle.relation_reference.specs.Variables.{keys_of, values_of, universes_of, universe_at, root_by, root_at, led, led_variable, LeadsDown}
+use Rattle.relation_reference.specs.Variables.{keys_of, values_of, universes_of, universe_at, root_by, led, led_variable, LeadsDown}
 
 -- The front of a list that a function leaves as it is.
 front_stays : {A : Type 0} (f : A → A) (n : ℕ) (xs : List A) → ((i : ℕ) (x : A) → i < n → i < length xs → f (get_or xs i x) ≡ get_or xs i x) →
