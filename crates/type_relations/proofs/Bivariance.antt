@@ -1,5 +1,5 @@
 -- Bivariant arguments that are left open.
-use Rattle.std.proofs.Common.{◌≡◌, ◌⊎◌, ◌↔◌, ℕ, suc, ◌<◌, refl, sym, ap, ap₂, ◌∙◌, arith, inl, inr, subst, subst₂, ⊎_elim, Bool, false, List, IsTrue, Result, Ok, Err}
+use Rattle.std.proofs.Common.{◌≡◌, ◌⊎◌, ◌↔◌, ℕ, suc, ◌<◌, refl, sym, ap, ◌∙◌, arith, inl, inr, subst, subst₂, ⊎_elim, Bool, false, List, IsTrue, Result, Ok, Err}
 use Rattle.std.proofs.lemmas.Bool.{false≢true, or_cases}
 use Rattle.relation_terms.specs.declared.terms.ids.DefId.{DefId}
 use Rattle.relation_terms.specs.declared.terms.keys.ArgsKey.{ArgsKey}
@@ -14,7 +14,7 @@ use Rattle.relation_semantics.specs.Relation.{Items}
 use Rattle.type_relations.specs.Arguments.{AreOverItem, adts, functions}
 use Rattle.type_relations.specs.Bivariance.{is_left_open, IsOpenAt, HasOpenArgument, TellsOpen, TellsEitherOpen, RegistersWellFormed, AsksWellFormed, AsksOfOver}
 use Rattle.type_relations.specs.Keyed.{AreOver}
-use Rattle.relation_semantics.specs.Lawful.{State, declared_by, items_of, items_in}
+use Rattle.relation_semantics.specs.Lawful.{State, items_of, items_in}
 use Rattle.relation_semantics.specs.Goals.{Goal, HasBivariantPart}
 use Rattle.relation_semantics.specs.Stores.{Store, entry_term, resolved, IsSound, IsTermIn}
 use Rattle.relation_semantics.proofs.Building.{built_nth, resolved_built}
