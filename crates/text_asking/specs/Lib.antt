@@ -5,5 +5,6 @@ pub mod Meets
 pub mod Puts
 pub mod Skips
 pub mod Roots
+pub mod Counts
 pub use Rattle.text_needs.specs.Binding
 pub use Rattle.text_needs.specs.Needs

@@ -10,6 +10,7 @@ use Rattle.relation_folds.specs.declared.visit.Visit.{Visit}
 use Rattle.relation_folds.specs.declared.visit.Visit.TheVariants.{Enter, Skip, Stop}
 use Rattle.relation_folds.specs.Visits.{Flow, Walks}
 use Rattle.relation_terms.specs.Equality.{same_tree}
+use Rattle.text_asking.specs.Args.{same_arg}
 
 -- One of the things is the same as another.
 abbrev pub is_in : {T : Type 0} → (T → T → Bool) → List T → T → Bool
@@ -23,6 +24,11 @@ answer_at same skip stop t = cond (is_in same skip t) Skip (cond (is_in same sto
 -- The same of the term of that number, from 1 on: the visit stops at the last that an answer has room for.
 abbrev pub answer_to : {T : Type 0} → (T → T → Bool) → List T → List T → ℕ → T → Visit
 answer_to same skip stop n t = cond (n == 349526) Stop (answer_at same skip stop t)
+
+-- What a visitor answers at a term that it collects, by the terms that it has then; but where a growth was refused.
+abbrev pub AnswersAt : {X : Type 0} → (X → X → Bool) → Collects X → Collects X → GenericArgKind X → Visit → Type 0
+AnswersAt same v w t a =
+    w.refused ≡ false → a ≡ answer_to (same_arg same) v.skip.now v.stop.now (length w.terms.items) t
 
 -- From the trees that the visitor was asked about so far to those that it was asked about then, with its answer.
 abbrev pub Meets : List Tree → List Tree → List Tree → ℕ → Tree → List Tree → Visit → Type 0

@@ -38,6 +38,6 @@ class_binding x Const n = bound_in arg.Const x.consts.items n
 class_binding x Region n = None
 
 -- Two variables are of one kind, with one root.
-pub record AreOne {Key : Type 0} (x : InferCtxtInner Key) (a b : VariableId) : Type 0 where
+pub record AreOneVariable {Key : Type 0} (x : InferCtxtInner Key) (a b : VariableId) : Type 0 where
   pub kind : a.kind ≡ b.kind
   pub root : class_root x a.kind a.number ≡ class_root x b.kind b.number

@@ -1,7 +1,8 @@
 //! What a relation leaves is counted.
-ghost use Rattle.std.specs.Prelude.{◌≡◌, ◌++◌, codes, IfOk, OnOk, length};
-ghost use Rattle.std.specs.Fmt.{WritesInCalls, decimal};
+ghost use Rattle.std.specs.Prelude.{◌≡◌, IfOk, OnOk, length};
+ghost use Rattle.std.specs.Fmt.{WritesInCalls};
 ghost use Rattle.std.specs.Set.{distinct_count};
+ghost use Rattle.text_asking.specs.Counts.{counts_text};
 
 use relation_reference::context::RefCtxt;
 use relation_terms::terms::Interner;
@@ -25,8 +26,7 @@ fn count_different<T: Copy + Eq + Hash + Drop>(
 
 // Writes how many there are, and how many different ones.
 fn write_counts<W: Write>(all: usize, different: usize, out: &mut W) -> fmt::Result
-    ensures { OnOk result (WritesInCalls W.write_str_gives out.old
-        (decimal all ++ (codes " | " ++ decimal different)) out.new) }
+    ensures { OnOk result (WritesInCalls W.write_str_gives out.old (counts_text all different) out.new) }
 {
     write!(out, "{all} | {different}")
 }

@@ -5,7 +5,7 @@ ghost use Rattle.relation_terms.specs.Meaning.{Extends, arg_tree};
 ghost use Rattle.relation_reference.specs.Tables.{IsLawful};
 ghost use Rattle.relation_reference.specs.Variables.{root_at, value_at};
 ghost use Rattle.text_asking.specs.Asking.{HasNamed};
-ghost use Rattle.text_asking.specs.Roots.{AreOne, bound_by, class_binding, class_root};
+ghost use Rattle.text_asking.specs.Roots.{AreOneVariable, bound_by, class_binding, class_root};
 
 use crate::context::have_variable;
 use crate::question::Unasked;
@@ -81,7 +81,7 @@ pub(super) fn ask_one<I: Interner>(
     requires { IsLawful (I.meaning ctx.old.interner) ctx.old.inner }
     ensures lawful { IsLawful (I.meaning ctx.new.interner) ctx.new.inner }
     ensures grown { Extends (I.meaning ctx.old.interner) (I.meaning ctx.new.interner) }
-    ensures one { IfOk result (λ one. IsTrue one ↔ AreOne ctx.new.inner first second) }
+    ensures one { IfOk result (λ one. IsTrue one ↔ AreOneVariable ctx.new.inner first second) }
 {
     let Ok(()) = have_variable(ctx, first) else {
         return Err(Unasked::Memory);

@@ -4,7 +4,7 @@ ghost use Rattle.relation_terms.specs.Trees.{known};
 ghost use Rattle.relation_terms.specs.Meaning.{arg_tree};
 ghost use Rattle.relation_folds.specs.Visits.{Walks};
 ghost use Rattle.text_asking.specs.Args.{same_arg};
-ghost use Rattle.text_asking.specs.Meets.{is_in, answer_to, AllKnown, Asks, IsMet, flow};
+ghost use Rattle.text_asking.specs.Meets.{is_in, AnswersAt, AllKnown, Asks, IsMet, flow};
 
 use crate::comparing::same_arg;
 use relation_folds::visit::{TypeVisitable, TypeVisitor, Visit};
@@ -47,7 +47,7 @@ fn is_in<X: Copy + PartialEq>(terms: &[GenericArgKind<X>], term: GenericArgKind<
 }
 
 impl<'a, X: Copy + PartialEq> Collects<'a, X> {
-    ghost use Rattle.std.specs.Prelude.{◌++◌, ◌∷◌, false, length};
+    ghost use Rattle.std.specs.Prelude.{◌++◌, ◌∷◌, false};
 
     // What is answered at a term.
     fn meet(&mut self, term: GenericArgKind<X>) -> Visit
@@ -55,8 +55,7 @@ impl<'a, X: Copy + PartialEq> Collects<'a, X> {
         ensures stop { self.new.stop ≡ self.old.stop }
         ensures kept { self.new.refused ≡ false → self.old.refused ≡ false }
         ensures met { self.new.refused ≡ false → self.new.terms.items ≡ self.old.terms.items ++ term ∷ [] }
-        ensures answer { self.new.refused ≡ false → result ≡
-            answer_to (same_arg X.eq) self.old.skip.now self.old.stop.now (length self.new.terms.items) term }
+        ensures answer { AnswersAt X.eq self.old self.new term result }
     {
         if self.terms.push(term).is_err() {
             self.refused = true;

@@ -19,7 +19,7 @@ use Rattle.relation_elaboration.proofs.Taking.{begins_by, too_many_by}
 use Rattle.text_elaboration.specs.declared.pulls.Manner.{Manner}
 use Rattle.text_elaboration.specs.declared.pulls.Pulled.{Pulled}
 use Rattle.text_elaboration.specs.declared.pulls.Pulled.TheVariants as pulled
-use Rattle.text_elaboration.specs.Pulls.{KnowsPulled, AnswersOne, Answers, Goes, Elaborates, most}
+use Rattle.text_elaboration.specs.Pulls.{KnowsPulled, AnswersOne, Answers, AnswersBegun, Elaborates, most}
 
 module _ {Key Id Name : Type 0} {m n : Meaning Key Id Name} (e : Extends m n) where
   pub pulled_stays : (p : Pulled Key Id) → KnowsPulled m p → KnowsPulled n p
@@ -107,7 +107,7 @@ module _ {I Key Id Name : Type 0} (meaning : I → Meaning Key Id Name) where
       t.fault ≡ result_err r → IfOk r (λ a. Takes meaning (λ m c. m.clause c) given s t) →
       (r ≡ Err Limit → HasNoRoom meaning (λ m c. m.clause c) given s) →
       u ≡ record t { mode = mode_of (t.mode.only_self || manner.only_self) (t.mode.sized || manner.sized) } →
-      Goes meaning r u ps v → Elaborates meaning first given manner ps
+      AnswersBegun meaning r u ps v → Elaborates meaning first given manner ps
   elaborates first given manner (Err f) s t u v ps same stack visited limit mode free keeps fault takes full is goes =
       inr (
         too_many_by meaning (λ m c. m.clause c) first s given (most manner) same visited limit free

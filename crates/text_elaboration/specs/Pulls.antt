@@ -18,7 +18,7 @@ use Rattle.relation_elaboration.specs.Runs.{Standing, AreTooMany, IsDistinct}
 use Rattle.relation_elaboration.specs.Statements.{statements}
 use Rattle.relation_elaboration.specs.Pulling.{Elaboration, Pulls, BeginsWith, mode_of}
 use Rattle.relation_elaboration.specs.Finding.{FindsNext, FindsAll, FindsClosed}
-use Rattle.relation_elaboration.specs.Reach.{Reaching, Reaches, Goes as GoesOn, number, numbers}
+use Rattle.relation_elaboration.specs.Reach.{Reaching, Reaches, Goes, number, numbers}
 use Rattle.text_elaboration.specs.declared.pulls.Pulled.{Pulled}
 use Rattle.text_elaboration.specs.declared.pulls.Pulled.TheVariants as pulled
 use Rattle.text_elaboration.specs.declared.pulls.Manner.{Manner}
@@ -118,10 +118,10 @@ module _ {I Key Id Name : Type 0} (meaning : I → Meaning Key Id Name) where
   Answers s (p ∷ ps) t = (u : Elaboration I (ClauseKey Key) Key Name) × AnswersOne s p u × Answers u ps t
 
   -- The same of an elaboration that took up what it was to; else that the limit is met.
-  abbrev pub Goes : {T : Type 0} → Result T ElabFault → Elaboration I (ClauseKey Key) Key Name →
+  abbrev pub AnswersBegun : {T : Type 0} → Result T ElabFault → Elaboration I (ClauseKey Key) Key Name →
       List (Pulled Key Id) → Elaboration I (ClauseKey Key) Key Name → Type 0
-  Goes (Ok a) s ps t = Answers s ps t
-  Goes (Err f) s ps t = (f ≡ fault.Limit) × (ps ≡ pulled.Limit ∷ [])
+  AnswersBegun (Ok a) s ps t = Answers s ps t
+  AnswersBegun (Err f) s ps t = (f ≡ fault.Limit) × (ps ≡ pulled.Limit ∷ [])
 
   -- What the pulls of an elaboration of these predicates answer that begins with them, in a manner.
   pub record IsElaborated (first : I) (given : List (ClauseKey Key)) (manner : Manner) (ps : List (Pulled Key Id)) :
@@ -165,4 +165,4 @@ module _ {I Key Id Name : Type 0} (meaning : I → Meaning Key Id Name) where
 
   -- From one state of going through traits to another by a call of which that is told.
   abbrev pub ReachesOne : Reaching I → Pulled Key Id → Reaching I → Type 0
-  ReachesOne s p t = (r : Option (Result (TraitId Id) OutOfMemory)) × GoesOn meaning s r t × (told_trait r ≡ Some p)
+  ReachesOne s p t = (r : Option (Result (TraitId Id) OutOfMemory)) × Goes meaning s r t × (told_trait r ≡ Some p)

@@ -6,7 +6,7 @@ ghost use Rattle.relation_terms.specs.Trees.{known};
 ghost use Rattle.relation_terms.specs.Meaning.{Meaning, Extends};
 ghost use Rattle.relation_terms.specs.Owned.{bound_tree};
 ghost use Rattle.relation_elaboration.specs.Pulling.{mode_of};
-ghost use Rattle.text_elaboration.specs.Pulls.{KnowsPulled, AnswersOne, Answers, Goes, Elaborates, most, is_last};
+ghost use Rattle.text_elaboration.specs.Pulls.{KnowsPulled, AnswersOne, Answers, AnswersBegun, Elaborates, most, is_last};
 ghost use Rattle.text_elaboration.specs.Pulls.{FindsOne, FindsUpTo, WentOn, AnswersSupertraits, ReachesOne, AreReached};
 ghost use Rattle.text_elaboration.specs.Pulls.{sign_text};
 
@@ -164,7 +164,7 @@ fn pull_begun<I: Interner>(
     ensures same_reference { elaborator.new.reference ≡ elaborator.old.reference }
     ensures grown { Extends (I.meaning elaborator.old.cx) (I.meaning elaborator.new.cx) }
     ensures sure { IfOk result (λ all. All (KnowsPulled (I.meaning elaborator.new.cx)) all.items) }
-    ensures answers { IfOk result (λ all. Goes I.meaning begun elaborator.old all.items elaborator.new) }
+    ensures answers { IfOk result (λ all. AnswersBegun I.meaning begun elaborator.old all.items elaborator.new) }
 {
     let alloc = elaborator.cx().alloc();
     match begun {

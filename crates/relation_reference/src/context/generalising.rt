@@ -91,7 +91,7 @@ fn stays_if(stays: bool) -> Fate
 }
 
 // What the type became at the variance on the side, if it was met before.
-fn recall<I: Interner>(
+fn recall_type<I: Interner>(
     cx: &I,
     ty: &Ty<I>,
     inside: bool,
@@ -118,7 +118,7 @@ fn recall<I: Interner>(
 }
 
 // Keeps what the type became at the variance on the side.
-fn keep<I: Interner>(
+fn keep_type<I: Interner>(
     cx: &I,
     ty: &Ty<I>,
     inside: bool,
@@ -336,11 +336,11 @@ impl<I: Interner> RefCtxt<I> {
         let Part::Ty(ty) = term else {
             return self.generalise_new(term, inside, variance, target, met, clear);
         };
-        if let Some(became) = recall(&self.interner, ty, inside, variance, met) {
+        if let Some(became) = recall_type(&self.interner, ty, inside, variance, met) {
             return Ok(Part::Ty(became));
         }
         let became = self.generalise_new(term, inside, variance, target, met, clear)?;
-        keep(&self.interner, ty, inside, variance, the_ty(&became), met)?;
+        keep_type(&self.interner, ty, inside, variance, the_ty(&became), met)?;
         Ok(became)
     }
 

@@ -46,7 +46,7 @@ fn key_of<X: Copy, D: Copy>(part: &Part<X, D>) -> Option<PartKey<X>>
 }
 
 // What the part was resolved to, if it was met before. `inner` is what the parts were resolved by.
-pub(crate) fn recall<I: Interner>(
+pub(crate) fn recall_resolved<I: Interner>(
     cx: &I,
     inner: &InferCtxtInner<I::Key>,
     part: &PartOf<I>,
@@ -63,7 +63,7 @@ pub(crate) fn recall<I: Interner>(
 }
 
 // Keeps what the part was resolved to.
-pub(crate) fn keep<I: Interner>(
+pub(crate) fn keep_resolved<I: Interner>(
     cx: &I,
     inner: &InferCtxtInner<I::Key>,
     part: &PartOf<I>,

@@ -1,7 +1,7 @@
 //! The keys of the integer and float types, which a context makes once.
 ghost use Rattle.std.specs.Prelude.{◌≡◌, ◌≢◌, ◌<◌, IfOk, get_or, map};
 ghost use Rattle.relation_terms.specs.Trees.{nil};
-ghost use Rattle.relation_terms.specs.Meaning.{Extends, kind_tree};
+ghost use Rattle.relation_terms.specs.Meaning.{Meaning, Extends, kind_tree};
 ghost use Rattle.relation_terms.specs.declared.terms.ty_kind.IntVarValue.TheVariants.{Unknown};
 ghost use Rattle.relation_terms.specs.declared.terms.ty_kind.FloatVarValue.TheVariants.{Unknown as UnknownFloat};
 ghost use Rattle.relation_semantics.specs.NumberValues.{int_value_tree, float_value_tree};
@@ -14,11 +14,10 @@ use relation_terms::terms::{
 const NUMBERS: usize = 16;
 
 // The form of the number type at a place.
-fn number_kind<I: Interner>(cx: &I, place: usize) -> TyForm<I>
+fn number_kind<I: Interner>(place: usize) -> TyForm<I>
     requires { place < 16 }
-    ensures { kind_tree (I.meaning cx.now) result ≡ get_or number_trees place nil }
+    ensures { (m : Meaning I.Key I.Id I.Name) → kind_tree m result ≡ get_or number_trees place nil }
 {
-    let _ = cx;
     match place {
         0 => TyKind::Int(IntTy::Isize),
         1 => TyKind::Int(IntTy::I8),
@@ -46,7 +45,7 @@ pub(crate) fn number_keys<I: Interner>(interner: &mut I) -> Result<Vec<Ty<I>>, O
 {
     let mut keys = Vec::new(interner.alloc());
     for place in 0..NUMBERS {
-        let kind = number_kind(interner, place);
+        let kind = number_kind::<I>(place);
         let key = interner.mk_ty(kind)?;
         keys.push(key)?;
     }

@@ -10,7 +10,7 @@ ghost use Rattle.relation_reference.specs.Tables.{IsLawful};
 ghost use Rattle.relation_reference.specs.RefCtxt.{store_in, const_term};
 ghost use Rattle.relation_reference.specs.Answers.{HasNoBinding};
 ghost use Rattle.relation_reference.specs.Answers.{IsBoundToTy, VarReadsAsTy, VarReadsAsConst, TyReadsAs, ConstReadsAs};
-ghost use Rattle.relation_reference.specs.Answers.{TyResolves, ConstResolves};
+ghost use Rattle.relation_reference.specs.Answers.{TyResolves, ConstResolves, TyStaysByLists, ConstStaysByLists};
 
 use crate::context::shallow::{
     const_of_var, shallow_resolve, shallow_resolve_const, ty_of_float_var, ty_of_int_var, ty_of_var,
@@ -138,8 +138,7 @@ impl<I: Interner> RefCtxt<I> {
         ensures reads { TyReadsAs (I.meaning self.now.interner) self.now.inner ty.now result }
         ensures resolves { TyResolves (I.meaning self.now.interner) self.now.inner ty.now result }
         ensures shallow { IsShallow (store_in I.meaning self.now) ((I.meaning self.now.interner).ty result) }
-        ensures by_lists { let m = I.meaning self.now.interner in
-            BindByLists (m.ty ty.now) → BindByLists (m.ty result) }
+        ensures by_lists { TyStaysByLists (I.meaning self.now.interner) ty.now result }
     {
         shallow_resolve(&self.interner, &self.inner, ty)
     }
@@ -153,8 +152,7 @@ impl<I: Interner> RefCtxt<I> {
         ensures reads { ConstReadsAs (I.meaning self.now.interner) self.now.inner constant.now result }
         ensures resolves { ConstResolves (I.meaning self.now.interner) self.now.inner constant.now result }
         ensures shallow { IsShallowConst (store_in I.meaning self.now) ((I.meaning self.now.interner).const_ result) }
-        ensures by_lists { let t = const_term I.meaning self.now in
-            BindByLists (t constant.now) → BindByLists (t result) }
+        ensures by_lists { ConstStaysByLists (I.meaning self.now.interner) constant.now result }
     {
         shallow_resolve_const(&self.interner, &self.inner, constant)
     }

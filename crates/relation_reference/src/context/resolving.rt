@@ -9,7 +9,7 @@ ghost use Rattle.relation_reference.specs.RefCtxt.{store_in, const_term};
 ghost use Rattle.relation_reference.specs.Remembering.{resolved_by, vid_tree, Caches, IsResolvedPart};
 ghost use Rattle.relation_reference.specs.Changes.{IsResolved};
 
-use crate::context::memory::{PartKey, Resolutions, TermVid, keep, recall};
+use crate::context::memory::{PartKey, Resolutions, TermVid, keep_resolved, recall_resolved};
 use crate::context::shallow::{shallow_resolve, shallow_resolve_const};
 use crate::context::{InferCtxtInner, RefCtxt};
 use relation_semantics::variable_forms::{const_vid, ty_vid};
@@ -88,11 +88,11 @@ pub(crate) fn resolve_part<I: Interner>(
     ensures resolves { IfOk result (λ t. IsResolvedPart I.meaning cx.old cx.new inner.now term.now t) }
 {
     let shallow = shallow_part(&*cx, inner, term);
-    if let Some(resolved) = recall(&*cx, inner, &shallow, memory) {
+    if let Some(resolved) = recall_resolved(&*cx, inner, &shallow, memory) {
         return Ok(resolved);
     }
     let resolved = resolve_inside(cx, inner, &shallow, memory)?;
-    keep(&*cx, inner, &shallow, resolved, memory)?;
+    keep_resolved(&*cx, inner, &shallow, resolved, memory)?;
     Ok(resolved)
 }
 

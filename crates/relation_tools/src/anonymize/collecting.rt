@@ -107,7 +107,7 @@ fn was_met<I: Interner>(
 }
 
 // Keeps a part at a depth, where all its variables were collected.
-fn keep<I: Interner>(
+fn keep_collected<I: Interner>(
     cx: &I,
     part: &PartOf<I>,
     depth: u128,
@@ -145,7 +145,7 @@ fn collect_part<I: Interner>(
         return Ok(());
     }
     collect_new(cx, part, depth, vars, met)?;
-    keep(cx, part, depth, vars, met)
+    keep_collected(cx, part, depth, vars, met)
 }
 
 // The same of a part that is met for the first time: a variable, or else what its own parts use.

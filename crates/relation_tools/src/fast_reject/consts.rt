@@ -24,10 +24,10 @@ pub fn consts_may_unify<I: Interner>(
     }
     let left = cx.const_kind(lhs);
     let right = cx.const_kind(rhs);
-    if is_flexible_const(cx, &right, sides.right) {
+    if is_flexible_const::<I>(&right, sides.right) {
         return true;
     }
-    if is_flexible_const(cx, &left, sides.left) {
+    if is_flexible_const::<I>(&left, sides.left) {
         return true;
     }
     let ConstKind::Value(_, left_value) = &left else {

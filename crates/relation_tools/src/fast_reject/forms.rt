@@ -1,7 +1,7 @@
 //! What the depth test reads of one outermost form: what it may stand for, and the depth inside it.
 ghost use Rattle.std.specs.Prelude.{◌≡◌, IsTrue};
 ghost use Rattle.relation_terms.specs.Trees.{known};
-ghost use Rattle.relation_terms.specs.Meaning.{kind_tree, infer_tree, const_tree};
+ghost use Rattle.relation_terms.specs.Meaning.{Meaning, kind_tree, infer_tree, const_tree};
 ghost use Rattle.relation_folds.specs.Clashes.{may_stand, is_integral, is_floating_point, flexible, depth_inside};
 ghost use Rattle.relation_folds.specs.Outlines.{stands};
 
@@ -103,10 +103,9 @@ pub fn may_stand_for<I: Interner>(
 }
 
 // Whether a constant may stand for any: a parameter does if `params`.
-pub fn is_flexible_const<I: Interner>(cx: &I, kind: &ConstForm<I>, params: bool) -> bool
-    ensures { result ≡ flexible params (const_tree (I.meaning cx.now) kind.now) }
+pub fn is_flexible_const<I: Interner>(kind: &ConstForm<I>, params: bool) -> bool
+    ensures { (m : Meaning I.Key I.Id I.Name) → result ≡ flexible params (const_tree m kind.now) }
 {
-    let _ = cx;
     match kind {
         ConstKind::Param(_) => params,
         ConstKind::Infer(InferConst::Var(_) | InferConst::Fresh(_)) => true,
@@ -120,10 +119,9 @@ pub fn is_flexible_const<I: Interner>(cx: &I, kind: &ConstForm<I>, params: bool)
 
 /// The depth that is left inside a type: behind an unsafe binder it begins again.
 #[inline(always)]
-pub fn depth_within<I: Interner>(cx: &I, kind: &TyForm<I>, depth: usize) -> usize
-    ensures { result ≡ depth_inside (kind_tree (I.meaning cx.now) kind.now) depth }
+pub fn depth_within<I: Interner>(kind: &TyForm<I>, depth: usize) -> usize
+    ensures { (m : Meaning I.Key I.Id I.Name) → result ≡ depth_inside (kind_tree m kind.now) depth }
 {
-    let _ = cx;
     match kind {
         TyKind::UnsafeBinder(_) => STARTING_DEPTH,
         _ => depth,

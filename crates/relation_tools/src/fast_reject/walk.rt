@@ -36,7 +36,7 @@ pub fn types_may_unify<I: Interner>(
     if let Some(may) = may_stand_for(cx, &left, sides.left, rhs) {
         return may;
     }
-    let inner = depth_within(cx, &left, depth - 1);
+    let inner = depth_within::<I>(&left, depth - 1);
     pair_may_unify(cx, sides, paired(cx, &left, &right), inner)
 }
 

@@ -23,11 +23,10 @@ use relation_terms::terms::{
 
 // Whether a part is met for the first time. A type and a constant are kept; of all else no account is kept.
 #[inline(always)]
-fn meet<I: Interner>(cx: &I, part: &PartOf<I>, visited: &mut Met<I>) -> Result<bool, OutOfMemory>
+fn meet<I: Interner>(part: &PartOf<I>, visited: &mut Met<I>) -> Result<bool, OutOfMemory>
     ensures { IfOk result (λ new.
         Keeps ⟦<GenericArgKind<I::Key> as PartialEq>⟧.eq (kept_of part.now) new visited.old.keys visited.new.keys) }
 {
-    let _ = cx;
     match part {
         Part::Ty(ty) => keep(visited, GenericArgKind::Ty(*ty)),
         Part::Const(constant) => keep(visited, GenericArgKind::Const(*constant)),
@@ -37,14 +36,12 @@ fn meet<I: Interner>(cx: &I, part: &PartOf<I>, visited: &mut Met<I>) -> Result<b
 
 // Adds a component.
 fn add<I: Interner>(
-    cx: &I,
     out: &mut Vec<ComponentOf<I>>,
     component: ComponentOf<I>,
 ) -> Result<(), OutOfMemory>
     ensures ok { OnOk result (out.new.items ≡ out.old.items ++ component ∷ []) }
     ensures err { OnErr result (out.new.items ≡ out.old.items) }
 {
-    let _ = cx;
     out.push(component)?;
     Ok(())
 }
@@ -61,7 +58,7 @@ fn collect_region<I: Interner>(
 {
     match cx.region_kind(region) {
         RegionKind::ReBound(..) => Ok(()),
-        _ => add(cx, out, Component::Region(*region)),
+        _ => add::<I>(out, Component::Region(*region)),
     }
 }
 
@@ -84,7 +81,7 @@ pub fn collect_part<I: Interner>(
         Part::Region(region) => collect_region(cx, region, out),
         Part::Ty(ty) => collect_type(cx, ty, out, visited),
         _ => {
-            let first = meet(cx, part, visited)?;
+            let first = meet::<I>(part, visited)?;
             if !first {
                 return Ok(());
             }
@@ -109,7 +106,7 @@ fn collect_type<I: Interner>(
     ensures meets { OnOk result (Meets (I.meaning cx.now) ⟦<GenericArgKind<I::Key> as PartialEq>⟧.eq
         visited.old.keys visited.new.keys out.new.items) }
 {
-    let first = meet(cx, &Part::Ty(*ty), visited)?;
+    let first = meet::<I>(&Part::Ty(*ty), visited)?;
     if !first {
         return Ok(());
     }
@@ -319,11 +316,11 @@ fn collect_form<I: Interner>(
         TyKind::CoroutineClosure(_, args) => collect_closure(cx, args, out, visited),
         TyKind::Coroutine(_, args) => collect_coroutine(cx, args, out, visited),
         TyKind::CoroutineWitness(..) => Ok(()),
-        TyKind::Param(param) => add(cx, out, Component::Param(*param)),
-        TyKind::Placeholder(placeholder) => add(cx, out, Component::Placeholder(*placeholder)),
-        TyKind::Infer(var) => add(cx, out, Component::UnresolvedInferenceVariable(*var)),
+        TyKind::Param(param) => add::<I>(out, Component::Param(*param)),
+        TyKind::Placeholder(placeholder) => add::<I>(out, Component::Placeholder(*placeholder)),
+        TyKind::Infer(var) => add::<I>(out, Component::UnresolvedInferenceVariable(*var)),
         TyKind::Alias(alias) if has_escaping_bound_vars(cx, ty) => collect_escaping(cx, alias, out),
-        TyKind::Alias(alias) => add(cx, out, Component::Alias(*alias)),
+        TyKind::Alias(alias) => add::<I>(out, Component::Alias(*alias)),
         _ => collect_members(cx, &ty_parts(&kind), &Chosen::Every, out, visited),
     }
 }
@@ -344,7 +341,7 @@ fn collect_escaping<I: Interner>(
 {
     let mut inside = Vec::new(cx.alloc());
     collect_alias_args(cx, alias, &mut inside)?;
-    add(cx, out, Component::EscapingAlias(inside))
+    add::<I>(out, Component::EscapingAlias(inside))
 }
 
 // Adds the components of the arguments of an alias, but of those that it is bivariant in.

@@ -46,7 +46,7 @@ impl<'a> Namer<'a> {
     }
 
     // What follows from predicates.
-    pub fn ask_elaborated(
+    pub fn note_elaborated(
         &mut self,
         node: &Node,
         only_self: bool,
@@ -55,7 +55,7 @@ impl<'a> Namer<'a> {
     ) -> Result<(), NameError> {
         let (clauses, counts) = self.split(node, parts)?;
         let clauses = self.clauses(node, clauses)?;
-        self.ask(QuestionKind::Elaborate {
+        self.note(QuestionKind::Elaborate {
             clauses,
             only_self,
             sized,
@@ -65,11 +65,11 @@ impl<'a> Namer<'a> {
     }
 
     // The supertraits of a trait that a predicate claims to be implemented.
-    pub fn ask_supertraits(&mut self, node: &Node, parts: &[usize]) -> Result<(), NameError> {
+    pub fn note_supertraits(&mut self, node: &Node, parts: &[usize]) -> Result<(), NameError> {
         let (clauses, counts) = self.split(node, parts)?;
         let clauses = self.clauses(node, clauses)?;
         self.each_implements(node, clauses)?;
-        self.ask(QuestionKind::Supertraits {
+        self.note(QuestionKind::Supertraits {
             clause: clauses.first,
             limit: counts.limit,
         })

@@ -21,7 +21,7 @@ impl<'a> Namer<'a> {
     }
 
     // What follows from terms that are assumed to outlive regions.
-    pub fn ask_assumptions(&mut self, node: &Node, parts: &[usize]) -> Result<(), NameError> {
+    pub fn note_assumptions(&mut self, node: &Node, parts: &[usize]) -> Result<(), NameError> {
         let first = self.program.parts.len();
         for number in parts {
             let (term, _) = self.assumed(node, *number)?;
@@ -41,6 +41,6 @@ impl<'a> Namer<'a> {
             first: middle,
             behind,
         };
-        self.ask(QuestionKind::Assumptions { terms, regions })
+        self.note(QuestionKind::Assumptions { terms, regions })
     }
 }

@@ -7,7 +7,7 @@ use crate::reading::{Form, Node, NodeKind, Relation};
 
 impl<'a> Namer<'a> {
     // Adds a question.
-    pub(super) fn ask(&mut self, kind: QuestionKind) -> Result<(), NameError> {
+    pub(super) fn note(&mut self, kind: QuestionKind) -> Result<(), NameError> {
         let variables = self.program.variables.len();
         self.program.questions.push(Question {
             kind,
@@ -22,7 +22,7 @@ impl<'a> Namer<'a> {
     }
 
     // Whether two types are related.
-    fn ask_related(
+    fn note_related(
         &mut self,
         node: &Node,
         relation: Relation,
@@ -31,7 +31,7 @@ impl<'a> Namer<'a> {
     ) -> Result<(), NameError> {
         let lhs = self.term(node, lhs, Some(Sort::Type))?;
         let rhs = self.term(node, rhs, Some(Sort::Type))?;
-        self.ask(QuestionKind::Relate {
+        self.note(QuestionKind::Relate {
             lhs: lhs.number,
             relation,
             rhs: rhs.number,
@@ -49,7 +49,7 @@ impl<'a> Namer<'a> {
     }
 
     // Which terms a visitor is asked about.
-    fn ask_visit(
+    fn note_visit(
         &mut self,
         node: &Node,
         term: usize,
@@ -60,7 +60,7 @@ impl<'a> Namer<'a> {
         let skip = self.listed(node, skip)?;
         let stop = self.listed(node, stop)?;
         let term = made.number;
-        self.ask(QuestionKind::Visit { term, skip, stop })
+        self.note(QuestionKind::Visit { term, skip, stop })
     }
 
     // A term and the one that is put for it, which is of its sort.
@@ -78,7 +78,7 @@ impl<'a> Namer<'a> {
     }
 
     // What comes of a term where others are put for its parts.
-    fn ask_fold(&mut self, node: &Node, parts: &[usize]) -> Result<(), NameError> {
+    fn note_fold(&mut self, node: &Node, parts: &[usize]) -> Result<(), NameError> {
         let Some((term, rest)) = parts.split_first() else {
             return Err(error_at(node, Wrong::NotRead));
         };
@@ -89,14 +89,14 @@ impl<'a> Namer<'a> {
             self.program.puts.push(put)?;
         }
         let behind = self.program.puts.len();
-        self.ask(QuestionKind::Fold {
+        self.note(QuestionKind::Fold {
             term: made.number,
             puts: Parts { first, behind },
         })
     }
 
     // What is asked about one term.
-    fn ask_about(&mut self, node: &Node, form: Form, term: usize) -> Result<(), NameError> {
+    fn note_about(&mut self, node: &Node, form: Form, term: usize) -> Result<(), NameError> {
         let sort = match form {
             Form::Components | Form::Rigid => Some(Sort::Type),
             _ => None,
@@ -109,11 +109,11 @@ impl<'a> Namer<'a> {
             Form::Rigid => QuestionKind::Rigid(term),
             _ => return Err(error_at(node, Wrong::NotRead)),
         };
-        self.ask(kind)
+        self.note(kind)
     }
 
     // The last question is asked in the context that the one before left.
-    fn ask_then(&mut self, node: &Node) -> Result<(), NameError> {
+    fn note_then(&mut self, node: &Node) -> Result<(), NameError> {
         let any = self.program.questions.len() > 1;
         match self.program.questions.last_mut() {
             Some(question) if any => {
@@ -125,7 +125,7 @@ impl<'a> Namer<'a> {
     }
 
     // The last question is asked that many times.
-    fn ask_again(&mut self, node: &Node, times: usize) -> Result<(), NameError> {
+    fn note_again(&mut self, node: &Node, times: usize) -> Result<(), NameError> {
         let repeat = self.count(node, times)?;
         if repeat == 0 {
             return Err(error_at(&self.node(node, times)?, Wrong::NoTime));
@@ -139,31 +139,31 @@ impl<'a> Namer<'a> {
     // A question, or a part of one.
     pub fn question(&mut self, node: &Node, form: Form, parts: &[usize]) -> Result<(), NameError> {
         match (form, parts) {
-            (Form::Question(relation), [lhs, rhs]) => self.ask_related(node, relation, *lhs, *rhs),
-            (Form::Visit, [term, skip, stop]) => self.ask_visit(node, *term, *skip, *stop),
-            (Form::Walk, _) => self.ask_walk(node, parts),
-            (Form::Assumptions, _) => self.ask_assumptions(node, parts),
-            (Form::Fold, _) => self.ask_fold(node, parts),
+            (Form::Question(relation), [lhs, rhs]) => self.note_related(node, relation, *lhs, *rhs),
+            (Form::Visit, [term, skip, stop]) => self.note_visit(node, *term, *skip, *stop),
+            (Form::Walk, _) => self.note_walk(node, parts),
+            (Form::Assumptions, _) => self.note_assumptions(node, parts),
+            (Form::Fold, _) => self.note_fold(node, parts),
             (Form::Components | Form::Escapes | Form::Infers | Form::Rigid, [term]) => {
-                self.ask_about(node, form, *term)
+                self.note_about(node, form, *term)
             }
             (Form::MayUnify(_) | Form::ArgsMayUnify(_) | Form::ArgsEqual | Form::Key(_), _) =>
-                self.ask_quickly(node, form, parts),
+                self.note_quickly(node, form, parts),
             (Form::Count(counted), [_]) => {
-                self.ask_count(counted);
+                self.note_count(counted);
                 Ok(())
             }
-            (Form::One, [first, second]) => self.ask_one(node, *first, *second),
-            (Form::Binding, [variable]) => self.ask_binding(node, *variable),
-            (Form::Then, [_]) => self.ask_then(node),
-            (Form::Repeat, [times, _]) => self.ask_again(node, *times),
+            (Form::One, [first, second]) => self.note_one(node, *first, *second),
+            (Form::Binding, [variable]) => self.note_binding(node, *variable),
+            (Form::Then, [_]) => self.note_then(node),
+            (Form::Repeat, [times, _]) => self.note_again(node, *times),
             (Form::Elaborate { only_self, sized }, _) => {
-                self.ask_elaborated(node, only_self, sized, parts)
+                self.note_elaborated(node, only_self, sized, parts)
             }
-            (Form::Supertraits, _) => self.ask_supertraits(node, parts),
+            (Form::Supertraits, _) => self.note_supertraits(node, parts),
             (Form::SupertraitIds, [name]) => {
                 let of = self.trait_of(node, *name)?;
-                self.ask(QuestionKind::SupertraitIds(of))
+                self.note(QuestionKind::SupertraitIds(of))
             }
             (Form::Terms | Form::Put | Form::Outlives | Form::Error, _) => Ok(()),
             (Form::Limit | Form::Pulls, _) => Ok(()),

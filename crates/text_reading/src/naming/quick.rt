@@ -7,7 +7,7 @@ use crate::reading::{Form, KeyParams, Node, NodeKind, SideParams};
 
 impl<'a> Namer<'a> {
     // Whether two types may unify.
-    fn ask_may_unify(
+    fn note_may_unify(
         &mut self,
         node: &Node,
         params: SideParams,
@@ -17,7 +17,7 @@ impl<'a> Namer<'a> {
     ) -> Result<(), NameError> {
         let lhs = self.term(node, lhs, Some(Sort::Type))?.number;
         let rhs = self.term(node, rhs, Some(Sort::Type))?.number;
-        self.ask(QuestionKind::MayUnify {
+        self.note(QuestionKind::MayUnify {
             params,
             lhs,
             rhs,
@@ -64,7 +64,7 @@ impl<'a> Namer<'a> {
     }
 
     // Whether two lists of arguments may unify.
-    fn ask_args_may_unify(
+    fn note_args_may_unify(
         &mut self,
         node: &Node,
         params: SideParams,
@@ -72,23 +72,23 @@ impl<'a> Namer<'a> {
         rhs: usize,
     ) -> Result<(), NameError> {
         let (lhs, rhs) = self.paired(node, lhs, rhs)?;
-        self.ask(QuestionKind::ArgsMayUnify { params, lhs, rhs })
+        self.note(QuestionKind::ArgsMayUnify { params, lhs, rhs })
     }
 
     // Whether two lists of arguments are related.
-    fn ask_args_related(&mut self, node: &Node, lhs: usize, rhs: usize) -> Result<(), NameError> {
+    fn note_args_related(&mut self, node: &Node, lhs: usize, rhs: usize) -> Result<(), NameError> {
         let (lhs, rhs) = self.paired(node, lhs, rhs)?;
-        self.ask(QuestionKind::RelateArgs { lhs, rhs })
+        self.note(QuestionKind::RelateArgs { lhs, rhs })
     }
 
     // The key of a type.
-    fn ask_key(&mut self, node: &Node, params: KeyParams, ty: usize) -> Result<(), NameError> {
+    fn note_key(&mut self, node: &Node, params: KeyParams, ty: usize) -> Result<(), NameError> {
         let ty = self.term(node, ty, Some(Sort::Type))?.number;
-        self.ask(QuestionKind::Key { params, ty })
+        self.note(QuestionKind::Key { params, ty })
     }
 
     // A question of a quick test, or about lists of arguments.
-    pub fn ask_quickly(
+    pub fn note_quickly(
         &mut self,
         node: &Node,
         form: Form,
@@ -96,17 +96,17 @@ impl<'a> Namer<'a> {
     ) -> Result<(), NameError> {
         match (form, parts) {
             (Form::MayUnify(params), [lhs, rhs]) => {
-                self.ask_may_unify(node, params, *lhs, *rhs, None)
+                self.note_may_unify(node, params, *lhs, *rhs, None)
             }
             (Form::MayUnify(params), [lhs, rhs, depth]) => {
                 let depth = self.count(node, *depth)?;
-                self.ask_may_unify(node, params, *lhs, *rhs, Some(depth))
+                self.note_may_unify(node, params, *lhs, *rhs, Some(depth))
             }
             (Form::ArgsMayUnify(params), [lhs, rhs]) => {
-                self.ask_args_may_unify(node, params, *lhs, *rhs)
+                self.note_args_may_unify(node, params, *lhs, *rhs)
             }
-            (Form::ArgsEqual, [lhs, rhs]) => self.ask_args_related(node, *lhs, *rhs),
-            (Form::Key(params), [ty]) => self.ask_key(node, params, *ty),
+            (Form::ArgsEqual, [lhs, rhs]) => self.note_args_related(node, *lhs, *rhs),
+            (Form::Key(params), [ty]) => self.note_key(node, params, *ty),
             _ => Err(error_at(node, Wrong::NotRead)),
         }
     }

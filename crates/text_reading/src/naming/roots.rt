@@ -8,7 +8,7 @@ use crate::reading::{Counted, Leaf, Node, NodeKind};
 
 impl<'a> Namer<'a> {
     // Of what the last question leaves that is counted.
-    pub fn ask_count(&mut self, counted: Counted) {
+    pub fn note_count(&mut self, counted: Counted) {
         if let Some(question) = self.program.questions.last_mut() {
             question.counts = Some(counted);
         }
@@ -32,15 +32,15 @@ impl<'a> Namer<'a> {
     }
 
     // Whether two variables are one.
-    pub fn ask_one(&mut self, node: &Node, first: usize, second: usize) -> Result<(), NameError> {
+    pub fn note_one(&mut self, node: &Node, first: usize, second: usize) -> Result<(), NameError> {
         let first = self.variable_id(node, first)?;
         let second = self.variable_id(node, second)?;
-        self.ask(QuestionKind::One(first, second))
+        self.note(QuestionKind::One(first, second))
     }
 
     // What a variable is bound to.
-    pub fn ask_binding(&mut self, node: &Node, variable: usize) -> Result<(), NameError> {
+    pub fn note_binding(&mut self, node: &Node, variable: usize) -> Result<(), NameError> {
         let variable = self.variable_id(node, variable)?;
-        self.ask(QuestionKind::Binding(variable))
+        self.note(QuestionKind::Binding(variable))
     }
 }

@@ -7,7 +7,7 @@ use crate::reading::Node;
 
 impl<'a> Namer<'a> {
     // What a walk of a term yields that skips after some pulls.
-    pub fn ask_walk(&mut self, node: &Node, parts: &[usize]) -> Result<(), NameError> {
+    pub fn note_walk(&mut self, node: &Node, parts: &[usize]) -> Result<(), NameError> {
         let Some((term, rest)) = parts.split_first() else {
             return Err(error_at(node, Wrong::NotRead));
         };
@@ -19,6 +19,6 @@ impl<'a> Namer<'a> {
         }
         let behind = self.program.skips.len();
         let skips = Parts { first, behind };
-        self.ask(QuestionKind::Walk { term, skips })
+        self.note(QuestionKind::Walk { term, skips })
     }
 }

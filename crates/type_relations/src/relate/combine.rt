@@ -109,7 +109,7 @@ pub trait PredicateEmittingRelation<Infcx: InferCtxtLike>: HasState<Infcx::Inter
 }
 
 // The variance that an item declares of its parameter at a place, to a context's interner.
-fn variance_of<Infcx: InferCtxtLike>(
+fn variance_in<Infcx: InferCtxtLike>(
     infcx: &Infcx,
     def_id: &ItemOf<Infcx::Interner>,
     i: usize,
@@ -120,14 +120,14 @@ fn variance_of<Infcx: InferCtxtLike>(
 }
 
 // The number of arguments of a list, and the one at a place.
-fn args_count_of<Infcx: InferCtxtLike>(infcx: &Infcx, args: &GenericArgs<Infcx::Interner>) -> usize
+fn args_count_in<Infcx: InferCtxtLike>(infcx: &Infcx, args: &GenericArgs<Infcx::Interner>) -> usize
     requires { IsTrue (known ((Infcx.state infcx.now).meaning.args args.now)) }
     ensures { result ≡ count ((Infcx.state infcx.now).meaning.args args.now) }
 {
     args_count(infcx.cx(), args)
 }
 
-fn arg_of<Infcx: InferCtxtLike>(
+fn arg_in<Infcx: InferCtxtLike>(
     infcx: &Infcx,
     args: &GenericArgs<Infcx::Interner>,
     i: usize,
@@ -180,10 +180,10 @@ fn has_open_argument<Infcx: InferCtxtLike>(
     ensures tells { let c = Infcx.state infcx.old in let m = c.meaning in
         TellsOpen (items_of m) c.store (m.id (def_id.now).0) (m.args args.now) result }
 {
-    let n = args_count_of(&*infcx, args);
+    let n = args_count_in(&*infcx, args);
     for i in 0..n {
-        if let Variance::Bivariant = variance_of(&*infcx, def_id, i) {
-            let arg = arg_of(&*infcx, args, i);
+        if let Variance::Bivariant = variance_in(&*infcx, def_id, i) {
+            let arg = arg_in(&*infcx, args, i);
             if is_left_open(infcx, &arg)? {
                 return Ok(true);
             }

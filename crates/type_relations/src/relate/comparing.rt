@@ -1,6 +1,8 @@
 //! Comparing the outermost forms of two terms.
 ghost use Rattle.std.specs.Prelude.{◌≡◌, ◌≢◌, ◌⊎◌, ◌↔◌, ◌<◌, IsTrue, IsFalse, OnOk, IfErr};
+ghost use Rattle.relation_terms.specs.Meaning.{const_tree};
 ghost use Rattle.relation_terms.specs.Trees.{known};
+ghost use Rattle.relation_terms.specs.declared.terms.const_kind.ConstKind.TheVariants.{Expr};
 ghost use Rattle.relation_semantics.specs.Errors.{FormError, ConstFormError, PatternError, AreOfOneForm, AreOfOneConst};
 ghost use Rattle.relation_semantics.specs.Errors.{AreOfOneValue, HaveNoError};
 ghost use Rattle.relation_folds.specs.declared.error.TypeError.TheVariants.{Sorts, TupleSize, ConstMismatch};
@@ -22,8 +24,8 @@ pub use bodies::{
 pub use items::{compare_alias_terms, compare_trait_refs};
 use relation_folds::error::{ExpectedFound, TypeError, TypeErrorOf};
 use relation_terms::terms::{
-    Const, ConstKind, Interner, Pat, PatternKind, Ty, TyKind, UnevaluatedConst, ValTree,
-    ValTreeKind,
+    Const, ConstForm, ConstKind, ExprKind, GenericArgs, Interner, Pat, PatternKind, Ty, TyKind,
+    UnevaluatedConst, ValTree, ValTreeKind,
 };
 
 /// Answers `Ok` where two types are of one outermost form, with as many parts, which are not compared. Parameters are
@@ -48,8 +50,8 @@ pub fn compare_tys<I: Interner>(cx: &I, a: &Ty<I>, b: &Ty<I>) -> Result<(), Type
     }
     let a_kind = cx.ty_kind(a);
     let b_kind = cx.ty_kind(b);
-    let left = outline_of(cx, &a_kind);
-    let right = outline_of(cx, &b_kind);
+    let left = outline_of::<I>(&a_kind);
+    let right = outline_of::<I>(&b_kind);
     if is_same_form(left.form, Form::Leaf) {
         return compare_leaves(cx, a, b);
     }
@@ -143,18 +145,7 @@ pub fn compare_consts<I: Interner>(cx: &I, a: &Const<I>, b: &Const<I>) -> Result
             }
             Ok(())
         }
-        ConstKind::Expr(kind, args) => {
-            let ConstKind::Expr(other_kind, other) = right else {
-                return Err(unlike_consts::<I>(a, b));
-            };
-            if kind != other_kind {
-                return Err(TypeError::Mismatch);
-            }
-            if cx.args(&args).len() != cx.args(&other).len() {
-                return Err(TypeError::Mismatch);
-            }
-            Ok(())
-        }
+        ConstKind::Expr(kind, args) => compare_expressions(cx, a, b, kind, &args, &right),
         ConstKind::Unevaluated(unevaluated) => {
             let ConstKind::Unevaluated(other) = right else {
                 return Err(unlike_consts::<I>(a, b));
@@ -165,6 +156,35 @@ pub fn compare_consts<I: Interner>(cx: &I, a: &Const<I>, b: &Const<I>) -> Result
             Ok(())
         }
     }
+}
+
+// The same of an expression and another constant, whose form is `right`.
+fn compare_expressions<I: Interner>(
+    cx: &I,
+    a: &Const<I>,
+    b: &Const<I>,
+    kind: ExprKind,
+    args: &GenericArgs<I>,
+    right: &ConstForm<I>,
+) -> Result<(), TypeErrorOf<I>>
+    requires a_known { IsTrue (known ((I.meaning cx.now).const_ a.now)) }
+    requires b_known { IsTrue (known ((I.meaning cx.now).const_ b.now)) }
+    requires a_form { (I.meaning cx.now).const_ a.now ≡ const_tree (I.meaning cx.now) (Expr kind args.now) }
+    requires b_form { (I.meaning cx.now).const_ b.now ≡ const_tree (I.meaning cx.now) right.now }
+    requires no_error { HaveNoError ((I.meaning cx.now).const_ a.now) ((I.meaning cx.now).const_ b.now) }
+    ensures alike { OnOk result (AreOfOneConst ((I.meaning cx.now).const_ a.now) ((I.meaning cx.now).const_ b.now)) }
+    ensures errors { IfErr result (ConstFormError (I.meaning cx.now) a.now b.now) }
+{
+    let ConstKind::Expr(other_kind, other) = right else {
+        return Err(unlike_consts::<I>(a, b));
+    };
+    if kind != *other_kind {
+        return Err(TypeError::Mismatch);
+    }
+    if cx.args(args).len() != cx.args(other).len() {
+        return Err(TypeError::Mismatch);
+    }
+    Ok(())
 }
 
 // Whether two unevaluated constants are of one item, with as many arguments.

@@ -1,7 +1,7 @@
 //! The outermost forms of types, as comparing tells them apart.
 ghost use Rattle.std.specs.Prelude.{◌≡◌, ◌↔◌, IsTrue};
 ghost use Rattle.relation_terms.specs.Trees.{known};
-ghost use Rattle.relation_terms.specs.Meaning.{kind_tree};
+ghost use Rattle.relation_terms.specs.Meaning.{Meaning, kind_tree};
 ghost use Rattle.relation_semantics.specs.Relation.{IsError};
 ghost use Rattle.relation_folds.specs.Outlines.{named};
 ghost use Rattle.type_relations.specs.Forms.{form_alone, of_item, of_pointer, named_outline, tree_outline, IsFixed};
@@ -69,10 +69,9 @@ fn item_outline<D: Copy>(form: Form, item: &D) -> Outline<D>
 }
 
 // What is compared of a type besides its parts.
-pub(crate) fn outline_of<I: Interner>(cx: &I, kind: &TyForm<I>) -> Outline<I::Id>
-    ensures { named_outline (I.meaning cx.now).id result ≡ tree_outline (kind_tree (I.meaning cx.now) kind.now) }
+pub(crate) fn outline_of<I: Interner>(kind: &TyForm<I>) -> Outline<I::Id>
+    ensures { (m : Meaning I.Key I.Id I.Name) → named_outline m.id result ≡ tree_outline (kind_tree m kind.now) }
 {
-    let _ = cx;
     match kind {
         TyKind::Adt(def, _) => item_outline(Form::Adt, &def.0),
         TyKind::FnDef(def, _) => item_outline(Form::FnDef, &def.0),

@@ -2,7 +2,7 @@ use Rattle.std.proofs.Common.{◌∙◌, sym, ap, subst, IfOk}
 use Rattle.std.specs.List.{All}
 use Rattle.relation_terms.specs.Meaning.{Extends}
 use Rattle.relation_terms.proofs.Stays.{extends_on}
-use Rattle.text_elaboration.specs.Pulls.{KnowsPulled, Goes, Elaborates}
+use Rattle.text_elaboration.specs.Pulls.{KnowsPulled, AnswersBegun, Elaborates}
 use Rattle.text_elaboration.proofs.PullLemmas.{both_modes, elaborates, if_ok}
 use Rattle.text_elaboration.proofs.pulls.elaborated.Goals as goal
 
@@ -44,7 +44,7 @@ returns-clause-answers g c =
     let u = c.pull_begun-all.new.elaborator in
     let new = c.new-elaborator.ensures in
     let took = c.extend_deduped-begun.ensures in
-    if_ok (λ all. Goes g.I.Interner.meaning r w all.items u)
+    if_ok (λ all. AnswersBegun g.I.Interner.meaning r w all.items u)
     (λ all. Elaborates g.I.Interner.meaning first given manner all.items) c.pull_begun-all.result
     (λ all goes. elaborates g.I.Interner.meaning first given manner r s t w u all.items new.same new.stack new.visited
     (new.limit ∙ c.limit.ensures) new.mode new.fault took.keeps took.fault took.takes took.limit

@@ -13,7 +13,7 @@ loop-place-init g c = record {
 }
 
 pub mk_ty-requires : goal.mk_ty-requires
-mk_ty-requires g c = subst (λ t. IsTrue (known t)) (sym c.number_kind-kind.ensures) (each_known number_trees refl c.loop-place.place)
+mk_ty-requires g c = subst (λ t. IsTrue (known t)) (sym (c.number_kind-kind.ensures (g.I.Interner.meaning c.loop-place.interner))) (each_known number_trees refl c.loop-place.place)
 
 pub loop-place-preserved : goal.loop-place-preserved
 loop-place-preserved g c =
@@ -22,5 +22,5 @@ loop-place-preserved g c =
     record {
       grown = extends_on c.loop-place.invariant.grown c.in_ok-key.ensures.grown;
       means = numbers_next c.in_ok-key.ensures.grown c.loop-place.keys.items c.push.new.self.items c.in_ok-key.key i (i + 1) below
-          (omega arith) c.loop-place.invariant.means (c.in_ok-key.ensures.made ∙ c.number_kind-kind.ensures) c.in_ok-push.ensures.items;
+          (omega arith) c.loop-place.invariant.means (c.in_ok-key.ensures.made ∙ c.number_kind-kind.ensures (g.I.Interner.meaning c.loop-place.interner)) c.in_ok-push.ensures.items;
     }

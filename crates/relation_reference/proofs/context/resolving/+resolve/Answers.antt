@@ -226,7 +226,7 @@ resolve_part-returns-in-Some g t' c =
     let m = g.I.Interner.meaning c.args.cx.now in
     let came_to : ComesTo m (store_of m c.args.inner.now) c.shallow_part-shallow.result c.in-Some.resolved =
     subst (λ o. IfSome o (ComesTo m (store_of m c.args.inner.now) c.shallow_part-shallow.result)) c.in-Some.is
-    c.recall.ensures in
+    c.recall_resolved.ensures in
     record {
       grown = stays_same m;
       remembers = c.requires.remembers;
@@ -251,8 +251,8 @@ resolve_part-resolve_inside-requires g t' c κs within =
     let by_parts = r.by_parts in
     search rules
 
-pub resolve_part-keep-requires : goal.resolve_part-keep-requires
-resolve_part-keep-requires g t' c =
+pub resolve_part-keep_resolved-requires : goal.resolve_part-keep_resolved-requires
+resolve_part-keep_resolved-requires g t' c =
     let r = c.in_ok-resolved.ensures in
     let s = c.shallow_part-shallow.ensures in
     record {

@@ -154,27 +154,27 @@ collect_part-collect_new-requires g t' c κs within =
     let r = c.requires.remembered in
     search rules
 
-pub collect_part-keep-requires-clause-collected : goal.collect_part-keep-requires-clause-collected
-collect_part-keep-requires-clause-collected g t' c =
+pub collect_part-keep_collected-requires-clause-collected : goal.collect_part-keep_collected-requires-clause-collected
+collect_part-keep_collected-requires-clause-collected g t' c =
     let m = g.I.Interner.meaning c.args.cx.now in
     let us = c.args.vars.now.items in
     let vs = uses c.args.depth (part_tree m c.args.part.now) in
     subst (λ z. AllIn z vs) (sym (c.deref-2.ensures.value ∙ c.in_ok-collect_new.ensures.collects)) (all_added vs us)
 
-pub collect_part-keep-requires-clause-remembered : goal.collect_part-keep-requires-clause-remembered
-collect_part-keep-requires-clause-remembered g t' c =
+pub collect_part-keep_collected-requires-clause-remembered : goal.collect_part-keep_collected-requires-clause-remembered
+collect_part-keep_collected-requires-clause-remembered g t' c =
     let m = g.I.Interner.meaning c.args.cx.now in
     subst (λ z. Remembered m z (place_eq g.I.Key.PartialEq.eq) c.collect_new.new.met.keys)
     (sym c.deref-2.ensures.value) c.in_ok-collect_new.ensures.kept
 
 pub collect_part-returns-clause-collects : goal.collect_part-returns-clause-collects
-collect_part-returns-clause-collects g t' c = ok_any c.keep.result c.in_ok-collect_new.ensures.collects
+collect_part-returns-clause-collects g t' c = ok_any c.keep_collected.result c.in_ok-collect_new.ensures.collects
 
 pub collect_part-returns-clause-kept : goal.collect_part-returns-clause-kept
 collect_part-returns-clause-kept g t' c =
     let m = g.I.Interner.meaning c.args.cx.now in
-    subst (λ z. OnOk c.keep.result (Remembered m z (place_eq g.I.Key.PartialEq.eq) c.keep.new.met.keys))
-    c.deref-2.ensures.value c.keep.ensures
+    subst (λ z. OnOk c.keep_collected.result (Remembered m z (place_eq g.I.Key.PartialEq.eq) c.keep_collected.new.met.keys))
+    c.deref-2.ensures.value c.keep_collected.ensures
 
 pub collect_new-returns-in_ok-inside-in-None-clause-kept : goal.collect_new-returns-in_ok-inside-in-None-clause-kept
 collect_new-returns-in_ok-inside-in-None-clause-kept g t' c = c.collect_list.ensures.kept

@@ -28,7 +28,7 @@ consts_may_unify-returns-then-is_flexible_const g t c =
     let b = m.const_ c.args.rhs.now in
     let ta = const_term a ((g.met.I.Interner.sorted c.args.cx.now).const_ c.args.lhs.now c.requires.lhs_known) in
     let tb = const_term b ((g.met.I.Interner.sorted c.args.cx.now).const_ c.args.rhs.now c.requires.rhs_known) in
-    let f = ap (flexible c.args.sides.right) c.const_kind-right.ensures ∙ sym c.is_flexible_const.ensures
+    let f = ap (flexible c.args.sides.right) c.const_kind-right.ensures ∙ sym (c.is_flexible_const.ensures m)
     ∙ c.if-is_flexible_const.true in
     passes (flexible_right c.args.sides.left c.args.sides.right c.args.depth a b const_sort refl ta tb f)
 
@@ -39,7 +39,7 @@ consts_may_unify-returns-then-is_flexible_const-2 g t c =
     let b = m.const_ c.args.rhs.now in
     let ta = const_term a ((g.met.I.Interner.sorted c.args.cx.now).const_ c.args.lhs.now c.requires.lhs_known) in
     let tb = const_term b ((g.met.I.Interner.sorted c.args.cx.now).const_ c.args.rhs.now c.requires.rhs_known) in
-    let f = ap (flexible c.args.sides.left) c.const_kind-left.ensures ∙ sym c.is_flexible_const-2.ensures
+    let f = ap (flexible c.args.sides.left) c.const_kind-left.ensures ∙ sym (c.is_flexible_const-2.ensures m)
     ∙ c.if-is_flexible_const-2.true in
     passes (flexible_left c.args.sides.left c.args.sides.right c.args.depth a b const_sort refl ta tb f)
 
@@ -50,8 +50,8 @@ consts_may_unify-returns-in_default g t c =
     let b = m.const_ c.args.rhs.now in
     let ta = const_term a ((g.met.I.Interner.sorted c.args.cx.now).const_ c.args.lhs.now c.requires.lhs_known) in
     let tb = const_term b ((g.met.I.Interner.sorted c.args.cx.now).const_ c.args.rhs.now c.requires.rhs_known) in
-    let own = sym c.is_flexible_const-2.ensures ∙ c.if-is_flexible_const-2.false in
-    let f = ap (flexible c.args.sides.right) c.const_kind-right.ensures ∙ sym c.is_flexible_const.ensures
+    let own = sym (c.is_flexible_const-2.ensures m) ∙ c.if-is_flexible_const-2.false in
+    let f = ap (flexible c.args.sides.right) c.const_kind-right.ensures ∙ sym (c.is_flexible_const.ensures m)
     ∙ c.if-is_flexible_const.false in
     let h = ap (flexible c.args.sides.left) c.const_kind-left.ensures ∙ own in
     fails (const_forms_clash c.args.sides.left c.args.sides.right c.args.depth a b const_sort refl ta tb f h
@@ -68,9 +68,9 @@ consts_may_unify-returns-in_default-right g t c =
     let b = m.const_ c.args.rhs.now in
     let ta = const_term a ((g.met.I.Interner.sorted c.args.cx.now).const_ c.args.lhs.now c.requires.lhs_known) in
     let tb = const_term b ((g.met.I.Interner.sorted c.args.cx.now).const_ c.args.rhs.now c.requires.rhs_known) in
-    let own = sym c.is_flexible_const.ensures ∙ c.if-is_flexible_const.false in
+    let own = sym (c.is_flexible_const.ensures m) ∙ c.if-is_flexible_const.false in
     let f = ap (flexible c.args.sides.right) c.const_kind-right.ensures ∙ own in
-    let h = ap (flexible c.args.sides.left) c.const_kind-left.ensures ∙ sym c.is_flexible_const-2.ensures
+    let h = ap (flexible c.args.sides.left) c.const_kind-left.ensures ∙ sym (c.is_flexible_const-2.ensures m)
     ∙ c.if-is_flexible_const-2.false in
     let left = c.const_kind-left.ensures ∙ ap (const_tree m) c.in-Value.is in
     fails (const_forms_clash c.args.sides.left c.args.sides.right c.args.depth a b const_sort refl ta tb f h

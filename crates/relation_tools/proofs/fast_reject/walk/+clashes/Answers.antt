@@ -104,7 +104,7 @@ types_may_unify-returns g t c =
     let pairs : Pairs m a b p =
     subst₂ (λ x y. Pairs m x y p) (sym c.ty_kind-left.ensures) (sym c.ty_kind-right.ensures) c.paired.ensures in
     let inner : c.depth_within-inner.result ≡ depth_inside a (c.args.depth - 1) =
-    c.depth_within-inner.ensures ∙ ap (λ x. depth_inside x (c.args.depth - 1)) (sym c.ty_kind-left.ensures) in
+    c.depth_within-inner.ensures m ∙ ap (λ x. depth_inside x (c.args.depth - 1)) (sym c.ty_kind-left.ensures) in
     pair_decides m l r c.args.depth a b ta tb (c.args.depth - 1) c.pair_may_unify.result z f h p pairs
     (subst (λ d. (c.pair_may_unify.result ≡ false) ↔ ClashIn m l r d p) inner c.pair_may_unify.ensures)
 

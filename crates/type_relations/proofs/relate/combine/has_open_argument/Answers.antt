@@ -14,6 +14,6 @@ is_left_open-requires-clause-arg_in g c =
     let inv = c.loop-i.invariant in
     let test = c.loop-i-test.true in
     let below : i < count ts = omega (arith, test, inv.counts) in
-    let is : arg_tree d.meaning c.arg_of-arg.result ≡ nth i ts =
-    c.arg_of-arg.ensures.means ∙ ap (nth i) ((inv.grows.extends).args c.args.args.now c.requires.args_known) in
+    let is : arg_tree d.meaning c.arg_in-arg.result ≡ nth i ts =
+    c.arg_in-arg.ensures.means ∙ ap (nth i) ((inv.grows.extends).args c.args.args.now c.requires.args_known) in
     subst₂ IsTermIn (sym inv.same_record) (sym is) (in_nth s.store ts i below c.requires.args_in)

@@ -1,12 +1,11 @@
-use Rattle.std.proofs.Common.{rules, sym, ap, ◌∙◌, ◌≢◌, ◌≡◌, refl, inl, inr}
-use Rattle.relation_terms.specs.Heads.{const_param, expression, unevaluated}
-use Rattle.relation_terms.specs.Meaning.{const_tree, arg_tree}
+use Rattle.std.proofs.Common.{rules, sym, ap, ◌∙◌, ◌≢◌, refl}
+use Rattle.relation_terms.specs.Heads.{const_param, unevaluated}
+use Rattle.relation_terms.specs.Meaning.{const_tree}
 use Rattle.std.proofs.lemmas.Bool.{false≢true}
-use Rattle.relation_terms.specs.Trees.{node, count}
-use Rattle.relation_terms.specs.declared.terms.const_kind.ConstKind.TheVariants.{Param, Value, Expr, Unevaluated}
-use Rattle.relation_semantics.specs.Errors.{values, expressions, over_arguments, const_parameters, operations}
-use Rattle.type_relations.proofs.Comparing.{ruled_const, leaf_const, one_leaf_const, unlike_const, param_const, value_const, expr_const, item_const}
-use Rattle.relation_terms.proofs.Members.{list_count}
+use Rattle.relation_terms.specs.Trees.{node}
+use Rattle.relation_terms.specs.declared.terms.const_kind.ConstKind.TheVariants.{Param, Value, Unevaluated}
+use Rattle.relation_semantics.specs.Errors.{values, over_arguments, const_parameters}
+use Rattle.type_relations.proofs.Comparing.{ruled_const, leaf_const, one_leaf_const, unlike_const, param_const, value_const, item_const}
 use Rattle.type_relations.proofs.relate.comparing.compare_consts.Goals as goal
 
 pub returns-in_default : goal.returns-in_default
@@ -18,11 +17,6 @@ pub returns-in_default-right : goal.returns-in_default-right
 returns-in_default-right g c =
     let m = g.I.Interner.meaning c.args.cx.now in
     record { alike = tt; errors = unlike_const m (Value c.in-Value.field-0 c.in-Value.value) c.const_kind-right.result c.args.a.now c.args.b.now c.unlike_consts-in_default-right.result (c.const_kind.ensures ∙ ap (const_tree m) c.in-Value.is) c.const_kind-right.ensures c.requires.no_error (value_const m c.in-Value.field-0 c.in-Value.value c.const_kind-right.result (λ u w e i. c.in_default-right.not-Value u w e)) c.unlike_consts-in_default-right.ensures }
-
-pub returns-in_default-right-2 : goal.returns-in_default-right-2
-returns-in_default-right-2 g c =
-    let m = g.I.Interner.meaning c.args.cx.now in
-    record { alike = tt; errors = unlike_const m (Expr c.in-Expr.kind c.in-Expr.args) c.const_kind-right.result c.args.a.now c.args.b.now c.unlike_consts-in_default-right-2.result (c.const_kind.ensures ∙ ap (const_tree m) c.in-Expr.is) c.const_kind-right.ensures c.requires.no_error (expr_const m c.in-Expr.kind c.in-Expr.args c.const_kind-right.result c.in_default-right-2.not-Expr) c.unlike_consts-in_default-right-2.ensures }
 
 pub returns-then-parameter-other-clause-errors : goal.returns-then-parameter-other-clause-errors
 returns-then-parameter-other-clause-errors g c =
@@ -61,32 +55,15 @@ returns-else-not-is_one_value-clause-alike g c =
     let m = g.I.Interner.meaning c.args.cx.now in
     values (c.const_kind.ensures ∙ ap (const_tree m) c.in-Value.is) (c.const_kind-right.ensures ∙ ap (const_tree m) c.in-Value-right.is) (c.if-not-is_one_value.ensures.one refl)
 
-pub returns-then-ne-2-clause-errors : goal.returns-then-ne-2-clause-errors
-returns-then-ne-2-clause-errors g c =
-    let m = g.I.Interner.meaning c.args.cx.now in
-    let differ : c.in-Expr.kind ≢ c.in-Expr-right.other_kind = (λ e. (let t = c.if-ne-2.true in let h = c.ne-in-Expr.ensures in let k = c.if-ne-2.ensures in search rules)) in
-    operations (c.const_kind.ensures ∙ ap (const_tree m) c.in-Expr.is) (c.const_kind-right.ensures ∙ ap (const_tree m) c.in-Expr-right.is) (inl (λ e. differ (ap (λ n. record { 0 = n }) e)))
-
-pub returns-then-args-clause-errors : goal.returns-then-args-clause-errors
-returns-then-args-clause-errors g c =
-    let m = g.I.Interner.meaning c.args.cx.now in
-    operations (c.const_kind.ensures ∙ ap (const_tree m) c.in-Expr.is) (c.const_kind-right.ensures ∙ ap (const_tree m) c.in-Expr-right.is) (inr (λ e. c.if-args.true (sym (ap count c.args-in-Expr.ensures ∙ list_count (arg_tree m) c.args-in-Expr.result.now) ∙ e ∙ (ap count c.args-in-Expr-2.ensures ∙ list_count (arg_tree m) c.args-in-Expr-2.result.now))))
-
-pub returns-else-args-clause-alike : goal.returns-else-args-clause-alike
-returns-else-args-clause-alike g c =
-    let m = g.I.Interner.meaning c.args.cx.now in
-    let one : c.in-Expr.kind ≡ c.in-Expr-right.other_kind = (let t = c.if-ne-2.false in let h = c.ne-in-Expr.ensures in let k = c.if-ne-2.ensures in search rules) in
-    expressions (c.const_kind.ensures ∙ ap (const_tree m) c.in-Expr.is) ((c.const_kind-right.ensures ∙ ap (const_tree m) c.in-Expr-right.is) ∙ ap (λ k. node (expression k.0) (m.args c.in-Expr-right.other)) (sym one)) ((ap count c.args-in-Expr.ensures ∙ list_count (arg_tree m) c.args-in-Expr.result.now) ∙ c.if-args.false ∙ sym (ap count c.args-in-Expr-2.ensures ∙ list_count (arg_tree m) c.args-in-Expr-2.result.now))
-
-pub returns-in_default-right-3 : goal.returns-in_default-right-3
-returns-in_default-right-3 g c =
+pub returns-in_default-right-2 : goal.returns-in_default-right-2
+returns-in_default-right-2 g c =
     let m = g.I.Interner.meaning c.args.cx.now in
     record {
       alike = tt;
       errors = unlike_const m (Unevaluated c.in-Unevaluated.unevaluated) c.const_kind-right.result c.args.a.now c.args.b.now
-          c.unlike_consts-in_default-right-3.result (c.const_kind.ensures ∙ ap (const_tree m) c.in-Unevaluated.is)
+          c.unlike_consts-in_default-right-2.result (c.const_kind.ensures ∙ ap (const_tree m) c.in-Unevaluated.is)
           c.const_kind-right.ensures c.requires.no_error (item_const m c.in-Unevaluated.unevaluated c.const_kind-right.result
-          (λ u e o. c.in_default-right-3.not-Unevaluated u e)) c.unlike_consts-in_default-right-3.ensures;
+          (λ u e o. c.in_default-right-2.not-Unevaluated u e)) c.unlike_consts-in_default-right-2.ensures;
     }
 
 pub returns-then-not-is_one_item-clause-errors : goal.returns-then-not-is_one_item-clause-errors

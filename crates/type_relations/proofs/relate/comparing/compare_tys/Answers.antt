@@ -22,7 +22,7 @@ compare_leaves-requires-clause-leaf g c =
     let o = c.outline_of-left.result in
     let p = c.outline_of-right.result in
     let left : named_outline m.id o ≡ tree_outline (m.ty x) =
-    c.outline_of-left.ensures ∙ ap tree_outline (sym c.ty_kind-a_kind.ensures) in
+    c.outline_of-left.ensures m ∙ ap tree_outline (sym c.ty_kind-a_kind.ensures) in
     sym (ap (λ z. z.form) left) ∙ c.is_same_form.ensures.0 c.if-is_same_form.true
 
 pub compare_leaves-requires-clause-differ : goal.compare_leaves-requires-clause-differ
@@ -38,9 +38,9 @@ returns-then-not-is_same_form-clause-errors g c =
     let o = c.outline_of-left.result in
     let p = c.outline_of-right.result in
     let left : named_outline m.id o ≡ tree_outline (m.ty x) =
-    c.outline_of-left.ensures ∙ ap tree_outline (sym c.ty_kind-a_kind.ensures) in
+    c.outline_of-left.ensures m ∙ ap tree_outline (sym c.ty_kind-a_kind.ensures) in
     let right : named_outline m.id p ≡ tree_outline (m.ty y) =
-    c.outline_of-right.ensures ∙ ap tree_outline (sym c.ty_kind-b_kind.ensures) in
+    c.outline_of-right.ensures m ∙ ap tree_outline (sym c.ty_kind-b_kind.ensures) in
     unlike_forms m x y o p left right c.requires.no_error
     (λ e. (let t = c.if-not-is_same_form.true in let one = c.is_same_form-2.ensures.1 e in search rules))
     c.unlike.result c.unlike.ensures
@@ -53,9 +53,9 @@ returns-then-not-is_same_item-clause-errors g c =
     let o = c.outline_of-left.result in
     let p = c.outline_of-right.result in
     let left : named_outline m.id o ≡ tree_outline (m.ty x) =
-    c.outline_of-left.ensures ∙ ap tree_outline (sym c.ty_kind-a_kind.ensures) in
+    c.outline_of-left.ensures m ∙ ap tree_outline (sym c.ty_kind-a_kind.ensures) in
     let right : named_outline m.id p ≡ tree_outline (m.ty y) =
-    c.outline_of-right.ensures ∙ ap tree_outline (sym c.ty_kind-b_kind.ensures) in
+    c.outline_of-right.ensures m ∙ ap tree_outline (sym c.ty_kind-b_kind.ensures) in
     let form : o.form ≡ p.form = c.is_same_form-2.ensures.0 (let t = c.if-not-is_same_form.false in search rules) in
     unlike_items m x y o p left right c.requires.no_error form
     (λ e. (let t = c.if-not-is_same_item.true in let one = c.is_same_item.ensures.1 e in search rules))
@@ -69,9 +69,9 @@ returns-then-ne-clause-errors g c =
     let o = c.outline_of-left.result in
     let p = c.outline_of-right.result in
     let left : named_outline m.id o ≡ tree_outline (m.ty x) =
-    c.outline_of-left.ensures ∙ ap tree_outline (sym c.ty_kind-a_kind.ensures) in
+    c.outline_of-left.ensures m ∙ ap tree_outline (sym c.ty_kind-a_kind.ensures) in
     let right : named_outline m.id p ≡ tree_outline (m.ty y) =
-    c.outline_of-right.ensures ∙ ap tree_outline (sym c.ty_kind-b_kind.ensures) in
+    c.outline_of-right.ensures m ∙ ap tree_outline (sym c.ty_kind-b_kind.ensures) in
     let parted : o.form ≡ Leaf → ⊥ = (λ e. (let t = c.if-is_same_form.false in
     let one = c.is_same_form.ensures.1 e in search rules)) in
     let form : o.form ≡ p.form = c.is_same_form-2.ensures.0 (let t = c.if-not-is_same_form.false in search rules) in
@@ -86,9 +86,9 @@ returns-then-n-m-clause-errors g c =
     let o = c.outline_of-left.result in
     let p = c.outline_of-right.result in
     let left : named_outline m.id o ≡ tree_outline (m.ty x) =
-    c.outline_of-left.ensures ∙ ap tree_outline (sym c.ty_kind-a_kind.ensures) in
+    c.outline_of-left.ensures m ∙ ap tree_outline (sym c.ty_kind-a_kind.ensures) in
     let right : named_outline m.id p ≡ tree_outline (m.ty y) =
-    c.outline_of-right.ensures ∙ ap tree_outline (sym c.ty_kind-b_kind.ensures) in
+    c.outline_of-right.ensures m ∙ ap tree_outline (sym c.ty_kind-b_kind.ensures) in
     let parted : o.form ≡ Leaf → ⊥ = (λ e. (let t = c.if-is_same_form.false in
     let one = c.is_same_form.ensures.1 e in search rules)) in
     let form : o.form ≡ p.form = c.is_same_form-2.ensures.0 (let t = c.if-not-is_same_form.false in search rules) in
@@ -108,9 +108,9 @@ returns-then-has_fixed_parts-clause-alike g c =
     let o = c.outline_of-left.result in
     let p = c.outline_of-right.result in
     let left : named_outline m.id o ≡ tree_outline (m.ty x) =
-    c.outline_of-left.ensures ∙ ap tree_outline (sym c.ty_kind-a_kind.ensures) in
+    c.outline_of-left.ensures m ∙ ap tree_outline (sym c.ty_kind-a_kind.ensures) in
     let right : named_outline m.id p ≡ tree_outline (m.ty y) =
-    c.outline_of-right.ensures ∙ ap tree_outline (sym c.ty_kind-b_kind.ensures) in
+    c.outline_of-right.ensures m ∙ ap tree_outline (sym c.ty_kind-b_kind.ensures) in
     let parted : o.form ≡ Leaf → ⊥ = (λ e. (let t = c.if-is_same_form.false in
     let one = c.is_same_form.ensures.1 e in search rules)) in
     let form : o.form ≡ p.form = c.is_same_form-2.ensures.0 (let t = c.if-not-is_same_form.false in search rules) in
@@ -130,9 +130,9 @@ returns-clause-alike g c =
     let o = c.outline_of-left.result in
     let p = c.outline_of-right.result in
     let left : named_outline m.id o ≡ tree_outline (m.ty x) =
-    c.outline_of-left.ensures ∙ ap tree_outline (sym c.ty_kind-a_kind.ensures) in
+    c.outline_of-left.ensures m ∙ ap tree_outline (sym c.ty_kind-a_kind.ensures) in
     let right : named_outline m.id p ≡ tree_outline (m.ty y) =
-    c.outline_of-right.ensures ∙ ap tree_outline (sym c.ty_kind-b_kind.ensures) in
+    c.outline_of-right.ensures m ∙ ap tree_outline (sym c.ty_kind-b_kind.ensures) in
     let parted : o.form ≡ Leaf → ⊥ = (λ e. (let t = c.if-is_same_form.false in
     let one = c.is_same_form.ensures.1 e in search rules)) in
     let form : o.form ≡ p.form = c.is_same_form-2.ensures.0 (let t = c.if-not-is_same_form.false in search rules) in

@@ -546,13 +546,13 @@ pub generalise_new-returns-else-branch : goal.generalise_new-returns-else-branch
 generalise_new-returns-else-branch g t' c =
     c.generalise_parts.ensures
 
-pub generalise_part-recall-requires-clause-known : goal.generalise_part-recall-requires-clause-known
-generalise_part-recall-requires-clause-known g t' c =
+pub generalise_part-recall_type-requires-clause-known : goal.generalise_part-recall_type-requires-clause-known
+generalise_part-recall_type-requires-clause-known g t' c =
     let m = g.I.Interner.meaning c.args.self.now.interner in
     subst (λ q. IsTrue (known (part_tree m q))) c.in-Ty.is c.requires.term_known
 
-pub generalise_part-recall-requires-clause-sure : goal.generalise_part-recall-requires-clause-sure
-generalise_part-recall-requires-clause-sure g t' c =
+pub generalise_part-recall_type-requires-clause-sure : goal.generalise_part-recall_type-requires-clause-sure
+generalise_part-recall_type-requires-clause-sure g t' c =
     c.requires.sure
 
 pub generalise_part-returns-in-Some : goal.generalise_part-returns-in-Some
@@ -615,8 +615,8 @@ pub generalise_part-the_ty-requires : goal.generalise_part-the_ty-requires
 generalise_part-the_ty-requires g t' c =
     c.in_ok-became.ensures.answers.1 ∙ ap part_sort c.in-Ty.is
 
-pub generalise_part-keep-requires-clause-ty_known : goal.generalise_part-keep-requires-clause-ty_known
-generalise_part-keep-requires-clause-ty_known g t' c =
+pub generalise_part-keep_type-requires-clause-ty_known : goal.generalise_part-keep_type-requires-clause-ty_known
+generalise_part-keep_type-requires-clause-ty_known g t' c =
     let meaning = g.I.Interner.meaning in
     let m = meaning c.args.self.now.interner in
     let eq = met_eq g.I.Key.PartialEq.eq in
@@ -635,8 +635,8 @@ generalise_part-keep-requires-clause-ty_known g t' c =
     let there = subst (λ q. IsTrue (known (part_tree m q))) c.in-Ty.is c.requires.term_known in
     knows_as (m.ty c.in-Ty.ty) (n.ty c.in-Ty.ty) (h.grown.ty c.in-Ty.ty there) there
 
-pub generalise_part-keep-requires-clause-became_known : goal.generalise_part-keep-requires-clause-became_known
-generalise_part-keep-requires-clause-became_known g t' c =
+pub generalise_part-keep_type-requires-clause-became_known : goal.generalise_part-keep_type-requires-clause-became_known
+generalise_part-keep_type-requires-clause-became_known g t' c =
     let meaning = g.I.Interner.meaning in
     let m = meaning c.args.self.now.interner in
     let eq = met_eq g.I.Key.PartialEq.eq in
@@ -655,8 +655,8 @@ generalise_part-keep-requires-clause-became_known g t' c =
     let there = subst (λ q. IsTrue (known (part_tree m q))) c.in-Ty.is c.requires.term_known in
     subst (λ q. IsTrue (known (part_tree n q))) (sym c.the_ty.ensures) h.answers.0
 
-pub generalise_part-keep-requires-clause-sure : goal.generalise_part-keep-requires-clause-sure
-generalise_part-keep-requires-clause-sure g t' c =
+pub generalise_part-keep_type-requires-clause-sure : goal.generalise_part-keep_type-requires-clause-sure
+generalise_part-keep_type-requires-clause-sure g t' c =
     let meaning = g.I.Interner.meaning in
     let m = meaning c.args.self.now.interner in
     let eq = met_eq g.I.Key.PartialEq.eq in
@@ -675,8 +675,8 @@ generalise_part-keep-requires-clause-sure g t' c =
     let there = subst (λ q. IsTrue (known (part_tree m q))) c.in-Ty.is c.requires.term_known in
     h.answers.2
 
-pub generalise_part-returns-in_err-keep : goal.generalise_part-returns-in_err-keep
-generalise_part-returns-in_err-keep g t' c =
+pub generalise_part-returns-in_err-keep_type : goal.generalise_part-returns-in_err-keep_type
+generalise_part-returns-in_err-keep_type g t' c =
     let meaning = g.I.Interner.meaning in
     let m = meaning c.args.self.now.interner in
     let eq = met_eq g.I.Key.PartialEq.eq in
@@ -699,9 +699,9 @@ generalise_part-returns-in_err-keep g t' c =
       universe = h.universe;
       makes = h.makes;
       rest = h.rest;
-      clear = none_kept _ c.from_residual-in_err-keep.result c.from_residual-in_err-keep.ensures.0;
-      answers = memory_answers meaning eq c.args.self.now c.generalise_new-2.new.self al k i u c.args.target.now.cyclic c.args.met.now c.keep.new.met p (any_part sd v) c.from_residual-in_err-keep.result
-          c.from_residual-in_err-keep.ensures.0 c.from_residual-in_err-keep.ensures.1;
+      clear = none_kept _ c.from_residual-in_err-keep_type.result c.from_residual-in_err-keep_type.ensures.0;
+      answers = memory_answers meaning eq c.args.self.now c.generalise_new-2.new.self al k i u c.args.target.now.cyclic c.args.met.now c.keep_type.new.met p (any_part sd v) c.from_residual-in_err-keep_type.result
+          c.from_residual-in_err-keep_type.ensures.0 c.from_residual-in_err-keep_type.ensures.1;
     }
 
 pub generalise_part-returns : goal.generalise_part-returns
@@ -731,9 +731,9 @@ generalise_part-returns g t' c =
       makes = h.makes;
       rest = h.rest;
       clear = h.clear;
-      answers = met_answers meaning eq c.args.self.now c.generalise_new-2.new.self al k i u c.args.target.now.cyclic c.args.met.now c.generalise_new-2.new.met p c.args.inside v c.keep.new.met c.in_ok-became.became
-          c.in-Ty.ty c.the_ty.result c.in-Ty.is (sym c.the_ty.ensures) sort (h.grown.ty c.in-Ty.ty there) c.in_ok-keep.ensures.sure
-          c.in_ok-keep.ensures.keeps c.in_default-recall.ensures.not_met h.answers;
+      answers = met_answers meaning eq c.args.self.now c.generalise_new-2.new.self al k i u c.args.target.now.cyclic c.args.met.now c.generalise_new-2.new.met p c.args.inside v c.keep_type.new.met c.in_ok-became.became
+          c.in-Ty.ty c.the_ty.result c.in-Ty.is (sym c.the_ty.ensures) sort (h.grown.ty c.in-Ty.ty there) c.in_ok-keep_type.ensures.sure
+          c.in_ok-keep_type.ensures.keeps c.in_default-recall_type.ensures.not_met h.answers;
     }
 
 pub generalise_parts-parts_count-i-end-requires : goal.generalise_parts-parts_count-i-end-requires

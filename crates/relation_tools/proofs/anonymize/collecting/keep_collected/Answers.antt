@@ -1,7 +1,7 @@
 use Rattle.std.proofs.Common.{◌∙◌, sym}
 use Rattle.relation_folds.proofs.Remembering.{place_eq}
 use Rattle.relation_tools.proofs.UsedParts.{remembers_more}
-use Rattle.relation_tools.proofs.anonymize.collecting.keep.Goals as goal
+use Rattle.relation_tools.proofs.anonymize.collecting.keep_collected.Goals as goal
 
 pub returns-in_ok-insert : goal.returns-in_ok-insert
 returns-in_ok-insert g c =

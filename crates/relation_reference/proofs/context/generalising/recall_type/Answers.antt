@@ -1,7 +1,7 @@
 use Rattle.std.proofs.Common.{◌∙◌}
 use Rattle.relation_reference.specs.declared.context.generalising.MetKey.{MetKey}
 use Rattle.relation_reference.proofs.Recalling.{met_self, met_congr, met_alike, met_equal, met_eq, recalled, recalled_none, recalled_sure}
-use Rattle.relation_reference.proofs.context.generalising.recall.Goals as goal
+use Rattle.relation_reference.proofs.context.generalising.recall_type.Goals as goal
 
 pub returns : goal.returns
 returns g c =

@@ -1,7 +1,7 @@
 use Rattle.std.proofs.Common.{◌∙◌, sym}
 use Rattle.relation_reference.specs.Tables.{store_of}
 use Rattle.relation_reference.proofs.Remembering.{key_eq, remembers_more}
-use Rattle.relation_reference.proofs.context.memory.keep.Goals as goal
+use Rattle.relation_reference.proofs.context.memory.keep_resolved.Goals as goal
 
 pub returns-in_ok-insert : goal.returns-in_ok-insert
 returns-in_ok-insert g c =

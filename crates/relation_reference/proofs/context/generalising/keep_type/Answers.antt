@@ -1,6 +1,6 @@
 use Rattle.relation_reference.specs.declared.context.generalising.MetKey.{MetKey}
 use Rattle.relation_reference.proofs.Recalling.{met_self, met_congr, met_alike, met_equal, met_eq, sure_more, keeps_more}
-use Rattle.relation_reference.proofs.context.generalising.keep.Goals as goal
+use Rattle.relation_reference.proofs.context.generalising.keep_type.Goals as goal
 
 pub returns : goal.returns
 returns g c =
