@@ -1,20 +1,20 @@
 -- The values of variables that have no term are free: those that are there, and that of a new variable.
-use Rattle.std.proofs.Common.{◌≡◌, ◌⊎◌, ℕ, sym, ap, ◌∙◌, arith, inl, inr, subst, subst₂, [], ◌∷◌, ◌++◌, None, get_or}
+use Rattle.std.proofs.Common.{◌≡◌, ℕ, sym, ap, ◌∙◌, None}
 use Rattle.relation_terms.specs.Heads.{VarKind, Leaf, variable, bound, placeholder, atom, unknown}
 use Rattle.relation_terms.specs.Trees.{Assign, assigned, apply, Leaves}
 use Rattle.relation_terms.specs.Erasure.{erase}
-use Rattle.relation_semantics.specs.Relation.{IsValueLeaf, StaysWithin}
+use Rattle.relation_semantics.specs.Relation.{IsValueLeaf}
 use Rattle.relation_semantics.specs.Stores.{Store, bound_term, universe_of, IsMade, IsInScope, IsNamable, IsAssignment}
-use Rattle.relation_semantics.specs.Stores.{MayStandFor, MeetsBindings, resolved}
+use Rattle.relation_semantics.specs.Stores.{MeetsBindings, resolved}
 use Rattle.relation_semantics.specs.FirstOrder.{MeetsErased}
 use Rattle.relation_semantics.specs.Steps.{AgreeOn}
 use Rattle.relation_semantics.proofs.Trees.{Leaves_map, Leaves_map₂, Leaves-replace, apply-apply}
 use Rattle.relation_semantics.proofs.Values.{same_value}
 use Rattle.relation_semantics.proofs.Resolved.{resolved_meets, resolve_free}
 use Rattle.relation_semantics.proofs.Standing.{stands_apply, within_apply, term_context, namable_mono}
-use Rattle.relation_semantics.proofs.Growing.{same_terms, old_or_new, universes_stand}
-use Rattle.relation_semantics.proofs.Exactness.{changed, changed_same, changed_other, changed_case}
-use Rattle.relation_semantics.proofs.StoreCalls.{resolved_stands, resolved_within, get_or_past}
+use Rattle.relation_semantics.proofs.Growing.{same_terms}
+use Rattle.relation_semantics.proofs.Exactness.{changed, changed_same}
+use Rattle.relation_semantics.proofs.StoreCalls.{resolved_stands, resolved_within}
 use Rattle.relation_laws.specs.SolutionLaws.{GivesValues, FreeValues, MadeIsUnconstrainedErased}
 use Rattle.relation_semantics.proofs.StoreCalls.{changed_agrees, changed_assigns}
 

@@ -1,18 +1,17 @@
 -- An interpretation in which what relating two terms asks of aliases is so: its pairs are all that are met.
-use Rattle.std.proofs.Common.{◌≡◌, ◌⊎◌, ℕ, zero, suc, ◌<◌, refl, sym, ap, ◌∙◌, inl, inr, subst, subst₂, arith, List, [], ◌∷◌, ◌++◌, Some, None, Contains}
+use Rattle.std.proofs.Common.{◌≡◌, ◌⊎◌, ℕ, zero, suc, ◌<◌, refl, sym, ◌∙◌, inl, inr, subst, subst₂, arith, List, [], ◌∷◌, ◌++◌, Some, None, Contains}
 use Rattle.std.proofs.lemmas.List.Elements.{All-contains_itself, Contains-append_left, Contains-append_right}
 use Rattle.term_enums.specs.declared.Variance.{Variance}
 use Rattle.term_enums.specs.declared.Variance.TheVariants.{Covariant, Contravariant, Invariant, Bivariant}
 use Rattle.term_enums.specs.declared.AliasRelationDirection.{AliasRelationDirection}
 use Rattle.term_enums.specs.declared.AliasRelationDirection.TheVariants.{Equate, Subtype}
 use Rattle.relation_terms.specs.Heads.{Head}
-use Rattle.relation_terms.specs.Trees.{Tree, leaf, node, bind, nil, cons, count, nth, Leaves, Assign, apply}
-use Rattle.relation_semantics.specs.Relation.{Items, Interpretation, IsAlias, IsValueLeaf}
+use Rattle.relation_terms.specs.Trees.{Tree, node, cons, count, nth, Leaves, Assign, apply}
+use Rattle.relation_semantics.specs.Relation.{Items, Interpretation, IsValueLeaf}
 use Rattle.relation_semantics.specs.Goals.{goal_of, alias_relate_predicate, Holds}
 use Rattle.relation_semantics.specs.AliasGoals.{alias_at}
 use Rattle.relation_semantics.specs.Asking.{Wanted, a_constraint, a_goal, HaveAlias, AsksFor, of_regions, of_aliases, of_unevaluated, of_parts}
 use Rattle.relation_semantics.proofs.Trees.{apply_ground}
-use Rattle.type_relations.specs.Completing.{AskedHolds}
 use Rattle.relation_laws.specs.AskingLaws.{SomeInterpretation}
 use Rattle.std.proofs.lemmas.Option.{same_Some}
 

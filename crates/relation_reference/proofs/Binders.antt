@@ -25,6 +25,11 @@ use Rattle.relation_semantics.proofs.Opened.{opened_inst, placeholders_stand, va
 use Rattle.relation_reference.specs.Opened.{placeholders_from, MakesOne}
 use Rattle.relation_semantics.proofs.Opening.{same_changes}
 
+-- A binder binds what its list says.
+pub bound_kinds : (o : Option (List BoundKind)) (t : Tree) → kinds_in o ≡ bound_by (under o t)
+bound_kinds (Some ks) t = refl
+bound_kinds None t = refl
+
 -- One more place of a list.
 taken : {A : Type 0} (xs : List A) (i : ℕ) (x : A) → slice_get xs i ≡ Some x → take (suc i) xs ≡ take i xs ++ x ∷ []
 taken [] i x e = absurd cc
@@ -159,11 +164,6 @@ module _ {Key Id Name : Type 0} (c d : Context Key Id Name) where
       OnErr r (d.store ≡ c.store) → EntersBinder c d tree t r
   entered_binder tree t (Ok x) sure enters refused = (sure, enters)
   entered_binder tree t (Err f) sure enters refused = refused
-
-  -- A known binder binds what its list says.
-  pub bound_kinds : (o : Option (List BoundKind)) (t : Tree) → kinds_in o ≡ bound_by (under o t)
-  bound_kinds (Some ks) t = refl
-  bound_kinds None t = refl
 
   pub instantiated_binder : {K F : Type 0} (tree : Meaning Key Id Name → K → Tree) (t : Tree) (r : Result K F) →
       IfOk r (λ x. IsTrue (known (tree d.meaning x))) → IfOk r (λ x. InstantiatesAs c d t (tree d.meaning x)) →

@@ -1,5 +1,5 @@
 -- Generalising in a context: what each way out of it answers.
-use Rattle.std.proofs.Common.{◌≡◌, ◌≢◌, ℕ, zero, suc, ◌<◌, ◌≤◌, refl, sym, ap, ap₂, ◌∙◌, arith, subst, subst₂, Bool, IsTrue, Option, Some, List, [], ◌∷◌, ◌++◌, length, Contains, All, Result, Ok, Err, OnOk}
+use Rattle.std.proofs.Common.{◌≡◌, ◌≢◌, ℕ, zero, suc, ◌<◌, ◌≤◌, refl, sym, ap, ◌∙◌, arith, subst, subst₂, Bool, IsTrue, Option, Some, List, [], ◌∷◌, length, Contains, All, Result, Ok, Err, OnOk}
 use Rattle.std.proofs.lemmas.List.Elements.{All-nil, All-cons, All-contains}
 use Rattle.std.specs.Result.{IsErr, IsErrAnd}
 use Rattle.std.specs.HashMap.{HashMap, IsEmpty}
@@ -8,10 +8,10 @@ use Rattle.term_enums.specs.declared.Variance.{Variance}
 use Rattle.relation_terms.specs.declared.terms.keys.TyKey.{TyKey}
 use Rattle.relation_terms.specs.declared.terms.part_kind.Part.{Part}
 use Rattle.relation_terms.specs.declared.terms.part_kind.Part.TheVariants.{Ty}
-use Rattle.relation_terms.specs.Heads.{region_kind, type_kind, const_kind, region_sort, type_sort, no_sort, BoundKind, bound_kind, bound_sort, VarKind, type_var, int_var, float_var, const_var, region_var, static_region, early_region, AliasKind, alias, Head, Leaf, variable, bound, placeholder, atom, unknown}
+use Rattle.relation_terms.specs.Heads.{region_kind, type_kind, const_kind, region_sort, type_sort, no_sort, BoundKind, bound_kind, bound_sort, VarKind, type_var, int_var, float_var, const_var, region_var, static_region, early_region, alias, Head, Leaf, variable, bound, placeholder, atom, unknown}
 use Rattle.relation_terms.specs.Trees.{Tree, leaf, node, bind, nil, cons, Leaves, known, IsList, count, nth}
 use Rattle.relation_terms.specs.Meaning.{Meaning, Extends}
-use Rattle.relation_terms.specs.Parts.{part_tree, part_sort, tree_sort, parts_of, over, Fit}
+use Rattle.relation_terms.specs.Parts.{part_tree, part_sort, tree_sort, parts_of, over}
 use Rattle.relation_folds.specs.declared.error.TypeError.{TypeError}
 use Rattle.relation_folds.specs.declared.error.TypeError.TheVariants.{Mismatch}
 use Rattle.relation_folds.specs.declared.error.RelateFault.{RelateFault}
@@ -19,7 +19,7 @@ use Rattle.relation_folds.specs.declared.error.RelateFault.TheVariants.{Memory, 
 use Rattle.relation_semantics.specs.declared.relate.StructurallyRelateAliases.{StructurallyRelateAliases}
 use Rattle.relation_semantics.specs.declared.relate.StructurallyRelateAliases.TheVariants.{Yes, No}
 use Rattle.relation_semantics.specs.Relation.{Items, sort_of, StaysWithin}
-use Rattle.relation_semantics.specs.Lawful.{declared_by, items_of}
+use Rattle.relation_semantics.specs.Lawful.{items_of}
 use Rattle.relation_semantics.specs.Bound.{AreBoundAs, BindByLists}
 use Rattle.relation_semantics.specs.Stores.{Store, universe_of, IsMade, IsMadeLeaf, InContext, IsSound}
 use Rattle.relation_semantics.specs.Steps.{MakesVariable}

@@ -1,11 +1,11 @@
 -- What leading a class on makes of a table, list by list.
-use Rattle.std.proofs.Common.{◌≡◌, ℕ, zero, suc, ◌<◌, ◌≤◌, refl, sym, ap, ap₂, ◌∙◌, arith, List, [], ◌∷◌, ◌++◌, length, map, set, min, subst, take, drop, get_or, eqb, cond, true, false}
+use Rattle.std.proofs.Common.{◌≡◌, ℕ, zero, suc, ◌<◌, ◌≤◌, refl, sym, ap, ap₂, ◌∙◌, arith, List, [], ◌∷◌, ◌++◌, length, map, set, min, subst, take, drop, get_or, eqb, cond, Bool, true, false}
 use Rattle.std.proofs.lemmas.Bool.{eqb-true}
 use Rattle.std.proofs.lemmas.List.{length-map, get_or-map}
 use Rattle.relation_reference.specs.declared.context.inner.Variable.{Variable}
 use Rattle.relation_reference.specs.declared.context.inner.VariableValue.{VariableValue}
 use Rattle.relation_reference.specs.declared.context.inner.VariableValue.TheVariants.{Unknown, SameAs, Known}
-use Rattle.relation_reference.specs.Variables.{keys_of, values_of, universes_of, universe_at, root_by, root_at, led, led_variable, LeadsDown}
+use Rattle.relation_reference.specs.Variables.{keys_of, values_of, universes_of, universe_at, root_by, led, led_variable, LeadsDown}
 
 -- The front of a list that a function leaves as it is.
 front_stays : {A : Type 0} (f : A → A) (n : ℕ) (xs : List A) → ((i : ℕ) (x : A) → i < n → i < length xs → f (get_or xs i x) ≡ get_or xs i x) →
@@ -19,11 +19,11 @@ front_stays f (suc n) (x ∷ xs) h = ap₂ ◌∷◌ (h 0 x (omega arith) (omega
 -- What leads to another than the child is not led on.
 led_past : {K : Type 0} (child root i : ℕ) (v : VariableValue K) → root_by i v ≤ i → i < child → led child root v ≡ v
 led_past child root i Unknown low less = refl
-led_past child root i (SameAs m) low less = go (eqb m child) refl
+led_past child root i (SameAs m) low less = ap SameAs (go (eqb m child) refl)
   where
-    go : (b : _) → eqb m child ≡ b → SameAs (cond (eqb m child) root m) ≡ SameAs m
-    go true e = absurd (let q = eqb-true m child e in omega (arith, q, low, less))
-    go false e = ap (λ b. SameAs (cond b root m)) e
+    go : (b : Bool) → eqb m child ≡ b → cond (eqb m child) root m ≡ m
+    go true e = let q = eqb-true m child e in absurd (omega (arith, q, low, less))
+    go false e = ap (λ b. cond b root m) e
 led_past child root i (Known t) low less = refl
 
 -- Before the child's place none leads to the child.

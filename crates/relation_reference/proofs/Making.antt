@@ -1,5 +1,5 @@
 -- New variables, new constraints, and growths that were refused.
-use Rattle.std.proofs.Common.{◌≡◌, ℕ, zero, suc, ◌+◌, ◌<◌, ◌≤◌, refl, sym, ap, ap₂, ◌∙◌, arith, subst, List, [], ◌∷◌, ◌++◌, length, map, get_or, length-append, Bool, Result, Ok, Err, OnErr}
+use Rattle.std.proofs.Common.{◌≡◌, ℕ, zero, suc, ◌+◌, ◌<◌, ◌≤◌, refl, sym, ap, ap₂, ◌∙◌, arith, subst, List, [], ◌∷◌, ◌++◌, length, map, get_or, length-append, Bool}
 use Rattle.std.proofs.lemmas.List.{map-append, length-map, get_or_append_left}
 use Rattle.std.proofs.Math.Seq.{get_or-append_seam}
 use native.Mathlib.Decide.{ℕ_discrete}
@@ -13,7 +13,7 @@ use Rattle.relation_semantics.specs.Stores.{Store, unbound, entry_of, IsSound, C
 use Rattle.relation_semantics.specs.Steps.{IsNumberKind, MakesVariable, AddsConstraint, IsLater}
 use Rattle.relation_semantics.specs.Measures.{Goes}
 use Rattle.relation_semantics.proofs.Growing.{same_entries, made_sound, made_is_later, constraint_sound, constraint_is_later, constraint_bound, constraint_weight}
-use Rattle.relation_semantics.proofs.Going.{later_itself, goes_nowhere}
+use Rattle.relation_semantics.proofs.Going.{goes_nowhere}
 use Rattle.relation_terms.specs.declared.terms.keys.TyKey.{TyKey}
 use Rattle.relation_terms.specs.declared.terms.keys.ConstKey.{ConstKey}
 use Rattle.relation_terms.specs.declared.terms.keys.RegionKey.{RegionKey}

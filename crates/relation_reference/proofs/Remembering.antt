@@ -1,6 +1,6 @@
 -- What walks through terms remember, as they go on.
-use Rattle.std.proofs.Common.{ℕ, ◌≡◌, ◌↔◌, IsTrue, Bool, true, false, cond, Option, Some, None, option_map, IfSome, refl, sym, ap}
-use Rattle.std.proofs.Common.{ap₂, ◌∙◌, ◌&&◌, eqb, subst, Result, Ok, Err, OnOk}
+use Rattle.std.proofs.Common.{ℕ, ◌≡◌, ◌↔◌, IsTrue, Bool, cond, Option, Some, None, option_map, IfSome, sym, ap}
+use Rattle.std.proofs.Common.{ap₂, ◌∙◌, ◌&&◌, eqb}
 use Rattle.std.proofs.lemmas.Bool.{and_parts, eqb-true}
 use Rattle.std.specs.HashMap.{HashMap, get, IsEmpty}
 use Rattle.std.specs.Map.{lookup}

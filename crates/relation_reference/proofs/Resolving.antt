@@ -16,7 +16,7 @@ use Rattle.relation_terms.proofs.Stays.{stays_list, knows_as}
 use Rattle.relation_semantics.specs.Stores.{Store, entry_term, bound_term, IsSound}
 use Rattle.relation_semantics.specs.Stores.{InContext, resolved, weight}
 use Rattle.relation_semantics.proofs.Resolved.{resolved_free}
-use Rattle.relation_semantics.proofs.Parts.{nth_size, over_itself}
+use Rattle.relation_semantics.proofs.Parts.{nth_size}
 use Rattle.relation_semantics.proofs.Values.{nth_in}
 use Rattle.relation_semantics.proofs.Lists.{firsts, firsts_all, snoc, list_push, firsts_more, apply_snoc}
 use Rattle.relation_reference.specs.declared.context.inner.InferCtxtInner.{InferCtxtInner}
@@ -28,6 +28,7 @@ use Rattle.relation_semantics.specs.Resolving.{IsShallow, root, stays_bound, for
 use Rattle.relation_reference.proofs.Grows.{store_grows, lawful_grows}
 use Rattle.relation_folds.proofs.Members.{fit_next}
 use Rattle.relation_terms.proofs.Members.{known_with_last}
+use Rattle.relation_folds.proofs.Visiting.{has_sort}
 
 -- A part that is no type is of another sort, and each part is of some.
 module _ {Key Id : Type 0} where
@@ -105,7 +106,7 @@ module _ {Key Id Name : Type 0} (m : Meaning Key Id Name) (p : Part Key Id) (no_
 
   pub other_by_parts : (st : Store) → IsSound st → apply (resolved st) (part_tree m p) ≡
       over (part_tree m p) (apply (resolved st) (parts_of (part_tree m p)))
-  other_by_parts st g = comes_by_parts st (part_tree m p) (λ s. some_sort p (sym e ∙ s)) (variable_free st g)
+  other_by_parts st g = comes_by_parts st (part_tree m p) (λ s. has_sort p (sym e ∙ s)) (variable_free st g)
 
   pub other_no_vid : (v : TermVid) → part_tree m p ≡ leaf (variable (vid_kind v) (vid_number v)) → ⊥
   other_no_vid (TyTerm v) q = not_type p no_type (sym e ∙ ap tree_sort q)
@@ -217,6 +218,13 @@ pub unchanged_all : (s : Assign) (i : ℕ) (ts : Tree) → IsList ts → i ≡ c
     apply s (firsts i ts) ≡ firsts i ts → apply s ts ≡ ts
 unchanged_all s i ts l e h =
     subst (λ z. apply s z ≡ z) (ap (λ n. firsts n ts) e ∙ firsts_all ts l) h
+
+pub over_itself : (t : Tree) → over t (parts_of t) ≡ t
+over_itself (leaf l) = refl
+over_itself (node h ts) = refl
+over_itself (bind ks t) = refl
+over_itself nil = refl
+over_itself (cons t ts) = refl
 
 pub whole_stays : (s : Assign) (t a u : Tree) → a ≡ t → apply s (parts_of t) ≡ parts_of t →
     apply s t ≡ over t (apply s (parts_of t)) → apply s t ≡ apply s u → a ≡ apply s u

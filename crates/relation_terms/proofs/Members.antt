@@ -338,21 +338,20 @@ pub existential_only : (x : Sort) → Admits existential_sort x → x ≡ existe
 existential_only existential_sort h = refl
 existential_only x h = absurd h
 
-existential_term : (t : Tree) → IsTerm existential_sort t → tree_sort t ≡ existential_sort
-existential_term (leaf l) h = existential_only (leaf_sort l) h
-existential_term (node g ts) h = existential_only (head_sort g) h.0
-existential_term t h = absurd h
-
-binder_term : (t : Tree) → IsBinder existential_sort t → tree_sort t ≡ binder_sort existential_sort
-binder_term (bind ks t) h = ap binder_sort (existential_term t h)
-binder_term t h = absurd h
-
--- The sort of what a term of a sort is; what is a list of terms, and each of them.
+-- The sort of what a term of a sort is.
 pub term_admits : (s : Sort) (t : Tree) → IsTerm s t → Admits s (tree_sort t)
 term_admits s (leaf l) h = h
 term_admits s (node g ts) h = h.0
 term_admits s t h = absurd h
 
+existential_term : (t : Tree) → IsTerm existential_sort t → tree_sort t ≡ existential_sort
+existential_term t h = existential_only (tree_sort t) (term_admits existential_sort t h)
+
+binder_term : (t : Tree) → IsBinder existential_sort t → tree_sort t ≡ binder_sort existential_sort
+binder_term (bind ks t) h = ap binder_sort (existential_term t h)
+binder_term t h = absurd h
+
+-- What is a list of terms, and each of them.
 pub terms_list : (s : Sort) (ts : Tree) → AreTerms s ts → IsList ts
 terms_list s nil h = tt
 terms_list s (cons t ts) h = terms_list s ts h.1
@@ -362,11 +361,6 @@ pub term_nth : (s : Sort) (ts : Tree) (i : ℕ) → i < count ts → AreTerms s 
 term_nth s (cons t ts) zero l h = h.0
 term_nth s (cons t ts) (suc i) l h = term_nth s ts i (omega (arith, l)) h.1
 term_nth s t i l h = absurd (omega (arith, l))
-
-arg_admits : (t : Tree) → IsTerm argument_sort t → Admits argument_sort (tree_sort t)
-arg_admits (leaf l) h = h
-arg_admits (node g ts) h = h.0
-arg_admits t h = absurd h
 
 module _ {Key Id : Type 0} where
   one_arg : (x : Part Key Id) (s : Sort) → part_sort x ≡ s → Admits argument_sort s → AreArgs (x ∷ [])
@@ -387,7 +381,7 @@ module _ {Key Id : Type 0} where
   pub fit_args : (xs : List (Part Key Id)) (ts : Tree) → Fit xs ts → AreTerms argument_sort ts → AreArgs xs
   fit_args [] ts f a = tt
   fit_args (x ∷ xs) (cons t ts) f a =
-      more_args x xs (one_arg x (tree_sort t) f.0 (arg_admits t a.0)) (fit_args xs ts f.1 a.1)
+      more_args x xs (one_arg x (tree_sort t) f.0 (term_admits argument_sort t a.0)) (fit_args xs ts f.1 a.1)
   fit_args (x ∷ xs) ts f a = absurd f
 
   pub fit_tys : (xs : List (Part Key Id)) (ts : Tree) → Fit xs ts → AreTerms type_sort ts → AreTys xs

@@ -10,12 +10,7 @@ use Rattle.relation_terms.specs.Heads.{type_param, type_error, fresh_type, fresh
 use Rattle.relation_terms.specs.Heads.{const_error, fresh_const}
 use Rattle.relation_terms.specs.Heads.{variable, bound, placeholder, atom, unknown}
 use Rattle.relation_terms.specs.Trees.{Tree, leaf, node, bind, nil, cons, IsList, count, nth}
-use Rattle.relation_terms.specs.Parts.{parts_of, tree_sort, part_sort}
-use Rattle.relation_terms.specs.declared.terms.part_kind.Part.{Part}
-use Rattle.relation_terms.specs.declared.terms.part_kind.Part.TheVariants.{Ty, Const, ValTree}
-use Rattle.relation_terms.specs.declared.terms.keys.TyKey.{TyKey}
-use Rattle.relation_terms.specs.declared.terms.keys.ConstKey.{ConstKey}
-use Rattle.relation_terms.specs.declared.terms.keys.ValTreeKey.{ValTreeKey}
+use Rattle.relation_terms.specs.Parts.{parts_of, tree_sort}
 use Rattle.relation_folds.specs.Visits.{is_rigid, rigid_atom}
 use Rattle.relation_folds.proofs.Visiting.{rest, rest_next, rest_end, rest_list}
 use Rattle.relation_folds.specs.Clashes.{flexible, flexible_atom, may_stand, is_integral, is_floating_point}

@@ -1,6 +1,6 @@
 -- What an instance keeps of a term, and an erasure.
 use Rattle.std.proofs.Common.{◌≡◌, ℕ, suc, Bool, true, false, List, None, refl, sym, ap, ap₂, ◌∙◌}
-use Rattle.relation_terms.specs.Heads.{Sort, region_sort, type_sort, const_sort, binder_sort, Admits, leaf_sort, atom_sort}
+use Rattle.relation_terms.specs.Heads.{Sort, region_sort, type_sort, const_sort, binder_sort, Admits, leaf_sort}
 use Rattle.relation_terms.specs.Heads.{Kind, region_kind, type_kind, const_kind}
 use Rattle.relation_terms.specs.Heads.{BoundKind, bound_kind, VarKind, type_var, int_var, float_var, const_var}
 use Rattle.relation_terms.specs.Heads.{region_var, Atom, type_param, type_error, early_region, const_error}
@@ -11,7 +11,7 @@ use Rattle.relation_terms.specs.Heads.{placeholder, atom, unknown}
 use Rattle.term_enums.specs.declared.Safety.{Safety}
 use Rattle.term_enums.specs.declared.ExternAbi.{ExternAbi}
 use Rattle.relation_terms.specs.Trees.{Tree, leaf, node, bind, nil, cons, IsTerm, count}
-use Rattle.relation_terms.specs.Erasure.{erase, erase_leaf, erase_atom}
+use Rattle.relation_terms.specs.Erasure.{erase, erase_leaf}
 use Rattle.relation_terms.specs.Parts.{tree_sort}
 use Rattle.relation_terms.proofs.Members.{region_only, type_only, const_only, term_admits}
 use Rattle.relation_folds.specs.Clashes.{flexible, outline, header_of, inputs_count, object_principal, principal}

@@ -2,8 +2,7 @@
 use Rattle.std.proofs.Common.{◌≡◌, ◌<◌, ◌≤◌, ◌+◌, ◌-◌, ℕ, suc, Bool, true, false, cond, nat_lt, IsTrue, refl, sym, ap, subst, arith}
 use Rattle.std.proofs.Common.{List, [], Option, Some, None, option_map, Result, Ok, Err, IsErr, OnOk}
 use Rattle.std.proofs.lemmas.Bool.{ltb-true, ltb-false}
-use Rattle.relation_terms.specs.Heads.{Sort}
-use Rattle.relation_terms.specs.Trees.{Tree, leaf, node, bind, nil, cons, known, size, count, nth, IsList, AreTerms}
+use Rattle.relation_terms.specs.Trees.{Tree, known, size, count, nth}
 use Rattle.relation_terms.specs.Meaning.{Meaning, arg_tree}
 use Rattle.relation_terms.specs.Parts.{part_tree, tree_sort}
 use Rattle.relation_terms.specs.Closures.{is_type_sort, type_from_last}

@@ -1,7 +1,7 @@
 -- What a test of a pair answers of two types.
 use Rattle.std.proofs.Common.{◌≡◌, ◌⊎◌, ◌↔◌, ℕ, suc, ◌<◌, Bool, true, false, IsTrue, refl, sym, ◌∙◌, subst, inl, inr, arith}
 use Rattle.relation_terms.specs.Heads.{type_sort, const_sort, region_sort}
-use Rattle.relation_terms.specs.Trees.{Tree, leaf, node, bind, nil, cons, known, size}
+use Rattle.relation_terms.specs.Trees.{Tree, known, size}
 use Rattle.relation_terms.specs.Parts.{tree_sort}
 use Rattle.relation_terms.specs.Meaning.{Meaning, arg_tree}
 use Rattle.relation_terms.specs.declared.terms.keys.TyKey.{TyKey}

@@ -1,7 +1,7 @@
 -- Terms that clash have no common instance.
-use Rattle.std.proofs.Common.{◌≡◌, ℕ, Bool, true, false, not, ◌||◌, List, refl, sym, ap, ap₂, subst, ◌∙◌}
+use Rattle.std.proofs.Common.{◌≡◌, ℕ, Bool, true, false, not, ◌||◌, refl, sym, ap, ap₂, subst, ◌∙◌}
 use Rattle.relation_terms.specs.Heads.{Sort, region_sort, type_sort, const_sort, value_sort, value_type_sort}
-use Rattle.relation_terms.specs.Heads.{leaf_sort, head_sort, atom_sort, region_kind, bound_kind, BoundKind}
+use Rattle.relation_terms.specs.Heads.{leaf_sort, head_sort, atom_sort, region_kind, bound_kind}
 use Rattle.relation_terms.specs.Heads.{int_var, float_var, region_var, Atom, type_param, const_param}
 use Rattle.relation_terms.specs.Heads.{early_region, Head, value_type}
 use Rattle.relation_terms.specs.Heads.{Leaf, variable, bound, placeholder, atom, unknown}

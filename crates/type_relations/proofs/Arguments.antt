@@ -1,9 +1,9 @@
 -- Forms that are related by their parts, one after another.
 use Rattle.std.proofs.Common.{◌≡◌, ◌≢◌, ℕ, ◌<◌, refl, sym, ap, ◌∙◌, ◌↔◌, subst, subst₂, inr, arith, IsTrue, Ok, Err}
 use Rattle.term_enums.specs.declared.Variance.{Variance}
-use Rattle.relation_terms.specs.Heads.{Sort, AliasTermKind, Head, adt, fn_def, alias, alias_term}
+use Rattle.relation_terms.specs.Heads.{AliasTermKind, Head, adt, fn_def, alias, alias_term}
 use Rattle.relation_terms.specs.Heads.{arguments, trait_ref}
-use Rattle.relation_terms.specs.Trees.{Tree, leaf, node, bind, nil, cons, Assign, apply, known, count, nth, IsList, AreTerms}
+use Rattle.relation_terms.specs.Trees.{Tree, node, Assign, apply, known, count, nth}
 use Rattle.relation_terms.specs.Meaning.{Meaning, Extends}
 use Rattle.relation_terms.specs.Predicates.{alias_term_kind, alias_term_id}
 use Rattle.relation_terms.specs.declared.terms.keys.TyKey.{TyKey}

@@ -1,5 +1,5 @@
 -- The parts that are related of types and constants, among those of terms of any sort: they are generic arguments.
-use Rattle.std.proofs.Common.{◌≡◌, ℕ, zero, suc, ◌<◌, refl, sym, subst, subst₂, arith, IsTrue, Option, Some, None}
+use Rattle.std.proofs.Common.{◌≡◌, ℕ, ◌<◌, refl, sym, subst, subst₂, IsTrue, Option, Some, None}
 use Rattle.std.proofs.Common.{List, [], ◌∷◌, map}
 use Rattle.relation_terms.specs.Heads.{Sort, type_sort, const_sort, value_sort, argument_sort, Admits, head_sort}
 use Rattle.relation_terms.specs.Heads.{Part, term_of, binder_of, Shape, one, row, head_parts}

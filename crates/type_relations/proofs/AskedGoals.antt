@@ -1,19 +1,19 @@
 -- Where what is asked of aliases is so, two terms of which one is an alias are related, and so are terms over such that
 -- agree.
-use Rattle.std.proofs.Common.{◌≡◌, ◌≢◌, ◌⊎◌, ℕ, zero, suc, ◌<◌, ◌+◌, refl, sym, ap, ◌∙◌, inl, inr, subst, subst₂, arith, None, Bool, true, false}
+use Rattle.std.proofs.Common.{◌≡◌, ◌≢◌, ◌⊎◌, ℕ, zero, suc, ◌<◌, ◌+◌, refl, sym, ◌∙◌, inl, inr, subst, subst₂, arith, None, Bool, true, false}
 use Rattle.std.proofs.lemmas.Bool.{false≢true}
 use Rattle.term_enums.specs.declared.Variance.{Variance}
 use Rattle.term_enums.specs.declared.Variance.TheVariants.{Covariant, Contravariant, Invariant, Bivariant}
 use Rattle.term_enums.specs.declared.AliasRelationDirection.TheVariants.{Equate, Subtype}
-use Rattle.relation_terms.specs.Heads.{region_sort, type_sort, const_sort, region_kind, type_kind, const_kind, bound_kind, leaf_sort, Head, fn_ptr, unsafe_binder, alias, alias_term, unevaluated, Leaf, variable, bound, placeholder, atom, unknown, host_effect, subtype, region_outlives, type_outlives, projection, const_has_type, well_formed, const_evaluatable, coerce, normalizes_to, alias_relate, environment}
+use Rattle.relation_terms.specs.Heads.{region_sort, type_sort, const_sort, leaf_sort, Head, alias, unevaluated, Leaf, variable, bound, placeholder, atom, unknown, host_effect, subtype, region_outlives, type_outlives, projection, const_has_type, well_formed, const_evaluatable, coerce, normalizes_to, alias_relate, environment}
 use Rattle.relation_terms.specs.Trees.{Tree, leaf, node, bind, nil, cons, count, nth, Leaves, Assign, apply, IsList}
 use Rattle.relation_terms.specs.Equality.{same_tree}
 use Rattle.relation_terms.proofs.Equality.{same_is, is_same}
-use Rattle.relation_semantics.specs.Relation.{Items, Interpretation, Rel, at, parts, same, anything, regions, alias_types, equal_consts, atoms, forms, no_parts, next_part, part_at, plain, sort_of, IsAlias, IsAliasHead, IsRelatedHead, IsEqualPair, IsOrderedPair, IsValueLeaf}
-use Rattle.relation_semantics.specs.Settings.{Settings, LeavesAliases}
+use Rattle.relation_semantics.specs.Relation.{Items, Interpretation, Rel, at, parts, same, anything, regions, alias_types, equal_consts, forms, no_parts, next_part, part_at, plain, sort_of, IsAliasHead, IsRelatedHead, IsEqualPair, IsOrderedPair, IsValueLeaf}
+use Rattle.relation_semantics.specs.Settings.{Settings}
 use Rattle.relation_semantics.specs.Steps.{HasNoBinder}
 use Rattle.relation_semantics.specs.Goals.{alias_relate_predicate}
-use Rattle.relation_semantics.specs.Errors.{outer_leaf, AreAlike, IsLeftToGoal}
+use Rattle.relation_semantics.specs.Errors.{AreAlike, IsLeftToGoal}
 use Rattle.relation_semantics.specs.Agreeing.{IsFlexible, AreFlexible, IsLeftAside, Agree}
 use Rattle.relation_semantics.specs.Asking.{a_goal, HaveAlias, AsksFor, of_aliases, of_unevaluated, of_parts, IsPlainLeaf, IsPlainHead, IsPlainTerm}
 use Rattle.relation_semantics.proofs.Agreeing.{agree_sorts}

@@ -1,6 +1,6 @@
 -- Bivariant arguments that are left open.
-use Rattle.std.proofs.Common.{◌≡◌, ◌⊎◌, ◌↔◌, ℕ, suc, ◌<◌, refl, sym, ap, ap₂, ◌∙◌, arith, inl, inr, subst, subst₂, Bool, true, false, ◌||◌, List, IsTrue, Result, Ok, Err}
-use Rattle.std.proofs.lemmas.Bool.{false≢true}
+use Rattle.std.proofs.Common.{◌≡◌, ◌⊎◌, ◌↔◌, ℕ, suc, ◌<◌, refl, sym, ap, ◌∙◌, arith, inl, inr, subst, subst₂, ⊎_elim, Bool, false, List, IsTrue, Result, Ok, Err}
+use Rattle.std.proofs.lemmas.Bool.{false≢true, or_cases}
 use Rattle.relation_terms.specs.declared.terms.ids.DefId.{DefId}
 use Rattle.relation_terms.specs.declared.terms.keys.ArgsKey.{ArgsKey}
 use Rattle.relation_terms.specs.declared.terms.keys.TyKey.{TyKey}
@@ -14,7 +14,7 @@ use Rattle.relation_semantics.specs.Relation.{Items}
 use Rattle.type_relations.specs.Arguments.{AreOverItem, adts, functions}
 use Rattle.type_relations.specs.Bivariance.{is_left_open, IsOpenAt, HasOpenArgument, TellsOpen, TellsEitherOpen, RegistersWellFormed, AsksWellFormed, AsksOfOver}
 use Rattle.type_relations.specs.Keyed.{AreOver}
-use Rattle.relation_semantics.specs.Lawful.{State, declared_by, items_of, items_in}
+use Rattle.relation_semantics.specs.Lawful.{State, items_of, items_in}
 use Rattle.relation_semantics.specs.Goals.{Goal, HasBivariantPart}
 use Rattle.relation_semantics.specs.Stores.{Store, entry_term, resolved, IsSound, IsTermIn}
 use Rattle.relation_semantics.proofs.Building.{built_nth, resolved_built}
@@ -89,11 +89,8 @@ open_varies k (leaf unknown) h o = absurd (false≢true o)
 open_varies k (node f ts) h o = open_varies k ts h.1 o
 open_varies k (bind ks t) h o = open_varies k t h.1 o
 open_varies k nil h o = absurd (false≢true o)
-open_varies k (cons t u) h o = go (has_non_region_infer t) refl
-  where
-    go : (b : Bool) → has_non_region_infer t ≡ b → IsTrue k.variables
-    go true e = open_varies k t h.0 e
-    go false e = open_varies k u h.1 (sym (ap (λ b. b || has_non_region_infer u) e) ∙ o)
+open_varies k (cons t u) h o = ⊎_elim (λ e. open_varies k t h.0 e) (λ e. open_varies k u h.1 e)
+    (or_cases (has_non_region_infer t) (has_non_region_infer u) o)
 
 open_argument : (k : Kit) (c : Items) (st : Store) (d : ℕ) (ts : Tree) → BindsBuiltOf k st → IsBuiltOf k ts →
     HasOpenArgument c st d ts → IsTrue k.variables

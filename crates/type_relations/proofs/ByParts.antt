@@ -1,6 +1,5 @@
 -- Parts at one place: what is paired with what, and what is compared.
-use Rattle.std.proofs.Common.{◌≡◌, ℕ, zero, suc, ◌+◌, refl, sym, ap, ap₂, subst, inl, inr, [], ◌∷◌, OnOk}
-use Rattle.std.proofs.Common.{Result, Ok, Err}
+use Rattle.std.proofs.Common.{◌≡◌, ℕ, zero, suc, ◌+◌, refl, sym, ap, ap₂, subst, inl, inr, [], ◌∷◌}
 use Rattle.term_enums.specs.declared.Variance.{Variance}
 use Rattle.relation_terms.specs.declared.terms.generic_arg.GenericArgKind.{GenericArgKind}
 use Rattle.relation_terms.specs.declared.terms.generic_arg.GenericArgKind.TheVariants.{Lifetime}

@@ -164,14 +164,14 @@ none_keyed m [] q = refl
 none_keyed m (g ∷ gs) q = absurd cc
 
 pub asks_nothing : {S Key Id Name A : Type 0} (state : S → Context Key Id Name) (old new : S) (over : Option Head)
-    (tree : Meaning Key Id Name → A → Tree) (a b : A) (k : Settings) {e : ParamEnvKey Key} {v : Variance} →
+    (tree : Meaning Key Id Name → A → Tree) (a b : A) (k : Settings) (e : ParamEnvKey Key) (v : Variance) →
     IsSound (state old).store →
     (result : Result (Vec (KeyedGoal Key (PredicateKey Key))) (RelateFault Key Id Name)) →
     StaysBuilt (state old).store (state new).store (answered_goals state old new over tree result)
     (term_in (state old) over tree a) (term_in (state old) over tree b) →
     RegistersGoals (state old) (state new) k e v result → AsksNothing state old new over tree a b result
-asks_nothing state old new over tree a b k sound (Err f) built h p q n o = tt
-asks_nothing state old new over tree a b k sound (Ok goals) built h p q n o =
+asks_nothing state old new over tree a b k e v sound (Err f) built h p q n o = tt
+asks_nothing state old new over tree a b k e v sound (Ok goals) built h p q n o =
     none_keyed (state new).meaning goals.items (none_registered (goals_of (state new).meaning goals.items)
     (built (closed_kit no_aliases) (lacking_built (term_in (state old) over tree a) p n)
     (lacking_built (term_in (state old) over tree b) q o) (closed_binds no_aliases (state old).store sound)).asks h.1)

@@ -1,9 +1,9 @@
 -- The error of two constants at one variance is theirs at each.
-use Rattle.std.proofs.Common.{◌≡◌, ◌≢◌, ℕ, zero, suc, ◌<◌, refl, sym, ap, ◌∙◌, subst, arith}
+use Rattle.std.proofs.Common.{◌≡◌, ◌≢◌, ℕ, refl, sym, ap, ◌∙◌, subst}
 use Rattle.term_enums.specs.declared.Variance.{Variance}
 use Rattle.term_enums.specs.declared.Variance.TheVariants.{Bivariant}
-use Rattle.relation_terms.specs.Heads.{Sort, const_sort, Admits, head_sort, VarKind, const_var, Head, unevaluated, expression, value, variable}
-use Rattle.relation_terms.specs.Trees.{Tree, leaf, node, bind, nil, cons, IsTerm, AreTerms, count, nth}
+use Rattle.relation_terms.specs.Heads.{const_sort, Admits, head_sort, VarKind, const_var, Head, unevaluated, expression, value, variable}
+use Rattle.relation_terms.specs.Trees.{Tree, leaf, IsTerm, nth}
 use Rattle.relation_terms.specs.Meaning.{Meaning}
 use Rattle.relation_folds.specs.declared.error.TypeError.{TypeError}
 use Rattle.relation_semantics.specs.Relation.{Items, part_at}

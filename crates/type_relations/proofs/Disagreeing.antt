@@ -1,27 +1,25 @@
 -- No error comes of plain terms whose erasures agree.
-use Rattle.std.proofs.Common.{◌≡◌, ◌≢◌, ◌⊎◌, ℕ, zero, suc, ◌<◌, refl, sym, ap, ◌∙◌, inl, inr, subst, subst₂, arith, List, Bool}
+use Rattle.std.proofs.Common.{◌≡◌, ℕ, ◌<◌, refl, sym, ap, ◌∙◌, inl, inr, subst, subst₂, arith, List, Bool}
 use Rattle.term_enums.specs.declared.Variance.{Variance}
 use Rattle.term_enums.specs.declared.Variance.TheVariants.{Bivariant}
 use Rattle.relation_terms.specs.declared.terms.keys.TyKey.{TyKey}
 use Rattle.relation_terms.specs.declared.terms.keys.ConstKey.{ConstKey}
 use Rattle.relation_terms.specs.Heads.{region_sort, type_sort, const_sort, existential_sort, BoundKind, head_sort, Head, array, alias, alias_term, ref, raw_ptr, signature, inputs, value, value_type, value_branch, trait_ref, trait_clause, existential_auto, existential_trait, existential_projection, atom}
-use Rattle.relation_terms.specs.Trees.{Tree, leaf, node, bind, nil, cons, count, nth, inst, IsTerm}
-use Rattle.relation_terms.specs.Erasure.{erase}
+use Rattle.relation_terms.specs.Trees.{Tree, leaf, node, bind, nil, cons, count, nth, IsTerm}
 use Rattle.relation_terms.specs.Meaning.{Meaning}
 use Rattle.relation_terms.specs.Interning.{Sorted}
 use Rattle.relation_folds.specs.declared.error.TypeError.{TypeError}
 use Rattle.relation_semantics.specs.declared.relate.StructurallyRelateAliases.{StructurallyRelateAliases}
-use Rattle.relation_semantics.specs.Relation.{Items, at, parts, part_at, sort_of, IsAlias, IsAliasHead}
+use Rattle.relation_semantics.specs.Relation.{Items, at, part_at, sort_of, IsAlias, IsAliasHead}
 use Rattle.relation_semantics.specs.Settings.{Settings}
 use Rattle.relation_semantics.specs.Stores.{Store}
-use Rattle.relation_semantics.specs.Errors.{AreAlike, IsHandedOn, IsItemHead, IsLeftToGoal, FormError, mutability, pointer_mutability, tuple_size, empty_tuple, as_many, alias_arguments, unlike_aliases, sorts}
+use Rattle.relation_semantics.specs.Errors.{IsHandedOn, IsItemHead, FormError, mutability, pointer_mutability, tuple_size, empty_tuple, as_many, alias_arguments, unlike_aliases, sorts}
 use Rattle.relation_semantics.specs.Errors.{ConstFormError, const_mismatch, operations, unlike_patterns, SignatureError, unlike_variadic, unlike_safety, unlike_abi, unlike_counts, ExistentialError, unlike_traits, unlike_auto_traits, unlike_projections, unlike_arguments, unlike_existentials, ItemError, unlike_alias_terms, unlike_trait_refs, unlike_lists, unlike_polarities}
 use Rattle.relation_semantics.specs.Errors.{PartError, pattern_error, signature_error, existential_error, item_error, object_error, BindingError, cyclic_ty, cyclic_const, beyond, ErrorOf, of_entries, of_bodies, of_binding, of_binding_back, of_kinds, by_forms, ErrorByForms, of_forms, of_const_forms, of_part_forms, of_parts, of_alias_parts, of_alias_term_parts, of_trait_refs, of_length, of_inputs, of_outputs, of_branches}
 use Rattle.relation_semantics.specs.Agreeing.{Agree}
-use Rattle.relation_semantics.specs.Asking.{HasNoAlias}
 use Rattle.relation_semantics.proofs.Answering.{covariantly}
 use Rattle.relation_semantics.proofs.Asking.{part_bivariant}
-use Rattle.type_relations.proofs.PlainTerms.{Suits, Good, good_parts, good_first, good_rest, good_nth, suits_body, alias_left, Alike, Met, met_as, FormsAgree, forms_agree, no_alias_head, agree_counts, agree_at, same_sort, leaves_alike, types_alike}
+use Rattle.type_relations.proofs.PlainTerms.{Good, good_parts, good_nth, suits_body, alias_left, Alike, Met, met_as, FormsAgree, forms_agree, agree_counts, agree_at, same_sort, leaves_alike, types_alike}
 use Rattle.type_relations.proofs.PlainForms.{no_pattern, stand_regions, inst_plain, inst_no_alias, erase-inst, RegionsUnbound, read_good, no_placeholder, plain_known, consts_alike, existentials_alike}
 use Rattle.relation_terms.proofs.Members.{type_only}
 use Rattle.relation_semantics.proofs.Leaving.{normal_not_left}

@@ -5,7 +5,7 @@ use Rattle.term_enums.specs.declared.Variance.{Variance}
 use Rattle.term_enums.specs.declared.Variance.TheVariants.{Bivariant, Invariant}
 use Rattle.relation_terms.specs.declared.terms.part_kind.Part.{Part}
 use Rattle.relation_terms.specs.Heads.{Sort}
-use Rattle.relation_terms.specs.Trees.{Tree, node, leaf, bind, nil, cons, known, IsTerm, IsList, count, nth, apply}
+use Rattle.relation_terms.specs.Trees.{Tree, node, leaf, known, IsTerm, IsList, count, nth, apply}
 use Rattle.relation_terms.specs.Trees.{Assign}
 use Rattle.relation_terms.specs.Parts.{Fit, part_sort, tree_sort}
 use Rattle.relation_folds.specs.declared.error.TypeError.{TypeError}
@@ -40,7 +40,7 @@ use Rattle.relation_semantics.proofs.OneUniverse.{leaves_parts, keeps_binds, bin
 use Rattle.relation_semantics.proofs.OneParts.{parts_equal}
 use Rattle.type_relations.proofs.PartSizes.{weight_parts_most}
 use Rattle.relation_semantics.proofs.Answering.{same_items, may_itself, AnswersParts, may_form}
-use Rattle.relation_semantics.proofs.Lists.{firsts, snoc, firsts_more, firsts_all}
+use Rattle.relation_semantics.proofs.Lists.{firsts, firsts_all}
 use Rattle.type_relations.proofs.Patterns.{term_related}
 use Rattle.type_relations.proofs.PartErrors.{term_looked_at, terms_unify, part_error_never, part_error_apart}
 use Rattle.type_relations.proofs.PartErrors.{part_error_known}

@@ -14,7 +14,6 @@ use Rattle.relation_terms.proofs.Stays.{stays_same}
 use Rattle.relation_folds.specs.declared.error.RelateFault.TheVariants.{Memory}
 use Rattle.relation_semantics.specs.declared.relate.Step.TheVariants.{Done}
 use Rattle.relation_semantics.specs.Agreeing.{IsFlexible, Agree}
-use Rattle.relation_semantics.specs.FirstOrder.{IsFirstOrder}
 use Rattle.relation_semantics.specs.AliasGoals.{alias_at}
 use Rattle.relation_semantics.specs.Errors.{IsOpaque, IsOpaqueBeside}
 use Rattle.relation_semantics.specs.Goals.{goal_of, IsRegistered, of_alias, of_too_much, alias_relate_predicate, ambiguous_predicate}

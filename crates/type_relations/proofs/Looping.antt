@@ -1,8 +1,8 @@
 -- The next parts of two forms: what is asked of them, and that they are smaller.
 use Rattle.std.proofs.Common.{◌≡◌, ℕ, suc, ◌+◌, ◌*◌, ◌<◌, refl, sym, ap, ◌∙◌, subst, subst₂, arith, IsTrue, List, Option, Result, Ok, Err}
 use Rattle.term_enums.specs.declared.Variance.{Variance}
-use Rattle.relation_terms.specs.Heads.{Head, Leaf, unevaluated, expression, value, value_branch}
-use Rattle.relation_terms.specs.Trees.{Tree, node, nil, cons, Leaves, known, count, nth}
+use Rattle.relation_terms.specs.Heads.{Head, Leaf}
+use Rattle.relation_terms.specs.Trees.{Tree, Leaves, known, count, nth}
 use Rattle.relation_terms.specs.declared.terms.keys.ConstKey.{ConstKey}
 use Rattle.relation_terms.specs.declared.terms.generic_arg.GenericArgKind.{GenericArgKind}
 use Rattle.relation_folds.specs.declared.error.RelateFault.{RelateFault}
@@ -11,7 +11,7 @@ use Rattle.relation_semantics.specs.Stores.{IsTermIn, weight}
 use Rattle.relation_semantics.specs.Measures.{depth}
 use Rattle.relation_semantics.specs.Goals.{Goal}
 use Rattle.relation_semantics.specs.Errors.{AreOfOneForm, over_parts, over_aliases, one_leaf, parameters, AreOfOneConst, values, expressions, over_arguments, const_parameters, one_const_leaf}
-use Rattle.relation_semantics.specs.Parts.{parts_of, const_parts_of, branches_of, head_of, const_head_of, IsByParts}
+use Rattle.relation_semantics.specs.Parts.{parts_of, const_parts_of, head_of, const_head_of, IsByParts}
 use Rattle.type_relations.specs.Handing.{IsFaultOfTy, IsFaultOfConst, IsFaultOfPart, IsResultOfTy, IsResultOfConst, IsResultOfPart}
 use Rattle.relation_semantics.specs.Lawful.{State, Manner, Manners, TakesParts, Takes, Asked, LeadsToParts, LeadsAgain, items_in}
 use Rattle.relation_semantics.proofs.Going.{depth-mono, depth-strict, depth-spent, depth_later}

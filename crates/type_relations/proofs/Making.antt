@@ -8,8 +8,7 @@ use Rattle.relation_terms.specs.Heads.{value, value_type}
 use Rattle.relation_terms.specs.Trees.{Tree, leaf, node, bind, nil, cons, known, list_tree, count, nth, IsList, IsTerm}
 use Rattle.relation_terms.specs.Meaning.{Meaning, arg_tree}
 use Rattle.relation_terms.specs.Interning.{Sorted}
-use Rattle.relation_semantics.specs.Making.{arg_sort, FitArgs, over}
-use Rattle.relation_semantics.specs.Parts.{parts_of}
+use Rattle.relation_semantics.specs.Making.{arg_sort, FitArgs}
 use Rattle.relation_semantics.proofs.Lists.{firsts, snoc, firsts_more, firsts_all}
 
 module _ {Key : Type 0} where

@@ -13,9 +13,7 @@ use Rattle.relation_semantics.specs.Measures.{Goes}
 use Rattle.relation_semantics.specs.Goals.{Goal, IsQuiet}
 use Rattle.relation_semantics.specs.Kits.{Kit, IsBuiltOf, BindsBuiltOf, IsGoalOf}
 use Rattle.relation_semantics.specs.Lawful.{State, Noted, OnlyMemory, WithMeaning, RegisteredIn}
-use Rattle.relation_semantics.specs.Steps.{IsLater}
-use Rattle.relation_semantics.specs.Stores.{Store}
-use Rattle.relation_semantics.proofs.Going.{goes_nowhere, later_itself}
+use Rattle.relation_semantics.proofs.Going.{goes_nowhere}
 use Rattle.relation_semantics.proofs.Passing.{passes_then, passes_nowhere, passes_grown}
 
 module _ {Key Id Name : Type 0} where

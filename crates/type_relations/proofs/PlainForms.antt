@@ -1,13 +1,13 @@
 -- Plain constants, value trees and predicates of trait objects whose erasures agree are alike; what stands in for the
 -- regions of binders, and what a plain term is read as.
-use Rattle.std.proofs.Common.{◌≡◌, ◌≢◌, ◌⊎◌, ℕ, zero, suc, refl, sym, ap, ap₂, ◌∙◌, inl, inr, subst, subst₂, List, [], ◌∷◌, Bool, true, false, cond, nat_eq, IsTrue, ◌&&◌}
+use Rattle.std.proofs.Common.{◌≡◌, ◌≢◌, ◌⊎◌, ℕ, zero, suc, refl, sym, ap, ap₂, ◌∙◌, inl, inr, subst, subst₂, List, [], ◌∷◌, Bool, true, false, cond, nat_eq, IsTrue}
 use Rattle.term_enums.specs.declared.Variance.{Variance}
 use Rattle.term_enums.specs.declared.Variance.TheVariants.{Bivariant}
 use Rattle.relation_terms.specs.Heads.{Sort, region_sort, const_sort, pattern_sort, existential_sort, value_sort, Kind, region_kind, type_kind, const_kind, kind_sort, BoundKind, bound_kind, bound_sort, VarKind, region_var, var_sort, leaf_sort, head_sort, atom_sort, head_parts}
 use Rattle.relation_terms.specs.Heads.{Atom, existential_auto, not_null_pattern, value_leaf, Head, alias, unevaluated, expression, value, value_type, value_branch, range_pattern, or_pattern, existential_trait, existential_projection, Leaf, variable, bound, placeholder, atom, unknown}
 use Rattle.relation_terms.specs.Trees.{Tree, leaf, node, bind, nil, cons, inst, put, tree_at, apply, known, IsTerm, Fits}
 use Rattle.relation_terms.specs.Erasure.{erase, kept_parts}
-use Rattle.relation_semantics.specs.Relation.{Items, at, parts, plain_atom, sort_of, IsAlias, IsAliasHead}
+use Rattle.relation_semantics.specs.Relation.{Items, parts, plain_atom, sort_of, IsAlias, IsAliasHead}
 use Rattle.relation_semantics.specs.FirstOrder.{IsFirstOrderAtom}
 use Rattle.relation_semantics.specs.Settings.{Settings}
 use Rattle.relation_semantics.specs.Stores.{Store, unbound, bound_to, entry_of, resolved, resolve, through, entry_term}
@@ -18,7 +18,7 @@ use Rattle.relation_semantics.specs.Asking.{IsPlainLeaf, IsPlainHead, BindsRegio
 use Rattle.relation_semantics.proofs.Answering.{covariantly}
 use Rattle.relation_semantics.proofs.Erased.{erase_region}
 use Rattle.relation_semantics.proofs.Related.{no_region_head}
-use Rattle.type_relations.proofs.PlainTerms.{Good, good_parts, good_first, good_rest, Met, FormsAgree, forms_agree, agree_counts, leaves_alike, leaf_form, form_leaf, Alike, const_no_region, value_no_region, sort_no_region, no_alias_head}
+use Rattle.type_relations.proofs.PlainTerms.{Good, good_parts, good_first, good_rest, Met, forms_agree, agree_counts, leaves_alike, leaf_form, form_leaf, Alike, const_no_region, value_no_region, sort_no_region, no_alias_head}
 use Rattle.relation_terms.proofs.Members.{const_only, value_only}
 use Rattle.relation_semantics.proofs.Leaving.{normal_not_left}
 use Rattle.type_relations.proofs.Comparing.{value_shape}

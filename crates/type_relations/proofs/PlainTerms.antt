@@ -1,23 +1,21 @@
 -- Plain terms whose erasures agree are alike in their outermost forms, and stay plain where binders are opened.
-use Rattle.std.proofs.Common.{◌≡◌, ◌≢◌, ◌⊎◌, ℕ, zero, suc, ◌+◌, ◌<◌, refl, sym, ap, ap₂, ◌∙◌, inl, inr, subst, subst₂, arith, List, [], ◌∷◌, Bool, true, false, cond, nat_eq}
+use Rattle.std.proofs.Common.{◌≡◌, ◌≢◌, ◌⊎◌, ℕ, zero, suc, ◌+◌, ◌<◌, refl, sym, ap, ◌∙◌, inl, inr, subst, subst₂, arith, List, false}
 use Rattle.std.proofs.lemmas.Bool.{false≢true}
 use Rattle.term_enums.specs.declared.Variance.{Variance}
 use Rattle.term_enums.specs.declared.Variance.TheVariants.{Bivariant}
-use Rattle.relation_terms.specs.Heads.{Sort, region_sort, type_sort, const_sort, pattern_sort, existential_sort, value_sort, Kind, region_kind, type_kind, const_kind, kind_sort, BoundKind, bound_kind, bound_sort, VarKind, region_var, var_sort, leaf_sort, head_sort, atom_sort, Admits, head_parts}
-use Rattle.relation_terms.specs.Heads.{Atom, type_param, const_param, early_region, existential_auto, not_null_pattern, value_leaf, Head, alias, alias_term, unevaluated, expression, value, value_type, value_branch, range_pattern, or_pattern, existential_trait, existential_projection, Leaf, variable, bound, placeholder, atom, unknown}
-use Rattle.relation_terms.specs.Trees.{Tree, leaf, node, bind, nil, cons, count, nth, inst, put, tree_at, known, IsTerm, Fits}
-use Rattle.relation_terms.specs.Erasure.{erase, erase_leaf, erase_atom, kept_parts}
-use Rattle.relation_semantics.specs.Relation.{Items, at, parts, part_at, plain, plain_atom, sort_of, IsAlias, IsAliasHead, IsErrorAtom}
-use Rattle.relation_semantics.specs.FirstOrder.{IsFirstOrderAtom}
+use Rattle.relation_terms.specs.Heads.{Sort, region_sort, type_sort, const_sort, value_sort, region_kind, type_kind, const_kind, BoundKind, bound_kind, leaf_sort}
+use Rattle.relation_terms.specs.Heads.{Head, alias, alias_term, value_type, Leaf, variable, bound, placeholder, atom, unknown}
+use Rattle.relation_terms.specs.Trees.{Tree, leaf, node, bind, nil, cons, count, nth, IsTerm}
+use Rattle.relation_terms.specs.Erasure.{erase, erase_leaf, kept_parts}
+use Rattle.relation_semantics.specs.Relation.{Items, at, parts, part_at, plain, sort_of, IsAlias, IsAliasHead}
 use Rattle.relation_semantics.specs.Settings.{Settings, LeavesAliases, LeavesOpaque}
 use Rattle.relation_semantics.specs.Steps.{HasNoBinder}
-use Rattle.relation_semantics.specs.Errors.{outer_leaf, outer_head, AreAlike, AreOfOneValue, one_value, as_many_branches, AreAlikeConsts, alike_leaves, both_values, AreAlikeExistentials, both_traits, both_projections, both_auto_traits, IsStandIn, StandFor, IsLeftToGoal}
+use Rattle.relation_semantics.specs.Errors.{outer_leaf, outer_head, AreAlike, IsLeftToGoal}
 use Rattle.relation_semantics.specs.Agreeing.{IsFlexible, AreFlexible, IsLeftAside, Agree}
-use Rattle.relation_semantics.specs.Asking.{IsPlainLeaf, IsPlainHead, BindsRegions, IsPlainTerm, HasNoAlias, ArePlain, without_aliases, without_binders}
+use Rattle.relation_semantics.specs.Asking.{IsPlainLeaf, IsPlainHead, IsPlainTerm, HasNoAlias, ArePlain, without_aliases, without_binders}
 use Rattle.relation_semantics.proofs.Agreeing.{agree_sorts}
-use Rattle.relation_semantics.proofs.Answering.{covariantly}
 use Rattle.relation_semantics.proofs.Asking.{no_alias_term}
-use Rattle.relation_semantics.proofs.Erased.{erase_region, no_error_atom}
+use Rattle.relation_semantics.proofs.Erased.{no_error_atom}
 use Rattle.relation_semantics.proofs.Leaving.{opaque_is_alias, beside_is_opaque}
 use Rattle.type_relations.proofs.RegionTerms.{erased_error, leaf_outer, outer_erased}
 use Rattle.type_relations.proofs.Unifying.{erased_sort}

@@ -1,7 +1,7 @@
 -- A step that was taken from terms as they are read was taken from the terms.
-use Rattle.std.proofs.Common.{◌≡◌, ◌+◌, List, ◌≤◌, ℕ, None, Result, Ok, Err, refl, sym, ap, ap₂, ◌∙◌, arith, subst, subst₂}
+use Rattle.std.proofs.Common.{◌≡◌, ◌+◌, List, ◌≤◌, ℕ, None, Result, Ok, Err, sym, ap₂, ◌∙◌, arith, subst, subst₂}
 use Rattle.term_enums.specs.declared.Variance.{Variance}
-use Rattle.relation_terms.specs.Heads.{VarKind, const_var, variable, bound}
+use Rattle.relation_terms.specs.Heads.{VarKind, const_var, variable}
 use Rattle.relation_terms.specs.Trees.{Tree, leaf, Assign, apply}
 use Rattle.term_enums.specs.Variances.{xform}
 use Rattle.relation_folds.specs.declared.error.RelateFault.{RelateFault}
@@ -9,13 +9,12 @@ use Rattle.relation_folds.specs.declared.error.RelateFault.TheVariants.{Memory, 
 use Rattle.relation_semantics.specs.declared.relate.Step.{Step}
 use Rattle.relation_semantics.specs.declared.relate.Step.TheVariants.{Done, Parts, Again}
 use Rattle.relation_semantics.specs.Relation.{Interpretation, Rel, at}
-use Rattle.relation_semantics.specs.Stores.{Store, unbound, same_as, bound_to, entry_of, entry_term, bound_term, IsSound}
+use Rattle.relation_semantics.specs.Stores.{Store, unbound, entry_of, bound_term, IsSound}
 use Rattle.relation_semantics.specs.Stores.{Satisfies, IsMade, IsTermIn, weight}
 use Rattle.relation_semantics.specs.Goals.{Goal}
 use Rattle.relation_semantics.specs.Outcomes.{Outcome}
 use Rattle.relation_semantics.specs.Measures.{grown}
 use Rattle.relation_semantics.specs.Errors.{IsReadAs, of_entries}
-use Rattle.relation_semantics.specs.Parts.{IsFormed}
 use Rattle.relation_semantics.specs.Lawful.{State, Passes, Leads, StepVerdict, ExactVerdict, Stepped, items_in}
 use Rattle.relation_semantics.proofs.ReadAs.{read_value, read_later, read_weight}
 use Rattle.relation_semantics.proofs.Agreeing.{agree_read}
@@ -24,7 +23,7 @@ use Rattle.relation_semantics.proofs.Full.{read_plain}
 use Rattle.relation_semantics.specs.Kits.{BuiltFrom}
 use Rattle.relation_semantics.proofs.Building.{built_read}
 use Rattle.relation_semantics.proofs.Standing.{made_of_term}
-use Rattle.relation_semantics.specs.Resolving.{IsShallow, root, stays_bound, formed, IsShallowConst, const_root, no_variable}
+use Rattle.relation_semantics.specs.Resolving.{IsShallowConst, const_root, no_variable}
 use Rattle.type_relations.specs.Solving.{solver_manner}
 use Rattle.type_relations.proofs.Exactly.{read_pair, step_read, exact_read, apart_read}
 use Rattle.relation_semantics.specs.OneUniverse.{LeadsInUniverse}

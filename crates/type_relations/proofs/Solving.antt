@@ -285,7 +285,7 @@ module _ {Key Id Name : Type 0} {j j' : Held Key} (held : j' ≡ j) (gs : List (
               );
           full = λ ha hb. constraint_full was now (constraint_of m c) added;
           built = built_constraint was now (m.region a) (m.region b) added.same_entries added.same_universe
-              added.same_taint;
+              added.same_taint added.same_budget;
         }
 
   -- The same by what the variance asks for.

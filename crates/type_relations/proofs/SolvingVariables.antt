@@ -5,7 +5,7 @@ use Rattle.std.proofs.lemmas.List.Elements.{All-nil, All-cons}
 use Rattle.term_enums.specs.declared.Variance.{Variance}
 use Rattle.term_enums.specs.declared.Variance.TheVariants.{Covariant, Contravariant, Invariant, Bivariant}
 use Rattle.term_enums.specs.Variances.{xform}
-use Rattle.relation_terms.specs.Heads.{type_sort, const_sort, alias, unevaluated, VarKind, type_var, const_var, atom, variable, bound, placeholder, unknown}
+use Rattle.relation_terms.specs.Heads.{region_var, type_sort, const_sort, VarKind, type_var, const_var, atom, variable, bound, placeholder, unknown}
 use Rattle.relation_terms.specs.Trees.{Tree, leaf, node, bind, nil, cons, Assign, apply, known, IsTerm, Leaves}
 use Rattle.relation_terms.specs.Meaning.{Meaning, Extends}
 use Rattle.relation_folds.specs.declared.error.TypeError.{TypeError}

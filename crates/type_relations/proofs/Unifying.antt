@@ -2,7 +2,7 @@
 use Rattle.std.proofs.Common.{◌≡◌, ◌≢◌, ◌↔◌, ℕ, suc, refl, sym, ap, ◌∙◌, subst, subst₂, Err}
 use Rattle.relation_terms.specs.Heads.{type_sort, const_sort, value_sort, head_sort, atom_sort, leaf_sort, Atom, Head, Kind}
 use Rattle.relation_terms.specs.Heads.{bound_kind, region_kind, variable, bound, placeholder, atom, unknown, kind_sort}
-use Rattle.relation_terms.specs.Heads.{type_error, const_error, region_sort, early_region, type_param, const_param, ref, raw_ptr}
+use Rattle.relation_terms.specs.Heads.{region_sort, early_region, type_param, const_param, ref, raw_ptr}
 use Rattle.relation_terms.specs.Meaning.{Meaning}
 use Rattle.relation_terms.specs.declared.terms.keys.TyKey.{TyKey}
 use Rattle.relation_folds.specs.declared.error.TypeError.{TypeError}
@@ -14,9 +14,9 @@ use Rattle.relation_terms.specs.Heads.{Admits, region_var}
 use Rattle.relation_terms.specs.Heads.{unevaluated, expression, value, value_type, value_branch, Leaf, tuple, alias}
 use Rattle.relation_terms.specs.Trees.{Tree, leaf, node, bind, nil, cons, Assign, apply, count, IsList, IsTerm, Leaves}
 use Rattle.relation_terms.specs.Erasure.{erase, erase_atom, erase_kinded}
-use Rattle.relation_semantics.specs.Relation.{plain_atom, sort_of, IsAlias, IsError}
+use Rattle.relation_semantics.specs.Relation.{plain_atom, sort_of, IsAlias}
 use Rattle.relation_semantics.specs.FirstOrder.{IsFirstOrder, IsFirstOrderStore, Unifies}
-use Rattle.relation_semantics.specs.Errors.{AreAlike, outer_head, unlike_aliases, AreOfOneForm, over_parts, over_aliases, one_leaf, parameters}
+use Rattle.relation_semantics.specs.Errors.{AreAlike, unlike_aliases, AreOfOneForm, over_parts, over_aliases, one_leaf, parameters}
 use Rattle.relation_semantics.specs.Errors.{AreOfOneConst, values, expressions, over_arguments, const_parameters, one_const_leaf}
 use Rattle.relation_semantics.specs.Errors.{AreOfOneValue, one_value, as_many_branches}
 use Rattle.relation_semantics.specs.Stores.{Store}

@@ -3,7 +3,7 @@ ghost use Rattle.std.specs.Prelude.{◌≡◌, ◌≤◌, ◌<◌, IsTrue, IsFal
 ghost use Rattle.relation_reference.specs.declared.context.inner.VariableValue.TheVariants.{Known};
 ghost use Rattle.relation_reference.specs.Variables.{keys_of, values_of, universes_of, value_at, root_at};
 ghost use Rattle.relation_reference.specs.Variables.{universe_at, term_at, led_variable};
-ghost use Rattle.relation_reference.specs.Variables.{class_universe, led_values, led_universes};
+ghost use Rattle.relation_reference.specs.Variables.{class_universe, led_values, led_universes, LeadsDown};
 
 use crate::context::{Variable, VariableValue};
 use relation_terms::terms::UniverseIndex;

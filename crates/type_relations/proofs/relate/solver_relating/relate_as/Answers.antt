@@ -1,4 +1,4 @@
-use Rattle.std.proofs.Common.{◌<◌, Err, refl, sym, ap, ◌∙◌, arith, subst, [], All}
+use Rattle.std.proofs.Common.{◌≡◌, ◌<◌, Err, refl, sym, ap, ◌∙◌, arith, subst, [], All}
 use Rattle.std.proofs.lemmas.Bool.{false≢true}
 use Rattle.std.proofs.lemmas.List.Elements.{All-nil}
 use Rattle.relation_terms.specs.Trees.{apply}

@@ -17,7 +17,7 @@ use Rattle.relation_semantics.proofs.Lists.{firsts, firsts_more, firsts_all, sno
 use Rattle.relation_reference.specs.Tables.{store_of}
 use Rattle.relation_reference.specs.Remembering.{vid_kind, vid_number}
 use Rattle.relation_reference.proofs.Recalling.{met_eq, sure_grows}
-use Rattle.relation_reference.proofs.Resolving.{not_type, context_part}
+use Rattle.relation_reference.proofs.Resolving.{not_type, context_part, over_itself}
 use Rattle.relation_reference.proofs.Grows.{store_grows, lawful_grows}
 use Rattle.relation_reference.specs.Generalises.{side_of, new_kind, BecomesAlways}
 use Rattle.relation_reference.proofs.Clearing.{ty_eq, clear_grows, told_gives_way, alias_sort}
@@ -29,7 +29,6 @@ use Rattle.relation_reference.proofs.context.variables.RefCtxt.+generalise.Goals
 use Rattle.relation_terms.proofs.Members.{known_with_last}
 use Rattle.relation_folds.proofs.Members.{fit_next}
 use Rattle.relation_folds.proofs.Visiting.{has_sort}
-use Rattle.relation_semantics.proofs.Parts.{over_itself}
 
 pub generalise_new-next_for-requires-clause-has : goal.generalise_new-next_for-requires-clause-has
 generalise_new-next_for-requires-clause-has g t' c =

@@ -29,5 +29,5 @@ returns-clause-no_goals g c =
     let k = c.relate_as.ensures in
     let s = g.Infcx.InferCtxtLike.state c.args.self.now in
     asks_nothing g.Infcx.InferCtxtLike.state c.args.self.now c.relate_as.new.infcx g.T.Relate.over g.T.HasTree.tree
-    c.args.lhs c.args.rhs (solver_settings Yes s.setup) (g.met.Infcx.InferCtxtLike.sound c.args.self.now c.requires.lawful)
+    c.args.lhs c.args.rhs (solver_settings Yes s.setup) c.args.param_env Invariant (g.met.Infcx.InferCtxtLike.sound c.args.self.now c.requires.lawful)
     c.relate_as.result k.built k.goals
