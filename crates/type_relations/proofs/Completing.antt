@@ -1,6 +1,6 @@
 -- Plain terms without variables are related where they agree, all regions outliving each other and what is asked of
 -- aliases being so; where they are related their erasures agree, and no error comes.
-use Rattle.std.proofs.Common.{◌≡◌, ◌≢◌, ◌⊎◌, ℕ, suc, refl, sym, ap, ap₂, ◌∙◌, inl, inr, subst, subst₂, Option, Result, Ok, Err}
+use Rattle.std.proofs.Common.{◌≡◌, ◌≢◌, ◌⊎◌, ℕ, suc, refl, sym, ap, ap₂, ◌∙◌, inl, inr, subst, subst₂, Option, Result, Ok, Err, None}
 use Rattle.std.specs.Global.{Vec}
 use Rattle.term_enums.specs.declared.Variance.{Variance}
 use Rattle.term_enums.specs.declared.Variance.TheVariants.{Covariant, Bivariant}
@@ -15,21 +15,21 @@ use Rattle.relation_folds.specs.declared.error.RelateFault.TheVariants.{Memory, 
 use Rattle.relation_semantics.specs.declared.relate.StructurallyRelateAliases.{StructurallyRelateAliases}
 use Rattle.relation_semantics.specs.Contexts.{Context}
 use Rattle.relation_semantics.specs.Lawful.{items_of, declared_by}
-use Rattle.relation_semantics.specs.Stores.{IsSound}
+use Rattle.relation_semantics.specs.Stores.{IsSound, Constraint, outlives_constraint, equal_constraint, ConstraintHolds}
 use Rattle.relation_terms.specs.Heads.{Sort, region_sort, region_kind, type_kind, const_kind, bound_kind, region_var, leaf_sort, Atom, atom_sort, early_region, type_param, const_param, Head, fn_ptr, unsafe_binder, alias, alias_term, unevaluated, value_type, Leaf, variable, bound, placeholder, atom, unknown, one, term_of}
-use Rattle.relation_terms.specs.Trees.{Tree, leaf, node, bind, nil, cons, Leaves}
+use Rattle.relation_terms.specs.Trees.{Tree, leaf, node, bind, nil, cons, Leaves, Assign}
 use Rattle.relation_terms.specs.Erasure.{erase, erase_leaf, erase_atom, kept_parts}
-use Rattle.relation_semantics.specs.Relation.{Items, Interpretation, Rel, at, parts, same, anything, error_left, error_right, regions, alias_types, equal_consts, atoms, forms, no_parts, next_part, covariant_binders, contravariant_binders, invariant_binders, part_at, plain, sort_of, IsError, IsErrorAtom, IsAlias, IsAliasHead, IsValue, IsValueLeaf}
+use Rattle.relation_semantics.specs.Relation.{Items, Interpretation, Rel, at, parts, same, anything, error_left, error_right, regions, alias_types, equal_consts, atoms, forms, no_parts, next_part, covariant_binders, contravariant_binders, invariant_binders, part_at, plain, sort_of, IsError, IsErrorAtom, IsAlias, IsAliasHead, IsValue, IsValueLeaf, all_outlive}
 use Rattle.relation_semantics.specs.Settings.{Settings, LeavesAliases}
 use Rattle.relation_semantics.specs.Steps.{HasNoBinder}
 use Rattle.relation_semantics.specs.Errors.{outer_leaf, AreAlike, ErrorOf}
 use Rattle.relation_semantics.specs.Agreeing.{IsFlexible, AreFlexible, IsLeftAside, Agree}
-use Rattle.relation_semantics.specs.Asking.{HaveAlias, IsPlainHead, IsPlainTerm, HasNoAlias, ArePlain, without_aliases, without_binders}
+use Rattle.relation_semantics.specs.Asking.{HaveAlias, IsPlainHead, IsPlainTerm, HasNoAlias, ArePlain, without_aliases, without_binders, Wanted, a_constraint, a_goal, AsksFor}
 use Rattle.relation_semantics.proofs.Agreeing.{agree_anything, agree_same, agree_left, agree_sorts, region_flexible}
 use Rattle.relation_semantics.proofs.Asking.{no_alias_term}
 use Rattle.relation_semantics.proofs.Erased.{erase_region, erase_plain, no_error_atom, keeps_parts}
 use Rattle.type_relations.proofs.Unifying.{erased_sort}
-use Rattle.type_relations.specs.Completing.{AreRelatedAsAsked, AreNeverRelated, ErrorsDisagree, ErrorsAreUnrelated, AgreeingAreRelated, Complete}
+use Rattle.type_relations.specs.Completing.{AreRelatedAsAsked, AreNeverRelated, ErrorsDisagree, ErrorsAreUnrelated, AgreeingAreRelated, Complete, AskedHolds, IsSoWanted}
 use Rattle.type_relations.specs.Relating.{term_in, RelatesAgreeing, AnswersError}
 use Rattle.type_relations.specs.Solving.{solver_settings}
 use Rattle.type_relations.specs.RegionTerms.{IsRegionTermHead, IsRegionTerm}
@@ -217,6 +217,16 @@ module _ (set : Settings) (c : Items) where
         (erased_agree (part_at c h i v) a b f.0 g.0 r.0, erased_parts h (suc i) v xs ys f.1 g.1 r.1)
     erased_parts h i v xs ys f g r = erased_count xs ∙ r ∙ sym (erased_count ys)
 
+  -- Where all regions outlive each other, each constraint holds.
+  constraint_so : (w : Interpretation) (s : Assign) (q : Constraint) → w.outlives ≡ None → ConstraintHolds w s q
+  constraint_so w s (outlives_constraint a b) all = all_outlive all
+  constraint_so w s (equal_constraint a b) all = (all_outlive all, all_outlive all)
+
+  all_so : (w : Interpretation) (e : Tree) (s : Assign) (z : Wanted) → w.outlives ≡ None → (v : Variance) (a b : Tree) →
+      AsksFor c z v a b → AskedHolds c w e v a b → IsSoWanted c w e s z
+  all_so w e s (a_constraint q) all v a b asks asked = constraint_so w s q all
+  all_so w e s (a_goal p) all v a b asks asked = asked p asks s
+
   -- Those that agree are related, where all regions outlive each other and what is asked of aliases is so.
   related_as_asked : (e : Tree) (v : Variance) (s : Sort) (a b : Tree) → IsValue s a → IsValue s b → ArePlain set a b →
       Agree set c (at v) a b → AreRelatedAsAsked c e v a b
@@ -225,7 +235,7 @@ module _ (set : Settings) (c : Items) where
   related_as_asked e v s a b x y (without_binders p q f g l) r w all asked =
       let t = shaped (one (term_of s)) a x.0 in
       let u = shaped (one (term_of s)) b y.0 in
-      agreeing_related c w e set all v a b t.0 u.0 (t.1, p, f, x.1) (u.1, q, g, y.1) asked r
+      agreeing_related c w e set v a b t.0 u.0 (t.1, p, f, x.1) (u.1, q, g, y.1) (λ z asks s. all_so w e s z all v a b asks asked) r
 
 pub agreeing_are_related : AgreeingAreRelated
 agreeing_are_related k c e v s a b x y p r = related_as_asked k c e v s a b x y p r

@@ -144,9 +144,11 @@ module _ {Key Id Name : Type 0} {r q : State Key Id Name} (M : Manners) (v : Var
     term_refuses w {p = p} g Memory d t h =
         subst (RefusesAs w r p (at v) a b) (sym (same_part_fault (named_place a i) Memory d t (λ e z. cc))) tt
     term_refuses w {p = p} g Budget d t h =
-        subst (RefusesAs w r p (at v) a b) (sym (same_part_fault (named_place a i) Budget d t (λ e z. cc)))
-        (h.0, λ j ha hb. fronted_needs (head_of a) v i (parts_of a) (parts_of b) x y f lx ly ex ey h.1 j
-        (built_parts j a ha) (built_parts j b hb))
+        subst (RefusesAs w r p (at v) a b) (sym (same_part_fault (named_place a i) Budget d t (λ e z. cc))) (
+          h.0,
+          λ j ha hb. fronted_needs (head_of a) v i (parts_of a) (parts_of b) x y f lx ly ex ey h.1 j
+              (built_parts j a ha) (built_parts j b hb),
+        )
     term_refuses w {p = p} g (Unrelated e) d t h =
         let items : items_in p ≡ items_in r = same_items g ∙ same_items f.passes in
         let z = part_complains p.meaning p.kept.settings (items_in p) p.store v k l a b i ta tb form o lx x y ex ey many e d t

@@ -61,6 +61,7 @@ pub mod Disagreeing
 pub mod AskedGoals
 pub mod Completing
 pub mod Closed
+pub mod Asked
 mod BindingAsked
 mod CombiningTys
 mod Registering

@@ -118,9 +118,12 @@ module _ {Key Id Name : Type 0} where
   pub refused_first : (c d : Context Key Id Name) {K F : Type 0} (tree : Meaning Key Id Name → K → Tree) (t u : Tree)
       (r : Result (K × K) F) → IsErr r → d.store ≡ c.store → OpensBoth c d tree t u r
   refused_first c d tree t u (Ok x) h same = absurd (false≢true h)
-  refused_first c d tree t u (Err f) h same =
-      (c.store, same_changes c.store, refl,
-      (0, [], subst (MakesEach (c.store).universe c.store [] []) (sym same) (makes_none refl refl)))
+  refused_first c d tree t u (Err f) h same = (
+    c.store,
+    same_changes c.store,
+    refl,
+    (0, [], subst (MakesEach (c.store).universe c.store [] []) (sym same) (makes_none refl refl)),
+  )
 
 -- The relation of a context before opening and after it.
 module _ {Key Id Name : Type 0} (aliases : StructurallyRelateAliases) (j : ℕ) (ps : List (Pair Key))

@@ -173,9 +173,11 @@ module _ {Key Id Name : Type 0} {r q : State Key Id Name} (M : Manners) (v : Var
     ty_refuses {p = p} g Memory k kx ky t h =
         subst (RefusesAs as_forms r p (at v) a b) (sym (same_fault a X Y Memory k t (λ e z. cc))) tt
     ty_refuses {p = p} g Budget k kx ky t h =
-        subst (RefusesAs as_forms r p (at v) a b) (sym (same_fault a X Y Budget k t (λ e z. cc)))
-        (h.0, λ j ha hb. fronted_needs (head_of a) v i (parts_of a) (parts_of b) (arg_tree q.meaning X)
-        (arg_tree q.meaning Y) f lx ly ex ey h.1 j (built_parts j a ha) (built_parts j b hb))
+        subst (RefusesAs as_forms r p (at v) a b) (sym (same_fault a X Y Budget k t (λ e z. cc))) (
+          h.0,
+          λ j ha hb. fronted_needs (head_of a) v i (parts_of a) (parts_of b) (arg_tree q.meaning X)
+              (arg_tree q.meaning Y) f lx ly ex ey h.1 j (built_parts j a ha) (built_parts j b hb),
+        )
     ty_refuses {p = p} g (Unrelated e) k kx ky t h =
         let same : items_in p ≡ items_in r = same_items g ∙ same_items f.passes in
         let z = ty_complains q.meaning p.meaning g.extends s a b i X Y x_known y_known (arg_tree q.meaning X)

@@ -157,9 +157,11 @@ module _ {Key Id Name : Type 0} {r q : State Key Id Name} (M : Manners) (v : Var
     const_refuses {p = p} g Memory k ec ed ka kb t h =
         subst (RefusesAs as_forms r p (at v) a b) (sym (same_const_fault a c d Memory k t (λ e z. cc))) tt
     const_refuses {p = p} g Budget k ec ed ka kb t h =
-        subst (RefusesAs as_forms r p (at v) a b) (sym (same_const_fault a c d Budget k t (λ e z. cc)))
-        (h.0, λ j ha hb. fronted_needs (const_head_of a) v i (const_parts_of a) (const_parts_of b) x y f lx ly ex ey h.1 j
-        (built_const_parts j a ha) (built_const_parts j b hb))
+        subst (RefusesAs as_forms r p (at v) a b) (sym (same_const_fault a c d Budget k t (λ e z. cc))) (
+          h.0,
+          λ j ha hb. fronted_needs (const_head_of a) v i (const_parts_of a) (const_parts_of b) x y f lx ly ex ey h.1 j
+              (built_const_parts j a ha) (built_const_parts j b hb),
+        )
     const_refuses {p = p} g (Unrelated e) k ec ed ka kb t h =
         let same : items_in p ≡ items_in r = same_items g ∙ same_items f.passes in
         let z = consts_complain p.meaning p.kept.settings (items_in p) v c d i x y a b ec ed p.store e k o lx ex ey t

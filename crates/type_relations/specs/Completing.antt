@@ -1,6 +1,6 @@
 -- Completeness of terms without variables: where relating answers `Ok` such are related, all regions outliving each
 -- other and what is asked of aliases being so, and where a type error comes they are not.
-use Rattle.std.specs.Prelude.{◌≡◌, Option, None, Result, Ok, Err}
+use Rattle.std.specs.Prelude.{◌≡◌, ◌↔◌, Option, None, Result, Ok, Err, IfOk}
 use Rattle.std.specs.Global.{Vec}
 use Rattle.term_enums.specs.declared.Variance.{Variance}
 use Rattle.relation_terms.specs.declared.terms.goal.Goal.{Goal}
@@ -17,19 +17,33 @@ use Rattle.relation_folds.specs.declared.error.RelateFault.TheVariants.{Memory, 
 use Rattle.relation_semantics.specs.declared.relate.StructurallyRelateAliases.{StructurallyRelateAliases}
 use Rattle.relation_semantics.specs.Relation.{Items, Interpretation, Rel, at, IsValue, IsValueLeaf}
 use Rattle.relation_semantics.specs.Settings.{Settings}
-use Rattle.relation_semantics.specs.Stores.{Store, IsSound}
+use Rattle.relation_semantics.specs.Stores.{Store, IsSound, ConstraintHolds}
 use Rattle.relation_semantics.specs.Goals.{goal_of, Holds}
 use Rattle.relation_semantics.specs.Errors.{ErrorOf}
 use Rattle.relation_semantics.specs.Agreeing.{Agree}
 use Rattle.relation_semantics.specs.Lawful.{items_of}
 use Rattle.relation_semantics.specs.Contexts.{Context}
-use Rattle.relation_semantics.specs.Asking.{a_goal, AsksFor, ArePlain}
+use Rattle.relation_semantics.specs.Asking.{Wanted, a_constraint, a_goal, AsksFor, IsPlainTerm, HasNoAlias, ArePlain}
+use Rattle.relation_semantics.specs.Steps.{HasNoBinder}
 use Rattle.type_relations.specs.Solving.{solver_settings}
 use Rattle.type_relations.specs.Relating.{term_in}
 
 -- What relating two terms asks of aliases is so under an interpretation.
 abbrev pub AskedHolds : Items → Interpretation → Tree → Variance → Tree → Tree → Type 0
 AskedHolds c w e v a b = (p : Tree) → AsksFor c (a_goal p) v a b → (s : Assign) → Holds c w s (goal_of e p)
+
+-- What is wanted is so: a constraint holds, and a goal does.
+abbrev pub IsSoWanted : Items → Interpretation → Tree → Assign → Wanted → Type 0
+IsSoWanted c w e s (a_constraint q) = ConstraintHolds w s q
+IsSoWanted c w e s (a_goal p) = Holds c w s (goal_of e p)
+
+-- All that relating two terms asks for is so under an interpretation.
+abbrev pub AskedIsSo : Items → Interpretation → Tree → Variance → Tree → Tree → Type 0
+AskedIsSo c w e v a b = (z : Wanted) → AsksFor c z v a b → (s : Assign) → IsSoWanted c w e s z
+
+-- Two terms are related under just those interpretations under which all that they ask for is so.
+abbrev pub AreRelatedWhereAsked : Items → Tree → Variance → Tree → Tree → Type 0
+AreRelatedWhereAsked c e v a b = (w : Interpretation) → Rel c w e (at v) a b ↔ AskedIsSo c w e v a b
 
 -- Two terms are related wherever all regions outlive each other and what is asked of aliases is so.
 abbrev pub AreRelatedAsAsked : Items → Tree → Variance → Tree → Tree → Type 0
@@ -65,6 +79,10 @@ abbrev pub AgreeingAreRelated : Type 0
 AgreeingAreRelated = (k : Settings) (c : Items) (e : Tree) (v : Variance) (s : Sort) (a b : Tree) → IsValue s a →
     IsValue s b → ArePlain k a b → Agree k c (at v) a b → AreRelatedAsAsked c e v a b
 
+-- A plain term without aliases and binders.
+abbrev pub IsBareTerm : Tree → Type 0
+IsBareTerm t = IsPlainTerm t × HasNoAlias t × HasNoBinder t
+
 -- Between what a context is before the call and after it, which `state` shows.
 module _ {S Key Id Name A : Type 0} (state : S → Context Key Id Name) (old new : S) (over : Option Head)
     (tree : Meaning Key Id Name → A → Tree) where
@@ -78,3 +96,11 @@ module _ {S Key Id Name A : Type 0} (state : S → Context Key Id Name) (old new
   Complete g e v a b result = (s : Sort) → IsValue s (term a) → IsValue s (term b) →
       ArePlain (solver_settings g (state old).setup) (term a) (term b) → CompletelyAnswered
       (items_of (state old).meaning) (((state old).meaning).param_env e) v (term a) (term b) result
+
+  -- Of terms without variables, binders and aliases: where the answer is `Ok`, they are related under just those
+  -- interpretations under which the constraints that they ask for hold.
+  abbrev pub RelatesWhereAsked : {X : Type 0} → ParamEnvKey Key → Variance → A → A → Result X (RelateFault Key Id Name) →
+      Type 0
+  RelatesWhereAsked e v a b result = (s : Sort) → IsValue s (term a) → IsValue s (term b) → IsBareTerm (term a) →
+      IsBareTerm (term b) → IfOk result (λ x. AreRelatedWhereAsked (items_of (state old).meaning)
+      (((state old).meaning).param_env e) v (term a) (term b))

@@ -11,7 +11,7 @@ ghost use Rattle.relation_semantics.specs.ContextCalls.{KeepsBeside};
 ghost use Rattle.type_relations.specs.Relating.{KnowsTerm, TakesTerm, HasTerm, AreOne, AnswersTerms};
 ghost use Rattle.type_relations.specs.Relating.{KeepsEqual, TellsApart, AnswersError, AnswersExactly, ProvesApart};
 ghost use Rattle.type_relations.specs.Relating.{RelatesAgreeing};
-ghost use Rattle.type_relations.specs.Completing.{Complete};
+ghost use Rattle.type_relations.specs.Completing.{Complete, RelatesWhereAsked};
 ghost use Rattle.type_relations.specs.Closed.{LeavesClosed, AsksNothing, SpendsForVariables};
 ghost use Rattle.type_relations.specs.Relating.{AnswersAsked, AnswersOnly, SpendsNoMore, MakesToRelate, BuildsNoMore, Idle};
 ghost use Rattle.type_relations.specs.Terms.{AskedTerms, RelatedTerms, TermsRegister};
@@ -68,7 +68,8 @@ pub trait RelateExt: InferCtxtLike {
     /// Of terms without variables that are first-order but for binders of regions, or that have aliases, left to goals, and
     /// no binder, `Ok` comes only of such that are related where all regions outlive each other and what is asked of
     /// aliases is so, and `Unrelated` only of such that are related nowhere; `Budget` never comes, also where nothing is
-    /// left of it. Whatever is closed, so that no variable stands in it but of regions, and no binder binds others, binds
+    /// left of it. Of two without binders and aliases `Ok` says just where they are related: where the constraints hold
+    /// that they ask for. Whatever is closed, so that no variable stands in it but of regions, and no binder binds others, binds
     /// and spends nothing, and makes no variable but of regions; and without aliases no goal is asked.
     ///
     /// Two different types that are unresolved type variables answer just one goal, and nothing is recorded: at
@@ -121,6 +122,7 @@ pub trait RelateExt: InferCtxtLike {
         ensures errors { AnswersError Self.state self.old self.new T.over T.tree No variance lhs rhs result }
         ensures agrees { RelatesAgreeing Self.state self.old self.new T.over T.tree No variance lhs rhs result }
         ensures complete { Complete Self.state self.old self.new T.over T.tree No param_env variance lhs rhs result }
+        ensures met { RelatesWhereAsked Self.state self.old self.new T.over T.tree param_env variance lhs rhs result }
         ensures spent { IfSpent result ((Self.state self.new).store.budget ≡ 0) }
         ensures same { AreOne (Self.state self.old) T.over T.tree lhs rhs → Idle Self.state self.old self.new result }
         ensures alone { AnswersAsked Self.state self.old self.new T.over T.tree No param_env variance lhs rhs result }
@@ -166,6 +168,7 @@ pub trait RelateExt: InferCtxtLike {
         ensures errors { AnswersError Self.state self.old self.new T.over T.tree Yes Invariant lhs rhs result }
         ensures agrees { RelatesAgreeing Self.state self.old self.new T.over T.tree Yes Invariant lhs rhs result }
         ensures complete { Complete Self.state self.old self.new T.over T.tree Yes param_env Invariant lhs rhs result }
+        ensures met { RelatesWhereAsked Self.state self.old self.new T.over T.tree param_env Invariant lhs rhs result }
         ensures spent { IfSpent result ((Self.state self.new).store.budget ≡ 0) }
         ensures same { AreOne (Self.state self.old) T.over T.tree lhs rhs → Idle Self.state self.old self.new result }
         ensures goals { AnswersOnly Self.state self.old self.new Yes param_env Invariant result }
@@ -210,6 +213,7 @@ impl<Infcx: InferCtxtLike> RelateExt for Infcx {
         ensures errors { AnswersError Infcx.state self.old self.new T.over T.tree No variance lhs rhs result }
         ensures agrees { RelatesAgreeing Infcx.state self.old self.new T.over T.tree No variance lhs rhs result }
         ensures complete { Complete Infcx.state self.old self.new T.over T.tree No param_env variance lhs rhs result }
+        ensures met { RelatesWhereAsked Infcx.state self.old self.new T.over T.tree param_env variance lhs rhs result }
         ensures spent { IfSpent result ((Infcx.state self.new).store.budget ≡ 0) }
         ensures same { AreOne (Infcx.state self.old) T.over T.tree lhs rhs → Idle Infcx.state self.old self.new result }
         ensures alone { AnswersAsked Infcx.state self.old self.new T.over T.tree No param_env variance lhs rhs result }
@@ -262,6 +266,7 @@ impl<Infcx: InferCtxtLike> RelateExt for Infcx {
         ensures errors { AnswersError Infcx.state self.old self.new T.over T.tree Yes Invariant lhs rhs result }
         ensures agrees { RelatesAgreeing Infcx.state self.old self.new T.over T.tree Yes Invariant lhs rhs result }
         ensures complete { Complete Infcx.state self.old self.new T.over T.tree Yes param_env Invariant lhs rhs result }
+        ensures met { RelatesWhereAsked Infcx.state self.old self.new T.over T.tree param_env Invariant lhs rhs result }
         ensures spent { IfSpent result ((Infcx.state self.new).store.budget ≡ 0) }
         ensures same { AreOne (Infcx.state self.old) T.over T.tree lhs rhs → Idle Infcx.state self.old self.new result }
         ensures goals { AnswersOnly Infcx.state self.old self.new Yes param_env Invariant result }

@@ -72,11 +72,15 @@ returns-in_err-push-clause-refused g c =
     let e : n.bound_vars k ≡ m.bound_vars k = (before.grown).bound_vars k c.requires.known in
     let at : slice_get (kinds_in (m.bound_vars k)) i ≡ Some (bound_kind_of n v) =
     ap (λ z. slice_get (kinds_in z) i) (sym e) ∙ c.variable_at-variable.ensures in
-    on_err c.from_residual-in_err-push.result _ (suc i, _, each_next (p.inner.universe).0 (store_in meaning p)
-    (store_in meaning c.loop-place.self) (store_in meaning c.next_arg_infer.new.self) (kinds_in (m.bound_vars k)) i
-    (suc i)
-    (bound_kind_of n v) (map (arg_tree n) c.loop-place.args.items) _ _ refl before.makes c.in_ok-arg.ensures.makes
-    refl at refl)
+    on_err c.from_residual-in_err-push.result _ (
+      suc i,
+      _,
+      each_next (p.inner.universe).0 (store_in meaning p)
+          (store_in meaning c.loop-place.self) (store_in meaning c.next_arg_infer.new.self) (kinds_in (m.bound_vars k)) i
+          (suc i)
+          (bound_kind_of n v) (map (arg_tree n) c.loop-place.args.items) _ _ refl before.makes c.in_ok-arg.ensures.makes
+          refl at refl,
+    )
 
 pub returns-in_err-push-clause-rest : goal.returns-in_err-push-clause-rest
 returns-in_err-push-clause-rest g c = rest_on c.loop-place.invariant.rest c.in_ok-arg.ensures.rest

@@ -3,6 +3,7 @@ use Rattle.term_enums.specs.declared.Variance.TheVariants.{Invariant}
 use Rattle.relation_terms.specs.Interning.{Sorted}
 use Rattle.relation_semantics.specs.declared.relate.StructurallyRelateAliases.TheVariants.{Yes}
 use Rattle.type_relations.specs.Solving.{solver_settings}
+use Rattle.type_relations.proofs.Asked.{related_where_asked}
 use Rattle.type_relations.proofs.Closed.{leaves_closed, asks_nothing}
 use Rattle.type_relations.proofs.Completing.{completes}
 use Rattle.type_relations.proofs.relate.solver_relating.AnyRelateExt.eq_structurally_relating_aliases.Goals as goal
@@ -31,3 +32,8 @@ returns-clause-no_goals g c =
     asks_nothing g.Infcx.InferCtxtLike.state c.args.self.now c.relate_as.new.infcx g.T.Relate.over g.T.HasTree.tree
     c.args.lhs c.args.rhs (solver_settings Yes s.setup) c.args.param_env Invariant (g.met.Infcx.InferCtxtLike.sound c.args.self.now c.requires.lawful)
     c.relate_as.result k.built k.goals
+
+pub returns-clause-met : goal.returns-clause-met
+returns-clause-met g c =
+    related_where_asked g.Infcx.InferCtxtLike.state c.args.self.now c.relate_as.new.infcx g.T.Relate.over
+    g.T.HasTree.tree Yes c.args.param_env Invariant c.args.lhs c.args.rhs c.relate_as.result c.relate_as.ensures.agrees

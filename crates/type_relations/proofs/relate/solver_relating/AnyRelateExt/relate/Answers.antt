@@ -2,6 +2,7 @@ use Rattle.std.proofs.Common.{sym, subst}
 use Rattle.relation_terms.specs.Interning.{Sorted}
 use Rattle.relation_semantics.specs.declared.relate.StructurallyRelateAliases.TheVariants.{No}
 use Rattle.type_relations.specs.Solving.{solver_settings}
+use Rattle.type_relations.proofs.Asked.{related_where_asked}
 use Rattle.type_relations.proofs.Closed.{leaves_closed, asks_nothing}
 use Rattle.type_relations.proofs.Completing.{completes}
 use Rattle.type_relations.proofs.relate.solver_relating.AnyRelateExt.relate.Goals as goal
@@ -30,3 +31,8 @@ returns-clause-no_goals g c =
     asks_nothing g.Infcx.InferCtxtLike.state c.args.self.now c.relate_as.new.infcx g.T.Relate.over g.T.HasTree.tree
     c.args.lhs c.args.rhs (solver_settings No s.setup) c.args.param_env c.args.variance (g.met.Infcx.InferCtxtLike.sound c.args.self.now c.requires.lawful)
     c.relate_as.result k.built k.goals
+
+pub returns-clause-met : goal.returns-clause-met
+returns-clause-met g c =
+    related_where_asked g.Infcx.InferCtxtLike.state c.args.self.now c.relate_as.new.infcx g.T.Relate.over
+    g.T.HasTree.tree No c.args.param_env c.args.variance c.args.lhs c.args.rhs c.relate_as.result c.relate_as.ensures.agrees
