@@ -14,7 +14,7 @@ use Rattle.relation_terms.proofs.Parts.{stays_part}
 use Rattle.relation_semantics.specs.Stores.{Store, resolved}
 use Rattle.relation_folds.specs.Folds.{part_rank}
 use Rattle.relation_reference.specs.declared.context.memory.PartKey.{PartKey}
-use Rattle.relation_reference.specs.Remembering.{key_of, ComesTo, IsKept, Remembers}
+use Rattle.relation_reference.specs.Remembering.{key_of, ResolvesTo, IsKept, Remembers}
 
 -- Parts are looked for by their sorts and their keys.
 abbrev pub key_eq : {Key : Type 0} → (Key → Key → Bool) → PartKey Key → PartKey Key → Bool
@@ -53,7 +53,7 @@ module _ {Key Id Name : Type 0} (m : Meaning Key Id Name) (eq : Key → Key → 
 -- What was resolved stays so while the interner grows, and what is recorded stands.
 module _ {Key Id Name : Type 0} {m n : Meaning Key Id Name} (st now : Store) (grown : Extends m n) (same : now ≡ st) where
   pub came : (p by : Part Key Id) → IsTrue (known (part_tree m p)) → IsTrue (known (part_tree n by)) →
-      part_tree n by ≡ apply (resolved st) (part_tree m p) → part_sort by ≡ part_sort p → ComesTo n now p by
+      part_tree n by ≡ apply (resolved st) (part_tree m p) → part_sort by ≡ part_sort p → ResolvesTo n now p by
   came p by k l q s =
       let e : part_tree n p ≡ part_tree m p = stays_part grown p k in
       record {
@@ -63,7 +63,7 @@ module _ {Key Id Name : Type 0} {m n : Meaning Key Id Name} (st now : Store) (gr
         sort = s;
       }
 
-  comes_on : (p by : Part Key Id) → ComesTo m st p by → ComesTo n now p by
+  comes_on : (p by : Part Key Id) → ResolvesTo m st p by → ResolvesTo n now p by
   comes_on p by i =
       let b : part_tree n by ≡ part_tree m by = stays_part grown by i.sure in
       came p by i.there (knows_as (part_tree m by) (part_tree n by) b i.sure) (b ∙ i.comes) i.sort
@@ -77,7 +77,7 @@ module _ {Key Id Name : Type 0} {m n : Meaning Key Id Name} (st now : Store) (gr
 module _ {Key Id Name : Type 0} (m : Meaning Key Id Name) (st : Store) where
   pub remembers_more : {S : Type 0} (eq : PartKey Key → PartKey Key → Bool)
       (old new : HashMap (PartKey Key) (Part Key Id) S) (p by : Part Key Id) (key : PartKey Key) →
-      key_of p ≡ Some key → ComesTo m st p by →
+      key_of p ≡ Some key → ResolvesTo m st p by →
       ((q : PartKey Key) → get eq new q ≡ cond (eq key q) (Some by) (get eq old q)) →
       Remembers m st eq old → Remembers m st eq new
   remembers_more eq old new p by key o i u r = λ q x e.
@@ -97,7 +97,7 @@ module _ {Key Id Name : Type 0} (m : Meaning Key Id Name) (st : Store) where
       (IsTrue (eq x y) ↔ (part_tree m p ≡ part_tree m q)))
     where
       kept_comes : (p by : Part Key Id) (key : PartKey Key) → key_of p ≡ Some key →
-          IsTrue (known (part_tree m p)) → IsKept m st (key_eq eq) key by → ComesTo m st p by
+          IsTrue (known (part_tree m p)) → IsKept m st (key_eq eq) key by → ResolvesTo m st p by
       kept_comes p by key s k h = record {
         there = k;
         sure = h.is.sure;
@@ -109,6 +109,6 @@ module _ {Key Id Name : Type 0} (m : Meaning Key Id Name) (st : Store) where
       pub recalled : {S : Type 0} (memory : HashMap (PartKey Key) (Part Key Id) S) →
           Remembers m st (key_eq eq) memory → (p : Part Key Id) (key : PartKey Key) → key_of p ≡ Some key →
           IsTrue (known (part_tree m p)) →
-          (o : Option (Part Key Id)) → o ≡ get (key_eq eq) memory key → IfSome o (ComesTo m st p)
+          (o : Option (Part Key Id)) → o ≡ get (key_eq eq) memory key → IfSome o (ResolvesTo m st p)
       recalled memory r p key s k None e = tt
       recalled memory r p key s k (Some by) e = kept_comes p by key s k (r key by (sym e))

@@ -40,7 +40,7 @@ vid_universe st v = universe_of st (vid_kind v) (vid_number v)
 
 module _ {Key Id Name : Type 0} (m : Meaning Key Id Name) (st : Store) where
   -- What a known part comes to by what is recorded, at every depth.
-  pub record ComesTo (p by : Part Key Id) : Type 0 where
+  pub record ResolvesTo (p by : Part Key Id) : Type 0 where
     pub there : IsTrue (known (part_tree m p))
     pub sure : IsTrue (known (part_tree m by))
     pub comes : part_tree m by ≡ apply (resolved st) (part_tree m p)
@@ -52,7 +52,7 @@ module _ {Key Id Name : Type 0} (m : Meaning Key Id Name) (st : Store) where
     pub key : PartKey Key
     pub stands : key_of part ≡ Some key
     pub same : IsTrue (eq key q)
-    pub is : ComesTo part by
+    pub is : ResolvesTo part by
 
   -- What is found is kept so.
   abbrev pub Remembers : {S : Type 0} → (PartKey Key → PartKey Key → Bool) →

@@ -3,7 +3,7 @@ ghost use Rattle.std.specs.Prelude.{◌≡◌, IsTrue, IfSome, OnOk};
 ghost use Rattle.relation_terms.specs.Trees.{known};
 ghost use Rattle.relation_terms.specs.Parts.{part_tree};
 ghost use Rattle.relation_reference.specs.Tables.{store_of};
-ghost use Rattle.relation_reference.specs.Remembering.{ComesTo, key_of as the_key, Caches};
+ghost use Rattle.relation_reference.specs.Remembering.{ResolvesTo, key_of as the_key, Caches};
 
 use crate::context::InferCtxtInner;
 use relation_terms::terms::{ConstVid, Interner, OutOfMemory, Part, PartOf, TyVid};
@@ -54,7 +54,7 @@ pub(crate) fn recall_resolved<I: Interner>(
 ) -> Option<PartOf<I>>
     requires known { IsTrue (known (part_tree (I.meaning cx.now) part.now)) }
     requires remembers { Caches I.meaning cx.now inner.now ⟦<PartKey<I::Key> as PartialEq>⟧.eq memory.now }
-    ensures { let m = I.meaning cx.now in IfSome result (ComesTo m (store_of m inner.now) part.now) }
+    ensures { let m = I.meaning cx.now in IfSome result (ResolvesTo m (store_of m inner.now) part.now) }
 {
     let _ = cx;
     let _ = inner;
@@ -70,7 +70,7 @@ pub(crate) fn keep_resolved<I: Interner>(
     resolved: PartOf<I>,
     memory: &mut Resolutions<I::Key, I::Id>,
 ) -> Result<(), OutOfMemory>
-    requires comes { let m = I.meaning cx.now in ComesTo m (store_of m inner.now) part.now resolved }
+    requires comes { let m = I.meaning cx.now in ResolvesTo m (store_of m inner.now) part.now resolved }
     requires remembers { Caches I.meaning cx.now inner.now ⟦<PartKey<I::Key> as PartialEq>⟧.eq memory.old }
     ensures { OnOk result (Caches I.meaning cx.now inner.now ⟦<PartKey<I::Key> as PartialEq>⟧.eq memory.new) }
 {

@@ -9,7 +9,7 @@ use Rattle.relation_terms.proofs.Members.{if_ok}
 use Rattle.relation_terms.proofs.Parts.{sort_known, stays_part}
 use Rattle.relation_semantics.specs.Stores.{weight, resolved, InContext}
 use Rattle.relation_reference.specs.Tables.{store_of, IsLawful}
-use Rattle.relation_reference.specs.Remembering.{ComesTo}
+use Rattle.relation_reference.specs.Remembering.{ResolvesTo}
 use Rattle.relation_reference.proofs.Grows.{store_grows}
 use Rattle.relation_reference.proofs.Remembering.{key_eq, came, remembers_on}
 use Rattle.relation_reference.proofs.Resolving.{lawful_now, part_was, part_in, part_falls, part_comes}
@@ -224,8 +224,8 @@ resolve_inside-returns-then-same g t' c =
 pub resolve_part-returns-in-Some : goal.resolve_part-returns-in-Some
 resolve_part-returns-in-Some g t' c =
     let m = g.I.Interner.meaning c.args.cx.now in
-    let came_to : ComesTo m (store_of m c.args.inner.now) c.shallow_part-shallow.result c.in-Some.resolved =
-    subst (λ o. IfSome o (ComesTo m (store_of m c.args.inner.now) c.shallow_part-shallow.result)) c.in-Some.is
+    let came_to : ResolvesTo m (store_of m c.args.inner.now) c.shallow_part-shallow.result c.in-Some.resolved =
+    subst (λ o. IfSome o (ResolvesTo m (store_of m c.args.inner.now) c.shallow_part-shallow.result)) c.in-Some.is
     c.recall_resolved.ensures in
     record {
       grown = stays_same m;
