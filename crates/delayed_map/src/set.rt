@@ -63,7 +63,7 @@ impl<T: Eq + Hash + Drop, A: Allocator + Clone> DelayedSet<T, A> {
     {
         if self.count >= CACHE_CUTOFF {
             let is_new = self.cache.insert(value)?;
-            widen(&mut self.cache);
+            let _ = widen(&mut self.cache);
             Ok(is_new)
         } else {
             self.count += 1;

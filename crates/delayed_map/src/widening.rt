@@ -1,7 +1,9 @@
 //! Sets that grow by more than a table does by itself.
-ghost use Rattle.std.specs.Prelude.{◌≡◌, Contains};
+ghost use Rattle.std.specs.Prelude.{◌≡◌, ◌≤◌, Contains, OnOk};
+ghost use Rattle.std.specs.HashSet.{spare};
 ghost use Rattle.std.specs.List.{list_any};
 
+use relation_terms::terms::OutOfMemory;
 use std::alloc::Allocator;
 use std::collections::HashSet;
 use std::hash::{BuildHasher, Hash};
@@ -9,14 +11,20 @@ use std::hash::{BuildHasher, Hash};
 // The least number of elements that a full set makes room for: by itself it has room for nine at first.
 const LEAST: usize = 63;
 
-/// Makes a full set four times as large, so that its elements are seldom put anew. Where that is refused, it stays as
-/// it is, and asks for less when the next element comes.
-pub fn widen<T: Eq + Hash, S: BuildHasher, A: Allocator + Clone>(set: &mut HashSet<T, S, A>)
+/// Makes a full set four times as large, so that its elements are seldom put anew. Then it has room for one more.
+///
+/// # Errors
+/// `OutOfMemory` where that is refused: the set keeps what it did, and asks for less when the next element comes.
+pub fn widen<T: Eq + Hash, S: BuildHasher, A: Allocator + Clone>(
+    set: &mut HashSet<T, S, A>,
+) -> Result<(), OutOfMemory>
     ensures finds { (q : T) → list_any (T.eq q) set.new.keys ≡ list_any (T.eq q) set.old.keys }
+    ensures room { OnOk result (1 ≤ spare set.new) }
     ensures members { (e : T) → Contains set.new.keys e → Contains set.old.keys e }
 {
     let len = set.len();
     if len == set.capacity() {
-        let _ = set.reserve(len.saturating_mul(3).max(LEAST));
+        set.reserve(len.saturating_mul(3).max(LEAST))?;
     }
+    Ok(())
 }

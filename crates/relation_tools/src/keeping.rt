@@ -21,6 +21,6 @@ pub fn keep<T: Copy + Eq + Hash, S: BuildHasher>(
     if !set.insert(item)? {
         return Ok(false);
     }
-    widen(set);
+    let _ = widen(set);
     Ok(true)
 }

@@ -99,8 +99,8 @@ module _ {S Key Id Name A : Type 0} (state : S → Context Key Id Name) (old new
 
   -- Of terms without variables, binders and aliases: where the answer is `Ok`, they are related under just those
   -- interpretations under which the constraints that they ask for hold.
-  abbrev pub RelatesWhereAsked : {X : Type 0} → ParamEnvKey Key → Variance → A → A → Result X (RelateFault Key Id Name) →
-      Type 0
+  abbrev pub RelatesWhereAsked : {X : Type 0} → ParamEnvKey Key → Variance → A → A →
+      Result X (RelateFault Key Id Name) → Type 0
   RelatesWhereAsked e v a b result = (s : Sort) → IsValue s (term a) → IsValue s (term b) → IsBareTerm (term a) →
       IsBareTerm (term b) → IfOk result (λ x. AreRelatedWhereAsked (items_of (state old).meaning)
       (((state old).meaning).param_env e) v (term a) (term b))

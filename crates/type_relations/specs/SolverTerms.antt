@@ -119,7 +119,8 @@ module _ {Infcx Interner Key Id Name Span : Type 0} (state : Infcx → Context K
 
   abbrev pub SolverRemembers : {A F : Type 0} → SolverRelating Infcx Interner Key Id Name Span →
       SolverRelating Infcx Interner Key Id Name Span → TyKey Key → TyKey Key → Result A F → Type 0
-  SolverRemembers r q a b result = RemembersAtMost (solver_through r) (solver_through q) (r.ambient_variance, a, b) result
+  SolverRemembers r q a b result =
+      RemembersAtMost (solver_through r) (solver_through q) (r.ambient_variance, a, b) result
 
   -- A step was taken of two constants, and which, case by case.
   abbrev pub SolverStepped : SolverRelating Infcx Interner Key Id Name Span →

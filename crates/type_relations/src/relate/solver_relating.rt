@@ -65,12 +65,12 @@ pub trait RelateExt: InferCtxtLike {
     /// left to goals, and variables and errors, which agree with each term of their sort; so do regions with regions,
     /// and under binders what these bind.
     ///
-    /// Of terms without variables that are first-order but for binders of regions, or that have aliases, left to goals, and
-    /// no binder, `Ok` comes only of such that are related where all regions outlive each other and what is asked of
-    /// aliases is so, and `Unrelated` only of such that are related nowhere; `Budget` never comes, also where nothing is
-    /// left of it. Of two without binders and aliases `Ok` says just where they are related: where the constraints hold
-    /// that they ask for. Whatever is closed, so that no variable stands in it but of regions, and no binder binds others, binds
-    /// and spends nothing, and makes no variable but of regions; and without aliases no goal is asked.
+    /// Of terms without variables that are first-order but for binders of regions, or that have aliases, left to goals,
+    /// and no binder, `Ok` comes only of such that are related where all regions outlive each other and what is asked
+    /// of aliases is so, and `Unrelated` only of such that are related nowhere; `Budget` never comes, also where none
+    /// is left. Of two without binders and aliases `Ok` says just where they are related: where the constraints hold
+    /// that they ask for. Whatever is closed, so that no variable stands in it but of regions, and no binder binds
+    /// others, binds and spends nothing, and makes no variable but of regions; and without aliases no goal is asked.
     ///
     /// Two different types that are unresolved type variables answer just one goal, and nothing is recorded: at
     /// `Covariant` that the first is a subtype of the second, at `Contravariant` that the second is one of the first.
