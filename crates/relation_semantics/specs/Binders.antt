@@ -69,7 +69,7 @@ module _ {Key Id Name : Type 0} (c d : Context Key Id Name) where
   InstantiatesAs (bind ks t) x = InstantiatesEach c.store d.store ks t x
   InstantiatesAs t x = ⊥
 
-  -- A binder's body was answered over new variables; or a growth was refused, and the variables that were made on the way
+  -- A binder's body was answered over new variables; or a growth was refused, and those that were made on the way
   -- stay unbound.
   abbrev pub InstantiatesWithInfer : {K F : Type 0} → (Meaning Key Id Name → K → Tree) → Tree → Result K F → Type 0
   InstantiatesWithInfer tree t (Ok x) = IsTrue (known (tree d.meaning x)) × InstantiatesAs t (tree d.meaning x)

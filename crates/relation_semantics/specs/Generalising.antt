@@ -184,8 +184,8 @@ pub data MakesUnbound (u : ℕ) (before : Store) : Store → Type 0 where
 
 -- An unbound variable of the context was not bound to what a term comes to, since an obstacle stands in that, and not
 -- for want of budget. Variables that were made on the way stay unbound.
-pub record RefusesByObstacle (g : StructurallyRelateAliases) (before after : Store) (k : VarKind) (n : ℕ) (source : Tree)
-    (o : Obstacle) : Type 0 where
+pub record RefusesByObstacle (g : StructurallyRelateAliases) (before after : Store) (k : VarKind) (n : ℕ)
+    (source : Tree) (o : Obstacle) : Type 0 where
   pub made : IsMade before k n
   pub was_unbound : entry_of before k n ≡ unbound
   pub may_spend : before.budget ≢ 0

@@ -75,8 +75,8 @@ pub record WritesNothing (before after : Store) : Type 0 where
   pub budget : after.budget ≡ before.budget
 
 -- What is bound after, and what was registered, is built of a kit; the current universe is the old one, unless the kit
--- has binders; it is tainted only if it was, unless the kit has an error; and nothing was bound and spent, and no variable
--- made but of regions, unless the kit has others.
+-- has binders; it is tainted only if it was, unless the kit has an error; and nothing was bound and spent, and no
+-- variable made but of regions, unless the kit has others.
 pub record Builds (k : Kit) (before after : Store) (added : List Goal) : Type 0 where
   pub binds : BindsBuiltOf k after
   pub asks : All (IsGoalOf k) added

@@ -206,8 +206,8 @@ module _ {Key Id Name : Type 0} where
   MayAnswerBy M q (first_opened ks ls v) t u = Unit {0}
 
   -- What a fault says of two terms at a variance: a type error that no assignment makes them one, and which error it
-  -- is, over known terms; a spent budget that nothing is left of it, and that a variable but of a region stands in one of
-  -- them; want of memory nothing.
+  -- is, over known terms; a spent budget that nothing is left of it, and that a variable but of a region stands in one
+  -- of them; want of memory nothing.
   abbrev pub RefusesAs : Meeting → State Key Id Name → State Key Id Name → Way → Tree → Tree → RelateFault Key Id Name →
       Type 0
   RefusesAs x r q way a b (Unrelated e) = NeverOne way r.store a b ×
@@ -406,7 +406,8 @@ module _ {Key Id Name : Type 0} where
       WereRelated (M r.kept.settings) r.kept.settings r.meaning r.store r.goals r.kept.environment r.remembered
 
   -- At most this pair is remembered besides what was; where a growth was refused, what was. Nothing else was done.
-  pub record RemembersAtMost {A F : Type 0} (r q : State Key Id Name) (p : Pair Key) (result : Result A F) : Type 0 where
+  pub record RemembersAtMost {A F : Type 0} (r q : State Key Id Name) (p : Pair Key) (result : Result A F) :
+      Type 0 where
     pub meaning : q.meaning ≡ r.meaning
     pub store : q.store ≡ r.store
     pub goals : q.goals ≡ r.goals
