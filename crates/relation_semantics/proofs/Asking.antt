@@ -56,9 +56,12 @@ no_alias_nth zero (cons t ts) f = f.0
 no_alias_nth (suc i) (cons t ts) f = no_alias_nth i ts f.1
 no_alias_nth i ts f = tt
 
+pub neither_alias : (a b : Tree) → (IsAlias a → ⊥) → (IsAlias b → ⊥) → HaveAlias a b → ⊥
+neither_alias a b f g (inl i) = f i
+neither_alias a b f g (inr i) = g i
+
 neither_left : (a b : Tree) → HasNoAlias a → HasNoAlias b → HaveAlias a b → ⊥
-neither_left a b f g (inl i) = no_alias_term a f i
-neither_left a b f g (inr i) = no_alias_term b g i
+neither_left a b f g = neither_alias a b (no_alias_term a f) (no_alias_term b g)
 
 -- No goal is asked for of terms without aliases.
 pub no_goal : {c : Items} {z : Wanted} {v : Variance} {a b : Tree} (p : Tree) → AsksFor c z v a b → z ≡ a_goal p → HasNoAlias a → HasNoAlias b → ⊥
@@ -98,20 +101,23 @@ at_first {c = c} {z = z} {v = v} {x = x} {y = y} t u v' w zero l r = absurd (typ
 at_first {c = c} {z = z} {v = v} {x = x} {y = y} t u v' w (suc zero) l r = subst (λ q. AsksFor c z q x y) (covariantly v) r
 at_first t u v' w (suc (suc i)) l r = absurd (omega (arith, l))
 
--- Values over branches ask for what the branches do: types of values are not looked at.
-pub values_ask : {c : Items} {z : Wanted} {v : Variance} {t u ts us : Tree} → AsksFor c z v (node value (cons (node value_type t) (cons (node value_branch ts) nil))) (node value (cons (node value_type u) (cons (node value_branch us) nil))) → PartsAsk c value_branch v ts us z
-values_ask {c = c} {z = z} {v = v} {t = t} {u = u} {ts = ts} {us = us} r = forms_ask (branch (forms_ask r refl refl neither)) refl refl neither_branch
+-- Values ask for what stands beside their types: these are not looked at.
+pub value_asks : {c : Items} {z : Wanted} {v : Variance} {t u x y : Tree} →
+    AsksFor c z v (node value (cons (node value_type t) (cons x nil))) (node value (cons (node value_type u) (cons y nil))) →
+    AsksFor c z v x y
+value_asks {t = t} {u = u} {x = x} {y = y} r = let p = forms_ask r refl refl neither in at_first t u t u p.0 (omega (arith, p.1)) p.3
   where
-    neither : HaveAlias (node value (cons (node value_type t) (cons (node value_branch ts) nil))) (node value (cons (node value_type u) (cons (node value_branch us) nil))) → ⊥
+    neither : HaveAlias (node value (cons (node value_type t) (cons x nil))) (node value (cons (node value_type u) (cons y nil))) → ⊥
     neither (inl q) = q
     neither (inr q) = q
 
+-- Values over branches ask for what the branches do.
+pub values_ask : {c : Items} {z : Wanted} {v : Variance} {t u ts us : Tree} → AsksFor c z v (node value (cons (node value_type t) (cons (node value_branch ts) nil))) (node value (cons (node value_type u) (cons (node value_branch us) nil))) → PartsAsk c value_branch v ts us z
+values_ask {ts = ts} {us = us} r = forms_ask (value_asks r) refl refl neither_branch
+  where
     neither_branch : HaveAlias (node value_branch ts) (node value_branch us) → ⊥
     neither_branch (inl q) = q
     neither_branch (inr q) = q
-
-    branch : PartsAsk c value v (cons (node value_type t) (cons (node value_branch ts) nil)) (cons (node value_type u) (cons (node value_branch us) nil)) z → AsksFor c z v (node value_branch ts) (node value_branch us)
-    branch p = at_first t u t u p.0 (omega (arith, p.1)) p.3
 
 pub branches_are_asked : {c : Items} {z : Wanted} {v : Variance} {ts us : Tree} (t u : Tree) → PartsAsk c value_branch v ts us z → AsksFor c z v (node value (cons (node value_type t) (cons (node value_branch ts) nil))) (node value (cons (node value_type u) (cons (node value_branch us) nil)))
 branches_are_asked {c = c} {z = z} {v = v} {ts = ts} {us = us} t u p =

@@ -48,3 +48,4 @@ pub mod AliasOutcomes
 pub mod AliasSteps
 pub mod Asking
 pub mod Recording
+pub mod RecordingForms

@@ -1,5 +1,5 @@
 -- Steps and calls over a relation, one after another.
-use Rattle.std.proofs.Common.{◌≡◌, ◌↔◌, ℕ, ◌+◌, ◌≤◌, refl, sym, ap, ap₂, ◌∙◌, subst, subst₂, arith, List, [], ◌++◌, All, IsTrue, Result, Ok, Err, IfOk}
+use Rattle.std.proofs.Common.{◌≡◌, ◌↔◌, ◌⊎◌, inl, inr, Contains, ℕ, ◌+◌, ◌≤◌, refl, sym, ap, ap₂, ◌∙◌, subst, subst₂, arith, List, [], ◌++◌, All, IsTrue, Result, Ok, Err, IfOk}
 use Rattle.std.proofs.Common.{append_assoc, get_or}
 use Rattle.std.proofs.lemmas.List.{append-nil}
 use Rattle.std.proofs.lemmas.Bool.{false≢true}
@@ -16,7 +16,9 @@ use Rattle.relation_folds.specs.declared.error.RelateFault.TheVariants.{Memory, 
 use Rattle.relation_semantics.specs.Relation.{Items, Way, at, anything, Rel}
 use Rattle.relation_semantics.specs.declared.relate.Step.TheVariants.{Done, Parts}
 use Rattle.relation_folds.specs.Faults.{KnowsError}
-use Rattle.relation_semantics.specs.Errors.{ErrorOf, by_forms, IsLeftToGoal, Meeting, as_forms}
+use Rattle.relation_semantics.specs.Errors.{ErrorOf, by_forms, IsLeftToGoal, Meeting, as_pair, as_forms}
+use Rattle.relation_semantics.specs.Asking.{Wanted, AsksFor}
+use Rattle.relation_semantics.specs.Recording.{AreBare}
 use Rattle.relation_semantics.specs.Agreeing.{Agree}
 use Rattle.relation_semantics.specs.Stores.{Store, IsSound, Satisfies, all_bound, weight}
 use Rattle.relation_semantics.specs.Goals.{Goal, GoalInContext, IsDirected, Holds, Relates, Request, asked, asks_too_much, asks_nothing, IsQuiet, AsksNoPair, HasOneTree, MakesOneTree}
@@ -27,7 +29,11 @@ use Rattle.relation_semantics.specs.Steps.{IsLater, StaysFullFor}
 use Rattle.relation_semantics.specs.Kits.{StaysBuilt, BuiltFrom, NeedsVariable, IsGoalOf}
 use Rattle.relation_semantics.specs.Measures.{grown, Goes}
 use Rattle.relation_semantics.specs.Lawful.{State, Manner, Manners, Takes, MayAnswer, Passes, Asked, Refuses, Answers, Verdict, Related, Leads}
-use Rattle.relation_semantics.specs.Lawful.{RefusesAs, VerdictAs, RelatedAs, RelatedForms}
+use Rattle.relation_semantics.specs.Lawful.{RefusesAs, VerdictAs, RelatedAs, RelatedForms, Pair, IsPairOf}
+use Rattle.relation_semantics.specs.Lawful.{RecordsJust, RecordsJustAsked, RecordsAs, RecordsOf}
+use Rattle.relation_semantics.proofs.Asking.{nothing_at_bivariance}
+use Rattle.relation_semantics.proofs.Recording.{bare_no_alias, stands_itself, turned_stands, grown_stands, records_trivial}
+use Rattle.relation_semantics.proofs.Recording.{records_as, records_then, records_between, records_remembering}
 use Rattle.relation_semantics.specs.Lawful.{ExactResult, ExactlyRelated, RegisteredIn}
 use Rattle.relation_semantics.proofs.Exactness.{exact_steps_compose}
 use Rattle.relation_semantics.specs.Lawful.{LeadsToParts, LeadsAgain, Shown, Noted, Turned, Stepped, OnlyMemory, WithMeaning, declared_by, items_of, items_in}
@@ -243,30 +249,65 @@ module _ {Key Id Name : Type 0} where
     exact = f.exact;
     full = f.full;
     built = f.built;
+    records = records result f.records;
   }
     where
+      records : (res : Result X (RelateFault Key Id Name)) → RecordsOf as_forms M r q (at v) a b res →
+          RecordsOf as_pair M r q (at v) a b res
+      records (Ok t) h = λ promised bare. h (bare_no_alias r.kept.settings a b bare n) promised bare
+      records (Err e) h = tt
+
       verdict : (res : Result X (RelateFault Key Id Name)) → VerdictAs as_forms M r q (f.passes).added (at v) a b tree res →
           Verdict M r q (f.passes).added v a b tree res
       verdict (Ok t) h = h
       verdict (Err e) h =
           met_refuses r q v a b (subst (λ k. IsLeftToGoal k a b → ⊥) (sym (same_settings (f.passes).kept)) n) e h
 
+  -- The terms to which a step of two bare ones led are these, and what they ask for is what those do.
+  bare_led : {n : ℕ} {r q : State Key Id Name} (g : Passes n r q) (a b x y : Tree) → x ≡ a → y ≡ b →
+      AreBare r.kept.settings a b → AreBare q.kept.settings x y
+  bare_led g a b x y e d bare =
+      subst₂ (λ k t. AreBare k t y) (sym (same_settings g.kept)) (sym e) (subst (AreBare _ a) (sym d) bare)
+
+  records_led : {n m : ℕ} {r q p : State Key Id Name} (g : Passes n r q) (f : Passes m q p) (v : Variance)
+      (a b x y : Tree) → x ≡ a → y ≡ b → RecordsJust (λ z. ⊥) r q → RecordsJust (λ z. AsksFor (items_in q) z v x y) q p →
+      RecordsJust (λ z. AsksFor (items_in r) z v a b) r p
+  records_led {r = r} {q = q} g f v a b x y e d before after =
+      records_as (λ z w. inr (inr (subst (λ c. AsksFor c z v x y) (sym (same_items g))
+      (subst₂ (AsksFor (items_in r) z v) (sym e) (sym d) w)))) to
+      (records_then (same_environment f.kept) before after)
+    where
+      to : (z : Wanted) → ⊥ ⊎ AsksFor (items_in q) z v x y → AsksFor (items_in r) z v a b
+      to z (inl o) = absurd o
+      to z (inr w) = subst₂ (AsksFor (items_in r) z v) e d (subst (λ c. AsksFor c z v x y) (same_items g) w)
+
   -- The two forms to which a step led were related by their parts.
   pub parts_related : {X : Type 0} {r q p : State Key Id Name} (M : Manners) (F : Tree → Type 0) → IsSound p.store →
       (a b x y : Tree) (tree : X → Tree) (result : Result X (RelateFault Key Id Name))
       (g : Passes (weight r.store a + weight r.store b) r q) → LeadsToParts M F r q g.added a b x y →
       LeadsExactly M r q a b x y → StaysFullFor r.store q.store a b → StaysBuilt r.store q.store g.added a b →
-      RelatedForms M q p r.ambient x y tree result → Related M r p r.ambient a b tree result
+      ((M r.kept.settings).records_asked → AreBare r.kept.settings a b → (x ≡ a) × (y ≡ b) ×
+      RecordsJust (λ z. ⊥) r q) → RelatedForms M q p r.ambient x y tree result → Related M r p r.ambient a b tree result
   unfolding passes_then
-  parts_related {X} {r} {q} {p} M F sound a b x y tree result g l exactly full built f = record {
+  parts_related {X} {r} {q} {p} M F sound a b x y tree result g l exactly full built itself f = record {
     passes = passes_then g f.passes small;
     verdict = verdict result f.verdict;
     exact = exact_led (M r.kept.settings) r.store q.store p.store a b x y r.ambient r.ambient (λ e. e) exactly result
         (same_manner M (λ z. ExactlyRelated z q.store p.store r.ambient x y result) g f.exact);
     full = full_led a b x y full (no_binder_from r.store a b x y l.built) f.full;
     built = built_led g.added (f.passes).added a b x y built l.built f.built;
+    records = records result f.records;
   }
     where
+      records : (res : Result X (RelateFault Key Id Name)) → RecordsOf as_forms M q p (at r.ambient) x y res →
+          RecordsOf as_pair M r p (at r.ambient) a b res
+      records (Ok t) h = λ promised bare.
+          let i = itself promised bare in
+          let pair = bare_led g a b x y i.0 i.1 bare in
+          records_led g f.passes r.ambient a b x y i.0 i.1 i.2 (h (bare_no_alias q.kept.settings x y pair l.not_left)
+          (manner_then M (λ z. z.records_asked) g promised) pair)
+      records (Err e) h = tt
+
       small : weight q.store x + weight q.store y ≤ grown (g.goes).spent (weight r.store a + weight r.store b)
       small =
           let h = le_grown (g.goes).spent (weight r.store a + weight r.store b) in
@@ -299,9 +340,10 @@ module _ {Key Id Name : Type 0} where
         (sym one_spent) led.not_larger
 
     pub again_related : {X Y : Type 0} {p : State Key Id Name} (tree : X → Tree) (t : X) (answer : Y → Tree) (z : Y) → answer z ≡ u →
+        ((M r.kept.settings).records_asked → AreBare r.kept.settings a b → ⊥) →
         Related M q p (xform r.ambient v) x y tree (Ok t) → Related M r p r.ambient a b answer (Ok z)
     unfolding passes_then
-    again_related {Y = Y} {p = p} tree t answer z e f = record {
+    again_related {Y = Y} {p = p} tree t answer z e never f = record {
       passes = passes_then g f.passes small;
       verdict = record {
         outcome = led_outcome g f.passes a b x y (xform r.ambient v) led.leads (f.verdict).outcome;
@@ -319,6 +361,7 @@ module _ {Key Id Name : Type 0} where
           (Ok t)) g f.exact);
       full = λ ha hb. full_could led.may_instantiate;
       built = built_led g.added (f.passes).added a b x y built led.built f.built;
+      records = λ promised bare. absurd (never promised bare);
     }
 
     pub again_refused : {X Y : Type 0} {p : State Key Id Name} → IsSound p.store → (tree : X → Tree) (answer : Y → Tree)
@@ -332,6 +375,7 @@ module _ {Key Id Name : Type 0} where
           (f.exact (manner_then M (λ z. z.is_exact) g k) is pair));
       full = λ ha hb. full_could led.may_instantiate;
       built = built_led g.added (f.passes).added a b x y built led.built f.built;
+      records = tt;
     }
 
   -- What is noted after two terms were related leaves them so.
@@ -380,9 +424,41 @@ module _ {Key Id Name : Type 0} where
         let built = f.built k ha hb all in
         builds_noting k (f.passes).added (h.passes).added h.store built (h.built k z.0 z.1 built.binds)
 
-    pub noted_related : (answer : X → Tree) → answer t ≡ tree t → RelatedAs w M r p (at v) a b answer (Ok t)
+    -- What two bare terms asked for was recorded, and the two may be remembered.
+    noted_records : ((M r.kept.settings).records_asked → AreBare r.kept.settings a b →
+        (x ≡ a) × (y ≡ b) × (q.ambient ≡ v)) →
+        RecordsJustAsked M r q v a b → RecordsJustAsked M r p v a b
+    noted_records same just promised bare = records_remembering (record {
+      extends = (h.passes).extends;
+      constraints = ap (λ s. s.constraints) h.store;
+      goals = (h.passes).lengthens ∙ ap (λ gs. q.goals ++ gs) (h.none (bare_led f.passes a b x y s.0 s.1 bare))
+          ∙ append-nil q.goals;
+      settings = same_settings (h.passes).kept;
+      environment = same_environment (h.passes).kept;
+    }) (just promised bare) (λ o m. member o (h.remembers o m))
+      where
+        s : (x ≡ a) × (y ≡ b) × (q.ambient ≡ v)
+        s = same promised bare
+
+        member : (o : Pair Key) → IsPairOf p o x y ⊎ Contains q.remembered o → (IsTrue (known ((p.meaning).ty o.1)) ×
+            IsTrue (known ((p.meaning).ty o.2)) × ((z : Wanted) →
+            AsksFor (items_in p) z o.0 ((p.meaning).ty o.1) ((p.meaning).ty o.2) → AsksFor (items_in r) z v a b)) ⊎
+            Contains q.remembered o
+        member o (inr m) = inr m
+        member o (inl i) = inl (
+          subst (λ t. IsTrue (known t)) (sym i.1) i.3,
+          subst (λ t. IsTrue (known t)) (sym i.2) i.4,
+          λ z asks. subst (λ u. AsksFor (items_in r) z u a b) (i.0 ∙ (h.passes).ambient ∙ s.2)
+              (subst₂ (AsksFor (items_in r) z o.0) (i.1 ∙ s.0) (i.2 ∙ s.1)
+              (subst (λ c. AsksFor c z o.0 ((p.meaning).ty o.1) ((p.meaning).ty o.2))
+              (same_items h.passes ∙ same_items f.passes) asks)),
+        )
+
+    pub noted_related : (answer : X → Tree) → answer t ≡ tree t → ((M r.kept.settings).records_asked →
+        AreBare r.kept.settings a b → (x ≡ a) × (y ≡ b) × (q.ambient ≡ v)) →
+        RelatedAs w M r p (at v) a b answer (Ok t)
     unfolding passes_then both
-    noted_related answer e = record {
+    noted_related answer e same = record {
       passes = both;
       verdict = record {
         outcome = outcome;
@@ -397,7 +473,12 @@ module _ {Key Id Name : Type 0} where
       );
       full = λ ha hb. full_then (f.full ha hb) (full_same h.store);
       built = noted_built;
+      records = records w f.records;
     }
+      where
+        records : (w : Meeting) → RecordsAs w M r q (at v) a b → RecordsAs w M r p (at v) a b
+        records as_pair just = noted_records same just
+        records as_forms just = λ none. noted_records same (just none)
 
     pub noted_refused : {Z : Type 0} (answer : Z → Tree) (e : RelateFault Key Id Name) → note ≡ Err e →
         RelatedAs {X = Z} w M r p (at v) a b answer (Err e)
@@ -410,6 +491,7 @@ module _ {Key Id Name : Type 0} where
           (keeps_binds r.store q.store a b (f.exact k is pair).2));
       full = λ ha hb. full_then (f.full ha hb) (full_same h.store);
       built = noted_built;
+      records = tt;
     }
       where
         refuses : (e : RelateFault Key Id Name) → OnlyMemory {X = Y} (Err e) → RefusesAs w r p (at v) a b e
@@ -469,8 +551,17 @@ module _ {Key Id Name : Type 0} where
           (subst (λ k. ExactlyRelated (M k) t.store q.store v a b result) (same_settings there.kept) f.exact);
       full = subst₂ (λ s z. StaysFullFor s z a b) there.store (sym back.store) f.full;
       built = subst₂ (λ s z. StaysBuilt s z (f.passes).added a b) there.store (sym back.store) f.built;
+      records = records result f.records;
     }
       where
+        records : (res : Result X (RelateFault Key Id Name)) → RecordsOf as_pair M t q (at v) a b res →
+            RecordsOf as_pair M r u (at v) a b res
+        records (Ok x) just = λ promised bare. subst (λ m. RecordsJust (λ z. AsksFor (items_of m) z v a b) r u) there.meaning
+            (records_between (turned_stands there) there.remembered (turned_stands back) back.remembered
+            (just (subst (λ j. (M j).records_asked) (sym (same_settings there.kept)) promised)
+            (subst (λ j. AreBare j a b) (sym (same_settings there.kept)) bare)))
+        records (Err e) just = tt
+
         verdict : (res : Result X (RelateFault Key Id Name)) → Verdict M t q (f.passes).added v a b tree res →
             Verdict M r u (f.passes).added v a b tree res
         verdict (Ok x) h = turned_answers (f.passes).added (tree x) h
@@ -496,6 +587,7 @@ module _ {Key Id Name : Type 0} where
     exact = λ k is pair. absurd (invariant_is_not (sym is ∙ e));
     full = λ ha hb. full_itself r.store;
     built = built_itself r.store a b;
+    records = λ promised bare. records_trivial (stands_itself r) refl (λ z asks. absurd (nothing_at_bivariance asks e));
   }
 
   -- Nothing was noted.
@@ -506,6 +598,8 @@ module _ {Key Id Name : Type 0} where
     store = refl;
     quiet = All-nil IsQuiet;
     built = λ k ha hb all. All-nil (IsGoalOf k);
+    none = λ bare. refl;
+    remembers = λ p m. inr m;
     fault = tt;
   }
 
@@ -536,11 +630,11 @@ module _ {Key Id Name : Type 0} where
       same : items_in p ≡ items_in q
       same = ap₂ declared_by e.variances e.alias_variances
 
-  module _ {X Y : Type 0} {x y : Meeting} {r q p : State Key Id Name} (M : Manners) (v : Variance) (a b : Tree)
+  module _ {X Y : Type 0} {x : Meeting} {r q p : State Key Id Name} (M : Manners) (v : Variance) (a b : Tree)
       (e : Extends q.meaning p.meaning) (w : WithMeaning q p.meaning p) (answer : Y → Tree) where
     -- An answer was made anew of the same value.
     pub remade : (tree : X → Tree) (t : X) → RelatedAs x M r q (at v) a b tree (Ok t) → (z : Y) →
-        MayAnswer M q v a (answer z) → IsTrue (known (answer z)) → RelatedAs y M r p (at v) a b answer (Ok z)
+        MayAnswer M q v a (answer z) → IsTrue (known (answer z)) → RelatedAs x M r p (at v) a b answer (Ok z)
     unfolding passes_grown
     remade tree t f z value sure = record {
       passes = passes_grown f.passes e w;
@@ -555,13 +649,22 @@ module _ {Key Id Name : Type 0} where
           (sym w.store) (f.exact k is pair);
       full = subst (λ s. StaysFullFor r.store s a b) (sym w.store) f.full;
       built = subst (λ s. StaysBuilt r.store s (f.passes).added a b) (sym w.store) f.built;
+      records = records x f.records;
     }
+      where
+        just : RecordsJustAsked M r q v a b → RecordsJustAsked M r p v a b
+        just g promised bare =
+            records_between (stands_itself r) refl (grown_stands e w) w.remembered (g promised bare)
+
+        records : (x : Meeting) → RecordsAs x M r q (at v) a b → RecordsAs x M r p (at v) a b
+        records as_pair g = just g
+        records as_forms g = λ none. just (g none)
 
     -- Or it could not be made.
     pub made_or_not : (tree : X → Tree) (t : X) → RelatedAs x M r q (at v) a b tree (Ok t) →
         (res : Result Y (RelateFault Key Id Name)) → OnlyMemory res →
         IfOk res (λ z. MayAnswer M q v a (answer z) × IsTrue (known (answer z))) →
-        RelatedAs y M r p (at v) a b answer res
+        RelatedAs x M r p (at v) a b answer res
     unfolding passes_grown
     made_or_not tree t f (Ok z) only h = remade tree t f z h.0 h.1
     made_or_not tree t f (Err Memory) only h = record {
@@ -571,6 +674,7 @@ module _ {Key Id Name : Type 0} where
           (keeps_binds r.store q.store a b (f.exact k is pair).2);
       full = subst (λ s. StaysFullFor r.store s a b) (sym w.store) f.full;
       built = subst (λ s. StaysBuilt r.store s (f.passes).added a b) (sym w.store) f.built;
+      records = tt;
     }
     made_or_not tree t f (Err g) only h = absurd only
 
@@ -578,7 +682,7 @@ module _ {Key Id Name : Type 0} where
     pub form_made : (tree : X → Tree) (t : X) → RelatedAs x M r q (at v) a b tree (Ok t) → (res : Result Y (RelateFault Key Id Name)) →
         OnlyMemory res → (formed made : Tree) → MayAnswer M q v a formed → made ≡ formed →
         IfOk res (λ z. IsTrue (known (answer z))) → IfOk res (λ z. answer z ≡ made) →
-        RelatedAs y M r p (at v) a b answer res
+        RelatedAs x M r p (at v) a b answer res
     form_made tree t f res only formed made value same sure means = made_or_not tree t f res only
         (if_ok_both (λ z. IsTrue (known (answer z))) (λ z. answer z ≡ made)
         (λ z. MayAnswer M q v a (answer z) × IsTrue (known (answer z))) res
@@ -589,13 +693,20 @@ module _ {Key Id Name : Type 0} where
       (g : Passes (weight r.store a + weight r.store b) r q) → ((M r.kept.settings).is_exact → v ≡ Invariant →
       IsFirstOrderPair r.store a b → BindsNoMore r.store q.store a b) → StaysFullFor r.store q.store a b →
       StaysBuilt r.store q.store g.added a b → RelatedAs {X = X} w M r q (at v) a b tree (Err Memory)
-  stopped M v a b tree g f h d = record { passes = g; verdict = tt; exact = f; full = h; built = d }
+  stopped M v a b tree g f h d = record { passes = g; verdict = tt; exact = f; full = h; built = d; records = tt }
 
   -- A step that answers.
   pub step_done : {K : Type 0} {r q : State Key Id Name} (M : Manners) (F : Tree → Type 0) (a b : Tree) (tree : K → Tree)
-      (t : K) → Stepped M F r q a b tree (Ok (Done t)) → Related M r q r.ambient a b tree (Ok t)
-  step_done M F a b tree t s =
-      record { passes = s.passes; verdict = s.verdict; exact = s.exact; full = s.full; built = s.built }
+      (t : K) → Stepped M F r q a b tree (Ok (Done t)) → RecordsJustAsked M r q r.ambient a b →
+      Related M r q r.ambient a b tree (Ok t)
+  step_done M F a b tree t s just = record {
+    passes = s.passes;
+    verdict = s.verdict;
+    exact = s.exact;
+    full = s.full;
+    built = s.built;
+    records = just;
+  }
 
   -- A step that refuses.
   pub step_refused : {K X : Type 0} {r q : State Key Id Name} (M : Manners) (F : Tree → Type 0) (a b : Tree)
@@ -607,6 +718,7 @@ module _ {Key Id Name : Type 0} where
     exact = λ k is pair. exact_fault K X r.store q.store a b e (s.exact k is pair);
     full = s.full;
     built = s.built;
+    records = tt;
   }
 
   -- The same answer in other words, and the same fault.
@@ -619,6 +731,7 @@ module _ {Key Id Name : Type 0} where
     exact = f.exact;
     full = f.full;
     built = f.built;
+    records = f.records;
   }
 
   pub refused_again : {X Y : Type 0} {w : Meeting} {r q : State Key Id Name} (M : Manners) (v : Variance) (a b : Tree) (tree : X → Tree)
@@ -631,11 +744,27 @@ module _ {Key Id Name : Type 0} where
         exact = λ k is pair. exact_fault X Y r.store q.store a b e (f.exact k is pair);
         full = f.full;
         built = f.built;
+        records = tt;
       }
 
   pub relates_now : {X : Type 0} {w : Meeting} {r q : State Key Id Name} (M : Manners) (v : Variance) (a b : Tree) (tree : X → Tree)
       (t : X) → RelatedAs w M r q (at v) a b tree (Ok t) → Relates (items_in q) q.store q.goals q.kept.environment v a b
   relates_now M v a b tree t f = relates_by v a b f.passes (f.verdict).outcome
+
+  -- So all is known of two terms that were related that is known of such.
+  pub shown_by : {X : Type 0} {r q : State Key Id Name} (M : Manners) (v : Variance) (a b : Tree) (tree : X → Tree) (t : X)
+      (g : Passes (weight r.store a + weight r.store b) r q) → Answers M r q g.added v a b (tree t) →
+      ExactlyRelated {Key = Key} {Id = Id} {Name = Name} (M r.kept.settings) r.store q.store v a b (Ok t) → Shown M q v a b
+  shown_by {r = r} {q = q} M v a b tree t g verdict exact = record {
+    relates = relates_by v a b g verdict.outcome;
+    unifies = λ k is pair s sol.
+        let bindings = first_order_before r.store q.store (g.goes).later pair.bindings in
+        let o = exact (same_manner M (λ z. z.is_exact) g k) is
+        (record { left = pair.left; right = pair.right; bindings = bindings }) in
+        ((o.1).shrinks s sol).1;
+    agrees = λ k. subst₂ (λ j c. Agree j c (at v) a b) (sym (same_settings g.kept)) (sym (same_items g))
+        (verdict.agrees (same_manner M (λ z. z.relates_agreeing) g k));
+  }
 
   -- So are the terms as a step read them, when the pair that it left is related.
   pub again_relates : {X : Type 0} {r q p : State Key Id Name} (M : Manners) (a b k l x y u : Tree) (v : Variance)
@@ -647,19 +776,9 @@ module _ {Key Id Name : Type 0} where
       relates_by r.ambient k l (passes_then g f.passes (small M a b k l x y u v g led exactly built))
       (led_outcome g f.passes k l x y (xform r.ambient v) led.read_leads (f.verdict).outcome)
 
-  -- So all is known of two terms that were related that is known of such.
   pub shown_now : {X : Type 0} {w : Meeting} {r q : State Key Id Name} (M : Manners) (v : Variance) (a b : Tree) (tree : X → Tree)
       (t : X) → RelatedAs w M r q (at v) a b tree (Ok t) → Shown M q v a b
-  shown_now {r = r} {q = q} M v a b tree t f = record {
-    relates = relates_now M v a b tree t f;
-    unifies = λ k is pair s sol.
-        let bindings = first_order_before r.store q.store ((f.passes).goes).later pair.bindings in
-        let o = f.exact (same_manner M (λ z. z.is_exact) f.passes k) is
-        (record { left = pair.left; right = pair.right; bindings = bindings }) in
-        ((o.1).shrinks s sol).1;
-    agrees = λ k. subst₂ (λ j c. Agree j c (at v) a b) (sym (same_settings (f.passes).kept)) (sym (same_items f.passes))
-        ((f.verdict).agrees (same_manner M (λ z. z.relates_agreeing) f.passes k));
-  }
+  shown_now M v a b tree t f = shown_by M v a b tree t f.passes f.verdict f.exact
 
   -- And of the terms as a step read them, when the pair that it left is related.
   pub again_shown : {X : Type 0} {r q p : State Key Id Name} (M : Manners) (a b k l x y u : Tree) (v : Variance)

@@ -23,7 +23,11 @@
 --   HasRelated M r p                      a pair of types was related
 --   RemembersAtMost r q p result          at most that pair is remembered besides what was
 --   Noted r q a b result                  something was noted of two terms, which asks nothing of them
-use Rattle.std.specs.Prelude.{◌≡◌, ℕ, suc, ◌+◌, ◌≤◌, List, ◌++◌, All, IsTrue, Result, Ok, Err, get_or}
+--   Covers since r                        what it remembers asks for what stands among these constraints and its goals
+--   RecordsJust A r q                     just what A says was recorded and registered
+--   RecordsJustAsked M r q v a b              of two bare terms just what they ask for was
+--   StepRecords M r q tree a b result     so it was by a step
+use Rattle.std.specs.Prelude.{◌≡◌, ℕ, suc, ◌+◌, ◌≤◌, List, [], ◌++◌, All, IsTrue, Result, Ok, Err, get_or}
 use Rattle.std.specs.Prelude.{◌⊎◌, Option, Some, None, Contains, OnErr}
 use Rattle.term_enums.specs.declared.Variance.{Variance}
 use Rattle.term_enums.specs.declared.Variance.TheVariants.{Invariant}
@@ -43,7 +47,7 @@ use Rattle.relation_semantics.specs.declared.relate.Step.TheVariants.{Done, Part
 use Rattle.relation_semantics.specs.AskedAlone.{AsksAlone, AsksNoneAlone}
 use Rattle.relation_semantics.specs.Relation.{Items, part_at, Way, at, parts, second_opened}
 use Rattle.relation_semantics.specs.Relation.{first_opened}
-use Rattle.relation_semantics.specs.Stores.{Store, IsSound, IsTermIn, weight}
+use Rattle.relation_semantics.specs.Stores.{Store, Constraint, IsSound, IsTermIn, weight}
 use Rattle.relation_semantics.specs.Goals.{Goal, goal_of, Registered, ByDeclared, IsQuiet, Relates}
 use Rattle.relation_semantics.specs.Settings.{Settings}
 use Rattle.relation_semantics.specs.Steps.{IsLater, InstantiatesNone, StaysFullFor}
@@ -54,6 +58,8 @@ use Rattle.relation_semantics.specs.OneUniverse.{KeepsUniverseOf, LeadsInUnivers
 use Rattle.relation_semantics.specs.FirstOrder.{IsFirstOrderStore, Unifies, IsErasedSolution}
 use Rattle.relation_semantics.specs.Errors.{ErrorOf, ErrorAs, Meeting, as_pair, as_forms, IsLeftToGoal}
 use Rattle.relation_semantics.specs.Agreeing.{Agree, AgreeBy}
+use Rattle.relation_semantics.specs.Asking.{Wanted, a_constraint, a_goal, AsksFor, HaveAlias}
+use Rattle.relation_semantics.specs.Recording.{AreBare, IsRecorded}
 use Rattle.relation_semantics.specs.Measures.{Goes, grown}
 use Rattle.relation_semantics.specs.Bound.{BindByLists}
 
@@ -273,8 +279,51 @@ module _ {Key Id Name : Type 0} where
   ExactlyBy M before after (second_opened ks ls v) a b result = Unit {0}
   ExactlyBy M before after (first_opened ks ls v) a b result = Unit {0}
 
+  -- A remembered pair is known, and what it asks for, if it is bare, stands among these constraints and the goals.
+  abbrev pub IsCovered : List Constraint → State Key Id Name → Pair Key → Type 0
+  IsCovered since r p = IsTrue (known ((r.meaning).ty p.1)) × IsTrue (known ((r.meaning).ty p.2)) ×
+      (AreBare r.kept.settings ((r.meaning).ty p.1) ((r.meaning).ty p.2) → (z : Wanted) →
+      AsksFor (items_in r) z p.0 ((r.meaning).ty p.1) ((r.meaning).ty p.2) →
+      IsRecorded r.kept.environment since r.goals z)
+
+  -- So are all that it remembers.
+  abbrev pub Covers : List Constraint → State Key Id Name → Type 0
+  Covers since r = (p : Pair Key) → Contains r.remembered p → IsCovered since r p
+
+  -- From one state to another just what is asked for was recorded and registered. What was added is asked for. What is
+  -- asked for stands among what was added, or among the constraints since a moment from which on all stands there that
+  -- the remembered pairs ask for; and these are covered from then on too.
+  pub record RecordsJust (Asks : Wanted → Type 0) (r q : State Key Id Name) : Type 0 where
+    pub constraints : List Constraint
+    pub goals : List Goal
+    pub recorded : (q.store).constraints ≡ (r.store).constraints ++ constraints
+    pub registered : q.goals ≡ r.goals ++ goals
+    pub constraints_asked : All (λ k. Asks (a_constraint k)) constraints
+    pub goals_asked : All (λ g. Asks (a_goal g.predicate)) goals
+    pub covers : (since : List Constraint) → Covers since r → Covers (since ++ constraints) q
+    pub all : (since : List Constraint) → Covers since r → (z : Wanted) → Asks z →
+        IsRecorded q.kept.environment (since ++ constraints) q.goals z
+
+  -- Two bare terms were related, and just what they ask for was recorded.
+  abbrev pub RecordsJustAsked : Manners → State Key Id Name → State Key Id Name → Variance → Tree → Tree → Type 0
+  RecordsJustAsked M r q v a b = (M r.kept.settings).records_asked → AreBare r.kept.settings a b →
+      RecordsJust (λ z. AsksFor (items_in r) z v a b) r q
+
+  -- The same by how they are brought together: of two forms, if none is an alias. It is said of terms alone.
+  abbrev pub RecordsAs : Meeting → Manners → State Key Id Name → State Key Id Name → Way → Tree → Tree → Type 0
+  RecordsAs as_pair M r q (at v) a b = RecordsJustAsked M r q v a b
+  RecordsAs as_forms M r q (at v) a b = (HaveAlias a b → ⊥) → RecordsJustAsked M r q v a b
+  RecordsAs y M r q way a b = Unit {0}
+
+  -- And by what came of it.
+  abbrev pub RecordsOf : {X : Type 0} → Meeting → Manners → State Key Id Name → State Key Id Name → Way → Tree → Tree →
+      Result X (RelateFault Key Id Name) → Type 0
+  RecordsOf y M r q way a b (Ok x) = RecordsAs y M r q way a b
+  RecordsOf y M r q way a b (Err f) = Unit {0}
+
   -- Two things were related. Where no variable could be made of terms without binders, and they are such, none was. What
-  -- was bound and registered is built of what they and the bindings before were built of.
+  -- was bound and registered is built of what they and the bindings before were built of. Where that is promised, just what
+  -- was asked for was recorded.
   pub record RelatedAs {X : Type 0} (y : Meeting) (M : Manners) (r q : State Key Id Name) (way : Way) (a b : Tree)
       (tree : X → Tree) (result : Result X (RelateFault Key Id Name)) : Type 0 where
     pub passes : Passes (weight r.store a + weight r.store b) r q
@@ -282,6 +331,7 @@ module _ {Key Id Name : Type 0} where
     pub exact : ExactlyBy (M r.kept.settings) r.store q.store way a b result
     pub full : StaysFullFor r.store q.store a b
     pub built : StaysBuilt r.store q.store passes.added a b
+    pub records : RecordsOf y M r q way a b result
 
   -- A pair that is met was related, by whatever way; two terms were at a variance; and two were as forms.
   abbrev pub RelatedBy : {X : Type 0} → Manners → State Key Id Name → State Key Id Name → Way → Tree → Tree →
@@ -379,6 +429,17 @@ module _ {Key Id Name : Type 0} where
     pub full : StaysFullFor r.store q.store a b
     pub built : StaysBuilt r.store q.store passes.added a b
 
+  -- A step records of two bare terms just what they ask for: where it answers, all of it; where two forms are left, these
+  -- are the two, and it records nothing. It leaves no other pair of them.
+  abbrev pub StepRecords : {K : Type 0} → Manners → State Key Id Name → State Key Id Name → (K → Tree) → Tree → Tree →
+      Result (Step K) (RelateFault Key Id Name) → Type 0
+  StepRecords M r q tree a b (Ok (Done t)) = RecordsJustAsked M r q r.ambient a b
+  StepRecords M r q tree a b (Ok (Parts x y)) = (M r.kept.settings).records_asked → AreBare r.kept.settings a b →
+      (tree x ≡ a) × (tree y ≡ b) × RecordsJust (λ z. ⊥) r q
+  StepRecords M r q tree a b (Ok (Again k l x y v u)) =
+      (M r.kept.settings).records_asked → AreBare r.kept.settings a b → ⊥
+  StepRecords M r q tree a b (Err f) = Unit {0}
+
   -- What is known of two terms that were related at a variance, where a relation stands.
   abbrev pub Shown : Manners → State Key Id Name → Variance → Tree → Tree → Type 0
   Shown M r v a b = IsShown (M r.kept.settings) r.kept.settings (items_in r) r.store r.goals r.kept.environment v a b
@@ -423,12 +484,20 @@ module _ {Key Id Name : Type 0} where
   OnlyMemory (Err Memory) = Unit {0}
   OnlyMemory (Err f) = ⊥
 
+  -- A pair is of these two known terms, at the ambient variance.
+  abbrev pub IsPairOf : State Key Id Name → Pair Key → Tree → Tree → Type 0
+  IsPairOf r p a b = (p.0 ≡ r.ambient) × ((r.meaning).ty p.1 ≡ a) × ((r.meaning).ty p.2 ≡ b) × IsTrue (known a) ×
+      IsTrue (known b)
+
   -- Something was noted of two terms: what is recorded stands; no goal that was added asks anything of two terms, and
-  -- each is built of what they and the bindings are built of; and a fault is want of memory.
+  -- each is built of what they and the bindings are built of; of two bare ones none is added; at most the two are
+  -- remembered besides what was; and a fault is want of memory.
   pub record Noted {X : Type 0} (r q : State Key Id Name) (a b : Tree) (result : Result X (RelateFault Key Id Name)) :
       Type 0 where
     pub passes : Passes 0 r q
     pub store : q.store ≡ r.store
     pub quiet : All IsQuiet passes.added
     pub built : (k : Kit) → IsBuiltOf k a → IsBuiltOf k b → BindsBuiltOf k r.store → All (IsGoalOf k) passes.added
+    pub none : AreBare r.kept.settings a b → passes.added ≡ []
+    pub remembers : (p : Pair Key) → Contains q.remembered p → IsPairOf q p a b ⊎ Contains r.remembered p
     pub fault : OnlyMemory result

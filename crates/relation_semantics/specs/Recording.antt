@@ -1,72 +1,44 @@
--- What a call has recorded and registered, by what was asked for, where a relation may remember pairs.
+-- What relating two plain terms without binders records and registers: what is asked for.
 use Rattle.std.specs.Prelude.{◌≡◌, ◌⊎◌, ℕ, ◌<◌, List, ◌++◌, All, Contains}
 use Rattle.term_enums.specs.declared.Variance.{Variance}
 use Rattle.relation_terms.specs.Heads.{Head}
 use Rattle.relation_terms.specs.Trees.{Tree, nth}
 use Rattle.relation_semantics.specs.Relation.{Items, part_at}
 use Rattle.relation_semantics.specs.Stores.{Constraint}
+use Rattle.relation_semantics.specs.Goals.{Goal, goal_of}
+use Rattle.relation_semantics.specs.Settings.{Settings, LeavesAliases}
 use Rattle.relation_semantics.specs.Steps.{HasNoBinder}
-use Rattle.relation_semantics.specs.Asking.{Wanted, a_constraint, a_goal, IsTrivial, AsksFor}
+use Rattle.relation_semantics.specs.Asking.{Wanted, a_constraint, a_goal, IsOfItself, IsTrivial, AsksFor, IsPlainTerm}
+use Rattle.relation_semantics.specs.Asking.{HasNoAlias}
 
--- Two terms that were related, and the variance at which they were.
-pub record RememberedTerms : Type 0 where
-  pub variance : Variance
-  pub left : Tree
-  pub right : Tree
+-- Two plain terms without binders; and without aliases, or where these are left to goals.
+pub record AreBare (k : Settings) (a b : Tree) : Type 0 where
+  pub left_plain : IsPlainTerm a
+  pub right_plain : IsPlainTerm b
+  pub left_unbound : HasNoBinder a
+  pub right_unbound : HasNoBinder b
+  pub aliases : LeavesAliases k ⊎ (HasNoAlias a × HasNoAlias b)
 
--- What of a relation's state is looked at here: constraints, the predicates of goals, and the pairs that it remembers.
-pub record Record : Type 0 where
-  pub constraints : List Constraint
-  pub goals : List Tree
-  pub remembered : List RememberedTerms
-
--- What is wanted stands in a list of constraints, or among the goals.
-abbrev pub StandsAmong : List Constraint → List Tree → Wanted → Type 0
-StandsAmong cs gs (a_constraint q) = Contains cs q
-StandsAmong cs gs (a_goal p) = Contains gs p
+-- What is wanted stands among these constraints, or among these goals in an environment.
+abbrev pub StandsAmong : Tree → List Constraint → List Goal → Wanted → Type 0
+StandsAmong e cs gs (a_constraint q) = Contains cs q
+StandsAmong e cs gs (a_goal p) = Contains gs (goal_of e p)
 
 -- It need not be recorded, or stands there.
-abbrev pub IsRecorded : List Constraint → List Tree → Wanted → Type 0
-IsRecorded cs gs z = IsTrivial z ⊎ StandsAmong cs gs z
+abbrev pub IsRecorded : Tree → List Constraint → List Goal → Wanted → Type 0
+IsRecorded e cs gs z = IsTrivial z ⊎ StandsAmong e cs gs z
 
--- What the remembered pairs ask for stands among these constraints and the goals.
-abbrev pub Covers : Items → List Constraint → Record → Type 0
-Covers c since r =
-    All (λ p. (z : Wanted) → AsksFor c z p.variance p.left p.right → IsRecorded since r.goals z) r.remembered
-
--- What had to be recorded was, and nothing but what may be: what was added may be; and what had to be stands among what
--- was added, or among the constraints since a moment from which all that is remembered stands there.
-pub record Records (c : Items) (Must May : Wanted → Type 0) (r q : Record) : Type 0 where
+-- Between two lists of constraints just what relating two terms asks for was added, that of a region with itself aside,
+-- and just the goals are these that it asks for in an environment.
+pub record JustAsked (c : Items) (e : Tree) (v : Variance) (a b : Tree) (before after : List Constraint)
+    (goals : List Goal) : Type 0 where
   pub constraints : List Constraint
-  pub goals : List Tree
-  pub recorded : q.constraints ≡ r.constraints ++ constraints
-  pub registered : q.goals ≡ r.goals ++ goals
-  pub constraints_may : All (λ k. May (a_constraint k)) constraints
-  pub goals_may : All (λ g. May (a_goal g)) goals
-  pub all : (since : List Constraint) → Covers c since r → (z : Wanted) → Must z →
-      IsRecorded (since ++ constraints) q.goals z
-  pub covers : (since : List Constraint) → Covers c since r → Covers c (since ++ constraints) q
+  pub recorded : after ≡ before ++ constraints
+  pub constraints_asked : All (λ q. AsksFor c (a_constraint q) v a b) constraints
+  pub all_constraints : (q : Constraint) → AsksFor c (a_constraint q) v a b → IsOfItself q ⊎ Contains constraints q
+  pub goals_asked : All (λ g. AsksFor c (a_goal g.predicate) v a b) goals
+  pub all_goals : (p : Tree) → AsksFor c (a_goal p) v a b → Contains goals (goal_of e p)
 
--- A constraint, and no goal.
-abbrev pub IsConstraint : Wanted → Type 0
-IsConstraint (a_constraint q) = Unit {0}
-IsConstraint (a_goal p) = ⊥
-
--- What relating two terms may record: what they ask for, and whatever constraints where a binder stands in one.
-abbrev pub MayAdd : Items → Variance → Tree → Tree → Wanted → Type 0
-MayAdd c v a b z = AsksFor c z v a b ⊎ ((HasNoBinder a × HasNoBinder b → ⊥) × IsConstraint z)
-
--- Two terms were related: just what they ask for was recorded, but for constraints where a binder stands in one.
-abbrev pub RecordsJustAsked : Items → Variance → Tree → Tree → Record → Record → Type 0
-RecordsJustAsked c v a b r q = Records c (λ z. AsksFor c z v a b) (MayAdd c v a b) r q
-
--- What the first parts of two lists of parts of a form ask for, and what relating them may record.
+-- What the first parts of two lists of parts of a form ask for.
 abbrev pub FrontAsks : Items → Head → Variance → ℕ → Tree → Tree → Wanted → Type 0
-FrontAsks c h v i ts us z = (j : ℕ) × (j < i) × AsksFor c z (part_at c h j v) (nth j ts) (nth j us)
-
-abbrev pub FrontMayAdd : Items → Head → Variance → ℕ → Tree → Tree → Wanted → Type 0
-FrontMayAdd c h v i ts us z = (j : ℕ) × (j < i) × MayAdd c (part_at c h j v) (nth j ts) (nth j us) z
-
--- The first parts were related: just what they ask for was recorded.
-abbrev pub FrontRecords : Items → Head → Variance → ℕ → Tree → Tree → Record → Record → Type 0
-FrontRecords c h v i ts us r q = Records c (FrontAsks c h v i ts us) (FrontMayAdd c h v i ts us) r q
+FrontAsks c h v i xs ys z = (j : ℕ) × (j < i) × AsksFor c z (part_at c h j v) (nth j xs) (nth j ys)

@@ -1,7 +1,7 @@
 -- Forms that are related by their parts, one after another.
 use Rattle.std.proofs.Common.{◌≡◌, ◌≢◌, ℕ, ◌<◌, refl, sym, ap, ◌∙◌, ◌↔◌, subst, subst₂, inr, arith, IsTrue, Ok, Err}
 use Rattle.term_enums.specs.declared.Variance.{Variance}
-use Rattle.relation_terms.specs.Heads.{AliasTermKind, Head, adt, fn_def, alias, alias_term}
+use Rattle.relation_terms.specs.Heads.{AliasTermKind, Head, adt, fn_def, alias, alias_term, unevaluated}
 use Rattle.relation_terms.specs.Heads.{arguments, trait_ref}
 use Rattle.relation_terms.specs.Trees.{Tree, node, Assign, apply, known, count, nth}
 use Rattle.relation_terms.specs.Meaning.{Meaning, Extends}
@@ -13,7 +13,7 @@ use Rattle.relation_folds.specs.declared.error.RelateFault.{RelateFault}
 use Rattle.relation_folds.specs.declared.error.RelateFault.TheVariants.{Memory, Budget, Unrelated}
 use Rattle.type_relations.specs.declared.relate.args.ArgVariances.{ArgVariances}
 use Rattle.type_relations.specs.declared.relate.args.ArgVariances.TheVariants.{Invariant, Adt, FnDef, AliasTerm, Trait}
-use Rattle.relation_semantics.specs.Relation.{Items, forms, part_at, plain, plain_kind, IsRelatedHead, IsAlias}
+use Rattle.relation_semantics.specs.Relation.{Items, forms, part_at, plain, plain_kind, IsRelatedHead, IsAlias, IsAliasHead}
 use Rattle.relation_semantics.specs.Stores.{Store}
 use Rattle.relation_semantics.specs.Settings.{Settings}
 use Rattle.relation_semantics.specs.FirstOrder.{IsFirstOrderHead, Unifies}
@@ -30,6 +30,10 @@ use Rattle.relation_semantics.specs.Lawful.{ExactlyRelated, items_in}
 use Rattle.type_relations.proofs.PartSizes.{weight_parts_most}
 use Rattle.relation_semantics.proofs.Registered.{registered_in}
 use Rattle.relation_semantics.proofs.Passing.{passes_within, passes_then, manner_then, stopped}
+use Rattle.relation_semantics.specs.Asking.{HaveAlias}
+use Rattle.relation_semantics.proofs.Asking.{neither_alias}
+use Rattle.relation_semantics.proofs.Recording.{records_as, form_asks_front, front_asks_form}
+use Rattle.relation_semantics.proofs.RecordingForms.{bare_parts}
 use Rattle.type_relations.proofs.Fronts.{Fronted, AreParts, IsLookedAt, fronted_all, fronted_never, fronted_passes, fronted_fault, fronted_exactly, fronted_needs}
 use Rattle.type_relations.proofs.Fronts.{fronted_full, fronted_built, fronted_agree}
 use Rattle.relation_semantics.proofs.Answering.{same_items, may_itself}
@@ -75,6 +79,31 @@ module _ {Key Id Name : Type 0} (m : Meaning Key Id Name) where
   args_related_head (FnDef d) = tt
   args_related_head (AliasTerm k) = tt
   args_related_head (Trait d) = tt
+
+  -- No such form is an alias, nor is one beside which it is related.
+  pub args_normal : (d : ArgVariances Id) (k : Head) (ts us : Tree) → plain (args_head m d) ≡ plain k →
+      HaveAlias (node (args_head m d) ts) (node k us) → ⊥
+  args_normal d k ts us e = neither_alias (node (args_head m d) ts) (node k us) (left d) (λ o. right d k e o)
+    where
+      left : (d : ArgVariances Id) → IsAliasHead (args_head m d) → ⊥
+      left Invariant o = o
+      left (Adt d) o = o
+      left (FnDef d) o = o
+      left (AliasTerm k) o = o
+      left (Trait d) o = o
+
+      right : (d : ArgVariances Id) (k : Head) → plain (args_head m d) ≡ plain k → IsAliasHead k → ⊥
+      right Invariant (alias k i) e o = absurd cc
+      right (Adt d) (alias k i) e o = absurd cc
+      right (FnDef d) (alias k i) e o = absurd cc
+      right (AliasTerm a) (alias k i) e o = absurd cc
+      right (Trait d) (alias k i) e o = absurd cc
+      right Invariant (unevaluated i) e o = absurd cc
+      right (Adt d) (unevaluated i) e o = absurd cc
+      right (FnDef d) (unevaluated i) e o = absurd cc
+      right (AliasTerm a) (unevaluated i) e o = absurd cc
+      right (Trait d) (unevaluated i) e o = absurd cc
+      right d k e o = absurd o
 
   pub args_looked_at : (d : ArgVariances Id) → IsLookedAt (args_head m d)
   args_looked_at Invariant = tt
@@ -140,10 +169,10 @@ module _ {Key Id Name : Type 0} {r q : State Key Id Name} (M : Manners) (v : Var
 
   -- All parts of two forms were related, and so are the forms.
   pub form_related : {X : Type 0} (tree : X → Tree) (x : X) → plain h ≡ plain k → (IsFirstOrderHead h → h ≡ k) →
-      IsRelatedHead h → i ≡ count ts → count ts ≡ count us → tree x ≡ node h ts → IsTrue (known (node h ts)) →
-      Related M r q v (node h ts) (node k us) tree (Ok x)
+      IsRelatedHead h → (HaveAlias (node h ts) (node k us) → ⊥) → i ≡ count ts → count ts ≡ count us →
+      tree x ≡ node h ts → IsTrue (known (node h ts)) → Related M r q v (node h ts) (node k us) tree (Ok x)
   unfolding passes_within
-  form_related tree x alike first is e n answer sure = record {
+  form_related tree x alike first is normal e n answer sure = record {
     passes = passes_within (omega (arith, weight_parts_most r.store (node h ts), weight_parts_most r.store (node k us)))
         f.passes;
     verdict = record {
@@ -164,6 +193,9 @@ module _ {Key Id Name : Type 0} {r q : State Key Id Name} (M : Manners) (v : Var
         (fronted_exactly h v i ts us are e (e ∙ n) f exact is' looked (list_pair pair));
     full = f.full;
     built = λ j ha hb. f.built j ha.1 hb.1;
+    records = λ promised bare. records_as (λ z w. inr (form_asks_front v i ts us normal e (e ∙ n) z w))
+        (λ z w. front_asks_form v i ts us normal e (e ∙ n) z is alike w)
+        (f.records promised (bare_parts r.kept.settings (node h ts) (node k us) bare));
   }
 
   front_binds : (M r.kept.settings).is_exact → v ≡ AtInvariance → IsFirstOrderPair r.store (node h ts) (node k us) →
@@ -191,6 +223,7 @@ module _ {Key Id Name : Type 0} {r q : State Key Id Name} (M : Manners) (v : Var
     exact = λ exact is pair. ((λ s sol z. differ (one_head s h k ts us z)), front_binds exact is pair);
     full = f.full;
     built = λ j ha hb. f.built j ha.1 hb.1;
+    records = tt;
   }
 
   -- Two parts of two forms were refused, and so are the forms.
@@ -231,6 +264,7 @@ module _ {Key Id Name : Type 0} {r q : State Key Id Name} (M : Manners) (v : Var
       exact = exactly A B p e g.exact;
       full = fronted_full h v i ts us x y f lx ly ex ey g.full;
       built = λ j ha hb. fronted_built h v i ts us x y f lx ly ex ey (g.passes).added g.built j ha.1 hb.1;
+      records = tt;
     }
 
 -- Items have the numbers that they had.

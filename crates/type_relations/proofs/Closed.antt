@@ -118,6 +118,10 @@ never_needs : (st : Store) → IsSound st → (a b : Tree) → IsClosed a → Is
 never_needs st sound a b p q n =
     false≢true (n (closed_kit all_heads) (closed_built a p) (closed_built b q) (closed_binds all_heads st sound))
 
+pub plain_terms_never_need : (st : Store) → IsSound st → (a b : Tree) → IsPlainTerm a → IsPlainTerm b →
+    NeedsVariable st a b → ⊥
+plain_terms_never_need st sound a b p q n = never_needs st sound a b (plain_closed a p) (plain_closed b q) n
+
 pub plain_never_needs : (k : Settings) (st : Store) → IsSound st → (a b : Tree) → ArePlain k a b → NeedsVariable st a b → ⊥
 plain_never_needs k st sound a b p n = let z = both_closed k a b p in never_needs st sound a b z.0 z.1 n
 

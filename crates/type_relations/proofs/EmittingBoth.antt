@@ -12,7 +12,8 @@ use Rattle.type_relations.specs.Emitting.{AddsGoals, KnowsPredicate, goals_in, w
 use Rattle.relation_semantics.specs.Goals.{Goal, ByDeclared, IsQuiet, goal_of, well_formed_predicate, HasBivariantPart, of_type}
 use Rattle.relation_semantics.specs.Kits.{Kit, IsBuiltOf, BindsBuiltOf, IsGoalOf}
 use Rattle.relation_semantics.specs.Lawful.{State, Noted, OnlyMemory, WithMeaning, RegisteredIn, RelatesByDeclared, items_in}
-use Rattle.relation_semantics.specs.Stores.{InContext, IsTermIn}
+use Rattle.relation_semantics.specs.Stores.{InContext, IsSound, IsTermIn}
+use Rattle.type_relations.proofs.Closed.{plain_terms_never_need}
 use Rattle.type_relations.proofs.Bivariance.{bivariant_parts, open_in_kit}
 use Rattle.type_relations.proofs.Noting.{noted_with, noted_then, noted_added}
 use Rattle.relation_semantics.proofs.Standing.{term_context}
@@ -87,14 +88,17 @@ module _ {Key Id Name : Type 0} (r q p : State Key Id Name) (d : ℕ) (a b ts us
       (All-nil (IsGoalOf k)))
 
   module _ {A F : Type 0} (u : State Key Id Name) (result : Result A F) (adds : AddsGoals p u (goals_in p ps) result) where
-    pub noted_both : (x : Result (Unit {0}) (RelateFault Key Id Name)) → OnlyMemory x → Noted r u a b x
-    noted_both x fault =
+    -- Nothing is left open of two bare ones.
+    pub noted_both : IsSound r.store → (x : Result (Unit {0}) (RelateFault Key Id Name)) → OnlyMemory x → Noted r u a b x
+    noted_both sound x fault =
         noted_then (Ok (tt {0})) x (noted_with e w (Ok (tt {0})) tt)
         (noted_then (Ok (tt {0})) x (noted_with f v (Ok (tt {0})) tt)
         (noted_added (goals_in p ps) result adds
         (subst (All (RegisteredIn p p.store)) (sym listed) asks)
         (subst (All IsQuiet) (sym listed) quiet) (λ k ha hb all. subst (All (IsGoalOf k)) (sym listed)
         (both_built k ha hb (subst (BindsBuiltOf k) (v.store ∙ w.store) all)))
+        (λ bare. absurd (plain_terms_never_need r.store sound a b bare.left_plain bare.right_plain
+        (λ k ha hb all. open_in_kit k (items_in r) r.store d a b ts us over h all ha hb)))
         x fault))
 
     pub both_registered : (y : A) → result ≡ Ok y →

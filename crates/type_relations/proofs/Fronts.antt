@@ -1,5 +1,5 @@
 -- A loop over the parts of two forms, which relates them one after another.
-use Rattle.std.proofs.Common.{◌≡◌, ℕ, zero, suc, ◌+◌, ◌≤◌, ◌<◌, refl, sym, ap, ◌∙◌, subst, subst₂, arith, List, [], ◌++◌, Ok, Err}
+use Rattle.std.proofs.Common.{◌≡◌, ℕ, zero, suc, ◌+◌, ◌≤◌, ◌<◌, refl, sym, ap, ◌∙◌, inr, subst, subst₂, arith, List, [], ◌++◌, Ok, Err}
 use Rattle.term_enums.specs.declared.Variance.TheVariants.{Invariant}
 use Rattle.term_enums.specs.Variances.{xform}
 use Rattle.relation_semantics.specs.FirstOrder.{IsFirstOrder, IsFirstOrderStore}
@@ -19,7 +19,11 @@ use Rattle.relation_semantics.specs.Kits.{IsBuiltOf, StaysBuilt, NeedsVariable, 
 use Rattle.relation_folds.specs.declared.error.RelateFault.{RelateFault}
 use Rattle.relation_folds.specs.declared.error.RelateFault.TheVariants.{Memory, Budget, Unrelated}
 use Rattle.relation_semantics.specs.OneUniverse.{NamesTypesTo, KeepsUniverseOf, LeadsInUniverse}
-use Rattle.relation_semantics.specs.Lawful.{State, Manners, Passes, Related, ExactResult, items_in}
+use Rattle.relation_semantics.specs.Lawful.{State, Manners, Passes, Related, ExactResult, RecordsJust, items_in}
+use Rattle.relation_semantics.specs.Asking.{AsksFor}
+use Rattle.relation_semantics.specs.Recording.{AreBare, FrontAsks}
+use Rattle.relation_semantics.proofs.Recording.{bare_nth, stands_itself, records_trivial, records_as, records_then}
+use Rattle.relation_semantics.proofs.Recording.{front_asks_none, front_asks_next, next_asks_front}
 use Rattle.relation_semantics.proofs.OneUniverse.{keeps_itself, keeps_pair, leaves_nth, led_keeps, led_binds, led_fewer}
 use Rattle.relation_semantics.proofs.Going.{pair_grown, later_itself}
 use Rattle.relation_semantics.proofs.Full.{full_itself, full_then, nth_plain}
@@ -29,7 +33,7 @@ use Rattle.relation_semantics.proofs.Passing.{passes_nowhere, passes_then, manne
 use Rattle.relation_semantics.proofs.Parts.{nth_size}
 use Rattle.relation_semantics.proofs.Agreeing.{agree_parts}
 use Rattle.relation_semantics.proofs.AgreeingForms.{next_agrees}
-use Rattle.relation_semantics.proofs.Answering.{same_items, same_settings}
+use Rattle.relation_semantics.proofs.Answering.{same_items, same_settings, same_environment}
 
 -- Forms whose parts are looked at, which are at invariance where the form is.
 abbrev pub IsLookedAt : Head → Type 0
@@ -69,6 +73,8 @@ pub record Fronted {Key Id Name : Type 0} (M : Manners) (r q : State Key Id Name
   pub built : StaysBuilt r.store q.store passes.added xs ys
   pub agrees : (M r.kept.settings).relates_agreeing → (j : ℕ) → j < i →
       Agree r.kept.settings (items_in r) (at (part_at (items_in r) h j v)) (nth j xs) (nth j ys)
+  pub records : (M r.kept.settings).records_asked → AreBare r.kept.settings xs ys →
+      RecordsJust (FrontAsks (items_in r) h v i xs ys) r q
 
 -- What is asked of two lists of parts.
 pub record AreParts (st : Store) (xs ys : Tree) : Type 0 where
@@ -97,6 +103,7 @@ module _ {Key Id Name : Type 0} where
     full = λ ha hb. full_itself r.store;
     built = built_itself r.store xs ys;
     agrees = λ k j l. absurd (omega (arith, l));
+    records = λ k bare. records_trivial (stands_itself r) refl (front_asks_none (items_in r) h v xs ys);
   }
 
   module _ {M : Manners} {r q : State Key Id Name} (h : Head) (v : Variance) (i : ℕ) (xs ys x y : Tree)
@@ -134,6 +141,11 @@ module _ {Key Id Name : Type 0} where
     pub fronted_full : {p : Store} → StaysFullFor q.store p x y → StaysFullFor r.store p xs ys
     fronted_full g ha hb = full_then (f.full ha hb)
         (g (subst HasNoBinder (sym ex) (nth_plain i xs ha)) (subst HasNoBinder (sym ey) (nth_plain i ys hb)))
+
+    -- They are bare where the lists are.
+    bare_part : AreBare r.kept.settings xs ys → AreBare q.kept.settings x y
+    bare_part bare = subst (λ k. AreBare k x y) (sym (same_settings (f.passes).kept))
+        (subst₂ (AreBare r.kept.settings) (sym ex) (sym ey) (bare_nth r.kept.settings i xs ys bare))
 
     -- They are built of what the lists are.
     part_from : BuiltFrom r.store xs ys x y
@@ -176,6 +188,11 @@ module _ {Key Id Name : Type 0} where
           (subst₂ (Agree r.kept.settings (items_in r) (at (part_at (items_in r) h i v))) ex ey
           (subst₂ (λ j c. Agree j c (at (part_at (items_in r) h i v)) x y) (same_settings (f.passes).kept)
           (same_items f.passes) ((g.verdict).agrees (manner_then M (λ m. m.relates_agreeing) f.passes k))));
+      records = λ k bare. records_as (λ z w. inr (front_asks_next (items_in r) h v i xs ys z w))
+          (next_asks_front (items_in r) h v i xs ys) (records_then (same_environment (g.passes).kept) (f.records k bare)
+          (subst₂ (λ t u. RecordsJust (λ z. AsksFor (items_in r) z (part_at (items_in r) h i v) t u) q p) ex ey
+          (subst (λ c. RecordsJust (λ z. AsksFor c z (part_at (items_in r) h i v) x y) q p) (same_items f.passes)
+          (g.records (manner_then M (λ m. m.records_asked) f.passes k) (bare_part bare)))));
     }
 
     -- A fault of two parts is one of the lists: they are not unified where the parts are not.

@@ -1,5 +1,5 @@
 -- Terms that are related by their parts, one after another, and terms that differ.
-use Rattle.std.proofs.Common.{◌≡◌, ◌≢◌, ℕ, suc, ◌<◌, refl, sym, ap, ◌∙◌, subst, subst₂, arith, Ok, Err}
+use Rattle.std.proofs.Common.{◌≡◌, ◌≢◌, ℕ, suc, ◌<◌, refl, sym, ap, ◌∙◌, inl, inr, subst, subst₂, arith, Ok, Err}
 use Rattle.std.proofs.Common.{IsTrue, List, [], ◌∷◌, ◌++◌, All}
 use Rattle.term_enums.specs.declared.Variance.{Variance}
 use Rattle.term_enums.specs.declared.Variance.TheVariants.{Bivariant, Invariant}
@@ -17,14 +17,18 @@ use Rattle.relation_semantics.specs.Stores.{Satisfies}
 use Rattle.relation_semantics.specs.Goals.{Holds}
 use Rattle.relation_semantics.specs.Headline.{IsFirstOrderPair}
 use Rattle.relation_semantics.specs.OneUniverse.{NamesTypesTo, BindsNoMore}
-use Rattle.relation_semantics.specs.Errors.{ErrorOf, Meeting, of_part_forms, AreOfOneForm, over_parts, over_aliases, one_leaf, parameters}
+use Rattle.relation_semantics.specs.Asking.{HaveAlias}
+use Rattle.relation_semantics.specs.Errors.{ErrorOf, Meeting, as_pair, as_forms, of_part_forms, AreOfOneForm, over_parts, over_aliases, one_leaf, parameters}
 use Rattle.relation_semantics.specs.Errors.{PartError}
 use Rattle.relation_semantics.specs.Parts.{parts_of, head_of, IsByParts}
 use Rattle.type_relations.specs.Handing.{named_place, IsFaultOfPart}
 use Rattle.relation_semantics.specs.Making.{over}
 use Rattle.relation_semantics.specs.Lawful.{State, Manners, MayAnswer, Passes, Refuses, RefusesAs, Related, RelatedAs}
 use Rattle.relation_semantics.specs.Lawful.{items_in}
-use Rattle.relation_semantics.proofs.Leaving.{said_as, parts_not_left, form_not_left}
+use Rattle.relation_semantics.proofs.Leaving.{said_as, parts_not_left, form_not_left, by_parts_normal, one_form_normal}
+use Rattle.relation_semantics.proofs.Recording.{records_as}
+use Rattle.relation_semantics.proofs.RecordingForms.{bare_parts, form_asks, asks_form}
+use Rattle.relation_semantics.specs.Lawful.{RecordsJustAsked, RecordsAs}
 use Rattle.relation_semantics.specs.Lawful.{ExactResult, ExactlyRelated}
 use Rattle.relation_semantics.proofs.Registered.{registered_in}
 use Rattle.relation_semantics.proofs.Passing.{passes_within, passes_then, manner_then, stopped}
@@ -91,7 +95,7 @@ module _ {Key Id Name : Type 0} {r q : State Key Id Name} (M : Manners) (v : Var
       i ≡ count (parts_of a) → i ≡ count (parts_of b) → tree x ≡ a → IsTrue (known a) →
       RelatedAs w M r q (at v) a b tree (Ok x)
   unfolding passes_within
-  terms_answer tree x o f are ea eb answer k = record {
+  terms_answer {w = w} tree x o f are ea eb answer k = record {
     passes = passes_within (omega (arith, weight_parts_most r.store a, weight_parts_most r.store b)) f.passes;
     verdict = record {
       outcome = record {
@@ -112,7 +116,22 @@ module _ {Key Id Name : Type 0} {r q : State Key Id Name} (M : Manners) (v : Var
         (parts_pair r.store a b pair));
     full = λ ha hb. f.full (parts_plain a ha) (parts_plain b hb);
     built = λ k ha hb. f.built k (built_parts k a ha) (built_parts k b hb);
+    records = records w;
   }
+    where
+      normal : HaveAlias a b → ⊥
+      normal (inl h) = by_parts_normal a form h
+      normal (inr h) = one_form_normal a b o (by_parts_normal a form) h
+
+      just : RecordsJustAsked M r q v a b
+      just promised bare = records_as (λ z w. form_asks (items_in r) v a b i normal z ea eb o w)
+          (λ z w. asks_form (items_in r) v a b i normal z ea eb o
+          (λ h ts d. term_related h ts (subst IsByParts d form)) w)
+          (f.records promised (bare_parts r.kept.settings a b bare))
+
+      records : (w : Meeting) → RecordsAs w M r q (at v) a b
+      records as_pair = just
+      records as_forms = λ none. just
 
   -- After some of the parts it is seen that the two are not of one form.
   pub terms_unlike : {X : Type 0} {w : Meeting} (tree : X → Tree) (k l : Sort) (e : TypeError Key Id Name) → v ≢ Bivariant →
@@ -131,6 +150,7 @@ module _ {Key Id Name : Type 0} {r q : State Key Id Name} (M : Manners) (v : Var
         (part_error_apart q.meaning r.store k l a b e form other ta tb unlike, front_binds f exact is pair);
     full = λ ha hb. f.full (parts_plain a ha) (parts_plain b hb);
     built = λ k ha hb. f.built k (built_parts k a ha) (built_parts k b hb);
+    records = tt;
   }
 
   -- Two parts were refused, and so are the two.
@@ -194,6 +214,7 @@ module _ {Key Id Name : Type 0} {r q : State Key Id Name} (M : Manners) (v : Var
           (parts_plain a ha) (parts_plain b hb);
       built = λ k ha hb. fronted_built (head_of a) v i (parts_of a) (parts_of b) x y f lx ly ex ey (g.passes).added g.built
           k (built_parts k a ha) (built_parts k b hb);
+      records = tt;
     }
 
 -- Two terms that are not of one form.

@@ -29,6 +29,7 @@ use Rattle.relation_semantics.specs.Lawful.{State, Manners, TakesParts, MayAnswe
 use Rattle.relation_semantics.specs.Relation.{at, plain, plain_kind, part_at, Rel, forms, next_part, no_parts, IsAlias}
 use Rattle.relation_semantics.specs.Stores.{IsTermIn, InContext}
 use Rattle.relation_semantics.proofs.Answering.{covariantly}
+use Rattle.relation_semantics.proofs.Asking.{neither_alias}
 use Rattle.relation_semantics.proofs.Leaving.{normal_not_left}
 use Rattle.relation_semantics.proofs.Parts.{in_parts}
 use Rattle.relation_semantics.proofs.Standing.{term_context}
@@ -140,6 +141,7 @@ answered_with M v a b tree t f answer z may sure = record {
   exact = f.exact;
   full = f.full;
   built = f.built;
+  records = f.records;
 }
 
 -- A predicate of a trait, by its trait reference.
@@ -198,7 +200,8 @@ module _ {Key Id Name : Type 0} (M : Manners) (v : Variance) (p q : PredicatePol
         clause_related z same is sure =
             let done : Related M r s v (clause p t) (clause q u) (λ (y : Tree). y) (Ok (clause p t)) =
             form_related M v (trait_clause p) (trait_clause q) (cons t nil) (cons u nil) 1 gone are tt
-            (λ (y : Tree). y) (clause p t) (ap trait_clause same) (λ f. ap trait_clause same) tt refl refl refl sure in
+            (λ (y : Tree). y) (clause p t) (ap trait_clause same) (λ f. ap trait_clause same) tt
+            (neither_alias (clause p t) (clause q u) (λ x. x) (λ x. x)) refl refl refl sure in
             answered_with M v (clause p t) (clause q u) (λ (y : Tree). y) (clause p t) done answer z
             (subst (MayAnswer M s v (clause p t)) (sym is) (record {
               related = λ w a sat all. forms tt refl (next_part

@@ -66,3 +66,4 @@ mod BindingAsked
 mod CombiningTys
 mod Registering
 pub mod Recalling
+pub mod StepsRecord

@@ -33,7 +33,7 @@ use Rattle.relation_semantics.specs.Measures.{Goes}
 use Rattle.relation_semantics.specs.Errors.{ErrorOf, IsLeftToGoal, of_entries, IsReadAs, itself, by_class, by_binding}
 use Rattle.relation_semantics.specs.FirstOrder.{IsFirstOrderStore}
 use Rattle.relation_semantics.specs.Bound.{BindByLists}
-use Rattle.relation_semantics.specs.Lawful.{RegisteredIn, Passes, Asked, Takes, Related, Stepped, items_of, Kept, Pair, State}
+use Rattle.relation_semantics.specs.Lawful.{RegisteredIn, Passes, Asked, Takes, Stepped, items_of, Kept, Pair, State}
 use Rattle.type_relations.specs.Emitting.{IsOver, WithContext}
 use Rattle.relation_semantics.specs.Contexts.{Context}
 use Rattle.relation_semantics.specs.ContextCalls.{Grows, Stands, BindingsBindByLists}
@@ -109,22 +109,15 @@ module _ {Key Id Name : Type 0} (r : State Key Id Name) where
       Stepped solver_manner F (standing r m was L) (standing r n now K) a b tree (Ok (Done t))
   unfolding over_passes
   one_step {X} F m n was now L K a b tree t same goes l equal keep exactly universe full built answer sure agreeing =
-      subst (λ n. Stepped solver_manner F (standing r m was L) (standing r n now K) a b tree (Ok (Done t))) (sym same)
-      (record {
-        passes = related.passes;
-        verdict = related.verdict;
-        exact = related.exact;
-        full = related.full;
-        built = related.built;
-      })
+      subst (λ n. Stepped solver_manner F (standing r m was L) (standing r n now K) a b tree (Ok (Done t))) (sym same) step
     where
       answers : (tree t ≡ a) ⊎ (tree t ≡ b) → (w : Interpretation) (s : Assign) → Satisfies w now s →
           apply s a ≡ apply s (tree t)
       answers (inl p) w s sat = ap (apply s) (sym p)
       answers (inr p) w s sat = equal w s sat ∙ ap (apply s) (sym p)
 
-      related : Related solver_manner (standing r m was L) (standing r m now K) r.ambient a b tree (Ok t)
-      related = record {
+      step : Stepped solver_manner F (standing r m was L) (standing r m now K) a b tree (Ok (Done t))
+      step = record {
         passes = over_passes (stays_same m) goes l;
         verdict = record {
           outcome = record {

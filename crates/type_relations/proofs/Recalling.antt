@@ -17,7 +17,7 @@ use Rattle.relation_terms.specs.Trees.{Tree, IsTerm, known}
 use Rattle.relation_folds.specs.declared.error.TypeError.TheVariants.{CyclicTy}
 use Rattle.relation_folds.specs.declared.error.RelateFault.{RelateFault}
 use Rattle.relation_semantics.specs.declared.relate.Step.{Step}
-use Rattle.relation_semantics.specs.declared.relate.Step.TheVariants.{Done}
+use Rattle.relation_semantics.specs.declared.relate.Step.TheVariants.{Done, Parts, Again}
 use Rattle.relation_semantics.specs.declared.relate.StructurallyRelateAliases.{StructurallyRelateAliases}
 use Rattle.relation_semantics.specs.AliasGoals.{alias_at}
 use Rattle.relation_semantics.specs.AskedAlone.{AsksAlone, IsTyVar, IsNoTyVar}
@@ -28,7 +28,7 @@ use Rattle.relation_semantics.specs.Parts.{IsFormed}
 use Rattle.relation_semantics.specs.Steps.{Taints}
 use Rattle.relation_semantics.specs.Lawful.{State, Pair, Manners, Stepped, Shown, HasRelated, RemembersRelated, RemembersAtMost}
 use Rattle.relation_semantics.proofs.Answering.{same_environment, same_settings}
-use Rattle.relation_semantics.proofs.Passing.{shown_now, step_done}
+use Rattle.relation_semantics.proofs.Passing.{shown_by}
 use Rattle.relation_semantics.proofs.Remembering.{hit_is_step, related_as, were_related_more}
 use Rattle.relation_semantics.proofs.Standing.{term_sort_of}
 use Rattle.type_relations.specs.Combining.{Joins, MeetsTys, RegistersOne, RegistersNone, TaintsAlone, TysCombine, seen}
@@ -40,7 +40,7 @@ use Rattle.type_relations.specs.Stepping.{CombinesTyVars, made_one, left_subtype
 use Rattle.type_relations.specs.Stepping.{CombinesShallowTys, two_variables, left_bound, left_asked, left_unasked, left_refused}
 use Rattle.type_relations.specs.Stepping.{right_bound, right_asked, right_unasked, right_refused, no_ty_variables}
 use Rattle.type_relations.specs.Stepping.{InstantiatesTyVar, BindsTyVar, BindsAsking, BindsUnasked, IsRemembered, StepsRead, met_again}
-use Rattle.type_relations.specs.Stepping.{combined, not_remembered}
+use Rattle.type_relations.specs.Stepping.{combined, not_remembered, RemembersAnswered}
 use Rattle.type_relations.proofs.Alone.{combined_registers}
 
 -- Equal variances are one.
@@ -113,9 +113,8 @@ module _ {Key Id Name : Type 0} (r q : State Key Id Name) (a b : TyKey Key) wher
     left_known = subst (λ z. IsTrue (known z)) (sym x) asked.left_known;
     right_known = subst (λ z. IsTrue (known z)) (sym y) asked.right_known;
     shown = subst (λ v. Shown solver_manner q v ((q.meaning).ty a) ((q.meaning).ty b)) (sym (step.passes).ambient)
-        (subst₂ (λ z w. Shown solver_manner q r.ambient z w) (sym x) (sym y) (shown_now solver_manner r.ambient
-        ((r.meaning).ty a) ((r.meaning).ty b) (q.meaning).ty t (step_done solver_manner IsFormed ((r.meaning).ty a)
-        ((r.meaning).ty b) (q.meaning).ty t step)));
+        (subst₂ (λ z w. Shown solver_manner q r.ambient z w) (sym x) (sym y) (shown_by solver_manner r.ambient
+        ((r.meaning).ty a) ((r.meaning).ty b) (q.meaning).ty t step.passes step.verdict step.exact));
     registered = λ o g asks. subst (λ e. Contains q.goals (goal_of e g)) (sym (same_environment (step.passes).kept))
         (combined_registers r q a b t g (step.passes).extends asked.left_known (seen g asks) h);
   }
@@ -131,6 +130,17 @@ module _ {Key Id Name : Type 0} (r q : State Key Id Name) (a b : TyKey Key) wher
       seen g asks = subst₂ (λ z w. AsksAlone r.kept.settings r.ambient z w g) x y
           (subst₂ (λ k v. AsksAlone k v ((q.meaning).ty a) ((q.meaning).ty b) g) (same_settings (step.passes).kept)
           (step.passes).ambient asks)
+
+  -- Where there is no answer nothing is remembered.
+  pub unanswered : (step : Step (TyKey Key)) → ((t : TyKey Key) → step ≡ Done t → ⊥) → q.remembered ≡ r.remembered →
+      RemembersAnswered r q a b (Ok step)
+  unanswered (Done t) n e = absurd (n t refl)
+  unanswered (Parts x y) n e = e
+  unanswered (Again k l x y v u) n e = e
+
+  pub not_answered : (res : Result (Step (TyKey Key)) (RelateFault Key Id Name)) (f : RelateFault Key Id Name) →
+      res ≡ Err f → RemembersAnswered r q a b res
+  not_answered res f is = subst (RemembersAnswered r q a b) (sym is) tt
 
   -- What comes of two types of which none is a variable.
   pub unless_variables : IsNoTyVar ((r.meaning).ty a) → IsNoTyVar ((r.meaning).ty b) →

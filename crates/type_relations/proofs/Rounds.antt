@@ -254,6 +254,7 @@ module _ {Key Id Name : Type 0} where
     exact = λ k is pair. absurd (never (first_order_plain a pair.left));
     full = full_never a b never;
     built = built_led g.added (f.passes).added a b x y built l.built f.built;
+    records = tt;
   }
 
   -- The bodies of round 0 were related.
@@ -340,6 +341,7 @@ module _ {Key Id Name : Type 0} where
     exact = λ j is pair. absurd (never (first_order_plain a pair.left));
     full = full_never a b never;
     built = built_then (h.passes).added (o.passes).added a b h.built o.built;
+    records = λ promised bare. absurd (never bare.left_unbound);
   }
     where
       whole : Begun (items_in r) r.kept.environment r.ambient r.store p.store r.goals (h.passes).added a b →
@@ -457,6 +459,7 @@ module _ {Key Id Name : Type 0} where
       exact = λ j is pair. absurd (never (first_order_plain a pair.left));
       full = full_never a b never;
       built = second_built f.passes f.built;
+      records = tt;
     }
 
     -- They were related, and so are the binders.
@@ -475,6 +478,7 @@ module _ {Key Id Name : Type 0} where
       exact = λ j is pair. absurd (never (first_order_plain a pair.left));
       full = full_never a b never;
       built = second_built f.passes f.built;
+      records = λ promised bare. absurd (never bare.left_unbound);
     }
 
   -- The bodies that a round leads to are less deep than the binders, in round 0 and in round 1.

@@ -1,5 +1,5 @@
 -- Relating in a context, step by step.
-use Rattle.std.proofs.Common.{◌≡◌, ◌≢◌, ℕ, ◌≤◌, refl, sym, ap, ap₂, ◌∙◌, arith, subst, subst₂, [], All}
+use Rattle.std.proofs.Common.{◌≡◌, ◌≢◌, ℕ, ◌<◌, ◌≤◌, refl, sym, ap, ap₂, ◌∙◌, arith, subst, subst₂, [], All}
 use Rattle.std.proofs.Common.{IsTrue, Some, IfSome, ◌++◌, max, min, length}
 use Rattle.std.proofs.Common.{Result, Ok, Err, List, ◌∷◌}
 use Rattle.std.proofs.lemmas.List.Elements.{All-nil}
@@ -29,7 +29,12 @@ use Rattle.relation_folds.specs.declared.error.RelateFault.TheVariants.{Memory, 
 use Rattle.relation_semantics.specs.declared.relate.Step.{Step}
 use Rattle.relation_semantics.specs.declared.relate.StructurallyRelateAliases.{StructurallyRelateAliases}
 use Rattle.relation_semantics.specs.declared.relate.Step.TheVariants.{Done}
-use Rattle.relation_semantics.specs.Relation.{Interpretation, RegionRule, regions, at}
+use Rattle.relation_semantics.specs.Relation.{Interpretation, RegionRule, regions, at, sort_of}
+use Rattle.relation_semantics.specs.Asking.{region_at, of_regions}
+use Rattle.relation_semantics.specs.Recording.{AreBare, JustAsked}
+use Rattle.relation_semantics.specs.Errors.{as_pair}
+use Rattle.relation_semantics.proofs.Asking.{regions_ask_one}
+use Rattle.relation_semantics.proofs.Recording.{records_constraint, just_asked}
 use Rattle.relation_semantics.specs.Stores.{Store, Constraint, IsRegionIn, IsSound}
 use Rattle.relation_semantics.specs.Stores.{ConstraintHolds, all_bound}
 use Rattle.relation_semantics.specs.Goals.{Goal, goals_of, KnowsGoal, Registered, GoalInContext, Holds, MakesOneTree}
@@ -45,7 +50,7 @@ use Rattle.relation_semantics.specs.Lawful.{Passes, Related, Stepped, items_of, 
 use Rattle.relation_semantics.proofs.Standing.{term_sort_of}
 use Rattle.relation_semantics.proofs.Agreeing.{agree_regions}
 use Rattle.relation_semantics.specs.Agreeing.{Agree}
-use Rattle.relation_semantics.specs.Lawful.{Verdict, WithMeaning, RegisteredIn}
+use Rattle.relation_semantics.specs.Lawful.{Verdict, WithMeaning, RegisteredIn, RecordsOf}
 use Rattle.relation_semantics.proofs.Going.{goes_nowhere, goes_within, later_itself}
 use Rattle.relation_semantics.proofs.Remembering.{none_related, were_related_later}
 use Rattle.relation_semantics.proofs.Roots.{roots_goes}
@@ -219,11 +224,13 @@ module _ {Key Id Name : Type 0} {j j' : Held Key} (held : j' ≡ j) (gs : List (
           exact = λ k is pair. binds_none was now a b as_many;
           full = λ ha hb. full;
           built = built;
+          records = tt;
         })
 
   -- Two regions were related by what was recorded.
   module _ (m : Meaning Key Id Name) (was now : Store) (L K : Type 0) (v : Variance) (e : ParamEnvKey Key)
       (a b : RegionKey Key) (c : RegionConstraint Key) (is : constraint_at v a b ≡ Some c)
+      (asks : region_at v (m.region a) (m.region b) ≡ Some (constraint_of m c))
       (left : IsRegionIn was (m.region a)) (right : IsRegionIn was (m.region b))
       (goes : Goes 0 was now)
       (added : AddsConstraint was now (constraint_of m c)) where
@@ -286,7 +293,17 @@ module _ {Key Id Name : Type 0} {j j' : Held Key} (held : j' ≡ j) (gs : List (
           full = λ ha hb. constraint_full was now (constraint_of m c) added;
           built = built_constraint was now (m.region a) (m.region b) added.same_entries added.same_universe
               added.same_taint added.same_budget;
+          records = λ promised bare. records_constraint (constraint_of m c) (stays_same m) added.one_more refl
+              (ap settings_by held) refl (ap (λ i. i.memory) held)
+              (of_regions (constraint_of m c) refl left_sort right_sort asks)
+              (λ z w. regions_ask_one (constraint_of m c) left_sort asks w);
         }
+          where
+            left_sort : sort_of (m.region a) ≡ region_sort
+            left_sort = term_sort_of region_var (m.region a) left.0
+
+            right_sort : sort_of (m.region b) ≡ region_sort
+            right_sort = term_sort_of region_var (m.region b) right.0
 
   -- The same by what the variance asks for.
   pub regions_recorded : (m : Meaning Key Id Name) (was now : Store) (L K : Type 0) (v : Variance) (e : ParamEnvKey Key)
@@ -297,11 +314,11 @@ module _ {Key Id Name : Type 0} {j j' : Held Key} (held : j' ≡ j) (gs : List (
       IsTrue (known (m.region a)) →
       Related solver_manner (solving j gs m was L v e) (solving j' gs n now K v e) v (m.region a) (m.region b) n.region (Ok k)
   regions_recorded m was now L K Covariant e a b d left right goes added =
-      regions_related m was now L K Covariant e a b (Outlives (record { 0 = Lifetime a; 1 = b })) refl left right goes added
+      regions_related m was now L K Covariant e a b (Outlives (record { 0 = Lifetime a; 1 = b })) refl refl left right goes added
   regions_recorded m was now L K Contravariant e a b d left right goes added =
-      regions_related m was now L K Contravariant e a b (Outlives (record { 0 = Lifetime b; 1 = a })) refl left right goes added
+      regions_related m was now L K Contravariant e a b (Outlives (record { 0 = Lifetime b; 1 = a })) refl refl left right goes added
   regions_recorded m was now L K Invariant e a b d left right goes added =
-      regions_related m was now L K Invariant e a b (Eq (record { 0 = a; 1 = b })) refl left right goes added
+      regions_related m was now L K Invariant e a b (Eq (record { 0 = a; 1 = b })) refl refl left right goes added
   regions_recorded m was now L K Bivariant e a b d left right goes added = absurd (d refl)
 
   -- A step that answers.
@@ -450,8 +467,29 @@ module _ {Key Id Name X : Type 0} (j i : Held Key) (gs hs : List (KeyedGoal Key 
     exact = h.exact;
     full = h.full;
     built = h.built;
+    records = records result h.records;
   }
     where
+      same_set : settings_by i ≡ settings_by (seen_from j i)
+      same_set = ap (λ k. solver_settings (k.settings).structurally_relate_aliases i.setup) (h.passes).kept
+
+      records : (r : Result X (RelateFault Key Id Name)) →
+          RecordsOf as_pair solver_manner (solving j gs m was L v e) (solving i hs n now K v e) (at v) a b r →
+          RecordsOf as_pair solver_manner (solving (seen_from j j) gs m was L v e) (solving (seen_from j i) hs n now K v e)
+          (at v) a b r
+      records (Err f) just = tt
+      records (Ok t) just = λ promised bare. let z = just promised bare in record {
+        constraints = z.constraints;
+        goals = z.goals;
+        recorded = z.recorded;
+        registered = z.registered;
+        constraints_asked = z.constraints_asked;
+        goals_asked = z.goals_asked;
+        covers = λ since c p held. let k = z.covers since c p held in
+            (k.0, k.1, λ pair. k.2 (subst (λ s. AreBare s (n.ty p.1) (n.ty p.2)) (sym same_set) pair));
+        all = z.all;
+      }
+
       same_aliases : HeldRelated i n now hs e → HeldRelated (seen_from j i) n now hs e
       same_aliases f = subst (λ k. WereRelated (solver_manner k) k n now (goals_of n hs) (n.param_env e) i.memory)
           (ap (λ k. solver_settings (k.settings).structurally_relate_aliases i.setup) (h.passes).kept) f
@@ -511,8 +549,24 @@ module _ {Key Id Name X : Type 0} (j i : Held Key) (gs hs : List (KeyedGoal Key 
     exact = h.exact;
     full = h.full;
     built = h.built;
+    records = records result h.records;
   }
     where
+      records : (r : Result X (RelateFault Key Id Name)) →
+          RecordsOf as_pair solver_manner (solving j gs m was L v e) (solving i hs n now K v e) (at v) a b r →
+          RecordsOf as_pair solver_manner (solving j gs m was L v e) (solving (forgotten i) hs n now K v e) (at v) a b r
+      records (Err f) just = tt
+      records (Ok t) just = λ promised bare. let z = just promised bare in record {
+        constraints = z.constraints;
+        goals = z.goals;
+        recorded = z.recorded;
+        registered = z.registered;
+        constraints_asked = z.constraints_asked;
+        goals_asked = z.goals_asked;
+        covers = λ since c p held. let l : held.0 < 0 = held.1 in absurd (omega (arith, l));
+        all = z.all;
+      }
+
       verdict : (r : Result X (RelateFault Key Id Name)) →
           Verdict solver_manner (solving j gs m was L v e) (solving i hs n now K v e) ((h.passes).added) v a b tree r →
           Verdict solver_manner (solving j gs m was L v e) (solving (forgotten i) hs n now K v e) ((h.passes).added) v a b
@@ -591,6 +645,14 @@ module _ {Key Id Name X : Type 0} {j j' : Held Key} (m n : Meaning Key Id Name) 
       Related solver_manner (solving j [] m was L v e) (solving j' hs n now K v e) v a b tree (Ok t) →
       Agree (solver_settings j.structurally_relate_aliases j.setup) (items_of m) (at v) a b
   relates_agreeing t h = (h.verdict).agrees tt
+
+  -- Of two bare terms just what they ask for was added, where nothing was remembered.
+  pub adds_just_asked : (t : X) → j.memory ≡ [] →
+      AreBare (solver_settings j.structurally_relate_aliases j.setup) a b →
+      Related solver_manner (solving j [] m was L v e) (solving j' hs n now K v e) v a b tree (Ok t) →
+      JustAsked (items_of m) (m.param_env e) v a b was.constraints now.constraints (goals_of n hs)
+  adds_just_asked t none bare h = just_asked (items_of m) (m.param_env e) v a b none refl
+      (same_environment (h.passes).kept) (h.records tt bare)
 
   goals_registered : (result : Result X (RelateFault Key Id Name)) →
       Related solver_manner (solving j [] m was L v e) (solving j' hs n now K v e) v a b tree result →

@@ -27,6 +27,8 @@ use Rattle.type_relations.specs.Handing.{IsPassedOn, IsNoLength, IsFaultOfTy, pa
 use Rattle.relation_semantics.specs.Lawful.{State, Manners, MayAnswer, Passes, Refuses, RefusesAs, Related}
 use Rattle.relation_semantics.specs.Lawful.{RelatedForms, ExactResult, ExactlyRelated, items_in}
 use Rattle.relation_semantics.proofs.Registered.{registered_in}
+use Rattle.relation_semantics.proofs.Recording.{records_as}
+use Rattle.relation_semantics.proofs.RecordingForms.{bare_parts, form_asks, asks_form}
 use Rattle.relation_semantics.proofs.Passing.{passes_within, passes_then, manner_then, stopped}
 use Rattle.type_relations.proofs.Fronts.{Fronted, AreParts, fronted_never, fronted_all, fronted_passes, fronted_fault, fronted_exactly, fronted_full, fronted_built, fronted_needs}
 use Rattle.relation_semantics.proofs.Building.{built_parts}
@@ -225,6 +227,7 @@ module _ {Key Id Name : Type 0} {r q : State Key Id Name} (M : Manners) (v : Var
       passes = passes_within (omega (arith, weight_parts_most r.store a, weight_parts_most r.store b))
           (fronted_passes (head_of a) v i (parts_of a) (parts_of b) (arg_tree q.meaning X) (arg_tree q.meaning Y) f lx ly
           ex ey g.passes);
+      records = tt;
       verdict = ty_refuses g.passes e k kx ky t g.verdict;
       exact = ty_exactly A B p e k is_formed' t g.exact;
       full = λ ha hb. fronted_full (head_of a) v i (parts_of a) (parts_of b) (arg_tree q.meaning X)
@@ -298,4 +301,7 @@ module _ {Key Id Name : Type 0} {r q : State Key Id Name} (M : Manners) (v : Var
         (formed_looked_at a is_formed) (parts_pair r.store a b pair));
     full = λ ha hb. f.full (parts_plain a ha) (parts_plain b hb);
     built = λ k ha hb. f.built k (built_parts k a ha) (built_parts k b hb);
+    records = λ none promised bare. records_as (λ z w. form_asks (items_in r) v a b i none z ea eb o w)
+        (λ z w. asks_form (items_in r) v a b i none z ea eb o (λ h ts d. related_head h (subst IsFormed d is_formed)) w)
+        (f.records promised (bare_parts r.kept.settings a b bare));
   }

@@ -3,7 +3,7 @@ use Rattle.std.proofs.Common.{◌≡◌, ◌≢◌, ◌⊎◌, ℕ, ◌+◌, ◌
 use Rattle.std.proofs.lemmas.List.Elements.{All-nil}
 use Rattle.term_enums.specs.declared.Variance.{Variance}
 use Rattle.term_enums.specs.declared.Variance.TheVariants.{Bivariant}
-use Rattle.relation_terms.specs.Heads.{type_sort, const_sort, region_sort, Sort, unevaluated, expression, value, value_type, value_branch, atom}
+use Rattle.relation_terms.specs.Heads.{type_sort, const_sort, region_sort, Sort, unevaluated, expression, value, value_type, value_branch, atom, type_error, const_error}
 use Rattle.relation_terms.specs.Trees.{Tree, leaf, node, nil, cons, known, IsTerm, count, nth, apply, Assign}
 use Rattle.relation_terms.specs.Meaning.{Meaning, arg_tree}
 use Rattle.relation_terms.specs.declared.terms.keys.TyKey.{TyKey}
@@ -31,6 +31,12 @@ use Rattle.relation_semantics.specs.Parts.{IsFormed, IsFormedConst, const_parts_
 use Rattle.type_relations.specs.Handing.{IsPassedOnConst, IsFaultOfConst, passed_const, whole}
 use Rattle.relation_semantics.specs.Lawful.{State, Manners, MayAnswer, Passes, Refuses, RefusesAs, Related}
 use Rattle.relation_semantics.specs.Lawful.{RelatedAs, RelatedForms, ExactResult, ExactlyRelated, items_in}
+use Rattle.relation_semantics.specs.Lawful.{RecordsJustAsked, RecordsAs}
+use Rattle.relation_semantics.specs.Asking.{IsPlainTerm}
+use Rattle.relation_semantics.specs.Recording.{AreBare}
+use Rattle.relation_semantics.proofs.Asking.{itself_is_trivial}
+use Rattle.relation_semantics.proofs.Recording.{stands_itself, records_trivial, records_as}
+use Rattle.relation_semantics.proofs.RecordingForms.{bare_const_parts, const_asks, asks_const}
 use Rattle.relation_semantics.proofs.Registered.{registered_in}
 use Rattle.relation_semantics.proofs.Passing.{passes_within, passes_then, passes_nowhere, manner_then, stopped}
 use Rattle.type_relations.proofs.Fronts.{Fronted, AreParts, fronted_never, fronted_all, fronted_passes, fronted_fault, fronted_exactly, fronted_full, fronted_built, fronted_needs}
@@ -213,6 +219,7 @@ module _ {Key Id Name : Type 0} {r q : State Key Id Name} (M : Manners) (v : Var
           (const_parts_plain a ha) (const_parts_plain b hb);
       built = λ j ha hb. fronted_built (const_head_of a) v i (const_parts_of a) (const_parts_of b) x y f lx ly ex ey
           (g.passes).added g.built j (built_const_parts j a ha) (built_const_parts j b hb);
+      records = tt;
     }
 
   -- Memory ran out after some of the parts.
@@ -297,6 +304,9 @@ module _ {Key Id Name : Type 0} {r q : State Key Id Name} (M : Manners) (v : Var
         (const_looked_at a) (const_parts_pair r.store a b pair));
     full = λ ha hb. f.full (const_parts_plain a ha) (const_parts_plain b hb);
     built = λ k ha hb. f.built k (built_const_parts k a ha) (built_const_parts k b hb);
+    records = λ none promised bare. records_as (λ z w. const_asks (items_in r) v a b i none z ea eb o w)
+        (λ z w. asks_const (items_in r) v a b i none z ea eb o w)
+        (f.records promised (bare_const_parts r.kept.settings a b bare));
   }
 
 -- Terms of one of the three sorts of arguments are of one sort.
@@ -305,6 +315,13 @@ one_top region_sort x y t e d = e ∙ sym d
 one_top type_sort x y t e d = e ∙ sym d
 one_top const_sort x y t e d = e ∙ sym d
 one_top k x y t e d = absurd t
+
+-- An error is no plain term.
+error_not_plain : (t : Tree) → IsError t → IsPlainTerm t → ⊥
+error_not_plain (leaf (atom type_error)) e h = h
+error_not_plain (leaf (atom const_error)) e h = h
+error_not_plain (leaf (atom x)) e h = e
+error_not_plain t e h = e
 
 -- An error agrees with all of its sort.
 pub error_flexible : (t : Tree) → IsError t → IsFlexible t
@@ -333,7 +350,15 @@ module _ {Key Id Name : Type 0} {X : Type 0} (M : Manners) (r : State Key Id Nam
         (pair.bindings, exact_itself r.store a b e, keeps_pair r.store r.store a b (keeps_itself r.store));
     full = λ ha hb. full_itself r.store;
     built = built_itself r.store a b;
+    records = records w;
   }
+    where
+      just : RecordsJustAsked M r r v a b
+      just promised bare = records_trivial (stands_itself r) refl (λ z asks. itself_is_trivial asks e)
+
+      records : (w : Meeting) → RecordsAs w M r r (at v) a b
+      records as_pair = just
+      records as_forms = λ none. just
 
   -- An error with a term of its sort: nothing happens, and the error is the answer.
   module _ (k : Sort) (a b : Tree) (x : X) (top : AtTop k k) (ia : IsTermIn r.store a) (ib : IsTermIn r.store b)
@@ -370,8 +395,13 @@ module _ {Key Id Name : Type 0} {X : Type 0} (M : Manners) (r : State Key Id Nam
       exact = λ exact is' pair. absurd (not_first is pair);
       full = λ ha hb. full_itself r.store;
       built = built_itself r.store a b;
+      records = λ none promised bare. absurd (not_plain is bare);
     }
       where
+        not_plain : IsError a ⊎ IsError b → AreBare r.kept.settings a b → ⊥
+        not_plain (inl e) bare = error_not_plain a e bare.left_plain
+        not_plain (inr e) bare = error_not_plain b e bare.right_plain
+
         either : IsError a ⊎ IsError b → IsFlexible a ⊎ IsFlexible b
         either (inl e) = inl (error_flexible a e)
         either (inr e) = inr (error_flexible b e)
@@ -400,6 +430,7 @@ module _ {Key Id Name : Type 0} {X : Type 0} (M : Manners) (r : State Key Id Nam
     exact = λ exact is pair. (u pair, binds_itself r.store a b);
     full = λ ha hb. full_itself r.store;
     built = built_itself r.store a b;
+    records = tt;
   }
 
   pub types_differ : (x y : TyKey Key) (e : TypeError Key Id Name) → v ≢ Bivariant → IsFormed ((r.meaning).ty x) →

@@ -18,12 +18,13 @@ use Rattle.relation_semantics.specs.declared.relate.StructurallyRelateAliases.{S
 use Rattle.relation_semantics.specs.Relation.{Items, Interpretation, Rel, at, IsValue, IsValueLeaf}
 use Rattle.relation_semantics.specs.Settings.{Settings}
 use Rattle.relation_semantics.specs.Stores.{Store, IsSound, ConstraintHolds}
-use Rattle.relation_semantics.specs.Goals.{goal_of, Holds}
+use Rattle.relation_semantics.specs.Goals.{goal_of, goals_of, Holds}
 use Rattle.relation_semantics.specs.Errors.{ErrorOf}
 use Rattle.relation_semantics.specs.Agreeing.{Agree}
 use Rattle.relation_semantics.specs.Lawful.{items_of}
 use Rattle.relation_semantics.specs.Contexts.{Context}
 use Rattle.relation_semantics.specs.Asking.{Wanted, a_constraint, a_goal, AsksFor, IsPlainTerm, HasNoAlias, ArePlain}
+use Rattle.relation_semantics.specs.Recording.{AreBare, JustAsked}
 use Rattle.relation_semantics.specs.Steps.{HasNoBinder}
 use Rattle.type_relations.specs.Solving.{solver_settings}
 use Rattle.type_relations.specs.Relating.{term_in}
@@ -96,6 +97,14 @@ module _ {S Key Id Name A : Type 0} (state : S → Context Key Id Name) (old new
   Complete g e v a b result = (s : Sort) → IsValue s (term a) → IsValue s (term b) →
       ArePlain (solver_settings g (state old).setup) (term a) (term b) → CompletelyAnswered
       (items_of (state old).meaning) (((state old).meaning).param_env e) v (term a) (term b) result
+
+  -- Of two bare terms, where the answer is `Ok`: just the constraints that they ask for were recorded, that of a region with
+  -- itself aside, and just the goals that they ask for are answered.
+  abbrev pub AddsJustAsked : StructurallyRelateAliases → ParamEnvKey Key → Variance → A → A →
+      Result (Vec (Goal Key (PredicateKey Key))) (RelateFault Key Id Name) → Type 0
+  AddsJustAsked g e v a b result = AreBare (solver_settings g (state old).setup) (term a) (term b) →
+      IfOk result (λ goals. JustAsked (items_of (state old).meaning) (((state old).meaning).param_env e) v (term a)
+      (term b) (state old).store.constraints (state new).store.constraints (goals_of (state new).meaning goals.items))
 
   -- Of terms without variables, binders and aliases: where the answer is `Ok`, they are related under just those
   -- interpretations under which the constraints that they ask for hold.

@@ -20,7 +20,7 @@ use Rattle.type_relations.specs.declared.relate.args.ArgVariances.{ArgVariances}
 use Rattle.type_relations.specs.Arguments.{args_head, AreOverItem}
 use Rattle.relation_semantics.specs.AskedAlone.{AsksNoneAlone}
 use Rattle.relation_semantics.specs.Constraints.{constraint_at, asked_constraints}
-use Rattle.relation_semantics.specs.Lawful.{State, Manners, Related, Shown, Stepped, Noted, items_in}
+use Rattle.relation_semantics.specs.Lawful.{State, Manners, Related, Shown, Stepped, StepRecords, Noted, items_in}
 use Rattle.relation_semantics.specs.Making.{Made, over, const_over}
 use Rattle.relation_semantics.specs.Parts.{IsFormed, IsFormedConst, head_of, const_head_of}
 use Rattle.relation_semantics.specs.Relation.{plain, part_at}
@@ -82,6 +82,16 @@ module _ {Key Id Name : Type 0} where
       Result (Step (ConstKey Key)) (RelateFault Key Id Name) → Type 0
   SteppedConsts M r q a b result =
       Stepped M IsFormedConst r q ((r.meaning).const_ a) ((r.meaning).const_ b) (q.meaning).const_ result
+
+  -- It recorded of two bare types, or of two bare constants, just what they ask for.
+  abbrev pub TysStepRecords : Manners → State Key Id Name → State Key Id Name → TyKey Key → TyKey Key →
+      Result (Step (TyKey Key)) (RelateFault Key Id Name) → Type 0
+  TysStepRecords M r q a b result = StepRecords M r q (q.meaning).ty ((r.meaning).ty a) ((r.meaning).ty b) result
+
+  abbrev pub ConstsStepRecords : Manners → State Key Id Name → State Key Id Name → ConstKey Key → ConstKey Key →
+      Result (Step (ConstKey Key)) (RelateFault Key Id Name) → Type 0
+  ConstsStepRecords M r q a b result =
+      StepRecords M r q (q.meaning).const_ ((r.meaning).const_ a) ((r.meaning).const_ b) result
 
   -- A step was taken of two types of which one goal is asked by registering that alone, where the relation promises it.
   abbrev pub TysStepAlone : Manners → State Key Id Name → State Key Id Name → TyKey Key → TyKey Key →

@@ -23,7 +23,7 @@ use Rattle.type_relations.specs.Emitting.{AddsGoals, RegistersSubtype, goals_in}
 use Rattle.type_relations.specs.Rounds.{OpenedBinders}
 use Rattle.type_relations.specs.Solving.{solving_through, solver_manner}
 use Rattle.type_relations.specs.Stepping.{CombinesShallowTys, CombinesTyVars, IsRemembered, StepsRead, StepsBinders}
-use Rattle.type_relations.specs.Stepping.{StepsRegions, StepsTys}
+use Rattle.type_relations.specs.Stepping.{StepsRegions, StepsTys, RemembersTys, RemembersRead, KeepsMemory}
 use Rattle.type_relations.specs.Terms.{AskedTerms, RelatedTerms, TermsRegister}
 
 -- Of two types that are no type variables a step was taken.
@@ -101,6 +101,22 @@ module _ {Infcx Interner Key Id Name Span : Type 0} (state : Infcx → Context K
       SolverRelating Infcx Interner Key Id Name Span → TyKey Key → TyKey Key →
       Result (Step (TyKey Key)) (RelateFault Key Id Name) → Type 0
   SolverCombinesVars r q a b result = CombinesTyVars (solver_through r) (solver_through q) a b result
+
+  -- At most the two are remembered besides what was; of two that were resolved shallowly, with what is remembered and
+  -- without.
+  abbrev pub SolverRemembersTys : SolverRelating Infcx Interner Key Id Name Span →
+      SolverRelating Infcx Interner Key Id Name Span → TyKey Key → TyKey Key →
+      Result (Step (TyKey Key)) (RelateFault Key Id Name) → Type 0
+  SolverRemembersTys r q a b result = RemembersTys (solver_through r) (solver_through q) a b result
+
+  abbrev pub SolverRemembersRead : SolverRelating Infcx Interner Key Id Name Span →
+      SolverRelating Infcx Interner Key Id Name Span → TyKey Key → TyKey Key →
+      Result (Step (TyKey Key)) (RelateFault Key Id Name) → Type 0
+  SolverRemembersRead r q a b result = RemembersRead (solver_through r) (solver_through q) a b result
+
+  abbrev pub SolverKeepsMemory : SolverRelating Infcx Interner Key Id Name Span →
+      SolverRelating Infcx Interner Key Id Name Span → TyKey Key → TyKey Key → Type 0
+  SolverKeepsMemory r q a b = KeepsMemory (solver_through r) (solver_through q) a b
 
   -- Of two types of which one goal is asked it was a step by registering that alone.
   abbrev pub SolverStepsAlone : SolverRelating Infcx Interner Key Id Name Span →

@@ -132,6 +132,25 @@ module _ {Key Id Name : Type 0} (r q : State Key Id Name) where
     combined : Combines result → StepsRead a b Combines result
     not_remembered : (t : TyKey Key) → Combines (Ok (Done t)) → result ≡ Err Memory → StepsRead a b Combines result
 
+  -- At most these two types are remembered besides what was, and only where there is an answer.
+  abbrev pub RemembersAnswered : TyKey Key → TyKey Key → Result (Step (TyKey Key)) (RelateFault Key Id Name) → Type 0
+  RemembersAnswered a b (Ok (Done t)) =
+      (p : Pair Key) → Contains q.remembered p → (p ≡ (r.ambient, a, b)) ⊎ Contains r.remembered p
+  RemembersAnswered a b (Ok step) = q.remembered ≡ r.remembered
+  RemembersAnswered a b (Err f) = Unit {0}
+
+  -- It is said of two that are no type variables, or in which no variable stands, but of regions; and of the first that
+  -- nothing is remembered besides.
+  abbrev pub RemembersRead : TyKey Key → TyKey Key → Result (Step (TyKey Key)) (RelateFault Key Id Name) → Type 0
+  RemembersRead a b result =
+      IsNoTyVar ((r.meaning).ty a) → IsNoTyVar ((r.meaning).ty b) → RemembersAnswered a b result
+
+  abbrev pub RemembersTys : TyKey Key → TyKey Key → Result (Step (TyKey Key)) (RelateFault Key Id Name) → Type 0
+  RemembersTys a b result = one_has_variable r.meaning a b ≡ false → RemembersAnswered a b result
+
+  abbrev pub KeepsMemory : TyKey Key → TyKey Key → Type 0
+  KeepsMemory a b = IsNoTyVar ((r.meaning).ty a) → IsNoTyVar ((r.meaning).ty b) → q.remembered ≡ r.remembered
+
   -- What comes of two types: of one and the same it is the answer; of two in which no variable stands, but of regions,
   -- what comes of both as they are read, by combining; of all others the same of both, resolved shallowly.
   pub data StepsTys (a b : TyKey Key) (result : Result (Step (TyKey Key)) (RelateFault Key Id Name)) : Type 0 where

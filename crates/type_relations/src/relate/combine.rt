@@ -357,6 +357,7 @@ pub fn super_combine_tys<Infcx: InferCtxtLike, R: PredicateEmittingRelation<Infc
     requires b_shallow { let r = R.state relation.old in IsShallow r.store (r.meaning.ty b.now) }
     ensures stepped { StepsUnlessVars (R.state relation.old) (R.state relation.new) a.now b.now result }
     ensures combines { TysCombine (R.state relation.old) (R.state relation.new) a.now b.now result }
+    ensures memory { (R.state relation.new).remembered ≡ (R.state relation.old).remembered }
 {
     let left = ty_standing(relation.infcx(), a);
     let right = ty_standing(relation.infcx(), b);
@@ -410,6 +411,7 @@ pub fn super_combine_consts<Infcx: InferCtxtLike, R: PredicateEmittingRelation<I
     requires asked { AskedTerms solver_manner None (λ m. m.const_) (R.state relation.old) a.now b.now }
     ensures stepped { SteppedConsts solver_manner (R.state relation.old) (R.state relation.new) a.now b.now result }
     ensures combines { ConstsCombine (R.state relation.old) (R.state relation.new) a.now b.now result }
+    ensures memory { (R.state relation.new).remembered ≡ (R.state relation.old).remembered }
 {
     if a == b {
         return Ok(Step::Done(*a));
@@ -451,6 +453,7 @@ fn combine_shallow<Infcx: InferCtxtLike, R: PredicateEmittingRelation<Infcx>>(
     requires b_shallow { let r = R.state relation.old in IsShallowConst r.store (r.meaning.const_ b.now) }
     ensures stepped { SteppedConsts solver_manner (R.state relation.old) (R.state relation.new) a.now b.now result }
     ensures combines { CombinesShallow (R.state relation.old) (R.state relation.new) a.now b.now result }
+    ensures memory { (R.state relation.new).remembered ≡ (R.state relation.old).remembered }
 {
     if is_left_const::<Infcx, R>(relation, a, b) {
         register_const_alias::<Infcx, R>(relation, a, b)?;

@@ -11,7 +11,7 @@ ghost use Rattle.relation_semantics.specs.ContextCalls.{KeepsBeside};
 ghost use Rattle.type_relations.specs.Relating.{KnowsTerm, TakesTerm, HasTerm, AreOne, AnswersTerms};
 ghost use Rattle.type_relations.specs.Relating.{KeepsEqual, TellsApart, AnswersError, AnswersExactly, ProvesApart};
 ghost use Rattle.type_relations.specs.Relating.{RelatesAgreeing};
-ghost use Rattle.type_relations.specs.Completing.{Complete, RelatesWhereAsked};
+ghost use Rattle.type_relations.specs.Completing.{Complete, RelatesWhereAsked, AddsJustAsked};
 ghost use Rattle.type_relations.specs.Closed.{LeavesClosed, AsksNothing, SpendsForVariables};
 ghost use Rattle.type_relations.specs.Relating.{AnswersAsked, AnswersOnly, SpendsNoMore, MakesToRelate, BuildsNoMore, Idle};
 ghost use Rattle.type_relations.specs.Terms.{AskedTerms, RelatedTerms, TermsRegister};
@@ -123,6 +123,7 @@ pub trait RelateExt: InferCtxtLike {
         ensures agrees { RelatesAgreeing Self.state self.old self.new T.over T.tree No variance lhs rhs result }
         ensures complete { Complete Self.state self.old self.new T.over T.tree No param_env variance lhs rhs result }
         ensures met { RelatesWhereAsked Self.state self.old self.new T.over T.tree param_env variance lhs rhs result }
+        ensures asked { AddsJustAsked Self.state self.old self.new T.over T.tree No param_env variance lhs rhs result }
         ensures spent { IfSpent result ((Self.state self.new).store.budget ≡ 0) }
         ensures same { AreOne (Self.state self.old) T.over T.tree lhs rhs → Idle Self.state self.old self.new result }
         ensures alone { AnswersAsked Self.state self.old self.new T.over T.tree No param_env variance lhs rhs result }
@@ -169,6 +170,7 @@ pub trait RelateExt: InferCtxtLike {
         ensures agrees { RelatesAgreeing Self.state self.old self.new T.over T.tree Yes Invariant lhs rhs result }
         ensures complete { Complete Self.state self.old self.new T.over T.tree Yes param_env Invariant lhs rhs result }
         ensures met { RelatesWhereAsked Self.state self.old self.new T.over T.tree param_env Invariant lhs rhs result }
+        ensures asked { AddsJustAsked Self.state self.old self.new T.over T.tree Yes param_env Invariant lhs rhs result }
         ensures spent { IfSpent result ((Self.state self.new).store.budget ≡ 0) }
         ensures same { AreOne (Self.state self.old) T.over T.tree lhs rhs → Idle Self.state self.old self.new result }
         ensures goals { AnswersOnly Self.state self.old self.new Yes param_env Invariant result }
@@ -214,6 +216,7 @@ impl<Infcx: InferCtxtLike> RelateExt for Infcx {
         ensures agrees { RelatesAgreeing Infcx.state self.old self.new T.over T.tree No variance lhs rhs result }
         ensures complete { Complete Infcx.state self.old self.new T.over T.tree No param_env variance lhs rhs result }
         ensures met { RelatesWhereAsked Infcx.state self.old self.new T.over T.tree param_env variance lhs rhs result }
+        ensures asked { AddsJustAsked Infcx.state self.old self.new T.over T.tree No param_env variance lhs rhs result }
         ensures spent { IfSpent result ((Infcx.state self.new).store.budget ≡ 0) }
         ensures same { AreOne (Infcx.state self.old) T.over T.tree lhs rhs → Idle Infcx.state self.old self.new result }
         ensures alone { AnswersAsked Infcx.state self.old self.new T.over T.tree No param_env variance lhs rhs result }
@@ -267,6 +270,7 @@ impl<Infcx: InferCtxtLike> RelateExt for Infcx {
         ensures agrees { RelatesAgreeing Infcx.state self.old self.new T.over T.tree Yes Invariant lhs rhs result }
         ensures complete { Complete Infcx.state self.old self.new T.over T.tree Yes param_env Invariant lhs rhs result }
         ensures met { RelatesWhereAsked Infcx.state self.old self.new T.over T.tree param_env Invariant lhs rhs result }
+        ensures asked { AddsJustAsked Infcx.state self.old self.new T.over T.tree Yes param_env Invariant lhs rhs result }
         ensures spent { IfSpent result ((Infcx.state self.new).store.budget ≡ 0) }
         ensures same { AreOne (Infcx.state self.old) T.over T.tree lhs rhs → Idle Infcx.state self.old self.new result }
         ensures goals { AnswersOnly Infcx.state self.old self.new Yes param_env Invariant result }
@@ -322,6 +326,7 @@ fn relate_as<Infcx: InferCtxtLike, T: Relate<Infcx::Interner>>(
     ensures apart { TellsApart Infcx.state infcx.old infcx.new T.over T.tree lhs rhs result }
     ensures errors { AnswersError Infcx.state infcx.old infcx.new T.over T.tree aliases variance lhs rhs result }
     ensures agrees { RelatesAgreeing Infcx.state infcx.old infcx.new T.over T.tree aliases variance lhs rhs result }
+    ensures asked { AddsJustAsked Infcx.state infcx.old infcx.new T.over T.tree aliases param_env variance lhs rhs result }
     ensures spent { IfSpent result ((Infcx.state infcx.new).store.budget ≡ 0) }
     ensures same { AreOne (Infcx.state infcx.old) T.over T.tree lhs rhs → Idle Infcx.state infcx.old infcx.new result }
     ensures alone { AnswersAsked Infcx.state infcx.old infcx.new T.over T.tree aliases param_env variance lhs rhs result }

@@ -9,6 +9,7 @@ ghost use Rattle.relation_semantics.specs.Lawful.{RelatesByDeclared, RemembersRe
 ghost use Rattle.type_relations.specs.Following.{FollowsInterner};
 ghost use Rattle.type_relations.specs.Rounds.{AskedBinders, OpenedBinders};
 ghost use Rattle.type_relations.specs.Keyed.{RelatedRegions, ShownTys, TysAskNone, SteppedConsts, SteppedTys};
+ghost use Rattle.type_relations.specs.Keyed.{TysStepRecords, ConstsStepRecords};
 ghost use Rattle.type_relations.specs.Keyed.{TysStepAlone, AreOver, RecordsAsked, NotedTys, variances_in, Decides};
 ghost use Rattle.type_relations.specs.Terms.{AskedTerms};
 
@@ -78,6 +79,7 @@ pub trait TypeRelation<I: Interner>: HasState<I> {
         requires decides { (Self.state self.old).ambient ≢ Bivariant }
         requires asked { AskedTerms manner None (λ m. m.ty) (Self.state self.old) a.now b.now }
         ensures stepped { SteppedTys manner (Self.state self.old) (Self.state self.new) a.now b.now result }
+        ensures records { TysStepRecords manner (Self.state self.old) (Self.state self.new) a.now b.now result }
         ensures registers { TysStepAlone manner (Self.state self.old) (Self.state self.new) a.now b.now result };
 
     /// What comes of two constants.
@@ -85,7 +87,8 @@ pub trait TypeRelation<I: Interner>: HasState<I> {
         requires lawful { (Self.state self.old).lawful }
         requires decides { (Self.state self.old).ambient ≢ Bivariant }
         requires asked { AskedTerms manner None (λ m. m.const_) (Self.state self.old) a.now b.now }
-        ensures { SteppedConsts manner (Self.state self.old) (Self.state self.new) a.now b.now result };
+        ensures stepped { SteppedConsts manner (Self.state self.old) (Self.state self.new) a.now b.now result }
+        ensures records { ConstsStepRecords manner (Self.state self.old) (Self.state self.new) a.now b.now result };
 
     /// Relates two regions.
     fn regions(&mut self, a: &Region<I>, b: &Region<I>) -> RelateResult<I, Region<I>>

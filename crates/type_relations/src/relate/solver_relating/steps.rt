@@ -15,7 +15,8 @@ ghost use Rattle.type_relations.specs.SolverTerms.{SolverOpened, SolverRelatedRe
 ghost use Rattle.type_relations.specs.SolverTerms.{SolverIsOver, SolverNotedTys};
 ghost use Rattle.type_relations.specs.SolverTerms.{SolverStepped, SolverSteps, SolverStepsBinders, SolverStepsConsts};
 ghost use Rattle.type_relations.specs.SolverTerms.{SolverStepsRead, SolverStepsRegions, SolverStepsAlone, SolverStepsTys};
-ghost use Rattle.type_relations.specs.SolverTerms.{SolverTakes, solver_through};
+ghost use Rattle.type_relations.specs.SolverTerms.{SolverTakes, SolverRemembersTys, SolverRemembersRead};
+ghost use Rattle.type_relations.specs.SolverTerms.{SolverKeepsMemory, solver_through};
 
 use crate::relate::Step;
 use crate::relate::combine::{
@@ -65,6 +66,7 @@ impl<'a, Infcx: InferCtxtLike> SolverRelating<'a, Infcx> {
         requires asked { SolverTakes Infcx.state (λ m. m.ty) self.old a.now b.now }
         ensures stepped { SolverSteps Infcx.state self.old self.new a.now b.now result }
         ensures steps { SolverStepsTys Infcx.state self.old self.new a.now b.now result }
+        ensures remembers { SolverRemembersTys Infcx.state self.old self.new a.now b.now result }
         ensures alone { SolverStepsAlone Infcx.state self.old self.new a.now b.now result }
     {
         if a == b {
@@ -92,6 +94,7 @@ impl<'a, Infcx: InferCtxtLike> SolverRelating<'a, Infcx> {
         requires b_shallow { let r = Infcx.state self.old.infcx.now in IsShallow r.store ((r.meaning).ty b.now) }
         ensures stepped { SolverSteps Infcx.state self.old self.new a.now b.now result }
         ensures steps { SolverStepsRead Infcx.state self.old self.new a.now b.now result }
+        ensures remembers { SolverRemembersRead Infcx.state self.old self.new a.now b.now result }
     {
         if self.was_related(a, b) {
             return Ok(Step::Done(*a));
@@ -119,6 +122,7 @@ impl<'a, Infcx: InferCtxtLike> SolverRelating<'a, Infcx> {
         requires b_shallow { let r = Infcx.state self.old.infcx.now in IsShallow r.store ((r.meaning).ty b.now) }
         ensures stepped { SolverSteps Infcx.state self.old self.new a.now b.now result }
         ensures combines { SolverCombinesShallow Infcx.state self.old self.new a.now b.now result }
+        ensures memory { SolverKeepsMemory Infcx.state self.old self.new a.now b.now }
     {
         match ty_var(&*self.infcx, a) {
             Some(x) => match ty_var(&*self.infcx, b) {
@@ -245,6 +249,8 @@ impl<'a, Infcx: InferCtxtLike> SolverRelating<'a, Infcx> {
         requires asked { SolverTakes Infcx.state (λ m. m.const_) self.old a.now b.now }
         ensures stepped { SolverStepped Infcx.state self.old self.new a.now b.now result }
         ensures steps { SolverStepsConsts Infcx.state self.old self.new a.now b.now result }
+        ensures memory { (solver_through Infcx.state self.new).remembered ≡
+            (solver_through Infcx.state self.old).remembered }
     {
         super_combine_consts::<Infcx, SolverRelating<'a, Infcx>>(self, a, b)
     }

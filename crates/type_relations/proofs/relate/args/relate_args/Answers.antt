@@ -16,7 +16,7 @@ use Rattle.relation_semantics.proofs.Lists.{snoc, list_push}
 use Rattle.relation_semantics.proofs.Passing.{as_err, made_or_not}
 use Rattle.type_relations.proofs.Fronts.{Fronted, fronted_none, fronted_next}
 use Rattle.type_relations.proofs.Looping.{next_asked}
-use Rattle.type_relations.proofs.Arguments.{form_related, form_refused, form_stopped, args_related_head, args_looked_at}
+use Rattle.type_relations.proofs.Arguments.{form_related, form_refused, form_stopped, args_related_head, args_looked_at, args_normal}
 use Rattle.type_relations.proofs.Arguments.{args_first_order, args_complain, args_heads}
 use Rattle.relation_semantics.proofs.Answering.{same_items, AreAnswers, answers_none, answers_next, answers_end, may_form, if_ok_both}
 use Rattle.type_relations.proofs.relate.args.relate_args.Goals as goal
@@ -228,8 +228,8 @@ returns g c j alike =
     (answers_end M q h r.ambient i ts was (inv.are_parts).left_list all inv.answers) in
     let done : Related M r q r.ambient (node h ts) (node j us) (λ (t : Tree). t) (Ok (node h ts)) =
     form_related M r.ambient h j ts us i inv.fronted inv.are_parts (args_looked_at r.meaning d) (λ (t : Tree). t)
-    (node h ts) alike (args_first_order r.meaning d j alike) (args_related_head r.meaning d) all c.requires.as_many refl
-    k.left_known in
+    (node h ts) alike (args_first_order r.meaning d j alike) (args_related_head r.meaning d)
+    (args_normal r.meaning d j ts us alike) all c.requires.as_many refl k.left_known in
     made_or_not M r.ambient (node h ts) (node j us) made.extends made.grown tree (λ (t : Tree). t) (node h ts) done
     c.make_args.result made.fault
     (if_ok_both (λ z. IsTrue (known ((p.meaning).args z)))

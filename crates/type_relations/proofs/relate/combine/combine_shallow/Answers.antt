@@ -146,3 +146,49 @@ returns-clause-combines g c =
     let w = c.context_grows.ensures z grows (consts_later r s d o c.requires.decides sound grows.extends numbers by_lists
     a b res c.requires.asked sorts a_shallow b_shallow left_there meets) c.requires.lawful in
     not_left_consts left w.goals (consts_met r q s d o w a b res meets)
+
+pub returns-clause-memory : goal.returns-clause-memory
+returns-clause-memory g c =
+    let x = c.args.relation.now in
+    let r = g.R.HasState.state x in
+    let o = g.met.R.PredicateEmittingRelation.over x in
+    let y = g.R.PredicateEmittingRelation.context x in
+    let s = g.Infcx.InferCtxtLike.state y in
+    let a = c.args.a.now in
+    let b = c.args.b.now in
+    let cx = g.Infcx.InferCtxtLike.interner y in
+    let of = g.met.Infcx.InferCtxtLike.reads y in
+    let lawful = o.lawful c.requires.lawful in
+    let sound = g.met.Infcx.InferCtxtLike.sound y lawful in
+    let z = c.meet_consts.new.infcx in
+    let d = g.Infcx.InferCtxtLike.state z in
+    let q = g.R.HasState.state (g.R.PredicateEmittingRelation.with_context x z) in
+    let res = c.meet_consts.result in
+    let al = r.kept.settings.structurally_relate_aliases in
+    let numbers = g.met.Infcx.InferCtxtLike.numbers y lawful in
+    let grows = subst (λ z. Grows (g.Infcx.InferCtxtLike.state z) d) c.infcx_mut.ensures.value c.meet_consts.ensures.grows in
+    let meets = subst (λ z. MeetsConsts (g.Infcx.InferCtxtLike.state z).meaning d.meaning
+    (g.Infcx.InferCtxtLike.state z).store d.store al a b res) c.infcx_mut.ensures.value
+    (subst (λ l. MeetsConsts (g.Infcx.InferCtxtLike.state c.infcx_mut.result.now).meaning d.meaning
+    (g.Infcx.InferCtxtLike.state c.infcx_mut.result.now).store d.store l a b res) c.structurally_relate_aliases-aliases.ensures
+    c.meet_consts.ensures.combines) in
+    let by_lists = g.met.Infcx.InferCtxtLike.bound_by_lists z grows.lawful in
+    let sorts : (t : _) → IsTrue (known ((s.meaning).const_ t)) → IsTerm const_sort ((s.meaning).const_ t) =
+    λ t h. const_sorted of t ((g.met.Infcx.Interner.Interner.sorted cx).const_ t) h in
+    let a_shallow = subst₂ (λ st m. IsShallowConst st (m.const_ a)) o.store o.meaning c.requires.a_shallow in
+    let b_shallow = subst₂ (λ st m. IsShallowConst st (m.const_ b)) o.store o.meaning c.requires.b_shallow in
+    let not_left = c.is_left_const.ensures.not c.if-is_left_const.false in
+    let left : IsFormedConst ((r.meaning).const_ a) → IsFormedConst ((r.meaning).const_ b) →
+    IsLeftToGoal r.kept.settings ((r.meaning).const_ a) ((r.meaning).const_ b) → ⊥ =
+    λ f h. const_not_left r.kept.settings ((r.meaning).const_ a) ((r.meaning).const_ b) f h (not_left (f, h)) in
+    let left_there = subst (λ m. IsFormedConst (m.const_ a) → IsFormedConst (m.const_ b) →
+    IsLeftToGoal r.kept.settings (m.const_ a) (m.const_ b) → ⊥) o.meaning left in
+    let w = c.context_grows.ensures z grows (consts_later r s d o c.requires.decides sound grows.extends numbers by_lists
+    a b res c.requires.asked sorts a_shallow b_shallow left_there meets) c.requires.lawful in
+    w.remembered
+
+pub returns-in_err-register_const_alias-clause-memory : goal.returns-in_err-register_const_alias-clause-memory
+returns-in_err-register_const_alias-clause-memory g c = c.in_err-register_const_alias.ensures.remembered
+
+pub returns-then-is_left_const-clause-memory : goal.returns-then-is_left_const-clause-memory
+returns-then-is_left_const-clause-memory g c = c.in_ok-register_const_alias.ensures.remembered

@@ -6,7 +6,7 @@ use Rattle.relation_semantics.specs.ContextCalls.{Grows}
 use Rattle.type_relations.specs.Bivariance.{HasOpenArgument}
 use Rattle.relation_semantics.specs.Goals.{well_formed_predicate}
 use Rattle.relation_semantics.specs.Lawful.{OnlyMemory, items_of}
-use Rattle.relation_semantics.specs.Stores.{IsTermIn}
+use Rattle.relation_semantics.specs.Stores.{IsSound, IsTermIn}
 use Rattle.type_relations.proofs.Bivariance.{over_in, registers_none}
 use Rattle.type_relations.proofs.EmittingBoth.{both_known, both_registered, listed_known, noted_both}
 use Rattle.type_relations.proofs.Noting.{noted_with, noted_then, over_extends, over_with, with_meaning}
@@ -233,7 +233,9 @@ returns-in_err-register_predicates-clause-noted g c =
     noted_both r q p (m.id i) (m.ty k) (m.ty l) (m.args xs) (m.args ys) stay (over_with r q s d o grows w)
     (over_extends q p t e over grows' v) (over_with q p t e over grows' v) c.requires.over c.requires.by_declared (tells.0 c.if-not-branch.false)
     c.requires.a_in c.requires.b_in c.as_slice.result.now made (g.R.HasState.state
-    c.register_predicates.new.self) c.register_predicates.result c.register_predicates.ensures res
+    c.register_predicates.new.self) c.register_predicates.result c.register_predicates.ensures
+    (subst IsSound (sym o.store) (g.met.Infcx.InferCtxtLike.sound (g.R.PredicateEmittingRelation.context x)
+    (o.lawful c.requires.lawful))) res
     (subst OnlyMemory (sym (as_err res Memory c.from_residual-in_err-register_predicates.ensures.0
     c.from_residual-in_err-register_predicates.ensures.1)) tt)
 
@@ -286,7 +288,9 @@ returns-clause-noted g c =
     noted_both r q p (m.id i) (m.ty k) (m.ty l) (m.args xs) (m.args ys) stay (over_with r q s d o grows w)
     (over_extends q p t e over grows' v) (over_with q p t e over grows' v) c.requires.over c.requires.by_declared (tells.0 c.if-not-branch.false)
     c.requires.a_in c.requires.b_in c.as_slice.result.now made (g.R.HasState.state
-    c.register_predicates.new.self) c.register_predicates.result c.register_predicates.ensures (Ok (tt {0})) tt
+    c.register_predicates.new.self) c.register_predicates.result c.register_predicates.ensures
+    (subst IsSound (sym o.store) (g.met.Infcx.InferCtxtLike.sound (g.R.PredicateEmittingRelation.context x)
+    (o.lawful c.requires.lawful))) (Ok (tt {0})) tt
 
 pub returns-clause-registers : goal.returns-clause-registers
 returns-clause-registers g c =

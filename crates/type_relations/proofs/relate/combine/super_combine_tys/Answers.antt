@@ -9,7 +9,7 @@ use Rattle.relation_semantics.proofs.Passing.{as_err}
 use Rattle.type_relations.specs.Combining.{MeetsTys, left_error, right_error, not_left}
 use Rattle.type_relations.specs.Leaving.{LeftAs, StandsAs}
 use Rattle.type_relations.proofs.Combining.{combined_later, types_stepped, types_met}
-use Rattle.type_relations.proofs.CombiningTys.{stands_there, error_left, error_right, to_goal, not_to_goal, to_open, not_to_open}
+use Rattle.type_relations.proofs.CombiningTys.{alias_memory, stands_there, error_left, error_right, to_goal, not_to_goal, to_open, not_to_open}
 use Rattle.type_relations.proofs.Leaving.{clean}
 use Rattle.type_relations.proofs.OverContext.{stands_grows}
 use Rattle.type_relations.proofs.Solving.{ty_sorted}
@@ -49,6 +49,9 @@ returns-in-Error-clause-combines g c =
     (((g.Infcx.InferCtxtLike.state z).meaning).ty a)) c.infcx.ensures c.ty_standing-left.ensures) in
     left_error (subst (λ w. StandsAs w ((r.meaning).ty a)) c.in-Error.is sl) c.taint.ensures.alone refl
 
+pub returns-in-Error-clause-memory : goal.returns-in-Error-clause-memory
+returns-in-Error-clause-memory g c = c.taint.ensures.kept.remembered
+
 pub returns-in-Error-right : goal.returns-in-Error-right
 returns-in-Error-right g c =
     let x = c.args.relation.now in
@@ -75,6 +78,7 @@ returns-in-Error-right g c =
       stepped = λ n m. error_right o c.requires.decides sound a b k sorts (g.R.HasState.state c.taint-in-Error-right.new.relation)
           c.taint-in-Error-right.ensures.alone c.taint-in-Error-right.ensures.kept is;
       combines = right_error left_clean is c.taint-in-Error-right.ensures.alone refl;
+      memory = c.taint-in-Error-right.ensures.kept.remembered;
     }
 
 pub returns-in_err-register_alias_relate_predicate-in-ToGoal :
@@ -107,7 +111,12 @@ returns-in_err-register_alias_relate_predicate-in-ToGoal g c =
     (left_clean, right_clean) (Unit {0}) OutOfMemory c.in_err-register_alias_relate_predicate-in-ToGoal.field-0.0 from.result left
     c.in_err-register_alias_relate_predicate-in-ToGoal.ensures
     (as_err from.result Memory from.ensures.0 from.ensures.1) in
-    record { stepped = λ n m. z.0; combines = z.1 }
+    record {
+      stepped = λ n m. z.0;
+      combines = z.1;
+      memory = alias_memory r (g.R.HasState.state c.register_alias_relate_predicate.new.self) a b c.requires.decides
+          c.in_err-register_alias_relate_predicate-in-ToGoal.ensures;
+    }
 
 pub returns-in_err-register_ambiguous-in-Open : goal.returns-in_err-register_ambiguous-in-Open
 returns-in_err-register_ambiguous-in-Open g c =
@@ -138,7 +147,11 @@ returns-in_err-register_ambiguous-in-Open g c =
     (left_clean, right_clean) (Unit {0}) OutOfMemory c.in_err-register_ambiguous-in-Open.field-0.0 from.result left
     c.in_err-register_ambiguous-in-Open.ensures
     (as_err from.result Memory from.ensures.0 from.ensures.1) in
-    record { stepped = λ n m. z.0; combines = z.1 }
+    record {
+      stepped = λ n m. z.0;
+      combines = z.1;
+      memory = c.in_err-register_ambiguous-in-Open.ensures.remembered;
+    }
 
 pub meet_tys-requires-clause-a_shallow : goal.meet_tys-requires-clause-a_shallow
 meet_tys-requires-clause-a_shallow g c =
@@ -182,7 +195,12 @@ returns-in_ok-register_alias_relate_predicate-in-ToGoal g c =
     let z = to_goal o c.requires.decides sound a b k sorts (g.R.HasState.state c.register_alias_relate_predicate.new.self)
     (left_clean, right_clean) (Unit {0}) OutOfMemory c.in_ok-register_alias_relate_predicate-in-ToGoal.field-0 left
     c.in_ok-register_alias_relate_predicate-in-ToGoal.ensures in
-    record { stepped = λ n m. z.0; combines = z.1 }
+    record {
+      stepped = λ n m. z.0;
+      combines = z.1;
+      memory = alias_memory r (g.R.HasState.state c.register_alias_relate_predicate.new.self) a b c.requires.decides
+          c.in_ok-register_alias_relate_predicate-in-ToGoal.ensures;
+    }
 
 pub returns-in_ok-register_ambiguous-in-Open : goal.returns-in_ok-register_ambiguous-in-Open
 returns-in_ok-register_ambiguous-in-Open g c =
@@ -211,7 +229,11 @@ returns-in_ok-register_ambiguous-in-Open g c =
     let z = to_open o c.requires.decides sound a b k sorts (g.R.HasState.state c.register_ambiguous.new.relation)
     (left_clean, right_clean) (Unit {0}) OutOfMemory c.in_ok-register_ambiguous-in-Open.field-0 left
     c.in_ok-register_ambiguous-in-Open.ensures in
-    record { stepped = λ n m. z.0; combines = z.1 }
+    record {
+      stepped = λ n m. z.0;
+      combines = z.1;
+      memory = c.in_ok-register_ambiguous-in-Open.ensures.remembered;
+    }
 
 pub returns-in-ToNone : goal.returns-in-ToNone
 returns-in-ToNone g c =
@@ -250,4 +272,5 @@ returns-in-ToNone g c =
       stepped = λ n m. types_stepped r s d o c.requires.decides sound q w stands.meaning a b res k (sorts a) (sorts b) n m
           (left_clean, right_clean) left meets;
       combines = not_left (left_clean, right_clean) left w.goals (types_met r q s d o w a b res meets);
+      memory = w.remembered;
     }

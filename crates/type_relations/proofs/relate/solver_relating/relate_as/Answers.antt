@@ -21,6 +21,9 @@ use Rattle.relation_semantics.specs.Kits.{StaysBuilt, NeedsVariable}
 use Rattle.relation_semantics.proofs.Building.{built_itself}
 use Rattle.type_relations.proofs.OverContext.{all_taken}
 use Rattle.type_relations.proofs.Solving.{keeps_beside, none_held, answers_goals, keeps_equal, relates_agreeing, registers_goals, no_goals_exactly}
+use Rattle.type_relations.proofs.Solving.{adds_just_asked}
+use Rattle.relation_semantics.specs.Recording.{JustAsked}
+use Rattle.relation_semantics.proofs.Recording.{nothing_asked}
 use Rattle.relation_semantics.proofs.Agreeing.{agree_same}
 use Rattle.type_relations.proofs.relate.solver_relating.relate_as.Goals as goal
 use Rattle.type_relations.proofs.Closed.{needs_as, budget_verdict}
@@ -132,6 +135,30 @@ returns-clause-agrees g c =
     let hs = c.relate_in-related.result.1.items in
     relates_agreeing s.meaning d.meaning s.store d.store s.lawful d.lawful c.args.variance c.args.param_env a b
     (term_in d g.T.Relate.over g.T.HasTree.tree) hs c.in_ok-related.field-0 (subst (λ z. Related solver_manner
+    (solving_in c.args.aliases [] s c.args.variance c.args.param_env) (solving_in c.args.aliases hs d c.args.variance c.args.param_env)
+    c.args.variance a b (term_in d g.T.Relate.over g.T.HasTree.tree) z) c.in_ok-related.was c.relate_in-related.ensures.related)
+
+pub returns-then-eq-clause-asked : goal.returns-then-eq-clause-asked
+returns-then-eq-clause-asked g c = λ bare.
+    let s = g.Infcx.InferCtxtLike.state c.args.infcx.now in
+    let a = term_in s g.T.Relate.over g.T.HasTree.tree c.args.lhs in
+    let b = term_in s g.T.Relate.over g.T.HasTree.tree c.args.rhs in
+    subst (λ gs. JustAsked (items_of s.meaning) ((s.meaning).param_env c.args.param_env) c.args.variance a b
+    (s.store).constraints (s.store).constraints (goals_of s.meaning gs)) (sym c.new.ensures.items)
+    (nothing_asked (items_of s.meaning) ((s.meaning).param_env c.args.param_env) c.args.variance a b (s.store).constraints
+    (equal_one (g.met.Infcx.InferCtxtLike.reads c.args.infcx.now) g.T.Relate.over g.T.HasTree.tree
+    g.T.PartialEq.eq (g.met.T.Relate.same (g.Infcx.InferCtxtLike.interner c.args.infcx.now)) c.args.lhs c.args.rhs
+    c.requires.lhs_known c.requires.rhs_known (sym c.if-eq.ensures)))
+
+pub returns-clause-asked : goal.returns-clause-asked
+returns-clause-asked g c = λ bare.
+    let s = g.Infcx.InferCtxtLike.state c.args.infcx.now in
+    let d = g.Infcx.InferCtxtLike.state c.relate_in-related.new.infcx in
+    let a = term_in s g.T.Relate.over g.T.HasTree.tree c.args.lhs in
+    let b = term_in s g.T.Relate.over g.T.HasTree.tree c.args.rhs in
+    let hs = c.relate_in-related.result.1.items in
+    adds_just_asked s.meaning d.meaning s.store d.store s.lawful d.lawful c.args.variance c.args.param_env a b
+    (term_in d g.T.Relate.over g.T.HasTree.tree) hs c.in_ok-related.field-0 refl bare (subst (λ z. Related solver_manner
     (solving_in c.args.aliases [] s c.args.variance c.args.param_env) (solving_in c.args.aliases hs d c.args.variance c.args.param_env)
     c.args.variance a b (term_in d g.T.Relate.over g.T.HasTree.tree) z) c.in_ok-related.was c.relate_in-related.ensures.related)
 

@@ -36,7 +36,7 @@ use Rattle.type_relations.proofs.PredicateForms.{arg_form, binder_form, made_for
 use Rattle.type_relations.proofs.Making.{fit_pushed, fit_end, fits_place}
 use Rattle.relation_semantics.proofs.Lists.{firsts, snoc, list_push}
 use Rattle.relation_terms.proofs.Stays.{stays_list, stays_arg}
-use Rattle.relation_semantics.specs.Lawful.{Asked, Related, RelatedForms, Shown, MayAnswer, Stepped, Turned, items_in}
+use Rattle.relation_semantics.specs.Lawful.{Asked, Related, RelatedForms, Shown, MayAnswer, Stepped, StepRecords, Turned, items_in}
 use Rattle.relation_semantics.proofs.Standing.{term_context}
 use Rattle.relation_semantics.proofs.Parts.{in_parts, in_const_parts}
 use Rattle.relation_semantics.proofs.OneParts.{parts_counted, const_parts_counted}
@@ -74,8 +74,9 @@ consts-returns-in-Done g t c =
     let a = (r.meaning).const_ c.args.a.now in
     let b = (r.meaning).const_ c.args.b.now in
     let q = g.R.HasState.state c.consts.new.self in
-    let step = subst (λ z. Stepped M IsFormedConst r q a b (q.meaning).const_ (Ok z)) c.in-Done.is c.in_ok-answer.ensures in
-    step_done M IsFormedConst a b (q.meaning).const_ c.in-Done.answer step
+    let step = subst (λ z. Stepped M IsFormedConst r q a b (q.meaning).const_ (Ok z)) c.in-Done.is c.in_ok-answer.ensures.stepped in
+    let just = subst (λ z. StepRecords M r q (q.meaning).const_ a b (Ok z)) c.in-Done.is c.in_ok-answer.ensures.records in
+    step_done M IsFormedConst a b (q.meaning).const_ c.in-Done.answer step just
 
 pub consts-structurally_relate_consts-requires : goal.consts-structurally_relate_consts-requires
 consts-structurally_relate_consts-requires g t c κs within =
@@ -84,7 +85,7 @@ consts-structurally_relate_consts-requires g t c κs within =
     let a = (r.meaning).const_ c.args.a.now in
     let b = (r.meaning).const_ c.args.b.now in
     let q = g.R.HasState.state c.consts.new.self in
-    let step = subst (λ z. Stepped M IsFormedConst r q a b (q.meaning).const_ (Ok z)) c.in-Parts.is c.in_ok-answer.ensures in
+    let step = subst (λ z. Stepped M IsFormedConst r q a b (q.meaning).const_ (Ok z)) c.in-Parts.is c.in_ok-answer.ensures.stepped in
     let x = (q.meaning).const_ c.in-Parts.a in
     let y = (q.meaning).const_ c.in-Parts.b in
     let lawful = (step.passes).lawful c.requires.lawful in
@@ -103,7 +104,7 @@ consts-relate_with_variance-requires g t c κs within =
     let a = (r.meaning).const_ c.args.a.now in
     let b = (r.meaning).const_ c.args.b.now in
     let q = g.R.HasState.state c.consts.new.self in
-    let step = subst (λ z. Stepped M IsFormedConst r q a b (q.meaning).const_ (Ok z)) c.in-Again.is c.in_ok-answer.ensures in
+    let step = subst (λ z. Stepped M IsFormedConst r q a b (q.meaning).const_ (Ok z)) c.in-Again.is c.in_ok-answer.ensures.stepped in
     let x = (q.meaning).const_ c.in-Again.x in
     let y = (q.meaning).const_ c.in-Again.y in
     let k = (q.meaning).const_ c.in-Again.a in
@@ -124,7 +125,7 @@ consts-returns-in_err-relate_with_variance-in-Again g t c =
     let a = (r.meaning).const_ c.args.a.now in
     let b = (r.meaning).const_ c.args.b.now in
     let q = g.R.HasState.state c.consts.new.self in
-    let step = subst (λ z. Stepped M IsFormedConst r q a b (q.meaning).const_ (Ok z)) c.in-Again.is c.in_ok-answer.ensures in
+    let step = subst (λ z. Stepped M IsFormedConst r q a b (q.meaning).const_ (Ok z)) c.in-Again.is c.in_ok-answer.ensures.stepped in
     let x = (q.meaning).const_ c.in-Again.x in
     let y = (q.meaning).const_ c.in-Again.y in
     let k = (q.meaning).const_ c.in-Again.a in
@@ -148,7 +149,8 @@ consts-returns-in_ok-relate_with_variance-in-Again g t c =
     let a = (r.meaning).const_ c.args.a.now in
     let b = (r.meaning).const_ c.args.b.now in
     let q = g.R.HasState.state c.consts.new.self in
-    let step = subst (λ z. Stepped M IsFormedConst r q a b (q.meaning).const_ (Ok z)) c.in-Again.is c.in_ok-answer.ensures in
+    let step = subst (λ z. Stepped M IsFormedConst r q a b (q.meaning).const_ (Ok z)) c.in-Again.is c.in_ok-answer.ensures.stepped in
+    let just = subst (λ z. StepRecords M r q (q.meaning).const_ a b (Ok z)) c.in-Again.is c.in_ok-answer.ensures.records in
     let x = (q.meaning).const_ c.in-Again.x in
     let y = (q.meaning).const_ c.in-Again.y in
     let k = (q.meaning).const_ c.in-Again.a in
@@ -162,7 +164,7 @@ consts-returns-in_ok-relate_with_variance-in-Again g t c =
     ((inner.passes).extends).const_ c.in-Again.answer (step.verdict).answer_known in
     let done : Related M r p r.ambient a b (p.meaning).const_ (Ok c.in-Again.answer) =
     again_related M a b k l x y o v step.passes step.verdict step.exact step.built (arg_tree p.meaning) c.in_ok-relate_with_variance-in-Again.field-0 (p.meaning).const_
-    c.in-Again.answer same_o inner in
+    c.in-Again.answer same_o just inner in
     done
 
 pub consts-returns-in-Parts : goal.consts-returns-in-Parts
@@ -172,14 +174,15 @@ consts-returns-in-Parts g t c =
     let a = (r.meaning).const_ c.args.a.now in
     let b = (r.meaning).const_ c.args.b.now in
     let q = g.R.HasState.state c.consts.new.self in
-    let step = subst (λ z. Stepped M IsFormedConst r q a b (q.meaning).const_ (Ok z)) c.in-Parts.is c.in_ok-answer.ensures in
+    let step = subst (λ z. Stepped M IsFormedConst r q a b (q.meaning).const_ (Ok z)) c.in-Parts.is c.in_ok-answer.ensures.stepped in
+    let just = subst (λ z. StepRecords M r q (q.meaning).const_ a b (Ok z)) c.in-Parts.is c.in_ok-answer.ensures.records in
     let x = (q.meaning).const_ c.in-Parts.a in
     let y = (q.meaning).const_ c.in-Parts.b in
     let p = g.R.HasState.state c.structurally_relate_consts.new.r in
     let inner = subst (λ z. RelatedForms M q p z x y (p.meaning).const_ c.structurally_relate_consts.result) (step.passes).ambient
     c.structurally_relate_consts.ensures in
     parts_related M IsFormedConst (g.met.R.TypeRelation.sound c.structurally_relate_consts.new.r ((inner.passes).lawful ((step.passes).lawful c.requires.lawful)))
-    a b x y (p.meaning).const_ c.structurally_relate_consts.result step.passes step.verdict step.exact step.full step.built inner
+    a b x y (p.meaning).const_ c.structurally_relate_consts.result step.passes step.verdict step.exact step.full step.built just inner
 
 pub tys-returns-in-Done-clause-related : goal.tys-returns-in-Done-clause-related
 tys-returns-in-Done-clause-related g t c =
@@ -189,7 +192,8 @@ tys-returns-in-Done-clause-related g t c =
     let b = (r.meaning).ty c.args.b.now in
     let q = g.R.HasState.state c.tys.new.self in
     let step = subst (λ z. Stepped M IsFormed r q a b (q.meaning).ty (Ok z)) c.in-Done.is c.in_ok-answer.ensures.stepped in
-    step_done M IsFormed a b (q.meaning).ty c.in-Done.answer step
+    let just = subst (λ z. StepRecords M r q (q.meaning).ty a b (Ok z)) c.in-Done.is c.in_ok-answer.ensures.records in
+    step_done M IsFormed a b (q.meaning).ty c.in-Done.answer step just
 
 pub tys-structurally_relate_tys-requires : goal.tys-structurally_relate_tys-requires
 tys-structurally_relate_tys-requires g t c κs within =
@@ -263,6 +267,7 @@ tys-returns-in_err-answer-in-Parts-clause-related g t c =
     let b = (r.meaning).ty c.args.b.now in
     let q = g.R.HasState.state c.tys.new.self in
     let step = subst (λ z. Stepped M IsFormed r q a b (q.meaning).ty (Ok z)) c.in-Parts.is c.in_ok-answer.ensures.stepped in
+    let just = subst (λ z. StepRecords M r q (q.meaning).ty a b (Ok z)) c.in-Parts.is c.in_ok-answer.ensures.records in
     let x = (q.meaning).ty c.in-Parts.a in
     let y = (q.meaning).ty c.in-Parts.b in
     let p = g.R.HasState.state c.structurally_relate_tys.new.r in
@@ -272,7 +277,7 @@ tys-returns-in_err-answer-in-Parts-clause-related g t c =
     c.from_residual-in_err-answer-in-Parts.ensures.0 c.from_residual-in_err-answer-in-Parts.ensures.1 in
     subst (λ z. Related M r p r.ambient a b (p.meaning).ty z) (sym failed)
     (parts_related M IsFormed (g.met.R.TypeRelation.sound c.structurally_relate_tys.new.r ((inner.passes).lawful ((step.passes).lawful c.requires.lawful)))
-    a b x y (p.meaning).ty (Err e.field-0.0) step.passes step.verdict step.exact step.full step.built inner)
+    a b x y (p.meaning).ty (Err e.field-0.0) step.passes step.verdict step.exact step.full step.built just inner)
 
 pub tys-tys_done-requires-clause-asked : goal.tys-tys_done-requires-clause-asked
 tys-tys_done-requires-clause-asked g t c =
@@ -282,6 +287,7 @@ tys-tys_done-requires-clause-asked g t c =
     let b = (r.meaning).ty c.args.b.now in
     let q = g.R.HasState.state c.tys.new.self in
     let step = subst (λ z. Stepped M IsFormed r q a b (q.meaning).ty (Ok z)) c.in-Parts.is c.in_ok-answer.ensures.stepped in
+    let just = subst (λ z. StepRecords M r q (q.meaning).ty a b (Ok z)) c.in-Parts.is c.in_ok-answer.ensures.records in
     let x = (q.meaning).ty c.in-Parts.a in
     let y = (q.meaning).ty c.in-Parts.b in
     let p = g.R.HasState.state c.structurally_relate_tys.new.r in
@@ -289,7 +295,7 @@ tys-tys_done-requires-clause-asked g t c =
     let inner = subst (λ v. RelatedForms M q p v x y (p.meaning).ty (Ok z.answer)) (step.passes).ambient z.ensures in
     let done : Related M r p r.ambient a b (p.meaning).ty (Ok z.answer) =
     parts_related M IsFormed (g.met.R.TypeRelation.sound c.structurally_relate_tys.new.r ((inner.passes).lawful ((step.passes).lawful c.requires.lawful)))
-    a b x y (p.meaning).ty (Ok z.answer) step.passes step.verdict step.exact step.full step.built inner in
+    a b x y (p.meaning).ty (Ok z.answer) step.passes step.verdict step.exact step.full step.built just inner in
     let same_x : (p.meaning).ty c.in-Parts.a ≡ (q.meaning).ty c.in-Parts.a =
     ((inner.passes).extends).ty c.in-Parts.a ((step.verdict).asked).left_known in
     let same_y : (p.meaning).ty c.in-Parts.b ≡ (q.meaning).ty c.in-Parts.b =
@@ -306,6 +312,7 @@ tys-tys_done-requires-clause-related g t c =
     let b = (r.meaning).ty c.args.b.now in
     let q = g.R.HasState.state c.tys.new.self in
     let step = subst (λ z. Stepped M IsFormed r q a b (q.meaning).ty (Ok z)) c.in-Parts.is c.in_ok-answer.ensures.stepped in
+    let just = subst (λ z. StepRecords M r q (q.meaning).ty a b (Ok z)) c.in-Parts.is c.in_ok-answer.ensures.records in
     let x = (q.meaning).ty c.in-Parts.a in
     let y = (q.meaning).ty c.in-Parts.b in
     let p = g.R.HasState.state c.structurally_relate_tys.new.r in
@@ -313,7 +320,7 @@ tys-tys_done-requires-clause-related g t c =
     let inner = subst (λ v. RelatedForms M q p v x y (p.meaning).ty (Ok z.answer)) (step.passes).ambient z.ensures in
     let done : Related M r p r.ambient a b (p.meaning).ty (Ok z.answer) =
     parts_related M IsFormed (g.met.R.TypeRelation.sound c.structurally_relate_tys.new.r ((inner.passes).lawful ((step.passes).lawful c.requires.lawful)))
-    a b x y (p.meaning).ty (Ok z.answer) step.passes step.verdict step.exact step.full step.built inner in
+    a b x y (p.meaning).ty (Ok z.answer) step.passes step.verdict step.exact step.full step.built just inner in
     let same_x : (p.meaning).ty c.in-Parts.a ≡ (q.meaning).ty c.in-Parts.a =
     ((inner.passes).extends).ty c.in-Parts.a ((step.verdict).asked).left_known in
     let same_y : (p.meaning).ty c.in-Parts.b ≡ (q.meaning).ty c.in-Parts.b =
@@ -330,6 +337,7 @@ tys-tys_done-requires-clause-alone g t c =
     let b = (r.meaning).ty c.args.b.now in
     let q = g.R.HasState.state c.tys.new.self in
     let step = subst (λ z. Stepped M IsFormed r q a b (q.meaning).ty (Ok z)) c.in-Parts.is c.in_ok-answer.ensures.stepped in
+    let just = subst (λ z. StepRecords M r q (q.meaning).ty a b (Ok z)) c.in-Parts.is c.in_ok-answer.ensures.records in
     let x = (q.meaning).ty c.in-Parts.a in
     let y = (q.meaning).ty c.in-Parts.b in
     let p = g.R.HasState.state c.structurally_relate_tys.new.r in
@@ -337,7 +345,7 @@ tys-tys_done-requires-clause-alone g t c =
     let inner = subst (λ v. RelatedForms M q p v x y (p.meaning).ty (Ok z.answer)) (step.passes).ambient z.ensures in
     let done : Related M r p r.ambient a b (p.meaning).ty (Ok z.answer) =
     parts_related M IsFormed (g.met.R.TypeRelation.sound c.structurally_relate_tys.new.r ((inner.passes).lawful ((step.passes).lawful c.requires.lawful)))
-    a b x y (p.meaning).ty (Ok z.answer) step.passes step.verdict step.exact step.full step.built inner in
+    a b x y (p.meaning).ty (Ok z.answer) step.passes step.verdict step.exact step.full step.built just inner in
     let same_x : (p.meaning).ty c.in-Parts.a ≡ (q.meaning).ty c.in-Parts.a =
     ((inner.passes).extends).ty c.in-Parts.a ((step.verdict).asked).left_known in
     let same_y : (p.meaning).ty c.in-Parts.b ≡ (q.meaning).ty c.in-Parts.b =
@@ -354,6 +362,7 @@ tys-returns-in_err-tys_done-in-Parts-clause-related g t c =
     let b = (r.meaning).ty c.args.b.now in
     let q = g.R.HasState.state c.tys.new.self in
     let step = subst (λ z. Stepped M IsFormed r q a b (q.meaning).ty (Ok z)) c.in-Parts.is c.in_ok-answer.ensures.stepped in
+    let just = subst (λ z. StepRecords M r q (q.meaning).ty a b (Ok z)) c.in-Parts.is c.in_ok-answer.ensures.records in
     let x = (q.meaning).ty c.in-Parts.a in
     let y = (q.meaning).ty c.in-Parts.b in
     let p = g.R.HasState.state c.structurally_relate_tys.new.r in
@@ -361,7 +370,7 @@ tys-returns-in_err-tys_done-in-Parts-clause-related g t c =
     let inner = subst (λ v. RelatedForms M q p v x y (p.meaning).ty (Ok z.answer)) (step.passes).ambient z.ensures in
     let done : Related M r p r.ambient a b (p.meaning).ty (Ok z.answer) =
     parts_related M IsFormed (g.met.R.TypeRelation.sound c.structurally_relate_tys.new.r ((inner.passes).lawful ((step.passes).lawful c.requires.lawful)))
-    a b x y (p.meaning).ty (Ok z.answer) step.passes step.verdict step.exact step.full step.built inner in
+    a b x y (p.meaning).ty (Ok z.answer) step.passes step.verdict step.exact step.full step.built just inner in
     let u = g.R.HasState.state c.tys_done.new.self in
     let e = c.in_err-tys_done-in-Parts in
     let failed = as_err c.from_residual-in_err-tys_done-in-Parts.result e.field-0.0
@@ -379,6 +388,7 @@ tys-returns-in_ok-tys_done-in-Parts-clause-related g t c =
     let b = (r.meaning).ty c.args.b.now in
     let q = g.R.HasState.state c.tys.new.self in
     let step = subst (λ z. Stepped M IsFormed r q a b (q.meaning).ty (Ok z)) c.in-Parts.is c.in_ok-answer.ensures.stepped in
+    let just = subst (λ z. StepRecords M r q (q.meaning).ty a b (Ok z)) c.in-Parts.is c.in_ok-answer.ensures.records in
     let x = (q.meaning).ty c.in-Parts.a in
     let y = (q.meaning).ty c.in-Parts.b in
     let p = g.R.HasState.state c.structurally_relate_tys.new.r in
@@ -386,13 +396,17 @@ tys-returns-in_ok-tys_done-in-Parts-clause-related g t c =
     let inner = subst (λ v. RelatedForms M q p v x y (p.meaning).ty (Ok z.answer)) (step.passes).ambient z.ensures in
     let done : Related M r p r.ambient a b (p.meaning).ty (Ok z.answer) =
     parts_related M IsFormed (g.met.R.TypeRelation.sound c.structurally_relate_tys.new.r ((inner.passes).lawful ((step.passes).lawful c.requires.lawful)))
-    a b x y (p.meaning).ty (Ok z.answer) step.passes step.verdict step.exact step.full step.built inner in
+    a b x y (p.meaning).ty (Ok z.answer) step.passes step.verdict step.exact step.full step.built just inner in
     let u = g.R.HasState.state c.tys_done.new.self in
     let n = c.in_ok-tys_done-in-Parts in
     noted_related M r.ambient a b (p.meaning).ty z.answer done (Ok n.field-0) n.ensures
     (built_again r.store a b (step.verdict).built (((inner.passes).extends).ty c.in-Parts.a ((step.verdict).asked).left_known)
     (((inner.passes).extends).ty c.in-Parts.b ((step.verdict).asked).right_known)) (u.meaning).ty
-    ((((n.ensures).passes).extends).ty z.answer (done.verdict).known)
+    ((((n.ensures).passes).extends).ty z.answer (done.verdict).known) (λ promised bare. let i = just promised bare in (
+      ((inner.passes).extends).ty c.in-Parts.a ((step.verdict).asked).left_known ∙ i.0,
+      ((inner.passes).extends).ty c.in-Parts.b ((step.verdict).asked).right_known ∙ i.1,
+      (inner.passes).ambient ∙ (step.passes).ambient,
+    ))
 
 pub tys-tys_done-requires-in-Again-clause-asked : goal.tys-tys_done-requires-in-Again-clause-asked
 tys-tys_done-requires-in-Again-clause-asked g t c =
@@ -402,6 +416,7 @@ tys-tys_done-requires-in-Again-clause-asked g t c =
     let b = (r.meaning).ty c.args.b.now in
     let q = g.R.HasState.state c.tys.new.self in
     let step = subst (λ z. Stepped M IsFormed r q a b (q.meaning).ty (Ok z)) c.in-Again.is c.in_ok-answer.ensures.stepped in
+    let just = subst (λ z. StepRecords M r q (q.meaning).ty a b (Ok z)) c.in-Again.is c.in_ok-answer.ensures.records in
     let x = (q.meaning).ty c.in-Again.x in
     let y = (q.meaning).ty c.in-Again.y in
     let k = (q.meaning).ty c.in-Again.a in
@@ -415,7 +430,7 @@ tys-tys_done-requires-in-Again-clause-asked g t c =
     ((inner.passes).extends).ty c.in-Again.answer (step.verdict).answer_known in
     let done : Related M r p r.ambient a b (p.meaning).ty (Ok c.in-Again.answer) =
     again_related M a b k l x y o v step.passes step.verdict step.exact step.built (arg_tree p.meaning) c.in_ok-relate_with_variance-in-Again.field-0 (p.meaning).ty
-    c.in-Again.answer same_o inner in
+    c.in-Again.answer same_o just inner in
     let same_x : (p.meaning).ty c.in-Again.a ≡ (q.meaning).ty c.in-Again.a =
     ((inner.passes).extends).ty c.in-Again.a ((step.verdict).read_asked).left_known in
     let same_y : (p.meaning).ty c.in-Again.b ≡ (q.meaning).ty c.in-Again.b =
@@ -432,6 +447,7 @@ tys-tys_done-requires-in-Again-clause-related g t c =
     let b = (r.meaning).ty c.args.b.now in
     let q = g.R.HasState.state c.tys.new.self in
     let step = subst (λ z. Stepped M IsFormed r q a b (q.meaning).ty (Ok z)) c.in-Again.is c.in_ok-answer.ensures.stepped in
+    let just = subst (λ z. StepRecords M r q (q.meaning).ty a b (Ok z)) c.in-Again.is c.in_ok-answer.ensures.records in
     let x = (q.meaning).ty c.in-Again.x in
     let y = (q.meaning).ty c.in-Again.y in
     let k = (q.meaning).ty c.in-Again.a in
@@ -445,7 +461,7 @@ tys-tys_done-requires-in-Again-clause-related g t c =
     ((inner.passes).extends).ty c.in-Again.answer (step.verdict).answer_known in
     let done : Related M r p r.ambient a b (p.meaning).ty (Ok c.in-Again.answer) =
     again_related M a b k l x y o v step.passes step.verdict step.exact step.built (arg_tree p.meaning) c.in_ok-relate_with_variance-in-Again.field-0 (p.meaning).ty
-    c.in-Again.answer same_o inner in
+    c.in-Again.answer same_o just inner in
     let same_x : (p.meaning).ty c.in-Again.a ≡ (q.meaning).ty c.in-Again.a =
     ((inner.passes).extends).ty c.in-Again.a ((step.verdict).read_asked).left_known in
     let same_y : (p.meaning).ty c.in-Again.b ≡ (q.meaning).ty c.in-Again.b =
@@ -462,6 +478,7 @@ tys-tys_done-requires-in-Again-clause-alone g t c =
     let b = (r.meaning).ty c.args.b.now in
     let q = g.R.HasState.state c.tys.new.self in
     let step = subst (λ z. Stepped M IsFormed r q a b (q.meaning).ty (Ok z)) c.in-Again.is c.in_ok-answer.ensures.stepped in
+    let just = subst (λ z. StepRecords M r q (q.meaning).ty a b (Ok z)) c.in-Again.is c.in_ok-answer.ensures.records in
     let x = (q.meaning).ty c.in-Again.x in
     let y = (q.meaning).ty c.in-Again.y in
     let k = (q.meaning).ty c.in-Again.a in
@@ -475,7 +492,7 @@ tys-tys_done-requires-in-Again-clause-alone g t c =
     ((inner.passes).extends).ty c.in-Again.answer (step.verdict).answer_known in
     let done : Related M r p r.ambient a b (p.meaning).ty (Ok c.in-Again.answer) =
     again_related M a b k l x y o v step.passes step.verdict step.exact step.built (arg_tree p.meaning) c.in_ok-relate_with_variance-in-Again.field-0 (p.meaning).ty
-    c.in-Again.answer same_o inner in
+    c.in-Again.answer same_o just inner in
     let same_x : (p.meaning).ty c.in-Again.a ≡ (q.meaning).ty c.in-Again.a =
     ((inner.passes).extends).ty c.in-Again.a ((step.verdict).read_asked).left_known in
     let same_y : (p.meaning).ty c.in-Again.b ≡ (q.meaning).ty c.in-Again.b =
@@ -492,6 +509,7 @@ tys-returns-in_err-tys_done-in-Again-clause-related g t c =
     let b = (r.meaning).ty c.args.b.now in
     let q = g.R.HasState.state c.tys.new.self in
     let step = subst (λ z. Stepped M IsFormed r q a b (q.meaning).ty (Ok z)) c.in-Again.is c.in_ok-answer.ensures.stepped in
+    let just = subst (λ z. StepRecords M r q (q.meaning).ty a b (Ok z)) c.in-Again.is c.in_ok-answer.ensures.records in
     let x = (q.meaning).ty c.in-Again.x in
     let y = (q.meaning).ty c.in-Again.y in
     let k = (q.meaning).ty c.in-Again.a in
@@ -505,7 +523,7 @@ tys-returns-in_err-tys_done-in-Again-clause-related g t c =
     ((inner.passes).extends).ty c.in-Again.answer (step.verdict).answer_known in
     let done : Related M r p r.ambient a b (p.meaning).ty (Ok c.in-Again.answer) =
     again_related M a b k l x y o v step.passes step.verdict step.exact step.built (arg_tree p.meaning) c.in_ok-relate_with_variance-in-Again.field-0 (p.meaning).ty
-    c.in-Again.answer same_o inner in
+    c.in-Again.answer same_o just inner in
     let u = g.R.HasState.state c.tys_done-in-Again.new.self in
     let e = c.in_err-tys_done-in-Again in
     let failed = as_err c.from_residual-in_err-tys_done-in-Again.result e.field-0.0
@@ -523,6 +541,7 @@ tys-returns-in_ok-tys_done-in-Again-clause-related g t c =
     let b = (r.meaning).ty c.args.b.now in
     let q = g.R.HasState.state c.tys.new.self in
     let step = subst (λ z. Stepped M IsFormed r q a b (q.meaning).ty (Ok z)) c.in-Again.is c.in_ok-answer.ensures.stepped in
+    let just = subst (λ z. StepRecords M r q (q.meaning).ty a b (Ok z)) c.in-Again.is c.in_ok-answer.ensures.records in
     let x = (q.meaning).ty c.in-Again.x in
     let y = (q.meaning).ty c.in-Again.y in
     let k = (q.meaning).ty c.in-Again.a in
@@ -536,13 +555,14 @@ tys-returns-in_ok-tys_done-in-Again-clause-related g t c =
     ((inner.passes).extends).ty c.in-Again.answer (step.verdict).answer_known in
     let done : Related M r p r.ambient a b (p.meaning).ty (Ok c.in-Again.answer) =
     again_related M a b k l x y o v step.passes step.verdict step.exact step.built (arg_tree p.meaning) c.in_ok-relate_with_variance-in-Again.field-0 (p.meaning).ty
-    c.in-Again.answer same_o inner in
+    c.in-Again.answer same_o just inner in
     let u = g.R.HasState.state c.tys_done-in-Again.new.self in
     let n = c.in_ok-tys_done-in-Again in
     noted_related M r.ambient a b (p.meaning).ty c.in-Again.answer done (Ok n.field-0) n.ensures
     (built_again r.store a b (step.verdict).read_built (((inner.passes).extends).ty c.in-Again.a ((step.verdict).read_asked).left_known)
     (((inner.passes).extends).ty c.in-Again.b ((step.verdict).read_asked).right_known)) (u.meaning).ty
     ((((n.ensures).passes).extends).ty c.in-Again.answer (done.verdict).known)
+    (λ promised bare. absurd (just promised bare))
 
 pub tys-returns-in-Done-clause-registers : goal.tys-returns-in-Done-clause-registers
 tys-returns-in-Done-clause-registers g t c =
@@ -1573,7 +1593,8 @@ structurally_relate_tys-make_ty-requires-clause-ty_known g t c =
     let n = c.in_ok-note_args in
     let noted = noted_related M r.ambient a b (q.meaning).ty c.args.a.now done (Ok n.field-0) n.ensures (built_as r.store same_a same_b)
     (u.meaning).ty
-    ((((n.ensures).passes).extends).ty c.args.a.now (subst (λ z. IsTrue (known z)) (sym same_a) k.left_known)) in
+    ((((n.ensures).passes).extends).ty c.args.a.now (subst (λ z. IsTrue (known z)) (sym same_a) k.left_known))
+    (λ promised bare. (same_a, same_b, ((inv.fronted).passes).ambient)) in
     let e = ((n.ensures).passes).extends in
     let stays : (u.meaning).ty c.args.a.now ≡ a =
     e.ty c.args.a.now (subst (λ z. IsTrue (known z)) (sym same_a) k.left_known) ∙ same_a in
@@ -1608,7 +1629,8 @@ structurally_relate_tys-make_ty-requires-clause-parts_known g t c =
     let n = c.in_ok-note_args in
     let noted = noted_related M r.ambient a b (q.meaning).ty c.args.a.now done (Ok n.field-0) n.ensures (built_as r.store same_a same_b)
     (u.meaning).ty
-    ((((n.ensures).passes).extends).ty c.args.a.now (subst (λ z. IsTrue (known z)) (sym same_a) k.left_known)) in
+    ((((n.ensures).passes).extends).ty c.args.a.now (subst (λ z. IsTrue (known z)) (sym same_a) k.left_known))
+    (λ promised bare. (same_a, same_b, ((inv.fronted).passes).ambient)) in
     let e = ((n.ensures).passes).extends in
     let stays : (u.meaning).ty c.args.a.now ≡ a =
     e.ty c.args.a.now (subst (λ z. IsTrue (known z)) (sym same_a) k.left_known) ∙ same_a in
@@ -1644,7 +1666,8 @@ structurally_relate_tys-make_ty-requires-clause-fits g t c =
     let n = c.in_ok-note_args in
     let noted = noted_related M r.ambient a b (q.meaning).ty c.args.a.now done (Ok n.field-0) n.ensures (built_as r.store same_a same_b)
     (u.meaning).ty
-    ((((n.ensures).passes).extends).ty c.args.a.now (subst (λ z. IsTrue (known z)) (sym same_a) k.left_known)) in
+    ((((n.ensures).passes).extends).ty c.args.a.now (subst (λ z. IsTrue (known z)) (sym same_a) k.left_known))
+    (λ promised bare. (same_a, same_b, ((inv.fronted).passes).ambient)) in
     let e = ((n.ensures).passes).extends in
     let stays : (u.meaning).ty c.args.a.now ≡ a =
     e.ty c.args.a.now (subst (λ z. IsTrue (known z)) (sym same_a) k.left_known) ∙ same_a in
@@ -1680,7 +1703,8 @@ structurally_relate_tys-returns g t c =
     let n = c.in_ok-note_args in
     let noted = noted_related M r.ambient a b (q.meaning).ty c.args.a.now done (Ok n.field-0) n.ensures (built_as r.store same_a same_b)
     (u.meaning).ty
-    ((((n.ensures).passes).extends).ty c.args.a.now (subst (λ z. IsTrue (known z)) (sym same_a) k.left_known)) in
+    ((((n.ensures).passes).extends).ty c.args.a.now (subst (λ z. IsTrue (known z)) (sym same_a) k.left_known))
+    (λ promised bare. (same_a, same_b, ((inv.fronted).passes).ambient)) in
     let e = ((n.ensures).passes).extends in
     let stays : (u.meaning).ty c.args.a.now ≡ a =
     e.ty c.args.a.now (subst (λ z. IsTrue (known z)) (sym same_a) k.left_known) ∙ same_a in
@@ -3140,7 +3164,7 @@ consts-returns-in_err-answer g t c =
     let f = n.field-0.0 in
     let res = c.from_residual in
     subst (Related M r q r.ambient a b (q.meaning).const_) (sym (as_err res.result f res.ensures.0 res.ensures.1))
-    (step_refused M IsFormedConst a b (q.meaning).const_ (q.meaning).const_ f n.ensures)
+    (step_refused M IsFormedConst a b (q.meaning).const_ (q.meaning).const_ f n.ensures.stepped)
 
 pub tys-returns-in_err-answer-clause-related : goal.tys-returns-in_err-answer-clause-related
 tys-returns-in_err-answer-clause-related g t c =

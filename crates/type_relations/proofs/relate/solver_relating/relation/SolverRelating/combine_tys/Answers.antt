@@ -51,3 +51,15 @@ returns-in-None-ty_var-2-clause-stepped g c =
 pub returns-in-None-ty_var-2-clause-combines : goal.returns-in-None-ty_var-2-clause-combines
 returns-in-None-ty_var-2-clause-combines g c = no_ty_variables c.in-None.ensures.is_none
     c.in-None-ty_var-2.ensures.is_none c.super_combine_tys.ensures.combines
+
+pub returns-in-None-ty_var-2-clause-memory : goal.returns-in-None-ty_var-2-clause-memory
+returns-in-None-ty_var-2-clause-memory g c = λ n m. c.super_combine_tys.ensures.memory
+
+pub returns-in-Some-ty_var-clause-memory : goal.returns-in-Some-ty_var-clause-memory
+returns-in-Some-ty_var-clause-memory g c = λ n m. absurd (n c.in-Some.x.0 c.in-Some.ensures.is)
+
+pub returns-in-None-ty_var-clause-memory : goal.returns-in-None-ty_var-clause-memory
+returns-in-None-ty_var-clause-memory g c = λ n m. absurd (n c.in-Some.x.0 c.in-Some.ensures.is)
+
+pub returns-in-Some-ty_var-2-clause-memory : goal.returns-in-Some-ty_var-2-clause-memory
+returns-in-Some-ty_var-2-clause-memory g c = λ n m. absurd (m c.in-Some-ty_var-2.y.0 c.in-Some-ty_var-2.ensures.is)

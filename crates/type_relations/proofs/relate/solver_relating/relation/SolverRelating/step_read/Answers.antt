@@ -146,4 +146,8 @@ returns-in_ok-remember-in-Done-clause-steps g c =
 pub returns-in_default : goal.returns-in_default
 returns-in_default g c =
     let e = c.in_ok-step.ensures in
-    record { stepped = e.stepped; steps = combined e.combines }
+    record {
+      stepped = e.stepped;
+      steps = combined e.combines;
+      remembers = λ n m. unanswered (c.args.a.now) (c.args.b.now) _ c.in_default.not-Done (e.memory n m);
+    }

@@ -1,4 +1,4 @@
-use Rattle.std.proofs.Common.{sym, subst}
+use Rattle.std.proofs.Common.{refl, sym, subst}
 use Rattle.relation_folds.specs.declared.error.RelateFault.TheVariants.{Memory}
 use Rattle.relation_semantics.specs.Lawful.{OnlyMemory}
 use Rattle.relation_semantics.proofs.Passing.{as_err}
@@ -23,8 +23,10 @@ remember-requires g c =
     a b k c.requires.related c.requires.alone (ty_sorted of a (sorted a) k.left_known) (ty_sorted of b (sorted b) k.right_known)
 
 pub returns-in_err-remember : goal.returns-in_err-remember
-returns-in_err-remember g c = noted_remembering c.in_err-remember.ensures _ _ c.from_residual.result
+returns-in_err-remember g c = noted_remembering c.in_err-remember.ensures _ _
+    (refl, refl, refl, c.requires.asked.left_known, c.requires.asked.right_known) c.from_residual.result
     (subst OnlyMemory (sym (as_err c.from_residual.result Memory c.from_residual.ensures.0 c.from_residual.ensures.1)) tt)
 
 pub returns : goal.returns
-returns g c = noted_remembering c.in_ok-remember.ensures _ _ _ tt
+returns g c = noted_remembering c.in_ok-remember.ensures _ _
+    (refl, refl, refl, c.requires.asked.left_known, c.requires.asked.right_known) _ tt
