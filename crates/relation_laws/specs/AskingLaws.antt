@@ -1,15 +1,15 @@
 -- Laws of what is asked for, and of what is recorded of it.
-use Rattle.std.specs.Prelude.{◌≡◌, ◌⊎◌, ◌↔◌, ℕ, suc, List, [], ◌∷◌, ◌++◌, Some, None, All, Contains}
+use Rattle.std.specs.Prelude.{◌≡◌, ◌⊎◌, ◌↔◌, ℕ, suc, [], Some, None, Contains}
 use Rattle.term_enums.specs.declared.Variance.{Variance}
 use Rattle.term_enums.specs.declared.Variance.TheVariants.{Bivariant}
 use Rattle.relation_terms.specs.Heads.{Head, region_sort}
 use Rattle.relation_terms.specs.Trees.{Tree, node, count, nth, Leaves}
 use Rattle.relation_semantics.specs.Relation.{Items, Interpretation, part_at, plain, IsRelatedHead, IsValueLeaf, sort_of}
 use Rattle.relation_semantics.specs.Stores.{Constraint}
-use Rattle.relation_semantics.specs.Steps.{HasNoBinder}
-use Rattle.relation_semantics.specs.Asking.{Wanted, a_constraint, a_goal, IsOfItself, IsTrivial, region_at, HaveAlias}
+use Rattle.relation_semantics.specs.Asking.{Wanted, a_constraint, a_goal, IsTrivial, region_at, HaveAlias}
 use Rattle.relation_semantics.specs.Asking.{AsksFor, PartsAsk, HasNoAlias}
-use Rattle.relation_semantics.specs.Recording.{RememberedTerms, Record, RecordsJustAsked, FrontRecords}
+use Rattle.relation_semantics.specs.Lawful.{State, Pair, RecordsJust, items_in}
+use Rattle.relation_semantics.specs.Recording.{AreBare, FrontAsks, JustAsked}
 use Rattle.type_relations.specs.Completing.{AskedHolds}
 
 -- Nothing is asked for at bivariance.
@@ -42,33 +42,27 @@ abbrev pub SomeInterpretation : Type 0
 SomeInterpretation = (c : Items) (e : Tree) (v : Variance) (a b : Tree) → Leaves IsValueLeaf a → Leaves IsValueLeaf b →
     (w : Interpretation) × (w.outlives ≡ None) × AskedHolds c w e v a b
 
--- One more part was related, and recorded what it asks for.
-abbrev pub FrontRecordsOn : Type 0
-FrontRecordsOn = (c : Items) (h : Head) (v : Variance) (i : ℕ) (ts us : Tree) (r s q : Record) →
-    FrontRecords c h v i ts us r s → RecordsJustAsked c (part_at c h i v) (nth i ts) (nth i us) s q →
-    FrontRecords c h v (suc i) ts us r q
+-- One more part was related, and just what it asks for was recorded.
+abbrev pub FrontRecordsOn : (Key Id Name : Type 0) → Type 1
+FrontRecordsOn Key Id Name = (c : Items) (h : Head) (v : Variance) (i : ℕ) (xs ys : Tree) (r s q : State Key Id Name) →
+    q.kept.environment ≡ s.kept.environment → RecordsJust (FrontAsks c h v i xs ys) r s →
+    RecordsJust (λ z. AsksFor c z (part_at c h i v) (nth i xs) (nth i ys)) s q →
+    RecordsJust (FrontAsks c h v (suc i) xs ys) r q
 
--- The parts of two forms were related in a row, each recording what it asks for: so were the forms.
-abbrev pub PartsRecord : Type 0
-PartsRecord = (c : Items) (h k : Head) (v : Variance) (ts us : Tree) (r q : Record) →
+-- The parts of two forms were related in a row, each recording just what it asks for: so were the forms.
+abbrev pub PartsRecord : (Key Id Name : Type 0) → Type 1
+PartsRecord Key Id Name = (c : Items) (h k : Head) (v : Variance) (ts us : Tree) (r q : State Key Id Name) →
     (HaveAlias (node h ts) (node k us) → ⊥) → IsRelatedHead h → plain h ≡ plain k → count ts ≡ count us →
-    FrontRecords c h v (count ts) ts us r q → RecordsJustAsked c v (node h ts) (node k us) r q
+    RecordsJust (FrontAsks c h v (count ts) ts us) r q → RecordsJust (λ z. AsksFor c z v (node h ts) (node k us)) r q
 
--- A pair that is remembered records nothing again.
-abbrev pub RememberedRecords : Type 0
-RememberedRecords = (c : Items) (r : Record) (x : RememberedTerms) → Contains r.remembered x →
-    RecordsJustAsked c x.variance x.left x.right r r
+-- A bare pair that is remembered records nothing again.
+abbrev pub RememberedRecords : (Key Id Name : Type 0) → Type 1
+RememberedRecords Key Id Name = (r : State Key Id Name) (p : Pair Key) → Contains r.remembered p →
+    AreBare r.kept.settings ((r.meaning).ty p.1) ((r.meaning).ty p.2) →
+    RecordsJust (λ z. AsksFor (items_in r) z p.0 ((r.meaning).ty p.1) ((r.meaning).ty p.2)) r r
 
--- A pair may be remembered once what it asks for was recorded.
-abbrev pub NotedRecords : Type 0
-NotedRecords = (c : Items) (r q p : Record) (x : RememberedTerms) → RecordsJustAsked c x.variance x.left x.right r q →
-    p.constraints ≡ q.constraints → p.goals ≡ q.goals → p.remembered ≡ q.remembered ++ x ∷ [] →
-    RecordsJustAsked c x.variance x.left x.right r p
-
--- Of terms without binders, where nothing was remembered, just the constraints that they ask for were added, those of a
--- region with itself aside.
-abbrev pub JustAsked : Type 0
-JustAsked = (c : Items) (v : Variance) (a b : Tree) (r q : Record) → r.remembered ≡ [] → HasNoBinder a → HasNoBinder b →
-    RecordsJustAsked c v a b r q → (more : List Constraint) × (q.constraints ≡ r.constraints ++ more) ×
-    All (λ k. AsksFor c (a_constraint k) v a b) more ×
-    ((k : Constraint) → AsksFor c (a_constraint k) v a b → IsOfItself k ⊎ Contains more k)
+-- From an empty memory on just what two terms ask for was added.
+abbrev pub AddsWhatIsAsked : (Key Id Name : Type 0) → Type 1
+AddsWhatIsAsked Key Id Name = (c : Items) (v : Variance) (a b : Tree) (r q : State Key Id Name) → r.remembered ≡ [] →
+    r.goals ≡ [] → RecordsJust (λ z. AsksFor c z v a b) r q →
+    JustAsked c q.kept.environment v a b (r.store).constraints (q.store).constraints q.goals

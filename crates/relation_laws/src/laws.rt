@@ -33,7 +33,7 @@ ghost use Rattle.relation_laws.specs.SolutionLaws.{FreeValues, MadeIsUnconstrain
 ghost use Rattle.relation_laws.specs.OpenedInstances.{OpenedIsInstance};
 ghost use Rattle.relation_laws.specs.AskingLaws.{NothingAtBivariance, ItselfIsTrivial, NoGoalWithoutAlias};
 ghost use Rattle.relation_laws.specs.AskingLaws.{RegionsAskOne, FormsAskByParts, FrontRecordsOn, PartsRecord};
-ghost use Rattle.relation_laws.specs.AskingLaws.{RememberedRecords, NotedRecords, JustAsked, SomeInterpretation};
+ghost use Rattle.relation_laws.specs.AskingLaws.{RememberedRecords, AddsWhatIsAsked, SomeInterpretation};
 ghost use Rattle.type_relations.specs.RegionTerms.{RelatedTermsAgree, RelatedIffAgree};
 ghost use Rattle.type_relations.specs.Completing.{ErrorsDisagree, ErrorsAreUnrelated, AgreeingAreRelated};
 
@@ -201,12 +201,11 @@ pub fn asking()
 {}
 
 /// What is recorded of what is asked for: part by part, and where pairs are remembered.
-pub fn recording()
-    ensures goes_on { FrontRecordsOn }
-    ensures parts { PartsRecord }
-    ensures remembered { RememberedRecords }
-    ensures noted { NotedRecords }
-    ensures just_asked { JustAsked }
+pub fn recording<I: Interner>()
+    ensures goes_on { FrontRecordsOn I.Key I.Id I.Name }
+    ensures parts { PartsRecord I.Key I.Id I.Name }
+    ensures remembered { RememberedRecords I.Key I.Id I.Name }
+    ensures just_asked { AddsWhatIsAsked I.Key I.Id I.Name }
 {}
 
 /// Plain terms: no error comes of such whose erasures agree; and without variables such of which an error comes are

@@ -5,6 +5,10 @@ use Rattle.term_enums.specs.declared.Variance.TheVariants.{Covariant, Contravari
 use Rattle.relation_terms.specs.Heads.{region_sort, type_sort, const_sort, Head, value_type, value, value_branch}
 use Rattle.relation_terms.specs.Trees.{Tree, node, cons, nil, count, nth}
 use Rattle.relation_semantics.specs.Relation.{Items, part_at, plain, IsRelatedHead, IsAlias, sort_of}
+use Rattle.relation_terms.specs.declared.predicate.regions.RegionConstraint.{RegionConstraint}
+use Rattle.relation_terms.specs.declared.terms.keys.RegionKey.{RegionKey}
+use Rattle.relation_terms.specs.Meaning.{Meaning}
+use Rattle.relation_semantics.specs.Constraints.{constraint_at, constraint_of}
 use Rattle.relation_semantics.specs.Stores.{Constraint}
 use Rattle.relation_semantics.specs.AliasGoals.{alias_at}
 use Rattle.relation_semantics.specs.Asking.{Wanted, a_constraint, a_goal, IsOfItself, IsTrivial, region_at, HaveAlias, AsksFor}
@@ -131,6 +135,14 @@ branches_are_asked {c = c} {z = z} {v = v} {ts = ts} {us = us} t u p =
     neither_branch : HaveAlias (node value_branch ts) (node value_branch us) → ⊥
     neither_branch (inl q) = q
     neither_branch (inr q) = q
+
+-- What is to be recorded of two regions is what they ask for.
+pub region_asked : {Key Id Name : Type 0} (m : Meaning Key Id Name) (v : Variance) (a b : RegionKey Key) (c : RegionConstraint Key) →
+    constraint_at v a b ≡ Some c → region_at v (m.region a) (m.region b) ≡ Some (constraint_of m c)
+region_asked m Covariant a b c e = ap (λ k. Some (constraint_of m k)) (same_Some _ _ e)
+region_asked m Contravariant a b c e = ap (λ k. Some (constraint_of m k)) (same_Some _ _ e)
+region_asked m Invariant a b c e = ap (λ k. Some (constraint_of m k)) (same_Some _ _ e)
+region_asked m Bivariant a b c e = absurd cc
 
 -- Two regions ask for one constraint alone.
 pub regions_ask_one : {c : Items} {z : Wanted} {v : Variance} {a b : Tree} (k : Constraint) → sort_of a ≡ region_sort → region_at v a b ≡ Some k → AsksFor c z v a b → z ≡ a_constraint k

@@ -395,3 +395,25 @@ module _ {c : Items} {h k : Head} (v : Variance) (n : ℕ) (ts us : Tree) (neith
       AsksFor c z v (node h ts) (node k us)
   front_asks_form rh pl p = parts_are_asked neither rh pl
       (p.0, subst (λ m. p.0 < m) et p.1, subst (λ m. p.0 < m) eu p.1, p.2)
+
+module _ {Key Id Name : Type 0} where
+  -- One more part was related, and what it asks for was recorded.
+  pub front_goes_on : {r s q : State Key Id Name} (c : Items) (h : Head) (v : Variance) (i : ℕ) (xs ys : Tree) →
+      q.kept.environment ≡ s.kept.environment → RecordsJust (FrontAsks c h v i xs ys) r s →
+      RecordsJust (λ z. AsksFor c z (part_at c h i v) (nth i xs) (nth i ys)) s q →
+      RecordsJust (FrontAsks c h v (suc i) xs ys) r q
+  front_goes_on c h v i xs ys same f g = records_as (λ z w. inr (front_asks_next c h v i xs ys z w))
+      (next_asks_front c h v i xs ys) (records_then same f g)
+
+  -- All parts of two forms were, and so are the forms.
+  pub front_ends : {r q : State Key Id Name} (c : Items) (h k : Head) (v : Variance) (n : ℕ) (ts us : Tree) →
+      (HaveAlias (node h ts) (node k us) → ⊥) → IsRelatedHead h → plain h ≡ plain k → n ≡ count ts → n ≡ count us →
+      RecordsJust (FrontAsks c h v n ts us) r q → RecordsJust (λ z. AsksFor c z v (node h ts) (node k us)) r q
+  front_ends c h k v n ts us neither rh pl et eu f = records_as (λ z w. inr (form_asks_front v n ts us neither et eu z w))
+      (λ z w. front_asks_form v n ts us neither et eu z rh pl w) f
+
+  -- A bare pair that is remembered records nothing again.
+  pub remembered_records : (r : State Key Id Name) (p : Pair Key) → Contains r.remembered p →
+      AreBare r.kept.settings ((r.meaning).ty p.1) ((r.meaning).ty p.2) →
+      RecordsJust (λ z. AsksFor (items_in r) z p.0 ((r.meaning).ty p.1) ((r.meaning).ty p.2)) r r
+  remembered_records r p m bare = records_nothing (stands_itself r) refl (λ since covers z asks. (covers p m).2 bare z asks)

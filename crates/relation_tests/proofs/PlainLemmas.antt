@@ -29,6 +29,9 @@ use Rattle.relation_semantics.proofs.Full.{full_itself, full_by}
 use Rattle.relation_semantics.proofs.Building.{builds_none, built_itself}
 use Rattle.relation_semantics.proofs.Trees.{all_leaves, apply_own, own_other}
 use Rattle.type_relations.proofs.Constraints.{asked_in, asked_relates, asked_met}
+use Rattle.relation_semantics.specs.Asking.{of_regions}
+use Rattle.relation_semantics.proofs.Asking.{regions_ask_one, region_asked}
+use Rattle.relation_semantics.proofs.Recording.{records_constraint}
 use Rattle.relation_semantics.proofs.Standing.{made_of_term, term_within, term_sort_of}
 use Rattle.relation_semantics.proofs.Growing.{constraint_sound, constraint_is_later, constraint_bound, constraint_weight}
 use Rattle.relation_semantics.proofs.Growing.{constraint_holds, constraint_keeps}
@@ -198,7 +201,17 @@ module _ {Key Id Name : Type 0} (m : Meaning Key Id Name) where
       full = λ ha hb. full_by (goes v cs c of_store 0) (λ k. refl) (λ all. all);
       built = λ k ha hb all. builds_none k (plain_store m cs) (plain_store m (cs ++ c ∷ [])) all refl refl
           (λ o. record { entries = λ j i. refl; budget = refl });
+      records = λ promised bare. records_constraint (constraint_of m c) (stays_same m)
+          (map-append (constraint_of m) cs (c ∷ [])) refl refl refl refl
+          (of_regions (constraint_of m c) refl left_sort right_sort (region_asked m v a b c is))
+          (λ z w. regions_ask_one (constraint_of m c) left_sort (region_asked m v a b c is) w);
     }
+      where
+        left_sort : sort_of (m.region a) ≡ region_sort
+        left_sort = term_sort_of region_var (m.region a) left.0
+
+        right_sort : sort_of (m.region b) ≡ region_sort
+        right_sort = term_sort_of region_var (m.region b) right.0
 
     pub regions_related : (ds : List (RegionConstraint Key)) (x : RegionKey Key) → ds ≡ cs ++ c ∷ [] → x ≡ a →
         IsTrue (known (m.region a)) →
@@ -216,6 +229,7 @@ module _ {Key Id Name : Type 0} (m : Meaning Key Id Name) where
       exact = λ k is pair. binds_itself (plain_store m cs) a b;
       full = λ ha hb. full_itself (plain_store m cs);
       built = built_itself (plain_store m cs) a b;
+      records = tt;
     }
 
     pub not_recorded : (ds : List (RegionConstraint Key)) (r : Result X (RelateFault Key Id Name)) → ds ≡ cs →

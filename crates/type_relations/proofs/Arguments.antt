@@ -32,7 +32,7 @@ use Rattle.relation_semantics.proofs.Registered.{registered_in}
 use Rattle.relation_semantics.proofs.Passing.{passes_within, passes_then, manner_then, stopped}
 use Rattle.relation_semantics.specs.Asking.{HaveAlias}
 use Rattle.relation_semantics.proofs.Asking.{neither_alias}
-use Rattle.relation_semantics.proofs.Recording.{records_as, form_asks_front, front_asks_form}
+use Rattle.relation_semantics.proofs.Recording.{front_ends}
 use Rattle.relation_semantics.proofs.RecordingForms.{bare_parts}
 use Rattle.type_relations.proofs.Fronts.{Fronted, AreParts, IsLookedAt, fronted_all, fronted_never, fronted_passes, fronted_fault, fronted_exactly, fronted_needs}
 use Rattle.type_relations.proofs.Fronts.{fronted_full, fronted_built, fronted_agree}
@@ -193,8 +193,7 @@ module _ {Key Id Name : Type 0} {r q : State Key Id Name} (M : Manners) (v : Var
         (fronted_exactly h v i ts us are e (e ∙ n) f exact is' looked (list_pair pair));
     full = f.full;
     built = λ j ha hb. f.built j ha.1 hb.1;
-    records = λ promised bare. records_as (λ z w. inr (form_asks_front v i ts us normal e (e ∙ n) z w))
-        (λ z w. front_asks_form v i ts us normal e (e ∙ n) z is alike w)
+    records = λ promised bare. front_ends (items_in r) h k v i ts us normal is alike e (e ∙ n)
         (f.records promised (bare_parts r.kept.settings (node h ts) (node k us) bare));
   }
 

@@ -1,5 +1,5 @@
 -- A loop over the parts of two forms, which relates them one after another.
-use Rattle.std.proofs.Common.{◌≡◌, ℕ, zero, suc, ◌+◌, ◌≤◌, ◌<◌, refl, sym, ap, ◌∙◌, inr, subst, subst₂, arith, List, [], ◌++◌, Ok, Err}
+use Rattle.std.proofs.Common.{◌≡◌, ℕ, zero, suc, ◌+◌, ◌≤◌, ◌<◌, refl, sym, ap, ◌∙◌, subst, subst₂, arith, List, [], ◌++◌, Ok, Err}
 use Rattle.term_enums.specs.declared.Variance.TheVariants.{Invariant}
 use Rattle.term_enums.specs.Variances.{xform}
 use Rattle.relation_semantics.specs.FirstOrder.{IsFirstOrder, IsFirstOrderStore}
@@ -22,8 +22,8 @@ use Rattle.relation_semantics.specs.OneUniverse.{NamesTypesTo, KeepsUniverseOf, 
 use Rattle.relation_semantics.specs.Lawful.{State, Manners, Passes, Related, ExactResult, RecordsJust, items_in}
 use Rattle.relation_semantics.specs.Asking.{AsksFor}
 use Rattle.relation_semantics.specs.Recording.{AreBare, FrontAsks}
-use Rattle.relation_semantics.proofs.Recording.{bare_nth, stands_itself, records_trivial, records_as, records_then}
-use Rattle.relation_semantics.proofs.Recording.{front_asks_none, front_asks_next, next_asks_front}
+use Rattle.relation_semantics.proofs.Recording.{bare_nth, stands_itself, records_trivial, front_asks_none}
+use Rattle.relation_semantics.proofs.Recording.{front_goes_on as recorded_on}
 use Rattle.relation_semantics.proofs.OneUniverse.{keeps_itself, keeps_pair, leaves_nth, led_keeps, led_binds, led_fewer}
 use Rattle.relation_semantics.proofs.Going.{pair_grown, later_itself}
 use Rattle.relation_semantics.proofs.Full.{full_itself, full_then, nth_plain}
@@ -188,11 +188,10 @@ module _ {Key Id Name : Type 0} where
           (subst₂ (Agree r.kept.settings (items_in r) (at (part_at (items_in r) h i v))) ex ey
           (subst₂ (λ j c. Agree j c (at (part_at (items_in r) h i v)) x y) (same_settings (f.passes).kept)
           (same_items f.passes) ((g.verdict).agrees (manner_then M (λ m. m.relates_agreeing) f.passes k))));
-      records = λ k bare. records_as (λ z w. inr (front_asks_next (items_in r) h v i xs ys z w))
-          (next_asks_front (items_in r) h v i xs ys) (records_then (same_environment (g.passes).kept) (f.records k bare)
+      records = λ k bare. recorded_on (items_in r) h v i xs ys (same_environment (g.passes).kept) (f.records k bare)
           (subst₂ (λ t u. RecordsJust (λ z. AsksFor (items_in r) z (part_at (items_in r) h i v) t u) q p) ex ey
           (subst (λ c. RecordsJust (λ z. AsksFor c z (part_at (items_in r) h i v) x y) q p) (same_items f.passes)
-          (g.records (manner_then M (λ m. m.records_asked) f.passes k) (bare_part bare)))));
+          (g.records (manner_then M (λ m. m.records_asked) f.passes k) (bare_part bare))));
     }
 
     -- A fault of two parts is one of the lists: they are not unified where the parts are not.

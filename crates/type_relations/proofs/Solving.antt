@@ -33,7 +33,7 @@ use Rattle.relation_semantics.specs.Relation.{Interpretation, RegionRule, region
 use Rattle.relation_semantics.specs.Asking.{region_at, of_regions}
 use Rattle.relation_semantics.specs.Recording.{AreBare, JustAsked}
 use Rattle.relation_semantics.specs.Errors.{as_pair}
-use Rattle.relation_semantics.proofs.Asking.{regions_ask_one}
+use Rattle.relation_semantics.proofs.Asking.{regions_ask_one, region_asked}
 use Rattle.relation_semantics.proofs.Recording.{records_constraint, just_asked}
 use Rattle.relation_semantics.specs.Stores.{Store, Constraint, IsRegionIn, IsSound}
 use Rattle.relation_semantics.specs.Stores.{ConstraintHolds, all_bound}
@@ -230,7 +230,6 @@ module _ {Key Id Name : Type 0} {j j' : Held Key} (held : j' ≡ j) (gs : List (
   -- Two regions were related by what was recorded.
   module _ (m : Meaning Key Id Name) (was now : Store) (L K : Type 0) (v : Variance) (e : ParamEnvKey Key)
       (a b : RegionKey Key) (c : RegionConstraint Key) (is : constraint_at v a b ≡ Some c)
-      (asks : region_at v (m.region a) (m.region b) ≡ Some (constraint_of m c))
       (left : IsRegionIn was (m.region a)) (right : IsRegionIn was (m.region b))
       (goes : Goes 0 was now)
       (added : AddsConstraint was now (constraint_of m c)) where
@@ -299,6 +298,9 @@ module _ {Key Id Name : Type 0} {j j' : Held Key} (held : j' ≡ j) (gs : List (
               (λ z w. regions_ask_one (constraint_of m c) left_sort asks w);
         }
           where
+            asks : region_at v (m.region a) (m.region b) ≡ Some (constraint_of m c)
+            asks = region_asked m v a b c is
+
             left_sort : sort_of (m.region a) ≡ region_sort
             left_sort = term_sort_of region_var (m.region a) left.0
 
@@ -314,11 +316,11 @@ module _ {Key Id Name : Type 0} {j j' : Held Key} (held : j' ≡ j) (gs : List (
       IsTrue (known (m.region a)) →
       Related solver_manner (solving j gs m was L v e) (solving j' gs n now K v e) v (m.region a) (m.region b) n.region (Ok k)
   regions_recorded m was now L K Covariant e a b d left right goes added =
-      regions_related m was now L K Covariant e a b (Outlives (record { 0 = Lifetime a; 1 = b })) refl refl left right goes added
+      regions_related m was now L K Covariant e a b (Outlives (record { 0 = Lifetime a; 1 = b })) refl left right goes added
   regions_recorded m was now L K Contravariant e a b d left right goes added =
-      regions_related m was now L K Contravariant e a b (Outlives (record { 0 = Lifetime b; 1 = a })) refl refl left right goes added
+      regions_related m was now L K Contravariant e a b (Outlives (record { 0 = Lifetime b; 1 = a })) refl left right goes added
   regions_recorded m was now L K Invariant e a b d left right goes added =
-      regions_related m was now L K Invariant e a b (Eq (record { 0 = a; 1 = b })) refl refl left right goes added
+      regions_related m was now L K Invariant e a b (Eq (record { 0 = a; 1 = b })) refl left right goes added
   regions_recorded m was now L K Bivariant e a b d left right goes added = absurd (d refl)
 
   -- A step that answers.

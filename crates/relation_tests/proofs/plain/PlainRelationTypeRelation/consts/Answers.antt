@@ -3,12 +3,21 @@ use Rattle.relation_semantics.specs.Parts.{IsFormedConst}
 use Rattle.relation_tests.specs.Plain.{plain_store, plain_state, plain_manner}
 use Rattle.type_relations.proofs.Comparing.{formed_const}
 use Rattle.relation_semantics.proofs.Passing.{parts_left}
+use Rattle.relation_semantics.proofs.Recording.{records_trivial, stands_itself}
 use Rattle.relation_semantics.proofs.Standing.{term_within}
 use Rattle.relation_tests.proofs.PlainLemmas.{no_const_variable, none_left}
 use Rattle.relation_tests.proofs.plain.PlainRelationTypeRelation.consts.Goals as goal
 
-pub returns : goal.returns
-returns g c =
+pub returns-clause-records : goal.returns-clause-records
+returns-clause-records g c = λ promised bare. let r = c.args.self.now in (
+  refl,
+  refl,
+  records_trivial (stands_itself (plain_state (g.I.Interner.meaning r.interner) r.ambient r.constraints.items)) refl
+      (λ z o. absurd o),
+)
+
+pub returns-clause-stepped : goal.returns-clause-stepped
+returns-clause-stepped g c =
     let m = g.I.Interner.meaning c.args.self.now.interner in
     let cs = c.args.self.now.constraints.items in
     let k = c.requires.asked in

@@ -2,6 +2,7 @@ use Rattle.std.proofs.Common.{refl}
 use Rattle.relation_semantics.specs.Parts.{IsFormed}
 use Rattle.relation_tests.specs.Plain.{plain_state, plain_manner}
 use Rattle.relation_semantics.proofs.Passing.{parts_left}
+use Rattle.relation_semantics.proofs.Recording.{records_trivial, stands_itself}
 use Rattle.relation_tests.proofs.PlainLemmas.{formed, none_left}
 use Rattle.relation_tests.proofs.plain.PlainRelationTypeRelation.tys.Goals as goal
 
@@ -16,6 +17,15 @@ returns-clause-stepped g c =
     (formed m cs (m.ty c.args.a.now) (is c.args.a.now k.left_known) k.left_in)
     (formed m cs (m.ty c.args.b.now) (is c.args.b.now k.right_known) k.right_in)
     (none_left (m.ty c.args.a.now) (m.ty c.args.b.now))
+
+-- It records nothing.
+pub returns-clause-records : goal.returns-clause-records
+returns-clause-records g c = λ promised bare. let r = c.args.self.now in (
+  refl,
+  refl,
+  records_trivial (stands_itself (plain_state (g.I.Interner.meaning r.interner) r.ambient r.constraints.items)) refl
+      (λ z o. absurd o),
+)
 
 -- It promises nothing of variables.
 pub returns-clause-registers : goal.returns-clause-registers

@@ -1,4 +1,4 @@
-use Rattle.std.proofs.Common.{refl, sym, subst, Ok, Err}
+use Rattle.std.proofs.Common.{refl, sym, ap, ◌∙◌, inl, inr, ⊎_elim, subst, Contains, Ok, Err}
 use Rattle.relation_folds.specs.declared.error.RelateFault.TheVariants.{Memory}
 use Rattle.relation_semantics.specs.declared.relate.Step.TheVariants.{Done}
 use Rattle.relation_semantics.specs.Parts.{IsFormed}
@@ -8,7 +8,7 @@ use Rattle.relation_semantics.proofs.Remembering.{step_remembering, step_not_rem
 use Rattle.type_relations.specs.Solving.{solving_through, solver_manner}
 use Rattle.type_relations.specs.Keyed.{SteppedTys}
 use Rattle.type_relations.specs.Stepping.{CombinesShallowTys, met_again, combined, not_remembered}
-use Rattle.type_relations.proofs.Recalling.{met_step, answered_pair, combined_alike}
+use Rattle.type_relations.proofs.Recalling.{met_step, answered_pair, combined_alike, unanswered, not_answered}
 use Rattle.type_relations.proofs.Stepping.{leaves_itself}
 use Rattle.type_relations.proofs.relate.solver_relating.relation.SolverRelating.step_read.Goals as goal
 
@@ -143,11 +143,53 @@ returns-in_ok-remember-in-Done-clause-steps g c =
     let h = c.in_ok-remember-in-Done.ensures in
     combined (combined_alike was then last h.meaning h.store h.goals a b (Ok (Done c.in-Done.answer)) came)
 
+-- Where there is an answer at most the two are remembered.
+pub returns-then-was_related-clause-remembers : goal.returns-then-was_related-clause-remembers
+returns-then-was_related-clause-remembers g c = λ n m p h. inr h
+
+pub returns-in_err-step-clause-remembers : goal.returns-in_err-step-clause-remembers
+returns-in_err-step-clause-remembers g c = λ n m.
+    let r = c.args.self.now in
+    let q = c.combine_tys.new.self in
+    let s = g.Infcx.InferCtxtLike.state r.infcx.now in
+    let d = g.Infcx.InferCtxtLike.state q.infcx.now in
+    let was = solving_through r.structurally_relate_aliases r.infcx.ghost_name r.cache.kept r.goals.items s r.ambient_variance r.param_env in
+    let then = solving_through q.structurally_relate_aliases q.infcx.ghost_name q.cache.kept q.goals.items d q.ambient_variance q.param_env in
+    let fault = c.in_err-step.field-0.0 in
+    not_answered was then c.args.a.now c.args.b.now c.from_residual.result fault
+    (as_err c.from_residual.result fault c.from_residual.ensures.0 c.from_residual.ensures.1)
+
+pub returns-in_err-remember-in-Done-clause-remembers : goal.returns-in_err-remember-in-Done-clause-remembers
+returns-in_err-remember-in-Done-clause-remembers g c = λ n m.
+    let r = c.args.self.now in
+    let q = c.remember.new.self in
+    let s = g.Infcx.InferCtxtLike.state r.infcx.now in
+    let d = g.Infcx.InferCtxtLike.state q.infcx.now in
+    let was = solving_through r.structurally_relate_aliases r.infcx.ghost_name r.cache.kept r.goals.items s r.ambient_variance r.param_env in
+    let last = solving_through q.structurally_relate_aliases q.infcx.ghost_name q.cache.kept q.goals.items d q.ambient_variance q.param_env in
+    let from = c.from_residual-in_err-remember-in-Done in
+    not_answered was last c.args.a.now c.args.b.now from.result Memory
+    (as_err from.result Memory from.ensures.0 from.ensures.1)
+
+pub returns-in_ok-remember-in-Done-clause-remembers : goal.returns-in_ok-remember-in-Done-clause-remembers
+returns-in_ok-remember-in-Done-clause-remembers g c = λ n m p h.
+    let e = c.in_ok-step.ensures in
+    let r = c.args.self.now in
+    let q = c.combine_tys.new.self in
+    ⊎_elim (λ is. inl (is ∙ ap (λ v. (v, c.args.a.now, c.args.b.now)) (e.stepped).passes.ambient))
+    (λ k. inr (subst (λ ps. Contains ps p) (e.memory n m) k)) (c.in_ok-remember-in-Done.ensures.no_more p h)
+
 pub returns-in_default : goal.returns-in_default
 returns-in_default g c =
     let e = c.in_ok-step.ensures in
+    let r = c.args.self.now in
+    let q = c.combine_tys.new.self in
+    let s = g.Infcx.InferCtxtLike.state r.infcx.now in
+    let d = g.Infcx.InferCtxtLike.state q.infcx.now in
+    let was = solving_through r.structurally_relate_aliases r.infcx.ghost_name r.cache.kept r.goals.items s r.ambient_variance r.param_env in
+    let then = solving_through q.structurally_relate_aliases q.infcx.ghost_name q.cache.kept q.goals.items d q.ambient_variance q.param_env in
     record {
       stepped = e.stepped;
       steps = combined e.combines;
-      remembers = λ n m. unanswered (c.args.a.now) (c.args.b.now) _ c.in_default.not-Done (e.memory n m);
+      remembers = λ n m. unanswered was then c.args.a.now c.args.b.now _ c.in_default.not-Done (e.memory n m);
     }

@@ -1,4 +1,4 @@
-use Rattle.std.proofs.Common.{◌≡◌, refl, sym, ◌∙◌, subst, Ok, IsTrue}
+use Rattle.std.proofs.Common.{◌≡◌, refl, sym, ◌∙◌, inr, subst, Ok, IsTrue}
 use Rattle.std.proofs.lemmas.Bool.{false≢true}
 use Rattle.relation_terms.specs.Trees.{known}
 use Rattle.relation_semantics.specs.Parts.{IsFormed}
@@ -214,3 +214,19 @@ returns-clause-steps g c =
       reads = record { sure = right.reads.sure; reads = right.reads.reads; resolves = right.reads.resolves };
       shallow = right.shallow;
     }) c.step_read-2.ensures.steps
+
+pub returns-then-eq-clause-remembers : goal.returns-then-eq-clause-remembers
+returns-then-eq-clause-remembers g c = λ none p m. inr m
+
+pub returns-then-have_no_variable-clause-remembers : goal.returns-then-have_no_variable-clause-remembers
+returns-then-have_no_variable-clause-remembers g c = λ none.
+    let s = g.Infcx.InferCtxtLike.state c.args.self.now.infcx.now in
+    let k = c.requires.asked in
+    let e = c.have_no_variable.ensures in
+    let a_formed = e.a_formed c.if-have_no_variable.true (term_within s.store _ k.left_in) in
+    let b_formed = e.b_formed c.if-have_no_variable.true (term_within s.store _ k.right_in) in
+    c.step_read.ensures.remembers (λ n e. subst IsFormed e a_formed) (λ n e. subst IsFormed e b_formed)
+
+pub returns-clause-remembers : goal.returns-clause-remembers
+returns-clause-remembers g c = λ none.
+    absurd (false≢true (sym none ∙ c.have_no_variable.ensures.one c.if-have_no_variable.false))
