@@ -55,7 +55,7 @@ no_alias_term t f i = i
 no_alias_parts : (t : Tree) {h : Head} {ts : Tree} → t ≡ node h ts → HasNoAlias t → HasNoAlias ts
 no_alias_parts t e f = (subst HasNoAlias e f).1
 
-no_alias_nth : (i : ℕ) (ts : Tree) → HasNoAlias ts → HasNoAlias (nth i ts)
+pub no_alias_nth : (i : ℕ) (ts : Tree) → HasNoAlias ts → HasNoAlias (nth i ts)
 no_alias_nth zero (cons t ts) f = f.0
 no_alias_nth (suc i) (cons t ts) f = no_alias_nth i ts f.1
 no_alias_nth i ts f = tt

@@ -58,7 +58,7 @@ bare_nth k i xs ys h = record {
     go (inr n) = inr (no_alias_nth i xs n.0, no_alias_nth i ys n.1)
 
 -- What goes from a term to its parts.
-bare_by : (k : Settings) (f : Tree → Tree) → ((t : Tree) → IsPlainTerm t → IsPlainTerm (f t)) →
+pub bare_by : (k : Settings) (f : Tree → Tree) → ((t : Tree) → IsPlainTerm t → IsPlainTerm (f t)) →
     ((t : Tree) → HasNoBinder t → HasNoBinder (f t)) → ((t : Tree) → HasNoAlias t → HasNoAlias (f t)) → (a b : Tree) →
     AreBare k a b → AreBare k (f a) (f b)
 bare_by k f plainly unbound free a b h = record {

@@ -55,7 +55,7 @@ bare_const_parts k a b = bare_by k const_parts_of plain_const_parts const_parts_
 -- Two names of one region ask only for what is trivial, and other parameters for nothing.
 names_ask : {c : Items} {z : Wanted} {v : Variance} {a b : Tree} (x y : Atom) → a ≡ leaf (atom x) → b ≡ leaf (atom y) →
     plain_atom x ≡ plain_atom y → (HaveAlias a b → ⊥) → AsksFor c z v a b → IsTrivial z
-names_ask x y d e p none (of_regions q w s t r) = itself_is_trivial (of_regions q w s t r)
+names_ask {c = c} x y d e p none (of_regions q w s t r) = itself_is_trivial {c = c} (of_regions q w s t r)
     (d ∙ same_region x y (ap sort_of (sym d) ∙ s) (ap sort_of (sym e) ∙ t) p ∙ sym e)
 names_ask x y d e p none (of_aliases q w l n s r) = absurd (none l)
 names_ask x y d e p none (of_unevaluated w l n s r) = absurd (none l)

@@ -42,7 +42,7 @@ plain_region (type_param i n) p = absurd cc
 plain_region (const_param i n) p = absurd cc
 plain_region x p = refl
 
-same_region : (x y : Atom) → atom_sort x ≡ region_sort → atom_sort y ≡ region_sort → plain_atom x ≡ plain_atom y → leaf (atom x) ≡ leaf (atom y)
+pub same_region : (x y : Atom) → atom_sort x ≡ region_sort → atom_sort y ≡ region_sort → plain_atom x ≡ plain_atom y → leaf (atom x) ≡ leaf (atom y)
 same_region x y p q e = cc (plain_region x p, plain_region y q)
 
 pub rule_same : (w : Interpretation) (v : Variance) (a b : Tree) → a ≡ b → RegionRule w v a b

@@ -39,9 +39,9 @@ alias_is_asked Invariant a b d = (_, refl)
 alias_is_asked Bivariant a b d = absurd (d refl)
 
 -- Registering it leaves what is remembered.
-pub alias_memory : {Key Id Name A F : Type 0} (r q : State Key Id Name) (a b : TyKey Key) {result : Result A F} →
+pub alias_memory : {Key Id Name A F : Type 0} (r q : State Key Id Name) (a b : TyKey Key) (result : Result A F) →
     r.ambient ≢ Bivariant → RegistersAlias r q a b result → q.remembered ≡ r.remembered
-alias_memory r q a b {result} d h = let z = alias_is_asked r.ambient ((r.meaning).ty a) ((r.meaning).ty b) d in
+alias_memory r q a b result d h = let z = alias_is_asked r.ambient ((r.meaning).ty a) ((r.meaning).ty b) d in
     (subst (λ o. IfSome o (λ p. RegistersGoal r q p result)) z.1 h).remembered
 
 module _ {Key Id Name : Type 0} {r : State Key Id Name} {c : Context Key Id Name} (o : IsOver r c) (a b : TyKey Key) where

@@ -261,6 +261,9 @@ module _ {Key Id Name : Type 0} {j j' : Held Key} (held : j' ≡ j) (gs : List (
       );
     }
 
+    asks : region_at v (m.region a) (m.region b) ≡ Some (constraint_of m c)
+    asks = region_asked m v a b c is
+
     pub regions_related : (n : Meaning Key Id Name) (k : RegionKey Key) → n ≡ m → k ≡ a → K →
         KnowsGoals m e gs → IsTrue (known (m.region a)) →
         Related solver_manner (solving j gs m was L v e) (solving j' gs n now K v e) v (m.region a) (m.region b) n.region (Ok k)
@@ -298,9 +301,6 @@ module _ {Key Id Name : Type 0} {j j' : Held Key} (held : j' ≡ j) (gs : List (
               (λ z w. regions_ask_one (constraint_of m c) left_sort asks w);
         }
           where
-            asks : region_at v (m.region a) (m.region b) ≡ Some (constraint_of m c)
-            asks = region_asked m v a b c is
-
             left_sort : sort_of (m.region a) ≡ region_sort
             left_sort = term_sort_of region_var (m.region a) left.0
 

@@ -333,7 +333,7 @@ module _ {Key Id Name : Type 0} {X : Type 0} (M : Manners) (r : State Key Id Nam
   pub itself_related : {w : Meeting} (a b : Tree) (x : X) → a ≡ b → tree x ≡ a → IsTrue (known a) →
       RelatedAs w M r r (at v) a b tree (Ok x)
   unfolding passes_nowhere
-  itself_related a b x e answer k = record {
+  itself_related {w = w} a b x e answer k = record {
     passes = passes_nowhere (weight r.store a + weight r.store b) r;
     verdict = record {
       outcome = record {

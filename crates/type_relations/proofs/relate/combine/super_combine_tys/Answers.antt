@@ -114,7 +114,7 @@ returns-in_err-register_alias_relate_predicate-in-ToGoal g c =
     record {
       stepped = λ n m. z.0;
       combines = z.1;
-      memory = alias_memory r (g.R.HasState.state c.register_alias_relate_predicate.new.self) a b c.requires.decides
+      memory = alias_memory r (g.R.HasState.state c.register_alias_relate_predicate.new.self) a b _ c.requires.decides
           c.in_err-register_alias_relate_predicate-in-ToGoal.ensures;
     }
 
@@ -198,7 +198,7 @@ returns-in_ok-register_alias_relate_predicate-in-ToGoal g c =
     record {
       stepped = λ n m. z.0;
       combines = z.1;
-      memory = alias_memory r (g.R.HasState.state c.register_alias_relate_predicate.new.self) a b c.requires.decides
+      memory = alias_memory r (g.R.HasState.state c.register_alias_relate_predicate.new.self) a b _ c.requires.decides
           c.in_ok-register_alias_relate_predicate-in-ToGoal.ensures;
     }
 
