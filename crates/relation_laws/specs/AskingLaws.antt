@@ -9,7 +9,7 @@ use Rattle.relation_semantics.specs.Stores.{Constraint}
 use Rattle.relation_semantics.specs.Asking.{Wanted, a_constraint, a_goal, IsTrivial, region_at, HaveAlias}
 use Rattle.relation_semantics.specs.Asking.{AsksFor, PartsAsk, HasNoAlias}
 use Rattle.relation_semantics.specs.Lawful.{State, Pair, RecordsJust, items_in}
-use Rattle.relation_semantics.specs.Recording.{AreBare, FrontAsks, JustAsked}
+use Rattle.relation_semantics.specs.Recording.{AreBare, FrontAsks, IsJustAsked}
 use Rattle.type_relations.specs.Completing.{AskedHolds}
 
 -- Nothing is asked for at bivariance.
@@ -65,4 +65,4 @@ RememberedRecords Key Id Name = (r : State Key Id Name) (p : Pair Key) → Conta
 abbrev pub AddsWhatIsAsked : (Key Id Name : Type 0) → Type 1
 AddsWhatIsAsked Key Id Name = (c : Items) (v : Variance) (a b : Tree) (r q : State Key Id Name) → r.remembered ≡ [] →
     r.goals ≡ [] → RecordsJust (λ z. AsksFor c z v a b) r q →
-    JustAsked c q.kept.environment v a b (r.store).constraints (q.store).constraints q.goals
+    IsJustAsked c q.kept.environment v a b (r.store).constraints (q.store).constraints q.goals

@@ -17,7 +17,7 @@ use Rattle.relation_semantics.specs.Steps.{HasNoBinder}
 use Rattle.relation_semantics.specs.Errors.{IsLeftToGoal}
 use Rattle.relation_semantics.specs.Parts.{parts_of, const_parts_of}
 use Rattle.relation_semantics.specs.Asking.{Wanted, a_constraint, a_goal, IsTrivial, HaveAlias, AsksFor, IsPlainTerm, HasNoAlias}
-use Rattle.relation_semantics.specs.Recording.{AreBare, StandsAmong, IsRecorded, JustAsked, FrontAsks}
+use Rattle.relation_semantics.specs.Recording.{AreBare, StandsAmong, IsRecorded, IsJustAsked, FrontAsks}
 use Rattle.relation_semantics.specs.Lawful.{State, Pair, Turned, WithMeaning, IsCovered, Covers, RecordsJust, declared_by, items_in}
 use Rattle.relation_semantics.proofs.Composing.{below_or}
 use Rattle.relation_semantics.proofs.Asking.{forms_ask, parts_are_asked, no_alias_nth, no_alias_term, itself_is_trivial}
@@ -333,7 +333,7 @@ module _ {Key Id Name : Type 0} where
   -- From an empty memory on just what two terms ask for was added.
   pub just_asked : {r q : State Key Id Name} (c : Items) (e : Tree) (v : Variance) (a b : Tree) → r.remembered ≡ [] →
       r.goals ≡ [] → q.kept.environment ≡ e → RecordsJust (λ z. AsksFor c z v a b) r q →
-      JustAsked c e v a b (r.store).constraints (q.store).constraints q.goals
+      IsJustAsked c e v a b (r.store).constraints (q.store).constraints q.goals
   just_asked {r} {q} c e v a b none no_goals same f = record {
     constraints = f.constraints;
     recorded = f.recorded;
@@ -356,7 +356,7 @@ module _ {Key Id Name : Type 0} where
 
 -- Of one term nothing need be added.
 pub nothing_asked : (c : Items) (e : Tree) (v : Variance) (a b : Tree) (cs : List Constraint) → a ≡ b →
-    JustAsked c e v a b cs cs []
+    IsJustAsked c e v a b cs cs []
 nothing_asked c e v a b cs one = record {
   constraints = [];
   recorded = sym (append-nil cs);

@@ -25,10 +25,10 @@
 --   Noted r q a b result                  something was noted of two terms, which asks nothing of them
 --   Covers since r                        what it remembers asks for what stands among these constraints and its goals
 --   RecordsJust A r q                     just what A says was recorded and registered
---   RecordsJustAsked M r q v a b              of two bare terms just what they ask for was
+--   RecordsJustAsked M r q v a b          of two bare terms just what they ask for was
 --   StepRecords M r q tree a b result     so it was by a step
-use Rattle.std.specs.Prelude.{◌≡◌, ℕ, suc, ◌+◌, ◌≤◌, List, [], ◌++◌, All, IsTrue, Result, Ok, Err, get_or}
-use Rattle.std.specs.Prelude.{◌⊎◌, Option, Some, None, Contains, OnErr}
+use Rattle.std.specs.Prelude.{◌≡◌, ◌⊎◌, ℕ, suc, ◌+◌, ◌≤◌, List, [], ◌++◌, All, Contains, IsTrue, get_or}
+use Rattle.std.specs.Prelude.{Option, Some, None, Result, Ok, Err, OnErr}
 use Rattle.term_enums.specs.declared.Variance.{Variance}
 use Rattle.term_enums.specs.declared.Variance.TheVariants.{Invariant}
 use Rattle.relation_terms.specs.declared.predicate.regions.OutlivesPredicate.{OutlivesPredicate}
@@ -45,8 +45,7 @@ use Rattle.relation_semantics.specs.declared.infer_ctxt.TypingMode.{TypingMode}
 use Rattle.relation_semantics.specs.declared.relate.Step.{Step}
 use Rattle.relation_semantics.specs.declared.relate.Step.TheVariants.{Done, Parts, Again}
 use Rattle.relation_semantics.specs.AskedAlone.{AsksAlone, AsksNoneAlone}
-use Rattle.relation_semantics.specs.Relation.{Items, part_at, Way, at, parts, second_opened}
-use Rattle.relation_semantics.specs.Relation.{first_opened}
+use Rattle.relation_semantics.specs.Relation.{Items, part_at, Way, at, parts, second_opened, first_opened}
 use Rattle.relation_semantics.specs.Stores.{Store, Constraint, IsSound, IsTermIn, weight}
 use Rattle.relation_semantics.specs.Goals.{Goal, goal_of, Registered, ByDeclared, IsQuiet, Relates}
 use Rattle.relation_semantics.specs.Settings.{Settings}
@@ -89,7 +88,7 @@ pub record Kept (Key : Type 0) : Type 0 where
   pub reference : ℕ
   pub outliving : List (OutlivesPredicate Key (TyKey Key))
 
--- A pair that a relation remembers: the variance at which it has related two types, and their keys, the left one's first.
+-- A pair that a relation remembers: the variance at which it has related two types, and their keys, the left one first.
 abbrev pub Pair : Type 0 → Type 0
 Pair Key = Variance × TyKey Key × TyKey Key
 
@@ -109,9 +108,9 @@ abbrev pub items_in : {Key Id Name : Type 0} → State Key Id Name → Items
 items_in r = items_of r.meaning
 
 -- What a relation takes and gives, set up as it is: which leaves may stand in terms at a variance; whether it promises
--- to be exact; whether it promises to record of two regions just what their variance asks for; whether it promises to
--- register of two unresolved type variables, at covariance and contravariance, just that the one is a subtype of the
--- other; and whether it promises that what it relates agrees.
+-- to be exact; to record of two regions just what their variance asks for, and of two bare terms just what they ask for;
+-- to register of two unresolved type variables, at covariance and contravariance, just that the one is a subtype of the
+-- other; and that what it relates agrees.
 pub record Manner : Type 1 where
   pub takes : Variance → Leaf → Type 0
   pub is_exact : Type 0
@@ -279,14 +278,13 @@ module _ {Key Id Name : Type 0} where
   ExactlyBy M before after (second_opened ks ls v) a b result = Unit {0}
   ExactlyBy M before after (first_opened ks ls v) a b result = Unit {0}
 
-  -- A remembered pair is known, and what it asks for, if it is bare, stands among these constraints and the goals.
+  -- A pair is known, and what it asks for, if it is bare, stands among these constraints and the goals; so do all that
+  -- are remembered.
   abbrev pub IsCovered : List Constraint → State Key Id Name → Pair Key → Type 0
   IsCovered since r p = IsTrue (known ((r.meaning).ty p.1)) × IsTrue (known ((r.meaning).ty p.2)) ×
-      (AreBare r.kept.settings ((r.meaning).ty p.1) ((r.meaning).ty p.2) → (z : Wanted) →
-      AsksFor (items_in r) z p.0 ((r.meaning).ty p.1) ((r.meaning).ty p.2) →
-      IsRecorded r.kept.environment since r.goals z)
+      (AreBare r.kept.settings ((r.meaning).ty p.1) ((r.meaning).ty p.2) → (z : Wanted) → AsksFor (items_in r) z p.0
+      ((r.meaning).ty p.1) ((r.meaning).ty p.2) → IsRecorded r.kept.environment since r.goals z)
 
-  -- So are all that it remembers.
   abbrev pub Covers : List Constraint → State Key Id Name → Type 0
   Covers since r = (p : Pair Key) → Contains r.remembered p → IsCovered since r p
 
@@ -321,9 +319,9 @@ module _ {Key Id Name : Type 0} where
   RecordsOf y M r q way a b (Ok x) = RecordsAs y M r q way a b
   RecordsOf y M r q way a b (Err f) = Unit {0}
 
-  -- Two things were related. Where no variable could be made of terms without binders, and they are such, none was. What
-  -- was bound and registered is built of what they and the bindings before were built of. Where that is promised, just what
-  -- was asked for was recorded.
+  -- Two things were related. Where no variable could be made of terms without binders, and they are such, none was.
+  -- What was bound and registered is built of what they and the bindings before were built of; what was recorded is just
+  -- what is asked for, where that is promised.
   pub record RelatedAs {X : Type 0} (y : Meeting) (M : Manners) (r q : State Key Id Name) (way : Way) (a b : Tree)
       (tree : X → Tree) (result : Result X (RelateFault Key Id Name)) : Type 0 where
     pub passes : Passes (weight r.store a + weight r.store b) r q
@@ -418,8 +416,8 @@ module _ {Key Id Name : Type 0} where
       ExactStep r.store q.store a b (tree x) (tree y) × LeadsInUniverse r.store q.store a b (tree x) (tree y)
   ExactVerdict {K} r q a b tree (Err f) = ExactResult {X = K} r.store q.store a b (Err f)
 
-  -- A step was taken. Where no variable could be made of terms without binders, and they are such, none was. What was bound
-  -- and registered is built of what they and the bindings before were built of.
+  -- A step was taken. Where no variable could be made of terms without binders, and they are such, none was. What was
+  -- bound and registered is built of what they and the bindings before were built of.
   pub record Stepped {K : Type 0} (M : Manners) (F : Tree → Type 0) (r q : State Key Id Name)
       (a b : Tree) (tree : K → Tree) (result : Result (Step K) (RelateFault Key Id Name)) : Type 0 where
     pub passes : Passes (weight r.store a + weight r.store b) r q
@@ -429,8 +427,8 @@ module _ {Key Id Name : Type 0} where
     pub full : StaysFullFor r.store q.store a b
     pub built : StaysBuilt r.store q.store passes.added a b
 
-  -- A step records of two bare terms just what they ask for: where it answers, all of it; where two forms are left, these
-  -- are the two, and it records nothing. It leaves no other pair of them.
+  -- A step records of two bare terms just what they ask for: where it answers, all of it; where two forms are left,
+  -- these are the two, and it records nothing. It leaves no other pair of them.
   abbrev pub StepRecords : {K : Type 0} → Manners → State Key Id Name → State Key Id Name → (K → Tree) → Tree → Tree →
       Result (Step K) (RelateFault Key Id Name) → Type 0
   StepRecords M r q tree a b (Ok (Done t)) = RecordsJustAsked M r q r.ambient a b

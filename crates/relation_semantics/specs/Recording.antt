@@ -30,7 +30,7 @@ IsRecorded e cs gs z = IsTrivial z ⊎ StandsAmong e cs gs z
 
 -- Between two lists of constraints just what relating two terms asks for was added, that of a region with itself aside,
 -- and just the goals are these that it asks for in an environment.
-pub record JustAsked (c : Items) (e : Tree) (v : Variance) (a b : Tree) (before after : List Constraint)
+pub record IsJustAsked (c : Items) (e : Tree) (v : Variance) (a b : Tree) (before after : List Constraint)
     (goals : List Goal) : Type 0 where
   pub constraints : List Constraint
   pub recorded : after ≡ before ++ constraints

@@ -64,8 +64,8 @@ abbrev pub IsUnbound : Leaf → Type 0
 IsUnbound (bound k d i) = ⊥
 IsUnbound l = Unit {0}
 
--- It takes all terms in which no binder binds anything, is exact, and records just what is asked of regions. It
--- registers nothing, and what it relates agrees.
+-- It takes all terms in which no binder binds anything, is exact, and records just what is asked of regions and of bare
+-- terms. It registers nothing, and what it relates agrees.
 abbrev pub plain_manner : Manners
 plain_manner k = record {
   takes = λ v l. IsUnbound l;

@@ -31,7 +31,7 @@ use Rattle.relation_semantics.specs.declared.relate.StructurallyRelateAliases.{S
 use Rattle.relation_semantics.specs.declared.relate.Step.TheVariants.{Done}
 use Rattle.relation_semantics.specs.Relation.{Interpretation, RegionRule, regions, at, sort_of}
 use Rattle.relation_semantics.specs.Asking.{region_at, of_regions}
-use Rattle.relation_semantics.specs.Recording.{AreBare, JustAsked}
+use Rattle.relation_semantics.specs.Recording.{AreBare, IsJustAsked}
 use Rattle.relation_semantics.specs.Errors.{as_pair}
 use Rattle.relation_semantics.proofs.Asking.{regions_ask_one, region_asked}
 use Rattle.relation_semantics.proofs.Recording.{records_constraint, just_asked}
@@ -652,7 +652,7 @@ module _ {Key Id Name X : Type 0} {j j' : Held Key} (m n : Meaning Key Id Name) 
   pub adds_just_asked : (t : X) → j.memory ≡ [] →
       AreBare (solver_settings j.structurally_relate_aliases j.setup) a b →
       Related solver_manner (solving j [] m was L v e) (solving j' hs n now K v e) v a b tree (Ok t) →
-      JustAsked (items_of m) (m.param_env e) v a b was.constraints now.constraints (goals_of n hs)
+      IsJustAsked (items_of m) (m.param_env e) v a b was.constraints now.constraints (goals_of n hs)
   adds_just_asked t none bare h = just_asked (items_of m) (m.param_env e) v a b none refl
       (same_environment (h.passes).kept) (h.records tt bare)
 

@@ -24,7 +24,7 @@ use Rattle.relation_semantics.specs.Agreeing.{Agree}
 use Rattle.relation_semantics.specs.Lawful.{items_of}
 use Rattle.relation_semantics.specs.Contexts.{Context}
 use Rattle.relation_semantics.specs.Asking.{Wanted, a_constraint, a_goal, AsksFor, IsPlainTerm, HasNoAlias, ArePlain}
-use Rattle.relation_semantics.specs.Recording.{AreBare, JustAsked}
+use Rattle.relation_semantics.specs.Recording.{AreBare, IsJustAsked}
 use Rattle.relation_semantics.specs.Steps.{HasNoBinder}
 use Rattle.type_relations.specs.Solving.{solver_settings}
 use Rattle.type_relations.specs.Relating.{term_in}
@@ -98,12 +98,12 @@ module _ {S Key Id Name A : Type 0} (state : S → Context Key Id Name) (old new
       ArePlain (solver_settings g (state old).setup) (term a) (term b) → CompletelyAnswered
       (items_of (state old).meaning) (((state old).meaning).param_env e) v (term a) (term b) result
 
-  -- Of two bare terms, where the answer is `Ok`: just the constraints that they ask for were recorded, that of a region with
-  -- itself aside, and just the goals that they ask for are answered.
-  abbrev pub AddsJustAsked : StructurallyRelateAliases → ParamEnvKey Key → Variance → A → A →
+  -- Of two bare terms, where the answer is `Ok`: just the constraints that they ask for were recorded, that of a region
+  -- with itself aside, and just the goals that they ask for are answered.
+  abbrev pub JustAsked : StructurallyRelateAliases → ParamEnvKey Key → Variance → A → A →
       Result (Vec (Goal Key (PredicateKey Key))) (RelateFault Key Id Name) → Type 0
-  AddsJustAsked g e v a b result = AreBare (solver_settings g (state old).setup) (term a) (term b) →
-      IfOk result (λ goals. JustAsked (items_of (state old).meaning) (((state old).meaning).param_env e) v (term a)
+  JustAsked g e v a b result = AreBare (solver_settings g (state old).setup) (term a) (term b) →
+      IfOk result (λ goals. IsJustAsked (items_of (state old).meaning) (((state old).meaning).param_env e) v (term a)
       (term b) (state old).store.constraints (state new).store.constraints (goals_of (state new).meaning goals.items))
 
   -- Of terms without variables, binders and aliases: where the answer is `Ok`, they are related under just those

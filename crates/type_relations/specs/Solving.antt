@@ -65,8 +65,8 @@ abbrev pub KnowsGoals : {Key Id Name : Type 0} → Meaning Key Id Name → Param
     List (Goal Key (PredicateKey Key)) → Type 0
 KnowsGoals m e gs = IsTrue (known (m.param_env e)) × All (KnowsGoal m) gs
 
--- It takes all variables at each variance, it is exact at invariance, it records just what is asked of regions, it
--- registers just one goal of two type variables, and what it relates agrees.
+-- It takes all variables at each variance, it is exact at invariance, it records just what is asked of regions and of
+-- bare terms, it registers just one goal of two type variables, and what it relates agrees.
 abbrev pub solver_manner : Manners
 solver_manner k = record {
   takes = λ v l. Unit {0};

@@ -11,9 +11,10 @@ ghost use Rattle.relation_semantics.specs.ContextCalls.{KeepsBeside};
 ghost use Rattle.type_relations.specs.Relating.{KnowsTerm, TakesTerm, HasTerm, AreOne, AnswersTerms};
 ghost use Rattle.type_relations.specs.Relating.{KeepsEqual, TellsApart, AnswersError, AnswersExactly, ProvesApart};
 ghost use Rattle.type_relations.specs.Relating.{RelatesAgreeing};
-ghost use Rattle.type_relations.specs.Completing.{Complete, RelatesWhereAsked, AddsJustAsked};
+ghost use Rattle.type_relations.specs.Completing.{Complete, RelatesWhereAsked, JustAsked};
 ghost use Rattle.type_relations.specs.Closed.{LeavesClosed, AsksNothing, SpendsForVariables};
-ghost use Rattle.type_relations.specs.Relating.{AnswersAsked, AnswersOnly, SpendsNoMore, MakesToRelate, BuildsNoMore, Idle};
+ghost use Rattle.type_relations.specs.Relating.{AnswersAsked, AnswersOnly, SpendsNoMore, MakesToRelate};
+ghost use Rattle.type_relations.specs.Relating.{BuildsNoMore, Idle};
 ghost use Rattle.type_relations.specs.Terms.{AskedTerms, RelatedTerms, TermsRegister};
 ghost use Rattle.type_relations.specs.Solving.{solving_in, solver_manner};
 
@@ -123,7 +124,7 @@ pub trait RelateExt: InferCtxtLike {
         ensures agrees { RelatesAgreeing Self.state self.old self.new T.over T.tree No variance lhs rhs result }
         ensures complete { Complete Self.state self.old self.new T.over T.tree No param_env variance lhs rhs result }
         ensures met { RelatesWhereAsked Self.state self.old self.new T.over T.tree param_env variance lhs rhs result }
-        ensures asked { AddsJustAsked Self.state self.old self.new T.over T.tree No param_env variance lhs rhs result }
+        ensures asked { JustAsked Self.state self.old self.new T.over T.tree No param_env variance lhs rhs result }
         ensures spent { IfSpent result ((Self.state self.new).store.budget ≡ 0) }
         ensures same { AreOne (Self.state self.old) T.over T.tree lhs rhs → Idle Self.state self.old self.new result }
         ensures alone { AnswersAsked Self.state self.old self.new T.over T.tree No param_env variance lhs rhs result }
@@ -170,7 +171,7 @@ pub trait RelateExt: InferCtxtLike {
         ensures agrees { RelatesAgreeing Self.state self.old self.new T.over T.tree Yes Invariant lhs rhs result }
         ensures complete { Complete Self.state self.old self.new T.over T.tree Yes param_env Invariant lhs rhs result }
         ensures met { RelatesWhereAsked Self.state self.old self.new T.over T.tree param_env Invariant lhs rhs result }
-        ensures asked { AddsJustAsked Self.state self.old self.new T.over T.tree Yes param_env Invariant lhs rhs result }
+        ensures asked { JustAsked Self.state self.old self.new T.over T.tree Yes param_env Invariant lhs rhs result }
         ensures spent { IfSpent result ((Self.state self.new).store.budget ≡ 0) }
         ensures same { AreOne (Self.state self.old) T.over T.tree lhs rhs → Idle Self.state self.old self.new result }
         ensures goals { AnswersOnly Self.state self.old self.new Yes param_env Invariant result }
@@ -216,7 +217,7 @@ impl<Infcx: InferCtxtLike> RelateExt for Infcx {
         ensures agrees { RelatesAgreeing Infcx.state self.old self.new T.over T.tree No variance lhs rhs result }
         ensures complete { Complete Infcx.state self.old self.new T.over T.tree No param_env variance lhs rhs result }
         ensures met { RelatesWhereAsked Infcx.state self.old self.new T.over T.tree param_env variance lhs rhs result }
-        ensures asked { AddsJustAsked Infcx.state self.old self.new T.over T.tree No param_env variance lhs rhs result }
+        ensures asked { JustAsked Infcx.state self.old self.new T.over T.tree No param_env variance lhs rhs result }
         ensures spent { IfSpent result ((Infcx.state self.new).store.budget ≡ 0) }
         ensures same { AreOne (Infcx.state self.old) T.over T.tree lhs rhs → Idle Infcx.state self.old self.new result }
         ensures alone { AnswersAsked Infcx.state self.old self.new T.over T.tree No param_env variance lhs rhs result }
@@ -270,7 +271,7 @@ impl<Infcx: InferCtxtLike> RelateExt for Infcx {
         ensures agrees { RelatesAgreeing Infcx.state self.old self.new T.over T.tree Yes Invariant lhs rhs result }
         ensures complete { Complete Infcx.state self.old self.new T.over T.tree Yes param_env Invariant lhs rhs result }
         ensures met { RelatesWhereAsked Infcx.state self.old self.new T.over T.tree param_env Invariant lhs rhs result }
-        ensures asked { AddsJustAsked Infcx.state self.old self.new T.over T.tree Yes param_env Invariant lhs rhs result }
+        ensures asked { JustAsked Infcx.state self.old self.new T.over T.tree Yes param_env Invariant lhs rhs result }
         ensures spent { IfSpent result ((Infcx.state self.new).store.budget ≡ 0) }
         ensures same { AreOne (Infcx.state self.old) T.over T.tree lhs rhs → Idle Infcx.state self.old self.new result }
         ensures goals { AnswersOnly Infcx.state self.old self.new Yes param_env Invariant result }
@@ -326,7 +327,7 @@ fn relate_as<Infcx: InferCtxtLike, T: Relate<Infcx::Interner>>(
     ensures apart { TellsApart Infcx.state infcx.old infcx.new T.over T.tree lhs rhs result }
     ensures errors { AnswersError Infcx.state infcx.old infcx.new T.over T.tree aliases variance lhs rhs result }
     ensures agrees { RelatesAgreeing Infcx.state infcx.old infcx.new T.over T.tree aliases variance lhs rhs result }
-    ensures asked { AddsJustAsked Infcx.state infcx.old infcx.new T.over T.tree aliases param_env variance lhs rhs result }
+    ensures asked { JustAsked Infcx.state infcx.old infcx.new T.over T.tree aliases param_env variance lhs rhs result }
     ensures spent { IfSpent result ((Infcx.state infcx.new).store.budget ≡ 0) }
     ensures same { AreOne (Infcx.state infcx.old) T.over T.tree lhs rhs → Idle Infcx.state infcx.old infcx.new result }
     ensures alone { AnswersAsked Infcx.state infcx.old infcx.new T.over T.tree aliases param_env variance lhs rhs result }

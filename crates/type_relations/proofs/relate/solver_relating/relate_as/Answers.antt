@@ -22,7 +22,7 @@ use Rattle.relation_semantics.proofs.Building.{built_itself}
 use Rattle.type_relations.proofs.OverContext.{all_taken}
 use Rattle.type_relations.proofs.Solving.{keeps_beside, none_held, answers_goals, keeps_equal, relates_agreeing, registers_goals, no_goals_exactly}
 use Rattle.type_relations.proofs.Solving.{adds_just_asked}
-use Rattle.relation_semantics.specs.Recording.{JustAsked}
+use Rattle.relation_semantics.specs.Recording.{IsJustAsked}
 use Rattle.relation_semantics.proofs.Recording.{nothing_asked}
 use Rattle.relation_semantics.proofs.Agreeing.{agree_same}
 use Rattle.type_relations.proofs.relate.solver_relating.relate_as.Goals as goal
@@ -143,7 +143,7 @@ returns-then-eq-clause-asked g c = λ bare.
     let s = g.Infcx.InferCtxtLike.state c.args.infcx.now in
     let a = term_in s g.T.Relate.over g.T.HasTree.tree c.args.lhs in
     let b = term_in s g.T.Relate.over g.T.HasTree.tree c.args.rhs in
-    subst (λ gs. JustAsked (items_of s.meaning) ((s.meaning).param_env c.args.param_env) c.args.variance a b
+    subst (λ gs. IsJustAsked (items_of s.meaning) ((s.meaning).param_env c.args.param_env) c.args.variance a b
     (s.store).constraints (s.store).constraints (goals_of s.meaning gs)) (sym c.new.ensures.items)
     (nothing_asked (items_of s.meaning) ((s.meaning).param_env c.args.param_env) c.args.variance a b (s.store).constraints
     (equal_one (g.met.Infcx.InferCtxtLike.reads c.args.infcx.now) g.T.Relate.over g.T.HasTree.tree
