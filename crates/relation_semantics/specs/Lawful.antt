@@ -7,8 +7,7 @@
 --   Takes M v t                           it takes t at v
 --   Turned v r q                          from r to q only the ambient variance was changed, to v
 --   WithMeaning r m q                     only the interner's keys were added to
---   Passes n r q                          a pair of size n was related, or a part of that work done: what there was
---                                         stands
+--   Passes n r q                          a pair of size n was related, or a part of that work done: what was stands
 --   Asked M r v a b                       two known terms of the context that the relation takes at v
 --   Related M r q v a b tree result       they were related, and what the result says of them, by its term
 --   RelatedBy M r q way a b tree result   so was a pair that is met, by whatever way
@@ -17,8 +16,7 @@
 --   Refuses r q v a b fault               what a fault says of a and b at v
 --   ExactResult st st' a b result         what a result says besides, where exactness is promised
 --   Stepped M F r q a b tree result       a step was taken: to an answer, to two forms that are F, or to another pair
---   Leads r q gs a b v x y                it led to x and y at v: what relates these relates a and b at the ambient
---                                         variance
+--   Leads r q gs a b v x y                it led to x and y at v: what relates these relates a and b
 --   Shown M r v a b                       what is known of two terms that were related
 --   HasRelated M r p                      a pair of types was related
 --   RemembersAtMost r q p result          at most that pair is remembered besides what was
