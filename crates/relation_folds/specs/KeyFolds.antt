@@ -19,17 +19,17 @@ module _ {Key Id Name F E : Type 0} (puts : Meaning Key Id Name → F → ℕ �
   LeavesAs tree eq a result = IfOk result (λ x. folded (puts m f) 0 (tree m a) ≡ tree m a → IsTrue (eq x a))
 
   -- The same of a type, a region, a constant and a list of arguments, whose keys are compared.
-  abbrev pub LeavesTy : (Key → Key → Bool) → TyKey Key → Result (TyKey Key) E → Type 0
-  LeavesTy eq k result = LeavesAs (λ m. m.ty) (λ k l. eq k.0 l.0) k result
+  abbrev pub LeavesTyAs : (Key → Key → Bool) → TyKey Key → Result (TyKey Key) E → Type 0
+  LeavesTyAs eq k result = LeavesAs (λ m. m.ty) (λ k l. eq k.0 l.0) k result
 
-  abbrev pub LeavesRegion : (Key → Key → Bool) → RegionKey Key → Result (RegionKey Key) E → Type 0
-  LeavesRegion eq k result = LeavesAs (λ m. m.region) (λ k l. eq k.0 l.0) k result
+  abbrev pub LeavesRegionAs : (Key → Key → Bool) → RegionKey Key → Result (RegionKey Key) E → Type 0
+  LeavesRegionAs eq k result = LeavesAs (λ m. m.region) (λ k l. eq k.0 l.0) k result
 
-  abbrev pub LeavesConst : (Key → Key → Bool) → ConstKey Key → Result (ConstKey Key) E → Type 0
-  LeavesConst eq k result = LeavesAs (λ m. m.const_) (λ k l. eq k.0 l.0) k result
+  abbrev pub LeavesConstAs : (Key → Key → Bool) → ConstKey Key → Result (ConstKey Key) E → Type 0
+  LeavesConstAs eq k result = LeavesAs (λ m. m.const_) (λ k l. eq k.0 l.0) k result
 
-  abbrev pub LeavesArgs : (Key → Key → Bool) → ArgsKey Key → Result (ArgsKey Key) E → Type 0
-  LeavesArgs eq k result = LeavesAs (λ m. m.args) (λ k l. eq k.0 l.0) k result
+  abbrev pub LeavesArgsAs : (Key → Key → Bool) → ArgsKey Key → Result (ArgsKey Key) E → Type 0
+  LeavesArgsAs eq k result = LeavesAs (λ m. m.args) (λ k l. eq k.0 l.0) k result
 
   module _ (n : Meaning Key Id Name) where
     -- The answer at a term under so many binders is what is put for its tree.

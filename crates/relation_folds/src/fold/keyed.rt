@@ -3,7 +3,7 @@ ghost use Rattle.std.specs.Prelude.{IsTrue, IfOk};
 ghost use Rattle.relation_terms.specs.Trees.{known};
 ghost use Rattle.relation_folds.specs.Folds.{Steps};
 ghost use Rattle.relation_folds.specs.KeyFolds.{FoldsTy, FoldsTyParts, FoldsRegion, FoldsConst, FoldsConstParts};
-ghost use Rattle.relation_folds.specs.KeyFolds.{FoldsArgs, LeavesTy, LeavesRegion, LeavesConst, LeavesArgs};
+ghost use Rattle.relation_folds.specs.KeyFolds.{FoldsArgs, LeavesTyAs, LeavesRegionAs, LeavesConstAs, LeavesArgsAs};
 
 use crate::fold::TypeFolder;
 use crate::fold::walk::{fold_list, fold_part, fold_parts};
@@ -21,7 +21,7 @@ pub fn fold_ty_with<I: Interner, F: TypeFolder<I>>(
     ensures steps { Steps F.ready F.replaces (I.meaning cx.old) folder.old (I.meaning cx.new) folder.new }
     ensures sure { IfOk result (λ k. IsTrue (known ((I.meaning cx.new).ty k))) }
     ensures made { FoldsTy F.replaces (I.meaning cx.old) folder.old (I.meaning cx.new) ty.now result }
-    ensures same { LeavesTy F.replaces (I.meaning cx.old) folder.old I.Key.eq ty.now result }
+    ensures same { LeavesTyAs F.replaces (I.meaning cx.old) folder.old I.Key.eq ty.now result }
 {
     Ok(the_ty(&fold_part(cx, &Part::Ty(*ty), 0, folder)?))
 }
@@ -52,7 +52,7 @@ pub fn fold_region_with<I: Interner, F: TypeFolder<I>>(
     ensures steps { Steps F.ready F.replaces (I.meaning cx.old) folder.old (I.meaning cx.new) folder.new }
     ensures sure { IfOk result (λ k. IsTrue (known ((I.meaning cx.new).region k))) }
     ensures made { FoldsRegion F.replaces (I.meaning cx.old) folder.old (I.meaning cx.new) region.now result }
-    ensures same { LeavesRegion F.replaces (I.meaning cx.old) folder.old I.Key.eq region.now result }
+    ensures same { LeavesRegionAs F.replaces (I.meaning cx.old) folder.old I.Key.eq region.now result }
 {
     Ok(the_region(&fold_part(cx, &Part::Region(*region), 0, folder)?))
 }
@@ -68,7 +68,7 @@ pub fn fold_const_with<I: Interner, F: TypeFolder<I>>(
     ensures steps { Steps F.ready F.replaces (I.meaning cx.old) folder.old (I.meaning cx.new) folder.new }
     ensures sure { IfOk result (λ k. IsTrue (known ((I.meaning cx.new).const_ k))) }
     ensures made { FoldsConst F.replaces (I.meaning cx.old) folder.old (I.meaning cx.new) constant.now result }
-    ensures same { LeavesConst F.replaces (I.meaning cx.old) folder.old I.Key.eq constant.now result }
+    ensures same { LeavesConstAs F.replaces (I.meaning cx.old) folder.old I.Key.eq constant.now result }
 {
     Ok(the_const(&fold_part(cx, &Part::Const(*constant), 0, folder)?))
 }
@@ -99,7 +99,7 @@ pub fn fold_args_with<I: Interner, F: TypeFolder<I>>(
     ensures steps { Steps F.ready F.replaces (I.meaning cx.old) folder.old (I.meaning cx.new) folder.new }
     ensures sure { IfOk result (λ k. IsTrue (known ((I.meaning cx.new).args k))) }
     ensures made { FoldsArgs F.replaces (I.meaning cx.old) folder.old (I.meaning cx.new) args.now result }
-    ensures same { LeavesArgs F.replaces (I.meaning cx.old) folder.old I.Key.eq args.now result }
+    ensures same { LeavesArgsAs F.replaces (I.meaning cx.old) folder.old I.Key.eq args.now result }
 {
     Ok(the_args(&fold_list(cx, &Parts::Args(*args), 0, folder)?))
 }
