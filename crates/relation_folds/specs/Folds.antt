@@ -9,6 +9,7 @@ use Rattle.relation_terms.specs.declared.terms.part_kind.Part.TheVariants.{Regio
 use Rattle.relation_terms.specs.declared.terms.part_kind.Part.TheVariants.{Object, Binder}
 use Rattle.std.specs.HashMap.{HashMap, get}
 use Rattle.relation_folds.specs.declared.fold.Fold.{Fold}
+use Rattle.relation_folds.specs.declared.fold.memory.Memory.{Memory}
 use Rattle.relation_folds.specs.declared.fold.memory.Place.{Place}
 use Rattle.relation_folds.specs.declared.fold.Fold.TheVariants.{Descend, Replace}
 
@@ -120,7 +121,7 @@ module _ {Key Id Name : Type 0} (m : Meaning Key Id Name) (puts : ℕ → Tree �
   abbrev pub Remembers : {S : Type 0} → (Place Key → Place Key → Bool) → HashMap (Place Key) (Part Key Id) S → Type 0
   Remembers eq memory = (q : Place Key) (by : Part Key Id) → get eq memory q ≡ Some by → IsKept eq q by
 
--- The same, of what a folder puts under one meaning.
-abbrev pub Recalls : {Key Id Name F S : Type 0} → (Meaning Key Id Name → F → ℕ → Tree → Option Tree) →
-    Meaning Key Id Name → F → (Place Key → Place Key → Bool) → HashMap (Place Key) (Part Key Id) S → Type 0
-Recalls puts m f eq memory = Remembers m (puts m f) eq memory
+-- The same, of what a folder puts under one interner's meaning.
+abbrev pub Recalls : {I Key Id Name F : Type 0} → (Meaning Key Id Name → F → ℕ → Tree → Option Tree) →
+    (I → Meaning Key Id Name) → I → F → (Place Key → Place Key → Bool) → Memory Key Id → Type 0
+Recalls puts meaning cx f eq memory = Remembers (meaning cx) (puts (meaning cx) f) eq memory.made

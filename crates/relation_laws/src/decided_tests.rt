@@ -88,97 +88,100 @@ const FORTH: (bool, bool, bool) = (true, false, false);
 
 const BACK: (bool, bool, bool) = (false, true, false);
 
+// Terms without parts, and whether they are related at each variance.
+const LEAVES: [(SmallLeaf, SmallLeaf, (bool, bool, bool)); 35] = [
+    (SmallLeaf::Bool, SmallLeaf::Bool, ALWAYS),
+    (SmallLeaf::Bool, SmallLeaf::Char, NEVER),
+    (SmallLeaf::Char, SmallLeaf::Char, ALWAYS),
+    (SmallLeaf::Char, SmallLeaf::Str, NEVER),
+    (SmallLeaf::Str, SmallLeaf::Str, ALWAYS),
+    (SmallLeaf::Str, SmallLeaf::Never, NEVER),
+    (SmallLeaf::Never, SmallLeaf::Never, ALWAYS),
+    (SmallLeaf::Never, SmallLeaf::Bool, NEVER),
+    (SmallLeaf::Int(IntTy::I8), SmallLeaf::Int(IntTy::I8), ALWAYS),
+    (SmallLeaf::Int(IntTy::I8), SmallLeaf::Int(IntTy::I16), NEVER),
+    (U8, U8, ALWAYS),
+    (U8, SmallLeaf::Uint(UintTy::U16), NEVER),
+    (U8, SmallLeaf::Int(IntTy::I8), NEVER),
+    (
+        SmallLeaf::Float(FloatTy::F32),
+        SmallLeaf::Float(FloatTy::F32),
+        ALWAYS,
+    ),
+    (
+        SmallLeaf::Float(FloatTy::F32),
+        SmallLeaf::Float(FloatTy::F64),
+        NEVER,
+    ),
+    (SmallLeaf::Foreign(1), SmallLeaf::Foreign(1), ALWAYS),
+    (SmallLeaf::Foreign(1), SmallLeaf::Foreign(2), NEVER),
+    (
+        SmallLeaf::TypeParam(0, 1),
+        SmallLeaf::TypeParam(0, 2),
+        ALWAYS,
+    ),
+    (
+        SmallLeaf::TypeParam(0, 1),
+        SmallLeaf::TypeParam(1, 1),
+        NEVER,
+    ),
+    (
+        SmallLeaf::ConstParam(0, 1),
+        SmallLeaf::ConstParam(0, 2),
+        ALWAYS,
+    ),
+    (
+        SmallLeaf::ConstParam(0, 1),
+        SmallLeaf::ConstParam(1, 1),
+        NEVER,
+    ),
+    (
+        SmallLeaf::TypePlaceholder(1, 0),
+        SmallLeaf::TypePlaceholder(1, 0),
+        ALWAYS,
+    ),
+    (
+        SmallLeaf::TypePlaceholder(1, 0),
+        SmallLeaf::TypePlaceholder(2, 0),
+        NEVER,
+    ),
+    (
+        SmallLeaf::ConstPlaceholder(1, 0),
+        SmallLeaf::ConstPlaceholder(1, 0),
+        ALWAYS,
+    ),
+    (
+        SmallLeaf::ConstPlaceholder(1, 0),
+        SmallLeaf::ConstPlaceholder(1, 1),
+        NEVER,
+    ),
+    (SmallLeaf::TypeError, U8, ALWAYS),
+    (U8, SmallLeaf::TypeError, ALWAYS),
+    (SmallLeaf::TypeError, A, NEVER),
+    (SmallLeaf::ConstError, SmallLeaf::ConstParam(0, 0), ALWAYS),
+    (SmallLeaf::ConstError, U8, NEVER),
+    (
+        SmallLeaf::ValueLeaf(1, 1),
+        SmallLeaf::ValueLeaf(1, 1),
+        ALWAYS,
+    ),
+    (
+        SmallLeaf::ValueLeaf(1, 1),
+        SmallLeaf::ValueLeaf(2, 1),
+        NEVER,
+    ),
+    (
+        SmallLeaf::ValueLeaf(1, 1),
+        SmallLeaf::ValueLeaf(1, 2),
+        NEVER,
+    ),
+    (SmallLeaf::NotNull, SmallLeaf::NotNull, ALWAYS),
+    (SmallLeaf::NotNull, SmallLeaf::ValueLeaf(1, 1), NEVER),
+];
+
 #[test]
 fn terms_without_parts(rt: HostRuntime) {
-    for (a, b, want) in [
-        (SmallLeaf::Bool, SmallLeaf::Bool, ALWAYS),
-        (SmallLeaf::Bool, SmallLeaf::Char, NEVER),
-        (SmallLeaf::Char, SmallLeaf::Char, ALWAYS),
-        (SmallLeaf::Char, SmallLeaf::Str, NEVER),
-        (SmallLeaf::Str, SmallLeaf::Str, ALWAYS),
-        (SmallLeaf::Str, SmallLeaf::Never, NEVER),
-        (SmallLeaf::Never, SmallLeaf::Never, ALWAYS),
-        (SmallLeaf::Never, SmallLeaf::Bool, NEVER),
-        (SmallLeaf::Int(IntTy::I8), SmallLeaf::Int(IntTy::I8), ALWAYS),
-        (SmallLeaf::Int(IntTy::I8), SmallLeaf::Int(IntTy::I16), NEVER),
-        (U8, U8, ALWAYS),
-        (U8, SmallLeaf::Uint(UintTy::U16), NEVER),
-        (U8, SmallLeaf::Int(IntTy::I8), NEVER),
-        (
-            SmallLeaf::Float(FloatTy::F32),
-            SmallLeaf::Float(FloatTy::F32),
-            ALWAYS,
-        ),
-        (
-            SmallLeaf::Float(FloatTy::F32),
-            SmallLeaf::Float(FloatTy::F64),
-            NEVER,
-        ),
-        (SmallLeaf::Foreign(1), SmallLeaf::Foreign(1), ALWAYS),
-        (SmallLeaf::Foreign(1), SmallLeaf::Foreign(2), NEVER),
-        (
-            SmallLeaf::TypeParam(0, 1),
-            SmallLeaf::TypeParam(0, 2),
-            ALWAYS,
-        ),
-        (
-            SmallLeaf::TypeParam(0, 1),
-            SmallLeaf::TypeParam(1, 1),
-            NEVER,
-        ),
-        (
-            SmallLeaf::ConstParam(0, 1),
-            SmallLeaf::ConstParam(0, 2),
-            ALWAYS,
-        ),
-        (
-            SmallLeaf::ConstParam(0, 1),
-            SmallLeaf::ConstParam(1, 1),
-            NEVER,
-        ),
-        (
-            SmallLeaf::TypePlaceholder(1, 0),
-            SmallLeaf::TypePlaceholder(1, 0),
-            ALWAYS,
-        ),
-        (
-            SmallLeaf::TypePlaceholder(1, 0),
-            SmallLeaf::TypePlaceholder(2, 0),
-            NEVER,
-        ),
-        (
-            SmallLeaf::ConstPlaceholder(1, 0),
-            SmallLeaf::ConstPlaceholder(1, 0),
-            ALWAYS,
-        ),
-        (
-            SmallLeaf::ConstPlaceholder(1, 0),
-            SmallLeaf::ConstPlaceholder(1, 1),
-            NEVER,
-        ),
-        (SmallLeaf::TypeError, U8, ALWAYS),
-        (U8, SmallLeaf::TypeError, ALWAYS),
-        (SmallLeaf::TypeError, A, NEVER),
-        (SmallLeaf::ConstError, SmallLeaf::ConstParam(0, 0), ALWAYS),
-        (SmallLeaf::ConstError, U8, NEVER),
-        (
-            SmallLeaf::ValueLeaf(1, 1),
-            SmallLeaf::ValueLeaf(1, 1),
-            ALWAYS,
-        ),
-        (
-            SmallLeaf::ValueLeaf(1, 1),
-            SmallLeaf::ValueLeaf(2, 1),
-            NEVER,
-        ),
-        (
-            SmallLeaf::ValueLeaf(1, 1),
-            SmallLeaf::ValueLeaf(1, 2),
-            NEVER,
-        ),
-        (SmallLeaf::NotNull, SmallLeaf::NotNull, ALWAYS),
-        (SmallLeaf::NotNull, SmallLeaf::ValueLeaf(1, 1), NEVER),
-    ] {
+    for (a, b, want) in LEAVES {
         assert!(rt; leaves(a, b) == want);
     }
 }
@@ -347,6 +350,12 @@ fn declared_and_fixed_arguments(rt: HostRuntime) -> Result<(), Fail> {
         assert!(rt; varying(alloc, &[Variance::Covariant], head)? == NEVER);
         assert!(rt; equal(alloc, &[Variance::Covariant], head)? == ALWAYS);
     }
+    Ok(())
+}
+
+#[test]
+fn arguments_of_unlike_items(rt: HostRuntime) -> Result<(), Fail> {
+    let alloc = rt.alloc();
     for items in [
         (SmallHead::Adt(1), SmallHead::Adt(2)),
         (SmallHead::FnDef(1), SmallHead::FnDef(2)),
@@ -391,7 +400,6 @@ fn values_and_arrays(rt: HostRuntime) -> Result<(), Fail> {
 fn patterns(rt: HostRuntime) -> Result<(), Fail> {
     let alloc = rt.alloc();
     let range = SmallHead::RangePattern;
-    let pattern = SmallHead::PatternType;
     let from = (value(alloc, U8, 1), value(alloc, U8, 2));
     assert!(rt;
         twos(
@@ -423,6 +431,14 @@ fn patterns(rt: HostRuntime) -> Result<(), Fail> {
         )? == NEVER
     );
     assert!(rt; pair(simple(SmallLeaf::NotNull), none(alloc, range))? == NEVER);
+    Ok(())
+}
+
+#[test]
+fn pattern_types(rt: HostRuntime) -> Result<(), Fail> {
+    let alloc = rt.alloc();
+    let range = SmallHead::RangePattern;
+    let pattern = SmallHead::PatternType;
     let long = (shared(alloc, A), simple(SmallLeaf::NotNull));
     let short = (shared(alloc, A), simple(SmallLeaf::NotNull));
     assert!(rt; twos(alloc, pattern, long, short)? == ALWAYS);

@@ -1,6 +1,5 @@
 -- What contracts see of a `RefCtxt`, by what the keys of its interner mean.
-use Rattle.std.specs.Prelude.{◌≡◌, ℕ, List, [], false}
-use Rattle.relation_terms.specs.declared.predicate.regions.OutlivesPredicate.{OutlivesPredicate}
+use Rattle.std.specs.Prelude.{◌≡◌, ℕ, [], false}
 use Rattle.relation_terms.specs.declared.terms.keys.TyKey.{TyKey}
 use Rattle.relation_terms.specs.declared.terms.keys.ConstKey.{ConstKey}
 use Rattle.relation_terms.specs.declared.terms.part_kind.Part.{Part}
@@ -30,10 +29,6 @@ module _ {Key : Type 0} where
   -- The root of each variable among those that are marked as related.
   abbrev pub sub_root_in : InferCtxtInner Key → ℕ → ℕ
   sub_root_in x = root_in x.sub_roots.items
-
-  -- The types that are to outlive regions.
-  abbrev pub outliving_in : InferCtxtInner Key → List (OutlivesPredicate Key (TyKey Key))
-  outliving_in x = x.ty_outlives.items
 
 module _ {I Key Id Name Span : Type 0} (meaning : I → Meaning Key Id Name) where
   -- The store that its tables record.

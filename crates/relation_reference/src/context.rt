@@ -10,7 +10,6 @@ mod inner;
 mod instantiating;
 mod memory;
 mod numbers;
-mod outliving;
 mod reading;
 mod recording;
 mod resolving;

@@ -15,6 +15,7 @@ use crate::quick::write_key;
 use crate::visiting::write_met;
 use crate::walking::write_walked;
 use relation_reference::context::RefCtxt;
+use relation_semantics::infer_ctxt::InferCtxtLike;
 use relation_terms::terms::{GenericArg, Interner};
 use std::fmt::{self, Write};
 use text_elaboration::pulls::write_pulls;

@@ -18,7 +18,7 @@ use Rattle.text_reading.specs.declared.naming.program.Parts.{Parts}
 use Rattle.text_reading.specs.declared.naming.program.Term.{Term}
 use Rattle.text_reading.specs.declared.naming.program.Term.TheVariants as term
 use Rattle.text_terms.specs.Terms.{at, parts_tree, leaf_of, item_tree, head_of, variable_of, with_variable, variables_of}
-use Rattle.text_terms.specs.Terms.{term_tree, trees_from}
+use Rattle.text_terms.specs.Terms.{text_term_tree, trees_from}
 use Rattle.text_needs.specs.declared.binding.BoundSort.{BoundSort}
 use Rattle.text_needs.specs.declared.binding.Outer.{Outer}
 use Rattle.text_needs.specs.declared.binding.Uses.{Uses}
@@ -242,7 +242,7 @@ module _ (items names parts : List ℕ) (ts : List Tree) (us : List Uses) (told 
 
   -- What is said of a term is so.
   module _ (u : Uses) where
-    term_told : (x : Term) → SaysOf parts us x u → Tells (Some u) (term_tree items names parts ts x)
+    term_told : (x : Term) → SaysOf parts us x u → Tells (Some u) (text_term_tree items names parts ts x)
     term_told term.Bool s = (tt, λ b. tt)
     term_told term.Char s = (tt, λ b. tt)
     term_told term.Str s = (tt, λ b. tt)
@@ -342,21 +342,21 @@ more_told (x ∷ ts) [] l e t u h k = absurd (omega (arith, l))
 
 module _ (items names parts : List ℕ) where
   pub term_more_told : (ts : List Tree) (us : List Uses) → length ts ≡ length us → AreTold ts us → (x : Term) (u : Uses) →
-      SaysOf parts us x u → AreTold (ts ++ term_tree items names parts ts x ∷ []) (us ++ u ∷ [])
+      SaysOf parts us x u → AreTold (ts ++ text_term_tree items names parts ts x ∷ []) (us ++ u ∷ [])
   term_more_told ts us l e x u s =
-      more_told ts us l e (term_tree items names parts ts x) u (term_told items names parts ts us e u x s)
+      more_told ts us l e (text_term_tree items names parts ts x) u (term_told items names parts ts us e u x s)
 
   -- The tree of a number stays what it is while terms are added.
   before_stays : (ts : List Tree) (xs : List Term) (k : ℕ) → k < length ts → at (trees_from items names parts ts xs) k ≡ at ts k
   before_stays ts [] k l = refl
   before_stays ts (x ∷ xs) k l =
-      let t = term_tree items names parts ts x in
+      let t = text_term_tree items names parts ts x in
       let longer = length_push ts t in
       before_stays (ts ++ t ∷ []) xs k (omega (arith, l, longer)) ∙ get_or_append_left ts (t ∷ []) (leaf unknown) k l
 
   pub next_is : (ts : List Tree) (x : Term) (xs : List Term) →
-      at (trees_from items names parts ts (x ∷ xs)) (length ts) ≡ term_tree items names parts ts x
+      at (trees_from items names parts ts (x ∷ xs)) (length ts) ≡ text_term_tree items names parts ts x
   next_is ts x xs =
-      let t = term_tree items names parts ts x in
+      let t = text_term_tree items names parts ts x in
       let longer = length_push ts t in
       before_stays (ts ++ t ∷ []) xs (length ts) (omega (arith, longer)) ∙ get_or_push ts t (leaf unknown) (length ts) refl

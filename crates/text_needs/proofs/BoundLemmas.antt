@@ -7,7 +7,7 @@ use Rattle.relation_terms.specs.Trees.{Tree, leaf}
 use Rattle.relation_semantics.specs.Relation.{StaysWithin}
 use Rattle.relation_semantics.specs.Bound.{BindByLists}
 use Rattle.text_reading.specs.declared.naming.program.Term.{Term}
-use Rattle.text_terms.specs.Terms.{term_tree, trees_of}
+use Rattle.text_terms.specs.Terms.{text_term_tree, trees_of}
 use Rattle.text_needs.specs.declared.binding.Uses.{Uses}
 use Rattle.text_needs.specs.declared.needs.Needs.{Needs}
 use Rattle.text_needs.specs.Binding.{Tells, AreTold}
@@ -25,11 +25,11 @@ module _ (items names parts : List ℕ) where
   missing_bound = ((λ c. tt), λ l. tt)
 
   told_bound : (ts : List Tree) (ns : List Needs) → HoldsOfEach IsBoundBy ts ns → (x : Term) (o : Option Uses) →
-      Tells o (term_tree items names parts ts x) → IsBoundBy (told o (term_need parts ns x)) (term_tree items names parts ts x)
+      Tells o (text_term_tree items names parts ts x) → IsBoundBy (told o (term_need parts ns x)) (text_term_tree items names parts ts x)
   told_bound ts ns h x None said = subst (IsBoundBy (term_need parts ns x)) (sym said) ((λ c. tt), λ l. tt)
   told_bound ts ns h x (Some u) said = (
     (λ c. used_none (u.outer).items (sym (u.outer).ok.0 ∙ eqb-true (vec_len u.outer) 0 c) 0
-        (term_tree items names parts ts x) said.0),
+        (text_term_tree items names parts ts x) said.0),
     said.1,
   )
 

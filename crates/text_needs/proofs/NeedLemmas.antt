@@ -22,7 +22,7 @@ use Rattle.text_reading.specs.declared.reading.tree.ItemSort.{ItemSort}
 use Rattle.text_reading.specs.declared.reading.tree.ItemSort.TheVariants as sort
 use Rattle.text_reading.specs.declared.naming.program.Term.{Term}
 use Rattle.text_reading.specs.declared.naming.program.Term.TheVariants as term
-use Rattle.text_terms.specs.Terms.{at, parts_tree, leaf_of, item_tree, term_tree, trees_from, trees_of}
+use Rattle.text_terms.specs.Terms.{at, parts_tree, leaf_of, item_tree, text_term_tree, trees_from, trees_of}
 use Rattle.text_terms.specs.Terms.{variables_of, fn_ptr_tree, head_of, object_tree}
 use Rattle.text_needs.specs.Needs.{larger, both_needs, no_needs, universe_need, told, need_at, needs_with}
 use Rattle.text_needs.specs.Needs.{parts_need, term_need, needs_from, needs_of, Reaches, largest, IsEnough, Allows, AreEnough}
@@ -207,14 +207,14 @@ module _ (items names parts : List ℕ) (P : Needs → Tree → Type 0) (missing
   none_hold (suc k) = missing
 
   module _ (each : (ts : List Tree) (ns : List Needs) → HoldsOfEach P ts ns → (x : Term) (o : Option Uses) →
-      Tells o (term_tree items names parts ts x) → P (told o (term_need parts ns x)) (term_tree items names parts ts x))
+      Tells o (text_term_tree items names parts ts x) → P (told o (term_need parts ns x)) (text_term_tree items names parts ts x))
       (us : List Uses) where
     holds_from : (ts : List Tree) (ns : List Needs) → length ts ≡ length ns → HoldsOfEach P ts ns → (xs : List Term) →
         AreTold (trees_from items names parts ts xs) us →
         HoldsOfEach P (trees_from items names parts ts xs) (needs_from parts us ns xs)
     holds_from ts ns l e [] h = e
     holds_from ts ns l e (x ∷ xs) h =
-        let t = term_tree items names parts ts x in
+        let t = text_term_tree items names parts ts x in
         let o = slice_get us (length ns) in
         let said : Tells o t = subst (λ k. Tells (slice_get us k) t) l
         (subst (Tells (slice_get us (length ts))) (next_is items names parts ts x xs) (h (length ts))) in
@@ -229,7 +229,7 @@ module _ (items names parts : List ℕ) (P : Needs → Tree → Type 0) (missing
 module _ (items names parts : List ℕ) where
   -- What a term needs is enough for it.
   term_enough : (ts : List Tree) (ns : List Needs) → AreEnough ts ns → (x : Term) →
-      Allows (term_need parts ns x) (term_tree items names parts ts x)
+      Allows (term_need parts ns x) (text_term_tree items names parts ts x)
   term_enough ts ns e term.Bool = tt
   term_enough ts ns e term.Char = tt
   term_enough ts ns e term.Str = tt
@@ -302,9 +302,9 @@ module _ (items names parts : List ℕ) where
       under_allowed no_needs (variables_of (parts_tree parts ts v)) _ (leaf_enough no_needs _ (λ x. tt) (slice_get items d))
 
   told_enough : (ts : List Tree) (ns : List Needs) → AreEnough ts ns → (x : Term) (o : Option Uses) →
-      Tells o (term_tree items names parts ts x) → Allows (told o (term_need parts ns x)) (term_tree items names parts ts x)
+      Tells o (text_term_tree items names parts ts x) → Allows (told o (term_need parts ns x)) (text_term_tree items names parts ts x)
   told_enough ts ns e x o said =
-      allows_told o (term_need parts ns x) (term_tree items names parts ts x) (term_enough ts ns e x)
+      allows_told o (term_need parts ns x) (text_term_tree items names parts ts x) (term_enough ts ns e x)
 
   -- What all terms of a program need is enough for them.
   pub all_enough : (us : List Uses) (xs : List Term) → AreTold (trees_of items names parts xs) us →

@@ -7,7 +7,7 @@ use Rattle.std.proofs.lemmas.List.Elements.{All-push, All-weaker, Contains-push,
 use Rattle.std.proofs.lemmas.Option.{IfSome_then}
 use Rattle.text_reading.specs.declared.naming.program.Parts.{Parts}
 use Rattle.text_reading.specs.declared.naming.program.Term.{Term}
-use Rattle.text_terms.specs.Terms.{term_tree, trees_of}
+use Rattle.text_terms.specs.Terms.{text_term_tree, trees_of}
 use Rattle.text_terms.proofs.BuildingLemmas.{trees_more}
 use Rattle.text_needs.specs.declared.binding.Outer.{Outer}
 use Rattle.text_needs.specs.declared.binding.Uses.{Uses}
@@ -105,7 +105,7 @@ module _ (items names parts : List ℕ) where
       Told (xs ++ x ∷ []) (us ++ u ∷ [])
   told_more xs us x u h s =
       let ts = trees_of items names parts xs in
-      let t = term_tree items names parts ts x in
+      let t = text_term_tree items names parts ts x in
       record {
         as_many = ap length (trees_more items names parts xs x) ∙ length_push ts t ∙ ap (λ n. n + 1) h.as_many
             ∙ sym (length_push us u);

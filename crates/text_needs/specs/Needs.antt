@@ -70,17 +70,21 @@ needs_with ns n (k ∷ ks) = needs_with ns (both_needs n (need_at ns k)) ks
 abbrev pub parts_need : List ℕ → List Needs → Parts → Needs
 parts_need ps ns p = needs_with ns no_needs (slice_range ps p.first p.behind)
 
+-- What a term without parts needs: a variable, or a placeholder.
+abbrev pub leaf_need : Term → Needs
+leaf_need (term.TyVar n) = record no_needs { types = Some n }
+leaf_need (term.IntVar n) = record no_needs { ints = Some n }
+leaf_need (term.FloatVar n) = record no_needs { floats = Some n }
+leaf_need (term.ConstVar n) = record no_needs { consts = Some n }
+leaf_need (term.RegionVar n) = record no_needs { regions = Some n }
+leaf_need (term.TyPlaceholder u v n) = universe_need u
+leaf_need (term.RegionPlaceholder u v n) = universe_need u
+leaf_need (term.ConstPlaceholder u v n) = universe_need u
+leaf_need t = no_needs
+
 module _ (parts : List ℕ) where
   -- What a term needs, by what the terms before it need.
   abbrev pub term_need : List Needs → Term → Needs
-  term_need ns (term.TyVar n) = record no_needs { types = Some n }
-  term_need ns (term.IntVar n) = record no_needs { ints = Some n }
-  term_need ns (term.FloatVar n) = record no_needs { floats = Some n }
-  term_need ns (term.ConstVar n) = record no_needs { consts = Some n }
-  term_need ns (term.RegionVar n) = record no_needs { regions = Some n }
-  term_need ns (term.TyPlaceholder u v n) = universe_need u
-  term_need ns (term.RegionPlaceholder u v n) = universe_need u
-  term_need ns (term.ConstPlaceholder u v n) = universe_need u
   term_need ns (term.Slice t) = need_at ns t
   term_need ns (term.RawPtr t m) = need_at ns t
   term_need ns (term.Number t b n) = need_at ns t
@@ -98,7 +102,7 @@ module _ (parts : List ℕ) where
   term_need ns (term.Object p r) = both_needs (parts_need parts ns p) (need_at ns r)
   term_need ns (term.Implements v d p) = parts_need parts ns p
   term_need ns (term.Projects v d p t) = both_needs (need_at ns t) (parts_need parts ns p)
-  term_need ns t = no_needs
+  term_need ns t = leaf_need t
 
   -- What terms need that stand behind those of these needs; what all need. It is said what each uses.
   abbrev pub needs_from : List Uses → List Needs → List Term → List Needs

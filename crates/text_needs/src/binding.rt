@@ -3,7 +3,7 @@ ghost use Rattle.std.specs.Prelude.{◌≡◌, ℕ, suc, [], ◌∷◌, All, Con
 ghost use Rattle.std.specs.Prelude.{slice_get, slice_range};
 ghost use Rattle.text_needs.specs.declared.binding.Uses.{Uses};
 ghost use Rattle.text_needs.specs.Binding.{AreIn, TakesAll, TakesAt, TakesIf, TakesInside, Behind, HasSort};
-ghost use Rattle.text_needs.specs.Binding.{BindsAll, SaysOf, AreAllTold, own_of, inside_of};
+ghost use Rattle.text_needs.specs.Binding.{BindsAll, SaysOf, AreAllTold, own_of, inside_of, made_of, bound_by};
 
 use crate::needs::number_at;
 use std::alloc::{AllocError, Global};
@@ -215,58 +215,53 @@ const NO_PARTS: Parts = Parts {
     behind: 0,
 };
 
-const NOTHING: Inside = Inside {
-    first: None,
-    second: None,
-    list: NO_PARTS,
-    binder: None,
-};
+// Up to two terms, and a list of terms.
+fn made_of(first: Option<usize>, second: Option<usize>, list: Parts) -> Inside
+    ensures { result ≡ made_of first second list }
+{
+    Inside {
+        first,
+        second,
+        list,
+        binder: None,
+    }
+}
+
+// Up to one term, and a list of terms, under a binder.
+fn bound_by(binder: Parts, first: Option<usize>, list: Parts) -> Inside
+    ensures { result ≡ bound_by binder first list }
+{
+    Inside {
+        first,
+        second: None,
+        list,
+        binder: Some(binder),
+    }
+}
 
 // What a term is made of.
 fn inside_of(term: Term) -> Inside
     ensures { result ≡ inside_of term }
 {
     match term {
-        Term::Slice(only) | Term::RawPtr(only, _) | Term::Number(only, ..) => Inside {
-            first: Some(only),
-            ..NOTHING
-        },
+        Term::Slice(only) | Term::RawPtr(only, _) | Term::Number(only, ..) => {
+            made_of(Some(only), None, NO_PARTS)
+        }
         Term::Array(first, second)
         | Term::Ref(first, second, _)
         | Term::Pat(first, second)
-        | Term::Range(first, second) => Inside {
-            first: Some(first),
-            second: Some(second),
-            ..NOTHING
-        },
-        Term::Item(_, _, list) | Term::Tuple(list) | Term::Expr(_, list) | Term::Or(list) =>
-            Inside { list, ..NOTHING },
-        Term::Branch(first, list) | Term::Object(list, first) => Inside {
-            first: Some(first),
-            list,
-            ..NOTHING
-        },
-        Term::FnPtr(_, binder, list) | Term::Implements(binder, _, list) => Inside {
-            list,
-            binder: Some(binder),
-            ..NOTHING
-        },
-        Term::UnsafeBinder(binder, body) => Inside {
-            first: Some(body),
-            binder: Some(binder),
-            ..NOTHING
-        },
-        Term::Projects(binder, _, list, term) => Inside {
-            first: Some(term),
-            list,
-            binder: Some(binder),
-            ..NOTHING
-        },
-        Term::IsAuto(binder, _) => Inside {
-            binder: Some(binder),
-            ..NOTHING
-        },
-        _ => NOTHING,
+        | Term::Range(first, second) => made_of(Some(first), Some(second), NO_PARTS),
+        Term::Item(_, _, list) | Term::Tuple(list) | Term::Expr(_, list) | Term::Or(list) => {
+            made_of(None, None, list)
+        }
+        Term::Branch(first, list) | Term::Object(list, first) => made_of(Some(first), None, list),
+        Term::FnPtr(_, binder, list) | Term::Implements(binder, _, list) => {
+            bound_by(binder, None, list)
+        }
+        Term::UnsafeBinder(binder, body) => bound_by(binder, Some(body), NO_PARTS),
+        Term::Projects(binder, _, list, term) => bound_by(binder, Some(term), list),
+        Term::IsAuto(binder, _) => bound_by(binder, None, NO_PARTS),
+        _ => made_of(None, None, NO_PARTS),
     }
 }
 

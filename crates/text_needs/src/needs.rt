@@ -1,7 +1,7 @@
 //! What a context has to have for a term to be asked about in it.
 ghost use Rattle.std.specs.Prelude.{◌≡◌, IfOk, max, slice_get};
 ghost use Rattle.text_needs.specs.Needs.{larger, both_needs, universe_need, told};
-ghost use Rattle.text_needs.specs.Needs.{need_at, parts_need, term_need, needs_of};
+ghost use Rattle.text_needs.specs.Needs.{need_at, parts_need, leaf_need, term_need, needs_of};
 
 use crate::binding::Uses;
 use std::alloc::{AllocError, Global};
@@ -108,9 +108,9 @@ fn universe_need(universe: usize) -> Needs
     Needs { universe, ..NONE }
 }
 
-// What a term needs, by what the terms before it need.
-fn term_need(numbers: &[usize], before: &[Needs], term: Term) -> Needs
-    ensures { result ≡ term_need numbers.now before.now term }
+// What a term without parts needs: a variable, or a placeholder.
+fn leaf_need(term: Term) -> Needs
+    ensures { result ≡ leaf_need term }
 {
     match term {
         Term::TyVar(number) => Needs {
@@ -136,6 +136,15 @@ fn term_need(numbers: &[usize], before: &[Needs], term: Term) -> Needs
         Term::TyPlaceholder(universe, ..) => universe_need(universe),
         Term::RegionPlaceholder(universe, ..) => universe_need(universe),
         Term::ConstPlaceholder(universe, ..) => universe_need(universe),
+        _ => NONE,
+    }
+}
+
+// What a term needs, by what the terms before it need.
+fn term_need(numbers: &[usize], before: &[Needs], term: Term) -> Needs
+    ensures { result ≡ term_need numbers.now before.now term }
+{
+    match term {
         Term::Slice(element) => need_at(before, element),
         Term::RawPtr(pointee, _) => need_at(before, pointee),
         Term::Number(ty, ..) => need_at(before, ty),
@@ -148,9 +157,6 @@ fn term_need(numbers: &[usize], before: &[Needs], term: Term) -> Needs
         Term::Pat(base, pat) => both(need_at(before, base), need_at(before, pat)),
         Term::Range(start, end) => both(need_at(before, start), need_at(before, end)),
         Term::Or(parts) => parts_need(numbers, before, parts),
-        Term::TyError | Term::ConstError => NONE,
-        Term::TyBound(..) | Term::RegionBound(..) | Term::ConstBound(..) => NONE,
-        Term::IsAuto(..) => NONE,
         Term::FnPtr(_, _, types) => parts_need(numbers, before, types),
         Term::UnsafeBinder(_, body) => need_at(before, body),
         Term::Object(parts, region) => both(
@@ -162,7 +168,7 @@ fn term_need(numbers: &[usize], before: &[Needs], term: Term) -> Needs
             need_at(before, term),
             parts_need(numbers, before, args),
         ),
-        _ => NONE,
+        _ => leaf_need(term),
     }
 }
 

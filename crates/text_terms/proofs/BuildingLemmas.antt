@@ -11,7 +11,7 @@ use Rattle.term_enums.specs.declared.FnHeader.{FnHeader}
 use Rattle.text_reading.proofs.TreeLemmas.{get_more}
 use Rattle.relation_terms.proofs.Binders.{last_known}
 use Rattle.std.proofs.lemmas.Bool.{and_parts}
-use Rattle.relation_terms.specs.Meaning.{Meaning, Extends, arg_tree, term_tree as term_tree_of, object_predicate_tree, bound_kind_of, bound_kinds}
+use Rattle.relation_terms.specs.Meaning.{Meaning, Extends, arg_tree, term_tree, object_predicate_tree, bound_kind_of, bound_kinds}
 use Rattle.relation_terms.specs.declared.terms.binder.BoundVariableKind.{BoundVariableKind}
 use Rattle.relation_terms.specs.declared.terms.binder.BoundVariableKind.TheVariants.{Ty as TyVariable}
 use Rattle.relation_terms.specs.declared.terms.binder.BoundVariableKind.TheVariants.{Region as RegionVariable}
@@ -30,7 +30,7 @@ use Rattle.text_terms.specs.declared.building.inner.Inner.{Inner}
 use Rattle.text_terms.specs.declared.building.inner.Inner.TheVariants as inner
 use Rattle.text_reading.specs.declared.reading.tree.ItemSort.{ItemSort}
 use Rattle.text_reading.specs.declared.naming.program.Term.{Term}
-use Rattle.text_terms.specs.Terms.{at, leaf_of, head_of, item_tree, term_tree, trees_from, trees_of}
+use Rattle.text_terms.specs.Terms.{at, leaf_of, head_of, item_tree, text_term_tree, trees_from, trees_of}
 use Rattle.text_terms.specs.Terms.{with_variable, variable_of, variables_of, fn_ptr_tree}
 use Rattle.text_terms.specs.Built.{EachKnown, EachBuilt, AreBuilt, AreInnerBuilt, inner_tree, term_arg, Makes, MakesFrom, MakesOf, MakesTree, MakesInner}
 
@@ -112,7 +112,7 @@ inner_stays e (inner.Pat p) k = e.pat p k
 inner_stays e (inner.Predicate b) k = stays_object_predicate e b k
 
 -- The tree of a term is that of the argument that it is.
-pub term_is : {Key Id Name : Type 0} (m : Meaning Key Id Name) (t : TermKind Key) → term_tree_of m t ≡ arg_tree m (term_arg t)
+pub term_is : {Key Id Name : Type 0} (m : Meaning Key Id Name) (t : TermKind Key) → term_tree m t ≡ arg_tree m (term_arg t)
 term_is m (TyTerm t) = refl
 term_is m (ConstTerm c) = refl
 
@@ -137,17 +137,17 @@ names_stay e names = ap (λ f. map f names) (fun_ext e.name)
 
 -- One more term.
 module _ (items names parts : List ℕ) where
-  from_more : (ts : List Tree) (xs : List Term) (x : Term) → trees_from items names parts ts (xs ++ x ∷ []) ≡ trees_from items names parts ts xs ++ term_tree items names parts (trees_from items names parts ts xs) x ∷ []
+  from_more : (ts : List Tree) (xs : List Term) (x : Term) → trees_from items names parts ts (xs ++ x ∷ []) ≡ trees_from items names parts ts xs ++ text_term_tree items names parts (trees_from items names parts ts xs) x ∷ []
   from_more ts [] x = refl
-  from_more ts (y ∷ ys) x = from_more (ts ++ term_tree items names parts ts y ∷ []) ys x
+  from_more ts (y ∷ ys) x = from_more (ts ++ text_term_tree items names parts ts y ∷ []) ys x
 
-  pub trees_more : (xs : List Term) (x : Term) → trees_of items names parts (xs ++ x ∷ []) ≡ trees_of items names parts xs ++ term_tree items names parts (trees_of items names parts xs) x ∷ []
+  pub trees_more : (xs : List Term) (x : Term) → trees_of items names parts (xs ++ x ∷ []) ≡ trees_of items names parts xs ++ text_term_tree items names parts (trees_of items names parts xs) x ∷ []
   trees_more xs x = from_more [] xs x
 
   length_from : (ts : List Tree) (xs : List Term) → length (trees_from items names parts ts xs) ≡ length ts + length xs
   length_from ts [] = omega arith
   length_from ts (y ∷ ys) =
-      let t = term_tree items names parts ts y in
+      let t = text_term_tree items names parts ts y in
       omega (arith, length_from (ts ++ t ∷ []) ys, length-append ts (t ∷ []))
 
   pub length_trees : (xs : List Term) → length (trees_of items names parts xs) ≡ length xs
@@ -227,22 +227,22 @@ none_built f trees keys e k key h = let p = subst (λ xs. slice_get xs k ≡ Som
 -- What is made of the next term means its tree, over ids and names as they were.
 pub step_is : {Key Id Name K : Type 0} {m p : Meaning Key Id Name} (f : K → Tree) (keys : List (Option (GenericArgKind Key))) (pats : List (Option (Inner Key Id))) (o : Option K) (ids : List Id) (names : List Name) (parts : List ℕ)
     (trees : List Tree) (x : Term) → Extends m p → AreBuilt p trees keys → AreInnerBuilt p trees pats →
-    MakesOf p f keys pats (λ ts. term_tree (map p.id ids) (map p.name names) parts ts x) o → IfSome o (λ key. f key ≡ term_tree (map m.id ids) (map m.name names) parts trees x)
+    MakesOf p f keys pats (λ ts. text_term_tree (map p.id ids) (map p.name names) parts ts x) o → IfSome o (λ key. f key ≡ text_term_tree (map m.id ids) (map m.name names) parts trees x)
 step_is {m = m} {p = p} f keys pats o ids names parts trees x e b q made =
-    let made_here = made_is p keys pats (λ ts. term_tree (map p.id ids) (map p.name names) parts ts x) f o trees b q made in
-    subst (λ u. IfSome o (λ key. f key ≡ u)) (ap₂ (λ a c. term_tree a c parts trees x) (ids_stay e ids) (names_stay e names)) made_here
+    let made_here = made_is p keys pats (λ ts. text_term_tree (map p.id ids) (map p.name names) parts ts x) f o trees b q made in
+    subst (λ u. IfSome o (λ key. f key ≡ u)) (ap₂ (λ a c. text_term_tree a c parts trees x) (ids_stay e ids) (names_stay e names)) made_here
 
 -- One more key, of the next term.
 pub built_step : {K : Type 0} (f g : K → Tree) (keys : List (Option K)) (o : Option K) (items names parts : List ℕ) (xs : List Term) (i : ℕ) (d : Term) → i < length xs → length keys ≡ i →
     ((k : K) → IsTrue (known (f k)) → g k ≡ f k) → EachKnown f keys → EachBuilt f (trees_of items names parts (take i xs)) keys →
-    IfSome o (λ key. g key ≡ term_tree items names parts (trees_of items names parts (take i xs)) (get_or xs i d)) → EachBuilt g (trees_of items names parts (take (i + 1) xs)) (keys ++ o ∷ [])
+    IfSome o (λ key. g key ≡ text_term_tree items names parts (trees_of items names parts (take i xs)) (get_or xs i d)) → EachBuilt g (trees_of items names parts (take (i + 1) xs)) (keys ++ o ∷ [])
 built_step f g keys o items names parts xs i d h same stays sure b made =
     let x = get_or xs i d in
     let trees = trees_of items names parts (take i xs) in
     let first : length (take i xs) ≡ i = length-take-le i xs (omega (arith, h)) in
     subst (λ z. EachBuilt g z (keys ++ o ∷ []))
     (sym (ap (trees_of items names parts) (take_more xs i d h) ∙ trees_more items names parts (take i xs) x))
-    (built_more g keys trees (term_tree items names parts trees x) o
+    (built_more g keys trees (text_term_tree items names parts trees x) o
     (length_trees items names parts (take i xs) ∙ first ∙ sym same)
     (built_stays f g stays keys trees sure b) made)
 
@@ -252,13 +252,13 @@ module _ {Key Id Name : Type 0} {m p : Meaning Key Id Name} (e : Extends m p) (i
   pub next_key : {K : Type 0} (f g : K → Tree) (ks ls : List (Option K)) (o : Option K) (keys_now : List (Option (GenericArgKind Key))) (pats_now : List (Option (Inner Key Id))) (parts_now : List ℕ) →
       length ks ≡ i → ((k : K) → IsTrue (known (f k)) → g k ≡ f k) → EachKnown f ks → EachBuilt f (trees_of (map m.id ids) (map m.name names) parts (take i xs)) ks →
       keys_now ≡ keys → pats_now ≡ pats → parts_now ≡ parts → ls ≡ ks ++ o ∷ [] →
-      MakesOf p g keys_now pats_now (λ ts. term_tree (map p.id ids) (map p.name names) parts_now ts (get_or xs i d)) o →
+      MakesOf p g keys_now pats_now (λ ts. text_term_tree (map p.id ids) (map p.name names) parts_now ts (get_or xs i d)) o →
       EachKnown g ls × EachBuilt g (trees_of (map m.id ids) (map m.name names) parts (take (i + 1) xs)) ls
   next_key {K} f g ks ls o keys_now pats_now parts_now same stays sure built ek ep en el made =
       let x = get_or xs i d in
       let items = map m.id ids in
       let texts = map m.name names in
-      let tree : List ℕ → List Tree → Tree = λ ns ts. term_tree (map p.id ids) (map p.name names) ns ts x in
+      let tree : List ℕ → List Tree → Tree = λ ns ts. text_term_tree (map p.id ids) (map p.name names) ns ts x in
       let over_parts : MakesOf p g keys_now pats_now (tree parts) o = subst (λ z. MakesOf p g keys_now pats_now (tree z) o) en made in
       let over_pats : MakesOf p g keys_now pats (tree parts) o = subst (λ z. MakesOf p g keys_now z (tree parts) o) ep over_parts in
       let over : MakesOf p g keys pats (tree parts) o = subst (λ z. MakesOf p g z pats (tree parts) o) ek over_pats in (

@@ -18,7 +18,7 @@ use Rattle.text_reading.specs.declared.naming.program.Parts.{Parts}
 use Rattle.text_reading.specs.declared.naming.program.Program.{Program}
 use Rattle.text_reading.specs.declared.naming.program.Term.{Term}
 use Rattle.text_reading.specs.declared.reading.tree.ItemSort.{ItemSort}
-use Rattle.text_terms.specs.Terms.{at, item_tree, parts_tree, term_tree, trees_of, variables_of}
+use Rattle.text_terms.specs.Terms.{at, item_tree, parts_tree, text_term_tree, trees_of, variables_of}
 
 -- Each key that is there is known, and means the tree of its number: keys of one kind, by the trees that they mean.
 abbrev pub EachKnown : {K : Type 0} → (K → Tree) → List (Option K) → Type 0
@@ -101,31 +101,31 @@ module _ {Key Id Name : Type 0} (m n : Meaning Key Id Name) where
   -- What is made of a term that is a type over a binder, whatever numbers the items and the names have.
   abbrev pub MakesBinder : List ℕ → List (Option (GenericArgKind Key)) → Term → Option (GenericArgKind Key) → Type 0
   MakesBinder parts keys x result =
-      (items names : List ℕ) → Makes m n keys (λ ts. term_tree items names parts ts x) result
+      (items names : List ℕ) → Makes m n keys (λ ts. text_term_tree items names parts ts x) result
 
   -- The same of a term that is a trait object.
   abbrev pub MakesObject : List ℕ → List (Option (GenericArgKind Key)) → List (Option (Inner Key Id)) → Term →
       Option (GenericArgKind Key) → Type 0
   MakesObject parts keys inners x result =
-      (items names : List ℕ) → MakesOf m (arg_tree n) keys inners (λ ts. term_tree items names parts ts x) result
+      (items names : List ℕ) → MakesOf m (arg_tree n) keys inners (λ ts. text_term_tree items names parts ts x) result
 
   -- The same of a term that is a pattern.
   abbrev pub MakesPattern : List ℕ → List (Option (GenericArgKind Key)) → List (Option (Inner Key Id)) → Term →
       Option (Inner Key Id) → Type 0
   MakesPattern parts keys inners x result =
-      (items names : List ℕ) → MakesOf m (inner_tree n) keys inners (λ ts. term_tree items names parts ts x) result
+      (items names : List ℕ) → MakesOf m (inner_tree n) keys inners (λ ts. text_term_tree items names parts ts x) result
 
   -- The same of a term that is a type over a pattern, whatever parts there are.
   abbrev pub MakesPatternType : List (Option (GenericArgKind Key)) → List (Option (Inner Key Id)) → Term →
       Option (GenericArgKind Key) → Type 0
   MakesPatternType keys inners x result = (items names parts : List ℕ) →
-      MakesOf m (arg_tree n) keys inners (λ ts. term_tree items names parts ts x) result
+      MakesOf m (arg_tree n) keys inners (λ ts. text_term_tree items names parts ts x) result
 
   -- The same of a term that is a predicate of a trait object, over items of these ids.
   abbrev pub MakesPredicate : List Id → List ℕ → List (Option (GenericArgKind Key)) → Term → Option (Inner Key Id) →
       Type 0
   MakesPredicate ids parts keys x result = (names : List ℕ) →
-      MakesFrom m (inner_tree n) keys (λ ts. term_tree (map m.id ids) names parts ts x) result
+      MakesFrom m (inner_tree n) keys (λ ts. text_term_tree (map m.id ids) names parts ts x) result
 
 -- From an interner to one that has grown, over ids of items and names.
 module _ {C Key Id Name : Type 0} (meaning : C → Meaning Key Id Name) (old new : C) where
@@ -133,13 +133,13 @@ module _ {C Key Id Name : Type 0} (meaning : C → Meaning Key Id Name) (old new
   abbrev pub MakesKey : List Id → List Name → List ℕ → List (Option (GenericArgKind Key)) →
       List (Option (Inner Key Id)) → Term → Option (GenericArgKind Key) → Type 0
   MakesKey ids names parts keys inners x result = MakesOf (meaning old) (arg_tree (meaning new)) keys inners
-      (λ ts. term_tree (map (meaning old).id ids) (map (meaning old).name names) parts ts x) result
+      (λ ts. text_term_tree (map (meaning old).id ids) (map (meaning old).name names) parts ts x) result
 
   -- The pattern or the predicate that is made of a term, if one is.
   abbrev pub MakesPart : List Id → List Name → List ℕ → List (Option (GenericArgKind Key)) →
       List (Option (Inner Key Id)) → Term → Option (Inner Key Id) → Type 0
   MakesPart ids names parts keys inners x result = MakesOf (meaning old) (inner_tree (meaning new)) keys inners
-      (λ ts. term_tree (map (meaning old).id ids) (map (meaning old).name names) parts ts x) result
+      (λ ts. text_term_tree (map (meaning old).id ids) (map (meaning old).name names) parts ts x) result
 
   -- Each key that is there means the tree of its term in the program.
   abbrev pub AreKeysOf : List Id → List Name → Program → List (Option (GenericArgKind Key)) → Type 0
@@ -150,15 +150,15 @@ module _ (Key Id : Type 0) {Name : Type 0} (names : List Name) (x : Term) where
   -- The form is that of a term which has no parts: of a type, of a region, of a constant.
   abbrev pub IsFormOf : TyKind Key Id Name → Type 0
   IsFormOf form = (m : Meaning Key Id Name) → IsTrue (known (kind_tree m form)) ×
-      ((items parts : List ℕ) (ts : List Tree) → kind_tree m form ≡ term_tree items (map m.name names) parts ts x)
+      ((items parts : List ℕ) (ts : List Tree) → kind_tree m form ≡ text_term_tree items (map m.name names) parts ts x)
 
   abbrev pub IsRegionOf : RegionKind Name → Type 0
   IsRegionOf form = (m : Meaning Key Id Name) (items parts : List ℕ) (ts : List Tree) →
-      region_tree m form ≡ term_tree items (map m.name names) parts ts x
+      region_tree m form ≡ text_term_tree items (map m.name names) parts ts x
 
   abbrev pub IsConstOf : ConstKind Key Id Name → Type 0
   IsConstOf form = (m : Meaning Key Id Name) → IsTrue (known (const_tree m form)) ×
-      ((items parts : List ℕ) (ts : List Tree) → const_tree m form ≡ term_tree items (map m.name names) parts ts x)
+      ((items parts : List ℕ) (ts : List Tree) → const_tree m form ≡ text_term_tree items (map m.name names) parts ts x)
 
 -- The form is that of an item of a sort over known arguments: a type, and a constant.
 module _ (Key Id Name : Type 0) (s : ItemSort) (d : Id) (a : ArgsKey Key) where

@@ -91,60 +91,61 @@ unsafe_binder_tree ks t = node unsafe_binder (cons (under ks t) nil)
 -- Over the numbers of the items and of the names, and the numbers of all parts.
 module _ (items names parts : List ℕ) where
   -- The tree of a term, over the trees of those before it.
-  abbrev pub term_tree : List Tree → Term → Tree
-  term_tree ts term.Bool = leaf (atom bool_type)
-  term_tree ts term.Char = leaf (atom char_type)
-  term_tree ts term.Str = leaf (atom str_type)
-  term_tree ts term.Never = leaf (atom never_type)
-  term_tree ts (term.Int w) = leaf (atom (int_type w))
-  term_tree ts (term.Uint w) = leaf (atom (uint_type w))
-  term_tree ts (term.Float w) = leaf (atom (float_type w))
-  term_tree ts (term.Item s d p) = item_tree s (slice_get items d) (parts_tree parts ts p)
-  term_tree ts (term.Slice t) = node slice (cons (at ts t) nil)
-  term_tree ts (term.Array t c) = node array (cons (at ts t) (cons (at ts c) nil))
-  term_tree ts (term.Tuple p) = node tuple (parts_tree parts ts p)
-  term_tree ts (term.RawPtr t u) = node (raw_ptr u) (cons (at ts t) nil)
-  term_tree ts (term.Ref r t u) = node (ref u) (cons (at ts r) (cons (at ts t) nil))
-  term_tree ts (term.TyParam i n) = leaf_of (λ x. atom (type_param i x)) (slice_get names n)
-  term_tree ts (term.TyPlaceholder u v n) = leaf_of (λ x. placeholder (bound_kind type_kind x) u v) (slice_get names n)
-  term_tree ts (term.TyVar n) = leaf (variable type_var n)
-  term_tree ts (term.IntVar n) = leaf (variable int_var n)
-  term_tree ts (term.FloatVar n) = leaf (variable float_var n)
-  term_tree ts term.TyError = leaf (atom type_error)
-  term_tree ts (term.Pat t p) = node pattern_type (cons (at ts t) (cons (at ts p) nil))
-  term_tree ts term.Static = leaf (atom static_region)
-  term_tree ts (term.RegionParam i n) = leaf_of (λ x. atom (early_region i x)) (slice_get names n)
-  term_tree ts (term.RegionVar n) = leaf (variable region_var n)
-  term_tree ts (term.RegionPlaceholder u v n) =
+  abbrev pub text_term_tree : List Tree → Term → Tree
+  text_term_tree ts term.Bool = leaf (atom bool_type)
+  text_term_tree ts term.Char = leaf (atom char_type)
+  text_term_tree ts term.Str = leaf (atom str_type)
+  text_term_tree ts term.Never = leaf (atom never_type)
+  text_term_tree ts (term.Int w) = leaf (atom (int_type w))
+  text_term_tree ts (term.Uint w) = leaf (atom (uint_type w))
+  text_term_tree ts (term.Float w) = leaf (atom (float_type w))
+  text_term_tree ts (term.Item s d p) = item_tree s (slice_get items d) (parts_tree parts ts p)
+  text_term_tree ts (term.Slice t) = node slice (cons (at ts t) nil)
+  text_term_tree ts (term.Array t c) = node array (cons (at ts t) (cons (at ts c) nil))
+  text_term_tree ts (term.Tuple p) = node tuple (parts_tree parts ts p)
+  text_term_tree ts (term.RawPtr t u) = node (raw_ptr u) (cons (at ts t) nil)
+  text_term_tree ts (term.Ref r t u) = node (ref u) (cons (at ts r) (cons (at ts t) nil))
+  text_term_tree ts (term.TyParam i n) = leaf_of (λ x. atom (type_param i x)) (slice_get names n)
+  text_term_tree ts (term.TyPlaceholder u v n) =
+      leaf_of (λ x. placeholder (bound_kind type_kind x) u v) (slice_get names n)
+  text_term_tree ts (term.TyVar n) = leaf (variable type_var n)
+  text_term_tree ts (term.IntVar n) = leaf (variable int_var n)
+  text_term_tree ts (term.FloatVar n) = leaf (variable float_var n)
+  text_term_tree ts term.TyError = leaf (atom type_error)
+  text_term_tree ts (term.Pat t p) = node pattern_type (cons (at ts t) (cons (at ts p) nil))
+  text_term_tree ts term.Static = leaf (atom static_region)
+  text_term_tree ts (term.RegionParam i n) = leaf_of (λ x. atom (early_region i x)) (slice_get names n)
+  text_term_tree ts (term.RegionVar n) = leaf (variable region_var n)
+  text_term_tree ts (term.RegionPlaceholder u v n) =
       leaf_of (λ x. placeholder (bound_kind region_kind x) u v) (slice_get names n)
-  term_tree ts (term.ConstParam i n) = leaf_of (λ x. atom (const_param i x)) (slice_get names n)
-  term_tree ts (term.ConstPlaceholder u v n) =
+  text_term_tree ts (term.ConstParam i n) = leaf_of (λ x. atom (const_param i x)) (slice_get names n)
+  text_term_tree ts (term.ConstPlaceholder u v n) =
       leaf_of (λ x. placeholder (bound_kind const_kind x) u v) (slice_get names n)
-  term_tree ts (term.ConstVar n) = leaf (variable const_var n)
-  term_tree ts term.ConstError = leaf (atom const_error)
-  term_tree ts (term.Number t b n) = value_tree (at ts t) (leaf (atom (value_leaf b n)))
-  term_tree ts (term.Branch t p) = value_tree (at ts t) (node value_branch (parts_tree parts ts p))
-  term_tree ts (term.Expr k p) = node (expression k) (parts_tree parts ts p)
-  term_tree ts (term.Range s e) = node range_pattern (cons (at ts s) (cons (at ts e) nil))
-  term_tree ts (term.Or p) = node or_pattern (parts_tree parts ts p)
-  term_tree ts term.NotNull = leaf (atom not_null_pattern)
-  term_tree ts (term.TyBound d v n) = leaf_of (λ x. bound (bound_kind type_kind x) d v) (slice_get names n)
-  term_tree ts (term.RegionBound d v n) = leaf_of (λ x. bound (bound_kind region_kind x) d v) (slice_get names n)
-  term_tree ts (term.ConstBound d v n) = leaf_of (λ x. bound (bound_kind const_kind x) d v) (slice_get names n)
-  term_tree ts (term.FnPtr h v p) = fn_ptr_tree h (variables_of (parts_tree parts ts v)) (parts_tree parts ts p)
-  term_tree ts (term.UnsafeBinder v t) = unsafe_binder_tree (variables_of (parts_tree parts ts v)) (at ts t)
-  term_tree ts (term.Object p r) = object_tree (parts_tree parts ts p) (at ts r)
-  term_tree ts (term.Implements v d p) =
+  text_term_tree ts (term.ConstVar n) = leaf (variable const_var n)
+  text_term_tree ts term.ConstError = leaf (atom const_error)
+  text_term_tree ts (term.Number t b n) = value_tree (at ts t) (leaf (atom (value_leaf b n)))
+  text_term_tree ts (term.Branch t p) = value_tree (at ts t) (node value_branch (parts_tree parts ts p))
+  text_term_tree ts (term.Expr k p) = node (expression k) (parts_tree parts ts p)
+  text_term_tree ts (term.Range s e) = node range_pattern (cons (at ts s) (cons (at ts e) nil))
+  text_term_tree ts (term.Or p) = node or_pattern (parts_tree parts ts p)
+  text_term_tree ts term.NotNull = leaf (atom not_null_pattern)
+  text_term_tree ts (term.TyBound d v n) = leaf_of (λ x. bound (bound_kind type_kind x) d v) (slice_get names n)
+  text_term_tree ts (term.RegionBound d v n) = leaf_of (λ x. bound (bound_kind region_kind x) d v) (slice_get names n)
+  text_term_tree ts (term.ConstBound d v n) = leaf_of (λ x. bound (bound_kind const_kind x) d v) (slice_get names n)
+  text_term_tree ts (term.FnPtr h v p) = fn_ptr_tree h (variables_of (parts_tree parts ts v)) (parts_tree parts ts p)
+  text_term_tree ts (term.UnsafeBinder v t) = unsafe_binder_tree (variables_of (parts_tree parts ts v)) (at ts t)
+  text_term_tree ts (term.Object p r) = object_tree (parts_tree parts ts p) (at ts r)
+  text_term_tree ts (term.Implements v d p) =
       under (variables_of (parts_tree parts ts v)) (head_of existential_trait (slice_get items d) (parts_tree parts ts p))
-  term_tree ts (term.Projects v d p t) = under (variables_of (parts_tree parts ts v))
+  text_term_tree ts (term.Projects v d p t) = under (variables_of (parts_tree parts ts v))
       (head_of existential_projection (slice_get items d) (cons (at ts t) (parts_tree parts ts p)))
-  term_tree ts (term.IsAuto v d) =
+  text_term_tree ts (term.IsAuto v d) =
       under (variables_of (parts_tree parts ts v)) (leaf_of (λ x. atom (existential_auto x)) (slice_get items d))
 
   -- The trees of terms that stand behind those of these trees.
   abbrev pub trees_from : List Tree → List Term → List Tree
   trees_from ts [] = ts
-  trees_from ts (x ∷ xs) = trees_from (ts ++ term_tree ts x ∷ []) xs
+  trees_from ts (x ∷ xs) = trees_from (ts ++ text_term_tree ts x ∷ []) xs
 
   -- The trees of all terms.
   abbrev pub trees_of : List Term → List Tree

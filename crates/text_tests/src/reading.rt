@@ -129,103 +129,106 @@ fn shown(alloc: Global, text: &str) -> Result<String, fmt::Error> {
     Ok(out)
 }
 
+// Texts, and the tree that is read of each.
+const TREES: [(&str, &str); 21] = [
+    (
+        "struct Vec<+T, -'a, *const N, =U>; fn f; extern type F; coroutine closure h; // x\nbudget 1;",
+        "file(item(Vec declared(T) declared('a) declared-const(N) declared(U)) item(f) item(F) item(h) budget(1))",
+    ),
+    (
+        "param T, 'a, const N = 2; let t = (u8, (T)); variables ?0, '?1; variables ?c2, ?3 in 4;",
+        "file(parameters(parameter(T) parameter('a) const-parameter(N 2)) let(t tuple(u8 T)) variables(?0 '?1) \
+         variables(?c2 ?3 4))",
+    ),
+    (
+        "Vec<?0, 'a, 2u8> <: [&'a mut [*const !; {1, expr 3(N,)}]];",
+        "file(question(applied(Vec ?0 'a 2u8) slice(ref('a array(pointer(never()) branch(1 expr(3 N)))))))",
+    ),
+    (
+        "then () == (!1T, !1.0,); repeat 3 '?0 :> K<>;",
+        "file(then(question(tuple() tuple(!1T !1.0))) repeat(3 question('?0 applied(K))))",
+    ),
+    (
+        "solver old; T === U; mode coherence; budget 2; then T === u8;",
+        "file(solver(old) question(T U) mode(coherence) budget(2) then(question(T u8)))",
+    ),
+    (
+        "visit T skip A, B stop C; visit 'a; fold T with A = B, C = D; then rigid T;",
+        "file(visit(T terms(A B) terms(C)) visit('a terms() terms()) fold(T put(A B) put(C D)) then(rigid(T)))",
+    ),
+    (
+        "visit (T is 1..=?c2 | !null, ({error}) is | (A..=B | {error}..=!1N));",
+        "file(visit(tuple(pat(T or(range(1 ?c2) not-null())) \
+         pat(error() or(or(range(A B) range(error() !1N))))) terms() terms()))",
+    ),
+    (
+        "super A: Self: B, Self: 'a; implied B: <Self as B>::X == T; const super A: Self: const B; sized S;",
+        "file(states(stating(A) claims(bound() Self named(B)) outlives-under(bound() Self 'a)) \
+         states(stating(B) comes-to(bound() associated(Self named(B) named(X)) T)) \
+         states(stating(A) claims(bound() Self named(B))) is-sized(S))",
+    ),
+    (
+        "elaborate[self] T: !A, for<'a> 'a: 'b limit 2 pulls 3; supertraits T: A limit 1; supertraits A;",
+        "file(elaborate(claims(bound() T named(A)) outlives-under(bound('a) 'a 'b) limit(2) pulls(3)) \
+         supertraits(claims(bound() T named(A)) limit(1)) supertrait-ids(A))",
+    ),
+    (
+        "visit {const !1.0, const {error}};",
+        "file(visit(branch(const(!1.0) const(error())) terms() terms()))",
+    ),
+    (
+        "visit &'!1a (?i0, *const ?f3 is (!null));",
+        "file(visit(ref('!1a tuple(?i0 pointer(pat(?f3 not-null())))) terms() terms()))",
+    ),
+    (
+        "coroutine witness w; walk [T]; walk 'a skip after 0, 2, 2; components [T];",
+        "file(item(w) walk(slice(T)) walk('a 0 2 2) components(slice(T)))",
+    ),
+    (
+        "visit for<'a, ^1, const ^c2> unsafe extern \"C\" fn(&'a ^1, ..) -> T;",
+        "file(visit(fn-ptr(bound('a ^1 ^c2) ref('a ^1) T) terms() terms()))",
+    ),
+    (
+        "visit &'^0 mut (^1.0, [^2; ^c3.4], '^5.6);",
+        "file(visit(ref('^0 tuple(^1.0 array(^2 ^c3.4) '^5.6)) terms() terms()))",
+    ),
+    (
+        "fn f; fn() == unsafe<'a,> fn(T,); extern \"system\" fn(..) <: T; extern type F;",
+        "file(item(f) question(fn-ptr(bound() tuple()) unsafe-binder(bound('a) fn-ptr(bound() T tuple()))) \
+         question(fn-ptr(bound() tuple()) T) item(F))",
+    ),
+    (
+        "may unify[rigid, infer] T, [U] at 3; args may unify[infer, infer] [T, 'a], []; key rigid T; key U;",
+        "file(may-unify(T slice(U) 3) args-may-unify(terms(T 'a) terms()) key(T) key(U))",
+    ),
+    (
+        "count goals T :> U; then count regions [T] === U; one ?0, '?1; then binding ?i2; one ?f4, ?c3;",
+        "file(count-goals(question(T U)) then(count-regions(question(slice(T) U))) one(?0 '?1) \
+         then(binding(?i2)) one(?f4 ?c3))",
+    ),
+    (
+        "args [T, 2,] == ['a]; may unify[rigid, rigid] T, T;",
+        "file(args-equal(terms(T 2) terms('a)) may-unify(T T))",
+    ),
+    (
+        "trait A<T>; auto trait S; type A::B<'a>; const A::L; visit dyn A<u8, L = 2> + S + 'a;",
+        "file(item(A declared(T)) item(S) item(A B declared('a)) item(A L) visit(object(\
+         implements(bound() named(A u8 assigned(L 2))) implements(bound() named(S)) 'a) terms() terms()))",
+    ),
+    (
+        "visit dyn for<'a> A<'a>::B<T,> == u8 + '^0;",
+        "file(visit(object(projects(bound('a) named(A 'a) named(B T) u8) '^0) terms() terms()))",
+    ),
+    (
+        "opaque A<+T>; type B; inherent const C; visit <u8 as D<A, 'a>>::E<2>;",
+        "file(item(A declared(T)) item(B) item(C) \
+         visit(associated(u8 named(D A 'a) named(E 2)) terms() terms()))",
+    ),
+];
+
 #[test]
 fn texts_are_read(rt: HostRuntime) -> Result<(), Fail> {
-    for (text, tree) in [
-        (
-            "struct Vec<+T, -'a, *const N, =U>; fn f; extern type F; coroutine closure h; // x\nbudget 1;",
-            "file(item(Vec declared(T) declared('a) declared-const(N) declared(U)) item(f) item(F) item(h) budget(1))",
-        ),
-        (
-            "param T, 'a, const N = 2; let t = (u8, (T)); variables ?0, '?1; variables ?c2, ?3 in 4;",
-            "file(parameters(parameter(T) parameter('a) const-parameter(N 2)) let(t tuple(u8 T)) variables(?0 '?1) \
-             variables(?c2 ?3 4))",
-        ),
-        (
-            "Vec<?0, 'a, 2u8> <: [&'a mut [*const !; {1, expr 3(N,)}]];",
-            "file(question(applied(Vec ?0 'a 2u8) slice(ref('a array(pointer(never()) branch(1 expr(3 N)))))))",
-        ),
-        (
-            "then () == (!1T, !1.0,); repeat 3 '?0 :> K<>;",
-            "file(then(question(tuple() tuple(!1T !1.0))) repeat(3 question('?0 applied(K))))",
-        ),
-        (
-            "solver old; T === U; mode coherence; budget 2; then T === u8;",
-            "file(solver(old) question(T U) mode(coherence) budget(2) then(question(T u8)))",
-        ),
-        (
-            "visit T skip A, B stop C; visit 'a; fold T with A = B, C = D; then rigid T;",
-            "file(visit(T terms(A B) terms(C)) visit('a terms() terms()) fold(T put(A B) put(C D)) then(rigid(T)))",
-        ),
-        (
-            "visit (T is 1..=?c2 | !null, ({error}) is | (A..=B | {error}..=!1N));",
-            "file(visit(tuple(pat(T or(range(1 ?c2) not-null())) \
-             pat(error() or(or(range(A B) range(error() !1N))))) terms() terms()))",
-        ),
-        (
-            "super A: Self: B, Self: 'a; implied B: <Self as B>::X == T; const super A: Self: const B; sized S;",
-            "file(states(stating(A) claims(bound() Self named(B)) outlives-under(bound() Self 'a)) \
-             states(stating(B) comes-to(bound() associated(Self named(B) named(X)) T)) \
-             states(stating(A) claims(bound() Self named(B))) is-sized(S))",
-        ),
-        (
-            "elaborate[self] T: !A, for<'a> 'a: 'b limit 2 pulls 3; supertraits T: A limit 1; supertraits A;",
-            "file(elaborate(claims(bound() T named(A)) outlives-under(bound('a) 'a 'b) limit(2) pulls(3)) \
-             supertraits(claims(bound() T named(A)) limit(1)) supertrait-ids(A))",
-        ),
-        (
-            "visit {const !1.0, const {error}};",
-            "file(visit(branch(const(!1.0) const(error())) terms() terms()))",
-        ),
-        (
-            "visit &'!1a (?i0, *const ?f3 is (!null));",
-            "file(visit(ref('!1a tuple(?i0 pointer(pat(?f3 not-null())))) terms() terms()))",
-        ),
-        (
-            "coroutine witness w; walk [T]; walk 'a skip after 0, 2, 2; components [T];",
-            "file(item(w) walk(slice(T)) walk('a 0 2 2) components(slice(T)))",
-        ),
-        (
-            "visit for<'a, ^1, const ^c2> unsafe extern \"C\" fn(&'a ^1, ..) -> T;",
-            "file(visit(fn-ptr(bound('a ^1 ^c2) ref('a ^1) T) terms() terms()))",
-        ),
-        (
-            "visit &'^0 mut (^1.0, [^2; ^c3.4], '^5.6);",
-            "file(visit(ref('^0 tuple(^1.0 array(^2 ^c3.4) '^5.6)) terms() terms()))",
-        ),
-        (
-            "fn f; fn() == unsafe<'a,> fn(T,); extern \"system\" fn(..) <: T; extern type F;",
-            "file(item(f) question(fn-ptr(bound() tuple()) unsafe-binder(bound('a) fn-ptr(bound() T tuple()))) \
-             question(fn-ptr(bound() tuple()) T) item(F))",
-        ),
-        (
-            "may unify[rigid, infer] T, [U] at 3; args may unify[infer, infer] [T, 'a], []; key rigid T; key U;",
-            "file(may-unify(T slice(U) 3) args-may-unify(terms(T 'a) terms()) key(T) key(U))",
-        ),
-        (
-            "count goals T :> U; then count regions [T] === U; one ?0, '?1; then binding ?i2; one ?f4, ?c3;",
-            "file(count-goals(question(T U)) then(count-regions(question(slice(T) U))) one(?0 '?1) \
-             then(binding(?i2)) one(?f4 ?c3))",
-        ),
-        (
-            "args [T, 2,] == ['a]; may unify[rigid, rigid] T, T;",
-            "file(args-equal(terms(T 2) terms('a)) may-unify(T T))",
-        ),
-        (
-            "trait A<T>; auto trait S; type A::B<'a>; const A::L; visit dyn A<u8, L = 2> + S + 'a;",
-            "file(item(A declared(T)) item(S) item(A B declared('a)) item(A L) visit(object(\
-             implements(bound() named(A u8 assigned(L 2))) implements(bound() named(S)) 'a) terms() terms()))",
-        ),
-        (
-            "visit dyn for<'a> A<'a>::B<T,> == u8 + '^0;",
-            "file(visit(object(projects(bound('a) named(A 'a) named(B T) u8) '^0) terms() terms()))",
-        ),
-        (
-            "opaque A<+T>; type B; inherent const C; visit <u8 as D<A, 'a>>::E<2>;",
-            "file(item(A declared(T)) item(B) item(C) \
-             visit(associated(u8 named(D A 'a) named(E 2)) terms() terms()))",
-        ),
-    ] {
+    for (text, tree) in TREES {
         let all = shown(rt.alloc(), text)?;
         assert_eq!(rt; all.as_str(), tree);
     }

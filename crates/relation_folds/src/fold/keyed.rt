@@ -2,7 +2,8 @@
 ghost use Rattle.std.specs.Prelude.{IsTrue, IfOk};
 ghost use Rattle.relation_terms.specs.Trees.{known};
 ghost use Rattle.relation_folds.specs.Folds.{Steps};
-ghost use Rattle.relation_folds.specs.KeyFolds.{FoldsTo, FoldsPartsTo, LeavesAs};
+ghost use Rattle.relation_folds.specs.KeyFolds.{FoldsTy, FoldsTyParts, FoldsRegion, FoldsConst, FoldsConstParts};
+ghost use Rattle.relation_folds.specs.KeyFolds.{FoldsArgs, LeavesTyAs, LeavesRegionAs, LeavesConstAs, LeavesArgsAs};
 
 use crate::fold::TypeFolder;
 use crate::fold::walk::{fold_list, fold_part, fold_parts};
@@ -19,9 +20,8 @@ pub fn fold_ty_with<I: Interner, F: TypeFolder<I>>(
     requires ready { F.ready (I.meaning cx.old) folder.old }
     ensures steps { Steps F.ready F.replaces (I.meaning cx.old) folder.old (I.meaning cx.new) folder.new }
     ensures sure { IfOk result (λ k. IsTrue (known ((I.meaning cx.new).ty k))) }
-    ensures made { FoldsTo F.replaces (I.meaning cx.old) folder.old (I.meaning cx.new) (λ m. m.ty) ty.now result }
-    ensures same { LeavesAs F.replaces (I.meaning cx.old) folder.old
-        (λ m. m.ty) (λ k l. I.Key.eq k.0 l.0) ty.now result }
+    ensures made { FoldsTy F.replaces (I.meaning cx.old) folder.old (I.meaning cx.new) ty.now result }
+    ensures same { LeavesTyAs F.replaces (I.meaning cx.old) folder.old I.Key.eq ty.now result }
 {
     Ok(the_ty(&fold_part(cx, &Part::Ty(*ty), 0, folder)?))
 }
@@ -36,7 +36,7 @@ pub fn super_fold_ty<I: Interner, F: TypeFolder<I>>(
     requires ready { F.ready (I.meaning cx.old) folder.old }
     ensures steps { Steps F.ready F.replaces (I.meaning cx.old) folder.old (I.meaning cx.new) folder.new }
     ensures sure { IfOk result (λ k. IsTrue (known ((I.meaning cx.new).ty k))) }
-    ensures made { FoldsPartsTo F.replaces (I.meaning cx.old) folder.old (I.meaning cx.new) (λ m. m.ty) ty.now result }
+    ensures made { FoldsTyParts F.replaces (I.meaning cx.old) folder.old (I.meaning cx.new) ty.now result }
 {
     Ok(the_ty(&fold_parts(cx, &Part::Ty(*ty), 0, folder)?))
 }
@@ -51,10 +51,8 @@ pub fn fold_region_with<I: Interner, F: TypeFolder<I>>(
     requires ready { F.ready (I.meaning cx.old) folder.old }
     ensures steps { Steps F.ready F.replaces (I.meaning cx.old) folder.old (I.meaning cx.new) folder.new }
     ensures sure { IfOk result (λ k. IsTrue (known ((I.meaning cx.new).region k))) }
-    ensures made { FoldsTo F.replaces (I.meaning cx.old) folder.old (I.meaning cx.new)
-        (λ m. m.region) region.now result }
-    ensures same { LeavesAs F.replaces (I.meaning cx.old) folder.old
-        (λ m. m.region) (λ k l. I.Key.eq k.0 l.0) region.now result }
+    ensures made { FoldsRegion F.replaces (I.meaning cx.old) folder.old (I.meaning cx.new) region.now result }
+    ensures same { LeavesRegionAs F.replaces (I.meaning cx.old) folder.old I.Key.eq region.now result }
 {
     Ok(the_region(&fold_part(cx, &Part::Region(*region), 0, folder)?))
 }
@@ -69,10 +67,8 @@ pub fn fold_const_with<I: Interner, F: TypeFolder<I>>(
     requires ready { F.ready (I.meaning cx.old) folder.old }
     ensures steps { Steps F.ready F.replaces (I.meaning cx.old) folder.old (I.meaning cx.new) folder.new }
     ensures sure { IfOk result (λ k. IsTrue (known ((I.meaning cx.new).const_ k))) }
-    ensures made { FoldsTo F.replaces (I.meaning cx.old) folder.old (I.meaning cx.new)
-        (λ m. m.const_) constant.now result }
-    ensures same { LeavesAs F.replaces (I.meaning cx.old) folder.old
-        (λ m. m.const_) (λ k l. I.Key.eq k.0 l.0) constant.now result }
+    ensures made { FoldsConst F.replaces (I.meaning cx.old) folder.old (I.meaning cx.new) constant.now result }
+    ensures same { LeavesConstAs F.replaces (I.meaning cx.old) folder.old I.Key.eq constant.now result }
 {
     Ok(the_const(&fold_part(cx, &Part::Const(*constant), 0, folder)?))
 }
@@ -87,8 +83,7 @@ pub fn super_fold_const<I: Interner, F: TypeFolder<I>>(
     requires ready { F.ready (I.meaning cx.old) folder.old }
     ensures steps { Steps F.ready F.replaces (I.meaning cx.old) folder.old (I.meaning cx.new) folder.new }
     ensures sure { IfOk result (λ k. IsTrue (known ((I.meaning cx.new).const_ k))) }
-    ensures made { FoldsPartsTo F.replaces (I.meaning cx.old) folder.old (I.meaning cx.new)
-        (λ m. m.const_) constant.now result }
+    ensures made { FoldsConstParts F.replaces (I.meaning cx.old) folder.old (I.meaning cx.new) constant.now result }
 {
     Ok(the_const(&fold_parts(cx, &Part::Const(*constant), 0, folder)?))
 }
@@ -103,9 +98,8 @@ pub fn fold_args_with<I: Interner, F: TypeFolder<I>>(
     requires ready { F.ready (I.meaning cx.old) folder.old }
     ensures steps { Steps F.ready F.replaces (I.meaning cx.old) folder.old (I.meaning cx.new) folder.new }
     ensures sure { IfOk result (λ k. IsTrue (known ((I.meaning cx.new).args k))) }
-    ensures made { FoldsTo F.replaces (I.meaning cx.old) folder.old (I.meaning cx.new) (λ m. m.args) args.now result }
-    ensures same { LeavesAs F.replaces (I.meaning cx.old) folder.old
-        (λ m. m.args) (λ k l. I.Key.eq k.0 l.0) args.now result }
+    ensures made { FoldsArgs F.replaces (I.meaning cx.old) folder.old (I.meaning cx.new) args.now result }
+    ensures same { LeavesArgsAs F.replaces (I.meaning cx.old) folder.old I.Key.eq args.now result }
 {
     Ok(the_args(&fold_list(cx, &Parts::Args(*args), 0, folder)?))
 }

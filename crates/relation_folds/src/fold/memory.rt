@@ -60,18 +60,16 @@ pub fn nothing<I: Interner>(cx: &I) -> Memory<I::Key, I::Id>
 
 /// What was made of the part at this depth, if it was met there before.
 pub fn recall<I: Interner, F: TypeFolder<I>>(
-    cx: &I,
-    folder: &F,
+    _cx: &I,
+    _folder: &F,
     memory: &Memory<I::Key, I::Id>,
     part: &PartOf<I>,
     depth: u128,
 ) -> Option<PartOf<I>>
-    requires known { IsTrue (known (part_tree (I.meaning cx.now) part.now)) }
-    requires remembers { Recalls F.replaces (I.meaning cx.now) folder.now ⟦<Place<I::Key> as PartialEq>⟧.eq (memory.now).made }
-    ensures { IfSome result (IsMade (I.meaning cx.now) (F.replaces (I.meaning cx.now) folder.now) part.now depth) }
+    requires known { IsTrue (known (part_tree (I.meaning _cx.now) part.now)) }
+    requires remembers { Recalls F.replaces I.meaning _cx.now _folder.now ⟦<Place<I::Key> as PartialEq>⟧.eq memory.now }
+    ensures { IfSome result (IsMade (I.meaning _cx.now) (F.replaces (I.meaning _cx.now) _folder.now) part.now depth) }
 {
-    let _ = cx;
-    let _ = folder;
     if memory.made.is_empty() {
         return None;
     }
@@ -81,19 +79,17 @@ pub fn recall<I: Interner, F: TypeFolder<I>>(
 
 /// Keeps what was made of the part at this depth, if enough were let go.
 pub fn keep<I: Interner, F: TypeFolder<I>>(
-    cx: &I,
-    folder: &F,
+    _cx: &I,
+    _folder: &F,
     memory: &mut Memory<I::Key, I::Id>,
     part: &PartOf<I>,
     depth: u128,
     made: PartOf<I>,
 ) -> Result<(), OutOfMemory>
-    requires made { IsMade (I.meaning cx.now) (F.replaces (I.meaning cx.now) folder.now) part.now depth made }
-    requires remembers { Recalls F.replaces (I.meaning cx.now) folder.now ⟦<Place<I::Key> as PartialEq>⟧.eq (memory.old).made }
-    ensures { Recalls F.replaces (I.meaning cx.now) folder.now ⟦<Place<I::Key> as PartialEq>⟧.eq (memory.new).made }
+    requires made { IsMade (I.meaning _cx.now) (F.replaces (I.meaning _cx.now) _folder.now) part.now depth made }
+    requires remembers { Recalls F.replaces I.meaning _cx.now _folder.now ⟦<Place<I::Key> as PartialEq>⟧.eq memory.old }
+    ensures { Recalls F.replaces I.meaning _cx.now _folder.now ⟦<Place<I::Key> as PartialEq>⟧.eq memory.new }
 {
-    let _ = cx;
-    let _ = folder;
     if memory.let_go < CACHE_CUTOFF {
         memory.let_go += 1;
         return Ok(());

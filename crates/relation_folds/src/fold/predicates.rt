@@ -34,26 +34,23 @@ fn fold_field<I: Interner, F: TypeFolder<I>>(
         Field::Region(old) => {
             let new = fold_region_with(cx, old, folder)?;
             if new == *old {
-                Ok(None)
-            } else {
-                Ok(Some(Field::Region(new)))
+                return Ok(None);
             }
+            Ok(Some(Field::Region(new)))
         }
         Field::Ty(old) => {
             let new = fold_ty_with(cx, old, folder)?;
             if new == *old {
-                Ok(None)
-            } else {
-                Ok(Some(Field::Ty(new)))
+                return Ok(None);
             }
+            Ok(Some(Field::Ty(new)))
         }
         Field::Const(old) => {
             let new = fold_const_with(cx, old, folder)?;
             if new == *old {
-                Ok(None)
-            } else {
-                Ok(Some(Field::Const(new)))
+                return Ok(None);
             }
+            Ok(Some(Field::Const(new)))
         }
         Field::TraitRef(TraitRef { def_id, args: old }) => {
             let args = fold_args_with(cx, old, folder)?;

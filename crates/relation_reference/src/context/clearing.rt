@@ -50,39 +50,35 @@ pub(crate) fn parts_inside<I: Interner>(
 
 // Whether a type was found clear before.
 fn was_clear<I: Interner>(
-    cx: &I,
+    _cx: &I,
     ty: &Ty<I>,
-    target: &TargetOf<I>,
+    _target: &TargetOf<I>,
     clear: &ClearTypes<I::Key>,
 ) -> bool
-    requires known { IsTrue (known ((I.meaning cx.now).ty ty.now)) }
-    requires clear { AreClear ⟦<TyKey<I::Key> as PartialEq>⟧.eq (I.meaning cx.now) (vid_kind target.now.vid)
-        (vid_number target.now.vid) target.now.universe.0 clear.now }
-    ensures { IsTrue result → IsClearFor (vid_kind target.now.vid) (vid_number target.now.vid) target.now.universe.0
-        ((I.meaning cx.now).ty ty.now) }
+    requires known { IsTrue (known ((I.meaning _cx.now).ty ty.now)) }
+    requires clear { AreClear ⟦<TyKey<I::Key> as PartialEq>⟧.eq (I.meaning _cx.now) (vid_kind _target.now.vid)
+        (vid_number _target.now.vid) _target.now.universe.0 clear.now }
+    ensures { IsTrue result → IsClearFor (vid_kind _target.now.vid) (vid_number _target.now.vid) _target.now.universe.0
+        ((I.meaning _cx.now).ty ty.now) }
 {
-    let _ = cx;
-    let _ = target;
     clear.contains(ty)
 }
 
 // Keeps that a type is clear.
 fn keep_clear<I: Interner>(
-    cx: &I,
+    _cx: &I,
     ty: &Ty<I>,
-    target: &TargetOf<I>,
+    _target: &TargetOf<I>,
     clear: &mut ClearTypes<I::Key>,
 ) -> Result<(), OutOfMemory>
-    requires known { IsTrue (known ((I.meaning cx.now).ty ty.now)) }
-    requires is_clear { IsClearFor (vid_kind target.now.vid) (vid_number target.now.vid) target.now.universe.0
-        ((I.meaning cx.now).ty ty.now) }
-    requires clear { AreClear ⟦<TyKey<I::Key> as PartialEq>⟧.eq (I.meaning cx.now) (vid_kind target.now.vid)
-        (vid_number target.now.vid) target.now.universe.0 clear.old }
-    ensures { OnOk result (AreClear ⟦<TyKey<I::Key> as PartialEq>⟧.eq (I.meaning cx.now) (vid_kind target.now.vid)
-        (vid_number target.now.vid) target.now.universe.0 clear.new) }
+    requires known { IsTrue (known ((I.meaning _cx.now).ty ty.now)) }
+    requires is_clear { IsClearFor (vid_kind _target.now.vid) (vid_number _target.now.vid) _target.now.universe.0
+        ((I.meaning _cx.now).ty ty.now) }
+    requires clear { AreClear ⟦<TyKey<I::Key> as PartialEq>⟧.eq (I.meaning _cx.now) (vid_kind _target.now.vid)
+        (vid_number _target.now.vid) _target.now.universe.0 clear.old }
+    ensures { OnOk result (AreClear ⟦<TyKey<I::Key> as PartialEq>⟧.eq (I.meaning _cx.now) (vid_kind _target.now.vid)
+        (vid_number _target.now.vid) _target.now.universe.0 clear.new) }
 {
-    let _ = cx;
-    let _ = target;
     clear.insert(*ty)?;
     Ok(())
 }

@@ -92,23 +92,22 @@ fn stays_if(stays: bool) -> Fate
 
 // What the type became at the variance on the side, if it was met before.
 fn recall_type<I: Interner>(
-    cx: &I,
+    _cx: &I,
     ty: &Ty<I>,
     inside: bool,
     variance: Variance,
     met: &MetTypes<I::Key>,
 ) -> Option<Ty<I>>
-    requires known { IsTrue (known ((I.meaning cx.now).ty ty.now)) }
-    requires sure { IsSure ⟦<MetKey<I::Key> as PartialEq>⟧.eq (I.meaning cx.now) met.now }
-    ensures sure { IfSome result (λ x. IsTrue (known ((I.meaning cx.now).ty x))) }
+    requires known { IsTrue (known ((I.meaning _cx.now).ty ty.now)) }
+    requires sure { IsSure ⟦<MetKey<I::Key> as PartialEq>⟧.eq (I.meaning _cx.now) met.now }
+    ensures sure { IfSome result (λ x. IsTrue (known ((I.meaning _cx.now).ty x))) }
     ensures met { IfSome result (λ x. (es : List Met) →
-        Keeps ⟦<MetKey<I::Key> as PartialEq>⟧.eq (I.meaning cx.now) met.now es →
-        Contains es (met_at (side_of inside) variance ((I.meaning cx.now).ty ty.now) ((I.meaning cx.now).ty x))) }
+        Keeps ⟦<MetKey<I::Key> as PartialEq>⟧.eq (I.meaning _cx.now) met.now es →
+        Contains es (met_at (side_of inside) variance ((I.meaning _cx.now).ty ty.now) ((I.meaning _cx.now).ty x))) }
     ensures not_met { IfNone result ((es : List Met) →
-        Keeps ⟦<MetKey<I::Key> as PartialEq>⟧.eq (I.meaning cx.now) met.now es →
-        (x : Tree) → Contains es (met_at (side_of inside) variance ((I.meaning cx.now).ty ty.now) x) → ⊥) }
+        Keeps ⟦<MetKey<I::Key> as PartialEq>⟧.eq (I.meaning _cx.now) met.now es →
+        (x : Tree) → Contains es (met_at (side_of inside) variance ((I.meaning _cx.now).ty ty.now) x) → ⊥) }
 {
-    let _ = cx;
     let key = MetKey {
         inside,
         variance,
@@ -119,24 +118,23 @@ fn recall_type<I: Interner>(
 
 // Keeps what the type became at the variance on the side.
 fn keep_type<I: Interner>(
-    cx: &I,
+    _cx: &I,
     ty: &Ty<I>,
     inside: bool,
     variance: Variance,
     became: Ty<I>,
     met: &mut MetTypes<I::Key>,
 ) -> Result<(), OutOfMemory>
-    requires ty_known { IsTrue (known ((I.meaning cx.now).ty ty.now)) }
-    requires became_known { IsTrue (known ((I.meaning cx.now).ty became)) }
-    requires sure { IsSure ⟦<MetKey<I::Key> as PartialEq>⟧.eq (I.meaning cx.now) met.old }
-    ensures sure { OnOk result (IsSure ⟦<MetKey<I::Key> as PartialEq>⟧.eq (I.meaning cx.now) met.new) }
+    requires ty_known { IsTrue (known ((I.meaning _cx.now).ty ty.now)) }
+    requires became_known { IsTrue (known ((I.meaning _cx.now).ty became)) }
+    requires sure { IsSure ⟦<MetKey<I::Key> as PartialEq>⟧.eq (I.meaning _cx.now) met.old }
+    ensures sure { OnOk result (IsSure ⟦<MetKey<I::Key> as PartialEq>⟧.eq (I.meaning _cx.now) met.new) }
     ensures keeps { OnOk result ((es : List Met) →
-        Keeps ⟦<MetKey<I::Key> as PartialEq>⟧.eq (I.meaning cx.now) met.old es →
-        ((x : Tree) → Contains es (met_at (side_of inside) variance ((I.meaning cx.now).ty ty.now) x) → ⊥) →
-        Keeps ⟦<MetKey<I::Key> as PartialEq>⟧.eq (I.meaning cx.now) met.new
-        (met_at (side_of inside) variance ((I.meaning cx.now).ty ty.now) ((I.meaning cx.now).ty became) ∷ es)) }
+        Keeps ⟦<MetKey<I::Key> as PartialEq>⟧.eq (I.meaning _cx.now) met.old es →
+        ((x : Tree) → Contains es (met_at (side_of inside) variance ((I.meaning _cx.now).ty ty.now) x) → ⊥) →
+        Keeps ⟦<MetKey<I::Key> as PartialEq>⟧.eq (I.meaning _cx.now) met.new
+        (met_at (side_of inside) variance ((I.meaning _cx.now).ty ty.now) ((I.meaning _cx.now).ty became) ∷ es)) }
 {
-    let _ = cx;
     let key = MetKey {
         inside,
         variance,

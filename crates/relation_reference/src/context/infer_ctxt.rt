@@ -9,11 +9,13 @@ ghost use Rattle.relation_reference.specs.Opened.{IsBinderIn};
 ghost use Rattle.relation_reference.specs.Changes.{EntersValue, InstantiatesValue};
 
 use crate::context::RefCtxt;
+use crate::context::table::{key_of, root_of, universe_of_class};
 use relation_folds::error::RelateResult;
 use relation_folds::fold::TypeFoldable;
 use relation_folds::visit::TypeVisitable;
 use relation_semantics::infer_ctxt::{BinderOf, InferCtxtLike, TypingMode, VisibleForLeakCheck};
 use relation_semantics::relate::StructurallyRelateAliases;
+use relation_terms::predicate::OutlivesPredicate;
 use relation_terms::terms::{
     Const, ConstVid, ErrorGuaranteed, FloatVarValue, FloatVid, IntVarValue, IntVid, Interner,
     OutOfMemory, Region, RegionVid, Span, Ty, TyVid, UniverseIndex, Variance,
@@ -42,11 +44,11 @@ impl<I: Interner> InferCtxtLike for RefCtxt<I> {
     fn interner_grows(&self) {}
 
     fn next_trait_solver(&self) -> bool {
-        self.next_trait_solver()
+        self.inner.next_solver
     }
 
     fn typing_mode_raw(&self) -> TypingMode<I::Key> {
-        self.typing_mode_raw()
+        self.inner.mode
     }
 
     fn universe(&self) -> UniverseIndex {
@@ -54,31 +56,31 @@ impl<I: Interner> InferCtxtLike for RefCtxt<I> {
     }
 
     fn budget_left(&self) -> usize {
-        self.budget_left()
+        self.inner.budget
     }
 
     fn universe_of_ty(&self, vid: TyVid) -> Option<UniverseIndex> {
-        self.universe_of_ty(vid)
+        universe_of_class(&self.inner.types, vid.0)
     }
 
     fn universe_of_lt(&self, vid: RegionVid) -> Option<UniverseIndex> {
-        self.universe_of_lt(vid)
+        universe_of_class(&self.inner.regions, vid.0)
     }
 
     fn universe_of_ct(&self, vid: ConstVid) -> Option<UniverseIndex> {
-        self.universe_of_ct(vid)
+        universe_of_class(&self.inner.consts, vid.0)
     }
 
     fn root_ty_var(&self, var: TyVid) -> TyVid {
-        self.root_ty_var(var)
+        TyVid(root_of(&self.inner.types, var.0))
     }
 
     fn sub_unification_table_root_var(&self, var: TyVid) -> TyVid {
-        self.sub_unification_table_root_var(var)
+        TyVid(self.inner.sub_roots[var.0])
     }
 
     fn root_const_var(&self, var: ConstVid) -> ConstVid {
-        self.root_const_var(var)
+        ConstVid(root_of(&self.inner.consts, var.0))
     }
 
     fn opportunistic_resolve_ty_var(&self, vid: TyVid) -> Ty<I> {
@@ -98,7 +100,7 @@ impl<I: Interner> InferCtxtLike for RefCtxt<I> {
     }
 
     fn opportunistic_resolve_lt_var(&self, vid: RegionVid) -> Region<I> {
-        self.opportunistic_resolve_lt_var(vid)
+        key_of(&self.inner.regions, vid.0)
     }
 
     fn shallow_resolve(&self, ty: &Ty<I>) -> Ty<I> {
@@ -236,7 +238,9 @@ impl<I: Interner> InferCtxtLike for RefCtxt<I> {
         r: &Region<I>,
         _span: Span<I>,
     ) -> Result<(), OutOfMemory> {
-        self.register_ty_outlives(ty, r)
+        let outlives = OutlivesPredicate(*ty, *r);
+        self.inner.ty_outlives.push(outlives)?;
+        Ok(())
     }
 
     fn set_tainted_by_errors(&mut self, e: ErrorGuaranteed) {

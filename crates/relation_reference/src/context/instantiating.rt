@@ -32,7 +32,7 @@ impl<I: Interner> RefCtxt<I> {
     /// takes an alias's to none.
     pub fn instantiate_ty_var_raw(
         &mut self,
-        structurally_relate_aliases: StructurallyRelateAliases,
+        aliases: StructurallyRelateAliases,
         target: TyVid,
         variance: Variance,
         source: &Ty<I>,
@@ -45,8 +45,7 @@ impl<I: Interner> RefCtxt<I> {
         requires source_no_variable { (n : ℕ) → ty_term I.meaning self.old source.now ≢ leaf (variable type_var n) }
         requires source_by_lists { BindByLists ((I.meaning self.old.interner).ty source.now) }
         ensures grows { Grows (context_in I.meaning self.old) (context_in I.meaning self.new) }
-        ensures instantiates { let g = structurally_relate_aliases in
-            InstantiatedTy I.meaning self.old self.new g variance target.0 source.now result }
+        ensures instantiates { InstantiatedTy I.meaning self.old self.new aliases variance target.0 source.now result }
         ensures rest { MarksNew (context_in I.meaning self.old) (context_in I.meaning self.new) }
     {
         if self.inner.budget == 0 {
@@ -56,7 +55,7 @@ impl<I: Interner> RefCtxt<I> {
         let goal = Target {
             vid: TermVid::Ty(target),
             universe: self.inner.types[target.0].universe,
-            aliases: structurally_relate_aliases,
+            aliases,
             cyclic: TypeError::CyclicTy(resolved),
         };
         let part = self.generalise(&Part::Ty(resolved), variance, &goal)?;
@@ -69,7 +68,7 @@ impl<I: Interner> RefCtxt<I> {
     /// The same of a constant variable and a constant that is no variable, at `Invariant`, with `CyclicConst`.
     pub fn instantiate_const_var_raw(
         &mut self,
-        structurally_relate_aliases: StructurallyRelateAliases,
+        aliases: StructurallyRelateAliases,
         target: ConstVid,
         source: &Const<I>,
     ) -> Result<Const<I>, RelateFaultOf<I>>
@@ -81,8 +80,7 @@ impl<I: Interner> RefCtxt<I> {
         requires source_no_variable { (n : ℕ) → const_term I.meaning self.old source.now ≢ leaf (variable const_var n) }
         requires source_by_lists { BindByLists ((I.meaning self.old.interner).const_ source.now) }
         ensures grows { Grows (context_in I.meaning self.old) (context_in I.meaning self.new) }
-        ensures instantiates { let g = structurally_relate_aliases in
-            InstantiatedConst I.meaning self.old self.new g target.0 source.now result }
+        ensures instantiates { InstantiatedConst I.meaning self.old self.new aliases target.0 source.now result }
         ensures rest { MarksNew (context_in I.meaning self.old) (context_in I.meaning self.new) }
     {
         if self.inner.budget == 0 {
@@ -92,7 +90,7 @@ impl<I: Interner> RefCtxt<I> {
         let goal = Target {
             vid: TermVid::Const(target),
             universe: self.inner.consts[target.0].universe,
-            aliases: structurally_relate_aliases,
+            aliases,
             cyclic: TypeError::CyclicConst(resolved),
         };
         let part = self.generalise(&Part::Const(resolved), Variance::Invariant, &goal)?;

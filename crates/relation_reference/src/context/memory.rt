@@ -47,35 +47,31 @@ fn key_of<X: Copy, D: Copy>(part: &Part<X, D>) -> Option<PartKey<X>>
 
 // What the part was resolved to, if it was met before. `inner` is what the parts were resolved by.
 pub(crate) fn recall_resolved<I: Interner>(
-    cx: &I,
-    inner: &InferCtxtInner<I::Key>,
+    _cx: &I,
+    _inner: &InferCtxtInner<I::Key>,
     part: &PartOf<I>,
     memory: &Resolutions<I::Key, I::Id>,
 ) -> Option<PartOf<I>>
-    requires known { IsTrue (known (part_tree (I.meaning cx.now) part.now)) }
-    requires remembers { Caches I.meaning cx.now inner.now ⟦<PartKey<I::Key> as PartialEq>⟧.eq memory.now }
-    ensures { let m = I.meaning cx.now in IfSome result (ResolvesTo m (store_of m inner.now) part.now) }
+    requires known { IsTrue (known (part_tree (I.meaning _cx.now) part.now)) }
+    requires remembers { Caches I.meaning _cx.now _inner.now ⟦<PartKey<I::Key> as PartialEq>⟧.eq memory.now }
+    ensures { let m = I.meaning _cx.now in IfSome result (ResolvesTo m (store_of m _inner.now) part.now) }
 {
-    let _ = cx;
-    let _ = inner;
     let key = key_of(part)?;
     memory.get(&key).copied()
 }
 
 // Keeps what the part was resolved to.
 pub(crate) fn keep_resolved<I: Interner>(
-    cx: &I,
-    inner: &InferCtxtInner<I::Key>,
+    _cx: &I,
+    _inner: &InferCtxtInner<I::Key>,
     part: &PartOf<I>,
     resolved: PartOf<I>,
     memory: &mut Resolutions<I::Key, I::Id>,
 ) -> Result<(), OutOfMemory>
-    requires comes { let m = I.meaning cx.now in ResolvesTo m (store_of m inner.now) part.now resolved }
-    requires remembers { Caches I.meaning cx.now inner.now ⟦<PartKey<I::Key> as PartialEq>⟧.eq memory.old }
-    ensures { OnOk result (Caches I.meaning cx.now inner.now ⟦<PartKey<I::Key> as PartialEq>⟧.eq memory.new) }
+    requires comes { let m = I.meaning _cx.now in ResolvesTo m (store_of m _inner.now) part.now resolved }
+    requires remembers { Caches I.meaning _cx.now _inner.now ⟦<PartKey<I::Key> as PartialEq>⟧.eq memory.old }
+    ensures { OnOk result (Caches I.meaning _cx.now _inner.now ⟦<PartKey<I::Key> as PartialEq>⟧.eq memory.new) }
 {
-    let _ = cx;
-    let _ = inner;
     if let Some(key) = key_of(part) {
         memory.insert(key, resolved)?;
     }

@@ -17,20 +17,10 @@ use crate::context::shallow::{
 };
 use crate::context::table::{probe, root_of};
 use crate::context::{RefCtxt, VariableValue};
+use relation_semantics::infer_ctxt::InferCtxtLike;
 use relation_terms::terms::{Const, ConstVid, FloatVid, IntVid, Interner, Ty, TyVid};
 
 impl<I: Interner> RefCtxt<I> {
-    /// The root of a type variable's class.
-    pub fn root_ty_var(&self, var: TyVid) -> TyVid
-        requires lawful { IsLawful (I.meaning self.now.interner) self.now.inner }
-        requires made { var.0 < length self.now.inner.types.items }
-        ensures made { result.0 < length self.now.inner.types.items }
-        ensures leads { LeadsTo (store_in I.meaning self.now) type_var var.0 result.0 }
-        ensures root { IsRoot (store_in I.meaning self.now) type_var result.0 }
-    {
-        TyVid(root_of(&self.inner.types, var.0))
-    }
-
     /// The root of an integer variable's class.
     pub fn root_int_var(&self, var: IntVid) -> IntVid
         requires lawful { IsLawful (I.meaning self.now.interner) self.now.inner }
@@ -51,17 +41,6 @@ impl<I: Interner> RefCtxt<I> {
         ensures root { IsRoot (store_in I.meaning self.now) float_var result.0 }
     {
         FloatVid(root_of(&self.inner.floats, var.0))
-    }
-
-    /// The root of a constant variable's class.
-    pub fn root_const_var(&self, var: ConstVid) -> ConstVid
-        requires lawful { IsLawful (I.meaning self.now.interner) self.now.inner }
-        requires made { var.0 < length self.now.inner.consts.items }
-        ensures made { result.0 < length self.now.inner.consts.items }
-        ensures leads { LeadsTo (store_in I.meaning self.now) const_var var.0 result.0 }
-        ensures root { IsRoot (store_in I.meaning self.now) const_var result.0 }
-    {
-        ConstVid(root_of(&self.inner.consts, var.0))
     }
 
     /// The type that a type variable's class is bound to, or none.

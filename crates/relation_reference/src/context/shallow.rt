@@ -15,15 +15,14 @@ use relation_semantics::variable_forms::{const_vid, float_vid, int_vid, ty_vid};
 use relation_terms::terms::{Const, ConstVid, FloatVid, IntVid, Interner, Ty, TyVid};
 
 // What is recorded of a type variable: the type that its class is bound to, or else the root of its class.
-fn found_ty<I: Interner>(cx: &I, inner: &InferCtxtInner<I::Key>, var: TyVid) -> Ty<I>
-    requires lawful { IsLawful (I.meaning cx.now) inner.now }
+fn found_ty<I: Interner>(_cx: &I, inner: &InferCtxtInner<I::Key>, var: TyVid) -> Ty<I>
+    requires lawful { IsLawful (I.meaning _cx.now) inner.now }
     requires made { var.0 < length inner.now.types.items }
-    ensures sure { IsTrue (known ((I.meaning cx.now).ty result)) }
-    ensures found { FindsTy (I.meaning cx.now) inner.now var.0 result }
-    ensures reads { VarReadsAsTy (I.meaning cx.now) inner.now type_var var.0 result }
-    ensures by_lists { BindByLists ((I.meaning cx.now).ty result) }
+    ensures sure { IsTrue (known ((I.meaning _cx.now).ty result)) }
+    ensures found { FindsTy (I.meaning _cx.now) inner.now var.0 result }
+    ensures reads { VarReadsAsTy (I.meaning _cx.now) inner.now type_var var.0 result }
+    ensures by_lists { BindByLists ((I.meaning _cx.now).ty result) }
 {
-    let _ = cx;
     term_of(&inner.types, var.0)
 }
 
@@ -64,52 +63,49 @@ pub(crate) fn ty_of_var<I: Interner>(cx: &I, inner: &InferCtxtInner<I::Key>, var
 
 // The type that an integer variable's class is bound to, or else the root of its class.
 pub(crate) fn ty_of_int_var<I: Interner>(
-    cx: &I,
+    _cx: &I,
     inner: &InferCtxtInner<I::Key>,
     var: IntVid,
 ) -> Ty<I>
-    requires lawful { IsLawful (I.meaning cx.now) inner.now }
+    requires lawful { IsLawful (I.meaning _cx.now) inner.now }
     requires made { var.0 < length inner.now.ints.items }
-    ensures sure { IsTrue (known ((I.meaning cx.now).ty result)) }
-    ensures reads { VarReadsAsTy (I.meaning cx.now) inner.now int_var var.0 result }
-    ensures shallow { IsShallow (store_of (I.meaning cx.now) inner.now) ((I.meaning cx.now).ty result) }
-    ensures by_lists { BindByLists ((I.meaning cx.now).ty result) }
+    ensures sure { IsTrue (known ((I.meaning _cx.now).ty result)) }
+    ensures reads { VarReadsAsTy (I.meaning _cx.now) inner.now int_var var.0 result }
+    ensures shallow { IsShallow (store_of (I.meaning _cx.now) inner.now) ((I.meaning _cx.now).ty result) }
+    ensures by_lists { BindByLists ((I.meaning _cx.now).ty result) }
 {
-    let _ = cx;
     term_of(&inner.ints, var.0)
 }
 
 // The type that a float variable's class is bound to, or else the root of its class.
 pub(crate) fn ty_of_float_var<I: Interner>(
-    cx: &I,
+    _cx: &I,
     inner: &InferCtxtInner<I::Key>,
     var: FloatVid,
 ) -> Ty<I>
-    requires lawful { IsLawful (I.meaning cx.now) inner.now }
+    requires lawful { IsLawful (I.meaning _cx.now) inner.now }
     requires made { var.0 < length inner.now.floats.items }
-    ensures sure { IsTrue (known ((I.meaning cx.now).ty result)) }
-    ensures reads { VarReadsAsTy (I.meaning cx.now) inner.now float_var var.0 result }
-    ensures shallow { IsShallow (store_of (I.meaning cx.now) inner.now) ((I.meaning cx.now).ty result) }
-    ensures by_lists { BindByLists ((I.meaning cx.now).ty result) }
+    ensures sure { IsTrue (known ((I.meaning _cx.now).ty result)) }
+    ensures reads { VarReadsAsTy (I.meaning _cx.now) inner.now float_var var.0 result }
+    ensures shallow { IsShallow (store_of (I.meaning _cx.now) inner.now) ((I.meaning _cx.now).ty result) }
+    ensures by_lists { BindByLists ((I.meaning _cx.now).ty result) }
 {
-    let _ = cx;
     term_of(&inner.floats, var.0)
 }
 
 // The constant that a constant variable's class is bound to, or else the root of its class.
 pub(crate) fn const_of_var<I: Interner>(
-    cx: &I,
+    _cx: &I,
     inner: &InferCtxtInner<I::Key>,
     var: ConstVid,
 ) -> Const<I>
-    requires lawful { IsLawful (I.meaning cx.now) inner.now }
+    requires lawful { IsLawful (I.meaning _cx.now) inner.now }
     requires made { var.0 < length inner.now.consts.items }
-    ensures sure { IsTrue (known ((I.meaning cx.now).const_ result)) }
-    ensures reads { VarReadsAsConst (I.meaning cx.now) inner.now var.0 result }
-    ensures shallow { IsShallowConst (store_of (I.meaning cx.now) inner.now) ((I.meaning cx.now).const_ result) }
-    ensures by_lists { BindByLists ((I.meaning cx.now).const_ result) }
+    ensures sure { IsTrue (known ((I.meaning _cx.now).const_ result)) }
+    ensures reads { VarReadsAsConst (I.meaning _cx.now) inner.now var.0 result }
+    ensures shallow { IsShallowConst (store_of (I.meaning _cx.now) inner.now) ((I.meaning _cx.now).const_ result) }
+    ensures by_lists { BindByLists ((I.meaning _cx.now).const_ result) }
 {
-    let _ = cx;
     term_of(&inner.consts, var.0)
 }
 

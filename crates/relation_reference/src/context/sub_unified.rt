@@ -50,17 +50,6 @@ pub(crate) fn join_roots(roots: &mut Vec<usize>, a: usize, b: usize)
 }
 
 impl<I: Interner> RefCtxt<I> {
-    /// The root of the class of those that are marked as related to a type variable.
-    pub fn sub_unification_table_root_var(&self, var: TyVid) -> TyVid
-        requires lawful { IsLawful (I.meaning self.now.interner) self.now.inner }
-        requires made { var.0 < length self.now.inner.types.items }
-        ensures made { result.0 < length self.now.inner.types.items }
-        ensures root { result.0 ≡ root_in self.now.inner.sub_roots.items var.0 }
-        ensures own { root_in self.now.inner.sub_roots.items result.0 ≡ result.0 }
-    {
-        TyVid(self.inner.sub_roots[var.0])
-    }
-
     /// Marks two type variables as related, with all that either is related to: the smaller of both roots is that of
     /// all of them. It takes no memory.
     pub fn sub_unify_ty_vids_raw(&mut self, a: TyVid, b: TyVid)

@@ -7,7 +7,7 @@ ghost use Rattle.relation_reference.specs.RefCtxt.{IsNew};
 use crate::context::InferCtxtInner;
 use crate::context::numbers::number_keys;
 use relation_semantics::infer_ctxt::TypingMode;
-use relation_terms::predicate::RegionConstraint;
+use relation_terms::predicate::{OutlivesPredicate, RegionConstraint};
 use relation_terms::terms::{ErrorGuaranteed, Interner, OutOfMemory, TyKey, UniverseIndex};
 use std::alloc::Global;
 
@@ -96,20 +96,6 @@ impl<I: Interner> RefCtxt<I> {
         RefCtxt { interner, inner }
     }
 
-    /// Whether the next trait solver is on, by how the context was made.
-    pub fn next_trait_solver(&self) -> bool
-        ensures { result ≡ self.now.inner.next_solver }
-    {
-        self.inner.next_solver
-    }
-
-    /// The typing mode, by how the context was made.
-    pub fn typing_mode_raw(&self) -> TypingMode<I::Key>
-        ensures { result ≡ self.now.inner.mode }
-    {
-        self.inner.mode
-    }
-
     /// Whether an error was met.
     pub fn tainted(&self) -> bool
         ensures { result ≡ self.now.inner.tainted }
@@ -128,13 +114,6 @@ impl<I: Interner> RefCtxt<I> {
         inner.tainted = true;
     }
 
-    /// How many instantiations may still be made.
-    pub fn budget_left(&self) -> usize
-        ensures { result ≡ self.now.inner.budget }
-    {
-        self.inner.budget
-    }
-
     /// Sets how many instantiations may still be made. All else stands.
     pub fn set_budget(&mut self, budget: usize)
         requires { IsLawful (I.meaning self.old.interner) self.old.inner }
@@ -151,5 +130,12 @@ impl<I: Interner> RefCtxt<I> {
         ensures { result.now ≡ self.now.inner.constraints.items }
     {
         self.inner.constraints.as_slice()
+    }
+
+    /// The types that are to outlive regions, in the order in which that was registered, repeats among them.
+    pub fn ty_outlives(&self) -> &[OutlivesPredicate<I::Key, TyKey<I::Key>>]
+        ensures { result.now ≡ self.now.inner.ty_outlives.items }
+    {
+        self.inner.ty_outlives.as_slice()
     }
 }

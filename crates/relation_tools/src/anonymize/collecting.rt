@@ -88,18 +88,16 @@ fn part_var<I: Interner>(cx: &I, part: &PartOf<I>, depth: u128) -> Option<UsedVa
 
 // Whether all variables of a part at this depth were collected already.
 fn was_met<I: Interner>(
-    cx: &I,
+    _cx: &I,
     part: &PartOf<I>,
     depth: u128,
-    vars: &[UsedVar],
+    _vars: &[UsedVar],
     met: &Met<I>,
 ) -> bool
-    requires known { IsTrue (known (part_tree (I.meaning cx.now) part.now)) }
-    requires remembered { Remembered (I.meaning cx.now) vars.now ⟦<Place<I::Key> as PartialEq>⟧.eq met.now.keys }
-    ensures { OnTrue result (AllIn vars.now (uses depth (part_tree (I.meaning cx.now) part.now))) }
+    requires known { IsTrue (known (part_tree (I.meaning _cx.now) part.now)) }
+    requires remembered { Remembered (I.meaning _cx.now) _vars.now ⟦<Place<I::Key> as PartialEq>⟧.eq met.now.keys }
+    ensures { OnTrue result (AllIn _vars.now (uses depth (part_tree (I.meaning _cx.now) part.now))) }
 {
-    let _ = cx;
-    let _ = vars;
     match place_of(part, depth) {
         Some(place) => met.contains(&place),
         None => false,
@@ -108,19 +106,17 @@ fn was_met<I: Interner>(
 
 // Keeps a part at a depth, where all its variables were collected.
 fn keep_collected<I: Interner>(
-    cx: &I,
+    _cx: &I,
     part: &PartOf<I>,
     depth: u128,
-    vars: &[UsedVar],
+    _vars: &[UsedVar],
     met: &mut Met<I>,
 ) -> Result<(), OutOfMemory>
-    requires known { IsTrue (known (part_tree (I.meaning cx.now) part.now)) }
-    requires collected { AllIn vars.now (uses depth (part_tree (I.meaning cx.now) part.now)) }
-    requires remembered { Remembered (I.meaning cx.now) vars.now ⟦<Place<I::Key> as PartialEq>⟧.eq met.old.keys }
-    ensures { OnOk result (Remembered (I.meaning cx.now) vars.now ⟦<Place<I::Key> as PartialEq>⟧.eq met.new.keys) }
+    requires known { IsTrue (known (part_tree (I.meaning _cx.now) part.now)) }
+    requires collected { AllIn _vars.now (uses depth (part_tree (I.meaning _cx.now) part.now)) }
+    requires remembered { Remembered (I.meaning _cx.now) _vars.now ⟦<Place<I::Key> as PartialEq>⟧.eq met.old.keys }
+    ensures { OnOk result (Remembered (I.meaning _cx.now) _vars.now ⟦<Place<I::Key> as PartialEq>⟧.eq met.new.keys) }
 {
-    let _ = cx;
-    let _ = vars;
     if let Some(place) = place_of(part, depth) {
         met.insert(place)?;
     }

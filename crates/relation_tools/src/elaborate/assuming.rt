@@ -64,16 +64,15 @@ pub fn assumed_argument<I: Interner>(
 
 // Adds an assumption.
 fn assume<I: Interner>(
-    cx: &I,
+    _cx: &I,
     assumption: OutlivesAssumption<I>,
     collected: &mut HashSet<OutlivesAssumption<I>>,
 ) -> Result<(), OutOfMemory>
-    requires known { IsKnown (I.meaning cx.now) assumption }
-    requires sure { All (IsKnown (I.meaning cx.now)) collected.old.keys }
-    ensures { let m = I.meaning cx.now in
+    requires known { IsKnown (I.meaning _cx.now) assumption }
+    requires sure { All (IsKnown (I.meaning _cx.now)) collected.old.keys }
+    ensures { let m = I.meaning _cx.now in
         OnOk result (Gains m m collected.old.keys collected.new.keys (assumed m assumption ∷ [])) }
 {
-    let _ = cx;
     collected.insert(assumption)?;
     Ok(())
 }

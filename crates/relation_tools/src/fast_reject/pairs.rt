@@ -26,10 +26,9 @@ pub enum Pair<X> {
     Args(ArgsKey<X>, ArgsKey<X>),
 }
 
-fn is_same_id<I: Interner>(cx: &I, id: &I::Id, other: &I::Id) -> bool
-    ensures { IsTrue result ↔ ((I.meaning cx.now).id id.now ≡ (I.meaning cx.now).id other.now) }
+fn is_same_id<I: Interner>(_cx: &I, id: &I::Id, other: &I::Id) -> bool
+    ensures { IsTrue result ↔ ((I.meaning _cx.now).id id.now ≡ (I.meaning _cx.now).id other.now) }
 {
-    let _ = cx;
     id == other
 }
 

@@ -159,12 +159,11 @@ fn object_key<I: Interner>(
 fn fn_ptr_key<I: Interner>(
     cx: &I,
     types: &Binder<I::Key, FnSigTys<I::Key>>,
-    header: &FnHeader,
+    _header: &FnHeader,
 ) -> SimplifiedType<ItemOf<I>>
-    requires { IsTrue (known (kind_tree (I.meaning cx.now) (FnPtr types.now header.now))) }
-    ensures { result ≡ Function (inputs_count (parts_of (kind_tree (I.meaning cx.now) (FnPtr types.now header.now)))) }
+    requires { IsTrue (known (kind_tree (I.meaning cx.now) (FnPtr types.now _header.now))) }
+    ensures { result ≡ Function (inputs_count (parts_of (kind_tree (I.meaning cx.now) (FnPtr types.now _header.now)))) }
 {
-    let _ = header;
     SimplifiedType::Function(member_count(cx, &Parts::Inputs(types.value.inputs_and_output)))
 }
 

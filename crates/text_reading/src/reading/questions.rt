@@ -211,6 +211,16 @@ fn read_asked(reader: &mut Reader) -> Result<usize, ReadError>
     if reader.accept(Sign::Rigid) {
         return read_about(reader, start, Form::Rigid);
     }
+    read_asked_of_several(reader, start)
+}
+
+// The same of what is asked of several terms, of clauses, or of variables.
+fn read_asked_of_several(reader: &mut Reader, start: usize) -> Result<usize, ReadError>
+    requires { start ≤ reader.old.tree.text_len }
+    ensures goes { GoesOn reader.old reader.new }
+    ensures node { IfOk result (Makes reader.old reader.new) }
+    ensures wrong { IfErr result (LiesIn reader.old.tree.text_len) }
+{
     if reader.accept(Sign::May) {
         return read_may_unify(reader, start);
     }

@@ -3,7 +3,7 @@ ghost use Rattle.std.specs.Prelude.{◌≡◌, ℕ, List, Some, IsTrue, IfSome, 
 ghost use Rattle.relation_terms.specs.Heads.{tuple, expression, value_branch};
 ghost use Rattle.relation_terms.specs.Trees.{Tree, known, node, list_tree};
 ghost use Rattle.relation_terms.specs.Meaning.{Extends, arg_tree, kind_tree, region_tree, const_tree, valtree_tree};
-ghost use Rattle.text_terms.specs.Terms.{value_tree, term_tree};
+ghost use Rattle.text_terms.specs.Terms.{value_tree, text_term_tree};
 ghost use Rattle.text_terms.specs.Built.{AreKnown, AreInnerKnown, Makes, MakesKey, MakesPart, MakesTree};
 ghost use Rattle.text_terms.specs.Built.{IsFormOf, IsRegionOf, IsConstOf};
 
@@ -229,7 +229,7 @@ fn make_fixed<I: Interner>(
     requires { AreKnown (I.meaning cx.old) built.now }
     ensures grown { Extends (I.meaning cx.old) (I.meaning cx.new) }
     ensures made { (items names parts : List ℕ) →
-        Makes (I.meaning cx.old) (I.meaning cx.new) built.now (λ ts. term_tree items names parts ts term) result }
+        Makes (I.meaning cx.old) (I.meaning cx.new) built.now (λ ts. text_term_tree items names parts ts term) result }
 {
     match term {
         Term::Slice(element) => {
@@ -269,7 +269,8 @@ fn make_listed<I: Interner>(
     requires { AreKnown (I.meaning cx.old) built.now }
     ensures grown { Extends (I.meaning cx.old) (I.meaning cx.new) }
     ensures made { let m = I.meaning cx.old in (names : List ℕ) →
-        Makes m (I.meaning cx.new) built.now (λ ts. term_tree (map m.id ids.now) names numbers.now ts term) result }
+        Makes m (I.meaning cx.new) built.now
+        (λ ts. text_term_tree (map m.id ids.now) names numbers.now ts term) result }
 {
     match term {
         Term::Item(sort, item, parts) => {
@@ -298,7 +299,7 @@ fn make_listed<I: Interner>(
 fn make_leaf<I: Interner>(cx: &mut I, names: &[I::Name], term: Term) -> Option<GenericArg<I>>
     ensures grown { Extends (I.meaning cx.old) (I.meaning cx.new) }
     ensures made { let m = I.meaning cx.old in (items parts : List ℕ) (ts : List Tree) →
-        MakesTree (I.meaning cx.new) (term_tree items (map m.name names.now) parts ts term) result }
+        MakesTree (I.meaning cx.new) (text_term_tree items (map m.name names.now) parts ts term) result }
 {
     if let Some(form) = ty_leaf::<I>(names, term) {
         return make_ty(cx, form);

@@ -5,6 +5,7 @@ ghost use Rattle.relation_terms.specs.declared.terms.part_kind.Part.TheVariants.
 ghost use Rattle.relation_terms.specs.declared.terms.part_kind.Body.TheVariants.{Signature as SignatureBody};
 ghost use Rattle.relation_terms.specs.declared.terms.part_kind.Body.TheVariants.{Ty as TyBody};
 ghost use Rattle.relation_terms.specs.declared.terms.ty_kind.TyKind.TheVariants.{FnPtr, UnsafeBinder};
+ghost use Rattle.relation_terms.specs.declared.terms.ty_kind.TyKind.TheVariants.{Array, RawPtr, Ref, Dynamic};
 ghost use Rattle.relation_terms.specs.Parts.{ty_view, const_view, valtree_view, ty_made, const_made, valtree_made};
 ghost use Rattle.relation_terms.specs.Parts.{pattern_view, pattern_made, existential_view, existential_made};
 
@@ -15,8 +16,8 @@ use crate::terms::parts::keys::{
     value_type_or, vars_or,
 };
 use crate::terms::{
-    AliasTy, Binder, Body, ConstKind, FnHeader, FnSigTys, Part, Parts, PatternKind, TyKey, TyKind,
-    UnevaluatedConst, ValTreeKind,
+    AliasTy, Binder, Body, ConstKey, ConstKind, ExistentialPredicatesKey, FnHeader, FnSigTys,
+    Mutability, Part, Parts, PatternKind, RegionKey, TyKey, TyKind, UnevaluatedConst, ValTreeKind,
 };
 
 /// The parts of a type, by its form.
@@ -175,6 +176,64 @@ pub fn existential_over<X: Copy, D: Copy>(
     }
 }
 
+// The array of another type and length.
+fn array_over<X: Copy, D: Copy, N: Copy>(
+    element: &TyKey<X>,
+    length: &ConstKey<X>,
+    parts: &Parts<X, D>,
+) -> TyKind<X, D, N>
+    ensures { result ≡ ty_made (Array element.now length.now) parts.now }
+{
+    TyKind::Array(
+        ty_or(&first_or(parts, Part::Ty(*element)), element),
+        const_or(&second_or(parts, Part::Const(*length)), length),
+    )
+}
+
+// The raw pointer to another type.
+fn raw_ptr_over<X: Copy, D: Copy, N: Copy>(
+    pointee: &TyKey<X>,
+    mutability: Mutability,
+    parts: &Parts<X, D>,
+) -> TyKind<X, D, N>
+    ensures { result ≡ ty_made (RawPtr pointee.now mutability) parts.now }
+{
+    TyKind::RawPtr(
+        ty_or(&first_or(parts, Part::Ty(*pointee)), pointee),
+        mutability,
+    )
+}
+
+// The reference of another region to another type.
+fn ref_over<X: Copy, D: Copy, N: Copy>(
+    region: &RegionKey<X>,
+    pointee: &TyKey<X>,
+    mutability: Mutability,
+    parts: &Parts<X, D>,
+) -> TyKind<X, D, N>
+    ensures { result ≡ ty_made (Ref region.now pointee.now mutability) parts.now }
+{
+    TyKind::Ref(
+        region_or(&first_or(parts, Part::Region(*region)), region),
+        ty_or(&second_or(parts, Part::Ty(*pointee)), pointee),
+        mutability,
+    )
+}
+
+// The trait object of other predicates and another region.
+fn dynamic_over<X: Copy, D: Copy, N: Copy>(
+    predicates: &ExistentialPredicatesKey<X>,
+    region: &RegionKey<X>,
+    parts: &Parts<X, D>,
+) -> TyKind<X, D, N>
+    ensures { result ≡ ty_made (Dynamic predicates.now region.now) parts.now }
+{
+    TyKind::Dynamic(
+        object_or(&first_or(parts, Part::Object(*predicates)), predicates),
+        region_or(&second_or(parts, Part::Region(*region)), region),
+    )
+}
+
 // The form of a type over other parts, alike to its own.
 pub fn ty_over<X: Copy, D: Copy, N: Copy>(
     kind: &TyKind<X, D, N>,
@@ -183,10 +242,7 @@ pub fn ty_over<X: Copy, D: Copy, N: Copy>(
     ensures { result ≡ ty_made kind.now parts.now }
 {
     match kind {
-        TyKind::Array(element, length) => TyKind::Array(
-            ty_or(&first_or(parts, Part::Ty(*element)), element),
-            const_or(&second_or(parts, Part::Const(*length)), length),
-        ),
+        TyKind::Array(element, length) => array_over(element, length, parts),
         TyKind::Pat(base, pat) => TyKind::Pat(
             ty_or(&first_or(parts, Part::Ty(*base)), base),
             pat_or(&second_or(parts, Part::Pat(*pat)), pat),
@@ -194,24 +250,12 @@ pub fn ty_over<X: Copy, D: Copy, N: Copy>(
         TyKind::Slice(element) => {
             TyKind::Slice(ty_or(&first_or(parts, Part::Ty(*element)), element))
         }
-        TyKind::RawPtr(pointee, mutability) => {
-            TyKind::RawPtr(
-                ty_or(&first_or(parts, Part::Ty(*pointee)), pointee),
-                *mutability,
-            )
-        }
-        TyKind::Ref(region, pointee, mutability) => TyKind::Ref(
-            region_or(&first_or(parts, Part::Region(*region)), region),
-            ty_or(&second_or(parts, Part::Ty(*pointee)), pointee),
-            *mutability,
-        ),
+        TyKind::RawPtr(pointee, mutability) => raw_ptr_over(pointee, *mutability, parts),
+        TyKind::Ref(region, pointee, mutability) => ref_over(region, pointee, *mutability, parts),
         TyKind::Tuple(members) => TyKind::Tuple(tys_or(parts, members)),
         TyKind::FnPtr(types, header) => fn_ptr_over(types, header, parts),
         TyKind::UnsafeBinder(inner) => unsafe_over(inner, parts),
-        TyKind::Dynamic(predicates, region) => TyKind::Dynamic(
-            object_or(&first_or(parts, Part::Object(*predicates)), predicates),
-            region_or(&second_or(parts, Part::Region(*region)), region),
-        ),
+        TyKind::Dynamic(predicates, region) => dynamic_over(predicates, region, parts),
         TyKind::Adt(def, args) => TyKind::Adt(*def, args_or(parts, args)),
         TyKind::FnDef(def, args) => TyKind::FnDef(*def, args_or(parts, args)),
         TyKind::Closure(def, args) => TyKind::Closure(*def, args_or(parts, args)),

@@ -10,22 +10,20 @@ use crate::terms::parts::keys::key_of;
 use crate::terms::{Body, BoundVarsKey, FnSig, Interner, Part, PartOf, TermKind};
 
 // Whether two signatures are over one list of types, with one header.
-fn is_same_signature<I: Interner>(cx: &I, sig: &FnSig<I::Key>, other: &FnSig<I::Key>) -> bool
-    requires sig_known { IsTrue (known (signature_tree (I.meaning cx.now) sig.now)) }
-    requires other_known { IsTrue (known (signature_tree (I.meaning cx.now) other.now)) }
-    ensures { IsTrue result → signature_tree (I.meaning cx.now) sig.now ≡ signature_tree (I.meaning cx.now) other.now }
+fn is_same_signature<I: Interner>(_cx: &I, sig: &FnSig<I::Key>, other: &FnSig<I::Key>) -> bool
+    requires sig_known { IsTrue (known (signature_tree (I.meaning _cx.now) sig.now)) }
+    requires other_known { IsTrue (known (signature_tree (I.meaning _cx.now) other.now)) }
+    ensures { let m = I.meaning _cx.now in IsTrue result → signature_tree m sig.now ≡ signature_tree m other.now }
 {
-    let _ = cx;
     sig.inputs_and_output.0 == other.inputs_and_output.0 && sig.header == other.header
 }
 
 // Whether two terms of predicates are one type, or one constant.
-fn is_same_term<I: Interner>(cx: &I, term: &TermKind<I::Key>, other: &TermKind<I::Key>) -> bool
-    requires term_known { IsTrue (known (term_tree (I.meaning cx.now) term.now)) }
-    requires other_known { IsTrue (known (term_tree (I.meaning cx.now) other.now)) }
-    ensures { IsTrue result → term_tree (I.meaning cx.now) term.now ≡ term_tree (I.meaning cx.now) other.now }
+fn is_same_term<I: Interner>(_cx: &I, term: &TermKind<I::Key>, other: &TermKind<I::Key>) -> bool
+    requires term_known { IsTrue (known (term_tree (I.meaning _cx.now) term.now)) }
+    requires other_known { IsTrue (known (term_tree (I.meaning _cx.now) other.now)) }
+    ensures { IsTrue result → term_tree (I.meaning _cx.now) term.now ≡ term_tree (I.meaning _cx.now) other.now }
 {
-    let _ = cx;
     match term {
         TermKind::Ty(ty) => match other {
             TermKind::Ty(other) => ty.0 == other.0,

@@ -4,8 +4,8 @@ use Rattle.relation_folds.proofs.fold.memory.keep.Goals as goal
 
 pub returns-in_ok-insert : goal.returns-in_ok-insert
 returns-in_ok-insert g c =
-    let m = g.I.Interner.meaning c.args.cx.now in
-    let puts = g.F.TypeFolder.replaces m c.args.folder.now in
+    let m = g.I.Interner.meaning c.args._cx.now in
+    let puts = g.F.TypeFolder.replaces m c.args._folder.now in
     let eq = place_eq g.I.Key.PartialEq.eq in
     remembers_more m puts eq (c.args.memory.now).made c.insert.new.self c.args.part.now c.args.depth c.args.made
     c.in-Some.place (sym c.place_of.ensures ∙ c.in-Some.is) c.requires.made c.in_ok-insert.ensures.updates.0 c.requires.remembers

@@ -5,11 +5,11 @@ use Rattle.relation_folds.proofs.fold.memory.recall.Goals as goal
 
 pub returns : goal.returns
 returns g c =
-    let m = g.I.Interner.meaning c.args.cx.now in
-    let puts = g.F.TypeFolder.replaces m c.args.folder.now in
+    let m = g.I.Interner.meaning c.args._cx.now in
+    let puts = g.F.TypeFolder.replaces m c.args._folder.now in
     let eq = g.I.Key.PartialEq.eq in
     let laws = g.met.I.Interner in
-    let a = c.args.cx.now in
+    let a = c.args._cx.now in
     recalled m puts eq (same_part m eq (laws.same_ty a) (laws.same_region a) (laws.same_const a) (laws.same_valtree a)
     (laws.same_pat a) (laws.same_existential_predicates a)) (c.args.memory.now).made c.requires.remembers c.args.part.now
     c.args.depth c.in_ok-place.place (sym c.place_of.ensures ∙ c.in_ok-place.was) c.requires.known c.copied.result (c.copied.ensures ∙ c.get.ensures.value)

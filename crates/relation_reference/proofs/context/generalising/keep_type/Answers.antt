@@ -4,10 +4,10 @@ use Rattle.relation_reference.proofs.context.generalising.keep_type.Goals as goa
 
 pub returns : goal.returns
 returns g c =
-    let m = g.I.Interner.meaning c.args.cx.now in
+    let m = g.I.Interner.meaning c.args._cx.now in
     let eq = g.I.Key.PartialEq.eq in
     let laws = g.met.I.Key.Eq.laws in
-    let same = g.met.I.Interner.same_ty c.args.cx.now in
+    let same = g.met.I.Interner.same_ty c.args._cx.now in
     let q : MetKey _ = record { inside = c.args.inside; variance = c.args.variance; ty = c.args.ty.now } in
     let updates = c.in_ok-insert.ensures.updates.0 in
     record {

@@ -5,10 +5,10 @@ use Rattle.relation_reference.proofs.context.generalising.recall_type.Goals as g
 
 pub returns : goal.returns
 returns g c =
-    let m = g.I.Interner.meaning c.args.cx.now in
+    let m = g.I.Interner.meaning c.args._cx.now in
     let eq = g.I.Key.PartialEq.eq in
     let laws = g.met.I.Key.Eq.laws in
-    let same = g.met.I.Interner.same_ty c.args.cx.now in
+    let same = g.met.I.Interner.same_ty c.args._cx.now in
     let q : MetKey _ = record { inside = c.args.inside; variance = c.args.variance; ty = c.args.ty.now } in
     let found = c.copied.ensures ∙ c.get.ensures.value in
     record {

@@ -6,13 +6,13 @@ use Rattle.relation_reference.proofs.context.memory.recall_resolved.Goals as goa
 
 pub returns : goal.returns
 returns g c =
-    let m = g.I.Interner.meaning c.args.cx.now in
+    let m = g.I.Interner.meaning c.args._cx.now in
     let eq = g.I.Key.PartialEq.eq in
     let laws = g.met.I.Interner in
-    let a = c.args.cx.now in
+    let a = c.args._cx.now in
     let memory = c.args.memory.now in
     let found = c.copied.ensures ∙ c.get.ensures.value in
-    recalled m (store_of m c.args.inner.now) eq
+    recalled m (store_of m c.args._inner.now) eq
     (same_part m eq (laws.same_ty a) (laws.same_region a) (laws.same_const a) (laws.same_valtree a) (laws.same_pat a)
     (laws.same_existential_predicates a))
     memory c.requires.remembers c.args.part.now c.in_ok-key.key

@@ -7,7 +7,7 @@ use Rattle.relation_reference.proofs.context.shallow.found_ty.Goals as goal
 
 pub term_of-requires-clause-root_made : goal.term_of-requires-clause-root_made
 term_of-requires-clause-root_made g c =
-    let m = g.I.Interner.meaning c.args.cx.now in
+    let m = g.I.Interner.meaning c.args._cx.now in
     let x = c.args.inner.now in
     let l = c.requires.lawful in
     let v = c.args.var.0 in
@@ -15,7 +15,7 @@ term_of-requires-clause-root_made g c =
 
 pub returns : goal.returns
 returns g c =
-    let m = g.I.Interner.meaning c.args.cx.now in
+    let m = g.I.Interner.meaning c.args._cx.now in
     let x = c.args.inner.now in
     let st = store_of m x in
     let l = c.requires.lawful in

@@ -5,7 +5,7 @@ use Rattle.relation_tools.proofs.anonymize.collecting.keep_collected.Goals as go
 
 pub returns-in_ok-insert : goal.returns-in_ok-insert
 returns-in_ok-insert g c =
-    let m = g.I.Interner.meaning c.args.cx.now in
-    remembers_more m c.args.vars.now (place_eq g.I.Key.PartialEq.eq) c.args.part.now c.args.depth c.in-Some.place
+    let m = g.I.Interner.meaning c.args._cx.now in
+    remembers_more m c.args._vars.now (place_eq g.I.Key.PartialEq.eq) c.args.part.now c.args.depth c.in-Some.place
     c.args.met.now.keys c.insert.new.self.keys (sym c.place_of.ensures ∙ c.in-Some.is) c.requires.known
     c.requires.collected c.in_ok-insert.ensures.updates.0 c.requires.remembered

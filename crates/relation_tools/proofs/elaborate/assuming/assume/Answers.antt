@@ -7,7 +7,7 @@ use Rattle.relation_tools.proofs.elaborate.assuming.assume.Goals as goal
 
 pub returns : goal.returns
 returns g c =
-    let a = c.args.cx.now in
+    let a = c.args._cx.now in
     let m = g.I.Interner.meaning a in
     let laws = g.met.I.Interner in
     let eq = (ghosts g.row.I-Key g.I.Key.PartialEq g.I.Key.PartialEq-dict).eq in

@@ -1,5 +1,5 @@
 use Rattle.std.proofs.Common.{map}
-use Rattle.text_terms.specs.Terms.{term_tree}
+use Rattle.text_terms.specs.Terms.{text_term_tree}
 use Rattle.text_terms.specs.Built.{inner_tree}
 use Rattle.text_terms.proofs.BuildingLemmas.{from_of}
 use Rattle.text_terms.proofs.building.making.make_either.Goals as goal
@@ -14,5 +14,5 @@ returns-in-Implements-clause-inner g c =
     let m = g.I.Interner.meaning c.args.cx.now in
     let items = map m.id c.args.ids.now in
     let names = map m.name c.args.names.now in
-    from_of m c.args.built.now c.args.inners.now (λ ts. term_tree items names c.args.numbers.now ts c.args.term) (inner_tree (g.I.Interner.meaning c.make_predicate.new.cx)) c.make_predicate.result
+    from_of m c.args.built.now c.args.inners.now (λ ts. text_term_tree items names c.args.numbers.now ts c.args.term) (inner_tree (g.I.Interner.meaning c.make_predicate.new.cx)) c.make_predicate.result
     (c.make_predicate.ensures.made names)

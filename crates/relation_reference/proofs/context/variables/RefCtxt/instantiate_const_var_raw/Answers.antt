@@ -44,7 +44,7 @@ returns-in_err-resolved-clause-rest g c =
 pub returns-in_err-resolved-clause-instantiates : goal.returns-in_err-resolved-clause-instantiates
 returns-in_err-resolved-clause-instantiates g c =
     let r = c.resolve_const.ensures in
-    out_of_memory r.grown c.args.self.now.inner c.resolve_const.new.self.inner r.inner c.requires.lawful (λ z. z.const_) CyclicConst c.args.structurally_relate_aliases const_var c.args.target.0 Invariant
+    out_of_memory r.grown c.args.self.now.inner c.resolve_const.new.self.inner r.inner c.requires.lawful (λ z. z.const_) CyclicConst c.args.aliases const_var c.args.target.0 Invariant
     ((g.I.Interner.meaning c.args.self.now.interner).const_ c.args.source.now) (let d = c.if-self-eq0.false in λ e. omega (arith, d, e))
     c.from_residual.result c.from_residual.ensures.0 c.from_residual.ensures.1
 
@@ -99,7 +99,7 @@ returns-in_err-part-clause-instantiates g c =
     let e = c.in_err-part.ensures in
     let u = c.index.result.now.universe.0 in
     let stay = e.grown.const_ key c.in_ok-resolved.ensures.sure in
-    stopped o r.grown x w z r.inner l c.args.structurally_relate_aliases const_var i u universe e.makes (λ a. a.const_) CyclicConst Invariant (m.const_ c.args.source.now)
+    stopped o r.grown x w z r.inner l c.args.aliases const_var i u universe e.makes (λ a. a.const_) CyclicConst Invariant (m.const_ c.args.source.now)
     (let d = c.if-self-eq0.false in λ q. omega (arith, d, q)) (table_made m.const_ x.consts.items i c.requires.target_made) c.requires.target_unbound key c.in_ok-resolved.ensures.resolves
     (knows_as (n.const_ key) (o.const_ key) stay c.in_ok-resolved.ensures.sure) stay Invariant (Const key) refl f e.generalised c.from_residual-in_err-part.result
     (as_err c.from_residual-in_err-part.result f c.from_residual-in_err-part.ensures.0 c.from_residual-in_err-part.ensures.1)
@@ -117,7 +117,7 @@ bind-requires g c =
     let l = c.requires.lawful in
     let within = subst (λ a. i < length a.consts.items) (sym r.inner) c.requires.target_made in
     let universe = universe_read w.consts.items i c.index.result.now within c.index.ensures in
-    table_of_entries o.const_ z.consts.items i (made_still o r.grown x w z r.inner l c.args.structurally_relate_aliases const_var i c.index.result.now.universe.0 universe c.in_ok-part.ensures.makes (table_made m.const_ x.consts.items i c.requires.target_made))
+    table_of_entries o.const_ z.consts.items i (made_still o r.grown x w z r.inner l c.args.aliases const_var i c.index.result.now.universe.0 universe c.in_ok-part.ensures.makes (table_made m.const_ x.consts.items i c.requires.target_made))
 
 pub overflow_sub-self : goal.overflow_sub-self
 overflow_sub-self g c =
@@ -132,7 +132,7 @@ overflow_sub-self g c =
     let l = c.requires.lawful in
     let within = subst (λ a. i < length a.consts.items) (sym r.inner) c.requires.target_made in
     let universe = universe_read w.consts.items i c.index.result.now within c.index.ensures in
-    let s = left_still o r.grown x w z r.inner l c.args.structurally_relate_aliases const_var i c.index.result.now.universe.0 universe c.in_ok-part.ensures.makes in
+    let s = left_still o r.grown x w z r.inner l c.args.aliases const_var i c.index.result.now.universe.0 universe c.in_ok-part.ensures.makes in
     let d = c.if-self-eq0.false in
     omega (arith, s, d)
 
@@ -153,7 +153,7 @@ returns g c =
     let t = m.const_ c.args.source.now in
     let u = c.index.result.now.universe.0 in
     let e = c.in_ok-part.ensures in
-    let s = left_still o r.grown x w z r.inner l c.args.structurally_relate_aliases const_var i u universe e.makes in
+    let s = left_still o r.grown x w z r.inner l c.args.aliases const_var i u universe e.makes in
     let left : z.budget ≡ suc (z.budget - 1) = (let d = c.if-self-eq0.false in omega (arith, s, d)) in
     let b = c.the_const-bound.result in
     let is : part_tree o c.in_ok-part.part ≡ o.const_ b = sym (ap (part_tree o) c.the_const-bound.ensures) in
@@ -167,8 +167,8 @@ returns g c =
     let sorted = (g.met.I.Interner.sorted c.args.self.now.interner).const_ c.args.source.now c.requires.source_known in
     let full = n.const_ key in
     let comes = c.in_ok-resolved.ensures.resolves in
-    let gen : (last : Stage) × (last.store ≡ store_of o z) × Generalised c.args.structurally_relate_aliases (items_of n) (store_of n w) const_var i (any_part outside Invariant) (record { store = store_of n w; met = [] }) full last (o.const_ b) = (e.generalised.2.0, e.generalised.2.1, subst (λ a. Generalised c.args.structurally_relate_aliases (items_of n) (store_of n w) const_var i (any_part outside Invariant) (record { store = store_of n w; met = [] }) full e.generalised.2.0 a) is e.generalised.2.2) in
-    let here = generalised_here o r.grown x w z r.inner l c.args.structurally_relate_aliases const_var i u universe e.makes y (o.const_ b) full tt Invariant t made c.requires.target_unbound e.lawful beside keys entries c.bind.ensures.universes left comes gen c.requires.source_in sorted in
+    let gen : (last : Stage) × (last.store ≡ store_of o z) × Generalised c.args.aliases (items_of n) (store_of n w) const_var i (any_part outside Invariant) (record { store = store_of n w; met = [] }) full last (o.const_ b) = (e.generalised.2.0, e.generalised.2.1, subst (λ a. Generalised c.args.aliases (items_of n) (store_of n w) const_var i (any_part outside Invariant) (record { store = store_of n w; met = [] }) full e.generalised.2.0 a) is e.generalised.2.2) in
+    let here = generalised_here o r.grown x w z r.inner l c.args.aliases const_var i u universe e.makes y (o.const_ b) full tt Invariant t made c.requires.target_unbound e.lawful beside keys entries c.bind.ensures.universes left comes gen c.requires.source_in sorted in
     let may = const_may m x l t here c.requires.source_by_lists sorted c.requires.source_no_variable c.requires.source_in ((g.met.I.Interner.sorted c.generalise.new.self.interner).const_ b sure) in
     let rest = marks_bound g.I.Interner.meaning c.args.self.now c.resolve_const.new.self c.generalise.new.self
     (record { interner = c.generalise.new.self.interner; inner = y }) r.grown r.inner l refl refl refl
@@ -176,11 +176,11 @@ returns g c =
     record {
       grows = record {
         extends = extends_on r.grown e.grown;
-        lawful = bound_lawful o r.grown x w z r.inner l c.args.structurally_relate_aliases const_var i u universe e.makes y (o.const_ b) full tt Invariant t made c.requires.target_unbound e.lawful beside keys entries c.bind.ensures.universes left comes gen c.requires.source_in sorted may;
+        lawful = bound_lawful o r.grown x w z r.inner l c.args.aliases const_var i u universe e.makes y (o.const_ b) full tt Invariant t made c.requires.target_unbound e.lawful beside keys entries c.bind.ensures.universes left comes gen c.requires.source_in sorted may;
         setup = rest.setup;
         outliving = rest.outliving;
       };
-      instantiates = (sure, by_rules o r.grown x w z r.inner l c.args.structurally_relate_aliases const_var i u universe e.makes y (o.const_ b) full tt Invariant t made c.requires.target_unbound e.lawful beside keys entries c.bind.ensures.universes left comes gen c.requires.source_in sorted);
+      instantiates = (sure, by_rules o r.grown x w z r.inner l c.args.aliases const_var i u universe e.makes y (o.const_ b) full tt Invariant t made c.requires.target_unbound e.lawful beside keys entries c.bind.ensures.universes left comes gen c.requires.source_in sorted);
       rest = rest;
     }
 

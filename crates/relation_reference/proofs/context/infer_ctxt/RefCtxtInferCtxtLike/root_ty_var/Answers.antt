@@ -1,11 +1,11 @@
-use Rattle.std.proofs.Common.{◌<◌, refl, sym, subst, length}
+use Rattle.std.proofs.Common.{refl, sym, subst}
 use Rattle.relation_terms.specs.Heads.{type_var}
 use Rattle.relation_semantics.specs.Steps.{LeadsTo}
+use Rattle.relation_semantics.specs.Stores.{IsMade}
 use Rattle.relation_reference.specs.Tables.{store_of}
 use Rattle.relation_semantics.specs.Resolving.{IsRoot}
 use Rattle.relation_reference.proofs.Reading.{root_leads, root_stands, root_made}
-use Rattle.relation_reference.proofs.Writing.{table_made, table_of_entries}
-use Rattle.relation_reference.proofs.context.variables.RefCtxt.root_ty_var.Goals as goal
+use Rattle.relation_reference.proofs.context.infer_ctxt.RefCtxtInferCtxtLike.root_ty_var.Goals as goal
 
 pub returns : goal.returns
 returns g c =
@@ -15,9 +15,9 @@ returns g c =
     let l = c.requires.lawful in
     let v = c.args.var.0 in
     let is = sym c.root_of.ensures in
-    let there = root_made m.ty x.types.items st type_var refl l.sound v (table_made m.ty x.types.items v c.requires.made) in
+    let there = root_made m.ty x.types.items st type_var refl l.sound v c.requires.made in
     record {
-      made = subst (λ r. r < length x.types.items) is (table_of_entries m.ty x.types.items _ there);
+      made = subst (IsMade st type_var) is there;
       leads = subst (LeadsTo st type_var v) is (root_leads m.ty x.types.items st type_var refl v);
       root = subst (λ r. IsRoot st type_var r) is (root_stands m.ty x.types.items st type_var refl l.rooted v);
     }

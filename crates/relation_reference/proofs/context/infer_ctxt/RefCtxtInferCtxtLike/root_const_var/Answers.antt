@@ -1,11 +1,11 @@
-use Rattle.std.proofs.Common.{◌<◌, refl, sym, subst, length}
+use Rattle.std.proofs.Common.{refl, sym, subst}
 use Rattle.relation_terms.specs.Heads.{const_var}
 use Rattle.relation_semantics.specs.Steps.{LeadsTo}
+use Rattle.relation_semantics.specs.Stores.{IsMade}
 use Rattle.relation_reference.specs.Tables.{store_of}
 use Rattle.relation_semantics.specs.Resolving.{IsRoot}
 use Rattle.relation_reference.proofs.Reading.{root_leads, root_stands, root_made}
-use Rattle.relation_reference.proofs.Writing.{table_made, table_of_entries}
-use Rattle.relation_reference.proofs.context.variables.RefCtxt.root_const_var.Goals as goal
+use Rattle.relation_reference.proofs.context.infer_ctxt.RefCtxtInferCtxtLike.root_const_var.Goals as goal
 
 pub returns : goal.returns
 returns g c =
@@ -15,9 +15,9 @@ returns g c =
     let l = c.requires.lawful in
     let v = c.args.var.0 in
     let is = sym c.root_of.ensures in
-    let there = root_made m.const_ x.consts.items st const_var refl l.sound v (table_made m.const_ x.consts.items v c.requires.made) in
+    let there = root_made m.const_ x.consts.items st const_var refl l.sound v c.requires.made in
     record {
-      made = subst (λ r. r < length x.consts.items) is (table_of_entries m.const_ x.consts.items _ there);
+      made = subst (IsMade st const_var) is there;
       leads = subst (LeadsTo st const_var v) is (root_leads m.const_ x.consts.items st const_var refl v);
       root = subst (λ r. IsRoot st const_var r) is (root_stands m.const_ x.consts.items st const_var refl l.rooted v);
     }

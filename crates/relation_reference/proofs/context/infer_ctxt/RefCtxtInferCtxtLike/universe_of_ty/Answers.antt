@@ -4,8 +4,8 @@ use Rattle.relation_reference.specs.RefCtxt.{context_in}
 use Rattle.relation_reference.specs.Tables.{store_of}
 use Rattle.relation_reference.proofs.Reading.{root_made}
 use Rattle.relation_reference.proofs.VariableUniverses.{has_universe}
-use Rattle.relation_reference.proofs.Writing.{table_made, table_of_entries}
-use Rattle.relation_reference.proofs.context.variables.RefCtxt.universe_of_ty.Goals as goal
+use Rattle.relation_reference.proofs.Writing.{table_of_entries}
+use Rattle.relation_reference.proofs.context.infer_ctxt.RefCtxtInferCtxtLike.universe_of_ty.Goals as goal
 
 pub universe_of_class-requires-clause-root_made : goal.universe_of_class-requires-clause-root_made
 universe_of_class-requires-clause-root_made g c =
@@ -13,7 +13,7 @@ universe_of_class-requires-clause-root_made g c =
     let x = c.args.self.now.inner in
     let v = c.args.vid.0 in
     table_of_entries m.ty x.types.items _ (root_made m.ty x.types.items (store_of m x) type_var refl
-    c.requires.lawful.sound v (table_made m.ty x.types.items v c.requires.made))
+    c.requires.lawful.sound v c.requires.made)
 
 pub returns : goal.returns
 returns g c =
@@ -22,4 +22,4 @@ returns g c =
     let l = c.requires.lawful in
     let v = c.args.vid.0 in
     has_universe (context_in g.I.Interner.meaning c.args.self.now) m.ty x.types.items type_var refl refl l.sound l.rooted v
-    (table_made m.ty x.types.items v c.requires.made) c.universe_of_class.result c.universe_of_class.ensures
+    c.requires.made c.universe_of_class.result c.universe_of_class.ensures
