@@ -1,5 +1,5 @@
 -- Notes that a relation takes, one after another, and those that a relation over a context takes.
-use Rattle.std.proofs.Common.{◌≡◌, ◌∙◌, ℕ, refl, sym, ap₂, inl, inr, ⊎_elim, subst, arith, List, [], ◌++◌, All}
+use Rattle.std.proofs.Common.{◌≡◌, ◌⊎◌, ◌∙◌, ℕ, refl, sym, ap₂, inl, inr, subst, arith, List, [], ◌++◌, All}
 use Rattle.std.proofs.Common.{Contains, IsTrue, Result, Ok, Err}
 use Rattle.std.proofs.lemmas.List.{append-nil}
 use Rattle.std.proofs.lemmas.List.Elements.{All-nil, All-append}
@@ -34,18 +34,31 @@ module _ {Key Id Name : Type 0} where
   pub noted_then : {X Y : Type 0} {r q p : State Key Id Name} {a b : Tree} (x : Result X (RelateFault Key Id Name))
       (y : Result Y (RelateFault Key Id Name)) → Noted r q a b x → Noted q p a b y → Noted r p a b y
   unfolding passes_then
-  noted_then {r = r} {q = q} {p = p} x y f g = record {
+  noted_then {r = r} {q = q} {p = p} {a = a} {b = b} x y f g = record {
     passes = passes_then f.passes g.passes (omega arith);
     store = g.store ∙ f.store;
     quiet = All-append IsQuiet (f.passes).added (g.passes).added f.quiet g.quiet;
     built = λ k ha hb all. All-append (IsGoalOf k) (f.passes).added (g.passes).added (f.built k ha hb all)
         (g.built k ha hb (subst (BindsBuiltOf k) (sym f.store) all));
-    none = λ bare. ap₂ ◌++◌ (f.none bare)
-        (g.none (subst (λ k. AreBare k a b) (sym (same_settings (f.passes).kept)) bare));
-    remembers = λ o m. ⊎_elim (λ i. inl i) (λ c. ⊎_elim (λ i. inl (pair_later g.passes o i)) (λ c. inr c)
-        (f.remembers o c)) (g.remembers o m);
+    none = none;
+    remembers = λ o m. member o (g.remembers o m);
     fault = g.fault;
   }
+    where
+      none : AreBare r.kept.settings a b → (f.passes).added ++ (g.passes).added ≡ []
+      none bare =
+          let before : (f.passes).added ≡ [] = f.none bare in
+          let after : (g.passes).added ≡ [] =
+          g.none (subst (λ k. AreBare k a b) (sym (same_settings (f.passes).kept)) bare) in
+          ap₂ (λ gs hs. gs ++ hs) before after
+
+      older : (o : Pair Key) → IsPairOf q o a b ⊎ Contains r.remembered o → IsPairOf p o a b ⊎ Contains r.remembered o
+      older o (inl i) = inl (pair_later g.passes o i)
+      older o (inr c) = inr c
+
+      member : (o : Pair Key) → IsPairOf p o a b ⊎ Contains q.remembered o → IsPairOf p o a b ⊎ Contains r.remembered o
+      member o (inl i) = inl i
+      member o (inr c) = older o (f.remembers o c)
 
   -- Only the interner's keys were added to.
   pub noted_with : {X : Type 0} {r q : State Key Id Name} {a b : Tree} → Extends r.meaning q.meaning →

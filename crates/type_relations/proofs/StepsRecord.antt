@@ -332,8 +332,8 @@ module _ {Key Id Name : Type 0} (r q : State Key Id Name) {n : ℕ} (g : Passes 
           (r.meaning).const_ y ≡ (r.meaning).const_ b
       read_b y h = plain_read r.store ((r.meaning).const_ b) ((r.meaning).const_ y) sb bare.right_plain h
 
-      sort_a : sort_of ((r.meaning).const_ a) ≡ const_sort
-      sort_a = term_sort_of const_var ((r.meaning).const_ a) sa
+      const_sort_a : sort_of ((r.meaning).const_ a) ≡ const_sort
+      const_sort_a = term_sort_of const_var ((r.meaning).const_ a) sa
 
       consts_done : (t : ConstKey Key) → ConstsCombine r q a b (Ok (Done t)) → RecordsJust ConstsAsk r q
       consts_done t (one_constant e m st gs is) = records_trivial (record {
@@ -367,8 +367,8 @@ module _ {Key Id Name : Type 0} (r q : State Key Id Name) {n : ℕ} (g : Passes 
               (ap (λ st. st.constraints) h.store) (subst₂ (λ t u. q.goals ≡ r.goals ++
               goal_of r.kept.environment (alias_relate_predicate Equate t u) ∷ []) left right h.goals)
               (same_settings g.kept) (same_environment g.kept) memory
-              (of_unevaluated refl (subst₂ HaveAlias left right o) differ sort_a decides)
-              (λ z w. unevaluated_asks_one (subst₂ HaveAlias left right o) sort_a w)
+              (of_unevaluated refl (subst₂ HaveAlias left right o) differ const_sort_a decides)
+              (λ z w. unevaluated_asks_one (subst₂ HaveAlias left right o) const_sort_a w)
           go (const_not_registered l h is) = absurd cc
           go (const_not_left n same h) = absurd (met h)
 
