@@ -142,7 +142,11 @@ returns g c =
     let first = (done.passes).extends in
     let noted = noted_related M r.ambient a b (λ k. node (args_head (q.meaning) v) ((q.meaning).args k)) args done
     (Ok n.field-0) n.ensures (built_as r.store (first.ty c.args.a_ty.now k.left_known) (first.ty c.args.b_ty.now k.right_known))
-    answer same in
+    answer same (λ promised bare. (
+      first.ty c.args.a_ty.now k.left_known,
+      first.ty c.args.b_ty.now k.right_known,
+      (done.passes).ambient,
+    )) in
     let a_stays : (p.meaning).ty c.args.a_ty.now ≡ a = e.ty c.args.a_ty.now
     (subst (λ z. IsTrue (known z)) (sym (first.ty c.args.a_ty.now k.left_known)) k.left_known)
     ∙ first.ty c.args.a_ty.now k.left_known in
