@@ -154,9 +154,9 @@ pub trait RelateExt: InferCtxtLike {
 
     /// Relates two at `Invariant`, aliases by their items and arguments: what `relate` relates, but that no alias is
     /// left to a goal, and none gives way to a variable where a variable is bound to what it stands in. All that
-    /// `relate` promises at `Invariant` of two that aren't left to a goal it promises of all; but only
-    /// of terms without aliases that just what they ask for is recorded, and that it is complete. Its
-    /// goals are at most that too much was met, with the old solver in coherence.
+    /// `relate` promises at `Invariant` of two that aren't left to a goal it promises of all, but
+    /// that it is complete and records just what is asked for: that it promises of terms without
+    /// aliases. Its goals are at most that too much was met, with the old solver in coherence.
     fn eq_structurally_relating_aliases<T: Relate<Self::Interner>>(
         &mut self,
         param_env: ParamEnv<Self::Interner>,
