@@ -73,6 +73,15 @@ pub trait RelateExt: InferCtxtLike {
     /// that they ask for. Whatever is closed, so that no variable stands in it but of regions, and no binder binds
     /// others, binds and spends nothing, and makes no variable but of regions; and without aliases no goal is asked.
     ///
+    /// Of two bare terms, which are first-order but for aliases, have no variable but of regions,
+    /// and no alias unless aliases are left to goals, `Ok` has recorded just the constraints that
+    /// they ask for, behind all that stood, and answers just the goals that they ask for. Two
+    /// regions ask, by the variance of their place, that the left one outlives the right one, the
+    /// right one the left one, or both each other; of two different terms of which one is an alias
+    /// or an unevaluated constant their goal alone is asked for. Such a constraint or goal may come
+    /// more than once; but a pair that is met again may add nothing, and that a region outlives
+    /// itself need not be recorded.
+    ///
     /// Two different types that are unresolved type variables answer just one goal, and nothing is recorded: at
     /// `Covariant` that the first is a subtype of the second, at `Contravariant` that the second is one of the first.
     /// Both stand there by their roots, and the first is the expected one. So does an alias with another type, where
@@ -146,8 +155,9 @@ pub trait RelateExt: InferCtxtLike {
 
     /// Relates two at `Invariant`, aliases by their items and arguments: what `relate` relates, but that no alias is
     /// left to a goal, and none gives way to a variable where a variable is bound to what it stands in. All that
-    /// `relate` promises at `Invariant` of two that aren't left to a goal it promises of all. Its goals are at most that
-    /// too much was met, with the old solver in coherence.
+    /// `relate` promises at `Invariant` of two that aren't left to a goal it promises of all, but
+    /// that it is complete and records just what is asked for: that it promises of terms without
+    /// aliases. Its goals are at most that too much was met, with the old solver in coherence.
     fn eq_structurally_relating_aliases<T: Relate<Self::Interner>>(
         &mut self,
         param_env: ParamEnv<Self::Interner>,

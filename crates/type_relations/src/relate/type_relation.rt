@@ -73,7 +73,9 @@ pub trait TypeRelation<I: Interner>: HasState<I> {
         ensures by_declared { let r = Self.state self.now in IfSome result (λ _. Decides r → RelatesByDeclared r) }
         ensures none { IfNone result ((Self.state self.now).ambient ≡ Invariant) };
 
-    /// What comes of two types.
+    /// What comes of two types. Of two bare ones, where the relation promises to record just what
+    /// is asked for: `Done` says that just that was recorded and registered, `Parts` that these
+    /// two are left, with nothing recorded yet, and `Again` doesn't come.
     fn tys(&mut self, a: &Ty<I>, b: &Ty<I>) -> RelateResult<I, Step<Ty<I>>>
         requires lawful { (Self.state self.old).lawful }
         requires decides { (Self.state self.old).ambient ≢ Bivariant }
@@ -82,7 +84,7 @@ pub trait TypeRelation<I: Interner>: HasState<I> {
         ensures records { TysStepRecords manner (Self.state self.old) (Self.state self.new) a.now b.now result }
         ensures registers { TysStepAlone manner (Self.state self.old) (Self.state self.new) a.now b.now result };
 
-    /// What comes of two constants.
+    /// What comes of two constants. Of two bare ones its answers say what those of `tys` do.
     fn consts(&mut self, a: &Const<I>, b: &Const<I>) -> RelateResult<I, Step<Const<I>>>
         requires lawful { (Self.state self.old).lawful }
         requires decides { (Self.state self.old).ambient ≢ Bivariant }
