@@ -29,7 +29,7 @@ use Rattle.relation_semantics.specs.Steps.{IsLater, StaysFullFor}
 use Rattle.relation_semantics.specs.Kits.{StaysBuilt, BuiltFrom, NeedsVariable, IsGoalOf}
 use Rattle.relation_semantics.specs.Measures.{grown, Goes}
 use Rattle.relation_semantics.specs.Lawful.{State, Manner, Manners, Takes, MayAnswer, Passes, Asked, Refuses, Answers, Verdict, Related, Leads}
-use Rattle.relation_semantics.specs.Lawful.{RefusesAs, VerdictAs, RelatedAs, RelatedForms, Pair, IsPairOf}
+use Rattle.relation_semantics.specs.Lawful.{RefusesAs, VerdictAs, RelatedAs, RelatedForms, Pair, MeansPair}
 use Rattle.relation_semantics.specs.Lawful.{RecordsJust, RecordsJustAsked, RecordsAs, RecordsOf}
 use Rattle.relation_semantics.proofs.Asking.{nothing_at_bivariance}
 use Rattle.relation_semantics.proofs.Recording.{bare_no_alias, stands_itself, turned_stands, grown_stands, records_trivial}
@@ -440,7 +440,7 @@ module _ {Key Id Name : Type 0} where
         s : (x ≡ a) × (y ≡ b) × (q.ambient ≡ v)
         s = same promised bare
 
-        member : (o : Pair Key) → IsPairOf p o x y ⊎ Contains q.remembered o → (IsTrue (known ((p.meaning).ty o.1)) ×
+        member : (o : Pair Key) → MeansPair p o x y ⊎ Contains q.remembered o → (IsTrue (known ((p.meaning).ty o.1)) ×
             IsTrue (known ((p.meaning).ty o.2)) × ((z : Wanted) →
             AsksFor (items_in p) z o.0 ((p.meaning).ty o.1) ((p.meaning).ty o.2) → AsksFor (items_in r) z v a b)) ⊎
             Contains q.remembered o

@@ -22,7 +22,7 @@ use Rattle.relation_semantics.specs.Outcomes.{Exact, Outcome}
 use Rattle.relation_semantics.specs.Settings.{Settings}
 use Rattle.relation_semantics.specs.Steps.{IsLater, StaysFullFor}
 use Rattle.relation_semantics.specs.Stores.{Store}
-use Rattle.relation_semantics.specs.Lawful.{State, Pair, Manner, Manners, Passes, IsShown, Shown, WasRelated, WereRelated, RemembersAtMost, Noted, OnlyMemory, IsPairOf}
+use Rattle.relation_semantics.specs.Lawful.{State, Pair, Manner, Manners, Passes, IsShown, Shown, WasRelated, WereRelated, RemembersAtMost, Noted, OnlyMemory, MeansPair}
 use Rattle.relation_semantics.specs.Lawful.{Stepped, ExactlyRelated, RegisteredIn, declared_by, items_of, items_in}
 use Rattle.relation_semantics.proofs.Answering.{relates_still, same_items, same_settings, may_itself}
 use Rattle.relation_semantics.proofs.Building.{built_itself}
@@ -203,7 +203,7 @@ module _ {Key Id Name A E : Type 0} {r q s : State Key Id Name} {p : Pair Key} {
 
 -- That a pair is remembered is a note of it.
 pub noted_remembering : {Key Id Name A E X : Type 0} {r q : State Key Id Name} {p : Pair Key} {res : Result A E} →
-    RemembersAtMost r q p res → (a b : Tree) → IsPairOf r p a b → (x : Result X (RelateFault Key Id Name)) → OnlyMemory x →
+    RemembersAtMost r q p res → (a b : Tree) → MeansPair r p a b → (x : Result X (RelateFault Key Id Name)) → OnlyMemory x →
     Noted r q a b x
 unfolding passes_remembering passes_nowhere
 noted_remembering {r = r} {q = q} {p = p} h a b pair x fault = record {
@@ -212,7 +212,7 @@ noted_remembering {r = r} {q = q} {p = p} h a b pair x fault = record {
   quiet = All-nil IsQuiet;
   built = λ k ha hb all. All-nil (IsGoalOf k);
   none = λ bare. refl;
-  remembers = λ o m. ⊎_elim (λ e. inl (subst (λ o. IsPairOf q o a b) (sym e) (
+  remembers = λ o m. ⊎_elim (λ e. inl (subst (λ o. MeansPair q o a b) (sym e) (
     pair.0 ∙ sym h.ambient,
     ap (λ m. m.ty p.1) h.meaning ∙ pair.1,
     ap (λ m. m.ty p.2) h.meaning ∙ pair.2,

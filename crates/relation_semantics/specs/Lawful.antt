@@ -481,8 +481,8 @@ module _ {Key Id Name : Type 0} where
   OnlyMemory (Err f) = ⊥
 
   -- A pair is of these two known terms, at the ambient variance.
-  abbrev pub IsPairOf : State Key Id Name → Pair Key → Tree → Tree → Type 0
-  IsPairOf r p a b = (p.0 ≡ r.ambient) × ((r.meaning).ty p.1 ≡ a) × ((r.meaning).ty p.2 ≡ b) × IsTrue (known a) ×
+  abbrev pub MeansPair : State Key Id Name → Pair Key → Tree → Tree → Type 0
+  MeansPair r p a b = (p.0 ≡ r.ambient) × ((r.meaning).ty p.1 ≡ a) × ((r.meaning).ty p.2 ≡ b) × IsTrue (known a) ×
       IsTrue (known b)
 
   -- Something was noted of two terms: what is recorded stands; no goal that was added asks anything of two terms, and
@@ -495,5 +495,5 @@ module _ {Key Id Name : Type 0} where
     pub quiet : All IsQuiet passes.added
     pub built : (k : Kit) → IsBuiltOf k a → IsBuiltOf k b → BindsBuiltOf k r.store → All (IsGoalOf k) passes.added
     pub none : AreBare r.kept.settings a b → passes.added ≡ []
-    pub remembers : (p : Pair Key) → Contains q.remembered p → IsPairOf q p a b ⊎ Contains r.remembered p
+    pub remembers : (p : Pair Key) → Contains q.remembered p → MeansPair q p a b ⊎ Contains r.remembered p
     pub fault : OnlyMemory result

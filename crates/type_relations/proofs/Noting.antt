@@ -13,7 +13,7 @@ use Rattle.type_relations.specs.Emitting.{AddsGoals, IsOver, WithContext, with_g
 use Rattle.relation_semantics.specs.Measures.{Goes}
 use Rattle.relation_semantics.specs.Goals.{Goal, IsQuiet}
 use Rattle.relation_semantics.specs.Kits.{Kit, IsBuiltOf, BindsBuiltOf, IsGoalOf}
-use Rattle.relation_semantics.specs.Lawful.{State, Pair, Passes, Noted, IsPairOf, OnlyMemory, WithMeaning, RegisteredIn}
+use Rattle.relation_semantics.specs.Lawful.{State, Pair, Passes, Noted, MeansPair, OnlyMemory, WithMeaning, RegisteredIn}
 use Rattle.relation_semantics.specs.Recording.{AreBare}
 use Rattle.relation_semantics.proofs.Answering.{same_settings}
 use Rattle.relation_semantics.proofs.Going.{goes_nowhere}
@@ -21,8 +21,8 @@ use Rattle.relation_semantics.proofs.Passing.{passes_then, passes_nowhere, passe
 
 module _ {Key Id Name : Type 0} where
   -- A pair of two terms is so while keys are added to.
-  pair_later : {n : ℕ} {q p : State Key Id Name} {a b : Tree} → Passes n q p → (o : Pair Key) → IsPairOf q o a b →
-      IsPairOf p o a b
+  pair_later : {n : ℕ} {q p : State Key Id Name} {a b : Tree} → Passes n q p → (o : Pair Key) → MeansPair q o a b →
+      MeansPair p o a b
   pair_later g o i = (
     i.0 ∙ sym g.ambient,
     (g.extends).ty o.1 (subst (λ t. IsTrue (known t)) (sym i.1) i.3) ∙ i.1,
@@ -52,11 +52,11 @@ module _ {Key Id Name : Type 0} where
           g.none (subst (λ k. AreBare k a b) (sym (same_settings (f.passes).kept)) bare) in
           ap₂ (λ gs hs. gs ++ hs) before after
 
-      older : (o : Pair Key) → IsPairOf q o a b ⊎ Contains r.remembered o → IsPairOf p o a b ⊎ Contains r.remembered o
+      older : (o : Pair Key) → MeansPair q o a b ⊎ Contains r.remembered o → MeansPair p o a b ⊎ Contains r.remembered o
       older o (inl i) = inl (pair_later g.passes o i)
       older o (inr c) = inr c
 
-      member : (o : Pair Key) → IsPairOf p o a b ⊎ Contains q.remembered o → IsPairOf p o a b ⊎ Contains r.remembered o
+      member : (o : Pair Key) → MeansPair p o a b ⊎ Contains q.remembered o → MeansPair p o a b ⊎ Contains r.remembered o
       member o (inl i) = inl i
       member o (inr c) = older o (f.remembers o c)
 
