@@ -55,6 +55,7 @@ pub(crate) fn the_object<X: Copy, D: Copy>(part: &Part<X, D>) -> ExistentialPred
 }
 
 // The list of the parts of a type, whose form is `kind`.
+#[inline(always)]
 pub(crate) fn parts_in<I: Interner>(cx: &I, ty: &Ty<I>, kind: &TyForm<I>) -> PartsOf<I>
     requires known { IsTrue (known ((I.meaning cx.now).ty ty.now)) }
     requires form { (I.meaning cx.now).ty ty.now ≡ kind_tree (I.meaning cx.now) kind.now }
@@ -67,6 +68,7 @@ pub(crate) fn parts_in<I: Interner>(cx: &I, ty: &Ty<I>, kind: &TyForm<I>) -> Par
 }
 
 // How many parts a type has, whose form is `kind`.
+#[inline(always)]
 pub(crate) fn parts_count_in<I: Interner>(cx: &I, ty: &Ty<I>, kind: &TyForm<I>) -> usize
     requires known { IsTrue (known ((I.meaning cx.now).ty ty.now)) }
     requires form { (I.meaning cx.now).ty ty.now ≡ kind_tree (I.meaning cx.now) kind.now }

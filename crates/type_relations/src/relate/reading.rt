@@ -110,6 +110,7 @@ pub(crate) fn is_by_parts_of<I: Interner, R: TypeRelation<I>>(r: &R, ty: &Ty<I>)
     is_by_parts(r.cx(), ty)
 }
 
+#[inline(always)]
 pub(crate) fn parts_count_of<I: Interner, R: TypeRelation<I>>(r: &R, ty: &Ty<I>) -> usize
     requires { IsTrue (known ((R.state r.now).meaning.ty ty.now)) }
     ensures counts { result ≡ count (parts_of ((R.state r.now).meaning.ty ty.now)) }
@@ -297,7 +298,9 @@ pub(crate) fn named_place_of<I: Interner, R: TypeRelation<I>>(
     handing::named_place(r.cx(), term, i)
 }
 
-// Has the relation take note of arguments that were related at declared variances.
+// Has the relation take note of arguments that were related at declared variances. It stands apart, so that the
+// recursion takes less of the stack.
+#[inline(never)]
 pub(crate) fn note_declared<I: Interner, R: TypeRelation<I>>(
     r: &mut R,
     a: &Ty<I>,
@@ -320,6 +323,7 @@ pub(crate) fn note_declared<I: Interner, R: TypeRelation<I>>(
 }
 
 // The same of two types, if they are over an item whose arguments have declared variances.
+#[inline(always)]
 pub(crate) fn note_args<I: Interner, R: TypeRelation<I>>(
     r: &mut R,
     a: &Ty<I>,

@@ -21,6 +21,7 @@ use crate::terms::{
 };
 
 /// The parts of a type, by its form.
+#[inline(always)]
 pub fn ty_parts<X: Copy, D: Copy, N>(kind: &TyKind<X, D, N>) -> Parts<X, D>
     ensures { result ≡ ty_view kind.now }
 {

@@ -30,6 +30,7 @@ pub fn last_of<I: Interner>(cx: &I, tys: &Tys<I>) -> Ty<I>
 }
 
 /// How many members a list of parts has. The interner has to know the list.
+#[inline(always)]
 pub fn member_count<I: Interner>(cx: &I, parts: &PartsOf<I>) -> usize
     requires { IsTrue (known (parts_tree (I.meaning cx.now) parts.now)) }
     ensures counts { result ≡ count (parts_tree (I.meaning cx.now) parts.now) }
@@ -52,6 +53,7 @@ pub fn member_count<I: Interner>(cx: &I, parts: &PartsOf<I>) -> usize
 /// The member of a list of parts at a place.
 ///
 /// The interner has to know the list, and the place has to be below `member_count`. The interner knows the member too.
+#[inline(always)]
 pub fn member<I: Interner>(cx: &I, parts: &PartsOf<I>, i: usize) -> PartOf<I>
     requires list_known { IsTrue (known (parts_tree (I.meaning cx.now) parts.now)) }
     requires in_bounds { i < count (parts_tree (I.meaning cx.now) parts.now) }

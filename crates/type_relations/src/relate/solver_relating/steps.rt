@@ -239,6 +239,8 @@ impl<'a, Infcx: InferCtxtLike> SolverRelating<'a, Infcx> {
     ///
     /// # Errors
     /// Those of `super_combine_consts`. Nothing was bound or registered then.
+    // (it stands apart, so that the recursion takes less of the stack)
+    #[inline(never)]
     pub fn step_consts(
         &mut self,
         a: &Const<Infcx::Interner>,
@@ -263,6 +265,8 @@ impl<'a, Infcx: InferCtxtLike> SolverRelating<'a, Infcx> {
     ///
     /// # Errors
     /// `Memory` where a growth was refused. Nothing was recorded then.
+    // (it stands apart, so that the recursion takes less of the stack)
+    #[inline(never)]
     pub fn step_regions(
         &mut self,
         a: &Region<Infcx::Interner>,
