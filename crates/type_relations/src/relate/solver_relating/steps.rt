@@ -239,7 +239,7 @@ impl<'a, Infcx: InferCtxtLike> SolverRelating<'a, Infcx> {
     ///
     /// # Errors
     /// Those of `super_combine_consts`. Nothing was bound or registered then.
-    // (it stands apart, so that the recursion takes less of the stack)
+    // It stands apart from the recursion, which takes less of the stack so.
     #[inline(never)]
     pub fn step_consts(
         &mut self,
@@ -265,7 +265,7 @@ impl<'a, Infcx: InferCtxtLike> SolverRelating<'a, Infcx> {
     ///
     /// # Errors
     /// `Memory` where a growth was refused. Nothing was recorded then.
-    // (it stands apart, so that the recursion takes less of the stack)
+    // It stands apart from the recursion, which takes less of the stack so.
     #[inline(never)]
     pub fn step_regions(
         &mut self,
