@@ -3,13 +3,7 @@ use Rattle.relation_terms.specs.Heads.{type_var}
 use Rattle.relation_reference.specs.Variables.{entry_of_value}
 use Rattle.relation_reference.specs.Tables.{store_of}
 use Rattle.relation_reference.proofs.Reading.{entry_is}
-use Rattle.relation_reference.proofs.Writing.{table_made}
 use Rattle.relation_reference.proofs.context.variables.RefCtxt.binding.Goals as goal
-
-pub root_ty_var-requires-clause-made : goal.root_ty_var-requires-clause-made
-root_ty_var-requires-clause-made g c =
-    let m = g.I.Interner.meaning c.args.self.now.interner in
-    table_made m.ty c.args.self.now.inner.types.items c.args.var.0 c.requires.made
 
 pub unreachable-requires : goal.unreachable-requires
 unreachable-requires g c =
