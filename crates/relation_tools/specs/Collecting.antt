@@ -1,6 +1,5 @@
 -- How a collection of components goes on, and what it has met.
 use Rattle.std.specs.Prelude.{◌≡◌, ◌⊎◌, ◌<◌, ℕ, zero, suc, Bool, true, cond, List, [], drop, IsTrue, Option, Some, None}
-use Rattle.std.specs.Prelude.{Result, OnOk}
 use Rattle.std.specs.List.{list_any}
 use Rattle.std.specs.Global.{Vec}
 use Rattle.std.specs.HashSet.{HashSet}
@@ -88,12 +87,6 @@ abbrev pub Ready : {C Key Id Name S : Type 0} → (C → Meaning Key Id Name) �
     (GenericArgKind Key → GenericArgKind Key → Bool) → Part Key Id → HashSet (GenericArgKind Key) S →
     Vec (Component Key Id Name) → Type 0
 Ready meaning cx eq p seen cs = Settled (meaning cx) eq (suc (size (part_tree (meaning cx) p))) seen.keys cs.items
-
--- For whatever a call met that was not met before it, the list has all components; unless a growth was refused.
-abbrev pub MeetsIn : {C Key Id Name S T E : Type 0} → (C → Meaning Key Id Name) → C →
-    (GenericArgKind Key → GenericArgKind Key → Bool) → HashSet (GenericArgKind Key) S →
-    HashSet (GenericArgKind Key) S → Vec (Component Key Id Name) → Result T E → Type 0
-MeetsIn meaning cx eq before after cs result = OnOk result (Meets (meaning cx) eq before.keys after.keys cs.items)
 
 -- What was kept was met before, and stays; or it is kept from now on; or nothing is kept.
 abbrev pub Keeps : {T : Type 0} → (T → T → Bool) → Option T → Bool → List T → List T → Type 0

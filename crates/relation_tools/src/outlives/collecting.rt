@@ -8,8 +8,7 @@ ghost use Rattle.relation_tools.specs.Components.{last_types, components};
 ghost use Rattle.relation_folds.specs.Visits.{bound_var_escapes};
 ghost use Rattle.relation_tools.specs.Outliving.{AddsSome, HasAll};
 ghost use Rattle.relation_tools.specs.Collecting.{meant, of_member, kept_of, found_components, found_size};
-ghost use Rattle.relation_tools.specs.Collecting.{Ready, Settled, Meets, MeetsIn, Keeps, AddsFrom, HasAllOf};
-ghost use Rattle.relation_tools.specs.Collecting.{arg_components};
+ghost use Rattle.relation_tools.specs.Collecting.{Ready, Settled, Meets, Keeps, AddsFrom, HasAllOf, arg_components};
 
 use crate::keeping::keep;
 use crate::outlives::chosen::{Chosen, alias_chosen, is_chosen};
@@ -18,9 +17,8 @@ use crate::outlives::{Component, ComponentOf};
 use relation_folds::visit::has_escaping_bound_vars;
 use relation_terms::terms::parts::{member, member_count, parts_of, ty_parts, visited_place};
 use relation_terms::terms::{
-    AliasTy, GenericArg, GenericArgKind, GenericArgs, Interner, OutOfMemory, Part, PartOf, Parts,
-    PartsOf, Region, RegionKind, Ty, TyKind, Tys, closure_upvars, coroutine_resume_ty,
-    coroutine_upvars,
+    AliasTy, GenericArgKind, GenericArgs, Interner, OutOfMemory, Part, PartOf, Parts, PartsOf,
+    Region, RegionKind, Ty, TyKind, Tys, closure_upvars, coroutine_resume_ty, coroutine_upvars,
 };
 
 // Whether a part is met for the first time. A type and a constant are kept; of all else no account is kept.
@@ -76,7 +74,8 @@ pub fn collect_part<I: Interner>(
     requires settled { Ready I.meaning cx.now ⟦<GenericArgKind<I::Key> as PartialEq>⟧.eq part.now visited.old out.old }
     ensures some { AddsFrom (I.meaning cx.now) (part_tree (I.meaning cx.now) part.now) out.old.items out.new.items }
     ensures all { OnOk result (HasAllOf (I.meaning cx.now) (part_tree (I.meaning cx.now) part.now) out.new.items) }
-    ensures meets { MeetsIn I.meaning cx.now ⟦<GenericArg<I> as PartialEq>⟧.eq visited.old visited.new out.new result }
+    ensures meets { OnOk result (Meets (I.meaning cx.now) ⟦<GenericArgKind<I::Key> as PartialEq>⟧.eq
+        visited.old.keys visited.new.keys out.new.items) }
 {
     match part {
         Part::Region(region) => collect_region(cx, region, out),
