@@ -428,8 +428,10 @@ fn relate_parts<I: Interner, R: TypeRelation<I>>(
     }
 }
 
-// Relates two binders over bodies of one sort, by what the relation opens them to, and answers the left one.
+// Relates two binders over bodies of one sort, by what the relation opens them to, and answers the left one. It stands
+// apart from the recursion, which takes less of the stack so.
 #[cycle(relate)]
+#[inline(never)]
 fn binders<I: Interner, R: TypeRelation<I>>(
     r: &mut R,
     a: &PartOf<I>,
