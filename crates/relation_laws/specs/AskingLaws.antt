@@ -43,26 +43,30 @@ SomeInterpretation = (c : Items) (e : Tree) (v : Variance) (a b : Tree) → Leav
     (w : Interpretation) × (w.outlives ≡ None) × AskedHolds c w e v a b
 
 -- One more part was related, and just what it asks for was recorded.
-abbrev pub FrontRecordsOn : (Key Id Name : Type 0) → Type 1
-FrontRecordsOn Key Id Name = (c : Items) (h : Head) (v : Variance) (i : ℕ) (xs ys : Tree) (r s q : State Key Id Name) →
-    q.kept.environment ≡ s.kept.environment → RecordsJust (FrontAsks c h v i xs ys) r s →
-    RecordsJust (λ z. AsksFor c z (part_at c h i v) (nth i xs) (nth i ys)) s q →
-    RecordsJust (FrontAsks c h v (suc i) xs ys) r q
+abbrev pub FrontRecordsOn : {S Key Id Name : Type 0} → (S → State Key Id Name) → Type 0
+FrontRecordsOn {S = S} state = (c : Items) (h : Head) (v : Variance) (i : ℕ) (xs ys : Tree) (r s q : S) →
+    (state q).kept.environment ≡ (state s).kept.environment →
+    RecordsJust (FrontAsks c h v i xs ys) (state r) (state s) →
+    RecordsJust (λ z. AsksFor c z (part_at c h i v) (nth i xs) (nth i ys)) (state s) (state q) →
+    RecordsJust (FrontAsks c h v (suc i) xs ys) (state r) (state q)
 
 -- The parts of two forms were related in a row, each recording just what it asks for: so were the forms.
-abbrev pub PartsRecord : (Key Id Name : Type 0) → Type 1
-PartsRecord Key Id Name = (c : Items) (h k : Head) (v : Variance) (ts us : Tree) (r q : State Key Id Name) →
+abbrev pub PartsRecord : {S Key Id Name : Type 0} → (S → State Key Id Name) → Type 0
+PartsRecord {S = S} state = (c : Items) (h k : Head) (v : Variance) (ts us : Tree) (r q : S) →
     (HaveAlias (node h ts) (node k us) → ⊥) → IsRelatedHead h → plain h ≡ plain k → count ts ≡ count us →
-    RecordsJust (FrontAsks c h v (count ts) ts us) r q → RecordsJust (λ z. AsksFor c z v (node h ts) (node k us)) r q
+    RecordsJust (FrontAsks c h v (count ts) ts us) (state r) (state q) →
+    RecordsJust (λ z. AsksFor c z v (node h ts) (node k us)) (state r) (state q)
 
 -- A bare pair that is remembered records nothing again.
-abbrev pub RememberedRecords : (Key Id Name : Type 0) → Type 1
-RememberedRecords Key Id Name = (r : State Key Id Name) (p : Pair Key) → Contains r.remembered p →
-    AreBare r.kept.settings ((r.meaning).ty p.1) ((r.meaning).ty p.2) →
-    RecordsJust (λ z. AsksFor (items_in r) z p.0 ((r.meaning).ty p.1) ((r.meaning).ty p.2)) r r
+abbrev pub RememberedRecords : {S Key Id Name : Type 0} → (S → State Key Id Name) → Type 0
+RememberedRecords {S = S} {Key = Key} state = (r : S) (p : Pair Key) → Contains (state r).remembered p →
+    AreBare (state r).kept.settings (((state r).meaning).ty p.1) (((state r).meaning).ty p.2) →
+    RecordsJust (λ z. AsksFor (items_in (state r)) z p.0 (((state r).meaning).ty p.1) (((state r).meaning).ty p.2))
+      (state r) (state r)
 
 -- From an empty memory on just what two terms ask for was added.
-abbrev pub AddsWhatIsAsked : (Key Id Name : Type 0) → Type 1
-AddsWhatIsAsked Key Id Name = (c : Items) (v : Variance) (a b : Tree) (r q : State Key Id Name) → r.remembered ≡ [] →
-    r.goals ≡ [] → RecordsJust (λ z. AsksFor c z v a b) r q →
-    IsJustAsked c q.kept.environment v a b (r.store).constraints (q.store).constraints q.goals
+abbrev pub AddsWhatIsAsked : {S Key Id Name : Type 0} → (S → State Key Id Name) → Type 0
+AddsWhatIsAsked {S = S} state = (c : Items) (v : Variance) (a b : Tree) (r q : S) → (state r).remembered ≡ [] →
+    (state r).goals ≡ [] → RecordsJust (λ z. AsksFor c z v a b) (state r) (state q) →
+    IsJustAsked c (state q).kept.environment v a b ((state r).store).constraints ((state q).store).constraints
+      (state q).goals

@@ -39,7 +39,7 @@ ghost use Rattle.type_relations.specs.Completing.{ErrorsDisagree, ErrorsAreUnrel
 
 use relation_semantics::infer_ctxt::InferCtxtLike;
 use relation_terms::terms::Interner;
-use type_relations::relate::Relate;
+use type_relations::relate::{HasState, Relate};
 
 /// What holds of all terms, and of errors, parameters and constants.
 pub fn all_terms()
@@ -201,11 +201,11 @@ pub fn asking()
 {}
 
 /// What is recorded of what is asked for: part by part, and where pairs are remembered.
-pub fn recording<I: Interner>()
-    ensures goes_on { FrontRecordsOn I.Key I.Id I.Name }
-    ensures parts { PartsRecord I.Key I.Id I.Name }
-    ensures remembered { RememberedRecords I.Key I.Id I.Name }
-    ensures just_asked { AddsWhatIsAsked I.Key I.Id I.Name }
+pub fn recording<I: Interner, R: HasState<I>>()
+    ensures goes_on { FrontRecordsOn R.state }
+    ensures parts { PartsRecord R.state }
+    ensures remembered { RememberedRecords R.state }
+    ensures just_asked { AddsWhatIsAsked R.state }
 {}
 
 /// Plain terms: no error comes of such whose erasures agree; and without variables such of which an error comes are
