@@ -62,11 +62,11 @@ abbrev pub RememberedRecords : {S Key Id Name : Type 0} → (S → State Key Id 
 RememberedRecords {S = S} {Key = Key} state = (r : S) (p : Pair Key) → Contains (state r).remembered p →
     AreBare (state r).kept.settings (((state r).meaning).ty p.1) (((state r).meaning).ty p.2) →
     RecordsJust (λ z. AsksFor (items_in (state r)) z p.0 (((state r).meaning).ty p.1) (((state r).meaning).ty p.2))
-      (state r) (state r)
+    (state r) (state r)
 
 -- From an empty memory on just what two terms ask for was added.
 abbrev pub AddsWhatIsAsked : {S Key Id Name : Type 0} → (S → State Key Id Name) → Type 0
 AddsWhatIsAsked {S = S} state = (c : Items) (v : Variance) (a b : Tree) (r q : S) → (state r).remembered ≡ [] →
     (state r).goals ≡ [] → RecordsJust (λ z. AsksFor c z v a b) (state r) (state q) →
     IsJustAsked c (state q).kept.environment v a b ((state r).store).constraints ((state q).store).constraints
-      (state q).goals
+    (state q).goals

@@ -9,5 +9,5 @@ returns g c = record {
   parts = λ c h k v ts us r q n rh pl e f. front_ends c h k v (count ts) ts us n rh pl refl e f;
   remembered = λ r p m bare. remembered_records (g.R.HasState.state r) p m bare;
   just_asked = λ c v a b r q none goals f.
-    just_asked c (g.R.HasState.state q).kept.environment v a b none goals refl f;
+      just_asked c (g.R.HasState.state q).kept.environment v a b none goals refl f;
 }
