@@ -137,8 +137,12 @@ module _ (c : Items) (v : Variance) (a b : Tree) (n : ℕ) (none : HaveAlias a b
         subst₂ (AsksFor c z v) (sym d) (sym e)
         (subst₂ (λ i j. AsksFor c z v (node value (cons (node value_type (cons t nil)) (cons i nil)))
         (node value (cons (node value_type (cons u nil)) (cons j nil)))) (sym m) (sym o)
-        (branches_are_asked (cons t nil) (cons u nil) (g.0, subst (λ i. g.0 < i) (ea ∙ ap count left) g.1,
-        subst (λ i. g.0 < i) (eb ∙ ap count right) g.1, g.2)))
+        (branches_are_asked (cons t nil) (cons u nil) (
+          g.0,
+          subst (λ i. g.0 < i) (ea ∙ ap count left) g.1,
+          subst (λ i. g.0 < i) (eb ∙ ap count right) g.1,
+          g.2,
+        )))
     asks_const (expressions {k} {ts} {us} d e m) f = subst₂ (AsksFor c z v) (sym d) (sym e)
         (front_asks_form {h = expression k} {k = expression k} v n ts us (subst₂ (λ x y. HaveAlias x y → ⊥) d e none)
         (ea ∙ ap (λ x. count (const_parts_of x)) d) (eb ∙ ap (λ x. count (const_parts_of x)) e) z tt refl
