@@ -11,7 +11,7 @@ use Rattle.relation_terms.specs.Closures.{is_type_sort}
 use Rattle.relation_folds.specs.Visits.{has_leaf, is_escaping}
 use Rattle.relation_tools.specs.Renamings.{MovedLeaf, Moved}
 use Rattle.relation_tools.specs.Components.{Choice, every, no_member, no_region, last_types, not_bivariant, takes}
-use Rattle.relation_tools.specs.Components.{behind}
+use Rattle.relation_tools.specs.Components.{choice_behind}
 use Rattle.relation_tools.specs.Components.{choice_of, is_alias, components, is_region_sort}
 use Rattle.relation_tools.specs.Assumptions.{is_assumed, assumed_parts}
 use Rattle.relation_elaboration.proofs.Moving.{sorts}
@@ -153,13 +153,13 @@ module _ (to : Kind → ℕ → ℕ) where
   parts_moved c e (bind ks t) (bind ls u) p = parts_moved every (suc e) t u p.1
   parts_moved c e nil nil p = refl
   parts_moved c e (cons t ts) (cons u us) p =
-      ap (λ b. filter is_assumed (cond b (components every u) [] ++ components (behind c) us))
+      ap (λ b. filter is_assumed (cond b (components every u) [] ++ components (choice_behind c) us))
       (takes_moved c e t u ts us p.0 p.1)
-      ∙ filter-append is_assumed (cond (takes c t ts) (components every u) []) (components (behind c) us)
+      ∙ filter-append is_assumed (cond (takes c t ts) (components every u) []) (components (choice_behind c) us)
       ∙ ap₂ (λ x y. x ++ y)
       (chosen is_assumed (takes c t ts) (components every t) (components every u) (parts_moved every e t u p.0))
-      (parts_moved (behind c) e ts us p.1)
-      ∙ sym (filter-append is_assumed (cond (takes c t ts) (components every t) []) (components (behind c) ts))
+      (parts_moved (choice_behind c) e ts us p.1)
+      ∙ sym (filter-append is_assumed (cond (takes c t ts) (components every t) []) (components (choice_behind c) ts))
   parts_moved c e t u p = absurd p
 
   pub assumed_moved : (t u : Tree) → Moved to 0 t u → assumed_parts u ≡ assumed_parts t

@@ -23,5 +23,5 @@ trait_named (bind ks (node h ts)) = option_map (λ t. t.0) (said_of h ts)
 trait_named t = None
 
 -- The trait of a trait reference, by its number.
-abbrev pub named_by : {Key Id Name : Type 0} → Meaning Key Id Name → Binder Key (TraitRef Key Id) → ℕ
-named_by m b = m.id ((b.value).def_id).0
+abbrev pub trait_number : {Key Id Name : Type 0} → Meaning Key Id Name → Binder Key (TraitRef Key Id) → ℕ
+trait_number m b = m.id ((b.value).def_id).0

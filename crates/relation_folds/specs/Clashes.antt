@@ -125,9 +125,9 @@ outline value_branch ts = counted Branch (count ts)
 outline h ts = plain Alias
 
 -- Two forms over parts that have one outline, or one term without parts.
-abbrev pub Alike : Tree → Tree → Type 0
-Alike (node h ts) (node g us) = outline h ts ≡ outline g us
-Alike a b = a ≡ b
+abbrev pub OneOutline : Tree → Tree → Type 0
+OneOutline (node h ts) (node g us) = outline h ts ≡ outline g us
+OneOutline a b = a ≡ b
 
 -- Neither of two terms may stand for others, parameters on the left where `l`, on the right where `r`.
 abbrev pub AreRigid : Bool → Bool → Tree → Tree → Type 0
@@ -159,18 +159,18 @@ depth_inside t d = d
 -- on the path takes one from the depth. Parameters may stand for others on the left where `l`, on the right where `r`.
 pub data Clash (l r : Bool) : ℕ → Tree → Tree → Type 0 where
   -- two types of unlike forms of which neither may stand for others, with depth left
-  unlike_types : {d : ℕ} {a b : Tree} → AreOf type_sort a b → AreRigid l r a b → (Alike a b → ⊥) → Clash l r (suc d) a b
+  unlike_types : {d : ℕ} {a b : Tree} → AreOf type_sort a b → AreRigid l r a b → (OneOutline a b → ⊥) → Clash l r (suc d) a b
   -- an integer or a float variable and a type known to be no such number: on the left with depth left, on the right
   -- always
   left_number : {d : ℕ} {a b : Tree} → AreOf type_sort a b → may_stand a b ≡ false → Clash l r (suc d) a b
   right_number : {d : ℕ} {a b : Tree} → AreOf type_sort a b → may_stand b a ≡ false → Clash l r d a b
   -- two constants, or what they are made of, of unlike forms
   unlike_consts : {d : ℕ} {a b : Tree} {s : Sort} → is_const_sort s ≡ true → AreOf s a b → AreRigid l r a b →
-      (Alike a b → ⊥) → Clash l r d a b
+      (OneOutline a b → ⊥) → Clash l r d a b
   -- through the parts of two types of like forms, and of two constants
-  in_types : {d : ℕ} {a b : Tree} → AreOf type_sort a b → AreRigid l r a b → Alike a b →
+  in_types : {d : ℕ} {a b : Tree} → AreOf type_sort a b → AreRigid l r a b → OneOutline a b →
       Clash l r (depth_inside a d) (parts_of a) (parts_of b) → Clash l r (suc d) a b
-  in_consts : {d : ℕ} {a b : Tree} {s : Sort} → is_const_sort s ≡ true → AreOf s a b → AreRigid l r a b → Alike a b →
+  in_consts : {d : ℕ} {a b : Tree} {s : Sort} → is_const_sort s ≡ true → AreOf s a b → AreRigid l r a b → OneOutline a b →
       Clash l r d (parts_of a) (parts_of b) → Clash l r d a b
   -- through a binder, a signature, its inputs
   between : {d : ℕ} {a b : Tree} → is_between (tree_sort a) ≡ true → Clash l r d (parts_of a) (parts_of b) →

@@ -9,9 +9,9 @@ use Rattle.relation_terms.specs.declared.predicate.existential.ExistentialPredic
 use Rattle.relation_terms.specs.declared.terms.binder.Binder.{Binder}
 
 -- The number of an id, where there is one.
-abbrev pub named : {D : Type 0} → (D → ℕ) → Option D → Option ℕ
-named number None = None
-named number (Some d) = Some (number d)
+abbrev pub id_number : {D : Type 0} → (D → ℕ) → Option D → Option ℕ
+id_number number None = None
+id_number number (Some d) = Some (number d)
 
 -- The outline of a type.
 abbrev pub tree_outline : Tree → Outline ℕ

@@ -3,7 +3,7 @@ use Rattle.std.proofs.Common.{ℕ, zero, suc, ◌<◌, arith}
 use Rattle.relation_terms.specs.Heads.{unevaluated, expression, value, value_branch}
 use Rattle.relation_terms.specs.Trees.{Tree, leaf, node, bind, nil, cons, count, nth}
 use Rattle.relation_semantics.specs.Bound.{BindsByList, BindByLists}
-use Rattle.relation_semantics.specs.Parts.{parts_of, branches_of, const_parts_of}
+use Rattle.relation_semantics.specs.Parts.{own_parts, branches_of, const_parts_of}
 
 -- The outermost binder does, where each does.
 pub outermost_binds : (t : Tree) → BindByLists t → BindsByList t
@@ -19,7 +19,7 @@ nth_by_lists (node h ts) i l b = absurd (omega (arith, l))
 nth_by_lists (bind ks t) i l b = absurd (omega (arith, l))
 nth_by_lists nil i l b = absurd (omega (arith, l))
 
-parts_by_lists : (t : Tree) → BindByLists t → BindByLists (parts_of t)
+parts_by_lists : (t : Tree) → BindByLists t → BindByLists (own_parts t)
 parts_by_lists (node h ts) b = b
 parts_by_lists t b = tt
 
@@ -33,8 +33,8 @@ const_parts_by_lists (node (expression k) ts) b = b
 const_parts_by_lists (node value (cons t (cons v nil))) b = branches_by_lists v b.1.0
 const_parts_by_lists t b = tt
 
-pub part_by_lists : (t : Tree) (i : ℕ) → i < count (parts_of t) → BindByLists t → BindByLists (nth i (parts_of t))
-part_by_lists t i l b = nth_by_lists (parts_of t) i l (parts_by_lists t b)
+pub part_by_lists : (t : Tree) (i : ℕ) → i < count (own_parts t) → BindByLists t → BindByLists (nth i (own_parts t))
+part_by_lists t i l b = nth_by_lists (own_parts t) i l (parts_by_lists t b)
 
 pub const_part_by_lists : (t : Tree) (i : ℕ) → i < count (const_parts_of t) → BindByLists t →
     BindByLists (nth i (const_parts_of t))

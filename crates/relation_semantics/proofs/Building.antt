@@ -17,7 +17,7 @@ use Rattle.relation_semantics.specs.Stores.{through, resolve, resolved}
 use Rattle.relation_semantics.specs.Goals.{Goal}
 use Rattle.relation_semantics.specs.Errors.{IsReadAs, itself, by_class, by_binding, IsStandIn, StandFor}
 use Rattle.relation_semantics.specs.Generalising.{MakesUnbound, makes_none, makes_one}
-use Rattle.relation_semantics.specs.Parts.{parts_of, branches_of, const_parts_of}
+use Rattle.relation_semantics.specs.Parts.{own_parts, branches_of, const_parts_of}
 use Rattle.relation_semantics.specs.Steps.{HasNoBinder, BindsNoBinder, WritesEntry, StandsBeside, as_it_was, led_on}
 use Rattle.relation_semantics.specs.Steps.{Equates, InstantiatesNumber, IsNumberFor, Instantiates, ChangesNothing, Taints}
 use Rattle.relation_semantics.specs.Steps.{IsGeneralised, kept, replaced, in_form, in_binder, in_list}
@@ -66,7 +66,7 @@ built_nth k zero (cons t ts) h = h.0
 built_nth k (suc i) (cons t ts) h = built_nth k i ts h.1
 built_nth k i ts h = tt
 
-pub built_parts : (k : Kit) (t : Tree) → IsBuiltOf k t → IsBuiltOf k (parts_of t)
+pub built_parts : (k : Kit) (t : Tree) → IsBuiltOf k t → IsBuiltOf k (own_parts t)
 built_parts k (node h ts) f = f.1
 built_parts k t f = tt
 

@@ -7,7 +7,7 @@ use Rattle.relation_semantics.specs.ErasureLaws.{IsTypeOrConst}
 use Rattle.relation_semantics.specs.Errors.{IsReadAs, itself, by_class, by_binding}
 use Rattle.relation_semantics.specs.Generalising.{NumbersNameNothing}
 use Rattle.relation_semantics.specs.OneUniverse.{NamesTypesTo, HasOneUniverse, IsPairOf, counts_unbound, all_unbound, counts_root, all_roots, KeepsUniverse, KeepsUniverseOf, LeadsInUniverse, BindsNoMore, BindsFewer}
-use Rattle.relation_semantics.specs.Parts.{parts_of, branches_of, const_parts_of}
+use Rattle.relation_semantics.specs.Parts.{own_parts, branches_of, const_parts_of}
 use Rattle.relation_semantics.specs.Steps.{IsLater, IsNamedBy, Equates}
 use Rattle.relation_terms.specs.Heads.{unevaluated, expression, value, value_branch}
 use Rattle.relation_semantics.proofs.Classes.{stands_from}
@@ -136,7 +136,7 @@ leaves_nth P (node g ts) i l h = absurd (omega (arith, l))
 leaves_nth P (bind ks t) i l h = absurd (omega (arith, l))
 leaves_nth P nil i l h = absurd (omega (arith, l))
 
-pub leaves_parts : (P : Leaf → Type 0) (t : Tree) → Leaves P t → Leaves P (parts_of t)
+pub leaves_parts : (P : Leaf → Type 0) (t : Tree) → Leaves P t → Leaves P (own_parts t)
 leaves_parts P (node h ts) f = f
 leaves_parts P (leaf l) f = tt
 leaves_parts P (bind ks t) f = tt

@@ -15,7 +15,7 @@ use Rattle.relation_semantics.specs.Goals.{Goal, goal_of}
 use Rattle.relation_semantics.specs.Settings.{Settings, LeavesAliases}
 use Rattle.relation_semantics.specs.Steps.{HasNoBinder}
 use Rattle.relation_semantics.specs.Errors.{IsLeftToGoal}
-use Rattle.relation_semantics.specs.Parts.{parts_of, const_parts_of}
+use Rattle.relation_semantics.specs.Parts.{own_parts, const_parts_of}
 use Rattle.relation_semantics.specs.Asking.{Wanted, a_constraint, a_goal, IsTrivial, HaveAlias, AsksFor, IsPlainTerm, HasNoAlias}
 use Rattle.relation_semantics.specs.Recording.{AreBare, StandsAmong, IsRecorded, IsJustAsked, FrontAsks}
 use Rattle.relation_semantics.specs.Lawful.{State, Pair, Turned, WithMeaning, IsCovered, Covers, RecordsJust, declared_by, items_in}

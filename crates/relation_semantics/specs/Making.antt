@@ -19,9 +19,9 @@ FitArgs (x ∷ xs) (cons t ts) = IsTerm (arg_sort x) t × FitArgs xs ts
 FitArgs xs ts = ⊥
 
 -- The same form over other parts; what has no parts is itself.
-abbrev pub over : Tree → Tree → Tree
-over (node h ts) us = node h us
-over t us = t
+abbrev pub form_over : Tree → Tree → Tree
+form_over (node h ts) us = node h us
+form_over t us = t
 
 -- Of a constant the same: an item or an expression over other arguments, a value of its type with other branches.
 abbrev pub const_over : Tree → Tree → Tree

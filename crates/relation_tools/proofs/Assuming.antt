@@ -38,7 +38,7 @@ use Rattle.relation_terms.proofs.Members.{region_term, type_term, const_term}
 use Rattle.relation_terms.specs.Interning.{Sorted}
 use Rattle.relation_terms.proofs.Stays.{knows_as, stays_arg, knows_arg, knows_region, stays_kind}
 use Rattle.relation_folds.specs.Visits.{bound_var_escapes}
-use Rattle.relation_tools.specs.Components.{Choice, every, takes, behind, choice_of, is_alias, is_component, components}
+use Rattle.relation_tools.specs.Components.{Choice, every, takes, choice_behind, choice_of, is_alias, is_component, components}
 use Rattle.relation_tools.specs.Outliving.{SomeIs, EachIs, StandsFor, AddsSome, HasAll}
 use Rattle.relation_tools.specs.Assumptions.{is_unresolved, is_assumed, assumed_parts, elaborated, assumed, IsKnown}
 use Rattle.relation_tools.specs.Assumptions.{all_elaborated, HaveSame}
@@ -172,9 +172,9 @@ components_known c (bind ks t) k = components_known every t k
 components_known c nil k = All-nil Known
 components_known c (cons t ts) k =
     let o = and_parts (known t) (known ts) k in
-    All-append Known (cond (takes c t ts) (components every t) []) (components (behind c) ts)
+    All-append Known (cond (takes c t ts) (components every t) []) (components (choice_behind c) ts)
     (all_chosen Known (takes c t ts) (components every t) [] (components_known every t o.0) (All-nil Known))
-    (components_known (behind c) ts o.1)
+    (components_known (choice_behind c) ts o.1)
 
 abbrev held : Tree → Option Tree → Tree
 held d None = d

@@ -8,7 +8,7 @@ use Rattle.relation_terms.specs.Orders.{Order, in_turn, first_last, place_at}
 use Rattle.relation_terms.specs.Parts.{tree_sort}
 use Rattle.relation_terms.specs.Closures.{is_type_sort, type_from_last, captured_types, resume_type}
 use Rattle.relation_terms.specs.declared.terms.keys.TyKey.{TyKey}
-use Rattle.relation_tools.specs.Components.{Choice, every, no_member, no_region, last_types, not_bivariant, takes, behind, components}
+use Rattle.relation_tools.specs.Components.{Choice, every, no_member, no_region, last_types, not_bivariant, takes, choice_behind, components}
 use Rattle.relation_tools.specs.Outliving.{SomeIs, HasAll}
 use Rattle.relation_tools.specs.Collecting.{behind_all, of_member, found_components}
 use Rattle.relation_tools.specs.declared.outlives.Component.{Component}
@@ -22,7 +22,7 @@ behind_none no_member = refl
 behind_none no_region = refl
 behind_none (last_types n) = refl
 
-behind_one : (i : ℕ) (c : Choice) → behind_all (suc i) c ≡ behind_all i (behind c)
+behind_one : (i : ℕ) (c : Choice) → behind_all (suc i) c ≡ behind_all i (choice_behind c)
 behind_one zero (not_bivariant []) = refl
 behind_one (suc i) (not_bivariant []) = refl
 behind_one i (not_bivariant (v ∷ vs)) = refl
@@ -38,7 +38,7 @@ member_is c zero (cons t ts) x b l e f =
     ap (λ z. cond (takes c z ts) (components every z) []) (sym e)
     ∙ ap (λ z. cond z (components every x) []) (sym (f ∙ ap (λ z. takes z x ts) (behind_none c)))
 member_is c (suc i) (cons t ts) x b l e f =
-    member_is (behind c) i ts x b (omega (arith, l)) e (f ∙ ap (λ z. takes z x (rest (suc i) ts)) (behind_one i c))
+    member_is (choice_behind c) i ts x b (omega (arith, l)) e (f ∙ ap (λ z. takes z x (rest (suc i) ts)) (behind_one i c))
 member_is c i (leaf y) x b l e f = absurd (omega (arith, l))
 member_is c i (node h ts) x b l e f = absurd (omega (arith, l))
 member_is c i (bind ks t) x b l e f = absurd (omega (arith, l))
@@ -47,9 +47,9 @@ member_is c i nil x b l e f = absurd (omega (arith, l))
 -- Those of a member are among those of the list.
 pub member_in : (c : Choice) (i : ℕ) (ts : Tree) (P : Tree → Type 0) → SomeIs P (of_member c i ts) →
     SomeIs P (components c ts)
-member_in c zero (cons t ts) P s = in_left (cond (takes c t ts) (components every t) []) (components (behind c) ts) P s
+member_in c zero (cons t ts) P s = in_left (cond (takes c t ts) (components every t) []) (components (choice_behind c) ts) P s
 member_in c (suc i) (cons t ts) P s =
-    in_right (cond (takes c t ts) (components every t) []) (components (behind c) ts) P (member_in (behind c) i ts P s)
+    in_right (cond (takes c t ts) (components every t) []) (components (choice_behind c) ts) P (member_in (choice_behind c) i ts P s)
 member_in c zero (leaf y) P s = absurd s
 member_in c zero (node h ts) P s = absurd s
 member_in c zero (bind ks t) P s = absurd s
@@ -64,8 +64,8 @@ pub has_members : {X D N : Type 0} (m : Meaning X D N) (cs : List (Component X D
     ((i : ℕ) → i < count ts → HasAll m (of_member c i ts) cs) → HasAll m (components c ts) cs
 has_members m cs c nil l f = tt
 has_members m cs c (cons t ts) l f =
-    has_both m (cond (takes c t ts) (components every t) []) (components (behind c) ts) cs (f 0 (omega arith))
-    (has_members m cs (behind c) ts l (λ i h. f (suc i) (omega (arith, h))))
+    has_both m (cond (takes c t ts) (components every t) []) (components (choice_behind c) ts) cs (f 0 (omega arith))
+    (has_members m cs (choice_behind c) ts l (λ i h. f (suc i) (omega (arith, h))))
 has_members m cs c (leaf x) l f = absurd l
 has_members m cs c (node h ts) l f = absurd l
 has_members m cs c (bind ks t) l f = absurd l

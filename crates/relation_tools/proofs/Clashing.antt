@@ -14,11 +14,11 @@ use Rattle.relation_terms.specs.Parts.{parts_of, tree_sort}
 use Rattle.relation_folds.specs.Visits.{is_rigid, rigid_atom}
 use Rattle.relation_folds.proofs.Visiting.{rest, rest_next, rest_end, rest_list}
 use Rattle.relation_folds.specs.Clashes.{flexible, flexible_atom, may_stand, is_integral, is_floating_point}
-use Rattle.relation_folds.specs.Clashes.{Alike, AreRigid, is_const_sort, is_between, depth_inside}
+use Rattle.relation_folds.specs.Clashes.{OneOutline, AreRigid, is_const_sort, is_between, depth_inside}
 use Rattle.relation_folds.specs.Clashes.{Clash, unlike_types, left_number, right_number, unlike_consts, in_types}
 use Rattle.relation_folds.specs.Clashes.{in_consts, between, here, further}
 
-alike_same : (a : Tree) → Alike a a
+alike_same : (a : Tree) → OneOutline a a
 alike_same (leaf l) = refl
 alike_same (node h ts) = refl
 alike_same (bind ks t) = refl
@@ -77,12 +77,12 @@ number_flexible p (cons t ts) b e = absurd (cc)
 
 -- Between a term and itself there is none.
 pub no_clash : {l r : Bool} {d : ℕ} {a b : Tree} → Clash l r d a b → a ≡ b → ⊥
-no_clash {a = a} (unlike_types o s n) e = n (subst (Alike a) e (alike_same a))
+no_clash {a = a} (unlike_types o s n) e = n (subst (OneOutline a) e (alike_same a))
 no_clash {a = a} {b = b} (left_number o n) e =
     both (subst (λ x. may_stand a x ≡ true) e (stands_itself a)) n
 no_clash {a = a} {b = b} (right_number o n) e =
     both (subst (λ x. may_stand b x ≡ true) (sym e) (stands_itself b)) n
-no_clash {a = a} (unlike_consts c o s n) e = n (subst (Alike a) e (alike_same a))
+no_clash {a = a} (unlike_consts c o s n) e = n (subst (OneOutline a) e (alike_same a))
 no_clash (in_types o s k c) e = no_clash c (ap parts_of e)
 no_clash (in_consts h o s k c) e = no_clash c (ap parts_of e)
 no_clash (between h c) e = no_clash c (ap parts_of e)
@@ -93,7 +93,7 @@ no_clash (further {xs = xs} {ys = ys} c) e = no_clash c (let q : xs ≡ ys = cc 
 pub data TypeClash (l r : Bool) (d : ℕ) (a b : Tree) : Type 0 where
   by_right : may_stand b a ≡ false → TypeClash l r d a b
   by_left : (e : ℕ) → d ≡ suc e → may_stand a b ≡ false → TypeClash l r d a b
-  by_form : (e : ℕ) → d ≡ suc e → AreRigid l r a b → (Alike a b → ⊥) → TypeClash l r d a b
+  by_form : (e : ℕ) → d ≡ suc e → AreRigid l r a b → (OneOutline a b → ⊥) → TypeClash l r d a b
   by_parts : (e : ℕ) → d ≡ suc e → AreRigid l r a b → Clash l r (depth_inside a e) (parts_of a) (parts_of b) →
       TypeClash l r d a b
 
@@ -147,7 +147,7 @@ const_pair {u = u} (further c) h t = absurd (const_no_list u h t)
 
 -- A clash between constants, or between value trees.
 const_clash : {l r : Bool} {d : ℕ} {a b : Tree} {u : Sort} → Clash l r d a b → is_const_sort u ≡ true →
-    tree_sort a ≡ u → AreRigid l r a b × ((Alike a b → ⊥) ⊎ Clash l r d (parts_of a) (parts_of b))
+    tree_sort a ≡ u → AreRigid l r a b × ((OneOutline a b → ⊥) ⊎ Clash l r d (parts_of a) (parts_of b))
 const_clash {u = u} (unlike_types o s n) h t = absurd (const_no_type u h (sym t ∙ o.0))
 const_clash {u = u} (left_number o n) h t = absurd (const_no_type u h (sym t ∙ o.0))
 const_clash {u = u} (right_number o n) h t = absurd (const_no_type u h (sym t ∙ o.0))
@@ -298,11 +298,11 @@ module _ (l r : Bool) (d : ℕ) (a b : Tree) (ta : tree_sort a ≡ type_sort) (t
       only (by_form k p s n) = absurd (both g (s.0))
       only (by_parts k p s c) = absurd (both g (s.0))
 
-  pub forms_clash : (e : ℕ) → d ≡ suc e → flexible r b ≡ false → flexible l a ≡ false → (Alike a b → ⊥) →
+  pub forms_clash : (e : ℕ) → d ≡ suc e → flexible r b ≡ false → flexible l a ≡ false → (OneOutline a b → ⊥) →
       Clash l r d a b
   forms_clash e z f g n = subst (λ k. Clash l r k a b) (sym z) (unlike_types (ta, tb) (g, f) n)
 
-  pub parts_decide : (e : ℕ) (w : Bool) → d ≡ suc e → flexible r b ≡ false → flexible l a ≡ false → Alike a b →
+  pub parts_decide : (e : ℕ) (w : Bool) → d ≡ suc e → flexible r b ≡ false → flexible l a ≡ false → OneOutline a b →
       ((w ≡ false) ↔ Clash l r (depth_inside a e) (parts_of a) (parts_of b)) → (w ≡ false) ↔ Clash l r d a b
   parts_decide e w z f g s o =
       (λ i. subst (λ k. Clash l r k a b) (sym z) (in_types (ta, tb) (g, f) s (o.0 i)), λ c. o.1 (only (type_clash c ta)))
@@ -331,14 +331,14 @@ module _ (l r : Bool) (d : ℕ) (a b : Tree) (s : Sort) (h : is_const_sort s ≡
   pub flexible_left : flexible l a ≡ true → Clash l r d a b → ⊥
   flexible_left f c = both f ((const_clash c h ta).0.0)
 
-  pub const_forms_clash : flexible r b ≡ false → flexible l a ≡ false → (Alike a b → ⊥) → Clash l r d a b
+  pub const_forms_clash : flexible r b ≡ false → flexible l a ≡ false → (OneOutline a b → ⊥) → Clash l r d a b
   const_forms_clash f g n = unlike_consts h (ta, tb) (g, f) n
 
-  pub const_parts_decide : (w : Bool) → flexible r b ≡ false → flexible l a ≡ false → Alike a b →
+  pub const_parts_decide : (w : Bool) → flexible r b ≡ false → flexible l a ≡ false → OneOutline a b →
       ((w ≡ false) ↔ Clash l r d (parts_of a) (parts_of b)) → (w ≡ false) ↔ Clash l r d a b
   const_parts_decide w f g k o = (λ i. in_consts h (ta, tb) (g, f) k (o.0 i), λ c. o.1 (only ((const_clash c h ta).1)))
     where
-      only : (Alike a b → ⊥) ⊎ Clash l r d (parts_of a) (parts_of b) → Clash l r d (parts_of a) (parts_of b)
+      only : (OneOutline a b → ⊥) ⊎ Clash l r d (parts_of a) (parts_of b) → Clash l r d (parts_of a) (parts_of b)
       only (inl n) = absurd (n k)
       only (inr c) = c
 

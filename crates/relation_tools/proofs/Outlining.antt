@@ -23,7 +23,7 @@ use Rattle.relation_terms.specs.declared.terms.const_kind.InferConst.TheVariants
 use Rattle.relation_terms.specs.declared.terms.const_kind.ValTreeKind.{ValTreeKind}
 use Rattle.relation_terms.specs.declared.terms.const_kind.ValTreeKind.TheVariants.{Leaf as LeafTree, Branch as BranchTree}
 use Rattle.relation_folds.specs.Forms.{Leaf, Branch}
-use Rattle.relation_folds.specs.Clashes.{flexible, may_stand, outline, Alike, principal, counted, pointer_form}
+use Rattle.relation_folds.specs.Clashes.{flexible, may_stand, outline, OneOutline, principal, counted, pointer_form}
 use Rattle.relation_folds.specs.Clashes.{reference_form}
 use Rattle.relation_folds.specs.Outlines.{tree_outline, stands, trait_in, trait_in_predicate}
 
@@ -50,14 +50,14 @@ node_form (raw_ptr m) ts e = pointer_no_leaf m e
 node_form (ref m) ts e = reference_no_leaf m e
 node_form h ts e = cc
 
-pub leaf_unlike : (a b : Tree) → (a ≡ b → ⊥) → (tree_outline a).form ≡ Leaf → Alike a b → ⊥
+pub leaf_unlike : (a b : Tree) → (a ≡ b → ⊥) → (tree_outline a).form ≡ Leaf → OneOutline a b → ⊥
 leaf_unlike (node h ts) b n e k = node_form h ts e
 leaf_unlike (leaf l) b n e k = n k
 leaf_unlike (bind ks t) b n e k = n k
 leaf_unlike nil b n e k = n k
 leaf_unlike (cons t ts) b n e k = n k
 
-pub alike_outlines : (a b : Tree) → (a ≡ b → ⊥) → Alike a b → tree_outline a ≡ tree_outline b
+pub alike_outlines : (a b : Tree) → (a ≡ b → ⊥) → OneOutline a b → tree_outline a ≡ tree_outline b
 alike_outlines (node h ts) (node g us) n k = k
 alike_outlines (node h ts) (leaf l) n k = absurd (n k)
 alike_outlines (node h ts) (bind ks t) n k = absurd (n k)
@@ -87,7 +87,7 @@ none_stands p a b o e n = none_cond (flexible p a) (may_stand a b) o e n
 module _ {Key Id Name : Type 0} (m : Meaning Key Id Name) where
   -- A constant that is no value and stands for itself is like itself alone, and a value is like values alone.
   pub const_unlike : (p : Bool) (k : ConstKind Key Id Name) (b : Tree) → flexible p (const_tree m k) ≡ false →
-      ((t : TyKey Key) (v : ValTreeKey Key) → k ≡ Value t v → ⊥) → Alike (const_tree m k) b → const_tree m k ≡ b
+      ((t : TyKey Key) (v : ValTreeKey Key) → k ≡ Value t v → ⊥) → OneOutline (const_tree m k) b → const_tree m k ≡ b
   const_unlike p (Param x) b f n e = e
   const_unlike p (Placeholder x) b f n e = e
   const_unlike p (Infer (Var v)) b f n e = e
@@ -99,7 +99,7 @@ module _ {Key Id Name : Type 0} (m : Meaning Key Id Name) where
   const_unlike p (Value t v) b f n e = absurd (n t v refl)
 
   pub value_unlike : (p : Bool) (k : ConstKind Key Id Name) (ts : Tree) → flexible p (const_tree m k) ≡ false →
-      ((t : TyKey Key) (v : ValTreeKey Key) → k ≡ Value t v → ⊥) → Alike (node value ts) (const_tree m k) → ⊥
+      ((t : TyKey Key) (v : ValTreeKey Key) → k ≡ Value t v → ⊥) → OneOutline (node value ts) (const_tree m k) → ⊥
   value_unlike p (Param x) ts f n e = cc
   value_unlike p (Placeholder x) ts f n e = cc
   value_unlike p (Infer (Var v)) ts f n e = cc
@@ -116,12 +116,12 @@ module _ {Key Id Name : Type 0} (m : Meaning Key Id Name) where
   valtree_rigid p (BranchTree x) = refl
 
   pub valtree_unlike : (k : ValTreeKind Key) (b : Tree) → ((x : BranchesKey Key) → k ≡ BranchTree x → ⊥) →
-      Alike (valtree_tree m k) b → valtree_tree m k ≡ b
+      OneOutline (valtree_tree m k) b → valtree_tree m k ≡ b
   valtree_unlike (LeafTree x s) b n e = e
   valtree_unlike (BranchTree x) b n e = absurd (n x refl)
 
   pub branch_unlike : (k : ValTreeKind Key) (ts : Tree) → ((x : BranchesKey Key) → k ≡ BranchTree x → ⊥) →
-      Alike (node value_branch ts) (valtree_tree m k) → ⊥
+      OneOutline (node value_branch ts) (valtree_tree m k) → ⊥
   branch_unlike (LeafTree x s) ts n e = cc
   branch_unlike (BranchTree x) ts n e = n x refl
 
@@ -152,10 +152,10 @@ module _ {Key Id Name : Type 0} (m : Meaning Key Id Name) where
       principal (cons (object_predicate_tree m b) ts) ≡ principal ts
   principal_further b ts k n = pass_under (m.bound_vars b.bound_vars) b.value ts k n
 
-pub branch_counts : (x y : Tree) → Alike (node value_branch x) (node value_branch y) → count x ≡ count y
+pub branch_counts : (x y : Tree) → OneOutline (node value_branch x) (node value_branch y) → count x ≡ count y
 branch_counts x y e = ap (λ o. o.parts) e
 
-pub branch_alike : (x y : Tree) → count x ≡ count y → Alike (node value_branch x) (node value_branch y)
+pub branch_alike : (x y : Tree) → count x ≡ count y → OneOutline (node value_branch x) (node value_branch y)
 branch_alike x y e = ap (λ n. counted {D = ℕ} Branch n) e
 
 pub value_known : (x v : Tree) → IsTrue (known (node value (cons x (cons v nil)))) → IsTrue (known v)

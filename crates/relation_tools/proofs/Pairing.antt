@@ -21,7 +21,7 @@ use Rattle.relation_terms.specs.declared.terms.ty_kind.TyKind.TheVariants.{Alias
 use Rattle.relation_terms.specs.declared.terms.binder.Binder.{Binder}
 use Rattle.relation_terms.specs.declared.terms.fn_sig.FnSigTys.{FnSigTys}
 use Rattle.relation_folds.specs.Forms.{Form, Outline, Tuple, FnPtr}
-use Rattle.relation_folds.specs.Clashes.{Clash, Alike, outline, of_item, plain, counted, pointer_form, reference_form}
+use Rattle.relation_folds.specs.Clashes.{Clash, OneOutline, outline, of_item, plain, counted, pointer_form, reference_form}
 use Rattle.relation_folds.specs.Clashes.{of_object, principal, is_between, between, here, further}
 use Rattle.relation_folds.proofs.FieldFolding.{one_known}
 use Rattle.relation_tools.specs.Pairs.{Pairs}
@@ -204,7 +204,7 @@ one_truth false false i = refl
 module _ {Key Id Name : Type 0} (m : Meaning Key Id Name) where
   -- A pair that is chosen by a test.
   pub chosen : {P : Type 0} (a b : Tree) (w : Bool) (p q : Pair Key) → q ≡ cond w p Apart → (IsTrue w ↔ P) →
-      (P → Pairs m a b p) → ((P → ⊥) → Alike a b → ⊥) → Pairs m a b q
+      (P → Pairs m a b p) → ((P → ⊥) → OneOutline a b → ⊥) → Pairs m a b q
   chosen a b true p q e i s n = subst (λ x. Pairs m a b x) (sym e) (s (i.0 refl))
   chosen a b false p q e i s n = subst (λ x. Pairs m a b x) (sym e) (n (λ z. false≢true (i.1 z)))
 

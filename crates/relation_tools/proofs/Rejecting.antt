@@ -9,7 +9,7 @@ use Rattle.relation_terms.specs.Trees.{Tree, leaf, node, bind, nil, cons, Leaves
 use Rattle.relation_terms.specs.Erasure.{erase, erase_leaf, erase_atom, kept_parts}
 use Rattle.relation_terms.specs.Parts.{tree_sort, parts_of}
 use Rattle.relation_folds.specs.Visits.{is_rigid}
-use Rattle.relation_folds.specs.Clashes.{flexible, may_stand, is_integral, is_floating_point, outline, Alike}
+use Rattle.relation_folds.specs.Clashes.{flexible, may_stand, is_integral, is_floating_point, outline, OneOutline}
 use Rattle.relation_folds.specs.Clashes.{is_const_sort, is_between}
 use Rattle.relation_folds.specs.Clashes.{Clash, unlike_types, left_number, right_number, unlike_consts, in_types}
 use Rattle.relation_folds.specs.Clashes.{in_consts, between, here, further}
@@ -271,7 +271,7 @@ module _ {f g : Tree → Bool} (within : (a : Tree) → f a ≡ true → flexibl
   parts_meet i j fa fb n e = absurd (cc)
 
   met_alike : {P Q : Leaf → Type 0} → Tells f g P Q → {a b x y : Tree} → Instance f a x → Instance g b y →
-      f a ≡ false → g b ≡ false → is_met (tree_sort a) ≡ true → Leaves P a → Leaves Q b → erase x ≡ erase y → Alike a b
+      f a ≡ false → g b ≡ false → is_met (tree_sort a) ≡ true → Leaves P a → Leaves Q b → erase x ≡ erase y → OneOutline a b
   met_alike tells (put p h v w) j fa fb n o k e = absurd (both p fa)
   met_alike tells i (put p h v w) fa fb n o k e = absurd (both p fb)
   met_alike tells (kept_leaf {l = l} p) (kept_leaf {l = m} q) fa fb n o k e =

@@ -41,7 +41,7 @@ use Rattle.relation_folds.specs.Forms.{Array, Slice, Pat, ConstPtr, MutPtr, Shar
 use Rattle.relation_folds.specs.Forms.{UnsafeBinder, Dynamic, Alias, Value, Branch}
 use Rattle.relation_folds.specs.Outlines.{tree_outline}
 use Rattle.relation_tools.specs.Pairs.{is_of_item, is_of_list, IsOfItem, IsOfList}
-use Rattle.relation_folds.specs.Clashes.{Alike, pointer_form, reference_form}
+use Rattle.relation_folds.specs.Clashes.{OneOutline, pointer_form, reference_form}
 use Rattle.relation_tools.proofs.Outlining.{alike_outlines, leaf_unlike}
 
 module _ {Key Id Name : Type 0} (m : Meaning Key Id Name) where
@@ -121,14 +121,14 @@ module _ {Key Id Name : Type 0} (m : Meaning Key Id Name) where
   -- A type that is not of the form of another is not like it.
   module _ (k j : TyKind Key Id Name) (n : kind_tree m k ≡ kind_tree m j → ⊥) where
     pub unlike : (x : TyKind Key Id Name) → k ≡ x → (Has (tree_outline (kind_tree m x)).form j → ⊥) →
-        Alike (kind_tree m k) (kind_tree m j) → ⊥
+        OneOutline (kind_tree m k) (kind_tree m j) → ⊥
     unlike x e z s =
         let one = ap (λ o. o.form) (alike_outlines (kind_tree m k) (kind_tree m j) n s) in
         let is = ap (λ y. (tree_outline (kind_tree m y)).form) e in
         z (subst (λ f. Has f j) (sym one ∙ is) (tells j))
 
     -- Nor is a type without parts like another.
-    pub without_parts : (tree_outline (kind_tree m k)).form ≡ Leaf → Alike (kind_tree m k) (kind_tree m j) → ⊥
+    pub without_parts : (tree_outline (kind_tree m k)).form ≡ Leaf → OneOutline (kind_tree m k) (kind_tree m j) → ⊥
     without_parts e s = leaf_unlike (kind_tree m k) (kind_tree m j) n e s
 
   -- Types of none of some forms over parts: of those over types, over lists, over items.

@@ -26,14 +26,14 @@ kind_of (Ty i) = type_kind
 kind_of (Region i) = region_kind
 kind_of (Const i) = const_kind
 
-abbrev pub place_of : UsedVar → ℕ
-place_of (Ty i) = i
-place_of (Region i) = i
-place_of (Const i) = i
+abbrev pub var_place : UsedVar → ℕ
+var_place (Ty i) = i
+var_place (Region i) = i
+var_place (Const i) = i
 
 -- A variable stands below a number in the binder's list.
 abbrev pub StandsBelow : ℕ → UsedVar → Type 0
-StandsBelow n u = place_of u < n
+StandsBelow n u = var_place u < n
 
 -- Variables are one where their kinds and their places are.
 abbrev pub same_var : UsedVar → UsedVar → Bool

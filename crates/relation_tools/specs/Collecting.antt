@@ -13,7 +13,7 @@ use Rattle.relation_terms.specs.declared.terms.keys.TyKey.{TyKey}
 use Rattle.relation_terms.specs.declared.terms.part_kind.Part.{Part}
 use Rattle.relation_terms.specs.declared.terms.part_kind.Part.TheVariants.{Ty as TyPart, Const as ConstPart}
 use Rattle.relation_terms.specs.declared.terms.ty_kind.TyKind.TheVariants.{Alias as AliasForm}
-use Rattle.relation_tools.specs.Components.{Choice, every, no_region, not_bivariant, alias_choice, takes, behind, components}
+use Rattle.relation_tools.specs.Components.{Choice, every, no_region, not_bivariant, alias_choice, takes, choice_behind, components}
 use Rattle.relation_tools.specs.Components.{inside_alias}
 use Rattle.relation_tools.specs.Outliving.{AddsSome, HasAll}
 use Rattle.relation_tools.specs.Walking.{Adds}
@@ -29,7 +29,7 @@ behind_all i c = c
 -- The components of the member at a place, if it is chosen.
 abbrev pub of_member : Choice → ℕ → Tree → List Tree
 of_member c zero (cons t ts) = cond (takes c t ts) (components every t) []
-of_member c (suc i) (cons t ts) = of_member (behind c) i ts
+of_member c (suc i) (cons t ts) = of_member (choice_behind c) i ts
 of_member c i ts = []
 
 -- What is kept of a part: a type or a constant.

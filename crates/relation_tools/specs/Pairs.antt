@@ -3,7 +3,7 @@ use Rattle.std.specs.Prelude.{◌⊎◌, ◌↔◌, ◌<◌, ◌+◌, ℕ, Bool,
 use Rattle.relation_terms.specs.Trees.{Tree, known, size}
 use Rattle.relation_terms.specs.Parts.{parts_of}
 use Rattle.relation_terms.specs.Meaning.{Meaning}
-use Rattle.relation_folds.specs.Clashes.{Clash, Alike}
+use Rattle.relation_folds.specs.Clashes.{Clash, OneOutline}
 use Rattle.relation_folds.specs.Forms.{Form, Leaf, Adt, FnDef, Closure, CoroutineClosure, Coroutine, CoroutineWitness}
 use Rattle.relation_folds.specs.Forms.{Tuple, FnPtr, Dynamic, Alias}
 use Rattle.relation_folds.specs.Outlines.{tree_outline}
@@ -72,12 +72,12 @@ module _ {Key Id Name : Type 0} (m : Meaning Key Id Name) where
 
   -- The pair is of two types of like forms: it has what can clash of their parts.
   abbrev pub IsInside : Tree → Tree → Pair Key → Type 0
-  IsInside a b p = Alike a b × (KnownPair p × ((pair_size p < size a) ×
+  IsInside a b p = OneOutline a b × (KnownPair p × ((pair_size p < size a) ×
       ((l r : Bool) (d : ℕ) → Clash l r d (parts_of a) (parts_of b) ↔ ClashIn l r d p)))
 
   -- The pair of two types: apart exactly where their forms are unlike.
   abbrev pub Pairs : Tree → Tree → Pair Key → Type 0
-  Pairs a b Apart = Alike a b → ⊥
+  Pairs a b Apart = OneOutline a b → ⊥
   Pairs a b Nothing = IsInside a b Nothing
   Pairs a b (Types t u) = IsInside a b (Types t u)
   Pairs a b (Arrays t u n k) = IsInside a b (Arrays t u n k)

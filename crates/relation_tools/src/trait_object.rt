@@ -1,7 +1,7 @@
 //! What trait objects are told apart by.
 ghost use Rattle.std.specs.Prelude.{◌≡◌, IsTrue};
 ghost use Rattle.relation_terms.specs.Trees.{known};
-ghost use Rattle.relation_folds.specs.Outlines.{named, trait_in};
+ghost use Rattle.relation_folds.specs.Outlines.{id_number, trait_in};
 ghost use Rattle.relation_tools.specs.HeadKeys.{principal_of};
 
 use relation_terms::predicate::ExistentialPredicate;
@@ -24,7 +24,7 @@ pub fn principal_def_id<I: Interner>(
     predicates: &ExistentialPredicates<I>,
 ) -> Option<TraitId<I::Id>>
     requires { IsTrue (known ((I.meaning cx.now).existential_predicates predicates.now)) }
-    ensures { let m = I.meaning cx.now in named (λ t. m.id t.0) result ≡ principal_of m predicates.now }
+    ensures { let m = I.meaning cx.now in id_number (λ t. m.id t.0) result ≡ principal_of m predicates.now }
 {
     for predicate in cx.existential_predicates(predicates) {
         if let Some(id) = trait_of(predicate) {

@@ -6,7 +6,7 @@ use Rattle.std.proofs.lemmas.Bool.{and_parts}
 use mathlib.Core.Former.{Count}
 use Rattle.relation_terms.specs.Trees.{Tree, leaf, node, bind, nil, cons, known}
 use Rattle.relation_terms.specs.Meaning.{Meaning}
-use Rattle.relation_tools.specs.Components.{Choice, every, components, choice_of, behind, takes, is_alias, is_component, inside_alias, alias_choice}
+use Rattle.relation_tools.specs.Components.{Choice, every, components, choice_of, choice_behind, takes, is_alias, is_component, inside_alias, alias_choice}
 use Rattle.relation_tools.specs.Outliving.{SomeIs, EachIs, StandsFor, EachStands, AddsSome}
 use Rattle.relation_terms.specs.Heads.{alias}
 use Rattle.relation_tools.specs.declared.outlives.Component.{Component, Region, Param, Placeholder, UnresolvedInferenceVariable, Alias, EscapingAlias, EscapingAlias', Row_of-Component, end_of-Component, more_of-Component, items-the_row-Component, items_hidden-the_row-Component-0}
@@ -41,9 +41,9 @@ known_components c (bind ks t) k = known_components every t k
 known_components c nil k = tt
 known_components c (cons t ts) k =
     let p = and_parts (known t) (known ts) k in
-    each_both Known (cond (takes c t ts) (components every t) []) (components (behind c) ts)
+    each_both Known (cond (takes c t ts) (components every t) []) (components (choice_behind c) ts)
     (each_either (takes c t ts) (components every t) [] (known_components every t p.0) tt)
-    (known_components (behind c) ts p.1)
+    (known_components (choice_behind c) ts p.1)
 
 abbrev row_of : {X D N : Type 0} → Component X D N → (n : Count) × Row_of-Component X D N n
 row_of (EscapingAlias' _ row) = (_, row)

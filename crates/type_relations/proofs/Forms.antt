@@ -10,7 +10,7 @@ use Rattle.relation_terms.specs.Heads.{AliasKind, alias, region_sort, type_sort,
 use Rattle.relation_terms.specs.Heads.{head_parts}
 use Rattle.relation_terms.specs.Trees.{Tree, leaf, node, bind, nil, cons, count, Fits, IsTerm}
 use Rattle.relation_terms.specs.Meaning.{Meaning}
-use Rattle.relation_folds.specs.Outlines.{named}
+use Rattle.relation_folds.specs.Outlines.{id_number}
 use Rattle.relation_folds.specs.declared.error.TypeError.{TypeError}
 use Rattle.relation_folds.specs.declared.error.TypeError.TheVariants.{TupleSize, Sorts, ProjectionMismatched}
 use Rattle.relation_folds.specs.declared.error.TypeError.TheVariants.{Mutability as MutabilityError}
@@ -20,7 +20,7 @@ use Rattle.type_relations.specs.declared.relate.forms.Form.TheVariants.{Leaf, Ad
 use Rattle.type_relations.specs.declared.relate.forms.Form.TheVariants.{Coroutine, CoroutineWitness, Array, Slice}
 use Rattle.type_relations.specs.declared.relate.forms.Form.TheVariants.{Pat, RawPtr, Ref, Tuple, FnPtr, UnsafeBinder, Dynamic}
 use Rattle.type_relations.specs.declared.relate.forms.Form.TheVariants.{Alias}
-use Rattle.relation_semantics.specs.Parts.{parts_of, head_of}
+use Rattle.relation_semantics.specs.Parts.{own_parts, head_of}
 use Rattle.type_relations.specs.Forms.{named_outline, head_outline, tree_outline, IsFixed}
 use Rattle.relation_semantics.specs.Errors.{outer_head, outermost, AreAlike, AreOfOneForm, over_parts, over_aliases, one_leaf}
 use Rattle.relation_semantics.specs.Errors.{FormError, mutability, pointer_mutability, as_many, alias_arguments, unlike_aliases}
@@ -102,7 +102,7 @@ alike_item : (t u : Tree) → ((tree_outline t).form ≡ Alias → ⊥) → ((tr
 alike_item t u n o a = sym (outermost_item t n) ∙ ap (λ z. (tree_outline z).item) a ∙ outermost_item u o
 
 -- A type that is not without parts.
-over_node : (t : Tree) → ((tree_outline t).form ≡ Leaf → ⊥) → t ≡ node (head_of t) (parts_of t)
+over_node : (t : Tree) → ((tree_outline t).form ≡ Leaf → ⊥) → t ≡ node (head_of t) (own_parts t)
 over_node (node h ts) n = refl
 over_node t n = absurd (n refl)
 
@@ -112,7 +112,7 @@ outline_head t n = absurd (n refl)
 
 -- An alias type.
 alias_shape : (t : Tree) → (tree_outline t).form ≡ Alias →
-    (k : AliasKind) × (d : ℕ) × (t ≡ node (alias k d) (parts_of t)) × ((tree_outline t).item ≡ Some d)
+    (k : AliasKind) × (d : ℕ) × (t ≡ node (alias k d) (own_parts t)) × ((tree_outline t).item ≡ Some d)
 alias_shape (node (alias k d) ts) e = (k, d, refl, refl)
 alias_shape (node h ts) e = absurd (cc)
 alias_shape t e = absurd (cc)
@@ -147,12 +147,12 @@ head_count (ref u) ts f k = row_count (term_of region_sort ∷ term_of type_sort
 head_count h ts f k = absurd k
 
 tree_count : (t : Tree) → IsTerm type_sort t → IsFixed (tree_outline t).form →
-    count (parts_of t) ≡ fixed_count (tree_outline t).form
+    count (own_parts t) ≡ fixed_count (tree_outline t).form
 tree_count (node h ts) i k = head_count h ts i.1 k
 tree_count t i k = absurd k
 
 pub fixed_counts : (t u : Tree) (f : Form) → IsTerm type_sort t → IsTerm type_sort u → (tree_outline t).form ≡ f →
-    (tree_outline u).form ≡ f → IsFixed f → count (parts_of t) ≡ count (parts_of u)
+    (tree_outline u).form ≡ f → IsFixed f → count (own_parts t) ≡ count (own_parts u)
 fixed_counts t u f i j et eu k = tree_count t i (subst IsFixed (sym et) k) ∙ ap fixed_count et
     ∙ sym (tree_count u j (subst IsFixed (sym eu) k) ∙ ap fixed_count eu)
 
@@ -165,7 +165,7 @@ is_alias Alias = inl refl
 is_alias f = inr (λ e. absurd (cc))
 
 -- The item that an outline names.
-item_named : {D : Type 0} (number : D → ℕ) (o : Option D) (d : ℕ) → named number o ≡ Some d →
+item_named : {D : Type 0} (number : D → ℕ) (o : Option D) (d : ℕ) → id_number number o ≡ Some d →
     (x : D) × (o ≡ Some x) × (number x ≡ d)
 item_named number (Some x) d e = (x, refl, (cc))
 item_named number None d e = absurd (cc)
@@ -182,7 +182,7 @@ module _ {Key Id Name : Type 0} (m : Meaning Key Id Name) (x y : TyKey Key) (o p
   unlike_forms n e is = unlike_types
       (λ a. n (ap (λ z. z.form) left ∙ alike_form (m.ty x) (m.ty y) a ∙ sym (ap (λ z. z.form) right))) e is
 
-  pub unlike_items : o.form ≡ p.form → (named m.id o.item ≡ named m.id p.item → ⊥) → (e : TypeError Key Id Name) →
+  pub unlike_items : o.form ≡ p.form → (id_number m.id o.item ≡ id_number m.id p.item → ⊥) → (e : TypeError Key Id Name) →
       ((i j : Id) → o.form ≡ Alias → o.item ≡ Some i → p.item ≡ Some j →
       e ≡ ProjectionMismatched (record { expected = i; found = j })) →
       (o.form ≢ Alias → e ≡ Sorts (record { expected = x; found = y })) → FormError m x y e
@@ -196,9 +196,9 @@ module _ {Key Id Name : Type 0} (m : Meaning Key Id Name) (x y : TyKey Key) (o p
           let (i, oi, ic) = item_named m.id o.item c (ap (λ z. z.item) left ∙ ct) in
           let (j, pj, jd) = item_named m.id p.item d (ap (λ z. z.item) right ∙ du) in
           subst (FormError m x y) (sym (aliases i j is oi pj)) (unlike_aliases i j
-          (t ∙ ap (λ z. node (alias k z) (parts_of (m.ty x))) (sym ic))
-          (u ∙ ap (λ z. node (alias l z) (parts_of (m.ty y))) (sym jd))
-          (λ z. n (ap (named m.id) oi ∙ ap Some z ∙ sym (ap (named m.id) pj))))
+          (t ∙ ap (λ z. node (alias k z) (own_parts (m.ty x))) (sym ic))
+          (u ∙ ap (λ z. node (alias l z) (own_parts (m.ty y))) (sym jd))
+          (λ z. n (ap (id_number m.id) oi ∙ ap Some z ∙ sym (ap (id_number m.id) pj))))
 
       go : (o.form ≡ Alias) ⊎ (o.form ≢ Alias) → FormError m x y e
       go (inl is) = apart is
@@ -219,11 +219,11 @@ module _ {Key Id Name : Type 0} (m : Meaning Key Id Name) (x y : TyKey Key) (o p
     right_head : named_outline m.id p ≡ head_outline (head_of (m.ty y))
     right_head = right ∙ outline_head (m.ty y) some_right
 
-    left_from : o.form ≢ Alias → head_of (m.ty x) ≡ from o.form (named m.id o.item) o.mutability
+    left_from : o.form ≢ Alias → head_of (m.ty x) ≡ from o.form (id_number m.id o.item) o.mutability
     left_from other = rebuilt (head_of (m.ty x)) (λ e. other (ap (λ z. z.form) left_head ∙ e))
         (λ e. some_left (ap (λ z. z.form) (outline_head (m.ty x) some_left) ∙ e)) ∙ ap head_from (sym left_head)
 
-    right_from : o.form ≢ Alias → head_of (m.ty y) ≡ from p.form (named m.id p.item) p.mutability
+    right_from : o.form ≢ Alias → head_of (m.ty y) ≡ from p.form (id_number m.id p.item) p.mutability
     right_from other = rebuilt (head_of (m.ty y)) (λ e. other (form ∙ ap (λ z. z.form) right_head ∙ e))
         (λ e. some_right (ap (λ z. z.form) (outline_head (m.ty y) some_right) ∙ e)) ∙ ap head_from (sym right_head)
 
@@ -240,14 +240,14 @@ module _ {Key Id Name : Type 0} (m : Meaning Key Id Name) (x y : TyKey Key) (o p
     unlike_mutability n = go o.form refl
       where
         is_left : (f : Form) → f ≢ Alias → o.form ≡ f →
-            m.ty x ≡ node (from f (named m.id o.item) o.mutability) (parts_of (m.ty x))
-        is_left f other e = over_node (m.ty x) some_left ∙ ap (λ h. node h (parts_of (m.ty x)))
-            (left_from (λ z. other (sym e ∙ z)) ∙ ap (λ z. from z (named m.id o.item) o.mutability) e)
+            m.ty x ≡ node (from f (id_number m.id o.item) o.mutability) (own_parts (m.ty x))
+        is_left f other e = over_node (m.ty x) some_left ∙ ap (λ h. node h (own_parts (m.ty x)))
+            (left_from (λ z. other (sym e ∙ z)) ∙ ap (λ z. from z (id_number m.id o.item) o.mutability) e)
 
         is_right : (f : Form) → f ≢ Alias → o.form ≡ f →
-            m.ty y ≡ node (from f (named m.id p.item) p.mutability) (parts_of (m.ty y))
-        is_right f other e = over_node (m.ty y) some_right ∙ ap (λ h. node h (parts_of (m.ty y)))
-            (right_from (λ z. other (sym e ∙ z)) ∙ ap (λ z. from z (named m.id p.item) p.mutability) (sym form ∙ e))
+            m.ty y ≡ node (from f (id_number m.id p.item) p.mutability) (own_parts (m.ty y))
+        is_right f other e = over_node (m.ty y) some_right ∙ ap (λ h. node h (own_parts (m.ty y)))
+            (right_from (λ z. other (sym e ∙ z)) ∙ ap (λ z. from z (id_number m.id p.item) p.mutability) (sym form ∙ e))
 
         both : (f : Form) → o.form ≡ f → own_mutability f o.mutability ≡ own_mutability f p.mutability → ⊥
         both f e q = n (left_own ∙ ap (λ z. own_mutability z o.mutability) e ∙ q
@@ -261,49 +261,49 @@ module _ {Key Id Name : Type 0} (m : Meaning Key Id Name) (x y : TyKey Key) (o p
             let other : Ref ≢ Alias = (λ z. absurd (cc)) in mutability (is_left Ref other e) (is_right Ref other e) n
         go f e = absurd (both f e refl)
 
-    module _ (item : named m.id o.item ≡ named m.id p.item) (same : o.mutability ≡ p.mutability) where
+    module _ (item : id_number m.id o.item ≡ id_number m.id p.item) (same : o.mutability ≡ p.mutability) where
       one_head : o.form ≢ Alias → head_of (m.ty x) ≡ head_of (m.ty y)
-      one_head other = left_from other ∙ ap (λ z. from z (named m.id o.item) o.mutability) form
-          ∙ ap (λ z. from p.form z o.mutability) item ∙ ap (from p.form (named m.id p.item)) same ∙ sym (right_from other)
+      one_head other = left_from other ∙ ap (λ z. from z (id_number m.id o.item) o.mutability) form
+          ∙ ap (λ z. from p.form z o.mutability) item ∙ ap (from p.form (id_number m.id p.item)) same ∙ sym (right_from other)
 
-      over_right : o.form ≢ Alias → m.ty y ≡ node (head_of (m.ty x)) (parts_of (m.ty y))
-      over_right other = over_node (m.ty y) some_right ∙ ap (λ h. node h (parts_of (m.ty y))) (sym (one_head other))
+      over_right : o.form ≢ Alias → m.ty y ≡ node (head_of (m.ty x)) (own_parts (m.ty y))
+      over_right other = over_node (m.ty y) some_right ∙ ap (λ h. node h (own_parts (m.ty y))) (sym (one_head other))
 
       -- Two aliases of one item.
       one_item : o.form ≡ Alias → (k : AliasKind) × (l : AliasKind) × (d : ℕ) ×
-          (m.ty x ≡ node (alias k d) (parts_of (m.ty x))) × (m.ty y ≡ node (alias l d) (parts_of (m.ty y)))
+          (m.ty x ≡ node (alias k d) (own_parts (m.ty x))) × (m.ty y ≡ node (alias l d) (own_parts (m.ty y)))
       one_item is =
           let (k, c, t, ct) = alias_shape (m.ty x) (sym (ap (λ z. z.form) left) ∙ is) in
           let (l, d, u, du) = alias_shape (m.ty y) (sym (ap (λ z. z.form) right) ∙ sym form ∙ is) in
           let named_one : Some c ≡ Some d =
           sym ct ∙ sym (ap (λ z. z.item) left) ∙ item ∙ ap (λ z. z.item) right ∙ du in
-          let e : c ≡ d = cc in (k, l, d, t ∙ ap (λ z. node (alias k z) (parts_of (m.ty x))) e, u)
+          let e : c ≡ d = cc in (k, l, d, t ∙ ap (λ z. node (alias k z) (own_parts (m.ty x))) e, u)
 
-      pub forms_alike : count (parts_of (m.ty x)) ≡ count (parts_of (m.ty y)) → AreOfOneForm (m.ty x) (m.ty y)
+      pub forms_alike : count (own_parts (m.ty x)) ≡ count (own_parts (m.ty y)) → AreOfOneForm (m.ty x) (m.ty y)
       forms_alike n = go (is_alias o.form)
         where
           go : (o.form ≡ Alias) ⊎ (o.form ≢ Alias) → AreOfOneForm (m.ty x) (m.ty y)
           go (inl is) = let (k, l, d, t, u) = one_item is in over_aliases t u n
           go (inr other) = over_parts (over_node (m.ty x) some_left) (over_right other) n
 
-      pub unlike_counts : (i j : ℕ) → i ≡ count (parts_of (m.ty x)) → j ≡ count (parts_of (m.ty y)) → i ≢ j →
+      pub unlike_counts : (i j : ℕ) → i ≡ count (own_parts (m.ty x)) → j ≡ count (own_parts (m.ty y)) → i ≢ j →
           (e : TypeError Key Id Name) →
           (o.form ≡ Tuple → 0 < i → 0 < j → e ≡ TupleSize (record { expected = i; found = j })) →
           ((i ≡ 0) ⊎ (j ≡ 0) → e ≡ Sorts (record { expected = x; found = y })) →
           (o.form ≢ Tuple → e ≡ Sorts (record { expected = x; found = y })) → FormError m x y e
       unlike_counts i j ci cj differ e sizes empty others = go (is_tuple o.form) (is_alias o.form)
         where
-          unequal : count (parts_of (m.ty x)) ≢ count (parts_of (m.ty y))
+          unequal : count (own_parts (m.ty x)) ≢ count (own_parts (m.ty y))
           unequal q = differ (ci ∙ q ∙ sym cj)
 
           go : (o.form ≡ Tuple) ⊎ (o.form ≢ Tuple) → (o.form ≡ Alias) ⊎ (o.form ≢ Alias) → FormError m x y e
           go (inl t) (inl is) = absurd (let z : Tuple ≡ Alias = sym t ∙ is in cc)
           go (inl t) (inr other) =
               let h : head_of (m.ty x) ≡ tuple =
-              left_from other ∙ ap (λ z. from z (named m.id o.item) o.mutability) t in
-              lengths_error m i j (parts_of (m.ty x)) (parts_of (m.ty y)) x y e
-              (over_node (m.ty x) some_left ∙ ap (λ z. node z (parts_of (m.ty x))) h)
-              (over_right other ∙ ap (λ z. node z (parts_of (m.ty y))) h) ci cj differ (sizes t) empty
+              left_from other ∙ ap (λ z. from z (id_number m.id o.item) o.mutability) t in
+              lengths_error m i j (own_parts (m.ty x)) (own_parts (m.ty y)) x y e
+              (over_node (m.ty x) some_left ∙ ap (λ z. node z (own_parts (m.ty x))) h)
+              (over_right other ∙ ap (λ z. node z (own_parts (m.ty y))) h) ci cj differ (sizes t) empty
           go (inr n) (inl is) =
               let (k, l, d, t, u) = one_item is in
               subst (FormError m x y) (sym (others n)) (alias_arguments t u unequal)

@@ -6,7 +6,7 @@ use Rattle.relation_terms.specs.Heads.{Head, adt, fn_def, closure, coroutine_clo
 use Rattle.relation_terms.specs.Heads.{array, slice, pattern_type, tuple, unsafe_binder, dynamic, fn_ptr, raw_ptr, ref}
 use Rattle.relation_terms.specs.Heads.{alias}
 use Rattle.relation_terms.specs.Trees.{Tree, node}
-use Rattle.relation_folds.specs.Outlines.{named}
+use Rattle.relation_folds.specs.Outlines.{id_number}
 use Rattle.relation_folds.specs.declared.error.TypeError.{TypeError}
 use Rattle.relation_folds.specs.declared.error.TypeError.TheVariants.{ProjectionMismatched}
 use Rattle.type_relations.specs.declared.relate.forms.Outline.{Outline}
@@ -28,7 +28,7 @@ of_item form d = record { form = form; item = Some d; mutability = Not }
 
 -- The outline with the number of its item.
 abbrev pub named_outline : {D : Type 0} → (D → ℕ) → Outline D → Outline ℕ
-named_outline number o = record { form = o.form; item = named number o.item; mutability = o.mutability }
+named_outline number o = record { form = o.form; item = id_number number o.item; mutability = o.mutability }
 
 -- The outline of a form over parts. What is no type has none.
 abbrev pub head_outline : Head → Outline ℕ

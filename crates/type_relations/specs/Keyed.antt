@@ -21,7 +21,7 @@ use Rattle.type_relations.specs.Arguments.{args_head, AreOverItem}
 use Rattle.relation_semantics.specs.AskedAlone.{AsksNoneAlone}
 use Rattle.relation_semantics.specs.Constraints.{constraint_at, asked_constraints}
 use Rattle.relation_semantics.specs.Lawful.{State, Manners, Related, Shown, Stepped, StepRecords, Noted, items_in}
-use Rattle.relation_semantics.specs.Making.{Made, over, const_over}
+use Rattle.relation_semantics.specs.Making.{Made, form_over, const_over}
 use Rattle.relation_semantics.specs.Parts.{IsFormed, IsFormedConst, head_of, const_head_of}
 use Rattle.relation_semantics.specs.Relation.{plain, part_at}
 use Rattle.type_relations.specs.Alone.{StepsAlone}
@@ -126,7 +126,7 @@ module _ {Key Id Name : Type 0} where
   -- A known type, constant or part of that one's form over these parts was made, between two meanings; or none was.
   abbrev pub MakesTyOver : {E : Type 0} → Meaning Key Id Name → Meaning Key Id Name → TyKey Key →
       List (GenericArgKind Key) → Result (TyKey Key) E → Type 0
-  MakesTyOver m n t parts result = Made m n n.ty (over (m.ty t) (list_tree (arg_tree m) parts)) result
+  MakesTyOver m n t parts result = Made m n n.ty (form_over (m.ty t) (list_tree (arg_tree m) parts)) result
 
   abbrev pub MakesConstOver : {E : Type 0} → Meaning Key Id Name → Meaning Key Id Name → ConstKey Key →
       List (GenericArgKind Key) → Result (ConstKey Key) E → Type 0
@@ -135,7 +135,7 @@ module _ {Key Id Name : Type 0} where
   abbrev pub MakesPartOver : {E : Type 0} → Meaning Key Id Name → Meaning Key Id Name → Part Key Id →
       List (Part Key Id) → Result (Part Key Id) E → Type 0
   MakesPartOver m n t parts result =
-      Made m n (part_tree n) (over (part_tree m t) (list_tree (part_tree m) parts)) result
+      Made m n (part_tree n) (form_over (part_tree m t) (list_tree (part_tree m) parts)) result
 
   -- Where the relation promises it, of two regions just what their variance asks for was recorded; or a fault was told.
   abbrev pub RecordsAsked : Manners → State Key Id Name → State Key Id Name → RegionKey Key → RegionKey Key →

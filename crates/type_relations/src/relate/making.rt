@@ -4,7 +4,7 @@ ghost use Rattle.relation_terms.specs.Trees.{known, list_tree};
 ghost use Rattle.relation_terms.specs.Meaning.{arg_tree};
 ghost use Rattle.relation_terms.specs.Parts.{part_tree, part_of_arg, part_sort};
 ghost use Rattle.relation_terms.specs.Parts.{Fit};
-ghost use Rattle.relation_semantics.specs.Parts.{parts_of, const_parts_of, IsByParts};
+ghost use Rattle.relation_semantics.specs.Parts.{own_parts, const_parts_of, IsByParts};
 ghost use Rattle.relation_semantics.specs.Lawful.{WithMeaning, OnlyMemory};
 ghost use Rattle.relation_semantics.specs.Making.{FitArgs};
 ghost use Rattle.type_relations.specs.Keyed.{MakesTyOver, MakesConstOver, MakesPartOver};
@@ -59,9 +59,9 @@ fn is_part<I: Interner>(cx: &I, arg: &GenericArg<I>, part: &PartOf<I>) -> bool
 fn are_its_parts<I: Interner>(cx: &I, ty: &Ty<I>, args: &[GenericArg<I>]) -> bool
     requires ty_known { IsTrue (known ((I.meaning cx.now).ty ty.now)) }
     requires args_known { IsTrue (known (list_tree (arg_tree (I.meaning cx.now)) args.now)) }
-    requires fits { FitArgs args.now (parts_of ((I.meaning cx.now).ty ty.now)) }
+    requires fits { FitArgs args.now (own_parts ((I.meaning cx.now).ty ty.now)) }
     ensures { let m = I.meaning cx.now in
-        IsTrue result → list_tree (arg_tree m) args.now ≡ parts_of (m.ty ty.now) }
+        IsTrue result → list_tree (arg_tree m) args.now ≡ own_parts (m.ty ty.now) }
 {
     let parts = parts_in(cx, ty, &cx.ty_kind(ty));
     for i in 0..args.len() {
@@ -80,7 +80,7 @@ fn ty_with_parts<I: Interner>(
 ) -> Result<Ty<I>, OutOfMemory>
     requires ty_known { IsTrue (known ((I.meaning cx.old).ty ty.now)) }
     requires args_known { IsTrue (known (list_tree (arg_tree (I.meaning cx.old)) args.now)) }
-    requires fits { FitArgs args.now (parts_of ((I.meaning cx.old).ty ty.now)) }
+    requires fits { FitArgs args.now (own_parts ((I.meaning cx.old).ty ty.now)) }
     ensures { MakesTyOver (I.meaning cx.old) (I.meaning cx.new) ty.now args.now result }
 {
     if are_its_parts(cx, ty, args) {
@@ -124,7 +124,7 @@ fn term_with_parts<I: Interner>(
     requires term_known { IsTrue (known (part_tree (I.meaning cx.old) term.now)) }
     requires form { IsByParts (part_tree (I.meaning cx.old) term.now) }
     requires parts_known { IsTrue (known (list_tree (part_tree (I.meaning cx.old)) parts.now)) }
-    requires fits { Fit parts.now (parts_of (part_tree (I.meaning cx.old) term.now)) }
+    requires fits { Fit parts.now (own_parts (part_tree (I.meaning cx.old) term.now)) }
     ensures made { MakesPartOver (I.meaning cx.old) (I.meaning cx.new) term.now parts.now result }
     ensures sort { IfOk result (λ p. part_sort p ≡ part_sort term.now) }
 {
@@ -140,7 +140,7 @@ pub(crate) fn make_ty<I: Interner, R: TypeRelation<I>>(
     requires lawful { (R.state r.old).lawful }
     requires ty_known { IsTrue (known ((R.state r.old).meaning.ty ty.now)) }
     requires parts_known { IsTrue (known (list_tree (arg_tree (R.state r.old).meaning) parts.now)) }
-    requires fits { FitArgs parts.now (parts_of ((R.state r.old).meaning.ty ty.now)) }
+    requires fits { FitArgs parts.now (own_parts ((R.state r.old).meaning.ty ty.now)) }
     ensures grown { WithMeaning (R.state r.old) (R.state r.new).meaning (R.state r.new) }
     ensures fault { OnlyMemory result }
     ensures made { MakesTyOver (R.state r.old).meaning (R.state r.new).meaning ty.now parts.now result }
@@ -179,7 +179,7 @@ pub(crate) fn make_part<I: Interner, R: TypeRelation<I>>(
     requires term_known { IsTrue (known (part_tree (R.state r.old).meaning term.now)) }
     requires form { IsByParts (part_tree (R.state r.old).meaning term.now) }
     requires parts_known { IsTrue (known (list_tree (part_tree (R.state r.old).meaning) parts.now)) }
-    requires fits { Fit parts.now (parts_of (part_tree (R.state r.old).meaning term.now)) }
+    requires fits { Fit parts.now (own_parts (part_tree (R.state r.old).meaning term.now)) }
     ensures grown { WithMeaning (R.state r.old) (R.state r.new).meaning (R.state r.new) }
     ensures fault { OnlyMemory result }
     ensures made { MakesPartOver (R.state r.old).meaning (R.state r.new).meaning term.now parts.now result }

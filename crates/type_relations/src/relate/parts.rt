@@ -6,7 +6,7 @@ ghost use Rattle.relation_terms.specs.Meaning.{arg_tree, kind_tree};
 ghost use Rattle.relation_terms.specs.Parts.{part_tree, part_sort, parts_tree};
 ghost use Rattle.relation_terms.specs.declared.terms.part_kind.Part.TheVariants.{Object as ObjectPart};
 ghost use Rattle.relation_terms.specs.Parts.{parts_of as list_of_parts};
-ghost use Rattle.relation_semantics.specs.Parts.{parts_of, const_parts_of, IsByParts, IsArgPart, IsBinderPart};
+ghost use Rattle.relation_semantics.specs.Parts.{own_parts, const_parts_of, IsByParts, IsArgPart, IsBinderPart};
 ghost use Rattle.type_relations.specs.declared.relate.parts.PartKind.TheVariants.{Argument, Binder};
 
 use relation_terms::terms::parts::{member, member_count, the_arg, ty_parts};
@@ -60,7 +60,7 @@ pub(crate) fn parts_in<I: Interner>(cx: &I, ty: &Ty<I>, kind: &TyForm<I>) -> Par
     requires known { IsTrue (known ((I.meaning cx.now).ty ty.now)) }
     requires form { (I.meaning cx.now).ty ty.now ≡ kind_tree (I.meaning cx.now) kind.now }
     ensures sure { IsTrue (known (parts_tree (I.meaning cx.now) result)) }
-    ensures means { parts_tree (I.meaning cx.now) result ≡ parts_of ((I.meaning cx.now).ty ty.now) }
+    ensures means { parts_tree (I.meaning cx.now) result ≡ own_parts ((I.meaning cx.now).ty ty.now) }
 {
     let _ = cx;
     let _ = ty;
@@ -72,8 +72,8 @@ pub(crate) fn parts_in<I: Interner>(cx: &I, ty: &Ty<I>, kind: &TyForm<I>) -> Par
 pub(crate) fn parts_count_in<I: Interner>(cx: &I, ty: &Ty<I>, kind: &TyForm<I>) -> usize
     requires known { IsTrue (known ((I.meaning cx.now).ty ty.now)) }
     requires form { (I.meaning cx.now).ty ty.now ≡ kind_tree (I.meaning cx.now) kind.now }
-    ensures counts { result ≡ count (parts_of ((I.meaning cx.now).ty ty.now)) }
-    ensures is_list { IsList (parts_of ((I.meaning cx.now).ty ty.now)) }
+    ensures counts { result ≡ count (own_parts ((I.meaning cx.now).ty ty.now)) }
+    ensures is_list { IsList (own_parts ((I.meaning cx.now).ty ty.now)) }
 {
     member_count(cx, &parts_in(cx, ty, kind))
 }
@@ -81,8 +81,8 @@ pub(crate) fn parts_count_in<I: Interner>(cx: &I, ty: &Ty<I>, kind: &TyForm<I>) 
 // How many parts a type has.
 pub(crate) fn parts_count<I: Interner>(cx: &I, ty: &Ty<I>) -> usize
     requires { IsTrue (known ((I.meaning cx.now).ty ty.now)) }
-    ensures counts { result ≡ count (parts_of ((I.meaning cx.now).ty ty.now)) }
-    ensures is_list { IsList (parts_of ((I.meaning cx.now).ty ty.now)) }
+    ensures counts { result ≡ count (own_parts ((I.meaning cx.now).ty ty.now)) }
+    ensures is_list { IsList (own_parts ((I.meaning cx.now).ty ty.now)) }
 {
     parts_count_in(cx, ty, &cx.ty_kind(ty))
 }
@@ -102,9 +102,9 @@ pub(crate) fn is_by_parts<I: Interner>(cx: &I, ty: &Ty<I>) -> bool
 pub(crate) fn part<I: Interner>(cx: &I, ty: &Ty<I>, i: usize) -> GenericArg<I>
     requires ty_known { IsTrue (known ((I.meaning cx.now).ty ty.now)) }
     requires over_args { IsByParts ((I.meaning cx.now).ty ty.now) → ⊥ }
-    requires in_bounds { i < count (parts_of ((I.meaning cx.now).ty ty.now)) }
+    requires in_bounds { i < count (own_parts ((I.meaning cx.now).ty ty.now)) }
     ensures sure { IsTrue (known (arg_tree (I.meaning cx.now) result)) }
-    ensures means { arg_tree (I.meaning cx.now) result ≡ nth i (parts_of ((I.meaning cx.now).ty ty.now)) }
+    ensures means { arg_tree (I.meaning cx.now) result ≡ nth i (own_parts ((I.meaning cx.now).ty ty.now)) }
 {
     the_arg(&member(cx, &parts_in(cx, ty, &cx.ty_kind(ty)), i))
 }
@@ -145,7 +145,7 @@ pub(crate) fn const_part<I: Interner>(cx: &I, constant: &Const<I>, i: usize) -> 
 pub(crate) fn term_parts_count<I: Interner>(cx: &I, term: &PartOf<I>) -> usize
     requires known { IsTrue (known (part_tree (I.meaning cx.now) term.now)) }
     requires form { IsByParts (part_tree (I.meaning cx.now) term.now) }
-    ensures { result ≡ count (parts_of (part_tree (I.meaning cx.now) term.now)) }
+    ensures { result ≡ count (own_parts (part_tree (I.meaning cx.now) term.now)) }
 {
     parts::parts_count(cx, term)
 }
@@ -154,10 +154,10 @@ pub(crate) fn term_parts_count<I: Interner>(cx: &I, term: &PartOf<I>) -> usize
 pub(crate) fn term_part<I: Interner>(cx: &I, term: &PartOf<I>, i: usize) -> PartOf<I>
     requires term_known { IsTrue (known (part_tree (I.meaning cx.now) term.now)) }
     requires form { IsByParts (part_tree (I.meaning cx.now) term.now) }
-    requires in_bounds { i < count (parts_of (part_tree (I.meaning cx.now) term.now)) }
+    requires in_bounds { i < count (own_parts (part_tree (I.meaning cx.now) term.now)) }
     ensures sure { IsTrue (known (part_tree (I.meaning cx.now) result)) }
     ensures means { part_tree (I.meaning cx.now) result ≡
-        nth i (parts_of (part_tree (I.meaning cx.now) term.now)) }
+        nth i (own_parts (part_tree (I.meaning cx.now) term.now)) }
 {
     parts::part(cx, term, i)
 }

@@ -7,7 +7,7 @@ ghost use Rattle.relation_terms.specs.Meaning.{arg_tree};
 ghost use Rattle.relation_terms.specs.Parts.{part_tree, part_sort};
 ghost use Rattle.relation_semantics.specs.Relation.{part_at, IsError};
 ghost use Rattle.relation_semantics.specs.Errors.{FormError, ConstFormError, AreOfOneForm, AreOfOneConst, HaveNoError};
-ghost use Rattle.relation_semantics.specs.Parts.{IsFormedConst, IsByParts, IsComparedPart, parts_of, const_parts_of};
+ghost use Rattle.relation_semantics.specs.Parts.{IsFormedConst, IsByParts, IsComparedPart, own_parts, const_parts_of};
 ghost use Rattle.relation_semantics.specs.Parts.{head_of};
 ghost use Rattle.type_relations.specs.Keyed.{ShownTys, NotedTys, AreOver, part_in, const_part_in, declared_in};
 ghost use Rattle.type_relations.specs.Terms.{AskedTerms};
@@ -95,8 +95,8 @@ pub(crate) fn compare_members_of<I: Interner, R: TypeRelation<I>>(
 ) -> Result<(), TypeErrorOf<I>>
     requires a_known { IsTrue (known (part_tree (R.state r.now).meaning a.now)) }
     requires b_known { IsTrue (known (part_tree (R.state r.now).meaning b.now)) }
-    requires in_a { i < count (parts_of (part_tree (R.state r.now).meaning a.now)) }
-    requires in_b { i < count (parts_of (part_tree (R.state r.now).meaning b.now)) }
+    requires in_a { i < count (own_parts (part_tree (R.state r.now).meaning a.now)) }
+    requires in_b { i < count (own_parts (part_tree (R.state r.now).meaning b.now)) }
     requires one_sort { part_sort b.now ≡ part_sort a.now }
     ensures { IfErr result (PartsDiffer (R.state r.now).meaning a.now b.now) }
 {
@@ -113,8 +113,8 @@ pub(crate) fn is_by_parts_of<I: Interner, R: TypeRelation<I>>(r: &R, ty: &Ty<I>)
 #[inline(always)]
 pub(crate) fn parts_count_of<I: Interner, R: TypeRelation<I>>(r: &R, ty: &Ty<I>) -> usize
     requires { IsTrue (known ((R.state r.now).meaning.ty ty.now)) }
-    ensures counts { result ≡ count (parts_of ((R.state r.now).meaning.ty ty.now)) }
-    ensures is_list { IsList (parts_of ((R.state r.now).meaning.ty ty.now)) }
+    ensures counts { result ≡ count (own_parts ((R.state r.now).meaning.ty ty.now)) }
+    ensures is_list { IsList (own_parts ((R.state r.now).meaning.ty ty.now)) }
 {
     parts_count(r.cx(), ty)
 }
@@ -122,9 +122,9 @@ pub(crate) fn parts_count_of<I: Interner, R: TypeRelation<I>>(r: &R, ty: &Ty<I>)
 pub(crate) fn part_of<I: Interner, R: TypeRelation<I>>(r: &R, ty: &Ty<I>, i: usize) -> GenericArg<I>
     requires ty_known { IsTrue (known ((R.state r.now).meaning.ty ty.now)) }
     requires over_args { IsByParts ((R.state r.now).meaning.ty ty.now) → ⊥ }
-    requires in_bounds { i < count (parts_of ((R.state r.now).meaning.ty ty.now)) }
+    requires in_bounds { i < count (own_parts ((R.state r.now).meaning.ty ty.now)) }
     ensures sure { IsTrue (known (arg_tree (R.state r.now).meaning result)) }
-    ensures means { arg_tree (R.state r.now).meaning result ≡ nth i (parts_of ((R.state r.now).meaning.ty ty.now)) }
+    ensures means { arg_tree (R.state r.now).meaning result ≡ nth i (own_parts ((R.state r.now).meaning.ty ty.now)) }
 {
     part(r.cx(), ty, i)
 }
@@ -156,7 +156,7 @@ pub(crate) fn const_part_of<I: Interner, R: TypeRelation<I>>(
 pub(crate) fn term_parts_count_of<I: Interner, R: TypeRelation<I>>(r: &R, term: &PartOf<I>) -> usize
     requires known { IsTrue (known (part_tree (R.state r.now).meaning term.now)) }
     requires form { IsByParts (part_tree (R.state r.now).meaning term.now) }
-    ensures { result ≡ count (parts_of (part_tree (R.state r.now).meaning term.now)) }
+    ensures { result ≡ count (own_parts (part_tree (R.state r.now).meaning term.now)) }
 {
     term_parts_count(r.cx(), term)
 }
@@ -168,7 +168,7 @@ pub(crate) fn term_part_of<I: Interner, R: TypeRelation<I>>(
 ) -> PartOf<I>
     requires term_known { IsTrue (known (part_tree (R.state r.now).meaning term.now)) }
     requires form { IsByParts (part_tree (R.state r.now).meaning term.now) }
-    requires in_bounds { i < count (parts_of (part_tree (R.state r.now).meaning term.now)) }
+    requires in_bounds { i < count (own_parts (part_tree (R.state r.now).meaning term.now)) }
     ensures sure { IsTrue (known (part_tree (R.state r.now).meaning result)) }
     ensures means { let m = (R.state r.now).meaning in part_tree m result ≡ nth_part m i term.now }
 {
@@ -241,7 +241,7 @@ pub(crate) fn term_variance_at<I: Interner, R: TypeRelation<I>>(
 ) -> Variance
     requires known { IsTrue (known (part_tree (R.state r.now).meaning term.now)) }
     requires form { IsByParts (part_tree (R.state r.now).meaning term.now) }
-    requires in_bounds { i < count (parts_of (part_tree (R.state r.now).meaning term.now)) }
+    requires in_bounds { i < count (own_parts (part_tree (R.state r.now).meaning term.now)) }
     ensures { let q = R.state r.now in
         xform q.ambient result ≡ part_in q (head_of (part_tree q.meaning term.now)) i }
 {
@@ -292,7 +292,7 @@ pub(crate) fn named_place_of<I: Interner, R: TypeRelation<I>>(
     i: usize,
 ) -> Option<usize>
     requires term_known { IsTrue (known (part_tree (R.state r.now).meaning term.now)) }
-    requires in_bounds { i < count (parts_of (part_tree (R.state r.now).meaning term.now)) }
+    requires in_bounds { i < count (own_parts (part_tree (R.state r.now).meaning term.now)) }
     ensures { result ≡ named_place (part_tree (R.state r.now).meaning term.now) i }
 {
     handing::named_place(r.cx(), term, i)

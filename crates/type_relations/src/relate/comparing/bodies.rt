@@ -7,7 +7,7 @@ ghost use Rattle.relation_folds.specs.declared.error.TypeError.TheVariants.{Mism
 ghost use Rattle.relation_terms.specs.Parts.{part_tree, part_sort};
 ghost use Rattle.relation_semantics.specs.Errors.{AreOfOneForm, AreAlikeExistentials, SignatureError};
 ghost use Rattle.relation_semantics.specs.Errors.{ObjectError};
-ghost use Rattle.relation_semantics.specs.Parts.{IsComparedPart, parts_of};
+ghost use Rattle.relation_semantics.specs.Parts.{IsComparedPart, own_parts};
 ghost use Rattle.type_relations.specs.Comparing.{AreOfOneFormBy, AreAlikeAt, SignaturesDiffer, ExistentialsDiffer};
 ghost use Rattle.type_relations.specs.Comparing.{PartsDiffer, object_form};
 
@@ -185,8 +185,8 @@ pub fn compare_members<I: Interner>(
 ) -> Result<(), TypeErrorOf<I>>
     requires a_known { IsTrue (known (part_tree (I.meaning cx.now) a.now)) }
     requires b_known { IsTrue (known (part_tree (I.meaning cx.now) b.now)) }
-    requires in_a { i < count (parts_of (part_tree (I.meaning cx.now) a.now)) }
-    requires in_b { i < count (parts_of (part_tree (I.meaning cx.now) b.now)) }
+    requires in_a { i < count (own_parts (part_tree (I.meaning cx.now) a.now)) }
+    requires in_b { i < count (own_parts (part_tree (I.meaning cx.now) b.now)) }
     requires one_sort { part_sort b.now ≡ part_sort a.now }
     ensures alike { OnOk result (part_sort a.now ≡ object_sort → AreAlikeAt (I.meaning cx.now) i a.now b.now) }
     ensures errors { IfErr result (PartsDiffer (I.meaning cx.now) a.now b.now) }

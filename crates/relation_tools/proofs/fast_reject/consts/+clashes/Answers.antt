@@ -4,7 +4,7 @@ use Rattle.relation_terms.specs.Trees.{node, nil, cons, known, size, count, nth,
 use Rattle.relation_terms.specs.Meaning.{const_tree, valtree_tree}
 use Rattle.relation_terms.proofs.Members.{const_term, value_term, member_small, slice_counts, slice_nth, slice_sure}
 use Rattle.relation_terms.proofs.Members.{list_count, list_is}
-use Rattle.relation_folds.specs.Clashes.{Clash, Alike, flexible}
+use Rattle.relation_folds.specs.Clashes.{Clash, OneOutline, flexible}
 use Rattle.relation_tools.proofs.Clashing.{no_clash, passes, fails, flexible_right, flexible_left, const_forms_clash}
 use Rattle.relation_tools.proofs.Clashing.{moved, const_parts_decide, values_decide, rest_here, rest_further, rest_on}
 use Rattle.relation_tools.proofs.Clashing.{rest_none, shorter}
@@ -56,7 +56,7 @@ consts_may_unify-returns-in_default g t c =
     let h = ap (flexible c.args.sides.left) c.const_kind-left.ensures ∙ own in
     fails (const_forms_clash c.args.sides.left c.args.sides.right c.args.depth a b const_sort refl ta tb f h
     (λ k. (let one : a ≡ b = c.const_kind-left.ensures ∙ const_unlike m c.args.sides.left c.const_kind-left.result b own
-    c.in_default.not-Value (subst (λ x. Alike x b) c.const_kind-left.ensures k) in
+    c.in_default.not-Value (subst (λ x. OneOutline x b) c.const_kind-left.ensures k) in
     let i = c.if-eq.false in let o = c.eq.ensures in let q = c.if-eq.ensures in
     let l = (g.met.I.Interner.same_const c.args.cx.now c.args.lhs.now c.args.rhs.now c.requires.lhs_known
     c.requires.rhs_known).1 one in search rules)))
@@ -75,7 +75,7 @@ consts_may_unify-returns-in_default-right g t c =
     let left = c.const_kind-left.ensures ∙ ap (const_tree m) c.in-Value.is in
     fails (const_forms_clash c.args.sides.left c.args.sides.right c.args.depth a b const_sort refl ta tb f h
     (λ k. value_unlike m c.args.sides.right c.const_kind-right.result _ own c.in_default-right.not-Value
-    (subst₂ Alike left c.const_kind-right.ensures k)))
+    (subst₂ OneOutline left c.const_kind-right.ensures k)))
 
 pub consts_may_unify-valtrees_may_unify-requires : goal.consts_may_unify-valtrees_may_unify-requires
 consts_may_unify-valtrees_may_unify-requires g t' c κs within =
@@ -131,7 +131,7 @@ valtrees_may_unify-returns-in_default g t c =
     ∙ valtree_rigid m c.args.sides.left c.valtree_kind-left.result in
     fails (const_forms_clash c.args.sides.left c.args.sides.right c.args.depth a b value_sort refl ta tb f h
     (λ k. (let one : a ≡ b = c.valtree_kind-left.ensures ∙ valtree_unlike m c.valtree_kind-left.result b
-    c.in_default.not-Branch (subst (λ x. Alike x b) c.valtree_kind-left.ensures k) in
+    c.in_default.not-Branch (subst (λ x. OneOutline x b) c.valtree_kind-left.ensures k) in
     let i = c.if-eq.false in let o = c.eq.ensures in let q = c.if-eq.ensures in
     let l = (g.met.I.Interner.same_valtree c.args.cx.now c.args.lhs.now c.args.rhs.now c.requires.lhs_known
     c.requires.rhs_known).1 one in search rules)))
@@ -150,7 +150,7 @@ valtrees_may_unify-returns-in_default-right g t c =
     let left = c.valtree_kind-left.ensures ∙ ap (valtree_tree m) c.in-Branch.is in
     fails (const_forms_clash c.args.sides.left c.args.sides.right c.args.depth a b value_sort refl ta tb f h
     (λ k. branch_unlike m c.valtree_kind-right.result _ c.in_default-right.not-Branch
-    (subst₂ Alike left c.valtree_kind-right.ensures k)))
+    (subst₂ OneOutline left c.valtree_kind-right.ensures k)))
 
 pub valtrees_may_unify-branches-left_parts-requires : goal.valtrees_may_unify-branches-left_parts-requires
 valtrees_may_unify-branches-left_parts-requires g t c =
@@ -181,7 +181,7 @@ valtrees_may_unify-returns-then-left_parts-right_parts g t c =
     let at = slice_counts m.const_ _ x c.branches-left_parts.ensures in
     let also = slice_counts m.const_ _ y c.branches-right_parts.ensures in
     fails (const_forms_clash c.args.sides.left c.args.sides.right c.args.depth a b value_sort refl ta tb f h
-    (λ k. c.if-left_parts-right_parts.true (at ∙ branch_counts x y (subst₂ Alike left right k) ∙ sym also)))
+    (λ k. c.if-left_parts-right_parts.true (at ∙ branch_counts x y (subst₂ OneOutline left right k) ∙ sym also)))
 
 pub valtrees_may_unify-branches_may_unify-requires : goal.valtrees_may_unify-branches_may_unify-requires
 valtrees_may_unify-branches_may_unify-requires g t' c κs within =

@@ -2,7 +2,7 @@ use Rattle.std.proofs.Common.{◌≡◌, sym, subst, subst₂, IsTrue}
 use Rattle.relation_terms.specs.Trees.{known, list_tree}
 use Rattle.relation_terms.specs.Meaning.{Extends}
 use Rattle.relation_terms.specs.Parts.{part_tree}
-use Rattle.relation_semantics.specs.Making.{over, Made}
+use Rattle.relation_semantics.specs.Making.{form_over, Made}
 use Rattle.relation_semantics.specs.Lawful.{WithMeaning}
 use Rattle.relation_semantics.proofs.Passing.{as_err}
 use Rattle.type_relations.proofs.relate.making.make_part.Goals as goal
@@ -16,7 +16,7 @@ returns-in_err-made-clause-made g c =
     let later = subst (λ m. Extends m (g.I.Interner.meaning cx)) c.cx_mut.ensures.value made.extends in
     let grown : WithMeaning r (g.I.Interner.meaning cx) q = c.interner_grows.ensures cx later c.requires.lawful in
     subst (Made r.meaning q.meaning (part_tree q.meaning)
-    (over (part_tree r.meaning c.args.term.now) (list_tree (part_tree r.meaning) c.args.parts.now)))
+    (form_over (part_tree r.meaning c.args.term.now) (list_tree (part_tree r.meaning) c.args.parts.now)))
     (sym (as_err c.from_residual.result _ c.from_residual.ensures.0 c.from_residual.ensures.1))
     (record { extends = subst (Extends r.meaning) (sym grown.meaning) later; sure = tt; means = tt })
 
@@ -44,6 +44,6 @@ returns-clause-made g c =
     record {
       extends = subst (Extends r.meaning) (sym grown.meaning) later;
       sure = subst (λ m. IsTrue (known (part_tree m p))) (sym grown.meaning) made.sure;
-      means = subst₂ (λ m n. part_tree n p ≡ over (part_tree m t) (list_tree (part_tree m) xs)) c.cx_mut.ensures.value
+      means = subst₂ (λ m n. part_tree n p ≡ form_over (part_tree m t) (list_tree (part_tree m) xs)) c.cx_mut.ensures.value
           (sym grown.meaning) made.means;
     }

@@ -2,8 +2,8 @@ use Rattle.std.proofs.Common.{◌≡◌, ◌∙◌, sym, ap, subst, map, IsTrue}
 use Rattle.relation_terms.specs.Heads.{type_sort}
 use Rattle.relation_terms.specs.Trees.{known, list_tree}
 use Rattle.relation_terms.specs.Parts.{part_tree, part_of_arg}
-use Rattle.relation_semantics.specs.Parts.{parts_of}
-use Rattle.relation_semantics.specs.Making.{over}
+use Rattle.relation_semantics.specs.Parts.{own_parts}
+use Rattle.relation_semantics.specs.Making.{form_over}
 use Rattle.relation_terms.proofs.Stays.{stays_same}
 use Rattle.type_relations.proofs.AsParts.{args_as, fits_as, parts_as, over_as}
 use Rattle.type_relations.proofs.relate.making.ty_with_parts.Goals as goal
@@ -16,7 +16,7 @@ returns-then-are_its_parts g c =
     record {
       extends = stays_same m;
       sure = c.requires.ty_known;
-      means = sym (over_itself t) ∙ ap (over t) (sym (c.are_its_parts.ensures c.if-are_its_parts.true));
+      means = sym (over_itself t) ∙ ap (form_over t) (sym (c.are_its_parts.ensures c.if-are_its_parts.true));
     }
 
 pub with_parts-requires : goal.with_parts-requires
@@ -30,7 +30,7 @@ with_parts-requires g c =
     record {
       term_known = c.requires.ty_known;
       parts_known = subst (λ z. IsTrue (known z)) (sym (args_as m xs ps q)) c.requires.args_known;
-      fits = fits_as xs ps (parts_of t) _ q (parts_as type_sort t is) c.requires.fits;
+      fits = fits_as xs ps (own_parts t) _ q (parts_as type_sort t is) c.requires.fits;
     }
 
 pub returns : goal.returns
@@ -47,5 +47,5 @@ returns g c =
     record {
       extends = made.grown;
       sure = subst (λ z. IsTrue (known z)) (sym r) made.sure;
-      means = r ∙ made.made ∙ over_as type_sort t (list_tree (part_tree m) ps) is ∙ ap (over t) (args_as m xs ps q);
+      means = r ∙ made.made ∙ over_as type_sort t (list_tree (part_tree m) ps) is ∙ ap (form_over t) (args_as m xs ps q);
     }

@@ -16,7 +16,7 @@ use Rattle.relation_semantics.specs.Relation.{part_at}
 use Rattle.relation_semantics.specs.AskedAlone.{AsksNoneAlone}
 use Rattle.relation_semantics.specs.Errors.{AreOfOneForm, IsLeftToGoal, PartError}
 use Rattle.relation_semantics.specs.Parts.{IsFormed, IsFormedConst, IsByParts, IsRelatedPart, IsComparedPart, IsArgPart}
-use Rattle.relation_semantics.specs.Parts.{IsBinderPart, ArePaired, parts_of, const_parts_of, head_of}
+use Rattle.relation_semantics.specs.Parts.{IsBinderPart, ArePaired, own_parts, const_parts_of, head_of}
 use Rattle.relation_semantics.specs.Parts.{const_head_of}
 use Rattle.relation_semantics.specs.Stores.{weight}
 use Rattle.relation_semantics.specs.Measures.{depth}
@@ -29,7 +29,7 @@ use Rattle.type_relations.proofs.ByParts.{binder_not_compared, form_compared, pa
 use Rattle.type_relations.proofs.ByParts.{no_inputs_yet, inputs_next, compared_as, alike_back, on_ok, asked_turned}
 use Rattle.type_relations.proofs.ByParts.{depth_turned}
 use Rattle.type_relations.specs.Handing.{IsResultOfTy, IsResultOfConst, IsResultOfPart, named_place}
-use Rattle.relation_semantics.specs.Making.{arg_sort, FitArgs, over, const_over}
+use Rattle.relation_semantics.specs.Making.{arg_sort, FitArgs, form_over, const_over}
 use Rattle.relation_semantics.proofs.Answering.{same_items, same_settings, AreAnswers, answers_none, answers_next, answers_end, may_over, may_const_over, may_later, if_ok_both}
 use Rattle.type_relations.specs.PredicateForms.{form_of_part}
 use Rattle.type_relations.proofs.PredicateForms.{arg_form, binder_form, made_form}
@@ -1249,17 +1249,17 @@ structurally_relate_tys-loop-i-init g t c =
     let alike = (c.in_ok-compare_tys_of.ensures).alike in
     record {
       lawful = c.requires.lawful;
-      fronted = fronted_none g.R.TypeRelation.manner r (head_of a) r.ambient (parts_of a) (parts_of b);
+      fronted = fronted_none g.R.TypeRelation.manner r (head_of a) r.ambient (own_parts a) (own_parts b);
       left_count = c.parts_count_of-n.ensures.counts;
       right_count = c.parts_count_of-n.ensures.counts ∙ parts_counted a b alike;
       are_parts = record {
         left_list = parts_of_list type_sort a (sorted.ty c.args.a.now k.left_known);
         right_list = parts_of_list type_sort b (sorted.ty c.args.b.now k.right_known);
-        left_in = term_context r.store (parts_of a) (in_parts r.store a k.left_in);
-        right_in = term_context r.store (parts_of b) (in_parts r.store b k.right_in);
+        left_in = term_context r.store (own_parts a) (in_parts r.store a k.left_in);
+        right_in = term_context r.store (own_parts b) (in_parts r.store b k.right_in);
       };
-      answers = subst (λ z. AreAnswers M r (head_of a) r.ambient 0 (parts_of a) (list_tree (arg_tree r.meaning) z))
-          (sym c.new-answers.ensures.items) (answers_none M r (head_of a) r.ambient (parts_of a));
+      answers = subst (λ z. AreAnswers M r (head_of a) r.ambient 0 (own_parts a) (list_tree (arg_tree r.meaning) z))
+          (sym c.new-answers.ensures.items) (answers_none M r (head_of a) r.ambient (own_parts a));
       fits = subst (λ z. FitArgs z nil) (sym c.new-answers.ensures.items) tt;
     }
 
@@ -1279,16 +1279,16 @@ structurally_relate_tys-relate_with_variance-related-requires g t c κs within =
     let same_b : (q.meaning).ty c.args.b.now ≡ b = extends.ty c.args.b.now k.right_known in
     let alike = (c.in_ok-compare_tys_of.ensures).alike in
     let test = c.loop-i-test.true in
-    let lx : i < count (parts_of a) = omega (arith, test, inv.left_count) in
-    let ly : i < count (parts_of b) = omega (arith, test, inv.right_count) in
+    let lx : i < count (own_parts a) = omega (arith, test, inv.left_count) in
+    let ly : i < count (own_parts b) = omega (arith, test, inv.right_count) in
     let X = c.part_of-x.result in
     let Y = c.part_of-y.result in
     let x = arg_tree q.meaning X in
     let y = arg_tree q.meaning Y in
     let kx = c.part_of-x.ensures.sure in
     let ky = c.part_of-y.ensures.sure in
-    let ex : x ≡ nth i (parts_of a) = c.part_of-x.ensures.means ∙ ap (λ z. nth i (parts_of z)) same_a in
-    let ey : y ≡ nth i (parts_of b) = c.part_of-y.ensures.means ∙ ap (λ z. nth i (parts_of z)) same_b in
+    let ex : x ≡ nth i (own_parts a) = c.part_of-x.ensures.means ∙ ap (λ z. nth i (own_parts z)) same_a in
+    let ey : y ≡ nth i (own_parts b) = c.part_of-y.ensures.means ∙ ap (λ z. nth i (own_parts z)) same_b in
     let w = xform q.ambient c.variance_at-variance.result in
     let ew : w ≡ part_at (items_in r) (head_of a) i r.ambient =
     c.variance_at-variance.ensures ∙ ap (λ z. part_at (items_in q) (head_of z) i q.ambient) same_a ∙
@@ -1324,16 +1324,16 @@ structurally_relate_tys-returns-in_err-answer g t c =
     let same_b : (q.meaning).ty c.args.b.now ≡ b = extends.ty c.args.b.now k.right_known in
     let alike = (c.in_ok-compare_tys_of.ensures).alike in
     let test = c.loop-i-test.true in
-    let lx : i < count (parts_of a) = omega (arith, test, inv.left_count) in
-    let ly : i < count (parts_of b) = omega (arith, test, inv.right_count) in
+    let lx : i < count (own_parts a) = omega (arith, test, inv.left_count) in
+    let ly : i < count (own_parts b) = omega (arith, test, inv.right_count) in
     let X = c.part_of-x.result in
     let Y = c.part_of-y.result in
     let x = arg_tree q.meaning X in
     let y = arg_tree q.meaning Y in
     let kx = c.part_of-x.ensures.sure in
     let ky = c.part_of-y.ensures.sure in
-    let ex : x ≡ nth i (parts_of a) = c.part_of-x.ensures.means ∙ ap (λ z. nth i (parts_of z)) same_a in
-    let ey : y ≡ nth i (parts_of b) = c.part_of-y.ensures.means ∙ ap (λ z. nth i (parts_of z)) same_b in
+    let ex : x ≡ nth i (own_parts a) = c.part_of-x.ensures.means ∙ ap (λ z. nth i (own_parts z)) same_a in
+    let ey : y ≡ nth i (own_parts b) = c.part_of-y.ensures.means ∙ ap (λ z. nth i (own_parts z)) same_b in
     let w = xform q.ambient c.variance_at-variance.result in
     let ew : w ≡ part_at (items_in r) (head_of a) i r.ambient =
     c.variance_at-variance.ensures ∙ ap (λ z. part_at (items_in q) (head_of z) i q.ambient) same_a ∙
@@ -1375,16 +1375,16 @@ structurally_relate_tys-loop-i-preserved g t c =
     let same_b : (q.meaning).ty c.args.b.now ≡ b = extends.ty c.args.b.now k.right_known in
     let alike = (c.in_ok-compare_tys_of.ensures).alike in
     let test = c.loop-i-test.true in
-    let lx : i < count (parts_of a) = omega (arith, test, inv.left_count) in
-    let ly : i < count (parts_of b) = omega (arith, test, inv.right_count) in
+    let lx : i < count (own_parts a) = omega (arith, test, inv.left_count) in
+    let ly : i < count (own_parts b) = omega (arith, test, inv.right_count) in
     let X = c.part_of-x.result in
     let Y = c.part_of-y.result in
     let x = arg_tree q.meaning X in
     let y = arg_tree q.meaning Y in
     let kx = c.part_of-x.ensures.sure in
     let ky = c.part_of-y.ensures.sure in
-    let ex : x ≡ nth i (parts_of a) = c.part_of-x.ensures.means ∙ ap (λ z. nth i (parts_of z)) same_a in
-    let ey : y ≡ nth i (parts_of b) = c.part_of-y.ensures.means ∙ ap (λ z. nth i (parts_of z)) same_b in
+    let ex : x ≡ nth i (own_parts a) = c.part_of-x.ensures.means ∙ ap (λ z. nth i (own_parts z)) same_a in
+    let ey : y ≡ nth i (own_parts b) = c.part_of-y.ensures.means ∙ ap (λ z. nth i (own_parts z)) same_b in
     let w = xform q.ambient c.variance_at-variance.result in
     let ew : w ≡ part_at (items_in r) (head_of a) i r.ambient =
     c.variance_at-variance.ensures ∙ ap (λ z. part_at (items_in q) (head_of z) i q.ambient) same_a ∙
@@ -1416,19 +1416,19 @@ structurally_relate_tys-loop-i-preserved g t c =
     (stays_arg later) (inv.answers).sure) in
     record {
       lawful = (gone.passes).lawful inv.lawful;
-      fronted = subst (λ j. Fronted M r p (head_of a) r.ambient j (parts_of a) (parts_of b)) (omega arith)
-          (fronted_next (head_of a) r.ambient i (parts_of a) (parts_of b) x y inv.fronted lx ly ex ey (arg_tree p.meaning)
+      fronted = subst (λ j. Fronted M r p (head_of a) r.ambient j (own_parts a) (own_parts b)) (omega arith)
+          (fronted_next (head_of a) r.ambient i (own_parts a) (own_parts b) x y inv.fronted lx ly ex ey (arg_tree p.meaning)
           n.answer inv.are_parts gone);
       left_count = inv.left_count;
       right_count = inv.right_count;
       are_parts = inv.are_parts;
-      answers = subst₂ (λ j z. AreAnswers M p (head_of a) r.ambient j (parts_of a) z) next (sym pushed)
-          (answers_next M (head_of a) r.ambient i (parts_of a) (list_tree (arg_tree q.meaning) was) x
+      answers = subst₂ (λ j z. AreAnswers M p (head_of a) r.ambient j (own_parts a) z) next (sym pushed)
+          (answers_next M (head_of a) r.ambient i (own_parts a) (list_tree (arg_tree q.meaning) was) x
           (arg_tree p.meaning n.answer) gone.passes lx inv.answers ex
           (subst (λ c. MayAnswer M p (part_at c (head_of a) i r.ambient) x (arg_tree p.meaning n.answer))
           (sym (same_items (inv.fronted).passes)) (gone.verdict).answer) (gone.verdict).known);
-      fits = subst₂ (λ j z. FitArgs z (firsts j (parts_of a))) next (sym c.in_ok-push.ensures.items)
-          (fit_pushed was n.answer (parts_of a) i lx inv.fits (fits_place q.meaning sorted X n.answer (parts_of a) i kx ex kind));
+      fits = subst₂ (λ j z. FitArgs z (firsts j (own_parts a))) next (sym c.in_ok-push.ensures.items)
+          (fit_pushed was n.answer (own_parts a) i lx inv.fits (fits_place q.meaning sorted X n.answer (own_parts a) i kx ex kind));
     }
 
 pub structurally_relate_tys-returns-in_err-push : goal.structurally_relate_tys-returns-in_err-push
@@ -1446,16 +1446,16 @@ structurally_relate_tys-returns-in_err-push g t c =
     let same_b : (q.meaning).ty c.args.b.now ≡ b = extends.ty c.args.b.now k.right_known in
     let alike = (c.in_ok-compare_tys_of.ensures).alike in
     let test = c.loop-i-test.true in
-    let lx : i < count (parts_of a) = omega (arith, test, inv.left_count) in
-    let ly : i < count (parts_of b) = omega (arith, test, inv.right_count) in
+    let lx : i < count (own_parts a) = omega (arith, test, inv.left_count) in
+    let ly : i < count (own_parts b) = omega (arith, test, inv.right_count) in
     let X = c.part_of-x.result in
     let Y = c.part_of-y.result in
     let x = arg_tree q.meaning X in
     let y = arg_tree q.meaning Y in
     let kx = c.part_of-x.ensures.sure in
     let ky = c.part_of-y.ensures.sure in
-    let ex : x ≡ nth i (parts_of a) = c.part_of-x.ensures.means ∙ ap (λ z. nth i (parts_of z)) same_a in
-    let ey : y ≡ nth i (parts_of b) = c.part_of-y.ensures.means ∙ ap (λ z. nth i (parts_of z)) same_b in
+    let ex : x ≡ nth i (own_parts a) = c.part_of-x.ensures.means ∙ ap (λ z. nth i (own_parts z)) same_a in
+    let ey : y ≡ nth i (own_parts b) = c.part_of-y.ensures.means ∙ ap (λ z. nth i (own_parts z)) same_b in
     let w = xform q.ambient c.variance_at-variance.result in
     let ew : w ≡ part_at (items_in r) (head_of a) i r.ambient =
     c.variance_at-variance.ensures ∙ ap (λ z. part_at (items_in q) (head_of z) i q.ambient) same_a ∙
@@ -1473,7 +1473,7 @@ structurally_relate_tys-returns-in_err-push g t c =
     (subst (λ z. IsResultOfTy z X Y related.result (Ok n.answer)) then_a n.ensures) in
     let gone = subst (λ v. Related M q p v x y (arg_tree p.meaning) (Ok n.answer)) ew
     (subst (λ u. Related M q p w x y (arg_tree p.meaning) u) z (related.ensures).related) in
-    let next = fronted_next (head_of a) r.ambient i (parts_of a) (parts_of b) x y inv.fronted lx ly ex ey (arg_tree p.meaning) n.answer
+    let next = fronted_next (head_of a) r.ambient i (own_parts a) (own_parts b) x y inv.fronted lx ly ex ey (arg_tree p.meaning) n.answer
     inv.are_parts gone in
     subst (λ z. RelatedForms M r p r.ambient a b (p.meaning).ty z)
     (sym (as_err c.from_residual-in_err-push.result Memory c.from_residual-in_err-push.ensures.0
@@ -1512,8 +1512,8 @@ structurally_relate_tys-note_args-requires-clause-related g t c =
     let alike = (c.in_ok-compare_tys_of.ensures).alike in
     let test = c.loop-i-test.false in
     let end = (c.loop-i.auto).i-end in
-    let left : i ≡ count (parts_of a) = omega (arith, test, end, inv.left_count) in
-    let right : i ≡ count (parts_of b) = omega (arith, test, end, inv.right_count) in
+    let left : i ≡ count (own_parts a) = omega (arith, test, end, inv.left_count) in
+    let right : i ≡ count (own_parts b) = omega (arith, test, end, inv.right_count) in
     let done : RelatedForms M r q r.ambient a b (q.meaning).ty (Ok c.args.a.now) =
     types_related M r.ambient a b i (q.meaning).ty c.args.a.now c.requires.a_formed c.requires.b_formed alike inv.fronted inv.are_parts left
     right same_a k.left_known in
@@ -1554,8 +1554,8 @@ structurally_relate_tys-returns-in_err-note_args g t c =
     let alike = (c.in_ok-compare_tys_of.ensures).alike in
     let test = c.loop-i-test.false in
     let end = (c.loop-i.auto).i-end in
-    let left : i ≡ count (parts_of a) = omega (arith, test, end, inv.left_count) in
-    let right : i ≡ count (parts_of b) = omega (arith, test, end, inv.right_count) in
+    let left : i ≡ count (own_parts a) = omega (arith, test, end, inv.left_count) in
+    let right : i ≡ count (own_parts b) = omega (arith, test, end, inv.right_count) in
     let done : RelatedForms M r q r.ambient a b (q.meaning).ty (Ok c.args.a.now) =
     types_related M r.ambient a b i (q.meaning).ty c.args.a.now c.requires.a_formed c.requires.b_formed alike inv.fronted inv.are_parts left
     right same_a k.left_known in
@@ -1584,8 +1584,8 @@ structurally_relate_tys-make_ty-requires-clause-ty_known g t c =
     let alike = (c.in_ok-compare_tys_of.ensures).alike in
     let test = c.loop-i-test.false in
     let end = (c.loop-i.auto).i-end in
-    let left : i ≡ count (parts_of a) = omega (arith, test, end, inv.left_count) in
-    let right : i ≡ count (parts_of b) = omega (arith, test, end, inv.right_count) in
+    let left : i ≡ count (own_parts a) = omega (arith, test, end, inv.left_count) in
+    let right : i ≡ count (own_parts b) = omega (arith, test, end, inv.right_count) in
     let done : RelatedForms M r q r.ambient a b (q.meaning).ty (Ok c.args.a.now) =
     types_related M r.ambient a b i (q.meaning).ty c.args.a.now c.requires.a_formed c.requires.b_formed alike inv.fronted inv.are_parts left
     right same_a k.left_known in
@@ -1620,8 +1620,8 @@ structurally_relate_tys-make_ty-requires-clause-parts_known g t c =
     let alike = (c.in_ok-compare_tys_of.ensures).alike in
     let test = c.loop-i-test.false in
     let end = (c.loop-i.auto).i-end in
-    let left : i ≡ count (parts_of a) = omega (arith, test, end, inv.left_count) in
-    let right : i ≡ count (parts_of b) = omega (arith, test, end, inv.right_count) in
+    let left : i ≡ count (own_parts a) = omega (arith, test, end, inv.left_count) in
+    let right : i ≡ count (own_parts b) = omega (arith, test, end, inv.right_count) in
     let done : RelatedForms M r q r.ambient a b (q.meaning).ty (Ok c.args.a.now) =
     types_related M r.ambient a b i (q.meaning).ty c.args.a.now c.requires.a_formed c.requires.b_formed alike inv.fronted inv.are_parts left
     right same_a k.left_known in
@@ -1657,8 +1657,8 @@ structurally_relate_tys-make_ty-requires-clause-fits g t c =
     let alike = (c.in_ok-compare_tys_of.ensures).alike in
     let test = c.loop-i-test.false in
     let end = (c.loop-i.auto).i-end in
-    let left : i ≡ count (parts_of a) = omega (arith, test, end, inv.left_count) in
-    let right : i ≡ count (parts_of b) = omega (arith, test, end, inv.right_count) in
+    let left : i ≡ count (own_parts a) = omega (arith, test, end, inv.left_count) in
+    let right : i ≡ count (own_parts b) = omega (arith, test, end, inv.right_count) in
     let done : RelatedForms M r q r.ambient a b (q.meaning).ty (Ok c.args.a.now) =
     types_related M r.ambient a b i (q.meaning).ty c.args.a.now c.requires.a_formed c.requires.b_formed alike inv.fronted inv.are_parts left
     right same_a k.left_known in
@@ -1675,8 +1675,8 @@ structurally_relate_tys-make_ty-requires-clause-fits g t c =
     let was = list_tree (arg_tree q.meaning) items in
     let listed : list_tree (arg_tree u.meaning) items ≡ was =
     stays_list (arg_tree q.meaning) (arg_tree u.meaning) items (stays_arg e) (inv.answers).sure in
-    subst₂ (λ xs t. FitArgs xs (parts_of t)) (sym c.as_slice.ensures.value) (sym stays)
-    (fit_end items (parts_of a) i (inv.are_parts).left_list left inv.fits)
+    subst₂ (λ xs t. FitArgs xs (own_parts t)) (sym c.as_slice.ensures.value) (sym stays)
+    (fit_end items (own_parts a) i (inv.are_parts).left_list left inv.fits)
 
 pub structurally_relate_tys-returns : goal.structurally_relate_tys-returns
 structurally_relate_tys-returns g t c =
@@ -1694,8 +1694,8 @@ structurally_relate_tys-returns g t c =
     let alike = (c.in_ok-compare_tys_of.ensures).alike in
     let test = c.loop-i-test.false in
     let end = (c.loop-i.auto).i-end in
-    let left : i ≡ count (parts_of a) = omega (arith, test, end, inv.left_count) in
-    let right : i ≡ count (parts_of b) = omega (arith, test, end, inv.right_count) in
+    let left : i ≡ count (own_parts a) = omega (arith, test, end, inv.left_count) in
+    let right : i ≡ count (own_parts b) = omega (arith, test, end, inv.right_count) in
     let done : RelatedForms M r q r.ambient a b (q.meaning).ty (Ok c.args.a.now) =
     types_related M r.ambient a b i (q.meaning).ty c.args.a.now c.requires.a_formed c.requires.b_formed alike inv.fronted inv.are_parts left
     right same_a k.left_known in
@@ -1715,11 +1715,11 @@ structurally_relate_tys-returns g t c =
     let p = g.R.HasState.state c.make_ty.new.r in
     let made = c.make_ty.ensures in
     let may = may_over M q r.ambient a was c.requires.a_formed
-    (answers_end M q (head_of a) r.ambient i (parts_of a) was (inv.are_parts).left_list left inv.answers) in
+    (answers_end M q (head_of a) r.ambient i (own_parts a) was (inv.are_parts).left_list left inv.answers) in
     form_made M r.ambient a b (made.made).extends made.grown (p.meaning).ty (u.meaning).ty c.args.a.now noted
-    c.make_ty.result made.fault (over a was) _
-    (may_later M r.ambient a (over a was) (n.ensures).passes may)
-    (ap₂ over stays (ap (list_tree (arg_tree u.meaning)) c.as_slice.ensures.value ∙ listed)) (made.made).sure
+    c.make_ty.result made.fault (form_over a was) _
+    (may_later M r.ambient a (form_over a was) (n.ensures).passes may)
+    (ap₂ form_over stays (ap (list_tree (arg_tree u.meaning)) c.as_slice.ensures.value ∙ listed)) (made.made).sure
     (made.made).means
 
 pub relate_in_order-loop-i-init : goal.relate_in_order-loop-i-init
@@ -1739,17 +1739,17 @@ relate_in_order-loop-i-init g t c =
     let tb = part_sorted r.meaning sorted_before c.args.b.now k.right_known other in
     record {
       lawful = c.requires.lawful;
-      fronted = fronted_none M r (head_of a) r.ambient (parts_of a) (parts_of b);
+      fronted = fronted_none M r (head_of a) r.ambient (own_parts a) (own_parts b);
       left_count = c.term_parts_count_of-n.ensures;
       right_count = c.term_parts_count_of-n.ensures ∙ parts_counted a b alike;
       are_parts = record {
         left_list = parts_of_list (part_sort c.args.a.now) a ta;
         right_list = parts_of_list (part_sort c.args.b.now) b tb;
-        left_in = term_context r.store (parts_of a) (in_parts r.store a k.left_in);
-        right_in = term_context r.store (parts_of b) (in_parts r.store b k.right_in);
+        left_in = term_context r.store (own_parts a) (in_parts r.store a k.left_in);
+        right_in = term_context r.store (own_parts b) (in_parts r.store b k.right_in);
       };
-      answers = subst (λ z. AreAnswers M r (head_of a) r.ambient 0 (parts_of a) (list_tree (part_tree r.meaning) z))
-          (sym c.new-answers.ensures.items) (answers_none M r (head_of a) r.ambient (parts_of a));
+      answers = subst (λ z. AreAnswers M r (head_of a) r.ambient 0 (own_parts a) (list_tree (part_tree r.meaning) z))
+          (sym c.new-answers.ensures.items) (answers_none M r (head_of a) r.ambient (own_parts a));
       fits = subst (λ z. Fit z nil) (sym c.new-answers.ensures.items) tt;
       inputs = no_inputs_yet a b;
     }
@@ -1804,9 +1804,9 @@ relate_in_order-compare_members_of-requires-clause-in_a g t c =
     let same_a : part_tree q.meaning c.args.a.now ≡ a = stays_part extends c.args.a.now k.left_known in
     let same_b : part_tree q.meaning c.args.b.now ≡ b = stays_part extends c.args.b.now k.right_known in
     let test = c.loop-i-test.true in
-    let lx : i < count (parts_of a) = omega (arith, test, inv.left_count) in
-    let ly : i < count (parts_of b) = omega (arith, test, inv.right_count) in
-    subst (λ z. i < count (parts_of z)) (sym same_a) lx
+    let lx : i < count (own_parts a) = omega (arith, test, inv.left_count) in
+    let ly : i < count (own_parts b) = omega (arith, test, inv.right_count) in
+    subst (λ z. i < count (own_parts z)) (sym same_a) lx
 
 pub relate_in_order-compare_members_of-requires-clause-in_b : goal.relate_in_order-compare_members_of-requires-clause-in_b
 relate_in_order-compare_members_of-requires-clause-in_b g t c =
@@ -1824,9 +1824,9 @@ relate_in_order-compare_members_of-requires-clause-in_b g t c =
     let same_a : part_tree q.meaning c.args.a.now ≡ a = stays_part extends c.args.a.now k.left_known in
     let same_b : part_tree q.meaning c.args.b.now ≡ b = stays_part extends c.args.b.now k.right_known in
     let test = c.loop-i-test.true in
-    let lx : i < count (parts_of a) = omega (arith, test, inv.left_count) in
-    let ly : i < count (parts_of b) = omega (arith, test, inv.right_count) in
-    subst (λ z. i < count (parts_of z)) (sym same_b) ly
+    let lx : i < count (own_parts a) = omega (arith, test, inv.left_count) in
+    let ly : i < count (own_parts b) = omega (arith, test, inv.right_count) in
+    subst (λ z. i < count (own_parts z)) (sym same_b) ly
 
 pub relate_in_order-returns-in_err-compare_members_of : goal.relate_in_order-returns-in_err-compare_members_of
 relate_in_order-returns-in_err-compare_members_of g t c =
@@ -1910,9 +1910,9 @@ relate_in_order-term_part_of-x-requires-clause-in_bounds g t c =
     let same_a : part_tree q.meaning c.args.a.now ≡ a = stays_part extends c.args.a.now k.left_known in
     let same_b : part_tree q.meaning c.args.b.now ≡ b = stays_part extends c.args.b.now k.right_known in
     let test = c.loop-i-test.true in
-    let lx : i < count (parts_of a) = omega (arith, test, inv.left_count) in
-    let ly : i < count (parts_of b) = omega (arith, test, inv.right_count) in
-    subst (λ z. i < count (parts_of z)) (sym same_a) lx
+    let lx : i < count (own_parts a) = omega (arith, test, inv.left_count) in
+    let ly : i < count (own_parts b) = omega (arith, test, inv.right_count) in
+    subst (λ z. i < count (own_parts z)) (sym same_a) lx
 
 pub relate_in_order-term_part_of-y-requires-clause-term_known : goal.relate_in_order-term_part_of-y-requires-clause-term_known
 relate_in_order-term_part_of-y-requires-clause-term_known g t c =
@@ -1964,9 +1964,9 @@ relate_in_order-term_part_of-y-requires-clause-in_bounds g t c =
     let same_a : part_tree q.meaning c.args.a.now ≡ a = stays_part extends c.args.a.now k.left_known in
     let same_b : part_tree q.meaning c.args.b.now ≡ b = stays_part extends c.args.b.now k.right_known in
     let test = c.loop-i-test.true in
-    let lx : i < count (parts_of a) = omega (arith, test, inv.left_count) in
-    let ly : i < count (parts_of b) = omega (arith, test, inv.right_count) in
-    subst (λ z. i < count (parts_of z)) (sym same_b) ly
+    let lx : i < count (own_parts a) = omega (arith, test, inv.left_count) in
+    let ly : i < count (own_parts b) = omega (arith, test, inv.right_count) in
+    subst (λ z. i < count (own_parts z)) (sym same_b) ly
 
 pub relate_in_order-term_variance_at-variance-requires-clause-known : goal.relate_in_order-term_variance_at-variance-requires-clause-known
 relate_in_order-term_variance_at-variance-requires-clause-known g t c =
@@ -2018,9 +2018,9 @@ relate_in_order-term_variance_at-variance-requires-clause-in_bounds g t c =
     let same_a : part_tree q.meaning c.args.a.now ≡ a = stays_part extends c.args.a.now k.left_known in
     let same_b : part_tree q.meaning c.args.b.now ≡ b = stays_part extends c.args.b.now k.right_known in
     let test = c.loop-i-test.true in
-    let lx : i < count (parts_of a) = omega (arith, test, inv.left_count) in
-    let ly : i < count (parts_of b) = omega (arith, test, inv.right_count) in
-    subst (λ z. i < count (parts_of z)) (sym same_a) lx
+    let lx : i < count (own_parts a) = omega (arith, test, inv.left_count) in
+    let ly : i < count (own_parts b) = omega (arith, test, inv.right_count) in
+    subst (λ z. i < count (own_parts z)) (sym same_a) lx
 
 pub relate_in_order-relate_parts_with_variance-related-requires : goal.relate_in_order-relate_parts_with_variance-related-requires
 relate_in_order-relate_parts_with_variance-related-requires g t c κs within =
@@ -2048,16 +2048,16 @@ relate_in_order-relate_parts_with_variance-related-requires g t c κs within =
     let ta = part_sorted r.meaning sorted_before c.args.a.now k.left_known form in
     let tb = part_sorted r.meaning sorted_before c.args.b.now k.right_known other in
     let test = c.loop-i-test.true in
-    let lx : i < count (parts_of a) = omega (arith, test, inv.left_count) in
-    let ly : i < count (parts_of b) = omega (arith, test, inv.right_count) in
+    let lx : i < count (own_parts a) = omega (arith, test, inv.left_count) in
+    let ly : i < count (own_parts b) = omega (arith, test, inv.right_count) in
     let X = c.term_part_of-x.result in
     let Y = c.term_part_of-y.result in
     let x = part_tree q.meaning X in
     let y = part_tree q.meaning Y in
     let kx = c.term_part_of-x.ensures.sure in
     let ky = c.term_part_of-y.ensures.sure in
-    let ex : x ≡ nth i (parts_of a) = c.term_part_of-x.ensures.means ∙ ap (λ z. nth i (parts_of z)) same_a in
-    let ey : y ≡ nth i (parts_of b) = c.term_part_of-y.ensures.means ∙ ap (λ z. nth i (parts_of z)) same_b in
+    let ex : x ≡ nth i (own_parts a) = c.term_part_of-x.ensures.means ∙ ap (λ z. nth i (own_parts z)) same_a in
+    let ey : y ≡ nth i (own_parts b) = c.term_part_of-y.ensures.means ∙ ap (λ z. nth i (own_parts z)) same_b in
     let w = xform q.ambient c.term_variance_at-variance.result in
     let ew : w ≡ part_at (items_in r) (head_of a) i r.ambient =
     c.term_variance_at-variance.ensures ∙ ap (λ z. part_at (items_in q) (head_of z) i q.ambient) same_a ∙
@@ -2112,8 +2112,8 @@ relate_in_order-named_place_of-place-requires-clause-in_bounds g t c =
     let inv = c.loop-i.invariant in
     let same_a = stays_part ((inv.fronted).passes).extends c.args.a.now (c.requires.asked).left_known in
     let test = c.loop-i-test.true in
-    let lx : i < count (parts_of a) = omega (arith, test, inv.left_count) in
-    subst (λ z. i < count (parts_of z)) (sym same_a) lx
+    let lx : i < count (own_parts a) = omega (arith, test, inv.left_count) in
+    subst (λ z. i < count (own_parts z)) (sym same_a) lx
 
 pub relate_in_order-returns-in_err-answer : goal.relate_in_order-returns-in_err-answer
 relate_in_order-returns-in_err-answer g t c =
@@ -2137,16 +2137,16 @@ relate_in_order-returns-in_err-answer g t c =
     let ta = part_sorted r.meaning sorted_before c.args.a.now k.left_known form in
     let tb = part_sorted r.meaning sorted_before c.args.b.now k.right_known other in
     let test = c.loop-i-test.true in
-    let lx : i < count (parts_of a) = omega (arith, test, inv.left_count) in
-    let ly : i < count (parts_of b) = omega (arith, test, inv.right_count) in
+    let lx : i < count (own_parts a) = omega (arith, test, inv.left_count) in
+    let ly : i < count (own_parts b) = omega (arith, test, inv.right_count) in
     let X = c.term_part_of-x.result in
     let Y = c.term_part_of-y.result in
     let x = part_tree q.meaning X in
     let y = part_tree q.meaning Y in
     let kx = c.term_part_of-x.ensures.sure in
     let ky = c.term_part_of-y.ensures.sure in
-    let ex : x ≡ nth i (parts_of a) = c.term_part_of-x.ensures.means ∙ ap (λ z. nth i (parts_of z)) same_a in
-    let ey : y ≡ nth i (parts_of b) = c.term_part_of-y.ensures.means ∙ ap (λ z. nth i (parts_of z)) same_b in
+    let ex : x ≡ nth i (own_parts a) = c.term_part_of-x.ensures.means ∙ ap (λ z. nth i (own_parts z)) same_a in
+    let ey : y ≡ nth i (own_parts b) = c.term_part_of-y.ensures.means ∙ ap (λ z. nth i (own_parts z)) same_b in
     let w = xform q.ambient c.term_variance_at-variance.result in
     let ew : w ≡ part_at (items_in r) (head_of a) i r.ambient =
     c.term_variance_at-variance.ensures ∙ ap (λ z. part_at (items_in q) (head_of z) i q.ambient) same_a ∙
@@ -2189,16 +2189,16 @@ relate_in_order-loop-i-preserved g t c =
     let same_a : part_tree q.meaning c.args.a.now ≡ a = stays_part extends c.args.a.now k.left_known in
     let same_b : part_tree q.meaning c.args.b.now ≡ b = stays_part extends c.args.b.now k.right_known in
     let test = c.loop-i-test.true in
-    let lx : i < count (parts_of a) = omega (arith, test, inv.left_count) in
-    let ly : i < count (parts_of b) = omega (arith, test, inv.right_count) in
+    let lx : i < count (own_parts a) = omega (arith, test, inv.left_count) in
+    let ly : i < count (own_parts b) = omega (arith, test, inv.right_count) in
     let X = c.term_part_of-x.result in
     let Y = c.term_part_of-y.result in
     let x = part_tree q.meaning X in
     let y = part_tree q.meaning Y in
     let kx = c.term_part_of-x.ensures.sure in
     let ky = c.term_part_of-y.ensures.sure in
-    let ex : x ≡ nth i (parts_of a) = c.term_part_of-x.ensures.means ∙ ap (λ z. nth i (parts_of z)) same_a in
-    let ey : y ≡ nth i (parts_of b) = c.term_part_of-y.ensures.means ∙ ap (λ z. nth i (parts_of z)) same_b in
+    let ex : x ≡ nth i (own_parts a) = c.term_part_of-x.ensures.means ∙ ap (λ z. nth i (own_parts z)) same_a in
+    let ey : y ≡ nth i (own_parts b) = c.term_part_of-y.ensures.means ∙ ap (λ z. nth i (own_parts z)) same_b in
     let w = xform q.ambient c.term_variance_at-variance.result in
     let ew : w ≡ part_at (items_in r) (head_of a) i r.ambient =
     c.term_variance_at-variance.ensures ∙ ap (λ z. part_at (items_in q) (head_of z) i q.ambient) same_a ∙
@@ -2211,7 +2211,7 @@ relate_in_order-loop-i-preserved g t c =
     let z = kept_part c.named_place_of-place.result related.result n.answer n.ensures in
     let gone = subst (λ v. Related M q p v x y (part_tree p.meaning) (Ok n.answer)) ew
     (subst (λ u. Related M q p w x y (part_tree p.meaning) u) z (related.ensures).related) in
-    let next = fronted_next (head_of a) r.ambient i (parts_of a) (parts_of b) x y inv.fronted lx ly ex ey
+    let next = fronted_next (head_of a) r.ambient i (own_parts a) (own_parts b) x y inv.fronted lx ly ex ey
     (part_tree p.meaning) n.answer inv.are_parts gone in
     let e = g.met.R.TypeRelation.reads c.loop-i.r in
     let cx = g.R.TypeRelation.interner c.loop-i.r in
@@ -2229,17 +2229,17 @@ relate_in_order-loop-i-preserved g t c =
     (stays_part later) (inv.answers).sure) in
     record {
       lawful = (gone.passes).lawful inv.lawful;
-      fronted = subst (λ j. Fronted M r p (head_of a) r.ambient j (parts_of a) (parts_of b)) more next;
+      fronted = subst (λ j. Fronted M r p (head_of a) r.ambient j (own_parts a) (own_parts b)) more next;
       left_count = inv.left_count;
       right_count = inv.right_count;
       are_parts = inv.are_parts;
-      answers = subst₂ (λ j z. AreAnswers M p (head_of a) r.ambient j (parts_of a) z) more (sym pushed)
-          (answers_next M (head_of a) r.ambient i (parts_of a) (list_tree (part_tree q.meaning) was) x
+      answers = subst₂ (λ j z. AreAnswers M p (head_of a) r.ambient j (own_parts a) z) more (sym pushed)
+          (answers_next M (head_of a) r.ambient i (own_parts a) (list_tree (part_tree q.meaning) was) x
           (part_tree p.meaning n.answer) gone.passes lx inv.answers ex
           (subst (λ z. MayAnswer M p (part_at z (head_of a) i r.ambient) x (part_tree p.meaning n.answer))
           (sym (same_items (inv.fronted).passes)) (gone.verdict).answer) (gone.verdict).known);
-      fits = subst₂ (λ j z. Fit z (firsts j (parts_of a))) more (sym c.in_ok-push.ensures.items)
-          (part_pushed was n.answer (parts_of a) i lx inv.fits
+      fits = subst₂ (λ j z. Fit z (firsts j (own_parts a))) more (sym c.in_ok-push.ensures.items)
+          (part_pushed was n.answer (own_parts a) i lx inv.fits
           (sort ∙ sym (sort_known q.meaning sorted X kx) ∙ ap tree_sort ex));
       inputs = subst (HaveAsManyInputs a b) more (inputs_next a b i (λ e. subst₂ AreOfOneForm ex ey
           (one (inputs_compared X (sym (sort_known q.meaning sorted X kx) ∙ ap tree_sort ex ∙ e)))) inv.inputs);
@@ -2261,16 +2261,16 @@ relate_in_order-returns-in_err-push g t c =
     let same_a : part_tree q.meaning c.args.a.now ≡ a = stays_part extends c.args.a.now k.left_known in
     let same_b : part_tree q.meaning c.args.b.now ≡ b = stays_part extends c.args.b.now k.right_known in
     let test = c.loop-i-test.true in
-    let lx : i < count (parts_of a) = omega (arith, test, inv.left_count) in
-    let ly : i < count (parts_of b) = omega (arith, test, inv.right_count) in
+    let lx : i < count (own_parts a) = omega (arith, test, inv.left_count) in
+    let ly : i < count (own_parts b) = omega (arith, test, inv.right_count) in
     let X = c.term_part_of-x.result in
     let Y = c.term_part_of-y.result in
     let x = part_tree q.meaning X in
     let y = part_tree q.meaning Y in
     let kx = c.term_part_of-x.ensures.sure in
     let ky = c.term_part_of-y.ensures.sure in
-    let ex : x ≡ nth i (parts_of a) = c.term_part_of-x.ensures.means ∙ ap (λ z. nth i (parts_of z)) same_a in
-    let ey : y ≡ nth i (parts_of b) = c.term_part_of-y.ensures.means ∙ ap (λ z. nth i (parts_of z)) same_b in
+    let ex : x ≡ nth i (own_parts a) = c.term_part_of-x.ensures.means ∙ ap (λ z. nth i (own_parts z)) same_a in
+    let ey : y ≡ nth i (own_parts b) = c.term_part_of-y.ensures.means ∙ ap (λ z. nth i (own_parts z)) same_b in
     let w = xform q.ambient c.term_variance_at-variance.result in
     let ew : w ≡ part_at (items_in r) (head_of a) i r.ambient =
     c.term_variance_at-variance.ensures ∙ ap (λ z. part_at (items_in q) (head_of z) i q.ambient) same_a ∙
@@ -2283,7 +2283,7 @@ relate_in_order-returns-in_err-push g t c =
     let z = kept_part c.named_place_of-place.result related.result n.answer n.ensures in
     let gone = subst (λ v. Related M q p v x y (part_tree p.meaning) (Ok n.answer)) ew
     (subst (λ u. Related M q p w x y (part_tree p.meaning) u) z (related.ensures).related) in
-    let next = fronted_next (head_of a) r.ambient i (parts_of a) (parts_of b) x y inv.fronted lx ly ex ey
+    let next = fronted_next (head_of a) r.ambient i (own_parts a) (own_parts b) x y inv.fronted lx ly ex ey
     (part_tree p.meaning) n.answer inv.are_parts gone in
     let failed = as_err c.from_residual-in_err-push.result Memory c.from_residual-in_err-push.ensures.0
     c.from_residual-in_err-push.ensures.1 in
@@ -2366,12 +2366,12 @@ relate_in_order-make_part-requires-clause-fits g t c =
     let same_b : part_tree q.meaning c.args.b.now ≡ b = stays_part extends c.args.b.now k.right_known in
     let test = c.loop-i-test.false in
     let end = (c.loop-i.auto).i-end in
-    let left : i ≡ count (parts_of a) = omega (arith, test, end, inv.left_count) in
-    let right : i ≡ count (parts_of b) = omega (arith, test, end, inv.right_count) in
+    let left : i ≡ count (own_parts a) = omega (arith, test, end, inv.left_count) in
+    let right : i ≡ count (own_parts b) = omega (arith, test, end, inv.right_count) in
     let items = c.loop-i.answers.items in
     let was = list_tree (part_tree q.meaning) items in
-    subst₂ (λ xs z. Fit xs (parts_of z)) (sym c.as_slice.ensures.value) (sym same_a)
-    (parts_end items (parts_of a) i (inv.are_parts).left_list left inv.fits)
+    subst₂ (λ xs z. Fit xs (own_parts z)) (sym c.as_slice.ensures.value) (sym same_a)
+    (parts_end items (own_parts a) i (inv.are_parts).left_list left inv.fits)
 
 pub relate_in_order-returns : goal.relate_in_order-returns
 relate_in_order-returns g t c =
@@ -2390,8 +2390,8 @@ relate_in_order-returns g t c =
     let same_b : part_tree q.meaning c.args.b.now ≡ b = stays_part extends c.args.b.now k.right_known in
     let test = c.loop-i-test.false in
     let end = (c.loop-i.auto).i-end in
-    let left : i ≡ count (parts_of a) = omega (arith, test, end, inv.left_count) in
-    let right : i ≡ count (parts_of b) = omega (arith, test, end, inv.right_count) in
+    let left : i ≡ count (own_parts a) = omega (arith, test, end, inv.left_count) in
+    let right : i ≡ count (own_parts b) = omega (arith, test, end, inv.right_count) in
     let items = c.loop-i.answers.items in
     let was = list_tree (part_tree q.meaning) items in
     let done : RelatedForms M r q r.ambient a b (part_tree q.meaning) (Ok c.args.a.now) =
@@ -2401,14 +2401,14 @@ relate_in_order-returns g t c =
     let made = c.make_part.ensures in
     record {
       related = form_made M r.ambient a b (made.made).extends made.grown (part_tree p.meaning) (part_tree q.meaning)
-          c.args.a.now done c.make_part.result made.fault (over a was) _
+          c.args.a.now done c.make_part.result made.fault (form_over a was) _
           (may_over_term M q r.ambient a was form
-          (answers_end M q (head_of a) r.ambient i (parts_of a) was (inv.are_parts).left_list left inv.answers))
-          (ap₂ over same_a (ap (list_tree (part_tree q.meaning)) c.as_slice.ensures.value)) (made.made).sure
+          (answers_end M q (head_of a) r.ambient i (own_parts a) was (inv.are_parts).left_list left inv.answers))
+          (ap₂ form_over same_a (ap (list_tree (part_tree q.meaning)) c.as_slice.ensures.value)) (made.made).sure
           (made.made).means;
       sort = made.sort;
       predicate = if_ok_both (λ z. part_sort z ≡ part_sort c.args.a.now) (λ z. part_tree p.meaning z ≡
-          over (part_tree q.meaning c.args.a.now) (list_tree (part_tree q.meaning) c.as_slice.result.now))
+          form_over (part_tree q.meaning c.args.a.now) (list_tree (part_tree q.meaning) c.as_slice.result.now))
           (λ z. form_of_part z ≡ form_of_part c.args.a.now) c.make_part.result
           (λ z o e. made_form q.meaning p.meaning c.args.a.now z _ o e) made.sort (made.made).means;
     }
