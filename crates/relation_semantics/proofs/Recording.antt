@@ -6,7 +6,7 @@ use Rattle.std.proofs.lemmas.List.Elements.{All-nil, All-append, All-cons, Conta
 use Rattle.std.proofs.lemmas.List.Elements.{All-contains_itself}
 use Rattle.term_enums.specs.declared.Variance.{Variance}
 use Rattle.relation_terms.specs.Heads.{Head}
-use Rattle.relation_terms.specs.Trees.{Tree, node, cons, nil, leaf, bind, known, count, nth}
+use Rattle.relation_terms.specs.Trees.{Tree, node, cons, known, count, nth}
 use Rattle.relation_terms.specs.Meaning.{Extends}
 use Rattle.relation_terms.proofs.Stays.{stays_same}
 use Rattle.relation_semantics.specs.Relation.{Items, part_at, plain, IsRelatedHead}
@@ -15,7 +15,6 @@ use Rattle.relation_semantics.specs.Goals.{Goal, goal_of}
 use Rattle.relation_semantics.specs.Settings.{Settings, LeavesAliases}
 use Rattle.relation_semantics.specs.Steps.{HasNoBinder}
 use Rattle.relation_semantics.specs.Errors.{IsLeftToGoal}
-use Rattle.relation_semantics.specs.Parts.{own_parts, const_parts_of}
 use Rattle.relation_semantics.specs.Asking.{Wanted, a_constraint, a_goal, IsTrivial, HaveAlias, AsksFor, IsPlainTerm, HasNoAlias}
 use Rattle.relation_semantics.specs.Recording.{AreBare, StandsAmong, IsRecorded, IsJustAsked, FrontAsks}
 use Rattle.relation_semantics.specs.Lawful.{State, Pair, Turned, WithMeaning, IsCovered, Covers, RecordsJust, declared_by, items_in}

@@ -1,9 +1,9 @@
 -- Two terms of one form ask for what their parts do.
 use Rattle.std.proofs.Common.{◌≡◌, ◌⊎◌, ℕ, ◌<◌, refl, sym, ap, ◌∙◌, inl, inr, subst, subst₂, arith}
 use Rattle.term_enums.specs.declared.Variance.{Variance}
-use Rattle.relation_terms.specs.Heads.{region_sort, type_sort, const_sort, atom_sort, Head, value, value_type, value_branch}
+use Rattle.relation_terms.specs.Heads.{Head, value, value_type, value_branch}
 use Rattle.relation_terms.specs.Heads.{expression, unevaluated, Atom, atom}
-use Rattle.relation_terms.specs.Trees.{Tree, leaf, node, bind, nil, cons, count, nth}
+use Rattle.relation_terms.specs.Trees.{Tree, leaf, node, nil, cons, count}
 use Rattle.relation_semantics.specs.Relation.{Items, plain_atom, IsAlias, IsRelatedHead, sort_of}
 use Rattle.relation_semantics.specs.Errors.{AreOfOneForm, over_parts, over_aliases, one_leaf, parameters, AreOfOneConst, values}
 use Rattle.relation_semantics.specs.Errors.{expressions, over_arguments, const_parameters, one_value, as_many_branches, one_const_leaf}

@@ -1,11 +1,11 @@
 -- Trees under binders, and lists without their last members.
-use Rattle.std.proofs.Common.{◌≡◌, ℕ, zero, suc, ◌<◌, ◌&&◌, Bool, true, false, cond, refl, sym, ap, ap₂, ◌∙◌, subst, arith}
+use Rattle.std.proofs.Common.{◌≡◌, ℕ, zero, suc, ◌<◌, Bool, true, false, cond, refl, sym, ap, ap₂, ◌∙◌, subst, arith}
 use Rattle.std.proofs.Common.{IsTrue, IsSome, List, [], ◌∷◌, ◌++◌, Option, Some, None}
 use Rattle.std.proofs.lemmas.Bool.{and_parts, false≢true}
 use Rattle.std.specs.Cmp.Derive.{both_true}
-use Rattle.relation_terms.specs.Heads.{Sort, BoundKind, unknown, one, row, term_of, binder_of, binder_sort, Leaf}
+use Rattle.relation_terms.specs.Heads.{Sort, BoundKind, unknown, binder_sort}
 use Rattle.relation_terms.specs.Trees.{Tree, leaf, node, bind, nil, cons, known, list_tree, front, last, count, nth, IsList}
-use Rattle.relation_terms.specs.Trees.{Fits, IsTerm, IsBinder, AreTerms}
+use Rattle.relation_terms.specs.Trees.{IsTerm, IsBinder, AreTerms}
 use Rattle.relation_terms.specs.Meaning.{under}
 use Rattle.relation_terms.specs.Parts.{tree_sort, parts_of, over}
 use Rattle.std.proofs.Common.{length, take, ◌-◌}

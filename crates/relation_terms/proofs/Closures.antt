@@ -1,6 +1,6 @@
 -- What stands among the arguments of a closure, as an interner reads them.
-use Rattle.std.proofs.Common.{◌≡◌, ℕ, ◌-◌, ◌<◌, ◌≤◌, Bool, true, false, cond, nat_lt, List, length, get_or, Option, Some, None, IsTrue}
-use Rattle.std.proofs.Common.{refl, sym, ap, ◌∙◌, subst, arith}
+use Rattle.std.proofs.Common.{◌≡◌, ℕ, ◌-◌, ◌<◌, ◌≤◌, true, false, cond, nat_lt, List, length, get_or, Some, None, IsTrue}
+use Rattle.std.proofs.Common.{sym, ap, ◌∙◌, arith}
 use Rattle.std.proofs.lemmas.Bool.{lt-ltb, le-ltb}
 use Rattle.relation_terms.specs.Heads.{Sort}
 use Rattle.relation_terms.specs.Trees.{Tree, count, nth, known, list_tree}

@@ -1,8 +1,8 @@
 -- What is asked of a term as a whole comes from its parts.
-use Rattle.std.proofs.Common.{◌≡◌, ℕ, zero, suc, ◌<◌, max, Bool, true, false, ◌||◌, IsTrue, List, [], ◌∷◌, get_or, take, length}
+use Rattle.std.proofs.Common.{◌≡◌, ℕ, zero, suc, ◌<◌, Bool, true, false, ◌||◌, IsTrue, List, [], ◌∷◌, get_or, take, length}
 use Rattle.std.proofs.Common.{refl, ap, ap₂, sym, ◌∙◌, arith, Option, Some, None}
 use Rattle.std.proofs.lemmas.Bool.{and_parts, false≢true}
-use Rattle.relation_terms.specs.Heads.{Sort, BoundKind, inputs}
+use Rattle.relation_terms.specs.Heads.{Sort, BoundKind}
 use Rattle.relation_terms.specs.Trees.{Tree, leaf, node, bind, nil, cons, known, list_tree, front, last, IsList, IsTerm}
 use Rattle.relation_terms.specs.Flags.{outer_exclusive_binder, has_non_region_infer, flags_of, flags_joined}
 use Rattle.relation_terms.specs.Flags.{flags_under, own_flags}

@@ -1,9 +1,9 @@
 -- Arguments that are made one after another for the generic parameters of an item.
 use Rattle.std.proofs.Common.{◌≡◌, ℕ, zero, suc, ◌+◌, ◌<◌, ◌≤◌, List, [], ◌∷◌, ◌++◌, map, drop, length, get_or}
-use Rattle.std.proofs.Common.{refl, sym, ap, ap₂, ◌∙◌, add-one, arith}
+use Rattle.std.proofs.Common.{sym, ap, ap₂, ◌∙◌, add-one, arith}
 use Rattle.std.proofs.lemmas.List.{drop_all, length-map}
 use Rattle.relation_terms.specs.Heads.{BoundKind}
-use Rattle.relation_terms.specs.Trees.{Tree, nil, cons, list_tree}
+use Rattle.relation_terms.specs.Trees.{Tree, cons, list_tree}
 use Rattle.relation_terms.specs.Meaning.{Meaning, Extends}
 use Rattle.relation_terms.specs.Edits.{put_before, param_tree, params_from, error_tree, error_trees}
 use Rattle.relation_terms.proofs.Edits.{list_nothing_before}

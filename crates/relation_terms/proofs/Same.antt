@@ -1,10 +1,10 @@
 -- Parts without keys of their own: made of the same, they are one.
-use Rattle.std.proofs.Common.{◌≡◌, ◌&&◌, Bool, true, false, refl, sym, ap, ap₂, ◌∙◌, subst, IsTrue}
+use Rattle.std.proofs.Common.{◌≡◌, ◌&&◌, Bool, true, false, refl, ap, ap₂, IsTrue}
 use Rattle.std.proofs.lemmas.Bool.{and_parts, false≢true}
 use Rattle.std.proofs.Math.Bool.{beq}
 use Rattle.std.specs.Cmp.Derive.{both_true}
-use Rattle.relation_terms.specs.Trees.{Tree, node, nil, cons, known, front, last}
-use Rattle.relation_terms.specs.Heads.{signature, inputs, existential_trait, existential_projection}
+use Rattle.relation_terms.specs.Trees.{node, nil, cons, known, front, last}
+use Rattle.relation_terms.specs.Heads.{signature, inputs, existential_projection}
 use Rattle.relation_terms.specs.Meaning.{Meaning, signature_tree, existential_tree, term_tree}
 use Rattle.relation_terms.specs.Interning.{AreEqualAsTrees, AreEqualAsNumbers}
 use Rattle.term_enums.specs.declared.Safety.{Safety}

@@ -7,15 +7,6 @@ use Rattle.relation_terms.specs.Trees.{Tree, leaf, node, nil, known, list_tree, 
 use Rattle.relation_terms.specs.Meaning.{Meaning, kind_tree, region_tree, const_tree, valtree_tree, arg_tree}
 use Rattle.relation_terms.specs.Meaning.{pattern_tree}
 use Rattle.relation_terms.specs.Interning.{Sorted}
-use Rattle.relation_terms.specs.declared.terms.keys.TyKey.{TyKey}
-use Rattle.relation_terms.specs.declared.terms.keys.RegionKey.{RegionKey}
-use Rattle.relation_terms.specs.declared.terms.keys.ConstKey.{ConstKey}
-use Rattle.relation_terms.specs.declared.terms.keys.ArgsKey.{ArgsKey}
-use Rattle.relation_terms.specs.declared.terms.keys.TysKey.{TysKey}
-use Rattle.relation_terms.specs.declared.terms.keys.ValTreeKey.{ValTreeKey}
-use Rattle.relation_terms.specs.declared.terms.keys.BranchesKey.{BranchesKey}
-use Rattle.relation_terms.specs.declared.terms.keys.PatKey.{PatKey}
-use Rattle.relation_terms.specs.declared.terms.keys.AlternativesKey.{AlternativesKey}
 use Rattle.relation_terms.specs.declared.terms.generic_arg.GenericArgKind.{GenericArgKind}
 use Rattle.relation_terms.specs.declared.terms.generic_arg.GenericArgKind.TheVariants.{Lifetime, Ty, Const}
 use Rattle.relation_terms.specs.declared.terms.ty_kind.TyKind.{TyKind}
@@ -45,7 +36,6 @@ use Rattle.relation_terms.specs.Heads.{existential_sort, term_sort, signature_so
 use Rattle.relation_terms.specs.Trees.{IsBinder, Fits, front, last}
 use Rattle.relation_terms.specs.Meaning.{under, sig_of, signature_tree, existential_tree, term_tree}
 use Rattle.relation_terms.specs.Meaning.{object_predicate_tree}
-use Rattle.relation_terms.specs.declared.terms.keys.ExistentialPredicatesKey.{ExistentialPredicatesKey}
 use Rattle.relation_terms.specs.declared.terms.generic_arg.TermKind.{TermKind}
 use Rattle.relation_terms.specs.declared.terms.generic_arg.TermKind.TheVariants.{Ty as TyTerm, Const as ConstTerm}
 use Rattle.relation_terms.specs.declared.terms.fn_sig.FnSig.{FnSig}

@@ -12,7 +12,7 @@ use Rattle.relation_terms.specs.Heads.{array, slice, tuple, raw_ptr, ref, expres
 use Rattle.relation_terms.specs.Heads.{fn_ptr, unsafe_binder, dynamic, signature, inputs, object, existential_trait}
 use Rattle.relation_terms.specs.Heads.{existential_projection, existential_auto}
 use Rattle.relation_terms.specs.Heads.{variable, bound, placeholder, atom, unknown}
-use Rattle.relation_terms.specs.Trees.{Tree, leaf, node, bind, nil, cons, known, list_tree, front, last}
+use Rattle.relation_terms.specs.Trees.{Tree, leaf, node, bind, nil, cons, known, front, last}
 use Rattle.relation_terms.specs.Tables.{Tables}
 use Rattle.term_enums.specs.declared.Variance.{Variance}
 use Rattle.relation_terms.specs.declared.terms.keys.TyKey.{TyKey}

@@ -1,5 +1,5 @@
 -- What traits state binds in itself alone.
-use Rattle.std.specs.Prelude.{ℕ, suc, ◌≡◌, ◌<◌, ◌≤◌, cond, nat_eq, length, IsTrue, [], List}
+use Rattle.std.specs.Prelude.{ℕ, suc, ◌≡◌, ◌<◌, ◌≤◌, cond, nat_eq, length, IsTrue, []}
 use Rattle.std.specs.List.{All}
 use Rattle.relation_terms.specs.Heads.{BoundKind, bound_kind, region_kind, type_kind, const_kind, Leaf, bound}
 use Rattle.relation_terms.specs.Trees.{Tree, leaf, node, bind, nil, cons, known}

@@ -1,5 +1,5 @@
 -- What a lawful context has recorded is on terms that its interner knows.
-use Rattle.std.proofs.Common.{◌≡◌, ℕ, ◌<◌, sym, ap, ◌∙◌, subst, length, map, get_or, IsTrue, List, Option, Some}
+use Rattle.std.proofs.Common.{◌≡◌, ℕ, ◌<◌, sym, ap, ◌∙◌, subst, length, map, get_or, IsTrue, List, Some}
 use Rattle.std.proofs.lemmas.List.{length-map, get_or-map}
 use Rattle.relation_terms.specs.Heads.{type_var, int_var, float_var, const_var}
 use Rattle.relation_terms.specs.Trees.{Tree, known}

@@ -1,19 +1,18 @@
 -- Traits that pulls answer are those that are reached.
-use Rattle.std.proofs.Common.{◌≡◌, ◌∙◌, sym, ap, subst, refl, inl, inr, arith, ℕ, length, Bool, true, false, unwrap_or}
-use Rattle.std.proofs.Common.{List, [], ◌∷◌, ◌++◌, append-nil, Option, Some, None, Result, Ok, Err, is_some}
+use Rattle.std.proofs.Common.{◌≡◌, ◌∙◌, sym, ap, subst, refl, inl, inr, arith, ℕ, length, true, false, unwrap_or}
+use Rattle.std.proofs.Common.{List, [], ◌∷◌, ◌++◌, append-nil, Some, None, Ok, Err, is_some}
 use Rattle.std.proofs.lemmas.List.{append_assoc}
 use Rattle.std.proofs.lemmas.Bool.{false≢true}
 use Rattle.std.specs.List.{Contains, filter_map}
 use Rattle.std.proofs.lemmas.List.Elements.{filter_map-append, Contains-push, Contains-push_cases}
 use Rattle.relation_terms.specs.Meaning.{Meaning}
 use Rattle.relation_terms.specs.declared.terms.ids.TraitId.{TraitId}
-use Rattle.relation_terms.specs.declared.terms.interner.OutOfMemory.{OutOfMemory}
 use Rattle.relation_elaboration.specs.Runs.{IsDistinct}
 use Rattle.relation_elaboration.specs.Statements.{statements}
-use Rattle.relation_elaboration.specs.Reach.{Reaching, Reaches, ReachesAll, ByReach, GoesBy, numbers}
+use Rattle.relation_elaboration.specs.Reach.{Reaching, ReachesAll, ByReach, GoesBy, numbers}
 use Rattle.text_elaboration.specs.declared.pulls.Pulled.{Pulled}
 use Rattle.text_elaboration.specs.declared.pulls.Pulled.TheVariants as pulled
-use Rattle.text_elaboration.specs.Pulls.{is_last, trait_in, told_trait, traits_answered, WentOn, AreReached}
+use Rattle.text_elaboration.specs.Pulls.{is_last, trait_in, traits_answered, WentOn, AreReached}
 use Rattle.text_elaboration.specs.Pulls.{ReachesOne}
 
 -- What is said of one answer that is there, of another that it is.

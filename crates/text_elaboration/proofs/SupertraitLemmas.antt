@@ -1,7 +1,7 @@
 -- What pulls answer of supertraits is what follows.
 use Rattle.std.proofs.Common.{◌≡◌, ◌≤◌, ◌<◌, ◌∙◌, sym, ap, ap₂, subst, refl, inl, inr, arith, ℕ, zero, suc, Bool, true}
 use Rattle.std.proofs.Common.{false, List, [], ◌∷◌, ◌++◌, map, length, append-nil, slice_index_or, IsTrue, IfOk}
-use Rattle.std.proofs.Common.{Option, Some, None, Result, Ok, Err, is_some, unwrap_or}
+use Rattle.std.proofs.Common.{Option, Some, None, Result, Ok, Err, is_some}
 use Rattle.std.proofs.lemmas.Bool.{false≢true}
 use Rattle.std.proofs.lemmas.List.{map-append}
 use Rattle.std.proofs.lemmas.List.Elements.{filter_map-append, Contains-push_cases}

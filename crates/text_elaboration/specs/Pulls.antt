@@ -18,7 +18,7 @@ use Rattle.relation_elaboration.specs.Runs.{Standing, AreTooMany, IsDistinct}
 use Rattle.relation_elaboration.specs.Statements.{statements}
 use Rattle.relation_elaboration.specs.Pulling.{Elaboration, Pulls, BeginsWith, mode_of}
 use Rattle.relation_elaboration.specs.Finding.{FindsNext, FindsAll, FindsClosed}
-use Rattle.relation_elaboration.specs.Reach.{Reaching, Reaches, Goes, number, numbers}
+use Rattle.relation_elaboration.specs.Reach.{Reaching, Reaches, Goes, numbers}
 use Rattle.text_elaboration.specs.declared.pulls.Pulled.{Pulled}
 use Rattle.text_elaboration.specs.declared.pulls.Pulled.TheVariants as pulled
 use Rattle.text_elaboration.specs.declared.pulls.Manner.{Manner}

@@ -1,14 +1,11 @@
 -- Terms without binders and aliases are related under just those interpretations under which what they ask for is so.
-use Rattle.std.proofs.Common.{◌≡◌, ◌≢◌, ◌⊎◌, ◌↔◌, ℕ, zero, suc, ◌<◌, ◌+◌, refl, sym, inl, inr, subst, subst₂, arith}
+use Rattle.std.proofs.Common.{◌≡◌, ◌≢◌, ◌⊎◌, ℕ, zero, suc, ◌<◌, ◌+◌, refl, sym, inl, inr, subst, subst₂, arith}
 use Rattle.std.proofs.Common.{Option, Result, Ok, Err}
-use Rattle.std.specs.Global.{Vec}
 use Rattle.term_enums.specs.declared.Variance.{Variance}
 use Rattle.term_enums.specs.declared.Variance.TheVariants.{Bivariant}
-use Rattle.relation_terms.specs.declared.terms.goal.Goal.{Goal}
-use Rattle.relation_terms.specs.declared.terms.keys.PredicateKey.{PredicateKey}
 use Rattle.relation_terms.specs.declared.terms.keys.ParamEnvKey.{ParamEnvKey}
 use Rattle.relation_terms.specs.Heads.{Head, one, term_of}
-use Rattle.relation_terms.specs.Trees.{Tree, leaf, node, bind, nil, cons, count, nth, Leaves, Assign, IsList}
+use Rattle.relation_terms.specs.Trees.{Tree, node, cons, count, nth, Leaves, Assign}
 use Rattle.relation_terms.specs.Meaning.{Meaning}
 use Rattle.relation_folds.specs.declared.error.RelateFault.{RelateFault}
 use Rattle.relation_semantics.specs.declared.relate.StructurallyRelateAliases.{StructurallyRelateAliases}
@@ -19,7 +16,7 @@ use Rattle.relation_semantics.specs.Lawful.{items_of}
 use Rattle.relation_semantics.specs.Relation.{Items, Interpretation, Rel, at, parts, no_parts, next_part, part_at, IsValueLeaf}
 use Rattle.relation_semantics.proofs.Asking.{no_alias_term, nothing_at_bivariance}
 use Rattle.relation_semantics.proofs.Related.{region_of, forms_inverted}
-use Rattle.type_relations.specs.Completing.{IsSoWanted, AreRelatedWhereAsked, RelatesWhereAsked}
+use Rattle.type_relations.specs.Completing.{IsSoWanted, RelatesWhereAsked}
 use Rattle.type_relations.specs.Relating.{term_in, RelatesAgreeing}
 use Rattle.type_relations.specs.Solving.{solver_settings}
 use Rattle.type_relations.proofs.AskedGoals.{rule_holds, agreeing_related}

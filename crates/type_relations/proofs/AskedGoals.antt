@@ -1,6 +1,6 @@
 -- Where what is asked of aliases is so, two terms of which one is an alias are related, and so are terms over such that
 -- agree, where what is asked of regions is so too.
-use Rattle.std.proofs.Common.{◌≡◌, ◌≢◌, ◌⊎◌, ℕ, zero, suc, ◌<◌, ◌+◌, refl, sym, ◌∙◌, inl, inr, subst, subst₂, arith, Some, None, Bool, true, false}
+use Rattle.std.proofs.Common.{◌≡◌, ◌≢◌, ◌⊎◌, ℕ, zero, suc, ◌<◌, ◌+◌, refl, sym, ◌∙◌, inl, inr, subst, subst₂, arith, Some, Bool, true, false}
 use Rattle.std.proofs.lemmas.Bool.{false≢true}
 use Rattle.term_enums.specs.declared.Variance.{Variance}
 use Rattle.term_enums.specs.declared.Variance.TheVariants.{Covariant, Contravariant, Invariant, Bivariant}
@@ -15,7 +15,7 @@ use Rattle.relation_semantics.specs.Steps.{HasNoBinder}
 use Rattle.relation_semantics.specs.Goals.{alias_relate_predicate}
 use Rattle.relation_semantics.specs.Errors.{AreAlike, IsLeftToGoal}
 use Rattle.relation_semantics.specs.Agreeing.{IsFlexible, AreFlexible, IsLeftAside, Agree}
-use Rattle.relation_semantics.specs.Asking.{Wanted, a_constraint, a_goal, region_at, HaveAlias, AsksFor, of_regions, of_aliases, of_unevaluated, of_parts, IsPlainLeaf, IsPlainHead, IsPlainTerm}
+use Rattle.relation_semantics.specs.Asking.{a_constraint, a_goal, region_at, HaveAlias, AsksFor, of_regions, of_aliases, of_unevaluated, of_parts, IsPlainLeaf, IsPlainHead, IsPlainTerm}
 use Rattle.relation_semantics.specs.Stores.{Constraint, outlives_constraint, equal_constraint, ConstraintHolds}
 use Rattle.relation_semantics.proofs.Agreeing.{agree_sorts}
 use Rattle.relation_semantics.proofs.Erased.{no_error_atom}

@@ -1,5 +1,5 @@
 -- Closed terms bind and spend nothing, and no goal is asked of such without aliases.
-use Rattle.std.proofs.Common.{◌≡◌, ◌⊎◌, ℕ, refl, sym, ◌∙◌, inl, inr, subst, Bool, true, false, List, [], ◌∷◌, All, IsTrue}
+use Rattle.std.proofs.Common.{◌≡◌, refl, sym, inl, inr, subst, Bool, true, false, List, [], ◌∷◌, All, IsTrue}
 use Rattle.std.proofs.Common.{Option, Result, Ok, Err}
 use Rattle.std.specs.Global.{Vec}
 use Rattle.std.proofs.lemmas.Bool.{false≢true}
@@ -8,7 +8,7 @@ use Rattle.term_enums.specs.declared.Variance.{Variance}
 use Rattle.relation_terms.specs.declared.terms.goal.Goal.{Goal as KeyedGoal}
 use Rattle.relation_terms.specs.declared.terms.keys.PredicateKey.{PredicateKey}
 use Rattle.relation_terms.specs.declared.terms.keys.ParamEnvKey.{ParamEnvKey}
-use Rattle.relation_terms.specs.Heads.{VarKind, type_var, int_var, float_var, const_var, region_var, Head, alias}
+use Rattle.relation_terms.specs.Heads.{type_var, int_var, float_var, const_var, region_var, Head, alias}
 use Rattle.relation_terms.specs.Heads.{unevaluated, variable, bound, placeholder, atom, unknown}
 use Rattle.relation_terms.specs.Trees.{Tree, leaf, node, bind, nil, cons}
 use Rattle.relation_terms.specs.Meaning.{Meaning}
@@ -19,7 +19,7 @@ use Rattle.relation_semantics.specs.Asking.{IsPlainTerm, HasNoAlias, ArePlain, w
 use Rattle.relation_semantics.specs.Contexts.{Context, RegistersGoals}
 use Rattle.relation_semantics.specs.Goals.{Goal, goals_of, Registered, IsRegistered, of_variables, of_type, of_alias}
 use Rattle.relation_semantics.specs.Goals.{of_too_much}
-use Rattle.relation_semantics.specs.Kits.{Kit, IsBuiltOf, BindsBuiltOf, IsGoalOf, IsPredicateOf, WritesNothing, StaysBuilt}
+use Rattle.relation_semantics.specs.Kits.{Kit, IsBuiltOf, BindsBuiltOf, IsGoalOf, IsPredicateOf, StaysBuilt}
 use Rattle.relation_semantics.specs.Kits.{NeedsVariable}
 use Rattle.relation_semantics.specs.Relation.{Items, IsAlias, IsAliasHead}
 use Rattle.relation_semantics.specs.Settings.{Settings}

@@ -1,7 +1,7 @@
 -- Opening two binders in a context, the one with placeholders and the other with new variables: what that does to the
 -- context, and that the bodies may stand for the binders.
 use Rattle.std.proofs.Common.{◌≡◌, ◌⊎◌, ℕ, ◌+◌, ◌<◌, refl, sym, ap, ap₂, ◌∙◌, arith, inl, inr, subst, subst₂, List}
-use Rattle.std.proofs.Common.{[], ◌∷◌, ◌++◌, length, get_or, IsTrue}
+use Rattle.std.proofs.Common.{[], ◌∷◌, ◌++◌, length, get_or}
 use Rattle.term_enums.specs.declared.Variance.{Variance}
 use Rattle.relation_terms.specs.Heads.{BoundKind, VarKind, type_var, const_var, Leaf, variable, bound, placeholder}
 use Rattle.relation_terms.specs.Heads.{atom, unknown}

@@ -1,6 +1,6 @@
 -- A step of a relation over a context records of two bare terms just what they ask for.
-use Rattle.std.proofs.Common.{◌≡◌, ◌≢◌, ◌⊎◌, ℕ, refl, sym, ap, ap₂, ◌∙◌, inl, inr, subst, subst₂, ⊎_elim, Bool, false, ◌||◌}
-use Rattle.std.proofs.Common.{Contains, IsTrue, Some, Result, Ok, Err, List, [], ◌∷◌, ◌++◌}
+use Rattle.std.proofs.Common.{◌≡◌, ◌≢◌, ◌⊎◌, ℕ, refl, sym, ap, ap₂, ◌∙◌, inl, inr, subst, subst₂, ⊎_elim, false, ◌||◌}
+use Rattle.std.proofs.Common.{Contains, IsTrue, Some, Result, Ok, Err, [], ◌∷◌, ◌++◌}
 use Rattle.std.proofs.lemmas.Bool.{false≢true}
 use Rattle.std.proofs.lemmas.Option.{same_Some}
 use Rattle.term_enums.specs.declared.Variance.{Variance}
@@ -20,20 +20,20 @@ use Rattle.relation_semantics.specs.declared.relate.Step.TheVariants.{Done, Part
 use Rattle.relation_semantics.specs.AliasGoals.{alias_at}
 use Rattle.relation_semantics.specs.Asking.{Wanted, a_goal, HaveAlias, AsksFor, of_regions, of_aliases, of_unevaluated, of_parts}
 use Rattle.relation_semantics.specs.Asking.{IsPlainTerm, HasNoAlias}
-use Rattle.relation_semantics.specs.Errors.{IsReadAs, itself, by_class, by_binding, IsOpaqueBeside, IsOpaque}
+use Rattle.relation_semantics.specs.Errors.{IsReadAs, itself, by_class, by_binding, IsOpaqueBeside}
 use Rattle.relation_semantics.specs.Goals.{goal_of, alias_relate_predicate}
-use Rattle.relation_semantics.specs.Lawful.{State, Pair, Passes, RecordsJust, RecordsJustAsked, StepRecords, items_in}
+use Rattle.relation_semantics.specs.Lawful.{State, Pair, Passes, RecordsJust, StepRecords, items_in}
 use Rattle.relation_semantics.specs.Recording.{AreBare}
-use Rattle.relation_semantics.specs.Relation.{Items, IsAlias, IsError, sort_of}
+use Rattle.relation_semantics.specs.Relation.{Items, IsError, sort_of}
 use Rattle.relation_semantics.specs.Settings.{Settings, LeavesAliases, LeavesOpaque}
 use Rattle.relation_semantics.specs.Steps.{IsNumberKind, IsNumberFor, InstantiatesNumber}
 use Rattle.relation_semantics.specs.Stores.{Store}
 use Rattle.relation_semantics.proofs.Answering.{same_environment, same_settings, same_items}
-use Rattle.relation_semantics.proofs.Asking.{itself_is_trivial, neither_alias, no_alias_term}
+use Rattle.relation_semantics.proofs.Asking.{itself_is_trivial, no_alias_term}
 use Rattle.relation_semantics.proofs.Leaving.{opaque_is_alias, beside_is_opaque}
 use Rattle.relation_semantics.proofs.Recording.{records_nothing, records_trivial, records_goal, records_remembering, Stands}
 use Rattle.relation_semantics.proofs.Standing.{term_sort_of}
-use Rattle.type_relations.specs.Combining.{CombinesShallow, ConstsCombine, MeetsConsts, MeetsTys, RegistersOne, TysCombine}
+use Rattle.type_relations.specs.Combining.{CombinesShallow, ConstsCombine, MeetsConsts, MeetsTys, TysCombine}
 use Rattle.type_relations.specs.Combining.{left_error, right_error, left_to_goal, left_open, not_registered, not_left}
 use Rattle.type_relations.specs.Combining.{equated, left_bound, right_bound, left_unlike, right_unlike, ty_variable, by_parts}
 use Rattle.type_relations.specs.Combining.{one_constant, const_left_to_goal, const_not_registered, const_not_left}
@@ -41,7 +41,7 @@ use Rattle.type_relations.specs.Combining.{roots_equated, left_root_bound, left_
 use Rattle.type_relations.specs.Combining.{right_root_refused, formed_by_parts}
 use Rattle.type_relations.specs.Combining.{resolved_first as consts_resolved}
 use Rattle.type_relations.specs.Solving.{solver_manner}
-use Rattle.type_relations.specs.Stepping.{StepsRead, StepsTys, RemembersTys, one_type, without_variables, resolved_first}
+use Rattle.type_relations.specs.Stepping.{StepsTys, RemembersTys, one_type, without_variables, resolved_first}
 use Rattle.type_relations.specs.Stepping.{met_again, combined, not_remembered}
 use Rattle.type_relations.specs.Variables.{one_has_variable}
 

@@ -1,5 +1,5 @@
 -- Closed terms, in which no variable stands but of regions: relating them binds and spends nothing.
-use Rattle.std.specs.Prelude.{◌≡◌, ℕ, List, [], Option, Result, IfOk}
+use Rattle.std.specs.Prelude.{◌≡◌, [], Option, Result, IfOk}
 use Rattle.std.specs.Global.{Vec}
 use Rattle.relation_terms.specs.declared.terms.goal.Goal.{Goal}
 use Rattle.relation_terms.specs.declared.terms.keys.PredicateKey.{PredicateKey}

@@ -1,5 +1,5 @@
-use Rattle.std.proofs.Common.{refl, sym, subst}
-use Rattle.relation_semantics.specs.Asking.{AsksFor, of_regions}
+use Rattle.std.proofs.Common.{refl}
+use Rattle.relation_semantics.specs.Asking.{of_regions}
 use Rattle.relation_semantics.proofs.Asking.{nothing_at_bivariance, itself_is_trivial, no_goal, regions_ask_one, forms_ask, parts_are_asked}
 use Rattle.relation_laws.proofs.Interpreting.{some_interpretation}
 use Rattle.relation_laws.proofs.laws.asking.Goals as goal

@@ -1,4 +1,4 @@
-use Rattle.std.proofs.Common.{◌≡◌, ◌≤◌, ◌∙◌, ◌+◌, ◌++◌, IsTrue, refl, sym, ap, subst, map, drop, length, arith}
+use Rattle.std.proofs.Common.{◌≡◌, ◌≤◌, ◌∙◌, ◌+◌, ◌++◌, IsTrue, sym, ap, subst, map, drop, length, arith}
 use Rattle.relation_terms.specs.Trees.{known, list_tree}
 use Rattle.relation_terms.specs.Meaning.{arg_tree}
 use Rattle.relation_terms.specs.Owned.{param_of}

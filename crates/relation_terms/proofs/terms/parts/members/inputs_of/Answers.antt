@@ -1,4 +1,4 @@
-use Rattle.std.proofs.Common.{◌∙◌, ◌≡◌, ◌++◌, ◌-◌, take, length, IsTrue, sym, ap, subst}
+use Rattle.std.proofs.Common.{◌∙◌, ◌++◌, ◌-◌, take, length, IsTrue, sym, ap, subst}
 use Rattle.relation_terms.specs.Trees.{known, list_tree, front}
 use Rattle.relation_terms.proofs.Binders.{front_known, front_list}
 use Rattle.relation_terms.proofs.terms.parts.members.inputs_of.Goals as goal

@@ -1,7 +1,5 @@
-use Rattle.std.proofs.Common.{◌∙◌, ◌<◌, ◌-◌, ◌≡◌, IsTrue, sym, ap, subst, arith, length}
-use Rattle.relation_terms.specs.Trees.{known, count, front, nth}
-use Rattle.relation_terms.proofs.Binders.{front_known, front_count, last_nth}
-use Rattle.relation_terms.proofs.Members.{last_sure, last_at, front_some}
+use Rattle.relation_terms.proofs.Binders.{front_known}
+use Rattle.relation_terms.proofs.Members.{last_sure, last_at}
 use Rattle.relation_terms.proofs.terms.parts.members.last_of.Goals as goal
 
 pub tys-list-requires : goal.tys-list-requires

@@ -1,4 +1,4 @@
-use Rattle.std.proofs.Common.{◌∙◌, ◌≡◌, IsTrue, sym, ap, ap₂, subst}
+use Rattle.std.proofs.Common.{◌∙◌, ◌≡◌, IsTrue, sym, ap, ap₂}
 use Rattle.std.proofs.lemmas.Bool.{and_parts}
 use Rattle.std.specs.Cmp.Derive.{both_true}
 use Rattle.relation_terms.specs.Trees.{known, cons, list_tree}

@@ -1,4 +1,4 @@
-use Rattle.std.proofs.Common.{ap, ◌∙◌, subst, sym, ◌∷◌, []}
+use Rattle.std.proofs.Common.{subst, sym, ◌∷◌, []}
 use Rattle.relation_terms.specs.Parts.{ArePredicates, part_of_predicate}
 use Rattle.relation_terms.proofs.Members.{predicate_got, mapped_next}
 use Rattle.relation_terms.proofs.terms.parts.members.predicates_of.Goals as goal

@@ -1,4 +1,4 @@
-use Rattle.std.proofs.Common.{◌∙◌, ◌≡◌, ◌++◌, [], ◌∷◌, IsTrue, refl, sym, ap, subst}
+use Rattle.std.proofs.Common.{◌∙◌, ◌≡◌, ◌++◌, [], ◌∷◌, IsTrue, sym, ap, subst}
 use Rattle.relation_terms.specs.Trees.{known, list_tree, front, last}
 use Rattle.relation_terms.proofs.Stays.{knows_as}
 use Rattle.relation_terms.proofs.Binders.{front_made, last_made}

@@ -1,4 +1,4 @@
-use Rattle.std.proofs.Common.{◌∙◌, ◌≡◌, IsTrue, sym, ap, subst}
+use Rattle.std.proofs.Common.{◌∙◌, IsTrue, sym, ap, subst}
 use Rattle.relation_terms.specs.Trees.{known}
 use Rattle.relation_terms.specs.Parts.{part_tree}
 use Rattle.relation_terms.proofs.Same.{same_inputs}

@@ -1,4 +1,4 @@
-use Rattle.std.proofs.Common.{◌∙◌, ◌≡◌, ◌&&◌, true, IsTrue, sym, ap, subst}
+use Rattle.std.proofs.Common.{◌∙◌, ◌≡◌, true, IsTrue, sym, ap, subst}
 use Rattle.std.proofs.lemmas.Bool.{and_parts}
 use Rattle.relation_terms.specs.Heads.{value_type}
 use Rattle.relation_terms.specs.Trees.{known, list_tree, node, cons, nil}
