@@ -11,8 +11,8 @@ use Rattle.relation_terms.specs.Predicates.{trait_ref_tree, alias_term_tree, cla
 use Rattle.relation_terms.specs.Predicates.{clause_tree, predicate_tree}
 use Rattle.relation_terms.specs.Parts.{parts_of, over, tree_sort}
 use Rattle.relation_terms.specs.Fields.{parts_under, over_under, field_sort, field_of_term, clause_view, predicate_view}
-use Rattle.relation_terms.specs.Fields.{region_in, ty_in, const_in, term_in, trait_ref_in, alias_term_in, first_in}
-use Rattle.relation_terms.specs.Fields.{second_in, clause_made, predicate_made, FitFields, AlikeFields, field_tree}
+use Rattle.relation_terms.specs.Fields.{region_field, ty_field, const_field, term_field, trait_ref_field, alias_term_field, first_field}
+use Rattle.relation_terms.specs.Fields.{second_field, clause_made, predicate_made, FitFields, AlikeFields, field_tree}
 use Rattle.relation_terms.specs.Fields.{fields_tree}
 use Rattle.relation_terms.specs.declared.terms.parts.predicates.Field.{Field}
 use Rattle.relation_terms.specs.declared.terms.parts.predicates.Field.TheVariants.{Region, Ty, Const, TraitRef}
@@ -121,21 +121,21 @@ module _ {Key Id Name : Type 0} (m : Meaning Key Id Name) where
   predicate_viewed Ambiguous = refl
 
   -- What a part of that sort is.
-  region_got : (f : Field Key Id) (d : RegionKey Key) → field_sort f ≡ region_sort → m.region (region_in f d) ≡ field_tree m f
+  region_got : (f : Field Key Id) (d : RegionKey Key) → field_sort f ≡ region_sort → m.region (region_field f d) ≡ field_tree m f
   region_got (Region r) d e = refl
   region_got (Ty r) d e = absurd (cc)
   region_got (Const r) d e = absurd (cc)
   region_got (TraitRef r) d e = absurd (cc)
   region_got (AliasTerm r) d e = absurd (cc)
 
-  ty_got : (f : Field Key Id) (d : TyKey Key) → field_sort f ≡ type_sort → m.ty (ty_in f d) ≡ field_tree m f
+  ty_got : (f : Field Key Id) (d : TyKey Key) → field_sort f ≡ type_sort → m.ty (ty_field f d) ≡ field_tree m f
   ty_got (Ty r) d e = refl
   ty_got (Region r) d e = absurd (cc)
   ty_got (Const r) d e = absurd (cc)
   ty_got (TraitRef r) d e = absurd (cc)
   ty_got (AliasTerm r) d e = absurd (cc)
 
-  const_got : (f : Field Key Id) (d : ConstKey Key) → field_sort f ≡ const_sort → m.const_ (const_in f d) ≡ field_tree m f
+  const_got : (f : Field Key Id) (d : ConstKey Key) → field_sort f ≡ const_sort → m.const_ (const_field f d) ≡ field_tree m f
   const_got (Const r) d e = refl
   const_got (Region r) d e = absurd (cc)
   const_got (Ty r) d e = absurd (cc)
@@ -143,7 +143,7 @@ module _ {Key Id Name : Type 0} (m : Meaning Key Id Name) where
   const_got (AliasTerm r) d e = absurd (cc)
 
   term_got : (f : Field Key Id) (a : TermKind Key) → field_sort f ≡ field_sort (field_of_term {Key = Key} {Id = Id} a) →
-      term_tree m (term_in f a) ≡ field_tree m f
+      term_tree m (term_field f a) ≡ field_tree m f
   term_got (Ty r) a e = refl
   term_got (Const r) a e = refl
   term_got (Region r) (TyTerm t) e = absurd (cc)
@@ -154,7 +154,7 @@ module _ {Key Id Name : Type 0} (m : Meaning Key Id Name) where
   term_got (AliasTerm r) (ConstTerm t) e = absurd (cc)
 
   trait_ref_got : (f : Field Key Id) (d : TraitRefOf Key Id) → field_sort f ≡ trait_ref_sort →
-      trait_ref_tree m (trait_ref_in f d) ≡ field_tree m f
+      trait_ref_tree m (trait_ref_field f d) ≡ field_tree m f
   trait_ref_got (TraitRef r) d e = refl
   trait_ref_got (Region r) d e = absurd (cc)
   trait_ref_got (Ty r) d e = absurd (cc)
@@ -162,7 +162,7 @@ module _ {Key Id Name : Type 0} (m : Meaning Key Id Name) where
   trait_ref_got (AliasTerm r) d e = absurd (cc)
 
   alias_term_got : (f : Field Key Id) (d : AliasTermOf Key Id) → field_sort f ≡ alias_term_sort →
-      alias_term_tree m (alias_term_in f d) ≡ field_tree m f
+      alias_term_tree m (alias_term_field f d) ≡ field_tree m f
   alias_term_got (AliasTerm r) d e = refl
   alias_term_got (Region r) d e = absurd (cc)
   alias_term_got (Ty r) d e = absurd (cc)
@@ -171,14 +171,14 @@ module _ {Key Id Name : Type 0} (m : Meaning Key Id Name) where
 
   -- The parts at the places of others.
   one_got : (f : Field Key Id) (fs : Fields Key Id) → AlikeFields (One f) fs →
-      (field_sort (first_in fs f) ≡ field_sort f) × (cons (field_tree m (first_in fs f)) nil ≡ fields_tree m fs)
+      (field_sort (first_field fs f) ≡ field_sort f) × (cons (field_tree m (first_field fs f)) nil ≡ fields_tree m fs)
   one_got f (One g) a = (a, refl)
   one_got f Empty a = absurd a
   one_got f (Two g h) a = absurd a
 
   two_got : (f g : Field Key Id) (fs : Fields Key Id) → AlikeFields (Two f g) fs →
-      (field_sort (first_in fs f) ≡ field_sort f) × ((field_sort (second_in fs g) ≡ field_sort g) ×
-      (cons (field_tree m (first_in fs f)) (cons (field_tree m (second_in fs g)) nil) ≡ fields_tree m fs))
+      (field_sort (first_field fs f) ≡ field_sort f) × ((field_sort (second_field fs g) ≡ field_sort g) ×
+      (cons (field_tree m (first_field fs f)) (cons (field_tree m (second_field fs g)) nil) ≡ fields_tree m fs))
   two_got f g (Two h i) a = (a.0, (a.1, refl))
   two_got f g Empty a = absurd a
   two_got f g (One h) a = absurd a
@@ -189,38 +189,38 @@ module _ {Key Id Name : Type 0} (m : Meaning Key Id Name) where
   clause_remade (Trait p) fs a =
       let d = TraitRef p.trait_ref in
       let o = one_got d fs a in
-      ap (λ x. node (trait_clause p.polarity) (cons x nil)) (trait_ref_got (first_in fs d) p.trait_ref o.0)
+      ap (λ x. node (trait_clause p.polarity) (cons x nil)) (trait_ref_got (first_field fs d) p.trait_ref o.0)
       ∙ ap (node (trait_clause p.polarity)) o.1
   clause_remade (RegionOutlives p) fs a =
       let o = two_got (Region p.0) (Region p.1) fs a in
-      ap₂ (λ x y. node region_outlives (cons x (cons y nil))) (region_got (first_in fs (Region p.0)) p.0 o.0)
-      (region_got (second_in fs (Region p.1)) p.1 o.1.0) ∙ ap (node region_outlives) o.1.1
+      ap₂ (λ x y. node region_outlives (cons x (cons y nil))) (region_got (first_field fs (Region p.0)) p.0 o.0)
+      (region_got (second_field fs (Region p.1)) p.1 o.1.0) ∙ ap (node region_outlives) o.1.1
   clause_remade (TypeOutlives p) fs a =
       let o = two_got (Ty p.0) (Region p.1) fs a in
-      ap₂ (λ x y. node type_outlives (cons x (cons y nil))) (ty_got (first_in fs (Ty p.0)) p.0 o.0)
-      (region_got (second_in fs (Region p.1)) p.1 o.1.0) ∙ ap (node type_outlives) o.1.1
+      ap₂ (λ x y. node type_outlives (cons x (cons y nil))) (ty_got (first_field fs (Ty p.0)) p.0 o.0)
+      (region_got (second_field fs (Region p.1)) p.1 o.1.0) ∙ ap (node type_outlives) o.1.1
   clause_remade (Projection p) fs a =
       let d = AliasTerm p.projection_term in
       let e = field_of_term p.term in
       let o = two_got d e fs a in
-      ap₂ (λ x y. node projection (cons x (cons y nil))) (alias_term_got (first_in fs d) p.projection_term o.0)
-      (term_got (second_in fs e) p.term o.1.0) ∙ ap (node projection) o.1.1
+      ap₂ (λ x y. node projection (cons x (cons y nil))) (alias_term_got (first_field fs d) p.projection_term o.0)
+      (term_got (second_field fs e) p.term o.1.0) ∙ ap (node projection) o.1.1
   clause_remade (ConstArgHasType c t) fs a =
       let o = two_got (Const c) (Ty t) fs a in
-      ap₂ (λ x y. node const_has_type (cons x (cons y nil))) (const_got (first_in fs (Const c)) c o.0)
-      (ty_got (second_in fs (Ty t)) t o.1.0) ∙ ap (node const_has_type) o.1.1
+      ap₂ (λ x y. node const_has_type (cons x (cons y nil))) (const_got (first_field fs (Const c)) c o.0)
+      (ty_got (second_field fs (Ty t)) t o.1.0) ∙ ap (node const_has_type) o.1.1
   clause_remade (WellFormed b) fs a =
       let d = field_of_term b in
       let o = one_got d fs a in
-      ap (λ x. node well_formed (cons x nil)) (term_got (first_in fs d) b o.0) ∙ ap (node well_formed) o.1
+      ap (λ x. node well_formed (cons x nil)) (term_got (first_field fs d) b o.0) ∙ ap (node well_formed) o.1
   clause_remade (ConstEvaluatable c) fs a =
       let o = one_got (Const c) fs a in
-      ap (λ x. node const_evaluatable (cons x nil)) (const_got (first_in fs (Const c)) c o.0)
+      ap (λ x. node const_evaluatable (cons x nil)) (const_got (first_field fs (Const c)) c o.0)
       ∙ ap (node const_evaluatable) o.1
   clause_remade (HostEffect p) fs a =
       let d = TraitRef p.trait_ref in
       let o = one_got d fs a in
-      ap (λ x. node (host_effect p.constness) (cons x nil)) (trait_ref_got (first_in fs d) p.trait_ref o.0)
+      ap (λ x. node (host_effect p.constness) (cons x nil)) (trait_ref_got (first_field fs d) p.trait_ref o.0)
       ∙ ap (node (host_effect p.constness)) o.1
   clause_remade (UnstableFeature s) fs a = refl
 
@@ -229,24 +229,24 @@ module _ {Key Id Name : Type 0} (m : Meaning Key Id Name) where
   predicate_remade (Clause c) fs a = clause_remade c fs a
   predicate_remade (Subtype p) fs a =
       let o = two_got (Ty p.a) (Ty p.b) fs a in
-      ap₂ (λ x y. node (subtype p.a_is_expected) (cons x (cons y nil))) (ty_got (first_in fs (Ty p.a)) p.a o.0)
-      (ty_got (second_in fs (Ty p.b)) p.b o.1.0) ∙ ap (node (subtype p.a_is_expected)) o.1.1
+      ap₂ (λ x y. node (subtype p.a_is_expected) (cons x (cons y nil))) (ty_got (first_field fs (Ty p.a)) p.a o.0)
+      (ty_got (second_field fs (Ty p.b)) p.b o.1.0) ∙ ap (node (subtype p.a_is_expected)) o.1.1
   predicate_remade (Coerce p) fs a =
       let o = two_got (Ty p.a) (Ty p.b) fs a in
-      ap₂ (λ x y. node coerce (cons x (cons y nil))) (ty_got (first_in fs (Ty p.a)) p.a o.0)
-      (ty_got (second_in fs (Ty p.b)) p.b o.1.0) ∙ ap (node coerce) o.1.1
+      ap₂ (λ x y. node coerce (cons x (cons y nil))) (ty_got (first_field fs (Ty p.a)) p.a o.0)
+      (ty_got (second_field fs (Ty p.b)) p.b o.1.0) ∙ ap (node coerce) o.1.1
   predicate_remade (NormalizesTo p) fs a =
       let d = AliasTerm p.alias in
       let e = field_of_term p.term in
       let o = two_got d e fs a in
-      ap₂ (λ x y. node normalizes_to (cons x (cons y nil))) (alias_term_got (first_in fs d) p.alias o.0)
-      (term_got (second_in fs e) p.term o.1.0) ∙ ap (node normalizes_to) o.1.1
+      ap₂ (λ x y. node normalizes_to (cons x (cons y nil))) (alias_term_got (first_field fs d) p.alias o.0)
+      (term_got (second_field fs e) p.term o.1.0) ∙ ap (node normalizes_to) o.1.1
   predicate_remade (AliasRelate b c i) fs a =
       let d = field_of_term b in
       let e = field_of_term c in
       let o = two_got d e fs a in
-      ap₂ (λ x y. node (alias_relate i) (cons x (cons y nil))) (term_got (first_in fs d) b o.0)
-      (term_got (second_in fs e) c o.1.0) ∙ ap (node (alias_relate i)) o.1.1
+      ap₂ (λ x y. node (alias_relate i) (cons x (cons y nil))) (term_got (first_field fs d) b o.0)
+      (term_got (second_field fs e) c o.1.0) ∙ ap (node (alias_relate i)) o.1.1
   predicate_remade Ambiguous fs a = refl
 
   -- What a call reads of a clause or a predicate: its parts stand under its binder.

@@ -71,60 +71,60 @@ predicate_view (AliasRelate a b d) = Two (field_of_term a) (field_of_term b)
 predicate_view Ambiguous = Empty
 
 -- What a part is, or the given one; what stands at a place, or the given one.
-abbrev pub region_in : {Key Id : Type 0} → Field Key Id → RegionKey Key → RegionKey Key
-region_in (Region k) d = k
-region_in f d = d
+abbrev pub region_field : {Key Id : Type 0} → Field Key Id → RegionKey Key → RegionKey Key
+region_field (Region k) d = k
+region_field f d = d
 
-abbrev pub ty_in : {Key Id : Type 0} → Field Key Id → TyKey Key → TyKey Key
-ty_in (Ty k) d = k
-ty_in f d = d
+abbrev pub ty_field : {Key Id : Type 0} → Field Key Id → TyKey Key → TyKey Key
+ty_field (Ty k) d = k
+ty_field f d = d
 
-abbrev pub const_in : {Key Id : Type 0} → Field Key Id → ConstKey Key → ConstKey Key
-const_in (Const k) d = k
-const_in f d = d
+abbrev pub const_field : {Key Id : Type 0} → Field Key Id → ConstKey Key → ConstKey Key
+const_field (Const k) d = k
+const_field f d = d
 
-abbrev pub term_in : {Key Id : Type 0} → Field Key Id → TermKind Key → TermKind Key
-term_in (Ty k) d = TyTerm k
-term_in (Const k) d = ConstTerm k
-term_in f d = d
+abbrev pub term_field : {Key Id : Type 0} → Field Key Id → TermKind Key → TermKind Key
+term_field (Ty k) d = TyTerm k
+term_field (Const k) d = ConstTerm k
+term_field f d = d
 
-abbrev pub trait_ref_in : {Key Id : Type 0} → Field Key Id → TraitRefOf Key Id → TraitRefOf Key Id
-trait_ref_in (TraitRef t) d = t
-trait_ref_in f d = d
+abbrev pub trait_ref_field : {Key Id : Type 0} → Field Key Id → TraitRefOf Key Id → TraitRefOf Key Id
+trait_ref_field (TraitRef t) d = t
+trait_ref_field f d = d
 
-abbrev pub alias_term_in : {Key Id : Type 0} → Field Key Id → AliasTermOf Key Id → AliasTermOf Key Id
-alias_term_in (AliasTerm a) d = a
-alias_term_in f d = d
+abbrev pub alias_term_field : {Key Id : Type 0} → Field Key Id → AliasTermOf Key Id → AliasTermOf Key Id
+alias_term_field (AliasTerm a) d = a
+alias_term_field f d = d
 
-abbrev pub first_in : {Key Id : Type 0} → Fields Key Id → Field Key Id → Field Key Id
-first_in (One f) d = f
-first_in (Two f g) d = f
-first_in Empty d = d
+abbrev pub first_field : {Key Id : Type 0} → Fields Key Id → Field Key Id → Field Key Id
+first_field (One f) d = f
+first_field (Two f g) d = f
+first_field Empty d = d
 
-abbrev pub second_in : {Key Id : Type 0} → Fields Key Id → Field Key Id → Field Key Id
-second_in (Two f g) d = g
-second_in fs d = d
+abbrev pub second_field : {Key Id : Type 0} → Fields Key Id → Field Key Id → Field Key Id
+second_field (Two f g) d = g
+second_field fs d = d
 
 -- The form over other parts.
 abbrev pub clause_made : {Key Id Name : Type 0} → ClauseKind Key Id Name → Fields Key Id → ClauseKind Key Id Name
 clause_made (Trait p) fs =
-    let t = trait_ref_in (first_in fs (TraitRef p.trait_ref)) p.trait_ref in
+    let t = trait_ref_field (first_field fs (TraitRef p.trait_ref)) p.trait_ref in
     Trait (record { trait_ref = t; polarity = p.polarity })
 clause_made (RegionOutlives p) fs =
-    let a = region_in (first_in fs (Region p.0)) p.0 in
-    RegionOutlives (record { 0 = a; 1 = region_in (second_in fs (Region p.1)) p.1 })
+    let a = region_field (first_field fs (Region p.0)) p.0 in
+    RegionOutlives (record { 0 = a; 1 = region_field (second_field fs (Region p.1)) p.1 })
 clause_made (TypeOutlives p) fs =
-    let a = ty_in (first_in fs (Ty p.0)) p.0 in
-    TypeOutlives (record { 0 = a; 1 = region_in (second_in fs (Region p.1)) p.1 })
+    let a = ty_field (first_field fs (Ty p.0)) p.0 in
+    TypeOutlives (record { 0 = a; 1 = region_field (second_field fs (Region p.1)) p.1 })
 clause_made (Projection p) fs =
-    let a = alias_term_in (first_in fs (AliasTerm p.projection_term)) p.projection_term in
-    Projection (record { projection_term = a; term = term_in (second_in fs (field_of_term p.term)) p.term })
+    let a = alias_term_field (first_field fs (AliasTerm p.projection_term)) p.projection_term in
+    Projection (record { projection_term = a; term = term_field (second_field fs (field_of_term p.term)) p.term })
 clause_made (ConstArgHasType c t) fs =
-    ConstArgHasType (const_in (first_in fs (Const c)) c) (ty_in (second_in fs (Ty t)) t)
-clause_made (WellFormed a) fs = WellFormed (term_in (first_in fs (field_of_term a)) a)
-clause_made (ConstEvaluatable c) fs = ConstEvaluatable (const_in (first_in fs (Const c)) c)
+    ConstArgHasType (const_field (first_field fs (Const c)) c) (ty_field (second_field fs (Ty t)) t)
+clause_made (WellFormed a) fs = WellFormed (term_field (first_field fs (field_of_term a)) a)
+clause_made (ConstEvaluatable c) fs = ConstEvaluatable (const_field (first_field fs (Const c)) c)
 clause_made (HostEffect p) fs =
-    let t = trait_ref_in (first_in fs (TraitRef p.trait_ref)) p.trait_ref in
+    let t = trait_ref_field (first_field fs (TraitRef p.trait_ref)) p.trait_ref in
     HostEffect (record { trait_ref = t; constness = p.constness })
 clause_made (UnstableFeature s) fs = UnstableFeature s
 
@@ -132,15 +132,15 @@ abbrev pub predicate_made : {Key Id Name : Type 0} → PredicateKind Key Id Name
     PredicateKind Key Id Name
 predicate_made (Clause c) fs = Clause (clause_made c fs)
 predicate_made (Subtype p) fs =
-    let a = ty_in (first_in fs (Ty p.a)) p.a in
-    Subtype (record { a_is_expected = p.a_is_expected; a = a; b = ty_in (second_in fs (Ty p.b)) p.b })
+    let a = ty_field (first_field fs (Ty p.a)) p.a in
+    Subtype (record { a_is_expected = p.a_is_expected; a = a; b = ty_field (second_field fs (Ty p.b)) p.b })
 predicate_made (Coerce p) fs =
-    Coerce (record { a = ty_in (first_in fs (Ty p.a)) p.a; b = ty_in (second_in fs (Ty p.b)) p.b })
+    Coerce (record { a = ty_field (first_field fs (Ty p.a)) p.a; b = ty_field (second_field fs (Ty p.b)) p.b })
 predicate_made (NormalizesTo p) fs =
-    let a = alias_term_in (first_in fs (AliasTerm p.alias)) p.alias in
-    NormalizesTo (record { alias = a; term = term_in (second_in fs (field_of_term p.term)) p.term })
+    let a = alias_term_field (first_field fs (AliasTerm p.alias)) p.alias in
+    NormalizesTo (record { alias = a; term = term_field (second_field fs (field_of_term p.term)) p.term })
 predicate_made (AliasRelate a b d) fs =
-    AliasRelate (term_in (first_in fs (field_of_term a)) a) (term_in (second_in fs (field_of_term b)) b) d
+    AliasRelate (term_field (first_field fs (field_of_term a)) a) (term_field (second_field fs (field_of_term b)) b) d
 predicate_made Ambiguous fs = Ambiguous
 
 -- As many parts as there are trees, each of the sort of the tree at its place.

@@ -6,10 +6,11 @@ ghost use Rattle.std.specs.Prelude.{◌≡◌, IsTrue, IfOk, OnErr};
 ghost use Rattle.relation_terms.specs.Trees.{known};
 ghost use Rattle.relation_terms.specs.Meaning.{Extends};
 ghost use Rattle.relation_terms.specs.Fields.{field_of_term, clause_view, predicate_view, clause_made, predicate_made};
-ghost use Rattle.relation_terms.specs.Fields.{region_in, ty_in, const_in, term_in, trait_ref_in, alias_term_in};
+ghost use Rattle.relation_terms.specs.Fields.{region_field, ty_field, const_field, term_field, trait_ref_field};
+ghost use Rattle.relation_terms.specs.Fields.{alias_term_field};
 ghost use Rattle.relation_terms.specs.declared.terms.parts.predicates.Field.TheVariants.{AliasTerm as AliasTermField};
 ghost use Rattle.relation_terms.specs.declared.terms.parts.predicates.Field.TheVariants.{TraitRef as TraitRefField};
-ghost use Rattle.relation_terms.specs.Fields.{first_in, second_in, fields_tree, FitFields, parts_under};
+ghost use Rattle.relation_terms.specs.Fields.{first_field, second_field, fields_tree, FitFields, parts_under};
 ghost use Rattle.relation_terms.specs.Fields.{MakesClauseOver, MakesPredicateOver};
 
 use crate::predicate::{
@@ -89,7 +90,7 @@ pub fn predicate_fields<X: Copy, D: Copy, N>(kind: &PredicateKind<X, D, N>) -> F
 
 // What a part is, or the given one where the part is of another sort.
 fn region_or<X: Copy, D: Copy>(field: &Field<X, D>, other: &RegionKey<X>) -> RegionKey<X>
-    ensures { result ≡ region_in field.now other.now }
+    ensures { result ≡ region_field field.now other.now }
 {
     match field {
         Field::Region(key) => *key,
@@ -98,7 +99,7 @@ fn region_or<X: Copy, D: Copy>(field: &Field<X, D>, other: &RegionKey<X>) -> Reg
 }
 
 fn ty_or<X: Copy, D: Copy>(field: &Field<X, D>, other: &TyKey<X>) -> TyKey<X>
-    ensures { result ≡ ty_in field.now other.now }
+    ensures { result ≡ ty_field field.now other.now }
 {
     match field {
         Field::Ty(key) => *key,
@@ -107,7 +108,7 @@ fn ty_or<X: Copy, D: Copy>(field: &Field<X, D>, other: &TyKey<X>) -> TyKey<X>
 }
 
 fn const_or<X: Copy, D: Copy>(field: &Field<X, D>, other: &ConstKey<X>) -> ConstKey<X>
-    ensures { result ≡ const_in field.now other.now }
+    ensures { result ≡ const_field field.now other.now }
 {
     match field {
         Field::Const(key) => *key,
@@ -116,7 +117,7 @@ fn const_or<X: Copy, D: Copy>(field: &Field<X, D>, other: &ConstKey<X>) -> Const
 }
 
 fn term_or<X: Copy, D: Copy>(field: &Field<X, D>, other: &TermKind<X>) -> TermKind<X>
-    ensures { result ≡ term_in field.now other.now }
+    ensures { result ≡ term_field field.now other.now }
 {
     match field {
         Field::Ty(key) => TermKind::Ty(*key),
@@ -126,7 +127,7 @@ fn term_or<X: Copy, D: Copy>(field: &Field<X, D>, other: &TermKind<X>) -> TermKi
 }
 
 fn trait_ref_or<X: Copy, D: Copy>(field: &Field<X, D>, other: &TraitRef<X, D>) -> TraitRef<X, D>
-    ensures { result ≡ trait_ref_in field.now other.now }
+    ensures { result ≡ trait_ref_field field.now other.now }
 {
     match field {
         Field::TraitRef(of) => *of,
@@ -135,7 +136,7 @@ fn trait_ref_or<X: Copy, D: Copy>(field: &Field<X, D>, other: &TraitRef<X, D>) -
 }
 
 fn alias_term_or<X: Copy, D: Copy>(field: &Field<X, D>, other: &AliasTerm<X, D>) -> AliasTerm<X, D>
-    ensures { result ≡ alias_term_in field.now other.now }
+    ensures { result ≡ alias_term_field field.now other.now }
 {
     match field {
         Field::AliasTerm(of) => *of,
@@ -145,7 +146,7 @@ fn alias_term_or<X: Copy, D: Copy>(field: &Field<X, D>, other: &AliasTerm<X, D>)
 
 // What stands at a place, or the given one where nothing stands there.
 fn first_or<X: Copy, D: Copy>(fields: &Fields<X, D>, other: Field<X, D>) -> Field<X, D>
-    ensures { result ≡ first_in fields.now other }
+    ensures { result ≡ first_field fields.now other }
 {
     match fields {
         Fields::One(field) => *field,
@@ -155,7 +156,7 @@ fn first_or<X: Copy, D: Copy>(fields: &Fields<X, D>, other: Field<X, D>) -> Fiel
 }
 
 fn second_or<X: Copy, D: Copy>(fields: &Fields<X, D>, other: Field<X, D>) -> Field<X, D>
-    ensures { result ≡ second_in fields.now other }
+    ensures { result ≡ second_field fields.now other }
 {
     match fields {
         Fields::Two(_, field) => *field,
@@ -203,7 +204,7 @@ fn trait_over<X: Copy, D: Copy>(
     fields: &Fields<X, D>,
 ) -> TraitPredicate<X, D>
     ensures trait_ref { let d = TraitRefField of.now.trait_ref in
-        result.trait_ref ≡ trait_ref_in (first_in fields.now d) of.now.trait_ref }
+        result.trait_ref ≡ trait_ref_field (first_field fields.now d) of.now.trait_ref }
     ensures polarity { result.polarity ≡ of.now.polarity }
 {
     let of_trait = &of.trait_ref;
@@ -218,7 +219,7 @@ fn host_effect_over<X: Copy, D: Copy>(
     fields: &Fields<X, D>,
 ) -> HostEffectPredicate<X, D>
     ensures trait_ref { let d = TraitRefField of.now.trait_ref in
-        result.trait_ref ≡ trait_ref_in (first_in fields.now d) of.now.trait_ref }
+        result.trait_ref ≡ trait_ref_field (first_field fields.now d) of.now.trait_ref }
     ensures constness { result.constness ≡ of.now.constness }
 {
     let of_trait = &of.trait_ref;
@@ -234,8 +235,8 @@ fn projection_over<X: Copy, D: Copy>(
     fields: &Fields<X, D>,
 ) -> ProjectionPredicate<X, D>
     ensures alias { let d = AliasTermField of.now.projection_term in
-        result.projection_term ≡ alias_term_in (first_in fields.now d) of.now.projection_term }
-    ensures term { result.term ≡ term_in (second_in fields.now (field_of_term of.now.term)) of.now.term }
+        result.projection_term ≡ alias_term_field (first_field fields.now d) of.now.projection_term }
+    ensures term { result.term ≡ term_field (second_field fields.now (field_of_term of.now.term)) of.now.term }
 {
     let alias = &of.projection_term;
     ProjectionPredicate {
