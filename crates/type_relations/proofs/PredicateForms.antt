@@ -9,7 +9,7 @@ use Rattle.relation_terms.specs.Heads.{existential_sort}
 use Rattle.relation_terms.specs.Trees.{Tree}
 use Rattle.relation_terms.specs.Meaning.{Meaning}
 use Rattle.relation_terms.specs.Parts.{part_tree, part_sort}
-use Rattle.relation_semantics.specs.Making.{same_form}
+use Rattle.relation_semantics.specs.Making.{form_over}
 use Rattle.relation_semantics.specs.Parts.{IsArgPart, IsBinderPart}
 use Rattle.type_relations.specs.PredicateForms.{predicate_form, form_of_part}
 
@@ -50,13 +50,13 @@ module _ {Key Id : Type 0} where
 
 module _ {Key Id Name : Type 0} (m n : Meaning Key Id Name) where
   of_existential : (p : ExistentialPredicate Key Id) (y : Part Key Id) (us : Tree) → part_sort y ≡ existential_sort →
-      part_tree n y ≡ same_form (part_tree m (Existential p)) us → form_of_part y ≡ Some (predicate_form p)
+      part_tree n y ≡ form_over (part_tree m (Existential p)) us → form_of_part y ≡ Some (predicate_form p)
   of_existential (Trait t) (Existential (Trait u)) us s e = refl
   of_existential (Projection t) (Existential (Projection u)) us s e = refl
   of_existential (AutoTrait t) (Existential (AutoTrait u)) us s e = refl
   of_existential p y us s e = absurd (cc)
 
   pub made_form : (x y : Part Key Id) (us : Tree) → part_sort y ≡ part_sort x →
-      part_tree n y ≡ same_form (part_tree m x) us → form_of_part y ≡ form_of_part x
+      part_tree n y ≡ form_over (part_tree m x) us → form_of_part y ≡ form_of_part x
   made_form (Existential p) y us s e = of_existential p y us s e
   made_form x y us s e = neither_form x y (λ k. absurd (cc)) s
