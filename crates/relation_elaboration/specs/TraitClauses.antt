@@ -1,5 +1,5 @@
 -- Which trait a clause is of.
-use Rattle.std.specs.Prelude.{ℕ, Option, None, option_map}
+use Rattle.std.specs.Prelude.{◌≡◌, ℕ, Option, None, option_map}
 use Rattle.relation_terms.specs.Heads.{Head, trait_ref, trait_clause}
 use Rattle.relation_terms.specs.Trees.{Tree, node, bind}
 use Rattle.relation_terms.specs.Meaning.{Meaning}
@@ -25,3 +25,8 @@ trait_named t = None
 -- The trait of a trait reference, by its number.
 abbrev pub trait_number : {Key Id Name : Type 0} → Meaning Key Id Name → Binder Key (TraitRef Key Id) → ℕ
 trait_number m b = m.id ((b.value).def_id).0
+
+-- The trait reference, where there is one, names the trait that the clause does.
+abbrev pub NamesTrait : {Key Id Name : Type 0} → Meaning Key Id Name → Option (Binder Key (TraitRef Key Id)) →
+    Tree → Type 0
+NamesTrait m b clause = option_map (trait_number m) b ≡ trait_named clause

@@ -2,7 +2,7 @@
 ghost use Rattle.std.specs.Prelude.{◌≡◌, IsTrue, IfSome, option_map};
 ghost use Rattle.relation_terms.specs.Trees.{known};
 ghost use Rattle.relation_terms.specs.Owned.{bound_tree};
-ghost use Rattle.relation_elaboration.specs.TraitClauses.{trait_number, reference_of, trait_named};
+ghost use Rattle.relation_elaboration.specs.TraitClauses.{reference_of, NamesTrait};
 
 use crate::children::BoundTraitRef;
 use relation_terms::predicate::ClauseKind;
@@ -13,7 +13,7 @@ pub fn trait_reference<I: Interner>(cx: &I, clause: &Clause<I>) -> Option<BoundT
     requires { IsTrue (known ((I.meaning cx.now).clause clause.now)) }
     ensures is { let m = I.meaning cx.now in option_map (bound_tree m) result ≡ reference_of (m.clause clause.now) }
     ensures sure { IfSome result (λ b. IsTrue (known (bound_tree (I.meaning cx.now) b))) }
-    ensures names { let m = I.meaning cx.now in option_map (trait_number m) result ≡ trait_named (m.clause clause.now) }
+    ensures names { let m = I.meaning cx.now in NamesTrait m result (m.clause clause.now) }
 {
     let Binder { value, bound_vars } = cx.clause_kind(clause);
     match value {

@@ -1,5 +1,5 @@
 -- What is compared of types besides their parts.
-use Rattle.std.specs.Prelude.{◌≡◌, ℕ, Some, None}
+use Rattle.std.specs.Prelude.{◌≡◌, ℕ, Option, Some, None}
 use Rattle.term_enums.specs.declared.Mutability.{Mutability}
 use Rattle.term_enums.specs.declared.Mutability.TheVariants.{Not}
 use Rattle.relation_terms.specs.Heads.{Head, adt, fn_def, closure, coroutine_closure, coroutine, coroutine_witness}
@@ -25,6 +25,10 @@ form_alone form = of_pointer form Not
 
 abbrev pub of_item : {D : Type 0} → Form → D → Outline D
 of_item form d = record { form = form; item = Some d; mutability = Not }
+
+-- Two are one item, by their numbers, or there is none of both.
+abbrev pub IsOneItem : {D : Type 0} → (D → ℕ) → Option D → Option D → Type 0
+IsOneItem number i j = id_number number i ≡ id_number number j
 
 -- The outline with the number of its item.
 abbrev pub named_outline : {D : Type 0} → (D → ℕ) → Outline D → Outline ℕ

@@ -3,8 +3,8 @@ ghost use Rattle.std.specs.Prelude.{◌≡◌, ◌↔◌, IsTrue};
 ghost use Rattle.relation_terms.specs.Trees.{known};
 ghost use Rattle.relation_terms.specs.Meaning.{Meaning, kind_tree};
 ghost use Rattle.relation_semantics.specs.Relation.{IsError};
-ghost use Rattle.relation_folds.specs.Outlines.{id_number};
-ghost use Rattle.type_relations.specs.Forms.{form_alone, of_item, of_pointer, named_outline, tree_outline, IsFixed};
+ghost use Rattle.type_relations.specs.Forms.{form_alone, of_item, of_pointer, named_outline, tree_outline};
+ghost use Rattle.type_relations.specs.Forms.{IsFixed, IsOneItem};
 
 use relation_semantics::variances::alias_item;
 use relation_terms::terms::{Const, ConstKind, Interner, Mutability, Ty, TyForm, TyKind};
@@ -145,7 +145,7 @@ pub(crate) fn has_fixed_parts(form: Form) -> bool
 
 // Whether two outlines are of one item, or both of none.
 pub(crate) fn is_same_item<I: Interner>(cx: &I, item: &Option<I::Id>, other: &Option<I::Id>) -> bool
-    ensures { IsTrue result ↔ (id_number (I.meaning cx.now).id item.now ≡ id_number (I.meaning cx.now).id other.now) }
+    ensures { IsTrue result ↔ IsOneItem (I.meaning cx.now).id item.now other.now }
 {
     let _ = cx;
     match item {
