@@ -159,7 +159,8 @@ depth_inside t d = d
 -- on the path takes one from the depth. Parameters may stand for others on the left where `l`, on the right where `r`.
 pub data Clash (l r : Bool) : ℕ → Tree → Tree → Type 0 where
   -- two types of unlike forms of which neither may stand for others, with depth left
-  unlike_types : {d : ℕ} {a b : Tree} → AreOf type_sort a b → AreRigid l r a b → (OneOutline a b → ⊥) → Clash l r (suc d) a b
+  unlike_types : {d : ℕ} {a b : Tree} → AreOf type_sort a b → AreRigid l r a b → (OneOutline a b → ⊥) →
+      Clash l r (suc d) a b
   -- an integer or a float variable and a type known to be no such number: on the left with depth left, on the right
   -- always
   left_number : {d : ℕ} {a b : Tree} → AreOf type_sort a b → may_stand a b ≡ false → Clash l r (suc d) a b
@@ -170,8 +171,8 @@ pub data Clash (l r : Bool) : ℕ → Tree → Tree → Type 0 where
   -- through the parts of two types of like forms, and of two constants
   in_types : {d : ℕ} {a b : Tree} → AreOf type_sort a b → AreRigid l r a b → OneOutline a b →
       Clash l r (depth_inside a d) (parts_of a) (parts_of b) → Clash l r (suc d) a b
-  in_consts : {d : ℕ} {a b : Tree} {s : Sort} → is_const_sort s ≡ true → AreOf s a b → AreRigid l r a b → OneOutline a b →
-      Clash l r d (parts_of a) (parts_of b) → Clash l r d a b
+  in_consts : {d : ℕ} {a b : Tree} {s : Sort} → is_const_sort s ≡ true → AreOf s a b → AreRigid l r a b →
+      OneOutline a b → Clash l r d (parts_of a) (parts_of b) → Clash l r d a b
   -- through a binder, a signature, its inputs
   between : {d : ℕ} {a b : Tree} → is_between (tree_sort a) ≡ true → Clash l r d (parts_of a) (parts_of b) →
       Clash l r d a b

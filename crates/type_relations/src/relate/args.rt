@@ -198,20 +198,19 @@ fn make_over<
     I: Interner,
     R: TypeRelation<I>,
     F: FnOnce(&mut I, GenericArgs<I>) -> Result<Ty<I>, OutOfMemory>,
->(r: &mut R, form: &Ty<I>, args: GenericArgs<I>, mk: F) -> RelateResult<I, Ty<I>>
+>(r: &mut R, _form: &Ty<I>, args: GenericArgs<I>, mk: F) -> RelateResult<I, Ty<I>>
     requires lawful { (R.state r.old).lawful }
     requires args_known { IsTrue (known ((R.state r.old).meaning.args args)) }
     requires callable { TakesLists (λ x. I.meaning x.now) (R.state r.old) (F.pre mk) }
     requires grows { GrowsByCall (λ x. I.meaning x.now) (λ x. I.meaning x.now) (F.post mk) }
-    requires makes { MakesOverList (λ x. I.meaning x.now) (λ x. I.meaning x.now) (R.state r.old) form.now (F.post mk) }
+    requires makes { MakesOverList (λ x. I.meaning x.now) (λ x. I.meaning x.now) (R.state r.old) _form.now (F.post mk) }
     ensures extends { Extends (R.state r.old).meaning (R.state r.new).meaning }
     ensures grown { WithMeaning (R.state r.old) (R.state r.new).meaning (R.state r.new) }
     ensures fault { OnlyMemory result }
     ensures sure { IfOk result (λ k. IsTrue (known ((R.state r.new).meaning.ty k))) }
     ensures means { let m = (R.state r.old).meaning in
-        IfOk result (λ k. (R.state r.new).meaning.ty k ≡ node (head_of (m.ty form.now)) (m.args args)) }
+        IfOk result (λ k. (R.state r.new).meaning.ty k ≡ node (head_of (m.ty _form.now)) (m.args args)) }
 {
-    let _ = form;
     r.interner_grows();
     let made = mk(r.cx_mut(), args)?;
     Ok(made)

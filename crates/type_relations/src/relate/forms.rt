@@ -144,10 +144,9 @@ pub(crate) fn has_fixed_parts(form: Form) -> bool
 }
 
 // Whether two outlines are of one item, or both of none.
-pub(crate) fn is_same_item<I: Interner>(cx: &I, item: &Option<I::Id>, other: &Option<I::Id>) -> bool
-    ensures { IsTrue result ↔ IsOneItem (I.meaning cx.now).id item.now other.now }
+pub(crate) fn is_same_item<I: Interner>(_cx: &I, item: &Option<I::Id>, other: &Option<I::Id>) -> bool
+    ensures { IsTrue result ↔ IsOneItem (I.meaning _cx.now).id item.now other.now }
 {
-    let _ = cx;
     match item {
         Some(item) => match other {
             Some(other) => item == other,

@@ -33,12 +33,11 @@ fn as_parts<X: Copy, D: Copy>(
 }
 
 // Whether an argument is a part, by their keys.
-fn is_part<I: Interner>(cx: &I, arg: &GenericArg<I>, part: &PartOf<I>) -> bool
-    requires arg_known { IsTrue (known (arg_tree (I.meaning cx.now) arg.now)) }
-    requires part_known { IsTrue (known (part_tree (I.meaning cx.now) part.now)) }
-    ensures { IsTrue result → arg_tree (I.meaning cx.now) arg.now ≡ part_tree (I.meaning cx.now) part.now }
+fn is_part<I: Interner>(_cx: &I, arg: &GenericArg<I>, part: &PartOf<I>) -> bool
+    requires arg_known { IsTrue (known (arg_tree (I.meaning _cx.now) arg.now)) }
+    requires part_known { IsTrue (known (part_tree (I.meaning _cx.now) part.now)) }
+    ensures { IsTrue result → arg_tree (I.meaning _cx.now) arg.now ≡ part_tree (I.meaning _cx.now) part.now }
 {
-    let _ = cx;
     match arg {
         GenericArgKind::Lifetime(region) => match part {
             Part::Region(other) => region == other,

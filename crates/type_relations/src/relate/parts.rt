@@ -56,14 +56,12 @@ pub(crate) fn the_object<X: Copy, D: Copy>(part: &Part<X, D>) -> ExistentialPred
 
 // The list of the parts of a type, whose form is `kind`.
 #[inline(always)]
-pub(crate) fn parts_in<I: Interner>(cx: &I, ty: &Ty<I>, kind: &TyForm<I>) -> PartsOf<I>
-    requires known { IsTrue (known ((I.meaning cx.now).ty ty.now)) }
-    requires form { (I.meaning cx.now).ty ty.now ≡ kind_tree (I.meaning cx.now) kind.now }
-    ensures sure { IsTrue (known (parts_tree (I.meaning cx.now) result)) }
-    ensures means { parts_tree (I.meaning cx.now) result ≡ own_parts ((I.meaning cx.now).ty ty.now) }
+pub(crate) fn parts_in<I: Interner>(_cx: &I, _ty: &Ty<I>, kind: &TyForm<I>) -> PartsOf<I>
+    requires known { IsTrue (known ((I.meaning _cx.now).ty _ty.now)) }
+    requires form { (I.meaning _cx.now).ty _ty.now ≡ kind_tree (I.meaning _cx.now) kind.now }
+    ensures sure { IsTrue (known (parts_tree (I.meaning _cx.now) result)) }
+    ensures means { parts_tree (I.meaning _cx.now) result ≡ own_parts ((I.meaning _cx.now).ty _ty.now) }
 {
-    let _ = cx;
-    let _ = ty;
     ty_parts(kind)
 }
 

@@ -235,17 +235,16 @@ pub(crate) fn const_variance_at<I: Interner, R: TypeRelation<I>>(
 // The variance at which the part of a term at a place is related, seen from the term's own, where the term is related
 // by its parts.
 pub(crate) fn term_variance_at<I: Interner, R: TypeRelation<I>>(
-    r: &R,
+    _r: &R,
     term: &PartOf<I>,
     i: usize,
 ) -> Variance
-    requires known { IsTrue (known (part_tree (R.state r.now).meaning term.now)) }
-    requires form { IsByParts (part_tree (R.state r.now).meaning term.now) }
-    requires in_bounds { i < count (own_parts (part_tree (R.state r.now).meaning term.now)) }
-    ensures { let q = R.state r.now in
+    requires known { IsTrue (known (part_tree (R.state _r.now).meaning term.now)) }
+    requires form { IsByParts (part_tree (R.state _r.now).meaning term.now) }
+    requires in_bounds { i < count (own_parts (part_tree (R.state _r.now).meaning term.now)) }
+    ensures { let q = R.state _r.now in
         xform q.ambient result ≡ part_in q (head_of (part_tree q.meaning term.now)) i }
 {
-    let _ = r;
     match term {
         Part::Signature(_) => {
             if i == 0 {

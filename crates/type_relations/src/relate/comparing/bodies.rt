@@ -23,14 +23,13 @@ use relation_terms::terms::{ExistentialPredicates, FnSig, Interner, Part, PartOf
 /// Answers `VariadicMismatch`, `SafetyMismatch` or `AbiMismatch`, by the first of these in which they differ. Upstream
 /// these cases stand in the `relate` of signatures.
 pub fn compare_signatures<I: Interner>(
-    cx: &I,
+    _cx: &I,
     a: &FnSig<I::Key>,
     b: &FnSig<I::Key>,
 ) -> Result<(), TypeErrorOf<I>>
-    ensures alike { OnOk result (AreOfOneFormBy signature_tree (I.meaning cx.now) a.now b.now) }
-    ensures errors { IfErr result (SignaturesDiffer (I.meaning cx.now) a.now b.now) }
+    ensures alike { OnOk result (AreOfOneFormBy signature_tree (I.meaning _cx.now) a.now b.now) }
+    ensures errors { IfErr result (SignaturesDiffer (I.meaning _cx.now) a.now b.now) }
 {
-    let _ = cx;
     let left = a.header;
     let right = b.header;
     if left.c_variadic != right.c_variadic {
@@ -121,16 +120,15 @@ pub fn compare_existentials<I: Interner>(
 
 // Whether two predicates of trait objects are of one form.
 fn are_alike_existentials<I: Interner>(
-    cx: &I,
+    _cx: &I,
     a: &ExistentialPredicate<I::Key, I::Id>,
     b: &ExistentialPredicate<I::Key, I::Id>,
 ) -> bool
-    ensures alike { let m = I.meaning cx.now in
+    ensures alike { let m = I.meaning _cx.now in
         IsTrue result → AreAlikeExistentials (existential_tree m a.now) (existential_tree m b.now) }
-    ensures unlike { let m = I.meaning cx.now in
+    ensures unlike { let m = I.meaning _cx.now in
         IsFalse result → AreAlikeExistentials (existential_tree m a.now) (existential_tree m b.now) → ⊥ }
 {
-    let _ = cx;
     match a {
         ExistentialPredicate::Trait(_) => {
             let ExistentialPredicate::Trait(_) = b else {

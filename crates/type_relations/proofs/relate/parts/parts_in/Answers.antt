@@ -9,10 +9,10 @@ use Rattle.type_relations.proofs.relate.parts.parts_in.Goals as goal
 
 pub returns : goal.returns
 returns g c =
-    let m = g.I.Interner.meaning c.args.cx.now in
-    let t = m.ty c.args.ty.now in
+    let m = g.I.Interner.meaning c.args._cx.now in
+    let t = m.ty c.args._ty.now in
     let v = c.ty_parts.result in
-    let is = (g.met.I.Interner.sorted c.args.cx.now).ty c.args.ty.now c.requires.known in
+    let is = (g.met.I.Interner.sorted c.args._cx.now).ty c.args._ty.now c.requires.known in
     let seen = ty_seen m v t c.args.kind.now c.requires.form c.ty_parts.ensures in
     record {
       sure = knows_as (list_of_parts t) (parts_tree m v) seen (known_parts t c.requires.known);
