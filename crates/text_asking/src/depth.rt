@@ -109,6 +109,9 @@ fn push_said(numbers: &[usize], says: &Says, found: &mut Vec<usize>) -> Result<(
 
 // By how many levels the terms of what a trait states are deeper at most than those that it is stated of.
 fn growth_of(alloc: Global, program: &Program) -> Result<usize, AllocError> {
+    if program.stated.is_empty() {
+        return Ok(0);
+    }
     let levels = parameter_levels(alloc, program)?;
     let mut terms = Vec::new(alloc);
     for stated in &program.stated {
@@ -158,6 +161,19 @@ fn open_terms(alloc: Global, program: &Program) -> Result<Vec<bool>, AllocError>
         open.push(is)?;
     }
     Ok(open)
+}
+
+// Whether terms are related by a question of a program.
+fn relates(program: &Program) -> bool {
+    for question in &program.questions {
+        if matches!(
+            &question.kind,
+            QuestionKind::Relate { .. } | QuestionKind::RelateArgs { .. }
+        ) {
+            return true;
+        }
+    }
+    false
 }
 
 // The numbers of the terms that are related.
@@ -271,7 +287,12 @@ impl Depths {
     /// # Errors
     /// `AllocError` where a growth was refused.
     pub(super) fn new(alloc: Global, program: &Program) -> Result<Depths, AllocError> {
-        let open = open_terms(alloc, program)?;
+        // Only where terms are related is it asked what is open.
+        let open = if relates(program) {
+            open_terms(alloc, program)?
+        } else {
+            Vec::new(alloc)
+        };
         let growth = growth_of(alloc, program)?;
         let mut marks = Vec::with_capacity(alloc, open.len())?;
         for _ in &open {
