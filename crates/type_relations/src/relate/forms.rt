@@ -144,7 +144,11 @@ pub(crate) fn has_fixed_parts(form: Form) -> bool
 }
 
 // Whether two outlines are of one item, or both of none.
-pub(crate) fn is_same_item<I: Interner>(_cx: &I, item: &Option<I::Id>, other: &Option<I::Id>) -> bool
+pub(crate) fn is_same_item<I: Interner>(
+    _cx: &I,
+    item: &Option<I::Id>,
+    other: &Option<I::Id>,
+) -> bool
     ensures { IsTrue result ↔ IsOneItem (I.meaning _cx.now).id item.now other.now }
 {
     match item {
