@@ -13,14 +13,14 @@ abbrev pub TakesLists : {B Key Id Name : Type 0} → (B → Meaning Key Id Name)
 TakesLists {B} {Key} before r pre = (cx : B) (list : ArgsKey Key) → Extends r.meaning (before cx) →
     IsTrue (known ((before cx).args list)) → pre cx list
 
-module _ {B C E Key Id Name : Type 0} (before : B → Meaning Key Id Name) (after : C → Meaning Key Id Name) where
+module _ {B E Key Id Name : Type 0} (means : B → Meaning Key Id Name) where
   -- The interner only grows.
-  abbrev pub GrowsByCall : (B → ArgsKey Key → Result (TyKey Key) E → C → Type 0) → Type 0
-  GrowsByCall post = (cx : B) (list : ArgsKey Key) (res : Result (TyKey Key) E) (left : C) → post cx list res left →
-      Extends (before cx) (after left)
+  abbrev pub GrowsByCall : (B → ArgsKey Key → Result (TyKey Key) E → B → Type 0) → Type 0
+  GrowsByCall post = (cx : B) (list : ArgsKey Key) (res : Result (TyKey Key) E) (left : B) → post cx list res left →
+      Extends (means cx) (means left)
 
   -- It makes, with an interner that has grown, a type of that one's form over the list.
-  abbrev pub MakesOverList : State Key Id Name → TyKey Key → (B → ArgsKey Key → Result (TyKey Key) E → C → Type 0) →
+  abbrev pub MakesOverList : State Key Id Name → TyKey Key → (B → ArgsKey Key → Result (TyKey Key) E → B → Type 0) →
       Type 0
-  MakesOverList r form post = (cx : B) (list : ArgsKey Key) (res : Result (TyKey Key) E) (left : C) →
-      Extends r.meaning (before cx) → post cx list res left → IsMadeOver r form (before cx) list (after left) res
+  MakesOverList r form post = (cx : B) (list : ArgsKey Key) (res : Result (TyKey Key) E) (left : B) →
+      Extends r.meaning (means cx) → post cx list res left → IsMadeOver r form (means cx) list (means left) res

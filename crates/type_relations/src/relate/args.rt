@@ -202,8 +202,8 @@ fn make_over<
     requires lawful { (R.state r.old).lawful }
     requires args_known { IsTrue (known ((R.state r.old).meaning.args args)) }
     requires callable { TakesLists (λ x. I.meaning x.now) (R.state r.old) (F.pre mk) }
-    requires grows { GrowsByCall (λ x. I.meaning x.now) (λ x. I.meaning x.now) (F.post mk) }
-    requires makes { MakesOverList (λ x. I.meaning x.now) (λ x. I.meaning x.now) (R.state r.old) _form.now (F.post mk) }
+    requires grows { GrowsByCall (λ x. I.meaning x.now) (F.post mk) }
+    requires makes { MakesOverList (λ x. I.meaning x.now) (R.state r.old) _form.now (F.post mk) }
     ensures extends { Extends (R.state r.old).meaning (R.state r.new).meaning }
     ensures grown { WithMeaning (R.state r.old) (R.state r.new).meaning (R.state r.new) }
     ensures fault { OnlyMemory result }
@@ -265,8 +265,8 @@ pub fn relate_ty_args<
     requires over { AreOver (R.state r.old) def_id.now a_ty.now b_ty.now a_args.now b_args.now }
     requires as_many { AreAsMany (R.state r.old) a_args.now b_args.now }
     requires callable { TakesLists (λ x. I.meaning x.now) (R.state r.old) (F.pre mk) }
-    requires grows { GrowsByCall (λ x. I.meaning x.now) (λ x. I.meaning x.now) (F.post mk) }
-    requires makes { MakesOverList (λ x. I.meaning x.now) (λ x. I.meaning x.now) (R.state r.old) a_ty.now (F.post mk) }
+    requires grows { GrowsByCall (λ x. I.meaning x.now) (F.post mk) }
+    requires makes { MakesOverList (λ x. I.meaning x.now) (R.state r.old) a_ty.now (F.post mk) }
     ensures { RelatedTerms R.manner None (λ m. m.ty) (R.state r.old) (R.state r.new) a_ty.now b_ty.now result }
 {
     let variances = item_variances::<I, R>(r, a_ty, def_id);
