@@ -5,12 +5,12 @@ ghost use Rattle.std.specs.Map.{lookup};
 ghost use Rattle.delayed_map.specs.Delayed.{TellsNewKey, PutsValue};
 
 use crate::CACHE_CUTOFF;
-use relation_terms::hashing::KeyHasher;
-use relation_terms::terms::OutOfMemory;
 use std::alloc::{Allocator, Global};
 use std::collections::HashMap;
 use std::hash::{BuildHasherDefault, Hash};
 use std::marker::Model;
+use term_enums::OutOfMemory;
+use term_enums::hashing::KeyHasher;
 
 /// A map that lets its first 32 insertions go, and keeps the later ones.
 #[derive(Drop)]

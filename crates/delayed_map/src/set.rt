@@ -5,12 +5,12 @@ ghost use Rattle.delayed_map.specs.Delayed.{TellsNew, PutsMember};
 
 use crate::CACHE_CUTOFF;
 use crate::widening::widen;
-use relation_terms::hashing::KeyHasher;
-use relation_terms::terms::OutOfMemory;
 use std::alloc::{Allocator, Global};
 use std::collections::HashSet;
 use std::hash::{BuildHasherDefault, Hash};
 use std::marker::Model;
+use term_enums::OutOfMemory;
+use term_enums::hashing::KeyHasher;
 
 /// A set that lets its first 32 insertions go, and keeps the later ones.
 #[derive(Drop)]

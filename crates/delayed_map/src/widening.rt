@@ -3,10 +3,10 @@ ghost use Rattle.std.specs.Prelude.{◌≡◌, ◌≤◌, Contains, OnOk};
 ghost use Rattle.std.specs.HashSet.{spare};
 ghost use Rattle.std.specs.List.{list_any};
 
-use relation_terms::terms::OutOfMemory;
 use std::alloc::Allocator;
 use std::collections::HashSet;
 use std::hash::{BuildHasher, Hash};
+use term_enums::OutOfMemory;
 
 // The least number of elements that a full set makes room for: by itself it has room for nine at first.
 const LEAST: usize = 63;

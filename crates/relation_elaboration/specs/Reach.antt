@@ -4,7 +4,7 @@ use Rattle.std.specs.Prelude.{Option, Some, None, Result, Ok, Err}
 use Rattle.std.specs.List.{Contains, filter_map}
 use Rattle.relation_terms.specs.Meaning.{Meaning}
 use Rattle.relation_terms.specs.declared.terms.ids.TraitId.{TraitId}
-use Rattle.relation_terms.specs.declared.terms.interner.OutOfMemory.{OutOfMemory}
+use Rattle.term_enums.specs.declared.memory.OutOfMemory.{OutOfMemory}
 use Rattle.relation_elaboration.specs.Children.{Statements}
 use Rattle.relation_elaboration.specs.Runs.{IsDistinct}
 use Rattle.relation_elaboration.specs.Statements.{statements}

@@ -16,8 +16,8 @@ use Rattle.relation_terms.specs.Interning.{AreEqualAsTrees}
 use Rattle.relation_terms.specs.Meaning.{Meaning, Extends, kind_tree, infer_tree}
 use Rattle.relation_terms.specs.Parts.{tree_sort, parts_of}
 use Rattle.relation_terms.proofs.Stays.{knows_as}
-use Rattle.relation_semantics.specs.declared.relate.StructurallyRelateAliases.{StructurallyRelateAliases}
-use Rattle.relation_semantics.specs.declared.relate.StructurallyRelateAliases.TheVariants.{Yes, No}
+use Rattle.term_enums.specs.declared.StructurallyRelateAliases.{StructurallyRelateAliases}
+use Rattle.term_enums.specs.declared.StructurallyRelateAliases.TheVariants.{Yes, No}
 use Rattle.relation_semantics.specs.Stores.{Store}
 use Rattle.relation_semantics.specs.Generalising.{Stays, gives_way_to, Side, inside, outside, cycle, beyond, IsNoObstacle, IsSeen, StopsAt, at_itself, at_placeholder}
 use Rattle.relation_semantics.proofs.Lists.{firsts, firsts_all}

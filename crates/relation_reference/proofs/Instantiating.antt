@@ -18,7 +18,7 @@ use Rattle.relation_semantics.specs.Bound.{BindByLists}
 use Rattle.relation_semantics.specs.ErasureLaws.{IsTypeOrConst}
 use Rattle.relation_semantics.specs.Stores.{Store, unbound, bound_to, entry_of, universe_of, IsMade, MayStandFor, InContext, IsTermIn, resolved}
 use Rattle.relation_semantics.specs.Steps.{BindsTo}
-use Rattle.relation_semantics.specs.declared.relate.StructurallyRelateAliases.{StructurallyRelateAliases}
+use Rattle.term_enums.specs.declared.StructurallyRelateAliases.{StructurallyRelateAliases}
 use Rattle.relation_semantics.specs.Generalising.{gives_way_to, Side, outside, Stage, Turn, any_part, new_part, Generalised, met_before, met_first, no_type, stays, gives_way, alias_gives_way, by_parts, in_binder, variance_for, InstantiatesBy, MakesUnbound, makes_none, Obstacle, cycle, beyond, StopsAt}
 use Rattle.relation_semantics.specs.ContextCalls.{Instantiated, ObstacleError}
 use Rattle.relation_semantics.proofs.NewVariables.{Adds, adds}

@@ -12,7 +12,7 @@ use Rattle.relation_terms.specs.Trees.{Tree, leaf}
 use Rattle.relation_terms.specs.Meaning.{Meaning}
 use Rattle.relation_folds.specs.declared.error.TypeError.TheVariants.{CyclicTy, CyclicConst}
 use Rattle.relation_folds.specs.declared.error.RelateFault.{RelateFault}
-use Rattle.relation_semantics.specs.declared.relate.StructurallyRelateAliases.{StructurallyRelateAliases}
+use Rattle.term_enums.specs.declared.StructurallyRelateAliases.{StructurallyRelateAliases}
 use Rattle.relation_semantics.specs.Binders.{kinds_in, MakesFirst}
 use Rattle.relation_semantics.specs.Binders.{binder_tree, EntersAs, EntersBinder, InstantiatesAs, InstantiatesWithInfer}
 use Rattle.relation_semantics.specs.ContextCalls.{Instantiated}

@@ -3,8 +3,8 @@ use Rattle.std.proofs.Common.{◌≡◌, ◌⊎◌, ℕ, suc, ◌+◌, ◌*◌, 
 use Rattle.std.proofs.Math.Nat.{mul-suc, suc-mul}
 use Rattle.relation_terms.specs.Heads.{VarKind, type_var, const_var, region_var, region_kind, bound_kind, Leaf, variable, placeholder, atom, static_region, early_region}
 use Rattle.relation_terms.specs.Trees.{Tree, leaf}
-use Rattle.relation_semantics.specs.declared.relate.StructurallyRelateAliases.{StructurallyRelateAliases}
-use Rattle.relation_semantics.specs.declared.relate.StructurallyRelateAliases.TheVariants.{No}
+use Rattle.term_enums.specs.declared.StructurallyRelateAliases.{StructurallyRelateAliases}
+use Rattle.term_enums.specs.declared.StructurallyRelateAliases.TheVariants.{No}
 use Rattle.relation_semantics.specs.Relation.{IsAlias}
 use Rattle.relation_semantics.specs.Stores.{Store, Entry, unbound, same_as, bound_to, entry_of, entry_term, bound_term}
 use Rattle.relation_semantics.specs.Steps.{LeadsTo, here, next}

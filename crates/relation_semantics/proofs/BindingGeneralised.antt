@@ -14,7 +14,7 @@ use Rattle.relation_semantics.specs.StoreLaws.{GeneralisingInstantiates}
 use Rattle.relation_semantics.specs.Steps.{IsLater, AgreeOn, AgreeErased, HasExtension, HasErasedExtension, IsGeneralised, kept, replaced, in_form, in_binder, in_list, IsNamedBy, Instantiates, IsNoAlias, LacksAliases}
 use Rattle.relation_semantics.specs.ErasureLaws.{IsTypeOrConst}
 use Rattle.relation_semantics.specs.Measures.{Goes, grown}
-use Rattle.relation_semantics.specs.declared.relate.StructurallyRelateAliases.{StructurallyRelateAliases}
+use Rattle.term_enums.specs.declared.StructurallyRelateAliases.{StructurallyRelateAliases}
 use Rattle.relation_semantics.specs.Generalising.{Stage, Stays, gives_way_to, Side, outside, Turn, any_part, variance_for, Generalised, met_before, met_first, no_type, stays, gives_way, alias_gives_way, by_parts, in_binder as in_bound, no_parts, next_part, InstantiatesBy, NumbersNameNothing, IsNoObstacle, Obstacle, StopsAt, at_itself, at_placeholder, in_parts, in_body, in_first, in_others}
 use Rattle.relation_semantics.proofs.GeneralisingOnce.{stops_no_clear, met_as}
 use Rattle.relation_semantics.proofs.Trees.{Leaves_map, Leaves_map₂, apply-apply}

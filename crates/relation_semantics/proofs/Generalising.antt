@@ -10,8 +10,8 @@ use Rattle.relation_terms.specs.Erasure.{erase}
 use Rattle.relation_semantics.specs.Relation.{Items, part_at}
 use Rattle.relation_semantics.specs.Stores.{Store, entry_term, universe_of, IsMade, IsFree, IsMadeLeaf, IsInScope, IsSound}
 use Rattle.relation_semantics.specs.Steps.{MakesVariable, IsNumberKind, AgreeOn, IsNamedBy, LacksAliases}
-use Rattle.relation_semantics.specs.declared.relate.StructurallyRelateAliases.{StructurallyRelateAliases}
-use Rattle.relation_semantics.specs.declared.relate.StructurallyRelateAliases.TheVariants.{Yes}
+use Rattle.term_enums.specs.declared.StructurallyRelateAliases.{StructurallyRelateAliases}
+use Rattle.term_enums.specs.declared.StructurallyRelateAliases.TheVariants.{Yes}
 use Rattle.relation_semantics.specs.Generalising.{Stays, gives_way_to, Stage, Side, outside, side_in, Turn, any_part, new_part, parts_from, Generalised, met_before, met_first, no_type, stays, gives_way, alias_gives_way, by_parts, in_binder, no_parts, next_part, Obstacle, StopsAt, MakesUnbound, makes_none, makes_one, NumbersNameNothing}
 use Rattle.relation_semantics.proofs.Trees.{Leaves_map}
 use Rattle.relation_semantics.proofs.Values.{same_value, in_context}

@@ -7,8 +7,8 @@ use Rattle.relation_semantics.specs.Relation.{Items}
 use Rattle.relation_semantics.specs.Stores.{Store, unbound}
 use Rattle.relation_semantics.specs.Steps.{MakesVariable}
 use Rattle.relation_semantics.specs.StoreLaws.{GeneralisingIsOne}
-use Rattle.relation_semantics.specs.declared.relate.StructurallyRelateAliases.{StructurallyRelateAliases}
-use Rattle.relation_semantics.specs.declared.relate.StructurallyRelateAliases.TheVariants.{No}
+use Rattle.term_enums.specs.declared.StructurallyRelateAliases.{StructurallyRelateAliases}
+use Rattle.term_enums.specs.declared.StructurallyRelateAliases.TheVariants.{No}
 use Rattle.relation_semantics.specs.Generalising.{Met, Stage, Side, Turn, any_part, new_part, parts_from, Generalised, met_before, met_first, no_type, stays, gives_way, alias_gives_way, by_parts, in_binder, no_parts, next_part, IsSeen, IsNoObstacle, Obstacle, StopsAt, at_itself, at_placeholder, in_parts, in_body, in_first, in_others}
 
 abbrev pub met_as : Side → Variance → Tree → Tree → Met

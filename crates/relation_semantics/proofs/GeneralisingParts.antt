@@ -6,7 +6,7 @@ use Rattle.relation_terms.specs.Trees.{Tree, leaf, node, bind, nil, cons, IsList
 use Rattle.relation_terms.specs.Parts.{parts_of, over}
 use Rattle.relation_semantics.specs.Relation.{Items, part_at}
 use Rattle.relation_semantics.specs.Stores.{Store}
-use Rattle.relation_semantics.specs.declared.relate.StructurallyRelateAliases.{StructurallyRelateAliases}
+use Rattle.term_enums.specs.declared.StructurallyRelateAliases.{StructurallyRelateAliases}
 use Rattle.relation_semantics.specs.Generalising.{Stage, Side, side_in, GoesInto, any_part, new_part, parts_from, variance_of_part, Generalised, by_parts, in_binder, no_parts, next_part}
 use Rattle.relation_semantics.proofs.Lists.{firsts, snoc, firsts_more, firsts_all}
 

@@ -9,7 +9,7 @@ use Rattle.relation_terms.specs.declared.terms.numbers.UniverseIndex.{UniverseIn
 use Rattle.relation_terms.specs.declared.terms.keys.ConstKey.{ConstKey}
 use Rattle.term_enums.specs.declared.Variance.TheVariants.{Invariant}
 use Rattle.relation_terms.specs.declared.terms.numbers.TyVid.{TyVid}
-use Rattle.relation_semantics.specs.declared.relate.StructurallyRelateAliases.{StructurallyRelateAliases}
+use Rattle.term_enums.specs.declared.StructurallyRelateAliases.{StructurallyRelateAliases}
 use Rattle.relation_terms.specs.declared.terms.numbers.ConstVid.{ConstVid}
 use Rattle.relation_terms.specs.Heads.{VarKind, type_var, const_var, variable}
 use Rattle.relation_terms.specs.Trees.{Tree, leaf, known, apply}

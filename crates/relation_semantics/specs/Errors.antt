@@ -31,7 +31,7 @@ use Rattle.relation_folds.specs.declared.error.TypeError.TheVariants.{Sorts, Cyc
 use Rattle.relation_folds.specs.declared.error.TypeError.TheVariants.{ArgumentSorts, ArgumentMutability, ProjectionMismatched}
 use Rattle.relation_folds.specs.declared.error.TypeError.TheVariants.{VariadicMismatch, SafetyMismatch, AbiMismatch, ArgCount}
 use Rattle.relation_folds.specs.declared.error.TypeError.TheVariants.{Traits, PolarityMismatch, ExistentialMismatch}
-use Rattle.relation_semantics.specs.declared.relate.StructurallyRelateAliases.{StructurallyRelateAliases}
+use Rattle.term_enums.specs.declared.StructurallyRelateAliases.{StructurallyRelateAliases}
 use Rattle.relation_semantics.specs.Generalising.{IsSeen}
 use Rattle.relation_semantics.specs.Relation.{Items, plain, plain_kind, plain_atom, sort_of, part_at, IsError, IsAlias}
 use Rattle.relation_semantics.specs.Stores.{Store, bound_to, entry_of, resolved, universe_of, MayStandFor}

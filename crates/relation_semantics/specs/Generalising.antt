@@ -8,8 +8,8 @@ use Rattle.relation_terms.specs.Heads.{VarKind, type_var, int_var, float_var, co
 use Rattle.relation_terms.specs.Heads.{static_region, early_region, AliasKind, Head, alias, Leaf, variable, bound}
 use Rattle.relation_terms.specs.Heads.{placeholder, atom, unknown}
 use Rattle.relation_terms.specs.Trees.{Tree, leaf, node, bind, nil, cons, apply, Leaves}
-use Rattle.relation_semantics.specs.declared.relate.StructurallyRelateAliases.{StructurallyRelateAliases}
-use Rattle.relation_semantics.specs.declared.relate.StructurallyRelateAliases.TheVariants.{Yes, No}
+use Rattle.term_enums.specs.declared.StructurallyRelateAliases.{StructurallyRelateAliases}
+use Rattle.term_enums.specs.declared.StructurallyRelateAliases.TheVariants.{Yes, No}
 use Rattle.relation_semantics.specs.Relation.{Items, part_at, sort_of}
 use Rattle.relation_semantics.specs.Stores.{Store, unbound, entry_of, universe_of, IsMade, resolved}
 use Rattle.relation_semantics.specs.Steps.{MakesVariable, BindsTo, IsNumberKind}

@@ -21,7 +21,7 @@ use Rattle.term_enums.specs.declared.Variance.{Variance}
 use Rattle.term_enums.specs.declared.Variance.TheVariants.{Covariant, Contravariant, Bivariant}
 use Rattle.relation_terms.specs.Heads.{type_var, ambiguous, subtype, well_formed, alias_relate, variable, atom}
 use Rattle.relation_terms.specs.Trees.{Tree, leaf, node, bind, nil, cons, Assign, apply, known}
-use Rattle.relation_semantics.specs.declared.relate.StructurallyRelateAliases.TheVariants.{No}
+use Rattle.term_enums.specs.declared.StructurallyRelateAliases.TheVariants.{No}
 use Rattle.relation_semantics.specs.Relation.{Items, Interpretation, IsAlias, IsEqualPair, IsOrderedPair, Rel, at, mode}
 use Rattle.relation_semantics.specs.Settings.{Settings, LeavesOpaque}
 use Rattle.relation_semantics.specs.Stores.{Store, unbound, entry_of, IsMade, Satisfies, InContext}

@@ -2,8 +2,8 @@
 use Rattle.std.specs.Prelude.{◌≡◌, Bool, true, false, IsTrue}
 use Rattle.relation_semantics.specs.declared.infer_ctxt.TypingMode.{TypingMode}
 use Rattle.relation_semantics.specs.declared.infer_ctxt.TypingMode.TheVariants.{Coherence}
-use Rattle.relation_semantics.specs.declared.relate.StructurallyRelateAliases.{StructurallyRelateAliases}
-use Rattle.relation_semantics.specs.declared.relate.StructurallyRelateAliases.TheVariants.{No}
+use Rattle.term_enums.specs.declared.StructurallyRelateAliases.{StructurallyRelateAliases}
+use Rattle.term_enums.specs.declared.StructurallyRelateAliases.TheVariants.{No}
 
 -- A typing mode is that of coherence.
 abbrev pub in_coherence : {Key : Type 0} → TypingMode Key → Bool

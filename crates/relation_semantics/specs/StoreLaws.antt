@@ -10,7 +10,7 @@ use Rattle.relation_semantics.specs.Stores.{Satisfies, ConstraintHolds, Constrai
 use Rattle.relation_semantics.specs.Steps.{Equates, BindsTo, Instantiates, RefusesToInstantiate, MakesVariable}
 use Rattle.relation_semantics.specs.Steps.{AddsConstraint, ChangesNothing, InstantiatesNumber, Resolves, HasExtension, MakesVariables}
 use Rattle.relation_semantics.specs.Measures.{Goes}
-use Rattle.relation_semantics.specs.declared.relate.StructurallyRelateAliases.{StructurallyRelateAliases}
+use Rattle.term_enums.specs.declared.StructurallyRelateAliases.{StructurallyRelateAliases}
 use Rattle.relation_semantics.specs.Generalising.{Stage, outside, any_part, Generalised, InstantiatesBy}
 use Rattle.relation_semantics.specs.Generalising.{NumbersNameNothing, Obstacle, RefusesByObstacle}
 use Rattle.relation_semantics.specs.Outcomes.{Exact}

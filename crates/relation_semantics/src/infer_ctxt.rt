@@ -28,6 +28,7 @@ use crate::relate::StructurallyRelateAliases;
 use relation_folds::error::RelateResult;
 use relation_folds::fold::TypeFoldable;
 use relation_folds::visit::TypeVisitable;
+pub use relation_terms::terms::VisibleForLeakCheck;
 use relation_terms::terms::{
     Binder, Const, ConstVid, ErrorGuaranteed, FloatVarValue, FloatVid, IntVarValue, IntVid,
     Interner, Keys, LocalDefIdsKey, OutOfMemory, Region, RegionVid, Span, Ty, TyVid, UniverseIndex,
@@ -36,13 +37,6 @@ use relation_terms::terms::{
 
 /// A binder of an interner over what stands for a tree.
 pub type BinderOf<I, T> = Binder<<I as Keys>::Key, T>;
-
-/// Whether a constraint on regions is seen where placeholders are checked for leaks. No answer of relating looks at it.
-#[derive(Clone, Copy, PartialEq, Eq)]
-pub enum VisibleForLeakCheck {
-    Yes,
-    No,
-}
 
 /// What a context types: it says which opaque types may be looked into, and whether one may still be left open.
 ///

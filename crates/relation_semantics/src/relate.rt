@@ -1,5 +1,6 @@
 //! What relations in steps are said in.
 
+pub use relation_terms::terms::StructurallyRelateAliases;
 use relation_terms::terms::Variance;
 
 /// What comes of two terms in one step of a relation.
@@ -22,11 +23,4 @@ pub enum Step<T> {
         variance: Variance,
         answer: T,
     },
-}
-
-/// Whether aliases are related by their items and arguments, or by a goal that is left to the solver.
-#[derive(Clone, Copy, PartialEq, Eq)]
-pub enum StructurallyRelateAliases {
-    Yes,
-    No,
 }

@@ -19,4 +19,3 @@ pub mod Aliases
 pub mod Objects
 pub mod Edited
 pub mod Equality
-pub mod Hashing

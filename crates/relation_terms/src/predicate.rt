@@ -26,5 +26,6 @@ pub use kinds::{
     ClauseForm, ClauseKind, CoercePredicate, PredicateForm, PredicateKind, SubtypePredicate,
 };
 pub use regions::{OutlivesIter, OutlivesPredicate, RegionConstraint, RegionEqPredicate};
+pub use term_enums::{AliasRelationDirection, BoundConstness, ImplPolarity, PredicatePolarity};
 pub use trait_clause::as_trait_clause;
 pub use trait_ref::{HostEffectPredicate, TraitPredicate, TraitRef};

@@ -1,7 +1,7 @@
 -- Types over one item of the reference interner.
 use Rattle.std.proofs.Common.{◌≡◌, IsTrue, Result, Ok, Err, IfOk, sym, ap, ◌∙◌}
 use Rattle.relation_terms.specs.declared.terms.keys.TyKey.{TyKey}
-use Rattle.relation_terms.specs.declared.terms.interner.OutOfMemory.{OutOfMemory}
+use Rattle.term_enums.specs.declared.memory.OutOfMemory.{OutOfMemory}
 use Rattle.relation_terms.specs.Heads.{adt}
 use Rattle.relation_terms.specs.Trees.{Tree, node, known}
 use Rattle.relation_terms.specs.Meaning.{Extends}

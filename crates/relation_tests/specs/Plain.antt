@@ -10,7 +10,7 @@ use Rattle.relation_semantics.specs.Relation.{Interpretation, Rel, at}
 use Rattle.relation_semantics.specs.Stores.{Store, IsSound, ConstraintHolds}
 use Rattle.relation_semantics.specs.Constraints.{constraint_of}
 use Rattle.relation_semantics.specs.declared.infer_ctxt.TypingMode.TheVariants.{PostAnalysis}
-use Rattle.relation_semantics.specs.declared.relate.StructurallyRelateAliases.TheVariants.{Yes}
+use Rattle.term_enums.specs.declared.StructurallyRelateAliases.TheVariants.{Yes}
 use Rattle.relation_semantics.specs.Lawful.{State, Kept, Manners, Asked, items_of}
 use Rattle.relation_semantics.specs.Settings.{Settings}
 

@@ -1,3 +1,4 @@
 pub mod Variances
 pub mod Polarities
 pub mod Words
+pub mod Hashing

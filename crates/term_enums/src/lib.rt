@@ -1,4 +1,5 @@
-//! The small enums that terms and texts are made with, and the headers of functions.
+//! The small types that terms and texts are made with: enums, headers of functions, the error of a refused growth; and
+//! how keys are hashed.
 #![tactic(auto)]
 
 ghost use Rattle.std.specs.Prelude.{◌≡◌, Some};
@@ -6,8 +7,11 @@ ghost use Rattle.term_enums.specs.Variances.{xform};
 ghost use Rattle.term_enums.specs.Polarities.{flipped, satisfied};
 ghost use Rattle.term_enums.specs.Words.{impl_polarity_mark, impl_polarity_text, polarity_text, constness_text};
 
+pub mod hashing;
 pub mod laws;
+mod memory;
 
+pub use memory::OutOfMemory;
 use std::fmt;
 
 /// How a part varies with the whole.
@@ -221,4 +225,18 @@ pub enum AliasRelationDirection {
 #[derive(Clone, Copy, PartialEq, Eq, Hash)]
 pub enum SolverTraitLangItem {
     Sized,
+}
+
+/// Whether aliases are related by their items and arguments, or by a goal that is left to the solver.
+#[derive(Clone, Copy, PartialEq, Eq)]
+pub enum StructurallyRelateAliases {
+    Yes,
+    No,
+}
+
+/// Whether a constraint on regions is seen where placeholders are checked for leaks. No answer of relating looks at it.
+#[derive(Clone, Copy, PartialEq, Eq)]
+pub enum VisibleForLeakCheck {
+    Yes,
+    No,
 }

@@ -9,7 +9,7 @@ use Rattle.std.specs.List.{list_any}
 use Rattle.relation_terms.specs.Trees.{Tree, known, size, list_tree}
 use Rattle.relation_terms.specs.Meaning.{Meaning, arg_tree}
 use Rattle.relation_terms.specs.declared.terms.generic_arg.GenericArgKind.{GenericArgKind}
-use Rattle.relation_terms.specs.declared.terms.interner.OutOfMemory.{OutOfMemory}
+use Rattle.term_enums.specs.declared.memory.OutOfMemory.{OutOfMemory}
 use Rattle.relation_tools.specs.Stacks.{present}
 use Rattle.relation_tools.specs.Walking.{Walk, Pull, first_unseen}
 use Rattle.relation_tools.specs.Positions.{yields, Call, pull, skip, Tells, has_ended, Runs, ByPlaces}

@@ -19,8 +19,8 @@ use Rattle.relation_reference.specs.Variables.{value_at, universes_of}
 use Rattle.relation_folds.specs.declared.error.RelateFault.{RelateFault}
 use Rattle.relation_folds.specs.Faults.{KnowsFault}
 use Rattle.relation_semantics.specs.Bound.{BindByLists}
-use Rattle.relation_semantics.specs.declared.relate.StructurallyRelateAliases.{StructurallyRelateAliases}
-use Rattle.relation_semantics.specs.declared.relate.StructurallyRelateAliases.TheVariants.{No, Yes}
+use Rattle.term_enums.specs.declared.StructurallyRelateAliases.{StructurallyRelateAliases}
+use Rattle.term_enums.specs.declared.StructurallyRelateAliases.TheVariants.{No, Yes}
 use Rattle.relation_semantics.specs.declared.infer_ctxt.TypingMode.{TypingMode}
 use Rattle.relation_semantics.specs.declared.infer_ctxt.TypingMode.TheVariants as typing
 use Rattle.relation_semantics.specs.Relation.{StaysWithin}

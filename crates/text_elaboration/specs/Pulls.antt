@@ -10,7 +10,7 @@ use Rattle.relation_terms.specs.Conversions.{trait_clause_tree}
 use Rattle.relation_terms.specs.declared.predicate.trait_ref.TraitRef.{TraitRef}
 use Rattle.relation_terms.specs.declared.terms.binder.Binder.{Binder}
 use Rattle.relation_terms.specs.declared.terms.ids.TraitId.{TraitId}
-use Rattle.relation_terms.specs.declared.terms.interner.OutOfMemory.{OutOfMemory}
+use Rattle.term_enums.specs.declared.memory.OutOfMemory.{OutOfMemory}
 use Rattle.relation_terms.specs.declared.terms.keys.ClauseKey.{ClauseKey}
 use Rattle.relation_elaboration.specs.declared.faults.ElabFault.{ElabFault}
 use Rattle.relation_elaboration.specs.declared.faults.ElabFault.TheVariants as fault

@@ -8,7 +8,7 @@ use Rattle.relation_terms.specs.Heads.{Head, one, term_of}
 use Rattle.relation_terms.specs.Trees.{Tree, node, cons, count, nth, Leaves, Assign}
 use Rattle.relation_terms.specs.Meaning.{Meaning}
 use Rattle.relation_folds.specs.declared.error.RelateFault.{RelateFault}
-use Rattle.relation_semantics.specs.declared.relate.StructurallyRelateAliases.{StructurallyRelateAliases}
+use Rattle.term_enums.specs.declared.StructurallyRelateAliases.{StructurallyRelateAliases}
 use Rattle.relation_semantics.specs.Asking.{Wanted, AsksFor, of_regions, of_aliases, of_unevaluated, of_parts, HaveAlias}
 use Rattle.relation_semantics.specs.Asking.{HasNoAlias}
 use Rattle.relation_semantics.specs.Contexts.{Context}

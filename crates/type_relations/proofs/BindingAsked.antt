@@ -6,8 +6,8 @@ use Rattle.relation_terms.specs.Heads.{type_var, alias, unevaluated, variable, b
 use Rattle.relation_terms.specs.Trees.{Tree, leaf, node, bind, nil, cons, Assign, apply, known}
 use Rattle.relation_terms.specs.Meaning.{Extends}
 use Rattle.relation_folds.specs.declared.error.TypeError.TheVariants.{CyclicTy}
-use Rattle.relation_semantics.specs.declared.relate.StructurallyRelateAliases.{StructurallyRelateAliases}
-use Rattle.relation_semantics.specs.declared.relate.StructurallyRelateAliases.TheVariants.{No}
+use Rattle.term_enums.specs.declared.StructurallyRelateAliases.{StructurallyRelateAliases}
+use Rattle.term_enums.specs.declared.StructurallyRelateAliases.TheVariants.{No}
 use Rattle.relation_semantics.specs.Contexts.{Context}
 use Rattle.relation_semantics.specs.ContextCalls.{Instantiated}
 use Rattle.relation_semantics.specs.Generalising.{InstantiatesBy, Generalised, outside, any_part}

@@ -10,7 +10,7 @@ use Rattle.relation_semantics.specs.FirstOrder.{IsFirstOrder, IsFirstOrderStore,
 use Rattle.relation_semantics.specs.StoreLaws.{GeneralisingRefuses}
 use Rattle.relation_semantics.specs.Steps.{RefusesToInstantiate}
 use Rattle.relation_semantics.specs.ErasureLaws.{IsTypeOrConst}
-use Rattle.relation_semantics.specs.declared.relate.StructurallyRelateAliases.{StructurallyRelateAliases}
+use Rattle.term_enums.specs.declared.StructurallyRelateAliases.{StructurallyRelateAliases}
 use Rattle.relation_semantics.specs.Generalising.{Obstacle, cycle, beyond, StopsAt, at_itself, at_placeholder, in_parts, in_body, in_first, in_others, RefusesByObstacle}
 use Rattle.relation_semantics.proofs.Resolved.{resolved_value, cycles_do_not_unify}
 use Rattle.relation_semantics.proofs.StoreCalls.{resolved_unifies}

@@ -9,7 +9,7 @@ use Rattle.relation_terms.specs.Trees.{Tree, leaf, node, bind, nil, cons, count,
 use Rattle.relation_terms.specs.Meaning.{Meaning}
 use Rattle.relation_terms.specs.Interning.{Sorted}
 use Rattle.relation_folds.specs.declared.error.TypeError.{TypeError}
-use Rattle.relation_semantics.specs.declared.relate.StructurallyRelateAliases.{StructurallyRelateAliases}
+use Rattle.term_enums.specs.declared.StructurallyRelateAliases.{StructurallyRelateAliases}
 use Rattle.relation_semantics.specs.Relation.{Items, at, part_at, sort_of, IsAlias, IsAliasHead}
 use Rattle.relation_semantics.specs.Settings.{Settings}
 use Rattle.relation_semantics.specs.Stores.{Store}

@@ -4,7 +4,7 @@ use Rattle.term_enums.specs.declared.Variance.{Variance}
 use Rattle.term_enums.specs.declared.Variance.TheVariants.{Invariant}
 use Rattle.relation_terms.specs.Heads.{VarKind, type_var, const_var, region_var, region_kind, bound_kind, static_region, early_region, value_type, alias, Head, Leaf, variable, placeholder, atom}
 use Rattle.relation_terms.specs.Trees.{Tree, node, Leaves, apply}
-use Rattle.relation_semantics.specs.declared.relate.StructurallyRelateAliases.{StructurallyRelateAliases}
+use Rattle.term_enums.specs.declared.StructurallyRelateAliases.{StructurallyRelateAliases}
 use Rattle.relation_semantics.specs.Relation.{Items}
 use Rattle.relation_semantics.specs.Stores.{Store, IsMadeLeaf, InContext, universe_of, IsMade, IsTermIn, IsSound, MayStandFor, resolved}
 use Rattle.relation_semantics.specs.FirstOrder.{IsFirstOrder, IsFirstOrderStore, IsClosedLeaf, IsTypeClosed}

@@ -18,7 +18,7 @@ use Rattle.relation_folds.specs.declared.error.RelateFault.{RelateFault}
 use Rattle.relation_folds.specs.declared.error.RelateFault.TheVariants.{Unrelated}
 use Rattle.relation_folds.specs.Faults.{KnowsError}
 use Rattle.relation_semantics.specs.declared.relate.Step.TheVariants.{Done, Parts}
-use Rattle.relation_semantics.specs.declared.relate.StructurallyRelateAliases.TheVariants.{No}
+use Rattle.term_enums.specs.declared.StructurallyRelateAliases.TheVariants.{No}
 use Rattle.relation_semantics.specs.Settings.{Settings}
 use Rattle.relation_semantics.specs.Relation.{Items, Interpretation, Rel, at, sort_of, IsError, same as same_rel}
 use Rattle.relation_semantics.specs.Agreeing.{Agree}

@@ -12,7 +12,7 @@ use Rattle.relation_semantics.specs.FirstOrder.{IsFirstOrderAtom}
 use Rattle.relation_semantics.specs.Settings.{Settings}
 use Rattle.relation_semantics.specs.Stores.{Store, unbound, bound_to, entry_of, resolved, resolve, through, entry_term}
 use Rattle.relation_semantics.specs.Errors.{outer_leaf, AreOfOneValue, one_value, as_many_branches, AreAlikeConsts, alike_leaves, both_values, AreAlikeExistentials, both_traits, both_projections, both_auto_traits, IsStandIn, StandFor, StandsSeen, IsReadAs, itself, by_class, by_binding}
-use Rattle.relation_semantics.specs.declared.relate.StructurallyRelateAliases.{StructurallyRelateAliases}
+use Rattle.term_enums.specs.declared.StructurallyRelateAliases.{StructurallyRelateAliases}
 use Rattle.relation_semantics.specs.Agreeing.{Agree}
 use Rattle.relation_semantics.specs.Asking.{IsPlainLeaf, IsPlainHead, BindsRegions, IsPlainTerm, HasNoAlias}
 use Rattle.relation_semantics.proofs.Answering.{covariantly}

@@ -16,7 +16,7 @@ use Rattle.relation_terms.proofs.Binders.{under_stays}
 use Rattle.relation_folds.specs.declared.error.RelateFault.{RelateFault}
 use Rattle.relation_folds.specs.declared.error.RelateFault.TheVariants.{Memory}
 use Rattle.relation_folds.specs.Visits.{bound_var_escapes}
-use Rattle.relation_semantics.specs.declared.relate.StructurallyRelateAliases.{StructurallyRelateAliases}
+use Rattle.term_enums.specs.declared.StructurallyRelateAliases.{StructurallyRelateAliases}
 use Rattle.relation_semantics.specs.Relation.{StaysWithin}
 use Rattle.relation_semantics.specs.Stores.{Store, InContext, IsTermIn, IsSound}
 use Rattle.relation_semantics.specs.Steps.{ChangesNothing, EntersForall}

@@ -27,8 +27,8 @@ use Rattle.relation_semantics.proofs.Passing.{passes_then}
 use Rattle.relation_semantics.proofs.Registered.{alias_registered, alias_built}
 use Rattle.relation_semantics.specs.Outcomes.{Outcome, StepsTo, CarriesOver, ExactStep}
 use Rattle.relation_semantics.specs.Measures.{Goes, grown as squared}
-use Rattle.relation_semantics.specs.declared.relate.StructurallyRelateAliases.{StructurallyRelateAliases}
-use Rattle.relation_semantics.specs.declared.relate.StructurallyRelateAliases.TheVariants.{No}
+use Rattle.term_enums.specs.declared.StructurallyRelateAliases.{StructurallyRelateAliases}
+use Rattle.term_enums.specs.declared.StructurallyRelateAliases.TheVariants.{No}
 use Rattle.relation_semantics.specs.Settings.{Settings}
 use Rattle.relation_semantics.specs.Errors.{ErrorOf, BindingError, of_binding, of_binding_back, of_entries, IsReadAs, itself, by_binding}
 use Rattle.relation_semantics.specs.ErasureLaws.{IsTypeOrConst}

@@ -51,7 +51,7 @@ use Rattle.relation_semantics.specs.Bound.{BindByLists}
 use Rattle.relation_semantics.specs.Lawful.{items_of}
 use Rattle.type_relations.specs.Arguments.{related_tree}
 use Rattle.relation_semantics.specs.Contexts.{Context, DoesNothing, RegistersGoals}
-use Rattle.relation_semantics.specs.declared.relate.StructurallyRelateAliases.{StructurallyRelateAliases}
+use Rattle.term_enums.specs.declared.StructurallyRelateAliases.{StructurallyRelateAliases}
 use Rattle.type_relations.specs.Solving.{solver_settings}
 use Rattle.type_relations.specs.Alone.{OfAlone}
 

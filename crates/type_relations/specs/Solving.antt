@@ -8,7 +8,7 @@ use Rattle.relation_terms.specs.declared.terms.keys.PredicateKey.{PredicateKey}
 use Rattle.relation_terms.specs.declared.terms.keys.TyKey.{TyKey}
 use Rattle.relation_terms.specs.Trees.{Tree, known}
 use Rattle.relation_terms.specs.Meaning.{Meaning}
-use Rattle.relation_semantics.specs.declared.relate.StructurallyRelateAliases.{StructurallyRelateAliases}
+use Rattle.term_enums.specs.declared.StructurallyRelateAliases.{StructurallyRelateAliases}
 use Rattle.relation_semantics.specs.Goals.{goals_of, KnowsGoal}
 use Rattle.relation_semantics.specs.Lawful.{State, Pair, Kept, Manners, TakesParts, WereRelated}
 use Rattle.relation_semantics.specs.Settings.{Settings, Setup, in_coherence}

@@ -77,6 +77,9 @@ pub struct UnevaluatedConstId<D>(pub D);
 /// The id of an item of an interner.
 pub type ItemOf<I> = DefId<<I as Keys>::Id>;
 
+/// The definition of a struct, an enum or a union, of an interner: its id, by which the interner's calls read it.
+pub type AdtDef<I> = AdtId<<I as Keys>::Id>;
+
 impl<D> From<AdtId<D>> for DefId<D> {
     ghost from_gives = { λ id d. d ≡ record { 0 = id.0 } };
 

@@ -22,27 +22,11 @@ ghost use Rattle.relation_terms.specs.Owned.{StatesItsOwn, param_of};
 use crate::predicate::{AliasTermKind, ClauseForm, ObjectPredicate, PredicateForm, TraitRef};
 use crate::terms::{
     Alternatives, Binder, BoundVariable, BoundVars, Branches, Clause, Clauses, Const, ConstForm,
-    ExistentialPredicates, GenericArg, GenericArgs, GenericParam, ItemOf, Keys, ParamEnv, Pat,
-    PatternForm, Predicate, Region, RegionForm, SolverTraitLangItem, Span, Symbol,
+    ExistentialPredicates, GenericArg, GenericArgs, GenericParam, ItemOf, Keys, OutOfMemory,
+    ParamEnv, Pat, PatternForm, Predicate, Region, RegionForm, SolverTraitLangItem, Span, Symbol,
     TraitAssocTermId, TraitId, Ty, TyForm, TypeFlags, Tys, ValTree, ValTreeForm, Variance,
 };
-use std::alloc::{AllocError, AllocFailed, Global};
-
-/// A growth was refused.
-#[derive(Clone, Copy, PartialEq, Eq, Debug)]
-pub struct OutOfMemory;
-
-impl From<AllocError> for OutOfMemory {
-    fn from(_refused: AllocError) -> OutOfMemory {
-        OutOfMemory
-    }
-}
-
-impl<T: Drop> From<AllocFailed<T>> for OutOfMemory {
-    fn from(_refused: AllocFailed<T>) -> OutOfMemory {
-        OutOfMemory
-    }
-}
+use std::alloc::Global;
 
 /// What gives out keys for terms, and reads them.
 ///

@@ -113,6 +113,9 @@ pub type Alternatives<I> = AlternativesKey<<I as Keys>::Key>;
 /// A list of a trait object's predicates, of an interner.
 pub type ExistentialPredicates<I> = ExistentialPredicatesKey<<I as Keys>::Key>;
 
+/// The same list, by the name that says that each predicate stands under a binder of its own.
+pub type BoundExistentialPredicates<I> = ExistentialPredicates<I>;
+
 /// A list of a binder's variables, of an interner.
 pub type BoundVars<I> = BoundVarsKey<<I as Keys>::Key>;
 

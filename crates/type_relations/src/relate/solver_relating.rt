@@ -3,7 +3,7 @@ ghost use Rattle.std.specs.Prelude.{◌≡◌, ◌≢◌, IfErr, []};
 ghost use Rattle.relation_terms.specs.Meaning.{Extends};
 ghost use Rattle.relation_folds.specs.Faults.{KnowsFault, IfSpent};
 ghost use Rattle.term_enums.specs.declared.Variance.TheVariants.{Invariant};
-ghost use Rattle.relation_semantics.specs.declared.relate.StructurallyRelateAliases.TheVariants.{No, Yes};
+ghost use Rattle.term_enums.specs.declared.StructurallyRelateAliases.TheVariants.{No, Yes};
 ghost use Rattle.relation_semantics.specs.Stores.{IsSound};
 ghost use Rattle.relation_semantics.specs.Steps.{IsLater};
 ghost use Rattle.relation_semantics.specs.Contexts.{KnowsEnv, SpendsByBinding};

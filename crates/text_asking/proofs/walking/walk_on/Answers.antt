@@ -1,6 +1,6 @@
 use Rattle.std.proofs.Common.{◌∙◌, sym, ap, subst, length, refl, arith}
 use Rattle.relation_terms.specs.Meaning.{arg_tree}
-use Rattle.relation_terms.specs.declared.terms.interner.OutOfMemory.{OutOfMemory}
+use Rattle.term_enums.specs.declared.memory.OutOfMemory.{OutOfMemory}
 use Rattle.relation_terms.specs.contracts.terms.generic_arg.GenericArgKindPartialEq.TheImpl.{ghosts}
 use Rattle.relation_tools.specs.Walking.{Pull}
 use Rattle.std.proofs.Common.{Some, None, Ok, map}

@@ -2,7 +2,7 @@ use Rattle.std.proofs.Common.{rules, sym, subst, IsTrue, ◌≡◌, ◌∙◌, t
 use Rattle.std.specs.List.{list_any}
 use Rattle.relation_terms.specs.Trees.{known}
 use Rattle.relation_terms.specs.Meaning.{arg_tree}
-use Rattle.relation_terms.specs.declared.terms.interner.OutOfMemory.{OutOfMemory}
+use Rattle.term_enums.specs.declared.memory.OutOfMemory.{OutOfMemory}
 use Rattle.relation_terms.specs.contracts.terms.generic_arg.GenericArgKindPartialEq.TheImpl.{ghosts}
 use Rattle.relation_tools.specs.Walking.{Pops}
 use Rattle.relation_tools.proofs.Pulling.{pulled_none, pulled_one, known_after, unseen_known}

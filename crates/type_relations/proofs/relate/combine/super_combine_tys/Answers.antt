@@ -1,5 +1,5 @@
 use Rattle.std.proofs.Common.{IsTrue, refl, sym, subst, subst₂}
-use Rattle.relation_terms.specs.declared.terms.interner.OutOfMemory.{OutOfMemory}
+use Rattle.term_enums.specs.declared.memory.OutOfMemory.{OutOfMemory}
 use Rattle.relation_terms.specs.Heads.{type_sort}
 use Rattle.relation_terms.specs.Trees.{IsTerm, known}
 use Rattle.relation_folds.specs.declared.error.RelateFault.TheVariants.{Memory}

@@ -1,7 +1,7 @@
 use Rattle.std.proofs.Common.{sym, subst}
 use Rattle.term_enums.specs.declared.Variance.TheVariants.{Invariant}
 use Rattle.relation_terms.specs.Interning.{Sorted}
-use Rattle.relation_semantics.specs.declared.relate.StructurallyRelateAliases.TheVariants.{Yes}
+use Rattle.term_enums.specs.declared.StructurallyRelateAliases.TheVariants.{Yes}
 use Rattle.type_relations.specs.Solving.{solver_settings}
 use Rattle.type_relations.proofs.Asked.{related_where_asked}
 use Rattle.type_relations.proofs.Closed.{leaves_closed, asks_nothing}

@@ -1,6 +1,6 @@
 use Rattle.std.proofs.Common.{sym, subst}
 use Rattle.relation_terms.specs.Interning.{Sorted}
-use Rattle.relation_semantics.specs.declared.relate.StructurallyRelateAliases.TheVariants.{No}
+use Rattle.term_enums.specs.declared.StructurallyRelateAliases.TheVariants.{No}
 use Rattle.type_relations.specs.Solving.{solver_settings}
 use Rattle.type_relations.proofs.Asked.{related_where_asked}
 use Rattle.type_relations.proofs.Closed.{leaves_closed, asks_nothing}

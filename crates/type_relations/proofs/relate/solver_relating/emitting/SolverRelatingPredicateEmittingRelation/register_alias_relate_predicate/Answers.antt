@@ -1,5 +1,5 @@
 use Rattle.std.proofs.Common.{refl, sym, subst, IfSome}
-use Rattle.relation_terms.specs.declared.terms.interner.OutOfMemory.{OutOfMemory}
+use Rattle.term_enums.specs.declared.memory.OutOfMemory.{OutOfMemory}
 use Rattle.relation_semantics.specs.AliasGoals.{alias_at}
 use Rattle.type_relations.specs.Emitting.{RegistersGoal}
 use Rattle.type_relations.specs.Solving.{solving_through}

@@ -1,6 +1,6 @@
 use Rattle.std.proofs.Common.{◌≡◌, refl, sym, ◌∙◌, inl, subst, subst₂, Some, IfSome, IsTrue, Ok, Err}
 use Rattle.term_enums.specs.declared.Variance.TheVariants.{Covariant}
-use Rattle.relation_terms.specs.declared.terms.interner.OutOfMemory.{OutOfMemory}
+use Rattle.term_enums.specs.declared.memory.OutOfMemory.{OutOfMemory}
 use Rattle.relation_terms.specs.Heads.{type_var, variable}
 use Rattle.relation_terms.specs.Trees.{leaf, known}
 use Rattle.relation_folds.specs.declared.error.TypeError.TheVariants.{CyclicTy}

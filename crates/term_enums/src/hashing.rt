@@ -1,6 +1,6 @@
 //! How keys, and nodes made of keys, are hashed, to find them.
 ghost use Rattle.std.specs.Prelude.{◌≡◌, ◌≤◌, length};
-ghost use Rattle.relation_terms.specs.Hashing.{folded_product, word, write_words};
+ghost use Rattle.term_enums.specs.Hashing.{folded_product, word, write_words};
 
 use std::hash::Hasher;
 

@@ -1,6 +1,6 @@
 -- How keys are hashed.
 use Rattle.std.specs.Prelude.{ℕ, List, ◌*◌, ◌+◌, ◌%◌, ◌^◌, ◌-◌, ◌/◌, bit_xor, bit_and, fold, cond, nat_le, length, take, drop}
-use Rattle.relation_terms.specs.declared.hashing.KeyHasher.{KeyHasher}
+use Rattle.term_enums.specs.declared.hashing.KeyHasher.{KeyHasher}
 
 -- The two halves of a product, joined.
 unfoldable pub folded_product : ℕ → ℕ → ℕ
