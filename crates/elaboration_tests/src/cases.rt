@@ -4,7 +4,7 @@ use crate::traits::{
     A, B, BOTH, Bound, CONST_A, CONST_B, EQ, FOO, LOOP, META_SIZED, NEG, ORD, PARTIAL_EQ,
     PARTIAL_ORD, SIZED, STATIC, Said, Subject,
 };
-use relation_elaboration::ElabFault;
+use relation_tools::error::ElabFault;
 
 /// What a pull answers.
 #[derive(Clone, Copy)]

@@ -11,10 +11,10 @@ use crate::traits::{
     A, B, BOTH, Bound, CONST_A, CONST_B, EQ, ORD, PARTIAL_EQ, PARTIAL_ORD, Said, Subject, TRAITS,
 };
 use reference_interner::RefInterner;
-use relation_elaboration::{ClauseWithSupertraitSpan, Elaboratable};
 use relation_folds::tree::HasTree;
 use relation_terms::predicate::{TraitPredicate, as_trait_clause};
 use relation_terms::terms::{Binder, Clause, ClauseKey, Interner, OutOfMemory, Predicate, Span};
+use relation_tools::elaborate::{ClauseWithSupertraitSpan, Elaboratable};
 use std::test::Fail;
 
 // Why an obligation is there: it was given, another one implies it, or a trait states it at a place of its list.

@@ -8,8 +8,9 @@ use crate::making::{Items, ItemsOf, make_clause, make_clauses};
 use crate::stating::{NAME, add_traits, add_vec, set_all_stated, set_stated};
 use crate::traits::{EQ, ORD, Said, TRAITS};
 use reference_interner::RefInterner;
-use relation_elaboration::{ElabFault, Elaboratable, Elaborator, elaborate};
 use relation_terms::terms::{Clause, Interner, OutOfMemory};
+use relation_tools::elaborate::{Elaboratable, Elaborator, elaborate};
+use relation_tools::error::ElabFault;
 use std::test::Fail;
 
 /// What a pull answered.

@@ -9,10 +9,11 @@ use crate::traits::{
     A, B, BOTH, CONST_A, EQ, FOO, LOOP, NEG, ORD, PARTIAL_EQ, PARTIAL_ORD, STATIC, TRAITS,
 };
 use reference_interner::RefInterner;
-use relation_elaboration::{
-    ElabFault, Elaborator, FilterToTraits, SupertraitDefIds, supertrait_def_ids, supertraits,
-};
 use relation_terms::terms::{Clause, Interner, OutOfMemory, TraitId};
+use relation_tools::elaborate::{
+    Elaborator, FilterToTraits, SupertraitDefIds, supertrait_def_ids, supertraits,
+};
+use relation_tools::error::ElabFault;
 use std::test::Fail;
 
 // What is found of a trait with so many predicates at most, up to a fault or the end.

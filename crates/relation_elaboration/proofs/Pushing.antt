@@ -10,10 +10,10 @@ use Rattle.std.specs.List.{All, Contains, list_any}
 use Rattle.std.specs.List.Sorted.{IsPermutation}
 use Rattle.relation_terms.specs.Trees.{Tree, known}
 use Rattle.relation_terms.specs.Interning.{AreEqualAsTrees}
-use Rattle.relation_elaboration.specs.Runs.{anon, IsDistinct, Pushes, IsFull}
-use Rattle.relation_elaboration.proofs.Implying.{none_in}
-use Rattle.relation_elaboration.proofs.Members.{first_in, later_in, in_cases, from_map, map_both}
-use Rattle.relation_elaboration.proofs.Closing.{distinct_both}
+use Rattle.relation_statements.specs.Runs.{anon, IsDistinct, Pushes, IsFull}
+use Rattle.relation_statements.proofs.Implying.{none_in}
+use Rattle.relation_statements.proofs.Members.{first_in, later_in, in_cases, from_map, map_both}
+use Rattle.relation_statements.proofs.Closing.{distinct_both}
 
 -- A list of trees with one more behind.
 pub map_push : {A : Type 0} (f : A → Tree) (xs : List A) (x : A) → map f (xs ++ x ∷ []) ≡ map f xs ++ f x ∷ []

@@ -8,12 +8,12 @@ use Rattle.relation_terms.proofs.Stays.{stays_same}
 use Rattle.relation_elaboration.specs.declared.faults.ElabFault.{ElabFault}
 use Rattle.relation_elaboration.specs.declared.faults.ElabFault.TheVariants.{Limit}
 use Rattle.relation_elaboration.specs.declared.worklist.Worklist.{Worklist}
-use Rattle.relation_elaboration.specs.Children.{Mode}
-use Rattle.relation_elaboration.specs.Runs.{Pushes, IsFull, AreTooMany}
+use Rattle.relation_statements.specs.Children.{Mode, mode_of}
+use Rattle.relation_statements.specs.Runs.{Pushes, IsFull, AreTooMany}
 use Rattle.relation_elaboration.specs.Pulling.{Elaboration, Pushed, Keeps, Takes, HasNoRoom, BeginsWith, BeginsClosure}
-use Rattle.relation_elaboration.specs.Pulling.{standing, named, mode_of}
-use Rattle.relation_tools.proofs.Renaming.{renamings_are_one}
-use Rattle.relation_elaboration.proofs.Closing.{too_many}
+use Rattle.relation_elaboration.specs.Pulling.{standing, named}
+use Rattle.anonymize.proofs.Renaming.{renamings_are_one}
+use Rattle.relation_statements.proofs.Closing.{too_many}
 use Rattle.relation_elaboration.proofs.Pulled.{standing_by}
 use Rattle.relation_elaboration.proofs.Yielding.{closes_from}
 

@@ -19,8 +19,8 @@ use Rattle.relation_elaboration.specs.declared.faults.ElabFault.{ElabFault}
 use Rattle.relation_elaboration.specs.declared.faults.ElabFault.TheVariants.{Memory, Limit}
 use Rattle.relation_elaboration.specs.declared.worklist.Worklist.{Worklist}
 use Rattle.relation_elaboration.specs.Pulling.{AreKept, IsKept, Pushed}
-use Rattle.relation_elaboration.specs.Runs.{anon, Pushes, IsFull}
-use Rattle.relation_elaboration.proofs.Growing.{map_alike}
+use Rattle.relation_statements.specs.Runs.{anon, Pushes, IsFull}
+use Rattle.relation_statements.proofs.Growing.{map_alike}
 use Rattle.relation_elaboration.proofs.Pushing.{map_push, map_count, any_in, none_any, pushes_none, pushed_none}
 use Rattle.relation_elaboration.proofs.Pushing.{pushed_one}
 use Rattle.relation_elaboration.proofs.Pushing.{pushes_then, pushes_as, full_one, full_in, full_then}

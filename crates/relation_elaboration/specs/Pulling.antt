@@ -8,13 +8,9 @@ use Rattle.relation_terms.specs.declared.terms.keys.PredicateKey.{PredicateKey}
 use Rattle.relation_elaboration.specs.declared.faults.ElabFault.{ElabFault}
 use Rattle.relation_elaboration.specs.declared.faults.ElabFault.TheVariants.{Limit}
 use Rattle.relation_elaboration.specs.declared.worklist.Worklist.{Worklist}
-use Rattle.relation_elaboration.specs.Children.{Mode, children}
-use Rattle.relation_elaboration.specs.Statements.{statements}
-use Rattle.relation_elaboration.specs.Runs.{Standing, Pushes, IsFull, Yields, Closes}
-
--- Whether an elaboration goes to super-predicates alone, and on from `Sized`, as a mode.
-abbrev pub mode_of : Bool → Bool → Mode
-mode_of only_self sized = record { only_self = only_self; sized = sized }
+use Rattle.relation_statements.specs.Children.{Mode, mode_of, children}
+use Rattle.relation_statements.specs.Statements.{statements}
+use Rattle.relation_statements.specs.Runs.{Standing, Pushes, IsFull, Yields, Closes}
 
 -- How an elaboration stands: the name of its reference, its interner, what is still to come, what stands for all that
 -- was ever pushed, the limit, the name of what is anonymised, the mode, and the fault that was met.

@@ -1,98 +1,32 @@
 //! What a predicate implies, pushed one by one as it is made.
-ghost use Rattle.std.specs.Prelude.{◌≡◌, ◌<◌, ◌∷◌, [], false, IsTrue, IsSome, IfOk, IfSome, length, map, get_or};
-ghost use Rattle.std.specs.Prelude.{option_map};
+ghost use Rattle.std.specs.Prelude.{◌∷◌, [], false, IsTrue, IsSome};
 ghost use Rattle.std.specs.List.{All, filter_map};
-ghost use Rattle.relation_terms.specs.Trees.{known, nil};
-ghost use Rattle.relation_terms.specs.Meaning.{Extends, arg_tree};
+ghost use Rattle.relation_terms.specs.Trees.{known};
 ghost use Rattle.relation_terms.specs.Owned.{bound_tree};
 ghost use Rattle.relation_terms.specs.Clauses.{trait_clause_tree};
-ghost use Rattle.relation_tools.specs.Assuming.{IsKnownComponent};
-ghost use Rattle.relation_elaboration.specs.Children.{children, effect_of, is_bound as region_is_bound};
-ghost use Rattle.relation_elaboration.specs.Statements.{statements, listed, is_left};
-ghost use Rattle.relation_elaboration.specs.Statements.{outlives_tree, component_implied, type_outlives_tree};
-ghost use Rattle.relation_elaboration.specs.Pulling.{mode_of, IsKept, Pushed, PushedChildren};
+ghost use Rattle.outlives_assumptions.specs.Assuming.{IsKnownComponent};
+ghost use Rattle.relation_statements.specs.Children.{children, effect_of, mode_of};
+ghost use Rattle.relation_statements.specs.Statements.{statements, component_implied, type_outlives_tree};
+ghost use Rattle.relation_elaboration.specs.Pulling.{IsKept, Pushed, PushedChildren};
 
 use crate::elaboratable::Elaboratable;
 use crate::faults::ElabFault;
-use crate::instantiate::instantiate_supertrait;
 use crate::worklist::{WorklistOf, push_new};
-use relation_terms::predicate::{
-    ClauseKind, HostEffectPredicate, OutlivesPredicate, TraitPredicate, TraitRef,
+use outlives::{ComponentOf, components_of};
+use outlives_assumptions::assumed_argument;
+use relation_statements::instantiate::instantiate_supertrait;
+use relation_statements::{
+    BoundTraitRef, bound_at, effect_clause, implies_nothing, is_bound, outlives_clause, stated_at,
+    stated_count,
 };
-use relation_terms::terms::{
-    Binder, BoundConstness, BoundVars, Clause, GenericArg, GenericArgKind, Interner, OutOfMemory,
-    PredicatePolarity, Region, RegionKind, SolverTraitLangItem, Span, TraitId, Ty,
-};
-use relation_tools::elaborate::assumed_argument;
-use relation_tools::outlives::{ComponentOf, components_of};
-
-/// A trait with its arguments, under its binder.
-pub type BoundTraitRef<I> = Binder<
-    <I as relation_terms::terms::Keys>::Key,
-    TraitRef<<I as relation_terms::terms::Keys>::Key, <I as relation_terms::terms::Keys>::Id>,
->;
+use relation_terms::predicate::{ClauseKind, OutlivesPredicate, TraitPredicate};
+use relation_terms::terms::{Binder, BoundConstness, BoundVars, Interner, Region, Ty};
 
 /// A trait clause, under its binder.
 type BoundTraitPredicate<I> = Binder<
     <I as relation_terms::terms::Keys>::Key,
     TraitPredicate<<I as relation_terms::terms::Keys>::Key, <I as relation_terms::terms::Keys>::Id>,
 >;
-
-// What a trait states: its super-predicates, or all that it implies.
-fn stated<'a, I: Interner>(
-    cx: &'a I,
-    trait_id: &TraitId<I::Id>,
-    only_self: bool,
-) -> &'a [(Clause<I>, Span<I>)]
-    ensures { let m = I.meaning cx.now in
-        map (λ p. m.clause p.0) result.now ≡ listed only_self (statements m) (m.id (trait_id.now).0) }
-{
-    if only_self {
-        cx.explicit_super_predicates_of(trait_id)
-    } else {
-        cx.explicit_implied_predicates_of(trait_id)
-    }
-}
-
-// How much a trait states, and the one at a place.
-fn stated_count<I: Interner>(cx: &I, trait_id: &TraitId<I::Id>, only_self: bool) -> usize
-    ensures { let m = I.meaning cx.now in
-        result ≡ length (listed only_self (statements m) (m.id (trait_id.now).0)) }
-{
-    stated(cx, trait_id, only_self).len()
-}
-
-fn stated_at<I: Interner>(
-    cx: &I,
-    trait_id: &TraitId<I::Id>,
-    only_self: bool,
-    index: usize,
-) -> (Clause<I>, Span<I>)
-    requires { let m = I.meaning cx.now in
-        index < length (listed only_self (statements m) (m.id (trait_id.now).0)) }
-    ensures is { let m = I.meaning cx.now in
-        m.clause result.0 ≡ get_or (listed only_self (statements m) (m.id (trait_id.now).0)) index nil }
-    ensures sure { IsTrue (known ((I.meaning cx.now).clause result.0)) }
-{
-    stated(cx, trait_id, only_self)[index]
-}
-
-// Whether nothing is implied by a trait clause: it is negative, or of the trait `Sized` where that is not gone on from.
-fn implies_nothing<I: Interner>(
-    cx: &I,
-    predicate: &TraitPredicate<I::Key, I::Id>,
-    sized: bool,
-) -> bool
-    ensures { result ≡ is_left (statements (I.meaning cx.now)) sized (predicate.now).polarity
-        ((I.meaning cx.now).id ((predicate.now).trait_ref.def_id).0) }
-{
-    match predicate.polarity {
-        PredicatePolarity::Negative => true,
-        PredicatePolarity::Positive => {
-            cx.is_trait_lang_item(&predicate.trait_ref.def_id, SolverTraitLangItem::Sized) && !sized
-        }
-    }
-}
 
 // Pushes what a trait clause implies: what the trait states, for the clause's arguments.
 fn push_stated<I: Interner, O: Elaboratable<I>>(
@@ -128,16 +62,6 @@ fn push_stated<I: Interner, O: Elaboratable<I>>(
     Ok(())
 }
 
-// A const bound at a place.
-fn bound_at<I: Interner>(cx: &I, trait_id: &TraitId<I::Id>, index: usize) -> BoundTraitRef<I>
-    requires { let m = I.meaning cx.now in index < length ((statements m).bounds (m.id (trait_id.now).0)) }
-    ensures is { let m = I.meaning cx.now in
-        bound_tree m result ≡ get_or ((statements m).bounds (m.id (trait_id.now).0)) index nil }
-    ensures sure { IsTrue (known (bound_tree (I.meaning cx.now) result)) }
-{
-    cx.explicit_implied_const_bounds(trait_id)[index]
-}
-
 // Pushes what a clause on const contexts implies: the const bounds of its trait, for the clause's arguments.
 fn push_bounds<I: Interner, O: Elaboratable<I>>(
     cx: &mut I,
@@ -165,63 +89,6 @@ fn push_bounds<I: Interner, O: Elaboratable<I>>(
         }
     }
     Ok(())
-}
-
-// A const bound as a clause.
-fn effect_clause<I: Interner>(
-    cx: &mut I,
-    bound: &BoundTraitRef<I>,
-    constness: BoundConstness,
-) -> Result<Clause<I>, OutOfMemory>
-    requires { IsTrue (known (bound_tree (I.meaning cx.old) bound.now)) }
-    ensures grown { Extends (I.meaning cx.old) (I.meaning cx.new) }
-    ensures sure { IfOk result (λ k. IsTrue (known ((I.meaning cx.new).clause k))) }
-    ensures made { IfOk result (λ k.
-        (I.meaning cx.new).clause k ≡ effect_of constness (bound_tree (I.meaning cx.old) bound.now)) }
-{
-    cx.mk_clause(Binder {
-        value: ClauseKind::HostEffect(HostEffectPredicate {
-            trait_ref: bound.value,
-            constness,
-        }),
-        bound_vars: bound.bound_vars,
-    })
-}
-
-// Whether a binder binds a region.
-fn is_bound<I: Interner>(cx: &I, region: &Region<I>) -> bool
-    requires { IsTrue (known ((I.meaning cx.now).region region.now)) }
-    ensures { result ≡ region_is_bound ((I.meaning cx.now).region region.now) }
-{
-    matches!(cx.region_kind(region), RegionKind::ReBound(..))
-}
-
-// The clause that an argument outlives a region, under a binder.
-fn outlives_clause<I: Interner>(
-    cx: &mut I,
-    arg: GenericArg<I>,
-    region: Region<I>,
-    bound_vars: BoundVars<I>,
-) -> Result<Option<Clause<I>>, OutOfMemory>
-    requires arg { IsTrue (known (arg_tree (I.meaning cx.old) arg)) }
-    requires region { IsTrue (known ((I.meaning cx.old).region region)) }
-    requires bound_vars { IsSome ((I.meaning cx.old).bound_vars bound_vars) }
-    ensures grown { Extends (I.meaning cx.old) (I.meaning cx.new) }
-    ensures sure { IfOk result (λ o. IfSome o (λ k. IsTrue (known ((I.meaning cx.new).clause k)))) }
-    ensures made { IfOk result (λ o. option_map (I.meaning cx.new).clause o ≡
-        outlives_tree (I.meaning cx.old) bound_vars region arg) }
-{
-    match arg {
-        GenericArgKind::Lifetime(part) => {
-            let value = ClauseKind::RegionOutlives(OutlivesPredicate(part, region));
-            Ok(Some(cx.mk_clause(Binder { value, bound_vars })?))
-        }
-        GenericArgKind::Ty(part) => {
-            let value = ClauseKind::TypeOutlives(OutlivesPredicate(part, region));
-            Ok(Some(cx.mk_clause(Binder { value, bound_vars })?))
-        }
-        GenericArgKind::Const(_) => Ok(None),
-    }
 }
 
 // Pushes that a component outlives a region, if it is a predicate of its own.

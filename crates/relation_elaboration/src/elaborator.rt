@@ -7,8 +7,9 @@ ghost use Rattle.std.specs.List.{All};
 ghost use Rattle.relation_terms.specs.Trees.{known};
 ghost use Rattle.relation_terms.specs.Meaning.{Extends};
 ghost use Rattle.relation_elaboration.specs.declared.faults.ElabFault.TheVariants.{Limit};
-ghost use Rattle.relation_elaboration.specs.Runs.{AreTooMany};
-ghost use Rattle.relation_elaboration.specs.Pulling.{mode_of, IsKept, Pushed, Pulls, Keeps, Takes};
+ghost use Rattle.relation_statements.specs.Runs.{AreTooMany};
+ghost use Rattle.relation_statements.specs.Children.{mode_of};
+ghost use Rattle.relation_elaboration.specs.Pulling.{IsKept, Pushed, Pulls, Keeps, Takes};
 ghost use Rattle.relation_elaboration.specs.Pulling.{HasNoRoom, BeginsWith, ByClosure, BeginsClosure};
 
 use crate::children::push_children;
@@ -35,7 +36,8 @@ pub struct Elaborator<'a, I: Interner, O: Elaboratable<I>> {
 }
 
 impl<'a, I: Interner, O: Elaboratable<I>> Model for Elaborator<'a, I, O> {
-    ghost use Rattle.relation_elaboration.specs.Pulling.{Elaboration, IsKept, mode_of};
+    ghost use Rattle.relation_statements.specs.Children.{mode_of};
+    ghost use Rattle.relation_elaboration.specs.Pulling.{Elaboration, IsKept};
 
     ghost Value = { Elaboration I O I.Key I.Name };
 

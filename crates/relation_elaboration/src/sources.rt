@@ -11,7 +11,7 @@ ghost use Rattle.relation_elaboration.specs.Finding.{BeginsInItself, KnowsWhatCo
 
 use crate::elaborator::{Elaborator, elaborate};
 use crate::faults::ElabFault;
-use crate::trait_clauses::trait_reference;
+use relation_statements::trait_reference;
 use relation_terms::predicate::{TraitRef, clause_of_trait_ref};
 use relation_terms::terms::{Binder, Clause, ClauseKey, Interner};
 use std::marker::{Model, PhantomData};

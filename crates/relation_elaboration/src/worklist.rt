@@ -5,8 +5,8 @@ ghost use Rattle.relation_elaboration.specs.Pulling.{IsKept, PushedOne};
 
 use crate::elaboratable::Elaboratable;
 use crate::faults::ElabFault;
+use anonymize::anonymize_bound_vars;
 use relation_terms::terms::{Interner, PredicateKey};
-use relation_tools::anonymize::anonymize_bound_vars;
 use std::collections::HashSet;
 use std::hash::Hash;
 

@@ -1,8 +1,8 @@
 use Rattle.std.proofs.Common.{take, Ok, false}
 use Rattle.relation_terms.specs.Owned.{bound_tree}
-use Rattle.relation_elaboration.specs.Children.{children, effect_of}
-use Rattle.relation_elaboration.specs.Statements.{statements}
-use Rattle.relation_elaboration.specs.Pulling.{mode_of, Pushed}
+use Rattle.relation_statements.specs.Children.{children, effect_of, mode_of}
+use Rattle.relation_statements.specs.Statements.{statements}
+use Rattle.relation_elaboration.specs.Pulling.{Pushed}
 use Rattle.relation_elaboration.proofs.children.push_bounds.Given as goal
 
 -- The first const bounds were pushed.

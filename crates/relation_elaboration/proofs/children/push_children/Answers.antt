@@ -1,10 +1,9 @@
 use Rattle.std.proofs.Common.{◌≡◌, ◌∙◌, [], sym, subst, IsTrue}
 use Rattle.relation_terms.specs.Trees.{known}
 use Rattle.relation_terms.proofs.Stays.{stays_same}
-use Rattle.relation_elaboration.specs.Children.{children}
-use Rattle.relation_elaboration.specs.Statements.{statements}
-use Rattle.relation_elaboration.specs.Pulling.{mode_of}
-use Rattle.relation_elaboration.proofs.Making.{no_clause, other_kinds}
+use Rattle.relation_statements.specs.Children.{children, mode_of}
+use Rattle.relation_statements.specs.Statements.{statements}
+use Rattle.relation_statements.proofs.Making.{no_clause, other_kinds}
 use Rattle.relation_elaboration.proofs.Worklists.{pushed_empty}
 use Rattle.relation_elaboration.proofs.children.push_children.Goals as goal
 

@@ -1,11 +1,11 @@
 use Rattle.std.proofs.Common.{◌+◌, ◌∷◌, [], refl, sym, subst, take, Ok, IsSome}
 use Rattle.std.specs.List.{filter_map}
 use Rattle.relation_terms.proofs.Stays.{stays_same, knows_region}
-use Rattle.relation_tools.specs.Assuming.{IsKnownComponent}
-use Rattle.relation_tools.proofs.Assuming.{all_at, filter_next, knows_component}
-use Rattle.relation_elaboration.specs.Statements.{component_implied}
+use Rattle.outlives_assumptions.specs.Assuming.{IsKnownComponent}
+use Rattle.outlives_assumptions.proofs.Assuming.{all_at, filter_next, knows_component}
+use Rattle.relation_statements.specs.Statements.{component_implied}
 use Rattle.relation_elaboration.specs.Pulling.{Pushed}
-use Rattle.relation_elaboration.proofs.Making.{stays_implied, first_give}
+use Rattle.relation_statements.proofs.Making.{stays_implied, first_give}
 use Rattle.relation_elaboration.proofs.Worklists.{pushed_start, pushed_then, pushed_stopped}
 use Rattle.relation_elaboration.proofs.children.push_components.Goals as goal
 

@@ -1,6 +1,6 @@
 use Rattle.std.proofs.Common.{take, Ok}
 use Rattle.std.specs.List.{filter_map}
-use Rattle.relation_elaboration.specs.Statements.{component_implied}
+use Rattle.relation_statements.specs.Statements.{component_implied}
 use Rattle.relation_elaboration.specs.Pulling.{Pushed}
 use Rattle.relation_elaboration.proofs.children.push_components.Given as goal
 

@@ -1,11 +1,11 @@
 use Rattle.std.proofs.Common.{◌∙◌, sym, subst, false}
 use Rattle.std.specs.List.{All, filter_map}
 use Rattle.relation_terms.proofs.Stays.{stays_same}
-use Rattle.relation_tools.specs.Assuming.{IsKnownComponent}
-use Rattle.relation_elaboration.specs.Children.{children}
-use Rattle.relation_elaboration.specs.Statements.{statements, component_implied, type_outlives_tree}
-use Rattle.relation_elaboration.specs.Pulling.{mode_of, Pushed}
-use Rattle.relation_elaboration.proofs.Making.{bound_nothing, outlives_same, parts_known}
+use Rattle.outlives_assumptions.specs.Assuming.{IsKnownComponent}
+use Rattle.relation_statements.specs.Children.{children, mode_of}
+use Rattle.relation_statements.specs.Statements.{statements, component_implied, type_outlives_tree}
+use Rattle.relation_elaboration.specs.Pulling.{Pushed}
+use Rattle.relation_statements.proofs.Making.{bound_nothing, outlives_same, parts_known}
 use Rattle.relation_elaboration.proofs.Worklists.{pushed_empty, pushed_as}
 use Rattle.relation_elaboration.proofs.children.push_outlives.Goals as goal
 

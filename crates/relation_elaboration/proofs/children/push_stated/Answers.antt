@@ -1,10 +1,10 @@
 use Rattle.std.proofs.Common.{◌∙◌, ◌∷◌, [], refl, sym, subst, arith, take, Ok}
 use Rattle.relation_terms.specs.Clauses.{trait_clause_tree}
 use Rattle.relation_terms.proofs.Stays.{stays_same}
-use Rattle.relation_elaboration.specs.Children.{children}
-use Rattle.relation_elaboration.specs.Statements.{statements}
-use Rattle.relation_elaboration.specs.Pulling.{mode_of, Pushed}
-use Rattle.relation_elaboration.proofs.Making.{trait_left, trait_count, trait_child}
+use Rattle.relation_statements.specs.Children.{children, mode_of}
+use Rattle.relation_statements.specs.Statements.{statements}
+use Rattle.relation_elaboration.specs.Pulling.{Pushed}
+use Rattle.relation_statements.proofs.Making.{trait_left, trait_count, trait_child}
 use Rattle.relation_elaboration.proofs.Worklists.{pushed_empty, pushed_first, pushed_lost, pushed_next, pushed_failed}
 use Rattle.relation_elaboration.proofs.Worklists.{pushed_end}
 use Rattle.relation_elaboration.proofs.children.push_stated.Goals as goal

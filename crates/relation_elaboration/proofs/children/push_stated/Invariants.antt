@@ -1,8 +1,8 @@
 use Rattle.std.proofs.Common.{take, Ok}
 use Rattle.relation_terms.specs.Clauses.{trait_clause_tree}
-use Rattle.relation_elaboration.specs.Children.{children}
-use Rattle.relation_elaboration.specs.Statements.{statements}
-use Rattle.relation_elaboration.specs.Pulling.{mode_of, Pushed}
+use Rattle.relation_statements.specs.Children.{children, mode_of}
+use Rattle.relation_statements.specs.Statements.{statements}
+use Rattle.relation_elaboration.specs.Pulling.{Pushed}
 use Rattle.relation_elaboration.proofs.children.push_stated.Given as goal
 
 -- The first of what the trait states were pushed.

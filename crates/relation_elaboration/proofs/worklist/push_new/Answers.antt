@@ -1,7 +1,7 @@
 use Rattle.std.proofs.Common.{◌≡◌, ◌∙◌, sym, ap, not, arith, refl, [], ◌∷◌, ◌++◌}
 use Rattle.std.specs.List.Sorted.{IsPermutation}
 use Rattle.std.proofs.lemmas.Bool.{MatchBool-at_true}
-use Rattle.relation_elaboration.specs.Runs.{anon}
+use Rattle.relation_statements.specs.Runs.{anon}
 use Rattle.relation_elaboration.proofs.Worklists.{item_known, item_new, item_full}
 use Rattle.relation_elaboration.proofs.worklist.push_new.Goals as goal
 

@@ -1,0 +1,3 @@
+//! Errors: why terms are not related, and why an elaboration stopped.
+pub use relation_elaboration::ElabFault;
+pub use relation_folds::error::*;

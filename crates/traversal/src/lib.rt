@@ -1,0 +1,10 @@
+//! What a traversal keeps, over elements of any kind: which were met, and which are still to come.
+#![tactic(auto)]
+
+mod keeping;
+mod met;
+mod stack;
+
+pub use keeping::keep;
+pub use met::{Met, none_met};
+pub use stack::Stack;
