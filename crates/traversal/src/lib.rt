@@ -3,8 +3,10 @@
 
 mod keeping;
 mod met;
+mod pre_order;
 mod stack;
 
 pub use keeping::keep;
 pub use met::{Met, none_met};
+pub use pre_order::PreOrder;
 pub use stack::Stack;

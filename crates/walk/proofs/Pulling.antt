@@ -10,7 +10,8 @@ use Rattle.relation_terms.specs.Meaning.{Meaning, arg_tree}
 use Rattle.relation_terms.specs.declared.terms.generic_arg.GenericArgKind.{GenericArgKind}
 use Rattle.walk.specs.Places.{places_under, all_known, Pushes}
 use Rattle.traversal.specs.Keeping.{Adds}
-use Rattle.walk.specs.Walking.{Walk, walk_of, Pull, first_unseen, Pops}
+use Rattle.traversal.specs.Unseen.{first_unseen, Pops}
+use Rattle.walk.specs.Walking.{Walk, walk_of, Pull}
 use Rattle.walk.proofs.Placing.{all_known_both, under_known}
 
 -- Of the first that was not seen, what is known of all.

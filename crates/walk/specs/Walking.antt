@@ -6,6 +6,7 @@ use Rattle.relation_terms.specs.Trees.{known}
 use Rattle.relation_terms.specs.Meaning.{Meaning, arg_tree}
 use Rattle.relation_terms.specs.declared.terms.generic_arg.GenericArgKind.{GenericArgKind}
 use Rattle.traversal.specs.Keeping.{Adds}
+use Rattle.traversal.specs.Unseen.{first_unseen}
 use Rattle.walk.specs.Places.{places_under}
 
 -- How a walk stands: its interner, what stands under the argument that was yielded last and is still to come, what
@@ -30,17 +31,6 @@ walk_of cx stack below visited failed = record {
   visited = visited;
   failed = failed;
 }
-
--- The first that was not seen, and what comes after it.
-abbrev pub first_unseen : {T : Type 0} → (T → Bool) → List T → Option (T × List T)
-first_unseen seen [] = None
-first_unseen seen (x ∷ xs) = cond (seen x) (first_unseen seen xs) (Some (x, xs))
-
--- What was popped of a stack: its first that was not seen, which was seen from then on. From what was seen and the
--- stack, to the stack and what was seen.
-abbrev pub Pops : {T : Type 0} → (T → T → Bool) → List T → List T → Option T → List T → List T → Type 0
-Pops eq xs s None t ys = (first_unseen (λ q. list_any (eq q) xs) s ≡ None) × (t ≡ []) × (ys ≡ xs)
-Pops eq xs s (Some x) t ys = (first_unseen (λ q. list_any (eq q) xs) s ≡ Some (x, t)) × Adds eq xs x ys
 
 module _ {I Key Id Name : Type 0} (m : Meaning Key Id Name) (eq : GenericArgKind Key → GenericArgKind Key → Bool) where
   -- The argument that comes next, and what comes after it: the first that is equal to none that was visited.

@@ -4,12 +4,12 @@
 //! steps as there are different arguments, however often each stands in the term.
 #![tactic(auto)]
 
-ghost use Rattle.std.specs.Prelude.{◌≡◌, IsTrue, IfOk, OnOk, [], ◌∷◌, false, true};
+ghost use Rattle.std.specs.Prelude.{◌≡◌, IsTrue, OnOk, [], ◌∷◌, false, true};
 ghost use Rattle.relation_terms.specs.Trees.{known};
 ghost use Rattle.relation_terms.specs.Meaning.{arg_tree};
 ghost use Rattle.relation_terms.specs.Parts.{part_of_arg};
 ghost use Rattle.walk.specs.Places.{places_under, all_known, Pushes};
-ghost use Rattle.walk.specs.Walking.{Walk, Pull, Pops, begun};
+ghost use Rattle.walk.specs.Walking.{Walk, Pull, begun};
 ghost use Rattle.walk.specs.Positions.{ByPlacesUnder};
 
 mod places;
@@ -17,10 +17,8 @@ mod places;
 use crate::places::{push_list, push_under_ty};
 use relation_terms::terms::parts::parts_of;
 use relation_terms::terms::{GenericArg, GenericArgKind, Interner, OutOfMemory, Part};
-use std::collections::HashSet;
-use std::hash::{BuildHasher, Hash};
 use std::marker::Model;
-use traversal::{Met, Stack, keep, none_met};
+use traversal::{Met, PreOrder, Stack};
 
 /// A walk over an argument and all arguments that it is made of, in pre-order.
 ///
@@ -29,9 +27,7 @@ use traversal::{Met, Stack, keep, none_met};
 #[derive(Drop)]
 pub struct TypeWalker<'a, I: Interner> {
     cx: &'a I,
-    stack: Stack<GenericArg<I>>,
-    last_subtree: usize,
-    visited: Met<GenericArg<I>>,
+    place: PreOrder<GenericArg<I>>,
     failed: bool,
 }
 
@@ -44,9 +40,9 @@ impl<'a, I: Interner> Model for TypeWalker<'a, I> {
 
     ghost Value = { Walk I (GenericArgKind I.Key) };
 
-    ghost view = { λ w. walk_of w.cx.now w.stack w.last_subtree w.visited.keys w.failed };
+    ghost view = { λ w. walk_of w.cx.now w.place.stack w.place.last_subtree w.place.visited.keys w.failed };
 
-    ghost invariant = { λ w. w.failed ≡ false → IsTrue (all_known (map (arg_tree (I.meaning w.cx.now)) w.stack)) };
+    ghost invariant = { λ w. w.failed ≡ false → IsTrue (all_known (map (arg_tree (I.meaning w.cx.now)) w.place.stack)) };
 }
 
 // An argument as a part.
@@ -58,21 +54,6 @@ fn part_of<X: Copy, D: Copy>(arg: &GenericArgKind<X>) -> Part<X, D>
         GenericArgKind::Ty(ty) => Part::Ty(*ty),
         GenericArgKind::Const(constant) => Part::Const(*constant),
     }
-}
-
-// The first element that was not visited, which leaves the stack with all above it, and was visited from then on.
-fn pop_unseen<T: Copy + Eq + Hash, S: BuildHasher>(
-    stack: &mut Stack<T>,
-    visited: &mut HashSet<T, S>,
-) -> Result<Option<T>, OutOfMemory>
-    ensures { IfOk result (λ popped. Pops T.eq visited.old.keys stack.old popped stack.new visited.new.keys) }
-{
-    while let Some(item) = stack.pop() {
-        if keep(visited, item)? {
-            return Ok(Some(item));
-        }
-    }
-    Ok(None)
 }
 
 // Puts what stands under an argument on a stack.
@@ -101,9 +82,7 @@ impl<'a, I: Interner> TypeWalker<'a, I> {
     {
         TypeWalker {
             cx,
-            stack: Stack::one(cx.alloc(), root),
-            last_subtree: 1,
-            visited: none_met(cx.alloc()),
+            place: PreOrder::new(cx.alloc(), root),
             failed: false,
         }
     }
@@ -114,7 +93,7 @@ impl<'a, I: Interner> TypeWalker<'a, I> {
     pub fn skip_current_subtree(&mut self)
         ensures { self.new ≡ record self.old { inside = [] } }
     {
-        self.stack.truncate(self.last_subtree);
+        self.place.skip_current_subtree();
     }
 
     /// What `next` answers, for a loop of which the caller shows that it ends.
@@ -124,7 +103,7 @@ impl<'a, I: Interner> TypeWalker<'a, I> {
         if self.failed {
             return Some(Err(OutOfMemory));
         }
-        let arg = match pop_unseen(&mut self.stack, &mut self.visited) {
+        let arg = match self.place.next_unseen() {
             Ok(Some(arg)) => arg,
             Ok(None) => return None,
             Err(refused) => {
@@ -132,8 +111,7 @@ impl<'a, I: Interner> TypeWalker<'a, I> {
                 return Some(Err(refused));
             }
         };
-        self.last_subtree = self.stack.len();
-        match enter(self.cx, &arg, &mut self.stack) {
+        match enter(self.cx, &arg, &mut self.place.stack) {
             Ok(()) => Some(Ok(arg)),
             Err(refused) => {
                 self.failed = true;
@@ -146,7 +124,7 @@ impl<'a, I: Interner> TypeWalker<'a, I> {
     pub fn visited(&self) -> &Met<GenericArg<I>>
         ensures { result.now.keys ≡ (self.now).visited }
     {
-        &self.visited
+        &self.place.visited
     }
 }
 

@@ -7,9 +7,9 @@ use Rattle.walk.proofs.TypeWalker.skip_current_subtree.Goals as goal
 pub invariant_of-self : goal.invariant_of-self
 invariant_of-self g c = λ h.
     let m = g.I.Interner.meaning c.self.inside.cx.now in
-    subst (λ z. IsTrue (all_known (map (arg_tree m) z))) (sym c.truncate.ensures)
-    (known_drop (arg_tree m) _ c.self.inside.stack (c.self.invariant h))
+    subst (λ z. IsTrue (all_known (map (arg_tree m) z))) (sym c.skip_current_subtree.ensures.stack)
+    (known_drop (arg_tree m) _ c.self.inside.place.stack (c.self.invariant h))
 
 pub returns : goal.returns
-returns g c = rw (← c.self.view_is) (walk_skipped c.self.inside.cx.now c.self.inside.stack c.truncate.new.self
-    c.self.inside.last_subtree c.self.inside.visited.keys c.self.inside.failed c.truncate.ensures)
+returns g c = rw (← c.self.view_is) (walk_skipped c.self.inside.cx.now c.self.inside.place.stack c.skip_current_subtree.new.self.stack
+    c.self.inside.place.last_subtree c.self.inside.place.visited.keys c.self.inside.failed c.skip_current_subtree.ensures.stack)
