@@ -1,16 +1,19 @@
 -- The components of a list are those of the members that are chosen, place by place.
-use Rattle.std.proofs.Common.{◌≡◌, ◌<◌, ◌≤◌, ◌-◌, ◌∙◌, ℕ, zero, suc, Bool, true, false, cond, nat_lt, ◌&&◌, refl, sym, ap, ap₂, subst, arith}
-use Rattle.std.proofs.Common.{List, [], ◌∷◌, ◌++◌, append-nil, Option, Some, None, option_map}
-use Rattle.std.proofs.lemmas.Bool.{lt-ltb, le-ltb}
+use Rattle.std.proofs.Common.{◌≡◌, ◌<◌, ◌≤◌, ◌+◌, ◌-◌, ◌∙◌, ℕ, zero, suc, Bool, true, false, cond, nat_lt, ◌&&◌, refl, sym, ap, ap₂, subst, arith}
+use Rattle.std.proofs.Common.{List, [], ◌∷◌, ◌++◌}
+use Rattle.std.proofs.lemmas.Bool.{lt-ltb, le-ltb, ltb-true, ltb-false}
 use Rattle.relation_terms.specs.Trees.{Tree, leaf, node, bind, nil, cons, count, nth, IsList}
 use Rattle.relation_terms.specs.Meaning.{Meaning}
-use Rattle.relation_terms.specs.Orders.{Order, in_turn, first_last, place_at}
+use Rattle.relation_terms.specs.Orders.{Order, in_turn, first_last, place_at, list_order}
 use Rattle.relation_terms.specs.Parts.{tree_sort}
-use Rattle.relation_terms.specs.Closures.{is_type_sort, type_from_last, captured_types, resume_type}
-use Rattle.relation_terms.specs.declared.terms.keys.TyKey.{TyKey}
+use Rattle.relation_terms.specs.Closures.{is_type_sort}
+use Rattle.relation_terms.specs.declared.terms.part_kind.Parts.{Parts}
 use Rattle.outlives.specs.Components.{Choice, every, no_member, no_region, last_types, not_bivariant, takes, choice_behind, components}
 use Rattle.outlives.specs.Outliving.{SomeIs, HasAll}
-use Rattle.outlives.specs.Collecting.{behind_all, of_member, found_components}
+use Rattle.component_parts.specs.Choosing.{behind_all, meant, places_count, chosen_at}
+use Rattle.component_parts.specs.declared.Chosen.{Chosen}
+use Rattle.component_parts.specs.declared.Chosen.TheVariants.{Every, NoMember, NoRegion, LastTypes, NotBivariant}
+use Rattle.outlives.specs.Collecting.{of_member}
 use Rattle.outlives.specs.declared.Component.{Component}
 use Rattle.outlives.proofs.Outliving.{in_left, in_right, has_both}
 use Rattle.relation_folds.proofs.Visiting.{rest}
@@ -79,78 +82,60 @@ each_place first_last n Q f zero l =
 each_place first_last n Q f (suc i) l =
     subst Q (ap (λ b. cond b (suc i) 0) (lt-ltb (suc i) n l)) (f i (omega (arith, l)))
 
--- The components of a type that was found.
-abbrev pub of_found : Option Tree → List Tree
-of_found None = []
-of_found (Some t) = components every t
-
-pub found_is : {X D N : Type 0} (m : Meaning X D N) (o : Option (TyKey X)) → found_components m o ≡ of_found (option_map m.ty o)
-found_is m None = refl
-found_is m (Some t) = refl
-
-found_if : (b : Bool) (t : Tree) → of_found (cond b (Some t) None) ≡ cond b (components every t) []
-found_if true t = refl
-found_if false t = refl
-
--- What stands so far from the last stands there whatever comes before.
-from_last : (p : ℕ) (t ts : Tree) → p < count ts → type_from_last p (cons t ts) ≡ type_from_last p ts
-from_last p t ts l =
-    let there : nat_lt p (suc (count ts)) ≡ nat_lt p (count ts) = lt-ltb p (suc (count ts)) (omega (arith, l)) ∙ sym (lt-ltb p (count ts) l) in
-    let place : suc (count ts) - 1 - p ≡ suc (count ts - 1 - p) = omega (arith, l) in
-    ap (λ z. cond z (cond (is_type_sort (tree_sort (nth (suc (count ts) - 1 - p) (cons t ts))))
-    (Some (nth (suc (count ts) - 1 - p) (cons t ts))) None) None) there
-    ∙ ap (λ i. cond (nat_lt p (count ts)) (cond (is_type_sort (tree_sort (nth i (cons t ts))))
-    (Some (nth i (cons t ts))) None) None) place
-
 and_false : (b : Bool) → b && false ≡ false
 and_false true = refl
 and_false false = refl
 
--- No type is chosen that is so far from the last.
-passed_by : (n : ℕ) (t ts : Tree) → n ≤ count ts → components (last_types n) (cons t ts) ≡ components (last_types n) ts
-passed_by n t ts l =
-    ap (λ z. cond z (components every t) [] ++ components (last_types n) ts)
-    (ap (λ z. is_type_sort (tree_sort t) && z) (le-ltb (count ts) n l) ∙ and_false (is_type_sort (tree_sort t)))
+-- No member that so many others stand behind is among the last types.
+behind_last : (n i : ℕ) (ts : Tree) → n + suc i ≤ count ts → of_member (last_types n) i ts ≡ []
+behind_last n zero (cons t ts) l =
+    ap (λ z. cond z (components every t) [])
+    (ap (λ z. is_type_sort (tree_sort t) && z) (le-ltb (count ts) n (omega (arith, l)))
+    ∙ and_false (is_type_sort (tree_sort t)))
+behind_last n (suc i) (cons t ts) l = behind_last n i ts (omega (arith, l))
+behind_last n i (leaf x) l = absurd (omega (arith, l))
+behind_last n i (node h ts) l = absurd (omega (arith, l))
+behind_last n i (bind ks t) l = absurd (omega (arith, l))
+behind_last n i nil l = absurd (omega (arith, l))
 
--- The one type of a list of one, where it is a type.
-lone : (b : Bool) (t : Tree) → cond (b && true) (components every t) [] ≡ of_found (cond b (Some t) None)
-lone true t = refl
-lone false t = refl
+-- Where no member is chosen, there is none at any place.
+none_at : (i : ℕ) (ts : Tree) → of_member no_member i ts ≡ []
+none_at zero (cons t ts) = refl
+none_at (suc i) (cons t ts) = none_at i ts
+none_at zero (leaf x) = refl
+none_at zero (node h ts) = refl
+none_at zero (bind ks t) = refl
+none_at zero nil = refl
+none_at (suc i) (leaf x) = refl
+none_at (suc i) (node h ts) = refl
+none_at (suc i) (bind ks t) = refl
+none_at (suc i) nil = refl
 
-lone_end : (b : Bool) (t : Tree) → cond (b && true) (components every t) [] ++ [] ≡ of_found (cond b (Some t) None)
-lone_end true t = append-nil (components every t)
-lone_end false t = refl
+-- Each place is come to, or none of its member is chosen.
+module _ {Key Id Name : Type 0} (m : Meaning Key Id Name) (ps : Parts Key Id) (n : ℕ) (ts : Tree) (counted : n ≡ count ts)
+    (Q : ℕ → Type 0) where
+  pub each_chosen : (c : Chosen Id) → ((k : ℕ) → k < places_count c n → Q (chosen_at c ps n k)) →
+      ((i : ℕ) → of_member (meant m c) i ts ≡ [] → Q i) → (i : ℕ) → i < n → Q i
+  each_chosen Every f skip i l = each_place (list_order ps) n Q f i l
+  each_chosen NoMember f skip i l = skip i (none_at i ts)
+  each_chosen NoRegion f skip i l = each_place (list_order ps) n Q f i l
+  each_chosen (NotBivariant d) f skip i l = each_place (list_order ps) n Q f i l
+  each_chosen (LastTypes p) f skip i l = decided (nat_lt (n - 1 - i) p) refl
+    where
+      decided : (b : Bool) → nat_lt (n - 1 - i) p ≡ b → Q i
+      decided true t =
+          let o = ltb-true (n - 1 - i) p t in
+          let at : n - 1 - (n - 1 - i) ≡ i = omega (arith, l) in
+          subst Q at (f (n - 1 - i) (omega (arith, o, l)))
+      decided false t =
+          let o = ltb-false (n - 1 - i) p t in
+          skip i (behind_last p i ts (omega (arith, o, l, counted)))
 
--- The last type of a list, and the last two.
-pub captured_is : (ts : Tree) → IsList ts → components (last_types 1) ts ≡ of_found (captured_types ts)
-captured_is nil l = refl
-captured_is (cons t nil) l = lone_end (is_type_sort (tree_sort t)) t
-captured_is (cons t (cons u us)) l =
-    passed_by 1 t (cons u us) (omega arith) ∙ captured_is (cons u us) l
-    ∙ ap of_found (sym (from_last 0 t (cons u us) (omega arith)))
-captured_is (cons t (leaf x)) l = absurd l
-captured_is (cons t (node h ts)) l = absurd l
-captured_is (cons t (bind ks u)) l = absurd l
-captured_is (leaf x) l = absurd l
-captured_is (node h ts) l = absurd l
-captured_is (bind ks t) l = absurd l
-
-pub resumed_is : (ts : Tree) → IsList ts →
-    components (last_types 2) ts ≡ of_found (resume_type ts) ++ of_found (captured_types ts)
-resumed_is nil l = refl
-resumed_is (cons t nil) l = lone_end (is_type_sort (tree_sort t)) t
-resumed_is (cons t (cons u nil)) l =
-    ap₂ (λ x y. x ++ y) (lone (is_type_sort (tree_sort t)) t) (lone_end (is_type_sort (tree_sort u)) u)
-resumed_is (cons t (cons u (cons v vs))) l =
-    passed_by 2 t (cons u (cons v vs)) (omega arith) ∙ resumed_is (cons u (cons v vs)) l
-    ∙ ap₂ (λ x y. of_found x ++ of_found y) (sym (from_last 1 t (cons u (cons v vs)) (omega arith)))
-    (sym (from_last 0 t (cons u (cons v vs)) (omega arith)))
-resumed_is (cons t (cons u (leaf x))) l = absurd l
-resumed_is (cons t (cons u (node h ts))) l = absurd l
-resumed_is (cons t (cons u (bind ks v))) l = absurd l
-resumed_is (cons t (leaf x)) l = absurd l
-resumed_is (cons t (node h ts)) l = absurd l
-resumed_is (cons t (bind ks u)) l = absurd l
-resumed_is (leaf x) l = absurd l
-resumed_is (node h ts) l = absurd l
-resumed_is (bind ks t) l = absurd l
+-- How many members stand behind one.
+pub rest_count : (i : ℕ) (ts : Tree) → i < count ts → suc (i + count (rest (suc i) ts)) ≡ count ts
+rest_count zero (cons t ts) l = omega arith
+rest_count (suc i) (cons t ts) l = let h = rest_count i ts (omega (arith, l)) in omega (arith, h)
+rest_count i (leaf x) l = absurd (omega (arith, l))
+rest_count i (node h ts) l = absurd (omega (arith, l))
+rest_count i (bind ks t) l = absurd (omega (arith, l))
+rest_count i nil l = absurd (omega (arith, l))

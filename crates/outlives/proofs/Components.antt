@@ -23,11 +23,6 @@ use Rattle.relation_terms.specs.declared.terms.ty_kind.ParamTy.{ParamTy}
 use Rattle.relation_terms.specs.declared.terms.placeholder.Placeholder.{Placeholder}
 use Rattle.relation_terms.specs.declared.terms.placeholder.BoundTy.{BoundTy}
 use Rattle.relation_terms.specs.declared.terms.alias.AliasTy.{AliasTy}
-use Rattle.relation_terms.specs.declared.terms.keys.ArgsKey.{ArgsKey}
-use Rattle.relation_terms.specs.declared.terms.ids.FunctionId.{FunctionId}
-use Rattle.relation_terms.specs.declared.terms.ids.ClosureId.{ClosureId}
-use Rattle.relation_terms.specs.declared.terms.ids.CoroutineClosureId.{CoroutineClosureId}
-use Rattle.relation_terms.specs.declared.terms.ids.CoroutineId.{CoroutineId}
 use Rattle.relation_terms.specs.declared.terms.ty_kind.InferTy.{InferTy}
 use Rattle.relation_terms.specs.declared.terms.ty_kind.InferTy.TheVariants.{TyVar, IntVar, FloatVar}
 use Rattle.relation_terms.specs.declared.terms.ty_kind.InferTy.TheVariants.{FreshTy, FreshIntTy, FreshFloatTy}
@@ -45,8 +40,8 @@ use Rattle.relation_terms.specs.declared.terms.part_kind.Part.TheVariants.{Exist
 use Rattle.relation_terms.specs.Interning.{Sorted}
 use Rattle.relation_terms.proofs.Parts.{sort_known}
 use Rattle.relation_folds.proofs.Visiting.{has_sort}
-use Rattle.outlives.specs.Components.{every, no_member, components, choice_of, is_alias, is_component, is_region_sort}
-use Rattle.relation_terms.proofs.Members.{terms_list}
+use Rattle.outlives.specs.Components.{every, components, choice_of, is_alias, is_component, is_region_sort}
+use Rattle.component_parts.specs.Choosing.{choice_in}
 
 -- A leaf that is no region and no type is no component.
 leaf_none : (l : Leaf) → is_region_sort (leaf_sort l) ≡ false → is_type_sort (leaf_sort l) ≡ false →
@@ -122,19 +117,6 @@ module _ {Key Id Name : Type 0} (m : Meaning Key Id Name) (o : Sorted m) where
   part_has (Existential p) k f g = of_sort (Existential p) k refl refl
   part_has (Object p) k f g = of_sort (Object p) k refl refl
 
--- A coroutine's witness has none.
-none_chosen : (ts : Tree) → IsList ts → components no_member ts ≡ []
-none_chosen nil l = refl
-none_chosen (cons t ts) l = none_chosen ts l
-none_chosen (leaf x) l = absurd l
-none_chosen (node h ts) l = absurd l
-none_chosen (bind ks t) l = absurd l
-
-pub witness_has : (w : Tree) (d : ℕ) (ts : Tree) → w ≡ node (coroutine_witness d) ts → IsTerm type_sort w →
-    components every w ≡ []
-witness_has w d ts e k =
-    ap (components every) e ∙ none_chosen ts (terms_list argument_sort ts (subst (IsTerm type_sort) e k).1)
-
 -- A region that no binder binds is a component, and one that a binder binds has none.
 pub region_is : {Key Id Name : Type 0} (m : Meaning Key Id Name) (k : RegionKind Name) →
     ((d : DebruijnIndex) (b : BoundRegion Name) → k ≡ ReBound d b → ⊥) →
@@ -156,40 +138,36 @@ infer_is (FreshFloatTy n) = refl
 
 -- The forms of types that are gone into part by part.
 module _ {Key Id Name : Type 0} (m : Meaning Key Id Name) where
-  pub form_parts : (k : TyKind Key Id Name) → ((d : FunctionId Id) (a : ArgsKey Key) → k ≡ FnDef d a → ⊥) →
-      ((d : ClosureId Id) (a : ArgsKey Key) → k ≡ Closure d a → ⊥) →
-      ((d : CoroutineClosureId Id) (a : ArgsKey Key) → k ≡ CoroutineClosure d a → ⊥) →
-      ((d : CoroutineId Id) (a : ArgsKey Key) → k ≡ Coroutine d a → ⊥) →
-      ((d : CoroutineId Id) (a : ArgsKey Key) → k ≡ CoroutineWitness d a → ⊥) →
-      ((p : ParamTy Name) → k ≡ TyParam p → ⊥) → ((p : Placeholder (BoundTy Name)) → k ≡ TyPlaceholder p → ⊥) →
-      ((i : InferTy) → k ≡ Infer i → ⊥) → ((a : AliasTy Key Id) → k ≡ Alias a → ⊥) →
-      components every (parts_of (kind_tree m k)) ≡ components every (kind_tree m k)
-  form_parts Bool n1 n2 n3 n4 n5 n6 n7 n8 n9 = refl
-  form_parts Char n1 n2 n3 n4 n5 n6 n7 n8 n9 = refl
-  form_parts (Int w) n1 n2 n3 n4 n5 n6 n7 n8 n9 = refl
-  form_parts (Uint w) n1 n2 n3 n4 n5 n6 n7 n8 n9 = refl
-  form_parts (Float w) n1 n2 n3 n4 n5 n6 n7 n8 n9 = refl
-  form_parts (Adt d a) n1 n2 n3 n4 n5 n6 n7 n8 n9 = refl
-  form_parts (Foreign d) n1 n2 n3 n4 n5 n6 n7 n8 n9 = refl
-  form_parts Str n1 n2 n3 n4 n5 n6 n7 n8 n9 = refl
-  form_parts (Array t c) n1 n2 n3 n4 n5 n6 n7 n8 n9 = refl
-  form_parts (Pat t p) n1 n2 n3 n4 n5 n6 n7 n8 n9 = refl
-  form_parts (Slice t) n1 n2 n3 n4 n5 n6 n7 n8 n9 = refl
-  form_parts (RawPtr t u) n1 n2 n3 n4 n5 n6 n7 n8 n9 = refl
-  form_parts (Ref r t u) n1 n2 n3 n4 n5 n6 n7 n8 n9 = refl
-  form_parts (FnDef d a) n1 n2 n3 n4 n5 n6 n7 n8 n9 = absurd (n1 d a refl)
-  form_parts (FnPtr b h) n1 n2 n3 n4 n5 n6 n7 n8 n9 = refl
-  form_parts (UnsafeBinder b) n1 n2 n3 n4 n5 n6 n7 n8 n9 = refl
-  form_parts (Dynamic ps r) n1 n2 n3 n4 n5 n6 n7 n8 n9 = refl
-  form_parts (Closure d a) n1 n2 n3 n4 n5 n6 n7 n8 n9 = absurd (n2 d a refl)
-  form_parts (CoroutineClosure d a) n1 n2 n3 n4 n5 n6 n7 n8 n9 = absurd (n3 d a refl)
-  form_parts (Coroutine d a) n1 n2 n3 n4 n5 n6 n7 n8 n9 = absurd (n4 d a refl)
-  form_parts (CoroutineWitness d a) n1 n2 n3 n4 n5 n6 n7 n8 n9 = absurd (n5 d a refl)
-  form_parts Never n1 n2 n3 n4 n5 n6 n7 n8 n9 = refl
-  form_parts (Tuple ts) n1 n2 n3 n4 n5 n6 n7 n8 n9 = refl
-  form_parts (Alias a) n1 n2 n3 n4 n5 n6 n7 n8 n9 = absurd (n9 a refl)
-  form_parts (TyParam p) n1 n2 n3 n4 n5 n6 n7 n8 n9 = absurd (n6 p refl)
-  form_parts (TyBound d b) n1 n2 n3 n4 n5 n6 n7 n8 n9 = refl
-  form_parts (TyPlaceholder p) n1 n2 n3 n4 n5 n6 n7 n8 n9 = absurd (n7 p refl)
-  form_parts (Infer i) n1 n2 n3 n4 n5 n6 n7 n8 n9 = absurd (n8 i refl)
-  form_parts (TyError e) n1 n2 n3 n4 n5 n6 n7 n8 n9 = refl
+  pub form_parts : (k : TyKind Key Id Name) → ((p : ParamTy Name) → k ≡ TyParam p → ⊥) →
+      ((p : Placeholder (BoundTy Name)) → k ≡ TyPlaceholder p → ⊥) → ((i : InferTy) → k ≡ Infer i → ⊥) →
+      ((a : AliasTy Key Id) → k ≡ Alias a → ⊥) →
+      components (choice_in (kind_tree m k)) (parts_of (kind_tree m k)) ≡ components every (kind_tree m k)
+  form_parts Bool n1 n2 n3 n4 = refl
+  form_parts Char n1 n2 n3 n4 = refl
+  form_parts (Int w) n1 n2 n3 n4 = refl
+  form_parts (Uint w) n1 n2 n3 n4 = refl
+  form_parts (Float w) n1 n2 n3 n4 = refl
+  form_parts (Adt d a) n1 n2 n3 n4 = refl
+  form_parts (Foreign d) n1 n2 n3 n4 = refl
+  form_parts Str n1 n2 n3 n4 = refl
+  form_parts (Array t c) n1 n2 n3 n4 = refl
+  form_parts (Pat t p) n1 n2 n3 n4 = refl
+  form_parts (Slice t) n1 n2 n3 n4 = refl
+  form_parts (RawPtr t u) n1 n2 n3 n4 = refl
+  form_parts (Ref r t u) n1 n2 n3 n4 = refl
+  form_parts (FnDef d a) n1 n2 n3 n4 = refl
+  form_parts (FnPtr b h) n1 n2 n3 n4 = refl
+  form_parts (UnsafeBinder b) n1 n2 n3 n4 = refl
+  form_parts (Dynamic ps r) n1 n2 n3 n4 = refl
+  form_parts (Closure d a) n1 n2 n3 n4 = refl
+  form_parts (CoroutineClosure d a) n1 n2 n3 n4 = refl
+  form_parts (Coroutine d a) n1 n2 n3 n4 = refl
+  form_parts (CoroutineWitness d a) n1 n2 n3 n4 = refl
+  form_parts Never n1 n2 n3 n4 = refl
+  form_parts (Tuple ts) n1 n2 n3 n4 = refl
+  form_parts (Alias a) n1 n2 n3 n4 = absurd (n4 a refl)
+  form_parts (TyParam p) n1 n2 n3 n4 = absurd (n1 p refl)
+  form_parts (TyBound d b) n1 n2 n3 n4 = refl
+  form_parts (TyPlaceholder p) n1 n2 n3 n4 = absurd (n2 p refl)
+  form_parts (Infer i) n1 n2 n3 n4 = absurd (n3 i refl)
+  form_parts (TyError e) n1 n2 n3 n4 = refl

@@ -5,7 +5,6 @@ use Rattle.std.proofs.lemmas.Bool.{ltb-true, ltb-false}
 use Rattle.relation_terms.specs.Trees.{Tree, known, size, count, nth}
 use Rattle.relation_terms.specs.Meaning.{Meaning, arg_tree}
 use Rattle.relation_terms.specs.Parts.{part_tree, tree_sort}
-use Rattle.relation_terms.specs.Closures.{is_type_sort, type_from_last}
 use Rattle.relation_terms.specs.declared.terms.generic_arg.GenericArgKind.{GenericArgKind}
 use Rattle.relation_terms.specs.declared.terms.generic_arg.GenericArgKind.TheVariants.{Ty as TyArg, Const as ConstArg}
 use Rattle.relation_terms.specs.declared.terms.keys.TyKey.{TyKey}
@@ -13,11 +12,9 @@ use Rattle.relation_terms.specs.declared.terms.part_kind.Part.{Part}
 use Rattle.relation_terms.specs.declared.terms.part_kind.Part.TheVariants.{Region, Ty, Const, ValTree, Pat, ValueType}
 use Rattle.relation_terms.specs.declared.terms.part_kind.Part.TheVariants.{Binder, Signature, Inputs, Existential}
 use Rattle.relation_terms.specs.declared.terms.part_kind.Part.TheVariants.{Object}
-use Rattle.relation_terms.proofs.Members.{member_small, size_positive}
-pub use Rattle.relation_terms.proofs.Members.{terms_list}
 use Rattle.outlives.specs.Components.{every, components}
 use Rattle.outlives.specs.Outliving.{HasAll}
-use Rattle.outlives.specs.Collecting.{Settled, Meets, Keeps, kept_of, found_size}
+use Rattle.outlives.specs.Collecting.{Settled, Meets, Keeps, kept_of}
 use Rattle.outlives.specs.declared.Component.{Component}
 use Rattle.outlives.proofs.Outliving.{meets_none, meets_kept, meets_after, settled_kept, adds_none}
 
@@ -46,28 +43,7 @@ next_place Q i j e f q k l = decided (nat_lt k i) refl
     decided true t = f k (ltb-true k i t)
     decided false t = let o = ltb-false k i t in let is : i ≡ k = omega (arith, o, l, e) in subst Q is q
 
-abbrev or_else : Tree → Option Tree → Tree
-or_else d None = d
-or_else d (Some t) = t
-
-found_inside : (b d : Bool) (x y : Tree) → Some x ≡ cond b (cond d (Some y) None) None → (b ≡ true) × (x ≡ y)
-found_inside true true x y e = (refl, ap (or_else x) e)
-found_inside true false x y e = absurd (cc)
-found_inside false d x y e = absurd (cc)
-
 module _ {X D N : Type 0} (m : Meaning X D N) where
-  -- A type that was found among arguments is smaller than their list.
-  pub found_small : (p : ℕ) (ts : Tree) (found : Option (TyKey X)) → option_map m.ty found ≡ type_from_last p ts →
-      suc (found_size m found) ≤ size ts
-  found_small p ts None e = size_positive ts
-  found_small p ts (Some t) e =
-      let i = count ts - 1 - p in
-      let there = found_inside (nat_lt p (count ts)) (is_type_sort (tree_sort (nth i ts))) (m.ty t) (nth i ts) e in
-      let l = ltb-true p (count ts) there.0 in
-      let less = member_small ts i (omega (arith, l)) in
-      let is : size (m.ty t) ≡ size (nth i ts) = ap size there.1 in
-      omega (arith, less, is)
-
   module _ (eq : GenericArgKind X → GenericArgKind X → Bool)
       (same : (x y : GenericArgKind X) → IsTrue (known (arg_tree m x)) → IsTrue (known (arg_tree m y)) →
       (IsTrue (eq x y) → arg_tree m x ≡ arg_tree m y) × (arg_tree m x ≡ arg_tree m y → IsTrue (eq x y))) where

@@ -1,5 +1,5 @@
 -- How a collection of components goes on, and what it has met.
-use Rattle.std.specs.Prelude.{◌≡◌, ◌⊎◌, ◌<◌, ℕ, zero, suc, Bool, true, cond, List, [], drop, IsTrue, Option, Some, None}
+use Rattle.std.specs.Prelude.{◌≡◌, ◌⊎◌, ◌<◌, ℕ, zero, suc, Bool, true, cond, List, [], IsTrue, Option, Some, None}
 use Rattle.std.specs.List.{list_any}
 use Rattle.std.specs.Global.{Vec}
 use Rattle.std.specs.HashSet.{HashSet}
@@ -9,22 +9,16 @@ use Rattle.relation_terms.specs.Parts.{part_tree}
 use Rattle.relation_terms.specs.declared.terms.alias.AliasTy.{AliasTy}
 use Rattle.relation_terms.specs.declared.terms.generic_arg.GenericArgKind.{GenericArgKind}
 use Rattle.relation_terms.specs.declared.terms.generic_arg.GenericArgKind.TheVariants.{Ty as TyArg, Const as ConstArg}
-use Rattle.relation_terms.specs.declared.terms.keys.TyKey.{TyKey}
 use Rattle.relation_terms.specs.declared.terms.part_kind.Part.{Part}
 use Rattle.relation_terms.specs.declared.terms.part_kind.Part.TheVariants.{Ty as TyPart, Const as ConstPart}
 use Rattle.relation_terms.specs.declared.terms.ty_kind.TyKind.TheVariants.{Alias as AliasForm}
-use Rattle.outlives.specs.Components.{Choice, every, no_region, not_bivariant, alias_choice, takes, choice_behind, components}
-use Rattle.outlives.specs.Components.{inside_alias}
+use Rattle.component_parts.specs.Components.{Choice, every, takes, choice_behind, components}
+use Rattle.component_parts.specs.Components.{inside_alias}
 use Rattle.outlives.specs.Outliving.{AddsSome, HasAll}
 use Rattle.outlives.specs.Keeping.{Adds}
 use Rattle.outlives.specs.declared.Component.{Component}
 use Rattle.outlives.specs.declared.chosen.Chosen.{Chosen}
 use Rattle.outlives.specs.declared.chosen.Chosen.TheVariants.{Every, NoRegion, NotBivariant}
-
--- The same choice, of the list behind its first so many members.
-abbrev pub behind_all : ℕ → Choice → Choice
-behind_all i (not_bivariant vs) = not_bivariant (drop i vs)
-behind_all i c = c
 
 -- The components of the member at a place, if it is chosen.
 abbrev pub of_member : Choice → ℕ → Tree → List Tree
@@ -39,16 +33,6 @@ kept_of (ConstPart c) = Some (ConstArg c)
 kept_of p = None
 
 module _ {Key Id Name : Type 0} (m : Meaning Key Id Name) where
-  -- The choice in the code, as one of a tree's parts.
-  abbrev pub meant : Chosen Id → Choice
-  meant Every = every
-  meant NoRegion = no_region
-  meant (NotBivariant d) = alias_choice (m.alias_variances (m.id d.0))
-
-  -- The part, which stands before such a list, is chosen at a place.
-  abbrev pub takes_part : Chosen Id → ℕ → Part Key Id → Tree → Bool
-  takes_part c i p ts = takes (behind_all i (meant c)) (part_tree m p) ts
-
   -- Behind what was there, each component stands for one of the components of the tree.
   abbrev pub AddsFrom : Tree → List (Component Key Id Name) → List (Component Key Id Name) → Type 0
   AddsFrom t old new = AddsSome m (components every t) old new
@@ -60,16 +44,6 @@ module _ {Key Id Name : Type 0} (m : Meaning Key Id Name) where
   -- The components of the arguments of an alias.
   abbrev pub arg_components : AliasTy Key Id → List Tree
   arg_components a = inside_alias m.alias_variances (kind_tree m (AliasForm a))
-
-  -- The components of a type that was found, if one was.
-  abbrev pub found_components : Option (TyKey Key) → List Tree
-  found_components None = []
-  found_components (Some t) = components every (m.ty t)
-
-  -- The size of a type that was found, if one was.
-  abbrev pub found_size : Option (TyKey Key) → ℕ
-  found_size None = 0
-  found_size (Some t) = size (m.ty t)
 
   module _ (eq : GenericArgKind Key → GenericArgKind Key → Bool) where
     -- For whatever was met and is smaller than `n`, the list has all components.

@@ -1,3 +1,2 @@
-pub mod Components
 pub mod Outliving
 pub mod Collecting

@@ -1,5 +1,5 @@
 //! The components of a term: one recursion over the parts of all forms, that goes into each type and constant once.
-ghost use Rattle.std.specs.Prelude.{◌≡◌, ◌<◌, ◌++◌, ◌∷◌, [], suc, true, IsTrue, IfOk, IfSome, OnOk, OnErr};
+ghost use Rattle.std.specs.Prelude.{◌≡◌, ◌<◌, ◌++◌, ◌∷◌, [], suc, true, IsTrue, IfOk, OnOk, OnErr};
 ghost use Rattle.relation_terms.specs.Trees.{known, size, count};
 ghost use Rattle.relation_terms.specs.Meaning.{kind_tree};
 ghost use Rattle.relation_terms.specs.Parts.{part_tree, parts_tree};
@@ -7,17 +7,17 @@ ghost use Rattle.relation_terms.specs.declared.terms.ty_kind.TyKind.TheVariants.
 ghost use Rattle.outlives.specs.Components.{last_types, components};
 ghost use Rattle.relation_folds.specs.Visits.{bound_var_escapes};
 ghost use Rattle.outlives.specs.Outliving.{AddsSome, HasAll};
-ghost use Rattle.outlives.specs.Collecting.{meant, of_member, kept_of, found_components, found_size};
+ghost use Rattle.outlives.specs.Collecting.{of_member, kept_of};
 ghost use Rattle.outlives.specs.Collecting.{Ready, Settled, Meets, Keeps, AddsFrom, HasAllOf, arg_components};
 
-use crate::chosen::{Chosen, alias_chosen, is_chosen};
 use crate::met::{Met, none_met};
 use crate::{Component, ComponentOf};
+use component_parts::{Chosen, alias_chosen, chosen_place, form_chosen, is_chosen, places_count};
 use relation_folds::visit::has_escaping_bound_vars;
-use relation_terms::terms::parts::{member, member_count, parts_of, ty_parts, visited_place};
+use relation_terms::terms::parts::{member, member_count, parts_of, ty_parts};
 use relation_terms::terms::{
     AliasTy, GenericArgKind, GenericArgs, Interner, OutOfMemory, Part, PartOf, Parts, PartsOf,
-    Region, RegionKind, Ty, TyKind, Tys, closure_upvars, coroutine_resume_ty, coroutine_upvars,
+    Region, RegionKind, Ty, TyKind, Tys,
 };
 use traversal::keep;
 
@@ -157,9 +157,9 @@ fn collect_members<I: Interner>(
         visited.old.keys visited.new.keys out.new.items) }
 {
     let count = member_count(cx, parts);
-    for step in 0..count {
-        let i = visited_place(parts, count, step);
-        collect_member(cx, parts, chosen, i, out, visited)?;
+    for step in 0..places_count(chosen, count) {
+        let i = chosen_place(chosen, parts, count, step);
+        collect_member(cx, parts, chosen, count, i, out, visited)?;
     }
     Ok(())
 }
@@ -170,11 +170,13 @@ fn collect_member<I: Interner>(
     cx: &I,
     parts: &PartsOf<I>,
     chosen: &Chosen<I::Id>,
+    members: usize,
     i: usize,
     out: &mut Vec<ComponentOf<I>>,
     visited: &mut Met<I>,
 ) -> Result<(), OutOfMemory>
     requires known { IsTrue (known (parts_tree (I.meaning cx.now) parts.now)) }
+    requires members { members ≡ count (parts_tree (I.meaning cx.now) parts.now) }
     requires in_bounds { i < count (parts_tree (I.meaning cx.now) parts.now) }
     requires settled { Settled (I.meaning cx.now) ⟦<GenericArgKind<I::Key> as PartialEq>⟧.eq
         (size (parts_tree (I.meaning cx.now) parts.now)) visited.old.keys out.old.items }
@@ -188,78 +190,10 @@ fn collect_member<I: Interner>(
         visited.old.keys visited.new.keys out.new.items) }
 {
     let part = member(cx, parts, i);
-    if !is_chosen(cx, chosen, i, &part) {
+    if !is_chosen(cx, chosen, members, i, &part) {
         return Ok(());
     }
     collect_part(cx, &part, out, visited)
-}
-
-// Adds the components of a type that was found among arguments, if one was.
-#[cycle(collect)]
-fn collect_found<I: Interner>(
-    cx: &I,
-    found: Option<Ty<I>>,
-    out: &mut Vec<ComponentOf<I>>,
-    visited: &mut Met<I>,
-) -> Result<(), OutOfMemory>
-    requires known { IfSome found (λ t. IsTrue (known ((I.meaning cx.now).ty t))) }
-    requires settled { Settled (I.meaning cx.now) ⟦<GenericArgKind<I::Key> as PartialEq>⟧.eq
-        (suc (found_size (I.meaning cx.now) found)) visited.old.keys out.old.items }
-    ensures some { AddsSome (I.meaning cx.now) (found_components (I.meaning cx.now) found)
-        out.old.items out.new.items }
-    ensures all { OnOk result (HasAll (I.meaning cx.now) (found_components (I.meaning cx.now) found)
-        out.new.items) }
-    ensures meets { OnOk result (Meets (I.meaning cx.now) ⟦<GenericArgKind<I::Key> as PartialEq>⟧.eq
-        visited.old.keys visited.new.keys out.new.items) }
-{
-    match found {
-        Some(ty) => collect_type(cx, &ty, out, visited),
-        None => Ok(()),
-    }
-}
-
-// Adds the components of the types that a closure of these arguments captures.
-#[cycle(collect)]
-fn collect_closure<I: Interner>(
-    cx: &I,
-    args: &GenericArgs<I>,
-    out: &mut Vec<ComponentOf<I>>,
-    visited: &mut Met<I>,
-) -> Result<(), OutOfMemory>
-    requires known { IsTrue (known ((I.meaning cx.now).args args.now)) }
-    requires settled { Settled (I.meaning cx.now) ⟦<GenericArgKind<I::Key> as PartialEq>⟧.eq
-        (size ((I.meaning cx.now).args args.now)) visited.old.keys out.old.items }
-    ensures some { AddsSome (I.meaning cx.now) (components (last_types 1) ((I.meaning cx.now).args args.now))
-        out.old.items out.new.items }
-    ensures all { OnOk result (HasAll (I.meaning cx.now)
-        (components (last_types 1) ((I.meaning cx.now).args args.now)) out.new.items) }
-    ensures meets { OnOk result (Meets (I.meaning cx.now) ⟦<GenericArgKind<I::Key> as PartialEq>⟧.eq
-        visited.old.keys visited.new.keys out.new.items) }
-{
-    collect_found(cx, closure_upvars(cx, args), out, visited)
-}
-
-// Adds the components of the types that a coroutine of these arguments captures, and of the type it is resumed with.
-#[cycle(collect)]
-fn collect_coroutine<I: Interner>(
-    cx: &I,
-    args: &GenericArgs<I>,
-    out: &mut Vec<ComponentOf<I>>,
-    visited: &mut Met<I>,
-) -> Result<(), OutOfMemory>
-    requires known { IsTrue (known ((I.meaning cx.now).args args.now)) }
-    requires settled { Settled (I.meaning cx.now) ⟦<GenericArgKind<I::Key> as PartialEq>⟧.eq
-        (size ((I.meaning cx.now).args args.now)) visited.old.keys out.old.items }
-    ensures some { AddsSome (I.meaning cx.now) (components (last_types 2) ((I.meaning cx.now).args args.now))
-        out.old.items out.new.items }
-    ensures all { OnOk result (HasAll (I.meaning cx.now)
-        (components (last_types 2) ((I.meaning cx.now).args args.now)) out.new.items) }
-    ensures meets { OnOk result (Meets (I.meaning cx.now) ⟦<GenericArgKind<I::Key> as PartialEq>⟧.eq
-        visited.old.keys visited.new.keys out.new.items) }
-{
-    collect_found(cx, coroutine_upvars(cx, args), out, visited)?;
-    // Between two turns a coroutine may store what it was resumed with.
-    collect_found(cx, coroutine_resume_ty(cx, args), out, visited)
 }
 
 // Adds the components of a type, by its outermost form. The forms that stand most often are looked for here.
@@ -309,19 +243,12 @@ fn collect_form<I: Interner>(
 {
     let kind = cx.ty_kind(ty);
     match &kind {
-        TyKind::FnDef(_, args) => {
-            collect_members(cx, &Parts::Args(*args), &Chosen::NoRegion, out, visited)
-        }
-        TyKind::Closure(_, args) => collect_closure(cx, args, out, visited),
-        TyKind::CoroutineClosure(_, args) => collect_closure(cx, args, out, visited),
-        TyKind::Coroutine(_, args) => collect_coroutine(cx, args, out, visited),
-        TyKind::CoroutineWitness(..) => Ok(()),
         TyKind::Param(param) => add::<I>(out, Component::Param(*param)),
         TyKind::Placeholder(placeholder) => add::<I>(out, Component::Placeholder(*placeholder)),
         TyKind::Infer(var) => add::<I>(out, Component::UnresolvedInferenceVariable(*var)),
         TyKind::Alias(alias) if has_escaping_bound_vars(cx, ty) => collect_escaping(cx, alias, out),
         TyKind::Alias(alias) => add::<I>(out, Component::Alias(*alias)),
-        _ => collect_members(cx, &ty_parts(&kind), &Chosen::Every, out, visited),
+        _ => collect_members(cx, &ty_parts(&kind), &form_chosen(&kind), out, visited),
     }
 }
 

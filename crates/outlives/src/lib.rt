@@ -10,7 +10,6 @@ ghost use Rattle.relation_terms.specs.Trees.{known};
 ghost use Rattle.outlives.specs.Outliving.{AddsSome, HasAll};
 ghost use Rattle.outlives.specs.Collecting.{AddsFrom, HasAllOf, arg_components};
 
-mod chosen;
 mod collecting;
 pub mod met;
 

@@ -16,7 +16,7 @@ use Rattle.relation_terms.specs.Parts.{tree_sort}
 use Rattle.relation_terms.specs.Closures.{is_type_sort}
 use Rattle.relation_folds.specs.Visits.{has_leaf, is_escaping, bound_var_escapes}
 use Rattle.anonymize.specs.Renamings.{Moved, AreRenamings}
-use Rattle.outlives.specs.Components.{every, components}
+use Rattle.component_parts.specs.Components.{every, components}
 use Rattle.outlives_assumptions.specs.Assumptions.{is_assumed, is_unresolved, assumed_parts}
 use Rattle.relation_terms.specs.Owned.{AreWithin}
 use Rattle.relation_statements.specs.Stated.{stated_of}

@@ -41,7 +41,7 @@ use Rattle.relation_terms.specs.declared.terms.keys.BoundVarsKey.{BoundVarsKey}
 use Rattle.relation_terms.specs.declared.terms.keys.RegionKey.{RegionKey}
 use Rattle.relation_terms.proofs.Binders.{under_known}
 use Rattle.relation_terms.proofs.Members.{type_term, region_term, const_term}
-use Rattle.outlives.specs.Components.{every, components, is_region_sort}
+use Rattle.component_parts.specs.Components.{every, components, is_region_sort}
 use Rattle.outlives_assumptions.specs.Assumptions.{is_assumed, assumed_parts, HaveSame}
 use Rattle.outlives_assumptions.specs.Assuming.{argument_of, IsKnownComponent}
 use Rattle.outlives.specs.Outliving.{AddsSome, HasAll}

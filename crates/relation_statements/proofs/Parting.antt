@@ -10,9 +10,9 @@ use Rattle.relation_terms.specs.Trees.{Tree, leaf, node, bind, nil, cons, count}
 use Rattle.relation_terms.specs.Closures.{is_type_sort}
 use Rattle.relation_folds.specs.Visits.{has_leaf, is_escaping}
 use Rattle.anonymize.specs.Renamings.{MovedLeaf, Moved}
-use Rattle.outlives.specs.Components.{Choice, every, no_member, no_region, last_types, not_bivariant, takes}
-use Rattle.outlives.specs.Components.{choice_behind}
-use Rattle.outlives.specs.Components.{choice_of, is_alias, components, is_region_sort}
+use Rattle.component_parts.specs.Components.{Choice, every, no_member, no_region, last_types, not_bivariant, takes}
+use Rattle.component_parts.specs.Components.{choice_behind}
+use Rattle.component_parts.specs.Components.{choice_of, is_alias, components, is_region_sort}
 use Rattle.outlives_assumptions.specs.Assumptions.{is_assumed, assumed_parts}
 use Rattle.relation_statements.proofs.Moving.{sorts}
 

@@ -6,7 +6,7 @@ use Rattle.relation_terms.specs.Heads.{BoundKind, Head, bound, trait_ref, trait_
 use Rattle.relation_terms.specs.Heads.{type_outlives}
 use Rattle.relation_terms.specs.Trees.{Tree, leaf, node, bind, nil, cons}
 use Rattle.relation_terms.specs.Parts.{tree_sort}
-use Rattle.outlives.specs.Components.{is_region_sort}
+use Rattle.component_parts.specs.Components.{is_region_sort}
 use Rattle.outlives_assumptions.specs.Assumptions.{assumed_parts}
 use Rattle.relation_statements.specs.Stated.{stated_of}
 

@@ -4,7 +4,7 @@ pub use Rattle.fast_reject.specs.InstanceLaws
 pub use Rattle.fast_reject.specs.KeyLaws
 pub use Rattle.fast_reject.specs.Pairs
 pub use Rattle.fast_reject.specs.Rejecting
-pub use Rattle.outlives.specs.Components
+pub use Rattle.component_parts.specs.Components
 pub use Rattle.outlives.specs.Outliving
 pub use Rattle.outlives.specs.Collecting
 pub use Rattle.walk.specs.Places

@@ -6,7 +6,7 @@ use Rattle.std.proofs.lemmas.Bool.{and_parts}
 use mathlib.Core.Former.{Count}
 use Rattle.relation_terms.specs.Trees.{Tree, leaf, node, bind, nil, cons, known}
 use Rattle.relation_terms.specs.Meaning.{Meaning}
-use Rattle.outlives.specs.Components.{Choice, every, components, choice_of, choice_behind, takes, is_alias, is_component, inside_alias, alias_choice}
+use Rattle.component_parts.specs.Components.{Choice, every, components, choice_of, choice_behind, takes, is_alias, is_component, inside_alias, alias_choice}
 use Rattle.outlives.specs.Outliving.{SomeIs, EachIs, StandsFor, EachStands, AddsSome}
 use Rattle.relation_terms.specs.Heads.{alias}
 use Rattle.outlives.specs.declared.Component.{Component, Region, Param, Placeholder, UnresolvedInferenceVariable, Alias, EscapingAlias, EscapingAlias', Row_of-Component, end_of-Component, more_of-Component, items-the_row-Component, items_hidden-the_row-Component-0}

@@ -1,12 +1,9 @@
 use Rattle.std.proofs.Common.{rules, arith, refl, sym, ap, ◌∙◌, ◌≡◌, ◌<◌, ◌+◌, ◌*◌, suc, subst, IsTrue, false, true}
-use Rattle.std.proofs.Common.{[], ◌∷◌, ◌++◌, ◌≤◌, append-nil, OnOk, IfSome, cond}
+use Rattle.std.proofs.Common.{[], ◌∷◌, ◌++◌, ◌≤◌, append-nil, OnOk, cond}
 use Rattle.relation_terms.specs.contracts.terms.generic_arg.GenericArgKindPartialEq.TheImpl.{ghosts}
-use Rattle.relation_terms.specs.Heads.{argument_sort}
 use Rattle.relation_terms.specs.Trees.{size, count, known, nth}
 use Rattle.relation_terms.specs.Meaning.{kind_tree}
-use Rattle.relation_terms.specs.Orders.{list_order, place_at}
 use Rattle.relation_terms.specs.Parts.{part_tree, parts_tree, parts_of}
-use Rattle.relation_terms.specs.Closures.{captured_types, resume_type}
 use Rattle.relation_terms.specs.declared.terms.ty_kind.TyKind.TheVariants.{Param as ParamForm, Infer as InferForm}
 use Rattle.relation_terms.specs.declared.terms.ty_kind.TyKind.TheVariants.{Placeholder as PlaceholderForm}
 use Rattle.relation_terms.specs.declared.terms.ty_kind.TyKind.TheVariants.{Alias as AliasForm, Ref as RefForm}
@@ -15,16 +12,16 @@ use Rattle.relation_terms.specs.Interning.{Sorted}
 use Rattle.relation_terms.proofs.Members.{member_small, parts_small, slice_counts, slice_list, slice_nth, slice_sure}
 use Rattle.relation_terms.proofs.Parts.{ty_seen, known_parts}
 use Rattle.relation_folds.specs.Visits.{bound_var_escapes}
-use Rattle.outlives.specs.Components.{every, last_types, components, inside_alias}
+use Rattle.outlives.specs.Components.{every, components, inside_alias}
+use Rattle.component_parts.specs.Choosing.{choice_in, meant, chosen_at}
 use Rattle.outlives.specs.Outliving.{SomeIs, AddsSome, HasAll}
-use Rattle.outlives.specs.Collecting.{Settled, meant, of_member, found_components, found_size}
+use Rattle.outlives.specs.Collecting.{Settled, of_member}
 use Rattle.outlives.specs.declared.Component.{Param, Placeholder, UnresolvedInferenceVariable, Alias}
 use Rattle.outlives.specs.declared.Component.{EscapingAlias}
 use Rattle.relation_folds.proofs.Arguments.{arg_same}
-use Rattle.outlives.proofs.Choosing.{member_is, member_in, has_members, each_place, of_found, found_is, captured_is}
-use Rattle.outlives.proofs.Choosing.{resumed_is}
-use Rattle.outlives.proofs.Components.{part_has, witness_has, infer_is, form_parts}
-use Rattle.outlives.proofs.Meeting.{ok_any, ok_never, ok_map, ok_both, next_place, terms_list, found_small, part_settled}
+use Rattle.outlives.proofs.Choosing.{member_is, member_in, has_members, each_chosen, rest_count}
+use Rattle.outlives.proofs.Components.{part_has, infer_is, form_parts}
+use Rattle.outlives.proofs.Meeting.{ok_any, ok_never, ok_map, ok_both, next_place, part_settled}
 use Rattle.outlives.proofs.Meeting.{part_meets, part_had, meets_on}
 use Rattle.outlives.proofs.Outliving.{in_left, in_right, adds_none, adds_after, adds_within, adds_as, has_as, has_both}
 use Rattle.outlives.proofs.Outliving.{has_grown, added_some, added_all, stands_escaping, meets_none, meets_after}
@@ -67,139 +64,6 @@ collect_alias_args-returns-clause-all g t' c =
     subst (λ z. OnOk c.collect_members.result (HasAll m z c.collect_members.new.out.items)) e
     c.collect_members.ensures.all
 
-pub collect_closure-collect_found-requires : goal.collect_closure-collect_found-requires
-collect_closure-collect_found-requires g t' c κs within =
-    let m = g.I.Interner.meaning c.args.cx.now in
-    let eq = (ghosts g.row.I-Key g.I.Key.PartialEq g.I.Key.PartialEq-dict).eq in
-    let w = m.args c.args.args.now in
-    let f = c.closure_upvars.result in
-    let fits = found_small m 0 w f c.closure_upvars.ensures.means in
-    let d = c.decreases in
-    let k = c.closure_upvars.ensures.sure in
-    let small : 6 * found_size m f + 5 < 6 * size w + 1 = omega (arith, fits) in
-    let s = settled_below m eq (size w) (suc (found_size m f)) c.args.visited.now.keys c.args.out.now.items fits
-    c.requires.settled in
-    search rules
-
-pub collect_closure-returns-clause-some : goal.collect_closure-returns-clause-some
-collect_closure-returns-clause-some g t' c =
-    let m = g.I.Interner.meaning c.args.cx.now in
-    let w = m.args c.args.args.now in
-    let l = terms_list argument_sort w ((g.met.I.Interner.sorted c.args.cx.now).args c.args.args.now c.requires.known) in
-    let f = c.closure_upvars.result in
-    let e : found_components m f ≡ components (last_types 1) w =
-    found_is m f ∙ ap of_found c.closure_upvars.ensures.means ∙ sym (captured_is w l) in
-    adds_as m _ _ _ _ e c.collect_found.ensures.some
-
-pub collect_closure-returns-clause-all : goal.collect_closure-returns-clause-all
-collect_closure-returns-clause-all g t' c =
-    let m = g.I.Interner.meaning c.args.cx.now in
-    let w = m.args c.args.args.now in
-    let l = terms_list argument_sort w ((g.met.I.Interner.sorted c.args.cx.now).args c.args.args.now c.requires.known) in
-    let f = c.closure_upvars.result in
-    let e : found_components m f ≡ components (last_types 1) w =
-    found_is m f ∙ ap of_found c.closure_upvars.ensures.means ∙ sym (captured_is w l) in
-    subst (λ z. OnOk c.collect_found.result (HasAll m z c.collect_found.new.out.items)) e c.collect_found.ensures.all
-
-pub collect_coroutine-collect_found-requires : goal.collect_coroutine-collect_found-requires
-collect_coroutine-collect_found-requires g t' c κs within =
-    let m = g.I.Interner.meaning c.args.cx.now in
-    let eq = (ghosts g.row.I-Key g.I.Key.PartialEq g.I.Key.PartialEq-dict).eq in
-    let w = m.args c.args.args.now in
-    let f = c.coroutine_upvars.result in
-    let fits = found_small m 0 w f c.coroutine_upvars.ensures.means in
-    let d = c.decreases in
-    let k = c.coroutine_upvars.ensures.sure in
-    let small : 6 * found_size m f + 5 < 6 * size w + 1 = omega (arith, fits) in
-    let s = settled_below m eq (size w) (suc (found_size m f)) c.args.visited.now.keys c.args.out.now.items fits
-    c.requires.settled in
-    search rules
-
-pub collect_coroutine-returns-in_err-collect_found-clause-some : goal.collect_coroutine-returns-in_err-collect_found-clause-some
-collect_coroutine-returns-in_err-collect_found-clause-some g t' c =
-    let m = g.I.Interner.meaning c.args.cx.now in
-    let w = m.args c.args.args.now in
-    let l = terms_list argument_sort w ((g.met.I.Interner.sorted c.args.cx.now).args c.args.args.now c.requires.known) in
-    let up = c.coroutine_upvars.result in
-    let e : components (last_types 2) w ≡ of_found (resume_type w) ++ of_found (captured_types w) = resumed_is w l in
-    let u : found_components m up ≡ of_found (captured_types w) =
-    found_is m up ∙ ap of_found c.coroutine_upvars.ensures.means in
-    let first : AddsSome m (components (last_types 2) w) c.args.out.now.items c.collect_found.new.out.items =
-    adds_within m (found_components m up) (components (last_types 2) w) _ _
-    (λ P s. subst (SomeIs P) (sym e) (in_right (of_found (resume_type w)) (of_found (captured_types w)) P
-    (subst (SomeIs P) u s))) c.collect_found.ensures.some in
-    first
-
-pub collect_coroutine-collect_found-requires-2 : goal.collect_coroutine-collect_found-requires-2
-collect_coroutine-collect_found-requires-2 g t' c κs within =
-    let m = g.I.Interner.meaning c.args.cx.now in
-    let eq = (ghosts g.row.I-Key g.I.Key.PartialEq g.I.Key.PartialEq-dict).eq in
-    let w = m.args c.args.args.now in
-    let f = c.coroutine_resume_ty.result in
-    let fits = found_small m 1 w f c.coroutine_resume_ty.ensures.means in
-    let d = c.decreases in
-    let k = c.coroutine_resume_ty.ensures.sure in
-    let small : 6 * found_size m f + 5 < 6 * size w + 1 = omega (arith, fits) in
-    let s = settled_below m eq (size w) (suc (found_size m f)) c.collect_found.new.visited.keys
-    c.collect_found.new.out.items fits
-    (settled_after m eq (size w) c.args.visited.now.keys c.collect_found.new.visited.keys
-    (found_components m c.coroutine_upvars.result) c.args.out.now.items c.collect_found.new.out.items
-    c.collect_found.ensures.some c.requires.settled c.in_ok-collect_found.ensures.meets) in
-    search rules
-
-pub collect_coroutine-returns-clause-some : goal.collect_coroutine-returns-clause-some
-collect_coroutine-returns-clause-some g t' c =
-    let m = g.I.Interner.meaning c.args.cx.now in
-    let w = m.args c.args.args.now in
-    let l = terms_list argument_sort w ((g.met.I.Interner.sorted c.args.cx.now).args c.args.args.now c.requires.known) in
-    let up = c.coroutine_upvars.result in
-    let e : components (last_types 2) w ≡ of_found (resume_type w) ++ of_found (captured_types w) = resumed_is w l in
-    let u : found_components m up ≡ of_found (captured_types w) =
-    found_is m up ∙ ap of_found c.coroutine_upvars.ensures.means in
-    let first : AddsSome m (components (last_types 2) w) c.args.out.now.items c.collect_found.new.out.items =
-    adds_within m (found_components m up) (components (last_types 2) w) _ _
-    (λ P s. subst (SomeIs P) (sym e) (in_right (of_found (resume_type w)) (of_found (captured_types w)) P
-    (subst (SomeIs P) u s))) c.collect_found.ensures.some in
-    let re = c.coroutine_resume_ty.result in
-    let r : found_components m re ≡ of_found (resume_type w) =
-    found_is m re ∙ ap of_found c.coroutine_resume_ty.ensures.means in
-    adds_after m (components (last_types 2) w) _ _ _ first
-    (adds_within m (found_components m re) (components (last_types 2) w) _ _
-    (λ P s. subst (SomeIs P) (sym e) (in_left (of_found (resume_type w)) (of_found (captured_types w)) P
-    (subst (SomeIs P) r s))) c.collect_found-2.ensures.some)
-
-pub collect_coroutine-returns-clause-all : goal.collect_coroutine-returns-clause-all
-collect_coroutine-returns-clause-all g t' c =
-    let m = g.I.Interner.meaning c.args.cx.now in
-    let w = m.args c.args.args.now in
-    let l = terms_list argument_sort w ((g.met.I.Interner.sorted c.args.cx.now).args c.args.args.now c.requires.known) in
-    let up = c.coroutine_upvars.result in
-    let e : components (last_types 2) w ≡ of_found (resume_type w) ++ of_found (captured_types w) = resumed_is w l in
-    let u : found_components m up ≡ of_found (captured_types w) =
-    found_is m up ∙ ap of_found c.coroutine_upvars.ensures.means in
-    let first : AddsSome m (components (last_types 2) w) c.args.out.now.items c.collect_found.new.out.items =
-    adds_within m (found_components m up) (components (last_types 2) w) _ _
-    (λ P s. subst (SomeIs P) (sym e) (in_right (of_found (resume_type w)) (of_found (captured_types w)) P
-    (subst (SomeIs P) u s))) c.collect_found.ensures.some in
-    let re = c.coroutine_resume_ty.result in
-    let r : found_components m re ≡ of_found (resume_type w) =
-    found_is m re ∙ ap of_found c.coroutine_resume_ty.ensures.means in
-    ok_map c.collect_found-2.result
-    (λ h. has_as m _ _ _ (sym e) (has_both m (of_found (resume_type w)) (of_found (captured_types w)) _ (has_as m _ _ _ r h)
-    (has_as m _ _ _ u (has_grown m (found_components m up) (found_components m re) _ _ c.collect_found-2.ensures.some
-    c.in_ok-collect_found.ensures.all))))
-    c.collect_found-2.ensures.all
-
-pub collect_coroutine-returns-clause-meets : goal.collect_coroutine-returns-clause-meets
-collect_coroutine-returns-clause-meets g t' c =
-    let m = g.I.Interner.meaning c.args.cx.now in
-    let eq = (ghosts g.row.I-Key g.I.Key.PartialEq g.I.Key.PartialEq-dict).eq in
-    ok_map c.collect_found-2.result
-    (λ o. meets_after m eq c.args.visited.now.keys c.collect_found.new.visited.keys c.collect_found-2.new.visited.keys
-    (found_components m c.coroutine_resume_ty.result) c.collect_found.new.out.items c.collect_found-2.new.out.items
-    c.collect_found-2.ensures.some c.in_ok-collect_found.ensures.meets o)
-    c.collect_found-2.ensures.meets
-
 pub collect_escaping-collect_alias_args-requires : goal.collect_escaping-collect_alias_args-requires
 collect_escaping-collect_alias_args-requires g t' c κs within =
     let m = g.I.Interner.meaning c.args.cx.now in
@@ -236,45 +100,6 @@ collect_escaping-returns-clause-all g t' c =
     let s = stands_escaping m v w c.requires.escapes some all in
     added_all m (w ∷ []) (EscapingAlias v) w _ _ c.add.result c.add.ensures.ok refl s
 
-pub collect_found-collect_type-requires : goal.collect_found-collect_type-requires
-collect_found-collect_type-requires g t' c κs within =
-    let m = g.I.Interner.meaning c.args.cx.now in
-    let eq = (ghosts g.row.I-Key g.I.Key.PartialEq g.I.Key.PartialEq-dict).eq in
-    let is = c.in-Some.is in
-    let d = c.decreases in
-    let k = subst (λ o. IfSome o (λ t. IsTrue (known (m.ty t)))) is c.requires.known in
-    let e : found_size m c.args.found ≡ size (m.ty c.in-Some.ty) = ap (found_size m) is in
-    let small : 6 * size (m.ty c.in-Some.ty) + 4 < 6 * found_size m c.args.found + 5 = omega (arith, e) in
-    let s = subst (λ n. Settled m eq (suc n) c.args.visited.now.keys c.args.out.now.items) e c.requires.settled in
-    search rules
-
-pub collect_found-returns-in-Some-clause-some : goal.collect_found-returns-in-Some-clause-some
-collect_found-returns-in-Some-clause-some g t' c =
-    let m = g.I.Interner.meaning c.args.cx.now in
-    adds_as m _ _ _ _ (sym (ap (found_components m) c.in-Some.is)) c.collect_type.ensures.some
-
-pub collect_found-returns-in-Some-clause-all : goal.collect_found-returns-in-Some-clause-all
-collect_found-returns-in-Some-clause-all g t' c =
-    let m = g.I.Interner.meaning c.args.cx.now in
-    subst (λ z. OnOk c.collect_type.result (HasAll m z c.collect_type.new.out.items))
-    (sym (ap (found_components m) c.in-Some.is)) c.collect_type.ensures.all
-
-pub collect_found-returns-in-None-clause-some : goal.collect_found-returns-in-None-clause-some
-collect_found-returns-in-None-clause-some g t' c =
-    let m = g.I.Interner.meaning c.args.cx.now in
-    adds_none m (found_components m c.args.found) c.args.out.now.items
-
-pub collect_found-returns-in-None-clause-all : goal.collect_found-returns-in-None-clause-all
-collect_found-returns-in-None-clause-all g t' c =
-    let m = g.I.Interner.meaning c.args.cx.now in
-    has_as m [] (found_components m c.args.found) c.args.out.now.items (sym (ap (found_components m) c.in-None.is)) tt
-
-pub collect_found-returns-in-None-clause-meets : goal.collect_found-returns-in-None-clause-meets
-collect_found-returns-in-None-clause-meets g t' c =
-    let m = g.I.Interner.meaning c.args.cx.now in
-    let eq = (ghosts g.row.I-Key g.I.Key.PartialEq g.I.Key.PartialEq-dict).eq in
-    meets_none m eq c.args.visited.now.keys c.args.visited.now.keys c.args.out.now.items refl
-
 pub collect_members-loop-step-init : goal.collect_members-loop-step-init
 collect_members-loop-step-init g t' c =
     let m = g.I.Interner.meaning c.args.cx.now in
@@ -295,10 +120,9 @@ collect_members-collect_member-requires g t' c κs within =
     let n = c.member_count-count.result in
     let step = c.loop-step.step in
     let inv = c.loop-step.invariant in
-    let o = list_order c.args.parts.now in
     let counted = c.member_count-count.ensures.counts in
-    let i = c.visited_place-i.result in
-    let bound = c.visited_place-i.ensures.in_bounds in
+    let i = c.chosen_place-i.result in
+    let bound = c.chosen_place-i.ensures.in_bounds in
     let d = c.decreases in
     let k = c.requires.known in
     let below : i < count ts = omega (arith, counted, bound) in
@@ -315,9 +139,8 @@ collect_members-returns-in_err-collect_member-clause-some g t' c =
     let n = c.member_count-count.result in
     let step = c.loop-step.step in
     let inv = c.loop-step.invariant in
-    let o = list_order c.args.parts.now in
     let counted = c.member_count-count.ensures.counts in
-    let i = c.visited_place-i.result in
+    let i = c.chosen_place-i.result in
     let p = c.collect_member.ensures in
     let adds : AddsSome m (components ch ts) c.args.out.now.items c.collect_member.new.out.items =
     adds_after m (components ch ts) _ _ _ inv.adds
@@ -333,20 +156,19 @@ collect_members-loop-step-preserved g t' c =
     let n = c.member_count-count.result in
     let step = c.loop-step.step in
     let inv = c.loop-step.invariant in
-    let o = list_order c.args.parts.now in
     let counted = c.member_count-count.ensures.counts in
-    let i = c.visited_place-i.result in
+    let i = c.chosen_place-i.result in
     let p = c.collect_member.ensures in
     let adds : AddsSome m (components ch ts) c.args.out.now.items c.collect_member.new.out.items =
     adds_after m (components ch ts) _ _ _ inv.adds
     (adds_within m (of_member ch i ts) (components ch ts) _ _ (member_in ch i ts) p.some) in
     let next : step + 1 ≡ step + 1 = refl in
     let r = c.in_ok-collect_member.ensures in
-    let at : HasAll m (of_member ch (place_at o n step) ts) c.collect_member.new.out.items =
-    subst (λ j. HasAll m (of_member ch j ts) c.collect_member.new.out.items) c.visited_place-i.ensures.place r.all in
+    let at : HasAll m (of_member ch (chosen_at c.args.chosen.now c.args.parts.now n step) ts) c.collect_member.new.out.items =
+    subst (λ j. HasAll m (of_member ch j ts) c.collect_member.new.out.items) c.chosen_place-i.ensures.place r.all in
     record {
       adds = adds;
-      has = next_place (λ k. HasAll m (of_member ch (place_at o n k) ts) c.collect_member.new.out.items) step (step + 1)
+      has = next_place (λ k. HasAll m (of_member ch (chosen_at c.args.chosen.now c.args.parts.now n k) ts) c.collect_member.new.out.items) step (step + 1)
           next (λ k l. has_grown m _ (of_member ch i ts) _ _ p.some (inv.has k l)) at;
       meets = meets_after m eq c.args.visited.now.keys c.loop-step.visited.keys c.collect_member.new.visited.keys
           (of_member ch i ts) c.loop-step.out.items c.collect_member.new.out.items p.some inv.meets r.meets;
@@ -360,7 +182,6 @@ collect_members-returns-clause-some g t' c =
     let n = c.member_count-count.result in
     let step = c.loop-step.step in
     let inv = c.loop-step.invariant in
-    let o = list_order c.args.parts.now in
     let counted = c.member_count-count.ensures.counts in
     inv.adds
 
@@ -372,13 +193,14 @@ collect_members-returns-clause-all g t' c =
     let n = c.member_count-count.result in
     let step = c.loop-step.step in
     let inv = c.loop-step.invariant in
-    let o = list_order c.args.parts.now in
     let counted = c.member_count-count.ensures.counts in
     let test = c.loop-step-test.false in
     let end = (c.loop-step.auto).step-end in
+    let looked = c.places_count.ensures.is in
     has_members m c.loop-step.out.items ch ts c.member_count-count.ensures.is_list
-    (λ j l. each_place o n (λ j. HasAll m (of_member ch j ts) c.loop-step.out.items)
-    (λ k h. inv.has k (omega (arith, h, test, end))) j (omega (arith, l, counted)))
+    (λ j l. each_chosen m c.args.parts.now n ts counted (λ j. HasAll m (of_member ch j ts) c.loop-step.out.items)
+    c.args.chosen.now (λ k h. inv.has k (omega (arith, h, test, end, looked)))
+    (λ j e. has_as m [] (of_member ch j ts) c.loop-step.out.items (sym e) tt) j (omega (arith, l, counted)))
 
 pub collect_members-returns-clause-meets : goal.collect_members-returns-clause-meets
 collect_members-returns-clause-meets g t' c =
@@ -388,7 +210,6 @@ collect_members-returns-clause-meets g t' c =
     let n = c.member_count-count.result in
     let step = c.loop-step.step in
     let inv = c.loop-step.invariant in
-    let o = list_order c.args.parts.now in
     let counted = c.member_count-count.ensures.counts in
     inv.meets
 
@@ -406,7 +227,7 @@ collect_member-returns-then-not-is_chosen-clause-all g t' c =
     let x = part_tree m c.member-part.result in
     let e : of_member ch i ts ≡ cond c.is_chosen.result (components every x) [] =
     member_is ch i ts x c.is_chosen.result c.requires.in_bounds c.member-part.ensures.means
-    (c.is_chosen.ensures (rest (suc i) ts)) in
+    (c.is_chosen.ensures (rest (suc i) ts) (rest_count i ts c.requires.in_bounds ∙ sym c.requires.members)) in
     let no : c.is_chosen.result ≡ false = c.if-not-is_chosen.true in
     has_as m [] (of_member ch i ts) c.args.out.now.items (sym (e ∙ ap (λ b. cond b (components every x) []) no)) tt
 
@@ -440,7 +261,7 @@ collect_member-returns-clause-some g t' c =
     let x = part_tree m c.member-part.result in
     let e : of_member ch i ts ≡ cond c.is_chosen.result (components every x) [] =
     member_is ch i ts x c.is_chosen.result c.requires.in_bounds c.member-part.ensures.means
-    (c.is_chosen.ensures (rest (suc i) ts)) in
+    (c.is_chosen.ensures (rest (suc i) ts) (rest_count i ts c.requires.in_bounds ∙ sym c.requires.members)) in
     let yes : c.is_chosen.result ≡ true = c.if-not-is_chosen.false in
     let f : components every x ≡ of_member ch i ts = sym (e ∙ ap (λ b. cond b (components every x) []) yes) in
     adds_as m _ _ _ _ f c.collect_part.ensures.some
@@ -454,7 +275,7 @@ collect_member-returns-clause-all g t' c =
     let x = part_tree m c.member-part.result in
     let e : of_member ch i ts ≡ cond c.is_chosen.result (components every x) [] =
     member_is ch i ts x c.is_chosen.result c.requires.in_bounds c.member-part.ensures.means
-    (c.is_chosen.ensures (rest (suc i) ts)) in
+    (c.is_chosen.ensures (rest (suc i) ts) (rest_count i ts c.requires.in_bounds ∙ sym c.requires.members)) in
     let yes : c.is_chosen.result ≡ true = c.if-not-is_chosen.false in
     let f : components every x ≡ of_member ch i ts = sym (e ∙ ap (λ b. cond b (components every x) []) yes) in
     subst (λ z. OnOk c.collect_part.result (HasAll m z c.collect_part.new.out.items)) f c.collect_part.ensures.all
@@ -795,145 +616,6 @@ collect_tys-returns-clause-all g t' c =
 pub collect_tys-returns-clause-meets : goal.collect_tys-returns-clause-meets
 collect_tys-returns-clause-meets g t' c = c.loop-ty.invariant.meets
 
-pub collect_form-collect_members-requires : goal.collect_form-collect_members-requires
-collect_form-collect_members-requires g t' c κs within =
-    let m = g.I.Interner.meaning c.args.cx.now in
-    let eq = (ghosts g.row.I-Key g.I.Key.PartialEq g.I.Key.PartialEq-dict).eq in
-    let w = m.ty c.args.ty.now in
-    let e = c.ty_kind-kind.ensures ∙ ap (kind_tree m) c.in-FnDef.is in
-    let ts = m.args c.in-FnDef.args in
-    let d = c.decreases in
-    let k : IsTrue (known ts) = subst (λ z. IsTrue (known z)) e c.requires.known in
-    let is : size w ≡ suc (size ts) = ap size e in
-    let small : 6 * size ts + 1 < 6 * size w + 2 = omega (arith, is) in
-    let s = settled_below m eq (size w) (size ts) c.args.visited.now.keys c.args.out.now.items (omega (arith, is))
-    c.requires.settled in
-    search rules
-
-pub collect_form-returns-in-FnDef-clause-some : goal.collect_form-returns-in-FnDef-clause-some
-collect_form-returns-in-FnDef-clause-some g t' c =
-    let m = g.I.Interner.meaning c.args.cx.now in
-    let w = m.ty c.args.ty.now in
-    let e = c.ty_kind-kind.ensures ∙ ap (kind_tree m) c.in-FnDef.is in
-    adds_as m _ _ _ _ (sym (ap (components every) e)) c.collect_members.ensures.some
-
-pub collect_form-returns-in-FnDef-clause-all : goal.collect_form-returns-in-FnDef-clause-all
-collect_form-returns-in-FnDef-clause-all g t' c =
-    let m = g.I.Interner.meaning c.args.cx.now in
-    let w = m.ty c.args.ty.now in
-    let e = c.ty_kind-kind.ensures ∙ ap (kind_tree m) c.in-FnDef.is in
-    subst (λ z. OnOk c.collect_members.result (HasAll m z c.collect_members.new.out.items)) (sym (ap (components every) e))
-    c.collect_members.ensures.all
-
-pub collect_form-collect_closure-requires : goal.collect_form-collect_closure-requires
-collect_form-collect_closure-requires g t' c κs within =
-    let m = g.I.Interner.meaning c.args.cx.now in
-    let eq = (ghosts g.row.I-Key g.I.Key.PartialEq g.I.Key.PartialEq-dict).eq in
-    let w = m.ty c.args.ty.now in
-    let e = c.ty_kind-kind.ensures ∙ ap (kind_tree m) c.in-Closure.is in
-    let ts = m.args c.in-Closure.args in
-    let d = c.decreases in
-    let k : IsTrue (known ts) = subst (λ z. IsTrue (known z)) e c.requires.known in
-    let is : size w ≡ suc (size ts) = ap size e in
-    let small : 6 * size ts + 1 < 6 * size w + 2 = omega (arith, is) in
-    let s = settled_below m eq (size w) (size ts) c.args.visited.now.keys c.args.out.now.items (omega (arith, is))
-    c.requires.settled in
-    search rules
-
-pub collect_form-returns-in-Closure-clause-some : goal.collect_form-returns-in-Closure-clause-some
-collect_form-returns-in-Closure-clause-some g t' c =
-    let m = g.I.Interner.meaning c.args.cx.now in
-    let w = m.ty c.args.ty.now in
-    let e = c.ty_kind-kind.ensures ∙ ap (kind_tree m) c.in-Closure.is in
-    adds_as m _ _ _ _ (sym (ap (components every) e)) c.collect_closure.ensures.some
-
-pub collect_form-returns-in-Closure-clause-all : goal.collect_form-returns-in-Closure-clause-all
-collect_form-returns-in-Closure-clause-all g t' c =
-    let m = g.I.Interner.meaning c.args.cx.now in
-    let w = m.ty c.args.ty.now in
-    let e = c.ty_kind-kind.ensures ∙ ap (kind_tree m) c.in-Closure.is in
-    subst (λ z. OnOk c.collect_closure.result (HasAll m z c.collect_closure.new.out.items)) (sym (ap (components every) e))
-    c.collect_closure.ensures.all
-
-pub collect_form-collect_closure-requires-in-CoroutineClosure : goal.collect_form-collect_closure-requires-in-CoroutineClosure
-collect_form-collect_closure-requires-in-CoroutineClosure g t' c κs within =
-    let m = g.I.Interner.meaning c.args.cx.now in
-    let eq = (ghosts g.row.I-Key g.I.Key.PartialEq g.I.Key.PartialEq-dict).eq in
-    let w = m.ty c.args.ty.now in
-    let e = c.ty_kind-kind.ensures ∙ ap (kind_tree m) c.in-CoroutineClosure.is in
-    let ts = m.args c.in-CoroutineClosure.args in
-    let d = c.decreases in
-    let k : IsTrue (known ts) = subst (λ z. IsTrue (known z)) e c.requires.known in
-    let is : size w ≡ suc (size ts) = ap size e in
-    let small : 6 * size ts + 1 < 6 * size w + 2 = omega (arith, is) in
-    let s = settled_below m eq (size w) (size ts) c.args.visited.now.keys c.args.out.now.items (omega (arith, is))
-    c.requires.settled in
-    search rules
-
-pub collect_form-returns-in-CoroutineClosure-clause-some : goal.collect_form-returns-in-CoroutineClosure-clause-some
-collect_form-returns-in-CoroutineClosure-clause-some g t' c =
-    let m = g.I.Interner.meaning c.args.cx.now in
-    let w = m.ty c.args.ty.now in
-    let e = c.ty_kind-kind.ensures ∙ ap (kind_tree m) c.in-CoroutineClosure.is in
-    adds_as m _ _ _ _ (sym (ap (components every) e)) c.collect_closure-in-CoroutineClosure.ensures.some
-
-pub collect_form-returns-in-CoroutineClosure-clause-all : goal.collect_form-returns-in-CoroutineClosure-clause-all
-collect_form-returns-in-CoroutineClosure-clause-all g t' c =
-    let m = g.I.Interner.meaning c.args.cx.now in
-    let w = m.ty c.args.ty.now in
-    let e = c.ty_kind-kind.ensures ∙ ap (kind_tree m) c.in-CoroutineClosure.is in
-    subst (λ z. OnOk c.collect_closure-in-CoroutineClosure.result (HasAll m z c.collect_closure-in-CoroutineClosure.new.out.items)) (sym (ap (components every) e))
-    c.collect_closure-in-CoroutineClosure.ensures.all
-
-pub collect_form-collect_coroutine-requires : goal.collect_form-collect_coroutine-requires
-collect_form-collect_coroutine-requires g t' c κs within =
-    let m = g.I.Interner.meaning c.args.cx.now in
-    let eq = (ghosts g.row.I-Key g.I.Key.PartialEq g.I.Key.PartialEq-dict).eq in
-    let w = m.ty c.args.ty.now in
-    let e = c.ty_kind-kind.ensures ∙ ap (kind_tree m) c.in-Coroutine.is in
-    let ts = m.args c.in-Coroutine.args in
-    let d = c.decreases in
-    let k : IsTrue (known ts) = subst (λ z. IsTrue (known z)) e c.requires.known in
-    let is : size w ≡ suc (size ts) = ap size e in
-    let small : 6 * size ts + 1 < 6 * size w + 2 = omega (arith, is) in
-    let s = settled_below m eq (size w) (size ts) c.args.visited.now.keys c.args.out.now.items (omega (arith, is))
-    c.requires.settled in
-    search rules
-
-pub collect_form-returns-in-Coroutine-clause-some : goal.collect_form-returns-in-Coroutine-clause-some
-collect_form-returns-in-Coroutine-clause-some g t' c =
-    let m = g.I.Interner.meaning c.args.cx.now in
-    let w = m.ty c.args.ty.now in
-    let e = c.ty_kind-kind.ensures ∙ ap (kind_tree m) c.in-Coroutine.is in
-    adds_as m _ _ _ _ (sym (ap (components every) e)) c.collect_coroutine.ensures.some
-
-pub collect_form-returns-in-Coroutine-clause-all : goal.collect_form-returns-in-Coroutine-clause-all
-collect_form-returns-in-Coroutine-clause-all g t' c =
-    let m = g.I.Interner.meaning c.args.cx.now in
-    let w = m.ty c.args.ty.now in
-    let e = c.ty_kind-kind.ensures ∙ ap (kind_tree m) c.in-Coroutine.is in
-    subst (λ z. OnOk c.collect_coroutine.result (HasAll m z c.collect_coroutine.new.out.items)) (sym (ap (components every) e))
-    c.collect_coroutine.ensures.all
-
-pub collect_form-returns-in-CoroutineWitness-clause-some : goal.collect_form-returns-in-CoroutineWitness-clause-some
-collect_form-returns-in-CoroutineWitness-clause-some g t' c =
-    let m = g.I.Interner.meaning c.args.cx.now in
-    adds_none m (components every (m.ty c.args.ty.now)) c.args.out.now.items
-
-pub collect_form-returns-in-CoroutineWitness-clause-all : goal.collect_form-returns-in-CoroutineWitness-clause-all
-collect_form-returns-in-CoroutineWitness-clause-all g t' c =
-    let m = g.I.Interner.meaning c.args.cx.now in
-    let w = m.ty c.args.ty.now in
-    let e = c.ty_kind-kind.ensures ∙ ap (kind_tree m) c.in-CoroutineWitness.is in
-    has_as m [] (components every w) c.args.out.now.items
-    (sym (witness_has w _ _ e ((g.met.I.Interner.sorted c.args.cx.now).ty c.args.ty.now c.requires.known))) tt
-
-pub collect_form-returns-in-CoroutineWitness-clause-meets : goal.collect_form-returns-in-CoroutineWitness-clause-meets
-collect_form-returns-in-CoroutineWitness-clause-meets g t' c =
-    let m = g.I.Interner.meaning c.args.cx.now in
-    let eq = (ghosts g.row.I-Key g.I.Key.PartialEq g.I.Key.PartialEq-dict).eq in
-    meets_none m eq c.args.visited.now.keys c.args.visited.now.keys c.args.out.now.items refl
-
 pub collect_form-returns-in-Param-clause-some : goal.collect_form-returns-in-Param-clause-some
 collect_form-returns-in-Param-clause-some g t' c =
     let m = g.I.Interner.meaning c.args.cx.now in
@@ -1156,8 +838,8 @@ collect_ty-returns-in_ok-collect_region-in-Ref-clause-all g t' c =
     (has_grown m rs ts _ _ c.collect_type-in-Ref.ensures.some c.in_ok-collect_region-in-Ref.ensures.all) h))
     c.collect_type-in-Ref.ensures.all
 
-pub collect_form-collect_members-requires-in_default : goal.collect_form-collect_members-requires-in_default
-collect_form-collect_members-requires-in_default g t' c κs within =
+pub collect_form-collect_members-requires : goal.collect_form-collect_members-requires
+collect_form-collect_members-requires g t' c κs within =
     let m = g.I.Interner.meaning c.args.cx.now in
     let eq = (ghosts g.row.I-Key g.I.Key.PartialEq g.I.Key.PartialEq-dict).eq in
     let w = m.ty c.args.ty.now in
@@ -1182,12 +864,13 @@ collect_form-returns-in_default g t' c =
     let ps = c.ty_parts.result in
     let seen : parts_tree m ps ≡ parts_of w = ty_seen m ps w k' c.ty_kind-kind.ensures c.ty_parts.ensures in
     let n = c.in_default in
-    let f = form_parts m k' n.not-FnDef n.not-Closure n.not-CoroutineClosure n.not-Coroutine n.not-CoroutineWitness
-    n.not-Param n.not-Placeholder n.not-Infer n.not-Alias in
+    let f = form_parts m k' n.not-Param n.not-Placeholder n.not-Infer n.not-Alias in
     let is = c.ty_kind-kind.ensures in
-    let e : components every (parts_tree m ps) ≡ components every w =
-    ap (components every) seen ∙ subst (λ z. components every (parts_of z) ≡ components every z) (sym is) f in
-    let r = c.collect_members-in_default in
+    let ch = choice_in (kind_tree m k') in
+    let e : components (meant m c.form_chosen.result) (parts_tree m ps) ≡ components every w =
+    ap (λ z. components z (parts_tree m ps)) (c.form_chosen.ensures m)
+    ∙ ap (components ch) (seen ∙ ap parts_of is) ∙ f ∙ ap (components every) (sym is) in
+    let r = c.collect_members in
     record {
       some = adds_as m _ _ _ _ e r.ensures.some;
       all = subst (λ z. OnOk r.result (HasAll m z r.new.out.items)) e r.ensures.all;

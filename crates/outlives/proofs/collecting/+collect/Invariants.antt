@@ -1,11 +1,11 @@
 use Rattle.std.proofs.Common.{◌+◌, ◌*◌, ◌<◌, ℕ}
 use Rattle.relation_terms.specs.Trees.{size}
-use Rattle.relation_terms.specs.Orders.{place_at, list_order}
 use Rattle.relation_terms.specs.Parts.{part_tree, parts_tree}
 use Rattle.relation_terms.specs.contracts.terms.generic_arg.GenericArgKindPartialEq.TheImpl.{ghosts}
 use Rattle.outlives.specs.Components.{every, components}
 use Rattle.outlives.specs.Outliving.{AddsSome, HasAll}
-use Rattle.outlives.specs.Collecting.{meant, of_member, found_size, Meets}
+use Rattle.component_parts.specs.Choosing.{meant, chosen_at}
+use Rattle.outlives.specs.Collecting.{of_member, Meets}
 use Rattle.outlives.proofs.collecting.+collect.Given as goal
 
 abbrev pub decreases-collect_part : goal.decreases-collect_part
@@ -22,15 +22,6 @@ decreases-collect_members g l = 6 * size (parts_tree (g.I.Interner.meaning l.cx.
 
 abbrev pub decreases-collect_member : goal.decreases-collect_member
 decreases-collect_member g l = 6 * size (parts_tree (g.I.Interner.meaning l.cx.now) l.parts.now)
-
-abbrev pub decreases-collect_found : goal.decreases-collect_found
-decreases-collect_found g l = 6 * found_size (g.I.Interner.meaning l.cx.now) l.found + 5
-
-abbrev pub decreases-collect_closure : goal.decreases-collect_closure
-decreases-collect_closure g l = 6 * size ((g.I.Interner.meaning l.cx.now).args l.args.now) + 1
-
-abbrev pub decreases-collect_coroutine : goal.decreases-collect_coroutine
-decreases-collect_coroutine g l = 6 * size ((g.I.Interner.meaning l.cx.now).args l.args.now) + 1
 
 abbrev pub decreases-collect_ty : goal.decreases-collect_ty
 decreases-collect_ty g l = 6 * size ((g.I.Interner.meaning l.cx.now).ty l.ty.now) + 3
@@ -52,7 +43,7 @@ invariant-collect_members-loop-step g l =
     record {
       adds : AddsSome m (components (meant m l.chosen) ts) l.fn.out.items l.out.items;
       has : (k : ℕ) → k < l.step →
-          HasAll m (of_member (meant m l.chosen) (place_at (list_order l.parts) l.count k) ts) l.out.items;
+          HasAll m (of_member (meant m l.chosen) (chosen_at l.chosen l.parts l.count k) ts) l.out.items;
       meets : Meets m (ghosts g.row.I-Key g.I.Key.PartialEq g.I.Key.PartialEq-dict).eq l.fn.visited.keys
           l.visited.keys l.out.items;
     }
