@@ -1,3 +1,6 @@
 //! Errors: why terms are not related, and why an elaboration stopped.
 pub use relation_elaboration::ElabFault;
-pub use relation_folds::error::*;
+pub use relation_folds::error::{
+    ExpectedFound, NoSolution, OutOfMemory, RelateFault, RelateFaultOf, RelateResult, TypeError,
+    TypeErrorOf,
+};
