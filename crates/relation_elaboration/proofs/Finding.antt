@@ -20,8 +20,8 @@ use Rattle.relation_statements.specs.Children.{mode_of}
 use Rattle.relation_elaboration.specs.Pulling.{Elaboration, Pulls, RunsTo, ByClosure, standing, named}
 use Rattle.relation_statements.specs.TraitClauses.{reference_of}
 use Rattle.relation_elaboration.specs.Finding.{PassesOver, FindsNext, FindsAll, TraitsByClosure}
-use Rattle.relation_statements.proofs.Members.{first_in, later_in, in_cases, map_both}
-use Rattle.relation_statements.proofs.Implying.{none_in}
+use Rattle.elaboration_worklist.proofs.Members.{first_in, later_in, in_cases, map_both}
+use Rattle.elaboration_worklist.proofs.Members.{none_in}
 use Rattle.relation_statements.proofs.Growing.{states_stay, stays_bound}
 use Rattle.relation_statements.proofs.Closing.{anon_same}
 

@@ -1,5 +1,3 @@
-pub mod Pushing
-pub mod Worklists
 pub mod Yielding
 pub mod Pulled
 pub mod Taking

@@ -8,7 +8,7 @@ use Rattle.relation_terms.specs.Owned.{bound_tree}
 use Rattle.relation_terms.specs.declared.predicate.trait_ref.TraitRef.{TraitRef}
 use Rattle.relation_terms.specs.declared.terms.binder.Binder.{Binder}
 use Rattle.relation_terms.specs.declared.terms.keys.ClauseKey.{ClauseKey}
-use Rattle.relation_elaboration.specs.declared.faults.ElabFault.{ElabFault}
+use Rattle.elaboration_worklist.specs.declared.faults.ElabFault.{ElabFault}
 use Rattle.relation_statements.specs.TraitClauses.{reference_of}
 use Rattle.relation_elaboration.specs.Finding.{PassesOver, Finds}
 

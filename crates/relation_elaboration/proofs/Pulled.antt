@@ -7,14 +7,15 @@ use Rattle.relation_terms.specs.declared.terms.keys.PredicateKey.{PredicateKey}
 use Rattle.relation_terms.proofs.Stays.{stays_same}
 use Rattle.relation_terms.specs.Trees.{Tree, known}
 use Rattle.relation_terms.specs.Meaning.{Meaning}
-use Rattle.relation_elaboration.specs.declared.faults.ElabFault.{ElabFault}
-use Rattle.relation_elaboration.specs.declared.worklist.Worklist.{Worklist}
+use Rattle.elaboration_worklist.specs.declared.faults.ElabFault.{ElabFault}
+use Rattle.elaboration_worklist.specs.declared.worklist.Worklist.{Worklist}
 use Rattle.relation_statements.specs.Children.{Mode, children}
 use Rattle.relation_statements.specs.Statements.{statements}
-use Rattle.relation_statements.specs.Runs.{Pushes, IsFull}
-use Rattle.relation_elaboration.specs.Pulling.{Elaboration, AreKept, Pushed, Faults, Pulls}
-use Rattle.relation_elaboration.proofs.Pushing.{map_push}
-use Rattle.relation_statements.proofs.Members.{none_left}
+use Rattle.elaboration_worklist.specs.Pushes.{Pushes, IsFull}
+use Rattle.relation_elaboration.specs.Pulling.{Elaboration, Faults, Pulls}
+use Rattle.elaboration_worklist.specs.Kept.{AreKept, Pushed}
+use Rattle.elaboration_worklist.proofs.Pushing.{map_push}
+use Rattle.elaboration_worklist.proofs.Members.{none_left}
 
 -- The last member of a list, or else a given one.
 abbrev last_or : {A : Type 0} → A → List A → A

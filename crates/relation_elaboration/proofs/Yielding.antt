@@ -6,7 +6,8 @@ use Rattle.relation_terms.specs.Owned.{StatesItsOwn}
 use Rattle.relation_terms.proofs.Stays.{stays_same, extends_on}
 use Rattle.anonymize.proofs.Renaming.{renamings_are_one}
 use Rattle.relation_statements.specs.Statements.{statements}
-use Rattle.relation_statements.specs.Runs.{Pushes, Yields, Runs}
+use Rattle.elaboration_worklist.specs.Pushes.{Pushes}
+use Rattle.relation_statements.specs.Runs.{Yields, Runs}
 use Rattle.relation_elaboration.specs.Pulling.{Elaboration, standing, named, RunsTo, ByClosure}
 use Rattle.relation_statements.proofs.Growing.{states_stay, states_within}
 use Rattle.relation_statements.proofs.Closing.{runs_close}

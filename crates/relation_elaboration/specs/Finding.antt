@@ -9,7 +9,7 @@ use Rattle.relation_terms.specs.Conversions.{trait_clause_tree}
 use Rattle.relation_terms.specs.declared.predicate.trait_ref.TraitRef.{TraitRef}
 use Rattle.relation_terms.specs.declared.terms.binder.Binder.{Binder}
 use Rattle.relation_terms.specs.declared.terms.keys.ClauseKey.{ClauseKey}
-use Rattle.relation_elaboration.specs.declared.faults.ElabFault.{ElabFault}
+use Rattle.elaboration_worklist.specs.declared.faults.ElabFault.{ElabFault}
 use Rattle.relation_statements.specs.Children.{Statements, mode_of}
 use Rattle.relation_statements.specs.Statements.{statements}
 use Rattle.relation_statements.specs.Runs.{Standing, Closes}

@@ -14,13 +14,7 @@ use Rattle.relation_statements.specs.Children.{Statements, children}
 use Rattle.relation_statements.specs.Runs.{StatesWithin}
 use Rattle.term_enums.specs.declared.SolverTraitLangItem.TheVariants.{Sized}
 use Rattle.relation_statements.specs.Statements.{statements, ImpliedStays}
-
--- Functions that agree at what a list has make one list of it.
-pub map_alike : {A : Type 0} (P : A → Type 0) (f g : A → Tree) → ((x : A) → P x → g x ≡ f x) → (xs : List A) →
-    All P xs → map g xs ≡ map f xs
-map_alike P f g h [] a = refl
-map_alike P f g h (x ∷ xs) a =
-    ap₂ (λ y z. y ∷ z) (h x (All-head P x xs a)) (map_alike P f g h xs (All-tail P x xs a))
+use Rattle.elaboration_worklist.proofs.Members.{map_alike}
 
 -- What is stated alike of each trait.
 same_statements : (s t : Statements) → ((d : ℕ) → s.supers d ≡ t.supers d) → ((d : ℕ) → s.implied d ≡ t.implied d) →

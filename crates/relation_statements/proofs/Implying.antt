@@ -25,11 +25,9 @@ use Rattle.relation_statements.specs.Children.{is_bound, outlives}
 use Rattle.relation_statements.specs.Children.{of_trait, of_effect, of_outlives, of_form, children}
 use Rattle.relation_statements.specs.Closure.{AreSame, HasSame}
 use Rattle.relation_statements.specs.Laws.{RenamingsImplyRenamings}
+use Rattle.elaboration_worklist.proofs.Members.{none_in}
 use Rattle.relation_statements.proofs.Stating.{stated_same}
 use Rattle.relation_statements.proofs.Parting.{assumed_moved, closed_itself}
-
-pub none_in : {A : Type 0} (x : A) → Contains [] x → ⊥
-none_in x h = omega (arith, h.1)
 
 -- A list made of another one by two functions that agree but for renaming.
 mapped_same : (f g : Tree → Tree) (cs : List Tree) → ((x : Tree) → Contains cs x → AreSame (g x) (f x)) → (c : Tree) →

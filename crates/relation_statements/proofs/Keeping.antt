@@ -27,8 +27,8 @@ use Rattle.relation_statements.specs.Runs.{StatesWithin}
 use Rattle.relation_folds.proofs.Folding.{put_none}
 use Rattle.relation_statements.proofs.Moving.{within_shifted}
 use Rattle.relation_statements.proofs.Stating.{own_bound, stated_node}
-use Rattle.relation_statements.proofs.Implying.{none_in, escapes_not}
-use Rattle.relation_statements.proofs.Members.{from_map}
+use Rattle.relation_statements.proofs.Implying.{escapes_not}
+use Rattle.elaboration_worklist.proofs.Members.{none_in, from_map}
 
 module _ (n m : ℕ) where
   more_bound : (b : Bool) (i : ℕ) → cond b (i < n) (Unit {0}) → cond b (i < n + m) (Unit {0})

@@ -2,7 +2,6 @@ pub mod Moving
 pub mod Stating
 pub mod Parting
 pub mod Implying
-pub mod Members
 pub mod Keeping
 pub mod Closing
 pub mod Growing

@@ -19,16 +19,16 @@ use Rattle.term_enums.specs.declared.memory.OutOfMemory.{OutOfMemory}
 use Rattle.relation_terms.specs.declared.terms.ids.TraitId.{TraitId}
 use Rattle.relation_terms.specs.declared.terms.keys.ClauseKey.{ClauseKey}
 use Rattle.relation_statements.specs.Children.{Statements}
-use Rattle.relation_statements.specs.Runs.{IsDistinct}
+use Rattle.elaboration_worklist.specs.Pushes.{IsDistinct}
 use Rattle.relation_statements.specs.Statements.{statements}
 use Rattle.relation_statements.specs.TraitClauses.{trait_named}
 use Rattle.relation_statements.specs.Reach.{supers_named, Reaches, Spreads, Reaching, number, numbers, Goes}
 use Rattle.relation_statements.specs.Reach.{GoesBy, ReachesAll, ByReach}
 use Rattle.relation_statements.specs.Reach.Reaches.{itself, by_super}
-use Rattle.relation_statements.proofs.Implying.{none_in}
-use Rattle.relation_statements.proofs.Members.{first_in, later_in, in_cases, map_length, map_both, none_left}
+use Rattle.elaboration_worklist.proofs.Members.{none_in}
+use Rattle.elaboration_worklist.proofs.Members.{first_in, later_in, in_cases, map_length, map_both, none_left}
 use Rattle.relation_statements.proofs.Making.{at_map}
-use Rattle.relation_statements.proofs.Closing.{Apart, distinct_both, distinct_left, distinct_apart, no_more}
+use Rattle.elaboration_worklist.proofs.Distinct.{Apart, distinct_both, distinct_left, distinct_apart, no_more}
 
 -- Nothing was to be put there.
 pub spreads_none : (stack seen : List ℕ) → Spreads [] stack seen stack seen

@@ -6,3 +6,4 @@ pub mod Laws
 pub mod Runs
 pub mod TraitClauses
 pub mod Reach
+pub mod PushedChildren

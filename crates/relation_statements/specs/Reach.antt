@@ -6,7 +6,7 @@ use Rattle.relation_terms.specs.Meaning.{Meaning}
 use Rattle.relation_terms.specs.declared.terms.ids.TraitId.{TraitId}
 use Rattle.term_enums.specs.declared.memory.OutOfMemory.{OutOfMemory}
 use Rattle.relation_statements.specs.Children.{Statements}
-use Rattle.relation_statements.specs.Runs.{IsDistinct}
+use Rattle.elaboration_worklist.specs.Pushes.{IsDistinct}
 use Rattle.relation_statements.specs.Statements.{statements}
 use Rattle.relation_statements.specs.TraitClauses.{trait_named}
 

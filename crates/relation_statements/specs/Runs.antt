@@ -1,8 +1,8 @@
 -- How an elaboration stands, what each pull does to it, and what whole runs of pulls yield.
-use Rattle.std.specs.Prelude.{◌≡◌, ◌≤◌, ◌<◌, ◌+◌, ◌⊎◌, ℕ, List, [], ◌∷◌, ◌++◌, length, map}
+use Rattle.std.specs.Prelude.{◌≡◌, ◌≤◌, ◌<◌, ◌+◌, ℕ, List, [], ◌∷◌, ◌++◌, length}
 use Rattle.std.specs.List.{Contains}
 use Rattle.relation_terms.specs.Trees.{Tree}
-use Rattle.anonymize.specs.Anonymous.{anonymized}
+use Rattle.elaboration_worklist.specs.Pushes.{Pushes, IsFull}
 use Rattle.relation_terms.specs.Owned.{BindsWithin}
 use Rattle.relation_statements.specs.Children.{Statements, Mode, children}
 use Rattle.relation_statements.specs.Closure.{Follows, HasSame, AreDifferent}
@@ -12,11 +12,6 @@ pub record Standing : Type 0 where
   pub stack : List Tree
   pub visited : List Tree
   pub limit : ℕ
-
--- No member stands in the list twice.
-abbrev pub IsDistinct : {A : Type 0} → List A → Type 0
-IsDistinct [] = Unit {0}
-IsDistinct (x ∷ xs) = (Contains xs x → ⊥) × IsDistinct xs
 
 -- Clauses that traits state bind at places of their lists.
 pub record StatesWithin (s : Statements) : Type 0 where
@@ -33,41 +28,16 @@ pub record AreTooMany (cs : List Tree) (limit : ℕ) : Type 0 where
 
 -- By the name that what is anonymised goes by.
 module _ (name : ℕ) where
-  -- What stands for all renamings of a predicate.
-  abbrev pub anon : Tree → Tree
-  anon t = anonymized name t
-
-  -- From one stack and set to others, by predicates of which those that were not visited are put there, each once.
-  pub record Pushes (cs stack visited stack' visited' : List Tree) (limit : ℕ) : Type 0 where
-    pub new : List Tree
-    pub stack_is : stack' ≡ stack ++ new
-    pub of_them : (x : Tree) → Contains new x → Contains cs x
-    pub fresh : (x : Tree) → Contains (map anon new) x → Contains visited x → ⊥
-    pub once : IsDistinct (map anon new)
-    pub all : (c : Tree) → Contains cs c → Contains visited' (anon c)
-    pub old : (q : Tree) → Contains visited q → Contains visited' q
-    pub only : (q : Tree) → Contains visited' q → Contains visited q ⊎ Contains (map anon new) q
-    pub added : length visited' ≡ length visited + length new
-    pub fits : length visited' ≤ limit
-
-  -- Of these predicates more were not visited than there is room for.
-  pub record IsFull (cs visited : List Tree) (limit : ℕ) : Type 0 where
-    pub more : List Tree
-    pub of_them : (x : Tree) → Contains more x → Contains cs x
-    pub fresh : (x : Tree) → Contains (map anon more) x → Contains visited x → ⊥
-    pub once : IsDistinct (map anon more)
-    pub too_many : limit < length visited + length more
-
   -- A pull that yields a predicate: the last of the stack, and what it implies is pushed.
   pub record Yields (s : Statements) (m : Mode) (w : Standing) (x : Tree) (v : Standing) : Type 0 where
     pub rest : List Tree
     pub top : w.stack ≡ rest ++ x ∷ []
-    pub pushes : Pushes (children s m x) rest w.visited v.stack v.visited v.limit
+    pub pushes : Pushes name (children s m x) rest w.visited v.stack v.visited v.limit
     pub limit : v.limit ≡ w.limit
 
   -- It begins with these predicates.
   abbrev pub Begins : List Tree → Standing → Type 0
-  Begins given w = Pushes given [] [] w.stack w.visited w.limit
+  Begins given w = Pushes name given [] [] w.stack w.visited w.limit
 
   -- From one standing to another by pulls that yield these, in order.
   abbrev pub Runs : Statements → Mode → Standing → List Tree → Standing → Type 0
@@ -85,7 +55,7 @@ module _ (name : ℕ) where
     pub small : (cs : List Tree) → ((p : Tree) → Follows s m given p → HasSame cs p) →
         length ys + length v.stack ≤ length cs
     pub no_limit : (cs : List Tree) → ((p : Tree) → Follows s m given p → HasSame cs p) → length cs ≤ v.limit →
-        (rest : List Tree) (x : Tree) → v.stack ≡ rest ++ x ∷ [] → IsFull (children s m x) v.visited v.limit → ⊥
+        (rest : List Tree) (x : Tree) → v.stack ≡ rest ++ x ∷ [] → IsFull name (children s m x) v.visited v.limit → ⊥
 
 -- Of whatever begins with given predicates, by whatever name what is anonymised goes.
 abbrev pub EachRunCloses : Type 0

@@ -2,6 +2,7 @@
 //! it.
 #![tactic(auto)]
 
+mod children;
 mod clauses;
 mod def_ids;
 pub mod instantiate;
@@ -9,7 +10,6 @@ pub mod laws;
 mod stated;
 mod trait_clauses;
 
-pub use clauses::{effect_clause, is_bound, outlives_clause};
+pub use children::push_children;
 pub use def_ids::{SupertraitDefIds, supertrait_def_ids};
-pub use stated::{bound_at, implies_nothing, stated_at, stated_count};
 pub use trait_clauses::{BoundTraitRef, trait_reference};

@@ -15,6 +15,8 @@ pub use Rattle.anonymize.specs.Anonymous
 pub use Rattle.anonymize.specs.Renamings
 pub use Rattle.outlives_assumptions.specs.Assumptions
 pub use Rattle.outlives_assumptions.specs.Assuming
+pub use Rattle.elaboration_worklist.specs.Pushes
+pub use Rattle.elaboration_worklist.specs.Kept
 pub use Rattle.relation_statements.specs.Children
 pub use Rattle.relation_statements.specs.Statements
 pub use Rattle.relation_statements.specs.Closure

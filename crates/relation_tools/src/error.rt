@@ -1,5 +1,5 @@
 //! Errors: why terms are not related, and why an elaboration stopped.
-pub use relation_elaboration::ElabFault;
+pub use elaboration_worklist::ElabFault;
 pub use relation_folds::error::{
     ExpectedFound, NoSolution, OutOfMemory, RelateFault, RelateFaultOf, RelateResult, TypeError,
     TypeErrorOf,

@@ -7,7 +7,7 @@ use Rattle.std.specs.List.{Contains, filter_map}
 use Rattle.std.proofs.lemmas.List.Elements.{filter_map-append, Contains-push, Contains-push_cases}
 use Rattle.relation_terms.specs.Meaning.{Meaning}
 use Rattle.relation_terms.specs.declared.terms.ids.TraitId.{TraitId}
-use Rattle.relation_statements.specs.Runs.{IsDistinct}
+use Rattle.elaboration_worklist.specs.Pushes.{IsDistinct}
 use Rattle.relation_statements.specs.Statements.{statements}
 use Rattle.relation_statements.specs.Reach.{Reaching, ReachesAll, ByReach, GoesBy, numbers}
 use Rattle.text_elaboration.specs.declared.pulls.Pulled.{Pulled}

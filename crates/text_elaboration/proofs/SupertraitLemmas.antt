@@ -16,8 +16,8 @@ use Rattle.relation_terms.specs.declared.predicate.trait_ref.TraitRef.{TraitRef}
 use Rattle.relation_terms.specs.declared.terms.binder.Binder.{Binder}
 use Rattle.relation_terms.specs.declared.terms.keys.ClauseKey.{ClauseKey}
 use Rattle.relation_terms.proofs.Stays.{knows_as, stays_same, extends_on}
-use Rattle.relation_elaboration.specs.declared.faults.ElabFault.{ElabFault}
-use Rattle.relation_elaboration.specs.declared.faults.ElabFault.TheVariants.{Limit, Memory}
+use Rattle.elaboration_worklist.specs.declared.faults.ElabFault.{ElabFault}
+use Rattle.elaboration_worklist.specs.declared.faults.ElabFault.TheVariants.{Limit, Memory}
 use Rattle.relation_statements.specs.Children.{Mode, mode_of}
 use Rattle.relation_statements.specs.Statements.{statements}
 use Rattle.relation_statements.specs.Runs.{AreTooMany}

@@ -12,9 +12,10 @@ use Rattle.relation_terms.specs.declared.terms.binder.Binder.{Binder}
 use Rattle.relation_terms.specs.declared.terms.ids.TraitId.{TraitId}
 use Rattle.term_enums.specs.declared.memory.OutOfMemory.{OutOfMemory}
 use Rattle.relation_terms.specs.declared.terms.keys.ClauseKey.{ClauseKey}
-use Rattle.relation_elaboration.specs.declared.faults.ElabFault.{ElabFault}
-use Rattle.relation_elaboration.specs.declared.faults.ElabFault.TheVariants as fault
-use Rattle.relation_statements.specs.Runs.{Standing, AreTooMany, IsDistinct}
+use Rattle.elaboration_worklist.specs.declared.faults.ElabFault.{ElabFault}
+use Rattle.elaboration_worklist.specs.declared.faults.ElabFault.TheVariants as fault
+use Rattle.relation_statements.specs.Runs.{Standing, AreTooMany}
+use Rattle.elaboration_worklist.specs.Pushes.{IsDistinct}
 use Rattle.relation_statements.specs.Statements.{statements}
 use Rattle.relation_statements.specs.Children.{mode_of}
 use Rattle.relation_elaboration.specs.Pulling.{Elaboration, Pulls, BeginsWith}

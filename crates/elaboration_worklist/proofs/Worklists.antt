@@ -15,15 +15,15 @@ use Rattle.relation_terms.specs.Meaning.{Meaning, Extends}
 use Rattle.relation_terms.specs.Interning.{AreEqualAsTrees}
 use Rattle.relation_terms.specs.declared.terms.keys.PredicateKey.{PredicateKey}
 use Rattle.relation_terms.proofs.Stays.{knows_as, knows_predicate, extends_on, stays_same}
-use Rattle.relation_elaboration.specs.declared.faults.ElabFault.{ElabFault}
-use Rattle.relation_elaboration.specs.declared.faults.ElabFault.TheVariants.{Memory, Limit}
-use Rattle.relation_elaboration.specs.declared.worklist.Worklist.{Worklist}
-use Rattle.relation_elaboration.specs.Pulling.{AreKept, IsKept, Pushed}
-use Rattle.relation_statements.specs.Runs.{anon, Pushes, IsFull}
-use Rattle.relation_statements.proofs.Growing.{map_alike}
-use Rattle.relation_elaboration.proofs.Pushing.{map_push, map_count, any_in, none_any, pushes_none, pushed_none}
-use Rattle.relation_elaboration.proofs.Pushing.{pushed_one}
-use Rattle.relation_elaboration.proofs.Pushing.{pushes_then, pushes_as, full_one, full_in, full_then}
+use Rattle.elaboration_worklist.specs.declared.faults.ElabFault.{ElabFault}
+use Rattle.elaboration_worklist.specs.declared.faults.ElabFault.TheVariants.{Memory, Limit}
+use Rattle.elaboration_worklist.specs.declared.worklist.Worklist.{Worklist}
+use Rattle.elaboration_worklist.specs.Kept.{AreKept, IsKept, Pushed}
+use Rattle.elaboration_worklist.specs.Pushes.{anon, Pushes, IsFull}
+use Rattle.elaboration_worklist.proofs.Members.{map_alike}
+use Rattle.elaboration_worklist.proofs.Pushing.{map_push, map_count, any_in, none_any, pushes_none, pushed_none}
+use Rattle.elaboration_worklist.proofs.Pushing.{pushed_one}
+use Rattle.elaboration_worklist.proofs.Pushing.{pushes_then, pushes_as, full_one, full_in, full_then}
 
 abbrev pub fault_of : {T : Type 0} → Result T ElabFault → ElabFault
 fault_of (Ok x) = Memory

@@ -4,8 +4,8 @@ use Rattle.relation_terms.proofs.Stays.{stays_same}
 use Rattle.relation_statements.specs.Children.{children, mode_of}
 use Rattle.relation_statements.specs.Statements.{statements}
 use Rattle.relation_statements.proofs.Making.{no_clause, other_kinds}
-use Rattle.relation_elaboration.proofs.Worklists.{pushed_empty}
-use Rattle.relation_elaboration.proofs.children.push_children.Goals as goal
+use Rattle.elaboration_worklist.proofs.Worklists.{pushed_empty}
+use Rattle.relation_statements.proofs.children.push_children.Goals as goal
 
 pub returns-in_default : goal.returns-in_default
 returns-in_default g c =

@@ -1,7 +1,7 @@
 //! What is still to be yielded, and what was ever put there.
 ghost use Rattle.std.specs.Prelude.{IsTrue};
 ghost use Rattle.relation_terms.specs.Trees.{known};
-ghost use Rattle.relation_elaboration.specs.Pulling.{IsKept, PushedOne};
+ghost use Rattle.elaboration_worklist.specs.Kept.{IsKept, PushedOne};
 
 use crate::elaboratable::Elaboratable;
 use crate::faults::ElabFault;

@@ -2,8 +2,8 @@ use Rattle.std.proofs.Common.{take, Ok}
 use Rattle.relation_terms.specs.Clauses.{trait_clause_tree}
 use Rattle.relation_statements.specs.Children.{children, mode_of}
 use Rattle.relation_statements.specs.Statements.{statements}
-use Rattle.relation_elaboration.specs.Pulling.{Pushed}
-use Rattle.relation_elaboration.proofs.children.push_stated.Given as goal
+use Rattle.elaboration_worklist.specs.Kept.{Pushed}
+use Rattle.relation_statements.proofs.children.push_stated.Given as goal
 
 -- The first of what the trait states were pushed.
 abbrev pub invariant-loop-index : goal.invariant-loop-index

@@ -1,9 +1,9 @@
 use Rattle.std.proofs.Common.{◌≡◌, ◌∙◌, sym, ap, not, arith, refl, [], ◌∷◌, ◌++◌}
 use Rattle.std.specs.List.Sorted.{IsPermutation}
 use Rattle.std.proofs.lemmas.Bool.{MatchBool-at_true}
-use Rattle.relation_statements.specs.Runs.{anon}
-use Rattle.relation_elaboration.proofs.Worklists.{item_known, item_new, item_full}
-use Rattle.relation_elaboration.proofs.worklist.push_new.Goals as goal
+use Rattle.elaboration_worklist.specs.Pushes.{anon}
+use Rattle.elaboration_worklist.proofs.Worklists.{item_known, item_new, item_full}
+use Rattle.elaboration_worklist.proofs.worklist.push_new.Goals as goal
 
 pub returns-then-contains : goal.returns-then-contains
 returns-then-contains g c =

@@ -3,11 +3,11 @@ use Rattle.relation_terms.specs.Clauses.{trait_clause_tree}
 use Rattle.relation_terms.proofs.Stays.{stays_same}
 use Rattle.relation_statements.specs.Children.{children, mode_of}
 use Rattle.relation_statements.specs.Statements.{statements}
-use Rattle.relation_elaboration.specs.Pulling.{Pushed}
+use Rattle.elaboration_worklist.specs.Kept.{Pushed}
 use Rattle.relation_statements.proofs.Making.{trait_left, trait_count, trait_child}
-use Rattle.relation_elaboration.proofs.Worklists.{pushed_empty, pushed_first, pushed_lost, pushed_next, pushed_failed}
-use Rattle.relation_elaboration.proofs.Worklists.{pushed_end}
-use Rattle.relation_elaboration.proofs.children.push_stated.Goals as goal
+use Rattle.elaboration_worklist.proofs.Worklists.{pushed_empty, pushed_first, pushed_lost, pushed_next, pushed_failed}
+use Rattle.elaboration_worklist.proofs.Worklists.{pushed_end}
+use Rattle.relation_statements.proofs.children.push_stated.Goals as goal
 
 pub returns-then-implies_nothing : goal.returns-then-implies_nothing
 returns-then-implies_nothing g c =

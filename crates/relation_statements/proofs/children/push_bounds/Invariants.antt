@@ -2,8 +2,8 @@ use Rattle.std.proofs.Common.{take, Ok, false}
 use Rattle.relation_terms.specs.Owned.{bound_tree}
 use Rattle.relation_statements.specs.Children.{children, effect_of, mode_of}
 use Rattle.relation_statements.specs.Statements.{statements}
-use Rattle.relation_elaboration.specs.Pulling.{Pushed}
-use Rattle.relation_elaboration.proofs.children.push_bounds.Given as goal
+use Rattle.elaboration_worklist.specs.Kept.{Pushed}
+use Rattle.relation_statements.proofs.children.push_bounds.Given as goal
 
 -- The first const bounds were pushed.
 abbrev pub invariant-loop-index : goal.invariant-loop-index

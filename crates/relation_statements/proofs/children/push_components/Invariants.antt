@@ -1,8 +1,8 @@
 use Rattle.std.proofs.Common.{take, Ok}
 use Rattle.std.specs.List.{filter_map}
 use Rattle.relation_statements.specs.Statements.{component_implied}
-use Rattle.relation_elaboration.specs.Pulling.{Pushed}
-use Rattle.relation_elaboration.proofs.children.push_components.Given as goal
+use Rattle.elaboration_worklist.specs.Kept.{Pushed}
+use Rattle.relation_statements.proofs.children.push_components.Given as goal
 
 -- What follows for the first components was pushed.
 abbrev pub invariant-loop-component : goal.invariant-loop-component

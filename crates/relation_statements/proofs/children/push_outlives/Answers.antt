@@ -4,10 +4,10 @@ use Rattle.relation_terms.proofs.Stays.{stays_same}
 use Rattle.outlives_assumptions.specs.Assuming.{IsKnownComponent}
 use Rattle.relation_statements.specs.Children.{children, mode_of}
 use Rattle.relation_statements.specs.Statements.{statements, component_implied, type_outlives_tree}
-use Rattle.relation_elaboration.specs.Pulling.{Pushed}
+use Rattle.elaboration_worklist.specs.Kept.{Pushed}
 use Rattle.relation_statements.proofs.Making.{bound_nothing, outlives_same, parts_known}
-use Rattle.relation_elaboration.proofs.Worklists.{pushed_empty, pushed_as}
-use Rattle.relation_elaboration.proofs.children.push_outlives.Goals as goal
+use Rattle.elaboration_worklist.proofs.Worklists.{pushed_empty, pushed_as}
+use Rattle.relation_statements.proofs.children.push_outlives.Goals as goal
 
 pub returns-then-is_bound : goal.returns-then-is_bound
 returns-then-is_bound g c =

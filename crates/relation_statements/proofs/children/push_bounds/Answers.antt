@@ -3,12 +3,12 @@ use Rattle.relation_terms.specs.Owned.{bound_tree}
 use Rattle.relation_terms.proofs.Stays.{stays_same, extends_on, knows_as}
 use Rattle.relation_statements.specs.Children.{children, effect_of, mode_of}
 use Rattle.relation_statements.specs.Statements.{statements}
-use Rattle.relation_elaboration.specs.Pulling.{Pushed}
+use Rattle.elaboration_worklist.specs.Kept.{Pushed}
 use Rattle.relation_statements.proofs.Growing.{stays_bound}
 use Rattle.relation_statements.proofs.Making.{bound_child, bound_count, map_length}
-use Rattle.relation_elaboration.proofs.Worklists.{kept_on, pushed_first, pushed_lost, pushed_next, pushed_failed}
-use Rattle.relation_elaboration.proofs.Worklists.{pushed_end}
-use Rattle.relation_elaboration.proofs.children.push_bounds.Goals as goal
+use Rattle.elaboration_worklist.proofs.Worklists.{kept_on, pushed_first, pushed_lost, pushed_next, pushed_failed}
+use Rattle.elaboration_worklist.proofs.Worklists.{pushed_end}
+use Rattle.relation_statements.proofs.children.push_bounds.Goals as goal
 
 pub loop-index-init : goal.loop-index-init
 loop-index-init g c =

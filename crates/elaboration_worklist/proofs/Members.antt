@@ -1,10 +1,14 @@
 -- Members of lists.
-use Rattle.std.proofs.Common.{◌≡◌, ◌⊎◌, refl, ap, subst, inl, inr, suc, ◌<◌, arith, false, IsTrue, List, [], ◌∷◌, ◌++◌, map, length}
+use Rattle.std.proofs.Common.{◌≡◌, ◌⊎◌, refl, ap, ap₂, subst, inl, inr, suc, ◌<◌, arith, false, IsTrue, List, [], ◌∷◌, ◌++◌, map, length}
 use Rattle.std.proofs.lemmas.Bool.{false≢true}
-use Rattle.std.proofs.lemmas.List.Elements.{Contains-append_cases, Contains-append_left}
+use Rattle.std.proofs.lemmas.List.Elements.{All-head, All-tail, Contains-append_cases, Contains-append_left}
 use Rattle.std.proofs.lemmas.List.Elements.{Contains-append_right, Contains-push, Contains-push_cases}
-use Rattle.std.specs.List.{Contains}
-use Rattle.relation_statements.proofs.Implying.{none_in}
+use Rattle.std.specs.List.{All, Contains}
+use Rattle.relation_terms.specs.Trees.{Tree}
+
+-- No list of none has a member.
+pub none_in : {A : Type 0} (x : A) → Contains [] x → ⊥
+none_in x h = omega (arith, h.1)
 
 -- Members of a list that begins with one.
 pub first_in : {A : Type 0} (x : A) (xs : List A) → Contains (x ∷ xs) x
@@ -46,3 +50,10 @@ module _ {A B : Type 0} (f : A → B) where
 pub none_left : {A : Type 0} (xs : List A) → (0 < length xs → IsTrue false) → xs ≡ []
 none_left [] h = refl
 none_left (x ∷ xs) h = absurd (false≢true (h (omega arith)))
+
+-- Functions that agree at what a list has make one list of it.
+pub map_alike : {A : Type 0} (P : A → Type 0) (f g : A → Tree) → ((x : A) → P x → g x ≡ f x) → (xs : List A) →
+    All P xs → map g xs ≡ map f xs
+map_alike P f g h [] a = refl
+map_alike P f g h (x ∷ xs) a =
+    ap₂ (λ y z. y ∷ z) (h x (All-head P x xs a)) (map_alike P f g h xs (All-tail P x xs a))

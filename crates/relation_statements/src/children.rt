@@ -7,18 +7,16 @@ ghost use Rattle.relation_terms.specs.Clauses.{trait_clause_tree};
 ghost use Rattle.outlives_assumptions.specs.Assuming.{IsKnownComponent};
 ghost use Rattle.relation_statements.specs.Children.{children, effect_of, mode_of};
 ghost use Rattle.relation_statements.specs.Statements.{statements, component_implied, type_outlives_tree};
-ghost use Rattle.relation_elaboration.specs.Pulling.{IsKept, Pushed, PushedChildren};
+ghost use Rattle.elaboration_worklist.specs.Kept.{IsKept, Pushed};
+ghost use Rattle.relation_statements.specs.PushedChildren.{PushedChildren};
 
-use crate::elaboratable::Elaboratable;
-use crate::faults::ElabFault;
-use crate::worklist::{WorklistOf, push_new};
+use crate::clauses::{effect_clause, is_bound, outlives_clause};
+use crate::instantiate::instantiate_supertrait;
+use crate::stated::{bound_at, implies_nothing, stated_at, stated_count};
+use crate::trait_clauses::BoundTraitRef;
+use elaboration_worklist::{ElabFault, Elaboratable, WorklistOf, push_new};
 use outlives::{ComponentOf, components_of};
 use outlives_assumptions::assumed_argument;
-use relation_statements::instantiate::instantiate_supertrait;
-use relation_statements::{
-    BoundTraitRef, bound_at, effect_clause, implies_nothing, is_bound, outlives_clause, stated_at,
-    stated_count,
-};
 use relation_terms::predicate::{ClauseKind, OutlivesPredicate, TraitPredicate};
 use relation_terms::terms::{Binder, BoundConstness, BoundVars, Interner, Region, Ty};
 

@@ -4,10 +4,10 @@ use Rattle.relation_terms.proofs.Stays.{stays_same, knows_region}
 use Rattle.outlives_assumptions.specs.Assuming.{IsKnownComponent}
 use Rattle.outlives_assumptions.proofs.Assuming.{all_at, filter_next, knows_component}
 use Rattle.relation_statements.specs.Statements.{component_implied}
-use Rattle.relation_elaboration.specs.Pulling.{Pushed}
+use Rattle.elaboration_worklist.specs.Kept.{Pushed}
 use Rattle.relation_statements.proofs.Making.{stays_implied, first_give}
-use Rattle.relation_elaboration.proofs.Worklists.{pushed_start, pushed_then, pushed_stopped}
-use Rattle.relation_elaboration.proofs.children.push_components.Goals as goal
+use Rattle.elaboration_worklist.proofs.Worklists.{pushed_start, pushed_then, pushed_stopped}
+use Rattle.relation_statements.proofs.children.push_components.Goals as goal
 
 pub loop-component-init : goal.loop-component-init
 loop-component-init g c =

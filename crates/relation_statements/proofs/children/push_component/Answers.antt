@@ -6,10 +6,10 @@ use Rattle.relation_terms.specs.Meaning.{arg_tree}
 use Rattle.relation_terms.proofs.Stays.{stays_same, extends_on}
 use Rattle.outlives_assumptions.specs.Assuming.{argument_of}
 use Rattle.relation_statements.specs.Statements.{component_implied, outlives_tree}
-use Rattle.relation_elaboration.specs.Pulling.{Pushed}
+use Rattle.elaboration_worklist.specs.Kept.{Pushed}
 use Rattle.relation_statements.proofs.Making.{none_implied, never_none, one_implied}
-use Rattle.relation_elaboration.proofs.Worklists.{kept_on, pushed_start, pushed_still, pushed_lost, pushed_then}
-use Rattle.relation_elaboration.proofs.children.push_component.Goals as goal
+use Rattle.elaboration_worklist.proofs.Worklists.{kept_on, pushed_start, pushed_still, pushed_lost, pushed_then}
+use Rattle.relation_statements.proofs.children.push_component.Goals as goal
 
 pub returns-in_default : goal.returns-in_default
 returns-in_default g c =

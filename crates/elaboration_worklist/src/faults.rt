@@ -1,6 +1,6 @@
 //! Why an elaboration stopped.
 ghost use Rattle.std.specs.Prelude.{◌≡◌};
-ghost use Rattle.relation_elaboration.specs.declared.faults.ElabFault.{ElabFault};
+ghost use Rattle.elaboration_worklist.specs.declared.faults.ElabFault.{ElabFault};
 
 use relation_terms::terms::OutOfMemory;
 use std::alloc::{AllocError, AllocFailed};
