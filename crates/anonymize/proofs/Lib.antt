@@ -3,5 +3,5 @@ pub mod Anonymizing
 mod UsedVars
 mod UsedTrees
 mod UsedParts
-pub mod Renaming
+pub mod Renamings
 mod Within

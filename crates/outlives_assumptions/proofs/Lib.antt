@@ -1,1 +1,1 @@
-pub mod Assuming
+pub mod Assumptions

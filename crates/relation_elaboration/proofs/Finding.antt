@@ -12,7 +12,7 @@ use Rattle.relation_terms.specs.declared.predicate.trait_ref.TraitRef.{TraitRef}
 use Rattle.relation_terms.specs.declared.terms.binder.Binder.{Binder}
 use Rattle.relation_terms.specs.declared.terms.keys.ClauseKey.{ClauseKey}
 use Rattle.relation_terms.proofs.Stays.{stays_same, extends_on, knows_clause}
-use Rattle.anonymize.proofs.Renaming.{renamings_are_one}
+use Rattle.anonymize.proofs.Renamings.{renamings_are_one}
 use Rattle.relation_statements.specs.Statements.{statements}
 use Rattle.relation_statements.specs.Closure.{AreSame, AreDifferent}
 use Rattle.relation_statements.specs.Runs.{Closes, AreTooMany}

@@ -14,7 +14,7 @@ use Rattle.relation_statements.specs.Runs.{AreTooMany}
 use Rattle.relation_elaboration.specs.Pulling.{Elaboration, Keeps, Takes, HasNoRoom, BeginsWith, BeginsClosure}
 use Rattle.elaboration_worklist.specs.Kept.{Pushed}
 use Rattle.relation_elaboration.specs.Pulling.{standing, named}
-use Rattle.anonymize.proofs.Renaming.{renamings_are_one}
+use Rattle.anonymize.proofs.Renamings.{renamings_are_one}
 use Rattle.relation_statements.proofs.Closing.{too_many}
 use Rattle.relation_elaboration.proofs.Pulled.{standing_by}
 use Rattle.relation_elaboration.proofs.Yielding.{closes_from}

@@ -4,7 +4,7 @@ use Rattle.relation_terms.specs.Trees.{Tree, known}
 use Rattle.relation_terms.specs.Meaning.{Meaning, Extends}
 use Rattle.relation_terms.specs.Owned.{StatesItsOwn}
 use Rattle.relation_terms.proofs.Stays.{stays_same, extends_on}
-use Rattle.anonymize.proofs.Renaming.{renamings_are_one}
+use Rattle.anonymize.proofs.Renamings.{renamings_are_one}
 use Rattle.relation_statements.specs.Statements.{statements}
 use Rattle.elaboration_worklist.specs.Pushes.{Pushes}
 use Rattle.relation_statements.specs.Runs.{Yields, Runs}

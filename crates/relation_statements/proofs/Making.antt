@@ -47,8 +47,8 @@ use Rattle.outlives_assumptions.specs.Assuming.{argument_of, IsKnownComponent}
 use Rattle.outlives.specs.Outliving.{AddsSome, HasAll}
 use Rattle.outlives.specs.declared.Component.{Component, Region, Param, Placeholder}
 use Rattle.outlives.specs.declared.Component.{UnresolvedInferenceVariable, Alias, EscapingAlias'}
-use Rattle.outlives_assumptions.proofs.Assuming.{mapped_filter, given_same, same_mapped, same_as, same_on}
-use Rattle.outlives_assumptions.proofs.Assuming.{added_known, components_known, stays_argument}
+use Rattle.outlives_assumptions.proofs.Assumptions.{mapped_filter, given_same, same_mapped, same_as, same_on}
+use Rattle.outlives_assumptions.proofs.Assumptions.{added_known, components_known, stays_argument}
 use Rattle.relation_statements.specs.Stated.{stated_of}
 use Rattle.relation_statements.specs.Children.{Statements, Mode, children, effect_of, is_bound, outlives, of_form, mode_of}
 use Rattle.relation_statements.specs.Statements.{statements, listed, is_left, outlives_tree, component_implied}

@@ -1,4 +1,4 @@
-use Rattle.anonymize.proofs.Renaming.{renamings_are_one}
+use Rattle.anonymize.proofs.Renamings.{renamings_are_one}
 use Rattle.anonymize.proofs.laws.renamings.Goals as goal
 
 pub returns : goal.returns

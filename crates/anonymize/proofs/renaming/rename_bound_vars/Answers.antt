@@ -1,5 +1,5 @@
 use Rattle.std.proofs.Common.{sym}
-use Rattle.anonymize.proofs.Renaming.{renamed_empty}
+use Rattle.anonymize.proofs.Renamings.{renamed_empty}
 use Rattle.anonymize.proofs.renaming.rename_bound_vars.Goals as goal
 
 pub returns-then-is_empty-clause-made : goal.returns-then-is_empty-clause-made

@@ -2,7 +2,7 @@ use Rattle.std.proofs.Common.{◌+◌, ◌∷◌, [], refl, sym, subst, take, Ok
 use Rattle.std.specs.List.{filter_map}
 use Rattle.relation_terms.proofs.Stays.{stays_same, knows_region}
 use Rattle.outlives_assumptions.specs.Assuming.{IsKnownComponent}
-use Rattle.outlives_assumptions.proofs.Assuming.{all_at, filter_next, knows_component}
+use Rattle.outlives_assumptions.proofs.Assumptions.{all_at, filter_next, knows_component}
 use Rattle.relation_statements.specs.Statements.{component_implied}
 use Rattle.elaboration_worklist.specs.Kept.{Pushed}
 use Rattle.relation_statements.proofs.Making.{stays_implied, first_give}

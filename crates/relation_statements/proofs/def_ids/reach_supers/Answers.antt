@@ -1,7 +1,7 @@
 use Rattle.std.proofs.Common.{◌∙◌, ◌∷◌, [], refl, ap, subst, take}
 use Rattle.std.specs.List.{filter_map}
 use Rattle.std.proofs.lemmas.List.{take_all}
-use Rattle.outlives_assumptions.proofs.Assuming.{filter_next}
+use Rattle.outlives_assumptions.proofs.Assumptions.{filter_next}
 use Rattle.relation_statements.specs.TraitClauses.{trait_named}
 use Rattle.relation_statements.specs.Reach.{Spreads, numbers}
 use Rattle.relation_statements.proofs.Reaching.{item_name, item_known, all_named, spreads_none, spreads_then}

@@ -1,4 +1,4 @@
-use Rattle.anonymize.proofs.Renaming.{renamings_are_one}
+use Rattle.anonymize.proofs.Renamings.{renamings_are_one}
 use Rattle.relation_statements.proofs.Closing.{runs_close}
 use Rattle.relation_statements.proofs.laws.runs.Goals as goal
 
