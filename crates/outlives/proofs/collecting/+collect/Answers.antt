@@ -12,7 +12,7 @@ use Rattle.relation_terms.specs.Interning.{Sorted}
 use Rattle.relation_terms.proofs.Members.{member_small, parts_small, slice_counts, slice_list, slice_nth, slice_sure}
 use Rattle.relation_terms.proofs.Parts.{ty_seen, known_parts}
 use Rattle.relation_folds.specs.Visits.{bound_var_escapes}
-use Rattle.outlives.specs.Components.{every, components, inside_alias}
+use Rattle.component_parts.specs.Components.{every, components, inside_alias}
 use Rattle.component_parts.specs.Choosing.{choice_in, meant, chosen_at}
 use Rattle.outlives.specs.Outliving.{SomeIs, AddsSome, HasAll}
 use Rattle.outlives.specs.Collecting.{Settled, of_member}
