@@ -17,8 +17,6 @@ use Rattle.component_parts.specs.Components.{inside_alias}
 use Rattle.outlives.specs.Outliving.{AddsSome, HasAll}
 use Rattle.traversal.specs.Keeping.{Adds}
 use Rattle.outlives.specs.declared.Component.{Component}
-use Rattle.component_parts.specs.declared.Chosen.{Chosen}
-use Rattle.component_parts.specs.declared.Chosen.TheVariants.{Every, NoRegion, NotBivariant}
 
 -- The components of the member at a place, if it is chosen.
 abbrev pub of_member : Choice → ℕ → Tree → List Tree
