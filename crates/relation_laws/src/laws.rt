@@ -1,7 +1,8 @@
 //! Laws of the definitions that relating is said in. Each function does nothing, and its contract is the law.
 
 ghost use Rattle.type_relations.specs.SmallTerms.{IsReflexive, AnythingAtBivariance, ErrorsAreRelated};
-ghost use Rattle.type_relations.specs.SmallTerms.{ParametersByIndex, ValuesByTheirTrees, ConstantsAtEachVariance};
+ghost use Rattle.type_relations.specs.SmallTerms.{ParametersByIndex, ValuesByTheirTrees};
+ghost use Rattle.type_relations.specs.ConstantLaws.{ConstantsAtEachVariance};
 ghost use Rattle.type_relations.specs.SmallTerms.{ReferencesByRegions, MutablePointeesAreFixed, InputsTurnRound};
 ghost use Rattle.type_relations.specs.SmallTerms.{BivariantArguments, UnlikeHeadsAreUnrelated, UnlikeAtomsAreUnrelated};
 ghost use Rattle.type_relations.specs.SmallTerms.{AtomsAreNoForms, FormsByParts, PredicatesWithThemselvesAlone};

@@ -42,7 +42,7 @@ use Rattle.type_relations.proofs.Shapes.{shaped}
 use Rattle.relation_terms.proofs.Paths.{leaf_path}
 use Rattle.relation_terms.proofs.Erasing.{erased_count}
 use Rattle.type_relations.specs.Closed.{SpendsForVariables}
-use Rattle.type_relations.proofs.Closed.{plain_never_needs}
+use Rattle.type_relations.proofs.ClosedTerms.{plain_never_needs}
 
 -- A plain term without variables and aliases is first-order but for binders of regions.
 region_head : (h : Head) → IsPlainHead h → (IsAliasHead h → ⊥) → IsRegionTermHead h

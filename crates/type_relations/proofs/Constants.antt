@@ -6,7 +6,7 @@ use Rattle.term_enums.specs.Variances.{xform}
 use Rattle.relation_terms.specs.Heads.{Sort, region_sort, type_sort, const_sort, value_sort, value_type_sort, pattern_sort, Admits, Part, term_of, binder_of, Shape, one, row, head_parts, head_sort, leaf_sort, Head, unevaluated, expression, value, value_type, value_branch, range_pattern, or_pattern}
 use Rattle.relation_terms.specs.Trees.{Tree, leaf, node, bind, nil, cons, Fits, IsTerm}
 use Rattle.relation_semantics.specs.Relation.{Items, Interpretation, parts, Rel, at, same, anything, error_left, error_right, regions, alias_types, equal_consts, atoms, forms, no_parts, next_part, covariant_binders, contravariant_binders, invariant_binders, part_at, sort_of}
-use Rattle.type_relations.specs.SmallTerms.{IsConstantSort, ConstantsAtEachVariance}
+use Rattle.type_relations.specs.ConstantLaws.{IsConstantSort, ConstantsAtEachVariance}
 
 -- What stands where one of these is asked for is one.
 admitted : (s x : Sort) → IsConstantSort s → Admits s x → IsConstantSort x

@@ -13,7 +13,7 @@ use Rattle.relation_semantics.specs.Goals.{Goal, ByDeclared, IsQuiet, goal_of, w
 use Rattle.relation_semantics.specs.Kits.{Kit, IsBuiltOf, BindsBuiltOf, IsGoalOf}
 use Rattle.relation_semantics.specs.Lawful.{State, Noted, OnlyMemory, WithMeaning, RegisteredIn, RelatesByDeclared, items_in}
 use Rattle.relation_semantics.specs.Stores.{InContext, IsSound, IsTermIn}
-use Rattle.type_relations.proofs.Closed.{plain_terms_never_need}
+use Rattle.type_relations.proofs.ClosedTerms.{plain_terms_never_need}
 use Rattle.type_relations.proofs.Bivariance.{bivariant_parts, open_in_kit}
 use Rattle.type_relations.proofs.Noting.{noted_with, noted_then, noted_added}
 use Rattle.relation_semantics.proofs.Standing.{term_context}

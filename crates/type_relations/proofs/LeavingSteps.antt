@@ -46,7 +46,7 @@ use Rattle.relation_semantics.proofs.Leaving.{opaque_is_alias, beside_is_opaque}
 use Rattle.type_relations.proofs.GoalPasses.{goal_passes, no_goal_passes}
 use Rattle.type_relations.proofs.OpeningBoth.{changes_goes}
 use Rattle.relation_semantics.proofs.Erased.{alias_not_first, error_not_first}
-use Rattle.type_relations.proofs.StructuralConsts.{error_flexible}
+use Rattle.type_relations.proofs.Errors.{error_flexible}
 
 error_in_kit : (k : Kit) (t : Tree) → IsError t → IsBuiltOf k t → HasNoError k → ⊥
 error_in_kit k (leaf (atom type_error)) e h n = false≢true (sym n.0 ∙ h)

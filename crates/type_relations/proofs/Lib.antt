@@ -5,6 +5,7 @@ pub mod Items
 pub mod Relatable
 pub mod Fronts
 pub mod Structural
+pub mod Errors
 pub mod StructuralConsts
 pub mod Looping
 pub mod Rounds
@@ -20,6 +21,7 @@ pub mod BindingRefused
 pub mod GeneralisingErrors
 pub mod Constraints
 pub mod DiagInfo
+pub mod Mapped
 pub mod Making
 pub mod Patterns
 pub mod PartPlaces
@@ -35,14 +37,18 @@ pub mod Shallowly
 pub mod NumberVars
 pub mod Turning
 pub mod OverContext
+pub mod Sorted
+pub mod Constrained
 pub mod Solving
 pub mod OpeningBoth
+pub mod Entering
 pub mod SolvingBinders
 pub mod Stepping
 pub mod GeneralisingInOne
 pub mod Spending
 pub mod SolvingVariables
 pub mod SolvingGoals
+pub mod StepsAlone
 pub mod Alone
 pub mod Relating
 pub mod Bivariance
@@ -60,6 +66,7 @@ pub mod PlainForms
 pub mod Disagreeing
 pub mod AskedGoals
 pub mod Completing
+pub mod ClosedTerms
 pub mod Closed
 pub mod Asked
 mod BindingAsked

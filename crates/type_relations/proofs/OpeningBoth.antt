@@ -10,7 +10,7 @@ use Rattle.relation_terms.specs.Meaning.{Meaning}
 use Rattle.relation_folds.specs.declared.error.TypeError.{TypeError}
 use Rattle.relation_semantics.specs.Relation.{Items, StaysWithin, at, second_opened, first_opened}
 use Rattle.relation_semantics.specs.Stores.{Store, unbound, entry_term, counts_term, counts_bound, tally, bound_term}
-use Rattle.relation_semantics.specs.Stores.{all_bound, IsMade, IsMadeLeaf, IsInScope, InContext, IsNamable, IsTermIn}
+use Rattle.relation_semantics.specs.Stores.{all_bound, IsMadeLeaf, IsInScope, InContext, IsNamable, IsTermIn}
 use Rattle.relation_semantics.specs.Stores.{IsSound, resolved, weight}
 use Rattle.relation_semantics.specs.Goals.{Goal}
 use Rattle.relation_semantics.specs.Steps.{ChangesNothing, EntersForall, LeavesBody, EntersUniverse, InstantiatesBinder}
@@ -38,6 +38,7 @@ use Rattle.type_relations.proofs.OpenedTerms.{entered_body_is_in, instantiated_b
 use Rattle.type_relations.proofs.OpenedTerms.{instantiated_body_binds}
 use Rattle.relation_semantics.proofs.Opening.{changes_later, opening_steps}
 use Rattle.relation_semantics.proofs.Going.{goes_then}
+use Rattle.type_relations.proofs.Entering.{changes_made}
 
 -- What changes nothing leaves sizes, costs nothing and stays sound.
 module _ (before after : Store) (h : ChangesNothing before after) where
@@ -65,9 +66,6 @@ module _ (before after : Store) (h : ChangesNothing before after) where
     binds = let e = changes_bound in omega (arith, e);
     grows = λ m t above below. let e = changes_weight t in omega (arith, e, below);
   }
-
-  pub changes_made : (k : VarKind) (n : ℕ) → IsMade before k n → IsMade after k n
-  changes_made k n m = subst (λ es. n < length es) (sym (h.same_entries k)) m
 
 -- A universe may have been made, and then variables that stay unbound.
 module _ (before middle after : Store) (h : ChangesNothing before middle) (g : IsSound before)

@@ -41,7 +41,7 @@ use Rattle.type_relations.specs.Stepping.{CombinesShallowTys, two_variables, lef
 use Rattle.type_relations.specs.Stepping.{right_bound, right_asked, right_unasked, right_refused, no_ty_variables}
 use Rattle.type_relations.specs.Stepping.{InstantiatesTyVar, BindsTyVar, BindsAsking, BindsUnasked, IsRemembered, StepsRead, met_again}
 use Rattle.type_relations.specs.Stepping.{combined, not_remembered, RemembersAnswered}
-use Rattle.type_relations.proofs.Alone.{combined_registers}
+use Rattle.type_relations.proofs.StepsAlone.{combined_registers}
 
 -- Equal variances are one.
 variance_is : (v w : Variance) → ghosts.eq v w ≡ true → w ≡ v

@@ -1,6 +1,6 @@
 -- Relating in a context, step by step.
-use Rattle.std.proofs.Common.{◌≡◌, ◌≢◌, ℕ, ◌<◌, ◌≤◌, refl, sym, ap, ap₂, ◌∙◌, arith, subst, subst₂, [], All}
-use Rattle.std.proofs.Common.{IsTrue, Some, IfSome, ◌++◌, max, min, length}
+use Rattle.std.proofs.Common.{◌≡◌, ◌≢◌, ℕ, ◌<◌, refl, sym, ap, ap₂, ◌∙◌, arith, subst, subst₂, [], All}
+use Rattle.std.proofs.Common.{IsTrue, Some, IfSome, ◌++◌, max, min}
 use Rattle.std.proofs.Common.{Result, Ok, Err, List, ◌∷◌}
 use Rattle.std.proofs.lemmas.List.Elements.{All-nil}
 use Rattle.std.proofs.lemmas.List.{append-nil}
@@ -12,16 +12,14 @@ use Rattle.relation_terms.specs.declared.predicate.regions.RegionConstraint.{Reg
 use Rattle.relation_terms.specs.declared.predicate.regions.RegionConstraint.TheVariants.{Outlives, Eq}
 use Rattle.relation_terms.specs.declared.terms.generic_arg.GenericArgKind.TheVariants.{Lifetime}
 use Rattle.relation_terms.specs.declared.terms.keys.TyKey.{TyKey}
-use Rattle.relation_terms.specs.declared.terms.keys.ConstKey.{ConstKey}
-use Rattle.relation_terms.specs.declared.terms.keys.PatKey.{PatKey}
 use Rattle.relation_terms.specs.declared.terms.keys.RegionKey.{RegionKey}
 use Rattle.relation_terms.specs.declared.terms.keys.ParamEnvKey.{ParamEnvKey}
 use Rattle.relation_terms.specs.declared.terms.keys.PredicateKey.{PredicateKey}
 use Rattle.relation_terms.specs.declared.terms.goal.Goal.{Goal as KeyedGoal}
 use Rattle.term_enums.specs.Variances.{xform}
-use Rattle.relation_terms.specs.Heads.{type_sort, const_sort, region_sort, pattern_sort, VarKind, region_var, atom, variable}
+use Rattle.relation_terms.specs.Heads.{region_sort, VarKind, region_var, atom, variable}
 use Rattle.relation_terms.specs.Heads.{bound, placeholder, unknown}
-use Rattle.relation_terms.specs.Trees.{Tree, leaf, node, bind, nil, cons, Assign, apply, IsTerm, known}
+use Rattle.relation_terms.specs.Trees.{Tree, leaf, node, bind, nil, cons, Assign, apply, known}
 use Rattle.relation_terms.specs.Meaning.{Meaning, Extends}
 use Rattle.relation_terms.proofs.Stays.{stays_same}
 use Rattle.relation_folds.specs.declared.error.RelateFault.{RelateFault}
@@ -35,13 +33,13 @@ use Rattle.relation_semantics.specs.Recording.{AreBare, IsJustAsked}
 use Rattle.relation_semantics.specs.Errors.{as_pair}
 use Rattle.relation_semantics.proofs.Asking.{regions_ask_one, region_asked}
 use Rattle.relation_semantics.proofs.Recording.{records_constraint, just_asked}
-use Rattle.relation_semantics.specs.Stores.{Store, Constraint, IsRegionIn, IsSound}
+use Rattle.relation_semantics.specs.Stores.{Store, IsRegionIn, IsSound}
 use Rattle.relation_semantics.specs.Stores.{ConstraintHolds, all_bound}
 use Rattle.relation_semantics.specs.Goals.{Goal, goals_of, KnowsGoal, Registered, GoalInContext, Holds, MakesOneTree}
 use Rattle.relation_semantics.specs.Headline.{AnswersGoals, KeepsEqualTerms, IsFirstOrderPair}
 use Rattle.relation_semantics.specs.Steps.{AddsConstraint, Equates, IsLater, StaysFull}
 use Rattle.relation_semantics.specs.Kits.{StaysBuilt, IsGoalOf}
-use Rattle.relation_semantics.proofs.Building.{built_itself, built_same, built_constraint}
+use Rattle.relation_semantics.proofs.Building.{built_itself, built_constraint}
 use Rattle.relation_semantics.specs.Outcomes.{Outcome}
 use Rattle.relation_semantics.specs.Measures.{Goes}
 use Rattle.relation_semantics.specs.Parts.{IsFormedConst}
@@ -54,7 +52,7 @@ use Rattle.relation_semantics.specs.Lawful.{Verdict, WithMeaning, RegisteredIn, 
 use Rattle.relation_semantics.proofs.Going.{goes_nowhere, goes_within, later_itself}
 use Rattle.relation_semantics.proofs.Remembering.{none_related, were_related_later}
 use Rattle.relation_semantics.proofs.Roots.{roots_goes}
-use Rattle.relation_semantics.proofs.Full.{full_itself, full_same, full_by, constraint_plain}
+use Rattle.relation_semantics.proofs.Full.{full_itself}
 use Rattle.relation_semantics.proofs.Growing.{constraint_holds, constraint_keeps}
 use Rattle.type_relations.proofs.Constraints.{asked_relates, asked_met}
 use Rattle.type_relations.proofs.OverContext.{standing, roots_step as roots_equated}
@@ -65,11 +63,11 @@ use Rattle.type_relations.specs.Solving.{HeldRelated, settings_by, solver_settin
 use Rattle.relation_semantics.specs.Errors.{ErrorOf}
 use Rattle.relation_semantics.proofs.Registered.{goals_stay, goals_known, none_at_invariance, all_but_aliases, first_order_built, first_order_bindings}
 use Rattle.type_relations.proofs.Exactly.{region_value, regions_exactly}
-use Rattle.relation_semantics.proofs.Growing.{constraint_is_later, constraint_bound, constraint_weight}
 use Rattle.relation_semantics.specs.Contexts.{Context}
 use Rattle.relation_semantics.specs.Settings.{Setup}
-use Rattle.relation_semantics.specs.ContextCalls.{Stands, Grows, Knows, Constrains, KeepsSetup, KeepsOutliving, KeepsBeside}
+use Rattle.relation_semantics.specs.ContextCalls.{Stands, Grows, Knows, KeepsSetup, KeepsOutliving, KeepsBeside}
 use Rattle.type_relations.specs.Emitting.{WithContext}
+use Rattle.type_relations.proofs.Constrained.{constraint_full}
 
 -- Seen from the other side too the variance decides something.
 pub decides_back : (v w : Variance) → v ≢ Bivariant → w ≡ xform v Contravariant → w ≢ Bivariant
@@ -77,37 +75,6 @@ decides_back Covariant w d e h = let z : Contravariant ≡ Bivariant = sym e ∙
 decides_back Contravariant w d e h = let z : Covariant ≡ Bivariant = sym e ∙ h in cc
 decides_back Invariant w d e h = let z : Invariant ≡ Bivariant = sym e ∙ h in cc
 decides_back Bivariant w d e h = d refl
-
--- What an interner says of its keys, of those of a context over it.
-module _ {Key Id Name : Type 0} {m n : Meaning Key Id Name} (e : m ≡ n) where
-  pub ty_sorted : (t : TyKey Key) → (IsTrue (known (n.ty t)) → IsTerm type_sort (n.ty t)) → IsTrue (known (m.ty t)) →
-      IsTerm type_sort (m.ty t)
-  ty_sorted t f h = subst (λ z. IsTerm type_sort (z.ty t)) (sym e) (f (subst (λ z. IsTrue (known (z.ty t))) e h))
-
-  pub const_sorted : (t : ConstKey Key) → (IsTrue (known (n.const_ t)) → IsTerm const_sort (n.const_ t)) →
-      IsTrue (known (m.const_ t)) → IsTerm const_sort (m.const_ t)
-  const_sorted t f h =
-      subst (λ z. IsTerm const_sort (z.const_ t)) (sym e) (f (subst (λ z. IsTrue (known (z.const_ t))) e h))
-
-  pub region_sorted : (t : RegionKey Key) → (IsTrue (known (n.region t)) → IsTerm region_sort (n.region t)) →
-      IsTrue (known (m.region t)) → IsTerm region_sort (m.region t)
-  region_sorted t f h =
-      subst (λ z. IsTerm region_sort (z.region t)) (sym e) (f (subst (λ z. IsTrue (known (z.region t))) e h))
-
-  pub pat_sorted : (t : PatKey Key) → (IsTrue (known (n.pat t)) → IsTerm pattern_sort (n.pat t)) →
-      IsTrue (known (m.pat t)) → IsTerm pattern_sort (m.pat t)
-  pat_sorted t f h =
-      subst (λ z. IsTerm pattern_sort (z.pat t)) (sym e) (f (subst (λ z. IsTrue (known (z.pat t))) e h))
-
-  pub one_ty : (a b : TyKey Key) → (IsTrue (known (n.ty a)) → IsTrue (known (n.ty b)) → n.ty a ≡ n.ty b) →
-      IsTrue (known (m.ty a)) → IsTrue (known (m.ty b)) → m.ty a ≡ m.ty b
-  one_ty a b f h k = subst (λ z. z.ty a ≡ z.ty b) (sym e) (f (subst (λ z. IsTrue (known (z.ty a))) e h)
-      (subst (λ z. IsTrue (known (z.ty b))) e k))
-
-  pub one_const : (a b : ConstKey Key) → (IsTrue (known (n.const_ a)) → IsTrue (known (n.const_ b)) →
-      n.const_ a ≡ n.const_ b) → IsTrue (known (m.const_ a)) → IsTrue (known (m.const_ b)) → m.const_ a ≡ m.const_ b
-  one_const a b f h k = subst (λ z. z.const_ a ≡ z.const_ b) (sym e)
-      (f (subst (λ z. IsTrue (known (z.const_ a))) e h) (subst (λ z. IsTrue (known (z.const_ b))) e k))
 
 -- What a constant of a form comes to is no variable.
 pub formed_apart : (s : Assign) (t : Tree) (k : VarKind) (n : ℕ) → IsFormedConst t → apply s t ≢ leaf (variable k n)
@@ -120,42 +87,6 @@ formed_apart s (node i ts) k n f h = cc
 formed_apart s (bind ks t) k n f h = f
 formed_apart s nil k n f h = f
 formed_apart s (cons t ts) k n f h = f
-
--- A constraint was recorded.
-pub constraint_goes : (before after : Store) (q : Constraint) → AddsConstraint before after q → Goes 0 before after
-constraint_goes before after q added = record {
-  later = constraint_is_later before after q added;
-  made = λ k h. ap length (added.same_entries k);
-  spent = 0;
-  counts = let e = added.same_budget in omega (arith, e);
-  binds = let e = constraint_bound before after q added in omega (arith, e);
-  grows = λ k t above below. subst (λ z. z ≤ k) (constraint_weight before after q added t) below;
-}
-
-pub constrained_goes : {Key Id Name A F : Type 0} (c d : Context Key Id Name) (q : Constraint) (r : Result A F) →
-    Constrains c d q r → Goes 0 c.store d.store
-constrained_goes c d q (Ok x) h = constraint_goes c.store d.store q h
-constrained_goes c d q (Err f) h = subst (Goes 0 c.store) (sym h) (goes_nowhere 0 c.store)
-
-pub constraint_full : (before after : Store) (q : Constraint) → AddsConstraint before after q → StaysFull before after
-constraint_full before after q added = full_by (constraint_goes before after q added)
-    (λ k. ap length (added.same_entries k)) (constraint_plain before after added.same_entries)
-
-pub constrained_full : {Key Id Name A F : Type 0} (c d : Context Key Id Name) (q : Constraint) (r : Result A F) →
-    Constrains c d q r → StaysFull c.store d.store
-constrained_full c d q (Ok x) h = constraint_full c.store d.store q h
-constrained_full c d q (Err f) h = full_same h
-
-pub constrained_built : {Key Id Name A F : Type 0} (c d : Context Key Id Name) (q : Constraint) (r : Result A F)
-    (a b : Tree) → Constrains c d q r → StaysBuilt c.store d.store [] a b
-constrained_built c d q (Ok x) a b h =
-    built_constraint c.store d.store a b h.same_entries h.same_universe h.same_taint h.same_budget
-constrained_built c d q (Err f) a b h = built_same a b h
-
-pub constrained_bound : {Key Id Name A F : Type 0} (c d : Context Key Id Name) (q : Constraint) (r : Result A F) →
-    Constrains c d q r → all_bound d.store ≡ all_bound c.store
-constrained_bound c d q (Ok x) h = constraint_bound c.store d.store q h
-constrained_bound c d q (Err f) h = ap all_bound h
 
 abbrev pub held_of : {Key : Type 0} → StructurallyRelateAliases → ℕ → List (Pair Key) → Setup Key →
     List (OutlivesPredicate Key (TyKey Key)) → Held Key

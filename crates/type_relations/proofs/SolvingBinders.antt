@@ -1,8 +1,7 @@
 -- Relating two binders in a context, round by round.
 use Rattle.std.proofs.Common.{◌≡◌, ◌≢◌, ◌⊎◌, ℕ, ◌<◌, refl, sym, ◌∙◌, arith, inl, inr, subst, subst₂, List, []}
-use Rattle.std.proofs.Common.{IsTrue, Bool, true, false, ◌||◌, Option, Some, None, Result, Ok, Err, IsErr}
+use Rattle.std.proofs.Common.{IsTrue, Bool, true, false, ◌||◌, Option, Some, None, Result, Ok, Err}
 use Rattle.std.proofs.lemmas.Bool.{false≢true, or_parts}
-use Rattle.relation_terms.specs.declared.terms.binder.Binder.{Binder}
 use Rattle.term_enums.specs.declared.Variance.{Variance}
 use Rattle.term_enums.specs.declared.Variance.TheVariants.{Covariant, Contravariant, Invariant}
 use Rattle.term_enums.specs.declared.Variance.TheVariants.{Bivariant}
@@ -11,32 +10,30 @@ use Rattle.relation_terms.specs.declared.terms.keys.ParamEnvKey.{ParamEnvKey}
 use Rattle.relation_terms.specs.declared.terms.keys.PredicateKey.{PredicateKey}
 use Rattle.relation_terms.specs.Heads.{BoundKind}
 use Rattle.relation_terms.specs.Trees.{Tree, bind, known}
-use Rattle.relation_terms.specs.Meaning.{Meaning, Extends, under}
-use Rattle.relation_terms.proofs.Binders.{under_stays}
+use Rattle.relation_terms.specs.Meaning.{Meaning, under}
 use Rattle.relation_folds.specs.declared.error.RelateFault.{RelateFault}
 use Rattle.relation_folds.specs.declared.error.RelateFault.TheVariants.{Memory}
 use Rattle.relation_folds.specs.Visits.{bound_var_escapes}
 use Rattle.term_enums.specs.declared.StructurallyRelateAliases.{StructurallyRelateAliases}
 use Rattle.relation_semantics.specs.Relation.{StaysWithin}
 use Rattle.relation_semantics.specs.Stores.{Store, InContext, IsTermIn, IsSound}
-use Rattle.relation_semantics.specs.Steps.{ChangesNothing, EntersForall}
+use Rattle.relation_semantics.specs.Steps.{ChangesNothing}
 use Rattle.relation_semantics.specs.Measures.{Goes}
 use Rattle.relation_semantics.specs.Bound.{AreBoundAs}
 use Rattle.relation_semantics.specs.Lawful.{State, Pair, Asked, items_of}
 use Rattle.relation_semantics.specs.Goals.{goals_of}
 use Rattle.relation_semantics.specs.Contexts.{Context}
 use Rattle.relation_semantics.specs.ContextCalls.{Grows}
-use Rattle.relation_semantics.specs.Binders.{binder_tree, EntersAs, InstantiatesAs, OpensFrom, OpensBoth, MakesEach, MakesFirst, makes_none}
+use Rattle.relation_semantics.specs.Binders.{OpensFrom, MakesFirst}
 use Rattle.type_relations.specs.Rounds.{OneRound, RoundSteps, one_round, first_round, second_round, RoundLeads}
 use Rattle.type_relations.specs.Rounds.{RoundVerdict, Opened}
 use Rattle.type_relations.specs.Solving.{KnowsGoals, solving_through, solver_manner}
-use Rattle.relation_semantics.proofs.Standing.{later_term}
 use Rattle.relation_semantics.proofs.Going.{goes_nowhere, goes_within}
 use Rattle.relation_semantics.proofs.Opened.{none_escapes, within_none}
-use Rattle.relation_semantics.proofs.Opening.{covariant_step, contravariant_step, unused_step, same_changes}
+use Rattle.relation_semantics.proofs.Opening.{covariant_step, contravariant_step, unused_step}
 use Rattle.type_relations.proofs.OverContext.{all_taken}
 use Rattle.type_relations.proofs.Solving.{held_grows, solver_passes}
-use Rattle.type_relations.proofs.OpeningBoth.{changes_made, opened_goes, body_scope, unused_stand_ins, bodies_error}
+use Rattle.type_relations.proofs.OpeningBoth.{opened_goes, body_scope, unused_stand_ins, bodies_error}
 use Rattle.type_relations.proofs.OpeningBoth.{bodies_agree}
 use Rattle.type_relations.proofs.OpeningBoth.{BothOpened, both_opened, bodies_smaller, bodies_built}
 use Rattle.relation_semantics.specs.Kits.{Kit, IsBuiltOf, StaysBuilt, MayBind}
@@ -87,43 +84,6 @@ opens_neither Covariant n d below s f = (other_round n below (λ h. s (h, inl re
 opens_neither Contravariant n d below s f = (other_round n below (λ h. f (inl (h, refl))), contravariant_apart)
 opens_neither Invariant n d below s f = absurd (no_round n below (λ h. s (h, inr refl)) (λ h. f (inr (h, refl))))
 opens_neither Bivariant n d below s f = absurd (d refl)
-
--- What is a term of the context is one still where nothing that is recorded changes.
-pub entered_keeps : (before after : Store) → ChangesNothing before after → (t : Tree) → IsTermIn before t →
-    IsTermIn after t
-entered_keeps before after h t i = later_term before after (changes_made before after h) h.universe_stands t i
-
-module _ {Key Id Name : Type 0} where
-  -- A known binder keeps its tree while the interner grows.
-  pub binder_stays : {T : Type 0} (tree : Meaning Key Id Name → T → Tree) (m n : Meaning Key Id Name) → Extends m n →
-      (b : Binder Key T) → (IsTrue (known (tree m b.value)) → tree n b.value ≡ tree m b.value) →
-      IsTrue (known (binder_tree tree m b)) → binder_tree tree n b ≡ binder_tree tree m b
-  binder_stays tree m n grown b f k = under_stays (m.bound_vars b.bound_vars) (n.bound_vars b.bound_vars)
-      (tree m b.value) (tree n b.value) (grown.bound_vars b.bound_vars) f k
-
-  -- What was entered changes nothing.
-  pub entered_changes : (c d : Context Key Id Name) (o : Option (List BoundKind)) (t x : Tree) →
-      EntersAs c d (under o t) x → ChangesNothing c.store d.store
-  entered_changes c d (Some ks) t x f = f.changes_nothing
-  entered_changes c d None t x f = absurd f
-
-  -- The one was entered and then the other instantiated; or a growth was refused at either.
-  pub opens_from : (c d e : Context Key Id Name) (o p : Option (List BoundKind)) (t u x y z : Tree) → z ≡ x →
-      EntersAs c d (under o t) x → InstantiatesAs d e (under p u) y → OpensFrom c e (under o t) (under p u) z y
-  opens_from c d e (Some ks) (Some ls) t u x y z same f g =
-      (d.store, subst (EntersForall c.store d.store ks t) (sym same) f, g)
-  opens_from c d e (Some ks) None t u x y z same f g = absurd g
-  opens_from c d e None p t u x y z same f g = absurd f
-
-  pub refused_first : (c d : Context Key Id Name) {K F : Type 0} (tree : Meaning Key Id Name → K → Tree) (t u : Tree)
-      (r : Result (K × K) F) → IsErr r → d.store ≡ c.store → OpensBoth c d tree t u r
-  refused_first c d tree t u (Ok x) h same = absurd (false≢true h)
-  refused_first c d tree t u (Err f) h same = (
-    c.store,
-    same_changes c.store,
-    refl,
-    (0, [], subst (MakesEach (c.store).universe c.store [] []) (sym same) (makes_none refl refl)),
-  )
 
 -- The relation of a context before opening and after it.
 module _ {Key Id Name : Type 0} (aliases : StructurallyRelateAliases) (j : ℕ) (ps : List (Pair Key))

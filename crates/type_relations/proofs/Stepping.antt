@@ -1,6 +1,6 @@
 -- The cases of each step of the relation of a context.
 use Rattle.std.proofs.Common.{◌≡◌, ◌≢◌, ℕ, refl, sym, ap, ◌∙◌, subst, List, [], ◌∷◌, ◌++◌}
-use Rattle.std.proofs.Common.{Option, Some, None, Result, Ok, Err, OnErr}
+use Rattle.std.proofs.Common.{Option, Some, None, Result, Ok, Err}
 use Rattle.std.proofs.lemmas.Option.{same_Some}
 use Rattle.term_enums.specs.declared.Variance.{Variance}
 use Rattle.term_enums.specs.declared.Variance.TheVariants.{Covariant, Contravariant, Invariant}
@@ -20,10 +20,8 @@ use Rattle.relation_semantics.specs.declared.relate.Step.TheVariants.{Done}
 use Rattle.term_enums.specs.declared.StructurallyRelateAliases.{StructurallyRelateAliases}
 use Rattle.relation_semantics.specs.Binders.{OpensFrom}
 use Rattle.relation_semantics.specs.Contexts.{Context}
-use Rattle.relation_semantics.specs.ContextCalls.{Constrains}
 use Rattle.relation_semantics.specs.Goals.{goal_of, IsDirected}
 use Rattle.relation_semantics.specs.Lawful.{State, Pair}
-use Rattle.relation_semantics.specs.Stores.{Constraint}
 use Rattle.type_relations.specs.Combining.{RegistersOne, seen}
 use Rattle.relation_semantics.specs.AskedAlone.{subtype_at}
 use Rattle.type_relations.specs.Emitting.{AddsAsked, RegistersGoal}
@@ -39,12 +37,6 @@ directed_decides {v} h g = go v refl
     go Contravariant is = tt
     go Invariant is = absurd (h is)
     go Bivariant is = absurd (g is)
-
--- Where a growth was refused nothing was recorded of regions.
-pub constrained_refused : {Key Id Name A F : Type 0} (c d : Context Key Id Name) (q : Constraint) (r : Result A F) →
-    Constrains c d q r → OnErr r (d.store ≡ c.store)
-constrained_refused c d q (Ok x) h = tt
-constrained_refused c d q (Err f) h = h
 
 module _ {Key Id Name : Type 0} where
   -- Nothing happened.

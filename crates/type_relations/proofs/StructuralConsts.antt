@@ -57,6 +57,7 @@ use Rattle.type_relations.proofs.PartSizes.{weight_const_parts_most}
 use Rattle.relation_semantics.proofs.Answering.{same_items, may_itself, covariantly}
 use Rattle.relation_semantics.proofs.AliasOutcomes.{error_stays}
 use Rattle.relation_semantics.proofs.Erased.{error_not_first}
+use Rattle.type_relations.proofs.Errors.{error_flexible}
 
 -- The error of two parts of two constants as the error of the constants.
 module _ {Key Id Name : Type 0} (p : Meaning Key Id Name) (set : Settings) (js : Items) (at_v : Variance) (c d : ConstKey Key) (i : ℕ)
@@ -322,11 +323,6 @@ error_not_plain (leaf (atom type_error)) e h = h
 error_not_plain (leaf (atom const_error)) e h = h
 error_not_plain (leaf (atom x)) e h = e
 error_not_plain t e h = e
-
--- An error agrees with all of its sort.
-pub error_flexible : (t : Tree) → IsError t → IsFlexible t
-error_flexible (leaf (atom x)) h = inl h
-error_flexible t h = absurd h
 
 module _ {Key Id Name : Type 0} {X : Type 0} (M : Manners) (r : State Key Id Name) (v : Variance) (tree : X → Tree) where
   -- One term is related with itself.

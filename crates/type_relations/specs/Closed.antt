@@ -3,24 +3,16 @@ use Rattle.std.specs.Prelude.{◌≡◌, [], Option, Result, IfOk}
 use Rattle.std.specs.Global.{Vec}
 use Rattle.relation_terms.specs.declared.terms.goal.Goal.{Goal}
 use Rattle.relation_terms.specs.declared.terms.keys.PredicateKey.{PredicateKey}
-use Rattle.relation_terms.specs.Heads.{region_var, Head, variable}
-use Rattle.relation_terms.specs.Trees.{Tree, leaf, node, bind, nil, cons}
+use Rattle.relation_terms.specs.Heads.{Head, variable}
+use Rattle.relation_terms.specs.Trees.{Tree}
 use Rattle.relation_terms.specs.Meaning.{Meaning}
 use Rattle.relation_folds.specs.declared.error.RelateFault.{RelateFault}
 use Rattle.relation_folds.specs.Faults.{IfSpent}
-use Rattle.relation_semantics.specs.Asking.{BindsRegions, HasNoAlias}
+use Rattle.relation_semantics.specs.Asking.{HasNoAlias}
 use Rattle.relation_semantics.specs.Contexts.{Context}
 use Rattle.relation_semantics.specs.Kits.{WritesNothing, NeedsVariable}
 use Rattle.type_relations.specs.Relating.{term_in}
-
--- No variable stands in a term but of regions, and its binders bind regions alone.
-abbrev pub IsClosed : Tree → Type 0
-IsClosed (leaf (variable k n)) = k ≡ region_var
-IsClosed (leaf l) = Unit {0}
-IsClosed (node h ts) = IsClosed ts
-IsClosed (bind ks t) = BindsRegions ks × IsClosed t
-IsClosed nil = Unit {0}
-IsClosed (cons t ts) = IsClosed t × IsClosed ts
+use Rattle.type_relations.specs.ClosedTerms.{IsClosed}
 
 -- Between what a context is before the call and after it, which `state` shows.
 module _ {S Key Id Name A : Type 0} (state : S → Context Key Id Name) (old new : S) (over : Option Head)

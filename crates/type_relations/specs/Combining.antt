@@ -28,6 +28,8 @@ use Rattle.relation_semantics.specs.Parts.{IsFormedConst}
 use Rattle.relation_semantics.specs.Resolving.{IsShallowConst}
 use Rattle.relation_semantics.specs.Steps.{IsNumberKind, Equates, InstantiatesNumber, Taints}
 use Rattle.relation_semantics.specs.Stores.{Store, MayStandFor}
+use Rattle.type_relations.specs.Keyed.{SteppedTys}
+use Rattle.type_relations.specs.Solving.{solver_manner}
 
 -- Two variables of a kind were made one, the smaller number being the root; one with itself changes nothing.
 pub record Joins (before after : Store) (k : VarKind) (a b : ℕ) : Type 0 where
@@ -199,3 +201,9 @@ module _ {Key Id Name : Type 0} (r q : State Key Id Name) where
     resolved_first : (x y : ConstKey Key) → (r.meaning).const_ a ≢ (r.meaning).const_ b →
         ReadsShallow r.meaning r.store a x → ReadsShallow r.meaning r.store b y →
         CombinesShallow x y result → ConstsCombine a b result
+
+-- Of two types that are no type variables a step was taken.
+abbrev pub StepsUnlessVars : {Key Id Name : Type 0} → State Key Id Name → State Key Id Name → TyKey Key → TyKey Key →
+    Result (Step (TyKey Key)) (RelateFault Key Id Name) → Type 0
+StepsUnlessVars r q a b result = IsNoTyVar ((r.meaning).ty a) → IsNoTyVar ((r.meaning).ty b) →
+    SteppedTys solver_manner r q a b result

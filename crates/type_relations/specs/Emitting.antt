@@ -13,11 +13,11 @@ use Rattle.relation_semantics.specs.Constraints.{constraint_at, constraint_of}
 use Rattle.relation_semantics.specs.AliasGoals.{alias_at}
 use Rattle.relation_semantics.specs.AskedAlone.{subtype_at}
 use Rattle.relation_semantics.specs.Kits.{StaysBuilt}
-use Rattle.relation_semantics.specs.Goals.{Goal, goal_of, subtype_predicate, well_formed_predicate}
-use Rattle.relation_semantics.specs.Goals.{alias_relate_predicate, ambiguous_predicate}
+use Rattle.relation_semantics.specs.Goals.{Goal, goal_of, subtype_predicate, well_formed_predicate, alias_relate_predicate, ambiguous_predicate}
 use Rattle.relation_semantics.specs.Lawful.{State}
 use Rattle.relation_semantics.specs.Settings.{in_coherence}
-use Rattle.relation_semantics.specs.Steps.{AddsConstraint}
+use Rattle.relation_semantics.specs.Steps.{AddsConstraint, IsLater}
+use Rattle.relation_semantics.specs.ContextCalls.{Grows}
 
 -- The goals that there are after others were put behind them, or were not, where a growth was refused.
 abbrev pub with_goals : {A F : Type 0} → List Goal → List Goal → Result A F → List Goal
@@ -125,3 +125,11 @@ module _ {Key Id Name : Type 0} (c d : Context Key Id Name) where
   abbrev pub MakesWellFormed : {E : Type 0} → TyKey Key → Result (PredicateKey Key) E → Type 0
   MakesWellFormed t result =
       IfOk result (λ p. (d.meaning).predicate p ≡ well_formed_predicate ((c.meaning).ty t))
+
+-- Whatever later context takes the place of a lawful relation's, nothing else of the relation changes.
+abbrev pub FollowsContext : {Key Id Name S I : Type 0} → (I → Context Key Id Name) → (S → State Key Id Name) →
+    (S → I) → (S → I → S) → S → Type 0
+FollowsContext {I = I} context_state state context with_context r = (c : I) →
+    Grows (context_state (context r)) (context_state c) →
+    IsLater (context_state (context r)).store (context_state c).store → (state r).lawful →
+    WithContext (state r) (context_state c) (state (with_context r c))

@@ -1,4 +1,5 @@
 pub mod Forms
+pub mod ConstantLaws
 pub mod SmallTerms
 pub mod DiagInfo
 pub mod Handing
@@ -28,6 +29,7 @@ pub mod Following
 pub mod Makers
 pub mod RegionTerms
 pub mod Completing
+pub mod ClosedTerms
 pub mod Closed
 pub use Rattle.relation_semantics.specs.Relation
 pub use Rattle.relation_semantics.specs.Stores

@@ -8,12 +8,12 @@ use Rattle.term_enums.specs.declared.PredicatePolarity.{PredicatePolarity}
 use Rattle.term_enums.specs.declared.UintTy.TheVariants.{U8}
 use Rattle.term_enums.specs.declared.Safety.TheVariants.{Safe}
 use Rattle.term_enums.specs.declared.ExternAbi.TheVariants.{Rust}
-use Rattle.relation_terms.specs.Heads.{Sort, region_sort, const_sort, value_sort, value_type_sort, pattern_sort}
+use Rattle.relation_terms.specs.Heads.{Sort, region_sort}
 use Rattle.relation_terms.specs.Heads.{clause_sort, predicate_sort, environment_sort, head_sort, trait_clause}
 use Rattle.relation_terms.specs.Heads.{region_kind, BoundKind, bound_kind, Atom, atom_sort, bool_type, uint_type}
 use Rattle.relation_terms.specs.Heads.{type_param, const_param, static_region, early_region, Head, adt, tuple, ref}
 use Rattle.relation_terms.specs.Heads.{fn_ptr, signature, inputs, value, value_type, bound, placeholder, atom}
-use Rattle.relation_terms.specs.Trees.{Tree, leaf, node, bind, nil, cons, IsTerm, IsList}
+use Rattle.relation_terms.specs.Trees.{Tree, leaf, node, bind, nil, cons, IsList}
 use Rattle.relation_semantics.specs.Relation.{Items, Interpretation, Rel, at, parts, plain, plain_atom, sort_of, IsError}
 use Rattle.relation_semantics.specs.Relation.{IsErrorAtom, IsAliasHead, IsRelatedHead, Outlives}
 
@@ -87,19 +87,6 @@ ParametersByIndex = (c : Items) (w : Interpretation) (e : Tree) (v : Variance) (
 abbrev pub ValuesByTheirTrees : Type 0
 ValuesByTheirTrees = (c : Items) (w : Interpretation) (e : Tree) (v : Variance) (ty ty' t t' : Tree) →
     Rel c w e (at v) (value_of ty t) (value_of ty' t') ↔ Rel c w e (at v) t t'
-
--- The sorts of constants, of what their values are made of, and of patterns.
-abbrev pub IsConstantSort : Sort → Type 0
-IsConstantSort const_sort = Unit {0}
-IsConstantSort value_sort = Unit {0}
-IsConstantSort value_type_sort = Unit {0}
-IsConstantSort pattern_sort = Unit {0}
-IsConstantSort s = ⊥
-
--- Constants, value trees and patterns are related alike at every variance but bivariance.
-abbrev pub ConstantsAtEachVariance : Type 0
-ConstantsAtEachVariance = (c : Items) (w : Interpretation) (e : Tree) (v v' : Variance) (s : Sort) (a b : Tree) →
-    IsConstantSort s → IsTerm s a → v ≢ Bivariant → v' ≢ Bivariant → Rel c w e (at v) a b → Rel c w e (at v') a b
 
 -- Shared references to one type are related just as their regions are: covariantly where the first outlives the
 -- second, contravariantly the other way round, invariantly where both hold.

@@ -15,7 +15,6 @@ use Rattle.relation_semantics.specs.declared.relate.Step.{Step}
 use Rattle.relation_semantics.specs.Contexts.{Context}
 use Rattle.relation_semantics.specs.Lawful.{State, HasRelated, RemembersAtMost}
 use Rattle.type_relations.specs.declared.relate.solver_relating.relation.SolverRelating.{SolverRelating}
-use Rattle.relation_semantics.specs.AskedAlone.{IsNoTyVar}
 use Rattle.type_relations.specs.Combining.{ConstsCombine}
 use Rattle.type_relations.specs.Keyed.{RelatedRegions, SteppedConsts, SteppedTys, TysStepAlone, AreOver, NotedTys}
 use Rattle.type_relations.specs.Bivariance.{AsksOfOver}
@@ -25,12 +24,6 @@ use Rattle.type_relations.specs.Solving.{solving_through, solver_manner}
 use Rattle.type_relations.specs.Stepping.{CombinesShallowTys, CombinesTyVars, IsRemembered, StepsRead, StepsBinders}
 use Rattle.type_relations.specs.Stepping.{StepsRegions, StepsTys, RemembersTys, RemembersRead, KeepsMemory}
 use Rattle.type_relations.specs.Terms.{AskedTerms, RelatedTerms, TermsRegister}
-
--- Of two types that are no type variables a step was taken.
-abbrev pub StepsUnlessVars : {Key Id Name : Type 0} → State Key Id Name → State Key Id Name → TyKey Key → TyKey Key →
-    Result (Step (TyKey Key)) (RelateFault Key Id Name) → Type 0
-StepsUnlessVars r q a b result = IsNoTyVar ((r.meaning).ty a) → IsNoTyVar ((r.meaning).ty b) →
-    SteppedTys solver_manner r q a b result
 
 -- Of a relation over a context, which `state` shows.
 module _ {Infcx Interner Key Id Name Span : Type 0} (state : Infcx → Context Key Id Name) where

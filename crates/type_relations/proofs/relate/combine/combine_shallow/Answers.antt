@@ -15,7 +15,7 @@ use Rattle.type_relations.specs.Solving.{solver_manner}
 use Rattle.type_relations.proofs.Combining.{consts_later, consts_stepped, consts_met}
 use Rattle.type_relations.proofs.Leaving.{const_not_left}
 use Rattle.type_relations.proofs.LeavingSteps.{consts_to_goal, goal_refused}
-use Rattle.type_relations.proofs.Solving.{const_sorted}
+use Rattle.type_relations.proofs.Sorted.{const_sorted}
 use Rattle.type_relations.proofs.relate.combine.combine_shallow.Goals as goal
 
 pub returns-in_err-register_const_alias-clause-stepped :

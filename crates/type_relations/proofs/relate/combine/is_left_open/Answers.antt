@@ -3,7 +3,7 @@ use Rattle.relation_terms.specs.Meaning.{arg_tree}
 use Rattle.relation_terms.specs.Trees.{known}
 use Rattle.type_relations.specs.Bivariance.{is_left_open}
 use Rattle.type_relations.proofs.Bivariance.{region_closed}
-use Rattle.type_relations.proofs.Solving.{region_sorted}
+use Rattle.type_relations.proofs.Sorted.{region_sorted}
 use Rattle.type_relations.proofs.relate.combine.is_left_open.Goals as goal
 
 pub returns-in-Lifetime-clause-tells : goal.returns-in-Lifetime-clause-tells

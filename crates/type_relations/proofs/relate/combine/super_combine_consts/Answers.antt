@@ -8,7 +8,7 @@ use Rattle.relation_semantics.specs.Stores.{IsSound}
 use Rattle.type_relations.specs.Combining.{resolved_first}
 use Rattle.type_relations.proofs.Combining.{read_asked, read_there, one_const_step}
 use Rattle.type_relations.proofs.Shallowly.{read_step}
-use Rattle.type_relations.proofs.Solving.{one_const}
+use Rattle.type_relations.proofs.Sorted.{one_const}
 use Rattle.type_relations.proofs.relate.combine.super_combine_consts.Goals as goal
 
 pub returns-then-eq-clause-stepped : goal.returns-then-eq-clause-stepped

@@ -12,7 +12,7 @@ use Rattle.type_relations.proofs.Combining.{combined_later, types_stepped, types
 use Rattle.type_relations.proofs.CombiningTys.{alias_memory, stands_there, error_left, error_right, to_goal, not_to_goal, to_open, not_to_open}
 use Rattle.type_relations.proofs.Leaving.{clean}
 use Rattle.type_relations.proofs.OverContext.{stands_grows}
-use Rattle.type_relations.proofs.Solving.{ty_sorted}
+use Rattle.type_relations.proofs.Sorted.{ty_sorted}
 use Rattle.type_relations.proofs.relate.combine.super_combine_tys.Goals as goal
 
 pub returns-in-Error-clause-stepped : goal.returns-in-Error-clause-stepped

@@ -1,6 +1,6 @@
 use Rattle.std.proofs.Common.{◌≡◌, ◌<◌, length, arith}
 use Rattle.relation_terms.specs.Parts.{part_of_arg}
-use Rattle.type_relations.proofs.Making.{mapped_more, mapped_end}
+use Rattle.type_relations.proofs.Mapped.{mapped_more, mapped_end}
 use Rattle.type_relations.proofs.relate.making.as_parts.Goals as goal
 
 pub loop-i-preserved : goal.loop-i-preserved

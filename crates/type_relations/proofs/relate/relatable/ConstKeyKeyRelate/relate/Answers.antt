@@ -1,4 +1,4 @@
-use Rattle.type_relations.proofs.Solving.{const_sorted}
+use Rattle.type_relations.proofs.Sorted.{const_sorted}
 use Rattle.type_relations.proofs.Alone.{left_none, const_is_none}
 use Rattle.type_relations.proofs.relate.relatable.ConstKeyKeyRelate.relate.Goals as goal
 

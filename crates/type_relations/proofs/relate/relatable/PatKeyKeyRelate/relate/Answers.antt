@@ -1,4 +1,4 @@
-use Rattle.type_relations.proofs.Solving.{pat_sorted}
+use Rattle.type_relations.proofs.Sorted.{pat_sorted}
 use Rattle.type_relations.proofs.Alone.{left_none, pattern_is_none}
 use Rattle.type_relations.proofs.relate.relatable.PatKeyKeyRelate.relate.Goals as goal
 

@@ -1,4 +1,4 @@
-use Rattle.type_relations.proofs.Solving.{region_sorted}
+use Rattle.type_relations.proofs.Sorted.{region_sorted}
 use Rattle.type_relations.proofs.Alone.{left_none, region_is_none}
 use Rattle.type_relations.proofs.relate.relatable.RegionKeyKeyRelate.relate.Goals as goal
 

@@ -1,5 +1,5 @@
 use Rattle.std.proofs.Common.{◌≡◌, ◌<◌, length, arith, refl}
-use Rattle.type_relations.proofs.Making.{mapped_more, mapped_end}
+use Rattle.type_relations.proofs.Mapped.{mapped_more, mapped_end}
 use Rattle.type_relations.proofs.relate.solver_relating.emitting.goals_of.Goals as goal
 
 pub loop-i-preserved : goal.loop-i-preserved

@@ -1,5 +1,5 @@
 use Rattle.std.proofs.Common.{◌≡◌}
-use Rattle.type_relations.proofs.Making.{first_mapped}
+use Rattle.type_relations.proofs.Mapped.{first_mapped}
 use Rattle.type_relations.proofs.relate.solver_relating.emitting.goals_of.Given as goal
 
 abbrev pub invariant-loop-i : goal.invariant-loop-i

@@ -1,7 +1,7 @@
 use Rattle.std.proofs.Common.{sym, subst}
 use Rattle.relation_semantics.specs.Stores.{IsTermIn}
 use Rattle.relation_semantics.specs.Binders.{binder_tree}
-use Rattle.type_relations.proofs.SolvingBinders.{binder_stays, entered_changes, entered_keeps, refused_first}
+use Rattle.type_relations.proofs.Entering.{binder_stays, entered_changes, entered_keeps, refused_first}
 use Rattle.type_relations.proofs.relate.solver_relating.opening.enter_and_instantiate.Goals as goal
 
 pub returns-in_err-body-clause-opens : goal.returns-in_err-body-clause-opens

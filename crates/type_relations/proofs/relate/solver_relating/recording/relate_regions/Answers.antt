@@ -1,5 +1,5 @@
-use Rattle.type_relations.proofs.Stepping.{constrained_refused}
-use Rattle.type_relations.proofs.Solving.{constrained_goes, constrained_bound, constrained_full, constrained_built}
+use Rattle.type_relations.proofs.Constrained.{constrained_refused}
+use Rattle.type_relations.proofs.Constrained.{constrained_goes, constrained_bound, constrained_full, constrained_built}
 use Rattle.type_relations.proofs.relate.solver_relating.recording.relate_regions.Goals as goal
 
 pub returns-in-Covariant-clause-goes : goal.returns-in-Covariant-clause-goes

@@ -17,7 +17,8 @@ use Rattle.type_relations.specs.Stepping.{left_bound, left_asked, left_unasked, 
 use Rattle.type_relations.proofs.BindingAsked.{came_of_alias, bound_on}
 use Rattle.type_relations.proofs.CombiningTys.{alias_is_asked}
 use Rattle.type_relations.proofs.GeneralisingErrors.{cycle_error}
-use Rattle.type_relations.proofs.Solving.{held_grows, ty_sorted, as_solving, from_solving, solver_with, still_lawful}
+use Rattle.type_relations.proofs.Solving.{held_grows, as_solving, from_solving, solver_with, still_lawful}
+use Rattle.type_relations.proofs.Sorted.{ty_sorted}
 use Rattle.type_relations.proofs.SolvingVariables.{bound_later, refused_later, left_step, left_refused, left_asks, left_unasked as left_unasked_step, type_comes_to_none}
 use Rattle.type_relations.proofs.relate.solver_relating.relation.SolverRelating.bind_left.Goals as goal
 

@@ -17,7 +17,8 @@ use Rattle.type_relations.specs.Stepping.{right_bound, right_asked, right_unaske
 use Rattle.type_relations.proofs.BindingAsked.{came_of_alias, bound_on}
 use Rattle.type_relations.proofs.CombiningTys.{alias_is_asked}
 use Rattle.type_relations.proofs.GeneralisingErrors.{cycle_error}
-use Rattle.type_relations.proofs.Solving.{held_grows, decides_back, ty_sorted, as_solving, from_solving, solver_with, still_lawful}
+use Rattle.type_relations.proofs.Solving.{held_grows, decides_back, as_solving, from_solving, solver_with, still_lawful}
+use Rattle.type_relations.proofs.Sorted.{ty_sorted}
 use Rattle.type_relations.proofs.SolvingVariables.{bound_later, refused_later, right_step, right_refused, right_asks, right_unasked as right_unasked_step, type_comes_to_none}
 use Rattle.type_relations.proofs.relate.solver_relating.relation.SolverRelating.bind_right.Goals as goal
 use Rattle.relation_semantics.proofs.Erased.{xform_invariant}

@@ -1,7 +1,8 @@
 use Rattle.std.proofs.Common.{refl, ap}
 use Rattle.relation_folds.specs.declared.error.RelateFault.TheVariants.{Memory}
 use Rattle.relation_semantics.proofs.Passing.{as_err}
-use Rattle.type_relations.proofs.Solving.{held_stands, regions_recorded, memory_refused, region_sorted}
+use Rattle.type_relations.proofs.Solving.{held_stands, regions_recorded, memory_refused}
+use Rattle.type_relations.proofs.Sorted.{region_sorted}
 use Rattle.relation_semantics.specs.Goals.{goals_of}
 use Rattle.type_relations.specs.Stepping.{constraint_refused}
 use Rattle.type_relations.proofs.Stepping.{regions_step}

@@ -8,9 +8,11 @@ use Rattle.type_relations.proofs.StructuralConsts.{itself_related}
 use Rattle.relation_semantics.proofs.Standing.{term_within}
 use Rattle.type_relations.proofs.Shallowly.{read_step}
 use Rattle.type_relations.proofs.OverContext.{all_taken, read_by_lists}
-use Rattle.type_relations.proofs.Solving.{held_kept, answered_step, one_ty}
+use Rattle.type_relations.proofs.Solving.{held_kept, answered_step}
+use Rattle.type_relations.proofs.Sorted.{one_ty}
 use Rattle.relation_semantics.specs.declared.relate.Step.TheVariants.{Done}
-use Rattle.type_relations.proofs.Alone.{step_of_one, steps_alone}
+use Rattle.type_relations.proofs.Alone.{step_of_one}
+use Rattle.type_relations.proofs.StepsAlone.{steps_alone}
 use Rattle.type_relations.specs.Stepping.{one_type, without_variables, resolved_first}
 use Rattle.type_relations.proofs.Recalling.{read_told, unless_variables}
 use Rattle.type_relations.proofs.Stepping.{leaves_itself}

@@ -1,6 +1,6 @@
 use Rattle.std.proofs.Common.{sym, ◌∙◌}
 use Rattle.type_relations.proofs.Recalling.{found_pair}
-use Rattle.type_relations.proofs.Solving.{one_ty}
+use Rattle.type_relations.proofs.Sorted.{one_ty}
 use Rattle.type_relations.proofs.relate.solver_relating.relation.SolverRelating.was_related.Goals as goal
 
 pub returns : goal.returns

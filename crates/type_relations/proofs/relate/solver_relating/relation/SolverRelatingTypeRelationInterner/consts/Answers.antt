@@ -1,5 +1,5 @@
 use Rattle.type_relations.specs.Solving.{solving_through}
-use Rattle.type_relations.proofs.Solving.{const_sorted}
+use Rattle.type_relations.proofs.Sorted.{const_sorted}
 use Rattle.type_relations.proofs.StepsRecord.{consts_record}
 use Rattle.type_relations.proofs.relate.solver_relating.relation.SolverRelatingTypeRelationInterner.consts.Goals as goal
 

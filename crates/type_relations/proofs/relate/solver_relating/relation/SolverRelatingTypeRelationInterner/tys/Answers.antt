@@ -1,5 +1,5 @@
 use Rattle.type_relations.specs.Solving.{solving_through}
-use Rattle.type_relations.proofs.Solving.{ty_sorted}
+use Rattle.type_relations.proofs.Sorted.{ty_sorted}
 use Rattle.type_relations.proofs.StepsRecord.{tys_record}
 use Rattle.type_relations.proofs.relate.solver_relating.relation.SolverRelatingTypeRelationInterner.tys.Goals as goal
 

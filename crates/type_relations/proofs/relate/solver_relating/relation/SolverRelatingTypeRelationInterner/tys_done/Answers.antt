@@ -5,7 +5,7 @@ use Rattle.relation_semantics.proofs.Passing.{as_err}
 use Rattle.relation_semantics.proofs.Remembering.{noted_remembering}
 use Rattle.type_relations.specs.Solving.{solving_through, solver_manner}
 use Rattle.type_relations.proofs.Recalling.{noted_pair}
-use Rattle.type_relations.proofs.Solving.{ty_sorted}
+use Rattle.type_relations.proofs.Sorted.{ty_sorted}
 use Rattle.type_relations.proofs.relate.solver_relating.relation.SolverRelatingTypeRelationInterner.tys_done.Goals as goal
 
 pub remember-requires : goal.remember-requires
