@@ -2,10 +2,10 @@ use Rattle.std.proofs.Common.{sym, ◌∙◌, subst, subst₂, []}
 use Rattle.std.proofs.lemmas.List.Elements.{All-nil}
 use Rattle.relation_semantics.specs.Goals.{KnowsGoal}
 use Rattle.relation_semantics.specs.Lawful.{Related}
-use Rattle.type_relations.specs.Relating.{term_in}
-use Rattle.type_relations.specs.Solving.{held_by, solving_in, solving_through, solver_manner}
-use Rattle.type_relations.specs.Alone.{RelatesAlone}
-use Rattle.type_relations.proofs.Solving.{forgetting, none_held}
+use Rattle.context_relation.specs.Relating.{term_in}
+use Rattle.relation_combining.specs.Solving.{held_by, solving_in, solving_through, solver_manner}
+use Rattle.relation_steps.specs.Alone.{RelatesAlone}
+use Rattle.context_relation.proofs.Solving.{forgetting, none_held}
 use Rattle.type_relations.proofs.relate.solver_relating.relate_in.Goals as goal
 
 -- No goal is there, and nothing is remembered.
@@ -35,9 +35,9 @@ returns-clause-related g c =
     let new = c.relate-related.new.self in
     let q = g.Infcx.InferCtxtLike.state new.infcx.now in
     let related = subst₂ (λ ps gs. Related solver_manner (solving_through c.args.aliases 0 ps gs s v e)
-    (solving_through c.args.aliases 0 new.cache.kept new.goals.items q v e) v a b (term_in q over tree) c.relate-related.result)
+    (solving_through c.args.aliases 0 new.cache.pairs.kept new.goals.items q v e) v a b (term_in q over tree) c.relate-related.result)
     c.new-cache.ensures.kept c.new-goals.ensures.items c.relate-related.ensures.related in
-    let forgot = forgetting (held_by c.args.aliases 0 [] s) (held_by c.args.aliases 0 new.cache.kept q) [] new.goals.items
+    let forgot = forgetting (held_by c.args.aliases 0 [] s) (held_by c.args.aliases 0 new.cache.pairs.kept q) [] new.goals.items
     s.meaning q.meaning s.store q.store s.lawful q.lawful v e a b (term_in q over tree) c.relate-related.result related in
     subst₂ (λ z gs. Related solver_manner (solving_in c.args.aliases [] s v e) (solving_in c.args.aliases gs (g.Infcx.InferCtxtLike.state z) v e) v a b
     (term_in (g.Infcx.InferCtxtLike.state z) over tree) c.relate-related.result) (sym back)
