@@ -6,6 +6,7 @@ pub mod Completing
 pub mod Constraints
 pub mod Disagreeing
 pub mod EmittedGoals
+pub mod NewRelation
 pub mod PlainForms
 pub mod PlainTerms
 pub mod Recalling

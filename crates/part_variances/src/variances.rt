@@ -1,5 +1,5 @@
 //! At which variance each part of a term is related, seen from the term's own, and whether it is skipped.
-ghost use Rattle.std.specs.Prelude.{◌≡◌, ◌↔◌, ◌<◌, IsTrue};
+ghost use Rattle.std.specs.Prelude.{◌≡◌, ◌≢◌, ◌<◌, IsTrue, IsFalse};
 ghost use Rattle.relation_terms.specs.Trees.{known, count};
 ghost use Rattle.term_enums.specs.declared.Variance.TheVariants.{Bivariant};
 ghost use Rattle.term_enums.specs.Variances.{xform};
@@ -20,7 +20,8 @@ use relation_terms::terms::{
 /// it.
 #[inline(always)]
 pub fn is_skipped(ambient: Variance, variance: Variance) -> bool
-    ensures { IsTrue result ↔ (xform ambient variance ≡ Bivariant) }
+    ensures yes { IsTrue result → xform ambient variance ≡ Bivariant }
+    ensures no { IsFalse result → xform ambient variance ≢ Bivariant }
 {
     match ambient.xform(variance) {
         Variance::Bivariant => true,

@@ -801,13 +801,13 @@ relate-returns-in_err-consts-in-Const-clause-registers g t c =
     c.from_residual-in_err-consts-in-Const.result
     (const_none sorted c.args.a.now (c.requires.asked).left_known c.in-Const.a c.in-Const.is)
 
-pub relate_with_variance-returns-in-Bivariant : goal.relate_with_variance-returns-in-Bivariant
-relate_with_variance-returns-in-Bivariant g t c =
+pub relate_with_variance-returns-then-is_skipped : goal.relate_with_variance-returns-then-is_skipped
+relate_with_variance-returns-then-is_skipped g t c =
     let r = g.R.HasState.state c.args.r.now in
     let M = g.R.TypeRelation.manner in
     let v = xform r.ambient c.args.variance in
     let e : v ≡ Bivariant =
-    sym (c.xform-new.ensures ∙ ap (λ z. xform z c.args.variance) c.ambient-old.ensures) ∙ c.in-Bivariant.is in
+    sym (ap (λ z. xform z c.args.variance) c.ambient-old.ensures) ∙ c.is_skipped.ensures.yes c.if-is_skipped.true in
     record {
       related = unlooked M r v (arg_tree r.meaning c.args.a.now) (arg_tree r.meaning c.args.b.now) (arg_tree r.meaning) c.args.a.now e
           (c.requires.asked).left_known refl;
@@ -838,7 +838,8 @@ relate_with_variance-returns g t c =
     record {
       related = subst (λ z. Related M r u z a b (arg_tree u.meaning) res) e
           (turned M c.xform-new.result a b (arg_tree u.meaning) there back seen res k);
-      skipped = λ z. absurd (c.in_default.not-Bivariant (e ∙ z));
+      skipped = λ z. absurd (c.is_skipped.ensures.no c.if-is_skipped.false
+          (ap (λ w. xform w c.args.variance) c.ambient-old.ensures ∙ z));
       kind = (c.relate-answer.ensures).kind;
     }
 

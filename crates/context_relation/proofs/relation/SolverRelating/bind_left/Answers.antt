@@ -1,4 +1,4 @@
-use Rattle.std.proofs.Common.{◌≡◌, refl, sym, ◌∙◌, inl, subst, subst₂, Some, IfSome, IsTrue, Ok, Err}
+use Rattle.std.proofs.Common.{◌≡◌, refl, sym, ap, ◌∙◌, inl, subst, subst₂, Some, IfSome, IsTrue, Ok, Err}
 use Rattle.term_enums.specs.declared.Variance.TheVariants.{Covariant}
 use Rattle.term_enums.specs.declared.memory.OutOfMemory.{OutOfMemory}
 use Rattle.relation_terms.specs.Heads.{type_var, variable}
@@ -264,7 +264,9 @@ returns-clause-stepped g c =
     (g.met.Infcx.InferCtxtLike.numbers r.infcx.now c.requires.lawful.0.0) ((d.meaning).ty z) k.right_in sorted h.instantiates.1 in
     let still = still_lawful (held_grows r.structurally_relate_aliases r.infcx.ghost_name r.cache.pairs.kept s d h.grows) r.goals.items s.store d.store
     r.ambient_variance r.param_env grown c.requires.lawful.1 h.grows.lawful later in
-    subst (λ l. Stepped solver_manner IsFormed (solving_through r.structurally_relate_aliases r.infcx.ghost_name r.cache.pairs.kept r.goals.items s r.ambient_variance r.param_env)
+    subst (λ x. Stepped solver_manner IsFormed was (solving_through r.structurally_relate_aliases r.infcx.ghost_name r.cache.pairs.kept r.goals.items d r.ambient_variance r.param_env)
+    ((s.meaning).ty c.args.a.now) t (d.meaning).ty (Ok x)) (sym c.behind_left_binding.ensures)
+    (subst (λ l. Stepped solver_manner IsFormed (solving_through r.structurally_relate_aliases r.infcx.ghost_name r.cache.pairs.kept r.goals.items s r.ambient_variance r.param_env)
     (solving_through r.structurally_relate_aliases r.infcx.ghost_name r.cache.pairs.kept r.goals.items d r.ambient_variance r.param_env) l t
     (d.meaning).ty (Ok (Again c.args.a.now c.args.b.now z c.args.b.now Covariant c.args.a.now))) (sym is)
     (as_solving (held_grows r.structurally_relate_aliases r.infcx.ghost_name r.cache.pairs.kept s d h.grows) r.goals.items s.store d.store s.lawful d.lawful r.ambient_variance r.param_env grown
@@ -277,7 +279,7 @@ returns-clause-stepped g c =
     (g.met.Infcx.InferCtxtLike.bound_by_lists q h.grows.lawful) n t ((d.meaning).ty z) k.right_taken.1 k.right_in
     k.right_known (ty_sorted of c.args.b.now ((g.met.Infcx.Interner.Interner.sorted cx).ty c.args.b.now) k.right_known)
     r.ambient_variance (λ e. e) h.instantiates.0 h.instantiates.1 IsFormed c.args.a.now c.args.b.now z
-    c.args.b.now c.args.a.now (d.meaning).ty (λ e. c.requires.b_is) root_stays t_stays refl t_stays (inl root_stays)))
+    c.args.b.now c.args.a.now (d.meaning).ty (λ e. c.requires.b_is) root_stays t_stays refl t_stays (inl root_stays))))
 
 pub returns-clause-combines : goal.returns-clause-combines
 returns-clause-combines g c =
@@ -292,7 +294,7 @@ returns-clause-combines g c =
       instantiated = h.instantiates;
       goals = goals_stay h.grows.extends r.goals.items c.requires.lawful.1.1;
     })
-    c.in_default.ensures.is_none refl
+    c.in_default.ensures.is_none (ap Ok c.behind_left_binding.ensures)
 
 pub register_alias_relate_predicate-requires-clause-lawful : goal.register_alias_relate_predicate-requires-clause-lawful
 register_alias_relate_predicate-requires-clause-lawful g c =

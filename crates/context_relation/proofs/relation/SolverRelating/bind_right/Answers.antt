@@ -1,4 +1,4 @@
-use Rattle.std.proofs.Common.{◌≡◌, refl, sym, ◌∙◌, inr, subst, subst₂, Some, IfSome, IsTrue, Ok, Err}
+use Rattle.std.proofs.Common.{◌≡◌, refl, sym, ap, ◌∙◌, inr, subst, subst₂, Some, IfSome, IsTrue, Ok, Err}
 use Rattle.term_enums.specs.declared.Variance.TheVariants.{Covariant, Contravariant}
 use Rattle.term_enums.specs.declared.memory.OutOfMemory.{OutOfMemory}
 use Rattle.relation_terms.specs.Heads.{type_var, variable}
@@ -269,7 +269,9 @@ returns-clause-stepped g c =
     (g.met.Infcx.InferCtxtLike.numbers r.infcx.now c.requires.lawful.0.0) ((d.meaning).ty z) k.left_in sorted h.instantiates.1 in
     let still = still_lawful (held_grows r.structurally_relate_aliases r.infcx.ghost_name r.cache.pairs.kept s d h.grows) r.goals.items s.store d.store
     r.ambient_variance r.param_env grown c.requires.lawful.1 h.grows.lawful later in
-    subst (λ l. Stepped solver_manner IsFormed (solving_through r.structurally_relate_aliases r.infcx.ghost_name r.cache.pairs.kept r.goals.items s r.ambient_variance r.param_env)
+    subst (λ x. Stepped solver_manner IsFormed was (solving_through r.structurally_relate_aliases r.infcx.ghost_name r.cache.pairs.kept r.goals.items d r.ambient_variance r.param_env)
+    t ((s.meaning).ty c.args.b.now) (d.meaning).ty (Ok x)) (sym c.behind_right_binding.ensures)
+    (subst (λ l. Stepped solver_manner IsFormed (solving_through r.structurally_relate_aliases r.infcx.ghost_name r.cache.pairs.kept r.goals.items s r.ambient_variance r.param_env)
     (solving_through r.structurally_relate_aliases r.infcx.ghost_name r.cache.pairs.kept r.goals.items d r.ambient_variance r.param_env) t l
     (d.meaning).ty (Ok (Again c.args.a.now c.args.b.now c.args.a.now z Covariant c.args.a.now))) (sym is)
     (as_solving (held_grows r.structurally_relate_aliases r.infcx.ghost_name r.cache.pairs.kept s d h.grows) r.goals.items s.store d.store s.lawful d.lawful r.ambient_variance r.param_env grown
@@ -282,7 +284,7 @@ returns-clause-stepped g c =
     (g.met.Infcx.InferCtxtLike.bound_by_lists q h.grows.lawful) n t ((d.meaning).ty z) k.left_taken.1 k.left_in
     k.left_known (ty_sorted of c.args.a.now ((g.met.Infcx.Interner.Interner.sorted cx).ty c.args.a.now) k.left_known)
     c.xform-variance.result (λ e. c.xform-variance.ensures ∙ xform_invariant _ Contravariant e) h.instantiates.0 h.instantiates.1 IsFormed c.args.a.now c.args.b.now
-    c.args.a.now z c.args.a.now (d.meaning).ty (λ e. c.requires.a_is) t_stays root_stays t_stays refl (inr t_stays)))
+    c.args.a.now z c.args.a.now (d.meaning).ty (λ e. c.requires.a_is) t_stays root_stays t_stays refl (inr t_stays))))
 
 pub returns-clause-combines : goal.returns-clause-combines
 returns-clause-combines g c =
@@ -299,7 +301,7 @@ returns-clause-combines g c =
       instantiated = h.instantiates;
       goals = goals_stay h.grows.extends r.goals.items c.requires.lawful.1.1;
     }))
-    c.in_default.ensures.is_none refl
+    c.in_default.ensures.is_none (ap Ok c.behind_right_binding.ensures)
 
 pub instantiate_ty_var_raw-requires-clause-source_by_lists : goal.instantiate_ty_var_raw-requires-clause-source_by_lists
 instantiate_ty_var_raw-requires-clause-source_by_lists g c = c.requires.asked.left_taken.1
