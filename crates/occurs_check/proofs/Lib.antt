@@ -1,2 +1,2 @@
-mod TermVids
+pub mod TermVids
 mod Leaves
