@@ -10,6 +10,7 @@ mod inner;
 mod instantiating;
 mod memory;
 mod numbers;
+mod own_variables;
 mod reading;
 mod recording;
 mod resolving;
