@@ -17,6 +17,6 @@ mod walk;
 pub use around::{Around, AroundOf};
 pub use named::{Named, named_in};
 pub use relatable::{Relatable, may_relate};
-pub use seen::Seen;
+pub use seen::{Seen, SeenOf};
 pub use unfit::Unfit;
 pub use variables::HasVariables;

@@ -10,10 +10,9 @@ mod forms;
 mod predicates;
 
 use crate::around::{Around, AroundOf};
-use crate::seen::Seen;
+use crate::seen::{SeenOf, none_seen};
 use crate::walk::{list_fits, part_fits};
 use crate::{HasVariables, Unfit};
-use delayed_map::DelayedSet;
 use relation_folds::tree::HasTree;
 use relation_terms::terms::parts::of_arg;
 use relation_terms::terms::{
@@ -29,15 +28,15 @@ pub trait Relatable<C: HasVariables>: HasTree<C::Interner> {
         ctx: &C,
         cx: &C::Interner,
         around: &AroundOf<C::Interner>,
-        seen: &mut Seen<C::Interner>,
+        seen: &mut SeenOf<C::Interner>,
     ) -> Result<(), Unfit>
         requires known { IsTrue (known (Self.tree (C.Interner.meaning cx.now) self.now)) }
-        requires seen { AllSeen (C.state ctx.now).store (C.Interner.meaning cx.now) seen.old.kept }
+        requires seen { AllSeen (C.state ctx.now).store (sorts_around around.now) (C.Interner.meaning cx.now) seen.old }
         ensures fits { OnOk result (FitsAll (C.state ctx.now).store (sorts_around around.now)
             (Self.tree (C.Interner.meaning cx.now) self.now)) }
         ensures why { IfErr result (SomeUnfit (C.state ctx.now).store (sorts_around around.now)
             (Self.tree (C.Interner.meaning cx.now) self.now)) }
-        ensures seen { AllSeen (C.state ctx.now).store (C.Interner.meaning cx.now) seen.new.kept };
+        ensures seen { AllSeen (C.state ctx.now).store (sorts_around around.now) (C.Interner.meaning cx.now) seen.new };
 }
 
 /// Nothing, where a known term may be related in a context as it stands: its variables are the context's, its placeholders
@@ -52,7 +51,7 @@ pub fn may_relate<C: HasVariables, T: Relatable<C>>(ctx: &C, term: &T) -> Result
         (SomeUnfit (C.state ctx.now).store [] (T.tree (C.state ctx.now).meaning term.now)) }
 {
     let cx = ctx.cx();
-    let mut seen = DelayedSet::new(cx.alloc());
+    let mut seen = none_seen(cx);
     term.fits(ctx, cx, &Around::Nothing, &mut seen)
 }
 
@@ -62,7 +61,7 @@ impl<C: HasVariables> Relatable<C> for Ty<C::Interner> {
         ctx: &C,
         cx: &C::Interner,
         around: &AroundOf<C::Interner>,
-        seen: &mut Seen<C::Interner>,
+        seen: &mut SeenOf<C::Interner>,
     ) -> Result<(), Unfit> {
         part_fits(ctx, cx, &Part::Ty(*self), around, seen)
     }
@@ -74,7 +73,7 @@ impl<C: HasVariables> Relatable<C> for Region<C::Interner> {
         ctx: &C,
         cx: &C::Interner,
         around: &AroundOf<C::Interner>,
-        seen: &mut Seen<C::Interner>,
+        seen: &mut SeenOf<C::Interner>,
     ) -> Result<(), Unfit> {
         part_fits(ctx, cx, &Part::Region(*self), around, seen)
     }
@@ -86,7 +85,7 @@ impl<C: HasVariables> Relatable<C> for Const<C::Interner> {
         ctx: &C,
         cx: &C::Interner,
         around: &AroundOf<C::Interner>,
-        seen: &mut Seen<C::Interner>,
+        seen: &mut SeenOf<C::Interner>,
     ) -> Result<(), Unfit> {
         part_fits(ctx, cx, &Part::Const(*self), around, seen)
     }
@@ -98,7 +97,7 @@ impl<C: HasVariables> Relatable<C> for Pat<C::Interner> {
         ctx: &C,
         cx: &C::Interner,
         around: &AroundOf<C::Interner>,
-        seen: &mut Seen<C::Interner>,
+        seen: &mut SeenOf<C::Interner>,
     ) -> Result<(), Unfit> {
         part_fits(ctx, cx, &Part::Pat(*self), around, seen)
     }
@@ -110,7 +109,7 @@ impl<C: HasVariables> Relatable<C> for GenericArg<C::Interner> {
         ctx: &C,
         cx: &C::Interner,
         around: &AroundOf<C::Interner>,
-        seen: &mut Seen<C::Interner>,
+        seen: &mut SeenOf<C::Interner>,
     ) -> Result<(), Unfit> {
         part_fits(ctx, cx, &of_arg(self), around, seen)
     }
@@ -122,7 +121,7 @@ impl<C: HasVariables> Relatable<C> for TermKind<<C::Interner as Keys>::Key> {
         ctx: &C,
         cx: &C::Interner,
         around: &AroundOf<C::Interner>,
-        seen: &mut Seen<C::Interner>,
+        seen: &mut SeenOf<C::Interner>,
     ) -> Result<(), Unfit> {
         match self {
             TermKind::Ty(ty) => part_fits(ctx, cx, &Part::Ty(*ty), around, seen),
@@ -137,7 +136,7 @@ impl<C: HasVariables> Relatable<C> for GenericArgs<C::Interner> {
         ctx: &C,
         cx: &C::Interner,
         around: &AroundOf<C::Interner>,
-        seen: &mut Seen<C::Interner>,
+        seen: &mut SeenOf<C::Interner>,
     ) -> Result<(), Unfit> {
         list_fits(ctx, cx, &Parts::Args(*self), around, seen)
     }

@@ -8,7 +8,7 @@ ghost use Rattle.may_relate.specs.Seen.{AllSeen};
 
 use crate::around::{Around, AroundOf};
 use crate::leaves::own;
-use crate::seen::{Seen, recalls, remember};
+use crate::seen::{SeenOf, enter, leave, recalls, remember};
 use crate::{HasVariables, Unfit};
 use relation_terms::terms::parts::{member, member_count, parts_of};
 use relation_terms::terms::{Interner, Part, PartOf, PartsOf};
@@ -38,27 +38,25 @@ pub fn part_fits<C: HasVariables>(
     cx: &C::Interner,
     part: &PartOf<C::Interner>,
     around: &AroundOf<C::Interner>,
-    seen: &mut Seen<C::Interner>,
+    seen: &mut SeenOf<C::Interner>,
 ) -> Result<(), Unfit>
     requires known { IsTrue (known (part_tree (C.Interner.meaning cx.now) part.now)) }
-    requires seen { AllSeen (C.state ctx.now).store (C.Interner.meaning cx.now) seen.old.kept }
+    requires seen { AllSeen (C.state ctx.now).store (sorts_around around.now) (C.Interner.meaning cx.now) seen.old }
     ensures fits { OnOk result (FitsAll (C.state ctx.now).store (sorts_around around.now)
         (part_tree (C.Interner.meaning cx.now) part.now)) }
     ensures why { IfErr result (SomeUnfit (C.state ctx.now).store (sorts_around around.now)
         (part_tree (C.Interner.meaning cx.now) part.now)) }
-    ensures seen { AllSeen (C.state ctx.now).store (C.Interner.meaning cx.now) seen.new.kept }
+    ensures seen { AllSeen (C.state ctx.now).store (sorts_around around.now) (C.Interner.meaning cx.now) seen.new }
 {
     if recalls(cx, seen, part) {
         return Ok(());
     }
     own(ctx, cx, part, around)?;
-    list_fits(
-        ctx,
-        cx,
-        &parts_of(cx, part),
-        &inside(&*cx, part, &*around),
-        seen,
-    )?;
+    let parts = parts_of(cx, part);
+    let outside = enter(cx, seen, part);
+    let fit = list_fits(ctx, cx, &parts, &inside(&*cx, part, &*around), seen);
+    leave(cx, seen, outside);
+    fit?;
     remember(cx, seen, part);
     Ok(())
 }
@@ -70,15 +68,15 @@ pub fn list_fits<C: HasVariables>(
     cx: &C::Interner,
     parts: &PartsOf<C::Interner>,
     around: &AroundOf<C::Interner>,
-    seen: &mut Seen<C::Interner>,
+    seen: &mut SeenOf<C::Interner>,
 ) -> Result<(), Unfit>
     requires known { IsTrue (known (parts_tree (C.Interner.meaning cx.now) parts.now)) }
-    requires seen { AllSeen (C.state ctx.now).store (C.Interner.meaning cx.now) seen.old.kept }
+    requires seen { AllSeen (C.state ctx.now).store (sorts_around around.now) (C.Interner.meaning cx.now) seen.old }
     ensures fits { OnOk result (FitsAll (C.state ctx.now).store (sorts_around around.now)
         (parts_tree (C.Interner.meaning cx.now) parts.now)) }
     ensures why { IfErr result (SomeUnfit (C.state ctx.now).store (sorts_around around.now)
         (parts_tree (C.Interner.meaning cx.now) parts.now)) }
-    ensures seen { AllSeen (C.state ctx.now).store (C.Interner.meaning cx.now) seen.new.kept }
+    ensures seen { AllSeen (C.state ctx.now).store (sorts_around around.now) (C.Interner.meaning cx.now) seen.new }
 {
     for i in 0..member_count(cx, parts) {
         let part = member(cx, parts, i);
