@@ -44,15 +44,15 @@ part_fits-returns-in_err-own-clause-why g t' c =
     handed_on c.from_residual.result (SomeUnfit st ls t) c.in_err-own.field-0 c.from_residual.ensures.1
     (unfit_own st ls t c.in_err-own.field-0 c.in_err-own.ensures.why)
 
-pub part_fits-returns-in_err-list_fits-clause-why : goal.part_fits-returns-in_err-list_fits-clause-why
-part_fits-returns-in_err-list_fits-clause-why g t' c =
+pub part_fits-returns-in_err-fit-clause-why : goal.part_fits-returns-in_err-fit-clause-why
+part_fits-returns-in_err-fit-clause-why g t' c =
     let m = g.C.Interner.Interner.meaning c.args.cx.now in
     let st = (g.C.InferCtxtLike.state c.args.ctx.now).store in
     let ls = sorts_around c.args.around.now in
-    handed_on c.from_residual.result (SomeUnfit st ls (part_tree m c.args.part.now)) c.in_err-list_fits.field-0
+    handed_on c.from_residual.result (SomeUnfit st ls (part_tree m c.args.part.now)) c.in_err-fit.field-0
     c.from_residual.ensures.1
-    (unfit_part m st ls c.args.part.now (sorts_around c.inside.result) (parts_tree m c.parts_of.result)
-    c.in_err-list_fits.field-0 c.inside.ensures c.parts_of.ensures.means c.in_err-list_fits.ensures.why)
+    (unfit_part m st ls c.args.part.now (sorts_around c.inside.result) (parts_tree m c.parts_of-parts.result)
+    c.in_err-fit.field-0 c.inside.ensures c.parts_of-parts.ensures.means c.in_err-fit.ensures.why)
 
 pub list_fits-returns-clause-fits : goal.list_fits-returns-clause-fits
 list_fits-returns-clause-fits g t' c =
@@ -71,15 +71,15 @@ part_fits-returns-clause-fits g t' c =
     let m = g.C.Interner.Interner.meaning c.args.cx.now in
     part_whole m (g.C.InferCtxtLike.state c.args.ctx.now).store (sorts_around c.args.around.now)
     (g.met.C.Interner.Interner.sorted c.args.cx.now) c.args.part.now c.requires.known c.in_ok-own.ensures.fits
-    (sorts_around c.inside.result) (parts_tree m c.parts_of.result) c.inside.ensures c.parts_of.ensures.means
-    c.in_ok-list_fits.ensures.fits
+    (sorts_around c.inside.result) (parts_tree m c.parts_of-parts.result) c.inside.ensures
+    c.parts_of-parts.ensures.means c.in_ok-fit.ensures.fits
 
 pub part_fits-returns-clause-seen : goal.part_fits-returns-clause-seen
 part_fits-returns-clause-seen g t' c =
     let m = g.C.Interner.Interner.meaning c.args.cx.now in
     let st = (g.C.InferCtxtLike.state c.args.ctx.now).store in
     let ls = sorts_around c.args.around.now in
-    c.remember.ensures st ls c.list_fits.ensures.seen
+    c.remember.ensures st ls ?
     (part_whole m st ls (g.met.C.Interner.Interner.sorted c.args.cx.now) c.args.part.now c.requires.known
-    c.in_ok-own.ensures.fits (sorts_around c.inside.result) (parts_tree m c.parts_of.result) c.inside.ensures
-    c.parts_of.ensures.means c.in_ok-list_fits.ensures.fits)
+    c.in_ok-own.ensures.fits (sorts_around c.inside.result) (parts_tree m c.parts_of-parts.result) c.inside.ensures
+    c.parts_of-parts.ensures.means c.in_ok-fit.ensures.fits)
