@@ -19,13 +19,13 @@ use Rattle.relation_semantics.proofs.Resolved.{resolved_free}
 use Rattle.relation_semantics.proofs.Parts.{nth_size}
 use Rattle.relation_semantics.proofs.Values.{nth_in}
 use Rattle.relation_semantics.proofs.Lists.{firsts, firsts_all, snoc, list_push, firsts_more, apply_snoc}
-use Rattle.relation_reference.specs.declared.context.inner.InferCtxtInner.{InferCtxtInner}
-use Rattle.relation_reference.specs.Tables.{store_of, IsLawful}
-use Rattle.relation_reference.specs.declared.context.memory.TermVid.{TermVid}
-use Rattle.relation_reference.specs.declared.context.memory.TermVid.TheVariants.{Ty as TyTerm, Const as ConstTerm}
-use Rattle.relation_reference.specs.Remembering.{vid_kind, vid_number}
+use Rattle.variable_tables.specs.declared.inner.InferCtxtInner.{InferCtxtInner}
+use Rattle.variable_tables.specs.Tables.{store_of, IsLawful}
+use Rattle.occurs_check.specs.declared.term_vid.TermVid.{TermVid}
+use Rattle.occurs_check.specs.declared.term_vid.TermVid.TheVariants.{Ty as TyTerm, Const as ConstTerm}
+use Rattle.occurs_check.specs.TermVids.{vid_kind, vid_number}
 use Rattle.relation_semantics.specs.Resolving.{IsShallow, root, stays_bound, formed, IsShallowConst, const_root, no_variable}
-use Rattle.relation_reference.proofs.Grows.{store_grows, lawful_grows}
+use Rattle.variable_tables.proofs.Grows.{store_grows, lawful_grows}
 use Rattle.relation_folds.proofs.Members.{fit_next}
 use Rattle.relation_terms.proofs.Members.{known_with_last}
 use Rattle.relation_folds.proofs.Visiting.{has_sort}

@@ -1,0 +1,2 @@
+mod TermVids
+mod Fates
