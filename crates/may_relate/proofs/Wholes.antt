@@ -2,7 +2,7 @@
 use Rattle.std.proofs.Common.{◌≡◌, ℕ, zero, suc, ◌<◌, refl, sym, ap, ◌∙◌, subst, subst₂, arith, List, [], ◌∷◌, map}
 use Rattle.std.proofs.Common.{Bool, true, false, Option, Some, IsTrue, Result, Ok, Err, IfErr, ⊎_elim, inl, inr}
 use Rattle.std.specs.Prelude.{OnOk, IsErrAnd}
-use Rattle.relation_terms.specs.Heads.{Sort, no_sort, binder_sort, region_sort, type_sort, const_sort}
+use Rattle.relation_terms.specs.Heads.{Sort, no_sort, region_sort, type_sort, const_sort}
 use Rattle.relation_terms.specs.Heads.{BoundKind, bound_kind, region_kind, type_kind, const_kind, bound_sort}
 use Rattle.relation_terms.specs.Heads.{type_var, int_var, float_var, const_var, region_var}
 use Rattle.relation_terms.specs.Heads.{fresh_type, fresh_int, fresh_float, fresh_const}
@@ -20,7 +20,7 @@ use Rattle.relation_folds.proofs.Visiting.{has_sort}
 use Rattle.relation_semantics.specs.Stores.{Store}
 use Rattle.may_relate.specs.Around.{variable_sort}
 use Rattle.may_relate.specs.declared.unfit.Unfit.{Unfit}
-use Rattle.may_relate.specs.Fitting.{FitsAll, FitsOwn, SomeUnfit, OwnUnfit, sorts_inside}
+use Rattle.may_relate.specs.Fitting.{FitsAll, FitsOwn, SomeUnfit, OwnUnfit, is_binder, sorts_inside}
 
 -- What is so of an error is so of a result that hands it on.
 pub handed_on : {X : Type 0} (r : Result X Unfit) (P : Unfit → Type 0) (e : Unfit) → IsErrAnd r (λ f. f ≡ e) → P e →
@@ -97,10 +97,6 @@ module _ (st : Store) (ls : List (List Sort)) where
   unasked (cons t ts) e k = tt
 
 -- Around the parts of what is no binder stand the binders around itself.
-abbrev pub is_binder : Sort → Bool
-is_binder (binder_sort s) = true
-is_binder s = false
-
 inside_same : (ls : List (List Sort)) (t : Tree) → is_binder (tree_sort t) ≡ false → ls ≡ sorts_inside t ls
 inside_same ls (leaf l) e = refl
 inside_same ls (node h ts) e = refl

@@ -30,26 +30,27 @@ fn relate_tested<C: HasVariables>(
     Ok(ctx.relate(param_env, lhs, Variance::Invariant, rhs, span))
 }
 
-// Whether the first type variable is related with `u8`, in a new context that has so many.
-fn relates_first_variable<I: Interner + Drop>(
+// Whether a type variable is related with `u8` in a new context that has one type variable; or why not.
+#[tactic(auto, using(relation_terms::proofs::Stays::extends_on, relation_terms::proofs::Stays::knows_ty, relation_terms::proofs::Stays::knows_param_env))]
+fn relates_variable<I: Interner + Drop>(
     mut cx: I,
-    has_variable: bool,
+    vid: TyVid,
 ) -> Result<Result<bool, Unfit>, OutOfMemory> {
+    let variable = cx.mk_ty(TyKind::Infer(InferTy::TyVar(vid)))?;
     let byte = cx.mk_ty(TyKind::Uint(UintTy::U8))?;
-    let variable = cx.mk_ty(TyKind::Infer(InferTy::TyVar(TyVid(0))))?;
     let param_env = cx.empty_param_env()?;
     let mut ctx = RefCtxt::new(cx, TypingMode::PostAnalysis, true, 10)?;
-    if has_variable {
-        let _ = ctx.next_ty_infer()?;
+    let _first = ctx.next_ty_infer()?;
+    match relate_tested(&mut ctx, param_env, variable, byte) {
+        Ok(goals) => Ok(Ok(goals.is_ok())),
+        Err(unfit) => Ok(Err(unfit)),
     }
-    Ok(relate_tested(&mut ctx, param_env, variable, byte).map(|goals| goals.is_ok()))
 }
 
 #[test]
 fn what_may_be_related_is(rt: HostRuntime) -> Result<(), Fail> {
-    let related = relates_first_variable(RefInterner::new(rt.alloc()), true)?;
-    assert!(rt; related == Ok(true));
-    let unfit = relates_first_variable(RefInterner::new(rt.alloc()), false)?;
-    assert!(rt; unfit == Err(Unfit::TyVariable(TyVid(0))));
+    assert!(rt; relates_variable(RefInterner::new(rt.alloc()), TyVid(0))? == Ok(true));
+    let unfit = Err(Unfit::TyVariable(TyVid(1)));
+    assert!(rt; relates_variable(RefInterner::new(rt.alloc()), TyVid(1))? == unfit);
     Ok(())
 }

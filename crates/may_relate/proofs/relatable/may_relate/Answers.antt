@@ -16,3 +16,6 @@ pub returns-clause-why : goal.returns-clause-why
 returns-clause-why g c =
     err_unfit (g.C.InferCtxtLike.state c.args.ctx.now).store _ _ c.fits.result
     (ap (λ m. g.T.HasTree.tree m c.args.term.now) c.cx-cx.ensures) c.fits.ensures.why
+
+pub fits-requires-clause-seen : goal.fits-requires-clause-seen
+fits-requires-clause-seen g c = c.none_seen-seen.ensures _ _

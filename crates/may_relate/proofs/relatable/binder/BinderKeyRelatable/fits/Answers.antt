@@ -15,3 +15,6 @@ returns-clause-why g c =
     err_binder m (g.C.InferCtxtLike.state c.args.ctx.now).store (sorts_around c.args.around.now)
     (m.bound_vars c.args.self.now.bound_vars) (g.T.HasTree.tree m c.args.self.now.value) c.bound_vars.result.now
     c.fits.result c.bound_vars.ensures c.fits.ensures.why
+
+pub fits-requires-clause-seen : goal.fits-requires-clause-seen
+fits-requires-clause-seen g c = c.none_seen.ensures _ _
