@@ -128,8 +128,10 @@ module _ (st : Store) where
   leaves_fit all (node g ts) i w n' b f = leaves_fit all ts i w n' b f
   leaves_fit all (bind ks t) i w n' b f = leaves_fit (ks ∷ all) t i w n' b.1 (one_more all ks t b.0 f)
   leaves_fit all nil i w n' b f = tt
-  leaves_fit all (cons t ts) i w n' b f =
-      (leaves_fit all t i.0 w.0 n'.0 b.0 (λ d ks e. (f d ks e).0), leaves_fit all ts i.1 w.1 n'.1 b.1 (λ d ks e. (f d ks e).1))
+  leaves_fit all (cons t ts) i w n' b f = (
+    leaves_fit all t i.0 w.0 n'.0 b.0 (λ d ks e. (f d ks e).0),
+    leaves_fit all ts i.1 w.1 n'.1 b.1 (λ d ks e. (f d ks e).1),
+  )
 
   -- A term by itself, each leaf of which may stand where it does, may be related; and no other.
   pub related_of : (t : Tree) → FitsAll st [] t → MayBeRelated st t

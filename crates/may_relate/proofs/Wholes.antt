@@ -113,8 +113,9 @@ module _ {Key Id Name : Type 0} (m : Meaning Key Id Name) where
   same_sorts (variable_of.Const n ∷ xs) = ap (λ s. const_sort ∷ s) (same_sorts xs)
 
   -- What a binder binds stands innermost around its body.
-  pub inside_more : (ls : List (List Sort)) (o : Option (List BoundKind)) (t : Tree) (xs : List (BoundVariableKind Name)) →
-      o ≡ Some (bound_kinds m xs) → map variable_sort xs ∷ ls ≡ sorts_inside (under o t) ls
+  pub inside_more : (ls : List (List Sort)) (o : Option (List BoundKind)) (t : Tree)
+      (xs : List (BoundVariableKind Name)) → o ≡ Some (bound_kinds m xs) →
+      map variable_sort xs ∷ ls ≡ sorts_inside (under o t) ls
   inside_more ls o t xs e =
       ap (λ s. s ∷ ls) (same_sorts xs) ∙ ap (λ x. sorts_inside (under x t) ls) (sym e)
 
@@ -133,9 +134,9 @@ module _ {Key Id Name : Type 0} (m : Meaning Key Id Name) where
   err_binder st ls o t xs (Err x) e h =
       subst (λ u. SomeUnfit st ls (under u t) x) (sym e) (subst (λ s. SomeUnfit st (s ∷ ls) t x) (same_sorts xs) h)
 
-  -- The same two of known parts.
-  pub unasked_part : (st : Store) (ls : List (List Sort)) → Sorted m → (p : Part Key Id) → IsTrue (known (part_tree m p)) →
-      visited_sort (part_sort p) ≡ false → FitsOwn st ls (part_tree m p)
+  -- The same of known parts: of what is no type, region or constant, and of what is no binder.
+  pub unasked_part : (st : Store) (ls : List (List Sort)) → Sorted m → (p : Part Key Id) →
+      IsTrue (known (part_tree m p)) → visited_sort (part_sort p) ≡ false → FitsOwn st ls (part_tree m p)
   unasked_part st ls s p k e = unasked st ls (part_tree m p) (ap visited_sort (sort_known m s p k) ∙ e) k
 
   pub inside_part : (ls : List (List Sort)) → Sorted m → (p : Part Key Id) → IsTrue (known (part_tree m p)) →
@@ -143,15 +144,16 @@ module _ {Key Id Name : Type 0} (m : Meaning Key Id Name) where
   inside_part ls s p k e = inside_same ls (part_tree m p) (ap is_binder (sort_known m s p k) ∙ e)
 
   -- A known part, by its own leaf and its parts.
-  pub part_whole : (st : Store) (ls : List (List Sort)) → Sorted m → (p : Part Key Id) → IsTrue (known (part_tree m p)) →
-      FitsOwn st ls (part_tree m p) → (ks : List (List Sort)) (ts : Tree) → ks ≡ sorts_inside (part_tree m p) ls →
-      ts ≡ parts_of (part_tree m p) → FitsAll st ks ts → FitsAll st ls (part_tree m p)
+  pub part_whole : (st : Store) (ls : List (List Sort)) → Sorted m → (p : Part Key Id) →
+      IsTrue (known (part_tree m p)) → FitsOwn st ls (part_tree m p) → (ks : List (List Sort)) (ts : Tree) →
+      ks ≡ sorts_inside (part_tree m p) ls → ts ≡ parts_of (part_tree m p) → FitsAll st ks ts →
+      FitsAll st ls (part_tree m p)
   part_whole st ls s p k o ks ts e f h =
       fits_whole st ls (part_tree m p) (λ z. has_sort p (sym (sort_known m s p k) ∙ z)) o (subst₂ (FitsAll st) e f h)
 
   -- What is wrong with a part of it is wrong with it.
-  pub unfit_part : (st : Store) (ls : List (List Sort)) (p : Part Key Id) (ks : List (List Sort)) (ts : Tree) (e : Unfit) →
-      ks ≡ sorts_inside (part_tree m p) ls → ts ≡ parts_of (part_tree m p) → SomeUnfit st ks ts e →
+  pub unfit_part : (st : Store) (ls : List (List Sort)) (p : Part Key Id) (ks : List (List Sort)) (ts : Tree)
+      (e : Unfit) → ks ≡ sorts_inside (part_tree m p) ls → ts ≡ parts_of (part_tree m p) → SomeUnfit st ks ts e →
       SomeUnfit st ls (part_tree m p) e
   unfit_part st ls p ks ts e inside parts u =
       unfit_inside st ls (part_tree m p) e (subst₂ (λ x y. SomeUnfit st x y e) inside parts u)

@@ -39,9 +39,15 @@ pub trait Relatable<C: HasVariables>: HasTree<C::Interner> {
         ensures seen { AllSeen (C.state ctx.now).store (sorts_around around.now) (C.Interner.meaning cx.now) seen.new };
 }
 
-/// Nothing, where a known term may be related in a context as it stands: its variables are the context's, its placeholders
-/// of no later universe than the current one, no stand-in is in it, nothing escapes from it, and each binder in it binds
-/// what stands in its body as what its list says it is. Else the first reason why not.
+/// Nothing, where a known term may be related in a context as it stands: its variables are the context's, its
+/// placeholders of no later universe than the current one, no stand-in is in it, nothing escapes from it, and each
+/// binder in it binds what stands in its body as what its list says it is. That is all that relating asks of a known
+/// term.
+///
+/// Else the first reason why not, which is so of something that stands in the term; then the term may not be related.
+///
+/// A type is tested once under the same binders, and once at all where nothing escapes from it, but that the first 32
+/// are not remembered. No growth that is refused changes an answer.
 pub fn may_relate<C: HasVariables, T: Relatable<C>>(ctx: &C, term: &T) -> Result<(), Unfit>
     requires { IsTrue (known (T.tree (C.state ctx.now).meaning term.now)) }
     ensures may { OnOk result (MayBeRelated (C.state ctx.now).store (T.tree (C.state ctx.now).meaning term.now)) }

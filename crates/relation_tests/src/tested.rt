@@ -1,5 +1,5 @@
-//! A caller who has proved of two types only that they are known asks of each whether it may be related, and then relates
-//! them.
+//! A caller who has proved of two types only that they are known asks of each whether it may be related, and then
+//! relates them.
 ghost use Rattle.relation_semantics.specs.Contexts.{KnowsEnv, KnowsTy};
 
 use may_relate::{HasVariables, Unfit, may_relate};

@@ -3,5 +3,5 @@ use Rattle.relation_reference.proofs.context.own_variables.RefCtxtHasVariables.h
 
 pub returns : goal.returns
 returns g c =
-    is_own (g.I.Interner.meaning c.args.self.now.interner).ty c.args.self.now.inner.ints.items c.args.vid.0 c.len.result
-    c.len.ensures
+    let m = g.I.Interner.meaning c.args.self.now.interner in
+    is_own m.ty c.args.self.now.inner.ints.items c.args.vid.0 c.len.result c.len.ensures
