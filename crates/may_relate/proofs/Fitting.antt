@@ -1,7 +1,7 @@
 -- What follows of a term whose leaves may stand where they do: it may be related; and of one with a leaf that may not.
 use Rattle.std.proofs.Common.{◌≡◌, ℕ, zero, suc, ◌<◌, refl, sym, ap, ◌∙◌, subst, arith, List, [], ◌∷◌, map, length}
 use Rattle.std.proofs.Common.{Some, slice_get, Result, Ok, Err}
-use Rattle.std.specs.Prelude.{OnOk, OnErr, IfErr, ◌⊎◌}
+use Rattle.std.specs.Prelude.{OnOk, OnErr, IfErr}
 use Rattle.std.proofs.Common.{inl, inr}
 use Rattle.relation_terms.specs.Heads.{Sort, BoundKind, bound_sort, Leaf, variable, bound, placeholder, atom, unknown}
 use Rattle.relation_terms.specs.Trees.{Tree, leaf, node, bind, nil, cons, Leaves}

@@ -1,6 +1,6 @@
 -- From the parts of a term to the term.
 use Rattle.std.proofs.Common.{◌≡◌, ℕ, zero, suc, ◌<◌, refl, sym, ap, ◌∙◌, subst, subst₂, arith, List, [], ◌∷◌, map}
-use Rattle.std.proofs.Common.{Bool, true, false, Option, Some, IsTrue, Result, Ok, Err, IfErr, ⊎_elim, inl, inr}
+use Rattle.std.proofs.Common.{false, Option, Some, IsTrue, Result, Ok, Err, IfErr, ⊎_elim, inl, inr}
 use Rattle.std.specs.Prelude.{OnOk, IsErrAnd}
 use Rattle.relation_terms.specs.Heads.{Sort, no_sort, region_sort, type_sort, const_sort}
 use Rattle.relation_terms.specs.Heads.{BoundKind, bound_kind, region_kind, type_kind, const_kind, bound_sort}

@@ -1,5 +1,4 @@
-use Rattle.std.proofs.Common.{◌≡◌, false, sym, subst, ◌∙◌, List}
-use Rattle.relation_terms.specs.Heads.{Sort}
+use Rattle.std.proofs.Common.{◌≡◌, false, sym, subst, ◌∙◌}
 use Rattle.relation_terms.specs.Parts.{part_tree, part_sort}
 use Rattle.may_relate.specs.Fitting.{is_binder, sorts_inside}
 use Rattle.may_relate.specs.Seen.{AllSeen, AllHere}

@@ -1,4 +1,4 @@
-use Rattle.std.proofs.Common.{rules, arith, ap, sym, subst, ◌≡◌, ◌<◌, ◌≤◌, ◌+◌, ◌*◌}
+use Rattle.std.proofs.Common.{rules, arith, ap, sym, subst, ◌≡◌, ◌<◌, ◌+◌, ◌*◌}
 use Rattle.relation_terms.specs.Trees.{size, count}
 use Rattle.relation_terms.specs.Parts.{part_tree, parts_tree, parts_of}
 use Rattle.relation_terms.proofs.Members.{member_small, parts_small}
