@@ -9,6 +9,7 @@ mod infer_ctxt;
 mod instantiating;
 mod memory;
 mod numbers;
+mod own_variables;
 mod reading;
 mod recording;
 mod resolving;

@@ -17,4 +17,6 @@ mod relating;
 #[cfg(test)]
 mod solving;
 #[cfg(test)]
+mod tested;
+#[cfg(test)]
 mod variances;
