@@ -21,7 +21,7 @@ mod kinds;
 #[cfg(test)]
 mod objects;
 #[cfg(test)]
-mod outlives;
+mod outliving;
 #[cfg(test)]
 mod predicate_parts;
 #[cfg(test)]
