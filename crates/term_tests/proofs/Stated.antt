@@ -1,25 +1,18 @@
--- What traits state, as it is made.
+-- What traits state, and lists of it, as they are made.
 use Rattle.std.proofs.Common.{◌≡◌, ℕ, IsTrue, List, [], ◌∷◌, ◌++◌, map, Option, Some, refl, sym, ap, ◌∙◌, subst}
 use Rattle.std.specs.List.{All}
 use Rattle.std.proofs.lemmas.List.Elements.{All-nil, All-push}
-use Rattle.relation_terms.specs.Heads.{BoundKind, Head, atom, unstable_feature}
-use Rattle.relation_terms.specs.Trees.{Tree, leaf, node, nil, known}
+use Rattle.relation_terms.specs.Heads.{BoundKind, atom, unstable_feature}
+use Rattle.relation_terms.specs.Trees.{Tree, leaf, known}
 use Rattle.relation_terms.specs.Meaning.{under}
 use Rattle.relation_terms.specs.Owned.{IsOwn}
 
--- That a feature is allowed, and a trait without arguments, under a binder that binds nothing, bind nothing themselves.
+-- That a feature is allowed, under a binder that binds nothing, binds nothing itself.
 pub feature_is_stated : (o : Option (List BoundKind)) (t : Tree) (n : ℕ) → o ≡ Some [] →
     t ≡ under o (leaf (atom (unstable_feature n))) → IsTrue (known t) × IsOwn t
 feature_is_stated o t n e f =
     subst (λ u. IsTrue (known u) × IsOwn u) (sym (f ∙ ap (λ q. under q (leaf (atom (unstable_feature n)))) e))
     (refl, (tt, refl))
-
-pub bound_is_stated : (o : Option (List BoundKind)) (h : Head) (ts : Tree) → o ≡ Some [] → ts ≡ nil →
-    IsTrue (known (under o (node h ts))) × IsOwn (under o (node h ts))
-bound_is_stated o h ts e f =
-    subst (λ q. IsTrue (known (under q (node h ts))) × IsOwn (under q (node h ts))) (sym e)
-    (subst (λ us. IsTrue (known (under (Some []) (node h us))) × IsOwn (under (Some []) (node h us))) (sym f)
-    (refl, (tt, refl)))
 
 -- What holds of the one thing that was put into a list holds of all in it, and what holds of a part of it of all parts.
 pub all_of_one : {A : Type 0} (P : A → Type 0) (xs ys : List A) (x : A) → ys ≡ [] → xs ≡ ys ++ x ∷ [] → P x → All P xs
