@@ -10,10 +10,10 @@ use Rattle.relation_terms.specs.Meaning.{Meaning, under}
 use Rattle.relation_semantics.specs.Relation.{StaysWithin}
 use Rattle.relation_semantics.specs.Stores.{Store, IsSound, IsTermIn, InContext}
 use Rattle.relation_semantics.specs.Lawful.{Asked, items_of}
-use Rattle.type_relations.specs.Rounds.{one_round, RoundLeads, Opened}
+use Rattle.relation_steps.specs.Rounds.{one_round, RoundLeads, Opened}
 use Rattle.relation_semantics.proofs.Building.{built_itself}
 use Rattle.relation_semantics.proofs.Opening.{unused_step}
-use Rattle.type_relations.proofs.OpeningBoth.{body_scope, unused_stand_ins, bodies_error, bodies_built, bodies_agree, bodies_smaller}
+use Rattle.relation_combining.proofs.OpeningBoth.{body_scope, unused_stand_ins, bodies_error, bodies_built, bodies_agree, bodies_smaller}
 use Rattle.relation_semantics.proofs.Passing.{passes_nowhere}
 use Rattle.relation_tests.specs.Plain.{IsUnbound, plain_store, plain_state, plain_manner}
 

@@ -28,7 +28,7 @@ use Rattle.relation_tests.specs.Plain.{as_is, plain_settings, plain_store, plain
 use Rattle.relation_semantics.proofs.Full.{full_itself, full_by}
 use Rattle.relation_semantics.proofs.Building.{builds_none, built_itself}
 use Rattle.relation_semantics.proofs.Trees.{all_leaves, apply_own, own_other}
-use Rattle.type_relations.proofs.Constraints.{asked_in, asked_relates, asked_met}
+use Rattle.context_relation.proofs.Constraints.{asked_in, asked_relates, asked_met}
 use Rattle.relation_semantics.specs.Asking.{of_regions}
 use Rattle.relation_semantics.proofs.Asking.{regions_ask_one, region_asked}
 use Rattle.relation_semantics.proofs.Recording.{records_constraint}

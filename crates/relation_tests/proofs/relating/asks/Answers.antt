@@ -1,4 +1,4 @@
-use Rattle.type_relations.specs.Arguments.{related_tree}
+use Rattle.relation_steps.specs.Arguments.{related_tree}
 use Rattle.relation_tests.proofs.Concrete.{concrete_asked}
 use Rattle.relation_tests.proofs.relating.asks.Goals as goal
 

@@ -1,7 +1,7 @@
 use Rattle.std.proofs.Common.{refl}
 use Rattle.relation_semantics.specs.Parts.{IsFormedConst}
 use Rattle.relation_tests.specs.Plain.{plain_store, plain_state, plain_manner}
-use Rattle.type_relations.proofs.Comparing.{formed_const}
+use Rattle.relation_recursion.proofs.Compared.{formed_const}
 use Rattle.relation_semantics.proofs.Passing.{parts_left}
 use Rattle.relation_semantics.proofs.Recording.{records_trivial, stands_itself}
 use Rattle.relation_semantics.proofs.Standing.{term_within}
