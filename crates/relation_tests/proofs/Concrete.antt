@@ -17,7 +17,7 @@ use Rattle.relation_semantics.specs.Stores.{Store, IsTermIn, InContext, IsMadeLe
 use Rattle.relation_semantics.specs.Lawful.{Asked}
 use Rattle.relation_tests.specs.Plain.{IsUnbound, plain_store, plain_state, plain_manner}
 use Rattle.relation_tests.specs.Concrete.{IsConcrete}
-use Rattle.relation_reference.proofs.Grows.{known_of_term}
+use Rattle.variable_tables.proofs.Grows.{known_of_term}
 
 -- What is not there is bound as any list says.
 concrete_bound : (ks : List BoundKind) (d : ℕ) (t : Tree) → IsConcrete t → AreBoundAs ks d t

@@ -40,7 +40,7 @@ use Rattle.relation_semantics.proofs.Answering.{may_itself}
 use Rattle.relation_semantics.proofs.Agreeing.{agree_regions}
 use Rattle.relation_semantics.proofs.Erased.{erase_region}
 use Rattle.relation_semantics.proofs.OneUniverse.{keeps_pair, standing_keeps, binds_itself}
-use Rattle.relation_reference.proofs.Grows.{known_of_term}
+use Rattle.variable_tables.proofs.Grows.{known_of_term}
 use Rattle.relation_terms.proofs.Stays.{stays_arg}
 use Rattle.relation_terms.specs.Meaning.{Extends}
 use Rattle.relation_semantics.specs.Lawful.{WithMeaning, RegisteredIn}

@@ -4,7 +4,7 @@ ghost use Rattle.std.specs.List.{All};
 ghost use Rattle.relation_terms.specs.Trees.{known};
 ghost use Rattle.relation_terms.specs.Meaning.{Meaning, Extends, arg_tree};
 ghost use Rattle.outlives_assumptions.specs.Assumptions.{IsKnown};
-ghost use Rattle.relation_reference.specs.Tables.{IsLawful};
+ghost use Rattle.variable_tables.specs.Tables.{IsLawful};
 ghost use Rattle.text_asking.specs.Meets.{AllKnown};
 ghost use Rattle.text_asking.specs.Asking.{AllReady};
 ghost use Rattle.text_asking.specs.Outlives.{KnowsComponent, KnowsComponents};

@@ -2,7 +2,7 @@
 ghost use Rattle.std.specs.Prelude.{◌≡◌, IsTrue, IsFalse, IfSome, IfOk};
 ghost use Rattle.relation_terms.specs.Trees.{known};
 ghost use Rattle.relation_terms.specs.Meaning.{Meaning, Extends, arg_tree};
-ghost use Rattle.relation_reference.specs.Tables.{IsLawful};
+ghost use Rattle.variable_tables.specs.Tables.{IsLawful};
 ghost use Rattle.text_asking.specs.Puts.{ArePuts};
 ghost use Rattle.text_asking.specs.Meets.{AllKnown};
 ghost use Rattle.text_asking.specs.Asking.{AllReady, IsReady, IsSetUp, KnowsAnswer, KnowsRelated};

@@ -1,5 +1,5 @@
 use Rattle.relation_terms.proofs.Stays.{extends_on}
-use Rattle.relation_reference.proofs.Grows.{lawful_grows}
+use Rattle.variable_tables.proofs.Grows.{lawful_grows}
 use Rattle.relation_rows.proofs.Related.{over_in, related_known}
 use Rattle.relation_rows.proofs.calls.relating.write_polarities.Goals as goal
 
