@@ -1,2 +1,2 @@
-mod TermVids
-mod Fates
+pub mod TermVids
+mod Leaves

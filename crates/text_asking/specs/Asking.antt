@@ -39,7 +39,7 @@ use Rattle.text_asking.specs.declared.question.Ready.{Ready}
 use Rattle.text_asking.specs.declared.question.Answer.{Answer}
 use Rattle.text_asking.specs.declared.question.Answer.TheVariants.{Related, Met, Walked, Components, Folded, Is}
 use Rattle.text_asking.specs.declared.question.Answer.TheVariants.{Assumed, Key as key, Pulls, Binding}
-use Rattle.relation_tools.specs.Assumptions.{IsKnown}
+use Rattle.outlives_assumptions.specs.Assumptions.{IsKnown}
 use Rattle.text_asking.specs.Meets.{AllKnown}
 use Rattle.text_needs.specs.Needs.{Allows, Reaches, largest, need_at}
 use Rattle.text_elaboration.specs.Pulls.{KnowsPulled}

@@ -12,7 +12,7 @@ use crate::context::{NotAsked, have_all_stated, have_variables, refusal, relate,
 use crate::elaborating::{ask_elaborated, ask_supertrait_ids, ask_supertraits, told};
 use crate::folding::{fold, puts_at};
 use crate::lists::ask_args_related;
-use crate::outlives::{ask_assumptions, ask_components};
+use crate::outliving::{ask_assumptions, ask_components};
 use crate::quick::{KeyOf, ask_args_may_unify, ask_key, ask_may_unify};
 use crate::roots::{ask_binding, ask_one};
 use crate::sized_keys::SizedKeys;

@@ -7,7 +7,7 @@ use Rattle.variable_tables.specs.Tables.{store_of}
 use Rattle.occurs_check.specs.TermVids.{vid_kind, vid_number}
 use Rattle.occurs_check.specs.Fates.{new_kind, IsFate}
 use Rattle.variable_tables.proofs.Grows.{made_in_context}
-use Rattle.occurs_check.proofs.Fates.{left_stays, not_region, vid_no_int, vid_no_float, new_kind_of}
+use Rattle.occurs_check.proofs.Leaves.{left_stays, not_region, vid_no_int, vid_no_float, new_kind_of}
 use Rattle.occurs_check.proofs.fates.fate_of.Goals as goal
 
 pub returns-in-Region : goal.returns-in-Region

@@ -3,8 +3,7 @@ use Rattle.relation_terms.specs.Parts.{part_tree}
 use Rattle.relation_terms.specs.Meaning.{kind_tree, const_tree}
 use Rattle.relation_terms.specs.Interning.{Sorted}
 use Rattle.relation_terms.proofs.Parts.{sort_known}
-use Rattle.occurs_check.proofs.TermVids.{type_no_vid, const_no_vid}
-use Rattle.relation_reference.proofs.Resolving.{other_no_vid}
+use Rattle.occurs_check.proofs.TermVids.{type_no_vid, const_no_vid, other_no_vid}
 use Rattle.occurs_check.proofs.term_vid.variable_of.Goals as goal
 
 if_none : {A : Type 0} (o : Option A) (P : Type 0) → P → IfNone o P

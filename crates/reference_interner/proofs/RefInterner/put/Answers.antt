@@ -37,3 +37,14 @@ returns-clause-number c =
     let n = c.args.node in
     new_at ns n c.put.new.self c.in_ok-number.number c.in_ok-number.ensures.added c.in_ok-number.ensures.number ∙
     same_entry no_items (items_in c.args.self.now) ns n
+
+pub invariant_of-self-in-Break-branch-2 : goal.invariant_of-self-in-Break-branch-2
+invariant_of-self-in-Break-branch-2 c =
+    let s = c.args.self.now in
+    let e = sym c.in_err-number.ensures.refused in
+    record {
+      known_all = subst AllKnown e s.known_all;
+      distinct = subst AllDistinct e s.distinct;
+      flagged = subst₂ AreFlags e (sym c.reserve.ensures.items) s.flagged;
+      stated = subst (λ xs. AllStated xs s.items.items) e s.stated;
+    }

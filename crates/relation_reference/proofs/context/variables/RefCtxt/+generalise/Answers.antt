@@ -17,7 +17,8 @@ use Rattle.relation_semantics.proofs.Lists.{firsts, firsts_more, firsts_all, sno
 use Rattle.variable_tables.specs.Tables.{store_of}
 use Rattle.occurs_check.specs.TermVids.{vid_kind, vid_number}
 use Rattle.relation_reference.proofs.Recalling.{met_eq, sure_grows}
-use Rattle.relation_reference.proofs.Resolving.{not_type, context_part, over_itself}
+use Rattle.relation_reference.proofs.Resolving.{context_part, over_itself}
+use Rattle.occurs_check.proofs.TermVids.{not_type}
 use Rattle.variable_tables.proofs.Grows.{store_grows, lawful_grows}
 use Rattle.relation_reference.specs.Generalises.{side_of, BecomesAlways}
 use Rattle.occurs_check.specs.Fates.{new_kind}
