@@ -31,7 +31,6 @@ fn relate_tested<C: HasVariables>(
 }
 
 // Whether a type variable is related with `u8` in a new context that has one type variable; or why not.
-#[tactic(auto, using(relation_terms::proofs::Stays::extends_on, relation_terms::proofs::Stays::knows_ty, relation_terms::proofs::Stays::knows_param_env))]
 fn relates_variable<I: Interner + Drop>(
     mut cx: I,
     vid: TyVid,
@@ -40,7 +39,7 @@ fn relates_variable<I: Interner + Drop>(
     let byte = cx.mk_ty(TyKind::Uint(UintTy::U8))?;
     let param_env = cx.empty_param_env()?;
     let mut ctx = RefCtxt::new(cx, TypingMode::PostAnalysis, true, 10)?;
-    let _first = ctx.next_ty_infer()?;
+    ctx.next_ty_infer()?;
     match relate_tested(&mut ctx, param_env, variable, byte) {
         Ok(goals) => Ok(Ok(goals.is_ok())),
         Err(unfit) => Ok(Err(unfit)),
