@@ -8,7 +8,7 @@ use Rattle.relation_terms.specs.Orders.{Order, in_turn, first_last, place_at, li
 use Rattle.relation_terms.specs.Parts.{tree_sort}
 use Rattle.relation_terms.specs.Closures.{is_type_sort}
 use Rattle.relation_terms.specs.declared.terms.part_kind.Parts.{Parts}
-use Rattle.outlives.specs.Components.{Choice, every, no_member, no_region, last_types, not_bivariant, takes, choice_behind, components}
+use Rattle.component_parts.specs.Components.{Choice, every, no_member, no_region, last_types, not_bivariant, takes, choice_behind, components}
 use Rattle.outlives.specs.Outliving.{SomeIs, HasAll}
 use Rattle.component_parts.specs.Choosing.{behind_all, meant, places_count, chosen_at}
 use Rattle.component_parts.specs.declared.Chosen.{Chosen}

@@ -40,7 +40,7 @@ use Rattle.relation_terms.specs.declared.terms.part_kind.Part.TheVariants.{Exist
 use Rattle.relation_terms.specs.Interning.{Sorted}
 use Rattle.relation_terms.proofs.Parts.{sort_known}
 use Rattle.relation_folds.proofs.Visiting.{has_sort}
-use Rattle.outlives.specs.Components.{every, components, choice_of, is_alias, is_component, is_region_sort}
+use Rattle.component_parts.specs.Components.{every, components, choice_of, is_alias, is_component, is_region_sort}
 use Rattle.component_parts.specs.Choosing.{choice_in}
 
 -- A leaf that is no region and no type is no component.

@@ -12,7 +12,7 @@ use Rattle.relation_terms.specs.declared.terms.part_kind.Part.{Part}
 use Rattle.relation_terms.specs.declared.terms.part_kind.Part.TheVariants.{Region, Ty, Const, ValTree, Pat, ValueType}
 use Rattle.relation_terms.specs.declared.terms.part_kind.Part.TheVariants.{Binder, Signature, Inputs, Existential}
 use Rattle.relation_terms.specs.declared.terms.part_kind.Part.TheVariants.{Object}
-use Rattle.outlives.specs.Components.{every, components}
+use Rattle.component_parts.specs.Components.{every, components}
 use Rattle.outlives.specs.Outliving.{HasAll}
 use Rattle.outlives.specs.Collecting.{Settled, Meets, Keeps, kept_of}
 use Rattle.outlives.specs.declared.Component.{Component}

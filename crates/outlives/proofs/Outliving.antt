@@ -8,10 +8,10 @@ use Rattle.relation_terms.specs.Trees.{Tree, known, size}
 use Rattle.relation_terms.specs.Meaning.{Meaning, arg_tree}
 use Rattle.relation_terms.specs.declared.terms.generic_arg.GenericArgKind.{GenericArgKind}
 use Rattle.relation_folds.specs.Visits.{bound_var_escapes}
-use Rattle.outlives.specs.Components.{every, components, inside_alias}
+use Rattle.component_parts.specs.Components.{every, components, inside_alias}
 use Rattle.outlives.specs.Outliving.{SomeIs, EachIs, StandsFor, EachStands, SomeStands, AddsSome, HasAll}
 use Rattle.outlives.specs.Collecting.{Settled, Meets}
-use Rattle.outlives.specs.Keeping.{Adds}
+use Rattle.traversal.specs.Keeping.{Adds}
 use Rattle.outlives.specs.declared.Component.{Component, EscapingAlias, EscapingAlias', Row_of-Component, end_of-Component, more_of-Component, items-the_row-Component, items_hidden-the_row-Component-0}
 
 -- Of two lists, one after the other.

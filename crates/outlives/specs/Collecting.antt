@@ -15,10 +15,8 @@ use Rattle.relation_terms.specs.declared.terms.ty_kind.TyKind.TheVariants.{Alias
 use Rattle.component_parts.specs.Components.{Choice, every, takes, choice_behind, components}
 use Rattle.component_parts.specs.Components.{inside_alias}
 use Rattle.outlives.specs.Outliving.{AddsSome, HasAll}
-use Rattle.outlives.specs.Keeping.{Adds}
+use Rattle.traversal.specs.Keeping.{Adds}
 use Rattle.outlives.specs.declared.Component.{Component}
-use Rattle.outlives.specs.declared.chosen.Chosen.{Chosen}
-use Rattle.outlives.specs.declared.chosen.Chosen.TheVariants.{Every, NoRegion, NotBivariant}
 
 -- The components of the member at a place, if it is chosen.
 abbrev pub of_member : Choice → ℕ → Tree → List Tree

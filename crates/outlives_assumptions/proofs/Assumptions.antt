@@ -38,11 +38,11 @@ use Rattle.relation_terms.proofs.Members.{region_term, type_term, const_term}
 use Rattle.relation_terms.specs.Interning.{Sorted}
 use Rattle.relation_terms.proofs.Stays.{knows_as, stays_arg, knows_arg, knows_region, stays_kind}
 use Rattle.relation_folds.specs.Visits.{bound_var_escapes}
-use Rattle.outlives.specs.Components.{Choice, every, takes, choice_behind, choice_of, is_alias, is_component, components}
+use Rattle.component_parts.specs.Components.{Choice, every, takes, choice_behind, choice_of, is_alias, is_component, components}
 use Rattle.outlives.specs.Outliving.{SomeIs, EachIs, StandsFor, AddsSome, HasAll}
-use Rattle.relation_tools.specs.Assumptions.{is_unresolved, is_assumed, assumed_parts, elaborated, assumed, IsKnown}
-use Rattle.relation_tools.specs.Assumptions.{all_elaborated, HaveSame}
-use Rattle.relation_tools.specs.Assuming.{argument_of, pair_of, IsKnownComponent, Gains}
+use Rattle.outlives_assumptions.specs.Assumptions.{is_unresolved, is_assumed, assumed_parts, elaborated, assumed, IsKnown}
+use Rattle.outlives_assumptions.specs.Assumptions.{all_elaborated, HaveSame}
+use Rattle.outlives_assumptions.specs.Assuming.{argument_of, pair_of, IsKnownComponent, Gains}
 use Rattle.outlives.specs.declared.Component.{Component, Region, Param, Placeholder}
 use Rattle.outlives.specs.declared.Component.{UnresolvedInferenceVariable, Alias, EscapingAlias'}
 

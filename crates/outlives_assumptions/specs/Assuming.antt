@@ -8,7 +8,7 @@ use Rattle.relation_terms.specs.declared.predicate.regions.OutlivesPredicate.{Ou
 use Rattle.relation_terms.specs.declared.terms.generic_arg.GenericArgKind.{GenericArgKind}
 use Rattle.relation_terms.specs.declared.terms.ty_kind.TyKind.TheVariants.{Param as TyParam, Alias as TyAlias}
 use Rattle.relation_terms.specs.declared.terms.ty_kind.TyKind.TheVariants.{Placeholder as TyPlaceholder}
-use Rattle.relation_tools.specs.Assumptions.{is_assumed, IsKnown, assumed, elaborated, HaveSame}
+use Rattle.outlives_assumptions.specs.Assumptions.{is_assumed, IsKnown, assumed, elaborated, HaveSame}
 use Rattle.outlives.specs.declared.Component.{Component, Region, Param, Placeholder, Alias}
 
 module _ {X D N : Type 0} (m : Meaning X D N) where

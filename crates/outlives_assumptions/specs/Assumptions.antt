@@ -9,7 +9,7 @@ use Rattle.relation_terms.specs.Closures.{is_type_sort}
 use Rattle.relation_terms.specs.declared.predicate.regions.OutlivesPredicate.{OutlivesPredicate}
 use Rattle.relation_terms.specs.declared.terms.generic_arg.GenericArgKind.{GenericArgKind}
 use Rattle.relation_folds.specs.Visits.{bound_var_escapes}
-use Rattle.outlives.specs.Components.{every, components}
+use Rattle.component_parts.specs.Components.{every, components}
 
 -- An inference variable of any kind but region, or a stand-in for one.
 abbrev pub is_unresolved : Tree → Bool

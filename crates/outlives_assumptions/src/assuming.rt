@@ -4,8 +4,8 @@ ghost use Rattle.std.specs.List.{All, filter_map};
 ghost use Rattle.std.specs.Option.{option_map};
 ghost use Rattle.relation_terms.specs.Trees.{known};
 ghost use Rattle.relation_terms.specs.Meaning.{Extends, arg_tree, kind_tree};
-ghost use Rattle.relation_tools.specs.Assumptions.{IsKnown, assumed};
-ghost use Rattle.relation_tools.specs.Assuming.{argument_of, pair_of, IsArgumentOf, IsKnownComponent, Gains, Assumes};
+ghost use Rattle.outlives_assumptions.specs.Assumptions.{IsKnown, assumed};
+ghost use Rattle.outlives_assumptions.specs.Assuming.{argument_of, pair_of, IsArgumentOf, IsKnownComponent, Gains, Assumes};
 ghost use Rattle.outlives.specs.declared.Component.{Region as RegionComponent};
 
 use crate::OutlivesAssumption;

@@ -4,7 +4,7 @@
 ghost use Rattle.std.specs.Prelude.{IfOk};
 ghost use Rattle.std.specs.List.{All};
 ghost use Rattle.relation_terms.specs.Meaning.{Extends};
-ghost use Rattle.relation_tools.specs.Assumptions.{IsKnown, AreElaborated};
+ghost use Rattle.outlives_assumptions.specs.Assumptions.{IsKnown, AreElaborated};
 
 mod assuming;
 

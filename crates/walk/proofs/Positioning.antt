@@ -17,7 +17,8 @@ use Rattle.relation_folds.specs.Visits.{is_visited, visited_sort}
 use Rattle.walk.specs.Places.{places, places_under, is_passed_over, goes_back, all_known}
 use Rattle.traversal.specs.Stacks.{present}
 use Rattle.traversal.specs.Keeping.{Adds}
-use Rattle.walk.specs.Walking.{Walk, first_unseen, next_of, begun}
+use Rattle.traversal.specs.Unseen.{first_unseen}
+use Rattle.walk.specs.Walking.{Walk, next_of, begun}
 use Rattle.walk.specs.Positions.{yields, Call, pull, skip, IsNext, Tells, has_ended, Runs, ByPlaces}
 use Rattle.relation_terms.specs.Parts.{parts_of}
 use Rattle.walk.proofs.Placing.{all_known_both, under_known, under_small}

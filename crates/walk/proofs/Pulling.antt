@@ -69,15 +69,15 @@ walk_skipped cx s t b vs f e =
 todo_is : {T : Type 0} (s : List T) (b : ℕ) → take (length s - b) s ++ drop (length s - b) s ≡ s
 todo_is s b = take-append-drop (length s - b) s
 
-pub pulled_none : {I A : Type 0} (eq : A → A → Bool) (cx : I) (s t vs us : List A) (f : Bool) (b : ℕ) → f ≡ false →
+pub pulled_none : {I A : Type 0} (eq : A → A → Bool) (cx : I) (s t vs us : List A) (f : Bool) (b c : ℕ) → f ≡ false →
     Pops eq vs s None t us →
     (f ≡ false)
     × (first_unseen (λ q. list_any (eq q) vs) (take (length s - b) s ++ drop (length s - b) s) ≡ None)
-    × (walk_of cx t b us f ≡ walk_with cx [] [] vs f)
-pulled_none eq cx s t vs us f b held p = (
+    × (walk_of cx t c us f ≡ walk_with cx [] [] vs f)
+pulled_none eq cx s t vs us f b c held p = (
   held,
   ap (first_unseen (λ q. list_any (eq q) vs)) (todo_is s b) ∙ p.0,
-  walk_ended cx t b us f p.1 ∙ ap (λ z. walk_with cx [] [] z f) p.2,
+  walk_ended cx t c us f p.1 ∙ ap (λ z. walk_with cx [] [] z f) p.2,
 )
 
 module _ {Key Id Name : Type 0} (m : Meaning Key Id Name) (eq : GenericArgKind Key → GenericArgKind Key → Bool)

@@ -1,7 +1,7 @@
 use Rattle.std.proofs.Common.{subst}
 use Rattle.relation_terms.specs.Meaning.{kind_tree}
 use Rattle.relation_terms.specs.declared.terms.ty_kind.TyKind.TheVariants.{Alias as AliasForm}
-use Rattle.outlives.specs.Components.{inside_alias}
+use Rattle.component_parts.specs.Components.{inside_alias}
 use Rattle.outlives.specs.Outliving.{AddsSome}
 use Rattle.outlives.proofs.Outliving.{adds_none, appended_some, appended_all}
 use Rattle.outlives.proofs.compute_alias_components_recursive.Goals as goal

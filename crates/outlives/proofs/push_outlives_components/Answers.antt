@@ -1,4 +1,4 @@
-use Rattle.outlives.specs.Components.{every, components}
+use Rattle.component_parts.specs.Components.{every, components}
 use Rattle.outlives.proofs.Outliving.{adds_none, appended_some, appended_all}
 use Rattle.outlives.proofs.push_outlives_components.Goals as goal
 

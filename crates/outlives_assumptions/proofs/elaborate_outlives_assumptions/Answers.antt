@@ -2,11 +2,11 @@ use Rattle.std.proofs.Common.{◌+◌, ◌++◌, [], take, map, subst, arith}
 use Rattle.std.proofs.lemmas.List.{take_all}
 use Rattle.relation_terms.specs.Meaning.{arg_tree}
 use Rattle.relation_terms.proofs.Stays.{stays_same, extends_on}
-use Rattle.relation_tools.specs.Assumptions.{IsKnown, assumed, elaborated, all_elaborated, HaveSame}
-use Rattle.relation_tools.specs.Assuming.{Gains}
-use Rattle.relation_tools.proofs.Assuming.{gains_after, gains_as, same_as, all_at, taken_next, all_more}
-use Rattle.relation_tools.proofs.Assuming.{knows_assumed, stays_elaborated, gains_none}
-use Rattle.relation_tools.proofs.elaborate.elaborate_outlives_assumptions.Goals as goal
+use Rattle.outlives_assumptions.specs.Assumptions.{IsKnown, assumed, elaborated, all_elaborated, HaveSame}
+use Rattle.outlives_assumptions.specs.Assuming.{Gains}
+use Rattle.outlives_assumptions.proofs.Assumptions.{gains_after, gains_as, same_as, all_at, taken_next, all_more}
+use Rattle.outlives_assumptions.proofs.Assumptions.{knows_assumed, stays_elaborated, gains_none}
+use Rattle.outlives_assumptions.proofs.elaborate_outlives_assumptions.Goals as goal
 
 pub loop-assumption-init : goal.loop-assumption-init
 loop-assumption-init g c =

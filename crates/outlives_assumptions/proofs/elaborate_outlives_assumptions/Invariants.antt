@@ -1,8 +1,8 @@
 use Rattle.std.proofs.Common.{[], take}
 use Rattle.relation_terms.specs.Meaning.{Extends}
-use Rattle.relation_tools.specs.Assumptions.{all_elaborated}
-use Rattle.relation_tools.specs.Assuming.{Gains}
-use Rattle.relation_tools.proofs.elaborate.elaborate_outlives_assumptions.Given as goal
+use Rattle.outlives_assumptions.specs.Assumptions.{all_elaborated}
+use Rattle.outlives_assumptions.specs.Assuming.{Gains}
+use Rattle.outlives_assumptions.proofs.elaborate_outlives_assumptions.Given as goal
 
 -- What follows from the assumptions so far, and nothing else, was collected.
 abbrev pub invariant-loop-assumption : goal.invariant-loop-assumption

@@ -1,5 +1,5 @@
 use Rattle.std.proofs.Common.{rules, arith, refl, sym, ap, ◌∙◌, ◌≡◌, ◌<◌, ◌+◌, ◌*◌, suc, subst, OnOk}
-use Rattle.std.proofs.Common.{[], ◌∷◌, MatchOption}
+use Rattle.std.proofs.Common.{[], ◌∷◌, MatchOption, Result, Ok, Err}
 use Rattle.std.proofs.lemmas.Bool.{OnTrue_at}
 use Rattle.relation_terms.specs.Trees.{size, count, IsList}
 use Rattle.relation_terms.specs.Parts.{part_tree, parts_tree, parts_of}
@@ -12,13 +12,18 @@ use Rattle.relation_folds.specs.Folds.{inside}
 use Rattle.anonymize.specs.Anonymous.{here, uses, with_vars}
 use Rattle.anonymize.specs.UsedParts.{AllIn, Remembered}
 use Rattle.relation_folds.proofs.Depths.{inside_known}
-use Rattle.outlives.proofs.Meeting.{ok_any, ok_map}
+use Rattle.std.proofs.lemmas.Result.{on_ok_weaker}
 use Rattle.relation_folds.proofs.Remembering.{place_eq}
 use Rattle.anonymize.proofs.UsedVars.{all_added, all_there}
 use Rattle.anonymize.proofs.UsedTrees.{uses_itself, uses_inside, used_next, used_all}
 use Rattle.anonymize.proofs.UsedParts.{remembers_later}
 use Rattle.relation_folds.proofs.Visiting.{has_sort}
 use Rattle.anonymize.proofs.collecting.+collect.Goals as goal
+
+-- What holds anyway holds where there is a value.
+ok_any : {E P : Type 0} (r : Result (Unit {0}) E) → P → OnOk r P
+ok_any (Ok u) p = p
+ok_any (Err e) p = tt
 
 pub collect_list-loop-step-init : goal.collect_list-loop-step-init
 collect_list-loop-step-init g t' c = record { collects = refl; remembered = c.requires.remembered }
@@ -101,7 +106,7 @@ collect_new-returns-in-Some-clause-collects g t' c =
     let d = c.args.depth in
     let is : here d t ≡ c.in-Some.var ∷ [] =
     subst (λ o. MatchOption o (here d t ≡ []) (λ var. here d t ≡ var ∷ [])) c.in-Some.is c.part_var.ensures in
-    ok_map c.add.result (λ e. e ∙ ap (with_vars c.args.vars.now.items) (sym (uses_itself d t c.in-Some.var is)))
+    on_ok_weaker c.add.result (λ e. e ∙ ap (with_vars c.args.vars.now.items) (sym (uses_itself d t c.in-Some.var is)))
     c.add.ensures
 
 pub collect_new-returns-in-Some-clause-kept : goal.collect_new-returns-in-Some-clause-kept
@@ -109,7 +114,7 @@ collect_new-returns-in-Some-clause-kept g t' c =
     let m = g.I.Interner.meaning c.args.cx.now in
     let eq = place_eq g.I.Key.PartialEq.eq in
     let us = c.args.vars.now.items in
-    ok_map c.add.result (λ e. subst (λ z. Remembered m z eq c.args.met.now.keys) (sym e)
+    on_ok_weaker c.add.result (λ e. subst (λ z. Remembered m z eq c.args.met.now.keys) (sym e)
     (remembers_later m us eq (c.in-Some.var ∷ []) c.args.met.now.keys c.requires.remembered)) c.add.ensures
 
 pub collect_new-returns-in_ok-inside-in-None-clause-collects : goal.collect_new-returns-in_ok-inside-in-None-clause-collects
@@ -131,7 +136,7 @@ collect_new-returns-in_ok-inside-in-None-clause-collects g t' c =
     ∙ ap (λ z. uses (inside t d) (in_order z (parts_tree m ps))) c.parts_of.ensures.order
     ∙ ap (λ z. uses (inside t d) (in_order (order_of t) z)) c.parts_of.ensures.means
     ∙ sym (uses_inside d t (λ e. has_sort p (sym (sort_known m sorted p k) ∙ e)) list none) in
-    ok_map c.collect_list.result (λ e. e ∙ ap (with_vars us) same) c.collect_list.ensures.collects
+    on_ok_weaker c.collect_list.result (λ e. e ∙ ap (with_vars us) same) c.collect_list.ensures.collects
 
 pub collect_part-returns-then-was_met-clause-collects : goal.collect_part-returns-then-was_met-clause-collects
 collect_part-returns-then-was_met-clause-collects g t' c =

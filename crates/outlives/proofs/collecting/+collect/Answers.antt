@@ -12,7 +12,7 @@ use Rattle.relation_terms.specs.Interning.{Sorted}
 use Rattle.relation_terms.proofs.Members.{member_small, parts_small, slice_counts, slice_list, slice_nth, slice_sure}
 use Rattle.relation_terms.proofs.Parts.{ty_seen, known_parts}
 use Rattle.relation_folds.specs.Visits.{bound_var_escapes}
-use Rattle.outlives.specs.Components.{every, components, inside_alias}
+use Rattle.component_parts.specs.Components.{every, components, inside_alias}
 use Rattle.component_parts.specs.Choosing.{choice_in, meant, chosen_at}
 use Rattle.outlives.specs.Outliving.{SomeIs, AddsSome, HasAll}
 use Rattle.outlives.specs.Collecting.{Settled, of_member}
@@ -196,7 +196,7 @@ collect_members-returns-clause-all g t' c =
     let counted = c.member_count-count.ensures.counts in
     let test = c.loop-step-test.false in
     let end = (c.loop-step.auto).step-end in
-    let looked = c.places_count.ensures.is in
+    let looked = c.places_count-step-end.ensures.is in
     has_members m c.loop-step.out.items ch ts c.member_count-count.ensures.is_list
     (λ j l. each_chosen m c.args.parts.now n ts counted (λ j. HasAll m (of_member ch j ts) c.loop-step.out.items)
     c.args.chosen.now (λ k h. inv.has k (omega (arith, h, test, end, looked)))

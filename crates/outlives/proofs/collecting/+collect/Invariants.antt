@@ -2,7 +2,7 @@ use Rattle.std.proofs.Common.{◌+◌, ◌*◌, ◌<◌, ℕ}
 use Rattle.relation_terms.specs.Trees.{size}
 use Rattle.relation_terms.specs.Parts.{part_tree, parts_tree}
 use Rattle.relation_terms.specs.contracts.terms.generic_arg.GenericArgKindPartialEq.TheImpl.{ghosts}
-use Rattle.outlives.specs.Components.{every, components}
+use Rattle.component_parts.specs.Components.{every, components}
 use Rattle.outlives.specs.Outliving.{AddsSome, HasAll}
 use Rattle.component_parts.specs.Choosing.{meant, chosen_at}
 use Rattle.outlives.specs.Collecting.{of_member, Meets}

@@ -1,5 +1,5 @@
 use Rattle.std.proofs.Common.{◌≡◌, ◌∙◌, [], ◌∷◌, refl, sym, ap}
-use Rattle.outlives.specs.Components.{every, components}
+use Rattle.component_parts.specs.Components.{every, components}
 use Rattle.outlives.specs.declared.Component.{Region}
 use Rattle.outlives.proofs.Components.{region_is}
 use Rattle.outlives.proofs.Outliving.{added_some, added_all}

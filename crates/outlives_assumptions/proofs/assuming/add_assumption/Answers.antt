@@ -4,12 +4,12 @@ use Rattle.relation_terms.specs.Trees.{Tree, known}
 use Rattle.relation_terms.specs.Meaning.{arg_tree}
 use Rattle.relation_terms.specs.Interning.{Sorted}
 use Rattle.relation_terms.proofs.Stays.{stays_same}
-use Rattle.relation_tools.specs.Assumptions.{elaborated, HaveSame}
-use Rattle.relation_tools.specs.Assuming.{pair_of, IsKnownComponent}
+use Rattle.outlives_assumptions.specs.Assumptions.{elaborated, HaveSame}
+use Rattle.outlives_assumptions.specs.Assuming.{pair_of, IsKnownComponent}
 use Rattle.outlives.proofs.Meeting.{ok_map}
-use Rattle.relation_tools.proofs.Assuming.{gains_after, gains_as, same_as, ty_gives, ty_known, other_sort}
-use Rattle.relation_tools.proofs.Assuming.{other_elaborated}
-use Rattle.relation_tools.proofs.elaborate.assuming.add_assumption.Goals as goal
+use Rattle.outlives_assumptions.proofs.Assumptions.{gains_after, gains_as, same_as, ty_gives, ty_known, other_sort}
+use Rattle.outlives_assumptions.proofs.Assumptions.{other_elaborated}
+use Rattle.outlives_assumptions.proofs.assuming.add_assumption.Goals as goal
 
 pub assume-requires-clause-known : goal.assume-requires-clause-known
 assume-requires-clause-known g c = c.requires.known

@@ -4,10 +4,10 @@ use Rattle.std.specs.Option.{option_map}
 use Rattle.relation_terms.specs.Trees.{Tree, known}
 use Rattle.relation_terms.specs.Meaning.{arg_tree}
 use Rattle.relation_terms.proofs.Stays.{knows_region}
-use Rattle.relation_tools.specs.Assuming.{argument_of, pair_of}
+use Rattle.outlives_assumptions.specs.Assuming.{argument_of, pair_of}
 use Rattle.outlives.proofs.Meeting.{ok_map}
-use Rattle.relation_tools.proofs.Assuming.{gains_grown, gains_after, gains_as, pairs_some, pairs_none, same_as}
-use Rattle.relation_tools.proofs.elaborate.assuming.add_component.Goals as goal
+use Rattle.outlives_assumptions.proofs.Assumptions.{gains_grown, gains_after, gains_as, pairs_some, pairs_none, same_as}
+use Rattle.outlives_assumptions.proofs.assuming.add_component.Goals as goal
 
 pub assumed_argument-requires : goal.assumed_argument-requires
 assumed_argument-requires g c = c.requires.component

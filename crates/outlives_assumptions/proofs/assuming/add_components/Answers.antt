@@ -2,10 +2,10 @@ use Rattle.std.proofs.Common.{◌∷◌, ◌+◌, ◌++◌, [], take, subst, ari
 use Rattle.std.proofs.lemmas.List.{take_all}
 use Rattle.std.specs.List.{filter_map}
 use Rattle.relation_terms.proofs.Stays.{stays_same, extends_on, knows_region}
-use Rattle.relation_tools.specs.Assuming.{pair_of, IsKnownComponent, Gains}
-use Rattle.relation_tools.proofs.Assuming.{gains_grown, gains_after, gains_as, same_as, all_at, filter_next}
-use Rattle.relation_tools.proofs.Assuming.{knows_component, stays_pairs}
-use Rattle.relation_tools.proofs.elaborate.assuming.add_components.Goals as goal
+use Rattle.outlives_assumptions.specs.Assuming.{pair_of, IsKnownComponent, Gains}
+use Rattle.outlives_assumptions.proofs.Assumptions.{gains_grown, gains_after, gains_as, same_as, all_at, filter_next}
+use Rattle.outlives_assumptions.proofs.Assumptions.{knows_component, stays_pairs}
+use Rattle.outlives_assumptions.proofs.assuming.add_components.Goals as goal
 
 pub loop-component-init : goal.loop-component-init
 loop-component-init g c =

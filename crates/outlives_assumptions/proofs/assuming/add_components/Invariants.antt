@@ -1,8 +1,8 @@
 use Rattle.std.proofs.Common.{take}
 use Rattle.std.specs.List.{filter_map}
 use Rattle.relation_terms.specs.Meaning.{Extends}
-use Rattle.relation_tools.specs.Assuming.{pair_of, Gains}
-use Rattle.relation_tools.proofs.elaborate.assuming.add_components.Given as goal
+use Rattle.outlives_assumptions.specs.Assuming.{pair_of, Gains}
+use Rattle.outlives_assumptions.proofs.assuming.add_components.Given as goal
 
 -- What the components so far give was added.
 abbrev pub invariant-loop-component : goal.invariant-loop-component

@@ -2,8 +2,8 @@ use Rattle.std.proofs.Common.{refl}
 use Rattle.relation_terms.specs.contracts.terms.generic_arg.GenericArgKindPartialEq.TheImpl.{ghosts}
 use Rattle.relation_terms.specs.Interning.{Sorted}
 use Rattle.relation_folds.proofs.Arguments.{arg_same}
-use Rattle.relation_tools.proofs.Assuming.{gains_put, pairs_same}
-use Rattle.relation_tools.proofs.elaborate.assuming.assume.Goals as goal
+use Rattle.outlives_assumptions.proofs.Assumptions.{gains_put, pairs_same}
+use Rattle.outlives_assumptions.proofs.assuming.assume.Goals as goal
 
 pub returns : goal.returns
 returns g c =

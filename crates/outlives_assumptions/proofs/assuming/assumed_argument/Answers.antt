@@ -2,9 +2,9 @@ use Rattle.std.proofs.Common.{◌≡◌, ◌∙◌, ap, sym, subst, IfOk}
 use Rattle.std.specs.Option.{option_map}
 use Rattle.relation_terms.specs.Meaning.{arg_tree}
 use Rattle.relation_terms.proofs.Stays.{stays_same}
-use Rattle.relation_tools.specs.Assuming.{argument_of, IsKnownComponent}
-use Rattle.relation_tools.proofs.Assuming.{region_sure}
-use Rattle.relation_tools.proofs.elaborate.assuming.assumed_argument.Goals as goal
+use Rattle.outlives_assumptions.specs.Assuming.{argument_of, IsKnownComponent}
+use Rattle.outlives_assumptions.proofs.Assumptions.{region_sure}
+use Rattle.outlives_assumptions.proofs.assuming.assumed_argument.Goals as goal
 
 pub unbound_region-requires : goal.unbound_region-requires
 unbound_region-requires g c =

@@ -1,5 +1,5 @@
 use Rattle.std.proofs.Common.{ap, Some}
-use Rattle.relation_tools.proofs.elaborate.assuming.ty_arg.Goals as goal
+use Rattle.outlives_assumptions.proofs.assuming.ty_arg.Goals as goal
 
 pub mk_ty-requires : goal.mk_ty-requires
 mk_ty-requires g c = c.requires

@@ -1,7 +1,7 @@
 use Rattle.std.proofs.Common.{ap, ◌∙◌}
 use Rattle.relation_terms.specs.Meaning.{region_tree}
-use Rattle.relation_tools.proofs.Assuming.{free_given, bound_given}
-use Rattle.relation_tools.proofs.elaborate.assuming.unbound_region.Goals as goal
+use Rattle.outlives_assumptions.proofs.Assumptions.{free_given, bound_given}
+use Rattle.outlives_assumptions.proofs.assuming.unbound_region.Goals as goal
 
 pub region_kind-requires : goal.region_kind-requires
 region_kind-requires g c = c.requires

@@ -1,9 +1,9 @@
 use Rattle.std.proofs.Common.{◌∙◌, ap, sym, subst, IsTrue, Some}
 use Rattle.relation_terms.specs.Trees.{known}
 use Rattle.relation_terms.specs.Meaning.{arg_tree, under}
-use Rattle.relation_elaboration.specs.Statements.{outlives_tree}
-use Rattle.relation_elaboration.proofs.Making.{region_shape, ty_shape}
-use Rattle.relation_elaboration.proofs.children.outlives_clause.Goals as goal
+use Rattle.relation_statements.specs.Statements.{outlives_tree}
+use Rattle.relation_statements.proofs.Making.{region_shape, ty_shape}
+use Rattle.relation_statements.proofs.clauses.outlives_clause.Goals as goal
 
 pub returns-in_ok-mk_clause-in-Lifetime-clause-made : goal.returns-in_ok-mk_clause-in-Lifetime-clause-made
 returns-in_ok-mk_clause-in-Lifetime-clause-made g c =

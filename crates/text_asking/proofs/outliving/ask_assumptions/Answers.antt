@@ -1,7 +1,7 @@
 use Rattle.std.proofs.Common.{sym, subst}
 use Rattle.std.specs.List.{All}
 use Rattle.variable_tables.proofs.Grows.{lawful_grows}
-use Rattle.relation_tools.specs.Assumptions.{IsKnown}
+use Rattle.outlives_assumptions.specs.Assumptions.{IsKnown}
 use Rattle.text_asking.specs.Meets.{AllKnown}
 use Rattle.text_asking.proofs.outliving.ask_assumptions.Goals as goal
 

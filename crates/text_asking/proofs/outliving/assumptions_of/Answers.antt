@@ -1,7 +1,7 @@
 use Rattle.std.proofs.Common.{arith, subst, sym}
 use Rattle.std.proofs.lemmas.List.Elements.{All-nil}
 use Rattle.std.specs.List.{All}
-use Rattle.relation_tools.specs.Assumptions.{IsKnown}
+use Rattle.outlives_assumptions.specs.Assumptions.{IsKnown}
 use Rattle.text_asking.proofs.AssumeLemmas.{at_known, all_with}
 use Rattle.text_asking.proofs.outliving.assumptions_of.Goals as goal
 

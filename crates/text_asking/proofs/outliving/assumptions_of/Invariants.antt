@@ -1,6 +1,6 @@
 use Rattle.std.specs.List.{All}
 use Rattle.relation_terms.specs.Meaning.{Meaning}
-use Rattle.relation_tools.specs.Assumptions.{IsKnown}
+use Rattle.outlives_assumptions.specs.Assumptions.{IsKnown}
 use Rattle.text_asking.specs.Meets.{AllKnown}
 use Rattle.text_asking.proofs.outliving.assumptions_of.Given as goal
 

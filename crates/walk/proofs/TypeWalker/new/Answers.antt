@@ -12,7 +12,7 @@ returns-clause-by_places g c =
     let eq = (ghosts g.row.I-Key g.I.Key.PartialEq g.I.Key.PartialEq-dict).eq in
     let laws = g.met.I.Interner in
     let sorted : Sorted m = laws.sorted a in
-    rw (c.new-2.ensures.stack, c.new-2.ensures.visited)
+    rw (c.new.ensures.stack, c.new.ensures.last_subtree, c.new.ensures.visited)
     (by_places m eq (arg_same m g.I.Key.PartialEq.eq eq (λ a b. refl) (λ a b. refl) (λ a b. refl) (λ a b. refl)
     (λ a b. refl) (λ a b. refl) (λ a b. refl) (λ a b. refl) (λ a b. refl) (laws.same_region a) (laws.same_ty a)
     (laws.same_const a) sorted) a c.args.root c.requires (arg_visited m sorted c.args.root c.requires))

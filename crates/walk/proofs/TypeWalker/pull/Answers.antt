@@ -1,4 +1,4 @@
-use Rattle.std.proofs.Common.{rules, sym, subst, IsTrue, ◌≡◌, ◌∙◌, true, false, refl, Some, None}
+use Rattle.std.proofs.Common.{rules, sym, subst, IsTrue, ◌≡◌, ◌∙◌, true, false, refl, Some, None, length, MatchOption}
 use Rattle.std.specs.List.{list_any}
 use Rattle.relation_terms.specs.Trees.{known}
 use Rattle.relation_terms.specs.Meaning.{arg_tree}
@@ -17,7 +17,8 @@ enter-requires g c =
     let rest = c.next_unseen.new.self.stack in
     let us = c.next_unseen.new.self.visited.keys in
     let x = c.in-Ok-Some.arg in
-    let p : Pops eq vs s (Some x) rest us = subst (λ o. Pops eq vs s o rest us) c.in-Ok-Some.field-0-is c.in-Ok-Some.ensures.pops in
+    let p : Pops eq vs s (Some x) rest us =
+    subst (λ o. Pops eq vs s o rest us) c.in-Ok-Some.field-0-is c.in-Ok-Some.ensures.pops in
     let k : IsTrue (known (arg_tree m x)) =
     (unseen_known (arg_tree m) (λ q. list_any (eq q) vs) s x rest p.0 (c.self.invariant c.if-self.false)).0 in
     search rules
@@ -29,9 +30,11 @@ returns-in-Ok-None g c =
     let vs = c.self.inside.place.visited.keys in
     let rest = c.next_unseen.new.self.stack in
     let us = c.next_unseen.new.self.visited.keys in
-    let p : Pops eq vs s None rest us = subst (λ o. Pops eq vs s o rest us) c.in-Ok-None.field-0-is c.in-Ok-None.ensures.pops in
+    let p : Pops eq vs s None rest us =
+    subst (λ o. Pops eq vs s o rest us) c.in-Ok-None.field-0-is c.in-Ok-None.ensures.pops in
     rw (← c.self.view_is)
-    (pulled_none eq c.self.inside.cx.now s rest vs us c.self.inside.failed c.self.inside.place.last_subtree c.if-self.false p)
+    (pulled_none eq c.self.inside.cx.now s rest vs us c.self.inside.failed c.self.inside.place.last_subtree
+    c.next_unseen.new.self.last_subtree c.if-self.false p)
 
 pub returns-in-Ok : goal.returns-in-Ok
 returns-in-Ok g c =
@@ -43,11 +46,15 @@ returns-in-Ok g c =
     let us = c.next_unseen.new.self.visited.keys in
     let held = c.if-self.false in
     let x = c.in-Ok-Some.arg in
-    let p : Pops eq vs s (Some x) rest us = subst (λ o. Pops eq vs s o rest us) c.in-Ok-Some.field-0-is c.in-Ok-Some.ensures.pops in
+    let p : Pops eq vs s (Some x) rest us =
+    subst (λ o. Pops eq vs s o rest us) c.in-Ok-Some.field-0-is c.in-Ok-Some.ensures.pops in
+    let last = c.next_unseen.new.self.last_subtree in
+    let len : last ≡ length rest = subst (λ o. MatchOption o (last ≡ c.self.inside.place.last_subtree)
+    (λ _. last ≡ length rest)) c.in-Ok-Some.field-0-is c.in-Ok-Some.ensures.last_subtree in
     let k = (unseen_known (arg_tree m) (λ q. list_any (eq q) vs) s x rest p.0 (c.self.invariant held)).0 in
     rw (← c.self.view_is)
     (pulled_one m eq s c.enter.new.stack vs x rest p.0 OutOfMemory c.self.inside.cx.now us c.self.inside.failed
-    c.self.inside.place.last_subtree c.len-self-inside.result held k c.len-self-inside.ensures c.in-Ok.ensures p.1)
+    c.self.inside.place.last_subtree last held k len c.in-Ok.ensures p.1)
 
 pub returns-in-Err : goal.returns-in-Err
 returns-in-Err g c =
@@ -62,5 +69,6 @@ invariant_of-self-in-Ok g c = λ h.
     let rest = c.next_unseen.new.self.stack in
     let us = c.next_unseen.new.self.visited.keys in
     let x = c.in-Ok-Some.arg in
-    let p : Pops eq vs s (Some x) rest us = subst (λ o. Pops eq vs s o rest us) c.in-Ok-Some.field-0-is c.in-Ok-Some.ensures.pops in
+    let p : Pops eq vs s (Some x) rest us =
+    subst (λ o. Pops eq vs s o rest us) c.in-Ok-Some.field-0-is c.in-Ok-Some.ensures.pops in
     known_after m eq s c.enter.new.stack vs x rest p.0 (c.self.invariant c.if-self.false) c.in-Ok.ensures
