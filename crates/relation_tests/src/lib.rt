@@ -4,8 +4,8 @@
 #[cfg(test)]
 mod contexts;
 #[cfg(test)]
+mod counting;
+#[cfg(test)]
 mod over_items;
 #[cfg(test)]
 mod relating;
-#[cfg(test)]
-mod solving;
