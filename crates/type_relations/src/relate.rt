@@ -1,4 +1,4 @@
-//! Relations on terms: what the crates below have, by the names of the language that is ported.
+//! Relations on terms: what the crates below have, under one path.
 
 pub mod solver_relating;
 
