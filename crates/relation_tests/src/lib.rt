@@ -4,10 +4,10 @@
 #[cfg(test)]
 mod contexts;
 #[cfg(test)]
+mod counting;
+#[cfg(test)]
 mod over_items;
 #[cfg(test)]
 mod relating;
-#[cfg(test)]
-mod solving;
 #[cfg(test)]
 mod tested;
