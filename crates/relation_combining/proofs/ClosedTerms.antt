@@ -102,7 +102,7 @@ both_closed k a b (without_aliases p q n o) = (plain_closed a p, plain_closed b 
 both_closed k a b (without_binders p q n o l) = (plain_closed a p, plain_closed b q)
 
 -- No closed terms need a variable.
-never_needs : (st : Store) → IsSound st → (a b : Tree) → IsClosed a → IsClosed b → NeedsVariable st a b → ⊥
+pub never_needs : (st : Store) → IsSound st → (a b : Tree) → IsClosed a → IsClosed b → NeedsVariable st a b → ⊥
 never_needs st sound a b p q n =
     false≢true (n (closed_kit all_heads) (closed_built a p) (closed_built b q) (closed_binds all_heads st sound))
 
