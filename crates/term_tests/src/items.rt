@@ -1,5 +1,5 @@
 //! Tests over the reference interner: all else is over any.
-use crate::{binding, causes, components, predicates, visiting};
+use crate::{binding, causes, predicates, visited, visiting};
 use reference_interner::{
     DefKind, GenericParam, GenericParamKind, ItemId, ItemKind, NoSpan, RefInterner, SymbolId,
 };
@@ -75,7 +75,7 @@ fn all_go_over_the_reference_interner(rt: HostRuntime) -> Result<(), Fail> {
     assert!(rt; predicates::all_go(&mut cx, item), "predicates");
     assert!(rt; visiting::all_go(&mut cx, item, NAME)?, "visiting");
     assert!(rt; binding::moves_what_it_puts(&mut cx, NAME)?, "binding");
-    assert!(rt; components::all_go(&mut cx, item)?, "components");
+    assert!(rt; visited::all_go(&mut cx)?, "visited");
     assert!(rt; settings_are_told(&mut cx, of, TraitId(item)), "settings");
     Ok(())
 }

@@ -6,8 +6,6 @@ mod binding;
 #[cfg(test)]
 mod causes;
 #[cfg(test)]
-mod components;
-#[cfg(test)]
 mod delaying;
 #[cfg(test)]
 mod errors;
@@ -15,5 +13,7 @@ mod errors;
 mod items;
 #[cfg(test)]
 mod predicates;
+#[cfg(test)]
+mod visited;
 #[cfg(test)]
 mod visiting;
