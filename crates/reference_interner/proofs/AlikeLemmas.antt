@@ -1,5 +1,5 @@
 -- `==` takes nodes for one exactly where they are of one form.
-use Rattle.std.proofs.Common.{◌≡◌, ◌↔◌, IsTrue, Bool, List, [], ◌∷◌, refl, ap, ap₂, subst}
+use Rattle.std.proofs.Common.{ℕ, ◌≡◌, ◌↔◌, ◌<◌, IsTrue, Bool, List, [], ◌∷◌, length, get_or, refl, ap, ap₂, subst}
 use Rattle.std.proofs.lemmas.Bool.{false≢true, and_parts, and_from}
 use Rattle.relation_terms.specs.declared.terms.keys.TyKey.{TyKey}
 use Rattle.relation_terms.specs.declared.terms.keys.ConstKey.{ConstKey}
@@ -28,6 +28,7 @@ use Rattle.reference_interner.specs.Forms.{branches_form, pattern_form, alternat
 use Rattle.reference_interner.specs.Forms.{predicate_form, clauses_form}
 use Rattle.reference_interner.specs.Forms.{predicates_form, bound_vars_form}
 use lib.Pointwise.{pointwise}
+use Rattle.node_table.specs.Finding.{Lacks, HasAt}
 use Rattle.reference_interner.proofs.AlikeFormLemmas.{node_eq, arg_eq, ty_eq, const_eq, pat_eq, eqb_self}
 use Rattle.reference_interner.proofs.AlikeFormLemmas.{kind_same, kind_self, const_same, const_self, valtree_same}
 use Rattle.reference_interner.proofs.AlikeFormLemmas.{valtree_self, pattern_same, pattern_self, region_same}
@@ -159,3 +160,12 @@ node_self _ _ e = absurd (cc)
 
 pub node_alike : (a b : Node) → (IsTrue (node_eq a b) ↔ (form_of a ≡ form_of b))
 node_alike a b = (node_same a b, node_self a b)
+
+-- What a list of nodes has, and what it lacks, by forms.
+pub has_form : (ns : List Node) (n : Node) (i : ℕ) → HasAt node_eq ns n i → (d : Node) →
+    form_of (get_or ns i d) ≡ form_of n
+has_form ns n i h d = node_same (get_or ns i d) n (h.1 d)
+
+pub lacks_form : (ns : List Node) (n : Node) → Lacks node_eq ns n → (k : ℕ) (d : Node) → k < length ns →
+    form_of (get_or ns k d) ≡ form_of n → ⊥
+lacks_form ns n a k d h e = a k d h (node_self (get_or ns k d) n e)

@@ -6,7 +6,6 @@ pub mod AlikeElementLemmas
 pub mod AlikePredicateLemmas
 pub mod AlikeLemmas
 pub mod OnceLemmas
-pub mod FindingLemmas
 pub mod ClauseLemmas
 pub mod FlagLemmas
 pub mod StatedLemmas

@@ -34,7 +34,7 @@ items_in s = record { list = s.items.items; next_solver = s.next_solver }
 
 -- What the keys and ids of an interner mean.
 abbrev pub meaning_in : RefInterner → Meaning NodeKey ItemId SymbolId
-meaning_in s = table_meaning (items_in s) s.nodes.items
+meaning_in s = table_meaning (items_in s) s.nodes
 
 -- The items that were added, in order.
 abbrev pub items_of : RefInterner → List Item
@@ -42,7 +42,7 @@ items_of s = s.items.items
 
 -- How many nodes there are, of all sorts.
 abbrev pub node_count : RefInterner → ℕ
-node_count s = length s.nodes.items
+node_count s = length s.nodes
 
 -- How many items were added.
 abbrev pub item_count : RefInterner → ℕ

@@ -3,7 +3,6 @@ pub mod Forms
 pub mod Items
 pub mod Nodes
 pub mod Stated
-pub mod Finding
 pub mod Empty
 pub mod Places
 pub mod Laws

@@ -1,8 +1,8 @@
 //! Items, and how one is added.
 ghost use Rattle.std.specs.Prelude.{◌≡◌, suc, IfOk, IsFalse, OnErr, length};
 
-use crate::keys::next_number;
 use crate::{ItemId, NoSpan, NodeKey, RefInterner, SymbolId};
+use node_table::next_number;
 use relation_terms::predicate::{AliasTermKind, TraitRef};
 pub use relation_terms::terms::{GenericParam, GenericParamKind};
 use relation_terms::terms::{

@@ -1,8 +1,6 @@
 //! The representations of the reference interner: all are numbers.
-ghost use Rattle.std.specs.Prelude.{◌≡◌, ◌≤◌, ◌^◌, IfOk, OnErr};
-
 use crate::RefInterner;
-use relation_terms::terms::{Keys, OutOfMemory};
+use relation_terms::terms::Keys;
 
 /// The number of a node.
 #[derive(Clone, Copy, PartialEq, Eq, Hash, Debug)]
@@ -29,13 +27,4 @@ impl Keys for RefInterner {
     type Name = SymbolId;
 
     type Span = NoSpan;
-}
-
-// The number that comes after this many, which are numbered from zero. After the last of 32 bits memory has run out.
-#[inline(always)]
-pub(super) fn next_number(count: usize) -> Result<u32, OutOfMemory>
-    ensures number { IfOk result (λ n. n ≡ count) }
-    ensures refused { OnErr result (2 ^ 32 ≤ count) }
-{
-    u32::try_from(count).map_err(|_| OutOfMemory)
 }

@@ -2,9 +2,7 @@
 #![tactic(auto)]
 
 ghost use Rattle.std.specs.Prelude.{◌≡◌, ◌≤◌, suc, IsTrue, IfOk, OnErr};
-ghost use Rattle.std.specs.HashMap.{get};
 ghost use Rattle.reference_interner.specs.Nodes.{AllKnown, AllDistinct};
-ghost use Rattle.reference_interner.specs.Finding.{Finds};
 ghost use Rattle.reference_interner.specs.Flags.{AreFlags};
 ghost use Rattle.reference_interner.specs.Stated.{AllStated, stated_prop};
 
@@ -20,7 +18,7 @@ pub use items::{DefKind, GenericParam, GenericParamKind, Item, ItemKind};
 pub use keys::{ItemId, NoSpan, NodeKey, SymbolId};
 pub use node::Node;
 use node::copied;
-use relation_terms::hashing::KeyHasher;
+use node_table::NodeTable;
 use relation_terms::predicate::{
     AliasTermKind, ClauseForm, ObjectPredicate, PredicateForm, PredicateKind, TraitRef,
 };
@@ -34,29 +32,24 @@ use relation_terms::terms::{
 };
 pub use short_list::ShortList;
 use std::alloc::Global;
-use std::collections::HashMap;
-use std::hash::BuildHasherDefault;
 
-/// An interner that keeps its nodes and its items in vectors. It finds a node by a hashed table, so that making takes
-/// the time of one look-up, however many nodes there are.
+/// An interner that keeps its nodes in a table, and its items in a vector. Making takes the time of one look-up in the
+/// table, however many nodes there are.
 #[derive(Drop)]
 pub struct RefInterner {
     alloc: Global,
     // What the keys stand for, by their numbers.
-    nodes: Vec<Node>,
-    // Where the nodes stand.
-    places: HashMap<Node, u32, BuildHasherDefault<KeyHasher>>,
+    nodes: NodeTable<Node>,
     // What the ids stand for, by their numbers.
     items: Vec<Item>,
     // What is asked of the nodes' terms as a whole, by the nodes' numbers.
     flags: Vec<TypeFlags>,
     // Whether the next solver is on everywhere.
     next_solver: bool,
-    ghost known_all: { AllKnown nodes.items },
-    ghost distinct: { AllDistinct nodes.items },
-    ghost finds: { Finds nodes.items (get ⟦<Node as PartialEq>⟧.eq places) },
-    ghost flagged: { AreFlags nodes.items flags.items },
-    ghost stated: { AllStated nodes.items items.items } by { stated_prop nodes.items items.items },
+    ghost known_all: { AllKnown nodes },
+    ghost distinct: { AllDistinct nodes },
+    ghost flagged: { AreFlags nodes flags.items },
+    ghost stated: { AllStated nodes items.items } by { stated_prop nodes items.items },
 }
 
 impl Interner for RefInterner {
@@ -90,28 +83,28 @@ impl Interner for RefInterner {
     }
 
     fn ty_kind(&self, ty: &Ty<Self>) -> TyForm<Self> {
-        match &self.nodes[ty.0.0 as usize] {
+        match self.nodes.node(ty.0.0) {
             Node::Ty(kind) => *kind,
             _ => unreachable!(),
         }
     }
 
     fn region_kind(&self, region: &Region<Self>) -> RegionForm<Self> {
-        match &self.nodes[region.0.0 as usize] {
+        match self.nodes.node(region.0.0) {
             Node::Region(kind) => *kind,
             _ => unreachable!(),
         }
     }
 
     fn tys(&self, tys: &Tys<Self>) -> &[Ty<Self>] {
-        match &self.nodes[tys.0.0 as usize] {
+        match self.nodes.node(tys.0.0) {
             Node::Tys(list) => list.as_slice(),
             _ => unreachable!(),
         }
     }
 
     fn const_kind(&self, constant: &Const<Self>) -> ConstForm<Self> {
-        match &self.nodes[constant.0.0 as usize] {
+        match self.nodes.node(constant.0.0) {
             Node::Const(kind) => *kind,
             _ => unreachable!(),
         }
@@ -130,35 +123,35 @@ impl Interner for RefInterner {
     }
 
     fn valtree_kind(&self, valtree: &ValTree<Self>) -> ValTreeForm<Self> {
-        match &self.nodes[valtree.0.0 as usize] {
+        match self.nodes.node(valtree.0.0) {
             Node::ValTree(kind) => *kind,
             _ => unreachable!(),
         }
     }
 
     fn pat_kind(&self, pat: &Pat<Self>) -> PatternForm<Self> {
-        match &self.nodes[pat.0.0 as usize] {
+        match self.nodes.node(pat.0.0) {
             Node::Pat(kind) => *kind,
             _ => unreachable!(),
         }
     }
 
     fn args(&self, args: &GenericArgs<Self>) -> &[GenericArg<Self>] {
-        match &self.nodes[args.0.0 as usize] {
+        match self.nodes.node(args.0.0) {
             Node::Args(list) => list.as_slice(),
             _ => unreachable!(),
         }
     }
 
     fn branches(&self, branches: &Branches<Self>) -> &[Const<Self>] {
-        match &self.nodes[branches.0.0 as usize] {
+        match self.nodes.node(branches.0.0) {
             Node::Branches(list) => list.as_slice(),
             _ => unreachable!(),
         }
     }
 
     fn alternatives(&self, alternatives: &Alternatives<Self>) -> &[Pat<Self>] {
-        match &self.nodes[alternatives.0.0 as usize] {
+        match self.nodes.node(alternatives.0.0) {
             Node::Alternatives(list) => list.as_slice(),
             _ => unreachable!(),
         }
@@ -168,21 +161,21 @@ impl Interner for RefInterner {
         &self,
         predicates: &ExistentialPredicates<Self>,
     ) -> &[ObjectPredicate<Self>] {
-        match &self.nodes[predicates.0.0 as usize] {
+        match self.nodes.node(predicates.0.0) {
             Node::ExistentialPredicates(list) => list.as_slice(),
             _ => unreachable!(),
         }
     }
 
     fn bound_vars(&self, bound_vars: &BoundVars<Self>) -> &[BoundVariable<Self>] {
-        match &self.nodes[bound_vars.0.0 as usize] {
+        match self.nodes.node(bound_vars.0.0) {
             Node::BoundVars(list) => list.as_slice(),
             _ => unreachable!(),
         }
     }
 
     fn predicate_kind(&self, predicate: &Predicate<Self>) -> PredicateForm<Self> {
-        match &self.nodes[predicate.0.0 as usize] {
+        match self.nodes.node(predicate.0.0) {
             Node::Predicate(kind) => *kind,
             _ => unreachable!(),
         }
@@ -208,7 +201,7 @@ impl Interner for RefInterner {
     }
 
     fn clauses(&self, clauses: &Clauses<Self>) -> &[Clause<Self>] {
-        match &self.nodes[clauses.0.0 as usize] {
+        match self.nodes.node(clauses.0.0) {
             Node::Clauses(list) => list.as_slice(),
             _ => unreachable!(),
         }
@@ -537,43 +530,43 @@ impl Interner for RefInterner {
         Ok(ParamEnvKey(number))
     }
 
-    ghost same_ty = { λ a k l. same_law (items_in a) a.nodes.items a.distinct ty_node (k.0).0 (l.0).0 };
+    ghost same_ty = { λ a k l. same_law (items_in a) a.nodes a.distinct ty_node (k.0).0 (l.0).0 };
 
-    ghost same_region = { λ a k l. same_law (items_in a) a.nodes.items a.distinct region_node (k.0).0 (l.0).0 };
+    ghost same_region = { λ a k l. same_law (items_in a) a.nodes a.distinct region_node (k.0).0 (l.0).0 };
 
-    ghost same_tys = { λ a k l. same_law (items_in a) a.nodes.items a.distinct tys_node (k.0).0 (l.0).0 };
+    ghost same_tys = { λ a k l. same_law (items_in a) a.nodes a.distinct tys_node (k.0).0 (l.0).0 };
 
-    ghost same_const = { λ a k l. same_law (items_in a) a.nodes.items a.distinct const_node (k.0).0 (l.0).0 };
+    ghost same_const = { λ a k l. same_law (items_in a) a.nodes a.distinct const_node (k.0).0 (l.0).0 };
 
-    ghost same_args = { λ a k l. same_law (items_in a) a.nodes.items a.distinct args_node (k.0).0 (l.0).0 };
+    ghost same_args = { λ a k l. same_law (items_in a) a.nodes a.distinct args_node (k.0).0 (l.0).0 };
 
-    ghost same_valtree = { λ a k l. same_law (items_in a) a.nodes.items a.distinct valtree_node (k.0).0 (l.0).0 };
+    ghost same_valtree = { λ a k l. same_law (items_in a) a.nodes a.distinct valtree_node (k.0).0 (l.0).0 };
 
-    ghost same_branches = { λ a k l. same_law (items_in a) a.nodes.items a.distinct branches_node (k.0).0 (l.0).0 };
+    ghost same_branches = { λ a k l. same_law (items_in a) a.nodes a.distinct branches_node (k.0).0 (l.0).0 };
 
-    ghost same_pat = { λ a k l. same_law (items_in a) a.nodes.items a.distinct pat_node (k.0).0 (l.0).0 };
+    ghost same_pat = { λ a k l. same_law (items_in a) a.nodes a.distinct pat_node (k.0).0 (l.0).0 };
 
     ghost same_alternatives = { λ a k l.
-        same_law (items_in a) a.nodes.items a.distinct alternatives_node (k.0).0 (l.0).0 };
+        same_law (items_in a) a.nodes a.distinct alternatives_node (k.0).0 (l.0).0 };
 
     ghost same_existential_predicates = { λ a k l.
-        same_law (items_in a) a.nodes.items a.distinct predicates_node (k.0).0 (l.0).0 };
+        same_law (items_in a) a.nodes a.distinct predicates_node (k.0).0 (l.0).0 };
 
-    ghost same_bound_vars = { λ a k l. same_kinds_law (items_in a) a.nodes.items a.distinct (k.0).0 (l.0).0 };
+    ghost same_bound_vars = { λ a k l. same_kinds_law (items_in a) a.nodes a.distinct (k.0).0 (l.0).0 };
 
-    ghost same_predicate = { λ a k l. same_law (items_in a) a.nodes.items a.distinct predicate_node (k.0).0 (l.0).0 };
+    ghost same_predicate = { λ a k l. same_law (items_in a) a.nodes a.distinct predicate_node (k.0).0 (l.0).0 };
 
-    ghost same_clause = { λ a k l. same_clause_law (items_in a) a.nodes.items a.distinct (k.0).0 (l.0).0 };
+    ghost same_clause = { λ a k l. same_clause_law (items_in a) a.nodes a.distinct (k.0).0 (l.0).0 };
 
-    ghost same_clauses = { λ a k l. same_law (items_in a) a.nodes.items a.distinct clauses_node (k.0).0 (l.0).0 };
+    ghost same_clauses = { λ a k l. same_law (items_in a) a.nodes a.distinct clauses_node (k.0).0 (l.0).0 };
 
-    ghost same_param_env = { λ a k l. same_env_law (items_in a) a.nodes.items a.distinct (k.0).0 (l.0).0 };
+    ghost same_param_env = { λ a k l. same_env_law (items_in a) a.nodes a.distinct (k.0).0 (l.0).0 };
 
-    ghost same_name = { λ a. same_name_law (items_in a) a.nodes.items };
+    ghost same_name = { λ a. same_name_law (items_in a) a.nodes };
 
-    ghost same_id = { λ a. same_id_law (items_in a) a.nodes.items };
+    ghost same_id = { λ a. same_id_law (items_in a) a.nodes };
 
-    ghost sorted = { λ a. all_sorted (items_in a) a.nodes.items };
+    ghost sorted = { λ a. all_sorted (items_in a) a.nodes };
 
-    ghost states = { λ a. states_law (items_in a) a.nodes.items a.stated };
+    ghost states = { λ a. states_law (items_in a) a.nodes a.stated };
 }

@@ -3,6 +3,7 @@ ghost use Rattle.std.specs.Prelude.{◌≡◌, IfOk};
 ghost use Rattle.reference_interner.specs.Forms.{form_of};
 
 use crate::{ItemId, NodeKey, ShortList, SymbolId};
+use node_table::TryClone;
 use relation_terms::predicate::{ExistentialPredicate, PredicateKind};
 use relation_terms::terms::{
     Binder, BoundVariableKind, ClauseKey, ConstKey, ConstKind, GenericArgKind, OutOfMemory, PatKey,
@@ -52,8 +53,14 @@ pub fn copied<T: Copy>(alloc: Global, values: &[T]) -> Result<Vec<T>, OutOfMemor
     Ok(copies)
 }
 
+impl TryClone for Node {
+    fn try_clone(&self, alloc: Global) -> Result<Node, OutOfMemory> {
+        copied_node(alloc, self)
+    }
+}
+
 // The same node, in memory of its own.
-pub fn copied_node(alloc: Global, node: &Node) -> Result<Node, OutOfMemory>
+fn copied_node(alloc: Global, node: &Node) -> Result<Node, OutOfMemory>
     ensures { IfOk result (λ n. form_of n ≡ form_of node.now) }
 {
     match node {

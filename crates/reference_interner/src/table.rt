@@ -1,22 +1,19 @@
-//! The table of nodes: an empty one, how a node is found by its form, and how one is added.
+//! The nodes of an interner: how many there are, and how one is added.
 ghost use Rattle.std.specs.Prelude.{◌≡◌, ◌<◌, ◌≤◌, ◌↔◌, ◌⊎◌, ℕ, suc, [], ◌∷◌, ◌++◌, MatchOption};
 ghost use Rattle.std.specs.Prelude.{IsTrue, IfOk, IsOk, OnOk, OnErr};
 ghost use Rattle.relation_terms.specs.Trees.{known, nil};
 ghost use Rattle.relation_terms.specs.Meaning.{Extends};
 ghost use Rattle.relation_terms.specs.Interning.{KeepsClauses};
 ghost use Rattle.reference_interner.specs.Nodes.{entry_of, known_entry, table_meaning, StandsAt};
-ghost use Rattle.reference_interner.specs.Finding.{Lacks, HasAt};
+ghost use Rattle.node_table.specs.Finding.{Lacks};
 ghost use Rattle.reference_interner.specs.Places.{HasKey};
 ghost use Rattle.reference_interner.specs.Adding.{meaning_in, items_in, node_count, item_count};
 ghost use Rattle.reference_interner.specs.Empty.{KnowsNone};
 
-use crate::keys::next_number;
-use crate::node::copied_node;
 use crate::{Node, NodeKey, RefInterner};
+use node_table::NodeTable;
 use relation_terms::terms::{Interner, LocalDefIds, LocalDefIdsKey, OutOfMemory};
 use std::alloc::Global;
-use std::collections::HashMap;
-use std::hash::BuildHasherDefault;
 
 impl RefInterner {
     /// An interner that knows no key and has no item. This takes no memory.
@@ -27,8 +24,7 @@ impl RefInterner {
     {
         RefInterner {
             alloc,
-            nodes: Vec::new(alloc),
-            places: HashMap::with_hasher(alloc, BuildHasherDefault::new()),
+            nodes: NodeTable::new(alloc),
             items: Vec::new(alloc),
             flags: Vec::new(alloc),
             next_solver: false,
@@ -44,28 +40,21 @@ impl RefInterner {
         self.nodes.len()
     }
 
-    // Where a node of this one's form stands among the nodes.
-    fn place(&self, node: &Node) -> Option<u32>
-        ensures { MatchOption result (Lacks self.now.nodes.items node.now) (HasAt self.now.nodes.items node.now) }
-    {
-        self.places.get(node).copied()
-    }
-
     // The key of the node, which is put at the end where it is new.
     pub(super) fn add(&mut self, node: Node) -> Result<NodeKey, OutOfMemory>
-        requires { IsTrue (known_entry (entry_of (table_meaning (items_in self.old) self.old.nodes.items) node)) }
-        ensures number { let m = table_meaning (items_in self.old) self.old.nodes.items in
-            IfOk result (λ k. StandsAt self.new.nodes.items k.0 (entry_of m node)) }
-        ensures added { (self.new.nodes.items ≡ self.old.nodes.items) ⊎
-            (self.new.nodes.items ≡ self.old.nodes.items ++ node ∷ []) }
-        ensures refused { OnErr result (self.new.nodes.items ≡ self.old.nodes.items) }
-        ensures there { let m = table_meaning (items_in self.old) self.old.nodes.items in
-            (k : ℕ) → StandsAt self.old.nodes.items k (entry_of m node) →
-            IsOk result × (self.new.nodes.items ≡ self.old.nodes.items) }
+        requires { IsTrue (known_entry (entry_of (table_meaning (items_in self.old) self.old.nodes) node)) }
+        ensures number { let m = table_meaning (items_in self.old) self.old.nodes in
+            IfOk result (λ k. StandsAt self.new.nodes k.0 (entry_of m node)) }
+        ensures added { (self.new.nodes ≡ self.old.nodes) ⊎
+            (self.new.nodes ≡ self.old.nodes ++ node ∷ []) }
+        ensures refused { OnErr result (self.new.nodes ≡ self.old.nodes) }
+        ensures there { let m = table_meaning (items_in self.old) self.old.nodes in
+            (k : ℕ) → StandsAt self.old.nodes k (entry_of m node) →
+            IsOk result × (self.new.nodes ≡ self.old.nodes) }
         ensures items { items_in self.new ≡ items_in self.old }
         ensures one_more { node_count self.new ≤ suc (node_count self.old) }
     {
-        match self.place(&node) {
+        match self.nodes.place(&node) {
             Some(number) => Ok(NodeKey(number)),
             None => self.put(node),
         }
@@ -73,22 +62,18 @@ impl RefInterner {
 
     // The key of a node of a new form, which is put at the end. All growths come before anything is written.
     fn put(&mut self, node: Node) -> Result<NodeKey, OutOfMemory>
-        requires known { let m = table_meaning (items_in self.old) self.old.nodes.items in
+        requires known { let m = table_meaning (items_in self.old) self.old.nodes in
             IsTrue (known_entry (entry_of m node)) }
-        requires new { Lacks self.old.nodes.items node }
-        ensures number { let m = table_meaning (items_in self.old) self.old.nodes.items in
-            IfOk result (λ k. StandsAt self.new.nodes.items k.0 (entry_of m node)) }
-        ensures added { OnOk result (self.new.nodes.items ≡ self.old.nodes.items ++ node ∷ []) }
-        ensures refused { OnErr result (self.new.nodes.items ≡ self.old.nodes.items) }
+        requires new { Lacks ⟦<Node as PartialEq>⟧.eq self.old.nodes node }
+        ensures number { let m = table_meaning (items_in self.old) self.old.nodes in
+            IfOk result (λ k. StandsAt self.new.nodes k.0 (entry_of m node)) }
+        ensures added { OnOk result (self.new.nodes ≡ self.old.nodes ++ node ∷ []) }
+        ensures refused { OnErr result (self.new.nodes ≡ self.old.nodes) }
         ensures items { items_in self.new ≡ items_in self.old }
     {
-        let number = next_number(self.nodes.len())?;
         let flags = self.node_flags(&node);
-        let known = copied_node(self.alloc, &node)?;
-        self.nodes.reserve(1)?;
         self.flags.reserve(1)?;
-        self.places.insert(known, number)?;
-        self.nodes.push_reserved(node);
+        let number = self.nodes.put(node)?;
         self.flags.push_reserved(flags);
         Ok(NodeKey(number))
     }

@@ -12,17 +12,18 @@ use Rattle.relation_terms.specs.declared.predicate.trait_ref.TraitRef.{TraitRef}
 use Rattle.relation_terms.specs.declared.terms.binder.Binder.{Binder}
 use Rattle.relation_terms.specs.declared.terms.keys.ClauseKey.{ClauseKey}
 use Rattle.relation_terms.proofs.Stays.{stays_same, extends_on, knows_clause}
-use Rattle.relation_tools.proofs.Renaming.{renamings_are_one}
-use Rattle.relation_elaboration.specs.Statements.{statements}
-use Rattle.relation_elaboration.specs.Closure.{AreSame, AreDifferent}
-use Rattle.relation_elaboration.specs.Runs.{Closes, AreTooMany}
-use Rattle.relation_elaboration.specs.Pulling.{Elaboration, Pulls, RunsTo, ByClosure, standing, named, mode_of}
-use Rattle.relation_elaboration.specs.TraitClauses.{reference_of}
+use Rattle.anonymize.proofs.Renamings.{renamings_are_one}
+use Rattle.relation_statements.specs.Statements.{statements}
+use Rattle.relation_statements.specs.Closure.{AreSame, AreDifferent}
+use Rattle.relation_statements.specs.Runs.{Closes, AreTooMany}
+use Rattle.relation_statements.specs.Children.{mode_of}
+use Rattle.relation_elaboration.specs.Pulling.{Elaboration, Pulls, RunsTo, ByClosure, standing, named}
+use Rattle.relation_statements.specs.TraitClauses.{reference_of}
 use Rattle.relation_elaboration.specs.Finding.{PassesOver, FindsNext, FindsAll, TraitsByClosure}
-use Rattle.relation_elaboration.proofs.Members.{first_in, later_in, in_cases, map_both}
-use Rattle.relation_elaboration.proofs.Implying.{none_in}
-use Rattle.relation_elaboration.proofs.Growing.{states_stay, stays_bound}
-use Rattle.relation_elaboration.proofs.Closing.{anon_same}
+use Rattle.elaboration_worklist.proofs.Members.{first_in, later_in, in_cases, map_both}
+use Rattle.elaboration_worklist.proofs.Members.{none_in}
+use Rattle.relation_statements.proofs.Growing.{states_stay, stays_bound}
+use Rattle.relation_statements.proofs.Closing.{anon_same}
 
 module _ {I Key Id Name : Type 0} (meaning : I → Meaning Key Id Name) where
   abbrev State : Type 0

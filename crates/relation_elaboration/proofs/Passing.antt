@@ -8,8 +8,8 @@ use Rattle.relation_terms.specs.Owned.{bound_tree}
 use Rattle.relation_terms.specs.declared.predicate.trait_ref.TraitRef.{TraitRef}
 use Rattle.relation_terms.specs.declared.terms.binder.Binder.{Binder}
 use Rattle.relation_terms.specs.declared.terms.keys.ClauseKey.{ClauseKey}
-use Rattle.relation_elaboration.specs.declared.faults.ElabFault.{ElabFault}
-use Rattle.relation_elaboration.specs.TraitClauses.{reference_of}
+use Rattle.elaboration_worklist.specs.declared.faults.ElabFault.{ElabFault}
+use Rattle.relation_statements.specs.TraitClauses.{reference_of}
 use Rattle.relation_elaboration.specs.Finding.{PassesOver, Finds}
 
 module _ {Key Id Name I S : Type 0} (meaning : I → Meaning Key Id Name) (interner : S → I)

@@ -1,20 +1,21 @@
 -- What a pull does, by what it does to the worklist.
 use Rattle.std.proofs.Common.{◌≡◌, ◌∙◌, refl, sym, ap, subst, ℕ, IsTrue, List, [], ◌∷◌, ◌++◌, map, Option, Some, None}
 use Rattle.std.proofs.Common.{Result, Ok, Err, false, ◌<◌, length, append-nil, length-append, arith}
-use Rattle.std.proofs.lemmas.Bool.{false≢true}
 use Rattle.std.proofs.lemmas.List.Elements.{All-head, All-tail, All-cons, All-nil}
 use Rattle.std.specs.List.{All}
 use Rattle.relation_terms.specs.declared.terms.keys.PredicateKey.{PredicateKey}
 use Rattle.relation_terms.proofs.Stays.{stays_same}
 use Rattle.relation_terms.specs.Trees.{Tree, known}
 use Rattle.relation_terms.specs.Meaning.{Meaning}
-use Rattle.relation_elaboration.specs.declared.faults.ElabFault.{ElabFault}
-use Rattle.relation_elaboration.specs.declared.worklist.Worklist.{Worklist}
-use Rattle.relation_elaboration.specs.Children.{Mode, children}
-use Rattle.relation_elaboration.specs.Statements.{statements}
-use Rattle.relation_elaboration.specs.Runs.{Pushes, IsFull}
-use Rattle.relation_elaboration.specs.Pulling.{Elaboration, AreKept, Pushed, Faults, Pulls}
-use Rattle.relation_elaboration.proofs.Pushing.{map_push}
+use Rattle.elaboration_worklist.specs.declared.faults.ElabFault.{ElabFault}
+use Rattle.elaboration_worklist.specs.declared.worklist.Worklist.{Worklist}
+use Rattle.relation_statements.specs.Children.{Mode, children}
+use Rattle.relation_statements.specs.Statements.{statements}
+use Rattle.elaboration_worklist.specs.Pushes.{Pushes, IsFull}
+use Rattle.relation_elaboration.specs.Pulling.{Elaboration, Faults, Pulls}
+use Rattle.elaboration_worklist.specs.Kept.{AreKept, Pushed}
+use Rattle.elaboration_worklist.proofs.Pushing.{map_push}
+use Rattle.elaboration_worklist.proofs.Members.{none_left}
 
 -- The last member of a list, or else a given one.
 abbrev last_or : {A : Type 0} → A → List A → A
@@ -40,10 +41,6 @@ front_all P (y ∷ ys) x a =
 last_all : {A : Type 0} (P : A → Type 0) (xs : List A) (x : A) → All P (xs ++ x ∷ []) → P x
 last_all P [] x a = All-head P x [] a
 last_all P (y ∷ ys) x a = last_all P ys x (All-tail P y (ys ++ x ∷ []) a)
-
-pub none_left : {A : Type 0} (xs : List A) → (0 < length xs → IsTrue false) → xs ≡ []
-none_left [] h = refl
-none_left (x ∷ xs) h = absurd (false≢true (h (omega arith)))
 
 -- What is kept, once the last predicate was popped, or where there was none.
 module _ {Key Id Name O : Type 0} (tree : Meaning Key Id Name → O → Tree) (m : Meaning Key Id Name)

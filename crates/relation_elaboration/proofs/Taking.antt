@@ -5,15 +5,17 @@ use Rattle.relation_terms.specs.Trees.{Tree, known}
 use Rattle.relation_terms.specs.Meaning.{Meaning, Extends}
 use Rattle.relation_terms.specs.Owned.{StatesItsOwn}
 use Rattle.relation_terms.proofs.Stays.{stays_same}
-use Rattle.relation_elaboration.specs.declared.faults.ElabFault.{ElabFault}
-use Rattle.relation_elaboration.specs.declared.faults.ElabFault.TheVariants.{Limit}
-use Rattle.relation_elaboration.specs.declared.worklist.Worklist.{Worklist}
-use Rattle.relation_elaboration.specs.Children.{Mode}
-use Rattle.relation_elaboration.specs.Runs.{Pushes, IsFull, AreTooMany}
-use Rattle.relation_elaboration.specs.Pulling.{Elaboration, Pushed, Keeps, Takes, HasNoRoom, BeginsWith, BeginsClosure}
-use Rattle.relation_elaboration.specs.Pulling.{standing, named, mode_of}
-use Rattle.relation_tools.proofs.Renaming.{renamings_are_one}
-use Rattle.relation_elaboration.proofs.Closing.{too_many}
+use Rattle.elaboration_worklist.specs.declared.faults.ElabFault.{ElabFault}
+use Rattle.elaboration_worklist.specs.declared.faults.ElabFault.TheVariants.{Limit}
+use Rattle.elaboration_worklist.specs.declared.worklist.Worklist.{Worklist}
+use Rattle.relation_statements.specs.Children.{Mode, mode_of}
+use Rattle.elaboration_worklist.specs.Pushes.{Pushes, IsFull}
+use Rattle.relation_statements.specs.Runs.{AreTooMany}
+use Rattle.relation_elaboration.specs.Pulling.{Elaboration, Keeps, Takes, HasNoRoom, BeginsWith, BeginsClosure}
+use Rattle.elaboration_worklist.specs.Kept.{Pushed}
+use Rattle.relation_elaboration.specs.Pulling.{standing, named}
+use Rattle.anonymize.proofs.Renamings.{renamings_are_one}
+use Rattle.relation_statements.proofs.Closing.{too_many}
 use Rattle.relation_elaboration.proofs.Pulled.{standing_by}
 use Rattle.relation_elaboration.proofs.Yielding.{closes_from}
 

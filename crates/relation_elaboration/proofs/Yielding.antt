@@ -4,12 +4,13 @@ use Rattle.relation_terms.specs.Trees.{Tree, known}
 use Rattle.relation_terms.specs.Meaning.{Meaning, Extends}
 use Rattle.relation_terms.specs.Owned.{StatesItsOwn}
 use Rattle.relation_terms.proofs.Stays.{stays_same, extends_on}
-use Rattle.relation_tools.proofs.Renaming.{renamings_are_one}
-use Rattle.relation_elaboration.specs.Statements.{statements}
-use Rattle.relation_elaboration.specs.Runs.{Pushes, Yields, Runs}
+use Rattle.anonymize.proofs.Renamings.{renamings_are_one}
+use Rattle.relation_statements.specs.Statements.{statements}
+use Rattle.elaboration_worklist.specs.Pushes.{Pushes}
+use Rattle.relation_statements.specs.Runs.{Yields, Runs}
 use Rattle.relation_elaboration.specs.Pulling.{Elaboration, standing, named, RunsTo, ByClosure}
-use Rattle.relation_elaboration.proofs.Growing.{states_stay, states_within}
-use Rattle.relation_elaboration.proofs.Closing.{runs_close}
+use Rattle.relation_statements.proofs.Growing.{states_stay, states_within}
+use Rattle.relation_statements.proofs.Closing.{runs_close}
 
 module _ {I Key Id Name O : Type 0} (meaning : I → Meaning Key Id Name) (tree : Meaning Key Id Name → O → Tree)
     (stays : (m n : Meaning Key Id Name) → Extends m n → (o : O) → IsTrue (known (tree m o)) → tree n o ≡ tree m o)

@@ -9,12 +9,12 @@ use Rattle.relation_terms.specs.Conversions.{trait_clause_tree}
 use Rattle.relation_terms.specs.declared.predicate.trait_ref.TraitRef.{TraitRef}
 use Rattle.relation_terms.specs.declared.terms.binder.Binder.{Binder}
 use Rattle.relation_terms.specs.declared.terms.keys.ClauseKey.{ClauseKey}
-use Rattle.relation_elaboration.specs.declared.faults.ElabFault.{ElabFault}
-use Rattle.relation_elaboration.specs.Children.{Statements}
-use Rattle.relation_elaboration.specs.Statements.{statements}
-use Rattle.relation_elaboration.specs.Runs.{Standing, Closes}
-use Rattle.relation_elaboration.specs.Pulling.{Elaboration, Pulls, standing, named, mode_of}
-use Rattle.relation_elaboration.specs.TraitClauses.{reference_of}
+use Rattle.elaboration_worklist.specs.declared.faults.ElabFault.{ElabFault}
+use Rattle.relation_statements.specs.Children.{Statements, mode_of}
+use Rattle.relation_statements.specs.Statements.{statements}
+use Rattle.relation_statements.specs.Runs.{Standing, Closes}
+use Rattle.relation_elaboration.specs.Pulling.{Elaboration, Pulls, standing, named}
+use Rattle.relation_statements.specs.TraitClauses.{reference_of}
 
 -- By the interner that a source has, and by what its calls may give.
 module _ {Key Id Name I S : Type 0} (meaning : I → Meaning Key Id Name) (interner : S → I)

@@ -1,10 +1,2 @@
-pub mod Stated
-pub mod Children
-pub mod Statements
-pub mod Closure
-pub mod Laws
-pub mod Runs
 pub mod Pulling
-pub mod TraitClauses
 pub mod Finding
-pub mod Reach

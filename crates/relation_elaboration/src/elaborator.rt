@@ -6,15 +6,15 @@ ghost use Rattle.std.specs.Iterator.SizeHint.{IsWithinCount};
 ghost use Rattle.std.specs.List.{All};
 ghost use Rattle.relation_terms.specs.Trees.{known};
 ghost use Rattle.relation_terms.specs.Meaning.{Extends};
-ghost use Rattle.relation_elaboration.specs.declared.faults.ElabFault.TheVariants.{Limit};
-ghost use Rattle.relation_elaboration.specs.Runs.{AreTooMany};
-ghost use Rattle.relation_elaboration.specs.Pulling.{mode_of, IsKept, Pushed, Pulls, Keeps, Takes};
+ghost use Rattle.elaboration_worklist.specs.declared.faults.ElabFault.TheVariants.{Limit};
+ghost use Rattle.relation_statements.specs.Runs.{AreTooMany};
+ghost use Rattle.relation_statements.specs.Children.{mode_of};
+ghost use Rattle.elaboration_worklist.specs.Kept.{IsKept, Pushed};
+ghost use Rattle.relation_elaboration.specs.Pulling.{Pulls, Keeps, Takes};
 ghost use Rattle.relation_elaboration.specs.Pulling.{HasNoRoom, BeginsWith, ByClosure, BeginsClosure};
 
-use crate::children::push_children;
-use crate::elaboratable::Elaboratable;
-use crate::faults::ElabFault;
-use crate::worklist::{Worklist, WorklistOf, push_new};
+use elaboration_worklist::{ElabFault, Elaboratable, Worklist, WorklistOf, push_new};
+use relation_statements::push_children;
 use relation_terms::terms::Interner;
 use std::collections::HashSet;
 use std::marker::Model;
@@ -35,7 +35,9 @@ pub struct Elaborator<'a, I: Interner, O: Elaboratable<I>> {
 }
 
 impl<'a, I: Interner, O: Elaboratable<I>> Model for Elaborator<'a, I, O> {
-    ghost use Rattle.relation_elaboration.specs.Pulling.{Elaboration, IsKept, mode_of};
+    ghost use Rattle.relation_statements.specs.Children.{mode_of};
+    ghost use Rattle.relation_elaboration.specs.Pulling.{Elaboration};
+    ghost use Rattle.elaboration_worklist.specs.Kept.{IsKept};
 
     ghost Value = { Elaboration I O I.Key I.Name };
 

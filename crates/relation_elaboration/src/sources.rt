@@ -6,12 +6,12 @@ ghost use Rattle.relation_terms.specs.Trees.{known};
 ghost use Rattle.relation_terms.specs.Meaning.{Extends};
 ghost use Rattle.relation_terms.specs.Owned.{bound_tree};
 ghost use Rattle.relation_terms.specs.declared.terms.keys.ClauseKey.{ClauseKey};
-ghost use Rattle.relation_elaboration.specs.declared.faults.ElabFault.TheVariants.{Limit};
+ghost use Rattle.elaboration_worklist.specs.declared.faults.ElabFault.TheVariants.{Limit};
 ghost use Rattle.relation_elaboration.specs.Finding.{BeginsInItself, KnowsWhatComes, TraitsByClosure};
 
 use crate::elaborator::{Elaborator, elaborate};
-use crate::faults::ElabFault;
-use crate::trait_clauses::trait_reference;
+use elaboration_worklist::ElabFault;
+use relation_statements::trait_reference;
 use relation_terms::predicate::{TraitRef, clause_of_trait_ref};
 use relation_terms::terms::{Binder, Clause, ClauseKey, Interner};
 use std::marker::{Model, PhantomData};

@@ -17,7 +17,7 @@ use Rattle.relation_laws.specs.declared.decided.SmallSort.TheVariants as sort
 use Rattle.relation_laws.specs.declared.decided.SmallParts.{SmallParts, End, Next'}
 use Rattle.relation_laws.specs.Decided.{Leads, plain_leaf, pair_of, outlives_by, leaf_of, head_of, sort_meant, all_declare, small_parts}
 use Rattle.relation_semantics.specs.Errors.{outer_leaf}
-use Rattle.type_relations.proofs.RegionTerms.{outer_related}
+use Rattle.context_relation.proofs.RegionTerms.{outer_related}
 use Rattle.relation_semantics.proofs.Related.{rigid_rule, neither, neither_of, no_region_head, forms_inverted}
 use Rattle.relation_terms.proofs.Paths.{leaf_path}
 

@@ -8,8 +8,8 @@ use Rattle.relation_terms.specs.Heads.{Shape, one, row, term_of, binder_of, head
 use Rattle.relation_terms.specs.Heads.{variable, bound, placeholder, atom, unknown}
 use Rattle.relation_terms.specs.Trees.{Tree, leaf, node, bind, nil, cons, IsTerm, Fits, Leaves, inst, put as put_at}
 use Rattle.relation_terms.specs.Trees.{tree_at}
-use Rattle.relation_tools.specs.Instances.{Instance, put, kept_node, kept_bind, kept_nil, kept_cons, IsNoVariable}
-use Rattle.relation_tools.proofs.Themselves.{stands_itself, terms_are_instances}
+use Rattle.fast_reject.specs.Instances.{Instance, put, kept_node, kept_bind, kept_nil, kept_cons, IsNoVariable}
+use Rattle.fast_reject.proofs.Themselves.{stands_itself, terms_are_instances}
 use Rattle.relation_semantics.specs.Relation.{IsValue, IsValueLeaf, FitKinds}
 use Rattle.relation_semantics.specs.Binders.{variable_kind}
 use Rattle.relation_semantics.specs.Bound.{IsBoundAs, AreBoundAs}

@@ -7,10 +7,10 @@ use Rattle.relation_terms.specs.Heads.{placeholder, atom, unknown}
 use Rattle.relation_terms.specs.Trees.{Tree, leaf, node, bind, nil, cons, Assign, apply, Leaves}
 use Rattle.relation_terms.specs.Erasure.{erase}
 use Rattle.relation_folds.specs.Clashes.{flexible}
-use Rattle.relation_tools.specs.Instances.{Instance, put, kept_leaf, kept_node, kept_nil, kept_cons}
-use Rattle.relation_tools.specs.Instances.{IsNoVariable}
+use Rattle.fast_reject.specs.Instances.{Instance, put, kept_leaf, kept_node, kept_nil, kept_cons}
+use Rattle.fast_reject.specs.Instances.{IsNoVariable}
 use Rattle.relation_laws.proofs.OpenedInstances.{no_variable}
-use Rattle.relation_tools.proofs.Rejecting.{clashes_are_apart}
+use Rattle.fast_reject.proofs.Rejecting.{clashes_are_apart}
 use Rattle.relation_semantics.specs.Relation.{IsValueLeaf}
 use Rattle.relation_semantics.specs.Stores.{Store, MayStandFor, IsIntegerTerm, IsFloatTerm, IsAssignment, IsMadeLeaf}
 use Rattle.relation_semantics.specs.Stores.{InContext, IsTermIn}

@@ -11,7 +11,7 @@ use Rattle.term_enums.specs.declared.UintTy.TheVariants.{U8}
 use Rattle.term_enums.specs.declared.PredicatePolarity.{PredicatePolarity}
 use Rattle.term_enums.specs.Variances.{xform}
 use Rattle.relation_semantics.specs.Relation.{Items, Interpretation, parts, second_opened, first_opened, Rel, at, same, anything, regions, atoms, forms, no_parts, next_part, covariant_binders, open_second, open_first, Outlives, itself, sort_of, RegionRule, IsRelatedHead, plain_atom, error_left, error_right, alias_types, equal_consts, contravariant_binders, invariant_binders, Avoids}
-use Rattle.type_relations.specs.SmallTerms.{u8, bool, static, named, ref_to, value_of, fn_of, a_region, bound_region, region_placeholder, IsReflexive, AnythingAtBivariance, ErrorsAreRelated, ParametersByIndex, ValuesByTheirTrees, ReferencesByRegions, MutablePointeesAreFixed, InputsTurnRound, BivariantArguments, UnlikeHeadsAreUnrelated, UnlikeAtomsAreUnrelated, AtomsAreNoForms, FormsByParts, IsPredicateSort, PredicatesWithThemselvesAlone, AnyIsStatic, StaticIsNotAny, PlaceholderIsNotAny, OneRegionIsNotTwo, AnyIsNotInvariantlyStatic}
+use Rattle.relation_laws.specs.SmallTerms.{u8, bool, static, named, ref_to, value_of, fn_of, a_region, bound_region, region_placeholder, IsReflexive, AnythingAtBivariance, ErrorsAreRelated, ParametersByIndex, ValuesByTheirTrees, ReferencesByRegions, MutablePointeesAreFixed, InputsTurnRound, BivariantArguments, UnlikeHeadsAreUnrelated, UnlikeAtomsAreUnrelated, AtomsAreNoForms, FormsByParts, IsPredicateSort, PredicatesWithThemselvesAlone, AnyIsStatic, StaticIsNotAny, PlaceholderIsNotAny, OneRegionIsNotTwo, AnyIsNotInvariantlyStatic}
 use Rattle.relation_terms.proofs.Members.{region_only}
 use Rattle.relation_semantics.proofs.Related.{region_of, heads_inverted, forms_inverted, others_inverted, atoms_inverted, covariant_opened, invariant_opened, no_form_left, no_form_right}
 

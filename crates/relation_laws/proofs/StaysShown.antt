@@ -6,8 +6,8 @@ use Rattle.relation_terms.specs.Meaning.{Meaning, Extends as Grows}
 use Rattle.relation_semantics.specs.Stores.{IsTermIn}
 use Rattle.relation_semantics.specs.Bound.{BindByLists}
 use Rattle.relation_semantics.specs.Contexts.{Context}
-use Rattle.type_relations.specs.Arguments.{related_tree}
-use Rattle.type_relations.proofs.Relatable.{tree_known}
+use Rattle.relation_steps.specs.Arguments.{related_tree}
+use Rattle.relation_recursion.proofs.RelatableValues.{tree_known}
 use Rattle.relation_semantics.proofs.Standing.{later_term}
 use Rattle.relation_laws.specs.SolutionLaws.{TermStays}
 

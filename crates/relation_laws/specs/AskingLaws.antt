@@ -10,7 +10,7 @@ use Rattle.relation_semantics.specs.Asking.{Wanted, a_constraint, a_goal, IsTriv
 use Rattle.relation_semantics.specs.Asking.{AsksFor, PartsAsk, HasNoAlias}
 use Rattle.relation_semantics.specs.Lawful.{State, Pair, RecordsJust, items_in}
 use Rattle.relation_semantics.specs.Recording.{AreBare, FrontAsks, IsJustAsked}
-use Rattle.type_relations.specs.Completing.{AskedHolds}
+use Rattle.context_relation.specs.Completing.{AskedHolds}
 
 -- Nothing is asked for at bivariance.
 abbrev pub NothingAtBivariance : Type 0

@@ -3,3 +3,4 @@ pub mod Decided
 pub mod SolutionLaws
 pub mod OpenedInstances
 pub mod AskingLaws
+pub mod SmallTerms

@@ -2,7 +2,7 @@
 use Rattle.std.specs.Prelude.{◌≡◌, ℕ, Bool, true, List}
 use Rattle.relation_terms.specs.Heads.{BoundKind, Shape, bound}
 use Rattle.relation_terms.specs.Trees.{Tree, leaf, inst, Fits, Leaves}
-use Rattle.relation_tools.specs.Instances.{Instance, IsNoVariable}
+use Rattle.fast_reject.specs.Instances.{Instance, IsNoVariable}
 use Rattle.relation_semantics.specs.Relation.{FitKinds}
 use Rattle.relation_semantics.specs.Bound.{AreBoundAs}
 

@@ -2,7 +2,7 @@
 use Rattle.std.specs.Prelude.{ℕ, false}
 use Rattle.relation_terms.specs.Trees.{Tree, Assign}
 use Rattle.relation_folds.specs.Clashes.{Clash}
-use Rattle.relation_tools.specs.Instances.{AgreeOnNames}
+use Rattle.fast_reject.specs.Instances.{AgreeOnNames}
 use Rattle.relation_semantics.specs.Stores.{Store, IsTermIn, IsAssignment, IsSound}
 use Rattle.relation_semantics.specs.FirstOrder.{IsFirstOrder, Unifies}
 use Rattle.relation_semantics.specs.Outcomes.{Exact}

@@ -9,7 +9,7 @@ use Rattle.relation_semantics.specs.Stores.{MeetsBindings, IsSound, resolved}
 use Rattle.relation_semantics.specs.Steps.{IsLater, MakesVariable, HasExtension}
 use Rattle.relation_semantics.specs.FirstOrder.{IsErasedSolution}
 use Rattle.relation_semantics.specs.Contexts.{Context}
-use Rattle.type_relations.specs.Relating.{term_in, KnowsTerm, TakesTerm, HasTerm}
+use Rattle.context_relation.specs.Relating.{term_in, KnowsTerm, TakesTerm, HasTerm}
 
 -- A value for each variable, which names what the variable's universe can.
 abbrev pub GivesValues : Store → Assign → Type 0

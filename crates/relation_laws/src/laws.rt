@@ -1,12 +1,13 @@
 //! Laws of the definitions that relating is said in. Each function does nothing, and its contract is the law.
 
-ghost use Rattle.type_relations.specs.SmallTerms.{IsReflexive, AnythingAtBivariance, ErrorsAreRelated};
-ghost use Rattle.type_relations.specs.SmallTerms.{ParametersByIndex, ValuesByTheirTrees, ConstantsAtEachVariance};
-ghost use Rattle.type_relations.specs.SmallTerms.{ReferencesByRegions, MutablePointeesAreFixed, InputsTurnRound};
-ghost use Rattle.type_relations.specs.SmallTerms.{BivariantArguments, UnlikeHeadsAreUnrelated, UnlikeAtomsAreUnrelated};
-ghost use Rattle.type_relations.specs.SmallTerms.{AtomsAreNoForms, FormsByParts, PredicatesWithThemselvesAlone};
-ghost use Rattle.type_relations.specs.SmallTerms.{AnyIsStatic, StaticIsNotAny, PlaceholderIsNotAny, OneRegionIsNotTwo};
-ghost use Rattle.type_relations.specs.SmallTerms.{AnyIsNotInvariantlyStatic};
+ghost use Rattle.relation_laws.specs.SmallTerms.{IsReflexive, AnythingAtBivariance, ErrorsAreRelated};
+ghost use Rattle.relation_laws.specs.SmallTerms.{ParametersByIndex, ValuesByTheirTrees};
+ghost use Rattle.relation_combining.specs.ConstantLaws.{ConstantsAtEachVariance};
+ghost use Rattle.relation_laws.specs.SmallTerms.{ReferencesByRegions, MutablePointeesAreFixed, InputsTurnRound};
+ghost use Rattle.relation_laws.specs.SmallTerms.{BivariantArguments, UnlikeHeadsAreUnrelated, UnlikeAtomsAreUnrelated};
+ghost use Rattle.relation_laws.specs.SmallTerms.{AtomsAreNoForms, FormsByParts, PredicatesWithThemselvesAlone};
+ghost use Rattle.relation_laws.specs.SmallTerms.{AnyIsStatic, StaticIsNotAny, PlaceholderIsNotAny, OneRegionIsNotTwo};
+ghost use Rattle.relation_laws.specs.SmallTerms.{AnyIsNotInvariantlyStatic};
 ghost use Rattle.relation_semantics.specs.StepLaws.{AssigningTwice, InstantiatingAssigns, OccursCheck, CyclesDoNotUnify};
 ghost use Rattle.relation_semantics.specs.StepLaws.{ValuesAreNamable, RelatesLater, RelatesUnderMore, PartsCompose};
 ghost use Rattle.relation_semantics.specs.StepLaws.{NoPartsRelate, FormsRelate, StepsCompose, InstantiatingSteps};
@@ -26,20 +27,21 @@ ghost use Rattle.relation_semantics.specs.StoreLaws.{ResolvedResolves, MakingOne
 ghost use Rattle.relation_semantics.specs.OpeningLaws.{MakingEachMakes, InstantiatingEachOpens, EnteredBodyIsIn};
 ghost use Rattle.relation_semantics.specs.OpeningLaws.{InstantiatedBodyIsIn, EnteredBodyBinds, InstantiatedBodyBinds};
 ghost use Rattle.relation_semantics.specs.Stores.{BindingsAreMet};
-ghost use Rattle.type_relations.specs.UniverseLaws.{RootsAreBoundOrNot, EquatingKeepsUniverse, ReadingKeepsUniverse};
-ghost use Rattle.type_relations.specs.UniverseLaws.{GeneralisingKeepsUniverse};
+ghost use Rattle.relation_combining.specs.UniverseLaws.{RootsAreBoundOrNot, EquatingKeepsUniverse, ReadingKeepsUniverse};
+ghost use Rattle.relation_combining.specs.UniverseLaws.{GeneralisingKeepsUniverse};
 ghost use Rattle.relation_laws.specs.RejectionLaws.{ClashesDoNotUnify, ClashesAreNotRelated};
 ghost use Rattle.relation_laws.specs.SolutionLaws.{FreeValues, MadeIsUnconstrainedErased, TermStays};
 ghost use Rattle.relation_laws.specs.OpenedInstances.{OpenedIsInstance};
 ghost use Rattle.relation_laws.specs.AskingLaws.{NothingAtBivariance, ItselfIsTrivial, NoGoalWithoutAlias};
 ghost use Rattle.relation_laws.specs.AskingLaws.{RegionsAskOne, FormsAskByParts, FrontRecordsOn, PartsRecord};
 ghost use Rattle.relation_laws.specs.AskingLaws.{RememberedRecords, AddsWhatIsAsked, SomeInterpretation};
-ghost use Rattle.type_relations.specs.RegionTerms.{RelatedTermsAgree, RelatedIffAgree};
-ghost use Rattle.type_relations.specs.Completing.{ErrorsDisagree, ErrorsAreUnrelated, AgreeingAreRelated};
+ghost use Rattle.context_relation.specs.RegionTerms.{RelatedTermsAgree, RelatedIffAgree};
+ghost use Rattle.context_relation.specs.Completing.{ErrorsDisagree, ErrorsAreUnrelated, AgreeingAreRelated};
 
+use relation_recursion::relatable::Relate;
 use relation_semantics::infer_ctxt::InferCtxtLike;
+use relation_steps::type_relation::HasState;
 use relation_terms::terms::Interner;
-use type_relations::relate::{HasState, Relate};
 
 /// What holds of all terms, and of errors, parameters and constants.
 pub fn all_terms()

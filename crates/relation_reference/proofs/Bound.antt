@@ -11,8 +11,8 @@ use Rattle.relation_semantics.specs.Bound.{AreBoundAs, BindByLists}
 use Rattle.relation_semantics.specs.ContextCalls.{BindingsBindByLists}
 use Rattle.relation_semantics.proofs.StoreCalls.{resolve_within}
 use Rattle.relation_semantics.proofs.Resolved.{resolve_free, resolve_bound, HasTerm, is_free, is_bound, has_term}
-use Rattle.relation_reference.specs.declared.context.inner.InferCtxtInner.{InferCtxtInner}
-use Rattle.relation_reference.specs.Tables.{store_of, IsLawful, bindings_by_lists}
+use Rattle.variable_tables.specs.declared.inner.InferCtxtInner.{InferCtxtInner}
+use Rattle.variable_tables.specs.Tables.{store_of, IsLawful, bindings_by_lists}
 
 -- A binder further out than `d` steps binds nothing in what stays within them, and so binds by any list there.
 within_bound : (ks : List BoundKind) (d e : ℕ) (t : Tree) → StaysWithin d t → d ≤ e → AreBoundAs ks e t

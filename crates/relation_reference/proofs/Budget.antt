@@ -7,8 +7,8 @@ use Rattle.relation_semantics.specs.Stores.{Store, IsFree, IsInScope, IsSound, r
 use Rattle.relation_semantics.proofs.Trees.{Leaves_map}
 use Rattle.relation_semantics.proofs.Resolved.{resolved_same}
 use Rattle.relation_semantics.proofs.Standing.{later_term, later_constraint}
-use Rattle.relation_reference.specs.declared.context.inner.InferCtxtInner.{InferCtxtInner}
-use Rattle.relation_reference.specs.Tables.{store_of, IsLawful}
+use Rattle.variable_tables.specs.declared.inner.InferCtxtInner.{InferCtxtInner}
+use Rattle.variable_tables.specs.Tables.{store_of, IsLawful}
 
 module _ (st : Store) (b : ℕ) where
   abbrev after : Store

@@ -10,7 +10,7 @@ use Rattle.relation_semantics.specs.Steps.{Equates, InstantiatesNumber, MakesVar
 use Rattle.relation_semantics.specs.Stores.{Constraint}
 use Rattle.relation_semantics.proofs.ReadAs.{read_resolves}
 use Rattle.relation_reference.specs.declared.context.variables.RefCtxt.{RefCtxt}
-use Rattle.relation_reference.specs.Tables.{store_of, context_of, IsLawful}
+use Rattle.variable_tables.specs.Tables.{store_of, context_of, IsLawful}
 use Rattle.relation_reference.specs.RefCtxt.{store_in, context_in}
 
 module _ {I Key Id Name Span : Type 0} (meaning : I → Meaning Key Id Name) (p : RefCtxt I Key Id Name Span) where

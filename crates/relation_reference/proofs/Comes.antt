@@ -4,10 +4,10 @@ use Rattle.relation_terms.specs.Trees.{Tree, known}
 use Rattle.relation_terms.specs.Meaning.{Meaning, Extends}
 use Rattle.relation_semantics.specs.ContextCalls.{Grows, ComesTo, KeepsMarks}
 use Rattle.relation_reference.specs.declared.context.variables.RefCtxt.{RefCtxt}
-use Rattle.relation_reference.specs.SubRoots.{root_in}
-use Rattle.relation_reference.specs.Tables.{setup_in, store_of, IsLawful}
+use Rattle.variable_tables.specs.SubRoots.{root_in}
+use Rattle.variable_tables.specs.Tables.{setup_in, store_of, IsLawful}
 use Rattle.relation_reference.specs.RefCtxt.{store_in, context_in, resolved_in}
-use Rattle.relation_reference.proofs.Grows.{store_grows, lawful_grows}
+use Rattle.variable_tables.proofs.Grows.{store_grows, lawful_grows}
 
 -- The tables are what they were, and the interner has grown.
 module _ {I Key Id Name Span : Type 0} (meaning : I → Meaning Key Id Name) (p q : RefCtxt I Key Id Name Span)

@@ -22,13 +22,13 @@ use Rattle.relation_folds.specs.Folds.{asks, folded}
 use Rattle.relation_semantics.specs.Stores.{Store, IsMade, InContext, entry_of, entry_term, unbound}
 use Rattle.relation_folds.proofs.Folding.{put_none}
 use Rattle.relation_semantics.proofs.Resolved.{resolved_free}
-use Rattle.relation_reference.specs.declared.context.inner.InferCtxtInner.{InferCtxtInner}
-use Rattle.relation_reference.specs.declared.context.inner.Variable.{Variable}
-use Rattle.relation_reference.specs.Variables.{entries_of}
-use Rattle.relation_reference.specs.Tables.{IsLawful}
+use Rattle.variable_tables.specs.declared.inner.InferCtxtInner.{InferCtxtInner}
+use Rattle.variable_tables.specs.declared.inner.Variable.{Variable}
+use Rattle.variable_tables.specs.Variables.{entries_of}
+use Rattle.variable_tables.specs.Tables.{IsLawful}
 use Rattle.relation_reference.specs.Remembering.{resolved_by}
 use Rattle.relation_reference.specs.Resolvers.{variable_value, StaysLawful}
-use Rattle.relation_reference.proofs.Grows.{store_grows, lawful_grows}
+use Rattle.variable_tables.proofs.Grows.{store_grows, lawful_grows}
 use Rattle.relation_reference.proofs.Making.{entries_long}
 
 -- So the fold makes of a tree what the tree comes to.

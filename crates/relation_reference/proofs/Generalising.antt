@@ -31,10 +31,11 @@ use Rattle.relation_semantics.proofs.GeneralisingOnce.{still_new, stops_no_clear
 use Rattle.relation_semantics.proofs.GeneralisingParts.{PartsDone, none_done, one_done, form_done, body_done}
 use Rattle.relation_semantics.proofs.Lists.{firsts, firsts_all, snoc}
 use Rattle.relation_reference.specs.declared.context.generalising.MetKey.{MetKey}
-use Rattle.relation_reference.specs.declared.context.generalising.Fate.TheVariants.{ByParts}
+use Rattle.occurs_check.specs.declared.fates.Fate.TheVariants.{ByParts}
 use Rattle.relation_reference.specs.declared.context.variables.RefCtxt.{RefCtxt}
-use Rattle.relation_reference.specs.Tables.{store_of}
-use Rattle.relation_reference.specs.Generalises.{side_of, parts_side, met_at, IsClearInside, MayGoInto, AliasGivesWay, IsFate, IsSure, Keeps, HasCome, Becomes, StopsAlways, BecomesAlways, GeneralisesTo, Generalises, IsGeneralisedFor}
+use Rattle.variable_tables.specs.Tables.{store_of}
+use Rattle.relation_reference.specs.Generalises.{side_of, parts_side, met_at, IsClearInside, MayGoInto, AliasGivesWay, IsSure, Keeps, HasCome, Becomes, StopsAlways, BecomesAlways, GeneralisesTo, Generalises, IsGeneralisedFor}
+use Rattle.occurs_check.specs.Fates.{IsFate}
 use Rattle.relation_reference.proofs.Resolving.{context_part}
 use Rattle.relation_reference.proofs.Recalling.{sure_grows, keeps_none, keeps_grows}
 use Rattle.relation_semantics.proofs.BindingGeneralised.{clear_stays, clear_gives}

@@ -26,16 +26,16 @@ use Rattle.relation_semantics.proofs.Standing.{term_context, term_within}
 use Rattle.relation_semantics.proofs.StoreCalls.{resolved_in}
 use Rattle.relation_semantics.proofs.Variables.{const_is_formed}
 use Rattle.relation_semantics.proofs.BindingGeneralised.{generalising_instantiates}
-use Rattle.relation_reference.specs.declared.context.inner.InferCtxtInner.{InferCtxtInner}
-use Rattle.relation_reference.specs.declared.context.inner.Variable.{Variable}
-use Rattle.relation_reference.specs.Variables.{universe_at}
-use Rattle.relation_reference.specs.Tables.{store_of, context_of, keys_in, MayBeBoundTo, IsLawful}
+use Rattle.variable_tables.specs.declared.inner.InferCtxtInner.{InferCtxtInner}
+use Rattle.variable_tables.specs.declared.inner.Variable.{Variable}
+use Rattle.variable_tables.specs.Variables.{universe_at}
+use Rattle.variable_tables.specs.Tables.{store_of, context_of, keys_in, MayBeBoundTo, IsLawful}
 use Rattle.relation_reference.specs.Generalises.{GivenError, IsGeneralisedFor}
-use Rattle.relation_reference.proofs.Beside.{Beside}
+use Rattle.variable_tables.proofs.Beside.{Beside}
 use Rattle.relation_reference.proofs.Bound.{comes_by_lists}
 use Rattle.relation_reference.proofs.Generalising.{generalised_by_lists, generalised_within, none_met}
-use Rattle.relation_reference.proofs.Grows.{store_grows, lawful_grows}
-use Rattle.relation_reference.proofs.Writing.{bind_binds, bind_lawful}
+use Rattle.variable_tables.proofs.Grows.{store_grows, lawful_grows}
+use Rattle.variable_tables.proofs.Writing.{bind_binds, bind_lawful}
 use Rattle.relation_semantics.proofs.Answering.{items_stay}
 
 -- Only a variable of a constant becomes one.

@@ -1,7 +1,8 @@
 -- New variables, new constraints, and growths that were refused.
-use Rattle.std.proofs.Common.{◌≡◌, ℕ, zero, suc, ◌+◌, ◌<◌, ◌≤◌, refl, sym, ap, ap₂, ◌∙◌, arith, subst, List, [], ◌∷◌, ◌++◌, length, map, get_or, length-append, Bool}
+use Rattle.std.proofs.Common.{◌≡◌, ℕ, zero, suc, ◌+◌, ◌<◌, ◌≤◌, refl, sym, ap, ap₂, ◌∙◌, arith, subst, List, [], ◌∷◌, ◌++◌, length, map, get_or, length-append, Bool, Option, Some}
 use Rattle.std.proofs.lemmas.List.{map-append, length-map, get_or_append_left}
 use Rattle.std.proofs.Math.Seq.{get_or-append_seam}
+use Rattle.std.proofs.lemmas.Option.{same_Some}
 use native.Mathlib.Decide.{ℕ_discrete}
 use Rattle.std.specs.Global.{Vec}
 use Rattle.relation_terms.specs.Heads.{VarKind, VarKind_discrete, type_var, int_var, float_var, const_var, region_var, variable}
@@ -17,16 +18,16 @@ use Rattle.relation_semantics.proofs.Going.{goes_nowhere}
 use Rattle.relation_terms.specs.declared.terms.keys.TyKey.{TyKey}
 use Rattle.relation_terms.specs.declared.terms.keys.ConstKey.{ConstKey}
 use Rattle.relation_terms.specs.declared.terms.keys.RegionKey.{RegionKey}
-use Rattle.relation_reference.specs.declared.context.inner.VariableValue.TheVariants.{Unknown}
-use Rattle.relation_reference.specs.declared.context.inner.Variable.{Variable}
-use Rattle.relation_reference.specs.declared.context.inner.InferCtxtInner.{InferCtxtInner}
-use Rattle.relation_reference.specs.Variables.{keys_of, values_of, universes_of, entry_of_value, entries_of, trees_of}
-use Rattle.relation_reference.specs.Tables.{by_kind, store_of, keys_in, IsRooted, IsFilled, IsLawful}
+use Rattle.variable_tables.specs.declared.inner.VariableValue.TheVariants.{Unknown}
+use Rattle.variable_tables.specs.declared.inner.Variable.{Variable}
+use Rattle.variable_tables.specs.declared.inner.InferCtxtInner.{InferCtxtInner}
+use Rattle.variable_tables.specs.Variables.{keys_of, values_of, universes_of, entry_of_value, entries_of, trees_of}
+use Rattle.variable_tables.specs.Tables.{by_kind, store_of, keys_in, IsRooted, IsFilled, IsLawful}
 use Rattle.relation_semantics.specs.Generalising.{NumbersNameNothing}
 use Rattle.relation_semantics.specs.Constraints.{constraint_of}
-use Rattle.relation_reference.proofs.Grows.{store_grows, lawful_grows}
-use Rattle.relation_reference.proofs.SubRoots.{roots_same}
-use Rattle.relation_reference.proofs.Beside.{Beside, types_beside, ints_beside, floats_beside, consts_beside, regions_beside, lawful_beside, keyed_still}
+use Rattle.variable_tables.proofs.Grows.{store_grows, lawful_grows}
+use Rattle.variable_tables.proofs.SubRoots.{roots_same}
+use Rattle.variable_tables.proofs.Beside.{Beside, types_beside, ints_beside, floats_beside, consts_beside, regions_beside, lawful_beside, keyed_still}
 pub use Rattle.relation_folds.proofs.Folding.{on_err}
 pub use Rattle.relation_semantics.proofs.Going.{later_same}
 
@@ -354,3 +355,9 @@ module _ {Key Id Name : Type 0} {m n : Meaning Key Id Name} (e : Extends m n) (x
 
 pub goes_same : (n : ℕ) (old new : Store) → new ≡ old → Goes n old new
 goes_same n old new e = subst (λ st. Goes n old st) (sym e) (goes_nowhere n old)
+
+-- A variable that was made is of the kind that was asked for.
+pub made_as : (was now : Store) (u : ℕ) (x : Tree) (o : Option VarKind) (k : VarKind) (n : ℕ) → o ≡ Some k → MakesVariable was now k n u → x ≡ leaf (variable k n) →
+    (j : VarKind) → o ≡ Some j → (m : ℕ) × MakesVariable was now j m u × (x ≡ leaf (variable j m))
+made_as was now u x o k n e g q j f = let p : k ≡ j = same_Some _ _ (sym e ∙ f) in
+    (n, subst (λ z. MakesVariable was now z n u) p g, q ∙ ap (λ z. leaf (variable z n)) p)

@@ -10,12 +10,12 @@ use Rattle.relation_semantics.specs.Stores.{Store, Entry, IsMade, unbound}
 use Rattle.relation_semantics.specs.Steps.{MakesVariable}
 use Rattle.relation_semantics.specs.Generalising.{gives_way_to}
 use Rattle.relation_reference.specs.declared.context.variables.RefCtxt.{RefCtxt}
-use Rattle.relation_reference.specs.declared.context.inner.Variable.{Variable}
-use Rattle.relation_reference.specs.Variables.{keys_of}
-use Rattle.relation_reference.specs.SubRoots.{root_in}
-use Rattle.relation_reference.specs.Tables.{setup_in, store_of, IsLawful}
+use Rattle.variable_tables.specs.declared.inner.Variable.{Variable}
+use Rattle.variable_tables.specs.Variables.{keys_of}
+use Rattle.variable_tables.specs.SubRoots.{root_in}
+use Rattle.variable_tables.specs.Tables.{setup_in, store_of, IsLawful}
 use Rattle.relation_reference.specs.RefCtxt.{store_in, context_in}
-use Rattle.relation_reference.proofs.Grows.{store_grows}
+use Rattle.variable_tables.proofs.Grows.{store_grows}
 
 -- A variable that is its own root is joined to an earlier one.
 module _ (f mid g : ℕ → ℕ) (below : (n : ℕ) → f n ≤ n) (count of : ℕ) (own : f count ≡ count) (made : of < count)

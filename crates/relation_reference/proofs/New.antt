@@ -5,11 +5,11 @@ use Rattle.relation_terms.specs.Meaning.{Meaning}
 use Rattle.relation_semantics.specs.Stores.{unbound}
 use Rattle.relation_semantics.specs.Constraints.{constraint_of}
 use Rattle.relation_semantics.proofs.Empty.{empty_sound}
-use Rattle.relation_reference.specs.declared.context.inner.InferCtxtInner.{InferCtxtInner}
-use Rattle.relation_reference.specs.Variables.{entries_of, universes_of, trees_of}
-use Rattle.relation_reference.specs.Numbers.{number_trees}
-use Rattle.relation_reference.specs.SubRoots.{root_in, IsRootTable}
-use Rattle.relation_reference.specs.Tables.{store_of, keys_in, IsLawful}
+use Rattle.variable_tables.specs.declared.inner.InferCtxtInner.{InferCtxtInner}
+use Rattle.variable_tables.specs.Variables.{entries_of, universes_of, trees_of}
+use Rattle.variable_tables.specs.Numbers.{number_trees}
+use Rattle.variable_tables.specs.SubRoots.{root_in, IsRootTable}
+use Rattle.variable_tables.specs.Tables.{store_of, keys_in, IsLawful}
 use Rattle.relation_reference.specs.RefCtxt.{IsNew}
 
 module _ {Key Id Name : Type 0} (m : Meaning Key Id Name) (x : InferCtxtInner Key) (n : IsNew x) where

@@ -13,16 +13,16 @@ use Rattle.relation_terms.specs.declared.terms.ty_kind.FloatVarValue.TheVariants
 use Rattle.relation_semantics.specs.Stores.{unbound, bound_to, entry_of}
 use Rattle.relation_semantics.specs.Steps.{InstantiatesNumber, IsNumberFor}
 use Rattle.relation_semantics.proofs.StoreCalls.{numbers_stay_sound}
-use Rattle.relation_reference.specs.declared.context.inner.Variable.{Variable}
-use Rattle.relation_reference.specs.declared.context.inner.VariableValue.TheVariants.{Known as Bound}
-use Rattle.relation_reference.specs.declared.context.inner.InferCtxtInner.{InferCtxtInner}
-use Rattle.relation_reference.specs.Variables.{keys_of, values_of, universes_of}
+use Rattle.variable_tables.specs.declared.inner.Variable.{Variable}
+use Rattle.variable_tables.specs.declared.inner.VariableValue.TheVariants.{Known as Bound}
+use Rattle.variable_tables.specs.declared.inner.InferCtxtInner.{InferCtxtInner}
+use Rattle.variable_tables.specs.Variables.{keys_of, values_of, universes_of}
 use Rattle.relation_semantics.specs.NumberValues.{int_value_tree, float_value_tree}
-use Rattle.relation_reference.specs.Numbers.{number_trees}
-use Rattle.relation_reference.specs.Tables.{store_of, MayBeBoundTo, IsLawful}
-use Rattle.relation_reference.proofs.Grows.{each_known, keys_stay}
-use Rattle.relation_reference.proofs.Beside.{ints_beside, floats_beside}
-use Rattle.relation_reference.proofs.Writing.{bound_entries, bind_number, bind_lawful, table_made}
+use Rattle.variable_tables.specs.Numbers.{number_trees}
+use Rattle.variable_tables.specs.Tables.{store_of, MayBeBoundTo, IsLawful}
+use Rattle.variable_tables.proofs.Grows.{each_known, keys_stay}
+use Rattle.variable_tables.proofs.Beside.{ints_beside, floats_beside}
+use Rattle.variable_tables.proofs.Writing.{bound_entries, bind_number, bind_lawful, table_made}
 
 take_next : (ts : List Tree) (i j : ℕ) → i < length ts → j ≡ suc i → take j ts ≡ take i ts ++ get_or ts i nil ∷ []
 take_next [] i j h e = absurd (omega (arith, h))

@@ -23,18 +23,15 @@ use Rattle.relation_semantics.specs.Bound.{BindByLists}
 use Rattle.relation_semantics.specs.Parts.{IsFormed, IsFormedConst}
 use Rattle.relation_semantics.proofs.Standing.{made_of_term, term_context}
 use Rattle.relation_semantics.proofs.Classes.{class_made}
-use Rattle.relation_reference.specs.declared.context.inner.Variable.{Variable}
-use Rattle.relation_reference.specs.declared.context.inner.VariableValue.{VariableValue}
-use Rattle.relation_reference.specs.declared.context.inner.VariableValue.TheVariants.{Unknown, SameAs, Known}
-use Rattle.relation_reference.specs.declared.context.inner.InferCtxtInner.{InferCtxtInner}
-use Rattle.relation_reference.specs.declared.context.memory.TermVid.{TermVid}
-use Rattle.relation_reference.specs.declared.context.memory.TermVid.TheVariants.{Ty as TyTerm, Const as ConstTerm}
+use Rattle.variable_tables.specs.declared.inner.Variable.{Variable}
+use Rattle.variable_tables.specs.declared.inner.VariableValue.{VariableValue}
+use Rattle.variable_tables.specs.declared.inner.VariableValue.TheVariants.{Unknown, SameAs, Known}
+use Rattle.variable_tables.specs.declared.inner.InferCtxtInner.{InferCtxtInner}
 use Rattle.relation_reference.specs.Answers.{Found, found_root, found_term}
-use Rattle.relation_reference.specs.Remembering.{vid_kind, vid_number}
-use Rattle.relation_reference.specs.Variables.{value_at, root_by, root_at, term_by, term_at, entry_of_value, entries_of, trees_of, keys_of}
-use Rattle.relation_reference.specs.Tables.{store_of, MayBeBoundTo, may_by_lists, IsRooted, IsLawful}
+use Rattle.variable_tables.specs.Variables.{value_at, root_by, root_at, term_by, term_at, entry_of_value, entries_of, trees_of, keys_of}
+use Rattle.variable_tables.specs.Tables.{store_of, MayBeBoundTo, may_by_lists, IsRooted, IsLawful}
 use Rattle.relation_semantics.specs.Resolving.{IsRoot, IsShallow, root, stays_bound, formed, IsShallowTy, ty_root, no_ty_variable, IsShallowConst, const_root, no_variable}
-use Rattle.relation_reference.proofs.Grows.{entry_at, bound_known}
+use Rattle.variable_tables.proofs.Grows.{entry_at, bound_known}
 use Rattle.relation_reference.proofs.Folding.{context_made}
 use Rattle.relation_semantics.proofs.Variables.{kind_variable, kind_no_const, const_no_variable}
 use Rattle.relation_semantics.proofs.Numbers.{made_of_leaf}
@@ -147,28 +144,18 @@ module _ {Key Id Name : Type 0} (m : Meaning Key Id Name) (k : TyKind Key Id Nam
   pub number_shallow : (st : Store) → IsShallowTy st t → ((v : IntVid) → k ≡ Infer (IntVar v) → ⊥) → ((v : FloatVid) → k ≡ Infer (FloatVar v) → ⊥) → IsShallow st t
   number_shallow st a b c = subst (IsShallow st) (sym e) (kind_shallow m st k (subst (IsShallowTy st) e a) b c)
 
-  pub type_no_vid : ((v : TyVid) → k ≡ Infer (TyVar v) → ⊥) → (v : TermVid) → t ≡ leaf (variable (vid_kind v) (vid_number v)) → ⊥
-  type_no_vid h (TyTerm v) q = kind_variable m k v.0 h (sym e ∙ q)
-  type_no_vid h (ConstTerm v) q = kind_no_const m k v.0 (sym e ∙ q)
-
 -- What a constant is by whether its form is a constant variable.
 module _ {Key Id Name : Type 0} (m : Meaning Key Id Name) (k : ConstKind Key Id Name) (t : Tree) (e : t ≡ const_tree m k) where
   pub const_shallow : (st : Store) → ((v : ConstVid) → k ≡ ConstInfer (Var v) → ⊥) → IsShallowConst st t
   const_shallow st h = no_variable (λ j n q. const_no_variable m k j n h (sym e ∙ q))
 
-  pub const_no_vid : ((v : ConstVid) → k ≡ ConstInfer (Var v) → ⊥) → (v : TermVid) → t ≡ leaf (variable (vid_kind v) (vid_number v)) → ⊥
-  const_no_vid h v q = const_no_variable m k (vid_kind v) (vid_number v) h (sym e ∙ q)
-
--- A variable of the context; and what a term of it is read as is of it.
+-- What a term of the context is read as is of it.
 pub context_read : (st : Store) → IsSound st → (t u : Tree) → IsReadAs st t u → InContext st t → InContext st u
 context_read st g t u (itself e) h = subst (InContext st) e h
 context_read st g t u (by_class k n m e c r) h = context_read st g (leaf (variable k m)) u r
     (context_made st k m (class_made st g k n m c (made_of_leaf st k n (subst (InContext st) e h))))
 context_read st g t u (by_binding {u = x} k n e b r) h = context_read st g x u r
     (term_context st x (g.bindings k n x (ap (entry_term k) b)).is_in)
-
-pub made_in_context : (st : Store) (k : VarKind) (t : Tree) (n : ℕ) → t ≡ leaf (variable k n) → InContext st t → IsMade st k n
-made_in_context st k t n e h = made_of_leaf st k n (subst (InContext st) e h)
 
 -- A term that is a variable is read as what is read for the variable.
 pub read_for : (st : Store) (t u v : Tree) → t ≡ v → IsReadAs st v u → IsReadAs st t u

@@ -19,44 +19,14 @@ use Rattle.relation_semantics.proofs.Resolved.{resolved_free}
 use Rattle.relation_semantics.proofs.Parts.{nth_size}
 use Rattle.relation_semantics.proofs.Values.{nth_in}
 use Rattle.relation_semantics.proofs.Lists.{firsts, firsts_all, snoc, list_push, firsts_more, apply_snoc}
-use Rattle.relation_reference.specs.declared.context.inner.InferCtxtInner.{InferCtxtInner}
-use Rattle.relation_reference.specs.Tables.{store_of, IsLawful}
-use Rattle.relation_reference.specs.declared.context.memory.TermVid.{TermVid}
-use Rattle.relation_reference.specs.declared.context.memory.TermVid.TheVariants.{Ty as TyTerm, Const as ConstTerm}
-use Rattle.relation_reference.specs.Remembering.{vid_kind, vid_number}
+use Rattle.variable_tables.specs.declared.inner.InferCtxtInner.{InferCtxtInner}
+use Rattle.variable_tables.specs.Tables.{store_of, IsLawful}
 use Rattle.relation_semantics.specs.Resolving.{IsShallow, root, stays_bound, formed, IsShallowConst, const_root, no_variable}
-use Rattle.relation_reference.proofs.Grows.{store_grows, lawful_grows}
+use Rattle.variable_tables.proofs.Grows.{store_grows, lawful_grows}
+use Rattle.occurs_check.proofs.TermVids.{not_type, not_const}
 use Rattle.relation_folds.proofs.Members.{fit_next}
 use Rattle.relation_terms.proofs.Members.{known_with_last}
 use Rattle.relation_folds.proofs.Visiting.{has_sort}
-
--- A part that is no type is of another sort, and each part is of some.
-module _ {Key Id : Type 0} where
-  pub not_type : (p : Part Key Id) → ((t : TyKey Key) → p ≡ Ty t → ⊥) → part_sort p ≡ type_sort → ⊥
-  not_type (Ty t) n e = n t refl
-  not_type (Region r) n e = cc
-  not_type (Const c) n e = cc
-  not_type (ValTree v) n e = cc
-  not_type (Pat v) n e = cc
-  not_type (ValueType t) n e = cc
-  not_type (Binder vs b) n e = cc
-  not_type (Signature s) n e = cc
-  not_type (Inputs t) n e = cc
-  not_type (Existential p) n e = cc
-  not_type (Object k) n e = cc
-
-  pub not_const : (p : Part Key Id) → ((c : ConstKey Key) → p ≡ Const c → ⊥) → part_sort p ≡ const_sort → ⊥
-  not_const (Const c) n e = n c refl
-  not_const (Ty t) n e = cc
-  not_const (Region r) n e = cc
-  not_const (ValTree v) n e = cc
-  not_const (Pat v) n e = cc
-  not_const (ValueType t) n e = cc
-  not_const (Binder vs b) n e = cc
-  not_const (Signature s) n e = cc
-  not_const (Inputs t) n e = cc
-  not_const (Existential p) n e = cc
-  not_const (Object k) n e = cc
 
 -- A term comes to its form over what its parts come to, where it is no variable that has a term.
 pub comes_by_parts : (st : Store) (t : Tree) → (tree_sort t ≡ no_sort → ⊥) →
@@ -107,10 +77,6 @@ module _ {Key Id Name : Type 0} (m : Meaning Key Id Name) (p : Part Key Id) (no_
   pub other_by_parts : (st : Store) → IsSound st → apply (resolved st) (part_tree m p) ≡
       over (part_tree m p) (apply (resolved st) (parts_of (part_tree m p)))
   other_by_parts st g = comes_by_parts st (part_tree m p) (λ s. has_sort p (sym e ∙ s)) (variable_free st g)
-
-  pub other_no_vid : (v : TermVid) → part_tree m p ≡ leaf (variable (vid_kind v) (vid_number v)) → ⊥
-  other_no_vid (TyTerm v) q = not_type p no_type (sym e ∙ ap tree_sort q)
-  other_no_vid (ConstTerm v) q = not_const p no_const (sym e ∙ ap tree_sort q)
 
 -- A part of a term is of the context, and comes to less.
 context_list : (st : Store) (t : Tree) → InContext st t → InContext st (parts_of t)

@@ -3,8 +3,8 @@ use Rattle.std.proofs.Common.{refl, true, le_refl}
 use Rattle.relation_terms.specs.Meaning.{Meaning}
 use Rattle.relation_semantics.specs.Steps.{ChangesNothing, Taints}
 use Rattle.relation_semantics.proofs.StoreCalls.{nothing_is_seen}
-use Rattle.relation_reference.specs.declared.context.inner.InferCtxtInner.{InferCtxtInner}
-use Rattle.relation_reference.specs.Tables.{store_of, IsLawful}
+use Rattle.variable_tables.specs.declared.inner.InferCtxtInner.{InferCtxtInner}
+use Rattle.variable_tables.specs.Tables.{store_of, IsLawful}
 
 module _ {Key Id Name : Type 0} (m : Meaning Key Id Name) (x : InferCtxtInner Key) where
   abbrev y : InferCtxtInner Key

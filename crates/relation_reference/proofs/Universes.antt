@@ -5,10 +5,10 @@ use Rattle.relation_terms.specs.declared.terms.numbers.UniverseIndex.{UniverseIn
 use Rattle.relation_semantics.specs.Steps.{ChangesNothing}
 use Rattle.relation_semantics.specs.ContextCalls.{EntersNext, KeepsRest}
 use Rattle.relation_semantics.proofs.StoreCalls.{nothing_is_seen}
-use Rattle.relation_reference.specs.declared.context.inner.InferCtxtInner.{InferCtxtInner}
+use Rattle.variable_tables.specs.declared.inner.InferCtxtInner.{InferCtxtInner}
 use Rattle.relation_reference.specs.declared.context.variables.RefCtxt.{RefCtxt}
-use Rattle.relation_reference.specs.SubRoots.{root_in}
-use Rattle.relation_reference.specs.Tables.{setup_in, store_of, context_of, IsLawful}
+use Rattle.variable_tables.specs.SubRoots.{root_in}
+use Rattle.variable_tables.specs.Tables.{setup_in, store_of, context_of, IsLawful}
 use Rattle.relation_reference.specs.RefCtxt.{context_in}
 
 module _ {Key Id Name : Type 0} (m : Meaning Key Id Name) (x : InferCtxtInner Key) (u : UniverseIndex) (above : (x.universe).0 < u.0) where

@@ -9,13 +9,13 @@ use Rattle.relation_terms.specs.declared.terms.numbers.UniverseIndex.{UniverseIn
 use Rattle.relation_semantics.specs.Contexts.{Context}
 use Rattle.relation_semantics.specs.ContextCalls.{IsRootOf, HasUniverse}
 use Rattle.relation_semantics.specs.Stores.{entry_of, IsMade, IsSound}
-use Rattle.relation_reference.specs.declared.context.inner.Variable.{Variable}
-use Rattle.relation_reference.specs.declared.context.inner.VariableValue.{VariableValue}
-use Rattle.relation_reference.specs.declared.context.inner.VariableValue.TheVariants.{Unknown, SameAs, Known}
-use Rattle.relation_reference.specs.declared.context.inner.InferCtxtInner.{InferCtxtInner}
-use Rattle.relation_reference.specs.Variables.{keys_of, value_at, universe_at, root_at, free_universe}
-use Rattle.relation_reference.specs.Variables.{entry_of_value, entries_of, universes_of}
-use Rattle.relation_reference.specs.Tables.{IsRooted, IsLawful}
+use Rattle.variable_tables.specs.declared.inner.Variable.{Variable}
+use Rattle.variable_tables.specs.declared.inner.VariableValue.{VariableValue}
+use Rattle.variable_tables.specs.declared.inner.VariableValue.TheVariants.{Unknown, SameAs, Known}
+use Rattle.variable_tables.specs.declared.inner.InferCtxtInner.{InferCtxtInner}
+use Rattle.variable_tables.specs.Variables.{keys_of, value_at, universe_at, root_at, free_universe}
+use Rattle.variable_tables.specs.Variables.{entry_of_value, entries_of, universes_of}
+use Rattle.variable_tables.specs.Tables.{IsRooted, IsLawful}
 use Rattle.relation_reference.proofs.Reading.{entry_is, root_leads, root_stands, root_made, keys_reach, trees_reach}
 
 -- What is found for a variable of a table of a context.

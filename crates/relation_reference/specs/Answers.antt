@@ -10,9 +10,9 @@ use Rattle.relation_semantics.specs.Errors.{IsReadAs}
 use Rattle.relation_semantics.specs.Stores.{Store, unbound, bound_to, entry_of, IsMade}
 use Rattle.relation_semantics.specs.Steps.{LeadsTo, Resolves}
 use Rattle.relation_reference.specs.declared.context.variables.RefCtxt.{RefCtxt}
-use Rattle.relation_reference.specs.declared.context.inner.InferCtxtInner.{InferCtxtInner}
+use Rattle.variable_tables.specs.declared.inner.InferCtxtInner.{InferCtxtInner}
 use Rattle.relation_reference.specs.RefCtxt.{store_in, ty_term}
-use Rattle.relation_reference.specs.Tables.{store_of}
+use Rattle.variable_tables.specs.Tables.{store_of}
 
 -- A variable's class is bound to a term, or to none.
 abbrev pub HasBinding : Store → VarKind → ℕ → Tree → Type 0

@@ -19,10 +19,10 @@ use Rattle.relation_semantics.specs.ContextCalls.{Instantiated}
 use Rattle.relation_semantics.specs.Steps.{Equates, InstantiatesNumber, MakesVariable, AddsConstraint}
 use Rattle.relation_semantics.specs.Stores.{Store, equal_constraint, outlives_constraint}
 use Rattle.relation_reference.specs.declared.context.variables.RefCtxt.{RefCtxt}
-use Rattle.relation_reference.specs.declared.context.inner.InferCtxtInner.{InferCtxtInner}
+use Rattle.variable_tables.specs.declared.inner.InferCtxtInner.{InferCtxtInner}
 use Rattle.relation_reference.specs.RefCtxt.{store_in, context_in, resolved_in, ty_term, const_term}
-use Rattle.relation_reference.specs.SubRoots.{root_in}
-use Rattle.relation_reference.specs.Tables.{store_of}
+use Rattle.variable_tables.specs.SubRoots.{root_in}
+use Rattle.variable_tables.specs.Tables.{store_of}
 
 -- The key of the variable that comes next in a table was answered.
 abbrev pub MeansNext : {K V E : Type 0} → (K → Tree) → VarKind → List V → Result K E → Type 0

@@ -27,21 +27,14 @@ use Rattle.relation_semantics.specs.Generalising.{Turn, any_part, new_part, part
 use Rattle.relation_semantics.specs.Generalising.{Obstacle, cycle, beyond, IsNoObstacle, IsSeen, IsClear, StopsAt}
 use Rattle.relation_semantics.specs.Generalising.{GoesInto}
 use Rattle.relation_reference.specs.declared.context.generalising.MetKey.{MetKey}
-use Rattle.relation_reference.specs.declared.context.generalising.Target.{Target}
-use Rattle.relation_reference.specs.declared.context.generalising.Fate.{Fate}
-use Rattle.relation_reference.specs.declared.context.generalising.Fate.TheVariants.{ByParts, GivesWay, Cycle, Beyond}
+use Rattle.occurs_check.specs.declared.fates.Target.{Target}
+use Rattle.occurs_check.specs.declared.fates.Fate.{Fate}
+use Rattle.occurs_check.specs.declared.fates.Fate.TheVariants.{ByParts, GivesWay, Cycle, Beyond}
 use Rattle.relation_reference.specs.declared.context.variables.RefCtxt.{RefCtxt}
 use Rattle.relation_semantics.specs.ContextCalls.{MarksNew}
 use Rattle.relation_reference.specs.RefCtxt.{store_in, context_in}
-use Rattle.relation_reference.specs.Remembering.{vid_kind, vid_number}
-use Rattle.relation_reference.specs.Tables.{store_of, IsLawful}
-
--- Of which kind the variable is that may take the place of a part.
-abbrev pub new_kind : {Key Id : Type 0} → Part Key Id → Option VarKind
-new_kind (Region r) = Some region_var
-new_kind (Ty t) = Some type_var
-new_kind (Const c) = Some const_var
-new_kind p = None
+use Rattle.occurs_check.specs.TermVids.{vid_kind, vid_number}
+use Rattle.variable_tables.specs.Tables.{store_of, IsLawful}
 
 -- The side on which a term stands, by whether it stands inside an alias that is left to a goal.
 abbrev pub side_of : Bool → Side
@@ -120,15 +113,6 @@ module _ {Key Id Name : Type 0} (eq : TyKey Key → TyKey Key → Bool) (m : Mea
 
     abbrev pub AreClear : {S : Type 0} → HashSet (TyKey Key) S → Type 0
     AreClear found = (q : TyKey Key) → list_any (eq q) found.keys ≡ true → WasClear q
-
--- What becomes of a term at a variance, for variable `n` of kind `k` in universe `u`.
-abbrev pub IsFate : Store → VarKind → ℕ → ℕ → Variance → Tree → Option VarKind → Fate → Type 0
-IsFate st k n u v t o ByParts = (l : Leaf) → t ≡ leaf l → (l ≢ variable k n) × Stays st u v l
-IsFate st k n u v t o GivesWay = (l : Leaf) × (j : VarKind) × (t ≡ leaf l) × (l ≢ variable k n) ×
-    (Stays st u v l → ⊥) × (gives_way_to l ≡ Some j) × (o ≡ Some j)
-IsFate st k n u v t o Cycle = t ≡ leaf (variable k n)
-IsFate st k n u v t o Beyond = (q : BoundKind) × (w : ℕ) × (i : ℕ) × (t ≡ leaf (placeholder q w i)) ×
-    (bound_sort q ≢ region_sort) × (u < w)
 
 module _ {Key Id Name S : Type 0} (eq : MetKey Key → MetKey Key → Bool) (m : Meaning Key Id Name)
     (memory : HashMap (MetKey Key) (TyKey Key) S) where

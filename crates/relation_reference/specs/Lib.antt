@@ -1,7 +1,3 @@
-pub mod Variables
-pub mod Numbers
-pub mod SubRoots
-pub mod Tables
 pub mod RefCtxt
 pub mod Remembering
 pub mod Resolvers

@@ -9,9 +9,9 @@ use Rattle.relation_terms.specs.Parts.{part_tree}
 use Rattle.relation_semantics.specs.Stores.{Store, resolved}
 use Rattle.relation_semantics.specs.Contexts.{Context}
 use Rattle.relation_reference.specs.declared.context.variables.RefCtxt.{RefCtxt}
-use Rattle.relation_reference.specs.declared.context.inner.InferCtxtInner.{InferCtxtInner}
-use Rattle.relation_reference.specs.SubRoots.{root_in}
-use Rattle.relation_reference.specs.Tables.{store_of, context_of}
+use Rattle.variable_tables.specs.declared.inner.InferCtxtInner.{InferCtxtInner}
+use Rattle.variable_tables.specs.SubRoots.{root_in}
+use Rattle.variable_tables.specs.Tables.{store_of, context_of}
 
 -- It has no variable, no constraint, and no type that is to outlive a region; and no error was met.
 pub record IsNew {Key : Type 0} (x : InferCtxtInner Key) : Type 0 where

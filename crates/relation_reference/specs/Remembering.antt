@@ -1,18 +1,15 @@
 -- What walks through terms remember of the parts that they have met.
 use Rattle.std.specs.Prelude.{◌≡◌, ℕ, Bool, IsTrue, Option, Some, option_map}
 use Rattle.std.specs.HashMap.{HashMap, get}
-use Rattle.relation_terms.specs.Heads.{VarKind, type_var, const_var, variable}
-use Rattle.relation_terms.specs.Trees.{Tree, leaf, known, apply}
+use Rattle.relation_terms.specs.Trees.{Tree, known, apply}
 use Rattle.relation_terms.specs.Meaning.{Meaning}
 use Rattle.relation_terms.specs.Parts.{part_sort, part_key, part_tree}
 use Rattle.relation_terms.specs.declared.terms.part_kind.Part.{Part}
 use Rattle.relation_folds.specs.Folds.{part_rank}
 use Rattle.relation_reference.specs.declared.context.memory.PartKey.{PartKey}
-use Rattle.relation_reference.specs.declared.context.memory.TermVid.{TermVid}
-use Rattle.relation_reference.specs.declared.context.memory.TermVid.TheVariants.{Ty, Const}
-use Rattle.relation_reference.specs.declared.context.inner.InferCtxtInner.{InferCtxtInner}
-use Rattle.relation_semantics.specs.Stores.{Store, universe_of, resolved}
-use Rattle.relation_reference.specs.Tables.{store_of}
+use Rattle.variable_tables.specs.declared.inner.InferCtxtInner.{InferCtxtInner}
+use Rattle.relation_semantics.specs.Stores.{Store, resolved}
+use Rattle.variable_tables.specs.Tables.{store_of}
 
 -- What a term comes to by what is recorded, at every depth.
 abbrev pub resolved_by : Store → Tree → Tree
@@ -21,22 +18,6 @@ resolved_by st t = apply (resolved st) t
 -- A part that has a key, as it is looked for.
 abbrev pub key_of : {Key Id : Type 0} → Part Key Id → Option (PartKey Key)
 key_of p = option_map (λ k. record { sort = part_rank p; key = k }) (part_key p)
-
--- Of which kind a variable for a term is, and its number.
-abbrev pub vid_kind : TermVid → VarKind
-vid_kind (Ty v) = type_var
-vid_kind (Const v) = const_var
-
-abbrev pub vid_number : TermVid → ℕ
-vid_number (Ty v) = v.0
-vid_number (Const v) = v.0
-
--- The term that is such a variable, and the universe of the variable.
-abbrev pub vid_tree : TermVid → Tree
-vid_tree v = leaf (variable (vid_kind v) (vid_number v))
-
-abbrev pub vid_universe : Store → TermVid → ℕ
-vid_universe st v = universe_of st (vid_kind v) (vid_number v)
 
 module _ {Key Id Name : Type 0} (m : Meaning Key Id Name) (st : Store) where
   -- What a known part comes to by what is recorded, at every depth.

@@ -6,8 +6,8 @@ use Rattle.relation_terms.specs.Trees.{Tree, leaf, Assign}
 use Rattle.relation_terms.specs.Meaning.{Meaning, Extends}
 use Rattle.relation_terms.proofs.Stays.{extends_on}
 use Rattle.relation_semantics.specs.Stores.{Store, unbound, entry_of, IsMade, resolved}
-use Rattle.relation_reference.specs.declared.context.inner.InferCtxtInner.{InferCtxtInner}
-use Rattle.relation_reference.specs.Tables.{store_of, IsLawful}
+use Rattle.variable_tables.specs.declared.inner.InferCtxtInner.{InferCtxtInner}
+use Rattle.variable_tables.specs.Tables.{store_of, IsLawful}
 
 -- What a variable comes to; of any other term there is none.
 abbrev pub variable_value : Assign → Tree → Option Tree

@@ -2,5 +2,6 @@
 #![tactic(auto)]
 
 pub mod context;
+pub mod reference;
 
 pub use reference_interner::RefInterner;

@@ -1,5 +1,2 @@
-pub mod PlainLemmas
-pub mod Concrete
-pub mod OverItems
 pub mod Atoms
-pub mod Bodies
+pub mod OverItems

@@ -6,7 +6,7 @@ ghost use Rattle.relation_terms.specs.Trees.{leaf, node, cons, nil};
 ghost use Rattle.relation_terms.specs.Meaning.{region_tree};
 ghost use Rattle.relation_semantics.specs.Contexts.{KnowsTy};
 ghost use Rattle.relation_semantics.specs.ContextCalls.{IsUnresolved, Grows};
-ghost use Rattle.relation_reference.specs.Tables.{IsLawful};
+ghost use Rattle.variable_tables.specs.Tables.{IsLawful};
 
 use reference_interner::RefInterner;
 use relation_folds::error::RelateResult;
@@ -14,8 +14,8 @@ use relation_reference::context::RefCtxt;
 use relation_semantics::infer_ctxt::{InferCtxtLike, TypingMode};
 use relation_terms::predicate::OutlivesPredicate;
 use relation_terms::terms::{
-    ConstVid, ErrorGuaranteed, FloatVid, IntVid, Interner, Keys, OutOfMemory, Region, RegionKind,
-    RegionVid, Ty, TyKind, TyVid, UniverseIndex, Variance,
+    ConstVid, FloatVid, IntVid, Interner, Keys, OutOfMemory, Region, RegionKind, RegionVid, Ty,
+    TyKind, TyVid, UniverseIndex, Variance,
 };
 use std::test::Fail;
 use type_relations::relate::StructurallyRelateAliases;
@@ -25,47 +25,6 @@ const FIRST: Option<UniverseIndex> = Some(UniverseIndex(0));
 
 // A name of a context's interner.
 type NameOf<C> = <<C as InferCtxtLike>::Interner as Keys>::Name;
-
-// Whether the next solver is on in a context, its mode is that of coherence, and three instantiations may be made.
-fn reads_settings<C: InferCtxtLike>(ctx: &C) -> bool {
-    let mode = ctx.typing_mode_raw();
-    let coherence = mode.is_coherence() && !mode.is_erased_not_coherence();
-    ctx.next_trait_solver() && coherence && ctx.budget_left() == 3
-}
-
-// Meets an error in a context.
-fn meets_an_error<C: InferCtxtLike>(ctx: &mut C)
-    requires { (C.state ctx.old).lawful }
-    ensures { (C.state ctx.new).lawful }
-{
-    ctx.set_tainted_by_errors(ErrorGuaranteed);
-}
-
-// Whether a context is tainted just where an error was met.
-fn is_tainted_by_errors<I: Interner + Drop>(cx: I) -> Result<bool, OutOfMemory> {
-    let mut ctx = RefCtxt::new(cx, TypingMode::PostAnalysis, false, 0)?;
-    let before = ctx.tainted();
-    meets_an_error(&mut ctx);
-    let after = ctx.tainted();
-    let new = ctx.renewed(TypingMode::Coherence, true, 1);
-    Ok(!before && after && !new.tainted() && new.typing_mode_raw().is_coherence())
-}
-
-// Whether a context is in the first universe, and in the next one once that was made.
-fn enters_next<C: InferCtxtLike>(ctx: &mut C) -> Result<bool, OutOfMemory>
-    requires { (C.state ctx.old).lawful }
-{
-    let first = ctx.universe() == UniverseIndex(0);
-    let next = ctx.create_next_universe()?;
-    Ok(first && next == UniverseIndex(1) && ctx.universe() == next)
-}
-
-// Whether a new context is what it was made as, and stays that where it enters a universe.
-fn is_new<I: Interner + Drop>(cx: I) -> Result<bool, OutOfMemory> {
-    let mut ctx = RefCtxt::new(cx, TypingMode::Coherence, true, 3)?;
-    let entered = enters_next(&mut ctx)?;
-    Ok(entered && reads_settings(&ctx))
-}
 
 // The type `char`.
 fn make_char<C: InferCtxtLike>(ctx: &mut C) -> Result<Ty<C::Interner>, OutOfMemory>
@@ -91,7 +50,7 @@ fn has_new_tys<C: InferCtxtLike>(ctx: &mut C) -> Result<bool, OutOfMemory>
     ctx.sub_unify_ty_vids_raw(TyVid(1), TyVid(0));
     let mark = ctx.sub_unification_table_root_var(TyVid(1));
     let apart = ctx.root_ty_var(TyVid(1)) == TyVid(1);
-    Ok(universe == FIRST && read == ty && mark == TyVid(0) && apart)
+    Ok((universe == FIRST) & (read == ty) & (mark == TyVid(0)) & apart)
 }
 
 // Whether a new constant variable is its own root, of the first universe, and read as itself.
@@ -103,7 +62,7 @@ fn has_new_const<C: InferCtxtLike>(ctx: &mut C) -> Result<bool, OutOfMemory>
     let root = ctx.root_const_var(ConstVid(0));
     let universe = ctx.universe_of_ct(ConstVid(0));
     let read = ctx.opportunistic_resolve_ct_var(ConstVid(0));
-    Ok(root == ConstVid(0) && universe == FIRST && read == constant)
+    Ok((root == ConstVid(0)) & (universe == FIRST) & (read == constant))
 }
 
 // Whether a new region variable is of the first universe, and read as itself.
@@ -114,7 +73,7 @@ fn has_new_region<C: InferCtxtLike>(ctx: &mut C) -> Result<bool, OutOfMemory>
     let region = ctx.next_region_infer()?;
     let universe = ctx.universe_of_lt(RegionVid(0));
     let read = ctx.opportunistic_resolve_lt_var(RegionVid(0));
-    Ok(universe == FIRST && read == region)
+    Ok((universe == FIRST) & (read == region))
 }
 
 // Whether new variables of these kinds are like that.
@@ -124,7 +83,7 @@ fn has_new_variables<I: Interner + Drop>(cx: I) -> Result<bool, OutOfMemory> {
     let mut ctx = RefCtxt::new(ctx.interner, TypingMode::Coherence, true, 0)?;
     let constant = has_new_const(&mut ctx)?;
     let mut ctx = RefCtxt::new(ctx.interner, TypingMode::Coherence, true, 0)?;
-    Ok(has_new_region(&mut ctx)? && tys && constant)
+    Ok(has_new_region(&mut ctx)? & tys & constant)
 }
 
 // What the first integer variable is read as.
@@ -204,14 +163,17 @@ fn binds_slice<C: InferCtxtLike>(ctx: &mut C) -> RelateResult<C::Interner, ()>
     Ok(())
 }
 
-// Whether a new integer variable is read as itself and its own root, and a float variable is.
+// Whether a new integer variable is read as itself and its own root, and a float variable is, in the mode of bodies
+// whose regions are erased.
 fn has_number_variables<I: Interner + Drop>(cx: I) -> Result<bool, OutOfMemory> {
-    let mut ctx = RefCtxt::new(cx, TypingMode::Coherence, true, 0)?;
+    let mut ctx = RefCtxt::new(cx, TypingMode::ErasedNotCoherence, true, 0)?;
     let int = ctx.next_int_var()?;
-    let same = reads_int(&ctx) == int && first_int_is_root(&ctx);
+    let same = (reads_int(&ctx) == int) & first_int_is_root(&ctx);
+    let mode = ctx.typing_mode_raw();
+    let erased = mode.is_erased_not_coherence() & !mode.is_coherence();
     let mut ctx = RefCtxt::new(ctx.interner, TypingMode::Coherence, true, 0)?;
     let float = ctx.next_float_var()?;
-    Ok(same && reads_float(&ctx) == float && first_float_is_root(&ctx))
+    Ok(same & erased & (reads_float(&ctx) == float) & first_float_is_root(&ctx))
 }
 
 // Whether the variable that takes the place of the second type variable is marked as related to it, and to no other, for
@@ -220,13 +182,10 @@ fn marks_the_new_one<I: Interner + Drop>(cx: I) -> RelateResult<I, bool> {
     let mut ctx = RefCtxt::new(cx, TypingMode::Coherence, true, 0)?;
     ctx.set_budget(2);
     binds_slice(&mut ctx)?;
-    Ok(
-        first_alone_is_bound(&ctx)
-            && ctx.budget_left() == 1
-            && ctx.inner.types.len() == 3
-            && ctx.inner.sub_roots.get(0).copied() == Some(0)
-            && ctx.inner.sub_roots.get(2).copied() == Some(1),
-    )
+    let mut fine = first_alone_is_bound(&ctx) & (ctx.budget_left() == 1);
+    fine &= ctx.inner.types.len() == 3;
+    fine &= ctx.inner.sub_roots.get(0).copied() == Some(0);
+    Ok(fine & (ctx.inner.sub_roots.get(2).copied() == Some(1)))
 }
 
 // The region of a form.
@@ -261,36 +220,28 @@ fn registers_outlives<C: InferCtxtLike>(
 fn has_registered<I: Interner + Drop>(cx: I) -> Result<bool, OutOfMemory> {
     let mut ctx = RefCtxt::new(cx, TypingMode::Coherence, true, 0)?;
     let (ty, region) = registers_outlives(&mut ctx)?;
-    Ok(ctx.ty_outlives().len() == 1 && ctx.ty_outlives().contains(&OutlivesPredicate(ty, region)))
+    let registered = ctx.ty_outlives();
+    Ok((registered.len() == 1) & registered.contains(&OutlivesPredicate(ty, region)))
 }
 
 #[test]
-fn a_context_is_tainted_by_errors(rt: HostRuntime) -> Result<(), Fail> {
-    assert!(rt; is_tainted_by_errors(RefInterner::new(rt.alloc()))?);
-    Ok(())
-}
-
-#[test]
-fn a_new_context_is_in_the_first_universe(rt: HostRuntime) -> Result<(), Fail> {
-    assert!(rt; is_new(RefInterner::new(rt.alloc()))?);
-    Ok(())
-}
-
-#[test]
-fn a_new_variable_is_its_own_root(rt: HostRuntime) -> Result<(), Fail> {
-    assert!(rt; has_new_variables(RefInterner::new(rt.alloc()))?);
-    assert!(rt; has_number_variables(RefInterner::new(rt.alloc()))?);
-    Ok(())
-}
-
-#[test]
-fn a_variable_is_marked_with_the_one_whose_place_it_takes(rt: HostRuntime) -> Result<(), Fail> {
-    assert!(rt; marks_the_new_one(RefInterner::new(rt.alloc())) == Ok(true));
-    Ok(())
-}
-
-#[test]
-fn a_type_is_to_outlive_a_region(rt: HostRuntime) -> Result<(), Fail> {
-    assert!(rt; has_registered(RefInterner::new(rt.alloc()))?);
+fn contexts_do_what_is_asked(rt: HostRuntime) -> Result<(), Fail> {
+    let alloc = rt.alloc();
+    assert!(rt;
+        has_new_variables(RefInterner::new(alloc)) == Ok(true),
+        "variables"
+    );
+    assert!(rt;
+        has_number_variables(RefInterner::new(alloc)) == Ok(true),
+        "numbers"
+    );
+    assert!(rt;
+        marks_the_new_one(RefInterner::new(alloc)) == Ok(true),
+        "marks"
+    );
+    assert!(rt;
+        has_registered(RefInterner::new(alloc)) == Ok(true),
+        "outlives"
+    );
     Ok(())
 }

@@ -1,20 +1,13 @@
-//! Tests of relating, for what no question can ask. They stand in a crate of their own: a crate with tests is proved
-//! twice, and here is little to prove.
+//! Tests of relating, for what no question can ask.
 #![tactic(auto)]
 
 #[cfg(test)]
 mod contexts;
 #[cfg(test)]
-mod forms;
-#[cfg(test)]
-mod items;
+mod counting;
 #[cfg(test)]
 mod over_items;
 #[cfg(test)]
-mod plain;
-#[cfg(test)]
 mod relating;
 #[cfg(test)]
-mod solving;
-#[cfg(test)]
-mod variances;
+mod tested;

@@ -6,14 +6,13 @@ ghost use Rattle.relation_terms.specs.Meaning.{Extends};
 ghost use Rattle.term_enums.specs.declared.Variance.TheVariants.{Bivariant};
 ghost use Rattle.reference_interner.specs.Adding.{meaning_in};
 ghost use Rattle.relation_semantics.specs.Lawful.{Asked};
-ghost use Rattle.relation_tests.specs.Concrete.{IsConcrete};
-ghost use Rattle.relation_tests.specs.Plain.{plain_state, plain_manner};
+ghost use Rattle.plain_relation.specs.Concrete.{IsConcrete};
+ghost use Rattle.plain_relation.specs.Plain.{plain_state, plain_manner};
 
-use crate::plain::PlainRelation;
-use crate::relating::{add_contravariant, make_args, make_two, outlives};
-use reference_interner::{ItemId, NodeKey, RefInterner, SymbolId};
+use crate::relating::{add_contravariant, args_ask_nothing, make_args, make_byte};
+use plain_relation::PlainRelation;
+use reference_interner::{ItemId, NodeKey, RefInterner};
 use relation_folds::error::RelateResult;
-use relation_terms::predicate::RegionConstraint;
 use relation_terms::terms::{
     AdtId, ArgsKey, DefId, GenericArgs, Interner, OutOfMemory, Ty, TyKey, TyKind, Variance,
 };
@@ -91,31 +90,30 @@ fn related_over(
     Ok((answer, relation))
 }
 
-// Whether the answer is the type, and just this is asked of regions.
+// Whether the answer is the type, and nothing is asked of regions.
 fn asks_over(
     cx: RefInterner,
-    variance: Variance,
     item: ItemId,
     over: &OverItem<NodeKey>,
-    what: RegionConstraint<NodeKey>,
 ) -> RelateResult<RefInterner, bool>
-    requires decides { variance ≢ Bivariant }
     requires concrete { IsConcrete ((meaning_in cx).args (over.now).args) }
     requires is { (meaning_in cx).ty (over.now).ty ≡
         node (adt ((meaning_in cx).id item)) ((meaning_in cx).args (over.now).args) }
 {
-    let (answer, relation) = related_over(cx, variance, item, over)?;
-    Ok(answer == over.ty && relation.constraints.len() == 1 && relation.constraints.contains(&what))
+    let (answer, relation) = related_over(cx, Variance::Covariant, item, over)?;
+    Ok((answer == over.ty) & relation.constraints.is_empty())
 }
 
 #[test]
 fn types_over_an_item_are_related(rt: HostRuntime) -> Result<(), Fail> {
     let mut cx = RefInterner::new(rt.alloc());
     let item = add_contravariant(&mut cx, rt.alloc())?;
-    let two = make_two(&mut cx, &SymbolId(0))?;
-    let over = make_over(&mut cx, &item, &two.left)?;
-    let what = outlives(two.a, two.a);
-    let answer = asks_over(cx, Variance::Covariant, item, &over, what);
-    assert!(rt; matches!(answer, Ok(true)));
+    let byte = make_byte(&mut cx)?;
+    let over = make_over(&mut cx, &item, &byte)?;
+    assert!(rt; asks_over(cx, item, &over) == Ok(true));
+    let mut cx = RefInterner::new(rt.alloc());
+    let byte = make_byte(&mut cx)?;
+    let over = make_over(&mut cx, &item, &byte)?;
+    assert!(rt; args_ask_nothing(cx, &DefId(item), &over.args) == Ok(true));
     Ok(())
 }

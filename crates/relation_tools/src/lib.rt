@@ -1,15 +1,15 @@
-//! What is asked of terms beside relating them: walks, components, quick tests. Gives visits, folds, errors and delayed
-//! collections again.
+//! What is asked of terms beside relating them, for users who list one crate: walks, components, quick tests, predicates
+//! made anonymous, what follows from predicates and assumptions, visits, folds, errors and delayed collections.
 #![tactic(auto)]
 
-pub mod anonymize;
 pub mod elaborate;
-pub mod fast_reject;
-mod keeping;
+pub mod error;
 pub mod laws;
-pub mod outlives;
-pub mod trait_object;
-pub mod walk;
 
+pub use anonymize;
 pub use delayed_map;
-pub use relation_folds::{error, fold, tree, visit};
+pub use fast_reject;
+pub use fast_reject::trait_object;
+pub use outlives;
+pub use relation_folds::{fold, tree, visit};
+pub use walk;

@@ -1,13 +1,8 @@
 //! Prints the answers of worked rows: what relating two types answers, and what it leaves recorded.
 #![tactic(auto)]
 
-mod beginning;
-mod calls;
-mod doubling;
-mod row_names;
-mod rows;
-mod running;
-
+use relation_rows::beginning::tell_unbegun;
+use relation_rows::running::run;
 use std::process::ExitCode;
 use std::{env, io};
 
@@ -21,11 +16,8 @@ fn main(rt: HostRuntime) -> io::Result<ExitCode> {
     let mut out = rt.stdout();
     let mut err = rt.stderr();
     let status = match words_of(&rt) {
-        Ok(words) => running::run(rt.alloc(), words.as_slice(), &mut out, &mut err),
-        Err(error) => beginning::tell_unbegun(&error, &mut err),
+        Ok(words) => run(rt.alloc(), words.as_slice(), &mut out, &mut err),
+        Err(error) => tell_unbegun(&error, &mut err),
     };
     Ok(ExitCode::from(status))
 }
-
-#[cfg(test)]
-mod tests;

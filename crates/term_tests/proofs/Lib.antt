@@ -1,2 +1,2 @@
-pub mod Arguments
-pub mod Owning
+pub mod Carried
+pub mod Stated

@@ -3,12 +3,10 @@ ghost use Rattle.std.specs.Prelude.{IsTrue, IfOk};
 ghost use Rattle.relation_terms.specs.Trees.{known};
 ghost use Rattle.relation_terms.specs.Meaning.{Extends};
 
-use reference_interner::{RefInterner, SymbolId};
-use relation_folds::fold::instantiate_bound_vars;
 use relation_terms::terms::{
     Binder, BoundTy, BoundVar, DebruijnIndex, GenericArgKind, Interner, OutOfMemory, Ty, TyKind,
 };
-use std::test::Fail;
+use relation_tools::fold::instantiate_bound_vars;
 
 // The type that the first place of a binder so many steps up binds.
 fn bound<I: Interner>(cx: &mut I, name: I::Name, index: u64) -> Result<Ty<I>, OutOfMemory>
@@ -30,9 +28,9 @@ fn under_binder<I: Interner>(cx: &mut I, value: Ty<I>) -> Result<Ty<I>, OutOfMem
     cx.mk_ty(TyKind::UnsafeBinder(Binder { value, bound_vars }))
 }
 
-// Whether what is put under a further binder is still bound by the same one.
+/// Whether what is put under a further binder is still bound by the same one.
 #[tactic(auto, using(relation_terms::proofs::Stays::knows_ty))]
-fn moves_what_it_puts<I: Interner>(cx: &mut I, name: I::Name) -> Result<bool, OutOfMemory> {
+pub fn moves_what_it_puts<I: Interner>(cx: &mut I, name: I::Name) -> Result<bool, OutOfMemory> {
     let outer = bound(cx, name, 1)?;
     let body = under_binder(cx, outer)?;
     let by = bound(cx, name, 5)?;
@@ -41,11 +39,4 @@ fn moves_what_it_puts<I: Interner>(cx: &mut I, name: I::Name) -> Result<bool, Ou
     let opened = instantiate_bound_vars(cx, &body, &args)?;
     let moved = bound(cx, name, 6)?;
     Ok(opened == under_binder(cx, moved)?)
-}
-
-#[test]
-fn what_is_put_is_bound_as_before(rt: HostRuntime) -> Result<(), Fail> {
-    let mut cx = RefInterner::new(rt.alloc());
-    assert!(rt; moves_what_it_puts(&mut cx, SymbolId(0))?);
-    Ok(())
 }

@@ -1,33 +1,8 @@
 //! Maps and sets that let their first insertions go, over heaps in which growths are refused too.
-use delayed_map::{DelayedMap, DelayedSet};
 use linked_list_allocator::LocalHeap;
 use relation_terms::terms::OutOfMemory;
+use relation_tools::delayed_map::{DelayedMap, DelayedSet};
 use std::test::Fail;
-
-#[test]
-fn the_33rd_value_is_kept(rt: HostRuntime) -> Result<(), Fail> {
-    let mut map: DelayedMap<u32, u32> = DelayedMap::new(rt.alloc());
-    for k in 1..34u32 {
-        assert!(rt; map.insert(k, k)?);
-    }
-    assert!(rt; map.get(&32).is_none());
-    assert!(rt; map.get(&33).copied() == Some(33));
-    assert!(rt; !map.insert(33, 7)?);
-    assert!(rt; map.get(&33).copied() == Some(7));
-    Ok(())
-}
-
-#[test]
-fn the_33rd_member_is_kept(rt: HostRuntime) -> Result<(), Fail> {
-    let mut set: DelayedSet<u32> = DelayedSet::new(rt.alloc());
-    for k in 1..34u32 {
-        assert!(rt; set.insert(k)?);
-    }
-    assert!(rt; !set.contains(&32));
-    assert!(rt; set.contains(&33));
-    assert!(rt; !set.insert(33)?);
-    Ok(())
-}
 
 // How many of 40 insertions into a set over a heap succeed, and whether one that is refused leaves out its value alone.
 fn count_members(heap: &LocalHeap) -> (u32, bool) {

@@ -1,104 +1,81 @@
-//! Items of the reference interner.
-use crate::{alias_terms, objects};
+//! Tests over the reference interner: all else is over any.
+use crate::{binding, causes, components, predicates, visiting};
 use reference_interner::{
-    DefKind, GenericParam, GenericParamKind, ItemId, ItemKind, RefInterner, SymbolId,
+    DefKind, GenericParam, GenericParamKind, ItemId, ItemKind, NoSpan, RefInterner, SymbolId,
 };
 use relation_terms::predicate::AliasTermKind;
 use relation_terms::terms::{
-    DefId, Interner, OutOfMemory, SolverTraitLangItem, TraitAssocTermId, TraitAssocTyId, TraitId,
-    Variance,
+    Clause, DefId, Interner, OutOfMemory, SolverTraitLangItem, TraitAssocTermId, TraitAssocTyId,
+    TraitId, Variance,
 };
 use std::alloc::Global;
 use std::test::Fail;
 
-// A struct with a lifetime and a type.
-fn add_struct(cx: &mut RefInterner, alloc: Global) -> Result<ItemId, OutOfMemory> {
+const NAME: SymbolId = SymbolId(0);
+
+// An item that has a type as its one parameter.
+fn add(cx: &mut RefInterner, alloc: Global, def: DefKind) -> Result<ItemId, OutOfMemory> {
+    let kind = GenericParamKind::Type;
     let mut params = Vec::new(alloc);
-    params.push(GenericParam {
-        kind: GenericParamKind::Lifetime,
-        name: SymbolId(1),
-    })?;
-    params.push(GenericParam {
-        kind: GenericParamKind::Type,
-        name: SymbolId(2),
-    })?;
+    params.push(GenericParam { kind, name: NAME })?;
     let mut variances = Vec::new(alloc);
-    variances.push(Variance::Covariant)?;
     variances.push(Variance::Invariant)?;
-    let def = DefKind::Adt;
-    cx.add_item(ItemKind { def, params }, SymbolId(0), variances)
+    cx.add_item(ItemKind { def, params }, NAME, variances)
 }
 
-/// An item of a kind, without parameters.
-pub fn add_plain(cx: &mut RefInterner, alloc: Global, def: DefKind) -> Result<ItemId, OutOfMemory> {
-    let params = Vec::new(alloc);
-    cx.add_item(ItemKind { def, params }, SymbolId(3), Vec::new(alloc))
+// The list of one clause that a trait states, at no place.
+#[tactic(auto, using(crate::proofs::Stated::all_parts_of_one))]
+fn state(
+    cx: &mut RefInterner,
+    alloc: Global,
+    of: TraitId<ItemId>,
+) -> Result<Clause<RefInterner>, OutOfMemory> {
+    let clause = causes::make_feature(cx, NAME)?;
+    let mut clauses = Vec::new(alloc);
+    clauses.push((clause, NoSpan))?;
+    cx.set_implied_predicates(of, clauses);
+    Ok(clause)
 }
 
-// Whether parameters and variances are those that were added, and what there is not has none.
-fn generics_are_read(cx: &mut RefInterner, alloc: Global) -> Result<bool, OutOfMemory> {
-    let def = DefId(add_struct(cx, alloc)?);
-    let missing = DefId(ItemId(1));
-    let added = [Variance::Covariant, Variance::Invariant];
-    let read = cx.generics_count(&def) == 2 && cx.variances_of(&def) == added.as_slice();
-    let empty = cx.generics_count(&missing) == 0 && cx.generics_of(&missing).is_empty();
-    Ok(read && empty && cx.generics_of(&def).len() == 2 && cx.item_count() == 1)
-}
-
-// Whether it is told which trait declares an item, and which alias that is.
-fn aliases_are_told(cx: &mut RefInterner, alloc: Global) -> Result<bool, OutOfMemory> {
-    let parent = TraitId(add_plain(cx, alloc, DefKind::Trait)?);
-    let assoc = add_plain(cx, alloc, DefKind::AssocTy(parent))?;
-    let opaque = add_plain(cx, alloc, DefKind::OpaqueTy)?;
-    let parents = cx.projection_parent(&TraitAssocTermId(assoc)) == Some(parent)
-        && cx.projection_parent(&TraitAssocTermId(opaque)).is_none();
-    let def_id = TraitAssocTyId(assoc);
-    let kind = Some(AliasTermKind::ProjectionTy { def_id });
-    let kinds = cx.alias_term_kind_from_def_id(&DefId(assoc)) == kind
-        && cx.alias_term_kind_from_def_id(&DefId(parent.0)).is_none();
-    let variances = cx.opt_alias_variances(&DefId(opaque)).is_some()
-        && cx.opt_alias_variances(&DefId(assoc)).is_none();
-    Ok(parents && kinds && variances)
+// Whether what was added of items is told, and of what there is not nothing.
+fn is_told(cx: &RefInterner, of: TraitId<ItemId>, item: ItemId) -> bool {
+    let missing = DefId(ItemId(9));
+    let def_id = TraitAssocTyId(item);
+    let kind = AliasTermKind::ProjectionTy { def_id };
+    let mut fine = (cx.item_count() == 2) & (cx.generics_of(&DefId(item)).len() == 1);
+    fine &= (cx.generics_count(&DefId(item)) == 1) & (cx.generics_count(&missing) == 0);
+    fine &= cx.variances_of(&DefId(item)) == [Variance::Invariant].as_slice();
+    fine &= cx.projection_parent(&TraitAssocTermId(item)) == Some(of);
+    fine &= cx.projection_parent(&TraitAssocTermId(of.0)).is_none();
+    fine &= cx.alias_term_kind_from_def_id(&DefId(item)) == Some(kind);
+    fine &= cx.alias_term_kind_from_def_id(&DefId(of.0)).is_none();
+    fine & cx.opt_alias_variances(&DefId(item)).is_none()
 }
 
 // Whether what is set of a trait, and of the solver, is told of it alone, and only then.
-fn settings_are_told(cx: &mut RefInterner, alloc: Global) -> Result<bool, OutOfMemory> {
-    let first = TraitId(add_plain(cx, alloc, DefKind::Trait)?);
-    let second = TraitId(add_plain(cx, alloc, DefKind::Trait)?);
-    let off = !cx.next_trait_solver_globally();
-    cx.set_auto(first);
-    cx.set_sized(second);
+fn settings_are_told(cx: &mut RefInterner, of: TraitId<ItemId>, other: TraitId<ItemId>) -> bool {
+    let sized = SolverTraitLangItem::Sized;
+    let mut fine = !cx.next_trait_solver_globally() & !cx.trait_is_auto(&of);
+    cx.set_auto(of);
+    cx.set_sized(of);
     cx.set_solver_globally(true);
-    let auto = cx.trait_is_auto(&first) && !cx.trait_is_auto(&second);
-    let sized = cx.is_trait_lang_item(&second, SolverTraitLangItem::Sized)
-        && !cx.is_trait_lang_item(&first, SolverTraitLangItem::Sized);
-    Ok(auto && sized && off && cx.next_trait_solver_globally())
-}
-
-// An item that has a type as its one parameter.
-fn add_over_type(cx: &mut RefInterner, alloc: Global, def: DefKind) -> Result<ItemId, OutOfMemory> {
-    let kind = GenericParamKind::Type;
-    let name = SymbolId(0);
-    let mut params = Vec::new(alloc);
-    params.push(GenericParam { kind, name })?;
-    let mut variances = Vec::new(alloc);
-    variances.push(Variance::Invariant)?;
-    cx.add_item(ItemKind { def, params }, name, variances)
-}
-
-// Whether what is said of aliases and of trait objects holds of an item that a trait declares.
-fn aliases_go(cx: &mut RefInterner, alloc: Global) -> Result<bool, OutOfMemory> {
-    let of = TraitId(add_over_type(cx, alloc, DefKind::Trait)?);
-    let item = add_over_type(cx, alloc, DefKind::AssocTy(of))?;
-    Ok(alias_terms::all_go(cx, item)? && objects::all_go(cx, item)?)
+    fine &= cx.trait_is_auto(&of) & !cx.trait_is_auto(&other);
+    fine &= cx.is_trait_lang_item(&of, sized) & !cx.is_trait_lang_item(&other, sized);
+    fine & cx.next_trait_solver_globally()
 }
 
 #[test]
-fn says_what_was_added_and_set(rt: HostRuntime) -> Result<(), Fail> {
+fn all_go_over_the_reference_interner(rt: HostRuntime) -> Result<(), Fail> {
     let mut cx = RefInterner::new(rt.alloc());
-    assert!(rt; generics_are_read(&mut cx, rt.alloc())?);
-    assert!(rt; aliases_are_told(&mut cx, rt.alloc())?);
-    assert!(rt; settings_are_told(&mut cx, rt.alloc())?);
-    assert!(rt; aliases_go(&mut cx, rt.alloc())?);
+    let of = TraitId(add(&mut cx, rt.alloc(), DefKind::Trait)?);
+    let item = add(&mut cx, rt.alloc(), DefKind::AssocTy(of))?;
+    assert!(rt; is_told(&cx, of, item), "items");
+    let stated = state(&mut cx, rt.alloc(), of)?;
+    assert!(rt; causes::all_go(&mut cx, of, stated, NAME), "causes");
+    assert!(rt; predicates::all_go(&mut cx, item), "predicates");
+    assert!(rt; visiting::all_go(&mut cx, item, NAME)?, "visiting");
+    assert!(rt; binding::moves_what_it_puts(&mut cx, NAME)?, "binding");
+    assert!(rt; components::all_go(&mut cx, item)?, "components");
+    assert!(rt; settings_are_told(&mut cx, of, TraitId(item)), "settings");
     Ok(())
 }

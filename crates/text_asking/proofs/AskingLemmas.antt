@@ -16,8 +16,8 @@ use Rattle.relation_folds.specs.declared.error.RelateFault.{RelateFault}
 use Rattle.relation_folds.specs.Faults.{KnowsFault}
 use Rattle.relation_semantics.specs.Goals.{KnowsGoal}
 use Rattle.relation_semantics.specs.Stores.{IsTermIn}
-use Rattle.relation_reference.specs.declared.context.inner.InferCtxtInner.{InferCtxtInner}
-use Rattle.relation_reference.specs.Tables.{store_of}
+use Rattle.variable_tables.specs.declared.inner.InferCtxtInner.{InferCtxtInner}
+use Rattle.variable_tables.specs.Tables.{store_of}
 use Rattle.text_asking.proofs.Counting.{entries_count}
 use Rattle.term_enums.specs.declared.Variance.{Variance}
 use Rattle.text_needs.specs.declared.binding.Uses.{Uses}

@@ -5,8 +5,8 @@ use Rattle.relation_terms.specs.Heads.{VarKind, type_var, int_var, float_var, co
 use Rattle.relation_terms.specs.Meaning.{Meaning}
 use Rattle.relation_semantics.specs.Stores.{unbound}
 use Rattle.relation_semantics.specs.Steps.{MakesVariable, IsLater}
-use Rattle.relation_reference.specs.declared.context.inner.InferCtxtInner.{InferCtxtInner}
-use Rattle.relation_reference.specs.Tables.{store_of}
+use Rattle.variable_tables.specs.declared.inner.InferCtxtInner.{InferCtxtInner}
+use Rattle.variable_tables.specs.Tables.{store_of}
 use Rattle.relation_reference.proofs.Making.{entries_long}
 use Rattle.text_asking.specs.Asking.{variables_in}
 

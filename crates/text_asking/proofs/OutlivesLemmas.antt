@@ -6,12 +6,12 @@ use Rattle.std.proofs.lemmas.Bool.{and_parts}
 use mathlib.Core.Former.{Count}
 use Rattle.relation_terms.specs.Trees.{Tree, leaf, node, bind, nil, cons, known}
 use Rattle.relation_terms.specs.Meaning.{Meaning}
-use Rattle.relation_tools.specs.Components.{Choice, every, components, choice_of, choice_behind, takes, is_alias, is_component, inside_alias, alias_choice}
-use Rattle.relation_tools.specs.Outliving.{SomeIs, EachIs, StandsFor, EachStands, AddsSome}
+use Rattle.component_parts.specs.Components.{Choice, every, components, choice_of, choice_behind, takes, is_alias, is_component, inside_alias, alias_choice}
+use Rattle.outlives.specs.Outliving.{SomeIs, EachIs, StandsFor, EachStands, AddsSome}
 use Rattle.relation_terms.specs.Heads.{alias}
-use Rattle.relation_tools.specs.declared.outlives.Component.{Component, Region, Param, Placeholder, UnresolvedInferenceVariable, Alias, EscapingAlias, EscapingAlias', Row_of-Component, end_of-Component, more_of-Component, items-the_row-Component, items_hidden-the_row-Component-0}
+use Rattle.outlives.specs.declared.Component.{Component, Region, Param, Placeholder, UnresolvedInferenceVariable, Alias, EscapingAlias, EscapingAlias', Row_of-Component, end_of-Component, more_of-Component, items-the_row-Component, items_hidden-the_row-Component-0}
 use Rattle.text_asking.specs.Outlives.{KnowsComponent, KnowsInside, KnowsComponents}
-use Rattle.relation_tools.proofs.Outliving.{each_both}
+use Rattle.outlives.proofs.Outliving.{each_both}
 
 abbrev Known : Tree → Type 0
 Known t = IsTrue (known t)

@@ -14,7 +14,7 @@ use Rattle.text_asking.specs.Args.{same_arg, alike}
 use Rattle.relation_terms.specs.Equality.{same_tree}
 use Rattle.text_asking.specs.Meets.{is_in, answer_at}
 use Rattle.text_asking.specs.Puts.{first_put, ArePuts, tree_put, tree_of}
-use Rattle.relation_tools.proofs.Positioning.{bool_iff}
+use Rattle.walk.proofs.Positioning.{bool_iff}
 use Rattle.relation_terms.proofs.Equality.{same_is, is_same}
 use Rattle.relation_terms.proofs.Once.{apart, region_no_type, region_no_const, type_no_const}
 

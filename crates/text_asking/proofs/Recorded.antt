@@ -7,13 +7,13 @@ use Rattle.relation_terms.specs.Meaning.{Meaning}
 use Rattle.relation_terms.specs.declared.predicate.regions.RegionConstraint.{RegionConstraint}
 use Rattle.relation_semantics.specs.Stores.{ConstraintIn}
 use Rattle.relation_semantics.specs.Constraints.{constraint_of}
-use Rattle.relation_reference.specs.declared.context.inner.InferCtxtInner.{InferCtxtInner}
-use Rattle.relation_reference.specs.declared.context.inner.Variable.{Variable}
-use Rattle.relation_reference.specs.declared.context.inner.VariableValue.{VariableValue}
-use Rattle.relation_reference.specs.declared.context.inner.VariableValue.TheVariants.{Unknown, SameAs, Known}
-use Rattle.relation_reference.specs.Variables.{entry_of_value, value_at}
-use Rattle.relation_reference.specs.Tables.{store_of, IsLawful}
-use Rattle.relation_reference.proofs.Grows.{bound_known, entry_at}
+use Rattle.variable_tables.specs.declared.inner.InferCtxtInner.{InferCtxtInner}
+use Rattle.variable_tables.specs.declared.inner.Variable.{Variable}
+use Rattle.variable_tables.specs.declared.inner.VariableValue.{VariableValue}
+use Rattle.variable_tables.specs.declared.inner.VariableValue.TheVariants.{Unknown, SameAs, Known}
+use Rattle.variable_tables.specs.Variables.{entry_of_value, value_at}
+use Rattle.variable_tables.specs.Tables.{store_of, IsLawful}
+use Rattle.variable_tables.proofs.Grows.{bound_known, entry_at}
 use Rattle.text_asking.specs.Asking.{AreBoundKnown}
 use Rattle.text_asking.specs.Roots.{bound_by}
 

@@ -5,8 +5,8 @@ use Rattle.relation_terms.specs.Heads.{VarKind, VarKind_discrete, type_var, int_
 use Rattle.relation_terms.specs.declared.terms.numbers.UniverseIndex.{UniverseIndex}
 use Rattle.relation_terms.specs.Meaning.{Meaning}
 use Rattle.relation_semantics.specs.Steps.{MakesVariable}
-use Rattle.relation_reference.specs.declared.context.inner.InferCtxtInner.{InferCtxtInner}
-use Rattle.relation_reference.specs.Tables.{store_of}
+use Rattle.variable_tables.specs.declared.inner.InferCtxtInner.{InferCtxtInner}
+use Rattle.variable_tables.specs.Tables.{store_of}
 use Rattle.text_reading.specs.declared.naming.program.Variables.{Variables}
 use Rattle.text_asking.specs.Asking.{universes_in, variables_in, home, MakesIn, HasStated}
 

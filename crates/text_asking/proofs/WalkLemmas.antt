@@ -10,9 +10,10 @@ use Rattle.relation_terms.specs.Trees.{Tree, known, size, list_tree}
 use Rattle.relation_terms.specs.Meaning.{Meaning, arg_tree}
 use Rattle.relation_terms.specs.declared.terms.generic_arg.GenericArgKind.{GenericArgKind}
 use Rattle.term_enums.specs.declared.memory.OutOfMemory.{OutOfMemory}
-use Rattle.relation_tools.specs.Stacks.{present}
-use Rattle.relation_tools.specs.Walking.{Walk, Pull, first_unseen}
-use Rattle.relation_tools.specs.Positions.{yields, Call, pull, skip, Tells, has_ended, Runs, ByPlaces}
+use Rattle.traversal.specs.Stacks.{present}
+use Rattle.walk.specs.Walking.{Walk, Pull}
+use Rattle.traversal.specs.Unseen.{first_unseen}
+use Rattle.walk.specs.Positions.{yields, Call, pull, skip, Tells, has_ended, Runs, ByPlaces}
 use Rattle.text_asking.specs.Meets.{AllKnown}
 use Rattle.text_asking.specs.Skips.{stands_in}
 use Rattle.text_terms.proofs.BuildingLemmas.{both_true}

@@ -12,10 +12,10 @@ use Rattle.relation_terms.specs.declared.terms.keys.PredicateKey.{PredicateKey}
 use Rattle.relation_terms.specs.Trees.{Tree, known}
 use Rattle.relation_terms.specs.Meaning.{Meaning, arg_tree}
 use Rattle.relation_terms.specs.Heads.{VarKind, type_var, int_var, float_var, const_var, region_var}
-use Rattle.relation_reference.specs.declared.context.inner.InferCtxtInner.{InferCtxtInner}
-use Rattle.relation_reference.specs.declared.context.inner.Variable.{Variable}
-use Rattle.relation_reference.specs.declared.context.inner.VariableValue.TheVariants.{Known}
-use Rattle.relation_reference.specs.Variables.{value_at, universes_of}
+use Rattle.variable_tables.specs.declared.inner.InferCtxtInner.{InferCtxtInner}
+use Rattle.variable_tables.specs.declared.inner.Variable.{Variable}
+use Rattle.variable_tables.specs.declared.inner.VariableValue.TheVariants.{Known}
+use Rattle.variable_tables.specs.Variables.{value_at, universes_of}
 use Rattle.relation_folds.specs.declared.error.RelateFault.{RelateFault}
 use Rattle.relation_folds.specs.Faults.{KnowsFault}
 use Rattle.relation_semantics.specs.Bound.{BindByLists}
@@ -39,7 +39,7 @@ use Rattle.text_asking.specs.declared.question.Ready.{Ready}
 use Rattle.text_asking.specs.declared.question.Answer.{Answer}
 use Rattle.text_asking.specs.declared.question.Answer.TheVariants.{Related, Met, Walked, Components, Folded, Is}
 use Rattle.text_asking.specs.declared.question.Answer.TheVariants.{Assumed, Key as key, Pulls, Binding}
-use Rattle.relation_tools.specs.Assumptions.{IsKnown}
+use Rattle.outlives_assumptions.specs.Assumptions.{IsKnown}
 use Rattle.text_asking.specs.Meets.{AllKnown}
 use Rattle.text_needs.specs.Needs.{Allows, Reaches, largest, need_at}
 use Rattle.text_elaboration.specs.Pulls.{KnowsPulled}

@@ -3,9 +3,9 @@ use Rattle.std.specs.Prelude.{List, [], IsTrue}
 use Rattle.relation_terms.specs.declared.terms.keys.TyKey.{TyKey}
 use Rattle.relation_terms.specs.Trees.{known}
 use Rattle.relation_terms.specs.Meaning.{Meaning}
-use Rattle.relation_tools.specs.Components.{every, components}
-use Rattle.relation_tools.specs.Outliving.{EachIs, AddsSome, HasAll}
-use Rattle.relation_tools.specs.declared.outlives.Component.{Component, Region, Param, Placeholder, UnresolvedInferenceVariable, Alias, EscapingAlias', Row_of-Component, end_of-Component, more_of-Component}
+use Rattle.component_parts.specs.Components.{every, components}
+use Rattle.outlives.specs.Outliving.{EachIs, AddsSome, HasAll}
+use Rattle.outlives.specs.declared.Component.{Component, Region, Param, Placeholder, UnresolvedInferenceVariable, Alias, EscapingAlias', Row_of-Component, end_of-Component, more_of-Component}
 
 module _ {X D N : Type 0} (m : Meaning X D N) where
   abbrev mutual

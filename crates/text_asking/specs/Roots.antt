@@ -2,11 +2,11 @@
 use Rattle.std.specs.Prelude.{◌≡◌, ℕ, List, Option, Some, None}
 use Rattle.relation_terms.specs.declared.terms.generic_arg.GenericArgKind.{GenericArgKind}
 use Rattle.relation_terms.specs.declared.terms.generic_arg.GenericArgKind.TheVariants as arg
-use Rattle.relation_reference.specs.declared.context.inner.InferCtxtInner.{InferCtxtInner}
-use Rattle.relation_reference.specs.declared.context.inner.Variable.{Variable}
-use Rattle.relation_reference.specs.declared.context.inner.VariableValue.{VariableValue}
-use Rattle.relation_reference.specs.declared.context.inner.VariableValue.TheVariants.{Unknown, SameAs, Known}
-use Rattle.relation_reference.specs.Variables.{root_at, value_at}
+use Rattle.variable_tables.specs.declared.inner.InferCtxtInner.{InferCtxtInner}
+use Rattle.variable_tables.specs.declared.inner.Variable.{Variable}
+use Rattle.variable_tables.specs.declared.inner.VariableValue.{VariableValue}
+use Rattle.variable_tables.specs.declared.inner.VariableValue.TheVariants.{Unknown, SameAs, Known}
+use Rattle.variable_tables.specs.Variables.{root_at, value_at}
 use Rattle.text_reading.specs.declared.naming.program.VariableKind.{VariableKind}
 use Rattle.text_reading.specs.declared.naming.program.VariableKind.TheVariants.{Ty, Int, Float, Const, Region}
 use Rattle.text_reading.specs.declared.naming.program.VariableId.{VariableId}

@@ -4,8 +4,8 @@ use Rattle.std.specs.List.{list_any}
 use Rattle.std.specs.Prelude.{◌==◌}
 use Rattle.relation_terms.specs.Meaning.{Meaning, arg_tree}
 use Rattle.relation_terms.specs.declared.terms.generic_arg.GenericArgKind.{GenericArgKind}
-use Rattle.relation_tools.specs.Positions.{yields, ByPlaces}
-use Rattle.relation_tools.specs.Walking.{Walk}
+use Rattle.walk.specs.Positions.{yields, ByPlaces}
+use Rattle.walk.specs.Walking.{Walk}
 
 -- A number stands among others.
 abbrev pub stands_in : List ℕ → ℕ → Bool

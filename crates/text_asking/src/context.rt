@@ -6,7 +6,7 @@ ghost use Rattle.relation_folds.specs.Faults.{KnowsFault};
 ghost use Rattle.relation_semantics.specs.Contexts.{KnowsEnv};
 ghost use Rattle.type_relations.specs.Relating.{KnowsTerm, TakesTerm, HasTerm, AnswersTerms, KeepsEqual, TellsApart};
 ghost use Rattle.type_relations.specs.Relating.{AnswersOnly};
-ghost use Rattle.relation_reference.specs.Tables.{IsLawful};
+ghost use Rattle.variable_tables.specs.Tables.{IsLawful};
 ghost use Rattle.text_needs.specs.Needs.{Reaches};
 ghost use Rattle.std.specs.List.{All};
 ghost use Rattle.text_asking.specs.Asking.{Has, HasNamed, HasStated, IsAskable, IsSetUp, MakesIn};

@@ -5,7 +5,7 @@ ghost use Rattle.relation_terms.specs.Trees.{known};
 ghost use Rattle.relation_terms.specs.Meaning.{Meaning, Extends};
 ghost use Rattle.relation_terms.specs.Owned.{bound_tree};
 ghost use Rattle.text_elaboration.specs.Pulls.{KnowsPulled};
-ghost use Rattle.relation_reference.specs.Tables.{IsLawful};
+ghost use Rattle.variable_tables.specs.Tables.{IsLawful};
 ghost use Rattle.text_asking.specs.Asking.{AllReady};
 
 use crate::question::{Ready, Unasked};

@@ -12,7 +12,7 @@ mod elaborating;
 mod folding;
 mod interner;
 mod lists;
-mod outlives;
+mod outliving;
 pub mod printing;
 mod question;
 mod quick;

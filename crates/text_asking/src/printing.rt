@@ -8,9 +8,9 @@ ghost use Rattle.relation_folds.specs.Faults.{KnowsBoth, KnowsError};
 ghost use Rattle.relation_semantics.specs.Goals.{KnowsGoal};
 ghost use Rattle.relation_semantics.specs.Stores.{ConstraintIn};
 ghost use Rattle.relation_semantics.specs.Constraints.{constraint_of};
-ghost use Rattle.relation_reference.specs.Tables.{IsLawful};
-ghost use Rattle.relation_reference.specs.Variables.{value_at};
-ghost use Rattle.relation_reference.specs.declared.context.inner.VariableValue.TheVariants.{Known};
+ghost use Rattle.variable_tables.specs.Tables.{IsLawful};
+ghost use Rattle.variable_tables.specs.Variables.{value_at};
+ghost use Rattle.variable_tables.specs.declared.inner.VariableValue.TheVariants.{Known};
 ghost use Rattle.relation_reference.specs.RefCtxt.{store_in};
 ghost use Rattle.text_asking.specs.Asking.{AreBoundKnown, KnowsRelated};
 

@@ -2,7 +2,7 @@
 ghost use Rattle.std.specs.Prelude.{◌≡◌, IsTrue, IsFalse, IfSome, IfOk};
 ghost use Rattle.relation_terms.specs.Trees.{known};
 ghost use Rattle.relation_terms.specs.Meaning.{Meaning, Extends, arg_tree};
-ghost use Rattle.relation_reference.specs.Tables.{IsLawful};
+ghost use Rattle.variable_tables.specs.Tables.{IsLawful};
 ghost use Rattle.text_asking.specs.Puts.{ArePuts};
 ghost use Rattle.text_asking.specs.Meets.{AllKnown};
 ghost use Rattle.text_asking.specs.Asking.{AllReady, IsReady, IsSetUp, KnowsAnswer, KnowsRelated};
@@ -12,7 +12,7 @@ use crate::context::{NotAsked, have_all_stated, have_variables, refusal, relate,
 use crate::elaborating::{ask_elaborated, ask_supertrait_ids, ask_supertraits, told};
 use crate::folding::{fold, puts_at};
 use crate::lists::ask_args_related;
-use crate::outlives::{ask_assumptions, ask_components};
+use crate::outliving::{ask_assumptions, ask_components};
 use crate::quick::{KeyOf, ask_args_may_unify, ask_key, ask_may_unify};
 use crate::roots::{ask_binding, ask_one};
 use crate::sized_keys::SizedKeys;

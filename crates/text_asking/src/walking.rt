@@ -1,6 +1,6 @@
 //! Walks that are asked for: what a walk yields that skips after some of its pulls.
 ghost use Rattle.std.specs.Prelude.{◌≡◌, IfOk, cond, []};
-ghost use Rattle.relation_tools.specs.Walking.{Walk};
+ghost use Rattle.walk.specs.Walking.{Walk};
 ghost use Rattle.text_asking.specs.Meets.{AllKnown};
 ghost use Rattle.text_asking.specs.Skips.{stands_in, AreYielded, GoesOver};
 

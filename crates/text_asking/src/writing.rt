@@ -2,13 +2,13 @@
 ghost use Rattle.std.specs.Prelude.{IsTrue, IfSome, IfOk};
 ghost use Rattle.relation_terms.specs.Trees.{known};
 ghost use Rattle.relation_terms.specs.Meaning.{arg_tree};
-ghost use Rattle.relation_reference.specs.Tables.{IsLawful};
+ghost use Rattle.variable_tables.specs.Tables.{IsLawful};
 ghost use Rattle.text_asking.specs.Asking.{KnowsAnswer, KnowsRelated};
 
 use crate::answer_text::{AnswerText, CUT_OFF};
 use crate::context::write_not_asked;
 use crate::counts::write_counted;
-use crate::outlives::{write_assumptions, write_components};
+use crate::outliving::{write_assumptions, write_components};
 use crate::printing::write_answer;
 use crate::question::{Answer, AnswerOf, Outcome, Unasked};
 use crate::quick::write_key;

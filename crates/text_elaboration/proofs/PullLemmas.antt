@@ -10,11 +10,12 @@ use Rattle.relation_terms.specs.declared.predicate.trait_ref.TraitRef.{TraitRef}
 use Rattle.relation_terms.specs.declared.terms.binder.Binder.{Binder}
 use Rattle.relation_terms.specs.declared.terms.keys.ClauseKey.{ClauseKey}
 use Rattle.relation_terms.proofs.Stays.{stays_same, extends_on, knows_as, knows_clause}
-use Rattle.relation_elaboration.specs.declared.faults.ElabFault.{ElabFault}
-use Rattle.relation_elaboration.specs.declared.faults.ElabFault.TheVariants.{Limit}
-use Rattle.relation_elaboration.specs.Pulling.{Elaboration, Pulls, Keeps, Takes, HasNoRoom, mode_of}
+use Rattle.elaboration_worklist.specs.declared.faults.ElabFault.{ElabFault}
+use Rattle.elaboration_worklist.specs.declared.faults.ElabFault.TheVariants.{Limit}
+use Rattle.relation_statements.specs.Children.{mode_of}
+use Rattle.relation_elaboration.specs.Pulling.{Elaboration, Pulls, Keeps, Takes, HasNoRoom}
 use Rattle.relation_elaboration.specs.Finding.{PassesOver, Stops, FindsNext}
-use Rattle.relation_elaboration.proofs.Growing.{stays_bound}
+use Rattle.relation_statements.proofs.Growing.{stays_bound}
 use Rattle.relation_elaboration.proofs.Taking.{begins_by, too_many_by}
 use Rattle.text_elaboration.specs.declared.pulls.Manner.{Manner}
 use Rattle.text_elaboration.specs.declared.pulls.Pulled.{Pulled}

@@ -7,9 +7,9 @@ use Rattle.std.specs.List.{Contains, filter_map}
 use Rattle.std.proofs.lemmas.List.Elements.{filter_map-append, Contains-push, Contains-push_cases}
 use Rattle.relation_terms.specs.Meaning.{Meaning}
 use Rattle.relation_terms.specs.declared.terms.ids.TraitId.{TraitId}
-use Rattle.relation_elaboration.specs.Runs.{IsDistinct}
-use Rattle.relation_elaboration.specs.Statements.{statements}
-use Rattle.relation_elaboration.specs.Reach.{Reaching, ReachesAll, ByReach, GoesBy, numbers}
+use Rattle.elaboration_worklist.specs.Pushes.{IsDistinct}
+use Rattle.relation_statements.specs.Statements.{statements}
+use Rattle.relation_statements.specs.Reach.{Reaching, ReachesAll, ByReach, GoesBy, numbers}
 use Rattle.text_elaboration.specs.declared.pulls.Pulled.{Pulled}
 use Rattle.text_elaboration.specs.declared.pulls.Pulled.TheVariants as pulled
 use Rattle.text_elaboration.specs.Pulls.{is_last, trait_in, traits_answered, WentOn, AreReached}

@@ -16,16 +16,16 @@ use Rattle.relation_terms.specs.declared.predicate.trait_ref.TraitRef.{TraitRef}
 use Rattle.relation_terms.specs.declared.terms.binder.Binder.{Binder}
 use Rattle.relation_terms.specs.declared.terms.keys.ClauseKey.{ClauseKey}
 use Rattle.relation_terms.proofs.Stays.{knows_as, stays_same, extends_on}
-use Rattle.relation_elaboration.specs.declared.faults.ElabFault.{ElabFault}
-use Rattle.relation_elaboration.specs.declared.faults.ElabFault.TheVariants.{Limit, Memory}
-use Rattle.relation_elaboration.specs.Children.{Mode}
-use Rattle.relation_elaboration.specs.Statements.{statements}
-use Rattle.relation_elaboration.specs.Runs.{AreTooMany}
+use Rattle.elaboration_worklist.specs.declared.faults.ElabFault.{ElabFault}
+use Rattle.elaboration_worklist.specs.declared.faults.ElabFault.TheVariants.{Limit, Memory}
+use Rattle.relation_statements.specs.Children.{Mode, mode_of}
+use Rattle.relation_statements.specs.Statements.{statements}
+use Rattle.relation_statements.specs.Runs.{AreTooMany}
 use Rattle.relation_elaboration.specs.Pulling.{Elaboration, Keeps, Faults, HasNoRoom, BeginsClosure, ByClosure}
-use Rattle.relation_elaboration.specs.Pulling.{standing, named, mode_of}
+use Rattle.relation_elaboration.specs.Pulling.{standing, named}
 use Rattle.relation_elaboration.specs.Finding.{FindsNext, FindsAll, FindsClosed, TraitsByClosure}
 use Rattle.relation_elaboration.proofs.Finding.{traits_closed, one_too_many}
-use Rattle.relation_elaboration.proofs.Growing.{stays_bound}
+use Rattle.relation_statements.proofs.Growing.{stays_bound}
 use Rattle.relation_elaboration.proofs.Taking.{too_many_by}
 use Rattle.text_elaboration.specs.declared.pulls.Pulled.{Pulled}
 use Rattle.text_elaboration.specs.declared.pulls.Pulled.TheVariants as pulled

@@ -12,13 +12,15 @@ use Rattle.relation_terms.specs.declared.terms.binder.Binder.{Binder}
 use Rattle.relation_terms.specs.declared.terms.ids.TraitId.{TraitId}
 use Rattle.term_enums.specs.declared.memory.OutOfMemory.{OutOfMemory}
 use Rattle.relation_terms.specs.declared.terms.keys.ClauseKey.{ClauseKey}
-use Rattle.relation_elaboration.specs.declared.faults.ElabFault.{ElabFault}
-use Rattle.relation_elaboration.specs.declared.faults.ElabFault.TheVariants as fault
-use Rattle.relation_elaboration.specs.Runs.{Standing, AreTooMany, IsDistinct}
-use Rattle.relation_elaboration.specs.Statements.{statements}
-use Rattle.relation_elaboration.specs.Pulling.{Elaboration, Pulls, BeginsWith, mode_of}
+use Rattle.elaboration_worklist.specs.declared.faults.ElabFault.{ElabFault}
+use Rattle.elaboration_worklist.specs.declared.faults.ElabFault.TheVariants as fault
+use Rattle.relation_statements.specs.Runs.{Standing, AreTooMany}
+use Rattle.elaboration_worklist.specs.Pushes.{IsDistinct}
+use Rattle.relation_statements.specs.Statements.{statements}
+use Rattle.relation_statements.specs.Children.{mode_of}
+use Rattle.relation_elaboration.specs.Pulling.{Elaboration, Pulls, BeginsWith}
 use Rattle.relation_elaboration.specs.Finding.{FindsNext, FindsAll, FindsClosed}
-use Rattle.relation_elaboration.specs.Reach.{Reaching, Reaches, Goes, numbers}
+use Rattle.relation_statements.specs.Reach.{Reaching, Reaches, Goes, numbers}
 use Rattle.text_elaboration.specs.declared.pulls.Pulled.{Pulled}
 use Rattle.text_elaboration.specs.declared.pulls.Pulled.TheVariants as pulled
 use Rattle.text_elaboration.specs.declared.pulls.Manner.{Manner}

@@ -5,18 +5,17 @@ ghost use Rattle.std.specs.List.{All};
 ghost use Rattle.relation_terms.specs.Trees.{known};
 ghost use Rattle.relation_terms.specs.Meaning.{Meaning, Extends};
 ghost use Rattle.relation_terms.specs.Owned.{bound_tree};
-ghost use Rattle.relation_elaboration.specs.Pulling.{mode_of};
+ghost use Rattle.relation_statements.specs.Children.{mode_of};
 ghost use Rattle.text_elaboration.specs.Pulls.{KnowsPulled, AnswersOne, Answers, AnswersBegun, Elaborates, most, is_last};
 ghost use Rattle.text_elaboration.specs.Pulls.{FindsOne, FindsUpTo, WentOn, AnswersSupertraits, ReachesOne, AreReached};
 ghost use Rattle.text_elaboration.specs.Pulls.{sign_text};
 
-use relation_elaboration::{
-    ElabFault, Elaborator, FilterToTraits, SupertraitDefIds, supertrait_def_ids,
-};
 use relation_terms::predicate::{TraitRef, clause_of_trait_ref};
 use relation_terms::terms::{
     Binder, Clause, ClauseKey, DefId, Interner, Keys, OutOfMemory, TraitId,
 };
+use relation_tools::elaborate::{Elaborator, FilterToTraits, SupertraitDefIds, supertrait_def_ids};
+use relation_tools::error::ElabFault;
 use std::alloc::Global;
 use std::fmt::{self, Write};
 use text_clauses::printing::{write_bound, write_clause};

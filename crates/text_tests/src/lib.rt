@@ -1,5 +1,4 @@
-//! Tests that go through texts, for what no question can ask. They stand in a crate of their own: a crate with tests is
-//! proved twice, and here is little to prove.
+//! Tests that go through texts and rows, for what no question can ask.
 #![tactic(auto)]
 
 #[cfg(test)]
@@ -7,6 +6,8 @@ mod naming;
 #[cfg(test)]
 mod printing;
 #[cfg(test)]
-mod reading;
-#[cfg(test)]
 mod resolving;
+#[cfg(test)]
+mod runs;
+#[cfg(test)]
+mod telling;

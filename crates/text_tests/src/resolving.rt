@@ -1,10 +1,8 @@
 //! Questions about a term go through each part once, however often it stands there, and their answers are cut off.
+use crate::telling::told;
 use std::alloc::Global;
 use std::fmt::{self, Write};
 use std::test::Fail;
-use text_asking::ask_all;
-use text_reading::naming::look_up;
-use text_reading::reading::read;
 
 // How many times the name of a parameter is doubled, so that few of its leaves fill an answer.
 const NAME_DOUBLINGS: usize = 16;
@@ -35,18 +33,10 @@ fn over_tower(alloc: Global, question: &str) -> Result<String, fmt::Error> {
     Ok(text)
 }
 
-// The answer to a question over the tower.
-fn answer_of(alloc: Global, question: &str) -> Result<String, fmt::Error> {
-    let text = over_tower(alloc, question)?;
-    let Ok(tree) = read(alloc, text.as_bytes()) else {
-        return Err(fmt::Error);
-    };
-    let Ok(program) = look_up(alloc, text.as_str(), &tree) else {
-        return Err(fmt::Error);
-    };
-    let mut answer = String::new(alloc);
-    ask_all(alloc, &program, "\n", &mut answer)?;
-    Ok(answer)
+// The answers to questions over the tower.
+fn answer_of(alloc: Global, questions: &str) -> Result<String, fmt::Error> {
+    let text = over_tower(alloc, questions)?;
+    told(alloc, text.as_str())
 }
 
 // How many bytes are told of an answer that is cut off, with the mark behind them.
@@ -84,7 +74,7 @@ fn short_answers_are_whole(rt: HostRuntime) -> Result<(), Fail> {
         rt.alloc(),
         "escapes t60; infers t60; rigid t60; ?0 == ?1; then one ?0, ?1;",
     )?;
-    assert_eq!(rt; answer.as_str(), "false\ntrue\ntrue\nok\ntrue");
+    assert_eq!(rt; answer.as_str(), "false | true | true | ok | true");
     Ok(())
 }
 
@@ -103,20 +93,9 @@ fn write_chain(first: usize, count: usize, out: &mut String) -> fmt::Result {
     out.write_str(");")
 }
 
-// The answers to a text.
-fn answers(alloc: Global, text: &str) -> Result<String, fmt::Error> {
-    let Ok(tree) = read(alloc, text.as_bytes()) else {
-        return Err(fmt::Error);
-    };
-    let Ok(program) = look_up(alloc, text, &tree) else {
-        return Err(fmt::Error);
-    };
-    let mut out = String::new(alloc);
-    ask_all(alloc, &program, "\n", &mut out)?;
-    Ok(out)
-}
-
-const TOO_DEEP: &str = "not asked: what it comes to may be too deep for the stack";
+const ANSWERS: &str = "0; left=9000 | [?1] | 0; left=8999 | \
+    not asked: what it comes to may be too deep for the stack | \
+    not asked: what it comes to may be too deep for the stack | none";
 
 // A question whose terms may form too long a chain is not asked, nor one that would make a chain of those before too
 // long; the questions behind it are.
@@ -128,12 +107,42 @@ fn long_chains_are_not_asked(rt: HostRuntime) -> Result<(), Fail> {
     write_chain(1001, 40, &mut text)?;
     write_chain(0, 1100, &mut text)?;
     text.push_str("then binding ?0;")?;
-    let all = answers(rt.alloc(), text.as_str())?;
-    let mut wanted = String::from_str(rt.alloc(), "0; left=9000\n[?1]\n0; left=8999\n")?;
-    wanted.push_str(TOO_DEEP)?;
-    wanted.push_str("\n")?;
-    wanted.push_str(TOO_DEEP)?;
-    wanted.push_str("\nnone")?;
-    assert_eq!(rt; all.as_str(), wanted.as_str());
+    let all = told(rt.alloc(), text.as_str())?;
+    assert_eq!(rt; all.as_str(), ANSWERS);
+    Ok(())
+}
+
+// A tower of so many levels.
+fn levels(alloc: Global, count: usize) -> Result<String, fmt::Error> {
+    let mut text = String::new(alloc);
+    text.write_str("let t1 = u8;")?;
+    for level in 1..count {
+        let next = level.saturating_add(1);
+        write!(text, "let t{next} = (t{level}, t{level});")?;
+    }
+    Ok(text)
+}
+
+// A term has at most 1,024 levels, brackets counted.
+#[test]
+fn deep_terms_are_told(rt: HostRuntime) -> Result<(), Fail> {
+    let mut text = levels(rt.alloc(), 1024)?;
+    text.write_str("t1024 == t1024;")?;
+    assert_eq!(rt; told(rt.alloc(), text.as_str())?.as_str(), "ok");
+    text.write_str("\n[t1024] == u8;")?;
+    let why = told(rt.alloc(), text.as_str())?;
+    assert_eq!(rt;
+        why.as_str(),
+        "text:2:1: the term has more than 1024 levels\n"
+    );
+    let mut text = String::new(rt.alloc());
+    for _ in 0..10_000 {
+        text.write_str("[")?;
+    }
+    let why = told(rt.alloc(), text.as_str())?;
+    assert_eq!(rt;
+        why.as_str(),
+        "text:1:1025: the term has more than 1024 levels\n"
+    );
     Ok(())
 }

@@ -4,14 +4,14 @@ ghost use Rattle.std.specs.Prelude.{◌≡◌, IsTrue, IsFalse, IfOk, OnOk};
 ghost use Rattle.relation_terms.specs.Trees.{known, leaf};
 ghost use Rattle.relation_terms.specs.Parts.{part_tree};
 ghost use Rattle.relation_semantics.specs.Stores.{InContext};
-ghost use Rattle.relation_reference.specs.Tables.{IsLawful};
+ghost use Rattle.variable_tables.specs.Tables.{IsLawful};
 ghost use Rattle.relation_reference.specs.RefCtxt.{store_in, part_term};
-ghost use Rattle.relation_reference.specs.Remembering.{vid_kind, vid_number};
+ghost use Rattle.occurs_check.specs.TermVids.{vid_kind, vid_number};
 ghost use Rattle.relation_reference.specs.Generalises.{side_of, parts_side, AreClear, IsClearFor, TellsClear};
 ghost use Rattle.relation_reference.specs.Generalises.{HasObstacle, IsLeftAlias, IsSeenTree, TellsGivesWay};
 
 use crate::context::RefCtxt;
-use crate::context::generalising::{Fate, TargetOf};
+use occurs_check::fates::{Fate, TargetOf, fate_of};
 use relation_semantics::relate::StructurallyRelateAliases;
 use relation_terms::terms::parts::{part, parts_count};
 use relation_terms::terms::{Interner, OutOfMemory, Part, PartOf, Ty, TyKey, TyKind, Variance};
@@ -94,7 +94,13 @@ impl<I: Interner> RefCtxt<I> {
         ensures is_not { IsFalse result → (l : _) → part_tree (I.meaning self.now.interner) term.now ≡ leaf l →
             IsClearFor (vid_kind target.now.vid) (vid_number target.now.vid) target.now.universe.0 (leaf l) }
     {
-        match self.fate_of(term, Variance::Invariant, target) {
+        match fate_of(
+            &self.interner,
+            &self.inner,
+            term,
+            Variance::Invariant,
+            target,
+        ) {
             Fate::Cycle => true,
             Fate::Beyond => true,
             Fate::ByParts => false,

@@ -6,17 +6,17 @@ ghost use Rattle.relation_terms.specs.declared.terms.ty_kind.FloatVarValue.TheVa
 ghost use Rattle.relation_semantics.specs.Stores.{unbound, entry_of};
 ghost use Rattle.relation_semantics.specs.ContextCalls.{JoinsRoots, KeepsRest, KeepsSetup, KeepsOutliving};
 ghost use Rattle.relation_semantics.specs.NumberValues.{int_value_tree, float_value_tree};
-ghost use Rattle.relation_reference.specs.Tables.{IsLawful};
+ghost use Rattle.variable_tables.specs.Tables.{IsLawful};
 ghost use Rattle.relation_reference.specs.RefCtxt.{store_in, context_in, sub_root_in};
 ghost use Rattle.relation_reference.specs.Changes.{EquatesVids, BindsVid};
 
 use crate::context::RefCtxt;
 use crate::context::numbers::{float_value_place, int_value_place};
-use crate::context::sub_unified::join_roots;
-use crate::context::table::{bind, link};
 use relation_terms::terms::{
     ConstVid, FloatVarValue, FloatVid, IntVarValue, IntVid, Interner, TyVid,
 };
+use variable_tables::related::join_roots;
+use variable_tables::table::{bind, link};
 
 impl<I: Interner> RefCtxt<I> {
     /// Makes two roots of type variables one: the one of the larger number leads to the other, with all of its class,

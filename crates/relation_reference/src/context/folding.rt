@@ -5,19 +5,19 @@ ghost use Rattle.relation_terms.specs.Meaning.{Extends};
 ghost use Rattle.relation_terms.specs.Parts.{part_tree, part_sort};
 ghost use Rattle.relation_folds.specs.Folds.{answered, KnownAnswer};
 ghost use Rattle.relation_semantics.specs.Stores.{resolved};
-ghost use Rattle.relation_reference.specs.Tables.{store_of, IsLawful};
+ghost use Rattle.variable_tables.specs.Tables.{store_of, IsLawful};
 ghost use Rattle.relation_reference.specs.Remembering.{IsResolvedPart};
 ghost use Rattle.relation_reference.specs.Resolvers.{IsVariable, variable_value};
 ghost use Rattle.relation_reference.specs.Changes.{IsResolved};
 
 use crate::context::resolving::resolve_part;
-use crate::context::table::has;
 use crate::context::{InferCtxtInner, RefCtxt};
 use relation_folds::fold::{Fold, TypeFoldable, TypeFolder};
 use relation_semantics::variable_forms::{const_vid, float_vid, int_vid, ty_vid};
 use relation_terms::terms::parts::{the_const, the_ty};
 use relation_terms::terms::{Const, Interner, OutOfMemory, Part, PartOf, Region, RegionKind, Ty};
 use std::collections::HashMap;
+use variable_tables::table::has;
 
 // What a variable comes to. One that the tables don't have is itself.
 fn resolve_variable<I: Interner>(

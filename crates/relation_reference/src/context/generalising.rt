@@ -1,36 +1,33 @@
 //! Generalising what a variable is bound to: new variables take the places of what the variable can't name, of what may
 //! still vary, and of aliases in which an obstacle stands. A type that was met before, at the same variance and on the
 //! same side of aliases, is not gone through again.
-ghost use Rattle.std.specs.Prelude.{◌≡◌, ◌≢◌, ◌≤◌, ◌<◌, ℕ, IsTrue, IsFalse, IfOk, IfSome, IfNone, OnOk, OnErr};
-ghost use Rattle.std.specs.Prelude.{List, ◌∷◌, Contains, Some, length};
-ghost use Rattle.relation_terms.specs.Heads.{VarKind, variable, placeholder, BoundKind, bound_sort, region_sort};
-ghost use Rattle.relation_terms.specs.Heads.{type_sort, type_var, region_var};
+ghost use Rattle.std.specs.Prelude.{◌≡◌, ◌≤◌, ℕ, IsTrue, IfOk, IfSome, IfNone, OnOk, OnErr};
+ghost use Rattle.std.specs.Prelude.{List, ◌∷◌, Contains, Some};
+ghost use Rattle.relation_terms.specs.Heads.{VarKind, variable, type_sort, type_var};
 ghost use Rattle.relation_terms.specs.Trees.{Tree, leaf, known};
 ghost use Rattle.relation_terms.specs.Meaning.{Extends};
 ghost use Rattle.relation_terms.specs.Parts.{part_tree, part_sort};
-ghost use Rattle.relation_semantics.specs.Stores.{InContext, IsMade, universe_of};
+ghost use Rattle.relation_semantics.specs.Stores.{InContext};
 ghost use Rattle.relation_semantics.specs.Steps.{MakesVariable};
 ghost use Rattle.relation_semantics.specs.Generalising.{Met, any_part, new_part, MakesUnbound};
-ghost use Rattle.relation_reference.specs.Tables.{IsLawful};
+ghost use Rattle.variable_tables.specs.Tables.{IsLawful};
 ghost use Rattle.relation_semantics.specs.ContextCalls.{MarksNew};
 ghost use Rattle.relation_reference.specs.RefCtxt.{store_in, context_in, part_term};
-ghost use Rattle.relation_reference.specs.Remembering.{vid_kind, vid_number, vid_universe};
-ghost use Rattle.relation_reference.specs.Generalises.{side_of, new_kind, met_at, IsFate, IsSure, Keeps, Generalises};
+ghost use Rattle.occurs_check.specs.TermVids.{vid_kind, vid_number, vid_universe};
+ghost use Rattle.relation_reference.specs.Generalises.{side_of, met_at, IsSure, Keeps, Generalises};
+ghost use Rattle.occurs_check.specs.Fates.{new_kind, IsFate};
 ghost use Rattle.relation_reference.specs.Generalises.{AreClear, MayGoInto, MarksFrom, GeneralisesFor};
-ghost use Rattle.relation_reference.specs.declared.context.generalising.Fate.TheVariants.{ByParts, GivesWay};
-ghost use Rattle.term_enums.specs.declared.Variance.TheVariants.{Invariant};
+ghost use Rattle.occurs_check.specs.declared.fates.Fate.TheVariants.{ByParts};
 
 use crate::context::RefCtxt;
 use crate::context::clearing::{ClearTypes, parts_inside};
-use crate::context::memory::TermVid;
-use crate::context::resolving::{is_same_vid, variable_of};
 use crate::context::varying::variance_of;
+use occurs_check::fates::{Fate, TargetOf, fate_of};
+use occurs_check::term_vid::{TermVid, variable_of};
 use relation_folds::error::{RelateFault, RelateFaultOf, TypeError};
-use relation_semantics::relate::StructurallyRelateAliases;
 use relation_terms::terms::parts::{is_same, part, parts_count, the_ty, with_parts};
 use relation_terms::terms::{
-    ConstKind, Interner, Keys, OutOfMemory, Part, PartOf, Region, RegionKind, RegionVid, Ty, TyKey,
-    TyKind, TyVid, UniverseIndex, Variance,
+    Interner, OutOfMemory, Part, PartOf, Ty, TyKey, TyVid, UniverseIndex, Variance,
 };
 use std::collections::{HashMap, HashSet};
 
@@ -45,50 +42,6 @@ pub struct MetKey<X> {
 
 /// What types that were met became.
 pub type MetTypes<X> = HashMap<MetKey<X>, TyKey<X>>;
-
-// A variable that is bound, its universe, how aliases are related, and the error where it stands in what it is to be
-// bound to.
-#[derive(Drop)]
-pub(crate) struct Target<X, D, N> {
-    pub vid: TermVid,
-    pub universe: UniverseIndex,
-    pub aliases: StructurallyRelateAliases,
-    pub cyclic: TypeError<X, D, N>,
-}
-
-pub(crate) type TargetOf<I> = Target<<I as Keys>::Key, <I as Keys>::Id, <I as Keys>::Name>;
-
-// What becomes of a term.
-#[derive(Clone, Copy)]
-pub(crate) enum Fate {
-    // It is the same over what its parts become; without parts, it stays.
-    ByParts,
-    // It is a leaf that gives way to a new variable of its sort.
-    GivesWay,
-    // It is the variable itself.
-    Cycle,
-    // It is a placeholder that the variable can't name.
-    Beyond,
-}
-
-// Whether a variance leaves nothing to vary.
-fn is_invariant(variance: Variance) -> bool
-    ensures is { IsTrue result → variance ≡ Invariant }
-    ensures is_not { IsFalse result → variance ≢ Invariant }
-{
-    match variance {
-        Variance::Invariant => true,
-        Variance::Covariant | Variance::Contravariant | Variance::Bivariant => false,
-    }
-}
-
-// A leaf stays, or gives way.
-fn stays_if(stays: bool) -> Fate
-    ensures stays { IsTrue stays → result ≡ ByParts }
-    ensures gives_way { IsFalse stays → result ≡ GivesWay }
-{
-    if stays { Fate::ByParts } else { Fate::GivesWay }
-}
 
 // What the type became at the variance on the side, if it was met before.
 fn recall_type<I: Interner>(
@@ -144,27 +97,6 @@ fn keep_type<I: Interner>(
     Ok(())
 }
 
-// The universe of a type or a constant that is a placeholder.
-fn placeholder_universe<I: Interner>(cx: &I, term: &PartOf<I>) -> Option<UniverseIndex>
-    requires { IsTrue (known (part_tree (I.meaning cx.now) term.now)) }
-    ensures is { IfSome result (λ w. (q : BoundKind) × (i : ℕ) ×
-        (part_tree (I.meaning cx.now) term.now ≡ leaf (placeholder q w.0 i)) × (bound_sort q ≢ region_sort)) }
-    ensures is_none { IfNone result ((q : BoundKind) (w i : ℕ) →
-        part_tree (I.meaning cx.now) term.now ≡ leaf (placeholder q w i) → bound_sort q ≡ region_sort) }
-{
-    match term {
-        Part::Ty(ty) => match cx.ty_kind(ty) {
-            TyKind::Placeholder(placeholder) => Some(placeholder.universe),
-            _ => None,
-        },
-        Part::Const(constant) => match cx.const_kind(constant) {
-            ConstKind::Placeholder(placeholder) => Some(placeholder.universe),
-            _ => None,
-        },
-        _ => None,
-    }
-}
-
 // The type variable that a part is.
 fn type_variable<I: Interner>(cx: &I, term: &PartOf<I>) -> TyVid
     requires known { IsTrue (known (part_tree (I.meaning cx.now) term.now)) }
@@ -179,83 +111,6 @@ fn type_variable<I: Interner>(cx: &I, term: &PartOf<I>) -> TyVid
 }
 
 impl<I: Interner> RefCtxt<I> {
-    // The universe of a region variable.
-    fn region_universe(&self, vid: RegionVid) -> usize
-        requires { vid.0 < length self.now.inner.regions.items }
-        ensures { result ≡ universe_of (store_in I.meaning self.now) region_var vid.0 }
-    {
-        self.inner.regions[vid.0].universe.0
-    }
-
-    // What becomes of a region for a target, at a variance.
-    fn fate_of_region(&self, region: &Region<I>, variance: Variance, target: &TargetOf<I>) -> Fate
-        requires lawful { IsLawful (I.meaning self.now.interner) self.now.inner }
-        requires term_known { IsTrue (known ((I.meaning self.now.interner).region region.now)) }
-        requires term_in { InContext (store_in I.meaning self.now) ((I.meaning self.now.interner).region region.now) }
-        ensures { IsFate (store_in I.meaning self.now) (vid_kind target.now.vid) (vid_number target.now.vid)
-            target.now.universe.0 variance ((I.meaning self.now.interner).region region.now) (Some region_var) result }
-    {
-        match self.interner.region_kind(region) {
-            RegionKind::ReBound(..) => Fate::ByParts,
-            RegionKind::ReVar(vid) => {
-                let named = self.region_universe(vid) <= target.universe.0;
-                stays_if(is_invariant(variance) && named)
-            }
-            RegionKind::RePlaceholder(placeholder) => {
-                let named = placeholder.universe.0 <= target.universe.0;
-                stays_if(is_invariant(variance) && named)
-            }
-            RegionKind::ReStatic => stays_if(is_invariant(variance)),
-            RegionKind::ReEarlyParam(_) => stays_if(is_invariant(variance)),
-        }
-    }
-
-    // What becomes of another variable than the target, at a variance.
-    fn fate_of_variable(&self, vid: TermVid, variance: Variance, target: &TargetOf<I>) -> Fate
-        requires lawful { IsLawful (I.meaning self.now.interner) self.now.inner }
-        requires made { IsMade (store_in I.meaning self.now) (vid_kind vid) (vid_number vid) }
-        requires other { vid ≢ target.now.vid }
-        ensures { IsFate (store_in I.meaning self.now) (vid_kind target.now.vid) (vid_number target.now.vid)
-            target.now.universe.0 variance (leaf (variable (vid_kind vid) (vid_number vid)))
-            (Some (vid_kind vid)) result }
-    {
-        match vid {
-            TermVid::Ty(vid) => {
-                let named = self.inner.types[vid.0].universe.0 <= target.universe.0;
-                stays_if(is_invariant(variance) && named)
-            }
-            TermVid::Const(vid) => {
-                stays_if(self.inner.consts[vid.0].universe.0 <= target.universe.0)
-            }
-        }
-    }
-
-    // What becomes of a term for a target, at a variance.
-    pub(crate) fn fate_of(&self, term: &PartOf<I>, variance: Variance, target: &TargetOf<I>) -> Fate
-        requires lawful { IsLawful (I.meaning self.now.interner) self.now.inner }
-        requires term_known { IsTrue (known (part_tree (I.meaning self.now.interner) term.now)) }
-        requires term_in { InContext (store_in I.meaning self.now) (part_term I.meaning self.now term.now) }
-        ensures { IsFate (store_in I.meaning self.now) (vid_kind target.now.vid) (vid_number target.now.vid)
-            target.now.universe.0 variance (part_tree (I.meaning self.now.interner) term.now)
-            (new_kind term.now) result }
-    {
-        if let Part::Region(region) = term {
-            return self.fate_of_region(region, variance, target);
-        }
-        if let Some(vid) = variable_of(&self.interner, term) {
-            if is_same_vid(vid, target.vid) {
-                return Fate::Cycle;
-            }
-            return self.fate_of_variable(vid, variance, target);
-        }
-        if let Some(universe) = placeholder_universe(&self.interner, term) {
-            if universe.0 > target.universe.0 {
-                return Fate::Beyond;
-            }
-        }
-        Fate::ByParts
-    }
-
     // A new variable for a part, in a universe. One for a type variable is marked as related to it.
     fn next_for(
         &mut self,
@@ -365,7 +220,7 @@ impl<I: Interner> RefCtxt<I> {
             target.now.universe.0 target.now.cyclic (new_part (side_of inside) variance) met.old met.new clear.new
             term.now result }
     {
-        match self.fate_of(term, variance, target) {
+        match fate_of(&self.interner, &self.inner, term, variance, target) {
             Fate::Cycle => Err(RelateFault::Unrelated(target.cyclic)),
             Fate::Beyond => Err(RelateFault::Unrelated(TypeError::Mismatch)),
             Fate::GivesWay => Ok(self.next_for(term, target.universe)?),

@@ -9,7 +9,6 @@ ghost use Rattle.relation_reference.specs.Opened.{IsBinderIn};
 ghost use Rattle.relation_reference.specs.Changes.{EntersValue, InstantiatesValue};
 
 use crate::context::RefCtxt;
-use crate::context::table::{key_of, root_of, universe_of_class};
 use relation_folds::error::RelateResult;
 use relation_folds::fold::TypeFoldable;
 use relation_folds::visit::TypeVisitable;
@@ -20,12 +19,13 @@ use relation_terms::terms::{
     Const, ConstVid, ErrorGuaranteed, FloatVarValue, FloatVid, IntVarValue, IntVid, Interner,
     OutOfMemory, Region, RegionVid, Span, Ty, TyVid, UniverseIndex, Variance,
 };
+use variable_tables::table::{key_of, root_of, universe_of_class};
 
 impl<I: Interner> InferCtxtLike for RefCtxt<I> {
     type Interner = I;
 
     ghost use Rattle.std.specs.Prelude.{refl};
-    ghost use Rattle.relation_reference.specs.Tables.{bindings_by_lists};
+    ghost use Rattle.variable_tables.specs.Tables.{bindings_by_lists};
 
     ghost state = { λ c. context_in I.meaning c };
 

@@ -5,18 +5,18 @@ ghost use Rattle.relation_terms.specs.Trees.{leaf, known};
 ghost use Rattle.relation_semantics.specs.Stores.{unbound, entry_of, IsTermIn};
 ghost use Rattle.relation_semantics.specs.Bound.{BindByLists};
 ghost use Rattle.relation_semantics.specs.ContextCalls.{Grows, MarksNew};
-ghost use Rattle.relation_reference.specs.Tables.{IsLawful};
+ghost use Rattle.variable_tables.specs.Tables.{IsLawful};
 ghost use Rattle.relation_reference.specs.RefCtxt.{store_in, context_in, ty_term, const_term};
 ghost use Rattle.relation_reference.specs.Changes.{InstantiatedTy, InstantiatedConst};
 
 use crate::context::RefCtxt;
-use crate::context::generalising::Target;
-use crate::context::memory::TermVid;
-use crate::context::table::bind;
+use occurs_check::fates::Target;
+use occurs_check::term_vid::TermVid;
 use relation_folds::error::{RelateFault, RelateFaultOf, TypeError};
 use relation_semantics::relate::StructurallyRelateAliases;
 use relation_terms::terms::parts::{the_const, the_ty};
 use relation_terms::terms::{Const, ConstVid, Interner, Part, Ty, TyVid, Variance};
+use variable_tables::table::bind;
 
 impl<I: Interner> RefCtxt<I> {
     /// Binds the root of a type variable, at a variance, to what a type comes to, generalised for what the root can

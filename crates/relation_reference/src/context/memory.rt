@@ -2,25 +2,18 @@
 ghost use Rattle.std.specs.Prelude.{◌≡◌, IsTrue, IfSome, OnOk};
 ghost use Rattle.relation_terms.specs.Trees.{known};
 ghost use Rattle.relation_terms.specs.Parts.{part_tree};
-ghost use Rattle.relation_reference.specs.Tables.{store_of};
+ghost use Rattle.variable_tables.specs.Tables.{store_of};
 ghost use Rattle.relation_reference.specs.Remembering.{ResolvesTo, key_of as the_key, Caches};
 
-use crate::context::InferCtxtInner;
-use relation_terms::terms::{ConstVid, Interner, OutOfMemory, Part, PartOf, TyVid};
+use relation_terms::terms::{Interner, OutOfMemory, Part, PartOf};
 use std::collections::HashMap;
+use variable_tables::InferCtxtInner;
 
 /// A part as it is looked for: of which sort it is, and its key.
 #[derive(Clone, Copy, PartialEq, Eq, Hash)]
 pub struct PartKey<X> {
     pub sort: u8,
     pub key: X,
-}
-
-/// A variable for a type or for a constant.
-#[derive(Clone, Copy)]
-pub enum TermVid {
-    Ty(TyVid),
-    Const(ConstVid),
 }
 
 /// What parts that were met were resolved to.

@@ -5,7 +5,7 @@ ghost use Rattle.relation_terms.specs.Meaning.{Meaning, Extends, kind_tree};
 ghost use Rattle.relation_terms.specs.declared.terms.ty_kind.IntVarValue.TheVariants.{Unknown};
 ghost use Rattle.relation_terms.specs.declared.terms.ty_kind.FloatVarValue.TheVariants.{Unknown as UnknownFloat};
 ghost use Rattle.relation_semantics.specs.NumberValues.{int_value_tree, float_value_tree};
-ghost use Rattle.relation_reference.specs.Numbers.{number_trees};
+ghost use Rattle.variable_tables.specs.Numbers.{number_trees};
 
 use relation_terms::terms::{
     FloatTy, FloatVarValue, IntTy, IntVarValue, Interner, OutOfMemory, Ty, TyForm, TyKind, UintTy,

@@ -6,7 +6,7 @@ ghost use Rattle.relation_semantics.specs.Bound.{BindByLists};
 ghost use Rattle.relation_semantics.specs.Stores.{InContext};
 ghost use Rattle.relation_semantics.specs.Steps.{LeadsTo};
 ghost use Rattle.relation_semantics.specs.Resolving.{IsRoot, IsShallow, IsShallowTy, IsShallowConst};
-ghost use Rattle.relation_reference.specs.Tables.{IsLawful};
+ghost use Rattle.variable_tables.specs.Tables.{IsLawful};
 ghost use Rattle.relation_reference.specs.RefCtxt.{store_in, const_term};
 ghost use Rattle.relation_reference.specs.Answers.{HasNoBinding};
 ghost use Rattle.relation_reference.specs.Answers.{IsBoundToTy, VarReadsAsTy, VarReadsAsConst, TyReadsAs, ConstReadsAs};
@@ -15,10 +15,10 @@ ghost use Rattle.relation_reference.specs.Answers.{TyResolves, ConstResolves, Ty
 use crate::context::shallow::{
     const_of_var, shallow_resolve, shallow_resolve_const, ty_of_float_var, ty_of_int_var, ty_of_var,
 };
-use crate::context::table::{probe, root_of};
 use crate::context::{RefCtxt, VariableValue};
 use relation_semantics::infer_ctxt::InferCtxtLike;
 use relation_terms::terms::{Const, ConstVid, FloatVid, IntVid, Interner, Ty, TyVid};
+use variable_tables::table::{probe, root_of};
 
 impl<I: Interner> RefCtxt<I> {
     /// The root of an integer variable's class.

@@ -7,7 +7,7 @@ ghost use Rattle.relation_semantics.specs.Stores.{IsRegionIn};
 ghost use Rattle.relation_semantics.specs.Steps.{IsLater};
 ghost use Rattle.relation_semantics.specs.Measures.{Goes};
 ghost use Rattle.relation_semantics.specs.ContextCalls.{KeepsRest};
-ghost use Rattle.relation_reference.specs.Tables.{IsLawful};
+ghost use Rattle.variable_tables.specs.Tables.{IsLawful};
 ghost use Rattle.relation_reference.specs.RefCtxt.{store_in, context_in};
 ghost use Rattle.relation_reference.specs.Changes.{MeansNext, store_after, AddsEqual, AddsOutlives, MakesTyVar};
 ghost use Rattle.relation_reference.specs.Changes.{MakesIntVar, MakesFloatVar, MakesConstVar, MakesRegionVar};

@@ -1,50 +1,20 @@
 //! Resolving terms in a context at every depth.
-ghost use Rattle.std.specs.Prelude.{◌≡◌, ◌↔◌, IsTrue, IfOk, IfSome, IfNone, OnOk};
+ghost use Rattle.std.specs.Prelude.{◌≡◌, IsTrue, IfOk, OnOk};
 ghost use Rattle.relation_terms.specs.Trees.{known};
 ghost use Rattle.relation_terms.specs.Meaning.{Extends};
 ghost use Rattle.relation_terms.specs.Parts.{part_tree, part_sort, parts_of, over};
 ghost use Rattle.relation_semantics.specs.Stores.{InContext};
-ghost use Rattle.relation_reference.specs.Tables.{store_of, IsLawful};
+ghost use Rattle.variable_tables.specs.Tables.{store_of, IsLawful};
 ghost use Rattle.relation_reference.specs.RefCtxt.{store_in, const_term};
-ghost use Rattle.relation_reference.specs.Remembering.{resolved_by, vid_tree, Caches, IsResolvedPart};
+ghost use Rattle.relation_reference.specs.Remembering.{resolved_by, Caches, IsResolvedPart};
 ghost use Rattle.relation_reference.specs.Changes.{IsResolved};
 
-use crate::context::memory::{PartKey, Resolutions, TermVid, keep_resolved, recall_resolved};
+use crate::context::memory::{PartKey, Resolutions, keep_resolved, recall_resolved};
 use crate::context::shallow::{shallow_resolve, shallow_resolve_const};
 use crate::context::{InferCtxtInner, RefCtxt};
-use relation_semantics::variable_forms::{const_vid, ty_vid};
 use relation_terms::terms::parts::{is_same, part, parts_count, the_const, the_ty, with_parts};
 use relation_terms::terms::{Const, Interner, OutOfMemory, Part, PartOf, Ty};
 use std::collections::HashMap;
-
-// The type or constant variable that a term is, or none.
-pub(crate) fn variable_of<I: Interner>(cx: &I, term: &PartOf<I>) -> Option<TermVid>
-    requires { IsTrue (known (part_tree (I.meaning cx.now) term.now)) }
-    ensures is { IfSome result (λ v. part_tree (I.meaning cx.now) term.now ≡ vid_tree v) }
-    ensures is_none { IfNone result ((v : _) → part_tree (I.meaning cx.now) term.now ≡ vid_tree v → ⊥) }
-{
-    match term {
-        Part::Ty(ty) => Some(TermVid::Ty(ty_vid(&cx.ty_kind(ty))?)),
-        Part::Const(constant) => Some(TermVid::Const(const_vid(&cx.const_kind(constant))?)),
-        _ => None,
-    }
-}
-
-// Whether two variables are one.
-pub(crate) fn is_same_vid(a: TermVid, b: TermVid) -> bool
-    ensures { IsTrue result ↔ (a ≡ b) }
-{
-    match a {
-        TermVid::Ty(a) => match b {
-            TermVid::Ty(b) => a.0 == b.0,
-            TermVid::Const(_) => false,
-        },
-        TermVid::Const(a) => match b {
-            TermVid::Const(b) => a.0 == b.0,
-            TermVid::Ty(_) => false,
-        },
-    }
-}
 
 // The term itself, or for a type or a constant what it is resolved to shallowly. What that comes to is the form
 // over what its parts come to.

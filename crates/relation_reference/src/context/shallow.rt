@@ -5,14 +5,14 @@ ghost use Rattle.relation_terms.specs.Trees.{known};
 ghost use Rattle.relation_semantics.specs.Bound.{BindByLists};
 ghost use Rattle.relation_semantics.specs.Stores.{InContext};
 ghost use Rattle.relation_semantics.specs.Resolving.{IsShallow, IsShallowTy, IsShallowConst};
-ghost use Rattle.relation_reference.specs.Tables.{store_of, IsLawful};
+ghost use Rattle.variable_tables.specs.Tables.{store_of, IsLawful};
 ghost use Rattle.relation_reference.specs.Answers.{VarReadsAsTy, VarReadsAsConst, TyReadsAs, ConstReadsAs, TyResolves};
 ghost use Rattle.relation_reference.specs.Answers.{ConstResolves, FindsTy, IsWritten};
 
-use crate::context::table::{probe, term_of};
 use crate::context::{InferCtxtInner, VariableValue};
 use relation_semantics::variable_forms::{const_vid, float_vid, int_vid, ty_vid};
 use relation_terms::terms::{Const, ConstVid, FloatVid, IntVid, Interner, Ty, TyVid};
+use variable_tables::table::{probe, term_of};
 
 // What is recorded of a type variable: the type that its class is bound to, or else the root of its class.
 fn found_ty<I: Interner>(_cx: &I, inner: &InferCtxtInner<I::Key>, var: TyVid) -> Ty<I>

@@ -1,7 +1,7 @@
 //! The context, and what is asked of it as a whole.
 ghost use Rattle.std.specs.Prelude.{◌≡◌, IfOk, true};
 ghost use Rattle.relation_terms.specs.Meaning.{Extends};
-ghost use Rattle.relation_reference.specs.Tables.{IsLawful};
+ghost use Rattle.variable_tables.specs.Tables.{IsLawful};
 ghost use Rattle.relation_reference.specs.RefCtxt.{IsNew};
 
 use crate::context::InferCtxtInner;

@@ -1,4 +1,4 @@
-use Rattle.relation_reference.specs.Tables.{IsLawful}
+use Rattle.variable_tables.specs.Tables.{IsLawful}
 use Rattle.text_asking.specs.Asking.{AreReady}
 use Rattle.text_asking.proofs.ask_ready.Given as goal
 

@@ -8,28 +8,22 @@ ghost use Rattle.relation_semantics.specs.Stores.{IsSound};
 ghost use Rattle.relation_semantics.specs.Steps.{IsLater};
 ghost use Rattle.relation_semantics.specs.Contexts.{KnowsEnv, SpendsByBinding};
 ghost use Rattle.relation_semantics.specs.ContextCalls.{KeepsBeside};
-ghost use Rattle.type_relations.specs.Relating.{KnowsTerm, TakesTerm, HasTerm, AreOne, AnswersTerms};
-ghost use Rattle.type_relations.specs.Relating.{KeepsEqual, TellsApart, AnswersError, AnswersExactly, ProvesApart};
-ghost use Rattle.type_relations.specs.Relating.{RelatesAgreeing};
-ghost use Rattle.type_relations.specs.Completing.{Complete, RelatesWhereAsked, JustAsked};
-ghost use Rattle.type_relations.specs.Closed.{LeavesClosed, AsksNothing, SpendsForVariables};
-ghost use Rattle.type_relations.specs.Relating.{AnswersAsked, AnswersOnly, SpendsNoMore, MakesToRelate};
-ghost use Rattle.type_relations.specs.Relating.{BuildsNoMore, Idle};
-ghost use Rattle.type_relations.specs.Terms.{AskedTerms, RelatedTerms, TermsRegister};
-ghost use Rattle.type_relations.specs.Solving.{solving_in, solver_manner};
+ghost use Rattle.context_relation.specs.Relating.{KnowsTerm, TakesTerm, HasTerm, AreOne, AnswersTerms};
+ghost use Rattle.context_relation.specs.Relating.{KeepsEqual, TellsApart, AnswersError, AnswersExactly, ProvesApart};
+ghost use Rattle.context_relation.specs.Relating.{RelatesAgreeing};
+ghost use Rattle.context_relation.specs.Completing.{Complete, RelatesWhereAsked, JustAsked};
+ghost use Rattle.context_relation.specs.Closed.{LeavesClosed, AsksNothing, SpendsForVariables};
+ghost use Rattle.context_relation.specs.Relating.{AnswersAsked, AnswersOnly, SpendsNoMore, MakesToRelate};
+ghost use Rattle.context_relation.specs.Relating.{BuildsNoMore, Idle};
+ghost use Rattle.relation_steps.specs.Terms.{AskedTerms, RelatedTerms, TermsRegister};
+ghost use Rattle.relation_combining.specs.Solving.{solving_in, solver_manner};
 
-mod emitting;
-mod opening;
-pub(crate) mod recording;
-mod relation;
-mod remembering;
-mod steps;
-
-use crate::relate::{Relate, StructurallyRelateAliases};
-use delayed_map::DelayedSet;
-pub use relation::{GoalOf, SolverRelating};
+pub use context_relation::relation::SolverRelating;
 use relation_folds::error::RelateResult;
+pub use relation_goals::goals::GoalOf;
+use relation_recursion::relatable::Relate;
 use relation_semantics::infer_ctxt::InferCtxtLike;
+use relation_semantics::relate::StructurallyRelateAliases;
 use relation_terms::terms::{Interner, ParamEnv, Span, Variance};
 
 /// The goals that relating answers, or why it stopped.
@@ -391,17 +385,7 @@ fn relate_in<Infcx: InferCtxtLike, T: Relate<Infcx::Interner>>(
         let after = solving_in aliases result.1.items (Infcx.state infcx.new) variance param_env in
         TermsRegister solver_manner T.over T.tree before after a.now b.now result.0 }
 {
-    let goals = Vec::new(infcx.cx().alloc());
-    let cache = DelayedSet::new(infcx.cx().alloc());
-    let mut relation = SolverRelating {
-        infcx,
-        structurally_relate_aliases: aliases,
-        ambient_variance: variance,
-        param_env,
-        span,
-        goals,
-        cache,
-    };
+    let mut relation = SolverRelating::new(infcx, aliases, variance, param_env, span);
     let related = relation.relate(a, b);
     let goals = relation.take_goals();
     let _infcx = relation.into_infcx();

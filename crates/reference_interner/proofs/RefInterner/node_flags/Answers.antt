@@ -28,7 +28,7 @@ returns-in-Ty c =
     let k = c.in-Ty.kind in
     form_flags type_sort (kind_tree m k) (parts_tree m c.ty_parts.result) c.ty_own_flags.result c.flags.result
     c.and.result
-    (kind_sorted m (all_sorted (items_in s) s.nodes.items) k
+    (kind_sorted m (all_sorted (items_in s) s.nodes) k
     (subst (λ n. IsTrue (known_entry (entry_of m n))) c.in-Ty.is c.requires))
     (ap (parts_tree m) c.ty_parts.ensures ∙ ty_viewed m k) (c.ty_own_flags.ensures m) c.flags.ensures c.and.ensures ∙
     ap (λ n. flags_of (form_tree m (form_of n))) (sym c.in-Ty.is)

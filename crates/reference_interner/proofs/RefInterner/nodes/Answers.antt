@@ -8,5 +8,5 @@ use Rattle.reference_interner.proofs.RefInterner.nodes.Goals as goal
 pub returns-clause-numbers : goal.returns-clause-numbers
 returns-clause-numbers c =
     subst (λ n. (i : ℕ) → (i < n ↔ HasKey (meaning_in c.args.self.now) i))
-    (sym (c.len.ensures ∙ c.args.self.now.nodes.ok.0))
-    (numbered (items_in c.args.self.now) c.args.self.now.nodes.items c.args.self.now.known_all)
+    (sym c.len.ensures.count)
+    (numbered (items_in c.args.self.now) c.args.self.now.nodes c.args.self.now.known_all)

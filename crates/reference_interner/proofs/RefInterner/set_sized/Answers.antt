@@ -11,7 +11,7 @@ returns-then-number-len-clause-recorded c = changed_set said_sized c.args.self.n
     c.index_mut.result.now c.index_mut.ensures.value
 
 pub returns-then-number-len-clause-terms : goal.returns-then-number-len-clause-terms
-returns-then-number-len-clause-terms c = same_terms (items_in c.args.self.now) _ c.args.self.now.nodes.items
+returns-then-number-len-clause-terms c = same_terms (items_in c.args.self.now) _ c.args.self.now.nodes
 
 pub returns-then-number-len-clause-solver : goal.returns-then-number-len-clause-solver
 unfolding meaning_of
@@ -27,6 +27,6 @@ pub invariant_of-self-clause-stated : goal.invariant_of-self-clause-stated
 invariant_of-self-clause-stated c =
     let n = (c.args.trait_id.0).0 in
     let below = subst (λ l. n < l) (c.len.ensures ∙ c.args.self.now.items.ok.0) c.if-number-len.true in
-    stated_set c.args.self.now.nodes.items c.args.self.now.items.items n c.index_mut.result.now _
+    stated_set c.args.self.now.nodes c.args.self.now.items.items n c.index_mut.result.now _
     c.args.self.now.stated c.index_mut.ensures.value below
     (λ s. record { supers = s.supers; implied = s.implied; bounds = s.bounds })

@@ -9,4 +9,4 @@ unfolding meaning_of
 returns-clause-recorded c = refl
 
 pub returns-clause-terms : goal.returns-clause-terms
-returns-clause-terms c = same_terms (items_in c.args.self.now) _ c.args.self.now.nodes.items
+returns-clause-terms c = same_terms (items_in c.args.self.now) _ c.args.self.now.nodes

@@ -7,24 +7,23 @@ use Rattle.reference_interner.proofs.TableLemmas.{key_in, key_sort, key_read, no
 use Rattle.reference_interner.specs.Adding.{items_in}
 use Rattle.reference_interner.proofs.RefInternerInterner.args.Goals as goal
 
-pub index-requires : goal.index-requires
-index-requires c =
+pub node-requires : goal.node-requires
+node-requires c =
     let items = items_in c.args.self.now in
-    let ns = c.args.self.now.nodes.items in
-    subst (λ n. (c.args.args.now.0).0 < n) (sym c.args.self.now.nodes.ok.0)
-    (key_in items ns args_node (c.args.args.now.0).0 c.requires)
+    let ns = c.args.self.now.nodes in
+    key_in items ns args_node (c.args.args.now.0).0 c.requires
 
 pub unreachable-requires : goal.unreachable-requires
 unreachable-requires c =
     let items = items_in c.args.self.now in
-    let ns = c.args.self.now.nodes.items in
-    not_args c.index.result.now c.in_default.not-Args
-    (key_sort items ns args_node (c.args.args.now.0).0 c.requires c.index.result.now c.index.ensures)
+    let ns = c.args.self.now.nodes in
+    not_args c.node.result.now c.in_default.not-Args
+    (key_sort items ns args_node (c.args.args.now.0).0 c.requires c.node.result.now c.node.ensures)
 
 pub returns : goal.returns
 returns c =
     let items = items_in c.args.self.now in
-    let ns = c.args.self.now.nodes.items in
-    key_read items ns args_node (c.args.args.now.0).0 c.requires c.index.result.now c.index.ensures
+    let ns = c.args.self.now.nodes in
+    key_read items ns args_node (c.args.args.now.0).0 c.requires c.node.result.now c.node.ensures
     (args_form c.in-Args.list.items) (ap form_of c.in-Args.is) ∙
     ap (list_tree (arg_tree (table_meaning items ns))) (sym c.as_slice.ensures.value)

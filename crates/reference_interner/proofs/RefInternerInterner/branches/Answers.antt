@@ -6,24 +6,23 @@ use Rattle.reference_interner.proofs.TableLemmas.{key_in, key_sort, key_read, no
 use Rattle.reference_interner.specs.Adding.{items_in}
 use Rattle.reference_interner.proofs.RefInternerInterner.branches.Goals as goal
 
-pub index-requires : goal.index-requires
-index-requires c =
+pub node-requires : goal.node-requires
+node-requires c =
     let items = items_in c.args.self.now in
-    let ns = c.args.self.now.nodes.items in
-    subst (λ n. (c.args.branches.now.0).0 < n) (sym c.args.self.now.nodes.ok.0)
-    (key_in items ns branches_node (c.args.branches.now.0).0 c.requires)
+    let ns = c.args.self.now.nodes in
+    key_in items ns branches_node (c.args.branches.now.0).0 c.requires
 
 pub unreachable-requires : goal.unreachable-requires
 unreachable-requires c =
     let items = items_in c.args.self.now in
-    let ns = c.args.self.now.nodes.items in
-    not_branches c.index.result.now c.in_default.not-Branches
-    (key_sort items ns branches_node (c.args.branches.now.0).0 c.requires c.index.result.now c.index.ensures)
+    let ns = c.args.self.now.nodes in
+    not_branches c.node.result.now c.in_default.not-Branches
+    (key_sort items ns branches_node (c.args.branches.now.0).0 c.requires c.node.result.now c.node.ensures)
 
 pub returns : goal.returns
 returns c =
     let items = items_in c.args.self.now in
-    let ns = c.args.self.now.nodes.items in
-    key_read items ns branches_node (c.args.branches.now.0).0 c.requires c.index.result.now c.index.ensures
+    let ns = c.args.self.now.nodes in
+    key_read items ns branches_node (c.args.branches.now.0).0 c.requires c.node.result.now c.node.ensures
     (branches_form c.in-Branches.list.items) (ap form_of c.in-Branches.is) ∙
     ap (list_tree (table_meaning items ns).const_) (sym c.as_slice.ensures.value)

@@ -4,4 +4,4 @@ use Rattle.reference_interner.proofs.RefInternerInterner.clause_as_predicate.Goa
 
 pub returns : goal.returns
 returns c =
-    clause_predicate (items_in c.args.self.now) c.args.self.now.nodes.items (c.args.clause.now.0).0 c.requires
+    clause_predicate (items_in c.args.self.now) c.args.self.now.nodes (c.args.clause.now.0).0 c.requires

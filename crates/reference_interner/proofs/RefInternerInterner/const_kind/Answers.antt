@@ -6,24 +6,23 @@ use Rattle.reference_interner.proofs.TableLemmas.{key_in, key_sort, key_read, no
 use Rattle.reference_interner.specs.Adding.{items_in}
 use Rattle.reference_interner.proofs.RefInternerInterner.const_kind.Goals as goal
 
-pub index-requires : goal.index-requires
-index-requires c =
+pub node-requires : goal.node-requires
+node-requires c =
     let items = items_in c.args.self.now in
-    let ns = c.args.self.now.nodes.items in
-    subst (λ n. (c.args.constant.now.0).0 < n) (sym c.args.self.now.nodes.ok.0)
-    (key_in items ns const_node (c.args.constant.now.0).0 c.requires)
+    let ns = c.args.self.now.nodes in
+    key_in items ns const_node (c.args.constant.now.0).0 c.requires
 
 pub unreachable-requires : goal.unreachable-requires
 unreachable-requires c =
     let items = items_in c.args.self.now in
-    let ns = c.args.self.now.nodes.items in
-    not_const c.index.result.now c.in_default.not-Const
-    (key_sort items ns const_node (c.args.constant.now.0).0 c.requires c.index.result.now c.index.ensures)
+    let ns = c.args.self.now.nodes in
+    not_const c.node.result.now c.in_default.not-Const
+    (key_sort items ns const_node (c.args.constant.now.0).0 c.requires c.node.result.now c.node.ensures)
 
 pub returns : goal.returns
 returns c =
     let items = items_in c.args.self.now in
-    let ns = c.args.self.now.nodes.items in
-    key_read items ns const_node (c.args.constant.now.0).0 c.requires c.index.result.now c.index.ensures
+    let ns = c.args.self.now.nodes in
+    key_read items ns const_node (c.args.constant.now.0).0 c.requires c.node.result.now c.node.ensures
     (const_form c.in-Const.kind) (ap form_of c.in-Const.is) ∙
     ap (const_tree (table_meaning items ns)) refl

@@ -7,24 +7,23 @@ use Rattle.reference_interner.proofs.TableLemmas.{key_in, key_sort, key_read, no
 use Rattle.reference_interner.specs.Adding.{items_in}
 use Rattle.reference_interner.proofs.RefInternerInterner.existential_predicates.Goals as goal
 
-pub index-requires : goal.index-requires
-index-requires c =
+pub node-requires : goal.node-requires
+node-requires c =
     let items = items_in c.args.self.now in
-    let ns = c.args.self.now.nodes.items in
-    subst (λ n. (c.args.predicates.now.0).0 < n) (sym c.args.self.now.nodes.ok.0)
-    (key_in items ns predicates_node (c.args.predicates.now.0).0 c.requires)
+    let ns = c.args.self.now.nodes in
+    key_in items ns predicates_node (c.args.predicates.now.0).0 c.requires
 
 pub unreachable-requires : goal.unreachable-requires
 unreachable-requires c =
     let items = items_in c.args.self.now in
-    let ns = c.args.self.now.nodes.items in
-    not_predicates c.index.result.now c.in_default.not-ExistentialPredicates
-    (key_sort items ns predicates_node (c.args.predicates.now.0).0 c.requires c.index.result.now c.index.ensures)
+    let ns = c.args.self.now.nodes in
+    not_predicates c.node.result.now c.in_default.not-ExistentialPredicates
+    (key_sort items ns predicates_node (c.args.predicates.now.0).0 c.requires c.node.result.now c.node.ensures)
 
 pub returns : goal.returns
 returns c =
     let items = items_in c.args.self.now in
-    let ns = c.args.self.now.nodes.items in
-    key_read items ns predicates_node (c.args.predicates.now.0).0 c.requires c.index.result.now c.index.ensures
+    let ns = c.args.self.now.nodes in
+    key_read items ns predicates_node (c.args.predicates.now.0).0 c.requires c.node.result.now c.node.ensures
     (predicates_form c.in-ExistentialPredicates.list.items) (ap form_of c.in-ExistentialPredicates.is) ∙
     ap (list_tree (object_predicate_tree (table_meaning items ns))) (sym c.as_slice.ensures.value)

@@ -7,10 +7,10 @@ use Rattle.reference_interner.specs.Adding.{items_in}
 use Rattle.reference_interner.proofs.RefInternerInterner.mk_param_env.Goals as goal
 
 pub returns-clause-grown : goal.returns-clause-grown
-returns-clause-grown c = stays_same (table_meaning (items_in c.args.self.now) c.args.self.now.nodes.items)
+returns-clause-grown c = stays_same (table_meaning (items_in c.args.self.now) c.args.self.now.nodes)
 
 pub returns-clause-made : goal.returns-clause-made
-returns-clause-made c = env_reads (items_in c.args.self.now) c.args.self.now.nodes.items (c.args.clauses.0).0
+returns-clause-made c = env_reads (items_in c.args.self.now) c.args.self.now.nodes (c.args.clauses.0).0
 
 pub returns-clause-sure : goal.returns-clause-sure
 returns-clause-sure c = subst (λ t. IsTrue (known t)) (sym (returns-clause-made c)) c.requires

@@ -12,33 +12,33 @@ use Rattle.reference_interner.proofs.RefInternerInterner.mk_region.Goals as goal
 pub returns-clause-grown : goal.returns-clause-grown
 returns-clause-grown c =
     let items = items_in c.args.self.now in
-    let ns = c.args.self.now.nodes.items in
+    let ns = c.args.self.now.nodes in
     let more = items_in c.add.new.self in
-    let ms = c.add.new.self.nodes.items in
+    let ms = c.add.new.self.nodes in
     grows items ns more ms (Region c.args.kind)
     c.in_ok-number.ensures.items c.in_ok-number.ensures.added
 
 pub returns-clause-made : goal.returns-clause-made
 returns-clause-made c =
     let items = items_in c.args.self.now in
-    let ns = c.args.self.now.nodes.items in
+    let ns = c.args.self.now.nodes in
     let more = items_in c.add.new.self in
-    let ms = c.add.new.self.nodes.items in
+    let ms = c.add.new.self.nodes in
     made more ms region_node (region_tree (table_meaning items ns) c.args.kind)
     (c.in_ok-number.number).0 c.in_ok-number.ensures.number
 
 pub returns-clause-sure : goal.returns-clause-sure
 returns-clause-sure c =
     let items = items_in c.args.self.now in
-    let ns = c.args.self.now.nodes.items in
+    let ns = c.args.self.now.nodes in
     subst (λ t. IsTrue (known t)) (sym (returns-clause-made c)) (region_known (table_meaning items ns) c.args.kind)
 
 pub returns-clause-there : goal.returns-clause-there
 returns-clause-there c =
     let items = items_in c.args.self.now in
-    let ns = c.args.self.now.nodes.items in
+    let ns = c.args.self.now.nodes in
     let more = items_in c.add.new.self in
-    let ms = c.add.new.self.nodes.items in
+    let ms = c.add.new.self.nodes in
     λ k e.
     let at = stands items ns region_node (region_tree (table_meaning items ns) c.args.kind)
     (k.0).0 (region_known (table_meaning items ns) c.args.kind) e in (
@@ -50,7 +50,7 @@ returns-clause-there c =
 pub returns-in_err-number-clause-there : goal.returns-in_err-number-clause-there
 returns-in_err-number-clause-there c =
     let items = items_in c.args.self.now in
-    let ns = c.args.self.now.nodes.items in
+    let ns = c.args.self.now.nodes in
     λ k e.
     let at = stands items ns region_node (region_tree (table_meaning items ns) c.args.kind)
     (k.0).0 (region_known (table_meaning items ns) c.args.kind) e in

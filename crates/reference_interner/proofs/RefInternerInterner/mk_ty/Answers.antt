@@ -11,18 +11,18 @@ use Rattle.reference_interner.proofs.RefInternerInterner.mk_ty.Goals as goal
 pub returns-clause-grown : goal.returns-clause-grown
 returns-clause-grown c =
     let items = items_in c.args.self.now in
-    let ns = c.args.self.now.nodes.items in
+    let ns = c.args.self.now.nodes in
     let more = items_in c.add.new.self in
-    let ms = c.add.new.self.nodes.items in
+    let ms = c.add.new.self.nodes in
     grows items ns more ms (Ty c.args.kind)
     c.in_ok-number.ensures.items c.in_ok-number.ensures.added
 
 pub returns-clause-made : goal.returns-clause-made
 returns-clause-made c =
     let items = items_in c.args.self.now in
-    let ns = c.args.self.now.nodes.items in
+    let ns = c.args.self.now.nodes in
     let more = items_in c.add.new.self in
-    let ms = c.add.new.self.nodes.items in
+    let ms = c.add.new.self.nodes in
     made more ms ty_node (kind_tree (table_meaning items ns) c.args.kind)
     (c.in_ok-number.number).0 c.in_ok-number.ensures.number
 
@@ -32,9 +32,9 @@ returns-clause-sure c = subst (λ t. IsTrue (known t)) (sym (returns-clause-made
 pub returns-clause-there : goal.returns-clause-there
 returns-clause-there c =
     let items = items_in c.args.self.now in
-    let ns = c.args.self.now.nodes.items in
+    let ns = c.args.self.now.nodes in
     let more = items_in c.add.new.self in
-    let ms = c.add.new.self.nodes.items in
+    let ms = c.add.new.self.nodes in
     λ k e.
     let at = stands items ns ty_node (kind_tree (table_meaning items ns) c.args.kind)
     (k.0).0 c.requires e in (
@@ -46,7 +46,7 @@ returns-clause-there c =
 pub returns-in_err-number-clause-there : goal.returns-in_err-number-clause-there
 returns-in_err-number-clause-there c =
     let items = items_in c.args.self.now in
-    let ns = c.args.self.now.nodes.items in
+    let ns = c.args.self.now.nodes in
     λ k e.
     let at = stands items ns ty_node (kind_tree (table_meaning items ns) c.args.kind)
     (k.0).0 c.requires e in

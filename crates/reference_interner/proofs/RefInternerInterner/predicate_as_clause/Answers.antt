@@ -9,13 +9,13 @@ use Rattle.reference_interner.proofs.RefInternerInterner.predicate_as_clause.Goa
 pub returns-in-Clause : goal.returns-in-Clause
 returns-in-Clause c =
     let items = items_in c.args.self.now in
-    let ns = c.args.self.now.nodes.items in
+    let ns = c.args.self.now.nodes in
     predicate_clause items ns (c.args.predicate.now.0).0 c.predicate_kind.result _ c.in-Clause.is c.predicate_kind.ensures
 
 pub returns-in_default : goal.returns-in_default
 returns-in_default c =
     let items = items_in c.args.self.now in
-    let ns = c.args.self.now.nodes.items in
+    let ns = c.args.self.now.nodes in
     λ h.
     no_clause (table_meaning items ns) c.predicate_kind.result c.in_default.not-Clause
     (subst (λ t. IsBinder clause_sort t) c.predicate_kind.ensures h)

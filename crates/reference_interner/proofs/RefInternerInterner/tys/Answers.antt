@@ -7,24 +7,23 @@ use Rattle.reference_interner.specs.Adding.{items_in}
 use Rattle.reference_interner.specs.ShortLists.{members_of}
 use Rattle.reference_interner.proofs.RefInternerInterner.tys.Goals as goal
 
-pub index-requires : goal.index-requires
-index-requires c =
+pub node-requires : goal.node-requires
+node-requires c =
     let items = items_in c.args.self.now in
-    let ns = c.args.self.now.nodes.items in
-    subst (λ n. (c.args.tys.now.0).0 < n) (sym c.args.self.now.nodes.ok.0)
-    (key_in items ns tys_node (c.args.tys.now.0).0 c.requires)
+    let ns = c.args.self.now.nodes in
+    key_in items ns tys_node (c.args.tys.now.0).0 c.requires
 
 pub unreachable-requires : goal.unreachable-requires
 unreachable-requires c =
     let items = items_in c.args.self.now in
-    let ns = c.args.self.now.nodes.items in
-    not_tys c.index.result.now c.in_default.not-Tys
-    (key_sort items ns tys_node (c.args.tys.now.0).0 c.requires c.index.result.now c.index.ensures)
+    let ns = c.args.self.now.nodes in
+    not_tys c.node.result.now c.in_default.not-Tys
+    (key_sort items ns tys_node (c.args.tys.now.0).0 c.requires c.node.result.now c.node.ensures)
 
 pub returns : goal.returns
 returns c =
     let items = items_in c.args.self.now in
-    let ns = c.args.self.now.nodes.items in
-    key_read items ns tys_node (c.args.tys.now.0).0 c.requires c.index.result.now c.index.ensures
+    let ns = c.args.self.now.nodes in
+    key_read items ns tys_node (c.args.tys.now.0).0 c.requires c.node.result.now c.node.ensures
     (tys_form (members_of c.in-Tys.list)) (ap form_of c.in-Tys.is) ∙
     ap (list_tree (table_meaning items ns).ty) (sym c.as_slice.ensures)

@@ -3,9 +3,9 @@ use Rattle.std.specs.List.{All}
 use Rattle.std.specs.Result.{result_err}
 use Rattle.relation_terms.specs.Trees.{known}
 use Rattle.relation_terms.specs.Meaning.{Extends}
-use Rattle.relation_elaboration.specs.declared.faults.ElabFault.TheVariants.{Limit}
+use Rattle.elaboration_worklist.specs.declared.faults.ElabFault.TheVariants.{Limit}
 use Rattle.relation_elaboration.specs.Pulling.{ByClosure}
-use Rattle.relation_elaboration.proofs.Worklists.{fault_of, no_fault}
+use Rattle.elaboration_worklist.proofs.Worklists.{fault_of, no_fault}
 use Rattle.relation_elaboration.proofs.Taking.{begins_by, too_many_by}
 use Rattle.relation_elaboration.proofs.elaborator.elaborate.Goals as goal
 

@@ -3,8 +3,8 @@ use Rattle.std.proofs.lemmas.List.{append_assoc, nil_from_length}
 use Rattle.std.specs.List.{All}
 use Rattle.relation_terms.specs.Trees.{known}
 use Rattle.relation_terms.proofs.Stays.{stays_same, knows_as}
-use Rattle.relation_elaboration.specs.Pulling.{Pushed}
-use Rattle.relation_elaboration.proofs.Worklists.{pushed_start, listed_next, listed_failed, listed_all, middle_all}
+use Rattle.elaboration_worklist.specs.Kept.{Pushed}
+use Rattle.elaboration_worklist.proofs.Worklists.{pushed_start, listed_next, listed_failed, listed_all, middle_all}
 use Rattle.relation_elaboration.proofs.elaborator.push_all.Goals as goal
 
 pub loop-obligation-init : goal.loop-obligation-init

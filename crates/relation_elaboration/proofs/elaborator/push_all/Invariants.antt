@@ -1,5 +1,5 @@
 use Rattle.std.proofs.Common.{◌≡◌, ◌++◌, map, Ok}
-use Rattle.relation_elaboration.specs.Pulling.{Pushed}
+use Rattle.elaboration_worklist.specs.Kept.{Pushed}
 use Rattle.relation_elaboration.proofs.elaborator.push_all.Given as goal
 
 -- The first predicates were pushed, and the others are still to come.

@@ -4,10 +4,11 @@ use Rattle.std.proofs.lemmas.List.Elements.{All-cons, All-nil}
 use Rattle.relation_terms.specs.Trees.{known}
 use Rattle.relation_terms.specs.Meaning.{Extends}
 use Rattle.relation_terms.proofs.Stays.{extends_on}
-use Rattle.relation_elaboration.specs.declared.faults.ElabFault.TheVariants.{Limit}
-use Rattle.relation_elaboration.specs.Runs.{AreTooMany}
-use Rattle.relation_elaboration.specs.Pulling.{ByClosure, mode_of}
-use Rattle.relation_elaboration.proofs.Worklists.{fault_of, no_fault}
+use Rattle.elaboration_worklist.specs.declared.faults.ElabFault.TheVariants.{Limit}
+use Rattle.relation_statements.specs.Runs.{AreTooMany}
+use Rattle.relation_statements.specs.Children.{mode_of}
+use Rattle.relation_elaboration.specs.Pulling.{ByClosure}
+use Rattle.elaboration_worklist.proofs.Worklists.{fault_of, no_fault}
 use Rattle.relation_elaboration.proofs.Finding.{traits_closed, one_too_many}
 use Rattle.relation_elaboration.proofs.sources.supertraits.Goals as goal
 

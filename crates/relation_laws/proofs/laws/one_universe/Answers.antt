@@ -1,5 +1,5 @@
 use Rattle.relation_semantics.proofs.Equating.{equated_later}
-use Rattle.type_relations.proofs.GeneralisingInOne.{generalising_keeps_universe}
+use Rattle.relation_combining.proofs.GeneralisingInOne.{generalising_keeps_universe}
 use Rattle.relation_semantics.proofs.OneUniverse.{roots_are, equated_keeps_universe, reading_leads}
 use Rattle.relation_laws.proofs.laws.one_universe.Goals as goal
 

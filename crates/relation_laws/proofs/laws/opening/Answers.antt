@@ -1,6 +1,6 @@
 use Rattle.relation_semantics.proofs.MakingEach.{making_each_makes, instantiating_each_opens}
-use Rattle.type_relations.proofs.OpenedTerms.{entered_body_is_in, instantiated_body_is_in, entered_body_binds}
-use Rattle.type_relations.proofs.OpenedTerms.{instantiated_body_binds}
+use Rattle.relation_combining.proofs.OpenedTerms.{entered_body_is_in, instantiated_body_is_in, entered_body_binds}
+use Rattle.relation_combining.proofs.OpenedTerms.{instantiated_body_binds}
 use Rattle.relation_laws.proofs.OpenedInstances.{opened_is_instance}
 use Rattle.relation_laws.proofs.laws.opening.Goals as goal
 

@@ -1,4 +1,4 @@
-use Rattle.type_relations.proofs.Completing.{errors_disagree, errors_are_unrelated, agreeing_are_related}
+use Rattle.context_relation.proofs.Completing.{errors_disagree, errors_are_unrelated, agreeing_are_related}
 use Rattle.relation_laws.proofs.laws.plain_terms.Goals as goal
 
 pub returns : goal.returns

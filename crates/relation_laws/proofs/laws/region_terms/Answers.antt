@@ -1,4 +1,4 @@
-use Rattle.type_relations.proofs.RegionTerms.{related_terms_agree, related_iff_agree}
+use Rattle.context_relation.proofs.RegionTerms.{related_terms_agree, related_iff_agree}
 use Rattle.relation_laws.proofs.laws.region_terms.Goals as goal
 
 pub returns : goal.returns

@@ -2,7 +2,7 @@ use Rattle.relation_semantics.proofs.StoreCalls.{bindings_are_met, equating_is_e
 use Rattle.relation_semantics.proofs.Instantiating.{binding_instantiates, cycles_refuse}
 use Rattle.relation_semantics.proofs.GeneralisingOnce.{generalising_is_one}
 use Rattle.relation_semantics.proofs.BindingGeneralised.{generalising_instantiates}
-use Rattle.type_relations.proofs.BindingRefused.{generalising_refuses}
+use Rattle.relation_combining.proofs.BindingRefused.{generalising_refuses}
 use Rattle.relation_laws.proofs.FreeValues.{free_values, made_is_unconstrained_erased}
 use Rattle.relation_laws.proofs.laws.stores.Goals as goal
 

@@ -1,7 +1,7 @@
 use Rattle.std.proofs.Common.{sym, ap₂, ◌∙◌}
 use Rattle.relation_terms.specs.Heads.{adt}
 use Rattle.relation_terms.specs.Trees.{node, nil, cons}
-use Rattle.relation_tests.proofs.Concrete.{concrete_as, args_concrete, concrete_known}
+use Rattle.plain_relation.proofs.Concrete.{concrete_as, args_concrete, concrete_known}
 use Rattle.relation_tests.proofs.over_items.make_over.Goals as goal
 
 pub returns-clause-concrete : goal.returns-clause-concrete

@@ -1,4 +1,4 @@
-use Rattle.relation_tests.proofs.Concrete.{concrete_asked}
+use Rattle.plain_relation.proofs.Concrete.{concrete_asked}
 use Rattle.relation_tests.proofs.relating.asks_of_types.Goals as goal
 
 pub constraints_of-requires-clause-asked : goal.constraints_of-requires-clause-asked

@@ -1,5 +1,5 @@
 use Rattle.std.proofs.Common.{◌≡◌, ◌≤◌, max}
-use Rattle.relation_reference.specs.Tables.{IsLawful}
+use Rattle.variable_tables.specs.Tables.{IsLawful}
 use Rattle.text_asking.proofs.context.enter_universe.Given as goal
 
 -- only the universe has changed, and it is the one that was counted

@@ -1,7 +1,7 @@
 use Rattle.std.proofs.Common.{take}
 use Rattle.std.specs.List.{All}
 use Rattle.relation_terms.specs.Meaning.{Extends}
-use Rattle.relation_reference.specs.Tables.{IsLawful}
+use Rattle.variable_tables.specs.Tables.{IsLawful}
 use Rattle.text_asking.specs.Asking.{HasStated}
 use Rattle.text_asking.proofs.context.have_all_stated.Given as goal
 

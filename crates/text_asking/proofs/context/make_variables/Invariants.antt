@@ -1,7 +1,7 @@
 use Rattle.std.proofs.Common.{◌≡◌, ◌≤◌}
 use Rattle.relation_terms.specs.Heads.{VarKind}
 use Rattle.relation_terms.specs.Meaning.{Extends}
-use Rattle.relation_reference.specs.Tables.{IsLawful}
+use Rattle.variable_tables.specs.Tables.{IsLawful}
 use Rattle.text_asking.specs.Asking.{MakesIn, var_kind, variables_in}
 use Rattle.text_asking.proofs.context.make_variables.Given as goal
 

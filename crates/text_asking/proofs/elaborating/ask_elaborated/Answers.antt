@@ -1,4 +1,4 @@
-use Rattle.relation_reference.proofs.Grows.{lawful_grows}
+use Rattle.variable_tables.proofs.Grows.{lawful_grows}
 use Rattle.text_asking.proofs.elaborating.ask_elaborated.Goals as goal
 
 pub returns-in_default-clause-lawful : goal.returns-in_default-clause-lawful

@@ -1,4 +1,4 @@
-use Rattle.relation_reference.proofs.Grows.{lawful_grows}
+use Rattle.variable_tables.proofs.Grows.{lawful_grows}
 use Rattle.relation_terms.proofs.Stays.{extends_on}
 use Rattle.text_asking.proofs.elaborating.ask_supertraits.Goals as goal
 

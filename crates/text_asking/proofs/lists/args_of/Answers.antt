@@ -1,7 +1,7 @@
 use Rattle.std.proofs.Common.{sym, ◌∙◌, ap, subst, slice_range}
 use Rattle.relation_terms.specs.Trees.{list_tree}
 use Rattle.relation_terms.specs.Meaning.{arg_tree}
-use Rattle.relation_reference.proofs.Grows.{lawful_grows}
+use Rattle.variable_tables.proofs.Grows.{lawful_grows}
 use Rattle.text_asking.specs.Asking.{IsReady}
 use Rattle.text_asking.specs.Meets.{AllKnown}
 use Rattle.text_needs.specs.Needs.{no_needs, parts_need}

@@ -1,5 +1,5 @@
 use Rattle.std.proofs.Common.{sym, subst}
-use Rattle.relation_reference.proofs.Grows.{lawful_grows}
+use Rattle.variable_tables.proofs.Grows.{lawful_grows}
 use Rattle.text_asking.specs.Puts.{ArePuts}
 use Rattle.text_asking.proofs.question.ask_folded.Goals as goal
 

@@ -1,6 +1,6 @@
 use Rattle.std.proofs.Common.{IfOk}
 use Rattle.relation_terms.specs.Meaning.{Extends}
-use Rattle.relation_reference.specs.Tables.{IsLawful}
+use Rattle.variable_tables.specs.Tables.{IsLawful}
 use Rattle.text_asking.specs.Asking.{AreReady, KnowsAnswer, KnowsRelated}
 use Rattle.text_asking.proofs.question.ask_often.Given as goal
 

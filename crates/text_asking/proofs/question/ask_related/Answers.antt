@@ -1,7 +1,7 @@
 use Rattle.std.proofs.Common.{subst}
 use Rattle.relation_terms.specs.Meaning.{Extends}
 use Rattle.relation_terms.proofs.Stays.{extends_on}
-use Rattle.relation_reference.proofs.Grows.{lawful_grows}
+use Rattle.variable_tables.proofs.Grows.{lawful_grows}
 use Rattle.text_needs.specs.Needs.{both_needs}
 use Rattle.text_asking.specs.Asking.{IsReady, Has}
 use Rattle.text_asking.proofs.AskingLemmas.{one_ready, asked_left, asked_right, has_left, has_right, ready_in}

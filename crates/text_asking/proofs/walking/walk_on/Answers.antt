@@ -2,7 +2,7 @@ use Rattle.std.proofs.Common.{◌∙◌, sym, ap, subst, length, refl, arith}
 use Rattle.relation_terms.specs.Meaning.{arg_tree}
 use Rattle.term_enums.specs.declared.memory.OutOfMemory.{OutOfMemory}
 use Rattle.relation_terms.specs.contracts.terms.generic_arg.GenericArgKindPartialEq.TheImpl.{ghosts}
-use Rattle.relation_tools.specs.Walking.{Pull}
+use Rattle.walk.specs.Walking.{Pull}
 use Rattle.std.proofs.Common.{Some, None, Ok, map}
 use Rattle.text_asking.specs.Meets.{AllKnown}
 use Rattle.text_asking.specs.Skips.{stands_in, skipped_in}

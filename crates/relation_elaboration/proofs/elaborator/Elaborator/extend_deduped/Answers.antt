@@ -1,5 +1,7 @@
 use Rattle.std.proofs.Common.{subst, map, Ok}
-use Rattle.relation_elaboration.specs.Pulling.{mode_of, Pushed, BeginsClosure}
+use Rattle.relation_statements.specs.Children.{mode_of}
+use Rattle.elaboration_worklist.specs.Kept.{Pushed}
+use Rattle.relation_elaboration.specs.Pulling.{BeginsClosure}
 use Rattle.relation_elaboration.proofs.Pulled.{standing_by}
 use Rattle.relation_elaboration.proofs.Taking.{keeps_by, takes_by, closes_by}
 use Rattle.relation_elaboration.proofs.elaborator.Elaborator.extend_deduped.Goals as goal

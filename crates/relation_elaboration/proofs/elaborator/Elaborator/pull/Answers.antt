@@ -1,7 +1,8 @@
 use Rattle.std.proofs.Common.{refl, subst, arith, Some, Ok, Err}
-use Rattle.relation_elaboration.specs.Children.{children}
-use Rattle.relation_elaboration.specs.Statements.{statements}
-use Rattle.relation_elaboration.specs.Pulling.{mode_of, Pushed, Pulls}
+use Rattle.relation_statements.specs.Children.{children, mode_of}
+use Rattle.relation_statements.specs.Statements.{statements}
+use Rattle.elaboration_worklist.specs.Kept.{Pushed}
+use Rattle.relation_elaboration.specs.Pulling.{Pulls}
 use Rattle.relation_elaboration.proofs.Pulled.{kept_front, kept_all, known_last, standing_by}
 use Rattle.relation_elaboration.proofs.Pulled.{pulled_again, pulled_none, pulled_one, pulled_stop}
 use Rattle.relation_elaboration.proofs.elaborator.Elaborator.pull.Goals as goal

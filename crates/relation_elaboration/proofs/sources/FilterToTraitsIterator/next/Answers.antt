@@ -3,7 +3,7 @@ use Rattle.std.specs.Iterator.{MakesProgress}
 use Rattle.std.specs.Option.{option_map}
 use Rattle.relation_terms.specs.Trees.{known}
 use Rattle.relation_terms.specs.Owned.{bound_tree}
-use Rattle.relation_elaboration.specs.TraitClauses.{reference_of}
+use Rattle.relation_statements.specs.TraitClauses.{reference_of}
 use Rattle.relation_elaboration.proofs.Passing.{passed_one, found_one}
 use Rattle.relation_elaboration.proofs.sources.FilterToTraitsIterator.next.Goals as goal
 

@@ -5,7 +5,7 @@ use Rattle.relation_terms.specs.Interning.{Sorted}
 use Rattle.relation_terms.proofs.Parts.{sort_known}
 use Rattle.relation_reference.specs.Generalises.{IsSeenTree}
 use Rattle.relation_reference.proofs.Clearing.{sort_seen}
-use Rattle.relation_reference.proofs.Resolving.{not_type}
+use Rattle.occurs_check.proofs.TermVids.{not_type}
 use Rattle.relation_reference.proofs.context.clearing.is_left_alias.Goals as goal
 
 pub returns-in_default : goal.returns-in_default

@@ -1,4 +1,4 @@
-use Rattle.relation_reference.specs.Remembering.{vid_kind, vid_number}
+use Rattle.occurs_check.specs.TermVids.{vid_kind, vid_number}
 use Rattle.relation_reference.proofs.Clearing.{ty_eq, clear_more}
 use Rattle.relation_reference.proofs.context.clearing.keep_clear.Goals as goal
 

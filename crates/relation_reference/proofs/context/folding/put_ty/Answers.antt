@@ -1,7 +1,7 @@
 use Rattle.std.proofs.Common.{sym, ap, ◌∙◌, Some}
 use Rattle.relation_terms.specs.Parts.{part_tree}
 use Rattle.relation_semantics.specs.Stores.{resolved}
-use Rattle.relation_reference.specs.Tables.{store_of}
+use Rattle.variable_tables.specs.Tables.{store_of}
 use Rattle.relation_reference.proofs.Folding.{value_of}
 use Rattle.relation_reference.proofs.context.folding.put_ty.Goals as goal
 

@@ -1,6 +1,6 @@
 use Rattle.std.proofs.Common.{sym}
 use Rattle.relation_terms.specs.Parts.{part_tree}
-use Rattle.relation_reference.specs.Tables.{store_of}
+use Rattle.variable_tables.specs.Tables.{store_of}
 use Rattle.relation_reference.proofs.Folding.{unbound_itself, variable_context}
 use Rattle.relation_reference.proofs.context.folding.resolve_variable.Goals as goal
 

@@ -1,4 +1,4 @@
-use Rattle.relation_reference.specs.declared.context.memory.TermVid.TheVariants.{Ty}
+use Rattle.occurs_check.specs.declared.term_vid.TermVid.TheVariants.{Ty}
 use Rattle.relation_reference.proofs.context.generalising.type_variable.Goals as goal
 
 pub unreachable-requires-in-None : goal.unreachable-requires-in-None

@@ -1,5 +1,5 @@
 use Rattle.std.proofs.Common.{◌∙◌, sym}
-use Rattle.relation_reference.specs.Tables.{store_of}
+use Rattle.variable_tables.specs.Tables.{store_of}
 use Rattle.relation_reference.proofs.Remembering.{key_eq, remembers_more}
 use Rattle.relation_reference.proofs.context.memory.keep_resolved.Goals as goal
 

@@ -1,6 +1,6 @@
 use Rattle.std.proofs.Common.{◌∙◌, sym}
 use Rattle.relation_terms.proofs.Parts.{same_part}
-use Rattle.relation_reference.specs.Tables.{store_of}
+use Rattle.variable_tables.specs.Tables.{store_of}
 use Rattle.relation_reference.proofs.Remembering.{recalled}
 use Rattle.relation_reference.proofs.context.memory.recall_resolved.Goals as goal
 

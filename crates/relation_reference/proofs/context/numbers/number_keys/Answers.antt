@@ -1,8 +1,8 @@
 use Rattle.std.proofs.Common.{◌<◌, IsTrue, refl, sym, ap, ◌∙◌, subst, arith, map, ◌+◌}
 use Rattle.relation_terms.specs.Trees.{known}
 use Rattle.relation_terms.proofs.Stays.{stays_same, extends_on}
-use Rattle.relation_reference.specs.Numbers.{number_trees}
-use Rattle.relation_reference.proofs.Grows.{each_known}
+use Rattle.variable_tables.specs.Numbers.{number_trees}
+use Rattle.variable_tables.proofs.Grows.{each_known}
 use Rattle.relation_reference.proofs.Numbers.{numbers_next}
 use Rattle.relation_reference.proofs.context.numbers.number_keys.Goals as goal
 

@@ -1,6 +1,6 @@
 use Rattle.std.proofs.Common.{◌≡◌, map, take}
 use Rattle.relation_terms.specs.Meaning.{Extends}
-use Rattle.relation_reference.specs.Numbers.{number_trees}
+use Rattle.variable_tables.specs.Numbers.{number_trees}
 use Rattle.relation_reference.proofs.context.numbers.number_keys.Given as goal
 
 abbrev pub invariant-loop-place : goal.invariant-loop-place

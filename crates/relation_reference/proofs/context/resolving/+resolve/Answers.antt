@@ -8,9 +8,9 @@ use Rattle.relation_terms.specs.Interning.{Sorted}
 use Rattle.relation_terms.proofs.Members.{if_ok}
 use Rattle.relation_terms.proofs.Parts.{sort_known, stays_part}
 use Rattle.relation_semantics.specs.Stores.{weight, resolved, InContext}
-use Rattle.relation_reference.specs.Tables.{store_of, IsLawful}
+use Rattle.variable_tables.specs.Tables.{store_of, IsLawful}
 use Rattle.relation_reference.specs.Remembering.{ResolvesTo}
-use Rattle.relation_reference.proofs.Grows.{store_grows}
+use Rattle.variable_tables.proofs.Grows.{store_grows}
 use Rattle.relation_reference.proofs.Remembering.{key_eq, came, remembers_on}
 use Rattle.relation_reference.proofs.Resolving.{lawful_now, part_was, part_in, part_falls, part_comes}
 use Rattle.relation_reference.proofs.Resolving.{done_none, done_next, done_all, whole_comes}

@@ -4,7 +4,7 @@ use Rattle.relation_semantics.proofs.Lists.{firsts}
 use Rattle.relation_terms.specs.Meaning.{Extends}
 use Rattle.relation_terms.specs.Parts.{part_tree, parts_of}
 use Rattle.relation_semantics.specs.Stores.{weight, resolved}
-use Rattle.relation_reference.specs.Tables.{store_of}
+use Rattle.variable_tables.specs.Tables.{store_of}
 use Rattle.relation_reference.specs.Remembering.{Remembers}
 use Rattle.relation_reference.proofs.Resolving.{Done}
 use Rattle.relation_reference.proofs.Remembering.{key_eq}

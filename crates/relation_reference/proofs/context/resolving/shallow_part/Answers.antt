@@ -4,7 +4,7 @@ use Rattle.relation_terms.specs.Parts.{part_tree}
 use Rattle.relation_terms.specs.declared.terms.part_kind.Part.TheVariants.{Const}
 use Rattle.relation_terms.specs.Interning.{Sorted}
 use Rattle.relation_terms.proofs.Parts.{sort_known}
-use Rattle.relation_reference.specs.Tables.{store_of}
+use Rattle.variable_tables.specs.Tables.{store_of}
 use Rattle.relation_reference.proofs.Reading.{context_read}
 use Rattle.relation_reference.proofs.Resolving.{other_by_parts, shallow_by_parts, const_by_parts}
 use Rattle.relation_reference.proofs.context.resolving.shallow_part.Goals as goal

@@ -1,8 +1,8 @@
 use Rattle.std.proofs.Common.{refl}
 use Rattle.relation_terms.specs.Heads.{type_var}
-use Rattle.relation_reference.specs.Tables.{store_of}
+use Rattle.variable_tables.specs.Tables.{store_of}
 use Rattle.relation_reference.proofs.Reading.{root_made, found, found_known, found_read, found_by_lists}
-use Rattle.relation_reference.proofs.Writing.{table_made, table_of_entries}
+use Rattle.variable_tables.proofs.Writing.{table_made, table_of_entries}
 use Rattle.relation_reference.proofs.context.shallow.found_ty.Goals as goal
 
 pub term_of-requires-clause-root_made : goal.term_of-requires-clause-root_made

@@ -2,9 +2,10 @@ use Rattle.std.proofs.Common.{refl, ap, ◌∙◌}
 use Rattle.relation_terms.specs.Heads.{int_var, float_var}
 use Rattle.relation_terms.specs.Meaning.{kind_tree}
 use Rattle.relation_semantics.specs.Errors.{itself}
-use Rattle.relation_reference.specs.Tables.{store_of}
-use Rattle.relation_reference.proofs.Reading.{made_in_context, read_for, number_shallow}
-use Rattle.relation_reference.proofs.Writing.{table_of_entries}
+use Rattle.variable_tables.specs.Tables.{store_of}
+use Rattle.relation_reference.proofs.Reading.{read_for, number_shallow}
+use Rattle.variable_tables.proofs.Grows.{made_in_context}
+use Rattle.variable_tables.proofs.Writing.{table_of_entries}
 use Rattle.relation_reference.proofs.context.shallow.shallow_number.Goals as goal
 
 pub ty_of_int_var-requires-clause-made : goal.ty_of_int_var-requires-clause-made

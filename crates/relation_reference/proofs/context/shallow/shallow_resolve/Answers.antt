@@ -1,5 +1,5 @@
 use Rattle.relation_semantics.proofs.ReadAs.{read_then, read_resolves}
-use Rattle.relation_reference.specs.Tables.{store_of}
+use Rattle.variable_tables.specs.Tables.{store_of}
 use Rattle.relation_reference.proofs.Reading.{context_read}
 use Rattle.relation_reference.proofs.context.shallow.shallow_resolve.Goals as goal
 

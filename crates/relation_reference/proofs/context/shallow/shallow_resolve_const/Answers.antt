@@ -3,9 +3,10 @@ use Rattle.relation_terms.specs.Heads.{const_var}
 use Rattle.relation_terms.specs.Meaning.{const_tree}
 use Rattle.relation_semantics.specs.Errors.{itself}
 use Rattle.relation_semantics.proofs.ReadAs.{read_resolves}
-use Rattle.relation_reference.specs.Tables.{store_of}
-use Rattle.relation_reference.proofs.Reading.{made_in_context, read_for, const_shallow}
-use Rattle.relation_reference.proofs.Writing.{table_of_entries}
+use Rattle.variable_tables.specs.Tables.{store_of}
+use Rattle.relation_reference.proofs.Reading.{read_for, const_shallow}
+use Rattle.variable_tables.proofs.Grows.{made_in_context}
+use Rattle.variable_tables.proofs.Writing.{table_of_entries}
 use Rattle.relation_reference.proofs.context.shallow.shallow_resolve_const.Goals as goal
 
 pub const_of_var-requires-clause-made : goal.const_of_var-requires-clause-made

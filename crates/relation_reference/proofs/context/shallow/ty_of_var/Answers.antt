@@ -1,11 +1,11 @@
 use Rattle.relation_terms.specs.Heads.{type_var, variable}
 use Rattle.relation_terms.specs.Trees.{leaf}
 use Rattle.relation_semantics.proofs.ReadAs.{read_then}
-use Rattle.relation_reference.specs.Tables.{store_of}
+use Rattle.variable_tables.specs.Tables.{store_of}
 use Rattle.relation_reference.proofs.Chains.{found_falls}
 use Rattle.relation_reference.proofs.Folding.{context_made}
 use Rattle.relation_reference.proofs.Reading.{context_read, read_for}
-use Rattle.relation_reference.proofs.Writing.{table_made}
+use Rattle.variable_tables.proofs.Writing.{table_made}
 use Rattle.relation_reference.proofs.context.shallow.ty_of_var.Goals as goal
 
 pub loop-next-init : goal.loop-next-init

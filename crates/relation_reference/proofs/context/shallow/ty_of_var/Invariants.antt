@@ -4,7 +4,7 @@ use Rattle.relation_terms.specs.Trees.{known}
 use Rattle.relation_semantics.specs.Bound.{BindByLists}
 use Rattle.relation_semantics.specs.Stores.{InContext}
 use Rattle.relation_reference.specs.Answers.{VarReadsAsTy}
-use Rattle.relation_reference.specs.Tables.{store_of}
+use Rattle.variable_tables.specs.Tables.{store_of}
 use Rattle.relation_reference.proofs.Chains.{followed}
 use Rattle.relation_reference.proofs.context.shallow.ty_of_var.Given as goal
 

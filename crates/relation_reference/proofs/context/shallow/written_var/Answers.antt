@@ -1,9 +1,10 @@
 use Rattle.std.proofs.Common.{refl, sym, ap, ◌∙◌}
 use Rattle.relation_terms.specs.Heads.{type_var}
 use Rattle.relation_terms.specs.Meaning.{kind_tree}
-use Rattle.relation_reference.specs.Tables.{store_of}
-use Rattle.relation_reference.proofs.Reading.{made_in_context, unknown_shallow}
-use Rattle.relation_reference.proofs.Writing.{table_of_entries}
+use Rattle.variable_tables.specs.Tables.{store_of}
+use Rattle.relation_reference.proofs.Reading.{unknown_shallow}
+use Rattle.variable_tables.proofs.Grows.{made_in_context}
+use Rattle.variable_tables.proofs.Writing.{table_of_entries}
 use Rattle.relation_reference.proofs.context.shallow.written_var.Goals as goal
 
 pub probe-requires : goal.probe-requires

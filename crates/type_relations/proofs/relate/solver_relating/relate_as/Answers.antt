@@ -6,27 +6,27 @@ use Rattle.relation_semantics.specs.Relation.{same}
 use Rattle.relation_semantics.specs.Goals.{goals_of, KnowsGoal, MakesOneTree}
 use Rattle.relation_semantics.specs.OneUniverse.{all_unbound}
 use Rattle.relation_semantics.specs.Lawful.{Related, ExactResult, items_of}
-use Rattle.type_relations.specs.Solving.{solving_in, solver_manner, solver_settings}
+use Rattle.relation_combining.specs.Solving.{solving_in, solver_manner, solver_settings}
 use Rattle.relation_semantics.proofs.Going.{later_itself}
 use Rattle.relation_semantics.proofs.Full.{makes_to_instantiate}
 use Rattle.relation_semantics.proofs.Roots.{exact_itself}
 use Rattle.relation_semantics.proofs.Passing.{as_err}
-use Rattle.type_relations.proofs.Exactly.{unrelated_apart}
-use Rattle.type_relations.proofs.Spending.{spends_no_more, spent_as}
-use Rattle.type_relations.specs.Relating.{term_in}
-use Rattle.type_relations.specs.Alone.{RelatesAlone}
-use Rattle.type_relations.proofs.Relatable.{equal_one, one_equal}
-use Rattle.type_relations.proofs.Relating.{answered_alone_in, refused_alone_in, refused_built}
+use Rattle.relation_combining.proofs.Exactly.{unrelated_apart}
+use Rattle.context_relation.proofs.Spending.{spends_no_more, spent_as}
+use Rattle.context_relation.specs.Relating.{term_in}
+use Rattle.relation_steps.specs.Alone.{RelatesAlone}
+use Rattle.relation_recursion.proofs.RelatableValues.{equal_one, one_equal}
+use Rattle.context_relation.proofs.Relating.{answered_alone_in, refused_alone_in, refused_built}
 use Rattle.relation_semantics.specs.Kits.{StaysBuilt, NeedsVariable}
 use Rattle.relation_semantics.proofs.Building.{built_itself}
-use Rattle.type_relations.proofs.OverContext.{all_taken}
-use Rattle.type_relations.proofs.Solving.{keeps_beside, none_held, answers_goals, keeps_equal, relates_agreeing, registers_goals, no_goals_exactly}
-use Rattle.type_relations.proofs.Solving.{adds_just_asked}
+use Rattle.relation_combining.proofs.OverContext.{all_taken}
+use Rattle.context_relation.proofs.Solving.{keeps_beside, none_held, answers_goals, keeps_equal, relates_agreeing, registers_goals, no_goals_exactly}
+use Rattle.context_relation.proofs.Solving.{adds_just_asked}
 use Rattle.relation_semantics.specs.Recording.{IsJustAsked}
 use Rattle.relation_semantics.proofs.Recording.{nothing_asked}
 use Rattle.relation_semantics.proofs.Agreeing.{agree_same}
 use Rattle.type_relations.proofs.relate.solver_relating.relate_as.Goals as goal
-use Rattle.type_relations.proofs.Closed.{needs_as, budget_verdict}
+use Rattle.context_relation.proofs.Closed.{needs_as, budget_verdict}
 
 pub returns-then-eq-clause-answers : goal.returns-then-eq-clause-answers
 returns-then-eq-clause-answers g c =

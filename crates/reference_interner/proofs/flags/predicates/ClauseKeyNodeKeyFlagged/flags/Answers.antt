@@ -8,10 +8,10 @@ use Rattle.reference_interner.proofs.flags.predicates.ClauseKeyNodeKeyFlagged.fl
 
 pub kept_flags-requires : goal.kept_flags-requires
 kept_flags-requires c =
-    let q = clause_predicate (items_in c.args.cx.now) c.args.cx.now.nodes.items (c.args.self.now.0).0 c.requires in
+    let q = clause_predicate (items_in c.args.cx.now) c.args.cx.now.nodes (c.args.self.now.0).0 c.requires in
     (predicate_node, subst (λ t. IsTrue (known t)) (sym q) c.requires)
 
 pub returns : goal.returns
 returns c =
-    let q = clause_predicate (items_in c.args.cx.now) c.args.cx.now.nodes.items (c.args.self.now.0).0 c.requires in
+    let q = clause_predicate (items_in c.args.cx.now) c.args.cx.now.nodes (c.args.self.now.0).0 c.requires in
     c.kept_flags.ensures predicate_node (subst (λ t. IsTrue (known t)) (sym q) c.requires) ∙ ap flags_of q

@@ -3,10 +3,10 @@ use Rattle.relation_terms.specs.Heads.{const_var}
 use Rattle.relation_terms.specs.Meaning.{const_tree}
 use Rattle.relation_terms.proofs.Stays.{stays_same}
 use Rattle.relation_semantics.specs.Stores.{resolved}
-use Rattle.relation_reference.specs.Tables.{store_of}
+use Rattle.variable_tables.specs.Tables.{store_of}
 use Rattle.relation_reference.specs.Resolvers.{lawful_stays, values_stay}
 use Rattle.relation_reference.proofs.Folding.{past_table, const_value}
-use Rattle.relation_reference.proofs.Writing.{table_made}
+use Rattle.variable_tables.proofs.Writing.{table_made}
 use Rattle.relation_reference.proofs.context.folding.ResolverKeyTypeFolder.fold_const.Goals as goal
 
 pub put_const-requires-clause-lawful : goal.put_const-requires-clause-lawful

@@ -3,7 +3,7 @@ use Rattle.relation_terms.specs.Heads.{region_var}
 use Rattle.relation_terms.specs.Meaning.{region_tree}
 use Rattle.relation_terms.proofs.Stays.{stays_same}
 use Rattle.relation_semantics.specs.Stores.{resolved}
-use Rattle.relation_reference.specs.Tables.{store_of}
+use Rattle.variable_tables.specs.Tables.{store_of}
 use Rattle.relation_reference.proofs.Folding.{value_of, unbound_itself, region_value}
 use Rattle.relation_reference.proofs.context.folding.ResolverKeyTypeFolder.fold_region.Goals as goal
 

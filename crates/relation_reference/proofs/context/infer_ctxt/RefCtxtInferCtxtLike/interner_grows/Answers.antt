@@ -1,5 +1,5 @@
 use Rattle.std.proofs.Common.{refl}
-use Rattle.relation_reference.proofs.Grows.{store_grows, lawful_grows}
+use Rattle.variable_tables.proofs.Grows.{store_grows, lawful_grows}
 use Rattle.relation_reference.proofs.context.infer_ctxt.RefCtxtInferCtxtLike.interner_grows.Goals as goal
 
 pub returns : goal.returns

@@ -4,7 +4,7 @@ use Rattle.relation_terms.specs.Trees.{leaf, known}
 use Rattle.relation_semantics.specs.Errors.{itself}
 use Rattle.relation_reference.proofs.Calls.{read}
 use Rattle.relation_reference.proofs.VariableUniverses.{region_key}
-use Rattle.relation_reference.proofs.Writing.{table_of_entries}
+use Rattle.variable_tables.proofs.Writing.{table_of_entries}
 use Rattle.relation_reference.proofs.context.infer_ctxt.RefCtxtInferCtxtLike.opportunistic_resolve_lt_var.Goals as goal
 
 pub returns : goal.returns

@@ -2,7 +2,7 @@ use Rattle.std.proofs.Common.{refl, sym, subst}
 use Rattle.relation_terms.specs.Heads.{const_var}
 use Rattle.relation_semantics.specs.Steps.{LeadsTo}
 use Rattle.relation_semantics.specs.Stores.{IsMade}
-use Rattle.relation_reference.specs.Tables.{store_of}
+use Rattle.variable_tables.specs.Tables.{store_of}
 use Rattle.relation_semantics.specs.Resolving.{IsRoot}
 use Rattle.relation_reference.proofs.Reading.{root_leads, root_stands, root_made}
 use Rattle.relation_reference.proofs.context.infer_ctxt.RefCtxtInferCtxtLike.root_const_var.Goals as goal

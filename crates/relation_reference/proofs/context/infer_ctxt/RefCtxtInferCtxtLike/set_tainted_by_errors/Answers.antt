@@ -1,8 +1,8 @@
 use Rattle.std.proofs.Common.{ap, sym, subst}
 use Rattle.relation_semantics.specs.Steps.{Taints}
 use Rattle.relation_reference.specs.RefCtxt.{store_in}
-use Rattle.relation_reference.specs.SubRoots.{root_in}
-use Rattle.relation_reference.specs.Tables.{setup_in, store_of}
+use Rattle.variable_tables.specs.SubRoots.{root_in}
+use Rattle.variable_tables.specs.Tables.{setup_in, store_of}
 use Rattle.relation_reference.proofs.Calls.{stood}
 use Rattle.relation_reference.proofs.Tainting.{taints}
 use Rattle.relation_reference.proofs.context.infer_ctxt.RefCtxtInferCtxtLike.set_tainted_by_errors.Goals as goal

@@ -1,5 +1,5 @@
 use Rattle.relation_semantics.proofs.Standing.{term_context}
-use Rattle.relation_reference.specs.Tables.{store_of}
+use Rattle.variable_tables.specs.Tables.{store_of}
 use Rattle.relation_reference.proofs.context.infer_ctxt.RefCtxtInferCtxtLike.shallow_resolve.Goals as goal
 
 pub shallow_resolve-requires-clause-ty_in : goal.shallow_resolve-requires-clause-ty_in

@@ -1,5 +1,5 @@
 use Rattle.relation_semantics.proofs.Standing.{term_context}
-use Rattle.relation_reference.specs.Tables.{store_of}
+use Rattle.variable_tables.specs.Tables.{store_of}
 use Rattle.relation_reference.proofs.context.infer_ctxt.RefCtxtInferCtxtLike.shallow_resolve_const.Goals as goal
 
 pub shallow_resolve_const-requires-clause-const_in : goal.shallow_resolve_const-requires-clause-const_in

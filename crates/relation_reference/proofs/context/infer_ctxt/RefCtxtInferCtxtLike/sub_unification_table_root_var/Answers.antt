@@ -1,7 +1,7 @@
 use Rattle.std.proofs.Common.{◌∙◌, ap, sym, arith}
-use Rattle.relation_reference.specs.SubRoots.{root_in}
-use Rattle.relation_reference.proofs.SubRoots.{root_there, read_root}
-use Rattle.relation_reference.proofs.Writing.{table_of_entries}
+use Rattle.variable_tables.specs.SubRoots.{root_in}
+use Rattle.variable_tables.proofs.SubRoots.{root_there, read_root}
+use Rattle.variable_tables.proofs.Writing.{table_of_entries}
 use Rattle.relation_reference.proofs.context.infer_ctxt.RefCtxtInferCtxtLike.sub_unification_table_root_var.Goals as goal
 
 pub returns-clause-made : goal.returns-clause-made

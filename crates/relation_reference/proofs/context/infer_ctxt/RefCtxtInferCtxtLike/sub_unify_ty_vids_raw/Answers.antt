@@ -1,6 +1,6 @@
 use Rattle.relation_reference.proofs.Calls.{stood}
 use Rattle.std.proofs.Common.{ap, ◌∙◌}
-use Rattle.relation_reference.specs.Tables.{store_of}
+use Rattle.variable_tables.specs.Tables.{store_of}
 use Rattle.relation_reference.proofs.context.infer_ctxt.RefCtxtInferCtxtLike.sub_unify_ty_vids_raw.Goals as goal
 
 pub returns-clause-same_record : goal.returns-clause-same_record

@@ -4,8 +4,8 @@ use Rattle.relation_terms.specs.Parts.{part_tree, parts_of}
 use Rattle.relation_terms.specs.Interning.{Sorted}
 use Rattle.relation_terms.proofs.Parts.{sort_known}
 use Rattle.relation_semantics.specs.Stores.{InContext}
-use Rattle.relation_reference.specs.Tables.{store_of}
-use Rattle.relation_reference.specs.Remembering.{vid_kind, vid_number}
+use Rattle.variable_tables.specs.Tables.{store_of}
+use Rattle.occurs_check.specs.TermVids.{vid_kind, vid_number}
 use Rattle.relation_reference.proofs.Clearing.{told_clear, told_stops, parts_clear_next, part_stops, whole_clear}
 use Rattle.relation_reference.proofs.Outside.{part_smaller}
 use Rattle.relation_reference.proofs.Resolving.{context_part}

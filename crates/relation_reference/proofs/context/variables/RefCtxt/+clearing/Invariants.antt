@@ -2,7 +2,7 @@ use Rattle.std.proofs.Common.{◌+◌, ◌*◌}
 use Rattle.relation_terms.specs.Trees.{size}
 use Rattle.relation_terms.specs.Parts.{part_tree, parts_of}
 use Rattle.relation_semantics.proofs.Lists.{firsts}
-use Rattle.relation_reference.specs.Remembering.{vid_kind, vid_number}
+use Rattle.occurs_check.specs.TermVids.{vid_kind, vid_number}
 use Rattle.relation_reference.specs.Generalises.{AreClear, IsClearFor}
 use Rattle.relation_reference.proofs.Clearing.{ty_eq}
 use Rattle.relation_reference.proofs.context.variables.RefCtxt.+clearing.Given as goal

@@ -14,12 +14,14 @@ use Rattle.relation_semantics.specs.Generalising.{any_part, new_part, variance_o
 use Rattle.relation_semantics.proofs.Generalising.{gives_no_number}
 use Rattle.relation_semantics.proofs.NewVariables.{adds, makes_then}
 use Rattle.relation_semantics.proofs.Lists.{firsts, firsts_more, firsts_all, snoc, list_push}
-use Rattle.relation_reference.specs.Tables.{store_of}
-use Rattle.relation_reference.specs.Remembering.{vid_kind, vid_number}
+use Rattle.variable_tables.specs.Tables.{store_of}
+use Rattle.occurs_check.specs.TermVids.{vid_kind, vid_number}
 use Rattle.relation_reference.proofs.Recalling.{met_eq, sure_grows}
-use Rattle.relation_reference.proofs.Resolving.{not_type, context_part, over_itself}
-use Rattle.relation_reference.proofs.Grows.{store_grows, lawful_grows}
-use Rattle.relation_reference.specs.Generalises.{side_of, new_kind, BecomesAlways}
+use Rattle.relation_reference.proofs.Resolving.{context_part, over_itself}
+use Rattle.occurs_check.proofs.TermVids.{not_type}
+use Rattle.variable_tables.proofs.Grows.{store_grows, lawful_grows}
+use Rattle.relation_reference.specs.Generalises.{side_of, BecomesAlways}
+use Rattle.occurs_check.specs.Fates.{new_kind}
 use Rattle.relation_reference.proofs.Clearing.{ty_eq, clear_grows, told_gives_way, alias_sort}
 use Rattle.relation_reference.specs.RefCtxt.{store_in}
 use Rattle.relation_reference.proofs.Marking.{gives_type, marks_grow}

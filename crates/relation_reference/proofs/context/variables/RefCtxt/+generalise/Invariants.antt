@@ -4,8 +4,8 @@ use Rattle.relation_terms.specs.Meaning.{Extends}
 use Rattle.relation_terms.specs.Parts.{part_tree, parts_of, Fit}
 use Rattle.relation_semantics.specs.Generalising.{MakesUnbound}
 use Rattle.relation_semantics.proofs.Lists.{firsts}
-use Rattle.relation_reference.specs.Tables.{store_of, IsLawful}
-use Rattle.relation_reference.specs.Remembering.{vid_kind, vid_number}
+use Rattle.variable_tables.specs.Tables.{store_of, IsLawful}
+use Rattle.occurs_check.specs.TermVids.{vid_kind, vid_number}
 use Rattle.relation_reference.specs.Generalises.{side_of, IsSure, AreClear, MarksFrom}
 use Rattle.relation_reference.proofs.Clearing.{ty_eq}
 use Rattle.relation_reference.proofs.Recalling.{met_eq}

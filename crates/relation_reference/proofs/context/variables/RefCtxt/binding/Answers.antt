@@ -1,7 +1,7 @@
 use Rattle.std.proofs.Common.{refl, sym, ap, ◌∙◌}
 use Rattle.relation_terms.specs.Heads.{type_var}
-use Rattle.relation_reference.specs.Variables.{entry_of_value}
-use Rattle.relation_reference.specs.Tables.{store_of}
+use Rattle.variable_tables.specs.Variables.{entry_of_value}
+use Rattle.variable_tables.specs.Tables.{store_of}
 use Rattle.relation_reference.proofs.Reading.{entry_is}
 use Rattle.relation_reference.proofs.context.variables.RefCtxt.binding.Goals as goal
 

@@ -6,9 +6,9 @@ use Rattle.relation_terms.proofs.Stays.{extends_on}
 use Rattle.relation_folds.specs.Shifts.{opened}
 use Rattle.relation_folds.specs.Visits.{bound_var_escapes}
 use Rattle.relation_semantics.specs.Steps.{ChangesNothing}
-use Rattle.relation_reference.specs.Tables.{store_of}
+use Rattle.variable_tables.specs.Tables.{store_of}
 use Rattle.relation_reference.specs.RefCtxt.{context_in}
-use Rattle.relation_reference.proofs.Grows.{store_grows, lawful_grows}
+use Rattle.variable_tables.proofs.Grows.{store_grows, lawful_grows}
 use Rattle.relation_reference.proofs.Making.{on_err}
 use Rattle.relation_reference.proofs.Universes.{universe_alone, universe_lawful}
 use Rattle.relation_reference.proofs.Binders.{binder_list, binder_body, left_as, entered_as, rest_itself}

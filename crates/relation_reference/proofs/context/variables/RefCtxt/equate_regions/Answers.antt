@@ -1,7 +1,7 @@
 use Rattle.std.proofs.Common.{refl}
 use Rattle.relation_terms.specs.declared.predicate.regions.RegionConstraint.TheVariants.{Eq}
 use Rattle.relation_terms.specs.declared.predicate.regions.RegionConstraint.{RegionConstraint}
-use Rattle.relation_reference.specs.Tables.{store_of}
+use Rattle.variable_tables.specs.Tables.{store_of}
 use Rattle.relation_reference.proofs.Making.{on_err, same_lawful, same_store, goes_same, constraint_lawful, constraint_goes, constraint_added}
 use Rattle.relation_reference.proofs.context.variables.RefCtxt.equate_regions.Goals as goal
 

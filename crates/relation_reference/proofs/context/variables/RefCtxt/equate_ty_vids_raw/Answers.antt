@@ -1,11 +1,11 @@
 use Rattle.std.proofs.Common.{◌≡◌, refl, ap, map, max, min, subst₂, arith}
 use Rattle.relation_terms.specs.Heads.{type_var}
 use Rattle.relation_semantics.specs.Steps.{Equates}
-use Rattle.relation_reference.specs.Tables.{store_of}
-use Rattle.relation_reference.proofs.Beside.{types_beside}
-use Rattle.relation_reference.proofs.SubRoots.{root_there, roots_kept, roots_lawful}
+use Rattle.variable_tables.specs.Tables.{store_of}
+use Rattle.variable_tables.proofs.Beside.{types_beside}
+use Rattle.variable_tables.proofs.SubRoots.{root_there, roots_kept, roots_lawful}
 use Rattle.relation_reference.proofs.Marking.{as_many_keys}
-use Rattle.relation_reference.proofs.Writing.{leads_down, link_equates, link_lawful, linked_entries, table_made}
+use Rattle.variable_tables.proofs.Writing.{leads_down, link_equates, link_lawful, linked_entries, table_made}
 use Rattle.relation_reference.proofs.context.variables.RefCtxt.equate_ty_vids_raw.Goals as goal
 
 pub returns-then-a-b-clause-lawful : goal.returns-then-a-b-clause-lawful

@@ -1,5 +1,5 @@
-use Rattle.relation_reference.specs.Tables.{store_of}
-use Rattle.relation_reference.specs.Remembering.{vid_kind, vid_number}
+use Rattle.variable_tables.specs.Tables.{store_of}
+use Rattle.occurs_check.specs.TermVids.{vid_kind, vid_number}
 use Rattle.relation_reference.proofs.Marking.{marks_none}
 use Rattle.relation_reference.proofs.Recalling.{met_eq}
 use Rattle.relation_reference.proofs.Clearing.{ty_eq, clear_none}

@@ -7,7 +7,7 @@ use Rattle.relation_terms.proofs.Stays.{extends_on}
 use Rattle.relation_folds.specs.Shifts.{opened}
 use Rattle.relation_semantics.specs.Binders.{kinds_in, MakesEach}
 use Rattle.relation_reference.specs.RefCtxt.{store_in, context_in}
-use Rattle.relation_reference.proofs.Grows.{store_grows, lawful_grows}
+use Rattle.variable_tables.proofs.Grows.{store_grows, lawful_grows}
 use Rattle.relation_reference.proofs.Making.{on_err}
 use Rattle.relation_reference.proofs.Binders.{binder_list, binder_body, instantiated_as, rest_on}
 use Rattle.relation_reference.proofs.context.variables.RefCtxt.instantiate_binder_with_infer.Goals as goal

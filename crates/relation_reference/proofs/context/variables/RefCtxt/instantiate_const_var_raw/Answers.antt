@@ -10,13 +10,13 @@ use Rattle.relation_semantics.specs.Lawful.{items_of}
 use Rattle.relation_semantics.specs.Generalising.{Stage, outside, any_part, Generalised}
 use Rattle.relation_semantics.proofs.Passing.{as_err}
 use Rattle.relation_semantics.proofs.Standing.{term_context}
-use Rattle.relation_reference.specs.declared.context.inner.InferCtxtInner.{InferCtxtInner}
-use Rattle.relation_reference.specs.Tables.{setup_in, store_of}
+use Rattle.variable_tables.specs.declared.inner.InferCtxtInner.{InferCtxtInner}
+use Rattle.variable_tables.specs.Tables.{setup_in, store_of}
 use Rattle.relation_reference.proofs.Comes.{same_record}
 use Rattle.relation_reference.proofs.Marking.{marks_none, marks_grow, marks_bound}
-use Rattle.relation_reference.proofs.Beside.{consts_beside}
+use Rattle.variable_tables.proofs.Beside.{consts_beside}
 use Rattle.relation_reference.proofs.Instantiating.{resolved_lawful, universe_read, out_of_memory, source_context, left_still, made_still, stopped, generalised_here, by_rules, bound_lawful, const_may}
-use Rattle.relation_reference.proofs.Writing.{bound_entries, table_made, table_of_entries}
+use Rattle.variable_tables.proofs.Writing.{bound_entries, table_made, table_of_entries}
 use Rattle.relation_reference.proofs.context.variables.RefCtxt.instantiate_const_var_raw.Goals as goal
 
 pub resolve_const-requires-clause-const_in : goal.resolve_const-requires-clause-const_in

@@ -1,5 +1,5 @@
 use Rattle.relation_terms.specs.Parts.{part_tree}
-use Rattle.relation_reference.specs.Remembering.{vid_kind, vid_number}
+use Rattle.occurs_check.specs.TermVids.{vid_kind, vid_number}
 use Rattle.relation_reference.proofs.Clearing.{cycle_stops, beyond_stops}
 use Rattle.relation_reference.proofs.context.variables.RefCtxt.is_obstacle.Goals as goal
 

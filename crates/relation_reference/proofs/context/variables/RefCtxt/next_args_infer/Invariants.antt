@@ -3,7 +3,7 @@ use Rattle.relation_terms.specs.Trees.{known, list_tree}
 use Rattle.relation_terms.specs.Meaning.{Extends, arg_tree}
 use Rattle.relation_semantics.specs.ContextCalls.{KeepsRest}
 use Rattle.relation_semantics.specs.Binders.{kinds_in, MakesEach}
-use Rattle.relation_reference.specs.Tables.{IsLawful}
+use Rattle.variable_tables.specs.Tables.{IsLawful}
 use Rattle.relation_reference.specs.RefCtxt.{store_in, context_in}
 use Rattle.relation_reference.proofs.context.variables.RefCtxt.next_args_infer.Given as goal
 

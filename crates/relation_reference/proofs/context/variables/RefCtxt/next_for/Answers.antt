@@ -1,12 +1,12 @@
 use Rattle.std.proofs.Common.{ap, length}
 use Rattle.relation_terms.specs.Heads.{type_var, const_var, region_var}
-use Rattle.relation_reference.specs.Generalises.{new_kind}
+use Rattle.occurs_check.specs.Fates.{new_kind}
 use Rattle.relation_reference.proofs.Making.{on_err}
 use Rattle.relation_terms.specs.Parts.{part_tree}
-use Rattle.relation_reference.specs.Tables.{store_of}
-use Rattle.relation_reference.proofs.Reading.{made_in_context}
+use Rattle.variable_tables.specs.Tables.{store_of}
+use Rattle.variable_tables.proofs.Grows.{made_in_context}
 use Rattle.relation_reference.proofs.Marking.{marks_kept, marks_still, marks_joined}
-use Rattle.relation_reference.proofs.Fates.{made_as}
+use Rattle.relation_reference.proofs.Making.{made_as}
 use Rattle.relation_reference.proofs.context.variables.RefCtxt.next_for.Goals as goal
 
 pub returns-in_err-next_related_ty_var-in-Ty-clause-refused : goal.returns-in_err-next_related_ty_var-in-Ty-clause-refused

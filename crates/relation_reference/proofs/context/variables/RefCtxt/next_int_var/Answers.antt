@@ -1,7 +1,7 @@
 use Rattle.std.proofs.Common.{◌≡◌, refl, ap, ◌∙◌, length, arith}
 use Rattle.relation_terms.specs.Heads.{int_var, variable}
 use Rattle.relation_terms.specs.Trees.{leaf}
-use Rattle.relation_reference.specs.Tables.{store_of}
+use Rattle.variable_tables.specs.Tables.{store_of}
 use Rattle.relation_reference.proofs.Making.{on_err, later_same, refused_lawful, refused_later, refused_store, int_made, int_made_later, int_made_lawful}
 use Rattle.relation_reference.proofs.context.variables.RefCtxt.next_int_var.Goals as goal
 

@@ -1,11 +1,11 @@
 use Rattle.std.proofs.Common.{◌≡◌, ◌<◌, ap, subst, length, arith}
 use Rattle.relation_terms.specs.Heads.{type_var}
 use Rattle.relation_semantics.specs.ContextCalls.{JoinsRoots}
-use Rattle.relation_reference.specs.SubRoots.{root_in}
+use Rattle.variable_tables.specs.SubRoots.{root_in}
 use Rattle.relation_reference.proofs.Making.{on_err}
 use Rattle.relation_reference.proofs.Marking.{marks_kept, made_new, joined_marks, joined_root}
-use Rattle.relation_reference.proofs.SubRoots.{root_there, roots_kept, roots_lawful}
-use Rattle.relation_reference.proofs.Writing.{table_of_entries}
+use Rattle.variable_tables.proofs.SubRoots.{root_there, roots_kept, roots_lawful}
+use Rattle.variable_tables.proofs.Writing.{table_of_entries}
 use Rattle.relation_reference.proofs.context.variables.RefCtxt.next_related_ty_var.Goals as goal
 
 pub returns-in_err-made-clause-rest : goal.returns-in_err-made-clause-rest

@@ -1,7 +1,7 @@
 use Rattle.std.proofs.Common.{◌∙◌}
 use Rattle.relation_terms.proofs.Members.{if_ok}
 use Rattle.relation_semantics.specs.Stores.{resolved}
-use Rattle.relation_reference.specs.Tables.{store_of}
+use Rattle.variable_tables.specs.Tables.{store_of}
 use Rattle.relation_reference.proofs.Folding.{fold_resolves, stays_lawful}
 use Rattle.relation_reference.proofs.context.variables.RefCtxt.resolve_vars_if_possible.Goals as goal
 

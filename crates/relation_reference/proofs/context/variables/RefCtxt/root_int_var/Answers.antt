@@ -1,10 +1,10 @@
 use Rattle.std.proofs.Common.{◌<◌, refl, sym, subst, length}
 use Rattle.relation_terms.specs.Heads.{int_var}
 use Rattle.relation_semantics.specs.Steps.{LeadsTo}
-use Rattle.relation_reference.specs.Tables.{store_of}
+use Rattle.variable_tables.specs.Tables.{store_of}
 use Rattle.relation_semantics.specs.Resolving.{IsRoot}
 use Rattle.relation_reference.proofs.Reading.{root_leads, root_stands, root_made}
-use Rattle.relation_reference.proofs.Writing.{table_made, table_of_entries}
+use Rattle.variable_tables.proofs.Writing.{table_made, table_of_entries}
 use Rattle.relation_reference.proofs.context.variables.RefCtxt.root_int_var.Goals as goal
 
 pub returns : goal.returns

@@ -1,4 +1,4 @@
-use Rattle.relation_reference.proofs.SubRoots.{root_there, roots_kept, roots_lawful}
+use Rattle.variable_tables.proofs.SubRoots.{root_there, roots_kept, roots_lawful}
 use Rattle.relation_reference.proofs.context.variables.RefCtxt.sub_unify_ty_vids_raw.Goals as goal
 
 pub join_roots-requires-clause-a_in : goal.join_roots-requires-clause-a_in

@@ -2,10 +2,10 @@ use Rattle.std.proofs.Common.{sym, subst}
 use Rattle.term_enums.specs.declared.Variance.TheVariants.{Invariant}
 use Rattle.relation_terms.specs.Interning.{Sorted}
 use Rattle.term_enums.specs.declared.StructurallyRelateAliases.TheVariants.{Yes}
-use Rattle.type_relations.specs.Solving.{solver_settings}
-use Rattle.type_relations.proofs.Asked.{related_where_asked}
-use Rattle.type_relations.proofs.Closed.{leaves_closed, asks_nothing}
-use Rattle.type_relations.proofs.Completing.{completes}
+use Rattle.relation_combining.specs.Solving.{solver_settings}
+use Rattle.context_relation.proofs.Asked.{related_where_asked}
+use Rattle.context_relation.proofs.Closed.{leaves_closed, asks_nothing}
+use Rattle.context_relation.proofs.Completing.{completes}
 use Rattle.type_relations.proofs.relate.solver_relating.AnyRelateExt.eq_structurally_relating_aliases.Goals as goal
 
 pub returns-clause-complete : goal.returns-clause-complete

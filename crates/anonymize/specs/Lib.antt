@@ -1,0 +1,3 @@
+pub mod Anonymous
+pub mod UsedParts
+pub mod Renamings

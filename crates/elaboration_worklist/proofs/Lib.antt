@@ -1,0 +1,4 @@
+pub mod Members
+pub mod Distinct
+pub mod Pushing
+pub mod Worklists

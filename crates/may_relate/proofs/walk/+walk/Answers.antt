@@ -1,0 +1,113 @@
+use Rattle.std.proofs.Common.{rules, arith, ap, sym, subst, ◌≡◌, ◌<◌, ◌+◌, ◌*◌}
+use Rattle.relation_terms.specs.Trees.{size, count}
+use Rattle.relation_terms.specs.Parts.{part_tree, parts_tree, parts_of}
+use Rattle.relation_terms.proofs.Members.{member_small, parts_small}
+use Rattle.may_relate.specs.Around.{sorts_around}
+use Rattle.may_relate.specs.Fitting.{SomeUnfit}
+use Rattle.may_relate.specs.Seen.{AllSeen, LeadsBack}
+use Rattle.may_relate.proofs.Wholes.{fits_list, part_whole, handed_on, unfit_nth, unfit_own, unfit_part}
+use Rattle.may_relate.proofs.walk.+walk.Goals as goal
+
+pub list_fits-part_fits-requires : goal.list_fits-part_fits-requires
+list_fits-part_fits-requires g t' c κs within =
+    let m = g.C.Interner.Interner.meaning c.args.cx.now in
+    let ts = parts_tree m c.args.parts.now in
+    let x = c.member-part.result in
+    let counted = c.member_count-i-end.ensures.counts in
+    let test = c.loop-i-test.true in
+    let below : c.loop-i.i < count ts = omega (arith, counted, test) in
+    let d = c.decreases in
+    let less = member_small ts c.loop-i.i below in
+    let is : size (part_tree m x) ≡ size _ = ap size c.member-part.ensures.means in
+    let small : 2 * size (part_tree m x) + 1 < 2 * size ts = omega (arith, less, is) in
+    let k = c.member-part.ensures.sure in
+    let seen = c.loop-i.invariant.1 in
+    search rules
+
+pub list_fits-returns-in_err-part_fits-clause-why : goal.list_fits-returns-in_err-part_fits-clause-why
+list_fits-returns-in_err-part_fits-clause-why g t' c =
+    let st = (g.C.InferCtxtLike.state c.args.ctx.now).store in
+    let ls = sorts_around c.args.around.now in
+    let ts = parts_tree (g.C.Interner.Interner.meaning c.args.cx.now) c.args.parts.now in
+    let counted = c.member_count-i-end.ensures.counts in
+    let test = c.loop-i-test.true in
+    let below : c.loop-i.i < count ts = omega (arith, counted, test) in
+    handed_on c.from_residual.result (SomeUnfit st ls ts) c.in_err-part_fits.field-0.0 c.from_residual.ensures.1
+    (unfit_nth st ls ts c.loop-i.i c.in_err-part_fits.field-0.0 below
+    (subst (λ x. SomeUnfit st ls x c.in_err-part_fits.field-0.0) c.member-part.ensures.means
+    c.in_err-part_fits.ensures.why))
+
+pub part_fits-list_fits-fit-requires : goal.part_fits-list_fits-fit-requires
+part_fits-list_fits-fit-requires g t' c κs within =
+    let m = g.C.Interner.Interner.meaning c.args.cx.now in
+    let st = (g.C.InferCtxtLike.state c.args.ctx.now).store in
+    let t = part_tree m c.args.part.now in
+    let ts = parts_tree m c.parts_of-parts.result in
+    let d = c.decreases in
+    let less = parts_small t in
+    let is : size ts ≡ size (parts_of t) = ap size c.parts_of-parts.ensures.means in
+    let small : 2 * size ts < 2 * size t + 1 = omega (arith, less, is) in
+    let k = c.parts_of-parts.ensures.sure in
+    let seen = subst (λ ks. AllSeen st ks m c.enter-outside.new.seen) (sym c.inside.ensures)
+    (c.enter-outside.ensures.inside st (sorts_around c.args.around.now) c.requires.seen) in
+    search rules
+
+pub part_fits-returns-in_err-own-clause-why : goal.part_fits-returns-in_err-own-clause-why
+part_fits-returns-in_err-own-clause-why g t' c =
+    let st = (g.C.InferCtxtLike.state c.args.ctx.now).store in
+    let ls = sorts_around c.args.around.now in
+    let t = part_tree (g.C.Interner.Interner.meaning c.args.cx.now) c.args.part.now in
+    handed_on c.from_residual.result (SomeUnfit st ls t) c.in_err-own.field-0.0 c.from_residual.ensures.1
+    (unfit_own st ls t c.in_err-own.field-0.0 c.in_err-own.ensures.why)
+
+pub part_fits-returns-in_err-fit-clause-why : goal.part_fits-returns-in_err-fit-clause-why
+part_fits-returns-in_err-fit-clause-why g t' c =
+    let m = g.C.Interner.Interner.meaning c.args.cx.now in
+    let st = (g.C.InferCtxtLike.state c.args.ctx.now).store in
+    let ls = sorts_around c.args.around.now in
+    handed_on c.from_residual-in_err-fit.result (SomeUnfit st ls (part_tree m c.args.part.now)) c.in_err-fit.field-0.0
+    c.from_residual-in_err-fit.ensures.1
+    (unfit_part m st ls c.args.part.now (sorts_around c.inside.result) (parts_tree m c.parts_of-parts.result)
+    c.in_err-fit.field-0.0 c.inside.ensures c.parts_of-parts.ensures.means c.in_err-fit.ensures.why)
+
+pub part_fits-returns-in_err-fit-clause-seen : goal.part_fits-returns-in_err-fit-clause-seen
+part_fits-returns-in_err-fit-clause-seen g t' c =
+    let m = g.C.Interner.Interner.meaning c.args.cx.now in
+    let st = (g.C.InferCtxtLike.state c.args.ctx.now).store in
+    let ls = sorts_around c.args.around.now in
+    c.leave.ensures st ls (sorts_around c.inside.result) c.list_fits-fit.ensures.seen
+    (subst (λ ks. LeadsBack st ls ks m c.enter-outside.result) (sym c.inside.ensures)
+    (c.enter-outside.ensures.outside st ls c.requires.seen))
+
+pub list_fits-returns-clause-fits : goal.list_fits-returns-clause-fits
+list_fits-returns-clause-fits g t' c =
+    let ts = parts_tree (g.C.Interner.Interner.meaning c.args.cx.now) c.args.parts.now in
+    let counted = c.member_count-i-end.ensures.counts in
+    let test = c.loop-i-test.false in
+    fits_list (g.C.InferCtxtLike.state c.args.ctx.now).store (sorts_around c.args.around.now) ts
+    c.member_count-i-end.ensures.is_list
+    (λ k h. let below : k < c.loop-i.i = omega (arith, counted, test, h) in c.loop-i.invariant.0 k below)
+
+pub list_fits-returns-clause-seen : goal.list_fits-returns-clause-seen
+list_fits-returns-clause-seen g t' c = c.loop-i.invariant.1
+
+pub part_fits-returns-clause-fits : goal.part_fits-returns-clause-fits
+part_fits-returns-clause-fits g t' c =
+    let m = g.C.Interner.Interner.meaning c.args.cx.now in
+    part_whole m (g.C.InferCtxtLike.state c.args.ctx.now).store (sorts_around c.args.around.now)
+    (g.met.C.Interner.Interner.sorted c.args.cx.now) c.args.part.now c.requires.known c.in_ok-own.ensures.fits
+    (sorts_around c.inside.result) (parts_tree m c.parts_of-parts.result) c.inside.ensures
+    c.parts_of-parts.ensures.means c.in_ok-fit.ensures.fits
+
+pub part_fits-returns-clause-seen : goal.part_fits-returns-clause-seen
+part_fits-returns-clause-seen g t' c =
+    let m = g.C.Interner.Interner.meaning c.args.cx.now in
+    let st = (g.C.InferCtxtLike.state c.args.ctx.now).store in
+    let ls = sorts_around c.args.around.now in
+    c.remember.ensures st ls
+    (c.leave.ensures st ls (sorts_around c.inside.result) c.list_fits-fit.ensures.seen
+    (subst (λ ks. LeadsBack st ls ks m c.enter-outside.result) (sym c.inside.ensures)
+    (c.enter-outside.ensures.outside st ls c.requires.seen)))
+    (part_whole m st ls (g.met.C.Interner.Interner.sorted c.args.cx.now) c.args.part.now c.requires.known
+    c.in_ok-own.ensures.fits (sorts_around c.inside.result) (parts_tree m c.parts_of-parts.result) c.inside.ensures
+    c.parts_of-parts.ensures.means c.in_ok-fit.ensures.fits)

@@ -1,0 +1,86 @@
+//! The walk over a term: each leaf is tested under the binders around it.
+ghost use Rattle.std.specs.Prelude.{◌≡◌, IsTrue, IfErr, OnOk};
+ghost use Rattle.relation_terms.specs.Trees.{known};
+ghost use Rattle.relation_terms.specs.Parts.{part_tree, parts_tree};
+ghost use Rattle.may_relate.specs.Around.{sorts_around};
+ghost use Rattle.may_relate.specs.Fitting.{FitsAll, SomeUnfit, sorts_inside};
+ghost use Rattle.may_relate.specs.Seen.{AllSeen};
+
+use crate::around::{Around, AroundOf};
+use crate::leaves::own;
+use crate::seen::{SeenOf, enter, leave, recalls, remember};
+use crate::{HasVariables, Unfit};
+use relation_terms::terms::parts::{member, member_count, parts_of};
+use relation_terms::terms::{Interner, Part, PartOf, PartsOf};
+
+// The binders around the parts of a part.
+fn inside<'a, I: Interner>(
+    cx: &'a I,
+    part: &PartOf<I>,
+    around: &'a AroundOf<'a, I>,
+) -> AroundOf<'a, I>
+    requires { IsTrue (known (part_tree (I.meaning cx.now) part.now)) }
+    ensures { sorts_around result ≡ sorts_inside (part_tree (I.meaning cx.now) part.now) (sorts_around around.now) }
+{
+    match part {
+        Part::Binder(vars, _) => Around::Binder(cx.bound_vars(vars), around),
+        Part::Region(_) | Part::Ty(_) | Part::Const(_) => *around,
+        Part::ValTree(_) | Part::Pat(_) | Part::ValueType(_) => *around,
+        Part::Signature(_) | Part::Inputs(_) => *around,
+        Part::Existential(_) | Part::Object(_) => *around,
+    }
+}
+
+/// Nothing, where each leaf of a part may stand there; else the first reason why not.
+#[cycle(walk)]
+pub fn part_fits<C: HasVariables>(
+    ctx: &C,
+    cx: &C::Interner,
+    part: &PartOf<C::Interner>,
+    around: &AroundOf<C::Interner>,
+    seen: &mut SeenOf<C::Interner>,
+) -> Result<(), Unfit>
+    requires known { IsTrue (known (part_tree (C.Interner.meaning cx.now) part.now)) }
+    requires seen { AllSeen (C.state ctx.now).store (sorts_around around.now) (C.Interner.meaning cx.now) seen.old }
+    ensures fits { OnOk result (FitsAll (C.state ctx.now).store (sorts_around around.now)
+        (part_tree (C.Interner.meaning cx.now) part.now)) }
+    ensures why { IfErr result (SomeUnfit (C.state ctx.now).store (sorts_around around.now)
+        (part_tree (C.Interner.meaning cx.now) part.now)) }
+    ensures seen { AllSeen (C.state ctx.now).store (sorts_around around.now) (C.Interner.meaning cx.now) seen.new }
+{
+    if recalls(cx, seen, part) {
+        return Ok(());
+    }
+    own(ctx, cx, part, around)?;
+    let parts = parts_of(cx, part);
+    let outside = enter(cx, seen, part);
+    let fit = list_fits(ctx, cx, &parts, &inside(&*cx, part, &*around), seen);
+    leave(cx, seen, outside);
+    fit?;
+    remember(cx, seen, part);
+    Ok(())
+}
+
+/// The same of each member of a list.
+#[cycle(walk)]
+pub fn list_fits<C: HasVariables>(
+    ctx: &C,
+    cx: &C::Interner,
+    parts: &PartsOf<C::Interner>,
+    around: &AroundOf<C::Interner>,
+    seen: &mut SeenOf<C::Interner>,
+) -> Result<(), Unfit>
+    requires known { IsTrue (known (parts_tree (C.Interner.meaning cx.now) parts.now)) }
+    requires seen { AllSeen (C.state ctx.now).store (sorts_around around.now) (C.Interner.meaning cx.now) seen.old }
+    ensures fits { OnOk result (FitsAll (C.state ctx.now).store (sorts_around around.now)
+        (parts_tree (C.Interner.meaning cx.now) parts.now)) }
+    ensures why { IfErr result (SomeUnfit (C.state ctx.now).store (sorts_around around.now)
+        (parts_tree (C.Interner.meaning cx.now) parts.now)) }
+    ensures seen { AllSeen (C.state ctx.now).store (sorts_around around.now) (C.Interner.meaning cx.now) seen.new }
+{
+    for i in 0..member_count(cx, parts) {
+        let part = member(cx, parts, i);
+        part_fits(ctx, cx, &part, around, seen)?;
+    }
+    Ok(())
+}

@@ -1,0 +1,109 @@
+//! The table: how a node is found, and how one is added.
+ghost use Rattle.std.specs.Prelude.{◌≡◌, ◌<◌, ◌⊎◌, ℕ, [], ◌∷◌, ◌++◌, length, slice_index_or, MatchOption};
+ghost use Rattle.std.specs.Prelude.{IfOk, IsOk, OnOk, OnErr};
+ghost use Rattle.node_table.specs.Finding.{Lacks, HasAt, AllUnequal};
+
+use crate::{TryClone, next_number};
+use std::alloc::Global;
+use std::collections::HashMap;
+use std::hash::{BuildHasherDefault, Hash};
+use std::marker::Model;
+use term_enums::OutOfMemory;
+use term_enums::hashing::KeyHasher;
+
+/// Nodes, of which no two are equal. A node is found by a hashed table, in the time of one look-up, however many there
+/// are.
+#[derive(Drop)]
+pub struct NodeTable<N: Eq + Hash> {
+    alloc: Global,
+    // The nodes, by their numbers.
+    nodes: Vec<N>,
+    // Where the nodes stand.
+    places: HashMap<N, u32, BuildHasherDefault<KeyHasher>>,
+}
+
+impl<N: Eq + Hash> Model for NodeTable<N> {
+    ghost use Rattle.std.specs.Prelude.{List};
+    ghost use Rattle.std.specs.Coded.{coded_list};
+    ghost use Rattle.std.specs.HashMap.{get};
+    ghost use Rattle.node_table.specs.Finding.{IsTable};
+
+    ghost Value = { List N };
+
+    ghost coded = { coded_list N.code };
+
+    ghost view = { λ t. t.nodes.items };
+
+    ghost invariant = { λ t. IsTable N.eq t.nodes.items (get N.eq t.places) };
+}
+
+impl<N: Eq + Hash + TryClone + Drop> NodeTable<N> {
+    /// A table without nodes. It takes no memory.
+    pub fn new(alloc: Global) -> NodeTable<N>
+        ensures { result ≡ [] }
+    {
+        NodeTable {
+            alloc,
+            nodes: Vec::new(alloc),
+            places: HashMap::with_hasher(alloc, BuildHasherDefault::new()),
+        }
+    }
+
+    /// How many nodes there are.
+    pub fn len(&self) -> usize
+        ensures count { result ≡ length self.now }
+        ensures each_once { AllUnequal N.eq self.now }
+    {
+        self.nodes.len()
+    }
+
+    /// The node of a number.
+    #[inline(always)]
+    pub fn node(&self, number: u32) -> &N
+        requires { number < length self.now }
+        ensures { result.now ≡ slice_index_or self.now number result.now }
+    {
+        &self.nodes[number as usize]
+    }
+
+    /// The number of the node that equals this one, where there is one.
+    pub fn place(&self, node: &N) -> Option<u32>
+        ensures { MatchOption result (Lacks N.eq self.now node.now) (HasAt N.eq self.now node.now) }
+    {
+        self.places.get(node).copied()
+    }
+
+    /// The number of the node that equals this one. Where there is none, this one is put at the end.
+    ///
+    /// # Errors
+    /// `OutOfMemory` where a growth was refused, and where there are 2^32 nodes: then the table is as it was.
+    pub fn add(&mut self, node: N) -> Result<u32, OutOfMemory>
+        ensures number { IfOk result (HasAt N.eq self.new node) }
+        ensures there { (i : ℕ) → HasAt N.eq self.old node i → IsOk result × (self.new ≡ self.old) }
+        ensures added { (self.new ≡ self.old) ⊎ (self.new ≡ self.old ++ node ∷ []) }
+        ensures refused { OnErr result (self.new ≡ self.old) }
+    {
+        match self.place(&node) {
+            Some(number) => Ok(number),
+            None => self.put(node),
+        }
+    }
+
+    /// The number of a node that equals none. It is put at the end. All growths come before anything is written.
+    ///
+    /// # Errors
+    /// `OutOfMemory` where a growth was refused, and where there are 2^32 nodes: then the table is as it was.
+    pub fn put(&mut self, node: N) -> Result<u32, OutOfMemory>
+        requires { Lacks N.eq self.old node }
+        ensures number { IfOk result (λ n. n ≡ length self.old) }
+        ensures added { OnOk result (self.new ≡ self.old ++ node ∷ []) }
+        ensures refused { OnErr result (self.new ≡ self.old) }
+    {
+        let number = next_number(self.nodes.len())?;
+        let known = node.try_clone(self.alloc)?;
+        self.nodes.reserve(1)?;
+        self.places.insert(known, number)?;
+        self.nodes.push_reserved(node);
+        Ok(number)
+    }
+}

@@ -1,0 +1,2 @@
+pub mod TermVids
+pub mod Fates

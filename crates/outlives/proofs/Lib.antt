@@ -1,0 +1,4 @@
+pub mod Outliving
+pub mod Choosing
+pub mod Components
+pub mod Meeting

@@ -1,0 +1,2 @@
+pub mod Outliving
+pub mod Collecting

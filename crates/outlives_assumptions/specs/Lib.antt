@@ -1,0 +1,2 @@
+pub mod Assumptions
+pub mod Assuming

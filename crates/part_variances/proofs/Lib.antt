@@ -1,0 +1,4 @@
+pub mod DiagInfo
+pub mod Handed
+pub mod PartPlaces
+pub mod Patterns

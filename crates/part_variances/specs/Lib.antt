@@ -1,0 +1,2 @@
+pub mod DiagInfo
+pub mod Handing

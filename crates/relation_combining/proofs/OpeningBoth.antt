@@ -1,0 +1,235 @@
+-- Opening two binders in a context, the one with placeholders and the other with new variables: what that does to the
+-- context, and that the bodies may stand for the binders.
+use Rattle.std.proofs.Common.{◌≡◌, ◌⊎◌, ℕ, ◌+◌, ◌<◌, refl, sym, ap, ap₂, ◌∙◌, arith, inl, inr, subst, subst₂, List}
+use Rattle.std.proofs.Common.{[], ◌∷◌, ◌++◌, length, get_or}
+use Rattle.term_enums.specs.declared.Variance.{Variance}
+use Rattle.relation_terms.specs.Heads.{BoundKind, VarKind, type_var, const_var, Leaf, variable, bound, placeholder}
+use Rattle.relation_terms.specs.Heads.{atom, unknown}
+use Rattle.relation_terms.specs.Trees.{Tree, leaf, bind, inst, size, Leaves}
+use Rattle.relation_terms.specs.Meaning.{Meaning}
+use Rattle.relation_folds.specs.declared.error.TypeError.{TypeError}
+use Rattle.relation_semantics.specs.Relation.{Items, StaysWithin, at, second_opened, first_opened}
+use Rattle.relation_semantics.specs.Stores.{Store, unbound, entry_term, counts_term, counts_bound, tally, bound_term}
+use Rattle.relation_semantics.specs.Stores.{all_bound, IsMadeLeaf, IsInScope, InContext, IsNamable, IsTermIn}
+use Rattle.relation_semantics.specs.Stores.{IsSound, resolved, weight}
+use Rattle.relation_semantics.specs.Goals.{Goal}
+use Rattle.relation_semantics.specs.Steps.{ChangesNothing, EntersForall, LeavesBody, EntersUniverse, InstantiatesBinder}
+use Rattle.relation_semantics.specs.Steps.{ArePlaceholders}
+use Rattle.relation_semantics.specs.Outcomes.{StepsTo}
+use Rattle.relation_semantics.specs.Kits.{Kit, IsBuiltOf, StaysBuilt, BuiltFrom, MayBind}
+use Rattle.relation_semantics.proofs.Building.{body_built, built_opened, each_writes}
+use Rattle.relation_semantics.specs.Measures.{Goes}
+use Rattle.relation_semantics.specs.Settings.{Settings}
+use Rattle.relation_semantics.specs.Errors.{IsStandIn, StandFor, ErrorOf, of_bodies}
+use Rattle.relation_semantics.specs.Bound.{AreBoundAs, BindByLists}
+use Rattle.relation_semantics.specs.Agreeing.{Agree}
+use Rattle.relation_semantics.proofs.Agreeing.{agree_opened}
+use Rattle.relation_semantics.specs.Generalising.{MakesUnbound}
+use Rattle.relation_semantics.specs.Binders.{variable_kind, MakesEach, makes_none, makes_next, InstantiatesEach}
+use Rattle.relation_semantics.proofs.Trees.{Leaves_map₂, inst_within, apply_alike}
+use Rattle.relation_semantics.proofs.Standing.{later_term, term_context, term_namable}
+use Rattle.relation_semantics.proofs.Values.{some_placeholders, some_are_placeholders}
+use Rattle.relation_semantics.proofs.Tallies.{all_alike}
+use Rattle.relation_semantics.proofs.Resolved.{resolved_same}
+use Rattle.relation_semantics.proofs.StoreCalls.{nothing_is_seen}
+use Rattle.relation_semantics.proofs.NewVariables.{Adds, adds, adds_goes}
+use Rattle.relation_semantics.proofs.MakingEach.{variable_sort, each_unbound, instantiating_each_opens}
+use Rattle.relation_combining.proofs.OpenedTerms.{entered_body_is_in, instantiated_body_is_in, entered_body_binds}
+use Rattle.relation_combining.proofs.OpenedTerms.{instantiated_body_binds}
+use Rattle.relation_semantics.proofs.Opening.{changes_later, opening_steps}
+use Rattle.relation_semantics.proofs.Going.{goes_then}
+use Rattle.relation_goals.proofs.Entering.{changes_made}
+
+-- What changes nothing leaves sizes, costs nothing and stays sound.
+module _ (before after : Store) (h : ChangesNothing before after) where
+  changes_sound : IsSound before → IsSound after
+  changes_sound = (nothing_is_seen before after h).0
+
+  changes_weight : (t : Tree) → weight after t ≡ weight before t
+  unfolding weight
+  changes_weight t = ap size (apply_alike (resolved after) (resolved before) t (λ k n. sym
+      (resolved_same before after same_terms (sym (all_alike counts_term before after h.same_entries)) k n)))
+    where
+      same_terms : (k : VarKind) (n : ℕ) → bound_term before k n ≡ bound_term after k n
+      same_terms k n = ap (λ es. entry_term k (get_or es n unbound)) (sym (h.same_entries k))
+
+  changes_bound : all_bound after ≡ all_bound before
+  changes_bound = ap₂ (λ es ds. tally counts_bound es + tally counts_bound ds) (h.same_entries type_var)
+      (h.same_entries const_var)
+
+  pub changes_goes : Goes 0 before after
+  changes_goes = record {
+    later = changes_later before after h;
+    made = λ k n. ap length (h.same_entries k);
+    spent = 0;
+    counts = let e = h.same_budget in omega (arith, e);
+    binds = let e = changes_bound in omega (arith, e);
+    grows = λ m t above below. let e = changes_weight t in omega (arith, e, below);
+  }
+
+-- A universe may have been made, and then variables that stay unbound.
+module _ (before middle after : Store) (h : ChangesNothing before middle) (g : IsSound before)
+    (f : MakesUnbound middle.universe middle after) where
+  opened_adds : Adds middle.universe middle after
+  opened_adds = adds (changes_sound before middle h g) (omega arith) f
+
+  pub opened_goes : Goes 0 before after
+  opened_goes = goes_then (changes_goes before middle h) (adds_goes opened_adds) (omega arith)
+
+-- What stands under a binder of a term of the context names only what the current universe can.
+pub body_scope : (st : Store) → IsSound st → (ks : List BoundKind) (t : Tree) → IsTermIn st (bind ks t) →
+    Leaves (IsInScope st st.universe) t
+unfolding InContext
+body_scope st g ks t h = Leaves_map₂ (IsMadeLeaf st) (IsNamable st.universe) (IsInScope st st.universe) at_leaf t
+    (term_context st (bind ks t) h) (term_namable st (bind ks t) h)
+  where
+    at_leaf : (l : Leaf) → IsMadeLeaf st l → IsNamable st.universe l → IsInScope st st.universe l
+    at_leaf (variable k n) m u = (m, g.below_current k n)
+    at_leaf (bound k d i) m u = tt
+    at_leaf (placeholder k v n) m u = u
+    at_leaf (atom x) m u = m
+    at_leaf unknown m u = u
+
+-- An opened body is the body with stand-ins put for what its binder binds.
+pub record StandIns (ks : List BoundKind) (t x : Tree) : Type 0 where
+  pub trees : List Tree
+  pub stand : StandFor ks trees
+  pub put : x ≡ inst trees 0 t
+
+placeholders_stand_for : (u : ℕ) (ks : List BoundKind) (ps : List Tree) → ArePlaceholders u ks ps → StandFor ks ps
+placeholders_stand_for u [] [] h = tt
+placeholders_stand_for u [] (p ∷ ps) h = absurd h
+placeholders_stand_for u (k ∷ ks) [] h = absurd h
+placeholders_stand_for u (k ∷ ks) (p ∷ ps) h =
+    (subst (IsStandIn k) (sym h.0.1) refl, placeholders_stand_for u ks ps h.2)
+
+stand_more : (k : BoundKind) (t : Tree) (ks : List BoundKind) (ts : List Tree) → StandFor ks ts → IsStandIn k t →
+    StandFor (ks ++ k ∷ []) (ts ++ t ∷ [])
+stand_more k t [] [] h s = (s, tt)
+stand_more k t [] (x ∷ ts) h s = absurd h
+stand_more k t (j ∷ ks) [] h s = absurd h
+stand_more k t (j ∷ ks) (x ∷ ts) h s = (h.0, stand_more k t ks ts h.1 s)
+
+variables_stand_for : {u : ℕ} {before after : Store} {ks : List BoundKind} {xs : List Tree} →
+    MakesEach u before ks xs after → StandFor ks xs
+variables_stand_for (makes_none p q) = subst₂ StandFor (sym p) (sym q) tt
+variables_stand_for (makes_next {ks = ks} {xs = xs} {n = n} k f q p e) = subst₂ StandFor (sym p) (sym e)
+    (stand_more k (leaf (variable (variable_kind k) n)) ks xs (variables_stand_for f) (variable_sort k))
+
+-- Where a body uses nothing of its binder any stand-ins leave it.
+pub unused_stand_ins : (ks : List BoundKind) (t : Tree) → StaysWithin 0 t → StandIns ks t t
+unused_stand_ins ks t h = record {
+  trees = some_placeholders 0 0 ks;
+  stand = placeholders_stand_for 0 ks (some_placeholders 0 0 ks) (some_are_placeholders 0 0 ks);
+  put = sym (inst_within (some_placeholders 0 0 ks) 0 t h);
+}
+
+entered_stand_ins : (before after : Store) (ks : List BoundKind) (t x : Tree) → EntersForall before after ks t x →
+    StandIns ks t x
+entered_stand_ins before after ks t x f = go f.opens
+  where
+    go : LeavesBody before after t x ⊎ ((StaysWithin 0 t → ⊥) × EntersUniverse before after ks t x) → StandIns ks t x
+    go (inl p) = subst (StandIns ks t) (sym p.body_is) (unused_stand_ins ks t p.unused)
+    go (inr p) = let e = p.1 in record {
+      trees = e.placeholders;
+      stand = placeholders_stand_for after.universe ks e.placeholders e.are_placeholders;
+      put = e.body_is;
+    }
+
+instantiated_stand_ins : (before after : Store) (ks : List BoundKind) (t x : Tree) →
+    InstantiatesEach before after ks t x → StandIns ks t x
+instantiated_stand_ins before after ks t x f =
+    record { trees = f.variables; stand = variables_stand_for f.makes; put = f.body_is }
+
+-- An error of two opened bodies is one of the binders.
+pub bodies_error : {Key Id Name : Type 0} (m : Meaning Key Id Name) (k : Settings) (c : Items) (st : Store)
+    (v : Variance) (e : TypeError Key Id Name) (ks ls : List BoundKind) (t u x y : Tree) → StandIns ks t x → StandIns ls u y →
+    ErrorOf m k c st v e x y → ErrorOf m k c st v e (bind ks t) (bind ls u)
+bodies_error m k c st v e ks ls t u x y p q o =
+    of_bodies p.trees q.trees refl refl p.stand q.stand (subst₂ (ErrorOf m k c st v e) p.put q.put o)
+
+-- Opened bodies are built of what the binders are.
+pub bodies_built : (st : Store) (ks ls : List BoundKind) (t u x y : Tree) → StandIns ks t x → StandIns ls u y →
+    BuiltFrom st (bind ks t) (bind ls u) x y
+bodies_built st ks ls t u x y p q = λ k ha hb all.
+    (body_built k ks p.trees t x p.stand p.put ha, body_built k ls q.trees u y q.stand q.put hb)
+
+-- Two binders agree if the opened bodies do.
+pub bodies_agree : (set : Settings) (c : Items) (v : Variance) (ks ls : List BoundKind) (t u x y : Tree) → StandIns ks t x →
+    StandIns ls u y → AreBoundAs ks 0 t → AreBoundAs ls 0 u → Agree set c (at v) x y →
+    Agree set c (at v) (bind ks t) (bind ls u)
+bodies_agree set c v ks ls t u x y p q f h g = inr (agree_opened set c ks ls p.trees q.trees p.stand q.stand v 0 t u f h
+    (subst₂ (Agree set c (at v)) p.put q.put g))
+
+-- What is shown of both bodies together, of which the first was entered and the second instantiated.
+pub record BothOpened (before after : Store) (ks ls : List BoundKind) (t u x y : Tree) : Type 0 where
+  pub goes : Goes 0 before after
+  pub built : (a b : Tree) → ((k : Kit) → IsBuiltOf k a → IsBuiltOf k b → MayBind k ls) →
+      StaysBuilt before after [] a b
+  pub same_budget : after.budget ≡ before.budget
+  pub entered_in : IsTermIn after x
+  pub instantiated_in : IsTermIn after y
+  pub entered_by_lists : BindByLists x
+  pub instantiated_by_lists : BindByLists y
+  pub entered_for : StandIns ks t x
+  pub instantiated_for : StandIns ls u y
+  pub smaller : weight after x + weight after y < weight before (bind ks t) + weight before (bind ls u)
+  pub second : (c : Items) (e : Tree) (v : Variance) (earlier : List Goal) →
+      StepsTo c e before after earlier [] (second_opened ls ks v) u t (at v) y x
+  pub first : (c : Items) (e : Tree) (v : Variance) (earlier : List Goal) →
+      StepsTo c e before after earlier [] (first_opened ks ls v) t u (at v) x y
+
+-- A binder is larger than its body by two.
+binder_weight : (st : Store) (ks : List BoundKind) (t : Tree) → weight st t + 2 ≡ weight st (bind ks t)
+unfolding weight
+binder_weight st ks t = omega arith
+
+pub bodies_smaller : (st : Store) (ks ls : List BoundKind) (t u : Tree) →
+    weight st t + weight st u < weight st (bind ks t) + weight st (bind ls u)
+bodies_smaller st ks ls t u = let i = binder_weight st ks t in let j = binder_weight st ls u in omega (arith, i, j)
+
+module _ (before middle after : Store) (g : IsSound before) (ks ls : List BoundKind) (t u x y : Tree)
+    (enters : EntersForall before middle ks t x) (makes : InstantiatesEach middle after ls u y)
+    (in_t : IsTermIn before (bind ks t)) (in_u : IsTermIn before (bind ls u))
+    (t_by_lists : BindByLists (bind ks t)) (u_by_lists : BindByLists (bind ls u)) where
+  sound : IsSound middle
+  sound = changes_sound before middle enters.changes_nothing g
+
+  added : Adds middle.universe middle after
+  added = opened_adds before middle after enters.changes_nothing g (each_unbound makes.makes)
+
+  entered_there : IsTermIn middle x × (weight middle x ≡ weight before t)
+  entered_there = entered_body_is_in before middle ks t x enters g in_t t_by_lists.0
+
+  instantiated_there : IsTermIn after y × (weight after y ≡ weight middle u)
+  instantiated_there = instantiated_body_is_in middle after ls u y makes sound
+      (later_term before middle (changes_made before middle enters.changes_nothing)
+      enters.changes_nothing.universe_stands (bind ls u) in_u) u_by_lists.0
+
+  opens : InstantiatesBinder middle after ls u y
+  opens = instantiating_each_opens middle after ls u y makes sound
+
+  pub both_opened : BothOpened before after ks ls t u x y
+  both_opened = record {
+    goes = opened_goes before middle after enters.changes_nothing g (each_unbound makes.makes);
+    built = λ a b has. built_opened before after ls a b enters.changes_nothing enters.same_taint
+        (each_unbound makes.makes) (each_writes makes.makes) has;
+    same_budget = added.budget ∙ enters.changes_nothing.same_budget;
+    entered_in = let e = added.universe in
+        later_term middle after (added.later).grows (omega (arith, e)) x entered_there.0;
+    instantiated_in = instantiated_there.0;
+    entered_by_lists = entered_body_binds before middle ks t x enters t_by_lists.1;
+    instantiated_by_lists = instantiated_body_binds middle after ls u y makes u_by_lists.1;
+    entered_for = entered_stand_ins before middle ks t x enters;
+    instantiated_for = instantiated_stand_ins middle after ls u y makes;
+    smaller =
+        let p = sym (added.weights x) ∙ entered_there.1 in
+        let q = instantiated_there.1 ∙ changes_weight before middle enters.changes_nothing u in
+        let i = binder_weight before ks t in
+        let j = binder_weight before ls u in
+        omega (arith, p, q, i, j);
+    second = λ c e v earlier. (opening_steps c e v before middle after earlier ls ks u t y x
+        (body_scope before g ls u in_u) (body_scope before g ks t in_t)).0 enters opens;
+    first = λ c e v earlier. (opening_steps c e v before middle after earlier ks ls t u x y
+        (body_scope before g ks t in_t) (body_scope before g ls u in_u)).1 enters opens;
+  }

@@ -1,0 +1,9 @@
+pub mod Bivariance
+pub mod ClosedTerms
+pub mod Combining
+pub mod ConstantLaws
+pub mod Leaving
+pub mod NumberVars
+pub mod Solving
+pub mod UniverseLaws
+pub mod Variables

@@ -1,6 +1,0 @@
-use Rattle.relation_tools.proofs.Renaming.{renamings_are_one}
-use Rattle.relation_elaboration.proofs.Closing.{runs_close}
-use Rattle.relation_elaboration.proofs.laws.runs.Goals as goal
-
-pub returns : goal.returns
-returns c = record { close = runs_close renamings_are_one }

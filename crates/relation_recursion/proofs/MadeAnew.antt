@@ -1,0 +1,90 @@
+-- Terms made anew, of one's form over other parts.
+use Rattle.std.proofs.Common.{◌≡◌, ℕ, zero, suc, ◌<◌, refl, sym, ap, ap₂, ◌∙◌, subst, subst₂, arith, IsTrue, true, ◌&&◌}
+use Rattle.std.proofs.Common.{List, [], ◌∷◌, ◌++◌, ◌+◌, length, get_or}
+use Rattle.std.proofs.lemmas.Bool.{and_parts, and_from}
+use Rattle.relation_terms.specs.declared.terms.generic_arg.GenericArgKind.{GenericArgKind}
+use Rattle.relation_terms.specs.declared.terms.generic_arg.GenericArgKind.TheVariants.{Lifetime, Ty, Const}
+use Rattle.relation_terms.specs.Heads.{value, value_type}
+use Rattle.relation_terms.specs.Trees.{Tree, leaf, node, bind, nil, cons, known, list_tree, count, nth, IsList, IsTerm}
+use Rattle.relation_terms.specs.Meaning.{Meaning, arg_tree}
+use Rattle.relation_terms.specs.Interning.{Sorted}
+use Rattle.relation_semantics.specs.Making.{arg_sort, FitArgs}
+use Rattle.relation_semantics.proofs.Lists.{firsts, snoc, firsts_more, firsts_all}
+
+module _ {Key : Type 0} where
+  -- One more argument for one more part.
+  pub fit_next : (xs : List (GenericArgKind Key)) (ts : Tree) (x : GenericArgKind Key) (t : Tree) → FitArgs xs ts →
+      IsTerm (arg_sort x) t → FitArgs (xs ++ x ∷ []) (snoc ts t)
+  fit_next [] nil x t f k = (k, tt)
+  fit_next (y ∷ xs) (cons u ts) x t f k = (f.0, fit_next xs ts x t f.1 k)
+  fit_next [] (cons u ts) x t f k = absurd f
+  fit_next [] (leaf l) x t f k = absurd f
+  fit_next [] (node h ts) x t f k = absurd f
+  fit_next [] (bind ks u) x t f k = absurd f
+  fit_next (y ∷ xs) nil x t f k = absurd f
+  fit_next (y ∷ xs) (leaf l) x t f k = absurd f
+  fit_next (y ∷ xs) (node h ts) x t f k = absurd f
+  fit_next (y ∷ xs) (bind ks u) x t f k = absurd f
+
+  pub fit_pushed : (xs : List (GenericArgKind Key)) (x : GenericArgKind Key) (ts : Tree) (i : ℕ) → i < count ts →
+      FitArgs xs (firsts i ts) → IsTerm (arg_sort x) (nth i ts) → FitArgs (xs ++ x ∷ []) (firsts (suc i) ts)
+  fit_pushed xs x ts i l f k = subst (FitArgs (xs ++ x ∷ [])) (sym (firsts_more i ts l)) (fit_next xs (firsts i ts) x (nth i ts) f k)
+
+  pub fit_end : (xs : List (GenericArgKind Key)) (ts : Tree) (i : ℕ) → IsList ts → i ≡ count ts → FitArgs xs (firsts i ts) →
+      FitArgs xs ts
+  fit_end xs ts i l e f = subst (FitArgs xs) (ap (λ j. firsts j ts) e ∙ firsts_all ts l) f
+
+-- A known argument is a term of the sort that its kind says.
+pub arg_is : {Key Id Name : Type 0} (m : Meaning Key Id Name) → Sorted m → (x : GenericArgKind Key) →
+    IsTrue (known (arg_tree m x)) → IsTerm (arg_sort x) (arg_tree m x)
+arg_is m s (Lifetime r) k = s.region r k
+arg_is m s (Ty t) k = s.ty t k
+arg_is m s (Const c) k = s.const_ c k
+
+-- What is of the kind of a part fits its place.
+pub fits_place : {Key Id Name : Type 0} (m : Meaning Key Id Name) → Sorted m → (x z : GenericArgKind Key) (ts : Tree)
+    (i : ℕ) → IsTrue (known (arg_tree m x)) → arg_tree m x ≡ nth i ts → arg_sort z ≡ arg_sort x →
+    IsTerm (arg_sort z) (nth i ts)
+fits_place m s x z ts i k e same = subst₂ (λ a t. IsTerm a t) (sym same) e (arg_is m s x k)
+
+-- The first arguments of a list are the first parts of a form.
+module _ {Key : Type 0} (f : GenericArgKind Key → Tree) where
+  abbrev pub AreFirst : ℕ → List (GenericArgKind Key) → Tree → Type 0
+  AreFirst zero xs ts = Unit {0}
+  AreFirst (suc i) (x ∷ xs) (cons t ts) = (f x ≡ t) × AreFirst i xs ts
+  AreFirst i xs ts = ⊥
+
+  pub first_next : (i : ℕ) (xs : List (GenericArgKind Key)) (ts : Tree) (d : GenericArgKind Key) → i < length xs →
+      FitArgs xs ts → AreFirst i xs ts → f (get_or xs i d) ≡ nth i ts → AreFirst (suc i) xs ts
+  first_next zero (x ∷ xs) (cons t ts) d l k b e = (e, tt)
+  first_next (suc i) (x ∷ xs) (cons t ts) d l k b e = (b.0, first_next i xs ts d (omega arith) k.1 b.1 e)
+  first_next i [] ts d l k b e = absurd (omega arith)
+  first_next i (x ∷ xs) ts d l k b e = absurd k
+
+  pub all_first : (xs : List (GenericArgKind Key)) (ts : Tree) → FitArgs xs ts → AreFirst (length xs) xs ts →
+      list_tree f xs ≡ ts
+  all_first [] nil k b = refl
+  all_first (x ∷ xs) (cons t ts) k b = ap₂ cons b.0 (all_first xs ts k.1 b.1)
+  all_first xs ts k b = absurd k
+
+-- There are as many fitting arguments as parts.
+pub fit_counts : {Key : Type 0} (xs : List (GenericArgKind Key)) (ts : Tree) → FitArgs xs ts → length xs ≡ count ts
+fit_counts [] nil f = refl
+fit_counts (x ∷ xs) (cons t ts) f = ap suc (fit_counts xs ts f.1)
+fit_counts xs ts f = absurd f
+
+-- A value of a type, taken apart and put together with other branches.
+abbrev pub value_of : Tree → Tree → Tree
+value_of t v = node value (cons (node value_type (cons t nil)) (cons v nil))
+
+pub value_type_known : (c t v : Tree) → c ≡ value_of t v → IsTrue (known c) → IsTrue (known t)
+value_type_known c t v e k = (and_parts (known t) true (and_parts (known t && true) (known v && true)
+    (subst (λ z. IsTrue (known z)) e k)).0).0
+
+pub value_tree_known : (c t v : Tree) → c ≡ value_of t v → IsTrue (known c) → IsTrue (known v)
+value_tree_known c t v e k = (and_parts (known v) true (and_parts (known t && true) (known v && true)
+    (subst (λ z. IsTrue (known z)) e k)).1).0
+
+pub value_known : (t v : Tree) → IsTrue (known t) → IsTrue (known v) → IsTrue (known (value_of t v))
+value_known t v k l = and_from (known t && true) (known v && true) (and_from (known t) true k refl)
+    (and_from (known v) true l refl)

@@ -1,0 +1,38 @@
+use Rattle.std.proofs.Common.{refl, sym, ap, subst, inr}
+use Rattle.relation_terms.specs.Heads.{object}
+use Rattle.relation_terms.specs.Trees.{node}
+use Rattle.relation_terms.specs.Parts.{part_tree}
+use Rattle.relation_semantics.specs.Lawful.{Related}
+use Rattle.relation_semantics.proofs.Passing.{retold, refused_again, as_err}
+use Rattle.relation_recursion.proofs.structural.objects.Goals as goal
+
+pub relate_parts-requires-clause-paired : goal.relate_parts-requires-clause-paired
+relate_parts-requires-clause-paired g c = inr refl
+
+pub the_object-requires : goal.the_object-requires
+the_object-requires g c = (c.in_ok-relate_parts.ensures).sort
+
+pub returns-in_err-relate_parts : goal.returns-in_err-relate_parts
+returns-in_err-relate_parts g c =
+    let r = g.R.HasState.state c.args.r.now in
+    let M = g.R.TypeRelation.manner in
+    let a = node object ((r.meaning).existential_predicates c.args.a.now) in
+    let b = node object ((r.meaning).existential_predicates c.args.b.now) in
+    let q = g.R.HasState.state c.relate_parts.new.r in
+    let n = c.in_err-relate_parts in
+    let res = c.from_residual.result in
+    let failed = as_err res n.field-0.0 c.from_residual.ensures.0 c.from_residual.ensures.1 in
+    subst (λ z. Related M r q r.ambient a b (λ k. node object ((q.meaning).existential_predicates k)) z) (sym failed)
+    (refused_again M r.ambient a b (part_tree q.meaning) (λ k. node object ((q.meaning).existential_predicates k))
+    n.field-0.0 (n.ensures).related)
+
+pub returns : goal.returns
+returns g c =
+    let r = g.R.HasState.state c.args.r.now in
+    let M = g.R.TypeRelation.manner in
+    let a = node object ((r.meaning).existential_predicates c.args.a.now) in
+    let b = node object ((r.meaning).existential_predicates c.args.b.now) in
+    let q = g.R.HasState.state c.relate_parts.new.r in
+    let n = c.in_ok-relate_parts in
+    retold M r.ambient a b (part_tree q.meaning) n.field-0 (λ k. node object ((q.meaning).existential_predicates k)) c.the_object.result
+    (ap (part_tree q.meaning) c.the_object.ensures) (n.ensures).related

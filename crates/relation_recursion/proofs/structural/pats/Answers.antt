@@ -1,0 +1,35 @@
+use Rattle.std.proofs.Common.{refl, sym, ap, subst, inr}
+use Rattle.relation_terms.specs.Parts.{part_tree}
+use Rattle.relation_semantics.specs.Lawful.{Related}
+use Rattle.relation_semantics.proofs.Passing.{retold, refused_again, as_err}
+use Rattle.relation_recursion.proofs.structural.pats.Goals as goal
+
+pub relate_parts-requires-clause-paired : goal.relate_parts-requires-clause-paired
+relate_parts-requires-clause-paired g c = inr refl
+
+pub the_pat-requires : goal.the_pat-requires
+the_pat-requires g c = (c.in_ok-relate_parts.ensures).sort
+
+pub returns-in_err-relate_parts : goal.returns-in_err-relate_parts
+returns-in_err-relate_parts g c =
+    let r = g.R.HasState.state c.args.r.now in
+    let M = g.R.TypeRelation.manner in
+    let a = (r.meaning).pat c.args.a.now in
+    let b = (r.meaning).pat c.args.b.now in
+    let q = g.R.HasState.state c.relate_parts.new.r in
+    let n = c.in_err-relate_parts in
+    let res = c.from_residual.result in
+    let failed = as_err res n.field-0.0 c.from_residual.ensures.0 c.from_residual.ensures.1 in
+    subst (λ z. Related M r q r.ambient a b (q.meaning).pat z) (sym failed)
+    (refused_again M r.ambient a b (part_tree q.meaning) (q.meaning).pat n.field-0.0 (n.ensures).related)
+
+pub returns : goal.returns
+returns g c =
+    let r = g.R.HasState.state c.args.r.now in
+    let M = g.R.TypeRelation.manner in
+    let a = (r.meaning).pat c.args.a.now in
+    let b = (r.meaning).pat c.args.b.now in
+    let q = g.R.HasState.state c.relate_parts.new.r in
+    let n = c.in_ok-relate_parts in
+    retold M r.ambient a b (part_tree q.meaning) n.field-0 (q.meaning).pat c.the_pat.result
+    (ap (part_tree q.meaning) c.the_pat.ensures) (n.ensures).related

@@ -1,0 +1,37 @@
+use Rattle.std.proofs.Common.{refl, sym, ap, subst, inr}
+use Rattle.relation_terms.specs.Meaning.{signature_tree}
+use Rattle.relation_terms.specs.Parts.{part_tree}
+use Rattle.relation_semantics.specs.Lawful.{Related}
+use Rattle.relation_semantics.proofs.Passing.{retold, refused_again, as_err}
+use Rattle.relation_recursion.proofs.structural.signatures.Goals as goal
+
+pub relate_parts-requires-clause-paired : goal.relate_parts-requires-clause-paired
+relate_parts-requires-clause-paired g c = inr refl
+
+pub the_signature-requires : goal.the_signature-requires
+the_signature-requires g c = (c.in_ok-relate_parts.ensures).sort
+
+pub returns-in_err-relate_parts : goal.returns-in_err-relate_parts
+returns-in_err-relate_parts g c =
+    let r = g.R.HasState.state c.args.r.now in
+    let M = g.R.TypeRelation.manner in
+    let a = signature_tree r.meaning c.args.a.now in
+    let b = signature_tree r.meaning c.args.b.now in
+    let q = g.R.HasState.state c.relate_parts.new.r in
+    let tree = signature_tree q.meaning in
+    let n = c.in_err-relate_parts in
+    let res = c.from_residual.result in
+    let failed = as_err res n.field-0.0 c.from_residual.ensures.0 c.from_residual.ensures.1 in
+    subst (λ z. Related M r q r.ambient a b tree z) (sym failed)
+    (refused_again M r.ambient a b (part_tree q.meaning) tree n.field-0.0 (n.ensures).related)
+
+pub returns : goal.returns
+returns g c =
+    let r = g.R.HasState.state c.args.r.now in
+    let M = g.R.TypeRelation.manner in
+    let a = signature_tree r.meaning c.args.a.now in
+    let b = signature_tree r.meaning c.args.b.now in
+    let q = g.R.HasState.state c.relate_parts.new.r in
+    let n = c.in_ok-relate_parts in
+    retold M r.ambient a b (part_tree q.meaning) n.field-0 (signature_tree q.meaning) c.the_signature.result
+    (ap (part_tree q.meaning) c.the_signature.ensures) (n.ensures).related

@@ -1,0 +1,13 @@
+//! The recursion over every relation: what can be related, and how terms are by their forms and parts, as a relation's
+//! steps lead.
+#![tactic(auto)]
+
+pub mod args;
+pub mod comparing;
+mod forms;
+mod making;
+mod opening;
+mod parts;
+mod reading;
+pub mod relatable;
+pub mod structural;

@@ -1,0 +1,189 @@
+//! Terms made anew, of one's form over other parts.
+ghost use Rattle.std.specs.Prelude.{◌≡◌, IsTrue, IfOk, map};
+ghost use Rattle.relation_terms.specs.Trees.{known, list_tree};
+ghost use Rattle.relation_terms.specs.Meaning.{arg_tree};
+ghost use Rattle.relation_terms.specs.Parts.{part_tree, part_of_arg, part_sort, Fit};
+ghost use Rattle.relation_semantics.specs.Parts.{own_parts, const_parts_of, IsByParts};
+ghost use Rattle.relation_semantics.specs.Lawful.{WithMeaning, OnlyMemory};
+ghost use Rattle.relation_semantics.specs.Making.{FitArgs};
+ghost use Rattle.relation_steps.specs.Keyed.{MakesTyOver, MakesConstOver, MakesPartOver};
+
+use crate::parts::parts_in;
+use relation_folds::error::RelateResult;
+use relation_steps::type_relation::TypeRelation;
+use relation_terms::terms::parts::{member, of_arg, the_const, the_ty, the_valtree, with_parts};
+use relation_terms::terms::{
+    Const, ConstKind, GenericArg, GenericArgKind, Interner, OutOfMemory, Part, PartOf, Ty,
+};
+use std::alloc::Global;
+
+// Generic arguments as parts.
+fn as_parts<X: Copy, D: Copy>(
+    args: &[GenericArgKind<X>],
+    alloc: Global,
+) -> Result<Vec<Part<X, D>>, OutOfMemory>
+    ensures { IfOk result (λ list. list.items ≡ map part_of_arg args.now) }
+{
+    let mut list = Vec::new(alloc);
+    for i in 0..args.len() {
+        list.push(of_arg(&args[i]))?;
+    }
+    Ok(list)
+}
+
+// Whether an argument is a part, by their keys.
+fn is_part<I: Interner>(_cx: &I, arg: &GenericArg<I>, part: &PartOf<I>) -> bool
+    requires arg_known { IsTrue (known (arg_tree (I.meaning _cx.now) arg.now)) }
+    requires part_known { IsTrue (known (part_tree (I.meaning _cx.now) part.now)) }
+    ensures { IsTrue result → arg_tree (I.meaning _cx.now) arg.now ≡ part_tree (I.meaning _cx.now) part.now }
+{
+    match arg {
+        GenericArgKind::Lifetime(region) => match part {
+            Part::Region(other) => region == other,
+            _ => false,
+        },
+        GenericArgKind::Ty(ty) => match part {
+            Part::Ty(other) => ty == other,
+            _ => false,
+        },
+        GenericArgKind::Const(constant) => match part {
+            Part::Const(other) => constant == other,
+            _ => false,
+        },
+    }
+}
+
+// Whether arguments, as many as a type has parts, are those parts.
+fn are_its_parts<I: Interner>(cx: &I, ty: &Ty<I>, args: &[GenericArg<I>]) -> bool
+    requires ty_known { IsTrue (known ((I.meaning cx.now).ty ty.now)) }
+    requires args_known { IsTrue (known (list_tree (arg_tree (I.meaning cx.now)) args.now)) }
+    requires fits { FitArgs args.now (own_parts ((I.meaning cx.now).ty ty.now)) }
+    ensures { let m = I.meaning cx.now in
+        IsTrue result → list_tree (arg_tree m) args.now ≡ own_parts (m.ty ty.now) }
+{
+    let parts = parts_in(cx, ty, &cx.ty_kind(ty));
+    for i in 0..args.len() {
+        if !is_part(cx, &args[i], &member(cx, &parts, i)) {
+            return false;
+        }
+    }
+    true
+}
+
+// The type of that one's form over these parts, which are of the kinds of its own. Over its own parts it is itself.
+fn ty_with_parts<I: Interner>(
+    cx: &mut I,
+    ty: &Ty<I>,
+    args: &[GenericArg<I>],
+) -> Result<Ty<I>, OutOfMemory>
+    requires ty_known { IsTrue (known ((I.meaning cx.old).ty ty.now)) }
+    requires args_known { IsTrue (known (list_tree (arg_tree (I.meaning cx.old)) args.now)) }
+    requires fits { FitArgs args.now (own_parts ((I.meaning cx.old).ty ty.now)) }
+    ensures { MakesTyOver (I.meaning cx.old) (I.meaning cx.new) ty.now args.now result }
+{
+    if are_its_parts(cx, ty, args) {
+        return Ok(*ty);
+    }
+    let parts = as_parts(args, cx.alloc())?;
+    let made = with_parts(cx, &Part::Ty(*ty), parts.as_slice())?;
+    Ok(the_ty(&made))
+}
+
+// The constant of that one's form over these parts, which are of the kinds of its own.
+fn const_with_parts<I: Interner>(
+    cx: &mut I,
+    constant: &Const<I>,
+    args: &[GenericArg<I>],
+) -> Result<Const<I>, OutOfMemory>
+    requires constant_known { IsTrue (known ((I.meaning cx.old).const_ constant.now)) }
+    requires args_known { IsTrue (known (list_tree (arg_tree (I.meaning cx.old)) args.now)) }
+    requires fits { FitArgs args.now (const_parts_of ((I.meaning cx.old).const_ constant.now)) }
+    ensures { MakesConstOver (I.meaning cx.old) (I.meaning cx.new) constant.now args.now result }
+{
+    let parts = as_parts(args, cx.alloc())?;
+    match cx.const_kind(constant) {
+        ConstKind::Value(ty, value) => {
+            let value = with_parts(cx, &Part::ValTree(value), parts.as_slice())?;
+            cx.mk_const(ConstKind::Value(ty, the_valtree(&value)))
+        }
+        _ => {
+            let made = with_parts(cx, &Part::Const(*constant), parts.as_slice())?;
+            Ok(the_const(&made))
+        }
+    }
+}
+
+// The term of that one's form over these parts, that one being related by its parts.
+fn term_with_parts<I: Interner>(
+    cx: &mut I,
+    term: &PartOf<I>,
+    parts: &[PartOf<I>],
+) -> Result<PartOf<I>, OutOfMemory>
+    requires term_known { IsTrue (known (part_tree (I.meaning cx.old) term.now)) }
+    requires form { IsByParts (part_tree (I.meaning cx.old) term.now) }
+    requires parts_known { IsTrue (known (list_tree (part_tree (I.meaning cx.old)) parts.now)) }
+    requires fits { Fit parts.now (own_parts (part_tree (I.meaning cx.old) term.now)) }
+    ensures made { MakesPartOver (I.meaning cx.old) (I.meaning cx.new) term.now parts.now result }
+    ensures sort { IfOk result (λ p. part_sort p ≡ part_sort term.now) }
+{
+    with_parts(cx, term, parts)
+}
+
+// The same through a relation: nothing of it changes but what its interner knows.
+pub(crate) fn make_ty<I: Interner, R: TypeRelation<I>>(
+    r: &mut R,
+    ty: &Ty<I>,
+    parts: &[GenericArg<I>],
+) -> RelateResult<I, Ty<I>>
+    requires lawful { (R.state r.old).lawful }
+    requires ty_known { IsTrue (known ((R.state r.old).meaning.ty ty.now)) }
+    requires parts_known { IsTrue (known (list_tree (arg_tree (R.state r.old).meaning) parts.now)) }
+    requires fits { FitArgs parts.now (own_parts ((R.state r.old).meaning.ty ty.now)) }
+    ensures grown { WithMeaning (R.state r.old) (R.state r.new).meaning (R.state r.new) }
+    ensures fault { OnlyMemory result }
+    ensures made { MakesTyOver (R.state r.old).meaning (R.state r.new).meaning ty.now parts.now result }
+{
+    r.interner_grows();
+    let made = ty_with_parts(r.cx_mut(), ty, parts)?;
+    Ok(made)
+}
+
+// The same of constants.
+pub(crate) fn make_const<I: Interner, R: TypeRelation<I>>(
+    r: &mut R,
+    constant: &Const<I>,
+    parts: &[GenericArg<I>],
+) -> RelateResult<I, Const<I>>
+    requires lawful { (R.state r.old).lawful }
+    requires constant_known { IsTrue (known ((R.state r.old).meaning.const_ constant.now)) }
+    requires parts_known { IsTrue (known (list_tree (arg_tree (R.state r.old).meaning) parts.now)) }
+    requires fits { FitArgs parts.now (const_parts_of ((R.state r.old).meaning.const_ constant.now)) }
+    ensures grown { WithMeaning (R.state r.old) (R.state r.new).meaning (R.state r.new) }
+    ensures fault { OnlyMemory result }
+    ensures made { MakesConstOver (R.state r.old).meaning (R.state r.new).meaning constant.now parts.now result }
+{
+    r.interner_grows();
+    let made = const_with_parts(r.cx_mut(), constant, parts)?;
+    Ok(made)
+}
+
+// The same of terms that are related by their parts.
+pub(crate) fn make_part<I: Interner, R: TypeRelation<I>>(
+    r: &mut R,
+    term: &PartOf<I>,
+    parts: &[PartOf<I>],
+) -> RelateResult<I, PartOf<I>>
+    requires lawful { (R.state r.old).lawful }
+    requires term_known { IsTrue (known (part_tree (R.state r.old).meaning term.now)) }
+    requires form { IsByParts (part_tree (R.state r.old).meaning term.now) }
+    requires parts_known { IsTrue (known (list_tree (part_tree (R.state r.old).meaning) parts.now)) }
+    requires fits { Fit parts.now (own_parts (part_tree (R.state r.old).meaning term.now)) }
+    ensures grown { WithMeaning (R.state r.old) (R.state r.new).meaning (R.state r.new) }
+    ensures fault { OnlyMemory result }
+    ensures made { MakesPartOver (R.state r.old).meaning (R.state r.new).meaning term.now parts.now result }
+    ensures sort { IfOk result (λ p. part_sort p ≡ part_sort term.now) }
+{
+    r.interner_grows();
+    let made = term_with_parts(r.cx_mut(), term, parts)?;
+    Ok(made)
+}

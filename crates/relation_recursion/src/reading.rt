@@ -1,0 +1,270 @@
+//! Reading terms through a relation's interner.
+ghost use Rattle.std.specs.Prelude.{◌≡◌, ◌≢◌, ◌↔◌, ◌<◌, None, IsTrue, OnOk, IfErr};
+ghost use Rattle.relation_terms.specs.Trees.{known, count, nth, IsList};
+ghost use Rattle.term_enums.specs.declared.Variance.TheVariants.{Bivariant};
+ghost use Rattle.relation_terms.specs.Meaning.{arg_tree};
+ghost use Rattle.relation_terms.specs.Parts.{part_tree, part_sort};
+ghost use Rattle.relation_semantics.specs.Relation.{IsError};
+ghost use Rattle.relation_semantics.specs.Errors.{FormError, ConstFormError, AreOfOneForm, AreOfOneConst};
+ghost use Rattle.relation_semantics.specs.Errors.{HaveNoError};
+ghost use Rattle.relation_semantics.specs.Parts.{IsFormedConst, IsByParts, IsComparedPart, own_parts, const_parts_of};
+ghost use Rattle.relation_steps.specs.Keyed.{ShownTys, NotedTys, AreOver};
+ghost use Rattle.relation_steps.specs.Terms.{AskedTerms};
+ghost use Rattle.relation_recursion.specs.Comparing.{AreOfOneFormBy, PartsDiffer, nth_part, nth_const_part};
+ghost use Rattle.part_variances.specs.Handing.{IsResultOfTy, IsResultOfConst, named_place};
+
+use crate::comparing::{compare_consts, compare_members, compare_parts, compare_tys};
+use crate::forms::{is_error, is_error_const};
+use crate::parts::{
+    const_part, const_parts_count, is_by_parts, part, parts_count, term_part, term_parts_count,
+};
+use part_variances::handing;
+use relation_folds::error::{RelateResult, TypeErrorOf};
+use relation_steps::type_relation::TypeRelation;
+use relation_terms::terms::{
+    Const, DefId, GenericArg, GenericArgs, Interner, ItemOf, PartOf, Ty, TyKind,
+};
+
+// Whether a type, or a constant, stands for an error.
+pub(crate) fn is_error_of<I: Interner, R: TypeRelation<I>>(r: &R, ty: &Ty<I>) -> bool
+    requires { IsTrue (known ((R.state r.now).meaning.ty ty.now)) }
+    ensures { IsTrue result ↔ IsError ((R.state r.now).meaning.ty ty.now) }
+{
+    is_error(r.cx(), ty)
+}
+
+pub(crate) fn is_error_const_of<I: Interner, R: TypeRelation<I>>(r: &R, constant: &Const<I>) -> bool
+    requires { IsTrue (known ((R.state r.now).meaning.const_ constant.now)) }
+    ensures { IsTrue result ↔ IsError ((R.state r.now).meaning.const_ constant.now) }
+{
+    is_error_const(r.cx(), constant)
+}
+
+pub(crate) fn compare_tys_of<I: Interner, R: TypeRelation<I>>(
+    r: &R,
+    a: &Ty<I>,
+    b: &Ty<I>,
+) -> Result<(), TypeErrorOf<I>>
+    requires a_known { IsTrue (known ((R.state r.now).meaning.ty a.now)) }
+    requires b_known { IsTrue (known ((R.state r.now).meaning.ty b.now)) }
+    requires no_error { HaveNoError ((R.state r.now).meaning.ty a.now) ((R.state r.now).meaning.ty b.now) }
+    ensures alike { OnOk result (AreOfOneForm ((R.state r.now).meaning.ty a.now) ((R.state r.now).meaning.ty b.now)) }
+    ensures errors { IfErr result (FormError (R.state r.now).meaning a.now b.now) }
+{
+    compare_tys(r.cx(), a, b)
+}
+
+pub(crate) fn compare_consts_of<I: Interner, R: TypeRelation<I>>(
+    r: &R,
+    a: &Const<I>,
+    b: &Const<I>,
+) -> Result<(), TypeErrorOf<I>>
+    requires a_known { IsTrue (known ((R.state r.now).meaning.const_ a.now)) }
+    requires b_known { IsTrue (known ((R.state r.now).meaning.const_ b.now)) }
+    requires a_formed { IsFormedConst ((R.state r.now).meaning.const_ a.now) }
+    requires b_formed { IsFormedConst ((R.state r.now).meaning.const_ b.now) }
+    requires no_error { HaveNoError ((R.state r.now).meaning.const_ a.now) ((R.state r.now).meaning.const_ b.now) }
+    ensures alike { let m = (R.state r.now).meaning in OnOk result (AreOfOneConst (m.const_ a.now) (m.const_ b.now)) }
+    ensures errors { IfErr result (ConstFormError (R.state r.now).meaning a.now b.now) }
+{
+    compare_consts(r.cx(), a, b)
+}
+
+pub(crate) fn compare_parts_of<I: Interner, R: TypeRelation<I>>(
+    r: &R,
+    a: &PartOf<I>,
+    b: &PartOf<I>,
+) -> Result<(), TypeErrorOf<I>>
+    requires a_known { IsTrue (known (part_tree (R.state r.now).meaning a.now)) }
+    requires b_known { IsTrue (known (part_tree (R.state r.now).meaning b.now)) }
+    requires kind { IsComparedPart a.now }
+    requires one_sort { part_sort b.now ≡ part_sort a.now }
+    ensures alike { OnOk result (AreOfOneFormBy part_tree (R.state r.now).meaning a.now b.now) }
+    ensures errors { IfErr result (PartsDiffer (R.state r.now).meaning a.now b.now) }
+{
+    compare_parts(r.cx(), a, b)
+}
+
+pub(crate) fn compare_members_of<I: Interner, R: TypeRelation<I>>(
+    r: &R,
+    a: &PartOf<I>,
+    b: &PartOf<I>,
+    i: usize,
+) -> Result<(), TypeErrorOf<I>>
+    requires a_known { IsTrue (known (part_tree (R.state r.now).meaning a.now)) }
+    requires b_known { IsTrue (known (part_tree (R.state r.now).meaning b.now)) }
+    requires in_a { i < count (own_parts (part_tree (R.state r.now).meaning a.now)) }
+    requires in_b { i < count (own_parts (part_tree (R.state r.now).meaning b.now)) }
+    requires one_sort { part_sort b.now ≡ part_sort a.now }
+    ensures { IfErr result (PartsDiffer (R.state r.now).meaning a.now b.now) }
+{
+    compare_members(r.cx(), a, b, i)
+}
+
+pub(crate) fn is_by_parts_of<I: Interner, R: TypeRelation<I>>(r: &R, ty: &Ty<I>) -> bool
+    requires { IsTrue (known ((R.state r.now).meaning.ty ty.now)) }
+    ensures { IsTrue result ↔ IsByParts ((R.state r.now).meaning.ty ty.now) }
+{
+    is_by_parts(r.cx(), ty)
+}
+
+#[inline(always)]
+pub(crate) fn parts_count_of<I: Interner, R: TypeRelation<I>>(r: &R, ty: &Ty<I>) -> usize
+    requires { IsTrue (known ((R.state r.now).meaning.ty ty.now)) }
+    ensures counts { result ≡ count (own_parts ((R.state r.now).meaning.ty ty.now)) }
+    ensures is_list { IsList (own_parts ((R.state r.now).meaning.ty ty.now)) }
+{
+    parts_count(r.cx(), ty)
+}
+
+pub(crate) fn part_of<I: Interner, R: TypeRelation<I>>(r: &R, ty: &Ty<I>, i: usize) -> GenericArg<I>
+    requires ty_known { IsTrue (known ((R.state r.now).meaning.ty ty.now)) }
+    requires over_args { IsByParts ((R.state r.now).meaning.ty ty.now) → ⊥ }
+    requires in_bounds { i < count (own_parts ((R.state r.now).meaning.ty ty.now)) }
+    ensures sure { IsTrue (known (arg_tree (R.state r.now).meaning result)) }
+    ensures means { arg_tree (R.state r.now).meaning result ≡ nth i (own_parts ((R.state r.now).meaning.ty ty.now)) }
+{
+    part(r.cx(), ty, i)
+}
+
+pub(crate) fn const_parts_count_of<I: Interner, R: TypeRelation<I>>(
+    r: &R,
+    constant: &Const<I>,
+) -> usize
+    requires { IsTrue (known ((R.state r.now).meaning.const_ constant.now)) }
+    ensures counts { result ≡ count (const_parts_of ((R.state r.now).meaning.const_ constant.now)) }
+    ensures is_list { IsList (const_parts_of ((R.state r.now).meaning.const_ constant.now)) }
+{
+    const_parts_count(r.cx(), constant)
+}
+
+pub(crate) fn const_part_of<I: Interner, R: TypeRelation<I>>(
+    r: &R,
+    constant: &Const<I>,
+    i: usize,
+) -> GenericArg<I>
+    requires constant_known { IsTrue (known ((R.state r.now).meaning.const_ constant.now)) }
+    requires in_bounds { i < count (const_parts_of ((R.state r.now).meaning.const_ constant.now)) }
+    ensures sure { IsTrue (known (arg_tree (R.state r.now).meaning result)) }
+    ensures means { let m = (R.state r.now).meaning in arg_tree m result ≡ nth_const_part m i constant.now }
+{
+    const_part(r.cx(), constant, i)
+}
+
+pub(crate) fn term_parts_count_of<I: Interner, R: TypeRelation<I>>(r: &R, term: &PartOf<I>) -> usize
+    requires known { IsTrue (known (part_tree (R.state r.now).meaning term.now)) }
+    requires form { IsByParts (part_tree (R.state r.now).meaning term.now) }
+    ensures { result ≡ count (own_parts (part_tree (R.state r.now).meaning term.now)) }
+{
+    term_parts_count(r.cx(), term)
+}
+
+pub(crate) fn term_part_of<I: Interner, R: TypeRelation<I>>(
+    r: &R,
+    term: &PartOf<I>,
+    i: usize,
+) -> PartOf<I>
+    requires term_known { IsTrue (known (part_tree (R.state r.now).meaning term.now)) }
+    requires form { IsByParts (part_tree (R.state r.now).meaning term.now) }
+    requires in_bounds { i < count (own_parts (part_tree (R.state r.now).meaning term.now)) }
+    ensures sure { IsTrue (known (part_tree (R.state r.now).meaning result)) }
+    ensures means { let m = (R.state r.now).meaning in part_tree m result ≡ nth_part m i term.now }
+{
+    term_part(r.cx(), term, i)
+}
+
+// What two types answer where two of their parts have answered that.
+pub(crate) fn in_ty_of<I: Interner, R: TypeRelation<I>>(
+    r: &R,
+    ty: &Ty<I>,
+    x: &GenericArg<I>,
+    y: &GenericArg<I>,
+    related: RelateResult<I, GenericArg<I>>,
+) -> RelateResult<I, GenericArg<I>>
+    requires { IsTrue (known ((R.state r.now).meaning.ty ty.now)) }
+    ensures { IsResultOfTy ((R.state r.now).meaning.ty ty.now) x.now y.now related result }
+{
+    handing::in_ty(r.cx(), ty, x, y, related)
+}
+
+// What two constants answer where two of their parts have answered that.
+pub(crate) fn in_const_of<I: Interner, R: TypeRelation<I>>(
+    r: &R,
+    a: &Const<I>,
+    b: &Const<I>,
+    related: RelateResult<I, GenericArg<I>>,
+) -> RelateResult<I, GenericArg<I>>
+    requires { IsTrue (known ((R.state r.now).meaning.const_ a.now)) }
+    ensures { IsResultOfConst ((R.state r.now).meaning.const_ a.now) a.now b.now related result }
+{
+    handing::in_const(r.cx(), a, b, related)
+}
+
+// The place that an error of the parts of two terms at place `i` names.
+pub(crate) fn named_place_of<I: Interner, R: TypeRelation<I>>(
+    r: &R,
+    term: &PartOf<I>,
+    i: usize,
+) -> Option<usize>
+    requires term_known { IsTrue (known (part_tree (R.state r.now).meaning term.now)) }
+    requires in_bounds { i < count (own_parts (part_tree (R.state r.now).meaning term.now)) }
+    ensures { result ≡ named_place (part_tree (R.state r.now).meaning term.now) i }
+{
+    handing::named_place(r.cx(), term, i)
+}
+
+// Has the relation take note of arguments that were related at declared variances. It stands apart, so that the
+// recursion takes less of the stack.
+#[inline(never)]
+pub(crate) fn note_declared<I: Interner, R: TypeRelation<I>>(
+    r: &mut R,
+    a: &Ty<I>,
+    b: &Ty<I>,
+    def_id: &ItemOf<I>,
+    a_args: &GenericArgs<I>,
+    b_args: &GenericArgs<I>,
+) -> RelateResult<I, ()>
+    requires lawful { (R.state r.old).lawful }
+    requires decides { (R.state r.old).ambient ≢ Bivariant }
+    requires asked { AskedTerms R.manner None (λ m. m.ty) (R.state r.old) a.now b.now }
+    requires over { AreOver (R.state r.old) def_id.now a.now b.now a_args.now b_args.now }
+    requires related { ShownTys R.manner (R.state r.old) a.now b.now }
+    ensures { NotedTys (R.state r.old) (R.state r.new) a.now b.now result }
+{
+    if r.item_variances(def_id).is_none() {
+        return Ok(());
+    }
+    r.ty_args_done(a, b, def_id, a_args, b_args)
+}
+
+// The same of two types, if they are over an item whose arguments have declared variances.
+#[inline(always)]
+pub(crate) fn note_args<I: Interner, R: TypeRelation<I>>(
+    r: &mut R,
+    a: &Ty<I>,
+    b: &Ty<I>,
+) -> RelateResult<I, ()>
+    requires lawful { (R.state r.old).lawful }
+    requires decides { (R.state r.old).ambient ≢ Bivariant }
+    requires asked { AskedTerms R.manner None (λ m. m.ty) (R.state r.old) a.now b.now }
+    requires one_form { AreOfOneForm ((R.state r.old).meaning.ty a.now) ((R.state r.old).meaning.ty b.now) }
+    requires related { ShownTys R.manner (R.state r.old) a.now b.now }
+    ensures { NotedTys (R.state r.old) (R.state r.new) a.now b.now result }
+{
+    let left = r.cx().ty_kind(a);
+    match &left {
+        TyKind::Adt(def, a_args) => {
+            let TyKind::Adt(_, b_args) = &r.cx().ty_kind(b) else {
+                return Ok(());
+            };
+            note_declared(r, a, b, &DefId(def.0), a_args, b_args)
+        }
+        TyKind::FnDef(def, a_args) => {
+            let TyKind::FnDef(_, b_args) = &r.cx().ty_kind(b) else {
+                return Ok(());
+            };
+            note_declared(r, a, b, &DefId(def.0), a_args, b_args)
+        }
+        _ => Ok(()),
+    }
+}

@@ -1,0 +1,7 @@
+use Rattle.relation_reference.proofs.Owning.{is_own}
+use Rattle.relation_reference.proofs.context.own_variables.RefCtxtHasVariables.has_ty_var.Goals as goal
+
+pub returns : goal.returns
+returns g c =
+    let m = g.I.Interner.meaning c.args.self.now.interner in
+    is_own m.ty c.args.self.now.inner.types.items c.args.vid.0 c.len.result c.len.ensures

@@ -1,0 +1,198 @@
+//! How rows are asked, and the program's runs.
+ghost use Rattle.std.specs.Prelude.{◌≡◌, ◌<◌, ◌≤◌, IfSome, length, slice_get, string_bytes};
+ghost use Rattle.relation_rows.specs.Named.{IsRow};
+
+use crate::calls::call;
+use crate::row_names::is_row;
+use crate::rows::{EARLY_ROWS, LATE_ROWS, Row};
+use std::alloc::Global;
+use std::io;
+use text_asking::ask_all;
+use text_reading::naming::{NameError, look_up};
+use text_reading::reading::{ReadError, read};
+use text_reading::telling::{Lines, tell_unnamed, tell_unread};
+
+/// Why a row's questions have no answers.
+#[derive(Clone, Copy, PartialEq, Eq, Debug)]
+pub enum RowFault {
+    /// A growth was refused.
+    Memory,
+    /// The text can't be read.
+    Unread(ReadError),
+    /// Names of the text can't be looked up.
+    Unnamed(NameError),
+}
+
+/// The answers to questions, with ` | ` between two.
+///
+/// # Errors
+/// `Memory` where the text of the answers can't grow. `Unread` and `Unnamed` where the questions are no text of the
+/// language, or say that a growth was refused.
+pub fn asked(alloc: Global, questions: &str) -> Result<String, RowFault> {
+    let tree = read(alloc, questions.as_bytes()).map_err(RowFault::Unread)?;
+    let program = look_up(alloc, questions, &tree).map_err(RowFault::Unnamed)?;
+    let mut text = String::new(alloc);
+    match ask_all(alloc, &program, " | ", &mut text) {
+        Ok(()) => Ok(text),
+        Err(_) => Err(RowFault::Memory),
+    }
+}
+
+/// The answers to a row's questions, or of its calls.
+///
+/// # Errors
+/// As `asked` has them, and `Memory` where a call was refused a growth.
+pub fn answers(alloc: Global, row: &Row) -> Result<String, RowFault> {
+    if row.questions.is_empty() {
+        return call(alloc, row.name);
+    }
+    asked(alloc, row.questions)
+}
+
+// Says why a row has no answers: that a growth was refused among the answers, and what is wrong with its text to `err`.
+fn print_fault<O: io::Write, E: io::Write>(
+    row: &Row,
+    fault: &RowFault,
+    out: &mut O,
+    err: &mut E,
+) -> io::Result<()> {
+    let name = row.name;
+    let mut err = Lines { out: err };
+    match fault {
+        RowFault::Memory
+        | RowFault::Unread(ReadError::Memory)
+        | RowFault::Unnamed(NameError::Memory) => writeln!(out, "{name}: memory")?,
+        RowFault::Unread(error) => {
+            let _ = tell_unread(name, row.questions.as_bytes(), error, &mut err);
+        }
+        RowFault::Unnamed(error) => {
+            let _ = tell_unnamed(name, row.questions, error, &mut err);
+        }
+    }
+    Ok(())
+}
+
+/// Prints a row, and says whether its answers are the stored ones. Where its text is wrong, nothing is printed, and
+/// `err` is told so, with the row's name and the place.
+///
+/// # Errors
+/// What `out` answers where it can't be written.
+pub fn print<O: io::Write, E: io::Write>(
+    alloc: Global,
+    row: &Row,
+    out: &mut O,
+    err: &mut E,
+) -> io::Result<bool> {
+    match answers(alloc, row) {
+        Ok(text) => {
+            let name = row.name;
+            writeln!(out, "{name}: {text}")?;
+            Ok(text.as_str() == row.stored)
+        }
+        Err(fault) => {
+            print_fault(row, &fault, out, err)?;
+            Ok(false)
+        }
+    }
+}
+
+// Prints the rows of a name, or all of these, and says whether all answers are the stored ones.
+fn print_those<O: io::Write, E: io::Write>(
+    alloc: Global,
+    rows: &[Row],
+    name: Option<&str>,
+    out: &mut O,
+    err: &mut E,
+) -> io::Result<bool> {
+    let mut stored = true;
+    for row in rows {
+        let asked = match name {
+            None => true,
+            Some(name) => row.name == name,
+        };
+        if asked && !print(alloc, row, out, err)? {
+            stored = false;
+        }
+    }
+    Ok(stored)
+}
+
+// Of the early rows.
+fn print_early<O: io::Write, E: io::Write>(
+    alloc: Global,
+    name: Option<&str>,
+    out: &mut O,
+    err: &mut E,
+) -> io::Result<bool> {
+    print_those(alloc, &EARLY_ROWS, name, out, err)
+}
+
+// Of the late rows.
+fn print_late<O: io::Write, E: io::Write>(
+    alloc: Global,
+    name: Option<&str>,
+    out: &mut O,
+    err: &mut E,
+) -> io::Result<bool> {
+    print_those(alloc, &LATE_ROWS, name, out, err)
+}
+
+// Of all rows.
+fn print_all<O: io::Write, E: io::Write>(
+    alloc: Global,
+    name: Option<&str>,
+    out: &mut O,
+    err: &mut E,
+) -> io::Result<bool> {
+    let early = print_early(alloc, name, out, err)?;
+    let late = print_late(alloc, name, out, err)?;
+    Ok(early && late)
+}
+
+// Prints the row of a name, or all. The status is 1 if an answer is not the stored one, a row's text is wrong, or a
+// write failed: then `err` is told why, and no more is written.
+fn print_rows<O: io::Write, E: io::Write>(
+    alloc: Global,
+    name: Option<&str>,
+    out: &mut O,
+    err: &mut E,
+) -> u8
+    ensures { result ≤ 1 }
+{
+    match print_all(alloc, name, out, err) {
+        Ok(true) => 0,
+        Ok(false) => 1,
+        Err(error) => {
+            let _ = writeln!(err, "standard output: {error}");
+            1
+        }
+    }
+}
+
+/// Runs one row or all, and answers the status: 2 where the words name no row, 1 where an answer is not the stored
+/// one, a row's text is wrong, or a write failed.
+pub fn run<O: io::Write, E: io::Write>(
+    alloc: Global,
+    words: &[String],
+    out: &mut O,
+    err: &mut E,
+) -> u8
+    ensures usage { 1 < length words.now → result ≡ 2 }
+    ensures all { length words.now ≡ 0 → result ≤ 1 }
+    ensures row { length words.now ≤ 1 →
+        IfSome (slice_get words.now 0) (λ w. IsRow (string_bytes w) → result ≤ 1) }
+    ensures no_row { IfSome (slice_get words.now 0) (λ w. (IsRow (string_bytes w) → ⊥) → result ≡ 2) }
+{
+    if words.len() > 1 {
+        let _ = writeln!(err, "usage: relations [name]");
+        return 2;
+    }
+    let Some(name) = words.first() else {
+        return print_rows(alloc, None, out, err);
+    };
+    if !is_row(name.as_str()) {
+        let _ = writeln!(err, "unknown row: {name}");
+        return 2;
+    }
+    print_rows(alloc, Some(name.as_str()), out, err)
+}

@@ -1,0 +1,11 @@
+pub mod Moving
+pub mod Stating
+pub mod Parting
+pub mod Implying
+pub mod Keeping
+pub mod Closing
+pub mod Growing
+pub mod Instantiating
+pub mod Making
+pub mod TraitClauses
+pub mod Reaching

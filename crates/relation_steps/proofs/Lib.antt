@@ -1,0 +1,4 @@
+pub mod Errors
+pub mod Fronts
+pub mod Mapped
+pub mod Sorted

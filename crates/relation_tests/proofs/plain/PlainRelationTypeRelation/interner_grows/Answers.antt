@@ -1,5 +1,0 @@
-use Rattle.relation_tests.proofs.PlainLemmas.{plain_grows}
-use Rattle.relation_tests.proofs.plain.PlainRelationTypeRelation.interner_grows.Goals as goal
-
-pub returns : goal.returns
-returns g c = λ cx e l. plain_grows e c.args.self.now.ambient c.args.self.now.constraints.items l

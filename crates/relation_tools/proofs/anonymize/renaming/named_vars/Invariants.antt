@@ -1,6 +1,0 @@
-use Rattle.std.proofs.Common.{◌≡◌, take, map}
-use Rattle.relation_tools.specs.Anonymous.{named_as}
-use Rattle.relation_tools.proofs.anonymize.renaming.named_vars.Given as goal
-
-abbrev pub invariant-loop-var : goal.invariant-loop-var
-invariant-loop-var g l = l.list.items ≡ map (named_as l.name) (take l.var-index l.fn.vars)

@@ -1,9 +1,0 @@
-use Rattle.std.proofs.Common.{sym}
-use Rattle.relation_tools.proofs.Renaming.{renamed_empty}
-use Rattle.relation_tools.proofs.anonymize.renaming.rename_bound_vars.Goals as goal
-
-pub returns-then-is_empty-clause-made : goal.returns-then-is_empty-clause-made
-returns-then-is_empty-clause-made g c =
-    let m = g.I.Interner.meaning c.args.cx.now in
-    renamed_empty c.args.used.now (m.name c.args.name) (g.T.HasTree.tree m c.args.body.now)
-    (sym c.if-is_empty.ensures)

@@ -1,7 +1,0 @@
-use Rattle.std.proofs.Common.{take}
-use Rattle.std.specs.List.{All}
-use Rattle.relation_tools.specs.Anonymous.{StandsBelow}
-use Rattle.relation_tools.proofs.anonymize.used.stand_below.Given as goal
-
-abbrev pub invariant-loop-var : goal.invariant-loop-var
-invariant-loop-var l = All (StandsBelow l.count) (take l.var-index l.vars)

@@ -1,9 +1,0 @@
-use Rattle.relation_tools.proofs.Clashing.{deeper}
-use Rattle.relation_tools.proofs.Rejecting.{clashes_are_apart}
-use Rattle.relation_tools.proofs.fast_reject.deep.DeepRejectCtxt.types_may_unify_with_depth.Goals as goal
-
-pub returns-clause-deeper : goal.returns-clause-deeper
-returns-clause-deeper g c = λ f e h. deeper e (c.types_may_unify.ensures.0 f) h
-
-pub returns-clause-apart : goal.returns-clause-apart
-returns-clause-apart g c = λ f. clashes_are_apart _ _ _ _ _ (c.types_may_unify.ensures.0 f)

@@ -1,5 +1,0 @@
-use Rattle.relation_terms.specs.Trees.{size}
-use Rattle.relation_tools.proofs.fast_reject.simplify.+without_patterns.Given as goal
-
-abbrev pub decreases-without_patterns : goal.decreases-without_patterns
-decreases-without_patterns g l = size ((g.I.Interner.meaning l.cx.now).ty l.ty)

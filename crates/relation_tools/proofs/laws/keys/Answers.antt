@@ -1,5 +1,0 @@
-use Rattle.relation_tools.proofs.KeysApart.{different_keys_are_apart, unlike_keys_are_apart}
-use Rattle.relation_tools.proofs.laws.keys.Goals as goal
-
-pub returns : goal.returns
-returns c = record { apart = different_keys_are_apart; unlike = unlike_keys_are_apart }

@@ -1,8 +1,0 @@
-use Rattle.relation_tools.proofs.Stacks.{filled_cut, cut}
-use Rattle.relation_tools.proofs.walk.stack.Stack.truncate.Goals as goal
-
-pub invariant_of-self : goal.invariant_of-self
-invariant_of-self g c = rw c.truncate.ensures.items (filled_cut _ _ c.self.invariant)
-
-pub returns : goal.returns
-returns g c = rw (c.truncate.ensures.items, ← c.self.view_is) (cut _ _ c.self.invariant)

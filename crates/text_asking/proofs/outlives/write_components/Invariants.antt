@@ -1,4 +1,0 @@
-use Rattle.text_asking.proofs.outlives.write_components.Given as goal
-
-abbrev pub invariant-loop-place : goal.invariant-loop-place
-invariant-loop-place g l = Unit {0}

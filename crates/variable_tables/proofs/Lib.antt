@@ -1,0 +1,5 @@
+pub mod Grows
+pub mod Beside
+pub mod SubRoots
+pub mod Writing
+pub mod Linking

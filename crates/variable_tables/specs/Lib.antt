@@ -1,0 +1,4 @@
+pub mod Variables
+pub mod Numbers
+pub mod SubRoots
+pub mod Tables

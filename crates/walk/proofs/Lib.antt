@@ -1,0 +1,4 @@
+pub mod Walking
+pub mod Placing
+mod Pulling
+pub mod Positioning
