@@ -1,4 +1,4 @@
-//! The smallest of each that a user of these crates may copy: a visitor, a folder, an obligation. All is proved with the
+//! The smallest of each that a user of these crates may copy: a visitor and a folder. All is proved with the
 //! test that calls it, and so once.
 #![tactic(auto)]
 
@@ -6,7 +6,5 @@
 mod all;
 #[cfg(test)]
 pub mod folder;
-#[cfg(test)]
-pub mod obligation;
 #[cfg(test)]
 pub mod visitor;
