@@ -1,23 +1,21 @@
 //! What a walk has visited.
-ghost use Rattle.std.specs.Prelude.{IsTrue};
-ghost use Rattle.relation_terms.specs.Trees.{known};
-
-use relation_terms::terms::{GenericArgKind, Interner, OutOfMemory, Ty, TyKind};
+use reference_interner::RefInterner;
+use relation_terms::terms::{GenericArg, GenericArgKind, Interner, OutOfMemory, TyKind};
 use relation_tools::walk::TypeWalker;
 
-// Whether a walk of a type has visited what it yielded, and that alone.
-fn visits_what_it_yields<I: Interner>(cx: &I, ty: Ty<I>) -> bool
-    requires { IsTrue (known ((I.meaning cx.now).ty ty)) }
-{
-    let root = GenericArgKind::Ty(ty);
-    let mut walker = TypeWalker::new(cx, root);
-    let before = walker.visited().contains(&root);
-    let yielded = walker.next() == Some(Ok(root));
-    yielded & !before & walker.visited().contains(&root)
+// Whether a walk yields an argument next, which it has visited then, and had not before.
+fn visits_what_it_yields<I: Interner>(
+    walker: &mut TypeWalker<'_, I>,
+    root: &GenericArg<I>,
+) -> bool {
+    let before = walker.visited().contains(root);
+    let yielded = walker.pull() == Some(Ok(*root));
+    yielded & !before & walker.visited().contains(root)
 }
 
-/// Whether a walk of a plain type does.
-pub fn all_go<I: Interner>(cx: &mut I) -> Result<bool, OutOfMemory> {
-    let ty = cx.mk_ty(TyKind::Bool)?;
-    Ok(visits_what_it_yields(cx, ty))
+/// Whether a walk of a plain type does. (How large a walk is depends on the interner's keys, so one is named.)
+pub fn all_go(cx: &mut RefInterner) -> Result<bool, OutOfMemory> {
+    let root = GenericArgKind::Ty(cx.mk_ty(TyKind::Bool)?);
+    let mut walker = TypeWalker::new(&*cx, root);
+    Ok(visits_what_it_yields(&mut walker, &root))
 }
