@@ -81,3 +81,19 @@ returns-clause-by_places g c =
           ∙ goes_end m eq t (skipped_in c.args.skips.now) c.loop-arg.walker c.pull.new.self c.loop-arg.found.items
           c.loop-arg.invariant.goes p
     ]
+
+pub returns-clause-sure : goal.returns-clause-sure
+returns-clause-sure g c =
+    let m = g.I.Interner.meaning c.args.walker.now.cx in
+    let n = g.I.Interner.meaning c.skip_behind.new.walker.cx in
+    let eq = (ghosts g.row.I-Key g.I.Key.PartialEq g.I.Key.PartialEq-dict).eq in
+    let p : Pull m eq {E = OutOfMemory} c.loop-arg.walker None c.pull.new.self =
+    subst (λ i. Pull (g.I.Interner.meaning i) eq {E = OutOfMemory} c.loop-arg.walker None c.pull.new.self)
+    c.loop-arg.invariant.same c.in_default.ensures in
+    elim c.match-pull-2.branch [
+      | in-Some-pull+in_ok-arg-2+in_ok-push-2 w ↦
+          absurd (ended_still m n eq c.loop-arg.walker c.pull.new.self c.skip_behind.new.walker c.pull-2.new.self
+          w.in_ok-arg-2.field-0 p c.skip_behind.ensures.inside c.skip_behind.ensures.after
+          (rw w.in_ok-arg-2.was at w.in-Some-pull.ensures))
+      | in_default-pull w ↦ subst (λ v. AllKnown m v.items) (sym w.found-is) c.loop-arg.invariant.known
+    ]
