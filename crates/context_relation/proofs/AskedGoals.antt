@@ -13,13 +13,13 @@ use Rattle.relation_semantics.specs.Relation.{Items, Interpretation, Outlives, R
 use Rattle.relation_semantics.specs.Settings.{Settings}
 use Rattle.relation_semantics.specs.Steps.{HasNoBinder}
 use Rattle.relation_semantics.specs.Goals.{alias_relate_predicate}
-use Rattle.relation_semantics.specs.Errors.{AreAlike, IsLeftToGoal}
+use Rattle.relation_semantics.specs.Errors.{AreAlike, IsDeferred}
 use Rattle.relation_semantics.specs.Agreeing.{IsFlexible, AreFlexible, IsLeftAside, Agree}
 use Rattle.relation_semantics.specs.Asking.{a_constraint, a_goal, region_at, HaveAlias, AsksFor, of_regions, of_aliases, of_unevaluated, of_parts, IsPlainLeaf, IsPlainHead, IsPlainTerm}
 use Rattle.relation_semantics.specs.Stores.{Constraint, outlives_constraint, equal_constraint, ConstraintHolds}
 use Rattle.relation_semantics.proofs.Agreeing.{agree_sorts}
 use Rattle.relation_semantics.proofs.Erased.{no_error_atom}
-use Rattle.relation_semantics.proofs.Leaving.{opaque_is_alias, beside_is_opaque}
+use Rattle.relation_semantics.proofs.Deferring.{opaque_is_alias, beside_is_opaque}
 use Rattle.relation_semantics.proofs.Related.{no_region_head}
 use Rattle.relation_semantics.proofs.Trees.{apply_ground}
 use Rattle.context_relation.specs.Completing.{AskedHolds, AskedIsSo}
@@ -136,7 +136,7 @@ module _ (c : Items) (w : Interpretation) (e : Tree) where
     related_head environment f = absurd f
     related_head h f = tt
 
-    left_have : (a b : Tree) → IsLeftToGoal set a b → HaveAlias a b
+    left_have : (a b : Tree) → IsDeferred set a b → HaveAlias a b
     left_have a b (inl (l, i)) = i
     left_have a b (inr (l, inl o)) = inl (opaque_is_alias a (beside_is_opaque a b o))
     left_have a b (inr (l, inr o)) = inr (opaque_is_alias b (beside_is_opaque b a o))

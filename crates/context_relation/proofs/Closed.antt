@@ -14,8 +14,8 @@ use Rattle.relation_folds.specs.declared.error.RelateFault.TheVariants.{Memory, 
 use Rattle.relation_folds.specs.Faults.{IfSpent}
 use Rattle.relation_semantics.specs.Contexts.{Context, RegistersGoals}
 use Rattle.relation_semantics.specs.Goals.{goals_of}
-use Rattle.relation_semantics.specs.Kits.{StaysBuilt}
-use Rattle.relation_semantics.specs.Kits.{NeedsVariable}
+use Rattle.relation_semantics.specs.Alphabets.{StaysBuilt}
+use Rattle.relation_semantics.specs.Alphabets.{NeedsVariable}
 use Rattle.relation_semantics.specs.Settings.{Settings}
 use Rattle.relation_semantics.specs.Stores.{IsSound}
 use Rattle.relation_semantics.proofs.Registered.{no_aliases}
@@ -23,7 +23,7 @@ use Rattle.context_relation.specs.Closed.{LeavesClosed, AsksNothing, SpendsForVa
 use Rattle.relation_combining.specs.ClosedTerms.{IsClosed}
 use Rattle.context_relation.specs.Relating.{term_in, answered_goals}
 use Rattle.relation_semantics.specs.Lawful.{State, Manners, Related}
-use Rattle.relation_combining.proofs.ClosedTerms.{closed_kit, all_heads, closed_built, lacking_built, closed_binds, none_registered, never_needs}
+use Rattle.relation_combining.proofs.ClosedTerms.{closed_alphabet, all_heads, closed_built, lacking_built, closed_binds, none_registered, never_needs}
 
 -- The same fault, of whatever was to be answered.
 pub needs_as : {X Key Id Name : Type 0} (P : Type 0) (res : Result X (RelateFault Key Id Name))
@@ -57,7 +57,7 @@ module _ {S Key Id Name A : Type 0} (state : S → Context Key Id Name) (old new
   pub leaves_closed : SpendsForVariables state old new over tree a b result →
       LeavesClosed state old new over tree a b result
   leaves_closed needs p q = (
-    (built (closed_kit all_heads) (closed_built (term_in (state old) over tree a) p)
+    (built (closed_alphabet all_heads) (closed_built (term_in (state old) over tree a) p)
         (closed_built (term_in (state old) over tree b) q) (closed_binds all_heads (state old).store sound)).writes refl,
     never_spent p q result needs,
   )
@@ -77,5 +77,5 @@ pub asks_nothing : {S Key Id Name A : Type 0} (state : S → Context Key Id Name
 asks_nothing state old new over tree a b k e v sound (Err f) built h p q n o = tt
 asks_nothing state old new over tree a b k e v sound (Ok goals) built h p q n o =
     none_keyed (state new).meaning goals.items (none_registered (goals_of (state new).meaning goals.items)
-    (built (closed_kit no_aliases) (lacking_built (term_in (state old) over tree a) p n)
+    (built (closed_alphabet no_aliases) (lacking_built (term_in (state old) over tree a) p n)
     (lacking_built (term_in (state old) over tree b) q o) (closed_binds no_aliases (state old).store sound)).asks h.1)

@@ -20,7 +20,7 @@ use Rattle.relation_terms.specs.Heads.{Sort, region_sort, region_kind, type_kind
 use Rattle.relation_terms.specs.Trees.{Tree, leaf, node, bind, nil, cons, Leaves, Assign}
 use Rattle.relation_terms.specs.Erasure.{erase, erase_leaf, erase_atom, kept_parts}
 use Rattle.relation_semantics.specs.Relation.{Items, Interpretation, Rel, at, parts, same, anything, error_left, error_right, regions, alias_types, equal_consts, atoms, forms, no_parts, next_part, covariant_binders, contravariant_binders, invariant_binders, part_at, plain, sort_of, IsError, IsErrorAtom, IsAlias, IsAliasHead, IsValue, IsValueLeaf, all_outlive}
-use Rattle.relation_semantics.specs.Settings.{Settings, LeavesAliases}
+use Rattle.relation_semantics.specs.Settings.{Settings, DefersAliases}
 use Rattle.relation_semantics.specs.Steps.{HasNoBinder}
 use Rattle.relation_semantics.specs.Errors.{outer_leaf, AreAlike, ErrorOf}
 use Rattle.relation_semantics.specs.Agreeing.{IsFlexible, AreFlexible, IsLeftAside, Agree}
@@ -37,7 +37,7 @@ use Rattle.context_relation.proofs.AskedGoals.{agreeing_related}
 use Rattle.context_relation.proofs.Disagreeing.{disagree}
 use Rattle.context_relation.proofs.PlainTerms.{outer_kept, left_good, right_good}
 use Rattle.context_relation.proofs.RegionTerms.{region_or, rule_alias, related_terms_agree, related_iff_agree}
-use Rattle.relation_semantics.proofs.Leaving.{normal_not_left}
+use Rattle.relation_semantics.proofs.Deferring.{normal_not_left}
 use Rattle.context_relation.proofs.Shapes.{shaped}
 use Rattle.relation_terms.proofs.Paths.{leaf_path}
 use Rattle.relation_terms.proofs.Erasing.{erased_count}
@@ -98,7 +98,7 @@ module _ (set : Settings) (c : Items) where
   have_kept a b (inl i) = inl (alias_kept a i)
   have_kept a b (inr i) = inr (alias_kept b i)
 
-  module _ (l : LeavesAliases set) where
+  module _ (l : DefersAliases set) where
     aliases_agree : (v : Variance) (a b : Tree) → (v ≡ Bivariant) ⊎ HaveAlias a b → sort_of a ≡ sort_of b →
         Agree set c (at v) (erase a) (erase b)
     aliases_agree v a b (inl p) s = agree_anything set c v (erase a) (erase b) p

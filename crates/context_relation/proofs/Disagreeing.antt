@@ -22,7 +22,7 @@ use Rattle.relation_semantics.proofs.Asking.{part_bivariant}
 use Rattle.context_relation.proofs.PlainTerms.{Good, good_parts, good_nth, suits_body, alias_left, Alike, Met, met_as, FormsAgree, forms_agree, agree_counts, agree_at, same_sort, leaves_alike, types_alike}
 use Rattle.context_relation.proofs.PlainForms.{no_pattern, stand_regions, inst_plain, inst_no_alias, erase-inst, RegionsUnbound, read_good, no_placeholder, plain_known, consts_alike, existentials_alike}
 use Rattle.relation_terms.proofs.Members.{type_only}
-use Rattle.relation_semantics.proofs.Leaving.{normal_not_left}
+use Rattle.relation_semantics.proofs.Deferring.{normal_not_left}
 
 type_is_no_value_type : (h : Head) → head_sort h ≡ type_sort → h ≡ value_type → ⊥
 type_is_no_value_type h e d = let z : head_sort value_type ≡ type_sort = sym (ap head_sort d) ∙ e in cc

@@ -20,7 +20,7 @@ use Rattle.relation_semantics.proofs.Erased.{erase_region}
 use Rattle.relation_semantics.proofs.Related.{no_region_head}
 use Rattle.context_relation.proofs.PlainTerms.{Good, good_parts, good_first, good_rest, Met, forms_agree, agree_counts, leaves_alike, leaf_form, form_leaf, Alike, const_no_region, value_no_region, sort_no_region, no_alias_head}
 use Rattle.relation_terms.proofs.Members.{const_only, value_only}
-use Rattle.relation_semantics.proofs.Leaving.{normal_not_left}
+use Rattle.relation_semantics.proofs.Deferring.{normal_not_left}
 use Rattle.relation_recursion.proofs.Compared.{value_shape}
 use Rattle.std.specs.Cmp.Derive.{both_true}
 

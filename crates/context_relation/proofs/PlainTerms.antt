@@ -8,15 +8,15 @@ use Rattle.relation_terms.specs.Heads.{Head, alias, alias_term, value_type, Leaf
 use Rattle.relation_terms.specs.Trees.{Tree, leaf, node, bind, nil, cons, count, nth, IsTerm}
 use Rattle.relation_terms.specs.Erasure.{erase, erase_leaf, kept_parts}
 use Rattle.relation_semantics.specs.Relation.{Items, at, parts, part_at, plain, sort_of, IsAlias, IsAliasHead}
-use Rattle.relation_semantics.specs.Settings.{Settings, LeavesAliases, LeavesOpaque}
+use Rattle.relation_semantics.specs.Settings.{Settings, DefersAliases, LeavesOpaque}
 use Rattle.relation_semantics.specs.Steps.{HasNoBinder}
-use Rattle.relation_semantics.specs.Errors.{outer_leaf, outer_head, AreAlike, IsLeftToGoal}
+use Rattle.relation_semantics.specs.Errors.{outer_leaf, outer_head, AreAlike, IsDeferred}
 use Rattle.relation_semantics.specs.Agreeing.{IsFlexible, AreFlexible, IsLeftAside, Agree}
 use Rattle.relation_semantics.specs.Asking.{IsPlainLeaf, IsPlainHead, IsPlainTerm, HasNoAlias, ArePlain, without_aliases, without_binders}
 use Rattle.relation_semantics.proofs.Agreeing.{agree_sorts}
 use Rattle.relation_semantics.proofs.Asking.{no_alias_term}
 use Rattle.relation_semantics.proofs.Erased.{no_error_atom}
-use Rattle.relation_semantics.proofs.Leaving.{opaque_is_alias, beside_is_opaque}
+use Rattle.relation_semantics.proofs.Deferring.{opaque_is_alias, beside_is_opaque}
 use Rattle.context_relation.proofs.RegionTerms.{erased_error, leaf_outer, outer_erased}
 use Rattle.relation_recursion.proofs.Unifying.{erased_sort}
 use Rattle.relation_terms.proofs.Members.{type_only}
@@ -25,7 +25,7 @@ use Rattle.relation_terms.proofs.Erasing.{erased_atom}
 
 -- A plain term without aliases, or without binders where aliases are left to goals.
 abbrev pub Suits : Settings → Tree → Type 0
-Suits k t = HasNoAlias t ⊎ (HasNoBinder t × LeavesAliases k)
+Suits k t = HasNoAlias t ⊎ (HasNoBinder t × DefersAliases k)
 
 abbrev pub Good : Settings → Tree → Type 0
 Good k t = IsPlainTerm t × Suits k t
@@ -81,7 +81,7 @@ no_opaque : (k : Settings) (a : Tree) → LeavesOpaque k → Suits k a → IsAli
 no_opaque k a l (inl n) i = no_alias_term a n i
 no_opaque k a l (inr b) i = false≢true (sym l.0 ∙ b.1.0)
 
-left_erased : (k : Settings) (a b : Tree) → Suits k a → Suits k b → IsLeftToGoal k (erase a) (erase b) → IsLeftToGoal k a b
+left_erased : (k : Settings) (a b : Tree) → Suits k a → Suits k b → IsDeferred k (erase a) (erase b) → IsDeferred k a b
 left_erased k a b f g (inl (l, inl o)) = inl (l, inl (alias_erased a o))
 left_erased k a b f g (inl (l, inr o)) = inl (l, inr (alias_erased b o))
 left_erased k a b f g (inr (l, inl o)) =
@@ -90,11 +90,11 @@ left_erased k a b f g (inr (l, inr o)) =
     absurd (no_opaque k b l g (alias_erased b (opaque_is_alias (erase b) (beside_is_opaque (erase b) (erase a) o))))
 
 -- An alias is left to a goal.
-pub alias_left : (k : Settings) (a b : Tree) → Suits k a → IsAlias a → IsLeftToGoal k a b
+pub alias_left : (k : Settings) (a b : Tree) → Suits k a → IsAlias a → IsDeferred k a b
 alias_left k a b (inl n) i = absurd (no_alias_term a n i)
 alias_left k a b (inr s) i = inl (s.1, inl i)
 
-pub alias_left_back : (k : Settings) (a b : Tree) → Suits k b → IsAlias b → IsLeftToGoal k a b
+pub alias_left_back : (k : Settings) (a b : Tree) → Suits k b → IsAlias b → IsDeferred k a b
 alias_left_back k a b (inl n) i = absurd (no_alias_term b n i)
 alias_left_back k a b (inr s) i = inl (s.1, inr i)
 
@@ -144,7 +144,7 @@ module _ (set : Settings) (c : Items) where
     pub left : Good set a
     pub right : Good set b
     pub decides : v ≢ Bivariant
-    pub gone_into : IsLeftToGoal set a b → ⊥
+    pub gone_into : IsDeferred set a b → ⊥
 
   pub met_as : {v : Variance} {a b t u : Tree} → a ≡ t → b ≡ u → Met v a b → Met v t u
   met_as {v = v} p q f = subst₂ (Met v) p q f

@@ -32,7 +32,7 @@ use Rattle.relation_semantics.proofs.Passing.{shown_by}
 use Rattle.relation_semantics.proofs.Remembering.{hit_is_step, related_as, were_related_more}
 use Rattle.relation_semantics.proofs.Standing.{term_sort_of}
 use Rattle.relation_combining.specs.Combining.{Joins, MeetsTys, RegistersOne, RegistersNone, TaintsAlone, TysCombine, seen}
-use Rattle.relation_combining.specs.Combining.{left_error, right_error, left_to_goal, left_open, not_registered, not_left}
+use Rattle.relation_combining.specs.Combining.{left_error, right_error, is_deferred, left_open, not_registered, not_left}
 use Rattle.relation_steps.specs.Keyed.{ShownTys, SteppedTys, TysAskNone}
 use Rattle.relation_steps.specs.Terms.{AskedTerms}
 use Rattle.relation_combining.specs.Solving.{settings_by, held_by, solving_through, solver_manner}
@@ -165,7 +165,7 @@ module _ {Key Id Name : Type 0} (r q s : State Key Id Name) (m : s.meaning ≡ q
     tys_alike : TysCombine r q a b res → TysCombine r s a b res
     tys_alike (left_error e h is) = left_error e (taints_alike h) is
     tys_alike (right_error n e h is) = right_error n e (taints_alike h) is
-    tys_alike (left_to_goal p c l o e h is) = left_to_goal p c l o e (one_alike h) is
+    tys_alike (is_deferred p c l o e h is) = is_deferred p c l o e (one_alike h) is
     tys_alike (left_open c l o h is) = left_open c l o (one_alike h) is
     tys_alike (not_registered c l h is) = not_registered c l (none_alike h) is
     tys_alike (not_left c n g h) =

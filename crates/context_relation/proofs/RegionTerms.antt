@@ -12,9 +12,9 @@ use Rattle.relation_semantics.specs.Asking.{BindsRegions}
 use Rattle.context_relation.specs.RegionTerms.{IsRegionTermHead, IsRegionTermLeaf, IsRegionTerm, RelatedTermsAgree, RelatedIffAgree}
 use Rattle.relation_semantics.specs.Agreeing.{IsFlexible, AreFlexible, IsLeftAside, Agree}
 use Rattle.relation_semantics.specs.Settings.{Settings}
-use Rattle.relation_semantics.specs.Errors.{outer_leaf, AreAlike, IsLeftToGoal}
+use Rattle.relation_semantics.specs.Errors.{outer_leaf, AreAlike, IsDeferred}
 use Rattle.relation_recursion.proofs.Unifying.{kind_erased, kind_kept, erased_plain}
-use Rattle.relation_semantics.proofs.Leaving.{opaque_is_alias, beside_is_opaque}
+use Rattle.relation_semantics.proofs.Deferring.{opaque_is_alias, beside_is_opaque}
 use Rattle.relation_semantics.proofs.Agreeing.{agree_anything, agree_same}
 use Rattle.relation_semantics.proofs.Erased.{erase_region, erase_plain, no_error_atom}
 use Rattle.relation_semantics.proofs.Related.{no_region_head}
@@ -345,7 +345,7 @@ erased_no_alias (bind ks t) f i = i
 erased_no_alias nil f i = i
 erased_no_alias (cons t ts) f i = i
 
-erased_not_left : (k : Settings) (a b : Tree) → IsRegionTerm a → IsRegionTerm b → IsLeftToGoal k (erase a) (erase b) → ⊥
+erased_not_left : (k : Settings) (a b : Tree) → IsRegionTerm a → IsRegionTerm b → IsDeferred k (erase a) (erase b) → ⊥
 erased_not_left k a b f g (inl (l, inl o)) = erased_no_alias a f o
 erased_not_left k a b f g (inl (l, inr o)) = erased_no_alias b g o
 erased_not_left k a b f g (inr (l, inl o)) =

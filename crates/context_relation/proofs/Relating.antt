@@ -13,7 +13,7 @@ use Rattle.relation_folds.specs.declared.error.RelateFault.TheVariants.{Memory, 
 use Rattle.term_enums.specs.declared.StructurallyRelateAliases.{StructurallyRelateAliases}
 use Rattle.relation_semantics.specs.Contexts.{Context}
 use Rattle.relation_semantics.specs.Goals.{Goal as GoalOf}
-use Rattle.relation_semantics.specs.Kits.{StaysBuilt}
+use Rattle.relation_semantics.specs.Alphabets.{StaysBuilt}
 use Rattle.relation_semantics.proofs.Building.{built_refused}
 use Rattle.context_relation.specs.Relating.{term_in, AnswersAlone, AnswersAsked, BuildsNoMore}
 use Rattle.relation_steps.specs.Alone.{RegistersAlone, RelatesAlone}

@@ -38,7 +38,7 @@ use Rattle.relation_semantics.specs.Stores.{ConstraintHolds, all_bound}
 use Rattle.relation_semantics.specs.Goals.{Goal, goals_of, KnowsGoal, Registered, GoalInContext, Holds, MakesOneTree}
 use Rattle.relation_semantics.specs.Headline.{AnswersGoals, KeepsEqualTerms, IsFirstOrderPair}
 use Rattle.relation_semantics.specs.Steps.{AddsConstraint, Equates, IsLater, StaysFull}
-use Rattle.relation_semantics.specs.Kits.{StaysBuilt, IsGoalOf}
+use Rattle.relation_semantics.specs.Alphabets.{StaysBuilt, IsGoalOf}
 use Rattle.relation_semantics.proofs.Building.{built_itself, built_constraint}
 use Rattle.relation_semantics.specs.Outcomes.{Outcome}
 use Rattle.relation_semantics.specs.Measures.{Goes}

@@ -36,7 +36,7 @@ use Rattle.context_relation.proofs.Solving.{held_grows, solver_passes}
 use Rattle.relation_combining.proofs.OpeningBoth.{opened_goes, body_scope, unused_stand_ins, bodies_error}
 use Rattle.relation_combining.proofs.OpeningBoth.{bodies_agree}
 use Rattle.relation_combining.proofs.OpeningBoth.{BothOpened, both_opened, bodies_smaller, bodies_built}
-use Rattle.relation_semantics.specs.Kits.{Kit, IsBuiltOf, StaysBuilt, MayBind}
+use Rattle.relation_semantics.specs.Alphabets.{Alphabet, IsBuiltOf, StaysBuilt, MayBind}
 use Rattle.relation_semantics.proofs.Building.{built_itself, built_opened, first_writes}
 use Rattle.relation_semantics.proofs.MakingEach.{each_unbound}
 
@@ -111,7 +111,7 @@ module _ {Key Id Name : Type 0} (aliases : StructurallyRelateAliases) (j : ℕ) 
       ChangesNothing c.store middle → middle.tainted ≡ (c.store).tainted → (ks : List BoundKind) →
       MakesFirst middle.universe middle ks d.store → (round : ℕ) (a b : Tree)
       (tree : T → Tree) (result : Result (Option (T × T)) (RelateFault Key Id Name)) → result ≡ Err Memory →
-      ((k : Kit) → IsBuiltOf k a → IsBuiltOf k b → MayBind k ks) → Opened solver_manner before after round a b tree result
+      ((k : Alphabet) → IsBuiltOf k a → IsBuiltOf k b → MayBind k ks) → Opened solver_manner before after round a b tree result
   opening_refused env sound grows middle changes taint ks first round a b tree result is has =
       subst (Opened solver_manner before after round a b tree) (sym is)
       (opened env grows (opened_goes c.store middle d.store changes sound (each_unbound first.2)) round a b tree

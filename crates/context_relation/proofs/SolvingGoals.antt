@@ -18,7 +18,7 @@ use Rattle.relation_semantics.specs.AskedAlone.{subtype_at}
 use Rattle.relation_semantics.specs.ContextCalls.{Grows}
 use Rattle.relation_semantics.specs.Contexts.{Context}
 use Rattle.relation_semantics.specs.Goals.{Goal, goal_of, subtype_predicate, IsOpen, IsDirected, IsRegistered, of_variables, Holds, MakesOneTree}
-use Rattle.relation_semantics.specs.Kits.{IsPredicateOf}
+use Rattle.relation_semantics.specs.Alphabets.{IsPredicateOf}
 use Rattle.relation_semantics.specs.Lawful.{State, Pair, Stepped, MayAnswer, items_in}
 use Rattle.relation_semantics.specs.Outcomes.{Outcome}
 use Rattle.relation_semantics.specs.Parts.{IsFormed}
@@ -31,7 +31,7 @@ use Rattle.relation_semantics.proofs.Registered.{registered_in}
 use Rattle.relation_goals.specs.Emitting.{IsOver, AddsGoals, RegistersGoal, goals_in}
 use Rattle.relation_combining.specs.Solving.{KnowsGoals, solving_through, solver_manner}
 use Rattle.relation_combining.proofs.GoalPasses.{goal_in}
-use Rattle.relation_combining.proofs.LeavingSteps.{goal_step}
+use Rattle.relation_combining.proofs.DeferringSteps.{goal_step}
 use Rattle.relation_combining.proofs.Registering.{none_registered, one_registered, same_later}
 use Rattle.context_relation.proofs.Solving.{solver_with}
 use Rattle.relation_combining.proofs.Turning.{turned}
@@ -101,7 +101,7 @@ module _ {Key Id Name A E : Type 0} {r q : State Key Id Name} {x : A} (i k : ℕ
       (subst (λ z. IsTrue (known z)) (sym answer) sure)
       (agree_root r.kept.settings (items_in r) r.ambient type_var i a b a_is (ap sort_of b_is))
       (λ is pair. absurd (subst IsDirected is (subtype_directed r.ambient a b p asks)))
-      (λ kit ha hb. subtype_asked (λ v p. IsPredicateOf kit p) a b (ha, (hb, tt)) (hb, (ha, tt)) r.ambient p asks)
+      (λ alphabet ha hb. subtype_asked (λ v p. IsPredicateOf alphabet p) a b (ha, (hb, tt)) (hb, (ha, tt)) r.ambient p asks)
 
 -- The relation of a context registers a predicate that it has made; or it could not make it.
 module _ {Key Id Name : Type 0} (aliases : StructurallyRelateAliases) (j : ℕ) (ps : List (Pair Key))

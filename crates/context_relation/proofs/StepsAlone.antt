@@ -17,12 +17,12 @@ use Rattle.relation_semantics.specs.Lawful.{State, Manners, RemembersRelated}
 use Rattle.relation_semantics.specs.Parts.{IsFormed}
 use Rattle.relation_semantics.specs.Relation.{IsAlias}
 use Rattle.relation_semantics.specs.Resolving.{formed}
-use Rattle.relation_semantics.specs.Settings.{LeavesAliases}
+use Rattle.relation_semantics.specs.Settings.{DefersAliases}
 use Rattle.relation_semantics.proofs.AliasSteps.{reads_once}
 use Rattle.relation_semantics.specs.AskedAlone.{AsksAlone, of_variables, of_alias, subtype_at}
 use Rattle.relation_steps.specs.Alone.{StepRegistersAlone, StepsAlone}
 use Rattle.relation_combining.specs.Combining.{RegistersOne, RegistersNone, TysCombine}
-use Rattle.relation_combining.specs.Combining.{left_error, right_error, left_to_goal, left_open, not_registered, not_left}
+use Rattle.relation_combining.specs.Combining.{left_error, right_error, is_deferred, left_open, not_registered, not_left}
 use Rattle.context_relation.specs.Stepping.{CombinesTyVars, made_one, left_subtype, right_subtype, goal_refused}
 use Rattle.context_relation.specs.Stepping.{CombinesShallowTys, two_variables, left_bound, left_asked, left_unasked, left_refused}
 use Rattle.context_relation.specs.Stepping.{right_bound, right_asked, right_unasked, right_refused, no_ty_variables}
@@ -71,12 +71,12 @@ module _ {Key Id Name : Type 0} (r q : State Key Id Name) where
     variables_alone p e (goal_refused directed h o) = stopped p h o
 
     -- Of an alias and another type.
-    alias_alone : (p : Tree) → LeavesAliases r.kept.settings → IsAlias ((r.meaning).ty a) ⊎ IsAlias ((r.meaning).ty b) →
+    alias_alone : (p : Tree) → DefersAliases r.kept.settings → IsAlias ((r.meaning).ty a) ⊎ IsAlias ((r.meaning).ty b) →
         HaveNoError ((r.meaning).ty a) ((r.meaning).ty b) → alias_at r.ambient ((r.meaning).ty a) ((r.meaning).ty b) ≡ Some p →
         TysCombine r q a b res → Alone p
     alias_alone p l o clean e (left_error h t is) = absurd (clean.0 h)
     alias_alone p l o clean e (right_error n h t is) = absurd (clean.1 h)
-    alias_alone p l o clean e (left_to_goal z c k i d h is) = done p (same_goal _ p (sym d ∙ e) h) is
+    alias_alone p l o clean e (is_deferred z c k i d h is) = done p (same_goal _ p (sym d ∙ e) h) is
     alias_alone p l o clean e (left_open c k i h is) = absurd (false≢true (sym k.0 ∙ l.0))
     alias_alone p l o clean e (not_registered c k h is) = stopped p h is
     alias_alone p l o clean e (not_left c n g h) = absurd (n (inl (l, o)))

@@ -25,18 +25,18 @@ use Rattle.relation_semantics.specs.Goals.{goal_of, alias_relate_predicate}
 use Rattle.relation_semantics.specs.Lawful.{State, Pair, Passes, RecordsJust, StepRecords, items_in}
 use Rattle.relation_semantics.specs.Recording.{AreBare}
 use Rattle.relation_semantics.specs.Relation.{Items, IsError, sort_of}
-use Rattle.relation_semantics.specs.Settings.{Settings, LeavesAliases, LeavesOpaque}
+use Rattle.relation_semantics.specs.Settings.{Settings, DefersAliases, LeavesOpaque}
 use Rattle.relation_semantics.specs.Steps.{IsNumberKind, IsNumberFor, InstantiatesNumber}
 use Rattle.relation_semantics.specs.Stores.{Store}
 use Rattle.relation_semantics.proofs.Answering.{same_environment, same_settings, same_items}
 use Rattle.relation_semantics.proofs.Asking.{itself_is_trivial, no_alias_term}
-use Rattle.relation_semantics.proofs.Leaving.{opaque_is_alias, beside_is_opaque}
+use Rattle.relation_semantics.proofs.Deferring.{opaque_is_alias, beside_is_opaque}
 use Rattle.relation_semantics.proofs.Recording.{records_nothing, records_trivial, records_goal, records_remembering, Stands}
 use Rattle.relation_semantics.proofs.Standing.{term_sort_of}
 use Rattle.relation_combining.specs.Combining.{CombinesShallow, ConstsCombine, MeetsConsts, MeetsTys, TysCombine}
-use Rattle.relation_combining.specs.Combining.{left_error, right_error, left_to_goal, left_open, not_registered, not_left}
+use Rattle.relation_combining.specs.Combining.{left_error, right_error, is_deferred, left_open, not_registered, not_left}
 use Rattle.relation_combining.specs.Combining.{equated, left_bound, right_bound, left_unlike, right_unlike, ty_variable, by_parts}
-use Rattle.relation_combining.specs.Combining.{one_constant, const_left_to_goal, const_not_registered, const_not_left}
+use Rattle.relation_combining.specs.Combining.{one_constant, const_is_deferred, const_not_registered, const_not_left}
 use Rattle.relation_combining.specs.Combining.{roots_equated, left_root_bound, left_root_refused, right_root_bound}
 use Rattle.relation_combining.specs.Combining.{right_root_refused, formed_by_parts}
 use Rattle.relation_combining.specs.Combining.{resolved_first as consts_resolved}
@@ -127,7 +127,7 @@ unevaluated_asks_one l s (of_parts i d g n rh pl m o r) = absurd (n l)
 bare_not_open : (k : Settings) (a b : Tree) → AreBare k a b → LeavesOpaque k → IsOpaqueBeside a b ⊎ IsOpaqueBeside b a → ⊥
 bare_not_open k a b bare l o = go bare.aliases o
   where
-    go : LeavesAliases k ⊎ (HasNoAlias a × HasNoAlias b) → IsOpaqueBeside a b ⊎ IsOpaqueBeside b a → ⊥
+    go : DefersAliases k ⊎ (HasNoAlias a × HasNoAlias b) → IsOpaqueBeside a b ⊎ IsOpaqueBeside b a → ⊥
     go (inl m) p = false≢true (sym l.0 ∙ m.0)
     go (inr f) (inl p) = no_alias_term a f.0 (opaque_is_alias a (beside_is_opaque a b p))
     go (inr f) (inr p) = no_alias_term b f.1 (opaque_is_alias b (beside_is_opaque b a p))
@@ -213,7 +213,7 @@ module _ {Key Id Name : Type 0} (r q : State Key Id Name) {n : ℕ} (g : Passes 
           RecordsJust Asks r unremembering
       combined_records t differ (left_error e h is) = absurd (plain_no_error ((r.meaning).ty a) bare.left_plain e)
       combined_records t differ (right_error n e h is) = absurd (plain_no_error ((r.meaning).ty b) bare.right_plain e)
-      combined_records t differ (left_to_goal p clean l o e h is) =
+      combined_records t differ (is_deferred p clean l o e h is) =
           records_goal p g.extends (ap (λ st. st.constraints) h.store) h.goals (same_settings g.kept)
           (same_environment g.kept) refl (of_aliases p refl o differ sort_a e) (λ z w. alias_asks_one p o sort_a e w)
       combined_records t differ (left_open clean l o h is) =
@@ -263,7 +263,7 @@ module _ {Key Id Name : Type 0} (r q : State Key Id Name) {n : ℕ} (g : Passes 
               ((q.meaning).ty y ≡ (r.meaning).ty b) × RecordsJust (λ z. ⊥) r q
           go (left_error e h is) = absurd cc
           go (right_error n e h is) = absurd cc
-          go (left_to_goal p clean l o e h is) = absurd cc
+          go (is_deferred p clean l o e h is) = absurd cc
           go (left_open clean l o h is) = absurd cc
           go (not_registered clean l h is) = absurd cc
           go (not_left clean n same h) = let z = met h in (
@@ -298,7 +298,7 @@ module _ {Key Id Name : Type 0} (r q : State Key Id Name) {n : ℕ} (g : Passes 
           go : TysCombine r q a b (Ok (Again k l x y v u)) → ⊥
           go (left_error e h is) = cc
           go (right_error n e h is) = cc
-          go (left_to_goal p clean l o e h is) = cc
+          go (is_deferred p clean l o e h is) = cc
           go (left_open clean l o h is) = cc
           go (not_registered clean l h is) = cc
           go (not_left clean n same h) = met h
@@ -362,7 +362,7 @@ module _ {Key Id Name : Type 0} (r q : State Key Id Name) {n : ℕ} (g : Passes 
           met (formed_by_parts e f m s is) = cc
 
           go : CombinesShallow r q x y (Ok (Done t)) → RecordsJust ConstsAsk r q
-          go (const_left_to_goal e f l o h is) = records_goal
+          go (const_is_deferred e f l o h is) = records_goal
               (alias_relate_predicate Equate ((r.meaning).const_ a) ((r.meaning).const_ b)) g.extends
               (ap (λ st. st.constraints) h.store) (subst₂ (λ t u. q.goals ≡ r.goals ++
               goal_of r.kept.environment (alias_relate_predicate Equate t u) ∷ []) left right h.goals)
@@ -389,7 +389,7 @@ module _ {Key Id Name : Type 0} (r q : State Key Id Name) {n : ℕ} (g : Passes 
 
           go : CombinesShallow r q x y (Ok (Parts u v)) → ((q.meaning).const_ u ≡ (r.meaning).const_ a) ×
               ((q.meaning).const_ v ≡ (r.meaning).const_ b) × RecordsJust (λ z. ⊥) r q
-          go (const_left_to_goal e f l o h is) = absurd cc
+          go (const_is_deferred e f l o h is) = absurd cc
           go (const_not_registered l h is) = absurd cc
           go (const_not_left n same h) = let z = met h in (
             ap₂ (λ m k. m.const_ k) z.2 z.0 ∙ read_a x (i.reads).reads,
@@ -420,7 +420,7 @@ module _ {Key Id Name : Type 0} (r q : State Key Id Name) {n : ℕ} (g : Passes 
           met (formed_by_parts e f m s is) = cc
 
           go : CombinesShallow r q x y (Ok (Again k l u v w t)) → ⊥
-          go (const_left_to_goal e f l o h is) = cc
+          go (const_is_deferred e f l o h is) = cc
           go (const_not_registered l h is) = cc
           go (const_not_left n same h) = met h
 

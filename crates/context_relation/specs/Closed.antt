@@ -10,7 +10,7 @@ use Rattle.relation_folds.specs.declared.error.RelateFault.{RelateFault}
 use Rattle.relation_folds.specs.Faults.{IfSpent}
 use Rattle.relation_semantics.specs.Asking.{HasNoAlias}
 use Rattle.relation_semantics.specs.Contexts.{Context}
-use Rattle.relation_semantics.specs.Kits.{WritesNothing, NeedsVariable}
+use Rattle.relation_semantics.specs.Alphabets.{WritesNothing, NeedsVariable}
 use Rattle.context_relation.specs.Relating.{term_in}
 use Rattle.relation_combining.specs.ClosedTerms.{IsClosed}
 

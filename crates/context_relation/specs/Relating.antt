@@ -39,7 +39,7 @@ use Rattle.relation_folds.specs.Faults.{IfUnrelated, IfSpent}
 use Rattle.relation_semantics.specs.Stores.{IsTermIn}
 use Rattle.relation_semantics.specs.Goals.{Goal as GoalOf, goals_of, goal_of}
 use Rattle.relation_semantics.specs.Steps.{MakesToInstantiate}
-use Rattle.relation_semantics.specs.Kits.{StaysBuilt}
+use Rattle.relation_semantics.specs.Alphabets.{StaysBuilt}
 use Rattle.relation_semantics.specs.FirstOrder.{IsFirstOrderStore}
 use Rattle.relation_semantics.specs.Outcomes.{NoEqualTerms, Exact, NoUnifier}
 use Rattle.relation_semantics.specs.Headline.{AnswersGoals, KeepsEqualTerms, IsFirstOrderPair}
@@ -47,7 +47,7 @@ use Rattle.relation_semantics.specs.OneUniverse.{IsPairOf, KeepsUniverseOf, all_
 use Rattle.relation_semantics.specs.Relation.{at}
 use Rattle.relation_semantics.specs.Errors.{ErrorOf}
 use Rattle.relation_semantics.specs.Agreeing.{Agree}
-use Rattle.relation_semantics.specs.Bound.{BindByLists}
+use Rattle.relation_semantics.specs.Bound.{IsWellBound}
 use Rattle.relation_semantics.specs.Lawful.{items_of}
 use Rattle.relation_steps.specs.Arguments.{related_tree}
 use Rattle.relation_semantics.specs.Contexts.{Context, DoesNothing, RegistersGoals}
@@ -69,7 +69,7 @@ module _ {Key Id Name A : Type 0} (c : Context Key Id Name) (over : Option Head)
 
     -- It may be related: its binders bind by their lists.
     abbrev pub TakesTerm : A → Type 0
-    TakesTerm x = BindByLists (term_in c over tree x)
+    TakesTerm x = IsWellBound (term_in c over tree x)
 
     -- The variables in it are the context's, and nothing in it is of a later universe or escapes a binder.
     abbrev pub HasTerm : A → Type 0

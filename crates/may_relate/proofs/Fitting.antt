@@ -7,7 +7,7 @@ use Rattle.relation_terms.specs.Heads.{Sort, BoundKind, bound_sort, Leaf, variab
 use Rattle.relation_terms.specs.Trees.{Tree, leaf, node, bind, nil, cons, Leaves}
 use Rattle.relation_semantics.specs.Relation.{StaysWithin}
 use Rattle.relation_semantics.specs.Stores.{Store, IsMadeLeaf, IsNamable, InContext, IsTermIn}
-use Rattle.relation_semantics.specs.Bound.{AreBoundAs, BindByLists}
+use Rattle.relation_semantics.specs.Bound.{AreBoundAs, IsWellBound}
 use Rattle.may_relate.specs.declared.unfit.Unfit.{Unfit}
 use Rattle.may_relate.specs.declared.unfit.Unfit.TheVariants.{Escapes, NotInList}
 use Rattle.may_relate.specs.Around.{sort_at}
@@ -80,7 +80,7 @@ module _ (st : Store) where
   bound_as ls ks d nil e h = tt
   bound_as ls ks d (cons t ts) e h = (bound_as ls ks d t e h.0, bound_as ls ks d ts e h.1)
 
-  by_lists : (ls : List (List Sort)) (t : Tree) → FitsAll st ls t → BindByLists t
+  by_lists : (ls : List (List Sort)) (t : Tree) → FitsAll st ls t → IsWellBound t
   by_lists ls (leaf l) h = tt
   by_lists ls (node g ts) h = by_lists ls ts h
   by_lists ls (bind ks t) h =
@@ -116,7 +116,7 @@ module _ (st : Store) where
   one_more all ks t here f (suc d) js e = f d js e
 
   leaves_fit : (all : List (List BoundKind)) (t : Tree) → Leaves (IsMadeLeaf st) t → StaysWithin (length all) t →
-      Leaves (IsNamable st.universe) t → BindByLists t → BoundAround all t → FitsAll st (sorts all) t
+      Leaves (IsNamable st.universe) t → IsWellBound t → BoundAround all t → FitsAll st (sorts all) t
   leaves_fit all (leaf (variable k n)) i w n' b f = i
   leaves_fit all (leaf (bound k d p)) i w n' b f =
       let at = sorts_get all d w in

@@ -15,7 +15,7 @@ use Rattle.relation_terms.specs.Heads.{Leaf, variable, bound, placeholder, atom,
 use Rattle.relation_terms.specs.Trees.{Tree, leaf, node, bind, nil, cons}
 use Rattle.relation_semantics.specs.Relation.{IsValueAtom}
 use Rattle.relation_semantics.specs.Stores.{Store, IsMade, IsTermIn}
-use Rattle.relation_semantics.specs.Bound.{BindByLists}
+use Rattle.relation_semantics.specs.Bound.{IsWellBound}
 use Rattle.may_relate.specs.declared.unfit.Unfit.{Unfit}
 use Rattle.may_relate.specs.declared.unfit.Unfit.TheVariants.{TyVariable, IntVariable, FloatVariable, ConstVariable}
 use Rattle.may_relate.specs.declared.unfit.Unfit.TheVariants.{RegionVariable, LaterUniverse, StandIn}
@@ -24,7 +24,7 @@ use Rattle.may_relate.specs.Around.{sort_at, IsUnbound}
 -- A term may be related: its variables are the context's, nothing in it escapes its binders or is of a later universe,
 -- no stand-in is in it, and each binder binds what stands in its body as what its list says it is.
 abbrev pub MayBeRelated : Store → Tree → Type 0
-MayBeRelated st t = IsTermIn st t × BindByLists t
+MayBeRelated st t = IsTermIn st t × IsWellBound t
 
 -- A leaf may stand under binders of these sorts.
 abbrev pub Fits : Store → List (List Sort) → Leaf → Type 0

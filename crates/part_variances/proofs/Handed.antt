@@ -40,7 +40,7 @@ use Rattle.relation_semantics.specs.Settings.{Settings}
 use Rattle.relation_semantics.specs.Errors.{ErrorOf, ErrorByForms, of_parts, of_inputs, of_outputs, IsHandedOn, IsPlaced, NamesNoPlace}
 use Rattle.relation_semantics.specs.Errors.{sorts_at, argument_sorts_at, mutability_at, argument_mutability_at, AreOfOneForm}
 use Rattle.relation_semantics.specs.Errors.{over_parts, over_aliases, one_leaf, parameters}
-use Rattle.relation_semantics.specs.Parts.{own_parts, head_of, IsByParts}
+use Rattle.relation_semantics.specs.Parts.{direct_parts, head_of, IsByParts}
 use Rattle.relation_semantics.proofs.Standing.{stands_term}
 use Rattle.part_variances.proofs.Patterns.{no_argument, var_argument, bound_argument}
 use Rattle.part_variances.proofs.PartPlaces.{two_shape}
@@ -362,23 +362,23 @@ module _ {Key Id Name : Type 0} (m : Meaning Key Id Name) (set : Settings) (c : 
     placed_error k l a b i j h ts us e d o f g da db n lt many named is z = absurd o
 
     module _ (k l : Sort) (a b : Tree) (i : ℕ) (f : IsTerm k a) (g : IsTerm l b) (o : IsByParts a)
-        (one : AreOfOneForm a b) (lx : i < count (own_parts a)) (x y : Tree) (ex : x ≡ nth i (own_parts a))
-        (ey : y ≡ nth i (own_parts b)) (many : HaveAsManyInputs a b i) where
+        (one : AreOfOneForm a b) (lx : i < count (direct_parts a)) (x y : Tree) (ex : x ≡ nth i (direct_parts a))
+        (ey : y ≡ nth i (direct_parts b)) (many : HaveAsManyInputs a b i) where
       none : {x : Leaf} → a ≡ leaf x → ⊥
-      none d = let z : count (own_parts a) ≡ 0 = ap (λ z. count (own_parts z)) d in omega (arith, z, lx)
+      none d = let z : count (direct_parts a) ≡ 0 = ap (λ z. count (direct_parts z)) d in omega (arith, z, lx)
 
       at_parts : (e : TypeError Key Id Name) (h : Head) (ts us : Tree) → a ≡ node h ts → b ≡ node h us →
           ErrorOf m set c st (part_at c (head_of a) i v) e x y →
           ErrorOf m set c st (part_at c h i v) e (nth i ts) (nth i us)
       at_parts e h ts us d w z =
-          subst₂ (ErrorOf m set c st (part_at c h i v) e) (ex ∙ ap (λ z. nth i (own_parts z)) d)
-          (ey ∙ ap (λ z. nth i (own_parts z)) w)
+          subst₂ (ErrorOf m set c st (part_at c h i v) e) (ex ∙ ap (λ z. nth i (direct_parts z)) d)
+          (ey ∙ ap (λ z. nth i (direct_parts z)) w)
           (subst (λ z. ErrorOf m set c st (part_at c (head_of z) i v) e x y) d z)
 
       hand_on : (e : TypeError Key Id Name) → ((h : Head) (ts us : Tree) → a ≡ node h ts →
           IsHandedOn e h i (nth i ts) (nth i us)) → ErrorOf m set c st (part_at c (head_of a) i v) e x y →
           AreOfOneForm a b → ErrorByForms m set c st v e a b
-      hand_on e n z (over_parts {h} {ts} {us} d w q) = of_parts i d w q (subst (λ z. i < count (own_parts z)) d lx)
+      hand_on e n z (over_parts {h} {ts} {us} d w q) = of_parts i d w q (subst (λ z. i < count (direct_parts z)) d lx)
           (n h ts us d) (at_parts e h ts us d w z)
       hand_on e n z (over_aliases d w q) = absurd (subst IsByParts d o)
       hand_on e n z (one_leaf d w) = absurd (none d)
@@ -387,7 +387,7 @@ module _ {Key Id Name : Type 0} (m : Meaning Key Id Name) (set : Settings) (c : 
       place : (j : ℕ) (e d : TypeError Key Id Name) → named_place a i ≡ Some j → IsPlaced j e d →
           ErrorOf m set c st (part_at c (head_of a) i v) e x y → AreOfOneForm a b → ErrorByForms m set c st v d a b
       place j e d n is z (over_parts {h} {ts} {us} p w q) = placed_error k l a b i j h ts us e d (subst IsByParts p o)
-          (subst (IsTerm k) p f) (subst (IsTerm l) w g) p w q (subst (λ z. i < count (own_parts z)) p lx)
+          (subst (IsTerm k) p f) (subst (IsTerm l) w g) p w q (subst (λ z. i < count (direct_parts z)) p lx)
           (subst₂ (λ t u. HaveAsManyInputs t u i) p w many) (subst (λ t. named_place t i ≡ Some j) p n) is
           (at_parts e h ts us p w z)
       place j e d n is z (over_aliases p w q) = absurd (subst IsByParts p o)

@@ -24,7 +24,7 @@ use Rattle.relation_terms.specs.declared.predicate.existential.ExistentialPredic
 use Rattle.relation_semantics.specs.Relation.{Items, mode, part_at}
 use Rattle.relation_terms.proofs.Members.{type_term, const_term, pattern_term, region_term, term_admits}
 use Rattle.relation_semantics.specs.Errors.{AreOfOneForm}
-use Rattle.relation_semantics.specs.Parts.{own_parts, head_of, IsByParts, IsRelatedPart, IsArgPart, ArePaired}
+use Rattle.relation_semantics.specs.Parts.{direct_parts, head_of, IsByParts, IsRelatedPart, IsArgPart, ArePaired}
 use Rattle.part_variances.proofs.Patterns.{term_alike, term_part_at, IsFormSort}
 
 pub only : (k j : Sort) → IsFormSort k → Admits k j → j ≡ k
@@ -165,8 +165,8 @@ head_place (existential_trait d) ts i o f l =
 head_place (existential_projection d) ts i o f l = term_args_place ts i f l
 head_place h ts i o f l = absurd o
 
-term_place : (s : Sort) (t : Tree) (i : ℕ) → IsTerm s t → IsByParts t → i < count (own_parts t) →
-    StandsAt (place_sort (head_of t) i) (tree_sort (nth i (own_parts t)))
+term_place : (s : Sort) (t : Tree) (i : ℕ) → IsTerm s t → IsByParts t → i < count (direct_parts t) →
+    StandsAt (place_sort (head_of t) i) (tree_sort (nth i (direct_parts t)))
 term_place s (node h ts) i f o l = head_place h ts i o f.1 l
 term_place s (leaf x) i f o l = absurd (omega (arith, l))
 term_place s t i f o l = absurd o
@@ -191,7 +191,7 @@ covariant_place c t i o e n = absurd o
 
 module _ {Key Id Name : Type 0} (m : Meaning Key Id Name) (c : Items) where
   pub existential_place : (p : ExistentialPredicate Key Id) (i : ℕ) (v : Variance) →
-      i < count (own_parts (existential_tree m p)) → xform v Invariant ≡ part_at c (head_of (existential_tree m p)) i v
+      i < count (direct_parts (existential_tree m p)) → xform v Invariant ≡ part_at c (head_of (existential_tree m p)) i v
   existential_place (Trait p) i v l = refl
   existential_place (Projection p) i v l = refl
   existential_place (AutoTrait d) i v l = absurd (omega (arith, l))
@@ -269,7 +269,7 @@ place_no_value (existential_trait d) ts i o = tt
 place_no_value (existential_projection d) ts i o = tt
 place_no_value h ts i o = absurd o
 
-tree_no_value : (t : Tree) (i : ℕ) → IsByParts t → i < count (own_parts t) → IsNoValue (place_sort (head_of t) i)
+tree_no_value : (t : Tree) (i : ℕ) → IsByParts t → i < count (direct_parts t) → IsNoValue (place_sort (head_of t) i)
 tree_no_value (node h ts) i o l = place_no_value h ts i o
 tree_no_value (leaf x) i o l = absurd (omega (arith, l))
 tree_no_value t i o l = absurd o
@@ -301,7 +301,7 @@ module _ {Key Id : Type 0} where
 -- The part at a place of such a term is one that is related, and makes a pair with the part at that place of another
 -- term of one form.
 module _ {Key Id : Type 0} (s k : Sort) (a b : Tree) (i : ℕ) (f : IsTerm s a) (g : IsTerm k b) (o : IsByParts a)
-    (l : i < count (own_parts a)) (x : TermPart Key Id) (is : tree_sort (nth i (own_parts a)) ≡ part_sort x) where
+    (l : i < count (direct_parts a)) (x : TermPart Key Id) (is : tree_sort (nth i (direct_parts a)) ≡ part_sort x) where
   stands : StandsAt (place_sort (head_of a) i) (part_sort x)
   stands = subst (StandsAt (place_sort (head_of a) i)) is (term_place s a i f o l)
 
@@ -309,7 +309,7 @@ module _ {Key Id : Type 0} (s k : Sort) (a b : Tree) (i : ℕ) (f : IsTerm s a) 
   related_part = related_in x
       (stands_no_value (place_sort (head_of a) i) (part_sort x) (tree_no_value a i o l) stands)
 
-  pub paired_part : (y : TermPart Key Id) → AreOfOneForm a b → head_of a ≡ head_of b → i < count (own_parts b) →
-      tree_sort (nth i (own_parts b)) ≡ part_sort y → ArePaired x y
+  pub paired_part : (y : TermPart Key Id) → AreOfOneForm a b → head_of a ≡ head_of b → i < count (direct_parts b) →
+      tree_sort (nth i (direct_parts b)) ≡ part_sort y → ArePaired x y
   paired_part y one e m is_y = pair_in (place_sort (head_of a) i) x y stands
       (subst₂ (λ h j. StandsAt (place_sort h i) j) (sym e) is_y (term_place k b i g (term_alike a b one o) m))

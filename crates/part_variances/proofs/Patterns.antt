@@ -36,11 +36,11 @@ use Rattle.relation_terms.proofs.Sorted.{signature_sorted, existential_sorted}
 use Rattle.relation_semantics.specs.Relation.{Items, mode, part_at, plain_atom, IsRelatedHead}
 use Rattle.relation_semantics.specs.FirstOrder.{IsFirstOrder}
 use Rattle.relation_semantics.specs.Errors.{AreOfOneForm, over_parts, over_aliases, one_leaf, parameters}
-use Rattle.relation_semantics.specs.Parts.{own_parts, head_of, IsByParts, IsComparedPart}
+use Rattle.relation_semantics.specs.Parts.{direct_parts, head_of, IsByParts, IsComparedPart}
 use Rattle.relation_semantics.specs.Making.{form_over}
 
 -- No such term is a binder: all its parts are looked at.
-pub term_parts_as : (t : Tree) → IsByParts t → list_of_parts t ≡ own_parts t
+pub term_parts_as : (t : Tree) → IsByParts t → list_of_parts t ≡ direct_parts t
 term_parts_as (node h ts) o = refl
 term_parts_as (leaf l) o = refl
 term_parts_as t o = absurd o

@@ -4,7 +4,7 @@ ghost use Rattle.relation_terms.specs.Trees.{known, count};
 ghost use Rattle.term_enums.specs.declared.Variance.TheVariants.{Bivariant};
 ghost use Rattle.term_enums.specs.Variances.{xform};
 ghost use Rattle.relation_terms.specs.Parts.{part_tree};
-ghost use Rattle.relation_semantics.specs.Parts.{IsByParts, own_parts, head_of};
+ghost use Rattle.relation_semantics.specs.Parts.{IsByParts, direct_parts, head_of};
 ghost use Rattle.relation_steps.specs.Arguments.{args_head};
 ghost use Rattle.relation_steps.specs.Keyed.{part_in, const_part_in, declared_in};
 
@@ -88,7 +88,7 @@ pub fn term_variance_at<I: Interner, R: TypeRelation<I>>(
 ) -> Variance
     requires known { IsTrue (known (part_tree (R.state _r.now).meaning term.now)) }
     requires form { IsByParts (part_tree (R.state _r.now).meaning term.now) }
-    requires in_bounds { i < count (own_parts (part_tree (R.state _r.now).meaning term.now)) }
+    requires in_bounds { i < count (direct_parts (part_tree (R.state _r.now).meaning term.now)) }
     ensures { let q = R.state _r.now in
         xform q.ambient result ≡ part_in q (head_of (part_tree q.meaning term.now)) i }
 {

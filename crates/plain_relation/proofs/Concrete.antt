@@ -12,7 +12,7 @@ use Rattle.relation_terms.specs.Trees.{Tree, leaf, node, bind, nil, cons, known,
 use Rattle.relation_terms.specs.Meaning.{Meaning, Extends, signature_tree, under}
 use Rattle.relation_terms.proofs.Stays.{stays_signature}
 use Rattle.relation_semantics.specs.Relation.{IsValueAtom, StaysWithin}
-use Rattle.relation_semantics.specs.Bound.{AreBoundAs, BindByLists}
+use Rattle.relation_semantics.specs.Bound.{AreBoundAs, IsWellBound}
 use Rattle.relation_semantics.specs.Stores.{Store, IsTermIn, InContext, IsMadeLeaf, IsNamable}
 use Rattle.relation_semantics.specs.Lawful.{Asked}
 use Rattle.plain_relation.specs.Plain.{IsUnbound, plain_store, plain_state, plain_manner}
@@ -31,7 +31,7 @@ concrete_bound ks d (bind ls t) h = concrete_bound ks (suc d) t h
 concrete_bound ks d nil h = tt
 concrete_bound ks d (cons t ts) h = (concrete_bound ks d t h.0, concrete_bound ks d ts h.1)
 
-concrete_lists : (t : Tree) → IsConcrete t → BindByLists t
+concrete_lists : (t : Tree) → IsConcrete t → IsWellBound t
 concrete_lists (leaf l) h = tt
 concrete_lists (node a ts) h = concrete_lists ts h
 concrete_lists (bind ks t) h = (concrete_bound ks 0 t h, concrete_lists t h)

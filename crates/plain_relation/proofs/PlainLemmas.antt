@@ -16,7 +16,7 @@ use Rattle.relation_folds.specs.declared.error.RelateFault.{RelateFault}
 use Rattle.relation_folds.specs.declared.error.RelateFault.TheVariants.{Memory}
 use Rattle.relation_semantics.specs.Relation.{Interpretation, Rel, RegionRule, regions, sort_of, at}
 use Rattle.relation_semantics.specs.Stores.{IsTermIn, IsRegionIn, ConstraintIn, ConstraintHolds, Satisfies}
-use Rattle.relation_semantics.specs.Errors.{IsLeftToGoal}
+use Rattle.relation_semantics.specs.Errors.{IsDeferred}
 use Rattle.relation_semantics.specs.Goals.{GoalInContext, Holds, MakesOneTree}
 use Rattle.relation_semantics.specs.Steps.{AddsConstraint}
 use Rattle.relation_semantics.specs.Outcomes.{Outcome, Exact}
@@ -50,7 +50,7 @@ use Rattle.std.proofs.Common.{ap, ap₂, ◌∷◌}
 use Rattle.std.proofs.lemmas.List.Elements.{All-head, All-tail}
 
 -- Nothing is left to a goal.
-pub none_left : (a b : Tree) → IsLeftToGoal plain_settings a b → ⊥
+pub none_left : (a b : Tree) → IsDeferred plain_settings a b → ⊥
 none_left a b (inl (l, o)) = let e = l.1 in cc
 none_left a b (inr (l, o)) = let e = l.0 in cc
 

@@ -9,7 +9,7 @@ use Rattle.term_enums.specs.declared.Variance.TheVariants.{Bivariant}
 use Rattle.relation_terms.specs.Flags.{has_non_region_infer}
 use Rattle.relation_terms.specs.Heads.{region_sort, type_var, int_var, float_var, const_var, region_var, Leaf, variable, bound, placeholder, atom, unknown, adt, fn_def}
 use Rattle.relation_terms.specs.Trees.{Tree, leaf, node, bind, nil, cons, nth, apply, known, IsTerm, count}
-use Rattle.relation_semantics.specs.Kits.{Kit, IsBuiltOf, BindsBuiltOf}
+use Rattle.relation_semantics.specs.Alphabets.{Alphabet, IsBuiltOf, BindsBuiltOf}
 use Rattle.relation_semantics.specs.Relation.{Items}
 use Rattle.relation_steps.specs.Arguments.{AreOverItem, adts, functions}
 use Rattle.relation_combining.specs.Bivariance.{is_left_open, IsOpenAt, HasOpenArgument, TellsOpen, TellsEitherOpen, RegistersWellFormed, AsksWellFormed, AsksOfOver}
@@ -76,7 +76,7 @@ bivariant_parts c st d a b ts us over h = go over
     go (functions p q) = (subst (HasBivariantPart c) (sym p) (place h), subst (HasBivariantPart c) (sym q) (place h))
 
 -- Where a variable but of a region stands in what a term comes to, what that is built of has such.
-open_varies : (k : Kit) (t : Tree) → IsBuiltOf k t → IsTrue (has_non_region_infer t) → IsTrue k.variables
+open_varies : (k : Alphabet) (t : Tree) → IsBuiltOf k t → IsTrue (has_non_region_infer t) → IsTrue k.variables
 open_varies k (leaf (variable region_var n)) h o = absurd (false≢true o)
 open_varies k (leaf (variable type_var n)) h o = h (λ e. cc)
 open_varies k (leaf (variable int_var n)) h o = h (λ e. cc)
@@ -92,15 +92,15 @@ open_varies k nil h o = absurd (false≢true o)
 open_varies k (cons t u) h o = ⊎_elim (λ e. open_varies k t h.0 e) (λ e. open_varies k u h.1 e)
     (or_cases (has_non_region_infer t) (has_non_region_infer u) o)
 
-open_argument : (k : Kit) (c : Items) (st : Store) (d : ℕ) (ts : Tree) → BindsBuiltOf k st → IsBuiltOf k ts →
+open_argument : (k : Alphabet) (c : Items) (st : Store) (d : ℕ) (ts : Tree) → BindsBuiltOf k st → IsBuiltOf k ts →
     HasOpenArgument c st d ts → IsTrue k.variables
 open_argument k c st d ts all h o =
     open_varies k (apply (resolved st) (nth o.0 ts)) (resolved_built k st all (nth o.0 ts) (built_nth k o.0 ts h)) o.1.2
 
-pub open_in_kit : (k : Kit) (c : Items) (st : Store) (d : ℕ) (a b ts us : Tree) → AreOverItem d a b ts us →
+pub open_in_alphabet : (k : Alphabet) (c : Items) (st : Store) (d : ℕ) (a b ts us : Tree) → AreOverItem d a b ts us →
     HasOpenArgument c st d ts ⊎ HasOpenArgument c st d us → BindsBuiltOf k st → IsBuiltOf k a → IsBuiltOf k b →
     IsTrue k.variables
-open_in_kit k c st d a b ts us over o all ha hb = go over o
+open_in_alphabet k c st d a b ts us over o all ha hb = go over o
   where
     go : AreOverItem d a b ts us → HasOpenArgument c st d ts ⊎ HasOpenArgument c st d us → IsTrue k.variables
     go (adts p q) (inl o) = open_argument k c st d ts all (subst (IsBuiltOf k) p ha).1 o

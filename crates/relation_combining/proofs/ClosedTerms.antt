@@ -9,8 +9,8 @@ use Rattle.relation_terms.specs.Trees.{Tree, leaf, node, bind, nil, cons}
 use Rattle.relation_semantics.specs.Asking.{IsPlainTerm, HasNoAlias, ArePlain, without_aliases, without_binders}
 use Rattle.relation_semantics.specs.Goals.{Goal, Registered, IsRegistered, of_variables, of_type, of_alias}
 use Rattle.relation_semantics.specs.Goals.{of_too_much}
-use Rattle.relation_semantics.specs.Kits.{Kit, IsBuiltOf, BindsBuiltOf, IsGoalOf, IsPredicateOf}
-use Rattle.relation_semantics.specs.Kits.{NeedsVariable}
+use Rattle.relation_semantics.specs.Alphabets.{Alphabet, IsBuiltOf, BindsBuiltOf, IsGoalOf, IsPredicateOf}
+use Rattle.relation_semantics.specs.Alphabets.{NeedsVariable}
 use Rattle.relation_semantics.specs.Relation.{Items, IsAlias, IsAliasHead}
 use Rattle.relation_semantics.specs.Settings.{Settings}
 use Rattle.relation_semantics.specs.Stores.{Store, IsSound}
@@ -19,13 +19,13 @@ use Rattle.relation_semantics.proofs.Registered.{no_aliases}
 use Rattle.relation_combining.specs.ClosedTerms.{IsClosed}
 
 -- What closed terms are built of: these forms, each atom, and binders of regions.
-abbrev pub closed_kit : (Head → Bool) → Kit
-closed_kit heads = record { heads = heads; atoms = λ x. true; binders = true; variables = false }
+abbrev pub closed_alphabet : (Head → Bool) → Alphabet
+closed_alphabet heads = record { heads = heads; atoms = λ x. true; binders = true; variables = false }
 
 abbrev pub all_heads : Head → Bool
 all_heads h = true
 
-pub closed_built : (t : Tree) → IsClosed t → IsBuiltOf (closed_kit all_heads) t
+pub closed_built : (t : Tree) → IsClosed t → IsBuiltOf (closed_alphabet all_heads) t
 closed_built (leaf (variable k n)) h = λ o. absurd (o h)
 closed_built (leaf (bound k d i)) h = tt
 closed_built (leaf (placeholder k u n)) h = tt
@@ -41,7 +41,7 @@ head_built (alias k d) o = absurd (o tt)
 head_built (unevaluated d) o = absurd (o tt)
 head_built h o = refl
 
-pub lacking_built : (t : Tree) → IsClosed t → HasNoAlias t → IsBuiltOf (closed_kit no_aliases) t
+pub lacking_built : (t : Tree) → IsClosed t → HasNoAlias t → IsBuiltOf (closed_alphabet no_aliases) t
 lacking_built (leaf (variable k n)) h o = λ i. absurd (i h)
 lacking_built (leaf (bound k d i)) h o = tt
 lacking_built (leaf (placeholder k u n)) h o = tt
@@ -52,14 +52,14 @@ lacking_built (bind ks t) h o = ((refl, inl h.0), lacking_built t h.1 o)
 lacking_built nil h o = tt
 lacking_built (cons t u) h o = (lacking_built t h.0 o.0, lacking_built u h.1 o.1)
 
-lacks_alias : (t : Tree) → IsBuiltOf (closed_kit no_aliases) t → IsAlias t → ⊥
+lacks_alias : (t : Tree) → IsBuiltOf (closed_alphabet no_aliases) t → IsAlias t → ⊥
 lacks_alias (node (alias k d) ts) h o = false≢true h.0
 lacks_alias (node (unevaluated d) ts) h o = false≢true h.0
 lacks_alias (node h ts) f o = o
 lacks_alias t h o = o
 
 -- Region variables are bound to nothing.
-pub closed_binds : (heads : Head → Bool) (st : Store) → IsSound st → BindsBuiltOf (closed_kit heads) st
+pub closed_binds : (heads : Head → Bool) (st : Store) → IsSound st → BindsBuiltOf (closed_alphabet heads) st
 closed_binds heads st sound region_var may n t e = let free = sound.regions_unbound n in absurd (cc (free, e))
 closed_binds heads st sound type_var may n t e = absurd (false≢true (may (λ d. cc)))
 closed_binds heads st sound int_var may n t e = absurd (false≢true (may (λ d. cc)))
@@ -68,21 +68,21 @@ closed_binds heads st sound const_var may n t e = absurd (false≢true (may (λ 
 
 -- Nothing that relating registers is built so.
 not_registered : {c : Items} {k : Settings} {v : Variance} {before after : Store} (p : Tree) →
-    IsPredicateOf (closed_kit no_aliases) p → IsRegistered c k v before after p → ⊥
+    IsPredicateOf (closed_alphabet no_aliases) p → IsRegistered c k v before after p → ⊥
 not_registered p s (of_variables x n m o e f g) =
-    let z = subst (IsPredicateOf (closed_kit no_aliases)) e s in false≢true (z.0 (λ d. cc))
-not_registered p s (of_type t o e i b) = let z = subst (IsPredicateOf (closed_kit no_aliases)) e s in false≢true z.0
+    let z = subst (IsPredicateOf (closed_alphabet no_aliases)) e s in false≢true (z.0 (λ d. cc))
+not_registered p s (of_type t o e i b) = let z = subst (IsPredicateOf (closed_alphabet no_aliases)) e s in false≢true z.0
 not_registered p s (of_alias d a b o e (inl q) h i j) =
-    let z = subst (IsPredicateOf (closed_kit no_aliases)) e s in lacks_alias a z.0 q
+    let z = subst (IsPredicateOf (closed_alphabet no_aliases)) e s in lacks_alias a z.0 q
 not_registered p s (of_alias d a b o e (inr q) h i j) =
-    let z = subst (IsPredicateOf (closed_kit no_aliases)) e s in lacks_alias b z.1.0 q
-not_registered p s (of_too_much o e) = let z = subst (IsPredicateOf (closed_kit no_aliases)) e s in false≢true z.1
+    let z = subst (IsPredicateOf (closed_alphabet no_aliases)) e s in lacks_alias b z.1.0 q
+not_registered p s (of_too_much o e) = let z = subst (IsPredicateOf (closed_alphabet no_aliases)) e s in false≢true z.1
 
 pub none_registered : {c : Items} {k : Settings} {v : Variance} {x : Tree} {before after : Store} (gs : List Goal) →
-    All (IsGoalOf (closed_kit no_aliases)) gs → All (Registered c k v x before after) gs → gs ≡ []
+    All (IsGoalOf (closed_alphabet no_aliases)) gs → All (Registered c k v x before after) gs → gs ≡ []
 none_registered [] asks h = refl
 none_registered {c = c} {k = k} {v = v} {x = x} {before = before} {after = after} (g ∷ gs) asks h =
-    absurd (not_registered g.predicate (All-head (IsGoalOf (closed_kit no_aliases)) g gs asks)
+    absurd (not_registered g.predicate (All-head (IsGoalOf (closed_alphabet no_aliases)) g gs asks)
     (All-head (Registered c k v x before after) g gs h).asks)
 
 -- A plain term is closed.
@@ -104,7 +104,7 @@ both_closed k a b (without_binders p q n o l) = (plain_closed a p, plain_closed 
 -- No closed terms need a variable.
 pub never_needs : (st : Store) → IsSound st → (a b : Tree) → IsClosed a → IsClosed b → NeedsVariable st a b → ⊥
 never_needs st sound a b p q n =
-    false≢true (n (closed_kit all_heads) (closed_built a p) (closed_built b q) (closed_binds all_heads st sound))
+    false≢true (n (closed_alphabet all_heads) (closed_built a p) (closed_built b q) (closed_binds all_heads st sound))
 
 pub plain_terms_never_need : (st : Store) → IsSound st → (a b : Tree) → IsPlainTerm a → IsPlainTerm b →
     NeedsVariable st a b → ⊥

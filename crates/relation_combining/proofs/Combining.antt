@@ -15,13 +15,13 @@ use Rattle.relation_combining.specs.Combining.{MeetsTys, equated, left_bound, ri
 use Rattle.relation_semantics.specs.AskedAlone.{IsNoTyVar}
 use Rattle.relation_combining.specs.Combining.{ReadsShallow, MeetsConsts, roots_equated, left_root_bound, left_root_refused, right_root_bound, right_root_refused, formed_by_parts}
 use Rattle.relation_semantics.specs.Contexts.{Context}
-use Rattle.relation_semantics.specs.ContextCalls.{BindingsBindByLists, Reads}
+use Rattle.relation_semantics.specs.ContextCalls.{BindingsAreWellBound, Reads}
 use Rattle.relation_goals.specs.Emitting.{IsOver, WithContext}
 use Rattle.relation_steps.specs.Keyed.{SteppedTys, SteppedConsts}
 use Rattle.relation_steps.specs.Terms.{AskedTerms}
 use Rattle.relation_combining.specs.NumberVars.{number_kind}
 use Rattle.relation_combining.specs.declared.number_vars.NumberVid.{NumberVid}
-use Rattle.relation_semantics.specs.Errors.{itself, HaveNoError, IsLeftToGoal}
+use Rattle.relation_semantics.specs.Errors.{itself, HaveNoError, IsDeferred}
 use Rattle.relation_semantics.specs.Generalising.{NumbersNameNothing}
 use Rattle.relation_semantics.specs.Lawful.{State, Asked, Stepped}
 use Rattle.relation_semantics.specs.Parts.{IsFormed, IsFormedConst}
@@ -69,7 +69,7 @@ module _ {Key Id Name : Type 0} where
     pub combined_tys : n ≡ m → (a b : TyKey Key) (result : Result (Step (TyKey Key)) (RelateFault Key Id Name)) →
         Asked solver_manner (standing r m was L) r.ambient (m.ty a) (m.ty b) → IsTerm type_sort (m.ty a) →
         IsTerm type_sort (m.ty b) → IsNoTyVar (m.ty a) → IsNoTyVar (m.ty b) → HaveNoError (m.ty a) (m.ty b) →
-        (IsLeftToGoal r.kept.settings (m.ty a) (m.ty b) → ⊥) → MeetsTys m was now a b result →
+        (IsDeferred r.kept.settings (m.ty a) (m.ty b) → ⊥) → MeetsTys m was now a b result →
         Stepped solver_manner IsFormed (standing r m was L) (standing r n now K) (m.ty a) (m.ty b) n.ty result
     combined_tys same a b result asked s t o p clean left (equated k i j number x y joins is) =
         subst (Stepped solver_manner IsFormed (standing r m was L) (standing r n now K) (m.ty a) (m.ty b) n.ty) (sym is)
@@ -105,12 +105,12 @@ module _ {Key Id Name : Type 0} where
         (type_formed (m.ty a) s (term_within was (m.ty a) asked.left_in) x.0 x.1.0 x.1.1)
         (type_formed (m.ty b) t (term_within was (m.ty b) asked.right_in) y.0 y.1.0 y.1.1) left))
 
-    module _ (grown : Extends m n) (numbers : NumbersNameNothing was) (all : BindingsBindByLists now) (a b : ConstKey Key)
+    module _ (grown : Extends m n) (numbers : NumbersNameNothing was) (all : BindingsAreWellBound now) (a b : ConstKey Key)
         (asked : Asked solver_manner (standing r m was L) r.ambient (m.const_ a) (m.const_ b))
         (s : IsTerm const_sort (m.const_ a)) (t : IsTerm const_sort (m.const_ b))
         (a_shallow : IsShallowConst was (m.const_ a)) (b_shallow : IsShallowConst was (m.const_ b))
         (left : IsFormedConst (m.const_ a) → IsFormedConst (m.const_ b) →
-        IsLeftToGoal r.kept.settings (m.const_ a) (m.const_ b) → ⊥) where
+        IsDeferred r.kept.settings (m.const_ a) (m.const_ b) → ⊥) where
       abbrev Steps : Tree → Tree → Result (Step (ConstKey Key)) (RelateFault Key Id Name) → Type 0
       Steps x y result =
           Stepped solver_manner IsFormedConst (standing r m was L) (standing r n now K) x y n.const_ result
@@ -169,7 +169,7 @@ module _ {Key Id Name : Type 0} where
           asked f h (left f h)))
 
   -- What two constants are read as is asked as they are.
-  pub read_asked : (r : State Key Id Name) → BindingsBindByLists r.store → (a b x y : ConstKey Key) →
+  pub read_asked : (r : State Key Id Name) → BindingsAreWellBound r.store → (a b x y : ConstKey Key) →
       AskedTerms solver_manner None (λ m. m.const_) r a b → ReadsShallow r.meaning r.store a x →
       ReadsShallow r.meaning r.store b y →
       AskedTerms solver_manner None (λ m. m.const_) r x y
@@ -215,13 +215,13 @@ is_number_kind v = is_number_kind_of (number_kind v) (is_number v)
 module _ {Key Id Name : Type 0} (r : State Key Id Name) (c d : Context Key Id Name) (o : IsOver r c)
     (decides : r.ambient ≢ Bivariant) (sound : IsSound c.store) where
   -- What is recorded after the step is later.
-  module _ (grown : Extends c.meaning d.meaning) (numbers : NumbersNameNothing c.store) (all : BindingsBindByLists d.store)
+  module _ (grown : Extends c.meaning d.meaning) (numbers : NumbersNameNothing c.store) (all : BindingsAreWellBound d.store)
       (a b : ConstKey Key) (result : Result (Step (ConstKey Key)) (RelateFault Key Id Name))
       (asked : AskedTerms solver_manner None (λ m. m.const_) r a b)
       (f : (k : ConstKey Key) → IsTrue (known ((c.meaning).const_ k)) → IsTerm const_sort ((c.meaning).const_ k))
       (a_shallow : IsShallowConst c.store ((c.meaning).const_ a)) (b_shallow : IsShallowConst c.store ((c.meaning).const_ b))
       (left : IsFormedConst ((c.meaning).const_ a) → IsFormedConst ((c.meaning).const_ b) →
-      IsLeftToGoal r.kept.settings ((c.meaning).const_ a) ((c.meaning).const_ b) → ⊥)
+      IsDeferred r.kept.settings ((c.meaning).const_ a) ((c.meaning).const_ b) → ⊥)
       (meets : MeetsConsts c.meaning d.meaning c.store d.store r.kept.settings.structurally_relate_aliases a b result) where
     asked_there : AskedTerms solver_manner None (λ m. m.const_) (standing r c.meaning c.store r.lawful) a b
     asked_there = over_it o (λ z. AskedTerms solver_manner None (λ m. m.const_) z a b) asked
@@ -241,7 +241,7 @@ module _ {Key Id Name : Type 0} (r : State Key Id Name) (c d : Context Key Id Na
       (IsTrue (known ((c.meaning).ty a)) → IsTerm type_sort ((c.meaning).ty a)) →
       (IsTrue (known ((c.meaning).ty b)) → IsTerm type_sort ((c.meaning).ty b)) → IsNoTyVar ((r.meaning).ty a) →
       IsNoTyVar ((r.meaning).ty b) → HaveNoError ((r.meaning).ty a) ((r.meaning).ty b) →
-      (IsLeftToGoal r.kept.settings ((r.meaning).ty a) ((r.meaning).ty b) → ⊥) →
+      (IsDeferred r.kept.settings ((r.meaning).ty a) ((r.meaning).ty b) → ⊥) →
       MeetsTys c.meaning c.store d.store a b result → SteppedTys solver_manner r q a b result
   types_stepped q w same a b result asked f h x y clean left meets =
       let k = over_it o (λ z. AskedTerms solver_manner None (λ m. m.ty) z a b) asked in
@@ -249,7 +249,7 @@ module _ {Key Id Name : Type 0} (r : State Key Id Name) (c d : Context Key Id Na
       (combined_tys r decides c.meaning d.meaning c.store d.store r.lawful q.lawful w.lawful sound same a b result k
       (f k.left_known) (h k.right_known) (subst (λ m. IsNoTyVar (m.ty a)) o.meaning x)
       (subst (λ m. IsNoTyVar (m.ty b)) o.meaning y) (subst (λ m. HaveNoError (m.ty a) (m.ty b)) o.meaning clean)
-      (subst (λ m. IsLeftToGoal r.kept.settings (m.ty a) (m.ty b) → ⊥) o.meaning left) meets)
+      (subst (λ m. IsDeferred r.kept.settings (m.ty a) (m.ty b) → ⊥) o.meaning left) meets)
 
 module _ {Key Id Name : Type 0} (r q : State Key Id Name) (c d : Context Key Id Name) (o : IsOver r c)
     (w : WithContext r d q) where

@@ -19,17 +19,17 @@ use Rattle.relation_semantics.specs.Parts.{IsFormed}
 use Rattle.relation_semantics.specs.Relation.{IsError, sort_of}
 use Rattle.relation_semantics.specs.Stores.{IsSound}
 use Rattle.relation_semantics.proofs.Standing.{term_context, term_sort_of}
-use Rattle.relation_combining.specs.Combining.{TaintsAlone, KeepsKept, TysCombine, left_to_goal, left_open, not_registered}
+use Rattle.relation_combining.specs.Combining.{TaintsAlone, KeepsKept, TysCombine, is_deferred, left_open, not_registered}
 use Rattle.relation_goals.specs.Emitting.{IsOver, RegistersGoal, RegistersAlias}
 use Rattle.relation_steps.specs.Keyed.{SteppedTys}
 use Rattle.relation_steps.specs.Terms.{AskedTerms}
-use Rattle.relation_combining.specs.Leaving.{LeftAs, StandsAs}
-use Rattle.relation_combining.specs.declared.leaving.Leaving.TheVariants.{ToGoal, Open}
-use Rattle.relation_combining.specs.declared.leaving.Standing.{Standing}
-use Rattle.relation_combining.specs.declared.leaving.Standing.TheVariants.{Error}
+use Rattle.relation_combining.specs.Deferring.{LeftAs, StandsAs}
+use Rattle.relation_combining.specs.declared.deferring.Deferring.TheVariants.{ToGoal, Open}
+use Rattle.relation_combining.specs.declared.deferring.Standing.{Standing}
+use Rattle.relation_combining.specs.declared.deferring.Standing.TheVariants.{Error}
 use Rattle.relation_combining.specs.Solving.{solver_manner}
-use Rattle.relation_combining.proofs.LeftToGoals.{clean}
-use Rattle.relation_combining.proofs.LeavingSteps.{tys_to_goal, tys_left_open, goal_refused, left_tainted, right_tainted}
+use Rattle.relation_combining.proofs.DeferredPairs.{clean}
+use Rattle.relation_combining.proofs.DeferringSteps.{tys_to_goal, tys_left_open, goal_refused, left_tainted, right_tainted}
 
 -- At a variance that decides, something is asked of an alias and another type.
 pub alias_is_asked : (v : Variance) (a b : Tree) → v ≢ Bivariant → (p : Tree) × (alias_at v a b ≡ Some p)
@@ -99,7 +99,7 @@ module _ {Key Id Name : Type 0} {r : State Key Id Name} {c : Context Key Id Name
             SteppedTys solver_manner r q a b (Ok (Done a)) × TysCombine r q a b (Ok (Done a))
         registered p = let g = subst (λ z. IfSome z (λ y. RegistersGoal {A = A} {F = E} r q y (Ok x))) p.1 h in (
           tys_to_goal p.0 g a b asked (sorted_there a asked.left_known) (sorted_there b asked.right_known) l.0 l.1 p.1,
-          left_to_goal p.0 clean l.0 l.1 p.1 (record { store = g.store; goals = g.goals }) refl,
+          is_deferred p.0 clean l.0 l.1 p.1 (record { store = g.store; goals = g.goals }) refl,
         )
 
     pub not_to_goal : (e : E) (res : Result (Step (TyKey Key)) (RelateFault Key Id Name)) →

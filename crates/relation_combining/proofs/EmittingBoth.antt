@@ -10,11 +10,11 @@ use Rattle.relation_steps.specs.Arguments.{AreOverItem}
 use Rattle.relation_combining.specs.Bivariance.{HasOpenArgument, RegistersWellFormed}
 use Rattle.relation_goals.specs.Emitting.{AddsGoals, KnowsPredicate, goals_in, with_goals}
 use Rattle.relation_semantics.specs.Goals.{Goal, ByDeclared, IsQuiet, goal_of, well_formed_predicate, HasBivariantPart, of_type}
-use Rattle.relation_semantics.specs.Kits.{Kit, IsBuiltOf, BindsBuiltOf, IsGoalOf}
+use Rattle.relation_semantics.specs.Alphabets.{Alphabet, IsBuiltOf, BindsBuiltOf, IsGoalOf}
 use Rattle.relation_semantics.specs.Lawful.{State, Noted, OnlyMemory, WithMeaning, RegisteredIn, RelatesByDeclared, items_in}
 use Rattle.relation_semantics.specs.Stores.{InContext, IsSound, IsTermIn}
 use Rattle.relation_combining.proofs.ClosedTerms.{plain_terms_never_need}
-use Rattle.relation_combining.proofs.Bivariance.{bivariant_parts, open_in_kit}
+use Rattle.relation_combining.proofs.Bivariance.{bivariant_parts, open_in_alphabet}
 use Rattle.relation_combining.proofs.Noting.{noted_with, noted_then, noted_added}
 use Rattle.relation_semantics.proofs.Standing.{term_context}
 use Rattle.relation_semantics.proofs.Answering.{same_environment, same_settings, items_stay}
@@ -78,10 +78,10 @@ module _ {Key Id Name : Type 0} (r q p : State Key Id Name) (d : ℕ) (a b ts us
       (goal_of p.kept.environment (well_formed_predicate b) ∷ []) tt
       (All-cons IsQuiet (goal_of p.kept.environment (well_formed_predicate b)) [] tt (All-nil IsQuiet))
 
-  both_built : (k : Kit) → IsBuiltOf k a → IsBuiltOf k b → BindsBuiltOf k r.store →
+  both_built : (k : Alphabet) → IsBuiltOf k a → IsBuiltOf k b → BindsBuiltOf k r.store →
       All (IsGoalOf k) (both p.kept.environment)
   both_built k ha hb all =
-      let has = open_in_kit k (items_in r) r.store d a b ts us over h all ha hb in
+      let has = open_in_alphabet k (items_in r) r.store d a b ts us over h all ha hb in
       All-cons (IsGoalOf k) (goal_of p.kept.environment (well_formed_predicate a))
       (goal_of p.kept.environment (well_formed_predicate b) ∷ []) (has, (ha, tt))
       (All-cons (IsGoalOf k) (goal_of p.kept.environment (well_formed_predicate b)) [] (has, (hb, tt))
@@ -98,7 +98,7 @@ module _ {Key Id Name : Type 0} (r q p : State Key Id Name) (d : ℕ) (a b ts us
         (subst (All IsQuiet) (sym listed) quiet) (λ k ha hb all. subst (All (IsGoalOf k)) (sym listed)
         (both_built k ha hb (subst (BindsBuiltOf k) (v.store ∙ w.store) all)))
         (λ bare. absurd (plain_terms_never_need r.store sound a b bare.left_plain bare.right_plain
-        (λ k ha hb all. open_in_kit k (items_in r) r.store d a b ts us over h all ha hb)))
+        (λ k ha hb all. open_in_alphabet k (items_in r) r.store d a b ts us over h all ha hb)))
         x fault))
 
     pub both_registered : (y : A) → result ≡ Ok y →

@@ -11,8 +11,8 @@ pub mod Exactly
 pub mod GeneralisingErrors
 pub mod GeneralisingInOne
 pub mod GoalPasses
-pub mod LeavingSteps
-pub mod LeftToGoals
+pub mod DeferringSteps
+pub mod DeferredPairs
 pub mod Noting
 pub mod NumberVars
 pub mod OpenedTerms

@@ -12,7 +12,7 @@ use Rattle.relation_semantics.specs.ContextCalls.{Grows}
 use Rattle.relation_goals.specs.Emitting.{AddsGoals, IsOver, WithContext, with_goals}
 use Rattle.relation_semantics.specs.Measures.{Goes}
 use Rattle.relation_semantics.specs.Goals.{Goal, IsQuiet}
-use Rattle.relation_semantics.specs.Kits.{Kit, IsBuiltOf, BindsBuiltOf, IsGoalOf}
+use Rattle.relation_semantics.specs.Alphabets.{Alphabet, IsBuiltOf, BindsBuiltOf, IsGoalOf}
 use Rattle.relation_semantics.specs.Lawful.{State, Pair, Passes, Noted, MeansPair, OnlyMemory, WithMeaning, RegisteredIn}
 use Rattle.relation_semantics.specs.Recording.{AreBare}
 use Rattle.relation_semantics.proofs.Answering.{same_settings}
@@ -77,15 +77,15 @@ module _ {Key Id Name : Type 0} where
   -- Goals that ask nothing of two terms were added, or were not: of bare ones there are none.
   pub noted_added : {X A F : Type 0} {r q : State Key Id Name} {a b : Tree} (goals : List Goal) (result : Result A F) →
       AddsGoals r q goals result → All (RegisteredIn r r.store) goals → All IsQuiet goals →
-      ((k : Kit) → IsBuiltOf k a → IsBuiltOf k b → BindsBuiltOf k r.store → All (IsGoalOf k) goals) →
+      ((k : Alphabet) → IsBuiltOf k a → IsBuiltOf k b → BindsBuiltOf k r.store → All (IsGoalOf k) goals) →
       (AreBare r.kept.settings a b → goals ≡ []) →
       (x : Result X (RelateFault Key Id Name)) → OnlyMemory x → Noted r q a b x
   noted_added {X = X} {r = r} {q = q} {a = a} {b = b} goals result h asks quiet built none x fault = go result h.goals
     where
       noted : (added : List Goal) → q.goals ≡ r.goals ++ added → All (RegisteredIn r r.store) added →
-          All IsQuiet added → ((k : Kit) → IsBuiltOf k a → IsBuiltOf k b → BindsBuiltOf k r.store →
+          All IsQuiet added → ((k : Alphabet) → IsBuiltOf k a → IsBuiltOf k b → BindsBuiltOf k r.store →
           All (IsGoalOf k) added) → (AreBare r.kept.settings a b → added ≡ []) → Noted r q a b x
-      noted added lengthens registered silent of_kit no_more = record {
+      noted added lengthens registered silent of_alphabet no_more = record {
         passes = record {
           extends = subst (λ m. Extends r.meaning m) (sym h.meaning) (stays_same r.meaning);
           goes = subst (Goes 0 r.store) (sym h.store) (goes_nowhere 0 r.store);
@@ -98,7 +98,7 @@ module _ {Key Id Name : Type 0} where
         };
         store = h.store;
         quiet = silent;
-        built = of_kit;
+        built = of_alphabet;
         none = no_more;
         remembers = λ o m. inr (subst (λ ps. Contains ps o) h.remembered m);
         fault = fault;

@@ -11,7 +11,7 @@ use Rattle.relation_semantics.specs.Stores.{Store, unbound, entry_term, counts_t
 use Rattle.relation_semantics.specs.Stores.{InContext, IsNamable, IsTermIn, IsSound, resolved, weight}
 use Rattle.relation_semantics.specs.Steps.{AreNewVariables, ArePlaceholders, LeavesBody}
 use Rattle.relation_semantics.specs.Steps.{EntersUniverse}
-use Rattle.relation_semantics.specs.Bound.{AreBoundAs, BindByLists}
+use Rattle.relation_semantics.specs.Bound.{AreBoundAs, IsWellBound}
 use Rattle.relation_semantics.specs.Binders.{MakesEach, makes_none, makes_next}
 use Rattle.relation_semantics.specs.OpeningLaws.{EnteredBodyIsIn, InstantiatedBodyIsIn, EnteredBodyBinds}
 use Rattle.relation_semantics.specs.OpeningLaws.{InstantiatedBodyBinds}
@@ -215,7 +215,7 @@ instantiated_body_is_in before after ks body opened f g h b =
 -- A tree without bound variables, and so one that has no binder either.
 record HasNoBound (t : Tree) : Type 0 where
   bound_as : (ks : List BoundKind) (d : ℕ) → AreBoundAs ks d t
-  by_lists : BindByLists t
+  by_lists : IsWellBound t
 
 inst_bound : (ts : List Tree) → EachTree HasNoBound ts → (ks : List BoundKind) (d e : ℕ) (t : Tree) → AreBoundAs ks d t →
     AreBoundAs ks d (inst ts e t)
@@ -226,9 +226,9 @@ inst_bound ts h ks d e (bind ls t) f = inst_bound ts h ks (suc d) (suc e) t f
 inst_bound ts h ks d e nil f = tt
 inst_bound ts h ks d e (cons t u) f = (inst_bound ts h ks d e t f.0, inst_bound ts h ks d e u f.1)
 
-inst_lists : (ts : List Tree) → EachTree HasNoBound ts → (e : ℕ) (t : Tree) → BindByLists t → BindByLists (inst ts e t)
+inst_lists : (ts : List Tree) → EachTree HasNoBound ts → (e : ℕ) (t : Tree) → IsWellBound t → IsWellBound (inst ts e t)
 inst_lists ts h e (leaf l) f =
-    put_leaf BindByLists ts (each_map HasNoBound BindByLists (λ t s. s.by_lists) ts h) e l tt
+    put_leaf IsWellBound ts (each_map HasNoBound IsWellBound (λ t s. s.by_lists) ts h) e l tt
 inst_lists ts h e (node a t) f = inst_lists ts h e t f
 inst_lists ts h e (bind ls t) f = (inst_bound ts h ls 0 (suc e) t f.0, inst_lists ts h (suc e) t f.1)
 inst_lists ts h e nil f = tt
@@ -255,13 +255,13 @@ pub entered_body_binds : EnteredBodyBinds
 entered_body_binds before after ks body opened f b = go f.opens
   where
     go : LeavesBody before after body opened ⊎ ((StaysWithin 0 body → ⊥) × EntersUniverse before after ks body opened) →
-        BindByLists opened
-    go (inl p) = subst BindByLists (sym p.body_is) b
+        IsWellBound opened
+    go (inl p) = subst IsWellBound (sym p.body_is) b
     go (inr p) =
         let e = p.1 in
-        subst BindByLists (sym e.body_is) (inst_lists e.placeholders
+        subst IsWellBound (sym e.body_is) (inst_lists e.placeholders
         (placeholders_unbound after.universe ks e.placeholders e.are_placeholders) 0 body b)
 
 pub instantiated_body_binds : InstantiatedBodyBinds
 instantiated_body_binds before after ks body opened f b =
-    subst BindByLists (sym f.body_is) (inst_lists f.variables (variables_unbound f.makes) 0 body b)
+    subst IsWellBound (sym f.body_is) (inst_lists f.variables (variables_unbound f.makes) 0 body b)

@@ -9,19 +9,19 @@ use Rattle.relation_terms.specs.Trees.{Tree, leaf, bind, inst, size, Leaves}
 use Rattle.relation_terms.specs.Meaning.{Meaning}
 use Rattle.relation_folds.specs.declared.error.TypeError.{TypeError}
 use Rattle.relation_semantics.specs.Relation.{Items, StaysWithin, at, second_opened, first_opened}
-use Rattle.relation_semantics.specs.Stores.{Store, unbound, entry_term, counts_term, counts_bound, tally, bound_term}
+use Rattle.relation_semantics.specs.Stores.{Store, unbound, entry_term, counts_term, counts_bound, sum_over, bound_term}
 use Rattle.relation_semantics.specs.Stores.{all_bound, IsMadeLeaf, IsInScope, InContext, IsNamable, IsTermIn}
 use Rattle.relation_semantics.specs.Stores.{IsSound, resolved, weight}
 use Rattle.relation_semantics.specs.Goals.{Goal}
 use Rattle.relation_semantics.specs.Steps.{ChangesNothing, EntersForall, LeavesBody, EntersUniverse, InstantiatesBinder}
 use Rattle.relation_semantics.specs.Steps.{ArePlaceholders}
 use Rattle.relation_semantics.specs.Outcomes.{StepsTo}
-use Rattle.relation_semantics.specs.Kits.{Kit, IsBuiltOf, StaysBuilt, BuiltFrom, MayBind}
+use Rattle.relation_semantics.specs.Alphabets.{Alphabet, IsBuiltOf, StaysBuilt, BuiltFrom, MayBind}
 use Rattle.relation_semantics.proofs.Building.{body_built, built_opened, each_writes}
 use Rattle.relation_semantics.specs.Measures.{Goes}
 use Rattle.relation_semantics.specs.Settings.{Settings}
 use Rattle.relation_semantics.specs.Errors.{IsStandIn, StandFor, ErrorOf, of_bodies}
-use Rattle.relation_semantics.specs.Bound.{AreBoundAs, BindByLists}
+use Rattle.relation_semantics.specs.Bound.{AreBoundAs, IsWellBound}
 use Rattle.relation_semantics.specs.Agreeing.{Agree}
 use Rattle.relation_semantics.proofs.Agreeing.{agree_opened}
 use Rattle.relation_semantics.specs.Generalising.{MakesUnbound}
@@ -54,7 +54,7 @@ module _ (before after : Store) (h : ChangesNothing before after) where
       same_terms k n = ap (λ es. entry_term k (get_or es n unbound)) (sym (h.same_entries k))
 
   changes_bound : all_bound after ≡ all_bound before
-  changes_bound = ap₂ (λ es ds. tally counts_bound es + tally counts_bound ds) (h.same_entries type_var)
+  changes_bound = ap₂ (λ es ds. sum_over counts_bound es + sum_over counts_bound ds) (h.same_entries type_var)
       (h.same_entries const_var)
 
   pub changes_goes : Goes 0 before after
@@ -164,13 +164,13 @@ bodies_agree set c v ks ls t u x y p q f h g = inr (agree_opened set c ks ls p.t
 -- What is shown of both bodies together, of which the first was entered and the second instantiated.
 pub record BothOpened (before after : Store) (ks ls : List BoundKind) (t u x y : Tree) : Type 0 where
   pub goes : Goes 0 before after
-  pub built : (a b : Tree) → ((k : Kit) → IsBuiltOf k a → IsBuiltOf k b → MayBind k ls) →
+  pub built : (a b : Tree) → ((k : Alphabet) → IsBuiltOf k a → IsBuiltOf k b → MayBind k ls) →
       StaysBuilt before after [] a b
   pub same_budget : after.budget ≡ before.budget
   pub entered_in : IsTermIn after x
   pub instantiated_in : IsTermIn after y
-  pub entered_by_lists : BindByLists x
-  pub instantiated_by_lists : BindByLists y
+  pub entered_by_lists : IsWellBound x
+  pub instantiated_by_lists : IsWellBound y
   pub entered_for : StandIns ks t x
   pub instantiated_for : StandIns ls u y
   pub smaller : weight after x + weight after y < weight before (bind ks t) + weight before (bind ls u)
@@ -191,7 +191,7 @@ bodies_smaller st ks ls t u = let i = binder_weight st ks t in let j = binder_we
 module _ (before middle after : Store) (g : IsSound before) (ks ls : List BoundKind) (t u x y : Tree)
     (enters : EntersForall before middle ks t x) (makes : InstantiatesEach middle after ls u y)
     (in_t : IsTermIn before (bind ks t)) (in_u : IsTermIn before (bind ls u))
-    (t_by_lists : BindByLists (bind ks t)) (u_by_lists : BindByLists (bind ls u)) where
+    (t_by_lists : IsWellBound (bind ks t)) (u_by_lists : IsWellBound (bind ls u)) where
   sound : IsSound middle
   sound = changes_sound before middle enters.changes_nothing g
 

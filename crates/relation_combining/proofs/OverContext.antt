@@ -26,17 +26,17 @@ use Rattle.relation_semantics.proofs.Agreeing.{agree_read, agree_root, agree_roo
 use Rattle.relation_semantics.specs.Stores.{Store, IsSound, Satisfies, IsMade, InContext, MayStandFor, weight}
 use Rattle.relation_semantics.specs.Goals.{Goal, GoalInContext, MakesOneTree}
 use Rattle.relation_semantics.specs.Steps.{Equates, InstantiatesNumber, StaysFull}
-use Rattle.relation_semantics.specs.Kits.{StaysBuilt, IsBuiltOf}
+use Rattle.relation_semantics.specs.Alphabets.{StaysBuilt, IsBuiltOf}
 use Rattle.relation_semantics.proofs.Building.{built_itself, builds_number, read_from}
 use Rattle.relation_semantics.specs.Outcomes.{Exact, NoEqualTerms, NoUnifier}
 use Rattle.relation_semantics.specs.Measures.{Goes}
-use Rattle.relation_semantics.specs.Errors.{ErrorOf, IsLeftToGoal, of_entries, IsReadAs, itself, by_class, by_binding}
+use Rattle.relation_semantics.specs.Errors.{ErrorOf, IsDeferred, of_entries, IsReadAs, itself, by_class, by_binding}
 use Rattle.relation_semantics.specs.FirstOrder.{IsFirstOrderStore}
-use Rattle.relation_semantics.specs.Bound.{BindByLists}
+use Rattle.relation_semantics.specs.Bound.{IsWellBound}
 use Rattle.relation_semantics.specs.Lawful.{RegisteredIn, Passes, Asked, Takes, Stepped, items_of, Kept, Pair, State}
 use Rattle.relation_goals.specs.Emitting.{IsOver, WithContext}
 use Rattle.relation_semantics.specs.Contexts.{Context}
-use Rattle.relation_semantics.specs.ContextCalls.{Grows, Stands, BindingsBindByLists}
+use Rattle.relation_semantics.specs.ContextCalls.{Grows, Stands, BindingsAreWellBound}
 use Rattle.relation_combining.specs.Solving.{solver_manner}
 use Rattle.relation_semantics.proofs.Trees.{all_leaves}
 use Rattle.relation_semantics.proofs.Going.{later_itself, goes_nowhere}
@@ -72,12 +72,12 @@ any_settings = record {
   declared_at_invariance = false;
 }
 
-pub all_taken : (v : Variance) (t : Tree) → BindByLists t → Takes (solver_manner any_settings) v t
+pub all_taken : (v : Variance) (t : Tree) → IsWellBound t → Takes (solver_manner any_settings) v t
 all_taken v t c = (all_leaves _ (λ l. tt) t, c)
 
 -- What is read of what binds by its lists does so too, where all that is bound does.
-pub read_by_lists : (st : Store) → BindingsBindByLists st → (a u : Tree) → IsReadAs st a u → BindByLists a → BindByLists u
-read_by_lists st all a u (itself e) h = subst BindByLists e h
+pub read_by_lists : (st : Store) → BindingsAreWellBound st → (a u : Tree) → IsReadAs st a u → IsWellBound a → IsWellBound u
+read_by_lists st all a u (itself e) h = subst IsWellBound e h
 read_by_lists st all a u (by_class k n m e c r) h = read_by_lists st all (leaf (variable k m)) u r tt
 read_by_lists st all a u (by_binding {u = x} k n e b r) h = read_by_lists st all x u r (all k n x b)
 
@@ -211,7 +211,7 @@ module _ {Key Id Name : Type 0} (r : State Key Id Name) where
       (f : RelateFault Key Id Name) (same : n ≡ m) (stays : now ≡ was) (l : L → K)
       (is : f ≡ Unrelated (Sorts (record { expected = p; found = q }))) (k : VarKind) (number : IsNumber k) (i : ℕ)
       (made : IsMade was k i) (p_known : IsTrue (known (m.ty p))) (q_known : IsTrue (known (m.ty q)))
-      (left : IsLeftToGoal r.kept.settings (m.ty p) (m.ty q) → ⊥) where
+      (left : IsDeferred r.kept.settings (m.ty p) (m.ty q) → ⊥) where
     pub left_apart : m.ty p ≡ leaf (variable k i) → IsTerm type_sort (m.ty q) →
         ((l : ℕ) → m.ty q ≢ leaf (variable type_var l)) → InContext was (m.ty q) →
         (MayStandFor k (m.ty q) → ⊥) → (IsError (m.ty q) → ⊥) →
@@ -245,7 +245,7 @@ module _ {Key Id Name : Type 0} (r : State Key Id Name) where
       {X : Type 0} (F : Tree → Type 0) (a b : Tree) (tree : X → Tree) (t u : X) → IsSound was →
       IsReadAs was a (tree t) → IsReadAs was b (tree u) →
       Asked solver_manner (standing r m was L) r.ambient (tree t) (tree u) → F (tree t) → F (tree u) →
-      (IsLeftToGoal r.kept.settings (tree t) (tree u) → ⊥) →
+      (IsDeferred r.kept.settings (tree t) (tree u) → ⊥) →
       Stepped solver_manner F (standing r m was L) (standing r m was K) a b tree (Ok (Parts t u))
   unfolding over_passes
   parts_step m was L K l F a b tree t u g p q k f h left = record {

@@ -20,7 +20,7 @@ use Rattle.relation_semantics.proofs.ReadAs.{read_value, read_later, read_weight
 use Rattle.relation_semantics.proofs.Agreeing.{agree_read}
 use Rattle.relation_semantics.proofs.Going.{later_through, goes_within}
 use Rattle.relation_semantics.proofs.Full.{read_plain}
-use Rattle.relation_semantics.specs.Kits.{BuiltFrom}
+use Rattle.relation_semantics.specs.Alphabets.{BuiltFrom}
 use Rattle.relation_semantics.proofs.Building.{built_read}
 use Rattle.relation_semantics.proofs.Standing.{made_of_term}
 use Rattle.relation_semantics.specs.Resolving.{IsShallowConst, const_root, no_variable}

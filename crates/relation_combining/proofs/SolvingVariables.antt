@@ -20,7 +20,7 @@ use Rattle.relation_semantics.specs.Stores.{Store, unbound, entry_of, entry_term
 use Rattle.relation_semantics.specs.Stores.{InContext, MayStandFor, universe_of, all_bound, resolved, weight}
 use Rattle.relation_semantics.specs.Headline.{IsFirstOrderPair}
 use Rattle.relation_semantics.specs.Steps.{IsLater, Instantiates, RefusesToInstantiate, InstantiatesNone, StaysFull}
-use Rattle.relation_semantics.specs.Kits.{Kit, IsBuiltOf, BindsBuiltOf, IsPredicateOf, IsGoalOf, Builds, StaysBuilt}
+use Rattle.relation_semantics.specs.Alphabets.{Alphabet, IsBuiltOf, BindsBuiltOf, IsPredicateOf, IsGoalOf, Builds, StaysBuilt}
 use Rattle.relation_semantics.proofs.AliasOutcomes.{bound_left, bound_right}
 use Rattle.relation_semantics.proofs.Building.{term_built, builds_instantiated, builds_noting, built_same, built_unbound}
 use Rattle.relation_semantics.proofs.Passing.{passes_then}
@@ -36,11 +36,11 @@ use Rattle.relation_semantics.specs.Parts.{IsFormed}
 use Rattle.relation_semantics.specs.FirstOrder.{IsFirstOrder, IsFirstOrderStore}
 use Rattle.relation_semantics.specs.Generalising.{Obstacle, cycle, beyond, InstantiatesBy, RefusesByObstacle, MakesUnbound}
 use Rattle.relation_semantics.specs.Generalising.{NumbersNameNothing}
-use Rattle.relation_semantics.specs.Bound.{BindByLists}
+use Rattle.relation_semantics.specs.Bound.{IsWellBound}
 use Rattle.relation_semantics.specs.Resolving.{IsShallow, root as shallow_root, stays_bound, formed, IsShallowConst, const_root, no_variable}
 use Rattle.relation_semantics.specs.Lawful.{Passes, Asked, MayAnswer, Stepped, Leads, LeadsAgain, items_of, State}
 use Rattle.relation_semantics.specs.Contexts.{Context}
-use Rattle.relation_semantics.specs.ContextCalls.{Instantiated, ObstacleError, BindingsBindByLists}
+use Rattle.relation_semantics.specs.ContextCalls.{Instantiated, ObstacleError, BindingsAreWellBound}
 use Rattle.relation_combining.specs.Solving.{solver_manner}
 use Rattle.relation_goals.specs.Emitting.{RegistersGoal}
 use Rattle.relation_combining.proofs.GoalPasses.{goal_passes, no_goal_passes}
@@ -178,8 +178,8 @@ module _ {Key Id Name : Type 0} (r0 : State Key Id Name) (L K : Type 0) (lawful 
 
   -- A variable was bound to what a term comes to.
   module _ (k : VarKind) (counted : IsTypeOrConst k) (c d : Context Key Id Name) (grown : Extends c.meaning d.meaning)
-      (before : IsSound c.store) (numbers : NumbersNameNothing c.store) (all : BindingsBindByLists d.store) (target : ℕ) (t u : Tree)
-      (by_lists : BindByLists t) (t_in : IsTermIn c.store t) (t_known : IsTrue (known t)) (stands : MayStandFor k t)
+      (before : IsSound c.store) (numbers : NumbersNameNothing c.store) (all : BindingsAreWellBound d.store) (target : ℕ) (t u : Tree)
+      (by_lists : IsWellBound t) (t_in : IsTermIn c.store t) (t_known : IsTrue (known t)) (stands : MayStandFor k t)
       (x : Variance) (seen : r0.ambient ≡ Invariant → x ≡ Invariant) (u_known : IsTrue (known u))
       (f : InstantiatesBy al (items_of c.meaning) c.store d.store x k target t u) where
     abbrev v : Variance
@@ -218,7 +218,7 @@ module _ {Key Id Name : Type 0} (r0 : State Key Id Name) (L K : Type 0) (lawful 
     u_in : IsTermIn now u
     u_in = steps.term_in
 
-    u_by_lists : BindByLists u
+    u_by_lists : IsWellBound u
     u_by_lists = all k target u steps.now_bound
 
     later : (z : Tree) → IsTermIn was z → IsTermIn now z
@@ -243,7 +243,7 @@ module _ {Key Id Name : Type 0} (r0 : State Key Id Name) (L K : Type 0) (lawful 
     q = standing r0 d.meaning now K
 
     asked_now : (w : Variance) (a b : Tree) → IsTrue (known a) → IsTrue (known b) → IsTermIn now a → IsTermIn now b →
-        BindByLists a → BindByLists b → Asked solver_manner q w a b
+        IsWellBound a → IsWellBound b → Asked solver_manner q w a b
     asked_now w a b k l h i c d = record {
       left_known = k;
       right_known = l;
@@ -459,8 +459,8 @@ module _ {Key Id Name : Type 0} (r0 : State Key Id Name) (L K : Type 0) (lawful 
 
   -- A type variable was bound to another one in the place of an alias.
   module _ (c d : Context Key Id Name) (grown : Extends c.meaning d.meaning) (before : IsSound c.store)
-      (numbers : NumbersNameNothing c.store) (all : BindingsBindByLists d.store) (target m : ℕ) (t u : Tree)
-      (by_lists : BindByLists t) (t_in : IsTermIn c.store t) (t_known : IsTrue (known t)) (stands : IsTerm type_sort t)
+      (numbers : NumbersNameNothing c.store) (all : BindingsAreWellBound d.store) (target m : ℕ) (t u : Tree)
+      (by_lists : IsWellBound t) (t_in : IsTermIn c.store t) (t_known : IsTrue (known t)) (stands : IsTerm type_sort t)
       (x : Variance) (seen : r0.ambient ≡ Invariant → x ≡ Invariant) (u_known : IsTrue (known u))
       (f : InstantiatesBy al (items_of c.meaning) c.store d.store x type_var target t u)
       (is : u ≡ leaf (variable type_var m)) (no_sides : al ≡ No) (left : IsAlias t) (p : State Key Id Name) (pred : Tree) where
@@ -507,7 +507,7 @@ module _ {Key Id Name : Type 0} (r0 : State Key Id Name) (L K : Type 0) (lawful 
     not_first : IsFirstOrder t → ⊥
     not_first = alias_not_first t left
 
-    built_then : (k : Kit) → IsTrue k.variables → IsBuiltOf k t → BindsBuiltOf k c.store → IsPredicateOf k pred →
+    built_then : (k : Alphabet) → IsTrue k.variables → IsBuiltOf k t → BindsBuiltOf k c.store → IsPredicateOf k pred →
         p.store ≡ d.store → Builds k c.store p.store (the_goal ∷ [])
     built_then k may h binds asks same = builds_noting k [] (the_goal ∷ []) same (builds_instantiated is_bound k may binds h)
         (All-cons (IsGoalOf k) the_goal [] asks (All-nil (IsGoalOf k)))
@@ -560,7 +560,7 @@ module _ {Key Id Name : Type 0} (r0 : State Key Id Name) (L K : Type 0) (lawful 
 
     -- Or it was not, since a growth was refused.
     module _ {A E : Type 0} {e : E} (h : RegistersGoal {A = A} qa p pred (Err e)) {X : Type 0} (F : Tree → Type 0) (tree : X → Tree) where
-      unasked_built : (k : Kit) → IsTrue k.variables → IsBuiltOf k t → BindsBuiltOf k c.store →
+      unasked_built : (k : Alphabet) → IsTrue k.variables → IsBuiltOf k t → BindsBuiltOf k c.store →
           Builds k c.store p.store []
       unasked_built k may i binds =
           subst (λ st. Builds k c.store st []) (sym h.store) (builds_instantiated is_bound k may binds i)
@@ -615,7 +615,7 @@ module _ {Key Id Name : Type 0} (r0 : State Key Id Name) (L K : Type 0) (lawful 
     full Budget h = full_same h.1
     full Memory h = full_could (instantiates_one c.store k target counted unresolved.0 unresolved.1 h.0)
 
-    none_built : (a b : Tree) → ((j : Kit) → IsBuiltOf j a → IsBuiltOf j b → IsTrue j.variables) → (f : RelateFault Key Id Name) →
+    none_built : (a b : Tree) → ((j : Alphabet) → IsBuiltOf j a → IsBuiltOf j b → IsTrue j.variables) → (f : RelateFault Key Id Name) →
         Instantiated c d al x k target t means cyclic (Err f) → StaysBuilt c.store d.store [] a b
     none_built a b may (Unrelated g) h = built_unbound a b (h.1.1).makes may
     none_built a b may Budget h = built_same a b h.1

@@ -18,11 +18,11 @@ use Rattle.relation_semantics.specs.Contexts.{Context}
 use Rattle.relation_semantics.specs.ContextCalls.{Instantiated, Reads}
 use Rattle.relation_semantics.specs.AliasGoals.{alias_at}
 use Rattle.relation_semantics.specs.AskedAlone.{IsTyVar, IsNoTyVar}
-use Rattle.relation_semantics.specs.Errors.{HaveNoError, IsOpaqueBeside, IsLeftToGoal}
+use Rattle.relation_semantics.specs.Errors.{HaveNoError, IsOpaqueBeside, IsDeferred}
 use Rattle.relation_semantics.specs.Goals.{goal_of, alias_relate_predicate, ambiguous_predicate}
 use Rattle.relation_semantics.specs.Lawful.{State}
 use Rattle.relation_semantics.specs.Relation.{IsError, IsAlias}
-use Rattle.relation_semantics.specs.Settings.{LeavesAliases, LeavesOpaque}
+use Rattle.relation_semantics.specs.Settings.{DefersAliases, LeavesOpaque}
 use Rattle.relation_combining.specs.NumberVars.{IsNoNumberVar}
 use Rattle.relation_semantics.specs.Parts.{IsFormedConst}
 use Rattle.relation_semantics.specs.Resolving.{IsShallowConst}
@@ -162,7 +162,7 @@ module _ {Key Id Name : Type 0} (r q : State Key Id Name) where
     left_error : IsError ((r.meaning).ty a) → TaintsAlone → result ≡ Ok (Done a) → TysCombine a b result
     right_error : (IsError ((r.meaning).ty a) → ⊥) → IsError ((r.meaning).ty b) → TaintsAlone → result ≡ Ok (Done b) →
         TysCombine a b result
-    left_to_goal : (p : Tree) → HaveNoError ((r.meaning).ty a) ((r.meaning).ty b) → LeavesAliases r.kept.settings →
+    is_deferred : (p : Tree) → HaveNoError ((r.meaning).ty a) ((r.meaning).ty b) → DefersAliases r.kept.settings →
         IsAlias ((r.meaning).ty a) ⊎ IsAlias ((r.meaning).ty b) →
         alias_at r.ambient ((r.meaning).ty a) ((r.meaning).ty b) ≡ Some p → RegistersOne p → result ≡ Ok (Done a) →
         TysCombine a b result
@@ -170,10 +170,10 @@ module _ {Key Id Name : Type 0} (r q : State Key Id Name) where
         IsOpaqueBeside ((r.meaning).ty a) ((r.meaning).ty b) ⊎ IsOpaqueBeside ((r.meaning).ty b) ((r.meaning).ty a) →
         RegistersOne ambiguous_predicate → result ≡ Ok (Done a) → TysCombine a b result
     not_registered : HaveNoError ((r.meaning).ty a) ((r.meaning).ty b) →
-        IsLeftToGoal r.kept.settings ((r.meaning).ty a) ((r.meaning).ty b) → RegistersNone → result ≡ Err Memory →
+        IsDeferred r.kept.settings ((r.meaning).ty a) ((r.meaning).ty b) → RegistersNone → result ≡ Err Memory →
         TysCombine a b result
     not_left : HaveNoError ((r.meaning).ty a) ((r.meaning).ty b) →
-        (IsLeftToGoal r.kept.settings ((r.meaning).ty a) ((r.meaning).ty b) → ⊥) → q.goals ≡ r.goals →
+        (IsDeferred r.kept.settings ((r.meaning).ty a) ((r.meaning).ty b) → ⊥) → q.goals ≡ r.goals →
         MeetsTys r.meaning r.store q.store a b result → TysCombine a b result
 
   -- What comes of two constants that were resolved shallowly. Where aliases are left to goals, one is registered of an
@@ -182,14 +182,14 @@ module _ {Key Id Name : Type 0} (r q : State Key Id Name) where
   -- says.
   pub data CombinesShallow (a b : ConstKey Key) (result : Result (Step (ConstKey Key)) (RelateFault Key Id Name)) :
       Type 0 where
-    const_left_to_goal : IsFormedConst ((r.meaning).const_ a) → IsFormedConst ((r.meaning).const_ b) →
-        LeavesAliases r.kept.settings → IsAlias ((r.meaning).const_ a) ⊎ IsAlias ((r.meaning).const_ b) →
+    const_is_deferred : IsFormedConst ((r.meaning).const_ a) → IsFormedConst ((r.meaning).const_ b) →
+        DefersAliases r.kept.settings → IsAlias ((r.meaning).const_ a) ⊎ IsAlias ((r.meaning).const_ b) →
         RegistersOne (alias_relate_predicate Equate ((r.meaning).const_ a) ((r.meaning).const_ b)) →
         result ≡ Ok (Done b) → CombinesShallow a b result
-    const_not_registered : IsLeftToGoal r.kept.settings ((r.meaning).const_ a) ((r.meaning).const_ b) →
+    const_not_registered : IsDeferred r.kept.settings ((r.meaning).const_ a) ((r.meaning).const_ b) →
         RegistersNone → result ≡ Err Memory → CombinesShallow a b result
     const_not_left : (IsFormedConst ((r.meaning).const_ a) → IsFormedConst ((r.meaning).const_ b) →
-        IsLeftToGoal r.kept.settings ((r.meaning).const_ a) ((r.meaning).const_ b) → ⊥) → q.goals ≡ r.goals →
+        IsDeferred r.kept.settings ((r.meaning).const_ a) ((r.meaning).const_ b) → ⊥) → q.goals ≡ r.goals →
         MeetsConsts r.meaning q.meaning r.store q.store r.kept.settings.structurally_relate_aliases a b result →
         CombinesShallow a b result
 

@@ -2,7 +2,7 @@ pub mod Bivariance
 pub mod ClosedTerms
 pub mod Combining
 pub mod ConstantLaws
-pub mod Leaving
+pub mod Deferring
 pub mod NumberVars
 pub mod Solving
 pub mod UniverseLaws

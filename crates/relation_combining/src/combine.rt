@@ -11,7 +11,7 @@ ghost use Rattle.relation_combining.specs.Combining.{KeepsKept, AreFormedConsts,
 ghost use Rattle.relation_semantics.specs.ContextCalls.{Grows};
 ghost use Rattle.relation_goals.specs.Emitting.{AddsGoals, IsOver, KnowsPredicate, RegistersAlias, RegistersGoal};
 ghost use Rattle.relation_goals.specs.Emitting.{goals_in, FollowsContext};
-ghost use Rattle.relation_combining.specs.Leaving.{LeavesConst};
+ghost use Rattle.relation_combining.specs.Deferring.{DefersConst};
 ghost use Rattle.relation_semantics.specs.Contexts.{KnowsTy};
 ghost use Rattle.relation_semantics.specs.Goals.{KnowsGoal, goals_of, well_formed_predicate, ambiguous_predicate};
 ghost use Rattle.relation_semantics.specs.Goals.{alias_relate_predicate};
@@ -25,7 +25,7 @@ ghost use Rattle.relation_semantics.specs.Stores.{IsTermIn};
 mod meeting;
 
 use crate::combine::meeting::{are_no_const_vars, meet_consts, meet_tys};
-use crate::leaving::{Leaving, Standing, leaves_const, left_to, ty_standing};
+use crate::deferring::{Deferring, Standing, defers_const, left_to, ty_standing};
 use relation_folds::error::RelateResult;
 use relation_goals::goals::GoalOf;
 use relation_goals::recording;
@@ -370,15 +370,15 @@ pub fn super_combine_tys<Infcx: InferCtxtLike, R: PredicateEmittingRelation<Infc
         return Ok(Step::Done(*b));
     }
     match left_to::<Infcx, R>(relation, left, right) {
-        Leaving::ToGoal => {
+        Deferring::ToGoal => {
             relation.register_alias_relate_predicate(a, b)?;
             Ok(Step::Done(*a))
         }
-        Leaving::Open => {
+        Deferring::Open => {
             register_ambiguous::<Infcx, R>(relation)?;
             Ok(Step::Done(*a))
         }
-        Leaving::ToNone => {
+        Deferring::ToNone => {
             relation.context_grows();
             meet_tys(relation.infcx_mut(), a, b)
         }
@@ -430,14 +430,14 @@ fn is_left_const<Infcx: InferCtxtLike, R: PredicateEmittingRelation<Infcx>>(
     requires lawful { (R.state relation.now).lawful }
     requires asked { AskedTerms solver_manner None (λ m. m.const_) (R.state relation.now) a.now b.now }
     ensures formed { IsTrue result → AreFormedConsts (R.state relation.now).meaning a.now b.now }
-    ensures left { IsTrue result → LeavesConst (R.state relation.now) a.now b.now }
+    ensures left { IsTrue result → DefersConst (R.state relation.now) a.now b.now }
     ensures not { IsFalse result → AreFormedConsts (R.state relation.now).meaning a.now b.now →
-        LeavesConst (R.state relation.now) a.now b.now → ⊥ }
+        DefersConst (R.state relation.now) a.now b.now → ⊥ }
 {
     if !are_no_const_vars(relation.infcx(), a, b) {
         return false;
     }
-    leaves_const::<Infcx, R>(relation, a, b)
+    defers_const::<Infcx, R>(relation, a, b)
 }
 
 // What comes of two constants that were resolved shallowly.

@@ -3,6 +3,6 @@
 #![tactic(auto)]
 
 pub mod combine;
-mod leaving;
+mod deferring;
 mod number_vars;
 pub mod variables;

@@ -3,7 +3,7 @@ use Rattle.std.proofs.Common.{◌≡◌, ◌≤◌, sym, ap, arith, subst, [], l
 use Rattle.relation_terms.specs.Trees.{Tree}
 use Rattle.relation_semantics.specs.Stores.{Store, Constraint, all_bound}
 use Rattle.relation_semantics.specs.Steps.{AddsConstraint, StaysFull}
-use Rattle.relation_semantics.specs.Kits.{StaysBuilt}
+use Rattle.relation_semantics.specs.Alphabets.{StaysBuilt}
 use Rattle.relation_semantics.proofs.Building.{built_same, built_constraint}
 use Rattle.relation_semantics.specs.Measures.{Goes}
 use Rattle.relation_semantics.proofs.Going.{goes_nowhere}

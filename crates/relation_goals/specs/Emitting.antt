@@ -12,7 +12,7 @@ use Rattle.relation_semantics.specs.Contexts.{Context}
 use Rattle.relation_semantics.specs.Constraints.{constraint_at, constraint_of}
 use Rattle.relation_semantics.specs.AliasGoals.{alias_at}
 use Rattle.relation_semantics.specs.AskedAlone.{subtype_at}
-use Rattle.relation_semantics.specs.Kits.{StaysBuilt}
+use Rattle.relation_semantics.specs.Alphabets.{StaysBuilt}
 use Rattle.relation_semantics.specs.Goals.{Goal, goal_of, subtype_predicate, well_formed_predicate, alias_relate_predicate, ambiguous_predicate}
 use Rattle.relation_semantics.specs.Lawful.{State}
 use Rattle.relation_semantics.specs.Settings.{in_coherence}

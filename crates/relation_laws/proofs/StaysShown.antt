@@ -4,7 +4,7 @@ use Rattle.relation_terms.specs.Heads.{Head}
 use Rattle.relation_terms.specs.Trees.{Tree, known}
 use Rattle.relation_terms.specs.Meaning.{Meaning, Extends as Grows}
 use Rattle.relation_semantics.specs.Stores.{IsTermIn}
-use Rattle.relation_semantics.specs.Bound.{BindByLists}
+use Rattle.relation_semantics.specs.Bound.{IsWellBound}
 use Rattle.relation_semantics.specs.Contexts.{Context}
 use Rattle.relation_steps.specs.Arguments.{related_tree}
 use Rattle.relation_recursion.proofs.RelatableValues.{tree_known}
@@ -19,7 +19,7 @@ term_stays state over tree stays old new grown later x k =
     (tree_known over (tree (state old).meaning x) k)) in (
       e,
       subst (λ t. IsTrue (known t)) (sym e) k,
-      λ c. subst BindByLists (sym e) c,
+      λ c. subst IsWellBound (sym e) c,
       λ h. subst (IsTermIn (state new).store) (sym e)
           (later_term (state old).store (state new).store later.grows later.universe_stands _ h),
     )

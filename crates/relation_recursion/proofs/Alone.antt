@@ -15,7 +15,7 @@ use Rattle.relation_folds.specs.declared.error.RelateFault.{RelateFault}
 use Rattle.relation_folds.specs.declared.error.RelateFault.TheVariants.{Memory, Budget, Unrelated}
 use Rattle.relation_semantics.specs.declared.relate.Step.{Step}
 use Rattle.relation_semantics.specs.declared.relate.Step.TheVariants.{Done, Parts, Again}
-use Rattle.relation_semantics.specs.Errors.{IsLeftToGoal}
+use Rattle.relation_semantics.specs.Errors.{IsDeferred}
 use Rattle.relation_semantics.specs.Lawful.{State, Manners}
 use Rattle.relation_semantics.specs.Parts.{IsFormed}
 use Rattle.relation_semantics.specs.Relation.{sort_of}
@@ -68,7 +68,7 @@ module _ {Key Id Name : Type 0} (M : Manners) (r q : State Key Id Name) (a b : T
   again_registers s tree k l x y u v res h = λ promised differ i j m n p f g asks. absurd (h promised differ i j m n p f g asks)
 
 -- No goal is asked alone of two forms that aren't left to one.
-pub formed_ask_none : (k : Settings) (v : Variance) (x y : Tree) → IsFormed x → (IsLeftToGoal k x y → ⊥) → AsksNoneAlone k v x y
+pub formed_ask_none : (k : Settings) (v : Variance) (x y : Tree) → IsFormed x → (IsDeferred k x y → ⊥) → AsksNoneAlone k v x y
 formed_ask_none k v x y f left s t p asks = go asks
   where
     go : AsksAlone k v x y p → ⊥

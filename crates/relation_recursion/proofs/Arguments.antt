@@ -20,7 +20,7 @@ use Rattle.relation_semantics.specs.FirstOrder.{IsFirstOrderHead, Unifies}
 use Rattle.relation_semantics.specs.Errors.{ErrorOf, by_forms, IsHandedOn, of_parts}
 use Rattle.relation_semantics.specs.Errors.{of_alias_term_parts, AreOfOneForm}
 use Rattle.relation_semantics.specs.Errors.{over_parts, over_aliases, one_leaf, parameters}
-use Rattle.relation_semantics.proofs.Leaving.{normal_not_left}
+use Rattle.relation_semantics.proofs.Deferring.{normal_not_left}
 use Rattle.relation_steps.specs.Arguments.{args_head, AreOverItem, adts, functions}
 use Rattle.relation_folds.specs.Faults.{KnowsError}
 use Rattle.relation_semantics.specs.OneUniverse.{BindsNoMore}

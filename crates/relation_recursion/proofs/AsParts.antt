@@ -24,7 +24,7 @@ use Rattle.relation_terms.specs.Interning.{Sorted}
 use Rattle.relation_terms.proofs.Sorted.{widen, region_admitted, type_admitted, const_admitted}
 use Rattle.relation_terms.proofs.Members.{fit_args, mapped, region_term, type_term, const_term, term_nth}
 use Rattle.relation_terms.proofs.Parts.{sort_known, arg_part}
-use Rattle.relation_semantics.specs.Parts.{own_parts, branches_of, const_parts_of, IsByParts}
+use Rattle.relation_semantics.specs.Parts.{direct_parts, branches_of, const_parts_of, IsByParts}
 use Rattle.relation_semantics.specs.Making.{arg_sort, FitArgs, form_over, const_over}
 use Rattle.relation_recursion.proofs.Compared.{value_shape}
 use Rattle.relation_recursion.proofs.MadeAnew.{value_of}
@@ -79,7 +79,7 @@ type_head_arguments (raw_ptr u) ts n a = (type_admitted, tt)
 type_head_arguments (ref u) ts n a = (region_admitted, (type_admitted, tt))
 type_head_arguments h ts n a = absurd a
 
-ty_arguments : (t : Tree) → IsTerm type_sort t → (IsByParts t → ⊥) → AreTerms argument_sort (own_parts t)
+ty_arguments : (t : Tree) → IsTerm type_sort t → (IsByParts t → ⊥) → AreTerms argument_sort (direct_parts t)
 ty_arguments (node h ts) f n = shape_arguments (head_parts h) ts (type_head_arguments h ts n f.0) f.1
 ty_arguments t f n = tt
 
@@ -95,16 +95,16 @@ const_arguments (node value ts) f =
     subst (λ z. AreTerms argument_sort (const_parts_of (node value z))) (sym e) (branch_arguments v h)
 const_arguments c f = tt
 
-pub ty_argument : (t : Tree) (i : ℕ) → i < count (own_parts t) → IsTerm type_sort t → (IsByParts t → ⊥) →
-    IsTerm argument_sort (nth i (own_parts t))
-ty_argument t i l f n = term_nth argument_sort (own_parts t) i l (ty_arguments t f n)
+pub ty_argument : (t : Tree) (i : ℕ) → i < count (direct_parts t) → IsTerm type_sort t → (IsByParts t → ⊥) →
+    IsTerm argument_sort (nth i (direct_parts t))
+ty_argument t i l f n = term_nth argument_sort (direct_parts t) i l (ty_arguments t f n)
 
 pub const_argument : (c : Tree) (i : ℕ) → i < count (const_parts_of c) → IsTerm const_sort c →
     IsTerm argument_sort (nth i (const_parts_of c))
 const_argument c i l f = term_nth argument_sort (const_parts_of c) i l (const_arguments c f)
 
 -- No term is a binder, so all its parts are.
-pub parts_as : (s : Sort) (t : Tree) → IsTerm s t → list_of_parts t ≡ own_parts t
+pub parts_as : (s : Sort) (t : Tree) → IsTerm s t → list_of_parts t ≡ direct_parts t
 parts_as s (bind ks t) f = absurd f
 parts_as s (node h ts) f = refl
 parts_as s t f = refl

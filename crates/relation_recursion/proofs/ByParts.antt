@@ -14,7 +14,7 @@ use Rattle.relation_terms.specs.Parts.{part_tree, part_sort, part_of_arg, tree_s
 use Rattle.relation_semantics.specs.Errors.{AreOfOneForm, over_parts, over_aliases, one_leaf, parameters}
 use Rattle.relation_semantics.specs.Lawful.{State, Manners, Takes, Turned, Asked}
 use Rattle.relation_semantics.specs.Making.{arg_sort}
-use Rattle.relation_semantics.specs.Parts.{own_parts, IsRelatedPart, IsComparedPart, IsArgPart, IsBinderPart, ArePaired}
+use Rattle.relation_semantics.specs.Parts.{direct_parts, IsRelatedPart, IsComparedPart, IsArgPart, IsBinderPart, ArePaired}
 use Rattle.relation_semantics.specs.Measures.{depth}
 use Rattle.relation_semantics.specs.Stores.{Store, IsTermIn, weight}
 use Rattle.relation_semantics.proofs.OneParts.{parts_counted}
@@ -124,8 +124,8 @@ pub no_inputs_yet : (a b : Tree) → HaveAsManyInputs a b 0
 no_inputs_yet (node (signature x s k) (cons (node inputs p) us)) (node (signature y t l) (cons (node inputs q) ws)) = tt
 no_inputs_yet a b = tt
 
-pub inputs_next : (a b : Tree) (i : ℕ) → (tree_sort (nth i (own_parts a)) ≡ inputs_sort →
-    AreOfOneForm (nth i (own_parts a)) (nth i (own_parts b))) → HaveAsManyInputs a b i → HaveAsManyInputs a b (suc i)
+pub inputs_next : (a b : Tree) (i : ℕ) → (tree_sort (nth i (direct_parts a)) ≡ inputs_sort →
+    AreOfOneForm (nth i (direct_parts a)) (nth i (direct_parts b))) → HaveAsManyInputs a b i → HaveAsManyInputs a b (suc i)
 inputs_next (node (signature x s k) (cons (node inputs p) us)) (node (signature y t l) (cons (node inputs q) ws)) zero f h =
     parts_counted (node inputs p) (node inputs q) (f refl)
 inputs_next (node (signature x s k) (cons (node inputs p) us)) (node (signature y t l) (cons (node inputs q) ws)) (suc i) f h =

@@ -44,7 +44,7 @@ use Rattle.relation_semantics.specs.Errors.{FormError, mutability, pointer_mutab
 use Rattle.relation_semantics.specs.Errors.{ConstFormError, const_mismatch, operations, AreOfOneConst, one_const_leaf}
 use Rattle.relation_semantics.specs.Outcomes.{NoEqualTerms}
 use Rattle.relation_semantics.specs.Parts.{IsFormed, IsFormedConst}
-use Rattle.relation_semantics.specs.Parts.{own_parts, const_parts_of, branches_of}
+use Rattle.relation_semantics.specs.Parts.{direct_parts, const_parts_of, branches_of}
 use Rattle.relation_recursion.specs.Forms.{tree_outline}
 use Rattle.relation_recursion.specs.Comparing.{AreOfOneItem}
 use Rattle.relation_terms.specs.declared.terms.alias.UnevaluatedConst.{UnevaluatedConst}
@@ -116,7 +116,7 @@ pub list_of : (h : Head) (s : Sort) (ts a : Tree) → a ≡ node h ts → IsTerm
 list_of h s ts a e k = parts_list h ts (let z : IsTerm s (node h ts) = subst (IsTerm s) e k in z.1)
 
 -- The parts of a term are a list.
-pub parts_of_list : (s : Sort) (t : Tree) → IsTerm s t → IsList (own_parts t)
+pub parts_of_list : (s : Sort) (t : Tree) → IsTerm s t → IsList (direct_parts t)
 parts_of_list s (node h ts) k = parts_list h ts k.1
 parts_of_list s t k = tt
 

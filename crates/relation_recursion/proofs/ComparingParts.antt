@@ -33,7 +33,7 @@ use Rattle.relation_semantics.specs.Errors.{AreOfOneForm, over_parts, SignatureE
 use Rattle.relation_semantics.specs.Errors.{unlike_abi, AreAlikeExistentials, AreAlikeMembers}
 use Rattle.relation_semantics.specs.Errors.{ObjectError, unlike_numbers, unlike_members, PartError}
 use Rattle.relation_semantics.specs.Errors.{ExistentialError, unlike_traits, unlike_auto_traits, unlike_projections}
-use Rattle.relation_semantics.specs.Parts.{IsComparedPart, own_parts}
+use Rattle.relation_semantics.specs.Parts.{IsComparedPart, direct_parts}
 use Rattle.relation_terms.proofs.Members.{list_count, list_nth, item_known}
 use Rattle.relation_recursion.proofs.PartErrors.{members_as, counts_alike, counts_differ}
 
@@ -131,9 +131,9 @@ module _ {Key Id Name : Type 0} (m : Meaning Key Id Name) where
 
   pub member_below : (p : Part Key Id) (k : ExistentialPredicatesKey Key)
       (xs : List (Binder Key (ExistentialPredicate Key Id))) (i : ℕ) → p ≡ Object k →
-      m.existential_predicates k ≡ list_tree (object_predicate_tree m) xs → i < count (own_parts (part_tree m p)) →
+      m.existential_predicates k ≡ list_tree (object_predicate_tree m) xs → i < count (direct_parts (part_tree m p)) →
       i < length xs
-  member_below p k xs i is lists l = subst (λ n. i < n) (ap (λ p. count (own_parts (part_tree m p))) is
+  member_below p k xs i is lists l = subst (λ n. i < n) (ap (λ p. count (direct_parts (part_tree m p))) is
       ∙ ap count lists ∙ list_count (object_predicate_tree m) xs) l
 
   pub member_within : (i : ℕ) (xs : List (Binder Key (ExistentialPredicate Key Id))) → i < length xs → i ≤ length xs

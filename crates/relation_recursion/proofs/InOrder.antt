@@ -20,12 +20,12 @@ use Rattle.relation_semantics.specs.OneUniverse.{NamesTypesTo, BindsNoMore}
 use Rattle.relation_semantics.specs.Asking.{HaveAlias}
 use Rattle.relation_semantics.specs.Errors.{ErrorOf, Meeting, as_pair, as_forms, of_part_forms, AreOfOneForm, over_parts, over_aliases, one_leaf, parameters}
 use Rattle.relation_semantics.specs.Errors.{PartError}
-use Rattle.relation_semantics.specs.Parts.{own_parts, head_of, IsByParts}
+use Rattle.relation_semantics.specs.Parts.{direct_parts, head_of, IsByParts}
 use Rattle.part_variances.specs.Handing.{named_place, IsFaultOfPart}
 use Rattle.relation_semantics.specs.Making.{form_over}
 use Rattle.relation_semantics.specs.Lawful.{State, Manners, MayAnswer, Passes, Refuses, RefusesAs, Related, RelatedAs}
 use Rattle.relation_semantics.specs.Lawful.{items_in}
-use Rattle.relation_semantics.proofs.Leaving.{said_as, parts_not_left, form_not_left, by_parts_normal, one_form_normal}
+use Rattle.relation_semantics.proofs.Deferring.{said_as, parts_not_left, form_not_left, by_parts_normal, one_form_normal}
 use Rattle.relation_semantics.proofs.Recording.{records_as}
 use Rattle.relation_semantics.proofs.RecordingForms.{bare_parts, form_asks, asks_form}
 use Rattle.relation_semantics.specs.Lawful.{RecordsJustAsked, RecordsAs}
@@ -55,16 +55,16 @@ use Rattle.relation_folds.proofs.Members.{fit_next}
 module _ {Key Id Name : Type 0} {r q : State Key Id Name} (M : Manners) (v : Variance) (a b : Tree) (i : ℕ)
     (form : IsByParts a) where
   -- Some of the parts were related: no more variables are bound than there were.
-  front_binds : Fronted M r q (head_of a) v i (own_parts a) (own_parts b) → (M r.kept.settings).is_exact → v ≡ Invariant →
+  front_binds : Fronted M r q (head_of a) v i (direct_parts a) (direct_parts b) → (M r.kept.settings).is_exact → v ≡ Invariant →
       IsFirstOrderPair r.store a b → BindsNoMore r.store q.store a b
   front_binds f exact is pair =
-      binds_as r.store q.store a b (own_parts a) (own_parts b) (λ u. leaves_parts (NamesTypesTo u) a)
-      (λ u. leaves_parts (NamesTypesTo u) b) (keeps_binds r.store q.store (own_parts a) (own_parts b)
+      binds_as r.store q.store a b (direct_parts a) (direct_parts b) (λ u. leaves_parts (NamesTypesTo u) a)
+      (λ u. leaves_parts (NamesTypesTo u) b) (keeps_binds r.store q.store (direct_parts a) (direct_parts b)
       (f.exact exact is (term_looked_at a form) (parts_pair r.store a b pair)).2)
 
   -- Memory ran out after some of the parts.
   pub terms_stopped : {X : Type 0} {w : Meeting} (tree : X → Tree) →
-      Fronted M r q (head_of a) v i (own_parts a) (own_parts b) → RelatedAs {X = X} w M r q (at v) a b tree (Err Memory)
+      Fronted M r q (head_of a) v i (direct_parts a) (direct_parts b) → RelatedAs {X = X} w M r q (at v) a b tree (Err Memory)
   unfolding passes_within
   terms_stopped tree f = stopped M v a b tree
       (passes_within (omega (arith, weight_parts_most r.store a, weight_parts_most r.store b)) f.passes) (front_binds f)
@@ -72,18 +72,18 @@ module _ {Key Id Name : Type 0} {r q : State Key Id Name} (M : Manners) (v : Var
       (λ k ha hb. f.built k (built_parts k a ha) (built_parts k b hb))
 
   -- All parts were related, and so are the two.
-  terms_relate : (o : AreOfOneForm a b) → (f : Fronted M r q (head_of a) v i (own_parts a) (own_parts b)) →
-      AreParts r.store (own_parts a) (own_parts b) → i ≡ count (own_parts a) → i ≡ count (own_parts b) →
+  terms_relate : (o : AreOfOneForm a b) → (f : Fronted M r q (head_of a) v i (direct_parts a) (direct_parts b)) →
+      AreParts r.store (direct_parts a) (direct_parts b) → i ≡ count (direct_parts a) → i ≡ count (direct_parts b) →
       (w : Interpretation) (s : Assign) → Satisfies w q.store s →
       All (Holds (items_in r) w s) (r.goals ++ (f.passes).added) →
       Rel (items_in r) w r.kept.environment (at v) (apply s a) (apply s b)
   terms_relate (over_parts {h} {ts} {us} d e n) f are ea eb w s sat all =
-      let whole = fronted_all (head_of a) v i (own_parts a) (own_parts b) are ea eb f in
+      let whole = fronted_all (head_of a) v i (direct_parts a) (direct_parts b) are ea eb f in
       subst₂ (λ x y. Rel (items_in r) w r.kept.environment (at v) (apply s x) (apply s y)) (sym d) (sym e)
       (forms (term_related h ts (subst IsByParts d form)) refl
-      (subst (λ z. Rel (items_in r) w r.kept.environment (parts h 0 v) (apply s (own_parts z)) (apply s us)) d
-      (subst (λ z. Rel (items_in r) w r.kept.environment (parts h 0 v) (apply s (own_parts a)) (apply s (own_parts z))) e
-      (subst (λ z. Rel (items_in r) w r.kept.environment (parts (head_of z) 0 v) (apply s (own_parts a)) (apply s (own_parts b))) d
+      (subst (λ z. Rel (items_in r) w r.kept.environment (parts h 0 v) (apply s (direct_parts z)) (apply s us)) d
+      (subst (λ z. Rel (items_in r) w r.kept.environment (parts h 0 v) (apply s (direct_parts a)) (apply s (direct_parts z))) e
+      (subst (λ z. Rel (items_in r) w r.kept.environment (parts (head_of z) 0 v) (apply s (direct_parts a)) (apply s (direct_parts b))) d
       (whole.relates w s sat all)))))
   terms_relate (over_aliases d e n) f are ea eb w s sat all = absurd (subst IsByParts d form)
   terms_relate (one_leaf d e) f are ea eb w s sat all = same (ap (apply s) (d ∙ sym e))
@@ -91,8 +91,8 @@ module _ {Key Id Name : Type 0} {r q : State Key Id Name} (M : Manners) (v : Var
       subst₂ (λ x y. Rel (items_in r) w r.kept.environment (at v) (apply s x) (apply s y)) (sym d) (sym e) (atoms p)
 
   pub terms_answer : {X : Type 0} {w : Meeting} (tree : X → Tree) (x : X) → AreOfOneForm a b →
-      Fronted M r q (head_of a) v i (own_parts a) (own_parts b) → AreParts r.store (own_parts a) (own_parts b) →
-      i ≡ count (own_parts a) → i ≡ count (own_parts b) → tree x ≡ a → IsTrue (known a) →
+      Fronted M r q (head_of a) v i (direct_parts a) (direct_parts b) → AreParts r.store (direct_parts a) (direct_parts b) →
+      i ≡ count (direct_parts a) → i ≡ count (direct_parts b) → tree x ≡ a → IsTrue (known a) →
       RelatedAs w M r q (at v) a b tree (Ok x)
   unfolding passes_within
   terms_answer {w = w} tree x o f are ea eb answer k = record {
@@ -107,12 +107,12 @@ module _ {Key Id Name : Type 0} {r q : State Key Id Name} (M : Manners) (v : Var
       answer = subst (MayAnswer M q v a) (sym answer) (may_itself M q v a);
       known = subst (λ u. IsTrue (known u)) (sym answer) k;
       agrees = λ k. form_agrees r.kept.settings (items_in r) v a b o
-          (fronted_agree (head_of a) v i (own_parts a) (own_parts b) ea eb f k);
+          (fronted_agree (head_of a) v i (direct_parts a) (direct_parts b) ea eb f k);
     };
     exact = λ exact is pair.
-        answered_as r.store q.store a b (own_parts a) (own_parts b) (terms_unify a b form o)
+        answered_as r.store q.store a b (direct_parts a) (direct_parts b) (terms_unify a b form o)
         (λ u. leaves_parts (NamesTypesTo u) a) (λ u. leaves_parts (NamesTypesTo u) b)
-        (fronted_exactly (head_of a) v i (own_parts a) (own_parts b) are ea eb f exact is (term_looked_at a form)
+        (fronted_exactly (head_of a) v i (direct_parts a) (direct_parts b) are ea eb f exact is (term_looked_at a form)
         (parts_pair r.store a b pair));
     full = λ ha hb. f.full (parts_plain a ha) (parts_plain b hb);
     built = λ k ha hb. f.built k (built_parts k a ha) (built_parts k b hb);
@@ -136,7 +136,7 @@ module _ {Key Id Name : Type 0} {r q : State Key Id Name} (M : Manners) (v : Var
   -- After some of the parts it is seen that the two are not of one form.
   pub terms_unlike : {X : Type 0} {w : Meeting} (tree : X → Tree) (k l : Sort) (e : TypeError Key Id Name) → v ≢ Bivariant →
       IsByParts b → IsTerm k a → IsTerm l b → IsTrue (known a) → IsTrue (known b) → PartError q.meaning a b e →
-      Fronted M r q (head_of a) v i (own_parts a) (own_parts b) →
+      Fronted M r q (head_of a) v i (direct_parts a) (direct_parts b) →
       RelatedAs {X = X} w M r q (at v) a b tree (Err (Unrelated e))
   unfolding passes_within
   terms_unlike {w = w} tree k l e d other ta tb ka kb unlike f = record {
@@ -154,10 +154,10 @@ module _ {Key Id Name : Type 0} {r q : State Key Id Name} (M : Manners) (v : Var
   }
 
   -- Two parts were refused, and so are the two.
-  module _ (o : AreOfOneForm a b) (f : Fronted M r q (head_of a) v i (own_parts a) (own_parts b))
-      (are : AreParts r.store (own_parts a) (own_parts b)) (k l : Sort) (ta : IsTerm k a) (tb : IsTerm l b)
-      (many : HaveAsManyInputs a b i) (x y : Tree) (lx : i < count (own_parts a)) (ly : i < count (own_parts b))
-      (ex : x ≡ nth i (own_parts a)) (ey : y ≡ nth i (own_parts b)) where
+  module _ (o : AreOfOneForm a b) (f : Fronted M r q (head_of a) v i (direct_parts a) (direct_parts b))
+      (are : AreParts r.store (direct_parts a) (direct_parts b)) (k l : Sort) (ta : IsTerm k a) (tb : IsTerm l b)
+      (many : HaveAsManyInputs a b i) (x y : Tree) (lx : i < count (direct_parts a)) (ly : i < count (direct_parts b))
+      (ex : x ≡ nth i (direct_parts a)) (ey : y ≡ nth i (direct_parts b)) where
     term_refuses : (w : Meeting) {n : ℕ} {p : State Key Id Name} (g : Passes n q p) (e d : RelateFault Key Id Name) →
         IsFaultOfPart (named_place a i) e d → Refuses q p (part_at (items_in r) (head_of a) i v) x y e →
         RefusesAs w r p (at v) a b d
@@ -166,7 +166,7 @@ module _ {Key Id Name : Type 0} {r q : State Key Id Name} (M : Manners) (v : Var
     term_refuses w {p = p} g Budget d t h =
         subst (RefusesAs w r p (at v) a b) (sym (same_part_fault (named_place a i) Budget d t (λ e z. cc))) (
           h.0,
-          λ j ha hb. fronted_needs (head_of a) v i (own_parts a) (own_parts b) x y f lx ly ex ey h.1 j
+          λ j ha hb. fronted_needs (head_of a) v i (direct_parts a) (direct_parts b) x y f lx ly ex ey h.1 j
               (built_parts j a ha) (built_parts j b hb),
         )
     term_refuses w {p = p} g (Unrelated e) d t h =
@@ -174,7 +174,7 @@ module _ {Key Id Name : Type 0} {r q : State Key Id Name} (M : Manners) (v : Var
         let z = part_complains p.meaning p.kept.settings (items_in p) p.store v k l a b i ta tb form o lx x y ex ey many e d t
         (subst (λ c. ErrorOf p.meaning p.kept.settings (items_in p) p.store (part_at c (head_of a) i v) e x y) (sym items) h.1) in
         subst (RefusesAs w r p (at v) a b) (sym z.1) (
-          types_never r.store v a b o (fronted_never (head_of a) v i (own_parts a) (own_parts b) x y f lx ly ex ey are h.0),
+          types_never r.store v a b o (fronted_never (head_of a) v i (direct_parts a) (direct_parts b) x y f lx ly ex ey are h.0),
           said_as w (form_not_left p.kept.settings a b form o) z.2,
           subst (KnowsFault p.meaning) z.1 (part_fault_known (named_place a i) (Unrelated e) d p.meaning t h.2),
         )
@@ -183,9 +183,9 @@ module _ {Key Id Name : Type 0} {r q : State Key Id Name} (M : Manners) (v : Var
         ExactlyRelated {X = A} (M q.kept.settings) q.store p.store (part_at (items_in r) (head_of a) i v) x y (Err e) →
         ExactlyRelated {X = B} (M r.kept.settings) r.store p.store v a b (Err e)
     whole_term A B p e g exact is pair =
-        refused_as r.store p.store a b (own_parts a) (own_parts b) (terms_unify a b form o)
+        refused_as r.store p.store a b (direct_parts a) (direct_parts b) (terms_unify a b form o)
         (λ u. leaves_parts (NamesTypesTo u) a) (λ u. leaves_parts (NamesTypesTo u) b) A B e
-        (fronted_fault (head_of a) v i (own_parts a) (own_parts b) x y f lx ly ex ey A A p e are exact is
+        (fronted_fault (head_of a) v i (direct_parts a) (direct_parts b) x y f lx ly ex ey A A p e are exact is
         (term_looked_at a form) (parts_pair r.store a b pair) (λ z. g (manner_then M (λ m. m.is_exact) f.passes z)))
 
     term_exactly : (A B : Type 0) (p : State Key Id Name) (e d : RelateFault Key Id Name) → IsFaultOfPart (named_place a i) e d →
@@ -207,12 +207,12 @@ module _ {Key Id Name : Type 0} {r q : State Key Id Name} (M : Manners) (v : Var
     unfolding passes_within fronted_passes passes_then
     term_refused {A} {B} {w} {p} tree answer e d t g = record {
       passes = passes_within (omega (arith, weight_parts_most r.store a, weight_parts_most r.store b))
-          (fronted_passes (head_of a) v i (own_parts a) (own_parts b) x y f lx ly ex ey g.passes);
+          (fronted_passes (head_of a) v i (direct_parts a) (direct_parts b) x y f lx ly ex ey g.passes);
       verdict = term_refuses w g.passes e d t g.verdict;
       exact = term_exactly A B p e d t g.exact;
-      full = λ ha hb. fronted_full (head_of a) v i (own_parts a) (own_parts b) x y f lx ly ex ey g.full
+      full = λ ha hb. fronted_full (head_of a) v i (direct_parts a) (direct_parts b) x y f lx ly ex ey g.full
           (parts_plain a ha) (parts_plain b hb);
-      built = λ k ha hb. fronted_built (head_of a) v i (own_parts a) (own_parts b) x y f lx ly ex ey (g.passes).added g.built
+      built = λ k ha hb. fronted_built (head_of a) v i (direct_parts a) (direct_parts b) x y f lx ly ex ey (g.passes).added g.built
           k (built_parts k a ha) (built_parts k b hb);
       records = tt;
     }
@@ -229,7 +229,7 @@ module _ {Key Id Name : Type 0} {X : Type 0} (M : Manners) (r : State Key Id Nam
 
 -- A form over what may be answered for its parts.
 pub may_over_term : {Key Id Name : Type 0} (M : Manners) (q : State Key Id Name) (v : Variance) (t us : Tree) →
-    IsByParts t → AnswersParts M q (head_of t) v (own_parts t) us → MayAnswer M q v t (form_over t us)
+    IsByParts t → AnswersParts M q (head_of t) v (direct_parts t) us → MayAnswer M q v t (form_over t us)
 may_over_term M q v (node h ts) us o a = may_form M q h v ts us (term_related h ts o) a
 may_over_term M q v (leaf l) us o a = may_itself M q v (leaf l)
 may_over_term M q v t us o a = absurd o

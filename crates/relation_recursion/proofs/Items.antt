@@ -30,7 +30,7 @@ use Rattle.relation_semantics.specs.Relation.{at, plain, plain_kind, part_at, Re
 use Rattle.relation_semantics.specs.Stores.{IsTermIn, InContext}
 use Rattle.relation_semantics.proofs.Answering.{covariantly}
 use Rattle.relation_semantics.proofs.Asking.{neither_alias}
-use Rattle.relation_semantics.proofs.Leaving.{normal_not_left}
+use Rattle.relation_semantics.proofs.Deferring.{normal_not_left}
 use Rattle.relation_semantics.proofs.Parts.{in_parts}
 use Rattle.relation_semantics.proofs.Standing.{term_context}
 use Rattle.relation_recursion.specs.Comparing.{is_opaque_kind}

@@ -11,14 +11,14 @@ use Rattle.relation_semantics.specs.Stores.{IsTermIn, weight}
 use Rattle.relation_semantics.specs.Measures.{depth}
 use Rattle.relation_semantics.specs.Goals.{Goal}
 use Rattle.relation_semantics.specs.Errors.{AreOfOneForm, over_parts, over_aliases, one_leaf, parameters, AreOfOneConst, values, expressions, over_arguments, const_parameters, one_const_leaf}
-use Rattle.relation_semantics.specs.Parts.{own_parts, const_parts_of, head_of, const_head_of, IsByParts}
+use Rattle.relation_semantics.specs.Parts.{direct_parts, const_parts_of, head_of, const_head_of, IsByParts}
 use Rattle.part_variances.specs.Handing.{IsFaultOfTy, IsFaultOfConst, IsFaultOfPart, IsResultOfTy, IsResultOfConst, IsResultOfPart}
 use Rattle.relation_semantics.specs.Lawful.{State, Manner, Manners, TakesParts, Takes, Asked, LeadsToParts, LeadsAgain, items_in}
 use Rattle.relation_semantics.proofs.Going.{depth-mono, depth-strict, depth-spent, depth_later}
 use Rattle.relation_semantics.proofs.Standing.{later_term}
 use Rattle.relation_semantics.proofs.Parts.{in_part, in_const_part}
 use Rattle.relation_semantics.proofs.Bound.{part_by_lists, const_part_by_lists}
-use Rattle.relation_semantics.proofs.Leaving.{by_parts_normal}
+use Rattle.relation_semantics.proofs.Deferring.{by_parts_normal}
 use Rattle.relation_recursion.proofs.PartSizes.{weight_parts, weight_const_parts}
 use Rattle.relation_semantics.proofs.Passing.{manner_then}
 use Rattle.relation_semantics.proofs.OneUniverse.{leaves_nth, leaves_parts, leaves_const_parts}
@@ -34,10 +34,10 @@ module _ (M : Manner) (is : (c : Items) (h : Head) (i : ℕ) (v : Variance) (l :
       Leaves_map (M.takes v) (M.takes (part_at c h i v)) (λ x. is c h i v x) (nth i ts)
       (leaves_nth (M.takes v) ts i l k)
 
-  takes_ty_part : (t : Tree) (i : ℕ) → i < count (own_parts t) → Takes M v t →
-      Takes M (part_at c (head_of t) i v) (nth i (own_parts t))
+  takes_ty_part : (t : Tree) (i : ℕ) → i < count (direct_parts t) → Takes M v t →
+      Takes M (part_at c (head_of t) i v) (nth i (direct_parts t))
   takes_ty_part t i l k =
-      (takes_part (head_of t) (own_parts t) i l (leaves_parts (M.takes v) t k.0), part_by_lists t i l k.1)
+      (takes_part (head_of t) (direct_parts t) i l (leaves_parts (M.takes v) t k.0), part_by_lists t i l k.1)
 
   takes_const_part : (t : Tree) (i : ℕ) → i < count (const_parts_of t) → Takes M v t →
       Takes M (part_at c (const_head_of t) i v) (nth i (const_parts_of t))
@@ -52,8 +52,8 @@ some_part i n h = omega (arith, h)
 module _ {Key Id Name : Type 0} (M : Manners) (is : TakesParts M) (r q : State Key Id Name) (a b : Tree) (i : ℕ)
     (x y : Tree) (kx : IsTrue (known x)) (ky : IsTrue (known y)) (k : Asked M r r.ambient a b) where
   -- Of types.
-  module _ (f : Fronted M r q (head_of a) r.ambient i (own_parts a) (own_parts b)) (lx : i < count (own_parts a))
-      (ly : i < count (own_parts b)) (ex : x ≡ nth i (own_parts a)) (ey : y ≡ nth i (own_parts b)) where
+  module _ (f : Fronted M r q (head_of a) r.ambient i (direct_parts a) (direct_parts b)) (lx : i < count (direct_parts a))
+      (ly : i < count (direct_parts b)) (ex : x ≡ nth i (direct_parts a)) (ey : y ≡ nth i (direct_parts b)) where
     pub next_asked : (w : Variance) → w ≡ part_at (items_in r) (head_of a) i r.ambient →
         w ≡ part_at (items_in r) (head_of b) i r.ambient → Asked M q w x y
     next_asked w ew eu =
@@ -61,9 +61,9 @@ module _ {Key Id Name : Type 0} (M : Manners) (is : TakesParts M) (r q : State K
           left_known = kx;
           right_known = ky;
           left_in = subst (IsTermIn q.store) (sym ex) (later_term r.store q.store l.grows l.universe_stands
-              (nth i (own_parts a)) (in_part r.store a i lx k.left_in));
+              (nth i (direct_parts a)) (in_part r.store a i lx k.left_in));
           right_in = subst (IsTermIn q.store) (sym ey) (later_term r.store q.store l.grows l.universe_stands
-              (nth i (own_parts b)) (in_part r.store b i ly k.right_in));
+              (nth i (direct_parts b)) (in_part r.store b i ly k.right_in));
           left_taken = manner_then M (λ z. Takes z w x) f.passes (subst₂ (Takes (M r.kept.settings)) (sym ew) (sym ex)
               (takes_ty_part (M r.kept.settings) (is r.kept.settings) (items_in r) r.ambient a i lx k.left_taken));
           right_taken = manner_then M (λ z. Takes z w y) f.passes (subst₂ (Takes (M r.kept.settings)) (sym eu) (sym ey)
@@ -73,12 +73,12 @@ module _ {Key Id Name : Type 0} (M : Manners) (is : TakesParts M) (r q : State K
     pub next_under : 8 * depth (q.store).budget (weight q.store x + weight q.store y) + 4 <
         8 * depth (r.store).budget (weight r.store a + weight r.store b) + 1
     next_under =
-        let small = part_small (head_of a) r.ambient i (own_parts a) (own_parts b) x y f lx ly ex ey in
+        let small = part_small (head_of a) r.ambient i (direct_parts a) (direct_parts b) x y f lx ly ex ey in
         let d = depth_later (f.passes).goes (weight q.store x + weight q.store y)
-        (weight r.store (own_parts a) + weight r.store (own_parts b)) small in
-        let p = weight_parts r.store a (some_part i (count (own_parts a)) lx) in
-        let s = weight_parts r.store b (some_part i (count (own_parts b)) ly) in
-        let e = depth-strict (r.store).budget (weight r.store (own_parts a) + weight r.store (own_parts b))
+        (weight r.store (direct_parts a) + weight r.store (direct_parts b)) small in
+        let p = weight_parts r.store a (some_part i (count (direct_parts a)) lx) in
+        let s = weight_parts r.store b (some_part i (count (direct_parts b)) ly) in
+        let e = depth-strict (r.store).budget (weight r.store (direct_parts a) + weight r.store (direct_parts b))
         (weight r.store a + weight r.store b) (omega (arith, p, s)) in
         omega (arith, d, e)
 

@@ -20,7 +20,7 @@ use Rattle.relation_recursion.specs.declared.forms.Form.TheVariants.{Leaf, Adt, 
 use Rattle.relation_recursion.specs.declared.forms.Form.TheVariants.{Coroutine, CoroutineWitness, Array, Slice}
 use Rattle.relation_recursion.specs.declared.forms.Form.TheVariants.{Pat, RawPtr, Ref, Tuple, FnPtr, UnsafeBinder, Dynamic}
 use Rattle.relation_recursion.specs.declared.forms.Form.TheVariants.{Alias}
-use Rattle.relation_semantics.specs.Parts.{own_parts, head_of}
+use Rattle.relation_semantics.specs.Parts.{direct_parts, head_of}
 use Rattle.relation_recursion.specs.Forms.{named_outline, head_outline, tree_outline, IsFixed}
 use Rattle.relation_semantics.specs.Errors.{outer_head, outermost, AreAlike, AreOfOneForm, over_parts, over_aliases, one_leaf}
 use Rattle.relation_semantics.specs.Errors.{FormError, mutability, pointer_mutability, as_many, alias_arguments, unlike_aliases}
@@ -102,7 +102,7 @@ alike_item : (t u : Tree) → ((tree_outline t).form ≡ Alias → ⊥) → ((tr
 alike_item t u n o a = sym (outermost_item t n) ∙ ap (λ z. (tree_outline z).item) a ∙ outermost_item u o
 
 -- A type that is not without parts.
-over_node : (t : Tree) → ((tree_outline t).form ≡ Leaf → ⊥) → t ≡ node (head_of t) (own_parts t)
+over_node : (t : Tree) → ((tree_outline t).form ≡ Leaf → ⊥) → t ≡ node (head_of t) (direct_parts t)
 over_node (node h ts) n = refl
 over_node t n = absurd (n refl)
 
@@ -112,7 +112,7 @@ outline_head t n = absurd (n refl)
 
 -- An alias type.
 alias_shape : (t : Tree) → (tree_outline t).form ≡ Alias →
-    (k : AliasKind) × (d : ℕ) × (t ≡ node (alias k d) (own_parts t)) × ((tree_outline t).item ≡ Some d)
+    (k : AliasKind) × (d : ℕ) × (t ≡ node (alias k d) (direct_parts t)) × ((tree_outline t).item ≡ Some d)
 alias_shape (node (alias k d) ts) e = (k, d, refl, refl)
 alias_shape (node h ts) e = absurd (cc)
 alias_shape t e = absurd (cc)
@@ -147,12 +147,12 @@ head_count (ref u) ts f k = row_count (term_of region_sort ∷ term_of type_sort
 head_count h ts f k = absurd k
 
 tree_count : (t : Tree) → IsTerm type_sort t → IsFixed (tree_outline t).form →
-    count (own_parts t) ≡ fixed_count (tree_outline t).form
+    count (direct_parts t) ≡ fixed_count (tree_outline t).form
 tree_count (node h ts) i k = head_count h ts i.1 k
 tree_count t i k = absurd k
 
 pub fixed_counts : (t u : Tree) (f : Form) → IsTerm type_sort t → IsTerm type_sort u → (tree_outline t).form ≡ f →
-    (tree_outline u).form ≡ f → IsFixed f → count (own_parts t) ≡ count (own_parts u)
+    (tree_outline u).form ≡ f → IsFixed f → count (direct_parts t) ≡ count (direct_parts u)
 fixed_counts t u f i j et eu k = tree_count t i (subst IsFixed (sym et) k) ∙ ap fixed_count et
     ∙ sym (tree_count u j (subst IsFixed (sym eu) k) ∙ ap fixed_count eu)
 
@@ -196,8 +196,8 @@ module _ {Key Id Name : Type 0} (m : Meaning Key Id Name) (x y : TyKey Key) (o p
           let (i, oi, ic) = item_named m.id o.item c (ap (λ z. z.item) left ∙ ct) in
           let (j, pj, jd) = item_named m.id p.item d (ap (λ z. z.item) right ∙ du) in
           subst (FormError m x y) (sym (aliases i j is oi pj)) (unlike_aliases i j
-          (t ∙ ap (λ z. node (alias k z) (own_parts (m.ty x))) (sym ic))
-          (u ∙ ap (λ z. node (alias l z) (own_parts (m.ty y))) (sym jd))
+          (t ∙ ap (λ z. node (alias k z) (direct_parts (m.ty x))) (sym ic))
+          (u ∙ ap (λ z. node (alias l z) (direct_parts (m.ty y))) (sym jd))
           (λ z. n (ap (id_number m.id) oi ∙ ap Some z ∙ sym (ap (id_number m.id) pj))))
 
       go : (o.form ≡ Alias) ⊎ (o.form ≢ Alias) → FormError m x y e
@@ -240,13 +240,13 @@ module _ {Key Id Name : Type 0} (m : Meaning Key Id Name) (x y : TyKey Key) (o p
     unlike_mutability n = go o.form refl
       where
         is_left : (f : Form) → f ≢ Alias → o.form ≡ f →
-            m.ty x ≡ node (from f (id_number m.id o.item) o.mutability) (own_parts (m.ty x))
-        is_left f other e = over_node (m.ty x) some_left ∙ ap (λ h. node h (own_parts (m.ty x)))
+            m.ty x ≡ node (from f (id_number m.id o.item) o.mutability) (direct_parts (m.ty x))
+        is_left f other e = over_node (m.ty x) some_left ∙ ap (λ h. node h (direct_parts (m.ty x)))
             (left_from (λ z. other (sym e ∙ z)) ∙ ap (λ z. from z (id_number m.id o.item) o.mutability) e)
 
         is_right : (f : Form) → f ≢ Alias → o.form ≡ f →
-            m.ty y ≡ node (from f (id_number m.id p.item) p.mutability) (own_parts (m.ty y))
-        is_right f other e = over_node (m.ty y) some_right ∙ ap (λ h. node h (own_parts (m.ty y)))
+            m.ty y ≡ node (from f (id_number m.id p.item) p.mutability) (direct_parts (m.ty y))
+        is_right f other e = over_node (m.ty y) some_right ∙ ap (λ h. node h (direct_parts (m.ty y)))
             (right_from (λ z. other (sym e ∙ z)) ∙ ap (λ z. from z (id_number m.id p.item) p.mutability) (sym form ∙ e))
 
         both : (f : Form) → o.form ≡ f → own_mutability f o.mutability ≡ own_mutability f p.mutability → ⊥
@@ -266,34 +266,34 @@ module _ {Key Id Name : Type 0} (m : Meaning Key Id Name) (x y : TyKey Key) (o p
       one_head other = left_from other ∙ ap (λ z. from z (id_number m.id o.item) o.mutability) form
           ∙ ap (λ z. from p.form z o.mutability) item ∙ ap (from p.form (id_number m.id p.item)) same ∙ sym (right_from other)
 
-      over_right : o.form ≢ Alias → m.ty y ≡ node (head_of (m.ty x)) (own_parts (m.ty y))
-      over_right other = over_node (m.ty y) some_right ∙ ap (λ h. node h (own_parts (m.ty y))) (sym (one_head other))
+      over_right : o.form ≢ Alias → m.ty y ≡ node (head_of (m.ty x)) (direct_parts (m.ty y))
+      over_right other = over_node (m.ty y) some_right ∙ ap (λ h. node h (direct_parts (m.ty y))) (sym (one_head other))
 
       -- Two aliases of one item.
       one_item : o.form ≡ Alias → (k : AliasKind) × (l : AliasKind) × (d : ℕ) ×
-          (m.ty x ≡ node (alias k d) (own_parts (m.ty x))) × (m.ty y ≡ node (alias l d) (own_parts (m.ty y)))
+          (m.ty x ≡ node (alias k d) (direct_parts (m.ty x))) × (m.ty y ≡ node (alias l d) (direct_parts (m.ty y)))
       one_item is =
           let (k, c, t, ct) = alias_shape (m.ty x) (sym (ap (λ z. z.form) left) ∙ is) in
           let (l, d, u, du) = alias_shape (m.ty y) (sym (ap (λ z. z.form) right) ∙ sym form ∙ is) in
           let named_one : Some c ≡ Some d =
           sym ct ∙ sym (ap (λ z. z.item) left) ∙ item ∙ ap (λ z. z.item) right ∙ du in
-          let e : c ≡ d = cc in (k, l, d, t ∙ ap (λ z. node (alias k z) (own_parts (m.ty x))) e, u)
+          let e : c ≡ d = cc in (k, l, d, t ∙ ap (λ z. node (alias k z) (direct_parts (m.ty x))) e, u)
 
-      pub forms_alike : count (own_parts (m.ty x)) ≡ count (own_parts (m.ty y)) → AreOfOneForm (m.ty x) (m.ty y)
+      pub forms_alike : count (direct_parts (m.ty x)) ≡ count (direct_parts (m.ty y)) → AreOfOneForm (m.ty x) (m.ty y)
       forms_alike n = go (is_alias o.form)
         where
           go : (o.form ≡ Alias) ⊎ (o.form ≢ Alias) → AreOfOneForm (m.ty x) (m.ty y)
           go (inl is) = let (k, l, d, t, u) = one_item is in over_aliases t u n
           go (inr other) = over_parts (over_node (m.ty x) some_left) (over_right other) n
 
-      pub unlike_counts : (i j : ℕ) → i ≡ count (own_parts (m.ty x)) → j ≡ count (own_parts (m.ty y)) → i ≢ j →
+      pub unlike_counts : (i j : ℕ) → i ≡ count (direct_parts (m.ty x)) → j ≡ count (direct_parts (m.ty y)) → i ≢ j →
           (e : TypeError Key Id Name) →
           (o.form ≡ Tuple → 0 < i → 0 < j → e ≡ TupleSize (record { expected = i; found = j })) →
           ((i ≡ 0) ⊎ (j ≡ 0) → e ≡ Sorts (record { expected = x; found = y })) →
           (o.form ≢ Tuple → e ≡ Sorts (record { expected = x; found = y })) → FormError m x y e
       unlike_counts i j ci cj differ e sizes empty others = go (is_tuple o.form) (is_alias o.form)
         where
-          unequal : count (own_parts (m.ty x)) ≢ count (own_parts (m.ty y))
+          unequal : count (direct_parts (m.ty x)) ≢ count (direct_parts (m.ty y))
           unequal q = differ (ci ∙ q ∙ sym cj)
 
           go : (o.form ≡ Tuple) ⊎ (o.form ≢ Tuple) → (o.form ≡ Alias) ⊎ (o.form ≢ Alias) → FormError m x y e
@@ -301,9 +301,9 @@ module _ {Key Id Name : Type 0} (m : Meaning Key Id Name) (x y : TyKey Key) (o p
           go (inl t) (inr other) =
               let h : head_of (m.ty x) ≡ tuple =
               left_from other ∙ ap (λ z. from z (id_number m.id o.item) o.mutability) t in
-              lengths_error m i j (own_parts (m.ty x)) (own_parts (m.ty y)) x y e
-              (over_node (m.ty x) some_left ∙ ap (λ z. node z (own_parts (m.ty x))) h)
-              (over_right other ∙ ap (λ z. node z (own_parts (m.ty y))) h) ci cj differ (sizes t) empty
+              lengths_error m i j (direct_parts (m.ty x)) (direct_parts (m.ty y)) x y e
+              (over_node (m.ty x) some_left ∙ ap (λ z. node z (direct_parts (m.ty x))) h)
+              (over_right other ∙ ap (λ z. node z (direct_parts (m.ty y))) h) ci cj differ (sizes t) empty
           go (inr n) (inl is) =
               let (k, l, d, t, u) = one_item is in
               subst (FormError m x y) (sym (others n)) (alias_arguments t u unequal)

@@ -36,7 +36,7 @@ use Rattle.relation_semantics.specs.Errors.{unlike_numbers, unlike_members, Part
 use Rattle.relation_semantics.specs.Errors.{existential_error, item_error, object_error, ItemError, IsItemHead}
 use Rattle.relation_semantics.specs.Errors.{unlike_alias_terms, unlike_trait_refs, unlike_lists}
 use Rattle.relation_semantics.specs.Errors.{unlike_polarities}
-use Rattle.relation_semantics.specs.Parts.{own_parts, head_of, IsByParts}
+use Rattle.relation_semantics.specs.Parts.{direct_parts, head_of, IsByParts}
 use Rattle.relation_recursion.proofs.Compared.{parts_list, list_of}
 use Rattle.relation_semantics.proofs.Erased.{forms_unify_by_parts}
 use Rattle.relation_steps.proofs.Fronts.{IsLookedAt}
@@ -65,17 +65,17 @@ no_region (existential_auto d) o e = absurd (cc)
 no_region x o e = o
 
 pub terms_unify : (a b : Tree) → IsByParts a → AreOfOneForm a b → (s : Assign) → Unifies s a b ↔
-    Unifies s (own_parts a) (own_parts b)
+    Unifies s (direct_parts a) (direct_parts b)
 terms_unify a b o (over_parts {h} {ts} {us} d e n) s = subst₂
-    (λ x y. Unifies s x y ↔ Unifies s (own_parts x) (own_parts y)) (sym d) (sym e)
+    (λ x y. Unifies s x y ↔ Unifies s (direct_parts x) (direct_parts y)) (sym d) (sym e)
     (forms_unify_by_parts s h ts us (no_value_type h ts (subst IsByParts d o)))
 terms_unify a b o (over_aliases d e n) s = absurd (subst IsByParts d o)
-terms_unify a b o (one_leaf {l} d e) s = subst₂ (λ x y. Unifies s x y ↔ Unifies s (own_parts x) (own_parts y))
+terms_unify a b o (one_leaf {l} d e) s = subst₂ (λ x y. Unifies s x y ↔ Unifies s (direct_parts x) (direct_parts y))
     (sym d) (sym e) ((λ z. refl), (λ z. refl))
 terms_unify a b o (parameters {x} {y} d e p) s =
     let i = no_region x (subst IsByParts d o) in
     let j = no_region y (subst IsByParts e (term_alike a b (parameters d e p) o)) in
-    subst₂ (λ x y. Unifies s x y ↔ Unifies s (own_parts x) (own_parts y)) (sym d) (sym e)
+    subst₂ (λ x y. Unifies s x y ↔ Unifies s (direct_parts x) (direct_parts y)) (sym d) (sym e)
     ((λ z. refl), (λ z. ap (λ z. leaf (atom z)) (erased_parameters x y i j p)))
 
 -- Two that are unified are of one form.

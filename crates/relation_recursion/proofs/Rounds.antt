@@ -21,7 +21,7 @@ use Rattle.relation_semantics.specs.Goals.{Goal}
 use Rattle.relation_semantics.specs.Outcomes.{Outcome, NeverOne}
 use Rattle.relation_semantics.specs.Measures.{grown, depth, Goes}
 use Rattle.relation_semantics.specs.Steps.{HasNoBinder}
-use Rattle.relation_semantics.specs.Kits.{Kit, IsBuiltOf, StaysBuilt, MayBind}
+use Rattle.relation_semantics.specs.Alphabets.{Alphabet, IsBuiltOf, StaysBuilt, MayBind}
 use Rattle.relation_semantics.specs.Errors.{ErrorOf}
 use Rattle.relation_semantics.specs.Agreeing.{Agree}
 use Rattle.relation_semantics.specs.Lawful.{State, Manners, MayAnswer, Passes, Asked, Refuses, Related, items_in}
@@ -55,7 +55,7 @@ under_known (Some ks) t k h = h
 under_known None t k h = false≢true k
 
 -- What a known binder is built of has binders that bind as it does.
-pub under_binds : (vars : Option (List BoundKind)) (t : Tree) → IsTrue (known (under vars t)) → (k : Kit) →
+pub under_binds : (vars : Option (List BoundKind)) (t : Tree) → IsTrue (known (under vars t)) → (k : Alphabet) →
     IsBuiltOf k (under vars t) → MayBind k (bound_by (under vars t))
 under_binds (Some ks) t known k h = h.0
 under_binds None t known k h = absurd (false≢true known)

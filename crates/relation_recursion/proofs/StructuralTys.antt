@@ -22,7 +22,7 @@ use Rattle.relation_semantics.specs.Settings.{Settings}
 use Rattle.relation_semantics.specs.Errors.{ErrorOf, ErrorByForms, as_forms, IsHandedOn, of_parts, of_alias_parts, of_length}
 use Rattle.relation_semantics.specs.Errors.{AreOfOneForm, over_parts, over_aliases, one_leaf, parameters}
 use Rattle.relation_semantics.specs.Errors.{AreOfOneConst}
-use Rattle.relation_semantics.specs.Parts.{IsFormed, own_parts, const_parts_of, head_of, const_head_of}
+use Rattle.relation_semantics.specs.Parts.{IsFormed, direct_parts, const_parts_of, head_of, const_head_of}
 use Rattle.part_variances.specs.Handing.{IsPassedOn, IsNoLength, IsFaultOfTy, passed, sized, IsFaultOfConst, passed_const, whole}
 use Rattle.relation_semantics.specs.Lawful.{State, Manners, MayAnswer, Passes, Refuses, RefusesAs, Related}
 use Rattle.relation_semantics.specs.Lawful.{RelatedForms, ExactResult, ExactlyRelated, items_in}
@@ -94,18 +94,18 @@ module _ {Key Id Name : Type 0} (n p : Meaning Key Id Name) (e : Extends n p) (s
         of_alias_parts i s' t m lt (subst₂ (ErrorOf p set j st (part_at j (alias k d) i v) f) z w u)
 
     pub ty_complains : (st : Store) (f : TypeError Key Id Name) (g : RelateFault Key Id Name) → IsFormed a →
-        AreOfOneForm a b → i < count (own_parts a) → x ≡ nth i (own_parts a) → y ≡ nth i (own_parts b) →
+        AreOfOneForm a b → i < count (direct_parts a) → x ≡ nth i (direct_parts a) → y ≡ nth i (direct_parts b) →
         IsFaultOfTy a X Y (Unrelated f) g → ErrorOf p set j st (part_at j (head_of a) i v) f x y →
         (k : TypeError Key Id Name) × (g ≡ Unrelated k) × ErrorByForms p set j st v k a b
     ty_complains st f g t (one_leaf s' k) l z w o h =
-        absurd (let c : count (own_parts a) ≡ 0 = ap (λ z. count (own_parts z)) s' in omega (arith, c, l))
+        absurd (let c : count (direct_parts a) ≡ 0 = ap (λ z. count (direct_parts z)) s' in omega (arith, c, l))
     ty_complains st f g t (parameters s' k m) l z w o h =
-        absurd (let c : count (own_parts a) ≡ 0 = ap (λ z. count (own_parts z)) s' in omega (arith, c, l))
+        absurd (let c : count (direct_parts a) ≡ 0 = ap (λ z. count (direct_parts z)) s' in omega (arith, c, l))
     ty_complains st f g t (over_aliases {k = kd} {l = ld} {d} {ts} {us} s' k m) l z w (passed is o) h = (
       f,
       is,
-      alias_error st f kd ld d ts us s' k m (subst (λ z. i < count (own_parts z)) s' l)
-          (z ∙ ap (λ z. nth i (own_parts z)) s') (w ∙ ap (λ z. nth i (own_parts z)) k)
+      alias_error st f kd ld d ts us s' k m (subst (λ z. i < count (direct_parts z)) s' l)
+          (z ∙ ap (λ z. nth i (direct_parts z)) s') (w ∙ ap (λ z. nth i (direct_parts z)) k)
           (subst (λ z. ErrorOf p set j st (part_at j (head_of z) i v) f x y) s' h),
     )
     ty_complains st f g t (over_aliases s' k m) l z w (sized c d o j' k' l' is eq) h =
@@ -113,16 +113,16 @@ module _ {Key Id Name : Type 0} (n p : Meaning Key Id Name) (e : Extends n p) (s
     ty_complains st f g t (over_parts {h = hd} {ts} {us} s' k m) l z w (passed is o) h = (
       f,
       is,
-      ty_error st f hd ts us s' k (subst IsFormed s' t) m (subst (λ z. i < count (own_parts z)) s' l)
-          (z ∙ ap (λ z. nth i (own_parts z)) s') (w ∙ ap (λ z. nth i (own_parts z)) k) o
+      ty_error st f hd ts us s' k (subst IsFormed s' t) m (subst (λ z. i < count (direct_parts z)) s' l)
+          (z ∙ ap (λ z. nth i (direct_parts z)) s') (w ∙ ap (λ z. nth i (direct_parts z)) k) o
           (subst (λ z. ErrorOf p set j st (part_at j (head_of z) i v) f x y) s' h),
     )
     ty_complains st f g t (over_parts {h = hd} {ts} {us} s' k m) l z w (sized {ts = vs} c d o j' k' l' is eq) h =
         let same : f ≡ ConstMismatch o = cc in (
           ArraySize (record { expected = c; found = d }),
           eq,
-          length_error st o c d ts us hd vs s' k j' m (subst (λ z. i < count (own_parts z)) s' l)
-              (z ∙ ap (λ z. nth i (own_parts z)) s') (w ∙ ap (λ z. nth i (own_parts z)) k) k' l'
+          length_error st o c d ts us hd vs s' k j' m (subst (λ z. i < count (direct_parts z)) s' l)
+              (z ∙ ap (λ z. nth i (direct_parts z)) s') (w ∙ ap (λ z. nth i (direct_parts z)) k) k' l'
               (subst (λ z. ErrorOf p set j st (part_at j hd i v) z x y) same
               (subst (λ z. ErrorOf p set j st (part_at j (head_of z) i v) f x y) s' h)),
         )
@@ -145,7 +145,7 @@ still_unrelated t X Y e k (passed is o) = (e, is)
 still_unrelated t X Y e k (sized c d p j x y is eq) = (ArraySize (record { expected = c; found = d }), eq)
 
 -- The parts of two first-order types.
-pub parts_pair : (st : Store) (a b : Tree) → IsFirstOrderPair st a b → IsFirstOrderPair st (own_parts a) (own_parts b)
+pub parts_pair : (st : Store) (a b : Tree) → IsFirstOrderPair st a b → IsFirstOrderPair st (direct_parts a) (direct_parts b)
 parts_pair st a b pair = record {
   left = first_order_parts a pair.left;
   right = first_order_parts b pair.right;
@@ -154,7 +154,7 @@ parts_pair st a b pair = record {
 
 -- Lists of parts of a form that are never one are the parts of forms that are never one.
 pub types_never : (st : Store) (v : Variance) (a b : Tree) → AreOfOneForm a b →
-    NeverOne (parts (head_of a) 0 v) st (own_parts a) (own_parts b) → NeverOne (at v) st a b
+    NeverOne (parts (head_of a) 0 v) st (direct_parts a) (direct_parts b) → NeverOne (at v) st a b
 types_never st v a b o n w s sat q = n w s sat (parts_equal a b o s q)
 
 pub consts_never : (st : Store) (v : Variance) (a b : Tree) → AreOfOneConst a b →
@@ -163,11 +163,11 @@ consts_never st v a b o n w s sat q = n w s sat (const_parts_equal a b o s q)
 
 module _ {Key Id Name : Type 0} {r q : State Key Id Name} (M : Manners) (v : Variance) (a b : Tree) (i : ℕ) where
   -- Two parts of two types were refused, and so are the types.
-  module _ (is_formed : IsFormed a) (o : AreOfOneForm a b) (f : Fronted M r q (head_of a) v i (own_parts a) (own_parts b))
-      (are : AreParts r.store (own_parts a) (own_parts b)) (X Y : GenericArgKind Key)
+  module _ (is_formed : IsFormed a) (o : AreOfOneForm a b) (f : Fronted M r q (head_of a) v i (direct_parts a) (direct_parts b))
+      (are : AreParts r.store (direct_parts a) (direct_parts b)) (X Y : GenericArgKind Key)
       (x_known : IsTrue (known (arg_tree q.meaning X))) (y_known : IsTrue (known (arg_tree q.meaning Y)))
-      (s : Sorted q.meaning) (lx : i < count (own_parts a)) (ly : i < count (own_parts b))
-      (ex : arg_tree q.meaning X ≡ nth i (own_parts a)) (ey : arg_tree q.meaning Y ≡ nth i (own_parts b)) where
+      (s : Sorted q.meaning) (lx : i < count (direct_parts a)) (ly : i < count (direct_parts b))
+      (ex : arg_tree q.meaning X ≡ nth i (direct_parts a)) (ey : arg_tree q.meaning Y ≡ nth i (direct_parts b)) where
     ty_refuses : {n : ℕ} {p : State Key Id Name} (g : Passes n q p) (e k : RelateFault Key Id Name) →
         IsTrue (known (arg_tree p.meaning X)) → IsTrue (known (arg_tree p.meaning Y)) → IsFaultOfTy a X Y e k →
         Refuses q p (part_at (items_in r) (head_of a) i v) (arg_tree q.meaning X) (arg_tree q.meaning Y) e →
@@ -177,7 +177,7 @@ module _ {Key Id Name : Type 0} {r q : State Key Id Name} (M : Manners) (v : Var
     ty_refuses {p = p} g Budget k kx ky t h =
         subst (RefusesAs as_forms r p (at v) a b) (sym (same_fault a X Y Budget k t (λ e z. cc))) (
           h.0,
-          λ j ha hb. fronted_needs (head_of a) v i (own_parts a) (own_parts b) (arg_tree q.meaning X)
+          λ j ha hb. fronted_needs (head_of a) v i (direct_parts a) (direct_parts b) (arg_tree q.meaning X)
               (arg_tree q.meaning Y) f lx ly ex ey h.1 j (built_parts j a ha) (built_parts j b hb),
         )
     ty_refuses {p = p} g (Unrelated e) k kx ky t h =
@@ -187,7 +187,7 @@ module _ {Key Id Name : Type 0} {r q : State Key Id Name} (M : Manners) (v : Var
         (subst (λ c. ErrorOf p.meaning p.kept.settings (items_in p) p.store (part_at c (head_of a) i v) e (arg_tree q.meaning X)
         (arg_tree q.meaning Y)) (sym same) h.1) in
         subst (RefusesAs as_forms r p (at v) a b) (sym z.1) (
-          types_never r.store v a b o (fronted_never (head_of a) v i (own_parts a) (own_parts b) (arg_tree q.meaning X)
+          types_never r.store v a b o (fronted_never (head_of a) v i (direct_parts a) (direct_parts b) (arg_tree q.meaning X)
               (arg_tree q.meaning Y) f lx ly ex ey are h.0),
           z.2,
           subst (KnowsFault p.meaning) z.1 (ty_fault_known p.meaning a X Y (Unrelated e) k kx ky t h.2),
@@ -197,10 +197,10 @@ module _ {Key Id Name : Type 0} {r q : State Key Id Name} (M : Manners) (v : Var
         ExactlyRelated {X = A} (M q.kept.settings) q.store p.store (part_at (items_in r) (head_of a) i v) (arg_tree q.meaning X)
         (arg_tree q.meaning Y) (Err e) → ExactlyRelated {X = B} (M r.kept.settings) r.store p.store v a b (Err e)
     whole_type A B p e is_formed' g exact is pair =
-        refused_as r.store p.store a b (own_parts a) (own_parts b)
+        refused_as r.store p.store a b (direct_parts a) (direct_parts b)
         (types_unify a b is_formed is_formed' (λ i. alias_not_first a i pair.left) o)
         (λ u. leaves_parts (NamesTypesTo u) a) (λ u. leaves_parts (NamesTypesTo u) b) A B e
-        (fronted_fault (head_of a) v i (own_parts a) (own_parts b) (arg_tree q.meaning X) (arg_tree q.meaning Y) f lx ly ex
+        (fronted_fault (head_of a) v i (direct_parts a) (direct_parts b) (arg_tree q.meaning X) (arg_tree q.meaning Y) f lx ly ex
         ey A A p e are exact is (formed_looked_at a is_formed) (parts_pair r.store a b pair)
         (λ z. g (manner_then M (λ m. m.is_exact) f.passes z)))
 
@@ -225,58 +225,58 @@ module _ {Key Id Name : Type 0} {r q : State Key Id Name} (M : Manners) (v : Var
     unfolding passes_within fronted_passes passes_then
     ty_refused {A} {B} {p} tree answer e k is_formed' kx ky t g = record {
       passes = passes_within (omega (arith, weight_parts_most r.store a, weight_parts_most r.store b))
-          (fronted_passes (head_of a) v i (own_parts a) (own_parts b) (arg_tree q.meaning X) (arg_tree q.meaning Y) f lx ly
+          (fronted_passes (head_of a) v i (direct_parts a) (direct_parts b) (arg_tree q.meaning X) (arg_tree q.meaning Y) f lx ly
           ex ey g.passes);
       records = tt;
       verdict = ty_refuses g.passes e k kx ky t g.verdict;
       exact = ty_exactly A B p e k is_formed' t g.exact;
-      full = λ ha hb. fronted_full (head_of a) v i (own_parts a) (own_parts b) (arg_tree q.meaning X)
+      full = λ ha hb. fronted_full (head_of a) v i (direct_parts a) (direct_parts b) (arg_tree q.meaning X)
           (arg_tree q.meaning Y) f lx ly ex ey g.full (parts_plain a ha) (parts_plain b hb);
-      built = λ k ha hb. fronted_built (head_of a) v i (own_parts a) (own_parts b) (arg_tree q.meaning X)
+      built = λ k ha hb. fronted_built (head_of a) v i (direct_parts a) (direct_parts b) (arg_tree q.meaning X)
           (arg_tree q.meaning Y) f lx ly ex ey (g.passes).added g.built k (built_parts k a ha) (built_parts k b hb);
     }
 
   -- Memory ran out after some of the parts.
   pub types_stopped : {X : Type 0} (tree : X → Tree) → IsFormed a →
-      Fronted M r q (head_of a) v i (own_parts a) (own_parts b) → RelatedForms {X = X} M r q v a b tree (Err Memory)
+      Fronted M r q (head_of a) v i (direct_parts a) (direct_parts b) → RelatedForms {X = X} M r q v a b tree (Err Memory)
   unfolding passes_within
   types_stopped tree is_formed f = stopped M v a b tree
       (passes_within (omega (arith, weight_parts_most r.store a, weight_parts_most r.store b)) f.passes)
-      (λ exact is pair. binds_as r.store q.store a b (own_parts a) (own_parts b) (λ u. leaves_parts (NamesTypesTo u) a)
-      (λ u. leaves_parts (NamesTypesTo u) b) (keeps_binds r.store q.store (own_parts a) (own_parts b)
+      (λ exact is pair. binds_as r.store q.store a b (direct_parts a) (direct_parts b) (λ u. leaves_parts (NamesTypesTo u) a)
+      (λ u. leaves_parts (NamesTypesTo u) b) (keeps_binds r.store q.store (direct_parts a) (direct_parts b)
       (f.exact exact is (formed_looked_at a is_formed) (parts_pair r.store a b pair)).2))
       (λ ha hb. f.full (parts_plain a ha) (parts_plain b hb))
       (λ k ha hb. f.built k (built_parts k a ha) (built_parts k b hb))
 
   -- All parts of two types were related, and so are the types.
-  types_relate : IsFormed a → (o : AreOfOneForm a b) → (f : Fronted M r q (head_of a) v i (own_parts a) (own_parts b)) →
-      AreParts r.store (own_parts a) (own_parts b) → i ≡ count (own_parts a) → i ≡ count (own_parts b) →
+  types_relate : IsFormed a → (o : AreOfOneForm a b) → (f : Fronted M r q (head_of a) v i (direct_parts a) (direct_parts b)) →
+      AreParts r.store (direct_parts a) (direct_parts b) → i ≡ count (direct_parts a) → i ≡ count (direct_parts b) →
       (w : Interpretation) (s : Assign) → Satisfies w q.store s →
       All (Holds (items_in r) w s) (r.goals ++ (f.passes).added) →
       Rel (items_in r) w r.kept.environment (at v) (apply s a) (apply s b)
   types_relate is_formed (over_parts {h} {ts} {us} d e n) f are ea eb w s sat all =
-      let whole = fronted_all (head_of a) v i (own_parts a) (own_parts b) are ea eb f in
+      let whole = fronted_all (head_of a) v i (direct_parts a) (direct_parts b) are ea eb f in
       subst₂ (λ x y. Rel (items_in r) w r.kept.environment (at v) (apply s x) (apply s y)) (sym d) (sym e)
       (forms (related_head h (subst IsFormed d is_formed)) refl
-      (subst (λ z. Rel (items_in r) w r.kept.environment (parts h 0 v) (apply s (own_parts z)) (apply s us)) d
-      (subst (λ z. Rel (items_in r) w r.kept.environment (parts h 0 v) (apply s (own_parts a)) (apply s (own_parts z))) e
-      (subst (λ z. Rel (items_in r) w r.kept.environment (parts (head_of z) 0 v) (apply s (own_parts a)) (apply s (own_parts b))) d
+      (subst (λ z. Rel (items_in r) w r.kept.environment (parts h 0 v) (apply s (direct_parts z)) (apply s us)) d
+      (subst (λ z. Rel (items_in r) w r.kept.environment (parts h 0 v) (apply s (direct_parts a)) (apply s (direct_parts z))) e
+      (subst (λ z. Rel (items_in r) w r.kept.environment (parts (head_of z) 0 v) (apply s (direct_parts a)) (apply s (direct_parts b))) d
       (whole.relates w s sat all)))))
   types_relate is_formed (over_aliases {k} {l} {d = j} {ts} {us} d e n) f are ea eb w s sat all =
-      let whole = fronted_all (head_of a) v i (own_parts a) (own_parts b) are ea eb f in
+      let whole = fronted_all (head_of a) v i (direct_parts a) (direct_parts b) are ea eb f in
       subst₂ (λ x y. Rel (items_in r) w r.kept.environment (at v) (apply s x) (apply s y)) (sym d) (sym e)
       (forms tt refl
-      (subst (λ z. Rel (items_in r) w r.kept.environment (parts (alias k j) 0 v) (apply s (own_parts z)) (apply s us)) d
-      (subst (λ z. Rel (items_in r) w r.kept.environment (parts (alias k j) 0 v) (apply s (own_parts a)) (apply s (own_parts z))) e
-      (subst (λ z. Rel (items_in r) w r.kept.environment (parts (head_of z) 0 v) (apply s (own_parts a)) (apply s (own_parts b))) d
+      (subst (λ z. Rel (items_in r) w r.kept.environment (parts (alias k j) 0 v) (apply s (direct_parts z)) (apply s us)) d
+      (subst (λ z. Rel (items_in r) w r.kept.environment (parts (alias k j) 0 v) (apply s (direct_parts a)) (apply s (direct_parts z))) e
+      (subst (λ z. Rel (items_in r) w r.kept.environment (parts (head_of z) 0 v) (apply s (direct_parts a)) (apply s (direct_parts b))) d
       (whole.relates w s sat all)))))
   types_relate is_formed (one_leaf d e) f are ea eb w s sat all = same (ap (apply s) (d ∙ sym e))
   types_relate is_formed (parameters d e p) f are ea eb w s sat all =
       subst₂ (λ x y. Rel (items_in r) w r.kept.environment (at v) (apply s x) (apply s y)) (sym d) (sym e) (atoms p)
 
   pub types_related : {X : Type 0} (tree : X → Tree) (x : X) → IsFormed a → IsFormed b → AreOfOneForm a b →
-      Fronted M r q (head_of a) v i (own_parts a) (own_parts b) → AreParts r.store (own_parts a) (own_parts b) →
-      i ≡ count (own_parts a) → i ≡ count (own_parts b) → tree x ≡ a → IsTrue (known a) →
+      Fronted M r q (head_of a) v i (direct_parts a) (direct_parts b) → AreParts r.store (direct_parts a) (direct_parts b) →
+      i ≡ count (direct_parts a) → i ≡ count (direct_parts b) → tree x ≡ a → IsTrue (known a) →
       RelatedForms M r q v a b tree (Ok x)
   unfolding passes_within
   types_related tree x is_formed is_formed' o f are ea eb answer k = record {
@@ -291,13 +291,13 @@ module _ {Key Id Name : Type 0} {r q : State Key Id Name} (M : Manners) (v : Var
       answer = subst (MayAnswer M q v a) (sym answer) (may_itself M q v a);
       known = subst (λ u. IsTrue (known u)) (sym answer) k;
       agrees = λ k. form_agrees r.kept.settings (items_in r) v a b o
-          (fronted_agree (head_of a) v i (own_parts a) (own_parts b) ea eb f k);
+          (fronted_agree (head_of a) v i (direct_parts a) (direct_parts b) ea eb f k);
     };
     exact = λ exact is pair.
-        answered_as r.store q.store a b (own_parts a) (own_parts b)
+        answered_as r.store q.store a b (direct_parts a) (direct_parts b)
         (types_unify a b is_formed is_formed' (λ i. alias_not_first a i pair.left) o)
         (λ u. leaves_parts (NamesTypesTo u) a) (λ u. leaves_parts (NamesTypesTo u) b)
-        (fronted_exactly (head_of a) v i (own_parts a) (own_parts b) are ea eb f exact is
+        (fronted_exactly (head_of a) v i (direct_parts a) (direct_parts b) are ea eb f exact is
         (formed_looked_at a is_formed) (parts_pair r.store a b pair));
     full = λ ha hb. f.full (parts_plain a ha) (parts_plain b hb);
     built = λ k ha hb. f.built k (built_parts k a ha) (built_parts k b hb);

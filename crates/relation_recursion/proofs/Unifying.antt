@@ -21,7 +21,7 @@ use Rattle.relation_semantics.specs.Errors.{AreOfOneConst, values, expressions, 
 use Rattle.relation_semantics.specs.Errors.{AreOfOneValue, one_value, as_many_branches}
 use Rattle.relation_semantics.specs.Stores.{Store}
 use Rattle.relation_semantics.specs.Outcomes.{Exact}
-use Rattle.relation_semantics.specs.Parts.{IsFormed, IsFormedConst, own_parts, const_parts_of, head_of, const_head_of, branches_of}
+use Rattle.relation_semantics.specs.Parts.{IsFormed, IsFormedConst, direct_parts, const_parts_of, head_of, const_head_of, branches_of}
 use Rattle.relation_semantics.proofs.Erased.{forms_unify_by_parts}
 use Rattle.relation_steps.proofs.Fronts.{IsLookedAt}
 use Rattle.relation_folds.specs.declared.error.RelateFault.{RelateFault}
@@ -32,7 +32,7 @@ use Rattle.relation_semantics.proofs.OneUniverse.{keeps_as, binds_as, fewer_as}
 use Rattle.relation_terms.proofs.Erasing.{erased_atom}
 
 -- The parts of first-order terms are first-order.
-pub first_order_parts : (t : Tree) → IsFirstOrder t → IsFirstOrder (own_parts t)
+pub first_order_parts : (t : Tree) → IsFirstOrder t → IsFirstOrder (direct_parts t)
 first_order_parts (node h ts) f = f.3
 first_order_parts (leaf l) f = tt
 first_order_parts (bind ks t) f = tt
@@ -294,17 +294,17 @@ pub erased_parameters : (x y : Atom) → (atom_sort x ≡ region_sort → ⊥) �
 erased_parameters x y o l e = erased_plain x o ∙ e ∙ sym (erased_plain y l)
 
 pub types_unify : (a b : Tree) → IsFormed a → IsFormed b → (IsAlias a → ⊥) → AreOfOneForm a b → (s : Assign) →
-    Unifies s a b ↔ Unifies s (own_parts a) (own_parts b)
+    Unifies s a b ↔ Unifies s (direct_parts a) (direct_parts b)
 types_unify a b f g o (over_aliases d e n) s = absurd (o (subst IsAlias (sym d) tt))
 types_unify a b f g o (over_parts {h} {ts} {us} d e n) s = subst₂
-    (λ x y. Unifies s x y ↔ Unifies s (own_parts x) (own_parts y)) (sym d) (sym e)
+    (λ x y. Unifies s x y ↔ Unifies s (direct_parts x) (direct_parts y)) (sym d) (sym e)
     (forms_unify_by_parts s h ts us (no_value_type h (subst IsFormed d f)))
-types_unify a b f g o (one_leaf {l} d e) s = subst₂ (λ x y. Unifies s x y ↔ Unifies s (own_parts x) (own_parts y))
+types_unify a b f g o (one_leaf {l} d e) s = subst₂ (λ x y. Unifies s x y ↔ Unifies s (direct_parts x) (direct_parts y))
     (sym d) (sym e) ((λ z. refl), (λ z. refl))
 types_unify a b f g o (parameters {x} {y} d e p) s =
     let i = formed_leaf (atom x) (subst IsFormed d f) in
     let j = formed_leaf (atom y) (subst IsFormed e g) in
-    subst₂ (λ x y. Unifies s x y ↔ Unifies s (own_parts x) (own_parts y)) (sym d) (sym e)
+    subst₂ (λ x y. Unifies s x y ↔ Unifies s (direct_parts x) (direct_parts y)) (sym d) (sym e)
     ((λ z. refl), (λ z. ap (λ z. leaf (atom z)) (erased_parameters x y i.1 j.1 p)))
 
 -- Of constants the same.

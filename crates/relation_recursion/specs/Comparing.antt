@@ -19,7 +19,7 @@ use Rattle.relation_semantics.specs.Errors.{ItemError}
 use Rattle.relation_semantics.specs.Relation.{plain}
 use Rattle.relation_steps.specs.declared.arguments.ArgVariances.TheVariants.{AliasTerm as OfAliasTerm, Trait as OfTrait}
 use Rattle.relation_steps.specs.Arguments.{args_head}
-use Rattle.relation_semantics.specs.Parts.{own_parts, const_parts_of}
+use Rattle.relation_semantics.specs.Parts.{direct_parts, const_parts_of}
 
 -- Of an alias term the kind of an opaque type alone is looked at.
 abbrev pub is_opaque_kind : AliasTermKind → Bool
@@ -61,7 +61,7 @@ module _ {Key Id Name : Type 0} where
 
   -- The part of a term, or of a constant, at a place.
   abbrev pub nth_part : Meaning Key Id Name → ℕ → Part Key Id → Tree
-  nth_part m i t = nth i (own_parts (part_tree m t))
+  nth_part m i t = nth i (direct_parts (part_tree m t))
 
   abbrev pub nth_const_part : Meaning Key Id Name → ℕ → ConstKey Key → Tree
   nth_const_part m i c = nth i (const_parts_of (m.const_ c))

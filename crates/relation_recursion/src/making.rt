@@ -3,7 +3,7 @@ ghost use Rattle.std.specs.Prelude.{◌≡◌, IsTrue, IfOk, map};
 ghost use Rattle.relation_terms.specs.Trees.{known, list_tree};
 ghost use Rattle.relation_terms.specs.Meaning.{arg_tree};
 ghost use Rattle.relation_terms.specs.Parts.{part_tree, part_of_arg, part_sort, Fit};
-ghost use Rattle.relation_semantics.specs.Parts.{own_parts, const_parts_of, IsByParts};
+ghost use Rattle.relation_semantics.specs.Parts.{direct_parts, const_parts_of, IsByParts};
 ghost use Rattle.relation_semantics.specs.Lawful.{WithMeaning, OnlyMemory};
 ghost use Rattle.relation_semantics.specs.Making.{FitArgs};
 ghost use Rattle.relation_steps.specs.Keyed.{MakesTyOver, MakesConstOver, MakesPartOver};
@@ -57,9 +57,9 @@ fn is_part<I: Interner>(_cx: &I, arg: &GenericArg<I>, part: &PartOf<I>) -> bool
 fn are_its_parts<I: Interner>(cx: &I, ty: &Ty<I>, args: &[GenericArg<I>]) -> bool
     requires ty_known { IsTrue (known ((I.meaning cx.now).ty ty.now)) }
     requires args_known { IsTrue (known (list_tree (arg_tree (I.meaning cx.now)) args.now)) }
-    requires fits { FitArgs args.now (own_parts ((I.meaning cx.now).ty ty.now)) }
+    requires fits { FitArgs args.now (direct_parts ((I.meaning cx.now).ty ty.now)) }
     ensures { let m = I.meaning cx.now in
-        IsTrue result → list_tree (arg_tree m) args.now ≡ own_parts (m.ty ty.now) }
+        IsTrue result → list_tree (arg_tree m) args.now ≡ direct_parts (m.ty ty.now) }
 {
     let parts = parts_in(cx, ty, &cx.ty_kind(ty));
     for i in 0..args.len() {
@@ -78,7 +78,7 @@ fn ty_with_parts<I: Interner>(
 ) -> Result<Ty<I>, OutOfMemory>
     requires ty_known { IsTrue (known ((I.meaning cx.old).ty ty.now)) }
     requires args_known { IsTrue (known (list_tree (arg_tree (I.meaning cx.old)) args.now)) }
-    requires fits { FitArgs args.now (own_parts ((I.meaning cx.old).ty ty.now)) }
+    requires fits { FitArgs args.now (direct_parts ((I.meaning cx.old).ty ty.now)) }
     ensures { MakesTyOver (I.meaning cx.old) (I.meaning cx.new) ty.now args.now result }
 {
     if are_its_parts(cx, ty, args) {
@@ -122,7 +122,7 @@ fn term_with_parts<I: Interner>(
     requires term_known { IsTrue (known (part_tree (I.meaning cx.old) term.now)) }
     requires form { IsByParts (part_tree (I.meaning cx.old) term.now) }
     requires parts_known { IsTrue (known (list_tree (part_tree (I.meaning cx.old)) parts.now)) }
-    requires fits { Fit parts.now (own_parts (part_tree (I.meaning cx.old) term.now)) }
+    requires fits { Fit parts.now (direct_parts (part_tree (I.meaning cx.old) term.now)) }
     ensures made { MakesPartOver (I.meaning cx.old) (I.meaning cx.new) term.now parts.now result }
     ensures sort { IfOk result (λ p. part_sort p ≡ part_sort term.now) }
 {
@@ -138,7 +138,7 @@ pub(crate) fn make_ty<I: Interner, R: TypeRelation<I>>(
     requires lawful { (R.state r.old).lawful }
     requires ty_known { IsTrue (known ((R.state r.old).meaning.ty ty.now)) }
     requires parts_known { IsTrue (known (list_tree (arg_tree (R.state r.old).meaning) parts.now)) }
-    requires fits { FitArgs parts.now (own_parts ((R.state r.old).meaning.ty ty.now)) }
+    requires fits { FitArgs parts.now (direct_parts ((R.state r.old).meaning.ty ty.now)) }
     ensures grown { WithMeaning (R.state r.old) (R.state r.new).meaning (R.state r.new) }
     ensures fault { OnlyMemory result }
     ensures made { MakesTyOver (R.state r.old).meaning (R.state r.new).meaning ty.now parts.now result }
@@ -177,7 +177,7 @@ pub(crate) fn make_part<I: Interner, R: TypeRelation<I>>(
     requires term_known { IsTrue (known (part_tree (R.state r.old).meaning term.now)) }
     requires form { IsByParts (part_tree (R.state r.old).meaning term.now) }
     requires parts_known { IsTrue (known (list_tree (part_tree (R.state r.old).meaning) parts.now)) }
-    requires fits { Fit parts.now (own_parts (part_tree (R.state r.old).meaning term.now)) }
+    requires fits { Fit parts.now (direct_parts (part_tree (R.state r.old).meaning term.now)) }
     ensures grown { WithMeaning (R.state r.old) (R.state r.new).meaning (R.state r.new) }
     ensures fault { OnlyMemory result }
     ensures made { MakesPartOver (R.state r.old).meaning (R.state r.new).meaning term.now parts.now result }

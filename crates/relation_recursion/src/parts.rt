@@ -5,7 +5,7 @@ ghost use Rattle.relation_terms.specs.Trees.{known, count, nth, IsList};
 ghost use Rattle.relation_terms.specs.Meaning.{arg_tree, kind_tree};
 ghost use Rattle.relation_terms.specs.Parts.{part_tree, part_sort, parts_tree, parts_of as list_of_parts};
 ghost use Rattle.relation_terms.specs.declared.terms.part_kind.Part.TheVariants.{Object as ObjectPart};
-ghost use Rattle.relation_semantics.specs.Parts.{own_parts, const_parts_of, IsByParts, IsArgPart, IsBinderPart};
+ghost use Rattle.relation_semantics.specs.Parts.{direct_parts, const_parts_of, IsByParts, IsArgPart, IsBinderPart};
 ghost use Rattle.relation_recursion.specs.declared.parts.PartKind.TheVariants.{Argument, Binder};
 
 use relation_terms::terms::parts::{member, member_count, the_arg, ty_parts};
@@ -59,7 +59,7 @@ pub(crate) fn parts_in<I: Interner>(_cx: &I, _ty: &Ty<I>, kind: &TyForm<I>) -> P
     requires known { IsTrue (known ((I.meaning _cx.now).ty _ty.now)) }
     requires form { (I.meaning _cx.now).ty _ty.now ≡ kind_tree (I.meaning _cx.now) kind.now }
     ensures sure { IsTrue (known (parts_tree (I.meaning _cx.now) result)) }
-    ensures means { parts_tree (I.meaning _cx.now) result ≡ own_parts ((I.meaning _cx.now).ty _ty.now) }
+    ensures means { parts_tree (I.meaning _cx.now) result ≡ direct_parts ((I.meaning _cx.now).ty _ty.now) }
 {
     ty_parts(kind)
 }
@@ -69,8 +69,8 @@ pub(crate) fn parts_in<I: Interner>(_cx: &I, _ty: &Ty<I>, kind: &TyForm<I>) -> P
 pub(crate) fn parts_count_in<I: Interner>(cx: &I, ty: &Ty<I>, kind: &TyForm<I>) -> usize
     requires known { IsTrue (known ((I.meaning cx.now).ty ty.now)) }
     requires form { (I.meaning cx.now).ty ty.now ≡ kind_tree (I.meaning cx.now) kind.now }
-    ensures counts { result ≡ count (own_parts ((I.meaning cx.now).ty ty.now)) }
-    ensures is_list { IsList (own_parts ((I.meaning cx.now).ty ty.now)) }
+    ensures counts { result ≡ count (direct_parts ((I.meaning cx.now).ty ty.now)) }
+    ensures is_list { IsList (direct_parts ((I.meaning cx.now).ty ty.now)) }
 {
     member_count(cx, &parts_in(cx, ty, kind))
 }
@@ -78,8 +78,8 @@ pub(crate) fn parts_count_in<I: Interner>(cx: &I, ty: &Ty<I>, kind: &TyForm<I>) 
 // How many parts a type has.
 pub(crate) fn parts_count<I: Interner>(cx: &I, ty: &Ty<I>) -> usize
     requires { IsTrue (known ((I.meaning cx.now).ty ty.now)) }
-    ensures counts { result ≡ count (own_parts ((I.meaning cx.now).ty ty.now)) }
-    ensures is_list { IsList (own_parts ((I.meaning cx.now).ty ty.now)) }
+    ensures counts { result ≡ count (direct_parts ((I.meaning cx.now).ty ty.now)) }
+    ensures is_list { IsList (direct_parts ((I.meaning cx.now).ty ty.now)) }
 {
     parts_count_in(cx, ty, &cx.ty_kind(ty))
 }
@@ -99,9 +99,9 @@ pub(crate) fn is_by_parts<I: Interner>(cx: &I, ty: &Ty<I>) -> bool
 pub(crate) fn part<I: Interner>(cx: &I, ty: &Ty<I>, i: usize) -> GenericArg<I>
     requires ty_known { IsTrue (known ((I.meaning cx.now).ty ty.now)) }
     requires over_args { IsByParts ((I.meaning cx.now).ty ty.now) → ⊥ }
-    requires in_bounds { i < count (own_parts ((I.meaning cx.now).ty ty.now)) }
+    requires in_bounds { i < count (direct_parts ((I.meaning cx.now).ty ty.now)) }
     ensures sure { IsTrue (known (arg_tree (I.meaning cx.now) result)) }
-    ensures means { arg_tree (I.meaning cx.now) result ≡ nth i (own_parts ((I.meaning cx.now).ty ty.now)) }
+    ensures means { arg_tree (I.meaning cx.now) result ≡ nth i (direct_parts ((I.meaning cx.now).ty ty.now)) }
 {
     the_arg(&member(cx, &parts_in(cx, ty, &cx.ty_kind(ty)), i))
 }
@@ -142,7 +142,7 @@ pub(crate) fn const_part<I: Interner>(cx: &I, constant: &Const<I>, i: usize) -> 
 pub(crate) fn term_parts_count<I: Interner>(cx: &I, term: &PartOf<I>) -> usize
     requires known { IsTrue (known (part_tree (I.meaning cx.now) term.now)) }
     requires form { IsByParts (part_tree (I.meaning cx.now) term.now) }
-    ensures { result ≡ count (own_parts (part_tree (I.meaning cx.now) term.now)) }
+    ensures { result ≡ count (direct_parts (part_tree (I.meaning cx.now) term.now)) }
 {
     parts::parts_count(cx, term)
 }
@@ -151,10 +151,10 @@ pub(crate) fn term_parts_count<I: Interner>(cx: &I, term: &PartOf<I>) -> usize
 pub(crate) fn term_part<I: Interner>(cx: &I, term: &PartOf<I>, i: usize) -> PartOf<I>
     requires term_known { IsTrue (known (part_tree (I.meaning cx.now) term.now)) }
     requires form { IsByParts (part_tree (I.meaning cx.now) term.now) }
-    requires in_bounds { i < count (own_parts (part_tree (I.meaning cx.now) term.now)) }
+    requires in_bounds { i < count (direct_parts (part_tree (I.meaning cx.now) term.now)) }
     ensures sure { IsTrue (known (part_tree (I.meaning cx.now) result)) }
     ensures means { part_tree (I.meaning cx.now) result ≡
-        nth i (own_parts (part_tree (I.meaning cx.now) term.now)) }
+        nth i (direct_parts (part_tree (I.meaning cx.now) term.now)) }
 {
     parts::part(cx, term, i)
 }

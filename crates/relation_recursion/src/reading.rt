@@ -7,7 +7,7 @@ ghost use Rattle.relation_terms.specs.Parts.{part_tree, part_sort};
 ghost use Rattle.relation_semantics.specs.Relation.{IsError};
 ghost use Rattle.relation_semantics.specs.Errors.{FormError, ConstFormError, AreOfOneForm, AreOfOneConst};
 ghost use Rattle.relation_semantics.specs.Errors.{HaveNoError};
-ghost use Rattle.relation_semantics.specs.Parts.{IsFormedConst, IsByParts, IsComparedPart, own_parts, const_parts_of};
+ghost use Rattle.relation_semantics.specs.Parts.{IsFormedConst, IsByParts, IsComparedPart, direct_parts, const_parts_of};
 ghost use Rattle.relation_steps.specs.Keyed.{ShownTys, NotedTys, AreOver};
 ghost use Rattle.relation_steps.specs.Terms.{AskedTerms};
 ghost use Rattle.relation_recursion.specs.Comparing.{AreOfOneFormBy, PartsDiffer, nth_part, nth_const_part};
@@ -93,8 +93,8 @@ pub(crate) fn compare_members_of<I: Interner, R: TypeRelation<I>>(
 ) -> Result<(), TypeErrorOf<I>>
     requires a_known { IsTrue (known (part_tree (R.state r.now).meaning a.now)) }
     requires b_known { IsTrue (known (part_tree (R.state r.now).meaning b.now)) }
-    requires in_a { i < count (own_parts (part_tree (R.state r.now).meaning a.now)) }
-    requires in_b { i < count (own_parts (part_tree (R.state r.now).meaning b.now)) }
+    requires in_a { i < count (direct_parts (part_tree (R.state r.now).meaning a.now)) }
+    requires in_b { i < count (direct_parts (part_tree (R.state r.now).meaning b.now)) }
     requires one_sort { part_sort b.now ≡ part_sort a.now }
     ensures { IfErr result (PartsDiffer (R.state r.now).meaning a.now b.now) }
 {
@@ -111,8 +111,8 @@ pub(crate) fn is_by_parts_of<I: Interner, R: TypeRelation<I>>(r: &R, ty: &Ty<I>)
 #[inline(always)]
 pub(crate) fn parts_count_of<I: Interner, R: TypeRelation<I>>(r: &R, ty: &Ty<I>) -> usize
     requires { IsTrue (known ((R.state r.now).meaning.ty ty.now)) }
-    ensures counts { result ≡ count (own_parts ((R.state r.now).meaning.ty ty.now)) }
-    ensures is_list { IsList (own_parts ((R.state r.now).meaning.ty ty.now)) }
+    ensures counts { result ≡ count (direct_parts ((R.state r.now).meaning.ty ty.now)) }
+    ensures is_list { IsList (direct_parts ((R.state r.now).meaning.ty ty.now)) }
 {
     parts_count(r.cx(), ty)
 }
@@ -120,9 +120,9 @@ pub(crate) fn parts_count_of<I: Interner, R: TypeRelation<I>>(r: &R, ty: &Ty<I>)
 pub(crate) fn part_of<I: Interner, R: TypeRelation<I>>(r: &R, ty: &Ty<I>, i: usize) -> GenericArg<I>
     requires ty_known { IsTrue (known ((R.state r.now).meaning.ty ty.now)) }
     requires over_args { IsByParts ((R.state r.now).meaning.ty ty.now) → ⊥ }
-    requires in_bounds { i < count (own_parts ((R.state r.now).meaning.ty ty.now)) }
+    requires in_bounds { i < count (direct_parts ((R.state r.now).meaning.ty ty.now)) }
     ensures sure { IsTrue (known (arg_tree (R.state r.now).meaning result)) }
-    ensures means { arg_tree (R.state r.now).meaning result ≡ nth i (own_parts ((R.state r.now).meaning.ty ty.now)) }
+    ensures means { arg_tree (R.state r.now).meaning result ≡ nth i (direct_parts ((R.state r.now).meaning.ty ty.now)) }
 {
     part(r.cx(), ty, i)
 }
@@ -154,7 +154,7 @@ pub(crate) fn const_part_of<I: Interner, R: TypeRelation<I>>(
 pub(crate) fn term_parts_count_of<I: Interner, R: TypeRelation<I>>(r: &R, term: &PartOf<I>) -> usize
     requires known { IsTrue (known (part_tree (R.state r.now).meaning term.now)) }
     requires form { IsByParts (part_tree (R.state r.now).meaning term.now) }
-    ensures { result ≡ count (own_parts (part_tree (R.state r.now).meaning term.now)) }
+    ensures { result ≡ count (direct_parts (part_tree (R.state r.now).meaning term.now)) }
 {
     term_parts_count(r.cx(), term)
 }
@@ -166,7 +166,7 @@ pub(crate) fn term_part_of<I: Interner, R: TypeRelation<I>>(
 ) -> PartOf<I>
     requires term_known { IsTrue (known (part_tree (R.state r.now).meaning term.now)) }
     requires form { IsByParts (part_tree (R.state r.now).meaning term.now) }
-    requires in_bounds { i < count (own_parts (part_tree (R.state r.now).meaning term.now)) }
+    requires in_bounds { i < count (direct_parts (part_tree (R.state r.now).meaning term.now)) }
     ensures sure { IsTrue (known (part_tree (R.state r.now).meaning result)) }
     ensures means { let m = (R.state r.now).meaning in part_tree m result ≡ nth_part m i term.now }
 {
@@ -207,7 +207,7 @@ pub(crate) fn named_place_of<I: Interner, R: TypeRelation<I>>(
     i: usize,
 ) -> Option<usize>
     requires term_known { IsTrue (known (part_tree (R.state r.now).meaning term.now)) }
-    requires in_bounds { i < count (own_parts (part_tree (R.state r.now).meaning term.now)) }
+    requires in_bounds { i < count (direct_parts (part_tree (R.state r.now).meaning term.now)) }
     ensures { result ≡ named_place (part_tree (R.state r.now).meaning term.now) i }
 {
     handing::named_place(r.cx(), term, i)

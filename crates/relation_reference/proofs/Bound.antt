@@ -7,8 +7,8 @@ use Rattle.relation_terms.specs.Meaning.{Meaning}
 use Rattle.relation_semantics.specs.Stores.{Store, Entry, unbound, same_as, bound_to, entry_of, entry_term, bound_term}
 use Rattle.relation_semantics.specs.Stores.{IsSound, resolve, rounds_for, all_taken, resolved}
 use Rattle.relation_semantics.specs.Relation.{StaysWithin}
-use Rattle.relation_semantics.specs.Bound.{AreBoundAs, BindByLists}
-use Rattle.relation_semantics.specs.ContextCalls.{BindingsBindByLists}
+use Rattle.relation_semantics.specs.Bound.{AreBoundAs, IsWellBound}
+use Rattle.relation_semantics.specs.ContextCalls.{BindingsAreWellBound}
 use Rattle.relation_semantics.proofs.StoreCalls.{resolve_within}
 use Rattle.relation_semantics.proofs.Resolved.{resolve_free, resolve_bound, HasTerm, is_free, is_bound, has_term}
 use Rattle.variable_tables.specs.declared.inner.InferCtxtInner.{InferCtxtInner}
@@ -41,7 +41,7 @@ bound_apply s w ks d (cons t ts) b = (bound_apply s w ks d t b.0, bound_apply s 
 
 -- So do all binders, where those of each such term do.
 apply_by_lists : (s : Assign) → ((k : VarKind) (n : ℕ) → StaysWithin 0 (s k n)) →
-    ((k : VarKind) (n : ℕ) → BindByLists (s k n)) → (t : Tree) → BindByLists t → BindByLists (apply s t)
+    ((k : VarKind) (n : ℕ) → IsWellBound (s k n)) → (t : Tree) → IsWellBound t → IsWellBound (apply s t)
 apply_by_lists s w f (leaf (variable k n)) b = f k n
 apply_by_lists s w f (leaf (bound k d i)) b = b
 apply_by_lists s w f (leaf (placeholder k u n)) b = b
@@ -53,32 +53,32 @@ apply_by_lists s w f nil b = b
 apply_by_lists s w f (cons t ts) b = (apply_by_lists s w f t b.0, apply_by_lists s w f ts b.1)
 
 -- So do those of what a term comes to, where those of each binding do.
-module _ (st : Store) (g : IsSound st) (all : BindingsBindByLists st) where
-  entry_by_lists : (k : VarKind) (n : ℕ) (t : Tree) → bound_term st k n ≡ Some t → BindByLists t
+module _ (st : Store) (g : IsSound st) (all : BindingsAreWellBound st) where
+  entry_by_lists : (k : VarKind) (n : ℕ) (t : Tree) → bound_term st k n ≡ Some t → IsWellBound t
   entry_by_lists k n t p = go (entry_of st k n) refl
     where
-      go : (e : Entry) → entry_of st k n ≡ e → BindByLists t
+      go : (e : Entry) → entry_of st k n ≡ e → IsWellBound t
       go unbound q = absurd (let h = ap (entry_term k) q in cc (h, p))
       go (same_as m) q =
           let h : Some (leaf (variable k m)) ≡ Some t = sym (ap (entry_term k) q) ∙ p in
           let i : leaf (variable k m) ≡ t = cc in
-          subst BindByLists i tt
+          subst IsWellBound i tt
       go (bound_to u) q =
           let h : Some u ≡ Some t = sym (ap (entry_term k) q) ∙ p in
           let i : u ≡ t = cc in
-          subst BindByLists i (all k n u q)
+          subst IsWellBound i (all k n u q)
 
-  resolve_by_lists : (f : ℕ) (k : VarKind) (n : ℕ) → BindByLists (resolve f st k n)
+  resolve_by_lists : (f : ℕ) (k : VarKind) (n : ℕ) → IsWellBound (resolve f st k n)
   unfolding resolve
   resolve_by_lists zero k n = tt
   resolve_by_lists (suc f) k n = go (resolve_by_lists f) (has_term st k n)
     where
-      go : ((j : VarKind) (i : ℕ) → BindByLists (resolve f st j i)) → HasTerm st k n → BindByLists (resolve (suc f) st k n)
-      go ih (is_free e) = subst BindByLists (sym (resolve_free (suc f) st k n e)) tt
-      go ih (is_bound t e) = subst BindByLists (sym (resolve_bound f st k n t e))
+      go : ((j : VarKind) (i : ℕ) → IsWellBound (resolve f st j i)) → HasTerm st k n → IsWellBound (resolve (suc f) st k n)
+      go ih (is_free e) = subst IsWellBound (sym (resolve_free (suc f) st k n e)) tt
+      go ih (is_bound t e) = subst IsWellBound (sym (resolve_bound f st k n t e))
           (apply_by_lists (resolve f st) (resolve_within st g f) ih t (entry_by_lists k n t e))
 
-  resolved_by_lists : (t : Tree) → BindByLists t → BindByLists (apply (resolved st) t)
+  resolved_by_lists : (t : Tree) → IsWellBound t → IsWellBound (apply (resolved st) t)
   unfolding resolved
   resolved_by_lists t b =
       let f = rounds_for (all_taken st) in
@@ -86,5 +86,5 @@ module _ (st : Store) (g : IsSound st) (all : BindingsBindByLists st) where
 
 -- In a lawful context they do.
 module _ {Key Id Name : Type 0} (m : Meaning Key Id Name) (x : InferCtxtInner Key) (l : IsLawful m x) where
-  pub comes_by_lists : (t : Tree) → BindByLists t → BindByLists (apply (resolved (store_of m x)) t)
+  pub comes_by_lists : (t : Tree) → IsWellBound t → IsWellBound (apply (resolved (store_of m x)) t)
   comes_by_lists t b = resolved_by_lists (store_of m x) l.sound (bindings_by_lists m x l) t b

@@ -20,7 +20,7 @@ use Rattle.term_enums.specs.declared.StructurallyRelateAliases.{StructurallyRela
 use Rattle.term_enums.specs.declared.StructurallyRelateAliases.TheVariants.{Yes, No}
 use Rattle.relation_semantics.specs.Relation.{Items, sort_of, StaysWithin}
 use Rattle.relation_semantics.specs.Lawful.{items_of}
-use Rattle.relation_semantics.specs.Bound.{AreBoundAs, BindByLists}
+use Rattle.relation_semantics.specs.Bound.{AreBoundAs, IsWellBound}
 use Rattle.relation_semantics.specs.Stores.{Store, universe_of, IsMade, IsMadeLeaf, InContext, IsSound}
 use Rattle.relation_semantics.specs.Steps.{MakesVariable}
 use Rattle.relation_semantics.specs.Generalising.{Stays, gives_way_to, Side, outside, inside, side_in, Met, Stage, Turn, any_part, new_part, variance_of_part, Generalised, met_before, met_first, no_type, stays, gives_way, alias_gives_way, by_parts, in_binder, no_parts, next_part, MakesUnbound, makes_none, makes_one, Obstacle, cycle, beyond, IsNoObstacle, IsSeen, IsClear, StopsAt, at_itself, at_placeholder, in_parts, in_body, in_first, in_others}
@@ -521,9 +521,9 @@ record KeepsBound (t x : Tree) : Type 0 where
 
 -- In what a term became, binders bind by their lists, if they do in the term and in what types that were met became.
 abbrev MetByLists : Met → Type 0
-MetByLists e = BindByLists e.term × KeepsBound e.type e.term
+MetByLists e = IsWellBound e.term × KeepsBound e.type e.term
 
-stays_by_lists : {g : StructurallyRelateAliases} {c : Items} {start : Store} {k : VarKind} {n : ℕ} {turn : Turn} {r q : Stage} {t x : Tree} → Generalised g c start k n turn r t q x → BindByLists t → All MetByLists r.met → BindByLists x × KeepsBound t x × All MetByLists q.met
+stays_by_lists : {g : StructurallyRelateAliases} {c : Items} {start : Store} {k : VarKind} {n : ℕ} {turn : Turn} {r q : Stage} {t x : Tree} → Generalised g c start k n turn r t q x → IsWellBound t → All MetByLists r.met → IsWellBound x × KeepsBound t x × All MetByLists q.met
 stays_by_lists (met_before {e = sd} {v = v} {r = r} {t = t} {x = x} s h) lists all = let e = All-contains MetByLists r.met (met_at sd v t x) all h in (e.0, e.1, all)
 stays_by_lists (met_first {e = sd} {v = v} {q = q} {t = t} {x = x} s o g a b) lists all = let h = stays_by_lists g lists all in
     (h.0, h.1, subst (All MetByLists) (sym b) (All-cons MetByLists (met_at sd v t x) q.met (h.0, h.1) h.2))
@@ -543,8 +543,8 @@ stays_by_lists (next_part g f) lists all = let a = stays_by_lists g lists.0 all 
 )
 
 module _ {al : StructurallyRelateAliases} {c : Items} {start st : Store} {k : VarKind} {n : ℕ} {turn : Turn} {q : Stage} {t x : Tree}
-    (g : Generalised al c start k n turn (record { store = st; met = [] }) t q x) (lists : BindByLists t) where
-  pub generalised_by_lists : BindByLists x
+    (g : Generalised al c start k n turn (record { store = st; met = [] }) t q x) (lists : IsWellBound t) where
+  pub generalised_by_lists : IsWellBound x
   generalised_by_lists = (stays_by_lists g lists (All-nil _)).0
 
   -- Nothing escapes from it, if nothing did.

@@ -14,7 +14,7 @@ use Rattle.relation_folds.specs.declared.error.RelateFault.TheVariants.{Memory, 
 use Rattle.relation_folds.specs.Faults.{KnowsError}
 use Rattle.relation_semantics.specs.Relation.{Items, StaysWithin}
 use Rattle.relation_semantics.specs.Lawful.{items_of}
-use Rattle.relation_semantics.specs.Bound.{BindByLists}
+use Rattle.relation_semantics.specs.Bound.{IsWellBound}
 use Rattle.relation_semantics.specs.ErasureLaws.{IsTypeOrConst}
 use Rattle.relation_semantics.specs.Stores.{Store, unbound, bound_to, entry_of, universe_of, IsMade, MayStandFor, InContext, IsTermIn, resolved}
 use Rattle.relation_semantics.specs.Steps.{BindsTo}
@@ -179,8 +179,8 @@ module _ {Key Id Name : Type 0} {m n : Meaning Key Id Name} (o : Meaning Key Id 
 
 -- What variables are bound to may be bound.
 module _ {Key Id Name : Type 0} {al : StructurallyRelateAliases} {c : Items} {k : VarKind} {n : ℕ} {v : Variance} {last : Stage} {term : Tree} (m : Meaning Key Id Name) (x : InferCtxtInner Key) (l : IsLawful m x) (t : Tree)
-    (g : Generalised al c (store_of m x) k n (any_part outside v) (record { store = store_of m x; met = [] }) (apply (resolved (store_of m x)) t) last term) (lists : BindByLists t) where
-  bound_by_lists : BindByLists term
+    (g : Generalised al c (store_of m x) k n (any_part outside v) (record { store = store_of m x; met = [] }) (apply (resolved (store_of m x)) t) last term) (lists : IsWellBound t) where
+  bound_by_lists : IsWellBound term
   bound_by_lists = generalised_by_lists g (comes_by_lists m x l t lists)
 
   pub type_may : MayBeBoundTo type_var term

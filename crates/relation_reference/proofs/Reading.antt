@@ -19,7 +19,7 @@ use Rattle.relation_terms.specs.declared.terms.numbers.ConstVid.{ConstVid}
 use Rattle.relation_semantics.specs.Stores.{Store, unbound, same_as, bound_to, entry_of, entry_term, IsMade, IsSound, InContext}
 use Rattle.relation_semantics.specs.Steps.{LeadsTo, here, next}
 use Rattle.relation_semantics.specs.Errors.{IsReadAs, itself, by_class, by_binding}
-use Rattle.relation_semantics.specs.Bound.{BindByLists}
+use Rattle.relation_semantics.specs.Bound.{IsWellBound}
 use Rattle.relation_semantics.specs.Parts.{IsFormed, IsFormedConst}
 use Rattle.relation_semantics.proofs.Standing.{made_of_term, term_context}
 use Rattle.relation_semantics.proofs.Classes.{class_made}
@@ -103,8 +103,8 @@ module _ {Key Id Name : Type 0} (m : Meaning Key Id Name) (x : InferCtxtInner Ke
   found_read (found_root r d e q) = by_class k n r refl (r, d, here refl) (itself (sym q))
   found_read (found_term r d e) = by_class k n r refl (r, d, here refl) (by_binding k r refl e (itself refl))
 
-  pub found_by_lists : Found its_store k n u → BindByLists u
-  found_by_lists (found_root r d e q) = subst BindByLists (sym q) tt
+  pub found_by_lists : Found its_store k n u → IsWellBound u
+  found_by_lists (found_root r d e q) = subst IsWellBound (sym q) tt
   found_by_lists (found_term r d e) = may_by_lists k u (l.formed k r u e)
 
   pub found_shallow : (MayBeBoundTo k u → IsFormed u) → Found its_store k n u → IsShallow its_store u

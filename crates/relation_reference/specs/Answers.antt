@@ -5,7 +5,7 @@ use Rattle.relation_terms.specs.declared.terms.keys.ConstKey.{ConstKey}
 use Rattle.relation_terms.specs.Heads.{VarKind, type_var, const_var, variable}
 use Rattle.relation_terms.specs.Trees.{Tree, leaf}
 use Rattle.relation_terms.specs.Meaning.{Meaning}
-use Rattle.relation_semantics.specs.Bound.{BindByLists}
+use Rattle.relation_semantics.specs.Bound.{IsWellBound}
 use Rattle.relation_semantics.specs.Errors.{IsReadAs}
 use Rattle.relation_semantics.specs.Stores.{Store, unbound, bound_to, entry_of, IsMade}
 use Rattle.relation_semantics.specs.Steps.{LeadsTo, Resolves}
@@ -40,10 +40,10 @@ IsBoundToTy meaning c n t = HasBinding (store_in meaning c) type_var n (ty_term 
 module _ {Key Id Name : Type 0} (m : Meaning Key Id Name) where
   -- Where a type binds by its lists, so does another. The same of constants.
   abbrev pub TyStaysByLists : TyKey Key → TyKey Key → Type 0
-  TyStaysByLists t u = BindByLists (m.ty t) → BindByLists (m.ty u)
+  TyStaysByLists t u = IsWellBound (m.ty t) → IsWellBound (m.ty u)
 
   abbrev pub ConstStaysByLists : ConstKey Key → ConstKey Key → Type 0
-  ConstStaysByLists t u = BindByLists (m.const_ t) → BindByLists (m.const_ u)
+  ConstStaysByLists t u = IsWellBound (m.const_ t) → IsWellBound (m.const_ u)
 
 module _ {Key Id Name : Type 0} (m : Meaning Key Id Name) (x : InferCtxtInner Key) where
   -- A variable is read as a type by what the tables record, or a constant variable as a constant.

@@ -15,11 +15,11 @@ use Rattle.relation_semantics.specs.Steps.{IsNumberFor}
 use Rattle.relation_semantics.specs.Bound.{IsBoundAs, AreBoundAs}
 use Rattle.relation_semantics.specs.Settings.{Settings}
 use Rattle.relation_semantics.specs.Errors.{outer_leaf, outer_head, outermost, AreAlike, IsStandIn, StandFor}
-use Rattle.relation_semantics.specs.Errors.{IsOpaque, IsOpaqueBeside, IsLeftToGoal}
+use Rattle.relation_semantics.specs.Errors.{IsOpaque, IsOpaqueBeside, IsDeferred}
 use Rattle.relation_semantics.specs.Errors.{IsReadAs, itself}
 use Rattle.relation_semantics.specs.Errors.{by_class, by_binding}
 use Rattle.relation_semantics.specs.Agreeing.{IsFlexible, AreFlexible, IsLeftAside, Agree}
-use Rattle.relation_semantics.proofs.Leaving.{beside_is_opaque}
+use Rattle.relation_semantics.proofs.Deferring.{beside_is_opaque}
 use Rattle.relation_semantics.proofs.Related.{no_region_head}
 use Rattle.relation_semantics.proofs.Standing.{stands_term, term_sort_of}
 use Rattle.relation_semantics.proofs.StoreCalls.{number_stands}
@@ -30,13 +30,13 @@ agree_anything set c v (bind ks a) (bind ls b) p = inl p
 agree_anything set c v a b p = inl (inl p)
 
 -- Two of one sort that are left to a goal agree.
-no_bound_goal : (set : Settings) (ks ls : List BoundKind) (a b : Tree) → IsLeftToGoal set (bind ks a) (bind ls b) → ⊥
+no_bound_goal : (set : Settings) (ks ls : List BoundKind) (a b : Tree) → IsDeferred set (bind ks a) (bind ls b) → ⊥
 no_bound_goal set ks ls a b (inl (l, inl o)) = o
 no_bound_goal set ks ls a b (inl (l, inr o)) = o
 no_bound_goal set ks ls a b (inr (l, inl o)) = o
 no_bound_goal set ks ls a b (inr (l, inr o)) = o
 
-pub agree_left : (set : Settings) (c : Items) (v : Variance) (a b : Tree) → IsLeftToGoal set a b →
+pub agree_left : (set : Settings) (c : Items) (v : Variance) (a b : Tree) → IsDeferred set a b →
     sort_of a ≡ sort_of b → Agree set c (at v) a b
 agree_left set c v (node h xs) (node k ys) l s = inl (inr (l, s))
 agree_left set c v (bind ks a) (bind ls b) l s = absurd (no_bound_goal set ks ls a b l)
@@ -345,7 +345,7 @@ module _ (set : Settings) (c : Items) (ks ls : List BoundKind) (xs ys : List Tre
   aside_before v d t u p q (inr (l, s)) =
       inr (go l, sym (inst_sort ks xs h d t p) ∙ s ∙ inst_sort ls ys k d u q)
     where
-      go : IsLeftToGoal set (inst xs d t) (inst ys d u) → IsLeftToGoal set t u
+      go : IsDeferred set (inst xs d t) (inst ys d u) → IsDeferred set t u
       go (inl (w, inl o)) = inl (w, inl (alias_before ks xs h d t p o))
       go (inl (w, inr o)) = inl (w, inr (alias_before ls ys k d u q o))
       go (inr (w, inl o)) = inr (w, inl (beside_before ks xs h ys d t u p o))

@@ -4,7 +4,7 @@ use Rattle.term_enums.specs.declared.Variance.{Variance}
 use Rattle.relation_terms.specs.Heads.{Head, value, value_type, value_branch}
 use Rattle.relation_terms.specs.Trees.{Tree, node, cons, nil, nth}
 use Rattle.relation_semantics.specs.Relation.{Items, at, parts, part_at}
-use Rattle.relation_semantics.specs.Parts.{own_parts, head_of, const_parts_of, const_head_of, branches_of}
+use Rattle.relation_semantics.specs.Parts.{direct_parts, head_of, const_parts_of, const_head_of, branches_of}
 use Rattle.relation_semantics.specs.Errors.{AreOfOneForm, over_parts, over_aliases, one_leaf, parameters, AreOfOneConst, values}
 use Rattle.relation_semantics.specs.Errors.{expressions, over_arguments, const_parameters, one_value, as_many_branches, one_const_leaf}
 use Rattle.relation_semantics.specs.Settings.{Settings}
@@ -25,11 +25,11 @@ next_agrees set c h v i xs ys f g j l = go (below_or i j l)
     go (inr e) = subst (λ k. Agree set c (at (part_at c h k v)) (nth k xs) (nth k ys)) (sym e) g
 
 pub form_agrees : (set : Settings) (c : Items) (v : Variance) (a b : Tree) → AreOfOneForm a b →
-    Agree set c (parts (head_of a) 0 v) (own_parts a) (own_parts b) → Agree set c (at v) a b
+    Agree set c (parts (head_of a) 0 v) (direct_parts a) (direct_parts b) → Agree set c (at v) a b
 form_agrees set c v a b (over_parts d e n) g = subst₂ (Agree set c (at v)) (sym d) (sym e)
-    (inr (refl, subst₂ (λ x y. Agree set c (parts (head_of x) 0 v) (own_parts x) (own_parts y)) d e g))
+    (inr (refl, subst₂ (λ x y. Agree set c (parts (head_of x) 0 v) (direct_parts x) (direct_parts y)) d e g))
 form_agrees set c v a b (over_aliases d e n) g = subst₂ (Agree set c (at v)) (sym d) (sym e)
-    (inr (refl, subst₂ (λ x y. Agree set c (parts (head_of x) 0 v) (own_parts x) (own_parts y)) d e g))
+    (inr (refl, subst₂ (λ x y. Agree set c (parts (head_of x) 0 v) (direct_parts x) (direct_parts y)) d e g))
 form_agrees set c v a b (one_leaf d e) g = agree_same set c v a b (d ∙ sym e)
 form_agrees set c v a b (parameters {x} {y} d e p) g = subst₂ (Agree set c (at v)) (sym d) (sym e) (agree_atoms set c v x y p)
 

@@ -17,17 +17,17 @@ use Rattle.relation_semantics.specs.Stores.{through, resolve, resolved}
 use Rattle.relation_semantics.specs.Goals.{Goal}
 use Rattle.relation_semantics.specs.Errors.{IsReadAs, itself, by_class, by_binding, IsStandIn, StandFor}
 use Rattle.relation_semantics.specs.Generalising.{MakesUnbound, makes_none, makes_one}
-use Rattle.relation_semantics.specs.Parts.{own_parts, branches_of, const_parts_of}
+use Rattle.relation_semantics.specs.Parts.{direct_parts, branches_of, const_parts_of}
 use Rattle.relation_semantics.specs.Steps.{HasNoBinder, BindsNoBinder, WritesEntry, StandsBeside, as_it_was, led_on}
 use Rattle.relation_semantics.specs.Steps.{Equates, InstantiatesNumber, IsNumberFor, Instantiates, ChangesNothing, Taints}
 use Rattle.relation_semantics.specs.Steps.{IsGeneralised, kept, replaced, in_form, in_binder, in_list}
-use Rattle.relation_semantics.specs.Kits.{Kit, MayVary, MayBind, IsBuiltOf, BindsBuiltOf, IsGoalOf, HasNoError}
-use Rattle.relation_semantics.specs.Kits.{WritesNothing, Builds, StaysBuilt, BuiltFrom, NeedsVariable}
+use Rattle.relation_semantics.specs.Alphabets.{Alphabet, MayVary, MayBind, IsBuiltOf, BindsBuiltOf, IsGoalOf, HasNoError}
+use Rattle.relation_semantics.specs.Alphabets.{WritesNothing, Builds, StaysBuilt, BuiltFrom, NeedsVariable}
 use Rattle.relation_semantics.proofs.Only.{which}
 use Rattle.relation_semantics.proofs.Growing.{same_entries}
 
--- The kit of all but binders: what is built of it has none.
-pub all_but_binders : Kit
+-- The alphabet of all but binders: what is built of it has none.
+pub all_but_binders : Alphabet
 all_but_binders = record { heads = λ h. true; atoms = λ x. true; binders = false; variables = true }
 
 pub plain_built : (t : Tree) → HasNoBinder t → IsBuiltOf all_but_binders t
@@ -61,27 +61,27 @@ no_binder_from st a b x y f all ha hb =
     (built_plain x z.0, built_plain y z.1)
 
 -- Parts are built of what the whole is.
-pub built_nth : (k : Kit) (i : ℕ) (ts : Tree) → IsBuiltOf k ts → IsBuiltOf k (nth i ts)
+pub built_nth : (k : Alphabet) (i : ℕ) (ts : Tree) → IsBuiltOf k ts → IsBuiltOf k (nth i ts)
 built_nth k zero (cons t ts) h = h.0
 built_nth k (suc i) (cons t ts) h = built_nth k i ts h.1
 built_nth k i ts h = tt
 
-pub built_parts : (k : Kit) (t : Tree) → IsBuiltOf k t → IsBuiltOf k (own_parts t)
+pub built_parts : (k : Alphabet) (t : Tree) → IsBuiltOf k t → IsBuiltOf k (direct_parts t)
 built_parts k (node h ts) f = f.1
 built_parts k t f = tt
 
-built_branches : (k : Kit) (t : Tree) → IsBuiltOf k t → IsBuiltOf k (branches_of t)
+built_branches : (k : Alphabet) (t : Tree) → IsBuiltOf k t → IsBuiltOf k (branches_of t)
 built_branches k (node value_branch ts) f = f.1
 built_branches k t f = tt
 
-pub built_const_parts : (k : Kit) (t : Tree) → IsBuiltOf k t → IsBuiltOf k (const_parts_of t)
+pub built_const_parts : (k : Alphabet) (t : Tree) → IsBuiltOf k t → IsBuiltOf k (const_parts_of t)
 built_const_parts k (node (unevaluated d) ts) f = f.1
 built_const_parts k (node (expression j) ts) f = f.1
 built_const_parts k (node value (cons t (cons v nil))) f = built_branches k v f.1.1.0
 built_const_parts k t f = tt
 
 -- What a term is read as is built of what it and the bindings are.
-pub built_read : (k : Kit) (st : Store) → BindsBuiltOf k st → (a u : Tree) → IsReadAs st a u → IsBuiltOf k a →
+pub built_read : (k : Alphabet) (st : Store) → BindsBuiltOf k st → (a u : Tree) → IsReadAs st a u → IsBuiltOf k a →
     IsBuiltOf k u
 built_read k st all a u (itself e) h = subst (IsBuiltOf k) e h
 built_read k st all a u (by_class j n m e c r) h =
@@ -102,10 +102,10 @@ pub built_as : (st : Store) {a b t u : Tree} → t ≡ a → u ≡ b → BuiltFr
 built_as st {a} {b} e d = built_again st a b (λ k ha hb all. (ha, hb)) e d
 
 -- So is what a term comes to.
-abbrev HasBuilt : Kit → Assign → Type 0
+abbrev HasBuilt : Alphabet → Assign → Type 0
 HasBuilt k s = (j : VarKind) → MayVary k j → (n : ℕ) → IsBuiltOf k (s j n)
 
-apply_built : (k : Kit) (s : Assign) → HasBuilt k s → (t : Tree) → IsBuiltOf k t → IsBuiltOf k (apply s t)
+apply_built : (k : Alphabet) (s : Assign) → HasBuilt k s → (t : Tree) → IsBuiltOf k t → IsBuiltOf k (apply s t)
 apply_built k s f (leaf (variable j n)) h = f j h n
 apply_built k s f (leaf (bound j d i)) h = tt
 apply_built k s f (leaf (placeholder j u n)) h = tt
@@ -116,11 +116,11 @@ apply_built k s f (bind ks t) h = (h.0, apply_built k s f t h.1)
 apply_built k s f nil h = tt
 apply_built k s f (cons t u) h = (apply_built k s f t h.0, apply_built k s f u h.1)
 
-abbrev IsBuiltIfAny : Kit → Option Tree → Type 0
+abbrev IsBuiltIfAny : Alphabet → Option Tree → Type 0
 IsBuiltIfAny k None = Unit {0}
 IsBuiltIfAny k (Some t) = IsBuiltOf k t
 
-entry_built : (k : Kit) (st : Store) → BindsBuiltOf k st → (j : VarKind) → MayVary k j → (n : ℕ) →
+entry_built : (k : Alphabet) (st : Store) → BindsBuiltOf k st → (j : VarKind) → MayVary k j → (n : ℕ) →
     IsBuiltIfAny k (bound_term st j n)
 entry_built k st all j may n = go (entry_of st j n) refl
   where
@@ -129,23 +129,23 @@ entry_built k st all j may n = go (entry_of st j n) refl
     go (same_as m) e = may
     go (bound_to t) e = all j may n t e
 
-through_built : (k : Kit) (s : Assign) → HasBuilt k s → (j : VarKind) → MayVary k j → (n : ℕ) (o : Option Tree) →
+through_built : (k : Alphabet) (s : Assign) → HasBuilt k s → (j : VarKind) → MayVary k j → (n : ℕ) (o : Option Tree) →
     IsBuiltIfAny k o → IsBuiltOf k (through s j n o)
 through_built k s f j may n None h = may
 through_built k s f j may n (Some t) h = apply_built k s f t h
 
-resolve_built : (k : Kit) (f : ℕ) (st : Store) → BindsBuiltOf k st → HasBuilt k (resolve f st)
+resolve_built : (k : Alphabet) (f : ℕ) (st : Store) → BindsBuiltOf k st → HasBuilt k (resolve f st)
 unfolding resolve
 resolve_built k zero st all j may n = may
 resolve_built k (suc f) st all j may n = through_built k (resolve f st) (resolve_built k f st all) j may n
     (bound_term st j n) (entry_built k st all j may n)
 
-pub resolved_built : (k : Kit) (st : Store) → BindsBuiltOf k st → (t : Tree) → IsBuiltOf k t → IsBuiltOf k (apply (resolved st) t)
+pub resolved_built : (k : Alphabet) (st : Store) → BindsBuiltOf k st → (t : Tree) → IsBuiltOf k t → IsBuiltOf k (apply (resolved st) t)
 unfolding resolved
 resolved_built k st all t h = apply_built k _ (resolve_built k _ st all) t h
 
 -- And what comes of it where places give way to variables.
-generalised_built : (k : Kit) → IsTrue k.variables → {before after : Store} {t u : Tree} →
+generalised_built : (k : Alphabet) → IsTrue k.variables → {before after : Store} {t u : Tree} →
     IsGeneralised before after t u → IsBuiltOf k t → IsBuiltOf k u
 generalised_built k may (kept e) h = subst (IsBuiltOf k) e h
 generalised_built k may (replaced j n e o m s) h = subst (IsBuiltOf k) (sym e) (λ i. may)
@@ -154,19 +154,19 @@ generalised_built k may (in_binder g) h = (h.0, generalised_built k may g h.1)
 generalised_built k may (in_list g f) h = (generalised_built k may g h.0, generalised_built k may f h.1)
 
 -- And a body, where stand-ins are put for what its binder binds.
-abbrev AllBuilt : Kit → List Tree → Type 0
+abbrev AllBuilt : Alphabet → List Tree → Type 0
 AllBuilt k [] = Unit {0}
 AllBuilt k (t ∷ ts) = IsBuiltOf k t × AllBuilt k ts
 
-abbrev BindsSo : Kit → List BoundKind → Type 0
+abbrev BindsSo : Alphabet → List BoundKind → Type 0
 BindsSo k ks = BindsRegions ks ⊎ IsTrue k.variables
 
-first_so : (k : Kit) (q : BoundKind) (ks : List BoundKind) → BindsSo k (q ∷ ks) →
+first_so : (k : Alphabet) (q : BoundKind) (ks : List BoundKind) → BindsSo k (q ∷ ks) →
     (bound_sort q ≡ region_sort) ⊎ IsTrue k.variables
 first_so k q ks (inl h) = inl h.0
 first_so k q ks (inr h) = inr h
 
-rest_so : (k : Kit) (q : BoundKind) (ks : List BoundKind) → BindsSo k (q ∷ ks) → BindsSo k ks
+rest_so : (k : Alphabet) (q : BoundKind) (ks : List BoundKind) → BindsSo k (q ∷ ks) → BindsSo k ks
 rest_so k q ks (inl h) = inl h.1
 rest_so k q ks (inr h) = inr h
 
@@ -177,12 +177,12 @@ region_kind_is float_var e = absurd cc
 region_kind_is const_var e = absurd cc
 region_kind_is region_var e = refl
 
-varies_so : (k : Kit) (q : BoundKind) (j : VarKind) → var_sort j ≡ bound_sort q →
+varies_so : (k : Alphabet) (q : BoundKind) (j : VarKind) → var_sort j ≡ bound_sort q →
     (bound_sort q ≡ region_sort) ⊎ IsTrue k.variables → MayVary k j
 varies_so k q j s (inl h) o = absurd (o (region_kind_is j (s ∙ h)))
 varies_so k q j s (inr h) o = h
 
-stand_ins_built : (k : Kit) (ks : List BoundKind) (ts : List Tree) → BindsSo k ks → StandFor ks ts → AllBuilt k ts
+stand_ins_built : (k : Alphabet) (ks : List BoundKind) (ts : List Tree) → BindsSo k ks → StandFor ks ts → AllBuilt k ts
 stand_ins_built k [] [] so h = tt
 stand_ins_built k [] (t ∷ ts) so h = absurd h
 stand_ins_built k (q ∷ ks) [] so h = absurd h
@@ -193,12 +193,12 @@ stand_ins_built k (q ∷ ks) (t ∷ ts) so h = (one t h.0, stand_ins_built k ks 
     one (leaf (placeholder j u n)) s = tt
     one t s = absurd s
 
-place_built : (k : Kit) (ts : List Tree) → AllBuilt k ts → (i : ℕ) (t : Tree) → IsBuiltOf k t → IsBuiltOf k (tree_at ts i t)
+place_built : (k : Alphabet) (ts : List Tree) → AllBuilt k ts → (i : ℕ) (t : Tree) → IsBuiltOf k t → IsBuiltOf k (tree_at ts i t)
 place_built k [] h i t p = p
 place_built k (x ∷ ts) h zero t p = h.0
 place_built k (x ∷ ts) h (suc i) t p = place_built k ts h.1 i t p
 
-inst_built : (k : Kit) (ts : List Tree) → AllBuilt k ts → (d : ℕ) (t : Tree) → IsBuiltOf k t → IsBuiltOf k (inst ts d t)
+inst_built : (k : Alphabet) (ts : List Tree) → AllBuilt k ts → (d : ℕ) (t : Tree) → IsBuiltOf k t → IsBuiltOf k (inst ts d t)
 inst_built k ts h d (leaf (variable j n)) p = p
 inst_built k ts h d (leaf (bound j e i)) p = go (nat_eq e d)
   where
@@ -213,18 +213,18 @@ inst_built k ts h d (bind ls t) p = (p.0, inst_built k ts h (suc d) t p.1)
 inst_built k ts h d nil p = tt
 inst_built k ts h d (cons t u) p = (inst_built k ts h d t p.0, inst_built k ts h d u p.1)
 
-pub body_built : (k : Kit) (ks : List BoundKind) (ts : List Tree) (t x : Tree) → StandFor ks ts → x ≡ inst ts 0 t →
+pub body_built : (k : Alphabet) (ks : List BoundKind) (ts : List Tree) (t x : Tree) → StandFor ks ts → x ≡ inst ts 0 t →
     IsBuiltOf k (bind ks t) → IsBuiltOf k x
 body_built k ks ts t x s e h =
     subst (IsBuiltOf k) (sym e) (inst_built k ts (stand_ins_built k ks ts h.0.1 s) 0 t h.1)
 
 -- What was bound stands, and nothing else is.
-pub binds_still : (k : Kit) (before after : Store) → ((j : VarKind) (n : ℕ) → entry_of after j n ≡ entry_of before j n) →
+pub binds_still : (k : Alphabet) (before after : Store) → ((j : VarKind) (n : ℕ) → entry_of after j n ≡ entry_of before j n) →
     BindsBuiltOf k before → BindsBuiltOf k after
 binds_still k before after same all j may n t e = all j may n t (sym (same j n) ∙ e)
 
 -- An unbound variable got an entry that is built so.
-binds_written : (k : Kit) {before after : Store} {v : VarKind} {n : ℕ} {x : Entry} → WritesEntry before after v n x →
+binds_written : (k : Alphabet) {before after : Store} {v : VarKind} {n : ℕ} {x : Entry} → WritesEntry before after v n x →
     ((t : Tree) → x ≡ bound_to t → IsBuiltOf k t) → BindsBuiltOf k before → BindsBuiltOf k after
 binds_written k {before} {after} {v} {n} {x} w built all j may m t e = go (which j v m n)
   where
@@ -243,13 +243,13 @@ writes_itself st = record { entries = λ j o. refl; budget = refl }
 pub writes_then : {r q p : Store} → WritesNothing r q → WritesNothing q p → WritesNothing r p
 writes_then f g = record { entries = λ j o. g.entries j o ∙ f.entries j o; budget = g.budget ∙ f.budget }
 
--- So it is where a kit has variables: nothing is said of that.
-pub has_variables : (k : Kit) (before after : Store) → IsTrue k.variables → k.variables ≡ false →
+-- So it is where a alphabet has variables: nothing is said of that.
+pub has_variables : (k : Alphabet) (before after : Store) → IsTrue k.variables → k.variables ≡ false →
     WritesNothing before after
 has_variables k before after has none = absurd (false≢true (sym none ∙ has))
 
 -- Nothing was bound and registered, and no universe made.
-pub builds_none : (k : Kit) (before after : Store) → BindsBuiltOf k after → after.universe ≡ before.universe →
+pub builds_none : (k : Alphabet) (before after : Store) → BindsBuiltOf k after → after.universe ≡ before.universe →
     after.tainted ≡ before.tainted → (k.variables ≡ false → WritesNothing before after) → Builds k before after []
 builds_none k before after all same taint writes = record {
   binds = all;
@@ -259,8 +259,8 @@ builds_none k before after all same taint writes = record {
   writes = writes;
 }
 
--- Nothing was bound, and a universe may have been made, where the kit has binders.
-pub builds_opened : (k : Kit) (before after : Store) → IsTrue k.binders → BindsBuiltOf k after →
+-- Nothing was bound, and a universe may have been made, where the alphabet has binders.
+pub builds_opened : (k : Alphabet) (before after : Store) → IsTrue k.binders → BindsBuiltOf k after →
     after.tainted ≡ before.tainted → (k.variables ≡ false → WritesNothing before after) → Builds k before after []
 builds_opened k before after has all taint writes = record {
   binds = all;
@@ -271,7 +271,7 @@ builds_opened k before after has all taint writes = record {
 }
 
 -- An error was met, and nothing else done.
-pub builds_tainted : (k : Kit) {before after : Store} → Taints before after → (HasNoError k → ⊥) →
+pub builds_tainted : (k : Alphabet) {before after : Store} → Taints before after → (HasNoError k → ⊥) →
     BindsBuiltOf k before → Builds k before after []
 builds_tainted k {before} {after} t has all = record {
   binds = binds_still k before after (λ j n. ap (λ es. get_or es n unbound) ((t.nothing_else).same_entries j)) all;
@@ -288,7 +288,7 @@ pub built_same : {before after : Store} (a b : Tree) → after ≡ before → St
 built_same {before} a b e = subst (λ st. StaysBuilt before st [] a b) (sym e) (built_itself before a b)
 
 -- A goal was registered, and nothing else was done.
-pub builds_asking : (k : Kit) (st : Store) (goals : List Goal) → All (IsGoalOf k) goals → BindsBuiltOf k st →
+pub builds_asking : (k : Alphabet) (st : Store) (goals : List Goal) → All (IsGoalOf k) goals → BindsBuiltOf k st →
     Builds k st st goals
 builds_asking k st goals asks all = record {
   binds = all;
@@ -306,7 +306,7 @@ no_universe_made {before} gs a b f ha hb all =
     (f all_but_binders (plain_built a ha) (plain_built b hb) (plain_binds before all)).universe refl
 
 -- Goals were registered after a part of the work, and nothing else was done.
-pub builds_noting : (k : Kit) {r q p : Store} (gs hs : List Goal) → p ≡ q → Builds k r q gs → All (IsGoalOf k) hs →
+pub builds_noting : (k : Alphabet) {r q p : Store} (gs hs : List Goal) → p ≡ q → Builds k r q gs → All (IsGoalOf k) hs →
     Builds k r p (gs ++ hs)
 builds_noting k {r} {q} gs hs same f asks = subst (λ st. Builds k r st (gs ++ hs)) (sym same) (record {
   binds = f.binds;
@@ -324,7 +324,7 @@ built_refused gs a b f = λ k ha hb all.
     record { binds = z.binds; asks = All-nil (IsGoalOf k); universe = z.universe; taint = z.taint; writes = z.writes }
 
 -- One part of the work after another.
-pub builds_then : (k : Kit) {r q p : Store} (gs hs : List Goal) → Builds k r q gs → Builds k q p hs →
+pub builds_then : (k : Alphabet) {r q p : Store} (gs hs : List Goal) → Builds k r q gs → Builds k q p hs →
     Builds k r p (gs ++ hs)
 builds_then k gs hs f g = record {
   binds = g.binds;
@@ -383,7 +383,7 @@ unbound_budget (makes_one f o q) = q.same_budget ∙ unbound_budget f
 
 -- Such as a variable of the two calls for.
 pub built_unbound : {u : ℕ} {before after : Store} (a b : Tree) → MakesUnbound u before after →
-    ((k : Kit) → IsBuiltOf k a → IsBuiltOf k b → IsTrue k.variables) → StaysBuilt before after [] a b
+    ((k : Alphabet) → IsBuiltOf k a → IsBuiltOf k b → IsTrue k.variables) → StaysBuilt before after [] a b
 built_unbound {before = before} {after = after} a b f may = λ k ha hb all.
     builds_none k before after (binds_still k before after (unbound_entries f) all) (unbound_universe f)
     (unbound_taint f) (has_variables k before after (may k ha hb))
@@ -424,7 +424,7 @@ first_writes ks f h = each_writes f.2 (first_regions f.0 ks h)
 -- Binders were opened.
 pub built_opened : {middle : Store} {u : ℕ} (before after : Store) (ks : List BoundKind) (a b : Tree) →
     ChangesNothing before middle → middle.tainted ≡ before.tainted → MakesUnbound u middle after →
-    (BindsRegions ks → WritesNothing middle after) → ((k : Kit) → IsBuiltOf k a → IsBuiltOf k b → MayBind k ks) →
+    (BindsRegions ks → WritesNothing middle after) → ((k : Alphabet) → IsBuiltOf k a → IsBuiltOf k b → MayBind k ks) →
     StaysBuilt before after [] a b
 built_opened {middle} before after ks a b h taint f made has = λ k ha hb all.
     let may = has k ha hb in
@@ -432,17 +432,17 @@ built_opened {middle} before after ks a b h taint f made has = λ k ha hb all.
     (λ j n. unbound_entries f j n ∙ ap (λ es. get_or es n unbound) (h.same_entries j)) all) (unbound_taint f ∙ taint)
     (λ o. writes_then (record { entries = λ j i. h.same_entries j; budget = h.same_budget }) (opened k o may.1))
   where
-    opened : (k : Kit) → k.variables ≡ false → BindsSo k ks → WritesNothing middle after
+    opened : (k : Alphabet) → k.variables ≡ false → BindsSo k ks → WritesNothing middle after
     opened k o (inl r) = made r
     opened k o (inr r) = has_variables k middle after r o
 
 -- A variable was bound to what a term comes to, generalised.
 module _ {x : Variance} {before after : Store} {v : VarKind} {n : ℕ} {source term : Tree}
     (f : Instantiates before after x v n source term) where
-  pub term_built : (k : Kit) → IsTrue k.variables → BindsBuiltOf k before → IsBuiltOf k source → IsBuiltOf k term
+  pub term_built : (k : Alphabet) → IsTrue k.variables → BindsBuiltOf k before → IsBuiltOf k source → IsBuiltOf k term
   term_built k may all h = generalised_built k may f.generalised (resolved_built k before all source h)
 
-  pub builds_instantiated : (k : Kit) → IsTrue k.variables → BindsBuiltOf k before → IsBuiltOf k source →
+  pub builds_instantiated : (k : Alphabet) → IsTrue k.variables → BindsBuiltOf k before → IsBuiltOf k source →
       Builds k before after []
   builds_instantiated k may all h = builds_none k before after binds f.same_universe f.same_taint
       (has_variables k before after may)
@@ -460,7 +460,7 @@ module _ {x : Variance} {before after : Store} {v : VarKind} {n : ℕ} {source t
 
 -- Two variables were made one.
 pub built_equated : {before after : Store} {v : VarKind} {child root : ℕ} (a b : Tree) →
-    Equates before after v child root → ((k : Kit) → IsBuiltOf k a → IsTrue k.variables) → StaysBuilt before after [] a b
+    Equates before after v child root → ((k : Alphabet) → IsBuiltOf k a → IsTrue k.variables) → StaysBuilt before after [] a b
 built_equated {before} {after} a b q may = λ k ha hb all.
     builds_none k before after (binds_written k q.links (λ t e. absurd cc) all) (q.links).same_universe
     (q.links).same_taint (has_variables k before after (may k ha))
@@ -471,7 +471,7 @@ number_no_region int_var t h e = cc
 number_no_region float_var t h e = cc
 number_no_region v t h e = h
 
-pub builds_number : (k : Kit) {before after : Store} {v : VarKind} {n : ℕ} (t : Tree) →
+pub builds_number : (k : Alphabet) {before after : Store} {v : VarKind} {n : ℕ} (t : Tree) →
     InstantiatesNumber before after v n t → MayVary k v → IsBuiltOf k t → BindsBuiltOf k before →
     Builds k before after []
 builds_number k {before} {after} {v} t q may h all =

@@ -5,7 +5,7 @@ use native.Mathlib.Decide.{dec_le}
 use Rattle.relation_terms.specs.Heads.{VarKind, VarKind_discrete, region_var, Leaf, variable, bound, placeholder, atom, unknown}
 use Rattle.relation_terms.specs.Trees.{Tree, leaf, Assign, apply, Leaves, Occurs}
 use Rattle.relation_semantics.specs.Relation.{Interpretation}
-use Rattle.relation_semantics.specs.Stores.{Store, same_as, bound_to, entry_term, bound_term, universe_of, IsMade, IsInScope, IsNamable, MayStandFor, IsTermIn, IsSound, Satisfies, resolved, weight, counts_bound, tally}
+use Rattle.relation_semantics.specs.Stores.{Store, same_as, bound_to, entry_term, bound_term, universe_of, IsMade, IsInScope, IsNamable, MayStandFor, IsTermIn, IsSound, Satisfies, resolved, weight, counts_bound, sum_over}
 use Rattle.relation_semantics.specs.Steps.{Equates, BindsTo, IsLater, StaysFull}
 use Rattle.relation_semantics.specs.Measures.{Goes}
 use Rattle.relation_semantics.proofs.Trees.{Leaves_map}
@@ -69,11 +69,11 @@ module _ (before after : Store) (k : VarKind) (child root : ℕ) (q : Equates be
   pub equated_later : IsLater before after
   equated_later = is_later before after k child (same_as root) to q.links refl equating_lowers
 
-  none_bound : (j : VarKind) → tally counts_bound (after.entries j) ≡ tally counts_bound (before.entries j)
+  none_bound : (j : VarKind) → sum_over counts_bound (after.entries j) ≡ sum_over counts_bound (before.entries j)
   none_bound j = go (VarKind_discrete j k)
     where
-      go : Dec (j ≡ k) → tally counts_bound (after.entries j) ≡ tally counts_bound (before.entries j)
-      go (yes e) = subst (λ z. tally counts_bound (after.entries z) ≡ tally counts_bound (before.entries z)) (sym e) (let h = kind_more before after k child (same_as root) to q.links refl counts_bound refl (λ p q. refl) in omega (arith, h))
+      go : Dec (j ≡ k) → sum_over counts_bound (after.entries j) ≡ sum_over counts_bound (before.entries j)
+      go (yes e) = subst (λ z. sum_over counts_bound (after.entries z) ≡ sum_over counts_bound (before.entries z)) (sym e) (let h = kind_more before after k child (same_as root) to q.links refl counts_bound refl (λ p q. refl) in omega (arith, h))
       go (no o) = kinds_stand before after k child (same_as root) to q.links refl counts_bound j o
 
   pub equated_goes : Goes 0 before after

@@ -8,11 +8,11 @@ use Rattle.relation_semantics.specs.FirstOrder.{IsFirstOrder}
 use Rattle.relation_semantics.specs.ErasureLaws.{IsTypeOrConst}
 use Rattle.relation_semantics.specs.Errors.{IsReadAs, itself, by_class, by_binding}
 use Rattle.relation_semantics.specs.Measures.{Goes}
-use Rattle.relation_semantics.specs.Parts.{own_parts, branches_of, const_parts_of}
+use Rattle.relation_semantics.specs.Parts.{direct_parts, branches_of, const_parts_of}
 use Rattle.relation_semantics.specs.Steps.{MakesNone, InstantiatesNone, HasNoBinder, BindsNoBinder, StaysFull, StaysFullFor}
 use Rattle.relation_semantics.specs.Steps.{WritesEntry, StandsBeside, as_it_was, led_on, MakesToInstantiate}
 use Rattle.relation_semantics.specs.Goals.{Goal}
-use Rattle.relation_semantics.specs.Kits.{StaysBuilt}
+use Rattle.relation_semantics.specs.Alphabets.{StaysBuilt}
 use Rattle.relation_semantics.proofs.Building.{no_universe_made}
 use Rattle.relation_semantics.proofs.Classes.{stands_from}
 use Rattle.relation_semantics.proofs.Only.{which}
@@ -31,7 +31,7 @@ nth_plain zero (cons t ts) h = h.0
 nth_plain (suc i) (cons t ts) h = nth_plain i ts h.1
 nth_plain i ts h = tt
 
-pub parts_plain : (t : Tree) → HasNoBinder t → HasNoBinder (own_parts t)
+pub parts_plain : (t : Tree) → HasNoBinder t → HasNoBinder (direct_parts t)
 parts_plain (node h ts) f = f
 parts_plain t f = tt
 

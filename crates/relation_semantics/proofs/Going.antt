@@ -3,7 +3,7 @@ use Rattle.std.proofs.Common.{ℕ, suc, zero, ◌+◌, ◌*◌, ◌≤◌, ◌<�
 use Rattle.std.proofs.Math.Nat.{suc-add, mul-le-mul}
 use Rattle.std.proofs.lemmas.List.{append-nil}
 use Rattle.relation_terms.specs.Trees.{Tree, cons}
-use Rattle.relation_semantics.specs.Stores.{Store, Entry, unbound, entry_of, weight, tally}
+use Rattle.relation_semantics.specs.Stores.{Store, Entry, unbound, entry_of, weight, sum_over}
 use Rattle.relation_semantics.specs.Steps.{IsLater}
 use Rattle.relation_semantics.specs.Measures.{grown, depth, Goes}
 use Rattle.relation_semantics.proofs.Classes.{entry_kept, stands_through}
@@ -38,19 +38,19 @@ later_through {r} {q} {p} a b = record {
 }
 
 -- What is counted of entries does not fall in a later state, and rises where a variable was newly bound.
-tally_below : (f : Entry → ℕ) → f unbound ≡ 0 → (es ds : List Entry) → ((m : ℕ) → f (get_or es m unbound) ≤ f (get_or ds m unbound)) → tally f es ≤ tally f ds
-tally_below f z [] ds h = omega arith
-tally_below f z (e ∷ es) [] h = let first : f e ≤ f unbound = h 0 in let rest : tally f es ≤ tally f [] = tally_below f z es [] (λ m. h (suc m)) in omega (arith, z, first, rest)
-tally_below f z (e ∷ es) (d ∷ ds) h = let first : f e ≤ f d = h 0 in let rest = tally_below f z es ds (λ m. h (suc m)) in omega (arith, first, rest)
+sum_over_below : (f : Entry → ℕ) → f unbound ≡ 0 → (es ds : List Entry) → ((m : ℕ) → f (get_or es m unbound) ≤ f (get_or ds m unbound)) → sum_over f es ≤ sum_over f ds
+sum_over_below f z [] ds h = omega arith
+sum_over_below f z (e ∷ es) [] h = let first : f e ≤ f unbound = h 0 in let rest : sum_over f es ≤ sum_over f [] = sum_over_below f z es [] (λ m. h (suc m)) in omega (arith, z, first, rest)
+sum_over_below f z (e ∷ es) (d ∷ ds) h = let first : f e ≤ f d = h 0 in let rest = sum_over_below f z es ds (λ m. h (suc m)) in omega (arith, first, rest)
 
-tally_less : (f : Entry → ℕ) → f unbound ≡ 0 → (es ds : List Entry) → ((m : ℕ) → f (get_or es m unbound) ≤ f (get_or ds m unbound)) → (n : ℕ) → f (get_or es n unbound) < f (get_or ds n unbound) → tally f es < tally f ds
-tally_less f z [] [] h n l = absurd (omega (arith, l))
-tally_less f z [] (d ∷ ds) h zero l = let first : f unbound < f d = l in omega (arith, first)
-tally_less f z [] (d ∷ ds) h (suc n) l = let rest : tally f [] < tally f ds = tally_less f z [] ds (λ m. h (suc m)) n l in omega (arith, rest)
-tally_less f z (e ∷ es) [] h zero l = let first : f e < f unbound = l in absurd (omega (arith, z, first))
-tally_less f z (e ∷ es) [] h (suc n) l = let rest : tally f es < tally f [] = tally_less f z es [] (λ m. h (suc m)) n l in absurd (omega (arith, rest))
-tally_less f z (e ∷ es) (d ∷ ds) h zero l = let first : f e < f d = l in let rest = tally_below f z es ds (λ m. h (suc m)) in omega (arith, first, rest)
-tally_less f z (e ∷ es) (d ∷ ds) h (suc n) l = let first : f e ≤ f d = h 0 in let rest = tally_less f z es ds (λ m. h (suc m)) n l in omega (arith, first, rest)
+sum_over_less : (f : Entry → ℕ) → f unbound ≡ 0 → (es ds : List Entry) → ((m : ℕ) → f (get_or es m unbound) ≤ f (get_or ds m unbound)) → (n : ℕ) → f (get_or es n unbound) < f (get_or ds n unbound) → sum_over f es < sum_over f ds
+sum_over_less f z [] [] h n l = absurd (omega (arith, l))
+sum_over_less f z [] (d ∷ ds) h zero l = let first : f unbound < f d = l in omega (arith, first)
+sum_over_less f z [] (d ∷ ds) h (suc n) l = let rest : sum_over f [] < sum_over f ds = sum_over_less f z [] ds (λ m. h (suc m)) n l in omega (arith, rest)
+sum_over_less f z (e ∷ es) [] h zero l = let first : f e < f unbound = l in absurd (omega (arith, z, first))
+sum_over_less f z (e ∷ es) [] h (suc n) l = let rest : sum_over f es < sum_over f [] = sum_over_less f z es [] (λ m. h (suc m)) n l in absurd (omega (arith, rest))
+sum_over_less f z (e ∷ es) (d ∷ ds) h zero l = let first : f e < f d = l in let rest = sum_over_below f z es ds (λ m. h (suc m)) in omega (arith, first, rest)
+sum_over_less f z (e ∷ es) (d ∷ ds) h (suc n) l = let first : f e ≤ f d = h 0 in let rest = sum_over_less f z es ds (λ m. h (suc m)) n l in omega (arith, first, rest)
 
 le_refl_at : (n : ℕ) → n ≤ n
 le_refl_at n = omega arith

@@ -6,13 +6,13 @@ use native.Mathlib.Decide.{ℕ_discrete}
 use Rattle.relation_terms.specs.Heads.{VarKind, VarKind_discrete, region_var, Leaf, atom, variable, bound, placeholder, unknown}
 use Rattle.relation_terms.specs.Trees.{Tree, Assign, Leaves, size}
 use Rattle.relation_semantics.specs.Relation.{Interpretation}
-use Rattle.relation_semantics.specs.Stores.{Store, Entry, unbound, entry_of, entry_term, bound_term, universe_of, IsMade, IsFree, IsInScope, IsNamable, IsSound, Satisfies, ConstraintHolds, Constraint, ConstraintIn, resolved, all_tally, all_bound, tally, counts_term, counts_bound, weight}
+use Rattle.relation_semantics.specs.Stores.{Store, Entry, unbound, entry_of, entry_term, bound_term, universe_of, IsMade, IsFree, IsInScope, IsNamable, IsSound, Satisfies, ConstraintHolds, Constraint, ConstraintIn, resolved, all_sum_over, all_bound, sum_over, counts_term, counts_bound, weight}
 use Rattle.relation_semantics.specs.Steps.{MakesVariable, AddsConstraint, IsLater}
 use Rattle.relation_semantics.proofs.Trees.{Leaves_map, apply_alike}
 use Rattle.relation_semantics.proofs.Classes.{entry_kept}
 use Rattle.relation_semantics.proofs.Resolved.{resolved_same, resolved_free}
 use Rattle.relation_semantics.proofs.Standing.{own_scope, later_term, later_constraint}
-use Rattle.relation_semantics.proofs.Tallies.{tally_append, all_more, all_alike, bound_alike}
+use Rattle.relation_semantics.proofs.Tallies.{sum_over_append, all_more, all_alike, bound_alike}
 
 pub entry_push : (es : List Entry) (m : ℕ) → get_or (es ++ unbound ∷ []) m unbound ≡ get_or es m unbound
 entry_push [] zero = refl
@@ -66,23 +66,23 @@ module _ (before after : Store) (k : VarKind) (n u : ℕ) (b : MakesVariable bef
       go (yes e) = at e (ℕ_discrete m n)
       go (no o) = inl (subst (λ es. m < length es) (b.other_entries j o) h)
 
-  same_tally : (f : Entry → ℕ) → f unbound ≡ 0 → all_tally f after ≡ all_tally f before
-  same_tally f z = all_more f before after 0 k
-      (ap (tally f) b.entries_grow ∙ tally_append f (before.entries k) unbound ∙ omega (arith, z))
-      (λ j o. ap (tally f) (b.other_entries j o)) ∙ omega arith
+  same_sum_over : (f : Entry → ℕ) → f unbound ≡ 0 → all_sum_over f after ≡ all_sum_over f before
+  same_sum_over f z = all_more f before after 0 k
+      (ap (sum_over f) b.entries_grow ∙ sum_over_append f (before.entries k) unbound ∙ omega (arith, z))
+      (λ j o. ap (sum_over f) (b.other_entries j o)) ∙ omega arith
 
   pub same_bound : all_bound after ≡ all_bound before
   same_bound = bound_alike before after each
     where
-      each : (j : VarKind) → tally counts_bound (after.entries j) ≡ tally counts_bound (before.entries j)
+      each : (j : VarKind) → sum_over counts_bound (after.entries j) ≡ sum_over counts_bound (before.entries j)
       each j = go (VarKind_discrete j k)
         where
-          go : Dec (j ≡ k) → tally counts_bound (after.entries j) ≡ tally counts_bound (before.entries j)
-          go (yes e) = subst (λ z. tally counts_bound (after.entries z) ≡ tally counts_bound (before.entries z)) (sym e) (ap (tally counts_bound) b.entries_grow ∙ tally_append counts_bound (before.entries k) unbound ∙ omega arith)
-          go (no o) = ap (tally counts_bound) (b.other_entries j o)
+          go : Dec (j ≡ k) → sum_over counts_bound (after.entries j) ≡ sum_over counts_bound (before.entries j)
+          go (yes e) = subst (λ z. sum_over counts_bound (after.entries z) ≡ sum_over counts_bound (before.entries z)) (sym e) (ap (sum_over counts_bound) b.entries_grow ∙ sum_over_append counts_bound (before.entries k) unbound ∙ omega arith)
+          go (no o) = ap (sum_over counts_bound) (b.other_entries j o)
 
   pub resolved_still : (j : VarKind) (m : ℕ) → resolved before j m ≡ resolved after j m
-  resolved_still j m = resolved_same before after same_terms (sym (same_tally counts_term refl)) j m
+  resolved_still j m = resolved_same before after same_terms (sym (same_sum_over counts_term refl)) j m
 
   pub weight_still : (t : Tree) → weight before t ≡ weight after t
   unfolding weight
@@ -189,7 +189,7 @@ module _ (before after : Store) (q : Constraint) (b : AddsConstraint before afte
   constraint_weight t = ap size (apply_alike (resolved before) (resolved after) t constraint_resolved)
 
   pub constraint_bound : all_bound after ≡ all_bound before
-  constraint_bound = bound_alike before after (λ j. ap (tally counts_bound) (b.same_entries j))
+  constraint_bound = bound_alike before after (λ j. ap (sum_over counts_bound) (b.same_entries j))
 
   pub constraint_made : (j : VarKind) (m : ℕ) → IsMade before j m → IsMade after j m
   constraint_made j m h = subst (λ es. m < length es) (sym (b.same_entries j)) h

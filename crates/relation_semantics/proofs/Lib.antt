@@ -1,6 +1,6 @@
 pub mod Trees
 pub mod Bound
-pub mod Leaving
+pub mod Deferring
 pub mod Related
 pub mod Values
 pub mod Only

@@ -20,7 +20,7 @@ use Rattle.relation_semantics.specs.Steps.{InstantiatesNumber, IsNumberFor, HasN
 use Rattle.relation_semantics.specs.Measures.{Goes}
 use Rattle.relation_semantics.specs.Outcomes.{Exact, NoEqualTerms, NoUnifier}
 use Rattle.relation_semantics.specs.Settings.{Settings}
-use Rattle.relation_semantics.specs.Errors.{by_forms, ErrorOf, IsLeftToGoal, HaveNoError, AreAlike, AreBindable, IsVariableFor, of_forms, sorts}
+use Rattle.relation_semantics.specs.Errors.{by_forms, ErrorOf, IsDeferred, HaveNoError, AreAlike, AreBindable, IsVariableFor, of_forms, sorts}
 use Rattle.relation_semantics.specs.Parts.{IsFormed}
 use Rattle.relation_terms.proofs.Members.{type_only}
 use Rattle.relation_semantics.proofs.Full.{full_by, written_plain}
@@ -288,7 +288,7 @@ module _ (st : Store) (k : VarKind) (i : IsNumber k) (n : ℕ) (made : IsMade st
   -- The error that comes of them.
   module _ {Key Id Name : Type 0} (m : Meaning Key Id Name) (j : Settings) (w : Items) (x y : TyKey Key) (v : Variance)
       (decides : v ≢ Bivariant) where
-    pub number_error : (IsLeftToGoal j (m.ty x) (m.ty y) → ⊥) → (IsError t → ⊥) → m.ty x ≡ leaf (variable k n) →
+    pub number_error : (IsDeferred j (m.ty x) (m.ty y) → ⊥) → (IsError t → ⊥) → m.ty x ≡ leaf (variable k n) →
         m.ty y ≡ t → ErrorOf m j w st v (Sorts (record { expected = x; found = y })) (m.ty x) (m.ty y)
     number_error left clean p q = by_forms left
         (of_forms x y decides refl refl bindable (sorts no_error (λ a. not_alike (subst₂ AreAlike p q a))))
@@ -303,7 +303,7 @@ module _ (st : Store) (k : VarKind) (i : IsNumber k) (n : ℕ) (made : IsMade st
           λ z. clean (subst IsError q z),
         )
 
-    pub number_error_back : (IsLeftToGoal j (m.ty x) (m.ty y) → ⊥) → (IsError t → ⊥) → m.ty x ≡ t →
+    pub number_error_back : (IsDeferred j (m.ty x) (m.ty y) → ⊥) → (IsError t → ⊥) → m.ty x ≡ t →
         m.ty y ≡ leaf (variable k n) → ErrorOf m j w st v (Sorts (record { expected = x; found = y })) (m.ty x) (m.ty y)
     number_error_back left clean p q = by_forms left
         (of_forms x y decides refl refl bindable (sorts no_error (λ a. not_alike (sym (subst₂ AreAlike p q a)))))

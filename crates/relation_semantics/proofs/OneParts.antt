@@ -8,7 +8,7 @@ use Rattle.relation_semantics.specs.Relation.{IsRelatedHead, sort_of}
 use Rattle.relation_semantics.specs.Stores.{Store}
 use Rattle.relation_semantics.specs.Outcomes.{NoEqualTerms}
 use Rattle.relation_semantics.specs.Errors.{AreOfOneForm, over_parts, over_aliases, one_leaf, parameters, AreOfOneConst, AreOfOneValue, values, expressions, over_arguments, const_parameters, one_value, as_many_branches, one_const_leaf}
-use Rattle.relation_semantics.specs.Parts.{own_parts, const_parts_of, branches_of}
+use Rattle.relation_semantics.specs.Parts.{direct_parts, const_parts_of, branches_of}
 
 -- Lists.
 pub count_applied : (s : Assign) (ts : Tree) → IsList ts → count (apply s ts) ≡ count ts
@@ -52,17 +52,17 @@ related_head environment e = absurd (cc)
 related_head h e = tt
 
 -- Terms of one form that are one have the same parts.
-pub parts_equal : (a b : Tree) → AreOfOneForm a b → (s : Assign) → apply s a ≡ apply s b → apply s (own_parts a) ≡ apply s (own_parts b)
+pub parts_equal : (a b : Tree) → AreOfOneForm a b → (s : Assign) → apply s a ≡ apply s b → apply s (direct_parts a) ≡ apply s (direct_parts b)
 parts_equal a b (over_parts {h} {ts} {us} d e n) s q =
     let z : apply s (node h ts) ≡ apply s (node h us) = sym (ap (apply s) d) ∙ q ∙ ap (apply s) e in
     let w : apply s ts ≡ apply s us = cc in
-    ap (λ t. apply s (own_parts t)) d ∙ w ∙ sym (ap (λ t. apply s (own_parts t)) e)
+    ap (λ t. apply s (direct_parts t)) d ∙ w ∙ sym (ap (λ t. apply s (direct_parts t)) e)
 parts_equal a b (over_aliases {k} {l} {d = i} {ts} {us} d e n) s q =
     let z : apply s (node (alias k i) ts) ≡ apply s (node (alias l i) us) = sym (ap (apply s) d) ∙ q ∙ ap (apply s) e in
     let w : apply s ts ≡ apply s us = cc in
-    ap (λ t. apply s (own_parts t)) d ∙ w ∙ sym (ap (λ t. apply s (own_parts t)) e)
-parts_equal a b (one_leaf d e) s q = ap (λ t. apply s (own_parts t)) d ∙ sym (ap (λ t. apply s (own_parts t)) e)
-parts_equal a b (parameters d e p) s q = ap (λ t. apply s (own_parts t)) d ∙ sym (ap (λ t. apply s (own_parts t)) e)
+    ap (λ t. apply s (direct_parts t)) d ∙ w ∙ sym (ap (λ t. apply s (direct_parts t)) e)
+parts_equal a b (one_leaf d e) s q = ap (λ t. apply s (direct_parts t)) d ∙ sym (ap (λ t. apply s (direct_parts t)) e)
+parts_equal a b (parameters d e p) s q = ap (λ t. apply s (direct_parts t)) d ∙ sym (ap (λ t. apply s (direct_parts t)) e)
 
 pub const_parts_equal : (a b : Tree) → AreOfOneConst a b → (s : Assign) → apply s a ≡ apply s b → apply s (const_parts_of a) ≡ apply s (const_parts_of b)
 const_parts_equal a b (values {t} {u} {v} {w} d e o) s q =
@@ -88,11 +88,11 @@ const_parts_equal a b (one_const_leaf d e) s q = ap (λ t. apply s (const_parts_
 const_parts_equal a b (const_parameters d e p) s q = ap (λ t. apply s (const_parts_of t)) d ∙ sym (ap (λ t. apply s (const_parts_of t)) e)
 
 -- They have as many.
-pub parts_counted : (a b : Tree) → AreOfOneForm a b → count (own_parts a) ≡ count (own_parts b)
-parts_counted a b (over_parts d e n) = ap (λ t. count (own_parts t)) d ∙ n ∙ sym (ap (λ t. count (own_parts t)) e)
-parts_counted a b (over_aliases d e n) = ap (λ t. count (own_parts t)) d ∙ n ∙ sym (ap (λ t. count (own_parts t)) e)
-parts_counted a b (one_leaf d e) = ap (λ t. count (own_parts t)) d ∙ sym (ap (λ t. count (own_parts t)) e)
-parts_counted a b (parameters d e p) = ap (λ t. count (own_parts t)) d ∙ sym (ap (λ t. count (own_parts t)) e)
+pub parts_counted : (a b : Tree) → AreOfOneForm a b → count (direct_parts a) ≡ count (direct_parts b)
+parts_counted a b (over_parts d e n) = ap (λ t. count (direct_parts t)) d ∙ n ∙ sym (ap (λ t. count (direct_parts t)) e)
+parts_counted a b (over_aliases d e n) = ap (λ t. count (direct_parts t)) d ∙ n ∙ sym (ap (λ t. count (direct_parts t)) e)
+parts_counted a b (one_leaf d e) = ap (λ t. count (direct_parts t)) d ∙ sym (ap (λ t. count (direct_parts t)) e)
+parts_counted a b (parameters d e p) = ap (λ t. count (direct_parts t)) d ∙ sym (ap (λ t. count (direct_parts t)) e)
 
 pub const_parts_counted : (a b : Tree) → AreOfOneConst a b → count (const_parts_of a) ≡ count (const_parts_of b)
 const_parts_counted a b (values d e (one_value o)) = ap (λ t. count (const_parts_of t)) d ∙ ap (λ t. count (branches_of t)) o ∙ sym (ap (λ t. count (const_parts_of t)) e)

@@ -2,12 +2,12 @@
 use Rattle.std.proofs.Common.{◌≡◌, ◌⊎◌, ℕ, zero, suc, ◌+◌, ◌<◌, ◌≤◌, min, refl, sym, ap, ap₂, ◌∙◌, arith, inl, inr, subst, le_trans, List, [], ◌∷◌, length, get_or}
 use Rattle.relation_terms.specs.Heads.{VarKind, type_var, int_var, float_var, const_var, region_var, Leaf, variable, bound, placeholder, atom, unknown}
 use Rattle.relation_terms.specs.Trees.{Tree, leaf, node, bind, nil, cons, Assign, assigned, apply, Leaves, nth, count}
-use Rattle.relation_semantics.specs.Stores.{Store, Entry, unbound, same_as, bound_to, entry_of, entry_term, universe_of, IsMade, IsMadeLeaf, IsInScope, IsIntegerTerm, IsFloatTerm, IsSound, tally, counts_bound, all_bound, resolved}
+use Rattle.relation_semantics.specs.Stores.{Store, Entry, unbound, same_as, bound_to, entry_of, entry_term, universe_of, IsMade, IsMadeLeaf, IsInScope, IsIntegerTerm, IsFloatTerm, IsSound, sum_over, counts_bound, all_bound, resolved}
 use Rattle.relation_semantics.specs.ErasureLaws.{IsTypeOrConst}
 use Rattle.relation_semantics.specs.Errors.{IsReadAs, itself, by_class, by_binding}
 use Rattle.relation_semantics.specs.Generalising.{NumbersNameNothing}
 use Rattle.relation_semantics.specs.OneUniverse.{NamesTypesTo, HasOneUniverse, IsPairOf, counts_unbound, all_unbound, counts_root, all_roots, KeepsUniverse, KeepsUniverseOf, LeadsInUniverse, BindsNoMore, BindsFewer}
-use Rattle.relation_semantics.specs.Parts.{own_parts, branches_of, const_parts_of}
+use Rattle.relation_semantics.specs.Parts.{direct_parts, branches_of, const_parts_of}
 use Rattle.relation_semantics.specs.Steps.{IsLater, IsNamedBy, Equates}
 use Rattle.relation_terms.specs.Heads.{unevaluated, expression, value, value_branch}
 use Rattle.relation_semantics.proofs.Classes.{stands_from}
@@ -16,11 +16,11 @@ use Rattle.relation_semantics.proofs.Resolved.{resolved_free, resolved_meets}
 use Rattle.relation_semantics.proofs.Trees.{Leaves_map, Leaves_map₂, Leaves-replace}
 
 -- What is counted, where no entry counts more than the one at its place did.
-tally_no_more : (f : Entry → ℕ) (es fs : List Entry) → length fs ≡ length es → ((m : ℕ) → f (get_or fs m unbound) ≤ f (get_or es m unbound)) → tally f fs ≤ tally f es
-tally_no_more f [] [] l h = omega arith
-tally_no_more f [] (y ∷ fs) l h = absurd (omega arith)
-tally_no_more f (x ∷ es) [] l h = absurd (omega arith)
-tally_no_more f (x ∷ es) (y ∷ fs) l h = let p : f y ≤ f x = h 0 in let q = tally_no_more f es fs (omega arith) (λ m. h (suc m)) in omega (arith, p, q)
+sum_over_no_more : (f : Entry → ℕ) (es fs : List Entry) → length fs ≡ length es → ((m : ℕ) → f (get_or fs m unbound) ≤ f (get_or es m unbound)) → sum_over f fs ≤ sum_over f es
+sum_over_no_more f [] [] l h = omega arith
+sum_over_no_more f [] (y ∷ fs) l h = absurd (omega arith)
+sum_over_no_more f (x ∷ es) [] l h = absurd (omega arith)
+sum_over_no_more f (x ∷ es) (y ∷ fs) l h = let p : f y ≤ f x = h 0 in let q = sum_over_no_more f es fs (omega arith) (λ m. h (suc m)) in omega (arith, p, q)
 
 at_most_one : (e : Entry) → counts_root e ≤ 1
 at_most_one unbound = omega arith
@@ -33,7 +33,7 @@ root_is unbound = refl
 root_is (same_as m) = refl
 root_is (bound_to t) = refl
 
-roots_are_in : (es : List Entry) → tally counts_root es ≡ tally counts_bound es + tally counts_unbound es
+roots_are_in : (es : List Entry) → sum_over counts_root es ≡ sum_over counts_bound es + sum_over counts_unbound es
 roots_are_in [] = refl
 roots_are_in (e ∷ es) = let p = root_is e in let q = roots_are_in es in omega (arith, p, q)
 
@@ -44,7 +44,7 @@ pub bound_below : (st : Store) → all_bound st ≤ all_roots st
 bound_below st = let e = roots_are st in omega (arith, e)
 
 -- Where a type or constant variable is unbound, not all roots are bound.
-one_unbound : (es : List Entry) (n : ℕ) → n < length es → get_or es n unbound ≡ unbound → 0 < tally counts_unbound es
+one_unbound : (es : List Entry) (n : ℕ) → n < length es → get_or es n unbound ≡ unbound → 0 < sum_over counts_unbound es
 one_unbound [] n l e = absurd (omega (arith, l))
 one_unbound (x ∷ es) zero l e = let p : counts_unbound x ≡ 1 = ap counts_unbound e in omega (arith, p)
 one_unbound (x ∷ es) (suc n) l e = let q = one_unbound es n (omega (arith, l)) e in omega (arith, q)
@@ -66,8 +66,8 @@ module _ (before after : Store) (l : IsLater before after) where
 
   pub roots_fall : ((k : VarKind) → IsTypeOrConst k → length (after.entries k) ≡ length (before.entries k)) → all_roots after ≤ all_roots before
   roots_fall h =
-      let a = tally_no_more counts_root (before.entries type_var) (after.entries type_var) (h type_var tt) (λ m. root_stays type_var m (entry_of before type_var m) refl) in
-      let b = tally_no_more counts_root (before.entries const_var) (after.entries const_var) (h const_var tt) (λ m. root_stays const_var m (entry_of before const_var m) refl) in
+      let a = sum_over_no_more counts_root (before.entries type_var) (after.entries type_var) (h type_var tt) (λ m. root_stays type_var m (entry_of before type_var m) refl) in
+      let b = sum_over_no_more counts_root (before.entries const_var) (after.entries const_var) (h const_var tt) (λ m. root_stays const_var m (entry_of before const_var m) refl) in
       omega (arith, a, b)
 
 -- One piece of work after another.
@@ -136,7 +136,7 @@ leaves_nth P (node g ts) i l h = absurd (omega (arith, l))
 leaves_nth P (bind ks t) i l h = absurd (omega (arith, l))
 leaves_nth P nil i l h = absurd (omega (arith, l))
 
-pub leaves_parts : (P : Leaf → Type 0) (t : Tree) → Leaves P t → Leaves P (own_parts t)
+pub leaves_parts : (P : Leaf → Type 0) (t : Tree) → Leaves P t → Leaves P (direct_parts t)
 leaves_parts P (node h ts) f = f
 leaves_parts P (leaf l) f = tt
 leaves_parts P (bind ks t) f = tt
@@ -157,7 +157,7 @@ leaves_const_parts P c f = tt
 pub standing_keeps : (before after : Store) → ((k : VarKind) → after.entries k ≡ before.entries k) → ((k : VarKind) → after.universes k ≡ before.universes k) → KeepsUniverse before after
 standing_keeps before after entries universes u h = (
   λ k n i m. ap (λ us. get_or us n 0) (universes k) ∙ h k n i (subst (λ es. n < length es) (entries k) m),
-  let a = ap (tally counts_root) (entries type_var) in let b = ap (tally counts_root) (entries const_var) in omega (arith, a, b),
+  let a = ap (sum_over counts_root) (entries type_var) in let b = ap (sum_over counts_root) (entries const_var) in omega (arith, a, b),
 )
 
 pub written_keeps : (before after : Store) → IsLater before after → ((j : VarKind) → length (after.entries j) ≡ length (before.entries j)) → ((j : VarKind) (i : ℕ) → universe_of after j i ≡ universe_of before j i) → KeepsUniverse before after

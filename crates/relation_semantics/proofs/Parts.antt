@@ -9,7 +9,7 @@ use Rattle.relation_terms.specs.Trees.{nth}
 use Rattle.relation_terms.specs.Trees.{known, list_tree, IsList}
 use Rattle.relation_semantics.specs.Relation.{StaysWithin}
 use Rattle.relation_semantics.specs.Stores.{Store, IsNamable, IsMadeLeaf, IsTermIn, InContext}
-use Rattle.relation_semantics.specs.Parts.{own_parts, const_parts_of}
+use Rattle.relation_semantics.specs.Parts.{direct_parts, const_parts_of}
 use Rattle.relation_semantics.proofs.OneUniverse.{leaves_nth}
 use Rattle.relation_terms.proofs.Members.{list_count, list_is, list_nth, item_known}
 use Rattle.relation_semantics.specs.Making.{form_over}
@@ -50,7 +50,7 @@ over_parts (node value (cons t (cons v nil))) = of_value t v
 over_parts c = of_none refl
 
 -- Parts of terms of a context are terms of it.
-pub in_parts : (st : Store) (t : Tree) → IsTermIn st t → IsTermIn st (own_parts t)
+pub in_parts : (st : Store) (t : Tree) → IsTermIn st t → IsTermIn st (direct_parts t)
 unfolding IsTermIn InContext
 in_parts st (node h ts) p = p
 in_parts st (leaf l) p = (tt, tt, tt)
@@ -96,9 +96,9 @@ in_nth st ts i h p = (
       (IsNamable st.universe) ts i h p.2,
 )
 
-pub in_part : (st : Store) (t : Tree) (i : ℕ) → i < count (own_parts t) → IsTermIn st t →
-    IsTermIn st (nth i (own_parts t))
-in_part st t i h p = in_nth st (own_parts t) i h (in_parts st t p)
+pub in_part : (st : Store) (t : Tree) (i : ℕ) → i < count (direct_parts t) → IsTermIn st t →
+    IsTermIn st (nth i (direct_parts t))
+in_part st t i h p = in_nth st (direct_parts t) i h (in_parts st t p)
 
 pub in_const_part : (st : Store) (c : Tree) (i : ℕ) → i < count (const_parts_of c) → IsTermIn st c →
     IsTermIn st (nth i (const_parts_of c))
@@ -113,7 +113,7 @@ nth_size s (node a l) i h = absurd (omega arith)
 nth_size s (bind ks l) i h = absurd (omega arith)
 nth_size s nil i h = absurd (omega arith)
 
-pub parts_size : (s : Assign) (t : Tree) → 0 < count (own_parts t) → size (apply s (own_parts t)) < size (apply s t)
+pub parts_size : (s : Assign) (t : Tree) → 0 < count (direct_parts t) → size (apply s (direct_parts t)) < size (apply s t)
 parts_size s (node h ts) c = omega arith
 parts_size s (leaf l) c = absurd (omega arith)
 parts_size s (bind ks t) c = absurd (omega arith)
@@ -141,7 +141,7 @@ nowhere k n (node g ts) l h o = l
 nowhere k n (bind ks t) l h o = l
 
 -- A term over its own parts is itself.
-pub over_itself : (t : Tree) → form_over t (own_parts t) ≡ t
+pub over_itself : (t : Tree) → form_over t (direct_parts t) ≡ t
 over_itself (leaf l) = refl
 over_itself (node h ts) = refl
 over_itself (bind ks t) = refl

@@ -16,7 +16,7 @@ use Rattle.relation_folds.specs.declared.error.RelateFault.TheVariants.{Memory, 
 use Rattle.relation_semantics.specs.Relation.{Items, Way, at, anything, Rel}
 use Rattle.relation_semantics.specs.declared.relate.Step.TheVariants.{Done, Parts}
 use Rattle.relation_folds.specs.Faults.{KnowsError}
-use Rattle.relation_semantics.specs.Errors.{ErrorOf, by_forms, IsLeftToGoal, Meeting, as_pair, as_forms}
+use Rattle.relation_semantics.specs.Errors.{ErrorOf, by_forms, IsDeferred, Meeting, as_pair, as_forms}
 use Rattle.relation_semantics.specs.Asking.{Wanted, AsksFor}
 use Rattle.relation_semantics.specs.Recording.{AreBare}
 use Rattle.relation_semantics.specs.Agreeing.{Agree}
@@ -26,7 +26,7 @@ use Rattle.relation_semantics.specs.Outcomes.{Outcome, CarriesOver, NeverOne, Ex
 use Rattle.relation_semantics.specs.Headline.{IsFirstOrderPair}
 use Rattle.relation_semantics.specs.FirstOrder.{IsFirstOrderStore, IsErasedSolution}
 use Rattle.relation_semantics.specs.Steps.{IsLater, StaysFullFor}
-use Rattle.relation_semantics.specs.Kits.{StaysBuilt, BuiltFrom, NeedsVariable, IsGoalOf}
+use Rattle.relation_semantics.specs.Alphabets.{StaysBuilt, BuiltFrom, NeedsVariable, IsGoalOf}
 use Rattle.relation_semantics.specs.Measures.{grown, Goes}
 use Rattle.relation_semantics.specs.Lawful.{State, Manner, Manners, Takes, MayAnswer, Passes, Asked, Refuses, Answers, Verdict, Related, Leads}
 use Rattle.relation_semantics.specs.Lawful.{RefusesAs, VerdictAs, RelatedAs, RelatedForms, Pair, MeansPair}
@@ -234,14 +234,14 @@ module _ {Key Id Name : Type 0} where
       (subst (λ c. All (Holds c w s) p.goals) (same_items g) all))))
 
   -- A pair that was related as two forms, and isn't left to a goal, was related as it is met.
-  met_refuses : (r q : State Key Id Name) (v : Variance) (a b : Tree) → (IsLeftToGoal q.kept.settings a b → ⊥) →
+  met_refuses : (r q : State Key Id Name) (v : Variance) (a b : Tree) → (IsDeferred q.kept.settings a b → ⊥) →
       (e : RelateFault Key Id Name) → RefusesAs as_forms r q (at v) a b e → Refuses r q v a b e
   met_refuses r q v a b n (Unrelated e) h = (h.0, by_forms n h.1, h.2)
   met_refuses r q v a b n Budget h = h
   met_refuses r q v a b n Memory h = tt
 
   pub forms_met : {X : Type 0} {r q : State Key Id Name} (M : Manners) (v : Variance) (a b : Tree) (tree : X → Tree)
-      (result : Result X (RelateFault Key Id Name)) → (IsLeftToGoal r.kept.settings a b → ⊥) →
+      (result : Result X (RelateFault Key Id Name)) → (IsDeferred r.kept.settings a b → ⊥) →
       RelatedForms M r q v a b tree result → Related M r q v a b tree result
   forms_met {X} {r} {q} M v a b tree result n f = record {
     passes = f.passes;
@@ -261,7 +261,7 @@ module _ {Key Id Name : Type 0} where
           Verdict M r q (f.passes).added v a b tree res
       verdict (Ok t) h = h
       verdict (Err e) h =
-          met_refuses r q v a b (subst (λ k. IsLeftToGoal k a b → ⊥) (sym (same_settings (f.passes).kept)) n) e h
+          met_refuses r q v a b (subst (λ k. IsDeferred k a b → ⊥) (sym (same_settings (f.passes).kept)) n) e h
 
   -- The terms to which a step of two bare ones led are these, and what they ask for is what those do.
   bare_led : {n : ℕ} {r q : State Key Id Name} (g : Passes n r q) (a b x y : Tree) → x ≡ a → y ≡ b →
@@ -326,7 +326,7 @@ module _ {Key Id Name : Type 0} where
         agrees = λ k. led_agrees g a b x y r.ambient l.leads (v.agrees (manner_then M (λ z. z.relates_agreeing) g k));
       }
       verdict (Err e) v = led_refuses g f.passes sound a b x y r.ambient l.leads built l.built e
-          (met_refuses q p r.ambient x y (subst (λ k. IsLeftToGoal k x y → ⊥) (sym (same_settings (f.passes).kept)) l.not_left) e v)
+          (met_refuses q p r.ambient x y (subst (λ k. IsDeferred k x y → ⊥) (sym (same_settings (f.passes).kept)) l.not_left) e v)
 
   -- The pair to which a step led was related, and the answer is the one that the step named.
   module _ {r q : State Key Id Name} (M : Manners) (a b k l x y u : Tree) (v : Variance)
@@ -803,7 +803,7 @@ module _ {Key Id Name : Type 0} where
 -- A step that leaves the pair as it is.
 module _ {Key Id Name K : Type 0} (M : Manners) (F : Tree → Type 0) (r : State Key Id Name) (tree : K → Tree) where
   itself_left : (a b : K) → Asked M r r.ambient (tree a) (tree b) → F (tree a) → F (tree b) →
-      (IsLeftToGoal r.kept.settings (tree a) (tree b) → ⊥) → Stepped M F r r (tree a) (tree b) tree (Ok (Parts a b))
+      (IsDeferred r.kept.settings (tree a) (tree b) → ⊥) → Stepped M F r r (tree a) (tree b) tree (Ok (Parts a b))
   unfolding passes_nowhere
   itself_left a b k f g left = record {
     passes = passes_nowhere _ r;
@@ -841,7 +841,7 @@ module _ {Key Id Name K : Type 0} (M : Manners) (F : Tree → Type 0) (r : State
   }
 
   pub parts_left : (a b x y : K) → x ≡ a → y ≡ b → Asked M r r.ambient (tree a) (tree b) → F (tree a) → F (tree b) →
-      (IsLeftToGoal r.kept.settings (tree a) (tree b) → ⊥) → Stepped M F r r (tree a) (tree b) tree (Ok (Parts x y))
+      (IsDeferred r.kept.settings (tree a) (tree b) → ⊥) → Stepped M F r r (tree a) (tree b) tree (Ok (Parts x y))
   parts_left a b x y e d k f g left =
       subst₂ (λ x y. Stepped M F r r (tree a) (tree b) tree (Ok (Parts x y))) (sym e) (sym d) (itself_left a b k f g left)
 

@@ -4,7 +4,7 @@ use Rattle.relation_terms.specs.Heads.{VarKind, type_var, variable}
 use Rattle.relation_terms.specs.Trees.{Tree, leaf, Assign, apply}
 use Rattle.relation_terms.specs.Erasure.{erase}
 use Rattle.relation_semantics.specs.Stores.{Store, same_as, bound_to, entry_of, entry_term, bound_term, MeetsBindings, IsTermIn, IsSound, resolved, weight}
-use Rattle.relation_semantics.specs.Steps.{IsLater, OneClass, Resolves}
+use Rattle.relation_semantics.specs.Steps.{IsLater, AreEquated, Resolves}
 use Rattle.relation_semantics.specs.Errors.{IsReadAs, itself, by_class, by_binding}
 use Rattle.relation_semantics.proofs.Classes.{class_next, class_alike, class_made, class_later, binding_later}
 use Rattle.relation_semantics.proofs.Standing.{made_of_term, term_of_made}
@@ -24,7 +24,7 @@ read_later before after l t u (by_binding {u = x} k n e b r) =
     by_binding k n e (binding_later before after l k n x b) (read_later before after l x u r)
 
 -- All of a class have one value.
-class_value : (st : Store) (s : Assign) → MeetsBindings st s → (k : VarKind) (n m : ℕ) → OneClass st k n m → s k n ≡ s k m
+class_value : (st : Store) (s : Assign) → MeetsBindings st s → (k : VarKind) (n m : ℕ) → AreEquated st k n m → s k n ≡ s k m
 class_value st s h k n m c = class_alike st k (s k) (λ i p e. h k i (leaf (variable k p)) (ap (entry_term k) e)) n m c
 
 pub read_value : (st : Store) (s : Assign) → MeetsBindings st s → (t u : Tree) → IsReadAs st t u → apply s t ≡ apply s u

@@ -12,9 +12,9 @@ use Rattle.relation_terms.proofs.Stays.{stays_same}
 use Rattle.relation_semantics.specs.Relation.{Items, part_at, plain, IsRelatedHead}
 use Rattle.relation_semantics.specs.Stores.{Constraint}
 use Rattle.relation_semantics.specs.Goals.{Goal, goal_of}
-use Rattle.relation_semantics.specs.Settings.{Settings, LeavesAliases}
+use Rattle.relation_semantics.specs.Settings.{Settings, DefersAliases}
 use Rattle.relation_semantics.specs.Steps.{HasNoBinder}
-use Rattle.relation_semantics.specs.Errors.{IsLeftToGoal}
+use Rattle.relation_semantics.specs.Errors.{IsDeferred}
 use Rattle.relation_semantics.specs.Asking.{Wanted, a_constraint, a_goal, IsTrivial, HaveAlias, AsksFor, IsPlainTerm, HasNoAlias}
 use Rattle.relation_semantics.specs.Recording.{AreBare, StandsAmong, IsRecorded, IsJustAsked, FrontAsks}
 use Rattle.relation_semantics.specs.Lawful.{State, Pair, Turned, WithMeaning, IsCovered, Covers, RecordsJust, declared_by, items_in}
@@ -51,8 +51,8 @@ bare_nth k i xs ys h = record {
   aliases = go h.aliases;
 }
   where
-    go : LeavesAliases k ⊎ (HasNoAlias xs × HasNoAlias ys) →
-        LeavesAliases k ⊎ (HasNoAlias (nth i xs) × HasNoAlias (nth i ys))
+    go : DefersAliases k ⊎ (HasNoAlias xs × HasNoAlias ys) →
+        DefersAliases k ⊎ (HasNoAlias (nth i xs) × HasNoAlias (nth i ys))
     go (inl l) = inl l
     go (inr n) = inr (no_alias_nth i xs n.0, no_alias_nth i ys n.1)
 
@@ -68,15 +68,15 @@ bare_by k f plainly unbound free a b h = record {
   aliases = go h.aliases;
 }
   where
-    go : LeavesAliases k ⊎ (HasNoAlias a × HasNoAlias b) → LeavesAliases k ⊎ (HasNoAlias (f a) × HasNoAlias (f b))
+    go : DefersAliases k ⊎ (HasNoAlias a × HasNoAlias b) → DefersAliases k ⊎ (HasNoAlias (f a) × HasNoAlias (f b))
     go (inl l) = inl l
     go (inr n) = inr (free a n.0, free b n.1)
 
 -- Of two bare terms that aren't left to a goal none is an alias.
-pub bare_no_alias : (k : Settings) (a b : Tree) → AreBare k a b → (IsLeftToGoal k a b → ⊥) → HaveAlias a b → ⊥
+pub bare_no_alias : (k : Settings) (a b : Tree) → AreBare k a b → (IsDeferred k a b → ⊥) → HaveAlias a b → ⊥
 bare_no_alias k a b h n o = go h.aliases o
   where
-    go : LeavesAliases k ⊎ (HasNoAlias a × HasNoAlias b) → HaveAlias a b → ⊥
+    go : DefersAliases k ⊎ (HasNoAlias a × HasNoAlias b) → HaveAlias a b → ⊥
     go (inl l) p = n (inl (l, p))
     go (inr f) (inl p) = no_alias_term a f.0 p
     go (inr f) (inr p) = no_alias_term b f.1 p

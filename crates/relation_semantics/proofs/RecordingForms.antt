@@ -7,7 +7,7 @@ use Rattle.relation_terms.specs.Trees.{Tree, leaf, node, nil, cons, count}
 use Rattle.relation_semantics.specs.Relation.{Items, plain_atom, IsAlias, IsRelatedHead, sort_of}
 use Rattle.relation_semantics.specs.Errors.{AreOfOneForm, over_parts, over_aliases, one_leaf, parameters, AreOfOneConst, values}
 use Rattle.relation_semantics.specs.Errors.{expressions, over_arguments, const_parameters, one_value, as_many_branches, one_const_leaf}
-use Rattle.relation_semantics.specs.Parts.{own_parts, head_of, const_parts_of, const_head_of, branches_of}
+use Rattle.relation_semantics.specs.Parts.{direct_parts, head_of, const_parts_of, const_head_of, branches_of}
 use Rattle.relation_semantics.specs.Settings.{Settings}
 use Rattle.relation_semantics.specs.Asking.{Wanted, IsTrivial, HaveAlias, AsksFor, of_regions, of_aliases, of_unevaluated, of_parts}
 use Rattle.relation_semantics.specs.Asking.{IsPlainTerm, HasNoAlias}
@@ -18,16 +18,16 @@ use Rattle.relation_semantics.proofs.Recording.{bare_by, form_asks_front, front_
 use Rattle.relation_semantics.proofs.Related.{same_region}
 
 -- The parts of two bare terms are bare.
-plain_parts : (t : Tree) → IsPlainTerm t → IsPlainTerm (own_parts t)
+plain_parts : (t : Tree) → IsPlainTerm t → IsPlainTerm (direct_parts t)
 plain_parts (node h ts) f = f.1
 plain_parts t f = tt
 
-free_parts : (t : Tree) → HasNoAlias t → HasNoAlias (own_parts t)
+free_parts : (t : Tree) → HasNoAlias t → HasNoAlias (direct_parts t)
 free_parts (node h ts) f = f.1
 free_parts t f = tt
 
-pub bare_parts : (k : Settings) (a b : Tree) → AreBare k a b → AreBare k (own_parts a) (own_parts b)
-bare_parts k a b = bare_by k own_parts plain_parts parts_plain free_parts a b
+pub bare_parts : (k : Settings) (a b : Tree) → AreBare k a b → AreBare k (direct_parts a) (direct_parts b)
+bare_parts k a b = bare_by k direct_parts plain_parts parts_plain free_parts a b
 
 plain_branches : (t : Tree) → IsPlainTerm t → IsPlainTerm (branches_of t)
 plain_branches (node value_branch ts) f = f.1
@@ -62,30 +62,30 @@ names_ask x y d e p none (of_unevaluated w l n s r) = absurd (none l)
 names_ask x y d e p none (of_parts i g k n rh pl m o r) = absurd (cc)
 
 module _ (c : Items) (v : Variance) (a b : Tree) (n : ℕ) (none : HaveAlias a b → ⊥) (z : Wanted) where
-  module _ (ea : n ≡ count (own_parts a)) (eb : n ≡ count (own_parts b)) where
+  module _ (ea : n ≡ count (direct_parts a)) (eb : n ≡ count (direct_parts b)) where
     pub form_asks : AreOfOneForm a b → AsksFor c z v a b →
-        IsTrivial z ⊎ FrontAsks c (head_of a) v n (own_parts a) (own_parts b) z
+        IsTrivial z ⊎ FrontAsks c (head_of a) v n (direct_parts a) (direct_parts b) z
     form_asks (over_parts {h} {ts} {us} d e m) asks =
-        inr (subst (λ x. FrontAsks c (head_of x) v n (own_parts x) (own_parts b) z) (sym d)
-        (subst (λ y. FrontAsks c h v n ts (own_parts y) z) (sym e)
-        (form_asks_front v n ts us (subst₂ (λ x y. HaveAlias x y → ⊥) d e none) (ea ∙ ap (λ x. count (own_parts x)) d)
-        (eb ∙ ap (λ x. count (own_parts x)) e) z (subst₂ (AsksFor c z v) d e asks))))
+        inr (subst (λ x. FrontAsks c (head_of x) v n (direct_parts x) (direct_parts b) z) (sym d)
+        (subst (λ y. FrontAsks c h v n ts (direct_parts y) z) (sym e)
+        (form_asks_front v n ts us (subst₂ (λ x y. HaveAlias x y → ⊥) d e none) (ea ∙ ap (λ x. count (direct_parts x)) d)
+        (eb ∙ ap (λ x. count (direct_parts x)) e) z (subst₂ (AsksFor c z v) d e asks))))
     form_asks (over_aliases d e m) asks = absurd (none (inl (subst IsAlias (sym d) tt)))
     form_asks (one_leaf d e) asks = inl (itself_is_trivial asks (d ∙ sym e))
     form_asks (parameters {x} {y} d e p) asks = inl (names_ask x y d e p none asks)
 
     pub asks_form : AreOfOneForm a b → ((h : Head) (ts : Tree) → a ≡ node h ts → IsRelatedHead h) →
-        FrontAsks c (head_of a) v n (own_parts a) (own_parts b) z → AsksFor c z v a b
+        FrontAsks c (head_of a) v n (direct_parts a) (direct_parts b) z → AsksFor c z v a b
     asks_form (over_parts {h} {ts} {us} d e m) related f = subst₂ (AsksFor c z v) (sym d) (sym e)
-        (front_asks_form v n ts us (subst₂ (λ x y. HaveAlias x y → ⊥) d e none) (ea ∙ ap (λ x. count (own_parts x)) d)
-        (eb ∙ ap (λ x. count (own_parts x)) e) z (related h ts d) refl
-        (subst (λ x. FrontAsks c (head_of x) v n (own_parts x) us z) d
-        (subst (λ y. FrontAsks c (head_of a) v n (own_parts a) (own_parts y) z) e f)))
+        (front_asks_form v n ts us (subst₂ (λ x y. HaveAlias x y → ⊥) d e none) (ea ∙ ap (λ x. count (direct_parts x)) d)
+        (eb ∙ ap (λ x. count (direct_parts x)) e) z (related h ts d) refl
+        (subst (λ x. FrontAsks c (head_of x) v n (direct_parts x) us z) d
+        (subst (λ y. FrontAsks c (head_of a) v n (direct_parts a) (direct_parts y) z) e f)))
     asks_form (over_aliases d e m) related f = absurd (none (inl (subst IsAlias (sym d) tt)))
     asks_form (one_leaf d e) related f =
-        let l = f.1 in let o : n ≡ 0 = ea ∙ ap (λ x. count (own_parts x)) d in absurd (omega (arith, l, o))
+        let l = f.1 in let o : n ≡ 0 = ea ∙ ap (λ x. count (direct_parts x)) d in absurd (omega (arith, l, o))
     asks_form (parameters d e p) related f =
-        let l = f.1 in let o : n ≡ 0 = ea ∙ ap (λ x. count (own_parts x)) d in absurd (omega (arith, l, o))
+        let l = f.1 in let o : n ≡ 0 = ea ∙ ap (λ x. count (direct_parts x)) d in absurd (omega (arith, l, o))
 
   -- Two constants of one form do so too.
   module _ (ea : n ≡ count (const_parts_of a)) (eb : n ≡ count (const_parts_of b)) where

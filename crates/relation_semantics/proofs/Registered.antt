@@ -25,7 +25,7 @@ use Rattle.relation_terms.specs.Predicates.{predicate_tree}
 use Rattle.relation_semantics.specs.Stores.{Store, Entry, unbound, same_as, bound_to, entry_of, entry_term, InContext}
 use Rattle.relation_semantics.specs.Relation.{Items, IsAlias}
 use Rattle.relation_semantics.specs.Settings.{Settings}
-use Rattle.relation_semantics.specs.Kits.{Kit, IsBuiltOf, BindsBuiltOf, IsPredicateOf, IsGoalOf}
+use Rattle.relation_semantics.specs.Alphabets.{Alphabet, IsBuiltOf, BindsBuiltOf, IsPredicateOf, IsGoalOf}
 use Rattle.relation_semantics.specs.FirstOrder.{IsFirstOrderHead, IsFirstOrder, IsFirstOrderStore}
 use Rattle.relation_semantics.specs.Goals.{Goal, goal_of, goals_of, KnowsGoal, subtype_predicate, well_formed_predicate, IsRegistered, of_variables, of_type, of_alias, of_too_much, Registered, GoalInContext, IsDirected, ByDeclared}
 use Rattle.relation_semantics.specs.Steps.{IsLater}
@@ -130,7 +130,7 @@ alias_registered c k Contravariant before after a b p is e (inr o) i j = of_alia
 alias_registered c k Invariant before after a b p is e o i j = of_alias Equate a b is (alias_is e) o (inl refl) i j
 alias_registered c k Bivariant before after a b p is e o i j = absurd cc
 
-pub alias_built : (k : Kit) (v : Variance) (a b p : Tree) → alias_at v a b ≡ Some p → IsBuiltOf k a → IsBuiltOf k b →
+pub alias_built : (k : Alphabet) (v : Variance) (a b p : Tree) → alias_at v a b ≡ Some p → IsBuiltOf k a → IsBuiltOf k b →
     IsPredicateOf k p
 alias_built k Covariant a b p e h i = subst (IsPredicateOf k) (sym (alias_is e)) (h, (i, tt))
 alias_built k Contravariant a b p e h i = subst (IsPredicateOf k) (sym (alias_is e)) (i, (h, tt))
@@ -158,7 +158,7 @@ no_aliases (alias k d) = false
 no_aliases (unevaluated d) = false
 no_aliases h = true
 
-pub all_but_aliases : Kit
+pub all_but_aliases : Alphabet
 all_but_aliases = record { heads = no_aliases; atoms = λ x. true; binders = true; variables = true }
 
 pub lacks_alias : (t : Tree) → IsBuiltOf all_but_aliases t → IsAlias t → ⊥

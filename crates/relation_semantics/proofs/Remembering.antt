@@ -15,7 +15,7 @@ use Rattle.relation_semantics.specs.FirstOrder.{IsFirstOrderStore}
 use Rattle.relation_semantics.specs.Relation.{Items, at}
 use Rattle.relation_semantics.specs.Goals.{Goal, goal_of, GoalInContext, Holds, IsQuiet, MakesOneTree, Relates}
 use Rattle.relation_semantics.specs.Agreeing.{Agree}
-use Rattle.relation_semantics.specs.Kits.{IsGoalOf, StaysBuilt}
+use Rattle.relation_semantics.specs.Alphabets.{IsGoalOf, StaysBuilt}
 use Rattle.relation_semantics.specs.Measures.{Goes}
 use Rattle.relation_semantics.specs.OneUniverse.{BindsNoMore, KeepsUniverseOf}
 use Rattle.relation_semantics.specs.Outcomes.{Exact, Outcome}

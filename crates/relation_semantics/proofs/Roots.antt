@@ -8,7 +8,7 @@ use Rattle.relation_semantics.specs.Relation.{Interpretation}
 use Rattle.relation_semantics.specs.Stores.{Store, same_as, entry_term, bound_term, IsSound, Satisfies}
 use Rattle.relation_semantics.specs.FirstOrder.{IsFirstOrder, IsFirstOrderStore}
 use Rattle.relation_semantics.specs.Steps.{Equates, StaysFull}
-use Rattle.relation_semantics.specs.Kits.{IsBuiltOf, StaysBuilt}
+use Rattle.relation_semantics.specs.Alphabets.{IsBuiltOf, StaysBuilt}
 use Rattle.relation_semantics.proofs.Building.{built_same, built_equated}
 use Rattle.relation_semantics.specs.Measures.{Goes}
 use Rattle.relation_semantics.specs.Outcomes.{Exact}

@@ -4,7 +4,7 @@ use Rattle.relation_terms.specs.Heads.{VarKind, variable}
 use Rattle.relation_terms.specs.Trees.{Tree, leaf, Assign}
 use Rattle.relation_terms.specs.Erasure.{erase}
 use Rattle.relation_semantics.specs.Stores.{Store, Entry, unbound, same_as, bound_to, entry_of, entry_term, universe_of, IsAssignment}
-use Rattle.relation_semantics.specs.Steps.{IsLater, LeadsTo, here, next, OneClass, EntryStands}
+use Rattle.relation_semantics.specs.Steps.{IsLater, LeadsTo, here, next, AreEquated, EntryStands}
 use Rattle.relation_semantics.specs.FirstOrder.{Unifies, IsErasedSolution, IsFirstOrder, IsFirstOrderStore}
 use Rattle.relation_semantics.proofs.Trees.{Leaves_map}
 use Rattle.relation_semantics.proofs.Standing.{namable_mono}
@@ -20,7 +20,7 @@ module _ (before after : Store) (l : IsLater before after) where
     leads_one k n m (next {p = p} e h) =
         sol.1 k n (leaf (variable k p)) (ap (entry_term k) e) ∙ leads_one k p m h
 
-    class_one : (k : VarKind) (n m : ℕ) → OneClass after k n m → erase (s k n) ≡ erase (s k m)
+    class_one : (k : VarKind) (n m : ℕ) → AreEquated after k n m → erase (s k n) ≡ erase (s k m)
     class_one k n m c = leads_one k n c.0 c.1 ∙ sym (leads_one k m c.0 c.2)
 
     meets : (k : VarKind) (n : ℕ) (t : Tree) (x : Entry) → entry_of before k n ≡ x → entry_term k x ≡ Some t →

@@ -5,14 +5,14 @@ use Rattle.std.proofs.lemmas.List.{append-nil}
 use Rattle.relation_terms.specs.Heads.{VarKind, region_var, Leaf, atom, variable, bound, placeholder, unknown}
 use Rattle.relation_terms.specs.Trees.{Tree, leaf, node, bind, nil, cons, Assign, assigned, apply, Leaves, Occurs, size}
 use Rattle.relation_semantics.specs.Relation.{Interpretation}
-use Rattle.relation_semantics.specs.Stores.{Store, Entry, unbound, same_as, bound_to, entry_of, entry_term, bound_term, universe_of, IsMade, IsFree, IsInScope, IsNamable, MayStandFor, MayHave, IsTermIn, IsSound, MeetsBindings, Satisfies, OnlyShrinks, ConstraintHolds, ConstraintIn, resolve, resolved, rounds_for, all_taken, all_tally, tally, counts_term, weight}
+use Rattle.relation_semantics.specs.Stores.{Store, Entry, unbound, same_as, bound_to, entry_of, entry_term, bound_term, universe_of, IsMade, IsFree, IsInScope, IsNamable, MayStandFor, MayHave, IsTermIn, IsSound, MeetsBindings, Satisfies, OnlyShrinks, ConstraintHolds, ConstraintIn, resolve, resolved, rounds_for, all_taken, all_sum_over, sum_over, counts_term, weight}
 use Rattle.relation_semantics.specs.Steps.{WritesEntry, StandsBeside, as_it_was, led_on, IsLater, EntryStands}
 use Rattle.relation_semantics.proofs.Classes.{entry_kept, class_next}
 use Rattle.relation_semantics.proofs.Trees.{Leaves_map, Leaves_map₂, Leaves-replace, apply_alike, apply-apply}
 use Rattle.relation_semantics.proofs.Only.{only, only_same, only_other, which, absent, absent_leaves, only_size}
 use Rattle.relation_semantics.proofs.Resolved.{HasTerm, is_free, is_bound, has_term, resolve_free, resolve_bound, resolve_none, resolve_start, settled_more, settled_term, general, over_free, resolved_free, resolved_meets}
 use Rattle.relation_semantics.proofs.Standing.{scope_mono, own_scope, namable_mono, later_term, later_constraint}
-use Rattle.relation_semantics.proofs.Tallies.{tally_alike, tally_written, all_more}
+use Rattle.relation_semantics.proofs.Tallies.{sum_over_alike, sum_over_written, all_more}
 
 -- What comes of another variable's term: it stands; or it was the variable that got an entry, and is that one's term.
 pub data OtherTerm (before after : Store) (k : VarKind) (n : ℕ) (t : Tree) (j : VarKind) (m : ℕ) : Type 0 where
@@ -68,22 +68,22 @@ module _ (before after : Store) (k : VarKind) (n : ℕ) (x : Entry) (t : Tree) (
   made_before j i h = subst (λ z. i < z) (w.as_many j) h
 
   -- What is counted of entries.
-  pub kind_more : (f : Entry → ℕ) → f unbound ≡ 0 → ((p q : ℕ) → f (same_as p) ≡ f (same_as q)) → tally f (after.entries k) ≡ f x + tally f (before.entries k)
-  kind_more f z alike = tally_written f (before.entries k) (after.entries k) n z (w.as_many k) w.made w.was_unbound (λ m o. counts m (w.others_stand k m (λ _ q. o q))) ∙ ap (λ y. f y + tally f (before.entries k)) w.written
+  pub kind_more : (f : Entry → ℕ) → f unbound ≡ 0 → ((p q : ℕ) → f (same_as p) ≡ f (same_as q)) → sum_over f (after.entries k) ≡ f x + sum_over f (before.entries k)
+  kind_more f z alike = sum_over_written f (before.entries k) (after.entries k) n z (w.as_many k) w.made w.was_unbound (λ m o. counts m (w.others_stand k m (λ _ q. o q))) ∙ ap (λ y. f y + sum_over f (before.entries k)) w.written
     where
       counts : (m : ℕ) → StandsBeside before after k n x k m → f (entry_of after k m) ≡ f (entry_of before k m)
       counts m (as_it_was h) = ap f h
       counts m (led_on r a b c d) = ap f d ∙ alike r n ∙ sym (ap f b)
 
-  pub kinds_stand : (f : Entry → ℕ) (j : VarKind) → (j ≡ k → ⊥) → tally f (after.entries j) ≡ tally f (before.entries j)
-  kinds_stand f j o = tally_alike f (before.entries j) (after.entries j) (w.as_many j) (λ m. counts m (w.others_stand j m (λ q _. o q)))
+  pub kinds_stand : (f : Entry → ℕ) (j : VarKind) → (j ≡ k → ⊥) → sum_over f (after.entries j) ≡ sum_over f (before.entries j)
+  kinds_stand f j o = sum_over_alike f (before.entries j) (after.entries j) (w.as_many j) (λ m. counts m (w.others_stand j m (λ q _. o q)))
     where
       counts : (m : ℕ) → StandsBeside before after k n x j m → f (entry_of after j m) ≡ f (entry_of before j m)
       counts m (as_it_was h) = ap f h
       counts m (led_on r a b c d) = absurd (o a)
 
-  tally_more : (f : Entry → ℕ) → f unbound ≡ 0 → ((p q : ℕ) → f (same_as p) ≡ f (same_as q)) → all_tally f after ≡ f x + all_tally f before
-  tally_more f z alike = all_more f before after (f x) k (kind_more f z alike) (kinds_stand f)
+  sum_over_more : (f : Entry → ℕ) → f unbound ≡ 0 → ((p q : ℕ) → f (same_as p) ≡ f (same_as q)) → all_sum_over f after ≡ f x + all_sum_over f before
+  sum_over_more f z alike = all_more f before after (f x) k (kind_more f z alike) (kinds_stand f)
 
   counts_one : (y : Entry) → entry_term k y ≡ Some t → counts_term y ≡ 1
   counts_one unbound q = absurd (cc)
@@ -91,7 +91,7 @@ module _ (before after : Store) (k : VarKind) (n : ℕ) (x : Entry) (t : Tree) (
   counts_one (bound_to u) q = refl
 
   pub more_taken : all_taken after ≡ suc (all_taken before)
-  more_taken = let c = counts_one x e in let h = tally_more counts_term refl (λ p q. refl) in omega (arith, c, h)
+  more_taken = let c = counts_one x e in let h = sum_over_more counts_term refl (λ p q. refl) in omega (arith, c, h)
 
   -- What meets the bindings.
   pub binding_is_exact : (s : Assign) → MeetsBindings after s ↔ MeetsBindings before s × (s k n ≡ apply s t)

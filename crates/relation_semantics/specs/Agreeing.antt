@@ -8,7 +8,7 @@ use Rattle.relation_terms.specs.Trees.{Tree, leaf, node, bind, cons, count}
 use Rattle.relation_semantics.specs.Relation.{Items, Way, at, parts, second_opened, first_opened, part_at, plain}
 use Rattle.relation_semantics.specs.Relation.{sort_of, IsErrorAtom}
 use Rattle.relation_semantics.specs.Settings.{Settings}
-use Rattle.relation_semantics.specs.Errors.{AreAlike, IsLeftToGoal}
+use Rattle.relation_semantics.specs.Errors.{AreAlike, IsDeferred}
 
 -- What agrees with each term of its sort: a region, a variable, what a binder binds, and an error.
 abbrev pub IsFlexibleLeaf : Leaf → Type 0
@@ -29,7 +29,7 @@ AreFlexible a b = (IsFlexible a ⊎ IsFlexible b) × (sort_of a ≡ sort_of b)
 
 -- Nothing is asked of two terms at a variance: at bivariance of none; and of two of one sort that are left to a goal.
 abbrev pub IsLeftAside : Settings → Variance → Tree → Tree → Type 0
-IsLeftAside k v a b = (v ≡ Bivariant) ⊎ (IsLeftToGoal k a b × (sort_of a ≡ sort_of b))
+IsLeftAside k v a b = (v ≡ Bivariant) ⊎ (IsDeferred k a b × (sort_of a ≡ sort_of b))
 
 -- Two terms agree at a variance, as a relation is set up: where nothing is asked of them they do; a flexible one does with
 -- each of its sort; others are of one form, an alias's kind and a parameter's name aside, over as many parts that agree,

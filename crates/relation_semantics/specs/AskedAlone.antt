@@ -9,7 +9,7 @@ use Rattle.relation_semantics.specs.AliasGoals.{alias_at}
 use Rattle.relation_semantics.specs.Errors.{HaveNoError}
 use Rattle.relation_semantics.specs.Goals.{subtype_predicate}
 use Rattle.relation_semantics.specs.Relation.{IsAlias, sort_of}
-use Rattle.relation_semantics.specs.Settings.{Settings, LeavesAliases}
+use Rattle.relation_semantics.specs.Settings.{Settings, DefersAliases}
 
 -- A type variable; no type variable.
 abbrev pub IsTyVar : Tree → Type 0
@@ -30,7 +30,7 @@ subtype_at v a b = None
 -- type variable, that both are one or in order.
 pub data AsksAlone (k : Settings) (v : Variance) (x y p : Tree) : Type 0 where
   of_variables : IsTyVar x → IsTyVar y → subtype_at v x y ≡ Some p → AsksAlone k v x y p
-  of_alias : LeavesAliases k → IsAlias x ⊎ IsAlias y → HaveNoError x y → IsNoTyVar x → IsNoTyVar y →
+  of_alias : DefersAliases k → IsAlias x ⊎ IsAlias y → HaveNoError x y → IsNoTyVar x → IsNoTyVar y →
       alias_at v x y ≡ Some p → AsksAlone k v x y p
 
 -- Of two terms no goal is asked alone, if they are types.

@@ -13,7 +13,7 @@ use Rattle.relation_semantics.specs.Goals.{alias_relate_predicate}
 use Rattle.relation_semantics.specs.AliasGoals.{alias_at}
 use Rattle.relation_semantics.specs.FirstOrder.{IsFirstOrderAtom, IsFirstOrderHead}
 use Rattle.relation_semantics.specs.Steps.{HasNoBinder}
-use Rattle.relation_semantics.specs.Settings.{Settings, LeavesAliases}
+use Rattle.relation_semantics.specs.Settings.{Settings, DefersAliases}
 
 -- What is asked for: a constraint on regions, or a goal, by its predicate.
 pub data Wanted : Type 0 where
@@ -100,4 +100,4 @@ HasNoAlias (cons t ts) = HasNoAlias t × HasNoAlias ts
 -- Two such terms: without aliases; or without binders, where aliases are left to goals.
 pub data ArePlain (k : Settings) (a b : Tree) : Type 0 where
   without_aliases : IsPlainTerm a → IsPlainTerm b → HasNoAlias a → HasNoAlias b → ArePlain k a b
-  without_binders : IsPlainTerm a → IsPlainTerm b → HasNoBinder a → HasNoBinder b → LeavesAliases k → ArePlain k a b
+  without_binders : IsPlainTerm a → IsPlainTerm b → HasNoBinder a → HasNoBinder b → DefersAliases k → ArePlain k a b

@@ -23,9 +23,9 @@ BindsByList (bind ks t) = AreBoundAs ks 0 t
 BindsByList t = Unit {0}
 
 -- Each binder in a tree does that.
-abbrev pub BindByLists : Tree → Type 0
-BindByLists (leaf l) = Unit {0}
-BindByLists (node h ts) = BindByLists ts
-BindByLists (bind ks t) = AreBoundAs ks 0 t × BindByLists t
-BindByLists nil = Unit {0}
-BindByLists (cons t ts) = BindByLists t × BindByLists ts
+abbrev pub IsWellBound : Tree → Type 0
+IsWellBound (leaf l) = Unit {0}
+IsWellBound (node h ts) = IsWellBound ts
+IsWellBound (bind ks t) = AreBoundAs ks 0 t × IsWellBound t
+IsWellBound nil = Unit {0}
+IsWellBound (cons t ts) = IsWellBound t × IsWellBound ts

@@ -20,7 +20,7 @@ use Rattle.relation_folds.specs.declared.error.RelateFault.{RelateFault}
 use Rattle.relation_folds.specs.declared.error.RelateFault.TheVariants.{Memory, Budget, Unrelated}
 use Rattle.relation_folds.specs.Faults.{KnowsError}
 use Rattle.relation_semantics.specs.Contexts.{Context}
-use Rattle.relation_semantics.specs.Bound.{BindByLists}
+use Rattle.relation_semantics.specs.Bound.{IsWellBound}
 use Rattle.relation_semantics.specs.Errors.{IsReadAs}
 use Rattle.relation_semantics.specs.Generalising.{Obstacle, cycle, beyond, InstantiatesBy, RefusesByObstacle, MakesUnbound}
 use Rattle.relation_semantics.specs.Lawful.{items_of}
@@ -31,8 +31,8 @@ use Rattle.relation_semantics.specs.Stores.{Store, Constraint, IsMade, unbound, 
 use Rattle.relation_semantics.specs.Stores.{equal_constraint, outlives_constraint}
 
 -- In what variables are bound to, binders bind by their lists.
-abbrev pub BindingsBindByLists : Store → Type 0
-BindingsBindByLists st = (k : VarKind) (n : ℕ) (t : Tree) → entry_of st k n ≡ bound_to t → BindByLists t
+abbrev pub BindingsAreWellBound : Store → Type 0
+BindingsAreWellBound st = (k : VarKind) (n : ℕ) (t : Tree) → entry_of st k n ≡ bound_to t → IsWellBound t
 
 -- A term is no variable of a kind.
 abbrev pub IsNotVariable : VarKind → Tree → Type 0

@@ -16,7 +16,7 @@ use Rattle.relation_terms.specs.Meaning.{Meaning}
 use Rattle.relation_folds.specs.declared.error.RelateFault.{RelateFault}
 use Rattle.relation_semantics.specs.Stores.{Store, IsTermIn, IsRegionIn, all_bound}
 use Rattle.relation_semantics.specs.Goals.{goals_of, KnowsGoal, Registered}
-use Rattle.relation_semantics.specs.Bound.{BindByLists}
+use Rattle.relation_semantics.specs.Bound.{IsWellBound}
 use Rattle.relation_semantics.specs.Lawful.{items_of}
 use Rattle.relation_semantics.specs.Settings.{Settings, Setup}
 
@@ -44,10 +44,10 @@ module _ {Key Id Name : Type 0} where
 
   -- The type, or the constant, may be related: its binders bind by their lists.
   abbrev pub TakesTy : Context Key Id Name → TyKey Key → Type 0
-  TakesTy c t = BindByLists ((c.meaning).ty t)
+  TakesTy c t = IsWellBound ((c.meaning).ty t)
 
   abbrev pub TakesConst : Context Key Id Name → ConstKey Key → Type 0
-  TakesConst c t = BindByLists ((c.meaning).const_ t)
+  TakesConst c t = IsWellBound ((c.meaning).const_ t)
 
   -- The variables in the type, or the constant, are the context's, and nothing in it is of a later universe or escapes
   -- a binder.

@@ -35,8 +35,8 @@ use Rattle.term_enums.specs.declared.StructurallyRelateAliases.{StructurallyRela
 use Rattle.relation_semantics.specs.Generalising.{IsSeen}
 use Rattle.relation_semantics.specs.Relation.{Items, plain, plain_kind, plain_atom, sort_of, part_at, IsError, IsAlias}
 use Rattle.relation_semantics.specs.Stores.{Store, bound_to, entry_of, resolved, universe_of, MayStandFor}
-use Rattle.relation_semantics.specs.Steps.{OneClass}
-use Rattle.relation_semantics.specs.Settings.{Settings, LeavesAliases, LeavesOpaque}
+use Rattle.relation_semantics.specs.Steps.{AreEquated}
+use Rattle.relation_semantics.specs.Settings.{Settings, DefersAliases, LeavesOpaque}
 
 -- A form without parts, but for what types and constants of one form may differ in: a parameter's name.
 abbrev pub outer_leaf : Leaf → Leaf
@@ -303,7 +303,7 @@ HaveNoError t u = (IsError t → ⊥) × (IsError u → ⊥)
 -- read as that it is bound to.
 pub data IsReadAs (st : Store) : Tree → Tree → Type 0 where
   itself : {t u : Tree} → t ≡ u → IsReadAs st t u
-  by_class : {t u : Tree} (k : VarKind) (n m : ℕ) → t ≡ leaf (variable k n) → OneClass st k n m →
+  by_class : {t u : Tree} (k : VarKind) (n m : ℕ) → t ≡ leaf (variable k n) → AreEquated st k n m →
       IsReadAs st (leaf (variable k m)) u → IsReadAs st t u
   by_binding : {t u v : Tree} (k : VarKind) (n : ℕ) → t ≡ leaf (variable k n) → entry_of st k n ≡ bound_to u →
       IsReadAs st u v → IsReadAs st t v
@@ -320,8 +320,8 @@ IsOpaqueBeside t u = IsOpaque t
 
 -- A pair is left to a goal, as a relation is set up: one of the two is an alias, and aliases are; or an opaque type beside
 -- no variable, and opaque types are.
-abbrev pub IsLeftToGoal : Settings → Tree → Tree → Type 0
-IsLeftToGoal k a b = (LeavesAliases k × (IsAlias a ⊎ IsAlias b)) ⊎
+abbrev pub IsDeferred : Settings → Tree → Tree → Type 0
+IsDeferred k a b = (DefersAliases k × (IsAlias a ⊎ IsAlias b)) ⊎
     (LeavesOpaque k × (IsOpaqueBeside a b ⊎ IsOpaqueBeside b a))
 
 -- How two terms are brought together: as a pair that is met, which may be left to a goal, or a variable bound by it; or
@@ -437,7 +437,7 @@ module _ {Key Id Name : Type 0} (m : Meaning Key Id Name) where
       of_binding_back : {v : Variance} {e : _} {a b : Tree} → v ≢ Bivariant →
           BindingError k.structurally_relate_aliases st b a e → ErrorOf k c st v e a b
       of_kinds : {v : Variance} {a b : Tree} → v ≢ Bivariant → sort_of a ≢ sort_of b → ErrorOf k c st v Mismatch a b
-      by_forms : {v : Variance} {e : _} {a b : Tree} → (IsLeftToGoal k a b → ⊥) → ErrorByForms k c st v e a b →
+      by_forms : {v : Variance} {e : _} {a b : Tree} → (IsDeferred k a b → ⊥) → ErrorByForms k c st v e a b →
           ErrorOf k c st v e a b
 
     -- The error comes of two as forms: of two types, constants, patterns, signatures or predicates of trait objects that

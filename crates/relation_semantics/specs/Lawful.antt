@@ -48,17 +48,17 @@ use Rattle.relation_semantics.specs.Stores.{Store, Constraint, IsSound, IsTermIn
 use Rattle.relation_semantics.specs.Goals.{Goal, goal_of, Registered, ByDeclared, IsQuiet, Relates}
 use Rattle.relation_semantics.specs.Settings.{Settings}
 use Rattle.relation_semantics.specs.Steps.{IsLater, InstantiatesNone, StaysFullFor}
-use Rattle.relation_semantics.specs.Kits.{Kit, IsBuiltOf, BindsBuiltOf, IsGoalOf, StaysBuilt, BuiltFrom, NeedsVariable}
+use Rattle.relation_semantics.specs.Alphabets.{Alphabet, IsBuiltOf, BindsBuiltOf, IsGoalOf, StaysBuilt, BuiltFrom, NeedsVariable}
 use Rattle.relation_semantics.specs.Outcomes.{Outcome, StepsTo, CarriesOver, NeverOne, Exact, ExactStep, NoUnifier}
 use Rattle.relation_semantics.specs.Headline.{IsFirstOrderPair}
 use Rattle.relation_semantics.specs.OneUniverse.{KeepsUniverseOf, LeadsInUniverse, BindsNoMore, BindsFewer}
 use Rattle.relation_semantics.specs.FirstOrder.{IsFirstOrderStore, Unifies, IsErasedSolution}
-use Rattle.relation_semantics.specs.Errors.{ErrorOf, ErrorAs, Meeting, as_pair, as_forms, IsLeftToGoal}
+use Rattle.relation_semantics.specs.Errors.{ErrorOf, ErrorAs, Meeting, as_pair, as_forms, IsDeferred}
 use Rattle.relation_semantics.specs.Agreeing.{Agree, AgreeBy}
 use Rattle.relation_semantics.specs.Asking.{Wanted, a_constraint, a_goal, AsksFor, HaveAlias}
 use Rattle.relation_semantics.specs.Recording.{AreBare, IsRecorded}
 use Rattle.relation_semantics.specs.Measures.{Goes, grown}
-use Rattle.relation_semantics.specs.Bound.{BindByLists}
+use Rattle.relation_semantics.specs.Bound.{IsWellBound}
 
 -- The variances of a list, by their places; past its end, invariance.
 abbrev pub listed : List Variance → ℕ → Variance
@@ -122,7 +122,7 @@ Manners = Settings → Manner
 
 -- A term is taken at a variance: its leaves may stand there, and its binders bind by their lists.
 abbrev pub Takes : Manner → Variance → Tree → Type 0
-Takes M v t = Leaves (M.takes v) t × BindByLists t
+Takes M v t = Leaves (M.takes v) t × IsWellBound t
 
 -- What may stand in a form may stand in its parts, at their variances.
 abbrev pub TakesParts : Manners → Type 0
@@ -365,7 +365,7 @@ module _ {Key Id Name : Type 0} where
     pub asked : Asked M q r.ambient x y
     pub left_form : IsForm x
     pub right_form : IsForm y
-    pub not_left : IsLeftToGoal q.kept.settings x y → ⊥
+    pub not_left : IsDeferred q.kept.settings x y → ⊥
     pub answers : (t : Tree) → CarriesOver (items_in q) q.kept.environment q.store q.goals (at r.ambient) x t
         (at r.ambient) a t
     pub built : BuiltFrom r.store a b x y
@@ -493,7 +493,7 @@ module _ {Key Id Name : Type 0} where
     pub passes : Passes 0 r q
     pub store : q.store ≡ r.store
     pub quiet : All IsQuiet passes.added
-    pub built : (k : Kit) → IsBuiltOf k a → IsBuiltOf k b → BindsBuiltOf k r.store → All (IsGoalOf k) passes.added
+    pub built : (k : Alphabet) → IsBuiltOf k a → IsBuiltOf k b → BindsBuiltOf k r.store → All (IsGoalOf k) passes.added
     pub none : AreBare r.kept.settings a b → passes.added ≡ []
     pub remembers : (p : Pair Key) → Contains q.remembered p → MeansPair q p a b ⊎ Contains r.remembered p
     pub fault : OnlyMemory result

@@ -3,7 +3,7 @@ pub mod Stores
 pub mod Goals
 pub mod FirstOrder
 pub mod Steps
-pub mod Kits
+pub mod Alphabets
 pub mod Generalising
 pub mod Outcomes
 pub mod Headline

@@ -2,7 +2,7 @@
 use Rattle.std.specs.Prelude.{◌≡◌, ◌⊎◌, ℕ, ◌+◌, ◌<◌, ◌≤◌}
 use Rattle.relation_terms.specs.Heads.{VarKind, type_var, const_var, Leaf, placeholder}
 use Rattle.relation_terms.specs.Trees.{Tree, Leaves}
-use Rattle.relation_semantics.specs.Stores.{Store, Entry, unbound, same_as, bound_to, universe_of, IsMade, tally, all_bound}
+use Rattle.relation_semantics.specs.Stores.{Store, Entry, unbound, same_as, bound_to, universe_of, IsMade, sum_over, all_bound}
 use Rattle.relation_semantics.specs.FirstOrder.{IsRegionLeaf}
 use Rattle.relation_semantics.specs.ErasureLaws.{IsTypeOrConst}
 
@@ -30,7 +30,7 @@ counts_unbound (bound_to t) = 0
 
 -- How many type and constant variables are unresolved, of those that are the same only one.
 abbrev pub all_unbound : Store → ℕ
-all_unbound st = tally counts_unbound (st.entries type_var) + tally counts_unbound (st.entries const_var)
+all_unbound st = sum_over counts_unbound (st.entries type_var) + sum_over counts_unbound (st.entries const_var)
 
 -- One for the entry of a variable that is the same as no other.
 abbrev pub counts_root : Entry → ℕ
@@ -40,7 +40,7 @@ counts_root (bound_to t) = 1
 
 -- How many type and constant variables there are, of those that are the same only one.
 abbrev pub all_roots : Store → ℕ
-all_roots st = tally counts_root (st.entries type_var) + tally counts_root (st.entries const_var)
+all_roots st = sum_over counts_root (st.entries type_var) + sum_over counts_root (st.entries const_var)
 
 -- The variables of types and constants are of universe `u` still, and there are no more of them.
 abbrev pub StaysOf : ℕ → Store → Store → Type 0

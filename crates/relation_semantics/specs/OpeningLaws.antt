@@ -4,7 +4,7 @@ use Rattle.relation_terms.specs.Heads.{BoundKind}
 use Rattle.relation_terms.specs.Trees.{Tree, bind}
 use Rattle.relation_semantics.specs.Stores.{Store, IsTermIn, IsSound, weight}
 use Rattle.relation_semantics.specs.Steps.{MakesVariables, EntersForall, InstantiatesBinder}
-use Rattle.relation_semantics.specs.Bound.{BindsByList, BindByLists}
+use Rattle.relation_semantics.specs.Bound.{BindsByList, IsWellBound}
 use Rattle.relation_semantics.specs.Binders.{MakesEach, InstantiatesEach}
 
 -- Making a variable for each place of a binder's list is making the variables of the binder; and a body with these put
@@ -31,8 +31,8 @@ InstantiatedBodyIsIn = (before after : Store) (ks : List BoundKind) (body opened
 -- Its own binders bind as they did.
 abbrev pub EnteredBodyBinds : Type 0
 EnteredBodyBinds = (before after : Store) (ks : List BoundKind) (body opened : Tree) →
-    EntersForall before after ks body opened → BindByLists body → BindByLists opened
+    EntersForall before after ks body opened → IsWellBound body → IsWellBound opened
 
 abbrev pub InstantiatedBodyBinds : Type 0
 InstantiatedBodyBinds = (before after : Store) (ks : List BoundKind) (body opened : Tree) →
-    InstantiatesEach before after ks body opened → BindByLists body → BindByLists opened
+    InstantiatesEach before after ks body opened → IsWellBound body → IsWellBound opened

@@ -27,9 +27,9 @@ IsFormedConst (node value ts) = Unit {0}
 IsFormedConst t = ⊥
 
 -- The parts of a type. A binder has none here: its body is opened.
-abbrev pub own_parts : Tree → Tree
-own_parts (node h ts) = ts
-own_parts t = nil
+abbrev pub direct_parts : Tree → Tree
+direct_parts (node h ts) = ts
+direct_parts t = nil
 
 -- The form of a type over parts; of one without, a form over none.
 abbrev pub head_of : Tree → Head

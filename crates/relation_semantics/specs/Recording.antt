@@ -6,7 +6,7 @@ use Rattle.relation_terms.specs.Trees.{Tree, nth}
 use Rattle.relation_semantics.specs.Relation.{Items, part_at}
 use Rattle.relation_semantics.specs.Stores.{Constraint}
 use Rattle.relation_semantics.specs.Goals.{Goal, goal_of}
-use Rattle.relation_semantics.specs.Settings.{Settings, LeavesAliases}
+use Rattle.relation_semantics.specs.Settings.{Settings, DefersAliases}
 use Rattle.relation_semantics.specs.Steps.{HasNoBinder}
 use Rattle.relation_semantics.specs.Asking.{Wanted, a_constraint, a_goal, IsOfItself, IsTrivial, AsksFor, IsPlainTerm}
 use Rattle.relation_semantics.specs.Asking.{HasNoAlias}
@@ -17,7 +17,7 @@ pub record AreBare (k : Settings) (a b : Tree) : Type 0 where
   pub right_plain : IsPlainTerm b
   pub left_unbound : HasNoBinder a
   pub right_unbound : HasNoBinder b
-  pub aliases : LeavesAliases k ⊎ (HasNoAlias a × HasNoAlias b)
+  pub aliases : DefersAliases k ⊎ (HasNoAlias a × HasNoAlias b)
 
 -- What is wanted stands among these constraints, or among these goals in an environment.
 abbrev pub StandsAmong : Tree → List Constraint → List Goal → Wanted → Type 0

@@ -25,8 +25,8 @@ pub record Settings : Type 0 where
   pub declared_at_invariance : Bool
 
 -- A relation that is so set up leaves aliases, and constants that aren't evaluated, to goals.
-abbrev pub LeavesAliases : Settings → Type 0
-LeavesAliases k = IsTrue k.next_solver × (k.structurally_relate_aliases ≡ No)
+abbrev pub DefersAliases : Settings → Type 0
+DefersAliases k = IsTrue k.next_solver × (k.structurally_relate_aliases ≡ No)
 
 -- It leaves open what opaque types are.
 abbrev pub LeavesOpaque : Settings → Type 0

@@ -42,13 +42,13 @@ pub data LeadsTo (st : Store) (k : VarKind) : ℕ → ℕ → Type 0 where
   next : {n p m : ℕ} → entry_of st k n ≡ same_as p → LeadsTo st k p m → LeadsTo st k n m
 
 -- Two variables are of one class: the entries lead from both to a common one.
-abbrev pub OneClass : Store → VarKind → ℕ → ℕ → Type 0
-OneClass st k n m = (r : ℕ) × LeadsTo st k n r × LeadsTo st k m r
+abbrev pub AreEquated : Store → VarKind → ℕ → ℕ → Type 0
+AreEquated st k n m = (r : ℕ) × LeadsTo st k n r × LeadsTo st k m r
 
 -- What a later state has of an entry: of a term the same; of another variable one of that one's class.
 abbrev pub EntryStands : Store → VarKind → Entry → Entry → Type 0
 EntryStands after k unbound y = Unit {0}
-EntryStands after k (same_as m) y = (n : ℕ) × (y ≡ same_as n) × OneClass after k m n
+EntryStands after k (same_as m) y = (n : ℕ) × (y ≡ same_as n) × AreEquated after k m n
 EntryStands after k (bound_to t) y = y ≡ bound_to t
 
 -- A later state: entries stand, but that an unbound variable may have got one, and that one variable of a class may

@@ -170,22 +170,22 @@ counts_bound (same_as m) = 0
 counts_bound (bound_to t) = 1
 
 -- The sum over the entries of a list.
-abbrev pub tally : (Entry → ℕ) → List Entry → ℕ
-tally f [] = 0
-tally f (e ∷ es) = f e + tally f es
+abbrev pub sum_over : (Entry → ℕ) → List Entry → ℕ
+sum_over f [] = 0
+sum_over f (e ∷ es) = f e + sum_over f es
 
 -- The same over the variables of all kinds.
-abbrev pub all_tally : (Entry → ℕ) → Store → ℕ
-all_tally f st = tally f (st.entries type_var) + (tally f (st.entries int_var) + (tally f (st.entries float_var) +
-    (tally f (st.entries const_var) + tally f (st.entries region_var))))
+abbrev pub all_sum_over : (Entry → ℕ) → Store → ℕ
+all_sum_over f st = sum_over f (st.entries type_var) + (sum_over f (st.entries int_var) + (sum_over f (st.entries float_var) +
+    (sum_over f (st.entries const_var) + sum_over f (st.entries region_var))))
 
 -- How many entries have a term.
 abbrev pub all_taken : Store → ℕ
-all_taken st = all_tally counts_term st
+all_taken st = all_sum_over counts_term st
 
 -- How many type and constant variables are bound to a term. Number variables are bound for nothing.
 abbrev pub all_bound : Store → ℕ
-all_bound st = tally counts_bound (st.entries type_var) + tally counts_bound (st.entries const_var)
+all_bound st = sum_over counts_bound (st.entries type_var) + sum_over counts_bound (st.entries const_var)
 
 -- What each variable comes to.
 unfoldable pub resolved : Store → Assign

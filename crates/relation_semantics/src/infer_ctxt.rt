@@ -9,7 +9,7 @@ ghost use Rattle.relation_terms.specs.Trees.{leaf, known};
 ghost use Rattle.relation_semantics.specs.Stores.{IsSound, IsMade, IsTermIn};
 ghost use Rattle.relation_semantics.specs.Contexts.{Context, KnowsTy, KnowsConst, HasTy, HasConst, HasRegion};
 ghost use Rattle.relation_semantics.specs.Contexts.{MarksNoUnmade};
-ghost use Rattle.relation_semantics.specs.Bound.{BindByLists, BindsByList};
+ghost use Rattle.relation_semantics.specs.Bound.{IsWellBound, BindsByList};
 ghost use Rattle.relation_semantics.specs.Settings.{in_coherence};
 ghost use Rattle.relation_semantics.specs.Steps.{Taints};
 ghost use Rattle.relation_semantics.specs.Generalising.{NumbersNameNothing};
@@ -20,7 +20,7 @@ ghost use Rattle.relation_semantics.specs.ContextCalls.{OnlyLearns, EntersNext, 
 ghost use Rattle.relation_semantics.specs.ContextCalls.{ConstrainsOutlives};
 ghost use Rattle.relation_semantics.specs.ContextCalls.{ConstrainsEqual, IsNotVariable, BindsTy, BindsConst};
 ghost use Rattle.relation_semantics.specs.ContextCalls.{HasUniverse, ComesTo, JoinsRoots, Registers};
-ghost use Rattle.relation_semantics.specs.ContextCalls.{BindingsBindByLists};
+ghost use Rattle.relation_semantics.specs.ContextCalls.{BindingsAreWellBound};
 ghost use Rattle.relation_semantics.specs.ContextCalls.{KeepsSetup, KeepsMarks, MarksNew};
 ghost use Rattle.relation_semantics.specs.Binders.{binder_tree, EntersBinderOf, InstantiatesBinderOf};
 
@@ -376,7 +376,7 @@ pub trait InferCtxtLike {
         requires target_unresolved { IsUnresolved (state self.old) type_var target_vid.0 }
         requires source_known { KnowsTy (state self.old) source_ty.now }
         requires source_in { HasTy (state self.old) source_ty.now }
-        requires source_by_lists { BindByLists (((state self.old).meaning).ty source_ty.now) }
+        requires source_by_lists { IsWellBound (((state self.old).meaning).ty source_ty.now) }
         requires source_no_variable { IsNotVariable type_var (((state self.old).meaning).ty source_ty.now) }
         ensures grows { Grows (state self.old) (state self.new) }
         ensures instantiates { let g = structurally_relate_aliases in let v = instantiation_variance in
@@ -394,7 +394,7 @@ pub trait InferCtxtLike {
         requires target_unresolved { IsUnresolved (state self.old) const_var target_vid.0 }
         requires source_known { KnowsConst (state self.old) source_ct.now }
         requires source_in { HasConst (state self.old) source_ct.now }
-        requires source_by_lists { BindByLists (((state self.old).meaning).const_ source_ct.now) }
+        requires source_by_lists { IsWellBound (((state self.old).meaning).const_ source_ct.now) }
         requires source_no_variable { IsNotVariable const_var (((state self.old).meaning).const_ source_ct.now) }
         ensures grows { Grows (state self.old) (state self.new) }
         ensures instantiates { let g = structurally_relate_aliases in
@@ -464,7 +464,7 @@ pub trait InferCtxtLike {
     ghost numbers: { (c : Self) → (state c).lawful → NumbersNameNothing (state c).store };
 
     // In what its variables are bound to, binders bind by their lists.
-    ghost bound_by_lists: { (c : Self) → (state c).lawful → BindingsBindByLists (state c).store };
+    ghost bound_by_lists: { (c : Self) → (state c).lawful → BindingsAreWellBound (state c).store };
 
     // A type variable that is not made is marked as related to no other, so that neither is one that was just made.
     ghost unmarked: { (c : Self) → (state c).lawful → MarksNoUnmade (state c) };

@@ -15,7 +15,7 @@ use Rattle.relation_semantics.specs.Outcomes.{Outcome, Front, NeverOne, Exact, E
 use Rattle.relation_semantics.specs.Measures.{grown}
 use Rattle.relation_semantics.specs.Steps.{HasNoBinder, StaysFullFor}
 use Rattle.relation_semantics.specs.Goals.{Goal}
-use Rattle.relation_semantics.specs.Kits.{IsBuiltOf, StaysBuilt, NeedsVariable, BuiltFrom}
+use Rattle.relation_semantics.specs.Alphabets.{IsBuiltOf, StaysBuilt, NeedsVariable, BuiltFrom}
 use Rattle.relation_folds.specs.declared.error.RelateFault.{RelateFault}
 use Rattle.relation_folds.specs.declared.error.RelateFault.TheVariants.{Memory, Budget, Unrelated}
 use Rattle.relation_semantics.specs.OneUniverse.{NamesTypesTo, KeepsUniverseOf, LeadsInUniverse}

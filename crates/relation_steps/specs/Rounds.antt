@@ -17,7 +17,7 @@ use Rattle.relation_semantics.specs.Relation.{Items, Way, at, second_opened, fir
 use Rattle.relation_semantics.specs.Stores.{Store, IsSound, IsTermIn, weight}
 use Rattle.relation_semantics.specs.Goals.{Goal}
 use Rattle.relation_semantics.specs.Steps.{IsLater}
-use Rattle.relation_semantics.specs.Kits.{StaysBuilt, BuiltFrom}
+use Rattle.relation_semantics.specs.Alphabets.{StaysBuilt, BuiltFrom}
 use Rattle.relation_semantics.specs.Outcomes.{StepsTo}
 use Rattle.relation_semantics.specs.Settings.{Settings}
 use Rattle.relation_semantics.specs.Errors.{ErrorOf}

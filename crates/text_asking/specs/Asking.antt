@@ -18,7 +18,7 @@ use Rattle.variable_tables.specs.declared.inner.VariableValue.TheVariants.{Known
 use Rattle.variable_tables.specs.Variables.{value_at, universes_of}
 use Rattle.relation_folds.specs.declared.error.RelateFault.{RelateFault}
 use Rattle.relation_folds.specs.Faults.{KnowsFault}
-use Rattle.relation_semantics.specs.Bound.{BindByLists}
+use Rattle.relation_semantics.specs.Bound.{IsWellBound}
 use Rattle.term_enums.specs.declared.StructurallyRelateAliases.{StructurallyRelateAliases}
 use Rattle.term_enums.specs.declared.StructurallyRelateAliases.TheVariants.{No, Yes}
 use Rattle.relation_semantics.specs.declared.infer_ctxt.TypingMode.{TypingMode}
@@ -47,7 +47,7 @@ use Rattle.text_asking.specs.Outlives.{KnowsComponents}
 
 -- What relating takes: a term in which each binder binds by its list, and nothing that one outside it binds stands.
 pub record IsRelatable (t : Tree) : Type 0 where
-  pub by_lists : BindByLists t
+  pub by_lists : IsWellBound t
   pub stays : StaysWithin 0 t
 
 -- That is said of a term.

@@ -5,7 +5,7 @@ use Rattle.std.proofs.lemmas.Bool.{eqb-true}
 use Rattle.relation_terms.specs.Heads.{unknown}
 use Rattle.relation_terms.specs.Trees.{Tree, leaf}
 use Rattle.relation_semantics.specs.Relation.{StaysWithin}
-use Rattle.relation_semantics.specs.Bound.{BindByLists}
+use Rattle.relation_semantics.specs.Bound.{IsWellBound}
 use Rattle.text_reading.specs.declared.naming.program.Term.{Term}
 use Rattle.text_terms.specs.Terms.{text_term_tree, trees_of}
 use Rattle.text_needs.specs.declared.binding.Uses.{Uses}
@@ -17,7 +17,7 @@ use Rattle.text_needs.proofs.NeedLemmas.{HoldsOfEach, all_hold}
 
 -- Nothing escapes from a tree, and its binders bind by their lists, where that is said of it.
 abbrev pub IsBoundBy : Needs → Tree → Type 0
-IsBoundBy n t = (IsTrue n.closed → StaysWithin 0 t) × (IsTrue n.by_lists → BindByLists t)
+IsBoundBy n t = (IsTrue n.closed → StaysWithin 0 t) × (IsTrue n.by_lists → IsWellBound t)
 
 module _ (items names parts : List ℕ) where
   -- What is said of binders is so: nothing escapes, and they bind by their lists.

@@ -3,7 +3,7 @@ use Rattle.std.specs.Prelude.{◌≡◌, ℕ, suc, ◌+◌, ◌≤◌, List, [],
 use Rattle.std.specs.Prelude.{slice_get, slice_range}
 use Rattle.relation_terms.specs.Heads.{Sort, region_sort, type_sort, const_sort, bound_sort, Leaf, bound, unknown}
 use Rattle.relation_terms.specs.Trees.{Tree, leaf, node, bind, nil, cons}
-use Rattle.relation_semantics.specs.Bound.{BindByLists}
+use Rattle.relation_semantics.specs.Bound.{IsWellBound}
 use Rattle.text_reading.specs.declared.naming.program.Parts.{Parts}
 use Rattle.text_reading.specs.declared.naming.program.Term.{Term}
 use Rattle.text_reading.specs.declared.naming.program.Term.TheVariants as term
@@ -36,7 +36,7 @@ AreUsed xs depth (cons t ts) = AreUsed xs depth t × AreUsed xs depth ts
 
 -- What is said of a term is so: what it uses, and that binders in it bind by their lists. Of no term nothing is said.
 abbrev pub Tells : Option Uses → Tree → Type 0
-Tells (Some u) t = AreUsed (u.outer).items 0 t × (IsTrue u.by_lists → BindByLists t)
+Tells (Some u) t = AreUsed (u.outer).items 0 t × (IsTrue u.by_lists → IsWellBound t)
 Tells None t = t ≡ leaf unknown
 
 -- It is so of each term.

@@ -17,7 +17,7 @@ pub use Rattle.relation_steps.specs.Following
 pub use Rattle.relation_recursion.specs.Forms
 pub use Rattle.part_variances.specs.Handing
 pub use Rattle.relation_steps.specs.Keyed
-pub use Rattle.relation_combining.specs.Leaving
+pub use Rattle.relation_combining.specs.Deferring
 pub use Rattle.relation_recursion.specs.Makers
 pub use Rattle.relation_combining.specs.NumberVars
 pub use Rattle.relation_recursion.specs.PredicateForms

@@ -7,10 +7,10 @@ use Rattle.relation_semantics.specs.Stores.{Store, entry_of, same_as, bound_to, 
 use Rattle.relation_semantics.specs.Generalising.{NumbersNameNothing}
 use Rattle.relation_semantics.specs.Constraints.{constraint_of}
 use Rattle.relation_semantics.specs.Parts.{IsFormed, IsFormedConst}
-use Rattle.relation_semantics.specs.Bound.{BindByLists}
+use Rattle.relation_semantics.specs.Bound.{IsWellBound}
 use Rattle.relation_semantics.specs.Contexts.{Context}
 use Rattle.relation_semantics.specs.Settings.{Setup}
-use Rattle.relation_semantics.specs.ContextCalls.{BindingsBindByLists}
+use Rattle.relation_semantics.specs.ContextCalls.{BindingsAreWellBound}
 use Rattle.variable_tables.specs.declared.inner.InferCtxtInner.{InferCtxtInner}
 use Rattle.variable_tables.specs.Variables.{entries_of, universes_of, trees_of}
 use Rattle.variable_tables.specs.Numbers.{number_trees}
@@ -27,12 +27,12 @@ by_kind t i f c r region_var = r
 -- What a variable of a kind may be bound to, each binder in which binds by its list: a type variable to any type, so
 -- that also to another variable; any other to a term that is no variable.
 abbrev pub MayBeBoundTo : VarKind → Tree → Type 0
-MayBeBoundTo type_var t = BindByLists t
-MayBeBoundTo const_var t = IsFormedConst t × BindByLists t
-MayBeBoundTo k t = IsFormed t × BindByLists t
+MayBeBoundTo type_var t = IsWellBound t
+MayBeBoundTo const_var t = IsFormedConst t × IsWellBound t
+MayBeBoundTo k t = IsFormed t × IsWellBound t
 
 -- So in what is bound, binders bind by their lists.
-pub may_by_lists : (k : VarKind) (t : Tree) → MayBeBoundTo k t → BindByLists t
+pub may_by_lists : (k : VarKind) (t : Tree) → MayBeBoundTo k t → IsWellBound t
 may_by_lists type_var t h = h
 may_by_lists int_var t h = h.1
 may_by_lists float_var t h = h.1
@@ -88,7 +88,7 @@ module _ {Key Id Name : Type 0} (m : Meaning Key Id Name) where
     pub numbers : map m.ty x.numbers.items ≡ number_trees
     pub sub_rooted : HasSubRoots x
 
-  pub bindings_by_lists : (x : InferCtxtInner Key) → IsLawful x → BindingsBindByLists (store_of x)
+  pub bindings_by_lists : (x : InferCtxtInner Key) → IsLawful x → BindingsAreWellBound (store_of x)
   bindings_by_lists x l k n t e = may_by_lists k t (l.formed k n t e)
 
   -- A context of these tables, as contracts see it.

@@ -6,7 +6,7 @@ ghost use Rattle.relation_terms.specs.Meaning.{existential_tree, signature_tree}
 ghost use Rattle.relation_folds.specs.declared.error.TypeError.TheVariants.{Mismatch};
 ghost use Rattle.relation_terms.specs.Parts.{part_tree, part_sort};
 ghost use Rattle.relation_semantics.specs.Errors.{AreOfOneForm, AreAlikeExistentials, SignatureError, ObjectError};
-ghost use Rattle.relation_semantics.specs.Parts.{IsComparedPart, own_parts};
+ghost use Rattle.relation_semantics.specs.Parts.{IsComparedPart, direct_parts};
 ghost use Rattle.relation_recursion.specs.Comparing.{AreOfOneFormBy, AreAlikeAt, SignaturesDiffer};
 ghost use Rattle.relation_recursion.specs.Comparing.{ExistentialsDiffer, PartsDiffer, object_form};
 
@@ -182,8 +182,8 @@ pub fn compare_members<I: Interner>(
 ) -> Result<(), TypeErrorOf<I>>
     requires a_known { IsTrue (known (part_tree (I.meaning cx.now) a.now)) }
     requires b_known { IsTrue (known (part_tree (I.meaning cx.now) b.now)) }
-    requires in_a { i < count (own_parts (part_tree (I.meaning cx.now) a.now)) }
-    requires in_b { i < count (own_parts (part_tree (I.meaning cx.now) b.now)) }
+    requires in_a { i < count (direct_parts (part_tree (I.meaning cx.now) a.now)) }
+    requires in_b { i < count (direct_parts (part_tree (I.meaning cx.now) b.now)) }
     requires one_sort { part_sort b.now ≡ part_sort a.now }
     ensures alike { OnOk result (part_sort a.now ≡ object_sort → AreAlikeAt (I.meaning cx.now) i a.now b.now) }
     ensures errors { IfErr result (PartsDiffer (I.meaning cx.now) a.now b.now) }

@@ -3,7 +3,7 @@ ghost use Rattle.std.specs.Prelude.{◌≡◌, ◌≢◌, ℕ, ◌<◌, IsTrue, 
 ghost use Rattle.relation_terms.specs.Heads.{type_var, const_var, variable};
 ghost use Rattle.relation_terms.specs.Trees.{leaf, known};
 ghost use Rattle.relation_semantics.specs.Stores.{unbound, entry_of, IsTermIn};
-ghost use Rattle.relation_semantics.specs.Bound.{BindByLists};
+ghost use Rattle.relation_semantics.specs.Bound.{IsWellBound};
 ghost use Rattle.relation_semantics.specs.ContextCalls.{Grows, MarksNew};
 ghost use Rattle.variable_tables.specs.Tables.{IsLawful};
 ghost use Rattle.relation_reference.specs.RefCtxt.{store_in, context_in, ty_term, const_term};
@@ -43,7 +43,7 @@ impl<I: Interner> RefCtxt<I> {
         requires source_known { IsTrue (known ((I.meaning self.old.interner).ty source.now)) }
         requires source_in { IsTermIn (store_in I.meaning self.old) ((I.meaning self.old.interner).ty source.now) }
         requires source_no_variable { (n : ℕ) → ty_term I.meaning self.old source.now ≢ leaf (variable type_var n) }
-        requires source_by_lists { BindByLists ((I.meaning self.old.interner).ty source.now) }
+        requires source_by_lists { IsWellBound ((I.meaning self.old.interner).ty source.now) }
         ensures grows { Grows (context_in I.meaning self.old) (context_in I.meaning self.new) }
         ensures instantiates { InstantiatedTy I.meaning self.old self.new aliases variance target.0 source.now result }
         ensures rest { MarksNew (context_in I.meaning self.old) (context_in I.meaning self.new) }
@@ -78,7 +78,7 @@ impl<I: Interner> RefCtxt<I> {
         requires source_known { IsTrue (known ((I.meaning self.old.interner).const_ source.now)) }
         requires source_in { IsTermIn (store_in I.meaning self.old) ((I.meaning self.old.interner).const_ source.now) }
         requires source_no_variable { (n : ℕ) → const_term I.meaning self.old source.now ≢ leaf (variable const_var n) }
-        requires source_by_lists { BindByLists ((I.meaning self.old.interner).const_ source.now) }
+        requires source_by_lists { IsWellBound ((I.meaning self.old.interner).const_ source.now) }
         ensures grows { Grows (context_in I.meaning self.old) (context_in I.meaning self.new) }
         ensures instantiates { InstantiatedConst I.meaning self.old self.new aliases target.0 source.now result }
         ensures rest { MarksNew (context_in I.meaning self.old) (context_in I.meaning self.new) }

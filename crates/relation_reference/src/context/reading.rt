@@ -2,7 +2,7 @@
 ghost use Rattle.std.specs.Prelude.{◌<◌, IsTrue, IfSome, IfNone, length};
 ghost use Rattle.relation_terms.specs.Heads.{type_var, int_var, float_var, const_var};
 ghost use Rattle.relation_terms.specs.Trees.{known};
-ghost use Rattle.relation_semantics.specs.Bound.{BindByLists};
+ghost use Rattle.relation_semantics.specs.Bound.{IsWellBound};
 ghost use Rattle.relation_semantics.specs.Stores.{InContext};
 ghost use Rattle.relation_semantics.specs.Steps.{LeadsTo};
 ghost use Rattle.relation_semantics.specs.Resolving.{IsRoot, IsShallow, IsShallowTy, IsShallowConst};
@@ -66,7 +66,7 @@ impl<I: Interner> RefCtxt<I> {
         ensures sure { IsTrue (known ((I.meaning self.now.interner).ty result)) }
         ensures reads { VarReadsAsTy (I.meaning self.now.interner) self.now.inner type_var var.0 result }
         ensures shallow { IsShallowTy (store_in I.meaning self.now) ((I.meaning self.now.interner).ty result) }
-        ensures by_lists { BindByLists ((I.meaning self.now.interner).ty result) }
+        ensures by_lists { IsWellBound ((I.meaning self.now.interner).ty result) }
     {
         ty_of_var(&self.interner, &self.inner, var)
     }
@@ -78,7 +78,7 @@ impl<I: Interner> RefCtxt<I> {
         ensures sure { IsTrue (known ((I.meaning self.now.interner).ty result)) }
         ensures reads { VarReadsAsTy (I.meaning self.now.interner) self.now.inner int_var var.0 result }
         ensures shallow { IsShallow (store_in I.meaning self.now) ((I.meaning self.now.interner).ty result) }
-        ensures by_lists { BindByLists ((I.meaning self.now.interner).ty result) }
+        ensures by_lists { IsWellBound ((I.meaning self.now.interner).ty result) }
     {
         ty_of_int_var(&self.interner, &self.inner, var)
     }
@@ -90,7 +90,7 @@ impl<I: Interner> RefCtxt<I> {
         ensures sure { IsTrue (known ((I.meaning self.now.interner).ty result)) }
         ensures reads { VarReadsAsTy (I.meaning self.now.interner) self.now.inner float_var var.0 result }
         ensures shallow { IsShallow (store_in I.meaning self.now) ((I.meaning self.now.interner).ty result) }
-        ensures by_lists { BindByLists ((I.meaning self.now.interner).ty result) }
+        ensures by_lists { IsWellBound ((I.meaning self.now.interner).ty result) }
     {
         ty_of_float_var(&self.interner, &self.inner, var)
     }
@@ -102,7 +102,7 @@ impl<I: Interner> RefCtxt<I> {
         ensures sure { IsTrue (known ((I.meaning self.now.interner).const_ result)) }
         ensures reads { VarReadsAsConst (I.meaning self.now.interner) self.now.inner var.0 result }
         ensures shallow { IsShallowConst (store_in I.meaning self.now) ((I.meaning self.now.interner).const_ result) }
-        ensures by_lists { BindByLists ((I.meaning self.now.interner).const_ result) }
+        ensures by_lists { IsWellBound ((I.meaning self.now.interner).const_ result) }
     {
         const_of_var(&self.interner, &self.inner, var)
     }

@@ -2,7 +2,7 @@
 ghost use Rattle.std.specs.Prelude.{◌<◌, IsTrue, IfSome, IfNone, length};
 ghost use Rattle.relation_terms.specs.Heads.{type_var, int_var, float_var};
 ghost use Rattle.relation_terms.specs.Trees.{known};
-ghost use Rattle.relation_semantics.specs.Bound.{BindByLists};
+ghost use Rattle.relation_semantics.specs.Bound.{IsWellBound};
 ghost use Rattle.relation_semantics.specs.Stores.{InContext};
 ghost use Rattle.relation_semantics.specs.Resolving.{IsShallow, IsShallowTy, IsShallowConst};
 ghost use Rattle.variable_tables.specs.Tables.{store_of, IsLawful};
@@ -21,7 +21,7 @@ fn found_ty<I: Interner>(_cx: &I, inner: &InferCtxtInner<I::Key>, var: TyVid) ->
     ensures sure { IsTrue (known ((I.meaning _cx.now).ty result)) }
     ensures found { FindsTy (I.meaning _cx.now) inner.now var.0 result }
     ensures reads { VarReadsAsTy (I.meaning _cx.now) inner.now type_var var.0 result }
-    ensures by_lists { BindByLists ((I.meaning _cx.now).ty result) }
+    ensures by_lists { IsWellBound ((I.meaning _cx.now).ty result) }
 {
     term_of(&inner.types, var.0)
 }
@@ -52,7 +52,7 @@ pub(crate) fn ty_of_var<I: Interner>(cx: &I, inner: &InferCtxtInner<I::Key>, var
     ensures sure { IsTrue (known ((I.meaning cx.now).ty result)) }
     ensures reads { VarReadsAsTy (I.meaning cx.now) inner.now type_var var.0 result }
     ensures shallow { IsShallowTy (store_of (I.meaning cx.now) inner.now) ((I.meaning cx.now).ty result) }
-    ensures by_lists { BindByLists ((I.meaning cx.now).ty result) }
+    ensures by_lists { IsWellBound ((I.meaning cx.now).ty result) }
 {
     let mut found = found_ty(cx, inner, var);
     while let Some(next) = written_var(cx, inner, &found) {
@@ -72,7 +72,7 @@ pub(crate) fn ty_of_int_var<I: Interner>(
     ensures sure { IsTrue (known ((I.meaning _cx.now).ty result)) }
     ensures reads { VarReadsAsTy (I.meaning _cx.now) inner.now int_var var.0 result }
     ensures shallow { IsShallow (store_of (I.meaning _cx.now) inner.now) ((I.meaning _cx.now).ty result) }
-    ensures by_lists { BindByLists ((I.meaning _cx.now).ty result) }
+    ensures by_lists { IsWellBound ((I.meaning _cx.now).ty result) }
 {
     term_of(&inner.ints, var.0)
 }
@@ -88,7 +88,7 @@ pub(crate) fn ty_of_float_var<I: Interner>(
     ensures sure { IsTrue (known ((I.meaning _cx.now).ty result)) }
     ensures reads { VarReadsAsTy (I.meaning _cx.now) inner.now float_var var.0 result }
     ensures shallow { IsShallow (store_of (I.meaning _cx.now) inner.now) ((I.meaning _cx.now).ty result) }
-    ensures by_lists { BindByLists ((I.meaning _cx.now).ty result) }
+    ensures by_lists { IsWellBound ((I.meaning _cx.now).ty result) }
 {
     term_of(&inner.floats, var.0)
 }
@@ -104,7 +104,7 @@ pub(crate) fn const_of_var<I: Interner>(
     ensures sure { IsTrue (known ((I.meaning _cx.now).const_ result)) }
     ensures reads { VarReadsAsConst (I.meaning _cx.now) inner.now var.0 result }
     ensures shallow { IsShallowConst (store_of (I.meaning _cx.now) inner.now) ((I.meaning _cx.now).const_ result) }
-    ensures by_lists { BindByLists ((I.meaning _cx.now).const_ result) }
+    ensures by_lists { IsWellBound ((I.meaning _cx.now).const_ result) }
 {
     term_of(&inner.consts, var.0)
 }
@@ -117,7 +117,7 @@ pub(crate) fn shallow_ty<I: Interner>(cx: &I, inner: &InferCtxtInner<I::Key>, ty
     ensures sure { IsTrue (known ((I.meaning cx.now).ty result)) }
     ensures reads { TyReadsAs (I.meaning cx.now) inner.now ty.now result }
     ensures shallow { IsShallowTy (store_of (I.meaning cx.now) inner.now) ((I.meaning cx.now).ty result) }
-    ensures by_lists { let m = I.meaning cx.now in BindByLists (m.ty ty.now) → BindByLists (m.ty result) }
+    ensures by_lists { let m = I.meaning cx.now in IsWellBound (m.ty ty.now) → IsWellBound (m.ty result) }
 {
     let Some(var) = ty_vid(&cx.ty_kind(ty)) else {
         return *ty;
@@ -138,7 +138,7 @@ pub(crate) fn shallow_number<I: Interner>(
     ensures sure { IsTrue (known ((I.meaning cx.now).ty result)) }
     ensures reads { TyReadsAs (I.meaning cx.now) inner.now ty.now result }
     ensures shallow { IsShallow (store_of (I.meaning cx.now) inner.now) ((I.meaning cx.now).ty result) }
-    ensures by_lists { let m = I.meaning cx.now in BindByLists (m.ty ty.now) → BindByLists (m.ty result) }
+    ensures by_lists { let m = I.meaning cx.now in IsWellBound (m.ty ty.now) → IsWellBound (m.ty result) }
 {
     let kind = cx.ty_kind(ty);
     if let Some(number) = int_vid(&kind) {
@@ -164,7 +164,7 @@ pub(crate) fn shallow_resolve<I: Interner>(
     ensures reads { TyReadsAs (I.meaning cx.now) inner.now ty.now result }
     ensures resolves { TyResolves (I.meaning cx.now) inner.now ty.now result }
     ensures shallow { IsShallow (store_of (I.meaning cx.now) inner.now) ((I.meaning cx.now).ty result) }
-    ensures by_lists { let m = I.meaning cx.now in BindByLists (m.ty ty.now) → BindByLists (m.ty result) }
+    ensures by_lists { let m = I.meaning cx.now in IsWellBound (m.ty ty.now) → IsWellBound (m.ty result) }
 {
     let found = shallow_ty(cx, inner, ty);
     shallow_number(cx, inner, &found)
@@ -183,7 +183,7 @@ pub(crate) fn shallow_resolve_const<I: Interner>(
     ensures reads { ConstReadsAs (I.meaning cx.now) inner.now constant.now result }
     ensures resolves { ConstResolves (I.meaning cx.now) inner.now constant.now result }
     ensures shallow { IsShallowConst (store_of (I.meaning cx.now) inner.now) ((I.meaning cx.now).const_ result) }
-    ensures by_lists { let m = I.meaning cx.now in BindByLists (m.const_ constant.now) → BindByLists (m.const_ result) }
+    ensures by_lists { let m = I.meaning cx.now in IsWellBound (m.const_ constant.now) → IsWellBound (m.const_ result) }
 {
     let Some(var) = const_vid(&cx.const_kind(constant)) else {
         return *constant;

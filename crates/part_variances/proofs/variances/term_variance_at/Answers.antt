@@ -6,7 +6,7 @@ use Rattle.term_enums.specs.declared.Variance.TheVariants.{Contravariant, Invari
 use Rattle.relation_terms.specs.Interning.{Sorted}
 use Rattle.relation_steps.specs.Keyed.{part_in}
 use Rattle.relation_semantics.specs.Lawful.{items_in}
-use Rattle.relation_semantics.specs.Parts.{own_parts, head_of}
+use Rattle.relation_semantics.specs.Parts.{direct_parts, head_of}
 use Rattle.part_variances.proofs.PartPlaces.{signature_place, existential_place, other_place, apart}
 use Rattle.part_variances.proofs.variances.term_variance_at.Goals as goal
 
@@ -31,7 +31,7 @@ returns-in-Existential g c =
     subst (λ p. xform q.ambient Invariant ≡ part_in q (head_of (part_tree q.meaning p)) c.args.i)
     (sym c.in-Existential.is)
     (existential_place q.meaning (items_in q) c.in-Existential.field-0 c.args.i q.ambient
-    (subst (λ p. c.args.i < count (own_parts (part_tree q.meaning p))) c.in-Existential.is c.requires.in_bounds))
+    (subst (λ p. c.args.i < count (direct_parts (part_tree q.meaning p))) c.in-Existential.is c.requires.in_bounds))
 
 pub returns-in_default : goal.returns-in_default
 returns-in_default g c =

@@ -4,7 +4,7 @@ use Rattle.relation_terms.specs.Trees.{IsTerm, known}
 use Rattle.relation_folds.specs.declared.error.RelateFault.TheVariants.{Memory}
 use Rattle.term_enums.specs.declared.AliasRelationDirection.TheVariants.{Equate}
 use Rattle.relation_semantics.specs.ContextCalls.{Grows}
-use Rattle.relation_semantics.specs.Errors.{IsLeftToGoal}
+use Rattle.relation_semantics.specs.Errors.{IsDeferred}
 use Rattle.relation_semantics.specs.Goals.{alias_relate_predicate}
 use Rattle.relation_semantics.specs.Lawful.{Stepped}
 use Rattle.relation_semantics.specs.Parts.{IsFormedConst}
@@ -13,8 +13,8 @@ use Rattle.relation_semantics.proofs.Passing.{as_err}
 use Rattle.relation_combining.specs.Combining.{MeetsConsts, const_not_left as not_left_consts}
 use Rattle.relation_combining.specs.Solving.{solver_manner}
 use Rattle.relation_combining.proofs.Combining.{consts_later, consts_stepped, consts_met}
-use Rattle.relation_combining.proofs.LeftToGoals.{const_not_left}
-use Rattle.relation_combining.proofs.LeavingSteps.{consts_to_goal, goal_refused}
+use Rattle.relation_combining.proofs.DeferredPairs.{const_not_left}
+use Rattle.relation_combining.proofs.DeferringSteps.{consts_to_goal, goal_refused}
 use Rattle.relation_steps.proofs.Sorted.{const_sorted}
 use Rattle.relation_combining.proofs.combine.combine_shallow.Goals as goal
 
@@ -98,10 +98,10 @@ returns-clause-stepped g c =
     let b_shallow = subst₂ (λ st m. IsShallowConst st (m.const_ b)) o.store o.meaning c.requires.b_shallow in
     let not_left = c.is_left_const.ensures.not c.if-is_left_const.false in
     let left : IsFormedConst ((r.meaning).const_ a) → IsFormedConst ((r.meaning).const_ b) →
-    IsLeftToGoal r.kept.settings ((r.meaning).const_ a) ((r.meaning).const_ b) → ⊥ =
+    IsDeferred r.kept.settings ((r.meaning).const_ a) ((r.meaning).const_ b) → ⊥ =
     λ f h. const_not_left r.kept.settings ((r.meaning).const_ a) ((r.meaning).const_ b) f h (not_left (f, h)) in
     let left_there = subst (λ m. IsFormedConst (m.const_ a) → IsFormedConst (m.const_ b) →
-    IsLeftToGoal r.kept.settings (m.const_ a) (m.const_ b) → ⊥) o.meaning left in
+    IsDeferred r.kept.settings (m.const_ a) (m.const_ b) → ⊥) o.meaning left in
     let w = c.context_grows.ensures z grows (consts_later r s d o c.requires.decides sound grows.extends numbers by_lists
     a b res c.requires.asked sorts a_shallow b_shallow left_there meets) c.requires.lawful in
     consts_stepped r s d o c.requires.decides sound grows.extends numbers by_lists a b res c.requires.asked sorts a_shallow
@@ -139,10 +139,10 @@ returns-clause-combines g c =
     let b_shallow = subst₂ (λ st m. IsShallowConst st (m.const_ b)) o.store o.meaning c.requires.b_shallow in
     let not_left = c.is_left_const.ensures.not c.if-is_left_const.false in
     let left : IsFormedConst ((r.meaning).const_ a) → IsFormedConst ((r.meaning).const_ b) →
-    IsLeftToGoal r.kept.settings ((r.meaning).const_ a) ((r.meaning).const_ b) → ⊥ =
+    IsDeferred r.kept.settings ((r.meaning).const_ a) ((r.meaning).const_ b) → ⊥ =
     λ f h. const_not_left r.kept.settings ((r.meaning).const_ a) ((r.meaning).const_ b) f h (not_left (f, h)) in
     let left_there = subst (λ m. IsFormedConst (m.const_ a) → IsFormedConst (m.const_ b) →
-    IsLeftToGoal r.kept.settings (m.const_ a) (m.const_ b) → ⊥) o.meaning left in
+    IsDeferred r.kept.settings (m.const_ a) (m.const_ b) → ⊥) o.meaning left in
     let w = c.context_grows.ensures z grows (consts_later r s d o c.requires.decides sound grows.extends numbers by_lists
     a b res c.requires.asked sorts a_shallow b_shallow left_there meets) c.requires.lawful in
     not_left_consts left w.goals (consts_met r q s d o w a b res meets)
@@ -179,10 +179,10 @@ returns-clause-memory g c =
     let b_shallow = subst₂ (λ st m. IsShallowConst st (m.const_ b)) o.store o.meaning c.requires.b_shallow in
     let not_left = c.is_left_const.ensures.not c.if-is_left_const.false in
     let left : IsFormedConst ((r.meaning).const_ a) → IsFormedConst ((r.meaning).const_ b) →
-    IsLeftToGoal r.kept.settings ((r.meaning).const_ a) ((r.meaning).const_ b) → ⊥ =
+    IsDeferred r.kept.settings ((r.meaning).const_ a) ((r.meaning).const_ b) → ⊥ =
     λ f h. const_not_left r.kept.settings ((r.meaning).const_ a) ((r.meaning).const_ b) f h (not_left (f, h)) in
     let left_there = subst (λ m. IsFormedConst (m.const_ a) → IsFormedConst (m.const_ b) →
-    IsLeftToGoal r.kept.settings (m.const_ a) (m.const_ b) → ⊥) o.meaning left in
+    IsDeferred r.kept.settings (m.const_ a) (m.const_ b) → ⊥) o.meaning left in
     let w = c.context_grows.ensures z grows (consts_later r s d o c.requires.decides sound grows.extends numbers by_lists
     a b res c.requires.asked sorts a_shallow b_shallow left_there meets) c.requires.lawful in
     w.remembered

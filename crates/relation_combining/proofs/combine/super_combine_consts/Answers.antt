@@ -1,7 +1,7 @@
 use Rattle.std.proofs.Common.{◌≡◌, sym, ◌∙◌, subst, IsTrue}
 use Rattle.std.proofs.lemmas.Bool.{false≢true}
 use Rattle.relation_terms.specs.Trees.{known}
-use Rattle.relation_semantics.specs.ContextCalls.{Reads, BindingsBindByLists}
+use Rattle.relation_semantics.specs.ContextCalls.{Reads, BindingsAreWellBound}
 use Rattle.relation_semantics.specs.Parts.{IsFormedConst}
 use Rattle.relation_semantics.specs.Resolving.{IsShallowConst}
 use Rattle.relation_semantics.specs.Stores.{IsSound}
@@ -48,7 +48,7 @@ combine_shallow-requires-clause-asked g c =
     Reads m ((m.meaning).const_ b) ((m.meaning).const_ t)) c.infcx-2.ensures c.shallow_resolve_const-right.ensures.reads)
     (subst (λ z. let m = (g.Infcx.InferCtxtLike.state z) in IsShallowConst m.store ((m.meaning).const_ t)) c.infcx-2.ensures
     c.shallow_resolve_const-right.ensures.shallow) in
-    read_asked r (subst BindingsBindByLists (sym o.store) (g.met.Infcx.InferCtxtLike.bound_by_lists y lawful)) a b l t
+    read_asked r (subst BindingsAreWellBound (sym o.store) (g.met.Infcx.InferCtxtLike.bound_by_lists y lawful)) a b l t
     c.requires.asked left right
 
 pub combine_shallow-requires-clause-a_shallow : goal.combine_shallow-requires-clause-a_shallow

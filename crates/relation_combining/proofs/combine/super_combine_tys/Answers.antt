@@ -7,10 +7,10 @@ use Rattle.relation_semantics.specs.ContextCalls.{Stands}
 use Rattle.relation_semantics.specs.Resolving.{IsShallow}
 use Rattle.relation_semantics.proofs.Passing.{as_err}
 use Rattle.relation_combining.specs.Combining.{MeetsTys, left_error, right_error, not_left}
-use Rattle.relation_combining.specs.Leaving.{LeftAs, StandsAs}
+use Rattle.relation_combining.specs.Deferring.{LeftAs, StandsAs}
 use Rattle.relation_combining.proofs.Combining.{combined_later, types_stepped, types_met}
 use Rattle.relation_combining.proofs.CombiningTys.{alias_memory, stands_there, error_left, error_right, to_goal, not_to_goal, to_open, not_to_open}
-use Rattle.relation_combining.proofs.LeftToGoals.{clean}
+use Rattle.relation_combining.proofs.DeferredPairs.{clean}
 use Rattle.relation_combining.proofs.OverContext.{stands_grows}
 use Rattle.relation_steps.proofs.Sorted.{ty_sorted}
 use Rattle.relation_combining.proofs.combine.super_combine_tys.Goals as goal

@@ -1,7 +1,7 @@
 use Rattle.std.proofs.Common.{rules, ◌≡◌, ◌<◌, ◌+◌, suc, ◌∙◌, sym, ap, subst, length, get_or, arith, IsTrue}
 use Rattle.relation_terms.specs.Trees.{known, count, nth}
 use Rattle.relation_terms.specs.Meaning.{arg_tree}
-use Rattle.relation_semantics.specs.Parts.{own_parts}
+use Rattle.relation_semantics.specs.Parts.{direct_parts}
 use Rattle.relation_terms.proofs.Members.{item_known}
 use Rattle.relation_recursion.proofs.MadeAnew.{AreFirst, first_next, all_first, fit_counts}
 use Rattle.relation_recursion.proofs.making.are_its_parts.Goals as goal
@@ -10,7 +10,7 @@ pub member-requires-clause-in_bounds : goal.member-requires-clause-in_bounds
 member-requires-clause-in_bounds g c =
     let m = g.I.Interner.meaning c.args.cx.now in
     let xs = c.args.args.now in
-    let ts = own_parts (m.ty c.args.ty.now) in
+    let ts = direct_parts (m.ty c.args.ty.now) in
     let i = c.loop-i.i in
     let test = c.loop-i-test.true in
     let many = fit_counts xs ts c.requires.fits in
@@ -32,7 +32,7 @@ pub loop-i-preserved : goal.loop-i-preserved
 loop-i-preserved g c =
     let m = g.I.Interner.meaning c.args.cx.now in
     let xs = c.args.args.now in
-    let ts = own_parts (m.ty c.args.ty.now) in
+    let ts = direct_parts (m.ty c.args.ty.now) in
     let i = c.loop-i.i in
     let test = c.loop-i-test.true in
     let below : i < length xs = omega (arith, test) in
@@ -48,7 +48,7 @@ pub returns : goal.returns
 returns g c = λ _. (
     let m = g.I.Interner.meaning c.args.cx.now in
     let xs = c.args.args.now in
-    let ts = own_parts (m.ty c.args.ty.now) in
+    let ts = direct_parts (m.ty c.args.ty.now) in
     let i = c.loop-i.i in
     let test = c.loop-i-test.false in
     let end = (c.loop-i.auto).i-end in

@@ -2,7 +2,7 @@ use Rattle.std.proofs.Common.{◌≡◌, ◌∙◌, sym, ap, subst, map, IsTrue}
 use Rattle.relation_terms.specs.Heads.{type_sort}
 use Rattle.relation_terms.specs.Trees.{known, list_tree}
 use Rattle.relation_terms.specs.Parts.{part_tree, part_of_arg}
-use Rattle.relation_semantics.specs.Parts.{own_parts}
+use Rattle.relation_semantics.specs.Parts.{direct_parts}
 use Rattle.relation_semantics.specs.Making.{form_over}
 use Rattle.relation_terms.proofs.Stays.{stays_same}
 use Rattle.relation_recursion.proofs.AsParts.{args_as, fits_as, parts_as, over_as}
@@ -30,7 +30,7 @@ with_parts-requires g c =
     record {
       term_known = c.requires.ty_known;
       parts_known = subst (λ z. IsTrue (known z)) (sym (args_as m xs ps q)) c.requires.args_known;
-      fits = fits_as xs ps (own_parts t) _ q (parts_as type_sort t is) c.requires.fits;
+      fits = fits_as xs ps (direct_parts t) _ q (parts_as type_sort t is) c.requires.fits;
     }
 
 pub returns : goal.returns

@@ -5,7 +5,7 @@ use Rattle.relation_terms.specs.Meaning.{arg_tree}
 use Rattle.relation_terms.specs.Parts.{part_tree}
 use Rattle.relation_terms.specs.Interning.{Sorted}
 use Rattle.relation_terms.proofs.Parts.{arg_part}
-use Rattle.relation_semantics.specs.Parts.{own_parts}
+use Rattle.relation_semantics.specs.Parts.{direct_parts}
 use Rattle.relation_recursion.proofs.AsParts.{ty_argument, is_arg}
 use Rattle.relation_recursion.proofs.parts.part.Goals as goal
 
@@ -19,7 +19,7 @@ the_arg-requires g c =
     let t = m.ty c.args.ty.now in
     let is = (g.met.I.Interner.sorted c.args.cx.now).ty c.args.ty.now c.requires.ty_known in
     let sorted : Sorted m = g.met.I.Interner.sorted c.args.cx.now in
-    let at : part_tree m c.member.result ≡ nth c.args.i (own_parts t) =
+    let at : part_tree m c.member.result ≡ nth c.args.i (direct_parts t) =
     c.member.ensures.means ∙ ap (nth c.args.i) c.parts_in.ensures.means in
     is_arg m sorted c.member.result c.member.ensures.sure (subst (IsTerm argument_sort) (sym at)
     (ty_argument t c.args.i c.requires.in_bounds is c.requires.over_args))

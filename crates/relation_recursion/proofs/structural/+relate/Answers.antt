@@ -14,9 +14,9 @@ use Rattle.relation_folds.specs.declared.error.TypeError.TheVariants.{Mismatch}
 use Rattle.relation_folds.specs.declared.error.RelateFault.TheVariants.{Unrelated, Memory}
 use Rattle.relation_semantics.specs.Relation.{part_at}
 use Rattle.relation_semantics.specs.AskedAlone.{AsksNoneAlone}
-use Rattle.relation_semantics.specs.Errors.{AreOfOneForm, IsLeftToGoal, PartError}
+use Rattle.relation_semantics.specs.Errors.{AreOfOneForm, IsDeferred, PartError}
 use Rattle.relation_semantics.specs.Parts.{IsFormed, IsFormedConst, IsByParts, IsRelatedPart, IsComparedPart, IsArgPart}
-use Rattle.relation_semantics.specs.Parts.{IsBinderPart, ArePaired, own_parts, const_parts_of, head_of}
+use Rattle.relation_semantics.specs.Parts.{IsBinderPart, ArePaired, direct_parts, const_parts_of, head_of}
 use Rattle.relation_semantics.specs.Parts.{const_head_of}
 use Rattle.relation_semantics.specs.Stores.{weight}
 use Rattle.relation_semantics.specs.Measures.{depth}
@@ -48,7 +48,7 @@ use Rattle.relation_semantics.proofs.Passing.{turned, unlooked, step_done, retol
 use Rattle.relation_semantics.proofs.Registered.{directed_from}
 use Rattle.relation_semantics.specs.Goals.{IsDirected}
 use Rattle.relation_semantics.proofs.Passing.{form_made, forms_met, step_refused}
-use Rattle.relation_semantics.proofs.Leaving.{form_not_left}
+use Rattle.relation_semantics.proofs.Deferring.{form_not_left}
 use Rattle.relation_steps.proofs.Fronts.{Fronted, fronted_none, fronted_next}
 use Rattle.relation_recursion.proofs.StructuralTys.{types_related, types_stopped, ty_refused}
 use Rattle.relation_recursion.proofs.StructuralConsts.{consts_related, consts_stopped, const_refused, itself_related, left_error, right_error, types_differ, consts_differ, kinds_differ}
@@ -352,7 +352,7 @@ tys-tys_done-requires-clause-alone g t c =
     ((inner.passes).extends).ty c.in-Parts.b ((step.verdict).asked).right_known in
     subst₂ (AsksNoneAlone p.kept.settings p.ambient) (sym same_x) (sym same_y)
     (formed_ask_none p.kept.settings p.ambient x y (step.verdict).left_form
-    (subst (λ k. IsLeftToGoal k x y → ⊥) (sym (same_settings (inner.passes).kept)) (step.verdict).not_left))
+    (subst (λ k. IsDeferred k x y → ⊥) (sym (same_settings (inner.passes).kept)) (step.verdict).not_left))
 
 pub tys-returns-in_err-tys_done-in-Parts-clause-related : goal.tys-returns-in_err-tys_done-in-Parts-clause-related
 tys-returns-in_err-tys_done-in-Parts-clause-related g t c =
@@ -1250,17 +1250,17 @@ structurally_relate_tys-loop-i-init g t c =
     let alike = (c.in_ok-compare_tys_of.ensures).alike in
     record {
       lawful = c.requires.lawful;
-      fronted = fronted_none g.R.TypeRelation.manner r (head_of a) r.ambient (own_parts a) (own_parts b);
+      fronted = fronted_none g.R.TypeRelation.manner r (head_of a) r.ambient (direct_parts a) (direct_parts b);
       left_count = c.parts_count_of-n.ensures.counts;
       right_count = c.parts_count_of-n.ensures.counts ∙ parts_counted a b alike;
       are_parts = record {
         left_list = parts_of_list type_sort a (sorted.ty c.args.a.now k.left_known);
         right_list = parts_of_list type_sort b (sorted.ty c.args.b.now k.right_known);
-        left_in = term_context r.store (own_parts a) (in_parts r.store a k.left_in);
-        right_in = term_context r.store (own_parts b) (in_parts r.store b k.right_in);
+        left_in = term_context r.store (direct_parts a) (in_parts r.store a k.left_in);
+        right_in = term_context r.store (direct_parts b) (in_parts r.store b k.right_in);
       };
-      answers = subst (λ z. AreAnswers M r (head_of a) r.ambient 0 (own_parts a) (list_tree (arg_tree r.meaning) z))
-          (sym c.new-answers.ensures.items) (answers_none M r (head_of a) r.ambient (own_parts a));
+      answers = subst (λ z. AreAnswers M r (head_of a) r.ambient 0 (direct_parts a) (list_tree (arg_tree r.meaning) z))
+          (sym c.new-answers.ensures.items) (answers_none M r (head_of a) r.ambient (direct_parts a));
       fits = subst (λ z. FitArgs z nil) (sym c.new-answers.ensures.items) tt;
     }
 
@@ -1280,16 +1280,16 @@ structurally_relate_tys-relate_with_variance-related-requires g t c κs within =
     let same_b : (q.meaning).ty c.args.b.now ≡ b = extends.ty c.args.b.now k.right_known in
     let alike = (c.in_ok-compare_tys_of.ensures).alike in
     let test = c.loop-i-test.true in
-    let lx : i < count (own_parts a) = omega (arith, test, inv.left_count) in
-    let ly : i < count (own_parts b) = omega (arith, test, inv.right_count) in
+    let lx : i < count (direct_parts a) = omega (arith, test, inv.left_count) in
+    let ly : i < count (direct_parts b) = omega (arith, test, inv.right_count) in
     let X = c.part_of-x.result in
     let Y = c.part_of-y.result in
     let x = arg_tree q.meaning X in
     let y = arg_tree q.meaning Y in
     let kx = c.part_of-x.ensures.sure in
     let ky = c.part_of-y.ensures.sure in
-    let ex : x ≡ nth i (own_parts a) = c.part_of-x.ensures.means ∙ ap (λ z. nth i (own_parts z)) same_a in
-    let ey : y ≡ nth i (own_parts b) = c.part_of-y.ensures.means ∙ ap (λ z. nth i (own_parts z)) same_b in
+    let ex : x ≡ nth i (direct_parts a) = c.part_of-x.ensures.means ∙ ap (λ z. nth i (direct_parts z)) same_a in
+    let ey : y ≡ nth i (direct_parts b) = c.part_of-y.ensures.means ∙ ap (λ z. nth i (direct_parts z)) same_b in
     let w = xform q.ambient c.variance_at-variance.result in
     let ew : w ≡ part_at (items_in r) (head_of a) i r.ambient =
     c.variance_at-variance.ensures ∙ ap (λ z. part_at (items_in q) (head_of z) i q.ambient) same_a ∙
@@ -1325,16 +1325,16 @@ structurally_relate_tys-returns-in_err-answer g t c =
     let same_b : (q.meaning).ty c.args.b.now ≡ b = extends.ty c.args.b.now k.right_known in
     let alike = (c.in_ok-compare_tys_of.ensures).alike in
     let test = c.loop-i-test.true in
-    let lx : i < count (own_parts a) = omega (arith, test, inv.left_count) in
-    let ly : i < count (own_parts b) = omega (arith, test, inv.right_count) in
+    let lx : i < count (direct_parts a) = omega (arith, test, inv.left_count) in
+    let ly : i < count (direct_parts b) = omega (arith, test, inv.right_count) in
     let X = c.part_of-x.result in
     let Y = c.part_of-y.result in
     let x = arg_tree q.meaning X in
     let y = arg_tree q.meaning Y in
     let kx = c.part_of-x.ensures.sure in
     let ky = c.part_of-y.ensures.sure in
-    let ex : x ≡ nth i (own_parts a) = c.part_of-x.ensures.means ∙ ap (λ z. nth i (own_parts z)) same_a in
-    let ey : y ≡ nth i (own_parts b) = c.part_of-y.ensures.means ∙ ap (λ z. nth i (own_parts z)) same_b in
+    let ex : x ≡ nth i (direct_parts a) = c.part_of-x.ensures.means ∙ ap (λ z. nth i (direct_parts z)) same_a in
+    let ey : y ≡ nth i (direct_parts b) = c.part_of-y.ensures.means ∙ ap (λ z. nth i (direct_parts z)) same_b in
     let w = xform q.ambient c.variance_at-variance.result in
     let ew : w ≡ part_at (items_in r) (head_of a) i r.ambient =
     c.variance_at-variance.ensures ∙ ap (λ z. part_at (items_in q) (head_of z) i q.ambient) same_a ∙
@@ -1376,16 +1376,16 @@ structurally_relate_tys-loop-i-preserved g t c =
     let same_b : (q.meaning).ty c.args.b.now ≡ b = extends.ty c.args.b.now k.right_known in
     let alike = (c.in_ok-compare_tys_of.ensures).alike in
     let test = c.loop-i-test.true in
-    let lx : i < count (own_parts a) = omega (arith, test, inv.left_count) in
-    let ly : i < count (own_parts b) = omega (arith, test, inv.right_count) in
+    let lx : i < count (direct_parts a) = omega (arith, test, inv.left_count) in
+    let ly : i < count (direct_parts b) = omega (arith, test, inv.right_count) in
     let X = c.part_of-x.result in
     let Y = c.part_of-y.result in
     let x = arg_tree q.meaning X in
     let y = arg_tree q.meaning Y in
     let kx = c.part_of-x.ensures.sure in
     let ky = c.part_of-y.ensures.sure in
-    let ex : x ≡ nth i (own_parts a) = c.part_of-x.ensures.means ∙ ap (λ z. nth i (own_parts z)) same_a in
-    let ey : y ≡ nth i (own_parts b) = c.part_of-y.ensures.means ∙ ap (λ z. nth i (own_parts z)) same_b in
+    let ex : x ≡ nth i (direct_parts a) = c.part_of-x.ensures.means ∙ ap (λ z. nth i (direct_parts z)) same_a in
+    let ey : y ≡ nth i (direct_parts b) = c.part_of-y.ensures.means ∙ ap (λ z. nth i (direct_parts z)) same_b in
     let w = xform q.ambient c.variance_at-variance.result in
     let ew : w ≡ part_at (items_in r) (head_of a) i r.ambient =
     c.variance_at-variance.ensures ∙ ap (λ z. part_at (items_in q) (head_of z) i q.ambient) same_a ∙
@@ -1417,19 +1417,19 @@ structurally_relate_tys-loop-i-preserved g t c =
     (stays_arg later) (inv.answers).sure) in
     record {
       lawful = (gone.passes).lawful inv.lawful;
-      fronted = subst (λ j. Fronted M r p (head_of a) r.ambient j (own_parts a) (own_parts b)) (omega arith)
-          (fronted_next (head_of a) r.ambient i (own_parts a) (own_parts b) x y inv.fronted lx ly ex ey (arg_tree p.meaning)
+      fronted = subst (λ j. Fronted M r p (head_of a) r.ambient j (direct_parts a) (direct_parts b)) (omega arith)
+          (fronted_next (head_of a) r.ambient i (direct_parts a) (direct_parts b) x y inv.fronted lx ly ex ey (arg_tree p.meaning)
           n.answer inv.are_parts gone);
       left_count = inv.left_count;
       right_count = inv.right_count;
       are_parts = inv.are_parts;
-      answers = subst₂ (λ j z. AreAnswers M p (head_of a) r.ambient j (own_parts a) z) next (sym pushed)
-          (answers_next M (head_of a) r.ambient i (own_parts a) (list_tree (arg_tree q.meaning) was) x
+      answers = subst₂ (λ j z. AreAnswers M p (head_of a) r.ambient j (direct_parts a) z) next (sym pushed)
+          (answers_next M (head_of a) r.ambient i (direct_parts a) (list_tree (arg_tree q.meaning) was) x
           (arg_tree p.meaning n.answer) gone.passes lx inv.answers ex
           (subst (λ c. MayAnswer M p (part_at c (head_of a) i r.ambient) x (arg_tree p.meaning n.answer))
           (sym (same_items (inv.fronted).passes)) (gone.verdict).answer) (gone.verdict).known);
-      fits = subst₂ (λ j z. FitArgs z (firsts j (own_parts a))) next (sym c.in_ok-push.ensures.items)
-          (fit_pushed was n.answer (own_parts a) i lx inv.fits (fits_place q.meaning sorted X n.answer (own_parts a) i kx ex kind));
+      fits = subst₂ (λ j z. FitArgs z (firsts j (direct_parts a))) next (sym c.in_ok-push.ensures.items)
+          (fit_pushed was n.answer (direct_parts a) i lx inv.fits (fits_place q.meaning sorted X n.answer (direct_parts a) i kx ex kind));
     }
 
 pub structurally_relate_tys-returns-in_err-push : goal.structurally_relate_tys-returns-in_err-push
@@ -1447,16 +1447,16 @@ structurally_relate_tys-returns-in_err-push g t c =
     let same_b : (q.meaning).ty c.args.b.now ≡ b = extends.ty c.args.b.now k.right_known in
     let alike = (c.in_ok-compare_tys_of.ensures).alike in
     let test = c.loop-i-test.true in
-    let lx : i < count (own_parts a) = omega (arith, test, inv.left_count) in
-    let ly : i < count (own_parts b) = omega (arith, test, inv.right_count) in
+    let lx : i < count (direct_parts a) = omega (arith, test, inv.left_count) in
+    let ly : i < count (direct_parts b) = omega (arith, test, inv.right_count) in
     let X = c.part_of-x.result in
     let Y = c.part_of-y.result in
     let x = arg_tree q.meaning X in
     let y = arg_tree q.meaning Y in
     let kx = c.part_of-x.ensures.sure in
     let ky = c.part_of-y.ensures.sure in
-    let ex : x ≡ nth i (own_parts a) = c.part_of-x.ensures.means ∙ ap (λ z. nth i (own_parts z)) same_a in
-    let ey : y ≡ nth i (own_parts b) = c.part_of-y.ensures.means ∙ ap (λ z. nth i (own_parts z)) same_b in
+    let ex : x ≡ nth i (direct_parts a) = c.part_of-x.ensures.means ∙ ap (λ z. nth i (direct_parts z)) same_a in
+    let ey : y ≡ nth i (direct_parts b) = c.part_of-y.ensures.means ∙ ap (λ z. nth i (direct_parts z)) same_b in
     let w = xform q.ambient c.variance_at-variance.result in
     let ew : w ≡ part_at (items_in r) (head_of a) i r.ambient =
     c.variance_at-variance.ensures ∙ ap (λ z. part_at (items_in q) (head_of z) i q.ambient) same_a ∙
@@ -1474,7 +1474,7 @@ structurally_relate_tys-returns-in_err-push g t c =
     (subst (λ z. IsResultOfTy z X Y related.result (Ok n.answer)) then_a n.ensures) in
     let gone = subst (λ v. Related M q p v x y (arg_tree p.meaning) (Ok n.answer)) ew
     (subst (λ u. Related M q p w x y (arg_tree p.meaning) u) z (related.ensures).related) in
-    let next = fronted_next (head_of a) r.ambient i (own_parts a) (own_parts b) x y inv.fronted lx ly ex ey (arg_tree p.meaning) n.answer
+    let next = fronted_next (head_of a) r.ambient i (direct_parts a) (direct_parts b) x y inv.fronted lx ly ex ey (arg_tree p.meaning) n.answer
     inv.are_parts gone in
     subst (λ z. RelatedForms M r p r.ambient a b (p.meaning).ty z)
     (sym (as_err c.from_residual-in_err-push.result Memory c.from_residual-in_err-push.ensures.0
@@ -1513,8 +1513,8 @@ structurally_relate_tys-note_args-requires-clause-related g t c =
     let alike = (c.in_ok-compare_tys_of.ensures).alike in
     let test = c.loop-i-test.false in
     let end = (c.loop-i.auto).i-end in
-    let left : i ≡ count (own_parts a) = omega (arith, test, end, inv.left_count) in
-    let right : i ≡ count (own_parts b) = omega (arith, test, end, inv.right_count) in
+    let left : i ≡ count (direct_parts a) = omega (arith, test, end, inv.left_count) in
+    let right : i ≡ count (direct_parts b) = omega (arith, test, end, inv.right_count) in
     let done : RelatedForms M r q r.ambient a b (q.meaning).ty (Ok c.args.a.now) =
     types_related M r.ambient a b i (q.meaning).ty c.args.a.now c.requires.a_formed c.requires.b_formed alike inv.fronted inv.are_parts left
     right same_a k.left_known in
@@ -1555,8 +1555,8 @@ structurally_relate_tys-returns-in_err-note_args g t c =
     let alike = (c.in_ok-compare_tys_of.ensures).alike in
     let test = c.loop-i-test.false in
     let end = (c.loop-i.auto).i-end in
-    let left : i ≡ count (own_parts a) = omega (arith, test, end, inv.left_count) in
-    let right : i ≡ count (own_parts b) = omega (arith, test, end, inv.right_count) in
+    let left : i ≡ count (direct_parts a) = omega (arith, test, end, inv.left_count) in
+    let right : i ≡ count (direct_parts b) = omega (arith, test, end, inv.right_count) in
     let done : RelatedForms M r q r.ambient a b (q.meaning).ty (Ok c.args.a.now) =
     types_related M r.ambient a b i (q.meaning).ty c.args.a.now c.requires.a_formed c.requires.b_formed alike inv.fronted inv.are_parts left
     right same_a k.left_known in
@@ -1585,8 +1585,8 @@ structurally_relate_tys-make_ty-requires-clause-ty_known g t c =
     let alike = (c.in_ok-compare_tys_of.ensures).alike in
     let test = c.loop-i-test.false in
     let end = (c.loop-i.auto).i-end in
-    let left : i ≡ count (own_parts a) = omega (arith, test, end, inv.left_count) in
-    let right : i ≡ count (own_parts b) = omega (arith, test, end, inv.right_count) in
+    let left : i ≡ count (direct_parts a) = omega (arith, test, end, inv.left_count) in
+    let right : i ≡ count (direct_parts b) = omega (arith, test, end, inv.right_count) in
     let done : RelatedForms M r q r.ambient a b (q.meaning).ty (Ok c.args.a.now) =
     types_related M r.ambient a b i (q.meaning).ty c.args.a.now c.requires.a_formed c.requires.b_formed alike inv.fronted inv.are_parts left
     right same_a k.left_known in
@@ -1621,8 +1621,8 @@ structurally_relate_tys-make_ty-requires-clause-parts_known g t c =
     let alike = (c.in_ok-compare_tys_of.ensures).alike in
     let test = c.loop-i-test.false in
     let end = (c.loop-i.auto).i-end in
-    let left : i ≡ count (own_parts a) = omega (arith, test, end, inv.left_count) in
-    let right : i ≡ count (own_parts b) = omega (arith, test, end, inv.right_count) in
+    let left : i ≡ count (direct_parts a) = omega (arith, test, end, inv.left_count) in
+    let right : i ≡ count (direct_parts b) = omega (arith, test, end, inv.right_count) in
     let done : RelatedForms M r q r.ambient a b (q.meaning).ty (Ok c.args.a.now) =
     types_related M r.ambient a b i (q.meaning).ty c.args.a.now c.requires.a_formed c.requires.b_formed alike inv.fronted inv.are_parts left
     right same_a k.left_known in
@@ -1658,8 +1658,8 @@ structurally_relate_tys-make_ty-requires-clause-fits g t c =
     let alike = (c.in_ok-compare_tys_of.ensures).alike in
     let test = c.loop-i-test.false in
     let end = (c.loop-i.auto).i-end in
-    let left : i ≡ count (own_parts a) = omega (arith, test, end, inv.left_count) in
-    let right : i ≡ count (own_parts b) = omega (arith, test, end, inv.right_count) in
+    let left : i ≡ count (direct_parts a) = omega (arith, test, end, inv.left_count) in
+    let right : i ≡ count (direct_parts b) = omega (arith, test, end, inv.right_count) in
     let done : RelatedForms M r q r.ambient a b (q.meaning).ty (Ok c.args.a.now) =
     types_related M r.ambient a b i (q.meaning).ty c.args.a.now c.requires.a_formed c.requires.b_formed alike inv.fronted inv.are_parts left
     right same_a k.left_known in
@@ -1676,8 +1676,8 @@ structurally_relate_tys-make_ty-requires-clause-fits g t c =
     let was = list_tree (arg_tree q.meaning) items in
     let listed : list_tree (arg_tree u.meaning) items ≡ was =
     stays_list (arg_tree q.meaning) (arg_tree u.meaning) items (stays_arg e) (inv.answers).sure in
-    subst₂ (λ xs t. FitArgs xs (own_parts t)) (sym c.as_slice.ensures.value) (sym stays)
-    (fit_end items (own_parts a) i (inv.are_parts).left_list left inv.fits)
+    subst₂ (λ xs t. FitArgs xs (direct_parts t)) (sym c.as_slice.ensures.value) (sym stays)
+    (fit_end items (direct_parts a) i (inv.are_parts).left_list left inv.fits)
 
 pub structurally_relate_tys-returns : goal.structurally_relate_tys-returns
 structurally_relate_tys-returns g t c =
@@ -1695,8 +1695,8 @@ structurally_relate_tys-returns g t c =
     let alike = (c.in_ok-compare_tys_of.ensures).alike in
     let test = c.loop-i-test.false in
     let end = (c.loop-i.auto).i-end in
-    let left : i ≡ count (own_parts a) = omega (arith, test, end, inv.left_count) in
-    let right : i ≡ count (own_parts b) = omega (arith, test, end, inv.right_count) in
+    let left : i ≡ count (direct_parts a) = omega (arith, test, end, inv.left_count) in
+    let right : i ≡ count (direct_parts b) = omega (arith, test, end, inv.right_count) in
     let done : RelatedForms M r q r.ambient a b (q.meaning).ty (Ok c.args.a.now) =
     types_related M r.ambient a b i (q.meaning).ty c.args.a.now c.requires.a_formed c.requires.b_formed alike inv.fronted inv.are_parts left
     right same_a k.left_known in
@@ -1716,7 +1716,7 @@ structurally_relate_tys-returns g t c =
     let p = g.R.HasState.state c.make_ty.new.r in
     let made = c.make_ty.ensures in
     let may = may_over M q r.ambient a was c.requires.a_formed
-    (answers_end M q (head_of a) r.ambient i (own_parts a) was (inv.are_parts).left_list left inv.answers) in
+    (answers_end M q (head_of a) r.ambient i (direct_parts a) was (inv.are_parts).left_list left inv.answers) in
     form_made M r.ambient a b (made.made).extends made.grown (p.meaning).ty (u.meaning).ty c.args.a.now noted
     c.make_ty.result made.fault (form_over a was) _
     (may_later M r.ambient a (form_over a was) (n.ensures).passes may)
@@ -1740,17 +1740,17 @@ relate_in_order-loop-i-init g t c =
     let tb = part_sorted r.meaning sorted_before c.args.b.now k.right_known other in
     record {
       lawful = c.requires.lawful;
-      fronted = fronted_none M r (head_of a) r.ambient (own_parts a) (own_parts b);
+      fronted = fronted_none M r (head_of a) r.ambient (direct_parts a) (direct_parts b);
       left_count = c.term_parts_count_of-n.ensures;
       right_count = c.term_parts_count_of-n.ensures ∙ parts_counted a b alike;
       are_parts = record {
         left_list = parts_of_list (part_sort c.args.a.now) a ta;
         right_list = parts_of_list (part_sort c.args.b.now) b tb;
-        left_in = term_context r.store (own_parts a) (in_parts r.store a k.left_in);
-        right_in = term_context r.store (own_parts b) (in_parts r.store b k.right_in);
+        left_in = term_context r.store (direct_parts a) (in_parts r.store a k.left_in);
+        right_in = term_context r.store (direct_parts b) (in_parts r.store b k.right_in);
       };
-      answers = subst (λ z. AreAnswers M r (head_of a) r.ambient 0 (own_parts a) (list_tree (part_tree r.meaning) z))
-          (sym c.new-answers.ensures.items) (answers_none M r (head_of a) r.ambient (own_parts a));
+      answers = subst (λ z. AreAnswers M r (head_of a) r.ambient 0 (direct_parts a) (list_tree (part_tree r.meaning) z))
+          (sym c.new-answers.ensures.items) (answers_none M r (head_of a) r.ambient (direct_parts a));
       fits = subst (λ z. Fit z nil) (sym c.new-answers.ensures.items) tt;
       inputs = no_inputs_yet a b;
     }
@@ -1805,9 +1805,9 @@ relate_in_order-compare_members_of-requires-clause-in_a g t c =
     let same_a : part_tree q.meaning c.args.a.now ≡ a = stays_part extends c.args.a.now k.left_known in
     let same_b : part_tree q.meaning c.args.b.now ≡ b = stays_part extends c.args.b.now k.right_known in
     let test = c.loop-i-test.true in
-    let lx : i < count (own_parts a) = omega (arith, test, inv.left_count) in
-    let ly : i < count (own_parts b) = omega (arith, test, inv.right_count) in
-    subst (λ z. i < count (own_parts z)) (sym same_a) lx
+    let lx : i < count (direct_parts a) = omega (arith, test, inv.left_count) in
+    let ly : i < count (direct_parts b) = omega (arith, test, inv.right_count) in
+    subst (λ z. i < count (direct_parts z)) (sym same_a) lx
 
 pub relate_in_order-compare_members_of-requires-clause-in_b : goal.relate_in_order-compare_members_of-requires-clause-in_b
 relate_in_order-compare_members_of-requires-clause-in_b g t c =
@@ -1825,9 +1825,9 @@ relate_in_order-compare_members_of-requires-clause-in_b g t c =
     let same_a : part_tree q.meaning c.args.a.now ≡ a = stays_part extends c.args.a.now k.left_known in
     let same_b : part_tree q.meaning c.args.b.now ≡ b = stays_part extends c.args.b.now k.right_known in
     let test = c.loop-i-test.true in
-    let lx : i < count (own_parts a) = omega (arith, test, inv.left_count) in
-    let ly : i < count (own_parts b) = omega (arith, test, inv.right_count) in
-    subst (λ z. i < count (own_parts z)) (sym same_b) ly
+    let lx : i < count (direct_parts a) = omega (arith, test, inv.left_count) in
+    let ly : i < count (direct_parts b) = omega (arith, test, inv.right_count) in
+    subst (λ z. i < count (direct_parts z)) (sym same_b) ly
 
 pub relate_in_order-returns-in_err-compare_members_of : goal.relate_in_order-returns-in_err-compare_members_of
 relate_in_order-returns-in_err-compare_members_of g t c =
@@ -1911,9 +1911,9 @@ relate_in_order-term_part_of-x-requires-clause-in_bounds g t c =
     let same_a : part_tree q.meaning c.args.a.now ≡ a = stays_part extends c.args.a.now k.left_known in
     let same_b : part_tree q.meaning c.args.b.now ≡ b = stays_part extends c.args.b.now k.right_known in
     let test = c.loop-i-test.true in
-    let lx : i < count (own_parts a) = omega (arith, test, inv.left_count) in
-    let ly : i < count (own_parts b) = omega (arith, test, inv.right_count) in
-    subst (λ z. i < count (own_parts z)) (sym same_a) lx
+    let lx : i < count (direct_parts a) = omega (arith, test, inv.left_count) in
+    let ly : i < count (direct_parts b) = omega (arith, test, inv.right_count) in
+    subst (λ z. i < count (direct_parts z)) (sym same_a) lx
 
 pub relate_in_order-term_part_of-y-requires-clause-term_known : goal.relate_in_order-term_part_of-y-requires-clause-term_known
 relate_in_order-term_part_of-y-requires-clause-term_known g t c =
@@ -1965,9 +1965,9 @@ relate_in_order-term_part_of-y-requires-clause-in_bounds g t c =
     let same_a : part_tree q.meaning c.args.a.now ≡ a = stays_part extends c.args.a.now k.left_known in
     let same_b : part_tree q.meaning c.args.b.now ≡ b = stays_part extends c.args.b.now k.right_known in
     let test = c.loop-i-test.true in
-    let lx : i < count (own_parts a) = omega (arith, test, inv.left_count) in
-    let ly : i < count (own_parts b) = omega (arith, test, inv.right_count) in
-    subst (λ z. i < count (own_parts z)) (sym same_b) ly
+    let lx : i < count (direct_parts a) = omega (arith, test, inv.left_count) in
+    let ly : i < count (direct_parts b) = omega (arith, test, inv.right_count) in
+    subst (λ z. i < count (direct_parts z)) (sym same_b) ly
 
 pub relate_in_order-term_variance_at-variance-requires-clause-known : goal.relate_in_order-term_variance_at-variance-requires-clause-known
 relate_in_order-term_variance_at-variance-requires-clause-known g t c =
@@ -2019,9 +2019,9 @@ relate_in_order-term_variance_at-variance-requires-clause-in_bounds g t c =
     let same_a : part_tree q.meaning c.args.a.now ≡ a = stays_part extends c.args.a.now k.left_known in
     let same_b : part_tree q.meaning c.args.b.now ≡ b = stays_part extends c.args.b.now k.right_known in
     let test = c.loop-i-test.true in
-    let lx : i < count (own_parts a) = omega (arith, test, inv.left_count) in
-    let ly : i < count (own_parts b) = omega (arith, test, inv.right_count) in
-    subst (λ z. i < count (own_parts z)) (sym same_a) lx
+    let lx : i < count (direct_parts a) = omega (arith, test, inv.left_count) in
+    let ly : i < count (direct_parts b) = omega (arith, test, inv.right_count) in
+    subst (λ z. i < count (direct_parts z)) (sym same_a) lx
 
 pub relate_in_order-relate_parts_with_variance-related-requires : goal.relate_in_order-relate_parts_with_variance-related-requires
 relate_in_order-relate_parts_with_variance-related-requires g t c κs within =
@@ -2049,16 +2049,16 @@ relate_in_order-relate_parts_with_variance-related-requires g t c κs within =
     let ta = part_sorted r.meaning sorted_before c.args.a.now k.left_known form in
     let tb = part_sorted r.meaning sorted_before c.args.b.now k.right_known other in
     let test = c.loop-i-test.true in
-    let lx : i < count (own_parts a) = omega (arith, test, inv.left_count) in
-    let ly : i < count (own_parts b) = omega (arith, test, inv.right_count) in
+    let lx : i < count (direct_parts a) = omega (arith, test, inv.left_count) in
+    let ly : i < count (direct_parts b) = omega (arith, test, inv.right_count) in
     let X = c.term_part_of-x.result in
     let Y = c.term_part_of-y.result in
     let x = part_tree q.meaning X in
     let y = part_tree q.meaning Y in
     let kx = c.term_part_of-x.ensures.sure in
     let ky = c.term_part_of-y.ensures.sure in
-    let ex : x ≡ nth i (own_parts a) = c.term_part_of-x.ensures.means ∙ ap (λ z. nth i (own_parts z)) same_a in
-    let ey : y ≡ nth i (own_parts b) = c.term_part_of-y.ensures.means ∙ ap (λ z. nth i (own_parts z)) same_b in
+    let ex : x ≡ nth i (direct_parts a) = c.term_part_of-x.ensures.means ∙ ap (λ z. nth i (direct_parts z)) same_a in
+    let ey : y ≡ nth i (direct_parts b) = c.term_part_of-y.ensures.means ∙ ap (λ z. nth i (direct_parts z)) same_b in
     let w = xform q.ambient c.term_variance_at-variance.result in
     let ew : w ≡ part_at (items_in r) (head_of a) i r.ambient =
     c.term_variance_at-variance.ensures ∙ ap (λ z. part_at (items_in q) (head_of z) i q.ambient) same_a ∙
@@ -2113,8 +2113,8 @@ relate_in_order-named_place_of-place-requires-clause-in_bounds g t c =
     let inv = c.loop-i.invariant in
     let same_a = stays_part ((inv.fronted).passes).extends c.args.a.now (c.requires.asked).left_known in
     let test = c.loop-i-test.true in
-    let lx : i < count (own_parts a) = omega (arith, test, inv.left_count) in
-    subst (λ z. i < count (own_parts z)) (sym same_a) lx
+    let lx : i < count (direct_parts a) = omega (arith, test, inv.left_count) in
+    subst (λ z. i < count (direct_parts z)) (sym same_a) lx
 
 pub relate_in_order-returns-in_err-answer : goal.relate_in_order-returns-in_err-answer
 relate_in_order-returns-in_err-answer g t c =
@@ -2138,16 +2138,16 @@ relate_in_order-returns-in_err-answer g t c =
     let ta = part_sorted r.meaning sorted_before c.args.a.now k.left_known form in
     let tb = part_sorted r.meaning sorted_before c.args.b.now k.right_known other in
     let test = c.loop-i-test.true in
-    let lx : i < count (own_parts a) = omega (arith, test, inv.left_count) in
-    let ly : i < count (own_parts b) = omega (arith, test, inv.right_count) in
+    let lx : i < count (direct_parts a) = omega (arith, test, inv.left_count) in
+    let ly : i < count (direct_parts b) = omega (arith, test, inv.right_count) in
     let X = c.term_part_of-x.result in
     let Y = c.term_part_of-y.result in
     let x = part_tree q.meaning X in
     let y = part_tree q.meaning Y in
     let kx = c.term_part_of-x.ensures.sure in
     let ky = c.term_part_of-y.ensures.sure in
-    let ex : x ≡ nth i (own_parts a) = c.term_part_of-x.ensures.means ∙ ap (λ z. nth i (own_parts z)) same_a in
-    let ey : y ≡ nth i (own_parts b) = c.term_part_of-y.ensures.means ∙ ap (λ z. nth i (own_parts z)) same_b in
+    let ex : x ≡ nth i (direct_parts a) = c.term_part_of-x.ensures.means ∙ ap (λ z. nth i (direct_parts z)) same_a in
+    let ey : y ≡ nth i (direct_parts b) = c.term_part_of-y.ensures.means ∙ ap (λ z. nth i (direct_parts z)) same_b in
     let w = xform q.ambient c.term_variance_at-variance.result in
     let ew : w ≡ part_at (items_in r) (head_of a) i r.ambient =
     c.term_variance_at-variance.ensures ∙ ap (λ z. part_at (items_in q) (head_of z) i q.ambient) same_a ∙
@@ -2190,16 +2190,16 @@ relate_in_order-loop-i-preserved g t c =
     let same_a : part_tree q.meaning c.args.a.now ≡ a = stays_part extends c.args.a.now k.left_known in
     let same_b : part_tree q.meaning c.args.b.now ≡ b = stays_part extends c.args.b.now k.right_known in
     let test = c.loop-i-test.true in
-    let lx : i < count (own_parts a) = omega (arith, test, inv.left_count) in
-    let ly : i < count (own_parts b) = omega (arith, test, inv.right_count) in
+    let lx : i < count (direct_parts a) = omega (arith, test, inv.left_count) in
+    let ly : i < count (direct_parts b) = omega (arith, test, inv.right_count) in
     let X = c.term_part_of-x.result in
     let Y = c.term_part_of-y.result in
     let x = part_tree q.meaning X in
     let y = part_tree q.meaning Y in
     let kx = c.term_part_of-x.ensures.sure in
     let ky = c.term_part_of-y.ensures.sure in
-    let ex : x ≡ nth i (own_parts a) = c.term_part_of-x.ensures.means ∙ ap (λ z. nth i (own_parts z)) same_a in
-    let ey : y ≡ nth i (own_parts b) = c.term_part_of-y.ensures.means ∙ ap (λ z. nth i (own_parts z)) same_b in
+    let ex : x ≡ nth i (direct_parts a) = c.term_part_of-x.ensures.means ∙ ap (λ z. nth i (direct_parts z)) same_a in
+    let ey : y ≡ nth i (direct_parts b) = c.term_part_of-y.ensures.means ∙ ap (λ z. nth i (direct_parts z)) same_b in
     let w = xform q.ambient c.term_variance_at-variance.result in
     let ew : w ≡ part_at (items_in r) (head_of a) i r.ambient =
     c.term_variance_at-variance.ensures ∙ ap (λ z. part_at (items_in q) (head_of z) i q.ambient) same_a ∙
@@ -2212,7 +2212,7 @@ relate_in_order-loop-i-preserved g t c =
     let z = kept_part c.named_place_of-place.result related.result n.answer n.ensures in
     let gone = subst (λ v. Related M q p v x y (part_tree p.meaning) (Ok n.answer)) ew
     (subst (λ u. Related M q p w x y (part_tree p.meaning) u) z (related.ensures).related) in
-    let next = fronted_next (head_of a) r.ambient i (own_parts a) (own_parts b) x y inv.fronted lx ly ex ey
+    let next = fronted_next (head_of a) r.ambient i (direct_parts a) (direct_parts b) x y inv.fronted lx ly ex ey
     (part_tree p.meaning) n.answer inv.are_parts gone in
     let e = g.met.R.TypeRelation.reads c.loop-i.r in
     let cx = g.R.TypeRelation.interner c.loop-i.r in
@@ -2230,17 +2230,17 @@ relate_in_order-loop-i-preserved g t c =
     (stays_part later) (inv.answers).sure) in
     record {
       lawful = (gone.passes).lawful inv.lawful;
-      fronted = subst (λ j. Fronted M r p (head_of a) r.ambient j (own_parts a) (own_parts b)) more next;
+      fronted = subst (λ j. Fronted M r p (head_of a) r.ambient j (direct_parts a) (direct_parts b)) more next;
       left_count = inv.left_count;
       right_count = inv.right_count;
       are_parts = inv.are_parts;
-      answers = subst₂ (λ j z. AreAnswers M p (head_of a) r.ambient j (own_parts a) z) more (sym pushed)
-          (answers_next M (head_of a) r.ambient i (own_parts a) (list_tree (part_tree q.meaning) was) x
+      answers = subst₂ (λ j z. AreAnswers M p (head_of a) r.ambient j (direct_parts a) z) more (sym pushed)
+          (answers_next M (head_of a) r.ambient i (direct_parts a) (list_tree (part_tree q.meaning) was) x
           (part_tree p.meaning n.answer) gone.passes lx inv.answers ex
           (subst (λ z. MayAnswer M p (part_at z (head_of a) i r.ambient) x (part_tree p.meaning n.answer))
           (sym (same_items (inv.fronted).passes)) (gone.verdict).answer) (gone.verdict).known);
-      fits = subst₂ (λ j z. Fit z (firsts j (own_parts a))) more (sym c.in_ok-push.ensures.items)
-          (part_pushed was n.answer (own_parts a) i lx inv.fits
+      fits = subst₂ (λ j z. Fit z (firsts j (direct_parts a))) more (sym c.in_ok-push.ensures.items)
+          (part_pushed was n.answer (direct_parts a) i lx inv.fits
           (sort ∙ sym (sort_known q.meaning sorted X kx) ∙ ap tree_sort ex));
       inputs = subst (HaveAsManyInputs a b) more (inputs_next a b i (λ e. subst₂ AreOfOneForm ex ey
           (one (inputs_compared X (sym (sort_known q.meaning sorted X kx) ∙ ap tree_sort ex ∙ e)))) inv.inputs);
@@ -2262,16 +2262,16 @@ relate_in_order-returns-in_err-push g t c =
     let same_a : part_tree q.meaning c.args.a.now ≡ a = stays_part extends c.args.a.now k.left_known in
     let same_b : part_tree q.meaning c.args.b.now ≡ b = stays_part extends c.args.b.now k.right_known in
     let test = c.loop-i-test.true in
-    let lx : i < count (own_parts a) = omega (arith, test, inv.left_count) in
-    let ly : i < count (own_parts b) = omega (arith, test, inv.right_count) in
+    let lx : i < count (direct_parts a) = omega (arith, test, inv.left_count) in
+    let ly : i < count (direct_parts b) = omega (arith, test, inv.right_count) in
     let X = c.term_part_of-x.result in
     let Y = c.term_part_of-y.result in
     let x = part_tree q.meaning X in
     let y = part_tree q.meaning Y in
     let kx = c.term_part_of-x.ensures.sure in
     let ky = c.term_part_of-y.ensures.sure in
-    let ex : x ≡ nth i (own_parts a) = c.term_part_of-x.ensures.means ∙ ap (λ z. nth i (own_parts z)) same_a in
-    let ey : y ≡ nth i (own_parts b) = c.term_part_of-y.ensures.means ∙ ap (λ z. nth i (own_parts z)) same_b in
+    let ex : x ≡ nth i (direct_parts a) = c.term_part_of-x.ensures.means ∙ ap (λ z. nth i (direct_parts z)) same_a in
+    let ey : y ≡ nth i (direct_parts b) = c.term_part_of-y.ensures.means ∙ ap (λ z. nth i (direct_parts z)) same_b in
     let w = xform q.ambient c.term_variance_at-variance.result in
     let ew : w ≡ part_at (items_in r) (head_of a) i r.ambient =
     c.term_variance_at-variance.ensures ∙ ap (λ z. part_at (items_in q) (head_of z) i q.ambient) same_a ∙
@@ -2284,7 +2284,7 @@ relate_in_order-returns-in_err-push g t c =
     let z = kept_part c.named_place_of-place.result related.result n.answer n.ensures in
     let gone = subst (λ v. Related M q p v x y (part_tree p.meaning) (Ok n.answer)) ew
     (subst (λ u. Related M q p w x y (part_tree p.meaning) u) z (related.ensures).related) in
-    let next = fronted_next (head_of a) r.ambient i (own_parts a) (own_parts b) x y inv.fronted lx ly ex ey
+    let next = fronted_next (head_of a) r.ambient i (direct_parts a) (direct_parts b) x y inv.fronted lx ly ex ey
     (part_tree p.meaning) n.answer inv.are_parts gone in
     let failed = as_err c.from_residual-in_err-push.result Memory c.from_residual-in_err-push.ensures.0
     c.from_residual-in_err-push.ensures.1 in
@@ -2367,12 +2367,12 @@ relate_in_order-make_part-requires-clause-fits g t c =
     let same_b : part_tree q.meaning c.args.b.now ≡ b = stays_part extends c.args.b.now k.right_known in
     let test = c.loop-i-test.false in
     let end = (c.loop-i.auto).i-end in
-    let left : i ≡ count (own_parts a) = omega (arith, test, end, inv.left_count) in
-    let right : i ≡ count (own_parts b) = omega (arith, test, end, inv.right_count) in
+    let left : i ≡ count (direct_parts a) = omega (arith, test, end, inv.left_count) in
+    let right : i ≡ count (direct_parts b) = omega (arith, test, end, inv.right_count) in
     let items = c.loop-i.answers.items in
     let was = list_tree (part_tree q.meaning) items in
-    subst₂ (λ xs z. Fit xs (own_parts z)) (sym c.as_slice.ensures.value) (sym same_a)
-    (parts_end items (own_parts a) i (inv.are_parts).left_list left inv.fits)
+    subst₂ (λ xs z. Fit xs (direct_parts z)) (sym c.as_slice.ensures.value) (sym same_a)
+    (parts_end items (direct_parts a) i (inv.are_parts).left_list left inv.fits)
 
 pub relate_in_order-returns : goal.relate_in_order-returns
 relate_in_order-returns g t c =
@@ -2391,8 +2391,8 @@ relate_in_order-returns g t c =
     let same_b : part_tree q.meaning c.args.b.now ≡ b = stays_part extends c.args.b.now k.right_known in
     let test = c.loop-i-test.false in
     let end = (c.loop-i.auto).i-end in
-    let left : i ≡ count (own_parts a) = omega (arith, test, end, inv.left_count) in
-    let right : i ≡ count (own_parts b) = omega (arith, test, end, inv.right_count) in
+    let left : i ≡ count (direct_parts a) = omega (arith, test, end, inv.left_count) in
+    let right : i ≡ count (direct_parts b) = omega (arith, test, end, inv.right_count) in
     let items = c.loop-i.answers.items in
     let was = list_tree (part_tree q.meaning) items in
     let done : RelatedForms M r q r.ambient a b (part_tree q.meaning) (Ok c.args.a.now) =
@@ -2404,7 +2404,7 @@ relate_in_order-returns g t c =
       related = form_made M r.ambient a b (made.made).extends made.grown (part_tree p.meaning) (part_tree q.meaning)
           c.args.a.now done c.make_part.result made.fault (form_over a was) _
           (may_over_term M q r.ambient a was form
-          (answers_end M q (head_of a) r.ambient i (own_parts a) was (inv.are_parts).left_list left inv.answers))
+          (answers_end M q (head_of a) r.ambient i (direct_parts a) was (inv.are_parts).left_list left inv.answers))
           (ap₂ form_over same_a (ap (list_tree (part_tree q.meaning)) c.as_slice.ensures.value)) (made.made).sure
           (made.made).means;
       sort = made.sort;

@@ -4,7 +4,7 @@ use Rattle.relation_terms.specs.Meaning.{arg_tree}
 use Rattle.relation_terms.specs.Parts.{part_tree, Fit}
 use Rattle.relation_semantics.specs.Stores.{weight}
 use Rattle.relation_semantics.specs.Measures.{depth}
-use Rattle.relation_semantics.specs.Parts.{own_parts, const_parts_of, head_of, const_head_of}
+use Rattle.relation_semantics.specs.Parts.{direct_parts, const_parts_of, head_of, const_head_of}
 use Rattle.relation_semantics.specs.Making.{FitArgs}
 use Rattle.relation_semantics.proofs.Lists.{firsts}
 use Rattle.relation_steps.proofs.Fronts.{Fronted, AreParts}
@@ -70,13 +70,13 @@ invariant-structurally_relate_tys-loop-i g l =
     let u = (r.meaning).ty l.b in
     record {
       lawful : q.lawful;
-      fronted : Fronted g.R.TypeRelation.manner r q (head_of t) r.ambient l.i (own_parts t) (own_parts u);
-      left_count : l.n ≡ count (own_parts t);
-      right_count : l.n ≡ count (own_parts u);
-      are_parts : AreParts r.store (own_parts t) (own_parts u);
-      answers : AreAnswers g.R.TypeRelation.manner q (head_of t) r.ambient l.i (own_parts t)
+      fronted : Fronted g.R.TypeRelation.manner r q (head_of t) r.ambient l.i (direct_parts t) (direct_parts u);
+      left_count : l.n ≡ count (direct_parts t);
+      right_count : l.n ≡ count (direct_parts u);
+      are_parts : AreParts r.store (direct_parts t) (direct_parts u);
+      answers : AreAnswers g.R.TypeRelation.manner q (head_of t) r.ambient l.i (direct_parts t)
           (list_tree (arg_tree q.meaning) l.answers.items);
-      fits : FitArgs l.answers.items (firsts l.i (own_parts t));
+      fits : FitArgs l.answers.items (firsts l.i (direct_parts t));
     }
 
 abbrev pub invariant-structurally_relate_consts-loop-i : goal.invariant-structurally_relate_consts-loop-i
@@ -104,12 +104,12 @@ invariant-relate_in_order-loop-i g l =
     let u = part_tree r.meaning l.b in
     record {
       lawful : q.lawful;
-      fronted : Fronted g.R.TypeRelation.manner r q (head_of t) r.ambient l.i (own_parts t) (own_parts u);
-      left_count : l.n ≡ count (own_parts t);
-      right_count : l.n ≡ count (own_parts u);
-      are_parts : AreParts r.store (own_parts t) (own_parts u);
-      answers : AreAnswers g.R.TypeRelation.manner q (head_of t) r.ambient l.i (own_parts t)
+      fronted : Fronted g.R.TypeRelation.manner r q (head_of t) r.ambient l.i (direct_parts t) (direct_parts u);
+      left_count : l.n ≡ count (direct_parts t);
+      right_count : l.n ≡ count (direct_parts u);
+      are_parts : AreParts r.store (direct_parts t) (direct_parts u);
+      answers : AreAnswers g.R.TypeRelation.manner q (head_of t) r.ambient l.i (direct_parts t)
           (list_tree (part_tree q.meaning) l.answers.items);
-      fits : Fit l.answers.items (firsts l.i (own_parts t));
+      fits : Fit l.answers.items (firsts l.i (direct_parts t));
       inputs : HaveAsManyInputs t u l.i;
     }

@@ -10,7 +10,7 @@ use Rattle.relation_goals.specs.Emitting.{RegistersGoal}
 use Rattle.relation_combining.specs.Solving.{solving_through, solver_manner}
 use Rattle.context_relation.specs.Stepping.{made_one}
 use Rattle.relation_combining.proofs.Binding.{no_region}
-use Rattle.relation_combining.proofs.LeavingSteps.{goal_refused}
+use Rattle.relation_combining.proofs.DeferringSteps.{goal_refused}
 use Rattle.context_relation.proofs.Solving.{held_stands, roots_step}
 use Rattle.context_relation.proofs.SolvingGoals.{directed_asks, subtype_step}
 use Rattle.context_relation.proofs.Stepping.{directed_decides, subtype_combines, subtype_refused}

@@ -3,7 +3,7 @@ use Rattle.relation_terms.specs.Trees.{known, count, nth}
 use Rattle.relation_terms.specs.Parts.{part_tree}
 use Rattle.relation_folds.specs.declared.error.TypeError.TheVariants.{ExistentialMismatch}
 use Rattle.relation_semantics.specs.Errors.{object_error, AreAlikeMembers}
-use Rattle.relation_semantics.specs.Parts.{own_parts}
+use Rattle.relation_semantics.specs.Parts.{direct_parts}
 use Rattle.relation_recursion.proofs.ComparingParts.{no_object, members_at, members_differ, member_below, member_within}
 use Rattle.relation_recursion.proofs.comparing.bodies.compare_members.Goals as goal
 
@@ -61,8 +61,8 @@ returns-then-not-are_alike_existentials-clause-errors g c =
     (subst (λ p. IsTrue (known (part_tree m p))) c.in-Object-b.is c.requires.b_known) in
     object_error k l (ap (part_tree m) (sym c.in-Object.is)) (ap (part_tree m) (sym c.in-Object-b.is))
     (members_differ m k l (ExistentialMismatch c.new.result) i
-    (subst (λ p. i < count (own_parts (part_tree m p))) c.in-Object.is c.requires.in_a)
-    (subst (λ p. i < count (own_parts (part_tree m p))) c.in-Object-b.is c.requires.in_b)
+    (subst (λ p. i < count (direct_parts (part_tree m p))) c.in-Object.is c.requires.in_a)
+    (subst (λ p. i < count (direct_parts (part_tree m p))) c.in-Object-b.is c.requires.in_b)
     (λ h. c.if-not-are_alike_existentials.ensures.unlike refl (both.1 h))
     (ap₂ (λ x y. ExistentialMismatch (record { expected = x; found = y })) c.new.ensures.expected_kept
     c.new.ensures.found_kept))
@@ -83,5 +83,5 @@ returns-clause-alike g c = λ e. (
     c.index-existential_predicates-i.is c.index-existential_predicates-i-2.is
     (subst (λ p. IsTrue (known (part_tree m p))) c.in-Object.is c.requires.a_known)
     (subst (λ p. IsTrue (known (part_tree m p))) c.in-Object-b.is c.requires.b_known) in
-    subst₂ (λ p q. AreAlikeMembers (nth i (own_parts (part_tree m p))) (nth i (own_parts (part_tree m q))))
+    subst₂ (λ p q. AreAlikeMembers (nth i (direct_parts (part_tree m p))) (nth i (direct_parts (part_tree m q))))
     (sym c.in-Object.is) (sym c.in-Object-b.is) (both.0 (c.if-not-are_alike_existentials.ensures.alike refl)))

@@ -1,7 +1,7 @@
 use Rattle.std.proofs.Common.{IsTrue}
 use Rattle.relation_terms.specs.Heads.{type_var}
 use Rattle.relation_terms.specs.Trees.{known}
-use Rattle.relation_semantics.specs.Bound.{BindByLists}
+use Rattle.relation_semantics.specs.Bound.{IsWellBound}
 use Rattle.relation_semantics.specs.Stores.{InContext}
 use Rattle.relation_reference.specs.Answers.{VarReadsAsTy}
 use Rattle.variable_tables.specs.Tables.{store_of}
@@ -19,5 +19,5 @@ invariant-loop-next g l =
       sure : IsTrue (known (m.ty l.found));
       is_in : InContext (store_of m l.inner) (m.ty l.found);
       reads : VarReadsAsTy m l.inner type_var l.fn.var.0 l.found;
-      by_lists : BindByLists (m.ty l.found);
+      by_lists : IsWellBound (m.ty l.found);
     }

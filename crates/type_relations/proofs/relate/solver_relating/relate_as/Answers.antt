@@ -17,7 +17,7 @@ use Rattle.context_relation.specs.Relating.{term_in}
 use Rattle.relation_steps.specs.Alone.{RelatesAlone}
 use Rattle.relation_recursion.proofs.RelatableValues.{equal_one, one_equal}
 use Rattle.context_relation.proofs.Relating.{answered_alone_in, refused_alone_in, refused_built}
-use Rattle.relation_semantics.specs.Kits.{StaysBuilt, NeedsVariable}
+use Rattle.relation_semantics.specs.Alphabets.{StaysBuilt, NeedsVariable}
 use Rattle.relation_semantics.proofs.Building.{built_itself}
 use Rattle.relation_combining.proofs.OverContext.{all_taken}
 use Rattle.context_relation.proofs.Solving.{keeps_beside, none_held, answers_goals, keeps_equal, relates_agreeing, registers_goals, no_goals_exactly}

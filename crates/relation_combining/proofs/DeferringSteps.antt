@@ -18,12 +18,12 @@ use Rattle.relation_semantics.specs.AliasGoals.{alias_at}
 use Rattle.relation_semantics.specs.Errors.{IsOpaque, IsOpaqueBeside}
 use Rattle.relation_semantics.specs.Goals.{goal_of, IsRegistered, of_alias, of_too_much, alias_relate_predicate, ambiguous_predicate}
 use Rattle.relation_semantics.specs.Headline.{IsFirstOrderPair}
-use Rattle.relation_semantics.specs.Kits.{Kit, IsBuiltOf, IsPredicateOf, IsGoalOf, HasOpaque, HasNoError, Builds}
+use Rattle.relation_semantics.specs.Alphabets.{Alphabet, IsBuiltOf, IsPredicateOf, IsGoalOf, HasOpaque, HasNoError, Builds}
 use Rattle.relation_semantics.specs.Lawful.{State, Passes, Stepped, MayAnswer, RegisteredIn, items_in}
 use Rattle.relation_semantics.specs.Outcomes.{Outcome}
 use Rattle.relation_semantics.specs.Parts.{IsFormed, IsFormedConst}
 use Rattle.relation_semantics.specs.Relation.{at, sort_of, IsError, IsAlias}
-use Rattle.relation_semantics.specs.Settings.{LeavesAliases, LeavesOpaque}
+use Rattle.relation_semantics.specs.Settings.{DefersAliases, LeavesOpaque}
 use Rattle.relation_semantics.specs.OneUniverse.{BindsNoMore}
 use Rattle.relation_semantics.specs.Steps.{BindsNoBinder}
 use Rattle.relation_semantics.specs.Stores.{Store, IsSound, InContext, unbound, weight}
@@ -42,17 +42,17 @@ use Rattle.relation_goals.specs.Emitting.{RegistersGoal}
 use Rattle.relation_steps.specs.Keyed.{SteppedTys, SteppedConsts}
 use Rattle.relation_steps.specs.Terms.{AskedTerms}
 use Rattle.relation_combining.specs.Solving.{solver_manner}
-use Rattle.relation_semantics.proofs.Leaving.{opaque_is_alias, beside_is_opaque}
+use Rattle.relation_semantics.proofs.Deferring.{opaque_is_alias, beside_is_opaque}
 use Rattle.relation_combining.proofs.GoalPasses.{goal_passes, no_goal_passes}
 use Rattle.relation_combining.proofs.OpeningBoth.{changes_goes}
 use Rattle.relation_semantics.proofs.Erased.{alias_not_first, error_not_first}
 use Rattle.relation_steps.proofs.Errors.{error_flexible}
 
-error_in_kit : (k : Kit) (t : Tree) → IsError t → IsBuiltOf k t → HasNoError k → ⊥
-error_in_kit k (leaf (atom type_error)) e h n = false≢true (sym n.0 ∙ h)
-error_in_kit k (leaf (atom const_error)) e h n = false≢true (sym n.1 ∙ h)
-error_in_kit k (leaf (atom x)) e h n = e
-error_in_kit k t e h n = e
+error_in_alphabet : (k : Alphabet) (t : Tree) → IsError t → IsBuiltOf k t → HasNoError k → ⊥
+error_in_alphabet k (leaf (atom type_error)) e h n = false≢true (sym n.0 ∙ h)
+error_in_alphabet k (leaf (atom const_error)) e h n = false≢true (sym n.1 ∙ h)
+error_in_alphabet k (leaf (atom x)) e h n = e
+error_in_alphabet k t e h n = e
 
 module _ {Key Id Name K : Type 0} (F : Tree → Type 0) {r q : State Key Id Name} (a b : Tree) (tree : K → Tree) where
   -- One goal was registered.
@@ -62,7 +62,7 @@ module _ {Key Id Name K : Type 0} (F : Tree → Type 0) {r q : State Key Id Name
     pub goal_step : Outcome (items_in r) r.kept.environment (at r.ambient) r.store r.store r.goals (goal_of r.kept.environment p ∷ []) a b →
         (t : K) → MayAnswer solver_manner q r.ambient a (tree t) → IsTrue (known (tree t)) →
         Agree r.kept.settings (items_in r) (at r.ambient) a b → (r.ambient ≡ Invariant → IsFirstOrderPair r.store a b → ⊥) →
-        ((k : Kit) → IsBuiltOf k a → IsBuiltOf k b → IsPredicateOf k p) →
+        ((k : Alphabet) → IsBuiltOf k a → IsBuiltOf k b → IsPredicateOf k p) →
         Stepped solver_manner F r q a b tree (Ok (Done t))
     unfolding goal_passes
     goal_step outcome t answer sure agreeing not_first built = record {
@@ -121,9 +121,9 @@ module _ {Key Id Name K : Type 0} (F : Tree → Type 0) {r q : State Key Id Name
       not_first (inl e) pair = error_not_first a e pair.left
       not_first (inr e) pair = error_not_first b e pair.right
 
-      in_kit : (k : Kit) → IsError a ⊎ IsError b → IsBuiltOf k a → IsBuiltOf k b → HasNoError k → ⊥
-      in_kit k (inl e) ha hb n = error_in_kit k a e ha n
-      in_kit k (inr e) ha hb n = error_in_kit k b e hb n
+      in_alphabet : (k : Alphabet) → IsError a ⊎ IsError b → IsBuiltOf k a → IsBuiltOf k b → HasNoError k → ⊥
+      in_alphabet k (inl e) ha hb n = error_in_alphabet k a e ha n
+      in_alphabet k (inr e) ha hb n = error_in_alphabet k b e hb n
 
       still_plain : BindsNoBinder r.store → BindsNoBinder q.store
       still_plain all j n t e = all j n t (sym (ap (λ es. get_or es n unbound) ((h.taints).nothing_else.same_entries j)) ∙ e)
@@ -142,7 +142,7 @@ module _ {Key Id Name K : Type 0} (F : Tree → Type 0) {r q : State Key Id Name
         exact = λ z is pair. absurd (not_first one pair);
         full = λ ha hb. full_by (changes_goes r.store q.store (h.taints).nothing_else)
             (λ j. ap length ((h.taints).nothing_else.same_entries j)) still_plain;
-        built = λ j ha hb all. builds_tainted j h.taints (in_kit j one ha hb) all;
+        built = λ j ha hb all. builds_tainted j h.taints (in_alphabet j one ha hb) all;
       }
 
       -- The answer is the error.
@@ -158,10 +158,10 @@ module _ {Key Id Name K : Type 0} (F : Tree → Type 0) {r q : State Key Id Name
           (record { related = relates_by r.ambient a b (taint_passes 0) outcome }))
           (subst (λ z. IsTrue (known z)) (sym e) sure)
 
--- An opaque type is of a kit with such, and no first-order term.
-opaque_in_kit : (k : Kit) (t : Tree) → IsOpaque t → IsBuiltOf k t → HasOpaque k
-opaque_in_kit k (node (alias opaque_alias d) ts) o h = (d, h.0)
-opaque_in_kit k t o h = absurd o
+-- An opaque type is of a alphabet with such, and no first-order term.
+opaque_in_alphabet : (k : Alphabet) (t : Tree) → IsOpaque t → IsBuiltOf k t → HasOpaque k
+opaque_in_alphabet k (node (alias opaque_alias d) ts) o h = (d, h.0)
+opaque_in_alphabet k t o h = absurd o
 
 -- Two that are left to a goal are no first-order terms.
 pub one_not_first : {st : Store} (a b : Tree) → IsAlias a ⊎ IsAlias b → IsFirstOrderPair st a b → ⊥
@@ -195,7 +195,7 @@ module _ {Key Id Name A E : Type 0} {r q : State Key Id Name} {x : A} (p : Tree)
     left_sure = subst (λ z. IsTrue (known z)) (sym a_stays) asked.left_known
 
     -- What the variance asks of an alias and another type.
-    pub tys_to_goal : LeavesAliases r.kept.settings → IsAlias ta ⊎ IsAlias tb → alias_at r.ambient ta tb ≡ Some p →
+    pub tys_to_goal : DefersAliases r.kept.settings → IsAlias ta ⊎ IsAlias tb → alias_at r.ambient ta tb ≡ Some p →
         SteppedTys solver_manner r q a b (Ok (Done a))
     tys_to_goal l o e = goal_step IsFormed ta tb (q.meaning).ty p h
         (alias_registered (items_in r) r.kept.settings r.ambient r.store r.store ta tb p l.1 e o a_context b_context)
@@ -218,20 +218,20 @@ module _ {Key Id Name A E : Type 0} {r q : State Key Id Name} {x : A} (p : Tree)
         (ambiguous_relates (items_in r) r.kept.environment r.ambient r.store r.goals ta tb)) a answers_left left_sure
         (agree_left r.kept.settings (items_in r) r.ambient ta tb (inr (l, o)) one_sort)
         (λ z. one_not_first ta tb (one_alias (one_opaque ta tb o)))
-        (λ k ha hb. subst (IsPredicateOf k) (sym e) (kit k ha hb (one_opaque ta tb o)))
+        (λ k ha hb. subst (IsPredicateOf k) (sym e) (alphabet k ha hb (one_opaque ta tb o)))
       where
         one_alias : IsOpaque ta ⊎ IsOpaque tb → IsAlias ta ⊎ IsAlias tb
         one_alias (inl d) = inl (opaque_is_alias ta d)
         one_alias (inr d) = inr (opaque_is_alias tb d)
 
-        kit : (k : Kit) → IsBuiltOf k ta → IsBuiltOf k tb → IsOpaque ta ⊎ IsOpaque tb → HasOpaque k
-        kit k ha hb (inl d) = opaque_in_kit k ta d ha
-        kit k ha hb (inr d) = opaque_in_kit k tb d hb
+        alphabet : (k : Alphabet) → IsBuiltOf k ta → IsBuiltOf k tb → IsOpaque ta ⊎ IsOpaque tb → HasOpaque k
+        alphabet k ha hb (inl d) = opaque_in_alphabet k ta d ha
+        alphabet k ha hb (inr d) = opaque_in_alphabet k tb d hb
 
   -- That an unevaluated constant and another one are one: the right one is the answer.
   pub consts_to_goal : (a b : ConstKey Key) → AskedTerms solver_manner None (λ m. m.const_) r a b →
       IsTerm const_sort ((r.meaning).const_ a) → IsTerm const_sort ((r.meaning).const_ b) →
-      LeavesAliases r.kept.settings → IsAlias ((r.meaning).const_ a) ⊎ IsAlias ((r.meaning).const_ b) →
+      DefersAliases r.kept.settings → IsAlias ((r.meaning).const_ a) ⊎ IsAlias ((r.meaning).const_ b) →
       p ≡ alias_relate_predicate Equate ((r.meaning).const_ a) ((r.meaning).const_ b) →
       SteppedConsts solver_manner r q a b (Ok (Done b))
   unfolding goal_passes

@@ -5,8 +5,8 @@ ghost use Rattle.relation_terms.specs.Trees.{known};
 ghost use Rattle.relation_semantics.specs.Contexts.{KnowsTy, KnowsConst};
 ghost use Rattle.relation_semantics.specs.Errors.{IsOpaqueBeside};
 ghost use Rattle.relation_semantics.specs.Relation.{IsAlias};
-ghost use Rattle.relation_semantics.specs.Settings.{LeavesAliases, LeavesOpaque};
-ghost use Rattle.relation_combining.specs.Leaving.{LeftAs, LeavesConst, StandsAs};
+ghost use Rattle.relation_semantics.specs.Settings.{DefersAliases, LeavesOpaque};
+ghost use Rattle.relation_combining.specs.Deferring.{LeftAs, DefersConst, StandsAs};
 
 use crate::combine::PredicateEmittingRelation;
 use relation_semantics::infer_ctxt::InferCtxtLike;
@@ -25,7 +25,7 @@ pub(crate) enum Standing {
 
 // What comes of two types neither of which is an error.
 #[derive(Clone, Copy)]
-pub(crate) enum Leaving {
+pub(crate) enum Deferring {
     ToGoal,
     Open,
     ToNone,
@@ -85,8 +85,8 @@ fn is_open(left: Standing, right: Standing) -> bool
 }
 
 // Whether a relation leaves aliases to goals.
-fn leaves_aliases<Infcx: InferCtxtLike, R: PredicateEmittingRelation<Infcx>>(relation: &R) -> bool
-    ensures { IsTrue result ↔ LeavesAliases (R.state relation.now).kept.settings }
+fn defers_aliases<Infcx: InferCtxtLike, R: PredicateEmittingRelation<Infcx>>(relation: &R) -> bool
+    ensures { IsTrue result ↔ DefersAliases (R.state relation.now).kept.settings }
 {
     if !relation.infcx().next_trait_solver() {
         return false;
@@ -112,28 +112,28 @@ pub(crate) fn left_to<Infcx: InferCtxtLike, R: PredicateEmittingRelation<Infcx>>
     relation: &R,
     left: Standing,
     right: Standing,
-) -> Leaving
+) -> Deferring
     ensures { (t u : _) → StandsAs left t → StandsAs right u → LeftAs (R.state relation.now).kept.settings t u result }
 {
-    if leaves_aliases::<Infcx, R>(relation) {
+    if defers_aliases::<Infcx, R>(relation) {
         if is_alias(left) {
-            return Leaving::ToGoal;
+            return Deferring::ToGoal;
         }
         if is_alias(right) {
-            return Leaving::ToGoal;
+            return Deferring::ToGoal;
         }
-        return Leaving::ToNone;
+        return Deferring::ToNone;
     }
     if !leaves_opaque::<Infcx, R>(relation) {
-        return Leaving::ToNone;
+        return Deferring::ToNone;
     }
     if is_open(left, right) {
-        return Leaving::Open;
+        return Deferring::Open;
     }
     if is_open(right, left) {
-        return Leaving::Open;
+        return Deferring::Open;
     }
-    Leaving::ToNone
+    Deferring::ToNone
 }
 
 // Whether a constant isn't evaluated.
@@ -148,17 +148,17 @@ fn is_unevaluated<Infcx: InferCtxtLike>(infcx: &Infcx, ct: &Const<Infcx::Interne
 }
 
 // Whether one of two constants that are no variables is left to a goal.
-pub(crate) fn leaves_const<Infcx: InferCtxtLike, R: PredicateEmittingRelation<Infcx>>(
+pub(crate) fn defers_const<Infcx: InferCtxtLike, R: PredicateEmittingRelation<Infcx>>(
     relation: &R,
     a: &Const<Infcx::Interner>,
     b: &Const<Infcx::Interner>,
 ) -> bool
     requires a_known { IsTrue (known (((R.state relation.now).meaning).const_ a.now)) }
     requires b_known { IsTrue (known (((R.state relation.now).meaning).const_ b.now)) }
-    ensures yes { IsTrue result → LeavesConst (R.state relation.now) a.now b.now }
-    ensures no { IsFalse result → LeavesConst (R.state relation.now) a.now b.now → ⊥ }
+    ensures yes { IsTrue result → DefersConst (R.state relation.now) a.now b.now }
+    ensures no { IsFalse result → DefersConst (R.state relation.now) a.now b.now → ⊥ }
 {
-    if !leaves_aliases::<Infcx, R>(relation) {
+    if !defers_aliases::<Infcx, R>(relation) {
         return false;
     }
     let infcx = relation.infcx();

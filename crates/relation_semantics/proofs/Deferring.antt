@@ -10,7 +10,7 @@ use Rattle.relation_semantics.specs.Relation.{Items, IsAlias}
 use Rattle.relation_semantics.specs.Settings.{Settings}
 use Rattle.relation_semantics.specs.Errors.{Meeting, as_pair, as_forms, ErrorByForms, ErrorAs, by_forms}
 use Rattle.relation_semantics.specs.Errors.{AreOfOneForm, over_parts, over_aliases, one_leaf, parameters}
-use Rattle.relation_semantics.specs.Errors.{IsOpaque, IsOpaqueBeside, IsLeftToGoal}
+use Rattle.relation_semantics.specs.Errors.{IsOpaque, IsOpaqueBeside, IsDeferred}
 use Rattle.relation_semantics.specs.Parts.{IsByParts}
 
 -- Opaque types are aliases.
@@ -32,7 +32,7 @@ head_normal (unevaluated d) ts us u = tt
 head_normal h ts us u = absurd u
 
 pub normal_not_left : (k : Settings) (a b : Tree) → (IsAlias a → ⊥) → (IsAlias b → ⊥) →
-    IsLeftToGoal k a b → ⊥
+    IsDeferred k a b → ⊥
 normal_not_left k a b f g (inl h) = either h.1
   where
     either : IsAlias a ⊎ IsAlias b → ⊥
@@ -46,7 +46,7 @@ normal_not_left k a b f g (inr h) = either h.1
 
 -- So what is said of two as forms is said of them as they are brought together.
 pub said_as : {Key Id Name : Type 0} {m : Meaning Key Id Name} {k : Settings} {c : Items} {st : Store} {v : Variance}
-    {e : TypeError Key Id Name} {a b : Tree} (w : Meeting) → (IsLeftToGoal k a b → ⊥) →
+    {e : TypeError Key Id Name} {a b : Tree} (w : Meeting) → (IsDeferred k a b → ⊥) →
     ErrorByForms m k c st v e a b → ErrorAs m w k c st v e a b
 said_as as_pair n h = by_forms n h
 said_as as_forms n h = h
@@ -63,8 +63,8 @@ one_form_normal a b (over_aliases d e n) f u = f (subst IsAlias (sym d) tt)
 one_form_normal a b (one_leaf d e) f u = subst IsAlias e u
 one_form_normal a b (parameters d e n) f u = subst IsAlias e u
 
-pub parts_not_left : (k : Settings) (a b : Tree) → IsByParts a → IsByParts b → IsLeftToGoal k a b → ⊥
+pub parts_not_left : (k : Settings) (a b : Tree) → IsByParts a → IsByParts b → IsDeferred k a b → ⊥
 parts_not_left k a b p q = normal_not_left k a b (by_parts_normal a p) (by_parts_normal b q)
 
-pub form_not_left : (k : Settings) (a b : Tree) → IsByParts a → AreOfOneForm a b → IsLeftToGoal k a b → ⊥
+pub form_not_left : (k : Settings) (a b : Tree) → IsByParts a → AreOfOneForm a b → IsDeferred k a b → ⊥
 form_not_left k a b p o = normal_not_left k a b (by_parts_normal a p) (one_form_normal a b o (by_parts_normal a p))

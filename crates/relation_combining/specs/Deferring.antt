@@ -3,14 +3,14 @@ use Rattle.std.specs.Prelude.{◌≡◌, ◌⊎◌, ℕ}
 use Rattle.relation_terms.specs.declared.terms.keys.ConstKey.{ConstKey}
 use Rattle.relation_terms.specs.Heads.{VarKind, variable}
 use Rattle.relation_terms.specs.Trees.{Tree, leaf}
-use Rattle.relation_semantics.specs.Errors.{IsOpaque, IsOpaqueBeside, IsLeftToGoal}
+use Rattle.relation_semantics.specs.Errors.{IsOpaque, IsOpaqueBeside, IsDeferred}
 use Rattle.relation_semantics.specs.Lawful.{State}
 use Rattle.relation_semantics.specs.Relation.{IsError, IsAlias}
-use Rattle.relation_semantics.specs.Settings.{Settings, LeavesAliases, LeavesOpaque}
-use Rattle.relation_combining.specs.declared.leaving.Standing.{Standing}
-use Rattle.relation_combining.specs.declared.leaving.Standing.TheVariants.{Error, Variable, Opaque, Alias, Other}
-use Rattle.relation_combining.specs.declared.leaving.Leaving.{Leaving}
-use Rattle.relation_combining.specs.declared.leaving.Leaving.TheVariants.{ToGoal, Open, ToNone}
+use Rattle.relation_semantics.specs.Settings.{Settings, DefersAliases, LeavesOpaque}
+use Rattle.relation_combining.specs.declared.deferring.Standing.{Standing}
+use Rattle.relation_combining.specs.declared.deferring.Standing.TheVariants.{Error, Variable, Opaque, Alias, Other}
+use Rattle.relation_combining.specs.declared.deferring.Deferring.{Deferring}
+use Rattle.relation_combining.specs.declared.deferring.Deferring.TheVariants.{ToGoal, Open, ToNone}
 
 -- A variable of whatever kind.
 abbrev pub IsVariable : Tree → Type 0
@@ -26,12 +26,12 @@ StandsAs Other t = (IsError t → ⊥) × (IsVariable t → ⊥) × (IsAlias t �
 
 -- What comes of two types neither of which is an error: they are left to a goal, one being an alias; they are left open,
 -- one being an opaque type beside no variable; or neither.
-abbrev pub LeftAs : Settings → Tree → Tree → Leaving → Type 0
-LeftAs k a b ToGoal = LeavesAliases k × (IsAlias a ⊎ IsAlias b)
+abbrev pub LeftAs : Settings → Tree → Tree → Deferring → Type 0
+LeftAs k a b ToGoal = DefersAliases k × (IsAlias a ⊎ IsAlias b)
 LeftAs k a b Open = LeavesOpaque k × (IsOpaqueBeside a b ⊎ IsOpaqueBeside b a)
-LeftAs k a b ToNone = IsLeftToGoal k a b → ⊥
+LeftAs k a b ToNone = IsDeferred k a b → ⊥
 
 -- Of two constants one is left to a goal, as an unevaluated one.
-abbrev pub LeavesConst : {Key Id Name : Type 0} → State Key Id Name → ConstKey Key → ConstKey Key → Type 0
-LeavesConst r a b =
-    LeavesAliases r.kept.settings × (IsAlias ((r.meaning).const_ a) ⊎ IsAlias ((r.meaning).const_ b))
+abbrev pub DefersConst : {Key Id Name : Type 0} → State Key Id Name → ConstKey Key → ConstKey Key → Type 0
+DefersConst r a b =
+    DefersAliases r.kept.settings × (IsAlias ((r.meaning).const_ a) ⊎ IsAlias ((r.meaning).const_ b))

@@ -15,15 +15,15 @@ use Rattle.relation_terms.specs.declared.terms.ty_kind.InferTy.{InferTy}
 use Rattle.relation_terms.specs.declared.terms.ty_kind.InferTy.TheVariants.{TyVar, IntVar, FloatVar, FreshTy, FreshIntTy, FreshFloatTy}
 use Rattle.relation_terms.specs.declared.terms.ty_kind.TyKind.{TyKind}
 use Rattle.relation_terms.specs.declared.terms.ty_kind.TyKind.TheVariants.{Error as ErrorKind, Infer, Alias as AliasForm}
-use Rattle.relation_semantics.specs.Errors.{IsOpaque, IsOpaqueBeside, IsLeftToGoal}
+use Rattle.relation_semantics.specs.Errors.{IsOpaque, IsOpaqueBeside, IsDeferred}
 use Rattle.relation_semantics.specs.Parts.{IsFormedConst}
 use Rattle.relation_semantics.specs.Relation.{IsError, IsAlias}
-use Rattle.relation_semantics.specs.Settings.{Settings, LeavesAliases, LeavesOpaque}
-use Rattle.relation_semantics.proofs.Leaving.{opaque_is_alias, beside_is_opaque}
-use Rattle.relation_combining.specs.Leaving.{IsVariable, StandsAs, LeftAs}
-use Rattle.relation_combining.specs.declared.leaving.Standing.{Standing}
-use Rattle.relation_combining.specs.declared.leaving.Standing.TheVariants.{Error, Variable, Opaque, Alias, Other}
-use Rattle.relation_combining.specs.declared.leaving.Leaving.TheVariants.{ToNone}
+use Rattle.relation_semantics.specs.Settings.{Settings, DefersAliases, LeavesOpaque}
+use Rattle.relation_semantics.proofs.Deferring.{opaque_is_alias, beside_is_opaque}
+use Rattle.relation_combining.specs.Deferring.{IsVariable, StandsAs, LeftAs}
+use Rattle.relation_combining.specs.declared.deferring.Standing.{Standing}
+use Rattle.relation_combining.specs.declared.deferring.Standing.TheVariants.{Error, Variable, Opaque, Alias, Other}
+use Rattle.relation_combining.specs.declared.deferring.Deferring.TheVariants.{ToNone}
 
 -- A form that is neither an error, a variable nor an alias.
 no_variable_tree : (t : Tree) → ((k : _) (n : ℕ) → t ≡ leaf (variable k n) → ⊥) → IsVariable t → ⊥
@@ -120,18 +120,18 @@ clean Alias t h f e = error_no_alias t e h.0
 clean Other t h f e = h.0 e
 
 -- What comes of two, by how a relation is set up.
-pub no_goal_kept : (k : Settings) (a b : Tree) → LeavesAliases k → (IsAlias a → ⊥) → (IsAlias b → ⊥) → LeftAs k a b ToNone
+pub no_goal_kept : (k : Settings) (a b : Tree) → DefersAliases k → (IsAlias a → ⊥) → (IsAlias b → ⊥) → LeftAs k a b ToNone
 no_goal_kept k a b l f g (inl (_, inl o)) = f o
 no_goal_kept k a b l f g (inl (_, inr o)) = g o
 no_goal_kept k a b l f g (inr (o, _)) = false≢true (sym o.0 ∙ l.0)
 
-pub no_goal_open : (k : Settings) (a b : Tree) → (LeavesAliases k → ⊥) → (IsOpaqueBeside a b → ⊥) →
+pub no_goal_open : (k : Settings) (a b : Tree) → (DefersAliases k → ⊥) → (IsOpaqueBeside a b → ⊥) →
     (IsOpaqueBeside b a → ⊥) → LeftAs k a b ToNone
 no_goal_open k a b l f g (inl (o, _)) = l o
 no_goal_open k a b l f g (inr (_, inl o)) = f o
 no_goal_open k a b l f g (inr (_, inr o)) = g o
 
-pub no_goal_ever : (k : Settings) (a b : Tree) → (LeavesAliases k → ⊥) → (LeavesOpaque k → ⊥) → LeftAs k a b ToNone
+pub no_goal_ever : (k : Settings) (a b : Tree) → (DefersAliases k → ⊥) → (LeavesOpaque k → ⊥) → LeftAs k a b ToNone
 no_goal_ever k a b l f (inl (o, _)) = l o
 no_goal_ever k a b l f (inr (o, _)) = f o
 
@@ -144,7 +144,7 @@ formed_no_opaque t u f o = no_opaque t f (beside_is_opaque t u o)
     no_opaque t f o = o
 
 pub const_not_left : (k : Settings) (a b : Tree) → IsFormedConst a → IsFormedConst b →
-    (LeavesAliases k × (IsAlias a ⊎ IsAlias b) → ⊥) → IsLeftToGoal k a b → ⊥
+    (DefersAliases k × (IsAlias a ⊎ IsAlias b) → ⊥) → IsDeferred k a b → ⊥
 const_not_left k a b f g n (inl o) = n o
 const_not_left k a b f g n (inr (l, inl o)) = formed_no_opaque a b f o
 const_not_left k a b f g n (inr (l, inr o)) = formed_no_opaque b a g o

@@ -1,5 +1,5 @@
-use Rattle.relation_combining.proofs.LeftToGoals.{ty_variable, int_variable, float_variable}
-use Rattle.relation_combining.proofs.leaving.standing_by.Goals as goal
+use Rattle.relation_combining.proofs.DeferredPairs.{ty_variable, int_variable, float_variable}
+use Rattle.relation_combining.proofs.deferring.standing_by.Goals as goal
 
 pub returns-in-TyVar : goal.returns-in-TyVar
 returns-in-TyVar g c = λ m. ty_variable m c.args.kind.now c.in-Infer.vid _ c.in-Infer.is c.in-TyVar.is
