@@ -1,5 +1,5 @@
 //! The depth test, with parameters on each side as its user takes them.
-ghost use Rattle.std.specs.Prelude.{◌↔◌, ◌≤◌, ℕ, IsTrue, IsFalse};
+ghost use Rattle.std.specs.Prelude.{◌≡◌, ◌↔◌, ◌≤◌, ℕ, IsTrue, IsFalse};
 ghost use Rattle.relation_terms.specs.Trees.{known};
 ghost use Rattle.fast_reject.specs.Rejecting.{Bars, BarsArgs, AreApart};
 
@@ -15,7 +15,6 @@ use std::marker::PhantomData;
 ///
 /// A coherence checker or a solver drops a candidate by it before it relates anything. Parameters on the left stand for
 /// any type if `INSTANTIATE_LHS_WITH_INFER`, those on the right if `INSTANTIATE_RHS_WITH_INFER`; else each for itself.
-#[derive(Drop)]
 pub struct DeepRejectCtxt<
     I,
     const INSTANTIATE_LHS_WITH_INFER: bool,
@@ -23,6 +22,18 @@ pub struct DeepRejectCtxt<
 > {
     interner: PhantomData<I>,
 }
+
+impl<I, const LHS: bool, const RHS: bool> Clone for DeepRejectCtxt<I, LHS, RHS> {
+    ghost is_clone = { λ source copy. copy ≡ source };
+
+    ghost is_infallible = { λ _. Unit {0} };
+
+    fn clone(&self) -> Result<Self, AllocError> {
+        Ok(*self)
+    }
+}
+
+impl<I, const LHS: bool, const RHS: bool> Copy for DeepRejectCtxt<I, LHS, RHS> {}
 
 impl<I: Interner> DeepRejectCtxt<I, false, false> {
     /// Parameters on both sides stand for themselves.
