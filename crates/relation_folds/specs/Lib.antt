@@ -7,5 +7,6 @@ pub mod Clashes
 pub mod Outlines
 pub mod Shifts
 pub mod FieldFolds
+pub mod Goals
 pub mod InBinders
 pub mod Aliases

@@ -13,6 +13,7 @@ mod bound;
 mod clauses;
 mod foldable;
 mod forms;
+mod goals;
 mod keyed;
 mod memory;
 mod predicates;

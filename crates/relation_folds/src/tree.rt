@@ -9,6 +9,7 @@ ghost use Rattle.relation_terms.proofs.Stays.{stays_arg, stays_term, stays_signa
 ghost use Rattle.relation_terms.proofs.Binders.{under_stays};
 ghost use Rattle.relation_folds.specs.Faults.{pair_tree, error_tree, stays_pair, stays_error};
 
+mod goals;
 mod predicates;
 
 use crate::error::{ExpectedFound, TypeError};

@@ -11,6 +11,7 @@ mod binder;
 mod clauses;
 mod flags;
 mod forms;
+mod goals;
 mod keyed;
 mod predicates;
 mod visitable;
