@@ -1,5 +1,5 @@
 //! Folds of goals, and of what is recorded of regions.
-ghost use Rattle.std.specs.Prelude.{◌≡◌, ◌×◌, IsTrue, IfOk};
+ghost use Rattle.std.specs.Prelude.{◌≡◌, IsTrue, IfOk};
 ghost use Rattle.relation_terms.specs.Trees.{known};
 ghost use Rattle.relation_folds.specs.Folds.{Steps, folded};
 ghost use Rattle.relation_folds.specs.Goals.{two_trees};
@@ -21,7 +21,7 @@ fn fold_two<I: Interner, T: TypeFoldable<I> + Copy, U: TypeFoldable<I> + Copy, F
     ensures steps { Steps F.ready F.replaces (I.meaning cx.old) folder.old (I.meaning cx.new) folder.new }
     ensures sure { let n = I.meaning cx.new in
         IfOk result (λ both. IsTrue (known (two_trees (T.tree n both.0) (U.tree n both.1)))) }
-    ensures made { let (m, n) = (I.meaning cx.old, I.meaning cx.new) in
+    ensures made { let m = I.meaning cx.old in let n = I.meaning cx.new in
         IfOk result (λ both. two_trees (T.tree n both.0) (U.tree n both.1) ≡
         folded (F.replaces m folder.old) 0 (two_trees (T.tree m first.now) (U.tree m second.now))) }
     ensures same { let m = I.meaning cx.old in let t = two_trees (T.tree m first.now) (U.tree m second.now) in
