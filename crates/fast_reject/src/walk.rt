@@ -33,13 +33,7 @@ pub fn types_may_unify<I: Interner>(
 // compared in the same round, and takes no call.
 #[cycle(clashes)]
 #[inline(never)]
-fn unlike_may_unify<I: Interner>(
-    cx: &I,
-    sides: Sides,
-    lhs: Ty<I>,
-    rhs: Ty<I>,
-    depth: usize,
-) -> bool
+fn unlike_may_unify<I: Interner>(cx: &I, sides: Sides, lhs: Ty<I>, rhs: Ty<I>, depth: usize) -> bool
     requires lhs_known { IsTrue (known ((I.meaning cx.now).ty lhs)) }
     requires rhs_known { IsTrue (known ((I.meaning cx.now).ty rhs)) }
     requires differ { (I.meaning cx.now).ty lhs ≢ (I.meaning cx.now).ty rhs }

@@ -248,7 +248,9 @@ fn collect_form<I: Interner>(
         TyKind::Param(param) => add::<I>(out, Component::Param(*param)),
         TyKind::Placeholder(placeholder) => add::<I>(out, Component::Placeholder(*placeholder)),
         TyKind::Infer(var) => add::<I>(out, Component::UnresolvedInferenceVariable(*var)),
-        TyKind::Alias(alias) if has_escaping_bound_vars(cx, &ty) => collect_escaping(cx, alias, out),
+        TyKind::Alias(alias) if has_escaping_bound_vars(cx, &ty) => collect_escaping(
+            cx, alias, out,
+        ),
         TyKind::Alias(alias) => add::<I>(out, Component::Alias(*alias)),
         _ => collect_members(cx, &ty_parts(&kind), &form_chosen(&kind), out, visited),
     }
