@@ -118,6 +118,6 @@ impl<
             left: INSTANTIATE_LHS_WITH_INFER,
             right: INSTANTIATE_RHS_WITH_INFER,
         };
-        types_may_unify(cx, sides, lhs, rhs, depth_limit)
+        types_may_unify(cx, sides, *lhs, *rhs, depth_limit)
     }
 }

@@ -21,11 +21,11 @@ pub struct Sides {
 }
 
 // Whether a type is one of integers.
-fn is_integral_ty<I: Interner>(cx: &I, ty: &Ty<I>) -> bool
-    requires { IsTrue (known ((I.meaning cx.now).ty ty.now)) }
-    ensures { result ≡ is_integral ((I.meaning cx.now).ty ty.now) }
+fn is_integral_ty<I: Interner>(cx: &I, ty: Ty<I>) -> bool
+    requires { IsTrue (known ((I.meaning cx.now).ty ty)) }
+    ensures { result ≡ is_integral ((I.meaning cx.now).ty ty) }
 {
-    let kind = cx.ty_kind(ty);
+    let kind = cx.ty_kind(&ty);
     match &kind {
         TyKind::Int(_) | TyKind::Uint(_) => true,
         _ => false,
@@ -33,11 +33,11 @@ fn is_integral_ty<I: Interner>(cx: &I, ty: &Ty<I>) -> bool
 }
 
 // Whether a type is one of floats.
-fn is_floating_point_ty<I: Interner>(cx: &I, ty: &Ty<I>) -> bool
-    requires { IsTrue (known ((I.meaning cx.now).ty ty.now)) }
-    ensures { result ≡ is_floating_point ((I.meaning cx.now).ty ty.now) }
+fn is_floating_point_ty<I: Interner>(cx: &I, ty: Ty<I>) -> bool
+    requires { IsTrue (known ((I.meaning cx.now).ty ty)) }
+    ensures { result ≡ is_floating_point ((I.meaning cx.now).ty ty) }
 {
-    let kind = cx.ty_kind(ty);
+    let kind = cx.ty_kind(&ty);
     match &kind {
         TyKind::Float(_) => true,
         _ => false,
@@ -46,13 +46,13 @@ fn is_floating_point_ty<I: Interner>(cx: &I, ty: &Ty<I>) -> bool
 
 // Whether a type variable may stand for a type: one of integers or floats only for a type of its sort of numbers, or
 // for one of which it is not known what it is.
-fn var_and_ty_may_unify<I: Interner>(cx: &I, var: &InferTy, ty: &Ty<I>) -> bool
-    requires { IsTrue (known ((I.meaning cx.now).ty ty.now)) }
-    ensures { result ≡ may_stand (infer_tree var.now) ((I.meaning cx.now).ty ty.now) }
+fn var_and_ty_may_unify<I: Interner>(cx: &I, var: InferTy, ty: Ty<I>) -> bool
+    requires { IsTrue (known ((I.meaning cx.now).ty ty)) }
+    ensures { result ≡ may_stand (infer_tree var) ((I.meaning cx.now).ty ty) }
 {
     match var {
-        InferTy::IntVar(_) => !is_known_rigid(cx, ty) || is_integral_ty(cx, ty),
-        InferTy::FloatVar(_) => !is_known_rigid(cx, ty) || is_floating_point_ty(cx, ty),
+        InferTy::IntVar(_) => !is_known_rigid(cx, &ty) || is_integral_ty(cx, ty),
+        InferTy::FloatVar(_) => !is_known_rigid(cx, &ty) || is_floating_point_ty(cx, ty),
         InferTy::TyVar(_)
         | InferTy::FreshTy(_)
         | InferTy::FreshIntTy(_)
@@ -66,13 +66,13 @@ pub fn may_stand_for<I: Interner>(
     cx: &I,
     kind: &TyForm<I>,
     params: bool,
-    other: &Ty<I>,
+    other: Ty<I>,
 ) -> Option<bool>
-    requires { IsTrue (known ((I.meaning cx.now).ty other.now)) }
-    ensures { result ≡ stands params (kind_tree (I.meaning cx.now) kind.now) ((I.meaning cx.now).ty other.now) }
+    requires { IsTrue (known ((I.meaning cx.now).ty other)) }
+    ensures { result ≡ stands params (kind_tree (I.meaning cx.now) kind.now) ((I.meaning cx.now).ty other) }
 {
     match kind {
-        TyKind::Infer(var) => Some(var_and_ty_may_unify(cx, var, other)),
+        TyKind::Infer(var) => Some(var_and_ty_may_unify(cx, *var, other)),
         TyKind::Alias(_) | TyKind::Bound(..) | TyKind::Error(_) => Some(true),
         TyKind::Param(_) => { if params { Some(true) } else { None } }
         TyKind::Bool

@@ -1,5 +1,5 @@
 //! The depth test over two types, and over lists of types and of arguments, pair by pair.
-ghost use Rattle.std.specs.Prelude.{◌↔◌, IsTrue, IsFalse};
+ghost use Rattle.std.specs.Prelude.{◌↔◌, ◌≢◌, IsTrue, IsFalse};
 ghost use Rattle.relation_terms.specs.Trees.{known, list_tree};
 ghost use Rattle.relation_terms.specs.Meaning.{arg_tree};
 ghost use Rattle.fast_reject.specs.Pairs.{ClashAs, ClashIn, KnownPair};
@@ -9,24 +9,38 @@ use crate::forms::{Sides, depth_within, may_stand_for};
 use crate::pairs::{Pair, paired};
 use relation_terms::terms::{GenericArg, GenericArgKind, Interner, Ty};
 
-/// Whether two types may unify: true at a depth of 0, if nothing tells otherwise.
+/// Whether two types may unify: true at a depth of 0, if nothing tells otherwise. Equal types do without a call.
 #[cycle(clashes)]
+#[inline(always)]
 pub fn types_may_unify<I: Interner>(
     cx: &I,
     sides: Sides,
-    lhs: &Ty<I>,
-    rhs: &Ty<I>,
+    lhs: Ty<I>,
+    rhs: Ty<I>,
     depth: usize,
 ) -> bool
-    requires lhs_known { IsTrue (known ((I.meaning cx.now).ty lhs.now)) }
-    requires rhs_known { IsTrue (known ((I.meaning cx.now).ty rhs.now)) }
-    ensures { IsFalse result ↔ ClashAs sides depth (I.meaning cx.now).ty lhs.now rhs.now }
+    requires lhs_known { IsTrue (known ((I.meaning cx.now).ty lhs)) }
+    requires rhs_known { IsTrue (known ((I.meaning cx.now).ty rhs)) }
+    ensures { IsFalse result ↔ ClashAs sides depth (I.meaning cx.now).ty lhs rhs }
 {
     if lhs == rhs {
         return true;
     }
-    let left = cx.ty_kind(lhs);
-    let right = cx.ty_kind(rhs);
+    unlike_may_unify(cx, sides, lhs, rhs, depth)
+}
+
+// The same of types that differ. They are given by value, so that what stands in a reference, a pointer or a slice is
+// compared in the same round, and takes no call.
+#[cycle(clashes)]
+#[inline(never)]
+fn unlike_may_unify<I: Interner>(cx: &I, sides: Sides, lhs: Ty<I>, rhs: Ty<I>, depth: usize) -> bool
+    requires lhs_known { IsTrue (known ((I.meaning cx.now).ty lhs)) }
+    requires rhs_known { IsTrue (known ((I.meaning cx.now).ty rhs)) }
+    requires differ { (I.meaning cx.now).ty lhs ≢ (I.meaning cx.now).ty rhs }
+    ensures { IsFalse result ↔ ClashAs sides depth (I.meaning cx.now).ty lhs rhs }
+{
+    let left = cx.ty_kind(&lhs);
+    let right = cx.ty_kind(&rhs);
     if let Some(may) = may_stand_for(cx, &right, sides.right, lhs) {
         return may;
     }
@@ -49,9 +63,9 @@ fn pair_may_unify<I: Interner>(cx: &I, sides: Sides, pair: Pair<I::Key>, depth: 
     match pair {
         Pair::Apart => false,
         Pair::Nothing => true,
-        Pair::Types(lhs, rhs) => types_may_unify(cx, sides, &lhs, &rhs, depth),
+        Pair::Types(lhs, rhs) => types_may_unify(cx, sides, lhs, rhs, depth),
         Pair::Arrays(lhs, rhs, len, length) => {
-            if !types_may_unify(cx, sides, &lhs, &rhs, depth) {
+            if !types_may_unify(cx, sides, lhs, rhs, depth) {
                 return false;
             }
             consts_may_unify(cx, sides, &len, &length, depth)
@@ -79,7 +93,7 @@ fn tys_may_unify<I: Interner>(
     ensures { IsFalse result ↔ ClashAs sides depth (list_tree (I.meaning cx.now).ty) left.now right.now }
 {
     for i in 0..left.len().min(right.len()) {
-        if !types_may_unify(cx, sides, &left[i], &right[i], depth) {
+        if !types_may_unify(cx, sides, left[i], right[i], depth) {
             return false;
         }
     }
@@ -104,7 +118,7 @@ fn arg_may_unify<I: Interner>(
             let GenericArgKind::Ty(rhs) = right else {
                 return true;
             };
-            types_may_unify(cx, sides, lhs, rhs, depth)
+            types_may_unify(cx, sides, *lhs, *rhs, depth)
         }
         GenericArgKind::Const(lhs) => {
             let GenericArgKind::Const(rhs) = right else {

@@ -50,16 +50,16 @@ fn add<I: Interner>(
 // Adds a region, if no binder binds it.
 fn collect_region<I: Interner>(
     cx: &I,
-    region: &Region<I>,
+    region: Region<I>,
     out: &mut Vec<ComponentOf<I>>,
 ) -> Result<(), OutOfMemory>
-    requires { IsTrue (known ((I.meaning cx.now).region region.now)) }
-    ensures some { AddsFrom (I.meaning cx.now) ((I.meaning cx.now).region region.now) out.old.items out.new.items }
-    ensures all { OnOk result (HasAllOf (I.meaning cx.now) ((I.meaning cx.now).region region.now) out.new.items) }
+    requires { IsTrue (known ((I.meaning cx.now).region region)) }
+    ensures some { AddsFrom (I.meaning cx.now) ((I.meaning cx.now).region region) out.old.items out.new.items }
+    ensures all { OnOk result (HasAllOf (I.meaning cx.now) ((I.meaning cx.now).region region) out.new.items) }
 {
-    match cx.region_kind(region) {
+    match cx.region_kind(&region) {
         RegionKind::ReBound(..) => Ok(()),
-        _ => add::<I>(out, Component::Region(*region)),
+        _ => add::<I>(out, Component::Region(region)),
     }
 }
 
@@ -79,8 +79,8 @@ pub fn collect_part<I: Interner>(
         visited.old.keys visited.new.keys out.new.items) }
 {
     match part {
-        Part::Region(region) => collect_region(cx, region, out),
-        Part::Ty(ty) => collect_type(cx, ty, out, visited),
+        Part::Region(region) => collect_region(cx, *region, out),
+        Part::Ty(ty) => collect_type(cx, *ty, out, visited),
         _ => {
             let first = meet::<I>(part, visited)?;
             if !first {
@@ -91,23 +91,24 @@ pub fn collect_part<I: Interner>(
     }
 }
 
-// Adds the components of a type, but where it was met before. Types are most of what stands in types.
+// Adds the components of a type, but where it was met before. Types are most of what stands in types, and are given by
+// value, so that what stands in a slice, a pointer or a reference is gone into in the same round, and takes no call.
 #[cycle(collect)]
 fn collect_type<I: Interner>(
     cx: &I,
-    ty: &Ty<I>,
+    ty: Ty<I>,
     out: &mut Vec<ComponentOf<I>>,
     visited: &mut Met<I>,
 ) -> Result<(), OutOfMemory>
-    requires known { IsTrue (known ((I.meaning cx.now).ty ty.now)) }
+    requires known { IsTrue (known ((I.meaning cx.now).ty ty)) }
     requires settled { Settled (I.meaning cx.now) ⟦<GenericArgKind<I::Key> as PartialEq>⟧.eq
-        (suc (size ((I.meaning cx.now).ty ty.now))) visited.old.keys out.old.items }
-    ensures some { AddsFrom (I.meaning cx.now) ((I.meaning cx.now).ty ty.now) out.old.items out.new.items }
-    ensures all { OnOk result (HasAllOf (I.meaning cx.now) ((I.meaning cx.now).ty ty.now) out.new.items) }
+        (suc (size ((I.meaning cx.now).ty ty))) visited.old.keys out.old.items }
+    ensures some { AddsFrom (I.meaning cx.now) ((I.meaning cx.now).ty ty) out.old.items out.new.items }
+    ensures all { OnOk result (HasAllOf (I.meaning cx.now) ((I.meaning cx.now).ty ty) out.new.items) }
     ensures meets { OnOk result (Meets (I.meaning cx.now) ⟦<GenericArgKind<I::Key> as PartialEq>⟧.eq
         visited.old.keys visited.new.keys out.new.items) }
 {
-    let first = meet::<I>(&Part::Ty(*ty), visited)?;
+    let first = meet::<I>(&Part::Ty(ty), visited)?;
     if !first {
         return Ok(());
     }
@@ -118,20 +119,20 @@ fn collect_type<I: Interner>(
 #[cycle(collect)]
 fn collect_tys<I: Interner>(
     cx: &I,
-    tys: &Tys<I>,
+    tys: Tys<I>,
     out: &mut Vec<ComponentOf<I>>,
     visited: &mut Met<I>,
 ) -> Result<(), OutOfMemory>
-    requires known { IsTrue (known ((I.meaning cx.now).tys tys.now)) }
+    requires known { IsTrue (known ((I.meaning cx.now).tys tys)) }
     requires settled { Settled (I.meaning cx.now) ⟦<GenericArgKind<I::Key> as PartialEq>⟧.eq
-        (size ((I.meaning cx.now).tys tys.now)) visited.old.keys out.old.items }
-    ensures some { AddsFrom (I.meaning cx.now) ((I.meaning cx.now).tys tys.now) out.old.items out.new.items }
-    ensures all { OnOk result (HasAllOf (I.meaning cx.now) ((I.meaning cx.now).tys tys.now) out.new.items) }
+        (size ((I.meaning cx.now).tys tys)) visited.old.keys out.old.items }
+    ensures some { AddsFrom (I.meaning cx.now) ((I.meaning cx.now).tys tys) out.old.items out.new.items }
+    ensures all { OnOk result (HasAllOf (I.meaning cx.now) ((I.meaning cx.now).tys tys) out.new.items) }
     ensures meets { OnOk result (Meets (I.meaning cx.now) ⟦<GenericArgKind<I::Key> as PartialEq>⟧.eq
         visited.old.keys visited.new.keys out.new.items) }
 {
-    for ty in cx.tys(tys) {
-        collect_type(cx, ty, out, visited)?;
+    for ty in cx.tys(&tys) {
+        collect_type(cx, *ty, out, visited)?;
     }
     Ok(())
 }
@@ -201,19 +202,19 @@ fn collect_member<I: Interner>(
 #[cycle(collect)]
 fn collect_ty<I: Interner>(
     cx: &I,
-    ty: &Ty<I>,
+    ty: Ty<I>,
     out: &mut Vec<ComponentOf<I>>,
     visited: &mut Met<I>,
 ) -> Result<(), OutOfMemory>
-    requires known { IsTrue (known ((I.meaning cx.now).ty ty.now)) }
+    requires known { IsTrue (known ((I.meaning cx.now).ty ty)) }
     requires settled { Settled (I.meaning cx.now) ⟦<GenericArgKind<I::Key> as PartialEq>⟧.eq
-        (size ((I.meaning cx.now).ty ty.now)) visited.old.keys out.old.items }
-    ensures some { AddsFrom (I.meaning cx.now) ((I.meaning cx.now).ty ty.now) out.old.items out.new.items }
-    ensures all { OnOk result (HasAllOf (I.meaning cx.now) ((I.meaning cx.now).ty ty.now) out.new.items) }
+        (size ((I.meaning cx.now).ty ty)) visited.old.keys out.old.items }
+    ensures some { AddsFrom (I.meaning cx.now) ((I.meaning cx.now).ty ty) out.old.items out.new.items }
+    ensures all { OnOk result (HasAllOf (I.meaning cx.now) ((I.meaning cx.now).ty ty) out.new.items) }
     ensures meets { OnOk result (Meets (I.meaning cx.now) ⟦<GenericArgKind<I::Key> as PartialEq>⟧.eq
         visited.old.keys visited.new.keys out.new.items) }
 {
-    match &cx.ty_kind(ty) {
+    match cx.ty_kind(&ty) {
         TyKind::Slice(element) => collect_type(cx, element, out, visited),
         TyKind::RawPtr(pointee, _) => collect_type(cx, pointee, out, visited),
         TyKind::Ref(region, pointee, _) => {
@@ -230,24 +231,26 @@ fn collect_ty<I: Interner>(
 #[inline(never)]
 fn collect_form<I: Interner>(
     cx: &I,
-    ty: &Ty<I>,
+    ty: Ty<I>,
     out: &mut Vec<ComponentOf<I>>,
     visited: &mut Met<I>,
 ) -> Result<(), OutOfMemory>
-    requires known { IsTrue (known ((I.meaning cx.now).ty ty.now)) }
+    requires known { IsTrue (known ((I.meaning cx.now).ty ty)) }
     requires settled { Settled (I.meaning cx.now) ⟦<GenericArgKind<I::Key> as PartialEq>⟧.eq
-        (size ((I.meaning cx.now).ty ty.now)) visited.old.keys out.old.items }
-    ensures some { AddsFrom (I.meaning cx.now) ((I.meaning cx.now).ty ty.now) out.old.items out.new.items }
-    ensures all { OnOk result (HasAllOf (I.meaning cx.now) ((I.meaning cx.now).ty ty.now) out.new.items) }
+        (size ((I.meaning cx.now).ty ty)) visited.old.keys out.old.items }
+    ensures some { AddsFrom (I.meaning cx.now) ((I.meaning cx.now).ty ty) out.old.items out.new.items }
+    ensures all { OnOk result (HasAllOf (I.meaning cx.now) ((I.meaning cx.now).ty ty) out.new.items) }
     ensures meets { OnOk result (Meets (I.meaning cx.now) ⟦<GenericArgKind<I::Key> as PartialEq>⟧.eq
         visited.old.keys visited.new.keys out.new.items) }
 {
-    let kind = cx.ty_kind(ty);
+    let kind = cx.ty_kind(&ty);
     match &kind {
         TyKind::Param(param) => add::<I>(out, Component::Param(*param)),
         TyKind::Placeholder(placeholder) => add::<I>(out, Component::Placeholder(*placeholder)),
         TyKind::Infer(var) => add::<I>(out, Component::UnresolvedInferenceVariable(*var)),
-        TyKind::Alias(alias) if has_escaping_bound_vars(cx, ty) => collect_escaping(cx, alias, out),
+        TyKind::Alias(alias) if has_escaping_bound_vars(cx, &ty) => collect_escaping(
+            cx, alias, out,
+        ),
         TyKind::Alias(alias) => add::<I>(out, Component::Alias(*alias)),
         _ => collect_members(cx, &ty_parts(&kind), &form_chosen(&kind), out, visited),
     }

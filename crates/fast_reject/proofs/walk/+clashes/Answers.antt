@@ -1,4 +1,4 @@
-use Rattle.std.proofs.Common.{rules, ◌≡◌, ◌⊎◌, ◌↔◌, ◌<◌, ◌+◌, ◌*◌, ◌-◌, suc, false, IsTrue, sym, ap, ◌∙◌, subst, subst₂, refl, arith}
+use Rattle.std.proofs.Common.{rules, ◌≡◌, ◌≢◌, ◌⊎◌, ◌↔◌, ◌<◌, ◌+◌, ◌*◌, ◌-◌, suc, false, IsTrue, sym, ap, ◌∙◌, subst, subst₂, refl, arith}
 use Rattle.relation_terms.specs.Trees.{known, size, count, nth, list_tree}
 use Rattle.relation_terms.specs.Meaning.{arg_tree}
 use Rattle.relation_terms.specs.Parts.{tree_sort}
@@ -19,40 +19,52 @@ use Rattle.fast_reject.proofs.walk.+clashes.Goals as goal
 pub types_may_unify-returns-then-eq : goal.types_may_unify-returns-then-eq
 types_may_unify-returns-then-eq g t c =
     let m = g.I.Interner.meaning c.args.cx.now in
-    let one : m.ty c.args.lhs.now ≡ m.ty c.args.rhs.now =
-    (g.met.I.Interner.same_ty c.args.cx.now c.args.lhs.now c.args.rhs.now c.requires.lhs_known c.requires.rhs_known).0
+    let one : m.ty c.args.lhs ≡ m.ty c.args.rhs =
+    (g.met.I.Interner.same_ty c.args.cx.now c.args.lhs c.args.rhs c.requires.lhs_known c.requires.rhs_known).0
     (let i = c.if-eq.true in let h = c.eq.ensures in let k = c.if-eq.ensures in search rules) in
     passes (λ k. no_clash k one)
 
-pub types_may_unify-returns-in-Some : goal.types_may_unify-returns-in-Some
-types_may_unify-returns-in-Some g t c =
+pub types_may_unify-unlike_may_unify-requires : goal.types_may_unify-unlike_may_unify-requires
+types_may_unify-unlike_may_unify-requires g t' c κs within =
     let m = g.I.Interner.meaning c.args.cx.now in
-    let a = m.ty c.args.lhs.now in
-    let b = m.ty c.args.rhs.now in
-    let ta = type_term a ((g.met.I.Interner.sorted c.args.cx.now).ty c.args.lhs.now c.requires.lhs_known) in
-    let tb = type_term b ((g.met.I.Interner.sorted c.args.cx.now).ty c.args.rhs.now c.requires.rhs_known) in
+    let d = c.decreases in
+    let small : 3 * size (m.ty c.args.lhs) < 3 * size (m.ty c.args.lhs) + 1 = omega arith in
+    let differ : m.ty c.args.lhs ≢ m.ty c.args.rhs = (λ one.
+    (let i = c.if-eq.false in let h = c.eq.ensures in let k = c.if-eq.ensures in
+    let l = (g.met.I.Interner.same_ty c.args.cx.now c.args.lhs c.args.rhs c.requires.lhs_known c.requires.rhs_known).1 one in
+    search rules)) in
+    search rules
+
+-- Types that differ.
+pub unlike_may_unify-returns-in-Some : goal.unlike_may_unify-returns-in-Some
+unlike_may_unify-returns-in-Some g t c =
+    let m = g.I.Interner.meaning c.args.cx.now in
+    let a = m.ty c.args.lhs in
+    let b = m.ty c.args.rhs in
+    let ta = type_term a ((g.met.I.Interner.sorted c.args.cx.now).ty c.args.lhs c.requires.lhs_known) in
+    let tb = type_term b ((g.met.I.Interner.sorted c.args.cx.now).ty c.args.rhs c.requires.rhs_known) in
     let e = ap (λ x. stands c.args.sides.right x a) c.ty_kind-right.ensures ∙ sym c.may_stand_for.ensures ∙ c.in-Some.is in
     let s = some_stands c.args.sides.right b a c.in-Some.may e in
     right_decides c.args.sides.left c.args.sides.right c.args.depth a b ta tb c.in-Some.may (s.0) (s.1)
 
-pub types_may_unify-returns-then-depth-eq0 : goal.types_may_unify-returns-then-depth-eq0
-types_may_unify-returns-then-depth-eq0 g t c =
+pub unlike_may_unify-returns-then-depth-eq0 : goal.unlike_may_unify-returns-then-depth-eq0
+unlike_may_unify-returns-then-depth-eq0 g t c =
     let m = g.I.Interner.meaning c.args.cx.now in
-    let a = m.ty c.args.lhs.now in
-    let b = m.ty c.args.rhs.now in
-    let ta = type_term a ((g.met.I.Interner.sorted c.args.cx.now).ty c.args.lhs.now c.requires.lhs_known) in
-    let tb = type_term b ((g.met.I.Interner.sorted c.args.cx.now).ty c.args.rhs.now c.requires.rhs_known) in
+    let a = m.ty c.args.lhs in
+    let b = m.ty c.args.rhs in
+    let ta = type_term a ((g.met.I.Interner.sorted c.args.cx.now).ty c.args.lhs c.requires.lhs_known) in
+    let tb = type_term b ((g.met.I.Interner.sorted c.args.cx.now).ty c.args.rhs c.requires.rhs_known) in
     let f = none_stands c.args.sides.right b a c.may_stand_for.result
     (c.may_stand_for.ensures ∙ ap (λ x. stands c.args.sides.right x a) (sym c.ty_kind-right.ensures)) c.in_default.not-Some in
     passes (no_depth c.args.sides.left c.args.sides.right c.args.depth a b ta tb f c.if-depth-eq0.true)
 
-pub types_may_unify-returns-in-Some-may_stand_for : goal.types_may_unify-returns-in-Some-may_stand_for
-types_may_unify-returns-in-Some-may_stand_for g t c =
+pub unlike_may_unify-returns-in-Some-may_stand_for : goal.unlike_may_unify-returns-in-Some-may_stand_for
+unlike_may_unify-returns-in-Some-may_stand_for g t c =
     let m = g.I.Interner.meaning c.args.cx.now in
-    let a = m.ty c.args.lhs.now in
-    let b = m.ty c.args.rhs.now in
-    let ta = type_term a ((g.met.I.Interner.sorted c.args.cx.now).ty c.args.lhs.now c.requires.lhs_known) in
-    let tb = type_term b ((g.met.I.Interner.sorted c.args.cx.now).ty c.args.rhs.now c.requires.rhs_known) in
+    let a = m.ty c.args.lhs in
+    let b = m.ty c.args.rhs in
+    let ta = type_term a ((g.met.I.Interner.sorted c.args.cx.now).ty c.args.lhs c.requires.lhs_known) in
+    let tb = type_term b ((g.met.I.Interner.sorted c.args.cx.now).ty c.args.rhs c.requires.rhs_known) in
     let f = none_stands c.args.sides.right b a c.may_stand_for.result
     (c.may_stand_for.ensures ∙ ap (λ x. stands c.args.sides.right x a) (sym c.ty_kind-right.ensures)) c.in_default.not-Some in
     let n = c.if-depth-eq0.false in
@@ -63,37 +75,33 @@ types_may_unify-returns-in-Some-may_stand_for g t c =
     left_decides c.args.sides.left c.args.sides.right c.args.depth a b ta tb (c.args.depth - 1)
     c.in-Some-may_stand_for.may z f (s.0) (s.1)
 
-pub types_may_unify-paired-requires-clause-differ : goal.types_may_unify-paired-requires-clause-differ
-types_may_unify-paired-requires-clause-differ g t c = λ e.
-    let m = g.I.Interner.meaning c.args.cx.now in
-    let one : m.ty c.args.lhs.now ≡ m.ty c.args.rhs.now = c.ty_kind-left.ensures ∙ e ∙ sym c.ty_kind-right.ensures in
-    (let i = c.if-eq.false in let h = c.eq.ensures in let k = c.if-eq.ensures in
-    let l = (g.met.I.Interner.same_ty c.args.cx.now c.args.lhs.now c.args.rhs.now c.requires.lhs_known
-    c.requires.rhs_known).1 one in search rules)
+pub unlike_may_unify-paired-requires-clause-differ : goal.unlike_may_unify-paired-requires-clause-differ
+unlike_may_unify-paired-requires-clause-differ g t c =
+    λ e. c.requires.differ (c.ty_kind-left.ensures ∙ e ∙ sym c.ty_kind-right.ensures)
 
-pub types_may_unify-pair_may_unify-requires : goal.types_may_unify-pair_may_unify-requires
-types_may_unify-pair_may_unify-requires g t' c κs within =
+pub unlike_may_unify-pair_may_unify-requires : goal.unlike_may_unify-pair_may_unify-requires
+unlike_may_unify-pair_may_unify-requires g t' c κs within =
     let m = g.I.Interner.meaning c.args.cx.now in
-    let a = m.ty c.args.lhs.now in
-    let b = m.ty c.args.rhs.now in
+    let a = m.ty c.args.lhs in
+    let b = m.ty c.args.rhs in
     let p = c.paired.result in
     let pairs : Pairs m a b p =
     subst₂ (λ x y. Pairs m x y p) (sym c.ty_kind-left.ensures) (sym c.ty_kind-right.ensures) c.paired.ensures in
     let d = c.decreases in
     let less = pair_small m a b p pairs in
-    let small : 3 * pair_size m p + 2 < 3 * size a + 1 = omega (arith, less) in
+    let small : 3 * pair_size m p + 2 < 3 * size a = omega (arith, less) in
     let k = pair_known m a b p pairs in
     search rules
 
-pub types_may_unify-returns : goal.types_may_unify-returns
-types_may_unify-returns g t c =
+pub unlike_may_unify-returns : goal.unlike_may_unify-returns
+unlike_may_unify-returns g t c =
     let m = g.I.Interner.meaning c.args.cx.now in
     let l = c.args.sides.left in
     let r = c.args.sides.right in
-    let a = m.ty c.args.lhs.now in
-    let b = m.ty c.args.rhs.now in
-    let ta = type_term a ((g.met.I.Interner.sorted c.args.cx.now).ty c.args.lhs.now c.requires.lhs_known) in
-    let tb = type_term b ((g.met.I.Interner.sorted c.args.cx.now).ty c.args.rhs.now c.requires.rhs_known) in
+    let a = m.ty c.args.lhs in
+    let b = m.ty c.args.rhs in
+    let ta = type_term a ((g.met.I.Interner.sorted c.args.cx.now).ty c.args.lhs c.requires.lhs_known) in
+    let tb = type_term b ((g.met.I.Interner.sorted c.args.cx.now).ty c.args.rhs c.requires.rhs_known) in
     let f = none_stands r b a c.may_stand_for.result
     (c.may_stand_for.ensures ∙ ap (λ x. stands r x a) (sym c.ty_kind-right.ensures)) c.in_default.not-Some in
     let h = none_stands l a b c.may_stand_for-2.result

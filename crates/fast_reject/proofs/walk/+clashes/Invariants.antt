@@ -7,7 +7,10 @@ use Rattle.relation_folds.proofs.Visiting.{rest}
 use Rattle.fast_reject.proofs.walk.+clashes.Given as goal
 
 abbrev pub decreases-types_may_unify : goal.decreases-types_may_unify
-decreases-types_may_unify g l = 3 * size ((g.I.Interner.meaning l.cx.now).ty l.lhs.now) + 1
+decreases-types_may_unify g l = 3 * size ((g.I.Interner.meaning l.cx.now).ty l.lhs) + 1
+
+abbrev pub decreases-unlike_may_unify : goal.decreases-unlike_may_unify
+decreases-unlike_may_unify g l = 3 * size ((g.I.Interner.meaning l.cx.now).ty l.lhs)
 
 abbrev pub decreases-pair_may_unify : goal.decreases-pair_may_unify
 decreases-pair_may_unify g l = 3 * pair_size (g.I.Interner.meaning l.cx.now) l.pair + 2

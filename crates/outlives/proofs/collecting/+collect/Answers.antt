@@ -420,12 +420,12 @@ collect_part-returns-else-not-first g t' c =
 pub collect_type-returns-in_err-first-clause-some : goal.collect_type-returns-in_err-first-clause-some
 collect_type-returns-in_err-first-clause-some g t' c =
     let m = g.I.Interner.meaning c.args.cx.now in
-    adds_none m (components every (m.ty c.args.ty.now)) c.args.out.now.items
+    adds_none m (components every (m.ty c.args.ty)) c.args.out.now.items
 
 pub collect_type-returns-then-not-first-clause-some : goal.collect_type-returns-then-not-first-clause-some
 collect_type-returns-then-not-first-clause-some g t' c =
     let m = g.I.Interner.meaning c.args.cx.now in
-    adds_none m (components every (m.ty c.args.ty.now)) c.args.out.now.items
+    adds_none m (components every (m.ty c.args.ty)) c.args.out.now.items
 
 pub collect_type-returns-then-not-first-clause-all : goal.collect_type-returns-then-not-first-clause-all
 collect_type-returns-then-not-first-clause-all g t' c =
@@ -437,8 +437,8 @@ collect_type-returns-then-not-first-clause-all g t' c =
     let same = arg_same m g.I.Key.PartialEq.eq eq (λ a b. refl) (λ a b. refl) (λ a b. refl) (λ a b. refl)
     (λ a b. refl) (λ a b. refl) (λ a b. refl) (λ a b. refl) (λ a b. refl) (laws.same_region a) (laws.same_ty a)
     (laws.same_const a) sorted in
-    let p = TyPart c.args.ty.now in
-    let w = m.ty c.args.ty.now in
+    let p = TyPart c.args.ty in
+    let w = m.ty c.args.ty in
     let kept = c.in_ok-first.ensures in
     let b = c.in_ok-first.first in
     let xs = c.args.visited.now.keys in
@@ -457,8 +457,8 @@ collect_type-returns-then-not-first-clause-meets g t' c =
     let same = arg_same m g.I.Key.PartialEq.eq eq (λ a b. refl) (λ a b. refl) (λ a b. refl) (λ a b. refl)
     (λ a b. refl) (λ a b. refl) (λ a b. refl) (λ a b. refl) (λ a b. refl) (laws.same_region a) (laws.same_ty a)
     (laws.same_const a) sorted in
-    let p = TyPart c.args.ty.now in
-    let w = m.ty c.args.ty.now in
+    let p = TyPart c.args.ty in
+    let w = m.ty c.args.ty in
     let kept = c.in_ok-first.ensures in
     let b = c.in_ok-first.first in
     let xs = c.args.visited.now.keys in
@@ -477,8 +477,8 @@ collect_type-collect_ty-requires g t' c κs within =
     let same = arg_same m g.I.Key.PartialEq.eq eq (λ a b. refl) (λ a b. refl) (λ a b. refl) (λ a b. refl)
     (λ a b. refl) (λ a b. refl) (λ a b. refl) (λ a b. refl) (λ a b. refl) (laws.same_region a) (laws.same_ty a)
     (laws.same_const a) sorted in
-    let p = TyPart c.args.ty.now in
-    let w = m.ty c.args.ty.now in
+    let p = TyPart c.args.ty in
+    let w = m.ty c.args.ty in
     let kept = c.in_ok-first.ensures in
     let b = c.in_ok-first.first in
     let xs = c.args.visited.now.keys in
@@ -500,8 +500,8 @@ collect_type-returns-clause-meets g t' c =
     let same = arg_same m g.I.Key.PartialEq.eq eq (λ a b. refl) (λ a b. refl) (λ a b. refl) (λ a b. refl)
     (λ a b. refl) (λ a b. refl) (λ a b. refl) (λ a b. refl) (λ a b. refl) (laws.same_region a) (laws.same_ty a)
     (laws.same_const a) sorted in
-    let p = TyPart c.args.ty.now in
-    let w = m.ty c.args.ty.now in
+    let p = TyPart c.args.ty in
+    let w = m.ty c.args.ty in
     let kept = c.in_ok-first.ensures in
     let b = c.in_ok-first.first in
     let xs = c.args.visited.now.keys in
@@ -516,7 +516,7 @@ pub collect_tys-loop-ty-init : goal.collect_tys-loop-ty-init
 collect_tys-loop-ty-init g t' c =
     let m = g.I.Interner.meaning c.args.cx.now in
     let eq = (ghosts g.row.I-Key g.I.Key.PartialEq g.I.Key.PartialEq-dict).eq in
-    let ts = m.tys c.args.tys.now in
+    let ts = m.tys c.args.tys in
     record {
       adds = adds_none m (components every ts) c.args.out.now.items;
       has = λ k l. absurd (omega (arith, l));
@@ -527,7 +527,7 @@ pub collect_tys-collect_type-requires : goal.collect_tys-collect_type-requires
 collect_tys-collect_type-requires g t' c κs within =
     let m = g.I.Interner.meaning c.args.cx.now in
     let eq = (ghosts g.row.I-Key g.I.Key.PartialEq g.I.Key.PartialEq-dict).eq in
-    let ts = m.tys c.args.tys.now in
+    let ts = m.tys c.args.tys in
     let list = c.tys-ty-items.result.now in
     let said = c.tys-ty-items.ensures in
     let counts = slice_counts m.ty list ts said in
@@ -551,7 +551,7 @@ pub collect_tys-returns-in_err-collect_type-clause-some : goal.collect_tys-retur
 collect_tys-returns-in_err-collect_type-clause-some g t' c =
     let m = g.I.Interner.meaning c.args.cx.now in
     let eq = (ghosts g.row.I-Key g.I.Key.PartialEq g.I.Key.PartialEq-dict).eq in
-    let ts = m.tys c.args.tys.now in
+    let ts = m.tys c.args.tys in
     let list = c.tys-ty-items.result.now in
     let said = c.tys-ty-items.ensures in
     let counts = slice_counts m.ty list ts said in
@@ -571,7 +571,7 @@ pub collect_tys-loop-ty-preserved : goal.collect_tys-loop-ty-preserved
 collect_tys-loop-ty-preserved g t' c =
     let m = g.I.Interner.meaning c.args.cx.now in
     let eq = (ghosts g.row.I-Key g.I.Key.PartialEq g.I.Key.PartialEq-dict).eq in
-    let ts = m.tys c.args.tys.now in
+    let ts = m.tys c.args.tys in
     let list = c.tys-ty-items.result.now in
     let said = c.tys-ty-items.ensures in
     let counts = slice_counts m.ty list ts said in
@@ -603,7 +603,7 @@ pub collect_tys-returns-clause-all : goal.collect_tys-returns-clause-all
 collect_tys-returns-clause-all g t' c =
     let m = g.I.Interner.meaning c.args.cx.now in
     let eq = (ghosts g.row.I-Key g.I.Key.PartialEq g.I.Key.PartialEq-dict).eq in
-    let ts = m.tys c.args.tys.now in
+    let ts = m.tys c.args.tys in
     let list = c.tys-ty-items.result.now in
     let said = c.tys-ty-items.ensures in
     let counts = slice_counts m.ty list ts said in
@@ -619,7 +619,7 @@ collect_tys-returns-clause-meets g t' c = c.loop-ty.invariant.meets
 pub collect_form-returns-in-Param-clause-some : goal.collect_form-returns-in-Param-clause-some
 collect_form-returns-in-Param-clause-some g t' c =
     let m = g.I.Interner.meaning c.args.cx.now in
-    let w = m.ty c.args.ty.now in
+    let w = m.ty c.args.ty in
     let x = c.in-Param.param in
     let e : w ≡ kind_tree m (ParamForm x) = c.ty_kind-kind.ensures ∙ ap (kind_tree m) c.in-Param.is in
     let is : components every w ≡ w ∷ [] = subst (λ z. components every z ≡ z ∷ []) (sym e) (refl) in
@@ -629,7 +629,7 @@ collect_form-returns-in-Param-clause-some g t' c =
 pub collect_form-returns-in-Param-clause-all : goal.collect_form-returns-in-Param-clause-all
 collect_form-returns-in-Param-clause-all g t' c =
     let m = g.I.Interner.meaning c.args.cx.now in
-    let w = m.ty c.args.ty.now in
+    let w = m.ty c.args.ty in
     let x = c.in-Param.param in
     let e : w ≡ kind_tree m (ParamForm x) = c.ty_kind-kind.ensures ∙ ap (kind_tree m) c.in-Param.is in
     let is : components every w ≡ w ∷ [] = subst (λ z. components every z ≡ z ∷ []) (sym e) (refl) in
@@ -646,7 +646,7 @@ collect_form-returns-in-Param-clause-meets g t' c =
 pub collect_form-returns-in-Placeholder-clause-some : goal.collect_form-returns-in-Placeholder-clause-some
 collect_form-returns-in-Placeholder-clause-some g t' c =
     let m = g.I.Interner.meaning c.args.cx.now in
-    let w = m.ty c.args.ty.now in
+    let w = m.ty c.args.ty in
     let x = c.in-Placeholder.placeholder in
     let e : w ≡ kind_tree m (PlaceholderForm x) = c.ty_kind-kind.ensures ∙ ap (kind_tree m) c.in-Placeholder.is in
     let is : components every w ≡ w ∷ [] = subst (λ z. components every z ≡ z ∷ []) (sym e) (refl) in
@@ -656,7 +656,7 @@ collect_form-returns-in-Placeholder-clause-some g t' c =
 pub collect_form-returns-in-Placeholder-clause-all : goal.collect_form-returns-in-Placeholder-clause-all
 collect_form-returns-in-Placeholder-clause-all g t' c =
     let m = g.I.Interner.meaning c.args.cx.now in
-    let w = m.ty c.args.ty.now in
+    let w = m.ty c.args.ty in
     let x = c.in-Placeholder.placeholder in
     let e : w ≡ kind_tree m (PlaceholderForm x) = c.ty_kind-kind.ensures ∙ ap (kind_tree m) c.in-Placeholder.is in
     let is : components every w ≡ w ∷ [] = subst (λ z. components every z ≡ z ∷ []) (sym e) (refl) in
@@ -673,7 +673,7 @@ collect_form-returns-in-Placeholder-clause-meets g t' c =
 pub collect_form-returns-in-Infer-clause-some : goal.collect_form-returns-in-Infer-clause-some
 collect_form-returns-in-Infer-clause-some g t' c =
     let m = g.I.Interner.meaning c.args.cx.now in
-    let w = m.ty c.args.ty.now in
+    let w = m.ty c.args.ty in
     let x = c.in-Infer.var in
     let e : w ≡ kind_tree m (InferForm x) = c.ty_kind-kind.ensures ∙ ap (kind_tree m) c.in-Infer.is in
     let is : components every w ≡ w ∷ [] = subst (λ z. components every z ≡ z ∷ []) (sym e) (infer_is x) in
@@ -683,7 +683,7 @@ collect_form-returns-in-Infer-clause-some g t' c =
 pub collect_form-returns-in-Infer-clause-all : goal.collect_form-returns-in-Infer-clause-all
 collect_form-returns-in-Infer-clause-all g t' c =
     let m = g.I.Interner.meaning c.args.cx.now in
-    let w = m.ty c.args.ty.now in
+    let w = m.ty c.args.ty in
     let x = c.in-Infer.var in
     let e : w ≡ kind_tree m (InferForm x) = c.ty_kind-kind.ensures ∙ ap (kind_tree m) c.in-Infer.is in
     let is : components every w ≡ w ∷ [] = subst (λ z. components every z ≡ z ∷ []) (sym e) (infer_is x) in
@@ -700,7 +700,7 @@ collect_form-returns-in-Infer-clause-meets g t' c =
 pub collect_form-collect_escaping-requires : goal.collect_form-collect_escaping-requires
 collect_form-collect_escaping-requires g t' c κs within =
     let m = g.I.Interner.meaning c.args.cx.now in
-    let w = m.ty c.args.ty.now in
+    let w = m.ty c.args.ty in
     let x = c.in-Alias.alias in
     let e : w ≡ kind_tree m (AliasForm x) = c.ty_kind-kind.ensures ∙ ap (kind_tree m) c.in-Alias.is in
     let ts = m.args x.args in
@@ -715,7 +715,7 @@ collect_form-collect_escaping-requires g t' c κs within =
 pub collect_form-returns-in-Alias-clause-some : goal.collect_form-returns-in-Alias-clause-some
 collect_form-returns-in-Alias-clause-some g t' c =
     let m = g.I.Interner.meaning c.args.cx.now in
-    let w = m.ty c.args.ty.now in
+    let w = m.ty c.args.ty in
     let x = c.in-Alias.alias in
     let e : w ≡ kind_tree m (AliasForm x) = c.ty_kind-kind.ensures ∙ ap (kind_tree m) c.in-Alias.is in
     adds_as m _ _ _ _ (sym (ap (components every) e)) c.collect_escaping.ensures.some
@@ -723,7 +723,7 @@ collect_form-returns-in-Alias-clause-some g t' c =
 pub collect_form-returns-in-Alias-clause-all : goal.collect_form-returns-in-Alias-clause-all
 collect_form-returns-in-Alias-clause-all g t' c =
     let m = g.I.Interner.meaning c.args.cx.now in
-    let w = m.ty c.args.ty.now in
+    let w = m.ty c.args.ty in
     let x = c.in-Alias.alias in
     let e : w ≡ kind_tree m (AliasForm x) = c.ty_kind-kind.ensures ∙ ap (kind_tree m) c.in-Alias.is in
     subst (λ z. OnOk c.collect_escaping.result (HasAll m z c.collect_escaping.new.out.items))
@@ -739,7 +739,7 @@ collect_form-returns-in-Alias-clause-meets g t' c =
 pub collect_form-returns-in-Alias-2-clause-some : goal.collect_form-returns-in-Alias-2-clause-some
 collect_form-returns-in-Alias-2-clause-some g t' c =
     let m = g.I.Interner.meaning c.args.cx.now in
-    let w = m.ty c.args.ty.now in
+    let w = m.ty c.args.ty in
     let x = c.in-Alias-2.alias in
     let e : w ≡ kind_tree m (AliasForm x) = c.ty_kind-kind.ensures ∙ ap (kind_tree m) c.in-Alias-2.is in
     let is : components every w ≡ w ∷ [] = subst (λ z. components every z ≡ z ∷ []) (sym e) refl in
@@ -750,7 +750,7 @@ collect_form-returns-in-Alias-2-clause-some g t' c =
 pub collect_form-returns-in-Alias-2-clause-all : goal.collect_form-returns-in-Alias-2-clause-all
 collect_form-returns-in-Alias-2-clause-all g t' c =
     let m = g.I.Interner.meaning c.args.cx.now in
-    let w = m.ty c.args.ty.now in
+    let w = m.ty c.args.ty in
     let x = c.in-Alias-2.alias in
     let e : w ≡ kind_tree m (AliasForm x) = c.ty_kind-kind.ensures ∙ ap (kind_tree m) c.in-Alias-2.is in
     let is : components every w ≡ w ∷ [] = subst (λ z. components every z ≡ z ∷ []) (sym e) refl in
@@ -766,7 +766,7 @@ collect_form-returns-in-Alias-2-clause-meets g t' c =
 
 pub collect_ty-collect_form-requires : goal.collect_ty-collect_form-requires
 collect_ty-collect_form-requires g t' c κs within =
-    let w = (g.I.Interner.meaning c.args.cx.now).ty c.args.ty.now in
+    let w = (g.I.Interner.meaning c.args.cx.now).ty c.args.ty in
     let d = c.decreases in
     let small : 6 * size w + 2 < 6 * size w + 3 = omega arith in
     search rules
@@ -774,7 +774,7 @@ collect_ty-collect_form-requires g t' c κs within =
 pub collect_ty-returns-in_err-collect_region-in-Ref-clause-some : goal.collect_ty-returns-in_err-collect_region-in-Ref-clause-some
 collect_ty-returns-in_err-collect_region-in-Ref-clause-some g t' c =
     let m = g.I.Interner.meaning c.args.cx.now in
-    let w = m.ty c.args.ty.now in
+    let w = m.ty c.args.ty in
     let x = c.in-Ref in
     let e : w ≡ kind_tree m (RefForm x.region x.pointee _) = c.ty_kind.ensures ∙ ap (kind_tree m) x.is in
     let rs = components every (m.region x.region) in
@@ -788,7 +788,7 @@ collect_ty-returns-in_err-collect_region-in-Ref-clause-some g t' c =
 pub collect_ty-collect_type-requires-in-Ref : goal.collect_ty-collect_type-requires-in-Ref
 collect_ty-collect_type-requires-in-Ref g t' c κs within =
     let m = g.I.Interner.meaning c.args.cx.now in
-    let w = m.ty c.args.ty.now in
+    let w = m.ty c.args.ty in
     let x = c.in-Ref in
     let e : w ≡ kind_tree m (RefForm x.region x.pointee _) = c.ty_kind.ensures ∙ ap (kind_tree m) x.is in
     let rs = components every (m.region x.region) in
@@ -811,7 +811,7 @@ collect_ty-collect_type-requires-in-Ref g t' c κs within =
 pub collect_ty-returns-in_ok-collect_region-in-Ref-clause-some : goal.collect_ty-returns-in_ok-collect_region-in-Ref-clause-some
 collect_ty-returns-in_ok-collect_region-in-Ref-clause-some g t' c =
     let m = g.I.Interner.meaning c.args.cx.now in
-    let w = m.ty c.args.ty.now in
+    let w = m.ty c.args.ty in
     let x = c.in-Ref in
     let e : w ≡ kind_tree m (RefForm x.region x.pointee _) = c.ty_kind.ensures ∙ ap (kind_tree m) x.is in
     let rs = components every (m.region x.region) in
@@ -827,7 +827,7 @@ collect_ty-returns-in_ok-collect_region-in-Ref-clause-some g t' c =
 pub collect_ty-returns-in_ok-collect_region-in-Ref-clause-all : goal.collect_ty-returns-in_ok-collect_region-in-Ref-clause-all
 collect_ty-returns-in_ok-collect_region-in-Ref-clause-all g t' c =
     let m = g.I.Interner.meaning c.args.cx.now in
-    let w = m.ty c.args.ty.now in
+    let w = m.ty c.args.ty in
     let x = c.in-Ref in
     let e : w ≡ kind_tree m (RefForm x.region x.pointee _) = c.ty_kind.ensures ∙ ap (kind_tree m) x.is in
     let rs = components every (m.region x.region) in
@@ -842,7 +842,7 @@ pub collect_form-collect_members-requires : goal.collect_form-collect_members-re
 collect_form-collect_members-requires g t' c κs within =
     let m = g.I.Interner.meaning c.args.cx.now in
     let eq = (ghosts g.row.I-Key g.I.Key.PartialEq g.I.Key.PartialEq-dict).eq in
-    let w = m.ty c.args.ty.now in
+    let w = m.ty c.args.ty in
     let k' = c.ty_kind-kind.result in
     let ps = c.ty_parts.result in
     let seen : parts_tree m ps ≡ parts_of w = ty_seen m ps w k' c.ty_kind-kind.ensures c.ty_parts.ensures in
@@ -859,7 +859,7 @@ collect_form-collect_members-requires g t' c κs within =
 pub collect_form-returns-in_default : goal.collect_form-returns-in_default
 collect_form-returns-in_default g t' c =
     let m = g.I.Interner.meaning c.args.cx.now in
-    let w = m.ty c.args.ty.now in
+    let w = m.ty c.args.ty in
     let k' = c.ty_kind-kind.result in
     let ps = c.ty_parts.result in
     let seen : parts_tree m ps ≡ parts_of w = ty_seen m ps w k' c.ty_kind-kind.ensures c.ty_parts.ensures in

@@ -12,10 +12,10 @@ abbrev pub decreases-collect_part : goal.decreases-collect_part
 decreases-collect_part g l = 6 * size (part_tree (g.I.Interner.meaning l.cx.now) l.part.now) + 5
 
 abbrev pub decreases-collect_type : goal.decreases-collect_type
-decreases-collect_type g l = 6 * size ((g.I.Interner.meaning l.cx.now).ty l.ty.now) + 4
+decreases-collect_type g l = 6 * size ((g.I.Interner.meaning l.cx.now).ty l.ty) + 4
 
 abbrev pub decreases-collect_tys : goal.decreases-collect_tys
-decreases-collect_tys g l = 6 * size ((g.I.Interner.meaning l.cx.now).tys l.tys.now) + 1
+decreases-collect_tys g l = 6 * size ((g.I.Interner.meaning l.cx.now).tys l.tys) + 1
 
 abbrev pub decreases-collect_members : goal.decreases-collect_members
 decreases-collect_members g l = 6 * size (parts_tree (g.I.Interner.meaning l.cx.now) l.parts.now) + 1
@@ -24,10 +24,10 @@ abbrev pub decreases-collect_member : goal.decreases-collect_member
 decreases-collect_member g l = 6 * size (parts_tree (g.I.Interner.meaning l.cx.now) l.parts.now)
 
 abbrev pub decreases-collect_ty : goal.decreases-collect_ty
-decreases-collect_ty g l = 6 * size ((g.I.Interner.meaning l.cx.now).ty l.ty.now) + 3
+decreases-collect_ty g l = 6 * size ((g.I.Interner.meaning l.cx.now).ty l.ty) + 3
 
 abbrev pub decreases-collect_form : goal.decreases-collect_form
-decreases-collect_form g l = 6 * size ((g.I.Interner.meaning l.cx.now).ty l.ty.now) + 2
+decreases-collect_form g l = 6 * size ((g.I.Interner.meaning l.cx.now).ty l.ty) + 2
 
 abbrev pub decreases-collect_escaping : goal.decreases-collect_escaping
 decreases-collect_escaping g l = 6 * size ((g.I.Interner.meaning l.cx.now).args (l.alias.now).args) + 4

@@ -8,7 +8,7 @@ use Rattle.outlives.proofs.collecting.collect_region.Goals as goal
 pub returns-in_default : goal.returns-in_default
 returns-in_default g c =
     let m = g.I.Interner.meaning c.args.cx.now in
-    let r = c.args.region.now in
+    let r = c.args.region in
     let e = c.region_kind.ensures in
     let is : components every (m.region r) ≡ m.region r ∷ [] =
     ap (components every) e ∙ region_is m c.region_kind.result c.in_default.not-ReBound ∙ ap (λ z. z ∷ []) (sym e) in
