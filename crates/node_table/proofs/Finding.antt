@@ -1,86 +1,71 @@
--- A list in which nodes are found, and one more node.
-use Rattle.std.proofs.Common.{ℕ, ◌<◌, ◌≡◌, ◌⊎◌, Bool, true, false, cond, IsTrue, List, [], ◌∷◌, ◌++◌, length, get_or}
-use Rattle.std.proofs.Common.{Option, Some, None, MatchOption, inl, inr, refl, sym, ◌∙◌, ap, subst, arith, length-append}
-use Rattle.std.proofs.lemmas.Bool.{false≢true, cases_lt}
-use Rattle.std.proofs.lemmas.List.{get_or_append_left}
-use Rattle.std.proofs.Math.Seq.{get_or-append_seam}
+-- What the keys of a set of nodes say of a table of nodes.
+use Rattle.std.proofs.Common.{ℕ, zero, suc, ◌<◌, ◌≡◌, Bool, true, false, List, [], ◌∷◌, ◌++◌, length, get_or, slice_get}
+use Rattle.std.proofs.Common.{Some, if◌then◌else◌, refl, sym, ◌∙◌, ap, arith}
+use Rattle.std.specs.List.{IsDistinct, AllByRecursion, list_any, position}
+use Rattle.std.proofs.lemmas.Bool.{false≢true}
+use Rattle.std.proofs.lemmas.List.Folds.{list_any_at, Any-from_list_any}
+use Rattle.std.proofs.lemmas.Option.{get_or_from_slice_get}
+use Rattle.std.proofs.lemmas.List.Quantifiers.{position-Some}
+use Rattle.std.proofs.lemmas.Map.Keys.{IsDistinct-head, IsDistinct-tail}
 use Rattle.std.specs.Cmp.{IsEquivalence}
-use Rattle.node_table.specs.Finding.{Lacks, HasAt, AllUnequal, Finds, IsTable}
+use Rattle.indexmap.specs.IndexSet.{insert_key}
+use Rattle.node_table.specs.Finding.{Lacks, HasAt, AllUnequal}
 
-module _ {N : Type 0} (eq : N → N → Bool) where
-  -- What is found of a node, by cases.
-  looked_up : (ns : List N) (find : N → Option ℕ) → Finds eq ns find → (q : N) (r : Option ℕ) → r ≡ find q →
-      MatchOption r (Lacks eq ns q) (HasAt eq ns q)
-  looked_up ns find s q None e = (s q).1 (sym e)
-  looked_up ns find s q (Some i) e = (s q).0 i (sym e)
+module _ {N : Type 0} (eq : N → N → Bool) (laws : IsEquivalence eq) where
+  -- A node that is at a place is found.
+  pub is_found : (ns : List N) (n : N) (i : ℕ) → HasAt eq ns n i → list_any (eq n) ns ≡ true
+  is_found ns n i h = list_any_at (eq n) ns i n h.0 (laws.symm n (get_or ns i n) ∙ h.1 n)
 
--- A list and one more node, of which the look-up keeps a copy.
-module _ {N : Type 0} (eq : N → N → Bool) (laws : IsEquivalence eq) (ns : List N) (n copy : N)
-    (same : IsTrue (eq copy n)) where
-  -- The last place or an earlier one.
-  last_or : (i : ℕ) → i < length (ns ++ n ∷ []) → (i < length ns) ⊎ (i ≡ length ns)
-  last_or i h = elim (cases_lt i (length ns)) [
-    | inl p ↦ inl p
-    | inr p ↦ inr (let l = length-append ns (n ∷ []) in omega (arith, l))
-  ]
+  -- A node that is not found is at no place.
+  pub is_lacking : (ns : List N) (n : N) → list_any (eq n) ns ≡ false → Lacks eq ns n
+  is_lacking ns n e k d h p =
+      false≢true (sym e ∙ list_any_at (eq n) ns k d h (laws.symm n (get_or ns k d) ∙ p))
 
-  has_last : (q : N) → eq copy q ≡ true → HasAt eq (ns ++ n ∷ []) q (length ns)
-  has_last q e =
-      let l = length-append ns (n ∷ []) in (
-        omega (arith, l),
-        λ d. ap (λ m. eq m q) (get_or-append_seam ns n [] d) ∙ sym (laws.congr copy n q same) ∙ e,
-      )
+  -- Of a node that is at no place none passes.
+  pub none_passes : (ns : List N) (n : N) → Lacks eq ns n → list_any (eq n) ns ≡ false
+  none_passes ns n a = by (list_any (eq n) ns) refl
+    where
+      by : (b : Bool) → list_any (eq n) ns ≡ b → list_any (eq n) ns ≡ false
+      by false e = e
+      by true e =
+          let found = Any-from_list_any (eq n) ns e in
+          let k = found.0 in
+          let x = found.1 in
+          absurd (a k x found.2 (ap (λ m. eq m n) found.3 ∙ laws.symm x n ∙ found.4))
 
-  still_has : (q : N) (i : ℕ) → HasAt eq ns q i → HasAt eq (ns ++ n ∷ []) q i
-  still_has q i h =
-      let l = length-append ns (n ∷ []) in
-      let p : i < length ns = h.0 in (
-        omega (arith, l, p),
-        λ d. ap (λ m. eq m q) (get_or_append_left ns (n ∷ []) d i p) ∙ h.1 d,
-      )
+  -- A node that is at a place is put nowhere, and one that is at none at the end.
+  pub put_nowhere : (ns : List N) (n : N) (i : ℕ) → HasAt eq ns n i → insert_key eq ns n ≡ ns
+  put_nowhere ns n i h = ap (λ b. if b then ns else ns ++ n ∷ []) (is_found ns n i h)
 
-  still_lacks : (q : N) → eq copy q ≡ false → Lacks eq ns q → Lacks eq (ns ++ n ∷ []) q
-  still_lacks q e a k d h p = elim (last_or k h) [
-    | inl l ↦ a k d l (sym (ap (λ m. eq m q) (get_or_append_left ns (n ∷ []) d k l)) ∙ p)
-    | inr z ↦
-        let last = ap (λ j. eq (get_or (ns ++ n ∷ []) j d) q) z ∙ ap (λ m. eq m q) (get_or-append_seam ns n [] d) in
-        false≢true (sym e ∙ laws.congr copy n q same ∙ sym last ∙ p)
-  ]
+  pub put_last : (ns : List N) (n : N) → Lacks eq ns n → insert_key eq ns n ≡ ns ++ n ∷ []
+  put_last ns n a = ap (λ b. if b then ns else ns ++ n ∷ []) (none_passes ns n a)
 
-  found_case : (q : N) (b : Bool) → eq copy q ≡ b → (r : Option ℕ) → MatchOption r (Lacks eq ns q) (HasAt eq ns q) →
-      MatchOption (cond b (Some (length ns)) r) (Lacks eq (ns ++ n ∷ []) q) (HasAt eq (ns ++ n ∷ []) q)
-  found_case q true e r h = has_last q e
-  found_case q false e (Some i) h = still_has q i h
-  found_case q false e None h = still_lacks q e h
+  -- The place of a node that equals the one there.
+  pub has_equal : (ns : List N) (n k : N) (i : ℕ) → i < length ns → slice_get ns i ≡ Some k → eq n k ≡ true →
+      HasAt eq ns n i
+  has_equal ns n k i h e p =
+      (h, λ d. laws.symm (get_or ns i d) n ∙ ap (eq n) (get_or_from_slice_get ns i k d e) ∙ p)
 
-  finds_more : (g h : N → Option ℕ) → ((q : N) → h q ≡ cond (eq copy q) (Some (length ns)) (g q)) → Finds eq ns g →
-      Finds eq (ns ++ n ∷ []) h
-  finds_more g h put s = λ q.
-      let found = found_case q (eq copy q) refl (g q) (looked_up eq ns g s q (g q) refl) in
-      let is : Option ℕ → Type 0 = λ r. MatchOption r (Lacks eq (ns ++ n ∷ []) q) (HasAt eq (ns ++ n ∷ []) q) in
-      (λ i p. subst is (sym (put q) ∙ p) found, λ p. subst is (sym (put q) ∙ p) found)
+  -- The place that is found.
+  pub has_position : (ns : List N) (n : N) (i : ℕ) → position (eq n) ns ≡ Some i → HasAt eq ns n i
+  has_position ns n i e = (
+    (position-Some (eq n) ns i n e).0,
+    λ d. laws.symm (get_or ns i d) n ∙ (position-Some (eq n) ns i d e).1,
+  )
 
-  -- Nodes at two places are equal only where the places are one.
-  still_unequal : Lacks eq ns n → AllUnequal eq ns → AllUnequal eq (ns ++ n ∷ [])
-  still_unequal new u i j d h l e =
-      let at : ℕ → N = λ x. get_or (ns ++ n ∷ []) x d in
-      let old : (x : ℕ) → x < length ns → at x ≡ get_or ns x d = λ x p. get_or_append_left ns (n ∷ []) d x p in
-      let last : (x : ℕ) → x ≡ length ns → at x ≡ n = λ x p. ap at p ∙ get_or-append_seam ns n [] d in
-      elim (last_or i h) [
-        | inl p ↦ elim (last_or j l) [
-          | inl q ↦ u i j d p q (subst (λ m. IsTrue (eq (get_or ns i d) m)) (old j q) (subst (λ m. IsTrue (eq m (at j))) (old i p) e))
-          | inr q ↦ absurd (new i d p (subst (λ m. IsTrue (eq (get_or ns i d) m)) (last j q) (subst (λ m. IsTrue (eq m (at j))) (old i p) e)))
-        ]
-        | inr p ↦ elim (last_or j l) [
-          | inl q ↦
-              absurd (new j d q (subst (λ m. IsTrue (eq (get_or ns j d) m)) (last i p) (subst (λ m. IsTrue (eq m (at i))) (old j q) (sym (laws.symm (at i) (at j)) ∙ e))))
-          | inr q ↦ p ∙ sym q
-        ]
-      ]
+  differs : (x : N) (ns : List N) (j : ℕ) (d : N) → AllByRecursion (λ y. eq x y ≡ false) ns → j < length ns →
+      eq x (get_or ns j d) ≡ false
+  differs x [] j d a h = absurd (omega arith)
+  differs x (n ∷ ns) zero d a h = a.0
+  differs x (n ∷ ns) (suc j) d a h = differs x ns j d a.1 (omega arith)
 
-  -- The table with the node behind the others.
-  pub one_more : (ms : List N) (g h : N → Option ℕ) → ms ≡ ns ++ n ∷ [] →
-      ((q : N) → h q ≡ cond (eq copy q) (Some (length ns)) (g q)) → Lacks eq ns n → IsTable eq ns g → IsTable eq ms h
-  one_more ms g h e put new t =
-      subst (λ xs. IsTable eq xs h) (sym e)
-      (record { finds = finds_more g h put t.finds; unequal = still_unequal new t.unequal })
+  -- Distinct nodes are unequal.
+  pub all_unequal : (ns : List N) → IsDistinct eq ns → AllUnequal eq ns
+  all_unequal [] s i j d p q e = absurd (omega arith)
+  all_unequal (n ∷ ns) s zero zero d p q e = refl
+  all_unequal (n ∷ ns) s zero (suc j) d p q e =
+      absurd (false≢true (sym (differs n ns j d (IsDistinct-head eq n ns s) (omega arith)) ∙ e))
+  all_unequal (n ∷ ns) s (suc i) zero d p q e =
+      absurd (false≢true (sym (differs n ns i d (IsDistinct-head eq n ns s) (omega arith)) ∙ laws.symm n (get_or ns i d) ∙ e))
+  all_unequal (n ∷ ns) s (suc i) (suc j) d p q e =
+      ap suc (all_unequal ns (IsDistinct-tail eq n ns s) i j d (omega arith) (omega arith) e)

@@ -1,5 +1,5 @@
 -- How nodes are found, by an equality of nodes.
-use Rattle.std.specs.Prelude.{ℕ, ◌≡◌, ◌<◌, Bool, IsTrue, length, List, slice_index_or, Option, Some, None}
+use Rattle.std.specs.Prelude.{ℕ, ◌≡◌, ◌<◌, Bool, IsTrue, length, List, slice_index_or}
 
 module _ {N : Type 0} (eq : N → N → Bool) where
   -- No node of the list equals the node.
@@ -14,12 +14,3 @@ module _ {N : Type 0} (eq : N → N → Bool) where
   abbrev pub AllUnequal : List N → Type 0
   AllUnequal ns = (i j : ℕ) (d : N) → i < length ns → j < length ns →
       IsTrue (eq (slice_index_or ns i d) (slice_index_or ns j d)) → i ≡ j
-
-  -- What is found of each node is where one that equals it stands in the list, and nothing where there is none.
-  abbrev pub Finds : List N → (N → Option ℕ) → Type 0
-  Finds ns find = (n : N) → ((i : ℕ) → find n ≡ Some i → HasAt ns n i) × (find n ≡ None → Lacks ns n)
-
-  -- The list has each node once, and the look-up finds them.
-  pub record IsTable (ns : List N) (find : N → Option ℕ) : Type 0 where
-    pub finds : Finds ns find
-    pub unequal : AllUnequal ns

@@ -5,8 +5,6 @@
 
 mod numbers;
 mod table;
-mod try_clone;
 
 pub use numbers::next_number;
 pub use table::NodeTable;
-pub use try_clone::TryClone;

@@ -3,49 +3,42 @@ ghost use Rattle.std.specs.Prelude.{◌≡◌, ◌<◌, ◌⊎◌, ℕ, [], ◌�
 ghost use Rattle.std.specs.Prelude.{IfOk, IsOk, OnOk, OnErr};
 ghost use Rattle.node_table.specs.Finding.{Lacks, HasAt, AllUnequal};
 
-use crate::{TryClone, next_number};
+use crate::next_number;
+use indexmap::IndexSet;
 use std::alloc::Global;
-use std::collections::HashMap;
 use std::hash::{BuildHasherDefault, Hash};
 use std::marker::Model;
 use term_enums::OutOfMemory;
 use term_enums::hashing::KeyHasher;
 
-/// Nodes, of which no two are equal. A node is found by a hashed table, in the time of one look-up, however many there
-/// are.
+/// Nodes, of which no two are equal. A node is found by a hashed table of numbers, in the time of one look-up, however
+/// many there are.
 #[derive(Drop)]
 pub struct NodeTable<N: Eq + Hash> {
-    alloc: Global,
     // The nodes, by their numbers.
-    nodes: Vec<N>,
-    // Where the nodes stand.
-    places: HashMap<N, u32, BuildHasherDefault<KeyHasher>>,
+    nodes: IndexSet<N, BuildHasherDefault<KeyHasher>>,
 }
 
 impl<N: Eq + Hash> Model for NodeTable<N> {
-    ghost use Rattle.std.specs.Prelude.{List};
+    ghost use Rattle.std.specs.Prelude.{List, ◌≤◌, ◌^◌, length};
     ghost use Rattle.std.specs.Coded.{coded_list};
-    ghost use Rattle.std.specs.HashMap.{get};
-    ghost use Rattle.node_table.specs.Finding.{IsTable};
 
     ghost Value = { List N };
 
     ghost coded = { coded_list N.code };
 
-    ghost view = { λ t. t.nodes.items };
+    ghost view = { λ t. t.nodes.keys };
 
-    ghost invariant = { λ t. IsTable N.eq t.nodes.items (get N.eq t.places) };
+    ghost invariant = { λ t. length t.nodes.keys ≤ 2 ^ 32 };
 }
 
-impl<N: Eq + Hash + TryClone + Drop> NodeTable<N> {
+impl<N: Eq + Hash + Drop> NodeTable<N> {
     /// A table without nodes. It takes no memory.
     pub fn new(alloc: Global) -> NodeTable<N>
         ensures { result ≡ [] }
     {
         NodeTable {
-            alloc,
-            nodes: Vec::new(alloc),
-            places: HashMap::with_hasher(alloc, BuildHasherDefault::new()),
+            nodes: IndexSet::with_hasher(alloc, BuildHasherDefault::new()),
         }
     }
 
@@ -63,14 +56,15 @@ impl<N: Eq + Hash + TryClone + Drop> NodeTable<N> {
         requires { number < length self.now }
         ensures { result.now ≡ slice_index_or self.now number result.now }
     {
-        &self.nodes[number as usize]
+        &self.nodes.as_slice()[number as usize]
     }
 
     /// The number of the node that equals this one, where there is one.
     pub fn place(&self, node: &N) -> Option<u32>
         ensures { MatchOption result (Lacks N.eq self.now node.now) (HasAt N.eq self.now node.now) }
     {
-        self.places.get(node).copied()
+        let index = self.nodes.get_index_of(node)?;
+        Some(index as u32)
     }
 
     /// The number of the node that equals this one. Where there is none, this one is put at the end.
@@ -83,10 +77,11 @@ impl<N: Eq + Hash + TryClone + Drop> NodeTable<N> {
         ensures added { (self.new ≡ self.old) ⊎ (self.new ≡ self.old ++ node ∷ []) }
         ensures refused { OnErr result (self.new ≡ self.old) }
     {
-        match self.place(&node) {
-            Some(number) => Ok(number),
-            None => self.put(node),
+        if self.nodes.len() > u32::MAX as usize {
+            return self.place(&node).ok_or(OutOfMemory);
         }
+        let (index, _) = self.nodes.insert_full(node)?;
+        Ok(index as u32)
     }
 
     /// The number of a node that equals none. It is put at the end. All growths come before anything is written.
@@ -100,10 +95,7 @@ impl<N: Eq + Hash + TryClone + Drop> NodeTable<N> {
         ensures refused { OnErr result (self.new ≡ self.old) }
     {
         let number = next_number(self.nodes.len())?;
-        let known = node.try_clone(self.alloc)?;
-        self.nodes.reserve(1)?;
-        self.places.insert(known, number)?;
-        self.nodes.push_reserved(node);
+        self.nodes.insert(node)?;
         Ok(number)
     }
 }
