@@ -1,6 +1,6 @@
 -- The members of a list folded one after another, and a form over its folded parts.
 use Rattle.std.proofs.Common.{◌≡◌, ℕ, zero, suc, ◌<◌, refl, sym, ap, ap₂, ◌∙◌, subst, arith}
-use Rattle.std.proofs.Common.{◌&&◌, IsTrue, Bool, List, [], ◌∷◌, ◌++◌, Option, Some, None, option_map}
+use Rattle.std.proofs.Common.{IsTrue, List, [], ◌∷◌, ◌++◌, Option, Some, None, option_map}
 use Rattle.std.proofs.lemmas.Bool.{and_parts}
 use Rattle.relation_terms.specs.Trees.{Tree, leaf, node, bind, nil, cons, known, list_tree, count, nth, IsList}
 use Rattle.relation_terms.specs.Parts.{part_sort, tree_sort, parts_of, over, Fit}
@@ -8,11 +8,8 @@ use Rattle.relation_terms.specs.declared.terms.part_kind.Part.{Part}
 use Rattle.relation_terms.proofs.Members.{known_with_last}
 use Rattle.relation_terms.proofs.Stays.{stays_list, knows_as}
 use Rattle.relation_folds.specs.Folds.{folded, folded_parts, inside, members_tree, FitMembers}
-
-abbrev pub firsts : ℕ → Tree → Tree
-firsts zero t = nil
-firsts (suc i) (cons t ts) = cons t (firsts i ts)
-firsts (suc i) t = nil
+use Rattle.relation_folds.specs.Firsts.{AreFirsts}
+pub use Rattle.relation_folds.specs.Firsts.{firsts}
 
 pub firsts_all : (t : Tree) → IsList t → firsts (count t) t ≡ t
 firsts_all nil h = refl
@@ -32,6 +29,35 @@ fit_next y i (leaf l) xs h a q = absurd (omega arith)
 fit_next y i (node b l) xs h a q = absurd (omega arith)
 fit_next y i (bind ks l) xs h a q = absurd (omega arith)
 fit_next y i nil xs h a q = absurd (omega arith)
+
+-- One more member, as it is.
+same_first : {Key Id : Type 0} (f : Part Key Id → Tree) (y : Part Key Id) (i : ℕ) (ts : Tree) (xs : List (Part Key Id)) →
+    i < count ts → list_tree f xs ≡ firsts i ts → f y ≡ nth i ts → list_tree f (xs ++ y ∷ []) ≡ firsts (suc i) ts
+same_first f y zero (cons t ts) [] h e q = ap (λ z. cons z nil) q
+same_first f y zero (cons t ts) (x ∷ xs) h e q = absurd (cc)
+same_first f y (suc i) (cons t ts) [] h e q = absurd (cc)
+same_first f y (suc i) (cons t ts) (x ∷ xs) h e q =
+    let u : f x ≡ t = cc in
+    let w : list_tree f xs ≡ firsts i ts = cc in
+    ap₂ cons u (same_first f y i ts xs (omega arith) w q)
+same_first f y i (leaf l) xs h e q = absurd (omega arith)
+same_first f y i (node b l) xs h e q = absurd (omega arith)
+same_first f y i (bind ks l) xs h e q = absurd (omega arith)
+same_first f y i nil xs h e q = absurd (omega arith)
+
+pub firsts_none : {Key Id : Type 0} (f : Part Key Id → Tree) (ts : Tree) (xs : List (Part Key Id)) → xs ≡ [] →
+    AreFirsts f 0 ts xs
+firsts_none f ts xs e = subst (λ ys. AreFirsts f 0 ts ys) (sym e) (record { same = refl; sure = refl; fit = tt })
+
+pub firsts_next : {Key Id : Type 0} (f : Part Key Id → Tree) (y : Part Key Id) (i j : ℕ) (ts : Tree)
+    (xs ys : List (Part Key Id)) → AreFirsts f i ts xs → i < count ts → j ≡ suc i → f y ≡ nth i ts →
+    IsTrue (known (f y)) → part_sort y ≡ tree_sort (nth i ts) → ys ≡ xs ++ y ∷ [] → AreFirsts f j ts ys
+firsts_next f y i j ts xs ys a h e q k s r =
+    subst (λ zs. AreFirsts f j ts zs) (sym r) (subst (λ n. AreFirsts f n ts (xs ++ y ∷ [])) (sym e) (record {
+      same = same_first f y i ts xs h a.same q;
+      sure = known_with_last f xs y a.sure k;
+      fit = fit_next y i ts xs h a.fit s;
+    }))
 
 -- The first parts are built.
 pub record Built {Key Id : Type 0} (p : ℕ → Tree → Option Tree) (d : ℕ) (f : Part Key Id → Tree) (i : ℕ) (ts : Tree) (xs : List (Part Key Id))
@@ -74,10 +100,13 @@ module _ {Key Id : Type 0} (p : ℕ → Tree → Option Tree) (d : ℕ) (f g : P
         fit = fit_next y i ts xs h b.fit s;
       }))
 
--- No member is built yet.
-pub built_none : {Key Id : Type 0} (p : ℕ → Tree → Option Tree) (d : ℕ) (f : Part Key Id → Tree) (ts : Tree)
-    (xs : List (Part Key Id)) → xs ≡ [] → Built p d f 0 ts xs
-built_none p d f ts xs e = subst (λ ys. Built p d f 0 ts ys) (sym e) (record { same = refl; sure = refl; fit = tt })
+-- First members that are left as they are are built.
+pub built_firsts : {Key Id : Type 0} (p : ℕ → Tree → Option Tree) (d : ℕ) (f : Part Key Id → Tree) (i : ℕ) (ts u : Tree)
+    (xs : List (Part Key Id)) → AreFirsts f i u xs → u ≡ ts → folded p d (firsts i ts) ≡ firsts i ts →
+    Built p d f i ts xs
+built_firsts p d f i ts u xs a e q =
+    let b : AreFirsts f i ts xs = subst (λ w. AreFirsts f i w xs) e a in
+    record { same = b.same ∙ sym q; sure = b.sure; fit = b.fit }
 
 -- Where the first members were left as they are, and the next is too, so are all these.
 pub left_next : (p : ℕ → Tree → Option Tree) (d : ℕ) (i : ℕ) (ts : Tree) → i < count ts →
@@ -93,13 +122,11 @@ left_next p d i (node g ts) h a b = absurd (omega arith)
 left_next p d i (bind ks t) h a b = absurd (omega arith)
 left_next p d i nil h a b = absurd (omega arith)
 
-pub left_more : (p : ℕ → Tree → Option Tree) (d : ℕ) (a b : Bool) (i j : ℕ) (ts t u : Tree) →
-    (IsTrue a → folded p d (firsts i ts) ≡ firsts i ts) → (IsTrue b → u ≡ t) → u ≡ folded p d (nth i ts) →
-    t ≡ nth i ts → j ≡ suc i → i < count ts → IsTrue (a && b) → folded p d (firsts j ts) ≡ firsts j ts
-left_more p d a b i j ts t u f g q r e h k =
-    let o = and_parts a b k in
-    subst (λ n. folded p d (firsts n ts) ≡ firsts n ts) (sym e)
-    (left_next p d i ts h (f o.0) (sym q ∙ g o.1 ∙ r))
+pub left_more : (p : ℕ → Tree → Option Tree) (d : ℕ) (i j : ℕ) (ts t u : Tree) →
+    folded p d (firsts i ts) ≡ firsts i ts → u ≡ t → u ≡ folded p d (nth i ts) → t ≡ nth i ts → j ≡ suc i →
+    i < count ts → folded p d (firsts j ts) ≡ firsts j ts
+left_more p d i j ts t u f g q r e h =
+    subst (λ n. folded p d (firsts n ts) ≡ firsts n ts) (sym e) (left_next p d i ts h f (sym q ∙ g ∙ r))
 
 -- All members are left as they are.
 pub left_all : (p : ℕ → Tree → Option Tree) (d : ℕ) (i : ℕ) (ts : Tree) → IsList ts → i ≡ count ts →

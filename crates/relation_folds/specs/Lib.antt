@@ -2,6 +2,7 @@ pub mod Faults
 pub mod Visits
 pub mod Folds
 pub mod KeyFolds
+pub mod Firsts
 pub mod Forms
 pub mod Clashes
 pub mod Outlines

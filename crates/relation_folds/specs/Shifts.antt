@@ -6,6 +6,7 @@ use Rattle.std.proofs.lemmas.Bool.{and_parts}
 use Rattle.relation_terms.specs.Heads.{Sort, region_sort, type_sort, const_sort, Kind, region_kind, type_kind}
 use Rattle.relation_terms.specs.Heads.{const_kind, bound_kind, bound}
 use Rattle.relation_terms.specs.Trees.{Tree, leaf, known, list_tree}
+use Rattle.relation_terms.specs.Flags.{outer_exclusive_binder}
 use Rattle.relation_terms.specs.Parts.{tree_sort}
 use Rattle.relation_terms.specs.Meaning.{Meaning, Extends, arg_tree}
 use Rattle.relation_terms.specs.declared.terms.generic_arg.GenericArgKind.{GenericArgKind}
@@ -81,6 +82,12 @@ module _ {Key Id Name : Type 0} {m n : Meaning Key Id Name} (e : Extends m n) wh
   pub opens_stays : (xs : List (GenericArgKind Key)) → IsTrue (known (list_tree (arg_tree m) xs)) → (d : ℕ) (t : Tree) →
       opens (map (arg_tree n) xs) d t ≡ opens (map (arg_tree m) xs) d t
   opens_stays xs k d t = ap (λ ts. opens ts d t) (stays_map (arg_tree m) (arg_tree n) xs (stays_arg e) k)
+
+  -- And so is what is put where it is asked for so many binders alone.
+  pub opened_stays : (xs : List (GenericArgKind Key)) → IsTrue (known (list_tree (arg_tree m) xs)) → (d : ℕ) (t : Tree) →
+      cond (nat_lt d (outer_exclusive_binder t)) (opens (map (arg_tree n) xs) d t) (Some t) ≡
+      cond (nat_lt d (outer_exclusive_binder t)) (opens (map (arg_tree m) xs) d t) (Some t)
+  opened_stays xs k d t = ap (λ o. cond (nat_lt d (outer_exclusive_binder t)) o (Some t)) (opens_stays xs k d t)
 
 module _ {Key Id Name A E : Type 0} (tree : Meaning Key Id Name → A → Tree) (m n : Meaning Key Id Name) where
   -- What is made is the tree as it stands under so many more binders.

@@ -27,7 +27,7 @@ pub use keyed::{
 };
 pub use memory::{Place, place_of};
 pub use shift::shift_vars;
-pub use walk::depth_inside;
+pub use walk::{depth_inside, first_members};
 
 /// What a folder answers at a type, a region or a constant.
 #[derive(Clone, Copy)]

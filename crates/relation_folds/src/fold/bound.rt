@@ -1,13 +1,13 @@
 //! The body of a binder with terms for the variables that the binder binds.
-ghost use Rattle.std.specs.Prelude.{◌≡◌, IsTrue, IfOk, map};
+ghost use Rattle.std.specs.Prelude.{◌≡◌, IsTrue, IfOk, map, nat_lt};
 ghost use Rattle.relation_terms.specs.Trees.{known, list_tree};
 ghost use Rattle.relation_terms.specs.Meaning.{Extends, arg_tree};
-ghost use Rattle.relation_folds.specs.Shifts.{OpensBy, arg_for, the_ty, the_region, the_const};
+ghost use Rattle.relation_folds.specs.Shifts.{OpensBy, ShiftsBy, arg_for, the_ty, the_region, the_const};
 
 use crate::fold::{Fold, TypeFoldable, TypeFolder, shift_vars};
 use relation_terms::terms::{
     BoundVar, Const, ConstKey, ConstKind, DebruijnIndex, GenericArg, GenericArgKind, Interner,
-    OutOfMemory, Region, RegionKey, RegionKind, Ty, TyKey, TyKind,
+    OutOfMemory, Region, RegionKey, RegionKind, Ty, TyKey, TyKind, TypeFlags, region_flags,
 };
 
 /// The body of a binder with the arguments put for the binder's variables, each for the variable at its place of the
@@ -87,25 +87,56 @@ fn const_for<X: Copy>(
     }
 }
 
-// Puts arguments for the variables of the binder around the whole.
+// Whether a variable stands in a term of these flags, under so many binders, that none of them binds.
+fn escapes(flags: &TypeFlags, depth: u128) -> bool
+    ensures { result ≡ nat_lt depth (flags.now).outer_exclusive_binder }
+{
+    depth < flags.outer_exclusive_binder
+}
+
+// What is put under so many binders. Under none it is as it was, and nothing is gone into.
+fn moved_in<I: Interner, T: TypeFoldable<I> + Copy>(
+    cx: &mut I,
+    by: &T,
+    depth: u128,
+) -> Result<T, OutOfMemory>
+    requires known { IsTrue (known (T.tree (I.meaning cx.old) by.now)) }
+    ensures grown { Extends (I.meaning cx.old) (I.meaning cx.new) }
+    ensures sure { IfOk result (λ x. IsTrue (known (T.tree (I.meaning cx.new) x))) }
+    ensures made { ShiftsBy T.tree (I.meaning cx.old) (I.meaning cx.new) depth by.now result }
+{
+    if depth == 0 {
+        return Ok(*by);
+    }
+    shift_vars(cx, by, depth)
+}
+
+// Puts arguments for the variables of the binder around the whole, and keeps each term from which nothing escapes,
+// without going into it.
 #[derive(Clone, Copy)]
 struct BoundVarReplacer<'a, X> {
     args: &'a [GenericArgKind<X>],
 }
 
 impl<'a, I: Interner> TypeFolder<I> for BoundVarReplacer<'a, I::Key> {
-    ghost use Rattle.relation_folds.specs.Shifts.{opens, knows_all, opens_stays};
+    ghost use Rattle.std.specs.Prelude.{Some, cond, nat_lt};
+    ghost use Rattle.relation_terms.specs.Flags.{outer_exclusive_binder};
+    ghost use Rattle.relation_folds.specs.Shifts.{opens, knows_all, opened_stays};
 
     ghost ready = { λ m f. IsTrue (known (list_tree (arg_tree m) f.args.now)) };
 
-    ghost replaces = { λ m f. opens (map (arg_tree m) f.args.now) };
+    ghost replaces = { λ m f d t. let is_open = nat_lt d (outer_exclusive_binder t) in
+        cond is_open (opens (map (arg_tree m) f.args.now) d t) (Some t) };
 
     fn fold_ty(&mut self, cx: &mut I, ty: &Ty<I>, depth: u128) -> Result<Fold<Ty<I>>, OutOfMemory> {
+        if !escapes(&cx.ty_flags(ty), depth) {
+            return Ok(Fold::Replace(*ty));
+        }
         let TyKind::Bound(index, bound) = cx.ty_kind(ty) else {
             return Ok(Fold::Descend);
         };
         match ty_for(self.args, &index, &bound.var, depth) {
-            Some(by) => Ok(Fold::Replace(shift_vars(cx, &by, depth)?)),
+            Some(by) => Ok(Fold::Replace(moved_in(cx, &by, depth)?)),
             None => Ok(Fold::Descend),
         }
     }
@@ -116,11 +147,14 @@ impl<'a, I: Interner> TypeFolder<I> for BoundVarReplacer<'a, I::Key> {
         region: &Region<I>,
         depth: u128,
     ) -> Result<Fold<Region<I>>, OutOfMemory> {
+        if !escapes(&region_flags(cx, region), depth) {
+            return Ok(Fold::Replace(*region));
+        }
         let RegionKind::ReBound(index, bound) = cx.region_kind(region) else {
             return Ok(Fold::Descend);
         };
         match region_for(self.args, &index, &bound.var, depth) {
-            Some(by) => Ok(Fold::Replace(shift_vars(cx, &by, depth)?)),
+            Some(by) => Ok(Fold::Replace(moved_in(cx, &by, depth)?)),
             None => Ok(Fold::Descend),
         }
     }
@@ -131,16 +165,19 @@ impl<'a, I: Interner> TypeFolder<I> for BoundVarReplacer<'a, I::Key> {
         constant: &Const<I>,
         depth: u128,
     ) -> Result<Fold<Const<I>>, OutOfMemory> {
+        if !escapes(&cx.const_flags(constant), depth) {
+            return Ok(Fold::Replace(*constant));
+        }
         let ConstKind::Bound(index, bound) = cx.const_kind(constant) else {
             return Ok(Fold::Descend);
         };
         match const_for(self.args, &index, &bound.var, depth) {
-            Some(by) => Ok(Fold::Replace(shift_vars(cx, &by, depth)?)),
+            Some(by) => Ok(Fold::Replace(moved_in(cx, &by, depth)?)),
             None => Ok(Fold::Descend),
         }
     }
 
     ghost ready_on = { λ m n e f h. knows_all e f.args.now h };
 
-    ghost replaces_on = { λ m n e f h d t. opens_stays e f.args.now h d t };
+    ghost replaces_on = { λ m n e f h d t. opened_stays e f.args.now h d t };
 }

@@ -4,11 +4,12 @@
 //! there are different parts, and at most 32 more.
 //!
 //! The part of a binder stands one binder deeper, and all others as deep as the term that they are parts of.
-ghost use Rattle.std.specs.Prelude.{◌≡◌, IsTrue, IfOk, option_map};
-ghost use Rattle.relation_terms.specs.Trees.{known};
+ghost use Rattle.std.specs.Prelude.{◌≡◌, ◌≤◌, IsTrue, IfOk, option_map};
+ghost use Rattle.relation_terms.specs.Trees.{known, count};
 ghost use Rattle.relation_terms.specs.Parts.{part_tree, parts_tree, part_sort, Alike};
 ghost use Rattle.relation_folds.specs.Folds.{Steps, folded, KnownAnswer, Folds, members_tree, FitMembers, inside_part};
 ghost use Rattle.relation_folds.specs.Folds.{Remembers};
+ghost use Rattle.relation_folds.specs.Firsts.{AreFirsts};
 ghost use Rattle.relation_folds.specs.KeyFolds.{FoldsPart, FoldsPartsOf, FoldsList};
 
 use crate::fold::memory::{Memory, Place, keep, nothing, recall};
@@ -59,6 +60,30 @@ pub fn depth_inside<X: Copy, D: Copy>(part: &Part<X, D>, depth: u128) -> Result<
         Part::Binder(..) => depth.checked_add(1).ok_or(OutOfMemory),
         _ => Ok(depth),
     }
+}
+
+/// A list of the first members of a list of parts, so many. The interner has to know the list of parts, and it has to
+/// have that many.
+///
+/// It is for a walk that makes no list of what the parts become until one becomes another than it was.
+///
+/// Answers `OutOfMemory` where a growth was refused.
+#[inline(never)]
+pub fn first_members<I: Interner>(
+    cx: &I,
+    parts: &PartsOf<I>,
+    amount: usize,
+) -> Result<Vec<PartOf<I>>, OutOfMemory>
+    requires list_known { IsTrue (known (parts_tree (I.meaning cx.now) parts.now)) }
+    requires in_bounds { amount ≤ count (parts_tree (I.meaning cx.now) parts.now) }
+    ensures { IfOk result (λ list.
+        AreFirsts (part_tree (I.meaning cx.now)) amount (parts_tree (I.meaning cx.now) parts.now) list.items) }
+{
+    let mut list = Vec::new(cx.alloc());
+    for i in 0..amount {
+        list.push(member(cx, parts, i))?;
+    }
+    Ok(list)
 }
 
 // What the folder makes of a part that stands under `depth` binders: what it made before, where it has met it there.
@@ -167,14 +192,19 @@ fn fold_members<I: Interner, F: TypeFolder<I>>(
         FitMembers (parts_tree (I.meaning cx.old) parts.now) (option_map (λ list. list.items) r)) }
 {
     let mut made = Vec::new(cx.alloc());
-    let mut same = true;
+    let mut differs = false;
     for i in 0..member_count(cx, parts) {
         let old = member(cx, parts, i);
         let new = fold_met(cx, &old, depth, folder, memory)?;
-        same &= is_same(cx, &new, &old);
-        made.push(new)?;
+        if differs {
+            made.push(new)?;
+        } else if !is_same(cx, &new, &old) {
+            made = first_members(cx, parts, i)?;
+            made.push(new)?;
+            differs = true;
+        }
     }
-    if same { Ok(None) } else { Ok(Some(made)) }
+    if differs { Ok(Some(made)) } else { Ok(None) }
 }
 
 // What the folder makes of a part that stands under `depth` binders.

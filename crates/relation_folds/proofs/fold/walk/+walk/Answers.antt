@@ -1,4 +1,5 @@
-use Rattle.std.proofs.Common.{IfSome, rules, arith, refl, sym, ap, ◌∙◌, ◌≡◌, ◌<◌, ◌+◌, ◌*◌, suc, subst, IsTrue}
+use Rattle.std.proofs.Common.{IfSome, rules, arith, refl, sym, ap, ◌∙◌, ◌≡◌, ◌<◌, ◌≤◌, ◌+◌, ◌*◌, suc, subst, IsTrue}
+use Rattle.std.proofs.lemmas.Bool.{false≢true}
 use Rattle.relation_terms.specs.Trees.{known, size, count, nth, list_tree}
 use Rattle.relation_terms.specs.Parts.{part_tree, parts_tree, parts_of, part_sort, tree_sort, Fit}
 use Rattle.relation_terms.proofs.Stays.{knows_as}
@@ -8,11 +9,14 @@ use Rattle.relation_terms.proofs.Parts.{sort_known, stays_part, stays_parts}
 use Rattle.relation_folds.specs.Folds.{Folds, KnownAnswer, IsMade, folded, folded_parts, inside}
 use Rattle.relation_folds.proofs.Folding.{steps_none, steps_on, steps_grown, folded_later, parts_later, later}
 use Rattle.relation_folds.proofs.Remembering.{place_eq, remembers_on}
-use Rattle.relation_folds.proofs.Members.{built_none, built_next, built_all, left_more, left_all, whole_made}
+use Rattle.relation_folds.proofs.Members.{Built, built_firsts, built_next, built_all, left_more, left_all, whole_made}
 use Rattle.relation_folds.proofs.Members.{whole_left}
 use Rattle.relation_folds.proofs.Members.{some_sure, some_made, some_fits, none_made}
 use Rattle.relation_folds.proofs.Depths.{inside_known}
 use Rattle.relation_folds.proofs.fold.walk.+walk.Goals as goal
+use Rattle.relation_folds.proofs.fold.walk.+walk.Goals.{fold_members-then-differs+in_ok-push}
+use Rattle.relation_folds.proofs.fold.walk.+walk.Goals.{fold_members-else-differs+else-not-is_same}
+use Rattle.relation_folds.proofs.fold.walk.+walk.Goals.{fold_members-else-differs+then-not-is_same+in_ok-made+in_ok-push-2}
 
 pub fold_met-returns-in-Some : goal.fold_met-returns-in-Some
 fold_met-returns-in-Some g t' c =
@@ -206,9 +210,8 @@ fold_members-loop-i-init g t' c =
     record {
       steps = steps_none m c.args.folder.now c.requires.ready;
       remembers = c.requires.remembers;
-      built = built_none (g.F.TypeFolder.replaces m c.args.folder.now) c.args.depth (part_tree m)
-          (parts_tree m c.args.parts.now) c.new-made.result.items c.new-made.ensures.items;
-      left = λ k. refl;
+      built = λ h. absurd (false≢true h);
+      left = λ h. refl;
     }
 
 pub fold_members-member-old-requires : goal.fold_members-member-old-requires
@@ -248,8 +251,8 @@ fold_members-fold_met-requires g t' c κs within =
     let r = s.ready in
     search rules
 
-pub fold_members-is_same-same-requires : goal.fold_members-is_same-same-requires
-fold_members-is_same-same-requires g t' c =
+pub fold_members-is_same-requires : goal.fold_members-is_same-requires
+fold_members-is_same-requires g t' c =
     let n = g.I.Interner.meaning c.loop-i.cx in
     let o = g.I.Interner.meaning c.fold_met.new.cx in
     let x = c.member-old.result in
@@ -265,8 +268,32 @@ pub fold_members-returns-in_err-new-clause-steps : goal.fold_members-returns-in_
 fold_members-returns-in_err-new-clause-steps g t' c =
     steps_on c.loop-i.invariant.steps c.in_err-new.ensures.steps
 
+pub fold_members-first_members-requires : goal.fold_members-first_members-requires
+fold_members-first_members-requires g t' c =
+    let m = g.I.Interner.meaning c.args.cx.now in
+    let o = g.I.Interner.meaning c.fold_met.new.cx in
+    let ps = c.args.parts.now in
+    let ts = parts_tree m ps in
+    let s = steps_on c.loop-i.invariant.steps c.in_ok-new.ensures.steps in
+    let e : parts_tree o ps ≡ ts = stays_parts s.grown ps c.requires.known in
+    let counted = c.member_count-i-end.ensures.counts in
+    let test = c.loop-i-test.true in
+    let below : c.loop-i.i ≤ count ts = omega (arith, counted, test) in
+    record {
+      list_known = knows_as ts (parts_tree o ps) e c.requires.known;
+      in_bounds = subst (λ z. c.loop-i.i ≤ count z) (sym e) below;
+    }
+
 pub fold_members-returns-in_err-push-clause-steps : goal.fold_members-returns-in_err-push-clause-steps
 fold_members-returns-in_err-push-clause-steps g t' c =
+    steps_on c.loop-i.invariant.steps c.in_ok-new.ensures.steps
+
+pub fold_members-returns-in_err-made-clause-steps : goal.fold_members-returns-in_err-made-clause-steps
+fold_members-returns-in_err-made-clause-steps g t' c =
+    steps_on c.loop-i.invariant.steps c.in_ok-new.ensures.steps
+
+pub fold_members-returns-in_err-push-2-clause-steps : goal.fold_members-returns-in_err-push-2-clause-steps
+fold_members-returns-in_err-push-2-clause-steps g t' c =
     steps_on c.loop-i.invariant.steps c.in_ok-new.ensures.steps
 
 pub fold_members-loop-i-preserved : goal.fold_members-loop-i-preserved
@@ -292,19 +319,43 @@ fold_members-loop-i-preserved g t' c =
     let made : part_tree o y ≡ folded p d (nth i ts) = later s d (nth i ts) (part_tree n x) (part_tree o y) at r.made in
     let stay : part_tree o x ≡ part_tree n x = stays_part r.steps.grown x c.member-old.ensures.sure in
     let sorted : Sorted n = g.met.I.Interner.sorted c.loop-i.cx in
-    record {
-      steps = steps_on s r.steps;
-      remembers = r.remembers;
-      built = built_next p d (part_tree n) (part_tree o) (stays_part r.steps.grown) y i (i + 1) ts c.loop-i.made.items _
-          c.loop-i.invariant.built below next made r.sure
-          (r.sort ∙ sym (sort_known n sorted x c.member-old.ensures.sure) ∙ ap tree_sort at)
-          c.in_ok-push.ensures.items;
-      left = λ k. left_more p d c.loop-i.same c.is_same-same.result i (i + 1) ts (part_tree o x) (part_tree o y)
-          c.loop-i.invariant.left (c.is_same-same.ensures).one made (stay ∙ at) next below k;
-    }
+    let sort = r.sort ∙ sym (sort_known n sorted x c.member-old.ensures.sure) ∙ ap tree_sort at in
+    let whole : parts_tree o ps ≡ ts = stays_parts (steps_on s r.steps).grown ps c.requires.known in
+    elim c.if-differs.branch [
+      | fold_members-then-differs+in_ok-push w ↦
+          record {
+            steps = steps_on s r.steps;
+            remembers = r.remembers;
+            built = λ h. subst (λ v. Built p d (part_tree o) (i + 1) ts v.items) (sym w.made-is)
+                (built_next p d (part_tree n) (part_tree o) (stays_part r.steps.grown) y i (i + 1) ts
+                c.loop-i.made.items _ (c.loop-i.invariant.built w.if-differs.true) below next made r.sure sort
+                w.in_ok-push.ensures.items);
+            left = λ h. absurd (false≢true (sym h ∙ w.differs-is ∙ w.if-differs.true));
+          }
+      | fold_members-else-differs+then-not-is_same+in_ok-made+in_ok-push-2 w ↦
+          record {
+            steps = steps_on s r.steps;
+            remembers = r.remembers;
+            built = λ h. subst (λ v. Built p d (part_tree o) (i + 1) ts v.items) (sym w.made-is)
+                (built_next p d (part_tree o) (part_tree o) (λ z k. refl) y i (i + 1) ts w.in_ok-made.made.items _
+                (built_firsts p d (part_tree o) i ts (parts_tree o ps) w.in_ok-made.made.items w.in_ok-made.ensures whole
+                (c.loop-i.invariant.left w.if-differs.false)) below next made r.sure sort
+                w.in_ok-push-2.ensures.items);
+            left = λ h. absurd (false≢true (sym h ∙ w.differs-is));
+          }
+      | fold_members-else-differs+else-not-is_same w ↦
+          record {
+            steps = steps_on s r.steps;
+            remembers = r.remembers;
+            built = λ h. absurd (false≢true (sym w.if-differs.false ∙ sym w.differs-is ∙ h));
+            left = λ h. left_more p d i (i + 1) ts (part_tree o x) (part_tree o y)
+                (c.loop-i.invariant.left w.if-differs.false) (w.is_same.ensures.one w.if-not-is_same.false) made
+                (stay ∙ at) next below;
+          }
+    ]
 
-pub fold_members-returns-then-same : goal.fold_members-returns-then-same
-fold_members-returns-then-same g t' c =
+pub fold_members-returns-else-differs-2 : goal.fold_members-returns-else-differs-2
+fold_members-returns-else-differs-2 g t' c =
     let m = g.I.Interner.meaning c.args.cx.now in
     let ts = parts_tree m c.args.parts.now in
     let p = g.F.TypeFolder.replaces m c.args.folder.now in
@@ -318,12 +369,12 @@ fold_members-returns-then-same g t' c =
       remembers = c.loop-i.invariant.remembers;
       sure = c.requires.known;
       made = left_all p c.args.depth i ts c.member_count-i-end.ensures.is_list all
-          (c.loop-i.invariant.left c.if-same.true);
+          (c.loop-i.invariant.left c.if-differs-2.false);
       fits = tt;
     }
 
-pub fold_members-returns-else-same : goal.fold_members-returns-else-same
-fold_members-returns-else-same g t' c =
+pub fold_members-returns-then-differs-2 : goal.fold_members-returns-then-differs-2
+fold_members-returns-then-differs-2 g t' c =
     let m = g.I.Interner.meaning c.args.cx.now in
     let n = g.I.Interner.meaning c.loop-i.cx in
     let ts = parts_tree m c.args.parts.now in
@@ -334,7 +385,7 @@ fold_members-returns-else-same g t' c =
     let end = (c.loop-i.auto).i-end in
     let all : i ≡ count ts = omega (arith, counted, test, end) in
     let built = built_all p c.args.depth (part_tree n) i ts c.loop-i.made.items c.member_count-i-end.ensures.is_list all
-    c.loop-i.invariant.built in
+    (c.loop-i.invariant.built c.if-differs-2.true) in
     record {
       steps = c.loop-i.invariant.steps;
       remembers = c.loop-i.invariant.remembers;

@@ -1,4 +1,4 @@
-use Rattle.std.proofs.Common.{◌≡◌, ◌+◌, ◌*◌, IsTrue}
+use Rattle.std.proofs.Common.{◌≡◌, ◌+◌, ◌*◌, true, false}
 use Rattle.relation_terms.specs.Trees.{size}
 use Rattle.relation_terms.specs.Parts.{part_tree, parts_tree}
 use Rattle.relation_folds.specs.Folds.{Steps, folded, Remembers}
@@ -27,6 +27,6 @@ invariant-fold_members-loop-i g l =
           (g.I.Interner.meaning l.cx) l.folder;
       remembers : Remembers (g.I.Interner.meaning l.cx) (g.F.TypeFolder.replaces (g.I.Interner.meaning l.cx) l.folder)
           (place_eq g.I.Key.PartialEq.eq) l.memory.made;
-      built : Built p l.depth (part_tree (g.I.Interner.meaning l.cx)) l.i ts l.made.items;
-      left : IsTrue l.same → folded p l.depth (firsts l.i ts) ≡ firsts l.i ts;
+      built : l.differs ≡ true → Built p l.depth (part_tree (g.I.Interner.meaning l.cx)) l.i ts l.made.items;
+      left : l.differs ≡ false → folded p l.depth (firsts l.i ts) ≡ firsts l.i ts;
     }
