@@ -58,7 +58,7 @@ node_same (Region f) (Region g) h = ap (λ x. region_form x) (region_same f g h)
 node_same (Const f) (Const g) h = ap (λ x. const_form x) (const_same f g h)
 node_same (ValTree f) (ValTree g) h = ap (λ x. valtree_form x) (valtree_same f g h)
 node_same (Pat f) (Pat g) h = ap (λ x. pattern_form x) (pattern_same f g h)
-node_same (Args v) (Args w) h = ap (λ x. args_form x) (list_same arg_eq arg_same v.items w.items h)
+node_same (Args v) (Args w) h = ap (λ x. args_form x) (list_same arg_eq arg_same (members_of v) (members_of w) h)
 node_same (Tys v) (Tys w) h = ap (λ x. tys_form x) (list_same ty_eq ty_same (members_of v) (members_of w) h)
 node_same (Branches v) (Branches w) h = ap (λ x. branches_form x) (list_same const_eq const_key_same v.items w.items h)
 node_same (Alternatives v) (Alternatives w) h =
@@ -135,7 +135,8 @@ node_self (ValTree f) (ValTree g) e =
     subst (λ x. IsTrue (node_eq (ValTree f) (ValTree x))) (ap (valtree_in f) e) (valtree_self f)
 node_self (Pat f) (Pat g) e = subst (λ x. IsTrue (node_eq (Pat f) (Pat x))) (ap (pattern_in f) e) (pattern_self f)
 node_self (Args v) (Args w) e =
-    subst (λ x. IsTrue (pointwise arg_eq v.items x)) (ap (args_in v.items) e) (list_self arg_eq arg_self v.items)
+    subst (λ x. IsTrue (pointwise arg_eq (members_of v) x)) (ap (args_in (members_of v)) e)
+    (list_self arg_eq arg_self (members_of v))
 node_self (Tys v) (Tys w) e =
     subst (λ x. IsTrue (pointwise ty_eq (members_of v) x)) (ap (types_in (members_of v)) e)
     (list_self ty_eq (λ x. eqb_self (x.0).0) (members_of v))

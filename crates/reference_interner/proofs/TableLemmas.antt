@@ -271,7 +271,7 @@ pub not_pat : (n : Node) → ((f : PatternKind NodeKey) → n ≡ Pat f → ⊥)
 not_pat (Pat f) u e = u f refl
 not_pat n u e = absurd (cc)
 
-pub not_args : (n : Node) → ((v : Vec (GenericArgKind NodeKey) Global) → n ≡ Args v → ⊥) →
+pub not_args : (n : Node) → ((v : ShortList (GenericArgKind NodeKey)) → n ≡ Args v → ⊥) →
     args_node ≡ form_sort (form_of n) → ⊥
 not_args (Args v) u e = u v refl
 not_args n u e = absurd (cc)

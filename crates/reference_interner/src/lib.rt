@@ -395,7 +395,7 @@ impl Interner for RefInterner {
         ensures there { KeepsArgs (meaning_in self.old) (meaning_in self.new) args.now }
         ensures one_more { node_count self.new ≤ suc (node_count self.old) }
     {
-        let list = copied(self.alloc, args)?;
+        let list = ShortList::of(self.alloc, args)?;
         let number = self.add(Node::Args(list))?;
         Ok(ArgsKey(number))
     }

@@ -1,9 +1,7 @@
-//! Nodes, and how one is copied.
+//! Nodes, and how a list of one is copied.
 ghost use Rattle.std.specs.Prelude.{◌≡◌, IfOk};
-ghost use Rattle.reference_interner.specs.Forms.{form_of};
 
 use crate::{ItemId, NodeKey, ShortList, SymbolId};
-use node_table::TryClone;
 use relation_terms::predicate::{ExistentialPredicate, PredicateKind};
 use relation_terms::terms::{
     Binder, BoundVariableKind, ClauseKey, ConstKey, ConstKind, GenericArgKind, OutOfMemory, PatKey,
@@ -25,7 +23,7 @@ pub enum Node {
     /// A pattern, by its outermost form.
     Pat(PatternKind<NodeKey>),
     /// A list of generic arguments.
-    Args(Vec<GenericArgKind<NodeKey>>),
+    Args(ShortList<GenericArgKind<NodeKey>>),
     /// A list of types.
     Tys(ShortList<TyKey<NodeKey>>),
     /// A list of constants, which a value is made of.
@@ -47,38 +45,6 @@ pub fn copied<T: Copy>(alloc: Global, values: &[T]) -> Result<Vec<T>, OutOfMemor
     ensures { IfOk result (λ v. v.items ≡ values.now) }
 {
     let mut copies = Vec::new(alloc);
-    for value in values {
-        copies.push(*value)?;
-    }
+    copies.extend_from_slice(values)?;
     Ok(copies)
-}
-
-impl TryClone for Node {
-    fn try_clone(&self, alloc: Global) -> Result<Node, OutOfMemory> {
-        copied_node(alloc, self)
-    }
-}
-
-// The same node, in memory of its own.
-fn copied_node(alloc: Global, node: &Node) -> Result<Node, OutOfMemory>
-    ensures { IfOk result (λ n. form_of n ≡ form_of node.now) }
-{
-    match node {
-        Node::Ty(kind) => Ok(Node::Ty(*kind)),
-        Node::Region(kind) => Ok(Node::Region(*kind)),
-        Node::Const(kind) => Ok(Node::Const(*kind)),
-        Node::ValTree(kind) => Ok(Node::ValTree(*kind)),
-        Node::Pat(kind) => Ok(Node::Pat(*kind)),
-        Node::Args(list) => Ok(Node::Args(copied(alloc, list.as_slice())?)),
-        Node::Tys(list) => Ok(Node::Tys(ShortList::of(alloc, list.as_slice())?)),
-        Node::Branches(list) => Ok(Node::Branches(copied(alloc, list.as_slice())?)),
-        Node::Alternatives(list) => Ok(Node::Alternatives(copied(alloc, list.as_slice())?)),
-        Node::ExistentialPredicates(list) => Ok(Node::ExistentialPredicates(copied(
-            alloc,
-            list.as_slice(),
-        )?)),
-        Node::BoundVars(list) => Ok(Node::BoundVars(copied(alloc, list.as_slice())?)),
-        Node::Predicate(kind) => Ok(Node::Predicate(*kind)),
-        Node::Clauses(list) => Ok(Node::Clauses(copied(alloc, list.as_slice())?)),
-    }
 }

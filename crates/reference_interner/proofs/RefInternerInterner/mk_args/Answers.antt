@@ -5,6 +5,7 @@ use Rattle.reference_interner.specs.Nodes.{args_node, table_meaning}
 use Rattle.reference_interner.specs.declared.node.Node.TheVariants.{Args}
 use Rattle.reference_interner.proofs.OnceLemmas.{grows, made, stands, same_meaning}
 use Rattle.reference_interner.specs.Adding.{items_in}
+use Rattle.reference_interner.specs.ShortLists.{members_of}
 use Rattle.reference_interner.proofs.RefInternerInterner.mk_args.Goals as goal
 
 pub returns-clause-grown : goal.returns-clause-grown
@@ -23,7 +24,7 @@ returns-clause-made c =
     let more = items_in c.add.new.self in
     let ms = c.add.new.self.nodes in
     let read = arg_tree (table_meaning items ns) in
-    made more ms args_node (list_tree read c.in_ok-list.list.items) (c.in_ok-number.number).0
+    made more ms args_node (list_tree read (members_of c.in_ok-list.list)) (c.in_ok-number.number).0
     c.in_ok-number.ensures.number ∙ ap (λ xs. list_tree read xs) c.in_ok-list.ensures
 
 pub returns-clause-sure : goal.returns-clause-sure
@@ -36,7 +37,7 @@ returns-clause-there c =
     let more = items_in c.add.new.self in
     let ms = c.add.new.self.nodes in
     let read = arg_tree (table_meaning items ns) in
-    let v = c.in_ok-list.list.items in
+    let v = members_of c.in_ok-list.list in
     let same : list_tree read v ≡ list_tree read c.args.args.now =
     ap (λ xs. list_tree read xs) c.in_ok-list.ensures in
     let sure : IsTrue (known (list_tree read v)) = subst (λ t. IsTrue (known t)) (sym same) c.requires in
