@@ -9,9 +9,9 @@ use Rattle.relation_terms.specs.Trees.{Tree, leaf, node, bind, nil, cons, Assign
 use Rattle.relation_semantics.specs.Relation.{Items, Interpretation, at, Rel, AliasRule, alias_types, equal_consts, error_left, error_right, sort_of, IsError}
 use Rattle.relation_semantics.specs.Stores.{Store, entry_term, InContext, IsAssignment, Satisfies}
 use Rattle.relation_semantics.specs.Goals.{Goal, goal_of, Holds, MakesOneTree, GoalInContext, alias_relate_predicate, ambiguous_predicate}
-use Rattle.relation_semantics.specs.Steps.{Instantiates, kept, replaced, in_form, in_binder, in_list, HasExtension}
+use Rattle.relation_semantics.specs.Steps.{Taints}
 use Rattle.relation_semantics.specs.Outcomes.{Outcome}
-use Rattle.relation_semantics.specs.AliasGoals.{alias_at, AliasGoalsRelate, AliasGoalsRelateConsts, AliasGoalsRelateBound, ErrorsRelate, AmbiguousRelates, Lacks, GeneralisingAddsNoForms}
+use Rattle.relation_semantics.specs.AliasGoals.{alias_at}
 use Rattle.relation_semantics.proofs.Going.{later_itself}
 use Rattle.relation_semantics.proofs.Growing.{All_back}
 use Rattle.relation_semantics.proofs.Standing.{term_sort_of, later_context, term_context, stands_term}
@@ -58,7 +58,10 @@ last_of P earlier g h = All-head P g [] (All_back P earlier (g ∷ []) h)
 only : (P : Goal → Type 0) (g : Goal) → P g → All P (g ∷ [])
 only P g h = All-cons P g [] h (All-nil P)
 
-pub alias_goals_relate : AliasGoalsRelate
+-- Registering the alias goal of two types relates them, and loses no equal pair.
+pub alias_goals_relate : (c : Items) (e : Tree) (v : Variance) (st : Store) (earlier : List Goal) (a b p : Tree) →
+    InContext st a → InContext st b → IsTerm type_sort a → IsTerm type_sort b → alias_at v a b ≡ Some p →
+    Outcome c e (at v) st st earlier (goal_of e p ∷ []) a b
 alias_goals_relate c e v st earlier a b p ia ib ta tb q = record {
   later = later_itself st;
   goals_in = only (GoalInContext st) (goal_of e p) (goal_in st e v a b p q ia ib);
@@ -67,7 +70,10 @@ alias_goals_relate c e v st earlier a b p ia ib ta tb q = record {
   keeps = λ w s sat one. (s, (λ k n m. refl), (sat, only (MakesOneTree s) (goal_of e p) (goal_one s e v a b p q one)));
 }
 
-pub alias_goals_relate_consts : AliasGoalsRelateConsts
+-- The same of two constants, at every variance by that they are equal.
+pub alias_goals_relate_consts : (c : Items) (e : Tree) (v : Variance) (st : Store) (earlier : List Goal) (a b : Tree) →
+    InContext st a → InContext st b → IsTerm const_sort a → IsTerm const_sort b →
+    Outcome c e (at v) st st earlier (goal_of e (alias_relate_predicate Equate a b) ∷ []) a b
 unfolding InContext
 alias_goals_relate_consts c e v st earlier a b ia ib ta tb = let g = goal_of e (alias_relate_predicate Equate a b) in record {
   later = later_itself st;
@@ -76,58 +82,14 @@ alias_goals_relate_consts c e v st earlier a b ia ib ta tb = let g = goal_of e (
   keeps = λ w s sat one. (s, (λ k n m. refl), (sat, only (MakesOneTree s) g one));
 }
 
--- A variable was bound to another in the place of an alias.
-module _ (c : Items) (e : Tree) (u v : Variance) (before after : Store) (earlier : List Goal) (n m : ℕ) (b : Tree) (ib : InContext before b) (tb : IsTerm type_sort b)
-    (f : Instantiates before after u type_var n b (leaf (variable type_var m))) where
-  abbrev x : Tree
-  x = leaf (variable type_var n)
-
-  abbrev y : Tree
-  y = leaf (variable type_var m)
-
-  now_in : InContext after b
-  now_in = later_context before after (f.later).grows b ib
-
-  y_in : InContext after y
-  y_in = term_context after y f.term_in
-
-  same_var : (w : Interpretation) (s : Assign) → Satisfies w after s → apply s x ≡ apply s y
-  same_var w s sat = sat.bindings type_var n y (ap (entry_term type_var) f.now_bound)
-
-  -- Each earlier assignment that made the two one makes the new variable and the alias one.
-  kept_one : (w : Interpretation) (s : Assign) → Satisfies w before s → apply s x ≡ apply s b → HasExtension before s (λ s'. Satisfies w after s' × (apply s' y ≡ apply s' b))
-  kept_one w s sat one = let k = f.keeps w s sat one in
-      (k.0, k.1, (k.2, sym (same_var w k.0 k.2) ∙ sym (k.1 type_var n f.made) ∙ one ∙ same_value before s k.0 b k.1 ib))
-
-  module _ (p : Tree) where
-    pub bound_left : alias_at v y b ≡ Some p → Outcome c e (at v) before after earlier (goal_of e p ∷ []) x b
-    bound_left q = record {
-      later = f.later;
-      goals_in = only (GoalInContext after) (goal_of e p) (goal_in after e v y b p q y_in now_in);
-      relates = λ w s sat h. subst (λ z. Rel c w e (at v) z (apply s b)) (sym (same_var w s sat))
-          (alias_types (value_sort after s type_var y sat.assigns y_in tt) (value_sort after s type_var b sat.assigns now_in tb)
-          (goal_rule c w s e v y b p q (last_of (Holds c w s) earlier (goal_of e p) h)));
-      keeps = λ w s sat one. let k = kept_one w s sat one in (k.0, k.1, (k.2.0, only (MakesOneTree k.0) (goal_of e p) (goal_one k.0 e v y b p q k.2.1)));
-    }
-
-    pub bound_right : alias_at v b y ≡ Some p → Outcome c e (at v) before after earlier (goal_of e p ∷ []) b x
-    bound_right q = record {
-      later = f.later;
-      goals_in = only (GoalInContext after) (goal_of e p) (goal_in after e v b y p q now_in y_in);
-      relates = λ w s sat h. subst (λ z. Rel c w e (at v) (apply s b) z) (sym (same_var w s sat))
-          (alias_types (value_sort after s type_var b sat.assigns now_in tb) (value_sort after s type_var y sat.assigns y_in tt)
-          (goal_rule c w s e v b y p q (last_of (Holds c w s) earlier (goal_of e p) h)));
-      keeps = λ w s sat one. let k = kept_one w s sat (sym one) in (k.0, k.1, (k.2.0, only (MakesOneTree k.0) (goal_of e p) (goal_one k.0 e v b y p q (sym k.2.1))));
-    }
-
-pub alias_goals_relate_bound : AliasGoalsRelateBound
-alias_goals_relate_bound c e u v before after earlier n m b p q ib tb f h k = (bound_left c e u v before after earlier n m b ib tb f p h, bound_right c e u v before after earlier n m b ib tb f q k)
-
 pub error_stays : (s : Assign) (t : Tree) → IsError t → IsError (apply s t)
 error_stays s (leaf (atom x)) h = h
 error_stays s t h = absurd h
 
-pub errors_relate : ErrorsRelate
+-- An error with a term of its sort: the taint alone.
+pub errors_relate : (c : Items) (e : Tree) (v : Variance) (before after : Store) (earlier : List Goal) (a b : Tree) →
+    Taints before after → InContext before a → InContext before b → IsTerm type_sort a → IsTerm type_sort b →
+    IsError a ⊎ IsError b → Outcome c e (at v) before after earlier [] a b
 errors_relate c e v before after earlier a b t ia ib ta tb h = record {
   later = changes_later before after t.nothing_else;
   goals_in = All-nil (GoalInContext after);
@@ -141,7 +103,9 @@ errors_relate c e v before after earlier a b t ia ib ta tb h = record {
     go w s (inl x) same = error_left (error_stays s a x) same
     go w s (inr x) same = error_right (error_stays s b x) same
 
-pub ambiguous_relates : AmbiguousRelates
+-- What is never so relates anything, and loses no pair.
+pub ambiguous_relates : (c : Items) (e : Tree) (v : Variance) (st : Store) (earlier : List Goal) (a b : Tree) →
+    Outcome c e (at v) st st earlier (goal_of e ambiguous_predicate ∷ []) a b
 unfolding InContext
 ambiguous_relates c e v st earlier a b = let g = goal_of e ambiguous_predicate in record {
   later = later_itself st;
@@ -149,10 +113,3 @@ ambiguous_relates c e v st earlier a b = let g = goal_of e ambiguous_predicate i
   relates = λ w s sat h. absurd (last_of (Holds c w s) earlier g h);
   keeps = λ w s sat one. (s, (λ k n m. refl), (sat, only (MakesOneTree s) g tt));
 }
-
-pub generalising_adds_no_forms : GeneralisingAddsNoForms
-generalising_adds_no_forms p before after t u (kept e) h = subst (Lacks p) e h
-generalising_adds_no_forms p before after t u (replaced k n e o i s) h = subst (Lacks p) (sym e) tt
-generalising_adds_no_forms p before after _ _ (in_form {ts = ts} {us = us} g) h = (h.0, generalising_adds_no_forms p before after ts us g h.1)
-generalising_adds_no_forms p before after _ _ (in_binder {t = t} {u = u} g) h = generalising_adds_no_forms p before after t u g h
-generalising_adds_no_forms p before after _ _ (in_list {t = t} {u = u} {ts = ts} {us = us} g i) h = (generalising_adds_no_forms p before after t u g h.0, generalising_adds_no_forms p before after ts us i h.1)

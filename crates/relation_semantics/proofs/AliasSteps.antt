@@ -1,19 +1,19 @@
 -- What types are read as, what becomes a variable, and sizes and forms where a variable is bound.
-use Rattle.std.proofs.Common.{◌≡◌, ◌⊎◌, ℕ, suc, ◌+◌, ◌*◌, refl, sym, ap, ap₂, ◌∙◌, arith, inl, inr, subst, None, [], Some, length}
+use Rattle.std.proofs.Common.{◌≡◌, ◌⊎◌, ℕ, suc, ◌+◌, ◌*◌, ◌≤◌, refl, sym, ap, ap₂, ◌∙◌, arith, inl, inr, subst, None, [], Some, length}
 use Rattle.std.proofs.Math.Nat.{mul-suc, suc-mul}
 use Rattle.relation_terms.specs.Heads.{VarKind, type_var, const_var, region_var, region_kind, bound_kind, Leaf, variable, placeholder, atom, static_region, early_region}
 use Rattle.relation_terms.specs.Trees.{Tree, leaf}
 use Rattle.term_enums.specs.declared.StructurallyRelateAliases.{StructurallyRelateAliases}
 use Rattle.term_enums.specs.declared.StructurallyRelateAliases.TheVariants.{No}
-use Rattle.relation_semantics.specs.Relation.{IsAlias}
+use Rattle.relation_semantics.specs.Relation.{IsAlias, Items}
 use Rattle.relation_semantics.specs.Stores.{Store, Entry, unbound, same_as, bound_to, entry_of, entry_term, bound_term}
 use Rattle.relation_semantics.specs.Steps.{LeadsTo, here, next}
-use Rattle.relation_semantics.specs.Generalising.{Stage, Turn, gives_way_to, Generalised, met_before, met_first, no_type, stays, gives_way, alias_gives_way, by_parts, in_binder, no_parts, next_part}
-use Rattle.relation_semantics.specs.AliasGoals.{Lacks}
+use Rattle.relation_semantics.specs.Generalising.{Stage, Side, any_part, Turn, gives_way_to, Generalised, met_before, met_first, no_type, stays, gives_way, alias_gives_way, by_parts, in_binder, no_parts, next_part}
 use Rattle.relation_semantics.specs.Parts.{IsFormed}
 use Rattle.relation_semantics.specs.Errors.{IsReadAs, itself, by_class, by_binding}
 use Rattle.relation_semantics.specs.Resolving.{IsShallow, root, stays_bound, formed}
-use Rattle.relation_semantics.specs.Reads.{ReadsOnce, VariablesComeOfAliases, NoLarger, WritesWithout}
+use Rattle.relation_semantics.specs.Measures.{grown}
+use Rattle.term_enums.specs.declared.Variance.{Variance}
 use Rattle.relation_semantics.proofs.Classes.{leads_through, one_leads, class_back}
 use Rattle.relation_semantics.proofs.Only.{which}
 
@@ -74,7 +74,8 @@ read_shallow st x y (formed h) (itself p) s = p
 read_shallow st x y (formed h) (by_class k n m p c r) s = absurd (subst IsFormed p h)
 read_shallow st x y (formed h) (by_binding k n p b r) s = absurd (subst IsFormed p h)
 
-pub reads_once : ReadsOnce
+-- A type is read at once as one type alone.
+pub reads_once : (st : Store) (t x y : Tree) → IsReadAs st t x → IsReadAs st t y → IsShallow st x → IsShallow st y → x ≡ y
 reads_once st t x y (itself e) d s h = read_shallow st x y s (subst (λ z. IsReadAs st z y) e d) h
 reads_once st t x y (by_class k n m e c r) d s h = reads_once st (leaf (variable k m)) x y r (by_class k m n refl (class_back st k n m c) (subst (λ z. IsReadAs st z y) e d)) s h
 reads_once st t x y (by_binding {u = u} k n e b r) d s h = go (root_read st k n n t y (here refl) (λ p q. cc (b, q)) e d h) (λ w. reads_once st u x y r w s h)
@@ -105,18 +106,16 @@ becomes_variable (in_binder g) e m p = absurd cc
 becomes_variable no_parts e m p = absurd cc
 becomes_variable (next_part g s) e m p = absurd cc
 
-pub variables_come_of_aliases : VariablesComeOfAliases
+-- What becomes a type variable is an alias, where aliases are left to goals, or a type variable.
+pub variables_come_of_aliases : (g : StructurallyRelateAliases) (c : Items) (start : Store) (k : VarKind) (n m : ℕ) (e : Side)
+    (v : Variance) (r q : Stage) (t : Tree) → r.met ≡ [] →
+    Generalised g c start k n (any_part e v) r t q (leaf (variable type_var m)) →
+    ((g ≡ No) × IsAlias t) ⊎ ((i : ℕ) × (t ≡ leaf (variable type_var i)))
 variables_come_of_aliases g c start k n m e v r q t none f = becomes_variable f none m refl
 
-pub no_larger : NoLarger
+-- A variable of size 1 and its source: after the binding the bound term and the source weigh no more than the square.
+pub no_larger : (x y n : ℕ) → x ≤ n → y ≤ grown 1 n → x + y ≤ grown 1 (suc n)
 no_larger x y n p q = let h : n * n + n + n + 1 ≡ suc n * suc n = square n in omega (arith, p, q, h)
   where
     square : (n : ℕ) → n * n + n + n + 1 ≡ suc n * suc n
     square n = let a = mul-suc (suc n) n in let b = suc-mul n n in omega (arith, a, b)
-
-pub writes_without : WritesWithout
-writes_without p before after v k n source term f h l j m t e = go (which j k m n)
-  where
-    go : ((j ≡ k) × (m ≡ n)) ⊎ (j ≡ k → m ≡ n → ⊥) → Lacks p t
-    go (inl (a, b)) = let z : entry_of after j m ≡ entry_of after k n = ap₂ (entry_of after) a b in let now = f.now_bound in let is : term ≡ t = cc (e, z, now) in subst (Lacks p) is l
-    go (inr o) = h j m t (sym (f.others_stand j m o) ∙ e)

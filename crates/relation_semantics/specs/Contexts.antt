@@ -42,10 +42,7 @@ module _ {Key Id Name : Type 0} where
   abbrev pub KnowsConst : Context Key Id Name → ConstKey Key → Type 0
   KnowsConst c t = IsTrue (known ((c.meaning).const_ t))
 
-  -- The type, or the constant, may be related: its binders bind by their lists.
-  abbrev pub TakesTy : Context Key Id Name → TyKey Key → Type 0
-  TakesTy c t = IsWellBound ((c.meaning).ty t)
-
+  -- The constant may be related: its binders bind by their lists.
   abbrev pub TakesConst : Context Key Id Name → ConstKey Key → Type 0
   TakesConst c t = IsWellBound ((c.meaning).const_ t)
 

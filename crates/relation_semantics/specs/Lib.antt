@@ -30,4 +30,3 @@ pub mod AliasGoals
 pub mod Asking
 pub mod Recording
 pub mod AskedAlone
-pub mod Reads
