@@ -4,7 +4,7 @@ use Rattle.std.proofs.lemmas.List.Elements.{All-nil, All-cons, All-head}
 use Rattle.term_enums.specs.declared.Variance.{Variance}
 use Rattle.term_enums.specs.declared.Variance.TheVariants.{Covariant, Contravariant, Invariant, Bivariant}
 use Rattle.term_enums.specs.declared.AliasRelationDirection.TheVariants.{Equate}
-use Rattle.relation_terms.specs.Heads.{type_sort, VarKind, type_var, const_var, var_sort, variable, bound, placeholder, atom, unknown}
+use Rattle.relation_terms.specs.Heads.{type_sort, const_sort, VarKind, type_var, const_var, var_sort, variable, bound, placeholder, atom, unknown}
 use Rattle.relation_terms.specs.Trees.{Tree, leaf, node, bind, nil, cons, Assign, apply, IsTerm}
 use Rattle.relation_semantics.specs.Relation.{Items, Interpretation, at, Rel, AliasRule, alias_types, equal_consts, error_left, error_right, sort_of, IsError}
 use Rattle.relation_semantics.specs.Stores.{Store, entry_term, InContext, IsAssignment, Satisfies}
