@@ -52,7 +52,7 @@ invariant-collect_members-loop-step g l =
 abbrev pub invariant-collect_tys-loop-ty : goal.invariant-collect_tys-loop-ty
 invariant-collect_tys-loop-ty g l =
     let m = g.I.Interner.meaning l.cx in
-    let ts = m.tys l.tys in
+    let ts = m.tys l.fn.tys in
     record {
       adds : AddsSome m (components every ts) l.fn.out.items l.out.items;
       has : (k : ℕ) → k < l.ty-index → HasAll m (of_member every k ts) l.out.items;
