@@ -1,5 +1,6 @@
 pub mod Binding
 pub mod BindingRefused
+pub mod BoundInPlace
 pub mod Bivariance
 pub mod ClosedTerms
 pub mod Combining

@@ -21,7 +21,7 @@ use Rattle.relation_semantics.specs.Stores.{InContext, MayStandFor, universe_of,
 use Rattle.relation_semantics.specs.Headline.{IsFirstOrderPair}
 use Rattle.relation_semantics.specs.Steps.{IsLater, Instantiates, RefusesToInstantiate, InstantiatesNone, StaysFull}
 use Rattle.relation_semantics.specs.Alphabets.{Alphabet, IsBuiltOf, BindsBuiltOf, IsPredicateOf, IsGoalOf, Builds, StaysBuilt}
-use Rattle.relation_semantics.proofs.AliasOutcomes.{bound_left, bound_right}
+use Rattle.relation_combining.proofs.BoundInPlace.{bound_left, bound_right}
 use Rattle.relation_semantics.proofs.Building.{term_built, builds_instantiated, builds_noting, built_same, built_unbound}
 use Rattle.relation_semantics.proofs.Passing.{passes_then}
 use Rattle.relation_semantics.proofs.Registered.{alias_registered, alias_built}
