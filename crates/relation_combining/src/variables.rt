@@ -1,11 +1,13 @@
 //! Which variable a term of a context is.
-ghost use Rattle.std.specs.Prelude.{◌≡◌, ℕ, false, not, IsTrue, IsFalse, IfSome, IfNone};
+ghost use Rattle.std.specs.Prelude.{◌≡◌, ◌↔◌, ℕ, false, not, IsTrue, IsFalse, IfSome, IfNone};
 ghost use Rattle.relation_terms.specs.Flags.{has_non_region_infer};
 ghost use Rattle.relation_terms.specs.Trees.{known};
 ghost use Rattle.relation_semantics.specs.Contexts.{KnowsTy, KnowsConst};
+ghost use Rattle.relation_combining.specs.Deferring.{AreOrdinary};
 ghost use Rattle.relation_combining.specs.Variables.{MeansTyVar, MeansConstVar, IsFormedWithin, IsFormedConstWithin};
 ghost use Rattle.relation_combining.specs.Variables.{one_has_variable};
 
+use crate::deferring::{Standing, ty_standing};
 use relation_semantics::infer_ctxt::InferCtxtLike;
 pub use relation_semantics::variable_forms::{const_vid, float_vid, int_vid, ty_vid};
 use relation_terms::terms::{Const, ConstVid, Interner, Ty, TyVid};
@@ -58,4 +60,24 @@ pub fn have_no_variable<Infcx: InferCtxtLike>(
         return false;
     }
     has_no_variable(cx, b)
+}
+
+/// Whether two types of a context are ordinary: neither errors, nor variables, nor aliases. Of no such pair anything is
+/// bound, recorded or registered before their parts are related.
+pub fn are_ordinary<Infcx: InferCtxtLike>(
+    infcx: &Infcx,
+    a: &Ty<Infcx::Interner>,
+    b: &Ty<Infcx::Interner>,
+) -> bool
+    requires a_known { KnowsTy (Infcx.state infcx.now) a.now }
+    requires b_known { KnowsTy (Infcx.state infcx.now) b.now }
+    ensures { IsTrue result ↔ AreOrdinary (Infcx.state infcx.now).meaning a.now b.now }
+{
+    let Standing::Other = ty_standing(infcx, a) else {
+        return false;
+    };
+    let Standing::Other = ty_standing(infcx, b) else {
+        return false;
+    };
+    true
 }
