@@ -9,9 +9,7 @@ ghost use Rattle.relation_recursion.specs.Keeping.{AreFirsts, KeepsAnswer, arg_f
 use crate::parts::{const_part, part, term_part};
 use relation_steps::type_relation::TypeRelation;
 use relation_terms::terms::parts::is_same;
-use relation_terms::terms::{
-    Const, GenericArg, Interner, OutOfMemory, PartOf, Ty,
-};
+use relation_terms::terms::{Const, GenericArg, Interner, OutOfMemory, PartOf, Ty};
 
 // Puts the first parts of a type into a list, which is empty.
 #[inline(never)]
