@@ -29,7 +29,7 @@ impl Model for VariableClasses {
 impl VariableClasses {
     /// A table without numbers. It takes no memory.
     pub fn new(alloc: Global) -> VariableClasses
-        ensures { result.items ≡ [] }
+        ensures items { result.items ≡ [] }
     {
         VariableClasses {
             members: Vec::new(alloc),
