@@ -28,6 +28,9 @@ module _ {K : Type 0} (es : List (Row K)) (rs : List ℕ) (t : Table K) (is : ta
   pub reads_root : root_at t.items v ≡ root_in rs v
   reads_root = ap (λ z. root_at z.items v) (sym is) ∙ root_is es rs v in_rows
 
+  pub table_own : value_at t.items v ≡ Unknown → root_in rs v ≡ v
+  table_own e = own_root es rs v in_rows (ap (λ z. value_at z.items v) is ∙ e)
+
   -- `row` is the variable's.
   module _ (row : Row K) (e : row ≡ get_or es v row) where
     pub reads_value : value_at t.items v ≡ root_value v (root_in rs v) row.term

@@ -78,22 +78,22 @@ fn smaller(a: usize, b: usize) -> usize
 }
 
 // Writes the term that a variable is bound to.
-fn write_term<K: Copy>(rows: &mut [Row<K>], v: usize, term: K)
-    requires { v < length rows.old }
-    ensures keys { row_keys rows.new ≡ row_keys rows.old }
-    ensures terms { row_terms rows.new ≡ slice_set (row_terms rows.old) v (Some term) }
-    ensures universes { row_universes rows.new ≡ row_universes rows.old }
+fn write_term<K: Copy>(rows: &mut Vec<Row<K>>, v: usize, term: K)
+    requires { v < length rows.old.items }
+    ensures keys { row_keys rows.new.items ≡ row_keys rows.old.items }
+    ensures terms { row_terms rows.new.items ≡ slice_set (row_terms rows.old.items) v (Some term) }
+    ensures universes { row_universes rows.new.items ≡ row_universes rows.old.items }
 {
     let row = &mut rows[v];
     row.term = Some(term);
 }
 
 // Writes the universe of a variable.
-fn write_universe<K: Copy>(rows: &mut [Row<K>], v: usize, universe: usize)
-    requires { v < length rows.old }
-    ensures keys { row_keys rows.new ≡ row_keys rows.old }
-    ensures terms { row_terms rows.new ≡ row_terms rows.old }
-    ensures universes { row_universes rows.new ≡ slice_set (row_universes rows.old) v universe }
+fn write_universe<K: Copy>(rows: &mut Vec<Row<K>>, v: usize, universe: usize)
+    requires { v < length rows.old.items }
+    ensures keys { row_keys rows.new.items ≡ row_keys rows.old.items }
+    ensures terms { row_terms rows.new.items ≡ row_terms rows.old.items }
+    ensures universes { row_universes rows.new.items ≡ slice_set (row_universes rows.old.items) v universe }
 {
     let row = &mut rows[v];
     row.universe = UniverseIndex(universe);
@@ -211,8 +211,8 @@ impl<K: Copy> VariableTable<K> {
         ensures values { values_of self.new.items ≡ led_values child root self.old.items }
         ensures universes { universes_of self.new.items ≡ led_universes child root self.old.items }
     {
-        let below = self.rows[child].universe.0;
-        let above = self.rows[root].universe.0;
+        let below = self.universe_of(child).0;
+        let above = self.universe_of(root).0;
         let universe = smaller(below, above);
         self.classes.join(child, root);
         write_universe(&mut self.rows, root, universe);
