@@ -12,8 +12,8 @@ ghost use Rattle.relation_reference.specs.RefCtxt.{store_in, context_in};
 ghost use Rattle.relation_reference.specs.Changes.{MeansNext, store_after, AddsEqual, AddsOutlives, MakesTyVar};
 ghost use Rattle.relation_reference.specs.Changes.{MakesIntVar, MakesFloatVar, MakesConstVar, MakesRegionVar};
 
-use crate::context::universes::next_universe;
 use crate::context::RefCtxt;
+use crate::context::universes::next_universe;
 use relation_terms::predicate::{OutlivesPredicate, RegionConstraint, RegionEqPredicate};
 use relation_terms::terms::{
     Const, ConstKind, ConstVid, FloatVid, GenericArgKind, InferConst, InferTy, IntVid, Interner,
