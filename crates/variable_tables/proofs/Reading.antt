@@ -59,3 +59,8 @@ module _ {K : Type 0} (es : List (Row K)) (rs : List ℕ) (t : Table K) (is : ta
           sym (get_or-map (λ z. z.value) t.items v d Unknown h) ∙ reads_value ∙ value_root v (root_in rs v) row.term own in
         let key : row.key ≡ (get_or t.items v d).key = reads_key ((get_or t.items v d).key) ∙ get_or-map (λ z. z.key) t.items v d ((get_or t.items v d).key) h in
         sym (term_is (get_or t.items v d).value value row.key) ∙ ap (λ k. term_by k (get_or t.items v d).value) key
+
+-- The universe of a class, by its root and what is recorded of that.
+pub class_universe_is : {K : Type 0} (vs : List (Variable K)) (v root : ℕ) (x : VariableValue K) → root ≡ root_at vs v → x ≡ value_at vs root →
+    free_universe (universe_at vs root) x ≡ class_universe vs v
+class_universe_is vs v root x e q = ap (free_universe (universe_at vs root)) q ∙ ap (λ r. free_universe (universe_at vs r) (value_at vs r)) e
