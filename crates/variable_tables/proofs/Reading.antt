@@ -1,15 +1,14 @@
 -- What is read of a table as contracts see it, by the rows and roots that it keeps.
-use Rattle.std.proofs.Common.{◌≡◌, ℕ, ◌<◌, ◌≤◌, refl, sym, ap, ap₂, ◌∙◌, subst, arith, List, length, map, get_or, min, Option, Some, None}
-use Rattle.std.proofs.lemmas.List.{get_or-map, length-map}
-use Rattle.relation_terms.specs.declared.terms.numbers.UniverseIndex.{UniverseIndex}
+use Rattle.std.proofs.Common.{◌≡◌, ℕ, ◌<◌, refl, sym, ap, ◌∙◌, arith, List, length, get_or, Option, Some, None}
+use Rattle.std.proofs.lemmas.List.{get_or-map}
 use Rattle.variable_classes.specs.Roots.{root_in}
 use Rattle.variable_tables.specs.declared.inner.Variable.{Variable}
 use Rattle.variable_tables.specs.declared.inner.VariableValue.{VariableValue}
-use Rattle.variable_tables.specs.declared.inner.VariableValue.TheVariants.{Unknown, SameAs, Known}
+use Rattle.variable_tables.specs.declared.inner.VariableValue.TheVariants.{Unknown}
 use Rattle.variable_tables.specs.declared.table.Row.{Row}
 use Rattle.variable_tables.specs.Tabled.{Table}
-use Rattle.variable_tables.specs.Variables.{keys_of, values_of, universes_of, value_at, root_at, universe_at, term_at, term_by, free_universe, class_universe}
-use Rattle.variable_tables.specs.Rooted.{row_keys, row_terms, row_universes, bound_value, root_value, term_or, variables_from}
+use Rattle.variable_tables.specs.Variables.{keys_of, value_at, root_at, universe_at, term_at, term_by, free_universe, class_universe}
+use Rattle.variable_tables.specs.Rooted.{bound_value, root_value, term_or, variables_from}
 use Rattle.variable_tables.proofs.Rows.{keys_are, universes_are, as_long, value_is, root_is, value_root, own_root}
 
 abbrev pub table_of : {K : Type 0} → List (Row K) → List ℕ → Table K

@@ -1,19 +1,17 @@
 -- What is read of the rows of a table, and what writing them and joining classes makes of it.
-use Rattle.std.proofs.Common.{◌≡◌, ◌≢◌, ℕ, zero, suc, ◌+◌, ◌<◌, ◌≤◌, refl, sym, ap, ap₂, ◌∙◌, subst, arith, List, [], ◌∷◌, ◌++◌, length, length-append, map, get_or, set, min, max, eqb, cond, true, false, Option, Some, None, add-zero, add-suc}
-use Rattle.std.proofs.lemmas.List.{get_or-map, get_or-set_same, get_or-set_other, get_or_past, length-map, length-set, ext_get_or, map-append, map-set}
+use Rattle.std.proofs.Common.{◌≡◌, ◌≢◌, ℕ, zero, suc, ◌+◌, ◌<◌, refl, sym, ap, ap₂, ◌∙◌, arith, List, [], ◌∷◌, ◌++◌, length, length-append, map, get_or, set, min, max, eqb, cond, true, false, Option, Some, None}
+use Rattle.std.proofs.lemmas.List.{get_or-set_same, get_or-set_other, get_or_past, length-map, length-set, ext_get_or}
 use Rattle.std.proofs.Math.ListN.{get_or-map as at_map}
 use Rattle.std.proofs.lemmas.Bool.{eqb-true, eq-eqb}
 use native.Mathlib.Decide.{ℕ_discrete}
-use Rattle.relation_terms.specs.declared.terms.numbers.UniverseIndex.{UniverseIndex}
-use Rattle.variable_classes.specs.Roots.{root_in, led_root, lowered_roots, joined_roots}
+use Rattle.variable_classes.specs.Roots.{root_in, led_root, joined_roots}
 use Rattle.variable_classes.proofs.Leading.{led_child, led_other}
 use Rattle.variable_classes.proofs.Rooted.{root_led as led_roots, root_more}
-use Rattle.variable_tables.specs.declared.inner.Variable.{Variable}
 use Rattle.variable_tables.specs.declared.inner.VariableValue.{VariableValue}
 use Rattle.variable_tables.specs.declared.inner.VariableValue.TheVariants.{Unknown, SameAs, Known}
 use Rattle.variable_tables.specs.declared.table.Row.{Row}
-use Rattle.variable_tables.specs.Variables.{keys_of, values_of, universes_of, value_at, root_at, root_by, universe_at, term_at, term_by, led, free_variable, led_values, led_universes}
-use Rattle.variable_tables.specs.Rooted.{row_keys, row_terms, row_universes, bound_value, root_value, term_or, variables_from}
+use Rattle.variable_tables.specs.Variables.{keys_of, values_of, universes_of, value_at, root_at, root_by, universe_at, led, free_variable, led_values, led_universes}
+use Rattle.variable_tables.specs.Rooted.{row_keys, row_terms, row_universes, bound_value, root_value, variables_from}
 
 -- What is recorded of a root, and of another.
 pub value_root : {K : Type 0} (n r : ℕ) (t : Option K) → r ≡ n → root_value n r t ≡ bound_value t

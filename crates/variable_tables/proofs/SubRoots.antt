@@ -1,15 +1,11 @@
 -- The roots of variables that are marked as related.
-use Rattle.std.proofs.Common.{◌≡◌, ◌≢◌, ◌⊎◌, inl, inr, ℕ, suc, ◌+◌, ◌<◌, ◌≤◌, refl, sym, ap, ◌∙◌, subst, subst₂, arith}
-use Rattle.std.proofs.Common.{List, [], ◌∷◌, ◌++◌, length, length-append, map, take, drop, get_or, min, max, eqb, cond, true, false, ap₂, zero}
-use Rattle.std.proofs.Common.{le_refl}
-use Rattle.std.proofs.lemmas.List.{get_or-map, get_or_default, get_or_past, get_or_append_left, length-map}
-use Rattle.std.proofs.Math.Seq.{get_or-append_seam}
-use Rattle.std.proofs.lemmas.Bool.{eqb-true, eq-eqb}
-use native.Mathlib.Decide.{ℕ_discrete, dec_le}
+use Rattle.std.proofs.Common.{◌≡◌, ◌⊎◌, inl, inr, ℕ, ◌+◌, ◌<◌, ◌≤◌, refl, sym, ap, ◌∙◌, subst, subst₂, arith}
+use Rattle.std.proofs.Common.{List, [], ◌∷◌, ◌++◌, length, length-append, map, min, max, ap₂}
+use Rattle.std.proofs.lemmas.List.{length-map}
+use native.Mathlib.Decide.{dec_le}
 use Rattle.relation_terms.specs.Heads.{type_var}
 use Rattle.relation_terms.specs.Meaning.{Meaning}
 use Rattle.relation_semantics.specs.ContextCalls.{JoinsRoots}
-use Rattle.variable_tables.specs.Tabled.{Table}
 use Rattle.variable_classes.proofs.Rooted.{at_child, at_other, at_root, led_table, root_more, more_table}
 use Rattle.variable_tables.specs.declared.inner.InferCtxtInner.{InferCtxtInner}
 use Rattle.variable_classes.specs.Roots.{Roots, root_in, led_root, joined_roots, IsRootTable}

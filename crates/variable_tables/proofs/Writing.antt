@@ -14,7 +14,7 @@ use Rattle.variable_tables.specs.declared.inner.VariableValue.{VariableValue}
 use Rattle.variable_tables.specs.declared.inner.VariableValue.TheVariants.{Unknown, SameAs, Known}
 use Rattle.variable_tables.specs.declared.inner.Variable.{Variable}
 use Rattle.variable_tables.specs.declared.inner.InferCtxtInner.{InferCtxtInner}
-use Rattle.variable_tables.specs.Variables.{values_of, value_at, root_by, led, entry_of_value, entries_of}
+use Rattle.variable_tables.specs.Variables.{values_of, value_at, led, entry_of_value, entries_of}
 use Rattle.variable_tables.specs.Tables.{store_of, keys_in, MayBeBoundTo, IsRooted, IsFilled, IsLawful}
 use Rattle.variable_tables.proofs.Beside.{Beside, lawful_beside, keyed_still}
 

@@ -1,9 +1,7 @@
-use Rattle.std.proofs.Common.{◌≡◌, ◌<◌, ◌≤◌, length, sym, ap, ap₂, ◌∙◌, min, subst, arith}
-use Rattle.variable_classes.specs.Roots.{root_in}
-use Rattle.variable_tables.specs.declared.inner.VariableValue.TheVariants.{Unknown}
-use Rattle.variable_tables.specs.Variables.{keys_of, values_of, universes_of, value_at, universe_at, led_values, led_universes}
+use Rattle.std.proofs.Common.{◌<◌, length, sym, ap, ap₂, ◌∙◌, min, arith}
+use Rattle.variable_tables.specs.Variables.{keys_of, universe_at, led_values, led_universes}
 use Rattle.variable_tables.proofs.Rows.{linked_keys, linked_values, linked_universes, linked_long}
-use Rattle.variable_tables.proofs.Reading.{in_rows, in_roots, table_own, table_of}
+use Rattle.variable_tables.proofs.Reading.{in_rows, in_roots, table_own}
 use Rattle.variable_tables.proofs.table.VariableTable.link.Goals as goal
 
 pub join-requires-clause-a_in : goal.join-requires-clause-a_in

@@ -1,6 +1,6 @@
-use Rattle.std.proofs.Common.{◌≡◌, ◌<◌, ◌≤◌, length, sym, ap, ◌∙◌, get_or, subst, arith}
-use Rattle.variable_tables.specs.Variables.{term_at, root_at}
-use Rattle.variable_tables.proofs.Reading.{table_long, in_rows, in_roots, reads_root, reads_term}
+use Rattle.std.proofs.Common.{◌<◌, length, sym, ap, ◌∙◌, get_or, arith}
+use Rattle.variable_tables.specs.Variables.{term_at}
+use Rattle.variable_tables.proofs.Reading.{in_rows, in_roots, reads_root, reads_term}
 use Rattle.variable_tables.proofs.table.VariableTable.term_of.Goals as goal
 
 pub root-root-requires : goal.root-root-requires
