@@ -1,5 +1,6 @@
 pub mod BlankLemmas
 pub mod PlaceLemmas
+pub mod ShapeLemmas
 pub mod TreeLemmas
 pub mod WordLemmas
 pub mod WriteLemmas

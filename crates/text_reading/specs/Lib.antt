@@ -5,3 +5,4 @@ pub mod Names
 pub mod Words
 pub mod Trees
 pub mod Reads
+pub mod Shapes

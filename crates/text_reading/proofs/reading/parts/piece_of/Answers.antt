@@ -1,0 +1,6 @@
+use Rattle.text_reading.proofs.ShapeLemmas.{piece_if, most_if}
+use Rattle.text_reading.proofs.reading.parts.piece_of.Goals as goal
+
+-- a piece that is there has a number below the most that there are
+pub returns-clause-few : goal.returns-clause-few
+returns-clause-few c = ?
