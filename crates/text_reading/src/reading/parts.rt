@@ -1,5 +1,6 @@
 //! How what the rows say is read.
 ghost use Rattle.std.specs.Prelude.{◌≡◌, ◌+◌, ◌^◌, ◌<◌, ◌≤◌, IsTrue, IfSome, IfOk, IfErr, OnOk, length, suc};
+ghost use Rattle.std.specs.List.{slice_get};
 ghost use Rattle.text_reading.specs.Errors.{LiesIn};
 ghost use Rattle.text_reading.specs.Trees.{EachBelow};
 ghost use Rattle.text_reading.specs.Shapes.{most};
@@ -55,13 +56,21 @@ fn fits(reader: &Reader, piece: Option<Piece>) -> bool {
     }
 }
 
+// The piece of that number; none behind the last.
+fn piece_at(pieces: &[Piece], at: usize) -> Option<Piece>
+    ensures piece { result ≡ slice_get pieces.now at }
+    ensures room { IfSome result (λ piece. at + 1 < 2 ^ 64) }
+{
+    pieces.get(at).copied()
+}
+
 // The piece of that number of a row; none behind its last.
 fn piece_of(rows: &[Shape], row: usize, at: usize) -> Option<Piece>
     requires { row < length rows.now }
     ensures few { IfSome result (λ piece. at < most rows.now) }
     ensures room { IfSome result (λ piece. at + 1 < 2 ^ 64) }
 {
-    rows[row].pieces.get(at).copied()
+    piece_at(rows[row].pieces, at)
 }
 
 // Whether a row has another behind it that is written as it is up to that piece.

@@ -4,7 +4,7 @@ use crate::reading::signs::Sign;
 use crate::reading::tree::Form;
 
 /// What a form is a form of. Each has rows of its own.
-#[derive(Clone, Copy, PartialEq, Eq, Debug)]
+#[derive(Clone, Copy, PartialEq)]
 pub enum Sort {
     Statement,
     /// The trait whose predicates follow.
@@ -55,7 +55,7 @@ pub enum Sort {
 }
 
 /// How the parts of a list stand.
-#[derive(Clone, Copy, PartialEq, Eq, Debug)]
+#[derive(Clone, Copy, PartialEq)]
 pub enum Line {
     /// With commas between, up to a sign; a comma may stand before it.
     To(Sign),
@@ -68,7 +68,7 @@ pub enum Line {
 }
 
 /// A piece of what a form is written as.
-#[derive(Clone, Copy, PartialEq, Eq, Debug)]
+#[derive(Clone, Copy, PartialEq)]
 pub enum Piece {
     Mark(Sign),
     /// A sign beside which others may stand there, as is told where none does.
