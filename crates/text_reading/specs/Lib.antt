@@ -6,3 +6,4 @@ pub mod Words
 pub mod Trees
 pub mod Reads
 pub mod Shapes
+pub mod Written

@@ -4,6 +4,8 @@ ghost use Rattle.std.specs.List.{slice_get};
 ghost use Rattle.text_reading.specs.Errors.{LiesIn};
 ghost use Rattle.text_reading.specs.Trees.{EachBelow};
 ghost use Rattle.text_reading.specs.Shapes.{most};
+ghost use Rattle.text_reading.specs.Words.{StandsAt};
+ghost use Rattle.text_reading.specs.Written.{pieces_at, AreAlike, HasRead, IsOfRows};
 ghost use Rattle.text_reading.specs.Reads.{GoesOn, Gathers, Stacks, StacksOne};
 
 use crate::reading::error::{Expected, ReadError};
@@ -67,6 +69,7 @@ fn piece_at(pieces: &[Piece], at: usize) -> Option<Piece>
 // The piece of that number of a row; none behind its last.
 fn piece_of(rows: &[Shape], row: usize, at: usize) -> Option<Piece>
     requires { row < length rows.now }
+    ensures piece { result ≡ slice_get (pieces_at rows.now row) at }
     ensures few { IfSome result (λ piece. at < most rows.now) }
     ensures room { IfSome result (λ piece. at + 1 < 2 ^ 64) }
 {
@@ -75,8 +78,10 @@ fn piece_of(rows: &[Shape], row: usize, at: usize) -> Option<Piece>
 
 // Whether a row has another behind it that is written as it is up to that piece.
 fn has_alike(rows: &[Shape], row: usize, at: usize) -> bool
-    requires { row < length rows.now }
-    ensures { IsTrue result → row + 1 < length rows.now }
+    requires there { row < length rows.now }
+    requires within { at ≤ length (pieces_at rows.now row) }
+    ensures next { IsTrue result → row + 1 < length rows.now }
+    ensures alike { IsTrue result → AreAlike rows.now at row (row + 1) }
 {
     row + 1 < rows.len() && rows[row].pieces.get(..at) == rows[row + 1].pieces.get(..at)
 }
@@ -84,8 +89,10 @@ fn has_alike(rows: &[Shape], row: usize, at: usize) -> bool
 // The row with which it goes on at that piece: of those that are written alike before it, the first whose piece fits,
 // or the last.
 fn turn(reader: &Reader, rows: &[Shape], row: usize, at: usize) -> usize
-    requires { row < length rows.now }
-    ensures { result < length rows.now }
+    requires there { row < length rows.now }
+    requires within { at ≤ length (pieces_at rows.now row) }
+    ensures there { result < length rows.now }
+    ensures alike { AreAlike rows.now at row result }
 {
     let mut found = row;
     'rows: while !fits(reader, piece_of(rows, found, at)) && has_alike(rows, found, at) {
@@ -167,6 +174,8 @@ fn read_between(reader: &mut Reader, line: Line) -> Result<bool, ReadError>
 
 // Reads a sign; what was expected in its place is told where it does not stand there.
 fn read_mark(reader: &mut Reader, sign: Sign, expected: Expected) -> Result<(), ReadError>
+    ensures there { OnOk result (StandsAt reader.old.words.items reader.old.at sign) }
+    ensures over { OnOk result (reader.new.at ≡ suc reader.old.at) }
     ensures words { reader.new.words ≡ reader.old.words }
     ensures tree { reader.new.tree ≡ reader.old.tree }
     ensures later { reader.old.at ≤ reader.new.at }
@@ -243,6 +252,7 @@ fn read_piece(
     room: usize,
 ) -> Result<bool, ReadError>
     requires { EachBelow stack.old.items (length reader.old.tree.nodes.items) }
+    ensures written { IfOk result (HasRead reader.old.words.items piece reader.old.at reader.new.at) }
     ensures goes { GoesOn reader.old reader.new }
     ensures nodes { OnOk result (Stacks reader.old reader.new stack.old.items stack.new.items) }
     ensures wrong { IfErr result (LiesIn reader.old.tree.text_len) }
@@ -281,6 +291,7 @@ fn read_pieces(
 ) -> Result<Makes, ReadError>
     requires rows { 0 < length rows.now }
     requires below { EachBelow stack.old.items (length reader.old.tree.nodes.items) }
+    ensures written { IfOk result (IsOfRows reader.old.words.items rows.now reader.old.at reader.new.at) }
     ensures goes { GoesOn reader.old reader.new }
     ensures nodes { OnOk result (Stacks reader.old reader.new stack.old.items stack.new.items) }
     ensures wrong { IfErr result (LiesIn reader.old.tree.text_len) }

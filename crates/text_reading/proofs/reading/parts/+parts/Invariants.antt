@@ -1,6 +1,7 @@
 use Rattle.std.proofs.Common.{◌+◌, ◌-◌, ◌*◌, ◌<◌, length}
 use Rattle.text_reading.specs.Reads.{GoesOn, Stacks}
 use Rattle.text_reading.specs.Shapes.{most}
+use Rattle.text_reading.proofs.WrittenLemmas.{IsSoFar}
 use Rattle.text_reading.proofs.reading.parts.+parts.Given as goal
 
 -- what stands inside has less room
@@ -30,6 +31,7 @@ abbrev pub invariant-read_pieces-pieces : goal.invariant-read_pieces-pieces
 invariant-read_pieces-pieces l =
     (l.row < length l.rows) × GoesOn l.fn.reader l.reader
     × Stacks l.fn.reader l.reader l.fn.stack.items l.stack.items
+    × IsSoFar l.fn.reader.words.items l.rows l.row l.at l.fn.reader.at l.reader.at
 
 -- the pieces that are left
 abbrev pub decreases-read_pieces-pieces : goal.decreases-read_pieces-pieces
