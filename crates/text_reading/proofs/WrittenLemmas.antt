@@ -1,5 +1,5 @@
 -- Rows, and what is written of them.
-use Rattle.std.proofs.Common.{zero, ◌≡◌, ap, ◌∙◌, sym, subst, refl, ℕ, ◌<◌, ◌≤◌, ◌⊎◌, ◌+◌, ◌-◌, Bool, true, false, IsTrue, List, [], ◌∷◌, Option, Some, None, IfSome, IsSome, MatchOption, length, get_or, take, suc, arith, slice_range}
+use Rattle.std.proofs.Common.{zero, ◌≡◌, ap, ◌∙◌, sym, subst, refl, ℕ, ◌<◌, ◌≤◌, ◌⊎◌, ◌↔◌, ◌+◌, ◌-◌, Bool, true, false, IsTrue, List, [], ◌∷◌, Option, Some, None, IfSome, IsSome, MatchOption, length, get_or, take, suc, arith, slice_range}
 use Rattle.std.proofs.lemmas.Bool.{false≢true}
 use Rattle.std.specs.List.{slice_get}
 use Rattle.std.specs.Option.{option_eq}
@@ -8,7 +8,11 @@ use lib.Pointwise.{pointwise}
 use Rattle.text_reading.specs.contracts.reading.shapes.PiecePartialEq.TheImpl as piece_impl
 use Rattle.text_reading.specs.declared.reading.shapes.Shape.{Shape}
 use Rattle.text_reading.specs.declared.reading.shapes.Piece.{Piece}
+use Rattle.std.specs.Bool.{OnTrue, OnFalse}
+use Rattle.text_reading.specs.declared.reading.shapes.Piece.TheVariants as piece
+use Rattle.text_reading.specs.declared.reading.signs.Sign.{Sign}
 use Rattle.text_reading.specs.declared.reading.words.Word.{Word}
+use Rattle.text_reading.specs.Words.{StandsAt}
 use Rattle.text_reading.specs.Written.{pieces_at, AreAlike, sign_of, IsWritten, AreWritten, HasRead, EndsBefore, Stops, IsOfRow, IsOfRows}
 use Rattle.text_reading.proofs.PieceLemmas.{pieces_same}
 use Rattle.text_reading.proofs.ShapeLemmas.{get_below}
@@ -126,3 +130,9 @@ ends_before ws vs rs d row j at from to behind p v b w a e h =
     of_rows ws rs d j at from behind b
     (subst (λ z. AreWritten ws (take at (pieces_at rs j)) from z) (sym h.1) (along ws rs row j at from to w a))
     (subst (λ o. EndsBefore ws o behind) (sym e) (subst (λ us. Stops us p behind) v h.0))
+
+-- a sign behind which a form may go on
+pub further : (ws : List Word) (s : Sign) (from to : ℕ) (b : Bool) → (IsTrue b ↔ StandsAt ws from s) →
+    OnTrue b (to ≡ suc from) → OnFalse b (to ≡ from) → HasRead ws (piece.Further s) from to b
+further ws s from to true i o f = (i.0 refl, o)
+further ws s from to false i o f = (λ h. false≢true (i.1 (subst (λ k. StandsAt ws k s) f h)), f)
