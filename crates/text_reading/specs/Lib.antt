@@ -5,3 +5,5 @@ pub mod Names
 pub mod Words
 pub mod Trees
 pub mod Reads
+pub mod Shapes
+pub mod Written

@@ -107,9 +107,24 @@ impl Reader {
         self.kind_at(self.at)
     }
 
-    // What the word behind the next is.
-    pub fn peek_behind(&self) -> Option<WordKind> {
-        self.kind_at(self.at.saturating_add(1))
+    // Whether the next word is that sign.
+    pub fn is_next(&self, sign: Sign) -> bool
+        ensures { IsTrue result → StandsAt self.now.words.items self.now.at sign }
+    {
+        self.is_at(self.at, sign)
+    }
+
+    // Whether the word behind the next is that sign.
+    pub fn is_behind(&self, sign: Sign) -> bool {
+        self.is_at(self.at.saturating_add(1), sign)
+    }
+
+    // Whether the next word is a leaf that may stand where that is expected.
+    pub fn is_leaf_next(&self, expected: Expected) -> bool {
+        match self.peek() {
+            Some(WordKind::Leaf(leaf)) => admits(expected, leaf),
+            _ => false,
+        }
     }
 
     // Where the next word begins, or else the text ends.
