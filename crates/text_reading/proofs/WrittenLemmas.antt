@@ -6,19 +6,27 @@ use Rattle.std.specs.Option.{option_eq}
 use denote.Bor.{Bor}
 use lib.Pointwise.{pointwise}
 use Rattle.text_reading.specs.contracts.reading.shapes.PiecePartialEq.TheImpl as piece_impl
-use Rattle.text_reading.specs.declared.reading.shapes.Shape.{Shape}
+use Rattle.term_enums.specs.declared.Safety.{Safety}
+use Rattle.term_enums.specs.declared.Safety.TheVariants as safety
+use Rattle.term_enums.specs.declared.ExternAbi.{ExternAbi}
+use Rattle.text_reading.specs.declared.reading.shapes.Makes.{Makes}
+use Rattle.text_reading.specs.declared.reading.shapes.Sort.{Sort}
+use Rattle.text_reading.specs.Shapes.{Row, Shape, rows_in}
 use Rattle.text_reading.specs.declared.reading.shapes.Piece.{Piece}
 use Rattle.std.specs.Bool.{OnTrue, OnFalse}
 use Rattle.text_reading.specs.declared.reading.shapes.Piece.TheVariants as piece
 use Rattle.text_reading.specs.declared.reading.signs.Sign.{Sign}
+use Rattle.text_reading.specs.declared.reading.signs.Sign.TheVariants as sign
 use Rattle.text_reading.specs.declared.reading.words.Word.{Word}
 use Rattle.text_reading.specs.Words.{StandsAt}
-use Rattle.text_reading.specs.Written.{pieces_at, AreAlike, sign_of, IsWritten, AreWritten, HasRead, EndsBefore, Stops, IsOfRow, IsOfRows}
+use Rattle.text_reading.specs.Signs.{abi_signs, header_signs, behind_safety, StandFrom}
+use Rattle.text_reading.specs.Rows.{rows_of, IsOfSort}
+use Rattle.text_reading.specs.Written.{pieces_at, AreAlike, IsWritten, AreWritten, HasRead, EndsBefore, Stops, IsOfRow, IsOfRows}
 use Rattle.text_reading.proofs.PieceLemmas.{pieces_same}
 use Rattle.text_reading.proofs.ShapeLemmas.{get_below}
 
 -- the pieces of a row that is there
-pub at_row : (rs : List Shape) (d : Shape) (k : ℕ) → k < length rs → (get_or rs k d).pieces.now ≡ pieces_at rs k
+pub at_row : (rs : List Shape) (d : Shape) (k : ℕ) → k < length rs → (get_or rs k d).1.now ≡ pieces_at rs k
 at_row [] d k b = absurd (omega (arith, b))
 at_row (r ∷ rs) d zero b = refl
 at_row (r ∷ rs) d (suc k) b = at_row rs d k (omega (arith, b))
@@ -49,16 +57,16 @@ only_now n xs (Some x) m = m.1
 
 pub alike_rows : (rs : List Shape) (d : Shape) (n k j : ℕ) (o p : Option (Bor (List Piece))) →
     k < length rs → j < length rs → n ≤ length (pieces_at rs k) →
-    (let xs = (get_or rs k d).pieces.now in
+    (let xs = (get_or rs k d).1.now in
     MatchOption o ((n < 0) ⊎ (length xs < n)) (λ (x : Bor (List Piece)). (0 ≤ n) × (n ≤ length xs) × (x.now ≡ slice_range xs 0 n) × (length x.now + 0 ≡ n))
     × ((0 ≤ n) × (n ≤ length xs) → IsSome o)) →
-    (let ys = (get_or rs j d).pieces.now in
+    (let ys = (get_or rs j d).1.now in
     MatchOption p ((n < 0) ⊎ (length ys < n)) (λ (x : Bor (List Piece)). (0 ≤ n) × (n ≤ length ys) × (x.now ≡ slice_range ys 0 n) × (length x.now + 0 ≡ n))) →
     IsTrue (option_eq {T = Bor (List Piece)} (λ x y. pointwise piece_impl.ghosts.eq x.now y.now) o p) →
     AreAlike rs n k j
 alike_rows rs d n k j o p bk bj w a b h =
-    let xs = (get_or rs k d).pieces.now in
-    let ys = (get_or rs j d).pieces.now in
+    let xs = (get_or rs k d).1.now in
+    let ys = (get_or rs j d).1.now in
     let ek = at_row rs d k bk in
     let ej = at_row rs d j bj in
     let there : n ≤ length xs = subst (λ z. n ≤ length z) (sym ek) w in
@@ -81,11 +89,11 @@ pub begins : (ws : List Word) (rs : List Shape) (row from : ℕ) → IsSoFar ws 
 begins ws rs row from = (omega arith, none_yet ws (pieces_at rs row) from)
 
 one_more : (ws : List Word) (ps : List Piece) (n : ℕ) (p : Piece) (from j k : ℕ) → AreWritten ws (take n ps) from j →
-    slice_get ps n ≡ Some p → IsWritten ws (sign_of p) j k → AreWritten ws (take (suc n) ps) from k
+    slice_get ps n ≡ Some p → IsWritten ws p j k → AreWritten ws (take (suc n) ps) from k
 one_more ws [] n p from j k w e h = absurd cc
 one_more ws (q ∷ ps) zero p from j k w e h =
     let same : q ≡ p = cc in
-    (k, subst (λ z. IsWritten ws (sign_of z) from k) (sym same) (subst (λ z. IsWritten ws (sign_of p) z k) (sym w) h), refl)
+    (k, subst (λ z. IsWritten ws z from k) (sym same) (subst (λ z. IsWritten ws p z k) (sym w) h), refl)
 one_more ws (q ∷ ps) (suc n) p from j k w e h = (w.0, w.1, one_more ws ps n p w.0 j k w.2 e h)
 
 is_within : (ps : List Piece) (n : ℕ) (p : Piece) → slice_get ps n ≡ Some p → n + 1 ≤ length ps
@@ -104,11 +112,11 @@ goes_on ws vs rs row j at from to behind p v w a e h =
     (is_within (pieces_at rs j) at p e,
      subst (λ m. AreWritten ws (take m (pieces_at rs j)) from behind) n
      (one_more ws (pieces_at rs j) at p from to behind (along ws rs row j at from to w a) e
-     (subst (λ us. IsWritten us (sign_of p) to behind) v h)))
+     (subst (λ us. IsWritten us p to behind) v h)))
 
 of_rows : (ws : List Word) (rs : List Shape) (d : Shape) (j n from to : ℕ) → j < length rs →
     AreWritten ws (take n (pieces_at rs j)) from to → EndsBefore ws (slice_get (pieces_at rs j) n) to →
-    IsOfRows ws rs from to (get_or rs j d).makes
+    IsOfRows ws (rows_in rs) from to (get_or rs j d).0
 of_rows ws [] d j n from to b w e = absurd (omega (arith, b))
 of_rows ws (r ∷ rs) d zero n from to b w e = (0, (refl, (n, w, e)))
 of_rows ws (r ∷ rs) d (suc j) n from to b w e =
@@ -117,7 +125,7 @@ of_rows ws (r ∷ rs) d (suc j) n from to b w e =
 -- all pieces of a row were read
 pub ends_behind : (ws : List Word) (rs : List Shape) (d : Shape) (row j at from to : ℕ) → j < length rs →
     IsSoFar ws rs row at from to → AreAlike rs at row j → slice_get (pieces_at rs j) at ≡ None →
-    IsOfRows ws rs from to (get_or rs j d).makes
+    IsOfRows ws (rows_in rs) from to (get_or rs j d).0
 ends_behind ws rs d row j at from to b w a e =
     of_rows ws rs d j at from to b (along ws rs row j at from to w a) (subst (λ o. EndsBefore ws o to) (sym e) tt)
 
@@ -125,7 +133,7 @@ ends_behind ws rs d row j at from to b w a e =
 pub ends_before : (ws vs : List Word) (rs : List Shape) (d : Shape) (row j at from to behind : ℕ) (p : Piece) →
     vs ≡ ws → j < length rs → IsSoFar ws rs row at from to → AreAlike rs at row j →
     slice_get (pieces_at rs j) at ≡ Some p → HasRead vs p to behind false →
-    IsOfRows ws rs from behind (get_or rs j d).makes
+    IsOfRows ws (rows_in rs) from behind (get_or rs j d).0
 ends_before ws vs rs d row j at from to behind p v b w a e h =
     of_rows ws rs d j at from behind b
     (subst (λ z. AreWritten ws (take at (pieces_at rs j)) from z) (sym h.1) (along ws rs row j at from to w a))
@@ -136,3 +144,18 @@ pub further : (ws : List Word) (s : Sign) (from to : ℕ) (b : Bool) → (IsTrue
     OnTrue b (to ≡ suc from) → OnFalse b (to ≡ from) → HasRead ws (piece.Further s) from to b
 further ws s from to true i o f = (i.0 refl, o)
 further ws s from to false i o f = (λ h. false≢true (i.1 (subst (λ k. StandsAt ws k s) f h)), f)
+
+-- what was read of the rows of a sort is of that sort
+pub of_sort : (ws : List Word) (s : Sort) (rs : List Row) (from j to : ℕ) (m : Makes) → rs ≡ rows_of s → to ≡ j →
+    IsOfRows ws rs from j m → IsOfSort ws s from to
+of_sort ws s rs from j to m e a h =
+    (m, subst (λ x. IsOfRows ws x from to m) e (subst (λ k. IsOfRows ws rs from k m) (sym a) h))
+
+-- what a function pointer begins with, behind what says its safety
+pub header_stands : (ws vs : List Word) (k j : ℕ) (s : Safety) (a : ExternAbi) → vs ≡ ws →
+    ((s ≡ safety.Unsafe) ↔ StandsAt ws k sign.Unsafe) → j ≡ behind_safety k s → StandFrom vs j (abi_signs a) →
+    StandFrom ws k (header_signs s a)
+header_stands ws vs k j safety.Safe a v i e h =
+    subst (λ us. StandFrom us k (abi_signs a)) v (subst (λ n. StandFrom vs n (abi_signs a)) e h)
+header_stands ws vs k j safety.Unsafe a v i e h =
+    (i.0 refl, subst (λ us. StandFrom us (suc k) (abi_signs a)) v (subst (λ n. StandFrom vs n (abi_signs a)) e h))

@@ -7,3 +7,4 @@ pub mod Trees
 pub mod Reads
 pub mod Shapes
 pub mod Written
+pub mod Rows

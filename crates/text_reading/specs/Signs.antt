@@ -2,6 +2,8 @@
 use Rattle.std.specs.Prelude.{ℕ, List, [], ◌∷◌, codes, suc}
 use Rattle.term_enums.specs.declared.Mutability.{Mutability}
 use Rattle.term_enums.specs.declared.Mutability.TheVariants as mutability
+use Rattle.term_enums.specs.declared.Safety.{Safety}
+use Rattle.term_enums.specs.declared.Safety.TheVariants as safety
 use Rattle.term_enums.specs.declared.ExternAbi.{ExternAbi}
 use Rattle.term_enums.specs.declared.ExternAbi.TheVariants as abi
 use Rattle.text_reading.specs.declared.reading.signs.Sign.{Sign}
@@ -111,6 +113,15 @@ abbrev pub abi_signs : ExternAbi → List Sign
 abi_signs abi.Rust = sign.Fn ∷ sign.LeftParen ∷ []
 abi_signs abi.C = sign.Extern ∷ sign.AbiC ∷ sign.Fn ∷ sign.LeftParen ∷ []
 abi_signs abi.System = sign.Extern ∷ sign.AbiSystem ∷ sign.Fn ∷ sign.LeftParen ∷ []
+
+abbrev pub header_signs : Safety → ExternAbi → List Sign
+header_signs safety.Safe a = abi_signs a
+header_signs safety.Unsafe a = sign.Unsafe ∷ abi_signs a
+
+-- the number of the word behind what says that, where the word of that number is the first
+abbrev pub behind_safety : ℕ → Safety → ℕ
+behind_safety k safety.Safe = k
+behind_safety k safety.Unsafe = suc k
 
 -- the words from that number on are these signs
 abbrev pub StandFrom : List Word → ℕ → List Sign → Type 0

@@ -2,7 +2,7 @@
 ghost use Rattle.std.specs.Prelude.{◌≡◌, ◌<◌, ◌≤◌, ◌↔◌, IfOk, IfErr, OnOk};
 ghost use Rattle.text_reading.specs.Errors.{LiesIn};
 ghost use Rattle.text_reading.specs.Words.{StandsAt};
-ghost use Rattle.text_reading.specs.Signs.{abi_signs, StandFrom};
+ghost use Rattle.text_reading.specs.Signs.{abi_signs, behind_safety, StandFrom};
 
 use crate::reading::error::{Expected, ReadError};
 use crate::reading::reader::Reader;
@@ -34,6 +34,7 @@ pub(super) fn is_pointer_binder_next(reader: &Reader) -> bool {
 // Reads whether a function pointer may be called from safe code, behind its binder.
 pub(super) fn read_safety(reader: &mut Reader) -> Safety
     ensures safety { (result ≡ Safety.Unsafe) ↔ StandsAt reader.old.words.items reader.old.at Sign.Unsafe }
+    ensures over { reader.new.at ≡ behind_safety reader.old.at result }
     ensures words { reader.new.words ≡ reader.old.words }
     ensures tree { reader.new.tree ≡ reader.old.tree }
     ensures later { reader.old.at ≤ reader.new.at }

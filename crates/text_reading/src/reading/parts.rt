@@ -3,8 +3,10 @@ ghost use Rattle.std.specs.Prelude.{◌≡◌, ◌+◌, ◌^◌, ◌<◌, ◌≤
 ghost use Rattle.std.specs.List.{slice_get};
 ghost use Rattle.text_reading.specs.Errors.{LiesIn};
 ghost use Rattle.text_reading.specs.Trees.{EachBelow};
-ghost use Rattle.text_reading.specs.Shapes.{most};
-ghost use Rattle.text_reading.specs.Words.{StandsAt};
+ghost use Rattle.text_reading.specs.Shapes.{most, rows_in};
+ghost use Rattle.text_reading.specs.Rows.{IsOfSort};
+ghost use Rattle.text_reading.specs.Signs.{header_signs, StandFrom};
+ghost use Rattle.text_reading.specs.Words.{StandsAt, IsLeafAt};
 ghost use Rattle.text_reading.specs.Written.{pieces_at, AreAlike, HasRead, IsOfRows};
 ghost use Rattle.text_reading.specs.Reads.{GoesOn, Gathers, Stacks, StacksOne};
 
@@ -73,7 +75,7 @@ fn piece_of(rows: &[Shape], row: usize, at: usize) -> Option<Piece>
     ensures few { IfSome result (λ piece. at < most rows.now) }
     ensures room { IfSome result (λ piece. at + 1 < 2 ^ 64) }
 {
-    piece_at(rows[row].pieces, at)
+    piece_at(rows[row].1, at)
 }
 
 // Whether a row has another behind it that is written as it is up to that piece.
@@ -83,7 +85,7 @@ fn has_alike(rows: &[Shape], row: usize, at: usize) -> bool
     ensures next { IsTrue result → row + 1 < length rows.now }
     ensures alike { IsTrue result → AreAlike rows.now at row (row + 1) }
 {
-    row + 1 < rows.len() && rows[row].pieces.get(..at) == rows[row + 1].pieces.get(..at)
+    row + 1 < rows.len() && rows[row].1.get(..at) == rows[row + 1].1.get(..at)
 }
 
 // The row with which it goes on at that piece: of those that are written alike before it, the first whose piece fits,
@@ -195,6 +197,8 @@ fn read_leaf(
     expected: Expected,
 ) -> Result<(), ReadError>
     requires { EachBelow stack.old.items (length reader.old.tree.nodes.items) }
+    ensures there { OnOk result (IsLeafAt reader.old.words.items reader.old.at) }
+    ensures over { OnOk result (reader.new.at ≡ suc reader.old.at) }
     ensures goes { GoesOn reader.old reader.new }
     ensures nodes { OnOk result (Stacks reader.old reader.new stack.old.items stack.new.items) }
     ensures wrong { IfErr result (LiesIn reader.old.tree.text_len) }
@@ -206,6 +210,8 @@ fn read_leaf(
 
 // Reads what stands before the inputs of a function pointer.
 fn read_header(reader: &mut Reader, seen: &mut Seen) -> Result<(), ReadError>
+    ensures there { OnOk result (StandFrom reader.old.words.items reader.old.at
+        (header_signs seen.new.header.safety seen.new.header.abi)) }
     ensures words { reader.new.words ≡ reader.old.words }
     ensures tree { reader.new.tree ≡ reader.old.tree }
     ensures later { reader.old.at ≤ reader.new.at }
@@ -291,7 +297,7 @@ fn read_pieces(
 ) -> Result<Makes, ReadError>
     requires rows { 0 < length rows.now }
     requires below { EachBelow stack.old.items (length reader.old.tree.nodes.items) }
-    ensures written { IfOk result (IsOfRows reader.old.words.items rows.now reader.old.at reader.new.at) }
+    ensures written { IfOk result (IsOfRows reader.old.words.items (rows_in rows.now) reader.old.at reader.new.at) }
     ensures goes { GoesOn reader.old reader.new }
     ensures nodes { OnOk result (Stacks reader.old reader.new stack.old.items stack.new.items) }
     ensures wrong { IfErr result (LiesIn reader.old.tree.text_len) }
@@ -301,10 +307,10 @@ fn read_pieces(
     'pieces: loop {
         row = turn(reader, rows, row, at);
         let Some(piece) = piece_of(rows, row, at) else {
-            return Ok(rows[row].makes);
+            return Ok(rows[row].0);
         };
         if !read_piece(reader, stack, piece, seen, room)? {
-            return Ok(rows[row].makes);
+            return Ok(rows[row].0);
         }
         at += 1;
     }
@@ -323,6 +329,7 @@ fn end(
     requires base { base ≤ length stack.old.items }
     requires there { EachBelow stack.old.items (length reader.old.tree.nodes.items) }
     ensures goes { GoesOn reader.old reader.new }
+    ensures at { reader.new.at ≡ reader.old.at }
     ensures there { OnOk result (EachBelow stack.new.items (length reader.new.tree.nodes.items)) }
     ensures one { OnOk result (length stack.new.items ≡ suc base) }
     ensures nodes { OnOk result (Gathers 0 reader.old reader.new stack.old.items stack.new.items) }
@@ -348,6 +355,7 @@ pub(super) fn read_part(
     room: usize,
 ) -> Result<(), ReadError>
     requires { EachBelow stack.old.items (length reader.old.tree.nodes.items) }
+    ensures written { OnOk result (IsOfSort reader.old.words.items sort reader.old.at reader.new.at) }
     ensures goes { GoesOn reader.old reader.new }
     ensures node { OnOk result (StacksOne reader.old reader.new stack.old.items stack.new.items) }
     ensures wrong { IfErr result (LiesIn reader.old.tree.text_len) }

@@ -66,7 +66,7 @@ impl Reader {
     ghost use Rattle.std.specs.List.{slice_get};
     ghost use Rattle.std.specs.Bool.{OnTrue, OnFalse};
     ghost use Rattle.text_reading.specs.Errors.{LiesIn};
-    ghost use Rattle.text_reading.specs.Words.{StandsAt};
+    ghost use Rattle.text_reading.specs.Words.{StandsAt, IsLeafAt};
     ghost use Rattle.text_reading.specs.Trees.{EachBelow};
     ghost use Rattle.text_reading.specs.Reads.{GoesOn, Makes, Gathers};
 
@@ -196,6 +196,7 @@ impl Reader {
     pub fn take(&mut self, expected: Expected) -> Result<usize, ReadError>
         ensures goes { GoesOn self.old self.new }
         ensures node { IfOk result (Makes self.old self.new) }
+        ensures leaf { OnOk result (IsLeafAt self.old.words.items self.old.at) }
         ensures over { OnOk result (self.new.at ≡ suc self.old.at) }
         ensures wrong { IfErr result (LiesIn self.old.tree.text_len) }
     {

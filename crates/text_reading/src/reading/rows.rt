@@ -1,5 +1,7 @@
 //! The rows of each sort. Those that begin alike stand together, and of these one that can be left out last.
-ghost use Rattle.std.specs.Prelude.{◌<◌, length};
+ghost use Rattle.std.specs.Prelude.{◌≡◌, ◌<◌, length};
+ghost use Rattle.text_reading.specs.Rows.{rows_of};
+ghost use Rattle.text_reading.specs.Shapes.{rows_in};
 
 mod predicates;
 mod questions;
@@ -18,7 +20,8 @@ use terms::{
 
 // The rows of a sort.
 pub(super) fn rows_of(sort: Sort) -> &'static [Shape]
-    ensures { 0 < length result.now }
+    ensures rows { rows_in result.now ≡ rows_of sort }
+    ensures some { 0 < length result.now }
 {
     match sort {
         Sort::Statement => &STATEMENT,

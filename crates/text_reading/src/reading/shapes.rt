@@ -102,11 +102,7 @@ pub enum Makes {
 }
 
 /// A form: what it makes, and how it is written.
-#[derive(Clone, Copy)]
-pub struct Shape {
-    pub makes: Makes,
-    pub pieces: &'static [Piece],
-}
+pub type Shape = (Makes, &'static [Piece]);
 
 // The node over what is always one part, and so is never made.
 pub(super) const ITSELF: Makes = Makes::Lone(Form::Terms);

@@ -16,80 +16,45 @@ const RIGID_OR_INFER: Expected = Expected::Either(Sign::Rigid, Sign::Infer);
 
 // A question.
 pub(in crate::reading) static QUESTION: [Shape; 3] = [
-    Shape {
-        makes: Node(Form::Then),
-        pieces: &[Mark(Sign::Then), Part(Sort::Asked)],
-    },
-    Shape {
-        makes: Node(Form::Repeat),
-        pieces: &[
+    (Node(Form::Then), &[Mark(Sign::Then), Part(Sort::Asked)]),
+    (Node(Form::Repeat), &[
             Mark(Sign::Repeat),
             Leaf(Expected::Number),
             Part(Sort::Asked),
-        ],
-    },
-    Shape {
-        makes: ITSELF,
-        pieces: &[Part(Sort::Asked)],
-    },
+        ]),
+    (ITSELF, &[Part(Sort::Asked)]),
 ];
 
 // What is asked.
 pub(in crate::reading) static ASKED: [Shape; 28] = [
-    Shape {
-        makes: Node(Form::Visit),
-        pieces: &[
+    (Node(Form::Visit), &[
             Mark(Sign::Visit),
             Part(Sort::Term),
             Part(Sort::Skip),
             Part(Sort::Stop),
-        ],
-    },
-    Shape {
-        makes: Node(Form::Walk),
-        pieces: &[
+        ]),
+    (Node(Form::Walk), &[
             Mark(Sign::Walk),
             Part(Sort::Term),
             Further(Sign::Skip),
             Mark(Sign::After),
             List(Sort::Number, Line::By(Sign::Comma)),
-        ],
-    },
-    Shape {
-        makes: Node(Form::Components),
-        pieces: &[Mark(Sign::Components), Part(Sort::Term)],
-    },
-    Shape {
-        makes: Node(Form::Assumptions),
-        pieces: &[
+        ]),
+    (Node(Form::Components), &[Mark(Sign::Components), Part(Sort::Term)]),
+    (Node(Form::Assumptions), &[
             Mark(Sign::Assumptions),
             List(Sort::Outlives, Line::By(Sign::Comma)),
-        ],
-    },
-    Shape {
-        makes: Node(Form::Fold),
-        pieces: &[
+        ]),
+    (Node(Form::Fold), &[
             Mark(Sign::Fold),
             Part(Sort::Term),
             Mark(Sign::With),
             List(Sort::Put, Line::By(Sign::Comma)),
-        ],
-    },
-    Shape {
-        makes: Node(Form::Escapes),
-        pieces: &[Mark(Sign::Escapes), Part(Sort::Term)],
-    },
-    Shape {
-        makes: Node(Form::Infers),
-        pieces: &[Mark(Sign::Infers), Part(Sort::Term)],
-    },
-    Shape {
-        makes: Node(Form::Rigid),
-        pieces: &[Mark(Sign::Rigid), Part(Sort::Term)],
-    },
-    Shape {
-        makes: Node(Form::MayUnify(SideParams::InferInfer)),
-        pieces: &[
+        ]),
+    (Node(Form::Escapes), &[Mark(Sign::Escapes), Part(Sort::Term)]),
+    (Node(Form::Infers), &[Mark(Sign::Infers), Part(Sort::Term)]),
+    (Node(Form::Rigid), &[Mark(Sign::Rigid), Part(Sort::Term)]),
+    (Node(Form::MayUnify(SideParams::InferInfer)), &[
             Mark(Sign::May),
             Mark(Sign::Unify),
             Mark(Sign::LeftBracket),
@@ -102,11 +67,8 @@ pub(in crate::reading) static ASKED: [Shape; 28] = [
             Part(Sort::Term),
             Further(Sign::At),
             Leaf(Expected::Number),
-        ],
-    },
-    Shape {
-        makes: Node(Form::MayUnify(SideParams::RigidInfer)),
-        pieces: &[
+        ]),
+    (Node(Form::MayUnify(SideParams::RigidInfer)), &[
             Mark(Sign::May),
             Mark(Sign::Unify),
             Mark(Sign::LeftBracket),
@@ -119,11 +81,8 @@ pub(in crate::reading) static ASKED: [Shape; 28] = [
             Part(Sort::Term),
             Further(Sign::At),
             Leaf(Expected::Number),
-        ],
-    },
-    Shape {
-        makes: Node(Form::MayUnify(SideParams::RigidRigid)),
-        pieces: &[
+        ]),
+    (Node(Form::MayUnify(SideParams::RigidRigid)), &[
             Mark(Sign::May),
             Mark(Sign::Unify),
             Mark(Sign::LeftBracket),
@@ -136,11 +95,8 @@ pub(in crate::reading) static ASKED: [Shape; 28] = [
             Part(Sort::Term),
             Further(Sign::At),
             Leaf(Expected::Number),
-        ],
-    },
-    Shape {
-        makes: Node(Form::ArgsMayUnify(SideParams::InferInfer)),
-        pieces: &[
+        ]),
+    (Node(Form::ArgsMayUnify(SideParams::InferInfer)), &[
             Mark(Sign::Args),
             Mark(Sign::May),
             Mark(Sign::Unify),
@@ -152,11 +108,8 @@ pub(in crate::reading) static ASKED: [Shape; 28] = [
             Part(Sort::Arguments),
             Mark(Sign::Comma),
             Part(Sort::Arguments),
-        ],
-    },
-    Shape {
-        makes: Node(Form::ArgsMayUnify(SideParams::RigidInfer)),
-        pieces: &[
+        ]),
+    (Node(Form::ArgsMayUnify(SideParams::RigidInfer)), &[
             Mark(Sign::Args),
             Mark(Sign::May),
             Mark(Sign::Unify),
@@ -168,11 +121,8 @@ pub(in crate::reading) static ASKED: [Shape; 28] = [
             Part(Sort::Arguments),
             Mark(Sign::Comma),
             Part(Sort::Arguments),
-        ],
-    },
-    Shape {
-        makes: Node(Form::ArgsMayUnify(SideParams::RigidRigid)),
-        pieces: &[
+        ]),
+    (Node(Form::ArgsMayUnify(SideParams::RigidRigid)), &[
             Mark(Sign::Args),
             Mark(Sign::May),
             Mark(Sign::Unify),
@@ -184,31 +134,19 @@ pub(in crate::reading) static ASKED: [Shape; 28] = [
             Part(Sort::Arguments),
             Mark(Sign::Comma),
             Part(Sort::Arguments),
-        ],
-    },
-    Shape {
-        makes: Node(Form::ArgsEqual),
-        pieces: &[
+        ]),
+    (Node(Form::ArgsEqual), &[
             Mark(Sign::Args),
             Part(Sort::Arguments),
             Mark(Sign::Equal),
             Part(Sort::Arguments),
-        ],
-    },
-    Shape {
-        makes: Node(Form::Key(KeyParams::Rigid)),
-        pieces: &[Mark(Sign::Key), Mark(Sign::Rigid), Part(Sort::Term)],
-    },
-    Shape {
-        makes: Node(Form::Key(KeyParams::Infer)),
-        pieces: &[Mark(Sign::Key), Part(Sort::Term)],
-    },
-    Shape {
-        makes: Node(Form::Elaborate {
+        ]),
+    (Node(Form::Key(KeyParams::Rigid)), &[Mark(Sign::Key), Mark(Sign::Rigid), Part(Sort::Term)]),
+    (Node(Form::Key(KeyParams::Infer)), &[Mark(Sign::Key), Part(Sort::Term)]),
+    (Node(Form::Elaborate {
             only_self: true,
             sized: true,
-        }),
-        pieces: &[
+        }), &[
             Mark(Sign::Elaborate),
             NextTwo(Sign::LeftBracket, Sign::SelfType),
             Mark(Sign::LeftBracket),
@@ -219,14 +157,11 @@ pub(in crate::reading) static ASKED: [Shape; 28] = [
             Unless(Sign::Limit, Sort::Predicate),
             Maybe(Sort::Limit),
             Maybe(Sort::Pulls),
-        ],
-    },
-    Shape {
-        makes: Node(Form::Elaborate {
+        ]),
+    (Node(Form::Elaborate {
             only_self: true,
             sized: false,
-        }),
-        pieces: &[
+        }), &[
             Mark(Sign::Elaborate),
             NextTwo(Sign::LeftBracket, Sign::SelfType),
             Mark(Sign::LeftBracket),
@@ -235,14 +170,11 @@ pub(in crate::reading) static ASKED: [Shape; 28] = [
             Unless(Sign::Limit, Sort::Predicate),
             Maybe(Sort::Limit),
             Maybe(Sort::Pulls),
-        ],
-    },
-    Shape {
-        makes: Node(Form::Elaborate {
+        ]),
+    (Node(Form::Elaborate {
             only_self: false,
             sized: true,
-        }),
-        pieces: &[
+        }), &[
             Mark(Sign::Elaborate),
             NextTwo(Sign::LeftBracket, Sign::Sized),
             Mark(Sign::LeftBracket),
@@ -251,141 +183,86 @@ pub(in crate::reading) static ASKED: [Shape; 28] = [
             Unless(Sign::Limit, Sort::Predicate),
             Maybe(Sort::Limit),
             Maybe(Sort::Pulls),
-        ],
-    },
-    Shape {
-        makes: Node(Form::Elaborate {
+        ]),
+    (Node(Form::Elaborate {
             only_self: false,
             sized: false,
-        }),
-        pieces: &[
+        }), &[
             Mark(Sign::Elaborate),
             Unless(Sign::Limit, Sort::Predicate),
             Maybe(Sort::Limit),
             Maybe(Sort::Pulls),
-        ],
-    },
-    Shape {
-        makes: Node(Form::SupertraitIds),
-        pieces: &[
+        ]),
+    (Node(Form::SupertraitIds), &[
             Mark(Sign::Supertraits),
             NextName(Sign::Semicolon),
             Leaf(Expected::Name),
-        ],
-    },
-    Shape {
-        makes: Node(Form::Supertraits),
-        pieces: &[
+        ]),
+    (Node(Form::Supertraits), &[
             Mark(Sign::Supertraits),
             Part(Sort::Predicate),
             Maybe(Sort::Limit),
-        ],
-    },
-    Shape {
-        makes: Node(Form::Count(Counted::Goals)),
-        pieces: &[
+        ]),
+    (Node(Form::Count(Counted::Goals)), &[
             Mark(Sign::Count),
             OneOf(Sign::Goals, GOALS_OR_REGIONS),
             Part(Sort::Pair),
-        ],
-    },
-    Shape {
-        makes: Node(Form::Count(Counted::Regions)),
-        pieces: &[
+        ]),
+    (Node(Form::Count(Counted::Regions)), &[
             Mark(Sign::Count),
             OneOf(Sign::Regions, GOALS_OR_REGIONS),
             Part(Sort::Pair),
-        ],
-    },
-    Shape {
-        makes: Node(Form::One),
-        pieces: &[
+        ]),
+    (Node(Form::One), &[
             Mark(Sign::One),
             Leaf(Expected::AnyVariable),
             Mark(Sign::Comma),
             Leaf(Expected::AnyVariable),
-        ],
-    },
-    Shape {
-        makes: Node(Form::Binding),
-        pieces: &[Mark(Sign::Binding), Leaf(Expected::AnyVariable)],
-    },
-    Shape {
-        makes: ITSELF,
-        pieces: &[Part(Sort::Pair)],
-    },
+        ]),
+    (Node(Form::Binding), &[Mark(Sign::Binding), Leaf(Expected::AnyVariable)]),
+    (ITSELF, &[Part(Sort::Pair)]),
 ];
 
 // Two terms, and how they are related.
 pub(in crate::reading) static PAIR: [Shape; 4] = [
-    Shape {
-        makes: Node(Form::Question(Relation::At(Variance::Covariant))),
-        pieces: &[
+    (Node(Form::Question(Relation::At(Variance::Covariant))), &[
             Part(Sort::Term),
             OneOf(Sign::Subtype, Expected::Relation),
             Part(Sort::Term),
-        ],
-    },
-    Shape {
-        makes: Node(Form::Question(Relation::At(Variance::Contravariant))),
-        pieces: &[
+        ]),
+    (Node(Form::Question(Relation::At(Variance::Contravariant))), &[
             Part(Sort::Term),
             OneOf(Sign::Supertype, Expected::Relation),
             Part(Sort::Term),
-        ],
-    },
-    Shape {
-        makes: Node(Form::Question(Relation::At(Variance::Invariant))),
-        pieces: &[
+        ]),
+    (Node(Form::Question(Relation::At(Variance::Invariant))), &[
             Part(Sort::Term),
             OneOf(Sign::Equal, Expected::Relation),
             Part(Sort::Term),
-        ],
-    },
-    Shape {
-        makes: Node(Form::Question(Relation::Structurally)),
-        pieces: &[
+        ]),
+    (Node(Form::Question(Relation::Structurally)), &[
             Part(Sort::Term),
             OneOf(Sign::StructurallyEqual, Expected::Relation),
             Part(Sort::Term),
-        ],
-    },
+        ]),
 ];
 
 // The terms at which a visitor skips, and those at which it stops.
-pub(in crate::reading) static SKIP: [Shape; 1] = [Shape {
-    makes: Node(Form::Terms),
-    pieces: &[Further(Sign::Skip), List(Sort::Term, Line::By(Sign::Comma))],
-}];
+pub(in crate::reading) static SKIP: [Shape; 1] = [(Node(Form::Terms), &[Further(Sign::Skip), List(Sort::Term, Line::By(Sign::Comma))])];
 
-pub(in crate::reading) static STOP: [Shape; 1] = [Shape {
-    makes: Node(Form::Terms),
-    pieces: &[Further(Sign::Stop), List(Sort::Term, Line::By(Sign::Comma))],
-}];
+pub(in crate::reading) static STOP: [Shape; 1] = [(Node(Form::Terms), &[Further(Sign::Stop), List(Sort::Term, Line::By(Sign::Comma))])];
 
 // A number.
-pub(in crate::reading) static NUMBER: [Shape; 1] = [Shape {
-    makes: ITSELF,
-    pieces: &[Leaf(Expected::Number)],
-}];
+pub(in crate::reading) static NUMBER: [Shape; 1] = [(ITSELF, &[Leaf(Expected::Number)])];
 
 // A term, and the region that it outlives.
-pub(in crate::reading) static OUTLIVES: [Shape; 1] = [Shape {
-    makes: Node(Form::Outlives),
-    pieces: &[Part(Sort::Term), Mark(Sign::Colon), Part(Sort::Term)],
-}];
+pub(in crate::reading) static OUTLIVES: [Shape; 1] = [(Node(Form::Outlives), &[Part(Sort::Term), Mark(Sign::Colon), Part(Sort::Term)])];
 
 // A term, and the one that is put for it.
-pub(in crate::reading) static PUT: [Shape; 1] = [Shape {
-    makes: Node(Form::Put),
-    pieces: &[Part(Sort::Term), Mark(Sign::Assign), Part(Sort::Term)],
-}];
+pub(in crate::reading) static PUT: [Shape; 1] = [(Node(Form::Put), &[Part(Sort::Term), Mark(Sign::Assign), Part(Sort::Term)])];
 
 // A list of arguments.
-pub(in crate::reading) static ARGUMENTS: [Shape; 1] = [Shape {
-    makes: Node(Form::Terms),
-    pieces: &[
+pub(in crate::reading) static ARGUMENTS: [Shape; 1] = [(Node(Form::Terms), &[
         Mark(Sign::LeftBracket),
         List(Sort::Term, Line::To(Sign::RightBracket)),
-    ],
-}];
+    ])];

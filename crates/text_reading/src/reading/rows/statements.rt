@@ -12,320 +12,188 @@ const TYPE_OR_CONST: Expected = Expected::Either(Sign::Type, Sign::Const);
 
 // A statement, without the `;` behind it. A function pointer that begins one is asked about.
 pub(in crate::reading) static STATEMENT: [Shape; 30] = [
-    Shape {
-        makes: ITSELF,
-        pieces: &[NextTwo(Sign::Fn, Sign::LeftParen), Part(Sort::Question)],
-    },
-    Shape {
-        makes: ITSELF,
-        pieces: &[NextTwo(Sign::Extern, Sign::AbiC), Part(Sort::Question)],
-    },
-    Shape {
-        makes: ITSELF,
-        pieces: &[NextTwo(Sign::Extern, Sign::AbiSystem), Part(Sort::Question)],
-    },
-    Shape {
-        makes: Node(Form::IsSized),
-        pieces: &[Mark(Sign::Sized), Leaf(Expected::Name)],
-    },
-    Shape {
-        makes: Node(Form::States(StatedKind::Super)),
-        pieces: &[
+    (ITSELF, &[NextTwo(Sign::Fn, Sign::LeftParen), Part(Sort::Question)]),
+    (ITSELF, &[NextTwo(Sign::Extern, Sign::AbiC), Part(Sort::Question)]),
+    (ITSELF, &[NextTwo(Sign::Extern, Sign::AbiSystem), Part(Sort::Question)]),
+    (Node(Form::IsSized), &[Mark(Sign::Sized), Leaf(Expected::Name)]),
+    (Node(Form::States(StatedKind::Super)), &[
             Mark(Sign::Super),
             Part(Sort::Stating),
             Mark(Sign::Colon),
             List(Sort::Predicate, Line::By(Sign::Comma)),
-        ],
-    },
-    Shape {
-        makes: Node(Form::States(StatedKind::Implied)),
-        pieces: &[
+        ]),
+    (Node(Form::States(StatedKind::Implied)), &[
             Mark(Sign::Implied),
             Part(Sort::Stating),
             Mark(Sign::Colon),
             List(Sort::Predicate, Line::By(Sign::Comma)),
-        ],
-    },
-    Shape {
-        makes: Node(Form::States(StatedKind::Const)),
-        pieces: &[
+        ]),
+    (Node(Form::States(StatedKind::Const)), &[
             Mark(Sign::Const),
             Mark(Sign::Super),
             Part(Sort::Stating),
             Mark(Sign::Colon),
             List(Sort::Predicate, Line::By(Sign::Comma)),
-        ],
-    },
-    Shape {
-        makes: Node(Form::Item(ItemSort::AssocConst)),
-        pieces: &[
+        ]),
+    (Node(Form::Item(ItemSort::AssocConst)), &[
             Mark(Sign::Const),
             Leaf(Expected::Name),
             Mark(Sign::PathSep),
             Leaf(Expected::Name),
             Further(Sign::Less),
             List(Sort::Declared, Line::To(Sign::Greater)),
-        ],
-    },
-    Shape {
-        makes: Node(Form::Item(ItemSort::FreeConst)),
-        pieces: &[
+        ]),
+    (Node(Form::Item(ItemSort::FreeConst)), &[
             Mark(Sign::Const),
             Leaf(Expected::Name),
             Further(Sign::Less),
             List(Sort::Declared, Line::To(Sign::Greater)),
-        ],
-    },
-    Shape {
-        makes: Node(Form::Item(ItemSort::Struct)),
-        pieces: &[
+        ]),
+    (Node(Form::Item(ItemSort::Struct)), &[
             Mark(Sign::Struct),
             Leaf(Expected::Name),
             Further(Sign::Less),
             List(Sort::Declared, Line::To(Sign::Greater)),
-        ],
-    },
-    Shape {
-        makes: Node(Form::Item(ItemSort::Fn)),
-        pieces: &[
+        ]),
+    (Node(Form::Item(ItemSort::Fn)), &[
             Mark(Sign::Fn),
             Leaf(Expected::Name),
             Further(Sign::Less),
             List(Sort::Declared, Line::To(Sign::Greater)),
-        ],
-    },
-    Shape {
-        makes: Node(Form::Item(ItemSort::Closure)),
-        pieces: &[
+        ]),
+    (Node(Form::Item(ItemSort::Closure)), &[
             Mark(Sign::Closure),
             Leaf(Expected::Name),
             Further(Sign::Less),
             List(Sort::Declared, Line::To(Sign::Greater)),
-        ],
-    },
-    Shape {
-        makes: Node(Form::Item(ItemSort::CoroutineClosure)),
-        pieces: &[
+        ]),
+    (Node(Form::Item(ItemSort::CoroutineClosure)), &[
             Mark(Sign::Coroutine),
             Mark(Sign::Closure),
             Leaf(Expected::Name),
             Further(Sign::Less),
             List(Sort::Declared, Line::To(Sign::Greater)),
-        ],
-    },
-    Shape {
-        makes: Node(Form::Item(ItemSort::CoroutineWitness)),
-        pieces: &[
+        ]),
+    (Node(Form::Item(ItemSort::CoroutineWitness)), &[
             Mark(Sign::Coroutine),
             Mark(Sign::Witness),
             Leaf(Expected::Name),
             Further(Sign::Less),
             List(Sort::Declared, Line::To(Sign::Greater)),
-        ],
-    },
-    Shape {
-        makes: Node(Form::Item(ItemSort::Coroutine)),
-        pieces: &[
+        ]),
+    (Node(Form::Item(ItemSort::Coroutine)), &[
             Mark(Sign::Coroutine),
             Leaf(Expected::Name),
             Further(Sign::Less),
             List(Sort::Declared, Line::To(Sign::Greater)),
-        ],
-    },
-    Shape {
-        makes: Node(Form::Item(ItemSort::Foreign)),
-        pieces: &[
+        ]),
+    (Node(Form::Item(ItemSort::Foreign)), &[
             Mark(Sign::Extern),
             Mark(Sign::Type),
             Leaf(Expected::Name),
             Further(Sign::Less),
             List(Sort::Declared, Line::To(Sign::Greater)),
-        ],
-    },
-    Shape {
-        makes: Node(Form::Item(ItemSort::Trait)),
-        pieces: &[
+        ]),
+    (Node(Form::Item(ItemSort::Trait)), &[
             Mark(Sign::Trait),
             Leaf(Expected::Name),
             Further(Sign::Less),
             List(Sort::Declared, Line::To(Sign::Greater)),
-        ],
-    },
-    Shape {
-        makes: Node(Form::Item(ItemSort::AutoTrait)),
-        pieces: &[
+        ]),
+    (Node(Form::Item(ItemSort::AutoTrait)), &[
             Mark(Sign::Auto),
             Mark(Sign::Trait),
             Leaf(Expected::Name),
             Further(Sign::Less),
             List(Sort::Declared, Line::To(Sign::Greater)),
-        ],
-    },
-    Shape {
-        makes: Node(Form::Item(ItemSort::AssocTy)),
-        pieces: &[
+        ]),
+    (Node(Form::Item(ItemSort::AssocTy)), &[
             Mark(Sign::Type),
             Leaf(Expected::Name),
             Mark(Sign::PathSep),
             Leaf(Expected::Name),
             Further(Sign::Less),
             List(Sort::Declared, Line::To(Sign::Greater)),
-        ],
-    },
-    Shape {
-        makes: Node(Form::Item(ItemSort::FreeTy)),
-        pieces: &[
+        ]),
+    (Node(Form::Item(ItemSort::FreeTy)), &[
             Mark(Sign::Type),
             Leaf(Expected::Name),
             Further(Sign::Less),
             List(Sort::Declared, Line::To(Sign::Greater)),
-        ],
-    },
-    Shape {
-        makes: Node(Form::Item(ItemSort::Opaque)),
-        pieces: &[
+        ]),
+    (Node(Form::Item(ItemSort::Opaque)), &[
             Mark(Sign::Opaque),
             Leaf(Expected::Name),
             Further(Sign::Less),
             List(Sort::Declared, Line::To(Sign::Greater)),
-        ],
-    },
-    Shape {
-        makes: Node(Form::Item(ItemSort::InherentTy)),
-        pieces: &[
+        ]),
+    (Node(Form::Item(ItemSort::InherentTy)), &[
             Mark(Sign::Inherent),
             OneOf(Sign::Type, TYPE_OR_CONST),
             Leaf(Expected::Name),
             Further(Sign::Less),
             List(Sort::Declared, Line::To(Sign::Greater)),
-        ],
-    },
-    Shape {
-        makes: Node(Form::Item(ItemSort::InherentConst)),
-        pieces: &[
+        ]),
+    (Node(Form::Item(ItemSort::InherentConst)), &[
             Mark(Sign::Inherent),
             OneOf(Sign::Const, TYPE_OR_CONST),
             Leaf(Expected::Name),
             Further(Sign::Less),
             List(Sort::Declared, Line::To(Sign::Greater)),
-        ],
-    },
-    Shape {
-        makes: Node(Form::Parameters),
-        pieces: &[
+        ]),
+    (Node(Form::Parameters), &[
             Mark(Sign::Param),
             List(Sort::Parameter, Line::By(Sign::Comma)),
-        ],
-    },
-    Shape {
-        makes: Node(Form::Sets(Setting::Budget)),
-        pieces: &[Mark(Sign::Budget), Leaf(Expected::Number)],
-    },
-    Shape {
-        makes: Node(Form::Sets(Setting::Solver)),
-        pieces: &[Mark(Sign::Solver), Leaf(Expected::Name)],
-    },
-    Shape {
-        makes: Node(Form::Sets(Setting::Mode)),
-        pieces: &[Mark(Sign::Mode), Leaf(Expected::Name)],
-    },
-    Shape {
-        makes: Node(Form::Variables),
-        pieces: &[
+        ]),
+    (Node(Form::Sets(Setting::Budget)), &[Mark(Sign::Budget), Leaf(Expected::Number)]),
+    (Node(Form::Sets(Setting::Solver)), &[Mark(Sign::Solver), Leaf(Expected::Name)]),
+    (Node(Form::Sets(Setting::Mode)), &[Mark(Sign::Mode), Leaf(Expected::Name)]),
+    (Node(Form::Variables), &[
             Mark(Sign::Variables),
             List(Sort::Made, Line::By(Sign::Comma)),
             Further(Sign::In),
             Leaf(Expected::Number),
-        ],
-    },
-    Shape {
-        makes: Node(Form::Let),
-        pieces: &[
+        ]),
+    (Node(Form::Let), &[
             Mark(Sign::Let),
             Leaf(Expected::Name),
             Mark(Sign::Assign),
             Part(Sort::Term),
-        ],
-    },
-    Shape {
-        makes: ITSELF,
-        pieces: &[Part(Sort::Question)],
-    },
+        ]),
+    (ITSELF, &[Part(Sort::Question)]),
 ];
 
 // The trait whose predicates follow.
-pub(in crate::reading) static STATING: [Shape; 1] = [Shape {
-    makes: Node(Form::Stating),
-    pieces: &[Leaf(Expected::Name)],
-}];
+pub(in crate::reading) static STATING: [Shape; 1] = [(Node(Form::Stating), &[Leaf(Expected::Name)])];
 
 // What an item declares, and how the item varies with it.
 pub(in crate::reading) static DECLARED: [Shape; 10] = [
-    Shape {
-        makes: Node(Form::DeclaredConst(Variance::Covariant)),
-        pieces: &[Mark(Sign::Plus), Mark(Sign::Const), Leaf(Expected::Name)],
-    },
-    Shape {
-        makes: Node(Form::Declared(Variance::Covariant)),
-        pieces: &[Mark(Sign::Plus), Leaf(Expected::Parameter)],
-    },
-    Shape {
-        makes: Node(Form::DeclaredConst(Variance::Contravariant)),
-        pieces: &[Mark(Sign::Minus), Mark(Sign::Const), Leaf(Expected::Name)],
-    },
-    Shape {
-        makes: Node(Form::Declared(Variance::Contravariant)),
-        pieces: &[Mark(Sign::Minus), Leaf(Expected::Parameter)],
-    },
-    Shape {
-        makes: Node(Form::DeclaredConst(Variance::Bivariant)),
-        pieces: &[Mark(Sign::Star), Mark(Sign::Const), Leaf(Expected::Name)],
-    },
-    Shape {
-        makes: Node(Form::Declared(Variance::Bivariant)),
-        pieces: &[Mark(Sign::Star), Leaf(Expected::Parameter)],
-    },
-    Shape {
-        makes: Node(Form::DeclaredConst(Variance::Invariant)),
-        pieces: &[Mark(Sign::Assign), Mark(Sign::Const), Leaf(Expected::Name)],
-    },
-    Shape {
-        makes: Node(Form::Declared(Variance::Invariant)),
-        pieces: &[Mark(Sign::Assign), Leaf(Expected::Parameter)],
-    },
-    Shape {
-        makes: Node(Form::DeclaredConst(Variance::Invariant)),
-        pieces: &[Mark(Sign::Const), Leaf(Expected::Name)],
-    },
-    Shape {
-        makes: Node(Form::Declared(Variance::Invariant)),
-        pieces: &[Leaf(Expected::Parameter)],
-    },
+    (Node(Form::DeclaredConst(Variance::Covariant)), &[Mark(Sign::Plus), Mark(Sign::Const), Leaf(Expected::Name)]),
+    (Node(Form::Declared(Variance::Covariant)), &[Mark(Sign::Plus), Leaf(Expected::Parameter)]),
+    (Node(Form::DeclaredConst(Variance::Contravariant)), &[Mark(Sign::Minus), Mark(Sign::Const), Leaf(Expected::Name)]),
+    (Node(Form::Declared(Variance::Contravariant)), &[Mark(Sign::Minus), Leaf(Expected::Parameter)]),
+    (Node(Form::DeclaredConst(Variance::Bivariant)), &[Mark(Sign::Star), Mark(Sign::Const), Leaf(Expected::Name)]),
+    (Node(Form::Declared(Variance::Bivariant)), &[Mark(Sign::Star), Leaf(Expected::Parameter)]),
+    (Node(Form::DeclaredConst(Variance::Invariant)), &[Mark(Sign::Assign), Mark(Sign::Const), Leaf(Expected::Name)]),
+    (Node(Form::Declared(Variance::Invariant)), &[Mark(Sign::Assign), Leaf(Expected::Parameter)]),
+    (Node(Form::DeclaredConst(Variance::Invariant)), &[Mark(Sign::Const), Leaf(Expected::Name)]),
+    (Node(Form::Declared(Variance::Invariant)), &[Leaf(Expected::Parameter)]),
 ];
 
 // A parameter, with its index if that is given.
 pub(in crate::reading) static PARAMETER: [Shape; 2] = [
-    Shape {
-        makes: Node(Form::ConstParameter),
-        pieces: &[
+    (Node(Form::ConstParameter), &[
             Mark(Sign::Const),
             Leaf(Expected::Name),
             Further(Sign::Assign),
             Leaf(Expected::Number),
-        ],
-    },
-    Shape {
-        makes: Node(Form::Parameter),
-        pieces: &[
+        ]),
+    (Node(Form::Parameter), &[
             Leaf(Expected::Parameter),
             Further(Sign::Assign),
             Leaf(Expected::Number),
-        ],
-    },
+        ]),
 ];
 
 // A variable that contexts have.
-pub(in crate::reading) static MADE: [Shape; 1] = [Shape {
-    makes: ITSELF,
-    pieces: &[Leaf(Expected::Variable)],
-}];
+pub(in crate::reading) static MADE: [Shape; 1] = [(ITSELF, &[Leaf(Expected::Variable)])];

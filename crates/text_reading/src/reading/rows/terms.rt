@@ -21,132 +21,79 @@ pub(in crate::reading) const PLAIN_HEADER: FnHeader = FnHeader {
 
 // A term, with a pattern or without.
 pub(in crate::reading) static TERM: [Shape; 2] = [
-    Shape {
-        makes: Node(Form::Pat),
-        pieces: &[Part(Sort::Plain), Mark(Sign::Is), Part(Sort::Pattern)],
-    },
-    Shape {
-        makes: ITSELF,
-        pieces: &[Part(Sort::Plain)],
-    },
+    (Node(Form::Pat), &[Part(Sort::Plain), Mark(Sign::Is), Part(Sort::Pattern)]),
+    (ITSELF, &[Part(Sort::Plain)]),
 ];
 
 // A term behind which no pattern is looked for.
 pub(in crate::reading) static PLAIN: [Shape; 22] = [
-    Shape {
-        makes: Node(Form::Applied),
-        pieces: &[
+    (Node(Form::Applied), &[
             NextName(Sign::Less),
             Leaf(Expected::Name),
             Mark(Sign::Less),
             List(Sort::Term, Line::To(Sign::Greater)),
-        ],
-    },
-    Shape {
-        makes: ITSELF,
-        pieces: &[Leaf(Expected::Name)],
-    },
-    Shape {
-        makes: Node(Form::Ref(Mutability::Mut)),
-        pieces: &[
+        ]),
+    (ITSELF, &[Leaf(Expected::Name)]),
+    (Node(Form::Ref(Mutability::Mut)), &[
             Mark(Sign::Ampersand),
             Leaf(Expected::Region),
             Mark(Sign::Mut),
             Part(Sort::Term),
-        ],
-    },
-    Shape {
-        makes: Node(Form::Ref(Mutability::Not)),
-        pieces: &[
+        ]),
+    (Node(Form::Ref(Mutability::Not)), &[
             Mark(Sign::Ampersand),
             Leaf(Expected::Region),
             Part(Sort::Term),
-        ],
-    },
-    Shape {
-        makes: Lone(Form::Tuple),
-        pieces: &[
+        ]),
+    (Lone(Form::Tuple), &[
             Mark(Sign::LeftParen),
             List(Sort::Term, Line::To(Sign::RightParen)),
-        ],
-    },
-    Shape {
-        makes: Node(Form::Array),
-        pieces: &[
+        ]),
+    (Node(Form::Array), &[
             Mark(Sign::LeftBracket),
             Part(Sort::Term),
             Mark(Sign::Semicolon),
             Part(Sort::Term),
             Mark(Sign::RightBracket),
-        ],
-    },
-    Shape {
-        makes: Node(Form::Slice),
-        pieces: &[
+        ]),
+    (Node(Form::Slice), &[
             Mark(Sign::LeftBracket),
             Part(Sort::Term),
             Mark(Sign::RightBracket),
-        ],
-    },
-    Shape {
-        makes: Node(Form::Never),
-        pieces: &[Mark(Sign::Bang)],
-    },
-    Shape {
-        makes: Node(Form::RawPtr(Mutability::Not)),
-        pieces: &[
+        ]),
+    (Node(Form::Never), &[Mark(Sign::Bang)]),
+    (Node(Form::RawPtr(Mutability::Not)), &[
             Mark(Sign::Star),
             OneOf(Sign::Const, CONST_OR_MUT),
             Part(Sort::Term),
-        ],
-    },
-    Shape {
-        makes: Node(Form::RawPtr(Mutability::Mut)),
-        pieces: &[
+        ]),
+    (Node(Form::RawPtr(Mutability::Mut)), &[
             Mark(Sign::Star),
             OneOf(Sign::Mut, CONST_OR_MUT),
             Part(Sort::Term),
-        ],
-    },
-    Shape {
-        makes: Node(Form::Error),
-        pieces: &[
+        ]),
+    (Node(Form::Error), &[
             Mark(Sign::LeftBrace),
             Mark(Sign::Error),
             Mark(Sign::RightBrace),
-        ],
-    },
-    Shape {
-        makes: Node(Form::Branch),
-        pieces: &[
+        ]),
+    (Node(Form::Branch), &[
             Mark(Sign::LeftBrace),
             List(Sort::Term, Line::To(Sign::RightBrace)),
-        ],
-    },
-    Shape {
-        makes: Node(Form::Expr),
-        pieces: &[
+        ]),
+    (Node(Form::Expr), &[
             Mark(Sign::Expr),
             Leaf(Expected::Number),
             Mark(Sign::LeftParen),
             List(Sort::Term, Line::To(Sign::RightParen)),
-        ],
-    },
-    Shape {
-        makes: Node(Form::Const),
-        pieces: &[Mark(Sign::Const), Part(Sort::Constant)],
-    },
-    Shape {
-        makes: Node(Form::Object),
-        pieces: &[
+        ]),
+    (Node(Form::Const), &[Mark(Sign::Const), Part(Sort::Constant)]),
+    (Node(Form::Object), &[
             Mark(Sign::Dyn),
             List(Sort::Bound, Line::Bounds),
             Leaf(Expected::Region),
-        ],
-    },
-    Shape {
-        makes: Node(Form::Associated),
-        pieces: &[
+        ]),
+    (Node(Form::Associated), &[
             Mark(Sign::Less),
             Part(Sort::Term),
             Mark(Sign::As),
@@ -154,216 +101,131 @@ pub(in crate::reading) static PLAIN: [Shape; 22] = [
             Mark(Sign::Greater),
             Mark(Sign::PathSep),
             Part(Sort::Named),
-        ],
-    },
-    Shape {
-        makes: Node(Form::FnPtr(PLAIN_HEADER)),
-        pieces: &[
+        ]),
+    (Node(Form::FnPtr(PLAIN_HEADER)), &[
             Mark(Sign::For),
             Part(Sort::Variables),
             Header,
             List(Sort::Term, Line::Inputs),
             Part(Sort::Output),
-        ],
-    },
-    Shape {
-        makes: Node(Form::UnsafeBinder),
-        pieces: &[
+        ]),
+    (Node(Form::UnsafeBinder), &[
             NextTwo(Sign::Unsafe, Sign::Less),
             Mark(Sign::Unsafe),
             Part(Sort::Variables),
             Part(Sort::Term),
-        ],
-    },
-    Shape {
-        makes: Node(Form::FnPtr(PLAIN_HEADER)),
-        pieces: &[
+        ]),
+    (Node(Form::FnPtr(PLAIN_HEADER)), &[
             Next(Sign::Unsafe),
             Part(Sort::NoBinder),
             Header,
             List(Sort::Term, Line::Inputs),
             Part(Sort::Output),
-        ],
-    },
-    Shape {
-        makes: Node(Form::FnPtr(PLAIN_HEADER)),
-        pieces: &[
+        ]),
+    (Node(Form::FnPtr(PLAIN_HEADER)), &[
             Next(Sign::Fn),
             Part(Sort::NoBinder),
             Header,
             List(Sort::Term, Line::Inputs),
             Part(Sort::Output),
-        ],
-    },
-    Shape {
-        makes: Node(Form::FnPtr(PLAIN_HEADER)),
-        pieces: &[
+        ]),
+    (Node(Form::FnPtr(PLAIN_HEADER)), &[
             Next(Sign::Extern),
             Part(Sort::NoBinder),
             Header,
             List(Sort::Term, Line::Inputs),
             Part(Sort::Output),
-        ],
-    },
-    Shape {
-        makes: ITSELF,
-        pieces: &[Leaf(Expected::Term)],
-    },
+        ]),
+    (ITSELF, &[Leaf(Expected::Term)]),
 ];
 
 // A constant behind `const`: what could not be told, or a placeholder.
 pub(in crate::reading) static CONSTANT: [Shape; 2] = [
-    Shape {
-        makes: Node(Form::Error),
-        pieces: &[
+    (Node(Form::Error), &[
             Mark(Sign::LeftBrace),
             Mark(Sign::Error),
             Mark(Sign::RightBrace),
-        ],
-    },
-    Shape {
-        makes: ITSELF,
-        pieces: &[Leaf(Expected::Const)],
-    },
+        ]),
+    (ITSELF, &[Leaf(Expected::Const)]),
 ];
 
 // The output of a function pointer, which is `()` where it is left out.
 pub(in crate::reading) static OUTPUT: [Shape; 2] = [
-    Shape {
-        makes: ITSELF,
-        pieces: &[Mark(Sign::Arrow), Part(Sort::Term)],
-    },
-    Shape {
-        makes: Node(Form::Tuple),
-        pieces: &[],
-    },
+    (ITSELF, &[Mark(Sign::Arrow), Part(Sort::Term)]),
+    (Node(Form::Tuple), &[]),
 ];
 
 // A bound of a trait object.
 pub(in crate::reading) static BOUND: [Shape; 2] = [
-    Shape {
-        makes: Node(Form::Projects),
-        pieces: &[
+    (Node(Form::Projects), &[
             Part(Sort::Binder),
             Part(Sort::Named),
             Mark(Sign::PathSep),
             Part(Sort::Named),
             Mark(Sign::Equal),
             Part(Sort::Term),
-        ],
-    },
-    Shape {
-        makes: Node(Form::Implements),
-        pieces: &[Part(Sort::Binder), Part(Sort::Named)],
-    },
+        ]),
+    (Node(Form::Implements), &[Part(Sort::Binder), Part(Sort::Named)]),
 ];
 
 // A trait, or what one declares, and what is given to it.
-pub(in crate::reading) static NAMED: [Shape; 1] = [Shape {
-    makes: Node(Form::Named),
-    pieces: &[
+pub(in crate::reading) static NAMED: [Shape; 1] = [(Node(Form::Named), &[
         Leaf(Expected::Name),
         Further(Sign::Less),
         List(Sort::Argument, Line::To(Sign::Greater)),
-    ],
-}];
+    ])];
 
 // An argument of a trait, or what a type or a constant of the trait is.
 pub(in crate::reading) static ARGUMENT: [Shape; 2] = [
-    Shape {
-        makes: Node(Form::Assigned),
-        pieces: &[
+    (Node(Form::Assigned), &[
             NextName(Sign::Assign),
             Leaf(Expected::Name),
             Mark(Sign::Assign),
             Part(Sort::Term),
-        ],
-    },
-    Shape {
-        makes: ITSELF,
-        pieces: &[Part(Sort::Term)],
-    },
+        ]),
+    (ITSELF, &[Part(Sort::Term)]),
 ];
 
 // A pattern: alternatives, or a lone one without a `|` before it.
 pub(in crate::reading) static PATTERN: [Shape; 2] = [
-    Shape {
-        makes: Node(Form::Or),
-        pieces: &[
+    (Node(Form::Or), &[
             Mark(Sign::Bar),
             List(Sort::Alternative, Line::By(Sign::Bar)),
-        ],
-    },
-    Shape {
-        makes: Lone(Form::Or),
-        pieces: &[List(Sort::Alternative, Line::By(Sign::Bar))],
-    },
+        ]),
+    (Lone(Form::Or), &[List(Sort::Alternative, Line::By(Sign::Bar))]),
 ];
 
 // One alternative of a pattern: what takes a level of its own, or the values between two constants.
 pub(in crate::reading) static ALTERNATIVE: [Shape; 3] = [
-    Shape {
-        makes: ITSELF,
-        pieces: &[Next(Sign::Bang), Part(Sort::Grouped)],
-    },
-    Shape {
-        makes: ITSELF,
-        pieces: &[Next(Sign::LeftParen), Part(Sort::Grouped)],
-    },
-    Shape {
-        makes: Node(Form::Range),
-        pieces: &[Part(Sort::Plain), Mark(Sign::UpTo), Part(Sort::Plain)],
-    },
+    (ITSELF, &[Next(Sign::Bang), Part(Sort::Grouped)]),
+    (ITSELF, &[Next(Sign::LeftParen), Part(Sort::Grouped)]),
+    (Node(Form::Range), &[Part(Sort::Plain), Mark(Sign::UpTo), Part(Sort::Plain)]),
 ];
 
 pub(in crate::reading) static GROUPED: [Shape; 2] = [
-    Shape {
-        makes: Node(Form::NotNull),
-        pieces: &[Mark(Sign::Bang), Mark(Sign::Null)],
-    },
-    Shape {
-        makes: ITSELF,
-        pieces: &[
+    (Node(Form::NotNull), &[Mark(Sign::Bang), Mark(Sign::Null)]),
+    (ITSELF, &[
             Mark(Sign::LeftParen),
             Part(Sort::Pattern),
             Mark(Sign::RightParen),
-        ],
-    },
+        ]),
 ];
 
 // A binder, or the one that is left out.
 pub(in crate::reading) static BINDER: [Shape; 2] = [
-    Shape {
-        makes: ITSELF,
-        pieces: &[Mark(Sign::For), Part(Sort::Variables)],
-    },
-    Shape {
-        makes: Node(Form::Bound),
-        pieces: &[],
-    },
+    (ITSELF, &[Mark(Sign::For), Part(Sort::Variables)]),
+    (Node(Form::Bound), &[]),
 ];
 
-pub(in crate::reading) static NO_BINDER: [Shape; 1] = [Shape {
-    makes: Node(Form::Bound),
-    pieces: &[],
-}];
+pub(in crate::reading) static NO_BINDER: [Shape; 1] = [(Node(Form::Bound), &[])];
 
 // The variables of a binder. A constant may have `const` before it.
-pub(in crate::reading) static VARIABLES: [Shape; 1] = [Shape {
-    makes: Node(Form::Bound),
-    pieces: &[
+pub(in crate::reading) static VARIABLES: [Shape; 1] = [(Node(Form::Bound), &[
         Mark(Sign::Less),
         List(Sort::Variable, Line::To(Sign::Greater)),
-    ],
-}];
+    ])];
 
 pub(in crate::reading) static VARIABLE: [Shape; 2] = [
-    Shape {
-        makes: ITSELF,
-        pieces: &[Mark(Sign::Const), Leaf(Expected::BoundConst)],
-    },
-    Shape {
-        makes: ITSELF,
-        pieces: &[Leaf(Expected::Bound)],
-    },
+    (ITSELF, &[Mark(Sign::Const), Leaf(Expected::BoundConst)]),
+    (ITSELF, &[Leaf(Expected::Bound)]),
 ];
