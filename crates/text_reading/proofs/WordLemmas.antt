@@ -1,5 +1,5 @@
 -- Words one behind another, and which of them are leaves.
-use Rattle.std.proofs.Common.{zero, ◌≡◌, ℕ, ◌+◌, add-one, ◌<◌, ◌≤◌, List, [], ◌∷◌, ◌++◌, Some, IsSomeAnd, unwrap_or, false, suc, take, drop, refl, sym, ◌∙◌, ap, subst, arith}
+use Rattle.std.proofs.Common.{zero, ◌≡◌, ℕ, ◌+◌, add-one, ◌<◌, ◌≤◌, List, [], ◌∷◌, ◌++◌, Some, unwrap_or, false, suc, take, drop, refl, sym, ◌∙◌, ap, subst, arith}
 use Rattle.std.specs.List.{slice_get}
 use Rattle.std.proofs.lemmas.List.{append-nil}
 use Rattle.std.proofs.lemmas.Grind.{flat_map-append}
@@ -11,7 +11,7 @@ use Rattle.text_reading.specs.declared.reading.words.WordKind.TheVariants.{Leaf,
 use Rattle.text_reading.specs.declared.reading.signs.Sign as sign
 use Rattle.text_reading.specs.declared.reading.tree.Node.{Node}
 use Rattle.text_reading.specs.declared.reading.tree.NodeKind.TheVariants as node
-use Rattle.text_reading.specs.Words.{skip, LieBetween, EachLies, leaf_as, leaves, IsLeaf, IsLeafAt}
+use Rattle.text_reading.specs.Words.{skip, LieBetween, EachLies, leaf_as, leaves}
 use Rattle.text_reading.specs.Trees.{kind_words, node_words}
 
 -- one more word
@@ -68,7 +68,3 @@ once_form ns ms ws more h = ∥∥₁_map h (λ p. more ∙ append-nil (node_wor
 -- no leaf was added
 pub once_same : (ns ms : List Node) (ws : List Word) → ms ≡ ns → ∥ node_words ns ≡ leaves ws ∥₁ → ∥ node_words ms ≡ leaves ws ∥₁
 once_same ns ms ws e h = ∥∥₁_map h (λ p. ap node_words e ∙ p)
-
--- a leaf stands where its word does
-pub leaf_stands : (ws : List Word) (k : ℕ) (w : Word) (l : word.Leaf) → slice_get ws k ≡ Some w → w.kind ≡ Leaf l → IsLeafAt ws k
-leaf_stands ws k w l e kind = subst (λ o. IsSomeAnd o (λ (v : Word). IsLeaf v.kind)) (sym e) (subst IsLeaf (sym kind) tt)

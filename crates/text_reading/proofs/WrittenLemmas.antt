@@ -6,21 +6,13 @@ use Rattle.std.specs.Option.{option_eq}
 use denote.Bor.{Bor}
 use lib.Pointwise.{pointwise}
 use Rattle.text_reading.specs.contracts.reading.shapes.PiecePartialEq.TheImpl as piece_impl
-use Rattle.term_enums.specs.declared.Safety.{Safety}
-use Rattle.term_enums.specs.declared.Safety.TheVariants as safety
-use Rattle.term_enums.specs.declared.ExternAbi.{ExternAbi}
-use Rattle.text_reading.specs.declared.reading.shapes.Makes.{Makes}
-use Rattle.text_reading.specs.declared.reading.shapes.Sort.{Sort}
 use Rattle.text_reading.specs.Shapes.{Row, Shape, rows_in}
 use Rattle.text_reading.specs.declared.reading.shapes.Piece.{Piece}
 use Rattle.std.specs.Bool.{OnTrue, OnFalse}
 use Rattle.text_reading.specs.declared.reading.shapes.Piece.TheVariants as piece
 use Rattle.text_reading.specs.declared.reading.signs.Sign.{Sign}
-use Rattle.text_reading.specs.declared.reading.signs.Sign.TheVariants as sign
 use Rattle.text_reading.specs.declared.reading.words.Word.{Word}
 use Rattle.text_reading.specs.Words.{StandsAt}
-use Rattle.text_reading.specs.Signs.{abi_signs, header_signs, behind_safety, StandFrom}
-use Rattle.text_reading.specs.Rows.{rows_of, IsOfSort}
 use Rattle.text_reading.specs.Written.{pieces_at, AreAlike, IsWritten, AreWritten, HasRead, EndsBefore, Stops, IsOfRow, IsOfRows}
 use Rattle.text_reading.proofs.PieceLemmas.{pieces_same}
 use Rattle.text_reading.proofs.ShapeLemmas.{get_below}
@@ -144,18 +136,3 @@ pub further : (ws : List Word) (s : Sign) (from to : ℕ) (b : Bool) → (IsTrue
     OnTrue b (to ≡ suc from) → OnFalse b (to ≡ from) → HasRead ws (piece.Further s) from to b
 further ws s from to true i o f = (i.0 refl, o)
 further ws s from to false i o f = (λ h. false≢true (i.1 (subst (λ k. StandsAt ws k s) f h)), f)
-
--- what was read of the rows of a sort is of that sort
-pub of_sort : (ws : List Word) (s : Sort) (rs : List Row) (from j to : ℕ) (m : Makes) → rs ≡ rows_of s → to ≡ j →
-    IsOfRows ws rs from j m → IsOfSort ws s from to
-of_sort ws s rs from j to m e a h =
-    (m, subst (λ x. IsOfRows ws x from to m) e (subst (λ k. IsOfRows ws rs from k m) (sym a) h))
-
--- what a function pointer begins with, behind what says its safety
-pub header_stands : (ws vs : List Word) (k j : ℕ) (s : Safety) (a : ExternAbi) → vs ≡ ws →
-    ((s ≡ safety.Unsafe) ↔ StandsAt ws k sign.Unsafe) → j ≡ behind_safety k s → StandFrom vs j (abi_signs a) →
-    StandFrom ws k (header_signs s a)
-header_stands ws vs k j safety.Safe a v i e h =
-    subst (λ us. StandFrom us k (abi_signs a)) v (subst (λ n. StandFrom vs n (abi_signs a)) e h)
-header_stands ws vs k j safety.Unsafe a v i e h =
-    (i.0 refl, subst (λ us. StandFrom us (suc k) (abi_signs a)) v (subst (λ n. StandFrom vs n (abi_signs a)) e h))

@@ -1,5 +1,5 @@
 -- What a row says stands in the text.
-use Rattle.std.specs.Prelude.{zero, ◌≡◌, ℕ, ◌≤◌, Bool, true, false, List, [], ◌∷◌, Option, Some, None, IsSomeAnd, length, take, suc}
+use Rattle.std.specs.Prelude.{zero, ◌≡◌, ℕ, ◌<◌, ◌≤◌, Bool, true, false, List, [], ◌∷◌, Option, Some, None, IsSomeAnd, length, take, suc}
 use Rattle.std.specs.List.{slice_get}
 use Rattle.term_enums.specs.declared.Safety.{Safety}
 use Rattle.term_enums.specs.declared.ExternAbi.{ExternAbi}
@@ -19,7 +19,7 @@ IsWritten ws (piece.OneOf s e) from to = StandsAt ws from s × (to ≡ suc from)
 IsWritten ws (piece.Further s) from to = StandsAt ws from s × (to ≡ suc from)
 IsWritten ws (piece.Leaf e) from to = IsLeafAt ws from × (to ≡ suc from)
 IsWritten ws piece.Header from to =
-    (s : Safety) × (a : ExternAbi) × StandFrom ws from (header_signs s a) × (from ≤ to)
+    (s : Safety) × (a : ExternAbi) × StandFrom ws from (header_signs s a) × (from < to)
 IsWritten ws _ from to = from ≤ to
 
 -- what is written from the word `from` on and before the word `to` are those pieces, one behind the other

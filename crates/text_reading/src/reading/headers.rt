@@ -52,6 +52,7 @@ fn expect_inputs(reader: &mut Reader) -> Result<(), ReadError>
     ensures words { reader.new.words ≡ reader.old.words }
     ensures tree { reader.new.tree ≡ reader.old.tree }
     ensures later { reader.old.at ≤ reader.new.at }
+    ensures over { OnOk result (reader.old.at < reader.new.at) }
     ensures wrong { IfErr result (LiesIn reader.old.tree.text_len) }
 {
     reader.expect(Sign::Fn)?;
@@ -64,6 +65,7 @@ pub(super) fn read_abi(reader: &mut Reader) -> Result<ExternAbi, ReadError>
     ensures words { reader.new.words ≡ reader.old.words }
     ensures tree { reader.new.tree ≡ reader.old.tree }
     ensures later { reader.old.at ≤ reader.new.at }
+    ensures over { OnOk result (reader.old.at < reader.new.at) }
     ensures wrong { IfErr result (LiesIn reader.old.tree.text_len) }
 {
     if !reader.accept(Sign::Extern) {

@@ -215,6 +215,7 @@ fn read_header(reader: &mut Reader, seen: &mut Seen) -> Result<(), ReadError>
     ensures words { reader.new.words ≡ reader.old.words }
     ensures tree { reader.new.tree ≡ reader.old.tree }
     ensures later { reader.old.at ≤ reader.new.at }
+    ensures over { OnOk result (reader.old.at < reader.new.at) }
     ensures wrong { IfErr result (LiesIn reader.old.tree.text_len) }
 {
     seen.header.safety = read_safety(reader);
