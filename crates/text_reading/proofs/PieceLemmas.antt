@@ -1,5 +1,5 @@
 -- `==` takes pieces for one only where they are one.
-use Rattle.std.proofs.Common.{◌≡◌, ap, ap₂, ◌∙◌, sym, refl, IsTrue, Bool, ◌&&◌, List, [], ◌∷◌, rules}
+use Rattle.std.proofs.Common.{◌≡◌, ap, ap₂, refl, IsTrue, List, [], ◌∷◌, rules}
 use Rattle.std.proofs.lemmas.Bool.{false≢true, and_parts}
 use denote.Enum.Bare.{same_true}
 use lib.Pointwise.{pointwise}

@@ -6,14 +6,14 @@ use Rattle.std.specs.Option.{option_eq}
 use denote.Bor.{Bor}
 use lib.Pointwise.{pointwise}
 use Rattle.text_reading.specs.contracts.reading.shapes.PiecePartialEq.TheImpl as piece_impl
-use Rattle.text_reading.specs.Shapes.{Row, Shape, rows_in}
+use Rattle.text_reading.specs.Shapes.{Shape, rows_in}
 use Rattle.text_reading.specs.declared.reading.shapes.Piece.{Piece}
 use Rattle.std.specs.Bool.{OnTrue, OnFalse}
 use Rattle.text_reading.specs.declared.reading.shapes.Piece.TheVariants as piece
 use Rattle.text_reading.specs.declared.reading.signs.Sign.{Sign}
 use Rattle.text_reading.specs.declared.reading.words.Word.{Word}
 use Rattle.text_reading.specs.Words.{StandsAt}
-use Rattle.text_reading.specs.Written.{pieces_at, AreAlike, IsWritten, AreWritten, HasRead, EndsBefore, Stops, IsOfRow, IsOfRows}
+use Rattle.text_reading.specs.Written.{pieces_at, AreAlike, IsWritten, AreWritten, HasRead, EndsBefore, Stops, IsOfRows}
 use Rattle.text_reading.proofs.PieceLemmas.{pieces_same}
 use Rattle.text_reading.proofs.ShapeLemmas.{get_below}
 
@@ -100,11 +100,12 @@ pub goes_on : (ws vs : List Word) (rs : List Shape) (row j at from to behind : �
     IsSoFar ws rs row at from to → AreAlike rs at row j → slice_get (pieces_at rs j) at ≡ Some p →
     HasRead vs p to behind true → IsSoFar ws rs j (at + 1) from behind
 goes_on ws vs rs row j at from to behind p v w a e h =
-    let n : suc at ≡ at + 1 = omega arith in
-    (is_within (pieces_at rs j) at p e,
-     subst (λ m. AreWritten ws (take m (pieces_at rs j)) from behind) n
-     (one_more ws (pieces_at rs j) at p from to behind (along ws rs row j at from to w a) e
-     (subst (λ us. IsWritten us p to behind) v h)))
+    let n : suc at ≡ at + 1 = omega arith in (
+      is_within (pieces_at rs j) at p e,
+      subst (λ m. AreWritten ws (take m (pieces_at rs j)) from behind) n
+          (one_more ws (pieces_at rs j) at p from to behind (along ws rs row j at from to w a) e
+          (subst (λ us. IsWritten us p to behind) v h)),
+    )
 
 of_rows : (ws : List Word) (rs : List Shape) (d : Shape) (j n from to : ℕ) → j < length rs →
     AreWritten ws (take n (pieces_at rs j)) from to → EndsBefore ws (slice_get (pieces_at rs j) n) to →

@@ -15,40 +15,57 @@ pub(in crate::reading) static PREDICATE_BINDER: [Shape; 2] = [
 
 // A predicate.
 pub(in crate::reading) static PREDICATE: [Shape; 7] = [
-    (Node(Form::Says), &[
+    (
+        Node(Form::Says),
+        &[
             Part(Sort::PredicateBinder),
             NextName(Sign::LeftParen),
             Leaf(Expected::Name),
             Mark(Sign::LeftParen),
             List(Sort::Term, Line::To(Sign::RightParen)),
-        ]),
-    (Node(Form::ComesTo), &[
+        ],
+    ),
+    (
+        Node(Form::ComesTo),
+        &[
             Part(Sort::PredicateBinder),
             Part(Sort::Term),
             Mark(Sign::Equal),
             Part(Sort::Term),
-        ]),
-    (Node(Form::OutlivesUnder), &[
+        ],
+    ),
+    (
+        Node(Form::OutlivesUnder),
+        &[
             Part(Sort::PredicateBinder),
             Part(Sort::Term),
             Mark(Sign::Colon),
             Leaf(Expected::Region),
-        ]),
-    (Node(Form::Claims(Claim::Trait(PredicatePolarity::Negative))), &[
+        ],
+    ),
+    (
+        Node(Form::Claims(Claim::Trait(PredicatePolarity::Negative))),
+        &[
             Part(Sort::PredicateBinder),
             Part(Sort::Term),
             Mark(Sign::Colon),
             Mark(Sign::Bang),
             Part(Sort::Named),
-        ]),
-    (Node(Form::Claims(Claim::HostEffect(BoundConstness::Const))), &[
+        ],
+    ),
+    (
+        Node(Form::Claims(Claim::HostEffect(BoundConstness::Const))),
+        &[
             Part(Sort::PredicateBinder),
             Part(Sort::Term),
             Mark(Sign::Colon),
             Mark(Sign::Const),
             Part(Sort::Named),
-        ]),
-    (Node(Form::Claims(Claim::HostEffect(BoundConstness::Maybe))), &[
+        ],
+    ),
+    (
+        Node(Form::Claims(Claim::HostEffect(BoundConstness::Maybe))),
+        &[
             Part(Sort::PredicateBinder),
             Part(Sort::Term),
             Mark(Sign::Colon),
@@ -56,15 +73,25 @@ pub(in crate::reading) static PREDICATE: [Shape; 7] = [
             Mark(Sign::Const),
             Mark(Sign::RightBracket),
             Part(Sort::Named),
-        ]),
-    (Node(Form::Claims(Claim::Trait(PredicatePolarity::Positive))), &[
+        ],
+    ),
+    (
+        Node(Form::Claims(Claim::Trait(PredicatePolarity::Positive))),
+        &[
             Part(Sort::PredicateBinder),
             Part(Sort::Term),
             Mark(Sign::Colon),
             Part(Sort::Named),
-        ]),
+        ],
+    ),
 ];
 
-pub(in crate::reading) static LIMIT: [Shape; 1] = [(Node(Form::Limit), &[Mark(Sign::Limit), Leaf(Expected::Number)])];
+pub(in crate::reading) static LIMIT: [Shape; 1] = [(
+    Node(Form::Limit),
+    &[Mark(Sign::Limit), Leaf(Expected::Number)],
+)];
 
-pub(in crate::reading) static PULLS: [Shape; 1] = [(Node(Form::Pulls), &[Mark(Sign::Pulls), Leaf(Expected::Number)])];
+pub(in crate::reading) static PULLS: [Shape; 1] = [(
+    Node(Form::Pulls),
+    &[Mark(Sign::Pulls), Leaf(Expected::Number)],
+)];

@@ -1,4 +1,4 @@
-use Rattle.std.proofs.Common.{rules, ◌≡◌, ap, sym, ◌∙◌, subst, Bool, true, false, Option, None}
+use Rattle.std.proofs.Common.{rules, ◌≡◌, ap, sym, ◌∙◌, subst, true, false, None}
 use Rattle.text_reading.specs.Written.{HasRead}
 use Rattle.text_reading.proofs.WrittenLemmas.{further, goes_on, ends_behind, ends_before}
 use Rattle.text_reading.proofs.reading.parts.+parts.Goals as goal
