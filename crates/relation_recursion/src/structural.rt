@@ -16,6 +16,7 @@ ghost use Rattle.relation_recursion.specs.PredicateForms.{predicate_form, form_o
 ghost use Rattle.relation_steps.specs.Terms.{AskedTerms, AskedAt, RelatedTerms, RelatedAt, RelatedTermForms};
 ghost use Rattle.relation_steps.specs.Terms.{TermsRegister};
 
+use crate::keeping::{keep_answer, keep_const_answer, keep_term_answer};
 use crate::making::{make_const, make_part, make_ty};
 use crate::opening::{is_same_of, open_bodies};
 use crate::parts::{PartKind, kind_of_part, the_object};
@@ -220,9 +221,12 @@ pub fn structurally_relate_tys<I: Interner, R: TypeRelation<I>>(
         let variance = variance_at::<I, R>(r, a, i);
         let related = relate_with_variance(r, variance, &x, &y);
         let answer = in_ty_of::<I, R>(r, a, &x, &y, related)?;
-        answers.push(answer)?;
+        keep_answer(r, a, i, &x, answer, &mut answers)?;
     }
     note_args(r, a, b)?;
+    if answers.is_empty() {
+        return Ok(*a);
+    }
     make_ty(r, a, answers.as_slice())
 }
 
@@ -261,7 +265,10 @@ pub fn structurally_relate_consts<I: Interner, R: TypeRelation<I>>(
         let variance = const_variance_at::<I, R>(r, a);
         let related = relate_with_variance(r, variance, &x, &y);
         let answer = in_const_of::<I, R>(r, a, b, related)?;
-        answers.push(answer)?;
+        keep_const_answer(r, a, i, &x, answer, &mut answers)?;
+    }
+    if answers.is_empty() {
+        return Ok(*a);
     }
     make_const(r, a, answers.as_slice())
 }
@@ -370,7 +377,10 @@ fn relate_in_order<I: Interner, R: TypeRelation<I>>(
         let place = named_place_of::<I, R>(r, a, i);
         let related = relate_parts_with_variance(r, variance, &x, &y);
         let answer = in_part::<I, PartOf<I>>(place, related)?;
-        answers.push(answer)?;
+        keep_term_answer(r, a, i, &x, answer, &mut answers)?;
+    }
+    if answers.is_empty() {
+        return Ok(*a);
     }
     make_part(r, a, answers.as_slice())
 }

@@ -1,9 +1,9 @@
-use Rattle.std.proofs.Common.{ap₂, suc, ◌+◌, ◌*◌, IfOk, rules, ◌≡◌, ◌≢◌, ◌<◌, IsTrue, refl, sym, ap, ◌∙◌, subst, subst₂, arith, Ok, Err, OnOk}
+use Rattle.std.proofs.Common.{ap₂, suc, ◌+◌, ◌*◌, ◌≤◌, IfOk, rules, ◌≡◌, ◌≢◌, ◌<◌, IsTrue, refl, sym, ap, ◌∙◌, subst, subst₂, arith, Ok, Err, OnOk}
 use Rattle.std.proofs.lemmas.Bool.{false≢true}
 use Rattle.term_enums.specs.declared.Variance.TheVariants.{Bivariant}
 use Rattle.relation_terms.specs.declared.terms.generic_arg.GenericArgKind.TheVariants.{Lifetime, Ty, Const}
 use Rattle.relation_terms.specs.Heads.{type_sort, const_sort}
-use Rattle.relation_terms.specs.Trees.{nil, known, count, nth, list_tree}
+use Rattle.relation_terms.specs.Trees.{known, count, nth, list_tree}
 use Rattle.term_enums.specs.Variances.{xform}
 use Rattle.relation_terms.specs.Meaning.{arg_tree}
 use Rattle.relation_terms.specs.Parts.{part_tree, part_sort, tree_sort, Fit}
@@ -23,18 +23,18 @@ use Rattle.relation_semantics.specs.Measures.{depth}
 use Rattle.part_variances.proofs.Patterns.{term_alike, term_decides, part_sorted, compared_is}
 use Rattle.part_variances.proofs.PartPlaces.{related_part, paired_part}
 use Rattle.relation_recursion.proofs.InOrder.{terms_stopped, terms_answer, terms_unlike, term_refused, terms_differ}
-use Rattle.relation_recursion.proofs.InOrder.{may_over_term, part_pushed, parts_end}
+use Rattle.relation_recursion.proofs.InOrder.{may_over_term, parts_end}
 use Rattle.relation_recursion.proofs.ByParts.{paired_args, are_args, sort_as_arg, arg_not_compared, paired_binders}
 use Rattle.relation_recursion.proofs.ByParts.{binder_not_compared, form_compared, paired_compared, inputs_compared}
 use Rattle.relation_recursion.proofs.ByParts.{no_inputs_yet, inputs_next, compared_as, alike_back, on_ok, asked_turned}
 use Rattle.relation_recursion.proofs.ByParts.{depth_turned}
 use Rattle.part_variances.specs.Handing.{IsResultOfTy, IsResultOfConst, IsResultOfPart, named_place}
 use Rattle.relation_semantics.specs.Making.{arg_sort, FitArgs, form_over, const_over}
-use Rattle.relation_semantics.proofs.Answering.{same_items, same_settings, AreAnswers, answers_none, answers_next, answers_end, may_over, may_const_over, may_later, if_ok_both}
+use Rattle.relation_semantics.proofs.Answering.{same_items, same_settings, AreAnswers, answers_end, may_over, may_const_over, may_later, if_ok_both}
 use Rattle.relation_recursion.specs.PredicateForms.{form_of_part}
 use Rattle.relation_recursion.proofs.PredicateForms.{arg_form, binder_form, made_form}
-use Rattle.relation_recursion.proofs.MadeAnew.{fit_pushed, fit_end, fits_place}
-use Rattle.relation_semantics.proofs.Lists.{firsts, snoc, list_push}
+use Rattle.relation_recursion.proofs.MadeAnew.{fit_end, fits_place}
+use Rattle.relation_semantics.proofs.Lists.{firsts}
 use Rattle.relation_terms.proofs.Stays.{stays_list, stays_arg}
 use Rattle.relation_semantics.specs.Lawful.{Asked, Related, RelatedForms, Shown, MayAnswer, Stepped, StepRecords, Turned, items_in}
 use Rattle.relation_semantics.proofs.Standing.{term_context}
@@ -54,6 +54,8 @@ use Rattle.relation_recursion.proofs.StructuralTys.{types_related, types_stopped
 use Rattle.relation_recursion.proofs.StructuralConsts.{consts_related, consts_stopped, const_refused, itself_related, left_error, right_error, types_differ, consts_differ, kinds_differ}
 use Rattle.relation_recursion.proofs.Looping.{next_asked, next_under, next_const_asked, next_const_under, parts_under, again_under}
 use Rattle.relation_recursion.proofs.Looping.{failed_ty, failed_const, kept_ty, kept_const, parts_alike, heads_one, const_heads_alike}
+use Rattle.relation_recursion.specs.Keeping.{KeepsAnswer, arg_fits, part_fits}
+use Rattle.relation_recursion.proofs.Kept.{kept_answers, kept_fit, kept_fit_parts, some_kept, none_kept_yet}
 use Rattle.relation_recursion.proofs.Looping.{failed_part, kept_part}
 use Rattle.relation_steps.specs.Alone.{RelatesAlone, StepsAlone}
 use Rattle.relation_recursion.proofs.Alone.{formed_ask_none, left_none, right_none, lifetime_none, const_none, no_ty_none, refused_told}
@@ -914,10 +916,8 @@ structurally_relate_consts-loop-i-init g t c =
         left_in = term_context r.store (const_parts_of a) (in_const_parts r.store a k.left_in);
         right_in = term_context r.store (const_parts_of b) (in_const_parts r.store b k.right_in);
       };
-      answers = subst (λ z. AreAnswers M r (const_head_of a) r.ambient 0 (const_parts_of a)
-          (list_tree (arg_tree r.meaning) z)) (sym c.new-answers.ensures.items)
-          (answers_none M r (const_head_of a) r.ambient (const_parts_of a));
-      fits = subst (λ z. FitArgs z nil) (sym c.new-answers.ensures.items) tt;
+      answers = λ some. absurd (none_kept_yet c.new-answers.ensures.items some);
+      fits = λ some. absurd (none_kept_yet c.new-answers.ensures.items some);
     }
 
 pub structurally_relate_consts-relate_with_variance-related-requires : goal.structurally_relate_consts-relate_with_variance-related-requires
@@ -1055,12 +1055,8 @@ structurally_relate_consts-loop-i-preserved g t c =
     let kind = subst (λ u. IfOk u (λ k. arg_sort k ≡ arg_sort X)) z (related.ensures).kind in
     let was = c.loop-i.answers.items in
     let next : suc i ≡ i + 1 = omega arith in
-    let pushed : list_tree (arg_tree p.meaning) c.push.new.self.items
-    ≡ snoc (list_tree (arg_tree q.meaning) was) (arg_tree p.meaning n.answer) =
-    ap (list_tree (arg_tree p.meaning)) c.in_ok-push.ensures.items
-    ∙ list_push (arg_tree p.meaning) was n.answer
-    ∙ ap (λ z. snoc z (arg_tree p.meaning n.answer)) (stays_list (arg_tree q.meaning) (arg_tree p.meaning) was
-    (stays_arg later) (inv.answers).sure) in
+    let keeps = subst (λ t. KeepsAnswer (arg_tree p.meaning) arg_fits i (const_parts_of t) n.answer was c.keep_const_answer.new.answers.items) then_a
+    c.in_ok-keep_const_answer.ensures in
     record {
       lawful = (gone.passes).lawful inv.lawful;
       fronted = subst (λ j. Fronted M r p (const_head_of a) r.ambient j (const_parts_of a) (const_parts_of b)) (omega arith)
@@ -1069,17 +1065,38 @@ structurally_relate_consts-loop-i-preserved g t c =
       left_count = inv.left_count;
       right_count = inv.right_count;
       are_parts = inv.are_parts;
-      answers = subst₂ (λ j z. AreAnswers M p (const_head_of a) r.ambient j (const_parts_of a) z) next (sym pushed)
-          (answers_next M (const_head_of a) r.ambient i (const_parts_of a) (list_tree (arg_tree q.meaning) was) x
-          (arg_tree p.meaning n.answer) gone.passes lx inv.answers ex
-          (subst (λ c. MayAnswer M p (part_at c (const_head_of a) i r.ambient) x (arg_tree p.meaning n.answer))
-          (sym (same_items (inv.fronted).passes)) (gone.verdict).answer) (gone.verdict).known);
-      fits = subst₂ (λ j z. FitArgs z (firsts j (const_parts_of a))) next (sym c.in_ok-push.ensures.items)
-          (fit_pushed was n.answer (const_parts_of a) i lx inv.fits (fits_place q.meaning sorted X n.answer (const_parts_of a) i kx ex kind));
+      answers = λ some. subst (λ j. AreAnswers M p (const_head_of a) r.ambient j (const_parts_of a)
+          (list_tree (arg_tree p.meaning) c.keep_const_answer.new.answers.items)) next
+          (kept_answers M (arg_tree q.meaning) (arg_tree p.meaning) arg_fits (const_head_of a) r.ambient i (const_parts_of a) x n.answer was
+          c.keep_const_answer.new.answers.items (stays_arg later) gone.passes lx ex
+          (subst (λ z. MayAnswer M p (part_at z (const_head_of a) i r.ambient) x (arg_tree p.meaning n.answer))
+          (sym (same_items (inv.fronted).passes)) (gone.verdict).answer) (gone.verdict).known inv.answers keeps some);
+      fits = λ some. subst (λ j. FitArgs c.keep_const_answer.new.answers.items (firsts j (const_parts_of a))) next
+          (kept_fit (arg_tree p.meaning) i (const_parts_of a) n.answer was c.keep_const_answer.new.answers.items lx
+          (fits_place q.meaning sorted X n.answer (const_parts_of a) i kx ex kind) inv.fits keeps some);
     }
 
-pub structurally_relate_consts-returns-in_err-push : goal.structurally_relate_consts-returns-in_err-push
-structurally_relate_consts-returns-in_err-push g t c =
+pub structurally_relate_consts-keep_const_answer-requires : goal.structurally_relate_consts-keep_const_answer-requires
+structurally_relate_consts-keep_const_answer-requires g t c =
+    let r = g.R.HasState.state c.args.r.now in
+    let a = (r.meaning).const_ c.args.a.now in
+    let p = g.R.HasState.state c.relate_with_variance-related.new.r in
+    let i = c.loop-i.i in
+    let inv = c.loop-i.invariant in
+    let k = c.requires.asked in
+    let same = ((inv.fronted).passes).extends.const_ c.args.a.now k.left_known in
+    let later = (((c.relate_with_variance-related.ensures).related).passes).extends in
+    let then : (p.meaning).const_ c.args.a.now ≡ a =
+    later.const_ c.args.a.now (subst (λ z. IsTrue (known z)) (sym same) k.left_known) ∙ same in
+    let test = c.loop-i-test.true in
+    let lx : i ≤ count (const_parts_of a) = omega (arith, test, inv.left_count) in
+    record {
+      constant_known = subst (λ z. IsTrue (known z)) (sym then) k.left_known;
+      in_bounds = subst (λ z. i ≤ count (const_parts_of z)) (sym then) lx;
+    }
+
+pub structurally_relate_consts-returns-in_err-keep_const_answer : goal.structurally_relate_consts-returns-in_err-keep_const_answer
+structurally_relate_consts-returns-in_err-keep_const_answer g t c =
     let r = g.R.HasState.state c.args.r.now in
     let M = g.R.TypeRelation.manner in
     let a = (r.meaning).const_ c.args.a.now in
@@ -1123,18 +1140,12 @@ structurally_relate_consts-returns-in_err-push g t c =
     let next = fronted_next (const_head_of a) r.ambient i (const_parts_of a) (const_parts_of b) x y inv.fronted lx ly ex ey (arg_tree p.meaning) n.answer
     inv.are_parts gone in
     subst (λ z. RelatedForms M r p r.ambient a b (p.meaning).const_ z)
-    (sym (as_err c.from_residual-in_err-push.result Memory c.from_residual-in_err-push.ensures.0
-    c.from_residual-in_err-push.ensures.1))
+    (sym (as_err c.from_residual-in_err-keep_const_answer.result Memory c.from_residual-in_err-keep_const_answer.ensures.0
+    c.from_residual-in_err-keep_const_answer.ensures.1))
     (consts_stopped M r.ambient a b (suc i) (p.meaning).const_ next)
 
-pub structurally_relate_consts-make_const-requires-clause-constant_known : goal.structurally_relate_consts-make_const-requires-clause-constant_known
-structurally_relate_consts-make_const-requires-clause-constant_known g t c =
-    let k = c.requires.asked in
-    let same = (((c.loop-i.invariant.fronted).passes).extends).const_ c.args.a.now k.left_known in
-    subst (λ z. IsTrue (known z)) (sym same) k.left_known
-
-pub structurally_relate_consts-make_const-requires-clause-fits : goal.structurally_relate_consts-make_const-requires-clause-fits
-structurally_relate_consts-make_const-requires-clause-fits g t c =
+pub structurally_relate_consts-returns-then-is_empty : goal.structurally_relate_consts-returns-then-is_empty
+structurally_relate_consts-returns-then-is_empty g t c =
     let r = g.R.HasState.state c.args.r.now in
     let M = g.R.TypeRelation.manner in
     let a = (r.meaning).const_ c.args.a.now in
@@ -1151,10 +1162,40 @@ structurally_relate_consts-make_const-requires-clause-fits g t c =
     let end = (c.loop-i.auto).i-end in
     let left : i ≡ count (const_parts_of a) = omega (arith, test, end, inv.left_count) in
     let right : i ≡ count (const_parts_of b) = omega (arith, test, end, inv.right_count) in
+    let done : RelatedForms M r q r.ambient a b (q.meaning).const_ (Ok c.args.a.now) =
+    consts_related M r.ambient a b i (q.meaning).const_ c.args.a.now c.requires.a_formed c.requires.b_formed alike inv.fronted inv.are_parts left right same_a
+    k.left_known in
+    done
+
+pub structurally_relate_consts-make_const-requires-clause-constant_known : goal.structurally_relate_consts-make_const-requires-clause-constant_known
+structurally_relate_consts-make_const-requires-clause-constant_known g t c =
+    let k = c.requires.asked in
+    let same = (((c.loop-i.invariant.fronted).passes).extends).const_ c.args.a.now k.left_known in
+    subst (λ z. IsTrue (known z)) (sym same) k.left_known
+
+pub structurally_relate_consts-make_const-requires-clause-fits : goal.structurally_relate_consts-make_const-requires-clause-fits
+structurally_relate_consts-make_const-requires-clause-fits g t c =
+    let r = g.R.HasState.state c.args.r.now in
+    let M = g.R.TypeRelation.manner in
+    let a = (r.meaning).const_ c.args.a.now in
+    let b = (r.meaning).const_ c.args.b.now in
+    let q = g.R.HasState.state c.loop-i.r in
+    let i = c.loop-i.i in
+    let inv = c.loop-i.invariant in
+    let some = some_kept c.loop-i.answers.items c.if-is_empty.ensures in
+    let k = c.requires.asked in
+    let extends = ((inv.fronted).passes).extends in
+    let same_a : (q.meaning).const_ c.args.a.now ≡ a = extends.const_ c.args.a.now k.left_known in
+    let same_b : (q.meaning).const_ c.args.b.now ≡ b = extends.const_ c.args.b.now k.right_known in
+    let alike = (c.in_ok-compare_consts_of.ensures).alike in
+    let test = c.loop-i-test.false in
+    let end = (c.loop-i.auto).i-end in
+    let left : i ≡ count (const_parts_of a) = omega (arith, test, end, inv.left_count) in
+    let right : i ≡ count (const_parts_of b) = omega (arith, test, end, inv.right_count) in
     let items = c.loop-i.answers.items in
     let was = list_tree (arg_tree q.meaning) items in
     subst₂ (λ xs t. FitArgs xs (const_parts_of t)) (sym c.as_slice.ensures.value) (sym same_a)
-    (fit_end items (const_parts_of a) i (inv.are_parts).left_list left inv.fits)
+    (fit_end items (const_parts_of a) i (inv.are_parts).left_list left (inv.fits some))
 
 pub structurally_relate_consts-returns : goal.structurally_relate_consts-returns
 structurally_relate_consts-returns g t c =
@@ -1165,6 +1206,7 @@ structurally_relate_consts-returns g t c =
     let q = g.R.HasState.state c.loop-i.r in
     let i = c.loop-i.i in
     let inv = c.loop-i.invariant in
+    let some = some_kept c.loop-i.answers.items c.if-is_empty.ensures in
     let k = c.requires.asked in
     let extends = ((inv.fronted).passes).extends in
     let same_a : (q.meaning).const_ c.args.a.now ≡ a = extends.const_ c.args.a.now k.left_known in
@@ -1184,7 +1226,7 @@ structurally_relate_consts-returns g t c =
     form_made M r.ambient a b (made.made).extends made.grown (p.meaning).const_ (q.meaning).const_ c.args.a.now done
     c.make_const.result made.fault (const_over a was) _
     (may_const_over M q r.ambient a was
-    (answers_end M q (const_head_of a) r.ambient i (const_parts_of a) was (inv.are_parts).left_list left inv.answers))
+    (answers_end M q (const_head_of a) r.ambient i (const_parts_of a) was (inv.are_parts).left_list left (inv.answers some)))
     (ap₂ const_over same_a (ap (list_tree (arg_tree q.meaning)) c.as_slice.ensures.value)) (made.made).sure
     (made.made).means
 
@@ -1259,9 +1301,8 @@ structurally_relate_tys-loop-i-init g t c =
         left_in = term_context r.store (direct_parts a) (in_parts r.store a k.left_in);
         right_in = term_context r.store (direct_parts b) (in_parts r.store b k.right_in);
       };
-      answers = subst (λ z. AreAnswers M r (head_of a) r.ambient 0 (direct_parts a) (list_tree (arg_tree r.meaning) z))
-          (sym c.new-answers.ensures.items) (answers_none M r (head_of a) r.ambient (direct_parts a));
-      fits = subst (λ z. FitArgs z nil) (sym c.new-answers.ensures.items) tt;
+      answers = λ some. absurd (none_kept_yet c.new-answers.ensures.items some);
+      fits = λ some. absurd (none_kept_yet c.new-answers.ensures.items some);
     }
 
 pub structurally_relate_tys-relate_with_variance-related-requires : goal.structurally_relate_tys-relate_with_variance-related-requires
@@ -1409,12 +1450,8 @@ structurally_relate_tys-loop-i-preserved g t c =
     let kind = subst (λ u. IfOk u (λ k. arg_sort k ≡ arg_sort X)) z (related.ensures).kind in
     let was = c.loop-i.answers.items in
     let next : suc i ≡ i + 1 = omega arith in
-    let pushed : list_tree (arg_tree p.meaning) c.push.new.self.items
-    ≡ snoc (list_tree (arg_tree q.meaning) was) (arg_tree p.meaning n.answer) =
-    ap (list_tree (arg_tree p.meaning)) c.in_ok-push.ensures.items
-    ∙ list_push (arg_tree p.meaning) was n.answer
-    ∙ ap (λ z. snoc z (arg_tree p.meaning n.answer)) (stays_list (arg_tree q.meaning) (arg_tree p.meaning) was
-    (stays_arg later) (inv.answers).sure) in
+    let keeps = subst (λ t. KeepsAnswer (arg_tree p.meaning) arg_fits i (direct_parts t) n.answer was c.keep_answer.new.answers.items) then_a
+    c.in_ok-keep_answer.ensures in
     record {
       lawful = (gone.passes).lawful inv.lawful;
       fronted = subst (λ j. Fronted M r p (head_of a) r.ambient j (direct_parts a) (direct_parts b)) (omega arith)
@@ -1423,17 +1460,39 @@ structurally_relate_tys-loop-i-preserved g t c =
       left_count = inv.left_count;
       right_count = inv.right_count;
       are_parts = inv.are_parts;
-      answers = subst₂ (λ j z. AreAnswers M p (head_of a) r.ambient j (direct_parts a) z) next (sym pushed)
-          (answers_next M (head_of a) r.ambient i (direct_parts a) (list_tree (arg_tree q.meaning) was) x
-          (arg_tree p.meaning n.answer) gone.passes lx inv.answers ex
-          (subst (λ c. MayAnswer M p (part_at c (head_of a) i r.ambient) x (arg_tree p.meaning n.answer))
-          (sym (same_items (inv.fronted).passes)) (gone.verdict).answer) (gone.verdict).known);
-      fits = subst₂ (λ j z. FitArgs z (firsts j (direct_parts a))) next (sym c.in_ok-push.ensures.items)
-          (fit_pushed was n.answer (direct_parts a) i lx inv.fits (fits_place q.meaning sorted X n.answer (direct_parts a) i kx ex kind));
+      answers = λ some. subst (λ j. AreAnswers M p (head_of a) r.ambient j (direct_parts a)
+          (list_tree (arg_tree p.meaning) c.keep_answer.new.answers.items)) next
+          (kept_answers M (arg_tree q.meaning) (arg_tree p.meaning) arg_fits (head_of a) r.ambient i (direct_parts a) x n.answer was
+          c.keep_answer.new.answers.items (stays_arg later) gone.passes lx ex
+          (subst (λ z. MayAnswer M p (part_at z (head_of a) i r.ambient) x (arg_tree p.meaning n.answer))
+          (sym (same_items (inv.fronted).passes)) (gone.verdict).answer) (gone.verdict).known inv.answers keeps some);
+      fits = λ some. subst (λ j. FitArgs c.keep_answer.new.answers.items (firsts j (direct_parts a))) next
+          (kept_fit (arg_tree p.meaning) i (direct_parts a) n.answer was c.keep_answer.new.answers.items lx
+          (fits_place q.meaning sorted X n.answer (direct_parts a) i kx ex kind) inv.fits keeps some);
     }
 
-pub structurally_relate_tys-returns-in_err-push : goal.structurally_relate_tys-returns-in_err-push
-structurally_relate_tys-returns-in_err-push g t c =
+pub structurally_relate_tys-keep_answer-requires : goal.structurally_relate_tys-keep_answer-requires
+structurally_relate_tys-keep_answer-requires g t c =
+    let r = g.R.HasState.state c.args.r.now in
+    let a = (r.meaning).ty c.args.a.now in
+    let p = g.R.HasState.state c.relate_with_variance-related.new.r in
+    let i = c.loop-i.i in
+    let inv = c.loop-i.invariant in
+    let k = c.requires.asked in
+    let same = ((inv.fronted).passes).extends.ty c.args.a.now k.left_known in
+    let later = (((c.relate_with_variance-related.ensures).related).passes).extends in
+    let then : (p.meaning).ty c.args.a.now ≡ a =
+    later.ty c.args.a.now (subst (λ z. IsTrue (known z)) (sym same) k.left_known) ∙ same in
+    let test = c.loop-i-test.true in
+    let lx : i ≤ count (direct_parts a) = omega (arith, test, inv.left_count) in
+    record {
+      ty_known = subst (λ z. IsTrue (known z)) (sym then) k.left_known;
+      over_args = λ o. absurd (false≢true (sym c.if-is_by_parts_of.false ∙ (c.is_by_parts_of.ensures).1 (subst IsByParts then o)));
+      in_bounds = subst (λ z. i ≤ count (direct_parts z)) (sym then) lx;
+    }
+
+pub structurally_relate_tys-returns-in_err-keep_answer : goal.structurally_relate_tys-returns-in_err-keep_answer
+structurally_relate_tys-returns-in_err-keep_answer g t c =
     let r = g.R.HasState.state c.args.r.now in
     let M = g.R.TypeRelation.manner in
     let a = (r.meaning).ty c.args.a.now in
@@ -1477,8 +1536,8 @@ structurally_relate_tys-returns-in_err-push g t c =
     let next = fronted_next (head_of a) r.ambient i (direct_parts a) (direct_parts b) x y inv.fronted lx ly ex ey (arg_tree p.meaning) n.answer
     inv.are_parts gone in
     subst (λ z. RelatedForms M r p r.ambient a b (p.meaning).ty z)
-    (sym (as_err c.from_residual-in_err-push.result Memory c.from_residual-in_err-push.ensures.0
-    c.from_residual-in_err-push.ensures.1))
+    (sym (as_err c.from_residual-in_err-keep_answer.result Memory c.from_residual-in_err-keep_answer.ensures.0
+    c.from_residual-in_err-keep_answer.ensures.1))
     (types_stopped M r.ambient a b (suc i) (p.meaning).ty c.requires.a_formed next)
 
 pub structurally_relate_tys-note_args-requires-clause-one_form : goal.structurally_relate_tys-note_args-requires-clause-one_form
@@ -1569,8 +1628,8 @@ structurally_relate_tys-returns-in_err-note_args g t c =
     (u.meaning).ty n.field-0.0
     refl)
 
-pub structurally_relate_tys-make_ty-requires-clause-ty_known : goal.structurally_relate_tys-make_ty-requires-clause-ty_known
-structurally_relate_tys-make_ty-requires-clause-ty_known g t c =
+pub structurally_relate_tys-returns-then-is_empty : goal.structurally_relate_tys-returns-then-is_empty
+structurally_relate_tys-returns-then-is_empty g t c =
     let r = g.R.HasState.state c.args.r.now in
     let M = g.R.TypeRelation.manner in
     let a = (r.meaning).ty c.args.a.now in
@@ -1596,13 +1655,43 @@ structurally_relate_tys-make_ty-requires-clause-ty_known g t c =
     (u.meaning).ty
     ((((n.ensures).passes).extends).ty c.args.a.now (subst (λ z. IsTrue (known z)) (sym same_a) k.left_known))
     (λ promised bare. (same_a, same_b, ((inv.fronted).passes).ambient)) in
+    noted
+
+pub structurally_relate_tys-make_ty-requires-clause-ty_known : goal.structurally_relate_tys-make_ty-requires-clause-ty_known
+structurally_relate_tys-make_ty-requires-clause-ty_known g t c =
+    let r = g.R.HasState.state c.args.r.now in
+    let M = g.R.TypeRelation.manner in
+    let a = (r.meaning).ty c.args.a.now in
+    let b = (r.meaning).ty c.args.b.now in
+    let q = g.R.HasState.state c.loop-i.r in
+    let i = c.loop-i.i in
+    let inv = c.loop-i.invariant in
+    let some = some_kept c.loop-i.answers.items c.if-is_empty.ensures in
+    let k = c.requires.asked in
+    let extends = ((inv.fronted).passes).extends in
+    let same_a : (q.meaning).ty c.args.a.now ≡ a = extends.ty c.args.a.now k.left_known in
+    let same_b : (q.meaning).ty c.args.b.now ≡ b = extends.ty c.args.b.now k.right_known in
+    let alike = (c.in_ok-compare_tys_of.ensures).alike in
+    let test = c.loop-i-test.false in
+    let end = (c.loop-i.auto).i-end in
+    let left : i ≡ count (direct_parts a) = omega (arith, test, end, inv.left_count) in
+    let right : i ≡ count (direct_parts b) = omega (arith, test, end, inv.right_count) in
+    let done : RelatedForms M r q r.ambient a b (q.meaning).ty (Ok c.args.a.now) =
+    types_related M r.ambient a b i (q.meaning).ty c.args.a.now c.requires.a_formed c.requires.b_formed alike inv.fronted inv.are_parts left
+    right same_a k.left_known in
+    let u = g.R.HasState.state c.note_args.new.r in
+    let n = c.in_ok-note_args in
+    let noted = noted_related M r.ambient a b (q.meaning).ty c.args.a.now done (Ok n.field-0) n.ensures (built_as r.store same_a same_b)
+    (u.meaning).ty
+    ((((n.ensures).passes).extends).ty c.args.a.now (subst (λ z. IsTrue (known z)) (sym same_a) k.left_known))
+    (λ promised bare. (same_a, same_b, ((inv.fronted).passes).ambient)) in
     let e = ((n.ensures).passes).extends in
     let stays : (u.meaning).ty c.args.a.now ≡ a =
     e.ty c.args.a.now (subst (λ z. IsTrue (known z)) (sym same_a) k.left_known) ∙ same_a in
     let items = c.loop-i.answers.items in
     let was = list_tree (arg_tree q.meaning) items in
     let listed : list_tree (arg_tree u.meaning) items ≡ was =
-    stays_list (arg_tree q.meaning) (arg_tree u.meaning) items (stays_arg e) (inv.answers).sure in
+    stays_list (arg_tree q.meaning) (arg_tree u.meaning) items (stays_arg e) (inv.answers some).sure in
     subst (λ z. IsTrue (known z)) (sym stays) k.left_known
 
 pub structurally_relate_tys-make_ty-requires-clause-parts_known : goal.structurally_relate_tys-make_ty-requires-clause-parts_known
@@ -1614,6 +1703,7 @@ structurally_relate_tys-make_ty-requires-clause-parts_known g t c =
     let q = g.R.HasState.state c.loop-i.r in
     let i = c.loop-i.i in
     let inv = c.loop-i.invariant in
+    let some = some_kept c.loop-i.answers.items c.if-is_empty.ensures in
     let k = c.requires.asked in
     let extends = ((inv.fronted).passes).extends in
     let same_a : (q.meaning).ty c.args.a.now ≡ a = extends.ty c.args.a.now k.left_known in
@@ -1638,9 +1728,9 @@ structurally_relate_tys-make_ty-requires-clause-parts_known g t c =
     let items = c.loop-i.answers.items in
     let was = list_tree (arg_tree q.meaning) items in
     let listed : list_tree (arg_tree u.meaning) items ≡ was =
-    stays_list (arg_tree q.meaning) (arg_tree u.meaning) items (stays_arg e) (inv.answers).sure in
+    stays_list (arg_tree q.meaning) (arg_tree u.meaning) items (stays_arg e) (inv.answers some).sure in
     subst (λ z. IsTrue (known z)) (sym (ap (list_tree (arg_tree u.meaning)) c.as_slice.ensures.value ∙ listed))
-    (inv.answers).sure
+    (inv.answers some).sure
 
 pub structurally_relate_tys-make_ty-requires-clause-fits : goal.structurally_relate_tys-make_ty-requires-clause-fits
 structurally_relate_tys-make_ty-requires-clause-fits g t c =
@@ -1651,6 +1741,7 @@ structurally_relate_tys-make_ty-requires-clause-fits g t c =
     let q = g.R.HasState.state c.loop-i.r in
     let i = c.loop-i.i in
     let inv = c.loop-i.invariant in
+    let some = some_kept c.loop-i.answers.items c.if-is_empty.ensures in
     let k = c.requires.asked in
     let extends = ((inv.fronted).passes).extends in
     let same_a : (q.meaning).ty c.args.a.now ≡ a = extends.ty c.args.a.now k.left_known in
@@ -1675,9 +1766,9 @@ structurally_relate_tys-make_ty-requires-clause-fits g t c =
     let items = c.loop-i.answers.items in
     let was = list_tree (arg_tree q.meaning) items in
     let listed : list_tree (arg_tree u.meaning) items ≡ was =
-    stays_list (arg_tree q.meaning) (arg_tree u.meaning) items (stays_arg e) (inv.answers).sure in
+    stays_list (arg_tree q.meaning) (arg_tree u.meaning) items (stays_arg e) (inv.answers some).sure in
     subst₂ (λ xs t. FitArgs xs (direct_parts t)) (sym c.as_slice.ensures.value) (sym stays)
-    (fit_end items (direct_parts a) i (inv.are_parts).left_list left inv.fits)
+    (fit_end items (direct_parts a) i (inv.are_parts).left_list left (inv.fits some))
 
 pub structurally_relate_tys-returns : goal.structurally_relate_tys-returns
 structurally_relate_tys-returns g t c =
@@ -1688,6 +1779,7 @@ structurally_relate_tys-returns g t c =
     let q = g.R.HasState.state c.loop-i.r in
     let i = c.loop-i.i in
     let inv = c.loop-i.invariant in
+    let some = some_kept c.loop-i.answers.items c.if-is_empty.ensures in
     let k = c.requires.asked in
     let extends = ((inv.fronted).passes).extends in
     let same_a : (q.meaning).ty c.args.a.now ≡ a = extends.ty c.args.a.now k.left_known in
@@ -1712,11 +1804,11 @@ structurally_relate_tys-returns g t c =
     let items = c.loop-i.answers.items in
     let was = list_tree (arg_tree q.meaning) items in
     let listed : list_tree (arg_tree u.meaning) items ≡ was =
-    stays_list (arg_tree q.meaning) (arg_tree u.meaning) items (stays_arg e) (inv.answers).sure in
+    stays_list (arg_tree q.meaning) (arg_tree u.meaning) items (stays_arg e) (inv.answers some).sure in
     let p = g.R.HasState.state c.make_ty.new.r in
     let made = c.make_ty.ensures in
     let may = may_over M q r.ambient a was c.requires.a_formed
-    (answers_end M q (head_of a) r.ambient i (direct_parts a) was (inv.are_parts).left_list left inv.answers) in
+    (answers_end M q (head_of a) r.ambient i (direct_parts a) was (inv.are_parts).left_list left (inv.answers some)) in
     form_made M r.ambient a b (made.made).extends made.grown (p.meaning).ty (u.meaning).ty c.args.a.now noted
     c.make_ty.result made.fault (form_over a was) _
     (may_later M r.ambient a (form_over a was) (n.ensures).passes may)
@@ -1749,9 +1841,8 @@ relate_in_order-loop-i-init g t c =
         left_in = term_context r.store (direct_parts a) (in_parts r.store a k.left_in);
         right_in = term_context r.store (direct_parts b) (in_parts r.store b k.right_in);
       };
-      answers = subst (λ z. AreAnswers M r (head_of a) r.ambient 0 (direct_parts a) (list_tree (part_tree r.meaning) z))
-          (sym c.new-answers.ensures.items) (answers_none M r (head_of a) r.ambient (direct_parts a));
-      fits = subst (λ z. Fit z nil) (sym c.new-answers.ensures.items) tt;
+      answers = λ some. absurd (none_kept_yet c.new-answers.ensures.items some);
+      fits = λ some. absurd (none_kept_yet c.new-answers.ensures.items some);
       inputs = no_inputs_yet a b;
     }
 
@@ -2222,32 +2313,81 @@ relate_in_order-loop-i-preserved g t c =
     λ o. subst (λ u. OnOk u (AreOfOneForm x y)) z ((related.ensures).alike o) in
     let was = c.loop-i.answers.items in
     let more : suc i ≡ i + 1 = omega arith in
-    let pushed : list_tree (part_tree p.meaning) c.push.new.self.items
-    ≡ snoc (list_tree (part_tree q.meaning) was) (part_tree p.meaning n.answer) =
-    ap (list_tree (part_tree p.meaning)) c.in_ok-push.ensures.items
-    ∙ list_push (part_tree p.meaning) was n.answer
-    ∙ ap (λ z. snoc z (part_tree p.meaning n.answer)) (stays_list (part_tree q.meaning) (part_tree p.meaning) was
-    (stays_part later) (inv.answers).sure) in
+    let then_a : part_tree p.meaning c.args.a.now ≡ a =
+    stays_part later c.args.a.now (subst (λ z. IsTrue (known z)) (sym same_a) k.left_known) ∙ same_a in
+    let keeps = subst (λ t. KeepsAnswer (part_tree p.meaning) part_fits i (direct_parts t) n.answer was c.keep_term_answer.new.answers.items) then_a
+    c.in_ok-keep_term_answer.ensures in
     record {
       lawful = (gone.passes).lawful inv.lawful;
       fronted = subst (λ j. Fronted M r p (head_of a) r.ambient j (direct_parts a) (direct_parts b)) more next;
       left_count = inv.left_count;
       right_count = inv.right_count;
       are_parts = inv.are_parts;
-      answers = subst₂ (λ j z. AreAnswers M p (head_of a) r.ambient j (direct_parts a) z) more (sym pushed)
-          (answers_next M (head_of a) r.ambient i (direct_parts a) (list_tree (part_tree q.meaning) was) x
-          (part_tree p.meaning n.answer) gone.passes lx inv.answers ex
+      answers = λ some. subst (λ j. AreAnswers M p (head_of a) r.ambient j (direct_parts a)
+          (list_tree (part_tree p.meaning) c.keep_term_answer.new.answers.items)) more
+          (kept_answers M (part_tree q.meaning) (part_tree p.meaning) part_fits (head_of a) r.ambient i (direct_parts a) x n.answer was
+          c.keep_term_answer.new.answers.items (stays_part later) gone.passes lx ex
           (subst (λ z. MayAnswer M p (part_at z (head_of a) i r.ambient) x (part_tree p.meaning n.answer))
-          (sym (same_items (inv.fronted).passes)) (gone.verdict).answer) (gone.verdict).known);
-      fits = subst₂ (λ j z. Fit z (firsts j (direct_parts a))) more (sym c.in_ok-push.ensures.items)
-          (part_pushed was n.answer (direct_parts a) i lx inv.fits
-          (sort ∙ sym (sort_known q.meaning sorted X kx) ∙ ap tree_sort ex));
+          (sym (same_items (inv.fronted).passes)) (gone.verdict).answer) (gone.verdict).known inv.answers keeps some);
+      fits = λ some. subst (λ j. Fit c.keep_term_answer.new.answers.items (firsts j (direct_parts a))) more
+          (kept_fit_parts (part_tree p.meaning) i (direct_parts a) n.answer was c.keep_term_answer.new.answers.items lx
+          (sort ∙ sym (sort_known q.meaning sorted X kx) ∙ ap tree_sort ex) inv.fits keeps some);
       inputs = subst (HaveAsManyInputs a b) more (inputs_next a b i (λ e. subst₂ AreOfOneForm ex ey
           (one (inputs_compared X (sym (sort_known q.meaning sorted X kx) ∙ ap tree_sort ex ∙ e)))) inv.inputs);
     }
 
-pub relate_in_order-returns-in_err-push : goal.relate_in_order-returns-in_err-push
-relate_in_order-returns-in_err-push g t c =
+pub relate_in_order-keep_term_answer-requires : goal.relate_in_order-keep_term_answer-requires
+relate_in_order-keep_term_answer-requires g t c =
+    let r = g.R.HasState.state c.args.r.now in
+    let M = g.R.TypeRelation.manner in
+    let a = part_tree r.meaning c.args.a.now in
+    let b = part_tree r.meaning c.args.b.now in
+    let q = g.R.HasState.state c.loop-i.r in
+    let i = c.loop-i.i in
+    let inv = c.loop-i.invariant in
+    let k = c.requires.asked in
+    let form = c.requires.form in
+    let alike = c.requires.alike in
+    let extends = ((inv.fronted).passes).extends in
+    let same_a : part_tree q.meaning c.args.a.now ≡ a = stays_part extends c.args.a.now k.left_known in
+    let same_b : part_tree q.meaning c.args.b.now ≡ b = stays_part extends c.args.b.now k.right_known in
+    let test = c.loop-i-test.true in
+    let lx : i < count (direct_parts a) = omega (arith, test, inv.left_count) in
+    let ly : i < count (direct_parts b) = omega (arith, test, inv.right_count) in
+    let X = c.term_part_of-x.result in
+    let Y = c.term_part_of-y.result in
+    let x = part_tree q.meaning X in
+    let y = part_tree q.meaning Y in
+    let kx = c.term_part_of-x.ensures.sure in
+    let ky = c.term_part_of-y.ensures.sure in
+    let ex : x ≡ nth i (direct_parts a) = c.term_part_of-x.ensures.means ∙ ap (λ z. nth i (direct_parts z)) same_a in
+    let ey : y ≡ nth i (direct_parts b) = c.term_part_of-y.ensures.means ∙ ap (λ z. nth i (direct_parts z)) same_b in
+    let w = xform q.ambient c.term_variance_at-variance.result in
+    let ew : w ≡ part_at (items_in r) (head_of a) i r.ambient =
+    c.term_variance_at-variance.ensures ∙ ap (λ z. part_at (items_in q) (head_of z) i q.ambient) same_a ∙
+    ap (λ z. part_at z (head_of a) i q.ambient) (same_items (inv.fronted).passes) ∙
+    ap (λ z. part_at (items_in r) (head_of a) i z) ((inv.fronted).passes).ambient in
+    let p = g.R.HasState.state c.relate_parts_with_variance-related.new.r in
+    let related = c.relate_parts_with_variance-related in
+    let later = (((related.ensures).related).passes).extends in
+    let n = c.in_ok-answer in
+    let z = kept_part c.named_place_of-place.result related.result n.answer n.ensures in
+    let gone = subst (λ v. Related M q p v x y (part_tree p.meaning) (Ok n.answer)) ew
+    (subst (λ u. Related M q p w x y (part_tree p.meaning) u) z (related.ensures).related) in
+    let then : part_tree p.meaning c.args.a.now ≡ a =
+    stays_part later c.args.a.now (subst (λ z. IsTrue (known z)) (sym same_a) k.left_known) ∙ same_a in
+    let within : i ≤ count (direct_parts a) = omega (arith, lx) in
+    record {
+      term_known = subst (λ z. IsTrue (known z)) (sym then) k.left_known;
+      form = subst IsByParts (sym then) form;
+      in_bounds = subst (λ z. i ≤ count (direct_parts z)) (sym then) within;
+      part_known = subst (λ z. IsTrue (known z)) (sym (stays_part later X kx)) kx;
+      answer_known = (gone.verdict).known;
+      sort = subst (λ u. IfOk u (λ z. part_sort z ≡ part_sort X)) z (related.ensures).sort;
+    }
+
+pub relate_in_order-returns-in_err-keep_term_answer : goal.relate_in_order-returns-in_err-keep_term_answer
+relate_in_order-returns-in_err-keep_term_answer g t c =
     let r = g.R.HasState.state c.args.r.now in
     let M = g.R.TypeRelation.manner in
     let a = part_tree r.meaning c.args.a.now in
@@ -2286,14 +2426,38 @@ relate_in_order-returns-in_err-push g t c =
     (subst (λ u. Related M q p w x y (part_tree p.meaning) u) z (related.ensures).related) in
     let next = fronted_next (head_of a) r.ambient i (direct_parts a) (direct_parts b) x y inv.fronted lx ly ex ey
     (part_tree p.meaning) n.answer inv.are_parts gone in
-    let failed = as_err c.from_residual-in_err-push.result Memory c.from_residual-in_err-push.ensures.0
-    c.from_residual-in_err-push.ensures.1 in
+    let failed = as_err c.from_residual-in_err-keep_term_answer.result Memory c.from_residual-in_err-keep_term_answer.ensures.0
+    c.from_residual-in_err-keep_term_answer.ensures.1 in
     record {
       related = subst (λ z. RelatedForms M r p r.ambient a b (part_tree p.meaning) z) (sym failed)
           (terms_stopped M r.ambient a b (suc i) form (part_tree p.meaning) next);
       sort = subst (λ u. IfOk u (λ z. part_sort z ≡ part_sort c.args.a.now)) (sym failed) tt;
       predicate = subst (λ u. IfOk u (λ z. form_of_part z ≡ form_of_part c.args.a.now)) (sym failed) tt;
     }
+
+pub relate_in_order-returns-then-is_empty : goal.relate_in_order-returns-then-is_empty
+relate_in_order-returns-then-is_empty g t c =
+    let r = g.R.HasState.state c.args.r.now in
+    let M = g.R.TypeRelation.manner in
+    let a = part_tree r.meaning c.args.a.now in
+    let b = part_tree r.meaning c.args.b.now in
+    let q = g.R.HasState.state c.loop-i.r in
+    let i = c.loop-i.i in
+    let inv = c.loop-i.invariant in
+    let k = c.requires.asked in
+    let form = c.requires.form in
+    let alike = c.requires.alike in
+    let extends = ((inv.fronted).passes).extends in
+    let same_a : part_tree q.meaning c.args.a.now ≡ a = stays_part extends c.args.a.now k.left_known in
+    let same_b : part_tree q.meaning c.args.b.now ≡ b = stays_part extends c.args.b.now k.right_known in
+    let test = c.loop-i-test.false in
+    let end = (c.loop-i.auto).i-end in
+    let left : i ≡ count (direct_parts a) = omega (arith, test, end, inv.left_count) in
+    let right : i ≡ count (direct_parts b) = omega (arith, test, end, inv.right_count) in
+    let done : RelatedForms M r q r.ambient a b (part_tree q.meaning) (Ok c.args.a.now) =
+    terms_answer M r.ambient a b i form (part_tree q.meaning) c.args.a.now alike inv.fronted inv.are_parts left right
+    same_a k.left_known in
+    record { related = done; sort = refl; predicate = refl }
 
 pub relate_in_order-make_part-requires-clause-lawful : goal.relate_in_order-make_part-requires-clause-lawful
 relate_in_order-make_part-requires-clause-lawful g t c = c.loop-i.invariant.lawful
@@ -2341,6 +2505,7 @@ relate_in_order-make_part-requires-clause-parts_known g t c =
     let q = g.R.HasState.state c.loop-i.r in
     let i = c.loop-i.i in
     let inv = c.loop-i.invariant in
+    let some = some_kept c.loop-i.answers.items c.if-is_empty.ensures in
     let k = c.requires.asked in
     let form = c.requires.form in
     let alike = c.requires.alike in
@@ -2348,7 +2513,7 @@ relate_in_order-make_part-requires-clause-parts_known g t c =
     let same_a : part_tree q.meaning c.args.a.now ≡ a = stays_part extends c.args.a.now k.left_known in
     let same_b : part_tree q.meaning c.args.b.now ≡ b = stays_part extends c.args.b.now k.right_known in
     subst (λ z. IsTrue (known z)) (sym (ap (list_tree (part_tree q.meaning)) c.as_slice.ensures.value))
-    (inv.answers).sure
+    (inv.answers some).sure
 
 pub relate_in_order-make_part-requires-clause-fits : goal.relate_in_order-make_part-requires-clause-fits
 relate_in_order-make_part-requires-clause-fits g t c =
@@ -2359,6 +2524,7 @@ relate_in_order-make_part-requires-clause-fits g t c =
     let q = g.R.HasState.state c.loop-i.r in
     let i = c.loop-i.i in
     let inv = c.loop-i.invariant in
+    let some = some_kept c.loop-i.answers.items c.if-is_empty.ensures in
     let k = c.requires.asked in
     let form = c.requires.form in
     let alike = c.requires.alike in
@@ -2372,7 +2538,7 @@ relate_in_order-make_part-requires-clause-fits g t c =
     let items = c.loop-i.answers.items in
     let was = list_tree (part_tree q.meaning) items in
     subst₂ (λ xs z. Fit xs (direct_parts z)) (sym c.as_slice.ensures.value) (sym same_a)
-    (parts_end items (direct_parts a) i (inv.are_parts).left_list left inv.fits)
+    (parts_end items (direct_parts a) i (inv.are_parts).left_list left (inv.fits some))
 
 pub relate_in_order-returns : goal.relate_in_order-returns
 relate_in_order-returns g t c =
@@ -2383,6 +2549,7 @@ relate_in_order-returns g t c =
     let q = g.R.HasState.state c.loop-i.r in
     let i = c.loop-i.i in
     let inv = c.loop-i.invariant in
+    let some = some_kept c.loop-i.answers.items c.if-is_empty.ensures in
     let k = c.requires.asked in
     let form = c.requires.form in
     let alike = c.requires.alike in
@@ -2404,7 +2571,7 @@ relate_in_order-returns g t c =
       related = form_made M r.ambient a b (made.made).extends made.grown (part_tree p.meaning) (part_tree q.meaning)
           c.args.a.now done c.make_part.result made.fault (form_over a was) _
           (may_over_term M q r.ambient a was form
-          (answers_end M q (head_of a) r.ambient i (direct_parts a) was (inv.are_parts).left_list left inv.answers))
+          (answers_end M q (head_of a) r.ambient i (direct_parts a) was (inv.are_parts).left_list left (inv.answers some)))
           (ap₂ form_over same_a (ap (list_tree (part_tree q.meaning)) c.as_slice.ensures.value)) (made.made).sure
           (made.made).means;
       sort = made.sort;

@@ -1,4 +1,4 @@
-use Rattle.std.proofs.Common.{◌≡◌, ◌+◌, ◌*◌}
+use Rattle.std.proofs.Common.{◌≡◌, ◌<◌, ◌+◌, ◌*◌, length}
 use Rattle.relation_terms.specs.Trees.{count, list_tree}
 use Rattle.relation_terms.specs.Meaning.{arg_tree}
 use Rattle.relation_terms.specs.Parts.{part_tree, Fit}
@@ -74,9 +74,9 @@ invariant-structurally_relate_tys-loop-i g l =
       left_count : l.n ≡ count (direct_parts t);
       right_count : l.n ≡ count (direct_parts u);
       are_parts : AreParts r.store (direct_parts t) (direct_parts u);
-      answers : AreAnswers g.R.TypeRelation.manner q (head_of t) r.ambient l.i (direct_parts t)
+      answers : 0 < length l.answers.items → AreAnswers g.R.TypeRelation.manner q (head_of t) r.ambient l.i (direct_parts t)
           (list_tree (arg_tree q.meaning) l.answers.items);
-      fits : FitArgs l.answers.items (firsts l.i (direct_parts t));
+      fits : 0 < length l.answers.items → FitArgs l.answers.items (firsts l.i (direct_parts t));
     }
 
 abbrev pub invariant-structurally_relate_consts-loop-i : goal.invariant-structurally_relate_consts-loop-i
@@ -91,9 +91,9 @@ invariant-structurally_relate_consts-loop-i g l =
       left_count : l.n ≡ count (const_parts_of t);
       right_count : l.n ≡ count (const_parts_of u);
       are_parts : AreParts r.store (const_parts_of t) (const_parts_of u);
-      answers : AreAnswers g.R.TypeRelation.manner q (const_head_of t) r.ambient l.i (const_parts_of t)
+      answers : 0 < length l.answers.items → AreAnswers g.R.TypeRelation.manner q (const_head_of t) r.ambient l.i (const_parts_of t)
           (list_tree (arg_tree q.meaning) l.answers.items);
-      fits : FitArgs l.answers.items (firsts l.i (const_parts_of t));
+      fits : 0 < length l.answers.items → FitArgs l.answers.items (firsts l.i (const_parts_of t));
     }
 
 abbrev pub invariant-relate_in_order-loop-i : goal.invariant-relate_in_order-loop-i
@@ -108,8 +108,8 @@ invariant-relate_in_order-loop-i g l =
       left_count : l.n ≡ count (direct_parts t);
       right_count : l.n ≡ count (direct_parts u);
       are_parts : AreParts r.store (direct_parts t) (direct_parts u);
-      answers : AreAnswers g.R.TypeRelation.manner q (head_of t) r.ambient l.i (direct_parts t)
+      answers : 0 < length l.answers.items → AreAnswers g.R.TypeRelation.manner q (head_of t) r.ambient l.i (direct_parts t)
           (list_tree (part_tree q.meaning) l.answers.items);
-      fits : Fit l.answers.items (firsts l.i (direct_parts t));
+      fits : 0 < length l.answers.items → Fit l.answers.items (firsts l.i (direct_parts t));
       inputs : HaveAsManyInputs t u l.i;
     }
