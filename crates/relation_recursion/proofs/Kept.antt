@@ -1,34 +1,42 @@
 -- The answers for the parts of a term that are kept, once one more part has answered.
-use Rattle.std.proofs.Common.{◌≡◌, ℕ, zero, suc, ◌<◌, ◌≤◌, ◌==◌, refl, sym, ap, ap₂, ◌∙◌, subst, arith, IsTrue, false, true}
-use Rattle.std.proofs.Common.{List, [], ◌∷◌, ◌++◌, length}
-use Rattle.std.proofs.lemmas.Bool.{and_from, false≢true}
+use Rattle.std.proofs.Common.{◌≡◌, ℕ, zero, suc, ◌<◌, ◌≤◌, ◌==◌, refl, sym, ap, ◌∙◌, subst, arith, IsTrue, false, true}
+use Rattle.std.proofs.Common.{List, [], ◌∷◌, ◌++◌, length, Vec, vec_len}
+use Rattle.std.proofs.lemmas.Bool.{eqb-true, eqb-false}
 use Rattle.term_enums.specs.declared.Variance.{Variance}
 use Rattle.relation_terms.specs.declared.terms.generic_arg.GenericArgKind.{GenericArgKind}
 use Rattle.relation_terms.specs.declared.terms.part_kind.Part.{Part}
 use Rattle.relation_terms.specs.Heads.{Head}
 use Rattle.relation_terms.specs.Parts.{part_sort, tree_sort, Fit}
 use Rattle.relation_terms.specs.Trees.{Tree, leaf, node, bind, nil, cons, apply, known, list_tree, count, nth, IsList, IsTerm}
+use Rattle.relation_terms.proofs.Members.{known_with_last}
 use Rattle.relation_terms.proofs.Stays.{stays_list}
+use Rattle.relation_folds.specs.Firsts.{AreFirsts}
 use Rattle.relation_semantics.specs.Lawful.{State, Manners, MayAnswer, Passes, items_in}
 use Rattle.relation_semantics.specs.Making.{arg_sort, FitArgs}
 use Rattle.relation_semantics.specs.Relation.{part_at, same}
 use Rattle.relation_semantics.proofs.Answering.{AreAnswers, answers_next}
-use Rattle.relation_semantics.proofs.Lists.{firsts, snoc, list_push}
-use Rattle.relation_recursion.specs.Keeping.{AreFirsts, KeepsAnswer, none_kept, one_more, first_kept, arg_fits, part_fits}
+use Rattle.relation_semantics.proofs.Lists.{firsts, snoc, list_push, firsts_more}
+use Rattle.relation_recursion.specs.Keeping.{AreFirstParts, KeepsAnswer, none_kept, one_more, first_kept}
 use Rattle.relation_recursion.proofs.InOrder.{part_pushed}
 use Rattle.relation_recursion.proofs.MadeAnew.{fit_pushed}
 
 -- A list that is not empty has a member.
-pub some_kept : {K : Type 0} (xs : List K) → false ≡ (length xs == 0) → 0 < length xs
-some_kept [] e = absurd (false≢true e)
-some_kept (x ∷ xs) e = omega arith
+some_counted : {K : Type 0} (n : ℕ) (xs : List K) → n ≡ length xs → (n ≡ 0 → ⊥) → 0 < length xs
+some_counted n [] e d = absurd (d e)
+some_counted n (x ∷ xs) e d = omega arith
 
-pub none_in : {K : Type 0} (xs : List K) → true ≡ (length xs == 0) → xs ≡ []
-none_in [] e = refl
-none_in (x ∷ xs) e = absurd (false≢true (sym e))
+pub some_kept : {K Z : Type 0} (v : Vec K Z) → false ≡ (vec_len v == 0) → 0 < length v.items
+some_kept v e = some_counted (vec_len v) v.items v.ok.0 (eqb-false (vec_len v) 0 (sym e))
+
+none_counted : {K : Type 0} (xs : List K) → length xs ≡ 0 → xs ≡ []
+none_counted [] e = refl
+none_counted (x ∷ xs) e = absurd (omega (arith, e))
+
+pub none_in : {K Z : Type 0} (v : Vec K Z) → true ≡ (vec_len v == 0) → v.items ≡ []
+none_in v e = none_counted v.items (sym v.ok.0 ∙ eqb-true (vec_len v) 0 (sym e))
 
 pub none_kept_yet : {K : Type 0} {xs : List K} → xs ≡ [] → 0 < length xs → ⊥
-none_kept_yet {xs = xs} e l = let n : length xs ≡ 0 = ap length e in omega (arith, n, l)
+none_kept_yet e l = let n = ap length e in omega (arith, n, l)
 
 -- How many of a list of trees there are at least, and which.
 firsts_list : (i : ℕ) (ts : Tree) → IsList (firsts i ts)
@@ -56,83 +64,48 @@ firsts_nth (suc i) j (node g ts) l m = absurd (omega (arith, l))
 firsts_nth (suc i) j (bind ks t) l m = absurd (omega (arith, l))
 firsts_nth (suc i) j nil l m = absurd (omega (arith, l))
 
--- Keys of the first parts.
-module _ {K : Type 0} (f : K → Tree) (fits : K → Tree → Type 0) where
-  pub firsts_pushed : (i : ℕ) (xs : List K) (ts : Tree) (x : K) → i < count ts → AreFirsts f fits i xs ts →
-      f x ≡ nth i ts → IsTrue (known (f x)) → fits x (nth i ts) → AreFirsts f fits (suc i) (xs ++ x ∷ []) ts
-  firsts_pushed zero [] (cons t ts) x l a e k o = (e, k, o, tt)
-  firsts_pushed zero (y ∷ xs) (cons t ts) x l a e k o = absurd a
-  firsts_pushed (suc i) [] (cons t ts) x l a e k o = absurd a
-  firsts_pushed (suc i) (y ∷ xs) (cons t ts) x l a e k o =
-      (a.0, a.1, a.2, firsts_pushed i xs ts x (omega (arith, l)) a.3 e k o)
-  firsts_pushed i xs (leaf z) x l a e k o = absurd (omega (arith, l))
-  firsts_pushed i xs (node g ts) x l a e k o = absurd (omega (arith, l))
-  firsts_pushed i xs (bind ks t) x l a e k o = absurd (omega (arith, l))
-  firsts_pushed i xs nil x l a e k o = absurd (omega (arith, l))
-
-  firsts_tree : (i : ℕ) (xs : List K) (ts : Tree) → AreFirsts f fits i xs ts → list_tree f xs ≡ firsts i ts
-  firsts_tree zero [] ts a = refl
-  firsts_tree zero (x ∷ xs) ts a = absurd a
-  firsts_tree (suc i) [] ts a = absurd a
-  firsts_tree (suc i) (x ∷ xs) (cons t ts) a = ap₂ cons a.0 (firsts_tree i xs ts a.3)
-  firsts_tree (suc i) (x ∷ xs) (leaf z) a = absurd a
-  firsts_tree (suc i) (x ∷ xs) (node g ts) a = absurd a
-  firsts_tree (suc i) (x ∷ xs) (bind ks t) a = absurd a
-  firsts_tree (suc i) (x ∷ xs) nil a = absurd a
-
-  firsts_sure : (i : ℕ) (xs : List K) (ts : Tree) → AreFirsts f fits i xs ts → IsTrue (known (list_tree f xs))
-  firsts_sure zero [] ts a = refl
-  firsts_sure zero (x ∷ xs) ts a = absurd a
-  firsts_sure (suc i) [] ts a = absurd a
-  firsts_sure (suc i) (x ∷ xs) (cons t ts) a = and_from (known (f x)) (known (list_tree f xs)) a.1 (firsts_sure i xs ts a.3)
-  firsts_sure (suc i) (x ∷ xs) (leaf z) a = absurd a
-  firsts_sure (suc i) (x ∷ xs) (node g ts) a = absurd a
-  firsts_sure (suc i) (x ∷ xs) (bind ks t) a = absurd a
-  firsts_sure (suc i) (x ∷ xs) nil a = absurd a
-
 module _ {Key : Type 0} (f : GenericArgKind Key → Tree) where
-  firsts_fit : (i : ℕ) (xs : List (GenericArgKind Key)) (ts : Tree) → AreFirsts f arg_fits i xs ts →
-      FitArgs xs (firsts i ts)
-  firsts_fit zero [] ts a = tt
-  firsts_fit zero (x ∷ xs) ts a = absurd a
-  firsts_fit (suc i) [] ts a = absurd a
-  firsts_fit (suc i) (x ∷ xs) (cons t ts) a = (a.2, firsts_fit i xs ts a.3)
-  firsts_fit (suc i) (x ∷ xs) (leaf z) a = absurd a
-  firsts_fit (suc i) (x ∷ xs) (node g ts) a = absurd a
-  firsts_fit (suc i) (x ∷ xs) (bind ks t) a = absurd a
-  firsts_fit (suc i) (x ∷ xs) nil a = absurd a
+  -- The first arguments of a list: none of them, and one more.
+  pub no_first_args : (ts : Tree) (xs : List (GenericArgKind Key)) → xs ≡ [] → AreFirstParts f FitArgs 0 ts xs
+  no_first_args ts xs e =
+      subst (λ ys. AreFirstParts f FitArgs 0 ts ys) (sym e) (record { same = refl; sure = refl; fit = tt })
+
+  pub next_first_arg : (x : GenericArgKind Key) (i j : ℕ) (ts : Tree) (xs ys : List (GenericArgKind Key)) →
+      AreFirstParts f FitArgs i ts xs → i < count ts → j ≡ suc i → f x ≡ nth i ts → IsTrue (known (f x)) →
+      IsTerm (arg_sort x) (nth i ts) → ys ≡ xs ++ x ∷ [] → AreFirstParts f FitArgs j ts ys
+  next_first_arg x i j ts xs ys a l e q k s r =
+      subst (λ zs. AreFirstParts f FitArgs j ts zs) (sym r)
+      (subst (λ n. AreFirstParts f FitArgs n ts (xs ++ x ∷ [])) (sym e) (record {
+        same = list_push f xs x ∙ ap (λ t. snoc t (f x)) a.same ∙ ap (snoc (firsts i ts)) q ∙ sym (firsts_more i ts l);
+        sure = known_with_last f xs x a.sure k;
+        fit = fit_pushed xs x ts i l a.fit s;
+      }))
 
   -- What is kept fits the parts.
   pub kept_fit : (i : ℕ) (ts : Tree) (y : GenericArgKind Key) (old new : List (GenericArgKind Key)) → i < count ts →
       IsTerm (arg_sort y) (nth i ts) → (0 < length old → FitArgs old (firsts i ts)) →
-      KeepsAnswer f arg_fits i ts y old new → 0 < length new → FitArgs new (firsts (suc i) ts)
-  kept_fit i ts y old new l k was (none_kept is) m = absurd (let n : length new ≡ 0 = ap length is in omega (arith, n, m))
+      KeepsAnswer f FitArgs i ts y old new → 0 < length new → FitArgs new (firsts (suc i) ts)
+  kept_fit i ts y old new l k was (none_kept is) m = absurd (none_kept_yet is m)
   kept_fit i ts y old new l k was (one_more o is) m =
       subst (λ z. FitArgs z (firsts (suc i) ts)) (sym is) (fit_pushed old y ts i l (was o) k)
   kept_fit i ts y old new l k was (first_kept xs a is) m =
-      subst (λ z. FitArgs z (firsts (suc i) ts)) (sym is) (fit_pushed xs y ts i l (firsts_fit i xs ts a) k)
+      subst (λ z. FitArgs z (firsts (suc i) ts)) (sym is) (fit_pushed xs y ts i l a.fit k)
 
-module _ {Key Id : Type 0} (f : Part Key Id → Tree) where
-  firsts_fit_parts : (i : ℕ) (xs : List (Part Key Id)) (ts : Tree) → AreFirsts f part_fits i xs ts →
-      Fit xs (firsts i ts)
-  firsts_fit_parts zero [] ts a = tt
-  firsts_fit_parts zero (x ∷ xs) ts a = absurd a
-  firsts_fit_parts (suc i) [] ts a = absurd a
-  firsts_fit_parts (suc i) (x ∷ xs) (cons t ts) a = (a.2, firsts_fit_parts i xs ts a.3)
-  firsts_fit_parts (suc i) (x ∷ xs) (leaf z) a = absurd a
-  firsts_fit_parts (suc i) (x ∷ xs) (node g ts) a = absurd a
-  firsts_fit_parts (suc i) (x ∷ xs) (bind ks t) a = absurd a
-  firsts_fit_parts (suc i) (x ∷ xs) nil a = absurd a
+-- The same of parts.
+pub first_members_as : {Key Id : Type 0} (f : Part Key Id → Tree) (i : ℕ) (ts us : Tree) (xs : List (Part Key Id)) →
+    us ≡ ts → AreFirsts f i us xs → AreFirstParts f Fit i ts xs
+first_members_as f i ts us xs e a =
+    subst (λ t. AreFirstParts f Fit i t xs) e (record { same = a.same; sure = a.sure; fit = a.fit })
 
-  pub kept_fit_parts : (i : ℕ) (ts : Tree) (y : Part Key Id) (old new : List (Part Key Id)) → i < count ts →
-      part_sort y ≡ tree_sort (nth i ts) → (0 < length old → Fit old (firsts i ts)) →
-      KeepsAnswer f part_fits i ts y old new → 0 < length new → Fit new (firsts (suc i) ts)
-  kept_fit_parts i ts y old new l k was (none_kept is) m =
-      absurd (let n : length new ≡ 0 = ap length is in omega (arith, n, m))
-  kept_fit_parts i ts y old new l k was (one_more o is) m =
-      subst (λ z. Fit z (firsts (suc i) ts)) (sym is) (part_pushed old y ts i l (was o) k)
-  kept_fit_parts i ts y old new l k was (first_kept xs a is) m =
-      subst (λ z. Fit z (firsts (suc i) ts)) (sym is) (part_pushed xs y ts i l (firsts_fit_parts i xs ts a) k)
+pub kept_fit_parts : {Key Id : Type 0} (f : Part Key Id → Tree) (i : ℕ) (ts : Tree) (y : Part Key Id)
+    (old new : List (Part Key Id)) → i < count ts → part_sort y ≡ tree_sort (nth i ts) →
+    (0 < length old → Fit old (firsts i ts)) → KeepsAnswer f Fit i ts y old new → 0 < length new →
+    Fit new (firsts (suc i) ts)
+kept_fit_parts f i ts y old new l k was (none_kept is) m = absurd (none_kept_yet is m)
+kept_fit_parts f i ts y old new l k was (one_more o is) m =
+    subst (λ z. Fit z (firsts (suc i) ts)) (sym is) (part_pushed old y ts i l (was o) k)
+kept_fit_parts f i ts y old new l k was (first_kept xs a is) m =
+    subst (λ z. Fit z (firsts (suc i) ts)) (sym is) (part_pushed xs y ts i l a.fit k)
 
 module _ {Key Id Name : Type 0} (M : Manners) where
   -- Parts answer for themselves.
@@ -146,23 +119,21 @@ module _ {Key Id Name : Type 0} (M : Manners) where
   }
 
   -- What is kept may be answered.
-  pub kept_answers : {K : Type 0} {n : ℕ} {q p : State Key Id Name} (f g : K → Tree) (fits : K → Tree → Type 0) (h : Head)
-      (v : Variance) (i : ℕ) (ts x : Tree) (y : K) (old new : List K) →
+  pub kept_answers : {K : Type 0} {n : ℕ} {q p : State Key Id Name} (f g : K → Tree) (fits : List K → Tree → Type 0)
+      (h : Head) (v : Variance) (i : ℕ) (ts x : Tree) (y : K) (old new : List K) →
       ((z : K) → IsTrue (known (f z)) → g z ≡ f z) → Passes n q p → i < count ts → x ≡ nth i ts →
       MayAnswer M p (part_at (items_in q) h i v) x (g y) → IsTrue (known (g y)) →
       (0 < length old → AreAnswers M q h v i ts (list_tree f old)) → KeepsAnswer g fits i ts y old new →
       0 < length new → AreAnswers M p h v (suc i) ts (list_tree g new)
-  kept_answers f g fits h v i ts x y old new stay passes l e may k was (none_kept is) m =
-      absurd (let n : length new ≡ 0 = ap length is in omega (arith, n, m))
+  kept_answers f g fits h v i ts x y old new stay passes l e may k was (none_kept is) m = absurd (none_kept_yet is m)
   kept_answers {q = q} {p = p} f g fits h v i ts x y old new stay passes l e may k was (one_more o is) m =
       let pushed : list_tree g new ≡ snoc (list_tree f old) (g y) = ap (list_tree g) is ∙ list_push g old y
       ∙ ap (λ z. snoc z (g y)) (stays_list f g old stay (was o).sure) in
       subst (AreAnswers M p h v (suc i) ts) (sym pushed)
       (answers_next M h v i ts (list_tree f old) x (g y) passes l (was o) e may k)
   kept_answers {q = q} {p = p} f g fits h v i ts x y old new stay passes l e may k was (first_kept xs a is) m =
-      let first = firsts_tree g fits i xs ts a in
       let pushed : list_tree g new ≡ snoc (firsts i ts) (g y) = ap (list_tree g) is ∙ list_push g xs y
-      ∙ ap (λ z. snoc z (g y)) first in
+      ∙ ap (λ z. snoc z (g y)) a.same in
       subst (AreAnswers M p h v (suc i) ts) (sym pushed)
       (answers_next M h v i ts (firsts i ts) x (g y) passes l (answers_first q h v i ts (omega (arith, l))
-      (subst (λ z. IsTrue (known z)) first (firsts_sure g fits i xs ts a))) e may k)
+      (subst (λ z. IsTrue (known z)) a.same a.sure)) e may k)

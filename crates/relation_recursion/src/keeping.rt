@@ -1,35 +1,35 @@
 //! What is kept of the answers for the parts of a term: none, while each is its part.
-ghost use Rattle.std.specs.Prelude.{◌≡◌, ◌≤◌, [], IsTrue, IfOk};
+ghost use Rattle.std.specs.Prelude.{◌≡◌, ◌≤◌, IsTrue, IfOk};
 ghost use Rattle.relation_terms.specs.Trees.{known, count};
 ghost use Rattle.relation_terms.specs.Meaning.{arg_tree};
-ghost use Rattle.relation_terms.specs.Parts.{part_tree, part_sort};
+ghost use Rattle.relation_terms.specs.Parts.{part_tree, part_sort, Fit};
 ghost use Rattle.relation_semantics.specs.Parts.{direct_parts, const_parts_of, IsByParts};
-ghost use Rattle.relation_recursion.specs.Keeping.{AreFirsts, KeepsAnswer, arg_fits, part_fits};
+ghost use Rattle.relation_semantics.specs.Making.{FitArgs};
+ghost use Rattle.relation_recursion.specs.Keeping.{AreFirstParts, KeepsAnswer};
 
-use crate::parts::{const_part, part, term_part};
-use relation_steps::type_relation::TypeRelation;
-use relation_terms::terms::parts::is_same;
+use crate::parts::{const_part, part};
+use relation_folds::fold::first_members;
+use relation_terms::terms::parts::{is_same, parts_of};
 use relation_terms::terms::{Const, GenericArg, Interner, OutOfMemory, PartOf, Ty};
 
-// Puts the first parts of a type into a list, which is empty.
+// The first parts of a type, so many.
 #[inline(never)]
 fn first_parts<I: Interner>(
     cx: &I,
     ty: &Ty<I>,
-    n: usize,
-    list: &mut Vec<GenericArg<I>>,
-) -> Result<(), OutOfMemory>
+    amount: usize,
+) -> Result<Vec<GenericArg<I>>, OutOfMemory>
     requires ty_known { IsTrue (known ((I.meaning cx.now).ty ty.now)) }
     requires over_args { IsByParts ((I.meaning cx.now).ty ty.now) → ⊥ }
-    requires in_bounds { n ≤ count (direct_parts ((I.meaning cx.now).ty ty.now)) }
-    requires empty { list.old.items ≡ [] }
+    requires in_bounds { amount ≤ count (direct_parts ((I.meaning cx.now).ty ty.now)) }
     ensures { let m = I.meaning cx.now in
-        IfOk result (λ _. AreFirsts (arg_tree m) arg_fits n list.new.items (direct_parts (m.ty ty.now))) }
+        IfOk result (λ list. AreFirstParts (arg_tree m) FitArgs amount (direct_parts (m.ty ty.now)) list.items) }
 {
-    for i in 0..n {
+    let mut list = Vec::new(cx.alloc());
+    for i in 0..amount {
         list.push(part(cx, ty, i))?;
     }
-    Ok(())
+    Ok(list)
 }
 
 // The same of a constant.
@@ -37,125 +37,97 @@ fn first_parts<I: Interner>(
 fn first_const_parts<I: Interner>(
     cx: &I,
     constant: &Const<I>,
-    n: usize,
-    list: &mut Vec<GenericArg<I>>,
-) -> Result<(), OutOfMemory>
+    amount: usize,
+) -> Result<Vec<GenericArg<I>>, OutOfMemory>
     requires constant_known { IsTrue (known ((I.meaning cx.now).const_ constant.now)) }
-    requires in_bounds { n ≤ count (const_parts_of ((I.meaning cx.now).const_ constant.now)) }
-    requires empty { list.old.items ≡ [] }
-    ensures { let m = I.meaning cx.now in
-        IfOk result (λ _. AreFirsts (arg_tree m) arg_fits n list.new.items (const_parts_of (m.const_ constant.now))) }
+    requires in_bounds { amount ≤ count (const_parts_of ((I.meaning cx.now).const_ constant.now)) }
+    ensures { let m = I.meaning cx.now in IfOk result (λ list.
+        AreFirstParts (arg_tree m) FitArgs amount (const_parts_of (m.const_ constant.now)) list.items) }
 {
-    for i in 0..n {
+    let mut list = Vec::new(cx.alloc());
+    for i in 0..amount {
         list.push(const_part(cx, constant, i))?;
     }
-    Ok(())
-}
-
-// The same of a term that is related by its parts.
-#[inline(never)]
-fn first_term_parts<I: Interner>(
-    cx: &I,
-    term: &PartOf<I>,
-    n: usize,
-    list: &mut Vec<PartOf<I>>,
-) -> Result<(), OutOfMemory>
-    requires term_known { IsTrue (known (part_tree (I.meaning cx.now) term.now)) }
-    requires form { IsByParts (part_tree (I.meaning cx.now) term.now) }
-    requires in_bounds { n ≤ count (direct_parts (part_tree (I.meaning cx.now) term.now)) }
-    requires empty { list.old.items ≡ [] }
-    ensures { let m = I.meaning cx.now in
-        IfOk result (λ _. AreFirsts (part_tree m) part_fits n list.new.items (direct_parts (part_tree m term.now))) }
-{
-    for i in 0..n {
-        list.push(term_part(cx, term, i))?;
-    }
-    Ok(())
+    Ok(list)
 }
 
 // Keeps what the part of a type at place `i` has answered, behind the answers before it. While each is its part none is
 // kept: the first that is not is kept behind those parts.
 #[inline(always)]
-pub(crate) fn keep_answer<I: Interner, R: TypeRelation<I>>(
-    r: &R,
+pub(crate) fn keep_answer<I: Interner>(
+    cx: &I,
     ty: &Ty<I>,
     i: usize,
     part: &GenericArg<I>,
     answer: GenericArg<I>,
     answers: &mut Vec<GenericArg<I>>,
 ) -> Result<(), OutOfMemory>
-    requires ty_known { IsTrue (known ((R.state r.now).meaning.ty ty.now)) }
-    requires over_args { IsByParts ((R.state r.now).meaning.ty ty.now) → ⊥ }
-    requires in_bounds { i ≤ count (direct_parts ((R.state r.now).meaning.ty ty.now)) }
-    ensures { let m = (R.state r.now).meaning in IfOk result (λ _. KeepsAnswer (arg_tree m) arg_fits i
+    requires ty_known { IsTrue (known ((I.meaning cx.now).ty ty.now)) }
+    requires over_args { IsByParts ((I.meaning cx.now).ty ty.now) → ⊥ }
+    requires in_bounds { i ≤ count (direct_parts ((I.meaning cx.now).ty ty.now)) }
+    ensures { let m = I.meaning cx.now in IfOk result (λ _. KeepsAnswer (arg_tree m) FitArgs i
         (direct_parts (m.ty ty.now)) answer answers.old.items answers.new.items) }
 {
-    if !answers.is_empty() {
-        answers.push(answer)?;
-        return Ok(());
+    if answers.is_empty() {
+        if answer == *part {
+            return Ok(());
+        }
+        *answers = first_parts(cx, ty, i)?;
     }
-    if answer == *part {
-        return Ok(());
-    }
-    first_parts(r.cx(), ty, i, answers)?;
     answers.push(answer)?;
     Ok(())
 }
 
 // The same of a constant.
 #[inline(always)]
-pub(crate) fn keep_const_answer<I: Interner, R: TypeRelation<I>>(
-    r: &R,
+pub(crate) fn keep_const_answer<I: Interner>(
+    cx: &I,
     constant: &Const<I>,
     i: usize,
     part: &GenericArg<I>,
     answer: GenericArg<I>,
     answers: &mut Vec<GenericArg<I>>,
 ) -> Result<(), OutOfMemory>
-    requires constant_known { IsTrue (known ((R.state r.now).meaning.const_ constant.now)) }
-    requires in_bounds { i ≤ count (const_parts_of ((R.state r.now).meaning.const_ constant.now)) }
-    ensures { let m = (R.state r.now).meaning in IfOk result (λ _. KeepsAnswer (arg_tree m) arg_fits i
+    requires constant_known { IsTrue (known ((I.meaning cx.now).const_ constant.now)) }
+    requires in_bounds { i ≤ count (const_parts_of ((I.meaning cx.now).const_ constant.now)) }
+    ensures { let m = I.meaning cx.now in IfOk result (λ _. KeepsAnswer (arg_tree m) FitArgs i
         (const_parts_of (m.const_ constant.now)) answer answers.old.items answers.new.items) }
 {
-    if !answers.is_empty() {
-        answers.push(answer)?;
-        return Ok(());
+    if answers.is_empty() {
+        if answer == *part {
+            return Ok(());
+        }
+        *answers = first_const_parts(cx, constant, i)?;
     }
-    if answer == *part {
-        return Ok(());
-    }
-    first_const_parts(r.cx(), constant, i, answers)?;
     answers.push(answer)?;
     Ok(())
 }
 
 // The same of a term that is related by its parts.
 #[inline(always)]
-pub(crate) fn keep_term_answer<I: Interner, R: TypeRelation<I>>(
-    r: &R,
+pub(crate) fn keep_term_answer<I: Interner>(
+    cx: &I,
     term: &PartOf<I>,
     i: usize,
     part: &PartOf<I>,
     answer: PartOf<I>,
     answers: &mut Vec<PartOf<I>>,
 ) -> Result<(), OutOfMemory>
-    requires term_known { IsTrue (known (part_tree (R.state r.now).meaning term.now)) }
-    requires form { IsByParts (part_tree (R.state r.now).meaning term.now) }
-    requires in_bounds { i ≤ count (direct_parts (part_tree (R.state r.now).meaning term.now)) }
-    requires part_known { IsTrue (known (part_tree (R.state r.now).meaning part.now)) }
-    requires answer_known { IsTrue (known (part_tree (R.state r.now).meaning answer)) }
+    requires term_known { IsTrue (known (part_tree (I.meaning cx.now) term.now)) }
+    requires form { IsByParts (part_tree (I.meaning cx.now) term.now) }
+    requires in_bounds { i ≤ count (direct_parts (part_tree (I.meaning cx.now) term.now)) }
+    requires part_known { IsTrue (known (part_tree (I.meaning cx.now) part.now)) }
+    requires answer_known { IsTrue (known (part_tree (I.meaning cx.now) answer)) }
     requires sort { part_sort answer ≡ part_sort part.now }
-    ensures { let m = (R.state r.now).meaning in IfOk result (λ _. KeepsAnswer (part_tree m) part_fits i
+    ensures { let m = I.meaning cx.now in IfOk result (λ _. KeepsAnswer (part_tree m) Fit i
         (direct_parts (part_tree m term.now)) answer answers.old.items answers.new.items) }
 {
-    if !answers.is_empty() {
-        answers.push(answer)?;
-        return Ok(());
+    if answers.is_empty() {
+        if is_same(cx, part, &answer) {
+            return Ok(());
+        }
+        *answers = first_members(cx, &parts_of(cx, term), i)?;
     }
-    if is_same(r.cx(), part, &answer) {
-        return Ok(());
-    }
-    first_term_parts(r.cx(), term, i, answers)?;
     answers.push(answer)?;
     Ok(())
 }

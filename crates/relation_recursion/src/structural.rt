@@ -221,7 +221,7 @@ pub fn structurally_relate_tys<I: Interner, R: TypeRelation<I>>(
         let variance = variance_at::<I, R>(r, a, i);
         let related = relate_with_variance(r, variance, &x, &y);
         let answer = in_ty_of::<I, R>(r, a, &x, &y, related)?;
-        keep_answer(r, a, i, &x, answer, &mut answers)?;
+        keep_answer(r.cx(), a, i, &x, answer, &mut answers)?;
     }
     note_args(r, a, b)?;
     if answers.is_empty() {
@@ -265,7 +265,7 @@ pub fn structurally_relate_consts<I: Interner, R: TypeRelation<I>>(
         let variance = const_variance_at::<I, R>(r, a);
         let related = relate_with_variance(r, variance, &x, &y);
         let answer = in_const_of::<I, R>(r, a, b, related)?;
-        keep_const_answer(r, a, i, &x, answer, &mut answers)?;
+        keep_const_answer(r.cx(), a, i, &x, answer, &mut answers)?;
     }
     if answers.is_empty() {
         return Ok(*a);
@@ -377,7 +377,7 @@ fn relate_in_order<I: Interner, R: TypeRelation<I>>(
         let place = named_place_of::<I, R>(r, a, i);
         let related = relate_parts_with_variance(r, variance, &x, &y);
         let answer = in_part::<I, PartOf<I>>(place, related)?;
-        keep_term_answer(r, a, i, &x, answer, &mut answers)?;
+        keep_term_answer(r.cx(), a, i, &x, answer, &mut answers)?;
     }
     if answers.is_empty() {
         return Ok(*a);

@@ -1,17 +1,18 @@
-use Rattle.std.proofs.Common.{◌≡◌, ◌<◌, ◌+◌, suc, refl, sym, subst, subst₂, arith}
+use Rattle.std.proofs.Common.{◌≡◌, ◌<◌, ◌+◌, suc, refl, subst, arith}
 use Rattle.relation_terms.specs.Interning.{Sorted}
 use Rattle.relation_terms.specs.Meaning.{arg_tree}
 use Rattle.relation_terms.specs.Trees.{count}
 use Rattle.relation_semantics.specs.Parts.{direct_parts}
-use Rattle.relation_recursion.specs.Keeping.{AreFirsts, arg_fits}
-use Rattle.relation_recursion.proofs.Kept.{firsts_pushed}
+use Rattle.relation_semantics.specs.Making.{FitArgs}
+use Rattle.relation_recursion.specs.Keeping.{AreFirstParts}
+use Rattle.relation_recursion.proofs.Kept.{no_first_args, next_first_arg}
 use Rattle.relation_recursion.proofs.MadeAnew.{fits_place}
 use Rattle.relation_recursion.proofs.keeping.first_parts.Goals as goal
 
 pub loop-i-init : goal.loop-i-init
 loop-i-init g c =
     let m = g.I.Interner.meaning c.args.cx.now in
-    subst (λ z. AreFirsts (arg_tree m) arg_fits 0 z (direct_parts (m.ty c.args.ty.now))) (sym c.requires.empty) tt
+    record { firsts = no_first_args (arg_tree m) (direct_parts (m.ty c.args.ty.now)) c.new-list.result.items c.new-list.ensures.items }
 
 pub loop-i-preserved : goal.loop-i-preserved
 loop-i-preserved g c =
@@ -21,17 +22,19 @@ loop-i-preserved g c =
     let i = c.loop-i.i in
     let x = c.part.result in
     let test = c.loop-i-test.true in
-    let bound = c.requires.in_bounds in
-    let below : i < count ts = omega (arith, test, bound) in
-    let next : suc i ≡ i + 1 = omega arith in
-    subst₂ (λ j z. AreFirsts (arg_tree m) arg_fits j z ts) next (sym c.in_ok-push.ensures.items)
-    (firsts_pushed (arg_tree m) arg_fits i c.loop-i.list.items ts x below c.loop-i.invariant c.part.ensures.means
-    c.part.ensures.sure (fits_place m sorted x x ts i c.part.ensures.sure c.part.ensures.means refl))
+    let most = c.requires.in_bounds in
+    let below : i < count ts = omega (arith, test, most) in
+    let next : i + 1 ≡ suc i = omega arith in
+    record {
+      firsts = next_first_arg (arg_tree m) x i (i + 1) ts c.loop-i.list.items c.push.new.self.items
+          c.loop-i.invariant.firsts below next c.part.ensures.means c.part.ensures.sure
+          (fits_place m sorted x x ts i c.part.ensures.sure c.part.ensures.means refl) c.in_ok-push.ensures.items;
+    }
 
 pub returns : goal.returns
 returns g c =
     let m = g.I.Interner.meaning c.args.cx.now in
     let test = c.loop-i-test.false in
     let end = (c.loop-i.auto).i-end in
-    let all : c.loop-i.i ≡ c.args.n = omega (arith, test, end) in
-    subst (λ j. AreFirsts (arg_tree m) arg_fits j c.loop-i.list.items (direct_parts (m.ty c.args.ty.now))) all c.loop-i.invariant
+    let all : c.loop-i.i ≡ c.args.amount = omega (arith, test, end) in
+    subst (λ n. AreFirstParts (arg_tree m) FitArgs n (direct_parts (m.ty c.args.ty.now)) c.loop-i.list.items) all c.loop-i.invariant.firsts

@@ -1,21 +1,18 @@
-use Rattle.std.proofs.Common.{subst}
-use Rattle.relation_terms.specs.Meaning.{arg_tree}
-use Rattle.relation_semantics.specs.Parts.{const_parts_of}
-use Rattle.relation_recursion.specs.Keeping.{AreFirsts, none_kept, one_more, first_kept, arg_fits}
+use Rattle.std.proofs.Common.{[], ◌∷◌, ◌++◌, ◌∙◌, ap}
+use Rattle.relation_recursion.specs.Keeping.{none_kept, one_more, first_kept}
 use Rattle.relation_recursion.proofs.Kept.{some_kept, none_in}
+use Rattle.relation_recursion.proofs.keeping.keep_const_answer.Goals.{then-is_empty+else-eq+in_ok-answers, else-is_empty}
 use Rattle.relation_recursion.proofs.keeping.keep_const_answer.Goals as goal
 
-pub returns-then-not-is_empty : goal.returns-then-not-is_empty
-returns-then-not-is_empty g c =
-    one_more (some_kept c.args.answers.now.items c.if-not-is_empty.ensures) c.in_ok-push.ensures.items
-
 pub returns-then-eq : goal.returns-then-eq
-returns-then-eq g c = none_kept (none_in c.args.answers.now.items c.if-not-is_empty.ensures)
-
-pub first_const_parts-requires-clause-empty : goal.first_const_parts-requires-clause-empty
-first_const_parts-requires-clause-empty g c = none_in c.args.answers.now.items c.if-not-is_empty.ensures
+returns-then-eq g c = none_kept (none_in c.args.answers.now c.if-is_empty.ensures)
 
 pub returns : goal.returns
 returns g c =
-    first_kept c.first_const_parts.new.list.items (subst (λ m. AreFirsts (arg_tree m) arg_fits c.args.i c.first_const_parts.new.list.items
-    (const_parts_of (m.const_ c.args.constant.now))) c.cx.ensures c.in_ok-first_const_parts.ensures) c.in_ok-push-2.ensures.items
+    let x = c.args.answer in
+    elim c.if-is_empty.branch [
+      then-is_empty+else-eq+in_ok-answers w ↦ first_kept w.in_ok-answers.field-0.items w.in_ok-answers.ensures
+          (c.in_ok-push.ensures.items ∙ ap (λ v. v.items ++ x ∷ []) w.answers-is)
+    | else-is_empty w ↦ one_more (some_kept c.args.answers.now w.if-is_empty.ensures)
+          (c.in_ok-push.ensures.items ∙ ap (λ v. v.items ++ x ∷ []) w.answers-is)
+    ]
