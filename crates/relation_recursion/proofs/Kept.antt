@@ -1,12 +1,15 @@
 -- The answers for the parts of a term that are kept, once one more part has answered.
-use Rattle.std.proofs.Common.{◌≡◌, ℕ, zero, suc, ◌<◌, ◌≤◌, ◌==◌, refl, sym, ap, ◌∙◌, subst, arith, IsTrue, false, true}
+use Rattle.std.proofs.Common.{◌≡◌, ℕ, zero, suc, ◌<◌, ◌≤◌, ◌==◌, refl, sym, ap, ◌∙◌, subst, subst₂, arith, IsTrue, false, true}
 use Rattle.std.proofs.Common.{List, [], ◌∷◌, ◌++◌, length, Vec, vec_len}
 use Rattle.std.proofs.lemmas.Bool.{eqb-true, eqb-false}
 use Rattle.term_enums.specs.declared.Variance.{Variance}
 use Rattle.relation_terms.specs.declared.terms.generic_arg.GenericArgKind.{GenericArgKind}
 use Rattle.relation_terms.specs.declared.terms.part_kind.Part.{Part}
+use Rattle.relation_terms.specs.declared.terms.keys.TyKey.{TyKey}
+use Rattle.relation_terms.specs.declared.terms.keys.ConstKey.{ConstKey}
 use Rattle.relation_terms.specs.Heads.{Head}
-use Rattle.relation_terms.specs.Parts.{part_sort, tree_sort, Fit}
+use Rattle.relation_terms.specs.Meaning.{Meaning}
+use Rattle.relation_terms.specs.Parts.{part_tree, part_sort, tree_sort, Fit}
 use Rattle.relation_terms.specs.Trees.{Tree, leaf, node, bind, nil, cons, apply, known, list_tree, count, nth, IsList, IsTerm}
 use Rattle.relation_terms.proofs.Members.{known_with_last}
 use Rattle.relation_terms.proofs.Stays.{stays_list}
@@ -137,3 +140,20 @@ module _ {Key Id Name : Type 0} (M : Manners) where
       subst (AreAnswers M p h v (suc i) ts) (sym pushed)
       (answers_next M h v i ts (firsts i ts) x (g y) passes l (answers_first q h v i ts (omega (arith, l))
       (subst (λ z. IsTrue (known z)) a.same a.sure)) e may k)
+
+-- What an interner reads is what a relation's terms are, where it is the relation's.
+module _ {Key Id Name : Type 0} {m n : Meaning Key Id Name} {t : Tree} where
+  pub ty_read : (k : TyKey Key) → m ≡ n → n.ty k ≡ t → m.ty k ≡ t
+  ty_read k e s = ap (λ (z : Meaning Key Id Name). z.ty k) e ∙ s
+
+  pub const_read : (k : ConstKey Key) → m ≡ n → n.const_ k ≡ t → m.const_ k ≡ t
+  const_read k e s = ap (λ (z : Meaning Key Id Name). z.const_ k) e ∙ s
+
+  pub part_read : (k : Part Key Id) → m ≡ n → part_tree n k ≡ t → part_tree m k ≡ t
+  part_read k e s = ap (λ (z : Meaning Key Id Name). part_tree z k) e ∙ s
+
+pub kept_as : {Key Id Name K : Type 0} {m n : Meaning Key Id Name} {i : ℕ} {us ts : Tree} {y : K} {old new : List K}
+    (tree : Meaning Key Id Name → K → Tree) (fits : List K → Tree → Type 0) → m ≡ n → us ≡ ts →
+    KeepsAnswer (tree m) fits i us y old new → KeepsAnswer (tree n) fits i ts y old new
+kept_as {i = i} {y = y} {old = old} {new = new} tree fits e s k =
+    subst₂ (λ z w. KeepsAnswer (tree z) fits i w y old new) e s k

@@ -22,10 +22,10 @@ use crate::opening::{is_same_of, open_bodies};
 use crate::parts::{PartKind, kind_of_part, the_object};
 use crate::reading::{
     compare_consts_of, compare_members_of, compare_parts_of, compare_tys_of, const_part_of,
-    const_parts_count_of, in_const_of, in_ty_of, is_by_parts_of, is_error_const_of, is_error_of,
+    const_parts_count_of, is_by_parts_of, is_error_const_of, is_error_of,
     named_place_of, note_args, part_of, parts_count_of, term_part_of, term_parts_count_of,
 };
-use part_variances::handing::in_part;
+use part_variances::handing::{in_const, in_part, in_ty};
 use part_variances::variances::{const_variance_at, is_skipped, term_variance_at, variance_at};
 use relation_folds::error::{RelateFault, RelateResult, TypeError};
 use relation_semantics::relate::Step;
@@ -220,8 +220,9 @@ pub fn structurally_relate_tys<I: Interner, R: TypeRelation<I>>(
         let y = part_of::<I, R>(r, b, i);
         let variance = variance_at::<I, R>(r, a, i);
         let related = relate_with_variance(r, variance, &x, &y);
-        let answer = in_ty_of::<I, R>(r, a, &x, &y, related)?;
-        keep_answer(r.cx(), a, i, &x, answer, &mut answers)?;
+        let cx = r.cx();
+        let answer = in_ty(cx, a, &x, &y, related)?;
+        keep_answer(cx, a, i, &x, answer, &mut answers)?;
     }
     note_args(r, a, b)?;
     if answers.is_empty() {
@@ -264,8 +265,9 @@ pub fn structurally_relate_consts<I: Interner, R: TypeRelation<I>>(
         let y = const_part_of::<I, R>(r, b, i);
         let variance = const_variance_at::<I, R>(r, a);
         let related = relate_with_variance(r, variance, &x, &y);
-        let answer = in_const_of::<I, R>(r, a, b, related)?;
-        keep_const_answer(r.cx(), a, i, &x, answer, &mut answers)?;
+        let cx = r.cx();
+        let answer = in_const(cx, a, b, related)?;
+        keep_const_answer(cx, a, i, &x, answer, &mut answers)?;
     }
     if answers.is_empty() {
         return Ok(*a);
@@ -377,7 +379,8 @@ fn relate_in_order<I: Interner, R: TypeRelation<I>>(
         let place = named_place_of::<I, R>(r, a, i);
         let related = relate_parts_with_variance(r, variance, &x, &y);
         let answer = in_part::<I, PartOf<I>>(place, related)?;
-        keep_term_answer(r.cx(), a, i, &x, answer, &mut answers)?;
+        let cx = r.cx();
+        keep_term_answer(cx, a, i, &x, answer, &mut answers)?;
     }
     if answers.is_empty() {
         return Ok(*a);

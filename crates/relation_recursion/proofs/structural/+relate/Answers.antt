@@ -54,8 +54,8 @@ use Rattle.relation_recursion.proofs.StructuralTys.{types_related, types_stopped
 use Rattle.relation_recursion.proofs.StructuralConsts.{consts_related, consts_stopped, const_refused, itself_related, left_error, right_error, types_differ, consts_differ, kinds_differ}
 use Rattle.relation_recursion.proofs.Looping.{next_asked, next_under, next_const_asked, next_const_under, parts_under, again_under}
 use Rattle.relation_recursion.proofs.Looping.{failed_ty, failed_const, kept_ty, kept_const, parts_alike, heads_one, const_heads_alike}
-use Rattle.relation_recursion.specs.Keeping.{KeepsAnswer, arg_fits, part_fits}
-use Rattle.relation_recursion.proofs.Kept.{kept_answers, kept_fit, kept_fit_parts, some_kept, none_kept_yet}
+use Rattle.relation_recursion.proofs.Kept.{kept_answers, kept_fit, kept_fit_parts, kept_as, some_kept, none_kept_yet}
+use Rattle.relation_recursion.proofs.Kept.{ty_read, const_read, part_read}
 use Rattle.relation_recursion.proofs.Looping.{failed_part, kept_part}
 use Rattle.relation_steps.specs.Alone.{RelatesAlone, StepsAlone}
 use Rattle.relation_recursion.proofs.Alone.{formed_ask_none, left_none, right_none, lifetime_none, const_none, no_ty_none, refused_told}
@@ -998,7 +998,8 @@ structurally_relate_consts-returns-in_err-answer g t c =
     later.const_ c.args.b.now (subst (λ z. IsTrue (known z)) (sym same_b) k.right_known) ∙ same_b in
     let n = c.in_err-answer in
     let z = failed_const a c.args.a.now c.args.b.now related.result n.field-0.0
-    (subst (λ z. IsResultOfConst z c.args.a.now c.args.b.now related.result (Err n.field-0.0)) then_a n.ensures) in
+    (subst (λ z. IsResultOfConst z c.args.a.now c.args.b.now related.result (Err n.field-0.0))
+    (const_read c.args.a.now c.cx-cx.ensures then_a) n.ensures) in
     let gone = subst (λ v. Related M q p v x y (arg_tree p.meaning) (Err z.0)) ew
     (subst (λ u. Related M q p w x y (arg_tree p.meaning) u) z.1 (related.ensures).related) in
     let failed = as_err c.from_residual-in_err-answer.result n.field-0.0 c.from_residual-in_err-answer.ensures.0
@@ -1046,7 +1047,8 @@ structurally_relate_consts-loop-i-preserved g t c =
     later.const_ c.args.b.now (subst (λ z. IsTrue (known z)) (sym same_b) k.right_known) ∙ same_b in
     let n = c.in_ok-answer in
     let z = kept_const a c.args.a.now c.args.b.now related.result n.answer
-    (subst (λ z. IsResultOfConst z c.args.a.now c.args.b.now related.result (Ok n.answer)) then_a n.ensures) in
+    (subst (λ z. IsResultOfConst z c.args.a.now c.args.b.now related.result (Ok n.answer))
+    (const_read c.args.a.now c.cx-cx.ensures then_a) n.ensures) in
     let gone = subst (λ v. Related M q p v x y (arg_tree p.meaning) (Ok n.answer)) ew
     (subst (λ u. Related M q p w x y (arg_tree p.meaning) u) z (related.ensures).related) in
     let e = g.met.R.TypeRelation.reads c.loop-i.r in
@@ -1055,7 +1057,7 @@ structurally_relate_consts-loop-i-preserved g t c =
     let kind = subst (λ u. IfOk u (λ k. arg_sort k ≡ arg_sort X)) z (related.ensures).kind in
     let was = c.loop-i.answers.items in
     let next : suc i ≡ i + 1 = omega arith in
-    let keeps = subst (λ t. KeepsAnswer (arg_tree p.meaning) arg_fits i (const_parts_of t) n.answer was c.keep_const_answer.new.answers.items) then_a
+    let keeps = kept_as arg_tree FitArgs c.cx-cx.ensures (ap const_parts_of (const_read c.args.a.now c.cx-cx.ensures then_a))
     c.in_ok-keep_const_answer.ensures in
     record {
       lawful = (gone.passes).lawful inv.lawful;
@@ -1067,7 +1069,7 @@ structurally_relate_consts-loop-i-preserved g t c =
       are_parts = inv.are_parts;
       answers = λ some. subst (λ j. AreAnswers M p (const_head_of a) r.ambient j (const_parts_of a)
           (list_tree (arg_tree p.meaning) c.keep_const_answer.new.answers.items)) next
-          (kept_answers M (arg_tree q.meaning) (arg_tree p.meaning) arg_fits (const_head_of a) r.ambient i (const_parts_of a) x n.answer was
+          (kept_answers M (arg_tree q.meaning) (arg_tree p.meaning) FitArgs (const_head_of a) r.ambient i (const_parts_of a) x n.answer was
           c.keep_const_answer.new.answers.items (stays_arg later) gone.passes lx ex
           (subst (λ z. MayAnswer M p (part_at z (const_head_of a) i r.ambient) x (arg_tree p.meaning n.answer))
           (sym (same_items (inv.fronted).passes)) (gone.verdict).answer) (gone.verdict).known inv.answers keeps some);
@@ -1075,6 +1077,14 @@ structurally_relate_consts-loop-i-preserved g t c =
           (kept_fit (arg_tree p.meaning) i (const_parts_of a) n.answer was c.keep_const_answer.new.answers.items lx
           (fits_place q.meaning sorted X n.answer (const_parts_of a) i kx ex kind) inv.fits keeps some);
     }
+
+pub structurally_relate_consts-in_const-requires : goal.structurally_relate_consts-in_const-requires
+structurally_relate_consts-in_const-requires g t c =
+    let k = c.requires.asked in
+    let same = (((c.loop-i.invariant.fronted).passes).extends).const_ c.args.a.now k.left_known in
+    let later = (((c.relate_with_variance-related.ensures).related).passes).extends in
+    let then = later.const_ c.args.a.now (subst (λ z. IsTrue (known z)) (sym same) k.left_known) ∙ same in
+    subst (λ z. IsTrue (known z)) (sym (const_read c.args.a.now c.cx-cx.ensures then)) k.left_known
 
 pub structurally_relate_consts-keep_const_answer-requires : goal.structurally_relate_consts-keep_const_answer-requires
 structurally_relate_consts-keep_const_answer-requires g t c =
@@ -1090,9 +1100,10 @@ structurally_relate_consts-keep_const_answer-requires g t c =
     later.const_ c.args.a.now (subst (λ z. IsTrue (known z)) (sym same) k.left_known) ∙ same in
     let test = c.loop-i-test.true in
     let lx : i ≤ count (const_parts_of a) = omega (arith, test, inv.left_count) in
+    let read = const_read c.args.a.now c.cx-cx.ensures then in
     record {
-      constant_known = subst (λ z. IsTrue (known z)) (sym then) k.left_known;
-      in_bounds = subst (λ z. i ≤ count (const_parts_of z)) (sym then) lx;
+      constant_known = subst (λ z. IsTrue (known z)) (sym read) k.left_known;
+      in_bounds = subst (λ z. i ≤ count (const_parts_of z)) (sym read) lx;
     }
 
 pub structurally_relate_consts-returns-in_err-keep_const_answer : goal.structurally_relate_consts-returns-in_err-keep_const_answer
@@ -1134,7 +1145,8 @@ structurally_relate_consts-returns-in_err-keep_const_answer g t c =
     later.const_ c.args.b.now (subst (λ z. IsTrue (known z)) (sym same_b) k.right_known) ∙ same_b in
     let n = c.in_ok-answer in
     let z = kept_const a c.args.a.now c.args.b.now related.result n.answer
-    (subst (λ z. IsResultOfConst z c.args.a.now c.args.b.now related.result (Ok n.answer)) then_a n.ensures) in
+    (subst (λ z. IsResultOfConst z c.args.a.now c.args.b.now related.result (Ok n.answer))
+    (const_read c.args.a.now c.cx-cx.ensures then_a) n.ensures) in
     let gone = subst (λ v. Related M q p v x y (arg_tree p.meaning) (Ok n.answer)) ew
     (subst (λ u. Related M q p w x y (arg_tree p.meaning) u) z (related.ensures).related) in
     let next = fronted_next (const_head_of a) r.ambient i (const_parts_of a) (const_parts_of b) x y inv.fronted lx ly ex ey (arg_tree p.meaning) n.answer
@@ -1182,7 +1194,7 @@ structurally_relate_consts-make_const-requires-clause-fits g t c =
     let q = g.R.HasState.state c.loop-i.r in
     let i = c.loop-i.i in
     let inv = c.loop-i.invariant in
-    let some = some_kept c.loop-i.answers.items c.if-is_empty.ensures in
+    let some = some_kept c.loop-i.answers c.if-is_empty.ensures in
     let k = c.requires.asked in
     let extends = ((inv.fronted).passes).extends in
     let same_a : (q.meaning).const_ c.args.a.now ≡ a = extends.const_ c.args.a.now k.left_known in
@@ -1206,7 +1218,7 @@ structurally_relate_consts-returns g t c =
     let q = g.R.HasState.state c.loop-i.r in
     let i = c.loop-i.i in
     let inv = c.loop-i.invariant in
-    let some = some_kept c.loop-i.answers.items c.if-is_empty.ensures in
+    let some = some_kept c.loop-i.answers c.if-is_empty.ensures in
     let k = c.requires.asked in
     let extends = ((inv.fronted).passes).extends in
     let same_a : (q.meaning).const_ c.args.a.now ≡ a = extends.const_ c.args.a.now k.left_known in
@@ -1343,13 +1355,13 @@ structurally_relate_tys-relate_with_variance-related-requires g t c κs within =
     let d = c.decreases in
     search rules
 
-pub structurally_relate_tys-in_ty_of-requires : goal.structurally_relate_tys-in_ty_of-requires
-structurally_relate_tys-in_ty_of-requires g t c =
+pub structurally_relate_tys-in_ty-requires : goal.structurally_relate_tys-in_ty-requires
+structurally_relate_tys-in_ty-requires g t c =
     let k = c.requires.asked in
     let same = (((c.loop-i.invariant.fronted).passes).extends).ty c.args.a.now k.left_known in
     let later = (((c.relate_with_variance-related.ensures).related).passes).extends in
     let then = later.ty c.args.a.now (subst (λ z. IsTrue (known z)) (sym same) k.left_known) ∙ same in
-    subst (λ z. IsTrue (known z)) (sym then) k.left_known
+    subst (λ z. IsTrue (known z)) (sym (ty_read c.args.a.now c.cx-cx.ensures then)) k.left_known
 
 pub structurally_relate_tys-returns-in_err-answer : goal.structurally_relate_tys-returns-in_err-answer
 structurally_relate_tys-returns-in_err-answer g t c =
@@ -1393,7 +1405,7 @@ structurally_relate_tys-returns-in_err-answer g t c =
     let sorted : Sorted q.meaning = subst (λ m. Sorted m) (sym e) (g.met.I.Interner.sorted cx) in
     let n = c.in_err-answer in
     let z = failed_ty a X Y related.result n.field-0.0
-    (subst (λ z. IsResultOfTy z X Y related.result (Err n.field-0.0)) then_a n.ensures) in
+    (subst (λ z. IsResultOfTy z X Y related.result (Err n.field-0.0)) (ty_read c.args.a.now c.cx-cx.ensures then_a) n.ensures) in
     let gone = subst (λ v. Related M q p v x y (arg_tree p.meaning) (Err z.0)) ew
     (subst (λ u. Related M q p w x y (arg_tree p.meaning) u) z.1 (related.ensures).related) in
     let failed = as_err c.from_residual-in_err-answer.result n.field-0.0 c.from_residual-in_err-answer.ensures.0
@@ -1441,7 +1453,7 @@ structurally_relate_tys-loop-i-preserved g t c =
     later.ty c.args.b.now (subst (λ z. IsTrue (known z)) (sym same_b) k.right_known) ∙ same_b in
     let n = c.in_ok-answer in
     let z = kept_ty a X Y related.result n.answer
-    (subst (λ z. IsResultOfTy z X Y related.result (Ok n.answer)) then_a n.ensures) in
+    (subst (λ z. IsResultOfTy z X Y related.result (Ok n.answer)) (ty_read c.args.a.now c.cx-cx.ensures then_a) n.ensures) in
     let gone = subst (λ v. Related M q p v x y (arg_tree p.meaning) (Ok n.answer)) ew
     (subst (λ u. Related M q p w x y (arg_tree p.meaning) u) z (related.ensures).related) in
     let e = g.met.R.TypeRelation.reads c.loop-i.r in
@@ -1450,7 +1462,7 @@ structurally_relate_tys-loop-i-preserved g t c =
     let kind = subst (λ u. IfOk u (λ k. arg_sort k ≡ arg_sort X)) z (related.ensures).kind in
     let was = c.loop-i.answers.items in
     let next : suc i ≡ i + 1 = omega arith in
-    let keeps = subst (λ t. KeepsAnswer (arg_tree p.meaning) arg_fits i (direct_parts t) n.answer was c.keep_answer.new.answers.items) then_a
+    let keeps = kept_as arg_tree FitArgs c.cx-cx.ensures (ap direct_parts (ty_read c.args.a.now c.cx-cx.ensures then_a))
     c.in_ok-keep_answer.ensures in
     record {
       lawful = (gone.passes).lawful inv.lawful;
@@ -1462,7 +1474,7 @@ structurally_relate_tys-loop-i-preserved g t c =
       are_parts = inv.are_parts;
       answers = λ some. subst (λ j. AreAnswers M p (head_of a) r.ambient j (direct_parts a)
           (list_tree (arg_tree p.meaning) c.keep_answer.new.answers.items)) next
-          (kept_answers M (arg_tree q.meaning) (arg_tree p.meaning) arg_fits (head_of a) r.ambient i (direct_parts a) x n.answer was
+          (kept_answers M (arg_tree q.meaning) (arg_tree p.meaning) FitArgs (head_of a) r.ambient i (direct_parts a) x n.answer was
           c.keep_answer.new.answers.items (stays_arg later) gone.passes lx ex
           (subst (λ z. MayAnswer M p (part_at z (head_of a) i r.ambient) x (arg_tree p.meaning n.answer))
           (sym (same_items (inv.fronted).passes)) (gone.verdict).answer) (gone.verdict).known inv.answers keeps some);
@@ -1485,10 +1497,11 @@ structurally_relate_tys-keep_answer-requires g t c =
     later.ty c.args.a.now (subst (λ z. IsTrue (known z)) (sym same) k.left_known) ∙ same in
     let test = c.loop-i-test.true in
     let lx : i ≤ count (direct_parts a) = omega (arith, test, inv.left_count) in
+    let read = ty_read c.args.a.now c.cx-cx.ensures then in
     record {
-      ty_known = subst (λ z. IsTrue (known z)) (sym then) k.left_known;
-      over_args = λ o. absurd (false≢true (sym c.if-is_by_parts_of.false ∙ (c.is_by_parts_of.ensures).1 (subst IsByParts then o)));
-      in_bounds = subst (λ z. i ≤ count (direct_parts z)) (sym then) lx;
+      ty_known = subst (λ z. IsTrue (known z)) (sym read) k.left_known;
+      over_args = λ o. absurd (false≢true (sym c.if-is_by_parts_of.false ∙ (c.is_by_parts_of.ensures).1 (subst IsByParts read o)));
+      in_bounds = subst (λ z. i ≤ count (direct_parts z)) (sym read) lx;
     }
 
 pub structurally_relate_tys-returns-in_err-keep_answer : goal.structurally_relate_tys-returns-in_err-keep_answer
@@ -1530,7 +1543,7 @@ structurally_relate_tys-returns-in_err-keep_answer g t c =
     later.ty c.args.b.now (subst (λ z. IsTrue (known z)) (sym same_b) k.right_known) ∙ same_b in
     let n = c.in_ok-answer in
     let z = kept_ty a X Y related.result n.answer
-    (subst (λ z. IsResultOfTy z X Y related.result (Ok n.answer)) then_a n.ensures) in
+    (subst (λ z. IsResultOfTy z X Y related.result (Ok n.answer)) (ty_read c.args.a.now c.cx-cx.ensures then_a) n.ensures) in
     let gone = subst (λ v. Related M q p v x y (arg_tree p.meaning) (Ok n.answer)) ew
     (subst (λ u. Related M q p w x y (arg_tree p.meaning) u) z (related.ensures).related) in
     let next = fronted_next (head_of a) r.ambient i (direct_parts a) (direct_parts b) x y inv.fronted lx ly ex ey (arg_tree p.meaning) n.answer
@@ -1666,7 +1679,7 @@ structurally_relate_tys-make_ty-requires-clause-ty_known g t c =
     let q = g.R.HasState.state c.loop-i.r in
     let i = c.loop-i.i in
     let inv = c.loop-i.invariant in
-    let some = some_kept c.loop-i.answers.items c.if-is_empty.ensures in
+    let some = some_kept c.loop-i.answers c.if-is_empty.ensures in
     let k = c.requires.asked in
     let extends = ((inv.fronted).passes).extends in
     let same_a : (q.meaning).ty c.args.a.now ≡ a = extends.ty c.args.a.now k.left_known in
@@ -1703,7 +1716,7 @@ structurally_relate_tys-make_ty-requires-clause-parts_known g t c =
     let q = g.R.HasState.state c.loop-i.r in
     let i = c.loop-i.i in
     let inv = c.loop-i.invariant in
-    let some = some_kept c.loop-i.answers.items c.if-is_empty.ensures in
+    let some = some_kept c.loop-i.answers c.if-is_empty.ensures in
     let k = c.requires.asked in
     let extends = ((inv.fronted).passes).extends in
     let same_a : (q.meaning).ty c.args.a.now ≡ a = extends.ty c.args.a.now k.left_known in
@@ -1741,7 +1754,7 @@ structurally_relate_tys-make_ty-requires-clause-fits g t c =
     let q = g.R.HasState.state c.loop-i.r in
     let i = c.loop-i.i in
     let inv = c.loop-i.invariant in
-    let some = some_kept c.loop-i.answers.items c.if-is_empty.ensures in
+    let some = some_kept c.loop-i.answers c.if-is_empty.ensures in
     let k = c.requires.asked in
     let extends = ((inv.fronted).passes).extends in
     let same_a : (q.meaning).ty c.args.a.now ≡ a = extends.ty c.args.a.now k.left_known in
@@ -1779,7 +1792,7 @@ structurally_relate_tys-returns g t c =
     let q = g.R.HasState.state c.loop-i.r in
     let i = c.loop-i.i in
     let inv = c.loop-i.invariant in
-    let some = some_kept c.loop-i.answers.items c.if-is_empty.ensures in
+    let some = some_kept c.loop-i.answers c.if-is_empty.ensures in
     let k = c.requires.asked in
     let extends = ((inv.fronted).passes).extends in
     let same_a : (q.meaning).ty c.args.a.now ≡ a = extends.ty c.args.a.now k.left_known in
@@ -2315,7 +2328,7 @@ relate_in_order-loop-i-preserved g t c =
     let more : suc i ≡ i + 1 = omega arith in
     let then_a : part_tree p.meaning c.args.a.now ≡ a =
     stays_part later c.args.a.now (subst (λ z. IsTrue (known z)) (sym same_a) k.left_known) ∙ same_a in
-    let keeps = subst (λ t. KeepsAnswer (part_tree p.meaning) part_fits i (direct_parts t) n.answer was c.keep_term_answer.new.answers.items) then_a
+    let keeps = kept_as part_tree Fit c.cx-cx.ensures (ap direct_parts (part_read c.args.a.now c.cx-cx.ensures then_a))
     c.in_ok-keep_term_answer.ensures in
     record {
       lawful = (gone.passes).lawful inv.lawful;
@@ -2325,7 +2338,7 @@ relate_in_order-loop-i-preserved g t c =
       are_parts = inv.are_parts;
       answers = λ some. subst (λ j. AreAnswers M p (head_of a) r.ambient j (direct_parts a)
           (list_tree (part_tree p.meaning) c.keep_term_answer.new.answers.items)) more
-          (kept_answers M (part_tree q.meaning) (part_tree p.meaning) part_fits (head_of a) r.ambient i (direct_parts a) x n.answer was
+          (kept_answers M (part_tree q.meaning) (part_tree p.meaning) Fit (head_of a) r.ambient i (direct_parts a) x n.answer was
           c.keep_term_answer.new.answers.items (stays_part later) gone.passes lx ex
           (subst (λ z. MayAnswer M p (part_at z (head_of a) i r.ambient) x (part_tree p.meaning n.answer))
           (sym (same_items (inv.fronted).passes)) (gone.verdict).answer) (gone.verdict).known inv.answers keeps some);
@@ -2377,12 +2390,13 @@ relate_in_order-keep_term_answer-requires g t c =
     let then : part_tree p.meaning c.args.a.now ≡ a =
     stays_part later c.args.a.now (subst (λ z. IsTrue (known z)) (sym same_a) k.left_known) ∙ same_a in
     let within : i ≤ count (direct_parts a) = omega (arith, lx) in
+    let read = part_read c.args.a.now c.cx-cx.ensures then in
     record {
-      term_known = subst (λ z. IsTrue (known z)) (sym then) k.left_known;
-      form = subst IsByParts (sym then) form;
-      in_bounds = subst (λ z. i ≤ count (direct_parts z)) (sym then) within;
-      part_known = subst (λ z. IsTrue (known z)) (sym (stays_part later X kx)) kx;
-      answer_known = (gone.verdict).known;
+      term_known = subst (λ z. IsTrue (known z)) (sym read) k.left_known;
+      form = subst IsByParts (sym read) form;
+      in_bounds = subst (λ z. i ≤ count (direct_parts z)) (sym read) within;
+      part_known = subst (λ z. IsTrue (known z)) (sym (part_read X c.cx-cx.ensures (stays_part later X kx))) kx;
+      answer_known = subst (λ z. IsTrue (known z)) (sym (part_read n.answer c.cx-cx.ensures refl)) (gone.verdict).known;
       sort = subst (λ u. IfOk u (λ z. part_sort z ≡ part_sort X)) z (related.ensures).sort;
     }
 
@@ -2505,7 +2519,7 @@ relate_in_order-make_part-requires-clause-parts_known g t c =
     let q = g.R.HasState.state c.loop-i.r in
     let i = c.loop-i.i in
     let inv = c.loop-i.invariant in
-    let some = some_kept c.loop-i.answers.items c.if-is_empty.ensures in
+    let some = some_kept c.loop-i.answers c.if-is_empty.ensures in
     let k = c.requires.asked in
     let form = c.requires.form in
     let alike = c.requires.alike in
@@ -2524,7 +2538,7 @@ relate_in_order-make_part-requires-clause-fits g t c =
     let q = g.R.HasState.state c.loop-i.r in
     let i = c.loop-i.i in
     let inv = c.loop-i.invariant in
-    let some = some_kept c.loop-i.answers.items c.if-is_empty.ensures in
+    let some = some_kept c.loop-i.answers c.if-is_empty.ensures in
     let k = c.requires.asked in
     let form = c.requires.form in
     let alike = c.requires.alike in
@@ -2549,7 +2563,7 @@ relate_in_order-returns g t c =
     let q = g.R.HasState.state c.loop-i.r in
     let i = c.loop-i.i in
     let inv = c.loop-i.invariant in
-    let some = some_kept c.loop-i.answers.items c.if-is_empty.ensures in
+    let some = some_kept c.loop-i.answers c.if-is_empty.ensures in
     let k = c.requires.asked in
     let form = c.requires.form in
     let alike = c.requires.alike in
