@@ -1,25 +1,25 @@
 -- The answers for the parts of a term that are kept, once one more part has answered.
-use Rattle.std.proofs.Common.{◌≡◌, ℕ, zero, suc, ◌<◌, ◌≤◌, ◌==◌, refl, sym, ap, ◌∙◌, subst, subst₂, arith, IsTrue, false, true}
-use Rattle.std.proofs.Common.{List, [], ◌∷◌, ◌++◌, length, Vec, vec_len}
+use Rattle.std.proofs.Common.{◌≡◌, ℕ, zero, suc, ◌<◌, ◌≤◌, ◌==◌, refl, sym, ap, ◌∙◌, subst, inl, inr, arith, IsTrue, false, true}
+use Rattle.std.proofs.Common.{◌⊎◌, IfOk, Result, Ok, Err, List, [], ◌∷◌, ◌++◌, length, Vec, vec_len}
 use Rattle.std.proofs.lemmas.Bool.{eqb-true, eqb-false}
 use Rattle.term_enums.specs.declared.Variance.{Variance}
 use Rattle.relation_terms.specs.declared.terms.generic_arg.GenericArgKind.{GenericArgKind}
 use Rattle.relation_terms.specs.declared.terms.part_kind.Part.{Part}
-use Rattle.relation_terms.specs.declared.terms.keys.TyKey.{TyKey}
-use Rattle.relation_terms.specs.declared.terms.keys.ConstKey.{ConstKey}
 use Rattle.relation_terms.specs.Heads.{Head}
-use Rattle.relation_terms.specs.Meaning.{Meaning}
-use Rattle.relation_terms.specs.Parts.{part_tree, part_sort, tree_sort, Fit}
+use Rattle.relation_terms.specs.Parts.{part_sort, tree_sort, Fit}
 use Rattle.relation_terms.specs.Trees.{Tree, leaf, node, bind, nil, cons, apply, known, list_tree, count, nth, IsList, IsTerm}
 use Rattle.relation_terms.proofs.Members.{known_with_last}
 use Rattle.relation_terms.proofs.Stays.{stays_list}
+use Rattle.relation_folds.specs.declared.error.RelateFault.{RelateFault}
+use Rattle.relation_folds.specs.declared.error.RelateFault.TheVariants.{Memory}
 use Rattle.relation_folds.specs.Firsts.{AreFirsts}
-use Rattle.relation_semantics.specs.Lawful.{State, Manners, MayAnswer, Passes, items_in}
+use Rattle.relation_semantics.specs.Lawful.{State, Manners, MayAnswer, Passes, Related, items_in}
 use Rattle.relation_semantics.specs.Making.{arg_sort, FitArgs}
 use Rattle.relation_semantics.specs.Relation.{part_at, same}
 use Rattle.relation_semantics.proofs.Answering.{AreAnswers, answers_next}
 use Rattle.relation_semantics.proofs.Lists.{firsts, snoc, list_push, firsts_more}
 use Rattle.relation_recursion.specs.Keeping.{AreFirstParts, KeepsAnswer, none_kept, one_more, first_kept}
+use Rattle.relation_recursion.specs.Keeping.{KeepsResult, answer_kept, error_handed, no_memory}
 use Rattle.relation_recursion.proofs.InOrder.{part_pushed}
 use Rattle.relation_recursion.proofs.MadeAnew.{fit_pushed}
 
@@ -141,19 +141,22 @@ module _ {Key Id Name : Type 0} (M : Manners) where
       (answers_next M h v i ts (firsts i ts) x (g y) passes l (answers_first q h v i ts (omega (arith, l))
       (subst (λ z. IsTrue (known z)) a.same a.sure)) e may k)
 
--- What an interner reads is what a relation's terms are, where it is the relation's.
-module _ {Key Id Name : Type 0} {m n : Meaning Key Id Name} {t : Tree} where
-  pub ty_read : (k : TyKey Key) → m ≡ n → n.ty k ≡ t → m.ty k ≡ t
-  ty_read k e s = ap (λ (z : Meaning Key Id Name). z.ty k) e ∙ s
+-- What came of keeping an answer, by what the call answers.
+module _ {K Key Id Name : Type 0} {answers : Result K (RelateFault Key Id Name) → Type 0} {keeps : K → Type 0} where
+  pub kept_in : {u : Unit {0}} → KeepsResult answers keeps (Ok u) → (x : K) × answers (Ok x) × keeps x
+  kept_in (answer_kept x a k e) = (x, a, k)
+  kept_in (error_handed f a e) = absurd (cc)
+  kept_in (no_memory x a e) = absurd (cc)
 
-  pub const_read : (k : ConstKey Key) → m ≡ n → n.const_ k ≡ t → m.const_ k ≡ t
-  const_read k e s = ap (λ (z : Meaning Key Id Name). z.const_ k) e ∙ s
+  pub failed_in : {e : RelateFault Key Id Name} → KeepsResult answers keeps (Err e) →
+      answers (Err e) ⊎ ((x : K) × answers (Ok x) × (e ≡ Memory))
+  failed_in (answer_kept x a k i) = absurd (cc)
+  failed_in {e = e} (error_handed f a i) = let same : e ≡ f = cc in inl (subst (λ z. answers (Err z)) (sym same) a)
+  failed_in {e = e} (no_memory x a i) = let same : e ≡ Memory = cc in inr (x, a, same)
 
-  pub part_read : (k : Part Key Id) → m ≡ n → part_tree n k ≡ t → part_tree m k ≡ t
-  part_read k e s = ap (λ (z : Meaning Key Id Name). part_tree z k) e ∙ s
-
-pub kept_as : {Key Id Name K : Type 0} {m n : Meaning Key Id Name} {i : ℕ} {us ts : Tree} {y : K} {old new : List K}
-    (tree : Meaning Key Id Name → K → Tree) (fits : List K → Tree → Type 0) → m ≡ n → us ≡ ts →
-    KeepsAnswer (tree m) fits i us y old new → KeepsAnswer (tree n) fits i ts y old new
-kept_as {i = i} {y = y} {old = old} {new = new} tree fits e s k =
-    subst₂ (λ z w. KeepsAnswer (tree z) fits i w y old new) e s k
+-- What was related is known where it was answered.
+pub answer_known : {Key Id Name X : Type 0} (M : Manners) (q p : State Key Id Name) (v : Variance) (a b : Tree)
+    (tree : X → Tree) (res : Result X (RelateFault Key Id Name)) → Related M q p v a b tree res →
+    IfOk res (λ k. IsTrue (known (tree k)))
+answer_known M q p v a b tree (Ok k) h = (h.verdict).known
+answer_known M q p v a b tree (Err e) h = tt

@@ -1,6 +1,8 @@
 -- What is kept of the answers for the parts of a term.
-use Rattle.std.specs.Prelude.{◌≡◌, ◌<◌, ℕ, IsTrue, List, [], ◌∷◌, ◌++◌, length}
+use Rattle.std.specs.Prelude.{◌≡◌, ◌<◌, ℕ, IsTrue, Result, Ok, Err, List, [], ◌∷◌, ◌++◌, length}
 use Rattle.relation_terms.specs.Trees.{Tree, known, list_tree}
+use Rattle.relation_folds.specs.declared.error.RelateFault.{RelateFault}
+use Rattle.relation_folds.specs.declared.error.RelateFault.TheVariants.{Memory}
 use Rattle.relation_folds.specs.Firsts.{firsts}
 
 -- Known terms are so many members of a list of trees, and of the sorts of these.
@@ -17,3 +19,11 @@ pub data KeepsAnswer {K : Type 0} (tree : K → Tree) (fits : List K → Tree �
   none_kept : new ≡ [] → KeepsAnswer tree fits i ts x old new
   one_more : 0 < length old → new ≡ old ++ x ∷ [] → KeepsAnswer tree fits i ts x old new
   first_kept : (xs : List K) → AreFirstParts tree fits i ts xs → new ≡ xs ++ x ∷ [] → KeepsAnswer tree fits i ts x old new
+
+-- What two terms answer by what two of their parts have answered is kept; or their error is handed on; or no memory was
+-- left to keep what they answer.
+pub data KeepsResult {K Key Id Name : Type 0} (answers : Result K (RelateFault Key Id Name) → Type 0)
+    (keeps : K → Type 0) (result : Result (Unit {0}) (RelateFault Key Id Name)) : Type 0 where
+  answer_kept : (x : K) → answers (Ok x) → keeps x → result ≡ Ok tt → KeepsResult answers keeps result
+  error_handed : (e : RelateFault Key Id Name) → answers (Err e) → result ≡ Err e → KeepsResult answers keeps result
+  no_memory : (x : K) → answers (Ok x) → result ≡ Err Memory → KeepsResult answers keeps result

@@ -5,10 +5,14 @@ ghost use Rattle.relation_terms.specs.Meaning.{arg_tree};
 ghost use Rattle.relation_terms.specs.Parts.{part_tree, part_sort, Fit};
 ghost use Rattle.relation_semantics.specs.Parts.{direct_parts, const_parts_of, IsByParts};
 ghost use Rattle.relation_semantics.specs.Making.{FitArgs};
-ghost use Rattle.relation_recursion.specs.Keeping.{AreFirstParts, KeepsAnswer};
+ghost use Rattle.part_variances.specs.Handing.{IsResultOfTy, IsResultOfConst, IsResultOfPart};
+ghost use Rattle.relation_recursion.specs.Keeping.{AreFirstParts, KeepsAnswer, KeepsResult};
 
 use crate::parts::{const_part, part};
+use part_variances::handing::{in_const, in_part, in_ty};
+use relation_folds::error::RelateResult;
 use relation_folds::fold::first_members;
+use relation_steps::type_relation::TypeRelation;
 use relation_terms::terms::parts::{is_same, parts_of};
 use relation_terms::terms::{Const, GenericArg, Interner, OutOfMemory, PartOf, Ty};
 
@@ -51,10 +55,10 @@ fn first_const_parts<I: Interner>(
     Ok(list)
 }
 
-// Keeps what the part of a type at place `i` has answered, behind the answers before it. While each is its part none is
-// kept: the first that is not is kept behind those parts.
+// Puts what a type answers for its part at place `i` behind the answers before it. While each is the part none is kept:
+// the first that is not is put behind those parts.
 #[inline(always)]
-pub(crate) fn keep_answer<I: Interner>(
+fn add_answer<I: Interner>(
     cx: &I,
     ty: &Ty<I>,
     i: usize,
@@ -80,7 +84,7 @@ pub(crate) fn keep_answer<I: Interner>(
 
 // The same of a constant.
 #[inline(always)]
-pub(crate) fn keep_const_answer<I: Interner>(
+fn add_const_answer<I: Interner>(
     cx: &I,
     constant: &Const<I>,
     i: usize,
@@ -105,7 +109,7 @@ pub(crate) fn keep_const_answer<I: Interner>(
 
 // The same of a term that is related by its parts.
 #[inline(always)]
-pub(crate) fn keep_term_answer<I: Interner>(
+fn add_term_answer<I: Interner>(
     cx: &I,
     term: &PartOf<I>,
     i: usize,
@@ -129,5 +133,80 @@ pub(crate) fn keep_term_answer<I: Interner>(
         *answers = first_members(cx, &parts_of(cx, term), i)?;
     }
     answers.push(answer)?;
+    Ok(())
+}
+
+// Keeps what two types answer where their parts at place `i`, `x` and `y`, have answered `related`, behind the answers
+// before it. While each is the left type's part none is kept.
+#[inline(always)]
+pub(crate) fn keep_answer<I: Interner, R: TypeRelation<I>>(
+    r: &R,
+    ty: &Ty<I>,
+    i: usize,
+    x: &GenericArg<I>,
+    y: &GenericArg<I>,
+    related: RelateResult<I, GenericArg<I>>,
+    answers: &mut Vec<GenericArg<I>>,
+) -> RelateResult<I, ()>
+    requires ty_known { IsTrue (known ((R.state r.now).meaning.ty ty.now)) }
+    requires over_args { IsByParts ((R.state r.now).meaning.ty ty.now) → ⊥ }
+    requires in_bounds { i ≤ count (direct_parts ((R.state r.now).meaning.ty ty.now)) }
+    ensures { let m = (R.state r.now).meaning in
+        KeepsResult (IsResultOfTy (m.ty ty.now) x.now y.now related) (λ k. KeepsAnswer (arg_tree m) FitArgs i
+            (direct_parts (m.ty ty.now)) k answers.old.items answers.new.items) result }
+{
+    let cx = r.cx();
+    let answer = in_ty(cx, ty, x, y, related)?;
+    add_answer(cx, ty, i, x, answer, answers)?;
+    Ok(())
+}
+
+// The same of two constants, whose left parts at that place is `x`.
+#[inline(always)]
+pub(crate) fn keep_const_answer<I: Interner, R: TypeRelation<I>>(
+    r: &R,
+    a: &Const<I>,
+    b: &Const<I>,
+    i: usize,
+    x: &GenericArg<I>,
+    related: RelateResult<I, GenericArg<I>>,
+    answers: &mut Vec<GenericArg<I>>,
+) -> RelateResult<I, ()>
+    requires a_known { IsTrue (known ((R.state r.now).meaning.const_ a.now)) }
+    requires in_bounds { i ≤ count (const_parts_of ((R.state r.now).meaning.const_ a.now)) }
+    ensures { let m = (R.state r.now).meaning in
+        KeepsResult (IsResultOfConst (m.const_ a.now) a.now b.now related) (λ k. KeepsAnswer (arg_tree m) FitArgs i
+            (const_parts_of (m.const_ a.now)) k answers.old.items answers.new.items) result }
+{
+    let cx = r.cx();
+    let answer = in_const(cx, a, b, related)?;
+    add_const_answer(cx, a, i, x, answer, answers)?;
+    Ok(())
+}
+
+// The same of two terms that are related by their parts, whose errors name a place, or none.
+#[inline(always)]
+pub(crate) fn keep_term_answer<I: Interner, R: TypeRelation<I>>(
+    r: &R,
+    term: &PartOf<I>,
+    i: usize,
+    place: Option<usize>,
+    x: &PartOf<I>,
+    related: RelateResult<I, PartOf<I>>,
+    answers: &mut Vec<PartOf<I>>,
+) -> RelateResult<I, ()>
+    requires term_known { IsTrue (known (part_tree (R.state r.now).meaning term.now)) }
+    requires form { IsByParts (part_tree (R.state r.now).meaning term.now) }
+    requires in_bounds { i ≤ count (direct_parts (part_tree (R.state r.now).meaning term.now)) }
+    requires part_known { IsTrue (known (part_tree (R.state r.now).meaning x.now)) }
+    requires answer_known { IfOk related (λ k. IsTrue (known (part_tree (R.state r.now).meaning k))) }
+    requires sort { IfOk related (λ k. part_sort k ≡ part_sort x.now) }
+    ensures { let m = (R.state r.now).meaning in
+        KeepsResult (IsResultOfPart place related) (λ k. KeepsAnswer (part_tree m) Fit i
+            (direct_parts (part_tree m term.now)) k answers.old.items answers.new.items) result }
+{
+    let answer = in_part::<I, PartOf<I>>(place, related)?;
+    let cx = r.cx();
+    add_term_answer(cx, term, i, x, answer, answers)?;
     Ok(())
 }

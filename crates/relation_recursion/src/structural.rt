@@ -25,7 +25,6 @@ use crate::reading::{
     const_parts_count_of, is_by_parts_of, is_error_const_of, is_error_of,
     named_place_of, note_args, part_of, parts_count_of, term_part_of, term_parts_count_of,
 };
-use part_variances::handing::{in_const, in_part, in_ty};
 use part_variances::variances::{const_variance_at, is_skipped, term_variance_at, variance_at};
 use relation_folds::error::{RelateFault, RelateResult, TypeError};
 use relation_semantics::relate::Step;
@@ -220,9 +219,7 @@ pub fn structurally_relate_tys<I: Interner, R: TypeRelation<I>>(
         let y = part_of::<I, R>(r, b, i);
         let variance = variance_at::<I, R>(r, a, i);
         let related = relate_with_variance(r, variance, &x, &y);
-        let cx = r.cx();
-        let answer = in_ty(cx, a, &x, &y, related)?;
-        keep_answer(cx, a, i, &x, answer, &mut answers)?;
+        keep_answer(r, a, i, &x, &y, related, &mut answers)?;
     }
     note_args(r, a, b)?;
     if answers.is_empty() {
@@ -265,9 +262,7 @@ pub fn structurally_relate_consts<I: Interner, R: TypeRelation<I>>(
         let y = const_part_of::<I, R>(r, b, i);
         let variance = const_variance_at::<I, R>(r, a);
         let related = relate_with_variance(r, variance, &x, &y);
-        let cx = r.cx();
-        let answer = in_const(cx, a, b, related)?;
-        keep_const_answer(cx, a, i, &x, answer, &mut answers)?;
+        keep_const_answer(r, a, b, i, &x, related, &mut answers)?;
     }
     if answers.is_empty() {
         return Ok(*a);
@@ -378,9 +373,7 @@ fn relate_in_order<I: Interner, R: TypeRelation<I>>(
         let variance = term_variance_at::<I, R>(r, a, i);
         let place = named_place_of::<I, R>(r, a, i);
         let related = relate_parts_with_variance(r, variance, &x, &y);
-        let answer = in_part::<I, PartOf<I>>(place, related)?;
-        let cx = r.cx();
-        keep_term_answer(cx, a, i, &x, answer, &mut answers)?;
+        keep_term_answer(r, a, i, place, &x, related, &mut answers)?;
     }
     if answers.is_empty() {
         return Ok(*a);

@@ -1,31 +1,45 @@
-use Rattle.std.proofs.Common.{◌≤◌, [], ◌∷◌, ◌++◌, ◌∙◌, sym, ap, subst}
-use Rattle.relation_terms.specs.Parts.{part_tree, parts_tree}
-use Rattle.relation_terms.specs.Trees.{count}
-use Rattle.relation_semantics.specs.Parts.{direct_parts}
-use Rattle.part_variances.proofs.Patterns.{term_parts_as}
-use Rattle.relation_recursion.specs.Keeping.{none_kept, one_more, first_kept}
-use Rattle.relation_recursion.proofs.Kept.{some_kept, none_in, first_members_as}
-use Rattle.relation_recursion.proofs.keeping.keep_term_answer.Goals.{then-is_empty+else-is_same+in_ok-answers, else-is_empty}
+use Rattle.std.proofs.Common.{◌≡◌, ◌≤◌, IsTrue, IfOk, Ok, Err, refl, sym, subst}
+use Rattle.relation_terms.specs.Parts.{part_tree, part_sort, Fit}
+use Rattle.relation_terms.specs.Trees.{known, count}
+use Rattle.relation_folds.specs.declared.error.RelateFault.TheVariants.{Memory}
+use Rattle.relation_semantics.specs.Parts.{direct_parts, IsByParts}
+use Rattle.relation_semantics.proofs.Passing.{as_err}
+use Rattle.relation_recursion.specs.Keeping.{KeepsAnswer, answer_kept, error_handed, no_memory}
+use Rattle.relation_recursion.proofs.Looping.{kept_part}
 use Rattle.relation_recursion.proofs.keeping.keep_term_answer.Goals as goal
 
-pub returns-then-is_same : goal.returns-then-is_same
-returns-then-is_same g c = none_kept (none_in c.args.answers.now c.if-is_empty.ensures)
+pub add_term_answer-requires : goal.add_term_answer-requires
+add_term_answer-requires g c =
+    let e = sym c.cx-cx.ensures in
+    let q = g.R.HasState.state c.args.r.now in
+    let n = c.in_ok-answer in
+    let u = c.args in
+    let z = kept_part u.place u.related n.answer n.ensures in
+    record {
+      term_known = subst (λ m. IsTrue (known (part_tree m u.term.now))) e c.requires.term_known;
+      form = subst (λ m. IsByParts (part_tree m u.term.now)) e c.requires.form;
+      in_bounds = subst (λ m. u.i ≤ count (direct_parts (part_tree m u.term.now))) e c.requires.in_bounds;
+      part_known = subst (λ m. IsTrue (known (part_tree m u.x.now))) e c.requires.part_known;
+      answer_known = subst (λ m. IsTrue (known (part_tree m n.answer))) e
+          (subst (λ w. IfOk w (λ k. IsTrue (known (part_tree q.meaning k)))) z c.requires.answer_known);
+      sort = subst (λ w. IfOk w (λ k. part_sort k ≡ part_sort u.x.now)) z c.requires.sort;
+    }
 
-pub first_members-requires-clause-in_bounds : goal.first_members-requires-clause-in_bounds
-first_members-requires-clause-in_bounds g c =
-    let t = part_tree (g.I.Interner.meaning c.args.cx.now) c.args.term.now in
-    subst (λ z. c.args.i ≤ count z) (sym (c.parts_of.ensures.means ∙ term_parts_as t c.requires.form)) c.requires.in_bounds
+pub returns-in_err-answer : goal.returns-in_err-answer
+returns-in_err-answer g c =
+    let n = c.in_err-answer in
+    let res = c.from_residual in
+    error_handed n.field-0.0 n.ensures (as_err res.result n.field-0.0 res.ensures.0 res.ensures.1)
+
+pub returns-in_err-add_term_answer : goal.returns-in_err-add_term_answer
+returns-in_err-add_term_answer g c =
+    let n = c.in_ok-answer in
+    let res = c.from_residual-in_err-add_term_answer in
+    no_memory n.answer n.ensures (as_err res.result Memory res.ensures.0 res.ensures.1)
 
 pub returns : goal.returns
 returns g c =
-    let m = g.I.Interner.meaning c.args.cx.now in
-    let t = part_tree m c.args.term.now in
-    let x = c.args.answer in
-    elim c.if-is_empty.branch [
-      then-is_empty+else-is_same+in_ok-answers w ↦ first_kept w.in_ok-answers.field-0.items
-          (first_members_as (part_tree m) c.args.i (direct_parts t) (parts_tree m w.parts_of.result)
-          w.in_ok-answers.field-0.items (w.parts_of.ensures.means ∙ term_parts_as t c.requires.form) w.in_ok-answers.ensures)
-          (c.in_ok-push.ensures.items ∙ ap (λ v. v.items ++ x ∷ []) w.answers-is)
-    | else-is_empty w ↦ one_more (some_kept c.args.answers.now w.if-is_empty.ensures)
-          (c.in_ok-push.ensures.items ∙ ap (λ v. v.items ++ x ∷ []) w.answers-is)
-    ]
+    let n = c.in_ok-answer in
+    let u = c.args in
+    answer_kept n.answer n.ensures (subst (λ m. KeepsAnswer (part_tree m) Fit u.i (direct_parts (part_tree m u.term.now))
+    n.answer u.answers.now.items c.add_term_answer.new.answers.items) c.cx-cx.ensures c.in_ok-add_term_answer.ensures) refl

@@ -1,4 +1,4 @@
-use Rattle.std.proofs.Common.{ap₂, suc, ◌+◌, ◌*◌, ◌≤◌, IfOk, rules, ◌≡◌, ◌≢◌, ◌<◌, IsTrue, refl, sym, ap, ◌∙◌, subst, subst₂, arith, Ok, Err, OnOk}
+use Rattle.std.proofs.Common.{ap₂, suc, inl, inr, ◌+◌, ◌*◌, ◌≤◌, IfOk, rules, ◌≡◌, ◌≢◌, ◌<◌, IsTrue, refl, sym, ap, ◌∙◌, subst, subst₂, arith, Ok, Err, OnOk}
 use Rattle.std.proofs.lemmas.Bool.{false≢true}
 use Rattle.term_enums.specs.declared.Variance.TheVariants.{Bivariant}
 use Rattle.relation_terms.specs.declared.terms.generic_arg.GenericArgKind.TheVariants.{Lifetime, Ty, Const}
@@ -54,8 +54,9 @@ use Rattle.relation_recursion.proofs.StructuralTys.{types_related, types_stopped
 use Rattle.relation_recursion.proofs.StructuralConsts.{consts_related, consts_stopped, const_refused, itself_related, left_error, right_error, types_differ, consts_differ, kinds_differ}
 use Rattle.relation_recursion.proofs.Looping.{next_asked, next_under, next_const_asked, next_const_under, parts_under, again_under}
 use Rattle.relation_recursion.proofs.Looping.{failed_ty, failed_const, kept_ty, kept_const, parts_alike, heads_one, const_heads_alike}
-use Rattle.relation_recursion.proofs.Kept.{kept_answers, kept_fit, kept_fit_parts, kept_as, some_kept, none_kept_yet}
-use Rattle.relation_recursion.proofs.Kept.{ty_read, const_read, part_read}
+use Rattle.relation_recursion.proofs.Kept.{kept_answers, kept_fit, kept_fit_parts, some_kept, none_kept_yet}
+use Rattle.relation_recursion.proofs.Kept.{kept_in, failed_in, answer_known}
+use Rattle.relation_recursion.specs.Keeping.{KeepsAnswer}
 use Rattle.relation_recursion.proofs.Looping.{failed_part, kept_part}
 use Rattle.relation_steps.specs.Alone.{RelatesAlone, StepsAlone}
 use Rattle.relation_recursion.proofs.Alone.{formed_ask_none, left_none, right_none, lifetime_none, const_none, no_ty_none, refused_told}
@@ -959,8 +960,8 @@ structurally_relate_consts-relate_with_variance-related-requires g t c κs withi
     let d = c.decreases in
     search rules
 
-pub structurally_relate_consts-returns-in_err-answer : goal.structurally_relate_consts-returns-in_err-answer
-structurally_relate_consts-returns-in_err-answer g t c =
+pub structurally_relate_consts-returns-in_err-keep_const_answer : goal.structurally_relate_consts-returns-in_err-keep_const_answer
+structurally_relate_consts-returns-in_err-keep_const_answer g t c =
     let r = g.R.HasState.state c.args.r.now in
     let M = g.R.TypeRelation.manner in
     let a = (r.meaning).const_ c.args.a.now in
@@ -996,17 +997,27 @@ structurally_relate_consts-returns-in_err-answer g t c =
     later.const_ c.args.a.now (subst (λ z. IsTrue (known z)) (sym same_a) k.left_known) ∙ same_a in
     let then_b : (p.meaning).const_ c.args.b.now ≡ b =
     later.const_ c.args.b.now (subst (λ z. IsTrue (known z)) (sym same_b) k.right_known) ∙ same_b in
-    let n = c.in_err-answer in
-    let z = failed_const a c.args.a.now c.args.b.now related.result n.field-0.0
-    (subst (λ z. IsResultOfConst z c.args.a.now c.args.b.now related.result (Err n.field-0.0))
-    (const_read c.args.a.now c.cx-cx.ensures then_a) n.ensures) in
-    let gone = subst (λ v. Related M q p v x y (arg_tree p.meaning) (Err z.0)) ew
-    (subst (λ u. Related M q p w x y (arg_tree p.meaning) u) z.1 (related.ensures).related) in
-    let failed = as_err c.from_residual-in_err-answer.result n.field-0.0 c.from_residual-in_err-answer.ensures.0
-    c.from_residual-in_err-answer.ensures.1 in
-    subst (λ u. RelatedForms M r p r.ambient a b (p.meaning).const_ u) (sym failed)
-    (const_refused M r.ambient a b i alike inv.fronted inv.are_parts c.args.a.now c.args.b.now x y lx ly ex ey (arg_tree p.meaning)
-    (p.meaning).const_ z.0 n.field-0.0 c.requires.a_formed c.requires.b_formed then_a then_b k.left_known k.right_known z.2 gone)
+    let n = c.in_err-keep_const_answer in
+    let res = c.from_residual-in_err-keep_const_answer in
+    let failed = as_err res.result n.field-0.0 res.ensures.0 res.ensures.1 in
+    subst (λ u. RelatedForms M r p r.ambient a b (p.meaning).const_ u) (sym failed) (elim (failed_in n.ensures) [
+      inl h ↦
+        let z = failed_const a c.args.a.now c.args.b.now related.result n.field-0.0
+        (subst (λ z. IsResultOfConst z c.args.a.now c.args.b.now related.result (Err n.field-0.0)) then_a h) in
+        let gone = subst (λ v. Related M q p v x y (arg_tree p.meaning) (Err z.0)) ew
+        (subst (λ u. Related M q p w x y (arg_tree p.meaning) u) z.1 (related.ensures).related) in
+        const_refused M r.ambient a b i alike inv.fronted inv.are_parts c.args.a.now c.args.b.now x y lx ly ex ey (arg_tree p.meaning)
+        (p.meaning).const_ z.0 n.field-0.0 c.requires.a_formed c.requires.b_formed then_a then_b k.left_known k.right_known z.2 gone
+    | inr m ↦
+        let z = kept_const a c.args.a.now c.args.b.now related.result m.0
+        (subst (λ z. IsResultOfConst z c.args.a.now c.args.b.now related.result (Ok m.0)) then_a m.1) in
+        let gone = subst (λ v. Related M q p v x y (arg_tree p.meaning) (Ok m.0)) ew
+        (subst (λ u. Related M q p w x y (arg_tree p.meaning) u) z (related.ensures).related) in
+        let next = fronted_next (const_head_of a) r.ambient i (const_parts_of a) (const_parts_of b) x y inv.fronted lx ly ex ey (arg_tree p.meaning) m.0
+        inv.are_parts gone in
+        subst (λ f. RelatedForms M r p r.ambient a b (p.meaning).const_ (Err f)) (sym m.2)
+        (consts_stopped M r.ambient a b (suc i) (p.meaning).const_ next)
+    ])
 
 pub structurally_relate_consts-loop-i-preserved : goal.structurally_relate_consts-loop-i-preserved
 structurally_relate_consts-loop-i-preserved g t c =
@@ -1045,11 +1056,10 @@ structurally_relate_consts-loop-i-preserved g t c =
     later.const_ c.args.a.now (subst (λ z. IsTrue (known z)) (sym same_a) k.left_known) ∙ same_a in
     let then_b : (p.meaning).const_ c.args.b.now ≡ b =
     later.const_ c.args.b.now (subst (λ z. IsTrue (known z)) (sym same_b) k.right_known) ∙ same_b in
-    let n = c.in_ok-answer in
-    let z = kept_const a c.args.a.now c.args.b.now related.result n.answer
-    (subst (λ z. IsResultOfConst z c.args.a.now c.args.b.now related.result (Ok n.answer))
-    (const_read c.args.a.now c.cx-cx.ensures then_a) n.ensures) in
-    let gone = subst (λ v. Related M q p v x y (arg_tree p.meaning) (Ok n.answer)) ew
+    let n = kept_in c.in_ok-keep_const_answer.ensures in
+    let z = kept_const a c.args.a.now c.args.b.now related.result n.0
+    (subst (λ z. IsResultOfConst z c.args.a.now c.args.b.now related.result (Ok n.0)) then_a n.1) in
+    let gone = subst (λ v. Related M q p v x y (arg_tree p.meaning) (Ok n.0)) ew
     (subst (λ u. Related M q p w x y (arg_tree p.meaning) u) z (related.ensures).related) in
     let e = g.met.R.TypeRelation.reads c.loop-i.r in
     let cx = g.R.TypeRelation.interner c.loop-i.r in
@@ -1057,104 +1067,40 @@ structurally_relate_consts-loop-i-preserved g t c =
     let kind = subst (λ u. IfOk u (λ k. arg_sort k ≡ arg_sort X)) z (related.ensures).kind in
     let was = c.loop-i.answers.items in
     let next : suc i ≡ i + 1 = omega arith in
-    let keeps = kept_as arg_tree FitArgs c.cx-cx.ensures (ap const_parts_of (const_read c.args.a.now c.cx-cx.ensures then_a))
-    c.in_ok-keep_const_answer.ensures in
+    let keeps = subst (λ t. KeepsAnswer (arg_tree p.meaning) FitArgs i (const_parts_of t) n.0 was c.keep_const_answer.new.answers.items) then_a n.2 in
     record {
       lawful = (gone.passes).lawful inv.lawful;
       fronted = subst (λ j. Fronted M r p (const_head_of a) r.ambient j (const_parts_of a) (const_parts_of b)) (omega arith)
           (fronted_next (const_head_of a) r.ambient i (const_parts_of a) (const_parts_of b) x y inv.fronted lx ly ex ey (arg_tree p.meaning)
-          n.answer inv.are_parts gone);
+          n.0 inv.are_parts gone);
       left_count = inv.left_count;
       right_count = inv.right_count;
       are_parts = inv.are_parts;
       answers = λ some. subst (λ j. AreAnswers M p (const_head_of a) r.ambient j (const_parts_of a)
           (list_tree (arg_tree p.meaning) c.keep_const_answer.new.answers.items)) next
-          (kept_answers M (arg_tree q.meaning) (arg_tree p.meaning) FitArgs (const_head_of a) r.ambient i (const_parts_of a) x n.answer was
+          (kept_answers M (arg_tree q.meaning) (arg_tree p.meaning) FitArgs (const_head_of a) r.ambient i (const_parts_of a) x n.0 was
           c.keep_const_answer.new.answers.items (stays_arg later) gone.passes lx ex
-          (subst (λ z. MayAnswer M p (part_at z (const_head_of a) i r.ambient) x (arg_tree p.meaning n.answer))
+          (subst (λ z. MayAnswer M p (part_at z (const_head_of a) i r.ambient) x (arg_tree p.meaning n.0))
           (sym (same_items (inv.fronted).passes)) (gone.verdict).answer) (gone.verdict).known inv.answers keeps some);
       fits = λ some. subst (λ j. FitArgs c.keep_const_answer.new.answers.items (firsts j (const_parts_of a))) next
-          (kept_fit (arg_tree p.meaning) i (const_parts_of a) n.answer was c.keep_const_answer.new.answers.items lx
-          (fits_place q.meaning sorted X n.answer (const_parts_of a) i kx ex kind) inv.fits keeps some);
+          (kept_fit (arg_tree p.meaning) i (const_parts_of a) n.0 was c.keep_const_answer.new.answers.items lx
+          (fits_place q.meaning sorted X n.0 (const_parts_of a) i kx ex kind) inv.fits keeps some);
     }
-
-pub structurally_relate_consts-in_const-requires : goal.structurally_relate_consts-in_const-requires
-structurally_relate_consts-in_const-requires g t c =
-    let k = c.requires.asked in
-    let same = (((c.loop-i.invariant.fronted).passes).extends).const_ c.args.a.now k.left_known in
-    let later = (((c.relate_with_variance-related.ensures).related).passes).extends in
-    let then = later.const_ c.args.a.now (subst (λ z. IsTrue (known z)) (sym same) k.left_known) ∙ same in
-    subst (λ z. IsTrue (known z)) (sym (const_read c.args.a.now c.cx-cx.ensures then)) k.left_known
 
 pub structurally_relate_consts-keep_const_answer-requires : goal.structurally_relate_consts-keep_const_answer-requires
 structurally_relate_consts-keep_const_answer-requires g t c =
-    let r = g.R.HasState.state c.args.r.now in
-    let a = (r.meaning).const_ c.args.a.now in
-    let p = g.R.HasState.state c.relate_with_variance-related.new.r in
-    let i = c.loop-i.i in
-    let inv = c.loop-i.invariant in
     let k = c.requires.asked in
-    let same = ((inv.fronted).passes).extends.const_ c.args.a.now k.left_known in
+    let inv = c.loop-i.invariant in
+    let a = ((g.R.HasState.state c.args.r.now).meaning).const_ c.args.a.now in
+    let same = (((inv.fronted).passes).extends).const_ c.args.a.now k.left_known in
     let later = (((c.relate_with_variance-related.ensures).related).passes).extends in
-    let then : (p.meaning).const_ c.args.a.now ≡ a =
-    later.const_ c.args.a.now (subst (λ z. IsTrue (known z)) (sym same) k.left_known) ∙ same in
+    let then = later.const_ c.args.a.now (subst (λ z. IsTrue (known z)) (sym same) k.left_known) ∙ same in
     let test = c.loop-i-test.true in
-    let lx : i ≤ count (const_parts_of a) = omega (arith, test, inv.left_count) in
-    let read = const_read c.args.a.now c.cx-cx.ensures then in
+    let within : c.loop-i.i ≤ count (const_parts_of a) = omega (arith, test, inv.left_count) in
     record {
-      constant_known = subst (λ z. IsTrue (known z)) (sym read) k.left_known;
-      in_bounds = subst (λ z. i ≤ count (const_parts_of z)) (sym read) lx;
+      a_known = subst (λ z. IsTrue (known z)) (sym then) k.left_known;
+      in_bounds = subst (λ z. c.loop-i.i ≤ count (const_parts_of z)) (sym then) within;
     }
-
-pub structurally_relate_consts-returns-in_err-keep_const_answer : goal.structurally_relate_consts-returns-in_err-keep_const_answer
-structurally_relate_consts-returns-in_err-keep_const_answer g t c =
-    let r = g.R.HasState.state c.args.r.now in
-    let M = g.R.TypeRelation.manner in
-    let a = (r.meaning).const_ c.args.a.now in
-    let b = (r.meaning).const_ c.args.b.now in
-    let q = g.R.HasState.state c.loop-i.r in
-    let i = c.loop-i.i in
-    let inv = c.loop-i.invariant in
-    let k = c.requires.asked in
-    let extends = ((inv.fronted).passes).extends in
-    let same_a : (q.meaning).const_ c.args.a.now ≡ a = extends.const_ c.args.a.now k.left_known in
-    let same_b : (q.meaning).const_ c.args.b.now ≡ b = extends.const_ c.args.b.now k.right_known in
-    let alike = (c.in_ok-compare_consts_of.ensures).alike in
-    let test = c.loop-i-test.true in
-    let lx : i < count (const_parts_of a) = omega (arith, test, inv.left_count) in
-    let ly : i < count (const_parts_of b) = omega (arith, test, inv.right_count) in
-    let X = c.const_part_of-x.result in
-    let Y = c.const_part_of-y.result in
-    let x = arg_tree q.meaning X in
-    let y = arg_tree q.meaning Y in
-    let kx = c.const_part_of-x.ensures.sure in
-    let ky = c.const_part_of-y.ensures.sure in
-    let ex : x ≡ nth i (const_parts_of a) = c.const_part_of-x.ensures.means ∙ ap (λ z. nth i (const_parts_of z)) same_a in
-    let ey : y ≡ nth i (const_parts_of b) = c.const_part_of-y.ensures.means ∙ ap (λ z. nth i (const_parts_of z)) same_b in
-    let w = xform q.ambient c.const_variance_at-variance.result in
-    let ew : w ≡ part_at (items_in r) (const_head_of a) i r.ambient =
-    c.const_variance_at-variance.ensures i ∙ ap (λ z. part_at (items_in q) (const_head_of z) i q.ambient) same_a ∙
-    ap (λ z. part_at z (const_head_of a) i q.ambient) (same_items (inv.fronted).passes) ∙
-    ap (λ z. part_at (items_in r) (const_head_of a) i z) ((inv.fronted).passes).ambient in
-    let p = g.R.HasState.state c.relate_with_variance-related.new.r in
-    let related = c.relate_with_variance-related in
-    let later = (((related.ensures).related).passes).extends in
-    let then_a : (p.meaning).const_ c.args.a.now ≡ a =
-    later.const_ c.args.a.now (subst (λ z. IsTrue (known z)) (sym same_a) k.left_known) ∙ same_a in
-    let then_b : (p.meaning).const_ c.args.b.now ≡ b =
-    later.const_ c.args.b.now (subst (λ z. IsTrue (known z)) (sym same_b) k.right_known) ∙ same_b in
-    let n = c.in_ok-answer in
-    let z = kept_const a c.args.a.now c.args.b.now related.result n.answer
-    (subst (λ z. IsResultOfConst z c.args.a.now c.args.b.now related.result (Ok n.answer))
-    (const_read c.args.a.now c.cx-cx.ensures then_a) n.ensures) in
-    let gone = subst (λ v. Related M q p v x y (arg_tree p.meaning) (Ok n.answer)) ew
-    (subst (λ u. Related M q p w x y (arg_tree p.meaning) u) z (related.ensures).related) in
-    let next = fronted_next (const_head_of a) r.ambient i (const_parts_of a) (const_parts_of b) x y inv.fronted lx ly ex ey (arg_tree p.meaning) n.answer
-    inv.are_parts gone in
-    subst (λ z. RelatedForms M r p r.ambient a b (p.meaning).const_ z)
-    (sym (as_err c.from_residual-in_err-keep_const_answer.result Memory c.from_residual-in_err-keep_const_answer.ensures.0
-    c.from_residual-in_err-keep_const_answer.ensures.1))
-    (consts_stopped M r.ambient a b (suc i) (p.meaning).const_ next)
 
 pub structurally_relate_consts-returns-then-is_empty : goal.structurally_relate_consts-returns-then-is_empty
 structurally_relate_consts-returns-then-is_empty g t c =
@@ -1355,16 +1301,8 @@ structurally_relate_tys-relate_with_variance-related-requires g t c κs within =
     let d = c.decreases in
     search rules
 
-pub structurally_relate_tys-in_ty-requires : goal.structurally_relate_tys-in_ty-requires
-structurally_relate_tys-in_ty-requires g t c =
-    let k = c.requires.asked in
-    let same = (((c.loop-i.invariant.fronted).passes).extends).ty c.args.a.now k.left_known in
-    let later = (((c.relate_with_variance-related.ensures).related).passes).extends in
-    let then = later.ty c.args.a.now (subst (λ z. IsTrue (known z)) (sym same) k.left_known) ∙ same in
-    subst (λ z. IsTrue (known z)) (sym (ty_read c.args.a.now c.cx-cx.ensures then)) k.left_known
-
-pub structurally_relate_tys-returns-in_err-answer : goal.structurally_relate_tys-returns-in_err-answer
-structurally_relate_tys-returns-in_err-answer g t c =
+pub structurally_relate_tys-returns-in_err-keep_answer : goal.structurally_relate_tys-returns-in_err-keep_answer
+structurally_relate_tys-returns-in_err-keep_answer g t c =
     let r = g.R.HasState.state c.args.r.now in
     let M = g.R.TypeRelation.manner in
     let a = (r.meaning).ty c.args.a.now in
@@ -1403,16 +1341,27 @@ structurally_relate_tys-returns-in_err-answer g t c =
     let e = g.met.R.TypeRelation.reads c.loop-i.r in
     let cx = g.R.TypeRelation.interner c.loop-i.r in
     let sorted : Sorted q.meaning = subst (λ m. Sorted m) (sym e) (g.met.I.Interner.sorted cx) in
-    let n = c.in_err-answer in
-    let z = failed_ty a X Y related.result n.field-0.0
-    (subst (λ z. IsResultOfTy z X Y related.result (Err n.field-0.0)) (ty_read c.args.a.now c.cx-cx.ensures then_a) n.ensures) in
-    let gone = subst (λ v. Related M q p v x y (arg_tree p.meaning) (Err z.0)) ew
-    (subst (λ u. Related M q p w x y (arg_tree p.meaning) u) z.1 (related.ensures).related) in
-    let failed = as_err c.from_residual-in_err-answer.result n.field-0.0 c.from_residual-in_err-answer.ensures.0
-    c.from_residual-in_err-answer.ensures.1 in
-    subst (λ u. RelatedForms M r p r.ambient a b (p.meaning).ty u) (sym failed)
-    (ty_refused M r.ambient a b i c.requires.a_formed alike inv.fronted inv.are_parts X Y kx ky sorted lx ly ex ey
-    (arg_tree p.meaning) (p.meaning).ty z.0 n.field-0.0 c.requires.b_formed (knows_arg later X kx) (knows_arg later Y ky) z.2 gone)
+    let n = c.in_err-keep_answer in
+    let res = c.from_residual-in_err-keep_answer in
+    let failed = as_err res.result n.field-0.0 res.ensures.0 res.ensures.1 in
+    subst (λ u. RelatedForms M r p r.ambient a b (p.meaning).ty u) (sym failed) (elim (failed_in n.ensures) [
+      inl h ↦
+        let z = failed_ty a X Y related.result n.field-0.0
+        (subst (λ z. IsResultOfTy z X Y related.result (Err n.field-0.0)) then_a h) in
+        let gone = subst (λ v. Related M q p v x y (arg_tree p.meaning) (Err z.0)) ew
+        (subst (λ u. Related M q p w x y (arg_tree p.meaning) u) z.1 (related.ensures).related) in
+        ty_refused M r.ambient a b i c.requires.a_formed alike inv.fronted inv.are_parts X Y kx ky sorted lx ly ex ey
+        (arg_tree p.meaning) (p.meaning).ty z.0 n.field-0.0 c.requires.b_formed (knows_arg later X kx) (knows_arg later Y ky) z.2 gone
+    | inr m ↦
+        let z = kept_ty a X Y related.result m.0
+        (subst (λ z. IsResultOfTy z X Y related.result (Ok m.0)) then_a m.1) in
+        let gone = subst (λ v. Related M q p v x y (arg_tree p.meaning) (Ok m.0)) ew
+        (subst (λ u. Related M q p w x y (arg_tree p.meaning) u) z (related.ensures).related) in
+        let next = fronted_next (head_of a) r.ambient i (direct_parts a) (direct_parts b) x y inv.fronted lx ly ex ey (arg_tree p.meaning) m.0
+        inv.are_parts gone in
+        subst (λ f. RelatedForms M r p r.ambient a b (p.meaning).ty (Err f)) (sym m.2)
+        (types_stopped M r.ambient a b (suc i) (p.meaning).ty c.requires.a_formed next)
+    ])
 
 pub structurally_relate_tys-loop-i-preserved : goal.structurally_relate_tys-loop-i-preserved
 structurally_relate_tys-loop-i-preserved g t c =
@@ -1451,10 +1400,10 @@ structurally_relate_tys-loop-i-preserved g t c =
     later.ty c.args.a.now (subst (λ z. IsTrue (known z)) (sym same_a) k.left_known) ∙ same_a in
     let then_b : (p.meaning).ty c.args.b.now ≡ b =
     later.ty c.args.b.now (subst (λ z. IsTrue (known z)) (sym same_b) k.right_known) ∙ same_b in
-    let n = c.in_ok-answer in
-    let z = kept_ty a X Y related.result n.answer
-    (subst (λ z. IsResultOfTy z X Y related.result (Ok n.answer)) (ty_read c.args.a.now c.cx-cx.ensures then_a) n.ensures) in
-    let gone = subst (λ v. Related M q p v x y (arg_tree p.meaning) (Ok n.answer)) ew
+    let n = kept_in c.in_ok-keep_answer.ensures in
+    let z = kept_ty a X Y related.result n.0
+    (subst (λ z. IsResultOfTy z X Y related.result (Ok n.0)) then_a n.1) in
+    let gone = subst (λ v. Related M q p v x y (arg_tree p.meaning) (Ok n.0)) ew
     (subst (λ u. Related M q p w x y (arg_tree p.meaning) u) z (related.ensures).related) in
     let e = g.met.R.TypeRelation.reads c.loop-i.r in
     let cx = g.R.TypeRelation.interner c.loop-i.r in
@@ -1462,96 +1411,41 @@ structurally_relate_tys-loop-i-preserved g t c =
     let kind = subst (λ u. IfOk u (λ k. arg_sort k ≡ arg_sort X)) z (related.ensures).kind in
     let was = c.loop-i.answers.items in
     let next : suc i ≡ i + 1 = omega arith in
-    let keeps = kept_as arg_tree FitArgs c.cx-cx.ensures (ap direct_parts (ty_read c.args.a.now c.cx-cx.ensures then_a))
-    c.in_ok-keep_answer.ensures in
+    let keeps = subst (λ t. KeepsAnswer (arg_tree p.meaning) FitArgs i (direct_parts t) n.0 was c.keep_answer.new.answers.items) then_a n.2 in
     record {
       lawful = (gone.passes).lawful inv.lawful;
       fronted = subst (λ j. Fronted M r p (head_of a) r.ambient j (direct_parts a) (direct_parts b)) (omega arith)
           (fronted_next (head_of a) r.ambient i (direct_parts a) (direct_parts b) x y inv.fronted lx ly ex ey (arg_tree p.meaning)
-          n.answer inv.are_parts gone);
+          n.0 inv.are_parts gone);
       left_count = inv.left_count;
       right_count = inv.right_count;
       are_parts = inv.are_parts;
       answers = λ some. subst (λ j. AreAnswers M p (head_of a) r.ambient j (direct_parts a)
           (list_tree (arg_tree p.meaning) c.keep_answer.new.answers.items)) next
-          (kept_answers M (arg_tree q.meaning) (arg_tree p.meaning) FitArgs (head_of a) r.ambient i (direct_parts a) x n.answer was
+          (kept_answers M (arg_tree q.meaning) (arg_tree p.meaning) FitArgs (head_of a) r.ambient i (direct_parts a) x n.0 was
           c.keep_answer.new.answers.items (stays_arg later) gone.passes lx ex
-          (subst (λ z. MayAnswer M p (part_at z (head_of a) i r.ambient) x (arg_tree p.meaning n.answer))
+          (subst (λ z. MayAnswer M p (part_at z (head_of a) i r.ambient) x (arg_tree p.meaning n.0))
           (sym (same_items (inv.fronted).passes)) (gone.verdict).answer) (gone.verdict).known inv.answers keeps some);
       fits = λ some. subst (λ j. FitArgs c.keep_answer.new.answers.items (firsts j (direct_parts a))) next
-          (kept_fit (arg_tree p.meaning) i (direct_parts a) n.answer was c.keep_answer.new.answers.items lx
-          (fits_place q.meaning sorted X n.answer (direct_parts a) i kx ex kind) inv.fits keeps some);
+          (kept_fit (arg_tree p.meaning) i (direct_parts a) n.0 was c.keep_answer.new.answers.items lx
+          (fits_place q.meaning sorted X n.0 (direct_parts a) i kx ex kind) inv.fits keeps some);
     }
 
 pub structurally_relate_tys-keep_answer-requires : goal.structurally_relate_tys-keep_answer-requires
 structurally_relate_tys-keep_answer-requires g t c =
-    let r = g.R.HasState.state c.args.r.now in
-    let a = (r.meaning).ty c.args.a.now in
-    let p = g.R.HasState.state c.relate_with_variance-related.new.r in
-    let i = c.loop-i.i in
-    let inv = c.loop-i.invariant in
     let k = c.requires.asked in
-    let same = ((inv.fronted).passes).extends.ty c.args.a.now k.left_known in
+    let inv = c.loop-i.invariant in
+    let a = ((g.R.HasState.state c.args.r.now).meaning).ty c.args.a.now in
+    let same = (((inv.fronted).passes).extends).ty c.args.a.now k.left_known in
     let later = (((c.relate_with_variance-related.ensures).related).passes).extends in
-    let then : (p.meaning).ty c.args.a.now ≡ a =
-    later.ty c.args.a.now (subst (λ z. IsTrue (known z)) (sym same) k.left_known) ∙ same in
+    let then = later.ty c.args.a.now (subst (λ z. IsTrue (known z)) (sym same) k.left_known) ∙ same in
     let test = c.loop-i-test.true in
-    let lx : i ≤ count (direct_parts a) = omega (arith, test, inv.left_count) in
-    let read = ty_read c.args.a.now c.cx-cx.ensures then in
+    let within : c.loop-i.i ≤ count (direct_parts a) = omega (arith, test, inv.left_count) in
     record {
-      ty_known = subst (λ z. IsTrue (known z)) (sym read) k.left_known;
-      over_args = λ o. absurd (false≢true (sym c.if-is_by_parts_of.false ∙ (c.is_by_parts_of.ensures).1 (subst IsByParts read o)));
-      in_bounds = subst (λ z. i ≤ count (direct_parts z)) (sym read) lx;
+      ty_known = subst (λ z. IsTrue (known z)) (sym then) k.left_known;
+      over_args = λ o. absurd (false≢true (sym c.if-is_by_parts_of.false ∙ (c.is_by_parts_of.ensures).1 (subst IsByParts then o)));
+      in_bounds = subst (λ z. c.loop-i.i ≤ count (direct_parts z)) (sym then) within;
     }
-
-pub structurally_relate_tys-returns-in_err-keep_answer : goal.structurally_relate_tys-returns-in_err-keep_answer
-structurally_relate_tys-returns-in_err-keep_answer g t c =
-    let r = g.R.HasState.state c.args.r.now in
-    let M = g.R.TypeRelation.manner in
-    let a = (r.meaning).ty c.args.a.now in
-    let b = (r.meaning).ty c.args.b.now in
-    let q = g.R.HasState.state c.loop-i.r in
-    let i = c.loop-i.i in
-    let inv = c.loop-i.invariant in
-    let k = c.requires.asked in
-    let extends = ((inv.fronted).passes).extends in
-    let same_a : (q.meaning).ty c.args.a.now ≡ a = extends.ty c.args.a.now k.left_known in
-    let same_b : (q.meaning).ty c.args.b.now ≡ b = extends.ty c.args.b.now k.right_known in
-    let alike = (c.in_ok-compare_tys_of.ensures).alike in
-    let test = c.loop-i-test.true in
-    let lx : i < count (direct_parts a) = omega (arith, test, inv.left_count) in
-    let ly : i < count (direct_parts b) = omega (arith, test, inv.right_count) in
-    let X = c.part_of-x.result in
-    let Y = c.part_of-y.result in
-    let x = arg_tree q.meaning X in
-    let y = arg_tree q.meaning Y in
-    let kx = c.part_of-x.ensures.sure in
-    let ky = c.part_of-y.ensures.sure in
-    let ex : x ≡ nth i (direct_parts a) = c.part_of-x.ensures.means ∙ ap (λ z. nth i (direct_parts z)) same_a in
-    let ey : y ≡ nth i (direct_parts b) = c.part_of-y.ensures.means ∙ ap (λ z. nth i (direct_parts z)) same_b in
-    let w = xform q.ambient c.variance_at-variance.result in
-    let ew : w ≡ part_at (items_in r) (head_of a) i r.ambient =
-    c.variance_at-variance.ensures ∙ ap (λ z. part_at (items_in q) (head_of z) i q.ambient) same_a ∙
-    ap (λ z. part_at z (head_of a) i q.ambient) (same_items (inv.fronted).passes) ∙
-    ap (λ z. part_at (items_in r) (head_of a) i z) ((inv.fronted).passes).ambient in
-    let p = g.R.HasState.state c.relate_with_variance-related.new.r in
-    let related = c.relate_with_variance-related in
-    let later = (((related.ensures).related).passes).extends in
-    let then_a : (p.meaning).ty c.args.a.now ≡ a =
-    later.ty c.args.a.now (subst (λ z. IsTrue (known z)) (sym same_a) k.left_known) ∙ same_a in
-    let then_b : (p.meaning).ty c.args.b.now ≡ b =
-    later.ty c.args.b.now (subst (λ z. IsTrue (known z)) (sym same_b) k.right_known) ∙ same_b in
-    let n = c.in_ok-answer in
-    let z = kept_ty a X Y related.result n.answer
-    (subst (λ z. IsResultOfTy z X Y related.result (Ok n.answer)) (ty_read c.args.a.now c.cx-cx.ensures then_a) n.ensures) in
-    let gone = subst (λ v. Related M q p v x y (arg_tree p.meaning) (Ok n.answer)) ew
-    (subst (λ u. Related M q p w x y (arg_tree p.meaning) u) z (related.ensures).related) in
-    let next = fronted_next (head_of a) r.ambient i (direct_parts a) (direct_parts b) x y inv.fronted lx ly ex ey (arg_tree p.meaning) n.answer
-    inv.are_parts gone in
-    subst (λ z. RelatedForms M r p r.ambient a b (p.meaning).ty z)
-    (sym (as_err c.from_residual-in_err-keep_answer.result Memory c.from_residual-in_err-keep_answer.ensures.0
-    c.from_residual-in_err-keep_answer.ensures.1))
-    (types_stopped M r.ambient a b (suc i) (p.meaning).ty c.requires.a_formed next)
 
 pub structurally_relate_tys-note_args-requires-clause-one_form : goal.structurally_relate_tys-note_args-requires-clause-one_form
 structurally_relate_tys-note_args-requires-clause-one_form g t c =
@@ -2220,8 +2114,8 @@ relate_in_order-named_place_of-place-requires-clause-in_bounds g t c =
     let lx : i < count (direct_parts a) = omega (arith, test, inv.left_count) in
     subst (λ z. i < count (direct_parts z)) (sym same_a) lx
 
-pub relate_in_order-returns-in_err-answer : goal.relate_in_order-returns-in_err-answer
-relate_in_order-returns-in_err-answer g t c =
+pub relate_in_order-returns-in_err-keep_term_answer : goal.relate_in_order-returns-in_err-keep_term_answer
+relate_in_order-returns-in_err-keep_term_answer g t c =
     let r = g.R.HasState.state c.args.r.now in
     let M = g.R.TypeRelation.manner in
     let a = part_tree r.meaning c.args.a.now in
@@ -2260,20 +2154,31 @@ relate_in_order-returns-in_err-answer g t c =
     let p = g.R.HasState.state c.relate_parts_with_variance-related.new.r in
     let related = c.relate_parts_with_variance-related in
     let later = (((related.ensures).related).passes).extends in
-    let n = c.in_err-answer in
-    let named : c.named_place_of-place.result ≡ named_place a i =
-    c.named_place_of-place.ensures ∙ ap (λ z. named_place z i) same_a in
-    let z = failed_part (named_place a i) related.result n.field-0.0
-    (subst (λ z. IsResultOfPart z related.result (Err n.field-0.0)) named n.ensures) in
-    let gone = subst (λ v. Related M q p v x y (part_tree p.meaning) (Err z.0)) ew
-    (subst (λ u. Related M q p w x y (part_tree p.meaning) u) z.1 (related.ensures).related) in
-    let failed = as_err c.from_residual-in_err-answer.result n.field-0.0 c.from_residual-in_err-answer.ensures.0
-    c.from_residual-in_err-answer.ensures.1 in
-    record {
-      related = subst (λ u. RelatedForms M r p r.ambient a b (part_tree p.meaning) u) (sym failed)
-          (term_refused M r.ambient a b i form alike inv.fronted inv.are_parts (part_sort c.args.a.now)
+    let n = c.in_err-keep_term_answer in
+    let res = c.from_residual-in_err-keep_term_answer in
+    let failed = as_err res.result n.field-0.0 res.ensures.0 res.ensures.1 in
+    let refused : RelatedForms M r p r.ambient a b (part_tree p.meaning) (Err n.field-0.0) = elim (failed_in n.ensures) [
+      inl h ↦
+        let named : c.named_place_of-place.result ≡ named_place a i =
+        c.named_place_of-place.ensures ∙ ap (λ z. named_place z i) same_a in
+        let z = failed_part (named_place a i) related.result n.field-0.0
+        (subst (λ z. IsResultOfPart z related.result (Err n.field-0.0)) named h) in
+        let gone = subst (λ v. Related M q p v x y (part_tree p.meaning) (Err z.0)) ew
+        (subst (λ u. Related M q p w x y (part_tree p.meaning) u) z.1 (related.ensures).related) in
+        term_refused M r.ambient a b i form alike inv.fronted inv.are_parts (part_sort c.args.a.now)
           (part_sort c.args.b.now) ta tb inv.inputs x y lx ly ex ey (part_tree p.meaning) (part_tree p.meaning) z.0
-          n.field-0.0 z.2 gone);
+          n.field-0.0 z.2 gone
+    | inr m ↦
+        let z = kept_part c.named_place_of-place.result related.result m.0 m.1 in
+        let gone = subst (λ v. Related M q p v x y (part_tree p.meaning) (Ok m.0)) ew
+        (subst (λ u. Related M q p w x y (part_tree p.meaning) u) z (related.ensures).related) in
+        let next = fronted_next (head_of a) r.ambient i (direct_parts a) (direct_parts b) x y inv.fronted lx ly ex ey
+        (part_tree p.meaning) m.0 inv.are_parts gone in
+        subst (λ f. RelatedForms M r p r.ambient a b (part_tree p.meaning) (Err f)) (sym m.2)
+        (terms_stopped M r.ambient a b (suc i) form (part_tree p.meaning) next)
+    ] in
+    record {
+      related = subst (λ u. RelatedForms M r p r.ambient a b (part_tree p.meaning) u) (sym failed) refused;
       sort = subst (λ u. IfOk u (λ z. part_sort z ≡ part_sort c.args.a.now)) (sym failed) tt;
       predicate = subst (λ u. IfOk u (λ z. form_of_part z ≡ form_of_part c.args.a.now)) (sym failed) tt;
     }
@@ -2312,12 +2217,12 @@ relate_in_order-loop-i-preserved g t c =
     let p = g.R.HasState.state c.relate_parts_with_variance-related.new.r in
     let related = c.relate_parts_with_variance-related in
     let later = (((related.ensures).related).passes).extends in
-    let n = c.in_ok-answer in
-    let z = kept_part c.named_place_of-place.result related.result n.answer n.ensures in
-    let gone = subst (λ v. Related M q p v x y (part_tree p.meaning) (Ok n.answer)) ew
+    let n = kept_in c.in_ok-keep_term_answer.ensures in
+    let z = kept_part c.named_place_of-place.result related.result n.0 n.1 in
+    let gone = subst (λ v. Related M q p v x y (part_tree p.meaning) (Ok n.0)) ew
     (subst (λ u. Related M q p w x y (part_tree p.meaning) u) z (related.ensures).related) in
     let next = fronted_next (head_of a) r.ambient i (direct_parts a) (direct_parts b) x y inv.fronted lx ly ex ey
-    (part_tree p.meaning) n.answer inv.are_parts gone in
+    (part_tree p.meaning) n.0 inv.are_parts gone in
     let e = g.met.R.TypeRelation.reads c.loop-i.r in
     let cx = g.R.TypeRelation.interner c.loop-i.r in
     let sorted : Sorted q.meaning = subst (λ m. Sorted m) (sym e) (g.met.I.Interner.sorted cx) in
@@ -2328,8 +2233,7 @@ relate_in_order-loop-i-preserved g t c =
     let more : suc i ≡ i + 1 = omega arith in
     let then_a : part_tree p.meaning c.args.a.now ≡ a =
     stays_part later c.args.a.now (subst (λ z. IsTrue (known z)) (sym same_a) k.left_known) ∙ same_a in
-    let keeps = kept_as part_tree Fit c.cx-cx.ensures (ap direct_parts (part_read c.args.a.now c.cx-cx.ensures then_a))
-    c.in_ok-keep_term_answer.ensures in
+    let keeps = subst (λ t. KeepsAnswer (part_tree p.meaning) Fit i (direct_parts t) n.0 was c.keep_term_answer.new.answers.items) then_a n.2 in
     record {
       lawful = (gone.passes).lawful inv.lawful;
       fronted = subst (λ j. Fronted M r p (head_of a) r.ambient j (direct_parts a) (direct_parts b)) more next;
@@ -2338,12 +2242,12 @@ relate_in_order-loop-i-preserved g t c =
       are_parts = inv.are_parts;
       answers = λ some. subst (λ j. AreAnswers M p (head_of a) r.ambient j (direct_parts a)
           (list_tree (part_tree p.meaning) c.keep_term_answer.new.answers.items)) more
-          (kept_answers M (part_tree q.meaning) (part_tree p.meaning) Fit (head_of a) r.ambient i (direct_parts a) x n.answer was
+          (kept_answers M (part_tree q.meaning) (part_tree p.meaning) Fit (head_of a) r.ambient i (direct_parts a) x n.0 was
           c.keep_term_answer.new.answers.items (stays_part later) gone.passes lx ex
-          (subst (λ z. MayAnswer M p (part_at z (head_of a) i r.ambient) x (part_tree p.meaning n.answer))
+          (subst (λ z. MayAnswer M p (part_at z (head_of a) i r.ambient) x (part_tree p.meaning n.0))
           (sym (same_items (inv.fronted).passes)) (gone.verdict).answer) (gone.verdict).known inv.answers keeps some);
       fits = λ some. subst (λ j. Fit c.keep_term_answer.new.answers.items (firsts j (direct_parts a))) more
-          (kept_fit_parts (part_tree p.meaning) i (direct_parts a) n.answer was c.keep_term_answer.new.answers.items lx
+          (kept_fit_parts (part_tree p.meaning) i (direct_parts a) n.0 was c.keep_term_answer.new.answers.items lx
           (sort ∙ sym (sort_known q.meaning sorted X kx) ∙ ap tree_sort ex) inv.fits keeps some);
       inputs = subst (HaveAsManyInputs a b) more (inputs_next a b i (λ e. subst₂ AreOfOneForm ex ey
           (one (inputs_compared X (sym (sort_known q.meaning sorted X kx) ∙ ap tree_sort ex ∙ e)))) inv.inputs);
@@ -2351,102 +2255,27 @@ relate_in_order-loop-i-preserved g t c =
 
 pub relate_in_order-keep_term_answer-requires : goal.relate_in_order-keep_term_answer-requires
 relate_in_order-keep_term_answer-requires g t c =
-    let r = g.R.HasState.state c.args.r.now in
-    let M = g.R.TypeRelation.manner in
-    let a = part_tree r.meaning c.args.a.now in
-    let b = part_tree r.meaning c.args.b.now in
-    let q = g.R.HasState.state c.loop-i.r in
-    let i = c.loop-i.i in
-    let inv = c.loop-i.invariant in
     let k = c.requires.asked in
-    let form = c.requires.form in
-    let alike = c.requires.alike in
-    let extends = ((inv.fronted).passes).extends in
-    let same_a : part_tree q.meaning c.args.a.now ≡ a = stays_part extends c.args.a.now k.left_known in
-    let same_b : part_tree q.meaning c.args.b.now ≡ b = stays_part extends c.args.b.now k.right_known in
-    let test = c.loop-i-test.true in
-    let lx : i < count (direct_parts a) = omega (arith, test, inv.left_count) in
-    let ly : i < count (direct_parts b) = omega (arith, test, inv.right_count) in
-    let X = c.term_part_of-x.result in
-    let Y = c.term_part_of-y.result in
-    let x = part_tree q.meaning X in
-    let y = part_tree q.meaning Y in
-    let kx = c.term_part_of-x.ensures.sure in
-    let ky = c.term_part_of-y.ensures.sure in
-    let ex : x ≡ nth i (direct_parts a) = c.term_part_of-x.ensures.means ∙ ap (λ z. nth i (direct_parts z)) same_a in
-    let ey : y ≡ nth i (direct_parts b) = c.term_part_of-y.ensures.means ∙ ap (λ z. nth i (direct_parts z)) same_b in
-    let w = xform q.ambient c.term_variance_at-variance.result in
-    let ew : w ≡ part_at (items_in r) (head_of a) i r.ambient =
-    c.term_variance_at-variance.ensures ∙ ap (λ z. part_at (items_in q) (head_of z) i q.ambient) same_a ∙
-    ap (λ z. part_at z (head_of a) i q.ambient) (same_items (inv.fronted).passes) ∙
-    ap (λ z. part_at (items_in r) (head_of a) i z) ((inv.fronted).passes).ambient in
+    let inv = c.loop-i.invariant in
+    let a = part_tree (g.R.HasState.state c.args.r.now).meaning c.args.a.now in
+    let q = g.R.HasState.state c.loop-i.r in
     let p = g.R.HasState.state c.relate_parts_with_variance-related.new.r in
     let related = c.relate_parts_with_variance-related in
     let later = (((related.ensures).related).passes).extends in
-    let n = c.in_ok-answer in
-    let z = kept_part c.named_place_of-place.result related.result n.answer n.ensures in
-    let gone = subst (λ v. Related M q p v x y (part_tree p.meaning) (Ok n.answer)) ew
-    (subst (λ u. Related M q p w x y (part_tree p.meaning) u) z (related.ensures).related) in
-    let then : part_tree p.meaning c.args.a.now ≡ a =
-    stays_part later c.args.a.now (subst (λ z. IsTrue (known z)) (sym same_a) k.left_known) ∙ same_a in
-    let within : i ≤ count (direct_parts a) = omega (arith, lx) in
-    let read = part_read c.args.a.now c.cx-cx.ensures then in
-    record {
-      term_known = subst (λ z. IsTrue (known z)) (sym read) k.left_known;
-      form = subst IsByParts (sym read) form;
-      in_bounds = subst (λ z. i ≤ count (direct_parts z)) (sym read) within;
-      part_known = subst (λ z. IsTrue (known z)) (sym (part_read X c.cx-cx.ensures (stays_part later X kx))) kx;
-      answer_known = subst (λ z. IsTrue (known z)) (sym (part_read n.answer c.cx-cx.ensures refl)) (gone.verdict).known;
-      sort = subst (λ u. IfOk u (λ z. part_sort z ≡ part_sort X)) z (related.ensures).sort;
-    }
-
-pub relate_in_order-returns-in_err-keep_term_answer : goal.relate_in_order-returns-in_err-keep_term_answer
-relate_in_order-returns-in_err-keep_term_answer g t c =
-    let r = g.R.HasState.state c.args.r.now in
-    let M = g.R.TypeRelation.manner in
-    let a = part_tree r.meaning c.args.a.now in
-    let b = part_tree r.meaning c.args.b.now in
-    let q = g.R.HasState.state c.loop-i.r in
-    let i = c.loop-i.i in
-    let inv = c.loop-i.invariant in
-    let k = c.requires.asked in
-    let form = c.requires.form in
-    let alike = c.requires.alike in
-    let extends = ((inv.fronted).passes).extends in
-    let same_a : part_tree q.meaning c.args.a.now ≡ a = stays_part extends c.args.a.now k.left_known in
-    let same_b : part_tree q.meaning c.args.b.now ≡ b = stays_part extends c.args.b.now k.right_known in
+    let same = stays_part ((inv.fronted).passes).extends c.args.a.now k.left_known in
+    let then = stays_part later c.args.a.now (subst (λ z. IsTrue (known z)) (sym same) k.left_known) ∙ same in
     let test = c.loop-i-test.true in
-    let lx : i < count (direct_parts a) = omega (arith, test, inv.left_count) in
-    let ly : i < count (direct_parts b) = omega (arith, test, inv.right_count) in
+    let within : c.loop-i.i ≤ count (direct_parts a) = omega (arith, test, inv.left_count) in
     let X = c.term_part_of-x.result in
-    let Y = c.term_part_of-y.result in
-    let x = part_tree q.meaning X in
-    let y = part_tree q.meaning Y in
     let kx = c.term_part_of-x.ensures.sure in
-    let ky = c.term_part_of-y.ensures.sure in
-    let ex : x ≡ nth i (direct_parts a) = c.term_part_of-x.ensures.means ∙ ap (λ z. nth i (direct_parts z)) same_a in
-    let ey : y ≡ nth i (direct_parts b) = c.term_part_of-y.ensures.means ∙ ap (λ z. nth i (direct_parts z)) same_b in
-    let w = xform q.ambient c.term_variance_at-variance.result in
-    let ew : w ≡ part_at (items_in r) (head_of a) i r.ambient =
-    c.term_variance_at-variance.ensures ∙ ap (λ z. part_at (items_in q) (head_of z) i q.ambient) same_a ∙
-    ap (λ z. part_at z (head_of a) i q.ambient) (same_items (inv.fronted).passes) ∙
-    ap (λ z. part_at (items_in r) (head_of a) i z) ((inv.fronted).passes).ambient in
-    let p = g.R.HasState.state c.relate_parts_with_variance-related.new.r in
-    let related = c.relate_parts_with_variance-related in
-    let later = (((related.ensures).related).passes).extends in
-    let n = c.in_ok-answer in
-    let z = kept_part c.named_place_of-place.result related.result n.answer n.ensures in
-    let gone = subst (λ v. Related M q p v x y (part_tree p.meaning) (Ok n.answer)) ew
-    (subst (λ u. Related M q p w x y (part_tree p.meaning) u) z (related.ensures).related) in
-    let next = fronted_next (head_of a) r.ambient i (direct_parts a) (direct_parts b) x y inv.fronted lx ly ex ey
-    (part_tree p.meaning) n.answer inv.are_parts gone in
-    let failed = as_err c.from_residual-in_err-keep_term_answer.result Memory c.from_residual-in_err-keep_term_answer.ensures.0
-    c.from_residual-in_err-keep_term_answer.ensures.1 in
     record {
-      related = subst (λ z. RelatedForms M r p r.ambient a b (part_tree p.meaning) z) (sym failed)
-          (terms_stopped M r.ambient a b (suc i) form (part_tree p.meaning) next);
-      sort = subst (λ u. IfOk u (λ z. part_sort z ≡ part_sort c.args.a.now)) (sym failed) tt;
-      predicate = subst (λ u. IfOk u (λ z. form_of_part z ≡ form_of_part c.args.a.now)) (sym failed) tt;
+      term_known = subst (λ z. IsTrue (known z)) (sym then) k.left_known;
+      form = subst IsByParts (sym then) c.requires.form;
+      in_bounds = subst (λ z. c.loop-i.i ≤ count (direct_parts z)) (sym then) within;
+      part_known = subst (λ z. IsTrue (known z)) (sym (stays_part later X kx)) kx;
+      answer_known = answer_known g.R.TypeRelation.manner q p (xform q.ambient c.term_variance_at-variance.result) (part_tree q.meaning X)
+          (part_tree q.meaning c.term_part_of-y.result) (part_tree p.meaning) related.result (related.ensures).related;
+      sort = (related.ensures).sort;
     }
 
 pub relate_in_order-returns-then-is_empty : goal.relate_in_order-returns-then-is_empty
