@@ -161,7 +161,7 @@ pub(crate) fn keep_answer<I: Interner, R: TypeRelation<I>>(
     Ok(())
 }
 
-// The same of two constants, whose left parts at that place is `x`.
+// The same of two constants, whose left part there is `x`.
 #[inline(always)]
 pub(crate) fn keep_const_answer<I: Interner, R: TypeRelation<I>>(
     r: &R,
