@@ -7,6 +7,7 @@ ghost use Rattle.relation_semantics.specs.Parts.{direct_parts, const_parts_of, I
 ghost use Rattle.relation_semantics.specs.Making.{FitArgs};
 ghost use Rattle.part_variances.specs.Handing.{IsResultOfTy, IsResultOfConst, IsResultOfPart};
 ghost use Rattle.relation_recursion.specs.Keeping.{AreFirstParts, KeepsAnswer, KeepsResult};
+ghost use Rattle.relation_recursion.specs.Keeping.{HasPartsTo, HasConstPartsTo, HasTermPartsTo};
 
 use crate::parts::{const_part, part};
 use part_variances::handing::{in_const, in_part, in_ty};
@@ -148,9 +149,7 @@ pub(crate) fn keep_answer<I: Interner, R: TypeRelation<I>>(
     related: RelateResult<I, GenericArg<I>>,
     answers: &mut Vec<GenericArg<I>>,
 ) -> RelateResult<I, ()>
-    requires ty_known { IsTrue (known ((R.state r.now).meaning.ty ty.now)) }
-    requires over_args { IsByParts ((R.state r.now).meaning.ty ty.now) → ⊥ }
-    requires in_bounds { i ≤ count (direct_parts ((R.state r.now).meaning.ty ty.now)) }
+    requires { HasPartsTo (R.state r.now).meaning ty.now i }
     ensures { let m = (R.state r.now).meaning in
         KeepsResult (IsResultOfTy (m.ty ty.now) x.now y.now related) (λ k. KeepsAnswer (arg_tree m) FitArgs i
             (direct_parts (m.ty ty.now)) k answers.old.items answers.new.items) result }
@@ -172,8 +171,7 @@ pub(crate) fn keep_const_answer<I: Interner, R: TypeRelation<I>>(
     related: RelateResult<I, GenericArg<I>>,
     answers: &mut Vec<GenericArg<I>>,
 ) -> RelateResult<I, ()>
-    requires a_known { IsTrue (known ((R.state r.now).meaning.const_ a.now)) }
-    requires in_bounds { i ≤ count (const_parts_of ((R.state r.now).meaning.const_ a.now)) }
+    requires { HasConstPartsTo (R.state r.now).meaning a.now i }
     ensures { let m = (R.state r.now).meaning in
         KeepsResult (IsResultOfConst (m.const_ a.now) a.now b.now related) (λ k. KeepsAnswer (arg_tree m) FitArgs i
             (const_parts_of (m.const_ a.now)) k answers.old.items answers.new.items) result }
@@ -195,12 +193,7 @@ pub(crate) fn keep_term_answer<I: Interner, R: TypeRelation<I>>(
     related: RelateResult<I, PartOf<I>>,
     answers: &mut Vec<PartOf<I>>,
 ) -> RelateResult<I, ()>
-    requires term_known { IsTrue (known (part_tree (R.state r.now).meaning term.now)) }
-    requires form { IsByParts (part_tree (R.state r.now).meaning term.now) }
-    requires in_bounds { i ≤ count (direct_parts (part_tree (R.state r.now).meaning term.now)) }
-    requires part_known { IsTrue (known (part_tree (R.state r.now).meaning x.now)) }
-    requires answer_known { IfOk related (λ k. IsTrue (known (part_tree (R.state r.now).meaning k))) }
-    requires sort { IfOk related (λ k. part_sort k ≡ part_sort x.now) }
+    requires { HasTermPartsTo (R.state r.now).meaning term.now i x.now related }
     ensures { let m = (R.state r.now).meaning in
         KeepsResult (IsResultOfPart place related) (λ k. KeepsAnswer (part_tree m) Fit i
             (direct_parts (part_tree m term.now)) k answers.old.items answers.new.items) result }

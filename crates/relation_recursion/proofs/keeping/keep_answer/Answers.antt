@@ -10,15 +10,15 @@ use Rattle.relation_recursion.specs.Keeping.{KeepsAnswer, answer_kept, error_han
 use Rattle.relation_recursion.proofs.keeping.keep_answer.Goals as goal
 
 pub in_ty-requires : goal.in_ty-requires
-in_ty-requires g c = subst (λ m. IsTrue (known (m.ty c.args.ty.now))) (sym c.cx-cx.ensures) c.requires.ty_known
+in_ty-requires g c = subst (λ m. IsTrue (known (m.ty c.args.ty.now))) (sym c.cx-cx.ensures) c.requires.sure
 
 pub add_answer-requires : goal.add_answer-requires
 add_answer-requires g c =
     let e = sym c.cx-cx.ensures in
     record {
-      ty_known = subst (λ m. IsTrue (known (m.ty c.args.ty.now))) e c.requires.ty_known;
+      ty_known = subst (λ m. IsTrue (known (m.ty c.args.ty.now))) e c.requires.sure;
       over_args = subst (λ m. IsByParts (m.ty c.args.ty.now) → ⊥) e c.requires.over_args;
-      in_bounds = subst (λ m. c.args.i ≤ count (direct_parts (m.ty c.args.ty.now))) e c.requires.in_bounds;
+      in_bounds = subst (λ m. c.args.i ≤ count (direct_parts (m.ty c.args.ty.now))) e c.requires.within;
     }
 
 pub returns-in_err-answer : goal.returns-in_err-answer

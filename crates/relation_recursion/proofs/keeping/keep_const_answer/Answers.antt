@@ -10,14 +10,14 @@ use Rattle.relation_recursion.specs.Keeping.{KeepsAnswer, answer_kept, error_han
 use Rattle.relation_recursion.proofs.keeping.keep_const_answer.Goals as goal
 
 pub in_const-requires : goal.in_const-requires
-in_const-requires g c = subst (λ m. IsTrue (known (m.const_ c.args.a.now))) (sym c.cx-cx.ensures) c.requires.a_known
+in_const-requires g c = subst (λ m. IsTrue (known (m.const_ c.args.a.now))) (sym c.cx-cx.ensures) c.requires.sure
 
 pub add_const_answer-requires : goal.add_const_answer-requires
 add_const_answer-requires g c =
     let e = sym c.cx-cx.ensures in
     record {
-      constant_known = subst (λ m. IsTrue (known (m.const_ c.args.a.now))) e c.requires.a_known;
-      in_bounds = subst (λ m. c.args.i ≤ count (const_parts_of (m.const_ c.args.a.now))) e c.requires.in_bounds;
+      constant_known = subst (λ m. IsTrue (known (m.const_ c.args.a.now))) e c.requires.sure;
+      in_bounds = subst (λ m. c.args.i ≤ count (const_parts_of (m.const_ c.args.a.now))) e c.requires.within;
     }
 
 pub returns-in_err-answer : goal.returns-in_err-answer

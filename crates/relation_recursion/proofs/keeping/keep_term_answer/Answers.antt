@@ -16,9 +16,9 @@ add_term_answer-requires g c =
     let u = c.args in
     let z = kept_part u.place u.related n.answer n.ensures in
     record {
-      term_known = subst (λ m. IsTrue (known (part_tree m u.term.now))) e c.requires.term_known;
+      term_known = subst (λ m. IsTrue (known (part_tree m u.term.now))) e c.requires.sure;
       form = subst (λ m. IsByParts (part_tree m u.term.now)) e c.requires.form;
-      in_bounds = subst (λ m. u.i ≤ count (direct_parts (part_tree m u.term.now))) e c.requires.in_bounds;
+      in_bounds = subst (λ m. u.i ≤ count (direct_parts (part_tree m u.term.now))) e c.requires.within;
       part_known = subst (λ m. IsTrue (known (part_tree m u.x.now))) e c.requires.part_known;
       answer_known = subst (λ m. IsTrue (known (part_tree m n.answer))) e
           (subst (λ w. IfOk w (λ k. IsTrue (known (part_tree q.meaning k)))) z c.requires.answer_known);

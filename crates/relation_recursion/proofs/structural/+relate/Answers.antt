@@ -1098,8 +1098,8 @@ structurally_relate_consts-keep_const_answer-requires g t c =
     let test = c.loop-i-test.true in
     let within : c.loop-i.i ≤ count (const_parts_of a) = omega (arith, test, inv.left_count) in
     record {
-      a_known = subst (λ z. IsTrue (known z)) (sym then) k.left_known;
-      in_bounds = subst (λ z. c.loop-i.i ≤ count (const_parts_of z)) (sym then) within;
+      sure = subst (λ z. IsTrue (known z)) (sym then) k.left_known;
+      within = subst (λ z. c.loop-i.i ≤ count (const_parts_of z)) (sym then) within;
     }
 
 pub structurally_relate_consts-returns-then-is_empty : goal.structurally_relate_consts-returns-then-is_empty
@@ -1442,9 +1442,9 @@ structurally_relate_tys-keep_answer-requires g t c =
     let test = c.loop-i-test.true in
     let within : c.loop-i.i ≤ count (direct_parts a) = omega (arith, test, inv.left_count) in
     record {
-      ty_known = subst (λ z. IsTrue (known z)) (sym then) k.left_known;
+      sure = subst (λ z. IsTrue (known z)) (sym then) k.left_known;
       over_args = λ o. absurd (false≢true (sym c.if-is_by_parts_of.false ∙ (c.is_by_parts_of.ensures).1 (subst IsByParts then o)));
-      in_bounds = subst (λ z. c.loop-i.i ≤ count (direct_parts z)) (sym then) within;
+      within = subst (λ z. c.loop-i.i ≤ count (direct_parts z)) (sym then) within;
     }
 
 pub structurally_relate_tys-note_args-requires-clause-one_form : goal.structurally_relate_tys-note_args-requires-clause-one_form
@@ -2269,9 +2269,9 @@ relate_in_order-keep_term_answer-requires g t c =
     let X = c.term_part_of-x.result in
     let kx = c.term_part_of-x.ensures.sure in
     record {
-      term_known = subst (λ z. IsTrue (known z)) (sym then) k.left_known;
+      sure = subst (λ z. IsTrue (known z)) (sym then) k.left_known;
       form = subst IsByParts (sym then) c.requires.form;
-      in_bounds = subst (λ z. c.loop-i.i ≤ count (direct_parts z)) (sym then) within;
+      within = subst (λ z. c.loop-i.i ≤ count (direct_parts z)) (sym then) within;
       part_known = subst (λ z. IsTrue (known z)) (sym (stays_part later X kx)) kx;
       answer_known = answer_known g.R.TypeRelation.manner q p (xform q.ambient c.term_variance_at-variance.result) (part_tree q.meaning X)
           (part_tree q.meaning c.term_part_of-y.result) (part_tree p.meaning) related.result (related.ensures).related;
