@@ -110,6 +110,12 @@ kept_fit_parts f i ts y old new l k was (one_more o is) m =
 kept_fit_parts f i ts y old new l k was (first_kept xs a is) m =
     subst (λ z. Fit z (firsts (suc i) ts)) (sym is) (part_pushed xs y ts i l a.fit k)
 
+-- What was kept of the answers for the first parts of a form, if anything: it may be answered, and fits them.
+pub record AreKept {Key Id Name K : Type 0} (M : Manners) (q : State Key Id Name) (h : Head) (v : Variance) (i : ℕ)
+    (ts : Tree) (tree : K → Tree) (fit : List K → Tree → Type 0) (xs : List K) : Type 0 where
+  pub answers : 0 < length xs → AreAnswers M q h v i ts (list_tree tree xs)
+  pub fits : 0 < length xs → fit xs (firsts i ts)
+
 module _ {Key Id Name : Type 0} (M : Manners) where
   -- Parts answer for themselves.
   answers_first : (q : State Key Id Name) (h : Head) (v : Variance) (i : ℕ) (ts : Tree) → i ≤ count ts →

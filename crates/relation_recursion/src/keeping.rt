@@ -1,5 +1,5 @@
 //! What is kept of the answers for the parts of a term: none, while each is its part.
-ghost use Rattle.std.specs.Prelude.{◌≡◌, ◌≤◌, IsTrue, IfOk};
+ghost use Rattle.std.specs.Prelude.{◌≡◌, ◌≤◌, IsTrue, IfOk, []};
 ghost use Rattle.relation_terms.specs.Trees.{known, count};
 ghost use Rattle.relation_terms.specs.Meaning.{arg_tree};
 ghost use Rattle.relation_terms.specs.Parts.{part_tree, part_sort, Fit};
@@ -16,6 +16,13 @@ use relation_folds::fold::first_members;
 use relation_steps::type_relation::TypeRelation;
 use relation_terms::terms::parts::{is_same, parts_of};
 use relation_terms::terms::{Const, GenericArg, Interner, OutOfMemory, PartOf, Ty};
+
+// No answers yet.
+pub(crate) fn no_answers<I: Interner, R: TypeRelation<I>, T: Copy>(r: &R) -> Vec<T>
+    ensures { result.items ≡ [] }
+{
+    Vec::new(r.cx().alloc())
+}
 
 // The first parts of a type, so many.
 #[inline(never)]

@@ -16,7 +16,7 @@ ghost use Rattle.relation_recursion.specs.PredicateForms.{predicate_form, form_o
 ghost use Rattle.relation_steps.specs.Terms.{AskedTerms, AskedAt, RelatedTerms, RelatedAt, RelatedTermForms};
 ghost use Rattle.relation_steps.specs.Terms.{TermsRegister};
 
-use crate::keeping::{keep_answer, keep_const_answer, keep_term_answer};
+use crate::keeping::{keep_answer, keep_const_answer, keep_term_answer, no_answers};
 use crate::making::{make_const, make_part, make_ty};
 use crate::opening::{is_same_of, open_bodies};
 use crate::parts::{PartKind, kind_of_part, the_object};
@@ -213,7 +213,7 @@ pub fn structurally_relate_tys<I: Interner, R: TypeRelation<I>>(
         return Ok(the_ty(&relate_in_order(r, &Part::Ty(*a), &Part::Ty(*b))?));
     }
     let n = parts_count_of::<I, R>(r, a);
-    let mut answers = Vec::new(r.cx().alloc());
+    let mut answers = no_answers::<I, R, GenericArg<I>>(r);
     for i in 0..n {
         let x = part_of::<I, R>(r, a, i);
         let y = part_of::<I, R>(r, b, i);
@@ -256,7 +256,7 @@ pub fn structurally_relate_consts<I: Interner, R: TypeRelation<I>>(
     }
     compare_consts_of::<I, R>(r, a, b)?;
     let n = const_parts_count_of::<I, R>(r, a);
-    let mut answers = Vec::new(r.cx().alloc());
+    let mut answers = no_answers::<I, R, GenericArg<I>>(r);
     for i in 0..n {
         let x = const_part_of::<I, R>(r, a, i);
         let y = const_part_of::<I, R>(r, b, i);
@@ -365,7 +365,7 @@ fn relate_in_order<I: Interner, R: TypeRelation<I>>(
     ensures predicate { IfOk result (λ p. form_of_part p ≡ form_of_part a.now) }
 {
     let n = term_parts_count_of::<I, R>(r, a);
-    let mut answers = Vec::new(r.cx().alloc());
+    let mut answers = no_answers::<I, R, PartOf<I>>(r);
     for i in 0..n {
         compare_members_of::<I, R>(r, a, b, i)?;
         let x = term_part_of::<I, R>(r, a, i);

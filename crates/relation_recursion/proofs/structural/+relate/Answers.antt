@@ -917,8 +917,10 @@ structurally_relate_consts-loop-i-init g t c =
         left_in = term_context r.store (const_parts_of a) (in_const_parts r.store a k.left_in);
         right_in = term_context r.store (const_parts_of b) (in_const_parts r.store b k.right_in);
       };
-      answers = λ some. absurd (none_kept_yet c.new-answers.ensures.items some);
-      fits = λ some. absurd (none_kept_yet c.new-answers.ensures.items some);
+      kept = record {
+        answers = λ some. absurd (none_kept_yet c.no_answers-answers.ensures some);
+        fits = λ some. absurd (none_kept_yet c.no_answers-answers.ensures some);
+      };
     }
 
 pub structurally_relate_consts-relate_with_variance-related-requires : goal.structurally_relate_consts-relate_with_variance-related-requires
@@ -1076,15 +1078,17 @@ structurally_relate_consts-loop-i-preserved g t c =
       left_count = inv.left_count;
       right_count = inv.right_count;
       are_parts = inv.are_parts;
-      answers = λ some. subst (λ j. AreAnswers M p (const_head_of a) r.ambient j (const_parts_of a)
-          (list_tree (arg_tree p.meaning) c.keep_const_answer.new.answers.items)) next
-          (kept_answers M (arg_tree q.meaning) (arg_tree p.meaning) FitArgs (const_head_of a) r.ambient i (const_parts_of a) x n.0 was
-          c.keep_const_answer.new.answers.items (stays_arg later) gone.passes lx ex
-          (subst (λ z. MayAnswer M p (part_at z (const_head_of a) i r.ambient) x (arg_tree p.meaning n.0))
-          (sym (same_items (inv.fronted).passes)) (gone.verdict).answer) (gone.verdict).known inv.answers keeps some);
-      fits = λ some. subst (λ j. FitArgs c.keep_const_answer.new.answers.items (firsts j (const_parts_of a))) next
-          (kept_fit (arg_tree p.meaning) i (const_parts_of a) n.0 was c.keep_const_answer.new.answers.items lx
-          (fits_place q.meaning sorted X n.0 (const_parts_of a) i kx ex kind) inv.fits keeps some);
+      kept = record {
+        answers = λ some. subst (λ j. AreAnswers M p (const_head_of a) r.ambient j (const_parts_of a)
+            (list_tree (arg_tree p.meaning) c.keep_const_answer.new.answers.items)) next
+            (kept_answers M (arg_tree q.meaning) (arg_tree p.meaning) FitArgs (const_head_of a) r.ambient i (const_parts_of a) x n.0 was
+            c.keep_const_answer.new.answers.items (stays_arg later) gone.passes lx ex
+            (subst (λ z. MayAnswer M p (part_at z (const_head_of a) i r.ambient) x (arg_tree p.meaning n.0))
+            (sym (same_items (inv.fronted).passes)) (gone.verdict).answer) (gone.verdict).known (inv.kept).answers keeps some);
+        fits = λ some. subst (λ j. FitArgs c.keep_const_answer.new.answers.items (firsts j (const_parts_of a))) next
+            (kept_fit (arg_tree p.meaning) i (const_parts_of a) n.0 was c.keep_const_answer.new.answers.items lx
+            (fits_place q.meaning sorted X n.0 (const_parts_of a) i kx ex kind) (inv.kept).fits keeps some);
+      };
     }
 
 pub structurally_relate_consts-keep_const_answer-requires : goal.structurally_relate_consts-keep_const_answer-requires
@@ -1153,7 +1157,7 @@ structurally_relate_consts-make_const-requires-clause-fits g t c =
     let items = c.loop-i.answers.items in
     let was = list_tree (arg_tree q.meaning) items in
     subst₂ (λ xs t. FitArgs xs (const_parts_of t)) (sym c.as_slice.ensures.value) (sym same_a)
-    (fit_end items (const_parts_of a) i (inv.are_parts).left_list left (inv.fits some))
+    (fit_end items (const_parts_of a) i (inv.are_parts).left_list left ((inv.kept).fits some))
 
 pub structurally_relate_consts-returns : goal.structurally_relate_consts-returns
 structurally_relate_consts-returns g t c =
@@ -1184,7 +1188,7 @@ structurally_relate_consts-returns g t c =
     form_made M r.ambient a b (made.made).extends made.grown (p.meaning).const_ (q.meaning).const_ c.args.a.now done
     c.make_const.result made.fault (const_over a was) _
     (may_const_over M q r.ambient a was
-    (answers_end M q (const_head_of a) r.ambient i (const_parts_of a) was (inv.are_parts).left_list left (inv.answers some)))
+    (answers_end M q (const_head_of a) r.ambient i (const_parts_of a) was (inv.are_parts).left_list left ((inv.kept).answers some)))
     (ap₂ const_over same_a (ap (list_tree (arg_tree q.meaning)) c.as_slice.ensures.value)) (made.made).sure
     (made.made).means
 
@@ -1259,8 +1263,10 @@ structurally_relate_tys-loop-i-init g t c =
         left_in = term_context r.store (direct_parts a) (in_parts r.store a k.left_in);
         right_in = term_context r.store (direct_parts b) (in_parts r.store b k.right_in);
       };
-      answers = λ some. absurd (none_kept_yet c.new-answers.ensures.items some);
-      fits = λ some. absurd (none_kept_yet c.new-answers.ensures.items some);
+      kept = record {
+        answers = λ some. absurd (none_kept_yet c.no_answers-answers.ensures some);
+        fits = λ some. absurd (none_kept_yet c.no_answers-answers.ensures some);
+      };
     }
 
 pub structurally_relate_tys-relate_with_variance-related-requires : goal.structurally_relate_tys-relate_with_variance-related-requires
@@ -1420,15 +1426,17 @@ structurally_relate_tys-loop-i-preserved g t c =
       left_count = inv.left_count;
       right_count = inv.right_count;
       are_parts = inv.are_parts;
-      answers = λ some. subst (λ j. AreAnswers M p (head_of a) r.ambient j (direct_parts a)
-          (list_tree (arg_tree p.meaning) c.keep_answer.new.answers.items)) next
-          (kept_answers M (arg_tree q.meaning) (arg_tree p.meaning) FitArgs (head_of a) r.ambient i (direct_parts a) x n.0 was
-          c.keep_answer.new.answers.items (stays_arg later) gone.passes lx ex
-          (subst (λ z. MayAnswer M p (part_at z (head_of a) i r.ambient) x (arg_tree p.meaning n.0))
-          (sym (same_items (inv.fronted).passes)) (gone.verdict).answer) (gone.verdict).known inv.answers keeps some);
-      fits = λ some. subst (λ j. FitArgs c.keep_answer.new.answers.items (firsts j (direct_parts a))) next
-          (kept_fit (arg_tree p.meaning) i (direct_parts a) n.0 was c.keep_answer.new.answers.items lx
-          (fits_place q.meaning sorted X n.0 (direct_parts a) i kx ex kind) inv.fits keeps some);
+      kept = record {
+        answers = λ some. subst (λ j. AreAnswers M p (head_of a) r.ambient j (direct_parts a)
+            (list_tree (arg_tree p.meaning) c.keep_answer.new.answers.items)) next
+            (kept_answers M (arg_tree q.meaning) (arg_tree p.meaning) FitArgs (head_of a) r.ambient i (direct_parts a) x n.0 was
+            c.keep_answer.new.answers.items (stays_arg later) gone.passes lx ex
+            (subst (λ z. MayAnswer M p (part_at z (head_of a) i r.ambient) x (arg_tree p.meaning n.0))
+            (sym (same_items (inv.fronted).passes)) (gone.verdict).answer) (gone.verdict).known (inv.kept).answers keeps some);
+        fits = λ some. subst (λ j. FitArgs c.keep_answer.new.answers.items (firsts j (direct_parts a))) next
+            (kept_fit (arg_tree p.meaning) i (direct_parts a) n.0 was c.keep_answer.new.answers.items lx
+            (fits_place q.meaning sorted X n.0 (direct_parts a) i kx ex kind) (inv.kept).fits keeps some);
+      };
     }
 
 pub structurally_relate_tys-keep_answer-requires : goal.structurally_relate_tys-keep_answer-requires
@@ -1598,7 +1606,7 @@ structurally_relate_tys-make_ty-requires-clause-ty_known g t c =
     let items = c.loop-i.answers.items in
     let was = list_tree (arg_tree q.meaning) items in
     let listed : list_tree (arg_tree u.meaning) items ≡ was =
-    stays_list (arg_tree q.meaning) (arg_tree u.meaning) items (stays_arg e) (inv.answers some).sure in
+    stays_list (arg_tree q.meaning) (arg_tree u.meaning) items (stays_arg e) ((inv.kept).answers some).sure in
     subst (λ z. IsTrue (known z)) (sym stays) k.left_known
 
 pub structurally_relate_tys-make_ty-requires-clause-parts_known : goal.structurally_relate_tys-make_ty-requires-clause-parts_known
@@ -1635,9 +1643,9 @@ structurally_relate_tys-make_ty-requires-clause-parts_known g t c =
     let items = c.loop-i.answers.items in
     let was = list_tree (arg_tree q.meaning) items in
     let listed : list_tree (arg_tree u.meaning) items ≡ was =
-    stays_list (arg_tree q.meaning) (arg_tree u.meaning) items (stays_arg e) (inv.answers some).sure in
+    stays_list (arg_tree q.meaning) (arg_tree u.meaning) items (stays_arg e) ((inv.kept).answers some).sure in
     subst (λ z. IsTrue (known z)) (sym (ap (list_tree (arg_tree u.meaning)) c.as_slice.ensures.value ∙ listed))
-    (inv.answers some).sure
+    ((inv.kept).answers some).sure
 
 pub structurally_relate_tys-make_ty-requires-clause-fits : goal.structurally_relate_tys-make_ty-requires-clause-fits
 structurally_relate_tys-make_ty-requires-clause-fits g t c =
@@ -1673,9 +1681,9 @@ structurally_relate_tys-make_ty-requires-clause-fits g t c =
     let items = c.loop-i.answers.items in
     let was = list_tree (arg_tree q.meaning) items in
     let listed : list_tree (arg_tree u.meaning) items ≡ was =
-    stays_list (arg_tree q.meaning) (arg_tree u.meaning) items (stays_arg e) (inv.answers some).sure in
+    stays_list (arg_tree q.meaning) (arg_tree u.meaning) items (stays_arg e) ((inv.kept).answers some).sure in
     subst₂ (λ xs t. FitArgs xs (direct_parts t)) (sym c.as_slice.ensures.value) (sym stays)
-    (fit_end items (direct_parts a) i (inv.are_parts).left_list left (inv.fits some))
+    (fit_end items (direct_parts a) i (inv.are_parts).left_list left ((inv.kept).fits some))
 
 pub structurally_relate_tys-returns : goal.structurally_relate_tys-returns
 structurally_relate_tys-returns g t c =
@@ -1711,11 +1719,11 @@ structurally_relate_tys-returns g t c =
     let items = c.loop-i.answers.items in
     let was = list_tree (arg_tree q.meaning) items in
     let listed : list_tree (arg_tree u.meaning) items ≡ was =
-    stays_list (arg_tree q.meaning) (arg_tree u.meaning) items (stays_arg e) (inv.answers some).sure in
+    stays_list (arg_tree q.meaning) (arg_tree u.meaning) items (stays_arg e) ((inv.kept).answers some).sure in
     let p = g.R.HasState.state c.make_ty.new.r in
     let made = c.make_ty.ensures in
     let may = may_over M q r.ambient a was c.requires.a_formed
-    (answers_end M q (head_of a) r.ambient i (direct_parts a) was (inv.are_parts).left_list left (inv.answers some)) in
+    (answers_end M q (head_of a) r.ambient i (direct_parts a) was (inv.are_parts).left_list left ((inv.kept).answers some)) in
     form_made M r.ambient a b (made.made).extends made.grown (p.meaning).ty (u.meaning).ty c.args.a.now noted
     c.make_ty.result made.fault (form_over a was) _
     (may_later M r.ambient a (form_over a was) (n.ensures).passes may)
@@ -1748,8 +1756,10 @@ relate_in_order-loop-i-init g t c =
         left_in = term_context r.store (direct_parts a) (in_parts r.store a k.left_in);
         right_in = term_context r.store (direct_parts b) (in_parts r.store b k.right_in);
       };
-      answers = λ some. absurd (none_kept_yet c.new-answers.ensures.items some);
-      fits = λ some. absurd (none_kept_yet c.new-answers.ensures.items some);
+      kept = record {
+        answers = λ some. absurd (none_kept_yet c.no_answers-answers.ensures some);
+        fits = λ some. absurd (none_kept_yet c.no_answers-answers.ensures some);
+      };
       inputs = no_inputs_yet a b;
     }
 
@@ -2240,15 +2250,17 @@ relate_in_order-loop-i-preserved g t c =
       left_count = inv.left_count;
       right_count = inv.right_count;
       are_parts = inv.are_parts;
-      answers = λ some. subst (λ j. AreAnswers M p (head_of a) r.ambient j (direct_parts a)
-          (list_tree (part_tree p.meaning) c.keep_term_answer.new.answers.items)) more
-          (kept_answers M (part_tree q.meaning) (part_tree p.meaning) Fit (head_of a) r.ambient i (direct_parts a) x n.0 was
-          c.keep_term_answer.new.answers.items (stays_part later) gone.passes lx ex
-          (subst (λ z. MayAnswer M p (part_at z (head_of a) i r.ambient) x (part_tree p.meaning n.0))
-          (sym (same_items (inv.fronted).passes)) (gone.verdict).answer) (gone.verdict).known inv.answers keeps some);
-      fits = λ some. subst (λ j. Fit c.keep_term_answer.new.answers.items (firsts j (direct_parts a))) more
-          (kept_fit_parts (part_tree p.meaning) i (direct_parts a) n.0 was c.keep_term_answer.new.answers.items lx
-          (sort ∙ sym (sort_known q.meaning sorted X kx) ∙ ap tree_sort ex) inv.fits keeps some);
+      kept = record {
+        answers = λ some. subst (λ j. AreAnswers M p (head_of a) r.ambient j (direct_parts a)
+            (list_tree (part_tree p.meaning) c.keep_term_answer.new.answers.items)) more
+            (kept_answers M (part_tree q.meaning) (part_tree p.meaning) Fit (head_of a) r.ambient i (direct_parts a) x n.0 was
+            c.keep_term_answer.new.answers.items (stays_part later) gone.passes lx ex
+            (subst (λ z. MayAnswer M p (part_at z (head_of a) i r.ambient) x (part_tree p.meaning n.0))
+            (sym (same_items (inv.fronted).passes)) (gone.verdict).answer) (gone.verdict).known (inv.kept).answers keeps some);
+        fits = λ some. subst (λ j. Fit c.keep_term_answer.new.answers.items (firsts j (direct_parts a))) more
+            (kept_fit_parts (part_tree p.meaning) i (direct_parts a) n.0 was c.keep_term_answer.new.answers.items lx
+            (sort ∙ sym (sort_known q.meaning sorted X kx) ∙ ap tree_sort ex) (inv.kept).fits keeps some);
+      };
       inputs = subst (HaveAsManyInputs a b) more (inputs_next a b i (λ e. subst₂ AreOfOneForm ex ey
           (one (inputs_compared X (sym (sort_known q.meaning sorted X kx) ∙ ap tree_sort ex ∙ e)))) inv.inputs);
     }
@@ -2356,7 +2368,7 @@ relate_in_order-make_part-requires-clause-parts_known g t c =
     let same_a : part_tree q.meaning c.args.a.now ≡ a = stays_part extends c.args.a.now k.left_known in
     let same_b : part_tree q.meaning c.args.b.now ≡ b = stays_part extends c.args.b.now k.right_known in
     subst (λ z. IsTrue (known z)) (sym (ap (list_tree (part_tree q.meaning)) c.as_slice.ensures.value))
-    (inv.answers some).sure
+    ((inv.kept).answers some).sure
 
 pub relate_in_order-make_part-requires-clause-fits : goal.relate_in_order-make_part-requires-clause-fits
 relate_in_order-make_part-requires-clause-fits g t c =
@@ -2381,7 +2393,7 @@ relate_in_order-make_part-requires-clause-fits g t c =
     let items = c.loop-i.answers.items in
     let was = list_tree (part_tree q.meaning) items in
     subst₂ (λ xs z. Fit xs (direct_parts z)) (sym c.as_slice.ensures.value) (sym same_a)
-    (parts_end items (direct_parts a) i (inv.are_parts).left_list left (inv.fits some))
+    (parts_end items (direct_parts a) i (inv.are_parts).left_list left ((inv.kept).fits some))
 
 pub relate_in_order-returns : goal.relate_in_order-returns
 relate_in_order-returns g t c =
@@ -2414,7 +2426,7 @@ relate_in_order-returns g t c =
       related = form_made M r.ambient a b (made.made).extends made.grown (part_tree p.meaning) (part_tree q.meaning)
           c.args.a.now done c.make_part.result made.fault (form_over a was) _
           (may_over_term M q r.ambient a was form
-          (answers_end M q (head_of a) r.ambient i (direct_parts a) was (inv.are_parts).left_list left (inv.answers some)))
+          (answers_end M q (head_of a) r.ambient i (direct_parts a) was (inv.are_parts).left_list left ((inv.kept).answers some)))
           (ap₂ form_over same_a (ap (list_tree (part_tree q.meaning)) c.as_slice.ensures.value)) (made.made).sure
           (made.made).means;
       sort = made.sort;
