@@ -7,6 +7,7 @@ pub mod Compared
 pub mod ComparingParts
 pub mod InOrder
 pub mod Items
+pub mod Kept
 pub mod Looping
 pub mod MadeAnew
 pub mod Outlines

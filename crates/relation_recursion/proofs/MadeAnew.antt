@@ -1,11 +1,11 @@
 -- Terms made anew, of one's form over other parts.
-use Rattle.std.proofs.Common.{◌≡◌, ℕ, zero, suc, ◌<◌, refl, sym, ap, ap₂, ◌∙◌, subst, subst₂, arith, IsTrue, true, ◌&&◌}
-use Rattle.std.proofs.Common.{List, [], ◌∷◌, ◌++◌, ◌+◌, length, get_or}
+use Rattle.std.proofs.Common.{◌≡◌, ℕ, suc, ◌<◌, refl, sym, ap, ◌∙◌, subst, subst₂, IsTrue, true, ◌&&◌}
+use Rattle.std.proofs.Common.{List, [], ◌∷◌, ◌++◌, ◌+◌}
 use Rattle.std.proofs.lemmas.Bool.{and_parts, and_from}
 use Rattle.relation_terms.specs.declared.terms.generic_arg.GenericArgKind.{GenericArgKind}
 use Rattle.relation_terms.specs.declared.terms.generic_arg.GenericArgKind.TheVariants.{Lifetime, Ty, Const}
 use Rattle.relation_terms.specs.Heads.{value, value_type}
-use Rattle.relation_terms.specs.Trees.{Tree, leaf, node, bind, nil, cons, known, list_tree, count, nth, IsList, IsTerm}
+use Rattle.relation_terms.specs.Trees.{Tree, leaf, node, bind, nil, cons, known, count, nth, IsList, IsTerm}
 use Rattle.relation_terms.specs.Meaning.{Meaning, arg_tree}
 use Rattle.relation_terms.specs.Interning.{Sorted}
 use Rattle.relation_semantics.specs.Making.{arg_sort, FitArgs}
@@ -46,32 +46,6 @@ pub fits_place : {Key Id Name : Type 0} (m : Meaning Key Id Name) → Sorted m �
     (i : ℕ) → IsTrue (known (arg_tree m x)) → arg_tree m x ≡ nth i ts → arg_sort z ≡ arg_sort x →
     IsTerm (arg_sort z) (nth i ts)
 fits_place m s x z ts i k e same = subst₂ (λ a t. IsTerm a t) (sym same) e (arg_is m s x k)
-
--- The first arguments of a list are the first parts of a form.
-module _ {Key : Type 0} (f : GenericArgKind Key → Tree) where
-  abbrev pub AreFirst : ℕ → List (GenericArgKind Key) → Tree → Type 0
-  AreFirst zero xs ts = Unit {0}
-  AreFirst (suc i) (x ∷ xs) (cons t ts) = (f x ≡ t) × AreFirst i xs ts
-  AreFirst i xs ts = ⊥
-
-  pub first_next : (i : ℕ) (xs : List (GenericArgKind Key)) (ts : Tree) (d : GenericArgKind Key) → i < length xs →
-      FitArgs xs ts → AreFirst i xs ts → f (get_or xs i d) ≡ nth i ts → AreFirst (suc i) xs ts
-  first_next zero (x ∷ xs) (cons t ts) d l k b e = (e, tt)
-  first_next (suc i) (x ∷ xs) (cons t ts) d l k b e = (b.0, first_next i xs ts d (omega arith) k.1 b.1 e)
-  first_next i [] ts d l k b e = absurd (omega arith)
-  first_next i (x ∷ xs) ts d l k b e = absurd k
-
-  pub all_first : (xs : List (GenericArgKind Key)) (ts : Tree) → FitArgs xs ts → AreFirst (length xs) xs ts →
-      list_tree f xs ≡ ts
-  all_first [] nil k b = refl
-  all_first (x ∷ xs) (cons t ts) k b = ap₂ cons b.0 (all_first xs ts k.1 b.1)
-  all_first xs ts k b = absurd k
-
--- There are as many fitting arguments as parts.
-pub fit_counts : {Key : Type 0} (xs : List (GenericArgKind Key)) (ts : Tree) → FitArgs xs ts → length xs ≡ count ts
-fit_counts [] nil f = refl
-fit_counts (x ∷ xs) (cons t ts) f = ap suc (fit_counts xs ts f.1)
-fit_counts xs ts f = absurd f
 
 -- A value of a type, taken apart and put together with other branches.
 abbrev pub value_of : Tree → Tree → Tree

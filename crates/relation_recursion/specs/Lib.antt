@@ -4,5 +4,6 @@ pub mod EqualForms
 pub mod EqualItems
 pub mod EqualTerms
 pub mod Forms
+pub mod Keeping
 pub mod Makers
 pub mod PredicateForms

@@ -5,6 +5,7 @@
 pub mod args;
 pub mod comparing;
 mod forms;
+mod keeping;
 mod making;
 mod opening;
 mod parts;

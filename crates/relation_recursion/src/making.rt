@@ -8,10 +8,9 @@ ghost use Rattle.relation_semantics.specs.Lawful.{WithMeaning, OnlyMemory};
 ghost use Rattle.relation_semantics.specs.Making.{FitArgs};
 ghost use Rattle.relation_steps.specs.Keyed.{MakesTyOver, MakesConstOver, MakesPartOver};
 
-use crate::parts::parts_in;
 use relation_folds::error::RelateResult;
 use relation_steps::type_relation::TypeRelation;
-use relation_terms::terms::parts::{member, of_arg, the_const, the_ty, the_valtree, with_parts};
+use relation_terms::terms::parts::{of_arg, the_const, the_ty, the_valtree, with_parts};
 use relation_terms::terms::{
     Const, ConstKind, GenericArg, GenericArgKind, Interner, OutOfMemory, Part, PartOf, Ty,
 };
@@ -31,46 +30,7 @@ fn as_parts<X: Copy, D: Copy>(
     Ok(list)
 }
 
-// Whether an argument is a part, by their keys.
-fn is_part<I: Interner>(_cx: &I, arg: &GenericArg<I>, part: &PartOf<I>) -> bool
-    requires arg_known { IsTrue (known (arg_tree (I.meaning _cx.now) arg.now)) }
-    requires part_known { IsTrue (known (part_tree (I.meaning _cx.now) part.now)) }
-    ensures { IsTrue result → arg_tree (I.meaning _cx.now) arg.now ≡ part_tree (I.meaning _cx.now) part.now }
-{
-    match arg {
-        GenericArgKind::Lifetime(region) => match part {
-            Part::Region(other) => region == other,
-            _ => false,
-        },
-        GenericArgKind::Ty(ty) => match part {
-            Part::Ty(other) => ty == other,
-            _ => false,
-        },
-        GenericArgKind::Const(constant) => match part {
-            Part::Const(other) => constant == other,
-            _ => false,
-        },
-    }
-}
-
-// Whether arguments, as many as a type has parts, are those parts.
-fn are_its_parts<I: Interner>(cx: &I, ty: &Ty<I>, args: &[GenericArg<I>]) -> bool
-    requires ty_known { IsTrue (known ((I.meaning cx.now).ty ty.now)) }
-    requires args_known { IsTrue (known (list_tree (arg_tree (I.meaning cx.now)) args.now)) }
-    requires fits { FitArgs args.now (direct_parts ((I.meaning cx.now).ty ty.now)) }
-    ensures { let m = I.meaning cx.now in
-        IsTrue result → list_tree (arg_tree m) args.now ≡ direct_parts (m.ty ty.now) }
-{
-    let parts = parts_in(cx, ty, &cx.ty_kind(ty));
-    for i in 0..args.len() {
-        if !is_part(cx, &args[i], &member(cx, &parts, i)) {
-            return false;
-        }
-    }
-    true
-}
-
-// The type of that one's form over these parts, which are of the kinds of its own. Over its own parts it is itself.
+// The type of that one's form over these parts, which are of the kinds of its own.
 fn ty_with_parts<I: Interner>(
     cx: &mut I,
     ty: &Ty<I>,
@@ -81,9 +41,6 @@ fn ty_with_parts<I: Interner>(
     requires fits { FitArgs args.now (direct_parts ((I.meaning cx.old).ty ty.now)) }
     ensures { MakesTyOver (I.meaning cx.old) (I.meaning cx.new) ty.now args.now result }
 {
-    if are_its_parts(cx, ty, args) {
-        return Ok(*ty);
-    }
     let parts = as_parts(args, cx.alloc())?;
     let made = with_parts(cx, &Part::Ty(*ty), parts.as_slice())?;
     Ok(the_ty(&made))

@@ -11,7 +11,7 @@ ghost use Rattle.relation_semantics.specs.Parts.{IsFormedConst, IsByParts, IsCom
 ghost use Rattle.relation_steps.specs.Keyed.{ShownTys, NotedTys, AreOver};
 ghost use Rattle.relation_steps.specs.Terms.{AskedTerms};
 ghost use Rattle.relation_recursion.specs.Comparing.{AreOfOneFormBy, PartsDiffer, nth_part, nth_const_part};
-ghost use Rattle.part_variances.specs.Handing.{IsResultOfTy, IsResultOfConst, named_place};
+ghost use Rattle.part_variances.specs.Handing.{named_place};
 
 use crate::comparing::{compare_consts, compare_members, compare_parts, compare_tys};
 use crate::forms::{is_error, is_error_const};
@@ -171,33 +171,6 @@ pub(crate) fn term_part_of<I: Interner, R: TypeRelation<I>>(
     ensures means { let m = (R.state r.now).meaning in part_tree m result ≡ nth_part m i term.now }
 {
     term_part(r.cx(), term, i)
-}
-
-// What two types answer where two of their parts have answered that.
-pub(crate) fn in_ty_of<I: Interner, R: TypeRelation<I>>(
-    r: &R,
-    ty: &Ty<I>,
-    x: &GenericArg<I>,
-    y: &GenericArg<I>,
-    related: RelateResult<I, GenericArg<I>>,
-) -> RelateResult<I, GenericArg<I>>
-    requires { IsTrue (known ((R.state r.now).meaning.ty ty.now)) }
-    ensures { IsResultOfTy ((R.state r.now).meaning.ty ty.now) x.now y.now related result }
-{
-    handing::in_ty(r.cx(), ty, x, y, related)
-}
-
-// What two constants answer where two of their parts have answered that.
-pub(crate) fn in_const_of<I: Interner, R: TypeRelation<I>>(
-    r: &R,
-    a: &Const<I>,
-    b: &Const<I>,
-    related: RelateResult<I, GenericArg<I>>,
-) -> RelateResult<I, GenericArg<I>>
-    requires { IsTrue (known ((R.state r.now).meaning.const_ a.now)) }
-    ensures { IsResultOfConst ((R.state r.now).meaning.const_ a.now) a.now b.now related result }
-{
-    handing::in_const(r.cx(), a, b, related)
 }
 
 // The place that an error of the parts of two terms at place `i` names.

@@ -16,15 +16,15 @@ ghost use Rattle.relation_recursion.specs.PredicateForms.{predicate_form, form_o
 ghost use Rattle.relation_steps.specs.Terms.{AskedTerms, AskedAt, RelatedTerms, RelatedAt, RelatedTermForms};
 ghost use Rattle.relation_steps.specs.Terms.{TermsRegister};
 
+use crate::keeping::{keep_answer, keep_const_answer, keep_term_answer, no_answers};
 use crate::making::{make_const, make_part, make_ty};
 use crate::opening::{is_same_of, open_bodies};
 use crate::parts::{PartKind, kind_of_part, the_object};
 use crate::reading::{
     compare_consts_of, compare_members_of, compare_parts_of, compare_tys_of, const_part_of,
-    const_parts_count_of, in_const_of, in_ty_of, is_by_parts_of, is_error_const_of, is_error_of,
+    const_parts_count_of, is_by_parts_of, is_error_const_of, is_error_of,
     named_place_of, note_args, part_of, parts_count_of, term_part_of, term_parts_count_of,
 };
-use part_variances::handing::in_part;
 use part_variances::variances::{const_variance_at, is_skipped, term_variance_at, variance_at};
 use relation_folds::error::{RelateFault, RelateResult, TypeError};
 use relation_semantics::relate::Step;
@@ -213,16 +213,18 @@ pub fn structurally_relate_tys<I: Interner, R: TypeRelation<I>>(
         return Ok(the_ty(&relate_in_order(r, &Part::Ty(*a), &Part::Ty(*b))?));
     }
     let n = parts_count_of::<I, R>(r, a);
-    let mut answers = Vec::new(r.cx().alloc());
+    let mut answers = no_answers::<I, R, GenericArg<I>>(r);
     for i in 0..n {
         let x = part_of::<I, R>(r, a, i);
         let y = part_of::<I, R>(r, b, i);
         let variance = variance_at::<I, R>(r, a, i);
         let related = relate_with_variance(r, variance, &x, &y);
-        let answer = in_ty_of::<I, R>(r, a, &x, &y, related)?;
-        answers.push(answer)?;
+        keep_answer(r, a, i, &x, &y, related, &mut answers)?;
     }
     note_args(r, a, b)?;
+    if answers.is_empty() {
+        return Ok(*a);
+    }
     make_ty(r, a, answers.as_slice())
 }
 
@@ -254,14 +256,16 @@ pub fn structurally_relate_consts<I: Interner, R: TypeRelation<I>>(
     }
     compare_consts_of::<I, R>(r, a, b)?;
     let n = const_parts_count_of::<I, R>(r, a);
-    let mut answers = Vec::new(r.cx().alloc());
+    let mut answers = no_answers::<I, R, GenericArg<I>>(r);
     for i in 0..n {
         let x = const_part_of::<I, R>(r, a, i);
         let y = const_part_of::<I, R>(r, b, i);
         let variance = const_variance_at::<I, R>(r, a);
         let related = relate_with_variance(r, variance, &x, &y);
-        let answer = in_const_of::<I, R>(r, a, b, related)?;
-        answers.push(answer)?;
+        keep_const_answer(r, a, b, i, &x, related, &mut answers)?;
+    }
+    if answers.is_empty() {
+        return Ok(*a);
     }
     make_const(r, a, answers.as_slice())
 }
@@ -361,7 +365,7 @@ fn relate_in_order<I: Interner, R: TypeRelation<I>>(
     ensures predicate { IfOk result (λ p. form_of_part p ≡ form_of_part a.now) }
 {
     let n = term_parts_count_of::<I, R>(r, a);
-    let mut answers = Vec::new(r.cx().alloc());
+    let mut answers = no_answers::<I, R, PartOf<I>>(r);
     for i in 0..n {
         compare_members_of::<I, R>(r, a, b, i)?;
         let x = term_part_of::<I, R>(r, a, i);
@@ -369,8 +373,10 @@ fn relate_in_order<I: Interner, R: TypeRelation<I>>(
         let variance = term_variance_at::<I, R>(r, a, i);
         let place = named_place_of::<I, R>(r, a, i);
         let related = relate_parts_with_variance(r, variance, &x, &y);
-        let answer = in_part::<I, PartOf<I>>(place, related)?;
-        answers.push(answer)?;
+        keep_term_answer(r, a, i, place, &x, related, &mut answers)?;
+    }
+    if answers.is_empty() {
+        return Ok(*a);
     }
     make_part(r, a, answers.as_slice())
 }

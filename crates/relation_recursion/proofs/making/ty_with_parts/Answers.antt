@@ -4,20 +4,8 @@ use Rattle.relation_terms.specs.Trees.{known, list_tree}
 use Rattle.relation_terms.specs.Parts.{part_tree, part_of_arg}
 use Rattle.relation_semantics.specs.Parts.{direct_parts}
 use Rattle.relation_semantics.specs.Making.{form_over}
-use Rattle.relation_terms.proofs.Stays.{stays_same}
 use Rattle.relation_recursion.proofs.AsParts.{args_as, fits_as, parts_as, over_as}
 use Rattle.relation_recursion.proofs.making.ty_with_parts.Goals as goal
-use Rattle.relation_semantics.proofs.Parts.{over_itself}
-
-pub returns-then-are_its_parts : goal.returns-then-are_its_parts
-returns-then-are_its_parts g c =
-    let m = g.I.Interner.meaning c.args.cx.now in
-    let t = m.ty c.args.ty.now in
-    record {
-      extends = stays_same m;
-      sure = c.requires.ty_known;
-      means = sym (over_itself t) ∙ ap (form_over t) (sym (c.are_its_parts.ensures c.if-are_its_parts.true));
-    }
 
 pub with_parts-requires : goal.with_parts-requires
 with_parts-requires g c =

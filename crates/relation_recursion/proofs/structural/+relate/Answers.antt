@@ -1,9 +1,9 @@
-use Rattle.std.proofs.Common.{ap₂, suc, ◌+◌, ◌*◌, IfOk, rules, ◌≡◌, ◌≢◌, ◌<◌, IsTrue, refl, sym, ap, ◌∙◌, subst, subst₂, arith, Ok, Err, OnOk}
+use Rattle.std.proofs.Common.{ap₂, suc, inl, inr, ◌+◌, ◌*◌, ◌≤◌, IfOk, rules, ◌≡◌, ◌≢◌, ◌<◌, IsTrue, refl, sym, ap, ◌∙◌, subst, subst₂, arith, Ok, Err, OnOk}
 use Rattle.std.proofs.lemmas.Bool.{false≢true}
 use Rattle.term_enums.specs.declared.Variance.TheVariants.{Bivariant}
 use Rattle.relation_terms.specs.declared.terms.generic_arg.GenericArgKind.TheVariants.{Lifetime, Ty, Const}
 use Rattle.relation_terms.specs.Heads.{type_sort, const_sort}
-use Rattle.relation_terms.specs.Trees.{nil, known, count, nth, list_tree}
+use Rattle.relation_terms.specs.Trees.{known, count, nth, list_tree}
 use Rattle.term_enums.specs.Variances.{xform}
 use Rattle.relation_terms.specs.Meaning.{arg_tree}
 use Rattle.relation_terms.specs.Parts.{part_tree, part_sort, tree_sort, Fit}
@@ -23,18 +23,18 @@ use Rattle.relation_semantics.specs.Measures.{depth}
 use Rattle.part_variances.proofs.Patterns.{term_alike, term_decides, part_sorted, compared_is}
 use Rattle.part_variances.proofs.PartPlaces.{related_part, paired_part}
 use Rattle.relation_recursion.proofs.InOrder.{terms_stopped, terms_answer, terms_unlike, term_refused, terms_differ}
-use Rattle.relation_recursion.proofs.InOrder.{may_over_term, part_pushed, parts_end}
+use Rattle.relation_recursion.proofs.InOrder.{may_over_term, parts_end}
 use Rattle.relation_recursion.proofs.ByParts.{paired_args, are_args, sort_as_arg, arg_not_compared, paired_binders}
 use Rattle.relation_recursion.proofs.ByParts.{binder_not_compared, form_compared, paired_compared, inputs_compared}
 use Rattle.relation_recursion.proofs.ByParts.{no_inputs_yet, inputs_next, compared_as, alike_back, on_ok, asked_turned}
 use Rattle.relation_recursion.proofs.ByParts.{depth_turned}
 use Rattle.part_variances.specs.Handing.{IsResultOfTy, IsResultOfConst, IsResultOfPart, named_place}
 use Rattle.relation_semantics.specs.Making.{arg_sort, FitArgs, form_over, const_over}
-use Rattle.relation_semantics.proofs.Answering.{same_items, same_settings, AreAnswers, answers_none, answers_next, answers_end, may_over, may_const_over, may_later, if_ok_both}
+use Rattle.relation_semantics.proofs.Answering.{same_items, same_settings, AreAnswers, answers_end, may_over, may_const_over, may_later, if_ok_both}
 use Rattle.relation_recursion.specs.PredicateForms.{form_of_part}
 use Rattle.relation_recursion.proofs.PredicateForms.{arg_form, binder_form, made_form}
-use Rattle.relation_recursion.proofs.MadeAnew.{fit_pushed, fit_end, fits_place}
-use Rattle.relation_semantics.proofs.Lists.{firsts, snoc, list_push}
+use Rattle.relation_recursion.proofs.MadeAnew.{fit_end, fits_place}
+use Rattle.relation_semantics.proofs.Lists.{firsts}
 use Rattle.relation_terms.proofs.Stays.{stays_list, stays_arg}
 use Rattle.relation_semantics.specs.Lawful.{Asked, Related, RelatedForms, Shown, MayAnswer, Stepped, StepRecords, Turned, items_in}
 use Rattle.relation_semantics.proofs.Standing.{term_context}
@@ -54,6 +54,9 @@ use Rattle.relation_recursion.proofs.StructuralTys.{types_related, types_stopped
 use Rattle.relation_recursion.proofs.StructuralConsts.{consts_related, consts_stopped, const_refused, itself_related, left_error, right_error, types_differ, consts_differ, kinds_differ}
 use Rattle.relation_recursion.proofs.Looping.{next_asked, next_under, next_const_asked, next_const_under, parts_under, again_under}
 use Rattle.relation_recursion.proofs.Looping.{failed_ty, failed_const, kept_ty, kept_const, parts_alike, heads_one, const_heads_alike}
+use Rattle.relation_recursion.proofs.Kept.{kept_answers, kept_fit, kept_fit_parts, some_kept, none_kept_yet}
+use Rattle.relation_recursion.proofs.Kept.{kept_in, failed_in, answer_known}
+use Rattle.relation_recursion.specs.Keeping.{KeepsAnswer}
 use Rattle.relation_recursion.proofs.Looping.{failed_part, kept_part}
 use Rattle.relation_steps.specs.Alone.{RelatesAlone, StepsAlone}
 use Rattle.relation_recursion.proofs.Alone.{formed_ask_none, left_none, right_none, lifetime_none, const_none, no_ty_none, refused_told}
@@ -914,10 +917,10 @@ structurally_relate_consts-loop-i-init g t c =
         left_in = term_context r.store (const_parts_of a) (in_const_parts r.store a k.left_in);
         right_in = term_context r.store (const_parts_of b) (in_const_parts r.store b k.right_in);
       };
-      answers = subst (λ z. AreAnswers M r (const_head_of a) r.ambient 0 (const_parts_of a)
-          (list_tree (arg_tree r.meaning) z)) (sym c.new-answers.ensures.items)
-          (answers_none M r (const_head_of a) r.ambient (const_parts_of a));
-      fits = subst (λ z. FitArgs z nil) (sym c.new-answers.ensures.items) tt;
+      kept = record {
+        answers = λ some. absurd (none_kept_yet c.no_answers-answers.ensures some);
+        fits = λ some. absurd (none_kept_yet c.no_answers-answers.ensures some);
+      };
     }
 
 pub structurally_relate_consts-relate_with_variance-related-requires : goal.structurally_relate_consts-relate_with_variance-related-requires
@@ -959,8 +962,8 @@ structurally_relate_consts-relate_with_variance-related-requires g t c κs withi
     let d = c.decreases in
     search rules
 
-pub structurally_relate_consts-returns-in_err-answer : goal.structurally_relate_consts-returns-in_err-answer
-structurally_relate_consts-returns-in_err-answer g t c =
+pub structurally_relate_consts-returns-in_err-keep_const_answer : goal.structurally_relate_consts-returns-in_err-keep_const_answer
+structurally_relate_consts-returns-in_err-keep_const_answer g t c =
     let r = g.R.HasState.state c.args.r.now in
     let M = g.R.TypeRelation.manner in
     let a = (r.meaning).const_ c.args.a.now in
@@ -996,16 +999,27 @@ structurally_relate_consts-returns-in_err-answer g t c =
     later.const_ c.args.a.now (subst (λ z. IsTrue (known z)) (sym same_a) k.left_known) ∙ same_a in
     let then_b : (p.meaning).const_ c.args.b.now ≡ b =
     later.const_ c.args.b.now (subst (λ z. IsTrue (known z)) (sym same_b) k.right_known) ∙ same_b in
-    let n = c.in_err-answer in
-    let z = failed_const a c.args.a.now c.args.b.now related.result n.field-0.0
-    (subst (λ z. IsResultOfConst z c.args.a.now c.args.b.now related.result (Err n.field-0.0)) then_a n.ensures) in
-    let gone = subst (λ v. Related M q p v x y (arg_tree p.meaning) (Err z.0)) ew
-    (subst (λ u. Related M q p w x y (arg_tree p.meaning) u) z.1 (related.ensures).related) in
-    let failed = as_err c.from_residual-in_err-answer.result n.field-0.0 c.from_residual-in_err-answer.ensures.0
-    c.from_residual-in_err-answer.ensures.1 in
-    subst (λ u. RelatedForms M r p r.ambient a b (p.meaning).const_ u) (sym failed)
-    (const_refused M r.ambient a b i alike inv.fronted inv.are_parts c.args.a.now c.args.b.now x y lx ly ex ey (arg_tree p.meaning)
-    (p.meaning).const_ z.0 n.field-0.0 c.requires.a_formed c.requires.b_formed then_a then_b k.left_known k.right_known z.2 gone)
+    let n = c.in_err-keep_const_answer in
+    let res = c.from_residual-in_err-keep_const_answer in
+    let failed = as_err res.result n.field-0.0 res.ensures.0 res.ensures.1 in
+    subst (λ u. RelatedForms M r p r.ambient a b (p.meaning).const_ u) (sym failed) (elim (failed_in n.ensures) [
+      inl h ↦
+        let z = failed_const a c.args.a.now c.args.b.now related.result n.field-0.0
+        (subst (λ z. IsResultOfConst z c.args.a.now c.args.b.now related.result (Err n.field-0.0)) then_a h) in
+        let gone = subst (λ v. Related M q p v x y (arg_tree p.meaning) (Err z.0)) ew
+        (subst (λ u. Related M q p w x y (arg_tree p.meaning) u) z.1 (related.ensures).related) in
+        const_refused M r.ambient a b i alike inv.fronted inv.are_parts c.args.a.now c.args.b.now x y lx ly ex ey (arg_tree p.meaning)
+        (p.meaning).const_ z.0 n.field-0.0 c.requires.a_formed c.requires.b_formed then_a then_b k.left_known k.right_known z.2 gone
+    | inr m ↦
+        let z = kept_const a c.args.a.now c.args.b.now related.result m.0
+        (subst (λ z. IsResultOfConst z c.args.a.now c.args.b.now related.result (Ok m.0)) then_a m.1) in
+        let gone = subst (λ v. Related M q p v x y (arg_tree p.meaning) (Ok m.0)) ew
+        (subst (λ u. Related M q p w x y (arg_tree p.meaning) u) z (related.ensures).related) in
+        let next = fronted_next (const_head_of a) r.ambient i (const_parts_of a) (const_parts_of b) x y inv.fronted lx ly ex ey (arg_tree p.meaning) m.0
+        inv.are_parts gone in
+        subst (λ f. RelatedForms M r p r.ambient a b (p.meaning).const_ (Err f)) (sym m.2)
+        (consts_stopped M r.ambient a b (suc i) (p.meaning).const_ next)
+    ])
 
 pub structurally_relate_consts-loop-i-preserved : goal.structurally_relate_consts-loop-i-preserved
 structurally_relate_consts-loop-i-preserved g t c =
@@ -1044,10 +1058,10 @@ structurally_relate_consts-loop-i-preserved g t c =
     later.const_ c.args.a.now (subst (λ z. IsTrue (known z)) (sym same_a) k.left_known) ∙ same_a in
     let then_b : (p.meaning).const_ c.args.b.now ≡ b =
     later.const_ c.args.b.now (subst (λ z. IsTrue (known z)) (sym same_b) k.right_known) ∙ same_b in
-    let n = c.in_ok-answer in
-    let z = kept_const a c.args.a.now c.args.b.now related.result n.answer
-    (subst (λ z. IsResultOfConst z c.args.a.now c.args.b.now related.result (Ok n.answer)) then_a n.ensures) in
-    let gone = subst (λ v. Related M q p v x y (arg_tree p.meaning) (Ok n.answer)) ew
+    let n = kept_in c.in_ok-keep_const_answer.ensures in
+    let z = kept_const a c.args.a.now c.args.b.now related.result n.0
+    (subst (λ z. IsResultOfConst z c.args.a.now c.args.b.now related.result (Ok n.0)) then_a n.1) in
+    let gone = subst (λ v. Related M q p v x y (arg_tree p.meaning) (Ok n.0)) ew
     (subst (λ u. Related M q p w x y (arg_tree p.meaning) u) z (related.ensures).related) in
     let e = g.met.R.TypeRelation.reads c.loop-i.r in
     let cx = g.R.TypeRelation.interner c.loop-i.r in
@@ -1055,86 +1069,45 @@ structurally_relate_consts-loop-i-preserved g t c =
     let kind = subst (λ u. IfOk u (λ k. arg_sort k ≡ arg_sort X)) z (related.ensures).kind in
     let was = c.loop-i.answers.items in
     let next : suc i ≡ i + 1 = omega arith in
-    let pushed : list_tree (arg_tree p.meaning) c.push.new.self.items
-    ≡ snoc (list_tree (arg_tree q.meaning) was) (arg_tree p.meaning n.answer) =
-    ap (list_tree (arg_tree p.meaning)) c.in_ok-push.ensures.items
-    ∙ list_push (arg_tree p.meaning) was n.answer
-    ∙ ap (λ z. snoc z (arg_tree p.meaning n.answer)) (stays_list (arg_tree q.meaning) (arg_tree p.meaning) was
-    (stays_arg later) (inv.answers).sure) in
+    let keeps = subst (λ t. KeepsAnswer (arg_tree p.meaning) FitArgs i (const_parts_of t) n.0 was c.keep_const_answer.new.answers.items) then_a n.2 in
     record {
       lawful = (gone.passes).lawful inv.lawful;
       fronted = subst (λ j. Fronted M r p (const_head_of a) r.ambient j (const_parts_of a) (const_parts_of b)) (omega arith)
           (fronted_next (const_head_of a) r.ambient i (const_parts_of a) (const_parts_of b) x y inv.fronted lx ly ex ey (arg_tree p.meaning)
-          n.answer inv.are_parts gone);
+          n.0 inv.are_parts gone);
       left_count = inv.left_count;
       right_count = inv.right_count;
       are_parts = inv.are_parts;
-      answers = subst₂ (λ j z. AreAnswers M p (const_head_of a) r.ambient j (const_parts_of a) z) next (sym pushed)
-          (answers_next M (const_head_of a) r.ambient i (const_parts_of a) (list_tree (arg_tree q.meaning) was) x
-          (arg_tree p.meaning n.answer) gone.passes lx inv.answers ex
-          (subst (λ c. MayAnswer M p (part_at c (const_head_of a) i r.ambient) x (arg_tree p.meaning n.answer))
-          (sym (same_items (inv.fronted).passes)) (gone.verdict).answer) (gone.verdict).known);
-      fits = subst₂ (λ j z. FitArgs z (firsts j (const_parts_of a))) next (sym c.in_ok-push.ensures.items)
-          (fit_pushed was n.answer (const_parts_of a) i lx inv.fits (fits_place q.meaning sorted X n.answer (const_parts_of a) i kx ex kind));
+      kept = record {
+        answers = λ some. subst (λ j. AreAnswers M p (const_head_of a) r.ambient j (const_parts_of a)
+            (list_tree (arg_tree p.meaning) c.keep_const_answer.new.answers.items)) next
+            (kept_answers M (arg_tree q.meaning) (arg_tree p.meaning) FitArgs (const_head_of a) r.ambient i (const_parts_of a) x n.0 was
+            c.keep_const_answer.new.answers.items (stays_arg later) gone.passes lx ex
+            (subst (λ z. MayAnswer M p (part_at z (const_head_of a) i r.ambient) x (arg_tree p.meaning n.0))
+            (sym (same_items (inv.fronted).passes)) (gone.verdict).answer) (gone.verdict).known (inv.kept).answers keeps some);
+        fits = λ some. subst (λ j. FitArgs c.keep_const_answer.new.answers.items (firsts j (const_parts_of a))) next
+            (kept_fit (arg_tree p.meaning) i (const_parts_of a) n.0 was c.keep_const_answer.new.answers.items lx
+            (fits_place q.meaning sorted X n.0 (const_parts_of a) i kx ex kind) (inv.kept).fits keeps some);
+      };
     }
 
-pub structurally_relate_consts-returns-in_err-push : goal.structurally_relate_consts-returns-in_err-push
-structurally_relate_consts-returns-in_err-push g t c =
-    let r = g.R.HasState.state c.args.r.now in
-    let M = g.R.TypeRelation.manner in
-    let a = (r.meaning).const_ c.args.a.now in
-    let b = (r.meaning).const_ c.args.b.now in
-    let q = g.R.HasState.state c.loop-i.r in
-    let i = c.loop-i.i in
+pub structurally_relate_consts-keep_const_answer-requires : goal.structurally_relate_consts-keep_const_answer-requires
+structurally_relate_consts-keep_const_answer-requires g t c =
+    let k = c.requires.asked in
     let inv = c.loop-i.invariant in
-    let k = c.requires.asked in
-    let extends = ((inv.fronted).passes).extends in
-    let same_a : (q.meaning).const_ c.args.a.now ≡ a = extends.const_ c.args.a.now k.left_known in
-    let same_b : (q.meaning).const_ c.args.b.now ≡ b = extends.const_ c.args.b.now k.right_known in
-    let alike = (c.in_ok-compare_consts_of.ensures).alike in
+    let a = ((g.R.HasState.state c.args.r.now).meaning).const_ c.args.a.now in
+    let same = (((inv.fronted).passes).extends).const_ c.args.a.now k.left_known in
+    let later = (((c.relate_with_variance-related.ensures).related).passes).extends in
+    let then = later.const_ c.args.a.now (subst (λ z. IsTrue (known z)) (sym same) k.left_known) ∙ same in
     let test = c.loop-i-test.true in
-    let lx : i < count (const_parts_of a) = omega (arith, test, inv.left_count) in
-    let ly : i < count (const_parts_of b) = omega (arith, test, inv.right_count) in
-    let X = c.const_part_of-x.result in
-    let Y = c.const_part_of-y.result in
-    let x = arg_tree q.meaning X in
-    let y = arg_tree q.meaning Y in
-    let kx = c.const_part_of-x.ensures.sure in
-    let ky = c.const_part_of-y.ensures.sure in
-    let ex : x ≡ nth i (const_parts_of a) = c.const_part_of-x.ensures.means ∙ ap (λ z. nth i (const_parts_of z)) same_a in
-    let ey : y ≡ nth i (const_parts_of b) = c.const_part_of-y.ensures.means ∙ ap (λ z. nth i (const_parts_of z)) same_b in
-    let w = xform q.ambient c.const_variance_at-variance.result in
-    let ew : w ≡ part_at (items_in r) (const_head_of a) i r.ambient =
-    c.const_variance_at-variance.ensures i ∙ ap (λ z. part_at (items_in q) (const_head_of z) i q.ambient) same_a ∙
-    ap (λ z. part_at z (const_head_of a) i q.ambient) (same_items (inv.fronted).passes) ∙
-    ap (λ z. part_at (items_in r) (const_head_of a) i z) ((inv.fronted).passes).ambient in
-    let p = g.R.HasState.state c.relate_with_variance-related.new.r in
-    let related = c.relate_with_variance-related in
-    let later = (((related.ensures).related).passes).extends in
-    let then_a : (p.meaning).const_ c.args.a.now ≡ a =
-    later.const_ c.args.a.now (subst (λ z. IsTrue (known z)) (sym same_a) k.left_known) ∙ same_a in
-    let then_b : (p.meaning).const_ c.args.b.now ≡ b =
-    later.const_ c.args.b.now (subst (λ z. IsTrue (known z)) (sym same_b) k.right_known) ∙ same_b in
-    let n = c.in_ok-answer in
-    let z = kept_const a c.args.a.now c.args.b.now related.result n.answer
-    (subst (λ z. IsResultOfConst z c.args.a.now c.args.b.now related.result (Ok n.answer)) then_a n.ensures) in
-    let gone = subst (λ v. Related M q p v x y (arg_tree p.meaning) (Ok n.answer)) ew
-    (subst (λ u. Related M q p w x y (arg_tree p.meaning) u) z (related.ensures).related) in
-    let next = fronted_next (const_head_of a) r.ambient i (const_parts_of a) (const_parts_of b) x y inv.fronted lx ly ex ey (arg_tree p.meaning) n.answer
-    inv.are_parts gone in
-    subst (λ z. RelatedForms M r p r.ambient a b (p.meaning).const_ z)
-    (sym (as_err c.from_residual-in_err-push.result Memory c.from_residual-in_err-push.ensures.0
-    c.from_residual-in_err-push.ensures.1))
-    (consts_stopped M r.ambient a b (suc i) (p.meaning).const_ next)
+    let within : c.loop-i.i ≤ count (const_parts_of a) = omega (arith, test, inv.left_count) in
+    record {
+      sure = subst (λ z. IsTrue (known z)) (sym then) k.left_known;
+      within = subst (λ z. c.loop-i.i ≤ count (const_parts_of z)) (sym then) within;
+    }
 
-pub structurally_relate_consts-make_const-requires-clause-constant_known : goal.structurally_relate_consts-make_const-requires-clause-constant_known
-structurally_relate_consts-make_const-requires-clause-constant_known g t c =
-    let k = c.requires.asked in
-    let same = (((c.loop-i.invariant.fronted).passes).extends).const_ c.args.a.now k.left_known in
-    subst (λ z. IsTrue (known z)) (sym same) k.left_known
-
-pub structurally_relate_consts-make_const-requires-clause-fits : goal.structurally_relate_consts-make_const-requires-clause-fits
-structurally_relate_consts-make_const-requires-clause-fits g t c =
+pub structurally_relate_consts-returns-then-is_empty : goal.structurally_relate_consts-returns-then-is_empty
+structurally_relate_consts-returns-then-is_empty g t c =
     let r = g.R.HasState.state c.args.r.now in
     let M = g.R.TypeRelation.manner in
     let a = (r.meaning).const_ c.args.a.now in
@@ -1151,10 +1124,40 @@ structurally_relate_consts-make_const-requires-clause-fits g t c =
     let end = (c.loop-i.auto).i-end in
     let left : i ≡ count (const_parts_of a) = omega (arith, test, end, inv.left_count) in
     let right : i ≡ count (const_parts_of b) = omega (arith, test, end, inv.right_count) in
+    let done : RelatedForms M r q r.ambient a b (q.meaning).const_ (Ok c.args.a.now) =
+    consts_related M r.ambient a b i (q.meaning).const_ c.args.a.now c.requires.a_formed c.requires.b_formed alike inv.fronted inv.are_parts left right same_a
+    k.left_known in
+    done
+
+pub structurally_relate_consts-make_const-requires-clause-constant_known : goal.structurally_relate_consts-make_const-requires-clause-constant_known
+structurally_relate_consts-make_const-requires-clause-constant_known g t c =
+    let k = c.requires.asked in
+    let same = (((c.loop-i.invariant.fronted).passes).extends).const_ c.args.a.now k.left_known in
+    subst (λ z. IsTrue (known z)) (sym same) k.left_known
+
+pub structurally_relate_consts-make_const-requires-clause-fits : goal.structurally_relate_consts-make_const-requires-clause-fits
+structurally_relate_consts-make_const-requires-clause-fits g t c =
+    let r = g.R.HasState.state c.args.r.now in
+    let M = g.R.TypeRelation.manner in
+    let a = (r.meaning).const_ c.args.a.now in
+    let b = (r.meaning).const_ c.args.b.now in
+    let q = g.R.HasState.state c.loop-i.r in
+    let i = c.loop-i.i in
+    let inv = c.loop-i.invariant in
+    let some = some_kept c.loop-i.answers c.if-is_empty.ensures in
+    let k = c.requires.asked in
+    let extends = ((inv.fronted).passes).extends in
+    let same_a : (q.meaning).const_ c.args.a.now ≡ a = extends.const_ c.args.a.now k.left_known in
+    let same_b : (q.meaning).const_ c.args.b.now ≡ b = extends.const_ c.args.b.now k.right_known in
+    let alike = (c.in_ok-compare_consts_of.ensures).alike in
+    let test = c.loop-i-test.false in
+    let end = (c.loop-i.auto).i-end in
+    let left : i ≡ count (const_parts_of a) = omega (arith, test, end, inv.left_count) in
+    let right : i ≡ count (const_parts_of b) = omega (arith, test, end, inv.right_count) in
     let items = c.loop-i.answers.items in
     let was = list_tree (arg_tree q.meaning) items in
     subst₂ (λ xs t. FitArgs xs (const_parts_of t)) (sym c.as_slice.ensures.value) (sym same_a)
-    (fit_end items (const_parts_of a) i (inv.are_parts).left_list left inv.fits)
+    (fit_end items (const_parts_of a) i (inv.are_parts).left_list left ((inv.kept).fits some))
 
 pub structurally_relate_consts-returns : goal.structurally_relate_consts-returns
 structurally_relate_consts-returns g t c =
@@ -1165,6 +1168,7 @@ structurally_relate_consts-returns g t c =
     let q = g.R.HasState.state c.loop-i.r in
     let i = c.loop-i.i in
     let inv = c.loop-i.invariant in
+    let some = some_kept c.loop-i.answers c.if-is_empty.ensures in
     let k = c.requires.asked in
     let extends = ((inv.fronted).passes).extends in
     let same_a : (q.meaning).const_ c.args.a.now ≡ a = extends.const_ c.args.a.now k.left_known in
@@ -1184,7 +1188,7 @@ structurally_relate_consts-returns g t c =
     form_made M r.ambient a b (made.made).extends made.grown (p.meaning).const_ (q.meaning).const_ c.args.a.now done
     c.make_const.result made.fault (const_over a was) _
     (may_const_over M q r.ambient a was
-    (answers_end M q (const_head_of a) r.ambient i (const_parts_of a) was (inv.are_parts).left_list left inv.answers))
+    (answers_end M q (const_head_of a) r.ambient i (const_parts_of a) was (inv.are_parts).left_list left ((inv.kept).answers some)))
     (ap₂ const_over same_a (ap (list_tree (arg_tree q.meaning)) c.as_slice.ensures.value)) (made.made).sure
     (made.made).means
 
@@ -1259,9 +1263,10 @@ structurally_relate_tys-loop-i-init g t c =
         left_in = term_context r.store (direct_parts a) (in_parts r.store a k.left_in);
         right_in = term_context r.store (direct_parts b) (in_parts r.store b k.right_in);
       };
-      answers = subst (λ z. AreAnswers M r (head_of a) r.ambient 0 (direct_parts a) (list_tree (arg_tree r.meaning) z))
-          (sym c.new-answers.ensures.items) (answers_none M r (head_of a) r.ambient (direct_parts a));
-      fits = subst (λ z. FitArgs z nil) (sym c.new-answers.ensures.items) tt;
+      kept = record {
+        answers = λ some. absurd (none_kept_yet c.no_answers-answers.ensures some);
+        fits = λ some. absurd (none_kept_yet c.no_answers-answers.ensures some);
+      };
     }
 
 pub structurally_relate_tys-relate_with_variance-related-requires : goal.structurally_relate_tys-relate_with_variance-related-requires
@@ -1302,16 +1307,8 @@ structurally_relate_tys-relate_with_variance-related-requires g t c κs within =
     let d = c.decreases in
     search rules
 
-pub structurally_relate_tys-in_ty_of-requires : goal.structurally_relate_tys-in_ty_of-requires
-structurally_relate_tys-in_ty_of-requires g t c =
-    let k = c.requires.asked in
-    let same = (((c.loop-i.invariant.fronted).passes).extends).ty c.args.a.now k.left_known in
-    let later = (((c.relate_with_variance-related.ensures).related).passes).extends in
-    let then = later.ty c.args.a.now (subst (λ z. IsTrue (known z)) (sym same) k.left_known) ∙ same in
-    subst (λ z. IsTrue (known z)) (sym then) k.left_known
-
-pub structurally_relate_tys-returns-in_err-answer : goal.structurally_relate_tys-returns-in_err-answer
-structurally_relate_tys-returns-in_err-answer g t c =
+pub structurally_relate_tys-returns-in_err-keep_answer : goal.structurally_relate_tys-returns-in_err-keep_answer
+structurally_relate_tys-returns-in_err-keep_answer g t c =
     let r = g.R.HasState.state c.args.r.now in
     let M = g.R.TypeRelation.manner in
     let a = (r.meaning).ty c.args.a.now in
@@ -1350,16 +1347,27 @@ structurally_relate_tys-returns-in_err-answer g t c =
     let e = g.met.R.TypeRelation.reads c.loop-i.r in
     let cx = g.R.TypeRelation.interner c.loop-i.r in
     let sorted : Sorted q.meaning = subst (λ m. Sorted m) (sym e) (g.met.I.Interner.sorted cx) in
-    let n = c.in_err-answer in
-    let z = failed_ty a X Y related.result n.field-0.0
-    (subst (λ z. IsResultOfTy z X Y related.result (Err n.field-0.0)) then_a n.ensures) in
-    let gone = subst (λ v. Related M q p v x y (arg_tree p.meaning) (Err z.0)) ew
-    (subst (λ u. Related M q p w x y (arg_tree p.meaning) u) z.1 (related.ensures).related) in
-    let failed = as_err c.from_residual-in_err-answer.result n.field-0.0 c.from_residual-in_err-answer.ensures.0
-    c.from_residual-in_err-answer.ensures.1 in
-    subst (λ u. RelatedForms M r p r.ambient a b (p.meaning).ty u) (sym failed)
-    (ty_refused M r.ambient a b i c.requires.a_formed alike inv.fronted inv.are_parts X Y kx ky sorted lx ly ex ey
-    (arg_tree p.meaning) (p.meaning).ty z.0 n.field-0.0 c.requires.b_formed (knows_arg later X kx) (knows_arg later Y ky) z.2 gone)
+    let n = c.in_err-keep_answer in
+    let res = c.from_residual-in_err-keep_answer in
+    let failed = as_err res.result n.field-0.0 res.ensures.0 res.ensures.1 in
+    subst (λ u. RelatedForms M r p r.ambient a b (p.meaning).ty u) (sym failed) (elim (failed_in n.ensures) [
+      inl h ↦
+        let z = failed_ty a X Y related.result n.field-0.0
+        (subst (λ z. IsResultOfTy z X Y related.result (Err n.field-0.0)) then_a h) in
+        let gone = subst (λ v. Related M q p v x y (arg_tree p.meaning) (Err z.0)) ew
+        (subst (λ u. Related M q p w x y (arg_tree p.meaning) u) z.1 (related.ensures).related) in
+        ty_refused M r.ambient a b i c.requires.a_formed alike inv.fronted inv.are_parts X Y kx ky sorted lx ly ex ey
+        (arg_tree p.meaning) (p.meaning).ty z.0 n.field-0.0 c.requires.b_formed (knows_arg later X kx) (knows_arg later Y ky) z.2 gone
+    | inr m ↦
+        let z = kept_ty a X Y related.result m.0
+        (subst (λ z. IsResultOfTy z X Y related.result (Ok m.0)) then_a m.1) in
+        let gone = subst (λ v. Related M q p v x y (arg_tree p.meaning) (Ok m.0)) ew
+        (subst (λ u. Related M q p w x y (arg_tree p.meaning) u) z (related.ensures).related) in
+        let next = fronted_next (head_of a) r.ambient i (direct_parts a) (direct_parts b) x y inv.fronted lx ly ex ey (arg_tree p.meaning) m.0
+        inv.are_parts gone in
+        subst (λ f. RelatedForms M r p r.ambient a b (p.meaning).ty (Err f)) (sym m.2)
+        (types_stopped M r.ambient a b (suc i) (p.meaning).ty c.requires.a_formed next)
+    ])
 
 pub structurally_relate_tys-loop-i-preserved : goal.structurally_relate_tys-loop-i-preserved
 structurally_relate_tys-loop-i-preserved g t c =
@@ -1398,10 +1406,10 @@ structurally_relate_tys-loop-i-preserved g t c =
     later.ty c.args.a.now (subst (λ z. IsTrue (known z)) (sym same_a) k.left_known) ∙ same_a in
     let then_b : (p.meaning).ty c.args.b.now ≡ b =
     later.ty c.args.b.now (subst (λ z. IsTrue (known z)) (sym same_b) k.right_known) ∙ same_b in
-    let n = c.in_ok-answer in
-    let z = kept_ty a X Y related.result n.answer
-    (subst (λ z. IsResultOfTy z X Y related.result (Ok n.answer)) then_a n.ensures) in
-    let gone = subst (λ v. Related M q p v x y (arg_tree p.meaning) (Ok n.answer)) ew
+    let n = kept_in c.in_ok-keep_answer.ensures in
+    let z = kept_ty a X Y related.result n.0
+    (subst (λ z. IsResultOfTy z X Y related.result (Ok n.0)) then_a n.1) in
+    let gone = subst (λ v. Related M q p v x y (arg_tree p.meaning) (Ok n.0)) ew
     (subst (λ u. Related M q p w x y (arg_tree p.meaning) u) z (related.ensures).related) in
     let e = g.met.R.TypeRelation.reads c.loop-i.r in
     let cx = g.R.TypeRelation.interner c.loop-i.r in
@@ -1409,77 +1417,43 @@ structurally_relate_tys-loop-i-preserved g t c =
     let kind = subst (λ u. IfOk u (λ k. arg_sort k ≡ arg_sort X)) z (related.ensures).kind in
     let was = c.loop-i.answers.items in
     let next : suc i ≡ i + 1 = omega arith in
-    let pushed : list_tree (arg_tree p.meaning) c.push.new.self.items
-    ≡ snoc (list_tree (arg_tree q.meaning) was) (arg_tree p.meaning n.answer) =
-    ap (list_tree (arg_tree p.meaning)) c.in_ok-push.ensures.items
-    ∙ list_push (arg_tree p.meaning) was n.answer
-    ∙ ap (λ z. snoc z (arg_tree p.meaning n.answer)) (stays_list (arg_tree q.meaning) (arg_tree p.meaning) was
-    (stays_arg later) (inv.answers).sure) in
+    let keeps = subst (λ t. KeepsAnswer (arg_tree p.meaning) FitArgs i (direct_parts t) n.0 was c.keep_answer.new.answers.items) then_a n.2 in
     record {
       lawful = (gone.passes).lawful inv.lawful;
       fronted = subst (λ j. Fronted M r p (head_of a) r.ambient j (direct_parts a) (direct_parts b)) (omega arith)
           (fronted_next (head_of a) r.ambient i (direct_parts a) (direct_parts b) x y inv.fronted lx ly ex ey (arg_tree p.meaning)
-          n.answer inv.are_parts gone);
+          n.0 inv.are_parts gone);
       left_count = inv.left_count;
       right_count = inv.right_count;
       are_parts = inv.are_parts;
-      answers = subst₂ (λ j z. AreAnswers M p (head_of a) r.ambient j (direct_parts a) z) next (sym pushed)
-          (answers_next M (head_of a) r.ambient i (direct_parts a) (list_tree (arg_tree q.meaning) was) x
-          (arg_tree p.meaning n.answer) gone.passes lx inv.answers ex
-          (subst (λ c. MayAnswer M p (part_at c (head_of a) i r.ambient) x (arg_tree p.meaning n.answer))
-          (sym (same_items (inv.fronted).passes)) (gone.verdict).answer) (gone.verdict).known);
-      fits = subst₂ (λ j z. FitArgs z (firsts j (direct_parts a))) next (sym c.in_ok-push.ensures.items)
-          (fit_pushed was n.answer (direct_parts a) i lx inv.fits (fits_place q.meaning sorted X n.answer (direct_parts a) i kx ex kind));
+      kept = record {
+        answers = λ some. subst (λ j. AreAnswers M p (head_of a) r.ambient j (direct_parts a)
+            (list_tree (arg_tree p.meaning) c.keep_answer.new.answers.items)) next
+            (kept_answers M (arg_tree q.meaning) (arg_tree p.meaning) FitArgs (head_of a) r.ambient i (direct_parts a) x n.0 was
+            c.keep_answer.new.answers.items (stays_arg later) gone.passes lx ex
+            (subst (λ z. MayAnswer M p (part_at z (head_of a) i r.ambient) x (arg_tree p.meaning n.0))
+            (sym (same_items (inv.fronted).passes)) (gone.verdict).answer) (gone.verdict).known (inv.kept).answers keeps some);
+        fits = λ some. subst (λ j. FitArgs c.keep_answer.new.answers.items (firsts j (direct_parts a))) next
+            (kept_fit (arg_tree p.meaning) i (direct_parts a) n.0 was c.keep_answer.new.answers.items lx
+            (fits_place q.meaning sorted X n.0 (direct_parts a) i kx ex kind) (inv.kept).fits keeps some);
+      };
     }
 
-pub structurally_relate_tys-returns-in_err-push : goal.structurally_relate_tys-returns-in_err-push
-structurally_relate_tys-returns-in_err-push g t c =
-    let r = g.R.HasState.state c.args.r.now in
-    let M = g.R.TypeRelation.manner in
-    let a = (r.meaning).ty c.args.a.now in
-    let b = (r.meaning).ty c.args.b.now in
-    let q = g.R.HasState.state c.loop-i.r in
-    let i = c.loop-i.i in
-    let inv = c.loop-i.invariant in
+pub structurally_relate_tys-keep_answer-requires : goal.structurally_relate_tys-keep_answer-requires
+structurally_relate_tys-keep_answer-requires g t c =
     let k = c.requires.asked in
-    let extends = ((inv.fronted).passes).extends in
-    let same_a : (q.meaning).ty c.args.a.now ≡ a = extends.ty c.args.a.now k.left_known in
-    let same_b : (q.meaning).ty c.args.b.now ≡ b = extends.ty c.args.b.now k.right_known in
-    let alike = (c.in_ok-compare_tys_of.ensures).alike in
+    let inv = c.loop-i.invariant in
+    let a = ((g.R.HasState.state c.args.r.now).meaning).ty c.args.a.now in
+    let same = (((inv.fronted).passes).extends).ty c.args.a.now k.left_known in
+    let later = (((c.relate_with_variance-related.ensures).related).passes).extends in
+    let then = later.ty c.args.a.now (subst (λ z. IsTrue (known z)) (sym same) k.left_known) ∙ same in
     let test = c.loop-i-test.true in
-    let lx : i < count (direct_parts a) = omega (arith, test, inv.left_count) in
-    let ly : i < count (direct_parts b) = omega (arith, test, inv.right_count) in
-    let X = c.part_of-x.result in
-    let Y = c.part_of-y.result in
-    let x = arg_tree q.meaning X in
-    let y = arg_tree q.meaning Y in
-    let kx = c.part_of-x.ensures.sure in
-    let ky = c.part_of-y.ensures.sure in
-    let ex : x ≡ nth i (direct_parts a) = c.part_of-x.ensures.means ∙ ap (λ z. nth i (direct_parts z)) same_a in
-    let ey : y ≡ nth i (direct_parts b) = c.part_of-y.ensures.means ∙ ap (λ z. nth i (direct_parts z)) same_b in
-    let w = xform q.ambient c.variance_at-variance.result in
-    let ew : w ≡ part_at (items_in r) (head_of a) i r.ambient =
-    c.variance_at-variance.ensures ∙ ap (λ z. part_at (items_in q) (head_of z) i q.ambient) same_a ∙
-    ap (λ z. part_at z (head_of a) i q.ambient) (same_items (inv.fronted).passes) ∙
-    ap (λ z. part_at (items_in r) (head_of a) i z) ((inv.fronted).passes).ambient in
-    let p = g.R.HasState.state c.relate_with_variance-related.new.r in
-    let related = c.relate_with_variance-related in
-    let later = (((related.ensures).related).passes).extends in
-    let then_a : (p.meaning).ty c.args.a.now ≡ a =
-    later.ty c.args.a.now (subst (λ z. IsTrue (known z)) (sym same_a) k.left_known) ∙ same_a in
-    let then_b : (p.meaning).ty c.args.b.now ≡ b =
-    later.ty c.args.b.now (subst (λ z. IsTrue (known z)) (sym same_b) k.right_known) ∙ same_b in
-    let n = c.in_ok-answer in
-    let z = kept_ty a X Y related.result n.answer
-    (subst (λ z. IsResultOfTy z X Y related.result (Ok n.answer)) then_a n.ensures) in
-    let gone = subst (λ v. Related M q p v x y (arg_tree p.meaning) (Ok n.answer)) ew
-    (subst (λ u. Related M q p w x y (arg_tree p.meaning) u) z (related.ensures).related) in
-    let next = fronted_next (head_of a) r.ambient i (direct_parts a) (direct_parts b) x y inv.fronted lx ly ex ey (arg_tree p.meaning) n.answer
-    inv.are_parts gone in
-    subst (λ z. RelatedForms M r p r.ambient a b (p.meaning).ty z)
-    (sym (as_err c.from_residual-in_err-push.result Memory c.from_residual-in_err-push.ensures.0
-    c.from_residual-in_err-push.ensures.1))
-    (types_stopped M r.ambient a b (suc i) (p.meaning).ty c.requires.a_formed next)
+    let within : c.loop-i.i ≤ count (direct_parts a) = omega (arith, test, inv.left_count) in
+    record {
+      sure = subst (λ z. IsTrue (known z)) (sym then) k.left_known;
+      over_args = λ o. absurd (false≢true (sym c.if-is_by_parts_of.false ∙ (c.is_by_parts_of.ensures).1 (subst IsByParts then o)));
+      within = subst (λ z. c.loop-i.i ≤ count (direct_parts z)) (sym then) within;
+    }
 
 pub structurally_relate_tys-note_args-requires-clause-one_form : goal.structurally_relate_tys-note_args-requires-clause-one_form
 structurally_relate_tys-note_args-requires-clause-one_form g t c =
@@ -1569,8 +1543,8 @@ structurally_relate_tys-returns-in_err-note_args g t c =
     (u.meaning).ty n.field-0.0
     refl)
 
-pub structurally_relate_tys-make_ty-requires-clause-ty_known : goal.structurally_relate_tys-make_ty-requires-clause-ty_known
-structurally_relate_tys-make_ty-requires-clause-ty_known g t c =
+pub structurally_relate_tys-returns-then-is_empty : goal.structurally_relate_tys-returns-then-is_empty
+structurally_relate_tys-returns-then-is_empty g t c =
     let r = g.R.HasState.state c.args.r.now in
     let M = g.R.TypeRelation.manner in
     let a = (r.meaning).ty c.args.a.now in
@@ -1596,13 +1570,43 @@ structurally_relate_tys-make_ty-requires-clause-ty_known g t c =
     (u.meaning).ty
     ((((n.ensures).passes).extends).ty c.args.a.now (subst (λ z. IsTrue (known z)) (sym same_a) k.left_known))
     (λ promised bare. (same_a, same_b, ((inv.fronted).passes).ambient)) in
+    noted
+
+pub structurally_relate_tys-make_ty-requires-clause-ty_known : goal.structurally_relate_tys-make_ty-requires-clause-ty_known
+structurally_relate_tys-make_ty-requires-clause-ty_known g t c =
+    let r = g.R.HasState.state c.args.r.now in
+    let M = g.R.TypeRelation.manner in
+    let a = (r.meaning).ty c.args.a.now in
+    let b = (r.meaning).ty c.args.b.now in
+    let q = g.R.HasState.state c.loop-i.r in
+    let i = c.loop-i.i in
+    let inv = c.loop-i.invariant in
+    let some = some_kept c.loop-i.answers c.if-is_empty.ensures in
+    let k = c.requires.asked in
+    let extends = ((inv.fronted).passes).extends in
+    let same_a : (q.meaning).ty c.args.a.now ≡ a = extends.ty c.args.a.now k.left_known in
+    let same_b : (q.meaning).ty c.args.b.now ≡ b = extends.ty c.args.b.now k.right_known in
+    let alike = (c.in_ok-compare_tys_of.ensures).alike in
+    let test = c.loop-i-test.false in
+    let end = (c.loop-i.auto).i-end in
+    let left : i ≡ count (direct_parts a) = omega (arith, test, end, inv.left_count) in
+    let right : i ≡ count (direct_parts b) = omega (arith, test, end, inv.right_count) in
+    let done : RelatedForms M r q r.ambient a b (q.meaning).ty (Ok c.args.a.now) =
+    types_related M r.ambient a b i (q.meaning).ty c.args.a.now c.requires.a_formed c.requires.b_formed alike inv.fronted inv.are_parts left
+    right same_a k.left_known in
+    let u = g.R.HasState.state c.note_args.new.r in
+    let n = c.in_ok-note_args in
+    let noted = noted_related M r.ambient a b (q.meaning).ty c.args.a.now done (Ok n.field-0) n.ensures (built_as r.store same_a same_b)
+    (u.meaning).ty
+    ((((n.ensures).passes).extends).ty c.args.a.now (subst (λ z. IsTrue (known z)) (sym same_a) k.left_known))
+    (λ promised bare. (same_a, same_b, ((inv.fronted).passes).ambient)) in
     let e = ((n.ensures).passes).extends in
     let stays : (u.meaning).ty c.args.a.now ≡ a =
     e.ty c.args.a.now (subst (λ z. IsTrue (known z)) (sym same_a) k.left_known) ∙ same_a in
     let items = c.loop-i.answers.items in
     let was = list_tree (arg_tree q.meaning) items in
     let listed : list_tree (arg_tree u.meaning) items ≡ was =
-    stays_list (arg_tree q.meaning) (arg_tree u.meaning) items (stays_arg e) (inv.answers).sure in
+    stays_list (arg_tree q.meaning) (arg_tree u.meaning) items (stays_arg e) ((inv.kept).answers some).sure in
     subst (λ z. IsTrue (known z)) (sym stays) k.left_known
 
 pub structurally_relate_tys-make_ty-requires-clause-parts_known : goal.structurally_relate_tys-make_ty-requires-clause-parts_known
@@ -1614,6 +1618,7 @@ structurally_relate_tys-make_ty-requires-clause-parts_known g t c =
     let q = g.R.HasState.state c.loop-i.r in
     let i = c.loop-i.i in
     let inv = c.loop-i.invariant in
+    let some = some_kept c.loop-i.answers c.if-is_empty.ensures in
     let k = c.requires.asked in
     let extends = ((inv.fronted).passes).extends in
     let same_a : (q.meaning).ty c.args.a.now ≡ a = extends.ty c.args.a.now k.left_known in
@@ -1638,9 +1643,9 @@ structurally_relate_tys-make_ty-requires-clause-parts_known g t c =
     let items = c.loop-i.answers.items in
     let was = list_tree (arg_tree q.meaning) items in
     let listed : list_tree (arg_tree u.meaning) items ≡ was =
-    stays_list (arg_tree q.meaning) (arg_tree u.meaning) items (stays_arg e) (inv.answers).sure in
+    stays_list (arg_tree q.meaning) (arg_tree u.meaning) items (stays_arg e) ((inv.kept).answers some).sure in
     subst (λ z. IsTrue (known z)) (sym (ap (list_tree (arg_tree u.meaning)) c.as_slice.ensures.value ∙ listed))
-    (inv.answers).sure
+    ((inv.kept).answers some).sure
 
 pub structurally_relate_tys-make_ty-requires-clause-fits : goal.structurally_relate_tys-make_ty-requires-clause-fits
 structurally_relate_tys-make_ty-requires-clause-fits g t c =
@@ -1651,6 +1656,7 @@ structurally_relate_tys-make_ty-requires-clause-fits g t c =
     let q = g.R.HasState.state c.loop-i.r in
     let i = c.loop-i.i in
     let inv = c.loop-i.invariant in
+    let some = some_kept c.loop-i.answers c.if-is_empty.ensures in
     let k = c.requires.asked in
     let extends = ((inv.fronted).passes).extends in
     let same_a : (q.meaning).ty c.args.a.now ≡ a = extends.ty c.args.a.now k.left_known in
@@ -1675,9 +1681,9 @@ structurally_relate_tys-make_ty-requires-clause-fits g t c =
     let items = c.loop-i.answers.items in
     let was = list_tree (arg_tree q.meaning) items in
     let listed : list_tree (arg_tree u.meaning) items ≡ was =
-    stays_list (arg_tree q.meaning) (arg_tree u.meaning) items (stays_arg e) (inv.answers).sure in
+    stays_list (arg_tree q.meaning) (arg_tree u.meaning) items (stays_arg e) ((inv.kept).answers some).sure in
     subst₂ (λ xs t. FitArgs xs (direct_parts t)) (sym c.as_slice.ensures.value) (sym stays)
-    (fit_end items (direct_parts a) i (inv.are_parts).left_list left inv.fits)
+    (fit_end items (direct_parts a) i (inv.are_parts).left_list left ((inv.kept).fits some))
 
 pub structurally_relate_tys-returns : goal.structurally_relate_tys-returns
 structurally_relate_tys-returns g t c =
@@ -1688,6 +1694,7 @@ structurally_relate_tys-returns g t c =
     let q = g.R.HasState.state c.loop-i.r in
     let i = c.loop-i.i in
     let inv = c.loop-i.invariant in
+    let some = some_kept c.loop-i.answers c.if-is_empty.ensures in
     let k = c.requires.asked in
     let extends = ((inv.fronted).passes).extends in
     let same_a : (q.meaning).ty c.args.a.now ≡ a = extends.ty c.args.a.now k.left_known in
@@ -1712,11 +1719,11 @@ structurally_relate_tys-returns g t c =
     let items = c.loop-i.answers.items in
     let was = list_tree (arg_tree q.meaning) items in
     let listed : list_tree (arg_tree u.meaning) items ≡ was =
-    stays_list (arg_tree q.meaning) (arg_tree u.meaning) items (stays_arg e) (inv.answers).sure in
+    stays_list (arg_tree q.meaning) (arg_tree u.meaning) items (stays_arg e) ((inv.kept).answers some).sure in
     let p = g.R.HasState.state c.make_ty.new.r in
     let made = c.make_ty.ensures in
     let may = may_over M q r.ambient a was c.requires.a_formed
-    (answers_end M q (head_of a) r.ambient i (direct_parts a) was (inv.are_parts).left_list left inv.answers) in
+    (answers_end M q (head_of a) r.ambient i (direct_parts a) was (inv.are_parts).left_list left ((inv.kept).answers some)) in
     form_made M r.ambient a b (made.made).extends made.grown (p.meaning).ty (u.meaning).ty c.args.a.now noted
     c.make_ty.result made.fault (form_over a was) _
     (may_later M r.ambient a (form_over a was) (n.ensures).passes may)
@@ -1749,9 +1756,10 @@ relate_in_order-loop-i-init g t c =
         left_in = term_context r.store (direct_parts a) (in_parts r.store a k.left_in);
         right_in = term_context r.store (direct_parts b) (in_parts r.store b k.right_in);
       };
-      answers = subst (λ z. AreAnswers M r (head_of a) r.ambient 0 (direct_parts a) (list_tree (part_tree r.meaning) z))
-          (sym c.new-answers.ensures.items) (answers_none M r (head_of a) r.ambient (direct_parts a));
-      fits = subst (λ z. Fit z nil) (sym c.new-answers.ensures.items) tt;
+      kept = record {
+        answers = λ some. absurd (none_kept_yet c.no_answers-answers.ensures some);
+        fits = λ some. absurd (none_kept_yet c.no_answers-answers.ensures some);
+      };
       inputs = no_inputs_yet a b;
     }
 
@@ -2116,8 +2124,8 @@ relate_in_order-named_place_of-place-requires-clause-in_bounds g t c =
     let lx : i < count (direct_parts a) = omega (arith, test, inv.left_count) in
     subst (λ z. i < count (direct_parts z)) (sym same_a) lx
 
-pub relate_in_order-returns-in_err-answer : goal.relate_in_order-returns-in_err-answer
-relate_in_order-returns-in_err-answer g t c =
+pub relate_in_order-returns-in_err-keep_term_answer : goal.relate_in_order-returns-in_err-keep_term_answer
+relate_in_order-returns-in_err-keep_term_answer g t c =
     let r = g.R.HasState.state c.args.r.now in
     let M = g.R.TypeRelation.manner in
     let a = part_tree r.meaning c.args.a.now in
@@ -2156,20 +2164,31 @@ relate_in_order-returns-in_err-answer g t c =
     let p = g.R.HasState.state c.relate_parts_with_variance-related.new.r in
     let related = c.relate_parts_with_variance-related in
     let later = (((related.ensures).related).passes).extends in
-    let n = c.in_err-answer in
-    let named : c.named_place_of-place.result ≡ named_place a i =
-    c.named_place_of-place.ensures ∙ ap (λ z. named_place z i) same_a in
-    let z = failed_part (named_place a i) related.result n.field-0.0
-    (subst (λ z. IsResultOfPart z related.result (Err n.field-0.0)) named n.ensures) in
-    let gone = subst (λ v. Related M q p v x y (part_tree p.meaning) (Err z.0)) ew
-    (subst (λ u. Related M q p w x y (part_tree p.meaning) u) z.1 (related.ensures).related) in
-    let failed = as_err c.from_residual-in_err-answer.result n.field-0.0 c.from_residual-in_err-answer.ensures.0
-    c.from_residual-in_err-answer.ensures.1 in
-    record {
-      related = subst (λ u. RelatedForms M r p r.ambient a b (part_tree p.meaning) u) (sym failed)
-          (term_refused M r.ambient a b i form alike inv.fronted inv.are_parts (part_sort c.args.a.now)
+    let n = c.in_err-keep_term_answer in
+    let res = c.from_residual-in_err-keep_term_answer in
+    let failed = as_err res.result n.field-0.0 res.ensures.0 res.ensures.1 in
+    let refused : RelatedForms M r p r.ambient a b (part_tree p.meaning) (Err n.field-0.0) = elim (failed_in n.ensures) [
+      inl h ↦
+        let named : c.named_place_of-place.result ≡ named_place a i =
+        c.named_place_of-place.ensures ∙ ap (λ z. named_place z i) same_a in
+        let z = failed_part (named_place a i) related.result n.field-0.0
+        (subst (λ z. IsResultOfPart z related.result (Err n.field-0.0)) named h) in
+        let gone = subst (λ v. Related M q p v x y (part_tree p.meaning) (Err z.0)) ew
+        (subst (λ u. Related M q p w x y (part_tree p.meaning) u) z.1 (related.ensures).related) in
+        term_refused M r.ambient a b i form alike inv.fronted inv.are_parts (part_sort c.args.a.now)
           (part_sort c.args.b.now) ta tb inv.inputs x y lx ly ex ey (part_tree p.meaning) (part_tree p.meaning) z.0
-          n.field-0.0 z.2 gone);
+          n.field-0.0 z.2 gone
+    | inr m ↦
+        let z = kept_part c.named_place_of-place.result related.result m.0 m.1 in
+        let gone = subst (λ v. Related M q p v x y (part_tree p.meaning) (Ok m.0)) ew
+        (subst (λ u. Related M q p w x y (part_tree p.meaning) u) z (related.ensures).related) in
+        let next = fronted_next (head_of a) r.ambient i (direct_parts a) (direct_parts b) x y inv.fronted lx ly ex ey
+        (part_tree p.meaning) m.0 inv.are_parts gone in
+        subst (λ f. RelatedForms M r p r.ambient a b (part_tree p.meaning) (Err f)) (sym m.2)
+        (terms_stopped M r.ambient a b (suc i) form (part_tree p.meaning) next)
+    ] in
+    record {
+      related = subst (λ u. RelatedForms M r p r.ambient a b (part_tree p.meaning) u) (sym failed) refused;
       sort = subst (λ u. IfOk u (λ z. part_sort z ≡ part_sort c.args.a.now)) (sym failed) tt;
       predicate = subst (λ u. IfOk u (λ z. form_of_part z ≡ form_of_part c.args.a.now)) (sym failed) tt;
     }
@@ -2208,12 +2227,12 @@ relate_in_order-loop-i-preserved g t c =
     let p = g.R.HasState.state c.relate_parts_with_variance-related.new.r in
     let related = c.relate_parts_with_variance-related in
     let later = (((related.ensures).related).passes).extends in
-    let n = c.in_ok-answer in
-    let z = kept_part c.named_place_of-place.result related.result n.answer n.ensures in
-    let gone = subst (λ v. Related M q p v x y (part_tree p.meaning) (Ok n.answer)) ew
+    let n = kept_in c.in_ok-keep_term_answer.ensures in
+    let z = kept_part c.named_place_of-place.result related.result n.0 n.1 in
+    let gone = subst (λ v. Related M q p v x y (part_tree p.meaning) (Ok n.0)) ew
     (subst (λ u. Related M q p w x y (part_tree p.meaning) u) z (related.ensures).related) in
     let next = fronted_next (head_of a) r.ambient i (direct_parts a) (direct_parts b) x y inv.fronted lx ly ex ey
-    (part_tree p.meaning) n.answer inv.are_parts gone in
+    (part_tree p.meaning) n.0 inv.are_parts gone in
     let e = g.met.R.TypeRelation.reads c.loop-i.r in
     let cx = g.R.TypeRelation.interner c.loop-i.r in
     let sorted : Sorted q.meaning = subst (λ m. Sorted m) (sym e) (g.met.I.Interner.sorted cx) in
@@ -2222,32 +2241,57 @@ relate_in_order-loop-i-preserved g t c =
     λ o. subst (λ u. OnOk u (AreOfOneForm x y)) z ((related.ensures).alike o) in
     let was = c.loop-i.answers.items in
     let more : suc i ≡ i + 1 = omega arith in
-    let pushed : list_tree (part_tree p.meaning) c.push.new.self.items
-    ≡ snoc (list_tree (part_tree q.meaning) was) (part_tree p.meaning n.answer) =
-    ap (list_tree (part_tree p.meaning)) c.in_ok-push.ensures.items
-    ∙ list_push (part_tree p.meaning) was n.answer
-    ∙ ap (λ z. snoc z (part_tree p.meaning n.answer)) (stays_list (part_tree q.meaning) (part_tree p.meaning) was
-    (stays_part later) (inv.answers).sure) in
+    let then_a : part_tree p.meaning c.args.a.now ≡ a =
+    stays_part later c.args.a.now (subst (λ z. IsTrue (known z)) (sym same_a) k.left_known) ∙ same_a in
+    let keeps = subst (λ t. KeepsAnswer (part_tree p.meaning) Fit i (direct_parts t) n.0 was c.keep_term_answer.new.answers.items) then_a n.2 in
     record {
       lawful = (gone.passes).lawful inv.lawful;
       fronted = subst (λ j. Fronted M r p (head_of a) r.ambient j (direct_parts a) (direct_parts b)) more next;
       left_count = inv.left_count;
       right_count = inv.right_count;
       are_parts = inv.are_parts;
-      answers = subst₂ (λ j z. AreAnswers M p (head_of a) r.ambient j (direct_parts a) z) more (sym pushed)
-          (answers_next M (head_of a) r.ambient i (direct_parts a) (list_tree (part_tree q.meaning) was) x
-          (part_tree p.meaning n.answer) gone.passes lx inv.answers ex
-          (subst (λ z. MayAnswer M p (part_at z (head_of a) i r.ambient) x (part_tree p.meaning n.answer))
-          (sym (same_items (inv.fronted).passes)) (gone.verdict).answer) (gone.verdict).known);
-      fits = subst₂ (λ j z. Fit z (firsts j (direct_parts a))) more (sym c.in_ok-push.ensures.items)
-          (part_pushed was n.answer (direct_parts a) i lx inv.fits
-          (sort ∙ sym (sort_known q.meaning sorted X kx) ∙ ap tree_sort ex));
+      kept = record {
+        answers = λ some. subst (λ j. AreAnswers M p (head_of a) r.ambient j (direct_parts a)
+            (list_tree (part_tree p.meaning) c.keep_term_answer.new.answers.items)) more
+            (kept_answers M (part_tree q.meaning) (part_tree p.meaning) Fit (head_of a) r.ambient i (direct_parts a) x n.0 was
+            c.keep_term_answer.new.answers.items (stays_part later) gone.passes lx ex
+            (subst (λ z. MayAnswer M p (part_at z (head_of a) i r.ambient) x (part_tree p.meaning n.0))
+            (sym (same_items (inv.fronted).passes)) (gone.verdict).answer) (gone.verdict).known (inv.kept).answers keeps some);
+        fits = λ some. subst (λ j. Fit c.keep_term_answer.new.answers.items (firsts j (direct_parts a))) more
+            (kept_fit_parts (part_tree p.meaning) i (direct_parts a) n.0 was c.keep_term_answer.new.answers.items lx
+            (sort ∙ sym (sort_known q.meaning sorted X kx) ∙ ap tree_sort ex) (inv.kept).fits keeps some);
+      };
       inputs = subst (HaveAsManyInputs a b) more (inputs_next a b i (λ e. subst₂ AreOfOneForm ex ey
           (one (inputs_compared X (sym (sort_known q.meaning sorted X kx) ∙ ap tree_sort ex ∙ e)))) inv.inputs);
     }
 
-pub relate_in_order-returns-in_err-push : goal.relate_in_order-returns-in_err-push
-relate_in_order-returns-in_err-push g t c =
+pub relate_in_order-keep_term_answer-requires : goal.relate_in_order-keep_term_answer-requires
+relate_in_order-keep_term_answer-requires g t c =
+    let k = c.requires.asked in
+    let inv = c.loop-i.invariant in
+    let a = part_tree (g.R.HasState.state c.args.r.now).meaning c.args.a.now in
+    let q = g.R.HasState.state c.loop-i.r in
+    let p = g.R.HasState.state c.relate_parts_with_variance-related.new.r in
+    let related = c.relate_parts_with_variance-related in
+    let later = (((related.ensures).related).passes).extends in
+    let same = stays_part ((inv.fronted).passes).extends c.args.a.now k.left_known in
+    let then = stays_part later c.args.a.now (subst (λ z. IsTrue (known z)) (sym same) k.left_known) ∙ same in
+    let test = c.loop-i-test.true in
+    let within : c.loop-i.i ≤ count (direct_parts a) = omega (arith, test, inv.left_count) in
+    let X = c.term_part_of-x.result in
+    let kx = c.term_part_of-x.ensures.sure in
+    record {
+      sure = subst (λ z. IsTrue (known z)) (sym then) k.left_known;
+      form = subst IsByParts (sym then) c.requires.form;
+      within = subst (λ z. c.loop-i.i ≤ count (direct_parts z)) (sym then) within;
+      part_known = subst (λ z. IsTrue (known z)) (sym (stays_part later X kx)) kx;
+      answer_known = answer_known g.R.TypeRelation.manner q p (xform q.ambient c.term_variance_at-variance.result) (part_tree q.meaning X)
+          (part_tree q.meaning c.term_part_of-y.result) (part_tree p.meaning) related.result (related.ensures).related;
+      sort = (related.ensures).sort;
+    }
+
+pub relate_in_order-returns-then-is_empty : goal.relate_in_order-returns-then-is_empty
+relate_in_order-returns-then-is_empty g t c =
     let r = g.R.HasState.state c.args.r.now in
     let M = g.R.TypeRelation.manner in
     let a = part_tree r.meaning c.args.a.now in
@@ -2261,39 +2305,14 @@ relate_in_order-returns-in_err-push g t c =
     let extends = ((inv.fronted).passes).extends in
     let same_a : part_tree q.meaning c.args.a.now ≡ a = stays_part extends c.args.a.now k.left_known in
     let same_b : part_tree q.meaning c.args.b.now ≡ b = stays_part extends c.args.b.now k.right_known in
-    let test = c.loop-i-test.true in
-    let lx : i < count (direct_parts a) = omega (arith, test, inv.left_count) in
-    let ly : i < count (direct_parts b) = omega (arith, test, inv.right_count) in
-    let X = c.term_part_of-x.result in
-    let Y = c.term_part_of-y.result in
-    let x = part_tree q.meaning X in
-    let y = part_tree q.meaning Y in
-    let kx = c.term_part_of-x.ensures.sure in
-    let ky = c.term_part_of-y.ensures.sure in
-    let ex : x ≡ nth i (direct_parts a) = c.term_part_of-x.ensures.means ∙ ap (λ z. nth i (direct_parts z)) same_a in
-    let ey : y ≡ nth i (direct_parts b) = c.term_part_of-y.ensures.means ∙ ap (λ z. nth i (direct_parts z)) same_b in
-    let w = xform q.ambient c.term_variance_at-variance.result in
-    let ew : w ≡ part_at (items_in r) (head_of a) i r.ambient =
-    c.term_variance_at-variance.ensures ∙ ap (λ z. part_at (items_in q) (head_of z) i q.ambient) same_a ∙
-    ap (λ z. part_at z (head_of a) i q.ambient) (same_items (inv.fronted).passes) ∙
-    ap (λ z. part_at (items_in r) (head_of a) i z) ((inv.fronted).passes).ambient in
-    let p = g.R.HasState.state c.relate_parts_with_variance-related.new.r in
-    let related = c.relate_parts_with_variance-related in
-    let later = (((related.ensures).related).passes).extends in
-    let n = c.in_ok-answer in
-    let z = kept_part c.named_place_of-place.result related.result n.answer n.ensures in
-    let gone = subst (λ v. Related M q p v x y (part_tree p.meaning) (Ok n.answer)) ew
-    (subst (λ u. Related M q p w x y (part_tree p.meaning) u) z (related.ensures).related) in
-    let next = fronted_next (head_of a) r.ambient i (direct_parts a) (direct_parts b) x y inv.fronted lx ly ex ey
-    (part_tree p.meaning) n.answer inv.are_parts gone in
-    let failed = as_err c.from_residual-in_err-push.result Memory c.from_residual-in_err-push.ensures.0
-    c.from_residual-in_err-push.ensures.1 in
-    record {
-      related = subst (λ z. RelatedForms M r p r.ambient a b (part_tree p.meaning) z) (sym failed)
-          (terms_stopped M r.ambient a b (suc i) form (part_tree p.meaning) next);
-      sort = subst (λ u. IfOk u (λ z. part_sort z ≡ part_sort c.args.a.now)) (sym failed) tt;
-      predicate = subst (λ u. IfOk u (λ z. form_of_part z ≡ form_of_part c.args.a.now)) (sym failed) tt;
-    }
+    let test = c.loop-i-test.false in
+    let end = (c.loop-i.auto).i-end in
+    let left : i ≡ count (direct_parts a) = omega (arith, test, end, inv.left_count) in
+    let right : i ≡ count (direct_parts b) = omega (arith, test, end, inv.right_count) in
+    let done : RelatedForms M r q r.ambient a b (part_tree q.meaning) (Ok c.args.a.now) =
+    terms_answer M r.ambient a b i form (part_tree q.meaning) c.args.a.now alike inv.fronted inv.are_parts left right
+    same_a k.left_known in
+    record { related = done; sort = refl; predicate = refl }
 
 pub relate_in_order-make_part-requires-clause-lawful : goal.relate_in_order-make_part-requires-clause-lawful
 relate_in_order-make_part-requires-clause-lawful g t c = c.loop-i.invariant.lawful
@@ -2341,6 +2360,7 @@ relate_in_order-make_part-requires-clause-parts_known g t c =
     let q = g.R.HasState.state c.loop-i.r in
     let i = c.loop-i.i in
     let inv = c.loop-i.invariant in
+    let some = some_kept c.loop-i.answers c.if-is_empty.ensures in
     let k = c.requires.asked in
     let form = c.requires.form in
     let alike = c.requires.alike in
@@ -2348,7 +2368,7 @@ relate_in_order-make_part-requires-clause-parts_known g t c =
     let same_a : part_tree q.meaning c.args.a.now ≡ a = stays_part extends c.args.a.now k.left_known in
     let same_b : part_tree q.meaning c.args.b.now ≡ b = stays_part extends c.args.b.now k.right_known in
     subst (λ z. IsTrue (known z)) (sym (ap (list_tree (part_tree q.meaning)) c.as_slice.ensures.value))
-    (inv.answers).sure
+    ((inv.kept).answers some).sure
 
 pub relate_in_order-make_part-requires-clause-fits : goal.relate_in_order-make_part-requires-clause-fits
 relate_in_order-make_part-requires-clause-fits g t c =
@@ -2359,6 +2379,7 @@ relate_in_order-make_part-requires-clause-fits g t c =
     let q = g.R.HasState.state c.loop-i.r in
     let i = c.loop-i.i in
     let inv = c.loop-i.invariant in
+    let some = some_kept c.loop-i.answers c.if-is_empty.ensures in
     let k = c.requires.asked in
     let form = c.requires.form in
     let alike = c.requires.alike in
@@ -2372,7 +2393,7 @@ relate_in_order-make_part-requires-clause-fits g t c =
     let items = c.loop-i.answers.items in
     let was = list_tree (part_tree q.meaning) items in
     subst₂ (λ xs z. Fit xs (direct_parts z)) (sym c.as_slice.ensures.value) (sym same_a)
-    (parts_end items (direct_parts a) i (inv.are_parts).left_list left inv.fits)
+    (parts_end items (direct_parts a) i (inv.are_parts).left_list left ((inv.kept).fits some))
 
 pub relate_in_order-returns : goal.relate_in_order-returns
 relate_in_order-returns g t c =
@@ -2383,6 +2404,7 @@ relate_in_order-returns g t c =
     let q = g.R.HasState.state c.loop-i.r in
     let i = c.loop-i.i in
     let inv = c.loop-i.invariant in
+    let some = some_kept c.loop-i.answers c.if-is_empty.ensures in
     let k = c.requires.asked in
     let form = c.requires.form in
     let alike = c.requires.alike in
@@ -2404,7 +2426,7 @@ relate_in_order-returns g t c =
       related = form_made M r.ambient a b (made.made).extends made.grown (part_tree p.meaning) (part_tree q.meaning)
           c.args.a.now done c.make_part.result made.fault (form_over a was) _
           (may_over_term M q r.ambient a was form
-          (answers_end M q (head_of a) r.ambient i (direct_parts a) was (inv.are_parts).left_list left inv.answers))
+          (answers_end M q (head_of a) r.ambient i (direct_parts a) was (inv.are_parts).left_list left ((inv.kept).answers some)))
           (ap₂ form_over same_a (ap (list_tree (part_tree q.meaning)) c.as_slice.ensures.value)) (made.made).sure
           (made.made).means;
       sort = made.sort;

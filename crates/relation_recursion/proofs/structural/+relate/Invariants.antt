@@ -1,15 +1,14 @@
 use Rattle.std.proofs.Common.{◌≡◌, ◌+◌, ◌*◌}
-use Rattle.relation_terms.specs.Trees.{count, list_tree}
+use Rattle.relation_terms.specs.Trees.{count}
 use Rattle.relation_terms.specs.Meaning.{arg_tree}
 use Rattle.relation_terms.specs.Parts.{part_tree, Fit}
 use Rattle.relation_semantics.specs.Stores.{weight}
 use Rattle.relation_semantics.specs.Measures.{depth}
 use Rattle.relation_semantics.specs.Parts.{direct_parts, const_parts_of, head_of, const_head_of}
 use Rattle.relation_semantics.specs.Making.{FitArgs}
-use Rattle.relation_semantics.proofs.Lists.{firsts}
 use Rattle.relation_steps.proofs.Fronts.{Fronted, AreParts}
-use Rattle.relation_semantics.proofs.Answering.{AreAnswers}
 use Rattle.part_variances.proofs.Handed.{HaveAsManyInputs}
+use Rattle.relation_recursion.proofs.Kept.{AreKept}
 use Rattle.relation_recursion.proofs.structural.+relate.Given as goal
 
 abbrev pub decreases-structurally_relate_tys : goal.decreases-structurally_relate_tys
@@ -74,9 +73,7 @@ invariant-structurally_relate_tys-loop-i g l =
       left_count : l.n ≡ count (direct_parts t);
       right_count : l.n ≡ count (direct_parts u);
       are_parts : AreParts r.store (direct_parts t) (direct_parts u);
-      answers : AreAnswers g.R.TypeRelation.manner q (head_of t) r.ambient l.i (direct_parts t)
-          (list_tree (arg_tree q.meaning) l.answers.items);
-      fits : FitArgs l.answers.items (firsts l.i (direct_parts t));
+      kept : AreKept g.R.TypeRelation.manner q (head_of t) r.ambient l.i (direct_parts t) (arg_tree q.meaning) FitArgs l.answers.items;
     }
 
 abbrev pub invariant-structurally_relate_consts-loop-i : goal.invariant-structurally_relate_consts-loop-i
@@ -91,9 +88,7 @@ invariant-structurally_relate_consts-loop-i g l =
       left_count : l.n ≡ count (const_parts_of t);
       right_count : l.n ≡ count (const_parts_of u);
       are_parts : AreParts r.store (const_parts_of t) (const_parts_of u);
-      answers : AreAnswers g.R.TypeRelation.manner q (const_head_of t) r.ambient l.i (const_parts_of t)
-          (list_tree (arg_tree q.meaning) l.answers.items);
-      fits : FitArgs l.answers.items (firsts l.i (const_parts_of t));
+      kept : AreKept g.R.TypeRelation.manner q (const_head_of t) r.ambient l.i (const_parts_of t) (arg_tree q.meaning) FitArgs l.answers.items;
     }
 
 abbrev pub invariant-relate_in_order-loop-i : goal.invariant-relate_in_order-loop-i
@@ -108,8 +103,6 @@ invariant-relate_in_order-loop-i g l =
       left_count : l.n ≡ count (direct_parts t);
       right_count : l.n ≡ count (direct_parts u);
       are_parts : AreParts r.store (direct_parts t) (direct_parts u);
-      answers : AreAnswers g.R.TypeRelation.manner q (head_of t) r.ambient l.i (direct_parts t)
-          (list_tree (part_tree q.meaning) l.answers.items);
-      fits : Fit l.answers.items (firsts l.i (direct_parts t));
+      kept : AreKept g.R.TypeRelation.manner q (head_of t) r.ambient l.i (direct_parts t) (part_tree q.meaning) Fit l.answers.items;
       inputs : HaveAsManyInputs t u l.i;
     }
