@@ -35,8 +35,8 @@ pub record HasPartsTo {Key Id Name : Type 0} (m : Meaning Key Id Name) (ty : TyK
 
 pub record HasConstPartsTo {Key Id Name : Type 0} (m : Meaning Key Id Name) (constant : ConstKey Key) (i : ℕ) : Type 0
   where
-  pub sure : IsTrue (known (m.const_ constant))
-  pub within : i ≤ count (const_parts_of (m.const_ constant))
+    pub sure : IsTrue (known (m.const_ constant))
+    pub within : i ≤ count (const_parts_of (m.const_ constant))
 
 -- The same of a term that is related by its parts; and the part and its answer are known, and of one sort.
 pub record HasTermPartsTo {Key Id Name : Type 0} (m : Meaning Key Id Name) (term : Part Key Id) (i : ℕ) (x : Part Key Id)

@@ -159,7 +159,7 @@ pub(crate) fn keep_answer<I: Interner, R: TypeRelation<I>>(
     requires { HasPartsTo (R.state r.now).meaning ty.now i }
     ensures { let m = (R.state r.now).meaning in
         KeepsResult (IsResultOfTy (m.ty ty.now) x.now y.now related) (λ k. KeepsAnswer (arg_tree m) FitArgs i
-            (direct_parts (m.ty ty.now)) k answers.old.items answers.new.items) result }
+        (direct_parts (m.ty ty.now)) k answers.old.items answers.new.items) result }
 {
     let cx = r.cx();
     let answer = in_ty(cx, ty, x, y, related)?;
@@ -181,7 +181,7 @@ pub(crate) fn keep_const_answer<I: Interner, R: TypeRelation<I>>(
     requires { HasConstPartsTo (R.state r.now).meaning a.now i }
     ensures { let m = (R.state r.now).meaning in
         KeepsResult (IsResultOfConst (m.const_ a.now) a.now b.now related) (λ k. KeepsAnswer (arg_tree m) FitArgs i
-            (const_parts_of (m.const_ a.now)) k answers.old.items answers.new.items) result }
+        (const_parts_of (m.const_ a.now)) k answers.old.items answers.new.items) result }
 {
     let cx = r.cx();
     let answer = in_const(cx, a, b, related)?;
@@ -203,7 +203,7 @@ pub(crate) fn keep_term_answer<I: Interner, R: TypeRelation<I>>(
     requires { HasTermPartsTo (R.state r.now).meaning term.now i x.now related }
     ensures { let m = (R.state r.now).meaning in
         KeepsResult (IsResultOfPart place related) (λ k. KeepsAnswer (part_tree m) Fit i
-            (direct_parts (part_tree m term.now)) k answers.old.items answers.new.items) result }
+        (direct_parts (part_tree m term.now)) k answers.old.items answers.new.items) result }
 {
     let answer = in_part::<I, PartOf<I>>(place, related)?;
     let cx = r.cx();

@@ -11,8 +11,8 @@ pub returns : goal.returns
 returns g c =
     let x = c.args.answer in
     elim c.if-is_empty.branch [
-      then-is_empty+else-eq+in_ok-answers w ↦ first_kept w.in_ok-answers.field-0.items w.in_ok-answers.ensures
+      | then-is_empty+else-eq+in_ok-answers w ↦ first_kept w.in_ok-answers.field-0.items w.in_ok-answers.ensures
           (c.in_ok-push.ensures.items ∙ ap (λ v. v.items ++ x ∷ []) w.answers-is)
-    | else-is_empty w ↦ one_more (some_kept c.args.answers.now w.if-is_empty.ensures)
+      | else-is_empty w ↦ one_more (some_kept c.args.answers.now w.if-is_empty.ensures)
           (c.in_ok-push.ensures.items ∙ ap (λ v. v.items ++ x ∷ []) w.answers-is)
     ]

@@ -22,10 +22,10 @@ returns g c =
     let t = part_tree m c.args.term.now in
     let x = c.args.answer in
     elim c.if-is_empty.branch [
-      then-is_empty+else-is_same+in_ok-answers w ↦ first_kept w.in_ok-answers.field-0.items
+      | then-is_empty+else-is_same+in_ok-answers w ↦ first_kept w.in_ok-answers.field-0.items
           (first_members_as (part_tree m) c.args.i (direct_parts t) (parts_tree m w.parts_of.result)
           w.in_ok-answers.field-0.items (w.parts_of.ensures.means ∙ term_parts_as t c.requires.form) w.in_ok-answers.ensures)
           (c.in_ok-push.ensures.items ∙ ap (λ v. v.items ++ x ∷ []) w.answers-is)
-    | else-is_empty w ↦ one_more (some_kept c.args.answers.now w.if-is_empty.ensures)
+      | else-is_empty w ↦ one_more (some_kept c.args.answers.now w.if-is_empty.ensures)
           (c.in_ok-push.ensures.items ∙ ap (λ v. v.items ++ x ∷ []) w.answers-is)
     ]

@@ -1003,22 +1003,22 @@ structurally_relate_consts-returns-in_err-keep_const_answer g t c =
     let res = c.from_residual-in_err-keep_const_answer in
     let failed = as_err res.result n.field-0.0 res.ensures.0 res.ensures.1 in
     subst (λ u. RelatedForms M r p r.ambient a b (p.meaning).const_ u) (sym failed) (elim (failed_in n.ensures) [
-      inl h ↦
-        let z = failed_const a c.args.a.now c.args.b.now related.result n.field-0.0
-        (subst (λ z. IsResultOfConst z c.args.a.now c.args.b.now related.result (Err n.field-0.0)) then_a h) in
-        let gone = subst (λ v. Related M q p v x y (arg_tree p.meaning) (Err z.0)) ew
-        (subst (λ u. Related M q p w x y (arg_tree p.meaning) u) z.1 (related.ensures).related) in
-        const_refused M r.ambient a b i alike inv.fronted inv.are_parts c.args.a.now c.args.b.now x y lx ly ex ey (arg_tree p.meaning)
-        (p.meaning).const_ z.0 n.field-0.0 c.requires.a_formed c.requires.b_formed then_a then_b k.left_known k.right_known z.2 gone
-    | inr m ↦
-        let z = kept_const a c.args.a.now c.args.b.now related.result m.0
-        (subst (λ z. IsResultOfConst z c.args.a.now c.args.b.now related.result (Ok m.0)) then_a m.1) in
-        let gone = subst (λ v. Related M q p v x y (arg_tree p.meaning) (Ok m.0)) ew
-        (subst (λ u. Related M q p w x y (arg_tree p.meaning) u) z (related.ensures).related) in
-        let next = fronted_next (const_head_of a) r.ambient i (const_parts_of a) (const_parts_of b) x y inv.fronted lx ly ex ey (arg_tree p.meaning) m.0
-        inv.are_parts gone in
-        subst (λ f. RelatedForms M r p r.ambient a b (p.meaning).const_ (Err f)) (sym m.2)
-        (consts_stopped M r.ambient a b (suc i) (p.meaning).const_ next)
+      | inl h ↦
+          let z = failed_const a c.args.a.now c.args.b.now related.result n.field-0.0
+          (subst (λ z. IsResultOfConst z c.args.a.now c.args.b.now related.result (Err n.field-0.0)) then_a h) in
+          let gone = subst (λ v. Related M q p v x y (arg_tree p.meaning) (Err z.0)) ew
+          (subst (λ u. Related M q p w x y (arg_tree p.meaning) u) z.1 (related.ensures).related) in
+          const_refused M r.ambient a b i alike inv.fronted inv.are_parts c.args.a.now c.args.b.now x y lx ly ex ey (arg_tree p.meaning)
+          (p.meaning).const_ z.0 n.field-0.0 c.requires.a_formed c.requires.b_formed then_a then_b k.left_known k.right_known z.2 gone
+      | inr m ↦
+          let z = kept_const a c.args.a.now c.args.b.now related.result m.0
+          (subst (λ z. IsResultOfConst z c.args.a.now c.args.b.now related.result (Ok m.0)) then_a m.1) in
+          let gone = subst (λ v. Related M q p v x y (arg_tree p.meaning) (Ok m.0)) ew
+          (subst (λ u. Related M q p w x y (arg_tree p.meaning) u) z (related.ensures).related) in
+          let next = fronted_next (const_head_of a) r.ambient i (const_parts_of a) (const_parts_of b) x y inv.fronted lx ly ex ey (arg_tree p.meaning) m.0
+          inv.are_parts gone in
+          subst (λ f. RelatedForms M r p r.ambient a b (p.meaning).const_ (Err f)) (sym m.2)
+          (consts_stopped M r.ambient a b (suc i) (p.meaning).const_ next)
     ])
 
 pub structurally_relate_consts-loop-i-preserved : goal.structurally_relate_consts-loop-i-preserved
@@ -1351,22 +1351,22 @@ structurally_relate_tys-returns-in_err-keep_answer g t c =
     let res = c.from_residual-in_err-keep_answer in
     let failed = as_err res.result n.field-0.0 res.ensures.0 res.ensures.1 in
     subst (λ u. RelatedForms M r p r.ambient a b (p.meaning).ty u) (sym failed) (elim (failed_in n.ensures) [
-      inl h ↦
-        let z = failed_ty a X Y related.result n.field-0.0
-        (subst (λ z. IsResultOfTy z X Y related.result (Err n.field-0.0)) then_a h) in
-        let gone = subst (λ v. Related M q p v x y (arg_tree p.meaning) (Err z.0)) ew
-        (subst (λ u. Related M q p w x y (arg_tree p.meaning) u) z.1 (related.ensures).related) in
-        ty_refused M r.ambient a b i c.requires.a_formed alike inv.fronted inv.are_parts X Y kx ky sorted lx ly ex ey
-        (arg_tree p.meaning) (p.meaning).ty z.0 n.field-0.0 c.requires.b_formed (knows_arg later X kx) (knows_arg later Y ky) z.2 gone
-    | inr m ↦
-        let z = kept_ty a X Y related.result m.0
-        (subst (λ z. IsResultOfTy z X Y related.result (Ok m.0)) then_a m.1) in
-        let gone = subst (λ v. Related M q p v x y (arg_tree p.meaning) (Ok m.0)) ew
-        (subst (λ u. Related M q p w x y (arg_tree p.meaning) u) z (related.ensures).related) in
-        let next = fronted_next (head_of a) r.ambient i (direct_parts a) (direct_parts b) x y inv.fronted lx ly ex ey (arg_tree p.meaning) m.0
-        inv.are_parts gone in
-        subst (λ f. RelatedForms M r p r.ambient a b (p.meaning).ty (Err f)) (sym m.2)
-        (types_stopped M r.ambient a b (suc i) (p.meaning).ty c.requires.a_formed next)
+      | inl h ↦
+          let z = failed_ty a X Y related.result n.field-0.0
+          (subst (λ z. IsResultOfTy z X Y related.result (Err n.field-0.0)) then_a h) in
+          let gone = subst (λ v. Related M q p v x y (arg_tree p.meaning) (Err z.0)) ew
+          (subst (λ u. Related M q p w x y (arg_tree p.meaning) u) z.1 (related.ensures).related) in
+          ty_refused M r.ambient a b i c.requires.a_formed alike inv.fronted inv.are_parts X Y kx ky sorted lx ly ex ey
+          (arg_tree p.meaning) (p.meaning).ty z.0 n.field-0.0 c.requires.b_formed (knows_arg later X kx) (knows_arg later Y ky) z.2 gone
+      | inr m ↦
+          let z = kept_ty a X Y related.result m.0
+          (subst (λ z. IsResultOfTy z X Y related.result (Ok m.0)) then_a m.1) in
+          let gone = subst (λ v. Related M q p v x y (arg_tree p.meaning) (Ok m.0)) ew
+          (subst (λ u. Related M q p w x y (arg_tree p.meaning) u) z (related.ensures).related) in
+          let next = fronted_next (head_of a) r.ambient i (direct_parts a) (direct_parts b) x y inv.fronted lx ly ex ey (arg_tree p.meaning) m.0
+          inv.are_parts gone in
+          subst (λ f. RelatedForms M r p r.ambient a b (p.meaning).ty (Err f)) (sym m.2)
+          (types_stopped M r.ambient a b (suc i) (p.meaning).ty c.requires.a_formed next)
     ])
 
 pub structurally_relate_tys-loop-i-preserved : goal.structurally_relate_tys-loop-i-preserved
@@ -2168,24 +2168,24 @@ relate_in_order-returns-in_err-keep_term_answer g t c =
     let res = c.from_residual-in_err-keep_term_answer in
     let failed = as_err res.result n.field-0.0 res.ensures.0 res.ensures.1 in
     let refused : RelatedForms M r p r.ambient a b (part_tree p.meaning) (Err n.field-0.0) = elim (failed_in n.ensures) [
-      inl h ↦
-        let named : c.named_place_of-place.result ≡ named_place a i =
-        c.named_place_of-place.ensures ∙ ap (λ z. named_place z i) same_a in
-        let z = failed_part (named_place a i) related.result n.field-0.0
-        (subst (λ z. IsResultOfPart z related.result (Err n.field-0.0)) named h) in
-        let gone = subst (λ v. Related M q p v x y (part_tree p.meaning) (Err z.0)) ew
-        (subst (λ u. Related M q p w x y (part_tree p.meaning) u) z.1 (related.ensures).related) in
-        term_refused M r.ambient a b i form alike inv.fronted inv.are_parts (part_sort c.args.a.now)
+      | inl h ↦
+          let named : c.named_place_of-place.result ≡ named_place a i =
+          c.named_place_of-place.ensures ∙ ap (λ z. named_place z i) same_a in
+          let z = failed_part (named_place a i) related.result n.field-0.0
+          (subst (λ z. IsResultOfPart z related.result (Err n.field-0.0)) named h) in
+          let gone = subst (λ v. Related M q p v x y (part_tree p.meaning) (Err z.0)) ew
+          (subst (λ u. Related M q p w x y (part_tree p.meaning) u) z.1 (related.ensures).related) in
+          term_refused M r.ambient a b i form alike inv.fronted inv.are_parts (part_sort c.args.a.now)
           (part_sort c.args.b.now) ta tb inv.inputs x y lx ly ex ey (part_tree p.meaning) (part_tree p.meaning) z.0
           n.field-0.0 z.2 gone
-    | inr m ↦
-        let z = kept_part c.named_place_of-place.result related.result m.0 m.1 in
-        let gone = subst (λ v. Related M q p v x y (part_tree p.meaning) (Ok m.0)) ew
-        (subst (λ u. Related M q p w x y (part_tree p.meaning) u) z (related.ensures).related) in
-        let next = fronted_next (head_of a) r.ambient i (direct_parts a) (direct_parts b) x y inv.fronted lx ly ex ey
-        (part_tree p.meaning) m.0 inv.are_parts gone in
-        subst (λ f. RelatedForms M r p r.ambient a b (part_tree p.meaning) (Err f)) (sym m.2)
-        (terms_stopped M r.ambient a b (suc i) form (part_tree p.meaning) next)
+      | inr m ↦
+          let z = kept_part c.named_place_of-place.result related.result m.0 m.1 in
+          let gone = subst (λ v. Related M q p v x y (part_tree p.meaning) (Ok m.0)) ew
+          (subst (λ u. Related M q p w x y (part_tree p.meaning) u) z (related.ensures).related) in
+          let next = fronted_next (head_of a) r.ambient i (direct_parts a) (direct_parts b) x y inv.fronted lx ly ex ey
+          (part_tree p.meaning) m.0 inv.are_parts gone in
+          subst (λ f. RelatedForms M r p r.ambient a b (part_tree p.meaning) (Err f)) (sym m.2)
+          (terms_stopped M r.ambient a b (suc i) form (part_tree p.meaning) next)
     ] in
     record {
       related = subst (λ u. RelatedForms M r p r.ambient a b (part_tree p.meaning) u) (sym failed) refused;
