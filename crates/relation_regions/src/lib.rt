@@ -1,0 +1,5 @@
+//! Whether regions can be as it was recorded: a solver of region constraints.
+#![tactic(auto)]
+
+mod graph;
+mod search;
