@@ -4,6 +4,7 @@ use Rattle.std.proofs.Common.{◌≡◌, ◌≢◌, ℕ, ◌<◌, ◌≤◌, ◌
 use Rattle.std.proofs.Common.{refl, subst, length-append, inl, inr}
 use Rattle.std.proofs.Math.ListN.{set}
 use Rattle.std.proofs.lemmas.Bool.{cases_eq}
+use Rattle.std.proofs.lemmas.Grind.{get_or_default_zero}
 use Rattle.std.proofs.lemmas.List.{get_or_append_left, get_or_push, get_or-set_same, get_or-set_other, length-set}
 use Rattle.relation_regions.specs.Graphs.{IsLatest, AreColumns}
 
@@ -104,3 +105,17 @@ columns_grow from to earlier latest a b v c lt_a lt_b e =
       earlier_ones = λ i q. earlier_all to earlier latest b c.each_earlier lt_b c.latest_ones c.earlier_ones i
           (omega (arith, length_more to b));
     }
+
+-- The same of columns that are equal to these.
+pub columns_grow_like : (from to earlier latest from' to' earlier' : List ℕ) (a b v y : ℕ) →
+    AreColumns from to earlier latest → a < length latest → b < length latest → v ≡ length to' →
+    from' ≡ from ++ a ∷ [] → to' ≡ to ++ b ∷ [] → earlier' ≡ earlier ++ y ∷ [] → y ≡ get_or latest b y →
+    AreColumns from' to' earlier' (set latest b v)
+columns_grow_like from to earlier latest from' to' earlier' a b v y c lt_a lt_b len e f g h =
+    let k : y ≡ get_or latest b 0 = h ∙ get_or_default_zero latest b y lt_b in
+    let n : v ≡ length to + 1 = len ∙ (ap (λ (l : List ℕ). length l) f ∙ length_more to b) in
+    let x = columns_grow from to earlier latest a b v c lt_a lt_b n in
+    subst (λ u. AreColumns u to' earlier' (set latest b v)) (sym e)
+        (subst (λ u. AreColumns (from ++ a ∷ []) u earlier' (set latest b v)) (sym f)
+            (subst (λ u. AreColumns (from ++ a ∷ []) (to ++ b ∷ []) u (set latest b v))
+                (sym (g ∙ ap (λ z. earlier ++ z ∷ []) k)) x))

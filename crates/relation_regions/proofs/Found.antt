@@ -1,10 +1,11 @@
 -- What finding one more node does to a search.
 use borrow.Author.Count.{below_more}
 use Rattle.std.proofs.Common.{◌≡◌, ◌≢◌, ℕ, ◌<◌, ◌≤◌, ◌+◌, ◌-◌, List, [], ◌∷◌, ◌++◌, length, get_or, arith, sym, ◌∙◌, ap}
-use Rattle.std.proofs.Common.{refl, subst, length-append, inl, inr, Option, Some, None, IsSome, is_some, cond, replicate}
+use Rattle.std.proofs.Common.{refl, subst, length-append, inl, inr, Option, Some, None, IsSome, is_some, cond, false}
 use Rattle.std.specs.List.{count_by}
 use Rattle.std.proofs.Math.ListN.{set}
 use Rattle.std.proofs.lemmas.Bool.{cases_eq}
+use Rattle.std.proofs.lemmas.Grind.{get_or_default_zero}
 use Rattle.std.proofs.lemmas.List.{get_or_append_left, get_or_push, get_or-set_same, get_or-set_other, length-set}
 use Rattle.std.proofs.lemmas.List.Sums.{sum_by-set}
 use Rattle.relation_regions.specs.Searches.{IsStep, HasFound}
@@ -105,3 +106,30 @@ module _ (from to : List ℕ) (count target : ℕ) (places : List (Option ℕ)) 
         counted = length_more nodes x ∙ (ap (λ n. n + 1) h.counted ∙
             sym (count_more places x (length nodes) lt_x unplaced));
       }
+
+-- What is read to be none is none.
+pub unplaced_from : (places : List (Option ℕ)) (x : ℕ) (r : Option ℕ) → r ≡ get_or places x r → is_some r ≡ false →
+    get_or places x None ≡ None
+unplaced_from places x None e h = sym e
+unplaced_from places x (Some v) e h = absurd cc
+
+-- The same of columns that are equal to these.
+pub found_like : (from to : List ℕ) (count target : ℕ) (places : List (Option ℕ)) (nodes edges onward : List ℕ)
+    (nodes' edges' onward' : List ℕ) (x edge next len : ℕ) (r : Option ℕ) →
+    HasFound from to count target places nodes edges onward →
+    ((i : ℕ) → i < length from → get_or from i 0 < count) → edge < length to → next < length nodes →
+    x ≡ get_or from edge x → edge < length from → get_or to edge 0 ≡ get_or nodes next 0 → r ≡ get_or places x r →
+    is_some r ≡ false → len ≡ length nodes → nodes' ≡ nodes ++ x ∷ [] → edges' ≡ edges ++ edge ∷ [] →
+    onward' ≡ onward ++ next ∷ [] → HasFound from to count target (set places x (Some len)) nodes' edges' onward'
+found_like from to count target places nodes edges onward nodes' edges' onward' x edge next len r h nodes_in edge_in next_in
+    leads_from in_from leads_to read none len_is e f g =
+    let from_x : get_or from edge 0 ≡ x = sym (leads_from ∙ get_or_default_zero from edge x in_from) in
+    let lt : x < count = omega (arith, nodes_in edge in_from, from_x) in
+    let y = found_grows from to count target places nodes edges onward x edge next h lt edge_in next_in from_x leads_to
+        (unplaced_from places x r read none) in
+    let F : ℕ → List ℕ → List ℕ → List ℕ → Type 0 =
+        λ l u v w. HasFound from to count target (set places x (Some l)) u v w in
+    subst (λ l. F l nodes' edges' onward') (sym len_is)
+        (subst (λ u. F (length nodes) u edges' onward') (sym e)
+            (subst (λ u. F (length nodes) (nodes ++ x ∷ []) u onward') (sym f)
+                (subst (λ u. F (length nodes) (nodes ++ x ∷ []) (edges ++ edge ∷ []) u) (sym g) y)))

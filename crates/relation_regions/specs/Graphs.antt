@@ -28,3 +28,9 @@ IsPath from to (i ∷ path) a b = (i < length to) × (get_or from i 0 ≡ a) × 
 -- A path leads from a node to another.
 abbrev pub Reaches : Graph → ℕ → ℕ → Type 0
 Reaches g a b = (path : List ℕ) × IsPath g.from.items g.to.items path a b
+
+-- Two graphs have as many nodes and the same edges.
+pub record HasSameEdges (g h : Graph) : Type 0 where
+  pub nodes : length h.latest.items ≡ length g.latest.items
+  pub from : h.from.items ≡ g.from.items
+  pub to : h.to.items ≡ g.to.items

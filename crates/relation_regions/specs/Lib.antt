@@ -1,2 +1,4 @@
 pub mod Graphs
 pub mod Searches
+pub mod Standings
+pub mod Widening

@@ -1,6 +1,6 @@
 //! From which nodes of a graph one of them is reached, and by what path.
 ghost use Rattle.std.specs.Prelude.{◌≡◌, ℕ, ◌<◌, ◌≤◌, length, get_or, OnOk, IfOk};
-ghost use Rattle.relation_regions.specs.Graphs.{IsGraph};
+ghost use Rattle.relation_regions.specs.Graphs.{IsGraph, IsPath};
 ghost use Rattle.relation_regions.specs.Searches.{IsSearch, Keeps, IsFound, HasPredecessors, FindsAll};
 
 use crate::graph::Graph;
@@ -75,6 +75,22 @@ impl Search {
             left = graph.earlier[left - 1];
         }
         Ok(())
+    }
+
+    /// Edges that lead, one after another, from a found node to the target.
+    pub(crate) fn path(&self, alloc: Global, graph: &Graph, target: usize, node: usize) -> Result<Vec<usize>, OutOfMemory>
+        requires search { IsSearch graph.now target self.now }
+        requires node { node < length graph.now.latest.items }
+        requires found { IsFound self.now node }
+        ensures { IfOk result (λ path. IsPath graph.now.from.items graph.now.to.items path.items node target) }
+    {
+        let mut path = Vec::new(alloc);
+        let mut place = self.places[node].unwrap_or(0);
+        while place > 0 {
+            path.push(self.edges[place])?;
+            place = self.onward[place];
+        }
+        Ok(path)
     }
 }
 
