@@ -1,9 +1,7 @@
 //! Whether regions can be as it was recorded: a solver of region constraints.
 #![tactic(auto)]
 
-mod decide;
 mod graph;
 mod search;
 mod standing;
-mod unsatisfiable;
 mod widening;
