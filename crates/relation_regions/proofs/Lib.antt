@@ -1,3 +1,5 @@
 pub mod Columns
 pub mod Found
 pub mod Paths
+pub mod Widened
+pub mod Forcing

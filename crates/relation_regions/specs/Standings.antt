@@ -1,5 +1,5 @@
 -- What regions are, and what is forced among numbered ones.
-use Rattle.std.specs.Prelude.{◌≡◌, ℕ, ◌<◌, Bool, true, false, nat_lt, List, length, get_or, IsTrue}
+use Rattle.std.specs.Prelude.{◌≡◌, ℕ, ◌<◌, Bool, true, false, nat_lt, List, length, get_or, IsTrue, Contains}
 use Rattle.relation_regions.specs.declared.standing.Standing.{Standing}
 use Rattle.relation_regions.specs.declared.standing.Standing.TheVariants.{Named, Placeholder, Variable}
 
@@ -46,3 +46,7 @@ pub data IsForced (from to : List ℕ) (asked : ℕ) (standings : List Standing)
 -- Any edge.
 abbrev pub Any : ℕ → Type 0
 Any i = Unit {0}
+
+-- One of a list.
+abbrev pub Among : List ℕ → ℕ → Type 0
+Among list i = Contains list i

@@ -1,7 +1,9 @@
 //! Whether regions can be as it was recorded: a solver of region constraints.
 #![tactic(auto)]
 
+mod decide;
 mod graph;
 mod search;
 mod standing;
+mod unsatisfiable;
 mod widening;
