@@ -3,3 +3,4 @@ pub mod Found
 pub mod Paths
 pub mod Widened
 pub mod Forcing
+pub mod Deciding

@@ -75,12 +75,14 @@ pub(crate) fn decide(
         if standings[target].is_given() {
             let found = reaching(alloc, &wide, target)?;
             let stated = reaching(alloc, known, target)?;
-            if let Some(longer) = find_unknown(standings, &found, &stated) {
-                let path = found.path(alloc, &wide, target, longer)?;
-                let by = causes_of(alloc, graph, &wide, standings, reasons.as_slice(), asked, longer, target, path.as_slice())?;
-                return Ok(Decision::Unmet { longer, shorter: target, by });
+            match find_unknown(standings, &found, &stated) {
+                None => add_values(standings, &found, target, &mut values)?,
+                Some(longer) => {
+                    let path = found.path(alloc, &wide, target, longer)?;
+                    let by = causes_of(alloc, graph, &wide, standings, reasons.as_slice(), asked, longer, target, path.as_slice())?;
+                    return Ok(Decision::Unmet { longer, shorter: target, by });
+                }
             }
-            add_values(standings, &found, target, &mut values)?;
         }
     }
     Ok(Decision::Met(values))

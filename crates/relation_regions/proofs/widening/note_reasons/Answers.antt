@@ -1,6 +1,6 @@
 -- Whether the next node is noted.
 use Rattle.std.proofs.Common.{arith, ◌≡◌, ◌<◌, ◌∙◌, ap, sym, length, get_or, None, Option, ℕ, IsSome, is_some, true, false, Bool}
-use Rattle.std.specs.Global.{Vec, Global}
+use Rattle.std.specs.Global.{Vec}
 use Rattle.relation_regions.specs.Searches.{IsFound}
 use Rattle.relation_regions.specs.Standings.{IsBeyond}
 use Rattle.relation_regions.proofs.Widened.{noted_yes, noted_no, all_noted, some_as_read, found_in}
@@ -23,9 +23,9 @@ loop-node-preserved c =
           (some_as_read c.args.found.now.places.items c.loop-node.node c.index.result.now true lt_places
               c.index.ensures (sym c.is_some.ensures ∙ w.if-is_some.true))
           (sym w.is_beyond.ensures ∙ w.if-is_beyond.true)
-          (ap (λ (v : Vec (Option ℕ) Global). v.items) w.reasons-is)
+          (ap (λ (v : Vec (Option ℕ)). v.items) w.reasons-is)
       | else-is_some w ↦
-        let same = ap (λ (v : Vec (Option ℕ) Global). v.items) w.reasons-is in
+        let same = ap (λ (v : Vec (Option ℕ)). v.items) w.reasons-is in
         elim w.else-is_some.branch [
           else-is_some-via-then-is_some+else-is_beyond v ↦
             noted_no c.args.graph.now c.args.standings.now c.args.found.now c.args.target c.loop-node.node
