@@ -4,3 +4,4 @@ pub mod Paths
 pub mod Widened
 pub mod Forcing
 pub mod Deciding
+pub mod EdgesAdded

@@ -1,6 +1,7 @@
 //! Whether regions can be as it was recorded: a solver of region constraints.
 #![tactic(auto)]
 
+mod building;
 mod decide;
 mod graph;
 mod search;
