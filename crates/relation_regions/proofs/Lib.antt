@@ -5,3 +5,4 @@ pub mod Widened
 pub mod Forcing
 pub mod Deciding
 pub mod EdgesAdded
+pub mod Numbers

@@ -1,4 +1,5 @@
 pub mod Graphs
+pub mod Numbering
 pub mod Building
 pub mod Searches
 pub mod Standings

@@ -4,6 +4,7 @@
 mod building;
 mod decide;
 mod graph;
+mod numbering;
 mod search;
 mod standing;
 mod unsatisfiable;
