@@ -154,15 +154,16 @@ target_passed known w standings target values new h free is =
 pub all_decided : (known g w : Graph) (asked : ℕ) (standings : List Standing) (reasons slice : List (Option ℕ))
     (target : ℕ) (values : List (ℕ × ℕ)) → slice ≡ reasons → IsWidened g slice (length slice) w →
     AreReasons g standings reasons → HaveReasons g standings (length standings) reasons →
-    IsDecidedTo known w standings target values → length standings ≤ target → IsMet known g asked standings values
-all_decided known g w asked standings reasons slice target values same wide are all h whole =
+    IsDecidedTo known w standings target values → length standings ≤ target →
+    length g.latest.items ≡ length standings → IsMet known g asked standings values
+all_decided known g w asked standings reasons slice target values same wide are all h whole nodes =
     let wide' : IsWidened g reasons (length reasons) w = subst (λ r. IsWidened g r (length r) w) same wide in
     let bound : length standings ≤ length reasons = omega (arith, are.one_each) in
     let there = forced_reached g w asked standings reasons (length reasons) wide' are all bound (beyond_node standings) in
     let back = reached_forced g w asked standings reasons (length reasons) wide' are in
     record {
       all_known = λ a b ga gb f. h.known_to a b (omega (arith, gb.0)) ga gb (there a b f);
-      edges = (w, λ a b. (there a b, back a b));
+      edges = record { by = w; graph = wide.graph; nodes = wide.nodes ∙ nodes; reached = there; forced = back };
       each = λ a b va gb f. h.values_to.each a b (omega (arith, gb.0)) gb va (there a b f);
       only = λ a b c. let p = h.values_to.only a b c in (p.0, p.1, back a b p.2);
     }

@@ -1,11 +1,11 @@
 -- What is decided of nodes: which given ones have to outlive which, and of which that wasn't known.
-use Rattle.std.specs.Prelude.{◌≡◌, ◌↔◌, ◌⊎◌, ℕ, ◌<◌, List, All, length, get_or, Contains, IsTrue, IsFalse}
+use Rattle.std.specs.Prelude.{◌≡◌, ◌⊎◌, ℕ, ◌<◌, List, All, length, get_or, Contains, IsTrue, IsFalse}
 use Rattle.relation_regions.specs.declared.graph.Graph.{Graph}
 use Rattle.relation_regions.specs.declared.search.Search.{Search}
 use Rattle.relation_regions.specs.declared.standing.Standing.{Standing}
 use Rattle.relation_regions.specs.declared.decide.Decision.{Decision}
 use Rattle.relation_regions.specs.declared.decide.Decision.TheVariants.{Met, Unmet}
-use Rattle.relation_regions.specs.Graphs.{Reaches, IsPath}
+use Rattle.relation_regions.specs.Graphs.{IsGraph, Reaches}
 use Rattle.relation_regions.specs.Searches.{IsFound}
 use Rattle.relation_regions.specs.Standings.{is_given, standing_of, IsForced, Any, Among}
 
@@ -61,12 +61,20 @@ pub record AreValues (w : Graph) (standings : List Standing) (bound : ℕ) (valu
 abbrev pub Forced : Graph → ℕ → List Standing → ℕ → ℕ → Type 0
 Forced g asked standings a b = IsForced g.from.items g.to.items asked standings Any a b
 
+-- What is forced comes by the edges of a graph.
+pub record ByEdges (g : Graph) (asked : ℕ) (standings : List Standing) : Type 0 where
+  pub by : Graph
+  pub graph : IsGraph by
+  pub nodes : length by.latest.items ≡ length standings
+  pub reached : (a b : ℕ) → Forced g asked standings a b → Reaches by a b
+  pub forced : (a b : ℕ) → Reaches by a b → Forced g asked standings a b
+
 -- Of given nodes just what is known is forced. What is forced comes by finitely many edges; of a variable the values
 -- are the given nodes that it is forced to outlive.
 pub record IsMet (known g : Graph) (asked : ℕ) (standings : List Standing) (values : List (ℕ × ℕ)) : Type 0 where
   pub all_known : (a b : ℕ) → IsGiven standings a → IsGiven standings b → Forced g asked standings a b →
       Reaches known a b
-  pub edges : (w : Graph) × ((a b : ℕ) → Forced g asked standings a b ↔ Reaches w a b)
+  pub edges : ByEdges g asked standings
   pub each : (a b : ℕ) → IsVariable standings a → IsGiven standings b → Forced g asked standings a b →
       Contains values (a, b)
   pub only : (a b : ℕ) → Contains values (a, b) →

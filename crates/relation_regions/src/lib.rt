@@ -3,9 +3,17 @@
 
 mod building;
 mod decide;
+mod fact;
 mod graph;
 mod numbering;
+mod reading;
+mod recorded;
 mod search;
+mod solve;
 mod standing;
 mod unsatisfiable;
 mod widening;
+
+pub use fact::Fact;
+pub use recorded::RecordedRegions;
+pub use solve::{Solved, solve};

@@ -29,4 +29,4 @@ pub returns : goal.returns
 returns c = all_decided c.args.known.now c.args.graph.now c.in_ok-wide.wide c.args.asked c.args.standings.now
     c.in_ok-reasons.reasons.items c.as_slice.result.now c.loop-target.target c.loop-target.values.items
     c.as_slice.ensures.value c.in_ok-wide.ensures c.in_ok-reasons.ensures.reasons c.in_ok-reasons.ensures.all
-    c.loop-target.invariant (omega arith)
+    c.loop-target.invariant (omega arith) c.requires.nodes
