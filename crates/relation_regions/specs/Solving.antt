@@ -7,8 +7,8 @@ use Rattle.relation_semantics.specs.Relation.{Interpretation, Outlives}
 use Rattle.relation_semantics.specs.Stores.{ConstraintHolds, Satisfies}
 use Rattle.relation_semantics.specs.Contexts.{Context}
 use Rattle.relation_regions.specs.declared.fact.Fact.{Fact}
-use Rattle.relation_regions.specs.declared.solve.Solved.{Solved}
-use Rattle.relation_regions.specs.declared.solve.Solved.TheVariants.{Met, Unmet}
+use Rattle.relation_regions.specs.declared.solving.Solved.{Solved}
+use Rattle.relation_regions.specs.declared.solving.Solved.TheVariants.{Met, Unmet}
 use Rattle.relation_regions.specs.Worlds.{IsGiven, IsMentioned, IsNoVariable, IsKnown, Respects, Agrees}
 use Rattle.relation_regions.specs.Reading.{facts_in}
 

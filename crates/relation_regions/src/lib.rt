@@ -9,11 +9,11 @@ mod numbering;
 mod reading;
 mod recorded;
 mod search;
-mod solve;
+mod solving;
 mod standing;
 mod unsatisfiable;
 mod widening;
 
 pub use fact::Fact;
 pub use recorded::RecordedRegions;
-pub use solve::{Solved, solve};
+pub use solving::{Solved, solve};

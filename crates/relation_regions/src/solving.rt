@@ -53,6 +53,7 @@ fn said_by(alloc: Global, pairs: &Pairs, places: &[usize]) -> Result<Vec<usize>,
 ///
 /// # Errors
 /// `OutOfMemory` where a growth was refused, and where there are 2^32 regions.
+#[tactic(none)]
 pub fn solve<C: RecordedRegions>(
     ctx: &C,
     re_static: Region<C::Interner>,
