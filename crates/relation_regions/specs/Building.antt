@@ -7,7 +7,6 @@ use Rattle.relation_regions.specs.Graphs.{IsGraph}
 -- The columns belong together, and the pairs are of so many nodes.
 pub record ArePairs (nodes : ℕ) (p : Pairs) : Type 0 where
   pub each_longer : length p.longer.items ≡ length p.shorter.items
-  pub each_said : length p.said_by.items ≡ length p.shorter.items
   pub longer_in : (k : ℕ) → k < length p.shorter.items → get_or p.longer.items k 0 < nodes
   pub shorter_in : (k : ℕ) → k < length p.shorter.items → get_or p.shorter.items k 0 < nodes
 

@@ -7,25 +7,22 @@ use crate::graph::Graph;
 use std::alloc::Global;
 use term_enums::OutOfMemory;
 
-/// Pairs of nodes, the first of which outlives the second, each with the number of what says so.
+/// Pairs of numbered regions, the first of which outlives the second.
 #[derive(Drop)]
-pub(crate) struct Pairs {
-    pub(crate) longer: Vec<usize>,
-    pub(crate) shorter: Vec<usize>,
-    pub(crate) said_by: Vec<usize>,
+pub struct Pairs {
+    pub longer: Vec<usize>,
+    pub shorter: Vec<usize>,
 }
 
 impl Pairs {
-    /// No pairs.
-    pub(crate) fn new(alloc: Global) -> Pairs
+    /// No pairs. It takes no memory.
+    pub fn new(alloc: Global) -> Pairs
         ensures longer { result.longer.items ≡ [] }
         ensures shorter { result.shorter.items ≡ [] }
-        ensures said_by { result.said_by.items ≡ [] }
     {
         Pairs {
             longer: Vec::new(alloc),
             shorter: Vec::new(alloc),
-            said_by: Vec::new(alloc),
         }
     }
 }

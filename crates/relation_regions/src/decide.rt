@@ -13,7 +13,7 @@ use term_enums::OutOfMemory;
 
 /// Whether what is asked makes no given node outlive another one that it wasn't known to.
 #[derive(Drop)]
-pub(crate) enum Decision {
+pub enum Decision {
     /// Pairs of a variable and a given node that it has to outlive.
     Met(Vec<(usize, usize)>),
     /// A given node has to outlive another one by these edges, though that isn't known.
