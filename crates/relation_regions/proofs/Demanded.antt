@@ -97,10 +97,10 @@ module _ (standings : List Standing) (none known : Pairs) (g : Graph) (empty : l
   pub known_reached : (a b : ℕ) → IsKnown standings known a b → Reaches g a b
   known_reached a b (is_stated k lt e f) =
       let i_lt : E + k < length g.to.items = omega (arith, lt, built.count) in
-      (E + k ∷ [], (i_lt, built.has_known.longer k lt ∙ e, built.has_known.shorter k lt ∙ f))
+      ((E + k) ∷ [], (i_lt, built.has_known.longer k lt ∙ e, built.has_known.shorter k lt ∙ f))
   known_reached a b (static_first e lt) =
       let i_lt : E + K + b < length g.to.items = omega (arith, lt, built.count) in
-      (E + K + b ∷ [], (i_lt, built.has_static.from_static b lt ∙ sym e, built.has_static.to_each b lt))
+      ((E + K + b) ∷ [], (i_lt, built.has_static.from_static b lt ∙ sym e, built.has_static.to_each b lt))
   known_reached a b (is_itself e) = ([], e)
   known_reached a b (goes_through {b = m} h k) =
       let p = known_reached a m h in let q = known_reached m b k in
