@@ -1,7 +1,6 @@
 -- What is forced by the edges of built graphs is what pairs demand.
-use Rattle.std.proofs.Common.{◌≡◌, ℕ, ◌<◌, ◌≤◌, ◌+◌, ◌-◌, List, [], ◌∷◌, ◌++◌, length, get_or, sym, ◌∙◌, ap, refl, subst, arith}
-use Rattle.std.proofs.Common.{◌⊎◌, inl, inr, All, Result, Ok, Err, IfOk}
-use Rattle.std.specs.List.{Contains}
+use Rattle.std.proofs.Common.{◌≡◌, ℕ, ◌<◌, ◌+◌, ◌-◌, List, [], ◌∷◌, ◌++◌, length, get_or, sym, ◌∙◌, ap, subst, arith}
+use Rattle.std.proofs.Common.{inl, inr, Result, Ok, Err, IfOk}
 use Rattle.std.proofs.lemmas.Bool.{cases_lt}
 use Rattle.relation_regions.specs.declared.graph.Graph.{Graph}
 use Rattle.relation_regions.specs.declared.building.Pairs.{Pairs}
@@ -11,7 +10,7 @@ use Rattle.relation_regions.specs.declared.decide.Decision.TheVariants.{Met, Unm
 use Rattle.relation_regions.specs.Graphs.{IsPath, Reaches}
 use Rattle.relation_regions.specs.Building.{IsBuilt}
 use Rattle.relation_regions.specs.Standings.{IsForced, by_edge, by_universe, itself, through, Any, Among}
-use Rattle.relation_regions.specs.Deciding.{IsGiven, IsVariable, IsMet, IsUnmet, IsDecision}
+use Rattle.relation_regions.specs.Deciding.{IsMet, IsUnmet, IsDecision}
 use Rattle.relation_regions.specs.Demands.{IsDemanded, by_asked, by_known, from_static, by_universe as demanded_by_universe}
 use Rattle.relation_regions.specs.Demands.{itself as demanded_itself, through as demanded_through, IsKnown, is_stated}
 use Rattle.relation_regions.specs.Demands.{static_first, is_itself, goes_through, Meets, Refutes, IfMet, IfUnmet}
@@ -36,15 +35,15 @@ module _ (standings : List Standing) (asked known : Pairs) (g : Graph)
     demanded_forced a b (by_asked k lt c e f) =
         let i_lt : k < length g.to.items = omega (arith, lt, built.count) in
         by_edge k i_lt (λ q. c) (sym (from_zero g.from.items k) ∙ (built.has_asked.longer k lt ∙ e))
-            (sym (from_zero g.to.items k) ∙ (built.has_asked.shorter k lt ∙ f))
+        (sym (from_zero g.to.items k) ∙ (built.has_asked.shorter k lt ∙ f))
     demanded_forced a b (by_known k lt e f) =
         let i_lt : A + k < length g.to.items = omega (arith, lt, built.count) in
         by_edge (A + k) i_lt (λ q. absurd (omega (arith, q))) (built.has_known.longer k lt ∙ e)
-            (built.has_known.shorter k lt ∙ f)
+        (built.has_known.shorter k lt ∙ f)
     demanded_forced a b (from_static e lt) =
         let i_lt : A + F + b < length g.to.items = omega (arith, lt, built.count) in
         by_edge (A + F + b) i_lt (λ q. absurd (omega (arith, q))) (built.has_static.from_static b lt ∙ sym e)
-            (built.has_static.to_each b lt)
+        (built.has_static.to_each b lt)
     demanded_forced a b (demanded_by_universe p e beyond h) = by_universe p e beyond (demanded_forced a p h)
     demanded_forced a b (demanded_itself e) = itself e
     demanded_forced a b (demanded_through {b = m} h k) = through (demanded_forced a m h) (demanded_forced m b k)
@@ -53,25 +52,25 @@ module _ (standings : List Standing) (asked known : Pairs) (g : Graph)
     edge_demanded : (i : ℕ) → i < length g.to.items → (i < A → C i) →
         IsDemanded standings asked known C (get_or g.from.items i 0) (get_or g.to.items i 0)
     edge_demanded i lt chosen = elim (cases_lt i A) [
-      inl first ↦ by_asked i first (chosen first)
+      | inl first ↦ by_asked i first (chosen first)
           (sym (built.has_asked.longer i first) ∙ from_zero g.from.items i)
           (sym (built.has_asked.shorter i first) ∙ from_zero g.to.items i)
       | inr le ↦ elim (cases_lt i (A + F)) [
-        inl second ↦
-          let k = i - A in
-          let k_lt : k < F = omega (arith, le, second) in
-          let e : A + k ≡ i = omega (arith, le) in
-          by_known k k_lt (sym (built.has_known.longer k k_lt) ∙ ap (λ j. get_or g.from.items j 0) e)
-              (sym (built.has_known.shorter k k_lt) ∙ ap (λ j. get_or g.to.items j 0) e)
+        | inl second ↦
+            let k = i - A in
+            let k_lt : k < F = omega (arith, le, second) in
+            let e : A + k ≡ i = omega (arith, le) in
+            by_known k k_lt (sym (built.has_known.longer k k_lt) ∙ ap (λ j. get_or g.from.items j 0) e)
+            (sym (built.has_known.shorter k k_lt) ∙ ap (λ j. get_or g.to.items j 0) e)
         | inr far ↦
-          let k = i - (A + F) in
-          let k_lt : k < length standings = omega (arith, far, lt, built.count) in
-          let e : A + F + k ≡ i = omega (arith, far) in
-          let from_is : get_or g.from.items i 0 ≡ 0 =
-              sym (ap (λ j. get_or g.from.items j 0) e) ∙ built.has_static.from_static k k_lt in
-          let to_is : get_or g.to.items i 0 ≡ k =
-              sym (ap (λ j. get_or g.to.items j 0) e) ∙ built.has_static.to_each k k_lt in
-          from_static from_is (subst (λ u. u < length standings) (sym to_is) k_lt)
+            let k = i - (A + F) in
+            let k_lt : k < length standings = omega (arith, far, lt, built.count) in
+            let e : A + F + k ≡ i = omega (arith, far) in
+            let from_is : get_or g.from.items i 0 ≡ 0 =
+            sym (ap (λ j. get_or g.from.items j 0) e) ∙ built.has_static.from_static k k_lt in
+            let to_is : get_or g.to.items i 0 ≡ k =
+            sym (ap (λ j. get_or g.to.items j 0) e) ∙ built.has_static.to_each k k_lt in
+            from_static from_is (subst (λ u. u < length standings) (sym to_is) k_lt)
       ]
     ]
 
@@ -80,7 +79,7 @@ module _ (standings : List Standing) (asked known : Pairs) (g : Graph)
         IsDemanded standings asked known C a b
     forced_demanded a b (by_edge i lt chosen e f) =
         subst (λ u. IsDemanded standings asked known C u b) e
-            (subst (λ u. IsDemanded standings asked known C (get_or g.from.items i 0) u) f (edge_demanded i lt chosen))
+        (subst (λ u. IsDemanded standings asked known C (get_or g.from.items i 0) u) f (edge_demanded i lt chosen))
     forced_demanded a b (by_universe p e beyond h) = demanded_by_universe p e beyond (forced_demanded a p h)
     forced_demanded a b (itself e) = demanded_itself e
     forced_demanded a b (through {b = m} h k) = demanded_through (forced_demanded a m h) (forced_demanded m b k)
@@ -109,19 +108,19 @@ module _ (standings : List Standing) (none known : Pairs) (g : Graph) (empty : l
   -- An edge is known.
   edge_known : (i : ℕ) → i < length g.to.items → IsKnown standings known (get_or g.from.items i 0) (get_or g.to.items i 0)
   edge_known i lt = elim (cases_lt i K) [
-    inl first ↦
-      let e : E + i ≡ i = omega (arith, empty) in
-      is_stated i first (sym (built.has_known.longer i first) ∙ ap (λ j. get_or g.from.items j 0) e)
-          (sym (built.has_known.shorter i first) ∙ ap (λ j. get_or g.to.items j 0) e)
+    | inl first ↦
+        let e : E + i ≡ i = omega (arith, empty) in
+        is_stated i first (sym (built.has_known.longer i first) ∙ ap (λ j. get_or g.from.items j 0) e)
+        (sym (built.has_known.shorter i first) ∙ ap (λ j. get_or g.to.items j 0) e)
     | inr far ↦
-      let k = i - K in
-      let k_lt : k < length standings = omega (arith, far, lt, built.count, empty) in
-      let e : E + K + k ≡ i = omega (arith, far, empty) in
-      let from_is : get_or g.from.items i 0 ≡ 0 =
-          sym (ap (λ j. get_or g.from.items j 0) e) ∙ built.has_static.from_static k k_lt in
-      let to_is : get_or g.to.items i 0 ≡ k =
-          sym (ap (λ j. get_or g.to.items j 0) e) ∙ built.has_static.to_each k k_lt in
-      static_first from_is (subst (λ u. u < length standings) (sym to_is) k_lt)
+        let k = i - K in
+        let k_lt : k < length standings = omega (arith, far, lt, built.count, empty) in
+        let e : E + K + k ≡ i = omega (arith, far, empty) in
+        let from_is : get_or g.from.items i 0 ≡ 0 =
+        sym (ap (λ j. get_or g.from.items j 0) e) ∙ built.has_static.from_static k k_lt in
+        let to_is : get_or g.to.items i 0 ≡ k =
+        sym (ap (λ j. get_or g.to.items j 0) e) ∙ built.has_static.to_each k k_lt in
+        static_first from_is (subst (λ u. u < length standings) (sym to_is) k_lt)
   ]
 
   path_known : (path : List ℕ) (a b : ℕ) → IsPath g.from.items g.to.items path a b → IsKnown standings known a b

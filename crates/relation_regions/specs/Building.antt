@@ -1,5 +1,5 @@
 -- Graphs built of pairs of nodes.
-use Rattle.std.specs.Prelude.{◌≡◌, ℕ, ◌+◌, ◌<◌, ◌≤◌, length, get_or}
+use Rattle.std.specs.Prelude.{◌≡◌, ℕ, ◌+◌, ◌<◌, length, get_or}
 use Rattle.relation_regions.specs.declared.graph.Graph.{Graph}
 use Rattle.relation_regions.specs.declared.building.Pairs.{Pairs}
 use Rattle.relation_regions.specs.Graphs.{IsGraph}

@@ -52,7 +52,12 @@ fn add_static(graph: &mut Graph) -> Result<(), OutOfMemory>
 
 /// A graph of so many nodes: an edge for each pair that is asked for, then one for each that is known, then one from the
 /// node 0 to each.
-pub(crate) fn built(alloc: Global, nodes: usize, asked: &Pairs, known: &Pairs) -> Result<Graph, OutOfMemory>
+pub(crate) fn built(
+    alloc: Global,
+    nodes: usize,
+    asked: &Pairs,
+    known: &Pairs,
+) -> Result<Graph, OutOfMemory>
     requires asked { ArePairs nodes asked.now }
     requires known { ArePairs nodes known.now }
     ensures { IfOk result (IsBuilt nodes asked.now known.now) }

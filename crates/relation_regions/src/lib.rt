@@ -1,4 +1,5 @@
-//! Whether regions can be as constraints ask: a solver of region constraints, over numbered regions.
+//! Whether numbered regions can be as constraints ask: a solver of region constraints. What a number means, and which
+//! constraints make which pairs, is its caller's.
 #![tactic(auto)]
 
 mod building;

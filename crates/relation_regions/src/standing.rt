@@ -2,7 +2,7 @@
 ghost use Rattle.std.specs.Prelude.{◌≡◌};
 ghost use Rattle.relation_regions.specs.Standings.{is_given, is_placeholder, is_beyond};
 
-/// A region with a name of its own, a placeholder of a universe, or a variable of one.
+/// A region with a name of its own, which all universes can name, a placeholder of a universe, or a variable of one.
 #[derive(Clone, Copy, Drop)]
 pub enum Standing {
     Named,
