@@ -5,4 +5,9 @@ pub mod Widened
 pub mod Forcing
 pub mod Deciding
 pub mod EdgesAdded
-pub mod Demanded
+pub mod Numbers
+pub mod Numbered
+pub mod ReadPairs
+pub mod InWorlds
+pub mod FreeRegions
+pub mod Unmet
