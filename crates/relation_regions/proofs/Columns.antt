@@ -1,6 +1,6 @@
 -- What adding an edge does to the columns of a graph.
 use borrow.Author.Count.{below_more}
-use Rattle.std.proofs.Common.{◌≡◌, ◌≢◌, ℕ, ◌<◌, ◌≤◌, ◌+◌, ◌-◌, List, [], ◌∷◌, ◌++◌, length, get_or, arith, sym, ◌∙◌, ap}
+use Rattle.std.proofs.Common.{◌≡◌, ℕ, ◌<◌, ◌≤◌, ◌+◌, ◌-◌, List, [], ◌∷◌, ◌++◌, length, get_or, arith, sym, ◌∙◌, ap}
 use Rattle.std.proofs.Common.{refl, subst, length-append, inl, inr}
 use Rattle.std.proofs.Math.ListN.{set}
 use Rattle.std.proofs.lemmas.Bool.{cases_eq}
@@ -18,9 +18,9 @@ pub all_below_more : (xs : List ℕ) (x n : ℕ) → ((i : ℕ) → i < length x
 all_below_more xs x n h lt i q =
     let P : ℕ → Type 0 = λ k. get_or (xs ++ x ∷ []) k 0 < n in
     below_more P (length xs)
-        (λ k r. subst (λ v. v < n) (sym (get_or_append_left xs (x ∷ []) 0 k r)) (h k r))
-        (subst (λ v. v < n) (sym (get_or_push xs x 0 (length xs) refl)) lt)
-        i (omega (arith, length_more xs x))
+    (λ k r. subst (λ v. v < n) (sym (get_or_append_left xs (x ∷ []) 0 k r)) (h k r))
+    (subst (λ v. v < n) (sym (get_or_push xs x 0 (length xs) refl)) lt)
+    i (omega (arith, length_more xs x))
 
 -- An edge behind those that count changes nothing.
 pub latest_kept : (to : List ℕ) (x bound n h : ℕ) → bound ≤ length to → IsLatest to bound n h →
@@ -36,12 +36,12 @@ pub latest_other : (to : List ℕ) (x n h : ℕ) → (n ≡ x → ⊥) → IsLat
     IsLatest (to ++ x ∷ []) (length to + 1) n h
 latest_other to x n h ne l =
     let P : ℕ → Type 0 = λ k. h ≤ k → get_or (to ++ x ∷ []) k 0 ≡ n → ⊥ in record {
-  within = omega (arith, l.within);
-  leads = λ p. get_or_append_left to (x ∷ []) 0 (h - 1) (omega (arith, l.within)) ∙ l.leads p;
-  none_later = λ j p q. below_more P (length to)
-      (λ k r u e. l.none_later k u r (sym (get_or_append_left to (x ∷ []) 0 k r) ∙ e))
-      (λ u e. ne (sym e ∙ get_or_push to x 0 (length to) refl)) j q p;
-}
+      within = omega (arith, l.within);
+      leads = λ p. get_or_append_left to (x ∷ []) 0 (h - 1) (omega (arith, l.within)) ∙ l.leads p;
+      none_later = λ j p q. below_more P (length to)
+          (λ k r u e. l.none_later k u r (sym (get_or_append_left to (x ∷ []) 0 k r) ∙ e))
+          (λ u e. ne (sym e ∙ get_or_push to x 0 (length to) refl)) j q p;
+    }
 
 -- The new edge is the latest to its node.
 pub latest_new : (to : List ℕ) (x : ℕ) → IsLatest (to ++ x ∷ []) (length to + 1) x (length to + 1)
@@ -56,14 +56,14 @@ latest_all : (to latest : List ℕ) (b v : ℕ) → v ≡ length to + 1 →
     ((n : ℕ) → n < length latest → IsLatest to (length to) n (get_or latest n 0)) → (n : ℕ) → n < length latest →
     IsLatest (to ++ b ∷ []) (length to + 1) n (get_or (set latest b v) n 0)
 latest_all to latest b v e h n lt = elim (cases_eq n b) [
-  inl same ↦
-    let P : ℕ → Type 0 = λ m. IsLatest (to ++ b ∷ []) (length to + 1) m (get_or (set latest b v) m 0) in
-    let lt_b : b < length latest = omega arith in
-    let Q : ℕ → Type 0 = λ m. IsLatest (to ++ b ∷ []) (length to + 1) b m in
-    subst P (sym same) (subst Q (sym (get_or-set_same latest b v 0 lt_b ∙ e)) (latest_new to b))
+  | inl same ↦
+      let P : ℕ → Type 0 = λ m. IsLatest (to ++ b ∷ []) (length to + 1) m (get_or (set latest b v) m 0) in
+      let lt_b : b < length latest = omega arith in
+      let Q : ℕ → Type 0 = λ m. IsLatest (to ++ b ∷ []) (length to + 1) b m in
+      subst P (sym same) (subst Q (sym (get_or-set_same latest b v 0 lt_b ∙ e)) (latest_new to b))
   | inr other ↦
-    let Q : ℕ → Type 0 = λ m. IsLatest (to ++ b ∷ []) (length to + 1) n m in
-    subst Q (sym (get_or-set_other latest b n v 0 other)) (latest_other to b n (get_or latest n 0) other (h n lt))
+      let Q : ℕ → Type 0 = λ m. IsLatest (to ++ b ∷ []) (length to + 1) n m in
+      subst Q (sym (get_or-set_other latest b n v 0 other)) (latest_other to b n (get_or latest n 0) other (h n lt))
 ]
 
 -- The edges before each, after one more.
@@ -76,15 +76,15 @@ earlier_all to earlier latest b len lt latest_ones h =
     let x = get_or latest b 0 in
     let P : ℕ → Type 0 = λ i. IsLatest (to ++ b ∷ []) i (get_or (to ++ b ∷ []) i 0) (get_or (earlier ++ x ∷ []) i 0) in
     let two : (i n m : ℕ) → IsLatest (to ++ b ∷ []) i n m → get_or (to ++ b ∷ []) i 0 ≡ n →
-        get_or (earlier ++ x ∷ []) i 0 ≡ m → P i = λ i n m l e f.
-        subst (λ u. IsLatest (to ++ b ∷ []) i u (get_or (earlier ++ x ∷ []) i 0)) (sym e)
-            (subst (λ u. IsLatest (to ++ b ∷ []) i n u) (sym f) l) in
+    get_or (earlier ++ x ∷ []) i 0 ≡ m → P i = λ i n m l e f.
+    subst (λ u. IsLatest (to ++ b ∷ []) i u (get_or (earlier ++ x ∷ []) i 0)) (sym e)
+    (subst (λ u. IsLatest (to ++ b ∷ []) i n u) (sym f) l) in
     below_more P (length to)
-        (λ i q. two i (get_or to i 0) (get_or earlier i 0) (latest_kept to b i (get_or to i 0) (get_or earlier i 0)
-            (omega arith) (h i q)) (get_or_append_left to (b ∷ []) 0 i q)
-            (get_or_append_left earlier (x ∷ []) 0 i (omega arith)))
-        (two (length to) b x (latest_kept to b (length to) b x (omega arith) (latest_ones b lt))
-            (get_or_push to b 0 (length to) refl) (get_or_push earlier x 0 (length to) len))
+    (λ i q. two i (get_or to i 0) (get_or earlier i 0) (latest_kept to b i (get_or to i 0) (get_or earlier i 0)
+    (omega arith) (h i q)) (get_or_append_left to (b ∷ []) 0 i q)
+    (get_or_append_left earlier (x ∷ []) 0 i (omega arith)))
+    (two (length to) b x (latest_kept to b (length to) b x (omega arith) (latest_ones b lt))
+    (get_or_push to b 0 (length to) refl) (get_or_push earlier x 0 (length to) len))
 
 -- One more edge.
 pub columns_grow : (from to earlier latest : List ℕ) (a b v : ℕ) → AreColumns from to earlier latest →
@@ -116,6 +116,6 @@ columns_grow_like from to earlier latest from' to' earlier' a b v y c lt_a lt_b 
     let n : v ≡ length to + 1 = len ∙ (ap (λ (l : List ℕ). length l) f ∙ length_more to b) in
     let x = columns_grow from to earlier latest a b v c lt_a lt_b n in
     subst (λ u. AreColumns u to' earlier' (set latest b v)) (sym e)
-        (subst (λ u. AreColumns (from ++ a ∷ []) u earlier' (set latest b v)) (sym f)
-            (subst (λ u. AreColumns (from ++ a ∷ []) (to ++ b ∷ []) u (set latest b v))
-                (sym (g ∙ ap (λ z. earlier ++ z ∷ []) k)) x))
+    (subst (λ u. AreColumns (from ++ a ∷ []) u earlier' (set latest b v)) (sym f)
+    (subst (λ u. AreColumns (from ++ a ∷ []) (to ++ b ∷ []) u (set latest b v))
+    (sym (g ∙ ap (λ z. earlier ++ z ∷ []) k)) x))

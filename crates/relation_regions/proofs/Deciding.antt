@@ -1,7 +1,7 @@
 -- Steps of deciding: what is added to lists, and what is known of one more target.
 use borrow.Author.Count.{below_more}
-use Rattle.std.proofs.Common.{◌≡◌, ◌↔◌, ℕ, zero, suc, ◌<◌, ◌≤◌, ◌+◌, List, [], ◌∷◌, ◌++◌, length, get_or, sym, ◌∙◌, ap, refl, subst}
-use Rattle.std.proofs.Common.{arith, Option, Some, None, IsSome, is_some, true, false, Bool, inl, inr, ◌⊎◌, All, IsTrue, IsFalse}
+use Rattle.std.proofs.Common.{◌≡◌, ℕ, zero, suc, ◌<◌, ◌≤◌, ◌+◌, List, [], ◌∷◌, ◌++◌, length, get_or, sym, ◌∙◌, ap, refl, subst}
+use Rattle.std.proofs.Common.{arith, Option, Some, None, false, inl, inr, All, IsFalse}
 use Rattle.std.specs.List.{Contains}
 use Rattle.std.proofs.lemmas.List.Elements.{Contains-append_left, Contains-append_right, Contains-append_cases, All-push}
 use Rattle.std.proofs.lemmas.Grind.{get_or_default_zero}
@@ -10,9 +10,9 @@ use Rattle.relation_regions.specs.declared.search.Search.{Search}
 use Rattle.relation_regions.specs.declared.standing.Standing.{Standing}
 use Rattle.relation_regions.specs.Graphs.{IsPath, Reaches}
 use Rattle.relation_regions.specs.Searches.{IsSearch, IsFound, FindsAll}
-use Rattle.relation_regions.specs.Standings.{is_given, standing_of, IsForced, Any, Among}
+use Rattle.relation_regions.specs.Standings.{is_given, standing_of, IsForced, Among}
 use Rattle.relation_regions.specs.Widening.{AreReasons, HaveReasons, IsWidened}
-use Rattle.relation_regions.specs.Deciding.{Adds, HasAsked, EdgeIsForced, Forced, IsGiven, IsVariable, AllKnown, AreValuesTo}
+use Rattle.relation_regions.specs.Deciding.{Adds, HasAsked, EdgeIsForced, IsGiven, IsVariable, AllKnown, AreValuesTo}
 use Rattle.relation_regions.specs.Deciding.{AreValues, IsMet}
 use Rattle.relation_regions.proofs.Paths.{found_reaches}
 use Rattle.relation_regions.proofs.Forcing.{contains_pushed, path_forced, static_edge, reached_forced, forced_reached}
@@ -32,14 +32,13 @@ pub asked_added : (asked : ℕ) (path old mid new : List ℕ) (k : ℕ) → Adds
 asked_added asked path old mid new k h has lt is =
     let x = get_or path k 0 in
     let kept : (i : ℕ) → Contains mid i → Contains new i =
-        λ i c. subst (λ l. Contains l i) (sym is) (Contains-append_left mid (x ∷ []) i c) in
+    λ i c. subst (λ l. Contains l i) (sym is) (Contains-append_left mid (x ∷ []) i c) in
     let last : Contains new x = subst (λ l. Contains l x) (sym is) (contains_pushed mid x) in
     let adds : Adds asked old new = record {
-          kept = λ i c. kept i (h.kept i c);
-          asked_for = λ a. subst (λ l. All (λ i. i < asked) l) (sym is)
-              (All-push (λ i. i < asked) mid x (h.asked_for a) lt);
-        } in
-    (
+      kept = λ i c. kept i (h.kept i c);
+      asked_for = λ a. subst (λ l. All (λ i. i < asked) l) (sym is)
+          (All-push (λ i. i < asked) mid x (h.asked_for a) lt);
+    } in (
       adds,
       below_more (λ j. get_or path j 0 < asked → Contains new (get_or path j 0)) k
           (λ j q r. kept (get_or path j 0) (has j q r)) (λ r. last),
@@ -50,7 +49,7 @@ pub asked_passed : (asked : ℕ) (path old mid new : List ℕ) (k : ℕ) → Add
     asked ≤ get_or path k 0 → new ≡ mid → Adds asked old new × HasAsked asked path (k + 1) new
 asked_passed asked path old mid new k h has le is =
     subst (λ l. Adds asked old l × HasAsked asked path (k + 1) l) (sym is)
-        (h, below_more (λ j. get_or path j 0 < asked → Contains mid (get_or path j 0)) k has (λ r. absurd (omega arith)))
+    (h, below_more (λ j. get_or path j 0 < asked → Contains mid (get_or path j 0)) k has (λ r. absurd (omega arith)))
 
 -- An edge to 'static is forced by what makes its node reach its reason.
 pub static_case : (g w : Graph) (asked : ℕ) (standings : List Standing) (reasons : List (Option ℕ)) (bound : ℕ) →
@@ -60,12 +59,12 @@ pub static_case : (g w : Graph) (asked : ℕ) (standings : List Standing) (reaso
     HasAsked asked slice (length slice) by → EdgeIsForced g w asked standings (Among by) edge
 static_case g w asked standings reasons bound h are edge n p path slice by le lt read some is_path same has =
     let n_is : n ≡ get_or w.from.items edge 0 =
-        read ∙ get_or_default_zero w.from.items edge n (omega (arith, (h.graph).same_length)) in
+    read ∙ get_or_default_zero w.from.items edge n (omega (arith, (h.graph).same_length)) in
     let has' : HasAsked asked path (length path) by = subst (λ l. HasAsked asked l (length l) by) same has in
     static_edge g w asked standings reasons bound h are (Among by) edge p le lt
-        (subst (λ x. get_or reasons x None ≡ Some p) n_is some)
-        (subst (λ x. IsForced g.from.items g.to.items asked standings (Among by) x p) n_is
-            (path_forced g.from.items g.to.items asked standings (Among by) path n p has' is_path))
+    (subst (λ x. get_or reasons x None ≡ Some p) n_is some)
+    (subst (λ x. IsForced g.from.items g.to.items asked standings (Among by) x p) n_is
+    (path_forced g.from.items g.to.items asked standings (Among by) path n p has' is_path))
 
 -- A variable that was found is added with the target.
 pub value_added : (standings : List Standing) (found : Search) (target node : ℕ) (old mid new : List (ℕ × ℕ)) →
@@ -83,13 +82,13 @@ value_added standings found target node old mid new h lt free is_found is =
       each = below_more (λ a. IsFalse (is_given (standing_of standings a)) → IsFound found a → Contains more (a, target))
           node (λ a q f g. kept (a, target) (h.each a q f g)) (λ f g. last);
       only = λ a b c. elim (Contains-append_cases mid (x ∷ []) (a, b) c) [
-        inl d ↦ h.only a b d
+        | inl d ↦ h.only a b d
         | inr d ↦
-          let e : x ≡ (a, b) = contains_single x (a, b) d in
-          let e0 : node ≡ a = ap (λ p. p.0) e in
-          let e1 : target ≡ b = ap (λ p. p.1) e in
-          let at_node : Q node target = (refl, (lt, free), is_found) in
-          inr (subst (λ u. Q u b) e0 (subst (λ u. Q node u) e1 at_node))
+            let e : x ≡ (a, b) = contains_single x (a, b) d in
+            let e0 : node ≡ a = ap (λ p. p.0) e in
+            let e1 : target ≡ b = ap (λ p. p.1) e in
+            let at_node : Q node target = (refl, (lt, free), is_found) in
+            inr (subst (λ u. Q u b) e0 (subst (λ u. Q node u) e1 at_node))
       ];
     })
 
@@ -127,9 +126,12 @@ target_decided known w standings found stated target values new h given search a
         (λ b q gb r. more.kept (a, b) (h.values_to.each a b q gb va r))
         (λ gb r. more.each a va.0 va.1 (all a r)) b lt gb;
     only = λ a b c. elim (more.only a b c) [
-      inl d ↦ h.values_to.only a b d
-      | inr d ↦ (d.1, subst (λ x. IsGiven standings x) (sym d.0) given,
-          subst (λ x. Reaches w a x) (sym d.0) (found_reaches w target found a search d.2))
+      | inl d ↦ h.values_to.only a b d
+      | inr d ↦ (
+        d.1,
+        subst (λ x. IsGiven standings x) (sym d.0) given,
+        subst (λ x. Reaches w a x) (sym d.0) (found_reaches w target found a search d.2),
+      )
     ];
   };
 }

@@ -1,6 +1,6 @@
 -- Edges added, one after another.
 use borrow.Author.Count.{below_more}
-use Rattle.std.proofs.Common.{◌≡◌, ℕ, ◌<◌, ◌≤◌, ◌+◌, List, [], ◌∷◌, ◌++◌, length, get_or, sym, ◌∙◌, ap, refl, subst, arith}
+use Rattle.std.proofs.Common.{◌≡◌, ℕ, ◌<◌, ◌≤◌, ◌+◌, List, [], ◌∷◌, ◌++◌, length, get_or, ◌∙◌, ap, subst, arith}
 use Rattle.std.proofs.lemmas.List.{get_or_append_left, get_or_push}
 use Rattle.relation_regions.specs.declared.graph.Graph.{Graph}
 use Rattle.relation_regions.specs.declared.building.Pairs.{Pairs}
@@ -38,12 +38,12 @@ module _ (g h k : Graph) (n a b : ℕ) (e : Extends g n h) (graph : IsGraph k)
   pairs_more p has longer shorter = record {
     longer = below_more (λ j. get_or k.from.items (length g.to.items + j) 0 ≡ get_or p.longer.items j 0) n
         (λ j lt. column_kept h.from.items k.from.items a (length g.to.items + j) from_is
-            (omega (arith, lt, e.count, e.graph.same_length)) ∙ has.longer j lt)
+        (omega (arith, lt, e.count, e.graph.same_length)) ∙ has.longer j lt)
         (column_last h.from.items k.from.items a (length g.to.items + n) from_is
-            (omega (arith, e.count, e.graph.same_length)) ∙ longer);
+        (omega (arith, e.count, e.graph.same_length)) ∙ longer);
     shorter = below_more (λ j. get_or k.to.items (length g.to.items + j) 0 ≡ get_or p.shorter.items j 0) n
         (λ j lt. column_kept h.to.items k.to.items b (length g.to.items + j) to_is (omega (arith, lt, e.count)) ∙
-            has.shorter j lt)
+        has.shorter j lt)
         (column_last h.to.items k.to.items b (length g.to.items + n) to_is (omega (arith, e.count)) ∙ shorter);
   }
 
@@ -52,12 +52,12 @@ module _ (g h k : Graph) (n a b : ℕ) (e : Extends g n h) (graph : IsGraph k)
   static_more has from to = record {
     from_static = below_more (λ j. get_or k.from.items (length g.to.items + j) 0 ≡ 0) n
         (λ j lt. column_kept h.from.items k.from.items a (length g.to.items + j) from_is
-            (omega (arith, lt, e.count, e.graph.same_length)) ∙ has.from_static j lt)
+        (omega (arith, lt, e.count, e.graph.same_length)) ∙ has.from_static j lt)
         (column_last h.from.items k.from.items a (length g.to.items + n) from_is
-            (omega (arith, e.count, e.graph.same_length)) ∙ from);
+        (omega (arith, e.count, e.graph.same_length)) ∙ from);
     to_each = below_more (λ j. get_or k.to.items (length g.to.items + j) 0 ≡ j) n
         (λ j lt. column_kept h.to.items k.to.items b (length g.to.items + j) to_is (omega (arith, lt, e.count)) ∙
-            has.to_each j lt)
+        has.to_each j lt)
         (column_last h.to.items k.to.items b (length g.to.items + n) to_is (omega (arith, e.count)) ∙ to);
   }
 
@@ -83,7 +83,7 @@ built_of nodes asked known g0 g1 g2 g3 empty nodes_are a b s =
     let has1 : HasPairs 0 asked n g1 = subst (λ f. HasPairs f asked n g1) empty a.has in
     let has2 : HasPairs n known m g2 = subst (λ f. HasPairs f known m g2) len1 b.has in
     let has3 : HasStatic (n + m) (length g2.latest.items) g3 =
-        subst (λ f. HasStatic f (length g2.latest.items) g3) len2 s.has in
+    subst (λ f. HasStatic f (length g2.latest.items) g3) len2 s.has in
     record {
       graph = s.extends.graph;
       nodes_are = s.extends.nodes ∙ size;

@@ -1,7 +1,7 @@
 -- What finding one more node does to a search.
 use borrow.Author.Count.{below_more}
-use Rattle.std.proofs.Common.{◌≡◌, ◌≢◌, ℕ, ◌<◌, ◌≤◌, ◌+◌, ◌-◌, List, [], ◌∷◌, ◌++◌, length, get_or, arith, sym, ◌∙◌, ap}
-use Rattle.std.proofs.Common.{refl, subst, length-append, inl, inr, Option, Some, None, IsSome, is_some, cond, false}
+use Rattle.std.proofs.Common.{◌≡◌, ℕ, ◌<◌, ◌+◌, List, [], ◌∷◌, ◌++◌, length, get_or, arith, sym, ◌∙◌, ap}
+use Rattle.std.proofs.Common.{refl, subst, inl, inr, Option, Some, None, IsSome, is_some, cond, false}
 use Rattle.std.specs.List.{count_by}
 use Rattle.std.proofs.Math.ListN.{set}
 use Rattle.std.proofs.lemmas.Bool.{cases_eq}
@@ -24,7 +24,7 @@ count_more xs i v lt e =
 pub placed_kept : (xs : List (Option ℕ)) (i v : ℕ) → i < length xs → (x : ℕ) → IsSome (get_or xs x None) →
     IsSome (get_or (set xs i (Some v)) x None)
 placed_kept xs i v lt x h = elim (cases_eq x i) [
-  inl same ↦ ap is_some (ap (λ u. get_or (set xs i (Some v)) u None) same ∙ get_or-set_same xs i (Some v) None lt)
+  | inl same ↦ ap is_some (ap (λ u. get_or (set xs i (Some v)) u None) same ∙ get_or-set_same xs i (Some v) None lt)
   | inr other ↦ ap is_some (get_or-set_other xs i x (Some v) None other) ∙ h
 ]
 
@@ -55,37 +55,37 @@ module _ (from to : List ℕ) (count target : ℕ) (places : List (Option ℕ)) 
       IsStep from to more k (get_or (edges ++ edge ∷ []) k 0) (get_or (onward ++ next ∷ []) k 0)
   steps_grow =
       let P : ℕ → Type 0 = λ k. 0 < k →
-          IsStep from to more k (get_or (edges ++ edge ∷ []) k 0) (get_or (onward ++ next ∷ []) k 0) in
+      IsStep from to more k (get_or (edges ++ edge ∷ []) k 0) (get_or (onward ++ next ∷ []) k 0) in
       let new : IsStep from to more (length nodes) edge next = record {
-            back = next_in;
-            edge = edge_in;
-            leads_from = leads_from ∙ sym at_last;
-            leads_to = leads_to ∙ sym (at_earlier next next_in);
-          } in
+        back = next_in;
+        edge = edge_in;
+        leads_from = leads_from ∙ sym at_last;
+        leads_to = leads_to ∙ sym (at_earlier next next_in);
+      } in
       below_more P (length nodes)
-          (λ k q p. let s = h.steps k p q in step_like from to nodes more k (get_or edges k 0) (get_or onward k 0)
-              (get_or (edges ++ edge ∷ []) k 0) (get_or (onward ++ next ∷ []) k 0) s
-              (get_or_append_left edges (edge ∷ []) 0 k (omega (arith, h.each_edge)))
-              (get_or_append_left onward (next ∷ []) 0 k (omega (arith, h.each_onward))) (at_earlier k q)
-              (at_earlier (get_or onward k 0) (omega (arith, s.back))))
-          (λ p. step_like from to more more (length nodes) edge next (get_or (edges ++ edge ∷ []) (length nodes) 0)
-              (get_or (onward ++ next ∷ []) (length nodes) 0) new
-              (get_or_push edges edge 0 (length nodes) h.each_edge)
-              (get_or_push onward next 0 (length nodes) h.each_onward) refl refl)
+      (λ k q p. let s = h.steps k p q in step_like from to nodes more k (get_or edges k 0) (get_or onward k 0)
+      (get_or (edges ++ edge ∷ []) k 0) (get_or (onward ++ next ∷ []) k 0) s
+      (get_or_append_left edges (edge ∷ []) 0 k (omega (arith, h.each_edge)))
+      (get_or_append_left onward (next ∷ []) 0 k (omega (arith, h.each_onward))) (at_earlier k q)
+      (at_earlier (get_or onward k 0) (omega (arith, s.back))))
+      (λ p. step_like from to more more (length nodes) edge next (get_or (edges ++ edge ∷ []) (length nodes) 0)
+      (get_or (onward ++ next ∷ []) (length nodes) 0) new
+      (get_or_push edges edge 0 (length nodes) h.each_edge)
+      (get_or_push onward next 0 (length nodes) h.each_onward) refl refl)
 
   placed_grow : (y k : ℕ) → get_or (set places x (Some (length nodes))) y None ≡ Some k →
       (k < length nodes + 1) × (get_or more k 0 ≡ y)
   placed_grow y k e =
       let lt_x : x < length places = omega (arith, h.all_nodes) in
       elim (cases_eq y x) [
-        inl same ↦
-          let f : Some (length nodes) ≡ Some k = sym (get_or-set_same places x (Some (length nodes)) None lt_x) ∙
-              (ap (λ u. get_or (set places x (Some (length nodes))) u None) (sym same) ∙ e) in
-          let g : length nodes ≡ k = cc in
-          (omega (arith, g), ap (λ u. get_or more u 0) (sym g) ∙ (at_last ∙ sym same))
+        | inl same ↦
+            let f : Some (length nodes) ≡ Some k = sym (get_or-set_same places x (Some (length nodes)) None lt_x) ∙
+            (ap (λ u. get_or (set places x (Some (length nodes))) u None) (sym same) ∙ e) in
+            let g : length nodes ≡ k = cc in
+            (omega (arith, g), ap (λ u. get_or more u 0) (sym g) ∙ (at_last ∙ sym same))
         | inr other ↦
-          let p = h.placed y k (sym (get_or-set_other places x y (Some (length nodes)) None other) ∙ e) in
-          (omega (arith, p.0), at_earlier k p.0 ∙ p.1)
+            let p = h.placed y k (sym (get_or-set_other places x y (Some (length nodes)) None other) ∙ e) in
+            (omega (arith, p.0), at_earlier k p.0 ∙ p.1)
       ]
 
   -- One more node.
@@ -126,10 +126,10 @@ found_like from to count target places nodes edges onward nodes' edges' onward' 
     let from_x : get_or from edge 0 ≡ x = sym (leads_from ∙ get_or_default_zero from edge x in_from) in
     let lt : x < count = omega (arith, nodes_in edge in_from, from_x) in
     let y = found_grows from to count target places nodes edges onward x edge next h lt edge_in next_in from_x leads_to
-        (unplaced_from places x r read none) in
+    (unplaced_from places x r read none) in
     let F : ℕ → List ℕ → List ℕ → List ℕ → Type 0 =
-        λ l u v w. HasFound from to count target (set places x (Some l)) u v w in
+    λ l u v w. HasFound from to count target (set places x (Some l)) u v w in
     subst (λ l. F l nodes' edges' onward') (sym len_is)
-        (subst (λ u. F (length nodes) u edges' onward') (sym e)
-            (subst (λ u. F (length nodes) (nodes ++ x ∷ []) u onward') (sym f)
-                (subst (λ u. F (length nodes) (nodes ++ x ∷ []) (edges ++ edge ∷ []) u) (sym g) y)))
+    (subst (λ u. F (length nodes) u edges' onward') (sym e)
+    (subst (λ u. F (length nodes) (nodes ++ x ∷ []) u onward') (sym f)
+    (subst (λ u. F (length nodes) (nodes ++ x ∷ []) (edges ++ edge ∷ []) u) (sym g) y)))

@@ -5,9 +5,4 @@ pub mod Widened
 pub mod Forcing
 pub mod Deciding
 pub mod EdgesAdded
-pub mod Numbers
-pub mod Numbered
-pub mod ReadPairs
-pub mod InWorlds
-pub mod FreeRegions
-pub mod Unmet
+pub mod Demanded

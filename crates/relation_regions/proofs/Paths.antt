@@ -1,5 +1,5 @@
 -- Paths: joined, and followed back by what is closed under edges.
-use Rattle.std.proofs.Common.{◌≡◌, ℕ, ◌<◌, ◌≤◌, ◌+◌, ◌-◌, suc, zero, List, [], ◌∷◌, ◌++◌, length, get_or, sym, ◌∙◌, ap}
+use Rattle.std.proofs.Common.{◌≡◌, ℕ, ◌<◌, ◌≤◌, suc, zero, List, [], ◌∷◌, ◌++◌, length, get_or, sym, ◌∙◌, ap}
 use Rattle.std.proofs.Common.{refl, subst, Option, Some, None, IsSome, is_some, true, false, append_assoc, arith, unwrap_or}
 use Rattle.std.proofs.lemmas.List.{append-nil, get_or_default}
 use Rattle.std.proofs.lemmas.Grind.{get_or_default_zero}
@@ -27,7 +27,7 @@ pub some_place : (places : List (Option ℕ)) (x : ℕ) → IsSome (get_or place
     (k : ℕ) × (get_or places x None ≡ Some k)
 some_place places x h =
     elim (get_or places x None) as (λ o. is_some o ≡ true → (k : ℕ) × (o ≡ Some k)) [
-      None ↦ λ e. absurd cc
+      | None ↦ λ e. absurd cc
       | Some k ↦ λ e. (k, refl)
     ] h
 
@@ -36,9 +36,9 @@ pub closed_finds_all : (g : Graph) (target : ℕ) (s : Search) → IsSearch g ta
     ((k : ℕ) → k < length s.nodes.items → HasPredecessors g s 0 (get_or s.nodes.items k 0)) → FindsAll g target s
 closed_finds_all g target s h closed x p =
     followed_back g.from.items g.to.items (λ y. IsFound s y)
-        (λ i lt found. let k = some_place s.places.items (get_or g.to.items i 0) found in
-            let q = h.placed (get_or g.to.items i 0) k.0 k.1 in closed k.0 q.0 i (omega arith) lt (sym q.1))
-        p.0 x target p.1 h.target_placed
+    (λ i lt found. let k = some_place s.places.items (get_or g.to.items i 0) found in
+    let q = h.placed (get_or g.to.items i 0) k.0 k.1 in closed k.0 q.0 i (omega arith) lt (sym q.1))
+    p.0 x target p.1 h.target_placed
 
 -- One more edge of a way that is followed.
 pub path_more : (from to path nodes : List ℕ) (a target place e next : ℕ) → IsStep from to nodes place e next →
@@ -47,7 +47,7 @@ pub path_more : (from to path nodes : List ℕ) (a target place e next : ℕ) �
     IsPath from to ((path ++ e ∷ []) ++ rest) a target
 path_more from to path nodes a target place e next s h rest p =
     subst (λ l. IsPath from to l a target) (sym (append_assoc path (e ∷ []) rest))
-        (h (e ∷ rest) (s.edge, s.leads_from, subst (λ x. IsPath from to rest x target) (sym s.leads_to) p))
+    (h (e ∷ rest) (s.edge, s.leads_from, subst (λ x. IsPath from to rest x target) (sym s.leads_to) p))
 
 -- Where a followed way begins: at the place of the node.
 pub path_start : (g : Graph) (target : ℕ) (s : Search) (node k : ℕ) (r : Option ℕ) (done : List ℕ) →
@@ -60,12 +60,11 @@ path_start g target s node k None done h lt found read is empty =
     let f : is_some (get_or s.places.items node None) ≡ false = ap is_some e in
     absurd (cc (f, found))
 path_start g target s node k (Some v) done h lt found read is empty =
-    let p = h.placed node v (get_or_default s.places.items node None (Some v) lt ∙ sym read) in
-    (
+    let p = h.placed node v (get_or_default s.places.items node None (Some v) lt ∙ sym read) in (
       subst (λ i. i < length s.nodes.items) (sym is) p.0,
       λ rest q. subst (λ l. IsPath g.from.items g.to.items (l ++ rest) node target) (sym empty)
           (subst (λ x. IsPath g.from.items g.to.items rest x target) p.1
-              (subst (λ i. IsPath g.from.items g.to.items rest (get_or s.nodes.items i 0) target) is q)),
+          (subst (λ i. IsPath g.from.items g.to.items rest (get_or s.nodes.items i 0) target) is q)),
     )
 
 -- The next place of a way that is followed.
@@ -78,14 +77,13 @@ pub path_next : (g : Graph) (target : ℕ) (s : Search) (node place e next : ℕ
     IsPath g.from.items g.to.items (done' ++ rest) node target)
 path_next g target s node place e next done done' h some lt read_e read_next is leads =
     let e_is : e ≡ get_or s.edges.items place 0 =
-        read_e ∙ get_or_default_zero s.edges.items place e (omega (arith, h.each_edge)) in
+    read_e ∙ get_or_default_zero s.edges.items place e (omega (arith, h.each_edge)) in
     let next_is : next ≡ get_or s.onward.items place 0 =
-        read_next ∙ get_or_default_zero s.onward.items place next (omega (arith, h.each_onward)) in
+    read_next ∙ get_or_default_zero s.onward.items place next (omega (arith, h.each_onward)) in
     let step : IsStep g.from.items g.to.items s.nodes.items place e next =
-        subst (λ u. IsStep g.from.items g.to.items s.nodes.items place u next) (sym e_is)
-            (subst (λ u. IsStep g.from.items g.to.items s.nodes.items place (get_or s.edges.items place 0) u)
-                (sym next_is) (h.steps place some lt)) in
-    (
+    subst (λ u. IsStep g.from.items g.to.items s.nodes.items place u next) (sym e_is)
+    (subst (λ u. IsStep g.from.items g.to.items s.nodes.items place (get_or s.edges.items place 0) u)
+    (sym next_is) (h.steps place some lt)) in (
       omega (arith, step.back),
       λ rest p. subst (λ l. IsPath g.from.items g.to.items (l ++ rest) node target) (sym is)
           (path_more g.from.items g.to.items done s.nodes.items node target place e next step leads rest p),
@@ -98,7 +96,7 @@ pub path_end : (g : Graph) (target : ℕ) (s : Search) (node place : ℕ) (done 
 path_end g target s node place done h at_first leads =
     let z : place ≡ 0 = omega arith in
     subst (λ l. IsPath g.from.items g.to.items l node target) (append-nil done)
-        (leads [] (ap (λ i. get_or s.nodes.items i 0) z ∙ h.target_first))
+    (leads [] (ap (λ i. get_or s.nodes.items i 0) z ∙ h.target_first))
 
 -- What is found reaches the target: by the steps from its place.
 place_reaches : (g : Graph) (target : ℕ) (s : Search) → IsSearch g target s → (rounds k : ℕ) → k < rounds →
@@ -108,8 +106,7 @@ place_reaches g target s h (suc n) zero lt q = ([], h.target_first)
 place_reaches g target s h (suc n) (suc k) lt q =
     let step = h.steps (suc k) (omega arith) q in
     let next = get_or s.onward.items (suc k) 0 in
-    let r = place_reaches g target s h n next (omega (arith, step.back)) (omega (arith, step.back)) in
-    (
+    let r = place_reaches g target s h n next (omega (arith, step.back)) (omega (arith, step.back)) in (
       get_or s.edges.items (suc k) 0 ∷ r.0,
       (step.edge, step.leads_from, subst (λ x. IsPath g.from.items g.to.items r.0 x target) (sym step.leads_to) r.1),
     )

@@ -30,16 +30,16 @@ reasons_more : (g : Graph) (standings : List Standing) (reasons : List (Option �
 reasons_more g standings reasons node target h lt in_graph beyond reaches =
     let P : ℕ → ℕ → Type 0 = λ a p. (p < length standings) × IsBeyond standings a p × Reaches g a p in
     let all : (a p : ℕ) → get_or (set reasons node (Some target)) a None ≡ Some p → P a p = λ a p e.
-        elim (cases_eq a node) [
-          inl same ↦
-            let f : Some target ≡ Some p = sym (get_or-set_same reasons node (Some target) None lt) ∙
-                (ap (λ u. get_or (set reasons node (Some target)) u None) (sym same) ∙ e) in
-            let q : target ≡ p = cc in
-            subst (λ u. P u p) (sym same) (subst (λ u. P node u) q (in_graph, beyond, reaches))
-          | inr other ↦
-            let f = sym (get_or-set_other reasons node a (Some target) None other) ∙ e in
-            (h.in_graph a p f, h.beyond a p f, h.reaches a p f)
-        ] in
+    elim (cases_eq a node) [
+      | inl same ↦
+          let f : Some target ≡ Some p = sym (get_or-set_same reasons node (Some target) None lt) ∙
+          (ap (λ u. get_or (set reasons node (Some target)) u None) (sym same) ∙ e) in
+          let q : target ≡ p = cc in
+          subst (λ u. P u p) (sym same) (subst (λ u. P node u) q (in_graph, beyond, reaches))
+      | inr other ↦
+          let f = sym (get_or-set_other reasons node a (Some target) None other) ∙ e in
+          (h.in_graph a p f, h.beyond a p f, h.reaches a p f)
+    ] in
     record {
       one_each = length-set reasons node (Some target) ∙ h.one_each;
       in_graph = λ a p e. (all a p e).0;
@@ -56,15 +56,15 @@ noted_yes g standings found target node reasons reasons' h search lt in_graph is
     let lt_r : node < length reasons = omega (arith, h.are.one_each) in
     let kept = placed_kept reasons node target lt_r in
     let new : IsNoted g standings found target (node + 1) (set reasons node (Some target)) = record {
-          are = reasons_more g standings reasons node target h.are lt_r in_graph beyond
-              (found_reaches g target found node search is_found);
-          earlier = λ a p q b r. kept a (h.earlier a p q b r);
-          looked_at = below_more
-              (λ a. IsFound found a → IsBeyond standings a target →
-                  IsSome (get_or (set reasons node (Some target)) a None)) node
-              (λ a q f b. kept a (h.looked_at a q f b))
-              (λ f b. ap is_some (get_or-set_same reasons node (Some target) None lt_r));
-        } in
+      are = reasons_more g standings reasons node target h.are lt_r in_graph beyond
+          (found_reaches g target found node search is_found);
+      earlier = λ a p q b r. kept a (h.earlier a p q b r);
+      looked_at = below_more
+          (λ a. IsFound found a → IsBeyond standings a target →
+          IsSome (get_or (set reasons node (Some target)) a None)) node
+          (λ a q f b. kept a (h.looked_at a q f b))
+          (λ f b. ap is_some (get_or-set_same reasons node (Some target) None lt_r));
+    } in
     subst (λ r. IsNoted g standings found target (node + 1) r) (sym is) new
 
 -- Another one is not.
@@ -86,16 +86,16 @@ pub all_noted : (g : Graph) (standings : List Standing) (found : Search) (target
     ((a : ℕ) → IsFound found a → a < node) → HaveReasons g standings (target + 1) reasons
 all_noted g standings found target node reasons all h in_graph a p lt =
     below_more (λ p. IsBeyond standings a p → Reaches g a p → IsSome (get_or reasons a None)) target
-        (λ p q b r. h.earlier a p q b r)
-        (λ b r. let f = all a r in h.looked_at a (in_graph a f) f b) p lt
+    (λ p q b r. h.earlier a p q b r)
+    (λ b r. let f = all a r in h.looked_at a (in_graph a f) f b) p lt
 
 -- What was found is a node.
 pub found_in : (g : Graph) (target : ℕ) (found : Search) (a : ℕ) → IsSearch g target found → IsFound found a →
     a < length g.latest.items
 found_in g target found a h f =
     elim (get_or found.places.items a None) as (λ o. get_or found.places.items a None ≡ o → is_some o ≡ true →
-        a < length g.latest.items) [
-      None ↦ λ e s. absurd cc
+    a < length g.latest.items) [
+      | None ↦ λ e s. absurd cc
       | Some k ↦ λ e s. let p = h.placed a k e in subst (λ u. u < length g.latest.items) p.1 (h.in_graph k p.0)
     ] refl f
 
@@ -105,20 +105,20 @@ pub widened_more : (g : Graph) (reasons : List (Option ℕ)) (node : ℕ) (w w' 
     w'.to.items ≡ w.to.items ++ 0 ∷ [] → IsSome (get_or reasons node None) → IsWidened g reasons (node + 1) w'
 widened_more g reasons node w w' h graph nodes from_is to_is some =
     let len_to : length w'.to.items ≡ length w.to.items + 1 =
-        ap (λ (l : List ℕ). length l) to_is ∙ length_more w.to.items 0 in
+    ap (λ (l : List ℕ). length l) to_is ∙ length_more w.to.items 0 in
     let at_from : (i : ℕ) → i < length w.to.items → get_or w'.from.items i 0 ≡ get_or w.from.items i 0 = λ i q.
-        ap (λ l. get_or l i 0) from_is ∙
-            get_or_append_left w.from.items (node ∷ []) 0 i (omega (arith, h.graph.same_length)) in
+    ap (λ l. get_or l i 0) from_is ∙
+    get_or_append_left w.from.items (node ∷ []) 0 i (omega (arith, h.graph.same_length)) in
     let at_to : (i : ℕ) → i < length w.to.items → get_or w'.to.items i 0 ≡ get_or w.to.items i 0 = λ i q.
-        ap (λ l. get_or l i 0) to_is ∙ get_or_append_left w.to.items (0 ∷ []) 0 i q in
+    ap (λ l. get_or l i 0) to_is ∙ get_or_append_left w.to.items (0 ∷ []) 0 i q in
     let last_from : get_or w'.from.items (length w.to.items) 0 ≡ node =
-        ap (λ l. get_or l (length w.to.items) 0) from_is ∙
-            get_or_push w.from.items node 0 (length w.to.items) h.graph.same_length in
+    ap (λ l. get_or l (length w.to.items) 0) from_is ∙
+    get_or_push w.from.items node 0 (length w.to.items) h.graph.same_length in
     let last_to : get_or w'.to.items (length w.to.items) 0 ≡ 0 =
-        ap (λ l. get_or l (length w.to.items) 0) to_is ∙ get_or_push w.to.items 0 0 (length w.to.items) refl in
+    ap (λ l. get_or l (length w.to.items) 0) to_is ∙ get_or_push w.to.items 0 0 (length w.to.items) refl in
     let Q : ℕ → Type 0 = λ a. IsSome (get_or reasons a None) in
     let P : ℕ → Type 0 = λ a. Q a → (i : ℕ) × (length g.to.items ≤ i) × (i < length w'.to.items) ×
-        (get_or w'.from.items i 0 ≡ a) in
+    (get_or w'.from.items i 0 ≡ a) in
     record {
       graph = graph;
       nodes = nodes ∙ h.nodes;

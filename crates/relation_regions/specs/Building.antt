@@ -1,5 +1,5 @@
 -- Graphs built of pairs of nodes.
-use Rattle.std.specs.Prelude.{◌≡◌, ℕ, ◌+◌, ◌<◌, ◌≤◌, length, get_or}
+use Rattle.std.specs.Prelude.{◌≡◌, ℕ, ◌+◌, ◌<◌, length, get_or}
 use Rattle.relation_regions.specs.declared.graph.Graph.{Graph}
 use Rattle.relation_regions.specs.declared.building.Pairs.{Pairs}
 use Rattle.relation_regions.specs.Graphs.{IsGraph}
@@ -7,7 +7,6 @@ use Rattle.relation_regions.specs.Graphs.{IsGraph}
 -- The columns belong together, and the pairs are of so many nodes.
 pub record ArePairs (nodes : ℕ) (p : Pairs) : Type 0 where
   pub each_longer : length p.longer.items ≡ length p.shorter.items
-  pub each_said : length p.said_by.items ≡ length p.shorter.items
   pub longer_in : (k : ℕ) → k < length p.shorter.items → get_or p.longer.items k 0 < nodes
   pub shorter_in : (k : ℕ) → k < length p.shorter.items → get_or p.shorter.items k 0 < nodes
 

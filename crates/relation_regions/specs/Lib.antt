@@ -1,11 +1,7 @@
-pub mod Graphs
-pub mod Numbering
-pub mod Reading
 pub mod Building
+pub mod Deciding
+pub mod Demands
+pub mod Graphs
 pub mod Searches
 pub mod Standings
 pub mod Widening
-pub mod Worlds
-pub mod Answering
-pub mod Solving
-pub mod Deciding

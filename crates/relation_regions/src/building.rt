@@ -7,25 +7,22 @@ use crate::graph::Graph;
 use std::alloc::Global;
 use term_enums::OutOfMemory;
 
-/// Pairs of nodes, the first of which outlives the second, each with the number of what says so.
+/// Pairs of numbered regions, the first of which outlives the second.
 #[derive(Drop)]
-pub(crate) struct Pairs {
-    pub(crate) longer: Vec<usize>,
-    pub(crate) shorter: Vec<usize>,
-    pub(crate) said_by: Vec<usize>,
+pub struct Pairs {
+    pub longer: Vec<usize>,
+    pub shorter: Vec<usize>,
 }
 
 impl Pairs {
-    /// No pairs.
-    pub(crate) fn new(alloc: Global) -> Pairs
+    /// No pairs. It takes no memory.
+    pub fn new(alloc: Global) -> Pairs
         ensures longer { result.longer.items ≡ [] }
         ensures shorter { result.shorter.items ≡ [] }
-        ensures said_by { result.said_by.items ≡ [] }
     {
         Pairs {
             longer: Vec::new(alloc),
             shorter: Vec::new(alloc),
-            said_by: Vec::new(alloc),
         }
     }
 }
@@ -55,7 +52,12 @@ fn add_static(graph: &mut Graph) -> Result<(), OutOfMemory>
 
 /// A graph of so many nodes: an edge for each pair that is asked for, then one for each that is known, then one from the
 /// node 0 to each.
-pub(crate) fn built(alloc: Global, nodes: usize, asked: &Pairs, known: &Pairs) -> Result<Graph, OutOfMemory>
+pub(crate) fn built(
+    alloc: Global,
+    nodes: usize,
+    asked: &Pairs,
+    known: &Pairs,
+) -> Result<Graph, OutOfMemory>
     requires asked { ArePairs nodes asked.now }
     requires known { ArePairs nodes known.now }
     ensures { IfOk result (IsBuilt nodes asked.now known.now) }

@@ -11,12 +11,13 @@ use crate::widening::{reasons_of, widened};
 use std::alloc::Global;
 use term_enums::OutOfMemory;
 
-/// Whether what is asked makes no given node outlive another one that it wasn't known to.
+/// Whether numbered regions can be as it is asked, where of given ones just what is known outlives.
 #[derive(Drop)]
-pub(crate) enum Decision {
-    /// Pairs of a variable and a given node that it has to outlive.
+pub enum Decision {
+    /// They can. Pairs of a variable and a given region that it has to outlive.
     Met(Vec<(usize, usize)>),
-    /// A given node has to outlive another one by these edges, though that isn't known.
+    /// They can't: a given region has to outlive another one by the pairs that are asked with these places, though that
+    /// isn't known.
     Unmet {
         longer: usize,
         shorter: usize,
@@ -32,7 +33,10 @@ fn find_unknown(standings: &[Standing], found: &Search, known: &Search) -> Optio
         (IsUnknown standings.now found.now known.now) }
 {
     for node in 0..standings.len() {
-        if standings[node].is_given() && found.places[node].is_some() && known.places[node].is_none() {
+        if standings[node].is_given()
+            && found.places[node].is_some()
+            && known.places[node].is_none()
+        {
             return Some(node);
         }
     }
@@ -40,7 +44,12 @@ fn find_unknown(standings: &[Standing], found: &Search, known: &Search) -> Optio
 }
 
 // Each variable that reaches the target, with it.
-fn add_values(standings: &[Standing], found: &Search, target: usize, values: &mut Vec<(usize, usize)>) -> Result<(), OutOfMemory>
+fn add_values(
+    standings: &[Standing],
+    found: &Search,
+    target: usize,
+    values: &mut Vec<(usize, usize)>,
+) -> Result<(), OutOfMemory>
     requires { length found.now.places.items ≡ length standings.now }
     ensures { OnOk result (AreValuesTo standings.now found.now target values.old.items values.new.items (length standings.now)) }
 {
@@ -79,8 +88,22 @@ pub(crate) fn decide(
                 None => add_values(standings, &found, target, &mut values)?,
                 Some(longer) => {
                     let path = found.path(alloc, &wide, target, longer)?;
-                    let by = causes_of(alloc, graph, &wide, standings, reasons.as_slice(), asked, longer, target, path.as_slice())?;
-                    return Ok(Decision::Unmet { longer, shorter: target, by });
+                    let by = causes_of(
+                        alloc,
+                        graph,
+                        &wide,
+                        standings,
+                        reasons.as_slice(),
+                        asked,
+                        longer,
+                        target,
+                        path.as_slice(),
+                    )?;
+                    return Ok(Decision::Unmet {
+                        longer,
+                        shorter: target,
+                        by,
+                    });
                 }
             }
         }

@@ -1,19 +1,17 @@
-//! Whether regions can be as it was recorded: a solver of region constraints.
+//! Whether numbered regions can be as constraints ask: a solver of region constraints. What a number means, and which
+//! constraints make which pairs, is its caller's.
 #![tactic(auto)]
 
 mod building;
 mod decide;
-mod fact;
 mod graph;
-mod numbering;
-mod reading;
-mod recorded;
 mod search;
 mod solving;
 mod standing;
 mod unsatisfiable;
 mod widening;
 
-pub use fact::Fact;
-pub use recorded::RecordedRegions;
-pub use solving::{Solved, solve};
+pub use building::Pairs;
+pub use decide::Decision;
+pub use solving::solve;
+pub use standing::Standing;

@@ -39,7 +39,13 @@ impl Search {
     }
 
     // The node that an edge leads from is found, by the place that the edge leads to.
-    fn find(&mut self, graph: &Graph, target: usize, edge: usize, place: usize) -> Result<(), OutOfMemory>
+    fn find(
+        &mut self,
+        graph: &Graph,
+        target: usize,
+        edge: usize,
+        place: usize,
+    ) -> Result<(), OutOfMemory>
         requires search { IsSearch graph.now target self.old }
         requires edge { edge < length graph.now.to.items }
         requires graph { IsGraph graph.now }
@@ -60,7 +66,12 @@ impl Search {
     }
 
     // All nodes are found from which an edge leads to the one at a place.
-    fn find_predecessors(&mut self, graph: &Graph, target: usize, place: usize) -> Result<(), OutOfMemory>
+    fn find_predecessors(
+        &mut self,
+        graph: &Graph,
+        target: usize,
+        place: usize,
+    ) -> Result<(), OutOfMemory>
         requires graph { IsGraph graph.now }
         requires search { IsSearch graph.now target self.old }
         requires place { place < length self.old.nodes.items }
@@ -78,7 +89,13 @@ impl Search {
     }
 
     /// Edges that lead, one after another, from a found node to the target.
-    pub(crate) fn path(&self, alloc: Global, graph: &Graph, target: usize, node: usize) -> Result<Vec<usize>, OutOfMemory>
+    pub(crate) fn path(
+        &self,
+        alloc: Global,
+        graph: &Graph,
+        target: usize,
+        node: usize,
+    ) -> Result<Vec<usize>, OutOfMemory>
         requires search { IsSearch graph.now target self.now }
         requires node { node < length graph.now.latest.items }
         requires found { IsFound self.now node }

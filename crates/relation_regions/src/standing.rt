@@ -2,9 +2,9 @@
 ghost use Rattle.std.specs.Prelude.{◌≡◌};
 ghost use Rattle.relation_regions.specs.Standings.{is_given, is_placeholder, is_beyond};
 
-/// A region with a name of its own, a placeholder of a universe, or a variable of one.
+/// A region with a name of its own, which all universes can name, a placeholder of a universe, or a variable of one.
 #[derive(Clone, Copy, Drop)]
-pub(crate) enum Standing {
+pub enum Standing {
     Named,
     Placeholder(usize),
     Variable(usize),
@@ -12,21 +12,21 @@ pub(crate) enum Standing {
 
 impl Standing {
     /// Whether it is no variable.
-    pub(crate) fn is_given(self) -> bool
+    pub fn is_given(self) -> bool
         ensures { result ≡ is_given self }
     {
         !matches!(self, Standing::Variable(_))
     }
 
     /// Whether it is a placeholder.
-    pub(crate) fn is_placeholder(self) -> bool
+    pub fn is_placeholder(self) -> bool
         ensures { result ≡ is_placeholder self }
     {
         matches!(self, Standing::Placeholder(_))
     }
 
     /// Whether the other is a placeholder that this one, a variable, can't name.
-    pub(crate) fn is_beyond(self, other: Standing) -> bool
+    pub fn is_beyond(self, other: Standing) -> bool
         ensures { result ≡ is_beyond self other }
     {
         match (self, other) {

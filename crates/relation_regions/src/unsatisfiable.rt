@@ -81,7 +81,9 @@ pub(crate) fn causes_of(
 {
     let mut by = Vec::new(alloc);
     for edge in path {
-        add_causes(alloc, graph, wide, standings, reasons, asked, *edge, &mut by)?;
+        add_causes(
+            alloc, graph, wide, standings, reasons, asked, *edge, &mut by,
+        )?;
     }
     Ok(by)
 }

@@ -11,7 +11,13 @@ use std::alloc::Global;
 use term_enums::OutOfMemory;
 
 // The target becomes the reason of each variable that reaches it and can't name it.
-fn note_reasons(graph: &Graph, found: &Search, standings: &[Standing], target: usize, reasons: &mut Vec<Option<usize>>)
+fn note_reasons(
+    graph: &Graph,
+    found: &Search,
+    standings: &[Standing],
+    target: usize,
+    reasons: &mut Vec<Option<usize>>,
+)
     requires search { IsSearch graph.now target found.now }
     requires all { FindsAll graph.now target found.now }
     requires nodes { length graph.now.latest.items ≡ length standings.now }
@@ -29,7 +35,11 @@ fn note_reasons(graph: &Graph, found: &Search, standings: &[Standing], target: u
 }
 
 /// Of each variable that reaches a placeholder that it can't name such a one.
-pub(crate) fn reasons_of(alloc: Global, graph: &Graph, standings: &[Standing]) -> Result<Vec<Option<usize>>, OutOfMemory>
+pub(crate) fn reasons_of(
+    alloc: Global,
+    graph: &Graph,
+    standings: &[Standing],
+) -> Result<Vec<Option<usize>>, OutOfMemory>
     requires graph { IsGraph graph.now }
     requires nodes { length graph.now.latest.items ≡ length standings.now }
     ensures reasons { IfOk result (λ r. AreReasons graph.now standings.now r.items) }
@@ -46,7 +56,11 @@ pub(crate) fn reasons_of(alloc: Global, graph: &Graph, standings: &[Standing]) -
 }
 
 /// The graph with an edge to the node 0 from each that has a reason.
-pub(crate) fn widened(alloc: Global, graph: &Graph, reasons: &[Option<usize>]) -> Result<Graph, OutOfMemory>
+pub(crate) fn widened(
+    alloc: Global,
+    graph: &Graph,
+    reasons: &[Option<usize>],
+) -> Result<Graph, OutOfMemory>
     requires graph { IsGraph graph.now }
     requires nodes { length graph.now.latest.items ≡ length reasons.now }
     ensures { IfOk result (IsWidened graph.now reasons.now (length reasons.now)) }

@@ -1,5 +1,5 @@
 -- The nodes at the first places are done: all from which an edge leads to one of them are found.
-use Rattle.std.proofs.Common.{◌≡◌, ℕ, ◌<◌, ◌≤◌, length, get_or, ◌-◌}
+use Rattle.std.proofs.Common.{ℕ, ◌<◌, ◌≤◌, length, get_or, ◌-◌}
 use Rattle.relation_regions.specs.Searches.{IsSearch, HasPredecessors}
 use Rattle.relation_regions.proofs.search.reaching.Given as goal
 

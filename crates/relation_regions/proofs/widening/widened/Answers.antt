@@ -1,5 +1,5 @@
 -- Whether the next node has an edge.
-use Rattle.std.proofs.Common.{arith, ◌∙◌, sym, subst, ◌+◌}
+use Rattle.std.proofs.Common.{◌∙◌, sym, subst, ◌+◌}
 use Rattle.relation_regions.specs.declared.graph.Graph.{Graph}
 use Rattle.relation_regions.specs.Widening.{IsWidened}
 use Rattle.relation_regions.proofs.Widened.{widened_more, widened_same}
@@ -10,7 +10,7 @@ pub loop-node-preserved : goal.loop-node-preserved
 loop-node-preserved c =
     let P : Graph → Type 0 = λ g. IsWidened c.args.graph.now c.args.reasons.now (c.loop-node.node + 1) g in
     elim c.if-is_some.branch [
-      then-is_some+in_ok-add w ↦ subst P (sym w.wide-is) (widened_more c.args.graph.now c.args.reasons.now
+      | then-is_some+in_ok-add w ↦ subst P (sym w.wide-is) (widened_more c.args.graph.now c.args.reasons.now
           c.loop-node.node c.loop-node.wide w.add.new.self c.loop-node.invariant w.in_ok-add.ensures.graph
           w.in_ok-add.ensures.nodes w.in_ok-add.ensures.added_from w.in_ok-add.ensures.added_to
           (sym c.is_some.ensures ∙ w.if-is_some.true))

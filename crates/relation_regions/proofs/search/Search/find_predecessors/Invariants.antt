@@ -1,5 +1,5 @@
 -- All edges that lead to the node are done but for those that are left.
-use Rattle.std.proofs.Common.{◌≡◌, ℕ, ◌<◌, ◌≤◌, length, get_or, ◌-◌}
+use Rattle.std.proofs.Common.{◌≤◌, length}
 use Rattle.relation_regions.specs.Graphs.{IsLatest}
 use Rattle.relation_regions.specs.Searches.{IsSearch, Keeps, HasPredecessors}
 use Rattle.relation_regions.proofs.search.Search.find_predecessors.Given as goal

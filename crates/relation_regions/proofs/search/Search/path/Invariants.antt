@@ -1,5 +1,5 @@
 -- Whatever leads from the node at the place to the target, behind what is followed yet, leads from the first node.
-use Rattle.std.proofs.Common.{◌≡◌, ℕ, ◌<◌, List, ◌++◌, length, get_or}
+use Rattle.std.proofs.Common.{ℕ, ◌<◌, List, ◌++◌, length, get_or}
 use Rattle.relation_regions.specs.Graphs.{IsPath}
 use Rattle.relation_regions.proofs.search.Search.path.Given as goal
 
