@@ -1,0 +1,95 @@
+-- Edges added, one after another.
+use borrow.Author.Count.{below_more}
+use Rattle.std.proofs.Common.{◌≡◌, ℕ, ◌<◌, ◌≤◌, ◌+◌, List, [], ◌∷◌, ◌++◌, length, get_or, ◌∙◌, ap, subst, arith}
+use Rattle.std.proofs.lemmas.List.{get_or_append_left, get_or_push}
+use Rattle.relation_regions.specs.declared.graph.Graph.{Graph}
+use Rattle.relation_regions.specs.declared.building.Pairs.{Pairs}
+use Rattle.relation_regions.specs.Graphs.{IsGraph}
+use Rattle.relation_regions.specs.Building.{Extends, HasPairs, HasStatic, AddsPairs, AddsStatic, IsBuilt}
+use Rattle.relation_regions.proofs.Columns.{length_more}
+
+-- A column with one more number.
+column_kept : (old new : List ℕ) (x i : ℕ) → new ≡ old ++ x ∷ [] → i < length old → get_or new i 0 ≡ get_or old i 0
+column_kept old new x i is lt = ap (λ l. get_or l i 0) is ∙ get_or_append_left old (x ∷ []) 0 i lt
+
+column_last : (old new : List ℕ) (x i : ℕ) → new ≡ old ++ x ∷ [] → length old ≡ i → get_or new i 0 ≡ x
+column_last old new x i is e = ap (λ l. get_or l i 0) is ∙ get_or_push old x 0 i e
+
+module _ (g h k : Graph) (n a b : ℕ) (e : Extends g n h) (graph : IsGraph k)
+    (nodes : length k.latest.items ≡ length h.latest.items) (from_is : k.from.items ≡ h.from.items ++ a ∷ [])
+    (to_is : k.to.items ≡ h.to.items ++ b ∷ []) where
+  longer_to : length k.to.items ≡ length h.to.items + 1
+  longer_to = ap (λ (l : List ℕ). length l) to_is ∙ length_more h.to.items b
+
+  -- One more edge.
+  pub extends_more : Extends g (n + 1) k
+  extends_more = record {
+    graph = graph;
+    nodes = nodes ∙ e.nodes;
+    count = omega (arith, longer_to, e.count);
+    same_from = λ i lt. column_kept h.from.items k.from.items a i from_is
+        (omega (arith, lt, e.count, e.graph.same_length)) ∙ e.same_from i lt;
+    same_to = λ i lt. column_kept h.to.items k.to.items b i to_is (omega (arith, lt, e.count)) ∙ e.same_to i lt;
+  }
+
+  -- The edge of one more pair.
+  pub pairs_more : (p : Pairs) → HasPairs (length g.to.items) p n h → a ≡ get_or p.longer.items n 0 →
+      b ≡ get_or p.shorter.items n 0 → HasPairs (length g.to.items) p (n + 1) k
+  pairs_more p has longer shorter = record {
+    longer = below_more (λ j. get_or k.from.items (length g.to.items + j) 0 ≡ get_or p.longer.items j 0) n
+        (λ j lt. column_kept h.from.items k.from.items a (length g.to.items + j) from_is
+        (omega (arith, lt, e.count, e.graph.same_length)) ∙ has.longer j lt)
+        (column_last h.from.items k.from.items a (length g.to.items + n) from_is
+        (omega (arith, e.count, e.graph.same_length)) ∙ longer);
+    shorter = below_more (λ j. get_or k.to.items (length g.to.items + j) 0 ≡ get_or p.shorter.items j 0) n
+        (λ j lt. column_kept h.to.items k.to.items b (length g.to.items + j) to_is (omega (arith, lt, e.count)) ∙
+        has.shorter j lt)
+        (column_last h.to.items k.to.items b (length g.to.items + n) to_is (omega (arith, e.count)) ∙ shorter);
+  }
+
+  -- The edge to one more node.
+  pub static_more : HasStatic (length g.to.items) n h → a ≡ 0 → b ≡ n → HasStatic (length g.to.items) (n + 1) k
+  static_more has from to = record {
+    from_static = below_more (λ j. get_or k.from.items (length g.to.items + j) 0 ≡ 0) n
+        (λ j lt. column_kept h.from.items k.from.items a (length g.to.items + j) from_is
+        (omega (arith, lt, e.count, e.graph.same_length)) ∙ has.from_static j lt)
+        (column_last h.from.items k.from.items a (length g.to.items + n) from_is
+        (omega (arith, e.count, e.graph.same_length)) ∙ from);
+    to_each = below_more (λ j. get_or k.to.items (length g.to.items + j) 0 ≡ j) n
+        (λ j lt. column_kept h.to.items k.to.items b (length g.to.items + j) to_is (omega (arith, lt, e.count)) ∙
+        has.to_each j lt)
+        (column_last h.to.items k.to.items b (length g.to.items + n) to_is (omega (arith, e.count)) ∙ to);
+  }
+
+-- Edges of pairs stand in what extends the graph.
+pairs_kept : (first : ℕ) (p : Pairs) (bound n : ℕ) (g h : Graph) → HasPairs first p bound g → Extends g n h →
+    first + bound ≤ length g.to.items → HasPairs first p bound h
+pairs_kept first p bound n g h has e within = record {
+  longer = λ k lt. e.same_from (first + k) (omega (arith, lt, within)) ∙ has.longer k lt;
+  shorter = λ k lt. e.same_to (first + k) (omega (arith, lt, within)) ∙ has.shorter k lt;
+}
+
+-- The three added one after another.
+pub built_of : (nodes : ℕ) (asked known : Pairs) (g0 g1 g2 g3 : Graph) → length g0.to.items ≡ 0 →
+    length g0.latest.items ≡ nodes → AddsPairs g0 asked (length asked.shorter.items) g1 →
+    AddsPairs g1 known (length known.shorter.items) g2 → AddsStatic g2 (length g2.latest.items) g3 →
+    IsBuilt nodes asked known g3
+built_of nodes asked known g0 g1 g2 g3 empty nodes_are a b s =
+    let n = length asked.shorter.items in
+    let m = length known.shorter.items in
+    let len1 : length g1.to.items ≡ n = omega (arith, a.extends.count, empty) in
+    let len2 : length g2.to.items ≡ n + m = omega (arith, b.extends.count, len1) in
+    let size : length g2.latest.items ≡ nodes = b.extends.nodes ∙ (a.extends.nodes ∙ nodes_are) in
+    let has1 : HasPairs 0 asked n g1 = subst (λ f. HasPairs f asked n g1) empty a.has in
+    let has2 : HasPairs n known m g2 = subst (λ f. HasPairs f known m g2) len1 b.has in
+    let has3 : HasStatic (n + m) (length g2.latest.items) g3 =
+    subst (λ f. HasStatic f (length g2.latest.items) g3) len2 s.has in
+    record {
+      graph = s.extends.graph;
+      nodes_are = s.extends.nodes ∙ size;
+      count = omega (arith, s.extends.count, len2, size);
+      has_asked = pairs_kept 0 asked n (length g2.latest.items) g2 g3
+          (pairs_kept 0 asked n m g1 g2 has1 b.extends (omega (arith, len1))) s.extends (omega (arith, len2));
+      has_known = pairs_kept n known m (length g2.latest.items) g2 g3 has2 s.extends (omega (arith, len2));
+      has_static = subst (λ u. HasStatic (n + m) u g3) size has3;
+    }
