@@ -1,8 +1,10 @@
 -- The numbers of what passes either of two tests, merged of the numbers of what passes each.
 use Rattle.std.proofs.Common.{◌≡◌, ◌<◌, ◌≤◌, ◌+◌, ℕ, zero, suc, Bool, true, false, cond, ◌||◌, List, [], ◌∷◌, ◌++◌}
-use Rattle.std.proofs.Common.{map, get_or, refl, sym, ap, ◌∙◌, arith, rules, length, All, nat_lt}
+use Rattle.std.proofs.Common.{map, get_or, refl, sym, ap, ◌∙◌, arith, length, All, nat_lt, drop, drop-cons, append_assoc, subst}
+use Rattle.std.proofs.lemmas.Bool.Decides.{nat_tests}
+use Rattle.std.proofs.lemmas.List.Elements.{All-cons}
 use Rattle.std.specs.List.{filter}
-use Rattle.relation_methods.specs.Keyed.{merge, merge_front, numbers_from}
+use Rattle.relation_methods.specs.Keyed.{merge, merge_front, numbers_from, Picks}
 
 -- All of them are above a number, or the list is empty.
 abbrev pub StartsAbove : ℕ → List ℕ → Type 0
@@ -15,10 +17,10 @@ above test n m (x ∷ xs) l = elim (test x) as (λ b. StartsAbove m (cond b (n �
     [ true ↦ l | false ↦ above test (suc n) m xs (omega arith) ]
 
 lt_false : (x y : ℕ) → x < y → nat_lt y x ≡ false
-lt_false x y h = ?
+lt_false x y h = grind (arith, nat_tests)
 
 lt_true : (x y : ℕ) → x < y → nat_lt x y ≡ true
-lt_true x y h = ?
+lt_true x y h = grind (arith, nat_tests)
 
 -- A number that is below the first of the other list comes first.
 pub left_first : (x : ℕ) (xs ys : List ℕ) → StartsAbove x ys → merge (x ∷ xs) ys ≡ x ∷ merge xs ys
@@ -41,7 +43,7 @@ merged_numbers {T} p q apart n (x ∷ xs) =
     let at : (b c : Bool) → p x ≡ b → q x ≡ c → G b c = λ b c.
         elim b as (λ b. p x ≡ b → q x ≡ c → G b c) [
           true ↦ elim c as (λ c. p x ≡ true → q x ≡ c → G true c) [
-            true ↦ λ e f. absurd ?
+            true ↦ λ e f. let none : q x ≡ false = apart x e in absurd cc
           | false ↦ λ e f. left_first n ps qs (above q (suc n) n xs (omega arith)) ∙ ap (λ z. n ∷ z) ih
           ]
         | false ↦ elim c as (λ c. p x ≡ false → q x ≡ c → G false c) [
@@ -54,8 +56,15 @@ merged_numbers {T} p q apart n (x ∷ xs) =
 -- One more element.
 pub numbers_after : {T : Type 0} → (test : T → Bool) (n : ℕ) (xs : List T) (x : T) →
     numbers_from test n (xs ++ x ∷ []) ≡ numbers_from test n xs ++ cond (test x) ((n + length xs) ∷ []) []
-numbers_after test n [] x = ?
-numbers_after test n (y ∷ ys) x = ?
+numbers_after test n [] x = let e : n ≡ n + 0 = omega arith in ap (λ z. cond (test x) (z ∷ []) []) e
+numbers_after test n (y ∷ ys) x =
+    let one = cond (test x) ((n + suc (length ys)) ∷ []) [] in
+    let e : suc n + length ys ≡ n + suc (length ys) = omega arith in
+    let ih : numbers_from test (suc n) (ys ++ x ∷ []) ≡ numbers_from test (suc n) ys ++ one =
+        numbers_after test (suc n) ys x ∙ ap (λ z. numbers_from test (suc n) ys ++ cond (test x) (z ∷ []) []) e in
+    elim (test y) as (λ b. cond b (n ∷ numbers_from test (suc n) (ys ++ x ∷ [])) (numbers_from test (suc n) (ys ++ x ∷ [])) ≡
+        cond b (n ∷ numbers_from test (suc n) ys) (numbers_from test (suc n) ys) ++ one)
+      [ true ↦ ap (λ z. n ∷ z) ih | false ↦ ih ]
 
 pub numbers_alike : {T : Type 0} → (p q : T → Bool) → ((x : T) → p x ≡ q x) → (n : ℕ) (xs : List T) →
     numbers_from p n xs ≡ numbers_from q n xs
@@ -66,10 +75,80 @@ numbers_alike p q same n (x ∷ xs) = ap (λ b. cond b (n ∷ numbers_from p (su
 -- The numbers are of elements.
 pub numbers_below : {T : Type 0} → (test : T → Bool) (n m : ℕ) (xs : List T) → n + length xs ≤ m →
     All (λ i. i < m) (numbers_from test n xs)
-numbers_below test n m [] h = ?
-numbers_below test n m (x ∷ xs) h = ?
+numbers_below test n m [] h = λ k d l. absurd (omega arith)
+numbers_below test n m (x ∷ xs) h =
+    let ih : All (λ i. i < m) (numbers_from test (suc n) xs) = numbers_below test (suc n) m xs (omega arith) in
+    elim (test x) as (λ b. All (λ i. i < m) (cond b (n ∷ numbers_from test (suc n) xs) (numbers_from test (suc n) xs)))
+      [ true ↦ All-cons (λ i. i < m) n (numbers_from test (suc n) xs) (omega arith) ih | false ↦ ih ]
+
+-- What is picked of a list by the numbers of what stands from a number on.
+picked_from : {T : Type 0} → (test : T → Bool) (n : ℕ) (xs all : List T) (d : T) →
+    ((i : ℕ) → get_or all (n + i) d ≡ get_or xs i d) → map (λ k. get_or all k d) (numbers_from test n xs) ≡ filter test xs
+picked_from test n [] all d at = refl
+picked_from {T} test n (x ∷ xs) all d at =
+    let e : n + 0 ≡ n = omega arith in
+    let here : get_or all n d ≡ x = sym (ap (λ k. get_or all k d) e) ∙ at 0 in
+    let ih : map (λ k. get_or all k d) (numbers_from test (suc n) xs) ≡ filter test xs = picked_from test (suc n) xs all d
+        (λ i. let f : suc n + i ≡ n + suc i = omega arith in ap (λ k. get_or all k d) f ∙ at (suc i)) in
+    elim (test x) as (λ b. map (λ k. get_or all k d) (cond b (n ∷ numbers_from test (suc n) xs) (numbers_from test (suc n) xs)) ≡
+        cond b (x ∷ filter test xs) (filter test xs))
+      [ true ↦ ap (λ z. z ∷ map (λ k. get_or all k d) (numbers_from test (suc n) xs)) here ∙ ap (λ l. x ∷ l) ih | false ↦ ih ]
 
 -- What is picked by the numbers is what passes the test.
 pub picked_filter : {T : Type 0} → (test : T → Bool) (xs : List T) (d : T) →
     map (λ n. get_or xs n d) (numbers_from test 0 xs) ≡ filter test xs
-picked_filter test xs d = ?
+picked_filter test xs d = picked_from test 0 xs xs d (λ i. let e : 0 + i ≡ i = omega arith in ap (λ k. get_or xs k d) e)
+
+-- The first of the right list comes next.
+pub right_next : (left right out whole : List ℕ) (i j d : ℕ) → i < length left → j < length right →
+    get_or right j d < get_or left i d → out ++ merge (drop i left) (drop j right) ≡ whole →
+    (out ++ get_or right j d ∷ []) ++ merge (drop i left) (drop (j + 1) right) ≡ whole
+right_next left right out whole i j d il jl lt h =
+    let x = get_or left i d in
+    let y = get_or right j d in
+    let xs = drop (suc i) left in
+    let ys = drop (suc j) right in
+    let e : merge (drop i left) (drop j right) ≡ y ∷ merge (drop i left) ys =
+        ap (λ l. merge l (drop j right)) (drop-cons left i d il) ∙ (ap (λ l. merge (x ∷ xs) l) (drop-cons right j d jl) ∙
+            (right_first y (x ∷ xs) ys lt ∙ ap (λ l. y ∷ merge l ys) (sym (drop-cons left i d il)))) in
+    let s : j + 1 ≡ suc j = omega arith in
+    append_assoc out (y ∷ []) (merge (drop i left) (drop (j + 1) right)) ∙
+        (ap (λ k. out ++ (y ∷ merge (drop i left) (drop k right))) s ∙ (ap (λ l. out ++ l) (sym e) ∙ h))
+
+-- The first of the left list comes next, where that of the right one isn't below it.
+not_below : (x : ℕ) (xs ys : List ℕ) → ((y : ℕ) (zs : List ℕ) → ys ≡ y ∷ zs → x ≤ y) → merge (x ∷ xs) ys ≡ x ∷ merge xs ys
+not_below x xs [] h = refl
+not_below x xs (y ∷ ys) h = let le : x ≤ y = h y ys refl in let no : nat_lt y x ≡ false = grind (arith, nat_tests) in
+    ap (λ b. cond b (y ∷ merge_front x (merge xs) ys) (x ∷ merge xs (y ∷ ys))) no
+
+drop_empty : (j : ℕ) (right : List ℕ) (y : ℕ) (zs : List ℕ) → drop j right ≡ y ∷ zs → (j < length right) × (get_or right j y ≡ y)
+drop_empty zero [] y zs e = absurd cc
+drop_empty (suc j) [] y zs e = absurd cc
+drop_empty zero (x ∷ xs) y zs e = (omega arith, cc)
+drop_empty (suc j) (x ∷ xs) y zs e = let r = drop_empty j xs y zs e in (omega (arith, r.0), r.1)
+
+pub left_next : (left right out whole : List ℕ) (i j d : ℕ) → i < length left →
+    ((e : ℕ) → j < length right → get_or left i d ≤ get_or right j e) → out ++ merge (drop i left) (drop j right) ≡ whole →
+    (out ++ get_or left i d ∷ []) ++ merge (drop (i + 1) left) (drop j right) ≡ whole
+left_next left right out whole i j d il le h =
+    let x = get_or left i d in
+    let xs = drop (suc i) left in
+    let e : merge (drop i left) (drop j right) ≡ x ∷ merge xs (drop j right) =
+        ap (λ l. merge l (drop j right)) (drop-cons left i d il) ∙ not_below x xs (drop j right)
+            (λ y zs f. let r = drop_empty j right y zs f in let b : get_or left i d ≤ get_or right j y = le y r.0 in
+                let eq : get_or right j y ≡ y = r.1 in omega arith) in
+    let s : i + 1 ≡ suc i = omega arith in
+    append_assoc out (x ∷ []) (merge (drop (i + 1) left) (drop j right)) ∙
+        (ap (λ k. out ++ (x ∷ merge (drop k left) (drop j right))) s ∙ (ap (λ l. out ++ l) (sym e) ∙ h))
+
+-- What was picked is what passes the test.
+pub found_rows : {T : Type 0} → (test : T → Bool) (xs ys : List T) (ns : List ℕ) → ns ≡ numbers_from test 0 xs →
+    Picks xs ns ys → ys ≡ filter test xs
+found_rows test [] [] ns e p = refl
+found_rows {T} test [] (y ∷ ys) ns e p = p y ∙ ap (λ l. map (λ n. get_or {A = T} [] n y) l) e
+found_rows {T} test (x ∷ xs) ys ns e p = p x ∙ (ap (λ l. map (λ n. get_or (x ∷ xs) n x) l) e ∙ picked_filter test (x ∷ xs) x)
+
+pub found_below : {T : Type 0} → (test : T → Bool) (xs : List T) (ns : List ℕ) → ns ≡ numbers_from test 0 xs →
+    All (λ n. n < length xs) ns
+found_below test xs ns e = let P : List ℕ → Type 0 = λ l. All (λ n. n < length xs) l in
+    let le : 0 + length xs ≤ length xs = omega arith in subst P (sym e) (numbers_below test 0 (length xs) xs le)

@@ -53,9 +53,14 @@ module _ {K S : Type 0} (eq : K → K → Bool) where
   abbrev pub KeepsNumbers : HashMap K (Vec ℕ) S → HashMap K (Vec ℕ) S → Type 0
   KeepsNumbers m n = (q : K) → numbers_at n q ≡ numbers_at m q
 
-  -- The second has one more, of a key.
+  -- The second has one more for a key.
   abbrev pub PutsNumber : K → ℕ → HashMap K (Vec ℕ) S → HashMap K (Vec ℕ) S → Type 0
   PutsNumber k number m n = (q : K) → numbers_at n q ≡ numbers_at m q ++ cond (eq k q) (number ∷ []) []
+
+  -- One more stands for the key of a row, or among those without one.
+  pub record PlacesNumber (key : Option K) (number : ℕ) (m n : HashMap K (Vec ℕ) S) (old new : List ℕ) : Type 0 where
+    pub keyed : (q : K) → numbers_at n q ≡ numbers_at m q ++ cond (has_key eq q key) (number ∷ []) []
+    pub blankets : new ≡ old ++ cond (has_none key) (number ∷ []) []
 
   -- The numbers of the rows of each key, and of those that have none.
   pub record IsIndexed {V : Type 0} (by_key : HashMap K (Vec ℕ) S) (blanket : List ℕ) (rows : List (Row K V)) : Type 0 where

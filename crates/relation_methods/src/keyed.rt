@@ -1,7 +1,8 @@
 //! A table whose rows are found by a key that they have, or by any where they have none.
 ghost use Rattle.std.specs.Prelude.{◌≡◌, ◌<◌, ◌++◌, [], ◌∷◌, All, IfOk, OnOk, OnErr, length, map};
 ghost use Rattle.std.specs.List.{filter};
-ghost use Rattle.relation_methods.specs.Keyed.{KeepsNumbers, PutsNumber, merge, Picks};
+ghost use Rattle.relation_methods.specs.Keyed.{KeepsNumbers, PutsNumber, PlacesNumber, numbers_at, merge, Picks};
+ghost use Rattle.relation_methods.specs.Keyed.{is_found};
 
 use std::alloc::{AllocError, Global};
 use std::collections::HashMap;
@@ -86,4 +87,88 @@ fn picked<'a, T>(
         found.push(&rows[*number])?;
     }
     Ok(found)
+}
+
+// All rows.
+fn all<T>(alloc: Global, rows: &[T]) -> Result<Vec<&T>, OutOfMemory>
+    ensures { IfOk result (λ v. map (λ r. r.now) v.items ≡ rows.now) }
+{
+    let mut found = Vec::new(alloc);
+    for row in rows {
+        found.push(row)?;
+    }
+    Ok(found)
+}
+
+// Puts the number of a row to those of its key, or of the rows that have none.
+fn place_row<K: Eq + Hash + Copy>(
+    by_key: &mut Numbers<K>,
+    blanket: &mut Vec<usize>,
+    alloc: Global,
+    key: Option<K>,
+    number: usize,
+) -> Result<(), OutOfMemory>
+    ensures ok { OnOk result (PlacesNumber K.eq key number by_key.old by_key.new blanket.old.items blanket.new.items) }
+    ensures keyed_err { OnErr result (KeepsNumbers K.eq by_key.old by_key.new) }
+    ensures blanket_err { OnErr result (blanket.new.items ≡ blanket.old.items) }
+{
+    match key {
+        Some(key) => place(by_key, alloc, key, number),
+        None => {
+            blanket.push(number)?;
+            Ok(())
+        }
+    }
+}
+
+// The numbers of the rows of a key.
+fn numbers_of<'a, K: Eq + Hash>(by_key: &'a Numbers<K>, key: &K) -> &'a [usize]
+    ensures { result.now ≡ numbers_at K.eq by_key.now key.now }
+{
+    match by_key.get(key) {
+        Some(numbers) => numbers.as_slice(),
+        None => &[],
+    }
+}
+
+impl<K: Eq + Hash + Copy, V: Drop> KeyedTable<K, V> {
+    /// A table without rows. It takes no memory.
+    pub fn new(alloc: Global) -> Self
+        ensures { result ≡ [] }
+    {
+        KeyedTable {
+            rows: Vec::new(alloc),
+            by_key: HashMap::new(alloc),
+            blanket: Vec::new(alloc),
+        }
+    }
+
+    /// Puts a row behind all others.
+    ///
+    /// # Errors
+    /// `OutOfMemory` where a growth was refused: then the table is as it was.
+    pub fn insert(&mut self, alloc: Global, key: Option<K>, value: V) -> Result<(), OutOfMemory>
+        ensures ok { OnOk result (self.new ≡ self.old ++ record { key = key; value = value } ∷ []) }
+        ensures err { OnErr result (self.new ≡ self.old) }
+    {
+        self.rows.reserve(1)?;
+        let number = self.rows.len();
+        place_row(&mut self.by_key, &mut self.blanket, alloc, key, number)?;
+        self.rows.push(Row { key, value })?;
+        Ok(())
+    }
+
+    /// The rows that a key finds, which are its own and those without one, in the order of insertion; by none all.
+    ///
+    /// # Errors
+    /// `OutOfMemory` where a growth was refused.
+    pub fn look_up(&self, alloc: Global, key: Option<K>) -> Result<Vec<&Row<K, V>>, OutOfMemory>
+        ensures { IfOk result (λ v. map (λ r. r.now) v.items ≡ filter (λ r. is_found K.eq key r.key) self.now) }
+    {
+        let Some(key) = key else {
+            return all(alloc, &self.rows);
+        };
+        let numbers = merged(alloc, &self.blanket, numbers_of(&self.by_key, &key))?;
+        picked(alloc, &self.rows, &numbers)
+    }
 }
