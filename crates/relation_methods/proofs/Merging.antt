@@ -1,6 +1,6 @@
 -- The numbers of what passes either of two tests, merged of the numbers of what passes each.
 use Rattle.std.proofs.Common.{◌≡◌, ◌<◌, ◌≤◌, ◌+◌, ℕ, zero, suc, Bool, true, false, cond, ◌||◌, List, [], ◌∷◌, ◌++◌}
-use Rattle.std.proofs.Common.{map, get_or, refl, sym, ap, ◌∙◌, arith, length, All, nat_lt, drop, drop-cons, append_assoc, subst}
+use Rattle.std.proofs.Common.{map, get_or, refl, sym, ap, ◌∙◌, arith, length, All, nat_lt, subst}
 use Rattle.std.proofs.lemmas.Bool.Decides.{nat_tests}
 use Rattle.std.proofs.lemmas.List.Elements.{All-cons}
 use Rattle.std.specs.List.{filter}
@@ -98,48 +98,6 @@ picked_from {T} test n (x ∷ xs) all d at =
 pub picked_filter : {T : Type 0} → (test : T → Bool) (xs : List T) (d : T) →
     map (λ n. get_or xs n d) (numbers_from test 0 xs) ≡ filter test xs
 picked_filter test xs d = picked_from test 0 xs xs d (λ i. let e : 0 + i ≡ i = omega arith in ap (λ k. get_or xs k d) e)
-
--- The first of the right list comes next.
-pub right_next : (left right out whole : List ℕ) (i j d : ℕ) → i < length left → j < length right →
-    get_or right j d < get_or left i d → out ++ merge (drop i left) (drop j right) ≡ whole →
-    (out ++ get_or right j d ∷ []) ++ merge (drop i left) (drop (j + 1) right) ≡ whole
-right_next left right out whole i j d il jl lt h =
-    let x = get_or left i d in
-    let y = get_or right j d in
-    let xs = drop (suc i) left in
-    let ys = drop (suc j) right in
-    let e : merge (drop i left) (drop j right) ≡ y ∷ merge (drop i left) ys =
-        ap (λ l. merge l (drop j right)) (drop-cons left i d il) ∙ (ap (λ l. merge (x ∷ xs) l) (drop-cons right j d jl) ∙
-            (right_first y (x ∷ xs) ys lt ∙ ap (λ l. y ∷ merge l ys) (sym (drop-cons left i d il)))) in
-    let s : j + 1 ≡ suc j = omega arith in
-    append_assoc out (y ∷ []) (merge (drop i left) (drop (j + 1) right)) ∙
-        (ap (λ k. out ++ (y ∷ merge (drop i left) (drop k right))) s ∙ (ap (λ l. out ++ l) (sym e) ∙ h))
-
--- The first of the left list comes next, where that of the right one isn't below it.
-not_below : (x : ℕ) (xs ys : List ℕ) → ((y : ℕ) (zs : List ℕ) → ys ≡ y ∷ zs → x ≤ y) → merge (x ∷ xs) ys ≡ x ∷ merge xs ys
-not_below x xs [] h = refl
-not_below x xs (y ∷ ys) h = let le : x ≤ y = h y ys refl in let no : nat_lt y x ≡ false = grind (arith, nat_tests) in
-    ap (λ b. cond b (y ∷ merge_front x (merge xs) ys) (x ∷ merge xs (y ∷ ys))) no
-
-drop_empty : (j : ℕ) (right : List ℕ) (y : ℕ) (zs : List ℕ) → drop j right ≡ y ∷ zs → (j < length right) × (get_or right j y ≡ y)
-drop_empty zero [] y zs e = absurd cc
-drop_empty (suc j) [] y zs e = absurd cc
-drop_empty zero (x ∷ xs) y zs e = (omega arith, cc)
-drop_empty (suc j) (x ∷ xs) y zs e = let r = drop_empty j xs y zs e in (omega (arith, r.0), r.1)
-
-pub left_next : (left right out whole : List ℕ) (i j d : ℕ) → i < length left →
-    ((e : ℕ) → j < length right → get_or left i d ≤ get_or right j e) → out ++ merge (drop i left) (drop j right) ≡ whole →
-    (out ++ get_or left i d ∷ []) ++ merge (drop (i + 1) left) (drop j right) ≡ whole
-left_next left right out whole i j d il le h =
-    let x = get_or left i d in
-    let xs = drop (suc i) left in
-    let e : merge (drop i left) (drop j right) ≡ x ∷ merge xs (drop j right) =
-        ap (λ l. merge l (drop j right)) (drop-cons left i d il) ∙ not_below x xs (drop j right)
-            (λ y zs f. let r = drop_empty j right y zs f in let b : get_or left i d ≤ get_or right j y = le y r.0 in
-                let eq : get_or right j y ≡ y = r.1 in omega arith) in
-    let s : i + 1 ≡ suc i = omega arith in
-    append_assoc out (x ∷ []) (merge (drop (i + 1) left) (drop j right)) ∙
-        (ap (λ k. out ++ (x ∷ merge (drop k left) (drop j right))) s ∙ (ap (λ l. out ++ l) (sym e) ∙ h))
 
 -- What was picked is what passes the test.
 pub found_rows : {T : Type 0} → (test : T → Bool) (xs ys : List T) (ns : List ℕ) → ns ≡ numbers_from test 0 xs →

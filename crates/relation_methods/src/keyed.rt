@@ -165,10 +165,12 @@ impl<K: Eq + Hash + Copy, V: Drop> KeyedTable<K, V> {
     pub fn look_up(&self, alloc: Global, key: Option<K>) -> Result<Vec<&Row<K, V>>, OutOfMemory>
         ensures { IfOk result (λ v. map (λ r. r.now) v.items ≡ filter (λ r. is_found K.eq key r.key) self.now) }
     {
-        let Some(key) = key else {
-            return all(alloc, &self.rows);
-        };
-        let numbers = merged(alloc, &self.blanket, numbers_of(&self.by_key, &key))?;
-        picked(alloc, &self.rows, &numbers)
+        match key {
+            None => all(alloc, &self.rows),
+            Some(key) => {
+                let numbers = merged(alloc, &self.blanket, numbers_of(&self.by_key, &key))?;
+                picked(alloc, &self.rows, &numbers)
+            }
+        }
     }
 }

@@ -1,6 +1,8 @@
 -- All of the numbers were gone through.
-use Rattle.std.proofs.Common.{◌≡◌, ◌∙◌, ap, map, take, get_or, arith, length, take-all}
+use Rattle.std.proofs.Common.{◌≡◌, ◌∙◌, ℕ, ap, map, take, get_or, arith, length}
+use Rattle.std.proofs.lemmas.List.{take_all}
 use Rattle.relation_methods.proofs.keyed.picked.Goals as goal
 
 pub returns : goal.returns
-returns g c = ?
+returns g c = λ d. c.loop-number.invariant d ∙
+    ap (map (λ (n : ℕ). get_or c.args.rows.now n d)) (take_all c.loop-number.number-index c.args.numbers.now c.loop-number-test.false)
