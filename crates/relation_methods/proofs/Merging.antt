@@ -100,11 +100,11 @@ pub picked_filter : {T : Type 0} → (test : T → Bool) (xs : List T) (d : T) �
 picked_filter test xs d = picked_from test 0 xs xs d (λ i. let e : 0 + i ≡ i = omega arith in ap (λ k. get_or xs k d) e)
 
 -- What was picked is what passes the test.
-pub found_rows : {T : Type 0} → (test : T → Bool) (xs ys : List T) (ns : List ℕ) → ns ≡ numbers_from test 0 xs →
+pub found_entries : {T : Type 0} → (test : T → Bool) (xs ys : List T) (ns : List ℕ) → ns ≡ numbers_from test 0 xs →
     Picks xs ns ys → ys ≡ filter test xs
-found_rows test [] [] ns e p = refl
-found_rows {T} test [] (y ∷ ys) ns e p = p y ∙ ap (λ l. map (λ n. get_or {A = T} [] n y) l) e
-found_rows {T} test (x ∷ xs) ys ns e p = p x ∙ (ap (λ l. map (λ n. get_or (x ∷ xs) n x) l) e ∙ picked_filter test (x ∷ xs) x)
+found_entries test [] [] ns e p = refl
+found_entries {T} test [] (y ∷ ys) ns e p = p y ∙ ap (λ l. map (λ n. get_or {A = T} [] n y) l) e
+found_entries {T} test (x ∷ xs) ys ns e p = p x ∙ (ap (λ l. map (λ n. get_or (x ∷ xs) n x) l) e ∙ picked_filter test (x ∷ xs) x)
 
 pub found_below : {T : Type 0} → (test : T → Bool) (xs : List T) (ns : List ℕ) → ns ≡ numbers_from test 0 xs →
     All (λ n. n < length xs) ns

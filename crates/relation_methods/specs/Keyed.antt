@@ -1,10 +1,10 @@
--- Rows that are found by a key that they have, or by any where they have none, and the numbers of rows.
+-- Entries that are found by a key that they have, or by any where they have none, and the numbers of entries.
 use Rattle.std.specs.Prelude.{◌≡◌, ◌+◌, ℕ, Bool, true, false, cond, ◌||◌, List, [], ◌∷◌, ◌++◌, Option, Some, None, map}
 use Rattle.std.specs.Prelude.{get_or, nat_lt, suc}
 use Rattle.std.specs.Global.{Vec}
 use Rattle.std.specs.List.{filter}
 use Rattle.std.specs.HashMap.{HashMap, get}
-use Rattle.relation_methods.specs.declared.keyed.Row.{Row}
+use Rattle.relation_methods.specs.declared.keyed.Entry.{Entry}
 
 -- Two lists of numbers as one: of the first of each the smaller one comes first. `merge_front` is the merge of a list
 -- that begins with a number, where the merge of its rest is given.
@@ -57,12 +57,12 @@ module _ {K S : Type 0} (eq : K → K → Bool) where
   abbrev pub PutsNumber : K → ℕ → HashMap K (Vec ℕ) S → HashMap K (Vec ℕ) S → Type 0
   PutsNumber k number m n = (q : K) → numbers_at n q ≡ numbers_at m q ++ cond (eq k q) (number ∷ []) []
 
-  -- One more stands for the key of a row, or among those without one.
+  -- One more stands for the key of a entry, or among those without one.
   pub record PlacesNumber (key : Option K) (number : ℕ) (m n : HashMap K (Vec ℕ) S) (old new : List ℕ) : Type 0 where
     pub keyed : (q : K) → numbers_at n q ≡ numbers_at m q ++ cond (has_key eq q key) (number ∷ []) []
     pub blankets : new ≡ old ++ cond (has_none key) (number ∷ []) []
 
-  -- The numbers of the rows of each key, and of those that have none.
-  pub record IsIndexed {V : Type 0} (by_key : HashMap K (Vec ℕ) S) (blanket : List ℕ) (rows : List (Row K V)) : Type 0 where
-    pub keyed : (q : K) → numbers_at by_key q ≡ numbers_from (λ r. has_key eq q r.key) 0 rows
-    pub blankets : blanket ≡ numbers_from (λ r. has_none r.key) 0 rows
+  -- The numbers of the entries of each key, and of those that have none.
+  pub record IsIndexed {T E : Type 0} (by_key : HashMap K (Vec ℕ) S) (blanket : List ℕ) (entries : List (Entry K T E)) : Type 0 where
+    pub keyed : (q : K) → numbers_at by_key q ≡ numbers_from (λ r. has_key eq q r.key) 0 entries
+    pub blankets : blanket ≡ numbers_from (λ r. has_none r.key) 0 entries

@@ -1,4 +1,4 @@
-//! A table whose rows are found by a key that they have, or by any where they have none.
+//! A table whose entries are found by a key that they have, or by any where they have none.
 ghost use Rattle.std.specs.Prelude.{◌≡◌, ◌<◌, ◌++◌, [], ◌∷◌, All, IfOk, OnOk, OnErr, length, map};
 ghost use Rattle.std.specs.List.{filter};
 ghost use Rattle.relation_methods.specs.Keyed.{KeepsNumbers, PutsNumber, PlacesNumber, numbers_at, merge, Picks};
@@ -10,37 +10,38 @@ use std::hash::Hash;
 use std::marker::Model;
 use term_enums::OutOfMemory;
 
-/// What a table holds, and the key that it is found by: by any, if it has none.
+/// What a table holds: a value, what it is of, and the key that it is found by; by any, if it has none.
 #[derive(Drop)]
-pub struct Row<K, V> {
+pub struct Entry<K, T, E> {
+    pub of: T,
     pub key: Option<K>,
-    pub value: V,
+    pub value: E,
 }
 
-/// Which rows have a key, by their numbers.
+/// Which entries have a key, by their numbers.
 type Numbers<K> = HashMap<K, Vec<usize>>;
 
-/// Rows, in the order of insertion, with the numbers of those of each key and of those that have none.
+/// Entries, in the order of insertion, with the numbers of those of each key and of those that have none.
 #[derive(Drop)]
-pub struct KeyedTable<K: Eq + Hash, V> {
-    rows: Vec<Row<K, V>>,
+pub struct KeyedTable<K: Eq + Hash, T, E> {
+    entries: Vec<Entry<K, T, E>>,
     by_key: Numbers<K>,
     blanket: Vec<usize>,
 }
 
-impl<K: Eq + Hash, V> Model for KeyedTable<K, V> {
+impl<K: Eq + Hash, T, E> Model for KeyedTable<K, T, E> {
     ghost use Rattle.std.specs.Prelude.{List};
-    ghost use Rattle.relation_methods.specs.declared.keyed.Row.{Row};
+    ghost use Rattle.relation_methods.specs.declared.keyed.Entry.{Entry};
     ghost use Rattle.relation_methods.specs.Keyed.{IsIndexed};
 
-    ghost Value = { List (Row K V) };
+    ghost Value = { List (Entry K T E) };
 
-    ghost view = { λ t. t.rows.items };
+    ghost view = { λ t. t.entries.items };
 
-    ghost invariant = { λ t. IsIndexed K.eq t.by_key t.blanket.items t.rows.items };
+    ghost invariant = { λ t. IsIndexed K.eq t.by_key t.blanket.items t.entries.items };
 }
 
-// Puts the number of a row to those of its key.
+// Puts the number of an entry to those of its key.
 fn place<K: Eq + Hash + Drop>(
     by_key: &mut Numbers<K>,
     alloc: Global,
@@ -73,35 +74,35 @@ fn merged(alloc: Global, left: &[usize], right: &[usize]) -> Result<Vec<usize>, 
     Ok(numbers)
 }
 
-// The rows of these numbers.
+// The entries of these numbers.
 fn picked<'a, T>(
     alloc: Global,
-    rows: &'a [T],
+    entries: &'a [T],
     numbers: &[usize],
 ) -> Result<Vec<&'a T>, OutOfMemory>
-    requires { All (λ n. n < length rows.now) numbers.now }
-    ensures { IfOk result (λ v. Picks rows.now numbers.now (map (λ r. r.now) v.items)) }
+    requires { All (λ n. n < length entries.now) numbers.now }
+    ensures { IfOk result (λ v. Picks entries.now numbers.now (map (λ r. r.now) v.items)) }
 {
     let mut found = Vec::new(alloc);
     for number in numbers {
-        found.push(&rows[*number])?;
+        found.push(&entries[*number])?;
     }
     Ok(found)
 }
 
-// All rows.
-fn all<T>(alloc: Global, rows: &[T]) -> Result<Vec<&T>, OutOfMemory>
-    ensures { IfOk result (λ v. map (λ r. r.now) v.items ≡ rows.now) }
+// All entries.
+fn all<T>(alloc: Global, entries: &[T]) -> Result<Vec<&T>, OutOfMemory>
+    ensures { IfOk result (λ v. map (λ r. r.now) v.items ≡ entries.now) }
 {
     let mut found = Vec::new(alloc);
-    for row in rows {
-        found.push(row)?;
+    for entry in entries {
+        found.push(entry)?;
     }
     Ok(found)
 }
 
-// Puts the number of a row to those of its key, or of the rows that have none.
-fn place_row<K: Eq + Hash + Copy>(
+// Puts the number of an entry to those of its key, or of the entries that have none.
+fn place_entry<K: Eq + Hash + Copy>(
     by_key: &mut Numbers<K>,
     blanket: &mut Vec<usize>,
     alloc: Global,
@@ -121,7 +122,7 @@ fn place_row<K: Eq + Hash + Copy>(
     }
 }
 
-// The numbers of the rows of a key.
+// The numbers of the entries of a key.
 fn numbers_of<'a, K: Eq + Hash>(by_key: &'a Numbers<K>, key: &K) -> &'a [usize]
     ensures { result.now ≡ numbers_at K.eq by_key.now key.now }
 {
@@ -131,45 +132,45 @@ fn numbers_of<'a, K: Eq + Hash>(by_key: &'a Numbers<K>, key: &K) -> &'a [usize]
     }
 }
 
-impl<K: Eq + Hash + Copy, V: Drop> KeyedTable<K, V> {
-    /// A table without rows. It takes no memory.
+impl<K: Eq + Hash + Copy, T: Drop, E: Drop> KeyedTable<K, T, E> {
+    /// A table without entries. It takes no memory.
     pub fn new(alloc: Global) -> Self
         ensures { result ≡ [] }
     {
         KeyedTable {
-            rows: Vec::new(alloc),
+            entries: Vec::new(alloc),
             by_key: HashMap::new(alloc),
             blanket: Vec::new(alloc),
         }
     }
 
-    /// Puts a row behind all others.
+    /// Puts an entry behind all others.
     ///
     /// # Errors
     /// `OutOfMemory` where a growth was refused: then the table is as it was.
-    pub fn insert(&mut self, alloc: Global, key: Option<K>, value: V) -> Result<(), OutOfMemory>
-        ensures ok { OnOk result (self.new ≡ self.old ++ record { key = key; value = value } ∷ []) }
+    pub fn insert(&mut self, alloc: Global, entry: Entry<K, T, E>) -> Result<(), OutOfMemory>
+        ensures ok { OnOk result (self.new ≡ self.old ++ entry ∷ []) }
         ensures err { OnErr result (self.new ≡ self.old) }
     {
-        self.rows.reserve(1)?;
-        let number = self.rows.len();
-        place_row(&mut self.by_key, &mut self.blanket, alloc, key, number)?;
-        self.rows.push(Row { key, value })?;
+        self.entries.reserve(1)?;
+        let number = self.entries.len();
+        place_entry(&mut self.by_key, &mut self.blanket, alloc, entry.key, number)?;
+        self.entries.push(entry)?;
         Ok(())
     }
 
-    /// The rows that a key finds, which are its own and those without one, in the order of insertion; by none all.
+    /// The entries that a key finds, which are its own and those without one, in the order of insertion; by none all.
     ///
     /// # Errors
     /// `OutOfMemory` where a growth was refused.
-    pub fn look_up(&self, alloc: Global, key: Option<K>) -> Result<Vec<&Row<K, V>>, OutOfMemory>
+    pub fn look_up(&self, alloc: Global, key: Option<K>) -> Result<Vec<&Entry<K, T, E>>, OutOfMemory>
         ensures { IfOk result (λ v. map (λ r. r.now) v.items ≡ filter (λ r. is_found K.eq key r.key) self.now) }
     {
         match key {
-            None => all(alloc, &self.rows),
+            None => all(alloc, &self.entries),
             Some(key) => {
                 let numbers = merged(alloc, &self.blanket, numbers_of(&self.by_key, &key))?;
-                picked(alloc, &self.rows, &numbers)
+                picked(alloc, &self.entries, &numbers)
             }
         }
     }

@@ -1,4 +1,9 @@
-//! A table of methods, or of impls: what is stored in it for types is found by the key of a type that is looked up.
+//! A table of methods, or of impls, each for a type: what may be for a type is found by the type's key.
 #![tactic(auto)]
 
 mod keyed;
+pub mod laws;
+mod table;
+
+pub use keyed::Entry;
+pub use table::{Candidates, EntryOf, MethodTable};

@@ -2,5 +2,5 @@
 use Rattle.std.proofs.Common.{◌≡◌, map, take}
 use Rattle.relation_methods.proofs.keyed.all.Given as goal
 
-abbrev pub invariant-loop-row : goal.invariant-loop-row
-invariant-loop-row g l = map (λ r. r.now) (l.found).items ≡ take l.row-index l.rows
+abbrev pub invariant-loop-entry : goal.invariant-loop-entry
+invariant-loop-entry g l = map (λ r. r.now) (l.found).items ≡ take l.entry-index l.entries

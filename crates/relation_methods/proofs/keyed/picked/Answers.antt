@@ -5,4 +5,4 @@ use Rattle.relation_methods.proofs.keyed.picked.Goals as goal
 
 pub returns : goal.returns
 returns g c = λ d. c.loop-number.invariant d ∙
-    ap (map (λ (n : ℕ). get_or c.args.rows.now n d)) (take_all c.loop-number.number-index c.args.numbers.now c.loop-number-test.false)
+    ap (map (λ (n : ℕ). get_or c.args.entries.now n d)) (take_all c.loop-number.number-index c.args.numbers.now c.loop-number-test.false)
