@@ -1,0 +1,3 @@
+pub mod Overlaps
+pub mod Headers
+pub mod Answers
