@@ -1,0 +1,5 @@
+pub mod Overlapping
+pub mod FirstOrderBodies
+pub mod ByForm
+pub mod Opening
+pub mod Answering
