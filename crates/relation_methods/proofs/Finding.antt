@@ -14,7 +14,7 @@ use Rattle.fast_reject.specs.KeyLaws.{UnlikeKeysAreApart, KeysAreEqualByNumber}
 use Rattle.fast_reject.specs.declared.simplify.SimplifiedType.{SimplifiedType}
 use Rattle.fast_reject.specs.declared.simplify.TreatParams.TheVariants.{AsRigid, InstantiateWithInfer}
 use Rattle.relation_methods.specs.Keyed.{is_found}
-use Rattle.relation_methods.specs.Methods.{IsSubsequence, MethodEntry, IsKeyOf, IsKeyed, AreKeyed, AreApart, LeavesOutApart}
+use Rattle.relation_methods.specs.Methods.{IsSubsequence, MethodEntry, IsKeyOf, IsKeyed, AreKeyed, Appends, AreApart, LeavesOutApart}
 use Rattle.relation_methods.specs.Methods.IsSubsequence.{empty, left_out, kept}
 
 -- What passes a test stands in the order in which it stood.
@@ -80,3 +80,21 @@ keyed_still {Key} {Id} {Name} m n g e k =
 pub tables_stand : {Key Id Name E : Type 0} (m n : Meaning Key Id Name) → Extends m n → (es : List (MethodEntry Key Id E)) →
     AreKeyed m es → AreKeyed n es
 tables_stand m n g es h = λ k d l. keyed_still m n g (get_or es k d) (h k d l)
+
+-- One entry more.
+pub appended : {Key Id Name E : Type 0} (m : Meaning Key Id Name) (e : MethodEntry Key Id E)
+    (old new : List (MethodEntry Key Id E)) → IsTrue (known (m.ty (e.of).value)) →
+    IsKeyOf m InstantiateWithInfer e.key (e.of).value → new ≡ old ++ e ∷ [] → Appends m e.of e.value old new
+appended m e old new k i n = record {
+  entry = e;
+  last = n;
+  of_type = refl;
+  has_value = refl;
+  keyed = record { is_known = k; key = i };
+}
+
+pub keyed_after : {Key Id Name E : Type 0} (m : Meaning Key Id Name) (e : MethodEntry Key Id E)
+    (old new : List (MethodEntry Key Id E)) → IsTrue (known (m.ty (e.of).value)) →
+    IsKeyOf m InstantiateWithInfer e.key (e.of).value → new ≡ old ++ e ∷ [] → AreKeyed m old → AreKeyed m new
+keyed_after m e old new k i n h =
+    subst (AreKeyed m) (sym n) (All-push (IsKeyed m) old e h (record { is_known = k; key = i }))

@@ -69,7 +69,8 @@ impl<I: Interner, E: Drop> MethodTable<I, E> {
         ensures err { OnErr result (self.new ≡ self.old) }
     {
         let key = simplify_type(cx, &of.value, TreatParams::InstantiateWithInfer);
-        self.entries.insert(cx.alloc(), Entry { of, key, value })
+        self.entries.insert(cx.alloc(), Entry { of, key, value })?;
+        Ok(())
     }
 
     /// What may be for a type that is known as far as it goes: its parameters and aliases are types of their own.
