@@ -1,21 +1,25 @@
 -- What two opened headers have in common, by what relating their bodies as lists of arguments promises.
-use Rattle.std.proofs.Common.{◌≡◌, ℕ, suc, refl, sym, ap, ◌∙◌, subst, subst₂, List, length, Option, Some, IsTrue, All}
+use Rattle.std.proofs.Common.{◌≡◌, ◌+◌, ◌<◌, ℕ, suc, arith, refl, sym, ap, ◌∙◌, subst, subst₂, List, length, Option, Some, IsTrue, All}
 use Rattle.relation_terms.specs.declared.terms.binder.Binder.{Binder}
 use Rattle.relation_terms.specs.declared.terms.keys.ArgsKey.{ArgsKey}
 use Rattle.relation_terms.specs.Heads.{BoundKind, VarKind, arguments}
 use Rattle.relation_terms.specs.Trees.{Tree, node, bind, nil, cons, Assign, apply, Leaves, IsList, count, inst, leaf, put}
 use Rattle.relation_terms.specs.Meaning.{under}
 use Rattle.fast_reject.specs.Instances.{IsNoVariable, NoCommonInstance}
+use Rattle.relation_semantics.specs.Binders.{bound_by}
 use Rattle.relation_semantics.specs.Contexts.{Context}
 use Rattle.relation_semantics.specs.FirstOrder.{IsFirstOrder, IsFirstOrderStore, Unifies, IsErasedSolution}
 use Rattle.relation_semantics.specs.Goals.{Goal}
 use Rattle.relation_semantics.specs.Headline.{KeepsEqualTerms, IsFirstOrderPair}
+use Rattle.relation_semantics.specs.OneUniverse.{IsPairOf, all_unbound}
 use Rattle.relation_semantics.specs.Outcomes.{NoEqualTerms, NoUnifier, Exact}
 use Rattle.relation_semantics.specs.StepLaws.{InstantiatingAssigns}
 use Rattle.relation_semantics.specs.StoreLaws.{ResolvedResolves}
 use Rattle.relation_semantics.specs.Steps.{HasExtension}
 use Rattle.relation_semantics.specs.Stores.{Store, InContext, IsSound, Satisfies, BindingsAreMet, bound_term, entry_term, resolved}
 use Rattle.relation_semantics.proofs.Standing.{later_context}
+use Rattle.relation_coherence.specs.Bounds.{types_bound, WasTooFew}
+use Rattle.relation_coherence.proofs.Bounding.{term_names}
 use Rattle.relation_coherence.specs.Headers.{header_tree, IsClosedHeader, AreOfOneLength, OpensHeaders}
 use Rattle.relation_coherence.specs.Overlaps.{AreApart, AreApartErased, Covers, IsCommon, IsFirstOrderBody, IsFirstOrderHeader}
 use Rattle.relation_coherence.proofs.FirstOrderBodies.{opened_first_order, new_are_variables, list_opened}
@@ -92,6 +96,25 @@ module _ {Key Id Name : Type 0} (c d : Context Key Id Name) (left right : Binder
         bindings = λ k n t e. fo k n t (ap (entry_term k) (sym (((h.second).makes).same_entries k n ∙
             ((h.first).makes).same_entries k n)) ∙ e);
       }
+
+  -- Where the budget was too small for the opened bodies, it was for the headers.
+  pub bounded : ((u : ℕ) → IsPairOf u d.store (node arguments ((d.meaning).args x)) (node arguments ((d.meaning).args y)) →
+      (d.store).budget < all_unbound d.store) → WasTooFew c.store (header_tree c.meaning left) (header_tree c.meaning right)
+  bounded enough one =
+      let same : (d.store).universe ≡ (c.store).universe =
+          ((h.second).makes).same_universe ∙ ((h.first).makes).same_universe in
+      let few : (d.store).budget < all_unbound d.store = enough (c.store).universe (record {
+            variables = h.one_universe one;
+            left = term_names d.store (c.store).universe (node arguments ((d.meaning).args x)) same (h.left_relates).has;
+            right = term_names d.store (c.store).universe (node arguments ((d.meaning).args y)) same (h.right_relates).has;
+          }) in
+      let spent : (d.store).budget ≡ (c.store).budget = ((h.second).makes).same_budget ∙ ((h.first).makes).same_budget in
+      let unresolved = h.unresolved in
+      let l : types_bound (bound_by (header_tree c.meaning left)) ≡ types_bound h.left_binds =
+          ap (λ t. types_bound (bound_by t)) left_is in
+      let r : types_bound (bound_by (header_tree c.meaning right)) ≡ types_bound h.right_binds =
+          ap (λ t. types_bound (bound_by t)) right_is in
+      omega (arith, few, spent, unresolved, l, r)
 
   module _ (instantiating : InstantiatingAssigns) (left_closed : IsClosedHeader c left)
       (right_closed : IsClosedHeader c right) where

@@ -1,5 +1,5 @@
 -- Two headers, opened one after the other.
-use Rattle.std.proofs.Common.{◌≡◌, ℕ, refl, sym, ap, ◌∙◌, subst, List, take, Option, Some, None, IsTrue, arith}
+use Rattle.std.proofs.Common.{◌≡◌, ◌+◌, ℕ, refl, sym, ap, ◌∙◌, subst, List, take, Option, Some, None, IsTrue, arith}
 use Rattle.relation_terms.specs.declared.terms.binder.Binder.{Binder}
 use Rattle.relation_terms.specs.declared.terms.keys.ArgsKey.{ArgsKey}
 use Rattle.relation_terms.specs.Heads.{BoundKind, arguments}
@@ -11,10 +11,13 @@ use Rattle.relation_semantics.specs.Binders.{InstantiatesAs, InstantiatesWithInf
 use Rattle.relation_semantics.specs.ContextCalls.{Grows}
 use Rattle.relation_semantics.specs.Contexts.{Context}
 use Rattle.relation_semantics.specs.OpeningLaws.{MakingEachMakes, InstantiatingEachOpens, InstantiatedBodyIsIn, InstantiatedBodyBinds}
+use Rattle.relation_semantics.specs.OneUniverse.{HasOneUniverse, all_unbound}
 use Rattle.relation_semantics.specs.Steps.{IsLater, InstantiatesBinder}
 use Rattle.relation_semantics.specs.Stores.{Store, InContext, IsTermIn, IsSound}
 use Rattle.relation_semantics.proofs.Standing.{later_term, term_context}
 use Rattle.relation_semantics.proofs.Going.{later_through}
+use Rattle.relation_coherence.specs.Bounds.{types_bound}
+use Rattle.relation_coherence.proofs.Bounding.{each_unresolved, each_of_universe}
 use Rattle.relation_coherence.specs.Headers.{args_tree, header_tree, KnowsHeader, TakesHeader, HasHeader, MayRelate, OpensHeaders}
 
 -- A binder that binds by its list, as all binders in a term do.
@@ -59,6 +62,8 @@ module _ {Key Id Name : Type 0} where
     opens : InstantiatesBinder before after binds t x
     is_in : IsTermIn after x
     well_bound : IsWellBound x
+    one_universe : HasOneUniverse before.universe before → HasOneUniverse before.universe after
+    unresolved : all_unbound after ≡ all_unbound before + types_bound binds
 
   module _ (opens : InstantiatingEachOpens) (body_in : InstantiatedBodyIsIn) (body_binds : InstantiatedBodyBinds) where
     opened : (c d : Context Key Id Name) (o : Option (List BoundKind)) (t x : Tree) → InstantiatesAs c d (under o t) x →
@@ -70,6 +75,8 @@ module _ {Key Id Name : Type 0} where
       opens = opens c.store d.store ks t x f g;
       is_in = (body_in c.store d.store ks t x f g i w.0).0;
       well_bound = body_binds c.store d.store ks t x f w.1;
+      one_universe = λ h. each_of_universe f.makes (omega arith) g h;
+      unresolved = each_unresolved f.makes;
     }
 
     -- What is asked of the second header where the first was opened.
@@ -129,6 +136,10 @@ module _ {Key Id Name : Type 0} where
         first = subst (InstantiatesBinder c.store d.store one.binds ((c.meaning).args left.value)) (sym stays) one.opens;
         second = other.opens;
         left_in = subst (InContext d.store) (sym stays) (term_context d.store ((d.meaning).args x) one.is_in);
+        one_universe = λ h. subst (λ u. HasOneUniverse u e.store) ((one.opens).makes).same_universe
+            (other.one_universe (subst (λ u. HasOneUniverse u d.store) (sym ((one.opens).makes).same_universe)
+                (one.one_universe h)));
+        unresolved = let p = one.unresolved in let q = other.unresolved in omega (arith, p, q);
         left_relates = record {
           is_known = subst (λ t. IsTrue (known t)) (sym stays) x_known;
           taken = subst IsWellBound (sym stays) one.well_bound;

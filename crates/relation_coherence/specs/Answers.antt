@@ -1,14 +1,17 @@
 -- What an overlap checker answers, between what a context is before the call and after it.
-use Rattle.std.specs.Prelude.{ℕ, Result, Ok, Err}
+use Rattle.std.specs.Prelude.{◌≡◌, ℕ, Result, Ok, Err}
 use Rattle.relation_terms.specs.declared.terms.binder.Binder.{Binder}
 use Rattle.relation_terms.specs.declared.terms.keys.ArgsKey.{ArgsKey}
-use Rattle.relation_terms.specs.Trees.{Tree}
+use Rattle.relation_terms.specs.Trees.{Tree, Leaves}
+use Rattle.relation_folds.specs.Faults.{IfSpent}
 use Rattle.relation_folds.specs.declared.error.RelateFault.{RelateFault}
 use Rattle.relation_semantics.specs.Contexts.{Context}
 use Rattle.relation_semantics.specs.FirstOrder.{IsFirstOrderStore}
+use Rattle.relation_semantics.specs.Stores.{IsFree}
 use Rattle.relation_coherence.specs.declared.overlap.WhyApart.TheVariants.{ByForm, ByRelating}
 use Rattle.relation_coherence.specs.declared.overlap.Overlap.{Overlap}
 use Rattle.relation_coherence.specs.declared.overlap.Overlap.TheVariants.{Apart, Meets}
+use Rattle.relation_coherence.specs.Bounds.{WasTooFew}
 use Rattle.relation_coherence.specs.Headers.{header_tree}
 use Rattle.relation_coherence.specs.Overlaps.{AreApart, AreApartErased, Covers, IsCommon, IsFirstOrderHeader}
 
@@ -52,3 +55,14 @@ module _ {Key Id Name : Type 0} (c d : Context Key Id Name) (a b : Binder Key (A
   MeetsInCommon (Ok (Meets header goals)) =
       AllFirstOrder (IsCommon universe left right d.store ((d.meaning).args header))
   MeetsInCommon (Err f) = Unit {0}
+
+  -- What the answered header comes to is itself: no variable stands in it that has a term.
+  abbrev pub IsResolved : Result (Overlap Key Id Name) (RelateFault Key Id Name) → Type 0
+  IsResolved (Ok (Apart why)) = Unit {0}
+  IsResolved (Ok (Meets header goals)) = Leaves (IsFree d.store) ((d.meaning).args header)
+  IsResolved (Err f) = Unit {0}
+
+  -- `Budget` comes only where none is left; and of first-order headers in a first-order record only where fewer were left
+  -- than there were unresolved variables, with one for each type and constant that either binds.
+  abbrev pub SpendsAll : Result (Overlap Key Id Name) (RelateFault Key Id Name) → Type 0
+  SpendsAll result = IfSpent result (((d.store).budget ≡ 0) × AllFirstOrder (WasTooFew c.store left right))

@@ -1,5 +1,5 @@
 -- Headers as trees, and two of them opened in a context.
-use Rattle.std.specs.Prelude.{◌≡◌, List, Option, Some, IsTrue}
+use Rattle.std.specs.Prelude.{◌≡◌, ◌+◌, List, Some, IsTrue}
 use Rattle.relation_terms.specs.declared.terms.binder.Binder.{Binder}
 use Rattle.relation_terms.specs.declared.terms.keys.ArgsKey.{ArgsKey}
 use Rattle.relation_terms.specs.Heads.{BoundKind, arguments}
@@ -9,9 +9,11 @@ use Rattle.fast_reject.specs.Instances.{IsNoVariable, AgreeOnNames as NamesAgree
 use Rattle.relation_semantics.specs.Binders.{binder_tree}
 use Rattle.relation_semantics.specs.Bound.{IsWellBound}
 use Rattle.relation_semantics.specs.Contexts.{Context}
+use Rattle.relation_semantics.specs.OneUniverse.{HasOneUniverse, all_unbound}
 use Rattle.relation_semantics.specs.Steps.{InstantiatesBinder}
 use Rattle.relation_semantics.specs.Stores.{Store, InContext, IsTermIn}
 use Rattle.context_relation.specs.Relating.{KnowsTerm, TakesTerm, HasTerm}
+use Rattle.relation_coherence.specs.Bounds.{types_bound}
 
 module _ {Key Id Name : Type 0} where
   -- The trees of a trait's arguments, and of a header, which is a binder over such.
@@ -61,5 +63,7 @@ module _ {Key Id Name : Type 0} where
     pub first : InstantiatesBinder c.store middle left_binds ((c.meaning).args left.value) ((d.meaning).args x)
     pub second : InstantiatesBinder middle d.store right_binds ((c.meaning).args right.value) ((d.meaning).args y)
     pub left_in : InContext middle ((d.meaning).args x)
+    pub one_universe : HasOneUniverse (c.store).universe c.store → HasOneUniverse (c.store).universe d.store
+    pub unresolved : all_unbound d.store ≡ all_unbound c.store + (types_bound left_binds + types_bound right_binds)
     pub left_relates : MayRelate d x
     pub right_relates : MayRelate d y

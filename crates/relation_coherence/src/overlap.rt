@@ -1,13 +1,12 @@
 //! The overlap of two headers.
 ghost use Rattle.relation_terms.specs.Meaning.{Extends};
-ghost use Rattle.relation_folds.specs.Faults.{IfSpent};
-ghost use Rattle.std.specs.Prelude.{◌≡◌};
 ghost use Rattle.relation_semantics.specs.Contexts.{KnowsEnv};
 ghost use Rattle.relation_semantics.specs.Steps.{IsLater};
 ghost use Rattle.relation_semantics.specs.Stores.{IsSound};
 ghost use Rattle.relation_coherence.specs.Headers.{KnowsHeader, TakesHeader, HasHeader, AreOfOneLength};
 ghost use Rattle.relation_coherence.specs.Headers.{IsClosedHeader, AgreeOnNames};
 ghost use Rattle.relation_coherence.specs.Answers.{TellsApart, TellsApartErased, CoversBoth, MeetsInCommon};
+ghost use Rattle.relation_coherence.specs.Answers.{IsResolved, SpendsAll};
 
 use crate::opening::open_both;
 use fast_reject::DeepRejectCtxt;
@@ -49,11 +48,13 @@ pub enum Overlap<I: Interner> {
 /// After `Apart` nothing is an instance of both. Where a quick test said so, or both are first-order, as the record is,
 /// no instances of the two are one up to erasure either, as regions are not compared by it. After `Meets` whatever is an
 /// instance of both is a value of the answered header, and if all is first-order each value of it is an instance of both,
-/// up to erasure: it is the most general overlap. An alias counts as a term of its own, unless relating leaves it to a
-/// goal.
+/// up to erasure: it is the most general overlap. No variable stands in it that is bound. An alias counts as a term of its
+/// own, unless relating leaves it to a goal.
 ///
 /// # Errors
-/// `Budget` only where no instantiation is left, and `Memory` where a growth was refused. Variables may have been made
+/// `Budget` only where no instantiation is left: not of first-order headers in a first-order record, if the unresolved
+/// variables of types and constants are of the current universe and the budget is as large as their number and that of
+/// the types and constants which both headers bind. `Memory` where a growth was refused. Variables may have been made
 /// then, and more recorded; all that was recorded stands, as it does after each answer.
 pub fn overlap<C: InferCtxtLike>(
     ctx: &mut C,
@@ -78,7 +79,8 @@ pub fn overlap<C: InferCtxtLike>(
     ensures apart_erased { TellsApartErased (C.state ctx.old) (C.state ctx.new) left right result }
     ensures covers { CoversBoth (C.state ctx.old) (C.state ctx.new) left right result }
     ensures common { MeetsInCommon (C.state ctx.old) (C.state ctx.new) left right result }
-    ensures spent { IfSpent result ((C.state ctx.new).store.budget ≡ 0) }
+    ensures resolved { IsResolved (C.state ctx.old) (C.state ctx.new) left right result }
+    ensures bounded { SpendsAll (C.state ctx.old) (C.state ctx.new) left right result }
     ensures later { IsLater (C.state ctx.old).store (C.state ctx.new).store }
     ensures sound { IsSound (C.state ctx.new).store }
     ensures lawful { (C.state ctx.new).lawful }
