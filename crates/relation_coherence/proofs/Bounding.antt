@@ -54,18 +54,19 @@ each_unresolved {u} {before} {after} (makes_next {middle = middle} {ks = ks} {xs
     omega (arith, ih, one, more)
 
 -- They are of the universe that they were made in.
+universe_more : (u : ℕ) (middle after : Store) (k : VarKind) (n : ℕ) → MakesVariable middle after k n u →
+    IsSound middle → HasOneUniverse u middle → HasOneUniverse u after
+universe_more u middle after k n q sound h j m t made = go (old_or_new middle after k n u q j m made)
+  where
+    go : IsMade middle j m ⊎ ((j ≡ k) × (m ≡ n)) → universe_of after j m ≡ u
+    go (inl o) = universes_stand middle after k n u q sound j m o ∙ h j m t o
+    go (inr o) = ap₂ (universe_of after) o.0 o.1 ∙ new_universe middle after k n u sound q
+
 pub each_of_universe : {u : ℕ} {before after : Store} {ks : List BoundKind} {xs : List Tree} →
     MakesEach u before ks xs after → u ≤ before.universe → IsSound before → HasOneUniverse u before → HasOneUniverse u after
-each_of_universe {u} (makes_none p q) low g h = h
-each_of_universe {u} {before} {after} (makes_next {middle = middle} {n = n} k f q p e) low g h j m t made =
-    go (old_or_new middle after (variable_kind k) n u q j m made)
-  where
-    sound : IsSound middle
-    sound = (adds g low (each_unbound f)).sound
-
-    go : IsMade middle j m ⊎ ((j ≡ variable_kind k) × (m ≡ n)) → universe_of after j m ≡ u
-    go (inl o) = universes_stand middle after (variable_kind k) n u q sound j m o ∙ each_of_universe f low g h j m t o
-    go (inr o) = ap₂ (universe_of after) o.0 o.1 ∙ new_universe middle after (variable_kind k) n u sound q
+each_of_universe (makes_none p q) low g h = h
+each_of_universe {u} {before} {after} (makes_next {middle = middle} {n = n} k f q p e) low g h =
+    universe_more u middle after (variable_kind k) n q (adds g low (each_unbound f)).sound (each_of_universe f low g h)
 
 -- A term of the context names no placeholder of a later universe.
 names_leaf : (u v : ℕ) → v ≡ u → (l : Leaf) → IsNamable v l → NamesTypesTo u l

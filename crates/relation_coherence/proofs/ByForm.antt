@@ -1,8 +1,8 @@
 -- Headers that a quick test tells apart, by what opened bodies are instances of.
-use Rattle.std.proofs.Common.{◌≡◌, ℕ, Bool, true, false, List, Option, Some, None, IsTrue, refl, sym, ◌∙◌, ap, subst}
+use Rattle.std.proofs.Common.{◌≡◌, ℕ, Bool, true, false, List, [], Option, Some, None, IsTrue, refl, sym, ◌∙◌, ap, subst}
 use Rattle.relation_terms.specs.declared.terms.binder.Binder.{Binder}
 use Rattle.relation_terms.specs.declared.terms.keys.ArgsKey.{ArgsKey}
-use Rattle.relation_terms.specs.Heads.{BoundKind, Shape, bound, argument_sort}
+use Rattle.relation_terms.specs.Heads.{BoundKind, Shape, row, term_of, bound, argument_sort}
 use Rattle.relation_terms.specs.Trees.{Tree, leaf, bind, inst, known, Fits, AreTerms, Leaves}
 use Rattle.relation_terms.specs.Erasure.{erase}
 use Rattle.relation_terms.specs.Meaning.{Meaning, under}
@@ -36,8 +36,8 @@ module _ (instance : OpenedIsInstance) where
       NamesAgree a b → NoCommonInstance false false a b → AreApartErased u (under o a) (under p b)
   by_lists u (Some ks) (Some ls) x a b f g p q m n names none =
       by_form u ks ls x a b f.0 g.0 p q m n names none
-  by_lists u None p x a b f g s q m n names none v w i j e = absurd i
-  by_lists u (Some ks) None x a b f g p q m n names none v w i j e = absurd j
+  by_lists u None p x a b f g s q m n names none = λ v w i j e. absurd i
+  by_lists u (Some ks) None x a b f g p q m n names none = λ v w i j e. absurd j
 
   pub headers_by_form : {Key Id Name : Type 0} (c : Context Key Id Name) (left right : Binder Key (ArgsKey Key)) →
       TakesHeader c left → TakesHeader c right → AreTerms argument_sort ((c.meaning).args left.value) →
@@ -47,4 +47,4 @@ module _ (instance : OpenedIsInstance) where
       AreApartErased (c.store).universe (header_tree c.meaning left) (header_tree c.meaning right)
   headers_by_form c left right f g p q m n names none =
       by_lists (c.store).universe ((c.meaning).bound_vars left.bound_vars) ((c.meaning).bound_vars right.bound_vars)
-          _ ((c.meaning).args left.value) ((c.meaning).args right.value) f g p q m n names none
+          (row [] (Some (term_of argument_sort))) ((c.meaning).args left.value) ((c.meaning).args right.value) f g p q m n names none

@@ -43,6 +43,16 @@ pub refused_later : MakingEachMakes → (before after : Store) (ks : List BoundK
 refused_later makes before after ks g f =
     (makes before after before.universe (take f.0 ks) f.1 f.2 (omega arith) g).later
 
+-- The list of a header, and its body opened.
+record Opened (before after : Store) (o : Option (List BoundKind)) (t x : Tree) : Type 0 where
+  binds : List BoundKind
+  list_is : o ≡ Some binds
+  opens : InstantiatesBinder before after binds t x
+  is_in : IsTermIn after x
+  well_bound : IsWellBound x
+  one_universe : HasOneUniverse before.universe before → HasOneUniverse before.universe after
+  unresolved : all_unbound after ≡ all_unbound before + types_bound binds
+
 module _ {Key Id Name : Type 0} where
   -- A known header keeps its tree while the interner grows.
   pub header_stays : (m n : Meaning Key Id Name) → Extends m n → (h : Binder Key (ArgsKey Key)) →
@@ -54,16 +64,6 @@ module _ {Key Id Name : Type 0} where
   pub body_known : (m : Meaning Key Id Name) (h : Binder Key (ArgsKey Key)) → IsTrue (known (header_tree m h)) →
       IsTrue (known (m.args h.value))
   body_known m h k = (under_known (m.bound_vars h.bound_vars) (m.args h.value) k).1
-
-  -- The list of a header, and its body opened.
-  record Opened (before after : Store) (o : Option (List BoundKind)) (t x : Tree) : Type 0 where
-    binds : List BoundKind
-    list_is : o ≡ Some binds
-    opens : InstantiatesBinder before after binds t x
-    is_in : IsTermIn after x
-    well_bound : IsWellBound x
-    one_universe : HasOneUniverse before.universe before → HasOneUniverse before.universe after
-    unresolved : all_unbound after ≡ all_unbound before + types_bound binds
 
   module _ (opens : InstantiatingEachOpens) (body_in : InstantiatedBodyIsIn) (body_binds : InstantiatedBodyBinds) where
     opened : (c d : Context Key Id Name) (o : Option (List BoundKind)) (t x : Tree) → InstantiatesAs c d (under o t) x →
