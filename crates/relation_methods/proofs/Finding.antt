@@ -48,7 +48,7 @@ module _ {C Key Id Name : Type 0} (meaning : C → Meaning Key Id Name)
       let m = meaning cx in
       unlike (m.tables).is_auto (m.tables).next_solver InstantiateWithInfer AsRigid (m.ty s) (m.ty t)
           (numbered (λ d. m.id d.0) p) (numbered (λ d. m.id d.0) q) a b (sym h) (sym i)
-          (λ e. let yes : IsTrue (eq p q) = (same cx p q).1 e in subst IsTrue n yes)
+          (λ e. let yes : eq p q ≡ true = (same cx p q).1 e in cc)
 
   -- An entry passes, or its type is apart.
   found_or_apart : {E : Type 0} (t : TyKey Key) (key : Option (SimplifiedType (DefId Id))) (es : List (MethodEntry Key Id E))

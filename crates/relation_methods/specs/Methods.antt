@@ -64,5 +64,5 @@ module _ {Key Id Name : Type 0} (m : Meaning Key Id Name) where
   LeavesOutApart t es found = (e : _) → Contains es e → Contains found e ⊎ AreApart (e.of).value t
 
 -- Tables keep their keys where the second interner has all that the first knows.
-abbrev pub TablesStand : {Key Id Name : Type 0} → Meaning Key Id Name → Meaning Key Id Name → {E : Type 0} → Type 0
-TablesStand {Key} {Id} m n {E} = Extends m n → (es : List (MethodEntry Key Id E)) → AreKeyed m es → AreKeyed n es
+abbrev pub TablesStand : {Key Id Name : Type 0} → (E : Type 0) → Meaning Key Id Name → Meaning Key Id Name → Type 0
+TablesStand {Key} {Id} E m n = Extends m n → (es : List (MethodEntry Key Id E)) → AreKeyed m es → AreKeyed n es

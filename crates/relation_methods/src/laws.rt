@@ -7,5 +7,5 @@ use relation_terms::terms::Interner;
 
 /// While an interner grows the entries of a table have the keys of their types.
 pub fn growth<I: Interner, E>()
-    ensures stand { (m n : Meaning I.Key I.Id I.Name) → TablesStand m n {E = E} }
+    ensures stand { (m n : Meaning I.Key I.Id I.Name) → TablesStand E m n }
 {}
