@@ -98,3 +98,18 @@ pub keyed_after : {Key Id Name E : Type 0} (m : Meaning Key Id Name) (e : Method
     IsKeyOf m InstantiateWithInfer e.key (e.of).value → new ≡ old ++ e ∷ [] → AreKeyed m old → AreKeyed m new
 keyed_after m e old new k i n h =
     subst (AreKeyed m) (sym n) (All-push (IsKeyed m) old e h (record { is_known = k; key = i }))
+
+-- What a look-up comes to, where its table is seen as another list.
+pub found_in_order : {T : Type 0} (test : T → Bool) (xs ys zs : List T) → xs ≡ ys → zs ≡ filter test xs → IsSubsequence zs ys
+found_in_order test xs ys zs e h =
+    subst (λ l. IsSubsequence l ys) (sym (h ∙ ap (filter test) e)) (filter_in_order test ys)
+
+pub left_out_apart : {C Key Id Name E : Type 0} (meaning : C → Meaning Key Id Name)
+    (eq : SimplifiedType (DefId Id) → SimplifiedType (DefId Id) → Bool) → UnlikeKeysAreApart →
+    KeysAreEqualByNumber meaning eq → (cx : C) (t : TyKey Key) (key : Option (SimplifiedType (DefId Id)))
+    (xs ys zs : List (MethodEntry Key Id E)) → AreKeyed (meaning cx) ys → IsKeyOf (meaning cx) AsRigid key t → xs ≡ ys →
+    zs ≡ filter (λ (e : MethodEntry Key Id E). is_found eq key e.key) xs → LeavesOutApart (meaning cx) t ys zs
+left_out_apart {C} {Key} {Id} {Name} {E} meaning eq unlike same cx t key xs ys zs keyed i e h =
+    subst (λ l. LeavesOutApart (meaning cx) t ys l)
+        (sym (h ∙ ap (filter (λ (e : MethodEntry Key Id E). is_found eq key e.key)) e))
+        (leaves_out_apart meaning eq unlike same cx t key ys keyed i)
