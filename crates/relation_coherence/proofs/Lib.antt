@@ -2,5 +2,5 @@ pub mod Overlapping
 pub mod FirstOrderBodies
 pub mod ByForm
 pub mod Bounding
-pub mod Opening
+pub mod BothOpened
 pub mod Answering

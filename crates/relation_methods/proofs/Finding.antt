@@ -82,22 +82,20 @@ pub tables_stand : {Key Id Name E : Type 0} (m n : Meaning Key Id Name) → Exte
 tables_stand m n g es h = λ k d l. keyed_still m n g (get_or es k d) (h k d l)
 
 -- One entry more.
-pub appended : {Key Id Name E : Type 0} (m : Meaning Key Id Name) (e : MethodEntry Key Id E)
-    (old new : List (MethodEntry Key Id E)) → IsTrue (known (m.ty (e.of).value)) →
-    IsKeyOf m InstantiateWithInfer e.key (e.of).value → new ≡ old ++ e ∷ [] → Appends m e.of e.value old new
-appended m e old new k i n = record {
-  entry = e;
-  last = n;
-  of_type = refl;
-  has_value = refl;
-  keyed = record { is_known = k; key = i };
-}
+module _ {Key Id Name E : Type 0} (m : Meaning Key Id Name) (e : MethodEntry Key Id E)
+    (inside old new : List (MethodEntry Key Id E)) (is_known : IsTrue (known (m.ty (e.of).value)))
+    (key : IsKeyOf m InstantiateWithInfer e.key (e.of).value) (seen : inside ≡ old) (last : new ≡ inside ++ e ∷ []) where
+  new_keyed : IsKeyed m e
+  new_keyed = record { is_known = is_known; key = key }
 
-pub keyed_after : {Key Id Name E : Type 0} (m : Meaning Key Id Name) (e : MethodEntry Key Id E)
-    (old new : List (MethodEntry Key Id E)) → IsTrue (known (m.ty (e.of).value)) →
-    IsKeyOf m InstantiateWithInfer e.key (e.of).value → new ≡ old ++ e ∷ [] → AreKeyed m old → AreKeyed m new
-keyed_after m e old new k i n h =
-    subst (AreKeyed m) (sym n) (All-push (IsKeyed m) old e h (record { is_known = k; key = i }))
+  new_last : new ≡ old ++ e ∷ []
+  new_last = last ∙ ap (λ l. l ++ e ∷ []) seen
+
+  pub appended : Appends m e.of e.value old new
+  appended = record { entry = e; last = new_last; of_type = refl; has_value = refl; keyed = new_keyed }
+
+  pub keyed_after : AreKeyed m old → AreKeyed m new
+  keyed_after h = subst (AreKeyed m) (sym new_last) (All-push (IsKeyed m) old e h new_keyed)
 
 -- What a look-up comes to, where its table is seen as another list.
 pub found_in_order : {T : Type 0} (test : T → Bool) (xs ys zs : List T) → xs ≡ ys → zs ≡ filter test xs → IsSubsequence zs ys
