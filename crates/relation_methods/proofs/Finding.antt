@@ -1,12 +1,11 @@
 -- What a table finds for a type stands in the order of insertion, and what it leaves out is apart from the type.
 use Rattle.std.proofs.Common.{◌≡◌, ◌⊎◌, ◌<◌, ℕ, zero, suc, Bool, true, false, cond, List, [], ◌∷◌, ◌++◌, Option, Some, None}
-use Rattle.std.proofs.Common.{refl, sym, ap, ◌∙◌, subst, inl, inr, arith, length, get_or, All, Contains, IsTrue}
+use Rattle.std.proofs.Common.{refl, sym, ap, ◌∙◌, subst, inl, inr, arith, length, get_or, Contains, IsTrue}
 use Rattle.std.specs.List.{filter}
 use Rattle.std.proofs.Math.Path.{fun_ext}
 use Rattle.std.proofs.lemmas.List.Elements.{All-contains, All-push}
-use Rattle.relation_terms.specs.Trees.{Tree, known, Leaves}
+use Rattle.relation_terms.specs.Trees.{known}
 use Rattle.relation_terms.specs.Meaning.{Meaning, Extends}
-use Rattle.relation_terms.specs.declared.terms.binder.Binder.{Binder}
 use Rattle.relation_terms.specs.declared.terms.ids.DefId.{DefId}
 use Rattle.relation_terms.specs.declared.terms.keys.TyKey.{TyKey}
 use Rattle.fast_reject.specs.HeadKeys.{head_key, numbered, numbered_key}
@@ -33,7 +32,7 @@ in_filter {T} test x (y ∷ ys) zero l e p =
 in_filter {T} test x (y ∷ ys) (suc k) l e p =
     let ih = in_filter test x ys k (omega arith) e p in
     elim (test y) as (λ b. Contains (cond b (y ∷ filter test ys) (filter test ys)) x)
-      [ true ↦ (suc ih.0, omega (arith, ih.1), ih.2) | false ↦ ih ]
+    [ true ↦ (suc ih.0, omega (arith, ih.1), ih.2) | false ↦ ih ]
 
 module _ {C Key Id Name : Type 0} (meaning : C → Meaning Key Id Name)
     (eq : SimplifiedType (DefId Id) → SimplifiedType (DefId Id) → Bool) (unlike : UnlikeKeysAreApart)
@@ -47,8 +46,8 @@ module _ {C Key Id Name : Type 0} (meaning : C → Meaning Key Id Name)
   apart_by_keys s t (Some p) (Some q) h i n = λ a b.
       let m = meaning cx in
       unlike (m.tables).is_auto (m.tables).next_solver InstantiateWithInfer AsRigid (m.ty s) (m.ty t)
-          (numbered (λ d. m.id d.0) p) (numbered (λ d. m.id d.0) q) a b (sym h) (sym i)
-          (λ e. let yes : eq p q ≡ true = (same cx p q).1 e in cc)
+      (numbered (λ d. m.id d.0) p) (numbered (λ d. m.id d.0) q) a b (sym h) (sym i)
+      (λ e. let yes : eq p q ≡ true = (same cx p q).1 e in cc)
 
   -- An entry passes, or its type is apart.
   found_or_apart : {E : Type 0} (t : TyKey Key) (key : Option (SimplifiedType (DefId Id))) (es : List (MethodEntry Key Id E))
@@ -74,7 +73,7 @@ keyed_still {Key} {Id} {Name} m n g e k =
       is_known = subst (λ t. IsTrue (known t)) (sym ty) k.is_known;
       key = ap (λ (f : Id → ℕ). numbered_key (λ (d : DefId Id). f d.0) e.key) (fun_ext g.id) ∙ (k.key ∙
           (ap (λ t. head_key (m.tables).is_auto (m.tables).next_solver InstantiateWithInfer t) (sym ty) ∙
-              ap (λ t. head_key t.is_auto t.next_solver InstantiateWithInfer (n.ty (e.of).value)) (sym g.tables)));
+          ap (λ t. head_key t.is_auto t.next_solver InstantiateWithInfer (n.ty (e.of).value)) (sym g.tables)));
     }
 
 pub tables_stand : {Key Id Name E : Type 0} (m n : Meaning Key Id Name) → Extends m n → (es : List (MethodEntry Key Id E)) →
@@ -109,5 +108,5 @@ pub left_out_apart : {C Key Id Name E : Type 0} (meaning : C → Meaning Key Id 
     zs ≡ filter (λ (e : MethodEntry Key Id E). is_found eq key e.key) xs → LeavesOutApart (meaning cx) t ys zs
 left_out_apart {C} {Key} {Id} {Name} {E} meaning eq unlike same cx t key xs ys zs keyed i e h =
     subst (λ l. LeavesOutApart (meaning cx) t ys l)
-        (sym (h ∙ ap (filter (λ (e : MethodEntry Key Id E). is_found eq key e.key)) e))
-        (leaves_out_apart meaning eq unlike same cx t key ys keyed i)
+    (sym (h ∙ ap (filter (λ (e : MethodEntry Key Id E). is_found eq key e.key)) e))
+    (leaves_out_apart meaning eq unlike same cx t key ys keyed i)

@@ -1,5 +1,5 @@
 -- A table keeps the numbers of its entries as one comes to it, and by them finds what a key finds.
-use Rattle.std.proofs.Common.{◌≡◌, ◌+◌, ℕ, Bool, true, false, cond, ◌||◌, List, [], ◌∷◌, ◌++◌, Option, Some, None}
+use Rattle.std.proofs.Common.{◌≡◌, ◌+◌, ℕ, Bool, true, false, cond, List, [], ◌∷◌, ◌++◌, Option, Some, None}
 use Rattle.std.proofs.Common.{refl, sym, ap, ◌∙◌, arith, length}
 use Rattle.std.specs.HashMap.{HashMap}
 use Rattle.std.specs.Global.{Vec}
@@ -22,10 +22,10 @@ module _ {K S T E : Type 0} (eq : K → K → Bool) where
   indexed_after m n old new entries r number i e p = let f : number ≡ 0 + length entries = omega arith in record {
     keyed = λ q. p.keyed q ∙ (ap (λ l. l ++ cond (has_key eq q r.key) (number ∷ []) []) (i.keyed q) ∙
         (ap (λ z. numbers_from (λ (x : Entry K T E). has_key eq q x.key) 0 entries ++ cond (has_key eq q r.key) (z ∷ []) []) f ∙
-            sym (numbers_after (λ (x : Entry K T E). has_key eq q x.key) 0 entries r)));
+        sym (numbers_after (λ (x : Entry K T E). has_key eq q x.key) 0 entries r)));
     blankets = p.blankets ∙ (ap (λ l. l ++ cond (has_none r.key) (number ∷ []) []) i.blankets ∙
         (ap (λ z. numbers_from (λ (x : Entry K T E). has_none x.key) 0 entries ++ cond (has_none r.key) (z ∷ []) []) f ∙
-            sym (numbers_after (λ (x : Entry K T E). has_none x.key) 0 entries r)));
+        sym (numbers_after (λ (x : Entry K T E). has_none x.key) 0 entries r)));
   }
 
   pub found_numbers : (m : HashMap K (Vec ℕ) S) (blanket : List ℕ) (entries : List (Entry K T E)) (q : K) →
@@ -33,8 +33,8 @@ module _ {K S T E : Type 0} (eq : K → K → Bool) where
       merge blanket (numbers_at eq m q) ≡ numbers_from (λ (r : Entry K T E). is_found eq (Some q) r.key) 0 entries
   found_numbers m blanket entries q i = ap (λ l. merge l (numbers_at eq m q)) i.blankets ∙
       (ap (λ l. merge (numbers_from (λ (r : Entry K T E). has_none r.key) 0 entries) l) (i.keyed q) ∙
-          merged_numbers (λ (r : Entry K T E). has_none r.key) (λ (r : Entry K T E). has_key eq q r.key)
-              (λ r. none_or_key eq q r.key) 0 entries)
+      merged_numbers (λ (r : Entry K T E). has_none r.key) (λ (r : Entry K T E). has_key eq q r.key)
+      (λ r. none_or_key eq q r.key) 0 entries)
 
   -- The same, as one comes to the lists.
   pub numbers_found : (m : HashMap K (Vec ℕ) S) (blanket bs ks ns : List ℕ) (entries rs : List (Entry K T E)) (q : K) →
@@ -59,4 +59,4 @@ module _ {K T E : Type 0} (eq : K → K → Bool) where
       ys ≡ filter (λ (r : Entry K T E). is_found eq key r.key) entries
   entries_found key q entries rs ys ns k r e p = found_entries (λ (x : Entry K T E). is_found eq (Some q) x.key) rs ys ns e p ∙
       (ap (λ l. filter (λ (x : Entry K T E). is_found eq (Some q) x.key) l) r ∙
-          ap (λ z. filter (λ (x : Entry K T E). is_found eq z x.key) entries) (sym k))
+      ap (λ z. filter (λ (x : Entry K T E). is_found eq z x.key) entries) (sym k))

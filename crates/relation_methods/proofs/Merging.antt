@@ -1,5 +1,5 @@
 -- The numbers of what passes either of two tests, merged of the numbers of what passes each.
-use Rattle.std.proofs.Common.{◌≡◌, ◌<◌, ◌≤◌, ◌+◌, ℕ, zero, suc, Bool, true, false, cond, ◌||◌, List, [], ◌∷◌, ◌++◌}
+use Rattle.std.proofs.Common.{◌≡◌, ◌<◌, ◌≤◌, ◌+◌, ℕ, suc, Bool, true, false, cond, ◌||◌, List, [], ◌∷◌, ◌++◌}
 use Rattle.std.proofs.Common.{map, get_or, refl, sym, ap, ◌∙◌, arith, length, All, nat_lt, subst}
 use Rattle.std.proofs.lemmas.Bool.Decides.{nat_tests}
 use Rattle.std.proofs.lemmas.List.Elements.{All-cons}
@@ -41,16 +41,16 @@ merged_numbers {T} p q apart n (x ∷ xs) =
     let rs = numbers_from (λ (z : T). p z || q z) (suc n) xs in
     let G : Bool → Bool → Type 0 = λ b c. merge (cond b (n ∷ ps) ps) (cond c (n ∷ qs) qs) ≡ cond (b || c) (n ∷ rs) rs in
     let at : (b c : Bool) → p x ≡ b → q x ≡ c → G b c = λ b c.
-        elim b as (λ b. p x ≡ b → q x ≡ c → G b c) [
-          true ↦ elim c as (λ c. p x ≡ true → q x ≡ c → G true c) [
-            true ↦ λ e f. let none : q x ≡ false = apart x e in absurd cc
-          | false ↦ λ e f. left_first n ps qs (above q (suc n) n xs (omega arith)) ∙ ap (λ z. n ∷ z) ih
-          ]
-        | false ↦ elim c as (λ c. p x ≡ false → q x ≡ c → G false c) [
-            true ↦ λ e f. right_first n ps qs (above p (suc n) n xs (omega arith)) ∙ ap (λ z. n ∷ z) ih
-          | false ↦ λ e f. ih
-          ]
-        ] in
+    elim b as (λ b. p x ≡ b → q x ≡ c → G b c) [
+      | true ↦ elim c as (λ c. p x ≡ true → q x ≡ c → G true c) [
+        | true ↦ λ e f. let none : q x ≡ false = apart x e in absurd cc
+        | false ↦ λ e f. left_first n ps qs (above q (suc n) n xs (omega arith)) ∙ ap (λ z. n ∷ z) ih
+      ]
+      | false ↦ elim c as (λ c. p x ≡ false → q x ≡ c → G false c) [
+        | true ↦ λ e f. right_first n ps qs (above p (suc n) n xs (omega arith)) ∙ ap (λ z. n ∷ z) ih
+        | false ↦ λ e f. ih
+      ]
+    ] in
     at (p x) (q x) refl refl
 
 -- One more element.
@@ -61,10 +61,10 @@ numbers_after test n (y ∷ ys) x =
     let one = cond (test x) ((n + suc (length ys)) ∷ []) [] in
     let e : suc n + length ys ≡ n + suc (length ys) = omega arith in
     let ih : numbers_from test (suc n) (ys ++ x ∷ []) ≡ numbers_from test (suc n) ys ++ one =
-        numbers_after test (suc n) ys x ∙ ap (λ z. numbers_from test (suc n) ys ++ cond (test x) (z ∷ []) []) e in
+    numbers_after test (suc n) ys x ∙ ap (λ z. numbers_from test (suc n) ys ++ cond (test x) (z ∷ []) []) e in
     elim (test y) as (λ b. cond b (n ∷ numbers_from test (suc n) (ys ++ x ∷ [])) (numbers_from test (suc n) (ys ++ x ∷ [])) ≡
-        cond b (n ∷ numbers_from test (suc n) ys) (numbers_from test (suc n) ys) ++ one)
-      [ true ↦ ap (λ z. n ∷ z) ih | false ↦ ih ]
+    cond b (n ∷ numbers_from test (suc n) ys) (numbers_from test (suc n) ys) ++ one)
+    [ true ↦ ap (λ z. n ∷ z) ih | false ↦ ih ]
 
 pub numbers_alike : {T : Type 0} → (p q : T → Bool) → ((x : T) → p x ≡ q x) → (n : ℕ) (xs : List T) →
     numbers_from p n xs ≡ numbers_from q n xs
@@ -79,7 +79,7 @@ numbers_below test n m [] h = λ k d l. absurd (omega arith)
 numbers_below test n m (x ∷ xs) h =
     let ih : All (λ i. i < m) (numbers_from test (suc n) xs) = numbers_below test (suc n) m xs (omega arith) in
     elim (test x) as (λ b. All (λ i. i < m) (cond b (n ∷ numbers_from test (suc n) xs) (numbers_from test (suc n) xs)))
-      [ true ↦ All-cons (λ i. i < m) n (numbers_from test (suc n) xs) (omega arith) ih | false ↦ ih ]
+    [ true ↦ All-cons (λ i. i < m) n (numbers_from test (suc n) xs) (omega arith) ih | false ↦ ih ]
 
 -- What is picked of a list by the numbers of what stands from a number on.
 picked_from : {T : Type 0} → (test : T → Bool) (n : ℕ) (xs all : List T) (d : T) →
@@ -89,10 +89,10 @@ picked_from {T} test n (x ∷ xs) all d at =
     let e : n + 0 ≡ n = omega arith in
     let here : get_or all n d ≡ x = sym (ap (λ k. get_or all k d) e) ∙ at 0 in
     let ih : map (λ k. get_or all k d) (numbers_from test (suc n) xs) ≡ filter test xs = picked_from test (suc n) xs all d
-        (λ i. let f : suc n + i ≡ n + suc i = omega arith in ap (λ k. get_or all k d) f ∙ at (suc i)) in
+    (λ i. let f : suc n + i ≡ n + suc i = omega arith in ap (λ k. get_or all k d) f ∙ at (suc i)) in
     elim (test x) as (λ b. map (λ k. get_or all k d) (cond b (n ∷ numbers_from test (suc n) xs) (numbers_from test (suc n) xs)) ≡
-        cond b (x ∷ filter test xs) (filter test xs))
-      [ true ↦ ap (λ z. z ∷ map (λ k. get_or all k d) (numbers_from test (suc n) xs)) here ∙ ap (λ l. x ∷ l) ih | false ↦ ih ]
+    cond b (x ∷ filter test xs) (filter test xs))
+    [ true ↦ ap (λ z. z ∷ map (λ k. get_or all k d) (numbers_from test (suc n) xs)) here ∙ ap (λ l. x ∷ l) ih | false ↦ ih ]
 
 -- What is picked by the numbers is what passes the test.
 pub picked_filter : {T : Type 0} → (test : T → Bool) (xs : List T) (d : T) →

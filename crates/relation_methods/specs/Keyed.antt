@@ -1,8 +1,7 @@
 -- Entries that are found by a key that they have, or by any where they have none, and the numbers of entries.
-use Rattle.std.specs.Prelude.{◌≡◌, ◌+◌, ℕ, Bool, true, false, cond, ◌||◌, List, [], ◌∷◌, ◌++◌, Option, Some, None, map}
+use Rattle.std.specs.Prelude.{◌≡◌, ℕ, Bool, true, false, cond, ◌||◌, List, [], ◌∷◌, ◌++◌, Option, Some, None, map}
 use Rattle.std.specs.Prelude.{get_or, nat_lt, suc}
 use Rattle.std.specs.Global.{Vec}
-use Rattle.std.specs.List.{filter}
 use Rattle.std.specs.HashMap.{HashMap, get}
 use Rattle.relation_methods.specs.declared.keyed.Entry.{Entry}
 

@@ -1,5 +1,5 @@
 -- What a table of methods holds, and what it finds for a type.
-use Rattle.std.specs.Prelude.{◌≡◌, ◌⊎◌, ℕ, Bool, List, [], ◌∷◌, ◌++◌, Option, IsTrue, All, Contains}
+use Rattle.std.specs.Prelude.{◌≡◌, ◌⊎◌, Bool, List, [], ◌∷◌, ◌++◌, Option, IsTrue, All, Contains}
 use Rattle.std.specs.List.{filter}
 use Rattle.relation_terms.specs.Trees.{known, Leaves}
 use Rattle.relation_terms.specs.Meaning.{Meaning, Extends}

@@ -154,7 +154,13 @@ impl<K: Eq + Hash + Copy, T: Drop, E: Drop> KeyedTable<K, T, E> {
     {
         self.entries.reserve(1)?;
         let number = self.entries.len();
-        place_entry(&mut self.by_key, &mut self.blanket, alloc, entry.key, number)?;
+        place_entry(
+            &mut self.by_key,
+            &mut self.blanket,
+            alloc,
+            entry.key,
+            number,
+        )?;
         self.entries.push(entry)?;
         Ok(())
     }
@@ -163,7 +169,11 @@ impl<K: Eq + Hash + Copy, T: Drop, E: Drop> KeyedTable<K, T, E> {
     ///
     /// # Errors
     /// `OutOfMemory` where a growth was refused.
-    pub fn look_up(&self, alloc: Global, key: Option<K>) -> Result<Vec<&Entry<K, T, E>>, OutOfMemory>
+    pub fn look_up(
+        &self,
+        alloc: Global,
+        key: Option<K>,
+    ) -> Result<Vec<&Entry<K, T, E>>, OutOfMemory>
         ensures { IfOk result (λ v. map (λ r. r.now) v.items ≡ filter (λ r. is_found K.eq key r.key) self.now) }
     {
         match key {

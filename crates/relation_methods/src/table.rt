@@ -11,11 +11,7 @@ use std::marker::Model;
 
 /// What a table holds: a value, a method or an impl, with the type that it is for, under a binder of what it is generic
 /// over, and that type's key.
-pub type EntryOf<I, E> = Entry<
-    SimplifiedType<ItemOf<I>>,
-    Binder<<I as Keys>::Key, Ty<I>>,
-    E,
->;
+pub type EntryOf<I, E> = Entry<SimplifiedType<ItemOf<I>>, Binder<<I as Keys>::Key, Ty<I>>, E>;
 
 /// What may be for a type: entries, in the order of insertion.
 pub type Candidates<'a, I, E> = Vec<&'a EntryOf<I, E>>;
@@ -57,12 +53,7 @@ impl<I: Interner, E: Drop> MethodTable<I, E> {
     ///
     /// # Errors
     /// `OutOfMemory` where a growth was refused: then the table is as it was.
-    pub fn insert(
-        &mut self,
-        cx: &I,
-        of: Binder<I::Key, Ty<I>>,
-        value: E,
-    ) -> Result<(), OutOfMemory>
+    pub fn insert(&mut self, cx: &I, of: Binder<I::Key, Ty<I>>, value: E) -> Result<(), OutOfMemory>
         requires { IsTrue (known ((I.meaning cx.now).ty of.value)) }
         ensures ok { OnOk result (Appends (I.meaning cx.now) of value self.old self.new) }
         ensures keyed { AreKeyed (I.meaning cx.now) self.old → AreKeyed (I.meaning cx.now) self.new }

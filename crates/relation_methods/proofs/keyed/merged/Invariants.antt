@@ -1,5 +1,5 @@
 -- What was written, before what is still to be merged, is the whole.
-use Rattle.std.proofs.Common.{length, ◌-◌, ◌≡◌, ◌<◌, ◌++◌, drop, ◌≤◌, ◌+◌}
+use Rattle.std.proofs.Common.{length, ◌-◌, ◌≡◌, ◌++◌, drop, ◌≤◌, ◌+◌}
 use Rattle.relation_methods.specs.Keyed.{merge}
 use Rattle.relation_methods.proofs.keyed.merged.Given as goal
 

@@ -1,5 +1,5 @@
 -- All of the numbers were gone through.
-use Rattle.std.proofs.Common.{◌≡◌, ◌∙◌, ℕ, ap, map, take, get_or, arith, length}
+use Rattle.std.proofs.Common.{◌∙◌, ℕ, ap, map, get_or}
 use Rattle.std.proofs.lemmas.List.{take_all}
 use Rattle.relation_methods.proofs.keyed.picked.Goals as goal
 

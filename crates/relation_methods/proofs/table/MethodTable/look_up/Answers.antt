@@ -10,5 +10,5 @@ returns-clause-order g c = IfOk-weaker c.look_up.result _ _
 pub returns-clause-no_loss : goal.returns-clause-no_loss
 returns-clause-no_loss g c = IfOk-weaker c.look_up.result _ _
     (λ v h. left_out_apart g.I.Interner.meaning _ c.keys.ensures.unlike c.equal_keys.ensures.same_key c.args.cx.now
-        c.args.ty.now c.simplify_type-key.result c.self.inside.entries c.args.self.now _ c.requires.keyed
-        c.simplify_type-key.ensures c.self.view_is h) c.look_up.ensures
+    c.args.ty.now c.simplify_type-key.result c.self.inside.entries c.args.self.now _ c.requires.keyed
+    c.simplify_type-key.ensures c.self.view_is h) c.look_up.ensures
