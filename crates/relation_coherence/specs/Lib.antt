@@ -1,4 +1,0 @@
-pub mod Overlaps
-pub mod Bounds
-pub mod Headers
-pub mod Answers
