@@ -1,0 +1,3 @@
+pub mod Merging
+pub mod Indexing
+pub mod Finding
