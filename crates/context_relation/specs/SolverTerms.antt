@@ -17,6 +17,7 @@ use Rattle.relation_semantics.specs.Lawful.{State, HasRelated, RemembersAtMost}
 use Rattle.context_relation.specs.declared.relation.SolverRelating.{SolverRelating}
 use Rattle.relation_combining.specs.Combining.{ConstsCombine}
 use Rattle.relation_steps.specs.Keyed.{RelatedRegions, SteppedConsts, SteppedTys, TysStepAlone, AreOver, NotedTys}
+use Rattle.relation_steps.specs.Keyed.{ConstsStepRecords, TysStepRecords, RecordsAsked, ShownTys}
 use Rattle.relation_combining.specs.Bivariance.{AsksOfOver}
 use Rattle.relation_goals.specs.Emitting.{AddsGoals, RegistersSubtype, goals_in}
 use Rattle.relation_steps.specs.Rounds.{OpenedBinders}
@@ -118,6 +119,22 @@ module _ {Infcx Interner Key Id Name Span : Type 0} (state : Infcx → Context K
   SolverStepsAlone r q a b result =
       TysStepAlone solver_manner (solver_through r) (solver_through q) a b result
 
+  -- It recorded of two bare types, of two bare constants, or of two regions just what they ask for.
+  abbrev pub SolverRecordsTys : SolverRelating Infcx Interner Key Id Name Span →
+      SolverRelating Infcx Interner Key Id Name Span → TyKey Key → TyKey Key →
+      Result (Step (TyKey Key)) (RelateFault Key Id Name) → Type 0
+  SolverRecordsTys r q a b result = TysStepRecords solver_manner (solver_through r) (solver_through q) a b result
+
+  abbrev pub SolverRecordsConsts : SolverRelating Infcx Interner Key Id Name Span →
+      SolverRelating Infcx Interner Key Id Name Span → ConstKey Key → ConstKey Key →
+      Result (Step (ConstKey Key)) (RelateFault Key Id Name) → Type 0
+  SolverRecordsConsts r q a b result = ConstsStepRecords solver_manner (solver_through r) (solver_through q) a b result
+
+  abbrev pub SolverRecordsAsked : SolverRelating Infcx Interner Key Id Name Span →
+      SolverRelating Infcx Interner Key Id Name Span → RegionKey Key → RegionKey Key →
+      Result (RegionKey Key) (RelateFault Key Id Name) → Type 0
+  SolverRecordsAsked r q a b result = RecordsAsked solver_manner (solver_through r) (solver_through q) a b result
+
   -- A pair is remembered, at the ambient variance; it was related there; and it is remembered from then on, or a growth
   -- was refused.
   abbrev pub SolverRecalls : SolverRelating Infcx Interner Key Id Name Span → TyKey Key → TyKey Key → Type 0
@@ -171,6 +188,10 @@ module _ {Infcx Interner Key Id Name Span : Type 0} (state : Infcx → Context K
   abbrev pub SolverIsOver : SolverRelating Infcx Interner Key Id Name Span → DefId Id → TyKey Key → TyKey Key →
       ArgsKey Key → ArgsKey Key → Type 0
   SolverIsOver r d a b xs ys = AreOver (solver_through r) d a b xs ys
+
+  -- They were related there: all is known of them that is known of such.
+  abbrev pub SolverShownTys : SolverRelating Infcx Interner Key Id Name Span → TyKey Key → TyKey Key → Type 0
+  SolverShownTys r a b = ShownTys solver_manner (solver_through r) a b
 
   -- Something was noted of them.
   abbrev pub SolverNotedTys : {X : Type 0} → SolverRelating Infcx Interner Key Id Name Span →

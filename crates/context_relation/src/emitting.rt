@@ -63,8 +63,9 @@ impl<'a, Infcx: InferCtxtLike> PredicateEmittingRelation<Infcx> for SolverRelati
 
     fn context_grows(&self) {}
 
+    // As upstream's: constraints on regions are recorded with the relation's own span.
     fn span(&self) -> Span<Infcx::Interner> {
-        self.span
+        self.infcx.cx().dummy_span()
     }
 
     fn param_env(&self) -> ParamEnv<Infcx::Interner> {

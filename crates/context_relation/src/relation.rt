@@ -1,8 +1,16 @@
 //! The relation of a context.
-ghost use Rattle.std.specs.Prelude.{◌≡◌, ◌≢◌, []};
+ghost use Rattle.std.specs.Prelude.{◌≡◌, ◌≢◌, ◌<◌, []};
 ghost use Rattle.term_enums.specs.declared.Variance.TheVariants.{Bivariant};
-ghost use Rattle.context_relation.specs.SolverTerms.{KeepsEnvironment, SolverAsked, SolverRelated, SolverRegisters};
-ghost use Rattle.context_relation.specs.SolverTerms.{solver_through};
+ghost use Rattle.relation_semantics.specs.Lawful.{RelatesByDeclared};
+ghost use Rattle.relation_steps.specs.Rounds.{AskedBinders};
+ghost use Rattle.relation_combining.specs.Solving.{solver_manner};
+ghost use Rattle.context_relation.specs.SolverTerms.{KeepsEnvironment, KeepsGoals, SolverAsked, SolverRelated};
+ghost use Rattle.context_relation.specs.SolverTerms.{SolverAsksWellFormed, SolverIsOver, SolverNotedTys, SolverOpened};
+ghost use Rattle.context_relation.specs.SolverTerms.{SolverRecordsAsked, SolverRecordsConsts, SolverRecordsTys};
+ghost use Rattle.context_relation.specs.SolverTerms.{SolverRegisters, SolverRelatedRegions, SolverRemembersTys};
+ghost use Rattle.context_relation.specs.SolverTerms.{SolverShownTys, SolverStepped, SolverSteps, SolverStepsAlone};
+ghost use Rattle.context_relation.specs.SolverTerms.{SolverStepsBinders, SolverStepsConsts, SolverStepsRegions};
+ghost use Rattle.context_relation.specs.SolverTerms.{SolverStepsTys, SolverTakes, solver_through};
 
 use relation_folds::error::RelateResult;
 use relation_folds::fold::TypeFoldable;
@@ -141,7 +149,7 @@ impl<'a, Infcx: InferCtxtLike> HasState<Infcx::Interner> for SolverRelating<'a, 
 
 impl<'a, Infcx: InferCtxtLike> TypeRelation<Infcx::Interner> for SolverRelating<'a, Infcx> {
     ghost use Rattle.std.specs.Prelude.{refl};
-    ghost use Rattle.relation_combining.specs.Solving.{solver_manner, solver_takes};
+    ghost use Rattle.relation_combining.specs.Solving.{solver_takes};
 
     ghost interner = { λ r. Infcx.interner r.infcx.now };
 
@@ -181,7 +189,16 @@ impl<'a, Infcx: InferCtxtLike> TypeRelation<Infcx::Interner> for SolverRelating<
         &mut self,
         a: &Ty<Infcx::Interner>,
         b: &Ty<Infcx::Interner>,
-    ) -> RelateResult<Infcx::Interner, Step<Ty<Infcx::Interner>>> {
+    ) -> RelateResult<Infcx::Interner, Step<Ty<Infcx::Interner>>>
+        requires lawful { (solver_through Infcx.state self.old).lawful }
+        requires decides { self.old.ambient_variance ≢ Bivariant }
+        requires asked { SolverTakes Infcx.state (λ m. m.ty) self.old a.now b.now }
+        ensures stepped { SolverSteps Infcx.state self.old self.new a.now b.now result }
+        ensures records { SolverRecordsTys Infcx.state self.old self.new a.now b.now result }
+        ensures registers { SolverStepsAlone Infcx.state self.old self.new a.now b.now result }
+        ensures steps { SolverStepsTys Infcx.state self.old self.new a.now b.now result }
+        ensures remembers { SolverRemembersTys Infcx.state self.old self.new a.now b.now result }
+    {
         self.step_tys(a, b)
     }
 
@@ -189,7 +206,16 @@ impl<'a, Infcx: InferCtxtLike> TypeRelation<Infcx::Interner> for SolverRelating<
         &mut self,
         a: &Const<Infcx::Interner>,
         b: &Const<Infcx::Interner>,
-    ) -> RelateResult<Infcx::Interner, Step<Const<Infcx::Interner>>> {
+    ) -> RelateResult<Infcx::Interner, Step<Const<Infcx::Interner>>>
+        requires lawful { (solver_through Infcx.state self.old).lawful }
+        requires decides { self.old.ambient_variance ≢ Bivariant }
+        requires asked { SolverTakes Infcx.state (λ m. m.const_) self.old a.now b.now }
+        ensures stepped { SolverStepped Infcx.state self.old self.new a.now b.now result }
+        ensures records { SolverRecordsConsts Infcx.state self.old self.new a.now b.now result }
+        ensures steps { SolverStepsConsts Infcx.state self.old self.new a.now b.now result }
+        ensures memory { (solver_through Infcx.state self.new).remembered ≡
+            (solver_through Infcx.state self.old).remembered }
+    {
         self.step_consts(a, b)
     }
 
@@ -197,7 +223,15 @@ impl<'a, Infcx: InferCtxtLike> TypeRelation<Infcx::Interner> for SolverRelating<
         &mut self,
         a: &Region<Infcx::Interner>,
         b: &Region<Infcx::Interner>,
-    ) -> RelateResult<Infcx::Interner, Region<Infcx::Interner>> {
+    ) -> RelateResult<Infcx::Interner, Region<Infcx::Interner>>
+        requires lawful { (solver_through Infcx.state self.old).lawful }
+        requires decides { self.old.ambient_variance ≢ Bivariant }
+        requires asked { SolverTakes Infcx.state (λ m. m.region) self.old a.now b.now }
+        ensures related { SolverRelatedRegions Infcx.state self.old self.new a.now b.now result }
+        ensures recorded { SolverRecordsAsked Infcx.state self.old self.new a.now b.now result }
+        ensures steps { SolverStepsRegions Infcx.state self.old self.new a.now b.now result }
+        ensures registers_nothing { KeepsGoals Infcx.state self.old self.new }
+    {
         self.step_regions(a, b)
     }
 
@@ -206,7 +240,15 @@ impl<'a, Infcx: InferCtxtLike> TypeRelation<Infcx::Interner> for SolverRelating<
         a: &BinderOf<Infcx::Interner, T>,
         b: &BinderOf<Infcx::Interner, T>,
         round: usize,
-    ) -> RelateResult<Infcx::Interner, Option<(T, T)>> {
+    ) -> RelateResult<Infcx::Interner, Option<(T, T)>>
+        requires lawful { (solver_through Infcx.state self.old).lawful }
+        requires decides { self.old.ambient_variance ≢ Bivariant }
+        requires round { round < 2 }
+        requires asked { AskedBinders solver_manner T.tree (solver_through Infcx.state self.old) a.now b.now }
+        ensures opened { SolverOpened Infcx.state T.tree self.old self.new round a.now b.now result }
+        ensures steps { SolverStepsBinders Infcx.state T.tree self.old self.new round a.now b.now result }
+        ensures registers_nothing { KeepsGoals Infcx.state self.old self.new }
+    {
         self.step_binders(a, b, round)
     }
 
@@ -226,7 +268,16 @@ impl<'a, Infcx: InferCtxtLike> TypeRelation<Infcx::Interner> for SolverRelating<
         def_id: &ItemOf<Infcx::Interner>,
         a_args: &GenericArgs<Infcx::Interner>,
         b_args: &GenericArgs<Infcx::Interner>,
-    ) -> RelateResult<Infcx::Interner, ()> {
+    ) -> RelateResult<Infcx::Interner, ()>
+        requires lawful { (solver_through Infcx.state self.old).lawful }
+        requires decides { self.old.ambient_variance ≢ Bivariant }
+        requires asked { SolverTakes Infcx.state (λ m. m.ty) self.old a_ty.now b_ty.now }
+        requires by_declared { RelatesByDeclared (solver_through Infcx.state self.old) }
+        requires over { SolverIsOver Infcx.state self.old def_id.now a_ty.now b_ty.now a_args.now b_args.now }
+        requires related { SolverShownTys Infcx.state self.old a_ty.now b_ty.now }
+        ensures noted { SolverNotedTys Infcx.state self.old self.new a_ty.now b_ty.now result }
+        ensures registers { SolverAsksWellFormed Infcx.state self.old self.new a_ty.now b_ty.now result }
+    {
         self.step_ty_args(a_ty, b_ty, def_id, a_args, b_args)
     }
 
