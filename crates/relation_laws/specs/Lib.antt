@@ -3,4 +3,5 @@ pub mod Decided
 pub mod SolutionLaws
 pub mod OpenedInstances
 pub mod AskingLaws
+pub mod FindingLaws
 pub mod SmallTerms

@@ -35,6 +35,7 @@ ghost use Rattle.relation_laws.specs.OpenedInstances.{OpenedIsInstance};
 ghost use Rattle.relation_laws.specs.AskingLaws.{NothingAtBivariance, ItselfIsTrivial, NoGoalWithoutAlias};
 ghost use Rattle.relation_laws.specs.AskingLaws.{RegionsAskOne, FormsAskByParts, FrontRecordsOn, PartsRecord};
 ghost use Rattle.relation_laws.specs.AskingLaws.{RememberedRecords, AddsWhatIsAsked, SomeInterpretation};
+ghost use Rattle.relation_laws.specs.FindingLaws.{OneTraitFindsItsOwn};
 ghost use Rattle.context_relation.specs.RegionTerms.{RelatedTermsAgree, RelatedIffAgree};
 ghost use Rattle.context_relation.specs.Completing.{ErrorsDisagree, ErrorsAreUnrelated, AgreeingAreRelated};
 
@@ -190,6 +191,13 @@ pub fn rejecting()
 pub fn region_terms()
     ensures agree { RelatedTermsAgree }
     ensures just_where { RelatedIffAgree }
+{}
+
+/// What an elaboration of one trait finds. So who needs the interner after a fault of `supertraits` begins by
+/// `Elaborator::new`, `extend_deduped` with the trait's clause alone, and `filter_only_self`: a `FilterToTraits` of that
+/// finds the same, and `into_cx` gives the interner back.
+pub fn finding<I: Interner>()
+    ensures supertraits { OneTraitFindsItsOwn I.meaning }
 {}
 
 /// What relating two terms asks for.

@@ -10,8 +10,8 @@ use Rattle.text_asking.proofs.AskingLemmas.{one_ready, as_arguments, asked_left,
 use Rattle.text_asking.proofs.lists.relate_ready.Goals as goal
 
 -- Neither list changes while the interner grows, and both are as ready as they were.
-pub relate-requires : goal.relate-requires
-relate-requires g c =
+pub relate-requires-clause-can : goal.relate-requires-clause-can
+relate-requires-clause-can g c =
     let m = g.I.Interner.meaning c.args.ctx.now.interner in
     let n = g.I.Interner.meaning c.empty_param_env.new.self in
     let e : Extends m n = extends_on c.have_variables.ensures.grown c.empty_param_env.ensures.grown in

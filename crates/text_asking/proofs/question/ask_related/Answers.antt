@@ -7,8 +7,8 @@ use Rattle.text_asking.specs.Asking.{IsReady, Has}
 use Rattle.text_asking.proofs.AskingLemmas.{one_ready, asked_left, asked_right, has_left, has_right, ready_in}
 use Rattle.text_asking.proofs.question.ask_related.Goals as goal
 
-pub relate-requires : goal.relate-requires
-relate-requires g c =
+pub relate-requires-clause-can : goal.relate-requires-clause-can
+relate-requires-clause-can g c =
     let m = g.I.Interner.meaning c.args.ctx.now.interner in
     let n = g.I.Interner.meaning c.empty_param_env.new.self in
     let e : Extends m n = extends_on c.have_variables.ensures.grown c.empty_param_env.ensures.grown in

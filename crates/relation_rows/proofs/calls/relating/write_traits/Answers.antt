@@ -3,8 +3,8 @@ use Rattle.variable_tables.proofs.Grows.{lawful_grows}
 use Rattle.relation_rows.proofs.Related.{form_in, related_known}
 use Rattle.relation_rows.proofs.calls.relating.write_traits.Goals as goal
 
-pub relate-answer-requires : goal.relate-answer-requires
-relate-answer-requires g c = record {
+pub relate-answer-requires-clause-can : goal.relate-answer-requires-clause-can
+relate-answer-requires-clause-can g c = record {
   lawful = lawful_grows (extends_on c.empty_param_env.ensures.grown c.make_byte_ref.ensures.grown) c.in_ok-ctx.ctx.inner
       c.in_ok-ctx.ensures.lawful;
   decides = search rules;
