@@ -194,8 +194,8 @@ pub fn region_terms()
 {}
 
 /// What an elaboration of one trait finds. So who needs the interner after a fault of `supertraits` begins by
-/// `Elaborator::new`, `extend_deduped` with the trait's clause alone, and `filter_only_self`: a `FilterToTraits` of that
-/// finds the same, and `into_cx` gives the interner back.
+/// `Elaborator::new`, `extend_deduped` with the trait's clause alone, and `filter_only_self`: a `FilterToTraits` of
+/// that finds the same, and `into_cx` gives the interner back.
 pub fn finding<I: Interner>()
     ensures supertraits { OneTraitFindsItsOwn I.meaning }
 {}
