@@ -5,3 +5,6 @@ pub mod Names
 pub mod Words
 pub mod Trees
 pub mod Reads
+pub mod Shapes
+pub mod Written
+pub mod Rows

@@ -1,5 +1,5 @@
 -- What reading leaves.
-use Rattle.std.specs.Prelude.{◌≡◌, ℕ, ◌+◌, ◌<◌, ◌≤◌, List, length}
+use Rattle.std.specs.Prelude.{◌≡◌, ℕ, ◌+◌, ◌<◌, ◌≤◌, List, length, suc}
 use Rattle.text_reading.specs.declared.reading.words.Word.{Word}
 use Rattle.text_reading.specs.Words.{AreWordsOf, leaves}
 use Rattle.text_reading.specs.Trees.{EachBelow, node_words}
@@ -27,15 +27,15 @@ Gathers n old new before after =
     length new.tree.nodes.items + length old.tree.parts.items + length before
     ≡ n + (length old.tree.nodes.items + length new.tree.parts.items + length after)
 
--- at least one word was read, and what was read are nodes whose numbers were added to the list
-abbrev pub Collects : Reader → Reader → List ℕ → List ℕ → Type 0
-Collects old new before after =
-    (old.at < new.at) × EachBelow after (length new.tree.nodes.items) × Gathers 0 old new before after
+-- what was read are nodes whose numbers were put upon the list
+abbrev pub Stacks : Reader → Reader → List ℕ → List ℕ → Type 0
+Stacks old new before after =
+    EachBelow after (length new.tree.nodes.items) × (length before ≤ length after) × Gathers 0 old new before after
 
--- the same, if nothing was left to read
-abbrev pub CollectsMore : Reader → Reader → List ℕ → List ℕ → Type 0
-CollectsMore old new before after =
-    EachBelow after (length new.tree.nodes.items) × Gathers 0 old new before after
+-- the same of one node
+abbrev pub StacksOne : Reader → Reader → List ℕ → List ℕ → Type 0
+StacksOne old new before after =
+    EachBelow after (length new.tree.nodes.items) × (length after ≡ suc (length before)) × Gathers 0 old new before after
 
 -- the leaves are the words of the text that are no signs
 abbrev pub IsReadFrom : List ℕ → Tree → Type 0

@@ -45,3 +45,12 @@ leaves ws = flat_map (λ (w : Word). leaf_as w.kind w) ws
 -- the word of that number is that sign
 abbrev pub StandsAt : List Word → ℕ → sign.Sign → Type 0
 StandsAt ws k s = IsSomeAnd (slice_get ws k) (λ (w : Word). w.kind ≡ Sign s)
+
+-- a word is a leaf
+abbrev pub IsLeaf : WordKind → Type 0
+IsLeaf (Leaf l) = Unit {0}
+IsLeaf (Sign s) = ⊥
+
+-- the word of that number is a leaf
+abbrev pub IsLeafAt : List Word → ℕ → Type 0
+IsLeafAt ws k = IsSomeAnd (slice_get ws k) (λ (w : Word). IsLeaf w.kind)

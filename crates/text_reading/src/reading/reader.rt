@@ -66,7 +66,7 @@ impl Reader {
     ghost use Rattle.std.specs.List.{slice_get};
     ghost use Rattle.std.specs.Bool.{OnTrue, OnFalse};
     ghost use Rattle.text_reading.specs.Errors.{LiesIn};
-    ghost use Rattle.text_reading.specs.Words.{StandsAt};
+    ghost use Rattle.text_reading.specs.Words.{StandsAt, IsLeafAt};
     ghost use Rattle.text_reading.specs.Trees.{EachBelow};
     ghost use Rattle.text_reading.specs.Reads.{GoesOn, Makes, Gathers};
 
@@ -107,9 +107,24 @@ impl Reader {
         self.kind_at(self.at)
     }
 
-    // What the word behind the next is.
-    pub fn peek_behind(&self) -> Option<WordKind> {
-        self.kind_at(self.at.saturating_add(1))
+    // Whether the next word is that sign.
+    pub fn is_next(&self, sign: Sign) -> bool
+        ensures { IsTrue result → StandsAt self.now.words.items self.now.at sign }
+    {
+        self.is_at(self.at, sign)
+    }
+
+    // Whether the word behind the next is that sign.
+    pub fn is_behind(&self, sign: Sign) -> bool {
+        self.is_at(self.at.saturating_add(1), sign)
+    }
+
+    // Whether the next word is a leaf that may stand where that is expected.
+    pub fn is_leaf_next(&self, expected: Expected) -> bool {
+        match self.peek() {
+            Some(WordKind::Leaf(leaf)) => admits(expected, leaf),
+            _ => false,
+        }
     }
 
     // Where the next word begins, or else the text ends.
@@ -181,6 +196,7 @@ impl Reader {
     pub fn take(&mut self, expected: Expected) -> Result<usize, ReadError>
         ensures goes { GoesOn self.old self.new }
         ensures node { IfOk result (Makes self.old self.new) }
+        ensures leaf { OnOk result (IsLeafAt self.old.words.items self.old.at) }
         ensures over { OnOk result (self.new.at ≡ suc self.old.at) }
         ensures wrong { IfErr result (LiesIn self.old.tree.text_len) }
     {

@@ -4,7 +4,7 @@ ghost use Rattle.text_reading.specs.Words.{skip, AreWordsOf, EachLies};
 ghost use Rattle.text_reading.specs.Errors.{LiesIn};
 
 use crate::reading::error::ReadError;
-use crate::reading::signs::{convention, mark_of_one, mark_of_three, mark_of_two, reserved_word};
+use crate::reading::signs::sign_of;
 use crate::reading::words::{Leaf, Word, WordKind};
 use std::alloc::Global;
 
@@ -107,7 +107,7 @@ fn name_at(text: &[u8], at: usize) -> (WordKind, usize)
     ensures within { result.1 ≤ length text.now }
 {
     let end = name_end(text, at + 1);
-    match reserved_word(&text[at..end]) {
+    match sign_of(&text[at..end]) {
         Some(sign) => (WordKind::Sign(sign), end),
         None => (WordKind::Leaf(Leaf::Name), end),
     }
@@ -257,34 +257,36 @@ fn quoted_at(text: &[u8], at: usize) -> Result<(WordKind, usize), ReadError>
 {
     let quote = name_end(text, at + 1);
     if quote < text.len() {
-        if let Some(sign) = convention(&text[at..quote + 1]) {
+        if let Some(sign) = sign_of(&text[at..quote + 1]) {
             return Ok((WordKind::Sign(sign), quote + 1));
         }
     }
     Err(ReadError::NoWord { at })
 }
 
-// A mark.
+// Whether a byte may stand in a mark behind its first.
+fn is_further_byte(byte: u8) -> bool {
+    byte == b':' || byte == b'>' || byte == b'=' || byte == b'.'
+}
+
+// The longest mark.
 fn mark_at(text: &[u8], at: usize) -> Result<(WordKind, usize), ReadError>
     requires { at < length text.now }
     ensures behind { IfOk result (λ w. at < w.1) }
     ensures within { IfOk result (λ w. w.1 ≤ length text.now) }
     ensures wrong { IfErr result (LiesIn (length text.now)) }
 {
-    if at + 2 < text.len() {
-        if let Some(sign) = mark_of_three(text[at], text[at + 1], text[at + 2]) {
-            return Ok((WordKind::Sign(sign), at + 3));
+    let mut end = at + 1;
+    while end < text.len() && end - at < 3 && is_further_byte(text[end]) {
+        end += 1;
+    }
+    'marks: while end > at {
+        if let Some(sign) = sign_of(&text[at..end]) {
+            return Ok((WordKind::Sign(sign), end));
         }
+        end -= 1;
     }
-    if at + 1 < text.len() {
-        if let Some(sign) = mark_of_two(text[at], text[at + 1]) {
-            return Ok((WordKind::Sign(sign), at + 2));
-        }
-    }
-    match mark_of_one(text[at]) {
-        Some(sign) => Ok((WordKind::Sign(sign), at + 1)),
-        None => Err(ReadError::NoWord { at }),
-    }
+    Err(ReadError::NoWord { at })
 }
 
 // The word that begins at `at`, and where it ends.
