@@ -8,10 +8,9 @@ use Rattle.relation_folds.specs.Faults.{KnowsError, KnowsFault, IfUnrelated}
 use Rattle.relation_semantics.specs.Errors.{ErrorAs, Meeting}
 use Rattle.relation_semantics.specs.Lawful.{State, RefusesAs, items_in}
 use Rattle.relation_semantics.specs.Measures.{Goes}
-use Rattle.relation_semantics.specs.OneUniverse.{all_bound}
+use Rattle.relation_semantics.specs.Stores.{Store, all_bound}
 use Rattle.relation_semantics.specs.Outcomes.{NeverOne}
 use Rattle.relation_semantics.specs.Relation.{Way}
-use Rattle.relation_semantics.specs.Stores.{Store}
 
 -- Of an error nothing is said that is said of an answer.
 pub none_answered : {X F : Type 0} (P : X → Type 0) (result : Result X F) (f : F) → result ≡ Err f → IfOk result P

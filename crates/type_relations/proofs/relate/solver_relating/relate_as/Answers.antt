@@ -1,4 +1,4 @@
-use Rattle.std.proofs.Common.{◌≡◌, ◌<◌, Ok, Err, refl, sym, ap, ◌∙◌, arith, subst, [], All}
+use Rattle.std.proofs.Common.{rules, ◌≡◌, ◌<◌, Ok, Err, refl, sym, ap, ◌∙◌, arith, subst, [], All}
 use Rattle.std.proofs.lemmas.Bool.{false≢true}
 use Rattle.std.proofs.lemmas.List.Elements.{All-nil}
 use Rattle.relation_terms.specs.Trees.{apply}
@@ -206,15 +206,15 @@ returns-in_err-related-clause-fault g c =
 pub returns-in_err-related-clause-asks : goal.returns-in_err-related-clause-asks
 returns-in_err-related-clause-asks g c =
     let k = c.requires.can in
-    let differ = λ e. absurd (false≢true (c.if-eq.ensures ∙ one_equal (g.met.Infcx.InferCtxtLike.reads c.args.infcx.now)
-    g.T.Relate.over g.T.HasTree.tree g.T.PartialEq.eq
-    (g.met.T.Relate.same (g.Infcx.InferCtxtLike.interner c.args.infcx.now)) c.args.lhs c.args.rhs k.lhs_known k.rhs_known e)) in
     let f = c.in_err-related.field-0.0 in
     let is = as_err c.from_residual.result f c.from_residual.ensures.0 c.from_residual.ensures.1 in
     record {
       goals = none_answered _ c.from_residual.result f is;
       asked = λ bare. none_answered _ c.from_residual.result f is;
-      same = differ;
+      same = λ e. absurd (false≢true (c.if-eq.ensures
+          ∙ one_equal (g.met.Infcx.InferCtxtLike.reads c.args.infcx.now) g.T.Relate.over g.T.HasTree.tree
+          g.T.PartialEq.eq (g.met.T.Relate.same (g.Infcx.InferCtxtLike.interner c.args.infcx.now)) c.args.lhs c.args.rhs
+          k.lhs_known k.rhs_known e));
     }
 
 pub returns-in_err-related-clause-leaves : goal.returns-in_err-related-clause-leaves
@@ -342,15 +342,15 @@ returns-clause-asks g c =
     let was = solving_in c.args.aliases [] s v e in
     let then = solving_in c.args.aliases hs d v e in
     let related = subst (λ z. Related solver_manner was then v a b tree z) c.in_ok-related.was c.relate_in-related.ensures.related in
-    let differ = λ e. absurd (false≢true (c.if-eq.ensures ∙ one_equal (g.met.Infcx.InferCtxtLike.reads c.args.infcx.now)
-    g.T.Relate.over g.T.HasTree.tree g.T.PartialEq.eq
-    (g.met.T.Relate.same (g.Infcx.InferCtxtLike.interner c.args.infcx.now)) c.args.lhs c.args.rhs k.lhs_known k.rhs_known e)) in
     record {
       goals = registers_goals s.meaning d.meaning s.store d.store s.lawful d.lawful v e a b tree hs
           c.relate_in-related.result.0 (k.lawful, none_held c.args.aliases 0 s [] e)
           (k.env_known, All-nil (KnowsGoal s.meaning)) c.relate_in-related.ensures.related;
       asked = λ bare. adds_just_asked s.meaning d.meaning s.store d.store s.lawful d.lawful v e a b tree hs c.in_ok-related.field-0 refl bare related;
-      same = differ;
+      same = λ e. absurd (false≢true (c.if-eq.ensures
+          ∙ one_equal (g.met.Infcx.InferCtxtLike.reads c.args.infcx.now) g.T.Relate.over g.T.HasTree.tree
+          g.T.PartialEq.eq (g.met.T.Relate.same (g.Infcx.InferCtxtLike.interner c.args.infcx.now)) c.args.lhs c.args.rhs
+          k.lhs_known k.rhs_known e));
     }
 
 pub returns-clause-leaves : goal.returns-clause-leaves
