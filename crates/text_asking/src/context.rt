@@ -1,11 +1,8 @@
 //! A question's context, and relating in it.
-ghost use Rattle.std.specs.Prelude.{◌≡◌, ◌≢◌, ℕ, suc, ◌<◌, ◌≤◌, max, IfNone, IfOk, IfErr, OnOk};
+ghost use Rattle.std.specs.Prelude.{◌≡◌, ℕ, suc, ◌<◌, ◌≤◌, max, IfNone, IfOk, OnOk};
 ghost use Rattle.relation_terms.specs.Heads.{VarKind};
 ghost use Rattle.relation_terms.specs.Meaning.{Extends};
-ghost use Rattle.relation_folds.specs.Faults.{KnowsFault};
-ghost use Rattle.relation_semantics.specs.Contexts.{KnowsEnv};
-ghost use Rattle.type_relations.specs.Relating.{KnowsTerm, TakesTerm, HasTerm, AnswersTerms, KeepsEqual, TellsApart};
-ghost use Rattle.type_relations.specs.Relating.{AnswersOnly};
+ghost use Rattle.type_relations.specs.Contract.{CanRelate, RelatesBoth, LosesNone, FaultIsTrue, AsksOnly, LeavesRest};
 ghost use Rattle.variable_tables.specs.Tables.{IsLawful};
 ghost use Rattle.text_needs.specs.Needs.{Reaches};
 ghost use Rattle.std.specs.List.{All};
@@ -283,24 +280,17 @@ pub(super) fn relate<C: InferCtxtLike, T: Relate<C::Interner>>(
     rhs: T,
     span: Span<C::Interner>,
 ) -> RelateGoals<C::Interner>
-    requires lawful { (C.state ctx.old).lawful }
-    requires decides { variance_of relation ≢ Variance.Bivariant }
-    requires env_known { KnowsEnv (C.state ctx.old) param_env }
-    requires fits { T.fits (C.state ctx.old).meaning lhs rhs }
-    requires lhs_known { KnowsTerm (C.state ctx.old) T.over T.tree lhs }
-    requires rhs_known { KnowsTerm (C.state ctx.old) T.over T.tree rhs }
-    requires lhs_taken { TakesTerm (C.state ctx.old) T.over T.tree lhs }
-    requires rhs_taken { TakesTerm (C.state ctx.old) T.over T.tree rhs }
-    requires lhs_in { HasTerm (C.state ctx.old) T.over T.tree lhs }
-    requires rhs_in { HasTerm (C.state ctx.old) T.over T.tree rhs }
-    ensures answers { let v = variance_of relation in
-        AnswersTerms C.state ctx.old ctx.new T.over T.tree param_env v lhs rhs result }
-    ensures keeps { KeepsEqual C.state ctx.old ctx.new T.over T.tree lhs rhs result }
-    ensures apart { TellsApart C.state ctx.old ctx.new T.over T.tree lhs rhs result }
-    ensures goals { AnswersOnly C.state ctx.old ctx.new (aliases_of relation) param_env (variance_of relation) result }
-    ensures lawful { (C.state ctx.new).lawful }
-    ensures grown { Extends (C.state ctx.old).meaning (C.state ctx.new).meaning }
-    ensures why_known { IfErr result (λ e. KnowsFault (C.state ctx.new).meaning e) }
+    requires can { let v = variance_of relation in
+        CanRelate (C.state ctx.old) T.over T.tree T.fits param_env v lhs rhs }
+    ensures both { let g = aliases_of relation in let v = variance_of relation in
+        RelatesBoth C.state ctx.old ctx.new T.over T.tree g param_env v lhs rhs result }
+    ensures loses_none { let v = variance_of relation in
+        LosesNone C.state ctx.old ctx.new T.over T.tree v lhs rhs result }
+    ensures fault { let g = aliases_of relation in let v = variance_of relation in
+        FaultIsTrue C.state ctx.old ctx.new T.over T.tree g v lhs rhs result }
+    ensures asks { let g = aliases_of relation in let v = variance_of relation in
+        AsksOnly C.state ctx.old ctx.new T.over T.tree g param_env v lhs rhs result }
+    ensures leaves { LeavesRest C.state ctx.old ctx.new T.over T.tree lhs rhs result }
 {
     match relation {
         Relation::At(variance) => ctx.relate(param_env, lhs, variance, rhs, span),

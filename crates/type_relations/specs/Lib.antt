@@ -1,3 +1,4 @@
+pub mod Contract
 pub use Rattle.relation_steps.specs.Alone
 pub use Rattle.relation_steps.specs.Arguments
 pub use Rattle.relation_combining.specs.Bivariance

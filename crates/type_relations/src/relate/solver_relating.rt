@@ -1,22 +1,14 @@
 //! Relating as a solver does: by what a context has recorded, and by recording more.
-ghost use Rattle.std.specs.Prelude.{◌≡◌, ◌≢◌, IfErr, []};
-ghost use Rattle.relation_terms.specs.Meaning.{Extends};
-ghost use Rattle.relation_folds.specs.Faults.{KnowsFault, IfSpent};
+ghost use Rattle.std.specs.Prelude.{◌≢◌, []};
 ghost use Rattle.term_enums.specs.declared.Variance.TheVariants.{Invariant};
 ghost use Rattle.term_enums.specs.declared.StructurallyRelateAliases.TheVariants.{No, Yes};
-ghost use Rattle.relation_semantics.specs.Stores.{IsSound};
-ghost use Rattle.relation_semantics.specs.Steps.{IsLater};
-ghost use Rattle.relation_semantics.specs.Contexts.{KnowsEnv, SpendsByBinding};
-ghost use Rattle.relation_semantics.specs.ContextCalls.{KeepsBeside};
-ghost use Rattle.context_relation.specs.Relating.{KnowsTerm, TakesTerm, HasTerm, AreOne, AnswersTerms};
-ghost use Rattle.context_relation.specs.Relating.{KeepsEqual, TellsApart, AnswersError, AnswersExactly, ProvesApart};
-ghost use Rattle.context_relation.specs.Relating.{RelatesAgreeing};
-ghost use Rattle.context_relation.specs.Completing.{Complete, RelatesWhereAsked, JustAsked};
+ghost use Rattle.relation_semantics.specs.Contexts.{KnowsEnv};
+ghost use Rattle.context_relation.specs.Relating.{AnswersAsked};
+ghost use Rattle.context_relation.specs.Completing.{Complete, RelatesWhereAsked};
 ghost use Rattle.context_relation.specs.Closed.{LeavesClosed, AsksNothing, SpendsForVariables};
-ghost use Rattle.context_relation.specs.Relating.{AnswersAsked, AnswersOnly, SpendsNoMore, MakesToRelate};
-ghost use Rattle.context_relation.specs.Relating.{BuildsNoMore, Idle};
 ghost use Rattle.relation_steps.specs.Terms.{AskedTerms, RelatedTerms, TermsRegister};
 ghost use Rattle.relation_combining.specs.Solving.{solving_in, solver_manner};
+ghost use Rattle.type_relations.specs.Contract.{CanRelate, RelatesBoth, LosesNone, FaultIsTrue, AsksOnly, LeavesRest};
 
 pub use context_relation::relation::SolverRelating;
 use relation_folds::error::RelateResult;
@@ -110,42 +102,17 @@ pub trait RelateExt: InferCtxtLike {
         rhs: T,
         span: Span<Self::Interner>,
     ) -> RelateGoals<Self::Interner>
-        requires lawful { (Self.state self.old).lawful }
-        requires decides { variance ≢ Variance.Bivariant }
-        requires env_known { KnowsEnv (Self.state self.old) param_env }
-        requires fits { T.fits (Self.state self.old).meaning lhs rhs }
-        requires lhs_known { KnowsTerm (Self.state self.old) T.over T.tree lhs }
-        requires rhs_known { KnowsTerm (Self.state self.old) T.over T.tree rhs }
-        requires lhs_taken { TakesTerm (Self.state self.old) T.over T.tree lhs }
-        requires rhs_taken { TakesTerm (Self.state self.old) T.over T.tree rhs }
-        requires lhs_in { HasTerm (Self.state self.old) T.over T.tree lhs }
-        requires rhs_in { HasTerm (Self.state self.old) T.over T.tree rhs }
-        ensures answers { AnswersTerms Self.state self.old self.new T.over T.tree param_env variance lhs rhs result }
-        ensures keeps { KeepsEqual Self.state self.old self.new T.over T.tree lhs rhs result }
-        ensures apart { TellsApart Self.state self.old self.new T.over T.tree lhs rhs result }
-        ensures errors { AnswersError Self.state self.old self.new T.over T.tree No variance lhs rhs result }
-        ensures agrees { RelatesAgreeing Self.state self.old self.new T.over T.tree No variance lhs rhs result }
+        requires can { CanRelate (Self.state self.old) T.over T.tree T.fits param_env variance lhs rhs }
+        ensures both { RelatesBoth Self.state self.old self.new T.over T.tree No param_env variance lhs rhs result }
+        ensures loses_none { LosesNone Self.state self.old self.new T.over T.tree variance lhs rhs result }
+        ensures fault { FaultIsTrue Self.state self.old self.new T.over T.tree No variance lhs rhs result }
+        ensures asks { AsksOnly Self.state self.old self.new T.over T.tree No param_env variance lhs rhs result }
+        ensures leaves { LeavesRest Self.state self.old self.new T.over T.tree lhs rhs result }
         ensures complete { Complete Self.state self.old self.new T.over T.tree No param_env variance lhs rhs result }
         ensures met { RelatesWhereAsked Self.state self.old self.new T.over T.tree param_env variance lhs rhs result }
-        ensures asked { JustAsked Self.state self.old self.new T.over T.tree No param_env variance lhs rhs result }
-        ensures spent { IfSpent result ((Self.state self.new).store.budget ≡ 0) }
-        ensures same { AreOne (Self.state self.old) T.over T.tree lhs rhs → Idle Self.state self.old self.new result }
-        ensures alone { AnswersAsked Self.state self.old self.new T.over T.tree No param_env variance lhs rhs result }
-        ensures goals { AnswersOnly Self.state self.old self.new No param_env variance result }
-        ensures exact { AnswersExactly Self.state self.old self.new T.over T.tree variance lhs rhs result }
-        ensures no_unifier { ProvesApart Self.state self.old self.new T.over T.tree variance lhs rhs result }
-        ensures later { IsLater (Self.state self.old).store (Self.state self.new).store }
-        ensures made { MakesToRelate Self.state self.old self.new T.over T.tree lhs rhs }
-        ensures built { BuildsNoMore Self.state self.old self.new T.over T.tree lhs rhs result }
         ensures closed { LeavesClosed Self.state self.old self.new T.over T.tree lhs rhs result }
         ensures no_goals { AsksNothing Self.state self.old self.new T.over T.tree lhs rhs result }
-        ensures sound { IsSound (Self.state self.new).store }
-        ensures budget { SpendsByBinding (Self.state self.old) (Self.state self.new) }
-        ensures enough { SpendsNoMore Self.state self.old self.new T.over T.tree variance lhs rhs result }
-        ensures lawful { (Self.state self.new).lawful }
-        ensures rest { KeepsBeside (Self.state self.old) (Self.state self.new) }
-        ensures grown { Extends (Self.state self.old).meaning (Self.state self.new).meaning }
-        ensures why_known { IfErr result (λ e. KnowsFault (Self.state self.new).meaning e) };
+        ensures alone { AnswersAsked Self.state self.old self.new T.over T.tree No param_env variance lhs rhs result };
 
     /// Relates two at `Invariant`, aliases by their items and arguments: what `relate` relates, but that no alias is
     /// left to a goal, and none gives way to a variable where a variable is bound to what it stands in. All that
@@ -159,40 +126,16 @@ pub trait RelateExt: InferCtxtLike {
         rhs: T,
         span: Span<Self::Interner>,
     ) -> RelateGoals<Self::Interner>
-        requires lawful { (Self.state self.old).lawful }
-        requires env_known { KnowsEnv (Self.state self.old) param_env }
-        requires fits { T.fits (Self.state self.old).meaning lhs rhs }
-        requires lhs_known { KnowsTerm (Self.state self.old) T.over T.tree lhs }
-        requires rhs_known { KnowsTerm (Self.state self.old) T.over T.tree rhs }
-        requires lhs_taken { TakesTerm (Self.state self.old) T.over T.tree lhs }
-        requires rhs_taken { TakesTerm (Self.state self.old) T.over T.tree rhs }
-        requires lhs_in { HasTerm (Self.state self.old) T.over T.tree lhs }
-        requires rhs_in { HasTerm (Self.state self.old) T.over T.tree rhs }
-        ensures answers { AnswersTerms Self.state self.old self.new T.over T.tree param_env Invariant lhs rhs result }
-        ensures keeps { KeepsEqual Self.state self.old self.new T.over T.tree lhs rhs result }
-        ensures apart { TellsApart Self.state self.old self.new T.over T.tree lhs rhs result }
-        ensures errors { AnswersError Self.state self.old self.new T.over T.tree Yes Invariant lhs rhs result }
-        ensures agrees { RelatesAgreeing Self.state self.old self.new T.over T.tree Yes Invariant lhs rhs result }
+        requires can { CanRelate (Self.state self.old) T.over T.tree T.fits param_env Invariant lhs rhs }
+        ensures both { RelatesBoth Self.state self.old self.new T.over T.tree Yes param_env Invariant lhs rhs result }
+        ensures loses_none { LosesNone Self.state self.old self.new T.over T.tree Invariant lhs rhs result }
+        ensures fault { FaultIsTrue Self.state self.old self.new T.over T.tree Yes Invariant lhs rhs result }
+        ensures asks { AsksOnly Self.state self.old self.new T.over T.tree Yes param_env Invariant lhs rhs result }
+        ensures leaves { LeavesRest Self.state self.old self.new T.over T.tree lhs rhs result }
         ensures complete { Complete Self.state self.old self.new T.over T.tree Yes param_env Invariant lhs rhs result }
         ensures met { RelatesWhereAsked Self.state self.old self.new T.over T.tree param_env Invariant lhs rhs result }
-        ensures asked { JustAsked Self.state self.old self.new T.over T.tree Yes param_env Invariant lhs rhs result }
-        ensures spent { IfSpent result ((Self.state self.new).store.budget ≡ 0) }
-        ensures same { AreOne (Self.state self.old) T.over T.tree lhs rhs → Idle Self.state self.old self.new result }
-        ensures goals { AnswersOnly Self.state self.old self.new Yes param_env Invariant result }
-        ensures exact { AnswersExactly Self.state self.old self.new T.over T.tree Invariant lhs rhs result }
-        ensures no_unifier { ProvesApart Self.state self.old self.new T.over T.tree Invariant lhs rhs result }
-        ensures later { IsLater (Self.state self.old).store (Self.state self.new).store }
-        ensures made { MakesToRelate Self.state self.old self.new T.over T.tree lhs rhs }
-        ensures built { BuildsNoMore Self.state self.old self.new T.over T.tree lhs rhs result }
         ensures closed { LeavesClosed Self.state self.old self.new T.over T.tree lhs rhs result }
-        ensures no_goals { AsksNothing Self.state self.old self.new T.over T.tree lhs rhs result }
-        ensures sound { IsSound (Self.state self.new).store }
-        ensures budget { SpendsByBinding (Self.state self.old) (Self.state self.new) }
-        ensures enough { SpendsNoMore Self.state self.old self.new T.over T.tree Invariant lhs rhs result }
-        ensures lawful { (Self.state self.new).lawful }
-        ensures rest { KeepsBeside (Self.state self.old) (Self.state self.new) }
-        ensures grown { Extends (Self.state self.old).meaning (Self.state self.new).meaning }
-        ensures why_known { IfErr result (λ e. KnowsFault (Self.state self.new).meaning e) };
+        ensures no_goals { AsksNothing Self.state self.old self.new T.over T.tree lhs rhs result };
 }
 
 impl<Infcx: InferCtxtLike> RelateExt for Infcx {
@@ -204,42 +147,17 @@ impl<Infcx: InferCtxtLike> RelateExt for Infcx {
         rhs: T,
         span: Span<Infcx::Interner>,
     ) -> RelateGoals<Infcx::Interner>
-        requires lawful { (Infcx.state self.old).lawful }
-        requires decides { variance ≢ Variance.Bivariant }
-        requires env_known { KnowsEnv (Infcx.state self.old) param_env }
-        requires fits { T.fits (Infcx.state self.old).meaning lhs rhs }
-        requires lhs_known { KnowsTerm (Infcx.state self.old) T.over T.tree lhs }
-        requires rhs_known { KnowsTerm (Infcx.state self.old) T.over T.tree rhs }
-        requires lhs_taken { TakesTerm (Infcx.state self.old) T.over T.tree lhs }
-        requires rhs_taken { TakesTerm (Infcx.state self.old) T.over T.tree rhs }
-        requires lhs_in { HasTerm (Infcx.state self.old) T.over T.tree lhs }
-        requires rhs_in { HasTerm (Infcx.state self.old) T.over T.tree rhs }
-        ensures answers { AnswersTerms Infcx.state self.old self.new T.over T.tree param_env variance lhs rhs result }
-        ensures keeps { KeepsEqual Infcx.state self.old self.new T.over T.tree lhs rhs result }
-        ensures apart { TellsApart Infcx.state self.old self.new T.over T.tree lhs rhs result }
-        ensures errors { AnswersError Infcx.state self.old self.new T.over T.tree No variance lhs rhs result }
-        ensures agrees { RelatesAgreeing Infcx.state self.old self.new T.over T.tree No variance lhs rhs result }
+        requires can { CanRelate (Infcx.state self.old) T.over T.tree T.fits param_env variance lhs rhs }
+        ensures both { RelatesBoth Infcx.state self.old self.new T.over T.tree No param_env variance lhs rhs result }
+        ensures loses_none { LosesNone Infcx.state self.old self.new T.over T.tree variance lhs rhs result }
+        ensures fault { FaultIsTrue Infcx.state self.old self.new T.over T.tree No variance lhs rhs result }
+        ensures asks { AsksOnly Infcx.state self.old self.new T.over T.tree No param_env variance lhs rhs result }
+        ensures leaves { LeavesRest Infcx.state self.old self.new T.over T.tree lhs rhs result }
         ensures complete { Complete Infcx.state self.old self.new T.over T.tree No param_env variance lhs rhs result }
         ensures met { RelatesWhereAsked Infcx.state self.old self.new T.over T.tree param_env variance lhs rhs result }
-        ensures asked { JustAsked Infcx.state self.old self.new T.over T.tree No param_env variance lhs rhs result }
-        ensures spent { IfSpent result ((Infcx.state self.new).store.budget ≡ 0) }
-        ensures same { AreOne (Infcx.state self.old) T.over T.tree lhs rhs → Idle Infcx.state self.old self.new result }
-        ensures alone { AnswersAsked Infcx.state self.old self.new T.over T.tree No param_env variance lhs rhs result }
-        ensures goals { AnswersOnly Infcx.state self.old self.new No param_env variance result }
-        ensures exact { AnswersExactly Infcx.state self.old self.new T.over T.tree variance lhs rhs result }
-        ensures no_unifier { ProvesApart Infcx.state self.old self.new T.over T.tree variance lhs rhs result }
-        ensures later { IsLater (Infcx.state self.old).store (Infcx.state self.new).store }
-        ensures made { MakesToRelate Infcx.state self.old self.new T.over T.tree lhs rhs }
-        ensures built { BuildsNoMore Infcx.state self.old self.new T.over T.tree lhs rhs result }
         ensures closed { LeavesClosed Infcx.state self.old self.new T.over T.tree lhs rhs result }
         ensures no_goals { AsksNothing Infcx.state self.old self.new T.over T.tree lhs rhs result }
-        ensures sound { IsSound (Infcx.state self.new).store }
-        ensures budget { SpendsByBinding (Infcx.state self.old) (Infcx.state self.new) }
-        ensures enough { SpendsNoMore Infcx.state self.old self.new T.over T.tree variance lhs rhs result }
-        ensures lawful { (Infcx.state self.new).lawful }
-        ensures rest { KeepsBeside (Infcx.state self.old) (Infcx.state self.new) }
-        ensures grown { Extends (Infcx.state self.old).meaning (Infcx.state self.new).meaning }
-        ensures why_known { IfErr result (λ e. KnowsFault (Infcx.state self.new).meaning e) }
+        ensures alone { AnswersAsked Infcx.state self.old self.new T.over T.tree No param_env variance lhs rhs result }
     {
         relate_as(
             self,
@@ -259,40 +177,16 @@ impl<Infcx: InferCtxtLike> RelateExt for Infcx {
         rhs: T,
         span: Span<Infcx::Interner>,
     ) -> RelateGoals<Infcx::Interner>
-        requires lawful { (Infcx.state self.old).lawful }
-        requires env_known { KnowsEnv (Infcx.state self.old) param_env }
-        requires fits { T.fits (Infcx.state self.old).meaning lhs rhs }
-        requires lhs_known { KnowsTerm (Infcx.state self.old) T.over T.tree lhs }
-        requires rhs_known { KnowsTerm (Infcx.state self.old) T.over T.tree rhs }
-        requires lhs_taken { TakesTerm (Infcx.state self.old) T.over T.tree lhs }
-        requires rhs_taken { TakesTerm (Infcx.state self.old) T.over T.tree rhs }
-        requires lhs_in { HasTerm (Infcx.state self.old) T.over T.tree lhs }
-        requires rhs_in { HasTerm (Infcx.state self.old) T.over T.tree rhs }
-        ensures answers { AnswersTerms Infcx.state self.old self.new T.over T.tree param_env Invariant lhs rhs result }
-        ensures keeps { KeepsEqual Infcx.state self.old self.new T.over T.tree lhs rhs result }
-        ensures apart { TellsApart Infcx.state self.old self.new T.over T.tree lhs rhs result }
-        ensures errors { AnswersError Infcx.state self.old self.new T.over T.tree Yes Invariant lhs rhs result }
-        ensures agrees { RelatesAgreeing Infcx.state self.old self.new T.over T.tree Yes Invariant lhs rhs result }
+        requires can { CanRelate (Infcx.state self.old) T.over T.tree T.fits param_env Invariant lhs rhs }
+        ensures both { RelatesBoth Infcx.state self.old self.new T.over T.tree Yes param_env Invariant lhs rhs result }
+        ensures loses_none { LosesNone Infcx.state self.old self.new T.over T.tree Invariant lhs rhs result }
+        ensures fault { FaultIsTrue Infcx.state self.old self.new T.over T.tree Yes Invariant lhs rhs result }
+        ensures asks { AsksOnly Infcx.state self.old self.new T.over T.tree Yes param_env Invariant lhs rhs result }
+        ensures leaves { LeavesRest Infcx.state self.old self.new T.over T.tree lhs rhs result }
         ensures complete { Complete Infcx.state self.old self.new T.over T.tree Yes param_env Invariant lhs rhs result }
         ensures met { RelatesWhereAsked Infcx.state self.old self.new T.over T.tree param_env Invariant lhs rhs result }
-        ensures asked { JustAsked Infcx.state self.old self.new T.over T.tree Yes param_env Invariant lhs rhs result }
-        ensures spent { IfSpent result ((Infcx.state self.new).store.budget ≡ 0) }
-        ensures same { AreOne (Infcx.state self.old) T.over T.tree lhs rhs → Idle Infcx.state self.old self.new result }
-        ensures goals { AnswersOnly Infcx.state self.old self.new Yes param_env Invariant result }
-        ensures exact { AnswersExactly Infcx.state self.old self.new T.over T.tree Invariant lhs rhs result }
-        ensures no_unifier { ProvesApart Infcx.state self.old self.new T.over T.tree Invariant lhs rhs result }
-        ensures later { IsLater (Infcx.state self.old).store (Infcx.state self.new).store }
-        ensures made { MakesToRelate Infcx.state self.old self.new T.over T.tree lhs rhs }
-        ensures built { BuildsNoMore Infcx.state self.old self.new T.over T.tree lhs rhs result }
         ensures closed { LeavesClosed Infcx.state self.old self.new T.over T.tree lhs rhs result }
         ensures no_goals { AsksNothing Infcx.state self.old self.new T.over T.tree lhs rhs result }
-        ensures sound { IsSound (Infcx.state self.new).store }
-        ensures budget { SpendsByBinding (Infcx.state self.old) (Infcx.state self.new) }
-        ensures enough { SpendsNoMore Infcx.state self.old self.new T.over T.tree Invariant lhs rhs result }
-        ensures lawful { (Infcx.state self.new).lawful }
-        ensures rest { KeepsBeside (Infcx.state self.old) (Infcx.state self.new) }
-        ensures grown { Extends (Infcx.state self.old).meaning (Infcx.state self.new).meaning }
-        ensures why_known { IfErr result (λ e. KnowsFault (Infcx.state self.new).meaning e) }
     {
         relate_as(
             self,
@@ -316,39 +210,15 @@ fn relate_as<Infcx: InferCtxtLike, T: Relate<Infcx::Interner>>(
     rhs: T,
     span: Span<Infcx::Interner>,
 ) -> RelateGoals<Infcx::Interner>
-    requires lawful { (Infcx.state infcx.old).lawful }
-    requires decides { variance ≢ Variance.Bivariant }
-    requires env_known { KnowsEnv (Infcx.state infcx.old) param_env }
-    requires fits { T.fits (Infcx.state infcx.old).meaning lhs rhs }
-    requires lhs_known { KnowsTerm (Infcx.state infcx.old) T.over T.tree lhs }
-    requires rhs_known { KnowsTerm (Infcx.state infcx.old) T.over T.tree rhs }
-    requires lhs_taken { TakesTerm (Infcx.state infcx.old) T.over T.tree lhs }
-    requires rhs_taken { TakesTerm (Infcx.state infcx.old) T.over T.tree rhs }
-    requires lhs_in { HasTerm (Infcx.state infcx.old) T.over T.tree lhs }
-    requires rhs_in { HasTerm (Infcx.state infcx.old) T.over T.tree rhs }
-    ensures answers { AnswersTerms Infcx.state infcx.old infcx.new T.over T.tree param_env variance lhs rhs result }
-    ensures keeps { KeepsEqual Infcx.state infcx.old infcx.new T.over T.tree lhs rhs result }
-    ensures apart { TellsApart Infcx.state infcx.old infcx.new T.over T.tree lhs rhs result }
-    ensures errors { AnswersError Infcx.state infcx.old infcx.new T.over T.tree aliases variance lhs rhs result }
-    ensures agrees { RelatesAgreeing Infcx.state infcx.old infcx.new T.over T.tree aliases variance lhs rhs result }
-    ensures asked { JustAsked Infcx.state infcx.old infcx.new T.over T.tree aliases param_env variance lhs rhs result }
-    ensures spent { IfSpent result ((Infcx.state infcx.new).store.budget ≡ 0) }
-    ensures same { AreOne (Infcx.state infcx.old) T.over T.tree lhs rhs → Idle Infcx.state infcx.old infcx.new result }
-    ensures alone { AnswersAsked Infcx.state infcx.old infcx.new T.over T.tree aliases param_env variance lhs rhs result }
-    ensures goals { AnswersOnly Infcx.state infcx.old infcx.new aliases param_env variance result }
-    ensures exact { AnswersExactly Infcx.state infcx.old infcx.new T.over T.tree variance lhs rhs result }
-    ensures no_unifier { ProvesApart Infcx.state infcx.old infcx.new T.over T.tree variance lhs rhs result }
-    ensures later { IsLater (Infcx.state infcx.old).store (Infcx.state infcx.new).store }
-    ensures made { MakesToRelate Infcx.state infcx.old infcx.new T.over T.tree lhs rhs }
-    ensures built { BuildsNoMore Infcx.state infcx.old infcx.new T.over T.tree lhs rhs result }
+    requires can { CanRelate (Infcx.state infcx.old) T.over T.tree T.fits param_env variance lhs rhs }
+    ensures both { RelatesBoth Infcx.state infcx.old infcx.new T.over T.tree aliases param_env variance lhs rhs result }
+    ensures loses_none { LosesNone Infcx.state infcx.old infcx.new T.over T.tree variance lhs rhs result }
+    ensures fault { FaultIsTrue Infcx.state infcx.old infcx.new T.over T.tree aliases variance lhs rhs result }
+    ensures asks { AsksOnly Infcx.state infcx.old infcx.new T.over T.tree aliases param_env variance lhs rhs result }
+    ensures leaves { LeavesRest Infcx.state infcx.old infcx.new T.over T.tree lhs rhs result }
+    ensures alone { let e = param_env in
+        AnswersAsked Infcx.state infcx.old infcx.new T.over T.tree aliases e variance lhs rhs result }
     ensures needs { SpendsForVariables Infcx.state infcx.old infcx.new T.over T.tree lhs rhs result }
-    ensures sound { IsSound (Infcx.state infcx.new).store }
-    ensures budget { SpendsByBinding (Infcx.state infcx.old) (Infcx.state infcx.new) }
-    ensures enough { SpendsNoMore Infcx.state infcx.old infcx.new T.over T.tree variance lhs rhs result }
-    ensures lawful { (Infcx.state infcx.new).lawful }
-    ensures rest { KeepsBeside (Infcx.state infcx.old) (Infcx.state infcx.new) }
-    ensures grown { Extends (Infcx.state infcx.old).meaning (Infcx.state infcx.new).meaning }
-    ensures why_known { IfErr result (λ e. KnowsFault (Infcx.state infcx.new).meaning e) }
 {
     if lhs == rhs {
         return Ok(Vec::new(infcx.cx().alloc()));

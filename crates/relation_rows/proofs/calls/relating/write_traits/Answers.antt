@@ -1,20 +1,25 @@
+use Rattle.std.proofs.Common.{rules}
 use Rattle.relation_terms.proofs.Stays.{extends_on}
 use Rattle.variable_tables.proofs.Grows.{lawful_grows}
 use Rattle.relation_rows.proofs.Related.{form_in, related_known}
 use Rattle.relation_rows.proofs.calls.relating.write_traits.Goals as goal
 
-pub relate-answer-requires-clause-lawful : goal.relate-answer-requires-clause-lawful
-relate-answer-requires-clause-lawful g c =
-    lawful_grows (extends_on c.empty_param_env.ensures.grown c.make_byte_ref.ensures.grown) c.in_ok-ctx.ctx.inner
-    c.in_ok-ctx.ensures.lawful
-
-pub relate-answer-requires-clause-lhs_in : goal.relate-answer-requires-clause-lhs_in
-relate-answer-requires-clause-lhs_in g c = form_in _ _ c.in_ok-lhs.ensures.made _
-
-pub relate-answer-requires-clause-rhs_in : goal.relate-answer-requires-clause-rhs_in
-relate-answer-requires-clause-rhs_in g c = form_in _ _ c.in_ok-lhs.ensures.made _
+pub relate-answer-requires-clause-can : goal.relate-answer-requires-clause-can
+relate-answer-requires-clause-can g c = record {
+  lawful = lawful_grows (extends_on c.empty_param_env.ensures.grown c.make_byte_ref.ensures.grown) c.in_ok-ctx.ctx.inner
+      c.in_ok-ctx.ensures.lawful;
+  decides = search rules;
+  env_known = search rules;
+  lhs_known = search rules;
+  rhs_known = search rules;
+  fits = tt;
+  lhs_taken = search rules;
+  rhs_taken = search rules;
+  lhs_in = form_in _ _ c.in_ok-lhs.ensures.made _;
+  rhs_in = form_in _ _ c.in_ok-lhs.ensures.made _;
+}
 
 pub write_answer-requires-clause-known : goal.write_answer-requires-clause-known
 write_answer-requires-clause-known g c =
     related_known (g.I.Interner.meaning c.relate-answer.new.self.interner) c.relate-answer.result _
-    c.relate-answer.ensures.goals c.relate-answer.ensures.why_known
+    c.relate-answer.ensures.asks.goals c.relate-answer.ensures.fault.fault_known

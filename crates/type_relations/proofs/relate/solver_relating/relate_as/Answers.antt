@@ -1,12 +1,14 @@
-use Rattle.std.proofs.Common.{◌≡◌, ◌<◌, Err, refl, sym, ap, ◌∙◌, arith, subst, [], All}
+use Rattle.std.proofs.Common.{rules, ◌≡◌, ◌<◌, Ok, Err, refl, sym, ap, ◌∙◌, arith, subst, [], All}
 use Rattle.std.proofs.lemmas.Bool.{false≢true}
 use Rattle.std.proofs.lemmas.List.Elements.{All-nil}
 use Rattle.relation_terms.specs.Trees.{apply}
-use Rattle.relation_semantics.specs.Relation.{same}
+use Rattle.relation_semantics.specs.Relation.{same, at}
+use Rattle.relation_semantics.specs.Errors.{as_pair}
 use Rattle.relation_semantics.specs.Goals.{goals_of, KnowsGoal, MakesOneTree}
 use Rattle.relation_semantics.specs.OneUniverse.{all_unbound}
-use Rattle.relation_semantics.specs.Lawful.{Related, ExactResult, items_of}
+use Rattle.relation_semantics.specs.Lawful.{Related, RefusesAs, ExactResult, items_of}
 use Rattle.relation_combining.specs.Solving.{solving_in, solver_manner, solver_settings}
+use Rattle.relation_terms.proofs.Stays.{stays_same}
 use Rattle.relation_semantics.proofs.Going.{later_itself}
 use Rattle.relation_semantics.proofs.Full.{makes_to_instantiate}
 use Rattle.relation_semantics.proofs.Roots.{exact_itself}
@@ -25,63 +27,14 @@ use Rattle.context_relation.proofs.Solving.{adds_just_asked}
 use Rattle.relation_semantics.specs.Recording.{IsJustAsked}
 use Rattle.relation_semantics.proofs.Recording.{nothing_asked}
 use Rattle.relation_semantics.proofs.Agreeing.{agree_same}
+use Rattle.type_relations.proofs.Refusing.{none_answered, unrelated, fault_known, pays}
 use Rattle.type_relations.proofs.relate.solver_relating.relate_as.Goals as goal
 use Rattle.context_relation.proofs.Closed.{needs_as, budget_verdict}
-
-pub returns-then-eq-clause-answers : goal.returns-then-eq-clause-answers
-returns-then-eq-clause-answers g c =
-    let one = equal_one (g.met.Infcx.InferCtxtLike.reads c.args.infcx.now) g.T.Relate.over g.T.HasTree.tree
-    g.T.PartialEq.eq (g.met.T.Relate.same (g.Infcx.InferCtxtLike.interner c.args.infcx.now)) c.args.lhs c.args.rhs
-    c.requires.lhs_known c.requires.rhs_known (sym c.if-eq.ensures) in
-    (λ w s sat all. same (ap (apply s) one), λ w s sat. sat)
-
-pub returns-then-eq-clause-exact : goal.returns-then-eq-clause-exact
-returns-then-eq-clause-exact g c = λ is pair.
-    let s = g.Infcx.InferCtxtLike.state c.args.infcx.now in
-    let one = equal_one (g.met.Infcx.InferCtxtLike.reads c.args.infcx.now) g.T.Relate.over g.T.HasTree.tree
-    g.T.PartialEq.eq (g.met.T.Relate.same (g.Infcx.InferCtxtLike.interner c.args.infcx.now)) c.args.lhs c.args.rhs
-    c.requires.lhs_known c.requires.rhs_known (sym c.if-eq.ensures) in
-    (exact_itself s.store (term_in s g.T.Relate.over g.T.HasTree.tree c.args.lhs) (term_in s g.T.Relate.over g.T.HasTree.tree c.args.rhs) one, pair.bindings, (λ u p. (p.variables, omega arith)), c.new.ensures.items)
-
-pub returns-then-eq-clause-keeps : goal.returns-then-eq-clause-keeps
-returns-then-eq-clause-keeps g c = λ w s sat one. (
-  s,
-  λ k n h. refl,
-  (
-    sat,
-    subst (λ gs. All (MakesOneTree s) (goals_of (g.Infcx.InferCtxtLike.state c.args.infcx.now).meaning gs))
-        (sym c.new.ensures.items) (All-nil (MakesOneTree s)),
-  ),
-)
-
-pub returns-then-eq-clause-later : goal.returns-then-eq-clause-later
-returns-then-eq-clause-later g c = later_itself (g.Infcx.InferCtxtLike.state c.args.infcx.now).store
-
-pub returns-then-eq-clause-made : goal.returns-then-eq-clause-made
-returns-then-eq-clause-made g c = record {
-  no_number = λ k h. refl;
-  none = λ ha hb binds none k. refl;
-  no_universe = λ ha hb binds. refl;
-}
-
-pub returns-in_err-related-clause-made : goal.returns-in_err-related-clause-made
-returns-in_err-related-clause-made g c =
-    let s = g.Infcx.InferCtxtLike.state c.args.infcx.now in
-    let related = c.relate_in-related.ensures.related in
-    makes_to_instantiate (related.passes).added (term_in s g.T.Relate.over g.T.HasTree.tree c.args.lhs)
-    (term_in s g.T.Relate.over g.T.HasTree.tree c.args.rhs) (related.passes).goes related.full related.built
-
-pub returns-clause-made : goal.returns-clause-made
-returns-clause-made g c =
-    let s = g.Infcx.InferCtxtLike.state c.args.infcx.now in
-    let related = c.relate_in-related.ensures.related in
-    makes_to_instantiate (related.passes).added (term_in s g.T.Relate.over g.T.HasTree.tree c.args.lhs)
-    (term_in s g.T.Relate.over g.T.HasTree.tree c.args.rhs) (related.passes).goes related.full related.built
 
 pub relate_in-related-requires-clause-asked : goal.relate_in-related-requires-clause-asked
 relate_in-related-requires-clause-asked g c =
     let s = g.Infcx.InferCtxtLike.state c.args.infcx.now in
-    let k = c.requires in
+    let k = c.requires.can in
     record {
       left_known = k.lhs_known;
       right_known = k.rhs_known;
@@ -91,142 +44,202 @@ relate_in-related-requires-clause-asked g c =
       right_taken = all_taken c.args.variance (term_in s g.T.Relate.over g.T.HasTree.tree c.args.rhs) k.rhs_taken;
     }
 
-pub returns-in_err-related-clause-same : goal.returns-in_err-related-clause-same
-returns-in_err-related-clause-same g c =
-    λ e. absurd (false≢true (c.if-eq.ensures ∙ one_equal (g.met.Infcx.InferCtxtLike.reads c.args.infcx.now)
-    g.T.Relate.over g.T.HasTree.tree g.T.PartialEq.eq
-    (g.met.T.Relate.same (g.Infcx.InferCtxtLike.interner c.args.infcx.now)) c.args.lhs c.args.rhs c.requires.lhs_known
-    c.requires.rhs_known e))
-
-pub returns-clause-same : goal.returns-clause-same
-returns-clause-same g c =
-    λ e. absurd (false≢true (c.if-eq.ensures ∙ one_equal (g.met.Infcx.InferCtxtLike.reads c.args.infcx.now)
-    g.T.Relate.over g.T.HasTree.tree g.T.PartialEq.eq
-    (g.met.T.Relate.same (g.Infcx.InferCtxtLike.interner c.args.infcx.now)) c.args.lhs c.args.rhs c.requires.lhs_known
-    c.requires.rhs_known e))
-
-pub returns-clause-answers : goal.returns-clause-answers
-returns-clause-answers g c =
+-- Two that are one are related as they stand, and nothing is done.
+pub returns-then-eq-clause-both : goal.returns-then-eq-clause-both
+returns-then-eq-clause-both g c =
     let s = g.Infcx.InferCtxtLike.state c.args.infcx.now in
-    let d = g.Infcx.InferCtxtLike.state c.relate_in-related.new.infcx in
+    let k = c.requires.can in
     let a = term_in s g.T.Relate.over g.T.HasTree.tree c.args.lhs in
     let b = term_in s g.T.Relate.over g.T.HasTree.tree c.args.rhs in
-    let hs = c.relate_in-related.result.1.items in
-    answers_goals s.meaning d.meaning s.store d.store s.lawful d.lawful c.args.variance c.args.param_env a b
-    (term_in d g.T.Relate.over g.T.HasTree.tree) hs c.in_ok-related.field-0 (subst (λ z. Related solver_manner
-    (solving_in c.args.aliases [] s c.args.variance c.args.param_env) (solving_in c.args.aliases hs d c.args.variance c.args.param_env)
-    c.args.variance a b (term_in d g.T.Relate.over g.T.HasTree.tree) z) c.in_ok-related.was c.relate_in-related.ensures.related)
-
-pub returns-then-eq-clause-agrees : goal.returns-then-eq-clause-agrees
-returns-then-eq-clause-agrees g c =
-    let s = g.Infcx.InferCtxtLike.state c.args.infcx.now in
-    agree_same (solver_settings c.args.aliases s.setup) (items_of s.meaning) c.args.variance (term_in s g.T.Relate.over g.T.HasTree.tree c.args.lhs)
-    (term_in s g.T.Relate.over g.T.HasTree.tree c.args.rhs)
-    (equal_one (g.met.Infcx.InferCtxtLike.reads c.args.infcx.now) g.T.Relate.over g.T.HasTree.tree
+    let one = equal_one (g.met.Infcx.InferCtxtLike.reads c.args.infcx.now) g.T.Relate.over g.T.HasTree.tree
     g.T.PartialEq.eq (g.met.T.Relate.same (g.Infcx.InferCtxtLike.interner c.args.infcx.now)) c.args.lhs c.args.rhs
-    c.requires.lhs_known c.requires.rhs_known (sym c.if-eq.ensures))
+    k.lhs_known k.rhs_known (sym c.if-eq.ensures) in
+    record {
+      sound = (λ w s sat all. same (ap (apply s) one), λ w s sat. sat);
+      agrees = agree_same (solver_settings c.args.aliases s.setup) (items_of s.meaning) c.args.variance a b one;
+    }
 
-pub returns-clause-agrees : goal.returns-clause-agrees
-returns-clause-agrees g c =
+pub returns-then-eq-clause-loses_none : goal.returns-then-eq-clause-loses_none
+returns-then-eq-clause-loses_none g c =
     let s = g.Infcx.InferCtxtLike.state c.args.infcx.now in
-    let d = g.Infcx.InferCtxtLike.state c.relate_in-related.new.infcx in
+    let k = c.requires.can in
     let a = term_in s g.T.Relate.over g.T.HasTree.tree c.args.lhs in
     let b = term_in s g.T.Relate.over g.T.HasTree.tree c.args.rhs in
-    let hs = c.relate_in-related.result.1.items in
-    relates_agreeing s.meaning d.meaning s.store d.store s.lawful d.lawful c.args.variance c.args.param_env a b
-    (term_in d g.T.Relate.over g.T.HasTree.tree) hs c.in_ok-related.field-0 (subst (λ z. Related solver_manner
-    (solving_in c.args.aliases [] s c.args.variance c.args.param_env) (solving_in c.args.aliases hs d c.args.variance c.args.param_env)
-    c.args.variance a b (term_in d g.T.Relate.over g.T.HasTree.tree) z) c.in_ok-related.was c.relate_in-related.ensures.related)
-
-pub returns-then-eq-clause-asked : goal.returns-then-eq-clause-asked
-returns-then-eq-clause-asked g c = λ bare.
-    let s = g.Infcx.InferCtxtLike.state c.args.infcx.now in
-    let a = term_in s g.T.Relate.over g.T.HasTree.tree c.args.lhs in
-    let b = term_in s g.T.Relate.over g.T.HasTree.tree c.args.rhs in
-    subst (λ gs. IsJustAsked (items_of s.meaning) ((s.meaning).param_env c.args.param_env) c.args.variance a b
-    (s.store).constraints (s.store).constraints (goals_of s.meaning gs)) (sym c.new.ensures.items)
-    (nothing_asked (items_of s.meaning) ((s.meaning).param_env c.args.param_env) c.args.variance a b (s.store).constraints
-    (equal_one (g.met.Infcx.InferCtxtLike.reads c.args.infcx.now) g.T.Relate.over g.T.HasTree.tree
+    let one = equal_one (g.met.Infcx.InferCtxtLike.reads c.args.infcx.now) g.T.Relate.over g.T.HasTree.tree
     g.T.PartialEq.eq (g.met.T.Relate.same (g.Infcx.InferCtxtLike.interner c.args.infcx.now)) c.args.lhs c.args.rhs
-    c.requires.lhs_known c.requires.rhs_known (sym c.if-eq.ensures)))
+    k.lhs_known k.rhs_known (sym c.if-eq.ensures) in
+    record {
+      keeps = λ w i sat one. (
+        i,
+        λ k n h. refl,
+        (
+          sat,
+          subst (λ gs. All (MakesOneTree i) (goals_of s.meaning gs)) (sym c.new.ensures.items)
+              (All-nil (MakesOneTree i)),
+        ),
+      );
+      most_general = λ is pair. (exact_itself s.store a b one, pair.bindings, (λ u p. (p.variables, omega arith)),
+          c.new.ensures.items);
+    }
 
-pub returns-clause-asked : goal.returns-clause-asked
-returns-clause-asked g c = λ bare.
+pub returns-then-eq-clause-fault : goal.returns-then-eq-clause-fault
+returns-then-eq-clause-fault g c =
+    record {
+      apart = tt;
+      no_unifier = tt;
+      errors = tt;
+      fault_known = tt;
+      spent = tt;
+      budget_suffices = λ is pair u one. (omega arith, tt);
+    }
+
+pub returns-then-eq-clause-asks : goal.returns-then-eq-clause-asks
+returns-then-eq-clause-asks g c =
     let s = g.Infcx.InferCtxtLike.state c.args.infcx.now in
-    let d = g.Infcx.InferCtxtLike.state c.relate_in-related.new.infcx in
+    let k = c.requires.can in
     let a = term_in s g.T.Relate.over g.T.HasTree.tree c.args.lhs in
     let b = term_in s g.T.Relate.over g.T.HasTree.tree c.args.rhs in
-    let hs = c.relate_in-related.result.1.items in
-    adds_just_asked s.meaning d.meaning s.store d.store s.lawful d.lawful c.args.variance c.args.param_env a b
-    (term_in d g.T.Relate.over g.T.HasTree.tree) hs c.in_ok-related.field-0 refl bare (subst (λ z. Related solver_manner
-    (solving_in c.args.aliases [] s c.args.variance c.args.param_env) (solving_in c.args.aliases hs d c.args.variance c.args.param_env)
-    c.args.variance a b (term_in d g.T.Relate.over g.T.HasTree.tree) z) c.in_ok-related.was c.relate_in-related.ensures.related)
+    let e = c.args.param_env in
+    let one = equal_one (g.met.Infcx.InferCtxtLike.reads c.args.infcx.now) g.T.Relate.over g.T.HasTree.tree
+    g.T.PartialEq.eq (g.met.T.Relate.same (g.Infcx.InferCtxtLike.interner c.args.infcx.now)) c.args.lhs c.args.rhs
+    k.lhs_known k.rhs_known (sym c.if-eq.ensures) in
+    record {
+      goals = search rules;
+      asked = λ bare. subst (λ gs. IsJustAsked (items_of s.meaning) ((s.meaning).param_env e) c.args.variance a b
+          (s.store).constraints (s.store).constraints (goals_of s.meaning gs)) (sym c.new.ensures.items)
+          (nothing_asked (items_of s.meaning) ((s.meaning).param_env e) c.args.variance a b (s.store).constraints one);
+      same = λ is. (c.new.ensures.items, refl);
+    }
 
-pub returns-clause-keeps : goal.returns-clause-keeps
-returns-clause-keeps g c =
+pub returns-then-eq-clause-leaves : goal.returns-then-eq-clause-leaves
+returns-then-eq-clause-leaves g c =
     let s = g.Infcx.InferCtxtLike.state c.args.infcx.now in
-    let d = g.Infcx.InferCtxtLike.state c.relate_in-related.new.infcx in
+    let k = c.requires.can in
     let a = term_in s g.T.Relate.over g.T.HasTree.tree c.args.lhs in
     let b = term_in s g.T.Relate.over g.T.HasTree.tree c.args.rhs in
-    let hs = c.relate_in-related.result.1.items in
-    keeps_equal s.meaning d.meaning s.store d.store s.lawful d.lawful c.args.variance c.args.param_env a b
-    (term_in d g.T.Relate.over g.T.HasTree.tree) hs c.in_ok-related.field-0 (subst (λ z. Related solver_manner
-    (solving_in c.args.aliases [] s c.args.variance c.args.param_env) (solving_in c.args.aliases hs d c.args.variance c.args.param_env)
-    c.args.variance a b (term_in d g.T.Relate.over g.T.HasTree.tree) z) c.in_ok-related.was c.relate_in-related.ensures.related)
-
-pub returns-clause-goals : goal.returns-clause-goals
-returns-clause-goals g c =
-    let s = g.Infcx.InferCtxtLike.state c.args.infcx.now in
-    let d = g.Infcx.InferCtxtLike.state c.relate_in-related.new.infcx in
-    registers_goals s.meaning d.meaning s.store d.store s.lawful d.lawful c.args.variance c.args.param_env
-    (term_in s g.T.Relate.over g.T.HasTree.tree c.args.lhs) (term_in s g.T.Relate.over g.T.HasTree.tree c.args.rhs) (term_in d g.T.Relate.over g.T.HasTree.tree) c.relate_in-related.result.1.items
-    c.relate_in-related.result.0 (c.requires.lawful, none_held c.args.aliases 0 s [] c.args.param_env) (c.requires.env_known, All-nil (KnowsGoal s.meaning))
-    c.relate_in-related.ensures.related
-
-pub returns-clause-exact : goal.returns-clause-exact
-returns-clause-exact g c = λ is pair.
-    let s = g.Infcx.InferCtxtLike.state c.args.infcx.now in
-    let d = g.Infcx.InferCtxtLike.state c.relate_in-related.new.infcx in
-    let o = subst (ExactResult s.store d.store (term_in s g.T.Relate.over g.T.HasTree.tree c.args.lhs) (term_in s g.T.Relate.over g.T.HasTree.tree c.args.rhs))
-    c.in_ok-related.was ((c.relate_in-related.ensures.related).exact tt is pair) in
-    let none = no_goals_exactly s.meaning d.meaning s.store d.store s.lawful d.lawful c.args.variance c.args.param_env
-    (term_in s g.T.Relate.over g.T.HasTree.tree c.args.lhs) (term_in s g.T.Relate.over g.T.HasTree.tree c.args.rhs)
-    (term_in d g.T.Relate.over g.T.HasTree.tree) c.relate_in-related.result.1.items c.relate_in-related.result.0 is pair
-    c.relate_in-related.ensures.related in
-    (o.1, o.0, o.2, none)
-
-pub returns-in_err-related-clause-no_unifier : goal.returns-in_err-related-clause-no_unifier
-returns-in_err-related-clause-no_unifier g c =
-    let s = g.Infcx.InferCtxtLike.state c.args.infcx.now in
-    let d = g.Infcx.InferCtxtLike.state c.relate_in-related.new.infcx in
-    let a = term_in s g.T.Relate.over g.T.HasTree.tree c.args.lhs in
-    let b = term_in s g.T.Relate.over g.T.HasTree.tree c.args.rhs in
-    let f = c.in_err-related.field-0.0 in
-    unrelated_apart c.args.variance s.store d.store a b (term_in d g.T.Relate.over g.T.HasTree.tree) c.from_residual.result f
-    (as_err c.from_residual.result f c.from_residual.ensures.0 c.from_residual.ensures.1)
-    (λ is pair. subst (ExactResult s.store d.store a b) c.in_err-related.was
-    ((c.relate_in-related.ensures.related).exact tt is pair))
-
-pub returns-clause-sound : goal.returns-clause-sound
-returns-clause-sound g c =
-    let s = g.Infcx.InferCtxtLike.state c.args.infcx.now in
-    g.met.Infcx.InferCtxtLike.sound c.relate_in-related.new.infcx
-    (((c.relate_in-related.ensures.related).passes).lawful
-    ((c.requires.lawful, none_held c.args.aliases 0 s [] c.args.param_env), (c.requires.env_known, All-nil (KnowsGoal s.meaning)))).0.0
-
-pub returns-in_err-related-clause-sound : goal.returns-in_err-related-clause-sound
-returns-in_err-related-clause-sound g c =
-    let s = g.Infcx.InferCtxtLike.state c.args.infcx.now in
-    g.met.Infcx.InferCtxtLike.sound c.relate_in-related.new.infcx
-    (((c.relate_in-related.ensures.related).passes).lawful
-    ((c.requires.lawful, none_held c.args.aliases 0 s [] c.args.param_env), (c.requires.env_known, All-nil (KnowsGoal s.meaning)))).0.0
+    record {
+      later = later_itself s.store;
+      store_sound = g.met.Infcx.InferCtxtLike.sound c.args.infcx.now k.lawful;
+      lawful = k.lawful;
+      grown = stays_same s.meaning;
+      frame = record { setup = refl; outliving = refl };
+      new_variables = record {
+        no_number = λ k h. refl;
+        none = λ ha hb binds none k. refl;
+        no_universe = λ ha hb binds. refl;
+      };
+      no_new_forms = subst (λ gs. StaysBuilt s.store s.store (goals_of s.meaning gs) a b) (sym c.new.ensures.items)
+          (built_itself s.store a b);
+      budget = refl;
+    }
 
 pub returns-then-eq-clause-alone : goal.returns-then-eq-clause-alone
 returns-then-eq-clause-alone g c =
+    let k = c.requires.can in
     let one = equal_one (g.met.Infcx.InferCtxtLike.reads c.args.infcx.now) g.T.Relate.over g.T.HasTree.tree
     g.T.PartialEq.eq (g.met.T.Relate.same (g.Infcx.InferCtxtLike.interner c.args.infcx.now)) c.args.lhs c.args.rhs
-    c.requires.lhs_known c.requires.rhs_known (sym c.if-eq.ensures) in
+    k.lhs_known k.rhs_known (sym c.if-eq.ensures) in
     λ differ s t x y p i j asks. absurd (differ one)
+
+-- Of two that were refused the fault is handed on.
+pub returns-in_err-related-clause-both : goal.returns-in_err-related-clause-both
+returns-in_err-related-clause-both g c =
+    let s = g.Infcx.InferCtxtLike.state c.args.infcx.now in
+    let d = g.Infcx.InferCtxtLike.state c.relate_in-related.new.infcx in
+    let k = c.requires.can in
+    let e = c.args.param_env in
+    let v = c.args.variance in
+    let a = term_in s g.T.Relate.over g.T.HasTree.tree c.args.lhs in
+    let b = term_in s g.T.Relate.over g.T.HasTree.tree c.args.rhs in
+    let f = c.in_err-related.field-0.0 in
+    let is = as_err c.from_residual.result f c.from_residual.ensures.0 c.from_residual.ensures.1 in
+    record {
+      sound = none_answered _ c.from_residual.result f is;
+      agrees = none_answered _ c.from_residual.result f is;
+    }
+
+pub returns-in_err-related-clause-loses_none : goal.returns-in_err-related-clause-loses_none
+returns-in_err-related-clause-loses_none g c =
+    let f = c.in_err-related.field-0.0 in
+    let is = as_err c.from_residual.result f c.from_residual.ensures.0 c.from_residual.ensures.1 in
+    record {
+      keeps = none_answered _ c.from_residual.result f is;
+      most_general = none_answered _ c.from_residual.result f is;
+    }
+
+pub returns-in_err-related-clause-fault : goal.returns-in_err-related-clause-fault
+returns-in_err-related-clause-fault g c =
+    let s = g.Infcx.InferCtxtLike.state c.args.infcx.now in
+    let d = g.Infcx.InferCtxtLike.state c.relate_in-related.new.infcx in
+    let k = c.requires.can in
+    let e = c.args.param_env in
+    let v = c.args.variance in
+    let a = term_in s g.T.Relate.over g.T.HasTree.tree c.args.lhs in
+    let b = term_in s g.T.Relate.over g.T.HasTree.tree c.args.rhs in
+    let tree = term_in d g.T.Relate.over g.T.HasTree.tree in
+    let hs = c.relate_in-related.result.1.items in
+    let was = solving_in c.args.aliases [] s v e in
+    let then = solving_in c.args.aliases hs d v e in
+    let f = c.in_err-related.field-0.0 in
+    let is = as_err c.from_residual.result f c.from_residual.ensures.0 c.from_residual.ensures.1 in
+    let related = subst (λ z. Related solver_manner was then v a b tree z) c.in_err-related.was c.relate_in-related.ensures.related in
+    let refused : RefusesAs as_pair was then (at v) a b f = related.verdict in
+    record {
+      apart = unrelated as_pair was then (at v) a b _ c.from_residual.result f is refused (λ e h. h.0);
+      no_unifier = unrelated_apart v s.store d.store a b tree c.from_residual.result f is
+          (λ is pair. subst (ExactResult s.store d.store a b) c.in_err-related.was
+          ((c.relate_in-related.ensures.related).exact tt is pair));
+      errors = unrelated as_pair was then (at v) a b _ c.from_residual.result f is refused (λ e h. h.1);
+      fault_known = fault_known as_pair was then (at v) a b c.from_residual.result f is refused;
+      -- A budget that is spent says that nothing is left of it, and that a variable stands in one of the two.
+      spent = needs_as ((d.store).budget ≡ 0) c.from_residual.result f is (λ e. (budget_verdict solver_manner v a b tree
+          c.relate_in-related.result.0 (c.in_err-related.was ∙ ap Err e) c.relate_in-related.ensures.related).0);
+      budget_suffices = λ is_invariant pair u one.
+          let z = spends_no_more solver_manner v a b tree tt is_invariant pair u one c.relate_in-related.result.0
+          c.relate_in-related.ensures.related in (
+            z.0,
+            spent_as ((s.store).budget < all_unbound s.store) c.relate_in-related.result.0 c.from_residual.result f
+                c.in_err-related.was is z.1,
+          );
+    }
+
+pub returns-in_err-related-clause-asks : goal.returns-in_err-related-clause-asks
+returns-in_err-related-clause-asks g c =
+    let k = c.requires.can in
+    let f = c.in_err-related.field-0.0 in
+    let is = as_err c.from_residual.result f c.from_residual.ensures.0 c.from_residual.ensures.1 in
+    record {
+      goals = none_answered _ c.from_residual.result f is;
+      asked = λ bare. none_answered _ c.from_residual.result f is;
+      same = λ e. absurd (false≢true (c.if-eq.ensures
+          ∙ one_equal (g.met.Infcx.InferCtxtLike.reads c.args.infcx.now) g.T.Relate.over g.T.HasTree.tree
+          g.T.PartialEq.eq (g.met.T.Relate.same (g.Infcx.InferCtxtLike.interner c.args.infcx.now)) c.args.lhs c.args.rhs
+          k.lhs_known k.rhs_known e));
+    }
+
+pub returns-in_err-related-clause-leaves : goal.returns-in_err-related-clause-leaves
+returns-in_err-related-clause-leaves g c =
+    let s = g.Infcx.InferCtxtLike.state c.args.infcx.now in
+    let d = g.Infcx.InferCtxtLike.state c.relate_in-related.new.infcx in
+    let k = c.requires.can in
+    let e = c.args.param_env in
+    let a = term_in s g.T.Relate.over g.T.HasTree.tree c.args.lhs in
+    let b = term_in s g.T.Relate.over g.T.HasTree.tree c.args.rhs in
+    let f = c.in_err-related.field-0.0 in
+    let is = as_err c.from_residual.result f c.from_residual.ensures.0 c.from_residual.ensures.1 in
+    let related = c.relate_in-related.ensures.related in
+    let lawful = ((related.passes).lawful ((k.lawful, none_held c.args.aliases 0 s [] e), (k.env_known, All-nil (KnowsGoal s.meaning)))).0.0 in
+    record {
+      later = ((related.passes).goes).later;
+      store_sound = g.met.Infcx.InferCtxtLike.sound c.relate_in-related.new.infcx lawful;
+      lawful = lawful;
+      grown = (related.passes).extends;
+      frame = keeps_beside c.args.aliases s d _ _ (related.passes).kept;
+      new_variables = makes_to_instantiate (related.passes).added a b (related.passes).goes related.full related.built;
+      no_new_forms = refused_built g.Infcx.InferCtxtLike.state c.args.infcx.now c.relate_in-related.new.infcx g.T.Relate.over
+          g.T.HasTree.tree c.args.lhs c.args.rhs f c.from_residual.result is (related.passes).added related.built;
+      budget = pays (related.passes).goes;
+    }
 
 pub returns-in_err-related-clause-alone : goal.returns-in_err-related-clause-alone
 returns-in_err-related-clause-alone g c =
@@ -240,94 +253,6 @@ returns-in_err-related-clause-alone g c =
     c.args.variance c.args.param_env) c.args.variance (term_in s g.T.Relate.over g.T.HasTree.tree c.args.lhs)
     (term_in s g.T.Relate.over g.T.HasTree.tree c.args.rhs)) c.in_err-related.was c.relate_in-related.ensures.registers)
 
-pub returns-clause-alone : goal.returns-clause-alone
-returns-clause-alone g c =
-    let s = g.Infcx.InferCtxtLike.state c.args.infcx.now in
-    answered_alone_in c.args.aliases g.Infcx.InferCtxtLike.state c.args.infcx.now c.relate_in-related.new.infcx
-    g.T.Relate.over g.T.HasTree.tree c.args.param_env c.args.variance c.args.lhs c.args.rhs c.relate_in-related.result.1
-    c.in_ok-related.field-0
-    (subst (RelatesAlone solver_manner (solving_in c.args.aliases [] s c.args.variance c.args.param_env)
-    (solving_in c.args.aliases c.relate_in-related.result.1.items (g.Infcx.InferCtxtLike.state c.relate_in-related.new.infcx)
-    c.args.variance c.args.param_env) c.args.variance (term_in s g.T.Relate.over g.T.HasTree.tree c.args.lhs)
-    (term_in s g.T.Relate.over g.T.HasTree.tree c.args.rhs)) c.in_ok-related.was c.relate_in-related.ensures.registers)
-
-pub returns-then-eq-clause-enough : goal.returns-then-eq-clause-enough
-returns-then-eq-clause-enough g c = λ is pair u one. (omega arith, tt)
-
-pub returns-clause-enough : goal.returns-clause-enough
-returns-clause-enough g c = λ is pair u one.
-    let s = g.Infcx.InferCtxtLike.state c.args.infcx.now in
-    let d = g.Infcx.InferCtxtLike.state c.relate_in-related.new.infcx in (
-      (spends_no_more solver_manner c.args.variance (term_in s g.T.Relate.over g.T.HasTree.tree c.args.lhs)
-          (term_in s g.T.Relate.over g.T.HasTree.tree c.args.rhs) (term_in d g.T.Relate.over g.T.HasTree.tree) tt is pair
-          u one c.relate_in-related.result.0 c.relate_in-related.ensures.related).0,
-      tt,
-    )
-
-pub returns-in_err-related-clause-enough : goal.returns-in_err-related-clause-enough
-returns-in_err-related-clause-enough g c = λ is pair u one.
-    let s = g.Infcx.InferCtxtLike.state c.args.infcx.now in
-    let d = g.Infcx.InferCtxtLike.state c.relate_in-related.new.infcx in
-    let f = c.in_err-related.field-0.0 in
-    let z = spends_no_more solver_manner c.args.variance (term_in s g.T.Relate.over g.T.HasTree.tree c.args.lhs)
-    (term_in s g.T.Relate.over g.T.HasTree.tree c.args.rhs) (term_in d g.T.Relate.over g.T.HasTree.tree) tt is pair u one
-    c.relate_in-related.result.0 c.relate_in-related.ensures.related in (
-      z.0,
-      spent_as ((s.store).budget < all_unbound s.store) c.relate_in-related.result.0 c.from_residual.result f
-          c.in_err-related.was (as_err c.from_residual.result f c.from_residual.ensures.0 c.from_residual.ensures.1) z.1,
-    )
-
-pub returns-then-eq-clause-rest : goal.returns-then-eq-clause-rest
-returns-then-eq-clause-rest g c = record { setup = refl; outliving = refl }
-
-pub returns-in_err-related-clause-rest : goal.returns-in_err-related-clause-rest
-returns-in_err-related-clause-rest g c =
-    keeps_beside c.args.aliases (g.Infcx.InferCtxtLike.state c.args.infcx.now)
-    (g.Infcx.InferCtxtLike.state c.relate_in-related.new.infcx) _ _ ((c.relate_in-related.ensures.related).passes).kept
-
-pub returns-clause-rest : goal.returns-clause-rest
-returns-clause-rest g c =
-    keeps_beside c.args.aliases (g.Infcx.InferCtxtLike.state c.args.infcx.now)
-    (g.Infcx.InferCtxtLike.state c.relate_in-related.new.infcx) _ _ ((c.relate_in-related.ensures.related).passes).kept
-
-pub returns-then-eq-clause-built : goal.returns-then-eq-clause-built
-returns-then-eq-clause-built g c =
-    let s = g.Infcx.InferCtxtLike.state c.args.infcx.now in
-    let a = term_in s g.T.Relate.over g.T.HasTree.tree c.args.lhs in
-    let b = term_in s g.T.Relate.over g.T.HasTree.tree c.args.rhs in
-    subst (λ gs. StaysBuilt s.store s.store (goals_of s.meaning gs) a b) (sym c.new.ensures.items) (built_itself s.store a b)
-
-pub returns-in_err-related-clause-built : goal.returns-in_err-related-clause-built
-returns-in_err-related-clause-built g c =
-    let f = c.in_err-related.field-0.0 in
-    let related = c.relate_in-related.ensures.related in
-    refused_built g.Infcx.InferCtxtLike.state c.args.infcx.now c.relate_in-related.new.infcx g.T.Relate.over g.T.HasTree.tree
-    c.args.lhs c.args.rhs f c.from_residual.result
-    (as_err c.from_residual.result f c.from_residual.ensures.0 c.from_residual.ensures.1) (related.passes).added
-    related.built
-
-pub returns-clause-built : goal.returns-clause-built
-returns-clause-built g c =
-    let s = g.Infcx.InferCtxtLike.state c.args.infcx.now in
-    let d = g.Infcx.InferCtxtLike.state c.relate_in-related.new.infcx in
-    let a = term_in s g.T.Relate.over g.T.HasTree.tree c.args.lhs in
-    let b = term_in s g.T.Relate.over g.T.HasTree.tree c.args.rhs in
-    let related = c.relate_in-related.ensures.related in
-    subst (λ gs. StaysBuilt s.store d.store gs a b) (sym (related.passes).lengthens) related.built
-
--- A budget that is spent says that nothing is left of it, and that a variable stands in one of the two.
-pub returns-in_err-related-clause-spent : goal.returns-in_err-related-clause-spent
-returns-in_err-related-clause-spent g c =
-    let f = c.in_err-related.field-0.0 in
-    let s = g.Infcx.InferCtxtLike.state c.args.infcx.now in
-    let d = g.Infcx.InferCtxtLike.state c.relate_in-related.new.infcx in
-    let a = term_in s g.T.Relate.over g.T.HasTree.tree c.args.lhs in
-    let b = term_in s g.T.Relate.over g.T.HasTree.tree c.args.rhs in
-    needs_as ((d.store).budget ≡ 0) c.from_residual.result f
-    (as_err c.from_residual.result f c.from_residual.ensures.0 c.from_residual.ensures.1)
-    (λ e. (budget_verdict solver_manner c.args.variance a b (term_in d g.T.Relate.over g.T.HasTree.tree)
-    c.relate_in-related.result.0 (c.in_err-related.was ∙ ap Err e) c.relate_in-related.ensures.related).0)
-
 pub returns-in_err-related-clause-needs : goal.returns-in_err-related-clause-needs
 returns-in_err-related-clause-needs g c =
     let f = c.in_err-related.field-0.0 in
@@ -339,3 +264,123 @@ returns-in_err-related-clause-needs g c =
     (as_err c.from_residual.result f c.from_residual.ensures.0 c.from_residual.ensures.1)
     (λ e. (budget_verdict solver_manner c.args.variance a b (term_in d g.T.Relate.over g.T.HasTree.tree)
     c.relate_in-related.result.0 (c.in_err-related.was ∙ ap Err e) c.relate_in-related.ensures.related).1)
+
+-- Two that were related are, and what was registered is answered.
+pub returns-clause-both : goal.returns-clause-both
+returns-clause-both g c =
+    let s = g.Infcx.InferCtxtLike.state c.args.infcx.now in
+    let d = g.Infcx.InferCtxtLike.state c.relate_in-related.new.infcx in
+    let k = c.requires.can in
+    let e = c.args.param_env in
+    let v = c.args.variance in
+    let a = term_in s g.T.Relate.over g.T.HasTree.tree c.args.lhs in
+    let b = term_in s g.T.Relate.over g.T.HasTree.tree c.args.rhs in
+    let tree = term_in d g.T.Relate.over g.T.HasTree.tree in
+    let hs = c.relate_in-related.result.1.items in
+    let was = solving_in c.args.aliases [] s v e in
+    let then = solving_in c.args.aliases hs d v e in
+    let related = subst (λ z. Related solver_manner was then v a b tree z) c.in_ok-related.was c.relate_in-related.ensures.related in
+    record {
+      sound = answers_goals s.meaning d.meaning s.store d.store s.lawful d.lawful v e a b tree hs c.in_ok-related.field-0 related;
+      agrees = relates_agreeing s.meaning d.meaning s.store d.store s.lawful d.lawful v e a b tree hs c.in_ok-related.field-0 related;
+    }
+
+pub returns-clause-loses_none : goal.returns-clause-loses_none
+returns-clause-loses_none g c =
+    let s = g.Infcx.InferCtxtLike.state c.args.infcx.now in
+    let d = g.Infcx.InferCtxtLike.state c.relate_in-related.new.infcx in
+    let k = c.requires.can in
+    let e = c.args.param_env in
+    let v = c.args.variance in
+    let a = term_in s g.T.Relate.over g.T.HasTree.tree c.args.lhs in
+    let b = term_in s g.T.Relate.over g.T.HasTree.tree c.args.rhs in
+    let tree = term_in d g.T.Relate.over g.T.HasTree.tree in
+    let hs = c.relate_in-related.result.1.items in
+    let was = solving_in c.args.aliases [] s v e in
+    let then = solving_in c.args.aliases hs d v e in
+    let related = subst (λ z. Related solver_manner was then v a b tree z) c.in_ok-related.was c.relate_in-related.ensures.related in
+    record {
+      keeps = keeps_equal s.meaning d.meaning s.store d.store s.lawful d.lawful v e a b tree hs c.in_ok-related.field-0 related;
+      most_general = λ is pair.
+          let o = subst (ExactResult s.store d.store a b) c.in_ok-related.was
+          ((c.relate_in-related.ensures.related).exact tt is pair) in
+          let none = no_goals_exactly s.meaning d.meaning s.store d.store s.lawful d.lawful v e a b tree hs c.relate_in-related.result.0 is
+          pair c.relate_in-related.ensures.related in
+          (o.1, o.0, o.2, none);
+    }
+
+pub returns-clause-fault : goal.returns-clause-fault
+returns-clause-fault g c =
+    let s = g.Infcx.InferCtxtLike.state c.args.infcx.now in
+    let d = g.Infcx.InferCtxtLike.state c.relate_in-related.new.infcx in
+    let k = c.requires.can in
+    let v = c.args.variance in
+    let a = term_in s g.T.Relate.over g.T.HasTree.tree c.args.lhs in
+    let b = term_in s g.T.Relate.over g.T.HasTree.tree c.args.rhs in
+    let tree = term_in d g.T.Relate.over g.T.HasTree.tree in
+    record {
+      apart = tt;
+      no_unifier = tt;
+      errors = tt;
+      fault_known = tt;
+      spent = tt;
+      budget_suffices = λ is pair u one. ((spends_no_more solver_manner v a b tree tt is pair u one
+          c.relate_in-related.result.0 c.relate_in-related.ensures.related).0, tt);
+    }
+
+pub returns-clause-asks : goal.returns-clause-asks
+returns-clause-asks g c =
+    let s = g.Infcx.InferCtxtLike.state c.args.infcx.now in
+    let d = g.Infcx.InferCtxtLike.state c.relate_in-related.new.infcx in
+    let k = c.requires.can in
+    let e = c.args.param_env in
+    let v = c.args.variance in
+    let a = term_in s g.T.Relate.over g.T.HasTree.tree c.args.lhs in
+    let b = term_in s g.T.Relate.over g.T.HasTree.tree c.args.rhs in
+    let tree = term_in d g.T.Relate.over g.T.HasTree.tree in
+    let hs = c.relate_in-related.result.1.items in
+    let was = solving_in c.args.aliases [] s v e in
+    let then = solving_in c.args.aliases hs d v e in
+    let related = subst (λ z. Related solver_manner was then v a b tree z) c.in_ok-related.was c.relate_in-related.ensures.related in
+    record {
+      goals = registers_goals s.meaning d.meaning s.store d.store s.lawful d.lawful v e a b tree hs
+          c.relate_in-related.result.0 (k.lawful, none_held c.args.aliases 0 s [] e)
+          (k.env_known, All-nil (KnowsGoal s.meaning)) c.relate_in-related.ensures.related;
+      asked = λ bare. adds_just_asked s.meaning d.meaning s.store d.store s.lawful d.lawful v e a b tree hs c.in_ok-related.field-0 refl bare related;
+      same = λ e. absurd (false≢true (c.if-eq.ensures
+          ∙ one_equal (g.met.Infcx.InferCtxtLike.reads c.args.infcx.now) g.T.Relate.over g.T.HasTree.tree
+          g.T.PartialEq.eq (g.met.T.Relate.same (g.Infcx.InferCtxtLike.interner c.args.infcx.now)) c.args.lhs c.args.rhs
+          k.lhs_known k.rhs_known e));
+    }
+
+pub returns-clause-leaves : goal.returns-clause-leaves
+returns-clause-leaves g c =
+    let s = g.Infcx.InferCtxtLike.state c.args.infcx.now in
+    let d = g.Infcx.InferCtxtLike.state c.relate_in-related.new.infcx in
+    let k = c.requires.can in
+    let e = c.args.param_env in
+    let a = term_in s g.T.Relate.over g.T.HasTree.tree c.args.lhs in
+    let b = term_in s g.T.Relate.over g.T.HasTree.tree c.args.rhs in
+    let related = c.relate_in-related.ensures.related in
+    let lawful = ((related.passes).lawful ((k.lawful, none_held c.args.aliases 0 s [] e), (k.env_known, All-nil (KnowsGoal s.meaning)))).0.0 in
+    record {
+      later = ((related.passes).goes).later;
+      store_sound = g.met.Infcx.InferCtxtLike.sound c.relate_in-related.new.infcx lawful;
+      lawful = lawful;
+      grown = (related.passes).extends;
+      frame = keeps_beside c.args.aliases s d _ _ (related.passes).kept;
+      new_variables = makes_to_instantiate (related.passes).added a b (related.passes).goes related.full related.built;
+      no_new_forms = subst (λ gs. StaysBuilt s.store d.store gs a b) (sym (related.passes).lengthens) related.built;
+      budget = pays (related.passes).goes;
+    }
+
+pub returns-clause-alone : goal.returns-clause-alone
+returns-clause-alone g c =
+    let s = g.Infcx.InferCtxtLike.state c.args.infcx.now in
+    answered_alone_in c.args.aliases g.Infcx.InferCtxtLike.state c.args.infcx.now c.relate_in-related.new.infcx
+    g.T.Relate.over g.T.HasTree.tree c.args.param_env c.args.variance c.args.lhs c.args.rhs c.relate_in-related.result.1
+    c.in_ok-related.field-0
+    (subst (RelatesAlone solver_manner (solving_in c.args.aliases [] s c.args.variance c.args.param_env)
+    (solving_in c.args.aliases c.relate_in-related.result.1.items (g.Infcx.InferCtxtLike.state c.relate_in-related.new.infcx)
+    c.args.variance c.args.param_env) c.args.variance (term_in s g.T.Relate.over g.T.HasTree.tree c.args.lhs)
+    (term_in s g.T.Relate.over g.T.HasTree.tree c.args.rhs)) c.in_ok-related.was c.relate_in-related.ensures.registers)

@@ -14,15 +14,15 @@ returns-clause-complete g c =
     let k = c.relate_as.ensures in
     let sorted = subst Sorted (sym (g.met.Infcx.InferCtxtLike.reads d))
     (g.met.Infcx.Interner.Interner.sorted (g.Infcx.InferCtxtLike.interner d)) in
-    completes g.Infcx.InferCtxtLike.state c.args.self.now d g.T.Relate.over g.T.HasTree.tree sorted k.sound k.grown
-    k.rest.setup (g.met.Infcx.InferCtxtLike.sound c.args.self.now c.requires.lawful) Yes c.args.param_env Invariant c.args.lhs
-    c.args.rhs c.relate_as.result k.needs k.agrees k.errors
+    completes g.Infcx.InferCtxtLike.state c.args.self.now d g.T.Relate.over g.T.HasTree.tree sorted k.leaves.store_sound k.leaves.grown
+    k.leaves.frame.setup (g.met.Infcx.InferCtxtLike.sound c.args.self.now c.requires.can.lawful) Yes c.args.param_env Invariant c.args.lhs
+    c.args.rhs c.relate_as.result k.needs k.both.agrees k.fault.errors
 
 pub returns-clause-closed : goal.returns-clause-closed
 returns-clause-closed g c =
     let k = c.relate_as.ensures in
     leaves_closed g.Infcx.InferCtxtLike.state c.args.self.now c.relate_as.new.infcx g.T.Relate.over g.T.HasTree.tree
-    c.args.lhs c.args.rhs (g.met.Infcx.InferCtxtLike.sound c.args.self.now c.requires.lawful) c.relate_as.result k.built
+    c.args.lhs c.args.rhs (g.met.Infcx.InferCtxtLike.sound c.args.self.now c.requires.can.lawful) c.relate_as.result k.leaves.no_new_forms
     k.needs
 
 pub returns-clause-no_goals : goal.returns-clause-no_goals
@@ -30,10 +30,10 @@ returns-clause-no_goals g c =
     let k = c.relate_as.ensures in
     let s = g.Infcx.InferCtxtLike.state c.args.self.now in
     asks_nothing g.Infcx.InferCtxtLike.state c.args.self.now c.relate_as.new.infcx g.T.Relate.over g.T.HasTree.tree
-    c.args.lhs c.args.rhs (solver_settings Yes s.setup) c.args.param_env Invariant (g.met.Infcx.InferCtxtLike.sound c.args.self.now c.requires.lawful)
-    c.relate_as.result k.built k.goals
+    c.args.lhs c.args.rhs (solver_settings Yes s.setup) c.args.param_env Invariant (g.met.Infcx.InferCtxtLike.sound c.args.self.now c.requires.can.lawful)
+    c.relate_as.result k.leaves.no_new_forms k.asks.goals
 
 pub returns-clause-met : goal.returns-clause-met
 returns-clause-met g c =
     related_where_asked g.Infcx.InferCtxtLike.state c.args.self.now c.relate_as.new.infcx g.T.Relate.over
-    g.T.HasTree.tree Yes c.args.param_env Invariant c.args.lhs c.args.rhs c.relate_as.result c.relate_as.ensures.agrees
+    g.T.HasTree.tree Yes c.args.param_env Invariant c.args.lhs c.args.rhs c.relate_as.result c.relate_as.ensures.both.agrees

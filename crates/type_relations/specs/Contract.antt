@@ -1,0 +1,101 @@
+-- What relating two values in a context asks and promises, by topic: a field is a promise, in the words of `Relating`.
+use Rattle.std.specs.Prelude.{◌≡◌, ◌≢◌, Option, IfErr, Result}
+use Rattle.std.specs.Global.{Vec}
+use Rattle.term_enums.specs.declared.Variance.{Variance}
+use Rattle.term_enums.specs.declared.Variance.TheVariants.{Bivariant}
+use Rattle.term_enums.specs.declared.StructurallyRelateAliases.{StructurallyRelateAliases}
+use Rattle.relation_terms.specs.declared.terms.goal.Goal.{Goal}
+use Rattle.relation_terms.specs.declared.terms.keys.PredicateKey.{PredicateKey}
+use Rattle.relation_terms.specs.declared.terms.keys.ParamEnvKey.{ParamEnvKey}
+use Rattle.relation_terms.specs.Heads.{Head}
+use Rattle.relation_terms.specs.Trees.{Tree}
+use Rattle.relation_terms.specs.Meaning.{Meaning, Extends}
+use Rattle.relation_folds.specs.declared.error.RelateFault.{RelateFault}
+use Rattle.relation_folds.specs.Faults.{KnowsFault, IfSpent}
+use Rattle.relation_semantics.specs.Stores.{IsSound}
+use Rattle.relation_semantics.specs.Steps.{IsLater}
+use Rattle.relation_semantics.specs.Contexts.{Context, KnowsEnv, SpendsByBinding}
+use Rattle.relation_semantics.specs.ContextCalls.{KeepsBeside}
+use Rattle.context_relation.specs.Relating.{KnowsTerm, TakesTerm, HasTerm, AreOne, Idle, AnswersOnly, AnswersTerms}
+use Rattle.context_relation.specs.Relating.{KeepsEqual, TellsApart, AnswersError, RelatesAgreeing, AnswersExactly}
+use Rattle.context_relation.specs.Relating.{ProvesApart, SpendsNoMore, MakesToRelate, BuildsNoMore}
+use Rattle.context_relation.specs.Completing.{JustAsked}
+
+-- What is asked of two values in a context, of which `tree` says what is related, and `Fits` that two lists have as
+-- many arguments.
+module _ {Key Id Name A : Type 0} (c : Context Key Id Name) (over : Option Head) (tree : Meaning Key Id Name → A → Tree)
+    (Fits : Meaning Key Id Name → A → A → Type 0) where
+  -- They may be related at a variance, in an environment.
+  pub record CanRelate (e : ParamEnvKey Key) (v : Variance) (a b : A) : Type 0 where
+    -- The context is lawful, and the variance says how they are related.
+    pub lawful : c.lawful
+    pub decides : v ≢ Bivariant
+    -- The interner knows the environment and both.
+    pub env_known : KnowsEnv c e
+    pub lhs_known : KnowsTerm c over tree a
+    pub rhs_known : KnowsTerm c over tree b
+    -- Two lists have as many arguments.
+    pub fits : Fits c.meaning a b
+    -- Their binders bind by their lists.
+    pub lhs_taken : TakesTerm c over tree a
+    pub rhs_taken : TakesTerm c over tree b
+    -- Both are the context's: their variables are, and nothing in them is of a later universe or escapes a binder.
+    pub lhs_in : HasTerm c over tree a
+    pub rhs_in : HasTerm c over tree b
+
+-- What is promised between what a context is before the call and after it, which `state` shows.
+module _ {S Key Id Name A : Type 0} (state : S → Context Key Id Name) (old new : S) (over : Option Head)
+    (tree : Meaning Key Id Name → A → Tree) where
+  -- Where two are related: what `Ok` says of the two.
+  pub record RelatesBoth (g : StructurallyRelateAliases) (e : ParamEnvKey Key) (v : Variance) (a b : A)
+      (result : Result (Vec (Goal Key (PredicateKey Key))) (RelateFault Key Id Name)) : Type 0 where
+    -- What satisfies the record after and makes the goals true relates the two.
+    pub sound : AnswersTerms state old new over tree e v a b result
+    -- Nothing in the two clashes.
+    pub agrees : RelatesAgreeing state old new over tree g v a b result
+
+  -- No solution is lost.
+  pub record LosesNone (v : Variance) (a b : A)
+      (result : Result (Vec (Goal Key (PredicateKey Key))) (RelateFault Key Id Name)) : Type 0 where
+    -- What made the two one before extends to what satisfies the record after and makes the goals true.
+    pub keeps : KeepsEqual state old new over tree a b result
+    -- Of first-order terms just the solutions that unify the two stay, up to erasure.
+    pub most_general : AnswersExactly state old new over tree v a b result
+
+  -- A fault is true.
+  pub record FaultIsTrue (g : StructurallyRelateAliases) (v : Variance) (a b : A)
+      (result : Result (Vec (Goal Key (PredicateKey Key))) (RelateFault Key Id Name)) : Type 0 where
+    -- A type error says that nothing made the two one, and of first-order terms that nothing unified them.
+    pub apart : TellsApart state old new over tree a b result
+    pub no_unifier : ProvesApart state old new over tree v a b result
+    -- It is an error of the two, or of two parts at one place, and the interner knows it.
+    pub errors : AnswersError state old new over tree g v a b result
+    pub fault_known : IfErr result (λ f. KnowsFault (state new).meaning f)
+    -- `Budget` comes where none is left, and of first-order terms never with one for each variable.
+    pub spent : IfSpent result ((state new).store.budget ≡ 0)
+    pub budget_suffices : SpendsNoMore state old new over tree v a b result
+
+  -- Nothing is asked for but what the two ask for.
+  pub record AsksOnly (g : StructurallyRelateAliases) (e : ParamEnvKey Key) (v : Variance) (a b : A)
+      (result : Result (Vec (Goal Key (PredicateKey Key))) (RelateFault Key Id Name)) : Type 0 where
+    -- Only goals that relating registers are answered.
+    pub goals : AnswersOnly state old new g e v result
+    -- Of two bare terms just what they ask for is recorded and answered.
+    pub asked : JustAsked state old new over tree g e v a b result
+    -- Of two that are one nothing is.
+    pub same : AreOne (state old) over tree a b → Idle state old new result
+
+  -- What is left: all that was recorded, and what is made, bound and spent.
+  pub record LeavesRest (a b : A)
+      (result : Result (Vec (Goal Key (PredicateKey Key))) (RelateFault Key Id Name)) : Type 0 where
+    -- What was recorded stands, and what is satisfied after was before; the record is sound and the context lawful.
+    pub later : IsLater (state old).store (state new).store
+    pub store_sound : IsSound (state new).store
+    pub lawful : (state new).lawful
+    -- The interner's keys keep their meanings; how the context was made stands.
+    pub grown : Extends (state old).meaning (state new).meaning
+    pub frame : KeepsBeside (state old) (state new)
+    -- Which variables are made, of what all is built that is bound and answered, and what that spends.
+    pub new_variables : MakesToRelate state old new over tree a b
+    pub no_new_forms : BuildsNoMore state old new over tree a b result
+    pub budget : SpendsByBinding (state old) (state new)
