@@ -78,8 +78,12 @@ returns-then-eq-clause-loses_none g c =
               (All-nil (MakesOneTree i)),
         ),
       );
-      most_general = λ is pair. (exact_itself s.store a b one, pair.bindings, (λ u p. (p.variables, omega arith)),
-          c.new.ensures.items);
+      most_general = λ is pair. (
+        exact_itself s.store a b one,
+        pair.bindings,
+        (λ u p. (p.variables, omega arith)),
+        c.new.ensures.items,
+      );
     }
 
 pub returns-then-eq-clause-fault : goal.returns-then-eq-clause-fault
@@ -324,8 +328,11 @@ returns-clause-fault g c =
       errors = tt;
       fault_known = tt;
       spent = tt;
-      budget_suffices = λ is pair u one. ((spends_no_more solver_manner v a b tree tt is pair u one
-          c.relate_in-related.result.0 c.relate_in-related.ensures.related).0, tt);
+      budget_suffices = λ is pair u one. (
+        (spends_no_more solver_manner v a b tree tt is pair u one
+            c.relate_in-related.result.0 c.relate_in-related.ensures.related).0,
+        tt,
+      );
     }
 
 pub returns-clause-asks : goal.returns-clause-asks
