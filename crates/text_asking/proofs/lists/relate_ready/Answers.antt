@@ -10,8 +10,8 @@ use Rattle.text_asking.proofs.AskingLemmas.{one_ready, as_arguments, asked_left,
 use Rattle.text_asking.proofs.lists.relate_ready.Goals as goal
 
 -- Neither list changes while the interner grows, and both are as ready as they were.
-pub relate-requires-clause-can : goal.relate-requires-clause-can
-relate-requires-clause-can g c =
+pub relate-requires : goal.relate-requires
+relate-requires g c =
     let m = g.I.Interner.meaning c.args.ctx.now.interner in
     let n = g.I.Interner.meaning c.empty_param_env.new.self in
     let e : Extends m n = extends_on c.have_variables.ensures.grown c.empty_param_env.ensures.grown in
@@ -27,7 +27,7 @@ relate-requires-clause-can g c =
     let may = c.in_default.ensures in
     let has : Has x (both_needs a b) = subst (Has x) c.both.ensures c.in-Ok.ensures.has in
     let many : IsTrue c.are_as_many.result = (let i = c.if-not-are_as_many.false in search rules) in
-    record {
+    record { can = record {
       lawful = lawful_grows c.empty_param_env.ensures.grown x c.have_variables.ensures.lawful;
       decides = may.decides;
       env_known = search rules;
@@ -38,4 +38,4 @@ relate-requires-clause-can g c =
       rhs_taken = ((rhs.1).1 (asked_right _ _ _ _ may)).by_lists;
       lhs_in = ready_in n x a (has_left x a b has) (node arguments (n.args t)) (asked_left _ _ _ _ may) lhs;
       rhs_in = ready_in n x b (has_right x a b has) (node arguments (n.args u)) (asked_right _ _ _ _ may) rhs;
-    }
+    } }

@@ -7,8 +7,8 @@ use Rattle.text_asking.specs.Asking.{IsReady, Has}
 use Rattle.text_asking.proofs.AskingLemmas.{one_ready, asked_left, asked_right, has_left, has_right, ready_in}
 use Rattle.text_asking.proofs.question.ask_related.Goals as goal
 
-pub relate-requires-clause-can : goal.relate-requires-clause-can
-relate-requires-clause-can g c =
+pub relate-requires : goal.relate-requires
+relate-requires g c =
     let m = g.I.Interner.meaning c.args.ctx.now.interner in
     let n = g.I.Interner.meaning c.empty_param_env.new.self in
     let e : Extends m n = extends_on c.have_variables.ensures.grown c.empty_param_env.ensures.grown in
@@ -23,7 +23,7 @@ relate-requires-clause-can g c =
     let rhs = one_ready (m.ty u) (n.ty u) b (e.ty u right.0) right in
     let may = c.in_default-refusal.ensures in
     let has : Has x (both_needs a b) = subst (Has x) c.both.ensures c.in-Ok.ensures.has in
-    record {
+    record { can = record {
       lawful = lawful_grows c.empty_param_env.ensures.grown x c.have_variables.ensures.lawful;
       decides = may.decides;
       env_known = search rules;
@@ -34,4 +34,4 @@ relate-requires-clause-can g c =
       rhs_taken = ((rhs.1).1 (asked_right _ _ _ _ may)).by_lists;
       lhs_in = ready_in n x a (has_left x a b has) (n.ty t) (asked_left _ _ _ _ may) lhs;
       rhs_in = ready_in n x b (has_right x a b has) (n.ty u) (asked_right _ _ _ _ may) rhs;
-    }
+    } }

@@ -4,8 +4,8 @@ use Rattle.variable_tables.proofs.Grows.{lawful_grows}
 use Rattle.relation_rows.proofs.Related.{form_in, related_known}
 use Rattle.relation_rows.proofs.calls.relating.write_traits.Goals as goal
 
-pub relate-answer-requires-clause-can : goal.relate-answer-requires-clause-can
-relate-answer-requires-clause-can g c = record {
+pub relate-answer-requires : goal.relate-answer-requires
+relate-answer-requires g c = record { can = record {
   lawful = lawful_grows (extends_on c.empty_param_env.ensures.grown c.make_byte_ref.ensures.grown) c.in_ok-ctx.ctx.inner
       c.in_ok-ctx.ensures.lawful;
   decides = search rules;
@@ -17,7 +17,7 @@ relate-answer-requires-clause-can g c = record {
   rhs_taken = search rules;
   lhs_in = form_in _ _ c.in_ok-lhs.ensures.made _;
   rhs_in = form_in _ _ c.in_ok-lhs.ensures.made _;
-}
+} }
 
 pub write_answer-requires-clause-known : goal.write_answer-requires-clause-known
 write_answer-requires-clause-known g c =
