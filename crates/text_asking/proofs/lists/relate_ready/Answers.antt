@@ -27,15 +27,17 @@ relate-requires g c =
     let may = c.in_default.ensures in
     let has : Has x (both_needs a b) = subst (Has x) c.both.ensures c.in-Ok.ensures.has in
     let many : IsTrue c.are_as_many.result = (let i = c.if-not-are_as_many.false in search rules) in
-    record { can = record {
-      lawful = lawful_grows c.empty_param_env.ensures.grown x c.have_variables.ensures.lawful;
-      decides = may.decides;
-      env_known = search rules;
-      lhs_known = lhs.0;
-      rhs_known = rhs.0;
-      fits = ap count (e.args t h.0) ∙ c.are_as_many.ensures many ∙ sym (ap count (e.args u k.0));
-      lhs_taken = ((lhs.1).1 (asked_left _ _ _ _ may)).by_lists;
-      rhs_taken = ((rhs.1).1 (asked_right _ _ _ _ may)).by_lists;
-      lhs_in = ready_in n x a (has_left x a b has) (node arguments (n.args t)) (asked_left _ _ _ _ may) lhs;
-      rhs_in = ready_in n x b (has_right x a b has) (node arguments (n.args u)) (asked_right _ _ _ _ may) rhs;
-    } }
+    record {
+      can = record {
+        lawful = lawful_grows c.empty_param_env.ensures.grown x c.have_variables.ensures.lawful;
+        decides = may.decides;
+        env_known = search rules;
+        lhs_known = lhs.0;
+        rhs_known = rhs.0;
+        fits = ap count (e.args t h.0) ∙ c.are_as_many.ensures many ∙ sym (ap count (e.args u k.0));
+        lhs_taken = ((lhs.1).1 (asked_left _ _ _ _ may)).by_lists;
+        rhs_taken = ((rhs.1).1 (asked_right _ _ _ _ may)).by_lists;
+        lhs_in = ready_in n x a (has_left x a b has) (node arguments (n.args t)) (asked_left _ _ _ _ may) lhs;
+        rhs_in = ready_in n x b (has_right x a b has) (node arguments (n.args u)) (asked_right _ _ _ _ may) rhs;
+      };
+    }

@@ -23,15 +23,17 @@ relate-requires g c =
     let rhs = one_ready (m.ty u) (n.ty u) b (e.ty u right.0) right in
     let may = c.in_default-refusal.ensures in
     let has : Has x (both_needs a b) = subst (Has x) c.both.ensures c.in-Ok.ensures.has in
-    record { can = record {
-      lawful = lawful_grows c.empty_param_env.ensures.grown x c.have_variables.ensures.lawful;
-      decides = may.decides;
-      env_known = search rules;
-      lhs_known = lhs.0;
-      rhs_known = rhs.0;
-      fits = tt;
-      lhs_taken = ((lhs.1).1 (asked_left _ _ _ _ may)).by_lists;
-      rhs_taken = ((rhs.1).1 (asked_right _ _ _ _ may)).by_lists;
-      lhs_in = ready_in n x a (has_left x a b has) (n.ty t) (asked_left _ _ _ _ may) lhs;
-      rhs_in = ready_in n x b (has_right x a b has) (n.ty u) (asked_right _ _ _ _ may) rhs;
-    } }
+    record {
+      can = record {
+        lawful = lawful_grows c.empty_param_env.ensures.grown x c.have_variables.ensures.lawful;
+        decides = may.decides;
+        env_known = search rules;
+        lhs_known = lhs.0;
+        rhs_known = rhs.0;
+        fits = tt;
+        lhs_taken = ((lhs.1).1 (asked_left _ _ _ _ may)).by_lists;
+        rhs_taken = ((rhs.1).1 (asked_right _ _ _ _ may)).by_lists;
+        lhs_in = ready_in n x a (has_left x a b has) (n.ty t) (asked_left _ _ _ _ may) lhs;
+        rhs_in = ready_in n x b (has_right x a b has) (n.ty u) (asked_right _ _ _ _ may) rhs;
+      };
+    }
