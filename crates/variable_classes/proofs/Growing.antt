@@ -65,19 +65,19 @@ module _ (n : ℕ) (of next least place : ℕ → ℕ) (r : Ring n of next least
   last i h = split i h
       (λ e. let a = p_new i e in let b = p_new (of' i) (ap of' e ∙ of_new) in omega (arith, a, b))
       (λ l.
-        let a = p_old i l in
-        let b = ap place' (of_old i l) ∙ p_old (of i) (r.named i l) in
-        let c = r.last i l in
-        omega (arith, a, b, c))
+      let a = p_old i l in
+      let b = ap place' (of_old i l) ∙ p_old (of i) (r.named i l) in
+      let c = r.last i l in
+      omega (arith, a, b, c))
 
   apart : (i j : ℕ) → i < suc n → j < suc n → of' i ≡ of' j → place' i ≡ place' j → i ≡ j
   apart i j hi hj e p = split i hi
       (λ x. split j hj
-        (λ y. x ∙ sym y)
-        (λ l. absurd (let a = ap of' x ∙ of_new in let b = of_old j l in let c = r.named j l in omega (arith, e, a, b, c))))
+      (λ y. x ∙ sym y)
+      (λ l. absurd (let a = ap of' x ∙ of_new in let b = of_old j l in let c = r.named j l in omega (arith, e, a, b, c))))
       (λ k. split j hj
-        (λ y. absurd (let a = ap of' y ∙ of_new in let b = of_old i k in let c = r.named i k in omega (arith, e, a, b, c)))
-        (λ l. r.apart i j k l (sym (of_old i k) ∙ e ∙ of_old j l) (sym (p_old i k) ∙ p ∙ p_old j l)))
+      (λ y. absurd (let a = ap of' y ∙ of_new in let b = of_old i k in let c = r.named i k in omega (arith, e, a, b, c)))
+      (λ l. r.apart i j k l (sym (of_old i k) ∙ e ∙ of_old j l) (sym (p_old i k) ∙ p ∙ p_old j l)))
 
   low_new : (i : ℕ) → i ≡ n → least' (of' i) ≡ n
   low_new i e = ap least' (ap of' e ∙ of_new) ∙ least_new

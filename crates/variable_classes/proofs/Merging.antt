@@ -91,34 +91,34 @@ module _ (n : ℕ) (of next least place : ℕ → ℕ) (r : Ring n of next least
       (λ e. absurd (d (sym e ∙ sym own ∙ led_f i h (ap of e ∙ f_own))))
       (λ e. ap place' (ap next' e ∙ next_into) ∙ p_other (next from) (λ z. d (sym after_from ∙ z)) ∙ r.first from f_in f_own)
       (λ o q. split (of i)
-        (λ e. absurd (q (sym own ∙ led_f i h e)))
-        (λ e. absurd (q (sym own ∙ led_i i h e)))
-        (λ o' q'. ap place' (next_other i h o q) ∙ p_other (next i) (λ z. q' (sym (r.stays i h) ∙ z)) ∙ r.first i h (sym (led_o i h o') ∙ own)))
+      (λ e. absurd (q (sym own ∙ led_f i h e)))
+      (λ e. absurd (q (sym own ∙ led_i i h e)))
+      (λ o' q'. ap place' (next_other i h o q) ∙ p_other (next i) (λ z. q' (sym (r.stays i h) ∙ z)) ∙ r.first i h (sym (led_o i h o') ∙ own)))
 
   goes_on : (i : ℕ) → i < n → (of' i ≡ i → ⊥) → place' (next' i) ≡ suc (place' i)
   goes_on i h ne = split i
       (λ e.
-        let a = ap place' (ap next' e ∙ next_from) ∙ p_into (next into) after_into in
-        let b = r.first into i_in i_own in
-        let c = p_other i (λ z. d (sym (ap of e ∙ f_own) ∙ z)) ∙ ap place e in
-        omega (arith, a, b, c))
+      let a = ap place' (ap next' e ∙ next_from) ∙ p_into (next into) after_into in
+      let b = r.first into i_in i_own in
+      let c = p_other i (λ z. d (sym (ap of e ∙ f_own) ∙ z)) ∙ ap place e in
+      omega (arith, a, b, c))
       (λ e. absurd (ne (led_i i h (ap of e ∙ i_own) ∙ sym e)))
       (λ o q. let a = ap place' (next_other i h o q) in split (of i)
-        (λ e.
-          let g = r.goes_on i h (λ z. o (sym z ∙ e)) in
-          let b = p_other (next i) (λ z. d (sym (r.stays i h ∙ e) ∙ z)) in
-          let c = p_other i (λ z. d (sym e ∙ z)) in
-          omega (arith, a, b, c, g))
-        (λ e.
-          let g = r.goes_on i h (λ z. q (sym z ∙ e)) in
-          let b = p_into (next i) (r.stays i h ∙ e) in
-          let c = p_into i e in
-          omega (arith, a, b, c, g))
-        (λ o' q'.
-          let g = r.goes_on i h (λ z. ne (led_o i h o' ∙ z)) in
-          let b = p_other (next i) (λ z. q' (sym (r.stays i h) ∙ z)) in
-          let c = p_other i q' in
-          omega (arith, a, b, c, g)))
+      (λ e.
+      let g = r.goes_on i h (λ z. o (sym z ∙ e)) in
+      let b = p_other (next i) (λ z. d (sym (r.stays i h ∙ e) ∙ z)) in
+      let c = p_other i (λ z. d (sym e ∙ z)) in
+      omega (arith, a, b, c, g))
+      (λ e.
+      let g = r.goes_on i h (λ z. q (sym z ∙ e)) in
+      let b = p_into (next i) (r.stays i h ∙ e) in
+      let c = p_into i e in
+      omega (arith, a, b, c, g))
+      (λ o' q'.
+      let g = r.goes_on i h (λ z. ne (led_o i h o' ∙ z)) in
+      let b = p_other (next i) (λ z. q' (sym (r.stays i h) ∙ z)) in
+      let c = p_other i q' in
+      omega (arith, a, b, c, g)))
 
   counted : (i : ℕ) → i < n → 1 ≤ place' i
   counted i h = let k = r.counted i h in split (of i)
@@ -129,19 +129,19 @@ module _ (n : ℕ) (of next least place : ℕ → ℕ) (r : Ring n of next least
   last : (i : ℕ) → i < n → place' i ≤ place' (of' i)
   last i h = let l = r.last i h in split (of i)
       (λ e.
-        let c = p_other i (λ z. d (sym e ∙ z)) in
-        let a = ap place' (led_f i h e) ∙ p_into into i_own in
-        let p = ap place e in
-        omega (arith, c, a, p, l))
+      let c = p_other i (λ z. d (sym e ∙ z)) in
+      let a = ap place' (led_f i h e) ∙ p_into into i_own in
+      let p = ap place e in
+      omega (arith, c, a, p, l))
       (λ e.
-        let c = p_into i e in
-        let a = ap place' (led_i i h e) ∙ p_into into i_own in
-        let p = ap place e in
-        omega (arith, c, a, p, l))
+      let c = p_into i e in
+      let a = ap place' (led_i i h e) ∙ p_into into i_own in
+      let p = ap place e in
+      omega (arith, c, a, p, l))
       (λ o q.
-        let c = p_other i q in
-        let a = ap place' (led_o i h o) ∙ p_other (of i) (λ z. q (sym (r.names_itself i h) ∙ z)) in
-        omega (arith, c, a, l))
+      let c = p_other i q in
+      let a = ap place' (led_o i h o) ∙ p_other (of i) (λ z. q (sym (r.names_itself i h) ∙ z)) in
+      omega (arith, c, a, l))
 
   -- No member of the one class has the place of one of the other.
   no_meeting : (i j : ℕ) → i < n → j < n → of i ≡ from → of j ≡ into → place' i ≡ place' j → ⊥
@@ -156,17 +156,17 @@ module _ (n : ℕ) (of next least place : ℕ → ℕ) (r : Ring n of next least
   apart : (i j : ℕ) → i < n → j < n → of' i ≡ of' j → place' i ≡ place' j → i ≡ j
   apart i j hi hj e p = split (of i)
       (λ x. split (of j)
-        (λ y. r.apart i j hi hj (x ∙ sym y) (sym (p_other i (λ z. d (sym x ∙ z))) ∙ p ∙ p_other j (λ z. d (sym y ∙ z))))
-        (λ y. absurd (no_meeting i j hi hj x y p))
-        (λ o q. absurd (q (sym (led_o j hj o) ∙ sym e ∙ led_f i hi x))))
+      (λ y. r.apart i j hi hj (x ∙ sym y) (sym (p_other i (λ z. d (sym x ∙ z))) ∙ p ∙ p_other j (λ z. d (sym y ∙ z))))
+      (λ y. absurd (no_meeting i j hi hj x y p))
+      (λ o q. absurd (q (sym (led_o j hj o) ∙ sym e ∙ led_f i hi x))))
       (λ x. split (of j)
-        (λ y. absurd (no_meeting j i hj hi y x (sym p)))
-        (λ y. r.apart i j hi hj (x ∙ sym y) (let a = p_into i x in let b = p_into j y in omega (arith, p, a, b)))
-        (λ o q. absurd (q (sym (led_o j hj o) ∙ sym e ∙ led_i i hi x))))
+      (λ y. absurd (no_meeting j i hj hi y x (sym p)))
+      (λ y. r.apart i j hi hj (x ∙ sym y) (let a = p_into i x in let b = p_into j y in omega (arith, p, a, b)))
+      (λ o q. absurd (q (sym (led_o j hj o) ∙ sym e ∙ led_i i hi x))))
       (λ o q. split (of j)
-        (λ y. absurd (q (sym (led_o i hi o) ∙ e ∙ led_f j hj y)))
-        (λ y. absurd (q (sym (led_o i hi o) ∙ e ∙ led_i j hj y)))
-        (λ o' q'. r.apart i j hi hj (sym (led_o i hi o) ∙ e ∙ led_o j hj o') (sym (p_other i q) ∙ p ∙ p_other j q')))
+      (λ y. absurd (q (sym (led_o i hi o) ∙ e ∙ led_f j hj y)))
+      (λ y. absurd (q (sym (led_o i hi o) ∙ e ∙ led_i j hj y)))
+      (λ o' q'. r.apart i j hi hj (sym (led_o i hi o) ∙ e ∙ led_o j hj o') (sym (p_other i q) ∙ p ∙ p_other j q')))
 
   low_f : (i : ℕ) → i < n → of i ≡ from → least' (of' i) ≡ min (least from) (least into)
   low_f i h e = ap least' (led_f i h e) ∙ least_into
@@ -207,8 +207,8 @@ module _ (n : ℕ) (of next least place : ℕ → ℕ) (r : Ring n of next least
       (λ e. ap of' (low_f i h e) ∙ of_lower ∙ sym (led_f i h e))
       (λ e. ap of' (low_i i h e) ∙ of_lower ∙ sym (led_i i h e))
       (λ o q. ap of' (low_o i h o q)
-        ∙ led_o (least (of i)) (let l = r.least_below i h in omega (arith, l, h)) (λ z. o (sym (r.least_in i h) ∙ z))
-        ∙ r.least_in i h ∙ sym (led_o i h o))
+      ∙ led_o (least (of i)) (let l = r.least_below i h in omega (arith, l, h)) (λ z. o (sym (r.least_in i h) ∙ z))
+      ∙ r.least_in i h ∙ sym (led_o i h o))
 
   pub merged : Ring n of' next' least' place'
   merged = record {
@@ -237,8 +237,8 @@ module _ (n : ℕ) (of next least place : ℕ → ℕ) (r : Ring n of next least
       least' (of' i) ≡ led_root (max (least from) (least into)) (min (least from) (least into)) (least (of i))
   merged_root i h = split (of i)
       (λ e. low_f i h e ∙ sym (lower_by_first (least from) (least into))
-        ∙ ap (led_root (max (least from) (least into)) (min (least from) (least into))) (ap least (sym e)))
+      ∙ ap (led_root (max (least from) (least into)) (min (least from) (least into))) (ap least (sym e)))
       (λ e. low_i i h e ∙ sym (lower_by_second (least from) (least into))
-        ∙ ap (led_root (max (least from) (least into)) (min (least from) (least into))) (ap least (sym e)))
+      ∙ ap (led_root (max (least from) (least into)) (min (least from) (least into))) (ap least (sym e)))
       (λ o q. low_o i h o q
-        ∙ sym (led_other (max (least from) (least into)) (min (least from) (least into)) (least (of i)) (other_least i h o q)))
+      ∙ sym (led_other (max (least from) (least into)) (min (least from) (least into)) (least (of i)) (other_least i h o q)))

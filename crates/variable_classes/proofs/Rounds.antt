@@ -108,7 +108,7 @@ module _ (ms : List Member) (r : AreRings ms) (from into : ℕ) (f_in : from < l
       by i h = root_at_zero ys i (let b = long in omega (arith, b, h))
           ∙ merging.merged_root (length ms) (of_at ms) (next_at ms) (least_at ms) r.place r.ring from into f_in i_in f_own i_own d (of_at ys) (next_at ys) (least_at ys) of_led next_from next_into next_other least_into least_other i h
           ∙ sym (get_or-map (led_root (max (least_at ms from) (least_at ms into)) (min (least_at ms from) (least_at ms into))) (roots_of ms) i 0 0 (let a = roots_long ms in omega (arith, a, h))
-            ∙ ap (led_root (max (least_at ms from) (least_at ms into)) (min (least_at ms from) (least_at ms into))) (root_at_zero ms i h))
+          ∙ ap (led_root (max (least_at ms from) (least_at ms into)) (min (least_at ms from) (least_at ms into))) (root_at_zero ms i h))
 
 -- The same whichever comes first, and nothing new where both are one.
 pub lowered_turned : (r s : ℕ) (rs : List ℕ) → lowered_roots r s rs ≡ lowered_roots s r rs

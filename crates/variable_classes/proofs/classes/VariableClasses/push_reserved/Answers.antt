@@ -11,6 +11,8 @@ invariant_of-self c =
 pub returns : goal.returns
 returns c =
     let n : c.len-number.result ≡ length c.self.inside.members.items = c.len-number.ensures ∙ c.self.inside.members.ok.0 in
-    record { items = grown_roots c.self.inside.members.items c.push_reserved.new.self.items c.alone.result c.self.invariant c.push_reserved.ensures.items
-    (ap (λ m. m.of) c.alone.ensures ∙ n) (ap (λ m. m.next) c.alone.ensures ∙ n) (ap (λ m. m.least) c.alone.ensures ∙ n)
-    ∙ ap (λ v. v.items ++ length v.items ∷ []) c.self.view_is }
+    record {
+      items = grown_roots c.self.inside.members.items c.push_reserved.new.self.items c.alone.result c.self.invariant c.push_reserved.ensures.items
+          (ap (λ m. m.of) c.alone.ensures ∙ n) (ap (λ m. m.next) c.alone.ensures ∙ n) (ap (λ m. m.least) c.alone.ensures ∙ n)
+          ∙ ap (λ v. v.items ++ length v.items ∷ []) c.self.view_is;
+    }
