@@ -123,7 +123,7 @@ fn make_slice<C: InferCtxtLike>(
 fn first_int_is_root<I: Interner>(ctx: &RefCtxt<I>) -> bool
     requires { IsLawful (I.meaning ctx.now.interner) ctx.now.inner }
 {
-    if ctx.inner.ints.is_empty() {
+    if !ctx.inner.ints.has(0) {
         return false;
     }
     ctx.root_int_var(IntVid(0)) == IntVid(0)
@@ -133,7 +133,7 @@ fn first_int_is_root<I: Interner>(ctx: &RefCtxt<I>) -> bool
 fn first_float_is_root<I: Interner>(ctx: &RefCtxt<I>) -> bool
     requires { IsLawful (I.meaning ctx.now.interner) ctx.now.inner }
 {
-    if ctx.inner.floats.is_empty() {
+    if !ctx.inner.floats.has(0) {
         return false;
     }
     ctx.root_float_var(FloatVid(0)) == FloatVid(0)
