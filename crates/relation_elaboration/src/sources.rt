@@ -72,7 +72,7 @@ impl<'a, I: Interner> ClauseSource<I> for Elaborator<'a, I, ClauseKey<I::Key>> {
 }
 
 /// The trait references of the trait clauses of a source, of any polarity, under their binders: it passes over all
-/// other clauses. A fault of the source is yielded.
+/// other clauses. A fault of the source is yielded. `size_hint` may leave out an upper bound that the source's has.
 #[derive(Drop)]
 pub struct FilterToTraits<I: Interner, It: ClauseSource<I>> {
     base_iterator: It,

@@ -11,7 +11,8 @@ use crate::fold::TypeFolder;
 use delayed_map::CACHE_CUTOFF;
 use relation_terms::terms::{Interner, OutOfMemory, Part, PartOf};
 use std::collections::HashMap;
-use std::hash::Hash;
+use std::hash::{BuildHasherDefault, Hash};
+use term_enums::hashing::KeyHasher;
 
 /// A part at a depth: of which sort it is, its key, and how many binders stand around it.
 #[derive(Clone, Copy, PartialEq, Eq, Hash)]
@@ -25,7 +26,7 @@ pub struct Place<X> {
 /// would hash.
 #[derive(Drop)]
 pub struct Memory<X: Eq + Hash, D> {
-    pub made: HashMap<Place<X>, Part<X, D>>,
+    pub made: HashMap<Place<X>, Part<X, D>, BuildHasherDefault<KeyHasher>>,
     pub let_go: u32,
 }
 
@@ -53,7 +54,7 @@ pub fn nothing<I: Interner>(cx: &I) -> Memory<I::Key, I::Id>
     ensures { IsEmpty result.made }
 {
     Memory {
-        made: HashMap::new(cx.alloc()),
+        made: HashMap::with_hasher(cx.alloc(), BuildHasherDefault::new()),
         let_go: 0,
     }
 }
