@@ -55,7 +55,7 @@ module _ {K : Type 0} (es : List (Row K)) (rs : List ℕ) (t : Table K) (is : ta
     pub reads_term : root_in rs v ≡ v → (d : Variable K) → term_or row.key row.term ≡ term_at (get_or t.items v d)
     reads_term own d =
         let value : (get_or t.items v d).value ≡ bound_value row.term =
-          sym (get_or-map (λ z. z.value) t.items v d Unknown h) ∙ reads_value ∙ value_root v (root_in rs v) row.term own in
+        sym (get_or-map (λ z. z.value) t.items v d Unknown h) ∙ reads_value ∙ value_root v (root_in rs v) row.term own in
         let key : row.key ≡ (get_or t.items v d).key = reads_key ((get_or t.items v d).key) ∙ get_or-map (λ z. z.key) t.items v d ((get_or t.items v d).key) h in
         sym (term_is (get_or t.items v d).value value row.key) ∙ ap (λ k. term_by k (get_or t.items v d).value) key
 

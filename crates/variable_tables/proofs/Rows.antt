@@ -127,11 +127,11 @@ module _ {K : Type 0} where
         by i l (yes e) = ap (λ z. get_or (values_from 0 ts (map (led_root child root) rs)) z Unknown) e
             ∙ value_from 0 ts (map (led_root child root) rs) child child h (omega arith) ∙ at_child (get_or ts child None)
             ∙ sym (ap (λ z. get_or (set (map (led child root) (values_from 0 ts rs)) child (SameAs root)) z Unknown) e
-              ∙ get_or-set_same (map (led child root) (values_from 0 ts rs)) child (SameAs root) Unknown (let a = old_long in omega (arith, a, h)))
+            ∙ get_or-set_same (map (led child root) (values_from 0 ts rs)) child (SameAs root) Unknown (let a = old_long in omega (arith, a, h)))
         by i l (no o) = value_from 0 ts (map (led_root child root) rs) i i l (omega arith) ∙ at_other i (get_or ts i None) o
             ∙ sym (get_or-set_other (map (led child root) (values_from 0 ts rs)) child i (SameAs root) Unknown o
-              ∙ at_map (led child root) (values_from 0 ts rs) i Unknown
-              ∙ ap (led child root) (value_from 0 ts rs i i l (omega arith)))
+            ∙ at_map (led child root) (values_from 0 ts rs) i Unknown
+            ∙ ap (led child root) (value_from 0 ts rs i i l (omega arith)))
 
     -- So of a whole table, whose rows keep their keys and terms.
     module _ (es fs : List (Row K)) (qs : List ℕ) (joins : qs ≡ joined_roots child root rs) (in_rows : child < length es)
@@ -184,7 +184,7 @@ module _ {K : Type 0} where
             ∙ value_root v (root_in rs v) (get_or (set ts v (Some t)) v None) own
             ∙ ap bound_value (get_or-set_same ts v (Some t) None h)
             ∙ sym (ap (λ z. get_or (set (values_from 0 ts rs) v (Known t)) z Unknown) e
-              ∙ get_or-set_same (values_from 0 ts rs) v (Known t) Unknown (let a = values_long 0 ts rs in omega (arith, a, h)))
+            ∙ get_or-set_same (values_from 0 ts rs) v (Known t) Unknown (let a = values_long 0 ts rs in omega (arith, a, h)))
         by i l (no o) = value_from 0 (set ts v (Some t)) rs i i (let a = length-set ts v (Some t) in omega (arith, a, l)) (omega arith)
             ∙ ap (root_value i (root_in rs i)) (get_or-set_other ts v i (Some t) None o)
             ∙ sym (get_or-set_other (values_from 0 ts rs) v i (Known t) Unknown o ∙ value_from 0 ts rs i i l (omega arith))
