@@ -8,9 +8,9 @@ use Rattle.relation_folds.specs.declared.error.RelateFault.{RelateFault}
 use Rattle.relation_semantics.specs.Contexts.{Context}
 use Rattle.relation_semantics.specs.FirstOrder.{IsFirstOrderStore}
 use Rattle.relation_semantics.specs.Stores.{IsFree}
-use Rattle.relation_coherence.specs.declared.overlap.WhyApart.TheVariants.{ByForm, ByRelating}
-use Rattle.relation_coherence.specs.declared.overlap.Overlap.{Overlap}
-use Rattle.relation_coherence.specs.declared.overlap.Overlap.TheVariants.{Apart, Meets}
+use Rattle.relation_coherence.specs.declared.answer.WhyApart.TheVariants.{ByForm, ByRelating}
+use Rattle.relation_coherence.specs.declared.answer.Overlap.{Overlap}
+use Rattle.relation_coherence.specs.declared.answer.Overlap.TheVariants.{Apart, Meets}
 use Rattle.relation_coherence.specs.Bounds.{WasTooFew}
 use Rattle.relation_coherence.specs.Headers.{header_tree}
 use Rattle.relation_coherence.specs.Overlaps.{AreApart, AreApartErased, Covers, IsCommon, IsFirstOrderHeader}

@@ -4,7 +4,7 @@ ghost use Rattle.relation_semantics.specs.ContextCalls.{Grows};
 ghost use Rattle.relation_semantics.specs.Steps.{IsLater};
 ghost use Rattle.relation_coherence.specs.Headers.{KnowsHeader, TakesHeader, HasHeader, OpensHeaders};
 
-use crate::overlap::HeaderOf;
+use crate::answer::HeaderOf;
 use relation_laws::laws;
 use relation_semantics::infer_ctxt::InferCtxtLike;
 use relation_terms::terms::{GenericArgs, OutOfMemory};

@@ -8,38 +8,14 @@ ghost use Rattle.relation_coherence.specs.Headers.{IsClosedHeader, AgreeOnNames}
 ghost use Rattle.relation_coherence.specs.Answers.{TellsApart, TellsApartErased, CoversBoth, MeetsInCommon};
 ghost use Rattle.relation_coherence.specs.Answers.{IsResolved, SpendsAll};
 
+pub use crate::answer::{HeaderOf, Overlap, OverlapOf, WhyApart};
 use crate::opening::open_both;
 use fast_reject::DeepRejectCtxt;
-use relation_folds::error::{RelateFault, RelateResult, TypeErrorOf};
+use relation_folds::error::{RelateFault, RelateResult};
 use relation_laws::laws;
-use relation_semantics::infer_ctxt::{BinderOf, InferCtxtLike};
-use relation_terms::terms::{GenericArgs, Interner, ParamEnv, Span, Variance};
-use type_relations::relate::solver_relating::{GoalOf, RelateExt};
-
-/// The header of an impl: the arguments of its trait, the type that implements it first, under a binder of what the
-/// impl is generic over.
-pub type HeaderOf<I> = BinderOf<I, GenericArgs<I>>;
-
-/// Why two headers do not overlap.
-#[derive(Drop)]
-pub enum WhyApart<I: Interner> {
-    /// A quick test told them apart.
-    ByForm,
-    /// They do not relate.
-    ByRelating(TypeErrorOf<I>),
-}
-
-/// What two headers have in common.
-#[derive(Drop)]
-pub enum Overlap<I: Interner> {
-    /// Nothing.
-    Apart(WhyApart<I>),
-    /// What both come to by what the context has recorded, where the goals hold.
-    Meets {
-        header: GenericArgs<I>,
-        goals: Vec<GoalOf<I>>,
-    },
-}
+use relation_semantics::infer_ctxt::InferCtxtLike;
+use relation_terms::terms::{ParamEnv, Span, Variance};
+use type_relations::relate::solver_relating::RelateExt;
 
 /// Whether two headers over as many arguments overlap: whether some values for what they bind make them one, as two
 /// impls of one trait must not. The interner has to know both and the environment; no inference variable stands in
@@ -62,7 +38,7 @@ pub fn overlap<C: InferCtxtLike>(
     left: HeaderOf<C::Interner>,
     right: HeaderOf<C::Interner>,
     span: Span<C::Interner>,
-) -> RelateResult<C::Interner, Overlap<C::Interner>>
+) -> RelateResult<C::Interner, OverlapOf<C::Interner>>
     requires lawful { (C.state ctx.old).lawful }
     requires env_known { KnowsEnv (C.state ctx.old) param_env }
     requires fits { AreOfOneLength (C.state ctx.old) left right }
