@@ -51,7 +51,8 @@ fn add_values(
     values: &mut Vec<(usize, usize)>,
 ) -> Result<(), OutOfMemory>
     requires { length found.now.places.items ≡ length standings.now }
-    ensures { OnOk result (AreValuesTo standings.now found.now target values.old.items values.new.items (length standings.now)) }
+    ensures { let n = length standings.now in
+        OnOk result (AreValuesTo standings.now found.now target values.old.items values.new.items n) }
 {
     for node in 0..standings.len() {
         if !standings[node].is_given() && found.places[node].is_some() {
