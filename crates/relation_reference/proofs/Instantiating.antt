@@ -63,10 +63,6 @@ generalised_no_const (met_before {r = r} s h) e f = absurd (none_met r.met _ e h
 generalised_no_const (met_first s o g a b) e f = new_no_const g f
 generalised_no_const (no_type s g) e f = new_no_const g f
 
--- The universe that a table has of a variable.
-pub universe_read : {K : Type 0} (vs : List (Variable K)) (i : ℕ) (d : Variable K) → i < length vs → d ≡ get_or vs i d → universe_at vs i ≡ (d.universe).0
-universe_read vs i d h e = get_or-map (λ v. (v.universe).0) vs i d 0 h ∙ ap (λ v. (v.universe).0) (sym e)
-
 -- A constant that is no variable comes to none.
 no_const_variable : (st : Store) (t : Tree) → IsTerm const_sort t → ((m : ℕ) → t ≢ leaf (variable const_var m)) → (n : ℕ) → apply (resolved st) t ≢ leaf (variable const_var n)
 no_const_variable st (leaf (variable const_var m)) f o n e = o m refl
@@ -138,7 +134,7 @@ module _ {Key Id Name : Type 0} {m n : Meaning Key Id Name} (o : Meaning Key Id 
   pub made_still : IsMade (store_of m x) k i → IsMade (store_of o z) k i
   made_still made = (added.later).grows k i made
 
-  free_still : entry_of (store_of m x) k i ≡ unbound → entry_of (store_of o z) k i ≡ unbound
+  pub free_still : entry_of (store_of m x) k i ≡ unbound → entry_of (store_of o z) k i ≡ unbound
   free_still free = added.entries k i ∙ free
 
   -- `key` is what the term was resolved to. An obstacle stood in the way, or memory ran out.

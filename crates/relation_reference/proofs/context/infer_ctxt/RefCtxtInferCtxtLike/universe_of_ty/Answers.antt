@@ -7,14 +7,6 @@ use Rattle.relation_reference.proofs.VariableUniverses.{has_universe}
 use Rattle.variable_tables.proofs.Writing.{table_of_entries}
 use Rattle.relation_reference.proofs.context.infer_ctxt.RefCtxtInferCtxtLike.universe_of_ty.Goals as goal
 
-pub universe_of_class-requires-clause-root_made : goal.universe_of_class-requires-clause-root_made
-universe_of_class-requires-clause-root_made g c =
-    let m = g.I.Interner.meaning c.args.self.now.interner in
-    let x = c.args.self.now.inner in
-    let v = c.args.vid.0 in
-    table_of_entries m.ty x.types.items _ (root_made m.ty x.types.items (store_of m x) type_var refl
-    c.requires.lawful.sound v c.requires.made)
-
 pub returns : goal.returns
 returns g c =
     let m = g.I.Interner.meaning c.args.self.now.interner in
