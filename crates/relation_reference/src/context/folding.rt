@@ -17,6 +17,7 @@ use relation_semantics::variable_forms::{const_vid, float_vid, int_vid, ty_vid};
 use relation_terms::terms::parts::{the_const, the_ty};
 use relation_terms::terms::{Const, Interner, OutOfMemory, Part, PartOf, Region, RegionKind, Ty};
 use std::collections::HashMap;
+use std::hash::BuildHasherDefault;
 
 // What a variable comes to. One that the tables don't have is itself.
 fn resolve_variable<I: Interner>(
@@ -35,7 +36,7 @@ fn resolve_variable<I: Interner>(
     ensures resolves { IfOk result (λ t. IsResolvedPart I.meaning cx.old cx.new inner.now variable.now t) }
 {
     if is_made {
-        let mut memory = HashMap::new(cx.alloc());
+        let mut memory = HashMap::with_hasher(cx.alloc(), BuildHasherDefault::new());
         return resolve_part(cx, inner, variable, &mut memory);
     }
     Ok(*variable)
