@@ -1,6 +1,6 @@
 -- What a lawful context has recorded is on terms that its interner knows.
-use Rattle.std.proofs.Common.{◌≡◌, ℕ, ◌<◌, ◌≤◌, sym, ap, ◌∙◌, subst, length, map, get_or, IsTrue, List, Some}
-use Rattle.std.proofs.lemmas.List.{length-map, get_or-map, get_or_past}
+use Rattle.std.proofs.Common.{◌≡◌, ℕ, ◌<◌, sym, ap, ◌∙◌, subst, length, map, get_or, IsTrue, List, Some}
+use Rattle.std.proofs.lemmas.List.{length-map, get_or-map}
 use Rattle.relation_terms.specs.Heads.{type_var, int_var, float_var, const_var}
 use Rattle.relation_terms.specs.Trees.{Tree, known}
 use Rattle.relation_terms.specs.Meaning.{Meaning}
@@ -11,7 +11,7 @@ use Rattle.variable_tables.specs.declared.inner.InferCtxtInner.{InferCtxtInner}
 use Rattle.variable_tables.specs.declared.inner.Variable.{Variable}
 use Rattle.variable_tables.specs.declared.inner.VariableValue.{VariableValue}
 use Rattle.variable_tables.specs.declared.inner.VariableValue.TheVariants.{Unknown, SameAs, Known}
-use Rattle.variable_tables.specs.Variables.{entry_of_value, value_at, values_of}
+use Rattle.variable_tables.specs.Variables.{entry_of_value, value_at}
 use Rattle.variable_tables.specs.Tables.{store_of, IsLawful}
 use Rattle.variable_tables.proofs.Grows.{bound_known, entry_at}
 use Rattle.text_asking.specs.Asking.{AreBoundKnown}
@@ -50,7 +50,3 @@ bound_to (Known u) t e = cc
 pub found_known : {K : Type 0} (tree : K → Tree) (vs : List (Variable K)) (n : ℕ) (t : K) → AreBoundKnown tree vs →
     Some t ≡ bound_by (λ u. u) (value_at vs n) → IsTrue (known (tree t))
 found_known tree vs n t all e = all n t (bound_to (value_at vs n) t e)
-
--- Nothing is recorded of a variable that the table doesn't have.
-pub value_past : {K : Type 0} (vs : List (Variable K)) (n : ℕ) → length vs ≤ n → value_at vs n ≡ Unknown
-value_past vs n h = get_or_past (values_of vs) n Unknown (subst (λ z. z ≤ n) (sym (length-map vs (λ v. v.value))) h)
