@@ -1,6 +1,5 @@
 -- Binding a variable of a type or a constant to what a term comes to, generalised for it, in the tables of a context.
-use Rattle.std.proofs.Common.{◌≡◌, ◌≢◌, ℕ, suc, ◌<◌, refl, sym, ap, ◌∙◌, subst, subst₂, set, Some, List, [], length, get_or, Result, Ok, Err}
-use Rattle.std.proofs.lemmas.List.{get_or-map}
+use Rattle.std.proofs.Common.{◌≡◌, ◌≢◌, ℕ, suc, refl, sym, ap, ◌∙◌, subst, subst₂, set, Some, [], Result, Ok, Err}
 use Rattle.std.specs.Result.{IsErr, IsErrAnd}
 use Rattle.term_enums.specs.declared.Variance.{Variance}
 use Rattle.relation_terms.specs.declared.terms.part_kind.Part.{Part}
@@ -27,8 +26,6 @@ use Rattle.relation_semantics.proofs.StoreCalls.{resolved_in}
 use Rattle.relation_semantics.proofs.Variables.{const_is_formed}
 use Rattle.relation_semantics.proofs.BindingGeneralised.{generalising_instantiates}
 use Rattle.variable_tables.specs.declared.inner.InferCtxtInner.{InferCtxtInner}
-use Rattle.variable_tables.specs.declared.inner.Variable.{Variable}
-use Rattle.variable_tables.specs.Variables.{universe_at}
 use Rattle.variable_tables.specs.Tables.{store_of, context_of, keys_in, MayBeBoundTo, IsLawful}
 use Rattle.relation_reference.specs.Generalises.{GivenError, IsGeneralisedFor}
 use Rattle.variable_tables.proofs.Beside.{Beside}

@@ -12,7 +12,6 @@ use Rattle.relation_terms.specs.declared.terms.ty_kind.FloatVarValue.TheVariants
 use Rattle.relation_semantics.specs.Stores.{unbound, bound_to, entry_of}
 use Rattle.relation_semantics.specs.Steps.{InstantiatesNumber, IsNumberFor}
 use Rattle.relation_semantics.proofs.StoreCalls.{numbers_stay_sound}
-use Rattle.variable_tables.specs.declared.inner.Variable.{Variable}
 use Rattle.variable_tables.specs.declared.inner.VariableValue.TheVariants.{Known as Bound}
 use Rattle.variable_tables.specs.Tabled.{Table}
 use Rattle.variable_tables.specs.declared.inner.InferCtxtInner.{InferCtxtInner}

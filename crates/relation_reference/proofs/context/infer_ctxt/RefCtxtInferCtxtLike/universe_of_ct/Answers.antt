@@ -1,10 +1,7 @@
 use Rattle.std.proofs.Common.{refl}
 use Rattle.relation_terms.specs.Heads.{const_var}
 use Rattle.relation_reference.specs.RefCtxt.{context_in}
-use Rattle.variable_tables.specs.Tables.{store_of}
-use Rattle.relation_reference.proofs.Reading.{root_made}
 use Rattle.relation_reference.proofs.VariableUniverses.{has_universe}
-use Rattle.variable_tables.proofs.Writing.{table_of_entries}
 use Rattle.relation_reference.proofs.context.infer_ctxt.RefCtxtInferCtxtLike.universe_of_ct.Goals as goal
 
 pub returns : goal.returns

@@ -1,4 +1,4 @@
-use Rattle.std.proofs.Common.{◌≡◌, [], refl, ap, sym, subst, suc, arith, map, length, ◌<◌, IsTrue, ◌-◌}
+use Rattle.std.proofs.Common.{◌≡◌, [], refl, ap, sym, subst, suc, arith, map, IsTrue, ◌-◌}
 use Rattle.term_enums.specs.declared.Variance.TheVariants.{Invariant}
 use Rattle.relation_terms.specs.declared.terms.part_kind.Part.TheVariants.{Const}
 use Rattle.relation_terms.specs.Heads.{const_var}

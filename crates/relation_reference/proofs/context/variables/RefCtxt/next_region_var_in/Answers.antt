@@ -1,4 +1,4 @@
-use Rattle.std.proofs.Common.{◌≡◌, refl, ap, ◌∙◌, length, arith}
+use Rattle.std.proofs.Common.{refl, ap, ◌∙◌}
 use Rattle.relation_terms.specs.Heads.{region_var, variable}
 use Rattle.relation_terms.specs.Trees.{leaf}
 use Rattle.variable_tables.specs.Tables.{store_of}

@@ -1,9 +1,10 @@
-use Rattle.std.proofs.Common.{◌≡◌, refl, ap, ◌∙◌, [], ◌∷◌, ◌++◌, length, arith}
+use Rattle.std.proofs.Common.{◌≡◌, refl, ap, ◌∙◌, [], ◌∷◌, ◌++◌, length}
 use Rattle.relation_terms.specs.Heads.{type_var, variable}
 use Rattle.relation_terms.specs.Trees.{leaf}
 use Rattle.variable_classes.specs.Roots.{root_in}
+use Rattle.variable_classes.proofs.Rooted.{root_more}
 use Rattle.variable_tables.specs.Tables.{store_of}
-use Rattle.variable_tables.proofs.SubRoots.{root_more, roots_made, roots_room, roots_lawful}
+use Rattle.variable_tables.proofs.SubRoots.{roots_made, roots_room, roots_lawful}
 use Rattle.relation_reference.proofs.Making.{on_err, later_same, refused_lawful, refused_later, refused_store, type_made, type_made_later, type_made_lawful}
 use Rattle.relation_reference.proofs.context.variables.RefCtxt.next_ty_var_in.Goals as goal
 
