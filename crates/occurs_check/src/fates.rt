@@ -91,7 +91,7 @@ fn region_universe<I: Interner>(_cx: &I, inner: &InferCtxtInner<I::Key>, vid: Re
     requires { vid.0 < length inner.now.regions.items }
     ensures { result ≡ universe_of (store_of (I.meaning _cx.now) inner.now) region_var vid.0 }
 {
-    inner.regions[vid.0].universe.0
+    inner.regions.universe_of(vid.0).0
 }
 
 // What becomes of a region for a target, at a variance.
@@ -140,10 +140,10 @@ fn fate_of_variable<I: Interner>(
 {
     match vid {
         TermVid::Ty(vid) => {
-            let named = inner.types[vid.0].universe.0 <= target.universe.0;
+            let named = inner.types.universe_of(vid.0).0 <= target.universe.0;
             stays_if(is_invariant(variance) && named)
         }
-        TermVid::Const(vid) => { stays_if(inner.consts[vid.0].universe.0 <= target.universe.0) }
+        TermVid::Const(vid) => { stays_if(inner.consts.universe_of(vid.0).0 <= target.universe.0) }
     }
 }
 

@@ -4,7 +4,7 @@ use Rattle.relation_terms.specs.Trees.{Tree, known}
 use Rattle.relation_terms.specs.Meaning.{Meaning, Extends}
 use Rattle.relation_semantics.specs.ContextCalls.{Grows, ComesTo, KeepsMarks}
 use Rattle.relation_reference.specs.declared.context.variables.RefCtxt.{RefCtxt}
-use Rattle.variable_tables.specs.SubRoots.{root_in}
+use Rattle.variable_classes.specs.Roots.{root_in}
 use Rattle.variable_tables.specs.Tables.{setup_in, store_of, IsLawful}
 use Rattle.relation_reference.specs.RefCtxt.{store_in, context_in, resolved_in}
 use Rattle.variable_tables.proofs.Grows.{store_grows, lawful_grows}

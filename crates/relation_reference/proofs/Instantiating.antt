@@ -1,6 +1,5 @@
 -- Binding a variable of a type or a constant to what a term comes to, generalised for it, in the tables of a context.
-use Rattle.std.proofs.Common.{◌≡◌, ◌≢◌, ℕ, suc, ◌<◌, refl, sym, ap, ◌∙◌, subst, subst₂, set, Some, List, [], length, get_or, Result, Ok, Err}
-use Rattle.std.proofs.lemmas.List.{get_or-map}
+use Rattle.std.proofs.Common.{◌≡◌, ◌≢◌, ℕ, suc, refl, sym, ap, ◌∙◌, subst, subst₂, set, Some, [], Result, Ok, Err}
 use Rattle.std.specs.Result.{IsErr, IsErrAnd}
 use Rattle.term_enums.specs.declared.Variance.{Variance}
 use Rattle.relation_terms.specs.declared.terms.part_kind.Part.{Part}
@@ -27,8 +26,6 @@ use Rattle.relation_semantics.proofs.StoreCalls.{resolved_in}
 use Rattle.relation_semantics.proofs.Variables.{const_is_formed}
 use Rattle.relation_semantics.proofs.BindingGeneralised.{generalising_instantiates}
 use Rattle.variable_tables.specs.declared.inner.InferCtxtInner.{InferCtxtInner}
-use Rattle.variable_tables.specs.declared.inner.Variable.{Variable}
-use Rattle.variable_tables.specs.Variables.{universe_at}
 use Rattle.variable_tables.specs.Tables.{store_of, context_of, keys_in, MayBeBoundTo, IsLawful}
 use Rattle.relation_reference.specs.Generalises.{GivenError, IsGeneralisedFor}
 use Rattle.variable_tables.proofs.Beside.{Beside}
@@ -62,10 +59,6 @@ generalised_no_const : {al : StructurallyRelateAliases} {c : Items} {start : Sto
 generalised_no_const (met_before {r = r} s h) e f = absurd (none_met r.met _ e h)
 generalised_no_const (met_first s o g a b) e f = new_no_const g f
 generalised_no_const (no_type s g) e f = new_no_const g f
-
--- The universe that a table has of a variable.
-pub universe_read : {K : Type 0} (vs : List (Variable K)) (i : ℕ) (d : Variable K) → i < length vs → d ≡ get_or vs i d → universe_at vs i ≡ (d.universe).0
-universe_read vs i d h e = get_or-map (λ v. (v.universe).0) vs i d 0 h ∙ ap (λ v. (v.universe).0) (sym e)
 
 -- A constant that is no variable comes to none.
 no_const_variable : (st : Store) (t : Tree) → IsTerm const_sort t → ((m : ℕ) → t ≢ leaf (variable const_var m)) → (n : ℕ) → apply (resolved st) t ≢ leaf (variable const_var n)
@@ -138,7 +131,7 @@ module _ {Key Id Name : Type 0} {m n : Meaning Key Id Name} (o : Meaning Key Id 
   pub made_still : IsMade (store_of m x) k i → IsMade (store_of o z) k i
   made_still made = (added.later).grows k i made
 
-  free_still : entry_of (store_of m x) k i ≡ unbound → entry_of (store_of o z) k i ≡ unbound
+  pub free_still : entry_of (store_of m x) k i ≡ unbound → entry_of (store_of o z) k i ≡ unbound
   free_still free = added.entries k i ∙ free
 
   -- `key` is what the term was resolved to. An obstacle stood in the way, or memory ran out.

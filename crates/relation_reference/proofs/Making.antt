@@ -20,6 +20,7 @@ use Rattle.relation_terms.specs.declared.terms.keys.ConstKey.{ConstKey}
 use Rattle.relation_terms.specs.declared.terms.keys.RegionKey.{RegionKey}
 use Rattle.variable_tables.specs.declared.inner.VariableValue.TheVariants.{Unknown}
 use Rattle.variable_tables.specs.declared.inner.Variable.{Variable}
+use Rattle.variable_tables.specs.Tabled.{Table}
 use Rattle.variable_tables.specs.declared.inner.InferCtxtInner.{InferCtxtInner}
 use Rattle.variable_tables.specs.Variables.{keys_of, values_of, universes_of, entry_of_value, entries_of, trees_of}
 use Rattle.variable_tables.specs.Tables.{by_kind, store_of, keys_in, IsRooted, IsFilled, IsLawful}
@@ -177,7 +178,7 @@ module _ {Key Id Name : Type 0} {m n : Meaning Key Id Name} (e : Extends m n) (x
       (sym (keys ∙ ap (λ z. keys_in n x k ++ leaf (variable k z) ∷ []) long)) (keyed_one (keys_in n x k) k ((lawful_grows e x l).keyed k))
 
 -- A new variable in the table of `types`.
-module _ {Key Id Name : Type 0} {m n : Meaning Key Id Name} (e : Extends m n) (x : InferCtxtInner Key) (l : IsLawful m x) (ts : Vec (Variable (TyKey Key))) (v : Variable (TyKey Key))
+module _ {Key Id Name : Type 0} {m n : Meaning Key Id Name} (e : Extends m n) (x : InferCtxtInner Key) (l : IsLawful m x) (ts : Table (TyKey Key)) (v : Variable (TyKey Key))
     (more : ts.items ≡ x.types.items ++ v ∷ []) (free : v.value ≡ Unknown) (u : ℕ) (below : u ≤ (x.universe).0) (universe_is : (v.universe).0 ≡ u)
     (key : n.ty v.key ≡ leaf (variable type_var (length x.types.items))) where
   abbrev type_entries : (store_of n (record x { types = ts })).entries type_var ≡ (store_of n x).entries type_var ++ unbound ∷ []
@@ -203,7 +204,7 @@ module _ {Key Id Name : Type 0} {m n : Meaning Key Id Name} (e : Extends m n) (x
       variable_lawful e x (record x { types = ts }) l type_var (length x.types.items) u below (types_beside n x ts x.budget) type_numbered type_entries type_universes refl (λ f. absurd f) (subst (λ z. z ≤ length x.sub_roots.items) (sym (entries_long n.ty ts.items ∙ ap length more ∙ length-append x.types.items (v ∷ []))) room) keyed
 
 -- A new variable in the table of `ints`.
-module _ {Key Id Name : Type 0} {m n : Meaning Key Id Name} (e : Extends m n) (x : InferCtxtInner Key) (l : IsLawful m x) (ts : Vec (Variable (TyKey Key))) (v : Variable (TyKey Key))
+module _ {Key Id Name : Type 0} {m n : Meaning Key Id Name} (e : Extends m n) (x : InferCtxtInner Key) (l : IsLawful m x) (ts : Table (TyKey Key)) (v : Variable (TyKey Key))
     (more : ts.items ≡ x.ints.items ++ v ∷ []) (free : v.value ≡ Unknown) (universe_is : (v.universe).0 ≡ 0)
     (key : n.ty v.key ≡ leaf (variable int_var (length x.ints.items))) where
   abbrev int_entries : (store_of n (record x { ints = ts })).entries int_var ≡ (store_of n x).entries int_var ++ unbound ∷ []
@@ -228,7 +229,7 @@ module _ {Key Id Name : Type 0} {m n : Meaning Key Id Name} (e : Extends m n) (x
       variable_lawful e x (record x { ints = ts }) l int_var (length x.ints.items) 0 (omega arith) (ints_beside n x ts x.budget) int_numbered int_entries int_universes refl (λ f. refl) (lawful_grows e x l).sub_rooted.count keyed
 
 -- A new variable in the table of `floats`.
-module _ {Key Id Name : Type 0} {m n : Meaning Key Id Name} (e : Extends m n) (x : InferCtxtInner Key) (l : IsLawful m x) (ts : Vec (Variable (TyKey Key))) (v : Variable (TyKey Key))
+module _ {Key Id Name : Type 0} {m n : Meaning Key Id Name} (e : Extends m n) (x : InferCtxtInner Key) (l : IsLawful m x) (ts : Table (TyKey Key)) (v : Variable (TyKey Key))
     (more : ts.items ≡ x.floats.items ++ v ∷ []) (free : v.value ≡ Unknown) (universe_is : (v.universe).0 ≡ 0)
     (key : n.ty v.key ≡ leaf (variable float_var (length x.floats.items))) where
   abbrev float_entries : (store_of n (record x { floats = ts })).entries float_var ≡ (store_of n x).entries float_var ++ unbound ∷ []
@@ -253,7 +254,7 @@ module _ {Key Id Name : Type 0} {m n : Meaning Key Id Name} (e : Extends m n) (x
       variable_lawful e x (record x { floats = ts }) l float_var (length x.floats.items) 0 (omega arith) (floats_beside n x ts x.budget) float_numbered float_entries float_universes refl (λ f. refl) (lawful_grows e x l).sub_rooted.count keyed
 
 -- A new variable in the table of `consts`.
-module _ {Key Id Name : Type 0} {m n : Meaning Key Id Name} (e : Extends m n) (x : InferCtxtInner Key) (l : IsLawful m x) (ts : Vec (Variable (ConstKey Key))) (v : Variable (ConstKey Key))
+module _ {Key Id Name : Type 0} {m n : Meaning Key Id Name} (e : Extends m n) (x : InferCtxtInner Key) (l : IsLawful m x) (ts : Table (ConstKey Key)) (v : Variable (ConstKey Key))
     (more : ts.items ≡ x.consts.items ++ v ∷ []) (free : v.value ≡ Unknown) (u : ℕ) (below : u ≤ (x.universe).0) (universe_is : (v.universe).0 ≡ u)
     (key : n.const_ v.key ≡ leaf (variable const_var (length x.consts.items))) where
   abbrev const_entries : (store_of n (record x { consts = ts })).entries const_var ≡ (store_of n x).entries const_var ++ unbound ∷ []
@@ -278,7 +279,7 @@ module _ {Key Id Name : Type 0} {m n : Meaning Key Id Name} (e : Extends m n) (x
       variable_lawful e x (record x { consts = ts }) l const_var (length x.consts.items) u below (consts_beside n x ts x.budget) const_numbered const_entries const_universes refl (λ f. absurd f) (lawful_grows e x l).sub_rooted.count keyed
 
 -- A new variable in the table of `regions`.
-module _ {Key Id Name : Type 0} {m n : Meaning Key Id Name} (e : Extends m n) (x : InferCtxtInner Key) (l : IsLawful m x) (ts : Vec (Variable (RegionKey Key))) (v : Variable (RegionKey Key))
+module _ {Key Id Name : Type 0} {m n : Meaning Key Id Name} (e : Extends m n) (x : InferCtxtInner Key) (l : IsLawful m x) (ts : Table (RegionKey Key)) (v : Variable (RegionKey Key))
     (more : ts.items ≡ x.regions.items ++ v ∷ []) (free : v.value ≡ Unknown) (u : ℕ) (below : u ≤ (x.universe).0) (universe_is : (v.universe).0 ≡ u)
     (key : n.region v.key ≡ leaf (variable region_var (length x.regions.items))) where
   abbrev region_entries : (store_of n (record x { regions = ts })).entries region_var ≡ (store_of n x).entries region_var ++ unbound ∷ []

@@ -2,7 +2,6 @@
 use Rattle.std.proofs.Common.{◌≡◌, ◌⊎◌, inl, inr, le_of_eq, ℕ, suc, ◌<◌, ◌≤◌, refl, sym, ap, ◌∙◌, arith, subst, length, length-append, List, ◌∷◌, [], set, le_refl, Some}
 use Rattle.std.proofs.lemmas.List.{length-set, length-map}
 use native.Mathlib.Decide.{ℕ_discrete}
-use Rattle.std.specs.Global.{Vec}
 use Rattle.relation_terms.specs.Heads.{VarKind, type_var, Leaf, variable, bound, placeholder, atom, unknown, region_kind, type_kind, const_kind, bound_kind, int_var, float_var, const_var, region_var, static_region, early_region}
 use Rattle.relation_terms.specs.Meaning.{Meaning, Extends}
 use Rattle.relation_semantics.specs.ContextCalls.{JoinsRoots, KeepsRest, MarksNew}
@@ -12,7 +11,7 @@ use Rattle.relation_semantics.specs.Generalising.{gives_way_to}
 use Rattle.relation_reference.specs.declared.context.variables.RefCtxt.{RefCtxt}
 use Rattle.variable_tables.specs.declared.inner.Variable.{Variable}
 use Rattle.variable_tables.specs.Variables.{keys_of}
-use Rattle.variable_tables.specs.SubRoots.{root_in}
+use Rattle.variable_classes.specs.Roots.{Roots, root_in}
 use Rattle.variable_tables.specs.Tables.{setup_in, store_of, IsLawful}
 use Rattle.relation_reference.specs.RefCtxt.{store_in, context_in}
 use Rattle.variable_tables.proofs.Grows.{store_grows}
@@ -224,7 +223,7 @@ module _ {I Key Id Name Span : Type 0} (meaning : I → Meaning Key Id Name) whe
   module _ (p q : RefCtxt I Key Id Name Span) (l : IsLawful (meaning p.interner) p.inner) (number u of : ℕ)
       (makes : MakesVariable (store_in meaning p) (store_in meaning q) type_var number u)
       (made : IsMade (store_in meaning p) type_var of) (rest : KeepsRest (context_in meaning p) (context_in meaning q))
-      (rs : Vec ℕ) (j : JoinsRoots (root_in q.inner.sub_roots.items) (root_in rs.items) of number) where
+      (rs : Roots) (j : JoinsRoots (root_in q.inner.sub_roots.items) (root_in rs.items) of number) where
     abbrev count : ℕ
     count = length ((store_in meaning p).entries type_var)
 

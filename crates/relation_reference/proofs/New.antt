@@ -8,7 +8,7 @@ use Rattle.relation_semantics.proofs.Empty.{empty_sound}
 use Rattle.variable_tables.specs.declared.inner.InferCtxtInner.{InferCtxtInner}
 use Rattle.variable_tables.specs.Variables.{entries_of, universes_of, trees_of}
 use Rattle.variable_tables.specs.Numbers.{number_trees}
-use Rattle.variable_tables.specs.SubRoots.{root_in, IsRootTable}
+use Rattle.variable_classes.specs.Roots.{root_in, IsRootTable}
 use Rattle.variable_tables.specs.Tables.{store_of, keys_in, IsLawful}
 use Rattle.relation_reference.specs.RefCtxt.{IsNew}
 

@@ -1,7 +1,6 @@
 -- Making the keys of all integer and float types, one after another.
 use Rattle.std.proofs.Common.{◌≡◌, ◌≢◌, set, ℕ, zero, suc, ◌<◌, IsTrue, refl, sym, ap, ap₂, ◌∙◌, subst, arith, List, [], ◌∷◌, ◌++◌, length, map, get_or, take}
 use Rattle.std.proofs.lemmas.List.{map-append, get_or-map, length-map}
-use Rattle.std.specs.Global.{Vec}
 use Rattle.relation_terms.specs.Heads.{int_var, float_var}
 use Rattle.relation_terms.specs.Trees.{Tree, nil, known}
 use Rattle.relation_terms.specs.Meaning.{Meaning, Extends}
@@ -13,8 +12,8 @@ use Rattle.relation_terms.specs.declared.terms.ty_kind.FloatVarValue.TheVariants
 use Rattle.relation_semantics.specs.Stores.{unbound, bound_to, entry_of}
 use Rattle.relation_semantics.specs.Steps.{InstantiatesNumber, IsNumberFor}
 use Rattle.relation_semantics.proofs.StoreCalls.{numbers_stay_sound}
-use Rattle.variable_tables.specs.declared.inner.Variable.{Variable}
 use Rattle.variable_tables.specs.declared.inner.VariableValue.TheVariants.{Known as Bound}
+use Rattle.variable_tables.specs.Tabled.{Table}
 use Rattle.variable_tables.specs.declared.inner.InferCtxtInner.{InferCtxtInner}
 use Rattle.variable_tables.specs.Variables.{keys_of, values_of, universes_of}
 use Rattle.relation_semantics.specs.NumberValues.{int_value_tree, float_value_tree}
@@ -73,7 +72,7 @@ float_may UnknownFloat o = absurd (o refl)
 float_may (Known w) o = (refl, tt)
 
 -- A number variable was bound to the type of a key.
-module _ {Key Id Name : Type 0} (m : Meaning Key Id Name) (x : InferCtxtInner Key) (l : IsLawful m x) (ts : Vec (Variable (TyKey Key))) (n place : ℕ) (key : TyKey Key) (t : Tree)
+module _ {Key Id Name : Type 0} (m : Meaning Key Id Name) (x : InferCtxtInner Key) (l : IsLawful m x) (ts : Table (TyKey Key)) (n place : ℕ) (key : TyKey Key) (t : Tree)
     (below : place < 16) (is : get_or number_trees place nil ≡ t) (found : key ≡ get_or x.numbers.items place key) where
   means : m.ty key ≡ t
   means = ap m.ty found ∙ number_at m x.numbers.items place key l.numbers below ∙ is

@@ -7,7 +7,7 @@ use Rattle.relation_semantics.specs.ContextCalls.{EntersNext, KeepsRest}
 use Rattle.relation_semantics.proofs.StoreCalls.{nothing_is_seen}
 use Rattle.variable_tables.specs.declared.inner.InferCtxtInner.{InferCtxtInner}
 use Rattle.relation_reference.specs.declared.context.variables.RefCtxt.{RefCtxt}
-use Rattle.variable_tables.specs.SubRoots.{root_in}
+use Rattle.variable_classes.specs.Roots.{root_in}
 use Rattle.variable_tables.specs.Tables.{setup_in, store_of, context_of, IsLawful}
 use Rattle.relation_reference.specs.RefCtxt.{context_in}
 

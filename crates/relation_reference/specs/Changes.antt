@@ -21,7 +21,7 @@ use Rattle.relation_semantics.specs.Stores.{Store, equal_constraint, outlives_co
 use Rattle.relation_reference.specs.declared.context.variables.RefCtxt.{RefCtxt}
 use Rattle.variable_tables.specs.declared.inner.InferCtxtInner.{InferCtxtInner}
 use Rattle.relation_reference.specs.RefCtxt.{store_in, context_in, resolved_in, ty_term, const_term}
-use Rattle.variable_tables.specs.SubRoots.{root_in}
+use Rattle.variable_classes.specs.Roots.{root_in}
 use Rattle.variable_tables.specs.Tables.{store_of}
 
 -- The key of the variable that comes next in a table was answered.

@@ -10,7 +10,7 @@ use Rattle.relation_semantics.specs.Stores.{Store, resolved}
 use Rattle.relation_semantics.specs.Contexts.{Context}
 use Rattle.relation_reference.specs.declared.context.variables.RefCtxt.{RefCtxt}
 use Rattle.variable_tables.specs.declared.inner.InferCtxtInner.{InferCtxtInner}
-use Rattle.variable_tables.specs.SubRoots.{root_in}
+use Rattle.variable_classes.specs.Roots.{root_in}
 use Rattle.variable_tables.specs.Tables.{store_of, context_of}
 
 -- It has no variable, no constraint, and no type that is to outlive a region; and no error was met.

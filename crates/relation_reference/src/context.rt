@@ -19,5 +19,7 @@ mod universes;
 mod variables;
 mod varying;
 
+pub use variable_classes::VariableClasses;
+pub use variable_tables::table::VariableTable;
 pub use variable_tables::{InferCtxtInner, Variable, VariableValue};
 pub use variables::RefCtxt;

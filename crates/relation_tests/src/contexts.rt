@@ -123,7 +123,7 @@ fn make_slice<C: InferCtxtLike>(
 fn first_int_is_root<I: Interner>(ctx: &RefCtxt<I>) -> bool
     requires { IsLawful (I.meaning ctx.now.interner) ctx.now.inner }
 {
-    if ctx.inner.ints.is_empty() {
+    if !ctx.inner.ints.has(0) {
         return false;
     }
     ctx.root_int_var(IntVid(0)) == IntVid(0)
@@ -133,7 +133,7 @@ fn first_int_is_root<I: Interner>(ctx: &RefCtxt<I>) -> bool
 fn first_float_is_root<I: Interner>(ctx: &RefCtxt<I>) -> bool
     requires { IsLawful (I.meaning ctx.now.interner) ctx.now.inner }
 {
-    if ctx.inner.floats.is_empty() {
+    if !ctx.inner.floats.has(0) {
         return false;
     }
     ctx.root_float_var(FloatVid(0)) == FloatVid(0)
@@ -176,6 +176,11 @@ fn has_number_variables<I: Interner + Drop>(cx: I) -> Result<bool, OutOfMemory> 
     Ok(same & erased & (reads_float(&ctx) == float) & first_float_is_root(&ctx))
 }
 
+// Whether a type variable is marked as related, with this root.
+fn is_marked<I: Interner>(ctx: &RefCtxt<I>, number: usize, root: usize) -> bool {
+    number < ctx.inner.sub_roots.len() && ctx.inner.sub_roots.root(number) == root
+}
+
 // Whether the variable that takes the place of the second type variable is marked as related to it, and to no other, for
 // one of the budget; and the first one alone is bound.
 fn marks_the_new_one<I: Interner + Drop>(cx: I) -> RelateResult<I, bool> {
@@ -184,8 +189,8 @@ fn marks_the_new_one<I: Interner + Drop>(cx: I) -> RelateResult<I, bool> {
     binds_slice(&mut ctx)?;
     let mut fine = first_alone_is_bound(&ctx) & (ctx.budget_left() == 1);
     fine &= ctx.inner.types.len() == 3;
-    fine &= ctx.inner.sub_roots.get(0).copied() == Some(0);
-    Ok(fine & (ctx.inner.sub_roots.get(2).copied() == Some(1)))
+    fine &= is_marked(&ctx, 0, 0);
+    Ok(fine & is_marked(&ctx, 2, 1))
 }
 
 // The region of a form.

@@ -1,5 +1,5 @@
 //! How errors and answers print, over any interner.
-ghost use Rattle.std.specs.Prelude.{◌≡◌, IfSome, IfNone, IsTrue};
+ghost use Rattle.std.specs.Prelude.{◌≡◌, ◌<◌, length, IfSome, IfNone, IsTrue};
 ghost use Rattle.std.specs.List.{All};
 ghost use Rattle.relation_terms.specs.Trees.{known};
 ghost use Rattle.relation_terms.specs.Meaning.{term_tree};
@@ -15,7 +15,7 @@ ghost use Rattle.relation_reference.specs.RefCtxt.{store_in};
 ghost use Rattle.text_asking.specs.Asking.{AreBoundKnown, KnowsRelated};
 
 use relation_folds::error::{ExpectedFound, RelateFault, TypeError, TypeErrorOf};
-use relation_reference::context::{RefCtxt, Variable, VariableValue};
+use relation_reference::context::{RefCtxt, VariableTable, VariableValue};
 use relation_terms::predicate::{ClauseKind, PredicateKind, RegionConstraint};
 use relation_terms::terms::{AliasRelationDirection, Const, DefId, Interner, TermKind, Ty};
 use std::fmt::{self, Write};
@@ -355,11 +355,12 @@ fn write_goals<I: Interner, W: Write>(
 }
 
 // The term that a root is bound to, or none, also where the variable is the same as another.
-fn bound_at<K: Copy>(variables: &[Variable<K>], number: usize) -> Option<K>
-    ensures bound { IfSome result (λ t. value_at variables.now number ≡ Known t) }
-    ensures none { IfNone result ((t : K) → value_at variables.now number ≡ Known t → ⊥) }
+fn bound_at<K: Copy>(variables: &VariableTable<K>, number: usize) -> Option<K>
+    requires { number < length variables.now.items }
+    ensures bound { IfSome result (λ t. value_at variables.now.items number ≡ Known t) }
+    ensures none { IfNone result ((t : K) → value_at variables.now.items number ≡ Known t → ⊥) }
 {
-    match variables.get(number)?.value {
+    match variables.probe(number) {
         VariableValue::Known(term) => Some(term),
         VariableValue::Unknown => None,
         VariableValue::SameAs(_) => None,
@@ -377,11 +378,11 @@ fn write_bound_tys<I: Interner, W: Write>(
     cx: &I,
     texts: &TextsOf<I>,
     sign: &str,
-    variables: &[Variable<Ty<I>>],
+    variables: &VariableTable<Ty<I>>,
     before: bool,
     out: &mut W,
 ) -> Result<bool, fmt::Error>
-    requires { AreBoundKnown (I.meaning cx.now).ty variables.now }
+    requires { AreBoundKnown (I.meaning cx.now).ty variables.now.items }
 {
     let mut any = before;
     for number in 0..variables.len() {
@@ -398,11 +399,11 @@ fn write_bound_tys<I: Interner, W: Write>(
 fn write_bound_consts<I: Interner, W: Write>(
     cx: &I,
     texts: &TextsOf<I>,
-    variables: &[Variable<Const<I>>],
+    variables: &VariableTable<Const<I>>,
     before: bool,
     out: &mut W,
 ) -> Result<bool, fmt::Error>
-    requires { AreBoundKnown (I.meaning cx.now).const_ variables.now }
+    requires { AreBoundKnown (I.meaning cx.now).const_ variables.now.items }
 {
     let mut any = before;
     for number in 0..variables.len() {

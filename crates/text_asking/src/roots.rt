@@ -9,35 +9,32 @@ ghost use Rattle.text_asking.specs.Roots.{AreOneVariable, bound_by, class_bindin
 
 use crate::context::have_variable;
 use crate::question::Unasked;
-use relation_reference::context::{RefCtxt, Variable, VariableValue};
+use relation_reference::context::{RefCtxt, VariableTable, VariableValue};
 use relation_terms::terms::{GenericArg, GenericArgKind, Interner};
 use text_reading::naming::{VariableId, VariableKind};
 
 // The root of a variable's class.
-fn root_at<K: Copy>(variables: &[Variable<K>], number: usize) -> usize
-    ensures { result ≡ root_at variables.now number }
+fn root_at<K: Copy>(variables: &VariableTable<K>, number: usize) -> usize
+    ensures { result ≡ root_at variables.now.items number }
 {
-    match variables.get(number) {
-        None => number,
-        Some(variable) => match variable.value {
-            VariableValue::SameAs(root) => root,
-            VariableValue::Unknown => number,
-            VariableValue::Known(_) => number,
-        },
+    if variables.has(number) {
+        variables.root_of(number)
+    } else {
+        number
     }
 }
 
 // The term that a variable of that number is bound to itself.
-fn bound_at<K: Copy>(variables: &[Variable<K>], number: usize) -> Option<K>
-    ensures { result ≡ bound_by (λ t. t) (value_at variables.now number) }
+fn bound_at<K: Copy>(variables: &VariableTable<K>, number: usize) -> Option<K>
+    ensures { result ≡ bound_by (λ t. t) (value_at variables.now.items number) }
 {
-    match variables.get(number) {
-        None => None,
-        Some(variable) => match variable.value {
-            VariableValue::Known(term) => Some(term),
-            VariableValue::Unknown => None,
-            VariableValue::SameAs(_) => None,
-        },
+    if !variables.has(number) {
+        return None;
+    }
+    match variables.probe(number) {
+        VariableValue::Known(term) => Some(term),
+        VariableValue::Unknown => None,
+        VariableValue::SameAs(_) => None,
     }
 }
 

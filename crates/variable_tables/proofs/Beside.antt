@@ -1,6 +1,5 @@
 -- Tables that differ in what is recorded of one kind of variables, and in the budget.
 use Rattle.std.proofs.Common.{◌≡◌, ℕ, ◌<◌, ◌≤◌, refl, sym, ap, ◌∙◌, arith, subst, map, length, get_or}
-use Rattle.std.specs.Global.{Vec}
 use Rattle.relation_terms.specs.Heads.{VarKind, VarKind_discrete, type_var, int_var, float_var, const_var, region_var, variable}
 use Rattle.relation_terms.specs.Trees.{leaf, nil}
 use Rattle.relation_terms.specs.Meaning.{Meaning}
@@ -8,10 +7,10 @@ use Rattle.relation_terms.specs.declared.terms.keys.TyKey.{TyKey}
 use Rattle.relation_terms.specs.declared.terms.keys.ConstKey.{ConstKey}
 use Rattle.relation_terms.specs.declared.terms.keys.RegionKey.{RegionKey}
 use Rattle.relation_semantics.specs.Stores.{IsSound, universe_of}
-use Rattle.variable_tables.specs.declared.inner.Variable.{Variable}
+use Rattle.variable_tables.specs.Tabled.{Table}
 use Rattle.variable_tables.specs.declared.inner.InferCtxtInner.{InferCtxtInner}
 use Rattle.relation_semantics.specs.Steps.{IsNumberKind}
-use Rattle.variable_tables.specs.SubRoots.{root_in, IsRootTable}
+use Rattle.variable_classes.specs.Roots.{root_in, IsRootTable}
 use Rattle.variable_tables.specs.Tables.{store_of, keys_in, IsRooted, IsFilled, IsLawful}
 
 module _ {Key Id Name : Type 0} (m : Meaning Key Id Name) where
@@ -26,7 +25,7 @@ module _ {Key Id Name : Type 0} (m : Meaning Key Id Name) where
     pub numbers : map m.ty y.numbers.items ≡ map m.ty x.numbers.items
     pub sub_roots : y.sub_roots.items ≡ x.sub_roots.items
 
-  module _ (x : InferCtxtInner Key) (ts : Vec (Variable (TyKey Key))) (b : ℕ) where
+  module _ (x : InferCtxtInner Key) (ts : Table (TyKey Key)) (b : ℕ) where
     types_entries : (j : VarKind) → (j ≡ type_var → ⊥) → (store_of m (record x { types = ts; budget = b })).entries j ≡ (store_of m x).entries j
     types_entries type_var o = absurd (o refl)
     types_entries int_var o = refl
@@ -51,7 +50,7 @@ module _ {Key Id Name : Type 0} (m : Meaning Key Id Name) where
     pub types_beside : Beside x (record x { types = ts; budget = b }) type_var
     types_beside = record { entries = types_entries; universes = types_universes; keys = types_keys; constraints = refl; universe = refl; tainted = refl; numbers = refl; sub_roots = refl }
 
-  module _ (x : InferCtxtInner Key) (ts : Vec (Variable (TyKey Key))) (b : ℕ) where
+  module _ (x : InferCtxtInner Key) (ts : Table (TyKey Key)) (b : ℕ) where
     ints_entries : (j : VarKind) → (j ≡ int_var → ⊥) → (store_of m (record x { ints = ts; budget = b })).entries j ≡ (store_of m x).entries j
     ints_entries type_var o = refl
     ints_entries int_var o = absurd (o refl)
@@ -76,7 +75,7 @@ module _ {Key Id Name : Type 0} (m : Meaning Key Id Name) where
     pub ints_beside : Beside x (record x { ints = ts; budget = b }) int_var
     ints_beside = record { entries = ints_entries; universes = ints_universes; keys = ints_keys; constraints = refl; universe = refl; tainted = refl; numbers = refl; sub_roots = refl }
 
-  module _ (x : InferCtxtInner Key) (ts : Vec (Variable (TyKey Key))) (b : ℕ) where
+  module _ (x : InferCtxtInner Key) (ts : Table (TyKey Key)) (b : ℕ) where
     floats_entries : (j : VarKind) → (j ≡ float_var → ⊥) → (store_of m (record x { floats = ts; budget = b })).entries j ≡ (store_of m x).entries j
     floats_entries type_var o = refl
     floats_entries int_var o = refl
@@ -101,7 +100,7 @@ module _ {Key Id Name : Type 0} (m : Meaning Key Id Name) where
     pub floats_beside : Beside x (record x { floats = ts; budget = b }) float_var
     floats_beside = record { entries = floats_entries; universes = floats_universes; keys = floats_keys; constraints = refl; universe = refl; tainted = refl; numbers = refl; sub_roots = refl }
 
-  module _ (x : InferCtxtInner Key) (ts : Vec (Variable (ConstKey Key))) (b : ℕ) where
+  module _ (x : InferCtxtInner Key) (ts : Table (ConstKey Key)) (b : ℕ) where
     consts_entries : (j : VarKind) → (j ≡ const_var → ⊥) → (store_of m (record x { consts = ts; budget = b })).entries j ≡ (store_of m x).entries j
     consts_entries type_var o = refl
     consts_entries int_var o = refl
@@ -126,7 +125,7 @@ module _ {Key Id Name : Type 0} (m : Meaning Key Id Name) where
     pub consts_beside : Beside x (record x { consts = ts; budget = b }) const_var
     consts_beside = record { entries = consts_entries; universes = consts_universes; keys = consts_keys; constraints = refl; universe = refl; tainted = refl; numbers = refl; sub_roots = refl }
 
-  module _ (x : InferCtxtInner Key) (ts : Vec (Variable (RegionKey Key))) (b : ℕ) where
+  module _ (x : InferCtxtInner Key) (ts : Table (RegionKey Key)) (b : ℕ) where
     regions_entries : (j : VarKind) → (j ≡ region_var → ⊥) → (store_of m (record x { regions = ts; budget = b })).entries j ≡ (store_of m x).entries j
     regions_entries type_var o = refl
     regions_entries int_var o = refl

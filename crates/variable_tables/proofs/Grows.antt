@@ -20,7 +20,7 @@ use Rattle.variable_tables.specs.declared.inner.VariableValue.TheVariants.{Unkno
 use Rattle.variable_tables.specs.declared.inner.InferCtxtInner.{InferCtxtInner}
 use Rattle.variable_tables.specs.Variables.{keys_of, values_of, universes_of, value_at, entry_of_value, entries_of}
 use Rattle.variable_tables.specs.Numbers.{number_trees}
-use Rattle.variable_tables.specs.SubRoots.{root_in}
+use Rattle.variable_classes.specs.Roots.{root_in}
 use Rattle.variable_tables.specs.Tables.{by_kind, store_of, keys_in, IsRooted, IsFilled, IsLawful}
 use Rattle.std.specs.Cmp.Derive.{both_true}
 

@@ -2,4 +2,5 @@ pub mod Grows
 pub mod Beside
 pub mod SubRoots
 pub mod Writing
-pub mod Linking
+pub mod Rows
+pub mod Reading

@@ -1,125 +1,50 @@
 -- The roots of variables that are marked as related.
-use Rattle.std.proofs.Common.{◌≡◌, ◌≢◌, ◌⊎◌, inl, inr, ℕ, suc, ◌+◌, ◌<◌, ◌≤◌, refl, sym, ap, ◌∙◌, subst, subst₂, arith}
-use Rattle.std.proofs.Common.{List, [], ◌∷◌, ◌++◌, length, length-append, map, take, drop, get_or, min, eqb, cond, true, false, ap₂, zero}
-use Rattle.std.proofs.Common.{le_refl}
-use Rattle.std.proofs.lemmas.List.{get_or-map, get_or_default, get_or_past, get_or_append_left, length-map}
-use Rattle.std.proofs.Math.Seq.{get_or-append_seam}
-use Rattle.std.proofs.lemmas.Bool.{eqb-true, eq-eqb}
-use native.Mathlib.Decide.{ℕ_discrete, dec_le}
-use Rattle.std.specs.Global.{Vec}
+use Rattle.std.proofs.Common.{◌≡◌, ◌⊎◌, inl, inr, ℕ, ◌+◌, ◌<◌, ◌≤◌, refl, sym, ap, ◌∙◌, subst, subst₂, arith}
+use Rattle.std.proofs.Common.{List, [], ◌∷◌, ◌++◌, length, length-append, map, min, max, ap₂}
+use Rattle.std.proofs.lemmas.List.{length-map}
+use native.Mathlib.Decide.{dec_le}
 use Rattle.relation_terms.specs.Heads.{type_var}
 use Rattle.relation_terms.specs.Meaning.{Meaning}
 use Rattle.relation_semantics.specs.ContextCalls.{JoinsRoots}
+use Rattle.variable_classes.proofs.Rooted.{at_child, at_other, at_root, led_table, root_more, more_table}
 use Rattle.variable_tables.specs.declared.inner.InferCtxtInner.{InferCtxtInner}
-use Rattle.variable_tables.specs.SubRoots.{root_in, led_root, IsRootTable}
+use Rattle.variable_classes.specs.Roots.{Roots, root_in, led_root, joined_roots, IsRootTable}
 use Rattle.variable_tables.specs.Tables.{store_of, HasSubRoots, IsLawful}
 use Rattle.variable_tables.specs.Variables.{values_of, entry_of_value}
 use Rattle.variable_tables.proofs.Writing.{table_made}
 
-led_child : (child root r : ℕ) → r ≡ child → led_root child root r ≡ root
-led_child child root r e = ap (λ b. cond b root r) (eq-eqb r child e)
-
-led_other : (child root r : ℕ) → r ≢ child → led_root child root r ≡ r
-led_other child root r o = go (eqb r child) refl
-  where
-    go : (b : _) → eqb r child ≡ b → led_root child root r ≡ r
-    go true e = absurd (o (eqb-true r child e))
-    go false e = ap (λ b. cond b root r) e
-
--- In a table from a number on, no entry before the child's place is the child.
-none_led : (child root k : ℕ) (rs : List ℕ) (n : ℕ) → k + n ≡ child →
-    ((i : ℕ) → i < length rs → get_or rs i 0 ≤ k + i) →
-    map (led_root child root) (take n rs) ++ drop n rs ≡ rs
-none_led child root k [] zero e h = refl
-none_led child root k [] (suc n) e h = refl
-none_led child root k (r ∷ rs) zero e h = refl
-none_led child root k (r ∷ rs) (suc n) e h =
-    let low : r ≤ k = (let q = h 0 (omega arith) in omega (arith, q)) in
-    ap₂ ◌∷◌ (led_other child root r (λ q. omega (arith, e, low, q)))
-    (none_led child root (suc k) rs n (omega (arith, e)) (λ i l. let q = h (suc i) (omega (arith, l)) in omega (arith, q)))
-
-pub none_before : (rs : List ℕ) → IsRootTable rs → (child root : ℕ) →
-    map (led_root child root) (take child rs) ++ drop child rs ≡ rs
-none_before rs t child root = none_led child root 0 rs child (omega arith)
-    (λ i l. let q = subst (λ x. x ≤ i) (get_or_default rs i i 0 l) (t.below i) in omega (arith, q))
-
--- The root is led, wherever the child has an entry.
+-- Two classes are one.
 module _ (rs : List ℕ) (child root : ℕ) (there : child < length rs) where
   abbrev after : List ℕ
   after = map (led_root child root) rs
 
-  root_led : (n : ℕ) → root_in after n ≡ led_root child root (root_in rs n)
-  root_led n = go (dec_le (suc n) (length rs))
-    where
-      go : Dec (suc n ≤ length rs) → root_in after n ≡ led_root child root (root_in rs n)
-      go (yes h) = get_or-map (led_root child root) rs n n n (omega (arith, h))
-      go (no o) =
-          let past : length rs ≤ n = omega (arith, o) in
-          let long = length-map rs (led_root child root) in
-          get_or_past after n n (omega (arith, past, long))
-          ∙ sym (led_other child root n (λ e. omega (arith, e, there, past)))
-          ∙ ap (led_root child root) (sym (get_or_past rs n n past))
-
-  -- Of a class whose root leads to another.
   module _ (t : IsRootTable rs) (root_own : root_in rs root ≡ root) (smaller : root ≤ child) where
-    at_child : (n : ℕ) → root_in rs n ≡ child → root_in after n ≡ root
-    at_child n e = root_led n ∙ led_child child root (root_in rs n) e
-
-    at_other : (n : ℕ) → root_in rs n ≢ child → root_in after n ≡ root_in rs n
-    at_other n o = root_led n ∙ led_other child root (root_in rs n) o
-
-    at_root : (n : ℕ) → root_in rs n ≡ root → root_in after n ≡ root
-    at_root n e = go (ℕ_discrete (root_in rs n) child)
-      where
-        go : Dec (root_in rs n ≡ child) → root_in after n ≡ root
-        go (yes q) = at_child n q
-        go (no o) = at_other n o ∙ e
-
-    pub led_table : IsRootTable after
-    led_table = record {
-      own = λ n. own n (ℕ_discrete (root_in rs n) child);
-      below = λ n. below n (ℕ_discrete (root_in rs n) child);
-    }
-      where
-        own : (n : ℕ) → Dec (root_in rs n ≡ child) → root_in after (root_in after n) ≡ root_in after n
-        own n (yes q) = ap (root_in after) (at_child n q) ∙ at_root root root_own ∙ sym (at_child n q)
-        own n (no o) = ap (root_in after) (at_other n o) ∙ at_other (root_in rs n) (λ e. o (sym (t.own n) ∙ e))
-            ∙ t.own n ∙ sym (at_other n o)
-
-        below : (n : ℕ) → Dec (root_in rs n ≡ child) → root_in after n ≤ n
-        below n (yes q) = let e = at_child n q in let b = t.below n in omega (arith, e, b, q, smaller)
-        below n (no o) = let e = at_other n o in let b = t.below n in omega (arith, e, b)
-
-    -- So two classes are one, whichever of both has the child as its root.
+    -- Whichever of both has the child as its root.
     pub led_joins : (a b : ℕ) →
         (root_in rs a ≡ child) × (root_in rs b ≡ root) ⊎ (root_in rs a ≡ root) × (root_in rs b ≡ child) →
         JoinsRoots (root_in rs) (root_in after) a b
     led_joins a b (inl (p, q)) = record {
       joined = λ n e. joined n e ∙ lower;
-      others = λ n o z. at_other n (λ e. o (e ∙ sym p));
+      others = λ n o z. at_other rs child root there t root_own smaller n (λ e. o (e ∙ sym p));
     }
       where
         lower : root ≡ min (root_in rs a) (root_in rs b)
         lower = omega (arith, p, q, smaller)
 
         joined : (n : ℕ) → (root_in rs n ≡ root_in rs a) ⊎ (root_in rs n ≡ root_in rs b) → root_in after n ≡ root
-        joined n (inl e) = at_child n (e ∙ p)
-        joined n (inr e) = at_root n (e ∙ q)
+        joined n (inl e) = at_child rs child root there t root_own smaller n (e ∙ p)
+        joined n (inr e) = at_root rs child root there t root_own smaller n (e ∙ q)
     led_joins a b (inr (p, q)) = record {
       joined = λ n e. joined n e ∙ lower;
-      others = λ n o z. at_other n (λ e. z (e ∙ sym q));
+      others = λ n o z. at_other rs child root there t root_own smaller n (λ e. z (e ∙ sym q));
     }
       where
         lower : root ≡ min (root_in rs a) (root_in rs b)
         lower = omega (arith, p, q, smaller)
 
         joined : (n : ℕ) → (root_in rs n ≡ root_in rs a) ⊎ (root_in rs n ≡ root_in rs b) → root_in after n ≡ root
-        joined n (inl e) = at_root n (e ∙ p)
-        joined n (inr e) = at_child n (e ∙ q)
-
--- What is read of a table is the root.
-pub read_root : (rs : List ℕ) (a x : ℕ) → a < length rs → x ≡ get_or rs a x → root_in rs a ≡ x
-read_root rs a x h e = get_or_default rs a a x h ∙ sym e
+        joined n (inl e) = at_root rs child root there t root_own smaller n (e ∙ p)
+        joined n (inr e) = at_child rs child root there t root_own smaller n (e ∙ q)
 
 -- A table that leading made of another.
 pub record Joined (rs ys : List ℕ) (a b : ℕ) : Type 0 where
@@ -150,24 +75,17 @@ module _ (rs : List ℕ) (t : IsRootTable rs) (a b : ℕ) (a_in : a < length rs)
         joins = led_joins rs (root_in rs a) (root_in rs b) there t (t.own b) h a b (inl (refl, refl));
       })
 
--- One more variable, which is its own root, changes no root.
-pub root_more : (rs : List ℕ) (k : ℕ) → root_in (rs ++ length rs ∷ []) k ≡ root_in rs k
-root_more rs k = go (dec_le (suc k) (length rs)) (ℕ_discrete k (length rs))
-  where
-    go : Dec (suc k ≤ length rs) → Dec (k ≡ length rs) → root_in (rs ++ length rs ∷ []) k ≡ root_in rs k
-    go (yes h) d = get_or_append_left rs (length rs ∷ []) k k (omega (arith, h))
-    go (no o) (yes e) = subst (λ i. root_in (rs ++ length rs ∷ []) i ≡ root_in rs i) (sym e)
-        (get_or-append_seam rs (length rs) [] (length rs)
-        ∙ sym (get_or_past rs (length rs) (length rs) (le_refl (length rs))))
-    go (no o) (no d) = let long = length-append rs (length rs ∷ []) in
-        get_or_past (rs ++ length rs ∷ []) k k (omega (arith, o, d, long)) ∙ sym (get_or_past rs k k (omega (arith, o)))
-
-pub more_table : (rs : List ℕ) → IsRootTable rs → IsRootTable (rs ++ length rs ∷ [])
-more_table rs t = record {
-  own = λ n. ap (root_in (rs ++ length rs ∷ [])) (root_more rs n) ∙ root_more rs (root_in rs n) ∙ t.own n
-      ∙ sym (root_more rs n);
-  below = λ n. subst (λ z. z ≤ n) (sym (root_more rs n)) (t.below n);
-}
+  -- What joining the classes of both makes.
+  pub joined_is : (ys : List ℕ) → ys ≡ joined_roots a b rs → Joined rs ys a b
+  joined_is ys e = go (dec_le (root_in rs a) (root_in rs b))
+    where
+      go : Dec (root_in rs a ≤ root_in rs b) → Joined rs ys a b
+      go (yes h) = joined_low ys h (e ∙ ap₂ (λ x y. map (led_root x y) rs)
+          (let m : max (root_in rs a) (root_in rs b) ≡ root_in rs b = omega (arith, h) in m)
+          (let m : min (root_in rs a) (root_in rs b) ≡ root_in rs a = omega (arith, h) in m))
+      go (no o) = joined_high ys (omega (arith, o)) (e ∙ ap₂ (λ x y. map (led_root x y) rs)
+          (let m : max (root_in rs a) (root_in rs b) ≡ root_in rs a = omega (arith, o) in m)
+          (let m : min (root_in rs a) (root_in rs b) ≡ root_in rs b = omega (arith, o) in m))
 
 -- A class with itself.
 pub joins_one : (f : ℕ → ℕ) (a b : ℕ) → f a ≡ f b → JoinsRoots f f a b
@@ -186,8 +104,13 @@ module _ {Key Id Name : Type 0} (m : Meaning Key Id Name) where
       n < length x.sub_roots.items
   root_there x h n made = let there = table_made m.ty x.types.items n made in let c = h.count in omega (arith, there, c)
 
+  -- What joining the classes of two type variables makes.
+  pub roots_joined : (x : InferCtxtInner Key) → HasSubRoots m x → (a b : ℕ) → a < length x.types.items →
+      b < length x.types.items → (ys : List ℕ) → ys ≡ joined_roots a b x.sub_roots.items → Joined x.sub_roots.items ys a b
+  roots_joined x h a b p q = joined_is x.sub_roots.items h.rooted a b (root_there x h a p) (root_there x h b q)
+
   -- The roots with that of one more.
-  pub roots_made : (x : InferCtxtInner Key) (rs : Vec ℕ) →
+  pub roots_made : (x : InferCtxtInner Key) (rs : Roots) →
       rs.items ≡ x.sub_roots.items ++ length x.sub_roots.items ∷ [] → HasSubRoots m x →
       HasSubRoots m (record x { sub_roots = rs })
   roots_made x rs e h = record {
@@ -201,7 +124,7 @@ module _ {Key Id Name : Type 0} (m : Meaning Key Id Name) where
   }
 
   -- Then there is room for one more variable.
-  pub roots_room : (x : InferCtxtInner Key) (rs : Vec ℕ) →
+  pub roots_room : (x : InferCtxtInner Key) (rs : Roots) →
       rs.items ≡ x.sub_roots.items ++ length x.sub_roots.items ∷ [] → HasSubRoots m x →
       length x.types.items + 1 ≤ length rs.items
   roots_room x rs e h =
@@ -212,7 +135,7 @@ module _ {Key Id Name : Type 0} (m : Meaning Key Id Name) where
       omega (arith, a, b, c, d)
 
   -- The roots after two classes were joined.
-  pub roots_kept : (x : InferCtxtInner Key) (rs : Vec ℕ) → length rs.items ≡ length x.sub_roots.items →
+  pub roots_kept : (x : InferCtxtInner Key) (rs : Roots) → length rs.items ≡ length x.sub_roots.items →
       IsRootTable rs.items → (a b : ℕ) → a < length x.types.items → b < length x.types.items →
       JoinsRoots (root_in x.sub_roots.items) (root_in rs.items) a b → HasSubRoots m x →
       HasSubRoots m (record x { sub_roots = rs })
@@ -239,7 +162,7 @@ module _ {Key Id Name : Type 0} (m : Meaning Key Id Name) where
   }
 
   -- Nothing else that a lawful context says of its tables speaks of these roots.
-  pub roots_lawful : (x : InferCtxtInner Key) (rs : Vec ℕ) → HasSubRoots m (record x { sub_roots = rs }) → IsLawful m x →
+  pub roots_lawful : (x : InferCtxtInner Key) (rs : Roots) → HasSubRoots m (record x { sub_roots = rs }) → IsLawful m x →
       IsLawful m (record x { sub_roots = rs })
   roots_lawful x rs h l = record {
     sound = l.sound;

@@ -14,7 +14,7 @@ use Rattle.variable_tables.specs.declared.inner.VariableValue.{VariableValue}
 use Rattle.variable_tables.specs.declared.inner.VariableValue.TheVariants.{Unknown, SameAs, Known}
 use Rattle.variable_tables.specs.declared.inner.Variable.{Variable}
 use Rattle.variable_tables.specs.declared.inner.InferCtxtInner.{InferCtxtInner}
-use Rattle.variable_tables.specs.Variables.{values_of, value_at, root_by, led, entry_of_value, entries_of, LeadsDown}
+use Rattle.variable_tables.specs.Variables.{values_of, value_at, led, entry_of_value, entries_of}
 use Rattle.variable_tables.specs.Tables.{store_of, keys_in, MayBeBoundTo, IsRooted, IsFilled, IsLawful}
 use Rattle.variable_tables.proofs.Beside.{Beside, lawful_beside, keyed_still}
 
@@ -62,15 +62,14 @@ table_made tree vs n h = let a = length-map (values_of vs) (entry_of_value tree)
 pub table_of_entries : {K : Type 0} (tree : K → Tree) (vs : List (Variable K)) (n : ℕ) → n < length (entries_of tree vs) → n < length vs
 table_of_entries tree vs n h = let a = length-map (values_of vs) (entry_of_value tree) in let b = length-map vs (λ v. v.value) in omega (arith, h, a, b)
 
--- A table leads down where its entries do.
-pub leads_down : {K : Type 0} (tree : K → Tree) (vs : List (Variable K)) →
-    ((n m : ℕ) → get_or (entries_of tree vs) n unbound ≡ same_as m → m < n) → LeadsDown vs
-leads_down tree vs falls n = go (value_at vs n) (get_or-map (entry_of_value tree) (values_of vs) n Unknown)
+-- Nothing is recorded of a variable whose entry says so.
+pub value_free : {K : Type 0} (tree : K → Tree) (vs : List (Variable K)) (n : ℕ) → get_or (entries_of tree vs) n unbound ≡ unbound → value_at vs n ≡ Unknown
+value_free tree vs n e = go (value_at vs n) (sym (get_or-map (entry_of_value tree) (values_of vs) n Unknown) ∙ e)
   where
-    go : (v : VariableValue _) → get_or (entries_of tree vs) n unbound ≡ entry_of_value tree v → root_by n v ≤ n
-    go Unknown e = omega arith
-    go (SameAs m) e = let less = falls n m e in omega (arith, less)
-    go (Known t) e = omega arith
+    go : (v : VariableValue _) → entry_of_value tree v ≡ unbound → v ≡ Unknown
+    go Unknown q = refl
+    go (SameAs m) q = absurd (cc q)
+    go (Known t) q = absurd (cc q)
 
 -- A store of which all but one kind's entries and universes, and the budget, stands.
 pub record OtherKinds (before after : Store) (k : VarKind) : Type 0 where

@@ -1,4 +1,5 @@
+pub mod Tabled
+pub mod Rooted
 pub mod Variables
 pub mod Numbers
-pub mod SubRoots
 pub mod Tables

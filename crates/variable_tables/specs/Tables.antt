@@ -14,7 +14,7 @@ use Rattle.relation_semantics.specs.ContextCalls.{BindingsAreWellBound}
 use Rattle.variable_tables.specs.declared.inner.InferCtxtInner.{InferCtxtInner}
 use Rattle.variable_tables.specs.Variables.{entries_of, universes_of, trees_of}
 use Rattle.variable_tables.specs.Numbers.{number_trees}
-use Rattle.variable_tables.specs.SubRoots.{root_in, IsRootTable}
+use Rattle.variable_classes.specs.Roots.{root_in, IsRootTable}
 
 -- One thing for each kind of variables: types, integers, floats, constants, regions.
 abbrev pub by_kind : {A : Type 0} → A → A → A → A → A → VarKind → A

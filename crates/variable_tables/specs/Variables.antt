@@ -1,5 +1,5 @@
 -- One table of variables, as lists: what is recorded of them, and what leading a class on makes of it.
-use Rattle.std.specs.Prelude.{ℕ, ◌≤◌, min, List, map, get_or, slice_set, eqb, cond, Option, Some, None}
+use Rattle.std.specs.Prelude.{ℕ, min, List, map, get_or, slice_set, eqb, cond, Option, Some, None}
 use Rattle.relation_terms.specs.Trees.{Tree}
 use Rattle.relation_terms.specs.declared.terms.numbers.UniverseIndex.{UniverseIndex}
 use Rattle.relation_semantics.specs.Stores.{Entry, unbound, same_as, bound_to}
@@ -34,10 +34,6 @@ module _ {K : Type 0} where
   abbrev pub root_at : List (Variable K) → ℕ → ℕ
   root_at vs n = root_by n (value_at vs n)
 
-  -- No variable leads to one of a larger number.
-  abbrev pub LeadsDown : List (Variable K) → Type 0
-  LeadsDown vs = (n : ℕ) → root_at vs n ≤ n
-
   -- The universe of a variable of which nothing is recorded, or none.
   abbrev pub free_universe : ℕ → VariableValue K → Option UniverseIndex
   free_universe u Unknown = Some (record { 0 = u })
@@ -57,14 +53,15 @@ module _ {K : Type 0} where
   abbrev pub term_at : Variable K → K
   term_at v = term_by v.key v.value
 
+  -- A variable of which nothing is recorded.
+  abbrev pub free_variable : K → UniverseIndex → Variable K
+  free_variable k u = record { key = k; value = Unknown; universe = u }
+
   -- What leads to the child leads to the root from then on; all else stands.
   abbrev pub led : ℕ → ℕ → VariableValue K → VariableValue K
   led child root Unknown = Unknown
   led child root (SameAs m) = SameAs (cond (eqb m child) root m)
   led child root (Known t) = Known t
-
-  abbrev pub led_variable : ℕ → ℕ → Variable K → Variable K
-  led_variable child root v = record { key = v.key; value = led child root v.value; universe = v.universe }
 
   -- What is recorded of variables once the child and its class lead to the root, and their universes then.
   abbrev pub led_values : ℕ → ℕ → List (Variable K) → List (VariableValue K)

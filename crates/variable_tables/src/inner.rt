@@ -1,7 +1,9 @@
 //! The tables of a context.
+use crate::table::VariableTable;
 use relation_semantics::infer_ctxt::TypingMode;
 use relation_terms::predicate::{OutlivesPredicate, RegionConstraint};
 use relation_terms::terms::{ConstKey, RegionKey, TyKey, UniverseIndex};
+use variable_classes::VariableClasses;
 
 /// What is recorded of a variable, whose terms are `K`. Of a region variable nothing is.
 #[derive(Clone, Copy)]
@@ -28,14 +30,14 @@ pub struct Variable<K> {
 /// whether an error was met; and the keys of all integer and float types.
 #[derive(Drop)]
 pub struct InferCtxtInner<X> {
-    pub types: Vec<Variable<TyKey<X>>>,
-    pub ints: Vec<Variable<TyKey<X>>>,
-    pub floats: Vec<Variable<TyKey<X>>>,
-    pub consts: Vec<Variable<ConstKey<X>>>,
-    pub regions: Vec<Variable<RegionKey<X>>>,
+    pub types: VariableTable<TyKey<X>>,
+    pub ints: VariableTable<TyKey<X>>,
+    pub floats: VariableTable<TyKey<X>>,
+    pub consts: VariableTable<ConstKey<X>>,
+    pub regions: VariableTable<RegionKey<X>>,
     pub constraints: Vec<RegionConstraint<X>>,
     pub ty_outlives: Vec<OutlivesPredicate<X, TyKey<X>>>,
-    pub sub_roots: Vec<usize>,
+    pub sub_roots: VariableClasses,
     pub universe: UniverseIndex,
     pub budget: usize,
     pub next_solver: bool,

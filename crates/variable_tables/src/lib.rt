@@ -5,7 +5,6 @@
 #![tactic(auto)]
 
 mod inner;
-pub mod related;
 pub mod table;
 
 pub use inner::{InferCtxtInner, Variable, VariableValue};

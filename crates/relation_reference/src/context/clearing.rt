@@ -16,9 +16,11 @@ use relation_semantics::relate::StructurallyRelateAliases;
 use relation_terms::terms::parts::{part, parts_count};
 use relation_terms::terms::{Interner, OutOfMemory, Part, PartOf, Ty, TyKey, TyKind, Variance};
 use std::collections::HashSet;
+use std::hash::BuildHasherDefault;
+use term_enums::hashing::KeyHasher;
 
 /// The types that were found clear for a variable: at every variance, on every side of aliases.
-pub type ClearTypes<X> = HashSet<TyKey<X>>;
+pub type ClearTypes<X> = HashSet<TyKey<X>, BuildHasherDefault<KeyHasher>>;
 
 // Whether a term is an alias type, where aliases are left to goals.
 fn is_left_alias<I: Interner>(cx: &I, term: &PartOf<I>, aliases: StructurallyRelateAliases) -> bool

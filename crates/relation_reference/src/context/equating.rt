@@ -15,8 +15,6 @@ use crate::context::numbers::{float_value_place, int_value_place};
 use relation_terms::terms::{
     ConstVid, FloatVarValue, FloatVid, IntVarValue, IntVid, Interner, TyVid,
 };
-use variable_tables::related::join_roots;
-use variable_tables::table::{bind, link};
 
 impl<I: Interner> RefCtxt<I> {
     /// Makes two roots of type variables one: the one of the larger number leads to the other, with all of its class,
@@ -37,11 +35,11 @@ impl<I: Interner> RefCtxt<I> {
         ensures marks { JoinsRoots (sub_root_in self.old.inner) (sub_root_in self.new.inner) a.0 b.0 }
     {
         if a.0 < b.0 {
-            link(&mut self.inner.types, b.0, a.0);
-            join_roots(&mut self.inner.sub_roots, a.0, b.0);
+            self.inner.types.link(b.0, a.0);
+            self.inner.sub_roots.join(a.0, b.0);
         } else if b.0 < a.0 {
-            link(&mut self.inner.types, a.0, b.0);
-            join_roots(&mut self.inner.sub_roots, a.0, b.0);
+            self.inner.types.link(a.0, b.0);
+            self.inner.sub_roots.join(a.0, b.0);
         }
     }
 
@@ -60,9 +58,9 @@ impl<I: Interner> RefCtxt<I> {
         ensures rest { KeepsRest (context_in I.meaning self.old) (context_in I.meaning self.new) }
     {
         if a.0 < b.0 {
-            link(&mut self.inner.ints, b.0, a.0);
+            self.inner.ints.link(b.0, a.0);
         } else if b.0 < a.0 {
-            link(&mut self.inner.ints, a.0, b.0);
+            self.inner.ints.link(a.0, b.0);
         }
     }
 
@@ -81,9 +79,9 @@ impl<I: Interner> RefCtxt<I> {
         ensures rest { KeepsRest (context_in I.meaning self.old) (context_in I.meaning self.new) }
     {
         if a.0 < b.0 {
-            link(&mut self.inner.floats, b.0, a.0);
+            self.inner.floats.link(b.0, a.0);
         } else if b.0 < a.0 {
-            link(&mut self.inner.floats, a.0, b.0);
+            self.inner.floats.link(a.0, b.0);
         }
     }
 
@@ -102,9 +100,9 @@ impl<I: Interner> RefCtxt<I> {
         ensures rest { KeepsRest (context_in I.meaning self.old) (context_in I.meaning self.new) }
     {
         if a.0 < b.0 {
-            link(&mut self.inner.consts, b.0, a.0);
+            self.inner.consts.link(b.0, a.0);
         } else if b.0 < a.0 {
-            link(&mut self.inner.consts, a.0, b.0);
+            self.inner.consts.link(a.0, b.0);
         }
     }
 
@@ -121,7 +119,7 @@ impl<I: Interner> RefCtxt<I> {
     {
         let place = int_value_place(value);
         let key = self.inner.numbers[place];
-        bind(&mut self.inner.ints, var.0, key);
+        self.inner.ints.bind(var.0, key);
     }
 
     /// Binds the root of a float variable to a float type, for nothing of the budget.
@@ -137,6 +135,6 @@ impl<I: Interner> RefCtxt<I> {
     {
         let place = float_value_place(value);
         let key = self.inner.numbers[place];
-        bind(&mut self.inner.floats, var.0, key);
+        self.inner.floats.bind(var.0, key);
     }
 }

@@ -17,7 +17,7 @@ use relation_semantics::variable_forms::{const_vid, float_vid, int_vid, ty_vid};
 use relation_terms::terms::parts::{the_const, the_ty};
 use relation_terms::terms::{Const, Interner, OutOfMemory, Part, PartOf, Region, RegionKind, Ty};
 use std::collections::HashMap;
-use variable_tables::table::has;
+use std::hash::BuildHasherDefault;
 
 // What a variable comes to. One that the tables don't have is itself.
 fn resolve_variable<I: Interner>(
@@ -36,7 +36,7 @@ fn resolve_variable<I: Interner>(
     ensures resolves { IfOk result (λ t. IsResolvedPart I.meaning cx.old cx.new inner.now variable.now t) }
 {
     if is_made {
-        let mut memory = HashMap::new(cx.alloc());
+        let mut memory = HashMap::with_hasher(cx.alloc(), BuildHasherDefault::new());
         return resolve_part(cx, inner, variable, &mut memory);
     }
     Ok(*variable)
@@ -102,15 +102,15 @@ impl<'a, I: Interner> TypeFolder<I> for Resolver<'a, I::Key> {
     ) -> Result<Fold<Ty<I>>, OutOfMemory> {
         let kind = cx.ty_kind(ty);
         if let Some(vid) = ty_vid(&kind) {
-            let is_made = has(&self.inner.types, vid.0);
+            let is_made = self.inner.types.has(vid.0);
             return put_ty(cx, self.inner, ty, is_made);
         }
         if let Some(vid) = int_vid(&kind) {
-            let is_made = has(&self.inner.ints, vid.0);
+            let is_made = self.inner.ints.has(vid.0);
             return put_ty(cx, self.inner, ty, is_made);
         }
         if let Some(vid) = float_vid(&kind) {
-            let is_made = has(&self.inner.floats, vid.0);
+            let is_made = self.inner.floats.has(vid.0);
             return put_ty(cx, self.inner, ty, is_made);
         }
         Ok(Fold::Descend)
@@ -135,7 +135,7 @@ impl<'a, I: Interner> TypeFolder<I> for Resolver<'a, I::Key> {
         _depth: u128,
     ) -> Result<Fold<Const<I>>, OutOfMemory> {
         if let Some(vid) = const_vid(&cx.const_kind(constant)) {
-            let is_made = has(&self.inner.consts, vid.0);
+            let is_made = self.inner.consts.has(vid.0);
             return put_const(cx, self.inner, constant, is_made);
         }
         Ok(Fold::Descend)

@@ -30,6 +30,8 @@ use relation_terms::terms::{
     Interner, OutOfMemory, Part, PartOf, Ty, TyKey, TyVid, UniverseIndex, Variance,
 };
 use std::collections::{HashMap, HashSet};
+use std::hash::BuildHasherDefault;
+use term_enums::hashing::KeyHasher;
 
 /// A type as it is looked for: whether it stands inside an alias that is left to a goal, the variance at which it
 /// stands, and its key.
@@ -41,7 +43,7 @@ pub struct MetKey<X> {
 }
 
 /// What types that were met became.
-pub type MetTypes<X> = HashMap<MetKey<X>, TyKey<X>>;
+pub type MetTypes<X> = HashMap<MetKey<X>, TyKey<X>, BuildHasherDefault<KeyHasher>>;
 
 // What the type became at the variance on the side, if it was met before.
 fn recall_type<I: Interner>(
@@ -294,8 +296,8 @@ impl<I: Interner> RefCtxt<I> {
         ensures rest { MarksNew (context_in I.meaning self.old) (context_in I.meaning self.new) }
         ensures generalised { GeneralisesFor I.meaning self.old self.new target.now variance source.now result }
     {
-        let mut met = HashMap::new(self.interner.alloc());
-        let mut clear = HashSet::new(self.interner.alloc());
+        let mut met = HashMap::with_hasher(self.interner.alloc(), BuildHasherDefault::new());
+        let mut clear = HashSet::with_hasher(self.interner.alloc(), BuildHasherDefault::new());
         self.generalise_part(source, false, variance, target, &mut met, &mut clear)
     }
 }

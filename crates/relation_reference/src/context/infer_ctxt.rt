@@ -19,7 +19,6 @@ use relation_terms::terms::{
     Const, ConstVid, ErrorGuaranteed, FloatVarValue, FloatVid, IntVarValue, IntVid, Interner,
     OutOfMemory, Region, RegionVid, Span, Ty, TyVid, UniverseIndex, Variance,
 };
-use variable_tables::table::{key_of, root_of, universe_of_class};
 
 impl<I: Interner> InferCtxtLike for RefCtxt<I> {
     type Interner = I;
@@ -60,27 +59,27 @@ impl<I: Interner> InferCtxtLike for RefCtxt<I> {
     }
 
     fn universe_of_ty(&self, vid: TyVid) -> Option<UniverseIndex> {
-        universe_of_class(&self.inner.types, vid.0)
+        self.inner.types.universe_of_class(vid.0)
     }
 
     fn universe_of_lt(&self, vid: RegionVid) -> Option<UniverseIndex> {
-        universe_of_class(&self.inner.regions, vid.0)
+        self.inner.regions.universe_of_class(vid.0)
     }
 
     fn universe_of_ct(&self, vid: ConstVid) -> Option<UniverseIndex> {
-        universe_of_class(&self.inner.consts, vid.0)
+        self.inner.consts.universe_of_class(vid.0)
     }
 
     fn root_ty_var(&self, var: TyVid) -> TyVid {
-        TyVid(root_of(&self.inner.types, var.0))
+        TyVid(self.inner.types.root_of(var.0))
     }
 
     fn sub_unification_table_root_var(&self, var: TyVid) -> TyVid {
-        TyVid(self.inner.sub_roots[var.0])
+        TyVid(self.inner.sub_roots.root(var.0))
     }
 
     fn root_const_var(&self, var: ConstVid) -> ConstVid {
-        ConstVid(root_of(&self.inner.consts, var.0))
+        ConstVid(self.inner.consts.root_of(var.0))
     }
 
     fn opportunistic_resolve_ty_var(&self, vid: TyVid) -> Ty<I> {
@@ -100,7 +99,7 @@ impl<I: Interner> InferCtxtLike for RefCtxt<I> {
     }
 
     fn opportunistic_resolve_lt_var(&self, vid: RegionVid) -> Region<I> {
-        key_of(&self.inner.regions, vid.0)
+        self.inner.regions.key_of(vid.0)
     }
 
     fn shallow_resolve(&self, ty: &Ty<I>) -> Ty<I> {

@@ -16,7 +16,6 @@ use relation_folds::error::{RelateFault, RelateFaultOf, TypeError};
 use relation_semantics::relate::StructurallyRelateAliases;
 use relation_terms::terms::parts::{the_const, the_ty};
 use relation_terms::terms::{Const, ConstVid, Interner, Part, Ty, TyVid, Variance};
-use variable_tables::table::bind;
 
 impl<I: Interner> RefCtxt<I> {
     /// Binds the root of a type variable, at a variance, to what a type comes to, generalised for what the root can
@@ -54,13 +53,13 @@ impl<I: Interner> RefCtxt<I> {
         let resolved = self.resolve_ty(source)?;
         let goal = Target {
             vid: TermVid::Ty(target),
-            universe: self.inner.types[target.0].universe,
+            universe: self.inner.types.universe_of(target.0),
             aliases,
             cyclic: TypeError::CyclicTy(resolved),
         };
         let part = self.generalise(&Part::Ty(resolved), variance, &goal)?;
         let bound = the_ty(&part);
-        bind(&mut self.inner.types, target.0, bound);
+        self.inner.types.bind(target.0, bound);
         self.inner.budget -= 1;
         Ok(bound)
     }
@@ -89,13 +88,13 @@ impl<I: Interner> RefCtxt<I> {
         let resolved = self.resolve_const(source)?;
         let goal = Target {
             vid: TermVid::Const(target),
-            universe: self.inner.consts[target.0].universe,
+            universe: self.inner.consts.universe_of(target.0),
             aliases,
             cyclic: TypeError::CyclicConst(resolved),
         };
         let part = self.generalise(&Part::Const(resolved), Variance::Invariant, &goal)?;
         let bound = the_const(&part);
-        bind(&mut self.inner.consts, target.0, bound);
+        self.inner.consts.bind(target.0, bound);
         self.inner.budget -= 1;
         Ok(bound)
     }

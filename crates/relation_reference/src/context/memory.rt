@@ -7,6 +7,8 @@ ghost use Rattle.relation_reference.specs.Remembering.{ResolvesTo, key_of as the
 
 use relation_terms::terms::{Interner, OutOfMemory, Part, PartOf};
 use std::collections::HashMap;
+use std::hash::BuildHasherDefault;
+use term_enums::hashing::KeyHasher;
 use variable_tables::InferCtxtInner;
 
 /// A part as it is looked for: of which sort it is, and its key.
@@ -17,7 +19,7 @@ pub struct PartKey<X> {
 }
 
 /// What parts that were met were resolved to.
-pub type Resolutions<X, D> = HashMap<PartKey<X>, Part<X, D>>;
+pub type Resolutions<X, D> = HashMap<PartKey<X>, Part<X, D>, BuildHasherDefault<KeyHasher>>;
 
 // A part as it is looked for, where it has a key.
 fn key_of<X: Copy, D: Copy>(part: &Part<X, D>) -> Option<PartKey<X>>

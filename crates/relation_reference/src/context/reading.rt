@@ -18,7 +18,6 @@ use crate::context::shallow::{
 use crate::context::{RefCtxt, VariableValue};
 use relation_semantics::infer_ctxt::InferCtxtLike;
 use relation_terms::terms::{Const, ConstVid, FloatVid, IntVid, Interner, Ty, TyVid};
-use variable_tables::table::{probe, root_of};
 
 impl<I: Interner> RefCtxt<I> {
     /// The root of an integer variable's class.
@@ -29,7 +28,7 @@ impl<I: Interner> RefCtxt<I> {
         ensures leads { LeadsTo (store_in I.meaning self.now) int_var var.0 result.0 }
         ensures root { IsRoot (store_in I.meaning self.now) int_var result.0 }
     {
-        IntVid(root_of(&self.inner.ints, var.0))
+        IntVid(self.inner.ints.root_of(var.0))
     }
 
     /// The root of a float variable's class.
@@ -40,7 +39,7 @@ impl<I: Interner> RefCtxt<I> {
         ensures leads { LeadsTo (store_in I.meaning self.now) float_var var.0 result.0 }
         ensures root { IsRoot (store_in I.meaning self.now) float_var result.0 }
     {
-        FloatVid(root_of(&self.inner.floats, var.0))
+        FloatVid(self.inner.floats.root_of(var.0))
     }
 
     /// The type that a type variable's class is bound to, or none.
@@ -51,7 +50,7 @@ impl<I: Interner> RefCtxt<I> {
         ensures unbound { IfNone result (HasNoBinding (store_in I.meaning self.now) type_var var.0) }
     {
         let root = self.root_ty_var(var);
-        match probe(&self.inner.types, root.0) {
+        match self.inner.types.probe(root.0) {
             VariableValue::Known(ty) => Some(ty),
             VariableValue::Unknown => None,
             VariableValue::SameAs(_) => unreachable!(),

@@ -12,8 +12,8 @@ ghost use Rattle.relation_reference.specs.RefCtxt.{store_in, context_in};
 ghost use Rattle.relation_reference.specs.Changes.{MeansNext, store_after, AddsEqual, AddsOutlives, MakesTyVar};
 ghost use Rattle.relation_reference.specs.Changes.{MakesIntVar, MakesFloatVar, MakesConstVar, MakesRegionVar};
 
+use crate::context::RefCtxt;
 use crate::context::universes::next_universe;
-use crate::context::{RefCtxt, Variable, VariableValue};
 use relation_terms::predicate::{OutlivesPredicate, RegionConstraint, RegionEqPredicate};
 use relation_terms::terms::{
     Const, ConstKind, ConstVid, FloatVid, GenericArgKind, InferConst, InferTy, IntVid, Interner,
@@ -41,14 +41,9 @@ impl<I: Interner> RefCtxt<I> {
         let key = self
             .interner
             .mk_ty(TyKind::Infer(InferTy::TyVar(TyVid(number))))?;
-        self.inner.sub_roots.reserve(1)?;
-        self.inner.types.push(Variable {
-            key,
-            value: VariableValue::Unknown,
-            universe,
-        })?;
-        let own_root = self.inner.sub_roots.len();
-        self.inner.sub_roots.push_reserved(own_root);
+        self.inner.sub_roots.reserve()?;
+        self.inner.types.push(key, universe)?;
+        self.inner.sub_roots.push_reserved();
         Ok(key)
     }
 
@@ -89,11 +84,7 @@ impl<I: Interner> RefCtxt<I> {
         let key = self
             .interner
             .mk_ty(TyKind::Infer(InferTy::IntVar(IntVid(number))))?;
-        self.inner.ints.push(Variable {
-            key,
-            value: VariableValue::Unknown,
-            universe: UniverseIndex(0),
-        })?;
+        self.inner.ints.push(key, UniverseIndex(0))?;
         Ok(key)
     }
 
@@ -116,11 +107,7 @@ impl<I: Interner> RefCtxt<I> {
         let key = self
             .interner
             .mk_ty(TyKind::Infer(InferTy::FloatVar(FloatVid(number))))?;
-        self.inner.floats.push(Variable {
-            key,
-            value: VariableValue::Unknown,
-            universe: UniverseIndex(0),
-        })?;
+        self.inner.floats.push(key, UniverseIndex(0))?;
         Ok(key)
     }
 
@@ -144,11 +131,7 @@ impl<I: Interner> RefCtxt<I> {
         let key = self
             .interner
             .mk_const(ConstKind::Infer(InferConst::Var(ConstVid(number))))?;
-        self.inner.consts.push(Variable {
-            key,
-            value: VariableValue::Unknown,
-            universe,
-        })?;
+        self.inner.consts.push(key, universe)?;
         Ok(key)
     }
 
@@ -189,11 +172,7 @@ impl<I: Interner> RefCtxt<I> {
         let key = self
             .interner
             .mk_region(RegionKind::ReVar(RegionVid(number)))?;
-        self.inner.regions.push(Variable {
-            key,
-            value: VariableValue::Unknown,
-            universe,
-        })?;
+        self.inner.regions.push(key, universe)?;
         Ok(key)
     }
 

@@ -15,6 +15,7 @@ use crate::context::{InferCtxtInner, RefCtxt};
 use relation_terms::terms::parts::{is_same, part, parts_count, the_const, the_ty, with_parts};
 use relation_terms::terms::{Const, Interner, OutOfMemory, Part, PartOf, Ty};
 use std::collections::HashMap;
+use std::hash::BuildHasherDefault;
 
 // The term itself, or for a type or a constant what it is resolved to shallowly. What that comes to is the form
 // over what its parts come to.
@@ -112,7 +113,7 @@ impl<I: Interner> RefCtxt<I> {
         ensures sure { IfOk result (λ t. IsTrue (known ((I.meaning self.new.interner).ty t))) }
         ensures resolves { IfOk result (λ t. IsResolved I.meaning self.old self.new (λ m. m.ty) ty.now t) }
     {
-        let mut memory = HashMap::new(self.interner.alloc());
+        let mut memory = HashMap::with_hasher(self.interner.alloc(), BuildHasherDefault::new());
         let resolved = resolve_part(&mut self.interner, &self.inner, &Part::Ty(*ty), &mut memory);
         Ok(the_ty(&resolved?))
     }
@@ -127,7 +128,7 @@ impl<I: Interner> RefCtxt<I> {
         ensures sure { IfOk result (λ t. IsTrue (known ((I.meaning self.new.interner).const_ t))) }
         ensures resolves { IfOk result (λ t. IsResolved I.meaning self.old self.new (λ m. m.const_) constant.now t) }
     {
-        let mut memory = HashMap::new(self.interner.alloc());
+        let mut memory = HashMap::with_hasher(self.interner.alloc(), BuildHasherDefault::new());
         let resolved = resolve_part(
             &mut self.interner,
             &self.inner,

@@ -12,7 +12,6 @@ ghost use Rattle.relation_reference.specs.Answers.{ConstResolves, FindsTy, IsWri
 use crate::context::{InferCtxtInner, VariableValue};
 use relation_semantics::variable_forms::{const_vid, float_vid, int_vid, ty_vid};
 use relation_terms::terms::{Const, ConstVid, FloatVid, IntVid, Interner, Ty, TyVid};
-use variable_tables::table::{probe, term_of};
 
 // What is recorded of a type variable: the type that its class is bound to, or else the root of its class.
 fn found_ty<I: Interner>(_cx: &I, inner: &InferCtxtInner<I::Key>, var: TyVid) -> Ty<I>
@@ -23,7 +22,7 @@ fn found_ty<I: Interner>(_cx: &I, inner: &InferCtxtInner<I::Key>, var: TyVid) ->
     ensures reads { VarReadsAsTy (I.meaning _cx.now) inner.now type_var var.0 result }
     ensures by_lists { IsWellBound ((I.meaning _cx.now).ty result) }
 {
-    term_of(&inner.types, var.0)
+    inner.types.term_of(var.0)
 }
 
 // The type variable that a type is, where something is recorded of it.
@@ -37,7 +36,7 @@ fn written_var<I: Interner>(cx: &I, inner: &InferCtxtInner<I::Key>, ty: &Ty<I>) 
         IfNone result (IsShallowTy (store_of (I.meaning cx.now) inner.now) (m.ty ty.now)) }
 {
     let var = ty_vid(&cx.ty_kind(ty))?;
-    match probe(&inner.types, var.0) {
+    match inner.types.probe(var.0) {
         VariableValue::Unknown => None,
         VariableValue::SameAs(_) => Some(var),
         VariableValue::Known(_) => Some(var),
@@ -74,7 +73,7 @@ pub(crate) fn ty_of_int_var<I: Interner>(
     ensures shallow { IsShallow (store_of (I.meaning _cx.now) inner.now) ((I.meaning _cx.now).ty result) }
     ensures by_lists { IsWellBound ((I.meaning _cx.now).ty result) }
 {
-    term_of(&inner.ints, var.0)
+    inner.ints.term_of(var.0)
 }
 
 // The type that a float variable's class is bound to, or else the root of its class.
@@ -90,7 +89,7 @@ pub(crate) fn ty_of_float_var<I: Interner>(
     ensures shallow { IsShallow (store_of (I.meaning _cx.now) inner.now) ((I.meaning _cx.now).ty result) }
     ensures by_lists { IsWellBound ((I.meaning _cx.now).ty result) }
 {
-    term_of(&inner.floats, var.0)
+    inner.floats.term_of(var.0)
 }
 
 // The constant that a constant variable's class is bound to, or else the root of its class.
@@ -106,7 +105,7 @@ pub(crate) fn const_of_var<I: Interner>(
     ensures shallow { IsShallowConst (store_of (I.meaning _cx.now) inner.now) ((I.meaning _cx.now).const_ result) }
     ensures by_lists { IsWellBound ((I.meaning _cx.now).const_ result) }
 {
-    term_of(&inner.consts, var.0)
+    inner.consts.term_of(var.0)
 }
 
 // The type itself, or for a type variable what is read of it.

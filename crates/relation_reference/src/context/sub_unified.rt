@@ -11,7 +11,6 @@ ghost use Rattle.relation_reference.specs.Changes.{MeansNext, MarksNext, MakesTy
 
 use crate::context::RefCtxt;
 use relation_terms::terms::{Interner, OutOfMemory, Ty, TyVid, UniverseIndex};
-use variable_tables::related::join_roots;
 
 impl<I: Interner> RefCtxt<I> {
     /// Marks two type variables as related, with all that either is related to: the smaller of both roots is that of
@@ -27,7 +26,7 @@ impl<I: Interner> RefCtxt<I> {
         ensures outliving { KeepsOutliving (context_in I.meaning self.old) (context_in I.meaning self.new) }
         ensures marks { JoinsRoots (sub_root_in self.old.inner) (sub_root_in self.new.inner) a.0 b.0 }
     {
-        join_roots(&mut self.inner.sub_roots, a.0, b.0);
+        self.inner.sub_roots.join(a.0, b.0);
     }
 
     // A new type variable in a universe, the current one or an earlier, which is marked as related to another, and so
@@ -51,7 +50,7 @@ impl<I: Interner> RefCtxt<I> {
     {
         let number = self.inner.types.len();
         let made = self.next_ty_var_in(universe)?;
-        join_roots(&mut self.inner.sub_roots, of.0, number);
+        self.inner.sub_roots.join(of.0, number);
         Ok(made)
     }
 }

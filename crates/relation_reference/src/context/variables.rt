@@ -10,6 +10,8 @@ use relation_semantics::infer_ctxt::TypingMode;
 use relation_terms::predicate::{OutlivesPredicate, RegionConstraint};
 use relation_terms::terms::{ErrorGuaranteed, Interner, OutOfMemory, TyKey, UniverseIndex};
 use std::alloc::Global;
+use variable_classes::VariableClasses;
+use variable_tables::table::VariableTable;
 
 /// An inference context: an interner, and what is recorded of variables and regions.
 #[derive(Drop)]
@@ -34,14 +36,14 @@ fn empty_tables<X>(
     ensures mode { result.mode ≡ mode }
 {
     InferCtxtInner {
-        types: Vec::new(alloc),
-        ints: Vec::new(alloc),
-        floats: Vec::new(alloc),
-        consts: Vec::new(alloc),
-        regions: Vec::new(alloc),
+        types: VariableTable::new(alloc),
+        ints: VariableTable::new(alloc),
+        floats: VariableTable::new(alloc),
+        consts: VariableTable::new(alloc),
+        regions: VariableTable::new(alloc),
         constraints: Vec::new(alloc),
         ty_outlives: Vec::new(alloc),
-        sub_roots: Vec::new(alloc),
+        sub_roots: VariableClasses::new(alloc),
         universe: UniverseIndex(0),
         budget,
         next_solver,

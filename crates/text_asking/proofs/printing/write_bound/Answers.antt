@@ -1,24 +1,22 @@
-use Rattle.std.proofs.Common.{sym, subst}
-use Rattle.text_asking.specs.Asking.{AreBoundKnown}
 use Rattle.text_asking.proofs.Recorded.{types_known, ints_known, floats_known, consts_known}
 use Rattle.text_asking.proofs.printing.write_bound.Goals as goal
 
 pub write_bound_tys-requires : goal.write_bound_tys-requires
 write_bound_tys-requires g c =
     let m = g.I.Interner.meaning c.args.ctx.now.interner in
-    subst (AreBoundKnown m.ty) (sym c.deref.ensures.value) (types_known m c.args.ctx.now.inner c.requires)
+    types_known m c.args.ctx.now.inner c.requires
 
 pub write_bound_tys-requires-2 : goal.write_bound_tys-requires-2
 write_bound_tys-requires-2 g c =
     let m = g.I.Interner.meaning c.args.ctx.now.interner in
-    subst (AreBoundKnown m.ty) (sym c.deref-2.ensures.value) (ints_known m c.args.ctx.now.inner c.requires)
+    ints_known m c.args.ctx.now.inner c.requires
 
 pub write_bound_tys-requires-3 : goal.write_bound_tys-requires-3
 write_bound_tys-requires-3 g c =
     let m = g.I.Interner.meaning c.args.ctx.now.interner in
-    subst (AreBoundKnown m.ty) (sym c.deref-3.ensures.value) (floats_known m c.args.ctx.now.inner c.requires)
+    floats_known m c.args.ctx.now.inner c.requires
 
 pub write_bound_consts-requires : goal.write_bound_consts-requires
 write_bound_consts-requires g c =
     let m = g.I.Interner.meaning c.args.ctx.now.interner in
-    subst (AreBoundKnown m.const_) (sym c.deref-4.ensures.value) (consts_known m c.args.ctx.now.inner c.requires)
+    consts_known m c.args.ctx.now.inner c.requires

@@ -5,14 +5,6 @@ use Rattle.relation_reference.proofs.Reading.{root_made, found, found_known, fou
 use Rattle.variable_tables.proofs.Writing.{table_made, table_of_entries}
 use Rattle.relation_reference.proofs.context.shallow.const_of_var.Goals as goal
 
-pub term_of-requires-clause-root_made : goal.term_of-requires-clause-root_made
-term_of-requires-clause-root_made g c =
-    let m = g.I.Interner.meaning c.args._cx.now in
-    let x = c.args.inner.now in
-    let l = c.requires.lawful in
-    let v = c.args.var.0 in
-    table_of_entries m.const_ x.consts.items _ (root_made m.const_ x.consts.items (store_of m x) const_var refl l.sound v (table_made m.const_ x.consts.items v c.requires.made))
-
 pub returns : goal.returns
 returns g c =
     let m = g.I.Interner.meaning c.args._cx.now in

@@ -1,7 +1,7 @@
 use Rattle.std.proofs.Common.{ap, sym, subst}
 use Rattle.relation_semantics.specs.Steps.{Taints}
 use Rattle.relation_reference.specs.RefCtxt.{store_in}
-use Rattle.variable_tables.specs.SubRoots.{root_in}
+use Rattle.variable_classes.specs.Roots.{root_in}
 use Rattle.variable_tables.specs.Tables.{setup_in, store_of}
 use Rattle.relation_reference.proofs.Calls.{stood}
 use Rattle.relation_reference.proofs.Tainting.{taints}

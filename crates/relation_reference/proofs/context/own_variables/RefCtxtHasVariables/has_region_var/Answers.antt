@@ -1,4 +1,3 @@
-use Rattle.std.proofs.Common.{◌∙◌}
 use Rattle.relation_reference.proofs.Owning.{is_own}
 use Rattle.relation_reference.proofs.context.own_variables.RefCtxtHasVariables.has_region_var.Goals as goal
 
@@ -6,4 +5,4 @@ pub returns : goal.returns
 returns g c =
     let m = g.I.Interner.meaning c.args.self.now.interner in
     let table = c.args.self.now.inner.regions in
-    is_own m.region table.items c.args.vid.0 c.len.result (c.len.ensures ∙ table.ok.0)
+    is_own m.region table.items c.args.vid.0 c.len.result c.len.ensures

@@ -1,5 +1,6 @@
 use Rattle.std.proofs.Common.{refl, arith}
 use Rattle.relation_semantics.specs.NumberValues.{float_value_tree}
+use Rattle.variable_tables.proofs.Writing.{value_free}
 use Rattle.relation_reference.proofs.Numbers.{number_in, float_bound, float_bound_lawful}
 use Rattle.relation_reference.proofs.context.variables.RefCtxt.instantiate_float_var_raw.Goals as goal
 
@@ -15,7 +16,7 @@ pub returns-clause-lawful : goal.returns-clause-lawful
 returns-clause-lawful g c =
     let m = g.I.Interner.meaning c.args.self.now.interner in
     let x = c.args.self.now.inner in
-    float_bound_lawful m x c.requires.lawful c.bind.new.table c.args.var.0 c.float_value_place-place.result c.index-key.result.now (float_value_tree c.args.value)
+    float_bound_lawful m x c.requires.lawful c.bind.new.self c.args.var.0 c.float_value_place-place.result c.index-key.result.now (float_value_tree c.args.value)
     c.float_value_place-place.ensures.place c.float_value_place-place.ensures.is c.index-key.ensures c.bind.ensures.keys c.bind.ensures.values c.bind.ensures.universes
     c.requires.made c.requires.unbound c.args.value c.requires.value_known refl
 
@@ -23,6 +24,10 @@ pub returns-clause-binds : goal.returns-clause-binds
 returns-clause-binds g c =
     let m = g.I.Interner.meaning c.args.self.now.interner in
     let x = c.args.self.now.inner in
-    float_bound m x c.requires.lawful c.bind.new.table c.args.var.0 c.float_value_place-place.result c.index-key.result.now (float_value_tree c.args.value)
+    float_bound m x c.requires.lawful c.bind.new.self c.args.var.0 c.float_value_place-place.result c.index-key.result.now (float_value_tree c.args.value)
     c.float_value_place-place.ensures.place c.float_value_place-place.ensures.is c.index-key.ensures c.bind.ensures.keys c.bind.ensures.values c.bind.ensures.universes
     c.requires.made c.requires.unbound c.args.value c.requires.value_known refl
+
+pub bind-requires-clause-free : goal.bind-requires-clause-free
+bind-requires-clause-free g c =
+    value_free (g.I.Interner.meaning c.args.self.now.interner).ty c.args.self.now.inner.floats.items c.args.var.0 c.requires.unbound

@@ -1,4 +1,4 @@
-use Rattle.std.proofs.Common.{◌≡◌, [], refl, ap, sym, subst, suc, arith, map, length, ◌<◌, IsTrue, ◌-◌}
+use Rattle.std.proofs.Common.{◌≡◌, [], refl, ap, sym, subst, suc, arith, map, IsTrue, ◌-◌}
 use Rattle.relation_terms.specs.declared.terms.part_kind.Part.TheVariants.{Ty}
 use Rattle.relation_terms.specs.Heads.{type_var}
 use Rattle.relation_terms.specs.Trees.{known}
@@ -15,8 +15,8 @@ use Rattle.variable_tables.specs.Tables.{setup_in, store_of}
 use Rattle.relation_reference.proofs.Comes.{same_record}
 use Rattle.relation_reference.proofs.Marking.{set_back, marks_none, marks_grow, marks_bound}
 use Rattle.variable_tables.proofs.Beside.{types_beside}
-use Rattle.relation_reference.proofs.Instantiating.{resolved_lawful, universe_read, out_of_memory, source_context, left_still, made_still, stopped, generalised_here, by_rules, bound_lawful, type_may}
-use Rattle.variable_tables.proofs.Writing.{bound_entries, table_made, table_of_entries}
+use Rattle.relation_reference.proofs.Instantiating.{resolved_lawful, out_of_memory, source_context, left_still, made_still, free_still, stopped, generalised_here, by_rules, bound_lawful, type_may}
+use Rattle.variable_tables.proofs.Writing.{bound_entries, value_free, table_made, table_of_entries}
 use Rattle.relation_reference.proofs.context.variables.RefCtxt.instantiate_ty_var_raw.Goals as goal
 
 pub resolve_ty-requires-clause-ty_in : goal.resolve_ty-requires-clause-ty_in
@@ -55,8 +55,7 @@ generalise-requires-clause-lawful g c =
 
 pub generalise-requires-clause-universe : goal.generalise-requires-clause-universe
 generalise-requires-clause-universe g c =
-    let within = subst (λ a. c.args.target.0 < length a.types.items) (sym c.resolve_ty.ensures.inner) c.requires.target_made in
-    universe_read c.resolve_ty.new.self.inner.types.items c.args.target.0 c.index.result.now within c.index.ensures
+    sym c.universe_of.ensures
 
 pub generalise-requires-clause-source_in : goal.generalise-requires-clause-source_in
 generalise-requires-clause-source_in g c =
@@ -92,20 +91,19 @@ returns-in_err-part-clause-instantiates g c =
     let r = c.resolve_ty.ensures in
     let i = c.args.target.0 in
     let l = c.requires.lawful in
-    let within = subst (λ a. i < length a.types.items) (sym r.inner) c.requires.target_made in
-    let universe = universe_read w.types.items i c.index.result.now within c.index.ensures in
+    let universe = sym c.universe_of.ensures in
     let key = c.in_ok-resolved.resolved in
     let f = c.in_err-part.field-0.0 in
     let e = c.in_err-part.ensures in
-    let u = c.index.result.now.universe.0 in
+    let u = c.universe_of.result.0 in
     let stay = e.grown.ty key c.in_ok-resolved.ensures.sure in
     stopped o r.grown x w z r.inner l c.args.aliases type_var i u universe e.makes (λ a. a.ty) CyclicTy c.args.variance (m.ty c.args.source.now)
     (let d = c.if-self-eq0.false in λ q. omega (arith, d, q)) (table_made m.ty x.types.items i c.requires.target_made) c.requires.target_unbound key c.in_ok-resolved.ensures.resolves
     (knows_as (n.ty key) (o.ty key) stay c.in_ok-resolved.ensures.sure) stay c.args.variance (Ty key) refl f e.generalised c.from_residual-in_err-part.result
     (as_err c.from_residual-in_err-part.result f c.from_residual-in_err-part.ensures.0 c.from_residual-in_err-part.ensures.1)
 
-pub bind-requires : goal.bind-requires
-bind-requires g c =
+pub bind-requires-clause-made : goal.bind-requires-clause-made
+bind-requires-clause-made g c =
     let m = g.I.Interner.meaning c.args.self.now.interner in
     let n = g.I.Interner.meaning c.resolve_ty.new.self.interner in
     let o = g.I.Interner.meaning c.generalise.new.self.interner in
@@ -115,9 +113,22 @@ bind-requires g c =
     let r = c.resolve_ty.ensures in
     let i = c.args.target.0 in
     let l = c.requires.lawful in
-    let within = subst (λ a. i < length a.types.items) (sym r.inner) c.requires.target_made in
-    let universe = universe_read w.types.items i c.index.result.now within c.index.ensures in
-    table_of_entries o.ty z.types.items i (made_still o r.grown x w z r.inner l c.args.aliases type_var i c.index.result.now.universe.0 universe c.in_ok-part.ensures.makes (table_made m.ty x.types.items i c.requires.target_made))
+    let universe = sym c.universe_of.ensures in
+    table_of_entries o.ty z.types.items i (made_still o r.grown x w z r.inner l c.args.aliases type_var i c.universe_of.result.0 universe c.in_ok-part.ensures.makes (table_made m.ty x.types.items i c.requires.target_made))
+
+pub bind-requires-clause-free : goal.bind-requires-clause-free
+bind-requires-clause-free g c =
+    let m = g.I.Interner.meaning c.args.self.now.interner in
+    let n = g.I.Interner.meaning c.resolve_ty.new.self.interner in
+    let o = g.I.Interner.meaning c.generalise.new.self.interner in
+    let x = c.args.self.now.inner in
+    let w = c.resolve_ty.new.self.inner in
+    let z = c.generalise.new.self.inner in
+    let r = c.resolve_ty.ensures in
+    let i = c.args.target.0 in
+    let l = c.requires.lawful in
+    let universe = sym c.universe_of.ensures in
+    value_free o.ty z.types.items i (free_still o r.grown x w z r.inner l c.args.aliases type_var i c.universe_of.result.0 universe c.in_ok-part.ensures.makes c.requires.target_unbound)
 
 pub overflow_sub-self : goal.overflow_sub-self
 overflow_sub-self g c =
@@ -130,9 +141,8 @@ overflow_sub-self g c =
     let r = c.resolve_ty.ensures in
     let i = c.args.target.0 in
     let l = c.requires.lawful in
-    let within = subst (λ a. i < length a.types.items) (sym r.inner) c.requires.target_made in
-    let universe = universe_read w.types.items i c.index.result.now within c.index.ensures in
-    let s = left_still o r.grown x w z r.inner l c.args.aliases type_var i c.index.result.now.universe.0 universe c.in_ok-part.ensures.makes in
+    let universe = sym c.universe_of.ensures in
+    let s = left_still o r.grown x w z r.inner l c.args.aliases type_var i c.universe_of.result.0 universe c.in_ok-part.ensures.makes in
     let d = c.if-self-eq0.false in
     omega (arith, s, d)
 
@@ -147,18 +157,17 @@ returns g c =
     let r = c.resolve_ty.ensures in
     let i = c.args.target.0 in
     let l = c.requires.lawful in
-    let within = subst (λ a. i < length a.types.items) (sym r.inner) c.requires.target_made in
-    let universe = universe_read w.types.items i c.index.result.now within c.index.ensures in
+    let universe = sym c.universe_of.ensures in
     let key = c.in_ok-resolved.resolved in
     let t = m.ty c.args.source.now in
-    let u = c.index.result.now.universe.0 in
+    let u = c.universe_of.result.0 in
     let e = c.in_ok-part.ensures in
     let s = left_still o r.grown x w z r.inner l c.args.aliases type_var i u universe e.makes in
     let left : z.budget ≡ suc (z.budget - 1) = (let d = c.if-self-eq0.false in omega (arith, s, d)) in
     let b = c.the_ty-bound.result in
     let is : part_tree o c.in_ok-part.part ≡ o.ty b = sym (ap (part_tree o) c.the_ty-bound.ensures) in
     let sure = subst (λ a. IsTrue (known a)) is e.generalised.0 in
-    let ts = c.bind.new.table in
+    let ts = c.bind.new.self in
     let y : InferCtxtInner g.row.I-Key.Denot = record z { types = ts; budget = z.budget - 1 } in
     let beside = types_beside o z ts (z.budget - 1) in
     let keys = ap (map o.ty) c.bind.ensures.keys in

@@ -1,4 +1,4 @@
-use Rattle.std.proofs.Common.{◌≡◌, refl, ap, ◌∙◌, length, arith}
+use Rattle.std.proofs.Common.{refl, ap, ◌∙◌}
 use Rattle.relation_terms.specs.Heads.{region_var, variable}
 use Rattle.relation_terms.specs.Trees.{leaf}
 use Rattle.variable_tables.specs.Tables.{store_of}
@@ -22,12 +22,12 @@ returns-in_err-push-clause-refused g c = on_err c.from_residual-in_err-push.resu
 
 pub returns-clause-lawful : goal.returns-clause-lawful
 returns-clause-lawful g c = region_made_lawful c.in_ok-key.ensures.grown c.args.self.now.inner c.requires.lawful c.push.new.self _ c.in_ok-push.ensures.items refl (c.args.universe).0 c.requires.below refl
-    (c.in_ok-key.ensures.made ∙ ap (λ n. leaf (variable region_var n)) (let e : c.len-number.result ≡ length c.args.self.now.inner.regions.items = omega (arith, c.len-number.ensures, c.args.self.now.inner.regions.ok.0) in e))
+    (c.in_ok-key.ensures.made ∙ ap (λ n. leaf (variable region_var n)) c.len-number.ensures)
 
 pub returns-clause-later : goal.returns-clause-later
 returns-clause-later g c = region_made_later c.in_ok-key.ensures.grown c.args.self.now.inner c.requires.lawful c.push.new.self _ c.in_ok-push.ensures.items refl (c.args.universe).0 c.requires.below refl
-    (c.in_ok-key.ensures.made ∙ ap (λ n. leaf (variable region_var n)) (let e : c.len-number.result ≡ length c.args.self.now.inner.regions.items = omega (arith, c.len-number.ensures, c.args.self.now.inner.regions.ok.0) in e))
+    (c.in_ok-key.ensures.made ∙ ap (λ n. leaf (variable region_var n)) c.len-number.ensures)
 
 pub returns-clause-makes : goal.returns-clause-makes
 returns-clause-makes g c = region_made c.in_ok-key.ensures.grown c.args.self.now.inner c.requires.lawful c.push.new.self _ c.in_ok-push.ensures.items refl (c.args.universe).0 c.requires.below refl
-    (c.in_ok-key.ensures.made ∙ ap (λ n. leaf (variable region_var n)) (let e : c.len-number.result ≡ length c.args.self.now.inner.regions.items = omega (arith, c.len-number.ensures, c.args.self.now.inner.regions.ok.0) in e))
+    (c.in_ok-key.ensures.made ∙ ap (λ n. leaf (variable region_var n)) c.len-number.ensures)

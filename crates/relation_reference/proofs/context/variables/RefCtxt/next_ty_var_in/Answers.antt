@@ -1,9 +1,10 @@
-use Rattle.std.proofs.Common.{◌≡◌, refl, ap, ◌∙◌, [], ◌∷◌, ◌++◌, length, arith}
+use Rattle.std.proofs.Common.{◌≡◌, refl, ap, ◌∙◌, [], ◌∷◌, ◌++◌, length}
 use Rattle.relation_terms.specs.Heads.{type_var, variable}
 use Rattle.relation_terms.specs.Trees.{leaf}
-use Rattle.variable_tables.specs.SubRoots.{root_in}
+use Rattle.variable_classes.specs.Roots.{root_in}
+use Rattle.variable_classes.proofs.Rooted.{root_more}
 use Rattle.variable_tables.specs.Tables.{store_of}
-use Rattle.variable_tables.proofs.SubRoots.{root_more, roots_made, roots_room, roots_lawful}
+use Rattle.variable_tables.proofs.SubRoots.{roots_made, roots_room, roots_lawful}
 use Rattle.relation_reference.proofs.Making.{on_err, later_same, refused_lawful, refused_later, refused_store, type_made, type_made_later, type_made_lawful}
 use Rattle.relation_reference.proofs.context.variables.RefCtxt.next_ty_var_in.Goals as goal
 
@@ -48,9 +49,8 @@ returns-in_err-push-clause-rest g c = record {
 pub returns-clause-rest : goal.returns-clause-rest
 returns-clause-rest g c =
     let rs = c.args.self.now.inner.sub_roots.items in
-    let e : c.len-own_root.result ≡ length c.reserve.new.self.items = omega (arith, c.len-own_root.ensures, c.reserve.new.self.ok.0) in
     let grown : c.push_reserved.new.self.items ≡ rs ++ length rs ∷ [] = c.push_reserved.ensures.items
-    ∙ ap (λ z. c.reserve.new.self.items ++ z ∷ []) e ∙ ap (λ zs. zs ++ length zs ∷ []) c.in_ok-reserve.ensures.items in
+    ∙ ap (λ zs. zs ++ length zs ∷ []) c.in_ok-reserve.ensures.items in
     record { setup = refl; outliving = refl; marks = λ n. ap (λ zs. root_in zs n) grown ∙ root_more rs n }
 
 pub returns-clause-lawful : goal.returns-clause-lawful
@@ -59,19 +59,18 @@ returns-clause-lawful g c =
     let l = c.requires.lawful in
     let m = g.I.Interner.meaning c.args.self.now.interner in
     let rs = c.push_reserved.new.self in
-    let e : c.len-own_root.result ≡ length c.reserve.new.self.items = omega (arith, c.len-own_root.ensures, c.reserve.new.self.ok.0) in
     let grown : rs.items ≡ x.sub_roots.items ++ length x.sub_roots.items ∷ [] = c.push_reserved.ensures.items
-    ∙ ap (λ z. c.reserve.new.self.items ++ z ∷ []) e ∙ ap (λ zs. zs ++ length zs ∷ []) c.in_ok-reserve.ensures.items in
+    ∙ ap (λ zs. zs ++ length zs ∷ []) c.in_ok-reserve.ensures.items in
     let z = record x { sub_roots = rs } in
-    let number : c.len-number.result ≡ length x.types.items = omega (arith, c.len-number.ensures, x.types.ok.0) in
+    let number = c.len-number.ensures in
     type_made_lawful c.in_ok-key.ensures.grown z (roots_lawful m x rs (roots_made m x rs grown l.sub_rooted) l) c.push.new.self _
     c.in_ok-push.ensures.items refl (c.args.universe).0 c.requires.below refl
     (c.in_ok-key.ensures.made ∙ ap (λ n. leaf (variable type_var n)) number) (roots_room m x rs grown l.sub_rooted)
 
 pub returns-clause-later : goal.returns-clause-later
 returns-clause-later g c = type_made_later c.in_ok-key.ensures.grown c.args.self.now.inner c.requires.lawful c.push.new.self _ c.in_ok-push.ensures.items refl (c.args.universe).0 c.requires.below refl
-    (c.in_ok-key.ensures.made ∙ ap (λ n. leaf (variable type_var n)) (let e : c.len-number.result ≡ length c.args.self.now.inner.types.items = omega (arith, c.len-number.ensures, c.args.self.now.inner.types.ok.0) in e))
+    (c.in_ok-key.ensures.made ∙ ap (λ n. leaf (variable type_var n)) c.len-number.ensures)
 
 pub returns-clause-makes : goal.returns-clause-makes
 returns-clause-makes g c = type_made c.in_ok-key.ensures.grown c.args.self.now.inner c.requires.lawful c.push.new.self _ c.in_ok-push.ensures.items refl (c.args.universe).0 c.requires.below refl
-    (c.in_ok-key.ensures.made ∙ ap (λ n. leaf (variable type_var n)) (let e : c.len-number.result ≡ length c.args.self.now.inner.types.items = omega (arith, c.len-number.ensures, c.args.self.now.inner.types.ok.0) in e))
+    (c.in_ok-key.ensures.made ∙ ap (λ n. leaf (variable type_var n)) c.len-number.ensures)
