@@ -1,0 +1,10 @@
+pub mod AWorld
+pub mod Forms
+pub mod Found
+pub mod FreeRegions
+pub mod Generated
+pub mod InWorlds
+pub mod Numbered
+pub mod Numbers
+pub mod ReadPairs
+pub mod Solved
