@@ -1,4 +1,6 @@
 pub mod AWorld
+pub mod Answered
+pub mod Decided
 pub mod Forms
 pub mod Found
 pub mod FreeRegions
@@ -7,4 +9,5 @@ pub mod InWorlds
 pub mod Numbered
 pub mod Numbers
 pub mod ReadPairs
-pub mod Solved
+pub mod Sorts
+pub mod Universes

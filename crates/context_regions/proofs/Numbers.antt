@@ -70,6 +70,14 @@ module _ {facts : List (Tree × Tree)} {st : Store} {trees : List Tree} {standin
   pub one_number : (i j : ℕ) → i < length trees → j < length trees → T i ≡ T j → i ≡ j
   one_number i j p q e = (problem.are_numbered).distinct i j p q e
 
+  pub asked_pairs : ArePairs (length standings) asked
+  asked_pairs = subst (λ n. ArePairs n asked) (sym standings_each)
+      (read_pairs st.constraints (length st.constraints) trees asked said problem.read)
+
+  pub known_pairs : ArePairs (length standings) known
+  known_pairs = subst (λ n. ArePairs n known) (sym standings_each)
+      (read_pairs (map stating facts) (length facts) trees known (problem.stated).0 (problem.stated).1)
+
   -- The number of a mentioned region.
   pub record HasNumber (t : Tree) : Type 0 where
     pub number : ℕ

@@ -33,6 +33,7 @@ impl<X: Copy + Eq + Hash> Regions<X> {
     /// The number of a region. Where it has none yet, it gets the next one, and is this.
     ///
     /// After `OutOfMemory` the regions are of no use.
+    #[tactic(none)]
     pub(crate) fn add(
         &mut self,
         region: RegionKey<X>,
@@ -52,6 +53,7 @@ impl<X: Copy + Eq + Hash> Regions<X> {
     }
 
     /// The region of a number.
+    #[tactic(none)]
     pub(crate) fn region(&self, number: usize) -> RegionKey<X>
         requires { number < length self.now.table }
         ensures { IsRegionAt self.now.table number result }
@@ -60,6 +62,7 @@ impl<X: Copy + Eq + Hash> Regions<X> {
     }
 
     /// The regions of pairs of numbers.
+    #[tactic(none)]
     pub(crate) fn regions_of(
         &self,
         alloc: Global,

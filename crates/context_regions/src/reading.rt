@@ -39,6 +39,7 @@ impl NumberedPairs {
 }
 
 // What a region of the context is.
+#[tactic(none)]
 fn standing<C: InferCtxtLike>(ctx: &C, region: &Region<C::Interner>) -> Standing
     requires lawful { (C.state ctx.now).lawful }
     requires region_in { HasRegion (C.state ctx.now) region.now }
@@ -55,6 +56,7 @@ fn standing<C: InferCtxtLike>(ctx: &C, region: &Region<C::Interner>) -> Standing
 }
 
 /// The number of a region of the context.
+#[tactic(none)]
 pub(crate) fn number<C: InferCtxtLike>(
     ctx: &C,
     regions: &mut Regions<<C::Interner as Keys>::Key>,
@@ -73,6 +75,7 @@ pub(crate) fn number<C: InferCtxtLike>(
 }
 
 // A pair of two regions of the context is put behind the others.
+#[tactic(none)]
 fn add_pair<C: InferCtxtLike>(
     ctx: &C,
     regions: &mut Regions<<C::Interner as Keys>::Key>,
@@ -102,6 +105,7 @@ fn add_pair<C: InferCtxtLike>(
 }
 
 // The pairs that a constraint asks for.
+#[tactic(none)]
 fn read_constraint<C: InferCtxtLike>(
     ctx: &C,
     regions: &mut Regions<<C::Interner as Keys>::Key>,
@@ -135,6 +139,7 @@ fn read_constraint<C: InferCtxtLike>(
 }
 
 /// The pairs that the constraints of a context ask for.
+#[tactic(none)]
 pub(crate) fn read_constraints<C: RecordedRegions>(
     ctx: &C,
     regions: &mut Regions<<C::Interner as Keys>::Key>,
@@ -157,6 +162,7 @@ pub(crate) fn read_constraints<C: RecordedRegions>(
 }
 
 /// The pairs that facts state.
+#[tactic(none)]
 pub(crate) fn read_facts<C: InferCtxtLike>(
     ctx: &C,
     regions: &mut Regions<<C::Interner as Keys>::Key>,

@@ -41,6 +41,7 @@ struct Problem<X: Eq + Hash> {
 }
 
 // The constraints of a context, and facts. The region 'static has the number 0.
+#[tactic(none)]
 fn read<C: RecordedRegions>(
     ctx: &C,
     re_static: Region<C::Interner>,
@@ -67,6 +68,7 @@ fn read<C: RecordedRegions>(
 }
 
 // What asks for the pairs at these places.
+#[tactic(none)]
 fn asked_by(alloc: Global, pairs: &NumberedPairs, places: &[usize]) -> Result<Vec<usize>, OutOfMemory>
     requires { All (λ k. k < length pairs.now.asked_by.items) places.now }
     ensures { IfOk result (λ by. by.items ≡ map (λ k. get_or pairs.now.asked_by.items k 0) places.now) }
@@ -79,6 +81,7 @@ fn asked_by(alloc: Global, pairs: &NumberedPairs, places: &[usize]) -> Result<Ve
 }
 
 // Whether the regions of a context can be as it has recorded. The region 'static is handed in.
+#[tactic(none)]
 fn solve_given<C: RecordedRegions>(
     ctx: &C,
     re_static: Region<C::Interner>,
@@ -117,6 +120,7 @@ fn solve_given<C: RecordedRegions>(
 }
 
 // The region 'static. Nothing is recorded.
+#[tactic(none)]
 fn make_static<C: InferCtxtLike>(ctx: &mut C) -> Result<Region<C::Interner>, OutOfMemory>
     requires { (C.state ctx.old).lawful }
     ensures grows { Grows (C.state ctx.old) (C.state ctx.new) }
@@ -144,6 +148,7 @@ fn make_static<C: InferCtxtLike>(ctx: &mut C) -> Result<Region<C::Interner>, Out
 ///
 /// # Errors
 /// `OutOfMemory` where a growth was refused, and where there are more than 2^32 regions.
+#[tactic(none)]
 pub fn solve<C: RecordedRegions>(
     ctx: &mut C,
     facts: &[RegionOutlivesPredicate<<C::Interner as Keys>::Key>],

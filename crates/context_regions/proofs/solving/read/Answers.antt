@@ -1,0 +1,18 @@
+-- The pairs of all constraints and facts are a problem.
+use Rattle.std.proofs.Common.{map, ap}
+use Rattle.context_regions.specs.Reading.{trees_of, stating}
+use Rattle.context_regions.specs.Solving.{region_pairs}
+use Rattle.context_regions.proofs.Answered.{static_in, none_numbered}
+use Rattle.context_regions.proofs.ReadPairs.{are_problem}
+use Rattle.context_regions.proofs.solving.read.Goals as goal
+
+pub number-requires-clause-region_in : goal.number-requires-clause-region_in
+number-requires-clause-region_in g c =
+    let m = g.C.InferCtxtLike.state c.args.ctx.now in
+    static_in m.store ((m.meaning).region c.args.re_static) c.requires.is_static
+
+pub number-requires-clause-numbered : goal.number-requires-clause-numbered
+number-requires-clause-numbered g c =
+    let m = g.C.InferCtxtLike.state c.args.ctx.now in
+    none_numbered (m.meaning).region m.store c.new-regions.result.table c.new-regions.result.standings.items
+    c.new-regions.ensures.table c.new-regions.ensures.standings
