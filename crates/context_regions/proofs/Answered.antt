@@ -42,7 +42,7 @@ none_numbered tree st keys standings e f =
 pub facts_speak : {Key Id Name : Type 0} (c : Context Key Id Name)
     (facts : List (OutlivesPredicate Key (RegionKey Key))) → All (IsFactIn c) facts →
     All SpeaksOfGiven (region_pairs c.meaning facts)
-facts_speak c facts all i d lt =
+facts_speak {Key = Key} c facts all i d lt =
     let m = c.meaning in
     let i_lt : i < length facts = subst (λ n. i < n) (length-map facts (region_pair m)) lt in
     let f = get_or facts i (some_fact facts i i_lt) in

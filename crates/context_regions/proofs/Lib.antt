@@ -1,5 +1,6 @@
 pub mod AWorld
 pub mod Answered
+pub mod Constraints
 pub mod Decided
 pub mod Forms
 pub mod Found

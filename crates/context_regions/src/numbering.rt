@@ -3,7 +3,7 @@ ghost use Rattle.std.specs.Prelude.{◌≡◌, ◌<◌, [], All, length, IfOk, O
 ghost use Rattle.node_table.specs.Finding.{HasAt};
 ghost use Rattle.context_regions.specs.Numbering.{Adds, IsRegionAt, AreRegionsOf, AreBelow};
 
-use node_table::NodeTable;
+use node_table::{NodeTable, next_number};
 use relation_regions::Standing;
 use relation_terms::predicate::OutlivesPredicate;
 use relation_terms::terms::RegionKey;
@@ -33,7 +33,6 @@ impl<X: Copy + Eq + Hash> Regions<X> {
     /// The number of a region. Where it has none yet, it gets the next one, and is this.
     ///
     /// After `OutOfMemory` the regions are of no use.
-    #[tactic(none)]
     pub(crate) fn add(
         &mut self,
         region: RegionKey<X>,
@@ -53,16 +52,15 @@ impl<X: Copy + Eq + Hash> Regions<X> {
     }
 
     /// The region of a number.
-    #[tactic(none)]
-    pub(crate) fn region(&self, number: usize) -> RegionKey<X>
+    pub(crate) fn region(&self, number: usize) -> Result<RegionKey<X>, OutOfMemory>
         requires { number < length self.now.table }
-        ensures { IsRegionAt self.now.table number result }
+        ensures { IfOk result (IsRegionAt self.now.table number) }
     {
-        *self.table.node(number as u32)
+        let place = next_number(number)?;
+        Ok(*self.table.node(place))
     }
 
     /// The regions of pairs of numbers.
-    #[tactic(none)]
     pub(crate) fn regions_of(
         &self,
         alloc: Global,
@@ -73,7 +71,9 @@ impl<X: Copy + Eq + Hash> Regions<X> {
     {
         let mut regions = Vec::new(alloc);
         for pair in pairs {
-            regions.push(OutlivesPredicate(self.region(pair.0), self.region(pair.1)))?;
+            let longer = self.region(pair.0)?;
+            let shorter = self.region(pair.1)?;
+            regions.push(OutlivesPredicate(longer, shorter))?;
         }
         Ok(regions)
     }

@@ -39,7 +39,6 @@ impl NumberedPairs {
 }
 
 // What a region of the context is.
-#[tactic(none)]
 fn standing<C: InferCtxtLike>(ctx: &C, region: &Region<C::Interner>) -> Standing
     requires lawful { (C.state ctx.now).lawful }
     requires region_in { HasRegion (C.state ctx.now) region.now }
@@ -56,7 +55,6 @@ fn standing<C: InferCtxtLike>(ctx: &C, region: &Region<C::Interner>) -> Standing
 }
 
 /// The number of a region of the context.
-#[tactic(none)]
 pub(crate) fn number<C: InferCtxtLike>(
     ctx: &C,
     regions: &mut Regions<<C::Interner as Keys>::Key>,
@@ -75,7 +73,6 @@ pub(crate) fn number<C: InferCtxtLike>(
 }
 
 // A pair of two regions of the context is put behind the others.
-#[tactic(none)]
 fn add_pair<C: InferCtxtLike>(
     ctx: &C,
     regions: &mut Regions<<C::Interner as Keys>::Key>,
@@ -139,7 +136,6 @@ fn read_constraint<C: InferCtxtLike>(
 }
 
 /// The pairs that the constraints of a context ask for.
-#[tactic(none)]
 pub(crate) fn read_constraints<C: RecordedRegions>(
     ctx: &C,
     regions: &mut Regions<<C::Interner as Keys>::Key>,
@@ -162,7 +158,6 @@ pub(crate) fn read_constraints<C: RecordedRegions>(
 }
 
 /// The pairs that facts state.
-#[tactic(none)]
 pub(crate) fn read_facts<C: InferCtxtLike>(
     ctx: &C,
     regions: &mut Regions<<C::Interner as Keys>::Key>,
@@ -180,7 +175,8 @@ pub(crate) fn read_facts<C: InferCtxtLike>(
         OnOk result (HaveRead qs (length qs) (trees_of c regions.new.table) pairs.new.pairs pairs.new.asked_by.items) }
 {
     for index in 0..facts.len() {
-        add_pair(ctx, regions, pairs, facts[index].0, facts[index].1, index)?;
+        let fact = facts[index];
+        add_pair(ctx, regions, pairs, fact.0, fact.1, index)?;
     }
     Ok(())
 }

@@ -41,7 +41,6 @@ struct Problem<X: Eq + Hash> {
 }
 
 // The constraints of a context, and facts. The region 'static has the number 0.
-#[tactic(none)]
 fn read<C: RecordedRegions>(
     ctx: &C,
     re_static: Region<C::Interner>,
@@ -68,7 +67,6 @@ fn read<C: RecordedRegions>(
 }
 
 // What asks for the pairs at these places.
-#[tactic(none)]
 fn asked_by(alloc: Global, pairs: &NumberedPairs, places: &[usize]) -> Result<Vec<usize>, OutOfMemory>
     requires { All (λ k. k < length pairs.now.asked_by.items) places.now }
     ensures { IfOk result (λ by. by.items ≡ map (λ k. get_or pairs.now.asked_by.items k 0) places.now) }
@@ -108,8 +106,8 @@ fn solve_given<C: RecordedRegions>(
             by,
         } => {
             let by = asked_by(alloc, &problem.asked, by.as_slice())?;
-            let longer = problem.regions.region(longer);
-            let shorter = problem.regions.region(shorter);
+            let longer = problem.regions.region(longer)?;
+            let shorter = problem.regions.region(shorter)?;
             Ok(Solved::Unmet {
                 longer,
                 shorter,
@@ -120,7 +118,6 @@ fn solve_given<C: RecordedRegions>(
 }
 
 // The region 'static. Nothing is recorded.
-#[tactic(none)]
 fn make_static<C: InferCtxtLike>(ctx: &mut C) -> Result<Region<C::Interner>, OutOfMemory>
     requires { (C.state ctx.old).lawful }
     ensures grows { Grows (C.state ctx.old) (C.state ctx.new) }
@@ -148,7 +145,6 @@ fn make_static<C: InferCtxtLike>(ctx: &mut C) -> Result<Region<C::Interner>, Out
 ///
 /// # Errors
 /// `OutOfMemory` where a growth was refused, and where there are more than 2^32 regions.
-#[tactic(none)]
 pub fn solve<C: RecordedRegions>(
     ctx: &mut C,
     facts: &[RegionOutlivesPredicate<<C::Interner as Keys>::Key>],

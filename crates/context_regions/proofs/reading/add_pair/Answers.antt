@@ -9,7 +9,7 @@ returns-clause-more g c =
     let tree = (m.meaning).region in
     grows_through (λ t. t ≡ tree c.args.longer) (λ t. t ≡ tree c.args.shorter)
     (λ t. (t ≡ tree c.args.longer) ⊎ (t ≡ tree c.args.shorter)) (map tree c.args.regions.now.table)
-    (map tree c.number-first.new.regions.table) (map tree c.number-second.new.regions.table)
+    (map tree c.number.new.regions.table) (map tree c.number-2.new.regions.table)
     c.in_ok-first.ensures.more c.in_ok-second.ensures.more (λ t e. inl e) (λ t e. inr e)
 
 pub returns-clause-adds : goal.returns-clause-adds

@@ -1,5 +1,6 @@
 -- A region gets a number.
-use Rattle.std.proofs.Common.{sym, subst}
+use Rattle.std.proofs.Common.{sym, subst, Bool}
+use Rattle.relation_terms.specs.declared.terms.keys.RegionKey.{RegionKey}
 use Rattle.relation_terms.specs.Interning.{AreEqualAsTrees}
 use Rattle.std.proofs.lemmas.Result.{on_ok_weaker}
 use Rattle.context_regions.proofs.Numbered.{numbered_more, more_numbered, number_answer}
@@ -8,7 +9,8 @@ use Rattle.context_regions.proofs.reading.number.Goals as goal
 pub returns-clause-numbered : goal.returns-clause-numbered
 returns-clause-numbered g c =
     let m = g.C.InferCtxtLike.state c.args.ctx.now in
-    let eq = λ k l. g.C.Interner-Key.PartialEq.eq k.0 l.0 in
+    let eq : RegionKey g.row.C-Interner-Key.Denot → RegionKey g.row.C-Interner-Key.Denot → Bool =
+    λ k l. g.C.Interner.Key.PartialEq.eq k.0 l.0 in
     let law = subst (λ n. AreEqualAsTrees n.region eq)
     (sym (g.met.C.InferCtxtLike.reads c.args.ctx.now))
     (g.met.C.Interner.Interner.same_region (g.C.InferCtxtLike.interner c.args.ctx.now)) in
@@ -19,7 +21,8 @@ returns-clause-numbered g c =
 pub returns-clause-more : goal.returns-clause-more
 returns-clause-more g c =
     let m = g.C.InferCtxtLike.state c.args.ctx.now in
-    let eq = λ k l. g.C.Interner-Key.PartialEq.eq k.0 l.0 in
+    let eq : RegionKey g.row.C-Interner-Key.Denot → RegionKey g.row.C-Interner-Key.Denot → Bool =
+    λ k l. g.C.Interner.Key.PartialEq.eq k.0 l.0 in
     let law = subst (λ n. AreEqualAsTrees n.region eq)
     (sym (g.met.C.InferCtxtLike.reads c.args.ctx.now))
     (g.met.C.Interner.Interner.same_region (g.C.InferCtxtLike.interner c.args.ctx.now)) in
@@ -30,7 +33,8 @@ returns-clause-more g c =
 pub returns-clause-number : goal.returns-clause-number
 returns-clause-number g c =
     let m = g.C.InferCtxtLike.state c.args.ctx.now in
-    let eq = λ k l. g.C.Interner-Key.PartialEq.eq k.0 l.0 in
+    let eq : RegionKey g.row.C-Interner-Key.Denot → RegionKey g.row.C-Interner-Key.Denot → Bool =
+    λ k l. g.C.Interner.Key.PartialEq.eq k.0 l.0 in
     let law = subst (λ n. AreEqualAsTrees n.region eq)
     (sym (g.met.C.InferCtxtLike.reads c.args.ctx.now))
     (g.met.C.Interner.Interner.same_region (g.C.InferCtxtLike.interner c.args.ctx.now)) in
