@@ -117,8 +117,7 @@ module _ {facts : List (Tree × Tree)} {st : Store} {trees : List Tree} {standin
       let p = from_below (pair_of asked) (length asked.shorter.items) (a, b) has in
       let h = (problem.read).each p.0 p.1 in
       let e : get_or asked.longer.items p.0 0 ≡ a = ap (λ u. u.0) p.2 in
-      let f : get_or asked.shorter.items p.0 0 ≡ b = ap (λ u. u.1) p.2 in
-      (
+      let f : get_or asked.shorter.items p.0 0 ≡ b = ap (λ u. u.1) p.2 in (
         subst (λ u. u < length trees) e ((h.pair).longer_at).0,
         subst (λ u. u < length trees) f ((h.pair).shorter_at).0,
         by_asked p.0 p.1 tt e f,
@@ -129,8 +128,7 @@ module _ {facts : List (Tree × Tree)} {st : Store} {trees : List Tree} {standin
       let p = from_below (pair_of known) (length known.shorter.items) (a, b) has in
       let h = ((problem.stated).1).each p.0 p.1 in
       let e : get_or known.longer.items p.0 0 ≡ a = ap (λ u. u.0) p.2 in
-      let f : get_or known.shorter.items p.0 0 ≡ b = ap (λ u. u.1) p.2 in
-      (
+      let f : get_or known.shorter.items p.0 0 ≡ b = ap (λ u. u.1) p.2 in (
         subst (λ u. u < length trees) e ((h.pair).longer_at).0,
         subst (λ u. u < length trees) f ((h.pair).shorter_at).0,
         by_known p.0 p.1 e f,

@@ -5,6 +5,7 @@ use Rattle.relation_terms.specs.declared.terms.keys.RegionKey.{RegionKey}
 use Rattle.relation_terms.specs.declared.terms.keys.TyKey.{TyKey}
 use Rattle.relation_terms.specs.declared.terms.keys.ConstKey.{ConstKey}
 use Rattle.relation_terms.specs.declared.terms.generic_arg.GenericArgKind.TheVariants.{Lifetime, Ty, Const}
+use Rattle.relation_terms.specs.declared.terms.generic_arg.GenericArgKind.{GenericArgKind}
 use Rattle.relation_terms.specs.declared.predicate.regions.RegionConstraint.{RegionConstraint}
 use Rattle.relation_terms.specs.declared.predicate.regions.RegionConstraint.TheVariants.{Outlives, Eq}
 use Rattle.relation_terms.specs.declared.predicate.regions.OutlivesPredicate.{OutlivesPredicate}
@@ -46,6 +47,11 @@ fact_below m facts i lt = subst (λ n. i < n) (sym (length-map (region_pairs m f
     (subst (λ n. i < n) (sym (length-map facts (region_pair m))) lt)
 
 module _ {Key Id Name : Type 0} (c : Context Key Id Name) (q : RegionConstraint Key) where
+  -- A constraint that a region outlives another one, by its parts.
+  pub outlives_is : (o : OutlivesPredicate Key (GenericArgKind Key)) (u : GenericArgKind Key) → q ≡ Outlives o →
+      o.0 ≡ u → q ≡ Outlives (record { 0 = u; 1 = o.1 })
+  outlives_is o u e f = e ∙ ap (λ v. Outlives (record { 0 = v; 1 = o.1 })) f
+
   -- The regions of a constraint of the context.
   pub outlives_in : (a b : RegionKey Key) → ConstraintIn c.store (constraint_of c.meaning q) →
       q ≡ Outlives (record { 0 = Lifetime a; 1 = b }) → HasRegion c a × HasRegion c b

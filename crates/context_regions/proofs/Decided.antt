@@ -60,8 +60,13 @@ module _ {facts : List (Tree × Tree)} {st : Store} {trees : List Tree} {standin
 
   module _ (sound : IsSound st) {values : List (ℕ × ℕ)} (meets : Meets standings asked known values) where
     pub has_solution : HasSolution facts st
-    has_solution = (world.w problem of_given sound meets, (world.s problem of_given sound meets,
-        solution problem of_given sound meets))
+    has_solution = (
+      world.w problem of_given sound meets,
+      (
+        world.s problem of_given sound meets,
+        solution problem of_given sound meets,
+      ),
+    )
 
     -- The regions of a pair of numbers.
     abbrev pub regions_of : ℕ × ℕ → Tree × Tree
@@ -73,18 +78,18 @@ module _ {facts : List (Tree × Tree)} {st : Store} {trees : List Tree} {standin
         (world.V problem of_given sound meets b) → Contains values (a, b)
     is_value a b a_lt b_lt v g o = elim (demanded problem of_given sound meets (world.V problem of_given sound meets a)
         (world.V problem of_given sound meets b) o) [
-      | inl e ↦
-          let same = one_value problem of_given sound meets a b a_lt b_lt e in
-          let f : is_given (standing_in st (T a)) ≡ true = ap (λ i. is_given (standing_in st (T i))) same ∙
-          (sym (ap is_given (standing_at problem b b_lt)) ∙ g.1) in
-          let h : is_given (standing_in st (T a)) ≡ false = sym (ap is_given (standing_at problem a a_lt)) ∙ v.1 in
-          absurd (cc (f, h))
-      | inr r ↦
-          let same_a = one_value problem of_given sound meets r.first a r.first_in a_lt (sym r.x_is) in
-          let same_b = one_value problem of_given sound meets r.second b r.second_in b_lt (sym r.y_is) in
-          meets.each a b v g (subst (λ u. IsDemanded standings asked known Any u b) same_a
-          (subst (λ u. IsDemanded standings asked known Any r.first u) same_b r.related))
-    ]
+          | inl e ↦
+              let same = one_value problem of_given sound meets a b a_lt b_lt e in
+              let f : is_given (standing_in st (T a)) ≡ true = ap (λ i. is_given (standing_in st (T i))) same ∙
+              (sym (ap is_given (standing_at problem b b_lt)) ∙ g.1) in
+              let h : is_given (standing_in st (T a)) ≡ false = sym (ap is_given (standing_at problem a a_lt)) ∙ v.1 in
+              absurd (cc (f, h))
+          | inr r ↦
+              let same_a = one_value problem of_given sound meets r.first a r.first_in a_lt (sym r.x_is) in
+              let same_b = one_value problem of_given sound meets r.second b r.second_in b_lt (sym r.y_is) in
+              meets.each a b v g (subst (λ u. IsDemanded standings asked known Any u b) same_a
+              (subst (λ u. IsDemanded standings asked known Any r.first u) same_b r.related))
+        ]
 
     all_values : (x y : Tree) → IsVariable facts st x → IsGiven facts st y → AlwaysOutlives facts st x y →
         Contains (map regions_of values) (x, y)
@@ -111,8 +116,7 @@ module _ {facts : List (Tree × Tree)} {st : Store} {trees : List Tree} {standin
         let j = (p.0).1 in
         let h = meets.only i j p.1 in
         let e : T i ≡ x = ap (λ u. u.0) p.2 in
-        let f : T j ≡ y = ap (λ u. u.1) p.2 in
-        (
+        let f : T j ≡ y = ap (λ u. u.1) p.2 in (
           subst (IsVariable facts st) e (variable_region i h.0),
           subst (IsGiven facts st) f (given_region j h.1),
           subst (λ u. AlwaysOutlives facts st u y) e

@@ -20,8 +20,11 @@ module _ {Key : Type 0} (eq : RegionKey Key → RegionKey Key → Bool) (region 
   old_number lt = elim added [
     | inl e ↦ same e refl
     | inr e ↦
-        let old : HasAt eq keys region number = (lt, λ d. subst (λ x. IsTrue (eq x region))
-        (ap (λ l. get_or l number d) e ∙ get_or_append_left keys (region ∷ []) d number lt) (has.1 d)) in
+        let old : HasAt eq keys region number = (
+          lt,
+          λ d. subst (λ x. IsTrue (eq x region))
+              (ap (λ l. get_or l number d) e ∙ get_or_append_left keys (region ∷ []) d number lt) (has.1 d),
+        ) in
         same (there number old) refl
   ]
 
@@ -30,8 +33,11 @@ module _ {Key : Type 0} (eq : RegionKey Key → RegionKey Key → Bool) (region 
       Adds eq region standing keys standings keys' standings'
   new_number standings' le is = elim added [
     | inl e ↦ absurd (omega (arith, has.0, le, ap (λ (l : List (RegionKey Key)). length l) e))
-    | inr e ↦ put_last (λ i old. absurd (omega (arith, ap (λ (l : List (RegionKey Key)). length l) (sym e ∙ there i old),
-        length_more keys region))) e is
+    | inr e ↦ put_last (λ i old. absurd (omega (
+      arith,
+      ap (λ (l : List (RegionKey Key)). length l) (sym e ∙ there i old),
+      length_more keys region,
+    ))) e is
   ]
 
 -- What is read at a number is its region.

@@ -74,12 +74,12 @@ module _ (first : ℕ) where
     stands_apply (chosen first) k (resolved st k n) stands (resolved_stands st g k n),
     Leaves-replace IsValueLeaf (assigned (chosen first)) (resolved st k n)
         (Leaves_map (IsInScope st (universe_of st k n)) (λ l. Leaves IsValueLeaf (assigned (chosen first) l))
-            (leaf_value st (universe_of st k n)) (resolved st k n) (g.in_scope k n m)),
+        (leaf_value st (universe_of st k n)) (resolved st k n) (g.in_scope k n m)),
     within_apply (chosen first) 0 (resolved st k n) within (resolved_within st g k n),
     Leaves-replace (IsNamable (universe_of st k n)) (assigned (chosen first)) (resolved st k n)
         (Leaves_map (IsInScope st (universe_of st k n))
-            (λ l. Leaves (IsNamable (universe_of st k n)) (assigned (chosen first) l))
-            (leaf_namable st (universe_of st k n)) (resolved st k n) (g.in_scope k n m)),
+        (λ l. Leaves (IsNamable (universe_of st k n)) (assigned (chosen first) l))
+        (leaf_namable st (universe_of st k n)) (resolved st k n) (g.in_scope k n m)),
   )
 
   pub values_meet : (st : Store) → IsSound st → MeetsBindings st (values_from st first)

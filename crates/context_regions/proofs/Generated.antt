@@ -21,9 +21,11 @@ from_map f xs d y (k, lt, e) =
 -- The same of what is made of the numbers below a bound.
 pub contains_below : {Y : Type 0} (f : ℕ → Y) (bound k : ℕ) → k < bound →
     Contains (map f (range_with_len 0 bound)) (f k)
-contains_below f bound k lt =
-    (k, subst (λ n. k < n) (sym (length-map-range_with_len f 0 bound)) lt,
-    get_or-map-range_with_len f 0 bound k k (f k) lt (omega arith))
+contains_below f bound k lt = (
+  k,
+  subst (λ n. k < n) (sym (length-map-range_with_len f 0 bound)) lt,
+  get_or-map-range_with_len f 0 bound k k (f k) lt (omega arith),
+)
 
 pub from_below : {Y : Type 0} (f : ℕ → Y) (bound : ℕ) (y : Y) → Contains (map f (range_with_len 0 bound)) y →
     (k : ℕ) × (k < bound) × (f k ≡ y)

@@ -83,8 +83,11 @@ module _ {Key : Type 0} (tree : RegionKey Key → Tree) (eq : RegionKey Key → 
       numbered (map tree keys) i ≡ tree region → ⊥
   lacks_tree keys all lacks i lt e =
       let i_lt : i < length keys = subst (λ n. i < n) (length-map keys tree) lt in
-      lacks i (i_lt, λ d. (law (get_or keys i d) region (key_known keys all i d i_lt)
-      (region_known st (tree region) region_in)).1 (sym (at_key keys i d i_lt) ∙ e))
+      lacks i (
+        i_lt,
+        λ d. (law (get_or keys i d) region (key_known keys all i d i_lt)
+            (region_known st (tree region) region_in)).1 (sym (at_key keys i d i_lt) ∙ e),
+      )
 
   module _ (standing : Standing) (stands : standing ≡ standing_in st (tree region)) (keys : List (RegionKey Key))
       (standings : List Standing) (keys' : List (RegionKey Key)) (standings' : List Standing) where

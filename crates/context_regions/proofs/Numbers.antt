@@ -42,8 +42,7 @@ pub fact_asks : (facts : List (Tree × Tree)) (a b : Tree) → (has : Contains f
 fact_asks facts a b (j, lt, at_j) =
     let none : Tree × Tree = (static, static) in
     let e : get_or (map stating facts) j no_constraint ≡ stating (a, b) =
-    get_or-map stating facts j (a, b) no_constraint lt ∙ ap stating at_j in
-    (
+    get_or-map stating facts j (a, b) no_constraint lt ∙ ap stating at_j in (
       subst (λ n. j < n) (sym (length-map facts stating)) lt,
       subst (λ z. IsPair z a b) (sym e) (refl, refl),
     )

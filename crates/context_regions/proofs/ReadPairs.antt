@@ -38,23 +38,25 @@ pub grows_through : (P Q R : Tree → Type 0) (before mid after : List Tree) →
 grows_through P Q R before mid after g h p q = record {
   kept = λ i t at. h.kept i t (g.kept i t at);
   only = λ t has. elim (h.only t has) [
-        | inl there ↦ elim (g.only t there) [
-          | inl first ↦ inl first
-          | inr is ↦ inr (p t is)
-        ]
-        | inr is ↦ inr (q t is)
-      ];
+    | inl there ↦ elim (g.only t there) [
+      | inl first ↦ inl first
+      | inr is ↦ inr (p t is)
+    ]
+    | inr is ↦ inr (q t is)
+  ];
 }
 
 -- One more region at the end.
 pub grows_pushed : (trees : List Tree) (t : Tree) → GrowsBy (λ u. u ≡ t) trees (trees ++ t ∷ [])
 grows_pushed trees t = record {
-  kept = λ i u at. (omega (arith, at.0, length_pushed trees t),
-      get_or_append_left trees (t ∷ []) static i at.0 ∙ at.1);
+  kept = λ i u at. (
+    omega (arith, at.0, length_pushed trees t),
+    get_or_append_left trees (t ∷ []) static i at.0 ∙ at.1,
+  );
   only = λ u has. elim (Contains-append_cases trees (t ∷ []) u has) [
-        | inl there ↦ inl there
-        | inr last ↦ inr (only_one u last)
-      ];
+    | inl there ↦ inl there
+    | inr last ↦ inr (only_one u last)
+  ];
 }
   where
     length_pushed : (trees : List Tree) (t : Tree) → length (trees ++ t ∷ []) ≡ length trees + 1
@@ -81,11 +83,11 @@ module _ (qs : List Constraint) where
     each_longer = h.each_longer;
     each_said = h.each_said;
     each = λ k lt. let s = h.each k lt in record {
-          longer = s.longer;
-          shorter = s.shorter;
-          pair = pair_kept p k s.longer s.shorter g s.pair;
-          asks = s.asks;
-        };
+      longer = s.longer;
+      shorter = s.shorter;
+      pair = pair_kept p k s.longer s.shorter g s.pair;
+      asks = s.asks;
+    };
     covered = λ j lt a b asks. let c = h.covered j lt a b asks in (c.0, pair_kept p c.0 a b g c.1);
   }
 
@@ -156,8 +158,12 @@ module _ (qs : List Constraint) where
     -- One more pair of what is asked for.
     read_added : Asks qs j a b → HaveRead qs bound trees q said'
     read_added asks = record {
-      each_longer = omega (arith, one_more, h.each_longer,
-          one_longer p.longer.items q.longer.items adds.first adds.longer_is);
+      each_longer = omega (
+        arith,
+        one_more,
+        h.each_longer,
+        one_longer p.longer.items q.longer.items adds.first adds.longer_is,
+      );
       each_said = omega (arith, one_more, h.each_said, one_longer said said' j adds.said_is);
       each = λ k lt. below_more (λ k. IsAsked qs trees q said' k) (length p.shorter.items) earlier_asked
           (last_asked asks) k (omega (arith, lt, one_more));
@@ -172,9 +178,11 @@ module _ (qs : List Constraint) where
       let asks : Asks qs j a b = (lt, subst (λ z. IsPair z a b) (sym e) (refl, refl)) in
       let there = last_there trees j j a b p said q said' h adds in
       covered_more trees j q said' (read_added trees j j a b p said q said' h adds asks)
-      (λ x y z. let f : (x ≡ a) × (y ≡ b) = subst (λ u. IsPair u x y) e z.1 in (length p.shorter.items,
-      subst (λ u. IsPairAt trees q (length p.shorter.items) u y) (sym f.0)
-      (subst (λ u. IsPairAt trees q (length p.shorter.items) a u) (sym f.1) there)))
+      (λ x y z. let f : (x ≡ a) × (y ≡ b) = subst (λ u. IsPair u x y) e z.1 in (
+        length p.shorter.items,
+        subst (λ u. IsPairAt trees q (length p.shorter.items) u y) (sym f.0)
+            (subst (λ u. IsPairAt trees q (length p.shorter.items) a u) (sym f.1) there),
+      ))
   constraint_read trees j (equal_constraint a b) p said q said' lt e h (m, (mid, first, second)) =
       let asks : Asks qs j a b = (lt, subst (λ z. IsPair z a b) (sym e) (inl (refl, refl))) in
       let back : Asks qs j b a = (lt, subst (λ z. IsPair z b a) (sym e) (inr (refl, refl))) in
@@ -184,10 +192,16 @@ module _ (qs : List Constraint) where
       (last_there trees j j a b p said m mid h first) in
       let there2 = last_there trees j j b a m mid q said' h1 second in
       covered_more trees j q said' h2 (λ x y z. elim (subst (λ u. IsPair u x y) e z.1) [
-        | inl f ↦ (length p.shorter.items, subst (λ u. IsPairAt trees q (length p.shorter.items) u y) (sym f.0)
-            (subst (λ u. IsPairAt trees q (length p.shorter.items) a u) (sym f.1) there))
-        | inr f ↦ (length m.shorter.items, subst (λ u. IsPairAt trees q (length m.shorter.items) u y) (sym f.0)
-            (subst (λ u. IsPairAt trees q (length m.shorter.items) b u) (sym f.1) there2))
+        | inl f ↦ (
+          length p.shorter.items,
+          subst (λ u. IsPairAt trees q (length p.shorter.items) u y) (sym f.0)
+              (subst (λ u. IsPairAt trees q (length p.shorter.items) a u) (sym f.1) there),
+        )
+        | inr f ↦ (
+          length m.shorter.items,
+          subst (λ u. IsPairAt trees q (length m.shorter.items) u y) (sym f.0)
+              (subst (λ u. IsPairAt trees q (length m.shorter.items) b u) (sym f.1) there2),
+        )
       ])
 
   -- One more constraint is read.

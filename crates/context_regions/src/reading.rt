@@ -14,7 +14,7 @@ use crate::recorded::RecordedRegions;
 use crate::solving::RegionOutlivesPredicate;
 use relation_regions::{Pairs, Standing};
 use relation_semantics::infer_ctxt::InferCtxtLike;
-use relation_terms::predicate::{OutlivesPredicate, RegionConstraint, RegionEqPredicate};
+use relation_terms::predicate::RegionConstraint;
 use relation_terms::terms::{GenericArgKind, Interner, Keys, Region, RegionKind};
 use std::alloc::Global;
 use term_enums::OutOfMemory;
@@ -88,10 +88,10 @@ fn add_pair<C: InferCtxtLike>(
     ensures numbered { OnOk result (HasNumbered (C.state ctx.now) regions.new.table regions.new.standings.items) }
     ensures more { let c = C.state ctx.now in
         OnOk result (NumbersMore c (λ t. (t ≡ (c.meaning).region longer) ⊎ (t ≡ (c.meaning).region shorter))
-            regions.old.table regions.new.table) }
+        regions.old.table regions.new.table) }
     ensures adds { let c = C.state ctx.now in
         OnOk result (AddsPair (trees_of c regions.new.table) ((c.meaning).region longer) ((c.meaning).region shorter)
-            asked_by pairs.old.pairs pairs.old.asked_by.items pairs.new.pairs pairs.new.asked_by.items) }
+        asked_by pairs.old.pairs pairs.old.asked_by.items pairs.new.pairs pairs.new.asked_by.items) }
 {
     let first = number(ctx, regions, longer)?;
     let second = number(ctx, regions, shorter)?;
@@ -102,7 +102,6 @@ fn add_pair<C: InferCtxtLike>(
 }
 
 // The pairs that a constraint asks for.
-#[tactic(none)]
 fn read_constraint<C: InferCtxtLike>(
     ctx: &C,
     regions: &mut Regions<<C::Interner as Keys>::Key>,
@@ -118,19 +117,19 @@ fn read_constraint<C: InferCtxtLike>(
         OnOk result (NumbersMore c (IsOf (constraint_of c.meaning constraint)) regions.old.table regions.new.table) }
     ensures adds { let c = C.state ctx.now in
         OnOk result (AddsAsked (trees_of c regions.new.table) (constraint_of c.meaning constraint) index
-            pairs.old.pairs pairs.old.asked_by.items pairs.new.pairs pairs.new.asked_by.items) }
+        pairs.old.pairs pairs.old.asked_by.items pairs.new.pairs pairs.new.asked_by.items) }
 {
     match constraint {
-        RegionConstraint::Outlives(OutlivesPredicate(GenericArgKind::Lifetime(longer), shorter)) => {
-            add_pair(ctx, regions, pairs, longer, shorter, index)
-        }
-        RegionConstraint::Outlives(OutlivesPredicate(GenericArgKind::Ty(_), _)) => unreachable!(),
-        RegionConstraint::Outlives(OutlivesPredicate(GenericArgKind::Const(_), _)) => {
-            unreachable!()
-        }
-        RegionConstraint::Eq(RegionEqPredicate(a, b)) => {
-            add_pair(ctx, regions, pairs, a, b, index)?;
-            add_pair(ctx, regions, pairs, b, a, index)
+        RegionConstraint::Outlives(outlives) => match outlives.0 {
+            GenericArgKind::Lifetime(longer) => {
+                add_pair(ctx, regions, pairs, longer, outlives.1, index)
+            }
+            GenericArgKind::Ty(_) => unreachable!(),
+            GenericArgKind::Const(_) => unreachable!(),
+        },
+        RegionConstraint::Eq(equal) => {
+            add_pair(ctx, regions, pairs, equal.0, equal.1, index)?;
+            add_pair(ctx, regions, pairs, equal.1, equal.0, index)
         }
     }
 }

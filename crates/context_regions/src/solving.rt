@@ -67,7 +67,11 @@ fn read<C: RecordedRegions>(
 }
 
 // What asks for the pairs at these places.
-fn asked_by(alloc: Global, pairs: &NumberedPairs, places: &[usize]) -> Result<Vec<usize>, OutOfMemory>
+fn asked_by(
+    alloc: Global,
+    pairs: &NumberedPairs,
+    places: &[usize],
+) -> Result<Vec<usize>, OutOfMemory>
     requires { All (λ k. k < length pairs.now.asked_by.items) places.now }
     ensures { IfOk result (λ by. by.items ≡ map (λ k. get_or pairs.now.asked_by.items k 0) places.now) }
 {

@@ -1,9 +1,10 @@
 -- One more constraint is read.
-use Rattle.std.proofs.Common.{◌≡◌, refl, sym, subst, map, get_or}
-use Rattle.relation_semantics.specs.Stores.{ConstraintIn}
+use Rattle.std.proofs.Common.{◌≡◌, List, length, refl, sym, ◌∙◌, ap, subst, get_or, arith}
+use Rattle.std.proofs.lemmas.List.{length-map}
+use Rattle.relation_semantics.specs.Stores.{Constraint, ConstraintIn}
 use Rattle.relation_semantics.specs.Constraints.{constraint_of}
 use Rattle.context_regions.specs.Worlds.{IsOf}
-use Rattle.context_regions.specs.Reading.{IsOfOne, GrowsBy, AddsAsked, no_constraint, trees_of}
+use Rattle.context_regions.specs.Reading.{IsOfOne, GrowsBy, AddsAsked, HaveRead, no_constraint, trees_of}
 use Rattle.context_regions.proofs.Constraints.{at_index, index_below}
 use Rattle.context_regions.proofs.ReadPairs.{grows_same, none_read, read_more, more_of_one}
 use Rattle.context_regions.proofs.reading.read_constraints.Goals as goal
@@ -60,4 +61,13 @@ loop-index-preserved g c =
     }
 
 pub returns-clause-read : goal.returns-clause-read
-returns-clause-read g c = ?
+returns-clause-read g c =
+    let m = g.C.InferCtxtLike.state c.args.ctx.now in
+    let xs = c.region_constraints-constraints.result.now in
+    let qs = (m.store).constraints in
+    let same : length qs ≡ length xs = ap (λ (l : List Constraint). length l)
+    (sym c.region_constraints-constraints.ensures) ∙ length-map xs (constraint_of m.meaning) in
+    let e : c.loop-index.index ≡ length qs =
+    omega (arith, c.loop-index-test.false, c.loop-index.auto.index-end, same) in
+    subst (λ n. HaveRead qs n (trees_of m c.loop-index.regions.table) c.loop-index.pairs.pairs
+    c.loop-index.pairs.asked_by.items) e c.loop-index.invariant.read
