@@ -1,7 +1,7 @@
 -- Which number a region gets.
 use Rattle.std.proofs.Common.{◌≡◌, ℕ, ◌<◌, ◌≤◌, ◌+◌, List, [], ◌∷◌, ◌++◌, length, get_or, ap, refl, subst, arith}
-use Rattle.std.proofs.Common.{◌⊎◌, inl, inr, Bool, IsTrue, ◌∙◌, sym, map}
-use Rattle.std.proofs.lemmas.List.{get_or_append_left, get_or-map, map_push}
+use Rattle.std.proofs.Common.{◌⊎◌, inl, inr, Bool, IsTrue, ◌∙◌, sym, map, take}
+use Rattle.std.proofs.lemmas.List.{get_or_append_left, get_or-map, map_push, take_more}
 use Rattle.node_table.specs.Finding.{HasAt}
 use Rattle.relation_terms.specs.declared.terms.keys.RegionKey.{RegionKey}
 use Rattle.relation_regions.specs.declared.standing.Standing.{Standing}
@@ -58,3 +58,12 @@ regions_more {Key = Key} keys pairs pairs' p out out' longer shorter h first sec
     let same : g new ≡ at p = cc (first tree, second tree) in
     ap (map g) f ∙ (map_push g out new ∙ (ap (λ l. l ++ g new ∷ []) (h tree) ∙
     (ap (λ u. map at pairs ++ u ∷ []) same ∙ (sym (map_push at pairs p) ∙ sym (ap (map at) e)))))
+
+-- What asks for one more pair.
+pub said_more : (said places : List ℕ) (i : ℕ) (by by' : List ℕ) (v : ℕ) → i < length places →
+    by ≡ map (λ k. get_or said k 0) (take i places) → by' ≡ by ++ v ∷ [] → v ≡ get_or said (get_or places i 0) 0 →
+    by' ≡ map (λ k. get_or said k 0) (take (i + 1) places)
+said_more said places i by by' v lt h e is =
+    let f : ℕ → ℕ = λ k. get_or said k 0 in
+    e ∙ (ap (λ l. l ++ v ∷ []) h ∙ (ap (λ u. map f (take i places) ++ u ∷ []) is ∙
+    (sym (map_push f (take i places) (get_or places i 0)) ∙ sym (ap (map f) (take_more places i 0 lt)))))

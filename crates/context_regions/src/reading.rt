@@ -14,7 +14,7 @@ use crate::recorded::RecordedRegions;
 use crate::solving::RegionOutlivesPredicate;
 use relation_regions::{Pairs, Standing};
 use relation_semantics::infer_ctxt::InferCtxtLike;
-use relation_terms::predicate::RegionConstraint;
+use relation_terms::predicate::{OutlivesPredicate, RegionConstraint};
 use relation_terms::terms::{GenericArgKind, Interner, Keys, Region, RegionKind};
 use std::alloc::Global;
 use term_enums::OutOfMemory;
@@ -120,13 +120,16 @@ fn read_constraint<C: InferCtxtLike>(
         pairs.old.pairs pairs.old.asked_by.items pairs.new.pairs pairs.new.asked_by.items) }
 {
     match constraint {
-        RegionConstraint::Outlives(outlives) => match outlives.0 {
-            GenericArgKind::Lifetime(longer) => {
-                add_pair(ctx, regions, pairs, longer, outlives.1, index)
+        RegionConstraint::Outlives(outlives) => {
+            let OutlivesPredicate(left, shorter) = outlives;
+            match left {
+                GenericArgKind::Lifetime(longer) => {
+                    add_pair(ctx, regions, pairs, longer, shorter, index)
+                }
+                GenericArgKind::Ty(_) => unreachable!(),
+                GenericArgKind::Const(_) => unreachable!(),
             }
-            GenericArgKind::Ty(_) => unreachable!(),
-            GenericArgKind::Const(_) => unreachable!(),
-        },
+        }
         RegionConstraint::Eq(equal) => {
             add_pair(ctx, regions, pairs, equal.0, equal.1, index)?;
             add_pair(ctx, regions, pairs, equal.1, equal.0, index)
