@@ -12,7 +12,10 @@ use Rattle.relation_semantics.specs.ContextCalls.{IsNotVariable}
 use Rattle.relation_semantics.specs.Stores.{Store, IsRegionIn, IsTermIn, InContext}
 use Rattle.relation_regions.specs.declared.building.Pairs.{Pairs}
 use Rattle.relation_regions.specs.declared.standing.Standing.{Standing}
-use Rattle.relation_regions.specs.Demands.{Meets, Refutes}
+use Rattle.relation_regions.specs.declared.decide.Decision.{Decision}
+use Rattle.relation_regions.specs.declared.decide.Decision.TheVariants.{Met, Unmet}
+use Rattle.relation_regions.specs.Demands.{Meets, Refutes, IfMet, IfUnmet}
+use Rattle.std.specs.Global.{Vec}
 use Rattle.context_regions.specs.Worlds.{static}
 use Rattle.context_regions.specs.Numbering.{AreBelow, AreRegionsOf, IsRegionAt, regions_at}
 use Rattle.context_regions.specs.Reading.{numbered, AreNumbered, IsProblem, trees_of}
@@ -97,3 +100,26 @@ pub places_below : (facts : List (Tree × Tree)) (st : Store) (trees : List Tree
     All (λ k. k < length said) by
 places_below facts st trees standings asked said known longer shorter by problem h i d lt =
     subst (λ n. get_or by i d < n) (sym (problem.read).each_said) (h.asked_for i d lt)
+
+-- What was decided, where it is known what.
+pub met_of : (standings s : List Standing) (asked known : Pairs) (d : Decision) (values : Vec (ℕ × ℕ)) →
+    s ≡ standings → d ≡ Met values → IfMet s asked known d → Meets standings asked known values.items
+met_of standings s asked known d values e is h =
+    subst (λ u. Meets u asked known values.items) e (subst (λ u. IfMet s asked known u) is h)
+
+pub unmet_of : (standings s : List Standing) (asked known : Pairs) (d : Decision) (longer shorter : ℕ) (by : Vec ℕ) →
+    s ≡ standings → d ≡ Unmet longer shorter by → IfUnmet s asked known d →
+    Refutes standings asked known longer shorter by.items
+unmet_of standings s asked known d longer shorter by e is h =
+    subst (λ u. Refutes u asked known longer shorter by.items) e (subst (λ u. IfUnmet s asked known u) is h)
+
+-- The same answer, by other names.
+pub least_like : (facts : List (Tree × Tree)) (st : Store) (values values' : List (Tree × Tree)) → values' ≡ values →
+    AreLeast facts st values → AreLeast facts st values'
+least_like facts st values values' e h = subst (AreLeast facts st) (sym e) h
+
+pub unmet_like : (facts : List (Tree × Tree)) (st : Store) (x x' y y' : Tree) (by by' : List ℕ) → x' ≡ x → y' ≡ y →
+    by' ≡ by → IsUnmetBy facts st x y by → IsUnmetBy facts st x' y' by'
+unmet_like facts st x x' y y' by by' e f same h =
+    subst (λ u. IsUnmetBy facts st u y' by') (sym e)
+    (subst (λ u. IsUnmetBy facts st x u by') (sym f) (subst (λ l. IsUnmetBy facts st x y l) (sym same) h))

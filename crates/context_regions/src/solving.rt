@@ -83,7 +83,6 @@ fn asked_by(
 }
 
 // Whether the regions of a context can be as it has recorded. The region 'static is handed in.
-#[tactic(none)]
 fn solve_given<C: RecordedRegions>(
     ctx: &C,
     re_static: Region<C::Interner>,
