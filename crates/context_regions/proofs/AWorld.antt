@@ -1,16 +1,16 @@
 -- A solution, where of given numbers nothing is demanded but what is known.
-use Rattle.std.proofs.Common.{◌≡◌, ℕ, suc, ◌<◌, ◌≤◌, ◌+◌, List, ◌++◌, length, get_or, sym, ◌∙◌, ap, refl, subst, arith}
+use Rattle.std.proofs.Common.{◌≡◌, ℕ, suc, ◌<◌, ◌+◌, List, ◌++◌, length, get_or, sym, ◌∙◌, ap, refl, subst, arith}
 use Rattle.std.proofs.Common.{◌⊎◌, inl, inr, All, map, true, false}
 use Rattle.std.specs.List.{Contains, sum_by, range_with_len}
 use Rattle.std.proofs.lemmas.List.{get_or_default}
 use Rattle.std.proofs.lemmas.List.Elements.{Contains-append_left, Contains-append_right, Contains-append_cases}
 use Rattle.std.proofs.lemmas.List.Sums.{get_or-le-sum_by}
-use Rattle.relation_terms.specs.Heads.{VarKind, region_var, Leaf, variable, bound, placeholder, atom, unknown, Atom}
+use Rattle.relation_terms.specs.Heads.{region_var, Leaf, variable, bound, placeholder, atom, unknown, Atom}
 use Rattle.relation_terms.specs.Heads.{early_region}
 use Rattle.relation_terms.specs.Trees.{Tree, leaf, node, bind, nil, cons, Assign, apply, Leaves}
 use Rattle.relation_semantics.specs.Relation.{Interpretation, Outlives, itself as same_region, through as by_way}
 use Rattle.relation_semantics.specs.Stores.{Store, Constraint, outlives_constraint, equal_constraint, ConstraintHolds}
-use Rattle.relation_semantics.specs.Stores.{universe_of, IsSound, Satisfies, IsNamable}
+use Rattle.relation_semantics.specs.Stores.{universe_of, IsSound, IsNamable}
 use Rattle.relation_semantics.specs.ContextCalls.{IsNotVariable}
 use Rattle.relation_regions.specs.declared.building.Pairs.{Pairs}
 use Rattle.relation_regions.specs.declared.standing.Standing.{Standing}
@@ -19,15 +19,15 @@ use Rattle.relation_regions.specs.Deciding.{IsGiven as IsGivenNumber, IsVariable
 use Rattle.relation_regions.specs.Demands.{IsDemanded, by_asked, by_known, from_static, by_universe, itself, through, Meets}
 use Rattle.relation_regions.specs.Standings.{is_given, is_beyond, standing_of, IsBeyond, Any}
 use Rattle.relation_regions.proofs.Forcing.{beyond_node}
-use Rattle.context_regions.specs.Worlds.{static, IsOf, IsMentioned, by_fact, FactsSay, itself as said_itself, CannotName}
-use Rattle.context_regions.specs.Worlds.{IsGiven, IsVariable, IsWorld, IsExactWorld, IsSolution}
-use Rattle.context_regions.specs.Reading.{standing_in, numbered, no_constraint, IsPair, IsPairAt, Asks, IsProblem}
+use Rattle.context_regions.specs.Worlds.{static, FactsSay, itself as said_itself, CannotName}
+use Rattle.context_regions.specs.Worlds.{IsGiven, IsWorld, IsSolution}
+use Rattle.context_regions.specs.Reading.{standing_in, numbered, no_constraint, IsPair, IsPairAt, IsProblem}
 use Rattle.context_regions.proofs.Forms.{variable_or_not, own_value, given_of_none, unnamable_beyond}
 use Rattle.context_regions.proofs.FreeRegions.{values_from, values_assign, values_meet, region_value}
 use Rattle.context_regions.proofs.Generated.{generated, pair_outlives, AreRelated, outlives_related, contains_below, from_below}
 use Rattle.context_regions.proofs.InWorlds.{SpeaksOfGiven}
-use Rattle.context_regions.proofs.Numbers.{fact_asks, standings_each, standing_at, region_at, mentioned_at}
-use Rattle.context_regions.proofs.Numbers.{one_number, HasNumber, number_of, known_said}
+use Rattle.context_regions.proofs.Numbers.{fact_asks, standings_each, standing_at, region_at}
+use Rattle.context_regions.proofs.Numbers.{one_number, number_of, known_said}
 
 -- The number in a region parameter.
 abbrev pub atom_index : Atom → ℕ

@@ -1,13 +1,12 @@
 -- What is solved of a problem is so of the regions of the context.
 use Rattle.std.proofs.Common.{◌≡◌, ℕ, ◌<◌, List, [], ◌∷◌, length, get_or, sym, ◌∙◌, refl, subst, arith, All, map}
-use Rattle.std.specs.List.{Contains}
 use Rattle.std.proofs.lemmas.List.{get_or_default, get_or-map, length-map}
 use Rattle.relation_terms.specs.declared.predicate.regions.OutlivesPredicate.{OutlivesPredicate}
 use Rattle.relation_terms.specs.declared.terms.keys.RegionKey.{RegionKey}
-use Rattle.relation_terms.specs.Meaning.{Meaning, Extends}
+use Rattle.relation_terms.specs.Meaning.{Extends}
 use Rattle.relation_terms.specs.Heads.{region_var}
 use Rattle.relation_terms.specs.Trees.{Tree}
-use Rattle.relation_semantics.specs.Contexts.{Context, HasRegion}
+use Rattle.relation_semantics.specs.Contexts.{Context}
 use Rattle.relation_semantics.specs.ContextCalls.{IsNotVariable}
 use Rattle.relation_semantics.specs.Stores.{Store, IsRegionIn, IsTermIn, InContext}
 use Rattle.relation_regions.specs.declared.building.Pairs.{Pairs}
@@ -17,8 +16,8 @@ use Rattle.relation_regions.specs.declared.decide.Decision.TheVariants.{Met, Unm
 use Rattle.relation_regions.specs.Demands.{Meets, Refutes, IfMet, IfUnmet}
 use Rattle.std.specs.Global.{Vec}
 use Rattle.context_regions.specs.Worlds.{static}
-use Rattle.context_regions.specs.Numbering.{AreBelow, AreRegionsOf, IsRegionAt, regions_at}
-use Rattle.context_regions.specs.Reading.{numbered, AreNumbered, IsProblem, trees_of}
+use Rattle.context_regions.specs.Numbering.{AreBelow}
+use Rattle.context_regions.specs.Reading.{AreNumbered, IsProblem}
 use Rattle.context_regions.specs.Solutions.{AreLeast, IsUnmetBy}
 use Rattle.context_regions.specs.Solving.{IsFactIn, region_pair, region_pairs}
 use Rattle.context_regions.proofs.InWorlds.{SpeaksOfGiven}

@@ -11,7 +11,7 @@ use Rattle.relation_terms.specs.declared.predicate.regions.RegionConstraint.TheV
 use Rattle.relation_terms.specs.declared.predicate.regions.OutlivesPredicate.{OutlivesPredicate}
 use Rattle.relation_terms.specs.Meaning.{Meaning}
 use Rattle.relation_terms.specs.Trees.{Tree}
-use Rattle.relation_semantics.specs.Stores.{Constraint, ConstraintIn, IsRegionIn, equal_constraint, outlives_constraint}
+use Rattle.relation_semantics.specs.Stores.{Constraint, ConstraintIn, IsRegionIn, equal_constraint}
 use Rattle.relation_semantics.specs.Contexts.{Context, HasRegion}
 use Rattle.relation_semantics.specs.Constraints.{constraint_of}
 use Rattle.relation_regions.specs.declared.building.Pairs.{Pairs}

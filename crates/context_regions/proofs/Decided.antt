@@ -1,5 +1,5 @@
 -- What is decided of numbers is so of their regions.
-use Rattle.std.proofs.Common.{◌≡◌, ℕ, ◌<◌, List, length, get_or, sym, ◌∙◌, ap, subst, ◌⊎◌, inl, inr, All, map, true, false}
+use Rattle.std.proofs.Common.{◌≡◌, ℕ, ◌<◌, List, length, get_or, sym, ◌∙◌, ap, subst, inl, inr, All, map, true, false}
 use Rattle.std.specs.List.{Contains}
 use Rattle.std.proofs.lemmas.List.{get_or-map, length-map}
 use Rattle.relation_terms.specs.Trees.{Tree, Assign, apply}
@@ -10,16 +10,16 @@ use Rattle.relation_regions.specs.declared.standing.Standing.{Standing}
 use Rattle.relation_regions.specs.Deciding.{IsGiven as IsGivenNumber, IsVariable as IsVariableNumber}
 use Rattle.relation_regions.specs.Demands.{IsDemanded, Meets, Refutes}
 use Rattle.relation_regions.specs.Standings.{is_given, Any, Among}
-use Rattle.context_regions.specs.Worlds.{IsGiven, IsVariable, IsSolution}
+use Rattle.context_regions.specs.Worlds.{IsGiven, IsVariable}
 use Rattle.context_regions.specs.Solutions.{HasSolution, AlwaysOutlives, AreLeast, IsUnmetBy}
 use Rattle.context_regions.specs.Reading.{standing_in, numbered, no_constraint, IsProblem}
 use Rattle.context_regions.proofs.AWorld as world
 use Rattle.context_regions.proofs.AWorld.{one_value, demanded, given_number, solution}
 use Rattle.context_regions.proofs.Forms.{own_value, none_of_given, variable_of_other}
-use Rattle.context_regions.proofs.Generated.{AreRelated, contains_map, from_map}
+use Rattle.context_regions.proofs.Generated.{contains_map, from_map}
 use Rattle.context_regions.proofs.InWorlds.{SpeaksOfGiven, demanded_holds}
 use Rattle.context_regions.proofs.Numbers.{standings_each, standing_at, region_at, mentioned_at}
-use Rattle.context_regions.proofs.Numbers.{one_number, number_of, said_known}
+use Rattle.context_regions.proofs.Numbers.{number_of, said_known}
 
 module _ {facts : List (Tree × Tree)} {st : Store} {trees : List Tree} {standings : List Standing} {asked : Pairs}
     {said : List ℕ} {known : Pairs} (problem : IsProblem facts st trees standings asked said known)

@@ -1,8 +1,8 @@
 -- What the regions of a context are.
-use Rattle.std.proofs.Common.{◌≡◌, ℕ, ◌<◌, ◌≤◌, ap, refl, subst, ◌⊎◌, inl, inr, true, false, arith}
+use Rattle.std.proofs.Common.{◌≡◌, ℕ, ◌<◌, ap, refl, subst, ◌⊎◌, inl, inr, true, false, arith}
 use Rattle.std.proofs.lemmas.Bool.{cases_lt, lt-ltb, ltb-true}
-use Rattle.relation_terms.specs.Heads.{Sort, region_sort, VarKind, type_var, int_var, float_var, const_var, region_var}
-use Rattle.relation_terms.specs.Heads.{Head, adt, Admits, head_sort, Leaf, variable, bound, placeholder, atom, unknown}
+use Rattle.relation_terms.specs.Heads.{region_sort, VarKind, type_var, int_var, float_var, const_var, region_var}
+use Rattle.relation_terms.specs.Heads.{Head, adt, Admits, head_sort, variable, bound, placeholder, atom, unknown}
 use Rattle.relation_terms.specs.Trees.{Tree, leaf, node, bind, nil, cons, Assign, apply, IsTerm, Leaves}
 use Rattle.relation_semantics.specs.Stores.{Store, IsRegionIn, IsMade, IsNamable, universe_of, IsTermIn, InContext}
 use Rattle.relation_semantics.specs.ContextCalls.{IsNotVariable}

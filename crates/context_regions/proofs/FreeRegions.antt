@@ -1,13 +1,13 @@
 -- Whatever regions the variables of regions stand for, the other variables have values to match.
-use Rattle.std.proofs.Common.{◌≡◌, ℕ, ◌+◌, ap, ◌∙◌, None, Option}
+use Rattle.std.proofs.Common.{◌≡◌, ℕ, ◌+◌, ap, ◌∙◌}
 use Rattle.relation_terms.specs.Heads.{VarKind, type_var, int_var, float_var, const_var, region_var}
 use Rattle.relation_terms.specs.Heads.{Leaf, variable, bound, placeholder, atom, unknown, early_region, bool_type, int_type}
 use Rattle.relation_terms.specs.Heads.{float_type, const_error}
 use Rattle.term_enums.specs.declared.IntTy.TheVariants.{I32}
 use Rattle.term_enums.specs.declared.FloatTy.TheVariants.{F64}
-use Rattle.relation_terms.specs.Trees.{Tree, leaf, Assign, assigned, apply, Leaves}
+use Rattle.relation_terms.specs.Trees.{leaf, Assign, assigned, apply, Leaves}
 use Rattle.relation_semantics.specs.Relation.{IsValueLeaf, StaysWithin}
-use Rattle.relation_semantics.specs.Stores.{Store, IsSound, IsMade, IsInScope, IsNamable, IsAssignment, MeetsBindings}
+use Rattle.relation_semantics.specs.Stores.{Store, IsSound, IsInScope, IsNamable, IsAssignment, MeetsBindings}
 use Rattle.relation_semantics.specs.Stores.{MayStandFor, resolved, universe_of, entry_term}
 use Rattle.relation_semantics.proofs.Trees.{Leaves_map, Leaves-replace, apply-apply}
 use Rattle.relation_semantics.proofs.Resolved.{resolved_meets, resolve_free}

@@ -1,12 +1,11 @@
 -- What is demanded of numbers holds in every world of their regions.
-use Rattle.std.proofs.Common.{◌≡◌, ℕ, ◌<◌, List, length, get_or, sym, ◌∙◌, ap, subst, ◌⊎◌, inl, inr, All, true}
+use Rattle.std.proofs.Common.{◌≡◌, ℕ, ◌<◌, List, length, get_or, sym, ◌∙◌, ap, subst, inl, inr, All, true}
 use Rattle.std.specs.List.{Contains}
-use Rattle.std.proofs.lemmas.List.{get_or_default}
 use Rattle.relation_terms.specs.Heads.{region_var}
 use Rattle.relation_terms.specs.Trees.{Tree, Assign, apply, Leaves}
 use Rattle.relation_semantics.specs.Relation.{Interpretation, Outlives, itself as same_region, through as by_way}
 use Rattle.relation_semantics.specs.Stores.{Store, Constraint, outlives_constraint, equal_constraint, ConstraintHolds}
-use Rattle.relation_semantics.specs.Stores.{IsRegionIn, IsNamable, universe_of}
+use Rattle.relation_semantics.specs.Stores.{IsNamable, universe_of}
 use Rattle.relation_semantics.specs.ContextCalls.{IsNotVariable}
 use Rattle.relation_regions.specs.declared.building.Pairs.{Pairs}
 use Rattle.relation_regions.specs.declared.standing.Standing.{Standing}

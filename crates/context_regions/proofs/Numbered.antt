@@ -1,12 +1,12 @@
 -- Regions that get numbers.
 use Rattle.std.proofs.Common.{◌≡◌, ℕ, ◌<◌, ◌≤◌, ◌+◌, List, [], ◌∷◌, ◌++◌, length, get_or, sym, ◌∙◌, ap, refl, subst, arith}
-use Rattle.std.proofs.Common.{◌⊎◌, inl, inr, Bool, IsTrue, true, ◌&&◌, All, map, Result, Ok, Err, IfOk, OnOk}
+use Rattle.std.proofs.Common.{inl, inr, Bool, IsTrue, true, ◌&&◌, All, map, Result, Ok, Err, IfOk, OnOk}
 use Rattle.std.proofs.lemmas.Bool.{cases_lt}
 use Rattle.std.proofs.lemmas.List.{get_or_append_left, get_or_push, get_or-map, length-map, map-append}
 use Rattle.std.proofs.lemmas.List.Elements.{All-push}
 use Rattle.node_table.specs.Finding.{HasAt}
 use Rattle.relation_terms.specs.declared.terms.keys.RegionKey.{RegionKey}
-use Rattle.relation_terms.specs.Heads.{Leaf, variable, bound, placeholder, atom, unknown}
+use Rattle.relation_terms.specs.Heads.{variable, bound, placeholder, atom, unknown}
 use Rattle.relation_terms.specs.Trees.{Tree, leaf, node, bind, nil, cons, known, Leaves}
 use Rattle.relation_terms.specs.Interning.{AreEqualAsTrees}
 use Rattle.relation_semantics.specs.Stores.{Store, IsRegionIn, IsTermIn, InContext, IsMadeLeaf}

@@ -1,11 +1,9 @@
 -- The regions of numbers, and what pairs of them say.
-use Rattle.std.proofs.Common.{◌≡◌, ℕ, ◌<◌, List, length, get_or, sym, ◌∙◌, ap, refl, subst, arith, ◌⊎◌, inl, inr, All, map}
+use Rattle.std.proofs.Common.{◌≡◌, ℕ, ◌<◌, List, length, get_or, sym, ◌∙◌, ap, refl, subst, ◌⊎◌, inl, inr, map}
 use Rattle.std.specs.List.{Contains}
 use Rattle.std.proofs.lemmas.List.{get_or_default, get_or-map, length-map}
-use Rattle.relation_terms.specs.Heads.{region_var}
 use Rattle.relation_terms.specs.Trees.{Tree}
 use Rattle.relation_semantics.specs.Stores.{Store, Constraint, outlives_constraint, equal_constraint, IsRegionIn}
-use Rattle.relation_semantics.specs.ContextCalls.{IsNotVariable}
 use Rattle.relation_regions.specs.declared.building.Pairs.{Pairs}
 use Rattle.relation_regions.specs.declared.standing.Standing.{Standing}
 use Rattle.relation_regions.specs.declared.standing.Standing.TheVariants.{Named}

@@ -2,8 +2,6 @@
 use Rattle.std.proofs.Common.{◌≡◌, sym, ◌∙◌, ap, subst, IsTrue}
 use Rattle.relation_terms.specs.Heads.{region_var, variable}
 use Rattle.relation_terms.specs.Trees.{known, leaf}
-use Rattle.relation_semantics.specs.Stores.{IsSound}
-use Rattle.context_regions.specs.Reading.{standing_in}
 use Rattle.context_regions.proofs.Forms.{variable_made}
 use Rattle.context_regions.proofs.Numbered.{region_known}
 use Rattle.context_regions.proofs.Universes.{variable_standing, some_universe}

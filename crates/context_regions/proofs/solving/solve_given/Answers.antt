@@ -1,5 +1,5 @@
 -- What is decided of numbers is so of the regions of the context.
-use Rattle.std.proofs.Common.{ℕ, List, ◌≡◌, ◌<◌, ◌∙◌, All, sym, subst, map, ap, length, get_or}
+use Rattle.std.proofs.Common.{ℕ, List, ◌<◌, ◌∙◌, All, sym, subst, map, ap, length, get_or}
 use Rattle.relation_regions.specs.Building.{ArePairs}
 use Rattle.context_regions.specs.Numbering.{AreBelow, regions_at}
 use Rattle.context_regions.specs.Reading.{trees_of, numbered}
