@@ -1,0 +1,14 @@
+pub mod AWorld
+pub mod Answered
+pub mod Constraints
+pub mod Decided
+pub mod Forms
+pub mod Found
+pub mod FreeRegions
+pub mod Generated
+pub mod InWorlds
+pub mod Numbered
+pub mod Numbers
+pub mod ReadPairs
+pub mod Sorts
+pub mod Universes

@@ -1,0 +1,5 @@
+pub mod Numbering
+pub mod Reading
+pub mod Solutions
+pub mod Solving
+pub mod Worlds
