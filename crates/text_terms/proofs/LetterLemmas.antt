@@ -6,7 +6,7 @@ use Rattle.std.specs.List.Sorted.{IsStrictlySortedBy}
 use Rattle.std.specs.Ordering.{nat_cmp, ordering_index}
 use Rattle.std.proofs.lemmas.Map.Keys.{sorted_tail, sorted_head}
 use Rattle.std.proofs.lemmas.Map.Made.{Contains-tail}
-use Rattle.std.proofs.lemmas.Bool.{ltb-true, lt-ltb}
+use Rattle.std.proofs.lemmas.Bool.{ltb-true, ltb-false, lt-ltb, le-ltb}
 use Rattle.text_terms.specs.Letters.{skipping}
 
 less_if : (b c : Bool) → cond b Less (cond c Equal Greater) ≡ Less → b ≡ true
@@ -38,7 +38,7 @@ skipped_if true x xs n r e s up k c =
     let h : n < x = ltb-true n x e in
     below_all x xs n h (sorted_head nat_cmp x xs s) (Contains-tail x xs n (λ q. omega (arith, h, q)) c)
 skipped_if false x xs n r e s up k c =
-    let ge : x ≤ n = grind (arith, e) in
+    let ge : x ≤ n = ltb-false n x e in
     k (Contains-tail x xs r (λ q. omega (arith, up, ge, q)) c)
 
 -- What is skipped to does not stand in the list.
@@ -64,6 +64,6 @@ stops xs ys x n t e h q = sym (above (nat_lt n x) n (skipping ys (suc n)) (lt-lt
 pub skips_one : (xs ys : List ℕ) (x n m t : ℕ) → xs ≡ x ∷ ys → x ≤ n → m ≡ n + 1 → skipping xs n ≡ t →
     skipping ys m ≡ t
 skips_one xs ys x n m t e h s q =
-    let not : nat_lt n x ≡ false = grind (arith, h) in
+    let not : nat_lt n x ≡ false = le-ltb n x h in
     let up : m ≡ suc n = omega (arith, s) in
     ap (skipping ys) up ∙ sym (below (nat_lt n x) n (skipping ys (suc n)) not) ∙ ap (λ zs. skipping zs n) (sym e) ∙ q

@@ -13,13 +13,13 @@ use std::hash::Hash;
 // Takes the letters that name regions where it is asked. A type that it was asked about before it skips. It stops where
 // memory for a letter is refused.
 #[derive(Drop)]
-struct TakesLetters<'a, X: Eq + Hash, N: Eq + Hash> {
-    names: &'a NameTexts<'a, N>,
+struct TakesLetters<'a, 'b, X: Eq + Hash, N: Eq + Hash> {
+    names: &'a NameTexts<'b, N>,
     letters: Letters,
     seen: DelayedSet<TyKey<X>>,
 }
 
-impl<'a, I: Interner> TypeVisitor<I> for TakesLetters<'a, I::Key, I::Name> {
+impl<'a, 'b, I: Interner> TypeVisitor<I> for TakesLetters<'a, 'b, I::Key, I::Name> {
     ghost use Rattle.std.specs.Prelude.{⊤};
 
     ghost visits = { λ cx v d t w a. ⊤ };

@@ -6,8 +6,7 @@ use Rattle.text_terms.proofs.printing.letters.letter_at.Goals as goal
 pub loop-next-init : goal.loop-next-init
 loop-next-init c =
     let e = c.into_iter-next-iterator.ensures.into_iter_gives ∙ c.iter-next-items.ensures.rest in
-    let q = ap (λ ks. skipping ks c.args.number) e in
-    search rules
+    (search rules, search rules, ap (λ ks. skipping ks c.args.number) e)
 
 pub returns-then-letter-next-clause-numbered : goal.returns-then-letter-next-clause-numbered
 returns-then-letter-next-clause-numbered c =
@@ -23,8 +22,7 @@ pub loop-next-preserved : goal.loop-next-preserved
 loop-next-preserved c =
     let past : c.in-Some.next.now ≤ c.loop-next.letter = omega (arith, c.if-letter-next.false) in
     let next : c.in_ok-letter.letter ≡ c.loop-next.letter + 1 = search rules in
-    let q = skips_one _ _ _ _ _ _ c.in-Some.ensures.steps past next c.loop-next.invariant.2 in
-    search rules
+    (search rules, search rules, skips_one _ _ _ _ _ _ c.in-Some.ensures.steps past next c.loop-next.invariant.2)
 
 pub returns-clause-numbered : goal.returns-clause-numbered
 returns-clause-numbered c = skips_none _ _ _ c.in-None.ensures.steps.0 c.loop-next.invariant.2
