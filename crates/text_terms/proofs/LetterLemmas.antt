@@ -1,5 +1,5 @@
 -- The numbers that do not stand in a list in ascending order.
-use Rattle.std.proofs.Common.{ℕ, suc, ◌+◌, List, [], ◌∷◌, ◌≤◌, ◌<◌, ◌≡◌, arith, cond, nat_lt, true, false, Bool, refl, ap, sym, subst, ◌∙◌}
+use Rattle.std.proofs.Common.{ℕ, suc, ◌+◌, List, [], ◌∷◌, ◌≤◌, ◌<◌, ◌≡◌, arith, cond, nat_lt, true, false, Bool, refl, ap, sym, ◌∙◌}
 use Rattle.std.proofs.Common.{Less, Equal, Greater}
 use Rattle.std.specs.List.{Contains, AllByRecursion}
 use Rattle.std.specs.List.Sorted.{IsStrictlySortedBy}
