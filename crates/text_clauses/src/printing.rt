@@ -1,4 +1,5 @@
-//! How clauses print, over any interner.
+//! How clauses print, over any interner. A region that a binder binds prints by no letter that names a region which
+//! stands free in the clause.
 ghost use Rattle.std.specs.Prelude.{IsTrue};
 ghost use Rattle.relation_terms.specs.Trees.{known};
 ghost use Rattle.relation_terms.specs.Owned.{bound_tree};
@@ -12,7 +13,7 @@ use relation_terms::predicate::TraitRef;
 use relation_terms::terms::{Binder, Clause, Interner};
 use std::fmt::{self, Write};
 use text_terms::printing::TextsOf;
-use text_terms::printing::under::{enter, write_for};
+use text_terms::printing::under::{Around, enter, free_letters, write_for};
 
 /// Writes a clause behind its binder: `for<'a> T: Tr<'a>`, `T: 'a`, `<T as Tr>::A == u8`, `WellFormed(T)`. A parameter
 /// or an item that has no text is `_`, a region parameter `'_`.
@@ -20,8 +21,8 @@ use text_terms::printing::under::{enter, write_for};
 /// The interner has to know the clause.
 ///
 /// # Errors
-/// `fmt::Error` where `out` refused to take some of the text, or memory for the list of binders around a part was
-/// refused. What `out` took before stands.
+/// `fmt::Error` where `out` refused to take some of the text, or memory for the letters of free regions was refused.
+/// What `out` took before stands.
 #[tactic(auto, using(relation_terms::proofs::Binders::under_known))]
 pub fn write_clause<I: Interner, W: Write>(
     cx: &I,
@@ -33,8 +34,10 @@ pub fn write_clause<I: Interner, W: Write>(
 {
     let Binder { value, bound_vars } = cx.clause_kind(clause);
     let vars = cx.bound_vars(&bound_vars);
-    write_for(vars, &[], out)?;
-    let inside = enter(cx.alloc(), &[], vars.len())?;
+    let letters = free_letters(cx, texts, clause)?;
+    let outside = Around::Nothing(&letters);
+    write_for(vars, &outside, out)?;
+    let inside = enter(&outside, vars.len());
     write_kind(cx, texts, &inside, &value, !vars.is_empty(), out)
 }
 
@@ -43,8 +46,8 @@ pub fn write_clause<I: Interner, W: Write>(
 /// The interner has to know the trait reference under its binder.
 ///
 /// # Errors
-/// `fmt::Error` where `out` refused to take some of the text, or memory for the list of binders around a part was
-/// refused. What `out` took before stands.
+/// `fmt::Error` where `out` refused to take some of the text, or memory for the letters of free regions was refused.
+/// What `out` took before stands.
 #[tactic(auto, using(relation_terms::proofs::Binders::under_known))]
 pub fn write_bound<I: Interner, W: Write>(
     cx: &I,
@@ -55,7 +58,9 @@ pub fn write_bound<I: Interner, W: Write>(
     requires { IsTrue (known (bound_tree (I.meaning cx.now) bound.now)) }
 {
     let vars = cx.bound_vars(&bound.bound_vars);
-    write_for(vars, &[], out)?;
-    let inside = enter(cx.alloc(), &[], vars.len())?;
+    let letters = free_letters(cx, texts, bound)?;
+    let outside = Around::Nothing(&letters);
+    write_for(vars, &outside, out)?;
+    let inside = enter(&outside, vars.len());
     write_implemented(cx, texts, &inside, &bound.value, "", !vars.is_empty(), out)
 }

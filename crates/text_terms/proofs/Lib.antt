@@ -1,3 +1,4 @@
 pub mod BuildingLemmas
 pub mod ListLemmas
 pub mod Parts
+mod LetterLemmas

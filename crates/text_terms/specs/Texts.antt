@@ -1,5 +1,5 @@
 -- How the small enums are written.
-use Rattle.std.specs.Prelude.{ℕ, Bool, List, ◌++◌, codes, Option, Some, None}
+use Rattle.std.specs.Prelude.{ℕ, Bool, List, ◌++◌, codes, Option, Some, None, option_map}
 use Rattle.std.specs.HashMap.{get}
 use Rattle.term_enums.specs.declared.IntTy.{IntTy}
 use Rattle.term_enums.specs.declared.IntTy.TheVariants as int
@@ -9,6 +9,8 @@ use Rattle.term_enums.specs.declared.FloatTy.{FloatTy}
 use Rattle.term_enums.specs.declared.FloatTy.TheVariants as float
 use Rattle.term_enums.specs.declared.Mutability.{Mutability}
 use Rattle.term_enums.specs.declared.Mutability.TheVariants as mutability
+use Rattle.relation_terms.specs.declared.terms.ty_kind.TyKind.{TyKind}
+use Rattle.relation_terms.specs.declared.terms.ty_kind.TyKind.TheVariants as ty_kind
 use Rattle.relation_terms.specs.declared.terms.const_kind.ConstKind.{ConstKind}
 use Rattle.relation_terms.specs.declared.terms.const_kind.ConstKind.TheVariants as const_kind
 use Rattle.term_enums.specs.declared.Safety.{Safety}
@@ -16,6 +18,8 @@ use Rattle.term_enums.specs.declared.Safety.TheVariants as safety
 use Rattle.term_enums.specs.declared.ExternAbi.{ExternAbi}
 use Rattle.term_enums.specs.declared.ExternAbi.TheVariants as abi
 use Rattle.text_reading.specs.declared.reading.signs.Sign.TheVariants as sign
+use Rattle.text_reading.specs.declared.naming.program.Term.TheVariants as term
+use Rattle.text_reading.specs.Names.{number_size}
 use Rattle.text_reading.specs.Signs.{spelling, pointer_sign}
 use Rattle.relation_terms.specs.declared.terms.ids.DefId.{DefId}
 use Rattle.text_terms.specs.declared.printing.names.ItemText.{ItemText}
@@ -86,3 +90,11 @@ abbrev pub const_mark : {Key Id Name : Type 0} → ConstKind Key Id Name → Lis
 const_mark (const_kind.Placeholder p) = spelling sign.Const ++ codes " "
 const_mark (const_kind.Error e) = spelling sign.Const ++ codes " "
 const_mark k = codes ""
+
+-- how many bytes a number of a type takes, if numbers are read with the type's name behind them
+abbrev pub own_size : {Key Id Name : Type 0} → TyKind Key Id Name → Option ℕ
+own_size ty_kind.Bool = option_map (λ p. p.0) (number_size term.Bool)
+own_size ty_kind.Char = option_map (λ p. p.0) (number_size term.Char)
+own_size (ty_kind.Int w) = option_map (λ p. p.0) (number_size (term.Int w))
+own_size (ty_kind.Uint w) = option_map (λ p. p.0) (number_size (term.Uint w))
+own_size k = None

@@ -2,8 +2,10 @@
 
 mod binders;
 mod constants;
+mod free;
 mod items;
 mod leaves;
+mod letters;
 mod names;
 mod objects;
 mod patterns;

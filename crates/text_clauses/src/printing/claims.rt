@@ -10,7 +10,7 @@ use relation_terms::terms::{
     BoundConstness, GenericArg, GenericArgKind, Interner, PredicatePolarity, Ty, TyKind,
 };
 use std::fmt::{self, Write};
-use text_terms::printing::under::{Entered, write_arg, write_named, write_ty};
+use text_terms::printing::under::{Around, write_arg, write_named, write_ty};
 use text_terms::printing::{TextsOf, item_text};
 
 // What stands before a trait that is implemented, or is not.
@@ -38,7 +38,7 @@ pub(super) fn constness_text(constness: BoundConstness) -> &'static str
 pub(super) fn write_subject<I: Interner, W: Write>(
     cx: &I,
     texts: &TextsOf<I>,
-    around: &[Entered],
+    around: &Around,
     ty: &Ty<I>,
     is_behind: bool,
     out: &mut W,
@@ -59,7 +59,7 @@ pub(super) fn write_subject<I: Interner, W: Write>(
 fn write_first<I: Interner, W: Write>(
     cx: &I,
     texts: &TextsOf<I>,
-    around: &[Entered],
+    around: &Around,
     first: &GenericArg<I>,
     is_behind: bool,
     out: &mut W,
@@ -77,7 +77,7 @@ fn write_first<I: Interner, W: Write>(
 pub(super) fn write_implemented<I: Interner, W: Write>(
     cx: &I,
     texts: &TextsOf<I>,
-    around: &[Entered],
+    around: &Around,
     of: &TraitRef<I::Key, I::Id>,
     mark: &str,
     is_behind: bool,

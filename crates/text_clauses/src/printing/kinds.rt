@@ -9,7 +9,7 @@ use relation_terms::predicate::{ClauseKind, ProjectionPredicate};
 use relation_terms::terms::{Const, GenericArgKind, Interner, Term, TermKind, Ty};
 use std::fmt::{self, Write};
 use text_terms::printing::under::{
-    Entered, write_any_arg, write_const, write_item, write_region, write_term, write_ty,
+    Around, write_any_arg, write_const, write_item, write_region, write_term, write_ty,
 };
 use text_terms::printing::{TextsOf, name_text};
 
@@ -17,7 +17,7 @@ use text_terms::printing::{TextsOf, name_text};
 fn write_projection<I: Interner, W: Write>(
     cx: &I,
     texts: &TextsOf<I>,
-    around: &[Entered],
+    around: &Around,
     of: &ProjectionPredicate<I::Key, I::Id>,
     out: &mut W,
 ) -> fmt::Result
@@ -34,7 +34,7 @@ fn write_projection<I: Interner, W: Write>(
 fn write_well_formed<I: Interner, W: Write>(
     cx: &I,
     texts: &TextsOf<I>,
-    around: &[Entered],
+    around: &Around,
     term: &Term<I>,
     out: &mut W,
 ) -> fmt::Result
@@ -53,7 +53,7 @@ fn write_well_formed<I: Interner, W: Write>(
 fn write_evaluatable<I: Interner, W: Write>(
     cx: &I,
     texts: &TextsOf<I>,
-    around: &[Entered],
+    around: &Around,
     constant: &Const<I>,
     out: &mut W,
 ) -> fmt::Result
@@ -68,7 +68,7 @@ fn write_evaluatable<I: Interner, W: Write>(
 fn write_typed<I: Interner, W: Write>(
     cx: &I,
     texts: &TextsOf<I>,
-    around: &[Entered],
+    around: &Around,
     constant: &Const<I>,
     ty: &Ty<I>,
     out: &mut W,
@@ -87,7 +87,7 @@ fn write_typed<I: Interner, W: Write>(
 pub(super) fn write_kind<I: Interner, W: Write>(
     cx: &I,
     texts: &TextsOf<I>,
-    around: &[Entered],
+    around: &Around,
     kind: &ClauseKind<I::Key, I::Id, I::Name>,
     is_behind: bool,
     out: &mut W,

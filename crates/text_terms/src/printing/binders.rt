@@ -1,15 +1,22 @@
 //! The names of what binders bind.
 
+use crate::printing::letters::{Letters, write_letter};
 use relation_terms::terms::{BoundVar, BoundVariableKind, DebruijnIndex};
-use std::alloc::{AllocError, Global};
 use std::fmt::{self, Write};
 
-/// A binder around a term. Each of its variables has a number: how many stand bound outside the binder, and before it
-/// in the binder's list.
+/// The binders around a term that is printed. Each of their variables has a number: how many stand bound outside its
+/// binder, and before it in the binder's list.
 #[derive(Clone, Copy)]
-pub struct Entered {
-    first: usize,
-    behind: usize,
+pub enum Around<'a> {
+    /// No binder. A bound region prints by none of these letters.
+    Nothing(&'a Letters),
+    /// A binder whose variables have the numbers from the first up to `behind`, and those around it.
+    Binder {
+        first: usize,
+        behind: usize,
+        letters: &'a Letters,
+        outer: &'a Around<'a>,
+    },
 }
 
 // What binds a variable: a binder around the term, where the variable has that number, or one so many binders further
@@ -20,54 +27,48 @@ enum Bound {
     Outside(u64),
 }
 
-/// What stands around the body of a binder of so many variables, the outermost binder first.
-///
-/// # Errors
-/// `fmt::Error` where memory for the list was refused.
-pub fn enter(alloc: Global, around: &[Entered], count: usize) -> Result<Vec<Entered>, fmt::Error> {
-    match with_binder(alloc, around, count) {
-        Ok(inside) => Ok(inside),
-        Err(_) => Err(fmt::Error),
+/// What stands around the body of a binder of so many variables.
+pub fn enter<'a>(around: &'a Around<'a>, count: usize) -> Around<'a> {
+    let first = around.bound_count();
+    Around::Binder {
+        first,
+        behind: first.saturating_add(count),
+        letters: around.letters(),
+        outer: around,
     }
 }
 
-fn with_binder(
-    alloc: Global,
-    around: &[Entered],
-    count: usize,
-) -> Result<Vec<Entered>, AllocError> {
-    let first = bound_count(around);
-    let behind = first.saturating_add(count);
-    let mut inside = Vec::new(alloc);
-    inside.extend_from_slice(around)?;
-    inside.push(Entered { first, behind })?;
-    Ok(inside)
-}
+impl<'a> Around<'a> {
+    // How many variables are bound.
+    fn bound_count(&self) -> usize {
+        match self {
+            Around::Nothing(_) => 0,
+            Around::Binder { behind, .. } => *behind,
+        }
+    }
 
-// How many variables are bound.
-fn bound_count(around: &[Entered]) -> usize {
-    match around.last() {
-        Some(nearest) => nearest.behind,
-        None => 0,
+    // The letters by which no bound region prints.
+    fn letters(&self) -> &'a Letters {
+        match self {
+            Around::Nothing(letters) => *letters,
+            Around::Binder { letters, .. } => *letters,
+        }
     }
 }
 
 // What binds the variable at that place of the binder so far out.
-fn binder_of(around: &[Entered], depth: u64, place: usize) -> Bound {
-    let count = around.len() as u64;
-    if depth >= count {
-        return Bound::Outside(depth - count);
-    }
-    match around.get((count - depth - 1) as usize) {
-        Some(binder) => Bound::Inside(binder.first.saturating_add(place)),
-        None => Bound::Outside(depth),
+fn binder_of(around: &Around, depth: u64, place: usize) -> Bound {
+    match around {
+        Around::Nothing(_) => Bound::Outside(depth),
+        Around::Binder { first, .. } if depth == 0 => Bound::Inside(first.saturating_add(place)),
+        Around::Binder { outer, .. } => binder_of(*outer, depth - 1, place),
     }
 }
 
 // Writes the name of a bound type or constant behind its mark.
 pub(super) fn write_bound<W: Write>(
     mark: &str,
-    around: &[Entered],
+    around: &Around,
     depth: DebruijnIndex,
     var: BoundVar,
     out: &mut W,
@@ -80,13 +81,13 @@ pub(super) fn write_bound<W: Write>(
 
 // Writes the name of a bound region.
 pub(super) fn write_bound_region<W: Write>(
-    around: &[Entered],
+    around: &Around,
     depth: DebruijnIndex,
     var: BoundVar,
     out: &mut W,
 ) -> fmt::Result {
     match binder_of(around, depth.0, var.0) {
-        Bound::Inside(number) => write_letter(number, out),
+        Bound::Inside(number) => write_letter(around.letters(), number, out),
         Bound::Outside(depth) => write_escaping("'^", around, depth, var, out),
     }
 }
@@ -95,27 +96,15 @@ pub(super) fn write_bound_region<W: Write>(
 // list. Where no binder of the term stands around, the nearest needs no distance.
 fn write_escaping<W: Write>(
     mark: &str,
-    around: &[Entered],
+    around: &Around,
     depth: u64,
     var: BoundVar,
     out: &mut W,
 ) -> fmt::Result {
     let place = var.0;
-    if depth == 0 && around.is_empty() {
-        write!(out, "{mark}{place}")
-    } else {
-        write!(out, "{mark}{depth}.{place}")
-    }
-}
-
-// Writes a region's letter, with a number behind it from the second round of letters on.
-fn write_letter<W: Write>(number: usize, out: &mut W) -> fmt::Result {
-    let letter = char::from(b'a' + (number % 26) as u8);
-    let round = number / 26;
-    if round == 0 {
-        write!(out, "'{letter}")
-    } else {
-        write!(out, "'{letter}{round}")
+    match around {
+        Around::Nothing(_) if depth == 0 => write!(out, "{mark}{place}"),
+        _ => write!(out, "{mark}{depth}.{place}"),
     }
 }
 
@@ -125,7 +114,7 @@ fn write_letter<W: Write>(number: usize, out: &mut W) -> fmt::Result {
 /// `fmt::Error` where `out` refused to take some of the text. What it took before stands.
 pub fn write_for<N, W: Write>(
     vars: &[BoundVariableKind<N>],
-    around: &[Entered],
+    around: &Around,
     out: &mut W,
 ) -> fmt::Result {
     if vars.is_empty() {
@@ -138,10 +127,10 @@ pub fn write_for<N, W: Write>(
 // Writes the variables of a binder: `<'a, ^1> `.
 pub(super) fn write_variables<N, W: Write>(
     vars: &[BoundVariableKind<N>],
-    around: &[Entered],
+    around: &Around,
     out: &mut W,
 ) -> fmt::Result {
-    let first = bound_count(around);
+    let first = around.bound_count();
     out.write_str("<")?;
     for (place, var) in vars.iter().enumerate() {
         if place > 0 {
@@ -149,7 +138,7 @@ pub(super) fn write_variables<N, W: Write>(
         }
         let number = first.saturating_add(place);
         match var {
-            BoundVariableKind::Region(_) => write_letter(number, out)?,
+            BoundVariableKind::Region(_) => write_letter(around.letters(), number, out)?,
             BoundVariableKind::Ty(_) => write!(out, "^{number}")?,
             BoundVariableKind::Const(_) => write!(out, "^c{number}")?,
         }

@@ -1,15 +1,16 @@
 //! How constants print.
 ghost use Rattle.std.specs.Prelude.{◌≡◌, IsTrue};
 ghost use Rattle.relation_terms.specs.Trees.{known};
-ghost use Rattle.text_terms.specs.Texts.{const_mark};
+ghost use Rattle.text_terms.specs.Texts.{const_mark, own_size};
 
-use crate::printing::binders::{Entered, write_bound};
+use crate::printing::binders::{Around, write_bound};
 use crate::printing::items::write_item;
 use crate::printing::leaves::{write_between, write_const_variable, write_placeholder};
 use crate::printing::names::{TextsOf, name_text};
-use crate::printing::terms::write_any_arg;
+use crate::printing::terms::{write_any_arg, write_ty};
 use relation_terms::terms::{
-    Const, ConstKind, ExprKind, GenericArgs, Interner, ValTree, ValTreeKind,
+    Const, ConstKind, ExprKind, GenericArgs, IntTy, Interner, Ty, TyKind, UintTy, ValTree,
+    ValTreeKind,
 };
 use std::fmt::{self, Write};
 
@@ -23,17 +24,17 @@ pub(super) fn const_mark<X, D, N>(kind: &ConstKind<X, D, N>) -> &'static str
     }
 }
 
-/// Writes a constant under binders: of a value the value alone, without its type. The interner has to know it.
+/// Writes a constant under binders: a value with its type behind it, unless that is `usize`. The interner has to know
+/// the constant.
 ///
 /// # Errors
-/// `fmt::Error` where `out` refused to take some of the text, or memory for the list of binders around a part was
-/// refused. What `out` took before stands.
+/// `fmt::Error` where `out` refused to take some of the text. What it took before stands.
 #[cycle(write_ty)]
 #[tactic(auto, using(crate::proofs::Parts::size_part, crate::proofs::Parts::known_part))]
 pub fn write_const<I: Interner, W: Write>(
     cx: &I,
     texts: &TextsOf<I>,
-    around: &[Entered],
+    around: &Around,
     constant: &Const<I>,
     out: &mut W,
 ) -> fmt::Result
@@ -51,7 +52,7 @@ pub fn write_const<I: Interner, W: Write>(
         ConstKind::Bound(depth, of) => write_bound("^c", around, depth, of.var, out),
         ConstKind::Infer(variable) => write_const_variable(variable, out),
         ConstKind::Error(_) => out.write_str("{error}"),
-        ConstKind::Value(_, value) => write_valtree(cx, texts, around, &value, out),
+        ConstKind::Value(ty, value) => write_value(cx, texts, around, &ty, &value, out),
         ConstKind::Unevaluated(of) => write_item(cx, texts, around, &of.def.0, &of.args, out),
         ConstKind::Expr(kind, args) => write_expression(cx, texts, around, kind, &args, out),
     }
@@ -63,7 +64,7 @@ pub fn write_const<I: Interner, W: Write>(
 fn write_expression<I: Interner, W: Write>(
     cx: &I,
     texts: &TextsOf<I>,
-    around: &[Entered],
+    around: &Around,
     kind: ExprKind,
     args: &GenericArgs<I>,
     out: &mut W,
@@ -79,13 +80,57 @@ fn write_expression<I: Interner, W: Write>(
     out.write_str(")")
 }
 
-// Writes a value: a leaf's bits as a number, or the constants that it is made of, in braces.
+// How many bytes a number of a type takes, if numbers are read with the type's name behind them.
+fn own_size<X, D, N>(ty: &TyKind<X, D, N>) -> Option<u8>
+    ensures { result ≡ own_size ty.now }
+{
+    match ty {
+        TyKind::Bool | TyKind::Uint(UintTy::U8) | TyKind::Int(IntTy::I8) => Some(1),
+        TyKind::Uint(UintTy::U16) | TyKind::Int(IntTy::I16) => Some(2),
+        TyKind::Char | TyKind::Uint(UintTy::U32) | TyKind::Int(IntTy::I32) => Some(4),
+        TyKind::Uint(UintTy::U64 | UintTy::Usize) | TyKind::Int(IntTy::I64 | IntTy::Isize) => {
+            Some(8)
+        }
+        TyKind::Uint(UintTy::U128) | TyKind::Int(IntTy::I128) => Some(16),
+        _ => None,
+    }
+}
+
+// Writes a value, with its type behind it: `2u8`. That of a number alone, `usize`, is left out. The size of a number
+// stands behind that if it is not its type's, as in `2u8 in 8`: then no text is read as the value.
+#[cycle(write_ty)]
+#[tactic(auto, using(crate::proofs::Parts::size_part, crate::proofs::Parts::known_part))]
+fn write_value<I: Interner, W: Write>(
+    cx: &I,
+    texts: &TextsOf<I>,
+    around: &Around,
+    ty: &Ty<I>,
+    value: &ValTree<I>,
+    out: &mut W,
+) -> fmt::Result
+    requires ty { IsTrue (known ((I.meaning cx.now).ty ty.now)) }
+    requires value { IsTrue (known ((I.meaning cx.now).valtree value.now)) }
+{
+    write_valtree(cx, texts, around, value, out)?;
+    let kind = cx.ty_kind(ty);
+    if !matches!(kind, TyKind::Uint(UintTy::Usize)) {
+        write_ty(cx, texts, around, ty, out)?;
+    }
+    match cx.valtree_kind(value) {
+        ValTreeKind::Leaf { size, .. } if own_size(&kind) != Some(size) => {
+            write!(out, " in {size}")
+        }
+        _ => Ok(()),
+    }
+}
+
+// Writes what a value is: a leaf's bits as a number, or the constants that it is made of, in braces.
 #[cycle(write_ty)]
 #[tactic(auto, using(crate::proofs::Parts::size_part, crate::proofs::Parts::known_part))]
 fn write_valtree<I: Interner, W: Write>(
     cx: &I,
     texts: &TextsOf<I>,
-    around: &[Entered],
+    around: &Around,
     value: &ValTree<I>,
     out: &mut W,
 ) -> fmt::Result

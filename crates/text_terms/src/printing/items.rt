@@ -4,7 +4,7 @@ ghost use Rattle.relation_terms.specs.Trees.{known};
 ghost use Rattle.relation_terms.specs.Meaning.{alias_id};
 ghost use Rattle.text_terms.specs.Printed.{IsOver};
 
-use crate::printing::binders::Entered;
+use crate::printing::binders::Around;
 use crate::printing::leaves::write_between;
 use crate::printing::names::{TextsOf, TraitText, item_text, trait_text};
 use crate::printing::terms::write_arg;
@@ -43,14 +43,13 @@ pub(super) fn over_args<X: Copy, D: Copy, N>(kind: &TyKind<X, D, N>) -> Option<(
 /// The interner has to know the arguments.
 ///
 /// # Errors
-/// `fmt::Error` where `out` refused to take some of the text, or memory for the list of binders around a part was
-/// refused. What `out` took before stands.
+/// `fmt::Error` where `out` refused to take some of the text. What it took before stands.
 #[cycle(write_ty)]
 #[tactic(auto, using(crate::proofs::Parts::size_part, crate::proofs::Parts::known_part))]
 pub fn write_item<I: Interner, W: Write>(
     cx: &I,
     texts: &TextsOf<I>,
-    around: &[Entered],
+    around: &Around,
     id: &I::Id,
     args: &GenericArgs<I>,
     out: &mut W,
@@ -74,7 +73,7 @@ pub fn write_item<I: Interner, W: Write>(
 fn write_associated<I: Interner, W: Write>(
     cx: &I,
     texts: &TextsOf<I>,
-    around: &[Entered],
+    around: &Around,
     of: TraitText,
     args: &GenericArgs<I>,
     out: &mut W,
@@ -92,14 +91,13 @@ fn write_associated<I: Interner, W: Write>(
 /// has to know the arguments.
 ///
 /// # Errors
-/// `fmt::Error` where `out` refused to take some of the text, or memory for the list of binders around a part was
-/// refused. What `out` took before stands.
+/// `fmt::Error` where `out` refused to take some of the text. What it took before stands.
 #[cycle(write_ty)]
 #[tactic(auto, using(crate::proofs::Parts::size_part, crate::proofs::Parts::known_part))]
 pub fn write_named<I: Interner, W: Write>(
     cx: &I,
     texts: &TextsOf<I>,
-    around: &[Entered],
+    around: &Around,
     name: &str,
     args: &GenericArgs<I>,
     first: usize,
@@ -123,7 +121,7 @@ pub fn write_named<I: Interner, W: Write>(
 pub(super) fn write_args<I: Interner, W: Write>(
     cx: &I,
     texts: &TextsOf<I>,
-    around: &[Entered],
+    around: &Around,
     args: &GenericArgs<I>,
     first: usize,
     behind: usize,

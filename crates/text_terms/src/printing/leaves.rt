@@ -2,7 +2,7 @@
 ghost use Rattle.std.specs.Prelude.{IsTrue};
 ghost use Rattle.relation_terms.specs.Trees.{known};
 
-use crate::printing::binders::{Entered, write_bound, write_bound_region};
+use crate::printing::binders::{Around, write_bound, write_bound_region};
 use crate::printing::names::{
     NameTexts, Texts, TextsOf, float_name, int_name, item_text, name_text, region_name_text,
     uint_name,
@@ -20,7 +20,7 @@ use std::hash::Hash;
 pub fn write_region<I: Interner, W: Write>(
     cx: &I,
     texts: &TextsOf<I>,
-    around: &[Entered],
+    around: &Around,
     region: &Region<I>,
     out: &mut W,
 ) -> fmt::Result
@@ -125,7 +125,7 @@ fn leaf_text<'a, X, D: Eq + Hash, N: Eq + Hash>(
 // Writes a type that has no parts.
 pub(super) fn write_leaf<X, D: Eq + Hash, N: Eq + Hash, W: Write>(
     texts: &Texts<D, N>,
-    around: &[Entered],
+    around: &Around,
     kind: &TyKind<X, D, N>,
     out: &mut W,
 ) -> fmt::Result {

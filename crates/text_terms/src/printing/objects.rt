@@ -3,7 +3,7 @@ ghost use Rattle.std.specs.Prelude.{◌≡◌, IfSome, IsTrue, slice_range};
 ghost use Rattle.relation_terms.specs.Trees.{known, list_tree};
 ghost use Rattle.relation_terms.specs.Meaning.{term_tree, object_predicate_tree};
 
-use crate::printing::binders::{Entered, enter, write_for};
+use crate::printing::binders::{Around, enter, write_for};
 use crate::printing::constants::write_const;
 use crate::printing::items::{write_args, write_named};
 use crate::printing::leaves::{write_between, write_region};
@@ -21,7 +21,7 @@ use std::fmt::{self, Write};
 pub(super) fn write_object<I: Interner, W: Write>(
     cx: &I,
     texts: &TextsOf<I>,
-    around: &[Entered],
+    around: &Around,
     predicates: &ExistentialPredicates<I>,
     region: &Region<I>,
     out: &mut W,
@@ -44,7 +44,7 @@ pub(super) fn write_object<I: Interner, W: Write>(
 pub(super) fn write_object_predicates<I: Interner, W: Write>(
     cx: &I,
     texts: &TextsOf<I>,
-    around: &[Entered],
+    around: &Around,
     predicates: &ExistentialPredicates<I>,
     out: &mut W,
 ) -> fmt::Result
@@ -105,7 +105,7 @@ fn is_assigned<I: Interner>(cx: &I, of: &ObjectPredicate<I>, next: &ObjectPredic
 fn write_object_bound<I: Interner, W: Write>(
     cx: &I,
     texts: &TextsOf<I>,
-    around: &[Entered],
+    around: &Around,
     bound: &[ObjectPredicate<I>],
     out: &mut W,
 ) -> fmt::Result
@@ -116,7 +116,7 @@ fn write_object_bound<I: Interner, W: Write>(
     };
     let vars = cx.bound_vars(&first.bound_vars);
     write_for(vars, around, out)?;
-    let inside = enter(cx.alloc(), around, vars.len())?;
+    let inside = enter(&*around, vars.len());
     match &first.value {
         ExistentialPredicate::Trait(of) => write_trait(cx, texts, &inside, of, assigned, out),
         ExistentialPredicate::Projection(of) => write_projection(cx, texts, &inside, of, out),
@@ -132,7 +132,7 @@ fn write_object_bound<I: Interner, W: Write>(
 fn write_trait<I: Interner, W: Write>(
     cx: &I,
     texts: &TextsOf<I>,
-    around: &[Entered],
+    around: &Around,
     of: &ExistentialTraitRef<I::Key, I::Id>,
     assigned: &[ObjectPredicate<I>],
     out: &mut W,
@@ -162,7 +162,7 @@ fn write_trait<I: Interner, W: Write>(
 fn write_assigned<I: Interner, W: Write>(
     cx: &I,
     texts: &TextsOf<I>,
-    around: &[Entered],
+    around: &Around,
     predicate: &ObjectPredicate<I>,
     out: &mut W,
 ) -> fmt::Result
@@ -186,7 +186,7 @@ fn write_assigned<I: Interner, W: Write>(
 fn write_projection<I: Interner, W: Write>(
     cx: &I,
     texts: &TextsOf<I>,
-    around: &[Entered],
+    around: &Around,
     of: &ExistentialProjection<I::Key, I::Id>,
     out: &mut W,
 ) -> fmt::Result

@@ -2,7 +2,7 @@
 ghost use Rattle.std.specs.Prelude.{IsTrue};
 ghost use Rattle.relation_terms.specs.Trees.{known};
 
-use crate::printing::binders::Entered;
+use crate::printing::binders::Around;
 use crate::printing::constants::write_const;
 use crate::printing::leaves::write_between;
 use crate::printing::names::TextsOf;
@@ -17,7 +17,7 @@ use std::fmt::{self, Write};
 pub(super) fn write_pattern_type<I: Interner, W: Write>(
     cx: &I,
     texts: &TextsOf<I>,
-    around: &[Entered],
+    around: &Around,
     base: &Ty<I>,
     pat: &Pat<I>,
     out: &mut W,
@@ -46,7 +46,7 @@ pub(super) fn write_pattern_type<I: Interner, W: Write>(
 fn write_pattern<I: Interner, W: Write>(
     cx: &I,
     texts: &TextsOf<I>,
-    around: &[Entered],
+    around: &Around,
     pat: &Pat<I>,
     out: &mut W,
 ) -> fmt::Result
@@ -70,7 +70,7 @@ fn write_pattern<I: Interner, W: Write>(
 fn write_alternatives<I: Interner, W: Write>(
     cx: &I,
     texts: &TextsOf<I>,
-    around: &[Entered],
+    around: &Around,
     alternatives: &Alternatives<I>,
     out: &mut W,
 ) -> fmt::Result
@@ -93,7 +93,7 @@ fn write_alternatives<I: Interner, W: Write>(
 fn write_alternative<I: Interner, W: Write>(
     cx: &I,
     texts: &TextsOf<I>,
-    around: &[Entered],
+    around: &Around,
     pat: &Pat<I>,
     out: &mut W,
 ) -> fmt::Result

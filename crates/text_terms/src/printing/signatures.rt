@@ -3,7 +3,7 @@ ghost use Rattle.std.specs.Prelude.{IsTrue};
 ghost use Rattle.relation_terms.specs.Trees.{known};
 ghost use Rattle.text_terms.specs.Printed.{bound_signature, bound_type};
 
-use crate::printing::binders::{Entered, enter, write_for, write_variables};
+use crate::printing::binders::{Around, enter, write_for, write_variables};
 use crate::printing::leaves::write_between;
 use crate::printing::names::{TextsOf, abi_text, safety_text};
 use crate::printing::terms::{write_operand, write_ty};
@@ -16,7 +16,7 @@ use std::fmt::{self, Write};
 pub(super) fn write_fn_ptr<I: Interner, W: Write>(
     cx: &I,
     texts: &TextsOf<I>,
-    around: &[Entered],
+    around: &Around,
     types: &Binder<I::Key, FnSigTys<I::Key>>,
     header: &FnHeader,
     out: &mut W,
@@ -28,7 +28,7 @@ pub(super) fn write_fn_ptr<I: Interner, W: Write>(
     out.write_str(safety_text(header.safety))?;
     out.write_str(abi_text(header.abi))?;
     out.write_str("fn(")?;
-    let inside = enter(cx.alloc(), around, vars.len())?;
+    let inside = enter(&*around, vars.len());
     write_signature(
         cx,
         texts,
@@ -45,7 +45,7 @@ pub(super) fn write_fn_ptr<I: Interner, W: Write>(
 fn write_signature<I: Interner, W: Write>(
     cx: &I,
     texts: &TextsOf<I>,
-    around: &[Entered],
+    around: &Around,
     types: &Tys<I>,
     c_variadic: bool,
     out: &mut W,
@@ -94,7 +94,7 @@ fn is_unit<I: Interner>(cx: &I, ty: &Ty<I>) -> bool
 pub(super) fn write_unsafe_binder<I: Interner, W: Write>(
     cx: &I,
     texts: &TextsOf<I>,
-    around: &[Entered],
+    around: &Around,
     body: &Binder<I::Key, TyKey<I::Key>>,
     out: &mut W,
 ) -> fmt::Result
@@ -103,6 +103,6 @@ pub(super) fn write_unsafe_binder<I: Interner, W: Write>(
     let vars = cx.bound_vars(&body.bound_vars);
     out.write_str("unsafe")?;
     write_variables(vars, around, out)?;
-    let inside = enter(cx.alloc(), around, vars.len())?;
+    let inside = enter(&*around, vars.len());
     write_operand(cx, texts, &inside, &body.value, out)
 }

@@ -3,7 +3,7 @@ ghost use Rattle.std.specs.Prelude.{IsTrue};
 ghost use Rattle.relation_terms.specs.Trees.{known};
 ghost use Rattle.relation_terms.specs.Meaning.{arg_tree, term_tree};
 
-use crate::printing::binders::Entered;
+use crate::printing::binders::Around;
 use crate::printing::constants::{const_mark, write_const};
 use crate::printing::items::{over_args, write_item};
 use crate::printing::leaves::{write_between, write_leaf, write_region};
@@ -20,14 +20,13 @@ use std::fmt::{self, Write};
 /// Writes a type under binders. The interner has to know it.
 ///
 /// # Errors
-/// `fmt::Error` where `out` refused to take some of the text, or memory for the list of binders around a part was
-/// refused. What `out` took before stands.
+/// `fmt::Error` where `out` refused to take some of the text. What it took before stands.
 #[cycle(write_ty)]
 #[tactic(auto, using(crate::proofs::Parts::size_part, crate::proofs::Parts::known_part))]
 pub fn write_ty<I: Interner, W: Write>(
     cx: &I,
     texts: &TextsOf<I>,
-    around: &[Entered],
+    around: &Around,
     ty: &Ty<I>,
     out: &mut W,
 ) -> fmt::Result
@@ -69,7 +68,7 @@ pub fn write_ty<I: Interner, W: Write>(
 fn write_array<I: Interner, W: Write>(
     cx: &I,
     texts: &TextsOf<I>,
-    around: &[Entered],
+    around: &Around,
     element: &Ty<I>,
     length: &Const<I>,
     out: &mut W,
@@ -88,7 +87,7 @@ fn write_array<I: Interner, W: Write>(
 fn write_borrow<I: Interner, W: Write>(
     cx: &I,
     texts: &TextsOf<I>,
-    around: &[Entered],
+    around: &Around,
     region: &Region<I>,
     mutability: Mutability,
     out: &mut W,
@@ -106,7 +105,7 @@ fn write_borrow<I: Interner, W: Write>(
 fn write_tuple<I: Interner, W: Write>(
     cx: &I,
     texts: &TextsOf<I>,
-    around: &[Entered],
+    around: &Around,
     members: &Tys<I>,
     out: &mut W,
 ) -> fmt::Result
@@ -128,14 +127,13 @@ fn write_tuple<I: Interner, W: Write>(
 /// one stands in brackets. The interner has to know the type.
 ///
 /// # Errors
-/// `fmt::Error` where `out` refused to take some of the text, or memory for the list of binders around a part was
-/// refused. What `out` took before stands.
+/// `fmt::Error` where `out` refused to take some of the text. What it took before stands.
 #[cycle(write_ty)]
 #[tactic(auto, using(crate::proofs::Parts::size_part, crate::proofs::Parts::known_part))]
 pub fn write_operand<I: Interner, W: Write>(
     cx: &I,
     texts: &TextsOf<I>,
-    around: &[Entered],
+    around: &Around,
     ty: &Ty<I>,
     out: &mut W,
 ) -> fmt::Result
@@ -154,14 +152,13 @@ pub fn write_operand<I: Interner, W: Write>(
 /// term.
 ///
 /// # Errors
-/// `fmt::Error` where `out` refused to take some of the text, or memory for the list of binders around a part was
-/// refused. What `out` took before stands.
+/// `fmt::Error` where `out` refused to take some of the text. What it took before stands.
 #[cycle(write_ty)]
 #[tactic(auto, using(crate::proofs::Parts::size_part, crate::proofs::Parts::known_part))]
 pub fn write_term<I: Interner, W: Write>(
     cx: &I,
     texts: &TextsOf<I>,
-    around: &[Entered],
+    around: &Around,
     term: &Term<I>,
     out: &mut W,
 ) -> fmt::Result
@@ -176,14 +173,13 @@ pub fn write_term<I: Interner, W: Write>(
 /// Writes a generic argument under binders, where it is told which sort it is of. The interner has to know it.
 ///
 /// # Errors
-/// `fmt::Error` where `out` refused to take some of the text, or memory for the list of binders around a part was
-/// refused. What `out` took before stands.
+/// `fmt::Error` where `out` refused to take some of the text. What it took before stands.
 #[cycle(write_ty)]
 #[tactic(auto, using(crate::proofs::Parts::size_part, crate::proofs::Parts::known_part))]
 pub fn write_arg<I: Interner, W: Write>(
     cx: &I,
     texts: &TextsOf<I>,
-    around: &[Entered],
+    around: &Around,
     arg: &GenericArg<I>,
     out: &mut W,
 ) -> fmt::Result
@@ -200,14 +196,13 @@ pub fn write_arg<I: Interner, W: Write>(
 /// would be read as a type. The interner has to know the argument.
 ///
 /// # Errors
-/// `fmt::Error` where `out` refused to take some of the text, or memory for the list of binders around a part was
-/// refused. What `out` took before stands.
+/// `fmt::Error` where `out` refused to take some of the text. What it took before stands.
 #[cycle(write_ty)]
 #[tactic(auto, using(crate::proofs::Parts::size_part, crate::proofs::Parts::known_part))]
 pub fn write_any_arg<I: Interner, W: Write>(
     cx: &I,
     texts: &TextsOf<I>,
-    around: &[Entered],
+    around: &Around,
     arg: &GenericArg<I>,
     out: &mut W,
 ) -> fmt::Result

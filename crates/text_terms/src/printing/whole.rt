@@ -1,10 +1,14 @@
-//! How terms print that stand alone.
+//! How terms print that stand alone. What a binder binds prints by its number: a region by the letter of that number
+//! among those that name no region which stands free in the term, so that it is not taken for one.
 ghost use Rattle.std.specs.Prelude.{IsTrue, OnOk};
 ghost use Rattle.std.specs.Fmt.{WritesInCalls};
 ghost use Rattle.relation_terms.specs.Trees.{known};
 ghost use Rattle.relation_terms.specs.Meaning.{arg_tree};
 ghost use Rattle.text_terms.specs.Texts.{text_at};
 
+use crate::printing::binders::Around;
+use crate::printing::free::free_letters;
+use crate::printing::letters::Letters;
 use crate::printing::names::{TextsOf, item_text, name_text};
 use crate::printing::{constants, items, leaves, objects, terms};
 use relation_terms::terms::{
@@ -16,8 +20,8 @@ use std::fmt::{self, Write};
 /// Writes a type. A parameter or an item that has no text is `_`, a region parameter `'_`.
 ///
 /// # Errors
-/// `fmt::Error` where `out` refused to take some of the text, or memory for the list of binders around a part was
-/// refused. What `out` took before stands.
+/// `fmt::Error` where `out` refused to take some of the text, or memory for the letters of free regions was refused.
+/// What `out` took before stands.
 pub fn write_ty<I: Interner, W: Write>(
     cx: &I,
     texts: &TextsOf<I>,
@@ -26,7 +30,8 @@ pub fn write_ty<I: Interner, W: Write>(
 ) -> fmt::Result
     requires { IsTrue (known ((I.meaning cx.now).ty ty.now)) }
 {
-    terms::write_ty(cx, texts, &[], ty, out)
+    let letters = free_letters(cx, texts, ty)?;
+    terms::write_ty(cx, texts, &Around::Nothing(&letters), ty, out)
 }
 
 /// Writes a region. A parameter that has no text is `'_`.
@@ -41,14 +46,15 @@ pub fn write_region<I: Interner, W: Write>(
 ) -> fmt::Result
     requires { IsTrue (known ((I.meaning cx.now).region region.now)) }
 {
-    leaves::write_region(cx, texts, &[], region, out)
+    let letters = Letters::new(cx.alloc());
+    leaves::write_region(cx, texts, &Around::Nothing(&letters), region, out)
 }
 
-/// Writes a constant: of a value the value alone, without its type. A parameter that has no text is `_`.
+/// Writes a constant: a value with its type behind it, unless that is `usize`. A parameter that has no text is `_`.
 ///
 /// # Errors
-/// `fmt::Error` where `out` refused to take some of the text, or memory for the list of binders around a part was
-/// refused. What `out` took before stands.
+/// `fmt::Error` where `out` refused to take some of the text, or memory for the letters of free regions was refused.
+/// What `out` took before stands.
 pub fn write_const<I: Interner, W: Write>(
     cx: &I,
     texts: &TextsOf<I>,
@@ -57,15 +63,16 @@ pub fn write_const<I: Interner, W: Write>(
 ) -> fmt::Result
     requires { IsTrue (known ((I.meaning cx.now).const_ constant.now)) }
 {
-    constants::write_const(cx, texts, &[], constant, out)
+    let letters = free_letters(cx, texts, constant)?;
+    constants::write_const(cx, texts, &Around::Nothing(&letters), constant, out)
 }
 
 /// Writes a generic argument: a region, a type or a constant, as each is written alone, with `const` before a constant
 /// that would be read as a type.
 ///
 /// # Errors
-/// `fmt::Error` where `out` refused to take some of the text, or memory for the list of binders around a part was
-/// refused. What `out` took before stands.
+/// `fmt::Error` where `out` refused to take some of the text, or memory for the letters of free regions was refused.
+/// What `out` took before stands.
 pub fn write_arg<I: Interner, W: Write>(
     cx: &I,
     texts: &TextsOf<I>,
@@ -74,14 +81,15 @@ pub fn write_arg<I: Interner, W: Write>(
 ) -> fmt::Result
     requires { IsTrue (known (arg_tree (I.meaning cx.now) arg.now)) }
 {
-    terms::write_any_arg(cx, texts, &[], arg, out)
+    let letters = free_letters(cx, texts, arg)?;
+    terms::write_any_arg(cx, texts, &Around::Nothing(&letters), arg, out)
 }
 
 /// Writes the predicates of a trait object as they stand behind `dyn`, with `+` between; nothing where there are none.
 ///
 /// # Errors
-/// `fmt::Error` where `out` refused to take some of the text, or memory for the list of binders around a part was
-/// refused. What `out` took before stands.
+/// `fmt::Error` where `out` refused to take some of the text, or memory for the letters of free regions was refused.
+/// What `out` took before stands.
 pub fn write_object_predicates<I: Interner, W: Write>(
     cx: &I,
     texts: &TextsOf<I>,
@@ -90,7 +98,8 @@ pub fn write_object_predicates<I: Interner, W: Write>(
 ) -> fmt::Result
     requires { IsTrue (known ((I.meaning cx.now).existential_predicates predicates.now)) }
 {
-    objects::write_object_predicates(cx, texts, &[], predicates, out)
+    let letters = free_letters(cx, texts, predicates)?;
+    objects::write_object_predicates(cx, texts, &Around::Nothing(&letters), predicates, out)
 }
 
 /// Writes an item's name. One that has no text is `_`.
@@ -150,8 +159,8 @@ pub fn write_variable<W: Write>(variable: InferTy, out: &mut W) -> fmt::Result {
 /// Writes an alias of a type over its arguments. An item that has no text is `_`.
 ///
 /// # Errors
-/// `fmt::Error` where `out` refused to take some of the text, or memory for the list of binders around a part was
-/// refused. What `out` took before stands.
+/// `fmt::Error` where `out` refused to take some of the text, or memory for the letters of free regions was refused.
+/// What `out` took before stands.
 pub fn write_alias<I: Interner, W: Write>(
     cx: &I,
     texts: &TextsOf<I>,
@@ -160,6 +169,7 @@ pub fn write_alias<I: Interner, W: Write>(
 ) -> fmt::Result
     requires { IsTrue (known ((I.meaning cx.now).args (alias.now).args)) }
 {
+    let letters = free_letters(cx, texts, &alias.args)?;
     let id = items::alias_id(&alias.kind);
-    items::write_item(cx, texts, &[], &id, &alias.args, out)
+    items::write_item(cx, texts, &Around::Nothing(&letters), &id, &alias.args, out)
 }

@@ -53,6 +53,11 @@ decreases-patterns::write_alternative g l = 4 * size ((g.I.Interner.meaning l.cx
 abbrev pub decreases-constants::write_const : goal.decreases-constants::write_const
 decreases-constants::write_const g l = 4 * size ((g.I.Interner.meaning l.cx.now).const_ l.constant.now)
 
+abbrev pub decreases-constants::write_value : goal.decreases-constants::write_value
+decreases-constants::write_value g l =
+    let m = g.I.Interner.meaning l.cx.now in
+    4 * (size (m.ty l.ty.now) + size (m.valtree l.value.now)) + 1
+
 abbrev pub decreases-constants::write_valtree : goal.decreases-constants::write_valtree
 decreases-constants::write_valtree g l = 4 * size ((g.I.Interner.meaning l.cx.now).valtree l.value.now)
 
