@@ -5,7 +5,8 @@ use Rattle.relation_terms.specs.declared.terms.keys.ArgsKey.{ArgsKey}
 use Rattle.relation_terms.specs.Heads.{BoundKind, VarKind, arguments}
 use Rattle.relation_terms.specs.Trees.{Tree, node, bind, nil, cons, Assign, apply, Leaves, IsList, count, inst, leaf, put}
 use Rattle.relation_terms.specs.Meaning.{under}
-use Rattle.fast_reject.specs.Instances.{IsNoVariable, NoCommonInstance}
+use Rattle.fast_reject.specs.Instances.{IsNoVariable}
+use Rattle.relation_laws.specs.SolutionLaws.{NewVariablesFit}
 use Rattle.relation_semantics.specs.Binders.{bound_by}
 use Rattle.relation_semantics.specs.Contexts.{Context}
 use Rattle.relation_semantics.specs.FirstOrder.{IsFirstOrder, IsFirstOrderStore, Unifies, IsErasedSolution}
@@ -154,13 +155,13 @@ module _ {Key Id Name : Type 0} (c d : Context Key Id Name) (left right : Binder
               sound_after resolving is
               (λ s f e. let r = keeps overlapping.free s f (ap (λ z. node arguments z) e) in (r.0, r.1, r.2.0)))
 
-    pub common : (after : Store) (t : Tree) → IsSound after → ResolvedResolves →
+    pub common : NewVariablesFit → (after : Store) (t : Tree) → IsSound after → ResolvedResolves →
         t ≡ apply (resolved after) ((d.meaning).args x) →
         Exact d.store after (node arguments ((d.meaning).args x)) (node arguments ((d.meaning).args y)) →
         IsCommon (c.store).universe (header_tree c.meaning left) (header_tree c.meaning right) after t
-    common after t sound_after resolving is exact =
+    common fits after t sound_after resolving is exact =
         subst₂ (λ l r. IsCommon (c.store).universe l r after t) (sym left_is) (sym right_is)
         (overlapping.is_common instantiating c.store h.middle d.store h.left_binds h.right_binds
             ((c.meaning).args left.value) ((c.meaning).args right.value) ((d.meaning).args x) ((d.meaning).args y)
-            h.first h.second no_left no_right h.left_in after t sound_after resolving is
+            h.first h.second no_left no_right h.left_in fits after t sound_after resolving is
             (exact_members d.store after ((d.meaning).args x) ((d.meaning).args y) exact))

@@ -4,3 +4,4 @@ pub mod ByForm
 pub mod Bounding
 pub mod BothOpened
 pub mod Answering
+pub mod Meeting

@@ -14,8 +14,9 @@ use Rattle.relation_semantics.specs.Outcomes.{NoEqualTerms, NoUnifier, Exact}
 use Rattle.relation_semantics.specs.StepLaws.{InstantiatingAssigns}
 use Rattle.relation_semantics.specs.StoreLaws.{ResolvedResolves}
 use Rattle.relation_semantics.proofs.Trees.{replace_alike, replace_leaf, Leaves_map}
-use Rattle.relation_semantics.proofs.Values.{same_value, variables_fit}
+use Rattle.relation_semantics.proofs.Values.{same_value}
 use Rattle.fast_reject.specs.Instances.{IsNoVariable}
+use Rattle.relation_laws.specs.SolutionLaws.{NewVariablesFit}
 use Rattle.relation_coherence.specs.Overlaps.{IsInstanceOf, AreApart, AreApartErased, Covers, IsCommon}
 
 
@@ -58,18 +59,6 @@ all_hold s qs = λ k d i. free_holds s (get_or qs k d)
 -- What satisfies a store's bindings satisfies them up to erasure.
 pub erased : (w : Interpretation) (st : Store) (s : Assign) → Satisfies w st s → IsErasedSolution st s
 erased w st s h = (h.assigns, λ k n t e. ap erase (h.bindings k n t e))
-
--- The values of new variables can be named by the universe that they were made in.
-pub variables_namable : (before st : Store) (s : Assign) (u : ℕ) (ks : List BoundKind) (xs : List Tree) →
-    IsAssignment st s → AreNewVariables before st u ks xs → AllNamable u (map (apply s) xs)
-variables_namable before st s u [] [] h n = tt
-variables_namable before st s u (k ∷ ks) (x ∷ xs) h n = (
-    subst (Leaves (IsNamable u)) (sym (ap (apply s) n.0.2))
-        (subst (λ w. Leaves (IsNamable w) (s n.0.0 n.0.1)) n.0.6 (h n.0.0 n.0.1 n.0.5).3),
-    variables_namable before st s u ks xs h n.2,
-  )
-variables_namable before st s u [] (x ∷ xs) h n = absurd n
-variables_namable before st s u (k ∷ ks) [] h n = absurd n
 
 module _ (instantiating : InstantiatingAssigns) where
   -- The value of an opened body.
@@ -138,25 +127,25 @@ module _ (instantiating : InstantiatingAssigns) where
     assigns_first s h k n m = let p = h k n (second.makes.later.grows k n m) in
         (p.0, p.1, p.2, subst (λ u. Leaves (IsNamable u) (s k n)) (second.makes.same_universes k n m) p.3)
 
-    pub is_common : (st3 : Store) (t : Tree) → IsSound st3 → ResolvedResolves → t ≡ apply (resolved st3) x →
-        Exact st2 st3 x y → IsCommon st0.universe (bind ks a) (bind ls b) st3 t
-    is_common st3 t sound3 resolving t_is exact s h =
+    pub is_common : NewVariablesFit → (st3 : Store) (t : Tree) → IsSound st3 → ResolvedResolves →
+        t ≡ apply (resolved st3) x → Exact st2 st3 x y → IsCommon st0.universe (bind ks a) (bind ls b) st3 t
+    is_common fits st3 t sound3 resolving t_is exact s h =
         let e = exact.shrinks s h in
         let same : Unifies s t x = subst (λ z. Unifies s z x) (sym t_is) ((resolving st3 x sound3).same_erased s h) in
         let vs = map (apply s) first.variables in
         let us = map (apply s) second.variables in
+        let f = fits st0 st1 st0.universe ks first.variables first.makes.are_new s (assigns_first s e.0.0) in
+        let g = fits st1 st2 st1.universe ls second.variables second.makes.are_new s e.0.0 in
         let one : IsInstanceOf st0.universe ks a (apply s x) = record {
               values = vs;
-              fit = variables_fit st0 st1 s st0.universe ks first.variables (assigns_first s e.0.0) first.makes.are_new;
-              namable = variables_namable st0 st1 s st0.universe ks first.variables (assigns_first s e.0.0)
-                  first.makes.are_new;
+              fit = f.0;
+              namable = f.1;
               body_is = ap (apply s) first.body_is ∙ opened_value s first.variables vs a left refl;
             } in
         let other : IsInstanceOf st0.universe ls b (apply s y) = record {
               values = us;
-              fit = variables_fit st1 st2 s st1.universe ls second.variables e.0.0 second.makes.are_new;
-              namable = subst (λ u. AllNamable u us) first.makes.same_universe
-                  (variables_namable st1 st2 s st1.universe ls second.variables e.0.0 second.makes.are_new);
+              fit = g.0;
+              namable = subst (λ u. AllNamable u us) first.makes.same_universe g.1;
               body_is = ap (apply s) second.body_is ∙ opened_value s second.variables us b right refl;
             } in
         ((apply s x, one, sym same), (apply s y, other, sym e.1 ∙ sym same))
