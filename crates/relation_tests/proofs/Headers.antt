@@ -1,8 +1,10 @@
 -- Headers of one argument meet what is asked of two headers before their overlap is asked for.
-use Rattle.std.proofs.Common.{◌≡◌, refl, sym, ap, ◌∙◌, subst, List, [], ◌∷◌, Option, Some, None, IsTrue, Unit, arith}
+use Rattle.std.proofs.Common.{◌≡◌, ℕ, refl, sym, ap, ap₂, ◌∙◌, subst, List, [], ◌∷◌, Option, Some, None, IsSome, IsTrue, arith}
+use Rattle.std.specs.Cmp.Derive.{both_true}
 use Rattle.relation_terms.specs.declared.terms.binder.Binder.{Binder}
 use Rattle.relation_terms.specs.declared.terms.keys.ArgsKey.{ArgsKey}
-use Rattle.relation_terms.specs.Heads.{BoundKind, bound, atom, Atom, Leaf}
+use Rattle.relation_terms.specs.declared.terms.keys.TyKey.{TyKey}
+use Rattle.relation_terms.specs.Heads.{BoundKind, bound_kind, type_kind, bound, atom, Atom, Leaf}
 use Rattle.relation_terms.specs.Trees.{Tree, leaf, bind, nil, cons, known, count, Leaves}
 use Rattle.relation_terms.specs.Meaning.{Meaning, Extends, under}
 use Rattle.fast_reject.specs.Instances.{IsNoVariable, IsNamed, AgreeOnNames as NamesAgree}
@@ -43,6 +45,37 @@ body_is (Some ls) t ks l e = cc
 body_is None t ks l e = absurd cc
 
 module _ {Key Id Name : Type 0} where
+  -- A list of one known type is known.
+  pub type_known : (m : Meaning Key Id Name) (t : TyKey Key) → IsTrue (known (m.ty t)) →
+      IsTrue (known (cons (m.ty t) nil))
+  type_known m t k = both_true k refl
+
+  -- A header that was made of a list of what it binds, and then of a type.
+  pub header_made : (m n o : Meaning Key Id Name) (h : Binder Key (ArgsKey Key)) (ks : List BoundKind) (t : TyKey Key) →
+      Extends m n → Extends n o → IsTrue (known (m.ty t)) → n.bound_vars h.bound_vars ≡ Some ks →
+      o.args h.value ≡ cons (n.ty t) nil → header_tree o h ≡ bind ks (cons (m.ty t) nil)
+  header_made m n o h ks t e f k b a =
+      ap₂ under (f.bound_vars h.bound_vars (subst IsSome (sym b) tt) ∙ b) (a ∙ ap (λ z. cons z nil) (e.ty t k))
+
+  pub simple_bound : (m : Meaning Key Id Name) (h : Binder Key (ArgsKey Key)) (a b : ℕ) (t : Tree) → a ≡ b →
+      t ≡ leaf (bound (bound_kind type_kind b) 0 0) →
+      header_tree m h ≡ bind (bound_kind type_kind a ∷ []) (cons t nil) → IsSimple m h
+  simple_bound m h a b t e u i = record {
+    binds = bound_kind type_kind b ∷ [];
+    leaf_of = bound (bound_kind type_kind b) 0 0;
+    plain = plain_bound (bound_kind type_kind b);
+    tree_is = i ∙ ap₂ (λ z w. bind (bound_kind type_kind z ∷ []) (cons w nil)) e u;
+  }
+
+  pub simple_atom : (m : Meaning Key Id Name) (h : Binder Key (ArgsKey Key)) (x : Atom) (t : Tree) → IsValueAtom x →
+      IsNamed (λ i. i) (λ i. i) (atom x) → t ≡ leaf (atom x) → header_tree m h ≡ bind [] (cons t nil) → IsSimple m h
+  simple_atom m h x t v n u i = record {
+    binds = [];
+    leaf_of = atom x;
+    plain = plain_atom x v n;
+    tree_is = i ∙ ap (λ w. bind [] (cons w nil)) u;
+  }
+
   pub simple_known : (c : Context Key Id Name) (h : Binder Key (ArgsKey Key)) → IsSimple c.meaning h → KnowsHeader c h
   simple_known c h s = subst (λ t. IsTrue (known t)) (sym s.tree_is) ((s.plain).is_known)
 

@@ -18,7 +18,7 @@ header_of ks l = bind ks (cons (leaf l) nil)
 
 -- It may be asked of in every context: its leaf is no variable and no parameter, and its binder binds it if any does.
 pub record IsPlain (ks : List BoundKind) (l : Leaf) : Type 0 where
-  pub is_known : IsTrue (known (leaf l))
+  pub is_known : IsTrue (known (header_of ks l))
   pub bound_as : IsBoundAs ks 0 l
   pub is_in : (st : Store) → IsTermIn st (header_of ks l)
   pub no_variable : IsNoVariable l

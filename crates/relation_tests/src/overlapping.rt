@@ -1,11 +1,9 @@
 //! Headers of impls, of which some overlap.
-ghost use Rattle.std.specs.Prelude.{◌≡◌, IfOk};
-ghost use Rattle.relation_terms.specs.Heads.{Atom, atom};
-ghost use Rattle.relation_terms.specs.Trees.{leaf};
-ghost use Rattle.relation_terms.specs.Meaning.{Extends, kind_tree};
-ghost use Rattle.fast_reject.specs.Instances.{IsNamed};
+ghost use Rattle.std.specs.Prelude.{◌≡◌, IfOk, IsTrue};
+ghost use Rattle.relation_terms.specs.Trees.{bind, cons, nil, known};
+ghost use Rattle.relation_terms.specs.Meaning.{Extends, bound_kinds};
 ghost use Rattle.relation_semantics.specs.Contexts.{KnowsEnv};
-ghost use Rattle.relation_semantics.specs.Relation.{IsValueAtom};
+ghost use Rattle.relation_coherence.specs.Headers.{header_tree};
 ghost use Rattle.relation_tests.specs.Headers.{IsSimple, IsPlainKind};
 
 use reference_interner::{RefInterner, SymbolId};
@@ -14,33 +12,45 @@ use relation_folds::error::RelateResult;
 use relation_reference::context::RefCtxt;
 use relation_semantics::infer_ctxt::{InferCtxtLike, TypingMode};
 use relation_terms::terms::{
-    Binder, BoundTy, BoundVar, BoundVariableKind, DebruijnIndex, GenericArgKind, GenericArgs,
-    Interner, OutOfMemory, ParamEnv, TyForm, TyKind, UintTy,
+    Binder, BoundTy, BoundVar, BoundVariable, BoundVariableKind, DebruijnIndex, GenericArgKind,
+    GenericArgs, Interner, OutOfMemory, ParamEnv, Ty, TyForm, TyKind, UintTy,
 };
 use std::test::Fail;
 
-// The header of an impl for all types, under a binder of one.
+// The header of an impl for a type, under a binder.
+fn make_header<I: Interner>(
+    cx: &mut I,
+    bound: &[BoundVariable<I>],
+    ty: Ty<I>,
+) -> Result<HeaderOf<I>, OutOfMemory>
+    requires { IsTrue (known ((I.meaning cx.old).ty ty)) }
+    ensures grown { Extends (I.meaning cx.old) (I.meaning cx.new) }
+    ensures is { IfOk result (λ h. header_tree (I.meaning cx.new) h ≡
+        bind (bound_kinds (I.meaning cx.old) bound.now) (cons ((I.meaning cx.old).ty ty) nil)) }
+{
+    let bound_vars = cx.mk_bound_vars(bound)?;
+    let value = cx.mk_args(&[GenericArgKind::Ty(ty)])?;
+    Ok(Binder { value, bound_vars })
+}
+
+// That of an impl for all types.
 fn header_for_all<I: Interner>(cx: &mut I, name: I::Name) -> Result<HeaderOf<I>, OutOfMemory>
     ensures grown { Extends (I.meaning cx.old) (I.meaning cx.new) }
     ensures simple { IfOk result (λ h. IsSimple (I.meaning cx.new) h) }
 {
     let var = BoundVar(0);
     let param = cx.mk_ty(TyKind::Bound(DebruijnIndex(0), BoundTy { var, name }))?;
-    let value = cx.mk_args(&[GenericArgKind::Type(param)])?;
-    let bound_vars = cx.mk_bound_vars(&[BoundVariableKind::Ty(name)])?;
-    Ok(Binder { value, bound_vars })
+    make_header(cx, &[BoundVariableKind::Ty(name)], param)
 }
 
-// The header of an impl for a type without parts.
+// That of an impl for a type without parts.
 fn header_for<I: Interner>(cx: &mut I, kind: TyForm<I>) -> Result<HeaderOf<I>, OutOfMemory>
     requires { IsPlainKind (I.meaning cx.old) kind }
     ensures grown { Extends (I.meaning cx.old) (I.meaning cx.new) }
     ensures simple { IfOk result (λ h. IsSimple (I.meaning cx.new) h) }
 {
     let ty = cx.mk_ty(kind)?;
-    let value = cx.mk_args(&[GenericArgKind::Type(ty)])?;
-    let bound_vars = cx.mk_bound_vars(&[])?;
-    Ok(Binder { value, bound_vars })
+    make_header(cx, &[], ty)
 }
 
 // What two headers have in common, where they overlap.
