@@ -1,7 +1,11 @@
 -- What the answered header is, where two opened headers were related and the left one resolved.
-use Rattle.std.proofs.Common.{◌≡◌, sym, ap, ap₂, ◌∙◌, subst, List, Some, IsTrue}
+use Rattle.std.proofs.Common.{◌≡◌, sym, ap, ap₂, ◌∙◌, subst, List, Some, IsTrue, Result, Err}
 use Rattle.relation_terms.specs.declared.terms.binder.Binder.{Binder}
 use Rattle.relation_terms.specs.declared.terms.keys.ArgsKey.{ArgsKey}
+use Rattle.relation_folds.specs.Faults.{IfUnrelated, IfSpent}
+use Rattle.relation_folds.specs.declared.error.RelateFault.{RelateFault}
+use Rattle.relation_folds.specs.declared.error.RelateFault.TheVariants.{Budget, Unrelated}
+use Rattle.relation_folds.specs.declared.error.TypeError.{TypeError}
 use Rattle.relation_terms.specs.Heads.{arguments, argument_sort}
 use Rattle.relation_terms.specs.Trees.{Tree, node, apply, Leaves, IsList, known, AreTerms}
 use Rattle.relation_terms.specs.Interning.{Sorted}
@@ -14,13 +18,24 @@ use Rattle.relation_semantics.specs.Headline.{KeepsEqualTerms, IsFirstOrderPair}
 use Rattle.relation_semantics.specs.Outcomes.{Exact}
 use Rattle.relation_semantics.specs.StepLaws.{InstantiatingAssigns}
 use Rattle.relation_semantics.specs.StoreLaws.{ResolvedResolves}
-use Rattle.relation_semantics.specs.Stores.{IsSound, IsFree, BindingsAreMet, resolved}
+use Rattle.relation_semantics.specs.Steps.{IsLater}
+use Rattle.relation_semantics.specs.Stores.{IsSound, IsFree, IsTermIn, BindingsAreMet, resolved}
 use Rattle.relation_semantics.proofs.Resolved.{settled_term}
+use Rattle.relation_semantics.proofs.Standing.{later_term}
 use Rattle.relation_laws.specs.SolutionLaws.{NewVariablesFit}
-use Rattle.relation_coherence.specs.Headers.{header_tree, KnowsHeader, IsClosedHeader, OpensHeaders}
+use Rattle.relation_coherence.specs.Headers.{header_tree, KnowsHeader, IsClosedHeader, OpensHeaders, MayRelate}
 use Rattle.relation_coherence.specs.Overlaps.{Covers, IsCommon, IsFirstOrderHeader}
 use Rattle.relation_coherence.proofs.Answering.{covers, common, opened_pair}
-use Rattle.relation_coherence.proofs.BothOpened.{body_known}
+use Rattle.relation_coherence.proofs.BothOpened.{body_known, from_arguments}
+
+-- What a type error says, and what a spent budget does.
+pub of_error : {A X D N P : Type 0} (r : Result A (RelateFault X D N)) (f : RelateFault X D N) (e : TypeError X D N) →
+    r ≡ Err f → f ≡ Unrelated e → IfUnrelated r (λ _. P) → P
+of_error {P = P} r f e q i h = subst (λ z. IfUnrelated z (λ _. P)) (q ∙ ap (λ z. Err z) i) h
+
+pub of_spent : {A X D N P : Type 0} (r : Result A (RelateFault X D N)) (f : RelateFault X D N) → r ≡ Err f →
+    f ≡ Budget → IfSpent r P → P
+of_spent {P = P} r f q i h = subst (λ z. IfSpent z P) (q ∙ ap (λ z. Err z) i) h
 
 -- The body of a known header is a list of arguments.
 pub body_terms : {Key Id Name : Type 0} (c : Context Key Id Name) → Sorted c.meaning → (h : Binder Key (ArgsKey Key)) →
@@ -30,6 +45,13 @@ body_terms c sorted h k = sorted.args h.value (body_known c.meaning h k)
 pub body_list : {Key Id Name : Type 0} (c : Context Key Id Name) → Sorted c.meaning → (h : Binder Key (ArgsKey Key)) →
     KnowsHeader c h → IsList ((c.meaning).args h.value)
 body_list c sorted h k = terms_list argument_sort ((c.meaning).args h.value) (body_terms c sorted h k)
+
+-- What was opened first is a term of the context after relating.
+pub left_after : {Key Id Name : Type 0} (d e : Context Key Id Name) (x : ArgsKey Key) → MayRelate d x →
+    Extends d.meaning e.meaning → IsLater d.store e.store → IsTermIn e.store ((e.meaning).args x)
+left_after d e x r g l = subst (IsTermIn e.store) (sym (g.args x r.is_known))
+    (later_term d.store e.store l.grows l.universe_stands ((d.meaning).args x)
+        (from_arguments d.store ((d.meaning).args x) r.has))
 
 -- From a context before both headers are opened, through one after that and one after relating, to one after resolving.
 module _ {Key Id Name : Type 0} (c d e f : Context Key Id Name) (left right : Binder Key (ArgsKey Key))

@@ -1,5 +1,8 @@
 //! The overlap of two headers.
+ghost use Rattle.std.specs.Prelude.{IsTrue, IsFalse, false};
+ghost use Rattle.relation_terms.specs.Trees.{known};
 ghost use Rattle.relation_terms.specs.Meaning.{Extends};
+ghost use Rattle.fast_reject.specs.Instances.{NoCommonInstance};
 ghost use Rattle.relation_semantics.specs.Contexts.{KnowsEnv};
 ghost use Rattle.relation_semantics.specs.Steps.{IsLater};
 ghost use Rattle.relation_semantics.specs.Stores.{IsSound};
@@ -14,7 +17,7 @@ use fast_reject::DeepRejectCtxt;
 use relation_folds::error::{RelateFault, RelateResult};
 use relation_laws::laws;
 use relation_semantics::infer_ctxt::InferCtxtLike;
-use relation_terms::terms::{ParamEnv, Span, Variance};
+use relation_terms::terms::{GenericArgs, ParamEnv, Span, Variance};
 use type_relations::relate::solver_relating::RelateExt;
 
 /// Whether two headers over as many arguments overlap: whether some values for what they bind make them one, as two
@@ -65,8 +68,7 @@ pub fn overlap<C: InferCtxtLike>(
     laws::stores();
     laws::assigning();
     laws::opening();
-    let test = DeepRejectCtxt::relate_rigid_rigid(ctx.cx());
-    if !test.args_may_unify(ctx.cx(), &left.value, &right.value) {
+    if !bodies_may_unify(&*ctx, &left.value, &right.value) {
         return Ok(Overlap::Apart(WhyApart::ByForm));
     }
     let (lhs, rhs) = open_both(ctx, left, right)?;
@@ -79,4 +81,20 @@ pub fn overlap<C: InferCtxtLike>(
         Err(RelateFault::Budget) => Err(RelateFault::Budget),
         Err(RelateFault::Memory) => Err(RelateFault::Memory),
     }
+}
+
+// Whether the bodies of two headers may be one, as far as a quick test tells. Parameters stand for themselves in both.
+fn bodies_may_unify<C: InferCtxtLike>(
+    ctx: &C,
+    left: &GenericArgs<C::Interner>,
+    right: &GenericArgs<C::Interner>,
+) -> bool
+    requires left_known { IsTrue (known ((C.state ctx.now).meaning.args left.now)) }
+    requires right_known { IsTrue (known ((C.state ctx.now).meaning.args right.now)) }
+    ensures { let m = (C.state ctx.now).meaning in
+        IsFalse result → NoCommonInstance false false (m.args left.now) (m.args right.now) }
+{
+    let cx = ctx.cx();
+    let test = DeepRejectCtxt::relate_rigid_rigid(cx);
+    test.args_may_unify(cx, left, right)
 }

@@ -1,6 +1,8 @@
 -- Headers of one argument meet what is asked of two headers before their overlap is asked for.
-use Rattle.std.proofs.Common.{◌≡◌, ℕ, refl, sym, ap, ap₂, ◌∙◌, subst, List, [], ◌∷◌, Option, Some, None, IsSome, IsTrue, arith}
+use Rattle.std.proofs.Common.{◌≡◌, ℕ, refl, sym, ap, ap₂, ◌∙◌, subst, List, [], ◌∷◌, Option, Some, None, IsSome}
+use Rattle.std.proofs.Common.{IsTrue, IfOk, Result, Ok, Err, arith}
 use Rattle.std.specs.Cmp.Derive.{both_true}
+use Rattle.term_enums.specs.declared.memory.OutOfMemory.{OutOfMemory}
 use Rattle.relation_terms.specs.declared.terms.binder.Binder.{Binder}
 use Rattle.relation_terms.specs.declared.terms.keys.ArgsKey.{ArgsKey}
 use Rattle.relation_terms.specs.declared.terms.keys.TyKey.{TyKey}
@@ -57,7 +59,7 @@ module _ {Key Id Name : Type 0} where
   header_made m n o h ks t e f k b a =
       ap₂ under (f.bound_vars h.bound_vars (subst IsSome (sym b) tt) ∙ b) (a ∙ ap (λ z. cons z nil) (e.ty t k))
 
-  pub simple_bound : (m : Meaning Key Id Name) (h : Binder Key (ArgsKey Key)) (a b : ℕ) (t : Tree) → a ≡ b →
+  simple_bound : (m : Meaning Key Id Name) (h : Binder Key (ArgsKey Key)) (a b : ℕ) (t : Tree) → a ≡ b →
       t ≡ leaf (bound (bound_kind type_kind b) 0 0) →
       header_tree m h ≡ bind (bound_kind type_kind a ∷ []) (cons t nil) → IsSimple m h
   simple_bound m h a b t e u i = record {
@@ -67,7 +69,14 @@ module _ {Key Id Name : Type 0} where
     tree_is = i ∙ ap₂ (λ z w. bind (bound_kind type_kind z ∷ []) (cons w nil)) e u;
   }
 
-  pub simple_atom : (m : Meaning Key Id Name) (h : Binder Key (ArgsKey Key)) (x : Atom) (t : Tree) → IsValueAtom x →
+  pub made_for_all : (m : Meaning Key Id Name) (a b : ℕ) (t : Tree) → a ≡ b →
+      t ≡ leaf (bound (bound_kind type_kind b) 0 0) → (made : Result (Binder Key (ArgsKey Key)) OutOfMemory) →
+      IfOk made (λ h. header_tree m h ≡ bind (bound_kind type_kind a ∷ []) (cons t nil)) →
+      IfOk made (λ h. IsSimple m h)
+  made_for_all m a b t e u (Ok h) i = simple_bound m h a b t e u i
+  made_for_all m a b t e u (Err f) i = tt
+
+  simple_atom : (m : Meaning Key Id Name) (h : Binder Key (ArgsKey Key)) (x : Atom) (t : Tree) → IsValueAtom x →
       IsNamed (λ i. i) (λ i. i) (atom x) → t ≡ leaf (atom x) → header_tree m h ≡ bind [] (cons t nil) → IsSimple m h
   simple_atom m h x t v n u i = record {
     binds = [];
@@ -75,6 +84,13 @@ module _ {Key Id Name : Type 0} where
     plain = plain_atom x v n;
     tree_is = i ∙ ap (λ w. bind [] (cons w nil)) u;
   }
+
+  pub made_for : (m : Meaning Key Id Name) (x : Atom) (t : Tree) → IsValueAtom x →
+      IsNamed (λ i. i) (λ i. i) (atom x) → t ≡ leaf (atom x) →
+      (made : Result (Binder Key (ArgsKey Key)) OutOfMemory) →
+      IfOk made (λ h. header_tree m h ≡ bind [] (cons t nil)) → IfOk made (λ h. IsSimple m h)
+  made_for m x t v n u (Ok h) i = simple_atom m h x t v n u i
+  made_for m x t v n u (Err f) i = tt
 
   pub simple_known : (c : Context Key Id Name) (h : Binder Key (ArgsKey Key)) → IsSimple c.meaning h → KnowsHeader c h
   simple_known c h s = subst (λ t. IsTrue (known t)) (sym s.tree_is) ((s.plain).is_known)
