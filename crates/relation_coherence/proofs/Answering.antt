@@ -1,23 +1,22 @@
 -- What two opened headers have in common, by what relating their bodies as lists of arguments promises.
-use Rattle.std.proofs.Common.{◌≡◌, ◌+◌, ◌<◌, ℕ, suc, arith, refl, sym, ap, ◌∙◌, subst, subst₂, List, length, Option, Some, IsTrue, All}
+use Rattle.std.proofs.Common.{◌≡◌, ◌<◌, ℕ, suc, arith, refl, sym, ap, ◌∙◌, subst, subst₂, List, length}
 use Rattle.relation_terms.specs.declared.terms.binder.Binder.{Binder}
 use Rattle.relation_terms.specs.declared.terms.keys.ArgsKey.{ArgsKey}
-use Rattle.relation_terms.specs.Heads.{BoundKind, VarKind, arguments}
-use Rattle.relation_terms.specs.Trees.{Tree, node, bind, nil, cons, Assign, apply, Leaves, IsList, count, inst, leaf, put}
+use Rattle.relation_terms.specs.Heads.{arguments}
+use Rattle.relation_terms.specs.Trees.{Tree, node, bind, nil, cons, Assign, apply, Leaves, IsList, count, inst, leaf}
 use Rattle.relation_terms.specs.Meaning.{under}
 use Rattle.fast_reject.specs.Instances.{IsNoVariable}
 use Rattle.relation_laws.specs.SolutionLaws.{NewVariablesFit}
 use Rattle.relation_semantics.specs.Binders.{bound_by}
 use Rattle.relation_semantics.specs.Contexts.{Context}
-use Rattle.relation_semantics.specs.FirstOrder.{IsFirstOrder, IsFirstOrderStore, Unifies, IsErasedSolution}
+use Rattle.relation_semantics.specs.FirstOrder.{IsFirstOrder, IsFirstOrderStore, Unifies}
 use Rattle.relation_semantics.specs.Goals.{Goal}
 use Rattle.relation_semantics.specs.Headline.{KeepsEqualTerms, IsFirstOrderPair}
 use Rattle.relation_semantics.specs.OneUniverse.{IsPairOf, all_unbound}
 use Rattle.relation_semantics.specs.Outcomes.{NoEqualTerms, NoUnifier, Exact}
 use Rattle.relation_semantics.specs.StepLaws.{InstantiatingAssigns}
 use Rattle.relation_semantics.specs.StoreLaws.{ResolvedResolves}
-use Rattle.relation_semantics.specs.Steps.{HasExtension}
-use Rattle.relation_semantics.specs.Stores.{Store, InContext, IsSound, Satisfies, BindingsAreMet, bound_term, entry_term, resolved}
+use Rattle.relation_semantics.specs.Stores.{Store, IsSound, BindingsAreMet, entry_term, resolved}
 use Rattle.relation_semantics.proofs.Standing.{later_context}
 use Rattle.relation_coherence.specs.Bounds.{types_bound, WasTooFew}
 use Rattle.relation_coherence.proofs.Bounding.{term_names}
@@ -65,7 +64,7 @@ module _ {Key Id Name : Type 0} (c d : Context Key Id Name) (left right : Binder
       AreOfOneLength c left right → count ((d.meaning).args x) ≡ count ((d.meaning).args y)
   opened_as_many l r e =
       ap count (h.first).body_is ∙ (count_opened (h.first).variables ((c.meaning).args left.value) l ∙ (e ∙
-          sym (ap count (h.second).body_is ∙ count_opened (h.second).variables ((c.meaning).args right.value) r)))
+      sym (ap count (h.second).body_is ∙ count_opened (h.second).variables ((c.meaning).args right.value) r)))
 
   -- The opened bodies are first-order where the headers are.
   pub opened_pair : IsList ((c.meaning).args left.value) → IsList ((c.meaning).args right.value) →
@@ -74,9 +73,9 @@ module _ {Key Id Name : Type 0} (c d : Context Key Id Name) (left right : Binder
       IsFirstOrderPair d.store (node arguments ((d.meaning).args x)) (node arguments ((d.meaning).args y))
   opened_pair l r lf rf fo =
       let v = new_are_variables c.store h.middle (c.store).universe h.left_binds (h.first).variables
-          ((h.first).makes).are_new in
+      ((h.first).makes).are_new in
       let w = new_are_variables h.middle d.store (h.middle).universe h.right_binds (h.second).variables
-          ((h.second).makes).are_new in
+      ((h.second).makes).are_new in
       let lb : IsFirstOrderBody (length h.left_binds) ((c.meaning).args left.value) = subst IsFirstOrderHeader left_is lf in
       let rb : IsFirstOrderBody (length h.right_binds) ((c.meaning).args right.value) = subst IsFirstOrderHeader right_is rf in
       record {
@@ -103,18 +102,18 @@ module _ {Key Id Name : Type 0} (c d : Context Key Id Name) (left right : Binder
       (d.store).budget < all_unbound d.store) → WasTooFew c.store (header_tree c.meaning left) (header_tree c.meaning right)
   bounded enough one =
       let same : (d.store).universe ≡ (c.store).universe =
-          ((h.second).makes).same_universe ∙ ((h.first).makes).same_universe in
+      ((h.second).makes).same_universe ∙ ((h.first).makes).same_universe in
       let few : (d.store).budget < all_unbound d.store = enough (c.store).universe (record {
-            variables = h.one_universe one;
-            left = term_names d.store (c.store).universe (node arguments ((d.meaning).args x)) same (h.left_relates).has;
-            right = term_names d.store (c.store).universe (node arguments ((d.meaning).args y)) same (h.right_relates).has;
-          }) in
+        variables = h.one_universe one;
+        left = term_names d.store (c.store).universe (node arguments ((d.meaning).args x)) same (h.left_relates).has;
+        right = term_names d.store (c.store).universe (node arguments ((d.meaning).args y)) same (h.right_relates).has;
+      }) in
       let spent : (d.store).budget ≡ (c.store).budget = ((h.second).makes).same_budget ∙ ((h.first).makes).same_budget in
       let unresolved = h.unresolved in
       let l : types_bound (bound_by (header_tree c.meaning left)) ≡ types_bound h.left_binds =
-          ap (λ t. types_bound (bound_by t)) left_is in
+      ap (λ t. types_bound (bound_by t)) left_is in
       let r : types_bound (bound_by (header_tree c.meaning right)) ≡ types_bound h.right_binds =
-          ap (λ t. types_bound (bound_by t)) right_is in
+      ap (λ t. types_bound (bound_by t)) right_is in
       omega (arith, few, spent, unresolved, l, r)
 
   module _ (instantiating : InstantiatingAssigns) (left_closed : IsClosedHeader c left)
@@ -130,17 +129,17 @@ module _ {Key Id Name : Type 0} (c d : Context Key Id Name) (left right : Binder
           AreApart (c.store).universe (header_tree c.meaning left) (header_tree c.meaning right)
       apart never = subst₂ (AreApart (c.store).universe) (sym left_is) (sym right_is)
           (overlapping.apart instantiating c.store h.middle d.store h.left_binds h.right_binds
-              ((c.meaning).args left.value) ((c.meaning).args right.value) ((d.meaning).args x) ((d.meaning).args y)
-              h.first h.second no_left no_right h.left_in met sound
-              (never_one d.store ((d.meaning).args x) ((d.meaning).args y) never))
+          ((c.meaning).args left.value) ((c.meaning).args right.value) ((d.meaning).args x) ((d.meaning).args y)
+          h.first h.second no_left no_right h.left_in met sound
+          (never_one d.store ((d.meaning).args x) ((d.meaning).args y) never))
 
       pub apart_erased : NoUnifier d.store (node arguments ((d.meaning).args x)) (node arguments ((d.meaning).args y)) →
           AreApartErased (c.store).universe (header_tree c.meaning left) (header_tree c.meaning right)
       apart_erased never = subst₂ (AreApartErased (c.store).universe) (sym left_is) (sym right_is)
           (overlapping.apart_erased instantiating c.store h.middle d.store h.left_binds h.right_binds
-              ((c.meaning).args left.value) ((c.meaning).args right.value) ((d.meaning).args x) ((d.meaning).args y)
-              h.first h.second no_left no_right h.left_in met sound
-              (no_unifier d.store ((d.meaning).args x) ((d.meaning).args y) never))
+          ((c.meaning).args left.value) ((c.meaning).args right.value) ((d.meaning).args x) ((d.meaning).args y)
+          h.first h.second no_left no_right h.left_in met sound
+          (no_unifier d.store ((d.meaning).args x) ((d.meaning).args y) never))
 
       pub covers : (after : Store) (goals : List Goal) (t : Tree) → IsSound after → ResolvedResolves →
           t ≡ apply (resolved after) ((d.meaning).args x) →
@@ -149,11 +148,11 @@ module _ {Key Id Name : Type 0} (c d : Context Key Id Name) (left right : Binder
       covers after goals t sound_after resolving is keeps =
           subst₂ (λ l r. Covers (c.store).universe l r after t) (sym left_is) (sym right_is)
           (overlapping.covers instantiating c.store h.middle d.store h.left_binds h.right_binds
-              ((c.meaning).args left.value) ((c.meaning).args right.value) ((d.meaning).args x) ((d.meaning).args y)
-              h.first h.second no_left no_right h.left_in met sound after t
-              (later_context h.middle d.store (((h.second).makes).later).grows ((d.meaning).args x) h.left_in)
-              sound_after resolving is
-              (λ s f e. let r = keeps overlapping.free s f (ap (λ z. node arguments z) e) in (r.0, r.1, r.2.0)))
+          ((c.meaning).args left.value) ((c.meaning).args right.value) ((d.meaning).args x) ((d.meaning).args y)
+          h.first h.second no_left no_right h.left_in met sound after t
+          (later_context h.middle d.store (((h.second).makes).later).grows ((d.meaning).args x) h.left_in)
+          sound_after resolving is
+          (λ s f e. let r = keeps overlapping.free s f (ap (λ z. node arguments z) e) in (r.0, r.1, r.2.0)))
 
     pub common : NewVariablesFit → (after : Store) (t : Tree) → IsSound after → ResolvedResolves →
         t ≡ apply (resolved after) ((d.meaning).args x) →
@@ -162,6 +161,6 @@ module _ {Key Id Name : Type 0} (c d : Context Key Id Name) (left right : Binder
     common fits after t sound_after resolving is exact =
         subst₂ (λ l r. IsCommon (c.store).universe l r after t) (sym left_is) (sym right_is)
         (overlapping.is_common instantiating c.store h.middle d.store h.left_binds h.right_binds
-            ((c.meaning).args left.value) ((c.meaning).args right.value) ((d.meaning).args x) ((d.meaning).args y)
-            h.first h.second no_left no_right h.left_in fits after t sound_after resolving is
-            (exact_members d.store after ((d.meaning).args x) ((d.meaning).args y) exact))
+        ((c.meaning).args left.value) ((c.meaning).args right.value) ((d.meaning).args x) ((d.meaning).args y)
+        h.first h.second no_left no_right h.left_in fits after t sound_after resolving is
+        (exact_members d.store after ((d.meaning).args x) ((d.meaning).args y) exact))

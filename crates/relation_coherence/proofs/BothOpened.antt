@@ -1,5 +1,5 @@
 -- Two headers, opened one after the other.
-use Rattle.std.proofs.Common.{◌≡◌, ◌+◌, ℕ, refl, sym, ap, ◌∙◌, subst, List, take, Option, Some, None, IsTrue, arith}
+use Rattle.std.proofs.Common.{◌≡◌, ◌+◌, refl, sym, subst, List, take, Option, Some, None, IsTrue, arith}
 use Rattle.relation_terms.specs.declared.terms.binder.Binder.{Binder}
 use Rattle.relation_terms.specs.declared.terms.keys.ArgsKey.{ArgsKey}
 use Rattle.relation_terms.specs.Heads.{BoundKind, arguments}
@@ -7,8 +7,7 @@ use Rattle.relation_terms.specs.Trees.{Tree, leaf, node, bind, nil, cons, known}
 use Rattle.relation_terms.specs.Meaning.{Meaning, Extends, under}
 use Rattle.relation_terms.proofs.Binders.{under_known, under_stays}
 use Rattle.relation_semantics.specs.Bound.{BindsByList, IsWellBound}
-use Rattle.relation_semantics.specs.Binders.{InstantiatesAs, InstantiatesWithInfer, MakesFirst, bound_by}
-use Rattle.relation_semantics.specs.ContextCalls.{Grows}
+use Rattle.relation_semantics.specs.Binders.{InstantiatesAs, MakesFirst}
 use Rattle.relation_semantics.specs.Contexts.{Context}
 use Rattle.relation_semantics.specs.OpeningLaws.{MakingEachMakes, InstantiatingEachOpens, InstantiatedBodyIsIn, InstantiatedBodyBinds}
 use Rattle.relation_semantics.specs.OneUniverse.{HasOneUniverse, all_unbound}
@@ -18,7 +17,7 @@ use Rattle.relation_semantics.proofs.Standing.{later_term, term_context}
 use Rattle.relation_semantics.proofs.Going.{later_through}
 use Rattle.relation_coherence.specs.Bounds.{types_bound}
 use Rattle.relation_coherence.proofs.Bounding.{each_unresolved, each_of_universe}
-use Rattle.relation_coherence.specs.Headers.{args_tree, header_tree, KnowsHeader, TakesHeader, HasHeader, MayRelate, OpensHeaders}
+use Rattle.relation_coherence.specs.Headers.{header_tree, KnowsHeader, TakesHeader, HasHeader, OpensHeaders}
 
 -- A binder that binds by its list, as all binders in a term do.
 pub binds_by_list : (t : Tree) → IsWellBound t → BindsByList t
@@ -138,7 +137,7 @@ module _ {Key Id Name : Type 0} where
         left_in = subst (InContext d.store) (sym stays) (term_context d.store ((d.meaning).args x) one.is_in);
         one_universe = λ h. subst (λ u. HasOneUniverse u e.store) ((one.opens).makes).same_universe
             (other.one_universe (subst (λ u. HasOneUniverse u d.store) (sym ((one.opens).makes).same_universe)
-                (one.one_universe h)));
+            (one.one_universe h)));
         unresolved = let p = one.unresolved in let q = other.unresolved in omega (arith, p, q);
         left_relates = record {
           is_known = subst (λ t. IsTrue (known t)) (sym stays) x_known;

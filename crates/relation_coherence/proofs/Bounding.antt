@@ -1,10 +1,9 @@
 -- How many variables of types and constants are unresolved where two headers were opened, and in which universe.
-use Rattle.std.proofs.Common.{◌≡◌, ◌⊎◌, ℕ, ◌+◌, ◌<◌, ◌≤◌, refl, sym, ap, ap₂, ◌∙◌, subst, List, [], ◌∷◌, ◌++◌, inl, inr, arith}
+use Rattle.std.proofs.Common.{◌≡◌, ◌⊎◌, ℕ, ◌+◌, ◌≤◌, ap, ap₂, ◌∙◌, List, [], ◌∷◌, ◌++◌, inl, inr, arith}
 use Rattle.relation_terms.specs.Heads.{BoundKind, bound_kind, type_kind, const_kind, region_kind, VarKind, type_var, const_var}
-use Rattle.relation_terms.specs.Heads.{region_var, Leaf, variable, bound, placeholder, atom, unknown}
+use Rattle.relation_terms.specs.Heads.{Leaf, variable, bound, placeholder, atom, unknown}
 use Rattle.relation_terms.specs.Trees.{Tree, Leaves}
 use Rattle.relation_semantics.specs.Binders.{variable_kind, MakesEach, makes_none, makes_next}
-use Rattle.relation_semantics.specs.ErasureLaws.{IsTypeOrConst}
 use Rattle.relation_semantics.specs.OneUniverse.{NamesTypesTo, HasOneUniverse, counts_unbound, all_unbound}
 use Rattle.relation_semantics.specs.Steps.{MakesVariable}
 use Rattle.relation_semantics.specs.Stores.{Store, Entry, unbound, sum_over, universe_of, IsMade, IsSound, IsNamable, IsTermIn}
@@ -27,21 +26,21 @@ made_unbound : (before after : Store) (k : BoundKind) (n u : ℕ) → MakesVaria
     all_unbound after ≡ all_unbound before + counts_kind k
 made_unbound before after (bound_kind type_kind m) n u q =
     let t : sum_over counts_unbound (after.entries type_var) ≡ sum_over counts_unbound (before.entries type_var) + 1 =
-        ap (sum_over counts_unbound) q.entries_grow ∙ sum_one_more counts_unbound (before.entries type_var) unbound in
+    ap (sum_over counts_unbound) q.entries_grow ∙ sum_one_more counts_unbound (before.entries type_var) unbound in
     let c : sum_over counts_unbound (after.entries const_var) ≡ sum_over counts_unbound (before.entries const_var) =
-        ap (sum_over counts_unbound) (q.other_entries const_var (λ e. absurd cc)) in
+    ap (sum_over counts_unbound) (q.other_entries const_var (λ e. absurd cc)) in
     omega (arith, t, c)
 made_unbound before after (bound_kind const_kind m) n u q =
     let c : sum_over counts_unbound (after.entries const_var) ≡ sum_over counts_unbound (before.entries const_var) + 1 =
-        ap (sum_over counts_unbound) q.entries_grow ∙ sum_one_more counts_unbound (before.entries const_var) unbound in
+    ap (sum_over counts_unbound) q.entries_grow ∙ sum_one_more counts_unbound (before.entries const_var) unbound in
     let t : sum_over counts_unbound (after.entries type_var) ≡ sum_over counts_unbound (before.entries type_var) =
-        ap (sum_over counts_unbound) (q.other_entries type_var (λ e. absurd cc)) in
+    ap (sum_over counts_unbound) (q.other_entries type_var (λ e. absurd cc)) in
     omega (arith, t, c)
 made_unbound before after (bound_kind region_kind m) n u q =
     let t : sum_over counts_unbound (after.entries type_var) ≡ sum_over counts_unbound (before.entries type_var) =
-        ap (sum_over counts_unbound) (q.other_entries type_var (λ e. absurd cc)) in
+    ap (sum_over counts_unbound) (q.other_entries type_var (λ e. absurd cc)) in
     let c : sum_over counts_unbound (after.entries const_var) ≡ sum_over counts_unbound (before.entries const_var) =
-        ap (sum_over counts_unbound) (q.other_entries const_var (λ e. absurd cc)) in
+    ap (sum_over counts_unbound) (q.other_entries const_var (λ e. absurd cc)) in
     omega (arith, t, c)
 
 pub each_unresolved : {u : ℕ} {before after : Store} {ks : List BoundKind} {xs : List Tree} →

@@ -1,18 +1,17 @@
 -- Headers that a quick test tells apart, by what opened bodies are instances of.
-use Rattle.std.proofs.Common.{◌≡◌, ℕ, Bool, true, false, List, [], Option, Some, None, IsTrue, refl, sym, ◌∙◌, ap, subst}
+use Rattle.std.proofs.Common.{ℕ, false, List, [], Option, Some, None, refl, sym, ◌∙◌, ap}
 use Rattle.relation_terms.specs.declared.terms.binder.Binder.{Binder}
 use Rattle.relation_terms.specs.declared.terms.keys.ArgsKey.{ArgsKey}
-use Rattle.relation_terms.specs.Heads.{BoundKind, Shape, row, term_of, bound, argument_sort}
-use Rattle.relation_terms.specs.Trees.{Tree, leaf, bind, inst, known, Fits, AreTerms, Leaves}
+use Rattle.relation_terms.specs.Heads.{BoundKind, Shape, row, term_of, argument_sort}
+use Rattle.relation_terms.specs.Trees.{Tree, bind, inst, Fits, AreTerms, Leaves}
 use Rattle.relation_terms.specs.Erasure.{erase}
-use Rattle.relation_terms.specs.Meaning.{Meaning, under}
-use Rattle.relation_terms.proofs.Binders.{under_known}
+use Rattle.relation_terms.specs.Meaning.{under}
 use Rattle.relation_folds.specs.Clashes.{flexible}
 use Rattle.fast_reject.specs.Instances.{IsNoVariable, AgreeOnNames as NamesAgree, NoCommonInstance}
 use Rattle.relation_semantics.specs.Bound.{AreBoundAs, IsWellBound}
 use Rattle.relation_semantics.specs.Contexts.{Context}
 use Rattle.relation_laws.specs.OpenedInstances.{OpenedIsInstance}
-use Rattle.relation_coherence.specs.Headers.{header_tree, KnowsHeader, TakesHeader, IsClosedHeader, AgreeOnNames}
+use Rattle.relation_coherence.specs.Headers.{header_tree, TakesHeader, IsClosedHeader, AgreeOnNames}
 use Rattle.relation_coherence.specs.Overlaps.{AreApart, AreApartErased}
 
 -- What is apart up to erasure is apart.
@@ -47,4 +46,4 @@ module _ (instance : OpenedIsInstance) where
       AreApartErased (c.store).universe (header_tree c.meaning left) (header_tree c.meaning right)
   headers_by_form c left right f g p q m n names none =
       by_lists (c.store).universe ((c.meaning).bound_vars left.bound_vars) ((c.meaning).bound_vars right.bound_vars)
-          (row [] (Some (term_of argument_sort))) ((c.meaning).args left.value) ((c.meaning).args right.value) f g p q m n names none
+      (row [] (Some (term_of argument_sort))) ((c.meaning).args left.value) ((c.meaning).args right.value) f g p q m n names none

@@ -1,5 +1,5 @@
 -- What the answered header is, where two opened headers were related and the left one resolved.
-use Rattle.std.proofs.Common.{◌≡◌, sym, ap, ap₂, ◌∙◌, subst, List, Some, IsTrue, Result, Err}
+use Rattle.std.proofs.Common.{◌≡◌, sym, ap, ap₂, ◌∙◌, subst, List, Result, Err}
 use Rattle.relation_terms.specs.declared.terms.binder.Binder.{Binder}
 use Rattle.relation_terms.specs.declared.terms.keys.ArgsKey.{ArgsKey}
 use Rattle.relation_folds.specs.Faults.{IfUnrelated, IfSpent}
@@ -7,14 +7,13 @@ use Rattle.relation_folds.specs.declared.error.RelateFault.{RelateFault}
 use Rattle.relation_folds.specs.declared.error.RelateFault.TheVariants.{Budget, Unrelated}
 use Rattle.relation_folds.specs.declared.error.TypeError.{TypeError}
 use Rattle.relation_terms.specs.Heads.{arguments, argument_sort}
-use Rattle.relation_terms.specs.Trees.{Tree, node, apply, Leaves, IsList, known, AreTerms}
+use Rattle.relation_terms.specs.Trees.{node, apply, Leaves, IsList, known, AreTerms}
 use Rattle.relation_terms.specs.Interning.{Sorted}
-use Rattle.relation_terms.specs.Meaning.{Meaning, Extends}
+use Rattle.relation_terms.specs.Meaning.{Extends}
 use Rattle.relation_terms.proofs.Members.{terms_list}
 use Rattle.relation_semantics.specs.Contexts.{Context}
 use Rattle.relation_semantics.specs.Goals.{Goal}
-use Rattle.relation_semantics.specs.FirstOrder.{IsFirstOrderStore}
-use Rattle.relation_semantics.specs.Headline.{KeepsEqualTerms, IsFirstOrderPair}
+use Rattle.relation_semantics.specs.Headline.{KeepsEqualTerms}
 use Rattle.relation_semantics.specs.Outcomes.{Exact}
 use Rattle.relation_semantics.specs.StepLaws.{InstantiatingAssigns}
 use Rattle.relation_semantics.specs.StoreLaws.{ResolvedResolves}
@@ -24,8 +23,8 @@ use Rattle.relation_semantics.proofs.Resolved.{settled_term}
 use Rattle.relation_semantics.proofs.Standing.{later_term}
 use Rattle.relation_laws.specs.SolutionLaws.{NewVariablesFit}
 use Rattle.relation_coherence.specs.Headers.{header_tree, KnowsHeader, IsClosedHeader, OpensHeaders, MayRelate}
-use Rattle.relation_coherence.specs.Overlaps.{Covers, IsCommon, IsFirstOrderHeader}
-use Rattle.relation_coherence.proofs.Answering.{covers, common, opened_pair}
+use Rattle.relation_coherence.specs.Overlaps.{Covers, IsCommon}
+use Rattle.relation_coherence.proofs.Answering.{covers, common}
 use Rattle.relation_coherence.proofs.BothOpened.{body_known, from_arguments}
 
 -- What a type error says, and what a spent budget does.
@@ -51,7 +50,7 @@ pub left_after : {Key Id Name : Type 0} (d e : Context Key Id Name) (x : ArgsKey
     Extends d.meaning e.meaning → IsLater d.store e.store → IsTermIn e.store ((e.meaning).args x)
 left_after d e x r g l = subst (IsTermIn e.store) (sym (g.args x r.is_known))
     (later_term d.store e.store l.grows l.universe_stands ((d.meaning).args x)
-        (from_arguments d.store ((d.meaning).args x) r.has))
+    (from_arguments d.store ((d.meaning).args x) r.has))
 
 -- From a context before both headers are opened, through one after that and one after relating, to one after resolving.
 module _ {Key Id Name : Type 0} (c d e f : Context Key Id Name) (left right : Binder Key (ArgsKey Key))
@@ -77,12 +76,12 @@ module _ {Key Id Name : Type 0} (c d e f : Context Key Id Name) (left right : Bi
     meets_covers met sound_before goals keeps = covers c d left right x y opens instantiating left_closed right_closed met
         sound_before f.store goals ((f.meaning).args header) sound_after resolving header_is
         (subst (λ st. KeepsEqualTerms d.store st goals (node arguments ((d.meaning).args x))
-            (node arguments ((d.meaning).args y))) (sym same) keeps)
+        (node arguments ((d.meaning).args y))) (sym same) keeps)
 
     pub meets_common : NewVariablesFit → Exact d.store e.store (node arguments ((d.meaning).args x)) (node arguments ((d.meaning).args y)) →
         IsCommon (c.store).universe (header_tree c.meaning left) (header_tree c.meaning right) f.store
-            ((f.meaning).args header)
+        ((f.meaning).args header)
     meets_common fits exact = common c d left right x y opens instantiating left_closed right_closed fits f.store
         ((f.meaning).args header) sound_after resolving header_is
         (subst (λ st. Exact d.store st (node arguments ((d.meaning).args x)) (node arguments ((d.meaning).args y)))
-            (sym same) exact)
+        (sym same) exact)

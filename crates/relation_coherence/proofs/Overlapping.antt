@@ -1,15 +1,15 @@
 -- What two headers have in common, by what relating their opened bodies promises.
 use Rattle.std.specs.Prelude.{get_or}
-use Rattle.std.proofs.Common.{◌≡◌, ℕ, List, [], ◌∷◌, All, refl, sym, ◌∙◌, ap, subst, inl, inr, Some, None, map}
+use Rattle.std.proofs.Common.{◌≡◌, ℕ, List, [], All, refl, sym, ◌∙◌, ap, subst, inl, inr, None, map}
 use Rattle.relation_terms.specs.Heads.{BoundKind, VarKind, Leaf, variable, bound, placeholder, atom, unknown}
 use Rattle.relation_terms.specs.Trees.{Tree, leaf, node, bind, nil, cons, Assign, assigned, apply, inst, Leaves, Occurs}
 use Rattle.relation_terms.specs.Erasure.{erase}
 use Rattle.relation_semantics.specs.Relation.{Interpretation, all_outlive, FitKinds}
-use Rattle.relation_semantics.specs.Stores.{Store, Constraint, outlives_constraint, equal_constraint, IsMade, InContext}
-use Rattle.relation_semantics.specs.Stores.{IsSound, Satisfies, ConstraintHolds, BindingsAreMet, IsAssignment, universe_of}
+use Rattle.relation_semantics.specs.Stores.{Store, Constraint, outlives_constraint, equal_constraint, InContext}
+use Rattle.relation_semantics.specs.Stores.{IsSound, Satisfies, ConstraintHolds, BindingsAreMet, IsAssignment}
 use Rattle.relation_semantics.specs.Stores.{resolved, IsNamable}
 use Rattle.relation_semantics.specs.FirstOrder.{IsErasedSolution, Unifies}
-use Rattle.relation_semantics.specs.Steps.{InstantiatesBinder, HasExtension, AgreeOn, AllNamable, AreNewVariables}
+use Rattle.relation_semantics.specs.Steps.{InstantiatesBinder, HasExtension, AllNamable}
 use Rattle.relation_semantics.specs.Outcomes.{NoEqualTerms, NoUnifier, Exact}
 use Rattle.relation_semantics.specs.StepLaws.{InstantiatingAssigns}
 use Rattle.relation_semantics.specs.StoreLaws.{ResolvedResolves}
@@ -18,7 +18,6 @@ use Rattle.relation_semantics.proofs.Values.{same_value}
 use Rattle.fast_reject.specs.Instances.{IsNoVariable}
 use Rattle.relation_laws.specs.SolutionLaws.{NewVariablesFit}
 use Rattle.relation_coherence.specs.Overlaps.{IsInstanceOf, AreApart, AreApartErased, Covers, IsCommon}
-
 
 -- A term without variables is its own value.
 closed_leaf : (s : Assign) (l : Leaf) → IsNoVariable l → assigned s l ≡ leaf l
@@ -78,8 +77,7 @@ module _ (instantiating : InstantiatingAssigns) where
     both_open w s vs us h f g m n =
         let p = first.makes.unconstrained w s vs h f m in
         let q = second.makes.unconstrained w p.0 us p.2.0 g
-            (subst (λ u. AllNamable u us) (sym first.makes.same_universe) n) in
-        (
+        (subst (λ u. AllNamable u us) (sym first.makes.same_universe) n) in (
           q.0,
           λ k i e. p.1 k i e ∙ q.1 k i (first.makes.later.grows k i e),
           (
@@ -97,7 +95,7 @@ module _ (instantiating : InstantiatingAssigns) where
       common v u i j =
           let o = met st0 sound in
           let h : Satisfies free st0 o.0 =
-              record { assigns = o.1; bindings = o.2; regions = all_hold o.0 st0.constraints } in
+          record { assigns = o.1; bindings = o.2; regions = all_hold o.0 st0.constraints } in
           let r = both_open free o.0 i.values j.values h i.fit j.fit i.namable j.namable in
           (r.0, r.2.0, r.2.1 ∙ sym i.body_is, r.2.2 ∙ sym j.body_is)
 
@@ -113,8 +111,7 @@ module _ (instantiating : InstantiatingAssigns) where
           HasExtension st2 s (Satisfies free st3)) → Covers st0.universe (bind ks a) (bind ls b) st3 t
       covers st3 t x_in2 sound3 resolving t_is keeps v i j =
           let r = common v v i j in
-          let k = keeps r.0 r.1 (r.2 ∙ sym r.3) in
-          (
+          let k = keeps r.0 r.1 (r.2 ∙ sym r.3) in (
             k.0,
             k.2.assigns,
             k.2.bindings,
@@ -137,15 +134,15 @@ module _ (instantiating : InstantiatingAssigns) where
         let f = fits st0 st1 st0.universe ks first.variables first.makes.are_new s (assigns_first s e.0.0) in
         let g = fits st1 st2 st1.universe ls second.variables second.makes.are_new s e.0.0 in
         let one : IsInstanceOf st0.universe ks a (apply s x) = record {
-              values = vs;
-              fit = f.0;
-              namable = f.1;
-              body_is = ap (apply s) first.body_is ∙ opened_value s first.variables vs a left refl;
-            } in
+          values = vs;
+          fit = f.0;
+          namable = f.1;
+          body_is = ap (apply s) first.body_is ∙ opened_value s first.variables vs a left refl;
+        } in
         let other : IsInstanceOf st0.universe ls b (apply s y) = record {
-              values = us;
-              fit = g.0;
-              namable = subst (λ u. AllNamable u us) first.makes.same_universe g.1;
-              body_is = ap (apply s) second.body_is ∙ opened_value s second.variables us b right refl;
-            } in
+          values = us;
+          fit = g.0;
+          namable = subst (λ u. AllNamable u us) first.makes.same_universe g.1;
+          body_is = ap (apply s) second.body_is ∙ opened_value s second.variables us b right refl;
+        } in
         ((apply s x, one, sym same), (apply s y, other, sym e.1 ∙ sym same))

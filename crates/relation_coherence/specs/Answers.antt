@@ -62,7 +62,7 @@ module _ {Key Id Name : Type 0} (c d : Context Key Id Name) (a b : Binder Key (A
   IsResolved (Ok (Meets header goals)) = Leaves (IsFree d.store) ((d.meaning).args header)
   IsResolved (Err f) = Unit {0}
 
-  -- `Budget` comes only where none is left; and of first-order headers in a first-order record only where fewer were left
-  -- than there were unresolved variables, with one for each type and constant that either binds.
+  -- `Budget` comes only where none is left; and of first-order headers in a first-order record only where fewer were
+  -- left than there were unresolved variables, with one for each type and constant that either binds.
   abbrev pub SpendsAll : Result (Overlap Key Id Name) (RelateFault Key Id Name) → Type 0
   SpendsAll result = IfSpent result (((d.store).budget ≡ 0) × AllFirstOrder (WasTooFew c.store left right))

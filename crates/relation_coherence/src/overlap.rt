@@ -21,14 +21,16 @@ use relation_terms::terms::{GenericArgs, ParamEnv, Span, Variance};
 use type_relations::relate::solver_relating::RelateExt;
 
 /// Whether two headers over as many arguments overlap: whether some values for what they bind make them one, as two
-/// impls of one trait must not. The interner has to know both and the environment; no inference variable stands in
-/// either; their binders bind by their lists; and parameters that are not bound have one name for one index in both.
+/// impls of one trait must not. It is what the compiler's `overlapping_impls` asks of headers alone.
+///
+/// The interner has to know both and the environment; no inference variable stands in either; their binders bind by
+/// their lists; and parameters that are not bound have one name for one index in both.
 ///
 /// After `Apart` nothing is an instance of both. Where a quick test said so, or both are first-order, as the record is,
-/// no instances of the two are one up to erasure either, as regions are not compared by it. After `Meets` whatever is an
-/// instance of both is a value of the answered header, and if all is first-order each value of it is an instance of both,
-/// up to erasure: it is the most general overlap. No variable stands in it that is bound. An alias counts as a term of its
-/// own, unless relating leaves it to a goal.
+/// no instances of the two are one up to erasure either, as regions are not compared by it. After `Meets` whatever is
+/// an instance of both is a value of the answered header, and if all is first-order each value of it is an instance of
+/// both, up to erasure: it is the most general overlap. No variable stands in it that is bound. An alias counts as a
+/// term of its own, unless relating leaves it to a goal.
 ///
 /// # Errors
 /// `Budget` only where no instantiation is left: not of first-order headers in a first-order record, if the unresolved

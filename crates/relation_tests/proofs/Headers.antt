@@ -9,11 +9,11 @@ use Rattle.relation_terms.specs.declared.terms.keys.TyKey.{TyKey}
 use Rattle.relation_terms.specs.Heads.{BoundKind, bound_kind, type_kind, bound, atom, Atom, Leaf}
 use Rattle.relation_terms.specs.Trees.{Tree, leaf, bind, nil, cons, known, count, Leaves}
 use Rattle.relation_terms.specs.Meaning.{Meaning, Extends, under}
-use Rattle.fast_reject.specs.Instances.{IsNoVariable, IsNamed, AgreeOnNames as NamesAgree}
+use Rattle.fast_reject.specs.Instances.{IsNoVariable, IsNamed}
 use Rattle.relation_semantics.specs.Bound.{IsWellBound}
 use Rattle.relation_semantics.specs.Contexts.{Context}
 use Rattle.relation_semantics.specs.Relation.{IsValueAtom}
-use Rattle.relation_semantics.specs.Stores.{Store, IsTermIn, InContext}
+use Rattle.relation_semantics.specs.Stores.{IsTermIn, InContext}
 use Rattle.relation_coherence.specs.Headers.{header_tree, KnowsHeader, TakesHeader, HasHeader, AreOfOneLength}
 use Rattle.relation_coherence.specs.Headers.{IsClosedHeader, AgreeOnNames}
 use Rattle.relation_coherence.proofs.BothOpened.{header_stays}
