@@ -84,8 +84,8 @@ returns-in-Err-Unrelated-clause-apart g c =
     apart s (g.C.InferCtxtLike.state c.open_both.new.ctx) c.args.left c.args.right c.in_ok-lhs.lhs c.in_ok-lhs.rhs
     c.in_ok-lhs.ensures.opens c.assigning.ensures.instantiating c.requires.left_closed c.requires.right_closed
     c.stores.ensures.met (g.met.C.InferCtxtLike.sound c.args.ctx.now c.requires.lawful)
-    (of_error c.relate.result c.in-Err-Unrelated.field-0 c.in-Err-Unrelated.why c.in-Err-Unrelated.is
-    c.in-Err-Unrelated.field-0-is c.in-Err-Unrelated.ensures.fault.apart)
+    (of_error c.in-Err-Unrelated.field-0 c.in-Err-Unrelated.why c.in-Err-Unrelated.field-0-is
+    c.in-Err-Unrelated.ensures.fault.apart)
 
 pub returns-in-Err-Unrelated-clause-apart_erased : goal.returns-in-Err-Unrelated-clause-apart_erased
 returns-in-Err-Unrelated-clause-apart_erased g c = λ l r first.
@@ -96,8 +96,7 @@ returns-in-Err-Unrelated-clause-apart_erased g c = λ l r first.
     apart_erased s d c.args.left c.args.right c.in_ok-lhs.lhs c.in_ok-lhs.rhs c.in_ok-lhs.ensures.opens
     c.assigning.ensures.instantiating c.requires.left_closed c.requires.right_closed c.stores.ensures.met
     (g.met.C.InferCtxtLike.sound c.args.ctx.now c.requires.lawful)
-    (of_error c.relate.result c.in-Err-Unrelated.field-0 c.in-Err-Unrelated.why c.in-Err-Unrelated.is
-    c.in-Err-Unrelated.field-0-is
+    (of_error c.in-Err-Unrelated.field-0 c.in-Err-Unrelated.why c.in-Err-Unrelated.field-0-is
     c.in-Err-Unrelated.ensures.fault.no_unifier refl
     (opened_pair s d c.args.left c.args.right c.in_ok-lhs.lhs c.in_ok-lhs.rhs c.in_ok-lhs.ensures.opens
     (body_list s sorted c.args.left c.requires.left_known)
@@ -110,9 +109,11 @@ returns-in-Err-Budget-clause-bounded g c =
     let d = g.C.InferCtxtLike.state c.open_both.new.ctx in
     let sorted : Sorted s.meaning = subst Sorted (sym (g.met.C.InferCtxtLike.reads c.args.ctx.now))
     (g.met.C.Interner.Interner.sorted (g.C.InferCtxtLike.interner c.args.ctx.now)) in (
-      of_spent c.relate.result c.in-Err-Budget.field-0 c.in-Err-Budget.is c.in-Err-Budget.field-0-is c.in-Err-Budget.ensures.fault.spent,
+      of_spent c.in-Err-Budget.field-0 c.in-Err-Budget.field-0-is
+          c.in-Err-Budget.ensures.fault.spent,
       λ l r first. bounded s d c.args.left c.args.right c.in_ok-lhs.lhs c.in_ok-lhs.rhs c.in_ok-lhs.ensures.opens
-          (λ u p. of_spent c.relate.result c.in-Err-Budget.field-0 c.in-Err-Budget.is c.in-Err-Budget.field-0-is (c.in-Err-Budget.ensures.fault.budget_suffices refl
+          (λ u p. of_spent c.in-Err-Budget.field-0 c.in-Err-Budget.field-0-is
+          (c.in-Err-Budget.ensures.fault.budget_suffices refl
           (opened_pair s d c.args.left c.args.right c.in_ok-lhs.lhs c.in_ok-lhs.rhs c.in_ok-lhs.ensures.opens
           (body_list s sorted c.args.left c.requires.left_known)
           (body_list s sorted c.args.right c.requires.right_known) l r first) u p).1),
