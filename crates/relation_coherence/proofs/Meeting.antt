@@ -29,11 +29,11 @@ use Rattle.relation_coherence.proofs.BothOpened.{body_known, from_arguments}
 
 -- What a type error says, and what a spent budget does.
 pub of_error : {A X D N P : Type 0} (f : RelateFault X D N) (e : TypeError X D N) → f ≡ Unrelated e →
-    IfUnrelated {A} (Err f) (λ _. P) → P
-of_error {A} {P = P} f e i h = subst (λ z. IfUnrelated {A} (Err z) (λ _. P)) i h
+    IfUnrelated {A = A} (Err f) (λ _. P) → P
+of_error {A = A} {P = P} f e i h = subst (λ z. IfUnrelated {A = A} (Err z) (λ _. P)) i h
 
-pub of_spent : {A X D N P : Type 0} (f : RelateFault X D N) → f ≡ Budget → IfSpent {A} (Err f) P → P
-of_spent {A} {P = P} f i h = subst (λ z. IfSpent {A} (Err z) P) i h
+pub of_spent : {A X D N P : Type 0} (f : RelateFault X D N) → f ≡ Budget → IfSpent {A = A} (Err f) P → P
+of_spent {A = A} {P = P} f i h = subst (λ z. IfSpent {A = A} (Err z) P) i h
 
 -- The body of a known header is a list of arguments.
 pub body_terms : {Key Id Name : Type 0} (c : Context Key Id Name) → Sorted c.meaning → (h : Binder Key (ArgsKey Key)) →
