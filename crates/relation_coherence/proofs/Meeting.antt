@@ -1,11 +1,7 @@
 -- What the answered header is, where two opened headers were related and the left one resolved.
-use Rattle.std.proofs.Common.{◌≡◌, sym, ap, ap₂, ◌∙◌, subst, List, Result, Err}
+use Rattle.std.proofs.Common.{◌≡◌, sym, ap₂, ◌∙◌, subst, List}
 use Rattle.relation_terms.specs.declared.terms.binder.Binder.{Binder}
 use Rattle.relation_terms.specs.declared.terms.keys.ArgsKey.{ArgsKey}
-use Rattle.relation_folds.specs.Faults.{IfUnrelated, IfSpent}
-use Rattle.relation_folds.specs.declared.error.RelateFault.{RelateFault}
-use Rattle.relation_folds.specs.declared.error.RelateFault.TheVariants.{Budget, Unrelated}
-use Rattle.relation_folds.specs.declared.error.TypeError.{TypeError}
 use Rattle.relation_terms.specs.Heads.{arguments, argument_sort}
 use Rattle.relation_terms.specs.Trees.{node, apply, Leaves, IsList, known, AreTerms}
 use Rattle.relation_terms.specs.Interning.{Sorted}
@@ -26,14 +22,6 @@ use Rattle.relation_coherence.specs.Headers.{header_tree, KnowsHeader, IsClosedH
 use Rattle.relation_coherence.specs.Overlaps.{Covers, IsCommon}
 use Rattle.relation_coherence.proofs.Answering.{covers, common}
 use Rattle.relation_coherence.proofs.BothOpened.{body_known, from_arguments}
-
--- What a type error says, and what a spent budget does.
-pub of_error : {A X D N P : Type 0} (f : RelateFault X D N) (e : TypeError X D N) → f ≡ Unrelated e →
-    IfUnrelated {A = A} (Err f) (λ _. P) → P
-of_error {A = A} {P = P} f e i h = subst (λ z. IfUnrelated {A = A} (Err z) (λ _. P)) i h
-
-pub of_spent : {A X D N P : Type 0} (f : RelateFault X D N) → f ≡ Budget → IfSpent {A = A} (Err f) P → P
-of_spent {A = A} {P = P} f i h = subst (λ z. IfSpent {A = A} (Err z) P) i h
 
 -- The body of a known header is a list of arguments.
 pub body_terms : {Key Id Name : Type 0} (c : Context Key Id Name) → Sorted c.meaning → (h : Binder Key (ArgsKey Key)) →

@@ -8,7 +8,7 @@ use Rattle.relation_coherence.specs.Headers.{header_tree}
 use Rattle.relation_coherence.proofs.BothOpened.{body_known}
 use Rattle.relation_coherence.proofs.ByForm.{headers_by_form, apart_from_erased}
 use Rattle.relation_coherence.proofs.Answering.{apart, apart_erased, bounded, opened_pair, opened_as_many}
-use Rattle.relation_coherence.proofs.Meeting.{of_error, of_spent, body_terms, body_list, left_after, meets_resolved, meets_covers, meets_common}
+use Rattle.relation_coherence.proofs.Meeting.{body_terms, body_list, left_after, meets_resolved, meets_covers, meets_common}
 use Rattle.relation_coherence.proofs.overlap.overlap.Goals as goal
 
 pub bodies_may_unify-requires-clause-left_known : goal.bodies_may_unify-requires-clause-left_known
@@ -84,8 +84,7 @@ returns-in-Err-Unrelated-clause-apart g c =
     apart s (g.C.InferCtxtLike.state c.open_both.new.ctx) c.args.left c.args.right c.in_ok-lhs.lhs c.in_ok-lhs.rhs
     c.in_ok-lhs.ensures.opens c.assigning.ensures.instantiating c.requires.left_closed c.requires.right_closed
     c.stores.ensures.met (g.met.C.InferCtxtLike.sound c.args.ctx.now c.requires.lawful)
-    (of_error c.in-Err-Unrelated.field-0 c.in-Err-Unrelated.why c.in-Err-Unrelated.field-0-is
-    c.in-Err-Unrelated.ensures.fault.apart)
+    (rw c.in-Err-Unrelated.field-0-is at c.in-Err-Unrelated.ensures.fault.apart)
 
 pub returns-in-Err-Unrelated-clause-apart_erased : goal.returns-in-Err-Unrelated-clause-apart_erased
 returns-in-Err-Unrelated-clause-apart_erased g c = λ l r first.
@@ -93,11 +92,11 @@ returns-in-Err-Unrelated-clause-apart_erased g c = λ l r first.
     let d = g.C.InferCtxtLike.state c.open_both.new.ctx in
     let sorted : Sorted s.meaning = subst Sorted (sym (g.met.C.InferCtxtLike.reads c.args.ctx.now))
     (g.met.C.Interner.Interner.sorted (g.C.InferCtxtLike.interner c.args.ctx.now)) in
+    let never = rw c.in-Err-Unrelated.field-0-is at c.in-Err-Unrelated.ensures.fault.no_unifier in
     apart_erased s d c.args.left c.args.right c.in_ok-lhs.lhs c.in_ok-lhs.rhs c.in_ok-lhs.ensures.opens
     c.assigning.ensures.instantiating c.requires.left_closed c.requires.right_closed c.stores.ensures.met
     (g.met.C.InferCtxtLike.sound c.args.ctx.now c.requires.lawful)
-    (of_error c.in-Err-Unrelated.field-0 c.in-Err-Unrelated.why c.in-Err-Unrelated.field-0-is
-    c.in-Err-Unrelated.ensures.fault.no_unifier refl
+    (never refl
     (opened_pair s d c.args.left c.args.right c.in_ok-lhs.lhs c.in_ok-lhs.rhs c.in_ok-lhs.ensures.opens
     (body_list s sorted c.args.left c.requires.left_known)
     (body_list s sorted c.args.right c.requires.right_known) l r first))
@@ -109,14 +108,13 @@ returns-in-Err-Budget-clause-bounded g c =
     let d = g.C.InferCtxtLike.state c.open_both.new.ctx in
     let sorted : Sorted s.meaning = subst Sorted (sym (g.met.C.InferCtxtLike.reads c.args.ctx.now))
     (g.met.C.Interner.Interner.sorted (g.C.InferCtxtLike.interner c.args.ctx.now)) in (
-      of_spent c.in-Err-Budget.field-0 c.in-Err-Budget.field-0-is
-          c.in-Err-Budget.ensures.fault.spent,
-      λ l r first. bounded s d c.args.left c.args.right c.in_ok-lhs.lhs c.in_ok-lhs.rhs c.in_ok-lhs.ensures.opens
-          (λ u p. of_spent c.in-Err-Budget.field-0 c.in-Err-Budget.field-0-is
-          (c.in-Err-Budget.ensures.fault.budget_suffices refl
+      rw c.in-Err-Budget.field-0-is at c.in-Err-Budget.ensures.fault.spent,
+      λ l r first. bounded s d c.args.left c.args.right c.in_ok-lhs.lhs c.in_ok-lhs.rhs c.in_ok-lhs.ensures.opens (λ u p.
+          let few = (c.in-Err-Budget.ensures.fault.budget_suffices refl
           (opened_pair s d c.args.left c.args.right c.in_ok-lhs.lhs c.in_ok-lhs.rhs c.in_ok-lhs.ensures.opens
           (body_list s sorted c.args.left c.requires.left_known)
-          (body_list s sorted c.args.right c.requires.right_known) l r first) u p).1),
+          (body_list s sorted c.args.right c.requires.right_known) l r first) u p).1 in
+          rw c.in-Err-Budget.field-0-is at few),
     )
 
 -- They do, and the left one was resolved.
