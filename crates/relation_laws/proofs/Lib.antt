@@ -6,3 +6,4 @@ pub mod FreeValues
 pub mod StaysShown
 pub mod OpenedInstances
 pub mod Interpreting
+pub mod NewVariables

@@ -1,12 +1,12 @@
 -- Laws of the assignments that satisfy what is recorded, and of what was shown of terms.
-use Rattle.std.specs.Prelude.{◌≡◌, ℕ, Option, None}
-use Rattle.relation_terms.specs.Heads.{VarKind, Head}
+use Rattle.std.specs.Prelude.{◌≡◌, ℕ, List, map, Option, None}
+use Rattle.relation_terms.specs.Heads.{BoundKind, VarKind, Head}
 use Rattle.relation_terms.specs.Trees.{Tree, Assign, apply, Leaves}
 use Rattle.relation_terms.specs.Meaning.{Meaning, Extends as Grows}
-use Rattle.relation_semantics.specs.Relation.{IsValueLeaf, StaysWithin}
+use Rattle.relation_semantics.specs.Relation.{IsValueLeaf, StaysWithin, FitKinds}
 use Rattle.relation_semantics.specs.Stores.{Store, IsMade, bound_term, universe_of, MayStandFor, IsNamable, IsAssignment}
 use Rattle.relation_semantics.specs.Stores.{MeetsBindings, IsSound, resolved}
-use Rattle.relation_semantics.specs.Steps.{IsLater, MakesVariable, HasExtension}
+use Rattle.relation_semantics.specs.Steps.{IsLater, MakesVariable, HasExtension, AreNewVariables, AllNamable}
 use Rattle.relation_semantics.specs.FirstOrder.{IsErasedSolution}
 use Rattle.relation_semantics.specs.Contexts.{Context}
 use Rattle.context_relation.specs.Relating.{term_in, KnowsTerm, TakesTerm, HasTerm}
@@ -29,6 +29,13 @@ abbrev pub MadeIsUnconstrainedErased : Type 0
 MadeIsUnconstrainedErased = (before after : Store) (k : VarKind) (n u : ℕ) → MakesVariable before after k n u →
     IsSound before → (s : Assign) (t : Tree) → IsErasedSolution before s → MayStandFor k t → Leaves IsValueLeaf t →
     StaysWithin 0 t → Leaves (IsNamable u) t → HasExtension before s (λ s'. IsErasedSolution after s' × (s' k n ≡ t))
+
+-- New variables for what a binder binds have values of its kinds, that their universe can name: what comes of putting
+-- these for it is an instance of the binder's body.
+abbrev pub NewVariablesFit : Type 0
+NewVariablesFit = (before after : Store) (u : ℕ) (ks : List BoundKind) (xs : List Tree) →
+    AreNewVariables before after u ks xs → (s : Assign) → IsAssignment after s →
+    FitKinds ks (map (apply s) xs) × AllNamable u (map (apply s) xs)
 
 -- In a later context, which `state` shows, a known value has the tree that it had; it is known still, may be related if
 -- it might be, and is the context's if it was.

@@ -31,6 +31,7 @@ ghost use Rattle.relation_combining.specs.UniverseLaws.{RootsAreBoundOrNot, Equa
 ghost use Rattle.relation_combining.specs.UniverseLaws.{GeneralisingKeepsUniverse};
 ghost use Rattle.relation_laws.specs.RejectionLaws.{ClashesDoNotUnify, ClashesAreNotRelated};
 ghost use Rattle.relation_laws.specs.SolutionLaws.{FreeValues, MadeIsUnconstrainedErased, TermStays};
+ghost use Rattle.relation_laws.specs.SolutionLaws.{NewVariablesFit};
 ghost use Rattle.relation_laws.specs.OpenedInstances.{OpenedIsInstance};
 ghost use Rattle.relation_laws.specs.AskingLaws.{NothingAtBivariance, ItselfIsTrivial, NoGoalWithoutAlias};
 ghost use Rattle.relation_laws.specs.AskingLaws.{RegionsAskOne, FormsAskByParts, FrontRecordsOn, PartsRecord};
@@ -165,7 +166,7 @@ pub fn one_universe()
 {}
 
 /// What becomes of a store where a variable is made for each place of a binder's list, and of a binder's body that is
-/// opened by variables or placeholders.
+/// opened by variables or placeholders; what the variables stand for.
 pub fn opening()
     ensures makes { MakingEachMakes }
     ensures opens { InstantiatingEachOpens }
@@ -174,6 +175,7 @@ pub fn opening()
     ensures entered_binds { EnteredBodyBinds }
     ensures instantiated_binds { InstantiatedBodyBinds }
     ensures instance { OpenedIsInstance }
+    ensures fit { NewVariablesFit }
 {}
 
 /// What was shown of a term stays shown in a later context.

@@ -8,6 +8,8 @@ mod counting;
 #[cfg(test)]
 mod over_items;
 #[cfg(test)]
+mod overlapping;
+#[cfg(test)]
 mod relating;
 #[cfg(test)]
 mod tested;

@@ -1,6 +1,7 @@
 use Rattle.relation_semantics.proofs.MakingEach.{making_each_makes, instantiating_each_opens}
 use Rattle.relation_combining.proofs.OpenedTerms.{entered_body_is_in, instantiated_body_is_in, entered_body_binds}
 use Rattle.relation_combining.proofs.OpenedTerms.{instantiated_body_binds}
+use Rattle.relation_laws.proofs.NewVariables.{new_variables_fit}
 use Rattle.relation_laws.proofs.OpenedInstances.{opened_is_instance}
 use Rattle.relation_laws.proofs.laws.opening.Goals as goal
 
@@ -13,4 +14,5 @@ returns c = record {
   entered_binds = entered_body_binds;
   instantiated_binds = instantiated_body_binds;
   instance = opened_is_instance;
+  fit = new_variables_fit;
 }

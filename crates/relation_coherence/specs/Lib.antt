@@ -1,0 +1,4 @@
+pub mod Overlaps
+pub mod Bounds
+pub mod Headers
+pub mod Answers
