@@ -64,10 +64,10 @@ pub variables_namable : (before st : Store) (s : Assign) (u : ℕ) (ks : List Bo
     IsAssignment st s → AreNewVariables before st u ks xs → AllNamable u (map (apply s) xs)
 variables_namable before st s u [] [] h n = tt
 variables_namable before st s u (k ∷ ks) (x ∷ xs) h n = (
-    subst (Leaves (IsNamable u)) (sym (ap (apply s) n.0.2))
-        (subst (λ w. Leaves (IsNamable w) (s n.0.0 n.0.1)) n.0.6 (h n.0.0 n.0.1 n.0.5).3),
-    variables_namable before st s u ks xs h n.2,
-  )
+  subst (Leaves (IsNamable u)) (sym (ap (apply s) n.0.2))
+      (subst (λ w. Leaves (IsNamable w) (s n.0.0 n.0.1)) n.0.6 (h n.0.0 n.0.1 n.0.5).3),
+  variables_namable before st s u ks xs h n.2,
+)
 variables_namable before st s u [] (x ∷ xs) h n = absurd n
 variables_namable before st s u (k ∷ ks) [] h n = absurd n
 
@@ -75,10 +75,10 @@ variables_namable before st s u (k ∷ ks) [] h n = absurd n
 pub before_making : (before after : Store) (u : ℕ) (ks : List BoundKind) (vars : List Tree) →
     MakesVariables before after u ks vars → (s : Assign) → IsErasedSolution after s → IsErasedSolution before s
 before_making before after u ks vars m s h = (
-    λ k n i. let p = h.0 k n (m.later.grows k n i) in
-        (p.0, p.1, p.2, subst (λ w. Leaves (IsNamable w) (s k n)) (m.same_universes k n i) p.3),
-    λ k n t e. h.1 k n t (ap (entry_term k) (m.same_entries k n) ∙ e),
-  )
+  λ k n i. let p = h.0 k n (m.later.grows k n i) in
+      (p.0, p.1, p.2, subst (λ w. Leaves (IsNamable w) (s k n)) (m.same_universes k n i) p.3),
+  λ k n t e. h.1 k n t (ap (entry_term k) (m.same_entries k n) ∙ e),
+)
 
 -- Under the interpretation in which all regions outlive each other each constraint holds.
 free : Interpretation
@@ -112,7 +112,7 @@ joined_values : (before after : Store) (s s' : Assign) (u : ℕ) (ks : List Boun
 joined_values before after s s' u [] [] n = refl
 joined_values before after s s' u (k ∷ ks) (x ∷ xs) n = ap₂ (λ a b. a ∷ b)
     (subst (λ z. apply (joined before s s') z ≡ apply s' z) (sym n.0.2)
-        (joined_new before s s' n.0.0 n.0.1 n.0.4))
+    (joined_new before s s' n.0.0 n.0.1 n.0.4))
     (joined_values before after s s' u ks xs n.2)
 joined_values before after s s' u [] (x ∷ xs) n = absurd n
 joined_values before after s s' u (k ∷ ks) [] n = absurd n
@@ -121,20 +121,19 @@ pub opened_are_unconstrained : OpenedAreUnconstrained
 opened_are_unconstrained before after u ks vars m g s xs h fit nam =
     let o = bindings_are_met before g in
     let r = m.unconstrained free o.0 xs
-            (record { assigns = o.1; bindings = o.2; regions = λ k d i. free_holds o.0 (get_or before.constraints k d) })
-            fit nam in
+    (record { assigns = o.1; bindings = o.2; regions = λ k d i. free_holds o.0 (get_or before.constraints k d) })
+    fit nam in
     let s' = joined before s r.0 in
-    let agree : AgreeOn before s s' = λ k n i. sym (joined_old before s r.0 k n i) in
-    (
+    let agree : AgreeOn before s s' = λ k n i. sym (joined_old before s r.0 k n i) in (
       s',
       agree,
       (
         (
           λ k n i. joined_both before s r.0
               (λ k n t. MayStandFor k t × Leaves IsValueLeaf t × StaysWithin 0 t ×
-                  Leaves (IsNamable (universe_of after k n)) t) k n
+              Leaves (IsNamable (universe_of after k n)) t) k n
               (λ p. let v = h.0 k n p in
-                  (v.0, v.1, v.2, subst (λ w. Leaves (IsNamable w) (s k n)) (sym (m.same_universes k n p)) v.3))
+              (v.0, v.1, v.2, subst (λ w. Leaves (IsNamable w) (s k n)) (sym (m.same_universes k n p)) v.3))
               (λ p. r.2.0.assigns k n i),
           λ k n t e. erased_agrees before s s' g (λ k n i. ap erase (agree k n i)) h.1 k n t
               (ap (entry_term k) (sym (m.same_entries k n)) ∙ e),

@@ -14,7 +14,7 @@ use Rattle.relation_semantics.proofs.Values.{same_value, variables_fit}
 use Rattle.relation_semantics.proofs.Exactness.{same_erased, erased_through}
 use Rattle.relation_semantics.proofs.StoreCalls.{bindings_are_met}
 use Rattle.fast_reject.specs.Instances.{IsNoVariable}
-use Rattle.relation_solver.specs.Rules.{Rule, IsShadowed, one, all, Follows, by_rule, none_left, and_next}
+use Rattle.relation_solver.specs.Rules.{AreClosed, Rule, IsShadowed, one, all, Follows, by_rule, none_left, and_next}
 use Rattle.relation_solver.specs.Traces.{Without, first, later, Step, goal, goals, rule, rest, Answer, yes, no, Opens}
 use Rattle.relation_solver.specs.Traces.{GivesWay, StandsFirst, Takes, Did, took_alone, took_first, did_none, did_next}
 use Rattle.relation_solver.specs.Traces.{no_rule, same_rule, other_rule, no_form, no_fit, no_stand, no_asks, no_first}
@@ -25,6 +25,7 @@ use Rattle.relation_solver.proofs.Alike.{AreAlike, alike_sym, alike_trans, alike
 use Rattle.relation_solver.proofs.Alike.{images_without, alike_one, alike_rest}
 use Rattle.relation_solver.proofs.Opened.{closed_value, opened_value, opened_values, variables_namable, before_making}
 use Rattle.relation_solver.proofs.Opened.{opened_are_unconstrained}
+use Rattle.relation_solver.proofs.Shadows.{shadow_value, unshadowed}
 
 module _ (u : ℕ) (held : List Tree) (rules : List Rule) where
   -- What follows, follows for whatever is alike.
@@ -54,22 +55,7 @@ module _ (u : ℕ) (held : List Tree) (rules : List Rule) where
   follows_rest first (and_next g gs f k) = k
   follows_rest (later {ys = ys} w) (and_next g gs f k) = and_next g ys f (follows_rest w k)
 
-  module _ (closed : All (Leaves IsNoVariable) held) where
-    -- What an opened rule gives way to has under an assignment the value that it has with the variables' values.
-    shadow_value : {before opened : Store} (r : Rule) (vars : List Tree) → Opens u before opened r vars → (s : Assign)
-        (xs : List Tree) → map (apply s) vars ≡ xs → (clause : Tree) → Contains r.shadowed_by clause →
-        apply s (inst vars 0 clause) ≡ inst xs 0 clause
-    shadow_value r vars o s xs e clause c =
-        opened_value s vars xs clause (All-contains (Leaves IsNoVariable) r.shadowed_by clause o.shadows_closed c) e
-
-    -- A rule that stands first is not shadowed.
-    unshadowed : {before opened : Store} (middle : Store) (r : Rule) (vars : List Tree) → Opens u before opened r vars →
-        StandsFirst held middle r vars → (s : Assign) → IsErasedSolution middle s →
-        IsShadowed held r (map (apply s) vars) → ⊥
-    unshadowed middle r vars o f s h w = f w.clause w.had w.of_rule w.of_environment s h
-        (ap erase (closed_value s w.had (All-contains (Leaves IsNoVariable) held w.had closed w.of_environment)) ∙
-        (w.same ∙ ap erase (sym (shadow_value r vars o s (map (apply s) vars) refl w.clause w.of_rule))))
-
+  module _ (closed : AreClosed held) where
     -- A yes is sound.
     abbrev Sound : Store → Step → Answer → Type 0
     Sound st (goal g) (yes st') = (s : Assign) → IsErasedSolution st' s →
@@ -85,12 +71,11 @@ module _ (u : ℕ) (held : List Tree) (rules : List Rule) where
         let o = t.opens in
         let p = k s h in
         let e = t.exact.shrinks s p.0 in
-        let xs = map (apply s) vars in
-        (
+        let xs = map (apply s) vars in (
           before_making before t.opened u r.binds vars o.makes s e.0,
           by_rule r xs (apply s g) c (variables_fit before t.opened s u r.binds vars e.0.0 o.makes.are_new)
               (variables_namable before t.opened s u r.binds vars e.0.0 o.makes.are_new)
-              (unshadowed middle r vars o t.stands s p.0)
+              (unshadowed u held closed middle r vars o t.stands s p.0)
               (e.1 ∙ ap erase (opened_value s vars xs r.gives o.gives_closed refl))
               (subst (λ z. Follows u held rules (all z)) (opened_values s vars xs r.asks o.asks_closed refl) p.1),
         )
@@ -129,7 +114,7 @@ module _ (u : ℕ) (held : List Tree) (rules : List Rule) where
     fitted before opened middle r vars g o f i s xs h fit nam e =
         let p = opened_are_unconstrained before opened u r.binds vars o.makes o.sound s xs h fit nam in
         let same : Unifies p.0 g (inst vars 0 r.gives) = ap erase (sym (same_value before s p.0 g p.1 i)) ∙
-              (e ∙ ap erase (sym (opened_value p.0 vars xs r.gives o.gives_closed p.2.1))) in
+        (e ∙ ap erase (sym (opened_value p.0 vars xs r.gives o.gives_closed p.2.1))) in
         let k = f.keeps p.0 p.2.0 same in
         record {
           at_opening = p.0;
@@ -157,10 +142,10 @@ module _ (u : ℕ) (held : List Tree) (rules : List Rule) where
 
       goes_on : (P : Assign → Type 0) → HasErasedExtension middle t.after P → HasErasedExtension before s P
       goes_on P e = (
-          e.0,
-          λ k n m. fitted_agrees k n m ∙ e.1 k n (f.later.grows k n (o.makes.later.grows k n m)),
-          e.2,
-        )
+        e.0,
+        λ k n m. fitted_agrees k n m ∙ e.1 k n (f.later.grows k n (o.makes.later.grows k n m)),
+        e.2,
+      )
 
       shadowed_then : GivesWay held middle r vars → IsShadowed held r xs
       shadowed_then w = record {
@@ -171,8 +156,8 @@ module _ (u : ℕ) (held : List Tree) (rules : List Rule) where
         same = ap erase (sym (closed_value t.after w.had (All-contains (Leaves IsNoVariable) held w.had closed w.of_environment))) ∙
             (w.same t.after t.solves ∙
             (sym (same_erased opened t.at_opening t.after (inst vars 0 w.clause) t.agrees_after
-                (All-contains (λ z. InContext opened (inst vars 0 z)) r.shadowed_by w.clause o.shadows_in w.of_rule)) ∙
-            ap erase (shadow_value r vars o t.at_opening xs t.values w.clause w.of_rule)));
+            (All-contains (λ z. InContext opened (inst vars 0 z)) r.shadowed_by w.clause o.shadows_in w.of_rule)) ∙
+            ap erase (shadow_value u r vars o t.at_opening xs t.values w.clause w.of_rule)));
       }
 
     -- A yes keeps each solution under which the goal comes to what it comes to under some solution after.
@@ -195,14 +180,14 @@ module _ (u : ℕ) (held : List Tree) (rules : List Rule) where
         let xs = map (apply s') vars in
         let head = opened_value s' vars xs r.gives o.gives_closed refl in
         let t = fitted before a.opened middle r vars g o a.exact i s xs h
-              (variables_fit before a.opened s' u r.binds vars q.0.0 o.makes.are_new)
-              (variables_namable before a.opened s' u r.binds vars q.0.0 o.makes.are_new) (e ∙ (q.1 ∙ ap erase head)) in
+        (variables_fit before a.opened s' u r.binds vars q.0.0 o.makes.are_new)
+        (variables_namable before a.opened s' u r.binds vars q.0.0 o.makes.are_new) (e ∙ (q.1 ∙ ap erase head)) in
         let asks = map (inst vars 0) r.asks in
         goes_on before a.opened middle r vars g o a.exact s xs t (IsErasedSolution after)
-            (k (asks_later before a.opened middle r vars g o a.exact s xs t) t.after s' t.solves h'
-            (subst (AreAlike (map (apply t.after) asks)) (sym (opened_values s' vars xs r.asks o.asks_closed refl))
-            (alike_sym (map (inst xs 0) r.asks) (map (apply t.after) asks)
-            (asks_alike before a.opened middle r vars g o a.exact s xs t))))
+        (k (asks_later before a.opened middle r vars g o a.exact s xs t) t.after s' t.solves h'
+        (subst (AreAlike (map (apply t.after) asks)) (sym (opened_values s' vars xs r.asks o.asks_closed refl))
+        (alike_sym (map (inst xs 0) r.asks) (map (apply t.after) asks)
+        (asks_alike before a.opened middle r vars g o a.exact s xs t))))
 
     extends : {st : Store} {q : Step} {a : Answer} → Did u held rules st q a → Extends st q a
     extends (took_alone before middle after r vars g c t d only) =
@@ -215,10 +200,10 @@ module _ (u : ℕ) (held : List Tree) (rules : List Rule) where
         let r = extends d (one_in before w i) s s' h p.0 (alike_one (apply s) (apply s') w a) in
         let rests = rest_in before w i in
         erased_through before middle s r.0 (IsErasedSolution after) l r.1
-            (extends e (all_later before middle l hs rests) r.0 s' r.2 h'
-            (alike_trans (map (apply r.0) hs) (map (apply s) hs) (map (apply s') hs)
-            (alike_sym (map (apply s) hs) (map (apply r.0) hs) (alike_values before s r.0 hs r.1 rests))
-            (alike_rest (apply s) (apply s') w a)))
+        (extends e (all_later before middle l hs rests) r.0 s' r.2 h'
+        (alike_trans (map (apply r.0) hs) (map (apply s) hs) (map (apply s') hs)
+        (alike_sym (map (apply s) hs) (map (apply r.0) hs) (alike_values before s r.0 hs r.1 rests))
+        (alike_rest (apply s) (apply s') w a)))
     extends (no_rule st g d) = tt
     extends (same_rule st r p g e) = tt
     extends (other_rule st r p g d) = tt
@@ -270,14 +255,14 @@ module _ (u : ℕ) (held : List Tree) (rules : List Rule) where
     whole : {st : Store} {q : Step} {a : Answer} → Did u held rules st q a → Whole st q a
     whole (took_alone before middle after r vars g c a d only) = λ i s h w.
         alone before r g s (HasErasedExtension before s (IsErasedSolution after)) h
-            (λ p cp. whole (only p cp) i)
-            (λ xs fit nam e k.
-            let o = a.opens in
-            let t = fitted before a.opened middle r vars g o a.exact i s xs h fit nam e in
-            let asks = map (inst vars 0) r.asks in
-            goes_on before a.opened middle r vars g o a.exact s xs t (IsErasedSolution after)
-            (whole d (asks_later before a.opened middle r vars g o a.exact s xs t) t.after t.solves
-            (follows_all (map (apply t.after) asks) (asks_alike before a.opened middle r vars g o a.exact s xs t) k))) w
+        (λ p cp. whole (only p cp) i)
+        (λ xs fit nam e k.
+        let o = a.opens in
+        let t = fitted before a.opened middle r vars g o a.exact i s xs h fit nam e in
+        let asks = map (inst vars 0) r.asks in
+        goes_on before a.opened middle r vars g o a.exact s xs t (IsErasedSolution after)
+        (whole d (asks_later before a.opened middle r vars g o a.exact s xs t) t.after t.solves
+        (follows_all (map (apply t.after) asks) (asks_alike before a.opened middle r vars g o a.exact s xs t) k))) w
     whole (took_first before middle after r vars g c t d y same) = λ i s h w.
         let all_met = bindings_are_met after y in
         let s' = all_met.0 in
@@ -290,8 +275,8 @@ module _ (u : ℕ) (held : List Tree) (rules : List Rule) where
         let r = whole d (one_in before a i) s h (follows_of images w) in
         let rests = rest_in before a i in
         erased_through before middle s r.0 (IsErasedSolution after) l r.1
-            (whole e (all_later before middle l hs rests) r.0 r.2
-            (follows_all (map (apply r.0) hs) (alike_values before s r.0 hs r.1 rests) (follows_rest images w)))
+        (whole e (all_later before middle l hs rests) r.0 r.2
+        (follows_all (map (apply r.0) hs) (alike_values before s r.0 hs r.1 rests) (follows_rest images w)))
     whole (no_rule st g d) = λ i s h w.
         by_some ⊥ (λ p xs c fit nam stands e k. whole (d p c) i s xs h fit nam stands e k) w
     whole (same_rule st r p g e) = λ i. inl e
@@ -300,15 +285,15 @@ module _ (u : ℕ) (held : List Tree) (rules : List Rule) where
     whole (no_fit before opened p vars g o d) = λ i s xs h fit nam stands e k.
         let b = opened_are_unconstrained before opened u p.binds vars o.makes o.sound s xs h fit nam in
         d b.0 b.2.0 (ap erase (sym (same_value before s b.0 g b.1 i)) ∙
-            (e ∙ ap erase (sym (opened_value b.0 vars xs p.gives o.gives_closed b.2.1))))
+        (e ∙ ap erase (sym (opened_value b.0 vars xs p.gives o.gives_closed b.2.1))))
     whole (no_stand before opened middle p vars g o f d) = λ i s xs h fit nam stands e k.
         let t = fitted before opened middle p vars g o f i s xs h fit nam e in
         stands (shadowed_then before opened middle p vars g o f s xs t d)
     whole (no_asks before opened middle p vars g o f d) = λ i s xs h fit nam stands e k.
         let t = fitted before opened middle p vars g o f i s xs h fit nam e in
         whole d (asks_later before opened middle p vars g o f s xs t) t.after t.solves
-            (follows_all (map (apply t.after) (map (inst vars 0) p.asks))
-            (asks_alike before opened middle p vars g o f s xs t) k)
+        (follows_all (map (apply t.after) (map (inst vars 0) p.asks))
+        (asks_alike before opened middle p vars g o f s xs t) k)
     whole (no_first st g gs hs a d) = λ i s h w.
         whole d (one_in st a i) s h (follows_of (images_without (apply s) a) w)
     whole (no_later before middle g gs hs a d l e) = λ i s h w.
@@ -316,7 +301,7 @@ module _ (u : ℕ) (held : List Tree) (rules : List Rule) where
         let r = whole d (one_in before a i) s h (follows_of images w) in
         let rests = rest_in before a i in
         whole e (all_later before middle l hs rests) r.0 r.2
-            (follows_all (map (apply r.0) hs) (alike_values before s r.0 hs r.1 rests) (follows_rest images w))
+        (follows_all (map (apply r.0) hs) (alike_values before s r.0 hs r.1 rests) (follows_rest images w))
 
 pub yes_is_sound : YesIsSound
 yes_is_sound u held rules before after g closed d = sound u held rules closed d

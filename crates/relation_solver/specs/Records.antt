@@ -1,10 +1,10 @@
 -- What a context records, kept beside it, and what it comes to when it is put back.
 --
---   SameRecord c d      two contexts have recorded the same
---   IsRecordOf c kept   what was kept is what the context c has recorded
---   StandsOn kept       what was kept is recorded still, and lawful, over whatever the interner has come to know
+--   SameRecord c d                  two contexts have recorded the same
+--   IsRecordOf c d                  a context is again what it was, with what was kept of it
+--   StandsOn state with_record r    what was kept is recorded still, and lawful, when the interner has come to know more
 use Rattle.std.specs.Prelude.{◌≡◌, ℕ}
-use Rattle.relation_terms.specs.Meaning.{Meaning, Extends}
+use Rattle.relation_terms.specs.Meaning.{Extends}
 use Rattle.relation_semantics.specs.Contexts.{Context}
 
 module _ {Key Id Name : Type 0} where
@@ -15,13 +15,17 @@ module _ {Key Id Name : Type 0} where
     pub outliving : d.outliving ≡ c.outliving
     pub marks : (n : ℕ) → d.sub_root n ≡ c.sub_root n
 
-  -- What was kept, as a context over what an interner knows, is what a context has recorded.
-  pub record IsRecordOf (c : Context Key Id Name) (kept : Meaning Key Id Name → Context Key Id Name) : Type 0 where
-    pub same : SameRecord c (kept c.meaning)
-    pub lawful : (kept c.meaning).lawful
+  -- The second context is the first with what was kept of it.
+  pub record IsRecordOf (c d : Context Key Id Name) : Type 0 where
+    pub same : SameRecord c d
+    pub lawful : d.lawful
 
-  -- While the interner grows.
-  pub record StandsOn (kept : Meaning Key Id Name → Context Key Id Name) : Type 0 where
-    pub meaning : (m : Meaning Key Id Name) → (kept m).meaning ≡ m
-    pub same : (m n : Meaning Key Id Name) → Extends m n → (kept m).lawful → SameRecord (kept m) (kept n)
-    pub lawful : (m n : Meaning Key Id Name) → Extends m n → (kept m).lawful → (kept n).lawful
+  -- Contexts that are shown by `state`, with a record put back.
+  module _ {S R : Type 0} (state : S → Context Key Id Name) (with_record : S → R → S) where
+    -- The interner's keys mean what they mean; and when it has come to know more, the same is recorded, lawfully.
+    pub record StandsOn (r : R) : Type 0 where
+      pub meaning : (c : S) → (state (with_record c r)).meaning ≡ (state c).meaning
+      pub same : (c d : S) → Extends (state c).meaning (state d).meaning → (state (with_record c r)).lawful →
+          SameRecord (state (with_record c r)) (state (with_record d r))
+      pub lawful : (c d : S) → Extends (state c).meaning (state d).meaning → (state (with_record c r)).lawful →
+          (state (with_record d r)).lawful

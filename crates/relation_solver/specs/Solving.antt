@@ -3,16 +3,19 @@
 --   YesIsSound        each solution after a yes is one before, and makes the goal follow
 --   YesIsPrincipal    each solution before under which the goal follows goes on after a yes
 --   NoMeansNone       under no solution before a no the goal follows
+--   AllYesAreSound, AllYesArePrincipal, SomeNoMeansNone   the same of all of a list
+--   ProofsDerive      what satisfies the record after a yes, and makes the goals true that are left, makes the goal
+--                     derived
 use Rattle.std.specs.Prelude.{◌≡◌, ℕ, List, All, map}
-use Rattle.relation_terms.specs.Trees.{Tree, Assign, apply, Leaves}
+use Rattle.relation_terms.specs.Trees.{Tree, Assign, apply}
 use Rattle.relation_terms.specs.Heads.{BoundKind}
-use Rattle.relation_semantics.specs.Relation.{FitKinds}
-use Rattle.relation_semantics.specs.Stores.{Store, IsSound, InContext}
+use Rattle.relation_semantics.specs.Relation.{Items, Interpretation, FitKinds}
+use Rattle.relation_semantics.specs.Stores.{Store, IsSound, InContext, Satisfies}
+use Rattle.relation_semantics.specs.Goals.{Goal, Holds}
 use Rattle.relation_semantics.specs.FirstOrder.{IsErasedSolution}
 use Rattle.relation_semantics.specs.Steps.{AllNamable, MakesVariables, HasExtension, HasErasedExtension}
-use Rattle.fast_reject.specs.Instances.{IsNoVariable}
-use Rattle.relation_solver.specs.Rules.{Rule, one, all, Follows}
-use Rattle.relation_solver.specs.Traces.{Did, goal, goals, yes, no}
+use Rattle.relation_solver.specs.Rules.{AreClosed, Rule, one, all, Follows, Derives}
+use Rattle.relation_solver.specs.Traces.{Did, goal, goals, yes, no, Proves}
 
 -- New variables for what a binder binds may have any values that their universe can name, also where an assignment
 -- satisfies what is recorded up to erasure alone.
@@ -24,33 +27,41 @@ OpenedAreUnconstrained = (before after : Store) (u : ℕ) (ks : List BoundKind) 
 
 -- Of a goal.
 abbrev pub YesIsSound : Type 0
-YesIsSound = (u : ℕ) (held : List Tree) (rules : List Rule) (before after : Store) (g : Tree) → All (Leaves IsNoVariable) held →
+YesIsSound = (u : ℕ) (held : List Tree) (rules : List Rule) (before after : Store) (g : Tree) → AreClosed held →
     Did u held rules before (goal g) (yes after) → (s : Assign) → IsErasedSolution after s →
     IsErasedSolution before s × Follows u held rules (one (apply s g))
 
 abbrev pub YesIsPrincipal : Type 0
-YesIsPrincipal = (u : ℕ) (held : List Tree) (rules : List Rule) (before after : Store) (g : Tree) → All (Leaves IsNoVariable) held →
+YesIsPrincipal = (u : ℕ) (held : List Tree) (rules : List Rule) (before after : Store) (g : Tree) → AreClosed held →
     InContext before g → Did u held rules before (goal g) (yes after) → (s : Assign) → IsErasedSolution before s →
     Follows u held rules (one (apply s g)) → HasErasedExtension before s (IsErasedSolution after)
 
 abbrev pub NoMeansNone : Type 0
-NoMeansNone = (u : ℕ) (held : List Tree) (rules : List Rule) (before : Store) (g : Tree) → All (Leaves IsNoVariable) held →
+NoMeansNone = (u : ℕ) (held : List Tree) (rules : List Rule) (before : Store) (g : Tree) → AreClosed held →
     InContext before g → Did u held rules before (goal g) no → (s : Assign) → IsErasedSolution before s →
     Follows u held rules (one (apply s g)) → ⊥
 
 -- Of all of a list.
 abbrev pub AllYesAreSound : Type 0
 AllYesAreSound = (u : ℕ) (held : List Tree) (rules : List Rule) (before after : Store) (gs : List Tree) →
-    All (Leaves IsNoVariable) held → Did u held rules before (goals gs) (yes after) → (s : Assign) → IsErasedSolution after s →
+    AreClosed held → Did u held rules before (goals gs) (yes after) → (s : Assign) → IsErasedSolution after s →
     IsErasedSolution before s × Follows u held rules (all (map (apply s) gs))
 
 abbrev pub AllYesArePrincipal : Type 0
 AllYesArePrincipal = (u : ℕ) (held : List Tree) (rules : List Rule) (before after : Store) (gs : List Tree) →
-    All (Leaves IsNoVariable) held → All (InContext before) gs → Did u held rules before (goals gs) (yes after) → (s : Assign) →
+    AreClosed held → All (InContext before) gs → Did u held rules before (goals gs) (yes after) → (s : Assign) →
     IsErasedSolution before s → Follows u held rules (all (map (apply s) gs)) →
     HasErasedExtension before s (IsErasedSolution after)
 
 abbrev pub SomeNoMeansNone : Type 0
-SomeNoMeansNone = (u : ℕ) (held : List Tree) (rules : List Rule) (before : Store) (gs : List Tree) → All (Leaves IsNoVariable) held →
+SomeNoMeansNone = (u : ℕ) (held : List Tree) (rules : List Rule) (before : Store) (gs : List Tree) → AreClosed held →
     All (InContext before) gs → Did u held rules before (goals gs) no → (s : Assign) → IsErasedSolution before s →
     Follows u held rules (all (map (apply s) gs)) → ⊥
+
+-- Of any goal, with goals that are left: what satisfies the record after and makes these true makes the goal derived,
+-- and satisfied the record before.
+abbrev pub ProofsDerive : Type 0
+ProofsDerive = (c : Items) (e : Tree) (u : ℕ) (held : List Tree) (rules : List Rule) (left : List Goal)
+    (before after : Store) (g : Tree) → AreClosed held → Proves c e u held rules left before (one g) after →
+    (w : Interpretation) (s : Assign) → Satisfies w after s → All (Holds c w s) left →
+    Satisfies w before s × Derives c w e u held rules (one (apply s g))

@@ -6,24 +6,28 @@
 --   GivesWay held st r xs       whatever an opened rule gives way to the environment has, under each solution of st
 --   StandsFirst held st r xs    or has it under none
 --   Did u held rules st q a     a solver that was asked q in the record st answered a, by these calls and no others
+--   Proves c e u held rules gs st q st'   a solver that was asked q in st said yes: st' is recorded then, and the goals
+--                                         gs are left
 use Rattle.std.specs.Prelude.{◌≡◌, ℕ, List, [], ◌∷◌, All, Contains, map}
 use Rattle.relation_terms.specs.Trees.{Tree, Assign, apply, inst, Leaves}
 use Rattle.relation_terms.specs.Erasure.{erase}
-use Rattle.relation_semantics.specs.Relation.{FitKinds}
-use Rattle.relation_semantics.specs.Stores.{Store, IsSound, IsAssignment, InContext}
+use Rattle.term_enums.specs.declared.Variance.TheVariants.{Invariant}
+use Rattle.relation_semantics.specs.Relation.{Items, FitKinds}
+use Rattle.relation_semantics.specs.Stores.{Store, IsSound, IsAssignment, InContext, OnlyShrinks}
+use Rattle.relation_semantics.specs.Goals.{Goal, Relates}
 use Rattle.relation_semantics.specs.FirstOrder.{IsErasedSolution, Unifies}
 use Rattle.relation_semantics.specs.Steps.{AllNamable, MakesVariables, IsLater}
 use Rattle.relation_semantics.specs.Outcomes.{Exact, NoUnifier}
 use Rattle.fast_reject.specs.Instances.{IsNoVariable}
-use Rattle.relation_solver.specs.Rules.{Rule}
+use Rattle.relation_solver.specs.Rules.{AreClosed, Rule, Asked, one, all}
 
 -- A list without one of its elements.
 pub data Without {T : Type 0} (x : T) : List T → List T → Type 0 where
   first : {xs : List T} → Without x (x ∷ xs) xs
   later : {y : T} {xs ys : List T} → Without x xs ys → Without x (y ∷ xs) (y ∷ ys)
 
--- What a solver is asked: a goal, all of a list, whether a goal follows by a rule, and whether it does by a rule that is
--- not the one that was taken.
+-- What a solver is asked: a goal, all of a list, whether a goal follows by a rule, and whether it does by one but for
+-- the rule that was taken.
 pub data Step : Type 0 where
   goal : Tree → Step
   goals : List Tree → Step
@@ -43,8 +47,8 @@ pub record Opens (u : ℕ) (before after : Store) (r : Rule) (vars : List Tree) 
   pub asks_in : All (InContext after) (map (inst vars 0) r.asks)
   pub shadows_in : All (λ t. InContext after (inst vars 0 t)) r.shadowed_by
   pub gives_closed : Leaves IsNoVariable r.gives
-  pub asks_closed : All (Leaves IsNoVariable) r.asks
-  pub shadows_closed : All (Leaves IsNoVariable) r.shadowed_by
+  pub asks_closed : AreClosed r.asks
+  pub shadows_closed : AreClosed r.shadowed_by
 
 -- Under each solution the environment has a clause that an opened rule gives way to.
 pub record GivesWay (held : List Tree) (st : Store) (r : Rule) (vars : List Tree) : Type 0 where
@@ -60,7 +64,8 @@ StandsFirst held st r vars = (clause had : Tree) → Contains r.shadowed_by clau
     NoUnifier st had (inst vars 0 clause)
 
 -- A rule was opened, what it gives was related with a goal, exactly, and it doesn't give way.
-pub record Takes (u : ℕ) (held : List Tree) (before after : Store) (r : Rule) (vars : List Tree) (g : Tree) : Type 0 where
+pub record Takes (u : ℕ) (held : List Tree) (before after : Store) (r : Rule) (vars : List Tree) (g : Tree) :
+    Type 0 where
   pub opened : Store
   pub opens : Opens u before opened r vars
   pub exact : Exact opened after g (inst vars 0 r.gives)
@@ -109,3 +114,17 @@ pub data Did (u : ℕ) (held : List Tree) (rules : List Rule) : Store → Step �
   no_later : (before middle : Store) (g : Tree) (gs hs : List Tree) → Without g gs hs →
       Did u held rules before (goal g) (yes middle) → IsLater before middle →
       Did u held rules middle (goals hs) no → Did u held rules before (goals gs) no
+
+-- The calls by which a solver says yes, where goals may be left: what it relates is related in an environment, at
+-- invariance, under what is recorded then and these goals.
+pub data Proves (c : Items) (e : Tree) (u : ℕ) (held : List Tree) (rules : List Rule) (left : List Goal) :
+    Store → Asked → Store → Type 0 where
+  took : (before opened middle after : Store) (r : Rule) (vars : List Tree) (g : Tree) → Contains rules r →
+      Opens u before opened r vars → Relates c middle left e Invariant g (inst vars 0 r.gives) →
+      OnlyShrinks opened middle → StandsFirst held middle r vars →
+      Proves c e u held rules left middle (all (map (inst vars 0) r.asks)) after →
+      Proves c e u held rules left before (one g) after
+  none_asked : (st : Store) → Proves c e u held rules left st (all []) st
+  one_of : (before middle after : Store) (g : Tree) (gs hs : List Tree) → Without g gs hs →
+      Proves c e u held rules left before (one g) middle → Proves c e u held rules left middle (all hs) after →
+      Proves c e u held rules left before (all gs) after

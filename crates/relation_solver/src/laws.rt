@@ -1,8 +1,9 @@
-//! What a solver's answers mean, whatever it is that finds them. Each function does nothing, and its contract is the law.
+//! What a solver's answers mean, whatever it is that finds them. Each function does nothing, and its contract is the
+//! law.
 
 ghost use Rattle.relation_solver.specs.Solving.{YesIsSound, YesIsPrincipal, NoMeansNone};
 ghost use Rattle.relation_solver.specs.Solving.{AllYesAreSound, AllYesArePrincipal, SomeNoMeansNone};
-ghost use Rattle.relation_solver.specs.Solving.{OpenedAreUnconstrained};
+ghost use Rattle.relation_solver.specs.Solving.{ProofsDerive, OpenedAreUnconstrained};
 
 /// What a yes and a no to a goal mean.
 pub fn goals()
@@ -16,6 +17,11 @@ pub fn lists()
     ensures sound { AllYesAreSound }
     ensures principal { AllYesArePrincipal }
     ensures none { SomeNoMeansNone }
+{}
+
+/// What a yes means of any goal, where goals may be left.
+pub fn derivations()
+    ensures derive { ProofsDerive }
 {}
 
 /// What new variables may stand for.
