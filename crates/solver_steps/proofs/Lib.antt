@@ -1,0 +1,2 @@
+pub mod OpenedRules
+pub mod Fits

@@ -1,0 +1,2 @@
+pub mod RuleTerms
+pub mod Fitting

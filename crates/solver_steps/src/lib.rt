@@ -1,0 +1,5 @@
+//! What a solver does with a rule: it opens it, and relates what it gives with a goal.
+#![tactic(auto)]
+
+pub mod fitting;
+pub mod opening;
