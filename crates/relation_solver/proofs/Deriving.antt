@@ -8,7 +8,6 @@ use Rattle.relation_semantics.specs.Stores.{Store, Satisfies}
 use Rattle.relation_semantics.specs.Goals.{Goal, Holds}
 use Rattle.relation_semantics.specs.FirstOrder.{IsErasedSolution}
 use Rattle.relation_semantics.proofs.Values.{variables_fit}
-use Rattle.fast_reject.specs.Instances.{IsNoVariable}
 use Rattle.relation_solver.specs.Rules.{AreClosed, Rule, Asked, one, all, Derives, derived_by, all_derived, next_derived}
 use Rattle.relation_solver.specs.Traces.{Without, first, later, Opens, Proves, took, none_asked, one_of}
 use Rattle.relation_solver.specs.Solving.{ProofsDerive}

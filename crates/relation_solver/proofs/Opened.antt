@@ -12,52 +12,29 @@ use Rattle.relation_semantics.specs.Stores.{MayStandFor, IsNamable, IsMade, univ
 use Rattle.relation_semantics.specs.Stores.{Satisfies, IsSound}
 use Rattle.relation_semantics.specs.FirstOrder.{MeetsErased, IsErasedSolution}
 use Rattle.relation_semantics.specs.Steps.{AllNamable, AreNewVariables, MakesVariables, AgreeOn}
-use Rattle.relation_semantics.proofs.Trees.{replace_alike, replace_leaf, Leaves_map}
-use Rattle.relation_semantics.proofs.Trees.{apply-inst}
-use Rattle.relation_semantics.proofs.Values.{occurring_stay}
+use Rattle.relation_semantics.proofs.Trees.{StaysIn, Leaves_map, apply-inst, apply_ground}
 use Rattle.relation_semantics.proofs.StoreCalls.{bindings_are_met}
 use Rattle.relation_semantics.proofs.NewVariables.{erased_agrees}
-use Rattle.fast_reject.specs.Instances.{IsNoVariable}
 use Rattle.relation_solver.specs.Solving.{OpenedAreUnconstrained}
 
--- A term without variables is its own value.
-closed_leaf : (s : Assign) (l : Leaf) → IsNoVariable l → assigned s l ≡ leaf l
-closed_leaf s (variable k n) h = absurd h
-closed_leaf s (bound k d i) h = refl
-closed_leaf s (placeholder k u n) h = refl
-closed_leaf s (atom x) h = refl
-closed_leaf s unknown h = refl
-
-pub closed_value : (s : Assign) (t : Tree) → Leaves IsNoVariable t → apply s t ≡ t
-closed_value s t h = replace_alike (assigned s) leaf t
-    (Leaves_map IsNoVariable (λ l. assigned s l ≡ leaf l) (closed_leaf s) t h) ∙ replace_leaf t
-
--- No variable stands in it.
-none_occurs : (k : VarKind) (n : ℕ) (t : Tree) → Leaves IsNoVariable t → Occurs k n t → ⊥
-none_occurs k n (leaf (variable j m)) h o = h
-none_occurs k n (leaf (bound j d i)) h o = absurd cc
-none_occurs k n (leaf (placeholder j u m)) h o = absurd cc
-none_occurs k n (leaf (atom x)) h o = absurd cc
-none_occurs k n (leaf unknown) h o = absurd cc
-none_occurs k n (node g ts) h o = none_occurs k n ts h o
-none_occurs k n (bind ks t) h o = none_occurs k n t h o
-none_occurs k n nil h o = o
-none_occurs k n (cons t ts) h (inl o) = none_occurs k n t h.0 o
-none_occurs k n (cons t ts) h (inr o) = none_occurs k n ts h.1 o
+-- No value is put into a term without variables.
+closed_stays : (s : Assign) (l : Leaf) → IsValueLeaf l → StaysIn s l
+closed_stays s (variable k n) h = absurd h
+closed_stays s l h = tt
 
 -- The value of an opened body, and of several.
-pub opened_value : (s : Assign) (vars values : List Tree) (t : Tree) → Leaves IsNoVariable t →
+pub opened_value : (s : Assign) (vars values : List Tree) (t : Tree) → Leaves IsValueLeaf t →
     map (apply s) vars ≡ values → apply s (inst vars 0 t) ≡ inst values 0 t
 opened_value s vars values t h e =
-    apply-inst s vars 0 t (occurring_stay s t (λ k n o. absurd (none_occurs k n t h o))) ∙
-    (ap (λ v. inst v 0 (apply s t)) e ∙ ap (inst values 0) (closed_value s t h))
+    apply-inst s vars 0 t (Leaves_map IsValueLeaf (StaysIn s) (closed_stays s) t h) ∙
+    (ap (λ v. inst v 0 (apply s t)) e ∙ ap (inst values 0) (apply_ground s t h))
 
-pub opened_values : (s : Assign) (vars xs ts : List Tree) → All (Leaves IsNoVariable) ts → map (apply s) vars ≡ xs →
+pub opened_values : (s : Assign) (vars xs ts : List Tree) → All (Leaves IsValueLeaf) ts → map (apply s) vars ≡ xs →
     map (apply s) (map (inst vars 0) ts) ≡ map (inst xs 0) ts
 opened_values s vars xs [] h e = refl
 opened_values s vars xs (t ∷ ts) h e =
-    ap₂ (λ a b. a ∷ b) (opened_value s vars xs t (All-head (Leaves IsNoVariable) t ts h) e)
-    (opened_values s vars xs ts (All-tail (Leaves IsNoVariable) t ts h) e)
+    ap₂ (λ a b. a ∷ b) (opened_value s vars xs t (All-head (Leaves IsValueLeaf) t ts h) e)
+    (opened_values s vars xs ts (All-tail (Leaves IsValueLeaf) t ts h) e)
 
 -- The values of new variables can be named by the universe that they were made in.
 pub variables_namable : (before st : Store) (s : Assign) (u : ℕ) (ks : List BoundKind) (xs : List Tree) →

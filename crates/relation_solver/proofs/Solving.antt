@@ -5,7 +5,7 @@ use Rattle.std.proofs.lemmas.List.Elements.{All-contains, All-map}
 use Rattle.relation_terms.specs.Heads.{BoundKind, VarKind}
 use Rattle.relation_terms.specs.Trees.{Tree, Assign, apply, inst, Leaves}
 use Rattle.relation_terms.specs.Erasure.{erase}
-use Rattle.relation_semantics.specs.Relation.{FitKinds}
+use Rattle.relation_semantics.specs.Relation.{FitKinds, IsValueLeaf}
 use Rattle.relation_semantics.specs.Stores.{Store, IsMade, IsSound, InContext}
 use Rattle.relation_semantics.specs.FirstOrder.{IsErasedSolution, Unifies}
 use Rattle.relation_semantics.specs.Steps.{AllNamable, MakesVariables, AgreeOn, AgreeErased, HasErasedExtension}
@@ -13,7 +13,7 @@ use Rattle.relation_semantics.specs.Outcomes.{Exact, NoUnifier}
 use Rattle.relation_semantics.proofs.Values.{same_value, variables_fit}
 use Rattle.relation_semantics.proofs.Exactness.{same_erased, erased_through}
 use Rattle.relation_semantics.proofs.StoreCalls.{bindings_are_met}
-use Rattle.fast_reject.specs.Instances.{IsNoVariable}
+use Rattle.relation_semantics.proofs.Trees.{apply_ground}
 use Rattle.relation_solver.specs.Rules.{AreClosed, Rule, IsShadowed, one, all, Follows, by_rule, none_left, and_next}
 use Rattle.relation_solver.specs.Traces.{Without, first, later, Step, goal, goals, rule, rest, Answer, yes, no, Opens}
 use Rattle.relation_solver.specs.Traces.{GivesWay, StandsFirst, Takes, Did, took_alone, took_first, did_none, did_next}
@@ -23,7 +23,7 @@ use Rattle.relation_solver.specs.Solving.{YesIsSound, YesIsPrincipal, NoMeansNon
 use Rattle.relation_solver.specs.Solving.{SomeNoMeansNone}
 use Rattle.relation_solver.proofs.Alike.{AreAlike, alike_sym, alike_trans, alike_values, all_later, one_in, rest_in}
 use Rattle.relation_solver.proofs.Alike.{images_without, alike_one, alike_rest}
-use Rattle.relation_solver.proofs.Opened.{closed_value, opened_value, opened_values, variables_namable, before_making}
+use Rattle.relation_solver.proofs.Opened.{opened_value, opened_values, variables_namable, before_making}
 use Rattle.relation_solver.proofs.Opened.{opened_are_unconstrained}
 use Rattle.relation_solver.proofs.Shadows.{shadow_value, unshadowed}
 
@@ -153,7 +153,7 @@ module _ (u : ℕ) (held : List Tree) (rules : List Rule) where
         had = w.had;
         of_rule = w.of_rule;
         of_environment = w.of_environment;
-        same = ap erase (sym (closed_value t.after w.had (All-contains (Leaves IsNoVariable) held w.had closed w.of_environment))) ∙
+        same = ap erase (sym (apply_ground t.after w.had (All-contains (Leaves IsValueLeaf) held w.had closed w.of_environment))) ∙
             (w.same t.after t.solves ∙
             (sym (same_erased opened t.at_opening t.after (inst vars 0 w.clause) t.agrees_after
             (All-contains (λ z. InContext opened (inst vars 0 z)) r.shadowed_by w.clause o.shadows_in w.of_rule)) ∙

@@ -1,6 +1,6 @@
 -- Rules, and what follows from them.
 --
---   AreClosed ts               no inference variable stands in any of a list
+--   AreClosed ts               no variable stands in any of a list, and nothing that stands for one
 --   Rule                       what an impl says: what it binds, gives and asks for
 --   IsShadowed held r xs       the environment has a clause that the rule gives way to, its variables being xs
 --   Follows u held rules q     what is asked follows from rules, by values that universe u can name
@@ -12,13 +12,12 @@ use Rattle.relation_terms.specs.Heads.{BoundKind}
 use Rattle.relation_terms.specs.Trees.{Tree, inst, Leaves}
 use Rattle.relation_terms.specs.Erasure.{erase}
 use Rattle.term_enums.specs.declared.Variance.TheVariants.{Invariant}
-use Rattle.relation_semantics.specs.Relation.{Items, Interpretation, Rel, at, FitKinds}
+use Rattle.relation_semantics.specs.Relation.{Items, Interpretation, Rel, at, FitKinds, IsValueLeaf}
 use Rattle.relation_semantics.specs.Steps.{AllNamable}
-use Rattle.fast_reject.specs.Instances.{IsNoVariable}
 
--- No inference variable stands in any of a list.
+-- No variable stands in any of a list, and nothing that stands for one.
 abbrev pub AreClosed : List Tree → Type 0
-AreClosed ts = All (Leaves IsNoVariable) ts
+AreClosed ts = All (Leaves IsValueLeaf) ts
 
 -- What it binds, what it gives, what it asks for, and which clauses it gives way to where the environment has one: of a
 -- rule that says what an associated type is the clause that its trait is implemented, of others none.

@@ -12,13 +12,12 @@ use Rattle.std.specs.Prelude.{◌≡◌, ℕ, List, [], ◌∷◌, All, Contains
 use Rattle.relation_terms.specs.Trees.{Tree, Assign, apply, inst, Leaves}
 use Rattle.relation_terms.specs.Erasure.{erase}
 use Rattle.term_enums.specs.declared.Variance.TheVariants.{Invariant}
-use Rattle.relation_semantics.specs.Relation.{Items, FitKinds}
+use Rattle.relation_semantics.specs.Relation.{Items, FitKinds, IsValueLeaf}
 use Rattle.relation_semantics.specs.Stores.{Store, IsSound, IsAssignment, InContext, OnlyShrinks}
 use Rattle.relation_semantics.specs.Goals.{Goal, Relates}
 use Rattle.relation_semantics.specs.FirstOrder.{IsErasedSolution, Unifies}
 use Rattle.relation_semantics.specs.Steps.{AllNamable, MakesVariables, IsLater}
 use Rattle.relation_semantics.specs.Outcomes.{Exact, NoUnifier}
-use Rattle.fast_reject.specs.Instances.{IsNoVariable}
 use Rattle.relation_solver.specs.Rules.{AreClosed, Rule, Asked, one, all}
 
 -- A list without one of its elements.
@@ -46,7 +45,7 @@ pub record Opens (u : ℕ) (before after : Store) (r : Rule) (vars : List Tree) 
   pub gives_in : InContext after (inst vars 0 r.gives)
   pub asks_in : All (InContext after) (map (inst vars 0) r.asks)
   pub shadows_in : All (λ t. InContext after (inst vars 0 t)) r.shadowed_by
-  pub gives_closed : Leaves IsNoVariable r.gives
+  pub gives_closed : Leaves IsValueLeaf r.gives
   pub asks_closed : AreClosed r.asks
   pub shadows_closed : AreClosed r.shadowed_by
 

@@ -12,6 +12,7 @@ use Rattle.relation_terms.specs.Heads.{BoundKind}
 use Rattle.relation_terms.specs.Trees.{Tree, leaf, node, bind, nil, cons, list_tree, inst, known, Leaves}
 use Rattle.relation_terms.specs.Meaning.{Meaning, under}
 use Rattle.relation_terms.proofs.Paths.{first_path, rest_path}
+use Rattle.relation_semantics.specs.Relation.{IsValueLeaf}
 use Rattle.relation_semantics.specs.Binders.{InstantiatesAs, InstantiatesEach, MakesFirst}
 use Rattle.relation_semantics.specs.Bound.{BindsByList, IsWellBound}
 use Rattle.relation_semantics.specs.Contexts.{Context}
@@ -19,7 +20,6 @@ use Rattle.relation_semantics.specs.OpeningLaws.{MakingEachMakes, InstantiatingE
 use Rattle.relation_semantics.specs.Steps.{InstantiatesBinder, IsLater}
 use Rattle.relation_semantics.specs.Stores.{Store, InContext, IsTermIn, IsSound}
 use Rattle.relation_semantics.proofs.Standing.{term_context, term_within, term_namable, term_in}
-use Rattle.fast_reject.specs.Instances.{IsNoVariable}
 use Rattle.relation_solver.specs.Rules.{Rule}
 use Rattle.relation_solver.specs.Traces.{Opens}
 use Rattle.solver_steps.specs.RuleTerms.{IsRule, rule_tree, KnowsRule, TakesRule, HasRule, IsClosedRule, OpensRule}
@@ -62,9 +62,9 @@ module _ {K : Type 0} (f : K → Tree) where
   each_taken [] h = All-nil (λ k. IsWellBound (f k))
   each_taken (k ∷ ks) h = All-cons (λ k. IsWellBound (f k)) k ks h.0 (each_taken ks h.1)
 
-  each_closed : (ks : List K) → Leaves IsNoVariable (list_tree f ks) → All (λ k. Leaves IsNoVariable (f k)) ks
-  each_closed [] h = All-nil (λ k. Leaves IsNoVariable (f k))
-  each_closed (k ∷ ks) h = All-cons (λ k. Leaves IsNoVariable (f k)) k ks h.0 (each_closed ks h.1)
+  each_closed : (ks : List K) → Leaves IsValueLeaf (list_tree f ks) → All (λ k. Leaves IsValueLeaf (f k)) ks
+  each_closed [] h = All-nil (λ k. Leaves IsValueLeaf (f k))
+  each_closed (k ∷ ks) h = All-cons (λ k. Leaves IsValueLeaf (f k)) k ks h.0 (each_closed ks h.1)
 
 first_in : (st : Store) (t ts : Tree) → IsTermIn st (cons t ts) → IsTermIn st t
 unfolding IsTermIn InContext
@@ -128,7 +128,7 @@ module _ {Key Id Name : Type 0} (opens : InstantiatingEachOpens) (body_in : Inst
           let all_in = in_contexts d.store (map (inst vs 0) (rule.gives ∷ rule.asks))
           (subst (IsTermIn d.store) body_is b.is_in) in
           let all_closed = each_closed (λ z. z) (rule.gives ∷ rule.asks)
-          (subst (Leaves IsNoVariable) is.clauses closed) in (
+          (subst (Leaves IsValueLeaf) is.clauses closed) in (
             vs,
             record {
               sound = g;
@@ -137,10 +137,10 @@ module _ {Key Id Name : Type 0} (opens : InstantiatingEachOpens) (body_in : Inst
               asks_in = All-tail (InContext d.store) (inst vs 0 rule.gives) (map (inst vs 0) rule.asks) all_in;
               shadows_in = All-same (λ t. InContext d.store (inst vs 0 t)) rule.shadowed_by [] is.shadowed_by_none
                   (All-nil (λ t. InContext d.store (inst vs 0 t)));
-              gives_closed = All-head (Leaves IsNoVariable) rule.gives rule.asks all_closed;
-              asks_closed = All-tail (Leaves IsNoVariable) rule.gives rule.asks all_closed;
-              shadows_closed = All-same (Leaves IsNoVariable) rule.shadowed_by [] is.shadowed_by_none
-                  (All-nil (Leaves IsNoVariable));
+              gives_closed = All-head (Leaves IsValueLeaf) rule.gives rule.asks all_closed;
+              asks_closed = All-tail (Leaves IsValueLeaf) rule.gives rule.asks all_closed;
+              shadows_closed = All-same (Leaves IsValueLeaf) rule.shadowed_by [] is.shadowed_by_none
+                  (All-nil (Leaves IsValueLeaf));
             },
             list_same (d.meaning).clause cs (map (inst vs 0) (rule.gives ∷ rule.asks)) (sym listed ∙ body_is),
           )

@@ -5,11 +5,11 @@ use Rattle.relation_terms.specs.declared.terms.keys.ClauseKey.{ClauseKey}
 use Rattle.relation_terms.specs.declared.terms.keys.ClausesKey.{ClausesKey}
 use Rattle.relation_terms.specs.Trees.{Tree, bind, cons, list_tree, inst, known, Leaves}
 use Rattle.relation_terms.specs.Meaning.{Meaning}
+use Rattle.relation_semantics.specs.Relation.{IsValueLeaf}
 use Rattle.relation_semantics.specs.Binders.{binder_tree}
 use Rattle.relation_semantics.specs.Bound.{IsWellBound}
 use Rattle.relation_semantics.specs.Contexts.{Context}
 use Rattle.relation_semantics.specs.Stores.{IsTermIn}
-use Rattle.fast_reject.specs.Instances.{IsNoVariable}
 use Rattle.relation_solver.specs.Rules.{Rule}
 use Rattle.relation_solver.specs.Traces.{Opens}
 
@@ -34,9 +34,9 @@ module _ {Key Id Name : Type 0} where
     abbrev pub HasRule : Type 0
     HasRule = IsTermIn c.store (rule_tree c.meaning r)
 
-    -- No inference variable stands in it.
+    -- No variable stands in it, and nothing that stands for one.
     abbrev pub IsClosedRule : Type 0
-    IsClosedRule = Leaves IsNoVariable (rule_tree c.meaning r)
+    IsClosedRule = Leaves IsValueLeaf (rule_tree c.meaning r)
 
   -- The clauses of a rule, by new variables of the current universe for what it binds. They are known, are the
   -- context's, and their binders bind by their lists.
