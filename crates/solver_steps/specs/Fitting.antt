@@ -1,5 +1,5 @@
 -- What became of a goal and what a rule gives, between a context before the call and after it.
-use Rattle.std.specs.Prelude.{Option, List, [], ◌∷◌, Result, Ok, Err}
+use Rattle.std.specs.Prelude.{◌≡◌, Option, List, [], ◌∷◌, Result, Ok, Err}
 use Rattle.std.specs.Global.{Vec}
 use Rattle.term_enums.specs.declared.Variance.TheVariants.{Invariant}
 use Rattle.relation_terms.specs.declared.terms.goal.Goal.{Goal}
@@ -47,6 +47,7 @@ module _ {Key Id Name A : Type 0} (c d : Context Key Id Name) (over : Option Hea
     pub keeps : KeepsEqualTerms c.store d.store [] left right
     pub exact : IsFirstOrderPair c.store left right → Exact c.store d.store left right
     pub first_order : IsFirstOrderPair c.store left right → IsFirstOrderStore d.store
+    pub same_universe : IsFirstOrderPair c.store left right → (d.store).universe ≡ (c.store).universe
 
   -- Nothing makes them one; nor does anything unify such ones.
   pub record AreToldApart : Type 0 where

@@ -6,4 +6,4 @@ use Rattle.solver_steps.proofs.fitting.fit.Goals as goal
 pub returns-clause-tells : goal.returns-clause-tells
 returns-clause-tells g c =
     rw c.fitting_of.ensures (tells c.relate.result c.relate.ensures.both c.relate.ensures.loses_none
-    c.relate.ensures.fault)
+    c.relate.ensures.fault c.relate.ensures.leaves)
