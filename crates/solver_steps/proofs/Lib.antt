@@ -1,3 +1,2 @@
 pub mod OpenedRules
 pub mod Fits
-pub mod Unbound

@@ -1,3 +1,2 @@
 pub mod RuleTerms
 pub mod Fitting
-pub mod Bodies

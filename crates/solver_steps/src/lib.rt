@@ -3,4 +3,3 @@
 
 pub mod fitting;
 pub mod opening;
-pub mod reading;
