@@ -1,2 +1,3 @@
 pub mod OpenedRules
 pub mod Fits
+pub mod Unbound

@@ -1,2 +1,3 @@
 pub mod RuleTerms
 pub mod Fitting
+pub mod Bodies

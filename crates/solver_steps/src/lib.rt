@@ -3,3 +3,4 @@
 
 pub mod fitting;
 pub mod opening;
+pub mod reading;
