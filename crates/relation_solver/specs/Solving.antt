@@ -25,34 +25,38 @@ OpenedAreUnconstrained = (before after : Store) (u : ℕ) (ks : List BoundKind) 
     FitKinds ks xs → AllNamable u xs →
     HasExtension before s (λ s'. IsErasedSolution after s' × (map (apply s') vars ≡ xs))
 
--- Of a goal.
+-- After a yes each solution was one before, and makes the goal follow.
 abbrev pub YesIsSound : Type 0
 YesIsSound = (u : ℕ) (held : List Tree) (rules : List Rule) (before after : Store) (g : Tree) → AreClosed held →
     Did u held rules before (goal g) (yes after) → (s : Assign) → IsErasedSolution after s →
     IsErasedSolution before s × Follows u held rules (one (apply s g))
 
+-- After a yes no solution is lost under which the goal follows: what was bound had to be so.
 abbrev pub YesIsPrincipal : Type 0
 YesIsPrincipal = (u : ℕ) (held : List Tree) (rules : List Rule) (before after : Store) (g : Tree) → AreClosed held →
     InContext before g → Did u held rules before (goal g) (yes after) → (s : Assign) → IsErasedSolution before s →
     Follows u held rules (one (apply s g)) → HasErasedExtension before s (IsErasedSolution after)
 
+-- Where the answer is no, the goal follows under no solution, at no depth.
 abbrev pub NoMeansNone : Type 0
 NoMeansNone = (u : ℕ) (held : List Tree) (rules : List Rule) (before : Store) (g : Tree) → AreClosed held →
     InContext before g → Did u held rules before (goal g) no → (s : Assign) → IsErasedSolution before s →
     Follows u held rules (one (apply s g)) → ⊥
 
--- Of all of a list.
+-- After a yes to all of a list each solution was one before, and makes all follow.
 abbrev pub AllYesAreSound : Type 0
 AllYesAreSound = (u : ℕ) (held : List Tree) (rules : List Rule) (before after : Store) (gs : List Tree) →
     AreClosed held → Did u held rules before (goals gs) (yes after) → (s : Assign) → IsErasedSolution after s →
     IsErasedSolution before s × Follows u held rules (all (map (apply s) gs))
 
+-- After a yes to all no solution is lost under which all follow.
 abbrev pub AllYesArePrincipal : Type 0
 AllYesArePrincipal = (u : ℕ) (held : List Tree) (rules : List Rule) (before after : Store) (gs : List Tree) →
     AreClosed held → All (InContext before) gs → Did u held rules before (goals gs) (yes after) → (s : Assign) →
     IsErasedSolution before s → Follows u held rules (all (map (apply s) gs)) →
     HasErasedExtension before s (IsErasedSolution after)
 
+-- Where the answer to a list is no, under no solution all of it follow.
 abbrev pub SomeNoMeansNone : Type 0
 SomeNoMeansNone = (u : ℕ) (held : List Tree) (rules : List Rule) (before : Store) (gs : List Tree) → AreClosed held →
     All (InContext before) gs → Did u held rules before (goals gs) no → (s : Assign) → IsErasedSolution before s →

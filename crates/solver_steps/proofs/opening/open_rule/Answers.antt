@@ -32,4 +32,5 @@ returns-clause-opens g c =
     opens_listed laws.opens laws.instantiated laws.instantiated_binds (g.C.InferCtxtLike.state c.args.ctx.now)
     (g.C.InferCtxtLike.state c.instantiate_binder_with_infer.new.self) c.args.rule c.in_ok-opened.opened
     c.in_ok-opened.ensures.instantiates.1 (g.met.C.InferCtxtLike.sound c.args.ctx.now c.requires.lawful)
-    c.requires.has c.requires.taken _ c.cx.ensures _ c.listed.ensures c.in_ok-opened.ensures.instantiates.0
+    c.requires.has c.requires.taken _ c.cx.ensures c.listed.result c.listed.ensures
+    c.in_ok-opened.ensures.instantiates.0
