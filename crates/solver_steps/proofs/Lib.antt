@@ -1,3 +1,4 @@
 pub mod OpenedRules
 pub mod Fits
 pub mod Unbound
+pub mod Candidates

@@ -24,8 +24,8 @@ fn listed<I: Interner>(cx: &I, clauses: &Clauses<I>) -> Result<Vec<Clause<I>>, O
     Ok(list)
 }
 
-/// The clauses of a rule, with new variables of the current universe for what its binder binds. The interner has to know
-/// the rule, whose binders bind by their lists; its variables and placeholders are the context's.
+/// The clauses of a rule, with new variables of the current universe for what its binder binds. The interner has to
+/// know the rule, whose binders bind by their lists; its variables and placeholders are the context's.
 ///
 /// # Errors
 /// `OutOfMemory` where a growth was refused. Some variables may have been made then, of which nothing is recorded.

@@ -24,8 +24,8 @@ fn unbound<I: Interner>(
     }
 }
 
-/// What a clause of a trait says whose binder binds nothing, and `None` exactly where it is no such clause. The interner
-/// has to know the clause.
+/// What a clause of a trait says whose binder binds nothing, and `None` exactly where it is no such clause. The
+/// interner has to know the clause.
 pub fn trait_body<I: Interner>(cx: &I, clause: &Clause<I>) -> Option<TraitPredicateOf<I>>
     requires { IsTrue (known ((I.meaning cx.now).clause clause.now)) }
     ensures { FindsBody (I.meaning cx.now) clause.now result }
