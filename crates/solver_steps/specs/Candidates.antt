@@ -3,11 +3,18 @@
 --   MayTry c k g r           what is asked of a rule and a goal where what is told is exact
 --   AsksFor c k g d r asks   the goal is what the rule gives, if what the rule asks for follows
 --   GivesNone c k g r        the goal is nothing that the rule gives
---   MayAskAll d asks         each clause may be a goal in its turn
-use Rattle.std.specs.Prelude.{◌≡◌, ℕ, List, [], ◌∷◌, All, IsTrue, map}
+--   MayAsk d k               a clause may be a goal
+--   TellsOpened ..           what is told of a goal and of what an opened rule gives
+use Rattle.std.specs.Prelude.{◌≡◌, ℕ, List, [], ◌∷◌, All, IsTrue, None, map}
+use Rattle.std.specs.Global.{Vec}
 use Rattle.relation_terms.specs.declared.terms.binder.Binder.{Binder}
 use Rattle.relation_terms.specs.declared.terms.keys.ClauseKey.{ClauseKey}
 use Rattle.relation_terms.specs.declared.terms.keys.ClausesKey.{ClausesKey}
+use Rattle.relation_terms.specs.declared.terms.keys.ParamEnvKey.{ParamEnvKey}
+use Rattle.relation_terms.specs.declared.predicate.trait_ref.TraitPredicate.{TraitPredicate}
+use Rattle.relation_terms.specs.declared.predicate.kinds.ClauseKind.TheVariants.{Trait}
+use Rattle.relation_terms.specs.Meaning.{Meaning}
+use Rattle.relation_terms.specs.Predicates.{clause_kind_tree}
 use Rattle.relation_terms.specs.Heads.{BoundKind, bound_sort, VarKind, var_sort, variable}
 use Rattle.relation_terms.specs.Trees.{Tree, leaf, node, bind, nil, cons, inst, known}
 use Rattle.relation_semantics.specs.Bound.{IsWellBound}
@@ -17,9 +24,19 @@ use Rattle.relation_semantics.specs.Outcomes.{Exact, NoUnifier}
 use Rattle.relation_semantics.specs.Stores.{Store, IsTermIn}
 use Rattle.relation_solver.specs.Rules.{Rule}
 use Rattle.relation_solver.specs.Traces.{Opens}
+use Rattle.solver_steps.specs.Bodies.{IsBodyOf}
+use Rattle.solver_steps.specs.Fitting.{AreMadeOne, AreToldApart}
 use Rattle.solver_steps.specs.RuleTerms.{IsRule, rule_tree, IsClosedRule}
+use Rattle.solver_steps.specs.declared.fitting.Fitting.{Fitting}
+use Rattle.solver_steps.specs.declared.fitting.Fitting.TheVariants.{Fits, Apart as ToldApart, Left}
 use Rattle.solver_steps.specs.declared.candidate.Candidate.{Candidate}
 use Rattle.solver_steps.specs.declared.candidate.Candidate.TheVariants.{Asks, Apart, Unclear}
+
+-- What becomes of a rule that asks for these clauses, by what became of the goal and what it gives.
+abbrev pub candidate_by : {Key : Type 0} → Vec (ClauseKey Key) → Fitting → Candidate Key
+candidate_by asks Fits = Asks asks
+candidate_by asks ToldApart = Apart
+candidate_by asks Left = Unclear
 
 -- Variables of the kinds that a binder binds.
 abbrev pub AreVariablesFor : List BoundKind → List Tree → Type 0
@@ -35,11 +52,29 @@ IsFirstOrderClause (bind [] t) = IsFirstOrder t
 IsFirstOrderClause t = ⊥
 
 module _ {Key Id Name : Type 0} where
-  -- Each clause is known, is the context's, and its binders bind by their lists.
-  pub record MayAskAll (d : Context Key Id Name) (asks : List (ClauseKey Key)) : Type 0 where
-    pub are_known : All (λ k. IsTrue (known ((d.meaning).clause k))) asks
-    pub are_in : All (λ k. IsTermIn d.store ((d.meaning).clause k)) asks
-    pub are_taken : All (λ k. IsWellBound ((d.meaning).clause k)) asks
+  -- A clause may be a goal: it is known, is the context's, and its binders bind by their lists.
+  pub record MayAsk (d : Context Key Id Name) (k : ClauseKey Key) : Type 0 where
+    pub is_known : IsTrue (known ((d.meaning).clause k))
+    pub is_in : IsTermIn d.store ((d.meaning).clause k)
+    pub taken : IsWellBound ((d.meaning).clause k)
+
+  -- Two clauses say these of traits, under binders that bind nothing.
+  pub record Say (m : Meaning Key Id Name) (g given : ClauseKey Key) (q p : TraitPredicate Key Id) : Type 0 where
+    pub goal : IsBodyOf m g q
+    pub gives : IsBodyOf m given p
+
+  abbrev pub trait_tree : Meaning Key Id Name → TraitPredicate Key Id → Tree
+  trait_tree m p = clause_kind_tree m (Trait p)
+
+  -- Of a goal and what an opened rule gives: what both say was made one, and these are what the rule asks for; or nothing
+  -- makes it one.
+  module _ (c d : Context Key Id Name) (e : ParamEnvKey Key) (g given : ClauseKey Key) (asks : List (ClauseKey Key)) where
+    abbrev pub TellsOpened : Candidate Key → Type 0
+    TellsOpened (Asks v) = (v.items ≡ asks) × ((q : TraitPredicate Key Id) × (p : TraitPredicate Key Id) ×
+        Say c.meaning g given q p × AreMadeOne c d None trait_tree e q p)
+    TellsOpened Apart = (q : TraitPredicate Key Id) × (p : TraitPredicate Key Id) × Say c.meaning g given q p ×
+        AreToldApart c d None trait_tree e q p
+    TellsOpened Unclear = Unit {0}
 
   module _ (c : Context Key Id Name) (k : Binder Key (ClausesKey Key)) (g : ClauseKey Key) where
     -- A rule without variables, which gives what is first-order, whatever variables are put for what it binds; so is
@@ -69,6 +104,6 @@ module _ {Key Id Name : Type 0} where
       pub none : NoUnifier opened ((c.meaning).clause g) (inst vars 0 r.gives)
 
     abbrev pub TellsCandidate : Context Key Id Name → Candidate Key → Type 0
-    TellsCandidate d (Asks v) = MayAskAll d v.items × ((r : Rule) → MayTry r → AsksFor d r v.items)
+    TellsCandidate d (Asks v) = All (MayAsk d) v.items × ((r : Rule) → MayTry r → AsksFor d r v.items)
     TellsCandidate d Apart = (r : Rule) → MayTry r → GivesNone r
     TellsCandidate d Unclear = Unit {0}
