@@ -1,0 +1,55 @@
+-- What a solver proves is derived.
+use Rattle.std.proofs.Common.{ℕ, List, refl, ap, subst, map, All}
+use Rattle.term_enums.specs.declared.Variance.TheVariants.{Invariant}
+use Rattle.relation_terms.specs.Trees.{Tree, Assign, apply}
+use Rattle.relation_terms.specs.Erasure.{erase}
+use Rattle.relation_semantics.specs.Relation.{Items, Interpretation, Rel, at}
+use Rattle.relation_semantics.specs.Stores.{Store, Satisfies}
+use Rattle.relation_semantics.specs.Goals.{Goal, Holds}
+use Rattle.relation_semantics.specs.FirstOrder.{IsErasedSolution}
+use Rattle.relation_semantics.proofs.Values.{variables_fit}
+use Rattle.relation_solver.specs.Rules.{AreClosed, Rule, Asked, one, all, Derives, derived_by, all_derived, next_derived}
+use Rattle.relation_solver.specs.Traces.{Without, first, later, Proves, took, none_asked, one_of}
+use Rattle.relation_solver.specs.Solving.{ProofsDerive}
+use Rattle.relation_solver.proofs.Alike.{images_without}
+use Rattle.relation_solver.proofs.Opened.{opened_value, opened_values, variables_namable}
+use Rattle.relation_solver.proofs.Shadows.{unshadowed}
+
+-- What satisfies bindings satisfies them up to erasure.
+erased : (w : Interpretation) (st : Store) (s : Assign) → Satisfies w st s → IsErasedSolution st s
+erased w st s h = (h.assigns, λ k n t e. ap erase (h.bindings k n t e))
+
+module _ (c : Items) (e : Tree) (u : ℕ) (held : List Tree) (rules : List Rule) (left : List Goal)
+    (closed : AreClosed held) (w : Interpretation) (s : Assign) (holds : All (Holds c w s) left) where
+  derives_together : {g : Tree} {gs hs : List Tree} → Without g gs hs → Derives c w e u held rules (one g) →
+      Derives c w e u held rules (all hs) → Derives c w e u held rules (all gs)
+  derives_together {g = g} (first {xs = xs}) f k = next_derived g xs f k
+  derives_together (later {xs = xs} a) f (next_derived g gs d k) = next_derived g xs d (derives_together a f k)
+
+  abbrev Sound : Store → Asked → Store → Type 0
+  Sound before (one g) after = Satisfies w after s → Satisfies w before s × Derives c w e u held rules (one (apply s g))
+  Sound before (all gs) after =
+      Satisfies w after s → Satisfies w before s × Derives c w e u held rules (all (map (apply s) gs))
+
+  derives : {before after : Store} {q : Asked} → Proves c e u held rules left before q after → Sound before q after
+  derives (took before opened middle after r vars g i o f shrinks stands d) = λ h.
+      let p = derives d h in
+      let at_opening = shrinks w s p.0 in
+      let xs = map (apply s) vars in (
+        o.makes.later.shrinks w s at_opening,
+        derived_by r xs (apply s g) i (variables_fit before opened s u r.binds vars at_opening.assigns o.makes.are_new)
+            (variables_namable before opened s u r.binds vars at_opening.assigns o.makes.are_new)
+            (unshadowed u held closed middle r vars o stands s (erased w middle s p.0))
+            (subst (λ t. Rel c w e (at Invariant) (apply s g) t) (opened_value s vars xs r.gives o.gives_closed refl)
+            (f w s p.0 holds))
+            (subst (λ z. Derives c w e u held rules (all z)) (opened_values s vars xs r.asks o.asks_closed refl) p.1),
+      )
+  derives (none_asked st) = λ h. (h, all_derived)
+  derives (one_of before middle after g gs hs a d k) = λ h.
+      let p = derives k h in
+      let q = derives d p.0 in
+      (q.0, derives_together (images_without (apply s) a) q.1 p.1)
+
+pub proofs_derive : ProofsDerive
+proofs_derive c e u held rules left before after g closed d w s h holds =
+    derives c e u held rules left closed w s holds d h

@@ -1,0 +1,4 @@
+pub mod Rules
+pub mod Traces
+pub mod Solving
+pub mod Records

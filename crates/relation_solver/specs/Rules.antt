@@ -1,0 +1,68 @@
+-- Rules, and what follows from them.
+--
+--   AreClosed ts               no variable stands in any of a list, and nothing that stands for one
+--   Rule                       what an impl says: what it binds, gives and asks for
+--   IsShadowed held r xs       the environment has a clause that the rule gives way to, its variables being xs
+--   Follows u held rules q     what is asked follows from rules, by values that universe u can name
+--   given t                    what the environment has, as a rule
+--   FollowsIn u held rules q   what is asked follows from what the environment has and from rules
+--   Derives c w e u held rules q   the same, by the relation at invariance in an environment in place of erasure
+use Rattle.std.specs.Prelude.{◌≡◌, ℕ, List, [], ◌∷◌, ◌++◌, All, Contains, map}
+use Rattle.relation_terms.specs.Heads.{BoundKind}
+use Rattle.relation_terms.specs.Trees.{Tree, inst, Leaves}
+use Rattle.relation_terms.specs.Erasure.{erase}
+use Rattle.term_enums.specs.declared.Variance.TheVariants.{Invariant}
+use Rattle.relation_semantics.specs.Relation.{Items, Interpretation, Rel, at, FitKinds, IsValueLeaf}
+use Rattle.relation_semantics.specs.Steps.{AllNamable}
+
+-- No variable stands in any of a list, and nothing that stands for one.
+abbrev pub AreClosed : List Tree → Type 0
+AreClosed ts = All (Leaves IsValueLeaf) ts
+
+-- What it binds, what it gives, what it asks for, and which clauses it gives way to where the environment has one: of a
+-- rule that says what an associated type is the clause that its trait is implemented, of others none.
+pub record Rule : Type 0 where
+  pub binds : List BoundKind
+  pub gives : Tree
+  pub asks : List Tree
+  pub shadowed_by : List Tree
+
+-- With these values for what the rule binds, the environment has a clause that it gives way to.
+pub record IsShadowed (held : List Tree) (r : Rule) (xs : List Tree) : Type 0 where
+  pub clause : Tree
+  pub had : Tree
+  pub of_rule : Contains r.shadowed_by clause
+  pub of_environment : Contains held had
+  pub same : erase had ≡ erase (inst xs 0 clause)
+
+-- What is asked: one goal, or all of a list.
+pub data Asked : Type 0 where
+  one : Tree → Asked
+  all : List Tree → Asked
+
+-- It follows from rules, up to erasure, where the environment has what it has.
+pub data Follows (u : ℕ) (held : List Tree) (rules : List Rule) : Asked → Type 0 where
+  by_rule : (r : Rule) (xs : List Tree) (g : Tree) → Contains rules r → FitKinds r.binds xs → AllNamable u xs →
+      (IsShadowed held r xs → ⊥) → erase g ≡ erase (inst xs 0 r.gives) →
+      Follows u held rules (all (map (inst xs 0) r.asks)) → Follows u held rules (one g)
+  none_left : Follows u held rules (all [])
+  and_next : (g : Tree) (gs : List Tree) → Follows u held rules (one g) → Follows u held rules (all gs) →
+      Follows u held rules (all (g ∷ gs))
+
+-- A clause of the environment is a rule that binds nothing, asks for nothing and gives way to none.
+abbrev pub given : Tree → Rule
+given t = record { binds = []; gives = t; asks = []; shadowed_by = [] }
+
+-- It follows from what the environment has and from rules.
+abbrev pub FollowsIn : ℕ → List Tree → List Rule → Asked → Type 0
+FollowsIn u held rules q = Follows u held (map given held ++ rules) q
+
+-- It follows from rules where a goal and what a rule gives are related, in an environment, under an interpretation.
+pub data Derives (c : Items) (w : Interpretation) (e : Tree) (u : ℕ) (held : List Tree) (rules : List Rule) :
+    Asked → Type 0 where
+  derived_by : (r : Rule) (xs : List Tree) (g : Tree) → Contains rules r → FitKinds r.binds xs → AllNamable u xs →
+      (IsShadowed held r xs → ⊥) → Rel c w e (at Invariant) g (inst xs 0 r.gives) →
+      Derives c w e u held rules (all (map (inst xs 0) r.asks)) → Derives c w e u held rules (one g)
+  all_derived : Derives c w e u held rules (all [])
+  next_derived : (g : Tree) (gs : List Tree) → Derives c w e u held rules (one g) →
+      Derives c w e u held rules (all gs) → Derives c w e u held rules (all (g ∷ gs))

@@ -1,0 +1,5 @@
+//! Whether a goal follows from rules, such as impls, and from what an environment has.
+#![tactic(auto)]
+
+pub mod laws;
+pub mod records;
