@@ -3,7 +3,7 @@ use Rattle.std.proofs.Common.{◌≡◌, sym, ap₂, ◌∙◌, subst, List}
 use Rattle.relation_terms.specs.declared.terms.binder.Binder.{Binder}
 use Rattle.relation_terms.specs.declared.terms.keys.ArgsKey.{ArgsKey}
 use Rattle.relation_terms.specs.Heads.{arguments, argument_sort}
-use Rattle.relation_terms.specs.Trees.{node, apply, Leaves, IsList, AreTerms}
+use Rattle.relation_terms.specs.Trees.{node, apply, Leaves, IsList, known, AreTerms}
 use Rattle.relation_terms.specs.Interning.{Sorted}
 use Rattle.relation_terms.specs.Meaning.{Extends}
 use Rattle.relation_terms.proofs.Members.{terms_list}
