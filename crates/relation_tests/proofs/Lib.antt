@@ -1,3 +1,2 @@
 pub mod Atoms
 pub mod OverItems
-pub mod Headers

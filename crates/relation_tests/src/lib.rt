@@ -8,8 +8,6 @@ mod counting;
 #[cfg(test)]
 mod over_items;
 #[cfg(test)]
-mod overlapping;
-#[cfg(test)]
 mod relating;
 #[cfg(test)]
 mod tested;
