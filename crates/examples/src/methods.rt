@@ -68,7 +68,7 @@ fn finds_methods<I: Interner>(cx: &mut I, name: I::Name) -> Result<bool, OutOfMe
     let char = cx.mk_ty(TyKind::Char)?;
     let of_char = methods_for(cx, every, bytes, &char)?;
     let of_byte = methods_for(cx, every, bytes, &bytes.value)?;
-    Ok(of_char == [1] && of_byte == [1, 2])
+    Ok(of_char.as_slice() == [1].as_slice() && of_byte.as_slice() == [1, 2].as_slice())
 }
 
 #[test]
