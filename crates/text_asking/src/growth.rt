@@ -169,6 +169,7 @@ fn with_limit(kind: QuestionKind, most: usize) -> QuestionKind {
 }
 
 /// A question as it is asked.
+#[derive(Drop)]
 pub(super) struct Bounded {
     pub question: Question,
     /// Whether its limit is lower than it says: where that is met, what follows may be too deep for the stack.
