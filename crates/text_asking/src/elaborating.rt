@@ -32,7 +32,11 @@ pub(super) fn told(count: Option<usize>) -> Option<usize> {
 }
 
 // The clauses of a range of a program's predicates. There are none where a growth was refused.
-fn clauses_of<I: Interner>(cx: &mut I, terms: &Ready<I>, range: Parts) -> Option<Vec<Clause<I>>>
+pub(super) fn clauses_of<I: Interner>(
+    cx: &mut I,
+    terms: &Ready<I>,
+    range: Parts,
+) -> Option<Vec<Clause<I>>>
     requires { AllReady (I.meaning cx.old) terms.now }
     ensures grown { Extends (I.meaning cx.old) (I.meaning cx.new) }
     ensures sure { IfSome result (λ ks. All (λ k. IsTrue (known ((I.meaning cx.new).clause k))) ks.items) }

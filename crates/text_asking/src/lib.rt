@@ -9,6 +9,7 @@ mod context;
 mod counts;
 mod depth;
 mod elaborating;
+mod environment;
 mod folding;
 mod growth;
 mod interner;
