@@ -226,7 +226,7 @@ fn print_help<O: io::Write, E: io::Write>(out: &mut O, err: &mut E) -> u8
 
 // Tells that no row has that name, and which names they have.
 fn write_unknown<W: io::Write>(name: &str, out: &mut W) -> io::Result<()> {
-    write!(out, "unknown row: {name}; ")?;
+    writeln!(out, "unknown row: {name}")?;
     write_names(out)
 }
 
