@@ -183,7 +183,7 @@ fn answer_tree<O: io::Write, E: io::Write>(
 
 // Tells that the byte at a place of a text is not UTF-8.
 fn tell_no_utf8<W: Write>(name: &str, bytes: &[u8], at: usize, out: &mut W) -> fmt::Result {
-    let place = place_of(bytes, at);
+    let place = place_of(bytes, at.min(bytes.len()));
     let (line, column) = (place.line, place.column);
     writeln!(out, "{name}:{line}:{column}: the byte here is not UTF-8")
 }
