@@ -1,5 +1,5 @@
 -- Lists of what is known.
-use Rattle.std.proofs.Common.{ℕ, suc, zero, ◌<◌, IsTrue, List, [], ◌∷◌, refl}
+use Rattle.std.proofs.Common.{suc, zero, arith, IsTrue, List, [], ◌∷◌, refl}
 use Rattle.std.specs.Cmp.Derive.{both_true}
 use Rattle.std.specs.List.{All}
 use Rattle.relation_terms.specs.Trees.{Tree, known, list_tree}
